@@ -1,0 +1,16 @@
+/// Why a line of a table text or of a messages text is refused.
+#[derive(Clone, Copy, Debug, PartialEq, Eq)]
+pub enum Reason {
+    /// The text ends where it may not end.
+    Ended,
+    /// The first field is no keyword that may stand there.
+    Keyword,
+    /// The number of fields isn't that of the form, or a field that the form fixes is another.
+    Fields,
+    /// A field isn't a spelling of its kind.
+    Spelling,
+    /// A number is out of its range.
+    Range,
+    /// The form of the line isn't built yet.
+    NotBuilt,
+}
