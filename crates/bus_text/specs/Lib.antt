@@ -1,6 +1,13 @@
 pub mod Lines
-pub mod AllOf
 pub mod Fields
 pub mod Entries
 pub mod Numbers
+pub mod Digits
+pub mod Refusals
+pub mod Gives
+pub mod AllOf
 pub mod Canonical
+pub mod AllOfLaws
+pub mod NumberLaws
+pub mod DigitLaws
+pub mod CanonicalLaws

@@ -1,7 +1,21 @@
-//! The rules that the texts of lines and fields share.
+//! The rules that the project's texts of lines and fields share: the table text and the messages text.
+//!
+//! A text is split into physical lines at each line feed, numbered from 1. Lines of blanks alone, and lines whose
+//! first other byte is `#`, are skipped. Every other line is its fields, the longest runs of bytes that aren't
+//! blanks; blanks are space, tab and carriage return.
+//!
+//! - [`cursor::Lines`] goes over the lines of a text that aren't skipped, and [`lines::fields`] cuts one of them.
+//! - [`numbers`] reads plain decimals and hexadecimal digits, [`digits`] writes hexadecimal digits in capitals.
+//! - [`reason::Reason`] says why a line is refused, [`fault::LineFault`] why it wasn't read.
+//!
+//! The definitions are in `specs/`: `Lines` and `Fields` (what a text is cut into), `Numbers` and `Digits`,
+//! `Refusals` (which line is refused and why), `AllOf` (reading each of a list), `Canonical` (the one spelling that
+//! writers use). What callers may use of them beside the contracts are the files whose names end in `Laws`.
 #![tactic(auto)]
 
 pub mod cursor;
+pub mod digits;
+pub mod fault;
 pub mod lines;
 pub mod numbers;
 pub mod reason;
