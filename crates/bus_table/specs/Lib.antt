@@ -1,0 +1,5 @@
+pub mod Tables
+pub mod Ranges
+pub mod Whole
+pub mod Valid
+pub mod Lengths

@@ -1,0 +1,58 @@
+-- The ranges of the numbers of a table, as tests.
+use Rattle.std.specs.Prelude.{ℕ, Bool, true, ◌&&◌, nat_lt, nat_le, List, length}
+use Rattle.std.specs.Int.{is_in_range}
+use Rattle.std.specs.List.{list_all}
+use Rattle.std.specs.Option.{option_map_or}
+use Rattle.bus_table.specs.Tables.{SendLine, TakeLine, Sender, Listener}
+
+-- a terminal number
+abbrev pub is_number : ℕ → Bool
+is_number n = is_in_range 1 128 n
+
+-- a transmit interval
+abbrev pub is_ti : ℕ → Bool
+is_ti n = is_in_range 1000 128000 n
+
+-- a synchronization gap
+abbrev pub is_sg : ℕ → Bool
+is_sg n = is_in_range 9 1024 n
+
+-- a terminal gap
+abbrev pub is_tg : ℕ → Bool
+is_tg n = is_in_range 8 256 n
+
+-- an offset, which is below the greatest transmit interval
+abbrev pub is_offset : ℕ → Bool
+is_offset n = nat_lt n 128000
+
+-- a label: twelve bits
+abbrev pub is_label : ℕ → Bool
+is_label n = nat_lt n 4096
+
+-- an extension: four bits
+abbrev pub is_ext : ℕ → Bool
+is_ext n = nat_lt n 16
+
+-- a SEND line: at most 256 data words, and the least not above the most
+abbrev pub is_send_line : SendLine → Bool
+is_send_line line = is_label line.label && (is_ext line.ext && (nat_le line.least line.most && nat_le line.most 256))
+
+-- a TAKE line: at least one data word, from a place that a wordstring can have
+abbrev pub is_take_line : TakeLine → Bool
+is_take_line line = is_label line.label && (option_map_or is_ext line.ext true && (nat_le line.first 255 && is_in_range 1 256 line.count))
+
+-- the TAKE lines of a terminal
+abbrev pub are_take_lines : List TakeLine → Bool
+are_take_lines takes = nat_le (length takes) 64 && list_all is_take_line takes
+
+-- the SEND lines of a terminal
+abbrev pub are_send_lines : List SendLine → Bool
+are_send_lines sends = is_in_range 1 31 (length sends) && list_all is_send_line sends
+
+-- a sender of which each number is in its range
+abbrev pub is_sender : Sender → Bool
+is_sender sender = is_number sender.number && (is_tg sender.tg && (is_offset sender.at && (are_send_lines sender.sends && are_take_lines sender.takes)))
+
+-- a listener of which each number is in its range
+abbrev pub is_listener : Listener → Bool
+is_listener listener = is_number listener.number && are_take_lines listener.takes

@@ -1,0 +1,31 @@
+-- A table as plain numbers and lists: the raw table that a text stands for, and what a contract sees of the types.
+--   mode        what governs the starts
+--   ti, sg, tg  the transmit interval, the synchronization gap and a terminal gap, in bit times
+--   at          the offset of a sender in bit times; 0 in aperiodic mode
+--   sends       the wordstrings of a sender's messages
+--   takes       what a terminal takes from the wordstrings of others
+use Rattle.std.specs.Prelude.{ℕ, List}
+use Rattle.bus_table.specs.declared.mode.Mode.{Mode}
+pub use Rattle.bus_table.specs.declared.line.SendLine.{SendLine}
+pub use Rattle.bus_table.specs.declared.line.TakeLine.{TakeLine}
+
+-- a terminal that sends
+pub record Sender : Type 0 where
+  pub number : ℕ
+  pub tg : ℕ
+  pub at : ℕ
+  pub sends : List SendLine
+  pub takes : List TakeLine
+
+-- a terminal that takes and never sends
+pub record Listener : Type 0 where
+  pub number : ℕ
+  pub takes : List TakeLine
+
+-- a table, valid or not
+pub record Table : Type 0 where
+  pub mode : Mode
+  pub ti : ℕ
+  pub sg : ℕ
+  pub senders : List Sender
+  pub listeners : List Listener

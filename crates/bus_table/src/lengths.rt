@@ -1,0 +1,41 @@
+ghost use Rattle.std.specs.Prelude.{◌≡◌, ◌<◌, ◌≤◌, ◌^◌};
+ghost use Rattle.bus_table.specs.Lengths as lengths;
+
+use crate::line::SendLine;
+use crate::sender::Sender;
+
+/// The words of a message, label words included, with the least data words on each of these lines.
+fn least_words(sends: &[SendLine]) -> u32
+    requires { lengths.least_words sends.now < 2 ^ 32 }
+    ensures { result ≡ lengths.least_words sends.now }
+{
+    sends.iter().map(|line| 1 + u32::from(line.least)).sum()
+}
+
+/// The words of a message, label words included, with the most data words on each of these lines.
+fn most_words(sends: &[SendLine]) -> u32
+    requires { lengths.most_words sends.now < 2 ^ 32 }
+    ensures { result ≡ lengths.most_words sends.now }
+{
+    sends.iter().map(|line| 1 + u32::from(line.most)).sum()
+}
+
+/// The bit times of the sender's message with the least data words on each of its lines: at most 159,460.
+#[tactic(auto, using(crate::proofs::LengthLemmas::word_bounds))]
+pub fn shortest(sender: &Sender) -> u32
+    ensures value { result ≡ lengths.shortest sender.now }
+    ensures bound { result ≤ 159460 }
+{
+    let sends = sender.sends();
+    20 * least_words(sends) + 4 * (sends.len() as u32 - 1)
+}
+
+/// The bit times of the sender's message with the most data words on each of its lines: at most 159,460.
+#[tactic(auto, using(crate::proofs::LengthLemmas::word_bounds))]
+pub fn longest(sender: &Sender) -> u32
+    ensures value { result ≡ lengths.longest sender.now }
+    ensures bound { result ≤ 159460 }
+{
+    let sends = sender.sends();
+    20 * most_words(sends) + 4 * (sends.len() as u32 - 1)
+}

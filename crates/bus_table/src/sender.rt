@@ -1,0 +1,69 @@
+ghost use Rattle.std.specs.Prelude.{◌≡◌, IsTrue};
+ghost use Rattle.bus_table.specs.Ranges.{is_sender};
+
+use crate::line::{SendLine, TakeLine};
+use std::marker::Model;
+
+/// A terminal that sends, and its gaps and lines. It keeps that each of them is in its range.
+#[derive(Debug, Drop)]
+pub struct Sender {
+    number: u8,
+    tg: u32,
+    at: u32,
+    sends: Vec<SendLine>,
+    takes: Vec<TakeLine>,
+}
+
+impl Model for Sender {
+    ghost use Rattle.std.specs.Prelude.{IsTrue};
+    ghost use Rattle.bus_table.specs.Tables as tables;
+    ghost use Rattle.bus_table.specs.Ranges.{is_sender};
+
+    ghost Value = { tables.Sender };
+
+    ghost view = { λ s. record { number = s.number; tg = s.tg; at = s.at; sends = s.sends.items; takes = s.takes.items } };
+
+    ghost invariant = { λ s. IsTrue (is_sender (record { number = s.number; tg = s.tg; at = s.at; sends = s.sends.items; takes = s.takes.items })) };
+}
+
+impl Sender {
+    /// Its terminal number: 1 to 128.
+    pub fn number(&self) -> u8
+        ensures value { result ≡ self.now.number }
+        ensures ranges { IsTrue (is_sender self.now) }
+    {
+        self.number
+    }
+
+    /// Its terminal gap in bit times: 8 to 256.
+    pub fn tg(&self) -> u32
+        ensures value { result ≡ self.now.tg }
+        ensures ranges { IsTrue (is_sender self.now) }
+    {
+        self.tg
+    }
+
+    /// Its offset in bit times: 0 to 127,999, and 0 in an aperiodic table.
+    pub fn at(&self) -> u32
+        ensures value { result ≡ self.now.at }
+        ensures ranges { IsTrue (is_sender self.now) }
+    {
+        self.at
+    }
+
+    /// The wordstrings of its messages, in order: 1 to 31.
+    pub fn sends(&self) -> &[SendLine]
+        ensures value { result.now ≡ self.now.sends }
+        ensures ranges { IsTrue (is_sender self.now) }
+    {
+        &self.sends
+    }
+
+    /// What it takes from others: 0 to 64 lines.
+    pub fn takes(&self) -> &[TakeLine]
+        ensures value { result.now ≡ self.now.takes }
+        ensures ranges { IsTrue (is_sender self.now) }
+    {
+        &self.takes
+    }
+}
