@@ -1,0 +1,4 @@
+pub mod Gaps
+pub mod CountersLemmas
+pub mod TestLemmas
+pub mod Rows

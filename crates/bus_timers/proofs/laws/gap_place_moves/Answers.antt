@@ -1,0 +1,12 @@
+use Rattle.bus_timers.proofs.Gaps.{gap_settled, gap_started, gap_quiet, gap_carrier_elapsed, gap_carrier_waiting, gap_ready}
+use Rattle.bus_timers.proofs.laws.gap_place_moves.Goals as goal
+
+pub returns : goal.returns
+returns c = record {
+  settled = gap_settled;
+  started = gap_started;
+  quiet = gap_quiet;
+  carrier = gap_carrier_elapsed;
+  waiting_carrier = gap_carrier_waiting;
+  decides = gap_ready;
+}

@@ -1,0 +1,6 @@
+pub mod Timings
+pub mod MayStart
+pub mod MayStartTest
+pub mod GapPlace
+pub mod GapLaws
+pub mod Counters

@@ -1,0 +1,53 @@
+ghost use Rattle.std.specs.Prelude.{◌≡◌, ℕ, ◌+◌, ◌^◌, ◌≤◌, ◌⊎◌, ◌↔◌, ◌++◌, ◌∷◌, [], Bool, false, List, length, replicate, Option, IsTrue};
+ghost use Rattle.bus_timers.specs.declared.timing.Timing.{Timing};
+ghost use Rattle.bus_timers.specs.Timings.{IsSound};
+ghost use Rattle.bus_timers.specs.MayStart.{MayStart};
+
+use crate::timing::Timing;
+
+/// The timers of one terminal, however they are kept.
+///
+/// A core is settled once, told each own start, and passed each bit time; between two calls it answers whether
+/// the terminal may start (`MayStart`). No call takes memory.
+pub trait Core: Drop {
+    /// It stands for this timing after this past, the last own start being at this place of it.
+    ghost stands: { Self → Timing → List Bool → Option ℕ → Type 0 };
+
+    /// How many bit times it can still be passed.
+    ghost room: { Self → ℕ };
+
+    /// How often it was moved since it was settled: each `pass` is one move.
+    ghost moves: { Self → ℕ };
+
+    /// The timers at the settled start: the bus was quiet for `timing.quiet` bit times, and nothing was sent yet.
+    fn settled(timing: Timing) -> Self
+        requires { IsSound timing }
+        ensures stands { stands result timing (replicate timing.quiet false) None }
+        ensures room { 2 ^ 62 ≤ room result }
+        ensures moves { moves result ≡ 0 };
+
+    /// Whether the terminal may start now, after every past for which the core stands.
+    fn ready(&self) -> bool
+        ensures { (timing : Timing) (past : List Bool) (last : Option ℕ) → stands self.now timing past last
+            → (IsTrue result ↔ MayStart timing past last) };
+
+    /// The terminal starts now: the last own start is at the end of the past.
+    fn started(&mut self)
+        ensures stands { (timing : Timing) (past : List Bool) (last : Option ℕ) → stands self.old timing past last
+            → stands self.new timing past (Some (length past)) }
+        ensures room { room self.new ≡ room self.old }
+        ensures moves { moves self.new ≡ moves self.old };
+
+    /// A bit time has passed, with carrier or without. A terminal's own pulses are carrier too.
+    fn pass(&mut self, carrier: bool)
+        requires { 1 ≤ room self.old }
+        ensures stands { (timing : Timing) (past : List Bool) (last : Option ℕ) → stands self.old timing past last
+            → stands self.new timing (past ++ carrier ∷ []) last }
+        ensures room { room self.old ≤ room self.new + 1 }
+        // The count stops at the last value of its type.
+        ensures moves { (moves self.new ≡ moves self.old + 1) ⊎ ((moves self.new ≡ moves self.old) × (moves self.old ≡ u64.MAX)) };
+
+    /// How often the core was moved since it was settled.
+    fn moves(&self) -> u64
+        ensures { result ≡ moves self.now };
+}

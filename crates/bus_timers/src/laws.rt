@@ -1,0 +1,17 @@
+ghost use Rattle.bus_timers.specs.MayStartTest.{TestDecides};
+ghost use Rattle.bus_timers.specs.GapLaws.{SettledPlace, StartedPlace, QuietPlace, CarrierPlace, WaitingCarrierPlace, PlaceDecides};
+
+/// The test of `specs/MayStartTest.antt`, which computes, says when a terminal may start.
+pub fn test_decides()
+    ensures { TestDecides }
+{}
+
+/// How the place from which the terminal gap counts moves, and that it tells when a terminal may start.
+pub fn gap_place_moves()
+    ensures settled { SettledPlace }
+    ensures started { StartedPlace }
+    ensures quiet { QuietPlace }
+    ensures carrier { CarrierPlace }
+    ensures waiting_carrier { WaitingCarrierPlace }
+    ensures decides { PlaceDecides }
+{}

@@ -1,0 +1,105 @@
+ghost use Rattle.bus_timers.specs.Timings.{IsSound};
+
+use crate::cores::Core;
+use crate::counter::CounterCore;
+use crate::timing::Timing;
+use std::alloc::{AllocError, Global};
+use std::process::Abort;
+use std::test::Fail;
+
+/// Whether the bit times from place `from` to place `to` are all there and quiet.
+fn is_quiet(past: &[bool], from: usize, to: usize) -> bool {
+    past.get(from..to)
+        .is_some_and(|stretch| stretch.iter().all(|carrier| !*carrier))
+}
+
+/// When a terminal may start, place by place: plain and slow.
+fn may_start(timing: Timing, past: &[bool], last: Option<usize>) -> bool {
+    let length = past.len();
+    let tg = timing.tg as usize;
+    let sg = timing.sg as usize;
+    let due = match last {
+        None => (timing.quiet as usize).saturating_add(timing.due as usize),
+        Some(start) => start.saturating_add(timing.ti as usize),
+    };
+    if length < due || length < tg || !is_quiet(past, length - tg, length) {
+        return false;
+    }
+    (sg..length - tg + 1).any(|place| {
+        let from = place.saturating_sub(sg);
+        last.is_none_or(|start| start <= from) && is_quiet(past, from, place)
+    })
+}
+
+/// Passes a core stretches of quiet and of carrier in turn, and compares it with the definition at each bit
+/// time. It starts wherever it may, but for every third of these bit times. The answer has the starts.
+fn starts_beside_the_definition(
+    rt: &impl Abort,
+    alloc: Global,
+    timing: Timing,
+    stretches: &[u16],
+) -> Result<Vec<usize>, AllocError>
+    requires { IsSound timing }
+{
+    let mut core = CounterCore::settled(timing);
+    let mut past = vec![in alloc; false; timing.quiet as usize]?;
+    let mut starts: Vec<usize> = Vec::new(alloc);
+    let mut chances = 0u8;
+    for (turn, bits) in stretches.iter().enumerate() {
+        for _ in 0..*bits {
+            let ready = core.ready();
+            let last = starts.last().copied();
+            assert!(rt;
+                ready == may_start(timing, &past, last),
+                "at {}",
+                past.len()
+            );
+            if ready {
+                chances = chances.wrapping_add(1);
+                if chances % 3 != 0 {
+                    core.started();
+                    starts.push(past.len())?;
+                }
+            }
+            let carrier = turn % 2 == 1;
+            core.pass(carrier);
+            past.push(carrier)?;
+        }
+    }
+    assert!(rt; core.moves() == past.len().saturating_sub(timing.quiet as usize) as u64);
+    Ok(starts)
+}
+
+/// The first start comes a terminal gap behind the settled synchronization gap. The second waits for the
+/// interval, and then for eight quiet bit times, since the synchronization gap has elapsed long before. Behind
+/// the second the gaps count one after the other: at 2063, after 9 and 7 quiet bit times, it may not start. At
+/// 2076 it may and doesn't, and at 2077 it does.
+#[test]
+fn counters_answer_the_definition(rt: HostRuntime) -> Result<(), Fail> {
+    let timing = Timing {
+        ti: 1000,
+        sg: 9,
+        tg: 8,
+        quiet: 9,
+        due: 0,
+    };
+    let stretches = [8, 24, 970, 10, 7, 1, 8, 1010, 16, 5, 20];
+    let starts = starts_beside_the_definition(&rt, rt.alloc(), timing, &stretches)?;
+    assert_eq!(rt; starts.as_slice(), [17, 1037, 2077].as_slice());
+    Ok(())
+}
+
+/// In periodic mode the quiet is longer, and the offset decides about the first start.
+#[test]
+fn an_offset_delays_the_first_start(rt: HostRuntime) -> Result<(), Fail> {
+    let timing = Timing {
+        ti: 1200,
+        sg: 30,
+        tg: 20,
+        quiet: 50,
+        due: 90,
+    };
+    let starts = starts_beside_the_definition(&rt, rt.alloc(), timing, &[99, 60, 1200])?;
+    assert_eq!(rt; starts.as_slice(), [140, 1340].as_slice());
+    Ok(())
+}
