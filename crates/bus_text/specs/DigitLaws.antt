@@ -7,7 +7,7 @@ use Rattle.std.proofs.lemmas.Bool.{eq-eqb}
 use Rattle.std.proofs.lemmas.Bool.Decides.{nat_tests}
 use Rattle.std.proofs.lemmas.Int.Digits.{digits_value_push}
 use Rattle.bus_text.specs.Canonical.{IsFieldByte, IsField}
-use Rattle.bus_text.specs.Digits.{hex_digit, hexadecimal}
+use Rattle.bus_text.specs.Digits.{hex_digit, is_capital_digit, hexadecimal}
 use Rattle.bus_text.specs.Numbers.{IsHexadecimal}
 
 -- the value of the digit of a number is the number
@@ -59,3 +59,14 @@ field_bytes (suc count) n = bytes_push (hexadecimal count (n / 16)) (hex_digit (
 -- digits, where there are some, are a field
 pub hexadecimal_field : (count n : ℕ) → 0 < count → IsField (hexadecimal count n)
 hexadecimal_field count n h = record { some = omega (arith, length-hexadecimal count n); bytes = field_bytes count n }
+
+-- a digit in capitals has a value below 16, and is the digit of that value
+pub digit_value-lt : (byte : ℕ) → is_capital_digit byte ≡ true → digit_value byte < 16
+digit_value-lt byte h = grind (arith, nat_tests)
+
+pub hex_digit-digit_value : (byte : ℕ) → is_capital_digit byte ≡ true → hex_digit (digit_value byte) ≡ byte
+hex_digit-digit_value byte h = grind (arith, nat_tests)
+
+-- the digits that are written are in capitals
+pub is_capital_digit-hex_digit : (n : ℕ) → n < 16 → is_capital_digit (hex_digit n) ≡ true
+is_capital_digit-hex_digit n h = grind (arith, nat_tests)

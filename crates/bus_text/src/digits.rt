@@ -1,5 +1,6 @@
-ghost use Rattle.std.specs.Prelude.{◌≡◌, ◌<◌};
-ghost use Rattle.bus_text.specs.Digits.{hex_digit as digit_of, hexadecimal};
+ghost use Rattle.std.specs.Prelude.{◌≡◌, ◌<◌, IfSome, if◌then◌else◌};
+ghost use Rattle.std.specs.Char.{digit_value};
+ghost use Rattle.bus_text.specs.Digits.{hex_digit as digit_of, is_capital_digit, hexadecimal};
 
 /// The hexadecimal digit of a number below 16, in capitals.
 pub fn hex_digit(value: u8) -> u8
@@ -10,6 +11,18 @@ pub fn hex_digit(value: u8) -> u8
         b'0' + value
     } else {
         b'A' + (value - 10)
+    }
+}
+
+/// The value of a hexadecimal digit in capitals; None for any other byte.
+pub fn capital_digit(byte: u8) -> Option<u8>
+    ensures value { result ≡ (if is_capital_digit byte then Some (digit_value byte) else None) }
+    ensures range { IfSome result (λ value. value < 16) }
+{
+    match byte {
+        b'0'..=b'9' => Some(byte - b'0'),
+        b'A'..=b'F' => Some(byte - b'A' + 10),
+        _ => None,
     }
 }
 

@@ -1,8 +1,8 @@
-ghost use Rattle.std.specs.Prelude.{◌≡◌, ◌<◌, ◌≤◌, ◌↔◌, IsSome, IsNone, IfSome};
+ghost use Rattle.std.specs.Prelude.{◌≡◌, ◌/◌, ◌%◌, ◌<◌, ◌≤◌, ◌↔◌, IsSome, IsNone, IfSome};
 
 use std::marker::Model;
 
-/// The label of a wordstring: twelve bits.
+/// The label of a wordstring, which says what the data words are: twelve bits. Contracts see its number.
 #[derive(Clone, Copy, Debug, PartialEq, Eq)]
 pub struct Label(u16);
 
@@ -19,7 +19,7 @@ impl Model for Label {
 }
 
 impl Label {
-    /// None from 4096 on.
+    /// The label of a number; None from 4096 on.
     pub fn new(value: u16) -> Option<Label>
         ensures some { IsSome result ↔ (value < 4096) }
         ensures none { IsNone result ↔ (4096 ≤ value) }
@@ -32,6 +32,13 @@ impl Label {
         }
     }
 
+    /// The upper twelve bits of a label word's value.
+    pub(crate) fn upper(value: u16) -> Label
+        ensures { result ≡ value / 16 }
+    {
+        Label(value / 16)
+    }
+
     /// The twelve bits as a number.
     pub fn value(self) -> u16
         ensures value { result ≡ self }
@@ -41,7 +48,7 @@ impl Label {
     }
 }
 
-/// The extension of a wordstring: four bits.
+/// The extension of a wordstring's label: four bits. Contracts see its number.
 #[derive(Clone, Copy, Debug, PartialEq, Eq)]
 pub struct Ext(u8);
 
@@ -58,13 +65,20 @@ impl Model for Ext {
 }
 
 impl Ext {
-    /// None from 16 on.
+    /// The extension of a number; None from 16 on.
     pub fn new(value: u8) -> Option<Ext>
         ensures some { IsSome result ↔ (value < 16) }
         ensures none { IsNone result ↔ (16 ≤ value) }
         ensures value { IfSome result (λ ext. ext ≡ value) }
     {
         if value < 16 { Some(Ext(value)) } else { None }
+    }
+
+    /// The lower four bits of a label word's value.
+    pub(crate) fn lower(value: u16) -> Ext
+        ensures { result ≡ value % 16 }
+    {
+        Ext((value % 16) as u8)
     }
 
     /// The four bits as a number.
