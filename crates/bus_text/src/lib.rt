@@ -4,7 +4,8 @@
 //! first other byte is `#`, are skipped. Every other line is its fields, the longest runs of bytes that aren't
 //! blanks; blanks are space, tab and carriage return.
 //!
-//! - [`cursor::Lines`] goes over the lines of a text that aren't skipped, and [`lines::fields`] cuts one of them.
+//! - [`cursor::Lines`] goes over the lines of a text that aren't skipped, [`fields::Fields`] over the fields of one;
+//!   [`lines::fields`] collects them where they are asked for by place.
 //! - [`numbers`] reads plain decimals and hexadecimal digits, [`digits`] writes hexadecimal digits in capitals.
 //! - [`reason::Reason`] says why a line is refused, [`fault::LineFault`] why it wasn't read.
 //!
@@ -16,6 +17,7 @@
 pub mod cursor;
 pub mod digits;
 pub mod fault;
+pub mod fields;
 pub mod lines;
 pub mod numbers;
 pub mod reason;

@@ -1,0 +1,85 @@
+ghost use Rattle.std.specs.Prelude.{◌≡◌, ◌<◌, ℕ, length, true, false, MatchOption, IfSome, IfNone, slice_index, [], ◌∷◌};
+ghost use Rattle.std.specs.Iterator.{YieldsFirstRef, item_count};
+ghost use Rattle.bus_text.specs.Lines.{is_blank as blank_test, fields_of};
+
+use crate::lines::is_blank;
+use std::marker::Model;
+
+/// Where the first blank of a line stands.
+fn first_blank(line: &[u8]) -> Option<usize>
+    ensures none { IfNone result ((k : ℕ) → k < length line.now → blank_test (slice_index line.now k) ≡ false) }
+    ensures before { IfSome result (λ at. (k : ℕ) → k < at → blank_test (slice_index line.now k) ≡ false) }
+    ensures found { IfSome result (λ at. (at < length line.now) × (blank_test (slice_index line.now at) ≡ true)) }
+{
+    line.iter().position(|byte| is_blank(*byte))
+}
+
+/// Where the first byte of a line stands that isn't a blank.
+fn first_other(line: &[u8]) -> Option<usize>
+    ensures none { IfNone result ((k : ℕ) → k < length line.now → blank_test (slice_index line.now k) ≡ true) }
+    ensures before { IfSome result (λ at. (k : ℕ) → k < at → blank_test (slice_index line.now k) ≡ true) }
+    ensures found { IfSome result (λ at. (at < length line.now) × (blank_test (slice_index line.now at) ≡ false)) }
+{
+    line.iter().position(|byte| !is_blank(*byte))
+}
+
+/// A line that doesn't begin with a blank: its first field, and what is behind it.
+fn split_field(line: &[u8]) -> (&[u8], &[u8])
+    requires some { 0 < length line.now }
+    requires begun { blank_test (slice_index line.now 0) ≡ false }
+    ensures fields { fields_of line.now ≡ result.0.now ∷ fields_of result.1.now }
+    ensures shorter { length result.1.now < length line.now }
+{
+    match first_blank(line) {
+        None => (line, &[]),
+        Some(at) => (&line[..at], &line[at + 1..]),
+    }
+}
+
+/// The first field of a line, and what is behind it.
+fn first_field(line: &[u8]) -> Option<(&[u8], &[u8])>
+    ensures fields { MatchOption result (fields_of line.now ≡ []) (λ r. fields_of line.now ≡ r.0.now ∷ fields_of r.1.now) }
+    ensures shorter { IfSome result (λ r. length r.1.now < length line.now) }
+{
+    let at = first_other(line)?;
+    Some(split_field(&line[at..]))
+}
+
+/// The fields of a line, in order: its longest runs of bytes that aren't blanks. Contracts see those that are still to
+/// come.
+#[derive(Drop)]
+pub struct Fields<'a> {
+    rest: &'a [u8],
+}
+
+impl<'a> Model for Fields<'a> {
+    ghost use Rattle.std.specs.Prelude.{ℕ, List};
+    ghost use Rattle.bus_text.specs.Lines.{fields_of};
+
+    ghost Value = { List (List ℕ) };
+
+    ghost view = { λ s. fields_of s.rest.now };
+}
+
+impl<'a> Fields<'a> {
+    /// The fields of a line, from its first.
+    pub fn new(line: &'a [u8]) -> Self
+        ensures { result ≡ fields_of line.now }
+    {
+        Fields { rest: line }
+    }
+}
+
+impl<'a> Iterator for Fields<'a> {
+    type Item = &'a [u8];
+
+    ghost next_gives = { YieldsFirstRef (λ s. s) };
+
+    ghost remaining = { item_count (λ s. s) };
+
+    fn next(&mut self) -> Option<&'a [u8]> {
+        let (field, rest) = first_field(self.rest)?;
+        self.rest = rest;
+        Some(field)
+    }
+}
