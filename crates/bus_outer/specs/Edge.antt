@@ -1,0 +1,57 @@
+-- What the edge does to the file that it reads and to the writer that it writes to, where these tell their bytes.
+--
+--   PullsFile remaining old new pull buf   a pull of a `FileSource`; `remaining` gives the bytes that a file has left
+--   PushesOn old new push bytes            a push of an `OutSink`, by what its writer holds
+use Rattle.std.specs.Prelude.{◌≡◌, ℕ, List, take}
+use Rattle.std.specs.declared.option.Option.{Option}
+use Rattle.std.specs.Io.KnownBytes.{Appends, Consumes, Keeps, IsAtEnd}
+use Rattle.bus_outer.specs.declared.out_sink.OutSink.{OutSink}
+use Rattle.bus_outer.specs.declared.file_source.FileSource.{FileSource}
+use Rattle.bus_outer.specs.declared.sink.Push.{Push}
+use Rattle.bus_outer.specs.declared.sink.Push.TheVariants.{Took, Failed as Refused}
+use Rattle.bus_outer.specs.declared.source.Pull.{Pull}
+use Rattle.bus_outer.specs.declared.source.Pull.TheVariants.{Got, End, Failed}
+use Rattle.bus_outer.specs.declared.file_source.NamedFile.{NamedFile}
+use Rattle.bus_outer.specs.declared.file_source.NamedFile.TheVariants.{None, Closed, Open}
+
+-- a pull that is a read of a file gives what came from the file's front, and says that it ended only where nothing is left
+abbrev pub ReadsFile : Option (List ℕ) → Option (List ℕ) → Pull → List ℕ → Type 0
+ReadsFile old new (Got n) buf = Consumes old new (take n buf)
+ReadsFile old new End buf = IsAtEnd new
+ReadsFile old new Failed buf = Keeps old new
+
+-- a pull that opens a file reads it too, and says that it ended only where nothing of it is left
+abbrev pub OpensFile : {F : Type 0} → (F → Option (List ℕ)) → NamedFile F → Pull → Type 0
+OpensFile remaining (Open file) End = IsAtEnd (remaining file)
+OpensFile remaining new End = ⊥
+OpensFile remaining (Open file) pull = Unit {0}
+OpensFile remaining (Closed path) Failed = Unit {0}
+OpensFile remaining new pull = ⊥
+
+-- A source with no file has ended and stays so; a file is opened by a pull, and from then on each pull is a read of it.
+abbrev pub PullsFile : {F : Type 0} → (F → Option (List ℕ)) → NamedFile F → NamedFile F → Pull → List ℕ → Type 0
+PullsFile remaining None new pull buf = (pull ≡ End) × (new ≡ None)
+PullsFile remaining (Closed path) new pull buf = OpensFile remaining new pull
+PullsFile remaining (Open file) (Open next) pull buf = ReadsFile (remaining file) (remaining next) pull buf
+PullsFile remaining (Open file) new pull buf = ⊥
+
+-- the file of a source, as far as it has come
+abbrev pub file_of : {R F D : Type 0} → FileSource R F D → NamedFile F
+file_of s = s.file
+
+-- how often the file couldn't be opened or read
+abbrev pub file_faults : {R F D : Type 0} → FileSource R F D → ℕ
+file_faults s = s.faults
+
+-- the writer behind a sink
+abbrev pub writer_of : {W : Type 0} → OutSink W → W
+writer_of s = s.writer
+
+-- how often it couldn't be written to or flushed
+abbrev pub writer_faults : {W : Type 0} → OutSink W → ℕ
+writer_faults s = s.faults
+
+-- what was taken went to the writer; where the push failed, no more than a front of the bytes did
+abbrev pub PushesOn : Option (List ℕ) → Option (List ℕ) → Push → List ℕ → Type 0
+PushesOn old new (Took n) bytes = Appends old new (take n bytes)
+PushesOn old new Refused bytes = (n : ℕ) × Appends old new (take n bytes)

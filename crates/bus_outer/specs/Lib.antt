@@ -1,0 +1,9 @@
+pub mod Faults
+pub mod Sources
+pub mod Sinks
+pub mod Memory
+pub mod Edge
+pub mod Standing
+pub mod Texts
+pub mod TextLaws
+pub mod WriteLaws

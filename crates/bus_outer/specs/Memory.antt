@@ -1,0 +1,61 @@
+-- What the source and the sink in memory show.
+use Rattle.std.specs.Prelude.{◌≡◌, ℕ, ◌+◌, ◌-◌, ◌^◌, min, List, drop}
+use Rattle.bus_outer.specs.declared.memory_source.MemorySource.{MemorySource}
+use Rattle.bus_outer.specs.declared.memory_sink.MemorySink.{MemorySink}
+
+-- the bytes that a source still gives
+abbrev pub source_left : MemorySource → List ℕ
+source_left s = drop s.at s.bytes.items
+
+-- the most that one pull gives
+abbrev pub source_piece : MemorySource → ℕ
+source_piece s = s.piece
+
+-- the number of its next pull, from 0
+abbrev pub pull_number : MemorySource → ℕ
+pull_number s = s.number
+
+-- the numbers of the pulls that fail
+abbrev pub failing_pulls : MemorySource → List ℕ
+failing_pulls s = s.failing.items
+
+-- how often a pull has failed
+abbrev pub source_faults : MemorySource → ℕ
+source_faults s = s.faults
+
+-- One pull has passed: its number goes up, short of the largest u64, and the piece and the list stay.
+pub record PassesPull (old new : MemorySource) : Type 0 where
+  pub number : pull_number new ≡ min (pull_number old + 1) (2 ^ 64 - 1)
+  pub piece : source_piece new ≡ source_piece old
+  pub failing : failing_pulls new ≡ failing_pulls old
+
+-- the bytes that a sink holds
+abbrev pub sink_bytes : MemorySink → List ℕ
+sink_bytes s = s.bytes.items
+
+-- how many bytes it can hold
+abbrev pub sink_room : MemorySink → ℕ
+sink_room s = s.room
+
+-- the most that one push takes
+abbrev pub sink_piece : MemorySink → ℕ
+sink_piece s = s.piece
+
+-- the number of its next push, from 0
+abbrev pub push_number : MemorySink → ℕ
+push_number s = s.number
+
+-- the numbers of the pushes that fail, beside those for which no room is left
+abbrev pub failing_pushes : MemorySink → List ℕ
+failing_pushes s = s.failing.items
+
+-- how often a push has failed
+abbrev pub sink_faults : MemorySink → ℕ
+sink_faults s = s.faults
+
+-- One push has passed: its number goes up, short of the largest u64, and the room, the piece and the list stay.
+pub record PassesPush (old new : MemorySink) : Type 0 where
+  pub number : push_number new ≡ min (push_number old + 1) (2 ^ 64 - 1)
+  pub room : sink_room new ≡ sink_room old
+  pub piece : sink_piece new ≡ sink_piece old
+  pub failing : failing_pushes new ≡ failing_pushes old

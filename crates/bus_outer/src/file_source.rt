@@ -1,0 +1,92 @@
+// A file as a source: the trusted edge, which tells no content.
+ghost use Rattle.std.specs.Prelude.{◌≡◌, ◌≤◌, ◌<◌, MatchOption, None, length};
+ghost use Rattle.bus_outer.specs.Faults.{Rose};
+ghost use Rattle.bus_outer.specs.Sources.{Pulls};
+
+use crate::{Pull, Source};
+use std::fs;
+use std::io::Read;
+use std::rt::Files;
+
+/// A file by its path, opened at the first pull. With no path it is an empty source.
+///
+/// It tells no content. Its count of faults rises where the file can't be opened or a read fails, and stays
+/// at the last value of a `u64`, where `Failed` may come at any time. A pull after a failed opening tries
+/// again.
+#[derive(Drop)]
+pub struct FileSource<'a, R: Files> {
+    rt: &'a R,
+    file: NamedFile<R::File>,
+    faults: u64,
+}
+
+// How far the file has come.
+#[derive(Drop)]
+enum NamedFile<F> {
+    None,
+    Closed(String),
+    Open(F),
+}
+
+impl<'a, R: Files> FileSource<'a, R> {
+    ghost use Rattle.bus_outer.specs.Edge.{file_of, file_faults};
+
+    /// The file at `path`, which isn't opened yet, or an empty source.
+    pub fn new(rt: &'a R, path: Option<String>) -> FileSource<'a, R>
+        ensures file { MatchOption path (file_of result ≡ NamedFile.None) (λ p. file_of result ≡ NamedFile.Closed p) }
+        ensures faults { file_faults result ≡ 0 }
+    {
+        let file = match path {
+            Some(path) => NamedFile::Closed(path),
+            None => NamedFile::None,
+        };
+        FileSource {
+            rt,
+            file,
+            faults: 0,
+        }
+    }
+
+    fn fail(&mut self) -> Pull
+        ensures failed { result ≡ Pull.Failed }
+        ensures later { file_faults self.old ≤ file_faults self.new }
+        ensures rose { Rose (file_faults self.old) (file_faults self.new) }
+        ensures file { file_of self.new ≡ file_of self.old }
+    {
+        self.faults = self.faults.saturating_add(1);
+        Pull::Failed
+    }
+}
+
+impl<'a, R: Files> Source for FileSource<'a, R> {
+    ghost use Rattle.bus_outer.specs.Edge.{file_of, file_faults, PullsFile};
+
+    ghost left = { λ _. None };
+
+    ghost faults = { λ s. s.faults };
+
+    /// Reads the file once, after opening it where it isn't open. `End` comes only with no path, or where
+    /// the open file is at its end.
+    fn pull(&mut self, buf: &mut [u8]) -> Pull
+        requires { 0 < length buf.old }
+        ensures bytes { Pulls None None result buf.new }
+        ensures later { file_faults self.old ≤ file_faults self.new }
+        ensures cause { result ≡ Pull.Failed → Rose (file_faults self.old) (file_faults self.new) }
+        ensures file { PullsFile R.File.remaining (file_of self.old) (file_of self.new) result buf.new }
+    {
+        if let NamedFile::Closed(path) = &self.file {
+            match fs::open(self.rt, path.as_str()) {
+                Ok(file) => self.file = NamedFile::Open(file),
+                Err(_) => return self.fail(),
+            }
+        }
+        let NamedFile::Open(file) = &mut self.file else {
+            return Pull::End;
+        };
+        match file.read(buf) {
+            Ok(0) => Pull::End,
+            Ok(n) => Pull::Got(n),
+            Err(_) => self.fail(),
+        }
+    }
+}

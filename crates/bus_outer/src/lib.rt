@@ -1,0 +1,37 @@
+//! Where bytes come from and where they go: sources, sinks, and texts written through a buffer.
+//!
+//! A program over generic sources and sinks is proved for every outside at once: `Source` and `Sink` say
+//! what a call takes or gives, and that a failure shows in a count. `MemorySource` and `MemorySink` are
+//! exact, and fail where they are told to; `FileSource` and `OutSink` are the edge to the system.
+//!
+//! `read_whole` reads a source to its end and `write_all` writes bytes whole. A writer of a text puts its
+//! fields into a `TextBuffer`, and its contract is the one fact `WritesText` (`specs/Texts.antt` shows how):
+//!
+//! ```
+//! let mut text = TextBuffer::new();
+//! text.put(sink, b"HORIZON ");
+//! text.put_number(sink, horizon);
+//! text.put_byte(sink, b'\n');
+//! text.finish(sink)
+//! ```
+#![tactic(auto)]
+
+mod file_source;
+mod memory_sink;
+mod memory_source;
+mod out_sink;
+mod sink;
+mod source;
+#[cfg(test)]
+mod tests;
+mod text_buffer;
+mod whole;
+
+pub use file_source::FileSource;
+pub use memory_sink::MemorySink;
+pub use memory_source::MemorySource;
+pub use out_sink::OutSink;
+pub use sink::{Push, Sink, WriteFault};
+pub use source::{Pull, Source};
+pub use text_buffer::TextBuffer;
+pub use whole::{ReadError, read_whole, write_all};

@@ -1,0 +1,89 @@
+// A source in memory, which fails at the pulls that it is told.
+ghost use Rattle.std.specs.Prelude.{◌≡◌, ◌<◌, ◌≤◌, ◌↔◌, ◌++◌, ℕ, Contains, Some, drop, length, min, take, vec_len};
+ghost use Rattle.bus_outer.specs.Faults.{Rose};
+ghost use Rattle.bus_outer.specs.Sources.{Pulls};
+
+use crate::{Pull, Source};
+
+/// Bytes in memory as a source. It gives them in pieces, and fails exactly at the pulls listed.
+///
+/// Pulls are numbered from 0; the number stops at the last value of a `u64`.
+#[derive(Drop)]
+pub struct MemorySource {
+    bytes: Vec<u8>,
+    at: usize,
+    piece: usize,
+    failing: Vec<u64>,
+    number: u64,
+    faults: u64,
+    ghost positive: { 1 ≤ piece },
+    ghost within: { at ≤ vec_len bytes },
+}
+
+impl MemorySource {
+    ghost use Rattle.bus_outer.specs.Memory.{source_left, source_piece, pull_number, failing_pulls, source_faults};
+
+    /// A source of these bytes, of which a pull gives at most `piece`, at least 1. The pulls whose numbers
+    /// are in `failing` fail.
+    pub fn new(bytes: Vec<u8>, piece: usize, failing: Vec<u64>) -> MemorySource
+        requires { 1 ≤ piece }
+        ensures left { source_left result ≡ bytes.items }
+        ensures piece { source_piece result ≡ piece }
+        ensures failing { failing_pulls result ≡ failing.items }
+        ensures number { pull_number result ≡ 0 }
+        ensures faults { source_faults result ≡ 0 }
+    {
+        MemorySource {
+            bytes,
+            at: 0,
+            piece,
+            failing,
+            number: 0,
+            faults: 0,
+        }
+    }
+}
+
+impl Source for MemorySource {
+    ghost use Rattle.bus_outer.specs.Memory.{source_left, source_piece, pull_number, failing_pulls, source_faults, PassesPull};
+
+    ghost left = { λ s. Some (drop s.at s.bytes.items) };
+
+    ghost faults = { λ s. s.faults };
+
+    /// Gives the least of a piece, the buffer and what is left, or fails where this pull is listed.
+    fn pull(&mut self, buf: &mut [u8]) -> Pull
+        requires { 0 < length buf.old }
+        ensures bytes { Pulls (Some (source_left self.old)) (Some (source_left self.new)) result buf.new }
+        ensures later { source_faults self.old ≤ source_faults self.new }
+        ensures cause { result ≡ Pull.Failed → Rose (source_faults self.old) (source_faults self.new) }
+
+        ensures listed { (result ≡ Pull.Failed) ↔ Contains (failing_pulls self.old) (pull_number self.old) }
+        ensures amount { (n : ℕ) → result ≡ Pull.Got n →
+            n ≡ min (min (source_piece self.old) (length buf.old)) (length (source_left self.old)) }
+        ensures passes { PassesPull self.old self.new }
+    {
+        let fails = self.failing.contains(&self.number);
+        self.number = self.number.saturating_add(1);
+        if fails {
+            self.faults = self.faults.saturating_add(1);
+            return Pull::Failed;
+        }
+        if self.at == self.bytes.len() {
+            return Pull::End;
+        }
+        let n = copy_piece(&self.bytes[self.at..], self.piece, buf);
+        self.at += n;
+        Pull::Got(n)
+    }
+}
+
+// Copies a piece to the front of the buffer: no more than there is, nor than there is room for.
+fn copy_piece(from: &[u8], piece: usize, buf: &mut [u8]) -> usize
+    ensures count { result ≡ min (min piece (length buf.old)) (length from.now) }
+    ensures copied { from.now ≡ take result buf.new ++ drop result from.now }
+{
+    let n = piece.min(buf.len()).min(from.len());
+    buf[..n].copy_from_slice(&from[..n]);
+    n
+}

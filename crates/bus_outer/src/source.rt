@@ -1,0 +1,34 @@
+// What gives bytes.
+ghost use Rattle.std.specs.Prelude.{◌≡◌, ◌<◌, ◌≤◌, List, ℕ, length};
+ghost use Rattle.std.specs.declared.option.Option.{Option};
+ghost use Rattle.bus_outer.specs.Faults.{Rose};
+ghost use Rattle.bus_outer.specs.Sources.{Pulls};
+
+/// What a pull answers.
+#[derive(Clone, Copy, Debug, PartialEq, Eq)]
+pub enum Pull {
+    /// So many bytes, at least one, stand at the front of the buffer.
+    Got(usize),
+    /// The source has no more bytes.
+    End,
+    /// The outside failed; nothing was taken, and the count of faults rose.
+    Failed,
+}
+
+/// A source of bytes, which are pulled from its front piece by piece.
+pub trait Source {
+    /// The bytes that it still gives, where it tells them.
+    ghost left: { Self → Option (List ℕ) };
+
+    /// How often the outside has failed: a count that never falls.
+    ghost faults: { Self → ℕ };
+
+    /// Takes bytes from the front into a buffer that isn't empty.
+    ///
+    /// `End` comes only where nothing is left, `Failed` only where the count of faults rose.
+    fn pull(&mut self, buf: &mut [u8]) -> Pull
+        requires { 0 < length buf.old }
+        ensures bytes { Pulls (left self.old) (left self.new) result buf.new }
+        ensures later { faults self.old ≤ faults self.new }
+        ensures cause { result ≡ Pull.Failed → Rose (faults self.old) (faults self.new) };
+}

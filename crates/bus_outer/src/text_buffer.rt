@@ -1,0 +1,100 @@
+// A buffer of fixed size before a sink, so that a text of many fields comes in few pushes.
+ghost use Rattle.std.specs.Prelude.{◌≡◌, [], ◌∷◌, length, decimal};
+ghost use Rattle.bus_outer.specs.Texts.{IsFresh, Adds, Ends};
+ghost use Rattle.bus_outer.specs.Standing.{Sends};
+
+use crate::{Sink, WriteFault, write_all};
+use arrayvec::ArrayVec;
+use itoa::{Buffer, Integer};
+
+// How many bytes wait at most: a push per few kilobytes, whatever the fields are.
+const SIZE: usize = 4096;
+
+/// A text on its way to a sink, which is passed to each call. It takes no memory.
+///
+/// After a failed write it takes no more of the text, and `finish` says so: a writer puts its fields and
+/// asks once. `specs/Texts.antt` has the words for its contracts and shows how a writer is stated.
+#[derive(Drop)]
+pub struct TextBuffer {
+    buffer: ArrayVec<u8, SIZE>,
+    failed: bool,
+}
+
+impl TextBuffer {
+    /// A text of which nothing is put yet.
+    pub fn new() -> TextBuffer
+        ensures { IsFresh result }
+    {
+        TextBuffer {
+            buffer: ArrayVec::new(),
+            failed: false,
+        }
+    }
+
+    /// Adds bytes to the text.
+    pub fn put<K: Sink>(&mut self, sink: &mut K, bytes: &[u8])
+        ensures { Adds K.held K.faults sink.old sink.new self.old self.new bytes.now }
+    {
+        if self.buffer.try_extend_from_slice(bytes).is_ok() {
+            return;
+        }
+        self.drain(sink);
+        self.pass(sink, bytes);
+    }
+
+    /// Adds one byte.
+    pub fn put_byte<K: Sink>(&mut self, sink: &mut K, byte: u8)
+        ensures { Adds K.held K.faults sink.old sink.new self.old self.new (byte ∷ []) }
+    {
+        self.put(sink, &[byte])
+    }
+
+    /// Adds a number in plain decimal digits, with `-` before a negative one.
+    pub fn put_number<K: Sink, I: Integer>(&mut self, sink: &mut K, number: I)
+        ensures { Adds K.held K.faults sink.old sink.new self.old self.new (I.text number) }
+    {
+        let mut buffer = Buffer::new();
+        self.put(sink, buffer.format(number).as_bytes())
+    }
+
+    /// Writes what still waits, and says whether the whole text has been written.
+    pub fn finish<K: Sink>(mut self, sink: &mut K) -> Result<(), WriteFault>
+        ensures { Ends K.held K.faults sink.old sink.new self result }
+    {
+        self.drain(sink);
+        if self.failed { Err(WriteFault) } else { Ok(()) }
+    }
+
+    // Writes the buffer.
+    fn drain<K: Sink>(&mut self, sink: &mut K)
+        ensures adds { Adds K.held K.faults sink.old sink.new self.old self.new [] }
+        ensures empty { self.new.buffer.items ≡ [] }
+    {
+        self.failed = send(sink, self.failed, self.buffer.as_slice());
+        self.buffer.clear();
+    }
+
+    // Adds bytes where the buffer is empty.
+    fn pass<K: Sink>(&mut self, sink: &mut K, bytes: &[u8])
+        requires { self.old.buffer.items ≡ [] }
+        ensures { Adds K.held K.faults sink.old sink.new self.old self.new bytes.now }
+    {
+        if self.buffer.try_extend_from_slice(bytes).is_ok() {
+            return;
+        }
+        self.failed = send(sink, self.failed, bytes);
+    }
+}
+
+// Writes bytes, unless a write has failed before, and says whether one has.
+fn send<K: Sink>(sink: &mut K, failed: bool, bytes: &[u8]) -> bool
+    ensures { Sends K.held K.faults sink.old sink.new failed result bytes.now }
+{
+    if failed {
+        return true;
+    }
+    match write_all(sink, bytes) {
+        Ok(()) => false,
+        Err(WriteFault) => true,
+    }
+}
