@@ -143,6 +143,7 @@ fn a_file_is_read_and_a_missing_one_is_a_fault(rt: HostRuntime) -> Result<(), Fa
     let mut file = FileSource::new(&rt, Some(String::from_str(alloc, "some_file")?));
     let bytes = read_whole(alloc, &mut file, 100);
     assert!(rt; matches!(&bytes, Ok(v) if v.as_slice() == b"some bytes".as_slice()));
+    fs::remove_file(&rt, "some_file")?;
     let mut missing = FileSource::new(&rt, Some(String::from_str(alloc, "no_file")?));
     assert!(rt; matches!(read_whole(alloc, &mut missing, 100), Err(ReadError::Fault)));
     // A folder opens, and its first read fails.
@@ -164,5 +165,6 @@ fn a_writer_is_flushed_and_its_failure_counts(rt: HostRuntime) -> Result<(), Fai
     // A file that was opened to be read takes nothing.
     let mut closed = OutSink::new(fs::open(&rt, "written")?);
     assert_eq!(rt; write_all(&mut closed, b"more"), Err(WriteFault));
+    fs::remove_file(&rt, "written")?;
     Ok(())
 }
