@@ -1,0 +1,4 @@
+pub mod Messages
+pub mod Pulses
+pub mod PulseLaws
+pub mod Transmissions

@@ -1,0 +1,22 @@
+-- The pulses of a message: each wordstring is one, and between two of them the message is quiet.
+-- Bit times of a message and its pulses are counted from 0, the message's first bit time.
+use Rattle.std.specs.Prelude.{ℕ, ◌+◌, ◌*◌, Bool, ◌&&◌, nat_lt, nat_le, length, take, slice_get}
+use Rattle.std.specs.List.{sum_by, list_any, range_with_len}
+use Rattle.std.specs.Option.{option_map_or}
+use Rattle.bus_strings.specs.Messages.{Message, word_count}
+
+-- pulse k begins behind the words of the wordstrings before it, and 4 quiet bit times for each of these
+abbrev pub pulse_start : Message → ℕ → ℕ
+pulse_start message k = 20 * sum_by word_count (take k message) + 4 * k
+
+-- pulse k lasts 20 bit times for each word of its wordstring
+abbrev pub pulse_length : Message → ℕ → ℕ
+pulse_length message k = option_map_or (λ string. 20 * word_count string) (slice_get message k) 0
+
+-- whether pulse k covers bit time d
+abbrev pub is_covered : Message → ℕ → ℕ → Bool
+is_covered message d k = nat_le (pulse_start message k) d && nat_lt d (pulse_start message k + pulse_length message k)
+
+-- whether some pulse covers bit time d
+abbrev pub is_on : Message → ℕ → Bool
+is_on message d = list_any (is_covered message d) (range_with_len 0 (length message))

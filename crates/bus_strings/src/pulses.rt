@@ -1,0 +1,70 @@
+ghost use Rattle.std.specs.Prelude.{◌≡◌, ◌+◌, ◌*◌, ◌<◌, ◌≤◌, length, sum_by};
+ghost use Rattle.bus_strings.specs.Messages.{IsMessage, word_count, bits};
+ghost use Rattle.bus_strings.specs.Pulses.{pulse_start, pulse_length, is_on};
+
+use crate::message::Message;
+use crate::wordstring::Wordstring;
+
+/// The words of these wordstrings, label words included.
+fn words_of(strings: &[Wordstring]) -> u32
+    requires { length strings.now ≤ 31 }
+    ensures value { result ≡ sum_by word_count strings.now }
+    ensures least { length strings.now ≤ result }
+    ensures most { result ≤ 257 * length strings.now }
+{
+    let mut words = 0;
+    for string in strings {
+        words += string.word_count();
+    }
+    words
+}
+
+/// The bit times of a message, from its first to its last: twenty for each word, label words included, and four
+/// quiet ones between two wordstrings. From 20 to 159,460.
+pub fn bits(message: &Message) -> u32
+    ensures value { result ≡ bits message.now }
+    ensures least { 20 ≤ result }
+    ensures most { result ≤ 159460 }
+    ensures ranges { IsMessage message.now }
+{
+    let strings = message.strings();
+    20 * words_of(strings) + 4 * (strings.len() as u32 - 1)
+}
+
+/// How many pulses a message has: one for each wordstring, so 1 to 31.
+pub fn pulse_count(message: &Message) -> u32
+    ensures value { result ≡ length message.now }
+    ensures ranges { IsMessage message.now }
+{
+    message.strings().len() as u32
+}
+
+/// The first bit time of pulse `k`, from 0, counted from the message's first, and how many bit times it lasts.
+pub fn pulse(message: &Message, k: u32) -> (u32, u32)
+    requires { k < length message.now }
+    ensures first { result.0 ≡ pulse_start message.now k }
+    ensures length { result.1 ≡ pulse_length message.now k }
+    ensures ranges { IsMessage message.now }
+{
+    let strings = message.strings();
+    let before = words_of(&strings[..k as usize]);
+    (20 * before + 4 * k, 20 * strings[k as usize].word_count())
+}
+
+/// Whether some pulse of the message covers bit time `d`, counted from the message's first.
+pub fn is_on(message: &Message, d: u32) -> bool
+    ensures { result ≡ is_on message.now d }
+{
+    let mut begin = 0;
+    for string in message.strings() {
+        if d < begin {
+            return false;
+        }
+        let length = 20 * string.word_count();
+        if d - begin < length {
+            return true;
+        }
+        begin += length + 4;
+    }
+    false
+}

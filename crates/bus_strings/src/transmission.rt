@@ -1,0 +1,27 @@
+ghost use Rattle.std.specs.Prelude.{◌≡◌};
+
+use crate::message::Message;
+use std::marker::Model;
+
+/// A message on the bus. Its terminal is 1 to 128, and its moment below 1,099,511,627,776; both limits are this
+/// project's profile.
+#[derive(Debug, Drop)]
+pub struct Transmission {
+    /// When its first bit time begins, in bit times from the settled start.
+    pub moment: u64,
+    /// The number of the terminal that sends it.
+    pub terminal: u8,
+    /// What is sent.
+    pub message: Message,
+}
+
+impl Model for Transmission {
+    ghost use Rattle.std.specs.Prelude.{◌<◌, ◌≤◌, ◌^◌};
+    ghost use Rattle.bus_strings.specs.Messages.{Entry};
+
+    ghost Value = { Entry };
+
+    ghost view = { λ x. record { moment = x.moment; terminal = x.terminal; message = x.message } };
+
+    ghost invariant = { λ x. (1 ≤ x.terminal) × (x.terminal ≤ 128) × (x.moment < 2 ^ 40) };
+}
