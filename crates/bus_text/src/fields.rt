@@ -1,5 +1,6 @@
-ghost use Rattle.std.specs.Prelude.{◌≡◌, ◌<◌, ℕ, length, true, false, MatchOption, IfSome, IfNone, slice_index, [], ◌∷◌};
+ghost use Rattle.std.specs.Prelude.{◌≡◌, ◌<◌, ℕ, length, true, false, MatchOption, IfSome, IfNone, slice_index, [], ◌∷◌, drop};
 ghost use Rattle.std.specs.Iterator.{YieldsFirstRef, item_count};
+ghost use Rattle.bus_text.specs.Fields.{is_at};
 ghost use Rattle.bus_text.specs.Lines.{is_blank as blank_test, fields_of};
 
 use crate::lines::is_blank;
@@ -67,6 +68,17 @@ impl<'a> Fields<'a> {
         ensures { result ≡ fields_of line.now }
     {
         Fields { rest: line }
+    }
+
+    /// Takes the next field, and tells whether there is one and it is this word.
+    pub fn next_is(&mut self, word: &[u8]) -> bool
+        ensures value { result ≡ is_at self.old 0 word.now }
+        ensures rest { self.new ≡ drop 1 self.old }
+    {
+        match self.next() {
+            None => false,
+            Some(field) => field == word,
+        }
     }
 }
 
