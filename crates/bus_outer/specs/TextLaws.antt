@@ -3,7 +3,7 @@
 --   adds_then, p ▸ q   one put after another adds the bytes of both
 --   ends_text          a buffer that was made, put and finished has written its text
 --   adds_nothing       no put adds nothing
-use Rattle.std.specs.Prelude.{◌≡◌, ◌≤◌, ℕ, List, [], ◌++◌, refl}
+use Rattle.std.specs.Prelude.{ℕ, List, [], ◌++◌}
 use Rattle.std.proofs.Common.{sym, subst, append_assoc, append-nil, arith}
 use Rattle.std.specs.declared.option.Option.{Option}
 use Rattle.std.specs.declared.result.Result.{Result}

@@ -4,7 +4,7 @@
 --   writes_then      a writer after another one, which answered Ok, has written both texts
 --   writes_cut       where the first one fails, a front of both texts stands there
 --   taken_on         what two reads took came from the front together
-use Rattle.std.specs.Prelude.{◌≡◌, ◌≤◌, ℕ, List, [], ◌++◌, take, drop, refl, Some, None, Ok, Err, IsErr}
+use Rattle.std.specs.Prelude.{◌≡◌, ℕ, List, [], ◌++◌, take, drop, refl, Some, None, Ok, Err, IsErr}
 use Rattle.std.proofs.Common.{sym, ap, ◌∙◌, append_assoc, append-nil, take-append-drop, arith}
 use Rattle.std.specs.declared.option.Option.{Option}
 use Rattle.std.specs.declared.result.Result.{Result}
