@@ -1,4 +1,4 @@
-ghost use Rattle.std.specs.Prelude.{◌≡◌, ◌<◌, ◌≤◌, ◌↔◌, IsSome, IsNone, IfSome, IfOk, vec_len};
+ghost use Rattle.std.specs.Prelude.{◌≡◌, ◌<◌, ◌≤◌, ◌↔◌, IsSome, IsNone, [], ◌∷◌, ◌++◌, IfSome, IfOk, OnOk, OnErr, length, vec_len};
 ghost use Rattle.bus_strings.specs.Messages.{IsMessage};
 
 use crate::wordstring::Wordstring;
@@ -34,6 +34,18 @@ impl Message {
             let _words = string.words();
         }
         Some(Message { strings })
+    }
+
+    /// Adds a wordstring behind the others, of which there are fewer than 31. Fails only where memory runs out, and
+    /// leaves the message as it was.
+    pub fn push(&mut self, string: Wordstring) -> Result<(), AllocError>
+        requires { length self.old < 31 }
+        ensures ok { OnOk result (self.new ≡ self.old ++ string ∷ []) }
+        ensures err { OnErr result (self.new ≡ self.old) }
+    {
+        let _ranges = string.words();
+        self.strings.push(string)?;
+        Ok(())
     }
 
     /// Its wordstrings, in order.

@@ -64,8 +64,8 @@ fn bit_of(digit: u8) -> Option<bool>
     }
 }
 
-/// The frame that a text writes, where it is of the form.
-fn read_frame(text: &[u8]) -> Option<FramedWord>
+/// The frame that a text of six bytes writes, whatever its parity digit; None where the text isn't of the form.
+pub fn read_frame(text: &[u8]) -> Option<FramedWord>
     ensures { result ≡ (if is_of form text.now then Some (written_frame text.now) else None) }
 {
     let [letter, a, b, c, d, digit] = text else {
