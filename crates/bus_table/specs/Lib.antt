@@ -5,3 +5,9 @@ pub mod Valid
 pub mod Lengths
 pub mod Facts
 pub mod ValidLaws
+pub mod Heads
+pub mod Forms
+pub mod Text
+pub mod Drafts
+pub mod Reading
+pub mod Gives

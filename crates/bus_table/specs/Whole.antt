@@ -6,16 +6,23 @@ use Rattle.bus_table.specs.declared.mode.Mode.{Mode}
 use Rattle.bus_table.specs.declared.mode.Mode.TheVariants.{Aperiodic, Periodic}
 use Rattle.bus_table.specs.declared.error.WholeReason.{WholeReason}
 use Rattle.bus_table.specs.declared.error.WholeReason.TheVariants.{NoSender, NumberTwice, GapTwice, GapNotShort, PairTwice, OffsetRange, Varies}
-use Rattle.bus_table.specs.Tables.{SendLine, Sender, Table}
+use Rattle.bus_table.specs.Tables.{SendLine, Sender, Listener, Table}
 
 -- the first of some that is the same as an earlier one, where these stand before them
 abbrev pub first_again : {A : Type 0} → (A → A → Bool) → List A → List A → Option A
 first_again same earlier [] = None
 first_again same earlier (x ∷ xs) = if list_any (λ y. same y x) earlier then Some x else first_again same (earlier ++ x ∷ []) xs
 
+-- the numbers of the senders, and of the listeners
+abbrev pub sender_numbers : List Sender → List ℕ
+sender_numbers senders = map (λ sender. sender.number) senders
+
+abbrev pub listener_numbers : List Listener → List ℕ
+listener_numbers listeners = map (λ listener. listener.number) listeners
+
 -- the terminal numbers in the order of the text
 abbrev pub numbers : Table → List ℕ
-numbers table = map (λ sender. sender.number) table.senders ++ map (λ listener. listener.number) table.listeners
+numbers table = sender_numbers table.senders ++ listener_numbers table.listeners
 
 -- the SEND lines in the order of the text
 abbrev pub send_lines : List Sender → List SendLine

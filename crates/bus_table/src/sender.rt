@@ -1,7 +1,9 @@
-ghost use Rattle.std.specs.Prelude.{◌≡◌, IsTrue};
-ghost use Rattle.bus_table.specs.Ranges.{is_sender};
+ghost use Rattle.std.specs.Prelude.{◌≡◌, ◌<◌, length, IsTrue, IfOk, OnOk};
+ghost use Rattle.bus_table.specs.Ranges.{is_sender, is_send_line};
 
+use crate::head::Head;
 use crate::line::{SendLine, TakeLine};
+use std::alloc::{AllocError, Global};
 use std::marker::Model;
 
 /// A terminal that sends, and its gaps and lines. It keeps that each of them is in its range.
@@ -27,6 +29,34 @@ impl Model for Sender {
 }
 
 impl Sender {
+    ghost use Rattle.bus_table.specs.Drafts.{opened, with_send};
+
+    /// A sender with its first SEND line and no offset.
+    pub(crate) fn open(alloc: Global, head: Head, line: SendLine) -> Result<Sender, AllocError>
+        requires { IsTrue (is_send_line line) }
+        ensures { IfOk result (λ sender. sender ≡ opened head line) }
+    {
+        let mut sends = Vec::new(alloc);
+        sends.push(line)?;
+        Ok(Sender {
+            number: head.number(),
+            tg: head.tg(),
+            at: 0,
+            sends,
+            takes: Vec::new(alloc),
+        })
+    }
+
+    /// Adds a SEND line behind the others.
+    pub(crate) fn add_send(&mut self, line: SendLine) -> Result<(), AllocError>
+        requires room { length self.old.sends < 31 }
+        requires range { IsTrue (is_send_line line) }
+        ensures ok { OnOk result (self.new ≡ with_send self.old line) }
+    {
+        self.sends.push(line)?;
+        Ok(())
+    }
+
     /// Its terminal number: 1 to 128.
     pub fn number(&self) -> u8
         ensures value { result ≡ self.now.number }

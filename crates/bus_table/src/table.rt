@@ -1,9 +1,11 @@
 ghost use Rattle.std.specs.Prelude.{◌≡◌, IsTrue};
-ghost use Rattle.bus_table.specs.Valid.{is_valid};
+ghost use Rattle.bus_table.specs.Valid.{is_valid, is_in_range};
 
+use crate::error::TableError;
 use crate::listener::Listener;
 use crate::mode::Mode;
 use crate::sender::Sender;
+use crate::whole::whole_reason;
 use std::marker::Model;
 
 /// The table of a bus. It keeps that it is valid: every number is in its range, and no whole reason applies.
@@ -29,6 +31,32 @@ impl Model for Table {
 }
 
 impl Table {
+    ghost use Rattle.bus_table.specs.Reading.{judged};
+    ghost use Rattle.bus_table.specs.Tables as tables;
+
+    /// The table of these, unless a whole reason applies.
+    pub(crate) fn judged(
+        mode: Mode,
+        ti: u32,
+        sg: u32,
+        senders: Vec<Sender>,
+        listeners: Vec<Listener>,
+    ) -> Result<Table, TableError>
+        requires { IsTrue (is_in_range (record { mode = mode; ti = ti; sg = sg; senders = senders.items; listeners = listeners.items })) }
+        ensures { result ≡ judged (record { mode = mode; ti = ti; sg = sg; senders = senders.items; listeners = listeners.items }) }
+    {
+        match whole_reason(mode, ti, sg, &senders, &listeners) {
+            Some(reason) => Err(TableError::Whole(reason)),
+            None => Ok(Table {
+                mode,
+                ti,
+                sg,
+                senders,
+                listeners,
+            }),
+        }
+    }
+
     /// Its mode.
     pub fn mode(&self) -> Mode
         ensures value { result ≡ self.now.mode }

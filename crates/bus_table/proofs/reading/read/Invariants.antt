@@ -1,0 +1,8 @@
+use Rattle.std.proofs.Common.{◌≡◌}
+use Rattle.bus_text.specs.Lines.{entries_of}
+use Rattle.bus_table.specs.Drafts.{start}
+use Rattle.bus_table.specs.Reading.{steps}
+use Rattle.bus_table.proofs.reading.read.Given as goal
+
+abbrev pub invariant-loop-line : goal.invariant-loop-line
+invariant-loop-line l = steps l.draft l.line-iterator ≡ steps start (entries_of l.text)

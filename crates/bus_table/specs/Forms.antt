@@ -1,0 +1,88 @@
+-- What a line reads as, by its form, and the first reason against it.
+-- Each form is a list of rows of a test and a reason: the first row whose test holds gives the reason.
+use Rattle.std.specs.Prelude.{ℕ, Bool, not, ◌&&◌, ◌==◌, List, [], ◌∷◌, length, codes, Option, Result, slice_index_or}
+use Rattle.std.specs.List.{find}
+use Rattle.bus_text.specs.declared.reason.Reason.{Reason}
+use Rattle.bus_text.specs.declared.reason.Reason.TheVariants.{Fields, Spelling, Range, NotBuilt}
+use Rattle.bus_text.specs.Fields.{is_at}
+use Rattle.bus_text.specs.Numbers.{is_plain_decimal, decimal_value, is_hexadecimal, hexadecimal_value}
+use Rattle.bus_text.specs.Refusals.{first_of, unless}
+use Rattle.bus_table.specs.declared.keyword.Keyword.{Keyword}
+use Rattle.bus_table.specs.declared.keyword.Keyword.TheVariants as keywords
+use Rattle.bus_table.specs.Heads.{Head, is_head}
+use Rattle.bus_table.specs.Tables.{SendLine}
+use Rattle.bus_table.specs.Ranges.{is_send_line}
+
+-- the field at a place, counted from 0
+abbrev pub field : List (List ℕ) → ℕ → List ℕ
+field fields place = slice_index_or fields place []
+
+-- how a keyword is spelled
+abbrev pub word_of : Keyword → List ℕ
+word_of keywords.Table = codes "TABLE"
+word_of keywords.Mode = codes "MODE"
+word_of keywords.Ti = codes "TI"
+word_of keywords.Sg = codes "SG"
+word_of keywords.Sender = codes "SENDER"
+word_of keywords.Send = codes "SEND"
+word_of keywords.Take = codes "TAKE"
+word_of keywords.Listener = codes "LISTENER"
+
+abbrev pub all_keywords : List Keyword
+all_keywords = keywords.Table ∷ keywords.Mode ∷ keywords.Ti ∷ keywords.Sg ∷ keywords.Sender ∷ keywords.Send ∷ keywords.Take ∷ keywords.Listener ∷ []
+
+-- the keyword of a line, which is its first field
+abbrev pub keyword_of : List (List ℕ) → Option Keyword
+keyword_of fields = find (λ keyword. is_at fields 0 (word_of keyword)) all_keywords
+
+-- the TABLE line
+unfoldable pub table_reading : List (List ℕ) → Result (Unit {0}) Reason
+table_reading fields = unless (first_of ((not (length fields == 2 && is_at fields 1 (codes "1")), Fields) ∷ [])) tt
+
+-- the MODE line: only aperiodic tables are built
+unfoldable pub mode_reading : List (List ℕ) → Result (Unit {0}) Reason
+mode_reading fields = unless (first_of
+    ((length fields == 2 && is_at fields 1 (codes "periodic"), NotBuilt)
+    ∷ (not (length fields == 2), Fields)
+    ∷ (not (is_at fields 1 (codes "aperiodic")), Spelling)
+    ∷ []))
+    tt
+
+-- a line of a keyword and a number, as the TI line and the SG line
+unfoldable pub number_reading : (ℕ → Bool) → List (List ℕ) → Result ℕ Reason
+number_reading in_range fields = unless (first_of
+    ((not (length fields == 2), Fields)
+    ∷ (not (is_plain_decimal (field fields 1)), Spelling)
+    ∷ (not (in_range (decimal_value (field fields 1))), Range)
+    ∷ []))
+    (decimal_value (field fields 1))
+
+-- the numbers of a SENDER line
+abbrev pub head_of : List (List ℕ) → Head
+head_of fields = record { number = decimal_value (field fields 1); tg = decimal_value (field fields 3) }
+
+-- a SENDER line
+unfoldable pub sender_reading : List (List ℕ) → Result Head Reason
+sender_reading fields = unless (first_of
+    ((not (length fields == 4 && is_at fields 2 (codes "TG")), Fields)
+    ∷ (not (is_plain_decimal (field fields 1) && is_plain_decimal (field fields 3)), Spelling)
+    ∷ (not (is_head (head_of fields)), Range)
+    ∷ []))
+    (head_of fields)
+
+-- what a SEND line says
+abbrev pub send_line_of : List (List ℕ) → SendLine
+send_line_of fields = record { label = hexadecimal_value (field fields 1); ext = hexadecimal_value (field fields 2); least = decimal_value (field fields 3); most = decimal_value (field fields 4) }
+
+-- whether the fields of a SEND line are spellings of their kinds
+abbrev pub is_send_spelled : List (List ℕ) → Bool
+is_send_spelled fields = is_hexadecimal 3 (field fields 1) && (is_hexadecimal 1 (field fields 2) && (is_plain_decimal (field fields 3) && is_plain_decimal (field fields 4)))
+
+-- a SEND line
+unfoldable pub send_reading : List (List ℕ) → Result SendLine Reason
+send_reading fields = unless (first_of
+    ((not (length fields == 5), Fields)
+    ∷ (not (is_send_spelled fields), Spelling)
+    ∷ (not (is_send_line (send_line_of fields)), Range)
+    ∷ []))
+    (send_line_of fields)

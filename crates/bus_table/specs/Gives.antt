@@ -1,0 +1,36 @@
+-- What a call answered: what reading gives, unless memory ran out.
+use Rattle.std.specs.Prelude.{◌≡◌, Result, Ok, Err}
+use Rattle.bus_text.specs.declared.reason.Reason.{Reason}
+use Rattle.bus_text.specs.declared.fault.LineFault.{LineFault}
+use Rattle.bus_text.specs.Gives.{LineGives}
+use Rattle.bus_text.specs.Refusals.{Refusal}
+use Rattle.bus_table.specs.declared.error.TableError.{TableError}
+use Rattle.bus_table.specs.declared.error.TableError.TheVariants.{Text, Whole, Memory}
+use Rattle.bus_table.specs.Drafts.{Draft}
+use Rattle.bus_table.specs.Tables.{Table}
+
+-- an error at a line is the refusal of the reading; want of memory says nothing of it
+abbrev pub LineFails : TableError → Result Draft Refusal → Type 0
+LineFails Memory reading = Unit {0}
+LineFails (Text line reason) reading = reading ≡ Err (record { line = line; reason = reason })
+LineFails (Whole reason) reading = ⊥
+
+-- a call that took the fields of a line and left a draft
+abbrev pub FieldsGive : Draft → Result (Unit {0}) LineFault → Result Draft Reason → Type 0
+FieldsGive new result reading = LineGives (λ _. new) result reading
+
+-- a call that took a line and left a draft
+abbrev pub StepGives : Draft → Result (Unit {0}) TableError → Result Draft Refusal → Type 0
+StepGives new (Ok u) reading = reading ≡ Ok new
+StepGives new (Err error) reading = LineFails error reading
+
+-- an error is that of the answer that is due; want of memory says nothing of it
+abbrev pub Fails : TableError → Result Table TableError → Type 0
+Fails Memory due = Unit {0}
+Fails (Text line reason) due = due ≡ Err (Text line reason)
+Fails (Whole reason) due = due ≡ Err (Whole reason)
+
+-- the answer is the one that is due, unless memory ran out
+abbrev pub Answers : Result Table TableError → Result Table TableError → Type 0
+Answers (Ok table) due = due ≡ Ok table
+Answers (Err error) due = Fails error due

@@ -1,0 +1,141 @@
+ghost use Rattle.std.specs.Prelude.{◌≡◌, ◌<◌, ◌≤◌, ◌^◌, ◌-◌, IfOk, IsTrue, Some, None, if◌then◌else◌, length};
+ghost use Rattle.std.specs.Int.{is_in_range};
+ghost use Rattle.bus_text.specs.Entries.{texts};
+ghost use Rattle.bus_text.specs.Gives.{LineGives};
+ghost use Rattle.bus_text.specs.Numbers.{is_hexadecimal, hexadecimal_value};
+ghost use Rattle.bus_table.specs.Forms as forms;
+ghost use Rattle.bus_table.specs.Ranges.{is_send_line};
+
+use crate::head::Head;
+use crate::line::SendLine;
+use bus_text::fault::LineFault;
+use bus_text::lines::{field_at, is_at};
+use bus_text::numbers::{hexadecimal, plain_decimal};
+use bus_text::reason::Reason;
+use bus_words::label::{Ext, Label};
+
+/// The TABLE line.
+#[tactic(auto, unfolding(crate::specs::Forms::table_reading))]
+pub fn table_line(fields: &[&[u8]]) -> Result<(), LineFault>
+    ensures { LineGives (λ u. u) result (forms.table_reading (texts fields.now)) }
+{
+    if fields.len() != 2 || !is_at(fields, 1, b"1") {
+        return Err(LineFault::Refused(Reason::Fields));
+    }
+    Ok(())
+}
+
+/// The MODE line. Only aperiodic tables are built.
+#[tactic(auto, unfolding(crate::specs::Forms::mode_reading))]
+pub fn mode_line(fields: &[&[u8]]) -> Result<(), LineFault>
+    ensures { LineGives (λ u. u) result (forms.mode_reading (texts fields.now)) }
+{
+    if fields.len() != 2 {
+        return Err(LineFault::Refused(Reason::Fields));
+    }
+    if is_at(fields, 1, b"periodic") {
+        return Err(LineFault::Refused(Reason::NotBuilt));
+    }
+    if !is_at(fields, 1, b"aperiodic") {
+        return Err(LineFault::Refused(Reason::Spelling));
+    }
+    Ok(())
+}
+
+/// The number, where it is in this range.
+fn within(number: u64, least: u32, most: u32) -> Option<u32>
+    ensures { result ≡ (if is_in_range least most number then Some number else None) }
+{
+    if (u64::from(least)..=u64::from(most)).contains(&number) {
+        Some(number as u32)
+    } else {
+        None
+    }
+}
+
+/// A line of a keyword and a number in this range.
+#[tactic(auto, unfolding(crate::specs::Forms::number_reading))]
+pub fn number_line(fields: &[&[u8]], least: u32, most: u32) -> Result<u32, LineFault>
+    ensures { LineGives (λ n. n) result (forms.number_reading (is_in_range least most) (texts fields.now)) }
+{
+    if fields.len() != 2 {
+        return Err(LineFault::Refused(Reason::Fields));
+    }
+    let number = plain_decimal(field_at(fields, 1)).ok_or(Reason::Spelling)?;
+    match within(number, least, most) {
+        Some(value) => Ok(value),
+        None => Err(LineFault::Refused(Reason::Range)),
+    }
+}
+
+/// A SENDER line.
+#[tactic(auto, unfolding(crate::specs::Forms::sender_reading))]
+pub fn sender_line(fields: &[&[u8]]) -> Result<Head, LineFault>
+    ensures { LineGives (λ head. head) result (forms.sender_reading (texts fields.now)) }
+{
+    if fields.len() != 4 || !is_at(fields, 2, b"TG") {
+        return Err(LineFault::Refused(Reason::Fields));
+    }
+    let number = plain_decimal(field_at(fields, 1)).ok_or(Reason::Spelling)?;
+    let tg = plain_decimal(field_at(fields, 3)).ok_or(Reason::Spelling)?;
+    match Head::new(number, tg) {
+        Some(head) => Ok(head),
+        None => Err(LineFault::Refused(Reason::Range)),
+    }
+}
+
+/// A label: three hexadecimal digits.
+fn label(field: &[u8]) -> Option<Label>
+    ensures { result ≡ (if is_hexadecimal 3 field.now then Some (hexadecimal_value field.now) else None) }
+{
+    match hexadecimal(field, 3) {
+        Some(value) => Label::new(value as u16),
+        None => None,
+    }
+}
+
+/// An extension: one hexadecimal digit.
+fn ext(field: &[u8]) -> Option<Ext>
+    ensures { result ≡ (if is_hexadecimal 1 field.now then Some (hexadecimal_value field.now) else None) }
+{
+    match hexadecimal(field, 1) {
+        Some(value) => Ext::new(value as u8),
+        None => None,
+    }
+}
+
+/// A SEND line with these numbers of data words, where they are in their ranges.
+fn send_of(label: Label, ext: Ext, least: u64, most: u64) -> Option<SendLine>
+    ensures { result ≡ (if is_send_line (record { label = label; ext = ext; least = least; most = most }) then Some (record { label = label; ext = ext; least = least; most = most }) else None) }
+{
+    prove!(label.value() < 4096 && ext.value() < 16);
+    if least <= most && most <= 256 {
+        Some(SendLine {
+            label,
+            ext,
+            least: least as u16,
+            most: most as u16,
+        })
+    } else {
+        None
+    }
+}
+
+/// A SEND line.
+#[tactic(auto, unfolding(crate::specs::Forms::send_reading))]
+pub fn send_line(fields: &[&[u8]]) -> Result<SendLine, LineFault>
+    ensures exact { LineGives (λ line. line) result (forms.send_reading (texts fields.now)) }
+    ensures ranges { IfOk result (λ line. IsTrue (is_send_line line)) }
+{
+    if fields.len() != 5 {
+        return Err(LineFault::Refused(Reason::Fields));
+    }
+    let label = label(field_at(fields, 1)).ok_or(Reason::Spelling)?;
+    let ext = ext(field_at(fields, 2)).ok_or(Reason::Spelling)?;
+    let least = plain_decimal(field_at(fields, 3)).ok_or(Reason::Spelling)?;
+    let most = plain_decimal(field_at(fields, 4)).ok_or(Reason::Spelling)?;
+    match send_of(label, ext, least, most) {
+        Some(line) => Ok(line),
+        None => Err(LineFault::Refused(Reason::Range)),
+    }
+}

@@ -1,0 +1,56 @@
+ghost use Rattle.std.specs.Prelude.{◌≡◌, IsTrue, Some, None, if◌then◌else◌};
+ghost use Rattle.bus_table.specs.Heads.{is_head};
+
+use std::marker::Model;
+
+/// What a SENDER line says. It keeps that both numbers are in their ranges.
+#[derive(Clone, Copy)]
+pub struct Head {
+    number: u8,
+    tg: u32,
+}
+
+impl Model for Head {
+    ghost use Rattle.std.specs.Prelude.{IsTrue};
+    ghost use Rattle.bus_table.specs.Heads as heads;
+
+    ghost Value = { heads.Head };
+
+    ghost view = { λ h. record { number = h.number; tg = h.tg } };
+
+    ghost inverse = { λ h. record { number = h.number; tg = h.tg } };
+
+    ghost invariant = { λ h. IsTrue (heads.is_head (record { number = h.number; tg = h.tg })) };
+}
+
+impl Head {
+    /// None where the number or the gap is out of its range.
+    pub fn new(number: u64, tg: u64) -> Option<Head>
+        ensures { result ≡ (if is_head (record { number = number; tg = tg }) then Some (record { number = number; tg = tg }) else None) }
+    {
+        if (1..=128).contains(&number) && (8..=256).contains(&tg) {
+            Some(Head {
+                number: number as u8,
+                tg: tg as u32,
+            })
+        } else {
+            None
+        }
+    }
+
+    /// The terminal number: 1 to 128.
+    pub fn number(&self) -> u8
+        ensures value { result ≡ self.now.number }
+        ensures ranges { IsTrue (is_head self.now) }
+    {
+        self.number
+    }
+
+    /// The terminal gap in bit times: 8 to 256.
+    pub fn tg(&self) -> u32
+        ensures value { result ≡ self.now.tg }
+        ensures ranges { IsTrue (is_head self.now) }
+    {
+        self.tg
+    }
+}

@@ -1,0 +1,20 @@
+use crate::head::Head;
+
+/// What stood last in a table text: it decides what may follow.
+#[derive(Clone, Copy)]
+pub enum Place {
+    /// Nothing yet.
+    Start,
+    /// The TABLE line.
+    Table,
+    /// The MODE line.
+    Mode,
+    /// The TI line.
+    Ti,
+    /// The SG line.
+    Sg,
+    /// A SENDER line, whose sender has no SEND line yet.
+    Sender(Head),
+    /// A SEND line of the last sender.
+    Send,
+}
