@@ -1,2 +1,6 @@
 pub mod MessageLemmas
 pub mod PulseLemmas
+pub mod StringLemmas
+pub mod ItemLemmas
+pub mod TextLemmas
+pub mod GrammarLemmas

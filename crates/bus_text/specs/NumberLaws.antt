@@ -1,16 +1,17 @@
 -- Laws of numbers in fields.
-use Rattle.std.proofs.Common.{arith, zero, suc, ◌≡◌, ℕ, ◌<◌, ◌≤◌, ◌^◌, min, nat_le, ◌⊎◌, inl, inr, Bool, true, false, not, ◌&&◌, List, [], ◌∷◌, length, get_or, lit<, refl, sym, ap, ◌∙◌}
-use Rattle.std.specs.Char.{is_ascii_digit}
+use Rattle.std.proofs.Common.{arith, ◌==◌, zero, suc, ◌≡◌, ℕ, ◌<◌, ◌≤◌, ◌^◌, min, nat_le, ◌⊎◌, inl, inr, Bool, true, false, not, ◌&&◌, List, [], ◌∷◌, length, get_or, lit<, refl, sym, ap, subst, ◌∙◌}
+use Rattle.std.specs.Char.{is_ascii_digit, is_ascii_hexdigit, digit_value}
 use Rattle.std.specs.Fmt.{decimal}
 use Rattle.std.specs.Int.{is_in_range}
 use Rattle.std.specs.List.{list_all, AllByRecursion}
-use Rattle.std.specs.Str.Parse.{AllDigits}
-use Rattle.std.proofs.lemmas.Bool.{and_parts, cases_lt, ne_eqb}
+use Rattle.std.specs.Str.Parse.{AllDigits, digits_value}
+use Rattle.std.proofs.lemmas.Bool.{and_parts, cases_lt, ne_eqb, eqb-true}
 use Rattle.std.proofs.lemmas.Bool.Decides.{nat_tests}
+use Rattle.std.proofs.lemmas.Int.Digits.{digits_value-lt}
 use Rattle.std.proofs.lemmas.Fmt.{decimal_is_IsNumeral, decimal_digit, first_decimal}
 use Rattle.std.proofs.lemmas.Str.Parse.{digit_from_value}
 use Rattle.bus_text.specs.Canonical.{IsFieldByte, IsField}
-use Rattle.bus_text.specs.Numbers.{is_plain_decimal, IsDecimal}
+use Rattle.bus_text.specs.Numbers.{is_plain_decimal, is_hexadecimal, hexadecimal_value, IsDecimal}
 
 -- ---- ranges
 above : (hi v : ℕ) → hi < v → nat_le v hi ≡ false
@@ -65,3 +66,19 @@ pub decimal_field : (n : ℕ) → n < 2 ^ 64 → IsField (decimal n)
 decimal_field n small =
     let d = decimal_is_IsNumeral n small in
     record { some = d.0.0; bytes = field_digits (decimal n) (ascii_digits (decimal n) d.0.1) }
+
+-- ---- hexadecimal digits
+hex_digit : (c : ℕ) → is_ascii_hexdigit c ≡ true → digit_value c < 16
+hex_digit c h = grind (arith, nat_tests)
+
+-- hexadecimal digits have values below 16
+pub hex_digits : (field : List ℕ) → list_all is_ascii_hexdigit field ≡ true → AllDigits 16 field
+hex_digits [] h = tt
+hex_digits (c ∷ cs) h = let p = and_parts (is_ascii_hexdigit c) (list_all is_ascii_hexdigit cs) h in (hex_digit c p.0, hex_digits cs p.1)
+
+-- so many digits write a number below that power of 16
+pub hexadecimal_value-lt : (count : ℕ) (field : List ℕ) → is_hexadecimal count field ≡ true → hexadecimal_value field < 16 ^ count
+hexadecimal_value-lt count field h =
+    let p = and_parts (length field == count) (list_all is_ascii_hexdigit field) h in
+    let e : length field ≡ count = eqb-true _ _ p.0 in
+    subst (λ (n : ℕ). digits_value 16 field < 16 ^ n) e (digits_value-lt 16 field (hex_digits field p.1))

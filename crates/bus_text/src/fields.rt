@@ -1,4 +1,4 @@
-ghost use Rattle.std.specs.Prelude.{◌≡◌, ◌<◌, ℕ, length, true, false, MatchOption, IfSome, IfNone, slice_index, [], ◌∷◌, drop};
+ghost use Rattle.std.specs.Prelude.{◌≡◌, ◌<◌, ℕ, length, true, false, MatchOption, IfSome, IfNone, slice_index, slice_index_or, [], ◌∷◌, drop};
 ghost use Rattle.std.specs.Iterator.{YieldsFirstRef, item_count};
 ghost use Rattle.bus_text.specs.Fields.{is_at};
 ghost use Rattle.bus_text.specs.Lines.{is_blank as blank_test, fields_of};
@@ -78,6 +78,17 @@ impl<'a> Fields<'a> {
         match self.next() {
             None => false,
             Some(field) => field == word,
+        }
+    }
+
+    /// Takes the next field; no bytes where there is none.
+    pub fn next_or_empty(&mut self) -> &'a [u8]
+        ensures value { result.now ≡ slice_index_or self.old 0 [] }
+        ensures rest { self.new ≡ drop 1 self.old }
+    {
+        match self.next() {
+            None => &[],
+            Some(field) => field,
         }
     }
 }

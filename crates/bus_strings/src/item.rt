@@ -1,0 +1,101 @@
+ghost use Rattle.std.specs.Prelude.{◌≡◌, nat_le, length, drop, Ok, Err, IfOk, IfErr, Some, None, if◌then◌else◌};
+ghost use Rattle.std.specs.List.{list_all};
+ghost use Rattle.bus_text.specs.Gives.{LineGives};
+ghost use Rattle.bus_text.specs.Numbers.{is_hexadecimal, hexadecimal_value};
+ghost use Rattle.bus_text.specs.declared.reason.Reason.TheVariants.{Spelling};
+ghost use Rattle.bus_strings.specs.Items.{numbers, is_in_range as range_test, IsItem};
+ghost use Rattle.bus_strings.specs.Reading.{are_spelled, strings_of, HasFront, item_reading};
+
+use crate::payload::Payload;
+use bus_text::fault::LineFault;
+use bus_text::fields::Fields;
+use bus_text::numbers::{hexadecimal, plain_decimal};
+use bus_text::reason::Reason;
+use std::alloc::Global;
+use std::mem;
+
+const COLON: &[u8] = b":";
+
+const MOST_TERMINAL: u64 = 128;
+
+const MOST_STRINGS: usize = 31;
+
+const MOST_WORDS: usize = 256;
+
+/// A data word: four hexadecimal digits.
+fn word(field: &[u8]) -> Option<u16>
+    ensures { result ≡ (if is_hexadecimal 4 field.now then Some (hexadecimal_value field.now) else None) }
+{
+    Some(hexadecimal(field, 4)? as u16)
+}
+
+/// The data words of the wordstrings, between which colons stand.
+fn strings(alloc: Global, fields: Fields<'_>) -> Result<Vec<Vec<u16>>, LineFault>
+    ensures { LineGives (λ v. numbers v.items) result (if are_spelled fields.entry then Ok (strings_of fields.entry) else Err Spelling) }
+{
+    let mut strings = Vec::new(alloc);
+    let mut words = Vec::new(alloc);
+    for field in fields {
+        if field == COLON {
+            strings.push(mem::replace(&mut words, Vec::new(alloc)))?;
+            continue;
+        }
+        let Some(word) = word(field) else {
+            return Err(LineFault::Refused(Reason::Spelling));
+        };
+        words.push(word)?;
+    }
+    strings.push(words)?;
+    Ok(strings)
+}
+
+/// Whether no wordstring has too many data words.
+fn are_short(strings: &[Vec<u16>]) -> bool
+    ensures { result ≡ list_all (λ v. nat_le (length v.items) 256) strings.now }
+{
+    strings.iter().all(|string| string.len() <= MOST_WORDS)
+}
+
+/// Whether an item is in its ranges.
+fn is_in_range(terminal: u64, strings: &[Vec<u16>]) -> bool
+    ensures { result ≡ range_test (record { terminal = terminal; strings = numbers strings.now }) }
+{
+    (1..=MOST_TERMINAL).contains(&terminal)
+        && (1..=MOST_STRINGS).contains(&strings.len())
+        && are_short(strings)
+}
+
+/// Takes the fields of a line up to its first colon, and gives the terminal, or the last value of a `u64` where its number
+/// is above that.
+fn front(fields: &mut Fields<'_>) -> Result<u64, Reason>
+    ensures taken { IfOk result (λ terminal. HasFront fields.old terminal × (fields.new ≡ drop 3 fields.old)) }
+    ensures refused { IfErr result (λ reason. item_reading fields.old ≡ Err reason) }
+{
+    if !fields.next_is(b"MSG") {
+        return Err(Reason::Keyword);
+    }
+    let number = fields.next_or_empty();
+    if !fields.next_is(COLON) {
+        return Err(Reason::Fields);
+    }
+    match plain_decimal(number) {
+        Some(terminal) => Ok(terminal),
+        None => Err(Reason::Spelling),
+    }
+}
+
+/// The item of a line with these fields.
+pub fn item(alloc: Global, mut fields: Fields<'_>) -> Result<Payload, LineFault>
+    ensures exact { LineGives (λ p. p) result (item_reading fields.entry) }
+    ensures ranges { IfOk result IsItem }
+{
+    let terminal = front(&mut fields)?;
+    let strings = strings(alloc, fields)?;
+    if !is_in_range(terminal, &strings) {
+        return Err(LineFault::Refused(Reason::Range));
+    }
+    Ok(Payload {
+        terminal: terminal as u8,
+        strings,
+    })
+}

@@ -1,0 +1,107 @@
+ghost use Rattle.std.specs.Prelude.{◌≡◌, ◌≤◌, List, length, IfOk, Ok};
+ghost use Rattle.std.specs.List.{AllByRecursion};
+ghost use Rattle.bus_text.specs.AllOf.{all_of};
+ghost use Rattle.bus_text.specs.Entries.{entry};
+ghost use Rattle.bus_strings.specs.Items.{Item, IsItem};
+ghost use Rattle.bus_strings.specs.Grammar.{IsMessagesText};
+ghost use Rattle.bus_strings.specs.Reading.{header_reading, header_line, item_line, messages_reading};
+ghost use Rattle.bus_strings.specs.Gives.{Gives};
+
+use crate::fault::MessagesError;
+use crate::item::item;
+use crate::payload::{Payload, Payloads};
+use bus_text::cursor::{Line, Lines};
+use bus_text::fault::LineFault;
+use bus_text::fields::Fields;
+use bus_text::lines::line_after;
+use bus_text::reason::Reason;
+use std::alloc::Global;
+
+/// Reads the fields of the first line.
+#[tactic(auto, unfolding(crate::specs::Reading::header_reading))]
+fn header(mut fields: Fields<'_>) -> Result<(), Reason>
+    ensures { result ≡ header_reading fields.entry }
+{
+    if !fields.next_is(b"MESSAGES") {
+        return Err(Reason::Keyword);
+    }
+    if !fields.next_is(b"1") {
+        return Err(Reason::Fields);
+    }
+    match fields.next() {
+        None => Ok(()),
+        Some(_) => Err(Reason::Fields),
+    }
+}
+
+/// Reads the first line.
+fn header_at(line: Line<'_>) -> Result<(), MessagesError>
+    ensures { Gives (λ u. u) result (header_line (entry line.entry)) }
+{
+    match header(Fields::new(line.bytes)) {
+        Ok(()) => Ok(()),
+        Err(reason) => Err(MessagesError::Text {
+            line: line.number,
+            reason,
+        }),
+    }
+}
+
+/// Reads a further line.
+fn item_at(alloc: Global, line: Line<'_>) -> Result<Payload, MessagesError>
+    ensures exact { Gives (λ p. p) result (item_line (entry line.entry)) }
+    ensures ranges { IfOk result IsItem }
+{
+    match item(alloc, Fields::new(line.bytes)) {
+        Ok(payload) => Ok(payload),
+        Err(LineFault::Memory) => Err(MessagesError::Memory),
+        Err(LineFault::Refused(reason)) => Err(MessagesError::Text {
+            line: line.number,
+            reason,
+        }),
+    }
+}
+
+/// Reads the lines behind the first.
+fn items(alloc: Global, lines: Lines<'_>) -> Result<Vec<Payload>, MessagesError>
+    ensures exact { Gives (λ v. v.items) result (all_of item_line lines.entry) }
+    ensures ranges { IfOk result (λ v. AllByRecursion IsItem v.items) }
+{
+    let mut items = Vec::new(alloc);
+    for line in lines {
+        items.push(item_at(alloc, line)?)?;
+    }
+    Ok(items)
+}
+
+/// Reads the header and the items.
+fn read(alloc: Global, text: &[u8]) -> Result<Payloads, MessagesError>
+    ensures { Gives (λ v. v) result (messages_reading text.now) }
+{
+    let mut lines = Lines::new(text);
+    let Some(first) = lines.next() else {
+        return Err(MessagesError::Text {
+            line: line_after(text),
+            reason: Reason::Ended,
+        });
+    };
+    header_at(first)?;
+    let items = items(alloc, lines)?;
+    Ok(Payloads { items })
+}
+
+/// Reads a messages text: the items that it stands for, or the first line that is refused and why.
+///
+/// [`MessagesError::Text`] comes exactly where the text stands for no items, [`MessagesError::Memory`] only where memory
+/// ran out. No more memory is taken than the items need.
+pub fn read_messages(alloc: Global, text: &[u8]) -> Result<Payloads, MessagesError>
+    // What is read is what the text stands for.
+    ensures found { IfOk result (λ items. IsMessagesText items text.now) }
+    // What a text stands for is read, unless memory runs out.
+    ensures only { (items : List Item) → IsMessagesText items text.now → Gives (λ v. v) result (Ok items) }
+    // Which line is refused, and why.
+    ensures exact { Gives (λ v. v) result (messages_reading text.now) }
+    ensures few { IfOk result (λ items. length items ≤ length text.now) }
+{
+    read(alloc, text)
+}
