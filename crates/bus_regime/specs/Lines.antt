@@ -1,0 +1,27 @@
+-- The line of a verdict.
+use Rattle.std.specs.Prelude.{ℕ, List, [], ◌∷◌, ◌++◌, codes}
+use Rattle.std.specs.Fmt.{decimal, signed_decimal}
+use Rattle.bus_table.specs.declared.mode.Mode.{Mode}
+use Rattle.bus_table.specs.declared.mode.Mode.TheVariants.{Aperiodic, Periodic}
+use Rattle.bus_regime.specs.declared.verdict.TableVerdict.{TableVerdict}
+use Rattle.bus_regime.specs.declared.verdict.TableVerdict.TheVariants.{Accept, ShortCycle, SmallGap, NoSync}
+
+-- the word of a mode
+abbrev pub mode_name : Mode → List ℕ
+mode_name Aperiodic = codes "aperiodic"
+mode_name Periodic = codes "periodic"
+
+-- a refusal that names a terminal, its gap and what the gap should be
+abbrev pub gap_words : List ℕ → ℕ → List ℕ → ℕ → List ℕ
+gap_words name terminal gap needed = name ++ decimal terminal ++ 32 ∷ [] ++ gap ++ 32 ∷ [] ++ decimal needed
+
+-- what a verdict is called, and its numbers; a negative gap has a `-`
+abbrev pub verdict_words : TableVerdict → List ℕ
+verdict_words (Accept mode least most) = codes "ACCEPT " ++ mode_name mode ++ 32 ∷ [] ++ decimal least ++ 32 ∷ [] ++ decimal most
+verdict_words (ShortCycle least ti) = codes "REFUSE short-cycle " ++ decimal least ++ 32 ∷ [] ++ decimal ti
+verdict_words (SmallGap terminal gap needed) = gap_words (codes "REFUSE small-gap ") terminal (signed_decimal gap) needed
+verdict_words (NoSync terminal gap needed) = gap_words (codes "REFUSE no-sync ") terminal (decimal gap) needed
+
+-- the line of a verdict
+abbrev pub verdict_line : TableVerdict → List ℕ
+verdict_line verdict = verdict_words verdict ++ 10 ∷ []
