@@ -4,3 +4,4 @@ pub mod StringLemmas
 pub mod ItemLemmas
 pub mod TextLemmas
 pub mod GrammarLemmas
+pub mod CanonicalLemmas

@@ -6,3 +6,5 @@ pub mod Items
 pub mod Grammar
 pub mod Reading
 pub mod Gives
+pub mod Canonical
+pub mod Puts

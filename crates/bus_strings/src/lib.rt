@@ -11,3 +11,4 @@ pub mod pulses;
 pub mod reading;
 pub mod transmission;
 pub mod wordstring;
+pub mod writing;
