@@ -5,3 +5,4 @@ pub mod ItemLemmas
 pub mod TextLemmas
 pub mod GrammarLemmas
 pub mod CanonicalLemmas
+pub mod OverlapLemmas

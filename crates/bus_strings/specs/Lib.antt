@@ -8,3 +8,5 @@ pub mod Reading
 pub mod Gives
 pub mod Canonical
 pub mod Puts
+pub mod OverlapLaws
+pub mod Marking

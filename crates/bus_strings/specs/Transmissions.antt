@@ -1,6 +1,6 @@
 -- Lists of transmissions: their order, the carrier that they make, and which of them are garbled.
-use Rattle.std.specs.Prelude.{◌≡◌, ℕ, ◌+◌, ◌-◌, ◌<◌, ◌≤◌, ◌⊎◌, Bool, false, ◌&&◌, nat_lt, nat_le, List, [], ◌∷◌, slice_get, remove, ⊤}
-use Rattle.std.specs.List.{list_any, AllByRecursion}
+use Rattle.std.specs.Prelude.{◌≡◌, ℕ, ◌+◌, ◌-◌, ◌<◌, ◌≤◌, ◌⊎◌, Bool, false, ◌&&◌, nat_lt, nat_le, List, [], ◌∷◌, length, map, slice_get, remove, ⊤}
+use Rattle.std.specs.List.{list_any, range_with_len, AllByRecursion}
 use Rattle.std.specs.Option.{option_map_or}
 use Rattle.bus_strings.specs.Messages.{Entry, bits}
 use Rattle.bus_strings.specs.Pulses.{is_on}
@@ -24,6 +24,10 @@ overlaps x y = nat_lt x.moment (end_of y) && nat_lt y.moment (end_of x)
 -- whether entry k is garbled: another entry of the list overlaps it
 abbrev pub garbled : List Entry → ℕ → Bool
 garbled list k = option_map_or (λ x. list_any (overlaps x) (remove list k)) (slice_get list k) false
+
+-- for each entry, in order, whether it is garbled
+abbrev pub marks : List Entry → List Bool
+marks list = map (garbled list) (range_with_len 0 (length list))
 
 -- x stands before y: by moment, and at the same moment by terminal
 abbrev pub Precedes : Entry → Entry → Type 0

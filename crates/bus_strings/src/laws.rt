@@ -1,4 +1,5 @@
 ghost use Rattle.bus_strings.specs.PulseLaws.{FirstIsOn, LastIsOn, QuietBehind, PulseSoon, OnWithinPulse, NextPulse, LastPulseEnds};
+ghost use Rattle.bus_strings.specs.OverlapLaws.{OverlapsMeet, NeighboursTell, AscendingIsByMoment};
 
 /// What follows of the pulses of a message, whatever its words: laws, with no work.
 pub fn pulses_cover()
@@ -9,4 +10,12 @@ pub fn pulses_cover()
     ensures within { OnWithinPulse }
     ensures next { NextPulse }
     ensures ends { LastPulseEnds }
+{}
+
+/// Two transmissions overlap exactly where some moment lies in the spans of both; and in a list that is ordered by
+/// moment the entries before an entry and the next one tell whether it is garbled. Laws, with no work.
+pub fn neighbours_tell()
+    ensures meet { OverlapsMeet }
+    ensures neighbours { NeighboursTell }
+    ensures ascending { AscendingIsByMoment }
 {}

@@ -6,9 +6,12 @@ pub mod fault;
 pub mod item;
 pub mod laws;
 pub mod message;
+pub mod overlap;
 pub mod payload;
 pub mod pulses;
 pub mod reading;
+#[cfg(test)]
+mod tests;
 pub mod transmission;
 pub mod wordstring;
 pub mod writing;

@@ -1,6 +1,9 @@
-ghost use Rattle.std.specs.Prelude.{◌≡◌};
+ghost use Rattle.std.specs.Prelude.{◌≡◌, ◌<◌, ◌≤◌, ◌^◌};
+ghost use Rattle.bus_strings.specs.Messages.{IsMessage};
+ghost use Rattle.bus_strings.specs.Transmissions.{end_of};
 
 use crate::message::Message;
+use crate::pulses::bits;
 use std::marker::Model;
 
 /// A message on the bus. Its terminal is 1 to 128, and its moment below 1,099,511,627,776; both limits are this
@@ -24,4 +27,15 @@ impl Model for Transmission {
     ghost view = { λ x. record { moment = x.moment; terminal = x.terminal; message = x.message } };
 
     ghost invariant = { λ x. (1 ≤ x.terminal) × (x.terminal ≤ 128) × (x.moment < 2 ^ 40) };
+}
+
+impl Transmission {
+    /// The moment at which it has ended: its own moment and the bit times of its message.
+    pub fn end(&self) -> u64
+        ensures value { result ≡ end_of self.now }
+        ensures some { self.now.moment < result }
+        ensures ranges { IsMessage self.now.message }
+    {
+        self.moment + bits(&self.message) as u64
+    }
 }

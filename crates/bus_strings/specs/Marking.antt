@@ -1,0 +1,15 @@
+-- How far a walk over a list has come that tells of each transmission whether it is garbled.
+use Rattle.std.specs.Prelude.{◌≡◌, ℕ, ◌≤◌, max, List, [], ◌∷◌, length, take}
+use Rattle.bus_strings.specs.Messages.{Entry}
+use Rattle.bus_strings.specs.Transmissions.{end_of, IsByMoment}
+
+-- the greatest end of these transmissions, and 0 where there is none
+abbrev pub greatest_end : List Entry → ℕ
+greatest_end [] = 0
+greatest_end (x ∷ list) = max (end_of x) (greatest_end list)
+
+-- the first `at` transmissions of a list that is ordered by moment are behind, and the last of them to end does so at `end`
+pub record IsMarking (list : List Entry) (at end : ℕ) : Type 0 where
+  pub order : IsByMoment list
+  pub within : at ≤ length list
+  pub ends : end ≡ greatest_end (take at list)
