@@ -30,8 +30,9 @@ impl Message {
         if strings.is_empty() || strings.len() > 31 {
             return None;
         }
+        // A look at each wordstring, of which nothing is left in the built program, makes its ranges known.
         for string in &strings {
-            let _words = string.words();
+            let _ranges = string.words();
         }
         Some(Message { strings })
     }

@@ -33,6 +33,7 @@ impl Wordstring {
         if words.len() > 256 {
             return None;
         }
+        // The types of both keep their ranges, which are known from here on.
         let _ranges = (label.value(), ext.value());
         Some(Wordstring { label, ext, words })
     }
