@@ -6,3 +6,4 @@ pub mod LineLemmas
 pub mod ReadingLemmas
 pub mod TextLemmas
 pub mod StepLemmas
+pub mod AnswerLemmas

@@ -6,6 +6,7 @@ pub mod error;
 mod forms;
 mod head;
 mod keyword;
+pub mod laws;
 pub mod lengths;
 pub mod line;
 pub mod listener;
