@@ -1,6 +1,7 @@
--- The lengths of a sender's messages in bit times: twenty for each word, label words included, and four between two wordstrings.
-use Rattle.std.specs.Prelude.{ℕ, ◌+◌, ◌*◌, ◌-◌, List, length}
+-- The lengths of a sender's messages in bit times.
+use Rattle.std.specs.Prelude.{ℕ, ◌+◌, List, length}
 use Rattle.std.specs.List.{sum_by}
+use Rattle.bus_strings.specs.Messages.{bits_of}
 use Rattle.bus_table.specs.Tables.{SendLine, Sender}
 
 -- the words of a message with the least data words on each of these lines
@@ -10,10 +11,6 @@ least_words sends = sum_by (λ line. 1 + line.least) sends
 -- the words of a message with the most data words on each of these lines
 abbrev pub most_words : List SendLine → ℕ
 most_words sends = sum_by (λ line. 1 + line.most) sends
-
--- the bit times of so many words in so many wordstrings
-abbrev pub bits_of : ℕ → ℕ → ℕ
-bits_of words strings = 20 * words + 4 * (strings - 1)
 
 -- the bit times of a message with the least data words on each line
 abbrev pub shortest : Sender → ℕ

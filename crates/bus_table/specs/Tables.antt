@@ -5,6 +5,7 @@
 --   sends       the wordstrings of a sender's messages
 --   takes       what a terminal takes from the wordstrings of others
 use Rattle.std.specs.Prelude.{ℕ, List}
+use Rattle.bus_strings.specs.Messages.{Message}
 use Rattle.bus_table.specs.declared.mode.Mode.{Mode}
 pub use Rattle.bus_table.specs.declared.line.SendLine.{SendLine}
 pub use Rattle.bus_table.specs.declared.line.TakeLine.{TakeLine}
@@ -29,3 +30,8 @@ pub record Table : Type 0 where
   pub sg : ℕ
   pub senders : List Sender
   pub listeners : List Listener
+
+-- what a terminal has to send: its messages, in the order of their starts
+pub record Hand : Type 0 where
+  pub terminal : ℕ
+  pub messages : List Message

@@ -4,6 +4,7 @@
 mod draft;
 pub mod error;
 mod forms;
+pub mod hand;
 mod head;
 mod keyword;
 pub mod laws;
