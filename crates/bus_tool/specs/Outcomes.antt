@@ -1,0 +1,79 @@
+-- How the program ends with an outcome, and the line that says why.
+use Rattle.std.specs.Prelude.{ℕ, Bool, true, false, List, [], ◌∷◌, ◌++◌, codes, if◌then◌else◌}
+use Rattle.std.specs.Fmt.{decimal}
+use Rattle.bus_text.specs.Digits.{hex_digit, hexadecimal}
+use Rattle.bus_text.specs.declared.reason.Reason.{Reason}
+use Rattle.bus_text.specs.declared.reason.Reason.TheVariants.{Ended, Keyword, Fields, Spelling, Range, NotBuilt}
+use Rattle.bus_table.specs.declared.error.WholeReason.{WholeReason}
+use Rattle.bus_table.specs.declared.error.WholeReason.TheVariants.{NoSender, NumberTwice, GapTwice, GapNotShort, PairTwice, OffsetRange, Varies}
+use Rattle.bus_tool.specs.declared.status.Status.{Status}
+use Rattle.bus_tool.specs.declared.status.Status.TheVariants as status
+use Rattle.bus_tool.specs.declared.outcome.Outcome.{Outcome}
+use Rattle.bus_tool.specs.declared.outcome.Outcome.TheVariants.{Done, Answered, Usage, TableText, TableWhole, ReadFault, WriteFault, NoMemory, TooLarge}
+use Rattle.bus_tool.specs.Statuses.{number_of}
+
+abbrev pub status_of : Outcome → Status
+status_of Done = status.Done
+status_of Answered = status.Refused
+status_of Usage = status.Usage
+status_of (TableText line reason) = status.TableRefused
+status_of (TableWhole reason) = status.TableRefused
+status_of (ReadFault source) = status.ReadFault
+status_of WriteFault = status.WriteFault
+status_of NoMemory = status.NoMemory
+status_of (TooLarge source) = status.TooLarge
+
+-- the word of a reason
+abbrev pub reason_name : Reason → List ℕ
+reason_name Ended = codes "Ended"
+reason_name Keyword = codes "Keyword"
+reason_name Fields = codes "Fields"
+reason_name Spelling = codes "Spelling"
+reason_name Range = codes "Range"
+reason_name NotBuilt = codes "NotBuilt"
+
+-- the label and the extension that stand on two SEND lines
+abbrev pub pair_words : ℕ → ℕ → List ℕ
+pair_words label ext = codes "PairTwice " ++ hexadecimal 3 label ++ 32 ∷ [] ++ hex_digit ext ∷ []
+
+-- the words of a whole reason: its name, and the number or the label and extension that it carries
+abbrev pub whole_words : WholeReason → List ℕ
+whole_words NoSender = codes "NoSender"
+whole_words (NumberTwice number) = codes "NumberTwice " ++ decimal number
+whole_words (GapTwice number) = codes "GapTwice " ++ decimal number
+whole_words (GapNotShort number) = codes "GapNotShort " ++ decimal number
+whole_words (PairTwice label ext) = pair_words label ext
+whole_words (OffsetRange number) = codes "OffsetRange " ++ decimal number
+whole_words (Varies number) = codes "Varies " ++ decimal number
+
+-- what a fault line says behind the status
+abbrev pub fault_words : Outcome → List ℕ
+fault_words Done = []
+fault_words Answered = []
+fault_words Usage = codes "usage"
+fault_words (TableText line reason) = codes "table line " ++ decimal line ++ 32 ∷ [] ++ reason_name reason
+fault_words (TableWhole reason) = codes "table " ++ whole_words reason
+fault_words (ReadFault source) = codes "read " ++ decimal source
+fault_words WriteFault = codes "write"
+fault_words NoMemory = codes "memory"
+fault_words (TooLarge source) = codes "large " ++ decimal source
+
+-- a line: the number with which the process ends, and why
+abbrev pub error_line : Outcome → List ℕ
+error_line outcome = codes "ERROR " ++ decimal (number_of (status_of outcome)) ++ 32 ∷ [] ++ fault_words outcome ++ 10 ∷ []
+
+-- whether the answer is written
+abbrev pub is_written : Outcome → Bool
+is_written Done = true
+is_written Answered = true
+is_written Usage = false
+is_written (TableText line reason) = false
+is_written (TableWhole reason) = false
+is_written (ReadFault source) = false
+is_written WriteFault = false
+is_written NoMemory = false
+is_written (TooLarge source) = false
+
+-- the line of an outcome; none where the answer is written
+abbrev pub fault_line : Outcome → List ℕ
+fault_line outcome = if is_written outcome then [] else error_line outcome

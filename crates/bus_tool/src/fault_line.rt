@@ -1,0 +1,148 @@
+ghost use Rattle.bus_outer.specs.Sinks.{WritesText};
+ghost use Rattle.bus_outer.specs.Texts.{Adds};
+ghost use Rattle.bus_tool.specs.Outcomes.{reason_name, pair_words, whole_words, fault_words, status_of, error_line, fault_line};
+ghost use Rattle.bus_tool.specs.declared.outcome.Outcome.TheVariants.{TableText};
+ghost use Rattle.bus_text.specs.Digits.{hex_digit, hexadecimal};
+ghost use Rattle.bus_tool.specs.Statuses.{number_of};
+ghost use Rattle.std.specs.Prelude.{List, [], ◌∷◌, ◌++◌, decimal};
+
+use crate::outcome::Outcome;
+use bus_outer::{Sink, TextBuffer, WriteFault};
+use bus_table::error::WholeReason;
+use bus_text::digits::{hex_digit as digit, three_digits};
+use bus_text::reason::Reason;
+use bus_words::label::{Ext, Label};
+
+/// Puts the word of a reason.
+fn put_reason<K: Sink>(text: &mut TextBuffer, sink: &mut K, reason: Reason)
+    ensures { Adds K.held K.faults sink.old sink.new text.old text.new (reason_name reason) }
+{
+    match reason {
+        Reason::Ended => text.put(sink, b"Ended"),
+        Reason::Keyword => text.put(sink, b"Keyword"),
+        Reason::Fields => text.put(sink, b"Fields"),
+        Reason::Spelling => text.put(sink, b"Spelling"),
+        Reason::Range => text.put(sink, b"Range"),
+        Reason::NotBuilt => text.put(sink, b"NotBuilt"),
+    }
+}
+
+/// Puts a word and a number.
+fn put_numbered<K: Sink>(text: &mut TextBuffer, sink: &mut K, word: &[u8], number: u8)
+    ensures { Adds K.held K.faults sink.old sink.new text.old text.new (word.now ++ decimal number) }
+{
+    text.put(sink, word);
+    text.put_number(sink, number);
+}
+
+/// Puts a label in three digits.
+fn put_label<K: Sink>(text: &mut TextBuffer, sink: &mut K, label: Label)
+    ensures { Adds K.held K.faults sink.old sink.new text.old text.new (hexadecimal 3 label) }
+{
+    text.put(sink, &three_digits(label.value()))
+}
+
+/// Puts an extension in one digit.
+fn put_ext<K: Sink>(text: &mut TextBuffer, sink: &mut K, ext: Ext)
+    ensures { Adds K.held K.faults sink.old sink.new text.old text.new (hex_digit ext ∷ []) }
+{
+    text.put_byte(sink, digit(ext.value()))
+}
+
+/// Puts the label and the extension that stand twice.
+fn put_pair<K: Sink>(text: &mut TextBuffer, sink: &mut K, label: Label, ext: Ext)
+    ensures { Adds K.held K.faults sink.old sink.new text.old text.new (pair_words label ext) }
+{
+    text.put(sink, b"PairTwice ");
+    put_label(text, sink, label);
+    text.put_byte(sink, b' ');
+    put_ext(text, sink, ext);
+}
+
+/// Puts the words of a whole reason.
+fn put_whole<K: Sink>(text: &mut TextBuffer, sink: &mut K, reason: WholeReason)
+    ensures { Adds K.held K.faults sink.old sink.new text.old text.new (whole_words reason) }
+{
+    match reason {
+        WholeReason::NoSender => text.put(sink, b"NoSender"),
+        WholeReason::NumberTwice(number) => put_numbered(text, sink, b"NumberTwice ", number),
+        WholeReason::GapTwice(number) => put_numbered(text, sink, b"GapTwice ", number),
+        WholeReason::GapNotShort(number) => put_numbered(text, sink, b"GapNotShort ", number),
+        WholeReason::PairTwice(label, ext) => put_pair(text, sink, label, ext),
+        WholeReason::OffsetRange(number) => put_numbered(text, sink, b"OffsetRange ", number),
+        WholeReason::Varies(number) => put_numbered(text, sink, b"Varies ", number),
+    }
+}
+
+/// Puts the place and the reason of a table text's refusal.
+fn put_table_text<K: Sink>(text: &mut TextBuffer, sink: &mut K, line: u64, reason: Reason)
+    ensures { Adds K.held K.faults sink.old sink.new text.old text.new (fault_words (TableText line reason)) }
+{
+    text.put(sink, b"table line ");
+    text.put_number(sink, line);
+    text.put_byte(sink, b' ');
+    put_reason(text, sink, reason);
+}
+
+/// Puts why a table is refused as a whole.
+fn put_table_whole<K: Sink>(text: &mut TextBuffer, sink: &mut K, reason: WholeReason)
+    ensures { Adds K.held K.faults sink.old sink.new text.old text.new (fault_words (Outcome.TableWhole reason)) }
+{
+    text.put(sink, b"table ");
+    put_whole(text, sink, reason);
+}
+
+/// Puts what a fault line says behind the status.
+fn put_words<K: Sink>(text: &mut TextBuffer, sink: &mut K, outcome: &Outcome)
+    ensures { Adds K.held K.faults sink.old sink.new text.old text.new (fault_words outcome.now) }
+{
+    match *outcome {
+        Outcome::Done | Outcome::Answered => text.put(sink, b""),
+        Outcome::Usage => text.put(sink, b"usage"),
+        Outcome::TableText { line, reason } => put_table_text(text, sink, line, reason),
+        Outcome::TableWhole(reason) => put_table_whole(text, sink, reason),
+        Outcome::ReadFault { source } => put_numbered(text, sink, b"read ", source),
+        Outcome::WriteFault => text.put(sink, b"write"),
+        Outcome::NoMemory => text.put(sink, b"memory"),
+        Outcome::TooLarge { source } => put_numbered(text, sink, b"large ", source),
+    }
+}
+
+/// Puts the number with which the process ends.
+fn put_status<K: Sink>(text: &mut TextBuffer, sink: &mut K, outcome: &Outcome)
+    ensures { Adds K.held K.faults sink.old sink.new text.old text.new (decimal (number_of (status_of outcome.now))) }
+{
+    text.put_number(sink, outcome.status().number())
+}
+
+/// Puts the line of an outcome; nothing where the answer is written.
+fn put_fault_line<K: Sink>(text: &mut TextBuffer, sink: &mut K, outcome: &Outcome)
+    ensures { Adds K.held K.faults sink.old sink.new text.old text.new (fault_line outcome.now) }
+{
+    if outcome.is_written() {
+        text.put(sink, b"");
+    } else {
+        put_error_line(text, sink, outcome);
+    }
+}
+
+/// Puts the line of an outcome whose answer isn't written.
+fn put_error_line<K: Sink>(text: &mut TextBuffer, sink: &mut K, outcome: &Outcome)
+    ensures { Adds K.held K.faults sink.old sink.new text.old text.new (error_line outcome.now) }
+{
+    text.put(sink, b"ERROR ");
+    put_status(text, sink, outcome);
+    text.put_byte(sink, b' ');
+    put_words(text, sink, outcome);
+    text.put_byte(sink, b'\n');
+}
+
+/// Writes the line that says why there is no answer; nothing where the answer is written. It takes no memory. After a `WriteFault`,
+/// which comes only where the sink's count of faults rose, the sink has taken a beginning of the line.
+pub fn outcome_text<K: Sink>(outcome: &Outcome, err: &mut K) -> Result<(), WriteFault>
+    ensures { WritesText K.held K.faults err.old err.new result (fault_line outcome.now) }
+{
+    let mut text = TextBuffer::new();
+    put_fault_line(&mut text, err, outcome);
+    text.finish(err)
+}

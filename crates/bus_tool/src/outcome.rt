@@ -1,0 +1,54 @@
+ghost use Rattle.std.specs.Prelude.{◌≡◌};
+ghost use Rattle.bus_tool.specs.Outcomes.{is_written, status_of};
+
+use crate::status::Status;
+use bus_table::error::WholeReason;
+use bus_text::reason::Reason;
+
+/// What a command came to.
+#[derive(Clone, Copy, Debug, PartialEq, Eq)]
+pub enum Outcome {
+    /// The answer is written, and it is yes where it is a yes or no.
+    Done,
+    /// The answer is written, and it is no.
+    Answered,
+    /// The words are no form.
+    Usage,
+    /// The first text is no table text: the offending line, counted from 1, and why.
+    TableText { line: u64, reason: Reason },
+    /// The first text is a table text of no valid table.
+    TableWhole(WholeReason),
+    /// A source, the first being 1, couldn't be read.
+    ReadFault { source: u8 },
+    /// The answer couldn't be written.
+    WriteFault,
+    /// Memory was refused.
+    NoMemory,
+    /// A source, the first being 1, has more bytes than its limit.
+    TooLarge { source: u8 },
+}
+
+impl Outcome {
+    /// Whether the answer is written whole: of all outcomes, only `Done` and `Answered`.
+    pub fn is_written(&self) -> bool
+        ensures { result ≡ is_written self.now }
+    {
+        matches!(self, Outcome::Done | Outcome::Answered)
+    }
+
+    /// How the program ends with this outcome.
+    pub fn status(&self) -> Status
+        ensures { result ≡ status_of self.now }
+    {
+        match self {
+            Outcome::Done => Status::Done,
+            Outcome::Answered => Status::Refused,
+            Outcome::Usage => Status::Usage,
+            Outcome::TableText { .. } | Outcome::TableWhole(_) => Status::TableRefused,
+            Outcome::ReadFault { .. } => Status::ReadFault,
+            Outcome::WriteFault => Status::WriteFault,
+            Outcome::NoMemory => Status::NoMemory,
+            Outcome::TooLarge { .. } => Status::TooLarge,
+        }
+    }
+}
