@@ -12,7 +12,6 @@ use bus_text::fields::Fields;
 use bus_text::numbers::{hexadecimal, plain_decimal};
 use bus_text::reason::Reason;
 use std::alloc::Global;
-use std::mem;
 
 const COLON: &[u8] = b":";
 
@@ -29,15 +28,21 @@ fn word(field: &[u8]) -> Option<u16>
     Some(hexadecimal(field, 4)? as u16)
 }
 
-/// The data words of the wordstrings, between which colons stand.
-fn strings(alloc: Global, fields: Fields<'_>) -> Result<Vec<Vec<u16>>, LineFault>
+/// The data words of the wordstrings, between which colons stand. A wordstring is gathered in `words` first, so that each
+/// takes only the memory that it needs.
+fn strings(
+    alloc: Global,
+    words: &mut Vec<u16>,
+    fields: Fields<'_>,
+) -> Result<Vec<Vec<u16>>, LineFault>
     ensures { LineGives (λ v. numbers v.items) result (if are_spelled fields.entry then Ok (strings_of fields.entry) else Err Spelling) }
 {
     let mut strings = Vec::new(alloc);
-    let mut words = Vec::new(alloc);
+    words.clear();
     for field in fields {
         if field == COLON {
-            strings.push(mem::replace(&mut words, Vec::new(alloc)))?;
+            strings.push(Vec::from_slice(alloc, words)?)?;
+            words.clear();
             continue;
         }
         let Some(word) = word(field) else {
@@ -45,7 +50,7 @@ fn strings(alloc: Global, fields: Fields<'_>) -> Result<Vec<Vec<u16>>, LineFault
         };
         words.push(word)?;
     }
-    strings.push(words)?;
+    strings.push(Vec::from_slice(alloc, words)?)?;
     Ok(strings)
 }
 
@@ -84,13 +89,17 @@ fn front(fields: &mut Fields<'_>) -> Result<u64, Reason>
     }
 }
 
-/// The item of a line with these fields.
-pub fn item(alloc: Global, mut fields: Fields<'_>) -> Result<Payload, LineFault>
+/// The item of a line with these fields. `words` is room that is used again from item to item; it holds nothing of use.
+pub fn item(
+    alloc: Global,
+    words: &mut Vec<u16>,
+    mut fields: Fields<'_>,
+) -> Result<Payload, LineFault>
     ensures exact { LineGives (λ p. p) result (item_reading fields.entry) }
     ensures ranges { IfOk result IsItem }
 {
     let terminal = front(&mut fields)?;
-    let strings = strings(alloc, fields)?;
+    let strings = strings(alloc, words, fields)?;
     if !is_in_range(terminal, &strings) {
         return Err(LineFault::Refused(Reason::Range));
     }

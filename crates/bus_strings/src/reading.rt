@@ -48,11 +48,11 @@ fn header_at(line: Line<'_>) -> Result<(), MessagesError>
 }
 
 /// Reads a further line.
-fn item_at(alloc: Global, line: Line<'_>) -> Result<Payload, MessagesError>
+fn item_at(alloc: Global, words: &mut Vec<u16>, line: Line<'_>) -> Result<Payload, MessagesError>
     ensures exact { Gives (λ p. p) result (item_line (entry line.entry)) }
     ensures ranges { IfOk result IsItem }
 {
-    match item(alloc, Fields::new(line.bytes)) {
+    match item(alloc, words, Fields::new(line.bytes)) {
         Ok(payload) => Ok(payload),
         Err(LineFault::Memory) => Err(MessagesError::Memory),
         Err(LineFault::Refused(reason)) => Err(MessagesError::Text {
@@ -68,8 +68,9 @@ fn items(alloc: Global, lines: Lines<'_>) -> Result<Vec<Payload>, MessagesError>
     ensures ranges { IfOk result (λ v. AllByRecursion IsItem v.items) }
 {
     let mut items = Vec::new(alloc);
+    let mut words = Vec::new(alloc);
     for line in lines {
-        items.push(item_at(alloc, line)?)?;
+        items.push(item_at(alloc, &mut words, line)?)?;
     }
     Ok(items)
 }

@@ -68,7 +68,8 @@ decimal_field n small =
     record { some = d.0.0; bytes = field_digits (decimal n) (ascii_digits (decimal n) d.0.1) }
 
 -- ---- hexadecimal digits
-hex_digit : (c : ℕ) → is_ascii_hexdigit c ≡ true → digit_value c < 16
+-- a hexadecimal digit has a value below 16
+pub hex_digit : (c : ℕ) → is_ascii_hexdigit c ≡ true → digit_value c < 16
 hex_digit c h = grind (arith, nat_tests)
 
 -- hexadecimal digits have values below 16

@@ -1,5 +1,5 @@
 ghost use Rattle.std.specs.Prelude.{◌≡◌, ◌<◌, IfSome, if◌then◌else◌};
-ghost use Rattle.std.specs.Char.{digit_value};
+ghost use Rattle.std.specs.Char.{is_ascii_hexdigit, digit_value};
 ghost use Rattle.bus_text.specs.Digits.{hex_digit as digit_of, is_capital_digit, hexadecimal};
 
 /// The hexadecimal digit of a number below 16, in capitals.
@@ -14,16 +14,42 @@ pub fn hex_digit(value: u8) -> u8
     }
 }
 
+/// What the table of values has for a byte that is no hexadecimal digit.
+const NO: u8 = 16;
+
+/// The value of each byte as a hexadecimal digit. A table, since digits and letters come in no order that a branch could
+/// learn.
+const VALUES: [u8; 256] = [
+    NO, NO, NO, NO, NO, NO, NO, NO, NO, NO, NO, NO, NO, NO, NO, NO, NO, NO, NO, NO, NO, NO, NO, NO,
+    NO, NO, NO, NO, NO, NO, NO, NO, NO, NO, NO, NO, NO, NO, NO, NO, NO, NO, NO, NO, NO, NO, NO, NO,
+    0, 1, 2, 3, 4, 5, 6, 7, 8, 9, NO, NO, NO, NO, NO, NO, NO, 10, 11, 12, 13, 14, 15, NO, NO, NO,
+    NO, NO, NO, NO, NO, NO, NO, NO, NO, NO, NO, NO, NO, NO, NO, NO, NO, NO, NO, NO, NO, NO, NO, 10,
+    11, 12, 13, 14, 15, NO, NO, NO, NO, NO, NO, NO, NO, NO, NO, NO, NO, NO, NO, NO, NO, NO, NO, NO,
+    NO, NO, NO, NO, NO, NO, NO, NO, NO, NO, NO, NO, NO, NO, NO, NO, NO, NO, NO, NO, NO, NO, NO, NO,
+    NO, NO, NO, NO, NO, NO, NO, NO, NO, NO, NO, NO, NO, NO, NO, NO, NO, NO, NO, NO, NO, NO, NO, NO,
+    NO, NO, NO, NO, NO, NO, NO, NO, NO, NO, NO, NO, NO, NO, NO, NO, NO, NO, NO, NO, NO, NO, NO, NO,
+    NO, NO, NO, NO, NO, NO, NO, NO, NO, NO, NO, NO, NO, NO, NO, NO, NO, NO, NO, NO, NO, NO, NO, NO,
+    NO, NO, NO, NO, NO, NO, NO, NO, NO, NO, NO, NO, NO, NO, NO, NO, NO, NO, NO, NO, NO, NO, NO, NO,
+    NO, NO, NO, NO, NO, NO, NO, NO, NO, NO, NO, NO, NO, NO,
+];
+
+/// The value of a hexadecimal digit, in capitals or not, and 16 for any other byte.
+pub(crate) fn hex_value(byte: u8) -> u8
+    ensures { result ≡ (if is_ascii_hexdigit byte then digit_value byte else 16) }
+{
+    VALUES[byte as usize]
+}
+
 /// The value of a hexadecimal digit in capitals; None for any other byte.
 pub fn capital_digit(byte: u8) -> Option<u8>
     ensures value { result ≡ (if is_capital_digit byte then Some (digit_value byte) else None) }
     ensures range { IfSome result (λ value. value < 16) }
 {
-    match byte {
-        b'0'..=b'9' => Some(byte - b'0'),
-        b'A'..=b'F' => Some(byte - b'A' + 10),
-        _ => None,
+    let value = hex_value(byte);
+    if value == NO || byte >= b'a' {
+        return None;
     }
+    Some(value)
 }
 
 /// The three hexadecimal digits of a label, a number below 4096, in capitals.
