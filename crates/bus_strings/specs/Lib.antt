@@ -1,3 +1,4 @@
+pub mod Members
 pub mod Messages
 pub mod Pulses
 pub mod PulseLaws

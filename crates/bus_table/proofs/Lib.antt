@@ -7,3 +7,4 @@ pub mod ReadingLemmas
 pub mod TextLemmas
 pub mod StepLemmas
 pub mod AnswerLemmas
+pub mod RankLemmas

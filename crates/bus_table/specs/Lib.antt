@@ -11,3 +11,5 @@ pub mod Text
 pub mod Drafts
 pub mod Reading
 pub mod Gives
+pub mod Turns
+pub mod TurnLaws

@@ -18,4 +18,5 @@ pub mod sender;
 pub mod table;
 #[cfg(test)]
 mod tests;
+pub mod turns;
 mod whole;
