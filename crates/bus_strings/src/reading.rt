@@ -106,3 +106,6 @@ pub fn read_messages(alloc: Global, text: &[u8]) -> Result<Payloads, MessagesErr
 {
     read(alloc, text)
 }
+
+#[cfg(test)]
+mod tests;

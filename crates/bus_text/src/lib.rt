@@ -21,3 +21,5 @@ pub mod fields;
 pub mod lines;
 pub mod numbers;
 pub mod reason;
+#[cfg(test)]
+mod tests;
