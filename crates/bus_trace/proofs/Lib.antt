@@ -1,0 +1,11 @@
+pub mod Lasts
+pub mod Orders
+pub mod WordLists
+pub mod Steps
+pub mod Runs
+pub mod Walks
+pub mod Feeds
+pub mod Again
+pub mod WriteTexts
+pub mod Readings
+pub mod ReadLaws

@@ -1,0 +1,436 @@
+-- Which streams hold a trace text, of which trace, and where a text is refused.
+use Rattle.std.proofs.Common.{arith, zero, suc, ◌≡◌, ◌≢◌, ℕ, ◌+◌, ◌-◌, ◌<◌, ◌≤◌, Bool, true, false, cond, ◌==◌, ◌⊎◌, inl, inr, List, [], ◌∷◌, ◌++◌, length, take, drop, nat_lt, IfSome, IfOk, Some, None, Result, Ok, Err, refl, sym, ap, subst, ◌∙◌, append_assoc, append-nil, length-append, take-append-drop}
+use Rattle.std.specs.declared.option.Option.{Option}
+use Rattle.std.specs.List.{AllByRecursion}
+use Rattle.std.proofs.lemmas.Bool.{eqb-true, cases_lt}
+use Rattle.std.proofs.lemmas.Bool.Decides.{nat_tests}
+use Rattle.std.proofs.lemmas.List.{length-take, take_all, take-append-le}
+use Rattle.bus_outer.specs.Sources.{Taken}
+use Rattle.bus_text.specs.Lines.{is_feed}
+use Rattle.bus_trace.specs.declared.fault.TraceError.{TraceError}
+use Rattle.bus_trace.specs.declared.fault.TraceError.TheVariants.{Text, ReadFault, TooLarge, Memory}
+use Rattle.bus_trace.specs.declared.place.Place.{Place}
+use Rattle.bus_trace.specs.declared.place.Place.TheVariants.{Start, Headed, Holding, Begun, Stringing, Ended}
+use Rattle.bus_trace.specs.declared.reason.TraceReason.{TraceReason}
+use Rattle.bus_trace.specs.declared.reason.TraceReason.TheVariants.{Long, Ended as CutShort}
+use Rattle.bus_trace.specs.Traces.{Recording, IsTrace, IsTraceText, HoldsTrace, trace_text}
+use Rattle.bus_trace.specs.States.{State, IsSound, start, step, lines_at, text_of, is_ended, recorded}
+use Rattle.bus_trace.specs.Runs.{Standing, Outcome, Going, Found, Refused, Due, More, Whole, Wrong, Large, Reading, Reads, Fails, Passes, judged, take_byte, ◌>>-◌, run, begin, due, due_by, ended_by, reading, stream_of, HasNoFeed}
+use Rattle.bus_trace.specs.Reading.{Gave, Refuses, Complete, Overlong, CutOff, Takes, Decides, TakesTrace, ReadGives, LineRefused, ByLine, ByEnd, LoopGives, Loops}
+use Rattle.bus_trace.proofs.Steps.{step_adds, step_sound}
+use Rattle.bus_trace.proofs.Runs.{run-append, run-whole_line, run-line}
+use Rattle.bus_trace.proofs.Walks.{start_sound}
+use Rattle.bus_trace.proofs.Feeds.{begin_due, more_fits}
+use Rattle.bus_trace.proofs.Again.{trace_again}
+
+-- ---- where an end was found, the text of the trace stands at the front
+abbrev pub ByteGives : List ℕ → Outcome → Type 0
+ByteGives text (Going n) = (stream_of n ≡ text) × IsSound n.state
+ByteGives text (Found s) = (text_of s ≡ text) × IsSound s × (is_ended s.place ≡ true)
+ByteGives text (Refused byte reason) = Unit {0}
+
+judged_gives : (s : State) (line : List ℕ) (r : Result State TraceReason) → step s line ≡ r → IsSound s → ByteGives ((text_of s ++ line) ++ 10 ∷ []) (judged s r)
+judged_gives s line (Err reason) h sound = tt
+judged_gives s line (Ok n) h sound = by_end (is_ended n.place) refl where
+  text : text_of n ≡ (text_of s ++ line) ++ 10 ∷ []
+  text = step_adds s n line sound h ∙ sym (append_assoc (text_of s) line (10 ∷ []))
+
+  by_end : (t : Bool) → is_ended n.place ≡ t → ByteGives ((text_of s ++ line) ++ 10 ∷ []) (cond t (Found n) (Going (record { state = n; line = [] })))
+  by_end true e = (text, step_sound s n line sound h, e)
+  by_end false e = (append-nil (text_of n) ∙ text, step_sound s n line sound h)
+
+byte_gives : (r : Standing) (b : ℕ) → IsSound r.state → ByteGives (stream_of r ++ b ∷ []) (take_byte r b)
+unfolding take_byte
+byte_gives r b sound = by_feed (is_feed b) refl (nat_lt (length r.line) 1801) where
+  by_feed : (t : Bool) → is_feed b ≡ t → (u : Bool) → ByteGives (stream_of r ++ b ∷ []) (cond t (judged r.state (step r.state r.line)) (cond u (Going (record { state = r.state; line = r.line ++ b ∷ [] })) (Refused (length (text_of r.state)) Long)))
+  by_feed true e u = subst (λ (c : ℕ). ByteGives (stream_of r ++ c ∷ []) (judged r.state (step r.state r.line))) (sym (eqb-true b 10 e)) (judged_gives r.state r.line (step r.state r.line) refl sound)
+  by_feed false e true = (sym (append_assoc (text_of r.state) r.line (b ∷ [])), sound)
+  by_feed false e false = tt
+
+record Finds (stream : List ℕ) (s : State) : Type 0 where
+  rest : List ℕ
+  parts : stream ≡ text_of s ++ rest
+  sound : IsSound s
+  ended : is_ended s.place ≡ true
+
+found_next : (r : Standing) (b : ℕ) (bs : List ℕ) (o : Outcome) (s : State) → ByteGives (stream_of r ++ b ∷ []) o → (o >>- λ n. run n bs) ≡ Found s
+    → ((n : Standing) → IsSound n.state → run n bs ≡ Found s → Finds (stream_of n ++ bs) s) → Finds (stream_of r ++ b ∷ bs) s
+found_next r b bs (Going n) s g h later =
+    subst (λ t. Finds t s) (ap (λ t. t ++ bs) g.0 ∙ append_assoc (stream_of r) (b ∷ []) bs) (later n g.1 h)
+found_next r b bs (Found t) s g h later =
+    let is : t ≡ s = cc in
+    subst (λ (u : State). Finds (stream_of r ++ b ∷ bs) u) is (record { rest = bs; parts = sym (append_assoc (stream_of r) (b ∷ []) bs) ∙ ap (λ x. x ++ bs) (sym g.0); sound = g.1; ended = g.2 })
+found_next r b bs (Refused byte reason) s g h later = absurd cc
+
+run_finds : (r : Standing) (bs : List ℕ) (s : State) → IsSound r.state → run r bs ≡ Found s → Finds (stream_of r ++ bs) s
+unfolding run
+run_finds r [] s sound h = absurd cc
+run_finds r (b ∷ bs) s sound h = found_next r b bs (take_byte r b) s (byte_gives r b sound) h (λ n k q. run_finds n bs s k q)
+
+ended_is : (p : Place) → is_ended p ≡ true → p ≡ Ended
+ended_is Start h = absurd cc
+ended_is Headed h = absurd cc
+ended_is Holding h = absurd cc
+ended_is (Begun m n) h = absurd cc
+ended_is Stringing h = absurd cc
+ended_is Ended h = refl
+
+ended_text : (s : State) → is_ended s.place ≡ true → text_of s ≡ trace_text (recorded s)
+unfolding text_of
+ended_text s h = ap (λ p. text_of (record { place = p; horizon = s.horizon; holds = s.holds; list = s.list })) (ended_is s.place h)
+
+sound_trace : (s : State) → IsSound s → IsTrace (recorded s)
+sound_trace s i = record { horizon = i.horizon; holds = i.holds; terminals = i.terminals; list = i.list; order = i.order }
+
+begin_stream : (xs : List ℕ) → stream_of begin ++ xs ≡ xs
+unfolding text_of
+begin_stream xs = refl
+
+-- ---- what is due, by where the run leads
+due_whole : (t : Bool) (o : Outcome) (s : State) → due_by t o ≡ Whole s → o ≡ Found s
+due_whole true (Going r) s h = absurd cc
+due_whole false (Going r) s h = absurd cc
+due_whole t (Found u) s h = cc
+due_whole t (Refused b e) s h = absurd cc
+
+due_wrong : (t : Bool) (o : Outcome) (byte : ℕ) (reason : TraceReason) → due_by t o ≡ Wrong byte reason → o ≡ Refused byte reason
+due_wrong true (Going r) byte reason h = absurd cc
+due_wrong false (Going r) byte reason h = absurd cc
+due_wrong t (Found u) byte reason h = absurd cc
+due_wrong t (Refused b e) byte reason h = cc
+
+due_more : (t : Bool) (o : Outcome) (at : Standing) → due_by t o ≡ More at → (t ≡ false) × (o ≡ Going at)
+due_more true (Going r) at h = absurd cc
+due_more false (Going r) at h = (refl, cc)
+due_more t (Found u) at h = absurd cc
+due_more t (Refused b e) at h = absurd cc
+
+due_large : (t : Bool) (o : Outcome) → due_by t o ≡ Large → (t ≡ true) × ((at : Standing) × (o ≡ Going at))
+due_large true (Going r) h = (refl, (r, refl))
+due_large false (Going r) h = absurd cc
+due_large t (Found u) h = absurd cc
+due_large t (Refused b e) h = absurd cc
+
+whole_finds : (limit : ℕ) (stream : List ℕ) (s : State) → due limit stream ≡ Whole s → Finds (take limit stream) s
+unfolding due
+whole_finds limit stream s h =
+    let f = due_whole (nat_lt limit (length stream)) (run begin (take limit stream)) s h in
+    subst (λ (x : List ℕ). Finds x s) (begin_stream (take limit stream)) (run_finds begin (take limit stream) s start_sound f)
+
+pub whole_trace : (limit : ℕ) (stream : List ℕ) (s : State) → due limit stream ≡ Whole s → IsTrace (recorded s) × (text_of s ≡ trace_text (recorded s)) × (length (trace_text (recorded s)) ≤ limit)
+whole_trace limit stream s h =
+    let f = whole_finds limit stream s h in
+    let e = ended_text s f.ended in
+    (sound_trace s f.sound, e, omega (arith, length-take limit stream, ap length f.parts, length-append (text_of s) f.rest, ap length e))
+
+-- whatever is whole holds the text of its trace
+pub whole_holds : (limit : ℕ) (stream : List ℕ) (s : State) → due limit stream ≡ Whole s → HoldsTrace limit stream (recorded s)
+whole_holds limit stream s h =
+    let f = whole_finds limit stream s h in
+    let w = whole_trace limit stream s h in
+    record {
+      front = text_of s;
+      rest = f.rest ++ drop limit stream;
+      parts = sym (take-append-drop limit stream) ∙ ap (λ x. x ++ drop limit stream) f.parts ∙ append_assoc (text_of s) f.rest (drop limit stream);
+      short = omega (arith, ap length w.1, w.2);
+      text = record { trace = w.0; text_is = w.1 };
+    }
+
+-- ---- how a run stands
+-- the lines before the one begun gave the state, and the one begun has no line feed yet
+record Stands (r : Standing) : Type 0 where
+  gave : run begin (text_of r.state) ≡ Going (record { state = r.state; line = [] })
+  feedless : HasNoFeed r.line
+  short : length r.line ≤ 1801
+
+begin_stands : Stands begin
+unfolding text_of run
+begin_stands = record { gave = refl; feedless = tt; short = omega arith }
+
+feedless_push : (xs : List ℕ) (b : ℕ) → HasNoFeed xs → is_feed b ≡ false → HasNoFeed (xs ++ b ∷ [])
+feedless_push [] b h k = (k, tt)
+feedless_push (x ∷ xs) b h k = (h.0, feedless_push xs b h.1 k)
+
+lt_from : (a b : ℕ) → nat_lt a b ≡ true → a < b
+lt_from a b h = grind (arith, nat_tests)
+
+ge_from : (a b : ℕ) → nat_lt a b ≡ false → b ≤ a
+ge_from a b h = grind (arith, nat_tests)
+
+going_is : (m n : Standing) → Going m ≡ Going n → m ≡ n
+going_is m n h = cc
+
+stands_judged : (r n : Standing) (o : Result State TraceReason) → IsSound r.state → Stands r → step r.state r.line ≡ o → judged r.state o ≡ Going n → Stands n
+stands_judged r n (Err reason) sound i e h = absurd cc
+stands_judged r n (Ok m) sound i e h = by_end (is_ended m.place) refl h where
+  by_end : (t : Bool) → is_ended m.place ≡ t → cond t (Found m) (Going (record { state = m; line = [] })) ≡ Going n → Stands n
+  by_end true k q = absurd cc
+  by_end false k q =
+      let gave : run begin (text_of m) ≡ Going (record { state = m; line = [] }) =
+      ap (run begin) (step_adds r.state m r.line sound e) ∙ run-append begin (text_of r.state) (r.line ++ 10 ∷ []) ∙ ap (λ o. o >>- λ x. run x (r.line ++ 10 ∷ [])) i.gave
+      ∙ run-whole_line (record { state = r.state; line = [] }) r.line i.feedless (omega (arith, i.short))
+      ∙ ap (judged r.state) e ∙ ap (λ t. cond t (Found m) (Going (record { state = m; line = [] }))) k in
+      subst Stands (going_is (record { state = m; line = [] }) n q) (record { gave = gave; feedless = tt; short = omega arith })
+
+stands_byte : (r n : Standing) (b : ℕ) → IsSound r.state → Stands r → take_byte r b ≡ Going n → Stands n
+unfolding take_byte
+stands_byte r n b sound i h = by_feed (is_feed b) refl (nat_lt (length r.line) 1801) refl h where
+  by_feed : (t : Bool) → is_feed b ≡ t → (u : Bool) → nat_lt (length r.line) 1801 ≡ u
+      → cond t (judged r.state (step r.state r.line)) (cond u (Going (record { state = r.state; line = r.line ++ b ∷ [] })) (Refused (length (text_of r.state)) Long)) ≡ Going n → Stands n
+  by_feed true e u f q = stands_judged r n (step r.state r.line) sound i refl q
+  by_feed false e true f q =
+      subst Stands (going_is (record { state = r.state; line = r.line ++ b ∷ [] }) n q)
+      (record { gave = i.gave; feedless = feedless_push r.line b i.feedless e; short = omega (arith, length-append r.line (b ∷ []), lt_from (length r.line) 1801 f) })
+  by_feed false e false f q = absurd cc
+
+record Goes (r n : Standing) (bytes : List ℕ) : Type 0 where
+  stands : Stands n
+  sound : IsSound n.state
+  stream : stream_of n ≡ stream_of r ++ bytes
+
+goes_next : (r n : Standing) (b : ℕ) (bs : List ℕ) (o : Outcome) → take_byte r b ≡ o → IsSound r.state → Stands r → ByteGives (stream_of r ++ b ∷ []) o → (o >>- λ m. run m bs) ≡ Going n
+    → ((m : Standing) → IsSound m.state → Stands m → run m bs ≡ Going n → Goes m n bs) → Goes r n (b ∷ bs)
+goes_next r n b bs (Going m) e sound i g h later =
+    let k = later m g.1 (stands_byte r m b sound i e) h in
+    record { stands = k.stands; sound = k.sound; stream = k.stream ∙ ap (λ x. x ++ bs) g.0 ∙ append_assoc (stream_of r) (b ∷ []) bs }
+goes_next r n b bs (Found s) e sound i g h later = absurd cc
+goes_next r n b bs (Refused byte reason) e sound i g h later = absurd cc
+
+run_goes : (r n : Standing) (bs : List ℕ) → IsSound r.state → Stands r → run r bs ≡ Going n → Goes r n bs
+unfolding run
+run_goes r n [] sound i h =
+    let e : r ≡ n = going_is r n h in
+    subst (λ (m : Standing). Goes r m []) e (record { stands = i; sound = sound; stream = sym (append-nil (stream_of r)) })
+run_goes r n (b ∷ bs) sound i h = goes_next r n b bs (take_byte r b) refl sound i (byte_gives r b sound) h (λ m s k q. run_goes m n bs s k q)
+
+-- ---- where nothing is decided yet
+record Undecided (limit : ℕ) (bytes : List ℕ) (at : Standing) : Type 0 where
+  going : run begin bytes ≡ Going at
+  stands : Stands at
+  stream : stream_of at ≡ bytes
+  short : length bytes ≤ limit
+
+more_is : (limit : ℕ) (bytes : List ℕ) (at : Standing) → due limit bytes ≡ More at → Undecided limit bytes at
+unfolding due
+more_is limit bytes at h =
+    let d = due_more (nat_lt limit (length bytes)) (run begin (take limit bytes)) at h in
+    let short = ge_from limit (length bytes) d.0 in
+    let going : run begin bytes ≡ Going at = ap (run begin) (sym (take_all limit bytes short)) ∙ d.1 in
+    let g = run_goes begin at bytes start_sound begin_stands going in
+    record { going = going; stands = g.stands; stream = g.stream ∙ begin_stream bytes; short = short }
+
+gave_is : (s : State) (r : Standing) → r.state ≡ s → Stands r → Gave (text_of s) s
+gave_is s r e i = subst (λ (t : State). Gave (text_of t) t) e (record { text = refl; run = i.gave })
+
+-- ---- the byte that decides
+back : (o : Outcome) → (o >>- λ n. run n []) ≡ o
+unfolding run
+back (Going n) = refl
+back (Found s) = refl
+back (Refused b e) = refl
+
+run_one : (r : Standing) (b : ℕ) → run r (b ∷ []) ≡ take_byte r b
+unfolding run
+run_one r b = back (take_byte r b)
+
+-- one byte more leads where the byte does, or isn't looked at
+next_byte : (limit : ℕ) (front : List ℕ) (b : ℕ) (at : Standing) → Undecided limit front at
+    → ((length front < limit) × (run begin (take limit (front ++ b ∷ [])) ≡ take_byte at b)) ⊎ ((length front ≡ limit) × (run begin (take limit (front ++ b ∷ [])) ≡ Going at))
+next_byte limit front b at u = by_room (cases_lt (length front) limit) where
+  by_room : (length front < limit) ⊎ (limit ≤ length front) → ((length front < limit) × (run begin (take limit (front ++ b ∷ [])) ≡ take_byte at b)) ⊎ ((length front ≡ limit) × (run begin (take limit (front ++ b ∷ [])) ≡ Going at))
+  by_room (inl l) = inl (l, ap (run begin) (take_all limit (front ++ b ∷ []) (omega (arith, length-append front (b ∷ [])))) ∙ run-append begin front (b ∷ []) ∙ ap (λ o. o >>- λ m. run m (b ∷ [])) u.going ∙ run_one at b)
+  by_room (inr l) =
+      let e : length front ≡ limit = omega (arith, u.short) in
+      inr (e, ap (run begin) (take-append-le limit front (b ∷ []) l ∙ take_all limit front u.short) ∙ u.going)
+
+refuses_judged : (r : Standing) (left : Option (List ℕ)) (byte : ℕ) (reason : TraceReason) (o : Result State TraceReason) → Stands r → step r.state r.line ≡ o → judged r.state o ≡ Refused byte reason
+    → Refuses (stream_of r ++ 10 ∷ []) left byte reason
+refuses_judged r left byte reason (Ok m) i e h = by_end (is_ended m.place) h where
+  by_end : (t : Bool) → cond t (Found m) (Going (record { state = m; line = [] })) ≡ Refused byte reason → Refuses (stream_of r ++ 10 ∷ []) left byte reason
+  by_end true q = absurd cc
+  by_end false q = absurd cc
+refuses_judged r left byte reason (Err why) i e h =
+    let length_is : length (text_of r.state) ≡ byte = cc in
+    let why_is : why ≡ reason = cc in
+    Complete r.state (text_of r.state) r.line (append_assoc (text_of r.state) r.line (10 ∷ [])) (sym length_is) (gave_is r.state r refl i) i.feedless i.short (e ∙ ap (λ (x : TraceReason). Err x) why_is)
+
+refuses_byte : (r : Standing) (b : ℕ) (left : Option (List ℕ)) (byte : ℕ) (reason : TraceReason) → Stands r → take_byte r b ≡ Refused byte reason → Refuses (stream_of r ++ b ∷ []) left byte reason
+unfolding take_byte
+refuses_byte r b left byte reason i h = by_feed (is_feed b) refl (nat_lt (length r.line) 1801) refl h where
+  by_feed : (t : Bool) → is_feed b ≡ t → (u : Bool) → nat_lt (length r.line) 1801 ≡ u
+      → cond t (judged r.state (step r.state r.line)) (cond u (Going (record { state = r.state; line = r.line ++ b ∷ [] })) (Refused (length (text_of r.state)) Long)) ≡ Refused byte reason → Refuses (stream_of r ++ b ∷ []) left byte reason
+  by_feed true e u f q =
+      subst (λ c. Refuses (stream_of r ++ c ∷ []) left byte reason) (sym (eqb-true b 10 e)) (refuses_judged r left byte reason (step r.state r.line) i refl q)
+  by_feed false e true f q = absurd cc
+  by_feed false e false f q =
+      let length_is : length (text_of r.state) ≡ byte = cc in
+      let why : Long ≡ reason = cc in
+      Overlong r.state (text_of r.state) (r.line ++ b ∷ []) (append_assoc (text_of r.state) r.line (b ∷ [])) (sym length_is) (gave_is r.state r refl i) (feedless_push r.line b i.feedless e)
+      (omega (arith, length-append r.line (b ∷ []), i.short, ge_from (length r.line) 1801 f)) (sym why)
+
+-- what a decided refusal says of the bytes
+wrong_byte : (front : List ℕ) (b : ℕ) (at : Standing) (left : Option (List ℕ)) (byte : ℕ) (reason : TraceReason) → Undecided 8388608 front at → due 8388608 (front ++ b ∷ []) ≡ Wrong byte reason
+    → Refuses (front ++ b ∷ []) left byte reason × (length (front ++ b ∷ []) ≤ 8388608)
+unfolding due
+wrong_byte front b at left byte reason u h = by_case (next_byte 8388608 front b at u) where
+  refused : run begin (take 8388608 (front ++ b ∷ [])) ≡ Refused byte reason
+  refused = due_wrong (nat_lt 8388608 (length (front ++ b ∷ []))) (run begin (take 8388608 (front ++ b ∷ []))) byte reason h
+
+  by_case : ((length front < 8388608) × (run begin (take 8388608 (front ++ b ∷ [])) ≡ take_byte at b)) ⊎ ((length front ≡ 8388608) × (run begin (take 8388608 (front ++ b ∷ [])) ≡ Going at))
+      → Refuses (front ++ b ∷ []) left byte reason × (length (front ++ b ∷ []) ≤ 8388608)
+  by_case (inl k) = (
+    subst (λ x. Refuses (x ++ b ∷ []) left byte reason) u.stream (refuses_byte at b left byte reason u.stands (sym k.1 ∙ refused)),
+    omega (arith, length-append front (b ∷ []), k.0),
+  )
+  by_case (inr k) = let wrong : Going at ≡ Refused byte reason = sym k.1 ∙ refused in absurd cc
+
+large_byte : (front : List ℕ) (b : ℕ) (at : Standing) → Undecided 8388608 front at → due 8388608 (front ++ b ∷ []) ≡ Large → length (front ++ b ∷ []) ≡ 8388609
+unfolding due
+large_byte front b at u h =
+    let d = due_large (nat_lt 8388608 (length (front ++ b ∷ []))) (run begin (take 8388608 (front ++ b ∷ []))) h in
+    omega (arith, lt_from 8388608 (length (front ++ b ∷ [])) d.0, length-append front (b ∷ []), u.short)
+
+-- ---- the clauses of a read
+refused_takes : (old new : Option (List ℕ)) (bytes : List ℕ) (byte : ℕ) (reason : TraceReason) → Taken old new bytes → LineRefused bytes new byte reason → TakesTrace old new (Err (Text byte reason))
+refused_takes old new bytes byte reason t (ByLine d) =
+    let u = more_is 8388608 d.front d.before d.undecided in
+    let w = wrong_byte d.front d.last d.before new byte reason u (ap (due 8388608) (sym d.parts) ∙ d.decided) in
+    record { bytes = bytes; came = t; known = subst (λ x. Refuses x new byte reason × (length x ≤ 8388608)) (sym d.parts) w }
+refused_takes old new bytes byte reason t (ByEnd at d e b r) =
+    let u = more_is 8388608 bytes at d in
+    record {
+      bytes = bytes;
+      came = t;
+      known = (CutOff at.state (text_of at.state) at.line (sym u.stream) b (gave_is at.state at refl u.stands) u.stands.feedless u.stands.short e r, u.short);
+    }
+
+pub loops_takes : (old new : Option (List ℕ)) (result : Result Recording TraceError) → Loops old new result → TakesTrace old new result
+loops_takes old new (Ok trace) l =
+    let s : State = l.gives.0 in
+    let w = whole_trace 8388608 l.bytes s l.gives.1 in
+    let e : text_of s ≡ trace_text trace = w.1 ∙ ap trace_text (sym l.gives.3) in
+    (subst (Taken old new) (l.gives.2 ∙ e) l.came, subst (λ (t : Recording). length (trace_text t) ≤ 8388608) (sym l.gives.3) w.2)
+loops_takes old new (Err (Text byte reason)) l = refused_takes old new l.bytes byte reason l.came l.gives
+loops_takes old new (Err TooLarge) l =
+    let d = l.gives in
+    let u = more_is 8388608 d.front d.before d.undecided in
+    record { bytes = l.bytes; came = l.came; known = (d, ap length d.parts ∙ large_byte d.front d.last d.before u (ap (due 8388608) (sym d.parts) ∙ d.decided)) }
+loops_takes old new (Err ReadFault) l = record { bytes = l.bytes; came = l.came; known = l.gives }
+loops_takes old new (Err Memory) l = record { bytes = l.bytes; came = l.came; known = l.gives }
+
+-- ---- what is decided stays so, whatever follows
+take_more : (limit : ℕ) (xs ys : List ℕ) → (rest : List ℕ) × (take limit (xs ++ ys) ≡ take limit xs ++ rest)
+take_more zero xs ys = ([], refl)
+take_more (suc limit) [] ys = (take (suc limit) ys, refl)
+take_more (suc limit) (x ∷ xs) ys = let r = take_more limit xs ys in (r.0, ap (λ l. x ∷ l) r.1)
+
+run_more : (limit : ℕ) (xs ys : List ℕ) → (rest : List ℕ) × (run begin (take limit (xs ++ ys)) ≡ (run begin (take limit xs) >>- λ n. run n rest))
+run_more limit xs ys = let t = take_more limit xs ys in (t.0, ap (run begin) t.1 ∙ run-append begin (take limit xs) t.0)
+
+pub whole_more : (limit : ℕ) (xs ys : List ℕ) (s : State) → due limit xs ≡ Whole s → due limit (xs ++ ys) ≡ Whole s
+unfolding due
+whole_more limit xs ys s h =
+    let f = due_whole (nat_lt limit (length xs)) (run begin (take limit xs)) s h in
+    let r = run_more limit xs ys in
+    ap (due_by (nat_lt limit (length (xs ++ ys)))) (r.1 ∙ ap (λ o. o >>- λ n. run n r.0) f)
+
+pub wrong_more : (limit : ℕ) (xs ys : List ℕ) (byte : ℕ) (reason : TraceReason) → due limit xs ≡ Wrong byte reason → due limit (xs ++ ys) ≡ Wrong byte reason
+unfolding due
+wrong_more limit xs ys byte reason h =
+    let f = due_wrong (nat_lt limit (length xs)) (run begin (take limit xs)) byte reason h in
+    let r = run_more limit xs ys in
+    ap (due_by (nat_lt limit (length (xs ++ ys)))) (r.1 ∙ ap (λ o. o >>- λ n. run n r.0) f)
+
+lt_test : (a b : ℕ) → a < b → nat_lt a b ≡ true
+lt_test a b h = grind (arith, nat_tests)
+
+pub large_more : (limit : ℕ) (xs ys : List ℕ) → due limit xs ≡ Large → due limit (xs ++ ys) ≡ Large
+unfolding due
+large_more limit xs ys h =
+    let d = due_large (nat_lt limit (length xs)) (run begin (take limit xs)) h in
+    let l = lt_from limit (length xs) d.0 in
+    ap (λ t. due_by t (run begin (take limit (xs ++ ys)))) (lt_test limit (length (xs ++ ys)) (omega (arith, l, length-append xs ys)))
+    ∙ ap (λ x. due_by true (run begin x)) (take-append-le limit xs ys (omega (arith, l)))
+    ∙ ap (due_by true) d.1.1
+
+-- of a told source, what was taken and what is left
+told : (xs bytes : List ℕ) (new : Option (List ℕ)) → Taken (Some xs) new bytes → (ys : List ℕ) × (new ≡ Some ys) × (xs ≡ bytes ++ ys)
+told xs bytes None t = absurd cc
+told xs bytes (Some ys) t = (ys, refl, cc)
+
+refused_gives : (xs bytes : List ℕ) (new : Option (List ℕ)) (byte : ℕ) (reason : TraceReason) → Taken (Some xs) new bytes → LineRefused bytes new byte reason → reading 8388608 xs ≡ Fails byte reason
+refused_gives xs bytes new byte reason t (ByLine d) =
+    let k = told xs bytes new t in
+    ap (reading 8388608) k.2 ∙ ap ended_by (wrong_more 8388608 bytes k.0 byte reason d.decided)
+refused_gives xs bytes new byte reason t (ByEnd at d e b r) =
+    let k = told xs bytes new t in
+    let none : k.0 ≡ [] = subst (λ (m : Option (List ℕ)). IfSome m (λ zs. zs ≡ [])) k.1 e in
+    ap (reading 8388608) (k.2 ∙ ap (λ zs. bytes ++ zs) none ∙ append-nil bytes) ∙ ap ended_by d ∙ ap (λ n. Fails n CutShort) (sym b) ∙ ap (Fails byte) (sym r)
+
+gives_told : (xs : List ℕ) (new : Option (List ℕ)) (result : Result Recording TraceError) → Loops (Some xs) new result → ReadGives result (reading 8388608 xs)
+gives_told xs new (Ok trace) l =
+    let k = told xs l.bytes new l.came in
+    ap (reading 8388608) k.2 ∙ ap ended_by (whole_more 8388608 l.bytes k.0 l.gives.0 l.gives.1) ∙ ap Reads (sym l.gives.3)
+gives_told xs new (Err (Text byte reason)) l = refused_gives xs l.bytes new byte reason l.came l.gives
+gives_told xs new (Err TooLarge) l =
+    let k = told xs l.bytes new l.came in
+    ap (reading 8388608) k.2 ∙ ap ended_by (large_more 8388608 l.bytes k.0 l.gives.decided)
+gives_told xs new (Err ReadFault) l = tt
+gives_told xs new (Err Memory) l = tt
+
+pub loops_exact : (old new : Option (List ℕ)) (result : Result Recording TraceError) → Loops old new result → IfSome old (λ stream. ReadGives result (reading 8388608 stream))
+loops_exact None new result l = tt
+loops_exact (Some xs) new result l = gives_told xs new result l
+
+-- ---- a reading and the grammar
+reads_is : (d : Due) (t : Recording) → ended_by d ≡ Reads t → (s : State) × (d ≡ Whole s) × (recorded s ≡ t)
+reads_is (More at) t h = absurd cc
+reads_is (Whole s) t h = (s, refl, cc)
+reads_is (Wrong byte reason) t h = absurd cc
+reads_is Large t h = absurd cc
+
+-- what is read stands at the front
+pub reads_holds : (limit : ℕ) (stream : List ℕ) (t : Recording) → reading limit stream ≡ Reads t → HoldsTrace limit stream t
+reads_holds limit stream t h =
+    let k = reads_is (due limit stream) t h in
+    subst (HoldsTrace limit stream) k.2 (whole_holds limit stream k.0 k.1)
+
+-- what stands at the front is read
+pub holds_reads : (limit : ℕ) (stream : List ℕ) (t : Recording) → HoldsTrace limit stream t → reading limit stream ≡ Reads t
+unfolding due
+holds_reads limit stream t h =
+    let whole : State = record { place = Ended; horizon = t.horizon; holds = t.holds; list = t.list } in
+    let cut : (rest : List ℕ) × (take limit stream ≡ trace_text t ++ rest) =
+    let m = take_more limit h.front h.rest in
+    (m.0, ap (take limit) h.parts ∙ m.1 ∙ ap (λ x. x ++ m.0) (take_all limit h.front h.short ∙ h.text.text_is)) in
+    ap (λ x. ended_by (due_by (nat_lt limit (length stream)) (run begin x))) cut.1
+    ∙ ap (λ o. ended_by (due_by (nat_lt limit (length stream)) o)) (trace_again t cut.0 h.text.trace)
+
+found_told : (xs : List ℕ) (result : Result Recording TraceError) → ReadGives result (reading 8388608 xs) → IfOk result (HoldsTrace 8388608 xs)
+found_told xs (Ok trace) h = reads_holds 8388608 xs trace h
+found_told xs (Err e) h = tt
+
+pub exact_found : (old : Option (List ℕ)) (result : Result Recording TraceError) → IfSome old (λ stream. ReadGives result (reading 8388608 stream)) → IfSome old (λ stream. IfOk result (HoldsTrace 8388608 stream))
+exact_found None result h = tt
+exact_found (Some xs) result h = found_told xs result h
+
+pub exact_only : (old : Option (List ℕ)) (result : Result Recording TraceError) → IfSome old (λ stream. ReadGives result (reading 8388608 stream))
+    → IfSome old (λ stream. (t : Recording) → HoldsTrace 8388608 stream t → ReadGives result (Reads t))
+exact_only None result h = tt
+exact_only (Some xs) result h = λ t k. subst (ReadGives result) (holds_reads 8388608 xs t k) h
+
+-- ---- no trace text is a proper front of another
+pub front_is_whole : (t u : Recording) (rest : List ℕ) → IsTrace t → IsTrace u → trace_text u ≡ trace_text t ++ rest → (t ≡ u) × (rest ≡ [])
+front_is_whole t u rest i j e =
+    let a = trace_again t rest i in
+    let b = trace_again u [] j in
+    let same : Found (record { place = Ended; horizon = t.horizon; holds = t.holds; list = t.list }) ≡ Found (record { place = Ended; horizon = u.horizon; holds = u.holds; list = u.list }) =
+    sym a ∙ ap (run begin) (sym e ∙ sym (append-nil (trace_text u))) ∙ b in
+    let s : t ≡ u = ap recorded (found_is _ _ same) in
+    (s, no_rest (trace_text t) rest (ap trace_text s ∙ e)) where
+      found_is : (m n : State) → Found m ≡ Found n → m ≡ n
+      found_is m n h = cc
+
+      no_rest : (xs ys : List ℕ) → xs ≡ xs ++ ys → ys ≡ []
+      no_rest xs [] h = refl
+      no_rest xs (y ∷ ys) h = absurd (omega (arith, ap length h, length-append xs (y ∷ ys)))

@@ -1,0 +1,68 @@
+-- What is put is the text of the trace.
+use Rattle.std.proofs.Common.{◌≡◌, ℕ, List, [], ◌∷◌, ◌++◌, codes, map, refl, sym, ap, ◌∙◌, append_assoc, append-nil}
+use Rattle.std.specs.List.{flat_map, join_with_byte}
+use Rattle.std.specs.Fmt.{decimal}
+use Rattle.std.proofs.lemmas.List.Concat.{flat_map-append}
+use Rattle.bus_text.specs.Canonical.{spelled_line, spelled_lines}
+use Rattle.bus_words.specs.Words.{label_word}
+use Rattle.bus_words.specs.WordTexts.{word_text}
+use Rattle.bus_strings.specs.Messages.{Wordstring, Entry}
+use Rattle.bus_trace.specs.declared.hold.Hold.{Hold}
+use Rattle.bus_trace.specs.Traces.{Recording, Line, data_word, head_line, horizon_line, hold_line, begin_line, string_line, entry_lines, end_line, body_lines, trace_text}
+use Rattle.bus_trace.specs.Writing.{word_put, data_put, string_put, pair_put, hold_put, entry_put, horizon_put, trace_put}
+
+flat_map-same : {X : Type 0} (f g : X → List ℕ) (xs : List X) → ((x : X) → f x ≡ g x) → flat_map f xs ≡ flat_map g xs
+flat_map-same f g [] h = refl
+flat_map-same f g (x ∷ xs) h = ap (λ t. t ++ flat_map f xs) (h x) ∙ ap (λ t. g x ++ t) (flat_map-same f g xs h)
+
+-- lines made of a list
+spelled_map : {X : Type 0} (f : X → Line) (xs : List X) → spelled_lines (map f xs) ≡ flat_map (λ x. spelled_line (f x)) xs
+spelled_map f [] = refl
+spelled_map f (x ∷ xs) = ap (λ t. spelled_line (f x) ++ t) (spelled_map f xs)
+
+spelled_flat_map : {X : Type 0} (f : X → List Line) (xs : List X) → spelled_lines (flat_map f xs) ≡ flat_map (λ x. spelled_lines (f x)) xs
+spelled_flat_map f [] = refl
+spelled_flat_map f (x ∷ xs) = flat_map-append spelled_line (f x) (flat_map f xs) ∙ ap (λ t. spelled_lines (f x) ++ t) (spelled_flat_map f xs)
+
+pair_is : (keyword : List ℕ) (m n : ℕ) → pair_put keyword m n ≡ spelled_line (keyword ∷ decimal m ∷ decimal n ∷ [])
+pair_is keyword m n = simp append_assoc
+
+-- a space before each field
+joined : (f : List ℕ) (ws : List ℕ) → join_with_byte 32 (f ∷ map (λ value. word_text (data_word value)) ws) ≡ f ++ data_put ws
+joined f [] = sym (append-nil f)
+joined f (w ∷ ws) = ap (λ t. f ++ 32 ∷ t) (joined (word_text (data_word w)) ws)
+
+string_is : (s : Wordstring) → string_put s ≡ spelled_line (string_line s)
+string_is s =
+    let label : List ℕ = word_text (label_word s.label s.ext) in
+    append_assoc (codes "WS" ++ word_put (label_word s.label s.ext)) (data_put s.words) (codes "\n")
+    ∙ ap (λ (t : List ℕ). 87 ∷ 83 ∷ 32 ∷ t) (sym (append_assoc label (data_put s.words) (10 ∷ [])) ∙ ap (λ t. t ++ 10 ∷ []) (sym (joined label s.words)))
+
+entry_is : (x : Entry) → entry_put x ≡ spelled_lines (entry_lines x)
+entry_is x =
+    ap (λ t. t ++ flat_map string_put x.message) (pair_is (codes "TX") x.moment x.terminal)
+    ∙ ap (λ t. spelled_line (begin_line x.moment x.terminal) ++ t) (flat_map-same string_put (λ s. spelled_line (string_line s)) x.message string_is ∙ sym (spelled_map string_line x.message))
+
+-- the lines of a body, part by part
+body_is : (h : ℕ) (hs : List Hold) (xs : List Entry) → spelled_lines (body_lines h hs xs) ≡ (horizon_put h ++ flat_map hold_put hs) ++ flat_map entry_put xs
+body_is h hs xs =
+    let front : List ℕ = spelled_line head_line ++ spelled_line (horizon_line h) in
+    let holds : spelled_lines (map hold_line hs) ≡ flat_map hold_put hs = spelled_map hold_line hs ∙ flat_map-same (λ hold. spelled_line (hold_line hold)) hold_put hs (λ hold. sym (pair_is (codes "HOLD") hold.terminal hold.count)) in
+    let list : spelled_lines (flat_map entry_lines xs) ≡ flat_map entry_put xs = spelled_flat_map entry_lines xs ∙ flat_map-same (λ x. spelled_lines (entry_lines x)) entry_put xs (λ x. sym (entry_is x)) in
+    sym (append_assoc (spelled_line head_line) (spelled_line (horizon_line h)) (spelled_lines (map hold_line hs ++ flat_map entry_lines xs)))
+    ∙ ap (λ t. front ++ t) (flat_map-append spelled_line (map hold_line hs) (flat_map entry_lines xs) ∙ ap (λ t. t ++ spelled_lines (flat_map entry_lines xs)) holds ∙ ap (λ t. flat_map hold_put hs ++ t) list)
+    ∙ sym (append_assoc front (flat_map hold_put hs) (flat_map entry_put xs))
+
+pub put_is : (t : Recording) → trace_put t ≡ trace_text t
+put_is t =
+    ap (λ x. x ++ codes "END\n") (sym (body_is t.horizon t.holds t.list))
+    ∙ ap (λ x. spelled_lines (body_lines t.horizon t.holds t.list) ++ x) (sym (append-nil (spelled_line end_line)))
+    ∙ sym (flat_map-append spelled_line (body_lines t.horizon t.holds t.list) (end_line ∷ []))
+
+-- the same, of the parts that were read of the trace
+pub put_as_read : (t : Recording) (h : ℕ) (hs : List Hold) (xs : List Entry) → h ≡ t.horizon → hs ≡ t.holds → xs ≡ t.list → horizon_put h ++ flat_map hold_put hs ++ flat_map entry_put xs ++ codes "END\n" ≡ trace_text t
+put_as_read t h hs xs a b c =
+    ap (λ x. horizon_put x ++ flat_map hold_put hs ++ flat_map entry_put xs ++ codes "END\n") a
+    ∙ ap (λ (x : List Hold). horizon_put t.horizon ++ flat_map hold_put x ++ flat_map entry_put xs ++ codes "END\n") b
+    ∙ ap (λ (x : List Entry). horizon_put t.horizon ++ flat_map hold_put t.holds ++ flat_map entry_put x ++ codes "END\n") c
+    ∙ put_is t

@@ -1,0 +1,10 @@
+pub mod Traces
+pub mod WordFields
+pub mod States
+pub mod Runs
+pub mod Gives
+pub mod Walking
+pub mod Feeding
+pub mod Reading
+pub mod Writing
+pub mod TraceLaws

@@ -1,0 +1,223 @@
+ghost use Rattle.std.specs.Prelude.{◌≡◌, ◌<◌, ◌≤◌, true, length};
+ghost use Rattle.bus_text.specs.Entries.{texts};
+ghost use Rattle.bus_trace.specs.Gives.{StepGives};
+ghost use Rattle.bus_trace.specs.States.{IsSound, TakesString, start, recorded, last_count as count_of, is_ended as ended_test, may_follow as may_stand, head_step, horizon_step, hold_step, begin_step, string_step, end_step, form_step, fields_step, step};
+
+use crate::fault::LineFault;
+use crate::fields::{below, bounded, fields, is_plain};
+use crate::hold::Hold;
+use crate::list::{is_after, last_count, last_terminal, take_string};
+use crate::place::{Keyword, Place, is_ended, keyword_of, may_follow};
+use crate::reason::TraceReason;
+use crate::trace::Trace;
+use crate::words::{are_even, are_spelled, wordstring};
+use bus_strings::transmission::Transmission;
+use bus_text::lines::{field_at, fields_from, is_at};
+use std::alloc::{AllocError, Global};
+use std::marker::Model;
+
+/// What the lines so far have given.
+#[derive(Drop)]
+pub(crate) struct Draft {
+    place: Place,
+    horizon: u64,
+    holds: Vec<Hold>,
+    list: Vec<Transmission>,
+}
+
+impl Model for Draft {
+    ghost use Rattle.bus_trace.specs.States.{State};
+
+    ghost Value = { State };
+
+    ghost view = { λ d. record { place = d.place; horizon = d.horizon; holds = d.holds.items; list = d.list.items } };
+}
+
+impl Draft {
+    /// No line was read.
+    pub(crate) fn new(alloc: Global) -> Draft
+        ensures { result ≡ start }
+    {
+        Draft {
+            place: Place::Start,
+            horizon: 0,
+            holds: Vec::new(alloc),
+            list: Vec::new(alloc),
+        }
+    }
+
+    /// Whether the last line was END.
+    pub(crate) fn is_ended(&self) -> bool
+        ensures { result ≡ ended_test self.now.place }
+    {
+        is_ended(self.place)
+    }
+
+    #[tactic(auto, unfolding(crate::specs::States::head_step))]
+    fn take_head(&mut self, fields: &[&[u8]]) -> Result<(), LineFault>
+        ensures { StepGives self.old self.new result (head_step self.old (texts fields.now)) }
+    {
+        if fields.len() != 2 || !is_at(fields, 1, b"1") {
+            return Err(LineFault::Refused(TraceReason::Fields));
+        }
+        self.place = Place::Headed;
+        Ok(())
+    }
+
+    #[tactic(auto, unfolding(crate::specs::States::horizon_step))]
+    fn take_horizon(&mut self, fields: &[&[u8]]) -> Result<(), LineFault>
+        ensures { StepGives self.old self.new result (horizon_step self.old (texts fields.now)) }
+    {
+        if fields.len() != 2 {
+            return Err(LineFault::Refused(TraceReason::Fields));
+        }
+        if !is_plain(field_at(fields, 1)) {
+            return Err(LineFault::Refused(TraceReason::Spelling));
+        }
+        let Some(horizon) = bounded(field_at(fields, 1), 0, 20_000_000) else {
+            return Err(LineFault::Refused(TraceReason::Range));
+        };
+        self.place = Place::Holding;
+        self.horizon = horizon;
+        Ok(())
+    }
+
+    #[tactic(auto, unfolding(crate::specs::States::hold_step))]
+    fn take_hold(&mut self, fields: &[&[u8]]) -> Result<(), LineFault>
+        ensures { StepGives self.old self.new result (hold_step self.old (texts fields.now)) }
+    {
+        if fields.len() != 3 {
+            return Err(LineFault::Refused(TraceReason::Fields));
+        }
+        if !is_plain(field_at(fields, 1)) || !is_plain(field_at(fields, 2)) {
+            return Err(LineFault::Refused(TraceReason::Spelling));
+        }
+        let Some(terminal) = bounded(field_at(fields, 1), 1, 128) else {
+            return Err(LineFault::Refused(TraceReason::Range));
+        };
+        let Some(count) = bounded(field_at(fields, 2), 0, 4_294_967_295) else {
+            return Err(LineFault::Refused(TraceReason::Range));
+        };
+        if u64::from(last_terminal(&self.holds)) >= terminal {
+            return Err(LineFault::Refused(TraceReason::Order));
+        }
+        self.holds.push(Hold {
+            terminal: terminal as u8,
+            count: count as u32,
+        })?;
+        self.place = Place::Holding;
+        Ok(())
+    }
+
+    #[tactic(auto, unfolding(crate::specs::States::begin_step))]
+    fn take_begin(&mut self, fields: &[&[u8]]) -> Result<(), LineFault>
+        requires { self.old.horizon ≤ 20000000 }
+        ensures { StepGives self.old self.new result (begin_step self.old (texts fields.now)) }
+    {
+        if fields.len() != 3 {
+            return Err(LineFault::Refused(TraceReason::Fields));
+        }
+        if !is_plain(field_at(fields, 1)) || !is_plain(field_at(fields, 2)) {
+            return Err(LineFault::Refused(TraceReason::Spelling));
+        }
+        let Some(moment) = below(field_at(fields, 1), self.horizon) else {
+            return Err(LineFault::Refused(TraceReason::Range));
+        };
+        let Some(terminal) = bounded(field_at(fields, 2), 1, 128) else {
+            return Err(LineFault::Refused(TraceReason::Range));
+        };
+        if !is_after(&self.list, moment, terminal) {
+            return Err(LineFault::Refused(TraceReason::Order));
+        }
+        self.place = Place::Begun {
+            moment,
+            terminal: terminal as u8,
+        };
+        Ok(())
+    }
+
+    #[tactic(auto, unfolding(crate::specs::States::string_step))]
+    fn take_string(&mut self, alloc: Global, fields: &[&[u8]]) -> Result<(), LineFault>
+        requires { TakesString self.old.place (count_of self.old.list) }
+        ensures { StepGives self.old self.new result (string_step self.old (texts fields.now)) }
+    {
+        if fields.len() < 2 || fields.len() > 258 {
+            return Err(LineFault::Refused(TraceReason::Fields));
+        }
+        let words = fields_from(fields, 1);
+        if !are_spelled(words) {
+            return Err(LineFault::Refused(TraceReason::Spelling));
+        }
+        if !are_even(words) {
+            return Err(LineFault::Refused(TraceReason::Parity));
+        }
+        let string = wordstring(alloc, words)?;
+        take_string(alloc, &mut self.list, self.place, string)?;
+        self.place = Place::Stringing;
+        Ok(())
+    }
+
+    #[tactic(auto, unfolding(crate::specs::States::end_step))]
+    fn take_end(&mut self, fields: &[&[u8]]) -> Result<(), LineFault>
+        ensures { StepGives self.old self.new result (end_step self.old (texts fields.now)) }
+    {
+        if fields.len() != 1 {
+            return Err(LineFault::Refused(TraceReason::Fields));
+        }
+        self.place = Place::Ended;
+        Ok(())
+    }
+
+    // Takes a line of the form that its keyword begins, where that keyword may stand.
+    fn take_form(
+        &mut self,
+        alloc: Global,
+        keyword: Keyword,
+        fields: &[&[u8]],
+    ) -> Result<(), LineFault>
+        requires sound { IsSound self.old }
+        requires stands { may_stand self.old.place (count_of self.old.list) keyword ≡ true }
+        ensures { StepGives self.old self.new result (form_step keyword self.old (texts fields.now)) }
+    {
+        match keyword {
+            Keyword::Trace => self.take_head(fields),
+            Keyword::Horizon => self.take_horizon(fields),
+            Keyword::HoldOf => self.take_hold(fields),
+            Keyword::Begin => self.take_begin(fields),
+            Keyword::String => self.take_string(alloc, fields),
+            Keyword::End => self.take_end(fields),
+        }
+    }
+
+    fn take_fields(&mut self, alloc: Global, fields: &[&[u8]]) -> Result<(), LineFault>
+        requires sound { IsSound self.old }
+        requires some { 0 < length fields.now }
+        ensures { StepGives self.old self.new result (fields_step self.old (texts fields.now)) }
+    {
+        let Some(keyword) = keyword_of(field_at(fields, 0)) else {
+            return Err(LineFault::Refused(TraceReason::Keyword));
+        };
+        if !may_follow(self.place, last_count(&self.list), keyword) {
+            return Err(LineFault::Refused(TraceReason::Keyword));
+        }
+        self.take_form(alloc, keyword, fields)
+    }
+
+    /// Takes the next line, which is given without its line feed.
+    #[tactic(auto, unfolding(crate::specs::States::step))]
+    pub(crate) fn take_line(&mut self, alloc: Global, line: &[u8]) -> Result<(), LineFault>
+        requires { IsSound self.old }
+        ensures { StepGives self.old self.new result (step self.old line.now) }
+    {
+        let fields = fields(alloc, line)?;
+        self.take_fields(alloc, &fields)
+    }
+
+    /// The trace of what was read.
+    pub(crate) fn into_trace(self) -> Trace
+        requires { IsSound self }
+        ensures { result ≡ recorded self }
+    {
+        Trace::from_parts(self.horizon, self.holds, self.list)
+    }
+}

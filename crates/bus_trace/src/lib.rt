@@ -1,0 +1,30 @@
+//! Traces of the bus: what each terminal held, and what was sent up to a horizon, as a value and as a text.
+//!
+//! - [`trace::Trace`] keeps in its type what every trace has: its order and its ranges.
+//! - [`writing::write_trace`] writes the one text of a trace to a sink, and [`reading::read_trace`] reads it back from a source, of
+//!   which it takes exactly the bytes of the trace text. A text that is none is refused with the place of its first offending line
+//!   and the [`reason::TraceReason`].
+//!
+//! The text is this project's own: `TRACE 1`, `HORIZON h`, a `HOLD n c` for each terminal that held messages, then for each
+//! transmission `TX m n` and a `WS` line of words for each wordstring, and `END`. The definitions are in `specs/`: `Traces` has the
+//! lines of a trace and the grammar, `States` what one line more gives and why it is refused, `Runs` what a stream reads as.
+#![tactic(auto)]
+
+mod draft;
+pub mod fault;
+mod fields;
+pub mod hold;
+pub mod laws;
+mod list;
+mod place;
+mod reader;
+pub mod reading;
+pub mod reason;
+mod stage;
+#[cfg(test)]
+mod tests;
+pub mod trace;
+mod valid;
+mod walk;
+mod words;
+pub mod writing;

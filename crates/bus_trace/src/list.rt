@@ -1,0 +1,108 @@
+ghost use Rattle.std.specs.Prelude.{◌≡◌, ◌<◌, ◌≤◌, ◌^◌, length, [], ◌∷◌, ◌++◌, IfOk, OnOk, OnErr};
+ghost use Rattle.bus_trace.specs.States.{last_count as count_of, last_terminal as last_of, comes_after as comes_test, is_after as after_test, with_string, more_list, TakesString};
+
+use crate::hold::Hold;
+use crate::place::Place;
+use bus_strings::message::Message;
+use bus_strings::transmission::Transmission;
+use bus_strings::wordstring::Wordstring;
+use std::alloc::{AllocError, Global};
+
+/// The terminal of the last hold, or 0.
+pub(crate) fn last_terminal(holds: &[Hold]) -> u8
+    ensures { result ≡ last_of holds.now }
+{
+    match holds.last() {
+        Some(hold) => hold.terminal,
+        None => 0,
+    }
+}
+
+/// How many wordstrings the last transmission has.
+pub(crate) fn last_count(list: &[Transmission]) -> usize
+    ensures { result ≡ count_of list.now }
+{
+    match list.last() {
+        Some(last) => last.message.strings().len(),
+        None => 0,
+    }
+}
+
+fn comes_after(last: &Transmission, moment: u64, terminal: u64) -> bool
+    ensures { result ≡ comes_test last.now moment terminal }
+{
+    last.moment < moment || (last.moment == moment && u64::from(last.terminal) < terminal)
+}
+
+/// Whether a moment and a terminal ascend behind a list.
+pub(crate) fn is_after(list: &[Transmission], moment: u64, terminal: u64) -> bool
+    ensures { result ≡ after_test list.now moment terminal }
+{
+    match list.last() {
+        Some(last) => comes_after(last, moment, terminal),
+        None => true,
+    }
+}
+
+/// The message of one wordstring.
+fn first_message(alloc: Global, string: Wordstring) -> Result<Message, AllocError>
+    ensures { IfOk result (λ m. m ≡ string ∷ []) }
+{
+    let mut strings = Vec::new(alloc);
+    strings.push(string)?;
+    Ok(Message::new(strings).unwrap())
+}
+
+/// Adds a wordstring to the last transmission.
+fn add_string(list: &mut Vec<Transmission>, string: Wordstring) -> Result<(), AllocError>
+    requires { count_of list.old.items < 31 }
+    ensures ok { OnOk result (list.new.items ≡ with_string string list.old.items) }
+    ensures err { OnErr result (list.new.items ≡ list.old.items) }
+{
+    if let Some(last) = list.last_mut() {
+        last.message.push(string)?;
+    }
+    Ok(())
+}
+
+/// Adds a transmission of one wordstring.
+fn add_transmission(
+    alloc: Global,
+    list: &mut Vec<Transmission>,
+    moment: u64,
+    terminal: u8,
+    string: Wordstring,
+) -> Result<(), AllocError>
+    requires moment { moment < 2 ^ 40 }
+    requires positive { 1 ≤ terminal }
+    requires low { terminal ≤ 128 }
+    ensures ok { OnOk result (list.new.items ≡ list.old.items ++ record { moment = moment; terminal = terminal; message = string ∷ [] } ∷ []) }
+    ensures err { OnErr result (list.new.items ≡ list.old.items) }
+{
+    let message = first_message(alloc, string)?;
+    list.push(Transmission {
+        moment,
+        terminal,
+        message,
+    })?;
+    Ok(())
+}
+
+/// Takes the wordstring of a WS line: behind a TX line it makes its transmission, else it adds to the last one.
+pub(crate) fn take_string(
+    alloc: Global,
+    list: &mut Vec<Transmission>,
+    place: Place,
+    string: Wordstring,
+) -> Result<(), AllocError>
+    requires { TakesString place (count_of list.old.items) }
+    ensures ok { OnOk result (list.new.items ≡ more_list place string list.old.items) }
+    ensures err { OnErr result (list.new.items ≡ list.old.items) }
+{
+    match place {
+        Place::Begun { moment, terminal } => {
+            add_transmission(alloc, list, moment, terminal, string)
+        }
+        _ => add_string(list, string),
+    }
+}

@@ -1,0 +1,56 @@
+ghost use Rattle.std.specs.Prelude.{◌≡◌, ◌≤◌, IfOk, IfSome, IsErrOf};
+ghost use Rattle.bus_outer.specs.Faults.{Rose};
+ghost use Rattle.bus_trace.specs.Runs.{Reads, reading};
+ghost use Rattle.bus_trace.specs.Reading.{TakesTrace, ReadGives, Loops};
+ghost use Rattle.bus_trace.specs.Traces.{Recording, IsTrace, HoldsTrace};
+
+use crate::fault::TraceError;
+use crate::reader::TraceReader;
+use crate::stage::Fed;
+use crate::trace::Trace;
+use bus_outer::{Pull, Source};
+use std::alloc::Global;
+
+/// Reads a trace text of at most 8,388,608 bytes, a byte at a time, and takes none of the bytes behind its END line.
+///
+/// `Text` comes exactly where a line is refused within the limit, at the length of the lines before it: the source has then given
+/// that line with its line feed, its first 1,802 bytes where these have none, or all its bytes where it ended. `ReadFault` comes only
+/// where the count of faults of the source rose, `TooLarge` exactly where byte 8,388,609 was taken, and that byte is taken only where
+/// those before it decide nothing. `Memory`: memory was refused.
+pub fn read_trace<S: Source>(alloc: Global, source: &mut S) -> Result<Trace, TraceError>
+    // The bytes taken are exactly those of the trace text, or those up to where the refusal is decided.
+    ensures taken { TakesTrace (S.left source.old) (S.left source.new) result }
+    // The answer is what the source's bytes read as, unless a pull failed or memory ran out.
+    ensures exact { IfSome (S.left source.old) (λ stream. ReadGives result (reading 8388608 stream)) }
+    // What was read stands at the front of the source, within the limit.
+    ensures found { IfSome (S.left source.old) (λ stream. IfOk result (HoldsTrace 8388608 stream)) }
+    // A trace text that stands there is read, unless a pull failed or memory ran out.
+    ensures only { IfSome (S.left source.old) (λ stream. (t : Recording) → HoldsTrace 8388608 stream t → ReadGives result (Reads t)) }
+    ensures ranges { IfOk result IsTrace }
+    ensures later { S.faults source.old ≤ S.faults source.new }
+    ensures fault { IsErrOf result TraceError.ReadFault → Rose (S.faults source.old) (S.faults source.new) }
+{
+    read_text(alloc, source)
+}
+
+// The loop: a byte, and what the reader says of it.
+fn read_text<S: Source>(alloc: Global, source: &mut S) -> Result<Trace, TraceError>
+    ensures loops { Loops (S.left source.old) (S.left source.new) result }
+    ensures later { S.faults source.old ≤ S.faults source.new }
+    ensures fault { IsErrOf result TraceError.ReadFault → Rose (S.faults source.old) (S.faults source.new) }
+{
+    let mut reader = TraceReader::new(alloc)?;
+    let mut buf = [0u8; 1];
+    'bytes: loop {
+        match source.pull(&mut buf) {
+            Pull::Got(_) => match reader.feed(&buf)? {
+                Fed::More => {}
+                Fed::Whole { .. } => return reader.finish(),
+                Fed::Refused { byte, reason } => return Err(TraceError::Text { byte, reason }),
+                Fed::TooLarge => return Err(TraceError::TooLarge),
+            },
+            Pull::End => return reader.finish(),
+            Pull::Failed => return Err(TraceError::ReadFault),
+        }
+    }
+}

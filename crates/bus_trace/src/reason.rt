@@ -1,0 +1,20 @@
+/// Why a line of a trace text is refused: the first of these that applies to it.
+#[derive(Clone, Copy, Debug, PartialEq, Eq)]
+pub enum TraceReason {
+    /// The source ends before the line's line feed, and fewer than 1,802 bytes of the line came.
+    Ended,
+    /// The first 1,802 bytes of the line have no line feed.
+    Long,
+    /// The first field is no keyword that may stand here.
+    Keyword,
+    /// The number of fields isn't that of the form, or a field that the form fixes is another.
+    Fields,
+    /// A number isn't a plain decimal, or a word isn't of its form and kind.
+    Spelling,
+    /// A word's parity digit isn't that of its value.
+    Parity,
+    /// A number is out of its range, a moment that isn't below the horizon among these.
+    Range,
+    /// A HOLD or TX line doesn't ascend.
+    Order,
+}

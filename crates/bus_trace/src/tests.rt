@@ -1,0 +1,185 @@
+ghost use Rattle.std.specs.Prelude.{◌≤◌, ◌<◌, ◌^◌};
+
+use crate::fault::TraceError;
+use crate::hold::Hold;
+use crate::reading::read_trace;
+use crate::reason::TraceReason;
+use crate::trace::Trace;
+use crate::writing::write_trace;
+use bus_outer::{MemorySink, MemorySource, read_whole};
+use bus_strings::message::Message;
+use bus_strings::transmission::Transmission;
+use bus_strings::wordstring::Wordstring;
+use bus_words::label::{Ext, Label};
+use std::alloc::Global;
+use std::test::Fail;
+
+// The trace of two transmissions, each line with the byte at which it begins.
+const LINES: [(&[u8], usize); 9] = [
+    (b"TRACE 1\n", 0),
+    (b"HORIZON 150\n", 8),
+    (b"HOLD 1 1\n", 20),
+    (b"HOLD 2 1\n", 29),
+    (b"TX 20 1\n", 38),
+    (b"WS L0A111 D00001 D00010\n", 46),
+    (b"TX 110 2\n", 70),
+    (b"WS L0B210 D00FF1\n", 79),
+    (b"END\n", 96),
+];
+
+fn text_of(alloc: Global, lines: &[(&[u8], usize)]) -> Result<Vec<u8>, Fail> {
+    let mut text = Vec::new(alloc);
+    for (line, _) in lines {
+        text.extend_from_slice(line)?;
+    }
+    Ok(text)
+}
+
+fn read(alloc: Global, text: &[u8]) -> Result<Result<Trace, TraceError>, Fail> {
+    let mut source = MemorySource::new(Vec::from_slice(alloc, text)?, 7, Vec::new(alloc));
+    Ok(read_trace(alloc, &mut source))
+}
+
+#[test]
+fn a_trace_is_read_up_to_its_end_and_written_again(rt: HostRuntime) -> Result<(), Fail> {
+    let alloc = rt.alloc();
+    let text = text_of(alloc, &LINES)?;
+    let mut bytes = Vec::from_slice(alloc, &text)?;
+    bytes.extend_from_slice(b"RECEIVED 1\n")?;
+    let mut source = MemorySource::new(bytes, 7, Vec::new(alloc));
+    let Ok(trace) = read_trace(alloc, &mut source) else {
+        return Err(Fail::new("the trace is refused"));
+    };
+    assert_eq!(rt;
+        (trace.horizon(), trace.holds().len(), trace.list().len()),
+        (150, 2, 2)
+    );
+    let rest = read_whole(alloc, &mut source, 100);
+    assert!(rt; matches!(&rest, Ok(rest) if rest.as_slice() == b"RECEIVED 1\n".as_slice()));
+    let mut sink = MemorySink::new(alloc, 200, 200, Vec::new(alloc))?;
+    assert!(rt; write_trace(&trace, &mut sink).is_ok());
+    assert_eq!(rt; sink.bytes(), text.as_slice());
+    Ok(())
+}
+
+#[test]
+fn a_cut_trace_ends_where_its_last_line_begins(rt: HostRuntime) -> Result<(), Fail> {
+    let alloc = rt.alloc();
+    let text = text_of(alloc, &LINES)?;
+    for cut in 0..100usize {
+        let mut begin = 0;
+        for (_, at) in &LINES {
+            if *at <= cut {
+                begin = *at as u64;
+            }
+        }
+        let want = TraceError::Text {
+            byte: begin,
+            reason: TraceReason::Ended,
+        };
+        let answer = read(alloc, text.get(..cut).unwrap_or(&[]))?;
+        assert!(rt;
+            matches!(answer, Err(error) if error == want),
+            "cut after {cut}"
+        );
+    }
+    Ok(())
+}
+
+#[test]
+fn a_changed_line_is_refused_where_it_begins(rt: HostRuntime) -> Result<(), Fail> {
+    let alloc = rt.alloc();
+    let changes: [(usize, &[u8], TraceReason); 8] = [
+        (4, b"TX  20 1\n", TraceReason::Fields),
+        (4, b"TX 020 1\n", TraceReason::Spelling),
+        (5, b"WS D0A111 D00001 D00010\n", TraceReason::Spelling),
+        (7, b"WS L0B210 D00FF0\n", TraceReason::Parity),
+        (6, b"TX 150 2\n", TraceReason::Range),
+        (6, b"TX 20 1\n", TraceReason::Order),
+        (3, b"HOLD 1 1\n", TraceReason::Order),
+        (8, b"STOP\n", TraceReason::Keyword),
+    ];
+    for (place, line, reason) in changes {
+        let mut lines = LINES;
+        let Some(changed) = lines.get_mut(place) else {
+            return Err(Fail::new("no such line"));
+        };
+        let byte = changed.1 as u64;
+        changed.0 = line;
+        let answer = read(alloc, &text_of(alloc, &lines)?)?;
+        assert!(rt;
+            matches!(answer, Err(error) if error == (TraceError::Text { byte, reason })),
+            "line {place}"
+        );
+    }
+    Ok(())
+}
+
+#[test]
+fn a_long_line_is_refused_at_its_limit(rt: HostRuntime) -> Result<(), Fail> {
+    let alloc = rt.alloc();
+    let mut bytes = Vec::from_slice(alloc, b"TRACE 1\n")?;
+    bytes.extend_from_slice(&vec![in alloc; b'x'; 3000]?)?;
+    let mut source = MemorySource::new(bytes, 7, Vec::new(alloc));
+    let want = TraceError::Text {
+        byte: 8,
+        reason: TraceReason::Long,
+    };
+    assert!(rt; matches!(read_trace(alloc, &mut source), Err(error) if error == want));
+    // 1,802 bytes of the line were taken.
+    assert!(rt; matches!(&read_whole(alloc, &mut source, 3000), Ok(rest) if rest.len() == 1198));
+    Ok(())
+}
+
+#[test]
+fn a_failed_pull_in_mid_stream_is_a_fault(rt: HostRuntime) -> Result<(), Fail> {
+    let alloc = rt.alloc();
+    let failing = Vec::from_slice(alloc, &[50])?;
+    let mut source = MemorySource::new(text_of(alloc, &LINES)?, 7, failing);
+    assert!(rt; matches!(read_trace(alloc, &mut source), Err(TraceError::ReadFault)));
+    Ok(())
+}
+
+fn transmission(alloc: Global, moment: u64, terminal: u8) -> Result<Transmission, Fail>
+    requires moment { moment < 2 ^ 40 }
+    requires positive { 1 ≤ terminal }
+    requires low { terminal ≤ 128 }
+{
+    let (Some(label), Some(ext)) = (Label::new(0x0A1), Ext::new(1)) else {
+        return Err(Fail::new("no label"));
+    };
+    let words = Vec::from_slice(alloc, &[0, 1])?;
+    let Some(string) = Wordstring::new(label, ext, words) else {
+        return Err(Fail::new("no wordstring"));
+    };
+    let mut strings = Vec::new(alloc);
+    strings.push(string)?;
+    let Some(message) = Message::new(strings) else {
+        return Err(Fail::new("no message"));
+    };
+    Ok(Transmission {
+        moment,
+        terminal,
+        message,
+    })
+}
+
+#[test]
+fn a_trace_is_made_where_it_ascends(rt: HostRuntime) -> Result<(), Fail> {
+    let alloc = rt.alloc();
+    for (horizon, second, fits) in [(150, 110, true), (110, 110, false), (150, 20, false)] {
+        let holds = vec![in alloc; Hold {
+            terminal: 1,
+            count: 2
+        }; 1]?;
+        let mut list = Vec::new(alloc);
+        list.push(transmission(alloc, 20, 1)?)?;
+        list.push(transmission(alloc, second, 1)?)?;
+        assert_eq!(rt;
+            Trace::new(horizon, holds, list).is_some(),
+            fits,
+            "{horizon} {second}"
+        );
+    }
+    Ok(())
+}

@@ -1,0 +1,82 @@
+ghost use Rattle.std.specs.Prelude.{◌≡◌, ◌↔◌, IsSome, IfSome, IsTrue, true};
+
+use crate::hold::Hold;
+use crate::valid::{are_below, are_holds};
+use bus_strings::transmission::Transmission;
+use std::marker::Model;
+
+/// What was seen of a bus up to a horizon: how many messages each terminal held, and what was sent.
+///
+/// The horizon is at most 20,000,000 bit times from the settled start. The holds ascend strictly by terminal, all of 1 to
+/// 128. The list ascends strictly by moment, then terminal, and all its moments are below the horizon.
+#[derive(Drop)]
+pub struct Trace {
+    horizon: u64,
+    holds: Vec<Hold>,
+    list: Vec<Transmission>,
+}
+
+impl Model for Trace {
+    ghost use Rattle.bus_trace.specs.Traces.{Recording, IsTrace};
+
+    ghost Value = { Recording };
+
+    ghost view = { λ t. record { horizon = t.horizon; holds = t.holds.items; list = t.list.items } };
+
+    ghost invariant = { λ t. IsTrace (record { horizon = t.horizon; holds = t.holds.items; list = t.list.items }) };
+}
+
+impl Trace {
+    ghost use Rattle.bus_trace.specs.Traces.{IsTrace};
+
+    /// The trace of these three. None where the horizon, the holds or the list isn't as a trace has them.
+    pub fn new(horizon: u64, holds: Vec<Hold>, list: Vec<Transmission>) -> Option<Trace>
+        ensures some { IsSome result ↔ IsTrace (record { horizon = horizon; holds = holds.items; list = list.items }) }
+        ensures value { IfSome result (λ t. t ≡ record { horizon = horizon; holds = holds.items; list = list.items }) }
+    {
+        if horizon > 20_000_000 || !are_holds(&holds) || !are_below(&list, horizon) {
+            return None;
+        }
+        Some(Trace {
+            horizon,
+            holds,
+            list,
+        })
+    }
+
+    /// The trace of a text that was read.
+    pub(crate) fn from_parts(horizon: u64, holds: Vec<Hold>, list: Vec<Transmission>) -> Trace
+        requires { IsTrace (record { horizon = horizon; holds = holds.items; list = list.items }) }
+        ensures { result ≡ record { horizon = horizon; holds = holds.items; list = list.items } }
+    {
+        Trace {
+            horizon,
+            holds,
+            list,
+        }
+    }
+
+    /// Up to when the bus was looked at, in bit times from the settled start.
+    pub fn horizon(&self) -> u64
+        ensures value { result ≡ self.now.horizon }
+        ensures ranges { IsTrace self.now }
+    {
+        self.horizon
+    }
+
+    /// How many messages each terminal held, by terminal.
+    pub fn holds(&self) -> &[Hold]
+        ensures value { result.now ≡ self.now.holds }
+        ensures ranges { IsTrace self.now }
+    {
+        &self.holds
+    }
+
+    /// What was sent, by moment and then terminal.
+    pub fn list(&self) -> &[Transmission]
+        ensures value { result.now ≡ self.now.list }
+        ensures ranges { IsTrace self.now }
+    {
+        &self.list
+    }
+}

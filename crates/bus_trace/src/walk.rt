@@ -1,0 +1,182 @@
+ghost use Rattle.std.specs.Prelude.{◌≡◌, ◌<◌, ◌≤◌, if◌then◌else◌, ◌+◌, ◌^◌, ℕ, length, slice_index, ◌≢◌, ◌++◌, ◌∷◌, [], MatchOption, IfNone, IfSome};
+ghost use Rattle.bus_trace.specs.States.{step, text_of};
+ghost use Rattle.bus_trace.specs.Runs.{HasNoFeed, judged, run, begin, stream_of};
+ghost use Rattle.bus_trace.specs.States.{recorded};
+ghost use Rattle.bus_trace.specs.Walking.{KeepGives, JudgedGives, WalkGives};
+
+use crate::draft::Draft;
+use crate::fault::LineFault;
+use crate::reason::TraceReason;
+use crate::trace::Trace;
+use std::alloc::{AllocError, Global};
+use std::marker::Model;
+
+/// How many bytes a line may have before its line feed.
+const MOST: usize = 1801;
+
+/// What some bytes gave.
+#[derive(Clone, Copy)]
+pub(crate) enum Judged {
+    Passes,
+    Ends,
+    Fails { byte: u64, reason: TraceReason },
+}
+
+/// What a piece gave.
+#[derive(Clone, Copy)]
+pub(crate) enum Walked {
+    Passed,
+    Ended { used: usize },
+    Failed { byte: u64, reason: TraceReason },
+}
+
+/// Where the first line feed stands.
+fn first_feed(text: &[u8]) -> Option<usize>
+    ensures none { IfNone result ((k : ℕ) → k < length text.now → slice_index text.now k ≢ 10) }
+    ensures before { IfSome result (λ at. (k : ℕ) → k < at → slice_index text.now k ≢ 10) }
+    ensures found { IfSome result (λ at. (at < length text.now) × (slice_index text.now at ≡ 10)) }
+{
+    memchr::memchr(b'\n', text)
+}
+
+/// The first line, where it is complete, and what is behind its line feed.
+fn first_line(text: &[u8]) -> Option<(&[u8], &[u8])>
+    ensures { MatchOption result (HasNoFeed text.now) (λ r. (text.now ≡ r.0.now ++ 10 ∷ r.1.now) × HasNoFeed r.0.now) }
+{
+    let at = first_feed(text)?;
+    Some((&text[..at], &text[at + 1..]))
+}
+
+fn passes(ended: bool) -> Judged
+    ensures { result ≡ (if ended then Judged.Ends else Judged.Passes) }
+{
+    if ended { Judged::Ends } else { Judged::Passes }
+}
+
+/// What whole lines gave, and the bytes behind the last line feed.
+#[derive(Drop)]
+pub(crate) struct Walk {
+    draft: Draft,
+    line: Vec<u8>,
+    used: u64,
+}
+
+impl Model for Walk {
+    ghost use Rattle.bus_trace.specs.Runs.{Standing};
+    ghost use Rattle.bus_trace.specs.States.{recorded};
+    ghost use Rattle.bus_trace.specs.Walking.{WalkIs};
+
+    ghost Value = { Standing };
+
+    ghost view = { λ w. record { state = w.draft; line = w.line.items } };
+
+    ghost invariant = { λ w. WalkIs w.draft w.line.items w.used };
+}
+
+impl Walk {
+    pub(crate) fn new(alloc: Global, line: Vec<u8>) -> Walk
+        requires { line.items ≡ [] }
+        ensures { result ≡ begin }
+    {
+        Walk {
+            draft: Draft::new(alloc),
+            line,
+            used: 0,
+        }
+    }
+
+    /// How many bytes the whole lines have.
+    pub(crate) fn place(&self) -> u64
+        ensures { result ≡ length (text_of self.now.state) }
+    {
+        self.used
+    }
+
+    /// How many bytes came.
+    pub(crate) fn length(&self) -> usize
+        requires { length (stream_of self.now) < 2 ^ 63 }
+        ensures { result ≡ length (stream_of self.now) }
+    {
+        self.used as usize + self.line.len()
+    }
+
+    // Takes bytes of one line, where there is room for them.
+    fn keep(&mut self, bytes: &[u8]) -> Result<bool, AllocError>
+        requires { HasNoFeed bytes.now }
+        ensures { KeepGives self.old self.new bytes.now result }
+    {
+        if bytes.len() > MOST - self.line.len() {
+            return Ok(false);
+        }
+        self.line.extend_from_slice(bytes)?;
+        Ok(true)
+    }
+
+    // The line is complete.
+    fn judge(&mut self, alloc: Global) -> Result<Judged, AllocError>
+        requires { length (stream_of self.old) < 2 ^ 63 }
+        ensures { JudgedGives self.old self.new (10 ∷ []) result (judged self.old.state (step self.old.state self.old.line)) }
+    {
+        match self.draft.take_line(alloc, &self.line) {
+            Ok(()) => {}
+            Err(LineFault::Memory) => return Err(AllocError),
+            Err(LineFault::Refused(reason)) => {
+                return Ok(Judged::Fails {
+                    byte: self.used,
+                    reason,
+                });
+            }
+        }
+        self.used += self.line.len() as u64 + 1;
+        self.line.clear();
+        Ok(passes(self.draft.is_ended()))
+    }
+
+    // Takes the rest of a line, and its line feed.
+    fn close(&mut self, alloc: Global, front: &[u8]) -> Result<Judged, AllocError>
+        requires room { length (stream_of self.old) + length front.now < 2 ^ 63 }
+        requires one { HasNoFeed front.now }
+        ensures { JudgedGives self.old self.new (front.now ++ 10 ∷ []) result (run self.old (front.now ++ 10 ∷ [])) }
+    {
+        if !self.keep(front)? {
+            return Ok(Judged::Fails {
+                byte: self.place(),
+                reason: TraceReason::Long,
+            });
+        }
+        self.judge(alloc)
+    }
+
+    /// Takes the next piece of the stream.
+    pub(crate) fn walk(&mut self, alloc: Global, piece: &[u8]) -> Result<Walked, AllocError>
+        requires { length (stream_of self.old) + length piece.now < 2 ^ 63 }
+        ensures { WalkGives self.old self.new piece.now result (run self.old piece.now) }
+    {
+        let mut rest = piece;
+        while let Some((front, behind)) = first_line(rest) {
+            match self.close(alloc, front)? {
+                Judged::Passes => rest = behind,
+                Judged::Ends => {
+                    return Ok(Walked::Ended {
+                        used: piece.len() - behind.len(),
+                    });
+                }
+                Judged::Fails { byte, reason } => return Ok(Walked::Failed { byte, reason }),
+            }
+        }
+        if !self.keep(rest)? {
+            return Ok(Walked::Failed {
+                byte: self.place(),
+                reason: TraceReason::Long,
+            });
+        }
+        Ok(Walked::Passed)
+    }
+
+    /// The trace of what was read.
+    pub(crate) fn into_trace(self) -> Trace
+        ensures { result ≡ recorded self.state }
+    {
+        self.draft.into_trace()
+    }
+}

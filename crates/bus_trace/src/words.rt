@@ -1,0 +1,106 @@
+ghost use Rattle.std.specs.Prelude.{◌≡◌, ◌<◌, ◌≤◌, ◌&&◌, true, length, map, IfOk, Some, None, if◌then◌else◌};
+ghost use Rattle.std.specs.List.{list_all};
+ghost use Rattle.bus_text.specs.Entries.{texts};
+ghost use Rattle.bus_words.specs.declared.word.Kind.TheVariants.{Plain};
+ghost use Rattle.bus_words.specs.WordTexts.{written_frame};
+ghost use Rattle.bus_trace.specs.WordFields.{same_kind as same_test, is_spelled as spelled_test, is_even as even_test, value_of as value_in, are_spelled as all_spelled, are_even as all_even, string_of};
+
+use bus_strings::wordstring::Wordstring;
+use bus_text::lines::{field_at, fields_from};
+use bus_words::text::{read_frame, read_word};
+use bus_words::word::{FramedWord, Kind, split_label};
+use std::alloc::{AllocError, Global};
+
+fn same_kind(one: Kind, other: Kind) -> bool
+    ensures { result ≡ same_test one other }
+{
+    match one {
+        Kind::Label => matches!(other, Kind::Label),
+        Kind::Plain => matches!(other, Kind::Plain),
+    }
+}
+
+/// Whether a field is of the form of a word text of this kind.
+fn is_spelled(kind: Kind, field: &[u8]) -> bool
+    ensures { result ≡ spelled_test kind field.now }
+{
+    match read_frame(field) {
+        Some(frame) => same_kind(frame.kind, kind),
+        None => false,
+    }
+}
+
+fn is_even(field: &[u8]) -> bool
+    ensures { result ≡ even_test field.now }
+{
+    read_word(field).is_ok()
+}
+
+/// The value of a field of the form.
+fn value_of(field: &[u8]) -> u16
+    ensures { result ≡ value_in field.now }
+{
+    match read_frame(field) {
+        Some(frame) => frame.value,
+        None => 0,
+    }
+}
+
+fn each_is_data(fields: &[&[u8]]) -> bool
+    ensures { result ≡ list_all (λ f. spelled_test Plain f.now) fields.now }
+{
+    fields.iter().all(|field| is_spelled(Kind::Plain, field))
+}
+
+fn are_data(fields: &[&[u8]]) -> bool
+    ensures { result ≡ list_all (spelled_test Plain) (texts fields.now) }
+{
+    each_is_data(fields)
+}
+
+/// Whether fields, of which there is one, are spelled as a label word and data words.
+pub(crate) fn are_spelled(fields: &[&[u8]]) -> bool
+    requires { 0 < length fields.now }
+    ensures { result ≡ all_spelled (texts fields.now) }
+{
+    let label = is_spelled(Kind::Label, field_at(fields, 0));
+    let data = are_data(fields_from(fields, 1));
+    label && data
+}
+
+fn each_is_even(fields: &[&[u8]]) -> bool
+    ensures { result ≡ list_all (λ f. even_test f.now) fields.now }
+{
+    fields.iter().all(|field| is_even(field))
+}
+
+/// Whether each word has its parity.
+pub(crate) fn are_even(fields: &[&[u8]]) -> bool
+    ensures { result ≡ all_even (texts fields.now) }
+{
+    each_is_even(fields)
+}
+
+fn each_value(alloc: Global, fields: &[&[u8]]) -> Result<Vec<u16>, AllocError>
+    ensures { IfOk result (λ v. v.items ≡ map (λ f. value_in f.now) fields.now) }
+{
+    fields.iter().map(|field| value_of(field)).collect(alloc)
+}
+
+fn values(alloc: Global, fields: &[&[u8]]) -> Result<Vec<u16>, AllocError>
+    ensures { IfOk result (λ v. v.items ≡ map value_in (texts fields.now)) }
+{
+    let values = each_value(alloc, fields)?;
+    Ok(values)
+}
+
+/// The wordstring of fields that are a label word and at most 256 data words.
+pub(crate) fn wordstring(alloc: Global, fields: &[&[u8]]) -> Result<Wordstring, AllocError>
+    requires some { 0 < length fields.now }
+    requires few { length fields.now ≤ 257 }
+    ensures { IfOk result (λ s. s ≡ string_of (texts fields.now)) }
+{
+    let (label, ext) = split_label(value_of(field_at(fields, 0)));
+    let words = values(alloc, fields_from(fields, 1))?;
+    Ok(Wordstring::new(label, ext, words).unwrap())
+}

@@ -1,0 +1,113 @@
+ghost use Rattle.std.specs.Prelude.{◌≡◌, ◌++◌, codes, length};
+ghost use Rattle.std.specs.List.{flat_map};
+ghost use Rattle.bus_outer.specs.Sinks.{WritesText};
+ghost use Rattle.bus_outer.specs.Texts.{Adds};
+ghost use Rattle.bus_trace.specs.Traces.{trace_text};
+ghost use Rattle.bus_trace.specs.Writing.{word_put, data_put, string_put, pair_put, hold_put, entry_put, horizon_put};
+
+use crate::hold::Hold;
+use crate::trace::Trace;
+use bus_outer::{Sink, TextBuffer, WriteFault};
+use bus_strings::transmission::Transmission;
+use bus_strings::wordstring::Wordstring;
+use bus_words::text::word_text;
+use bus_words::word::{Kind, Word, label_word};
+
+fn put_word<K: Sink>(text: &mut TextBuffer, sink: &mut K, word: Word)
+    ensures { Adds K.held K.faults sink.old sink.new text.old text.new (word_put word) }
+{
+    text.put_byte(sink, b' ');
+    text.put(sink, &word_text(word));
+}
+
+fn put_data<K: Sink>(text: &mut TextBuffer, sink: &mut K, words: &[u16])
+    ensures { Adds K.held K.faults sink.old sink.new text.old text.new (data_put words.now) }
+{
+    for word in words {
+        let word = Word {
+            kind: Kind::Plain,
+            value: *word,
+        };
+        put_word(text, sink, word);
+    }
+}
+
+fn put_string<K: Sink>(text: &mut TextBuffer, sink: &mut K, string: &Wordstring)
+    ensures { Adds K.held K.faults sink.old sink.new text.old text.new (string_put string.now) }
+{
+    text.put(sink, b"WS");
+    put_word(text, sink, label_word(string.label(), string.ext()));
+    put_data(text, sink, string.words());
+    text.put_byte(sink, b'\n');
+}
+
+fn put_strings<K: Sink>(text: &mut TextBuffer, sink: &mut K, strings: &[Wordstring])
+    ensures { Adds K.held K.faults sink.old sink.new text.old text.new (flat_map string_put strings.now) }
+{
+    for string in strings {
+        put_string(text, sink, string);
+    }
+}
+
+fn put_pair<K: Sink>(text: &mut TextBuffer, sink: &mut K, keyword: &[u8], first: u64, second: u64)
+    ensures { Adds K.held K.faults sink.old sink.new text.old text.new (pair_put keyword.now first second) }
+{
+    text.put(sink, keyword);
+    text.put_byte(sink, b' ');
+    text.put_number(sink, first);
+    text.put_byte(sink, b' ');
+    text.put_number(sink, second);
+    text.put_byte(sink, b'\n');
+}
+
+fn put_hold<K: Sink>(text: &mut TextBuffer, sink: &mut K, hold: Hold)
+    ensures { Adds K.held K.faults sink.old sink.new text.old text.new (hold_put hold) }
+{
+    let (terminal, count) = (u64::from(hold.terminal), u64::from(hold.count));
+    put_pair(text, sink, b"HOLD", terminal, count);
+}
+
+fn put_holds<K: Sink>(text: &mut TextBuffer, sink: &mut K, holds: &[Hold])
+    ensures { Adds K.held K.faults sink.old sink.new text.old text.new (flat_map hold_put holds.now) }
+{
+    for hold in holds {
+        put_hold(text, sink, *hold);
+    }
+}
+
+fn put_transmission<K: Sink>(text: &mut TextBuffer, sink: &mut K, x: &Transmission)
+    ensures { Adds K.held K.faults sink.old sink.new text.old text.new (entry_put x.now) }
+{
+    put_pair(text, sink, b"TX", x.moment, u64::from(x.terminal));
+    put_strings(text, sink, x.message.strings());
+}
+
+fn put_list<K: Sink>(text: &mut TextBuffer, sink: &mut K, list: &[Transmission])
+    ensures { Adds K.held K.faults sink.old sink.new text.old text.new (flat_map entry_put list.now) }
+{
+    for x in list {
+        put_transmission(text, sink, x);
+    }
+}
+
+fn put_horizon<K: Sink>(text: &mut TextBuffer, sink: &mut K, horizon: u64)
+    ensures { Adds K.held K.faults sink.old sink.new text.old text.new (horizon_put horizon) }
+{
+    text.put(sink, b"TRACE 1\nHORIZON ");
+    text.put_number(sink, horizon);
+    text.put_byte(sink, b'\n');
+}
+
+/// Writes the one text of a trace, in pushes of a few kilobytes. It takes no memory.
+///
+/// At `WriteFault` the sink has taken a front of the text, and its count of faults rose.
+pub fn write_trace<K: Sink>(trace: &Trace, sink: &mut K) -> Result<(), WriteFault>
+    ensures { WritesText K.held K.faults sink.old sink.new result (trace_text trace.now) }
+{
+    let mut text = TextBuffer::new();
+    put_horizon(&mut text, sink, trace.horizon());
+    put_holds(&mut text, sink, trace.holds());
+    put_list(&mut text, sink, trace.list());
+    text.put(sink, b"END\n");
+    text.finish(sink)
+}
