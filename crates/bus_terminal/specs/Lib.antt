@@ -1,0 +1,4 @@
+pub mod Places
+pub mod Terminals
+pub mod SendingLaws
+pub mod Standing

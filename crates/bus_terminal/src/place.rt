@@ -1,0 +1,62 @@
+ghost use Rattle.std.specs.Prelude.{◌≡◌, ℕ, ◌+◌, ◌<◌, MatchOption, length};
+ghost use Rattle.bus_strings.specs.Messages.{bits, IsMessage};
+ghost use Rattle.bus_strings.specs.Pulses.{is_on};
+
+use bus_strings::message::Message;
+
+/// Where a running message is: at a pulse, or in the quiet behind it, and how many bit times of that are left.
+#[derive(Clone, Copy, Debug)]
+pub struct Place {
+    /// The pulse, or the one before the quiet.
+    pub pulse: usize,
+    /// Whether it is in the pulse.
+    pub on: bool,
+    /// The bit times of the pulse or the quiet still to come, the present one included.
+    pub left: u32,
+}
+
+impl Place {
+    ghost use Rattle.bus_terminal.specs.Places.{place_of, IsPlace};
+
+    /// The first bit time of a message.
+    pub fn first(message: &Message) -> Place
+        ensures place { IsPlace message.now result }
+        ensures first { place_of message.now result ≡ 0 }
+        ensures ranges { IsMessage message.now }
+    {
+        Place {
+            pulse: 0,
+            on: true,
+            left: 20 * message.strings()[0].word_count(),
+        }
+    }
+
+    /// The next bit time of the message, unless this was its last.
+    pub fn next(self, message: &Message) -> Option<Place>
+        requires { IsPlace message.now self }
+        ensures { MatchOption result (place_of message.now self + 1 ≡ bits message.now) (λ next. IsPlace message.now next × (place_of message.now next ≡ place_of message.now self + 1)) }
+    {
+        if self.left > 1 {
+            return Some(Place {
+                left: self.left - 1,
+                ..self
+            });
+        }
+        let strings = message.strings();
+        if !self.on {
+            return Some(Place {
+                pulse: self.pulse + 1,
+                on: true,
+                left: 20 * strings[self.pulse + 1].word_count(),
+            });
+        }
+        if self.pulse + 1 == strings.len() {
+            return None;
+        }
+        Some(Place {
+            on: false,
+            left: 4,
+            ..self
+        })
+    }
+}

@@ -1,0 +1,131 @@
+ghost use Rattle.std.specs.Prelude.{◌≡◌, ℕ, ◌+◌, ◌<◌, ◌≤◌, ◌↔◌, ◌⊎◌, ◌++◌, ◌∷◌, [], Bool, true, false, List, length, slice_get, Option, Some, None, IsTrue};
+ghost use Rattle.bus_timers.specs.declared.timing.Timing.{Timing};
+ghost use Rattle.bus_timers.specs.MayStart.{MayStart};
+ghost use Rattle.bus_strings.specs.Messages.{IsMessage};
+ghost use Rattle.std.specs.Option.{option_and_then};
+ghost use Rattle.bus_terminal.specs.Terminals.{last_begun, next_place, sounds, with_begun, with_passed};
+ghost use Rattle.bus_terminal.specs.Standing.{place_in, IsStanding};
+
+use crate::place::Place;
+use bus_strings::message::Message;
+use bus_table::hand::Hand;
+use bus_timers::cores::Core;
+use std::marker::Model;
+
+/// Where the message begun last is a bit time later, if it is still running.
+fn next_running(hand: &Hand, sent: usize, running: Option<Place>) -> Option<Place>
+    requires { IsStanding hand.now sent running }
+    ensures standing { IsStanding hand.now sent result }
+    ensures place { place_in hand.now sent result ≡ option_and_then (next_place (last_begun hand.now sent)) (place_in hand.now sent running) }
+{
+    let place = running?;
+    place.next(&hand.messages[sent - 1])
+}
+
+/// One terminal: its timers, its messages, how many of them it has begun, and where the running one is.
+#[derive(Drop)]
+pub struct Terminal<C: Core> {
+    core: C,
+    hand: Hand,
+    sent: usize,
+    running: Option<Place>,
+}
+
+impl<C: Core> Model for Terminal<C> {
+    ghost use Rattle.bus_terminal.specs.Terminals as terminals;
+    ghost use Rattle.bus_terminal.specs.Standing.{place_in, IsStanding};
+
+    ghost Value = { terminals.Terminal C };
+
+    ghost view = { λ t. record { core = t.core; hand = t.hand; sent = t.sent; running = place_in t.hand t.sent t.running } };
+
+    ghost invariant = { λ t. IsStanding t.hand t.sent t.running };
+}
+
+impl<C: Core> Terminal<C> {
+    /// A terminal with this core and this hand: nothing sent, and nothing running.
+    pub fn new(core: C, hand: Hand) -> Self
+        ensures { result ≡ record { core = core; hand = hand; sent = 0; running = None } }
+    {
+        Terminal {
+            core,
+            hand,
+            sent: 0,
+            running: None,
+        }
+    }
+
+    /// Begins the next message, if the core is ready, none runs and one is left: then it is true, and the core is
+    /// told that it started. Else nothing changes.
+    pub fn decide(&mut self) -> bool
+        ensures starts { (timing : Timing) (past : List Bool) (last : Option ℕ) → C.stands self.old.core timing past last
+            → (IsTrue result ↔ (MayStart timing past last × (self.old.running ≡ None) × (self.old.sent < length self.old.hand.messages))) }
+        ensures told { result ≡ true → (timing : Timing) (past : List Bool) (last : Option ℕ) → C.stands self.old.core timing past last
+            → C.stands self.new.core timing past (Some (length past)) }
+        // Also of a core that stands for nothing.
+        ensures free { result ≡ true → (self.old.running ≡ None) × (self.old.sent < length self.old.hand.messages) }
+        ensures begins { result ≡ true → self.new ≡ with_begun self.old self.new.core }
+        ensures idle { result ≡ false → self.new ≡ self.old }
+        ensures room { C.room self.new.core ≡ C.room self.old.core }
+        ensures moves { C.moves self.new.core ≡ C.moves self.old.core }
+    {
+        if self.running.is_some() || self.sent == self.hand.messages.len() || !self.core.ready() {
+            return false;
+        }
+        self.running = Some(Place::first(&self.hand.messages[self.sent]));
+        self.sent += 1;
+        self.core.started();
+        true
+    }
+
+    /// Whether its running message has a pulse on the present bit time.
+    pub fn is_on(&self) -> bool
+        ensures { result ≡ sounds self.now }
+    {
+        match self.running {
+            None => false,
+            Some(place) => place.on,
+        }
+    }
+
+    /// The present bit time is over, with carrier or without: the core is passed it once, and a message whose last
+    /// bit time this was has ended. A terminal's own pulse is carrier, and no collision ends its message.
+    pub fn pass(&mut self, carrier: bool)
+        requires own { sounds self.old ≡ true → carrier ≡ true }
+        requires room { 1 ≤ C.room self.old.core }
+        ensures passed { self.new ≡ with_passed self.old self.new.core }
+        ensures told { (timing : Timing) (past : List Bool) (last : Option ℕ) → C.stands self.old.core timing past last
+            → C.stands self.new.core timing (past ++ carrier ∷ []) last }
+        ensures room { C.room self.old.core ≤ C.room self.new.core + 1 }
+        ensures moves { (C.moves self.new.core ≡ C.moves self.old.core + 1) ⊎ ((C.moves self.new.core ≡ C.moves self.old.core) × (C.moves self.old.core ≡ u64.MAX)) }
+    {
+        self.running = next_running(&self.hand, self.sent, self.running);
+        self.core.pass(carrier);
+    }
+
+    /// How many messages it has begun.
+    pub fn sent(&self) -> usize
+        ensures value { result ≡ self.now.sent }
+        ensures most { result ≤ length self.now.hand.messages }
+    {
+        self.sent
+    }
+
+    /// The terminal's number.
+    pub fn number(&self) -> u8
+        ensures { result ≡ self.now.hand.terminal }
+    {
+        self.hand.terminal
+    }
+
+    /// Message `k` of its hand, from 0, begun or not.
+    pub fn message(&self, k: usize) -> &Message
+        requires { k < length self.now.hand.messages }
+        ensures value { slice_get self.now.hand.messages k ≡ Some result.now }
+        ensures ranges { IsMessage result.now }
+    {
+        let message = &self.hand.messages[k];
+        let _ranges = message.strings();
+        message
+    }
+}
