@@ -8,3 +8,7 @@ pub mod TextLemmas
 pub mod StepLemmas
 pub mod AnswerLemmas
 pub mod RankLemmas
+pub mod FitLemmas
+pub mod NewLemmas
+pub mod HandLemmas
+pub mod HandFits

@@ -5,6 +5,8 @@ pub mod Valid
 pub mod Lengths
 pub mod Facts
 pub mod ValidLaws
+pub mod Fits
+pub mod Hands
 pub mod Heads
 pub mod Forms
 pub mod Text
@@ -13,3 +15,4 @@ pub mod Reading
 pub mod Gives
 pub mod Turns
 pub mod TurnLaws
+pub mod FitLaws

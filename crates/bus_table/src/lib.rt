@@ -3,8 +3,12 @@
 
 mod draft;
 pub mod error;
+pub mod fit;
 mod forms;
 pub mod hand;
+#[cfg(test)]
+mod hand_tests;
+pub mod hands;
 mod head;
 mod keyword;
 pub mod laws;
@@ -13,6 +17,7 @@ pub mod line;
 pub mod listener;
 pub mod mode;
 mod place;
+mod ranges;
 pub mod reading;
 pub mod sender;
 pub mod table;

@@ -2,6 +2,7 @@ ghost use Rattle.std.specs.Prelude.{◌≡◌, IsTrue};
 ghost use Rattle.bus_table.specs.Ranges.{is_listener};
 
 use crate::line::TakeLine;
+use crate::ranges::{are_take_lines, is_number};
 use std::marker::Model;
 
 /// A terminal that takes and never sends. It keeps that its number and its lines are in their ranges.
@@ -24,6 +25,21 @@ impl Model for Listener {
 }
 
 impl Listener {
+    ghost use Rattle.std.specs.Prelude.{Some, None, if◌then◌else◌};
+    ghost use Rattle.bus_table.specs.Tables as tables;
+
+    /// None exactly where the number is out of its range, where there are more than 64 TAKE lines, or where a number of
+    /// a line is out of its range.
+    pub fn new(number: u8, takes: Vec<TakeLine>) -> Option<Listener>
+        ensures { let listener : tables.Listener = record { number = number; takes = takes.items } in result ≡ (if is_listener listener then Some listener else None) }
+    {
+        if is_number(number) && are_take_lines(&takes) {
+            Some(Listener { number, takes })
+        } else {
+            None
+        }
+    }
+
     /// Its terminal number: 1 to 128.
     pub fn number(&self) -> u8
         ensures value { result ≡ self.now.number }

@@ -3,6 +3,7 @@ ghost use Rattle.bus_table.specs.Ranges.{is_sender, is_send_line};
 
 use crate::head::Head;
 use crate::line::{SendLine, TakeLine};
+use crate::ranges::{are_send_lines, are_take_lines, is_number, is_offset, is_tg};
 use std::alloc::{AllocError, Global};
 use std::marker::Model;
 
@@ -29,7 +30,38 @@ impl Model for Sender {
 }
 
 impl Sender {
+    ghost use Rattle.std.specs.Prelude.{Some, None, if◌then◌else◌};
     ghost use Rattle.bus_table.specs.Drafts.{opened, with_send};
+    ghost use Rattle.bus_table.specs.Tables as tables;
+
+    /// None exactly where the number, the terminal gap or the offset is out of its range, where there are no SEND lines
+    /// or more than 31, or more than 64 TAKE lines, or where a number of a line is out of its range.
+    pub fn new(
+        number: u8,
+        tg: u32,
+        at: u32,
+        sends: Vec<SendLine>,
+        takes: Vec<TakeLine>,
+    ) -> Option<Sender>
+        ensures { let sender : tables.Sender = record { number = number; tg = tg; at = at; sends = sends.items; takes = takes.items } in result ≡ (if is_sender sender then Some sender else None) }
+    {
+        if is_number(number)
+            && is_tg(tg)
+            && is_offset(at)
+            && are_send_lines(&sends)
+            && are_take_lines(&takes)
+        {
+            Some(Sender {
+                number,
+                tg,
+                at,
+                sends,
+                takes,
+            })
+        } else {
+            None
+        }
+    }
 
     /// A sender with its first SEND line and no offset.
     pub(crate) fn open(alloc: Global, head: Head, line: SendLine) -> Result<Sender, AllocError>

@@ -1,12 +1,51 @@
-ghost use Rattle.std.specs.Prelude.{◌≡◌, IsTrue};
+ghost use Rattle.std.specs.Prelude.{◌≡◌, ◌==◌, IsTrue};
+ghost use Rattle.std.specs.List.{list_all};
+ghost use Rattle.bus_table.specs.Ranges.{is_sender, is_listener};
+ghost use Rattle.bus_table.specs.Valid as valid;
 ghost use Rattle.bus_table.specs.Valid.{is_valid, is_in_range};
 
 use crate::error::TableError;
 use crate::listener::Listener;
 use crate::mode::Mode;
+use crate::ranges;
 use crate::sender::Sender;
 use crate::whole::whole_reason;
 use std::marker::Model;
+
+/// Whether each sender has the offset 0.
+fn have_no_offsets(senders: &[Sender]) -> bool
+    ensures { result ≡ list_all (λ sender. sender.at == 0) senders.now }
+{
+    senders.iter().all(|sender| sender.at() == 0)
+}
+
+/// Whether the senders have offsets only where the mode has.
+fn fits_mode(mode: Mode, senders: &[Sender]) -> bool
+    ensures { result ≡ valid.fits_mode mode senders.now }
+{
+    match mode {
+        Mode::Aperiodic => have_no_offsets(senders),
+        Mode::Periodic => true,
+    }
+}
+
+/// A look at each sender, of which nothing is left in the built program, makes its ranges known.
+fn look_at_senders(senders: &[Sender])
+    ensures { IsTrue (list_all is_sender senders.now) }
+{
+    for sender in senders {
+        let _ranges = sender.number();
+    }
+}
+
+/// A look at each listener, of which nothing is left in the built program, makes its ranges known.
+fn look_at_listeners(listeners: &[Listener])
+    ensures { IsTrue (list_all is_listener listeners.now) }
+{
+    for listener in listeners {
+        let _ranges = listener.number();
+    }
+}
 
 /// The table of a bus. It keeps that it is valid: every number is in its range, and no whole reason applies.
 #[derive(Debug, Drop)]
@@ -31,8 +70,30 @@ impl Model for Table {
 }
 
 impl Table {
+    ghost use Rattle.std.specs.Prelude.{◌&&◌, is_none, Some, None, if◌then◌else◌};
+    ghost use Rattle.bus_table.specs.Ranges.{is_ti, is_sg};
     ghost use Rattle.bus_table.specs.Reading.{judged};
+    ghost use Rattle.bus_table.specs.Whole.{whole_refusal};
     ghost use Rattle.bus_table.specs.Tables as tables;
+
+    /// None exactly where the transmit interval or the synchronization gap is out of its range, where some sender of an
+    /// aperiodic table has another offset than 0, or where a whole reason applies.
+    pub fn new(
+        mode: Mode,
+        ti: u32,
+        sg: u32,
+        senders: Vec<Sender>,
+        listeners: Vec<Listener>,
+    ) -> Option<Table>
+        ensures { let table : tables.Table = record { mode = mode; ti = ti; sg = sg; senders = senders.items; listeners = listeners.items } in result ≡ (if is_ti ti && (is_sg sg && (valid.fits_mode mode table.senders && is_none (whole_refusal table))) then Some table else None) }
+    {
+        if !ranges::is_ti(ti) || !ranges::is_sg(sg) || !fits_mode(mode, &senders) {
+            return None;
+        }
+        look_at_senders(&senders);
+        look_at_listeners(&listeners);
+        Table::judged(mode, ti, sg, senders, listeners).ok()
+    }
 
     /// The table of these, unless a whole reason applies.
     pub(crate) fn judged(

@@ -1,0 +1,82 @@
+ghost use Rattle.std.specs.Prelude.{◌≡◌};
+ghost use Rattle.std.specs.Option.{option_copied};
+ghost use Rattle.bus_strings.specs.Items.{numbers};
+ghost use Rattle.bus_table.specs.Fits as fits;
+
+use crate::line::SendLine;
+use crate::sender::Sender;
+use crate::table::Table;
+use bus_strings::payload::{Payload, Payloads};
+
+/// The first item that doesn't fit its sender. Items are counted from 1.
+#[derive(Clone, Copy, Debug, PartialEq, Eq)]
+pub enum FitError {
+    /// The terminal of this item is no sender.
+    Stranger(u64),
+    /// This item has another number of wordstrings than its sender has SEND lines, or a wordstring whose number of
+    /// data words isn't from the least to the most of its line.
+    Shape(u64),
+}
+
+/// The sender with this number.
+fn sender_of(senders: &[Sender], number: u8) -> Option<&Sender>
+    ensures { option_copied result ≡ fits.sender_of senders.now number }
+{
+    senders.iter().find(|sender| sender.number() == number)
+}
+
+/// Whether a line may have so many data words.
+fn allows(line: &SendLine, words: usize) -> bool
+    ensures { result ≡ fits.allows line.now words }
+{
+    (usize::from(line.least)..=usize::from(line.most)).contains(&words)
+}
+
+/// Whether there are as many strings as lines, and on each line a number of data words that it may have.
+fn has_shape(sends: &[SendLine], strings: &[Vec<u16>]) -> bool
+    ensures { result ≡ fits.has_shape sends.now (numbers strings.now) }
+{
+    if sends.len() != strings.len() {
+        return false;
+    }
+    for (k, line) in sends.iter().enumerate() {
+        if !allows(line, strings[k].len()) {
+            return false;
+        }
+    }
+    true
+}
+
+/// Whether item `k` fits the sender of its terminal.
+fn item_fits(k: u64, senders: &[Sender], item: &Payload) -> Result<(), FitError>
+    ensures { result ≡ fits.item_fit k senders.now item.now }
+{
+    let Some(sender) = sender_of(senders, item.terminal) else {
+        return Err(FitError::Stranger(k));
+    };
+    if has_shape(sender.sends(), &item.strings) {
+        Ok(())
+    } else {
+        Err(FitError::Shape(k))
+    }
+}
+
+/// Whether each of these items fits, the first being item 1.
+fn items_fit(senders: &[Sender], items: &[Payload]) -> Result<(), FitError>
+    ensures { result ≡ fits.fit_from 1 senders.now items.now }
+{
+    let mut k = 1;
+    for item in items {
+        item_fits(k, senders, item)?;
+        k += 1;
+    }
+    Ok(())
+}
+
+/// Whether each item fits the sender of its terminal, or else the first that doesn't: `Stranger` exactly where its
+/// terminal is no sender, else `Shape` exactly where its strings aren't of the shape that the sender's lines ask for.
+pub fn fits(table: &Table, payloads: &Payloads) -> Result<(), FitError>
+    ensures { result ≡ fits.items_fit table.now payloads.now }
+{
+    items_fit(table.senders(), &payloads.items)
+}

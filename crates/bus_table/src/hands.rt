@@ -1,0 +1,68 @@
+ghost use Rattle.std.specs.Prelude.{◌≡◌, ◌==◌, [], map, position, IfOk, IsOk, IsTrue};
+ghost use Rattle.bus_strings.specs.Items.{numbers};
+ghost use Rattle.bus_table.specs.Fits as fits;
+ghost use Rattle.bus_table.specs.Hands.{message_of, hand_of, hands_of, are_hands};
+ghost use Rattle.bus_table.specs.Ranges.{are_send_lines};
+
+use crate::hand::Hand;
+use crate::line::SendLine;
+use crate::sender::Sender;
+use crate::table::Table;
+use bus_strings::message::Message;
+use bus_strings::payload::Payloads;
+use bus_strings::wordstring::Wordstring;
+use std::alloc::{AllocError, Global};
+
+/// The message of these strings, with the labels and extensions of the lines.
+fn message(alloc: Global, sends: &[SendLine], strings: Vec<Vec<u16>>) -> Result<Message, AllocError>
+    requires lines { IsTrue (are_send_lines sends.now) }
+    requires shape { IsTrue (fits.has_shape sends.now (numbers strings.items)) }
+    ensures { IfOk result (λ message. message ≡ message_of sends.now (numbers strings.items)) }
+{
+    let mut wordstrings = Vec::with_capacity(alloc, sends.len())?;
+    let mut k = 0;
+    for words in strings {
+        let line = sends[k];
+        wordstrings.push(Wordstring::new(line.label, line.ext, words).unwrap())?;
+        k += 1;
+    }
+    Ok(Message::new(wordstrings).unwrap())
+}
+
+/// One hand without messages for each sender, in order.
+fn empty_hands(alloc: Global, senders: &[Sender]) -> Result<Vec<Hand>, AllocError>
+    ensures { IfOk result (λ made. made.items ≡ map (hand_of []) senders.now) }
+{
+    let mut hands = Vec::with_capacity(alloc, senders.len())?;
+    for sender in senders {
+        hands.push(Hand {
+            terminal: sender.number(),
+            messages: Vec::new(alloc),
+        })?;
+    }
+    Ok(hands)
+}
+
+/// Where the sender with this number stands.
+fn place_of(senders: &[Sender], number: u8) -> Option<usize>
+    ensures { result ≡ position (λ sender. sender.number == number) senders.now }
+{
+    senders.iter().position(|sender| sender.number() == number)
+}
+
+/// The hands that the items give, under the condition that each item fits: one for each sender in the order of the
+/// table. A sender's messages are its items in their order, with the labels and extensions of its SEND lines. Fails
+/// only where memory runs out.
+pub fn hands(alloc: Global, table: &Table, payloads: Payloads) -> Result<Vec<Hand>, AllocError>
+    requires { IsOk (fits.items_fit table.now payloads) }
+    ensures hands { IfOk result (λ made. made.items ≡ hands_of table.now payloads) }
+    ensures fit { IfOk result (λ made. IsTrue (are_hands table.now.senders made.items)) }
+{
+    let senders = table.senders();
+    let mut hands = empty_hands(alloc, senders)?;
+    for item in payloads.items {
+        let place = place_of(senders, item.terminal).unwrap();
+        hands[place].push(message(alloc, senders[place].sends(), item.strings)?)?;
+    }
+    Ok(hands)
+}
