@@ -1,5 +1,5 @@
 -- The canonical text of items is what is put, and stands for them.
-use Rattle.std.proofs.Common.{arith, ◌≡◌, ℕ, ◌+◌, ◌<◌, ◌^◌, Bool, true, ◌&&◌, List, [], ◌∷◌, ◌++◌, map, refl, sym, ap, subst, ◌∙◌, codes, lit<, append-nil}
+use Rattle.std.proofs.Common.{arith, ◌≡◌, ℕ, ◌+◌, ◌<◌, ◌^◌, true, ◌&&◌, List, [], ◌∷◌, ◌++◌, map, refl, sym, ap, subst, ◌∙◌, codes, lit<, append-nil}
 use Rattle.std.specs.Prelude.{decimal}
 use Rattle.std.specs.List.{flat_map, AllByRecursion}
 use Rattle.std.specs.Int.{is_in_range as is_between}
@@ -16,7 +16,7 @@ use Rattle.bus_text.specs.NumberLaws.{decimal_is, decimal_field}
 use Rattle.bus_strings.specs.Items.{Item, IsItem}
 use Rattle.bus_strings.specs.Canonical.{string_fields, item_fields, header_fields, messages_text}
 use Rattle.bus_strings.specs.Grammar.{AreWords, AreStrings, IsItemLine, AreItemLines, AreMessageLines, IsMessagesText}
-use Rattle.bus_strings.specs.Puts.{word_bytes, string_bytes, item_bytes, messages_bytes}
+use Rattle.bus_strings.specs.Puts.{string_bytes, item_bytes, messages_bytes}
 
 -- ---- what is put
 strings_put : (strings : List (List ℕ)) → flat_map (λ field. 32 ∷ field) (flat_map string_fields strings) ≡ flat_map string_bytes strings

@@ -2,10 +2,9 @@
 use Rattle.std.proofs.Common.{arith, ◌≡◌, ℕ, Bool, true, false, not, ◌&&◌, List, [], ◌∷◌, length, drop, codes, Result, Ok, Err, refl, sym, ap, ◌∙◌, ◌==◌}
 use Rattle.std.proofs.lemmas.Bool.{ne_eqb}
 use Rattle.bus_text.specs.AllOf.{◌>>=◌, all_of}
-use Rattle.bus_text.specs.AllOfLaws.{with_front, stops}
 use Rattle.bus_text.specs.Fields.{is_at}
 use Rattle.bus_text.specs.Lines.{Entry}
-use Rattle.bus_text.specs.Refusals.{Refusal, first_of, unless}
+use Rattle.bus_text.specs.Refusals.{first_of, unless}
 use Rattle.bus_text.specs.declared.reason.Reason.{Reason}
 use Rattle.bus_text.specs.declared.reason.Reason.TheVariants.{Ended, Keyword, Fields}
 use Rattle.bus_strings.specs.declared.fault.MessagesError.{MessagesError}
@@ -64,8 +63,3 @@ header_fails (Text line reason) entries first others after e h = begun entries f
 
 pub items_are : (entries : List Entry) (first : Entry) (others : List Entry) (after : ℕ) (u : Unit {0}) → entries ≡ first ∷ others → header_line first ≡ Ok u → lines_reading entries after ≡ all_of item_line others
 items_are entries first others after u e h = begun entries first others after e ∙ ap (λ r. r >>= λ _. all_of item_line others) h
-
--- a refused line refuses the whole
-pub text_stops : {X Y : Type 0} (e : MessagesError) (read : X → Result Y Refusal) (front : List Y) (x : X) (xs : List X) (total : Result (List Y) Refusal) → Fails e (read x) → with_front front (all_of read (x ∷ xs)) ≡ total → Fails e total
-text_stops Memory read front x xs total h so_far = tt
-text_stops (Text line reason) read front x xs total h so_far = stops read front x xs (record { line = line; reason = reason }) total h so_far

@@ -1,4 +1,4 @@
-use bus_text::reason::Reason;
+pub use bus_text::reason::Reason;
 use std::alloc::{AllocError, AllocFailed};
 use thiserror::Error;
 

@@ -1,5 +1,14 @@
 //! Messages and transmissions: what a terminal sends at one start, its pulses on the bus, and which of the
 //! transmissions of a list are garbled. And the messages text, which gives the data words of messages to come.
+//!
+//! - [`message::Message`] is 1 to 31 [`wordstring::Wordstring`]s, [`transmission::Transmission`] one on the bus.
+//!   [`pulses`] says how long a message is and when it is on, [`overlap`] which transmissions garble each other.
+//! - [`payload::Payloads`] are the items of a messages text: [`reading::read_messages`] gives them, or the line that is
+//!   refused and why, and [`writing::write_messages`] writes their canonical text.
+//!
+//! The definitions are in `specs/`: `Messages`, `Pulses` and `Transmissions` for what is sent, `Items`, `Grammar` (which
+//! texts stand for which items), `Reading` (what a text reads as, or which line is refused), `Canonical` and `Puts` for
+//! the messages text.
 #![tactic(auto)]
 
 pub mod fault;

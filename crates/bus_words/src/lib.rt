@@ -6,7 +6,8 @@
 //!   [`word::unframe`] go between them, [`word::label_word`] and [`word::split_label`] between a label word and its
 //!   parts.
 //! - [`text::word_text`] writes a word in six bytes, and [`text::read_word`] reads it back:
-//!   `read_word(&word_text(word))` is `Ok(word)`.
+//!   `read_word(&word_text(word))` is `Ok(word)`. [`text::read_frame`] reads it whatever its parity digit, for a reader that
+//!   judges the form of all words before their parity.
 //!
 //! No call takes memory. The definitions are in `specs/`: `Words`, `WordTexts`, and `WordTextLaws` for what callers may
 //! use of them beside the contracts.

@@ -1,7 +1,7 @@
 use Rattle.std.proofs.Common.{◌≡◌, ◌∷◌, ◌++◌, [], ap, sym, ◌∙◌}
 use Rattle.std.proofs.lemmas.List.{map_push}
 use Rattle.bus_strings.specs.Items.{numbers}
-use Rattle.bus_strings.proofs.StringLemmas.{at_colon, with_strings, ended}
+use Rattle.bus_strings.proofs.StringLemmas.{at_colon, with_strings}
 use Rattle.bus_strings.proofs.item.strings.Goals as goal
 
 pub loop-field-preserved-then-eq : goal.loop-field-preserved-then-eq
