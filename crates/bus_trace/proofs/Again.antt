@@ -1,6 +1,6 @@
 -- The lines of a trace text are read again.
-use Rattle.std.proofs.Common.{arith, zero, suc, ◌≡◌, ℕ, ◌+◌, ◌*◌, ◌<◌, ◌≤◌, ◌^◌, Bool, true, false, not, cond, ◌&&◌, ◌==◌, List, [], ◌∷◌, ◌++◌, length, codes, map, nat_lt, Option, Some, None, Result, Ok, Err, refl, sym, ap, subst, ◌∙◌, append_assoc, append-nil, length-append}
-use Rattle.std.specs.List.{slice_split, join_with_byte, flat_map, list_all, AllByRecursion}
+use Rattle.std.proofs.Common.{arith, ◌≡◌, ℕ, ◌+◌, ◌*◌, ◌<◌, ◌≤◌, ◌^◌, Bool, true, false, not, cond, ◌&&◌, List, [], ◌∷◌, ◌++◌, length, codes, map, nat_lt, Option, Some, Result, Ok, refl, sym, ap, subst, ◌∙◌, append_assoc, append-nil, length-append}
+use Rattle.std.specs.List.{join_with_byte, flat_map, AllByRecursion}
 use Rattle.std.specs.Fmt.{decimal}
 use Rattle.std.specs.Int.{is_in_range}
 use Rattle.std.proofs.lemmas.Bool.Decides.{nat_tests}
@@ -10,7 +10,7 @@ use Rattle.std.proofs.lemmas.List.Concat.{flat_map-append}
 use Rattle.std.proofs.lemmas.List.Elements.{All-from_recursion}
 use Rattle.std.proofs.lemmas.Fmt.{length-decimal-le}
 use Rattle.bus_text.specs.Lines.{is_blank}
-use Rattle.bus_text.specs.Numbers.{is_plain_decimal, decimal_value}
+use Rattle.bus_text.specs.Numbers.{decimal_value}
 use Rattle.bus_text.specs.NumberLaws.{decimal_is, decimal_field}
 use Rattle.bus_text.specs.Canonical.{spelled_line, spelled_lines, IsField, IsFieldByte}
 use Rattle.bus_text.specs.CanonicalLaws.{constant_field}
@@ -20,15 +20,14 @@ use Rattle.bus_words.specs.WordTexts.{word_text}
 use Rattle.bus_strings.specs.Messages.{Wordstring, Entry, IsWordstring}
 use Rattle.bus_strings.specs.Transmissions.{IsAscending}
 use Rattle.bus_trace.specs.declared.hold.Hold.{Hold}
-use Rattle.bus_trace.specs.declared.place.Keyword.TheVariants.{Begin, String}
+use Rattle.bus_trace.specs.declared.place.Keyword.TheVariants.{Tx, Ws}
 use Rattle.bus_trace.specs.declared.place.Place.{Place}
-use Rattle.bus_trace.specs.declared.place.Place.TheVariants.{Start, Headed, Holding, Begun, Stringing, Ended}
+use Rattle.bus_trace.specs.declared.place.Place.TheVariants.{Headed, Holding, Begun, Stringing, Ended}
 use Rattle.bus_trace.specs.declared.reason.TraceReason.{TraceReason}
-use Rattle.bus_trace.specs.Traces.{Recording, Line, IsHold, AscendAbove, IsBelow, IsTrace, head_line, horizon_line, hold_line, begin_line, data_word, word_fields, string_line, entry_lines, end_line, body_lines, trace_lines, trace_text}
-use Rattle.bus_trace.specs.WordFields.{are_spelled, are_even, string_of}
-use Rattle.bus_trace.specs.States.{State, start, may_follow, may_follow_string, last_count, last_terminal, is_after, is_space, spaced_fields, is_ended, with_string, more_list, head_step, horizon_step, hold_step, begin_step, string_step, end_step, keyword_step, fields_step, step}
-use Rattle.bus_trace.specs.Runs.{Standing, Outcome, Going, Found, judged, begin, run, ◌>>-◌, HasNoFeed}
-use Rattle.bus_trace.proofs.Lasts.{last_of_append, with_last, count_last}
+use Rattle.bus_trace.specs.Traces.{Recording, Line, IsHold, AscendAbove, IsBelow, IsTrace, head_line, horizon_line, hold_line, begin_line, data_word, string_line, entry_lines, end_line, body_lines, trace_text, horizon_limit, line_limit}
+use Rattle.bus_trace.specs.States.{State, start, may_follow, last_count, last_terminal, is_after, is_space, spaced_fields, is_ended, more_list, head_step, horizon_step, hold_step, begin_step, string_step, end_step, fields_step, step}
+use Rattle.bus_trace.specs.Runs.{Going, Found, judged, begin, run, ◌>>-◌, HasNoFeed}
+use Rattle.bus_trace.proofs.Lasts.{with_last, count_last}
 use Rattle.bus_trace.proofs.Orders.{lt_test, after_front, terminals_rest}
 use Rattle.bus_trace.proofs.WordLists.{string_again, length-word}
 use Rattle.bus_trace.proofs.Runs.{run-append, run-whole_line}
@@ -66,7 +65,7 @@ fields_again (f ∷ g ∷ fields) some h =
 pub record FitsLine (fields : Line) : Type 0 where
   pub some : 0 < length fields
   pub all : AllByRecursion IsField fields
-  pub short : length (join_with_byte 32 fields) ≤ 1801
+  pub short : length (join_with_byte 32 fields) ≤ line_limit
 
 -- where a line leads, what follows goes on from there
 line_again : (s n : State) (fields : Line) (rest : List ℕ) → FitsLine fields → fields_step s fields ≡ Ok n → run (record { state = s; line = [] }) (spelled_line fields ++ rest) ≡ (judged s (Ok n) >>- λ m. run m rest)
@@ -122,13 +121,13 @@ head_again =
     leads_one start (record { place = Headed; horizon = 0; holds = []; list = [] }) head_line
     (record { some = omega arith; all = (constant_field (codes "TRACE") (omega arith) refl, (constant_field (codes "1") (omega arith) refl, tt)); short = omega arith }) refl refl
 
-horizon_again : (h : ℕ) → h ≤ 20000000 → Leads (record { place = Headed; horizon = 0; holds = []; list = [] }) (horizon_line h ∷ []) (record { place = Holding; horizon = h; holds = []; list = [] })
+horizon_again : (h : ℕ) → h ≤ horizon_limit → Leads (record { place = Headed; horizon = 0; holds = []; list = [] }) (horizon_line h ∷ []) (record { place = Holding; horizon = h; holds = []; list = [] })
 unfolding horizon_step
 horizon_again h k =
     let d = decimal_is h (omega (arith, k)) in
     leads_one (record { place = Headed; horizon = 0; holds = []; list = [] }) (record { place = Holding; horizon = h; holds = []; list = [] }) (horizon_line h)
-    (record { some = omega arith; all = (constant_field (codes "HORIZON") (omega arith) refl, (decimal_field h (omega (arith, k)), tt)); short = omega (arith, digits h 20000000 8 (omega arith) k (omega arith) (omega arith)) })
-    (pass _ _ _ _ _ d.plain (pass _ _ _ _ _ (ap (is_in_range 0 20000000) d.value ∙ within h 0 20000000 (omega arith) k) (ap (λ x. Ok (record { place = Holding; horizon = x; holds = []; list = [] })) d.value)))
+    (record { some = omega arith; all = (constant_field (codes "HORIZON") (omega arith) refl, (decimal_field h (omega (arith, k)), tt)); short = omega (arith, digits h horizon_limit 8 (omega arith) k (omega arith) (omega arith)) })
+    (pass _ _ _ _ _ d.plain (pass _ _ _ _ _ (ap (is_in_range 0 horizon_limit) d.value ∙ within h 0 horizon_limit (omega arith) k) (ap (λ x. Ok (record { place = Holding; horizon = x; holds = []; list = [] })) d.value)))
     refl
 
 -- a state in which holds are read
@@ -164,7 +163,7 @@ holds_again h done (x ∷ left) f a =
 abbrev pub at_place : Place → ℕ → List Hold → List Entry → State
 at_place p h hs xs = record { place = p; horizon = h; holds = hs; list = xs }
 
-begin_again : (p : Place) (h : ℕ) (hs : List Hold) (xs : List Entry) (m n : ℕ) → h ≤ 20000000 → may_follow p (last_count xs) Begin ≡ true → m < h → 1 ≤ n → n ≤ 128 → is_after xs m n ≡ true
+begin_again : (p : Place) (h : ℕ) (hs : List Hold) (xs : List Entry) (m n : ℕ) → h ≤ horizon_limit → may_follow p (last_count xs) Tx ≡ true → m < h → 1 ≤ n → n ≤ 128 → is_after xs m n ≡ true
     → Leads (at_place p h hs xs) (begin_line m n ∷ []) (at_place (Begun m n) h hs xs)
 unfolding begin_step
 begin_again p h hs xs m n k may below positive low after =
@@ -174,7 +173,7 @@ begin_again p h hs xs m n k may below positive low after =
     (record {
       some = omega arith;
       all = (constant_field (codes "TX") (omega arith) refl, (decimal_field m (omega (arith, below, k)), (decimal_field n (omega (arith, low)), tt)));
-      short = omega (arith, length-append (decimal m) (32 ∷ decimal n), digits m 20000000 8 (omega arith) (omega (arith, below, k)) (omega arith) (omega arith), digits n 128 3 (omega arith) low (omega arith) (omega arith));
+      short = omega (arith, length-append (decimal m) (32 ∷ decimal n), digits m horizon_limit 8 (omega arith) (omega (arith, below, k)) (omega arith) (omega arith), digits n 128 3 (omega arith) low (omega arith) (omega arith));
     })
     (stand _ _ _ _ may
     (pass _ _ _ _ _ (both _ _ t.plain c.plain)
@@ -196,7 +195,7 @@ string_line_fits w i =
       short = omega (arith, words_room (word_text (label_word w.label w.ext)) w.words, length-word (label_word w.label w.ext), i.few);
     }
 
-string_line_again : (p : Place) (h : ℕ) (hs : List Hold) (xs : List Entry) (w : Wordstring) → may_follow p (last_count xs) String ≡ true → IsWordstring w
+string_line_again : (p : Place) (h : ℕ) (hs : List Hold) (xs : List Entry) (w : Wordstring) → may_follow p (last_count xs) Ws ≡ true → IsWordstring w
     → Leads (at_place p h hs xs) (string_line w ∷ []) (at_place Stringing h hs (more_list p w xs))
 unfolding string_step
 string_line_again p h hs xs w may i =
@@ -231,13 +230,13 @@ message_again h hs xs m n (w ∷ left) some few f =
     leads_append (at_place (Begun m n) h hs xs) (at_place Stringing h hs (xs ++ record { moment = m; terminal = n; message = w ∷ [] } ∷ [])) (at_place Stringing h hs (xs ++ record { moment = m; terminal = n; message = w ∷ left } ∷ []))
     (string_line w ∷ []) (map string_line left) (string_line_again (Begun m n) h hs xs w refl f.0) (strings_again h hs xs m n (w ∷ []) left (omega (arith, few)) f.1)
 
-entry_again : (p : Place) (h : ℕ) (hs : List Hold) (xs : List Entry) (x : Entry) → h ≤ 20000000 → may_follow p (last_count xs) Begin ≡ true → IsBelow h x → is_after xs x.moment x.terminal ≡ true
+entry_again : (p : Place) (h : ℕ) (hs : List Hold) (xs : List Entry) (x : Entry) → h ≤ horizon_limit → may_follow p (last_count xs) Tx ≡ true → IsBelow h x → is_after xs x.moment x.terminal ≡ true
     → Leads (at_place p h hs xs) (entry_lines x) (at_place Stringing h hs (xs ++ x ∷ []))
 entry_again p h hs xs x k may b after =
     leads_append (at_place p h hs xs) (at_place (Begun x.moment x.terminal) h hs xs) (at_place Stringing h hs (xs ++ x ∷ [])) (begin_line x.moment x.terminal ∷ []) (map string_line x.message)
     (begin_again p h hs xs x.moment x.terminal k may b.moment b.positive b.low after) (message_again h hs xs x.moment x.terminal x.message b.message.some b.message.few b.message.strings)
 
-list_again : (h : ℕ) (hs : List Hold) (done left : List Entry) → h ≤ 20000000 → AllByRecursion (IsBelow h) left → IsAscending (done ++ left)
+list_again : (h : ℕ) (hs : List Hold) (done left : List Entry) → h ≤ horizon_limit → AllByRecursion (IsBelow h) left → IsAscending (done ++ left)
     → Leads (at_place Stringing h hs done) (flat_map entry_lines left) (at_place Stringing h hs (done ++ left))
 list_again h hs done [] k f order = ap (at_place Stringing h hs) (sym (append-nil done))
 list_again h hs done (x ∷ left) k f order =
@@ -253,7 +252,7 @@ abbrev pub last_place : List Entry → Place
 last_place [] = Holding
 last_place (x ∷ xs) = Stringing
 
-whole_list : (h : ℕ) (hs : List Hold) (xs : List Entry) → h ≤ 20000000 → AllByRecursion (IsBelow h) xs → IsAscending xs → Leads (holding h hs) (flat_map entry_lines xs) (at_place (last_place xs) h hs xs)
+whole_list : (h : ℕ) (hs : List Hold) (xs : List Entry) → h ≤ horizon_limit → AllByRecursion (IsBelow h) xs → IsAscending xs → Leads (holding h hs) (flat_map entry_lines xs) (at_place (last_place xs) h hs xs)
 whole_list h hs [] k f order = refl
 whole_list h hs (x ∷ xs) k f order =
     leads_append (holding h hs) (at_place Stringing h hs (x ∷ [])) (at_place Stringing h hs (x ∷ xs)) (entry_lines x) (flat_map entry_lines xs)

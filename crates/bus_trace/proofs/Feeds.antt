@@ -1,21 +1,18 @@
 -- Pieces that a reader is fed.
-use Rattle.std.proofs.Common.{arith, zero, suc, ◌≡◌, ℕ, ◌+◌, ◌-◌, ◌<◌, ◌≤◌, Bool, true, false, cond, List, [], ◌∷◌, ◌++◌, length, take, min, nat_lt, Result, Ok, Err, refl, sym, ap, subst, ◌∙◌, append_assoc, append-nil, length-append}
+use Rattle.std.proofs.Common.{arith, zero, suc, ◌≡◌, ℕ, ◌+◌, ◌-◌, ◌<◌, ◌≤◌, Bool, true, false, List, [], ◌∷◌, ◌++◌, length, take, nat_lt, Ok, refl, sym, ap, subst, ◌∙◌, length-append}
 use Rattle.std.proofs.lemmas.Bool.Decides.{nat_tests}
 use Rattle.std.proofs.lemmas.List.{length-take, take_all}
 use Rattle.std.proofs.Math.Seq.{take-append-add}
-use Rattle.std.specs.declared.alloc.AllocError.{AllocError}
-use Rattle.bus_trace.specs.declared.reason.TraceReason.{TraceReason}
-use Rattle.bus_trace.specs.States.{State, start, text_of}
-use Rattle.bus_trace.specs.Runs.{Standing, Outcome, Going, Found, Refused, Due, More, Whole, Wrong, Large, ◌>>-◌, run, begin, due, due_by, stream_of}
+use Rattle.bus_trace.specs.States.{text_of}
+use Rattle.bus_trace.specs.Runs.{Standing, Outcome, Going, Found, Refused, More, ◌>>-◌, run, begin, due, due_by, stream_of}
 use Rattle.bus_trace.specs.Walking.{WalkGives}
-use Rattle.bus_trace.specs.Feeding.{fed_of, Reader, ReaderIs, FeedGives}
+use Rattle.bus_trace.specs.Feeding.{fed_of, ReaderIs, FeedGives}
 use Rattle.bus_trace.specs.declared.walk.Walked.{Walked}
 use Rattle.bus_trace.specs.declared.walk.Walked.TheVariants.{Passed, Ended, Failed}
 use Rattle.bus_trace.specs.declared.stage.Stage.{Stage}
-use Rattle.bus_trace.specs.declared.stage.Fed.{Fed}
 use Rattle.bus_trace.specs.declared.stage.Stage.TheVariants as stage
-use Rattle.bus_trace.specs.declared.stage.Fed.TheVariants as fed
 use Rattle.bus_trace.proofs.Runs.{run-append}
+use Rattle.bus_trace.specs.Traces.{text_limit}
 
 pub begin_is : ReaderIs stage.Open begin
 unfolding text_of run
@@ -27,27 +24,27 @@ take_on limit xs ys h =
     ap (λ n. take n (xs ++ ys)) e ∙ take-append-add xs ys (limit - length xs)
 
 -- what a piece adds is what a run from where the reader stands adds
-same_run : (at : Standing) (piece : List ℕ) → run begin (stream_of at) ≡ Going at → length (stream_of at) ≤ 8388608
-    → run begin (take 8388608 (stream_of at ++ piece)) ≡ run at (take (8388608 - length (stream_of at)) piece)
+same_run : (at : Standing) (piece : List ℕ) → run begin (stream_of at) ≡ Going at → length (stream_of at) ≤ text_limit
+    → run begin (take text_limit (stream_of at ++ piece)) ≡ run at (take (text_limit - length (stream_of at)) piece)
 same_run at piece h k =
-    ap (run begin) (take_on 8388608 (stream_of at) piece k) ∙ run-append begin (stream_of at) (take (8388608 - length (stream_of at)) piece) ∙ ap (λ o. o >>- λ m. run m (take (8388608 - length (stream_of at)) piece)) h
+    ap (run begin) (take_on text_limit (stream_of at) piece k) ∙ run-append begin (stream_of at) (take (text_limit - length (stream_of at)) piece) ∙ ap (λ o. o >>- λ m. run m (take (text_limit - length (stream_of at)) piece)) h
 
 lt_same : (a b c d : ℕ) → (a < b → c < d) → (c < d → a < b) → nat_lt a b ≡ nat_lt c d
 lt_same a b c d h k = grind (arith, nat_tests)
 
-longer_is : (at : Standing) (piece front : List ℕ) → length (stream_of at) ≤ 8388608 → front ≡ take (8388608 - length (stream_of at)) piece
-    → nat_lt 8388608 (length (stream_of at ++ piece)) ≡ nat_lt (length front) (length piece)
+longer_is : (at : Standing) (piece front : List ℕ) → length (stream_of at) ≤ text_limit → front ≡ take (text_limit - length (stream_of at)) piece
+    → nat_lt text_limit (length (stream_of at ++ piece)) ≡ nat_lt (length front) (length piece)
 longer_is at piece front k e =
-    let l = length-take (8388608 - length (stream_of at)) piece in
+    let l = length-take (text_limit - length (stream_of at)) piece in
     let m = length-append (stream_of at) piece in
     let f = ap length e in
-    lt_same 8388608 (length (stream_of at ++ piece)) (length front) (length piece) (λ h. omega arith) (λ h. omega arith)
+    lt_same text_limit (length (stream_of at ++ piece)) (length front) (length piece) (λ h. omega arith) (λ h. omega arith)
 
-pub due_is : (at : Standing) (piece front : List ℕ) → run begin (stream_of at) ≡ Going at → length (stream_of at) ≤ 8388608 → front ≡ take (8388608 - length (stream_of at)) piece
-    → due 8388608 (stream_of at ++ piece) ≡ due_by (nat_lt (length front) (length piece)) (run at front)
+pub due_is : (at : Standing) (piece front : List ℕ) → run begin (stream_of at) ≡ Going at → length (stream_of at) ≤ text_limit → front ≡ take (text_limit - length (stream_of at)) piece
+    → due text_limit (stream_of at ++ piece) ≡ due_by (nat_lt (length front) (length piece)) (run at front)
 unfolding due
 due_is at piece front h k e =
-    ap (λ t. due_by t (run begin (take 8388608 (stream_of at ++ piece)))) (longer_is at piece front k e)
+    ap (λ t. due_by t (run begin (take text_limit (stream_of at ++ piece)))) (longer_is at piece front k e)
     ∙ ap (due_by (nat_lt (length front) (length piece))) (same_run at piece h k ∙ ap (run at) (sym e))
 
 -- a front that isn't shorter is the piece
@@ -70,24 +67,24 @@ take_front piece front room used e h = ap (take used) e ∙ take_take piece room
 -- what the reader knows of the piece
 pub record Feeds (at : Standing) (piece front : List ℕ) : Type 0 where
   pub going : run begin (stream_of at) ≡ Going at
-  pub fits : length (stream_of at) ≤ 8388608
-  pub front_is : front ≡ take (8388608 - length (stream_of at)) piece
+  pub fits : length (stream_of at) ≤ text_limit
+  pub front_is : front ≡ take (text_limit - length (stream_of at)) piece
 
-feeds_due : (at : Standing) (piece front : List ℕ) (out : Outcome) (t : Bool) → Feeds at piece front → run at front ≡ out → nat_lt (length front) (length piece) ≡ t → due 8388608 (stream_of at ++ piece) ≡ due_by t out
+feeds_due : (at : Standing) (piece front : List ℕ) (out : Outcome) (t : Bool) → Feeds at piece front → run at front ≡ out → nat_lt (length front) (length piece) ≡ t → due text_limit (stream_of at ++ piece) ≡ due_by t out
 feeds_due at piece front out t f h e = due_is at piece front f.going f.fits f.front_is ∙ ap (λ b. due_by b (run at front)) e ∙ ap (due_by t) h
 
 pub feed_gives : (at new : Standing) (piece front : List ℕ) (w : Walked) (t : Bool) → Feeds at piece front → nat_lt (length front) (length piece) ≡ t → WalkGives at new front (Ok w) (run at front)
     → FeedGives (record { stage = stage.Open; at = at }) (record { stage = (fed_of w t).0; at = new }) piece (Ok (fed_of w t).1)
 feed_gives at new piece front Passed true f e w = (refl, feeds_due at piece front (Going new) true f w.0 e)
 feed_gives at new piece front Passed false f e w =
-    (refl, feeds_due at piece front (Going new) false f w.0 e, w.1 ∙ ap (λ p. stream_of at ++ p) (front_all piece front (8388608 - length (stream_of at)) f.front_is e))
+    (refl, feeds_due at piece front (Going new) false f w.0 e, w.1 ∙ ap (λ p. stream_of at ++ p) (front_all piece front (text_limit - length (stream_of at)) f.front_is e))
 feed_gives at new piece front (Ended used) t f e w = (
   refl,
   feeds_due at piece front (Found new.state) t f w.0 e,
   w.3,
-  omega (arith, ap length f.front_is, length-take (8388608 - length (stream_of at)) piece, w.2),
+  omega (arith, ap length f.front_is, length-take (text_limit - length (stream_of at)) piece, w.2),
   w.4,
-  w.1 ∙ ap (λ p. stream_of at ++ p) (take_front piece front (8388608 - length (stream_of at)) used f.front_is w.2),
+  w.1 ∙ ap (λ p. stream_of at ++ p) (take_front piece front (text_limit - length (stream_of at)) used f.front_is w.2),
 )
 feed_gives at new piece front (Failed byte reason) t f e w = (refl, feeds_due at piece front (Refused byte reason) t f w e)
 
@@ -95,8 +92,8 @@ feed_gives at new piece front (Failed byte reason) t f e w = (refl, feeds_due at
 on : (at : Standing) (xs : List ℕ) (out : Outcome) → run begin (stream_of at) ≡ Going at → run at xs ≡ out → run begin (stream_of at ++ xs) ≡ out
 on at xs out g h = run-append begin (stream_of at) xs ∙ ap (λ o. o >>- λ m. run m xs) g ∙ h
 
-room_is : (at : Standing) (piece front : List ℕ) → Feeds at piece front → length (stream_of at ++ front) ≤ 8388608
-room_is at piece front f = omega (arith, f.fits, ap length f.front_is, length-take (8388608 - length (stream_of at)) piece, length-append (stream_of at) front)
+room_is : (at : Standing) (piece front : List ℕ) → Feeds at piece front → length (stream_of at ++ front) ≤ text_limit
+room_is at piece front f = omega (arith, f.fits, ap length f.front_is, length-take (text_limit - length (stream_of at)) piece, length-append (stream_of at) front)
 
 pub feed_is : (at new : Standing) (piece front : List ℕ) (w : Walked) (t : Bool) → Feeds at piece front → WalkGives at new front (Ok w) (run at front) → ReaderIs (fed_of w t).0 new
 feed_is at new piece front Passed true f w = tt
@@ -109,20 +106,20 @@ feed_is at new piece front (Ended used) t f w = (
 )
 feed_is at new piece front (Failed byte reason) t f w = tt
 
-pub feeds : (at : Standing) (s : Stage) (piece front : List ℕ) (room : ℕ) → ReaderIs s at → s ≡ stage.Open → room ≡ length (stream_of at) → front ≡ take (8388608 - room) piece → Feeds at piece front
+pub feeds : (at : Standing) (s : Stage) (piece front : List ℕ) (room : ℕ) → ReaderIs s at → s ≡ stage.Open → room ≡ length (stream_of at) → front ≡ take (text_limit - room) piece → Feeds at piece front
 feeds at s piece front room i e r k =
     let p : ReaderIs stage.Open at = subst (λ q. ReaderIs q at) e i in
-    record { going = p.0; fits = p.1; front_is = k ∙ ap (λ n. take (8388608 - n) piece) r }
+    record { going = p.0; fits = p.1; front_is = k ∙ ap (λ n. take (text_limit - n) piece) r }
 
 -- nothing came
-pub begin_due : due 8388608 (stream_of begin) ≡ More begin
+pub begin_due : due text_limit (stream_of begin) ≡ More begin
 unfolding due run text_of
 begin_due = refl
 
-pub more_fits : (xs : List ℕ) (at : Standing) → due 8388608 xs ≡ More at → length xs ≤ 8388608
+pub more_fits : (xs : List ℕ) (at : Standing) → due text_limit xs ≡ More at → length xs ≤ text_limit
 unfolding due
-more_fits xs at h = by_test (nat_lt 8388608 (length xs)) refl (run begin (take 8388608 xs)) h where
-  by_test : (t : Bool) → nat_lt 8388608 (length xs) ≡ t → (o : Outcome) → due_by t o ≡ More at → length xs ≤ 8388608
+more_fits xs at h = by_test (nat_lt text_limit (length xs)) refl (run begin (take text_limit xs)) h where
+  by_test : (t : Bool) → nat_lt text_limit (length xs) ≡ t → (o : Outcome) → due_by t o ≡ More at → length xs ≤ text_limit
   by_test true e (Going r) k = absurd cc
   by_test true e (Found s) k = absurd cc
   by_test true e (Refused b r) k = absurd cc

@@ -1,7 +1,6 @@
 -- Which streams hold a trace text, of which trace, and where a text is refused.
-use Rattle.std.proofs.Common.{arith, zero, suc, ◌≡◌, ◌≢◌, ℕ, ◌+◌, ◌-◌, ◌<◌, ◌≤◌, Bool, true, false, cond, ◌==◌, ◌⊎◌, inl, inr, List, [], ◌∷◌, ◌++◌, length, take, drop, nat_lt, IfSome, IfOk, Some, None, Result, Ok, Err, refl, sym, ap, subst, ◌∙◌, append_assoc, append-nil, length-append, take-append-drop}
+use Rattle.std.proofs.Common.{arith, zero, suc, ◌≡◌, ℕ, ◌+◌, ◌<◌, ◌≤◌, Bool, true, false, cond, ◌⊎◌, inl, inr, List, [], ◌∷◌, ◌++◌, length, take, drop, nat_lt, IfSome, IfOk, Some, None, Result, Ok, Err, refl, sym, ap, subst, ◌∙◌, append_assoc, append-nil, length-append, take-append-drop}
 use Rattle.std.specs.declared.option.Option.{Option}
-use Rattle.std.specs.List.{AllByRecursion}
 use Rattle.std.proofs.lemmas.Bool.{eqb-true, cases_lt}
 use Rattle.std.proofs.lemmas.Bool.Decides.{nat_tests}
 use Rattle.std.proofs.lemmas.List.{length-take, take_all, take-append-le}
@@ -13,14 +12,14 @@ use Rattle.bus_trace.specs.declared.place.Place.{Place}
 use Rattle.bus_trace.specs.declared.place.Place.TheVariants.{Start, Headed, Holding, Begun, Stringing, Ended}
 use Rattle.bus_trace.specs.declared.reason.TraceReason.{TraceReason}
 use Rattle.bus_trace.specs.declared.reason.TraceReason.TheVariants.{Long, Ended as CutShort}
-use Rattle.bus_trace.specs.Traces.{Recording, IsTrace, IsTraceText, HoldsTrace, trace_text}
-use Rattle.bus_trace.specs.States.{State, IsSound, start, step, lines_at, text_of, is_ended, recorded}
-use Rattle.bus_trace.specs.Runs.{Standing, Outcome, Going, Found, Refused, Due, More, Whole, Wrong, Large, Reading, Reads, Fails, Passes, judged, take_byte, ◌>>-◌, run, begin, due, due_by, ended_by, reading, stream_of, HasNoFeed}
-use Rattle.bus_trace.specs.Reading.{Gave, Refuses, Complete, Overlong, CutOff, Takes, Decides, TakesTrace, ReadGives, LineRefused, ByLine, ByEnd, LoopGives, Loops}
+use Rattle.bus_trace.specs.Traces.{Recording, IsTrace, HoldsTrace, trace_text, line_limit, text_limit}
+use Rattle.bus_trace.specs.States.{State, IsSound, step, text_of, is_ended, recorded}
+use Rattle.bus_trace.specs.Runs.{Standing, Outcome, Going, Found, Refused, Due, More, Whole, Wrong, Large, Reads, Fails, judged, take_byte, ◌>>-◌, run, begin, due, due_by, ended_by, reading, stream_of, HasNoFeed}
+use Rattle.bus_trace.specs.Reading.{Gave, Refuses, Complete, Overlong, CutOff, TakesTrace, ReadGives}
+use Rattle.bus_trace.specs.Looping.{LineRefused, ByLine, ByEnd, Loops}
 use Rattle.bus_trace.proofs.Steps.{step_adds, step_sound}
-use Rattle.bus_trace.proofs.Runs.{run-append, run-whole_line, run-line}
+use Rattle.bus_trace.proofs.Runs.{run-append, run-whole_line}
 use Rattle.bus_trace.proofs.Walks.{start_sound}
-use Rattle.bus_trace.proofs.Feeds.{begin_due, more_fits}
 use Rattle.bus_trace.proofs.Again.{trace_again}
 
 -- ---- where an end was found, the text of the trace stands at the front
@@ -41,7 +40,7 @@ judged_gives s line (Ok n) h sound = by_end (is_ended n.place) refl where
 
 byte_gives : (r : Standing) (b : ℕ) → IsSound r.state → ByteGives (stream_of r ++ b ∷ []) (take_byte r b)
 unfolding take_byte
-byte_gives r b sound = by_feed (is_feed b) refl (nat_lt (length r.line) 1801) where
+byte_gives r b sound = by_feed (is_feed b) refl (nat_lt (length r.line) line_limit) where
   by_feed : (t : Bool) → is_feed b ≡ t → (u : Bool) → ByteGives (stream_of r ++ b ∷ []) (cond t (judged r.state (step r.state r.line)) (cond u (Going (record { state = r.state; line = r.line ++ b ∷ [] })) (Refused (length (text_of r.state)) Long)))
   by_feed true e u = subst (λ (c : ℕ). ByteGives (stream_of r ++ c ∷ []) (judged r.state (step r.state r.line))) (sym (eqb-true b 10 e)) (judged_gives r.state r.line (step r.state r.line) refl sound)
   by_feed false e true = (sym (append_assoc (text_of r.state) r.line (b ∷ [])), sound)
@@ -141,7 +140,7 @@ whole_holds limit stream s h =
 record Stands (r : Standing) : Type 0 where
   gave : run begin (text_of r.state) ≡ Going (record { state = r.state; line = [] })
   feedless : HasNoFeed r.line
-  short : length r.line ≤ 1801
+  short : length r.line ≤ line_limit
 
 begin_stands : Stands begin
 unfolding text_of run
@@ -174,13 +173,13 @@ stands_judged r n (Ok m) sound i e h = by_end (is_ended m.place) refl h where
 
 stands_byte : (r n : Standing) (b : ℕ) → IsSound r.state → Stands r → take_byte r b ≡ Going n → Stands n
 unfolding take_byte
-stands_byte r n b sound i h = by_feed (is_feed b) refl (nat_lt (length r.line) 1801) refl h where
-  by_feed : (t : Bool) → is_feed b ≡ t → (u : Bool) → nat_lt (length r.line) 1801 ≡ u
+stands_byte r n b sound i h = by_feed (is_feed b) refl (nat_lt (length r.line) line_limit) refl h where
+  by_feed : (t : Bool) → is_feed b ≡ t → (u : Bool) → nat_lt (length r.line) line_limit ≡ u
       → cond t (judged r.state (step r.state r.line)) (cond u (Going (record { state = r.state; line = r.line ++ b ∷ [] })) (Refused (length (text_of r.state)) Long)) ≡ Going n → Stands n
   by_feed true e u f q = stands_judged r n (step r.state r.line) sound i refl q
   by_feed false e true f q =
       subst Stands (going_is (record { state = r.state; line = r.line ++ b ∷ [] }) n q)
-      (record { gave = i.gave; feedless = feedless_push r.line b i.feedless e; short = omega (arith, length-append r.line (b ∷ []), lt_from (length r.line) 1801 f) })
+      (record { gave = i.gave; feedless = feedless_push r.line b i.feedless e; short = omega (arith, length-append r.line (b ∷ []), lt_from (length r.line) line_limit f) })
   by_feed false e false f q = absurd cc
 
 record Goes (r n : Standing) (bytes : List ℕ) : Type 0 where
@@ -256,8 +255,8 @@ refuses_judged r left byte reason (Err why) i e h =
 
 refuses_byte : (r : Standing) (b : ℕ) (left : Option (List ℕ)) (byte : ℕ) (reason : TraceReason) → Stands r → take_byte r b ≡ Refused byte reason → Refuses (stream_of r ++ b ∷ []) left byte reason
 unfolding take_byte
-refuses_byte r b left byte reason i h = by_feed (is_feed b) refl (nat_lt (length r.line) 1801) refl h where
-  by_feed : (t : Bool) → is_feed b ≡ t → (u : Bool) → nat_lt (length r.line) 1801 ≡ u
+refuses_byte r b left byte reason i h = by_feed (is_feed b) refl (nat_lt (length r.line) line_limit) refl h where
+  by_feed : (t : Bool) → is_feed b ≡ t → (u : Bool) → nat_lt (length r.line) line_limit ≡ u
       → cond t (judged r.state (step r.state r.line)) (cond u (Going (record { state = r.state; line = r.line ++ b ∷ [] })) (Refused (length (text_of r.state)) Long)) ≡ Refused byte reason → Refuses (stream_of r ++ b ∷ []) left byte reason
   by_feed true e u f q =
       subst (λ c. Refuses (stream_of r ++ c ∷ []) left byte reason) (sym (eqb-true b 10 e)) (refuses_judged r left byte reason (step r.state r.line) i refl q)
@@ -266,38 +265,38 @@ refuses_byte r b left byte reason i h = by_feed (is_feed b) refl (nat_lt (length
       let length_is : length (text_of r.state) ≡ byte = cc in
       let why : Long ≡ reason = cc in
       Overlong r.state (text_of r.state) (r.line ++ b ∷ []) (append_assoc (text_of r.state) r.line (b ∷ [])) (sym length_is) (gave_is r.state r refl i) (feedless_push r.line b i.feedless e)
-      (omega (arith, length-append r.line (b ∷ []), i.short, ge_from (length r.line) 1801 f)) (sym why)
+      (omega (arith, length-append r.line (b ∷ []), i.short, ge_from (length r.line) line_limit f)) (sym why)
 
 -- what a decided refusal says of the bytes
-wrong_byte : (front : List ℕ) (b : ℕ) (at : Standing) (left : Option (List ℕ)) (byte : ℕ) (reason : TraceReason) → Undecided 8388608 front at → due 8388608 (front ++ b ∷ []) ≡ Wrong byte reason
-    → Refuses (front ++ b ∷ []) left byte reason × (length (front ++ b ∷ []) ≤ 8388608)
+wrong_byte : (front : List ℕ) (b : ℕ) (at : Standing) (left : Option (List ℕ)) (byte : ℕ) (reason : TraceReason) → Undecided text_limit front at → due text_limit (front ++ b ∷ []) ≡ Wrong byte reason
+    → Refuses (front ++ b ∷ []) left byte reason × (length (front ++ b ∷ []) ≤ text_limit)
 unfolding due
-wrong_byte front b at left byte reason u h = by_case (next_byte 8388608 front b at u) where
-  refused : run begin (take 8388608 (front ++ b ∷ [])) ≡ Refused byte reason
-  refused = due_wrong (nat_lt 8388608 (length (front ++ b ∷ []))) (run begin (take 8388608 (front ++ b ∷ []))) byte reason h
+wrong_byte front b at left byte reason u h = by_case (next_byte text_limit front b at u) where
+  refused : run begin (take text_limit (front ++ b ∷ [])) ≡ Refused byte reason
+  refused = due_wrong (nat_lt text_limit (length (front ++ b ∷ []))) (run begin (take text_limit (front ++ b ∷ []))) byte reason h
 
-  by_case : ((length front < 8388608) × (run begin (take 8388608 (front ++ b ∷ [])) ≡ take_byte at b)) ⊎ ((length front ≡ 8388608) × (run begin (take 8388608 (front ++ b ∷ [])) ≡ Going at))
-      → Refuses (front ++ b ∷ []) left byte reason × (length (front ++ b ∷ []) ≤ 8388608)
+  by_case : ((length front < text_limit) × (run begin (take text_limit (front ++ b ∷ [])) ≡ take_byte at b)) ⊎ ((length front ≡ text_limit) × (run begin (take text_limit (front ++ b ∷ [])) ≡ Going at))
+      → Refuses (front ++ b ∷ []) left byte reason × (length (front ++ b ∷ []) ≤ text_limit)
   by_case (inl k) = (
     subst (λ x. Refuses (x ++ b ∷ []) left byte reason) u.stream (refuses_byte at b left byte reason u.stands (sym k.1 ∙ refused)),
     omega (arith, length-append front (b ∷ []), k.0),
   )
   by_case (inr k) = let wrong : Going at ≡ Refused byte reason = sym k.1 ∙ refused in absurd cc
 
-large_byte : (front : List ℕ) (b : ℕ) (at : Standing) → Undecided 8388608 front at → due 8388608 (front ++ b ∷ []) ≡ Large → length (front ++ b ∷ []) ≡ 8388609
+large_byte : (front : List ℕ) (b : ℕ) (at : Standing) → Undecided text_limit front at → due text_limit (front ++ b ∷ []) ≡ Large → length (front ++ b ∷ []) ≡ (text_limit + 1)
 unfolding due
 large_byte front b at u h =
-    let d = due_large (nat_lt 8388608 (length (front ++ b ∷ []))) (run begin (take 8388608 (front ++ b ∷ []))) h in
-    omega (arith, lt_from 8388608 (length (front ++ b ∷ [])) d.0, length-append front (b ∷ []), u.short)
+    let d = due_large (nat_lt text_limit (length (front ++ b ∷ []))) (run begin (take text_limit (front ++ b ∷ []))) h in
+    omega (arith, lt_from text_limit (length (front ++ b ∷ [])) d.0, length-append front (b ∷ []), u.short)
 
 -- ---- the clauses of a read
 refused_takes : (old new : Option (List ℕ)) (bytes : List ℕ) (byte : ℕ) (reason : TraceReason) → Taken old new bytes → LineRefused bytes new byte reason → TakesTrace old new (Err (Text byte reason))
 refused_takes old new bytes byte reason t (ByLine d) =
-    let u = more_is 8388608 d.front d.before d.undecided in
-    let w = wrong_byte d.front d.last d.before new byte reason u (ap (due 8388608) (sym d.parts) ∙ d.decided) in
-    record { bytes = bytes; came = t; known = subst (λ x. Refuses x new byte reason × (length x ≤ 8388608)) (sym d.parts) w }
+    let u = more_is text_limit d.front d.before d.undecided in
+    let w = wrong_byte d.front d.last d.before new byte reason u (ap (due text_limit) (sym d.parts) ∙ d.decided) in
+    record { bytes = bytes; came = t; known = subst (λ x. Refuses x new byte reason × (length x ≤ text_limit)) (sym d.parts) w }
 refused_takes old new bytes byte reason t (ByEnd at d e b r) =
-    let u = more_is 8388608 bytes at d in
+    let u = more_is text_limit bytes at d in
     record {
       bytes = bytes;
       came = t;
@@ -307,14 +306,14 @@ refused_takes old new bytes byte reason t (ByEnd at d e b r) =
 pub loops_takes : (old new : Option (List ℕ)) (result : Result Recording TraceError) → Loops old new result → TakesTrace old new result
 loops_takes old new (Ok trace) l =
     let s : State = l.gives.0 in
-    let w = whole_trace 8388608 l.bytes s l.gives.1 in
+    let w = whole_trace text_limit l.bytes s l.gives.1 in
     let e : text_of s ≡ trace_text trace = w.1 ∙ ap trace_text (sym l.gives.3) in
-    (subst (Taken old new) (l.gives.2 ∙ e) l.came, subst (λ (t : Recording). length (trace_text t) ≤ 8388608) (sym l.gives.3) w.2)
+    (subst (Taken old new) (l.gives.2 ∙ e) l.came, subst (λ (t : Recording). length (trace_text t) ≤ text_limit) (sym l.gives.3) w.2)
 loops_takes old new (Err (Text byte reason)) l = refused_takes old new l.bytes byte reason l.came l.gives
 loops_takes old new (Err TooLarge) l =
     let d = l.gives in
-    let u = more_is 8388608 d.front d.before d.undecided in
-    record { bytes = l.bytes; came = l.came; known = (d, ap length d.parts ∙ large_byte d.front d.last d.before u (ap (due 8388608) (sym d.parts) ∙ d.decided)) }
+    let u = more_is text_limit d.front d.before d.undecided in
+    record { bytes = l.bytes; came = l.came; known = (d, ap length d.parts ∙ large_byte d.front d.last d.before u (ap (due text_limit) (sym d.parts) ∙ d.decided)) }
 loops_takes old new (Err ReadFault) l = record { bytes = l.bytes; came = l.came; known = l.gives }
 loops_takes old new (Err Memory) l = record { bytes = l.bytes; came = l.came; known = l.gives }
 
@@ -358,27 +357,27 @@ told : (xs bytes : List ℕ) (new : Option (List ℕ)) → Taken (Some xs) new b
 told xs bytes None t = absurd cc
 told xs bytes (Some ys) t = (ys, refl, cc)
 
-refused_gives : (xs bytes : List ℕ) (new : Option (List ℕ)) (byte : ℕ) (reason : TraceReason) → Taken (Some xs) new bytes → LineRefused bytes new byte reason → reading 8388608 xs ≡ Fails byte reason
+refused_gives : (xs bytes : List ℕ) (new : Option (List ℕ)) (byte : ℕ) (reason : TraceReason) → Taken (Some xs) new bytes → LineRefused bytes new byte reason → reading text_limit xs ≡ Fails byte reason
 refused_gives xs bytes new byte reason t (ByLine d) =
     let k = told xs bytes new t in
-    ap (reading 8388608) k.2 ∙ ap ended_by (wrong_more 8388608 bytes k.0 byte reason d.decided)
+    ap (reading text_limit) k.2 ∙ ap ended_by (wrong_more text_limit bytes k.0 byte reason d.decided)
 refused_gives xs bytes new byte reason t (ByEnd at d e b r) =
     let k = told xs bytes new t in
     let none : k.0 ≡ [] = subst (λ (m : Option (List ℕ)). IfSome m (λ zs. zs ≡ [])) k.1 e in
-    ap (reading 8388608) (k.2 ∙ ap (λ zs. bytes ++ zs) none ∙ append-nil bytes) ∙ ap ended_by d ∙ ap (λ n. Fails n CutShort) (sym b) ∙ ap (Fails byte) (sym r)
+    ap (reading text_limit) (k.2 ∙ ap (λ zs. bytes ++ zs) none ∙ append-nil bytes) ∙ ap ended_by d ∙ ap (λ n. Fails n CutShort) (sym b) ∙ ap (Fails byte) (sym r)
 
-gives_told : (xs : List ℕ) (new : Option (List ℕ)) (result : Result Recording TraceError) → Loops (Some xs) new result → ReadGives result (reading 8388608 xs)
+gives_told : (xs : List ℕ) (new : Option (List ℕ)) (result : Result Recording TraceError) → Loops (Some xs) new result → ReadGives result (reading text_limit xs)
 gives_told xs new (Ok trace) l =
     let k = told xs l.bytes new l.came in
-    ap (reading 8388608) k.2 ∙ ap ended_by (whole_more 8388608 l.bytes k.0 l.gives.0 l.gives.1) ∙ ap Reads (sym l.gives.3)
+    ap (reading text_limit) k.2 ∙ ap ended_by (whole_more text_limit l.bytes k.0 l.gives.0 l.gives.1) ∙ ap Reads (sym l.gives.3)
 gives_told xs new (Err (Text byte reason)) l = refused_gives xs l.bytes new byte reason l.came l.gives
 gives_told xs new (Err TooLarge) l =
     let k = told xs l.bytes new l.came in
-    ap (reading 8388608) k.2 ∙ ap ended_by (large_more 8388608 l.bytes k.0 l.gives.decided)
+    ap (reading text_limit) k.2 ∙ ap ended_by (large_more text_limit l.bytes k.0 l.gives.decided)
 gives_told xs new (Err ReadFault) l = tt
 gives_told xs new (Err Memory) l = tt
 
-pub loops_exact : (old new : Option (List ℕ)) (result : Result Recording TraceError) → Loops old new result → IfSome old (λ stream. ReadGives result (reading 8388608 stream))
+pub loops_exact : (old new : Option (List ℕ)) (result : Result Recording TraceError) → Loops old new result → IfSome old (λ stream. ReadGives result (reading text_limit stream))
 loops_exact None new result l = tt
 loops_exact (Some xs) new result l = gives_told xs new result l
 
@@ -406,18 +405,18 @@ holds_reads limit stream t h =
     ap (λ x. ended_by (due_by (nat_lt limit (length stream)) (run begin x))) cut.1
     ∙ ap (λ o. ended_by (due_by (nat_lt limit (length stream)) o)) (trace_again t cut.0 h.text.trace)
 
-found_told : (xs : List ℕ) (result : Result Recording TraceError) → ReadGives result (reading 8388608 xs) → IfOk result (HoldsTrace 8388608 xs)
-found_told xs (Ok trace) h = reads_holds 8388608 xs trace h
+found_told : (xs : List ℕ) (result : Result Recording TraceError) → ReadGives result (reading text_limit xs) → IfOk result (HoldsTrace text_limit xs)
+found_told xs (Ok trace) h = reads_holds text_limit xs trace h
 found_told xs (Err e) h = tt
 
-pub exact_found : (old : Option (List ℕ)) (result : Result Recording TraceError) → IfSome old (λ stream. ReadGives result (reading 8388608 stream)) → IfSome old (λ stream. IfOk result (HoldsTrace 8388608 stream))
+pub exact_found : (old : Option (List ℕ)) (result : Result Recording TraceError) → IfSome old (λ stream. ReadGives result (reading text_limit stream)) → IfSome old (λ stream. IfOk result (HoldsTrace text_limit stream))
 exact_found None result h = tt
 exact_found (Some xs) result h = found_told xs result h
 
-pub exact_only : (old : Option (List ℕ)) (result : Result Recording TraceError) → IfSome old (λ stream. ReadGives result (reading 8388608 stream))
-    → IfSome old (λ stream. (t : Recording) → HoldsTrace 8388608 stream t → ReadGives result (Reads t))
+pub exact_only : (old : Option (List ℕ)) (result : Result Recording TraceError) → IfSome old (λ stream. ReadGives result (reading text_limit stream))
+    → IfSome old (λ stream. (t : Recording) → HoldsTrace text_limit stream t → ReadGives result (Reads t))
 exact_only None result h = tt
-exact_only (Some xs) result h = λ t k. subst (ReadGives result) (holds_reads 8388608 xs t k) h
+exact_only (Some xs) result h = λ t k. subst (ReadGives result) (holds_reads text_limit xs t k) h
 
 -- ---- no trace text is a proper front of another
 pub front_is_whole : (t u : Recording) (rest : List ℕ) → IsTrace t → IsTrace u → trace_text u ≡ trace_text t ++ rest → (t ≡ u) × (rest ≡ [])

@@ -1,12 +1,11 @@
 -- Runs over bytes.
-use Rattle.std.proofs.Common.{arith, zero, suc, ◌≡◌, ◌≢◌, ℕ, ◌+◌, ◌<◌, ◌≤◌, Bool, true, false, cond, List, [], ◌∷◌, ◌++◌, length, take, drop, get_or, nat_lt, Result, Ok, Err, refl, sym, ap, ◌∙◌, append_assoc, append-nil, length-append}
-use Rattle.std.specs.List.{AllByRecursion}
+use Rattle.std.proofs.Common.{arith, zero, suc, ◌≡◌, ◌≢◌, ℕ, ◌+◌, ◌<◌, ◌≤◌, Bool, true, false, cond, List, [], ◌∷◌, ◌++◌, length, take, drop, get_or, nat_lt, refl, sym, ap, ◌∙◌, append_assoc, append-nil, length-append}
 use Rattle.std.proofs.lemmas.Bool.Decides.{nat_tests}
 use Rattle.bus_text.specs.Lines.{is_feed}
-use Rattle.bus_trace.specs.declared.reason.TraceReason.{TraceReason}
 use Rattle.bus_trace.specs.declared.reason.TraceReason.TheVariants.{Long}
-use Rattle.bus_trace.specs.States.{State, step, text_of, is_ended}
-use Rattle.bus_trace.specs.Runs.{Standing, Outcome, Going, Found, Refused, judged, take_byte, ◌>>-◌, run, stream_of, HasNoFeed}
+use Rattle.bus_trace.specs.States.{step, text_of}
+use Rattle.bus_trace.specs.Runs.{Standing, Outcome, Going, Found, Refused, judged, take_byte, ◌>>-◌, run, HasNoFeed}
+use Rattle.bus_trace.specs.Traces.{line_limit}
 
 then_assoc : (o : Outcome) (f g : Standing → Outcome) → ((o >>- f) >>- g) ≡ (o >>- λ r. f r >>- g)
 then_assoc (Going r) f g = refl
@@ -33,20 +32,20 @@ ge_is : (a b : ℕ) → b ≤ a → nat_lt a b ≡ false
 ge_is a b h = grind (arith, nat_tests)
 
 -- a byte that is no line feed, within the room of a line
-byte_kept : (r : Standing) (b : ℕ) → is_feed b ≡ false → length r.line < 1801 → take_byte r b ≡ Going (record { state = r.state; line = r.line ++ b ∷ [] })
+byte_kept : (r : Standing) (b : ℕ) → is_feed b ≡ false → length r.line < line_limit → take_byte r b ≡ Going (record { state = r.state; line = r.line ++ b ∷ [] })
 unfolding take_byte
 byte_kept r b h k =
-    ap (λ t. cond t (judged r.state (step r.state r.line)) (cond (nat_lt (length r.line) 1801) (Going (record { state = r.state; line = r.line ++ b ∷ [] })) (Refused (length (text_of r.state)) Long))) h
-    ∙ ap (λ t. cond t (Going (record { state = r.state; line = r.line ++ b ∷ [] })) (Refused (length (text_of r.state)) Long)) (lt_is (length r.line) 1801 k)
+    ap (λ t. cond t (judged r.state (step r.state r.line)) (cond (nat_lt (length r.line) line_limit) (Going (record { state = r.state; line = r.line ++ b ∷ [] })) (Refused (length (text_of r.state)) Long))) h
+    ∙ ap (λ t. cond t (Going (record { state = r.state; line = r.line ++ b ∷ [] })) (Refused (length (text_of r.state)) Long)) (lt_is (length r.line) line_limit k)
 
-byte_long : (r : Standing) (b : ℕ) → is_feed b ≡ false → 1801 ≤ length r.line → take_byte r b ≡ Refused (length (text_of r.state)) Long
+byte_long : (r : Standing) (b : ℕ) → is_feed b ≡ false → line_limit ≤ length r.line → take_byte r b ≡ Refused (length (text_of r.state)) Long
 unfolding take_byte
 byte_long r b h k =
-    ap (λ t. cond t (judged r.state (step r.state r.line)) (cond (nat_lt (length r.line) 1801) (Going (record { state = r.state; line = r.line ++ b ∷ [] })) (Refused (length (text_of r.state)) Long))) h
-    ∙ ap (λ t. cond t (Going (record { state = r.state; line = r.line ++ b ∷ [] })) (Refused (length (text_of r.state)) Long)) (ge_is (length r.line) 1801 k)
+    ap (λ t. cond t (judged r.state (step r.state r.line)) (cond (nat_lt (length r.line) line_limit) (Going (record { state = r.state; line = r.line ++ b ∷ [] })) (Refused (length (text_of r.state)) Long))) h
+    ∙ ap (λ t. cond t (Going (record { state = r.state; line = r.line ++ b ∷ [] })) (Refused (length (text_of r.state)) Long)) (ge_is (length r.line) line_limit k)
 
 -- bytes with no line feed, within the room of a line
-pub run-line : (r : Standing) (xs : List ℕ) → HasNoFeed xs → length r.line + length xs ≤ 1801 → run r xs ≡ Going (record { state = r.state; line = r.line ++ xs })
+pub run-line : (r : Standing) (xs : List ℕ) → HasNoFeed xs → length r.line + length xs ≤ line_limit → run r xs ≡ Going (record { state = r.state; line = r.line ++ xs })
 unfolding run
 run-line r [] h k = ap (λ (l : List ℕ). Going (record { state = r.state; line = l })) (sym (append-nil r.line))
 run-line r (x ∷ xs) h k =
@@ -55,18 +54,18 @@ run-line r (x ∷ xs) h k =
     ∙ run-line n xs h.1 (omega (arith, length-append r.line (x ∷ [])))
     ∙ ap (λ (l : List ℕ). Going (record { state = r.state; line = l })) (append_assoc r.line (x ∷ []) xs)
 
-long_by : (r : Standing) (x : ℕ) (xs : List ℕ) (t : Bool) → is_feed x ≡ false → nat_lt (length r.line) 1801 ≡ t
-    → (length r.line < 1801 → run (record { state = r.state; line = r.line ++ x ∷ [] }) xs ≡ Refused (length (text_of r.state)) Long) → run r (x ∷ xs) ≡ Refused (length (text_of r.state)) Long
+long_by : (r : Standing) (x : ℕ) (xs : List ℕ) (t : Bool) → is_feed x ≡ false → nat_lt (length r.line) line_limit ≡ t
+    → (length r.line < line_limit → run (record { state = r.state; line = r.line ++ x ∷ [] }) xs ≡ Refused (length (text_of r.state)) Long) → run r (x ∷ xs) ≡ Refused (length (text_of r.state)) Long
 unfolding run
 long_by r x xs true h e rest =
-    let room : length r.line < 1801 = grind (arith, nat_tests) in
+    let room : length r.line < line_limit = grind (arith, nat_tests) in
     ap (λ o. o >>- λ m. run m xs) (byte_kept r x h room) ∙ rest room
 long_by r x xs false h e rest =
-    let full : 1801 ≤ length r.line = grind (arith, nat_tests) in
+    let full : line_limit ≤ length r.line = grind (arith, nat_tests) in
     ap (λ o. o >>- λ m. run m xs) (byte_long r x h full)
 
 -- bytes with no line feed, past the room of a line
-pub run-long : (r : Standing) (xs : List ℕ) → HasNoFeed xs → length r.line ≤ 1801 → 1801 < length r.line + length xs → run r xs ≡ Refused (length (text_of r.state)) Long
+pub run-long : (r : Standing) (xs : List ℕ) → HasNoFeed xs → length r.line ≤ line_limit → line_limit < length r.line + length xs → run r xs ≡ Refused (length (text_of r.state)) Long
 run-long r [] h k l = absurd (omega arith)
 run-long r (x ∷ xs) h k l = long_by r x xs _ h.0 refl (λ room. run-long (record { state = r.state; line = r.line ++ x ∷ [] }) xs h.1 (omega (arith, length-append r.line (x ∷ []))) (omega (arith, length-append r.line (x ∷ []))))
 
@@ -79,12 +78,12 @@ run-feed r = back (judged r.state (step r.state r.line)) where
   back (Found s) = refl
   back (Refused b e) = refl
 
-pub run-whole_line : (r : Standing) (xs : List ℕ) → HasNoFeed xs → length r.line + length xs ≤ 1801 → run r (xs ++ 10 ∷ []) ≡ judged r.state (step r.state (r.line ++ xs))
+pub run-whole_line : (r : Standing) (xs : List ℕ) → HasNoFeed xs → length r.line + length xs ≤ line_limit → run r (xs ++ 10 ∷ []) ≡ judged r.state (step r.state (r.line ++ xs))
 run-whole_line r xs h k =
     let n : Standing = record { state = r.state; line = r.line ++ xs } in
     run-append r xs (10 ∷ []) ∙ ap (λ o. o >>- λ m. run m (10 ∷ [])) (run-line r xs h k) ∙ run-feed n
 
-pub run-whole_long : (r : Standing) (xs ys : List ℕ) → HasNoFeed xs → length r.line ≤ 1801 → 1801 < length r.line + length xs → run r (xs ++ ys) ≡ Refused (length (text_of r.state)) Long
+pub run-whole_long : (r : Standing) (xs ys : List ℕ) → HasNoFeed xs → length r.line ≤ line_limit → line_limit < length r.line + length xs → run r (xs ++ ys) ≡ Refused (length (text_of r.state)) Long
 run-whole_long r xs ys h k l = run-append r xs ys ∙ ap (λ o. o >>- λ m. run m ys) (run-long r xs h k l)
 
 -- ---- line feeds by place

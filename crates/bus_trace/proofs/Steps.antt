@@ -1,6 +1,6 @@
 -- What a step adds to the text.
-use Rattle.std.proofs.Common.{arith, zero, suc, ◌≡◌, ℕ, ◌+◌, ◌<◌, ◌≤◌, ◌^◌, Bool, true, false, not, cond, ◌&&◌, ◌==◌, List, [], ◌∷◌, ◌++◌, length, get_or, codes, nat_lt, nat_le, Option, Some, None, Result, Ok, Err, refl, sym, ap, subst, ◌∙◌, append_assoc, append-nil, length-append, slice_index_or, drop, map}
-use Rattle.std.specs.List.{slice_split, join_with_byte, flat_map, list_all, AllByRecursion}
+use Rattle.std.proofs.Common.{arith, zero, suc, ◌≡◌, ℕ, ◌<◌, ◌≤◌, ◌^◌, Bool, true, false, not, cond, ◌&&◌, ◌==◌, List, [], ◌∷◌, ◌++◌, length, get_or, codes, nat_lt, Option, Some, None, Result, Ok, Err, refl, sym, ap, subst, ◌∙◌, append_assoc, append-nil, length-append, drop, map}
+use Rattle.std.specs.List.{flat_map, list_all, AllByRecursion}
 use Rattle.std.specs.Str.{bytes_eq}
 use Rattle.std.specs.Fmt.{decimal}
 use Rattle.std.specs.Int.{is_in_range}
@@ -22,14 +22,14 @@ use Rattle.bus_strings.specs.Messages.{Wordstring, Entry, IsWordstring}
 use Rattle.bus_strings.specs.Transmissions.{IsAscending}
 use Rattle.bus_trace.specs.declared.hold.Hold.{Hold}
 use Rattle.bus_trace.specs.declared.place.Keyword.{Keyword}
-use Rattle.bus_trace.specs.declared.place.Keyword.TheVariants.{Trace, Horizon, HoldOf, Begin, String, End}
+use Rattle.bus_trace.specs.declared.place.Keyword.TheVariants as keyword
 use Rattle.bus_trace.specs.declared.place.Place.{Place}
 use Rattle.bus_trace.specs.declared.place.Place.TheVariants.{Start, Headed, Holding, Begun, Stringing, Ended}
 use Rattle.bus_trace.specs.declared.reason.TraceReason.{TraceReason}
 use Rattle.bus_trace.specs.declared.reason.TraceReason.TheVariants as reason
-use Rattle.bus_trace.specs.Traces.{Line, IsHold, IsBelow, AscendAbove, head_line, horizon_line, hold_line, begin_line, string_line, entry_lines, end_line, body_lines, word_fields}
+use Rattle.bus_trace.specs.Traces.{Line, IsHold, IsBelow, head_line, horizon_line, hold_line, begin_line, string_line, entry_lines, end_line, body_lines, horizon_limit}
 use Rattle.bus_trace.specs.WordFields.{are_spelled, are_even, string_of}
-use Rattle.bus_trace.specs.States.{State, IsSound, PlaceFits, lines_at, lines_of, text_of, keyword_of, last_count, may_follow, may_follow_string, is_space, spaced_fields, field, is_number, number, last_terminal, is_after, with_string, more_list, head_step, horizon_step, hold_step, begin_step, string_step, end_step, form_step, keyword_step, fields_step, step}
+use Rattle.bus_trace.specs.States.{State, IsSound, PlaceFits, lines_at, lines_of, text_of, keyword_of, last_count, may_follow, spaced_fields, field, is_number, number, last_terminal, is_after, with_string, more_list, head_step, horizon_step, hold_step, begin_step, string_step, end_step, form_step, keyword_step, step}
 use Rattle.bus_trace.proofs.Lasts.{length-with_string}
 use Rattle.bus_trace.proofs.Orders.{all_push, lt_from, ascending_push, ascending_with, below_with, terminals_push}
 use Rattle.bus_trace.proofs.WordLists.{string_is}
@@ -117,12 +117,12 @@ at_is (f ∷ fields) (suc k) word h = at_is fields k word h
 -- ---- keywords and places
 -- the text of a keyword
 abbrev pub keyword_text : Keyword → List ℕ
-keyword_text Trace = codes "TRACE"
-keyword_text Horizon = codes "HORIZON"
-keyword_text HoldOf = codes "HOLD"
-keyword_text Begin = codes "TX"
-keyword_text String = codes "WS"
-keyword_text End = codes "END"
+keyword_text keyword.Trace = codes "TRACE"
+keyword_text keyword.Horizon = codes "HORIZON"
+keyword_text keyword.Hold = codes "HOLD"
+keyword_text keyword.Tx = codes "TX"
+keyword_text keyword.Ws = codes "WS"
+keyword_text keyword.End = codes "END"
 
 some_is : (x y : Keyword) → Some x ≡ Some y → x ≡ y
 some_is x y h = cc
@@ -135,10 +135,10 @@ by_keyword f word x rest k w later h = by_test (bytes_eq f word) refl h where
 
 keyword_is : (f : List ℕ) (k : Keyword) → keyword_of f ≡ Some k → f ≡ keyword_text k
 keyword_is f k h =
-    by_keyword f (codes "TRACE") Trace _ k refl (by_keyword f (codes "HORIZON") Horizon _ k refl (by_keyword f (codes "HOLD") HoldOf _ k refl
-    (by_keyword f (codes "TX") Begin _ k refl (by_keyword f (codes "WS") String _ k refl (by_keyword f (codes "END") End None k refl (λ e. absurd cc)))))) h
+    by_keyword f (codes "TRACE") keyword.Trace _ k refl (by_keyword f (codes "HORIZON") keyword.Horizon _ k refl (by_keyword f (codes "HOLD") keyword.Hold _ k refl
+    (by_keyword f (codes "TX") keyword.Tx _ k refl (by_keyword f (codes "WS") keyword.Ws _ k refl (by_keyword f (codes "END") keyword.End None k refl (λ e. absurd cc)))))) h
 
-trace_at : (p : Place) (n : ℕ) → may_follow p n Trace ≡ true → p ≡ Start
+trace_at : (p : Place) (n : ℕ) → may_follow p n keyword.Trace ≡ true → p ≡ Start
 trace_at Start n h = refl
 trace_at Headed n h = absurd cc
 trace_at Holding n h = absurd cc
@@ -146,7 +146,7 @@ trace_at (Begun m t) n h = absurd cc
 trace_at Stringing n h = absurd cc
 trace_at Ended n h = absurd cc
 
-horizon_at : (p : Place) (n : ℕ) → may_follow p n Horizon ≡ true → p ≡ Headed
+horizon_at : (p : Place) (n : ℕ) → may_follow p n keyword.Horizon ≡ true → p ≡ Headed
 horizon_at Start n h = absurd cc
 horizon_at Headed n h = refl
 horizon_at Holding n h = absurd cc
@@ -154,7 +154,7 @@ horizon_at (Begun m t) n h = absurd cc
 horizon_at Stringing n h = absurd cc
 horizon_at Ended n h = absurd cc
 
-hold_at : (p : Place) (n : ℕ) → may_follow p n HoldOf ≡ true → p ≡ Holding
+hold_at : (p : Place) (n : ℕ) → may_follow p n keyword.Hold ≡ true → p ≡ Holding
 hold_at Start n h = absurd cc
 hold_at Headed n h = absurd cc
 hold_at Holding n h = refl
@@ -163,7 +163,7 @@ hold_at Stringing n h = absurd cc
 hold_at Ended n h = absurd cc
 
 -- the lines of a place behind which TX may stand, and END alike
-body_at : (p : Place) (n h : ℕ) (hs : List Hold) (xs : List Entry) → may_follow p n Begin ≡ true → lines_at p h hs xs ≡ body_lines h hs xs
+body_at : (p : Place) (n h : ℕ) (hs : List Hold) (xs : List Entry) → may_follow p n keyword.Tx ≡ true → lines_at p h hs xs ≡ body_lines h hs xs
 body_at Start n h hs xs e = absurd cc
 body_at Headed n h hs xs e = absurd cc
 body_at Holding n h hs xs e = refl
@@ -171,7 +171,7 @@ body_at (Begun m t) n h hs xs e = absurd cc
 body_at Stringing n h hs xs e = refl
 body_at Ended n h hs xs e = absurd cc
 
-end_at : (p : Place) (n : ℕ) → may_follow p n End ≡ true → may_follow p n Begin ≡ true
+end_at : (p : Place) (n : ℕ) → may_follow p n keyword.End ≡ true → may_follow p n keyword.Tx ≡ true
 end_at Start n h = absurd cc
 end_at Headed n h = absurd cc
 end_at Holding n h = refl
@@ -234,8 +234,8 @@ unfolding horizon_step
 horizon_keeps s n fields k p sound h =
     let a = row (length fields == 2) reason.Fields _ _ n h in
     let b = row (is_number fields 1) reason.Spelling _ _ n a.1 in
-    let d = row (is_in_range 0 20000000 (number fields 1)) reason.Range None _ n b.1 in
-    let low = most (number fields 1) 0 20000000 d.0 in
+    let d = row (is_in_range 0 horizon_limit (number fields 1)) reason.Range None _ n b.1 in
+    let low = most (number fields 1) 0 horizon_limit d.0 in
     let none = fits_at s Headed p sound.place in
     let line : horizon_line (number fields 1) ≡ fields = ap (λ (f : List ℕ). codes "HORIZON" ∷ f ∷ []) (decimal_is (field fields 1) b.0 (omega (arith, low))) ∙ ap (λ (f : List ℕ). f ∷ field fields 1 ∷ []) (sym k) ∙ sym (two_fields fields a.0) in
     keeps s n fields Holding (number fields 1) s.holds s.list (done _ n d.1)
@@ -278,7 +278,7 @@ hold_keeps s n fields k p sound h =
       order = sound.order;
     })
 
-begin_keeps : (s n : State) (fields : List (List ℕ)) → field fields 0 ≡ codes "TX" → may_follow s.place (last_count s.list) Begin ≡ true → IsSound s → begin_step s fields ≡ Ok n → Keeps s n fields
+begin_keeps : (s n : State) (fields : List (List ℕ)) → field fields 0 ≡ codes "TX" → may_follow s.place (last_count s.list) keyword.Tx ≡ true → IsSound s → begin_step s fields ≡ Ok n → Keeps s n fields
 unfolding begin_step
 begin_keeps s n fields k p sound h =
     let a = row (length fields == 3) reason.Fields _ _ n h in
@@ -298,7 +298,7 @@ begin_keeps s n fields k p sound h =
     (ap (λ (l : Line). body_lines s.horizon s.holds s.list ++ l ∷ []) line ∙ ap (λ (ls : List Line). ls ++ fields ∷ []) (sym (body_at s.place (last_count s.list) s.horizon s.holds s.list p)))
     (record { place = (below, positive, low, e.0); horizon = sound.horizon; holds = sound.holds; terminals = sound.terminals; list = sound.list; order = sound.order })
 
-end_keeps : (s n : State) (fields : List (List ℕ)) → field fields 0 ≡ codes "END" → may_follow s.place (last_count s.list) End ≡ true → IsSound s → end_step s fields ≡ Ok n → Keeps s n fields
+end_keeps : (s n : State) (fields : List (List ℕ)) → field fields 0 ≡ codes "END" → may_follow s.place (last_count s.list) keyword.End ≡ true → IsSound s → end_step s fields ≡ Ok n → Keeps s n fields
 unfolding end_step
 end_keeps s n fields k p sound h =
     let a = row (length fields == 1) reason.Fields None _ n h in
@@ -314,7 +314,7 @@ record Grows (s : State) (w : Wordstring) : Type 0 where
   list : AllByRecursion (IsBelow s.horizon) (more_list s.place w s.list)
   order : IsAscending (more_list s.place w s.list)
 
-grows : (p : Place) (h : ℕ) (hs : List Hold) (xs : List Entry) (w : Wordstring) → may_follow p (last_count xs) String ≡ true → PlaceFits p h hs xs → AllByRecursion (IsBelow h) xs → IsAscending xs → IsWordstring w
+grows : (p : Place) (h : ℕ) (hs : List Hold) (xs : List Entry) (w : Wordstring) → may_follow p (last_count xs) keyword.Ws ≡ true → PlaceFits p h hs xs → AllByRecursion (IsBelow h) xs → IsAscending xs → IsWordstring w
     → Grows (record { place = p; horizon = h; holds = hs; list = xs }) w
 grows Start h hs xs w m f below order i = absurd cc
 grows Headed h hs xs w m f below order i = absurd cc
@@ -335,7 +335,7 @@ grows Stringing h hs xs w m f below order i = record {
 }
 grows Ended h hs xs w m f below order i = absurd cc
 
-string_keeps : (s n : State) (fields : List (List ℕ)) → field fields 0 ≡ codes "WS" → may_follow s.place (last_count s.list) String ≡ true → IsSound s → string_step s fields ≡ Ok n → Keeps s n fields
+string_keeps : (s n : State) (fields : List (List ℕ)) → field fields 0 ≡ codes "WS" → may_follow s.place (last_count s.list) keyword.Ws ≡ true → IsSound s → string_step s fields ≡ Ok n → Keeps s n fields
 unfolding string_step
 string_keeps s n fields k p sound h =
     let a = row (is_in_range 2 258 (length fields)) reason.Fields _ _ n h in
@@ -350,12 +350,12 @@ string_keeps s n fields k p sound h =
 
 -- ---- a step
 form_keeps : (k : Keyword) (s n : State) (fields : List (List ℕ)) → field fields 0 ≡ keyword_text k → may_follow s.place (last_count s.list) k ≡ true → IsSound s → form_step k s fields ≡ Ok n → Keeps s n fields
-form_keeps Trace s n fields e p sound h = head_keeps s n fields e (trace_at s.place (last_count s.list) p) sound h
-form_keeps Horizon s n fields e p sound h = horizon_keeps s n fields e (horizon_at s.place (last_count s.list) p) sound h
-form_keeps HoldOf s n fields e p sound h = hold_keeps s n fields e (hold_at s.place (last_count s.list) p) sound h
-form_keeps Begin s n fields e p sound h = begin_keeps s n fields e p sound h
-form_keeps String s n fields e p sound h = string_keeps s n fields e p sound h
-form_keeps End s n fields e p sound h = end_keeps s n fields e p sound h
+form_keeps keyword.Trace s n fields e p sound h = head_keeps s n fields e (trace_at s.place (last_count s.list) p) sound h
+form_keeps keyword.Horizon s n fields e p sound h = horizon_keeps s n fields e (horizon_at s.place (last_count s.list) p) sound h
+form_keeps keyword.Hold s n fields e p sound h = hold_keeps s n fields e (hold_at s.place (last_count s.list) p) sound h
+form_keeps keyword.Tx s n fields e p sound h = begin_keeps s n fields e p sound h
+form_keeps keyword.Ws s n fields e p sound h = string_keeps s n fields e p sound h
+form_keeps keyword.End s n fields e p sound h = end_keeps s n fields e p sound h
 
 stands_by : {A : Type 0} (t : Bool) (x y : A) (r : TraceReason) → cond t (Ok x) (Err r) ≡ Ok y → t ≡ true
 stands_by true x y r h = refl

@@ -1,18 +1,18 @@
 -- Walks over pieces.
-use Rattle.std.proofs.Common.{arith, zero, suc, ◌≡◌, ◌≢◌, ℕ, ◌+◌, ◌<◌, ◌≤◌, Bool, true, false, cond, List, [], ◌∷◌, ◌++◌, length, take, drop, get_or, Result, Ok, Err, refl, sym, ap, subst, ◌∙◌, append_assoc, append-nil, length-append}
+use Rattle.std.proofs.Common.{arith, ◌≡◌, ℕ, ◌+◌, ◌<◌, ◌≤◌, Bool, true, false, cond, List, [], ◌∷◌, ◌++◌, length, take, Result, Ok, Err, refl, sym, ap, ◌∙◌, append_assoc, append-nil, length-append}
 use Rattle.std.specs.declared.alloc.AllocError.{AllocError}
 use Rattle.bus_trace.specs.declared.reason.TraceReason.{TraceReason}
 use Rattle.bus_trace.specs.declared.reason.TraceReason.TheVariants.{Long}
 use Rattle.bus_trace.specs.declared.walk.Judged.{Judged}
 use Rattle.bus_trace.specs.declared.walk.Judged.TheVariants.{Passes, Ends, Fails}
-use Rattle.bus_trace.specs.declared.walk.Walked.{Walked}
-use Rattle.bus_trace.specs.declared.walk.Walked.TheVariants.{Passed, Ended, Failed}
+use Rattle.bus_trace.specs.declared.walk.Walked.TheVariants.{Ended}
 use Rattle.bus_trace.specs.States.{State, IsSound, start, step, text_of, is_ended}
-use Rattle.bus_trace.specs.Runs.{Standing, Outcome, Going, Found, Refused, judged, take_byte, ◌>>-◌, run, stream_of, HasNoFeed}
+use Rattle.bus_trace.specs.Runs.{Standing, Going, Found, Refused, judged, ◌>>-◌, run, stream_of, HasNoFeed}
 use Rattle.bus_trace.specs.Walking.{WalkIs, KeepGives, JudgedGives, WalkGives}
 use Rattle.std.proofs.Math.Seq.{take-append_seam}
 use Rattle.bus_trace.proofs.Steps.{step_adds, step_sound}
 use Rattle.bus_trace.proofs.Runs.{run-append, run-line, run-long, run-feed}
+use Rattle.bus_trace.specs.Traces.{line_limit}
 
 pub start_sound : IsSound start
 start_sound = record { place = (refl, refl); horizon = omega arith; holds = tt; terminals = tt; list = tt; order = tt }
@@ -45,10 +45,10 @@ judge_is s n l l' used len w h e q = record {
   short = omega (arith, ap length q);
 }
 
-pub keep_long : (s : State) (l bytes : List ℕ) → HasNoFeed bytes → length l ≤ 1801 → 1801 < length l + length bytes → run (record { state = s; line = l }) bytes ≡ Refused (length (text_of s)) Long
+pub keep_long : (s : State) (l bytes : List ℕ) → HasNoFeed bytes → length l ≤ line_limit → line_limit < length l + length bytes → run (record { state = s; line = l }) bytes ≡ Refused (length (text_of s)) Long
 keep_long s l bytes h k m = run-long (record { state = s; line = l }) bytes h k m
 
-pub keep_gives : (s : State) (l bytes l' : List ℕ) → HasNoFeed bytes → length l + length bytes ≤ 1801 → l' ≡ l ++ bytes
+pub keep_gives : (s : State) (l bytes l' : List ℕ) → HasNoFeed bytes → length l + length bytes ≤ line_limit → l' ≡ l ++ bytes
     → (run (record { state = s; line = l }) bytes ≡ Going (record { state = s; line = l' })) × (text_of s ++ l' ≡ (text_of s ++ l) ++ bytes)
 keep_gives s l bytes l' h k e = (
   run-line (record { state = s; line = l }) bytes h k ∙ ap (λ (x : List ℕ). Going (record { state = s; line = x })) (sym e),

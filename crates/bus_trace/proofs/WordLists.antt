@@ -1,5 +1,5 @@
 -- Fields that are word texts, and the wordstring that they write.
-use Rattle.std.proofs.Common.{arith, ◌≡◌, ℕ, ◌+◌, ◌*◌, ◌/◌, ◌%◌, ◌<◌, ◌≤◌, ◌^◌, Bool, true, false, cond, ◌&&◌, List, [], ◌∷◌, length, drop, map, slice_index_or, is_ok, Ok, Err, Some, None, refl, sym, ap, subst, ◌∙◌, lit<}
+use Rattle.std.proofs.Common.{arith, ◌≡◌, ℕ, ◌+◌, ◌*◌, ◌/◌, ◌%◌, ◌<◌, ◌≤◌, ◌^◌, Bool, true, false, cond, ◌&&◌, List, [], ◌∷◌, length, drop, map, slice_index_or, is_ok, Ok, Err, Some, None, refl, sym, ap, subst, ◌∙◌}
 use Rattle.std.specs.Bool.{beq}
 use Rattle.std.specs.declared.option.Option.{Option}
 use Rattle.std.specs.List.{list_all, AllByRecursion}
@@ -17,7 +17,7 @@ use Rattle.bus_words.specs.Words.{parity, frame, unframe, label_word}
 use Rattle.bus_words.specs.WordTexts.{form, is_of, kept, written_frame, word_text, read_word}
 use Rattle.bus_words.specs.WordTextLaws.{length_of_form, is_of-frame_text, written_frame-frame_text, read_word-word_text, word_text-read_word, word_text-field}
 use Rattle.bus_strings.specs.Messages.{Wordstring, IsWordstring}
-use Rattle.bus_trace.specs.WordFields.{same_kind, is_spelled, is_even, value_of, are_spelled, are_even, string_from, string_of}
+use Rattle.bus_trace.specs.WordFields.{same_kind, is_spelled, is_even, value_of, are_spelled, are_even, string_of}
 use Rattle.bus_trace.specs.Traces.{data_word, word_fields}
 
 -- ---- fields of the code

@@ -2,11 +2,11 @@
 use Rattle.std.specs.Prelude.{◌≡◌, ◌≤◌, ◌<◌, ℕ, Bool, true, false, List, [], ◌++◌, length, take, Result, Ok, Err}
 use Rattle.std.specs.declared.alloc.AllocError.{AllocError}
 use Rattle.bus_trace.specs.States.{text_of, recorded}
-use Rattle.bus_trace.specs.Runs.{Standing, Outcome, Going, Found, Due, More, Whole, Wrong, Large, run, begin, due, stream_of}
+use Rattle.bus_trace.specs.Runs.{Standing, Going, Found, More, Whole, Wrong, Large, run, begin, due, stream_of}
 use Rattle.bus_trace.specs.declared.fault.TraceError.{TraceError}
 use Rattle.bus_trace.specs.declared.fault.TraceError.TheVariants.{Text, ReadFault, TooLarge, Memory}
 use Rattle.bus_trace.specs.declared.reason.TraceReason.TheVariants.{Ended}
-use Rattle.bus_trace.specs.Traces.{Recording}
+use Rattle.bus_trace.specs.Traces.{Recording, text_limit}
 use Rattle.bus_trace.specs.declared.walk.Walked.{Walked}
 use Rattle.bus_trace.specs.declared.walk.Walked.TheVariants.{Passed, Ended as Done, Failed}
 use Rattle.bus_trace.specs.declared.stage.Stage.{Stage}
@@ -28,17 +28,17 @@ pub record Reader : Type 0 where
 
 -- an open reader stands where the stream so far leads; a whole one has found its trace text
 abbrev pub ReaderIs : Stage → Standing → Type 0
-ReaderIs stage.Open at = (run begin (stream_of at) ≡ Going at) × (length (stream_of at) ≤ 8388608)
-ReaderIs stage.Whole at = (run begin (stream_of at) ≡ Found at.state) × (length (stream_of at) ≤ 8388608) × (at.line ≡ [])
+ReaderIs stage.Open at = (run begin (stream_of at) ≡ Going at) × (length (stream_of at) ≤ text_limit)
+ReaderIs stage.Whole at = (run begin (stream_of at) ≡ Found at.state) × (length (stream_of at) ≤ text_limit) × (at.line ≡ [])
 ReaderIs stage.Shut at = Unit {0}
 
 -- what a piece gave is what is due for the stream so far
 abbrev pub FeedGives : Reader → Reader → List ℕ → Result Fed AllocError → Type 0
-FeedGives old new piece (Ok fed.More) = (new.stage ≡ stage.Open) × (due 8388608 (stream_of old.at ++ piece) ≡ More new.at) × (stream_of new.at ≡ stream_of old.at ++ piece)
-FeedGives old new piece (Ok (fed.Whole used)) = (new.stage ≡ stage.Whole) × (due 8388608 (stream_of old.at ++ piece) ≡ Whole new.at.state) × (0 < used) × (used ≤ length piece) × (new.at.line ≡ []) × (stream_of new.at ≡ stream_of old.at ++ take used piece)
-FeedGives old new piece (Ok (fed.Refused byte reason)) = (new.stage ≡ stage.Shut) × (due 8388608 (stream_of old.at ++ piece) ≡ Wrong byte reason)
-FeedGives old new piece (Ok fed.TooLarge) = (new.stage ≡ stage.Shut) × (due 8388608 (stream_of old.at ++ piece) ≡ Large)
-FeedGives old new piece (Err e) = (new.stage ≡ stage.Shut) × (length (stream_of old.at) < 8388608)
+FeedGives old new piece (Ok fed.More) = (new.stage ≡ stage.Open) × (due text_limit (stream_of old.at ++ piece) ≡ More new.at) × (stream_of new.at ≡ stream_of old.at ++ piece)
+FeedGives old new piece (Ok (fed.Whole used)) = (new.stage ≡ stage.Whole) × (due text_limit (stream_of old.at ++ piece) ≡ Whole new.at.state) × (0 < used) × (used ≤ length piece) × (new.at.line ≡ []) × (stream_of new.at ≡ stream_of old.at ++ take used piece)
+FeedGives old new piece (Ok (fed.Refused byte reason)) = (new.stage ≡ stage.Shut) × (due text_limit (stream_of old.at ++ piece) ≡ Wrong byte reason)
+FeedGives old new piece (Ok fed.TooLarge) = (new.stage ≡ stage.Shut) × (due text_limit (stream_of old.at ++ piece) ≡ Large)
+FeedGives old new piece (Err e) = (new.stage ≡ stage.Shut) × (length (stream_of old.at) < text_limit)
 
 -- the end of a stream
 abbrev pub FinishGives : Reader → Result Recording TraceError → Type 0

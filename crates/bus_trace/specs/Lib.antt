@@ -6,5 +6,6 @@ pub mod Gives
 pub mod Walking
 pub mod Feeding
 pub mod Reading
+pub mod Looping
 pub mod Writing
 pub mod TraceLaws

@@ -1,17 +1,16 @@
 -- What a read of a trace text from a source takes, and what it answers.
 --   TakesTrace old new result    which bytes were taken: exactly those of the trace text, or those up to where the refusal is decided
 --   ReadGives result reading     the answer is what the stream reads as, unless a pull failed or memory ran out
--- The limit of a trace text is 8,388,608 bytes.
-use Rattle.std.specs.Prelude.{◌≡◌, ◌≤◌, ℕ, List, [], ◌∷◌, ◌++◌, length, IfSome, Result, Ok, Err}
+use Rattle.std.specs.Prelude.{◌≡◌, ◌≤◌, ◌+◌, ℕ, List, [], ◌∷◌, ◌++◌, length, IfSome, Result, Ok, Err}
 use Rattle.std.specs.declared.option.Option.{Option}
 use Rattle.bus_outer.specs.Sources.{Taken}
 use Rattle.bus_trace.specs.declared.reason.TraceReason.{TraceReason}
 use Rattle.bus_trace.specs.declared.reason.TraceReason.TheVariants.{Ended, Long}
 use Rattle.bus_trace.specs.declared.fault.TraceError.{TraceError}
 use Rattle.bus_trace.specs.declared.fault.TraceError.TheVariants.{Text, ReadFault, TooLarge, Memory}
-use Rattle.bus_trace.specs.Traces.{Recording, trace_text}
-use Rattle.bus_trace.specs.States.{State, step, text_of, recorded}
-use Rattle.bus_trace.specs.Runs.{Standing, Going, Due, More, Whole, Wrong, Large, Reading, Reads, Fails, Passes, HasNoFeed, begin, run, due}
+use Rattle.bus_trace.specs.Traces.{Recording, trace_text, line_limit, text_limit}
+use Rattle.bus_trace.specs.States.{State, step, text_of}
+use Rattle.bus_trace.specs.Runs.{Standing, Going, Due, More, Large, Reading, Reads, Fails, Passes, HasNoFeed, begin, run, due}
 
 -- whole lines that nothing is wrong with, and the state that they give
 pub record Gave (lines : List ℕ) (s : State) : Type 0 where
@@ -22,11 +21,11 @@ pub record Gave (lines : List ℕ) (s : State) : Type 0 where
 -- line feed, its 1,802nd byte where no line feed came before, or the end of the source.
 pub data Refuses (taken : List ℕ) (left : Option (List ℕ)) (byte : ℕ) (reason : TraceReason) : Type 0 where
   Complete : (before : State) (lines line : List ℕ) → taken ≡ lines ++ (line ++ 10 ∷ []) → byte ≡ length lines → Gave lines before
-      → HasNoFeed line → length line ≤ 1801 → step before line ≡ Err reason → Refuses taken left byte reason
+      → HasNoFeed line → length line ≤ line_limit → step before line ≡ Err reason → Refuses taken left byte reason
   Overlong : (before : State) (lines line : List ℕ) → taken ≡ lines ++ line → byte ≡ length lines → Gave lines before
-      → HasNoFeed line → length line ≡ 1802 → reason ≡ Long → Refuses taken left byte reason
+      → HasNoFeed line → length line ≡ (line_limit + 1) → reason ≡ Long → Refuses taken left byte reason
   CutOff : (before : State) (lines line : List ℕ) → taken ≡ lines ++ line → byte ≡ length lines → Gave lines before
-      → HasNoFeed line → length line ≤ 1801 → IfSome left (λ rest. rest ≡ []) → reason ≡ Ended → Refuses taken left byte reason
+      → HasNoFeed line → length line ≤ line_limit → IfSome left (λ rest. rest ≡ []) → reason ≡ Ended → Refuses taken left byte reason
 
 -- bytes that decide, of which one less decides nothing
 pub record Decides (bytes : List ℕ) (d : Due) : Type 0 where
@@ -34,8 +33,8 @@ pub record Decides (bytes : List ℕ) (d : Due) : Type 0 where
   pub last : ℕ
   pub parts : bytes ≡ front ++ last ∷ []
   pub before : Standing
-  pub undecided : due 8388608 front ≡ More before
-  pub decided : due 8388608 bytes ≡ d
+  pub undecided : due text_limit front ≡ More before
+  pub decided : due text_limit bytes ≡ d
 
 -- these bytes came from the source, and so much is known of them
 pub record Takes (old new : Option (List ℕ)) (P : List ℕ → Type 0) : Type 0 where
@@ -43,34 +42,19 @@ pub record Takes (old new : Option (List ℕ)) (P : List ℕ → Type 0) : Type 
   pub came : Taken old new bytes
   pub known : P bytes
 
+-- Ok takes exactly the trace text. A refusal takes up to where it is decided, within the limit. One byte past the limit is taken only
+-- where those before it decide nothing. A failed pull comes before anything is decided.
 abbrev pub TakesTrace : Option (List ℕ) → Option (List ℕ) → Result Recording TraceError → Type 0
-TakesTrace old new (Ok trace) = Taken old new (trace_text trace) × (length (trace_text trace) ≤ 8388608)
-TakesTrace old new (Err (Text byte reason)) = Takes old new (λ bytes. Refuses bytes new byte reason × (length bytes ≤ 8388608))
-TakesTrace old new (Err TooLarge) = Takes old new (λ bytes. Decides bytes Large × (length bytes ≡ 8388609))
-TakesTrace old new (Err ReadFault) = Takes old new (λ bytes. (at : Standing) × (due 8388608 bytes ≡ More at))
-TakesTrace old new (Err Memory) = Takes old new (λ bytes. length bytes ≤ 8388608)
+TakesTrace old new (Ok trace) = Taken old new (trace_text trace) × (length (trace_text trace) ≤ text_limit)
+TakesTrace old new (Err (Text byte reason)) = Takes old new (λ bytes. Refuses bytes new byte reason × (length bytes ≤ text_limit))
+TakesTrace old new (Err TooLarge) = Takes old new (λ bytes. Decides bytes Large × (length bytes ≡ (text_limit + 1)))
+TakesTrace old new (Err ReadFault) = Takes old new (λ bytes. (at : Standing) × (due text_limit bytes ≡ More at))
+TakesTrace old new (Err Memory) = Takes old new (λ bytes. length bytes ≤ text_limit)
 
+-- the answer is this reading; a failed pull and want of memory say nothing of it
 abbrev pub ReadGives : Result Recording TraceError → Reading → Type 0
 ReadGives (Ok trace) reading = reading ≡ Reads trace
 ReadGives (Err (Text byte reason)) reading = reading ≡ Fails byte reason
 ReadGives (Err TooLarge) reading = reading ≡ Passes
 ReadGives (Err ReadFault) reading = Unit {0}
 ReadGives (Err Memory) reading = Unit {0}
-
--- ---- what the loop over the source gives
--- a line is refused, or the source ended before its line feed
-pub data LineRefused (bytes : List ℕ) (left : Option (List ℕ)) (byte : ℕ) (reason : TraceReason) : Type 0 where
-  ByLine : Decides bytes (Wrong byte reason) → LineRefused bytes left byte reason
-  ByEnd : (at : Standing) → due 8388608 bytes ≡ More at → IfSome left (λ rest. rest ≡ []) → byte ≡ length (text_of at.state) → reason ≡ Ended → LineRefused bytes left byte reason
-
-abbrev pub LoopGives : List ℕ → Option (List ℕ) → Result Recording TraceError → Type 0
-LoopGives bytes left (Ok trace) = (s : State) × (due 8388608 bytes ≡ Whole s) × (bytes ≡ text_of s) × (trace ≡ recorded s)
-LoopGives bytes left (Err (Text byte reason)) = LineRefused bytes left byte reason
-LoopGives bytes left (Err TooLarge) = Decides bytes Large
-LoopGives bytes left (Err ReadFault) = (at : Standing) × (due 8388608 bytes ≡ More at)
-LoopGives bytes left (Err Memory) = length bytes ≤ 8388608
-
-pub record Loops (old new : Option (List ℕ)) (result : Result Recording TraceError) : Type 0 where
-  pub bytes : List ℕ
-  pub came : Taken old new bytes
-  pub gives : LoopGives bytes new result

@@ -3,12 +3,12 @@
 --   run        where bytes lead from a standing: they go on, they found the END line, or a line was refused
 --   due        what a stream gives, of which no more bytes than a limit are looked at
 --   reading    what a stream reads as, where no more of it comes
-use Rattle.std.specs.Prelude.{ℕ, ◌+◌, Bool, true, false, nat_lt, List, [], ◌∷◌, ◌++◌, length, take, ◌≡◌, Result, Ok, Err, if◌then◌else◌}
+use Rattle.std.specs.Prelude.{ℕ, Bool, false, nat_lt, List, [], ◌∷◌, ◌++◌, length, take, ◌≡◌, Result, Ok, Err, if◌then◌else◌}
 use Rattle.std.specs.List.{AllByRecursion}
 use Rattle.bus_text.specs.Lines.{is_feed}
 use Rattle.bus_trace.specs.declared.reason.TraceReason.{TraceReason}
 use Rattle.bus_trace.specs.declared.reason.TraceReason.TheVariants.{Long, Ended}
-use Rattle.bus_trace.specs.Traces.{Recording}
+use Rattle.bus_trace.specs.Traces.{Recording, line_limit}
 use Rattle.bus_trace.specs.States.{State, start, step, text_of, is_ended, recorded}
 
 pub record Standing : Type 0 where
@@ -33,7 +33,7 @@ HasNoFeed bytes = AllByRecursion (λ b. is_feed b ≡ false) bytes
 unfoldable pub take_byte : Standing → ℕ → Outcome
 take_byte r b =
     if is_feed b then judged r.state (step r.state r.line)
-    else if nat_lt (length r.line) 1801 then Going (record { state = r.state; line = r.line ++ b ∷ [] })
+    else if nat_lt (length r.line) line_limit then Going (record { state = r.state; line = r.line ++ b ∷ [] })
     else Refused (length (text_of r.state)) Long
 
 infixl 10 ◌>>-◌

@@ -3,7 +3,7 @@
 --   state     the place, and the values read; a TX line alone stands in the place, until its first WS line comes
 --   step      the state after one line more, or the reason for which that line is refused: the first reason of its form's rows that applies
 -- A line is split at each single space, so a doubled, leading or trailing space makes an empty field.
-use Rattle.std.specs.Prelude.{ℕ, ◌^◌, Bool, true, false, not, ◌&&◌, ◌||◌, ◌==◌, nat_le, nat_lt, ◌≡◌, ◌<◌, ◌≤◌, List, [], ◌∷◌, ◌++◌, length, codes, Option, Some, None, Result, Ok, Err, slice_index_or, drop, if◌then◌else◌}
+use Rattle.std.specs.Prelude.{ℕ, ◌^◌, Bool, true, false, not, ◌&&◌, ◌||◌, ◌==◌, nat_lt, ◌≡◌, ◌<◌, ◌≤◌, List, [], ◌∷◌, ◌++◌, length, codes, Option, Some, None, Result, Err, slice_index_or, drop, if◌then◌else◌}
 use Rattle.std.specs.List.{slice_split, AllByRecursion}
 use Rattle.std.specs.Int.{is_in_range}
 use Rattle.std.specs.Str.{bytes_eq}
@@ -15,12 +15,12 @@ use Rattle.bus_strings.specs.Messages.{Wordstring, Entry}
 use Rattle.bus_strings.specs.Transmissions.{IsAscending}
 use Rattle.bus_trace.specs.declared.hold.Hold.{Hold}
 use Rattle.bus_trace.specs.declared.place.Keyword.{Keyword}
-use Rattle.bus_trace.specs.declared.place.Keyword.TheVariants.{Trace, Horizon, HoldOf, Begin, String, End}
+use Rattle.bus_trace.specs.declared.place.Keyword.TheVariants as keyword
 use Rattle.bus_trace.specs.declared.place.Place.{Place}
 use Rattle.bus_trace.specs.declared.place.Place.TheVariants.{Start, Headed, Holding, Begun, Stringing, Ended}
 use Rattle.bus_trace.specs.declared.reason.TraceReason.{TraceReason}
 use Rattle.bus_trace.specs.declared.reason.TraceReason.TheVariants as reason
-use Rattle.bus_trace.specs.Traces.{Recording, Line, IsHold, IsBelow, AscendAbove, head_line, begin_line, end_line, body_lines}
+use Rattle.bus_trace.specs.Traces.{Recording, Line, IsHold, IsBelow, AscendAbove, head_line, begin_line, end_line, body_lines, horizon_limit}
 use Rattle.bus_trace.specs.WordFields.{are_spelled, are_even, string_of}
 
 pub record State : Type 0 where
@@ -54,12 +54,12 @@ text_of s = spelled_lines (lines_of s)
 -- the keyword that a field is
 abbrev pub keyword_of : List ℕ → Option Keyword
 keyword_of field =
-    if bytes_eq field (codes "TRACE") then Some Trace
-    else if bytes_eq field (codes "HORIZON") then Some Horizon
-    else if bytes_eq field (codes "HOLD") then Some HoldOf
-    else if bytes_eq field (codes "TX") then Some Begin
-    else if bytes_eq field (codes "WS") then Some String
-    else if bytes_eq field (codes "END") then Some End
+    if bytes_eq field (codes "TRACE") then Some keyword.Trace
+    else if bytes_eq field (codes "HORIZON") then Some keyword.Horizon
+    else if bytes_eq field (codes "HOLD") then Some keyword.Hold
+    else if bytes_eq field (codes "TX") then Some keyword.Tx
+    else if bytes_eq field (codes "WS") then Some keyword.Ws
+    else if bytes_eq field (codes "END") then Some keyword.End
     else None
 
 -- how many wordstrings the last transmission has
@@ -70,27 +70,27 @@ last_count (first ∷ next ∷ others) = last_count (next ∷ others)
 
 -- whether the keyword may stand behind a WS line, whose transmission has so many of them
 abbrev pub may_follow_string : ℕ → Keyword → Bool
-may_follow_string count Trace = false
-may_follow_string count Horizon = false
-may_follow_string count HoldOf = false
-may_follow_string count Begin = true
-may_follow_string count String = nat_lt count 31
-may_follow_string count End = true
+may_follow_string count keyword.Trace = false
+may_follow_string count keyword.Horizon = false
+may_follow_string count keyword.Hold = false
+may_follow_string count keyword.Tx = true
+may_follow_string count keyword.Ws = nat_lt count 31
+may_follow_string count keyword.End = true
 
 -- TRACE comes first, HORIZON behind it, then the HOLD lines; behind these and behind each transmission come TX or END; behind TX comes WS
 abbrev pub may_follow : Place → ℕ → Keyword → Bool
-may_follow Start count Trace = true
-may_follow Start count keyword = false
-may_follow Headed count Horizon = true
-may_follow Headed count keyword = false
-may_follow Holding count HoldOf = true
-may_follow Holding count Begin = true
-may_follow Holding count End = true
-may_follow Holding count keyword = false
-may_follow (Begun moment terminal) count String = true
-may_follow (Begun moment terminal) count keyword = false
-may_follow Stringing count keyword = may_follow_string count keyword
-may_follow Ended count keyword = false
+may_follow Start count keyword.Trace = true
+may_follow Start count k = false
+may_follow Headed count keyword.Horizon = true
+may_follow Headed count k = false
+may_follow Holding count keyword.Hold = true
+may_follow Holding count keyword.Tx = true
+may_follow Holding count keyword.End = true
+may_follow Holding count k = false
+may_follow (Begun moment terminal) count keyword.Ws = true
+may_follow (Begun moment terminal) count k = false
+may_follow Stringing count k = may_follow_string count k
+may_follow Ended count k = false
 
 abbrev pub is_ended : Place → Bool
 is_ended Start = false
@@ -154,7 +154,7 @@ horizon_step s fields =
     unless (first_of (
     (not (length fields == 2), reason.Fields)
     ∷ (not (is_number fields 1), reason.Spelling)
-    ∷ (not (is_in_range 0 20000000 (number fields 1)), reason.Range)
+    ∷ (not (is_in_range 0 horizon_limit (number fields 1)), reason.Range)
     ∷ []))
     (record { place = Holding; horizon = number fields 1; holds = s.holds; list = s.list })
 
@@ -194,17 +194,17 @@ end_step s fields =
 
 -- a line of the form that a keyword begins
 abbrev pub form_step : Keyword → State → List (List ℕ) → Result State TraceReason
-form_step Trace s fields = head_step s fields
-form_step Horizon s fields = horizon_step s fields
-form_step HoldOf s fields = hold_step s fields
-form_step Begin s fields = begin_step s fields
-form_step String s fields = string_step s fields
-form_step End s fields = end_step s fields
+form_step keyword.Trace s fields = head_step s fields
+form_step keyword.Horizon s fields = horizon_step s fields
+form_step keyword.Hold s fields = hold_step s fields
+form_step keyword.Tx s fields = begin_step s fields
+form_step keyword.Ws s fields = string_step s fields
+form_step keyword.End s fields = end_step s fields
 
 -- a line whose first field is a keyword, or none
 abbrev pub keyword_step : Option Keyword → State → List (List ℕ) → Result State TraceReason
 keyword_step None s fields = Err reason.Keyword
-keyword_step (Some keyword) s fields = if may_follow s.place (last_count s.list) keyword then form_step keyword s fields else Err reason.Keyword
+keyword_step (Some k) s fields = if may_follow s.place (last_count s.list) k then form_step k s fields else Err reason.Keyword
 
 abbrev pub fields_step : State → List (List ℕ) → Result State TraceReason
 fields_step s fields = keyword_step (keyword_of (field fields 0)) s fields
@@ -233,7 +233,7 @@ PlaceFits Ended horizon holds list = Unit {0}
 
 pub record IsSound (s : State) : Type 0 where
   pub place : PlaceFits s.place s.horizon s.holds s.list
-  pub horizon : s.horizon ≤ 20000000
+  pub horizon : s.horizon ≤ horizon_limit
   pub holds : AllByRecursion IsHold s.holds
   pub terminals : AscendAbove 0 s.holds
   pub list : AllByRecursion (IsBelow s.horizon) s.list

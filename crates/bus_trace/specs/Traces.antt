@@ -14,6 +14,19 @@ use Rattle.bus_strings.specs.Messages.{Wordstring, Entry, IsMessage}
 use Rattle.bus_strings.specs.Transmissions.{IsAscending}
 use Rattle.bus_trace.specs.declared.hold.Hold.{Hold}
 
+-- ---- the limits of this project's profile
+-- the greatest horizon, in bit times from the settled start
+abbrev pub horizon_limit : ℕ
+horizon_limit = 20000000
+
+-- the most bytes of a text
+abbrev pub text_limit : ℕ
+text_limit = 8388608
+
+-- the most bytes of a line before its line feed
+abbrev pub line_limit : ℕ
+line_limit = 1801
+
 pub record Recording : Type 0 where
   pub horizon : ℕ
   pub holds : List Hold
@@ -41,7 +54,7 @@ pub record IsBelow (horizon : ℕ) (x : Entry) : Type 0 where
 -- The horizon is within its limit; the holds ascend strictly by terminal; the list ascends strictly by moment, then terminal, and
 -- all of it lies below the horizon.
 pub record IsTrace (t : Recording) : Type 0 where
-  pub horizon : t.horizon ≤ 20000000
+  pub horizon : t.horizon ≤ horizon_limit
   pub holds : AllByRecursion IsHold t.holds
   pub terminals : AscendAbove 0 t.holds
   pub list : AllByRecursion (IsBelow t.horizon) t.list

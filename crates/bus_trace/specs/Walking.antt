@@ -7,8 +7,8 @@ use Rattle.bus_trace.specs.declared.walk.Judged.{Judged}
 use Rattle.bus_trace.specs.declared.walk.Judged.TheVariants.{Passes, Ends, Fails}
 use Rattle.bus_trace.specs.declared.walk.Walked.{Walked}
 use Rattle.bus_trace.specs.declared.walk.Walked.TheVariants.{Passed, Ended, Failed}
-use Rattle.bus_trace.specs.declared.reason.TraceReason.{TraceReason}
 use Rattle.bus_trace.specs.declared.reason.TraceReason.TheVariants.{Long}
+use Rattle.bus_trace.specs.Traces.{line_limit}
 
 -- ---- bytes that a walk takes
 -- what a call gave on bytes of one line: they are kept, or they pass the room of a line
@@ -34,4 +34,4 @@ WalkGives old new piece (Err e) out = 0 < length piece
 pub record WalkIs (state : State) (line : List ℕ) (used : ℕ) : Type 0 where
   pub sound : IsSound state
   pub used_is : used ≡ length (text_of state)
-  pub short : length line ≤ 1801
+  pub short : length line ≤ line_limit

@@ -1,5 +1,5 @@
 -- The text of a trace as it is put, field by field. That this is the text of the trace is `put_is` of `proofs/WriteTexts`.
-use Rattle.std.specs.Prelude.{ℕ, List, [], ◌++◌, codes, decimal}
+use Rattle.std.specs.Prelude.{ℕ, List, ◌++◌, codes, decimal}
 use Rattle.std.specs.List.{flat_map}
 use Rattle.bus_words.specs.declared.word.Word.{Word}
 use Rattle.bus_words.specs.Words.{label_word}

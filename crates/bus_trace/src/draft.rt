@@ -2,6 +2,7 @@ ghost use Rattle.std.specs.Prelude.{◌≡◌, ◌<◌, ◌≤◌, true, length}
 ghost use Rattle.bus_text.specs.Entries.{texts};
 ghost use Rattle.bus_trace.specs.Gives.{StepGives};
 ghost use Rattle.bus_trace.specs.States.{IsSound, TakesString, start, recorded, last_count as count_of, is_ended as ended_test, may_follow as may_stand, head_step, horizon_step, hold_step, begin_step, string_step, end_step, form_step, fields_step, step};
+ghost use Rattle.bus_trace.specs.Traces.{horizon_limit};
 
 use crate::fault::LineFault;
 use crate::fields::{below, bounded, fields, is_plain};
@@ -111,7 +112,7 @@ impl Draft {
 
     #[tactic(auto, unfolding(crate::specs::States::begin_step))]
     fn take_begin(&mut self, fields: &[&[u8]]) -> Result<(), LineFault>
-        requires { self.old.horizon ≤ 20000000 }
+        requires { self.old.horizon ≤ horizon_limit }
         ensures { StepGives self.old self.new result (begin_step self.old (texts fields.now)) }
     {
         if fields.len() != 3 {
@@ -182,9 +183,9 @@ impl Draft {
         match keyword {
             Keyword::Trace => self.take_head(fields),
             Keyword::Horizon => self.take_horizon(fields),
-            Keyword::HoldOf => self.take_hold(fields),
-            Keyword::Begin => self.take_begin(fields),
-            Keyword::String => self.take_string(alloc, fields),
+            Keyword::Hold => self.take_hold(fields),
+            Keyword::Tx => self.take_begin(fields),
+            Keyword::Ws => self.take_string(alloc, fields),
             Keyword::End => self.take_end(fields),
         }
     }

@@ -18,9 +18,9 @@ const END: &[u8] = b"END";
 pub(crate) enum Keyword {
     Trace,
     Horizon,
-    HoldOf,
-    Begin,
-    String,
+    Hold,
+    Tx,
+    Ws,
     End,
 }
 
@@ -50,11 +50,11 @@ pub(crate) fn keyword_of(field: &[u8]) -> Option<Keyword>
     } else if field == HORIZON {
         Some(Keyword::Horizon)
     } else if field == HOLD {
-        Some(Keyword::HoldOf)
+        Some(Keyword::Hold)
     } else if field == TX {
-        Some(Keyword::Begin)
+        Some(Keyword::Tx)
     } else if field == WS {
-        Some(Keyword::String)
+        Some(Keyword::Ws)
     } else if field == END {
         Some(Keyword::End)
     } else {
@@ -67,9 +67,9 @@ fn may_follow_string(count: usize, keyword: Keyword) -> bool
     ensures { result ≡ may_stand_behind count keyword }
 {
     match keyword {
-        Keyword::String => count < 31,
-        Keyword::Begin | Keyword::End => true,
-        Keyword::Trace | Keyword::Horizon | Keyword::HoldOf => false,
+        Keyword::Ws => count < 31,
+        Keyword::Tx | Keyword::End => true,
+        Keyword::Trace | Keyword::Horizon | Keyword::Hold => false,
     }
 }
 
@@ -80,8 +80,8 @@ pub(crate) fn may_follow(place: Place, count: usize, keyword: Keyword) -> bool
     match place {
         Place::Start => matches!(keyword, Keyword::Trace),
         Place::Headed => matches!(keyword, Keyword::Horizon),
-        Place::Holding => matches!(keyword, Keyword::HoldOf | Keyword::Begin | Keyword::End),
-        Place::Begun { .. } => matches!(keyword, Keyword::String),
+        Place::Holding => matches!(keyword, Keyword::Hold | Keyword::Tx | Keyword::End),
+        Place::Begun { .. } => matches!(keyword, Keyword::Ws),
         Place::Stringing => may_follow_string(count, keyword),
         Place::Ended => false,
     }

@@ -1,8 +1,9 @@
 ghost use Rattle.std.specs.Prelude.{◌≡◌, ◌≤◌, IfOk, IfSome, IsErrOf};
 ghost use Rattle.bus_outer.specs.Faults.{Rose};
 ghost use Rattle.bus_trace.specs.Runs.{Reads, reading};
-ghost use Rattle.bus_trace.specs.Reading.{TakesTrace, ReadGives, Loops};
-ghost use Rattle.bus_trace.specs.Traces.{Recording, IsTrace, HoldsTrace};
+ghost use Rattle.bus_trace.specs.Reading.{TakesTrace, ReadGives};
+ghost use Rattle.bus_trace.specs.Looping.{Loops};
+ghost use Rattle.bus_trace.specs.Traces.{Recording, IsTrace, HoldsTrace, text_limit};
 
 use crate::fault::TraceError;
 use crate::reader::TraceReader;
@@ -21,11 +22,11 @@ pub fn read_trace<S: Source>(alloc: Global, source: &mut S) -> Result<Trace, Tra
     // The bytes taken are exactly those of the trace text, or those up to where the refusal is decided.
     ensures taken { TakesTrace (S.left source.old) (S.left source.new) result }
     // The answer is what the source's bytes read as, unless a pull failed or memory ran out.
-    ensures exact { IfSome (S.left source.old) (λ stream. ReadGives result (reading 8388608 stream)) }
+    ensures exact { IfSome (S.left source.old) (λ stream. ReadGives result (reading text_limit stream)) }
     // What was read stands at the front of the source, within the limit.
-    ensures found { IfSome (S.left source.old) (λ stream. IfOk result (HoldsTrace 8388608 stream)) }
+    ensures found { IfSome (S.left source.old) (λ stream. IfOk result (HoldsTrace text_limit stream)) }
     // A trace text that stands there is read, unless a pull failed or memory ran out.
-    ensures only { IfSome (S.left source.old) (λ stream. (t : Recording) → HoldsTrace 8388608 stream t → ReadGives result (Reads t)) }
+    ensures only { IfSome (S.left source.old) (λ stream. (t : Recording) → HoldsTrace text_limit stream t → ReadGives result (Reads t)) }
     ensures ranges { IfOk result IsTrace }
     ensures later { S.faults source.old ≤ S.faults source.new }
     ensures fault { IsErrOf result TraceError.ReadFault → Rose (S.faults source.old) (S.faults source.new) }

@@ -1,4 +1,4 @@
-use Rattle.std.proofs.Common.{◌-◌, arith, sym, vec_len, length, ap}
+use Rattle.std.proofs.Common.{◌-◌, arith, vec_len, length, ap}
 use Rattle.bus_strings.specs.Messages.{Entry}
 use Rattle.bus_trace.proofs.Lasts.{last_count_is, set_last_string}
 use Rattle.bus_trace.proofs.list.add_string.Goals as goal

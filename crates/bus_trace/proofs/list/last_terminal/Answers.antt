@@ -1,4 +1,4 @@
-use Rattle.std.proofs.Common.{◌-◌, arith, sym, length, ◌∙◌}
+use Rattle.std.proofs.Common.{◌-◌, arith, length}
 use Rattle.bus_trace.proofs.Lasts.{last_is}
 use Rattle.bus_trace.proofs.list.last_terminal.Goals as goal
 

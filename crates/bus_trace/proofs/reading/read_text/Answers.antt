@@ -1,9 +1,9 @@
-use Rattle.std.proofs.Common.{arith, ◌≡◌, length, sym, ap, subst, refl, Ok, Err, List, ℕ, ◌∙◌, length-append}
+use Rattle.std.proofs.Common.{arith, subst, Ok, length-append}
 use Rattle.std.proofs.lemmas.Result.{err_from_is_err_and}
 use Rattle.bus_trace.specs.Runs.{stream_of}
 use Rattle.bus_trace.specs.Feeding.{FeedGives}
 use Rattle.bus_trace.specs.declared.stage.Fed.{Fed}
-use Rattle.bus_trace.proofs.Readings.{begins_reading, pulled, whole_reads, end_reads, fault_reads, refused_reads, large_reads, memory_reads, memory_first}
+use Rattle.bus_trace.proofs.Readings.{begins_reading, pulled, whole_reads, end_reads, refused_reads, large_reads, memory_reads, memory_first}
 use Rattle.bus_trace.proofs.reading.read_text.Goals as goal
 
 pub bytes-init : goal.bytes-init

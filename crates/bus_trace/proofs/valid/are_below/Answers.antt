@@ -1,4 +1,4 @@
-use Rattle.std.proofs.Common.{◌≡◌, ◌<◌, ℕ, true, take, subst, sym, ap, ◌∙◌, arith}
+use Rattle.std.proofs.Common.{◌≡◌, true, take, subst, sym, ap, ◌∙◌, arith}
 use Rattle.bus_strings.specs.Messages.{Entry}
 use Rattle.bus_trace.specs.Traces.{IsBelow}
 use Rattle.bus_trace.specs.States.{is_after}

@@ -1,4 +1,4 @@
-use Rattle.std.proofs.Common.{arith, length, get_or}
+use Rattle.std.proofs.Common.{arith}
 use Rattle.bus_trace.specs.declared.hold.Hold.{Hold}
 use Rattle.bus_trace.specs.Traces.{IsHold}
 use Rattle.bus_trace.proofs.Orders.{holds_more, all_at, terminal_at}

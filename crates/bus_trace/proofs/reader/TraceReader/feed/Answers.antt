@@ -1,9 +1,9 @@
 use Rattle.std.proofs.Common.{◌≡◌, ◌∙◌, sym, ap, subst, refl, length, nat_lt, Ok}
-use Rattle.bus_trace.specs.Feeding.{Reader, ReaderIs, FeedGives, fed_of}
+use Rattle.bus_trace.specs.Feeding.{Reader, ReaderIs, FeedGives}
 use Rattle.bus_trace.specs.declared.stage.Stage.{Stage}
 use Rattle.bus_trace.specs.declared.stage.Fed.{Fed}
 use Rattle.bus_trace.specs.declared.stage.Stage.TheVariants.{Open}
-use Rattle.bus_trace.proofs.Feeds.{Feeds, feeds, feed_gives, feed_is}
+use Rattle.bus_trace.proofs.Feeds.{feeds, feed_gives, feed_is}
 use Rattle.bus_trace.proofs.reader.TraceReader.feed.Goals as goal
 
 pub invariant_of-self-2 : goal.invariant_of-self-2

@@ -1,9 +1,8 @@
-use Rattle.std.proofs.Common.{◌≡◌, ◌++◌, arith, length, subst, refl, List, ℕ, [], ◌∷◌, ap, sym, ◌∙◌, Ok, Err}
-use Rattle.bus_trace.specs.declared.walk.Judged.TheVariants.{Passes, Ends, Fails}
-use Rattle.bus_trace.specs.States.{text_of, step}
-use Rattle.bus_trace.specs.Runs.{Standing, Going, Refused, run, judged, stream_of}
+use Rattle.std.proofs.Common.{arith, subst, [], ◌∷◌, ap, sym, ◌∙◌, Ok}
+use Rattle.bus_trace.specs.States.{step}
+use Rattle.bus_trace.specs.Runs.{Standing, judged}
 use Rattle.bus_trace.specs.Walking.{JudgedGives}
-use Rattle.bus_trace.proofs.Walks.{judge_gives, judge_is, judge_fails}
+use Rattle.bus_trace.proofs.Walks.{judge_gives, judge_is}
 use Rattle.bus_trace.proofs.walk.Walk.judge.Goals as goal
 
 pub invariant_of-self-2 : goal.invariant_of-self-2

@@ -1,4 +1,4 @@
-use Rattle.std.proofs.Common.{◌≡◌, ◌++◌, arith, length, subst, refl, List, ℕ}
+use Rattle.std.proofs.Common.{◌≡◌, ◌++◌, arith, length, subst, refl}
 use Rattle.bus_trace.specs.declared.reason.TraceReason.TheVariants.{Long}
 use Rattle.bus_trace.specs.States.{text_of}
 use Rattle.bus_trace.specs.Runs.{Standing, Going, Refused, run, stream_of}
