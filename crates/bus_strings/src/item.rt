@@ -37,7 +37,8 @@ fn strings(
 ) -> Result<Vec<Vec<u16>>, LineFault>
     ensures { LineGives (λ v. numbers v.items) result (if are_spelled fields.entry then Ok (strings_of fields.entry) else Err Spelling) }
 {
-    let mut strings = Vec::new(alloc);
+    // Most items have one wordstring.
+    let mut strings = Vec::with_capacity(alloc, 1)?;
     words.clear();
     for field in fields {
         if field == COLON {
