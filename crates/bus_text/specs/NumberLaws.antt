@@ -69,17 +69,17 @@ decimal_field n small =
 
 -- ---- hexadecimal digits
 -- a hexadecimal digit has a value below 16
-pub hex_digit : (c : ℕ) → is_ascii_hexdigit c ≡ true → digit_value c < 16
-hex_digit c h = grind (arith, nat_tests)
+pub hex_value-lt : (c : ℕ) → is_ascii_hexdigit c ≡ true → digit_value c < 16
+hex_value-lt c h = grind (arith, nat_tests)
 
 -- hexadecimal digits have values below 16
-pub hex_digits : (field : List ℕ) → list_all is_ascii_hexdigit field ≡ true → AllDigits 16 field
-hex_digits [] h = tt
-hex_digits (c ∷ cs) h = let p = and_parts (is_ascii_hexdigit c) (list_all is_ascii_hexdigit cs) h in (hex_digit c p.0, hex_digits cs p.1)
+pub hex_values-lt : (field : List ℕ) → list_all is_ascii_hexdigit field ≡ true → AllDigits 16 field
+hex_values-lt [] h = tt
+hex_values-lt (c ∷ cs) h = let p = and_parts (is_ascii_hexdigit c) (list_all is_ascii_hexdigit cs) h in (hex_value-lt c p.0, hex_values-lt cs p.1)
 
 -- so many digits write a number below that power of 16
 pub hexadecimal_value-lt : (count : ℕ) (field : List ℕ) → is_hexadecimal count field ≡ true → hexadecimal_value field < 16 ^ count
 hexadecimal_value-lt count field h =
     let p = and_parts (length field == count) (list_all is_ascii_hexdigit field) h in
     let e : length field ≡ count = eqb-true _ _ p.0 in
-    subst (λ (n : ℕ). digits_value 16 field < 16 ^ n) e (digits_value-lt 16 field (hex_digits field p.1))
+    subst (λ (n : ℕ). digits_value 16 field < 16 ^ n) e (digits_value-lt 16 field (hex_values-lt field p.1))
