@@ -1,10 +1,12 @@
 -- What the edge does to the file that it reads and to the writer that it writes to, where these tell their bytes.
 --
---   PullsFile remaining old new pull buf   a pull of a `FileSource`; `remaining` gives the bytes that a file has left
+--   PullsFile remaining old new pull buf   a pull of a `FileSource`; `remaining` gives the bytes that a file has left, before which
+--                                          those come that were read ahead
 --   PushesOn old new push bytes            a push of an `OutSink`, by what its writer holds
 use Rattle.std.specs.Prelude.{◌≡◌, ℕ, List, take}
 use Rattle.std.specs.declared.option.Option.{Option}
 use Rattle.std.specs.Io.KnownBytes.{Appends, Consumes, Keeps, IsAtEnd}
+use Rattle.bus_outer.specs.Ahead.{left_ahead}
 use Rattle.bus_outer.specs.declared.out_sink.OutSink.{OutSink}
 use Rattle.bus_outer.specs.declared.file_source.FileSource.{FileSource}
 use Rattle.bus_outer.specs.declared.sink.Push.{Push}
@@ -22,7 +24,7 @@ ReadsFile old new Failed buf = Keeps old new
 
 -- a pull that opens a file reads it too, and says that it ended only where nothing of it is left
 abbrev pub OpensFile : {F : Type 0} → (F → Option (List ℕ)) → NamedFile F → Pull → Type 0
-OpensFile remaining (Open file) End = IsAtEnd (remaining file)
+OpensFile remaining (Open file) End = IsAtEnd (left_ahead remaining file)
 OpensFile remaining new End = ⊥
 OpensFile remaining (Open file) pull = Unit {0}
 OpensFile remaining (Closed path) Failed = Unit {0}
@@ -32,7 +34,7 @@ OpensFile remaining new pull = ⊥
 abbrev pub PullsFile : {F : Type 0} → (F → Option (List ℕ)) → NamedFile F → NamedFile F → Pull → List ℕ → Type 0
 PullsFile remaining None new pull buf = (pull ≡ End) × (new ≡ None)
 PullsFile remaining (Closed path) new pull buf = OpensFile remaining new pull
-PullsFile remaining (Open file) (Open next) pull buf = ReadsFile (remaining file) (remaining next) pull buf
+PullsFile remaining (Open file) (Open next) pull buf = ReadsFile (left_ahead remaining file) (left_ahead remaining next) pull buf
 PullsFile remaining (Open file) new pull buf = ⊥
 
 -- the file of a source, as far as it has come

@@ -2,6 +2,7 @@ pub mod Faults
 pub mod Sources
 pub mod Sinks
 pub mod Memory
+pub mod Ahead
 pub mod Edge
 pub mod Standing
 pub mod Texts

@@ -3,14 +3,14 @@ ghost use Rattle.std.specs.Prelude.{◌≡◌, ◌≤◌, ◌<◌, MatchOption, 
 ghost use Rattle.bus_outer.specs.Faults.{Rose};
 ghost use Rattle.bus_outer.specs.Sources.{Pulls};
 
+use crate::read_ahead::ReadAhead;
 use crate::{Pull, Source};
 use std::fs;
-use std::io::Read;
 use std::rt::Files;
 
 /// A file by its path, opened at the first pull. With no path it is an empty source.
 ///
-/// It tells no content. Its count of faults rises where the file can't be opened or a read fails, and stays
+/// It reads ahead, so that short pulls make few calls of the system, and tells no content. Its count of faults rises where the file can't be opened or a read fails, and stays
 /// at the last value of a `u64`, where `Failed` may come at any time. A pull after a failed opening tries
 /// again.
 #[derive(Drop)]
@@ -25,7 +25,7 @@ pub struct FileSource<'a, R: Files> {
 enum NamedFile<F> {
     None,
     Closed(String),
-    Open(F),
+    Open(ReadAhead<F>),
 }
 
 impl<'a, R: Files> FileSource<'a, R> {
@@ -65,7 +65,7 @@ impl<'a, R: Files> Source for FileSource<'a, R> {
 
     ghost faults = { λ s. s.faults };
 
-    /// Reads the file once, after opening it where it isn't open. `End` comes only with no path, or where
+    /// Gives what was read ahead, or else reads the file once, after opening it where it isn't open. `End` comes only with no path, or where
     /// the open file is at its end.
     fn pull(&mut self, buf: &mut [u8]) -> Pull
         requires { 0 < length buf.old }
@@ -76,7 +76,7 @@ impl<'a, R: Files> Source for FileSource<'a, R> {
     {
         if let NamedFile::Closed(path) = &self.file {
             match fs::open(self.rt, path.as_str()) {
-                Ok(file) => self.file = NamedFile::Open(file),
+                Ok(file) => self.file = NamedFile::Open(ReadAhead::new(file)),
                 Err(_) => return self.fail(),
             }
         }

@@ -20,6 +20,8 @@ mod file_source;
 mod memory_sink;
 mod memory_source;
 mod out_sink;
+mod piece;
+mod read_ahead;
 mod sink;
 mod source;
 #[cfg(test)]

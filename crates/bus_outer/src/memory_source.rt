@@ -1,8 +1,9 @@
 // A source in memory, which fails at the pulls that it is told.
-ghost use Rattle.std.specs.Prelude.{◌≡◌, ◌<◌, ◌≤◌, ◌↔◌, ◌++◌, ℕ, Contains, Some, drop, length, min, take, vec_len};
+ghost use Rattle.std.specs.Prelude.{◌≡◌, ◌<◌, ◌≤◌, ◌↔◌, ℕ, Contains, Some, drop, length, min, vec_len};
 ghost use Rattle.bus_outer.specs.Faults.{Rose};
 ghost use Rattle.bus_outer.specs.Sources.{Pulls};
 
+use crate::piece::copy_piece;
 use crate::{Pull, Source};
 
 /// Bytes in memory as a source. It gives them in pieces, and fails exactly at the pulls listed.
@@ -76,14 +77,4 @@ impl Source for MemorySource {
         self.at += n;
         Pull::Got(n)
     }
-}
-
-// Copies a piece to the front of the buffer: no more than there is, nor than there is room for.
-fn copy_piece(from: &[u8], piece: usize, buf: &mut [u8]) -> usize
-    ensures count { result ≡ min (min piece (length buf.old)) (length from.now) }
-    ensures copied { from.now ≡ take result buf.new ++ drop result from.now }
-{
-    let n = piece.min(buf.len()).min(from.len());
-    buf[..n].copy_from_slice(&from[..n]);
-    n
 }
