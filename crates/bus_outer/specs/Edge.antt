@@ -3,7 +3,8 @@
 --   PullsFile remaining old new pull buf   a pull of a `FileSource`; `remaining` gives the bytes that a file has left, before which
 --                                          those come that were read ahead
 --   PushesOn old new push bytes            a push of an `OutSink`, by what its writer holds
-use Rattle.std.specs.Prelude.{◌≡◌, ℕ, List, take}
+use Rattle.std.specs.Prelude.{◌≡◌, ℕ, List, String, take}
+use Rattle.std.specs.declared.alloc.Global.{Global}
 use Rattle.std.specs.declared.option.Option.{Option}
 use Rattle.std.specs.Io.KnownBytes.{Appends, Consumes, Keeps, IsAtEnd}
 use Rattle.bus_outer.specs.Ahead.{left_ahead}
@@ -22,18 +23,18 @@ ReadsFile old new (Got n) buf = Consumes old new (take n buf)
 ReadsFile old new End buf = IsAtEnd new
 ReadsFile old new Failed buf = Keeps old new
 
--- a pull that opens a file reads it too, and says that it ended only where nothing of it is left
-abbrev pub OpensFile : {F : Type 0} → (F → Option (List ℕ)) → NamedFile F → Pull → Type 0
-OpensFile remaining (Open file) End = IsAtEnd (left_ahead remaining file)
-OpensFile remaining new End = ⊥
-OpensFile remaining (Open file) pull = Unit {0}
-OpensFile remaining (Closed path) Failed = Unit {0}
-OpensFile remaining new pull = ⊥
+-- A pull that opens a file reads it too, and says that it ended only where nothing of it is left. Where the file can't be opened, its
+-- name stays for the next pull.
+abbrev pub OpensFile : {F : Type 0} → (F → Option (List ℕ)) → String Global → NamedFile F → Pull → Type 0
+OpensFile remaining path (Open file) End = IsAtEnd (left_ahead remaining file)
+OpensFile remaining path (Open file) pull = Unit {0}
+OpensFile remaining path (Closed same) Failed = same ≡ path
+OpensFile remaining path new pull = ⊥
 
 -- A source with no file has ended and stays so; a file is opened by a pull, and from then on each pull is a read of it.
 abbrev pub PullsFile : {F : Type 0} → (F → Option (List ℕ)) → NamedFile F → NamedFile F → Pull → List ℕ → Type 0
 PullsFile remaining None new pull buf = (pull ≡ End) × (new ≡ None)
-PullsFile remaining (Closed path) new pull buf = OpensFile remaining new pull
+PullsFile remaining (Closed path) new pull buf = OpensFile remaining path new pull
 PullsFile remaining (Open file) (Open next) pull buf = ReadsFile (left_ahead remaining file) (left_ahead remaining next) pull buf
 PullsFile remaining (Open file) new pull buf = ⊥
 
