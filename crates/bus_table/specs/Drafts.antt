@@ -1,7 +1,6 @@
 -- What the lines so far have given, and what a further line makes of it.
 -- Draft: what is known of the table. Place: what stood last, which decides what may follow.
 use Rattle.std.specs.Prelude.{ℕ, Bool, true, false, nat_lt, List, [], ◌∷◌, ◌++◌, length, Option, Some, None, Result, Ok, Err, if◌then◌else◌}
-use Rattle.std.specs.Int.{is_in_range}
 use Rattle.bus_text.specs.declared.reason.Reason.{Reason}
 use Rattle.bus_text.specs.declared.reason.Reason.TheVariants as reasons
 use Rattle.bus_text.specs.AllOf.{◌>>=◌}
@@ -11,6 +10,7 @@ use Rattle.bus_table.specs.declared.place.Place.{Place}
 use Rattle.bus_table.specs.declared.place.Place.TheVariants as places
 use Rattle.bus_table.specs.Heads.{Head}
 use Rattle.bus_table.specs.Forms.{keyword_of, table_reading, mode_reading, number_reading, sender_reading, send_reading}
+use Rattle.bus_table.specs.Ranges.{is_ti, is_sg}
 use Rattle.bus_table.specs.Tables.{SendLine, Sender}
 
 -- what is known of an aperiodic table; ti and sg are 0 before their lines
@@ -74,8 +74,8 @@ senders_after place line senders = with_last_send line senders
 abbrev pub form_reading : Draft → Keyword → List (List ℕ) → Result Draft Reason
 form_reading draft keywords.Table fields = table_reading fields >>= λ _. Ok (record draft { place = places.Table })
 form_reading draft keywords.Mode fields = mode_reading fields >>= λ _. Ok (record draft { place = places.Mode })
-form_reading draft keywords.Ti fields = number_reading (is_in_range 1000 128000) fields >>= λ ti. Ok (record draft { place = places.Ti; ti = ti })
-form_reading draft keywords.Sg fields = number_reading (is_in_range 9 1024) fields >>= λ sg. Ok (record draft { place = places.Sg; sg = sg })
+form_reading draft keywords.Ti fields = number_reading is_ti fields >>= λ ti. Ok (record draft { place = places.Ti; ti = ti })
+form_reading draft keywords.Sg fields = number_reading is_sg fields >>= λ sg. Ok (record draft { place = places.Sg; sg = sg })
 form_reading draft keywords.Sender fields = sender_reading fields >>= λ head. Ok (record draft { place = places.Sender head })
 form_reading draft keywords.Send fields = send_reading fields >>= λ line. Ok (record draft { place = places.Send; senders = senders_after draft.place line draft.senders })
 form_reading draft keywords.Take fields = Err reasons.NotBuilt

@@ -10,6 +10,7 @@ use crate::keyword::{Keyword, keyword_of};
 use crate::line::SendLine;
 use crate::mode::Mode;
 use crate::place::Place;
+use crate::ranges::{LEAST_SG, LEAST_TI, MOST_SENDS, MOST_SG, MOST_TI};
 use crate::sender::Sender;
 use crate::table::Table;
 use bus_text::cursor::Line;
@@ -72,7 +73,7 @@ fn may_follow(place: Place, sends: usize, keyword: Keyword) -> bool
         (Place::Ti, Keyword::Sg) => true,
         (Place::Sg, Keyword::Sender | Keyword::Listener) => true,
         (Place::Sender(_), Keyword::Send) => true,
-        (Place::Send, Keyword::Send) => sends < 31,
+        (Place::Send, Keyword::Send) => sends < MOST_SENDS,
         (Place::Send, Keyword::Take | Keyword::Sender | Keyword::Listener) => true,
         _ => false,
     }
@@ -135,12 +136,12 @@ impl Draft {
                 Ok(())
             }
             Keyword::Ti => {
-                self.ti = number_line(fields, 1000, 128_000)?;
+                self.ti = number_line(fields, LEAST_TI, MOST_TI)?;
                 self.place = Place::Ti;
                 Ok(())
             }
             Keyword::Sg => {
-                self.sg = number_line(fields, 9, 1024)?;
+                self.sg = number_line(fields, LEAST_SG, MOST_SG)?;
                 self.place = Place::Sg;
                 Ok(())
             }

@@ -1,4 +1,19 @@
-//! The table of a bus: which terminals stand on it, when each may start and what each sends and takes.
+//! The table of a bus: which terminals stand on it, when each may start, and what each sends and takes.
+//!
+//! - [`table::Table`] with its [`sender::Sender`]s, its [`listener::Listener`]s and their [`line`]s keeps that it is
+//!   valid: every number is in its range, and none of the [`error::WholeReason`]s applies.
+//! - [`reading::read_table`] reads a text. So far it reads aperiodic tables without TAKE lines and listeners.
+//! - [`lengths`] tells the shortest and the longest message of a sender, [`turns::place`] who speaks after whom.
+//! - [`fit::fits`] holds the items of a messages text to the lines of their senders, and [`hands::hands`] deals them out.
+//!
+//! The gaps and intervals of a bus, and that each terminal has a gap of its own which is shorter than the
+//! synchronization gap, are facts of ARINC 629. All ranges, the lines, the text and the order of reasons are this
+//! project's profile.
+//!
+//! The definitions are in `specs/`: `Tables` (a table as plain numbers and lists), `Ranges`, `Whole` and `Valid` (which
+//! tables are valid), `Text` (which texts stand for which tables), `Forms`, `Drafts` and `Reading` (what a text reads as,
+//! line by line, and where and why it is refused), `Lengths`, `Turns`, `Fits` and `Hands`. What callers may use of them
+//! beside the contracts are `Facts` and the files whose names end in `Laws`.
 #![tactic(auto)]
 
 mod draft;

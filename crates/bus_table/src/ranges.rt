@@ -4,39 +4,69 @@ ghost use Rattle.bus_table.specs.Ranges as ranges;
 
 use crate::line::{SendLine, TakeLine};
 
+/// The greatest terminal number; the least is 1.
+pub const MOST_NUMBER: u8 = 128;
+
+/// The least transmit interval, in bit times.
+pub const LEAST_TI: u32 = 1000;
+
+/// The greatest transmit interval, in bit times: every offset is below it.
+pub const MOST_TI: u32 = 128_000;
+
+/// The least synchronization gap, in bit times.
+pub const LEAST_SG: u32 = 9;
+
+/// The greatest synchronization gap, in bit times.
+pub const MOST_SG: u32 = 1024;
+
+/// The least terminal gap, in bit times.
+pub const LEAST_TG: u32 = 8;
+
+/// The greatest terminal gap, in bit times.
+pub const MOST_TG: u32 = 256;
+
+/// The most SEND lines of a sender.
+pub const MOST_SENDS: usize = 31;
+
+/// The most TAKE lines of a terminal.
+pub const MOST_TAKES: usize = 64;
+
+/// The most data words of a wordstring.
+pub const MOST_WORDS: u16 = 256;
+
 /// Whether a number is a terminal number.
 pub fn is_number(number: u8) -> bool
     ensures { result ≡ ranges.is_number number }
 {
-    (1..=128).contains(&number)
+    (1..=MOST_NUMBER).contains(&number)
 }
 
 /// Whether so many bit times are a transmit interval.
 pub fn is_ti(ti: u32) -> bool
     ensures { result ≡ ranges.is_ti ti }
 {
-    (1000..=128_000).contains(&ti)
+    (LEAST_TI..=MOST_TI).contains(&ti)
 }
 
 /// Whether so many bit times are a synchronization gap.
 pub fn is_sg(sg: u32) -> bool
     ensures { result ≡ ranges.is_sg sg }
 {
-    (9..=1024).contains(&sg)
+    (LEAST_SG..=MOST_SG).contains(&sg)
 }
 
 /// Whether so many bit times are a terminal gap.
 pub fn is_tg(tg: u32) -> bool
     ensures { result ≡ ranges.is_tg tg }
 {
-    (8..=256).contains(&tg)
+    (LEAST_TG..=MOST_TG).contains(&tg)
 }
 
 /// Whether so many bit times are an offset.
 pub fn is_offset(at: u32) -> bool
     ensures { result ≡ ranges.is_offset at }
 {
-    at < 128_000
+    at < MOST_TI
 }
 
 /// Whether the numbers of a SEND line are in their ranges.
@@ -45,7 +75,7 @@ fn is_send_line(line: &SendLine) -> bool
 {
     // The types of the label and of the extension keep their ranges, which are known from here on.
     let _ranges = (line.label.value(), line.ext.value());
-    line.least <= line.most && line.most <= 256
+    line.least <= line.most && line.most <= MOST_WORDS
 }
 
 /// Whether the numbers of a TAKE line are in their ranges.
@@ -54,7 +84,7 @@ fn is_take_line(line: &TakeLine) -> bool
 {
     // The types of the label and of the extension keep their ranges, which are known from here on.
     let _ranges = (line.label.value(), line.ext.map(|ext| ext.value()));
-    line.first <= 255 && (1..=256).contains(&line.count)
+    line.first < MOST_WORDS && (1..=MOST_WORDS).contains(&line.count)
 }
 
 /// Whether the numbers of each of these SEND lines are in their ranges.
@@ -75,12 +105,12 @@ fn each_take_line(takes: &[TakeLine]) -> bool
 pub fn are_send_lines(sends: &[SendLine]) -> bool
     ensures { result ≡ ranges.are_send_lines sends.now }
 {
-    (1..=31).contains(&sends.len()) && each_send_line(sends)
+    (1..=MOST_SENDS).contains(&sends.len()) && each_send_line(sends)
 }
 
 /// Whether there are at most 64 TAKE lines, and the numbers of each are in their ranges.
 pub fn are_take_lines(takes: &[TakeLine]) -> bool
     ensures { result ≡ ranges.are_take_lines takes.now }
 {
-    takes.len() <= 64 && each_take_line(takes)
+    takes.len() <= MOST_TAKES && each_take_line(takes)
 }
