@@ -3,12 +3,13 @@
 //! [`timing::Timing`] has the numbers by which they run. [`cores::Core`] is what any representation of the
 //! timers answers, by its relation to a past and a last own start; [`counter::CounterCore`] keeps them as
 //! counters. `specs/MayStart.antt` says when a terminal may start, and `specs/GapPlace.antt` the one place
-//! that tells how far the two gaps have come; [`laws`] says how it moves.
+//! that tells how far the two gaps have come; [`laws`] says how it moves. [`plain`] computes the definition.
 #![tactic(auto)]
 
 pub mod cores;
 pub mod counter;
 pub mod laws;
+pub mod plain;
 #[cfg(test)]
 mod tests;
 pub mod timing;

@@ -2,34 +2,11 @@ ghost use Rattle.bus_timers.specs.Timings.{IsSound};
 
 use crate::cores::Core;
 use crate::counter::CounterCore;
+use crate::plain::may_start;
 use crate::timing::Timing;
 use std::alloc::{AllocError, Global};
 use std::process::Abort;
 use std::test::Fail;
-
-/// Whether the bit times from place `from` to place `to` are all there and quiet.
-fn is_quiet(past: &[bool], from: usize, to: usize) -> bool {
-    past.get(from..to)
-        .is_some_and(|stretch| stretch.iter().all(|carrier| !*carrier))
-}
-
-/// When a terminal may start, place by place: plain and slow.
-fn may_start(timing: Timing, past: &[bool], last: Option<usize>) -> bool {
-    let length = past.len();
-    let tg = timing.tg as usize;
-    let sg = timing.sg as usize;
-    let due = match last {
-        None => (timing.quiet as usize).saturating_add(timing.due as usize),
-        Some(start) => start.saturating_add(timing.ti as usize),
-    };
-    if length < due || length < tg || !is_quiet(past, length - tg, length) {
-        return false;
-    }
-    (sg..length - tg + 1).any(|place| {
-        let from = place.saturating_sub(sg);
-        last.is_none_or(|start| start <= from) && is_quiet(past, from, place)
-    })
-}
 
 /// Passes a core stretches of quiet and of carrier in turn, and compares it with the definition at each bit
 /// time. It starts wherever it may, but for every third of these bit times. The answer has the starts.

@@ -1,0 +1,11 @@
+pub mod Members
+pub mod PastLemmas
+pub mod Unique
+pub mod Steps
+pub mod Following
+pub mod Seats
+pub mod Deciding
+pub mod Observing
+pub mod TimingLemmas
+pub mod SeatingLemmas
+pub mod OrderLemmas

@@ -1,0 +1,58 @@
+-- When a list of transmissions is the one that the senders of a bus make.
+--   station   what the rules read of a sender: its number, its timing and the messages of its hand
+--   due       its timers allow a start, and it has a message left
+-- Every definition is of the senders as a set: nothing hangs on the order in which a table lists them.
+use Rattle.std.specs.Prelude.{◌≡◌, ℕ, ◌<◌, ◌⊎◌, ◌↔◌, List, length, slice_get, Some}
+use Rattle.bus_timers.specs.declared.timing.Timing.{Timing}
+use Rattle.bus_timers.specs.MayStart.{MayStart}
+use Rattle.bus_strings.specs.Members.{In}
+use Rattle.bus_strings.specs.Messages.{Message, Entry}
+use Rattle.bus_strings.specs.Transmissions.{IsAscending}
+use Rattle.bus_medium.specs.Past.{past, own, last_place}
+
+pub record Station : Type 0 where
+  pub number : ℕ
+  pub timing : Timing
+  pub hand : List Message
+
+-- no two senders have the same number
+abbrev pub HaveOwnNumbers : List Station → Type 0
+HaveOwnNumbers stations = (a b : Station) → In a stations → In b stations → a.number ≡ b.number → a ≡ b
+
+-- the list has a transmission of the terminal with this number that starts at moment t
+pub record HasEntry (list : List Entry) (number t : ℕ) : Type 0 where
+  pub entry : Entry
+  pub there : In entry list
+  pub moment : entry.moment ≡ t
+  pub terminal : entry.terminal ≡ number
+
+-- at moment t, after the past that the list makes, the sender may start and has a message left
+pub record IsDue (quiet : ℕ) (list : List Entry) (sender : Station) (t : ℕ) : Type 0 where
+  pub may : MayStart sender.timing (past quiet list t) (last_place quiet (own list sender.number t))
+  pub left : length (own list sender.number t) < length sender.hand
+
+-- the transmission is of a sender, and its message is the next of that sender's hand
+pub record IsNext (stations : List Station) (list : List Entry) (x : Entry) : Type 0 where
+  pub sender : Station
+  pub there : In sender stations
+  pub number : sender.number ≡ x.terminal
+  pub message : slice_get sender.hand (length (own list sender.number x.moment)) ≡ Some x.message
+
+-- the list is lawful for these senders up to the horizon:
+--   ordered: it ascends strictly by moment, then terminal;
+--   sent: each transmission starts before the horizon, is of a sender, and has the next message of its hand;
+--   exact: a sender starts at a moment before the horizon exactly where it is due
+pub record IsLawful (quiet : ℕ) (stations : List Station) (horizon : ℕ) (list : List Entry) : Type 0 where
+  pub ordered : IsAscending list
+  pub sent : (x : Entry) → In x list → (x.moment < horizon) × IsNext stations list x
+  pub exact : (t : ℕ) (sender : Station) → t < horizon → In sender stations → HasEntry list sender.number t ↔ IsDue quiet list sender t
+
+-- moment u and the terminal with number n come before moment t and the terminal with number m
+abbrev pub IsBefore : ℕ → ℕ → ℕ → ℕ → Type 0
+IsBefore u n t m = (u < t) ⊎ ((u ≡ t) × (n < m))
+
+-- lawful for all moments before t, and at t for the terminals with numbers below n
+pub record IsLawfulTo (quiet : ℕ) (stations : List Station) (t n : ℕ) (list : List Entry) : Type 0 where
+  pub ordered : IsAscending list
+  pub sent : (x : Entry) → In x list → IsBefore x.moment x.terminal t n × IsNext stations list x
+  pub exact : (u : ℕ) (sender : Station) → In sender stations → IsBefore u sender.number t n → HasEntry list sender.number u ↔ IsDue quiet list sender u
