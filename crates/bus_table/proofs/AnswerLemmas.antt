@@ -1,7 +1,8 @@
 -- A text of a valid table reads as it, and every table that is read is aperiodic.
-use Rattle.std.specs.Prelude.{◌≡◌, ℕ, Bool, true, false, is_none, IfOk, IsTrue, List, Option, Some, None, Result, Ok, Err}
+use Rattle.std.specs.Prelude.{◌≡◌, ℕ, Bool, true, false, is_none, IfOk, IfErr, IsTrue, List, Option, Some, None, Result, Ok, Err}
 use Rattle.std.proofs.Common.{refl, sym, ap, ◌∙◌, cond}
 use Rattle.std.proofs.lemmas.Bool.{and_parts}
+use Rattle.bus_text.specs.declared.reason.Reason.{Reason}
 use Rattle.bus_text.specs.declared.reason.Reason.TheVariants.{Ended}
 use Rattle.bus_text.specs.AllOf.{◌>>=◌}
 use Rattle.bus_text.specs.Lines.{entries_of, line_after_of}
@@ -9,14 +10,15 @@ use Rattle.bus_text.specs.Refusals.{Refusal}
 use Rattle.bus_table.specs.declared.mode.Mode.TheVariants.{Aperiodic}
 use Rattle.bus_table.specs.declared.error.WholeReason.{WholeReason}
 use Rattle.bus_table.specs.declared.error.TableError.{TableError}
+use Rattle.bus_table.specs.declared.error.TableError.TheVariants.{Text, Whole, Memory}
 use Rattle.bus_table.specs.Drafts.{Draft, start, may_end}
-use Rattle.bus_table.specs.Gives.{Answers}
+use Rattle.bus_table.specs.Gives.{Answers, Refuses}
 use Rattle.bus_table.specs.Tables.{Table}
 use Rattle.bus_table.specs.Text.{IsTableText, is_built}
 use Rattle.bus_table.specs.Valid.{is_valid, is_in_range}
 use Rattle.bus_table.specs.Whole.{whole_refusal}
 use Rattle.bus_table.specs.Reading.{steps, table_of, ended, text_reading, unless_whole, answered, answer_of}
-use Rattle.bus_table.proofs.TextLemmas.{text_again}
+use Rattle.bus_table.proofs.TextLemmas.{text_again, text_found}
 
 none_is : {A : Type 0} (a : Option A) → is_none a ≡ true → a ≡ None
 none_is None h = refl
@@ -59,3 +61,25 @@ answer_aperiodic text table h = read_mode (line_after_of text) (steps start (ent
 pub aperiodic_answer : (text : List ℕ) (answer : Result Table TableError) → Answers answer (answer_of text) → IfOk answer (λ table. table.mode ≡ Aperiodic)
 aperiodic_answer text (Ok table) h = answer_aperiodic text table h
 aperiodic_answer text (Err error) h = tt
+
+-- a table is judged good or refused as a whole, never by a line
+judged_whole : (reason : Option WholeReason) (table : Table) (line : ℕ) (why : Reason) → unless_whole reason table ≡ Err (Text line why) → ⊥
+judged_whole None table line why h = cc
+judged_whole (Some reason) table line why h = cc
+
+-- the reason for which it is refused as a whole
+judged_why : (reason : Option WholeReason) (table : Table) (why : WholeReason) → unless_whole reason table ≡ Err (Whole why) → reason ≡ Some why
+judged_why None table why h = absurd (cc)
+judged_why (Some reason) table why h = cc
+
+-- the table of a text that is refused as a whole
+whole_table : (read : Result Table Refusal) (why : WholeReason) → answered read ≡ Err (Whole why) → (table : Table) × (read ≡ Ok table) × (whole_refusal table ≡ Some why)
+whole_table (Ok table) why h = (table, refl, judged_why (whole_refusal table) table why h)
+whole_table (Err refusal) why h = absurd (cc)
+
+-- each refusal has its cause
+pub refused_answer : (text : List ℕ) (answer : Result Table TableError) → Answers answer (answer_of text) → IfErr answer (Refuses text)
+refused_answer text (Ok table) h = tt
+refused_answer text (Err Memory) h = tt
+refused_answer text (Err (Text line reason)) h = λ table stands built. judged_whole (whole_refusal table) table line reason (sym (ap answered (text_again text table stands built)) ∙ h)
+refused_answer text (Err (Whole reason)) h = let w = whole_table (text_reading text) reason h in (w.0, text_found text w.0 w.1, w.2)

@@ -1,5 +1,5 @@
-ghost use Rattle.std.specs.Prelude.{◌≡◌, IfOk, IsTrue};
-ghost use Rattle.bus_table.specs.Gives.{Answers};
+ghost use Rattle.std.specs.Prelude.{◌≡◌, IfOk, IfErr, IsTrue};
+ghost use Rattle.bus_table.specs.Gives.{Answers, Refuses};
 ghost use Rattle.bus_table.specs.Reading.{judged, answer_of};
 ghost use Rattle.bus_table.specs.Tables as tables;
 ghost use Rattle.bus_table.specs.declared.mode.Mode.TheVariants.{Aperiodic};
@@ -43,6 +43,9 @@ pub fn read_table(alloc: Global, text: &[u8]) -> Result<Table, TableError>
 
     // What a text stands for is read, or refused by the first whole reason that applies to it, unless memory runs out.
     ensures only { (table : tables.Table) → IsTableText table text.now → IsTrue (is_built table) → Answers result (judged table) }
+
+    // Each refusal has its cause.
+    ensures cause { IfErr result (Refuses text.now) }
 
     // Only aperiodic tables are built.
     ensures aperiodic { IfOk result (λ table. table.mode ≡ Aperiodic) }

@@ -1,7 +1,7 @@
 use Rattle.std.proofs.Common.{subst, ap}
 use Rattle.bus_table.specs.Gives.{Answers}
 use Rattle.bus_table.specs.Reading.{answered}
-use Rattle.bus_table.proofs.AnswerLemmas.{aperiodic_answer}
+use Rattle.bus_table.proofs.AnswerLemmas.{aperiodic_answer, refused_answer}
 use Rattle.bus_table.proofs.TextLemmas.{answer_found, text_again}
 use Rattle.bus_table.proofs.reading.read_table.Goals as goal
 
@@ -13,3 +13,6 @@ returns-clause-only c = λ table h built. subst (λ due. Answers c.read.result d
 
 pub returns-clause-aperiodic : goal.returns-clause-aperiodic
 returns-clause-aperiodic c = aperiodic_answer c.args.text.now c.read.result c.read.ensures
+
+pub returns-clause-cause : goal.returns-clause-cause
+returns-clause-cause c = refused_answer c.args.text.now c.read.result c.read.ensures
