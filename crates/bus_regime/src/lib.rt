@@ -1,6 +1,6 @@
-//! The regime of a table: whether the timers of its senders keep its closed schedule.
+//! The regime of a table: the verdict on whether its senders can keep their turns.
 //!
-//! [`verdict::verdict`] answers it by sums alone, and [`line::write_verdict`] writes the answer as a line.
+//! [`verdict::verdict`] gives it by sums alone, and [`line::write_verdict`] writes the answer as a line.
 #![tactic(auto)]
 
 pub mod line;

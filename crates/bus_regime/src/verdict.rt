@@ -8,14 +8,13 @@ use bus_table::lengths::{longest, shortest};
 use bus_table::mode::Mode;
 use bus_table::table::Table;
 
-/// Whether the timers of a table's senders keep its closed schedule, and by what numbers. All numbers but a terminal's are
-/// bit times.
+/// The verdict on a table, by the rule of this project's profile, and its numbers. All numbers but a terminal's are bit times.
 #[derive(Clone, Copy, Debug, PartialEq, Eq)]
 pub enum TableVerdict {
-    /// They do, for all messages that fit. In aperiodic mode `least` and `most` are the lengths of the shortest and of the longest
-    /// cycle; in periodic mode both are the transmit interval.
+    /// Accepted. In aperiodic mode `least` and `most` are the lengths of the shortest and of the longest cycle; in periodic mode both
+    /// are the transmit interval.
     Accept { mode: Mode, least: u64, most: u64 },
-    /// Aperiodic: the shortest cycle is below the transmit interval, so a sender misses its turn.
+    /// Aperiodic: the shortest cycle is below the transmit interval.
     ShortCycle { least: u64, ti: u64 },
     /// Periodic: the gap before this sender is below its terminal gap. A negative gap is an overlap.
     SmallGap { terminal: u8, gap: i64, needed: u64 },

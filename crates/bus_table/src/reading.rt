@@ -30,13 +30,12 @@ fn read(alloc: Global, text: &[u8]) -> Result<Table, TableError>
     draft.table(alloc)
 }
 
-/// Reads a table text. Periodic tables, TAKE lines and listeners aren't built yet: such a line is refused as
-/// `NotBuilt`, whatever else is wrong with it.
+/// Reads a table text. Periodic tables, TAKE lines and listeners aren't built yet: the built grammar is that of table texts without them.
+/// The line `MODE periodic` in its place, and a line with the keyword TAKE or LISTENER where that may stand, are refused as `NotBuilt`.
 ///
-/// `Text` comes exactly where the text isn't in the grammar, with the number of the first line to which a reason
+/// `Text` comes exactly where the text isn't in the built grammar, with the number of the first line to which a reason
 /// applies, or one past the last line where only `Ended` does, and with the first reason that applies. `Whole` comes
-/// exactly where the text is in the grammar and a whole reason applies, with the first. `Memory` comes where memory
-/// runs out.
+/// exactly where the text is in it and a whole reason applies, with the first. `Memory` comes where memory runs out.
 pub fn read_table(alloc: Global, text: &[u8]) -> Result<Table, TableError>
     // What is read is what the text stands for.
     ensures found { IfOk result (λ table. IsTableText table text.now) }
