@@ -9,3 +9,7 @@ pub mod Observing
 pub mod TimingLemmas
 pub mod SeatingLemmas
 pub mod OrderLemmas
+pub mod StretchLemmas
+pub mod TurnLemmas
+pub mod ClockLemmas
+pub mod ChainLemmas

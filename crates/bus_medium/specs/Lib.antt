@@ -1,5 +1,8 @@
 pub mod Past
 pub mod Lawful
+pub mod LawfulLaws
+pub mod Stretches
+pub mod Chains
 pub mod Timings
 pub mod Buses
 pub mod Following

@@ -3,7 +3,8 @@ use Rattle.std.proofs.Common.{◌≡◌, ℕ, ◌+◌, ◌-◌, ◌<◌, ◌≤�
 use Rattle.std.proofs.lemmas.List.{get_or_append_left, get_or_push, length_push, get_or_past, get_or-replicate, length-replicate}
 use Rattle.std.proofs.lemmas.Bool.{cases_lt, true≢false}
 use Rattle.bus_timers.specs.MayStart.{IsQuiet, IsSync}
-use Rattle.bus_timers.specs.GapLaws.{SettledPlace, StartedPlace, QuietPlace, CarrierPlace, WaitingCarrierPlace, PlaceDecides}
+use Rattle.bus_timers.specs.GapPlace.{GapFrom}
+use Rattle.bus_timers.specs.GapLaws.{SettledPlace, StartedPlace, QuietPlace, CarrierPlace, WaitingCarrierPlace, OnePlace, PlaceDecides}
 
 -- a quiet stretch stays within the past
 quiet_within : (past : List Bool) (i e : ℕ) → IsQuiet past i e → i < e → e ≤ length past
@@ -179,6 +180,22 @@ gap_settled sg quiet pos h =
       quiet = λ k low high. all k (omega arith) (omega (arith, length-replicate quiet false));
       least = λ e m s low q. let k : sg ≤ e = s.long in omega arith;
     })
+
+-- there is one place
+gap_least : (sg : ℕ) (past : List Bool) (last : Option ℕ) (g h : ℕ) → GapFrom sg past last g → GapFrom sg past last h → g ≤ h
+gap_least sg past last g h (inl a) (inl b) = a.least b.sync.0 h b.sync.2 b.sync.1 b.quiet
+gap_least sg past last g h (inl a) (inr b) = absurd (b.none a.sync.0 a.sync.2)
+gap_least sg past last g h (inr a) (inl b) = absurd (a.none b.sync.0 b.sync.2)
+gap_least sg past last g h (inr a) (inr b) =
+    let own : unwrap_or last 0 + sg ≤ h = b.own in
+    let k : g ≤ h - sg + sg = a.least (h - sg) (omega arith) b.quiet in
+    omega arith
+
+pub gap_one : OnePlace
+gap_one sg past last g h a b =
+    let up : g ≤ h = gap_least sg past last g h a b in
+    let down : h ≤ g = gap_least sg past last h g b a in
+    omega arith
 
 -- the place says when a terminal may start
 pub gap_ready : PlaceDecides

@@ -1,6 +1,6 @@
 -- How the place from which the terminal gap counts moves, and that it tells when a terminal may start.
 -- `laws::gap_place_moves` says that each of these holds; the crates above cite them by their proofs in `proofs/Gaps.antt`.
-use Rattle.std.specs.Prelude.{ℕ, ◌+◌, ◌<◌, ◌≤◌, ◌↔◌, ◌++◌, ◌∷◌, [], Bool, true, false, List, length, replicate, Option, Some, None}
+use Rattle.std.specs.Prelude.{◌≡◌, ℕ, ◌+◌, ◌<◌, ◌≤◌, ◌↔◌, ◌++◌, ◌∷◌, [], Bool, true, false, List, length, replicate, Option, Some, None}
 use Rattle.bus_timers.specs.declared.timing.Timing.{Timing}
 use Rattle.bus_timers.specs.Timings.{due_place}
 use Rattle.bus_timers.specs.MayStart.{MayStart}
@@ -29,6 +29,27 @@ abbrev pub WaitingCarrierPlace : Type 0
 WaitingCarrierPlace =
     (sg : ℕ) (past : List Bool) (last : Option ℕ) (g : ℕ) → 0 < sg → GapFrom sg past last g → length past < g
     → GapFrom sg (past ++ true ∷ []) last (length past + 1 + sg)
+
+-- there is one such place
+abbrev pub OnePlace : Type 0
+OnePlace = (sg : ℕ) (past : List Bool) (last : Option ℕ) (g h : ℕ) → GapFrom sg past last g → GapFrom sg past last h → g ≡ h
+
+-- a stretch of quiet bit times leaves it
+abbrev pub QuietsPlace : Type 0
+QuietsPlace =
+    (sg : ℕ) (past : List Bool) (last : Option ℕ) (g k : ℕ) → 0 < sg → GapFrom sg past last g
+    → GapFrom sg (past ++ replicate k false) last g
+
+-- a stretch of carrier does what its last bit time does
+abbrev pub CarriersPlace : Type 0
+CarriersPlace =
+    (sg : ℕ) (past : List Bool) (last : Option ℕ) (g k : ℕ) → 0 < sg → 0 < k → GapFrom sg past last g → g ≤ length past
+    → GapFrom sg (past ++ replicate k true) last (length past + k)
+
+abbrev pub WaitingCarriersPlace : Type 0
+WaitingCarriersPlace =
+    (sg : ℕ) (past : List Bool) (last : Option ℕ) (g k : ℕ) → 0 < sg → 0 < k → GapFrom sg past last g → length past < g
+    → GapFrom sg (past ++ replicate k true) last (length past + k + sg)
 
 -- a terminal may start exactly where its transmit interval has elapsed and the past is a terminal gap longer than the place
 abbrev pub PlaceDecides : Type 0

@@ -1,5 +1,5 @@
 ghost use Rattle.bus_timers.specs.MayStartTest.{TestDecides};
-ghost use Rattle.bus_timers.specs.GapLaws.{SettledPlace, StartedPlace, QuietPlace, CarrierPlace, WaitingCarrierPlace, PlaceDecides};
+ghost use Rattle.bus_timers.specs.GapLaws.{SettledPlace, StartedPlace, QuietPlace, CarrierPlace, WaitingCarrierPlace, OnePlace, QuietsPlace, CarriersPlace, WaitingCarriersPlace, PlaceDecides};
 
 /// The test of `specs/MayStartTest.antt`, which computes, says when a terminal may start.
 pub fn test_decides()
@@ -13,5 +13,9 @@ pub fn gap_place_moves()
     ensures quiet { QuietPlace }
     ensures carrier { CarrierPlace }
     ensures waiting_carrier { WaitingCarrierPlace }
+    ensures one { OnePlace }
+    ensures quiets { QuietsPlace }
+    ensures carriers { CarriersPlace }
+    ensures waiting_carriers { WaitingCarriersPlace }
     ensures decides { PlaceDecides }
 {}

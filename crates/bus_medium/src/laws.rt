@@ -1,0 +1,31 @@
+ghost use Rattle.bus_medium.specs.LawfulLaws.{OneLawfulList, LawfulToHorizon};
+ghost use Rattle.bus_medium.specs.Stretches.{IdleStretch, LoneStart, MessageIsCarrier, MessageElapsed, MessageWaiting, NoStartDuring};
+ghost use Rattle.bus_medium.specs.Chains.{ChainSettled, ChainStep, ChainDue, ChainStarts};
+
+/// There is one lawful list at most, and what is lawful up to the horizon is lawful for it.
+pub fn one_lawful_list()
+    ensures once { OneLawfulList }
+    ensures whole { LawfulToHorizon }
+{}
+
+/// A list stays lawful over a stretch in which nobody is due, and with a start of the one who is.
+pub fn lawful_turns()
+    ensures idle { IdleStretch }
+    ensures lone { LoneStart }
+{}
+
+/// For the timers a whole message is as good as carrier on each of its bit times, and nobody starts while it lasts.
+pub fn messages_are_carrier()
+    ensures carrier { MessageIsCarrier }
+    ensures elapsed { MessageElapsed }
+    ensures waiting { MessageWaiting }
+    ensures silent { NoStartDuring }
+{}
+
+/// Where no transmission begins before the one before has ended, three numbers of each sender tell who is due.
+pub fn chains_tell()
+    ensures settled { ChainSettled }
+    ensures step { ChainStep }
+    ensures due { ChainDue }
+    ensures starts { ChainStarts }
+{}
