@@ -2,7 +2,7 @@ ghost use Rattle.std.specs.Prelude.{◌≡◌, ◌≤◌, ◌*◌};
 ghost use Rattle.std.specs.List.{sum_by};
 ghost use Rattle.bus_table.specs.Tables.{Sender};
 ghost use Rattle.bus_table.specs.declared.mode.Mode.TheVariants.{Aperiodic};
-ghost use Rattle.bus_regime.specs.Verdicts.{least_cycle as least_of, most_cycle as most_of, verdict_of};
+ghost use Rattle.bus_regime.specs.Verdicts.{least_cycle as least_of, most_cycle as most_of, is_accepted, verdict_of};
 
 use bus_table::lengths::{longest, shortest};
 use bus_table::mode::Mode;
@@ -20,6 +20,15 @@ pub enum TableVerdict {
     SmallGap { terminal: u8, gap: i64, needed: u64 },
     /// Periodic: neither another sender's gap nor its own gives this sender its synchronization gap.
     NoSync { terminal: u8, gap: u64, needed: u64 },
+}
+
+impl TableVerdict {
+    /// Whether the table is accepted.
+    pub fn is_accepted(&self) -> bool
+        ensures { result ≡ is_accepted self.now }
+    {
+        matches!(self, TableVerdict::Accept { .. })
+    }
 }
 
 /// The bit times of the shortest cycle.
