@@ -81,5 +81,5 @@ whole_table (Err refusal) why h = absurd (cc)
 pub refused_answer : (text : List ℕ) (answer : Result Table TableError) → Answers answer (answer_of text) → IfErr answer (Refuses text)
 refused_answer text (Ok table) h = tt
 refused_answer text (Err Memory) h = tt
-refused_answer text (Err (Text line reason)) h = λ table stands built. judged_whole (whole_refusal table) table line reason (sym (ap answered (text_again text table stands built)) ∙ h)
+refused_answer text (Err (Text line reason)) h = λ table has. judged_whole (whole_refusal table) table line reason (sym (ap answered (text_again text table has.stands has.built)) ∙ h)
 refused_answer text (Err (Whole reason)) h = let w = whole_table (text_reading text) reason h in (w.0, text_found text w.0 w.1, w.2)

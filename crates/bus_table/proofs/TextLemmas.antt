@@ -27,7 +27,7 @@ use Rattle.bus_table.specs.Gives.{Answers}
 use Rattle.bus_table.specs.Whole.{whole_refusal}
 use Rattle.bus_table.specs.Reading.{step, steps, table_of, ended, text_reading, unless_whole, answered, answer_of}
 use Rattle.bus_table.specs.Tables.{SendLine, TakeLine, Sender, Listener, Table}
-use Rattle.bus_table.specs.Text.{Line, TableLine, ModeLine, TiLine, SgLine, SenderLine, Sends, sender_lines, lines_of, IsLine, AreLines, IsTableText, is_built}
+use Rattle.bus_table.specs.Text.{Line, TableLine, ModeLine, TiLine, SgLine, SenderLine, Sends, sender_lines, lines_of, IsLine, AreLines, IsTableText, IsBuiltText, is_built}
 use Rattle.bus_table.specs.Valid.{is_in_range}
 use Rattle.bus_table.proofs.LineLemmas.{bind_ok, table_again, mode_again, number_line_again, sender_line_again, send_line_again}
 use Rattle.bus_table.proofs.ReadingLemmas.{Kept, Built, draft_lines, line_adds, no_takes}
@@ -73,15 +73,20 @@ no_offsets (s ∷ senders) h = both _ _ (zero_test s.at h.0.offset) (no_offsets 
 in_ranges : (ti sg : ℕ) (senders : List Sender) → is_ti ti ≡ true → is_sg sg ≡ true → AllByRecursion Built senders → is_in_range (record { mode = Aperiodic; ti = ti; sg = sg; senders = senders; listeners = [] }) ≡ true
 in_ranges ti sg senders t s h = both _ _ t (both _ _ s (both _ _ (senders_range senders h) (both _ _ refl (no_offsets senders h))))
 
+no_take_lines : (senders : List Sender) → AllByRecursion Built senders → list_all (λ sender. length sender.takes == 0) senders ≡ true
+no_take_lines [] h = refl
+no_take_lines (s ∷ senders) h = both _ _ (zero_test (length s.takes) (ap length h.0.takes)) (no_take_lines senders h.1)
+
 -- the table of a draft that may end
 pub record Whole (draft : Draft) (entries : List Entry) : Type 0 where
   pub ranges : is_in_range (table_of draft) ≡ true
+  pub built : is_built (table_of draft) ≡ true
   pub lines : AreLines Aperiodic (lines_of (table_of draft)) entries
 
 whole_at : (place : Place) (ti sg : ℕ) (senders : List Sender) (entries : List Entry) → may_end place ≡ true → Kept (record { place = place; ti = ti; sg = sg; senders = senders }) → AreLines Aperiodic (draft_lines (record { place = place; ti = ti; sg = sg; senders = senders })) entries
     → Whole (record { place = place; ti = ti; sg = sg; senders = senders }) entries
-whole_at places.Sg ti sg senders entries may kept lines = record { ranges = in_ranges ti sg senders kept.stands.0 kept.stands.1 kept.built; lines = lines }
-whole_at places.Send ti sg senders entries may kept lines = record { ranges = in_ranges ti sg senders kept.stands.0 kept.stands.1 kept.built; lines = lines }
+whole_at places.Sg ti sg senders entries may kept lines = record { ranges = in_ranges ti sg senders kept.stands.0 kept.stands.1 kept.built; built = both _ _ (no_take_lines senders kept.built) refl; lines = lines }
+whole_at places.Send ti sg senders entries may kept lines = record { ranges = in_ranges ti sg senders kept.stands.0 kept.stands.1 kept.built; built = both _ _ (no_take_lines senders kept.built) refl; lines = lines }
 whole_at place ti sg senders entries may kept lines = absurd cc
 
 started : Kept start
@@ -100,13 +105,13 @@ ended_ok : (after : ℕ) (draft : Draft) (t : Bool) (table : Table) → may_end 
 ended_ok after draft true table may h = (may, cc)
 ended_ok after draft false table may h = absurd cc
 
-pub text_found : (text : List ℕ) (table : Table) → text_reading text ≡ Ok table → IsTableText table text
+pub text_found : (text : List ℕ) (table : Table) → text_reading text ≡ Ok table → IsBuiltText table text
 unfolding text_reading
 text_found text table h =
     let last = bind_ok (steps start (entries_of text)) (ended (line_after_of text)) table h in
     let end = ended_ok (line_after_of text) last.0 (may_end last.0.place) table refl last.2 in
     let whole = steps_whole (entries_of text) last.0 last.1 end.0 in
-    subst (λ (t : Table). IsTableText t text) end.1 (record { ranges = whole.ranges; lines = whole.lines })
+    subst (λ (t : Table). IsBuiltText t text) end.1 (record { stands = record { ranges = whole.ranges; lines = whole.lines }; built = whole.built })
 
 -- a table that was answered was read
 judged_ok : (raw table : Table) (whole : Option WholeReason) → unless_whole whole raw ≡ Ok table → raw ≡ table
@@ -117,7 +122,7 @@ answered_ok : (reading : Result Table Refusal) (table : Table) → answered read
 answered_ok (Ok raw) table h = ap Ok (judged_ok raw table (whole_refusal raw) h)
 answered_ok (Err refusal) table h = absurd cc
 
-pub answer_found : (text : List ℕ) (answer : Result Table TableError) → Answers answer (answer_of text) → IfOk answer (λ table. IsTableText table text)
+pub answer_found : (text : List ℕ) (answer : Result Table TableError) → Answers answer (answer_of text) → IfOk answer (λ table. IsBuiltText table text)
 answer_found text (Ok table) h = text_found text table (answered_ok (text_reading text) table h)
 answer_found text (Err error) h = tt
 

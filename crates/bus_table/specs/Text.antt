@@ -1,6 +1,6 @@
 -- Which texts stand for which tables.
 -- Line: what one line of a table text says. A text says the lines of its table in order; between them may stand lines that are skipped.
-use Rattle.std.specs.Prelude.{◌≡◌, ℕ, Bool, true, false, ◌&&◌, ◌==◌, length, List, [], ◌∷◌, ◌++◌, map, codes, Option, Some, None}
+use Rattle.std.specs.Prelude.{◌≡◌, ℕ, Bool, true, false, IsTrue, ◌&&◌, ◌==◌, length, List, [], ◌∷◌, ◌++◌, map, codes, Option, Some, None}
 use Rattle.std.specs.List.{flat_map, list_all}
 use Rattle.bus_text.specs.Lines.{Entry, entries_of}
 use Rattle.bus_text.specs.Numbers.{IsDecimal, IsHexadecimal}
@@ -126,3 +126,8 @@ pub record IsTableText (table : Table) (text : List ℕ) : Type 0 where
 -- whether the reader has the forms of the table's text: no periodic mode, no TAKE lines and no listeners yet
 abbrev pub is_built : Table → Bool
 is_built table = is_aperiodic table.mode && (list_all (λ sender. length sender.takes == 0) table.senders && length table.listeners == 0)
+
+-- a text stands for a table of these forms, valid or not
+pub record IsBuiltText (table : Table) (text : List ℕ) : Type 0 where
+  pub stands : IsTableText table text
+  pub built : IsTrue (is_built table)

@@ -3,7 +3,7 @@ ghost use Rattle.bus_table.specs.Gives.{Answers, Refuses};
 ghost use Rattle.bus_table.specs.Reading.{judged, answer_of};
 ghost use Rattle.bus_table.specs.Tables as tables;
 ghost use Rattle.bus_table.specs.declared.mode.Mode.TheVariants.{Aperiodic};
-ghost use Rattle.bus_table.specs.Text.{IsTableText, is_built};
+ghost use Rattle.bus_table.specs.Text.{IsTableText, IsBuiltText, is_built};
 
 use crate::draft::Draft;
 use crate::error::TableError;
@@ -37,8 +37,8 @@ fn read(alloc: Global, text: &[u8]) -> Result<Table, TableError>
 /// applies, or one past the last line where only `Ended` does, and with the first reason that applies. `Whole` comes
 /// exactly where the text is in it and a whole reason applies, with the first. `Memory` comes where memory runs out.
 pub fn read_table(alloc: Global, text: &[u8]) -> Result<Table, TableError>
-    // What is read is what the text stands for.
-    ensures found { IfOk result (λ table. IsTableText table text.now) }
+    // What is read is what the text stands for, and of the built forms.
+    ensures found { IfOk result (λ table. IsBuiltText table text.now) }
 
     // What a text stands for is read, or refused by the first whole reason that applies to it, unless memory runs out.
     ensures only { (table : tables.Table) → IsTableText table text.now → IsTrue (is_built table) → Answers result (judged table) }
