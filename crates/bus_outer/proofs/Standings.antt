@@ -3,6 +3,7 @@ use Rattle.std.specs.Prelude.{◌≡◌, ◌≤◌, ℕ, Bool, true, false, List
 use Rattle.std.proofs.Common.{◌∙◌, ap, subst, append-nil, arith}
 use Rattle.std.specs.declared.option.Option.{Option}
 use Rattle.bus_outer.specs.Faults.{Rose}
+use Rattle.bus_outer.specs.FaultLaws.{rose_later}
 use Rattle.bus_outer.specs.Sinks.{Written, WritesText}
 use Rattle.bus_outer.specs.Standing.{Stands, Sends}
 use Rattle.bus_outer.specs.Texts.{Adds, Ends}
@@ -37,7 +38,7 @@ stands_written held faults s k k' w w' f' text bytes rest h v le same rose = rec
   written = written_on _ _ _ _ _ bytes rest (subst (λ r. Written (held s) (held k) r text) (h.waits refl) h.written) v;
   waits = same;
   later = omega (arith, h.later);
-  cause = λ e. let r : Rose (faults k) (faults k') = rose e in omega (arith, h.later, r);
+  cause = λ e. rose_later _ _ _ h.later (rose e);
 }
 
 -- after a failure nothing is sent

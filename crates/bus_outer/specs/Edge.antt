@@ -23,18 +23,16 @@ ReadsFile old new (Got n) buf = Consumes old new (take n buf)
 ReadsFile old new End buf = IsAtEnd new
 ReadsFile old new Failed buf = Keeps old new
 
--- A pull that opens a file reads it too, and says that it ended only where nothing of it is left. Where the file can't be opened, its
--- name stays for the next pull.
-abbrev pub OpensFile : {F : Type 0} → (F → Option (List ℕ)) → String Global → NamedFile F → Pull → Type 0
-OpensFile remaining path (Open file) End = IsAtEnd (left_ahead remaining file)
-OpensFile remaining path (Open file) pull = Unit {0}
-OpensFile remaining path (Closed same) Failed = same ≡ path
-OpensFile remaining path new pull = ⊥
+-- A pull that opens a file is a read of it, from where it was opened. Where the file can't be opened, its name stays for the next pull.
+abbrev pub OpensFile : {F : Type 0} → (F → Option (List ℕ)) → String Global → NamedFile F → Pull → List ℕ → Type 0
+OpensFile {F} remaining path (Open file) pull buf = (opened : F) × ReadsFile (remaining opened) (left_ahead remaining file) pull buf
+OpensFile remaining path (Closed same) Failed buf = same ≡ path
+OpensFile remaining path new pull buf = ⊥
 
--- A source with no file has ended and stays so; a file is opened by a pull, and from then on each pull is a read of it.
+-- A source with no file has ended and stays so; a file is opened by a pull, and that pull and each later one is a read of it.
 abbrev pub PullsFile : {F : Type 0} → (F → Option (List ℕ)) → NamedFile F → NamedFile F → Pull → List ℕ → Type 0
 PullsFile remaining None new pull buf = (pull ≡ End) × (new ≡ None)
-PullsFile remaining (Closed path) new pull buf = OpensFile remaining path new pull
+PullsFile remaining (Closed path) new pull buf = OpensFile remaining path new pull buf
 PullsFile remaining (Open file) (Open next) pull buf = ReadsFile (left_ahead remaining file) (left_ahead remaining next) pull buf
 PullsFile remaining (Open file) new pull buf = ⊥
 

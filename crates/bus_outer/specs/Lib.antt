@@ -1,4 +1,5 @@
 pub mod Faults
+pub mod FaultLaws
 pub mod Sources
 pub mod Sinks
 pub mod Memory

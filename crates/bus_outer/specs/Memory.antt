@@ -1,5 +1,6 @@
 -- What the source and the sink in memory show.
-use Rattle.std.specs.Prelude.{◌≡◌, ℕ, ◌+◌, ◌-◌, ◌^◌, min, List, drop}
+use Rattle.std.specs.Prelude.{◌≡◌, ℕ, List, drop}
+use Rattle.bus_outer.specs.Faults.{one_more}
 use Rattle.bus_outer.specs.declared.memory_source.MemorySource.{MemorySource}
 use Rattle.bus_outer.specs.declared.memory_sink.MemorySink.{MemorySink}
 
@@ -23,9 +24,9 @@ failing_pulls s = s.failing.items
 abbrev pub source_faults : MemorySource → ℕ
 source_faults s = s.faults
 
--- One pull has passed: its number goes up, short of the largest u64, and the piece and the list stay.
+-- One pull has passed: the next one has a number one more, up to the last value of a u64, and the piece and the list stay.
 pub record PassesPull (old new : MemorySource) : Type 0 where
-  pub number : pull_number new ≡ min (pull_number old + 1) (2 ^ 64 - 1)
+  pub number : pull_number new ≡ one_more (pull_number old)
   pub piece : source_piece new ≡ source_piece old
   pub failing : failing_pulls new ≡ failing_pulls old
 
@@ -53,9 +54,9 @@ failing_pushes s = s.failing.items
 abbrev pub sink_faults : MemorySink → ℕ
 sink_faults s = s.faults
 
--- One push has passed: its number goes up, short of the largest u64, and the room, the piece and the list stay.
+-- One push has passed: the next one has a number one more, up to the last value of a u64, and the room, the piece and the list stay.
 pub record PassesPush (old new : MemorySink) : Type 0 where
-  pub number : push_number new ≡ min (push_number old + 1) (2 ^ 64 - 1)
+  pub number : push_number new ≡ one_more (push_number old)
   pub room : sink_room new ≡ sink_room old
   pub piece : sink_piece new ≡ sink_piece old
   pub failing : failing_pushes new ≡ failing_pushes old

@@ -9,6 +9,7 @@ use Rattle.std.proofs.Common.{sym, ap, ◌∙◌, append_assoc, append-nil, take
 use Rattle.std.specs.declared.option.Option.{Option}
 use Rattle.std.specs.declared.result.Result.{Result}
 use Rattle.std.specs.Io.KnownBytes.{append_known, prepend_known}
+use Rattle.bus_outer.specs.FaultLaws.{rose_later}
 use Rattle.bus_outer.specs.Sources.{Taken}
 use Rattle.bus_outer.specs.Sinks.{Written, WritesText}
 
@@ -81,7 +82,7 @@ writes_then held faults a b c x (Err e) first second p q = record {
   ok = tt;
   prefix = (q.prefix.0, written_on _ _ _ [] first second q.prefix.0 p.ok q.prefix.1);
   later = omega (arith, p.later, q.later);
-  cause = omega (arith, p.later, q.cause);
+  cause = rose_later _ _ _ p.later q.cause;
 }
 
 -- one text was written in part, and no other was begun; the fault may be given as another error

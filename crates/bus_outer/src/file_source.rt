@@ -1,6 +1,6 @@
 // A file as a source: the trusted edge, which tells no content.
 ghost use Rattle.std.specs.Prelude.{◌≡◌, ◌≤◌, ◌<◌, MatchOption, None, length};
-ghost use Rattle.bus_outer.specs.Faults.{Rose};
+ghost use Rattle.bus_outer.specs.Faults.{Rose, CountsFault, one_more};
 ghost use Rattle.bus_outer.specs.Sources.{Pulls};
 
 use crate::read_ahead::ReadAhead;
@@ -10,9 +10,9 @@ use std::rt::Files;
 
 /// A file by its path, opened at the first pull. With no path it is an empty source.
 ///
-/// It reads ahead, so that short pulls make few calls of the system, and tells no content. Its count of faults rises where the file can't be opened or a read fails, and stays
-/// at the last value of a `u64`, where `Failed` may come at any time. A pull after a failed opening tries
-/// again.
+/// It reads ahead, so that short pulls make few calls of the system, and tells no content. Its count of
+/// faults rises by one where the file can't be opened or a read fails, and stays at the last value of a
+/// `u64`, where `Failed` may come at any time. A pull after a failed opening tries again.
 #[derive(Drop)]
 pub struct FileSource<'a, R: Files> {
     rt: &'a R,
@@ -47,10 +47,11 @@ impl<'a, R: Files> FileSource<'a, R> {
         }
     }
 
+    // Counts a fault.
     fn fail(&mut self) -> Pull
         ensures failed { result ≡ Pull.Failed }
+        ensures counts { file_faults self.new ≡ one_more (file_faults self.old) }
         ensures later { file_faults self.old ≤ file_faults self.new }
-        ensures rose { Rose (file_faults self.old) (file_faults self.new) }
         ensures file { file_of self.new ≡ file_of self.old }
     {
         self.faults = self.faults.saturating_add(1);
@@ -65,13 +66,14 @@ impl<'a, R: Files> Source for FileSource<'a, R> {
 
     ghost faults = { λ s. s.faults };
 
-    /// Gives what was read ahead, or else reads the file once, after opening it where it isn't open. `End` comes only with no path, or where
-    /// the open file is at its end.
+    /// Gives what was read ahead, or else reads the file once, after opening it where it isn't open. `End`
+    /// comes only with no path, or where the open file is at its end.
     fn pull(&mut self, buf: &mut [u8]) -> Pull
         requires { 0 < length buf.old }
         ensures bytes { Pulls None None result buf.new }
         ensures later { file_faults self.old ≤ file_faults self.new }
         ensures cause { result ≡ Pull.Failed → Rose (file_faults self.old) (file_faults self.new) }
+        ensures counts { CountsFault (result ≡ Pull.Failed) (file_faults self.old) (file_faults self.new) }
         ensures file { PullsFile R.File.remaining (file_of self.old) (file_of self.new) result buf.new }
     {
         if let NamedFile::Closed(path) = &self.file {

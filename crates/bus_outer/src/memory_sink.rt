@@ -1,6 +1,6 @@
 // A sink in memory, which fails at the pushes that it is told and where it is full.
 ghost use Rattle.std.specs.Prelude.{◌≡◌, ◌⊎◌, ◌-◌, ◌<◌, ◌≤◌, ◌↔◌, ℕ, [], Contains, IfOk, Some, length, min, vec_capacity, vec_len};
-ghost use Rattle.bus_outer.specs.Faults.{Rose};
+ghost use Rattle.bus_outer.specs.Faults.{Rose, CountsFault};
 ghost use Rattle.bus_outer.specs.Sinks.{Pushes};
 
 use crate::{Push, Sink};
@@ -9,7 +9,8 @@ use std::alloc::{AllocError, Global};
 /// A sink in memory with a fixed room. It takes bytes in pieces, and fails exactly at the pushes listed and
 /// where it is full.
 ///
-/// Pushes are numbered from 0; the number stops at the last value of a `u64`.
+/// Pushes are numbered from 0, and a failed one counts as one fault; the number and the count stop at the last
+/// value of a `u64`.
 #[derive(Drop)]
 pub struct MemorySink {
     bytes: Vec<u8>,
@@ -76,6 +77,7 @@ impl Sink for MemorySink {
         ensures later { sink_faults self.old ≤ sink_faults self.new }
         ensures cause { result ≡ Push.Failed → Rose (sink_faults self.old) (sink_faults self.new) }
 
+        ensures counts { CountsFault (result ≡ Push.Failed) (sink_faults self.old) (sink_faults self.new) }
         ensures listed { (result ≡ Push.Failed) ↔ (Contains (failing_pushes self.old) (push_number self.old)
             ⊎ (sink_room self.old ≤ length (sink_bytes self.old))) }
         ensures amount { (n : ℕ) → result ≡ Push.Took n →

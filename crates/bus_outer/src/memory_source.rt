@@ -1,6 +1,6 @@
 // A source in memory, which fails at the pulls that it is told.
 ghost use Rattle.std.specs.Prelude.{◌≡◌, ◌<◌, ◌≤◌, ◌↔◌, ℕ, Contains, Some, drop, length, min, vec_len};
-ghost use Rattle.bus_outer.specs.Faults.{Rose};
+ghost use Rattle.bus_outer.specs.Faults.{Rose, CountsFault};
 ghost use Rattle.bus_outer.specs.Sources.{Pulls};
 
 use crate::piece::copy_piece;
@@ -8,7 +8,8 @@ use crate::{Pull, Source};
 
 /// Bytes in memory as a source. It gives them in pieces, and fails exactly at the pulls listed.
 ///
-/// Pulls are numbered from 0; the number stops at the last value of a `u64`.
+/// Pulls are numbered from 0, and a failed one counts as one fault; the number and the count stop at the last
+/// value of a `u64`.
 #[derive(Drop)]
 pub struct MemorySource {
     bytes: Vec<u8>,
@@ -59,6 +60,7 @@ impl Source for MemorySource {
         ensures later { source_faults self.old ≤ source_faults self.new }
         ensures cause { result ≡ Pull.Failed → Rose (source_faults self.old) (source_faults self.new) }
 
+        ensures counts { CountsFault (result ≡ Pull.Failed) (source_faults self.old) (source_faults self.new) }
         ensures listed { (result ≡ Pull.Failed) ↔ Contains (failing_pulls self.old) (pull_number self.old) }
         ensures amount { (n : ℕ) → result ≡ Pull.Got n →
             n ≡ min (min (source_piece self.old) (length buf.old)) (length (source_left self.old)) }

@@ -1,6 +1,6 @@
 // A writer of std as a sink: the trusted edge, which tells no content.
 ghost use Rattle.std.specs.Prelude.{◌≡◌, ◌≤◌, ◌<◌, None, length};
-ghost use Rattle.bus_outer.specs.Faults.{Rose};
+ghost use Rattle.bus_outer.specs.Faults.{Rose, CountsFault};
 ghost use Rattle.bus_outer.specs.Sinks.{Pushes};
 
 use crate::{Push, Sink};
@@ -8,8 +8,8 @@ use std::io::Write;
 
 /// A writer, as standard output, which is flushed before each answer.
 ///
-/// It tells no content. Its count of faults rises where a write or a flush fails, and where a write takes
-/// nothing; it stays at the last value of a `u64`, where `Failed` may come at any time.
+/// It tells no content. Its count of faults rises by one where a write or a flush fails, and where a write
+/// takes nothing; it stays at the last value of a `u64`, where `Failed` may come at any time.
 #[derive(Drop)]
 pub struct OutSink<W> {
     writer: W,
@@ -41,6 +41,7 @@ impl<W: Write> Sink for OutSink<W> {
         ensures bytes { Pushes None None result bytes.now }
         ensures later { writer_faults self.old ≤ writer_faults self.new }
         ensures cause { result ≡ Push.Failed → Rose (writer_faults self.old) (writer_faults self.new) }
+        ensures counts { CountsFault (result ≡ Push.Failed) (writer_faults self.old) (writer_faults self.new) }
         ensures writes { PushesOn (W.contents (writer_of self.old)) (W.contents (writer_of self.new)) result bytes.now }
     {
         if let Ok(n) = self.writer.write(bytes)
