@@ -4,6 +4,7 @@ pub mod LawfulLaws
 pub mod Stretches
 pub mod Chains
 pub mod Timings
+pub mod StationLaws
 pub mod Buses
 pub mod Following
 pub mod Orders
