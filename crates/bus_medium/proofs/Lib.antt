@@ -13,3 +13,4 @@ pub mod StretchLemmas
 pub mod TurnLemmas
 pub mod ClockLemmas
 pub mod ChainLemmas
+pub mod Existence

@@ -1,17 +1,13 @@
 -- Whole stretches and single starts of a lawful list.
-use Rattle.std.proofs.Common.{◌≡◌, ℕ, zero, suc, ◌+◌, ◌<◌, ◌≤◌, List, [], ◌∷◌, ◌++◌, max, inl, inr, arith, refl, ap, subst}
+use Rattle.std.proofs.Common.{◌≡◌, ℕ, zero, suc, ◌+◌, ◌<◌, ◌≤◌, List, [], ◌∷◌, ◌++◌, inl, inr, arith, refl, ap, subst}
 use Rattle.bus_strings.specs.Members.{In}
 use Rattle.bus_strings.specs.Messages.{Entry}
 use Rattle.bus_medium.specs.Lawful.{Station, IsDue, IsLawfulTo}
+use Rattle.bus_medium.specs.LawfulList.{above}
 use Rattle.bus_medium.specs.Stretches.{IdleStretch, LoneStart}
 use Rattle.bus_medium.proofs.Steps.{lawful_idle, lawful_start, lawful_next, still_due}
 
--- a number above those of all senders
-abbrev above : List Station → ℕ
-above [] = 0
-above (s ∷ ss) = max (s.number + 1) (above ss)
-
-below_above : (ss : List Station) (s : Station) → In s ss → s.number < above ss
+pub below_above : (ss : List Station) (s : Station) → In s ss → s.number < above ss
 below_above [] s i = absurd i
 below_above (r ∷ ss) s (inl e) = let h : s.number ≡ r.number = ap (λ w. w.number) e in omega arith
 below_above (r ∷ ss) s (inr i) = let h : s.number < above ss = below_above ss s i in omega arith

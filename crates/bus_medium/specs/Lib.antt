@@ -1,5 +1,6 @@
 pub mod Past
 pub mod Lawful
+pub mod LawfulList
 pub mod LawfulLaws
 pub mod Stretches
 pub mod Chains

@@ -1,12 +1,20 @@
-ghost use Rattle.bus_medium.specs.LawfulLaws.{OneLawfulList, LawfulToHorizon};
+ghost use Rattle.bus_medium.specs.LawfulLaws.{OneLawfulList, ThereIsALawfulList, TheComputedList, OneListOfATable, LawfulToHorizon};
 ghost use Rattle.bus_medium.specs.Stretches.{IdleStretch, LoneStart, MessageIsCarrier, MessageElapsed, MessageWaiting, NoStartDuring};
 ghost use Rattle.bus_medium.specs.Chains.{ChainSettled, ChainStep, ChainDue, ChainStarts};
 
-/// There is one lawful list at most, and what is lawful up to the horizon is lawful for it.
+use bus_timers::laws::test_decides;
+
+/// Senders with numbers of their own have exactly one lawful list for each horizon, the one that `lawful_list`
+/// computes; so has every valid table with its hands. What is lawful up to the horizon is lawful for it.
 pub fn one_lawful_list()
     ensures once { OneLawfulList }
+    ensures exists { ThereIsALawfulList }
+    ensures computed { TheComputedList }
+    ensures table { OneListOfATable }
     ensures whole { LawfulToHorizon }
-{}
+{
+    test_decides();
+}
 
 /// A list stays lawful over a stretch in which nobody is due, and with a start of the one who is.
 pub fn lawful_turns()

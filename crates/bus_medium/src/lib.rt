@@ -5,10 +5,12 @@
 //! its timers allow and it has a message left, after the past that the list itself makes (`specs/Past.antt`).
 //! [`timing`] has the timings of a table's senders.
 //!
-//! [`laws`] has what follows of the definitions: there is one lawful list at most ([`laws::one_lawful_list`]); it
-//! grows by stretches in which nobody is due and by single starts ([`laws::lawful_turns`]); a whole message counts
-//! for the timers as its bits of carrier ([`laws::messages_are_carrier`]); and as long as no transmission begins
-//! before the one before has ended, three numbers of each sender tell who is due next ([`laws::chains_tell`]).
+//! [`laws`] has what follows of the definitions: every valid table with its hands has exactly one lawful list
+//! ([`laws::one_lawful_list`]), which `specs/LawfulList.antt` computes; it grows by stretches in which nobody is due
+//! and by single starts ([`laws::lawful_turns`]); a whole message counts for the timers as its bits of carrier
+//! ([`laws::messages_are_carrier`]); and as long as no transmission begins before the one before has ended, three
+//! numbers of each sender tell who is due next ([`laws::chains_tell`]). `specs/StationLaws.antt` says what the
+//! stations of a valid table are, by which these laws apply to it.
 #![tactic(auto)]
 
 pub mod bus;
