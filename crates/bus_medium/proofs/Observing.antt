@@ -83,6 +83,23 @@ all_passed {C} core quiet t c xs ys l p e f = λ j y y_at.
     (subst (λ w. Follows (core.stands y.terminal.core) quiet w y.terminal.hand y.terminal.sent y.terminal.running (past quiet l t ++ c ∷ []) (own l (number_of y) (t + 1)) (t + 1)) (sym q.timing)
     (subst (λ (w : Terminal C). Follows (core.stands y.terminal.core) quiet x.timing w.hand w.sent w.running (past quiet l t ++ c ∷ []) (own l w.hand.terminal (t + 1)) (t + 1)) (sym q.terminal) made))
 
+-- a bit time takes one of the room at most
+pub passed_room : {C : Type 0} (core : Ghosts C) (c : Bool) (xs ys : List (Seat C)) (n : ℕ) → AllPassed core c xs ys → AllHaveRoom core xs (n + 1) → AllHaveRoom core ys n
+passed_room core c xs ys n p h j y y_at =
+    let within : j < length ys = slice_get_within ys j y y_at in
+    let len : length ys ≡ length xs = p.same_length in
+    let was = get_within xs j (omega arith) in
+    let q : Passed core c was.0 y = p.each j was.0 y was.1 y_at in
+    let before : n + 1 ≤ core.room was.0.terminal.core = h j was.0 was.1 in
+    let b : core.room was.0.terminal.core ≤ core.room y.terminal.core + 1 = q.room in
+    omega arith
+
+-- a bit time: the senders decided, and were passed the carrier that any of them has
+pub bit_passed : {C : Type 0} (core : Ghosts C) (quiet t : ℕ) (c : Bool) (xs ys zs : List (Seat C)) (l : List Entry) → IsLawfulTo quiet (map station_of xs) (t + 1) 0 l → map station_of ys ≡ map station_of xs → AllFollow core quiet ys l t (t + 1)
+    → c ≡ list_any seat_sounds ys → AllPassed core c ys zs → AllFollow core quiet zs l (t + 1) (t + 1)
+bit_passed core quiet t c xs ys zs l law s f e p =
+    all_passed core quiet t c ys zs l p (e ∙ sym (carrier_is core quiet t ys l (subst (λ ss. IsLawfulTo quiet ss (t + 1) 0 l) (sym s) law) f)) f
+
 -- what an observation knows at moment t
 pub record ObservedSoFar {C : Type 0} (core : Ghosts C) (quiet horizon : ℕ) (xs ys : List (Seat C)) (l : List Entry) (t : ℕ) : Type 0 where
   pub stations : map station_of ys ≡ map station_of xs
@@ -98,24 +115,15 @@ observed_none core quiet horizon xs s = record {
   room = λ j x at. let w = s x (in_at xs j x at) in let k : 2 ^ 62 ≤ core.room x.terminal.core + 0 = w.room in omega arith;
 }
 
-pub observed_more : {C : Type 0} (core : Ghosts C) (quiet horizon : ℕ) (xs ys ys' ys'' : List (Seat C)) (l l' : List Entry) (t : ℕ) (c : Bool) → ObservedSoFar core quiet horizon xs ys l t
-    → IsLawfulTo quiet (map station_of ys) (t + 1) 0 l' → AllFollow core quiet ys' l' t (t + 1) → map station_of ys' ≡ map station_of ys → ((n : ℕ) → AllHaveRoom core ys n → AllHaveRoom core ys' n)
-    → c ≡ list_any seat_sounds ys' → AllPassed core c ys' ys'' → ObservedSoFar core quiet horizon xs ys'' l' (t + 1)
-observed_more {C} core quiet horizon xs ys ys' ys'' l l' t c so law f s room e p =
-    let same : map station_of ys'' ≡ map station_of ys = passed_stations core c ys' ys'' p ∙ s in
-    record {
-      stations = same ∙ so.stations;
-      lawful = subst (λ ss. IsLawfulTo quiet ss (t + 1) 0 l') (sym same) law;
-      follow = all_passed core quiet t c ys' ys'' l' p (e ∙ sym (carrier_is core quiet t ys' l' (subst (λ ss. IsLawfulTo quiet ss (t + 1) 0 l') (sym s) law) f)) f;
-      room = λ j z z_at.
-          let within : j < length ys'' = slice_get_within ys'' j z z_at in
-          let len : length ys'' ≡ length ys' = p.same_length in
-          let was = get_within ys' j (omega arith) in
-          let q : Passed core c was.0 z = p.each j was.0 z was.1 z_at in
-          let a : 2 ^ 62 - t ≤ core.room was.0.terminal.core = room (2 ^ 62 - t) so.room j was.0 was.1 in
-          let b : core.room was.0.terminal.core ≤ core.room z.terminal.core + 1 = q.room in
-          omega arith;
-    }
+pub observed_more : {C : Type 0} (core : Ghosts C) (quiet horizon : ℕ) (xs ys zs : List (Seat C)) (l m : List Entry) (t : ℕ) → ObservedSoFar core quiet horizon xs ys l t → t < 2 ^ 62
+    → IsLawfulTo quiet (map station_of ys) (t + 1) 0 m → AllFollow core quiet zs m (t + 1) (t + 1) → map station_of zs ≡ map station_of ys → ((n : ℕ) → AllHaveRoom core ys (n + 1) → AllHaveRoom core zs n)
+    → ObservedSoFar core quiet horizon xs zs m (t + 1)
+observed_more core quiet horizon xs ys zs l m t so small law f s room = record {
+  stations = s ∙ so.stations;
+  lawful = subst (λ ss. IsLawfulTo quiet ss (t + 1) 0 m) (sym s) law;
+  follow = f;
+  room = room (2 ^ 62 - (t + 1)) (λ j y y_at. let k : 2 ^ 62 - t ≤ core.room y.terminal.core = so.room j y y_at in omega arith);
+}
 
 -- at the horizon
 pub observed_lawful : {C : Type 0} (core : Ghosts C) (quiet horizon : ℕ) (xs ys : List (Seat C)) (l : List Entry) (t : ℕ) → ObservedSoFar core quiet horizon xs ys l t → t ≡ horizon → IsLawful quiet (map station_of xs) horizon l

@@ -103,6 +103,32 @@ fn decide_all<C: Core>(
     Ok(())
 }
 
+/// One bit time: every sender decides at the moment, and then each is passed the carrier that any of them has.
+fn bit_time<C: Core>(
+    alloc: Global,
+    roster: &Roster,
+    moment: u64,
+    seats: &mut [Seat<C>],
+    list: &mut Vec<Transmission>,
+) -> Result<(), AllocError>
+    requires moment { moment < 2 ^ 40 }
+    requires numbers { AreNumbers (map number_of seats.old) }
+    requires order { IsByNumber (map number_of seats.old) roster.now.places.items }
+    requires lawful { IsLawfulTo roster.now.quiet (map station_of seats.old) moment 0 list.old.items }
+    requires follow { AllFollow ⟦<C as Core>⟧ roster.now.quiet seats.old list.old.items moment moment }
+    requires room { AllHaveRoom ⟦<C as Core>⟧ seats.old 1 }
+    ensures numbers { map number_of seats.new ≡ map number_of seats.old }
+    ensures lawful { OnOk result (IsLawfulTo roster.now.quiet (map station_of seats.old) (moment + 1) 0 list.new.items) }
+    ensures follow { OnOk result (AllFollow ⟦<C as Core>⟧ roster.now.quiet seats.new list.new.items (moment + 1) (moment + 1)) }
+    ensures stations { OnOk result (map station_of seats.new ≡ map station_of seats.old) }
+    ensures room { OnOk result ((n : ℕ) → AllHaveRoom ⟦<C as Core>⟧ seats.old (n + 1) → AllHaveRoom ⟦<C as Core>⟧ seats.new n) }
+{
+    decide_all(alloc, roster, moment, seats, list)?;
+    let carrier = any_on(seats);
+    pass_all(seats, carrier);
+    Ok(())
+}
+
 /// The lawful list up to the horizon.
 fn observe_all<C: Core>(
     alloc: Global,
@@ -122,9 +148,7 @@ fn observe_all<C: Core>(
 {
     let mut list = Vec::new(alloc);
     for moment in 0..horizon {
-        decide_all(alloc, roster, moment, seats, &mut list)?;
-        let carrier = any_on(seats);
-        pass_all(seats, carrier);
+        bit_time(alloc, roster, moment, seats, &mut list)?;
     }
     Ok(list)
 }

@@ -1,4 +1,4 @@
-use Rattle.std.proofs.Common.{◌<◌, ◌-◌, ◌^◌, ℕ, List, arith, sym, ◌∙◌, subst}
+use Rattle.std.proofs.Common.{◌<◌, ℕ, List, arith, sym, ◌∙◌, subst}
 use Rattle.bus_strings.specs.Messages.{Entry}
 use Rattle.bus_medium.specs.Orders.{IsByNumber, AreNumbers}
 use Rattle.bus_medium.proofs.Seats.{same_numbers, own_numbers}
@@ -11,24 +11,25 @@ loop-moment-init g c =
     let xs = c.args.seats.now in
     subst (λ (l : List Entry). ObservedSoFar g.C.Core q c.args.horizon xs xs l 0) (sym c.new-list.ensures.items) (observed_none g.C.Core q c.args.horizon xs c.requires.stands)
 
-pub decide_all-requires-clause-numbers : goal.decide_all-requires-clause-numbers
-decide_all-requires-clause-numbers g c = subst AreNumbers (sym (same_numbers c.args.seats.now c.loop-moment.seats c.loop-moment.invariant.stations)) c.requires.numbers
+pub bit_time-requires-clause-numbers : goal.bit_time-requires-clause-numbers
+bit_time-requires-clause-numbers g c = subst AreNumbers (sym (same_numbers c.args.seats.now c.loop-moment.seats c.loop-moment.invariant.stations)) c.requires.numbers
 
-pub decide_all-requires-clause-order : goal.decide_all-requires-clause-order
-decide_all-requires-clause-order g c =
+pub bit_time-requires-clause-order : goal.bit_time-requires-clause-order
+bit_time-requires-clause-order g c =
     subst (λ (ns : List ℕ). IsByNumber ns c.args.roster.now.places.items) (sym (same_numbers c.args.seats.now c.loop-moment.seats c.loop-moment.invariant.stations)) c.requires.order
 
-pub pass_all-requires-clause-room : goal.pass_all-requires-clause-room
-pass_all-requires-clause-room g c j x at =
+pub bit_time-requires-clause-room : goal.bit_time-requires-clause-room
+bit_time-requires-clause-room g c j x at =
     let most : c.loop-moment.moment < c.args.horizon = omega arith in
-    let h = c.in_ok-decide_all.ensures.room (2 ^ 62 - c.loop-moment.moment) c.loop-moment.invariant.room j x at in
+    let h = c.loop-moment.invariant.room j x at in
     omega (arith, h, c.requires.horizon)
 
 pub loop-moment-preserved : goal.loop-moment-preserved
 loop-moment-preserved g c =
-    let e = c.in_ok-decide_all.ensures in
-    observed_more g.C.Core c.args.roster.now.quiet c.args.horizon c.args.seats.now c.loop-moment.seats c.decide_all.new.seats c.pass_all.new.seats c.loop-moment.list.items c.decide_all.new.list.items c.loop-moment.moment c.any_on-carrier.result
-    c.loop-moment.invariant e.lawful e.follow e.stations e.room c.any_on-carrier.ensures c.pass_all.ensures
+    let e = c.in_ok-bit_time.ensures in
+    let most : c.loop-moment.moment < c.args.horizon = omega arith in
+    observed_more g.C.Core c.args.roster.now.quiet c.args.horizon c.args.seats.now c.loop-moment.seats c.bit_time.new.seats c.loop-moment.list.items c.bit_time.new.list.items c.loop-moment.moment
+    c.loop-moment.invariant (omega (arith, c.requires.horizon)) e.lawful e.follow e.stations e.room
 
 pub returns-clause-lawful : goal.returns-clause-lawful
 returns-clause-lawful g c =
@@ -43,8 +44,8 @@ pub returns-clause-stands : goal.returns-clause-stands
 returns-clause-stands g c =
     observed_stands g.C.Core c.args.roster.now.quiet c.args.horizon c.args.seats.now c.loop-moment.seats c.loop-moment.list.items c.loop-moment.moment c.loop-moment.invariant (omega arith) (omega (arith, c.requires.horizon))
 
-pub returns-in_err-decide_all-clause-numbers : goal.returns-in_err-decide_all-clause-numbers
-returns-in_err-decide_all-clause-numbers g c = c.in_err-decide_all.ensures.numbers ∙ same_numbers c.args.seats.now c.loop-moment.seats c.loop-moment.invariant.stations
+pub returns-in_err-bit_time-clause-numbers : goal.returns-in_err-bit_time-clause-numbers
+returns-in_err-bit_time-clause-numbers g c = c.in_err-bit_time.ensures.numbers ∙ same_numbers c.args.seats.now c.loop-moment.seats c.loop-moment.invariant.stations
 
 pub returns-clause-numbers : goal.returns-clause-numbers
 returns-clause-numbers g c = same_numbers c.args.seats.now c.loop-moment.seats c.loop-moment.invariant.stations
