@@ -1,23 +1,14 @@
 -- What the senders of a valid table have.
 use Rattle.std.proofs.Common.{◌≡◌, ℕ, zero, suc, ◌<◌, ◌≤◌, false, eq-eqb, List, [], ◌∷◌, length, get_or, map, Some, arith, sym, ap, refl, ◌∙◌, subst}
-use Rattle.std.specs.Prelude.{nat_le, nat_eq, slice_get, IsTrue}
+use Rattle.std.specs.Prelude.{nat_eq, slice_get, IsTrue}
 use Rattle.std.specs.List.{AllByRecursion, IsDistinct}
-use Rattle.std.proofs.lemmas.Bool.{and_parts, leb-true, true≢false}
+use Rattle.std.proofs.lemmas.Bool.{true≢false}
 use Rattle.std.proofs.lemmas.List.{length-map}
-use Rattle.bus_table.specs.declared.mode.Mode.{Mode}
-use Rattle.bus_table.specs.declared.mode.Mode.TheVariants.{Aperiodic, Periodic}
 use Rattle.bus_table.specs.Tables.{Sender, Table}
-use Rattle.bus_table.specs.Ranges.{is_number, is_tg, is_sender}
 use Rattle.bus_table.specs.Valid.{is_valid}
-use Rattle.bus_table.specs.Facts.{FitsMode, SenderFacts}
+use Rattle.bus_table.specs.Facts.{SenderFacts}
 use Rattle.bus_table.specs.ValidLaws.{valid_facts}
-use Rattle.bus_medium.specs.Timings.{due_for}
 use Rattle.bus_medium.specs.Orders.{AreNumbers, AreDistinct}
-
-pub tg_most : (s : Sender) → IsTrue (is_sender s) → s.tg ≤ 256
-tg_most s h =
-    let gap = and_parts (is_tg s.tg) _ (and_parts (is_number s.number) _ h).1 in
-    leb-true s.tg 256 (and_parts (nat_le 8 s.tg) (nat_le s.tg 256) gap.0).1
 
 pub sender_at : (table : Table) (senders : List Sender) (k : ℕ) (s : Sender) → AllByRecursion (SenderFacts table) senders → slice_get senders k ≡ Some s → SenderFacts table s
 sender_at table [] k s a h = cc
@@ -26,11 +17,6 @@ sender_at table (r ∷ senders) (suc k) s a h = sender_at table senders k s a.1 
 
 pub sender_facts : (table : Table) (k : ℕ) (s : Sender) → IsTrue (is_valid table) → slice_get table.senders k ≡ Some s → SenderFacts table s
 sender_facts table k s valid at = sender_at table table.senders k s (valid_facts table valid).senders at
-
--- when a sender's interval elapses first
-pub due_most : (mode : Mode) (ti : ℕ) (s : Sender) → FitsMode mode ti s.at → ti ≤ 128000 → due_for mode s < 128000
-due_most Aperiodic ti s h most = omega arith
-due_most Periodic ti s h most = let k : s.at < ti = h in omega arith
 
 number_at : (senders : List Sender) (k : ℕ) → k < length senders → (s : Sender) × (slice_get senders k ≡ Some s) × (get_or (map (λ r. r.number) senders) k 0 ≡ s.number)
 number_at [] k h = absurd (omega arith)
