@@ -2,7 +2,10 @@
 //! leaves everything else to `bus_tool::tool::tool`.
 #![tactic(auto)]
 
-use bus_outer::{FileSource, OutSink};
+mod sources;
+
+use crate::sources::{Sources, sources_of};
+use bus_outer::OutSink;
 use bus_tool::status::Status;
 use bus_tool::tool::tool;
 use std::alloc::Global;
@@ -23,17 +26,6 @@ fn words<R: Runtime<A = Global>>(rt: &R) -> Result<Vec<String>, Status> {
     }
 }
 
-/// The word at a place, as the path of a file, where there is one.
-fn path(words: &[String], place: usize) -> Result<Option<String>, Status> {
-    let Some(word) = words.get(place) else {
-        return Ok(None);
-    };
-    match word.clone() {
-        Ok(word) => Ok(Some(word)),
-        Err(_) => Err(Status::NoMemory),
-    }
-}
-
 /// Runs the program over these standard streams.
 fn run<R: Runtime<A = Global>, O: Write + Drop, E: Write + Drop>(
     rt: &R,
@@ -41,8 +33,10 @@ fn run<R: Runtime<A = Global>, O: Write + Drop, E: Write + Drop>(
     err: E,
 ) -> Result<Status, Status> {
     let words = words(rt)?;
-    let mut first = FileSource::new(rt, path(&words, 1)?);
-    let mut second = FileSource::new(rt, path(&words, 2)?);
+    let Sources {
+        mut first,
+        mut second,
+    } = sources_of(rt, &words)?;
     let mut out = OutSink::new(out);
     let mut err = OutSink::new(err);
     Ok(tool(
