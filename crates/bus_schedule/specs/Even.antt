@@ -1,0 +1,22 @@
+-- The hands of a run: even ones.
+--   hand     what a sender has to send, in order
+--   rounds   the number of messages in each hand
+use Rattle.std.specs.Prelude.{ℕ, Bool, ◌&&◌, ◌==◌, List, [], ◌∷◌, length, if◌then◌else◌}
+use Rattle.std.specs.List.{list_all}
+use Rattle.bus_strings.specs.Messages.{Message}
+use Rattle.bus_table.specs.Tables.{Table, Hand}
+use Rattle.bus_table.specs.Hands.{are_hands}
+
+-- the messages of the terminal with this number
+abbrev pub messages_of : List Hand → ℕ → List Message
+messages_of [] number = []
+messages_of (hand ∷ hands) number = if hand.terminal == number then hand.messages else messages_of hands number
+
+-- how many messages each of some even hands has
+abbrev pub rounds : List Hand → ℕ
+rounds [] = 0
+rounds (hand ∷ hands) = length hand.messages
+
+-- whether there is one hand for each sender in the order of the table, each message fits, and all hands have the same number of messages
+abbrev pub are_even : Table → List Hand → Bool
+are_even table hands = are_hands table.senders hands && list_all (λ hand. length hand.messages == rounds hands) hands

@@ -1,0 +1,4 @@
+pub mod Even
+pub mod Closed
+pub mod Runs
+pub mod Laws
