@@ -1,0 +1,160 @@
+-- What even hands give each sender, and its station.
+use Rattle.std.proofs.Common.{◌≡◌, ◌≢◌, ℕ, zero, suc, ◌+◌, ◌<◌, ◌≤◌, Bool, true, false, ◌&&◌, List, [], ◌∷◌, length, get_or, map, Some, inl, inr, arith, sym, refl, ap, ◌∙◌}
+use Rattle.std.specs.Prelude.{◌==◌, nat_le, slice_get, zip, IsTrue}
+use Rattle.std.specs.List.{list_all}
+use Rattle.std.proofs.lemmas.Bool.{and_parts, eqb-true, leb-true, eq-eqb, ne_eqb}
+use Rattle.std.proofs.lemmas.List.Sums.{sum_by-cons}
+use Rattle.std.proofs.lemmas.Option.{slice_get-get_or}
+use Rattle.bus_timers.specs.Timings.{IsSound}
+use Rattle.bus_strings.specs.Members.{In}
+use Rattle.bus_strings.specs.Messages.{Message, word_count, bits}
+use Rattle.bus_table.specs.declared.mode.Mode.TheVariants.{Aperiodic}
+use Rattle.bus_table.specs.declared.line.SendLine.{SendLine}
+use Rattle.bus_table.specs.Tables.{Sender, Table, Hand}
+use Rattle.bus_table.specs.Ranges.{is_number, is_tg, is_offset, are_send_lines}
+use Rattle.bus_table.specs.Fits.{allows, matches, fits}
+use Rattle.bus_table.specs.FitLaws.{fitting_length}
+use Rattle.bus_table.specs.Lengths.{shortest, longest}
+use Rattle.bus_table.specs.Hands.{are_hands}
+use Rattle.bus_table.specs.Facts.{SenderFacts, TableFacts}
+use Rattle.bus_table.specs.Turns.{Differ}
+use Rattle.bus_table.specs.TurnLaws.{of_each, numbers_differ}
+use Rattle.bus_medium.specs.Lawful.{Station, HaveOwnNumbers}
+use Rattle.bus_medium.specs.Timings.{quiet_for, quiet_of, due_for, timing_of}
+use Rattle.bus_schedule.specs.Even.{messages_of}
+use Rattle.bus_schedule.proofs.Members.{from_map, map_same}
+use Rattle.bus_schedule.proofs.Orders.{same_sender}
+
+-- the sender has this many messages, and each fits
+pub record HasHand (hands : ℕ → List Message) (rounds : ℕ) (sender : Sender) : Type 0 where
+  pub count : length (hands sender.number) ≡ rounds
+  pub fit : list_all (fits sender) (hands sender.number) ≡ true
+
+hand_here : (hand : Hand) (hands : List Hand) (number : ℕ) → hand.terminal ≡ number → messages_of (hand ∷ hands) number ≡ hand.messages
+hand_here hand hands number e = rw (eq-eqb hand.terminal number e) refl
+
+hand_there : (hand : Hand) (hands : List Hand) (number : ℕ) → hand.terminal ≢ number → messages_of (hand ∷ hands) number ≡ messages_of hands number
+hand_there hand hands number e = rw (ne_eqb hand.terminal number e) refl
+
+-- the hand of the first sender isn't that of another
+hand_of_other : (a : Sender) (senders : List Sender) (hand : Hand) (hands : List Hand) (b : Sender) → Differ (λ s. s.number) (a ∷ senders) → hand.terminal ≡ a.number → In b senders → messages_of (hand ∷ hands) b.number ≡ messages_of hands b.number
+hand_of_other a senders hand hands b d same i = hand_there hand hands b.number (λ e. d.0 b i (sym same ∙ e))
+
+-- one hand for each sender
+pub own_hand : (n : ℕ) (senders : List Sender) (hands : List Hand) → are_hands senders hands ≡ true → list_all (λ hand. length hand.messages == n) hands ≡ true → Differ (λ s. s.number) senders → (sender : Sender) → In sender senders → HasHand (messages_of hands) n sender
+own_hand n [] hands h counts d sender i = absurd i
+own_hand n (a ∷ senders) [] h counts d sender i = absurd cc
+own_hand n (a ∷ senders) (hand ∷ hands) h counts d sender (inl same) =
+    let parts = and_parts (hand.terminal == a.number) _ h in
+    let own = and_parts (list_all (fits a) hand.messages) _ parts.1 in
+    let number : hand.terminal ≡ sender.number = eqb-true hand.terminal a.number parts.0 ∙ ap (λ (s : Sender). s.number) (sym same) in
+    let here : messages_of (hand ∷ hands) sender.number ≡ hand.messages = hand_here hand hands sender.number number in
+    record {
+      count = ap length here ∙ eqb-true (length hand.messages) n (and_parts (length hand.messages == n) _ counts).0;
+      fit = ap (list_all (fits sender)) here ∙ ap (λ (s : Sender). list_all (fits s) hand.messages) same ∙ own.0;
+    }
+own_hand n (a ∷ senders) (hand ∷ hands) h counts d sender (inr i) =
+    let parts = and_parts (hand.terminal == a.number) _ h in
+    let own = and_parts (list_all (fits a) hand.messages) _ parts.1 in
+    let there : messages_of (hand ∷ hands) sender.number ≡ messages_of hands sender.number = hand_of_other a senders hand hands sender d (eqb-true hand.terminal a.number parts.0) i in
+    let rest : HasHand (messages_of hands) n sender = own_hand n senders hands own.1 (and_parts (length hand.messages == n) _ counts).1 d.1 sender i in
+    record { count = ap length there ∙ rest.count; fit = ap (list_all (fits sender)) there ∙ rest.fit }
+
+-- a sender's station
+abbrev pub station : Table → (ℕ → List Message) → Sender → Station
+station table hands sender = record { number = sender.number; timing = timing_of table sender; hand = hands sender.number }
+
+abbrev pub stations : Table → (ℕ → List Message) → List Station
+stations table hands = map (station table hands) table.senders
+
+-- the stations of dealt hands
+pub stations_are : (table : Table) (senders : List Sender) (hands : List Hand) → are_hands senders hands ≡ true → Differ (λ s. s.number) senders
+    → map (λ p. let x : Station = record { number = p.1.terminal; timing = timing_of table p.0; hand = p.1.messages } in x) (zip senders hands) ≡ map (station table (messages_of hands)) senders
+stations_are table [] hands h d = refl
+stations_are table (a ∷ senders) [] h d = absurd cc
+stations_are table (a ∷ senders) (hand ∷ hands) h d =
+    let parts = and_parts (hand.terminal == a.number) _ h in
+    let own = and_parts (list_all (fits a) hand.messages) _ parts.1 in
+    let number : hand.terminal ≡ a.number = eqb-true hand.terminal a.number parts.0 in
+    let first : Station = station table (messages_of (hand ∷ hands)) a in
+    let tail : List Station = map (λ p. record { number = p.1.terminal; timing = timing_of table p.0; hand = p.1.messages }) (zip senders hands) in
+    ap (λ n. let x : Station = record { number = n; timing = timing_of table a; hand = hand.messages } in x ∷ tail) number
+    ∙ ap (λ m. let x : Station = record { number = a.number; timing = timing_of table a; hand = m } in x ∷ tail) (sym (hand_here hand hands a.number number))
+    ∙ ap (λ l. first ∷ l) (stations_are table senders hands own.1 d.1 ∙ map_same (station table (messages_of hands)) (station table (messages_of (hand ∷ hands))) senders
+    (λ b i. ap (λ m. let x : Station = record { number = b.number; timing = timing_of table b; hand = m } in x) (sym (hand_of_other a senders hand hands b d number i))))
+
+pub own_numbers : (table : Table) (hands : ℕ → List Message) → TableFacts table → HaveOwnNumbers (stations table hands)
+own_numbers table hands facts a b i j e =
+    let x = from_map (station table hands) table.senders a i in
+    let y = from_map (station table hands) table.senders b j in
+    let numbers : x.0.number ≡ y.0.number = ap (λ (s : Station). s.number) x.2 ∙ e ∙ ap (λ (s : Station). s.number) (sym y.2) in
+    sym x.2 ∙ ap (station table hands) (same_sender (λ s. s.number) table.senders x.0 y.0 (numbers_differ table facts) x.1 y.1 numbers) ∙ y.2
+
+-- the timings of an aperiodic table
+pub quiet_is : (table : Table) → table.mode ≡ Aperiodic → quiet_of table ≡ table.sg
+quiet_is table mode = ap (λ m. quiet_for m table.sg table.senders) mode
+
+pub timing_sound : (table : Table) (sender : Sender) → table.mode ≡ Aperiodic → TableFacts table → In sender table.senders → IsSound (timing_of table sender)
+timing_sound table sender mode facts i =
+    let own : SenderFacts table sender = of_each (SenderFacts table) table.senders facts.senders sender i in
+    let quiet : quiet_of table ≡ table.sg = quiet_is table mode in
+    let due : due_for table.mode sender ≡ 0 = ap (λ m. due_for m sender) mode in
+    record {
+      ti_least = facts.ti_least;
+      ti_most = facts.ti_most;
+      sg_least = facts.sg_least;
+      sg_most = facts.sg_most;
+      tg_least = own.tg_least;
+      tg_most = own.tg_most;
+      tg_short = own.tg_short;
+      quiet_least = omega arith;
+      quiet_most = omega arith;
+      due_most = omega arith;
+    }
+
+-- a message has bit times
+bits_some : (message : Message) → 0 < length message → 0 < bits message
+bits_some [] h = absurd (omega arith)
+bits_some (string ∷ message) h = omega (arith, sum_by-cons word_count string message)
+
+-- a message of a sender, which its hand has in this round
+pub record Sendable (sender : Sender) (hand : List Message) (round : ℕ) (message : Message) : Type 0 where
+  pub sent : slice_get hand round ≡ Some message
+  pub some : 0 < length message
+  pub some_bits : 0 < bits message
+  pub least : shortest sender ≤ bits message
+  pub most : bits message ≤ longest sender
+
+fits_at : (sender : Sender) (hand : List Message) (round : ℕ) → list_all (fits sender) hand ≡ true → round < length hand → fits sender (get_or hand round []) ≡ true
+fits_at sender [] round h less = absurd (omega arith)
+fits_at sender (message ∷ hand) zero h less = (and_parts (fits sender message) _ h).0
+fits_at sender (message ∷ hand) (suc round) h less = fits_at sender hand round (and_parts (fits sender message) _ h).1 (omega arith)
+
+fits_some : (sends : List SendLine) (message : Message) → 0 < length sends → matches allows sends message ≡ true → 0 < length message
+fits_some [] message some h = absurd (omega arith)
+fits_some (line ∷ sends) [] some h = absurd cc
+fits_some (line ∷ sends) (string ∷ message) some h = omega arith
+
+some_lines : (table : Table) (sender : Sender) → SenderFacts table sender → 0 < length sender.sends
+some_lines table sender facts =
+    let offset = and_parts (is_tg sender.tg) _ (and_parts (is_number sender.number) _ facts.in_range).1 in
+    let lines = and_parts (is_offset sender.at) _ offset.1 in
+    let range = and_parts (nat_le 1 (length sender.sends)) _ (and_parts _ _ (and_parts (are_send_lines sender.sends) _ lines.1).0).0 in
+    let least : 1 ≤ length sender.sends = leb-true 1 (length sender.sends) range.0 in
+    omega arith
+
+-- the message of a sender in a round
+pub message_of : (table : Table) (hands : ℕ → List Message) (n : ℕ) (sender : Sender) (round : ℕ) → TableFacts table → In sender table.senders → HasHand hands n sender → round < n → Sendable sender (hands sender.number) round (get_or (hands sender.number) round [])
+message_of table hands n sender round facts i own less =
+    let count : length (hands sender.number) ≡ n = own.count in
+    let within : round < length (hands sender.number) = omega arith in
+    let fit : fits sender (get_or (hands sender.number) round []) ≡ true = fits_at sender (hands sender.number) round own.fit within in
+    let some : 0 < length (get_or (hands sender.number) round []) = fits_some sender.sends (get_or (hands sender.number) round []) (some_lines table sender (of_each (SenderFacts table) table.senders facts.senders sender i)) fit in
+    let length_is = fitting_length sender (get_or (hands sender.number) round []) fit in
+    record {
+      sent = slice_get-get_or (hands sender.number) round [] within;
+      some = some;
+      some_bits = bits_some (get_or (hands sender.number) round []) some;
+      least = length_is.0;
+      most = length_is.1;
+    }
