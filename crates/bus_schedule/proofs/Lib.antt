@@ -4,3 +4,6 @@ pub mod HandLemmas
 pub mod Laying
 pub mod Places
 pub mod Spacing
+pub mod Growing
+pub mod Turning
+pub mod RunLemmas

@@ -29,7 +29,7 @@ turns_at hands round [] from turn sender h = absurd (let k : None ≡ Some sende
 turns_at hands round (a ∷ order) from zero sender h = let e : a ≡ sender = let k : Some a ≡ Some sender = h in cc in (from + a.tg, ap (λ s. Some (sends hands round s (from + a.tg))) e)
 turns_at hands round (a ∷ order) from (suc turn) sender h = turns_at hands round order (end_of (sends hands round a (from + a.tg))) turn sender h
 
-more_turns : (n k : ℕ) → suc n * k ≡ n * k + k
+pub more_turns : (n k : ℕ) → suc n * k ≡ n * k + k
 more_turns n k = grind arith
 
 turns_so_far : (r d k : ℕ) → (suc r + d) * k ≡ r * k + k + d * k

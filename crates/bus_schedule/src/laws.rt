@@ -1,11 +1,16 @@
 //! Laws of the definitions, each the contract of a function that does nothing.
 ghost use Rattle.bus_schedule.specs.Laws.{AcceptedIsClosed, ClosedIsOrderly};
 
+use bus_medium::laws::{chains_tell, one_lawful_list};
+
 /// For an accepted aperiodic table and even hands, of any length, the closed schedule is the one lawful list up to the closed end; no two
 /// of its transmissions overlap, every cycle holds each sender once in turn order, and successive starts of a sender are a cycle apart.
 pub fn accepted_is_closed()
     ensures { AcceptedIsClosed }
-{}
+{
+    chains_tell();
+    one_lawful_list();
+}
 
 /// The closed schedule of any aperiodic table and even hands ascends, has no overlap, and holds each sender once a cycle.
 pub fn closed_is_orderly()

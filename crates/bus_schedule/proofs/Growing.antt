@@ -1,0 +1,90 @@
+-- A schedule so far: lawful to the end of its last message, with the numbers that tell who is due.
+use Rattle.std.proofs.Common.{◌≡◌, ◌≢◌, ℕ, ◌+◌, ◌<◌, ◌≤◌, ◌⊎◌, max, List, [], ◌∷◌, ◌++◌, length, get_or, map, inl, inr, arith, sym, refl, ap, ◌∙◌, subst}
+use Rattle.std.specs.Prelude.{slice_get}
+use Rattle.std.proofs.lemmas.List.Sums.{fold-append}
+use Rattle.bus_timers.specs.Timings.{IsSound}
+use Rattle.bus_strings.specs.Members.{In}
+use Rattle.bus_strings.specs.Messages.{Message, Entry, bits}
+use Rattle.bus_strings.specs.Transmissions.{end_of}
+use Rattle.bus_table.specs.declared.mode.Mode.TheVariants.{Aperiodic}
+use Rattle.bus_table.specs.Tables.{Sender, Table}
+use Rattle.bus_table.specs.Facts.{TableFacts}
+use Rattle.bus_medium.specs.Lawful.{Station, IsLawfulTo, IsLawful}
+use Rattle.bus_medium.specs.LawfulLaws.{LawfulToHorizon}
+use Rattle.bus_medium.specs.Timings.{quiet_of, due_for}
+use Rattle.bus_medium.specs.Chains.{Chain, put, gap_put, Starts, ChainSettled, ChainStep, ChainStarts}
+use Rattle.bus_schedule.specs.Closed.{sends, greatest_end}
+use Rattle.bus_schedule.proofs.Members.{in_map, from_map}
+use Rattle.bus_schedule.proofs.HandLemmas.{HasHand, Sendable, station, stations, own_numbers, quiet_is, timing_sound, message_of}
+
+-- an aperiodic table, and n messages of each sender
+pub record Setting (table : Table) (hands : ℕ → List Message) (n : ℕ) : Type 0 where
+  pub mode : table.mode ≡ Aperiodic
+  pub facts : TableFacts table
+  pub hand : (sender : Sender) → In sender table.senders → HasHand hands n sender
+
+pub sendable : (table : Table) (hands : ℕ → List Message) (n : ℕ) → Setting table hands n → (sender : Sender) (round : ℕ) → In sender table.senders → round < n → Sendable sender (hands sender.number) round (get_or (hands sender.number) round [])
+sendable table hands n setting sender round i less = message_of table hands n sender round setting.facts i (setting.hand sender i) less
+
+pub end_push : (list : List Entry) (x : Entry) (e : ℕ) → greatest_end list ≡ e → e ≤ x.moment → greatest_end (list ++ x ∷ []) ≡ end_of x
+end_push list x e at low =
+    fold-append (λ end y. max end (end_of y)) 0 list (x ∷ []) ∙ ap (λ end. max end (end_of x)) at ∙ (let k : max e (x.moment + bits x.message) ≡ x.moment + bits x.message = grind arith in k)
+
+nothing_sent : (quiet : ℕ) (stations : List Station) → IsLawfulTo quiet stations 0 0 []
+nothing_sent quiet stations = record {
+  ordered = tt;
+  sent = λ x i. absurd i;
+  exact = λ u sender there before. elim before [ inl less ↦ absurd (omega arith) | inr same ↦ let k : sender.number < 0 = same.1 in absurd (omega arith) ];
+}
+
+-- the schedule so far
+pub record Sofar (table : Table) (hands : ℕ → List Message) (list : List Entry) (e : ℕ) (due gap count : ℕ → ℕ) : Type 0 where
+  pub law : IsLawfulTo (quiet_of table) (stations table hands) e 0 list
+  pub chain : Chain (quiet_of table) table.sg (stations table hands) list e due gap count
+  pub ends : greatest_end list ≡ e
+
+-- what the numbers must be where a sender starts
+pub record Takes (table : Table) (due gap count : ℕ → ℕ) (sender : Sender) (round moment : ℕ) : Type 0 where
+  pub interval : due sender.number ≤ quiet_of table + moment
+  pub terminal : gap sender.number + sender.tg ≤ quiet_of table + moment
+  pub first : (quiet_of table + moment ≤ due sender.number) ⊎ (quiet_of table + moment ≤ gap sender.number + sender.tg)
+  pub others : (b : Sender) → In b table.senders → b.number ≢ sender.number → (quiet_of table + moment < due b.number) ⊎ (quiet_of table + moment < gap b.number + b.tg)
+  pub turn : count sender.number ≡ round
+
+module _ (settled : ChainSettled) (step : ChainStep) (starting : ChainStarts) (table : Table) (hands : ℕ → List Message) (n : ℕ) (setting : Setting table hands n) where
+  pub sofar_step : (list : List Entry) (e : ℕ) (due gap count : ℕ → ℕ) (sender : Sender) (round moment : ℕ) → round < n → Sofar table hands list e due gap count → In sender table.senders → e ≤ moment → Takes table due gap count sender round moment
+      → Sofar table hands (list ++ sends hands round sender moment ∷ []) (end_of (sends hands round sender moment)) (put due sender.number (quiet_of table + moment + table.ti))
+      (gap_put gap sender.number (quiet_of table + moment) (bits (get_or (hands sender.number) round [])) table.sg) (put count sender.number (count sender.number + 1))
+  sofar_step list e due gap count sender round moment more so i low takes =
+      let m : Sendable sender (hands sender.number) round (get_or (hands sender.number) round []) = sendable table hands n setting sender round i more in
+      let own = own_numbers table hands setting.facts in
+      let place = in_map (station table hands) table.senders sender i in
+      let starts : Starts (quiet_of table) (stations table hands) due gap count (station table hands sender) (sends hands round sender moment) = record {
+        interval = takes.interval;
+        terminal = takes.terminal;
+        first = takes.first;
+        others = λ s there apart.
+            let f = from_map (station table hands) table.senders s there in
+            subst (λ (w : Station). (quiet_of table + moment < due w.number) ⊎ ((quiet_of table + moment < gap w.number + w.timing.tg) ⊎ (length w.hand ≤ count w.number))) f.2
+            (elim (takes.others f.0 f.1 (λ same. apart (ap (λ (w : Station). w.number) (sym f.2) ∙ same))) [ inl h ↦ inl h | inr h ↦ inr (inl h) ]);
+        message = ap (slice_get (hands sender.number)) takes.turn ∙ m.sent;
+      } in
+      record {
+        law = starting (quiet_of table) table.sg (stations table hands) list e due gap count (station table hands sender) (sends hands round sender moment) own so.chain place low refl m.some starts so.law;
+        chain = step (quiet_of table) table.sg (stations table hands) list e due gap count (station table hands sender) (sends hands round sender moment) own so.chain place low refl m.some;
+        ends = end_push list (sends hands round sender moment) e so.ends low;
+      }
+
+  pub sofar_settled : Sofar table hands [] 0 (λ _. table.sg) (λ _. table.sg) (λ _. 0)
+  sofar_settled = record {
+    law = nothing_sent (quiet_of table) (stations table hands);
+    chain = settled (quiet_of table) table.sg (stations table hands) (λ _. table.sg) (λ s there.
+        let f = from_map (station table hands) table.senders s there in
+        let quiet : quiet_of table ≡ table.sg = quiet_is table setting.mode in
+        let due : due_for table.mode f.0 ≡ 0 = ap (λ m. due_for m f.0) setting.mode in
+        subst (λ (w : Station). IsSound w.timing × (w.timing.sg ≡ table.sg) × (w.timing.quiet ≡ quiet_of table) × (quiet_of table + w.timing.due ≡ table.sg)) f.2 (timing_sound table f.0 setting.mode setting.facts f.1, refl, refl, omega arith));
+    ends = refl;
+  }
+
+pub sofar_lawful : LawfulToHorizon → (table : Table) (hands : ℕ → List Message) (list : List Entry) (e : ℕ) (due gap count : ℕ → ℕ) → Sofar table hands list e due gap count → IsLawful (quiet_of table) (stations table hands) (greatest_end list) list
+sofar_lawful whole table hands list e due gap count so = subst (λ end. IsLawful (quiet_of table) (stations table hands) end list) (sym so.ends) (whole (quiet_of table) (stations table hands) e list so.law)
