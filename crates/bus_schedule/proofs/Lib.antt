@@ -7,3 +7,4 @@ pub mod Spacing
 pub mod Growing
 pub mod Turning
 pub mod RunLemmas
+pub mod Rows
