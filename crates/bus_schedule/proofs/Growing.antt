@@ -1,5 +1,5 @@
 -- A schedule so far: lawful to the end of its last message, with the numbers that tell who is due.
-use Rattle.std.proofs.Common.{◌≡◌, ◌≢◌, ℕ, ◌+◌, ◌<◌, ◌≤◌, ◌⊎◌, max, List, [], ◌∷◌, ◌++◌, length, get_or, map, inl, inr, arith, sym, refl, ap, ◌∙◌, subst}
+use Rattle.std.proofs.Common.{◌≡◌, ◌≢◌, ℕ, ◌+◌, ◌<◌, ◌≤◌, ◌⊎◌, max, List, [], ◌∷◌, ◌++◌, length, get_or, inl, inr, arith, sym, refl, ap, ◌∙◌, subst}
 use Rattle.std.specs.Prelude.{slice_get}
 use Rattle.std.proofs.lemmas.List.Sums.{fold-append}
 use Rattle.bus_timers.specs.Timings.{IsSound}
@@ -9,18 +9,20 @@ use Rattle.bus_strings.specs.Transmissions.{end_of}
 use Rattle.bus_table.specs.declared.mode.Mode.TheVariants.{Aperiodic}
 use Rattle.bus_table.specs.Tables.{Sender, Table}
 use Rattle.bus_table.specs.Facts.{TableFacts}
-use Rattle.bus_medium.specs.Lawful.{Station, IsLawfulTo, IsLawful}
+use Rattle.bus_medium.specs.Lawful.{Station, HaveOwnNumbers, IsLawfulTo, IsLawful}
 use Rattle.bus_medium.specs.LawfulLaws.{LawfulToHorizon}
-use Rattle.bus_medium.specs.Timings.{quiet_of, due_for}
+use Rattle.bus_medium.specs.Timings.{quiet_of, due_for, timing_of}
 use Rattle.bus_medium.specs.Chains.{Chain, put, gap_put, Starts, ChainSettled, ChainStep, ChainStarts}
 use Rattle.bus_schedule.specs.Closed.{sends, greatest_end}
 use Rattle.bus_schedule.proofs.Members.{in_map, from_map}
-use Rattle.bus_schedule.proofs.HandLemmas.{HasHand, Sendable, station, stations, own_numbers, quiet_is, timing_sound, message_of}
+use Rattle.bus_schedule.proofs.HandLemmas.{HasHand, Sendable, station, stations, quiet_is, message_of}
 
--- an aperiodic table, and n messages of each sender
+-- a valid aperiodic table, and n messages of each sender
 pub record Setting (table : Table) (hands : ℕ → List Message) (n : ℕ) : Type 0 where
   pub mode : table.mode ≡ Aperiodic
   pub facts : TableFacts table
+  pub numbers : HaveOwnNumbers (stations table hands)
+  pub sound : (sender : Sender) → In sender table.senders → IsSound (timing_of table sender)
   pub hand : (sender : Sender) → In sender table.senders → HasHand hands n sender
 
 pub sendable : (table : Table) (hands : ℕ → List Message) (n : ℕ) → Setting table hands n → (sender : Sender) (round : ℕ) → In sender table.senders → round < n → Sendable sender (hands sender.number) round (get_or (hands sender.number) round [])
@@ -57,7 +59,6 @@ module _ (settled : ChainSettled) (step : ChainStep) (starting : ChainStarts) (t
       (gap_put gap sender.number (quiet_of table + moment) (bits (get_or (hands sender.number) round [])) table.sg) (put count sender.number (count sender.number + 1))
   sofar_step list e due gap count sender round moment more so i low takes =
       let m : Sendable sender (hands sender.number) round (get_or (hands sender.number) round []) = sendable table hands n setting sender round i more in
-      let own = own_numbers table hands setting.facts in
       let place = in_map (station table hands) table.senders sender i in
       let starts : Starts (quiet_of table) (stations table hands) due gap count (station table hands sender) (sends hands round sender moment) = record {
         interval = takes.interval;
@@ -70,8 +71,8 @@ module _ (settled : ChainSettled) (step : ChainStep) (starting : ChainStarts) (t
         message = ap (slice_get (hands sender.number)) takes.turn ∙ m.sent;
       } in
       record {
-        law = starting (quiet_of table) table.sg (stations table hands) list e due gap count (station table hands sender) (sends hands round sender moment) own so.chain place low refl m.some starts so.law;
-        chain = step (quiet_of table) table.sg (stations table hands) list e due gap count (station table hands sender) (sends hands round sender moment) own so.chain place low refl m.some;
+        law = starting (quiet_of table) table.sg (stations table hands) list e due gap count (station table hands sender) (sends hands round sender moment) setting.numbers so.chain place low refl m.some starts so.law;
+        chain = step (quiet_of table) table.sg (stations table hands) list e due gap count (station table hands sender) (sends hands round sender moment) setting.numbers so.chain place low refl m.some;
         ends = end_push list (sends hands round sender moment) e so.ends low;
       }
 
@@ -82,7 +83,7 @@ module _ (settled : ChainSettled) (step : ChainStep) (starting : ChainStarts) (t
         let f = from_map (station table hands) table.senders s there in
         let quiet : quiet_of table ≡ table.sg = quiet_is table setting.mode in
         let due : due_for table.mode f.0 ≡ 0 = ap (λ m. due_for m f.0) setting.mode in
-        subst (λ (w : Station). IsSound w.timing × (w.timing.sg ≡ table.sg) × (w.timing.quiet ≡ quiet_of table) × (quiet_of table + w.timing.due ≡ table.sg)) f.2 (timing_sound table f.0 setting.mode setting.facts f.1, refl, refl, omega arith));
+        subst (λ (w : Station). IsSound w.timing × (w.timing.sg ≡ table.sg) × (w.timing.quiet ≡ quiet_of table) × (quiet_of table + w.timing.due ≡ table.sg)) f.2 (setting.sound f.0 f.1, refl, refl, omega arith));
     ends = refl;
   }
 

@@ -1,11 +1,10 @@
 -- What even hands give each sender, and its station.
-use Rattle.std.proofs.Common.{◌≡◌, ◌≢◌, ℕ, zero, suc, ◌+◌, ◌<◌, ◌≤◌, Bool, true, false, ◌&&◌, List, [], ◌∷◌, length, get_or, map, Some, inl, inr, arith, sym, refl, ap, ◌∙◌}
-use Rattle.std.specs.Prelude.{◌==◌, nat_le, slice_get, zip, IsTrue}
+use Rattle.std.proofs.Common.{◌≡◌, ◌≢◌, ℕ, zero, suc, ◌<◌, ◌≤◌, true, List, [], ◌∷◌, length, get_or, map, Some, inl, inr, arith, sym, refl, ap, ◌∙◌}
+use Rattle.std.specs.Prelude.{◌==◌, nat_le, slice_get, zip}
 use Rattle.std.specs.List.{list_all}
 use Rattle.std.proofs.lemmas.Bool.{and_parts, eqb-true, leb-true, eq-eqb, ne_eqb}
 use Rattle.std.proofs.lemmas.List.Sums.{sum_by-cons}
 use Rattle.std.proofs.lemmas.Option.{slice_get-get_or}
-use Rattle.bus_timers.specs.Timings.{IsSound}
 use Rattle.bus_strings.specs.Members.{In}
 use Rattle.bus_strings.specs.Messages.{Message, word_count, bits}
 use Rattle.bus_table.specs.declared.mode.Mode.TheVariants.{Aperiodic}
@@ -18,12 +17,11 @@ use Rattle.bus_table.specs.Lengths.{shortest, longest}
 use Rattle.bus_table.specs.Hands.{are_hands}
 use Rattle.bus_table.specs.Facts.{SenderFacts, TableFacts}
 use Rattle.bus_table.specs.Turns.{Differ}
-use Rattle.bus_table.specs.TurnLaws.{of_each, numbers_differ}
-use Rattle.bus_medium.specs.Lawful.{Station, HaveOwnNumbers}
-use Rattle.bus_medium.specs.Timings.{quiet_for, quiet_of, due_for, timing_of}
+use Rattle.bus_table.specs.TurnLaws.{of_each}
+use Rattle.bus_medium.specs.Lawful.{Station}
+use Rattle.bus_medium.specs.Timings.{quiet_for, quiet_of, timing_of}
 use Rattle.bus_schedule.specs.Even.{messages_of}
-use Rattle.bus_schedule.proofs.Members.{from_map, map_same}
-use Rattle.bus_schedule.proofs.Orders.{same_sender}
+use Rattle.bus_schedule.proofs.Members.{map_same}
 
 -- the sender has this many messages, and each fits
 pub record HasHand (hands : ℕ → List Message) (rounds : ℕ) (sender : Sender) : Type 0 where
@@ -83,34 +81,9 @@ stations_are table (a ∷ senders) (hand ∷ hands) h d =
     ∙ ap (λ l. first ∷ l) (stations_are table senders hands own.1 d.1 ∙ map_same (station table (messages_of hands)) (station table (messages_of (hand ∷ hands))) senders
     (λ b i. ap (λ m. let x : Station = record { number = b.number; timing = timing_of table b; hand = m } in x) (sym (hand_of_other a senders hand hands b d number i))))
 
-pub own_numbers : (table : Table) (hands : ℕ → List Message) → TableFacts table → HaveOwnNumbers (stations table hands)
-own_numbers table hands facts a b i j e =
-    let x = from_map (station table hands) table.senders a i in
-    let y = from_map (station table hands) table.senders b j in
-    let numbers : x.0.number ≡ y.0.number = ap (λ (s : Station). s.number) x.2 ∙ e ∙ ap (λ (s : Station). s.number) (sym y.2) in
-    sym x.2 ∙ ap (station table hands) (same_sender (λ s. s.number) table.senders x.0 y.0 (numbers_differ table facts) x.1 y.1 numbers) ∙ y.2
-
--- the timings of an aperiodic table
+-- the quiet before the settled start of an aperiodic table
 pub quiet_is : (table : Table) → table.mode ≡ Aperiodic → quiet_of table ≡ table.sg
 quiet_is table mode = ap (λ m. quiet_for m table.sg table.senders) mode
-
-pub timing_sound : (table : Table) (sender : Sender) → table.mode ≡ Aperiodic → TableFacts table → In sender table.senders → IsSound (timing_of table sender)
-timing_sound table sender mode facts i =
-    let own : SenderFacts table sender = of_each (SenderFacts table) table.senders facts.senders sender i in
-    let quiet : quiet_of table ≡ table.sg = quiet_is table mode in
-    let due : due_for table.mode sender ≡ 0 = ap (λ m. due_for m sender) mode in
-    record {
-      ti_least = facts.ti_least;
-      ti_most = facts.ti_most;
-      sg_least = facts.sg_least;
-      sg_most = facts.sg_most;
-      tg_least = own.tg_least;
-      tg_most = own.tg_most;
-      tg_short = own.tg_short;
-      quiet_least = omega arith;
-      quiet_most = omega arith;
-      due_most = omega arith;
-    }
 
 -- a message has bit times
 bits_some : (message : Message) → 0 < length message → 0 < bits message

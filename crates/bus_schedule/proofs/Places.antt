@@ -68,7 +68,6 @@ pub schedule_get : (hands : ℕ → List Message) (sg : ℕ) (order : List Sende
 schedule_get hands sg order zero round turn x inside at = absurd (let w : None ≡ Some x = at in cc)
 schedule_get hands sg order (suc n) round turn x inside at =
     let long : length (schedule hands sg order n) ≡ n * length order = length-schedule hands sg order n in
-    let more : List Entry = turns hands n order (origin hands sg order n) in
     elim (cases_lt round n) [
       | inl before ↦
           let low : round * length order + length order ≤ n * length order = turns_before round n (length order) before in

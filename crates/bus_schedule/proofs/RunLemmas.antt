@@ -1,11 +1,10 @@
 -- The closed schedule of even hands is orderly, and of an accepted table it is the run.
 use Rattle.std.proofs.Common.{◌≡◌, ℕ, suc, ◌+◌, ◌*◌, ◌/◌, ◌%◌, ◌<◌, ◌≤◌, true, false, cond, List, [], length, get_or, Some, arith, sym, refl, ap, ◌∙◌, subst}
 use Rattle.std.specs.Prelude.{nat_lt, slice_get, IsTrue}
-use Rattle.std.specs.List.{list_all}
 use Rattle.std.proofs.lemmas.Bool.{and_parts, ltb-false}
 use Rattle.std.proofs.lemmas.Nat.{div-add-mod'}
 use Rattle.bus_strings.specs.Members.{In}
-use Rattle.bus_strings.specs.Messages.{Message, Entry, bits}
+use Rattle.bus_strings.specs.Messages.{Entry}
 use Rattle.bus_table.specs.declared.mode.Mode.TheVariants.{Aperiodic}
 use Rattle.bus_table.specs.Tables.{Sender, Table, Hand}
 use Rattle.bus_table.specs.Valid.{is_valid}
@@ -17,30 +16,39 @@ use Rattle.bus_table.specs.TurnLaws.{at_in, from_sort, length-sort, numbers_diff
 use Rattle.bus_medium.specs.Lawful.{HaveOwnNumbers, IsLawful}
 use Rattle.bus_medium.specs.LawfulLaws.{OneLawfulList, LawfulToHorizon}
 use Rattle.bus_medium.specs.Timings.{quiet_of, stations_of}
+use Rattle.bus_medium.specs.StationLaws.{timings_are_sound, stations_have_own_numbers}
 use Rattle.bus_medium.specs.Chains.{ChainSettled, ChainStep, ChainStarts}
-use Rattle.bus_regime.specs.declared.verdict.TableVerdict.{TableVerdict}
 use Rattle.bus_regime.specs.declared.verdict.TableVerdict.TheVariants.{Accept, ShortCycle}
 use Rattle.bus_regime.specs.Verdicts.{least_cycle, most_cycle, verdict_of, is_accepted}
 use Rattle.bus_schedule.specs.Even.{messages_of, rounds, are_even}
 use Rattle.bus_schedule.specs.Closed.{sends, turns, turns_end, origin, closed, closed_end}
 use Rattle.bus_schedule.specs.Runs.{IsInTurns, IsSpaced}
 use Rattle.bus_schedule.specs.Laws.{AcceptedIsClosed, ClosedIsOrderly}
-use Rattle.bus_schedule.proofs.HandLemmas.{Sendable, stations, stations_are, own_hand, own_numbers}
+use Rattle.bus_schedule.proofs.HandLemmas.{Sendable, stations, stations_are, own_hand}
 use Rattle.bus_schedule.proofs.Laying.{IsLaid, laid_schedule}
 use Rattle.bus_schedule.proofs.Places.{turns_at, length-schedule, more_turns, schedule_at, schedule_get}
 use Rattle.bus_schedule.proofs.Spacing.{cycle, cycle_sum, cycle_sort, lead, LeadsMore, lead_more, lengths, turns_end_cycle, IsTurn, is_turn}
 use Rattle.bus_schedule.proofs.Growing.{Setting, sendable, sofar_lawful}
 use Rattle.bus_schedule.proofs.Turning.{rounds_on}
 
+-- even hands are dealt: one for each sender
+dealt : (table : Table) (hands : List Hand) → IsTrue (are_even table hands) → IsTrue (are_hands table.senders hands)
+dealt table hands even = (and_parts (are_hands table.senders hands) _ even).0
+
+stations_of_even : (table : Table) (hands : List Hand) → IsTrue (is_valid table) → IsTrue (are_even table hands) → stations_of table hands ≡ stations table (messages_of hands)
+stations_of_even table hands valid even = stations_are table table.senders hands (dealt table hands even) (numbers_differ table (valid_facts table valid))
+
 -- what a valid aperiodic table and even hands give
-pub setting_of : (table : Table) (hands : List Hand) → IsTrue (is_valid table) → table.mode ≡ Aperiodic → IsTrue (are_even table hands) → Setting table (messages_of hands) (rounds hands)
+setting_of : (table : Table) (hands : List Hand) → IsTrue (is_valid table) → table.mode ≡ Aperiodic → IsTrue (are_even table hands) → Setting table (messages_of hands) (rounds hands)
 setting_of table hands valid mode even =
     let facts = valid_facts table valid in
-    let parts = and_parts (are_hands table.senders hands) _ even in
-    record { mode = mode; facts = facts; hand = own_hand (rounds hands) table.senders hands parts.0 parts.1 (numbers_differ table facts) }
-
-pub stations_of_even : (table : Table) (hands : List Hand) → IsTrue (is_valid table) → IsTrue (are_even table hands) → stations_of table hands ≡ stations table (messages_of hands)
-stations_of_even table hands valid even = stations_are table table.senders hands (and_parts (are_hands table.senders hands) _ even).0 (numbers_differ table (valid_facts table valid))
+    record {
+      mode = mode;
+      facts = facts;
+      numbers = subst HaveOwnNumbers (stations_of_even table hands valid even) (stations_have_own_numbers table hands valid (dealt table hands even));
+      sound = λ sender there. timings_are_sound table sender valid there;
+      hand = own_hand (rounds hands) table.senders hands (dealt table hands even) (and_parts (are_hands table.senders hands) _ even).1 (numbers_differ table facts);
+    }
 
 module _ (table : Table) (hands : List Hand) (setting : Setting table (messages_of hands) (rounds hands)) where
   of_table : (sender : Sender) → In sender (turn_order table) → In sender table.senders
@@ -78,7 +86,6 @@ module _ (table : Table) (hands : List Hand) (setting : Setting table (messages_
       → slice_get (turns (messages_of hands) (suc round) (turn_order table) (origin (messages_of hands) table.sg (turn_order table) (suc round))) turn ≡ Some y
       → (x.terminal ≡ y.terminal) × (x.moment + least_cycle table ≤ y.moment) × (y.moment ≤ x.moment + most_cycle table)
   turn_apart round turn x y more at_x at_y =
-      let order : List Sender = turn_order table in
       let from : ℕ = origin (messages_of hands) table.sg (turn_order table) round in
       let this : Sender → ℕ = lengths (messages_of hands) round in
       let next : Sender → ℕ = lengths (messages_of hands) (suc round) in
@@ -107,7 +114,6 @@ module _ (table : Table) (hands : List Hand) (setting : Setting table (messages_
   pub closed_spaced : IsSpaced table (closed table hands)
   closed_spaced = record {
     apart = λ k x y at_x at_y.
-        let many : ℕ = length (turn_order table) in
         let round : ℕ = k / length (turn_order table) in
         let turn : ℕ = k % length (turn_order table) in
         let some : 0 < length table.senders = setting.facts.some in
@@ -143,7 +149,7 @@ accepted_is_closed settled step starting once whole table hands valid mode accep
     let t = rounds_on settled step starting shortest table (messages_of hands) (rounds hands) setting (λ sender round i less. (sendable table (messages_of hands) (rounds hands) setting sender round i less).least) long (rounds hands) (omega arith) in
     let lawful : IsLawful (quiet_of table) (stations_of table hands) (closed_end table hands) (closed table hands) =
     subst (λ ss. IsLawful (quiet_of table) ss (closed_end table hands) (closed table hands)) (sym same) (sofar_lawful whole table (messages_of hands) (closed table hands) t.e t.due t.gap t.count t.sofar) in
-    let own : HaveOwnNumbers (stations_of table hands) = subst HaveOwnNumbers (sym same) (own_numbers table (messages_of hands) setting.facts) in
+    let own : HaveOwnNumbers (stations_of table hands) = stations_have_own_numbers table hands valid (dealt table hands even) in
     record {
       closed = refl;
       lawful = lawful;

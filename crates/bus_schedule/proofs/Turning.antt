@@ -1,6 +1,6 @@
 -- The turns of an accepted aperiodic table: each sender is due when its turn comes, and none before.
-use Rattle.std.proofs.Common.{◌≡◌, ◌≢◌, ℕ, zero, suc, ◌+◌, ◌<◌, ◌≤◌, cond, List, [], ◌∷◌, ◌++◌, get_or, inl, inr, arith, sym, refl, ap, ◌∙◌, subst}
-use Rattle.std.specs.Prelude.{◌==◌, nat_le, if◌then◌else◌}
+use Rattle.std.proofs.Common.{◌≡◌, ◌≢◌, ℕ, zero, suc, ◌+◌, ◌<◌, ◌≤◌, List, [], ◌∷◌, ◌++◌, get_or, inl, inr, arith, sym, refl, ap, ◌∙◌, subst}
+use Rattle.std.specs.Prelude.{◌==◌, if◌then◌else◌}
 use Rattle.std.proofs.lemmas.Bool.{eq-eqb, ne_eqb, le-leb, lt-leb}
 use Rattle.std.proofs.lemmas.List.{append-nil, append_assoc}
 use Rattle.bus_strings.specs.Members.{In}
@@ -8,7 +8,6 @@ use Rattle.bus_strings.specs.Messages.{Message, Entry, bits}
 use Rattle.bus_strings.specs.Transmissions.{end_of}
 use Rattle.bus_table.specs.Tables.{Sender, Table}
 use Rattle.bus_table.specs.Facts.{SenderFacts}
-use Rattle.bus_table.specs.Lengths.{shortest}
 use Rattle.bus_table.specs.Turns.{Rises, turn_key, turn_order}
 use Rattle.bus_table.specs.TurnLaws.{of_each, from_sort, in_sort, order_rises, numbers_differ}
 use Rattle.bus_medium.specs.Timings.{quiet_of}
@@ -16,9 +15,9 @@ use Rattle.bus_medium.specs.Chains.{put, gap_put, ChainSettled, ChainStep, Chain
 use Rattle.bus_schedule.specs.Closed.{sends, turns, turns_end, origin, schedule}
 use Rattle.bus_schedule.proofs.Members.{in_append_cases, in_append_left, in_append_right, in_push_cases}
 use Rattle.bus_schedule.proofs.Orders.{rises_before, rises_after, same_sender}
-use Rattle.bus_schedule.proofs.HandLemmas.{Sendable, quiet_is}
+use Rattle.bus_schedule.proofs.HandLemmas.{quiet_is}
 use Rattle.bus_schedule.proofs.Spacing.{cycle, cycle_sort}
-use Rattle.bus_schedule.proofs.Growing.{Setting, sendable, Sofar, Takes, sofar_step, sofar_settled}
+use Rattle.bus_schedule.proofs.Growing.{Setting, Sofar, Takes, sofar_step, sofar_settled}
 
 -- the numbers of a terminal that started, and of the others
 put_here : (f : ℕ → ℕ) (n v i : ℕ) → i ≡ n → put f n v i ≡ v
