@@ -8,3 +8,4 @@ pub mod Growing
 pub mod Turning
 pub mod RunLemmas
 pub mod Rows
+pub mod UnevenLemmas

@@ -1,4 +1,5 @@
 pub mod Even
+pub mod Uneven
 pub mod Closed
 pub mod Runs
 pub mod Laws
