@@ -9,3 +9,6 @@ pub mod Turning
 pub mod RunLemmas
 pub mod Rows
 pub mod UnevenLemmas
+pub mod EvenLemmas
+pub mod EndLemmas
+pub mod PlaceLemmas

@@ -1,5 +1,7 @@
 pub mod Even
 pub mod Uneven
 pub mod Closed
+pub mod Places
 pub mod Runs
 pub mod Laws
+pub mod Limits

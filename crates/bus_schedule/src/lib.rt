@@ -5,5 +5,10 @@
 //! [`run::run_settled`] runs a bus that does it.
 #![tactic(auto)]
 
+pub mod closed;
+pub mod end;
+pub mod error;
 pub mod laws;
+mod order;
+pub mod run;
 pub mod uneven;

@@ -1,0 +1,79 @@
+-- The hand of each sender, where hands are even.
+use Rattle.std.proofs.Common.{◌≡◌, ℕ, zero, suc, ◌<◌, true, ◌==◌, List, [], ◌∷◌, length, get_or, Some, arith, sym, ap, ◌∙◌, refl}
+use Rattle.std.specs.Prelude.{slice_get, IsTrue, ◌&&◌}
+use Rattle.std.specs.List.{list_all}
+use Rattle.std.proofs.lemmas.Bool.{true≢false, and_parts, eqb-true}
+use Rattle.std.proofs.lemmas.List.{get_or_read}
+use Rattle.std.proofs.lemmas.Option.{slice_get_within, slice_get_read, get_or_from_slice_get}
+use Rattle.bus_strings.specs.Messages.{Message}
+use Rattle.bus_table.specs.Tables.{Sender, Table, Hand}
+use Rattle.bus_table.specs.Fits.{fits}
+use Rattle.bus_table.specs.Hands.{are_hands}
+use Rattle.bus_table.specs.Valid.{is_valid}
+use Rattle.bus_table.specs.ValidLaws.{valid_facts}
+use Rattle.bus_table.specs.Turns.{Differ}
+use Rattle.bus_table.specs.TurnLaws.{at_in, numbers_differ}
+use Rattle.bus_schedule.specs.Even.{messages_of, rounds, are_even}
+use Rattle.bus_schedule.proofs.HandLemmas.{hand_here, hand_of_other}
+
+-- the hand of a sender stands at the sender's place, and has a message for each round
+pub record HandAt (hands : List Hand) (k : ℕ) (sender : Sender) (count : ℕ) : Type 0 where
+  pub hand : Hand
+  pub at : slice_get hands k ≡ Some hand
+  pub messages : messages_of hands sender.number ≡ hand.messages
+  pub whole : length hand.messages ≡ count
+
+dealt : (count : ℕ) (senders : List Sender) (hands : List Hand) (k : ℕ) (sender : Sender) → Differ (λ s. s.number) senders → are_hands senders hands ≡ true
+    → list_all (λ hand. length hand.messages == count) hands ≡ true → slice_get senders k ≡ Some sender → HandAt hands k sender count
+dealt count [] hands k sender d a e at = absurd cc
+dealt count (s ∷ senders) [] k sender d a e at = absurd (true≢false (sym a))
+dealt count (s ∷ senders) (hand ∷ hands) zero sender d a e at =
+    let same : s ≡ sender = cc in
+    let one = and_parts (hand.terminal == s.number) (list_all (fits s) hand.messages && are_hands senders hands) a in
+    let number : hand.terminal ≡ sender.number = eqb-true hand.terminal s.number one.0 ∙ ap (λ (w : Sender). w.number) same in
+    let many = and_parts (length hand.messages == count) (list_all (λ h. length h.messages == count) hands) e in
+    record { hand = hand; at = refl; messages = hand_here hand hands sender.number number; whole = eqb-true (length hand.messages) count many.0 }
+dealt count (s ∷ senders) (hand ∷ hands) (suc k) sender d a e at =
+    let one = and_parts (hand.terminal == s.number) (list_all (fits s) hand.messages && are_hands senders hands) a in
+    let two = and_parts (list_all (fits s) hand.messages) (are_hands senders hands) one.1 in
+    let many = and_parts (length hand.messages == count) (list_all (λ h. length h.messages == count) hands) e in
+    let number : hand.terminal ≡ s.number = eqb-true hand.terminal s.number one.0 in
+    let there : HandAt hands k sender count = dealt count senders hands k sender d.1 two.1 many.1 at in
+    record { hand = there.hand; at = there.at; messages = hand_of_other s senders hand hands sender d number (at_in senders k sender at) ∙ there.messages; whole = there.whole }
+
+pub hand_at : (table : Table) (hands : List Hand) (k : ℕ) (sender : Sender) → IsTrue (is_valid table) → IsTrue (are_even table hands) → slice_get table.senders k ≡ Some sender → HandAt hands k sender (rounds hands)
+hand_at table hands k sender valid even at =
+    let parts = and_parts (are_hands table.senders hands) (list_all (λ hand. length hand.messages == rounds hands) hands) even in
+    dealt (rounds hands) table.senders hands k sender (numbers_differ table (valid_facts table valid)) parts.0 parts.1 at
+
+-- a sender that is read stands in the table
+pub read_sender : (table : Table) (senders : List Sender) (k : ℕ) (sender : Sender) → senders ≡ table.senders → k < length senders → sender ≡ get_or senders k sender → slice_get table.senders k ≡ Some sender
+read_sender table senders k sender same inside is = ap (λ ss. slice_get ss k) (sym same) ∙ slice_get_read senders (length senders) k sender refl inside is
+
+pub hand_within : (table : Table) (hands : List Hand) (k : ℕ) (sender : Sender) → IsTrue (is_valid table) → IsTrue (are_even table hands) → slice_get table.senders k ≡ Some sender → k < length hands
+hand_within table hands k sender valid even at =
+    let there : HandAt hands k sender (rounds hands) = hand_at table hands k sender valid even at in
+    slice_get_within hands k there.hand there.at
+
+-- the hand that is read at the place of a sender is that sender's
+read_hand : (table : Table) (hands : List Hand) (k : ℕ) (sender : Sender) (hand : Hand) → IsTrue (is_valid table) → IsTrue (are_even table hands) → slice_get table.senders k ≡ Some sender → hand ≡ get_or hands k hand
+    → (messages_of hands sender.number ≡ hand.messages) × (length hand.messages ≡ rounds hands)
+read_hand table hands k sender hand valid even at hand_is =
+    let there : HandAt hands k sender (rounds hands) = hand_at table hands k sender valid even at in
+    let h : hand ≡ there.hand = hand_is ∙ get_or_from_slice_get hands k there.hand hand there.at in
+    let m : hand.messages ≡ there.hand.messages = ap (λ (w : Hand). w.messages) h in
+    (there.messages ∙ sym m, ap length m ∙ there.whole)
+
+-- it has a message for each round, and the message that is read of it is the sender's of this round
+pub message_there : (table : Table) (hands : List Hand) (k round : ℕ) (sender : Sender) (hand : Hand) (messages : List Message) → IsTrue (is_valid table) → IsTrue (are_even table hands) → round < rounds hands
+    → slice_get table.senders k ≡ Some sender → hand ≡ get_or hands k hand → messages ≡ hand.messages → round < length messages
+message_there table hands k round sender hand messages valid even less at hand_is messages_is =
+    let r = read_hand table hands k sender hand valid even at hand_is in
+    let long : length messages ≡ rounds hands = ap length messages_is ∙ r.1 in
+    omega arith
+
+pub message_at : (table : Table) (hands : List Hand) (k round : ℕ) (sender : Sender) (hand : Hand) (messages : List Message) (message : Message) → IsTrue (is_valid table) → IsTrue (are_even table hands) → round < rounds hands
+    → slice_get table.senders k ≡ Some sender → hand ≡ get_or hands k hand → messages ≡ hand.messages → message ≡ get_or messages round message → message ≡ get_or (messages_of hands sender.number) round []
+message_at table hands k round sender hand messages message valid even less at hand_is messages_is message_is =
+    let r = read_hand table hands k sender hand valid even at hand_is in
+    get_or_read messages round message (message_there table hands k round sender hand messages valid even less at hand_is messages_is) message_is [] ∙ ap (λ ms. get_or ms round []) (messages_is ∙ sym r.0)

@@ -1,0 +1,137 @@
+-- Turn order by places, and a round of turns one by one.
+use Rattle.std.proofs.Common.{◌≡◌, ℕ, zero, suc, ◌+◌, ◌<◌, ◌≤◌, ◌==◌, List, [], ◌∷◌, ◌++◌, length, map, take, drop, get_or, Option, Some, None, arith, sym, refl, ap, cond, ◌∙◌, append_assoc, append-nil}
+use Rattle.std.specs.Prelude.{slice_get, position, nat_lt, is_some, IsSome, IsSomeAnd, IsTrue}
+use Rattle.std.specs.List.{position_or_len}
+use Rattle.std.proofs.lemmas.Bool.{eq-eqb, ne_eqb, lt-ltb}
+use Rattle.std.proofs.lemmas.List.{drop_all, take_all, take_more, length-map, map-append}
+use Rattle.std.proofs.lemmas.Option.{slice_get_within, get_or_from_slice_get}
+use Rattle.bus_strings.specs.Messages.{Message, Entry, bits}
+use Rattle.bus_table.specs.Tables.{Sender, Table}
+use Rattle.bus_table.specs.Turns.{Differ, turn_key, turn_order}
+use Rattle.bus_table.specs.TurnLaws.{at_in, in_at, from_sort, length-sort, numbers_differ}
+use Rattle.bus_table.specs.Valid.{is_valid}
+use Rattle.bus_table.specs.ValidLaws.{valid_facts}
+use Rattle.bus_schedule.specs.Places.{AreInTurn}
+use Rattle.bus_schedule.specs.Closed.{turns, turns_end}
+use Rattle.bus_schedule.proofs.EvenLemmas.{read_sender}
+
+-- what stands at a place of two lists that say the same
+record Told {X Y : Type 0} (f : X → Option Y) (xs : List X) (ys : List Y) (i : ℕ) (d : X) : Type 0 where
+  value : Y
+  at : f (get_or xs i d) ≡ Some value
+  behind : drop i ys ≡ value ∷ drop (i + 1) ys
+
+told : {X Y : Type 0} (f : X → Option Y) (xs : List X) (ys : List Y) (i : ℕ) (d : X) → map f xs ≡ map Some ys → i < length xs → Told f xs ys i d
+told f [] ys i d e less = absurd (omega arith)
+told f (x ∷ xs) [] i d e less = absurd cc
+told f (x ∷ xs) (y ∷ ys) zero d e less = record { value = y; at = (cc); behind = refl }
+told {X} {Y} f (x ∷ xs) (y ∷ ys) (suc i) d e less =
+    let rest : map f xs ≡ map Some ys = cc in
+    let so : Told f xs ys i d = told f xs ys i d rest (omega arith) in
+    let one : suc i + 1 ≡ suc (i + 1) = omega arith in
+    record { value = so.value; at = so.at; behind = so.behind ∙ ap (λ n. so.value ∷ drop n (y ∷ ys)) (sym one) }
+
+-- the sender whose turn comes next
+pub place_within : (table : Table) (places : List ℕ) (i : ℕ) → AreInTurn table places → i < length places → get_or places i 0 < length table.senders
+place_within table places i h less =
+    let so : Told (slice_get table.senders) places (turn_order table) i 0 = told (slice_get table.senders) places (turn_order table) i 0 h less in
+    slice_get_within table.senders (get_or places i 0) so.value so.at
+
+pub turn_sender : (table : Table) (senders : List Sender) (places : List ℕ) (i : ℕ) (sender : Sender) → senders ≡ table.senders → AreInTurn table places → i < length places → sender ≡ get_or senders (get_or places i 0) sender
+    → slice_get table.senders (get_or places i 0) ≡ Some sender
+turn_sender table senders places i sender same h less is =
+    let inside : get_or places i 0 < length table.senders = place_within table places i h less in
+    read_sender table senders (get_or places i 0) sender same (omega (arith, ap length same)) is
+
+pub turn_behind : (table : Table) (places : List ℕ) (i : ℕ) (sender : Sender) → AreInTurn table places → i < length places → slice_get table.senders (get_or places i 0) ≡ Some sender
+    → drop i (turn_order table) ≡ sender ∷ drop (i + 1) (turn_order table)
+turn_behind table places i sender h less at =
+    let so : Told (slice_get table.senders) places (turn_order table) i 0 = told (slice_get table.senders) places (turn_order table) i 0 h less in
+    let both : Some so.value ≡ Some sender = sym so.at ∙ at in
+    let same : so.value ≡ sender = cc in
+    so.behind ∙ ap (λ s. s ∷ drop (i + 1) (turn_order table)) same
+
+-- with the turns that are left, a list becomes the whole that ends at `last`
+pub record Leads (hands : ℕ → List Message) (round : ℕ) (left : List Sender) (from last : ℕ) (list whole : List Entry) : Type 0 where
+  pub turns : list ++ turns hands round left from ≡ whole
+  pub end : turns_end hands round left from ≡ last
+
+-- and so it does with one turn more, and one less that is left
+pub turn_more : (hands : ℕ → List Message) (round : ℕ) (left rest : List Sender) (from last : ℕ) (list whole : List Entry) (sender : Sender) (message : Message) (list' : List Entry) (from' : ℕ)
+    → Leads hands round left from last list whole → left ≡ sender ∷ rest → message ≡ get_or (hands sender.number) round [] → list' ≡ list ++ record { moment = from + sender.tg; terminal = sender.number; message = message } ∷ []
+    → from' ≡ from + sender.tg + bits message → Leads hands round rest from' last list' whole
+turn_more hands round left rest from last list whole sender message list' from' so left_is message_is list_is from_is =
+    let due = get_or (hands sender.number) round [] in
+    let now : Entry = record { moment = from + sender.tg; terminal = sender.number; message = due } in
+    let added : list' ≡ list ++ now ∷ [] = list_is ∙ ap (λ (m : Message). list ++ record { moment = from + sender.tg; terminal = sender.number; message = m } ∷ []) message_is in
+    let ended : from' ≡ from + sender.tg + bits due = from_is ∙ ap (λ (m : Message). from + sender.tg + bits m) message_is in
+    record {
+      turns = ap (λ (l : List Entry). l ++ turns hands round rest from') added ∙ ap (λ n. (list ++ now ∷ []) ++ turns hands round rest n) ended ∙ append_assoc list (now ∷ []) (turns hands round rest (from + sender.tg + bits due))
+          ∙ ap (λ ss. list ++ turns hands round ss from) (sym left_is) ∙ so.turns;
+      end = ap (turns_end hands round rest) ended ∙ ap (λ ss. turns_end hands round ss from) (sym left_is) ∙ so.end;
+    }
+
+-- where none is left, it is the whole
+pub none_left : (hands : ℕ → List Message) (round i : ℕ) (order : List Sender) (from last : ℕ) (list whole : List Entry) → length order ≤ i → Leads hands round (drop i order) from last list whole → (list ≡ whole) × (from ≡ last)
+none_left hands round i order from last list whole all so =
+    let none : drop i order ≡ [] = drop_all i order all in
+    (sym (append-nil list) ∙ ap (λ ss. list ++ turns hands round ss from) (sym none) ∙ so.turns, ap (λ ss. turns_end hands round ss from) (sym none) ∙ so.end)
+
+pub as_long : (table : Table) (places : List ℕ) → AreInTurn table places → length places ≡ length (turn_order table)
+as_long table places h = sym (length-map places (slice_get table.senders)) ∙ ap length h ∙ length-map (turn_order table) Some
+
+-- the first sender with the number of one is this one
+first_place : (senders : List Sender) (k : ℕ) (sender : Sender) → Differ (λ s. s.number) senders → slice_get senders k ≡ Some sender → position_or_len (λ s. s.number == sender.number) senders ≡ k
+first_place [] k sender d at = absurd cc
+first_place (s ∷ senders) zero sender d at =
+    let same : s ≡ sender = cc in
+    rw (eq-eqb s.number sender.number (ap (λ (w : Sender). w.number) same)) refl
+first_place (s ∷ senders) (suc k) sender d at = rw (ne_eqb s.number sender.number (d.0 sender (at_in senders k sender at))) (let rest : position_or_len (λ w. w.number == sender.number) senders ≡ k = first_place senders k sender d.1 at in omega arith)
+
+-- the sender of a turn stands at the place that its number is found at
+pub record StandsAt (table : Table) (turn number : ℕ) : Type 0 where
+  pub sender : Sender
+  pub place : ℕ
+  pub at : slice_get (turn_order table) turn ≡ Some sender
+  pub there : slice_get table.senders place ≡ Some sender
+  pub found : position (λ s. s.number == number) table.senders ≡ Some place
+
+pub stands_at : (table : Table) (turn number : ℕ) → IsTrue (is_valid table) → IsSomeAnd (slice_get (turn_order table) turn) (λ sender. number ≡ sender.number) → StandsAt table turn number
+stands_at table turn number valid h =
+    named (slice_get (turn_order table) turn) refl h
+  where
+    named : (o : Option Sender) → slice_get (turn_order table) turn ≡ o → IsSomeAnd o (λ sender. number ≡ sender.number) → StandsAt table turn number
+    named None at none = absurd none
+    named (Some sender) at same =
+        let w = in_at table.senders sender (from_sort (turn_key table.mode) table.senders sender (at_in (turn_order table) turn sender at)) in
+        let p = λ (s : Sender). s.number == sender.number in
+        let first : position_or_len p table.senders ≡ w.0 = first_place table.senders w.0 sender (numbers_differ table (valid_facts table valid)) w.1 in
+        let inside : w.0 < length table.senders = slice_get_within table.senders w.0 sender w.1 in
+        let found : position p table.senders ≡ Some w.0 = ap (λ i. cond (nat_lt i (length table.senders)) (Some i) None) first ∙ rw (lt-ltb w.0 (length table.senders) inside) refl in
+        record { sender = sender; place = w.0; at = at; there = w.1; found = ap (λ n. position (λ (s : Sender). s.number == n) table.senders) same ∙ found }
+
+pub is_found : (table : Table) (senders : List Sender) (turn number : ℕ) (found : Option ℕ) → IsTrue (is_valid table) → senders ≡ table.senders → IsSomeAnd (slice_get (turn_order table) turn) (λ sender. number ≡ sender.number)
+    → found ≡ position (λ s. s.number == number) senders → IsSome found
+is_found table senders turn number found valid same h is =
+    let so : StandsAt table turn number = stands_at table turn number valid h in
+    let e : found ≡ Some so.place = is ∙ ap (position (λ (s : Sender). s.number == number)) same ∙ so.found in
+    ap is_some e
+
+-- one place more
+pub place_more : (table : Table) (senders : List Sender) (turn number place : ℕ) (found : Option ℕ) (places places' : List ℕ) → IsTrue (is_valid table) → senders ≡ table.senders → IsSomeAnd (slice_get (turn_order table) turn) (λ sender. number ≡ sender.number)
+    → found ≡ position (λ s. s.number == number) senders → found ≡ Some place → places' ≡ places ++ place ∷ [] → map (slice_get table.senders) places ≡ map Some (take turn (turn_order table))
+    → map (slice_get table.senders) places' ≡ map Some (take (turn + 1) (turn_order table))
+place_more table senders turn number place found places places' valid same h found_is place_is places_is so =
+    let w : StandsAt table turn number = stands_at table turn number valid h in
+    let both : Some place ≡ Some w.place = sym place_is ∙ found_is ∙ ap (position (λ (s : Sender). s.number == number)) same ∙ w.found in
+    let e : place ≡ w.place = cc in
+    let read : get_or (turn_order table) turn w.sender ≡ w.sender = get_or_from_slice_get (turn_order table) turn w.sender w.sender w.at in
+    let inside : turn < length (turn_order table) = slice_get_within (turn_order table) turn w.sender w.at in
+    let more : take (turn + 1) (turn_order table) ≡ take turn (turn_order table) ++ w.sender ∷ [] = take_more (turn_order table) turn w.sender inside ∙ ap (λ s. take turn (turn_order table) ++ s ∷ []) read in
+    ap (map (slice_get table.senders)) places_is ∙ map-append (slice_get table.senders) places (place ∷ []) ∙ ap (λ l. l ++ slice_get table.senders place ∷ []) so ∙ ap (λ o. map Some (take turn (turn_order table)) ++ o ∷ []) (ap (slice_get table.senders) e ∙ w.there)
+    ∙ sym (map-append Some (take turn (turn_order table)) (w.sender ∷ [])) ∙ ap (map Some) (sym more)
+
+pub places_whole : (table : Table) (places : List ℕ) (turn : ℕ) → length table.senders ≤ turn → map (slice_get table.senders) places ≡ map Some (take turn (turn_order table)) → AreInTurn table places
+places_whole table places turn all so =
+    let long : length (turn_order table) ≡ length table.senders = length-sort (turn_key table.mode) table.senders in
+    so ∙ ap (map Some) (take_all turn (turn_order table) (omega arith))

@@ -1,0 +1,27 @@
+ghost use Rattle.bus_schedule.specs.declared.error.ScheduleError.TheVariants.{Memory};
+ghost use Rattle.std.specs.Prelude.{◌≡◌};
+
+use std::alloc::AllocError;
+use thiserror::Error;
+
+/// The longest closed end of a schedule that is given, in bit times: ten seconds. It is this project's profile.
+pub const LONGEST_END: u128 = 20_000_000;
+
+/// Why no schedule is given.
+#[derive(Clone, Copy, Debug, PartialEq, Eq, Error)]
+pub enum ScheduleError {
+    /// Memory was refused.
+    #[error("out of memory")]
+    Memory,
+    /// The closed end, which is this, is above [`LONGEST_END`].
+    #[error("the schedule ends at bit time {end}, above 20000000")]
+    TooLong { end: u128 },
+}
+
+impl From<AllocError> for ScheduleError {
+    ghost from_gives = { λ _ e. e ≡ Memory };
+
+    fn from(_: AllocError) -> Self {
+        ScheduleError::Memory
+    }
+}

@@ -1,0 +1,57 @@
+ghost use Rattle.std.specs.Prelude.{◌≡◌, ◌<◌, IsTrue, IfOk, IfErr, Err};
+ghost use Rattle.bus_table.specs.declared.mode.Mode.TheVariants.{Aperiodic};
+ghost use Rattle.bus_medium.specs.Buses.{stations, StandsAt};
+ghost use Rattle.bus_medium.specs.Timings.{quiet_of, stations_of};
+ghost use Rattle.bus_regime.specs.Verdicts.{verdict_of, is_accepted};
+ghost use Rattle.bus_schedule.specs.Even.{are_even};
+ghost use Rattle.bus_schedule.specs.Closed.{closed_end};
+ghost use Rattle.bus_schedule.specs.Runs.{IsRun};
+ghost use Rattle.bus_schedule.specs.Limits.{IsRefused};
+
+use crate::end::limited_end;
+use crate::error::{LONGEST_END, ScheduleError};
+use crate::laws::accepted_is_closed;
+use bus_medium::bus::Bus;
+use bus_strings::transmission::Transmission;
+use bus_table::hand::Hand;
+use bus_table::table::Table;
+use bus_timers::cores::Core;
+use std::alloc::Global;
+
+/// What a bus did: the list of its transmissions, and the bus after them.
+#[derive(Drop)]
+pub struct Ran<C: Core> {
+    /// The transmissions, in order.
+    pub list: Vec<Transmission>,
+    /// The bus, which stands at the closed end.
+    pub bus: Bus<C>,
+}
+
+/// Runs the bus of an accepted table and even hands from its settled start up to the closed end, bit time for bit time.
+///
+/// The list is the run (`specs/Runs.antt`): the closed schedule in whole, and the only list that is lawful up to the
+/// closed end, at which the bus stands then.
+///
+/// `TooLong` comes exactly where the closed end is above [`LONGEST_END`], and before any memory is taken; `Memory` only
+/// where memory was refused.
+pub fn run_settled<C: Core>(
+    alloc: Global,
+    table: &Table,
+    hands: Vec<Hand>,
+) -> Result<Ran<C>, ScheduleError>
+    requires aperiodic { table.now.mode ≡ Aperiodic }
+    requires accepted { IsTrue (is_accepted (verdict_of table.now)) }
+    requires even { IsTrue (are_even table.now hands.items) }
+    ensures run { IfOk result (λ ran. IsRun table.now hands.items ran.list.items) }
+    ensures stands { IfOk result (λ ran. StandsAt ⟦<C as Core>⟧ ran.bus ran.list.items (closed_end table.now hands.items)) }
+    ensures quiet { IfOk result (λ ran. ran.bus.quiet ≡ quiet_of table.now) }
+    ensures stations { IfOk result (λ ran. stations ran.bus ≡ stations_of table.now hands.items) }
+    ensures too_long { LONGEST_END < closed_end table.now hands.items → result ≡ Err (ScheduleError.TooLong (closed_end table.now hands.items)) }
+    ensures errors { IfErr result (IsRefused (closed_end table.now hands.items)) }
+{
+    let end = limited_end(table, &hands)?;
+    let mut bus = Bus::settled(alloc, table, hands)?;
+    let list = bus.observe(end)?;
+    accepted_is_closed();
+    Ok(Ran { list, bus })
+}
