@@ -89,8 +89,8 @@ fn schedule(alloc: Global, table: &Table, hands: &[Hand]) -> Result<Vec<Transmis
 /// The closed schedule of a table and even hands: who starts when, by gaps and messages alone. It ascends by moment, then
 /// terminal.
 ///
-/// `TooLong` comes exactly where the closed end is above [`LONGEST_END`](crate::error::LONGEST_END), and before any memory is
-/// taken; `Memory` only where memory was refused.
+/// `TooLong` comes exactly where the closed end is above [`LONGEST_END`], and before any memory is taken; `Memory` only
+/// where memory was refused.
 pub fn closed(
     alloc: Global,
     table: &Table,

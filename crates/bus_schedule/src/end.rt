@@ -2,8 +2,8 @@ ghost use Rattle.std.specs.Prelude.{◌≡◌, ◌+◌, ◌*◌, ◌^◌, ◌<�
 ghost use Rattle.std.specs.List.{sum_by};
 ghost use Rattle.bus_strings.specs.Messages.{bits};
 ghost use Rattle.bus_table.specs.declared.mode.Mode.TheVariants.{Aperiodic};
-ghost use Rattle.bus_schedule.specs.Even.{are_even, messages_of, rounds};
 ghost use Rattle.bus_table.specs.Valid.{is_valid};
+ghost use Rattle.bus_schedule.specs.Even.{are_even, messages_of, rounds};
 ghost use Rattle.bus_schedule.specs.Closed.{closed_end};
 ghost use Rattle.bus_schedule.specs.Limits.{IsRefused};
 

@@ -14,7 +14,7 @@ pub enum ScheduleError {
     #[error("out of memory")]
     Memory,
     /// The closed end, which is this, is above [`LONGEST_END`].
-    #[error("the schedule ends at bit time {end}, above 20000000")]
+    #[error("the closed end {end} is above the limit")]
     TooLong { end: u128 },
 }
 

@@ -3,6 +3,20 @@
 //! The closed schedule (`specs/Closed.antt`) says who starts when as sums of gaps and messages, and knows no timers. For a
 //! table that the checker accepts and even hands it is what the bus does ([`laws::accepted_is_closed`]), and
 //! [`run::run_settled`] runs a bus that does it.
+//!
+//! - [`uneven::find_uneven`] tells whether hands are even: whether each sender has as many messages as the others
+//!   (`specs/Even.antt`). All else asks that they are.
+//! - [`end::closed_end`] is the moment at which the closed schedule ends, and [`closed::closed`] its list. It is given up
+//!   to [`error::LONGEST_END`].
+//! - [`run::run_settled`] observes the bus up to the closed end, over any [`bus_timers::cores::Core`]. What a run is stands
+//!   in `specs/Runs.antt`: the closed schedule in whole, the one lawful list, without overlaps, each sender once a cycle.
+//! - [`laws`] has what holds of closed schedules of any length.
+//!
+//! ```
+//! if find_uneven(&table, &hands).is_none() && verdict(&table).is_accepted() {
+//!     let ran = run_settled::<CounterCore>(alloc, &table, hands)?;
+//! }
+//! ```
 #![tactic(auto)]
 
 pub mod closed;
@@ -11,4 +25,6 @@ pub mod error;
 pub mod laws;
 mod order;
 pub mod run;
+#[cfg(test)]
+mod tests;
 pub mod uneven;

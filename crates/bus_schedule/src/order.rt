@@ -1,5 +1,4 @@
 ghost use Rattle.std.specs.Prelude.{◌≡◌, ◌==◌, IfOk, position};
-ghost use Rattle.bus_table.specs.Valid.{is_valid};
 ghost use Rattle.bus_schedule.specs.Places.{AreInTurn};
 
 use bus_table::sender::Sender;

@@ -1,0 +1,125 @@
+ghost use Rattle.std.specs.Prelude.{IfOk, IsTrue};
+ghost use Rattle.bus_schedule.specs.Even.{are_even};
+
+use crate::closed::closed;
+use crate::end::closed_end;
+use crate::error::ScheduleError;
+use crate::run::run_settled;
+use crate::uneven::find_uneven;
+use bus_regime::verdict::verdict;
+use bus_strings::reading::read_messages;
+use bus_strings::transmission::Transmission;
+use bus_table::fit::fits;
+use bus_table::hand::Hand;
+use bus_table::hands::hands;
+use bus_table::reading::read_table;
+use bus_table::table::Table;
+use bus_timers::counter::CounterCore;
+use std::alloc::{AllocError, Global};
+use std::process::Abort;
+use std::test::Fail;
+
+/// Two senders with terminal gaps 20 and 30, of one wordstring each.
+const TWO_SENDERS: &[u8] = b"TABLE 1
+MODE aperiodic
+TI 1000
+SG 300
+SENDER 1 TG 20
+SEND 0A1 1 2 4
+SENDER 2 TG 30
+SEND 0B2 1 30 40
+";
+
+/// One sender of messages of 20 bit times.
+const ONE_SENDER: &[u8] = b"TABLE 1
+MODE aperiodic
+TI 1000
+SG 1024
+SENDER 1 TG 256
+SEND 001 0 0 0
+";
+
+/// Two rounds of `TWO_SENDERS`: terminals, and the data words of their messages.
+const TWO_ROUNDS: [(u8, usize); 4] = [(1, 2), (2, 30), (1, 2), (2, 30)];
+
+/// A messages text of these items of one wordstring each, all data words 0.
+fn text(alloc: Global, items: &[(u8, usize)]) -> Result<String, AllocError> {
+    let mut text = String::from_str(alloc, "MESSAGES 1\n")?;
+    for (terminal, words) in items {
+        text.push_str(format!(in alloc; "MSG {terminal} :")?.as_str())?;
+        for _ in 0..*words {
+            text.push_str(" 0000")?;
+        }
+        text.push_str("\n")?;
+    }
+    Ok(text)
+}
+
+/// The hands of these items, which are even.
+fn even_hands(
+    rt: &impl Abort,
+    alloc: Global,
+    table: &Table,
+    items: &[(u8, usize)],
+) -> Result<Vec<Hand>, Fail>
+    ensures { IfOk result (λ hands. IsTrue (are_even table.now hands.items)) }
+{
+    let payloads = read_messages(alloc, text(alloc, items)?.as_bytes())?;
+    assert!(rt; fits(table, &payloads).is_ok());
+    let hands = hands(alloc, table, payloads)?;
+    assert!(rt; find_uneven(table, &hands).is_none());
+    Ok(hands)
+}
+
+/// The moments and terminals of a list.
+fn starts(alloc: Global, list: &[Transmission]) -> Result<Vec<(u64, u8)>, AllocError> {
+    list.iter().map(|x| (x.moment, x.terminal)).collect(alloc)
+}
+
+#[test]
+fn two_rounds_are_laid_by_gaps_and_messages(rt: HostRuntime) -> Result<(), Fail> {
+    let alloc = rt.alloc();
+    let table = read_table(alloc, TWO_SENDERS)?;
+    let hands = even_hands(&rt, alloc, &table, &TWO_ROUNDS)?;
+    let list = closed(alloc, &table, &hands)?;
+    assert_eq!(rt;
+        starts(alloc, &list)?.as_slice(),
+        [(20, 1), (110, 2), (1050, 1), (1140, 2)].as_slice()
+    );
+    assert_eq!(rt; closed_end(&table, &hands), 1760);
+    Ok(())
+}
+
+#[test]
+fn the_bus_runs_as_the_schedule_says(rt: HostRuntime) -> Result<(), Fail> {
+    let alloc = rt.alloc();
+    let table = read_table(alloc, TWO_SENDERS)?;
+    let hands = even_hands(&rt, alloc, &table, &TWO_ROUNDS)?;
+    assert!(rt; verdict(&table).is_accepted());
+    let ran = run_settled::<CounterCore>(alloc, &table, hands)?;
+    assert_eq!(rt;
+        starts(alloc, &ran.list)?.as_slice(),
+        [(20, 1), (110, 2), (1050, 1), (1140, 2)].as_slice()
+    );
+    assert_eq!(rt; ran.list.last().map(|x| x.end()), Some(1760));
+    Ok(())
+}
+
+/// A cycle of `ONE_SENDER` is 1300 bit times long, so that 15,386 messages end behind the limit, and one less doesn't.
+#[test]
+fn a_schedule_above_the_limit_is_refused(rt: HostRuntime) -> Result<(), Fail> {
+    let alloc = rt.alloc();
+    let table = read_table(alloc, ONE_SENDER)?;
+    assert!(rt; verdict(&table).is_accepted());
+
+    let items = vec![in alloc; (1, 0); 15_386]?;
+    let long = even_hands(&rt, alloc, &table, &items)?;
+    let too_long = ScheduleError::TooLong { end: 20_000_776 };
+    assert!(rt; closed(alloc, &table, &long).err() == Some(too_long));
+    assert!(rt; run_settled::<CounterCore>(alloc, &table, long).err() == Some(too_long));
+
+    let short = even_hands(&rt, alloc, &table, &items[1..])?;
+    let list = closed(alloc, &table, &short)?;
+    assert_eq!(rt; list.last().map(|x| x.end()), Some(19_999_476));
+    Ok(())
+}
