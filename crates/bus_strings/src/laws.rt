@@ -1,5 +1,15 @@
+ghost use Rattle.std.specs.Prelude.{◌≡◌, ℕ, List, Ok};
+ghost use Rattle.bus_strings.specs.Items.{Item};
+ghost use Rattle.bus_strings.specs.Grammar.{IsMessagesText};
+ghost use Rattle.bus_strings.specs.Reading.{messages_reading};
 ghost use Rattle.bus_strings.specs.PulseLaws.{FirstIsOn, LastIsOn, QuietBehind, PulseSoon, OnWithinPulse, NextPulse, LastPulseEnds};
 ghost use Rattle.bus_strings.specs.OverlapLaws.{OverlapsMeet, NeighboursTell, AscendingIsByMoment};
+
+/// A messages text reads as its items, and what reads as items is a messages text of them. Laws, with no work.
+pub fn texts_read_as_their_items()
+    ensures again { (text : List ℕ) (items : List Item) → IsMessagesText items text → messages_reading text ≡ Ok items }
+    ensures found { (text : List ℕ) (items : List Item) → messages_reading text ≡ Ok items → IsMessagesText items text }
+{}
 
 /// What follows of the pulses of a message, whatever its words: laws, with no work.
 pub fn pulses_cover()

@@ -1,5 +1,5 @@
 -- A text of a valid table reads as it, and every table that is read is aperiodic.
-use Rattle.std.specs.Prelude.{◌≡◌, ℕ, Bool, true, false, is_none, IfOk, IfErr, IsTrue, List, Option, Some, None, Result, Ok, Err}
+use Rattle.std.specs.Prelude.{◌≡◌, ℕ, Bool, true, false, ◌&&◌, is_none, IfOk, IfErr, IsTrue, List, Option, Some, None, Result, Ok, Err}
 use Rattle.std.proofs.Common.{refl, sym, ap, ◌∙◌, cond}
 use Rattle.std.proofs.lemmas.Bool.{and_parts}
 use Rattle.bus_text.specs.declared.reason.Reason.{Reason}
@@ -14,7 +14,7 @@ use Rattle.bus_table.specs.declared.error.TableError.TheVariants.{Text, Whole, M
 use Rattle.bus_table.specs.Drafts.{Draft, start, may_end}
 use Rattle.bus_table.specs.Gives.{Answers, Refuses}
 use Rattle.bus_table.specs.Tables.{Table}
-use Rattle.bus_table.specs.Text.{IsTableText, is_built}
+use Rattle.bus_table.specs.Text.{IsTableText, IsBuiltText, is_built}
 use Rattle.bus_table.specs.Valid.{is_valid, is_in_range}
 use Rattle.bus_table.specs.Whole.{whole_refusal}
 use Rattle.bus_table.specs.Reading.{steps, table_of, ended, text_reading, unless_whole, answered, answer_of}
@@ -83,3 +83,27 @@ refused_answer text (Ok table) h = tt
 refused_answer text (Err Memory) h = tt
 refused_answer text (Err (Text line reason)) h = λ table has. judged_whole (whole_refusal table) table line reason (sym (ap answered (text_again text table has.stands has.built)) ∙ h)
 refused_answer text (Err (Whole reason)) h = let w = whole_table (text_reading text) reason h in (w.0, text_found text w.0 w.1, w.2)
+
+-- ---- the same of what a text reads as
+pub refused_reading : (text : List ℕ) (error : TableError) → answer_of text ≡ Err error → Refuses text error
+refused_reading text Memory h = tt
+refused_reading text (Text line reason) h = refused_answer text (Err (Text line reason)) h
+refused_reading text (Whole reason) h = refused_answer text (Err (Whole reason)) h
+
+-- a table that is judged good has no whole reason against it
+judged_none : (reason : Option WholeReason) (table good : Table) → unless_whole reason table ≡ Ok good → is_none reason ≡ true
+judged_none None table good h = refl
+judged_none (Some reason) table good h = absurd (cc)
+
+answered_none : (read : Result Table Refusal) (table : Table) → answered read ≡ Ok table → is_none (whole_refusal table) ≡ true
+answered_none (Ok t) table h = ap (λ t. is_none (whole_refusal t)) (sym (judged_same (whole_refusal t) t table h)) ∙ judged_none (whole_refusal t) t table h
+answered_none (Err refusal) table h = absurd (cc)
+
+both : (a b : Bool) → a ≡ true → b ≡ true → (a && b) ≡ true
+both true b h k = k
+both false b h k = absurd (cc)
+
+pub found_reading : (text : List ℕ) (table : Table) → answer_of text ≡ Ok table → IsBuiltText table text × IsTrue (is_valid table)
+found_reading text table h =
+    let found : IsBuiltText table text = text_found text table (answered_mode (text_reading text) table h) in
+    (found, both (is_in_range table) (is_none (whole_refusal table)) found.stands.ranges (answered_none (text_reading text) table h))

@@ -1,16 +1,31 @@
 //! Laws of the definitions, each the contract of a function that does nothing.
-ghost use Rattle.std.specs.Prelude.{◌≡◌, ◌≤◌, ℕ, IsTrue, List, Ok};
+ghost use Rattle.std.specs.Prelude.{◌≡◌, ◌≤◌, ℕ, IsTrue, IsOk, List, Ok, Err};
+ghost use Rattle.bus_strings.specs.Items.{Item};
 ghost use Rattle.bus_strings.specs.Messages.{Message, bits};
-ghost use Rattle.bus_table.specs.Fits.{fits, is_shortest, least_message};
+ghost use Rattle.bus_table.specs.declared.error.TableError.{TableError};
+ghost use Rattle.bus_table.specs.Fits.{fits, items_fit, is_shortest, least_message};
+ghost use Rattle.bus_table.specs.Gives.{Refuses};
+ghost use Rattle.bus_table.specs.Hands.{hands_of, are_hands};
 ghost use Rattle.bus_table.specs.Lengths.{shortest, longest};
 ghost use Rattle.bus_table.specs.Reading.{answer_of};
 ghost use Rattle.bus_table.specs.Tables as tables;
-ghost use Rattle.bus_table.specs.Text.{IsTableText, is_built};
+ghost use Rattle.bus_table.specs.Text.{IsTableText, IsBuiltText, is_built};
 ghost use Rattle.bus_table.specs.Valid.{is_valid};
 
 /// A text of a valid table reads as that table.
 pub fn text_reads_as_its_table()
     ensures { (text : List ℕ) (table : tables.Table) → IsTableText table text → IsTrue (is_built table) → IsTrue (is_valid table) → answer_of text ≡ Ok table }
+{}
+
+/// What reads as a table is a text of it, in the forms that are read, and the table is valid; and each refusal has its cause.
+pub fn readings_have_their_cause()
+    ensures found { (text : List ℕ) (table : tables.Table) → answer_of text ≡ Ok table → IsBuiltText table text × IsTrue (is_valid table) }
+    ensures refused { (text : List ℕ) (error : TableError) → answer_of text ≡ Err error → Refuses text error }
+{}
+
+/// Items that fit the senders of a valid table give these hands, whose messages fit.
+pub fn fitting_items_give_hands()
+    ensures { (table : tables.Table) (items : List Item) → IsTrue (is_valid table) → IsOk (items_fit table items) → IsTrue (are_hands table.senders (hands_of table items)) }
 {}
 
 /// A message that fits a sender is no shorter than the shortest and no longer than the longest of its messages.
