@@ -1,2 +1,13 @@
-mod CheckLemmas
-mod ClaimLemmas
+pub mod StageLemmas
+pub mod ReachLemmas
+pub mod TakeLemmas
+pub mod PrepareLemmas
+pub mod DoLemmas
+pub mod FormLemmas
+pub mod HoldLemmas
+pub mod TraceLemmas
+pub mod InputLemmas
+pub mod CheckLemmas
+pub mod ObserveLemmas
+pub mod ActLemmas
+pub mod ClaimLemmas

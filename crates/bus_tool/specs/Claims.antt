@@ -1,40 +1,69 @@
--- What is claimed of the commands, in the words of their texts: by the relation between a table and its texts, not by how they are read.
-use Rattle.std.specs.Prelude.{◌≡◌, ℕ, ◌≤◌, IsTrue, List, [], ◌∷◌, length, codes, Option, Some, ◌⊎◌}
+-- What is claimed of the commands, in the words of their texts: by the relation between a value and its texts, not by how they are read.
+use Rattle.std.specs.Prelude.{◌≡◌, ℕ, ◌≤◌, IsTrue, List, [], ◌∷◌, length, codes, Option, Some, Ok, ◌⊎◌}
 use Rattle.std.specs.Io.KnownBytes.{append_known}
+use Rattle.bus_text.specs.Numbers.{IsDecimal}
 use Rattle.bus_outer.specs.Faults.{Rose}
-use Rattle.bus_table.specs.Tables.{Table}
-use Rattle.bus_table.specs.Text.{IsTableText, is_built}
+use Rattle.bus_strings.specs.Messages.{Entry}
+use Rattle.bus_strings.specs.Items.{Item}
+use Rattle.bus_strings.specs.Grammar.{IsMessagesText}
+use Rattle.bus_table.specs.Tables.{Table, Hand}
+use Rattle.bus_table.specs.Fits.{items_fit}
+use Rattle.bus_table.specs.Hands.{hands_of}
+use Rattle.bus_table.specs.Text.{IsBuiltText}
 use Rattle.bus_table.specs.Valid.{is_valid}
 use Rattle.bus_regime.specs.Verdicts.{verdict_of}
 use Rattle.bus_regime.specs.Lines.{verdict_line}
+use Rattle.bus_medium.specs.Lawful.{IsLawful}
+use Rattle.bus_medium.specs.Timings.{quiet_of, stations_of}
+use Rattle.bus_trace.specs.Traces.{Recording, trace_text}
 use Rattle.bus_tool.specs.declared.status.Status.{Status}
-use Rattle.bus_tool.specs.declared.status.Status.TheVariants.{NoMemory}
+use Rattle.bus_tool.specs.declared.status.Status.TheVariants.{Done, NoMemory}
+use Rattle.bus_tool.specs.Forms.{horizon_limit}
 use Rattle.bus_tool.specs.Outcomes.{status_of}
-use Rattle.bus_tool.specs.Due.{text_limit, verdict_outcome}
-use Rattle.bus_tool.specs.Acts.{Outside}
+use Rattle.bus_tool.specs.Seen.{Seen, Sources, numbered, text_limit}
+use Rattle.bus_tool.specs.Steps.{IsNamed}
+use Rattle.bus_tool.specs.Due.{verdict_outcome}
+use Rattle.bus_tool.specs.Texts.{IsObserved}
 
--- A call of `check T` on a text of a valid table, in which nothing outside fails:
---   form          the words are the command and one more word
---   told          the first source tells its bytes, which are `text`
---   stands        they are a text of the table
---   built         of the forms that are read today
---   valid, short  the table is valid, and the text within its limit
---   reads, writes the counts of faults of the first source and of `out` don't rise
-pub record IsCheckOf (words : List (List ℕ)) (table : Table) (before after : Outside) : Type 0 where
-  pub path : List ℕ
+-- nothing outside fails: no count of faults of a named source, or of `out`, rises
+pub record IsUndisturbed (named : ℕ) (before after : Sources) (out out' : Seen) : Type 0 where
+  pub reads : (source : ℕ) → IsNamed named source → Rose (numbered source before).faults (numbered source after).faults → ⊥
+  pub writes : Rose out.faults out'.faults → ⊥
+
+-- a source tells its bytes, and they are a text, within its limit, of a valid table in the forms that are read today
+pub record TellsTable (table : Table) (seen : Seen) : Type 0 where
   pub text : List ℕ
-  pub form : words ≡ codes "check" ∷ path ∷ []
-  pub told : before.first ≡ Some text
-  pub stands : IsTableText table text
-  pub built : IsTrue (is_built table)
-  pub valid : IsTrue (is_valid table)
+  pub told : seen.bytes ≡ Some text
   pub short : length text ≤ text_limit
-  pub reads : Rose before.first_faults after.first_faults → ⊥
-  pub writes : Rose before.out_faults after.out_faults → ⊥
+  pub stands : IsBuiltText table text
+  pub valid : IsTrue (is_valid table)
 
--- The table's verdict line is added to `out`, and the status is Done where the verdict accepts, else Refused; or memory was refused, and
--- nothing is written.
-abbrev pub GivesVerdict : Table → Option (List ℕ) → Option (List ℕ) → Status → Type 0
-GivesVerdict table old new status =
-    ((status ≡ status_of (verdict_outcome (verdict_of table))) × (new ≡ append_known old (verdict_line (verdict_of table))))
-    ⊎ ((status ≡ NoMemory) × (new ≡ old))
+-- a source tells its bytes, and they are a text, within its limit, of items that fit the table
+pub record TellsItems (table : Table) (items : List Item) (seen : Seen) : Type 0 where
+  pub text : List ℕ
+  pub told : seen.bytes ≡ Some text
+  pub short : length text ≤ text_limit
+  pub stands : IsMessagesText items text
+  pub fit : items_fit table items ≡ Ok tt
+
+-- the answer: this status, and this text behind what `out` held; or memory was refused, and nothing is written
+abbrev pub Answers : Status → (List ℕ → Type 0) → Seen → Seen → Status → Type 0
+Answers answer IsIt out out' status =
+    ((status ≡ answer) × ((text : List ℕ) × IsIt text × (out'.bytes ≡ append_known out.bytes text)))
+    ⊎ ((status ≡ NoMemory) × (out'.bytes ≡ out.bytes))
+
+-- ---- `check`
+-- the words are `check` and one more
+pub record IsCheckForm (words : List (List ℕ)) : Type 0 where
+  pub path : List ℕ
+  pub form : words ≡ codes "check" ∷ path ∷ []
+
+-- a call of `check T` on a text of a valid table, in which nothing outside fails
+pub record IsCheckOf (words : List (List ℕ)) (table : Table) (before after : Sources) (out out' : Seen) : Type 0 where
+  pub form : IsCheckForm words
+  pub table_told : TellsTable table before.first
+  pub undisturbed : IsUndisturbed 1 before after out out'
+
+-- the table's verdict line is written, and the status is Done where the verdict accepts, else Refused
+abbrev pub GivesVerdict : Table → Seen → Seen → Status → Type 0
+GivesVerdict table out out' status = Answers (status_of (verdict_outcome (verdict_of table))) (λ text. text ≡ verdict_line (verdict_of table)) out out' status

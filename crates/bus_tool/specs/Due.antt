@@ -1,24 +1,78 @@
--- What is due for given words and a given first text: the outcome, where nothing outside fails and memory is granted, and what is then
--- written on `out`.
-use Rattle.std.specs.Prelude.{ℕ, nat_lt, List, [], length, Option, Some, None, Result, Ok, Err, if◌then◌else◌}
+-- What is due for given words and texts: the outcome, where nothing outside fails and memory is granted.
+use Rattle.std.specs.Prelude.{ℕ, nat_lt, List, length, Option, Some, None, Result, Ok, Err, if◌then◌else◌}
+use Rattle.bus_text.specs.AllOf.{◌>>=◌}
+use Rattle.bus_text.specs.Refusals.{Refusal}
+use Rattle.bus_strings.specs.Items.{Item}
+use Rattle.bus_strings.specs.Reading.{messages_reading}
+use Rattle.bus_strings.specs.declared.fault.MessagesError.{MessagesError}
+use Rattle.bus_strings.specs.declared.fault.MessagesError.TheVariants.{Text as NotRead, Memory as NoRoom}
 use Rattle.bus_table.specs.declared.error.TableError.{TableError}
 use Rattle.bus_table.specs.declared.error.TableError.TheVariants.{Text, Whole, Memory}
+use Rattle.bus_table.specs.declared.fit.FitError.{FitError}
 use Rattle.bus_table.specs.Tables.{Table}
+use Rattle.bus_table.specs.Fits.{items_fit}
 use Rattle.bus_table.specs.Reading.{answer_of}
 use Rattle.bus_regime.specs.declared.verdict.TableVerdict.{TableVerdict}
 use Rattle.bus_regime.specs.declared.verdict.TableVerdict.TheVariants.{Accept, ShortCycle, SmallGap, NoSync}
 use Rattle.bus_regime.specs.Verdicts.{verdict_of}
-use Rattle.bus_regime.specs.Lines.{verdict_line}
 use Rattle.bus_tool.specs.declared.forms.Form.{Form}
-use Rattle.bus_tool.specs.declared.forms.Form.TheVariants.{Check}
+use Rattle.bus_tool.specs.declared.forms.Form.TheVariants.{Check, Observe}
 use Rattle.bus_tool.specs.declared.outcome.Outcome.{Outcome}
-use Rattle.bus_tool.specs.declared.outcome.Outcome.TheVariants.{Done, Answered, Usage, TableText, TableWhole, NoMemory, TooLarge}
+use Rattle.bus_tool.specs.declared.outcome.Outcome.TheVariants.{Done, Answered, Usage, TableText, TableWhole, MessagesText, Unfit, NoMemory, TooLarge}
 use Rattle.bus_tool.specs.Forms.{form_of}
+use Rattle.bus_tool.specs.Seen.{text_limit}
 
--- the most bytes that a table text may have
-abbrev pub text_limit : ℕ
-text_limit = 1048576
+-- the text of a source, which is too large before all that is read from it
+abbrev pub text_due : ℕ → List ℕ → Result (List ℕ) Outcome
+text_due number text = if nat_lt text_limit (length text) then Err (TooLarge number) else Ok text
 
+-- ---- the first text
+-- why a table text is refused
+abbrev pub table_refusal : TableError → Outcome
+table_refusal (Text line reason) = TableText line reason
+table_refusal (Whole reason) = TableWhole reason
+table_refusal Memory = NoMemory
+
+abbrev pub table_or_refusal : Result Table TableError → Result Table Outcome
+table_or_refusal (Ok table) = Ok table
+table_or_refusal (Err error) = Err (table_refusal error)
+
+-- the table of the first text
+abbrev pub table_due : List ℕ → Result Table Outcome
+table_due text = text_due 1 text >>= λ whole. table_or_refusal (answer_of whole)
+
+-- ---- the second text, where it is one of messages
+-- why a messages text is refused
+abbrev pub messages_refusal : MessagesError → Outcome
+messages_refusal (NotRead line reason) = MessagesText line reason
+messages_refusal NoRoom = NoMemory
+
+abbrev pub items_or_refusal : Result (List Item) Refusal → Result (List Item) Outcome
+items_or_refusal (Ok items) = Ok items
+items_or_refusal (Err refusal) = Err (MessagesText refusal.line refusal.reason)
+
+abbrev pub fitting_or_refusal : Result (Unit {0}) FitError → List Item → Result (List Item) Outcome
+fitting_or_refusal (Ok fit) items = Ok items
+fitting_or_refusal (Err error) items = Err (Unfit error)
+
+-- the items of the second text, each of which fits its sender
+abbrev pub items_due : Table → List ℕ → Result (List Item) Outcome
+items_due table text = text_due 2 text >>= λ whole. items_or_refusal (messages_reading whole) >>= λ items. fitting_or_refusal (items_fit table items) items
+
+-- ---- both texts
+-- a table, and items that fit it
+pub record Inputs : Type 0 where
+  pub table : Table
+  pub items : List Item
+
+abbrev pub with_items : Table → List Item → Inputs
+with_items table items = record { table = table; items = items }
+
+-- the second text is looked at only where nothing of the first is refused
+abbrev pub inputs_due : List ℕ → List ℕ → Result Inputs Outcome
+inputs_due first second = table_due first >>= λ table. items_due table second >>= λ items. Ok (with_items table items)
+
+-- ---- the outcomes
 -- yes where the table is accepted, else no
 abbrev pub verdict_outcome : TableVerdict → Outcome
 verdict_outcome (Accept mode least most) = Done
@@ -26,36 +80,21 @@ verdict_outcome (ShortCycle least ti) = Answered
 verdict_outcome (SmallGap terminal gap needed) = Answered
 verdict_outcome (NoSync terminal gap needed) = Answered
 
--- why a table text is refused
-abbrev pub refusal_outcome : TableError → Outcome
-refusal_outcome (Text line reason) = TableText line reason
-refusal_outcome (Whole reason) = TableWhole reason
-refusal_outcome Memory = NoMemory
-
--- `check` of what a table text reads as
-abbrev pub check_outcome : Result Table TableError → Outcome
-check_outcome (Ok table) = verdict_outcome (verdict_of table)
-check_outcome (Err error) = refusal_outcome error
-
--- `check`: a text past its limit comes before all that is read from it
-abbrev pub check_due : List ℕ → Outcome
-check_due text = if nat_lt text_limit (length text) then TooLarge 1 else check_outcome (answer_of text)
+-- a refusal, or the answer to a value
+abbrev pub outcome_with : {Y : Type 0} → (Y → Outcome) → Result Y Outcome → Outcome
+outcome_with answer (Ok y) = answer y
+outcome_with answer (Err refusal) = refusal
 
 -- the outcome of a form
-abbrev pub form_due : Option Form → List ℕ → Outcome
-form_due None text = Usage
-form_due (Some Check) text = check_due text
+abbrev pub form_due : Form → List ℕ → List ℕ → Outcome
+form_due Check first second = outcome_with (λ table. verdict_outcome (verdict_of table)) (table_due first)
+form_due (Observe horizon) first second = outcome_with (λ inputs. Done) (inputs_due first second)
+
+-- the outcome where the words ask for a form, or for none
+abbrev pub outcome_for : Option Form → List ℕ → List ℕ → Outcome
+outcome_for None first second = Usage
+outcome_for (Some form) first second = form_due form first second
 
 -- the outcome that is due
-abbrev pub due : List (List ℕ) → List ℕ → Outcome
-due words text = form_due (form_of words) text
-
--- what `check` writes of a table text: the verdict line of its table
-abbrev pub check_text : Result Table TableError → List ℕ
-check_text (Ok table) = verdict_line (verdict_of table)
-check_text (Err error) = []
-
--- what a command writes on `out`, where its outcome is an answer
-abbrev pub command_text : Option Form → List ℕ → List ℕ
-command_text None text = []
-command_text (Some Check) text = check_text (answer_of text)
+abbrev pub due : List (List ℕ) → List ℕ → List ℕ → Outcome
+due words first second = outcome_for (form_of words) first second

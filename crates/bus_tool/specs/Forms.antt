@@ -1,17 +1,45 @@
 -- The forms of the command line. A word is its bytes.
-use Rattle.std.specs.Prelude.{ℕ, List, [], ◌∷◌, map, codes, Option, Some, None, if◌then◌else◌}
+use Rattle.std.specs.Prelude.{ℕ, ◌≤◌, Bool, ◌&&◌, nat_le, List, [], ◌∷◌, map, codes, Option, Some, None, if◌then◌else◌}
 use Rattle.std.specs.Prelude.{String}
 use Rattle.std.specs.declared.alloc.Global.{Global}
 use Rattle.std.specs.String.{string_bytes}
 use Rattle.std.specs.Str.{bytes_eq}
+use Rattle.bus_text.specs.Numbers.{is_plain_decimal, decimal_value}
 use Rattle.bus_tool.specs.declared.forms.Form.{Form}
-use Rattle.bus_tool.specs.declared.forms.Form.TheVariants.{Check}
+use Rattle.bus_tool.specs.declared.forms.Form.TheVariants.{Check, Observe}
 
 -- the words of the program, as bytes
 abbrev pub words_of : List (String Global) → List (List ℕ)
 words_of words = map string_bytes words
 
--- `check T`, whatever the word T is
+-- the greatest horizon, in bit times from the settled start
+abbrev pub horizon_limit : ℕ
+horizon_limit = 20000000
+
+-- whether a word is the plain decimal of a horizon
+abbrev pub is_horizon : List ℕ → Bool
+is_horizon word = is_plain_decimal word && nat_le (decimal_value word) horizon_limit
+
+-- `check T`
+abbrev pub two_words : List ℕ → Option Form
+two_words command = if bytes_eq command (codes "check") then Some Check else None
+
+-- `observe T M N`
+abbrev pub four_words : List ℕ → List ℕ → Option Form
+four_words command horizon = if bytes_eq command (codes "observe") && is_horizon horizon then Some (Observe (decimal_value horizon)) else None
+
+-- the form of these words, whatever the words T and M are
 abbrev pub form_of : List (List ℕ) → Option Form
-form_of (command ∷ table ∷ []) = if bytes_eq command (codes "check") then Some Check else None
-form_of _ = None
+form_of (command ∷ table ∷ []) = two_words command
+form_of (command ∷ table ∷ messages ∷ horizon ∷ []) = four_words command horizon
+form_of words = None
+
+-- how many sources a form names: the first, or the first and the second
+abbrev pub sources_of : Form → ℕ
+sources_of Check = 1
+sources_of (Observe horizon) = 2
+
+-- the numbers of a form are within their limits
+abbrev pub IsWithinLimits : Form → Type 0
+IsWithinLimits Check = Unit {0}
+IsWithinLimits (Observe horizon) = horizon ≤ horizon_limit

@@ -1,7 +1,11 @@
 pub mod Statuses
 pub mod Forms
 pub mod Outcomes
+pub mod Stages
+pub mod Seen
 pub mod Due
+pub mod Texts
+pub mod Steps
+pub mod Taken
 pub mod Acts
-pub mod Checks
 pub mod Claims

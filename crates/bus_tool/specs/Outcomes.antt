@@ -4,20 +4,25 @@ use Rattle.std.specs.Fmt.{decimal}
 use Rattle.bus_text.specs.Digits.{hex_digit, hexadecimal}
 use Rattle.bus_text.specs.declared.reason.Reason.{Reason}
 use Rattle.bus_text.specs.declared.reason.Reason.TheVariants.{Ended, Keyword, Fields, Spelling, Range, NotBuilt}
+use Rattle.bus_table.specs.declared.fit.FitError.{FitError}
+use Rattle.bus_table.specs.declared.fit.FitError.TheVariants.{Stranger, Shape}
 use Rattle.bus_table.specs.declared.error.WholeReason.{WholeReason}
 use Rattle.bus_table.specs.declared.error.WholeReason.TheVariants.{NoSender, NumberTwice, GapTwice, GapNotShort, PairTwice, OffsetRange, Varies}
 use Rattle.bus_tool.specs.declared.status.Status.{Status}
 use Rattle.bus_tool.specs.declared.status.Status.TheVariants as status
 use Rattle.bus_tool.specs.declared.outcome.Outcome.{Outcome}
-use Rattle.bus_tool.specs.declared.outcome.Outcome.TheVariants.{Done, Answered, Usage, TableText, TableWhole, ReadFault, WriteFault, NoMemory, TooLarge}
+use Rattle.bus_tool.specs.declared.outcome.Outcome.TheVariants.{Done, Answered, Usage, TableText, TableWhole, MessagesText, Unfit, ReadFault, WriteFault, NoMemory, TooLarge}
 use Rattle.bus_tool.specs.Statuses.{number_of}
 
+-- how the program ends
 abbrev pub status_of : Outcome → Status
 status_of Done = status.Done
 status_of Answered = status.Refused
 status_of Usage = status.Usage
 status_of (TableText line reason) = status.TableRefused
 status_of (TableWhole reason) = status.TableRefused
+status_of (MessagesText line reason) = status.InputRefused
+status_of (Unfit error) = status.InputRefused
 status_of (ReadFault source) = status.ReadFault
 status_of WriteFault = status.WriteFault
 status_of NoMemory = status.NoMemory
@@ -46,6 +51,11 @@ whole_words (PairTwice label ext) = pair_words label ext
 whole_words (OffsetRange number) = codes "OffsetRange " ++ decimal number
 whole_words (Varies number) = codes "Varies " ++ decimal number
 
+-- the item that doesn't fit, and why
+abbrev pub fit_words : FitError → List ℕ
+fit_words (Stranger item) = decimal item ++ codes " Stranger"
+fit_words (Shape item) = decimal item ++ codes " Shape"
+
 -- what a fault line says behind the status
 abbrev pub fault_words : Outcome → List ℕ
 fault_words Done = []
@@ -53,6 +63,8 @@ fault_words Answered = []
 fault_words Usage = codes "usage"
 fault_words (TableText line reason) = codes "table line " ++ decimal line ++ 32 ∷ [] ++ reason_name reason
 fault_words (TableWhole reason) = codes "table " ++ whole_words reason
+fault_words (MessagesText line reason) = codes "messages line " ++ decimal line ++ 32 ∷ [] ++ reason_name reason
+fault_words (Unfit error) = codes "messages item " ++ fit_words error
 fault_words (ReadFault source) = codes "read " ++ decimal source
 fault_words WriteFault = codes "write"
 fault_words NoMemory = codes "memory"
@@ -66,13 +78,7 @@ error_line outcome = codes "ERROR " ++ decimal (number_of (status_of outcome)) +
 abbrev pub is_written : Outcome → Bool
 is_written Done = true
 is_written Answered = true
-is_written Usage = false
-is_written (TableText line reason) = false
-is_written (TableWhole reason) = false
-is_written (ReadFault source) = false
-is_written WriteFault = false
-is_written NoMemory = false
-is_written (TooLarge source) = false
+is_written outcome = false
 
 -- the line of an outcome; none where the answer is written
 abbrev pub fault_line : Outcome → List ℕ

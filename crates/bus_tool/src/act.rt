@@ -1,8 +1,10 @@
-ghost use Rattle.bus_tool.specs.Acts.{Acts, outside};
+ghost use Rattle.bus_tool.specs.Acts.{Acts};
 ghost use Rattle.bus_tool.specs.Forms.{words_of};
+ghost use Rattle.bus_tool.specs.Seen.{sources_seen, sink_seen};
 
 use crate::check::check;
 use crate::forms::{Form, form_of};
+use crate::observe::observe;
 use crate::outcome::Outcome;
 use bus_outer::{Sink, Source};
 use std::alloc::Global;
@@ -10,7 +12,7 @@ use std::alloc::Global;
 /// Does the command that the words ask for, and says what it came to. All its memory is taken before its first written byte.
 ///
 /// `Usage` comes exactly where the words are no form; it takes no memory and pulls no source. The other refusals come in the order
-/// of `docs/FORMATS.md`. A source that the form doesn't name isn't pulled.
+/// of `docs/FORMATS.md`. A source that the form doesn't name isn't pulled, nor is the second where the first is refused.
 pub fn act<S: Source, K: Sink>(
     alloc: Global,
     words: &[String],
@@ -18,10 +20,11 @@ pub fn act<S: Source, K: Sink>(
     second: &mut S,
     out: &mut K,
 ) -> Outcome
-    ensures { Acts (words_of words.now) (outside S.left S.faults K.held K.faults first.old second.old out.old) (outside S.left S.faults K.held K.faults first.new second.new out.new) result }
+    ensures { Acts (words_of words.now) (sources_seen ⟦<S as Source>⟧ first.old second.old) (sources_seen ⟦<S as Source>⟧ first.new second.new) (sink_seen ⟦<K as Sink>⟧ out.old) (sink_seen ⟦<K as Sink>⟧ out.new) result }
 {
     match form_of(words) {
         None => Outcome::Usage,
         Some(Form::Check) => check(alloc, first, out),
+        Some(Form::Observe { horizon }) => observe(alloc, horizon, first, second, out),
     }
 }

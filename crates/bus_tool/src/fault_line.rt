@@ -1,7 +1,7 @@
 ghost use Rattle.bus_outer.specs.Sinks.{WritesText};
 ghost use Rattle.bus_outer.specs.Texts.{Adds};
-ghost use Rattle.bus_tool.specs.Outcomes.{reason_name, pair_words, whole_words, fault_words, status_of, error_line, fault_line};
-ghost use Rattle.bus_tool.specs.declared.outcome.Outcome.TheVariants.{TableText};
+ghost use Rattle.bus_table.specs.declared.fit.FitError.TheVariants.{Stranger, Shape};
+ghost use Rattle.bus_tool.specs.Outcomes.{reason_name, pair_words, whole_words, fit_words, fault_words, status_of, error_line, fault_line};
 ghost use Rattle.bus_text.specs.Digits.{hex_digit, hexadecimal};
 ghost use Rattle.bus_tool.specs.Statuses.{number_of};
 ghost use Rattle.std.specs.Prelude.{List, [], ◌∷◌, ◌++◌, decimal};
@@ -9,6 +9,7 @@ ghost use Rattle.std.specs.Prelude.{List, [], ◌∷◌, ◌++◌, decimal};
 use crate::outcome::Outcome;
 use bus_outer::{Sink, TextBuffer, WriteFault};
 use bus_table::error::WholeReason;
+use bus_table::fit::FitError;
 use bus_text::digits::{hex_digit as digit, three_digits};
 use bus_text::reason::Reason;
 use bus_words::label::{Ext, Label};
@@ -28,7 +29,7 @@ fn put_reason<K: Sink>(text: &mut TextBuffer, sink: &mut K, reason: Reason)
 }
 
 /// Puts a word and a number.
-fn put_numbered<K: Sink>(text: &mut TextBuffer, sink: &mut K, word: &[u8], number: u8)
+fn put_numbered<K: Sink>(text: &mut TextBuffer, sink: &mut K, word: &[u8], number: u64)
     ensures { Adds K.held K.faults sink.old sink.new text.old text.new (word.now ++ decimal number) }
 {
     text.put(sink, word);
@@ -65,23 +66,85 @@ fn put_whole<K: Sink>(text: &mut TextBuffer, sink: &mut K, reason: WholeReason)
 {
     match reason {
         WholeReason::NoSender => text.put(sink, b"NoSender"),
-        WholeReason::NumberTwice(number) => put_numbered(text, sink, b"NumberTwice ", number),
-        WholeReason::GapTwice(number) => put_numbered(text, sink, b"GapTwice ", number),
-        WholeReason::GapNotShort(number) => put_numbered(text, sink, b"GapNotShort ", number),
+        WholeReason::NumberTwice(number) => put_numbered(
+            text,
+            sink,
+            b"NumberTwice ",
+            u64::from(number),
+        ),
+        WholeReason::GapTwice(number) => put_numbered(text, sink, b"GapTwice ", u64::from(number)),
+        WholeReason::GapNotShort(number) => put_numbered(
+            text,
+            sink,
+            b"GapNotShort ",
+            u64::from(number),
+        ),
         WholeReason::PairTwice(label, ext) => put_pair(text, sink, label, ext),
-        WholeReason::OffsetRange(number) => put_numbered(text, sink, b"OffsetRange ", number),
-        WholeReason::Varies(number) => put_numbered(text, sink, b"Varies ", number),
+        WholeReason::OffsetRange(number) => put_numbered(
+            text,
+            sink,
+            b"OffsetRange ",
+            u64::from(number),
+        ),
+        WholeReason::Varies(number) => put_numbered(text, sink, b"Varies ", u64::from(number)),
     }
 }
 
-/// Puts the place and the reason of a table text's refusal.
-fn put_table_text<K: Sink>(text: &mut TextBuffer, sink: &mut K, line: u64, reason: Reason)
-    ensures { Adds K.held K.faults sink.old sink.new text.old text.new (fault_words (TableText line reason)) }
+/// Puts the place and the reason of a text's refusal, behind the word of the text.
+fn put_place<K: Sink>(text: &mut TextBuffer, sink: &mut K, word: &[u8], line: u64, reason: Reason)
+    ensures { Adds K.held K.faults sink.old sink.new text.old text.new (word.now ++ decimal line ++ 32 ∷ [] ++ reason_name reason) }
 {
-    text.put(sink, b"table line ");
-    text.put_number(sink, line);
+    put_numbered(text, sink, word, line);
     text.put_byte(sink, b' ');
     put_reason(text, sink, reason);
+}
+
+/// Puts the refusal of a line of a table text.
+fn put_table_text<K: Sink>(text: &mut TextBuffer, sink: &mut K, line: u64, reason: Reason)
+    ensures { Adds K.held K.faults sink.old sink.new text.old text.new (fault_words (Outcome.TableText line reason)) }
+{
+    put_place(text, sink, b"table line ", line, reason)
+}
+
+/// Puts the refusal of a line of a messages text.
+fn put_messages_text<K: Sink>(text: &mut TextBuffer, sink: &mut K, line: u64, reason: Reason)
+    ensures { Adds K.held K.faults sink.old sink.new text.old text.new (fault_words (Outcome.MessagesText line reason)) }
+{
+    put_place(text, sink, b"messages line ", line, reason)
+}
+
+/// Puts an item whose terminal is no sender.
+fn put_stranger<K: Sink>(text: &mut TextBuffer, sink: &mut K, item: u64)
+    ensures { Adds K.held K.faults sink.old sink.new text.old text.new (fit_words (Stranger item)) }
+{
+    text.put_number(sink, item);
+    text.put(sink, b" Stranger");
+}
+
+/// Puts an item that isn't of the shape that its sender's lines ask for.
+fn put_shape<K: Sink>(text: &mut TextBuffer, sink: &mut K, item: u64)
+    ensures { Adds K.held K.faults sink.old sink.new text.old text.new (fit_words (Shape item)) }
+{
+    text.put_number(sink, item);
+    text.put(sink, b" Shape");
+}
+
+/// Puts the number of an item that doesn't fit, and why.
+fn put_item<K: Sink>(text: &mut TextBuffer, sink: &mut K, error: FitError)
+    ensures { Adds K.held K.faults sink.old sink.new text.old text.new (fit_words error) }
+{
+    match error {
+        FitError::Stranger(item) => put_stranger(text, sink, item),
+        FitError::Shape(item) => put_shape(text, sink, item),
+    }
+}
+
+/// Puts the refusal of an item.
+fn put_unfit<K: Sink>(text: &mut TextBuffer, sink: &mut K, error: FitError)
+    ensures { Adds K.held K.faults sink.old sink.new text.old text.new (fault_words (Outcome.Unfit error)) }
+{
+    text.put(sink, b"messages item ");
+    put_item(text, sink, error);
 }
 
 /// Puts why a table is refused as a whole.
@@ -101,10 +164,12 @@ fn put_words<K: Sink>(text: &mut TextBuffer, sink: &mut K, outcome: &Outcome)
         Outcome::Usage => text.put(sink, b"usage"),
         Outcome::TableText { line, reason } => put_table_text(text, sink, line, reason),
         Outcome::TableWhole(reason) => put_table_whole(text, sink, reason),
-        Outcome::ReadFault { source } => put_numbered(text, sink, b"read ", source),
+        Outcome::MessagesText { line, reason } => put_messages_text(text, sink, line, reason),
+        Outcome::Unfit(error) => put_unfit(text, sink, error),
+        Outcome::ReadFault { source } => put_numbered(text, sink, b"read ", u64::from(source)),
         Outcome::WriteFault => text.put(sink, b"write"),
         Outcome::NoMemory => text.put(sink, b"memory"),
-        Outcome::TooLarge { source } => put_numbered(text, sink, b"large ", source),
+        Outcome::TooLarge { source } => put_numbered(text, sink, b"large ", u64::from(source)),
     }
 }
 

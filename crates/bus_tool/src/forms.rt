@@ -1,20 +1,70 @@
-ghost use Rattle.std.specs.Prelude.{◌≡◌, map, string_bytes};
-ghost use Rattle.bus_tool.specs.Forms.{form_of as form_named, words_of};
+ghost use Rattle.std.specs.Prelude.{◌≡◌, ◌≤◌, IfSome, Some, None, if◌then◌else◌};
+ghost use Rattle.bus_text.specs.Numbers.{decimal_value};
+ghost use Rattle.bus_tool.specs.Forms as forms;
+ghost use Rattle.bus_tool.specs.Forms.{words_of, is_horizon, horizon_limit, IsWithinLimits};
+
+use bus_text::numbers::plain_decimal;
+
+/// The greatest horizon, in bit times from the settled start.
+const HORIZON_LIMIT: u64 = 20_000_000;
 
 /// What the words of a command line ask for.
 #[derive(Clone, Copy, Debug, PartialEq, Eq)]
 pub enum Form {
     /// `check T`: the verdict of the table in the file `T`.
     Check,
+    /// `observe T M N`: what the senders of the table in `T` do with the messages in `M`, in the bit times before N.
+    Observe {
+        /// N: at most 20,000,000.
+        horizon: u64,
+    },
 }
 
-/// The form of these words; None where they are no form.
-pub fn form_of(words: &[String]) -> Option<Form>
-    ensures { result ≡ form_named (words_of words.now) }
+/// The horizon that a word writes; None where the word is no plain decimal, or the number is past its limit.
+fn horizon_of(word: &[u8]) -> Option<u64>
+    ensures value { result ≡ (if is_horizon word.now then Some (decimal_value word.now) else None) }
+    ensures limit { IfSome result (λ horizon. horizon ≤ horizon_limit) }
 {
-    if words.len() == 2 && words[0].as_str() == "check" {
+    let horizon = plain_decimal(word)?;
+    if horizon <= HORIZON_LIMIT {
+        Some(horizon)
+    } else {
+        None
+    }
+}
+
+/// The form of two words of which this is the first.
+fn two_words(command: &str) -> Option<Form>
+    ensures form { result ≡ forms.two_words command.now }
+    ensures limits { IfSome result IsWithinLimits }
+{
+    if command == "check" {
         Some(Form::Check)
     } else {
         None
+    }
+}
+
+/// The form of four words of which these are the first and the last.
+fn four_words(command: &str, horizon: &[u8]) -> Option<Form>
+    ensures form { result ≡ forms.four_words command.now horizon.now }
+    ensures limits { IfSome result IsWithinLimits }
+{
+    if command != "observe" {
+        return None;
+    }
+    let horizon = horizon_of(horizon)?;
+    Some(Form::Observe { horizon })
+}
+
+/// The form of these words; None where they are no form, or a number among them is past its limit.
+pub fn form_of(words: &[String]) -> Option<Form>
+    ensures form { result ≡ forms.form_of (words_of words.now) }
+    ensures limits { IfSome result IsWithinLimits }
+{
+    match words.len() {
+        2 => two_words(words[0].as_str()),
+        4 => four_words(words[0].as_str(), words[3].as_bytes()),
+        _ => None,
     }
 }

@@ -5,9 +5,15 @@
 #![tactic(auto)]
 
 pub mod act;
+mod answer;
 mod check;
 pub mod fault_line;
 pub mod forms;
+mod holds;
+mod inputs;
+mod observe;
+#[cfg(test)]
+mod observe_tests;
 pub mod outcome;
 pub mod status;
 #[cfg(test)]

@@ -2,8 +2,11 @@ ghost use Rattle.std.specs.Prelude.{◌≡◌};
 ghost use Rattle.bus_tool.specs.Outcomes.{is_written, status_of};
 
 use crate::status::Status;
-use bus_table::error::WholeReason;
+use bus_strings::fault::MessagesError;
+use bus_table::error::{TableError, WholeReason};
+use bus_table::fit::FitError;
 use bus_text::reason::Reason;
+use std::alloc::AllocError;
 
 /// What a command came to.
 #[derive(Clone, Copy, Debug, PartialEq, Eq)]
@@ -18,6 +21,10 @@ pub enum Outcome {
     TableText { line: u64, reason: Reason },
     /// The first text is a table text of no valid table.
     TableWhole(WholeReason),
+    /// The second text is no messages text: the offending line, counted from 1, and why.
+    MessagesText { line: u64, reason: Reason },
+    /// An item of the second text, the first being 1, doesn't fit its sender.
+    Unfit(FitError),
     /// A source, the first being 1, couldn't be read.
     ReadFault { source: u8 },
     /// The answer couldn't be written.
@@ -45,10 +52,58 @@ impl Outcome {
             Outcome::Answered => Status::Refused,
             Outcome::Usage => Status::Usage,
             Outcome::TableText { .. } | Outcome::TableWhole(_) => Status::TableRefused,
+            Outcome::MessagesText { .. } | Outcome::Unfit(_) => Status::InputRefused,
             Outcome::ReadFault { .. } => Status::ReadFault,
             Outcome::WriteFault => Status::WriteFault,
             Outcome::NoMemory => Status::NoMemory,
             Outcome::TooLarge { .. } => Status::TooLarge,
         }
+    }
+}
+
+impl From<TableError> for Outcome {
+    ghost use Rattle.bus_tool.specs.Due.{table_refusal};
+
+    ghost from_gives = { λ error outcome. outcome ≡ table_refusal error };
+
+    fn from(error: TableError) -> Outcome {
+        match error {
+            TableError::Text { line, reason } => Outcome::TableText { line, reason },
+            TableError::Whole(reason) => Outcome::TableWhole(reason),
+            TableError::Memory => Outcome::NoMemory,
+        }
+    }
+}
+
+impl From<MessagesError> for Outcome {
+    ghost use Rattle.bus_tool.specs.Due.{messages_refusal};
+
+    ghost from_gives = { λ error outcome. outcome ≡ messages_refusal error };
+
+    fn from(error: MessagesError) -> Outcome {
+        match error {
+            MessagesError::Text { line, reason } => Outcome::MessagesText { line, reason },
+            MessagesError::Memory => Outcome::NoMemory,
+        }
+    }
+}
+
+impl From<FitError> for Outcome {
+    ghost use Rattle.bus_tool.specs.declared.outcome.Outcome.TheVariants.{Unfit};
+
+    ghost from_gives = { λ error outcome. outcome ≡ Unfit error };
+
+    fn from(error: FitError) -> Outcome {
+        Outcome::Unfit(error)
+    }
+}
+
+impl From<AllocError> for Outcome {
+    ghost use Rattle.bus_tool.specs.declared.outcome.Outcome.TheVariants.{NoMemory};
+
+    ghost from_gives = { λ _ outcome. outcome ≡ NoMemory };
+
+    fn from(_error: AllocError) -> Outcome {
+        Outcome::NoMemory
     }
 }

@@ -4,7 +4,8 @@ use crate::tool::tool;
 use bus_outer::{MemorySink, MemorySource};
 use std::test::Fail;
 
-const TWO_SENDERS: &str =
+/// Two senders whose shortest cycle is longer than the transmit interval.
+pub const TWO_SENDERS: &str =
     "TABLE 1\nMODE aperiodic\nTI 1000\nSG 300\nSENDER 1 TG 20\nSEND 0A1 1 2 4\nSENDER 2 TG 30\nSEND 0B2 1 30 40\n";
 
 const TWO_PERIODIC_SENDERS: &str =
@@ -15,10 +16,10 @@ const WITH_RECEIVERS: &str =
 
 /// How a call ended, and what stands on `out` and on `err`.
 #[derive(Drop)]
-struct Ran {
-    status: Status,
-    out: MemorySink,
-    err: MemorySink,
+pub struct Ran {
+    pub status: Status,
+    pub out: MemorySink,
+    pub err: MemorySink,
 }
 
 fn words_of(rt: &HostRuntime, words: &[&str]) -> Result<Vec<String>, Fail> {
@@ -29,18 +30,24 @@ fn words_of(rt: &HostRuntime, words: &[&str]) -> Result<Vec<String>, Fail> {
     Ok(all)
 }
 
-fn sink(rt: &HostRuntime) -> Result<MemorySink, Fail> {
-    Ok(MemorySink::new(rt.alloc(), 200, 200, Vec::new(rt.alloc()))?)
+/// A sink with ample room that never fails.
+pub fn sink(rt: &HostRuntime) -> Result<MemorySink, Fail> {
+    Ok(MemorySink::new(rt.alloc(), 2000, 200, Vec::new(rt.alloc()))?)
 }
 
-fn run_over(
+/// A source of this text that never fails.
+pub fn source(rt: &HostRuntime, text: &[u8]) -> Result<MemorySource, Fail> {
+    Ok(MemorySource::new(text.to_vec(rt.alloc())?, 4096, Vec::new(rt.alloc())))
+}
+
+pub fn run_over(
     rt: &HostRuntime,
     words: &[&str],
     mut first: MemorySource,
+    mut second: MemorySource,
     mut out: MemorySink,
 ) -> Result<Ran, Fail> {
     let words = words_of(rt, words)?;
-    let mut second = MemorySource::new(Vec::new(rt.alloc()), 16, Vec::new(rt.alloc()));
     let mut err = sink(rt)?;
     let status = tool(
         rt.alloc(),
@@ -54,8 +61,7 @@ fn run_over(
 }
 
 fn run(rt: &HostRuntime, words: &[&str], text: &[u8]) -> Result<Ran, Fail> {
-    let first = MemorySource::new(text.to_vec(rt.alloc())?, 4096, Vec::new(rt.alloc()));
-    run_over(rt, words, first, sink(rt)?)
+    run_over(rt, words, source(rt, text)?, source(rt, b"")?, sink(rt)?)
 }
 
 /// Whether `check` of a table text ends so.
@@ -164,7 +170,7 @@ fn words_that_are_no_form(rt: HostRuntime) -> Result<(), Fail> {
 fn a_failed_read(rt: HostRuntime) -> Result<(), Fail> {
     let text = TWO_SENDERS.as_bytes().to_vec(rt.alloc())?;
     let first = MemorySource::new(text, 16, [2u64].to_vec(rt.alloc())?);
-    let ran = run_over(&rt, &["check", "T"], first, sink(&rt)?)?;
+    let ran = run_over(&rt, &["check", "T"], first, source(&rt, b"")?, sink(&rt)?)?;
     assert_eq!(rt; ran.status, Status::ReadFault);
     assert_eq!(rt; ran.out.bytes(), b"".as_slice());
     assert_eq!(rt; ran.err.bytes(), b"ERROR 5 read 1\n".as_slice());
@@ -173,10 +179,9 @@ fn a_failed_read(rt: HostRuntime) -> Result<(), Fail> {
 
 #[test]
 fn a_failed_write(rt: HostRuntime) -> Result<(), Fail> {
-    let text = TWO_SENDERS.as_bytes().to_vec(rt.alloc())?;
-    let first = MemorySource::new(text, 16, Vec::new(rt.alloc()));
+    let first = source(&rt, TWO_SENDERS.as_bytes())?;
     let out = MemorySink::new(rt.alloc(), 200, 10, [1u64].to_vec(rt.alloc())?)?;
-    let ran = run_over(&rt, &["check", "T"], first, out)?;
+    let ran = run_over(&rt, &["check", "T"], first, source(&rt, b"")?, out)?;
     assert_eq!(rt; ran.status, Status::WriteFault);
     assert_eq!(rt; ran.out.bytes(), b"ACCEPT ape".as_slice());
     assert_eq!(rt; ran.err.bytes(), b"ERROR 6 write\n".as_slice());

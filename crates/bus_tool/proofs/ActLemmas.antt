@@ -1,0 +1,19 @@
+-- A call of its form.
+use Rattle.std.specs.Prelude.{◌≡◌, ◌≢◌, ℕ, List, Option, Some, None, IfSome, IfNone, IsNone}
+use Rattle.std.proofs.Common.{refl, sym, ap, ◌∙◌, subst}
+use Rattle.bus_tool.specs.declared.forms.Form.{Form}
+use Rattle.bus_tool.specs.declared.outcome.Outcome.{Outcome}
+use Rattle.bus_tool.specs.declared.outcome.Outcome.TheVariants.{Usage}
+use Rattle.bus_tool.specs.Forms.{form_of}
+use Rattle.bus_tool.specs.Seen.{Seen, Sources}
+use Rattle.bus_tool.specs.Acts.{DoesForm, IsUntouched, Acts}
+
+some_is : (form : Form) → IsNone (Some form) → ⊥
+some_is form h = cc
+
+pub acts_form : (words : List (List ℕ)) (before after : Sources) (out out' : Seen) (outcome : Outcome) (form : Form) → Some form ≡ form_of words → DoesForm form before after out out' outcome → Acts words before after out out' outcome
+acts_form words before after out out' outcome form is does = record {
+  usage = (λ e. absurd (does.form e), λ none. absurd (some_is form (subst IsNone (sym is) none)));
+  nothing = subst (λ f. IfNone f (IsUntouched before after out out')) is tt;
+  does = subst (λ f. IfSome f (λ form. DoesForm form before after out out' outcome)) is does;
+}

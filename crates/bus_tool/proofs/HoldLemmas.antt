@@ -1,0 +1,102 @@
+-- The holds of hands.
+use Rattle.std.specs.Prelude.{◌≡◌, ℕ, zero, suc, ◌+◌, ◌-◌, ◌≤◌, ◌<◌, true, false, ◌==◌, List, [], ◌∷◌, ◌++◌, length, map, filter, Option, Some, None, IfSome, find}
+use Rattle.std.specs.List.{AllByRecursion, filter_map, range_with_len, cons_option}
+use Rattle.std.specs.Option.{option_to_list, option_map}
+use Rattle.std.proofs.Common.{arith, refl, sym, ap, ◌∙◌, subst, cond}
+use Rattle.std.proofs.lemmas.Bool.Decides.{nat_tests}
+use Rattle.std.proofs.lemmas.List.{length-map}
+use Rattle.std.proofs.lemmas.List.Elements.{filter_map-append}
+use Rattle.bus_strings.specs.Items.{Item}
+use Rattle.bus_table.specs.Tables.{Sender, Hand}
+use Rattle.bus_table.specs.Hands.{message_of, items_of, hand_of}
+use Rattle.bus_trace.specs.declared.hold.Hold.{Hold}
+use Rattle.bus_trace.specs.Traces.{AscendAbove, IsHold}
+use Rattle.bus_tool.specs.Seen.{text_limit}
+use Rattle.bus_tool.specs.Texts.{hold_of, hold_at, terminal_numbers, holds_of}
+
+abbrev pub AreFew : List Hand → Type 0
+AreFew hands = AllByRecursion (λ hand. length hand.messages ≤ text_limit) hands
+
+-- what is found is one of them
+pub found_few : (p : Hand → _) (hands : List Hand) → AreFew hands → IfSome (find p hands) (λ hand. length hand.messages ≤ text_limit)
+found_few p [] few = tt
+found_few p (hand ∷ hands) few = elim (p hand) as (λ b. IfSome (cond b (Some hand) (find p hands)) (λ hand. length hand.messages ≤ text_limit)) [ true ↦ few.0 | false ↦ found_few p hands few.1 ]
+
+-- one number more
+range_more : (a n : ℕ) → range_with_len a (suc n) ≡ range_with_len a n ++ (a + n) ∷ []
+range_more a zero = (let e : a ≡ a + 0 = omega arith in ap (λ k. k ∷ []) e)
+range_more a (suc n) = (let e : (a + 1) + n ≡ a + suc n = omega arith in ap (λ l. a ∷ l) (range_more (a + 1) n ∙ ap (λ k. range_with_len (a + 1) n ++ k ∷ []) e))
+
+one_hold : (o : Option Hold) → cons_option o [] ≡ option_to_list o
+one_hold None = refl
+one_hold (Some hold) = refl
+
+pub holds_more : (hands : List Hand) (number : ℕ) (old new : List Hold) → 1 ≤ number → old ≡ filter_map (hold_at hands) (range_with_len 1 (number - 1)) → new ≡ old ++ option_to_list (hold_at hands number) → new ≡ filter_map (hold_at hands) (range_with_len 1 (number + 1 - 1))
+holds_more hands number old new some h e =
+    let next : number + 1 - 1 ≡ suc (number - 1) = omega arith in
+    let last : 1 + (number - 1) ≡ number = omega arith in
+    e ∙ ap (λ l. l ++ option_to_list (hold_at hands number)) h ∙ ap (λ l. filter_map (hold_at hands) (range_with_len 1 (number - 1)) ++ l) (sym (one_hold (hold_at hands number)))
+    ∙ ap (λ k. filter_map (hold_at hands) (range_with_len 1 (number - 1)) ++ filter_map (hold_at hands) (k ∷ [])) (sym last)
+    ∙ sym (filter_map-append (hold_at hands) (range_with_len 1 (number - 1)) ((1 + (number - 1)) ∷ []))
+    ∙ ap (filter_map (hold_at hands)) (sym (range_more 1 (number - 1))) ∙ ap (λ k. filter_map (hold_at hands) (range_with_len 1 k)) (sym next)
+
+pub holds_all : (hands : List Hand) (number : ℕ) (holds : List Hold) → number ≡ 129 → holds ≡ filter_map (hold_at hands) (range_with_len 1 (number - 1)) → holds ≡ holds_of hands
+unfolding terminal_numbers
+holds_all hands number holds last h = (let e : number - 1 ≡ 128 = omega arith in h ∙ ap (λ k. filter_map (hold_at hands) (range_with_len 1 k)) e)
+
+-- a hold is of its number
+record Numbered (n : ℕ) (hold : Hold) : Type 0 where
+  terminal : hold.terminal ≡ n
+  count : hold.count ≤ text_limit
+
+hold_numbered : (hands : List Hand) (n : ℕ) → AreFew hands → IfSome (hold_at hands n) (Numbered n)
+hold_numbered [] n few = tt
+hold_numbered (hand ∷ hands) n few =
+    elim (hand.terminal == n) as (λ b. (hand.terminal == n) ≡ b → IfSome (option_map hold_of (cond b (Some hand) (find (λ h. h.terminal == n) hands))) (Numbered n)) [
+      | true ↦ λ e. record { terminal = grind (arith, nat_tests); count = few.0 }
+      | false ↦ λ e. hold_numbered hands n few.1
+    ] refl
+
+weaker : (n k : ℕ) (holds : List Hold) → k ≤ n → AscendAbove n holds → AscendAbove k holds
+weaker n k [] h a = tt
+weaker n k (hold ∷ holds) h a = (omega (arith, a.0), a.1)
+
+-- from number k + 1 on they ascend
+ascend_from : (hands : List Hand) (n k : ℕ) → AreFew hands → AscendAbove k (filter_map (hold_at hands) (range_with_len (k + 1) n))
+ascend_from hands zero k few = tt
+ascend_from hands (suc n) k few =
+    let rest = ascend_from hands n (k + 1) few in
+    elim (hold_at hands (k + 1)) as (λ o. IfSome o (Numbered (k + 1)) → AscendAbove k (cons_option o (filter_map (hold_at hands) (range_with_len (k + 1 + 1) n)))) [
+      | None ↦ λ h. weaker (k + 1) k _ (omega arith) rest
+      | Some hold ↦ λ h. (omega (arith, h.terminal), subst (λ t. AscendAbove t (filter_map (hold_at hands) (range_with_len (k + 1 + 1) n))) (sym h.terminal) rest)
+    ] (hold_numbered hands (k + 1) few)
+
+ranged_from : (hands : List Hand) (n k : ℕ) → AreFew hands → k + n ≤ 128 → AllByRecursion IsHold (filter_map (hold_at hands) (range_with_len (k + 1) n))
+ranged_from hands zero k few low = tt
+ranged_from hands (suc n) k few low =
+    let rest = ranged_from hands n (k + 1) few (omega arith) in
+    elim (hold_at hands (k + 1)) as (λ o. IfSome o (Numbered (k + 1)) → AllByRecursion IsHold (cons_option o (filter_map (hold_at hands) (range_with_len (k + 1 + 1) n)))) [
+      | None ↦ λ h. rest
+      | Some hold ↦ λ h. (record { positive = omega (arith, h.terminal); low = omega (arith, h.terminal); count = omega (arith, h.count) }, rest)
+    ] (hold_numbered hands (k + 1) few)
+
+pub holds_ascend : (hands : List Hand) → AreFew hands → AscendAbove 0 (holds_of hands)
+unfolding terminal_numbers
+holds_ascend hands few = ascend_from hands 128 0 few
+
+pub holds_ranged : (hands : List Hand) → AreFew hands → AllByRecursion IsHold (holds_of hands)
+unfolding terminal_numbers
+holds_ranged hands few = ranged_from hands 128 0 few (omega arith)
+
+-- ---- the hands that items give
+length_kept : (p : Item → _) (items : List Item) → length (filter p items) ≤ length items
+length_kept p [] = omega arith
+length_kept p (item ∷ items) =
+    elim (p item) as (λ b. length (cond b (item ∷ filter p items) (filter p items)) ≤ length (item ∷ items)) [ true ↦ omega (arith, length_kept p items) | false ↦ omega (arith, length_kept p items) ]
+
+hand_few : (items : List Item) (sender : Sender) → length (hand_of items sender).messages ≤ length items
+hand_few items sender = omega (arith, length-map (items_of sender.number items) (λ (item : Item). message_of sender.sends item.strings), length_kept (λ item. item.terminal == sender.number) items)
+
+pub hands_few : (items : List Item) (senders : List Sender) → length items ≤ text_limit → AreFew (map (hand_of items) senders)
+hands_few items [] short = tt
+hands_few items (sender ∷ senders) short = (omega (arith, hand_few items sender), hands_few items senders short)

@@ -1,0 +1,7 @@
+use Rattle.std.proofs.Common.{take}
+use Rattle.std.specs.List.{AllByRecursion}
+use Rattle.bus_tool.specs.Texts.{IsRanged}
+use Rattle.bus_tool.proofs.observe.look_at.Given as goal
+
+abbrev pub invariant-loop-x : goal.invariant-loop-x
+invariant-loop-x l = AllByRecursion IsRanged (take l.x-index l.list)

@@ -1,0 +1,81 @@
+-- What the commands write on `out`, where their outcome is an answer.
+--   hold   how many messages a terminal held when the bus began to run: a line of a trace
+use Rattle.std.specs.Prelude.{◌≡◌, ℕ, ◌≤◌, ◌==◌, List, length, Option, Some, None, Result, Ok}
+use Rattle.std.specs.List.{find, filter_map, range_with_len}
+use Rattle.std.specs.Option.{option_map}
+use Rattle.bus_strings.specs.Messages.{Entry, IsMessage}
+use Rattle.bus_table.specs.Tables.{Table, Hand}
+use Rattle.bus_table.specs.Hands.{hands_of}
+use Rattle.bus_regime.specs.Verdicts.{verdict_of}
+use Rattle.bus_regime.specs.Lines.{verdict_line}
+use Rattle.bus_medium.specs.Lawful.{IsLawful}
+use Rattle.bus_medium.specs.Timings.{quiet_of, stations_of}
+use Rattle.bus_trace.specs.declared.hold.Hold.{Hold}
+use Rattle.bus_trace.specs.Traces.{Recording, trace_text}
+use Rattle.bus_tool.specs.declared.forms.Form.{Form}
+use Rattle.bus_tool.specs.declared.forms.Form.TheVariants.{Check, Observe}
+use Rattle.bus_tool.specs.declared.outcome.Outcome.{Outcome}
+use Rattle.bus_tool.specs.Forms.{form_of}
+use Rattle.bus_tool.specs.Due.{Inputs, table_due, inputs_due}
+
+-- the number of a hand's terminal and how many messages it has
+abbrev pub hold_of : Hand → Hold
+hold_of hand = record { terminal = hand.terminal; count = length hand.messages }
+
+-- the hold of the terminal with this number
+abbrev pub hold_at : List Hand → ℕ → Option Hold
+hold_at hands number = option_map hold_of (find (λ hand. hand.terminal == number) hands)
+
+-- the numbers that a terminal may have
+unfoldable pub terminal_numbers : List ℕ
+terminal_numbers = range_with_len 1 128
+
+-- the holds of the hands, by rising number
+abbrev pub holds_of : List Hand → List Hold
+holds_of hands = filter_map (hold_at hands) terminal_numbers
+
+-- the recording of the senders of a table up to a horizon: what each of them held, and the lawful list
+pub record IsObserved (table : Table) (hands : List Hand) (until : ℕ) (recording : Recording) : Type 0 where
+  pub horizon : recording.horizon ≡ until
+  pub holds : recording.holds ≡ holds_of hands
+  pub lawful : IsLawful (quiet_of table) (stations_of table hands) until recording.list
+
+-- the hands of a table's senders
+abbrev pub hands_in : Inputs → List Hand
+hands_in inputs = hands_of inputs.table inputs.items
+
+abbrev pub IsRecordingOf : ℕ → Recording → Inputs → Type 0
+IsRecordingOf horizon recording inputs = IsObserved inputs.table (hands_in inputs) horizon recording
+
+-- the trace text of what is seen of a bus up to a horizon
+pub record IsObserveText (horizon : ℕ) (inputs : Inputs) (text : List ℕ) : Type 0 where
+  pub recording : Recording
+  pub observed : IsRecordingOf horizon recording inputs
+  pub text_is : text ≡ trace_text recording
+
+-- a transmission as its type has it: of a terminal 1 to 128, with a message in its ranges
+pub record IsRanged (x : Entry) : Type 0 where
+  pub positive : 1 ≤ x.terminal
+  pub low : x.terminal ≤ 128
+  pub message : IsMessage x.message
+
+-- the verdict line of a table
+abbrev pub IsCheckText : Table → List ℕ → Type 0
+IsCheckText table text = text ≡ verdict_line (verdict_of table)
+
+-- a text of the value that is due, where none of it is refused
+abbrev pub IsTextOf : {Y : Type 0} → (Y → List ℕ → Type 0) → Result Y Outcome → List ℕ → Type 0
+IsTextOf {Y} IsText due text = (y : Y) × (due ≡ Ok y) × IsText y text
+
+-- what a form writes of both texts
+abbrev pub IsFormText : Form → List ℕ → List ℕ → List ℕ → Type 0
+IsFormText Check first second text = IsTextOf IsCheckText (table_due first) text
+IsFormText (Observe horizon) first second text = IsTextOf (IsObserveText horizon) (inputs_due first second) text
+
+abbrev pub IsTextFor : Option Form → List ℕ → List ℕ → List ℕ → Type 0
+IsTextFor None first second text = ⊥
+IsTextFor (Some form) first second text = IsFormText form first second text
+
+-- what a command writes
+abbrev pub IsCommandText : List (List ℕ) → List ℕ → List ℕ → List ℕ → Type 0
+IsCommandText words first second text = IsTextFor (form_of words) first second text

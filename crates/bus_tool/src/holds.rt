@@ -1,0 +1,60 @@
+ghost use Rattle.std.specs.Prelude.{◌≡◌, ◌==◌, ◌≤◌, ◌++◌, find, length, IfSome, IfOk, OnOk};
+ghost use Rattle.std.specs.List.{AllByRecursion};
+ghost use Rattle.std.specs.Option.{option_copied, option_to_list};
+ghost use Rattle.bus_tool.specs.Seen.{text_limit};
+ghost use Rattle.bus_tool.specs.Texts as texts;
+
+use bus_table::hand::Hand;
+use bus_trace::hold::Hold;
+use std::alloc::{AllocError, Global};
+
+/// The hand of the terminal with this number.
+fn hand_at(hands: &[Hand], number: u8) -> Option<&Hand>
+    requires { AllByRecursion (λ hand. length hand.messages ≤ text_limit) hands.now }
+    ensures hand { option_copied result ≡ find (λ hand. hand.terminal == number) hands.now }
+    ensures few { IfSome result (λ hand. length hand.now.messages ≤ text_limit) }
+{
+    hands.iter().find(|hand| hand.terminal == number)
+}
+
+/// How many messages a hand has, and whose it is.
+fn hold_of(hand: &Hand) -> Hold
+    requires { length hand.now.messages ≤ text_limit }
+    ensures { result ≡ texts.hold_of hand.now }
+{
+    Hold {
+        terminal: hand.terminal,
+        count: hand.messages.len() as u32,
+    }
+}
+
+/// How many messages the terminal with this number holds, where it has a hand.
+fn hold_at(hands: &[Hand], number: u8) -> Option<Hold>
+    requires { AllByRecursion (λ hand. length hand.messages ≤ text_limit) hands.now }
+    ensures { result ≡ texts.hold_at hands.now number }
+{
+    let hand = hand_at(hands, number)?;
+    Some(hold_of(hand))
+}
+
+/// Adds a hold, where there is one.
+fn note(holds: &mut Vec<Hold>, hold: Option<Hold>) -> Result<(), AllocError>
+    ensures { OnOk result (holds.new.items ≡ holds.old.items ++ option_to_list hold) }
+{
+    if let Some(hold) = hold {
+        holds.push(hold)?;
+    }
+    Ok(())
+}
+
+/// How many messages each terminal holds, by rising number.
+pub fn holds(alloc: Global, hands: &[Hand]) -> Result<Vec<Hold>, AllocError>
+    requires { AllByRecursion (λ hand. length hand.messages ≤ text_limit) hands.now }
+    ensures { IfOk result (λ holds. holds.items ≡ texts.holds_of hands.now) }
+{
+    let mut holds = Vec::with_capacity(alloc, hands.len())?;
+    for number in 1..129u8 {
+        note(&mut holds, hold_at(hands, number))?;
+    }
+    Ok(holds)
+}
