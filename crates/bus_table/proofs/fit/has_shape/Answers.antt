@@ -6,7 +6,7 @@ use Rattle.bus_table.proofs.WholeLemmas.{at_map, count_map}
 use Rattle.bus_table.proofs.fit.has_shape.Goals as goal
 
 pub returns-then-sends-strings : goal.returns-then-sends-strings
-returns-then-sends-strings c = sym (shape_length c.args.sends.now (numbers c.args.strings.now) (λ e. absurd (c.if-sends-strings.true (omega (arith, e, count_map (λ v. v.items) c.args.strings.now)))))
+returns-then-sends-strings c = sym (shape_length c.args.sends.now (numbers c.args.strings.now) (λ e. absurd (omega (arith, e, count_map (λ v. v.items) c.args.strings.now))))
 
 pub returns-then-not-allows : goal.returns-then-not-allows
 returns-then-not-allows c =
