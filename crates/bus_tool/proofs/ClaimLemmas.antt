@@ -1,5 +1,5 @@
 -- A call that acts as it should keeps what is claimed of the commands.
-use Rattle.std.specs.Prelude.{◌≡◌, ℕ, ◌≤◌, nat_lt, true, false, IsTrue, List, [], ◌∷◌, length, Option, Some, IfSome, Result, Ok, Err, ◌⊎◌}
+use Rattle.std.specs.Prelude.{◌≡◌, ℕ, nat_lt, true, false, IsTrue, List, [], length, Option, Some, IfSome, Result, Ok, Err}
 use Rattle.std.specs.Io.KnownBytes.{append_known}
 use Rattle.std.proofs.Common.{arith, refl, sym, ap, ◌∙◌, subst, cond, inl, inr, append-nil}
 use Rattle.std.proofs.lemmas.Bool.Decides.{nat_tests}
@@ -11,10 +11,8 @@ use Rattle.bus_table.specs.Text.{IsTableText, is_built}
 use Rattle.bus_table.specs.Valid.{is_valid}
 use Rattle.bus_regime.specs.Verdicts.{verdict_of}
 use Rattle.bus_regime.specs.Lines.{verdict_line}
-use Rattle.bus_tool.specs.declared.status.Status.{Status}
-use Rattle.bus_tool.specs.declared.status.Status.TheVariants as status
 use Rattle.bus_tool.specs.declared.outcome.Outcome.{Outcome}
-use Rattle.bus_tool.specs.declared.outcome.Outcome.TheVariants.{Done, Answered, Usage, ReadFault, WriteFault, NoMemory, TooLarge}
+use Rattle.bus_tool.specs.declared.outcome.Outcome.TheVariants.{Done, Answered, ReadFault, WriteFault, NoMemory, TooLarge}
 use Rattle.bus_tool.specs.declared.forms.Form.{Form}
 use Rattle.bus_tool.specs.declared.forms.Form.TheVariants.{Check}
 use Rattle.bus_tool.specs.Forms.{form_of}

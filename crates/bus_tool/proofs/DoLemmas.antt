@@ -1,7 +1,6 @@
 -- A command of its steps and its writer.
-use Rattle.std.specs.Prelude.{◌≡◌, ◌≢◌, ℕ, ◌≤◌, nat_lt, true, false, List, [], Option, Some, None, IfSome, Result, Ok, Err, IfErr, IsErrAnd}
+use Rattle.std.specs.Prelude.{◌≡◌, ◌≢◌, ℕ, nat_lt, true, List, [], Option, Result, Ok, Err, IfErr}
 use Rattle.std.proofs.Common.{arith, refl, sym, ap, ◌∙◌, subst, cond}
-use Rattle.bus_outer.specs.Faults.{Rose}
 use Rattle.bus_outer.specs.Sinks.{Written, WritesText}
 use Rattle.bus_outer.specs.declared.sink.Sink.{Ghosts as SinkGhosts}
 use Rattle.bus_outer.specs.declared.sink.WriteFault.{WriteFault as Fault}
@@ -10,7 +9,7 @@ use Rattle.bus_tool.specs.declared.outcome.Outcome.{Outcome}
 use Rattle.bus_tool.specs.declared.outcome.Outcome.TheVariants.{Done, Answered, Usage, WriteFault}
 use Rattle.bus_tool.specs.Outcomes.{is_written}
 use Rattle.bus_tool.specs.Stages.{StandsFor, Gives}
-use Rattle.bus_tool.specs.Seen.{Seen, Sources, told, sink_seen, Untouched, Reads, reach_of, reach}
+use Rattle.bus_tool.specs.Seen.{Seen, Sources, told, sink_seen, Untouched, Reads, reach}
 use Rattle.bus_tool.specs.Steps.{IsEarly, HasReadCause, Prepares}
 use Rattle.bus_tool.specs.Due.{table_due, outcome_with}
 use Rattle.bus_tool.specs.Texts.{IsTextOf}

@@ -1,15 +1,22 @@
 -- The words of a form.
-use Rattle.std.specs.Prelude.{◌≡◌, ◌≢◌, ℕ, List, [], ◌∷◌, length, slice_index_or, None, String}
+use Rattle.std.specs.Prelude.{◌≡◌, ◌≢◌, List, [], ◌∷◌, length, slice_index_or, None, String}
 use Rattle.std.specs.declared.alloc.Global.{Global}
 use Rattle.std.specs.String.{string_bytes}
 use Rattle.std.proofs.Common.{arith, refl, sym, ap}
-use Rattle.bus_tool.specs.Forms.{words_of, two_words, four_words, form_of}
+use Rattle.bus_tool.specs.Forms.{words_of, two_words, three_words, four_words, form_of}
 
 pub form_of_two : (words : List (String Global)) (a : String Global) → length words ≡ 2 → a ≡ slice_index_or words 0 a → form_of (words_of words) ≡ two_words (string_bytes a)
 form_of_two [] a h i = absurd (omega arith)
 form_of_two (p ∷ []) a h i = absurd (omega arith)
 form_of_two (p ∷ q ∷ []) a h i = ap (λ word. two_words (string_bytes word)) (sym i)
 form_of_two (p ∷ q ∷ r ∷ rest) a h i = absurd (omega arith)
+
+pub form_of_three : (words : List (String Global)) (a : String Global) → length words ≡ 3 → a ≡ slice_index_or words 0 a → form_of (words_of words) ≡ three_words (string_bytes a)
+form_of_three [] a h i = absurd (omega arith)
+form_of_three (p ∷ []) a h i = absurd (omega arith)
+form_of_three (p ∷ q ∷ []) a h i = absurd (omega arith)
+form_of_three (p ∷ q ∷ r ∷ []) a h i = ap (λ word. three_words (string_bytes word)) (sym i)
+form_of_three (p ∷ q ∷ r ∷ s ∷ rest) a h i = absurd (omega arith)
 
 pub form_of_four : (words : List (String Global)) (a d : String Global) → length words ≡ 4 → a ≡ slice_index_or words 0 a → d ≡ slice_index_or words 3 d → form_of (words_of words) ≡ four_words (string_bytes a) (string_bytes d)
 form_of_four [] a d h i j = absurd (omega arith)
@@ -19,10 +26,10 @@ form_of_four (p ∷ q ∷ r ∷ []) a d h i j = absurd (omega arith)
 form_of_four (p ∷ q ∷ r ∷ s ∷ []) a d h i j = (let e : a ≡ p = i in let f : d ≡ s = j in cc)
 form_of_four (p ∷ q ∷ r ∷ s ∷ t ∷ rest) a d h i j = absurd (omega arith)
 
-pub form_of_others : (words : List (String Global)) → length words ≢ 2 → length words ≢ 4 → form_of (words_of words) ≡ None
-form_of_others [] h i = refl
-form_of_others (p ∷ []) h i = refl
-form_of_others (p ∷ q ∷ []) h i = absurd (h refl)
-form_of_others (p ∷ q ∷ r ∷ []) h i = refl
-form_of_others (p ∷ q ∷ r ∷ s ∷ []) h i = absurd (i refl)
-form_of_others (p ∷ q ∷ r ∷ s ∷ t ∷ rest) h i = refl
+pub form_of_others : (words : List (String Global)) → length words ≢ 2 → length words ≢ 3 → length words ≢ 4 → form_of (words_of words) ≡ None
+form_of_others [] h i j = refl
+form_of_others (p ∷ []) h i j = refl
+form_of_others (p ∷ q ∷ []) h i j = absurd (h refl)
+form_of_others (p ∷ q ∷ r ∷ []) h i j = absurd (i refl)
+form_of_others (p ∷ q ∷ r ∷ s ∷ []) h i j = absurd (j refl)
+form_of_others (p ∷ q ∷ r ∷ s ∷ t ∷ rest) h i j = refl

@@ -1,5 +1,5 @@
 -- The holds of hands.
-use Rattle.std.specs.Prelude.{◌≡◌, ℕ, zero, suc, ◌+◌, ◌-◌, ◌≤◌, ◌<◌, true, false, ◌==◌, List, [], ◌∷◌, ◌++◌, length, map, filter, Option, Some, None, IfSome, find}
+use Rattle.std.specs.Prelude.{◌≡◌, ℕ, zero, suc, ◌+◌, ◌-◌, ◌≤◌, true, false, ◌==◌, List, [], ◌∷◌, ◌++◌, length, map, filter, Option, Some, None, IfSome, find}
 use Rattle.std.specs.List.{AllByRecursion, filter_map, range_with_len, cons_option}
 use Rattle.std.specs.Option.{option_to_list, option_map}
 use Rattle.std.proofs.Common.{arith, refl, sym, ap, ◌∙◌, subst, cond}

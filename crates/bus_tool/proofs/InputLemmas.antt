@@ -1,5 +1,5 @@
 -- What is made of the texts.
-use Rattle.std.specs.Prelude.{◌≡◌, ℕ, ◌≤◌, List, length, Vec, Result, Ok, Err, IfErr, IsErrAnd, IsTrue}
+use Rattle.std.specs.Prelude.{◌≡◌, ℕ, List, Vec, Result, Ok, Err, IsErrAnd}
 use Rattle.std.specs.declared.alloc.Global.{Global}
 use Rattle.std.proofs.Common.{arith, refl, sym, ap, ◌∙◌, subst}
 use Rattle.std.proofs.lemmas.Result.{err_from_is_err_and}
@@ -10,11 +10,11 @@ use Rattle.bus_table.specs.Gives.{Fails}
 use Rattle.bus_table.specs.Tables.{Table, Hand}
 use Rattle.bus_table.specs.Reading.{answer_of}
 use Rattle.bus_tool.specs.declared.outcome.Outcome.{Outcome}
-use Rattle.bus_tool.specs.Stages.{stage_of, stage_in, Gives}
+use Rattle.bus_tool.specs.Stages.{Gives}
 use Rattle.bus_tool.specs.declared.inputs.Inputs.{Inputs as Taken}
-use Rattle.bus_tool.specs.Seen.{Seen, Sources, both}
+use Rattle.bus_tool.specs.Seen.{Seen, both}
 use Rattle.bus_tool.specs.Steps.{Takes, Same, IsText, Prepares}
-use Rattle.bus_tool.specs.Due.{text_due, table_refusal, table_or_refusal, table_due, items_due, Inputs, with_items, inputs_due}
+use Rattle.bus_tool.specs.Due.{text_due, table_refusal, table_or_refusal, table_due, items_due, with_items, inputs_due}
 use Rattle.bus_tool.specs.Taken.{AreHandsOf, AreInputs}
 use Rattle.bus_tool.proofs.StageLemmas.{table_later, inputs_later}
 use Rattle.bus_tool.proofs.TakeLemmas.{RefusesAt, takes_then, takes_stop}

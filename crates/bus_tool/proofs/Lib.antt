@@ -7,7 +7,9 @@ pub mod FormLemmas
 pub mod HoldLemmas
 pub mod TraceLemmas
 pub mod InputLemmas
+pub mod LateLemmas
 pub mod CheckLemmas
 pub mod ObserveLemmas
+pub mod RunLemmas
 pub mod ActLemmas
 pub mod ClaimLemmas

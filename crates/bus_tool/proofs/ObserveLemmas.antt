@@ -1,7 +1,7 @@
 -- `observe` of its steps.
-use Rattle.std.specs.Prelude.{◌≡◌, ℕ, true, List, Result, Ok, Err, Vec}
+use Rattle.std.specs.Prelude.{◌≡◌, ℕ, List, Result, Ok, Err, Vec}
 use Rattle.std.specs.declared.alloc.Global.{Global}
-use Rattle.std.proofs.Common.{refl, sym, ap, ◌∙◌, subst}
+use Rattle.std.proofs.Common.{refl, sym, subst}
 use Rattle.bus_outer.specs.Sinks.{WritesText}
 use Rattle.bus_outer.specs.declared.sink.Sink.{Ghosts as SinkGhosts}
 use Rattle.bus_outer.specs.declared.sink.WriteFault.{WriteFault as Fault}
@@ -10,14 +10,14 @@ use Rattle.bus_trace.specs.Traces.{Recording, trace_text}
 use Rattle.bus_tool.specs.declared.forms.Form.TheVariants.{Observe}
 use Rattle.bus_tool.specs.declared.inputs.Inputs.{Inputs as Taken}
 use Rattle.bus_tool.specs.declared.outcome.Outcome.{Outcome}
-use Rattle.bus_tool.specs.declared.outcome.Outcome.TheVariants.{Done, NoMemory}
+use Rattle.bus_tool.specs.declared.outcome.Outcome.TheVariants.{Done}
 use Rattle.bus_tool.specs.Seen.{Seen, Sources, sink_seen}
 use Rattle.bus_tool.specs.Steps.{Prepares}
-use Rattle.bus_tool.specs.Due.{Inputs, inputs_due}
+use Rattle.bus_tool.specs.Due.{Inputs, hands_in, inputs_due}
 use Rattle.bus_tool.specs.Taken.{AreInputs}
-use Rattle.bus_tool.specs.Texts.{IsObserved, hands_in, IsRecordingOf, IsObserveText}
+use Rattle.bus_tool.specs.Texts.{IsObserved, IsRecordingOf, IsObserveText}
 use Rattle.bus_tool.specs.Acts.{written, DoesForm}
-use Rattle.bus_tool.proofs.PrepareLemmas.{prepares_on, prepares_no_memory}
+use Rattle.bus_tool.proofs.PrepareLemmas.{prepares_on}
 use Rattle.bus_tool.proofs.DoLemmas.{Tells, answered, stopped}
 
 -- the recording of what was taken

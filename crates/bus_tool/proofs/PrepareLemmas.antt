@@ -1,12 +1,12 @@
 -- The steps before the first written byte.
-use Rattle.std.specs.Prelude.{◌≡◌, ℕ, ◌≤◌, List, Option, Some, None, IfSome, Result, Ok, Err, IfErr, IsErrAnd}
-use Rattle.std.proofs.Common.{arith, refl, sym, ap, ◌∙◌, subst}
+use Rattle.std.specs.Prelude.{◌≡◌, ℕ, ◌≤◌, List, Option, IfSome, Result, Ok, Err, IfErr}
+use Rattle.std.proofs.Common.{arith, refl, sym, subst}
 use Rattle.bus_text.specs.AllOf.{◌>>=◌}
 use Rattle.bus_table.specs.Tables.{Table}
 use Rattle.bus_tool.specs.declared.outcome.Outcome.{Outcome}
-use Rattle.bus_tool.specs.declared.outcome.Outcome.TheVariants.{Done, ReadFault, WriteFault, NoMemory}
-use Rattle.bus_tool.specs.Stages.{stage_of, StandsFor, stage_in, Gives}
-use Rattle.bus_tool.specs.Seen.{Seen, Sources, both, told, OfTexts, Whole, Reads, reach}
+use Rattle.bus_tool.specs.declared.outcome.Outcome.TheVariants.{ReadFault, WriteFault, NoMemory}
+use Rattle.bus_tool.specs.Stages.{StandsFor, stage_in, Gives}
+use Rattle.bus_tool.specs.Seen.{Seen, Sources, both, told}
 use Rattle.bus_tool.specs.Steps.{Takes, Same, IsEarly, Prepares}
 use Rattle.bus_tool.specs.Due.{table_due}
 use Rattle.bus_tool.proofs.StageLemmas.{gives_then, gives_stop}

@@ -1,6 +1,5 @@
 -- How far the sources were read, by where a command stopped.
-use Rattle.std.specs.Prelude.{◌≡◌, ℕ, ◌≤◌, ◌<◌, nat_lt, true, false, List, [], length, Option, Some, None, IfSome, Result, Ok, Err, IfErr}
-use Rattle.std.specs.Io.KnownBytes.{prepend_known}
+use Rattle.std.specs.Prelude.{◌≡◌, ℕ, ◌≤◌, nat_lt, true, false, List, [], Option, Some, None}
 use Rattle.std.proofs.Common.{arith, refl, sym, ap, ◌∙◌, subst, cond}
 use Rattle.std.proofs.lemmas.Bool.Decides.{nat_tests}
 use Rattle.bus_outer.specs.Faults.{Rose}
@@ -9,8 +8,8 @@ use Rattle.bus_tool.specs.declared.outcome.Outcome.{Outcome}
 use Rattle.bus_tool.specs.declared.outcome.Outcome.TheVariants.{Done, Answered, Usage, ReadFault, WriteFault, NoMemory, TooLarge}
 use Rattle.bus_tool.specs.Outcomes.{is_written}
 use Rattle.bus_tool.specs.Stages.{stage_of}
-use Rattle.bus_tool.specs.Seen.{Seen, Sources, both, numbered, text_limit, Reach, Untouched, Within, Past, Whole, Reads, stopped_at, reach_at, reach_of, reach}
-use Rattle.bus_tool.specs.Steps.{StopsAt, IsEarly, IsNamed, FaultRose, HasReadCause}
+use Rattle.bus_tool.specs.Seen.{Seen, both, numbered, text_limit, Reach, Untouched, Within, Whole, Reads, stopped_at, reach_at, reach_of, reach}
+use Rattle.bus_tool.specs.Steps.{StopsAt, IsEarly, FaultRose, HasReadCause}
 
 -- at its own stage
 here : (number stage : ℕ) (r : Reach) → stage ≡ number → reach_at number stage r ≡ r

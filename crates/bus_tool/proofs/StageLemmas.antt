@@ -1,7 +1,6 @@
 -- Steps one after another: what they give, and at which stage.
-use Rattle.std.specs.Prelude.{◌≡◌, ◌≢◌, ℕ, ◌≤◌, nat_lt, true, false, List, length, Result, Ok, Err, IfErr}
-use Rattle.std.proofs.Common.{arith, refl, sym, ap, ◌∙◌, subst, cond}
-use Rattle.std.proofs.lemmas.Bool.Decides.{nat_tests}
+use Rattle.std.specs.Prelude.{◌≡◌, ℕ, ◌≤◌, nat_lt, true, false, List, length, Result, Ok, Err}
+use Rattle.std.proofs.Common.{arith, refl, sym, ap, subst, cond}
 use Rattle.bus_text.specs.AllOf.{◌>>=◌}
 use Rattle.bus_text.specs.Refusals.{Refusal}
 use Rattle.bus_strings.specs.Items.{Item}
@@ -13,7 +12,7 @@ use Rattle.bus_table.specs.Tables.{Table}
 use Rattle.bus_table.specs.Fits.{items_fit}
 use Rattle.bus_table.specs.Reading.{answer_of}
 use Rattle.bus_tool.specs.declared.outcome.Outcome.{Outcome}
-use Rattle.bus_tool.specs.declared.outcome.Outcome.TheVariants.{Done, Answered, Usage, TableText, TableWhole, MessagesText, Unfit, ReadFault, WriteFault, NoMemory, TooLarge}
+use Rattle.bus_tool.specs.declared.outcome.Outcome.TheVariants.{Done, Answered, ReadFault, WriteFault, NoMemory, TooLarge}
 use Rattle.bus_tool.specs.Outcomes.{is_written}
 use Rattle.bus_tool.specs.Stages.{stage_of, StandsFor, stage_in, Gives}
 use Rattle.bus_tool.specs.Seen.{text_limit}
@@ -22,7 +21,7 @@ use Rattle.bus_tool.specs.Due.{text_due, table_or_refusal, table_due, items_or_r
 
 -- ---- the stages of what is due
 -- a text, and what comes behind it, at its stage or behind
-then_stage : {X Y : Type 0} (n : ℕ) (due : Result X Outcome) (f : X → Result Y Outcome) → n ≤ stage_in due → ((x : X) → n ≤ stage_in (f x)) → n ≤ stage_in (due >>= f)
+pub then_stage : {X Y : Type 0} (n : ℕ) (due : Result X Outcome) (f : X → Result Y Outcome) → n ≤ stage_in due → ((x : X) → n ≤ stage_in (f x)) → n ≤ stage_in (due >>= f)
 then_stage n (Ok x) f h later = later x
 then_stage n (Err o) f h later = h
 

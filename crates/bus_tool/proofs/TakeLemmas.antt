@@ -1,8 +1,6 @@
 -- Steps that read one source.
-use Rattle.std.specs.Prelude.{◌≡◌, ℕ, ◌+◌, ◌≤◌, ◌<◌, nat_lt, true, false, List, [], ◌++◌, length, Option, Some, None, IfSome, Result, Ok, Err, IfErr, Vec}
-use Rattle.std.specs.declared.alloc.Global.{Global}
-use Rattle.std.specs.Io.KnownBytes.{prepend_known}
-use Rattle.std.proofs.Common.{arith, refl, sym, ap, ◌∙◌, subst, cond, length-append}
+use Rattle.std.specs.Prelude.{◌≡◌, ℕ, ◌≤◌, ◌<◌, nat_lt, true, List, ◌++◌, length, Option, Some, None, IfSome, Result, Ok, Err, IfErr}
+use Rattle.std.proofs.Common.{arith, refl, ap, cond, length-append}
 use Rattle.std.proofs.lemmas.Bool.Decides.{nat_tests}
 use Rattle.bus_text.specs.AllOf.{◌>>=◌}
 use Rattle.bus_outer.specs.Faults.{Rose}
@@ -10,10 +8,10 @@ use Rattle.bus_outer.specs.Sources.{TakesSome, ReadsWhole}
 use Rattle.bus_outer.specs.declared.whole.ReadError.{ReadError}
 use Rattle.bus_outer.specs.declared.whole.ReadError.TheVariants.{Fault, TooLarge as Larger, Memory}
 use Rattle.bus_tool.specs.declared.outcome.Outcome.{Outcome}
-use Rattle.bus_tool.specs.declared.outcome.Outcome.TheVariants.{Done, Answered, Usage, ReadFault, WriteFault, NoMemory, TooLarge}
+use Rattle.bus_tool.specs.declared.outcome.Outcome.TheVariants.{ReadFault, NoMemory, TooLarge}
 use Rattle.bus_tool.specs.Stages.{stage_of, stage_in, Gives}
 use Rattle.bus_tool.specs.Seen.{Seen, text_limit}
-use Rattle.bus_tool.specs.Steps.{read_refusal, StopsAt, IsNamed, Takes, IsText}
+use Rattle.bus_tool.specs.Steps.{read_refusal, IsNamed, Takes, IsText}
 use Rattle.bus_tool.specs.Due.{text_due}
 use Rattle.bus_tool.proofs.StageLemmas.{text_stage, gives_then, gives_stop}
 

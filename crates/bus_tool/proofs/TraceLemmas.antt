@@ -1,7 +1,7 @@
 -- What is seen of a bus is a trace.
-use Rattle.std.specs.Prelude.{◌≡◌, ℕ, ◌≤◌, ◌<◌, List, [], ◌∷◌, length}
+use Rattle.std.specs.Prelude.{◌≡◌, ℕ, ◌≤◌, ◌<◌, List, [], ◌∷◌}
 use Rattle.std.specs.List.{AllByRecursion}
-use Rattle.std.proofs.Common.{arith, refl, sym, inl, inr, subst}
+use Rattle.std.proofs.Common.{refl, sym, inl, inr, subst}
 use Rattle.bus_strings.specs.Members.{In}
 use Rattle.bus_strings.specs.Messages.{Entry}
 use Rattle.bus_table.specs.Tables.{Table, Hand}
@@ -10,7 +10,7 @@ use Rattle.bus_medium.specs.Timings.{quiet_of, stations_of}
 use Rattle.bus_trace.specs.declared.hold.Hold.{Hold}
 use Rattle.bus_trace.specs.Traces.{AscendAbove, IsHold, IsBelow, IsTrace}
 use Rattle.bus_tool.specs.Forms.{horizon_limit}
-use Rattle.bus_tool.specs.Texts.{holds_of, IsRanged, IsObserved}
+use Rattle.bus_tool.specs.Texts.{holds_of, IsRanged}
 use Rattle.bus_tool.proofs.HoldLemmas.{AreFew, holds_ascend, holds_ranged}
 
 below : (horizon : ℕ) (list : List Entry) → ((x : Entry) → In x list → x.moment < horizon) → AllByRecursion IsRanged list → AllByRecursion (IsBelow horizon) list

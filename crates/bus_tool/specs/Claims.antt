@@ -1,29 +1,21 @@
 -- What is claimed of the commands, in the words of their texts: by the relation between a value and its texts, not by how they are read.
-use Rattle.std.specs.Prelude.{◌≡◌, ℕ, ◌≤◌, IsTrue, List, [], ◌∷◌, length, codes, Option, Some, Ok, ◌⊎◌}
+use Rattle.std.specs.Prelude.{◌≡◌, ℕ, ◌≤◌, IsTrue, List, [], ◌∷◌, length, codes, Some, Ok, ◌⊎◌}
 use Rattle.std.specs.Io.KnownBytes.{append_known}
-use Rattle.bus_text.specs.Numbers.{IsDecimal}
 use Rattle.bus_outer.specs.Faults.{Rose}
-use Rattle.bus_strings.specs.Messages.{Entry}
 use Rattle.bus_strings.specs.Items.{Item}
 use Rattle.bus_strings.specs.Grammar.{IsMessagesText}
-use Rattle.bus_table.specs.Tables.{Table, Hand}
+use Rattle.bus_table.specs.Tables.{Table}
 use Rattle.bus_table.specs.Fits.{items_fit}
-use Rattle.bus_table.specs.Hands.{hands_of}
 use Rattle.bus_table.specs.Text.{IsBuiltText}
 use Rattle.bus_table.specs.Valid.{is_valid}
 use Rattle.bus_regime.specs.Verdicts.{verdict_of}
 use Rattle.bus_regime.specs.Lines.{verdict_line}
-use Rattle.bus_medium.specs.Lawful.{IsLawful}
-use Rattle.bus_medium.specs.Timings.{quiet_of, stations_of}
-use Rattle.bus_trace.specs.Traces.{Recording, trace_text}
 use Rattle.bus_tool.specs.declared.status.Status.{Status}
-use Rattle.bus_tool.specs.declared.status.Status.TheVariants.{Done, NoMemory}
-use Rattle.bus_tool.specs.Forms.{horizon_limit}
+use Rattle.bus_tool.specs.declared.status.Status.TheVariants.{NoMemory}
 use Rattle.bus_tool.specs.Outcomes.{status_of}
 use Rattle.bus_tool.specs.Seen.{Seen, Sources, numbered, text_limit}
 use Rattle.bus_tool.specs.Steps.{IsNamed}
 use Rattle.bus_tool.specs.Due.{verdict_outcome}
-use Rattle.bus_tool.specs.Texts.{IsObserved}
 
 -- nothing outside fails: no count of faults of a named source, or of `out`, rises
 pub record IsUndisturbed (named : ℕ) (before after : Sources) (out out' : Seen) : Type 0 where

@@ -9,16 +9,23 @@ use Rattle.bus_strings.specs.declared.fault.MessagesError.TheVariants.{Text as N
 use Rattle.bus_table.specs.declared.error.TableError.{TableError}
 use Rattle.bus_table.specs.declared.error.TableError.TheVariants.{Text, Whole, Memory}
 use Rattle.bus_table.specs.declared.fit.FitError.{FitError}
-use Rattle.bus_table.specs.Tables.{Table}
+use Rattle.bus_table.specs.Tables.{Table, Hand}
 use Rattle.bus_table.specs.Fits.{items_fit}
+use Rattle.bus_table.specs.Hands.{hands_of}
 use Rattle.bus_table.specs.Reading.{answer_of}
 use Rattle.bus_regime.specs.declared.verdict.TableVerdict.{TableVerdict}
 use Rattle.bus_regime.specs.declared.verdict.TableVerdict.TheVariants.{Accept, ShortCycle, SmallGap, NoSync}
-use Rattle.bus_regime.specs.Verdicts.{verdict_of}
+use Rattle.bus_regime.specs.Verdicts.{verdict_of, is_accepted}
+use Rattle.bus_schedule.specs.declared.error.TheConstants.{LONGEST_END}
+use Rattle.bus_schedule.specs.declared.error.ScheduleError.{ScheduleError}
+use Rattle.bus_schedule.specs.declared.error.ScheduleError.TheVariants.{Memory as Small, TooLong as Long}
+use Rattle.bus_schedule.specs.declared.uneven.Uneven.{Uneven as UnevenHands}
+use Rattle.bus_schedule.specs.Closed.{closed_end}
+use Rattle.bus_schedule.specs.Uneven.{uneven_of}
 use Rattle.bus_tool.specs.declared.forms.Form.{Form}
-use Rattle.bus_tool.specs.declared.forms.Form.TheVariants.{Check, Observe}
+use Rattle.bus_tool.specs.declared.forms.Form.TheVariants.{Check, Observe, Run}
 use Rattle.bus_tool.specs.declared.outcome.Outcome.{Outcome}
-use Rattle.bus_tool.specs.declared.outcome.Outcome.TheVariants.{Done, Answered, Usage, TableText, TableWhole, MessagesText, Unfit, NoMemory, TooLarge}
+use Rattle.bus_tool.specs.declared.outcome.Outcome.TheVariants.{Done, Answered, Refused, Usage, TableText, TableWhole, MessagesText, Unfit, Uneven, NoMemory, TooLarge, TooLong}
 use Rattle.bus_tool.specs.Forms.{form_of}
 use Rattle.bus_tool.specs.Seen.{text_limit}
 
@@ -72,6 +79,47 @@ with_items table items = record { table = table; items = items }
 abbrev pub inputs_due : List ℕ → List ℕ → Result Inputs Outcome
 inputs_due first second = table_due first >>= λ table. items_due table second >>= λ items. Ok (with_items table items)
 
+-- ---- what `run` asks for behind both texts
+-- why hands aren't even
+abbrev pub uneven_refusal : UnevenHands → Outcome
+uneven_refusal u = Uneven u.one u.one_count u.other u.other_count
+
+-- why no schedule is given
+abbrev pub schedule_refusal : ScheduleError → Outcome
+schedule_refusal Small = NoMemory
+schedule_refusal (Long end) = TooLong end
+
+-- even hands
+abbrev pub even_due : Option UnevenHands → Result (Unit {0}) Outcome
+even_due None = Ok tt
+even_due (Some uneven) = Err (uneven_refusal uneven)
+
+-- an accepted table
+abbrev pub accepted_due : TableVerdict → Result (Unit {0}) Outcome
+accepted_due verdict = if is_accepted verdict then Ok tt else Err (Refused verdict)
+
+-- a closed end within its limit
+abbrev pub short_due : ℕ → Result (Unit {0}) Outcome
+short_due end = if nat_lt LONGEST_END end then Err (TooLong end) else Ok tt
+
+-- even hands and an accepted table, in this order
+abbrev pub may_run : Table → List Hand → Result (Unit {0}) Outcome
+may_run table hands = even_due (uneven_of table hands) >>= λ _. accepted_due (verdict_of table)
+
+-- and then a closed end within its limit
+abbrev pub can_run : Table → List Hand → Result (Unit {0}) Outcome
+can_run table hands = may_run table hands >>= λ _. short_due (closed_end table hands)
+
+-- the hands of a table's senders
+abbrev pub hands_in : Inputs → List Hand
+hands_in inputs = hands_of inputs.table inputs.items
+
+abbrev pub runs : Inputs → Result Inputs Outcome
+runs inputs = can_run inputs.table (hands_in inputs) >>= λ _. Ok inputs
+
+abbrev pub run_due : List ℕ → List ℕ → Result Inputs Outcome
+run_due first second = inputs_due first second >>= runs
+
 -- ---- the outcomes
 -- yes where the table is accepted, else no
 abbrev pub verdict_outcome : TableVerdict → Outcome
@@ -89,6 +137,7 @@ outcome_with answer (Err refusal) = refusal
 abbrev pub form_due : Form → List ℕ → List ℕ → Outcome
 form_due Check first second = outcome_with (λ table. verdict_outcome (verdict_of table)) (table_due first)
 form_due (Observe horizon) first second = outcome_with (λ inputs. Done) (inputs_due first second)
+form_due Run first second = outcome_with (λ inputs. Done) (run_due first second)
 
 -- the outcome where the words ask for a form, or for none
 abbrev pub outcome_for : Option Form → List ℕ → List ℕ → Outcome

@@ -6,7 +6,7 @@ use Rattle.std.specs.String.{string_bytes}
 use Rattle.std.specs.Str.{bytes_eq}
 use Rattle.bus_text.specs.Numbers.{is_plain_decimal, decimal_value}
 use Rattle.bus_tool.specs.declared.forms.Form.{Form}
-use Rattle.bus_tool.specs.declared.forms.Form.TheVariants.{Check, Observe}
+use Rattle.bus_tool.specs.declared.forms.Form.TheVariants.{Check, Observe, Run}
 
 -- the words of the program, as bytes
 abbrev pub words_of : List (String Global) → List (List ℕ)
@@ -24,6 +24,10 @@ is_horizon word = is_plain_decimal word && nat_le (decimal_value word) horizon_l
 abbrev pub two_words : List ℕ → Option Form
 two_words command = if bytes_eq command (codes "check") then Some Check else None
 
+-- `run T M`
+abbrev pub three_words : List ℕ → Option Form
+three_words command = if bytes_eq command (codes "run") then Some Run else None
+
 -- `observe T M N`
 abbrev pub four_words : List ℕ → List ℕ → Option Form
 four_words command horizon = if bytes_eq command (codes "observe") && is_horizon horizon then Some (Observe (decimal_value horizon)) else None
@@ -31,6 +35,7 @@ four_words command horizon = if bytes_eq command (codes "observe") && is_horizon
 -- the form of these words, whatever the words T and M are
 abbrev pub form_of : List (List ℕ) → Option Form
 form_of (command ∷ table ∷ []) = two_words command
+form_of (command ∷ table ∷ messages ∷ []) = three_words command
 form_of (command ∷ table ∷ messages ∷ horizon ∷ []) = four_words command horizon
 form_of words = None
 
@@ -38,8 +43,10 @@ form_of words = None
 abbrev pub sources_of : Form → ℕ
 sources_of Check = 1
 sources_of (Observe horizon) = 2
+sources_of Run = 2
 
 -- the numbers of a form are within their limits
 abbrev pub IsWithinLimits : Form → Type 0
 IsWithinLimits Check = Unit {0}
 IsWithinLimits (Observe horizon) = horizon ≤ horizon_limit
+IsWithinLimits Run = Unit {0}

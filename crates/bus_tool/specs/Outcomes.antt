@@ -1,5 +1,5 @@
 -- How the program ends with an outcome, and the line that says why.
-use Rattle.std.specs.Prelude.{ℕ, Bool, true, false, List, [], ◌∷◌, ◌++◌, codes, if◌then◌else◌}
+use Rattle.std.specs.Prelude.{ℕ, Bool, true, false, List, [], ◌∷◌, ◌++◌, codes, Option, Some, None, if◌then◌else◌}
 use Rattle.std.specs.Fmt.{decimal}
 use Rattle.bus_text.specs.Digits.{hex_digit, hexadecimal}
 use Rattle.bus_text.specs.declared.reason.Reason.{Reason}
@@ -8,25 +8,30 @@ use Rattle.bus_table.specs.declared.fit.FitError.{FitError}
 use Rattle.bus_table.specs.declared.fit.FitError.TheVariants.{Stranger, Shape}
 use Rattle.bus_table.specs.declared.error.WholeReason.{WholeReason}
 use Rattle.bus_table.specs.declared.error.WholeReason.TheVariants.{NoSender, NumberTwice, GapTwice, GapNotShort, PairTwice, OffsetRange, Varies}
+use Rattle.bus_regime.specs.declared.verdict.TableVerdict.{TableVerdict}
+use Rattle.bus_regime.specs.Lines.{verdict_line}
 use Rattle.bus_tool.specs.declared.status.Status.{Status}
 use Rattle.bus_tool.specs.declared.status.Status.TheVariants as status
 use Rattle.bus_tool.specs.declared.outcome.Outcome.{Outcome}
-use Rattle.bus_tool.specs.declared.outcome.Outcome.TheVariants.{Done, Answered, Usage, TableText, TableWhole, MessagesText, Unfit, ReadFault, WriteFault, NoMemory, TooLarge}
+use Rattle.bus_tool.specs.declared.outcome.Outcome.TheVariants.{Done, Answered, Refused, Usage, TableText, TableWhole, MessagesText, Unfit, Uneven, ReadFault, WriteFault, NoMemory, TooLarge, TooLong}
 use Rattle.bus_tool.specs.Statuses.{number_of}
 
 -- how the program ends
 abbrev pub status_of : Outcome → Status
 status_of Done = status.Done
 status_of Answered = status.Refused
+status_of (Refused verdict) = status.Refused
 status_of Usage = status.Usage
 status_of (TableText line reason) = status.TableRefused
 status_of (TableWhole reason) = status.TableRefused
 status_of (MessagesText line reason) = status.InputRefused
 status_of (Unfit error) = status.InputRefused
+status_of (Uneven one one_count other other_count) = status.InputRefused
 status_of (ReadFault source) = status.ReadFault
 status_of WriteFault = status.WriteFault
 status_of NoMemory = status.NoMemory
 status_of (TooLarge source) = status.TooLarge
+status_of (TooLong end) = status.TooLong
 
 -- the word of a reason
 abbrev pub reason_name : Reason → List ℕ
@@ -56,19 +61,26 @@ abbrev pub fit_words : FitError → List ℕ
 fit_words (Stranger item) = decimal item ++ codes " Stranger"
 fit_words (Shape item) = decimal item ++ codes " Shape"
 
--- what a fault line says behind the status
+-- a terminal and how many messages it has
+abbrev pub count_words : ℕ → ℕ → List ℕ
+count_words terminal count = decimal terminal ++ 32 ∷ [] ++ decimal count
+
+-- what a fault line says behind the status; an outcome whose line is a verdict has none
 abbrev pub fault_words : Outcome → List ℕ
 fault_words Done = []
 fault_words Answered = []
+fault_words (Refused verdict) = []
 fault_words Usage = codes "usage"
 fault_words (TableText line reason) = codes "table line " ++ decimal line ++ 32 ∷ [] ++ reason_name reason
 fault_words (TableWhole reason) = codes "table " ++ whole_words reason
 fault_words (MessagesText line reason) = codes "messages line " ++ decimal line ++ 32 ∷ [] ++ reason_name reason
 fault_words (Unfit error) = codes "messages item " ++ fit_words error
+fault_words (Uneven one one_count other other_count) = codes "messages uneven " ++ count_words one one_count ++ 32 ∷ [] ++ count_words other other_count
 fault_words (ReadFault source) = codes "read " ++ decimal source
 fault_words WriteFault = codes "write"
 fault_words NoMemory = codes "memory"
 fault_words (TooLarge source) = codes "large " ++ decimal source
+fault_words (TooLong end) = codes "long " ++ decimal end
 
 -- a line: the number with which the process ends, and why
 abbrev pub error_line : Outcome → List ℕ
@@ -80,6 +92,19 @@ is_written Done = true
 is_written Answered = true
 is_written outcome = false
 
--- the line of an outcome; none where the answer is written
+-- the verdict for which the senders of a table aren't run
+abbrev pub refused_verdict : Outcome → Option TableVerdict
+refused_verdict (Refused verdict) = Some verdict
+refused_verdict outcome = None
+
+-- the line of an outcome that is no verdict; none where the answer is written
+abbrev pub plain_line : Outcome → List ℕ
+plain_line outcome = if is_written outcome then [] else error_line outcome
+
+-- the line of an outcome: that of the verdict for which the senders of a table aren't run, or its own
+abbrev pub line_with : Option TableVerdict → Outcome → List ℕ
+line_with None outcome = plain_line outcome
+line_with (Some verdict) outcome = verdict_line verdict
+
 abbrev pub fault_line : Outcome → List ℕ
-fault_line outcome = if is_written outcome then [] else error_line outcome
+fault_line outcome = line_with (refused_verdict outcome) outcome

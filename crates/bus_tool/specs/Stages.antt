@@ -2,7 +2,7 @@
 --   stage   where an outcome stands in the order: 0 the words, 1 the first source, 2 the second source, 3 what comes behind both
 use Rattle.std.specs.Prelude.{◌≡◌, ℕ, ◌≤◌, true, Result, Ok, Err}
 use Rattle.bus_tool.specs.declared.outcome.Outcome.{Outcome}
-use Rattle.bus_tool.specs.declared.outcome.Outcome.TheVariants.{Done, Answered, Usage, TableText, TableWhole, MessagesText, Unfit, ReadFault, WriteFault, NoMemory, TooLarge}
+use Rattle.bus_tool.specs.declared.outcome.Outcome.TheVariants.{Usage, TableText, TableWhole, MessagesText, Unfit, ReadFault, WriteFault, NoMemory, TooLarge}
 use Rattle.bus_tool.specs.Outcomes.{is_written}
 
 abbrev pub stage_of : Outcome → ℕ

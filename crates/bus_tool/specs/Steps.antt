@@ -6,7 +6,7 @@ use Rattle.bus_outer.specs.Faults.{Rose}
 use Rattle.bus_outer.specs.declared.whole.ReadError.{ReadError}
 use Rattle.bus_outer.specs.declared.whole.ReadError.TheVariants.{Fault, TooLarge as Larger, Memory}
 use Rattle.bus_tool.specs.declared.outcome.Outcome.{Outcome}
-use Rattle.bus_tool.specs.declared.outcome.Outcome.TheVariants.{Done, Answered, Usage, ReadFault, WriteFault, NoMemory, TooLarge}
+use Rattle.bus_tool.specs.declared.outcome.Outcome.TheVariants.{Done, Answered, Refused, Usage, Uneven, ReadFault, WriteFault, NoMemory, TooLarge, TooLong}
 use Rattle.bus_tool.specs.Stages.{stage_of, StandsFor, Gives}
 use Rattle.bus_tool.specs.Seen.{Seen, Sources, numbered, OfTexts, Reach, Whole, Reads, stopped_at, reach}
 use Rattle.bus_tool.specs.Due.{table_due}
@@ -62,6 +62,14 @@ IsEarly Answered = ⊥
 IsEarly Usage = ⊥
 IsEarly WriteFault = ⊥
 IsEarly outcome = Unit {0}
+
+-- an outcome at which a command may stop behind both texts, before it has written anything
+abbrev pub IsLate : Outcome → Type 0
+IsLate NoMemory = Unit {0}
+IsLate (Uneven one one_count other other_count) = Unit {0}
+IsLate (Refused verdict) = Unit {0}
+IsLate (TooLong end) = Unit {0}
+IsLate outcome = ⊥
 
 -- a source of this number is named
 abbrev pub IsNamed : ℕ → ℕ → Type 0

@@ -7,8 +7,7 @@ use Rattle.bus_table.specs.Tables.{Table, Hand}
 use Rattle.bus_table.specs.Hands.{hands_of, are_hands}
 use Rattle.bus_tool.specs.declared.inputs.Inputs.{Inputs as Taken}
 use Rattle.bus_tool.specs.Seen.{text_limit}
-use Rattle.bus_tool.specs.Due.{Inputs}
-use Rattle.bus_tool.specs.Texts.{hands_in}
+use Rattle.bus_tool.specs.Due.{Inputs, hands_in}
 
 -- the hands that items give the senders of a table
 abbrev pub AreHandsOf : Table → Vec Hand Global → List Item → Type 0

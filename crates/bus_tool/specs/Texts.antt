@@ -5,18 +5,19 @@ use Rattle.std.specs.List.{find, filter_map, range_with_len}
 use Rattle.std.specs.Option.{option_map}
 use Rattle.bus_strings.specs.Messages.{Entry, IsMessage}
 use Rattle.bus_table.specs.Tables.{Table, Hand}
-use Rattle.bus_table.specs.Hands.{hands_of}
 use Rattle.bus_regime.specs.Verdicts.{verdict_of}
 use Rattle.bus_regime.specs.Lines.{verdict_line}
 use Rattle.bus_medium.specs.Lawful.{IsLawful}
 use Rattle.bus_medium.specs.Timings.{quiet_of, stations_of}
+use Rattle.bus_schedule.specs.Closed.{closed_end}
+use Rattle.bus_schedule.specs.Runs.{IsRun}
 use Rattle.bus_trace.specs.declared.hold.Hold.{Hold}
 use Rattle.bus_trace.specs.Traces.{Recording, trace_text}
 use Rattle.bus_tool.specs.declared.forms.Form.{Form}
-use Rattle.bus_tool.specs.declared.forms.Form.TheVariants.{Check, Observe}
+use Rattle.bus_tool.specs.declared.forms.Form.TheVariants.{Check, Observe, Run}
 use Rattle.bus_tool.specs.declared.outcome.Outcome.{Outcome}
 use Rattle.bus_tool.specs.Forms.{form_of}
-use Rattle.bus_tool.specs.Due.{Inputs, table_due, inputs_due}
+use Rattle.bus_tool.specs.Due.{Inputs, hands_in, table_due, inputs_due, run_due}
 
 -- the number of a hand's terminal and how many messages it has
 abbrev pub hold_of : Hand → Hold
@@ -40,10 +41,6 @@ pub record IsObserved (table : Table) (hands : List Hand) (until : ℕ) (recordi
   pub holds : recording.holds ≡ holds_of hands
   pub lawful : IsLawful (quiet_of table) (stations_of table hands) until recording.list
 
--- the hands of a table's senders
-abbrev pub hands_in : Inputs → List Hand
-hands_in inputs = hands_of inputs.table inputs.items
-
 abbrev pub IsRecordingOf : ℕ → Recording → Inputs → Type 0
 IsRecordingOf horizon recording inputs = IsObserved inputs.table (hands_in inputs) horizon recording
 
@@ -51,6 +48,21 @@ IsRecordingOf horizon recording inputs = IsObserved inputs.table (hands_in input
 pub record IsObserveText (horizon : ℕ) (inputs : Inputs) (text : List ℕ) : Type 0 where
   pub recording : Recording
   pub observed : IsRecordingOf horizon recording inputs
+  pub text_is : text ≡ trace_text recording
+
+-- the recording of a run: its horizon is the closed end, what each sender held, and the run
+pub record IsRan (table : Table) (hands : List Hand) (recording : Recording) : Type 0 where
+  pub horizon : recording.horizon ≡ closed_end table hands
+  pub holds : recording.holds ≡ holds_of hands
+  pub run : IsRun table hands recording.list
+
+abbrev pub IsRunOf : Recording → Inputs → Type 0
+IsRunOf recording inputs = IsRan inputs.table (hands_in inputs) recording
+
+-- the trace text of a run
+pub record IsRunText (inputs : Inputs) (text : List ℕ) : Type 0 where
+  pub recording : Recording
+  pub ran : IsRunOf recording inputs
   pub text_is : text ≡ trace_text recording
 
 -- a transmission as its type has it: of a terminal 1 to 128, with a message in its ranges
@@ -71,6 +83,7 @@ IsTextOf {Y} IsText due text = (y : Y) × (due ≡ Ok y) × IsText y text
 abbrev pub IsFormText : Form → List ℕ → List ℕ → List ℕ → Type 0
 IsFormText Check first second text = IsTextOf IsCheckText (table_due first) text
 IsFormText (Observe horizon) first second text = IsTextOf (IsObserveText horizon) (inputs_due first second) text
+IsFormText Run first second text = IsTextOf IsRunText (run_due first second) text
 
 abbrev pub IsTextFor : Option Form → List ℕ → List ℕ → List ℕ → Type 0
 IsTextFor None first second text = ⊥

@@ -6,6 +6,7 @@ use crate::check::check;
 use crate::forms::{Form, form_of};
 use crate::observe::observe;
 use crate::outcome::Outcome;
+use crate::run::run;
 use bus_outer::{Sink, Source};
 use std::alloc::Global;
 
@@ -26,5 +27,6 @@ pub fn act<S: Source, K: Sink>(
         None => Outcome::Usage,
         Some(Form::Check) => check(alloc, first, out),
         Some(Form::Observe { horizon }) => observe(alloc, horizon, first, second, out),
+        Some(Form::Run) => run(alloc, first, second, out),
     }
 }

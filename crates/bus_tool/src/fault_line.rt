@@ -1,13 +1,14 @@
 ghost use Rattle.bus_outer.specs.Sinks.{WritesText};
 ghost use Rattle.bus_outer.specs.Texts.{Adds};
 ghost use Rattle.bus_table.specs.declared.fit.FitError.TheVariants.{Stranger, Shape};
-ghost use Rattle.bus_tool.specs.Outcomes.{reason_name, pair_words, whole_words, fit_words, fault_words, status_of, error_line, fault_line};
+ghost use Rattle.bus_tool.specs.Outcomes.{reason_name, pair_words, whole_words, fit_words, fault_words, count_words, status_of, error_line, plain_line, fault_line};
 ghost use Rattle.bus_text.specs.Digits.{hex_digit, hexadecimal};
 ghost use Rattle.bus_tool.specs.Statuses.{number_of};
 ghost use Rattle.std.specs.Prelude.{List, [], ◌∷◌, ◌++◌, decimal};
 
 use crate::outcome::Outcome;
 use bus_outer::{Sink, TextBuffer, WriteFault};
+use bus_regime::line::write_verdict;
 use bus_table::error::WholeReason;
 use bus_table::fit::FitError;
 use bus_text::digits::{hex_digit as digit, three_digits};
@@ -147,6 +148,40 @@ fn put_unfit<K: Sink>(text: &mut TextBuffer, sink: &mut K, error: FitError)
     put_item(text, sink, error);
 }
 
+/// Puts a terminal and how many messages it has.
+fn put_count<K: Sink>(text: &mut TextBuffer, sink: &mut K, terminal: u8, count: u64)
+    ensures { Adds K.held K.faults sink.old sink.new text.old text.new (count_words terminal count) }
+{
+    text.put_number(sink, terminal);
+    text.put_byte(sink, b' ');
+    text.put_number(sink, count);
+}
+
+/// Puts two senders that have different numbers of messages.
+fn put_uneven<K: Sink>(
+    text: &mut TextBuffer,
+    sink: &mut K,
+    one: u8,
+    one_count: u64,
+    other: u8,
+    other_count: u64,
+)
+    ensures { Adds K.held K.faults sink.old sink.new text.old text.new (fault_words (Outcome.Uneven one one_count other other_count)) }
+{
+    text.put(sink, b"messages uneven ");
+    put_count(text, sink, one, one_count);
+    text.put_byte(sink, b' ');
+    put_count(text, sink, other, other_count);
+}
+
+/// Puts the end of a schedule that is too long.
+fn put_too_long<K: Sink>(text: &mut TextBuffer, sink: &mut K, end: u128)
+    ensures { Adds K.held K.faults sink.old sink.new text.old text.new (fault_words (Outcome.TooLong end)) }
+{
+    text.put(sink, b"long ");
+    text.put_number(sink, end);
+}
+
 /// Puts why a table is refused as a whole.
 fn put_table_whole<K: Sink>(text: &mut TextBuffer, sink: &mut K, reason: WholeReason)
     ensures { Adds K.held K.faults sink.old sink.new text.old text.new (fault_words (Outcome.TableWhole reason)) }
@@ -160,16 +195,23 @@ fn put_words<K: Sink>(text: &mut TextBuffer, sink: &mut K, outcome: &Outcome)
     ensures { Adds K.held K.faults sink.old sink.new text.old text.new (fault_words outcome.now) }
 {
     match *outcome {
-        Outcome::Done | Outcome::Answered => text.put(sink, b""),
+        Outcome::Done | Outcome::Answered | Outcome::Refused(_) => text.put(sink, b""),
         Outcome::Usage => text.put(sink, b"usage"),
         Outcome::TableText { line, reason } => put_table_text(text, sink, line, reason),
         Outcome::TableWhole(reason) => put_table_whole(text, sink, reason),
         Outcome::MessagesText { line, reason } => put_messages_text(text, sink, line, reason),
         Outcome::Unfit(error) => put_unfit(text, sink, error),
+        Outcome::Uneven {
+            one,
+            one_count,
+            other,
+            other_count,
+        } => put_uneven(text, sink, one, one_count, other, other_count),
         Outcome::ReadFault { source } => put_numbered(text, sink, b"read ", u64::from(source)),
         Outcome::WriteFault => text.put(sink, b"write"),
         Outcome::NoMemory => text.put(sink, b"memory"),
         Outcome::TooLarge { source } => put_numbered(text, sink, b"large ", u64::from(source)),
+        Outcome::TooLong { end } => put_too_long(text, sink, end),
     }
 }
 
@@ -180,9 +222,9 @@ fn put_status<K: Sink>(text: &mut TextBuffer, sink: &mut K, outcome: &Outcome)
     text.put_number(sink, outcome.status().number())
 }
 
-/// Puts the line of an outcome; nothing where the answer is written.
-fn put_fault_line<K: Sink>(text: &mut TextBuffer, sink: &mut K, outcome: &Outcome)
-    ensures { Adds K.held K.faults sink.old sink.new text.old text.new (fault_line outcome.now) }
+/// Puts the line of an outcome that is no verdict; nothing where the answer is written.
+fn put_plain_line<K: Sink>(text: &mut TextBuffer, sink: &mut K, outcome: &Outcome)
+    ensures { Adds K.held K.faults sink.old sink.new text.old text.new (plain_line outcome.now) }
 {
     if outcome.is_written() {
         text.put(sink, b"");
@@ -202,12 +244,22 @@ fn put_error_line<K: Sink>(text: &mut TextBuffer, sink: &mut K, outcome: &Outcom
     text.put_byte(sink, b'\n');
 }
 
-/// Writes the line that says why there is no answer; nothing where the answer is written. It takes no memory. After a `WriteFault`,
+/// Writes the line of an outcome that is no verdict.
+fn plain_text<K: Sink>(outcome: &Outcome, err: &mut K) -> Result<(), WriteFault>
+    ensures { WritesText K.held K.faults err.old err.new result (plain_line outcome.now) }
+{
+    let mut text = TextBuffer::new();
+    put_plain_line(&mut text, err, outcome);
+    text.finish(err)
+}
+
+/// Writes the line that says why there is no answer, which is a verdict's where its table's senders aren't run; nothing where the answer is written. It takes no memory. After a `WriteFault`,
 /// which comes only where the sink's count of faults rose, the sink has taken a beginning of the line.
 pub fn outcome_text<K: Sink>(outcome: &Outcome, err: &mut K) -> Result<(), WriteFault>
     ensures { WritesText K.held K.faults err.old err.new result (fault_line outcome.now) }
 {
-    let mut text = TextBuffer::new();
-    put_fault_line(&mut text, err, outcome);
-    text.finish(err)
+    match outcome.refused() {
+        None => plain_text(outcome, err),
+        Some(verdict) => write_verdict(&verdict, err),
+    }
 }

@@ -18,6 +18,8 @@ pub enum Form {
         /// N: at most 20,000,000.
         horizon: u64,
     },
+    /// `run T M`: what the senders of the table in `T` do with the messages in `M`, up to the end of the closed schedule.
+    Run,
 }
 
 /// The horizon that a word writes; None where the word is no plain decimal, or the number is past its limit.
@@ -45,6 +47,18 @@ fn two_words(command: &str) -> Option<Form>
     }
 }
 
+/// The form of three words of which this is the first.
+fn three_words(command: &str) -> Option<Form>
+    ensures form { result ≡ forms.three_words command.now }
+    ensures limits { IfSome result IsWithinLimits }
+{
+    if command == "run" {
+        Some(Form::Run)
+    } else {
+        None
+    }
+}
+
 /// The form of four words of which these are the first and the last.
 fn four_words(command: &str, horizon: &[u8]) -> Option<Form>
     ensures form { result ≡ forms.four_words command.now horizon.now }
@@ -64,6 +78,7 @@ pub fn form_of(words: &[String]) -> Option<Form>
 {
     match words.len() {
         2 => two_words(words[0].as_str()),
+        3 => three_words(words[0].as_str()),
         4 => four_words(words[0].as_str(), words[3].as_bytes()),
         _ => None,
     }

@@ -82,6 +82,7 @@ pub fn take_inputs<S: Source>(
 ) -> Result<Inputs, Outcome>
     ensures prepares { Prepares AreInputs 2 inputs_due (sources_seen ⟦<S as Source>⟧ first.old second.old) (sources_seen ⟦<S as Source>⟧ first.new second.new) result }
     ensures ready { IfOk result (λ inputs. AreReady inputs.table inputs.hands.items) }
+    ensures aperiodic { IfOk result (λ inputs. inputs.table.mode ≡ Aperiodic) }
 {
     let table = take_table(alloc, first)?;
     let hands = take_hands(alloc, &table, second)?;

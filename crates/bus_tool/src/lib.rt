@@ -15,6 +15,7 @@ mod observe;
 #[cfg(test)]
 mod observe_tests;
 pub mod outcome;
+mod run;
 pub mod status;
 #[cfg(test)]
 mod tests;

@@ -25,7 +25,7 @@ use bus_trace::writing::write_trace;
 use std::alloc::{AllocError, Global};
 
 /// A look at each transmission, of which nothing is left in the built program, makes its ranges known.
-fn look_at(list: &[Transmission])
+pub fn look_at(list: &[Transmission])
     ensures { AllByRecursion IsRanged list.now }
 {
     for x in list {

@@ -1,7 +1,10 @@
 ghost use Rattle.std.specs.Prelude.{◌≡◌};
-ghost use Rattle.bus_tool.specs.Outcomes.{is_written, status_of};
+ghost use Rattle.bus_tool.specs.Outcomes.{is_written, refused_verdict, status_of};
 
 use crate::status::Status;
+use bus_regime::verdict::TableVerdict;
+use bus_schedule::error::ScheduleError;
+use bus_schedule::uneven::Uneven;
 use bus_strings::fault::MessagesError;
 use bus_table::error::{TableError, WholeReason};
 use bus_table::fit::FitError;
@@ -15,24 +18,47 @@ pub enum Outcome {
     Done,
     /// The answer is written, and it is no.
     Answered,
+    /// The table isn't accepted, so that its senders aren't run: its verdict.
+    Refused(TableVerdict),
     /// The words are no form.
     Usage,
     /// The first text is no table text: the offending line, counted from 1, and why.
-    TableText { line: u64, reason: Reason },
+    TableText {
+        line: u64,
+        reason: Reason,
+    },
     /// The first text is a table text of no valid table.
     TableWhole(WholeReason),
     /// The second text is no messages text: the offending line, counted from 1, and why.
-    MessagesText { line: u64, reason: Reason },
+    MessagesText {
+        line: u64,
+        reason: Reason,
+    },
     /// An item of the second text, the first being 1, doesn't fit its sender.
     Unfit(FitError),
+    /// Two senders have different numbers of messages: the first in turn order, and the first behind it whose number is another.
+    Uneven {
+        one: u8,
+        one_count: u64,
+        other: u8,
+        other_count: u64,
+    },
     /// A source, the first being 1, couldn't be read.
-    ReadFault { source: u8 },
+    ReadFault {
+        source: u8,
+    },
     /// The answer couldn't be written.
     WriteFault,
     /// Memory was refused.
     NoMemory,
     /// A source, the first being 1, has more bytes than its limit.
-    TooLarge { source: u8 },
+    TooLarge {
+        source: u8,
+    },
+    /// The closed schedule ends at this moment, which is above the limit.
+    TooLong {
+        end: u128,
+    },
 }
 
 impl Outcome {
@@ -43,20 +69,33 @@ impl Outcome {
         matches!(self, Outcome::Done | Outcome::Answered)
     }
 
+    /// The verdict for which the senders of a table aren't run, where this is what the command came to.
+    pub fn refused(&self) -> Option<TableVerdict>
+        ensures { result ≡ refused_verdict self.now }
+    {
+        match *self {
+            Outcome::Refused(verdict) => Some(verdict),
+            _ => None,
+        }
+    }
+
     /// How the program ends with this outcome.
     pub fn status(&self) -> Status
         ensures { result ≡ status_of self.now }
     {
         match self {
             Outcome::Done => Status::Done,
-            Outcome::Answered => Status::Refused,
+            Outcome::Answered | Outcome::Refused(_) => Status::Refused,
             Outcome::Usage => Status::Usage,
             Outcome::TableText { .. } | Outcome::TableWhole(_) => Status::TableRefused,
-            Outcome::MessagesText { .. } | Outcome::Unfit(_) => Status::InputRefused,
+            Outcome::MessagesText { .. } | Outcome::Unfit(_) | Outcome::Uneven { .. } => {
+                Status::InputRefused
+            }
             Outcome::ReadFault { .. } => Status::ReadFault,
             Outcome::WriteFault => Status::WriteFault,
             Outcome::NoMemory => Status::NoMemory,
             Outcome::TooLarge { .. } => Status::TooLarge,
+            Outcome::TooLong { .. } => Status::TooLong,
         }
     }
 }
@@ -95,6 +134,34 @@ impl From<FitError> for Outcome {
 
     fn from(error: FitError) -> Outcome {
         Outcome::Unfit(error)
+    }
+}
+
+impl From<Uneven> for Outcome {
+    ghost use Rattle.bus_tool.specs.Due.{uneven_refusal};
+
+    ghost from_gives = { λ uneven outcome. outcome ≡ uneven_refusal uneven };
+
+    fn from(uneven: Uneven) -> Outcome {
+        Outcome::Uneven {
+            one: uneven.one,
+            one_count: uneven.one_count,
+            other: uneven.other,
+            other_count: uneven.other_count,
+        }
+    }
+}
+
+impl From<ScheduleError> for Outcome {
+    ghost use Rattle.bus_tool.specs.Due.{schedule_refusal};
+
+    ghost from_gives = { λ error outcome. outcome ≡ schedule_refusal error };
+
+    fn from(error: ScheduleError) -> Outcome {
+        match error {
+            ScheduleError::Memory => Outcome::NoMemory,
+            ScheduleError::TooLong { end } => Outcome::TooLong { end },
+        }
     }
 }
 

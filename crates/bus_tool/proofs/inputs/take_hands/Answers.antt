@@ -1,4 +1,4 @@
-use Rattle.std.proofs.Common.{arith, sym, ap, subst}
+use Rattle.std.proofs.Common.{arith, sym, subst}
 use Rattle.bus_tool.proofs.HoldLemmas.{AreFew, hands_few}
 use Rattle.bus_tool.proofs.inputs.take_hands.Goals as goal
 

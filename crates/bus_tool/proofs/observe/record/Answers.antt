@@ -1,4 +1,4 @@
-use Rattle.std.proofs.Common.{sym, ap, ◌∙◌, subst}
+use Rattle.std.proofs.Common.{ap, ◌∙◌, subst}
 use Rattle.std.specs.List.{AllByRecursion}
 use Rattle.bus_tool.specs.Texts.{IsRanged, holds_of}
 use Rattle.bus_tool.proofs.TraceLemmas.{lawful_of, observed_is_trace}
