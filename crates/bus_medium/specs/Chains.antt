@@ -1,5 +1,5 @@
 -- A list none of whose transmissions begins before the one before has ended, and what the timers of each sender make of it: three
--- numbers. By them every question on such a list is arithmetic.
+-- numbers. They tell by arithmetic who is due from the end of the list on, while all are silent.
 --   due     the place at which a sender's transmit interval elapses
 --   gap     the place from which its terminal gap counts, or will
 --   count   how many messages it has sent

@@ -1,6 +1,6 @@
--- What follows of lawful lists.
--- The contract of `laws::one_lawful_list` says that each of these holds, and those of the functions beside it that the laws of
--- `Stretches` and `Chains` do.
+-- Laws of lawful lists: where no two senders have the same number there is exactly one for each horizon, and it can be computed.
+-- Each of these laws is a clause of `laws::one_lawful_list`. The laws of `Stretches` and of `Chains` are clauses of the other functions
+-- of that module.
 use Rattle.std.specs.Prelude.{◌≡◌, ℕ, List, IsTrue}
 use Rattle.bus_strings.specs.Messages.{Entry}
 use Rattle.bus_table.specs.Tables.{Table, Hand}
@@ -31,6 +31,6 @@ OneListOfATable =
     → (list : List Entry) × IsLawful (quiet_of table) (stations_of table hands) horizon list
     × ((other : List Entry) → IsLawful (quiet_of table) (stations_of table hands) horizon other → other ≡ list)
 
--- lawful up to the horizon and no terminal there is lawful for the horizon
+-- a list that is lawful for all moments before the horizon is lawful for it
 abbrev pub LawfulToHorizon : Type 0
 LawfulToHorizon = (quiet : ℕ) (stations : List Station) (horizon : ℕ) (list : List Entry) → IsLawfulTo quiet stations horizon 0 list → IsLawful quiet stations horizon list

@@ -7,7 +7,7 @@ pub mod Spacing
 pub mod Growing
 pub mod Turning
 pub mod RunLemmas
-pub mod Rows
+pub mod Examples
 pub mod UnevenLemmas
 pub mod EvenLemmas
 pub mod EndLemmas

@@ -9,17 +9,20 @@ use Rattle.bus_schedule.specs.Even.{are_even}
 use Rattle.bus_schedule.specs.Closed.{closed}
 use Rattle.bus_schedule.specs.Runs.{IsClear, IsInTurns, IsRun}
 
--- For an accepted aperiodic table and even hands of any length the closed schedule is the run: from local timers to global order.
+-- For an accepted aperiodic table and even hands, of any length, the closed schedule is the run.
 abbrev pub AcceptedIsClosed : Type 0
 AcceptedIsClosed =
-    (table : Table) (hands : List Hand) → IsTrue (is_valid table) → table.mode ≡ Aperiodic → IsTrue (is_accepted (verdict_of table)) → IsTrue (are_even table hands)
-    → IsRun table hands (closed table hands)
+    (table : Table) (hands : List Hand) → IsTrue (is_valid table) → table.mode ≡ Aperiodic → IsTrue (is_accepted (verdict_of table))
+    → IsTrue (are_even table hands) → IsRun table hands (closed table hands)
 
--- The closed schedule of an aperiodic table, accepted or not, ascends by moment, has no overlap, and holds each sender once a cycle.
+-- The closed schedule of an aperiodic table, accepted or not, and even hands ascends by moment, has no overlap, and holds each sender
+-- once a cycle.
 pub record IsOrderly (table : Table) (hands : List Hand) : Type 0 where
   pub ascends : IsAscending (closed table hands)
   pub clear : IsClear (closed table hands)
   pub turns : IsInTurns table hands (closed table hands)
 
 abbrev pub ClosedIsOrderly : Type 0
-ClosedIsOrderly = (table : Table) (hands : List Hand) → IsTrue (is_valid table) → table.mode ≡ Aperiodic → IsTrue (are_even table hands) → IsOrderly table hands
+ClosedIsOrderly =
+    (table : Table) (hands : List Hand) → IsTrue (is_valid table) → table.mode ≡ Aperiodic → IsTrue (are_even table hands)
+    → IsOrderly table hands

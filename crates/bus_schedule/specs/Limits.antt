@@ -1,10 +1,24 @@
--- Why no schedule is given.
-use Rattle.std.specs.Prelude.{◌≡◌, ℕ, ◌<◌}
-use Rattle.bus_schedule.specs.declared.error.TheConstants.{LONGEST_END}
+-- The limit on the closed end, and why no schedule is given.
+use Rattle.std.specs.Prelude.{◌≡◌, ℕ, ◌<◌, ◌≤◌, Result, Err, IfOk, IfErr}
 use Rattle.bus_schedule.specs.declared.error.ScheduleError.{ScheduleError}
 use Rattle.bus_schedule.specs.declared.error.ScheduleError.TheVariants.{Memory, TooLong}
 
--- a schedule that ends at this moment is refused as too long only above the limit, with its end; memory may be refused for any
+-- the longest closed end for which a schedule is given, in bit times: ten seconds. It is this project's profile
+abbrev pub longest_end : ℕ
+longest_end = 20000000
+
+-- why a schedule with this closed end is refused
 abbrev pub IsRefused : ℕ → ScheduleError → Type 0
+-- memory may be refused whatever the end
 IsRefused end Memory = Unit {0}
-IsRefused end (TooLong told) = (LONGEST_END < end) × (told ≡ end)
+-- it is too long only above the limit, and its end is told
+IsRefused end (TooLong told) = (longest_end < end) × (told ≡ end)
+
+-- The result for a schedule with this closed end:
+--   within     it is Ok only where the end is within the limit
+--   too_long   above the limit it is TooLong with the end, whatever memory is left
+--   refused    it is TooLong only above the limit, with the end; memory may be refused for any
+pub record IsLimited {X : Type 0} (end : ℕ) (result : Result X ScheduleError) : Type 0 where
+  pub within : IfOk result (λ _. end ≤ longest_end)
+  pub too_long : longest_end < end → result ≡ Err (TooLong end)
+  pub refused : IfErr result (IsRefused end)

@@ -1,4 +1,4 @@
--- What a run of an accepted table is.
+-- What a run of an accepted table and even hands is.
 use Rattle.std.specs.Prelude.{◌≡◌, ℕ, ◌+◌, ◌*◌, ◌<◌, ◌≤◌, false, List, length, slice_get, Some}
 use Rattle.bus_strings.specs.Messages.{Entry}
 use Rattle.bus_strings.specs.Transmissions.{overlaps, IsOrdered}
@@ -25,7 +25,8 @@ pub record HasTurn (hands : List Hand) (list : List Entry) (place round : ℕ) (
 -- sender at place `turn`
 pub record IsInTurns (table : Table) (hands : List Hand) (list : List Entry) : Type 0 where
   pub whole : length list ≡ rounds hands * length table.senders
-  pub turn : (round turn : ℕ) (sender : Sender) → round < rounds hands → slice_get (turn_order table) turn ≡ Some sender → HasTurn hands list (round * length table.senders + turn) round sender
+  pub turn : (round turn : ℕ) (sender : Sender) → round < rounds hands → slice_get (turn_order table) turn ≡ Some sender →
+      HasTurn hands list (round * length table.senders + turn) round sender
 
 -- two successive starts of one sender are at least a shortest cycle apart, and at most a longest
 pub record IsSpaced (table : Table) (list : List Entry) : Type 0 where
@@ -38,7 +39,7 @@ pub record IsSpaced (table : Table) (list : List Entry) : Type 0 where
 --   only      no other list is lawful up to there
 --   clear     no two transmissions overlap
 --   turns     every cycle holds each sender once, in turn order
---   spaced    successive starts of a sender are a cycle apart
+--   spaced    successive starts of a sender are at least a shortest and at most a longest cycle apart
 pub record IsRun (table : Table) (hands : List Hand) (list : List Entry) : Type 0 where
   pub closed : list ≡ closed table hands
   pub lawful : IsLawful (quiet_of table) (stations_of table hands) (closed_end table hands) list

@@ -1,4 +1,4 @@
--- Why hands aren't even: the first two senders in turn order whose numbers of messages differ.
+-- Why hands aren't even: the first sender in turn order, and the first behind it whose number of messages differs.
 use Rattle.std.specs.Prelude.{ℕ, ◌==◌, List, [], ◌∷◌, length, Option, Some, None, if◌then◌else◌}
 use Rattle.bus_table.specs.Tables.{Sender, Table, Hand}
 use Rattle.bus_table.specs.Turns.{turn_order}
@@ -16,7 +16,8 @@ counts_of hands one other = record { one = one; one_count = count_of hands one; 
 -- the first of these senders that has another number of messages than this one
 abbrev pub differing : List Hand → ℕ → List Sender → Option Uneven
 differing hands one [] = None
-differing hands one (other ∷ order) = if count_of hands other.number == count_of hands one then differing hands one order else Some (counts_of hands one other.number)
+differing hands one (other ∷ order) =
+    if count_of hands other.number == count_of hands one then differing hands one order else Some (counts_of hands one other.number)
 
 -- the first sender of an order, and the first behind it that has another number of messages
 abbrev pub uneven_in : List Hand → List Sender → Option Uneven

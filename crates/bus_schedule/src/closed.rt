@@ -1,4 +1,4 @@
-ghost use Rattle.std.specs.Prelude.{◌≡◌, ◌+◌, ◌<◌, ◌≤◌, ◌++◌, ◌∷◌, [], IsTrue, IfOk, IfErr, OnOk, Err};
+ghost use Rattle.std.specs.Prelude.{◌≡◌, ◌+◌, ◌<◌, ◌≤◌, ◌++◌, ◌∷◌, [], IsTrue, IfOk, OnOk};
 ghost use Rattle.bus_strings.specs.Messages.{bits};
 ghost use Rattle.bus_strings.specs.Transmissions.{IsAscending};
 ghost use Rattle.bus_table.specs.declared.mode.Mode.TheVariants.{Aperiodic};
@@ -6,10 +6,10 @@ ghost use Rattle.bus_table.specs.Turns.{turn_order};
 ghost use Rattle.bus_schedule.specs.Even.{are_even, messages_of, rounds};
 ghost use Rattle.bus_schedule.specs.Closed.{turns, turns_end, closed, closed_end};
 ghost use Rattle.bus_schedule.specs.Places.{AreInTurn};
-ghost use Rattle.bus_schedule.specs.Limits.{IsRefused};
+ghost use Rattle.bus_schedule.specs.Limits.{longest_end, IsLimited};
 
 use crate::end::{limited_end, rounds};
-use crate::error::{LONGEST_END, ScheduleError};
+use crate::error::ScheduleError;
 use crate::laws::closed_is_orderly;
 use crate::order::turn_places;
 use bus_strings::message::{Message, copy_message};
@@ -27,7 +27,7 @@ fn add_turn(
     message: &Message,
     from: u64,
 ) -> Result<u64, AllocError>
-    requires { from ≤ LONGEST_END }
+    requires { from ≤ longest_end }
     ensures turn { OnOk result (list.new.items ≡ list.old.items ++ record { moment = from + sender.now.tg; terminal = sender.now.number; message = message.now } ∷ []) }
     ensures end { IfOk result (λ end. end ≡ from + sender.now.tg + bits message.now) }
 {
@@ -54,7 +54,7 @@ fn add_round(
     requires even { IsTrue (are_even table.now hands.now) }
     requires places { AreInTurn table.now places.now }
     requires round { round < rounds hands.now }
-    requires short { turns_end (messages_of hands.now) round (turn_order table.now) from ≤ LONGEST_END }
+    requires short { turns_end (messages_of hands.now) round (turn_order table.now) from ≤ longest_end }
     ensures turns { OnOk result (list.new.items ≡ list.old.items ++ turns (messages_of hands.now) round (turn_order table.now) from) }
     ensures end { IfOk result (λ end. end ≡ turns_end (messages_of hands.now) round (turn_order table.now) from) }
 {
@@ -71,7 +71,7 @@ fn add_round(
 fn schedule(alloc: Global, table: &Table, hands: &[Hand]) -> Result<Vec<Transmission>, AllocError>
     requires aperiodic { table.now.mode ≡ Aperiodic }
     requires even { IsTrue (are_even table.now hands.now) }
-    requires short { closed_end table.now hands.now ≤ LONGEST_END }
+    requires short { closed_end table.now hands.now ≤ longest_end }
     ensures closed { IfOk result (λ list. list.items ≡ closed table.now hands.now) }
     ensures ordered { IfOk result (λ list. IsAscending list.items) }
 {
@@ -86,11 +86,11 @@ fn schedule(alloc: Global, table: &Table, hands: &[Hand]) -> Result<Vec<Transmis
     Ok(list)
 }
 
-/// The closed schedule of a table and even hands: who starts when, by gaps and messages alone. It ascends by moment, then
-/// terminal.
+/// The closed schedule of an aperiodic table and even hands: who starts when, by gaps and messages alone. It ascends by
+/// moment, then terminal.
 ///
-/// `TooLong` comes exactly where the closed end is above [`LONGEST_END`], and before any memory is taken; `Memory` only
-/// where memory was refused.
+/// `TooLong` comes exactly where the closed end is above [`LONGEST_END`], also where no memory is left. `Memory` says that
+/// memory was refused, and nothing of the schedule.
 pub fn closed(
     alloc: Global,
     table: &Table,
@@ -100,8 +100,7 @@ pub fn closed(
     requires even { IsTrue (are_even table.now hands.now) }
     ensures closed { IfOk result (λ list. list.items ≡ closed table.now hands.now) }
     ensures ordered { IfOk result (λ list. IsAscending list.items) }
-    ensures too_long { LONGEST_END < closed_end table.now hands.now → result ≡ Err (ScheduleError.TooLong (closed_end table.now hands.now)) }
-    ensures errors { IfErr result (IsRefused (closed_end table.now hands.now)) }
+    ensures limit { IsLimited (closed_end table.now hands.now) result }
 {
     limited_end(table, hands)?;
     Ok(schedule(alloc, table, hands)?)

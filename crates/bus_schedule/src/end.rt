@@ -1,11 +1,10 @@
-ghost use Rattle.std.specs.Prelude.{◌≡◌, ◌+◌, ◌*◌, ◌^◌, ◌<◌, ◌≤◌, [], get_or, IsTrue, IfOk, IfErr, Err};
+ghost use Rattle.std.specs.Prelude.{◌≡◌, ◌+◌, ◌^◌, ◌<◌, ◌≤◌, [], get_or, IsTrue, IfOk};
 ghost use Rattle.std.specs.List.{sum_by};
 ghost use Rattle.bus_strings.specs.Messages.{bits};
 ghost use Rattle.bus_table.specs.declared.mode.Mode.TheVariants.{Aperiodic};
-ghost use Rattle.bus_table.specs.Valid.{is_valid};
 ghost use Rattle.bus_schedule.specs.Even.{are_even, messages_of, rounds};
 ghost use Rattle.bus_schedule.specs.Closed.{closed_end};
-ghost use Rattle.bus_schedule.specs.Limits.{IsRefused};
+ghost use Rattle.bus_schedule.specs.Limits.{IsLimited};
 
 use crate::error::{LONGEST_END, ScheduleError};
 use bus_strings::pulses::bits;
@@ -34,13 +33,12 @@ fn round_length(table: &Table, hands: &[Hand], round: usize) -> u64
     sum
 }
 
-/// The closed end of a table and even hands, in bit times: the moment at which the last transmission of the closed
+/// The closed end of an aperiodic table and even hands, in bit times: the moment at which the last transmission of the closed
 /// schedule ends, and 0 where there is none. It takes no memory.
 pub fn closed_end(table: &Table, hands: &[Hand]) -> u128
     requires aperiodic { table.now.mode ≡ Aperiodic }
     requires even { IsTrue (are_even table.now hands.now) }
     ensures value { result ≡ closed_end table.now hands.now }
-    ensures valid { IsTrue (is_valid table.now) }
 {
     let sg = u128::from(table.sg());
     let mut from = 0;
@@ -56,10 +54,8 @@ pub fn closed_end(table: &Table, hands: &[Hand]) -> u128
 pub(crate) fn limited_end(table: &Table, hands: &[Hand]) -> Result<u64, ScheduleError>
     requires aperiodic { table.now.mode ≡ Aperiodic }
     requires even { IsTrue (are_even table.now hands.now) }
-    ensures end { IfOk result (λ end. (end ≡ closed_end table.now hands.now) × (end ≤ LONGEST_END)) }
-    ensures too_long { LONGEST_END < closed_end table.now hands.now → result ≡ Err (ScheduleError.TooLong (closed_end table.now hands.now)) }
-    ensures errors { IfErr result (IsRefused (closed_end table.now hands.now)) }
-    ensures valid { IsTrue (is_valid table.now) }
+    ensures end { IfOk result (λ end. end ≡ closed_end table.now hands.now) }
+    ensures limit { IsLimited (closed_end table.now hands.now) result }
 {
     let end = closed_end(table, hands);
     if end > LONGEST_END {

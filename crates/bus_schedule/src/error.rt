@@ -4,13 +4,13 @@ ghost use Rattle.std.specs.Prelude.{◌≡◌};
 use std::alloc::AllocError;
 use thiserror::Error;
 
-/// The longest closed end of a schedule that is given, in bit times: ten seconds. It is this project's profile.
+/// The longest closed end for which a schedule is given, in bit times: ten seconds. It is this project's profile.
 pub const LONGEST_END: u128 = 20_000_000;
 
 /// Why no schedule is given.
 #[derive(Clone, Copy, Debug, PartialEq, Eq, Error)]
 pub enum ScheduleError {
-    /// Memory was refused.
+    /// Memory was refused. It says nothing of the schedule.
     #[error("out of memory")]
     Memory,
     /// The closed end, which is this, is above [`LONGEST_END`].

@@ -3,8 +3,9 @@ ghost use Rattle.bus_schedule.specs.Laws.{AcceptedIsClosed, ClosedIsOrderly};
 
 use bus_medium::laws::{chains_tell, one_lawful_list};
 
-/// For an accepted aperiodic table and even hands, of any length, the closed schedule is the one lawful list up to the closed end; no two
-/// of its transmissions overlap, every cycle holds each sender once in turn order, and successive starts of a sender are a cycle apart.
+/// For an accepted aperiodic table and even hands, of any length, the closed schedule is the one lawful list up to the
+/// closed end; no two of its transmissions overlap, every cycle holds each sender once in turn order, and successive
+/// starts of a sender are at least a shortest and at most a longest cycle apart.
 pub fn accepted_is_closed()
     ensures { AcceptedIsClosed }
 {

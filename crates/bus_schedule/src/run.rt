@@ -1,12 +1,13 @@
-ghost use Rattle.std.specs.Prelude.{◌≡◌, ◌<◌, IsTrue, IfOk, IfErr, Err};
+ghost use Rattle.std.specs.Prelude.{◌≡◌, IsTrue, IfOk};
 ghost use Rattle.bus_table.specs.declared.mode.Mode.TheVariants.{Aperiodic};
+ghost use Rattle.bus_table.specs.Valid.{is_valid};
 ghost use Rattle.bus_medium.specs.Buses.{stations, StandsAt};
 ghost use Rattle.bus_medium.specs.Timings.{quiet_of, stations_of};
 ghost use Rattle.bus_regime.specs.Verdicts.{verdict_of, is_accepted};
 ghost use Rattle.bus_schedule.specs.Even.{are_even};
 ghost use Rattle.bus_schedule.specs.Closed.{closed_end};
 ghost use Rattle.bus_schedule.specs.Runs.{IsRun};
-ghost use Rattle.bus_schedule.specs.Limits.{IsRefused};
+ghost use Rattle.bus_schedule.specs.Limits.{IsLimited};
 
 use crate::end::limited_end;
 use crate::error::{LONGEST_END, ScheduleError};
@@ -27,13 +28,21 @@ pub struct Ran<C: Core> {
     pub bus: Bus<C>,
 }
 
-/// Runs the bus of an accepted table and even hands from its settled start up to the closed end, bit time for bit time.
+/// Every table is valid, as each of its getters says.
+fn table_is_valid(table: &Table)
+    ensures { IsTrue (is_valid table.now) }
+{
+    table.sg();
+}
+
+/// Runs the bus of an accepted aperiodic table and even hands from its settled start up to the closed end, bit time for
+/// bit time.
 ///
 /// The list is the run (`specs/Runs.antt`): the closed schedule in whole, and the only list that is lawful up to the
 /// closed end, at which the bus stands then.
 ///
-/// `TooLong` comes exactly where the closed end is above [`LONGEST_END`], and before any memory is taken; `Memory` only
-/// where memory was refused.
+/// `TooLong` comes exactly where the closed end is above [`LONGEST_END`], also where no memory is left. `Memory` says that
+/// memory was refused, and nothing of the schedule.
 pub fn run_settled<C: Core>(
     alloc: Global,
     table: &Table,
@@ -46,12 +55,12 @@ pub fn run_settled<C: Core>(
     ensures stands { IfOk result (λ ran. StandsAt ⟦<C as Core>⟧ ran.bus ran.list.items (closed_end table.now hands.items)) }
     ensures quiet { IfOk result (λ ran. ran.bus.quiet ≡ quiet_of table.now) }
     ensures stations { IfOk result (λ ran. stations ran.bus ≡ stations_of table.now hands.items) }
-    ensures too_long { LONGEST_END < closed_end table.now hands.items → result ≡ Err (ScheduleError.TooLong (closed_end table.now hands.items)) }
-    ensures errors { IfErr result (IsRefused (closed_end table.now hands.items)) }
+    ensures limit { IsLimited (closed_end table.now hands.items) result }
 {
     let end = limited_end(table, &hands)?;
     let mut bus = Bus::settled(alloc, table, hands)?;
     let list = bus.observe(end)?;
+    table_is_valid(table);
     accepted_is_closed();
     Ok(Ran { list, bus })
 }

@@ -35,7 +35,7 @@ fn count_of(hands: &[Hand], number: u8) -> u64
 
 /// Why hands that were dealt to the senders of a table aren't even; None exactly where they are. It takes no memory.
 pub fn find_uneven(table: &Table, hands: &[Hand]) -> Option<Uneven>
-    requires { IsTrue (are_hands table.now.senders hands.now) }
+    requires dealt { IsTrue (are_hands table.now.senders hands.now) }
     ensures value { result ≡ uneven_of table.now hands.now }
     ensures even { IsNone result ↔ IsTrue (are_even table.now hands.now) }
 {

@@ -5,4 +5,4 @@ use Rattle.bus_schedule.proofs.run.run_settled.Goals as goal
 
 pub returns-clause-stands : goal.returns-clause-stands
 returns-clause-stands g c =
-    subst (λ end. StandsAt {C = g.row.C.Denot} g.C.Core c.observe.new.self c.in_ok-list.list.items end) (c.in_ok-end.ensures.end.0 ∙ ap (closed_end c.args.table.now) c.deref.ensures.value) c.in_ok-list.ensures.stands
+    subst (λ end. StandsAt {C = g.row.C.Denot} g.C.Core c.observe.new.self c.in_ok-list.list.items end) (c.in_ok-end.ensures.end ∙ ap (closed_end c.args.table.now) c.deref.ensures.value) c.in_ok-list.ensures.stands

@@ -12,7 +12,7 @@ returns-then-other_count-one_count-clause-value c =
     (λ e. c.if-other_count-one_count.true (c.count_of-other_count.ensures ∙ e ∙ sym c.count_of-one_count.ensures)) c.loop-k.invariant.1
 
 pub returns-then-other_count-one_count-clause-even : goal.returns-then-other_count-one_count-clause-even
-returns-then-other_count-one_count-clause-even c = even_of c.args.table.now c.args.hands.now _ (returns-then-other_count-one_count-clause-value c) c.senders-senders.ensures.valid c.requires
+returns-then-other_count-one_count-clause-even c = even_of c.args.table.now c.args.hands.now _ (returns-then-other_count-one_count-clause-value c) c.senders-senders.ensures.valid c.requires.dealt
 
 pub loop-k-preserved : goal.loop-k-preserved
 loop-k-preserved c = (
@@ -24,4 +24,4 @@ pub returns-clause-value : goal.returns-clause-value
 returns-clause-value c = never_differs c.args.table.now c.args.hands.now c.place-one.result c.loop-k.k c.place-one.ensures (omega (arith, ap length c.senders-senders.ensures.value, c.loop-k-test.false)) c.loop-k.invariant.1
 
 pub returns-clause-even : goal.returns-clause-even
-returns-clause-even c = even_of c.args.table.now c.args.hands.now None (returns-clause-value c) c.senders-senders.ensures.valid c.requires
+returns-clause-even c = even_of c.args.table.now c.args.hands.now None (returns-clause-value c) c.senders-senders.ensures.valid c.requires.dealt
