@@ -20,14 +20,17 @@ abbrev pub turn_length : (ℕ → List Message) → ℕ → Sender → ℕ
 turn_length hands round sender = sender.tg + bits (get_or (hands sender.number) round [])
 
 -- the turns of one sender more
-pub sum_more : (hands : ℕ → List Message) (round : ℕ) (senders : List Sender) (k sum gap span : ℕ) (sender : Sender) (message : Message) → k < length senders → sender ≡ get_or senders k sender → sum ≡ sum_by (turn_length hands round) (take k senders)
-    → gap ≡ sender.tg → span ≡ bits message → message ≡ get_or (hands sender.number) round [] → sum + (gap + span) ≡ sum_by (turn_length hands round) (take (k + 1) senders)
+pub sum_more : (hands : ℕ → List Message) (round : ℕ) (senders : List Sender) (k sum gap span : ℕ) (sender : Sender) (message : Message)
+    → k < length senders → sender ≡ get_or senders k sender → sum ≡ sum_by (turn_length hands round) (take k senders)
+    → gap ≡ sender.tg → span ≡ bits message → message ≡ get_or (hands sender.number) round []
+    → sum + (gap + span) ≡ sum_by (turn_length hands round) (take (k + 1) senders)
 sum_more hands round senders k sum gap span sender message inside sender_is sum_is gap_is span_is message_is =
     let one : turn_length hands round sender ≡ turn_length hands round (get_or senders k sender) = ap (turn_length hands round) sender_is in
     let b : bits message ≡ bits (get_or (hands sender.number) round []) = ap bits message_is in
     omega (arith, sum_by_more (turn_length hands round) senders k sender inside)
 
-pub turns_end_sum : (hands : ℕ → List Message) (round : ℕ) (table : Table) (from : ℕ) → turns_end hands round (turn_order table) from ≡ from + sum_by (turn_length hands round) table.senders
+pub turns_end_sum : (hands : ℕ → List Message) (round : ℕ) (table : Table) (from : ℕ)
+    → turns_end hands round (turn_order table) from ≡ from + sum_by (turn_length hands round) table.senders
 turns_end_sum hands round table from =
     let w = lengths hands round in
     turns_end_cycle hands round (turn_order table) from ∙ ap (λ n. from + n) (cycle_sort w (turn_key table.mode) table.senders ∙ sym (cycle_sum w table.senders))
@@ -49,7 +52,8 @@ pub record EndsAt (hands : ℕ → List Message) (sg : ℕ) (order : List Sender
   pub before : greatest_end (schedule hands sg order round) ≤ origin hands sg order round
   pub end : greatest_end (schedule hands sg order (suc round)) ≡ turns_end hands round order (origin hands sg order round)
 
-end_behind : (hands : ℕ → List Message) (sg : ℕ) (order : List Sender) (round : ℕ) → 0 < length order → greatest_end (schedule hands sg order round) ≤ origin hands sg order round
+end_behind : (hands : ℕ → List Message) (sg : ℕ) (order : List Sender) (round : ℕ) → 0 < length order
+    → greatest_end (schedule hands sg order round) ≤ origin hands sg order round
     → greatest_end (schedule hands sg order (suc round)) ≡ turns_end hands round order (origin hands sg order round)
 end_behind hands sg [] round some before = absurd (omega arith)
 end_behind hands sg (sender ∷ order) round some before =
@@ -64,7 +68,8 @@ ends_at hands sg order (suc round) some =
     record { before = low; end = end_behind hands sg order (suc round) some low }
 
 -- no round ends behind the last
-pub end_grows : (hands : ℕ → List Message) (sg : ℕ) (order : List Sender) (round count : ℕ) → 0 < length order → round < count → greatest_end (schedule hands sg order (suc round)) ≤ greatest_end (schedule hands sg order count)
+pub end_grows : (hands : ℕ → List Message) (sg : ℕ) (order : List Sender) (round count : ℕ) → 0 < length order → round < count
+    → greatest_end (schedule hands sg order (suc round)) ≤ greatest_end (schedule hands sg order count)
 end_grows hands sg order round zero some less = absurd (omega arith)
 end_grows hands sg order round (suc count) some less =
     let so : EndsAt hands sg order count = ends_at hands sg order count some in
@@ -82,7 +87,9 @@ some_turn table valid =
     omega (arith, length-sort (turn_key table.mode) table.senders, facts.some)
 
 -- no round of a table ends behind the closed end
-pub round_short : (table : Table) (hands : List Hand) (round from : ℕ) → IsTrue (is_valid table) → round < rounds hands → from ≡ origin (messages_of hands) table.sg (turn_order table) round → turns_end (messages_of hands) round (turn_order table) from ≤ closed_end table hands
+pub round_short : (table : Table) (hands : List Hand) (round from : ℕ) → IsTrue (is_valid table) → round < rounds hands
+    → from ≡ origin (messages_of hands) table.sg (turn_order table) round
+    → turns_end (messages_of hands) round (turn_order table) from ≤ closed_end table hands
 round_short table hands round from valid less from_is =
     let some : 0 < length (turn_order table) = some_turn table valid in
     let so : EndsAt (messages_of hands) table.sg (turn_order table) round = ends_at (messages_of hands) table.sg (turn_order table) round some in
@@ -91,8 +98,10 @@ round_short table hands round from valid less from_is =
     omega (arith, so.end)
 
 -- one round more of the schedule
-pub round_added : (hands : ℕ → List Message) (own order_sg : ℕ) (order : List Sender) (round from end : ℕ) (list list' : List Entry) → list ≡ schedule hands order_sg order round → from ≡ origin hands order_sg order round → own ≡ order_sg
-    → list' ≡ list ++ turns hands round order from → end ≡ turns_end hands round order from → (list' ≡ schedule hands order_sg order (round + 1)) × (end + own ≡ origin hands order_sg order (round + 1))
+pub round_added : (hands : ℕ → List Message) (own order_sg : ℕ) (order : List Sender) (round from end : ℕ) (list list' : List Entry)
+    → list ≡ schedule hands order_sg order round → from ≡ origin hands order_sg order round → own ≡ order_sg
+    → list' ≡ list ++ turns hands round order from → end ≡ turns_end hands round order from
+    → (list' ≡ schedule hands order_sg order (round + 1)) × (end + own ≡ origin hands order_sg order (round + 1))
 round_added hands own sg order round from end list list' list_is from_is own_is added end_is =
     let one : suc round ≡ round + 1 = omega arith in
     let last : end ≡ turns_end hands round order (origin hands sg order round) = end_is ∙ ap (turns_end hands round order) from_is in (
@@ -101,8 +110,10 @@ round_added hands own sg order round from end list list' list_is from_is own_is 
     )
 
 -- one round more, by its length, which the order of the senders doesn't change
-pub round_more : (table : Table) (hands : ℕ → List Message) (round from span end sg : ℕ) → IsTrue (is_valid table) → from ≡ origin hands table.sg (turn_order table) round → span ≡ sum_by (turn_length hands round) table.senders → sg ≡ table.sg
-    → end ≡ from + span → (end + sg ≡ origin hands table.sg (turn_order table) (round + 1)) × (end ≡ greatest_end (schedule hands table.sg (turn_order table) (round + 1)))
+pub round_more : (table : Table) (hands : ℕ → List Message) (round from span end sg : ℕ) → IsTrue (is_valid table)
+    → from ≡ origin hands table.sg (turn_order table) round → span ≡ sum_by (turn_length hands round) table.senders → sg ≡ table.sg
+    → end ≡ from + span
+    → (end + sg ≡ origin hands table.sg (turn_order table) (round + 1)) × (end ≡ greatest_end (schedule hands table.sg (turn_order table) (round + 1)))
 round_more table hands round from span end sg valid from_is span_is sg_is end_is =
     let order = turn_order table in
     let one : suc round ≡ round + 1 = omega arith in

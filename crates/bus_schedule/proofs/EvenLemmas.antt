@@ -41,22 +41,26 @@ dealt count (s ∷ senders) (hand ∷ hands) (suc k) sender d a e at =
     let there : HandAt hands k sender count = dealt count senders hands k sender d.1 two.1 many.1 at in
     record { hand = there.hand; at = there.at; messages = hand_of_other s senders hand hands sender d number (at_in senders k sender at) ∙ there.messages; whole = there.whole }
 
-pub hand_at : (table : Table) (hands : List Hand) (k : ℕ) (sender : Sender) → IsTrue (is_valid table) → IsTrue (are_even table hands) → slice_get table.senders k ≡ Some sender → HandAt hands k sender (rounds hands)
+pub hand_at : (table : Table) (hands : List Hand) (k : ℕ) (sender : Sender) → IsTrue (is_valid table) → IsTrue (are_even table hands)
+    → slice_get table.senders k ≡ Some sender → HandAt hands k sender (rounds hands)
 hand_at table hands k sender valid even at =
     let parts = and_parts (are_hands table.senders hands) (list_all (λ hand. length hand.messages == rounds hands) hands) even in
     dealt (rounds hands) table.senders hands k sender (numbers_differ table (valid_facts table valid)) parts.0 parts.1 at
 
 -- a sender that is read stands in the table
-pub read_sender : (table : Table) (senders : List Sender) (k : ℕ) (sender : Sender) → senders ≡ table.senders → k < length senders → sender ≡ get_or senders k sender → slice_get table.senders k ≡ Some sender
+pub read_sender : (table : Table) (senders : List Sender) (k : ℕ) (sender : Sender) → senders ≡ table.senders → k < length senders
+    → sender ≡ get_or senders k sender → slice_get table.senders k ≡ Some sender
 read_sender table senders k sender same inside is = ap (λ ss. slice_get ss k) (sym same) ∙ slice_get_read senders (length senders) k sender refl inside is
 
-pub hand_within : (table : Table) (hands : List Hand) (k : ℕ) (sender : Sender) → IsTrue (is_valid table) → IsTrue (are_even table hands) → slice_get table.senders k ≡ Some sender → k < length hands
+pub hand_within : (table : Table) (hands : List Hand) (k : ℕ) (sender : Sender) → IsTrue (is_valid table) → IsTrue (are_even table hands)
+    → slice_get table.senders k ≡ Some sender → k < length hands
 hand_within table hands k sender valid even at =
     let there : HandAt hands k sender (rounds hands) = hand_at table hands k sender valid even at in
     slice_get_within hands k there.hand there.at
 
 -- the hand that is read at the place of a sender is that sender's
-read_hand : (table : Table) (hands : List Hand) (k : ℕ) (sender : Sender) (hand : Hand) → IsTrue (is_valid table) → IsTrue (are_even table hands) → slice_get table.senders k ≡ Some sender → hand ≡ get_or hands k hand
+read_hand : (table : Table) (hands : List Hand) (k : ℕ) (sender : Sender) (hand : Hand) → IsTrue (is_valid table) → IsTrue (are_even table hands)
+    → slice_get table.senders k ≡ Some sender → hand ≡ get_or hands k hand
     → (messages_of hands sender.number ≡ hand.messages) × (length hand.messages ≡ rounds hands)
 read_hand table hands k sender hand valid even at hand_is =
     let there : HandAt hands k sender (rounds hands) = hand_at table hands k sender valid even at in
@@ -65,15 +69,18 @@ read_hand table hands k sender hand valid even at hand_is =
     (there.messages ∙ sym m, ap length m ∙ there.whole)
 
 -- it has a message for each round, and the message that is read of it is the sender's of this round
-pub message_there : (table : Table) (hands : List Hand) (k round : ℕ) (sender : Sender) (hand : Hand) (messages : List Message) → IsTrue (is_valid table) → IsTrue (are_even table hands) → round < rounds hands
+pub message_there : (table : Table) (hands : List Hand) (k round : ℕ) (sender : Sender) (hand : Hand) (messages : List Message)
+    → IsTrue (is_valid table) → IsTrue (are_even table hands) → round < rounds hands
     → slice_get table.senders k ≡ Some sender → hand ≡ get_or hands k hand → messages ≡ hand.messages → round < length messages
 message_there table hands k round sender hand messages valid even less at hand_is messages_is =
     let r = read_hand table hands k sender hand valid even at hand_is in
     let long : length messages ≡ rounds hands = ap length messages_is ∙ r.1 in
     omega arith
 
-pub message_at : (table : Table) (hands : List Hand) (k round : ℕ) (sender : Sender) (hand : Hand) (messages : List Message) (message : Message) → IsTrue (is_valid table) → IsTrue (are_even table hands) → round < rounds hands
-    → slice_get table.senders k ≡ Some sender → hand ≡ get_or hands k hand → messages ≡ hand.messages → message ≡ get_or messages round message → message ≡ get_or (messages_of hands sender.number) round []
+pub message_at : (table : Table) (hands : List Hand) (k round : ℕ) (sender : Sender) (hand : Hand) (messages : List Message) (message : Message)
+    → IsTrue (is_valid table) → IsTrue (are_even table hands) → round < rounds hands
+    → slice_get table.senders k ≡ Some sender → hand ≡ get_or hands k hand → messages ≡ hand.messages → message ≡ get_or messages round message
+    → message ≡ get_or (messages_of hands sender.number) round []
 message_at table hands k round sender hand messages message valid even less at hand_is messages_is message_is =
     let r = read_hand table hands k sender hand valid even at hand_is in
     get_or_read messages round message (message_there table hands k round sender hand messages valid even less at hand_is messages_is) message_is [] ∙ ap (λ ms. get_or ms round []) (messages_is ∙ sym r.0)

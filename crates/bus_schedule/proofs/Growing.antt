@@ -25,7 +25,8 @@ pub record Setting (table : Table) (hands : ℕ → List Message) (n : ℕ) : Ty
   pub sound : (sender : Sender) → In sender table.senders → IsSound (timing_of table sender)
   pub hand : (sender : Sender) → In sender table.senders → HasHand hands n sender
 
-pub sendable : (table : Table) (hands : ℕ → List Message) (n : ℕ) → Setting table hands n → (sender : Sender) (round : ℕ) → In sender table.senders → round < n → Sendable sender (hands sender.number) round (get_or (hands sender.number) round [])
+pub sendable : (table : Table) (hands : ℕ → List Message) (n : ℕ) → Setting table hands n → (sender : Sender) (round : ℕ) → In sender table.senders
+    → round < n → Sendable sender (hands sender.number) round (get_or (hands sender.number) round [])
 sendable table hands n setting sender round i less = message_of table hands n sender round setting.facts i (setting.hand sender i) less
 
 pub end_push : (list : List Entry) (x : Entry) (e : ℕ) → greatest_end list ≡ e → e ≤ x.moment → greatest_end (list ++ x ∷ []) ≡ end_of x
@@ -87,5 +88,6 @@ module _ (settled : ChainSettled) (step : ChainStep) (starting : ChainStarts) (t
     ends = refl;
   }
 
-pub sofar_lawful : LawfulToHorizon → (table : Table) (hands : ℕ → List Message) (list : List Entry) (e : ℕ) (due gap count : ℕ → ℕ) → Sofar table hands list e due gap count → IsLawful (quiet_of table) (stations table hands) (greatest_end list) list
+pub sofar_lawful : LawfulToHorizon → (table : Table) (hands : ℕ → List Message) (list : List Entry) (e : ℕ) (due gap count : ℕ → ℕ)
+    → Sofar table hands list e due gap count → IsLawful (quiet_of table) (stations table hands) (greatest_end list) list
 sofar_lawful whole table hands list e due gap count so = subst (λ end. IsLawful (quiet_of table) (stations table hands) end list) (sym so.ends) (whole (quiet_of table) (stations table hands) e list so.law)

@@ -35,11 +35,14 @@ hand_there : (hand : Hand) (hands : List Hand) (number : ℕ) → hand.terminal 
 hand_there hand hands number e = rw (ne_eqb hand.terminal number e) refl
 
 -- the hand of the first sender isn't that of another
-pub hand_of_other : (a : Sender) (senders : List Sender) (hand : Hand) (hands : List Hand) (b : Sender) → Differ (λ s. s.number) (a ∷ senders) → hand.terminal ≡ a.number → In b senders → messages_of (hand ∷ hands) b.number ≡ messages_of hands b.number
+pub hand_of_other : (a : Sender) (senders : List Sender) (hand : Hand) (hands : List Hand) (b : Sender) → Differ (λ s. s.number) (a ∷ senders)
+    → hand.terminal ≡ a.number → In b senders → messages_of (hand ∷ hands) b.number ≡ messages_of hands b.number
 hand_of_other a senders hand hands b d same i = hand_there hand hands b.number (λ e. d.0 b i (sym same ∙ e))
 
 -- one hand for each sender
-pub own_hand : (n : ℕ) (senders : List Sender) (hands : List Hand) → are_hands senders hands ≡ true → list_all (λ hand. length hand.messages == n) hands ≡ true → Differ (λ s. s.number) senders → (sender : Sender) → In sender senders → HasHand (messages_of hands) n sender
+pub own_hand : (n : ℕ) (senders : List Sender) (hands : List Hand) → are_hands senders hands ≡ true
+    → list_all (λ hand. length hand.messages == n) hands ≡ true → Differ (λ s. s.number) senders → (sender : Sender) → In sender senders
+    → HasHand (messages_of hands) n sender
 own_hand n [] hands h counts d sender i = absurd i
 own_hand n (a ∷ senders) [] h counts d sender i = absurd cc
 own_hand n (a ∷ senders) (hand ∷ hands) h counts d sender (inl same) =
@@ -117,7 +120,8 @@ some_lines table sender facts =
     omega arith
 
 -- the message of a sender in a round
-pub message_of : (table : Table) (hands : ℕ → List Message) (n : ℕ) (sender : Sender) (round : ℕ) → TableFacts table → In sender table.senders → HasHand hands n sender → round < n → Sendable sender (hands sender.number) round (get_or (hands sender.number) round [])
+pub message_of : (table : Table) (hands : ℕ → List Message) (n : ℕ) (sender : Sender) (round : ℕ) → TableFacts table → In sender table.senders
+    → HasHand hands n sender → round < n → Sendable sender (hands sender.number) round (get_or (hands sender.number) round [])
 message_of table hands n sender round facts i own less =
     let count : length (hands sender.number) ≡ n = own.count in
     let within : round < length (hands sender.number) = omega arith in

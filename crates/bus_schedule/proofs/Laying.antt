@@ -43,7 +43,8 @@ laid_push list x e low some laid = record {
 }
 
 -- the turns of a round, behind a list
-pub laid_turns : (hands : ℕ → List Message) (round : ℕ) (order : List Sender) (from : ℕ) (list : List Entry) → ((sender : Sender) → In sender order → 0 < bits (get_or (hands sender.number) round []))
+pub laid_turns : (hands : ℕ → List Message) (round : ℕ) (order : List Sender) (from : ℕ) (list : List Entry)
+    → ((sender : Sender) → In sender order → 0 < bits (get_or (hands sender.number) round []))
     → IsLaid list from → IsLaid (list ++ turns hands round order from) (turns_end hands round order from)
 laid_turns hands round [] from list some laid = subst (λ l. IsLaid l from) (sym (append-nil list)) laid
 laid_turns hands round (sender ∷ order) from list some laid =
@@ -53,7 +54,8 @@ laid_turns hands round (sender ∷ order) from list some laid =
     (laid_turns hands round order (end_of x) (list ++ x ∷ []) (λ b i. some b (inr i)) one)
 
 -- so many rounds
-pub laid_schedule : (hands : ℕ → List Message) (sg : ℕ) (order : List Sender) (n : ℕ) → ((sender : Sender) (round : ℕ) → In sender order → round < n → 0 < bits (get_or (hands sender.number) round []))
+pub laid_schedule : (hands : ℕ → List Message) (sg : ℕ) (order : List Sender) (n : ℕ)
+    → ((sender : Sender) (round : ℕ) → In sender order → round < n → 0 < bits (get_or (hands sender.number) round []))
     → IsLaid (schedule hands sg order n) (origin hands sg order n)
 laid_schedule hands sg order zero some = record { ended = λ x i. absurd i; begun = λ x i. absurd i; ascends = tt; clear = tt }
 laid_schedule hands sg order (suc n) some =

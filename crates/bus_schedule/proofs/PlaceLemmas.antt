@@ -37,13 +37,15 @@ place_within table places i h less =
     let so : Told (slice_get table.senders) places (turn_order table) i 0 = told (slice_get table.senders) places (turn_order table) i 0 h less in
     slice_get_within table.senders (get_or places i 0) so.value so.at
 
-pub turn_sender : (table : Table) (senders : List Sender) (places : List ℕ) (i : ℕ) (sender : Sender) → senders ≡ table.senders → AreInTurn table places → i < length places → sender ≡ get_or senders (get_or places i 0) sender
+pub turn_sender : (table : Table) (senders : List Sender) (places : List ℕ) (i : ℕ) (sender : Sender) → senders ≡ table.senders
+    → AreInTurn table places → i < length places → sender ≡ get_or senders (get_or places i 0) sender
     → slice_get table.senders (get_or places i 0) ≡ Some sender
 turn_sender table senders places i sender same h less is =
     let inside : get_or places i 0 < length table.senders = place_within table places i h less in
     read_sender table senders (get_or places i 0) sender same (omega (arith, ap length same)) is
 
-pub turn_behind : (table : Table) (places : List ℕ) (i : ℕ) (sender : Sender) → AreInTurn table places → i < length places → slice_get table.senders (get_or places i 0) ≡ Some sender
+pub turn_behind : (table : Table) (places : List ℕ) (i : ℕ) (sender : Sender) → AreInTurn table places → i < length places
+    → slice_get table.senders (get_or places i 0) ≡ Some sender
     → drop i (turn_order table) ≡ sender ∷ drop (i + 1) (turn_order table)
 turn_behind table places i sender h less at =
     let so : Told (slice_get table.senders) places (turn_order table) i 0 = told (slice_get table.senders) places (turn_order table) i 0 h less in
@@ -58,7 +60,8 @@ pub record Leads (hands : ℕ → List Message) (round : ℕ) (left : List Sende
 
 -- and so it does with one turn more, and one less that is left
 pub turn_more : (hands : ℕ → List Message) (round : ℕ) (left rest : List Sender) (from last : ℕ) (list whole : List Entry) (sender : Sender) (message : Message) (list' : List Entry) (from' : ℕ)
-    → Leads hands round left from last list whole → left ≡ sender ∷ rest → message ≡ get_or (hands sender.number) round [] → list' ≡ list ++ record { moment = from + sender.tg; terminal = sender.number; message = message } ∷ []
+    → Leads hands round left from last list whole → left ≡ sender ∷ rest → message ≡ get_or (hands sender.number) round []
+    → list' ≡ list ++ record { moment = from + sender.tg; terminal = sender.number; message = message } ∷ []
     → from' ≡ from + sender.tg + bits message → Leads hands round rest from' last list' whole
 turn_more hands round left rest from last list whole sender message list' from' so left_is message_is list_is from_is =
     let due = get_or (hands sender.number) round [] in
@@ -72,7 +75,8 @@ turn_more hands round left rest from last list whole sender message list' from' 
     }
 
 -- where none is left, it is the whole
-pub none_left : (hands : ℕ → List Message) (round i : ℕ) (order : List Sender) (from last : ℕ) (list whole : List Entry) → length order ≤ i → Leads hands round (drop i order) from last list whole → (list ≡ whole) × (from ≡ last)
+pub none_left : (hands : ℕ → List Message) (round i : ℕ) (order : List Sender) (from last : ℕ) (list whole : List Entry) → length order ≤ i
+    → Leads hands round (drop i order) from last list whole → (list ≡ whole) × (from ≡ last)
 none_left hands round i order from last list whole all so =
     let none : drop i order ≡ [] = drop_all i order all in
     (sym (append-nil list) ∙ ap (λ ss. list ++ turns hands round ss from) (sym none) ∙ so.turns, ap (λ ss. turns_end hands round ss from) (sym none) ∙ so.end)
@@ -81,7 +85,8 @@ pub as_long : (table : Table) (places : List ℕ) → AreInTurn table places →
 as_long table places h = sym (length-map places (slice_get table.senders)) ∙ ap length h ∙ length-map (turn_order table) Some
 
 -- the first sender with the number of one is this one
-first_place : (senders : List Sender) (k : ℕ) (sender : Sender) → Differ (λ s. s.number) senders → slice_get senders k ≡ Some sender → position_or_len (λ s. s.number == sender.number) senders ≡ k
+first_place : (senders : List Sender) (k : ℕ) (sender : Sender) → Differ (λ s. s.number) senders → slice_get senders k ≡ Some sender
+    → position_or_len (λ s. s.number == sender.number) senders ≡ k
 first_place [] k sender d at = absurd cc
 first_place (s ∷ senders) zero sender d at =
     let same : s ≡ sender = cc in
@@ -96,7 +101,8 @@ pub record StandsAt (table : Table) (turn number : ℕ) : Type 0 where
   pub there : slice_get table.senders place ≡ Some sender
   pub found : position (λ s. s.number == number) table.senders ≡ Some place
 
-pub stands_at : (table : Table) (turn number : ℕ) → IsTrue (is_valid table) → IsSomeAnd (slice_get (turn_order table) turn) (λ sender. number ≡ sender.number) → StandsAt table turn number
+pub stands_at : (table : Table) (turn number : ℕ) → IsTrue (is_valid table)
+    → IsSomeAnd (slice_get (turn_order table) turn) (λ sender. number ≡ sender.number) → StandsAt table turn number
 stands_at table turn number valid h =
     named (slice_get (turn_order table) turn) refl h
   where
@@ -110,7 +116,8 @@ stands_at table turn number valid h =
         let found : position p table.senders ≡ Some w.0 = ap (λ i. cond (nat_lt i (length table.senders)) (Some i) None) first ∙ rw (lt-ltb w.0 (length table.senders) inside) refl in
         record { sender = sender; place = w.0; at = at; there = w.1; found = ap (λ n. position (λ (s : Sender). s.number == n) table.senders) same ∙ found }
 
-pub is_found : (table : Table) (senders : List Sender) (turn number : ℕ) (found : Option ℕ) → IsTrue (is_valid table) → senders ≡ table.senders → IsSomeAnd (slice_get (turn_order table) turn) (λ sender. number ≡ sender.number)
+pub is_found : (table : Table) (senders : List Sender) (turn number : ℕ) (found : Option ℕ) → IsTrue (is_valid table) → senders ≡ table.senders
+    → IsSomeAnd (slice_get (turn_order table) turn) (λ sender. number ≡ sender.number)
     → found ≡ position (λ s. s.number == number) senders → IsSome found
 is_found table senders turn number found valid same h is =
     let so : StandsAt table turn number = stands_at table turn number valid h in
@@ -118,8 +125,10 @@ is_found table senders turn number found valid same h is =
     ap is_some e
 
 -- one place more
-pub place_more : (table : Table) (senders : List Sender) (turn number place : ℕ) (found : Option ℕ) (places places' : List ℕ) → IsTrue (is_valid table) → senders ≡ table.senders → IsSomeAnd (slice_get (turn_order table) turn) (λ sender. number ≡ sender.number)
-    → found ≡ position (λ s. s.number == number) senders → found ≡ Some place → places' ≡ places ++ place ∷ [] → map (slice_get table.senders) places ≡ map Some (take turn (turn_order table))
+pub place_more : (table : Table) (senders : List Sender) (turn number place : ℕ) (found : Option ℕ) (places places' : List ℕ)
+    → IsTrue (is_valid table) → senders ≡ table.senders → IsSomeAnd (slice_get (turn_order table) turn) (λ sender. number ≡ sender.number)
+    → found ≡ position (λ s. s.number == number) senders → found ≡ Some place → places' ≡ places ++ place ∷ []
+    → map (slice_get table.senders) places ≡ map Some (take turn (turn_order table))
     → map (slice_get table.senders) places' ≡ map Some (take (turn + 1) (turn_order table))
 place_more table senders turn number place found places places' valid same h found_is place_is places_is so =
     let w : StandsAt table turn number = stands_at table turn number valid h in
@@ -131,7 +140,8 @@ place_more table senders turn number place found places places' valid same h fou
     ap (map (slice_get table.senders)) places_is ∙ map-append (slice_get table.senders) places (place ∷ []) ∙ ap (λ l. l ++ slice_get table.senders place ∷ []) so ∙ ap (λ o. map Some (take turn (turn_order table)) ++ o ∷ []) (ap (slice_get table.senders) e ∙ w.there)
     ∙ sym (map-append Some (take turn (turn_order table)) (w.sender ∷ [])) ∙ ap (map Some) (sym more)
 
-pub places_whole : (table : Table) (places : List ℕ) (turn : ℕ) → length table.senders ≤ turn → map (slice_get table.senders) places ≡ map Some (take turn (turn_order table)) → AreInTurn table places
+pub places_whole : (table : Table) (places : List ℕ) (turn : ℕ) → length table.senders ≤ turn
+    → map (slice_get table.senders) places ≡ map Some (take turn (turn_order table)) → AreInTurn table places
 places_whole table places turn all so =
     let long : length (turn_order table) ≡ length table.senders = length-sort (turn_key table.mode) table.senders in
     so ∙ ap (map Some) (take_all turn (turn_order table) (omega arith))

@@ -24,7 +24,8 @@ pub length-turns : (hands : ℕ → List Message) (round : ℕ) (order : List Se
 length-turns hands round [] from = refl
 length-turns hands round (sender ∷ order) from = ap suc (length-turns hands round order (end_of (sends hands round sender (from + sender.tg))))
 
-pub turns_at : (hands : ℕ → List Message) (round : ℕ) (order : List Sender) (from turn : ℕ) (sender : Sender) → slice_get order turn ≡ Some sender → (moment : ℕ) × (slice_get (turns hands round order from) turn ≡ Some (sends hands round sender moment))
+pub turns_at : (hands : ℕ → List Message) (round : ℕ) (order : List Sender) (from turn : ℕ) (sender : Sender) → slice_get order turn ≡ Some sender
+    → (moment : ℕ) × (slice_get (turns hands round order from) turn ≡ Some (sends hands round sender moment))
 turns_at hands round [] from turn sender h = absurd (let k : None ≡ Some sender = h in cc)
 turns_at hands round (a ∷ order) from zero sender h = let e : a ≡ sender = let k : Some a ≡ Some sender = h in cc in (from + a.tg, ap (λ s. Some (sends hands round s (from + a.tg))) e)
 turns_at hands round (a ∷ order) from (suc turn) sender h = turns_at hands round order (end_of (sends hands round a (from + a.tg))) turn sender h
@@ -45,7 +46,8 @@ length-schedule hands sg order (suc n) =
     ∙ omega (arith, length-schedule hands sg order n, length-turns hands n order (origin hands sg order n), more_turns n (length order))
 
 -- turn `turn` of round `round` stands at its place
-pub schedule_at : (hands : ℕ → List Message) (sg : ℕ) (order : List Sender) (n round turn : ℕ) (x : Entry) → round < n → slice_get (turns hands round order (origin hands sg order round)) turn ≡ Some x
+pub schedule_at : (hands : ℕ → List Message) (sg : ℕ) (order : List Sender) (n round turn : ℕ) (x : Entry) → round < n
+    → slice_get (turns hands round order (origin hands sg order round)) turn ≡ Some x
     → slice_get (schedule hands sg order n) (round * length order + turn) ≡ Some x
 schedule_at hands sg order zero round turn x less at = absurd (omega arith)
 schedule_at hands sg order (suc n) round turn x less at =
@@ -63,7 +65,8 @@ schedule_at hands sg order (suc n) round turn x less at =
     ]
 
 -- and what stands there is that turn
-pub schedule_get : (hands : ℕ → List Message) (sg : ℕ) (order : List Sender) (n round turn : ℕ) (x : Entry) → turn < length order → slice_get (schedule hands sg order n) (round * length order + turn) ≡ Some x
+pub schedule_get : (hands : ℕ → List Message) (sg : ℕ) (order : List Sender) (n round turn : ℕ) (x : Entry) → turn < length order
+    → slice_get (schedule hands sg order n) (round * length order + turn) ≡ Some x
     → (round < n) × (slice_get (turns hands round order (origin hands sg order round)) turn ≡ Some x)
 schedule_get hands sg order zero round turn x inside at = absurd (let w : None ≡ Some x = at in cc)
 schedule_get hands sg order (suc n) round turn x inside at =

@@ -54,7 +54,8 @@ lead_more w v (a ∷ bs) (suc turn) h =
 abbrev pub lengths : (ℕ → List Message) → ℕ → Sender → ℕ
 lengths hands round sender = bits (get_or (hands sender.number) round [])
 
-pub turns_end_cycle : (hands : ℕ → List Message) (round : ℕ) (order : List Sender) (from : ℕ) → turns_end hands round order from ≡ from + cycle (lengths hands round) order
+pub turns_end_cycle : (hands : ℕ → List Message) (round : ℕ) (order : List Sender) (from : ℕ)
+    → turns_end hands round order from ≡ from + cycle (lengths hands round) order
 turns_end_cycle hands round [] from = omega arith
 turns_end_cycle hands round (a ∷ bs) from = turns_end_cycle hands round bs (end_of (sends hands round a (from + a.tg))) ∙ omega arith
 
@@ -65,7 +66,8 @@ pub record IsTurn (hands : ℕ → List Message) (round : ℕ) (order : List Sen
   pub terminal : x.terminal ≡ sender.number
   pub moment : x.moment ≡ from + lead (lengths hands round) order turn
 
-pub is_turn : (hands : ℕ → List Message) (round : ℕ) (order : List Sender) (from turn : ℕ) (x : Entry) → slice_get (turns hands round order from) turn ≡ Some x → IsTurn hands round order from turn x
+pub is_turn : (hands : ℕ → List Message) (round : ℕ) (order : List Sender) (from turn : ℕ) (x : Entry)
+    → slice_get (turns hands round order from) turn ≡ Some x → IsTurn hands round order from turn x
 is_turn hands round [] from turn x h = absurd (let k : None ≡ Some x = h in cc)
 is_turn hands round (a ∷ bs) from zero x h =
     let e : sends hands round a (from + a.tg) ≡ x = let k : Some (sends hands round a (from + a.tg)) ≡ Some x = h in cc in

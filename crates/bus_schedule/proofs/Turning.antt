@@ -46,7 +46,8 @@ ahead_here w a bs n e = rw (eq-eqb n a.number e) refl
 ahead_there : (w : Sender → ℕ) (a : Sender) (bs : List Sender) (n : ℕ) → n ≢ a.number → ahead w (a ∷ bs) n ≡ a.tg + w a + ahead w bs n
 ahead_there w a bs n e = rw (ne_eqb n a.number e) refl
 
-ahead_middle : (w : Sender → ℕ) (done : List Sender) (a : Sender) (rest : List Sender) → ((b : Sender) → In b done → a.number ≢ b.number) → ahead w (done ++ a ∷ rest) a.number ≡ cycle w done + a.tg
+ahead_middle : (w : Sender → ℕ) (done : List Sender) (a : Sender) (rest : List Sender) → ((b : Sender) → In b done → a.number ≢ b.number)
+    → ahead w (done ++ a ∷ rest) a.number ≡ cycle w done + a.tg
 ahead_middle w [] a rest h = ahead_here w a rest a.number refl ∙ omega arith
 ahead_middle w (c ∷ done) a rest h = ahead_there w c (done ++ a ∷ rest) a.number (h c (inl refl)) ∙ omega (arith, ahead_middle w done a rest (λ b i. h b (inr i)))
 
@@ -71,7 +72,8 @@ pub record Turn (w : Sender → ℕ) (table : Table) (hands : ℕ → List Messa
   pub spent_count : (a : Sender) → In a done → count a.number ≡ suc round
 
 -- behind a round the next one begins, one synchronization gap later
-pub round_on : (w : Sender → ℕ) (table : Table) (hands : ℕ → List Message) (round from : ℕ) (list : List Entry) → Turn w table hands (turn_order table) [] round from list → Turn w table hands [] (turn_order table) (suc round) (from + table.sg) list
+pub round_on : (w : Sender → ℕ) (table : Table) (hands : ℕ → List Message) (round from : ℕ) (list : List Entry)
+    → Turn w table hands (turn_order table) [] round from list → Turn w table hands [] (turn_order table) (suc round) (from + table.sg) list
 round_on w table hands round from list t = record {
   e = t.e;
   due = t.due;

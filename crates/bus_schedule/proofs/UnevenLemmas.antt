@@ -25,18 +25,22 @@ both false b h k = absurd cc
 both true false h k = absurd cc
 
 -- a sender that has as many messages isn't one that differs
-differing_same : (hands : List Hand) (one : ℕ) (other : Sender) (order : List Sender) → count_of hands other.number ≡ count_of hands one → differing hands one (other ∷ order) ≡ differing hands one order
+differing_same : (hands : List Hand) (one : ℕ) (other : Sender) (order : List Sender) → count_of hands other.number ≡ count_of hands one
+    → differing hands one (other ∷ order) ≡ differing hands one order
 differing_same hands one other order e = rw (eq-eqb (count_of hands other.number) (count_of hands one) e) refl
 
-differing_here : (hands : List Hand) (one : ℕ) (other : Sender) (order : List Sender) → count_of hands other.number ≢ count_of hands one → differing hands one (other ∷ order) ≡ Some (counts_of hands one other.number)
+differing_here : (hands : List Hand) (one : ℕ) (other : Sender) (order : List Sender) → count_of hands other.number ≢ count_of hands one
+    → differing hands one (other ∷ order) ≡ Some (counts_of hands one other.number)
 differing_here hands one other order e = rw (ne_eqb (count_of hands other.number) (count_of hands one) e) refl
 
 -- none differs where all have as many
-all_same : (hands : List Hand) (one : ℕ) (order : List Sender) → ((s : Sender) → In s order → count_of hands s.number ≡ count_of hands one) → differing hands one order ≡ None
+all_same : (hands : List Hand) (one : ℕ) (order : List Sender) → ((s : Sender) → In s order → count_of hands s.number ≡ count_of hands one)
+    → differing hands one order ≡ None
 all_same hands one [] h = refl
 all_same hands one (s ∷ order) h = differing_same hands one s order (h s (inl refl)) ∙ all_same hands one order (λ t i. h t (inr i))
 
-same_all : (hands : List Hand) (one : ℕ) (order : List Sender) → differing hands one order ≡ None → (s : Sender) → In s order → count_of hands s.number ≡ count_of hands one
+same_all : (hands : List Hand) (one : ℕ) (order : List Sender) → differing hands one order ≡ None → (s : Sender) → In s order
+    → count_of hands s.number ≡ count_of hands one
 same_all hands one [] h s i = absurd i
 same_all hands one (t ∷ order) h s i = elim (cases_eq (count_of hands t.number) (count_of hands one)) [
   | inl same ↦ elim i [
@@ -51,7 +55,8 @@ none_is None h = refl
 none_is (Some u) h = absurd cc
 
 -- each hand has as many messages as the sender to which it was dealt
-hands_count : (n : ℕ) (senders : List Sender) (hands : List Hand) → are_hands senders hands ≡ true → Differ (λ s. s.number) senders → ((s : Sender) → In s senders → count_of hands s.number ≡ n) → list_all (λ hand. length hand.messages == n) hands ≡ true
+hands_count : (n : ℕ) (senders : List Sender) (hands : List Hand) → are_hands senders hands ≡ true → Differ (λ s. s.number) senders
+    → ((s : Sender) → In s senders → count_of hands s.number ≡ n) → list_all (λ hand. length hand.messages == n) hands ≡ true
 hands_count n [] [] h d counts = refl
 hands_count n [] (hand ∷ hands) h d counts = absurd cc
 hands_count n (a ∷ senders) [] h d counts = absurd cc
@@ -68,12 +73,14 @@ rounds_first : (a : Sender) (senders : List Sender) (hands : List Hand) → are_
 rounds_first a senders [] h = absurd cc
 rounds_first a senders (hand ∷ hands) h = sym (ap length (hand_here hand hands a.number (eqb-true hand.terminal a.number (and_parts (hand.terminal == a.number) _ h).0)))
 
-rounds_is : (n : ℕ) (senders : List Sender) (hands : List Hand) → 0 < length senders → are_hands senders hands ≡ true → ((s : Sender) → In s senders → count_of hands s.number ≡ n) → rounds hands ≡ n
+rounds_is : (n : ℕ) (senders : List Sender) (hands : List Hand) → 0 < length senders → are_hands senders hands ≡ true
+    → ((s : Sender) → In s senders → count_of hands s.number ≡ n) → rounds hands ≡ n
 rounds_is n [] hands some h counts = absurd (omega arith)
 rounds_is n (a ∷ senders) hands some h counts = rounds_first a senders hands h ∙ counts a (inl refl)
 
 -- in an order of the table's senders, none differs from the first exactly where the hands are even
-in_order_even : (table : Table) (hands : List Hand) (order : List Sender) → TableFacts table → IsTrue (are_hands table.senders hands) → ((s : Sender) → In s order → In s table.senders) → ((s : Sender) → In s table.senders → In s order)
+in_order_even : (table : Table) (hands : List Hand) (order : List Sender) → TableFacts table → IsTrue (are_hands table.senders hands)
+    → ((s : Sender) → In s order → In s table.senders) → ((s : Sender) → In s table.senders → In s order)
     → IsNone (uneven_in hands order) ↔ IsTrue (are_even table hands)
 in_order_even table hands [] facts dealt from to =
     let none : (senders : List Sender) → 0 < length senders → ((s : Sender) → In s senders → ⊥) → ⊥ = λ senders some h. no_senders senders some h in
@@ -97,12 +104,14 @@ in_order_even table hands (first ∷ order) facts dealt from to =
           ap is_some (all_same hands first.number order (λ s i. (own s (from s (inr i))).count ∙ sym (own first (from first (inl refl))).count))),
     )
 
-pub uneven_even : (table : Table) (hands : List Hand) → IsTrue (is_valid table) → IsTrue (are_hands table.senders hands) → IsNone (uneven_of table hands) ↔ IsTrue (are_even table hands)
+pub uneven_even : (table : Table) (hands : List Hand) → IsTrue (is_valid table) → IsTrue (are_hands table.senders hands)
+    → IsNone (uneven_of table hands) ↔ IsTrue (are_even table hands)
 uneven_even table hands valid dealt = in_order_even table hands (turn_order table) (valid_facts table valid) dealt (from_sort (turn_key table.mode) table.senders) (in_sort (turn_key table.mode) table.senders)
 
 -- ---- the loop over the turn order
 -- what stands at a place of the order
-pub at_place : (order : List Sender) (k : ℕ) (number : ℕ) → IsSomeAnd (slice_get order k) (λ s. number ≡ s.number) → (s : Sender) × (slice_get order k ≡ Some s) × (number ≡ s.number)
+pub at_place : (order : List Sender) (k : ℕ) (number : ℕ) → IsSomeAnd (slice_get order k) (λ s. number ≡ s.number)
+    → (s : Sender) × (slice_get order k ≡ Some s) × (number ≡ s.number)
 at_place order k number h = chosen (slice_get order k) refl h
   where
     chosen : (o : Option Sender) → slice_get order k ≡ o → IsSomeAnd o (λ s. number ≡ s.number) → (s : Sender) × (slice_get order k ≡ Some s) × (number ≡ s.number)
@@ -113,18 +122,21 @@ pub drop_at : (order : List Sender) (k : ℕ) (s : Sender) → slice_get order k
 drop_at order k s h = drop_more order k s (slice_get_within order k s h) ∙ ap (λ t. t ∷ drop (k + 1) order) (get_or_from_slice_get order k s s h)
 
 -- the first of the order, and those behind it
-first_of_order : (hands : List Hand) (order : List Sender) (one : ℕ) → IsSomeAnd (slice_get order 0) (λ s. one ≡ s.number) → uneven_in hands order ≡ differing hands one (drop 1 order)
+first_of_order : (hands : List Hand) (order : List Sender) (one : ℕ) → IsSomeAnd (slice_get order 0) (λ s. one ≡ s.number)
+    → uneven_in hands order ≡ differing hands one (drop 1 order)
 first_of_order hands [] one h = absurd h
 first_of_order hands (s ∷ order) one h = ap (λ n. differing hands n order) (sym h)
 
 -- the first of the order doesn't differ from the one at this place
-pub still_same : (hands : List Hand) (order : List Sender) (one k other : ℕ) → IsSomeAnd (slice_get order k) (λ s. other ≡ s.number) → count_of hands other ≡ count_of hands one → differing hands one (drop (k + 1) order) ≡ differing hands one (drop k order)
+pub still_same : (hands : List Hand) (order : List Sender) (one k other : ℕ) → IsSomeAnd (slice_get order k) (λ s. other ≡ s.number)
+    → count_of hands other ≡ count_of hands one → differing hands one (drop (k + 1) order) ≡ differing hands one (drop k order)
 still_same hands order one k other h same =
     let at = at_place order k other h in
     sym (differing_same hands one at.0 (drop (k + 1) order) (ap (count_of hands) (sym at.2) ∙ same)) ∙ ap (differing hands one) (sym (drop_at order k at.0 at.1))
 
 -- it differs from the one at this place, and from none before it
-pub now_differs : (hands : List Hand) (order : List Sender) (one k other : ℕ) → IsSomeAnd (slice_get order 0) (λ s. one ≡ s.number) → IsSomeAnd (slice_get order k) (λ s. other ≡ s.number) → count_of hands other ≢ count_of hands one
+pub now_differs : (hands : List Hand) (order : List Sender) (one k other : ℕ) → IsSomeAnd (slice_get order 0) (λ s. one ≡ s.number)
+    → IsSomeAnd (slice_get order k) (λ s. other ≡ s.number) → count_of hands other ≢ count_of hands one
     → differing hands one (drop k order) ≡ differing hands one (drop 1 order) → Some (counts_of hands one other) ≡ uneven_in hands order
 now_differs hands order one k other first h apart so =
     let at = at_place order k other h in
@@ -133,7 +145,9 @@ now_differs hands order one k other first h apart so =
     ∙ ap (differing hands one) (sym (drop_at order k at.0 at.1)) ∙ so ∙ sym (first_of_order hands order one first)
 
 -- it differs from none
-pub never_differs : (table : Table) (hands : List Hand) (one k : ℕ) → IsSomeAnd (slice_get (turn_order table) 0) (λ s. one ≡ s.number) → length table.senders ≤ k → differing hands one (drop k (turn_order table)) ≡ differing hands one (drop 1 (turn_order table)) → None ≡ uneven_of table hands
+pub never_differs : (table : Table) (hands : List Hand) (one k : ℕ) → IsSomeAnd (slice_get (turn_order table) 0) (λ s. one ≡ s.number)
+    → length table.senders ≤ k → differing hands one (drop k (turn_order table)) ≡ differing hands one (drop 1 (turn_order table))
+    → None ≡ uneven_of table hands
 never_differs table hands one k first past so =
     let long : length (turn_order table) ≡ length table.senders = length-sort (turn_key table.mode) table.senders in
     ap (differing hands one) (sym (drop_past k (turn_order table) (omega arith))) ∙ so ∙ sym (first_of_order hands (turn_order table) one first)
@@ -148,5 +162,6 @@ never_differs table hands one k first past so =
     drop_past (suc n) (s ∷ order) h = drop_past n order (omega arith)
 
 -- the clause on even hands, of what was found
-pub even_of : (table : Table) (hands : List Hand) (found : Option Uneven) → found ≡ uneven_of table hands → IsTrue (is_valid table) → IsTrue (are_hands table.senders hands) → IsNone found ↔ IsTrue (are_even table hands)
+pub even_of : (table : Table) (hands : List Hand) (found : Option Uneven) → found ≡ uneven_of table hands → IsTrue (is_valid table)
+    → IsTrue (are_hands table.senders hands) → IsNone found ↔ IsTrue (are_even table hands)
 even_of table hands found e valid dealt = subst (λ o. IsNone o ↔ IsTrue (are_even table hands)) (sym e) (uneven_even table hands valid dealt)
