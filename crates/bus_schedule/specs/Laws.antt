@@ -1,11 +1,13 @@
 -- What follows of the definitions, with no limit on the closed end.
-use Rattle.std.specs.Prelude.{◌≡◌, IsTrue, List}
+use Rattle.std.specs.Prelude.{◌≡◌, ◌↔◌, IsNone, IsTrue, List}
 use Rattle.bus_strings.specs.Transmissions.{IsAscending}
 use Rattle.bus_table.specs.declared.mode.Mode.TheVariants.{Aperiodic}
 use Rattle.bus_table.specs.Tables.{Table, Hand}
+use Rattle.bus_table.specs.Hands.{are_hands}
 use Rattle.bus_table.specs.Valid.{is_valid}
 use Rattle.bus_regime.specs.Verdicts.{verdict_of, is_accepted}
 use Rattle.bus_schedule.specs.Even.{are_even}
+use Rattle.bus_schedule.specs.Uneven.{uneven_of}
 use Rattle.bus_schedule.specs.Closed.{closed}
 use Rattle.bus_schedule.specs.Runs.{IsClear, IsInTurns, IsRun}
 
@@ -26,3 +28,9 @@ abbrev pub ClosedIsOrderly : Type 0
 ClosedIsOrderly =
     (table : Table) (hands : List Hand) → IsTrue (is_valid table) → table.mode ≡ Aperiodic → IsTrue (are_even table hands)
     → IsOrderly table hands
+
+-- Dealt hands are even exactly where no sender differs from the first in turn order.
+abbrev pub EvenHandsAgree : Type 0
+EvenHandsAgree =
+    (table : Table) (hands : List Hand) → IsTrue (is_valid table) → IsTrue (are_hands table.senders hands)
+    → IsNone (uneven_of table hands) ↔ IsTrue (are_even table hands)

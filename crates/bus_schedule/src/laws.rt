@@ -1,5 +1,5 @@
 //! Laws of the definitions, each the contract of a function that does nothing.
-ghost use Rattle.bus_schedule.specs.Laws.{AcceptedIsClosed, ClosedIsOrderly};
+ghost use Rattle.bus_schedule.specs.Laws.{AcceptedIsClosed, ClosedIsOrderly, EvenHandsAgree};
 
 use bus_medium::laws::{chains_tell, one_lawful_list};
 
@@ -16,4 +16,9 @@ pub fn accepted_is_closed()
 /// The closed schedule of any aperiodic table and even hands ascends, has no overlap, and holds each sender once a cycle.
 pub fn closed_is_orderly()
     ensures { ClosedIsOrderly }
+{}
+
+/// Dealt hands are even exactly where no sender differs from the first in turn order.
+pub fn even_hands_agree()
+    ensures { EvenHandsAgree }
 {}

@@ -13,12 +13,11 @@ use Rattle.bus_outer.specs.declared.sink.WriteFault.{WriteFault as Fault}
 use Rattle.bus_table.specs.Tables.{Table, Hand}
 use Rattle.bus_regime.specs.declared.verdict.TableVerdict.{TableVerdict}
 use Rattle.bus_regime.specs.Verdicts.{verdict_of, is_accepted}
-use Rattle.bus_schedule.specs.declared.error.TheConstants.{LONGEST_END}
 use Rattle.bus_schedule.specs.declared.error.ScheduleError.{ScheduleError}
 use Rattle.bus_schedule.specs.declared.error.ScheduleError.TheVariants.{Memory as Small, TooLong as Long}
 use Rattle.bus_schedule.specs.declared.uneven.Uneven.{Uneven as UnevenHands}
 use Rattle.bus_schedule.specs.Closed.{closed_end}
-use Rattle.bus_schedule.specs.Limits.{IsRefused}
+use Rattle.bus_schedule.specs.Limits.{longest_end, IsRefused}
 use Rattle.bus_schedule.specs.Uneven.{uneven_of}
 use Rattle.bus_strings.specs.Messages.{Entry}
 use Rattle.bus_medium.specs.Lawful.{IsLawful}
@@ -58,7 +57,7 @@ accepted_stage : (verdict : TableVerdict) → 3 ≤ stage_in (accepted_due verdi
 accepted_stage verdict = elim (is_accepted verdict) as (λ b. 3 ≤ stage_in (accepted_if b verdict)) [ true ↦ omega arith | false ↦ omega arith ]
 
 short_stage : (end : ℕ) → 3 ≤ stage_in (short_due end)
-short_stage end = elim (nat_lt LONGEST_END end) as (λ b. 3 ≤ stage_in (short_if b end)) [ true ↦ omega arith | false ↦ omega arith ]
+short_stage end = elim (nat_lt longest_end end) as (λ b. 3 ≤ stage_in (short_if b end)) [ true ↦ omega arith | false ↦ omega arith ]
 
 may_stage : (table : Table) (hands : List Hand) → 3 ≤ stage_in (may_run table hands)
 may_stage table hands = then_stage 3 (even_due (uneven_of table hands)) (λ _. accepted_due (verdict_of table)) (even_stage (uneven_of table hands)) (λ _. accepted_stage (verdict_of table))
@@ -89,18 +88,18 @@ pub no_room : {X : Type 0} (IsOf : X → Unit {0} → Type 0) (table : Table) (h
 no_room IsOf table hands = (omega (arith, can_stage table hands), tt)
 
 -- a schedule that is too long
-long_due : (end : ℕ) → LONGEST_END < end → short_due end ≡ Err (TooLong end)
-long_due end h = let b : nat_lt LONGEST_END end ≡ true = grind (arith, nat_tests, h) in ap (λ b. short_if b end) b
+long_due : (end : ℕ) → longest_end < end → short_due end ≡ Err (TooLong end)
+long_due end h = let b : nat_lt longest_end end ≡ true = grind (arith, nat_tests, h) in ap (λ b. short_if b end) b
 
 pub no_schedule : {X : Type 0} (IsOf : X → Unit {0} → Type 0) (table : Table) (hands : List Hand) (error : ScheduleError) → may_run table hands ≡ Ok tt → IsRefused (closed_end table hands) error → Gives IsOf (Err (schedule_refusal error)) (can_run table hands) × IsLate (schedule_refusal error)
 no_schedule IsOf table hands Small may r = no_room IsOf table hands
 no_schedule IsOf table hands (Long end) may r = (ap (λ d. d >>= λ _. short_due (closed_end table hands)) may ∙ long_due (closed_end table hands) r.0 ∙ ap (λ n. Err (TooLong n)) (sym r.1), tt)
 
 -- ---- the run
-short_end : (end : ℕ) → end ≤ LONGEST_END → short_due end ≡ Ok tt
-short_end end h = let b : nat_lt LONGEST_END end ≡ false = grind (arith, nat_tests, h) in ap (λ b. short_if b end) b
+short_end : (end : ℕ) → end ≤ longest_end → short_due end ≡ Ok tt
+short_end end h = let b : nat_lt longest_end end ≡ false = grind (arith, nat_tests, h) in ap (λ b. short_if b end) b
 
-pub can_be_run : (table : Table) (hands : List Hand) → may_run table hands ≡ Ok tt → closed_end table hands ≤ LONGEST_END → can_run table hands ≡ Ok tt
+pub can_be_run : (table : Table) (hands : List Hand) → may_run table hands ≡ Ok tt → closed_end table hands ≤ longest_end → can_run table hands ≡ Ok tt
 can_be_run table hands may short = ap (λ d. d >>= λ _. short_due (closed_end table hands)) may ∙ short_end (closed_end table hands) short
 
 -- what was asked of the inputs is what is due of them
@@ -137,14 +136,11 @@ run_answered before after ghosts k k' recording outcome result p w h =
     (answered IsRunOf (λ inputs. Done) IsRunText 2 run_due before after ghosts k k' recording Done (trace_text recording) result (tells recording) p w)
 
 -- ---- the trace of a run
-pub within_limit : {X : Type 0} (end : ℕ) (x : X) → (LONGEST_END < end → (let r : Result X ScheduleError = Ok x in r) ≡ Err (Long end)) → end ≤ LONGEST_END
-within_limit end x long = elim (cases_lt LONGEST_END end) [ inl above ↦ (let e = long above in absurd cc) | inr within ↦ within ]
-
-pub run_is_trace : (table : Table) (hands : List Hand) (end : ℕ) (holds : List Hold) (list : List Entry) → end ≡ closed_end table hands → closed_end table hands ≤ LONGEST_END → AreFew hands → holds ≡ holds_of hands → IsRun table hands list → AllByRecursion IsRanged list → IsTrace (record { horizon = end; holds = holds; list = list })
+pub run_is_trace : (table : Table) (hands : List Hand) (end : ℕ) (holds : List Hold) (list : List Entry) → end ≡ closed_end table hands → closed_end table hands ≤ longest_end → AreFew hands → holds ≡ holds_of hands → IsRun table hands list → AllByRecursion IsRanged list → IsTrace (record { horizon = end; holds = holds; list = list })
 run_is_trace table hands end holds list e short few same run ranged =
     observed_is_trace table hands end holds list (omega arith) few same (subst (λ n. IsLawful (quiet_of table) (stations_of table hands) n list) (sym e) run.lawful) ranged
 
-pub run_gives : (table : Table) (hands : List Hand) (end : ℕ) (holds : List Hold) (list : List Entry) (recording : Recording) → may_run table hands ≡ Ok tt → closed_end table hands ≤ LONGEST_END → end ≡ closed_end table hands → holds ≡ holds_of hands → IsRun table hands list
+pub run_gives : (table : Table) (hands : List Hand) (end : ℕ) (holds : List Hold) (list : List Entry) (recording : Recording) → may_run table hands ≡ Ok tt → closed_end table hands ≤ longest_end → end ≡ closed_end table hands → holds ≡ holds_of hands → IsRun table hands list
     → recording ≡ record { horizon = end; holds = holds; list = list } → Gives (λ trace _. IsRan table hands trace) (Ok recording) (can_run table hands)
 run_gives table hands end holds list recording may short e same run is =
     (tt, can_be_run table hands may short, subst (IsRan table hands) (sym is) (record { horizon = e; holds = same; run = run }))

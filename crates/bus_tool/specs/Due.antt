@@ -16,11 +16,11 @@ use Rattle.bus_table.specs.Reading.{answer_of}
 use Rattle.bus_regime.specs.declared.verdict.TableVerdict.{TableVerdict}
 use Rattle.bus_regime.specs.declared.verdict.TableVerdict.TheVariants.{Accept, ShortCycle, SmallGap, NoSync}
 use Rattle.bus_regime.specs.Verdicts.{verdict_of, is_accepted}
-use Rattle.bus_schedule.specs.declared.error.TheConstants.{LONGEST_END}
 use Rattle.bus_schedule.specs.declared.error.ScheduleError.{ScheduleError}
 use Rattle.bus_schedule.specs.declared.error.ScheduleError.TheVariants.{Memory as Small, TooLong as Long}
 use Rattle.bus_schedule.specs.declared.uneven.Uneven.{Uneven as UnevenHands}
 use Rattle.bus_schedule.specs.Closed.{closed_end}
+use Rattle.bus_schedule.specs.Limits.{longest_end}
 use Rattle.bus_schedule.specs.Uneven.{uneven_of}
 use Rattle.bus_tool.specs.declared.forms.Form.{Form}
 use Rattle.bus_tool.specs.declared.forms.Form.TheVariants.{Check, Observe, Run}
@@ -100,7 +100,7 @@ accepted_due verdict = if is_accepted verdict then Ok tt else Err (Refused verdi
 
 -- a closed end within its limit
 abbrev pub short_due : ℕ → Result (Unit {0}) Outcome
-short_due end = if nat_lt LONGEST_END end then Err (TooLong end) else Ok tt
+short_due end = if nat_lt longest_end end then Err (TooLong end) else Ok tt
 
 -- even hands and an accepted table, in this order
 abbrev pub may_run : Table → List Hand → Result (Unit {0}) Outcome
