@@ -12,4 +12,13 @@ pub mod CheckLemmas
 pub mod ObserveLemmas
 pub mod RunLemmas
 pub mod ActLemmas
+pub mod LawTypes
 pub mod ClaimLemmas
+pub mod ToldLemmas
+pub mod ReadLemmas
+pub mod RunReads
+pub mod CheckClaim
+pub mod ObserveClaim
+pub mod CauseLemmas
+pub mod TextLawLemmas
+pub mod RunClaim

@@ -1,9 +1,8 @@
 -- `run` of its steps.
 use Rattle.std.specs.Prelude.{◌≡◌, ℕ, ◌<◌, ◌≤◌, nat_lt, true, false, Bool, List, Option, Some, None, Result, Ok, Err, IfErr, IsErrAnd, Vec}
 use Rattle.std.specs.declared.alloc.Global.{Global}
-use Rattle.std.proofs.Common.{arith, refl, sym, ap, ◌∙◌, subst, cond, inl, inr}
+use Rattle.std.proofs.Common.{arith, refl, sym, ap, ◌∙◌, subst, cond}
 use Rattle.std.specs.List.{AllByRecursion}
-use Rattle.std.proofs.lemmas.Bool.{cases_lt}
 use Rattle.std.proofs.lemmas.Bool.Decides.{nat_tests}
 use Rattle.std.proofs.lemmas.Result.{err_from_is_err_and}
 use Rattle.bus_text.specs.AllOf.{◌>>=◌}

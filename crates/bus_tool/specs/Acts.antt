@@ -15,6 +15,7 @@ use Rattle.bus_tool.specs.Seen.{Seen, Sources, OfTexts, Reads, reach}
 use Rattle.bus_tool.specs.Steps.{HasReadCause, SourcesOn}
 use Rattle.bus_tool.specs.Due.{table_due, form_due}
 use Rattle.bus_tool.specs.Texts.{IsFormText}
+use Rattle.bus_tool.specs.Causes.{HasTextCause}
 
 -- What `out` holds after an outcome: all of a text where the answer is written, a beginning of one after a failed write, else what it
 -- held.
@@ -66,10 +67,12 @@ pub record IsUntouched (before after : Sources) (out out' : Seen) : Type 0 where
 --   usage      Usage comes exactly where the words are no form
 --   nothing    and then nothing outside is touched
 --   does       else it did what the form asks for
+--   caused     an outcome that refuses a text has its cause
 pub record Acts (words : List (List ℕ)) (before after : Sources) (out out' : Seen) (outcome : Outcome) : Type 0 where
   pub usage : (outcome ≡ Usage) ↔ IsNone (form_of words)
   pub nothing : IfNone (form_of words) (IsUntouched before after out out')
   pub does : IfSome (form_of words) (λ form. DoesForm form before after out out' outcome)
+  pub caused : HasTextCause words before outcome
 
 -- What `err` holds: the line of the outcome, or a beginning of it where the count of `err` rose.
 abbrev pub TellsFault : {K : Type 0} → (K → Option (List ℕ)) → (K → ℕ) → K → K → Outcome → Type 0

@@ -1,21 +1,29 @@
 -- What is claimed of the commands, in the words of their texts: by the relation between a value and its texts, not by how they are read.
 use Rattle.std.specs.Prelude.{◌≡◌, ℕ, ◌≤◌, IsTrue, List, [], ◌∷◌, length, codes, Some, Ok, ◌⊎◌}
 use Rattle.std.specs.Io.KnownBytes.{append_known}
+use Rattle.bus_text.specs.Numbers.{IsDecimal}
 use Rattle.bus_outer.specs.Faults.{Rose}
+use Rattle.bus_strings.specs.Messages.{Entry}
 use Rattle.bus_strings.specs.Items.{Item}
 use Rattle.bus_strings.specs.Grammar.{IsMessagesText}
-use Rattle.bus_table.specs.Tables.{Table}
+use Rattle.bus_table.specs.Tables.{Table, Hand}
 use Rattle.bus_table.specs.Fits.{items_fit}
+use Rattle.bus_table.specs.Hands.{hands_of}
 use Rattle.bus_table.specs.Text.{IsBuiltText}
 use Rattle.bus_table.specs.Valid.{is_valid}
 use Rattle.bus_regime.specs.Verdicts.{verdict_of}
 use Rattle.bus_regime.specs.Lines.{verdict_line}
+use Rattle.bus_medium.specs.Lawful.{IsLawful}
+use Rattle.bus_medium.specs.Timings.{quiet_of, stations_of}
+use Rattle.bus_trace.specs.Traces.{Recording, trace_text}
 use Rattle.bus_tool.specs.declared.status.Status.{Status}
-use Rattle.bus_tool.specs.declared.status.Status.TheVariants.{NoMemory}
+use Rattle.bus_tool.specs.declared.status.Status.TheVariants.{Done, NoMemory}
+use Rattle.bus_tool.specs.Forms.{horizon_limit}
 use Rattle.bus_tool.specs.Outcomes.{status_of}
 use Rattle.bus_tool.specs.Seen.{Seen, Sources, numbered, text_limit}
 use Rattle.bus_tool.specs.Steps.{IsNamed}
 use Rattle.bus_tool.specs.Due.{verdict_outcome}
+use Rattle.bus_tool.specs.Texts.{IsObserved}
 
 -- nothing outside fails: no count of faults of a named source, or of `out`, rises
 pub record IsUndisturbed (named : ℕ) (before after : Sources) (out out' : Seen) : Type 0 where
@@ -59,3 +67,31 @@ pub record IsCheckOf (words : List (List ℕ)) (table : Table) (before after : S
 -- the table's verdict line is written, and the status is Done where the verdict accepts, else Refused
 abbrev pub GivesVerdict : Table → Seen → Seen → Status → Type 0
 GivesVerdict table out out' status = Answers (status_of (verdict_outcome (verdict_of table))) (λ text. text ≡ verdict_line (verdict_of table)) out out' status
+
+-- ---- `observe`
+-- the words are `observe`, two more, and the plain decimal of the horizon, which is within its limit
+pub record IsObserveForm (words : List (List ℕ)) (horizon : ℕ) : Type 0 where
+  pub first : List ℕ
+  pub second : List ℕ
+  pub number : List ℕ
+  pub form : words ≡ codes "observe" ∷ first ∷ second ∷ number ∷ []
+  pub spelled : IsDecimal number horizon
+  pub within : horizon ≤ horizon_limit
+
+-- a call of `observe T M N` on texts of a valid table and of items that fit it, in which nothing outside fails
+pub record IsObserveOf (words : List (List ℕ)) (table : Table) (items : List Item) (horizon : ℕ) (before after : Sources) (out out' : Seen) : Type 0 where
+  pub form : IsObserveForm words horizon
+  pub table_told : TellsTable table before.first
+  pub items_told : TellsItems table items before.second
+  pub undisturbed : IsUndisturbed 2 before after out out'
+
+-- the text of the trace up to the horizon, whose list is the lawful list; and there is no other
+pub record IsTheTrace (table : Table) (hands : List Hand) (horizon : ℕ) (text : List ℕ) : Type 0 where
+  pub recording : Recording
+  pub observed : IsObserved table hands horizon recording
+  pub only : (other : List Entry) → IsLawful (quiet_of table) (stations_of table hands) horizon other → other ≡ recording.list
+  pub text_is : text ≡ trace_text recording
+
+-- that text is written, and the status is Done
+abbrev pub GivesTrace : Table → List Item → ℕ → Seen → Seen → Status → Type 0
+GivesTrace table items horizon out out' status = Answers Done (IsTheTrace table (hands_of table items) horizon) out out' status

@@ -7,5 +7,8 @@ pub mod Due
 pub mod Texts
 pub mod Steps
 pub mod Taken
+pub mod Causes
 pub mod Acts
 pub mod Claims
+pub mod RunClaims
+pub mod TextLaws

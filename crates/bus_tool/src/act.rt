@@ -8,6 +8,8 @@ use crate::observe::observe;
 use crate::outcome::Outcome;
 use crate::run::run;
 use bus_outer::{Sink, Source};
+use bus_strings::laws::texts_read_as_their_items;
+use bus_table::laws::readings_have_their_cause;
 use std::alloc::Global;
 
 /// Does the command that the words ask for, and says what it came to. All its memory is taken before its first written byte.
@@ -23,6 +25,8 @@ pub fn act<S: Source, K: Sink>(
 ) -> Outcome
     ensures { Acts (words_of words.now) (sources_seen ⟦<S as Source>⟧ first.old second.old) (sources_seen ⟦<S as Source>⟧ first.new second.new) (sink_seen ⟦<K as Sink>⟧ out.old) (sink_seen ⟦<K as Sink>⟧ out.new) result }
 {
+    readings_have_their_cause();
+    texts_read_as_their_items();
     match form_of(words) {
         None => Outcome::Usage,
         Some(Form::Check) => check(alloc, first, out),

@@ -11,6 +11,7 @@ pub mod fault_line;
 pub mod forms;
 mod holds;
 mod inputs;
+pub mod laws;
 mod observe;
 #[cfg(test)]
 mod observe_tests;

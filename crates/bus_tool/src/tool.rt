@@ -1,17 +1,22 @@
-ghost use Rattle.std.specs.Prelude.{◌≡◌};
+ghost use Rattle.std.specs.Prelude.{◌≡◌, ℕ, List};
+ghost use Rattle.bus_strings.specs.Items.{Item};
 ghost use Rattle.bus_table.specs.Tables.{Table};
 ghost use Rattle.bus_tool.specs.Acts.{Acts, TellsFault};
-ghost use Rattle.bus_tool.specs.Claims.{IsCheckOf, GivesVerdict};
+ghost use Rattle.bus_tool.specs.Claims.{IsCheckOf, GivesVerdict, IsObserveOf, GivesTrace};
 ghost use Rattle.bus_tool.specs.Forms.{words_of};
 ghost use Rattle.bus_tool.specs.Outcomes.{status_of};
+ghost use Rattle.bus_tool.specs.RunClaims.{IsRunCall, GivesRun};
 ghost use Rattle.bus_tool.specs.Seen.{sources_seen, sink_seen};
 ghost use Rattle.bus_tool.specs.declared.outcome.Outcome.{Outcome as Came};
 
 use crate::act::act;
 use crate::fault_line::outcome_text;
 use crate::status::Status;
+use bus_medium::laws::one_lawful_list;
 use bus_outer::{Sink, Source};
-use bus_table::laws::text_reads_as_its_table;
+use bus_schedule::laws::even_hands_agree;
+use bus_strings::laws::texts_read_as_their_items;
+use bus_table::laws::{fitting_items_give_hands, text_reads_as_its_table};
 use std::alloc::Global;
 
 /// The top call: does the command that the words ask for, writes a line on `err` where there is no answer, and says how the program
@@ -28,13 +33,26 @@ pub fn tool<S: Source, K: Sink, E: Sink>(
     ensures check { (table : Table) → IsCheckOf (words_of words.now) table (sources_seen ⟦<S as Source>⟧ first.old second.old) (sources_seen ⟦<S as Source>⟧ first.new second.new) (sink_seen ⟦<K as Sink>⟧ out.old) (sink_seen ⟦<K as Sink>⟧ out.new)
         → GivesVerdict table (sink_seen ⟦<K as Sink>⟧ out.old) (sink_seen ⟦<K as Sink>⟧ out.new) result }
 
-    // Of any words and bytes: the outcome that is due or a fault in its place, what `out` and `err` then hold, and its status.
+    // `observe T M N` of texts of a valid table and of items that fit, where nothing outside fails: the one trace, or want of memory.
+    ensures observe { (table : Table) (items : List Item) (horizon : ℕ) → IsObserveOf (words_of words.now) table items horizon (sources_seen ⟦<S as Source>⟧ first.old second.old) (sources_seen ⟦<S as Source>⟧ first.new second.new) (sink_seen ⟦<K as Sink>⟧ out.old) (sink_seen ⟦<K as Sink>⟧ out.new)
+        → GivesTrace table items horizon (sink_seen ⟦<K as Sink>⟧ out.old) (sink_seen ⟦<K as Sink>⟧ out.new) result }
+
+    // `run T M` of texts of a valid table that is accepted and of items that fit, as many for each sender, where nothing outside fails: the
+    // one trace, which is the closed schedule, or want of memory.
+    ensures run { (table : Table) (items : List Item) → IsRunCall (words_of words.now) table items (sources_seen ⟦<S as Source>⟧ first.old second.old) (sources_seen ⟦<S as Source>⟧ first.new second.new) (sink_seen ⟦<K as Sink>⟧ out.old) (sink_seen ⟦<K as Sink>⟧ out.new)
+        → GivesRun table items (sink_seen ⟦<K as Sink>⟧ out.old) (sink_seen ⟦<K as Sink>⟧ out.new) result }
+
+    // Of any words and bytes: the outcome that is due or a fault in its place, what was taken and written, what `err` holds, and the status.
     ensures acts { (outcome : Came)
         × Acts (words_of words.now) (sources_seen ⟦<S as Source>⟧ first.old second.old) (sources_seen ⟦<S as Source>⟧ first.new second.new) (sink_seen ⟦<K as Sink>⟧ out.old) (sink_seen ⟦<K as Sink>⟧ out.new) outcome
         × TellsFault E.held E.faults err.old err.new outcome
         × (result ≡ status_of outcome) }
 {
     text_reads_as_its_table();
+    texts_read_as_their_items();
+    fitting_items_give_hands();
+    one_lawful_list();
+    even_hands_agree();
     let outcome = act(alloc, words, first, second, out);
     let _ = outcome_text(&outcome, err);
     outcome.status()

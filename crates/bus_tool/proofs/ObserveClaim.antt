@@ -1,0 +1,79 @@
+-- What is claimed of `observe`.
+use Rattle.std.specs.Prelude.{◌≡◌, ℕ, ◌≤◌, true, nat_le, ◌&&◌, IsTrue, IsOk, List, codes, Some, None, IfSome, Result, Ok}
+use Rattle.std.proofs.Common.{arith, refl, sym, ap, ◌∙◌, subst, cond}
+use Rattle.std.proofs.lemmas.Bool.Decides.{nat_tests}
+use Rattle.bus_text.specs.Numbers.{is_plain_decimal, decimal_value, IsDecimal}
+use Rattle.bus_strings.specs.Items.{Item}
+use Rattle.bus_strings.specs.Messages.{Entry}
+use Rattle.bus_table.specs.Tables.{Table}
+use Rattle.bus_table.specs.Fits.{items_fit}
+use Rattle.bus_table.specs.Hands.{hands_of}
+use Rattle.bus_table.specs.Valid.{is_valid}
+use Rattle.bus_medium.specs.Lawful.{IsLawful}
+use Rattle.bus_medium.specs.LawfulLaws.{OneListOfATable}
+use Rattle.bus_medium.specs.Timings.{quiet_of, stations_of}
+use Rattle.bus_tool.specs.declared.outcome.Outcome.{Outcome}
+use Rattle.bus_tool.specs.declared.outcome.Outcome.TheVariants.{Done}
+use Rattle.bus_tool.specs.declared.forms.Form.TheVariants.{Observe}
+use Rattle.bus_tool.specs.Forms.{horizon_limit, four_words, form_of}
+use Rattle.bus_tool.specs.Outcomes.{status_of}
+use Rattle.bus_tool.specs.Stages.{StandsFor}
+use Rattle.bus_tool.specs.Seen.{Seen, Sources, OfTexts}
+use Rattle.bus_tool.specs.Due.{Inputs, with_items, inputs_due, outcome_with}
+use Rattle.bus_tool.specs.Texts.{IsObserveText, IsTextOf}
+use Rattle.bus_tool.specs.Acts.{Acts}
+use Rattle.bus_tool.specs.Claims.{IsObserveOf, IsTheTrace, GivesTrace}
+use Rattle.bus_tool.proofs.LawTypes.{TextReadsAsItsTable, TextReadsAsItsItems, FittingItemsGiveHands}
+use Rattle.bus_tool.proofs.ClaimLemmas.{answers, does_of}
+use Rattle.bus_tool.proofs.ToldLemmas.{table_told, items_told, inputs_told}
+
+-- the laws by which `observe` writes the one trace
+pub record ObserveLaws : Type 0 where
+  pub table_again : TextReadsAsItsTable
+  pub items_again : TextReadsAsItsItems
+  pub give_hands : FittingItemsGiveHands
+  pub one_list : OneListOfATable
+
+-- the words are the form
+horizon_form : (number : List ℕ) (horizon : ℕ) → IsDecimal number horizon → horizon ≤ horizon_limit → four_words (codes "observe") number ≡ Some (Observe horizon)
+horizon_form number horizon d within =
+    let plain : is_plain_decimal number ≡ true = d.plain in
+    let low : nat_le (decimal_value number) horizon_limit ≡ true = grind (arith, nat_tests, d.value) in
+    ap (λ b. cond (b && nat_le (decimal_value number) horizon_limit) (Some (Observe (decimal_value number))) None) plain
+    ∙ ap (λ b. cond b (Some (Observe (decimal_value number))) None) low ∙ ap (λ n. Some (Observe n)) d.value
+
+-- there is no other list
+only_list : ObserveLaws → (table : Table) (items : List Item) (horizon : ℕ) (list other : List Entry) → IsTrue (is_valid table) → items_fit table items ≡ Ok tt
+    → IsLawful (quiet_of table) (stations_of table (hands_of table items)) horizon list → IsLawful (quiet_of table) (stations_of table (hands_of table items)) horizon other → other ≡ list
+only_list laws table items horizon list other valid fit h k =
+    let fits : IsOk (items_fit table items) = subst IsOk (sym fit) refl in
+    let one = laws.one_list table (hands_of table items) horizon valid (laws.give_hands table items valid fits) in
+    one.2 other k ∙ sym (one.2 list h)
+
+trace_of : ObserveLaws → (table : Table) (items : List Item) (horizon : ℕ) (text : List ℕ) → IsTrue (is_valid table) → items_fit table items ≡ Ok tt → IsObserveText horizon (with_items table items) text → IsTheTrace table (hands_of table items) horizon text
+trace_of laws table items horizon text valid fit h = record {
+  recording = h.recording;
+  observed = h.observed;
+  only = λ other k. only_list laws table items horizon h.recording.list other valid fit h.observed.lawful k;
+  text_is = h.text_is;
+}
+
+due_text : (horizon : ℕ) (inputs : Inputs) (due : Result Inputs Outcome) (text : List ℕ) → due ≡ Ok inputs → IsTextOf (IsObserveText horizon) due text → IsObserveText horizon inputs text
+due_text horizon inputs due text is h = (let same : Ok h.0 ≡ due = sym h.1 in let e : h.0 ≡ inputs = cc in subst (λ i. IsObserveText horizon i text) e h.2)
+
+-- what holds of both texts that are told
+pub of_both : (P : List ℕ → List ℕ → Type 0) (before : Sources) (first second : List ℕ) → before.first.bytes ≡ Some first → before.second.bytes ≡ Some second → OfTexts 2 before P → P first second
+of_both P before first second h k p = subst (λ b. IfSome b (λ y. P first y)) k (subst (λ a. IfSome a (λ x. IfSome before.second.bytes (λ y. P x y))) h p)
+
+pub observe_claim : ObserveLaws → (words : List (List ℕ)) (before after : Sources) (out out' : Seen) (outcome : Outcome) (table : Table) (items : List Item) (horizon : ℕ)
+    → Acts words before after out out' outcome → IsObserveOf words table items horizon before after out out' → GivesTrace table items horizon out out' (status_of outcome)
+observe_claim laws words before after out out' outcome table items horizon acts h =
+    let first = h.table_told.text in
+    let second = h.items_told.text in
+    let due : inputs_due first second ≡ Ok (with_items table items) = inputs_told table items first second (table_told laws.table_again table before.first h.table_told) (items_told laws.items_again table items before.second h.items_told) in
+    let does = does_of words before after out out' outcome (Observe horizon) (ap form_of h.form.form ∙ horizon_form h.form.number horizon h.form.spelled h.form.within) acts in
+    answers 2 Done outcome _ (IsTheTrace table (hands_of table items) horizon) before after out out' refl
+    (λ text is. trace_of laws table items horizon text h.table_told.valid h.items_told.fit
+    (due_text horizon (with_items table items) (inputs_due first second) text due (of_both (λ a b. IsTextOf (IsObserveText horizon) (inputs_due a b) text) before first second h.table_told.told h.items_told.told is)))
+    (subst (λ d. StandsFor d outcome) (ap (outcome_with (λ inputs. Done)) due) (of_both (λ a b. StandsFor (outcome_with (λ inputs. Done) (inputs_due a b)) outcome) before first second h.table_told.told h.items_told.told does.due))
+    does.text does.cause h.undisturbed

@@ -1,0 +1,33 @@
+-- What is due to texts by the relation between a value and its texts, and the other way round.
+use Rattle.std.specs.Prelude.{◌≡◌, ℕ, ◌≤◌, nat_lt, false, List, length, Ok, Err}
+use Rattle.std.proofs.Common.{arith, ap, ◌∙◌, cond}
+use Rattle.std.proofs.lemmas.Bool.Decides.{nat_tests}
+use Rattle.bus_text.specs.AllOf.{◌>>=◌}
+use Rattle.bus_strings.specs.Items.{Item}
+use Rattle.bus_strings.specs.Reading.{messages_reading}
+use Rattle.bus_table.specs.Tables.{Table}
+use Rattle.bus_table.specs.Fits.{items_fit}
+use Rattle.bus_table.specs.Reading.{answer_of}
+use Rattle.bus_tool.specs.declared.outcome.Outcome.TheVariants.{TooLarge}
+use Rattle.bus_tool.specs.Seen.{Seen, text_limit}
+use Rattle.bus_tool.specs.Due.{text_due, table_or_refusal, table_due, items_or_refusal, fitting_or_refusal, items_due, with_items, inputs_due}
+use Rattle.bus_tool.specs.Claims.{TellsTable, TellsItems}
+use Rattle.bus_tool.proofs.LawTypes.{TextReadsAsItsTable, TextReadsAsItsItems}
+
+-- ---- from a value to what is due
+short_text : (number : ℕ) (text : List ℕ) → length text ≤ text_limit → text_due number text ≡ Ok text
+short_text number text h = (let short : nat_lt text_limit (length text) ≡ false = grind (arith, nat_tests) in ap (λ b. cond b (Err (TooLarge number)) (Ok text)) short)
+
+pub table_told : TextReadsAsItsTable → (table : Table) (seen : Seen) (t : TellsTable table seen) → table_due t.text ≡ Ok table
+table_told reads table seen t =
+    ap (λ r. r >>= λ whole. table_or_refusal (answer_of whole)) (short_text 1 t.text t.short) ∙ ap table_or_refusal (reads t.text table t.stands.stands t.stands.built t.valid)
+
+pub items_told : TextReadsAsItsItems → (table : Table) (items : List Item) (seen : Seen) (t : TellsItems table items seen) → items_due table t.text ≡ Ok items
+items_told reads table items seen t =
+    ap (λ r. r >>= λ whole. items_or_refusal (messages_reading whole) >>= λ items. fitting_or_refusal (items_fit table items) items) (short_text 2 t.text t.short)
+    ∙ ap (λ r. items_or_refusal r >>= λ items. fitting_or_refusal (items_fit table items) items) (reads t.text items t.stands)
+    ∙ ap (λ fit. fitting_or_refusal fit items) t.fit
+
+pub inputs_told : (table : Table) (items : List Item) (first second : List ℕ) → table_due first ≡ Ok table → items_due table second ≡ Ok items → inputs_due first second ≡ Ok (with_items table items)
+inputs_told table items first second h k =
+    ap (λ r. r >>= λ table. items_due table second >>= λ items. Ok (with_items table items)) h ∙ ap (λ r. r >>= λ items. Ok (with_items table items)) k

@@ -1,0 +1,80 @@
+-- The cause of each refusal of a text, by the relation between a value and its texts and not by how they are read.
+use Rattle.std.specs.Prelude.{◌≡◌, ℕ, ◌<◌, false, List, IfSome, Some, Ok, Err}
+use Rattle.bus_strings.specs.Items.{Item}
+use Rattle.bus_strings.specs.Grammar.{IsMessagesText}
+use Rattle.bus_table.specs.declared.fit.FitError.{FitError}
+use Rattle.bus_table.specs.declared.error.WholeReason.{WholeReason}
+use Rattle.bus_table.specs.Tables.{Table}
+use Rattle.bus_table.specs.Fits.{items_fit}
+use Rattle.bus_table.specs.Hands.{hands_of}
+use Rattle.bus_table.specs.Text.{IsBuiltText}
+use Rattle.bus_table.specs.Whole.{whole_refusal}
+use Rattle.bus_regime.specs.declared.verdict.TableVerdict.{TableVerdict}
+use Rattle.bus_regime.specs.Verdicts.{verdict_of, is_accepted}
+use Rattle.bus_schedule.specs.declared.uneven.Uneven.{Uneven}
+use Rattle.bus_schedule.specs.Closed.{closed_end}
+use Rattle.bus_schedule.specs.Limits.{longest_end}
+use Rattle.bus_schedule.specs.Uneven.{uneven_of}
+use Rattle.bus_tool.specs.declared.outcome.Outcome.{Outcome}
+use Rattle.bus_tool.specs.declared.outcome.Outcome.TheVariants as outcomes
+use Rattle.bus_tool.specs.declared.outcome.Outcome.TheVariants.{TableText, TableWhole, MessagesText, Unfit, Refused, TooLong}
+use Rattle.bus_tool.specs.Forms.{form_of, sources_of}
+use Rattle.bus_tool.specs.Seen.{Sources, OfTexts}
+
+-- no table has the text, in the forms that are read today
+abbrev pub IsNoTableText : List ℕ → Type 0
+IsNoTableText text = (table : Table) → IsBuiltText table text → ⊥
+
+-- a table has the text, and this is the first whole reason that applies to it
+pub record IsWrongTableText (reason : WholeReason) (text : List ℕ) : Type 0 where
+  pub table : Table
+  pub stands : IsBuiltText table text
+  pub why : whole_refusal table ≡ Some reason
+
+-- no items have the text
+abbrev pub IsNoMessagesText : List ℕ → Type 0
+IsNoMessagesText text = (items : List Item) → IsMessagesText items text → ⊥
+
+-- a table has the first text, and items have the second, of which this is the first that doesn't fit the table
+pub record IsUnfitText (error : FitError) (first second : List ℕ) : Type 0 where
+  pub table : Table
+  pub items : List Item
+  pub table_stands : IsBuiltText table first
+  pub items_stand : IsMessagesText items second
+  pub why : items_fit table items ≡ Err error
+
+-- a table has the first text, and items that fit it have the second, of which this holds
+pub record AreTextsWith (Holds : Table → List Item → Type 0) (first second : List ℕ) : Type 0 where
+  pub table : Table
+  pub items : List Item
+  pub table_stands : IsBuiltText table first
+  pub items_stand : IsMessagesText items second
+  pub fit : items_fit table items ≡ Ok tt
+  pub why : Holds table items
+
+-- the first sender in turn order and the first behind it that has another number of items, with these numbers
+abbrev pub DifferAs : Uneven → Table → List Item → Type 0
+DifferAs uneven table items = uneven_of table (hands_of table items) ≡ Some uneven
+
+-- the verdict on the table, which doesn't accept it
+abbrev pub IsRefusal : TableVerdict → Table → List Item → Type 0
+IsRefusal verdict table items = (verdict ≡ verdict_of table) × (is_accepted verdict ≡ false)
+
+-- the closed end, which is above its limit
+abbrev pub IsLongEnd : ℕ → Table → List Item → Type 0
+IsLongEnd end table items = (end ≡ closed_end table (hands_of table items)) × (longest_end < end)
+
+-- the cause of an outcome that refuses a text, or what is asked of both
+abbrev pub RefusesTexts : Outcome → List ℕ → List ℕ → Type 0
+RefusesTexts (TableText line reason) first second = IsNoTableText first
+RefusesTexts (TableWhole reason) first second = IsWrongTableText reason first
+RefusesTexts (MessagesText line reason) first second = IsNoMessagesText second
+RefusesTexts (Unfit error) first second = IsUnfitText error first second
+RefusesTexts (outcomes.Uneven one one_count other other_count) first second = AreTextsWith (DifferAs (record { one = one; one_count = one_count; other = other; other_count = other_count })) first second
+RefusesTexts (Refused verdict) first second = AreTextsWith (IsRefusal verdict) first second
+RefusesTexts (TooLong end) first second = AreTextsWith (IsLongEnd end) first second
+RefusesTexts outcome first second = Unit {0}
+
+-- where the sources that the form names tell their bytes, an outcome that refuses a text has its cause
+abbrev pub HasTextCause : List (List ℕ) → Sources → Outcome → Type 0
+HasTextCause words before outcome = IfSome (form_of words) (λ form. OfTexts (sources_of form) before (RefusesTexts outcome))

@@ -1,0 +1,47 @@
+-- What is claimed of `run`, in the words of its texts.
+use Rattle.std.specs.Prelude.{◌≡◌, ◌≤◌, ℕ, IsTrue, List, [], ◌∷◌, length, codes}
+use Rattle.std.specs.List.{AllByRecursion}
+use Rattle.bus_strings.specs.Items.{Item}
+use Rattle.bus_table.specs.Tables.{Table, Hand}
+use Rattle.bus_table.specs.Hands.{items_of, hands_of}
+use Rattle.bus_regime.specs.Verdicts.{verdict_of, is_accepted}
+use Rattle.bus_schedule.specs.Closed.{closed_end}
+use Rattle.bus_schedule.specs.Limits.{longest_end}
+use Rattle.bus_trace.specs.Traces.{Recording, trace_text}
+use Rattle.bus_tool.specs.declared.status.Status.{Status}
+use Rattle.bus_tool.specs.declared.status.Status.TheVariants.{Done}
+use Rattle.bus_tool.specs.Seen.{Seen, Sources}
+use Rattle.bus_tool.specs.Texts.{IsRan}
+use Rattle.bus_tool.specs.Claims.{IsUndisturbed, TellsTable, TellsItems, Answers}
+
+-- the words are `run` and two more
+pub record IsRunForm (words : List (List ℕ)) : Type 0 where
+  pub first : List ℕ
+  pub second : List ℕ
+  pub form : words ≡ codes "run" ∷ first ∷ second ∷ []
+
+-- every sender has the same number of items, maybe none
+pub record AreEvenItems (table : Table) (items : List Item) : Type 0 where
+  pub rounds : ℕ
+  pub each : AllByRecursion (λ sender. length (items_of sender.number items) ≡ rounds) table.senders
+
+-- A call of `run T M` on texts of a valid table that the checker accepts and of items that fit it, as many for each sender, in which
+-- nothing outside fails; the closed end is within its limit.
+pub record IsRunCall (words : List (List ℕ)) (table : Table) (items : List Item) (before after : Sources) (out out' : Seen) : Type 0 where
+  pub form : IsRunForm words
+  pub table_told : TellsTable table before.first
+  pub accepted : IsTrue (is_accepted (verdict_of table))
+  pub items_told : TellsItems table items before.second
+  pub even : AreEvenItems table items
+  pub short : closed_end table (hands_of table items) ≤ longest_end
+  pub undisturbed : IsUndisturbed 2 before after out out'
+
+-- the text of the one trace of the run: its horizon is the closed end, its holds are those of the hands, and its list is the run
+pub record IsTheRun (table : Table) (hands : List Hand) (text : List ℕ) : Type 0 where
+  pub recording : Recording
+  pub ran : IsRan table hands recording
+  pub text_is : text ≡ trace_text recording
+
+-- that text is written, and the status is Done
+abbrev pub GivesRun : Table → List Item → Seen → Seen → Status → Type 0
+GivesRun table items out out' status = Answers Done (IsTheRun table (hands_of table items)) out out' status
