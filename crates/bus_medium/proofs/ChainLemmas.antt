@@ -7,11 +7,11 @@ use Rattle.std.proofs.lemmas.Option.{slice_get_within}
 use Rattle.bus_timers.specs.Timings.{IsSound}
 use Rattle.bus_timers.specs.MayStart.{MayStart}
 use Rattle.bus_timers.specs.GapPlace.{GapFrom}
-use Rattle.bus_timers.proofs.Gaps.{gap_settled}
+use Rattle.bus_timers.specs.GapProofs.{gap_settled}
 use Rattle.bus_strings.specs.Members.{In}
 use Rattle.bus_strings.specs.Messages.{Entry, bits}
 use Rattle.bus_strings.specs.Transmissions.{end_of}
-use Rattle.bus_strings.proofs.OverlapLemmas.{bits_some}
+use Rattle.bus_strings.specs.MessageLaws.{bits_some}
 use Rattle.bus_medium.specs.Past.{past, own, last_place}
 use Rattle.bus_medium.specs.Lawful.{Station, IsDue, IsLawfulTo}
 use Rattle.bus_medium.specs.Chains.{HaveEnded, Clock, Chain, put, gap_put, ChainSettled, ChainStep, ChainDue, ChainStarts}

@@ -4,14 +4,14 @@ use Rattle.std.proofs.lemmas.List.Folds.{list_any-append}
 use Rattle.bus_timers.specs.Timings.{due_place}
 use Rattle.bus_timers.specs.MayStart.{MayStart}
 use Rattle.bus_timers.specs.GapPlace.{GapFrom}
-use Rattle.bus_timers.proofs.Gaps.{gap_quiet, gap_started, gap_ready}
-use Rattle.bus_timers.proofs.CountersLemmas.{sound_sg, sound_tg}
+use Rattle.bus_timers.specs.GapProofs.{gap_quiet, gap_started, gap_ready}
+use Rattle.bus_timers.specs.TimingLaws.{sound_sg, sound_tg}
 use Rattle.bus_strings.specs.Members.{In}
 use Rattle.bus_strings.specs.Messages.{Entry, bits}
 use Rattle.bus_strings.specs.Pulses.{is_on}
 use Rattle.bus_strings.specs.Transmissions.{pulses, carrier, end_of}
-use Rattle.bus_strings.proofs.PulseLemmas.{quiet_behind}
-use Rattle.bus_strings.proofs.OverlapLemmas.{bits_some}
+use Rattle.bus_strings.specs.PulseProofs.{quiet_behind}
+use Rattle.bus_strings.specs.MessageLaws.{bits_some}
 use Rattle.bus_medium.specs.Past.{past, own, last_place}
 use Rattle.bus_medium.specs.Lawful.{Station}
 use Rattle.bus_medium.specs.Stretches.{during}

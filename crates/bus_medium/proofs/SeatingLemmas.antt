@@ -7,7 +7,7 @@ use Rattle.std.proofs.lemmas.List.{length_push, append-nil, map-append}
 use Rattle.bus_timers.specs.declared.timing.Timing.{Timing}
 use Rattle.bus_timers.specs.declared.cores.Core.{Ghosts}
 use Rattle.bus_strings.specs.Members.{In}
-use Rattle.bus_strings.proofs.MessageLemmas.{all_push}
+use Rattle.bus_strings.specs.ListLaws.{all_push}
 use Rattle.bus_table.specs.Tables.{Sender, Table, Hand}
 use Rattle.bus_table.specs.Fits.{fits}
 use Rattle.bus_table.specs.Hands.{are_hands}

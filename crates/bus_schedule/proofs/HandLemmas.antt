@@ -3,10 +3,10 @@ use Rattle.std.proofs.Common.{◌≡◌, ◌≢◌, ℕ, zero, suc, ◌<◌, ◌
 use Rattle.std.specs.Prelude.{◌==◌, nat_le, slice_get, zip}
 use Rattle.std.specs.List.{list_all}
 use Rattle.std.proofs.lemmas.Bool.{and_parts, eqb-true, leb-true, eq-eqb, ne_eqb}
-use Rattle.std.proofs.lemmas.List.Sums.{sum_by-cons}
 use Rattle.std.proofs.lemmas.Option.{slice_get-get_or}
 use Rattle.bus_strings.specs.Members.{In}
-use Rattle.bus_strings.specs.Messages.{Message, word_count, bits}
+use Rattle.bus_strings.specs.MessageLaws.{bits_some}
+use Rattle.bus_strings.specs.Messages.{Message, bits}
 use Rattle.bus_table.specs.declared.mode.Mode.TheVariants.{Aperiodic}
 use Rattle.bus_table.specs.declared.line.SendLine.{SendLine}
 use Rattle.bus_table.specs.Tables.{Sender, Table, Hand}
@@ -87,11 +87,6 @@ stations_are table (a ∷ senders) (hand ∷ hands) h d =
 -- the quiet before the settled start of an aperiodic table
 pub quiet_is : (table : Table) → table.mode ≡ Aperiodic → quiet_of table ≡ table.sg
 quiet_is table mode = ap (λ m. quiet_for m table.sg table.senders) mode
-
--- a message has bit times
-bits_some : (message : Message) → 0 < length message → 0 < bits message
-bits_some [] h = absurd (omega arith)
-bits_some (string ∷ message) h = omega (arith, sum_by-cons word_count string message)
 
 -- a message of a sender, which its hand has in this round
 pub record Sendable (sender : Sender) (hand : List Message) (round : ℕ) (message : Message) : Type 0 where

@@ -1,5 +1,3 @@
-pub mod MessageLemmas
-pub mod PulseLemmas
 pub mod StringLemmas
 pub mod ItemLemmas
 pub mod TextLemmas

@@ -10,17 +10,12 @@ use Rattle.std.proofs.lemmas.List.{take_more}
 use Rattle.std.proofs.lemmas.Option.{slice_get_within, get_or_from_slice_get}
 use Rattle.std.proofs.Math.Seq.{drop-cons}
 use Rattle.std.proofs.Math.ListN.{drop_of_length-le}
-use Rattle.std.proofs.lemmas.List.Sums.{sum_by-cons}
-use Rattle.bus_strings.specs.Messages.{Entry, Message, word_count, bits}
+use Rattle.bus_strings.specs.Messages.{Entry, bits}
+use Rattle.bus_strings.specs.MessageLaws.{bits_some}
 use Rattle.bus_strings.specs.Transmissions.{end_of, overlaps, garbled, marks, Precedes, IsOrdered, IsByMoment}
 use Rattle.bus_strings.specs.Marking.{greatest_end}
-use Rattle.bus_strings.proofs.MessageLemmas.{all_push}
+use Rattle.bus_strings.specs.ListLaws.{all_push}
 use Rattle.bus_strings.specs.OverlapLaws.{OverlapsMeet, NeighboursTell, AscendingIsByMoment}
-
--- a message has bit times
-pub bits_some : (m : Message) → 0 < length m → 0 < bits m
-bits_some [] h = absurd (omega arith)
-bits_some (s ∷ m) h = omega (arith, sum_by-cons word_count s m)
 
 abbrev HasWords : Entry → Type 0
 HasWords x = 0 < length x.message

@@ -1,7 +1,10 @@
 pub mod Members
+pub mod ListLaws
 pub mod Messages
+pub mod MessageLaws
 pub mod Pulses
 pub mod PulseLaws
+pub mod PulseProofs
 pub mod Transmissions
 pub mod Items
 pub mod Grammar

@@ -1,5 +1,5 @@
 -- What follows of overlaps and garbled entries.
--- `laws::neighbours_tell` says that each of these holds; the crates above cite them by their proofs in `proofs/OverlapLemmas.antt`.
+-- The contract of `laws::neighbours_tell` says that each of these holds.
 use Rattle.std.specs.Prelude.{◌≡◌, ℕ, ◌+◌, ◌<◌, ◌≤◌, ◌↔◌, true, false, ◌||◌, nat_lt, List, length, take, slice_get, Some}
 use Rattle.std.specs.List.{list_any, AllByRecursion}
 use Rattle.std.specs.Option.{option_map_or}

@@ -1,5 +1,5 @@
 -- What follows of the pulses of a message, whatever its words.
--- `laws::pulses_cover` says that each of these holds; the crates above cite them by their proofs in `proofs/PulseLemmas.antt`.
+-- The contract of `laws::pulses_cover` says that each of these holds; `PulseProofs` has the proofs, for the crates above to cite.
 use Rattle.std.specs.Prelude.{◌≡◌, ℕ, ◌+◌, ◌-◌, ◌<◌, ◌≤◌, true, false, nat_lt, length}
 use Rattle.bus_strings.specs.Messages.{Message, bits}
 use Rattle.bus_strings.specs.Pulses.{pulse_start, pulse_length, is_on}

@@ -6,7 +6,7 @@ use Rattle.std.proofs.lemmas.Bool.{lt-ltb, le-ltb}
 use Rattle.std.proofs.lemmas.List.Sums.{sum_by-take-le}
 use Rattle.bus_strings.specs.Messages.{Wordstring, Message, word_count, bits}
 use Rattle.bus_strings.specs.Pulses.{pulse_start, pulse_length, is_on}
-use Rattle.bus_strings.proofs.PulseLemmas.{next_pulse, last_pulse_ends, length_at, on_within_pulse}
+use Rattle.bus_strings.specs.PulseProofs.{next_pulse, last_pulse_ends, length_at, on_within_pulse}
 use Rattle.bus_terminal.specs.declared.place.Place.{Place}
 use Rattle.bus_table.specs.Tables.{Hand}
 use Rattle.bus_terminal.specs.Places.{place_of, IsPlace}

@@ -1,5 +1,5 @@
 -- What a message says of the timers of the terminal that sends it.
--- `laws::sending_is_not_ready` says that this holds; the crates above cite it by its proof in `proofs/SendingLemmas.antt`.
+-- The contract of `laws::sending_is_not_ready` says that this holds; `SendingProofs` has the proof, for the crates above to cite.
 use Rattle.std.specs.Prelude.{◌≡◌, ℕ, ◌+◌, ◌<◌, Bool, true, false, List, length, slice_index_or, Some}
 use Rattle.bus_timers.specs.declared.timing.Timing.{Timing}
 use Rattle.bus_timers.specs.Timings.{IsSound}

@@ -6,13 +6,8 @@ use Rattle.bus_timers.specs.declared.timing.Timing.{Timing}
 use Rattle.bus_timers.specs.Timings.{IsSound, due_place}
 use Rattle.bus_timers.specs.MayStart.{MayStart}
 use Rattle.bus_timers.specs.Counters.{CountersStand}
-use Rattle.bus_timers.proofs.Gaps.{gap_quiet, gap_carrier_elapsed, gap_carrier_waiting, gap_started, gap_settled, gap_ready}
-
-pub sound_sg : (timing : Timing) → IsSound timing → 0 < timing.sg
-sound_sg timing s = let a : 8 ≤ timing.tg = s.tg_least in let b : timing.tg < timing.sg = s.tg_short in omega arith
-
-pub sound_tg : (timing : Timing) → IsSound timing → 0 < timing.tg
-sound_tg timing s = let a : 8 ≤ timing.tg = s.tg_least in omega arith
+use Rattle.bus_timers.specs.TimingLaws.{sound_sg, sound_tg}
+use Rattle.bus_timers.specs.GapProofs.{gap_quiet, gap_carrier_elapsed, gap_carrier_waiting, gap_started, gap_settled, gap_ready}
 
 pub counters_settled : (timing : Timing) (gap : ℕ) → IsSound timing → gap ≡ min timing.tg (timing.quiet - timing.sg) → CountersStand timing timing.due timing.sg gap (replicate timing.quiet false) None
 counters_settled timing gap s e =

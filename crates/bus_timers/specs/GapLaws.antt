@@ -1,5 +1,6 @@
 -- How the place from which the terminal gap counts moves, and that it tells when a terminal may start.
--- `laws::gap_place_moves` says that each of these holds; the crates above cite them by their proofs in `proofs/Gaps.antt`.
+-- The contract of `laws::gap_place_moves` says that each of these holds; `GapProofs` and `GapStretchProofs` have the proofs, for the
+-- crates above to cite.
 use Rattle.std.specs.Prelude.{◌≡◌, ℕ, ◌+◌, ◌<◌, ◌≤◌, ◌↔◌, ◌++◌, ◌∷◌, [], Bool, true, false, List, length, replicate, Option, Some, None}
 use Rattle.bus_timers.specs.declared.timing.Timing.{Timing}
 use Rattle.bus_timers.specs.Timings.{due_place}

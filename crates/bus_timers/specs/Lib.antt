@@ -3,4 +3,7 @@ pub mod MayStart
 pub mod MayStartTest
 pub mod GapPlace
 pub mod GapLaws
+pub mod GapProofs
+pub mod GapStretchProofs
+pub mod TimingLaws
 pub mod Counters

@@ -3,7 +3,7 @@ use Rattle.std.proofs.Common.{◌≡◌, ℕ, suc, zero, ◌+◌, ◌<◌, ◌�
 use Rattle.std.proofs.lemmas.List.{length_push, append-nil}
 use Rattle.bus_timers.specs.GapPlace.{GapFrom}
 use Rattle.bus_timers.specs.GapLaws.{QuietsPlace, CarriersPlace, WaitingCarriersPlace}
-use Rattle.bus_timers.proofs.Gaps.{gap_quiet, gap_carrier_elapsed, gap_carrier_waiting}
+use Rattle.bus_timers.specs.GapProofs.{gap_quiet, gap_carrier_elapsed, gap_carrier_waiting}
 
 pub gap_quiets : QuietsPlace
 gap_quiets sg past last g zero pos h = subst (λ p. GapFrom sg p last g) (sym (append-nil past)) h

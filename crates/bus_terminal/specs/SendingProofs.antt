@@ -4,7 +4,7 @@ use Rattle.std.proofs.lemmas.Bool.{true≢false}
 use Rattle.std.proofs.lemmas.List.{get_or_default}
 use Rattle.bus_timers.specs.MayStart.{IsSync}
 use Rattle.bus_strings.specs.PulseLaws.{Pulse}
-use Rattle.bus_strings.proofs.PulseLemmas.{pulse_soon}
+use Rattle.bus_strings.specs.PulseProofs.{pulse_soon}
 use Rattle.bus_terminal.specs.SendingLaws.{SendingIsNotReady}
 
 pub sending_is_not_ready : SendingIsNotReady
