@@ -37,10 +37,10 @@ tells table = record {
   is_text = λ t same. ap (λ t. verdict_line (verdict_of t)) same;
 }
 
-pub check_answered : {K : Type 0} (old new second : Seen) (ghosts : SinkGhosts K) (k k' : K) (table : Table) (v : TableVerdict) (answer outcome : Outcome) (result : Result (Unit {0}) Fault)
-    → Takes Same 1 table_due old new (Ok table) → v ≡ verdict_of table → answer ≡ verdict_outcome v → WritesText ghosts.held ghosts.faults k k' result (verdict_line v) → outcome ≡ written result answer
+pub check_answered : {K : Type 0} (old new second : Seen) (ghosts : SinkGhosts K) (k k' : K) (table : Table) (v : TableVerdict) (reply outcome : Outcome) (result : Result (Unit {0}) Fault)
+    → Takes Same 1 table_due old new (Ok table) → v ≡ verdict_of table → reply ≡ verdict_outcome v → WritesText ghosts.held ghosts.faults k k' result (verdict_line v) → outcome ≡ written result reply
     → DoesForm Check (both old second) (both new second) (sink_seen ghosts k) (sink_seen ghosts k') outcome
-check_answered old new second ghosts k k' table v answer outcome result t e f w h =
+check_answered old new second ghosts k k' table v reply outcome result t e f w h =
     let is : outcome ≡ written result (verdict_outcome (verdict_of table)) = h ∙ ap (written result) (f ∙ ap verdict_outcome e) in
     let writes = subst (λ v. WritesText ghosts.held ghosts.faults k k' result (verdict_line v)) e w in
     subst (DoesForm Check (both old second) (both new second) (sink_seen ghosts k) (sink_seen ghosts k')) (sym is)

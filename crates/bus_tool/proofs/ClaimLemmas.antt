@@ -18,15 +18,15 @@ written_all : (old new : Option (List ℕ)) (text : List ℕ) → Written old ne
 written_all old new text w = w.held_is ∙ ap (append_known old) (sym (w.text_is ∙ append-nil w.gone))
 
 -- an outcome that stands for an answer, where nothing outside failed, is the answer or want of memory
-pub answers : (named : ℕ) (answer o : Outcome) (IsIt IsText : List ℕ → Type 0) (before after : Sources) (out out' : Seen) → is_written answer ≡ true → ((text : List ℕ) → IsIt text → IsText text)
-    → StandsFor answer o → Leaves o IsIt out.bytes out'.bytes → HasCause named before after out out' o → IsUndisturbed named before after out out'
-    → Answers (status_of answer) IsText out out' (status_of o)
-answers named answer Done IsIt IsText before after out out' w f s l c u = inl (ap status_of (sym s), (l.0, f l.0 l.1, written_all out.bytes out'.bytes l.0 l.2))
-answers named answer Answered IsIt IsText before after out out' w f s l c u = inl (ap status_of (sym s), (l.0, f l.0 l.1, written_all out.bytes out'.bytes l.0 l.2))
-answers named answer NoMemory IsIt IsText before after out out' w f s l c u = inr (refl, l)
-answers named answer (ReadFault source) IsIt IsText before after out out' w f s l c u = absurd (u.reads source c.0 c.1)
-answers named answer WriteFault IsIt IsText before after out out' w f s l c u = absurd (u.writes c)
-answers named answer o IsIt IsText before after out out' w f s l c u = (let no : is_written o ≡ true = ap is_written (sym s) ∙ w in absurd cc)
+pub answers : (named : ℕ) (reply o : Outcome) (IsIt IsText : List ℕ → Type 0) (before after : Sources) (out out' : Seen) → is_written reply ≡ true → ((text : List ℕ) → IsIt text → IsText text)
+    → StandsFor reply o → Leaves o IsIt out.bytes out'.bytes → HasCause named before after out out' o → IsUndisturbed named before after out out'
+    → Answers (status_of reply) IsText out out' (status_of o)
+answers named reply Done IsIt IsText before after out out' w f s l c u = inl (ap status_of (sym s), (l.0, f l.0 l.1, written_all out.bytes out'.bytes l.0 l.2))
+answers named reply Answered IsIt IsText before after out out' w f s l c u = inl (ap status_of (sym s), (l.0, f l.0 l.1, written_all out.bytes out'.bytes l.0 l.2))
+answers named reply NoMemory IsIt IsText before after out out' w f s l c u = inr (refl, l)
+answers named reply (ReadFault source) IsIt IsText before after out out' w f s l c u = absurd (u.reads source c.0 c.1)
+answers named reply WriteFault IsIt IsText before after out out' w f s l c u = absurd (u.writes c)
+answers named reply o IsIt IsText before after out out' w f s l c u = (let no : is_written o ≡ true = ap is_written (sym s) ∙ w in absurd cc)
 
 -- what the command of these words did
 pub does_of : (words : List (List ℕ)) (before after : Sources) (out out' : Seen) (outcome : Outcome) (form : Form) → form_of words ≡ Some form → Acts words before after out out' outcome → DoesForm form before after out out' outcome

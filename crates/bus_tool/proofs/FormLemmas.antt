@@ -1,8 +1,8 @@
 -- The words of a form.
-use Rattle.std.specs.Prelude.{◌≡◌, ◌≢◌, List, [], ◌∷◌, length, slice_index_or, None, String}
+use Rattle.std.specs.Prelude.{◌≡◌, List, [], ◌∷◌, length, slice_index_or, String}
 use Rattle.std.specs.declared.alloc.Global.{Global}
 use Rattle.std.specs.String.{string_bytes}
-use Rattle.std.proofs.Common.{arith, refl, sym, ap}
+use Rattle.std.proofs.Common.{arith, sym, ap}
 use Rattle.bus_tool.specs.Forms.{words_of, two_words, three_words, four_words, form_of}
 
 pub form_of_two : (words : List (String Global)) (a : String Global) → length words ≡ 2 → a ≡ slice_index_or words 0 a → form_of (words_of words) ≡ two_words (string_bytes a)
@@ -25,11 +25,3 @@ form_of_four (p ∷ q ∷ []) a d h i j = absurd (omega arith)
 form_of_four (p ∷ q ∷ r ∷ []) a d h i j = absurd (omega arith)
 form_of_four (p ∷ q ∷ r ∷ s ∷ []) a d h i j = (let e : a ≡ p = i in let f : d ≡ s = j in cc)
 form_of_four (p ∷ q ∷ r ∷ s ∷ t ∷ rest) a d h i j = absurd (omega arith)
-
-pub form_of_others : (words : List (String Global)) → length words ≢ 2 → length words ≢ 3 → length words ≢ 4 → form_of (words_of words) ≡ None
-form_of_others [] h i j = refl
-form_of_others (p ∷ []) h i j = refl
-form_of_others (p ∷ q ∷ []) h i j = absurd (h refl)
-form_of_others (p ∷ q ∷ r ∷ []) h i j = absurd (i refl)
-form_of_others (p ∷ q ∷ r ∷ s ∷ []) h i j = absurd (j refl)
-form_of_others (p ∷ q ∷ r ∷ s ∷ t ∷ rest) h i j = refl

@@ -17,11 +17,6 @@ use Rattle.bus_tool.specs.Texts.{hold_of, hold_at, terminal_numbers, holds_of}
 abbrev pub AreFew : List Hand → Type 0
 AreFew hands = AllByRecursion (λ hand. length hand.messages ≤ text_limit) hands
 
--- what is found is one of them
-pub found_few : (p : Hand → _) (hands : List Hand) → AreFew hands → IfSome (find p hands) (λ hand. length hand.messages ≤ text_limit)
-found_few p [] few = tt
-found_few p (hand ∷ hands) few = elim (p hand) as (λ b. IfSome (cond b (Some hand) (find p hands)) (λ hand. length hand.messages ≤ text_limit)) [ true ↦ few.0 | false ↦ found_few p hands few.1 ]
-
 -- one number more
 range_more : (a n : ℕ) → range_with_len a (suc n) ≡ range_with_len a n ++ (a + n) ∷ []
 range_more a zero = (let e : a ≡ a + 0 = omega arith in ap (λ k. k ∷ []) e)

@@ -1,7 +1,7 @@
 -- What is made of the texts.
 use Rattle.std.specs.Prelude.{◌≡◌, ℕ, List, Vec, Result, Ok, Err, IsErrAnd}
 use Rattle.std.specs.declared.alloc.Global.{Global}
-use Rattle.std.proofs.Common.{arith, refl, sym, ap, ◌∙◌, subst}
+use Rattle.std.proofs.Common.{refl, sym, ap, ◌∙◌, subst}
 use Rattle.std.proofs.lemmas.Result.{err_from_is_err_and}
 use Rattle.bus_text.specs.AllOf.{◌>>=◌}
 use Rattle.bus_table.specs.declared.error.TableError.{TableError}
@@ -16,9 +16,9 @@ use Rattle.bus_tool.specs.Seen.{Seen, both}
 use Rattle.bus_tool.specs.Steps.{Takes, Same, IsText, Prepares}
 use Rattle.bus_tool.specs.Due.{text_due, table_refusal, table_or_refusal, table_due, items_due, with_items, inputs_due}
 use Rattle.bus_tool.specs.Taken.{AreHandsOf, AreInputs}
-use Rattle.bus_tool.proofs.StageLemmas.{table_later, inputs_later}
-use Rattle.bus_tool.proofs.TakeLemmas.{RefusesAt, takes_then, takes_stop}
-use Rattle.bus_tool.proofs.PrepareLemmas.{prepares_stop, prepares_both}
+use Rattle.bus_tool.proofs.StageLemmas.{table_later}
+use Rattle.bus_tool.proofs.TakeLemmas.{RefusesAt, takes_then}
+use Rattle.bus_tool.proofs.PrepareLemmas.{prepares_both}
 
 -- a refused table text
 table_fails : (e : TableError) (text : List ℕ) → Fails e (answer_of text) → Gives {X = Table} {Y = Table} Same (Err (table_refusal e)) (table_or_refusal (answer_of text))
@@ -46,16 +46,6 @@ table_taken old new text bytes table t same h =
     (λ whole read. (table, ap table_or_refusal (ap answer_of (sym (same ∙ read)) ∙ h), refl)) tt
 
 -- ---- both texts
--- a refused first text
-pub no_table : (old new second : Seen) (o : Outcome) → Takes Same 1 table_due old new (Err o) → Prepares AreInputs 2 inputs_due (both old second) (both new second) (Err o)
-no_table old new second o t = prepares_stop AreInputs (λ table b. items_due table b >>= λ items. Ok (with_items table items)) old new second o (λ table b. omega (arith, inputs_later table b)) t
-
--- a refused second text
-pub no_hands : (old new old' new' : Seen) (table : Table) (o : Outcome) → Takes Same 1 table_due old new (Ok table) → Takes (AreHandsOf table) 2 (items_due table) old' new' (Err o) → Prepares AreInputs 2 inputs_due (both old old') (both new new') (Err o)
-no_hands old new old' new' table o t u =
-    prepares_both AreInputs (λ table b. items_due table b >>= λ items. Ok (with_items table items)) old new old' new' table (Err o) t
-    (takes_stop (AreHandsOf table) AreInputs 2 (items_due table) (λ items. Ok (with_items table items)) old' new' o (omega arith) (λ items. omega arith) u)
-
 pub all_inputs : (old new old' new' : Seen) (table : Table) (hands : Vec Hand Global) → Takes Same 1 table_due old new (Ok table) → Takes (AreHandsOf table) 2 (items_due table) old' new' (Ok hands)
     → Prepares AreInputs 2 inputs_due (both old old') (both new new') (Ok (record { table = table; hands = hands }))
 all_inputs old new old' new' table hands t u =

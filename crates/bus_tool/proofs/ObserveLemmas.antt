@@ -1,33 +1,19 @@
 -- `observe` of its steps.
-use Rattle.std.specs.Prelude.{◌≡◌, ℕ, List, Result, Ok, Err, Vec}
-use Rattle.std.specs.declared.alloc.Global.{Global}
+use Rattle.std.specs.Prelude.{◌≡◌, ℕ, Result, Ok, Err}
 use Rattle.std.proofs.Common.{refl, sym, subst}
 use Rattle.bus_outer.specs.Sinks.{WritesText}
 use Rattle.bus_outer.specs.declared.sink.Sink.{Ghosts as SinkGhosts}
 use Rattle.bus_outer.specs.declared.sink.WriteFault.{WriteFault as Fault}
-use Rattle.bus_table.specs.Tables.{Table, Hand}
 use Rattle.bus_trace.specs.Traces.{Recording, trace_text}
 use Rattle.bus_tool.specs.declared.forms.Form.TheVariants.{Observe}
-use Rattle.bus_tool.specs.declared.inputs.Inputs.{Inputs as Taken}
 use Rattle.bus_tool.specs.declared.outcome.Outcome.{Outcome}
 use Rattle.bus_tool.specs.declared.outcome.Outcome.TheVariants.{Done}
 use Rattle.bus_tool.specs.Seen.{Seen, Sources, sink_seen}
 use Rattle.bus_tool.specs.Steps.{Prepares}
-use Rattle.bus_tool.specs.Due.{Inputs, hands_in, inputs_due}
-use Rattle.bus_tool.specs.Taken.{AreInputs}
-use Rattle.bus_tool.specs.Texts.{IsObserved, IsRecordingOf, IsObserveText}
+use Rattle.bus_tool.specs.Due.{inputs_due}
+use Rattle.bus_tool.specs.Texts.{IsRecordingOf, IsObserveText}
 use Rattle.bus_tool.specs.Acts.{written, DoesForm}
-use Rattle.bus_tool.proofs.PrepareLemmas.{prepares_on}
 use Rattle.bus_tool.proofs.DoLemmas.{Tells, answered, stopped}
-
--- the recording of what was taken
-recording_of : (horizon : ℕ) (table : Table) (hands : List Hand) (recording : Recording) (inputs : Inputs) → table ≡ inputs.table → hands ≡ hands_in inputs → IsObserved table hands horizon recording → IsRecordingOf horizon recording inputs
-recording_of horizon table hands recording inputs e f h = subst (λ t. IsObserved t (hands_in inputs) horizon recording) e (subst (λ l. IsObserved table l horizon recording) f h)
-
-pub recorded : (horizon : ℕ) (before after : Sources) (table : Table) (hands : Vec Hand Global) (recording : Recording) → Prepares AreInputs 2 inputs_due before after (Ok (record { table = table; hands = hands })) → IsObserved table hands.items horizon recording → Prepares (IsRecordingOf horizon) 2 inputs_due before after (Ok recording)
-recorded horizon before after table hands recording p h =
-    let taken : Taken = record { table = table; hands = hands } in
-    prepares_on AreInputs (IsRecordingOf horizon) 2 inputs_due before after taken recording (λ inputs are. recording_of horizon table hands.items recording inputs are.table are.hands h) p
 
 pub observe_stopped : (horizon : ℕ) (before after : Sources) (out : Seen) (o : Outcome) → Prepares (IsRecordingOf horizon) 2 inputs_due before after (Err o) → DoesForm (Observe horizon) before after out out o
 observe_stopped horizon before after out o p = stopped (IsRecordingOf horizon) (λ inputs. Done) (IsObserveText horizon) 2 inputs_due before after out o (λ inputs. refl) p

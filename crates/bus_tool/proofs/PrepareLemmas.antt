@@ -1,17 +1,17 @@
 -- The steps before the first written byte.
-use Rattle.std.specs.Prelude.{◌≡◌, ℕ, ◌≤◌, List, Option, IfSome, Result, Ok, Err, IfErr}
+use Rattle.std.specs.Prelude.{◌≡◌, ℕ, List, Option, IfSome, Result, Ok, Err, IfErr}
 use Rattle.std.proofs.Common.{arith, refl, sym, subst}
 use Rattle.bus_text.specs.AllOf.{◌>>=◌}
 use Rattle.bus_table.specs.Tables.{Table}
 use Rattle.bus_tool.specs.declared.outcome.Outcome.{Outcome}
 use Rattle.bus_tool.specs.declared.outcome.Outcome.TheVariants.{ReadFault, WriteFault, NoMemory}
-use Rattle.bus_tool.specs.Stages.{StandsFor, stage_in, Gives}
-use Rattle.bus_tool.specs.Seen.{Seen, Sources, both, told}
+use Rattle.bus_tool.specs.Stages.{StandsFor, Gives}
+use Rattle.bus_tool.specs.Seen.{Seen, both}
 use Rattle.bus_tool.specs.Steps.{Takes, Same, IsEarly, Prepares}
 use Rattle.bus_tool.specs.Due.{table_due}
-use Rattle.bus_tool.proofs.StageLemmas.{gives_then, gives_stop}
-use Rattle.bus_tool.proofs.ReachLemmas.{reads_own, reads_before, reads_behind, reads_less_first, reads_less_second, early_at, first_cause, second_cause}
-use Rattle.bus_tool.proofs.TakeLemmas.{for_some, if_map}
+use Rattle.bus_tool.proofs.StageLemmas.{gives_then}
+use Rattle.bus_tool.proofs.ReachLemmas.{reads_own, reads_before, early_at, first_cause, second_cause}
+use Rattle.bus_tool.proofs.TakeLemmas.{if_map}
 
 pub both_map : (a b : Option (List ℕ)) (P Q : List ℕ → List ℕ → Type 0) → ((x y : List ℕ) → P x y → Q x y) → IfSome a (λ x. IfSome b (λ y. P x y)) → IfSome a (λ x. IfSome b (λ y. Q x y))
 both_map a b P Q f h = if_map a (λ x. IfSome b (λ y. P x y)) (λ x. IfSome b (λ y. Q x y)) (λ x k. if_map b (λ y. P x y) (λ y. Q x y) (f x) k) h
@@ -55,19 +55,6 @@ prepares_one old new second (Err o) t = record {
   later = record { first = t.later; second = omega arith };
 }
 
--- a command that names both, where the first gave no table
-pub prepares_stop : {X Y : Type 0} (IsOf : X → Y → Type 0) (next : Table → List ℕ → Result Y Outcome) (old new second : Seen) (o : Outcome) → ((table : Table) (text : List ℕ) → 1 ≤ stage_in (next table text))
-    → Takes Same 1 table_due old new (Err o) → Prepares IsOf 2 (λ a b. table_due a >>= λ table. next table b) (both old second) (both new second) (Err o)
-prepares_stop IsOf next old new second o later t = record {
-  gives = if_map old.bytes _ _ (λ a g. for_some second.bytes _ (λ b. gives_stop Same IsOf 1 o (table_due a) (λ table. next table b) (omega arith) t.stops (λ table. later table b) g)) t.gives;
-  first = reads_own 1 o old new t.stops t.reads;
-  second = reads_behind o second t.stops;
-  order = if_map old.bytes _ _ (λ text g. order_stop o (table_due text) (second ≡ second) (early_at 1 o (omega arith) (omega arith) t.stops) refl g) t.gives;
-  early = early_at 1 o (omega arith) (omega arith) t.stops;
-  cause = first_cause 2 o old new second (omega arith) t.stops t.cause;
-  later = record { first = t.later; second = omega arith };
-}
-
 -- and where it gave one
 joined : {X Y : Type 0} (IsOf : X → Y → Type 0) (next : Table → List ℕ → Result Y Outcome) (first second : Option (List ℕ)) (table : Table) (r : Result X Outcome) → IfSome first (λ a. Gives Same (Ok table) (table_due a)) → IfSome second (λ b. Gives IsOf r (next table b))
     → IfSome first (λ a. IfSome second (λ b. Gives IsOf r (table_due a >>= λ t. next t b)))
@@ -92,41 +79,4 @@ prepares_both IsOf next old new old' new' table (Err o) t u = record {
   early = early_at 2 o (omega arith) (omega arith) u.stops;
   cause = second_cause o old new old' new' u.stops u.cause;
   later = record { first = t.later; second = u.later };
-}
-
--- ---- a step behind both sources
-gives_on : {X Y V : Type 0} (IsOf : X → Y → Type 0) (IsNext : V → Y → Type 0) (x : X) (v : V) (due : Result Y Outcome) → ((y : Y) → IsOf x y → IsNext v y) → Gives IsOf (Ok x) due → Gives IsNext (Ok v) due
-gives_on IsOf IsNext x v due f g = (g.0, g.1, f g.0 g.2)
-
--- it made another value
-pub prepares_on : {X Y V : Type 0} (IsOf : X → Y → Type 0) (IsNext : V → Y → Type 0) (named : ℕ) (made : List ℕ → List ℕ → Result Y Outcome) (before after : Sources) (x : X) (v : V)
-    → ((y : Y) → IsOf x y → IsNext v y) → Prepares IsOf named made before after (Ok x) → Prepares IsNext named made before after (Ok v)
-prepares_on IsOf IsNext named made before after x v f p = record {
-  gives = both_map (told named 1 before.first) (told named 2 before.second) _ _ (λ a b g. gives_on IsOf IsNext x v (made a b) f g) p.gives;
-  first = p.first;
-  second = p.second;
-  order = p.order;
-  early = tt;
-  cause = tt;
-  later = p.later;
-}
-
-memory_gives : {X Y : Type 0} (IsOf : X → Y → Type 0) (x : X) (due : Result Y Outcome) → Gives IsOf (Ok x) due → 1 ≤ stage_in due
-memory_gives IsOf x due g = subst (λ d. 1 ≤ stage_in d) (sym g.1) (omega arith)
-
-refused_no_more : (due : Result Table Outcome) (P : Type 0) → IfErr due (λ refusal. ⊥ × P) → IfErr due (λ refusal. StandsFor refusal NoMemory × P)
-refused_no_more (Ok table) P h = tt
-refused_no_more (Err refusal) P h = absurd h.0
-
--- it was refused memory
-pub prepares_no_memory : {X Y V : Type 0} (IsOf : X → Y → Type 0) (IsNext : V → Y → Type 0) (named : ℕ) (made : List ℕ → List ℕ → Result Y Outcome) (before after : Sources) (x : X)
-    → Prepares IsOf named made before after (Ok x) → Prepares IsNext named made before after (Err NoMemory)
-prepares_no_memory IsOf IsNext named made before after x p = record {
-  gives = both_map (told named 1 before.first) (told named 2 before.second) (λ a b. Gives IsOf (Ok x) (made a b)) (λ a b. 1 ≤ stage_in (made a b)) (λ a b g. memory_gives IsOf x (made a b) g) p.gives;
-  first = reads_less_first named before.first after.first p.first;
-  second = reads_less_second named before.second after.second p.second;
-  order = if_map before.first.bytes _ _ (λ text k. refused_no_more (table_due text) (after.second ≡ before.second) k) p.order;
-  early = tt;
-  cause = tt;
-  later = p.later;
 }

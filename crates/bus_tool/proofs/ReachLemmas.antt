@@ -35,11 +35,6 @@ takes_none : (bytes : Option (List ℕ)) → TakesSome bytes bytes (λ n. n ≤ 
 takes_none None = ([], refl, omega arith)
 takes_none (Some xs) = ([], refl, omega arith)
 
--- the second, where the first step stopped
-pub reads_behind : (o : Outcome) (seen : Seen) → StopsAt 1 o → Reads (reach_of 2 o) seen seen
-reads_behind NoMemory seen h = takes_none seen.bytes
-reads_behind o seen h = subst (λ stage. Reads (reach_at 2 stage (stopped_at o)) seen seen) (sym h) refl
-
 -- want of memory behind both
 pub reads_less_first : (named : ℕ) (old new : Seen) → Reads (reach named 1 Done) old new → Reads (reach named 1 NoMemory) old new
 reads_less_first named old new r = elim (nat_lt named 1) as (λ b. Reads (cond b Untouched Whole) old new → Reads (cond b Untouched Within) old new) [ true ↦ λ k. k | false ↦ λ k. k.0 ] r

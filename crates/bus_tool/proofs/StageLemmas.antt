@@ -16,8 +16,8 @@ use Rattle.bus_tool.specs.declared.outcome.Outcome.TheVariants.{Done, Answered, 
 use Rattle.bus_tool.specs.Outcomes.{is_written}
 use Rattle.bus_tool.specs.Stages.{stage_of, StandsFor, stage_in, Gives}
 use Rattle.bus_tool.specs.Seen.{text_limit}
-use Rattle.bus_tool.specs.Steps.{StopsAt, IsEarly}
-use Rattle.bus_tool.specs.Due.{text_due, table_or_refusal, table_due, items_or_refusal, fitting_or_refusal, items_due, with_items, outcome_with}
+use Rattle.bus_tool.specs.Steps.{IsEarly}
+use Rattle.bus_tool.specs.Due.{text_due, table_or_refusal, items_or_refusal, fitting_or_refusal, items_due, outcome_with}
 
 -- ---- the stages of what is due
 -- a text, and what comes behind it, at its stage or behind
@@ -37,9 +37,6 @@ read_table_stage (Err Memory) = omega arith
 pub table_later : (text : List ℕ) → 1 ≤ stage_in (table_or_refusal (answer_of text))
 table_later text = read_table_stage (answer_of text)
 
-pub table_stage : (text : List ℕ) → 1 ≤ stage_in (table_due text)
-table_stage text = then_stage 1 (text_due 1 text) (λ whole. table_or_refusal (answer_of whole)) (text_stage 1 text (omega arith)) table_later
-
 fit_stage : (fit : Result (Unit {0}) FitError) (items : List Item) → 2 ≤ stage_in (fitting_or_refusal fit items)
 fit_stage (Ok u) items = omega arith
 fit_stage (Err error) items = omega arith
@@ -54,21 +51,11 @@ items_later table text = then_stage 2 (items_or_refusal (messages_reading text))
 pub items_stage : (table : Table) (text : List ℕ) → 2 ≤ stage_in (items_due table text)
 items_stage table text = then_stage 2 (text_due 2 text) (λ whole. items_or_refusal (messages_reading whole) >>= λ items. fitting_or_refusal (items_fit table items) items) (text_stage 2 text (omega arith)) (items_later table)
 
-pub inputs_later : (table : Table) (text : List ℕ) → 2 ≤ stage_in (items_due table text >>= λ items. Ok (with_items table items))
-inputs_later table text = then_stage 2 (items_due table text) (λ items. Ok (with_items table items)) (items_stage table text) (λ items. omega arith)
-
 -- ---- what steps give together
 -- the step before gave this
 pub gives_then : {X Y V W : Type 0} (IsOf : X → Y → Type 0) (IsNext : V → W → Type 0) (x : X) (due : Result Y Outcome) (f : Y → Result W Outcome) (r : Result V Outcome)
     → Gives IsOf (Ok x) due → ((y : Y) → IsOf x y → Gives IsNext r (f y)) → Gives IsNext r (due >>= f)
 gives_then IsOf IsNext x due f r g next = subst (λ d. Gives IsNext r (d >>= f)) (sym g.1) (next g.0 g.2)
-
--- the step before stopped
-pub gives_stop : {X Y V W : Type 0} (IsOf : X → Y → Type 0) (IsNext : V → W → Type 0) (n : ℕ) (o : Outcome) (due : Result Y Outcome) (f : Y → Result W Outcome)
-    → 1 ≤ n → StopsAt n o → ((y : Y) → n ≤ stage_in (f y)) → Gives IsOf (Err o) due → Gives IsNext (Err o) (due >>= f)
-gives_stop IsOf IsNext n NoMemory due f some stop later h = then_stage 1 due f h (λ y. omega (arith, later y))
-gives_stop IsOf IsNext n (ReadFault source) due f some stop later h = then_stage source due f h (λ y. omega (arith, later y))
-gives_stop IsOf IsNext n o due f some stop later h = ap (λ d. d >>= f) h
 
 -- ---- what stands for the outcome that is due
 pub written_stage : (o : Outcome) → is_written o ≡ true → stage_of o ≡ 3

@@ -27,8 +27,8 @@ Leaves outcome IsTheText old new = new ≡ old
 
 -- what a command comes to whose answer was written so
 abbrev pub written : Result (Unit {0}) Fault → Outcome → Outcome
-written (Ok u) answer = answer
-written (Err fault) answer = WriteFault
+written (Ok u) reply = reply
+written (Err fault) reply = WriteFault
 
 -- a failure of the outside comes only where the count of that source or sink rose
 abbrev pub HasCause : ℕ → Sources → Sources → Seen → Seen → Outcome → Type 0
