@@ -57,6 +57,7 @@ no_items laws first second table (Unfit error) h k =
       table = table;
       items = w.0;
       table_stands = (laws.reads_table first table (table_read first table h)).0;
+      valid = (laws.reads_table first table (table_read first table h)).1;
       items_stand = laws.reads_items second w.0 w.1.read;
       why = w.1.fits;
     }
@@ -75,6 +76,7 @@ texts_with laws Holds first second inputs h why =
       table = inputs.table;
       items = inputs.items;
       table_stands = (laws.reads_table first inputs.table (table_read first inputs.table read.table_is)).0;
+      valid = (laws.reads_table first inputs.table (table_read first inputs.table read.table_is)).1;
       items_stand = laws.reads_items second inputs.items items.read;
       fit = items.fits;
       why = why;

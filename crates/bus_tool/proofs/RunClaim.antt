@@ -23,7 +23,7 @@ use Rattle.bus_tool.specs.Seen.{Seen, Sources}
 use Rattle.bus_tool.specs.Due.{Inputs, with_items, inputs_due, even_due, accepted_due, may_run, runs, run_due, outcome_with}
 use Rattle.bus_tool.specs.Texts.{IsRunText, IsTextOf}
 use Rattle.bus_tool.specs.Acts.{Acts}
-use Rattle.bus_tool.specs.RunClaims.{AreEvenItems, IsRunCall, IsTheRun, GivesRun}
+use Rattle.bus_tool.specs.RunClaims.{AreEvenItems, IsRunOf, IsTheRun, GivesRun}
 use Rattle.bus_tool.proofs.LawTypes.{TextReadsAsItsTable, TextReadsAsItsItems, FittingItemsGiveHands}
 use Rattle.bus_tool.proofs.ClaimLemmas.{answers, does_of}
 use Rattle.bus_tool.proofs.ToldLemmas.{table_told, items_told, inputs_told}
@@ -74,7 +74,7 @@ accepted_if table accepted = cond accepted (Ok tt) (Err (Refused (verdict_of tab
 may_be_run : (table : Table) (hands : List Hand) → uneven_of table hands ≡ None → IsTrue (is_accepted (verdict_of table)) → may_run table hands ≡ Ok tt
 may_be_run table hands none accepted = ap (λ found. even_due found >>= λ _. accepted_due (verdict_of table)) none ∙ ap (accepted_if table) accepted
 
-run_told : RunLaws → (words : List (List ℕ)) (table : Table) (items : List Item) (before after : Sources) (out out' : Seen) (h : IsRunCall words table items before after out out') → run_due h.table_told.text h.items_told.text ≡ Ok (with_items table items)
+run_told : RunLaws → (words : List (List ℕ)) (table : Table) (items : List Item) (before after : Sources) (out out' : Seen) (h : IsRunOf words table items before after out out') → run_due h.table_told.text h.items_told.text ≡ Ok (with_items table items)
 run_told laws words table items before after out out' h =
     let due : inputs_due h.table_told.text h.items_told.text ≡ Ok (with_items table items) = inputs_told table items h.table_told.text h.items_told.text (table_told laws.table_again table before.first h.table_told) (items_told laws.items_again table items before.second h.items_told) in
     let dealt : IsTrue (are_hands table.senders (hands_of table items)) = laws.give_hands table items h.table_told.valid (subst IsOk (sym h.items_told.fit) refl) in
@@ -88,7 +88,7 @@ due_text inputs due text is h = (let same : Ok h.0 ≡ due = sym h.1 in let e : 
 the_run : (table : Table) (items : List Item) (text : List ℕ) → IsRunText (with_items table items) text → IsTheRun table (hands_of table items) text
 the_run table items text h = record { recording = h.recording; ran = h.ran; text_is = h.text_is }
 
-pub run_claim : RunLaws → (words : List (List ℕ)) (before after : Sources) (out out' : Seen) (outcome : Outcome) (table : Table) (items : List Item) → Acts words before after out out' outcome → IsRunCall words table items before after out out' → GivesRun table items out out' (status_of outcome)
+pub run_claim : RunLaws → (words : List (List ℕ)) (before after : Sources) (out out' : Seen) (outcome : Outcome) (table : Table) (items : List Item) → Acts words before after out out' outcome → IsRunOf words table items before after out out' → GivesRun table items out out' (status_of outcome)
 run_claim laws words before after out out' outcome table items acts h =
     let first = h.table_told.text in
     let second = h.items_told.text in

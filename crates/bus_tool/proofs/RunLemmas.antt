@@ -33,7 +33,7 @@ use Rattle.bus_tool.specs.Stages.{stage_in, Gives}
 use Rattle.bus_tool.specs.Steps.{IsLate, Prepares}
 use Rattle.bus_tool.specs.Due.{Inputs, hands_in, inputs_due, uneven_refusal, schedule_refusal, even_due, accepted_due, short_due, may_run, can_run, runs, run_due}
 use Rattle.bus_tool.specs.Taken.{AreInputs}
-use Rattle.bus_tool.specs.Texts.{holds_of, IsRanged, IsRan, IsRunOf, IsRunText}
+use Rattle.bus_tool.specs.Texts.{holds_of, IsRanged, IsRunRecording, IsRunRecordingOf, IsRunText}
 use Rattle.bus_tool.specs.Acts.{written, DoesForm}
 use Rattle.bus_tool.proofs.StageLemmas.{then_stage}
 use Rattle.bus_tool.proofs.HoldLemmas.{AreFew}
@@ -102,25 +102,25 @@ pub can_be_run : (table : Table) (hands : List Hand) → may_run table hands ≡
 can_be_run table hands may short = ap (λ d. d >>= λ _. short_due (closed_end table hands)) may ∙ short_end (closed_end table hands) short
 
 -- what was asked of the inputs is what is due of them
-ran_of : (table : Table) (hands : List Hand) (r : Result Recording Outcome) (inputs : Inputs) → Gives (λ trace _. IsRan table hands trace) r (can_run table hands) → table ≡ inputs.table → hands ≡ hands_in inputs → Gives (λ trace _. IsRunOf trace inputs) r (can_run inputs.table (hands_in inputs))
-ran_of table hands r inputs g e f = subst (λ t. Gives (λ trace _. IsRan t (hands_in inputs) trace) r (can_run t (hands_in inputs))) e (subst (λ l. Gives (λ trace _. IsRan table l trace) r (can_run table l)) f g)
+ran_of : (table : Table) (hands : List Hand) (r : Result Recording Outcome) (inputs : Inputs) → Gives (λ trace _. IsRunRecording table hands trace) r (can_run table hands) → table ≡ inputs.table → hands ≡ hands_in inputs → Gives (λ trace _. IsRunRecordingOf trace inputs) r (can_run inputs.table (hands_in inputs))
+ran_of table hands r inputs g e f = subst (λ t. Gives (λ trace _. IsRunRecording t (hands_in inputs) trace) r (can_run t (hands_in inputs))) e (subst (λ l. Gives (λ trace _. IsRunRecording table l trace) r (can_run table l)) f g)
 
-pub ran_inputs : (before after : Sources) (table : Table) (hands : Vec Hand Global) (r : Result Recording Outcome) → Prepares AreInputs 2 inputs_due before after (Ok (record { table = table; hands = hands })) → Gives (λ trace _. IsRan table hands.items trace) r (can_run table hands.items) → IfErr r IsLate
-    → Prepares IsRunOf 2 run_due before after r
+pub ran_inputs : (before after : Sources) (table : Table) (hands : Vec Hand Global) (r : Result Recording Outcome) → Prepares AreInputs 2 inputs_due before after (Ok (record { table = table; hands = hands })) → Gives (λ trace _. IsRunRecording table hands.items trace) r (can_run table hands.items) → IfErr r IsLate
+    → Prepares IsRunRecordingOf 2 run_due before after r
 ran_inputs before after table hands r p g late =
     let taken : Taken = record { table = table; hands = hands } in
-    prepares_asks AreInputs IsRunOf 2 inputs_due (λ inputs. can_run inputs.table (hands_in inputs)) before after taken r late (λ inputs are. ran_of table hands.items r inputs g are.table are.hands) p
+    prepares_asks AreInputs IsRunRecordingOf 2 inputs_due (λ inputs. can_run inputs.table (hands_in inputs)) before after taken r late (λ inputs are. ran_of table hands.items r inputs g are.table are.hands) p
 
-pub no_inputs : (before after : Sources) (o : Outcome) (r : Result Recording Outcome) → IsErrAnd r (λ came. came ≡ o) → Prepares AreInputs 2 inputs_due before after (Err o) → Prepares IsRunOf 2 run_due before after r
+pub no_inputs : (before after : Sources) (o : Outcome) (r : Result Recording Outcome) → IsErrAnd r (λ came. came ≡ o) → Prepares AreInputs 2 inputs_due before after (Err o) → Prepares IsRunRecordingOf 2 run_due before after r
 no_inputs before after o r h p =
     let came = err_from_is_err_and r h in
-    subst (Prepares IsRunOf 2 run_due before after) (sym (came.1 ∙ ap Err came.2)) (prepares_past AreInputs IsRunOf 2 inputs_due runs before after o runs_stage p)
+    subst (Prepares IsRunRecordingOf 2 run_due before after) (sym (came.1 ∙ ap Err came.2)) (prepares_past AreInputs IsRunRecordingOf 2 inputs_due runs before after o runs_stage p)
 
 -- ---- the command
-pub run_stopped : (before after : Sources) (out : Seen) (o : Outcome) → Prepares IsRunOf 2 run_due before after (Err o) → DoesForm Run before after out out o
-run_stopped before after out o p = stopped IsRunOf (λ inputs. Done) IsRunText 2 run_due before after out o (λ inputs. refl) p
+pub run_stopped : (before after : Sources) (out : Seen) (o : Outcome) → Prepares IsRunRecordingOf 2 run_due before after (Err o) → DoesForm Run before after out out o
+run_stopped before after out o p = stopped IsRunRecordingOf (λ inputs. Done) IsRunText 2 run_due before after out o (λ inputs. refl) p
 
-tells : (recording : Recording) → Tells IsRunOf (λ inputs. Done) IsRunText recording Done (trace_text recording)
+tells : (recording : Recording) → Tells IsRunRecordingOf (λ inputs. Done) IsRunText recording Done (trace_text recording)
 tells recording = record {
   yes = refl;
   answers = λ inputs is. refl;
@@ -128,11 +128,11 @@ tells recording = record {
 }
 
 pub run_answered : {K : Type 0} (before after : Sources) (ghosts : SinkGhosts K) (k k' : K) (recording : Recording) (outcome : Outcome) (result : Result (Unit {0}) Fault)
-    → Prepares IsRunOf 2 run_due before after (Ok recording) → WritesText ghosts.held ghosts.faults k k' result (trace_text recording) → outcome ≡ written result Done
+    → Prepares IsRunRecordingOf 2 run_due before after (Ok recording) → WritesText ghosts.held ghosts.faults k k' result (trace_text recording) → outcome ≡ written result Done
     → DoesForm Run before after (sink_seen ghosts k) (sink_seen ghosts k') outcome
 run_answered before after ghosts k k' recording outcome result p w h =
     subst (DoesForm Run before after (sink_seen ghosts k) (sink_seen ghosts k')) (sym h)
-    (answered IsRunOf (λ inputs. Done) IsRunText 2 run_due before after ghosts k k' recording Done (trace_text recording) result (tells recording) p w)
+    (answered IsRunRecordingOf (λ inputs. Done) IsRunText 2 run_due before after ghosts k k' recording Done (trace_text recording) result (tells recording) p w)
 
 -- ---- the trace of a run
 pub run_is_trace : (table : Table) (hands : List Hand) (end : ℕ) (holds : List Hold) (list : List Entry) → end ≡ closed_end table hands → closed_end table hands ≤ longest_end → AreFew hands → holds ≡ holds_of hands → IsRun table hands list → AllByRecursion IsRanged list → IsTrace (record { horizon = end; holds = holds; list = list })
@@ -140,6 +140,6 @@ run_is_trace table hands end holds list e short few same run ranged =
     observed_is_trace table hands end holds list (omega arith) few same (subst (λ n. IsLawful (quiet_of table) (stations_of table hands) n list) (sym e) run.lawful) ranged
 
 pub run_gives : (table : Table) (hands : List Hand) (end : ℕ) (holds : List Hold) (list : List Entry) (recording : Recording) → may_run table hands ≡ Ok tt → closed_end table hands ≤ longest_end → end ≡ closed_end table hands → holds ≡ holds_of hands → IsRun table hands list
-    → recording ≡ record { horizon = end; holds = holds; list = list } → Gives (λ trace _. IsRan table hands trace) (Ok recording) (can_run table hands)
+    → recording ≡ record { horizon = end; holds = holds; list = list } → Gives (λ trace _. IsRunRecording table hands trace) (Ok recording) (can_run table hands)
 run_gives table hands end holds list recording may short e same run is =
-    (tt, can_be_run table hands may short, subst (IsRan table hands) (sym is) (record { horizon = e; holds = same; run = run }))
+    (tt, can_be_run table hands may short, subst (IsRunRecording table hands) (sym is) (record { horizon = e; holds = same; run = run }))

@@ -24,7 +24,7 @@ use Rattle.bus_tool.specs.declared.outcome.Outcome.TheVariants.{Done}
 use Rattle.bus_tool.specs.Forms.{form_of}
 use Rattle.bus_tool.specs.Outcomes.{is_written}
 use Rattle.bus_tool.specs.Due.{Inputs, hands_in, table_due, inputs_due, run_due, verdict_outcome, outcome_with, form_due, outcome_for}
-use Rattle.bus_tool.specs.Texts.{holds_of, IsRecordingOf, IsObserveText, IsRunOf, IsRunText, IsCheckText, IsTextOf, IsFormText, IsTextFor}
+use Rattle.bus_tool.specs.Texts.{holds_of, IsRecordingOf, IsObserveText, IsRunRecordingOf, IsRunText, IsCheckText, IsTextOf, IsFormText, IsTextFor}
 use Rattle.bus_tool.specs.TextLaws.{OneCommandText, AnswersHaveTexts}
 use Rattle.bus_tool.proofs.LawTypes.{ReadsATable, FittingItemsGiveHands}
 use Rattle.bus_tool.proofs.ReadLemmas.{table_read, items_read, inputs_read, table_unwritten, inputs_unwritten}
@@ -69,7 +69,7 @@ observe_text inputs horizon one =
     (trace_text recording, record { recording = recording; observed = record { horizon = refl; holds = refl; lawful = one.lawful }; text_is = refl })
 
 -- ---- runs
-ran_is : (inputs : Inputs) (recording : Recording) → IsRunOf recording inputs → recording ≡ record { horizon = closed_end inputs.table (hands_in inputs); holds = holds_of (hands_in inputs); list = closed inputs.table (hands_in inputs) }
+ran_is : (inputs : Inputs) (recording : Recording) → IsRunRecordingOf recording inputs → recording ≡ record { horizon = closed_end inputs.table (hands_in inputs); holds = holds_of (hands_in inputs); list = closed inputs.table (hands_in inputs) }
 ran_is inputs recording h =
     ap (λ (n : ℕ). recorded n recording.holds recording.list) h.horizon ∙ ap (λ (l : List Hold). recorded (closed_end inputs.table (hands_in inputs)) l recording.list) h.holds
     ∙ ap (recorded (closed_end inputs.table (hands_in inputs)) (holds_of (hands_in inputs))) h.run.closed

@@ -1,5 +1,6 @@
--- The cause of each refusal of a text, by the relation between a value and its texts and not by how they are read.
-use Rattle.std.specs.Prelude.{◌≡◌, ℕ, ◌<◌, false, List, IfSome, Some, Ok, Err}
+-- The cause of each refusal, by the relation between a value and its texts and not by how they are read. Which of several comes is the
+-- order of `Due`.
+use Rattle.std.specs.Prelude.{◌≡◌, ℕ, ◌<◌, false, IsTrue, List, IfSome, Some, Ok, Err}
 use Rattle.bus_strings.specs.Items.{Item}
 use Rattle.bus_strings.specs.Grammar.{IsMessagesText}
 use Rattle.bus_table.specs.declared.fit.FitError.{FitError}
@@ -8,6 +9,7 @@ use Rattle.bus_table.specs.Tables.{Table}
 use Rattle.bus_table.specs.Fits.{items_fit}
 use Rattle.bus_table.specs.Hands.{hands_of}
 use Rattle.bus_table.specs.Text.{IsBuiltText}
+use Rattle.bus_table.specs.Valid.{is_valid}
 use Rattle.bus_table.specs.Whole.{whole_refusal}
 use Rattle.bus_regime.specs.declared.verdict.TableVerdict.{TableVerdict}
 use Rattle.bus_regime.specs.Verdicts.{verdict_of, is_accepted}
@@ -35,19 +37,21 @@ pub record IsWrongTableText (reason : WholeReason) (text : List ℕ) : Type 0 wh
 abbrev pub IsNoMessagesText : List ℕ → Type 0
 IsNoMessagesText text = (items : List Item) → IsMessagesText items text → ⊥
 
--- a table has the first text, and items have the second, of which this is the first that doesn't fit the table
+-- a valid table has the first text, and items have the second, of which this is the first that doesn't fit the table
 pub record IsUnfitText (error : FitError) (first second : List ℕ) : Type 0 where
   pub table : Table
   pub items : List Item
   pub table_stands : IsBuiltText table first
+  pub valid : IsTrue (is_valid table)
   pub items_stand : IsMessagesText items second
   pub why : items_fit table items ≡ Err error
 
--- a table has the first text, and items that fit it have the second, of which this holds
+-- a valid table has the first text, and items that fit it have the second, and this holds of them
 pub record AreTextsWith (Holds : Table → List Item → Type 0) (first second : List ℕ) : Type 0 where
   pub table : Table
   pub items : List Item
   pub table_stands : IsBuiltText table first
+  pub valid : IsTrue (is_valid table)
   pub items_stand : IsMessagesText items second
   pub fit : items_fit table items ≡ Ok tt
   pub why : Holds table items
@@ -64,7 +68,7 @@ IsRefusal verdict table items = (verdict ≡ verdict_of table) × (is_accepted v
 abbrev pub IsLongEnd : ℕ → Table → List Item → Type 0
 IsLongEnd end table items = (end ≡ closed_end table (hands_of table items)) × (longest_end < end)
 
--- the cause of an outcome that refuses a text, or what is asked of both
+-- the cause of an outcome that refuses a text, or a table and items that were read
 abbrev pub RefusesTexts : Outcome → List ℕ → List ℕ → Type 0
 RefusesTexts (TableText line reason) first second = IsNoTableText first
 RefusesTexts (TableWhole reason) first second = IsWrongTableText reason first

@@ -5,16 +5,13 @@ use Rattle.std.specs.declared.alloc.Global.{Global}
 use Rattle.std.specs.String.{string_bytes}
 use Rattle.std.specs.Str.{bytes_eq}
 use Rattle.bus_text.specs.Numbers.{is_plain_decimal, decimal_value}
+pub use Rattle.bus_trace.specs.Traces.{horizon_limit}
 use Rattle.bus_tool.specs.declared.forms.Form.{Form}
 use Rattle.bus_tool.specs.declared.forms.Form.TheVariants.{Check, Observe, Run}
 
 -- the words of the program, as bytes
 abbrev pub words_of : List (String Global) → List (List ℕ)
 words_of words = map string_bytes words
-
--- the greatest horizon, in bit times from the settled start
-abbrev pub horizon_limit : ℕ
-horizon_limit = 20000000
 
 -- whether a word is the plain decimal of a horizon
 abbrev pub is_horizon : List ℕ → Bool

@@ -11,7 +11,7 @@ use Rattle.bus_trace.specs.Traces.{Recording, trace_text}
 use Rattle.bus_tool.specs.declared.status.Status.{Status}
 use Rattle.bus_tool.specs.declared.status.Status.TheVariants.{Done}
 use Rattle.bus_tool.specs.Seen.{Seen, Sources}
-use Rattle.bus_tool.specs.Texts.{IsRan}
+use Rattle.bus_tool.specs.Texts.{IsRunRecording}
 use Rattle.bus_tool.specs.Claims.{IsUndisturbed, TellsTable, TellsItems, Answers}
 
 -- the words are `run` and two more
@@ -27,7 +27,7 @@ pub record AreEvenItems (table : Table) (items : List Item) : Type 0 where
 
 -- A call of `run T M` on texts of a valid table that the checker accepts and of items that fit it, as many for each sender, in which
 -- nothing outside fails; the closed end is within its limit.
-pub record IsRunCall (words : List (List ℕ)) (table : Table) (items : List Item) (before after : Sources) (out out' : Seen) : Type 0 where
+pub record IsRunOf (words : List (List ℕ)) (table : Table) (items : List Item) (before after : Sources) (out out' : Seen) : Type 0 where
   pub form : IsRunForm words
   pub table_told : TellsTable table before.first
   pub accepted : IsTrue (is_accepted (verdict_of table))
@@ -39,7 +39,7 @@ pub record IsRunCall (words : List (List ℕ)) (table : Table) (items : List Ite
 -- the text of the one trace of the run: its horizon is the closed end, its holds are those of the hands, and its list is the run
 pub record IsTheRun (table : Table) (hands : List Hand) (text : List ℕ) : Type 0 where
   pub recording : Recording
-  pub ran : IsRan table hands recording
+  pub ran : IsRunRecording table hands recording
   pub text_is : text ≡ trace_text recording
 
 -- that text is written, and the status is Done

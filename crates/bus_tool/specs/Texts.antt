@@ -51,18 +51,18 @@ pub record IsObserveText (horizon : ℕ) (inputs : Inputs) (text : List ℕ) : T
   pub text_is : text ≡ trace_text recording
 
 -- the recording of a run: its horizon is the closed end, what each sender held, and the run
-pub record IsRan (table : Table) (hands : List Hand) (recording : Recording) : Type 0 where
+pub record IsRunRecording (table : Table) (hands : List Hand) (recording : Recording) : Type 0 where
   pub horizon : recording.horizon ≡ closed_end table hands
   pub holds : recording.holds ≡ holds_of hands
   pub run : IsRun table hands recording.list
 
-abbrev pub IsRunOf : Recording → Inputs → Type 0
-IsRunOf recording inputs = IsRan inputs.table (hands_in inputs) recording
+abbrev pub IsRunRecordingOf : Recording → Inputs → Type 0
+IsRunRecordingOf recording inputs = IsRunRecording inputs.table (hands_in inputs) recording
 
 -- the trace text of a run
 pub record IsRunText (inputs : Inputs) (text : List ℕ) : Type 0 where
   pub recording : Recording
-  pub ran : IsRunOf recording inputs
+  pub ran : IsRunRecordingOf recording inputs
   pub text_is : text ≡ trace_text recording
 
 -- a transmission as its type has it: of a terminal 1 to 128, with a message in its ranges

@@ -253,8 +253,9 @@ fn plain_text<K: Sink>(outcome: &Outcome, err: &mut K) -> Result<(), WriteFault>
     text.finish(err)
 }
 
-/// Writes the line that says why there is no answer, which is a verdict's where its table's senders aren't run; nothing where the answer is written. It takes no memory. After a `WriteFault`,
-/// which comes only where the sink's count of faults rose, the sink has taken a beginning of the line.
+/// Writes the line of an outcome: nothing where the answer is written, the verdict line where the senders of a table aren't run, else the
+/// ERROR line. It takes no memory. After a `WriteFault`, which comes only where the sink's count of faults rose, the sink has taken a
+/// beginning of the line.
 pub fn outcome_text<K: Sink>(outcome: &Outcome, err: &mut K) -> Result<(), WriteFault>
     ensures { WritesText K.held K.faults err.old err.new result (fault_line outcome.now) }
 {

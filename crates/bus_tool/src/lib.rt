@@ -17,6 +17,8 @@ mod observe;
 mod observe_tests;
 pub mod outcome;
 mod run;
+#[cfg(test)]
+mod run_tests;
 pub mod status;
 #[cfg(test)]
 mod tests;

@@ -5,12 +5,12 @@ use bus_outer::{MemorySink, MemorySource};
 use std::test::Fail;
 
 /// Two senders with a long synchronization gap and short messages.
-const LONG_GAP: &str =
+pub const LONG_GAP: &str =
     "TABLE 1\nMODE aperiodic\nTI 1000\nSG 1000\nSENDER 1 TG 20\nSEND 0A1 1 2 2\nSENDER 2 TG 30\nSEND 0B2 1 0 2\n";
 
-const ONE_EACH: &str = "MESSAGES 1\nMSG 1 : 0000 0001\nMSG 2 : 00FF\n";
+pub const ONE_EACH: &str = "MESSAGES 1\nMSG 1 : 0000 0001\nMSG 2 : 00FF\n";
 
-const ONE_EACH_SEEN: &str =
+pub const ONE_EACH_SEEN: &str =
     "TRACE 1\nHORIZON 150\nHOLD 1 1\nHOLD 2 1\nTX 20 1\nWS L0A111 D00001 D00010\nTX 110 2\nWS L0B210 D00FF1\nEND\n";
 
 fn observe(rt: &HostRuntime, table: &str, messages: &str, horizon: &str) -> Result<Ran, Fail> {
@@ -28,7 +28,7 @@ fn observe(rt: &HostRuntime, table: &str, messages: &str, horizon: &str) -> Resu
 }
 
 /// The TX lines of a trace text.
-fn starts(rt: &HostRuntime, trace: &[u8]) -> Result<Vec<u8>, Fail> {
+pub fn starts(rt: &HostRuntime, trace: &[u8]) -> Result<Vec<u8>, Fail> {
     let mut starts = Vec::new(rt.alloc());
     for line in trace.split(|byte| *byte == b'\n') {
         if line.starts_with(b"TX") {
@@ -40,7 +40,7 @@ fn starts(rt: &HostRuntime, trace: &[u8]) -> Result<Vec<u8>, Fail> {
 }
 
 /// Two rounds: 2 words of terminal 1 and 30 of terminal 2, all 0.
-fn two_rounds(rt: &HostRuntime) -> Result<String, Fail> {
+pub fn two_rounds(rt: &HostRuntime) -> Result<String, Fail> {
     let mut text = String::from_str(rt.alloc(), "MESSAGES 1\n")?;
     for _ in 0..2 {
         text.push_str("MSG 1 : 0000 0000\nMSG 2 :")?;
@@ -104,8 +104,8 @@ fn hands_of_different_lengths(rt: HostRuntime) -> Result<(), Fail> {
     Ok(())
 }
 
-/// Whether `observe` is refused so, with nothing on `out`.
-fn is_refused(ran: &Ran, status: Status, line: &[u8]) -> bool {
+/// Whether a command is refused so, with nothing on `out`.
+pub fn is_refused(ran: &Ran, status: Status, line: &[u8]) -> bool {
     ran.status == status && ran.out.bytes().is_empty() && ran.err.bytes() == line
 }
 

@@ -9,7 +9,7 @@ ghost use Rattle.bus_tool.specs.Seen.{sources_seen, sink_seen};
 ghost use Rattle.bus_tool.specs.Stages.{Gives};
 ghost use Rattle.bus_tool.specs.Steps.{IsLate, Prepares};
 ghost use Rattle.bus_tool.specs.Taken.{AreReady};
-ghost use Rattle.bus_tool.specs.Texts.{IsRan, IsRunOf};
+ghost use Rattle.bus_tool.specs.Texts.{IsRunRecording, IsRunRecordingOf};
 ghost use Rattle.bus_tool.specs.declared.forms.Form.TheVariants.{Run};
 
 use crate::answer::after_writing;
@@ -51,7 +51,7 @@ fn may_run(table: &Table, hands: &[Hand]) -> Result<(), Outcome>
 fn record(alloc: Global, table: &Table, hands: Vec<Hand>) -> Result<Trace, Outcome>
     requires aperiodic { table.now.mode ≡ Aperiodic }
     requires ready { AreReady table.now hands.items }
-    ensures gives { Gives (λ trace _. IsRan table.now hands.items trace) result (can_run table.now hands.items) }
+    ensures gives { Gives (λ trace _. IsRunRecording table.now hands.items trace) result (can_run table.now hands.items) }
     ensures late { IfErr result IsLate }
 {
     may_run(table, &hands)?;
@@ -64,7 +64,7 @@ fn record(alloc: Global, table: &Table, hands: Vec<Hand>) -> Result<Trace, Outco
 
 /// The trace that `run` writes, or why there is none. All the memory of the command is taken here.
 fn ran<S: Source>(alloc: Global, first: &mut S, second: &mut S) -> Result<Trace, Outcome>
-    ensures { Prepares IsRunOf 2 run_due (sources_seen ⟦<S as Source>⟧ first.old second.old) (sources_seen ⟦<S as Source>⟧ first.new second.new) result }
+    ensures { Prepares IsRunRecordingOf 2 run_due (sources_seen ⟦<S as Source>⟧ first.old second.old) (sources_seen ⟦<S as Source>⟧ first.new second.new) result }
 {
     let Inputs { table, hands } = take_inputs(alloc, first, second)?;
     record(alloc, &table, hands)

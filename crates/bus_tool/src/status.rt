@@ -6,7 +6,7 @@ ghost use Rattle.bus_tool.specs.Statuses.{number_of};
 pub enum Status {
     /// The answer is written, and it is yes where it is a yes or no.
     Done,
-    /// The answer is written, and it is no.
+    /// The answer is no: it is written on the output, or, where the senders of a table aren't run, its verdict on the error output.
     Refused,
     /// The words are no form.
     Usage,

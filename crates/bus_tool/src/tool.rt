@@ -5,7 +5,7 @@ ghost use Rattle.bus_tool.specs.Acts.{Acts, TellsFault};
 ghost use Rattle.bus_tool.specs.Claims.{IsCheckOf, GivesVerdict, IsObserveOf, GivesTrace};
 ghost use Rattle.bus_tool.specs.Forms.{words_of};
 ghost use Rattle.bus_tool.specs.Outcomes.{status_of};
-ghost use Rattle.bus_tool.specs.RunClaims.{IsRunCall, GivesRun};
+ghost use Rattle.bus_tool.specs.RunClaims.{IsRunOf, GivesRun};
 ghost use Rattle.bus_tool.specs.Seen.{sources_seen, sink_seen};
 ghost use Rattle.bus_tool.specs.declared.outcome.Outcome.{Outcome as Came};
 
@@ -39,7 +39,7 @@ pub fn tool<S: Source, K: Sink, E: Sink>(
 
     // `run T M` of texts of a valid table that is accepted and of items that fit, as many for each sender, where nothing outside fails: the
     // one trace, which is the closed schedule, or want of memory.
-    ensures run { (table : Table) (items : List Item) → IsRunCall (words_of words.now) table items (sources_seen ⟦<S as Source>⟧ first.old second.old) (sources_seen ⟦<S as Source>⟧ first.new second.new) (sink_seen ⟦<K as Sink>⟧ out.old) (sink_seen ⟦<K as Sink>⟧ out.new)
+    ensures run { (table : Table) (items : List Item) → IsRunOf (words_of words.now) table items (sources_seen ⟦<S as Source>⟧ first.old second.old) (sources_seen ⟦<S as Source>⟧ first.new second.new) (sink_seen ⟦<K as Sink>⟧ out.old) (sink_seen ⟦<K as Sink>⟧ out.new)
         → GivesRun table items (sink_seen ⟦<K as Sink>⟧ out.old) (sink_seen ⟦<K as Sink>⟧ out.new) result }
 
     // Of any words and bytes: the outcome that is due or a fault in its place, what was taken and written, what `err` holds, and the status.
