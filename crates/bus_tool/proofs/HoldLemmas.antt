@@ -40,44 +40,49 @@ unfolding terminal_numbers
 holds_all hands number holds last h = (let e : number - 1 ≡ 128 = omega arith in h ∙ ap (λ k. filter_map (hold_at hands) (range_with_len 1 k)) e)
 
 -- a hold is of its number
-record Numbered (n : ℕ) (hold : Hold) : Type 0 where
-  terminal : hold.terminal ≡ n
-  count : hold.count ≤ text_limit
-
-hold_numbered : (hands : List Hand) (n : ℕ) → AreFew hands → IfSome (hold_at hands n) (Numbered n)
-hold_numbered [] n few = tt
-hold_numbered (hand ∷ hands) n few =
-    elim (hand.terminal == n) as (λ b. (hand.terminal == n) ≡ b → IfSome (option_map hold_of (cond b (Some hand) (find (λ h. h.terminal == n) hands))) (Numbered n)) [
-      | true ↦ λ e. record { terminal = grind (arith, nat_tests); count = few.0 }
-      | false ↦ λ e. hold_numbered hands n few.1
+numbered : (hands : List Hand) (n : ℕ) → IfSome (hold_at hands n) (λ hold. hold.terminal ≡ n)
+numbered [] n = tt
+numbered (hand ∷ hands) n =
+    elim (hand.terminal == n) as (λ b. (hand.terminal == n) ≡ b → IfSome (option_map hold_of (cond b (Some hand) (find (λ h. h.terminal == n) hands))) (λ hold. hold.terminal ≡ n)) [
+      | true ↦ λ e. grind (arith, nat_tests)
+      | false ↦ λ e. numbered hands n
     ] refl
+
+-- and of few messages
+counted : (hands : List Hand) (n : ℕ) → AreFew hands → IfSome (hold_at hands n) (λ hold. hold.count ≤ text_limit)
+counted [] n few = tt
+counted (hand ∷ hands) n few =
+    elim (hand.terminal == n) as (λ b. IfSome (option_map hold_of (cond b (Some hand) (find (λ h. h.terminal == n) hands))) (λ hold. hold.count ≤ text_limit)) [
+      | true ↦ few.0
+      | false ↦ counted hands n few.1
+    ]
 
 weaker : (n k : ℕ) (holds : List Hold) → k ≤ n → AscendAbove n holds → AscendAbove k holds
 weaker n k [] h a = tt
 weaker n k (hold ∷ holds) h a = (omega (arith, a.0), a.1)
 
 -- from number k + 1 on they ascend
-ascend_from : (hands : List Hand) (n k : ℕ) → AreFew hands → AscendAbove k (filter_map (hold_at hands) (range_with_len (k + 1) n))
-ascend_from hands zero k few = tt
-ascend_from hands (suc n) k few =
-    let rest = ascend_from hands n (k + 1) few in
-    elim (hold_at hands (k + 1)) as (λ o. IfSome o (Numbered (k + 1)) → AscendAbove k (cons_option o (filter_map (hold_at hands) (range_with_len (k + 1 + 1) n)))) [
+ascend_from : (hands : List Hand) (n k : ℕ) → AscendAbove k (filter_map (hold_at hands) (range_with_len (k + 1) n))
+ascend_from hands zero k = tt
+ascend_from hands (suc n) k =
+    let rest = ascend_from hands n (k + 1) in
+    elim (hold_at hands (k + 1)) as (λ o. IfSome o (λ hold. hold.terminal ≡ k + 1) → AscendAbove k (cons_option o (filter_map (hold_at hands) (range_with_len (k + 1 + 1) n)))) [
       | None ↦ λ h. weaker (k + 1) k _ (omega arith) rest
-      | Some hold ↦ λ h. (omega (arith, h.terminal), subst (λ t. AscendAbove t (filter_map (hold_at hands) (range_with_len (k + 1 + 1) n))) (sym h.terminal) rest)
-    ] (hold_numbered hands (k + 1) few)
+      | Some hold ↦ λ h. (omega (arith, h), subst (λ t. AscendAbove t (filter_map (hold_at hands) (range_with_len (k + 1 + 1) n))) (sym h) rest)
+    ] (numbered hands (k + 1))
 
 ranged_from : (hands : List Hand) (n k : ℕ) → AreFew hands → k + n ≤ 128 → AllByRecursion IsHold (filter_map (hold_at hands) (range_with_len (k + 1) n))
 ranged_from hands zero k few low = tt
 ranged_from hands (suc n) k few low =
     let rest = ranged_from hands n (k + 1) few (omega arith) in
-    elim (hold_at hands (k + 1)) as (λ o. IfSome o (Numbered (k + 1)) → AllByRecursion IsHold (cons_option o (filter_map (hold_at hands) (range_with_len (k + 1 + 1) n)))) [
-      | None ↦ λ h. rest
-      | Some hold ↦ λ h. (record { positive = omega (arith, h.terminal); low = omega (arith, h.terminal); count = omega (arith, h.count) }, rest)
-    ] (hold_numbered hands (k + 1) few)
+    elim (hold_at hands (k + 1)) as (λ o. IfSome o (λ hold. hold.terminal ≡ k + 1) → IfSome o (λ hold. hold.count ≤ text_limit) → AllByRecursion IsHold (cons_option o (filter_map (hold_at hands) (range_with_len (k + 1 + 1) n)))) [
+      | None ↦ λ h c. rest
+      | Some hold ↦ λ h c. (record { positive = omega (arith, h); low = omega (arith, h); count = omega (arith, c) }, rest)
+    ] (numbered hands (k + 1)) (counted hands (k + 1) few)
 
-pub holds_ascend : (hands : List Hand) → AreFew hands → AscendAbove 0 (holds_of hands)
+pub holds_ascend : (hands : List Hand) → AscendAbove 0 (holds_of hands)
 unfolding terminal_numbers
-holds_ascend hands few = ascend_from hands 128 0 few
+holds_ascend hands = ascend_from hands 128 0
 
 pub holds_ranged : (hands : List Hand) → AreFew hands → AllByRecursion IsHold (holds_of hands)
 unfolding terminal_numbers

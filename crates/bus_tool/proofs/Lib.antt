@@ -5,6 +5,7 @@ pub mod PrepareLemmas
 pub mod DoLemmas
 pub mod FormLemmas
 pub mod HoldLemmas
+pub mod HoldLawLemmas
 pub mod TraceLemmas
 pub mod InputLemmas
 pub mod LateLemmas

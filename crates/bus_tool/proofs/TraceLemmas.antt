@@ -26,7 +26,7 @@ pub observed_is_trace : (table : Table) (hands : List Hand) (horizon : ℕ) (hol
 observed_is_trace table hands horizon holds list within few same lawful ranged = record {
   horizon = within;
   holds = subst (AllByRecursion IsHold) (sym same) (holds_ranged hands few);
-  terminals = subst (AscendAbove 0) (sym same) (holds_ascend hands few);
+  terminals = subst (AscendAbove 0) (sym same) (holds_ascend hands);
   list = below horizon list (λ x i. (lawful.sent x i).0) ranged;
   order = lawful.ordered;
 }

@@ -1,8 +1,15 @@
 -- What follows of what the commands write.
-use Rattle.std.specs.Prelude.{◌≡◌, ℕ, true, List}
+use Rattle.std.specs.Prelude.{◌≡◌, ℕ, true, IsTrue, List}
+use Rattle.bus_strings.specs.Items.{Item}
+use Rattle.bus_strings.specs.Members.{In}
+use Rattle.bus_table.specs.Tables.{Table, Hand}
+use Rattle.bus_table.specs.Hands.{hands_of}
+use Rattle.bus_table.specs.Valid.{is_valid}
+use Rattle.bus_trace.specs.declared.hold.Hold.{Hold}
+use Rattle.bus_trace.specs.Traces.{AscendAbove}
 use Rattle.bus_tool.specs.Outcomes.{is_written}
 use Rattle.bus_tool.specs.Due.{due}
-use Rattle.bus_tool.specs.Texts.{IsCommandText}
+use Rattle.bus_tool.specs.Texts.{hold_of, holds_of, IsCommandText}
 
 -- a command writes one text at most
 abbrev pub OneCommandText : Type 0
@@ -11,3 +18,13 @@ OneCommandText = (words : List (List ℕ)) (first second text other : List ℕ) 
 -- it has a text, where an answer is due
 abbrev pub AnswersHaveTexts : Type 0
 AnswersHaveTexts = (words : List (List ℕ)) (first second : List ℕ) → is_written (due words first second) ≡ true → (text : List ℕ) × IsCommandText words first second text
+
+-- one hold for each hand, by rising number
+pub record HoldEachHand (hands : List Hand) : Type 0 where
+  pub each : (hand : Hand) → In hand hands → In (hold_of hand) (holds_of hands)
+  pub only : (hold : Hold) → In hold (holds_of hands) → (hand : Hand) × In hand hands × (hold ≡ hold_of hand)
+  pub rising : AscendAbove 0 (holds_of hands)
+
+-- each sender of a valid table has one hold
+abbrev pub SendersHaveHolds : Type 0
+SendersHaveHolds = (table : Table) (items : List Item) → IsTrue (is_valid table) → HoldEachHand (hands_of table items)

@@ -1,5 +1,5 @@
 //! Laws of the definitions, each the contract of a function that does nothing.
-ghost use Rattle.bus_tool.specs.TextLaws.{OneCommandText, AnswersHaveTexts};
+ghost use Rattle.bus_tool.specs.TextLaws.{OneCommandText, AnswersHaveTexts, SendersHaveHolds};
 
 use bus_medium::laws::one_lawful_list;
 use bus_schedule::laws::{accepted_is_closed, even_hands_agree};
@@ -16,3 +16,8 @@ pub fn one_text_of_a_command()
     accepted_is_closed();
     even_hands_agree();
 }
+
+/// Each sender of a valid table has one hold, with the number of its terminal and of its messages; there is no other, and they rise by number.
+pub fn senders_have_holds()
+    ensures { SendersHaveHolds }
+{}
