@@ -1,14 +1,13 @@
 -- How far the sources were read, by where a command stopped.
-use Rattle.std.specs.Prelude.{◌≡◌, ℕ, ◌≤◌, nat_lt, true, false, List, [], Option, Some, None}
+use Rattle.std.specs.Prelude.{◌≡◌, ℕ, ◌≤◌, nat_lt, true, false}
 use Rattle.std.proofs.Common.{arith, refl, sym, ap, ◌∙◌, subst, cond}
 use Rattle.std.proofs.lemmas.Bool.Decides.{nat_tests}
 use Rattle.bus_outer.specs.Faults.{Rose}
-use Rattle.bus_outer.specs.Sources.{TakesSome}
 use Rattle.bus_tool.specs.declared.outcome.Outcome.{Outcome}
 use Rattle.bus_tool.specs.declared.outcome.Outcome.TheVariants.{Done, Answered, Usage, ReadFault, WriteFault, NoMemory, TooLarge}
 use Rattle.bus_tool.specs.Outcomes.{is_written}
 use Rattle.bus_tool.specs.Stages.{stage_of}
-use Rattle.bus_tool.specs.Seen.{Seen, both, numbered, text_limit, Reach, Untouched, Within, Whole, Reads, stopped_at, reach_at, reach_of, reach}
+use Rattle.bus_tool.specs.Seen.{Seen, both, numbered, Reach, Untouched, Within, Whole, Reads, stopped_at, reach_at, reach_of, reach}
 use Rattle.bus_tool.specs.Steps.{StopsAt, IsEarly, FaultRose, HasReadCause}
 
 -- at its own stage
@@ -30,10 +29,6 @@ reads_own number o old new h r = subst (λ reach. Reads reach old new) (sym (own
 pub reads_before : (o : Outcome) (old new : Seen) → StopsAt 2 o → Reads Whole old new → Reads (reach_of 1 o) old new
 reads_before NoMemory old new h r = r.0
 reads_before o old new h r = subst (λ stage. Reads (reach_at 1 stage (stopped_at o)) old new) (sym h) r
-
-takes_none : (bytes : Option (List ℕ)) → TakesSome bytes bytes (λ n. n ≤ text_limit)
-takes_none None = ([], refl, omega arith)
-takes_none (Some xs) = ([], refl, omega arith)
 
 -- want of memory behind both
 pub reads_less_first : (named : ℕ) (old new : Seen) → Reads (reach named 1 Done) old new → Reads (reach named 1 NoMemory) old new

@@ -1,5 +1,5 @@
 -- `run` of its steps.
-use Rattle.std.specs.Prelude.{◌≡◌, ℕ, ◌<◌, ◌≤◌, nat_lt, true, false, Bool, List, Option, Some, None, Result, Ok, Err, IfErr, IsErrAnd, Vec}
+use Rattle.std.specs.Prelude.{◌≡◌, ℕ, ◌≤◌, nat_lt, true, false, Bool, List, Option, Some, None, Result, Ok, Err, IfErr, IsErrAnd, Vec}
 use Rattle.std.specs.declared.alloc.Global.{Global}
 use Rattle.std.proofs.Common.{arith, refl, sym, ap, ◌∙◌, subst, cond}
 use Rattle.std.specs.List.{AllByRecursion}
@@ -12,11 +12,9 @@ use Rattle.bus_outer.specs.declared.sink.WriteFault.{WriteFault as Fault}
 use Rattle.bus_table.specs.Tables.{Table, Hand}
 use Rattle.bus_regime.specs.declared.verdict.TableVerdict.{TableVerdict}
 use Rattle.bus_regime.specs.Verdicts.{verdict_of, is_accepted}
-use Rattle.bus_schedule.specs.declared.error.ScheduleError.{ScheduleError}
-use Rattle.bus_schedule.specs.declared.error.ScheduleError.TheVariants.{Memory as Small, TooLong as Long}
 use Rattle.bus_schedule.specs.declared.uneven.Uneven.{Uneven as UnevenHands}
 use Rattle.bus_schedule.specs.Closed.{closed_end}
-use Rattle.bus_schedule.specs.Limits.{longest_end, IsRefused}
+use Rattle.bus_schedule.specs.Limits.{longest_end}
 use Rattle.bus_schedule.specs.Uneven.{uneven_of}
 use Rattle.bus_strings.specs.Messages.{Entry}
 use Rattle.bus_medium.specs.Lawful.{IsLawful}
@@ -27,11 +25,11 @@ use Rattle.bus_trace.specs.Traces.{Recording, IsTrace, trace_text}
 use Rattle.bus_tool.specs.declared.forms.Form.TheVariants.{Run}
 use Rattle.bus_tool.specs.declared.inputs.Inputs.{Inputs as Taken}
 use Rattle.bus_tool.specs.declared.outcome.Outcome.{Outcome}
-use Rattle.bus_tool.specs.declared.outcome.Outcome.TheVariants.{Done, Refused, NoMemory, TooLong}
+use Rattle.bus_tool.specs.declared.outcome.Outcome.TheVariants.{Done, Refused, TooLong}
 use Rattle.bus_tool.specs.Seen.{Seen, Sources, sink_seen}
 use Rattle.bus_tool.specs.Stages.{stage_in, Gives}
 use Rattle.bus_tool.specs.Steps.{IsLate, Prepares}
-use Rattle.bus_tool.specs.Due.{Inputs, hands_in, inputs_due, uneven_refusal, schedule_refusal, even_due, accepted_due, short_due, may_run, can_run, runs, run_due}
+use Rattle.bus_tool.specs.Due.{Inputs, hands_in, inputs_due, even_due, accepted_due, short_due, may_run, can_run, runs, run_due}
 use Rattle.bus_tool.specs.Taken.{AreInputs}
 use Rattle.bus_tool.specs.Texts.{holds_of, IsRanged, IsRunRecording, IsRunRecordingOf, IsRunText}
 use Rattle.bus_tool.specs.Acts.{written, DoesForm}
@@ -66,33 +64,6 @@ can_stage table hands = then_stage 3 (may_run table hands) (λ _. short_due (clo
 
 runs_stage : (inputs : Inputs) → 3 ≤ stage_in (runs inputs)
 runs_stage inputs = then_stage 3 (can_run inputs.table (hands_in inputs)) (λ _. Ok inputs) (can_stage inputs.table (hands_in inputs)) (λ _. omega arith)
-
--- ---- why there is no run
--- hands that aren't even, or a table that isn't accepted
-refused_at : {X : Type 0} (IsOf : X → Unit {0} → Type 0) (table : Table) (hands : List Hand) (found : Option UnevenHands) (accepted : Bool) (o : Outcome) → (due : Result (Unit {0}) Outcome)
-    → (even_due found >>= λ _. accepted_if accepted (verdict_of table)) ≡ Err o → due ≡ Err o → Gives IsOf (Err o) due × IsLate o
-refused_at IsOf table hands (Some uneven) accepted o due h e =
-    let same : uneven_refusal uneven ≡ o = cc in
-    subst (λ r. Gives IsOf (Err r) due × IsLate r) same (e ∙ ap Err (sym same), tt)
-refused_at IsOf table hands None false o due h e =
-    let same : Refused (verdict_of table) ≡ o = cc in
-    subst (λ r. Gives IsOf (Err r) due × IsLate r) same (e ∙ ap Err (sym same), tt)
-refused_at IsOf table hands None true o due h e = absurd cc
-
-pub not_run : {X : Type 0} (IsOf : X → Unit {0} → Type 0) (table : Table) (hands : List Hand) (o : Outcome) → may_run table hands ≡ Err o → Gives IsOf (Err o) (can_run table hands) × IsLate o
-not_run IsOf table hands o h = refused_at IsOf table hands (uneven_of table hands) (is_accepted (verdict_of table)) o (can_run table hands) h (ap (λ d. d >>= λ _. short_due (closed_end table hands)) h)
-
--- want of memory
-pub no_room : {X : Type 0} (IsOf : X → Unit {0} → Type 0) (table : Table) (hands : List Hand) → Gives IsOf (Err NoMemory) (can_run table hands) × IsLate NoMemory
-no_room IsOf table hands = (omega (arith, can_stage table hands), tt)
-
--- a schedule that is too long
-long_due : (end : ℕ) → longest_end < end → short_due end ≡ Err (TooLong end)
-long_due end h = let b : nat_lt longest_end end ≡ true = grind (arith, nat_tests, h) in ap (λ b. short_if b end) b
-
-pub no_schedule : {X : Type 0} (IsOf : X → Unit {0} → Type 0) (table : Table) (hands : List Hand) (error : ScheduleError) → may_run table hands ≡ Ok tt → IsRefused (closed_end table hands) error → Gives IsOf (Err (schedule_refusal error)) (can_run table hands) × IsLate (schedule_refusal error)
-no_schedule IsOf table hands Small may r = no_room IsOf table hands
-no_schedule IsOf table hands (Long end) may r = (ap (λ d. d >>= λ _. short_due (closed_end table hands)) may ∙ long_due (closed_end table hands) r.0 ∙ ap (λ n. Err (TooLong n)) (sym r.1), tt)
 
 -- ---- the run
 short_end : (end : ℕ) → end ≤ longest_end → short_due end ≡ Ok tt
