@@ -81,7 +81,7 @@ only_holds hands hold i = (let w = from_kept (hold_at hands) terminal_numbers ho
 
 pub senders_have_holds : SendersHaveHolds
 senders_have_holds table items valid = record {
-      each = each_hold table items (valid_facts table valid);
-      only = only_holds (hands_of table items);
-      rising = holds_ascend (hands_of table items);
-    }
+  each = each_hold table items (valid_facts table valid);
+  only = only_holds (hands_of table items);
+  rising = holds_ascend (hands_of table items);
+}
