@@ -64,7 +64,7 @@ impl<'a, R: Files> Source for FileSource<'a, R> {
 
     ghost left = { λ _. None };
 
-    ghost faults = { λ s. s.faults };
+    ghost faults = { λ s. file_faults s };
 
     /// Gives what was read ahead, or else reads the file once, after opening it where it isn't open. `End`
     /// comes only with no path, or where the open file is at its end.

@@ -65,9 +65,9 @@ impl MemorySink {
 impl Sink for MemorySink {
     ghost use Rattle.bus_outer.specs.Memory.{sink_bytes, sink_room, sink_piece, push_number, failing_pushes, sink_faults, PassesPush};
 
-    ghost held = { λ s. Some s.bytes.items };
+    ghost held = { λ s. Some (sink_bytes s) };
 
-    ghost faults = { λ s. s.faults };
+    ghost faults = { λ s. sink_faults s };
 
     /// Takes the least of a piece, the bytes and the room left, or fails where this push is listed or no
     /// room is left.

@@ -49,9 +49,9 @@ impl MemorySource {
 impl Source for MemorySource {
     ghost use Rattle.bus_outer.specs.Memory.{source_left, source_piece, pull_number, failing_pulls, source_faults, PassesPull};
 
-    ghost left = { λ s. Some (drop s.at s.bytes.items) };
+    ghost left = { λ s. Some (source_left s) };
 
-    ghost faults = { λ s. s.faults };
+    ghost faults = { λ s. source_faults s };
 
     /// Gives the least of a piece, the buffer and what is left, or fails where this pull is listed.
     fn pull(&mut self, buf: &mut [u8]) -> Pull

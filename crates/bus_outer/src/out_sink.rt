@@ -33,7 +33,7 @@ impl<W: Write> Sink for OutSink<W> {
 
     ghost held = { λ _. None };
 
-    ghost faults = { λ s. s.faults };
+    ghost faults = { λ s. writer_faults s };
 
     /// Writes the bytes once, and flushes. What it took went to the writer.
     fn push(&mut self, bytes: &[u8]) -> Push

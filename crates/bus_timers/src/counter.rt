@@ -1,5 +1,5 @@
 ghost use Rattle.std.specs.Prelude.{◌≡◌, ℕ, ◌+◌, ◌-◌, ◌^◌, min, ◌<◌, ◌≤◌, Bool, true, false};
-ghost use Rattle.bus_timers.specs.Counters.{CountersStand};
+ghost use Rattle.bus_timers.specs.Counters.{CoreStands, core_moves};
 
 use crate::cores::Core;
 use crate::timing::Timing;
@@ -52,11 +52,11 @@ pub struct CounterCore {
 }
 
 impl Core for CounterCore {
-    ghost stands = { λ core timing past last. (core.timing ≡ timing) × CountersStand core.timing core.wait core.quiet core.gap past last };
+    ghost stands = { λ core timing past last. CoreStands core timing past last };
 
     ghost room = { λ _. 2 ^ 62 };
 
-    ghost moves = { λ core. core.moves };
+    ghost moves = { λ core. core_moves core };
 
     fn settled(timing: Timing) -> Self {
         CounterCore {
