@@ -1,10 +1,11 @@
 -- Overlaps and garbled entries.
 use Rattle.std.proofs.Common.{◌≡◌, ℕ, zero, suc, ◌+◌, ◌<◌, ◌≤◌, Bool, true, false, ◌&&◌, ◌||◌, ltb, List, [], ◌∷◌, ◌++◌, length, take, drop, max, inl, inr, arith, sym, refl, ap, ◌∙◌, subst, Option, Some, None}
-use Rattle.std.specs.Prelude.{slice_get}
+use Rattle.std.specs.Prelude.{slice_get, fold}
 use Rattle.std.specs.Option.{option_map_or}
 use Rattle.std.specs.List.{list_any, AllByRecursion}
 use Rattle.std.proofs.lemmas.Bool.{cases_lt, lt-ltb, le-ltb, ltb-true, true≢false}
 use Rattle.std.proofs.lemmas.List.Folds.{list_any-append}
+use Rattle.std.proofs.lemmas.List.Sums.{fold-append}
 use Rattle.std.proofs.lemmas.List.FromFn.{length-map-range_with_len, get_or-map-range_with_len}
 use Rattle.std.proofs.lemmas.List.{take_more}
 use Rattle.std.proofs.lemmas.Option.{slice_get_within, get_or_from_slice_get}
@@ -156,17 +157,35 @@ pub ascending_is_by_moment : AscendingIsByMoment
 ascending_is_by_moment [] h = tt
 ascending_is_by_moment (x ∷ list) h = (behind_by_moment x list h.0, ascending_is_by_moment list h.1)
 
--- a transmission ends behind a moment where the last to end does
+or_around : (a b c : Bool) → ((a || b) || c) ≡ (b || (a || c))
+or_around true true c = refl
+or_around true false c = refl
+or_around false b c = refl
+
+or_none : (a : Bool) → a ≡ (a || false)
+or_none true = refl
+or_none false = refl
+
+-- behind a moment lies one of two where the greater does
+behind_either : (m a b : ℕ) → (ltb m a || ltb m b) ≡ ltb m (max b a)
+behind_either m a b = elim (cases_lt m a) [
+  | inl here ↦ rw (lt-ltb m a here) (sym (lt-ltb m (max b a) (omega arith)))
+  | inr not ↦ rw (le-ltb m a not) (elim (cases_lt m b) [
+    | inl there ↦ lt-ltb m b there ∙ sym (lt-ltb m (max b a) (omega arith))
+    | inr none ↦ le-ltb m b none ∙ sym (le-ltb m (max b a) (omega arith))
+  ])
+]
+
+-- a transmission ends behind a moment where the last to end does, here beside an earlier end
+ends_behind_from : (m e : ℕ) (ys : List Entry) → (list_any (λ y. ltb m (end_of y)) ys || ltb m e) ≡ ltb m (fold (λ end y. max end (end_of y)) e ys)
+ends_behind_from m e [] = refl
+ends_behind_from m e (y ∷ ys) =
+    or_around (ltb m (end_of y)) (list_any (λ z. ltb m (end_of z)) ys) (ltb m e)
+    ∙ ap (λ b. list_any (λ z. ltb m (end_of z)) ys || b) (behind_either m (end_of y) e)
+    ∙ ends_behind_from m (max e (end_of y)) ys
+
 ends_behind : (m : ℕ) (ys : List Entry) → list_any (λ y. ltb m (end_of y)) ys ≡ ltb m (greatest_end ys)
-ends_behind m [] = sym (le-ltb m 0 (omega arith))
-ends_behind m (y ∷ ys) =
-    ap (λ b. ltb m (end_of y) || b) (ends_behind m ys) ∙ elim (cases_lt m (end_of y)) [
-      | inl here ↦ rw (lt-ltb m (end_of y) here, lt-ltb m (max (end_of y) (greatest_end ys)) (let l : m < max (end_of y) (greatest_end ys) = omega arith in l)) refl
-      | inr not ↦ rw (le-ltb m (end_of y) not) (elim (cases_lt m (greatest_end ys)) [
-        | inl there ↦ lt-ltb m (greatest_end ys) there ∙ sym (lt-ltb m (max (end_of y) (greatest_end ys)) (omega arith))
-        | inr none ↦ le-ltb m (greatest_end ys) none ∙ sym (le-ltb m (max (end_of y) (greatest_end ys)) (omega arith))
-      ])
-    ]
+ends_behind m ys = or_none (list_any (λ y. ltb m (end_of y)) ys) ∙ ap (λ b. list_any (λ y. ltb m (end_of y)) ys || b) (sym (le-ltb m 0 (omega arith))) ∙ ends_behind_from m 0 ys
 
 -- what the walk looks at
 pub earlier_told : (list : List Entry) (k : ℕ) (x : Entry) → IsByMoment list → slice_get list k ≡ Some x → HasWords x → list_any (overlaps x) (take k list) ≡ ltb x.moment (greatest_end (take k list))
@@ -174,9 +193,10 @@ earlier_told list k x order at some = earlier_end x (take k list) some (ordered_
 
 -- one entry further
 pub greatest_more : (list : List Entry) (k : ℕ) (x : Entry) → slice_get list k ≡ Some x → greatest_end (take (k + 1) list) ≡ max (greatest_end (take k list)) (end_of x)
-greatest_more [] k x at = cc
-greatest_more (y ∷ list) zero x at = let same : y ≡ x = cc in ap (λ w. max (end_of w) 0) same ∙ (omega arith)
-greatest_more (y ∷ list) (suc k) x at = ap (λ n. greatest_end (take n (y ∷ list))) (let e : suc k + 1 ≡ suc (k + 1) = omega arith in e) ∙ ap (max (end_of y)) (greatest_more list k x at) ∙ (omega arith)
+greatest_more list k x at =
+    let within : k < length list = slice_get_within list k x at in
+    ap greatest_end (take_more list k x within ∙ ap (λ y. take k list ++ y ∷ []) (get_or_from_slice_get list k x x at))
+    ∙ fold-append (λ end y. max end (end_of y)) 0 (take k list) (x ∷ [])
 
 pub marks_more : (list : List Entry) (k : ℕ) → k < length list → drop k (marks list) ≡ garbled list k ∷ drop (k + 1) (marks list)
 marks_more list k h =

@@ -1,3 +1,4 @@
+pub mod Limits
 pub mod Members
 pub mod ListLaws
 pub mod Messages
@@ -6,6 +7,7 @@ pub mod Pulses
 pub mod PulseLaws
 pub mod PulseProofs
 pub mod Transmissions
+pub mod MemberLaws
 pub mod Items
 pub mod Grammar
 pub mod Reading

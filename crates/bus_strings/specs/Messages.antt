@@ -2,9 +2,9 @@
 --   wordstring     one label word, and the data words behind it
 --   message        what a terminal sends at one start: its wordstrings, in order
 --   transmission   a message on the bus: when it starts and who sends it
--- A word takes 20 bit times, and 4 quiet bit times stand between two wordstrings of a message.
 use Rattle.std.specs.Prelude.{ℕ, ◌+◌, ◌-◌, ◌*◌, ◌^◌, ◌<◌, ◌≤◌, List, length}
 use Rattle.std.specs.List.{sum_by, AllByRecursion}
+use Rattle.bus_strings.specs.Limits.{most_strings, most_words, word_bits, inner_gap}
 
 -- a label, an extension and the data words behind them
 pub record Wordstring : Type 0 where
@@ -12,6 +12,7 @@ pub record Wordstring : Type 0 where
   pub ext : ℕ
   pub words : List ℕ
 
+-- a message: its wordstrings
 abbrev pub Message : Type 0
 Message = List Wordstring
 
@@ -21,26 +22,30 @@ pub record Entry : Type 0 where
   pub terminal : ℕ
   pub message : Message
 
--- every number of a wordstring lies in its range, and there are at most 256 data words
+-- every number of a wordstring lies in its range, and there are no more data words than may be
 pub record IsWordstring (string : Wordstring) : Type 0 where
   pub label : string.label < 4096
   pub ext : string.ext < 16
-  pub few : length string.words ≤ 256
+  pub few : length string.words ≤ most_words
   pub words : AllByRecursion (λ word. word < 2 ^ 16) string.words
 
--- 1 to 31 wordstrings
+-- a message has wordstrings, and no more than may be
 pub record IsMessage (message : Message) : Type 0 where
   pub some : 0 < length message
-  pub few : length message ≤ 31
+  pub few : length message ≤ most_strings
   pub strings : AllByRecursion IsWordstring message
 
 -- the words of a wordstring, its label word included
 abbrev pub word_count : Wordstring → ℕ
 word_count string = 1 + length string.words
 
--- the bit times of so many words in so many wordstrings
+-- the bit times of so many words in so many wordstrings, between which it is quiet
 abbrev pub bits_of : ℕ → ℕ → ℕ
-bits_of words strings = 20 * words + 4 * (strings - 1)
+bits_of words strings = word_bits * words + inner_gap * (strings - 1)
+
+-- the bit times of the longest message that may be
+abbrev pub most_bits : ℕ
+most_bits = bits_of ((1 + most_words) * most_strings) most_strings
 
 -- the bit times of a message, from its first to its last
 abbrev pub bits : Message → ℕ

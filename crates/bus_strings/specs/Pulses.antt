@@ -3,15 +3,16 @@
 use Rattle.std.specs.Prelude.{ℕ, ◌+◌, ◌*◌, Bool, ◌&&◌, nat_lt, nat_le, length, take, slice_get}
 use Rattle.std.specs.List.{sum_by, list_any, range_with_len}
 use Rattle.std.specs.Option.{option_map_or}
+use Rattle.bus_strings.specs.Limits.{word_bits, inner_gap}
 use Rattle.bus_strings.specs.Messages.{Message, word_count}
 
--- pulse k begins behind the words of the wordstrings before it, and 4 quiet bit times for each of these
+-- pulse k begins behind the words of the wordstrings before it, and the quiet behind each of these
 abbrev pub pulse_start : Message → ℕ → ℕ
-pulse_start message k = 20 * sum_by word_count (take k message) + 4 * k
+pulse_start message k = word_bits * sum_by word_count (take k message) + inner_gap * k
 
--- pulse k lasts 20 bit times for each word of its wordstring
+-- pulse k lasts as long as the words of its wordstring
 abbrev pub pulse_length : Message → ℕ → ℕ
-pulse_length message k = option_map_or (λ string. 20 * word_count string) (slice_get message k) 0
+pulse_length message k = option_map_or (λ string. word_bits * word_count string) (slice_get message k) 0
 
 -- whether pulse k covers bit time d
 abbrev pub is_covered : Message → ℕ → ℕ → Bool

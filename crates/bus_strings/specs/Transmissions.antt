@@ -2,8 +2,15 @@
 use Rattle.std.specs.Prelude.{◌≡◌, ℕ, ◌+◌, ◌-◌, ◌<◌, ◌≤◌, ◌⊎◌, Bool, false, ◌&&◌, nat_lt, nat_le, List, [], ◌∷◌, length, map, slice_get, remove, ⊤}
 use Rattle.std.specs.List.{list_any, range_with_len, AllByRecursion}
 use Rattle.std.specs.Option.{option_map_or}
-use Rattle.bus_strings.specs.Messages.{Entry, bits}
+use Rattle.bus_strings.specs.Limits.{most_terminal}
+use Rattle.bus_strings.specs.Messages.{Entry, IsMessage, bits}
 use Rattle.bus_strings.specs.Pulses.{is_on}
+
+-- a transmission is of a terminal in its range, and every number of its message lies in its range
+pub record IsTransmission (x : Entry) : Type 0 where
+  pub positive : 1 ≤ x.terminal
+  pub low : x.terminal ≤ most_terminal
+  pub message : IsMessage x.message
 
 -- the moment at which a transmission has ended: its span is from its moment up to this one, inner quiet included
 abbrev pub end_of : Entry → ℕ

@@ -4,8 +4,10 @@ ghost use Rattle.bus_text.specs.Gives.{LineGives};
 ghost use Rattle.bus_text.specs.Numbers.{is_hexadecimal, hexadecimal_value};
 ghost use Rattle.bus_text.specs.declared.reason.Reason.TheVariants.{Spelling};
 ghost use Rattle.bus_strings.specs.Items.{numbers, is_in_range as range_test, IsItem};
+ghost use Rattle.bus_strings.specs.Limits.{most_words};
 ghost use Rattle.bus_strings.specs.Reading.{are_spelled, strings_of, HasFront, item_reading};
 
+use crate::limits::{MOST_STRINGS, MOST_TERMINAL, MOST_WORDS};
 use crate::payload::Payload;
 use bus_text::fault::LineFault;
 use bus_text::fields::Fields;
@@ -14,12 +16,6 @@ use bus_text::reason::Reason;
 use std::alloc::Global;
 
 const COLON: &[u8] = b":";
-
-const MOST_TERMINAL: u64 = 128;
-
-const MOST_STRINGS: usize = 31;
-
-const MOST_WORDS: usize = 256;
 
 /// A data word: four hexadecimal digits.
 fn word(field: &[u8]) -> Option<u16>
@@ -57,7 +53,7 @@ fn strings(
 
 /// Whether no wordstring has too many data words.
 fn are_short(strings: &[Vec<u16>]) -> bool
-    ensures { result ≡ list_all (λ v. nat_le (length v.items) 256) strings.now }
+    ensures { result ≡ list_all (λ v. nat_le (length v.items) most_words) strings.now }
 {
     strings.iter().all(|string| string.len() <= MOST_WORDS)
 }
@@ -66,7 +62,7 @@ fn are_short(strings: &[Vec<u16>]) -> bool
 fn is_in_range(terminal: u64, strings: &[Vec<u16>]) -> bool
     ensures { result ≡ range_test (record { terminal = terminal; strings = numbers strings.now }) }
 {
-    (1..=MOST_TERMINAL).contains(&terminal)
+    (1..=u64::from(MOST_TERMINAL)).contains(&terminal)
         && (1..=MOST_STRINGS).contains(&strings.len())
         && are_short(strings)
 }

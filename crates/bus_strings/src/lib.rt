@@ -14,6 +14,7 @@
 pub mod fault;
 pub mod item;
 pub mod laws;
+pub mod limits;
 pub mod message;
 pub mod overlap;
 pub mod payload;

@@ -1,6 +1,8 @@
 ghost use Rattle.std.specs.Prelude.{◌≡◌, ◌<◌, ◌≤◌, ◌↔◌, IsSome, IsNone, [], ◌∷◌, ◌++◌, IfSome, IfOk, OnOk, OnErr, length, vec_len};
+ghost use Rattle.bus_strings.specs.Limits.{most_strings};
 ghost use Rattle.bus_strings.specs.Messages.{IsMessage};
 
+use crate::limits::MOST_STRINGS;
 use crate::wordstring::Wordstring;
 use std::alloc::{AllocError, Global};
 use std::marker::Model;
@@ -24,10 +26,10 @@ impl Model for Message {
 impl Message {
     /// None where there are no wordstrings, or more than 31.
     pub fn new(strings: Vec<Wordstring>) -> Option<Message>
-        ensures some { IsSome result ↔ ((0 < vec_len strings) × (vec_len strings ≤ 31)) }
+        ensures some { IsSome result ↔ ((0 < vec_len strings) × (vec_len strings ≤ most_strings)) }
         ensures value { IfSome result (λ m. m ≡ strings.items) }
     {
-        if strings.is_empty() || strings.len() > 31 {
+        if strings.is_empty() || strings.len() > MOST_STRINGS {
             return None;
         }
         // A look at each wordstring, of which nothing is left in the built program, makes its ranges known.
@@ -40,7 +42,7 @@ impl Message {
     /// Adds a wordstring behind the others, of which there are fewer than 31. Fails only where memory runs out, and
     /// leaves the message as it was.
     pub fn push(&mut self, string: Wordstring) -> Result<(), AllocError>
-        requires { length self.old < 31 }
+        requires { length self.old < most_strings }
         ensures ok { OnOk result (self.new ≡ self.old ++ string ∷ []) }
         ensures err { OnErr result (self.new ≡ self.old) }
     {

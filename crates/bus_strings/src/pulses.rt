@@ -1,16 +1,18 @@
 ghost use Rattle.std.specs.Prelude.{◌≡◌, ◌+◌, ◌*◌, ◌<◌, ◌≤◌, length, sum_by};
-ghost use Rattle.bus_strings.specs.Messages.{IsMessage, word_count, bits};
+ghost use Rattle.bus_strings.specs.Limits.{most_strings, most_words, word_bits, inner_gap};
+ghost use Rattle.bus_strings.specs.Messages.{IsMessage, word_count, bits, most_bits};
 ghost use Rattle.bus_strings.specs.Pulses.{pulse_start, pulse_length, is_on};
 
+use crate::limits::{INNER_GAP, WORD_BITS};
 use crate::message::Message;
 use crate::wordstring::Wordstring;
 
 /// The words of these wordstrings, label words included.
 fn words_of(strings: &[Wordstring]) -> u32
-    requires { length strings.now ≤ 31 }
+    requires { length strings.now ≤ most_strings }
     ensures value { result ≡ sum_by word_count strings.now }
     ensures least { length strings.now ≤ result }
-    ensures most { result ≤ 257 * length strings.now }
+    ensures most { result ≤ (1 + most_words) * length strings.now }
 {
     let mut words = 0;
     for string in strings {
@@ -20,15 +22,15 @@ fn words_of(strings: &[Wordstring]) -> u32
 }
 
 /// The bit times of a message, from its first to its last: twenty for each word, label words included, and four
-/// quiet ones between two wordstrings. From 20 to 159,460.
+/// quiet ones between two wordstrings. From 20, a label word alone, to 159,460.
 pub fn bits(message: &Message) -> u32
     ensures value { result ≡ bits message.now }
-    ensures least { 20 ≤ result }
-    ensures most { result ≤ 159460 }
+    ensures least { word_bits ≤ result }
+    ensures most { result ≤ most_bits }
     ensures ranges { IsMessage message.now }
 {
     let strings = message.strings();
-    20 * words_of(strings) + 4 * (strings.len() as u32 - 1)
+    WORD_BITS * words_of(strings) + INNER_GAP * (strings.len() as u32 - 1)
 }
 
 /// How many pulses a message has: one for each wordstring, so 1 to 31.
@@ -48,7 +50,10 @@ pub fn pulse(message: &Message, k: u32) -> (u32, u32)
 {
     let strings = message.strings();
     let before = words_of(&strings[..k as usize]);
-    (20 * before + 4 * k, 20 * strings[k as usize].word_count())
+    (
+        WORD_BITS * before + INNER_GAP * k,
+        WORD_BITS * strings[k as usize].word_count(),
+    )
 }
 
 /// Whether some pulse of the message covers bit time `d`, counted from the message's first.
@@ -60,11 +65,11 @@ pub fn is_on(message: &Message, d: u32) -> bool
         if d < begin {
             return false;
         }
-        let length = 20 * string.word_count();
+        let length = WORD_BITS * string.word_count();
         if d - begin < length {
             return true;
         }
-        begin += length + 4;
+        begin += length + INNER_GAP;
     }
     false
 }

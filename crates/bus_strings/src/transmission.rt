@@ -1,4 +1,4 @@
-ghost use Rattle.std.specs.Prelude.{◌≡◌, ◌<◌, ◌≤◌, ◌^◌};
+ghost use Rattle.std.specs.Prelude.{◌≡◌, ◌<◌};
 ghost use Rattle.bus_strings.specs.Messages.{IsMessage};
 ghost use Rattle.bus_strings.specs.Transmissions.{end_of};
 
@@ -6,8 +6,8 @@ use crate::message::Message;
 use crate::pulses::bits;
 use std::marker::Model;
 
-/// A message on the bus. Its terminal is 1 to 128, and its moment below 1,099,511,627,776; both limits are this
-/// project's profile.
+/// A message on the bus. Its terminal is 1 to [`MOST_TERMINAL`](crate::limits::MOST_TERMINAL), and its moment below
+/// [`HORIZON_LIMIT`](crate::limits::HORIZON_LIMIT); both limits are this project's profile.
 #[derive(Debug, Drop)]
 pub struct Transmission {
     /// When its first bit time begins, in bit times from the settled start.
@@ -19,14 +19,15 @@ pub struct Transmission {
 }
 
 impl Model for Transmission {
-    ghost use Rattle.std.specs.Prelude.{◌<◌, ◌≤◌, ◌^◌};
+    ghost use Rattle.std.specs.Prelude.{◌<◌, ◌≤◌};
+    ghost use Rattle.bus_strings.specs.Limits.{horizon_limit, most_terminal};
     ghost use Rattle.bus_strings.specs.Messages.{Entry};
 
     ghost Value = { Entry };
 
     ghost view = { λ x. record { moment = x.moment; terminal = x.terminal; message = x.message } };
 
-    ghost invariant = { λ x. (1 ≤ x.terminal) × (x.terminal ≤ 128) × (x.moment < 2 ^ 40) };
+    ghost invariant = { λ x. (1 ≤ x.terminal) × (x.terminal ≤ most_terminal) × (x.moment < horizon_limit) };
 }
 
 impl Transmission {

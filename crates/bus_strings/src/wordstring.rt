@@ -1,6 +1,8 @@
 ghost use Rattle.std.specs.Prelude.{◌≡◌, ◌+◌, ◌<◌, ◌≤◌, ◌↔◌, IsSome, IsNone, IfSome, IfOk, vec_len, length};
+ghost use Rattle.bus_strings.specs.Limits.{most_words};
 ghost use Rattle.bus_strings.specs.Messages.{IsWordstring, word_count};
 
+use crate::limits::MOST_WORDS;
 use bus_words::label::{Ext, Label};
 use std::alloc::{AllocError, Global};
 use std::marker::Model;
@@ -26,11 +28,11 @@ impl Model for Wordstring {
 impl Wordstring {
     /// None where there are more than 256 data words.
     pub fn new(label: Label, ext: Ext, words: Vec<u16>) -> Option<Wordstring>
-        ensures some { IsSome result ↔ (vec_len words ≤ 256) }
-        ensures none { IsNone result ↔ (256 < vec_len words) }
+        ensures some { IsSome result ↔ (vec_len words ≤ most_words) }
+        ensures none { IsNone result ↔ (most_words < vec_len words) }
         ensures value { IfSome result (λ s. s ≡ record { label = label; ext = ext; words = words.items }) }
     {
-        if words.len() > 256 {
+        if words.len() > MOST_WORDS {
             return None;
         }
         // The types of both keep their ranges, which are known from here on.
@@ -65,7 +67,7 @@ impl Wordstring {
     /// How many words it has, its label word included: 1 to 257.
     pub fn word_count(&self) -> u32
         ensures value { result ≡ word_count self.now }
-        ensures most { result ≤ 257 }
+        ensures most { result ≤ 1 + most_words }
     {
         1 + self.words.len() as u32
     }

@@ -4,6 +4,7 @@ use Rattle.std.specs.Prelude.{ℕ, Bool, true, false, nat_lt, List, [], ◌∷�
 use Rattle.bus_text.specs.declared.reason.Reason.{Reason}
 use Rattle.bus_text.specs.declared.reason.Reason.TheVariants as reasons
 use Rattle.bus_text.specs.AllOf.{◌>>=◌}
+use Rattle.bus_strings.specs.Limits.{most_strings}
 use Rattle.bus_table.specs.declared.keyword.Keyword.{Keyword}
 use Rattle.bus_table.specs.declared.keyword.Keyword.TheVariants as keywords
 use Rattle.bus_table.specs.declared.place.Place.{Place}
@@ -39,7 +40,7 @@ may_follow places.Ti sends keywords.Sg = true
 may_follow places.Sg sends keywords.Sender = true
 may_follow places.Sg sends keywords.Listener = true
 may_follow (places.Sender head) sends keywords.Send = true
-may_follow places.Send sends keywords.Send = nat_lt sends 31
+may_follow places.Send sends keywords.Send = nat_lt sends most_strings
 may_follow places.Send sends keywords.Take = true
 may_follow places.Send sends keywords.Sender = true
 may_follow places.Send sends keywords.Listener = true

@@ -1,6 +1,7 @@
 -- What a valid table has, as facts.
 use Rattle.std.specs.Prelude.{◌≡◌, ℕ, ◌<◌, ◌≤◌, true, ◌==◌, nat_eq, length, map}
 use Rattle.std.specs.List.{IsDistinct, AllByRecursion}
+use Rattle.bus_strings.specs.Limits.{most_terminal}
 use Rattle.bus_table.specs.declared.mode.Mode.{Mode}
 use Rattle.bus_table.specs.declared.mode.Mode.TheVariants.{Aperiodic, Periodic}
 use Rattle.bus_table.specs.Tables.{Sender, Table}
@@ -15,7 +16,7 @@ FitsMode Periodic ti at = at < ti
 pub record SenderFacts (table : Table) (sender : Sender) : Type 0 where
   pub in_range : is_sender sender ≡ true
   pub number_least : 1 ≤ sender.number
-  pub number_most : sender.number ≤ 128
+  pub number_most : sender.number ≤ most_terminal
   pub tg_least : 8 ≤ sender.tg
   pub tg_most : sender.tg ≤ 256
   pub tg_short : sender.tg < table.sg
@@ -28,7 +29,7 @@ pub record TableFacts (table : Table) : Type 0 where
   pub sg_least : 9 ≤ table.sg
   pub sg_most : table.sg ≤ 1024
   pub some : 0 < length table.senders
-  pub few : length table.senders ≤ 128
+  pub few : length table.senders ≤ most_terminal
   pub numbers : IsDistinct nat_eq (map (λ sender. sender.number) table.senders)
   pub gaps : IsDistinct (λ a b. a.tg == b.tg) table.senders
   pub senders : AllByRecursion (SenderFacts table) table.senders

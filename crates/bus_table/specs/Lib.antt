@@ -13,6 +13,7 @@ pub mod Text
 pub mod Drafts
 pub mod Reading
 pub mod Gives
+pub mod Timers
 pub mod Turns
 pub mod TurnLaws
 pub mod FitLaws

@@ -3,11 +3,12 @@ use Rattle.std.specs.Prelude.{ℕ, Bool, true, ◌&&◌, nat_lt, nat_le, List, l
 use Rattle.std.specs.Int.{is_in_range}
 use Rattle.std.specs.List.{list_all}
 use Rattle.std.specs.Option.{option_map_or}
+use Rattle.bus_strings.specs.Limits.{most_terminal, most_strings, most_words}
 use Rattle.bus_table.specs.Tables.{SendLine, TakeLine, Sender, Listener}
 
 -- a terminal number
 abbrev pub is_number : ℕ → Bool
-is_number n = is_in_range 1 128 n
+is_number n = is_in_range 1 most_terminal n
 
 -- a transmit interval
 abbrev pub is_ti : ℕ → Bool
@@ -33,13 +34,13 @@ is_label n = nat_lt n 4096
 abbrev pub is_ext : ℕ → Bool
 is_ext n = nat_lt n 16
 
--- a SEND line: at most 256 data words, and the least not above the most
+-- a SEND line: no more data words than a wordstring may have, and the least not above the most
 abbrev pub is_send_line : SendLine → Bool
-is_send_line line = is_label line.label && (is_ext line.ext && (nat_le line.least line.most && nat_le line.most 256))
+is_send_line line = is_label line.label && (is_ext line.ext && (nat_le line.least line.most && nat_le line.most most_words))
 
 -- a TAKE line: at least one data word, from a place that a wordstring can have
 abbrev pub is_take_line : TakeLine → Bool
-is_take_line line = is_label line.label && (option_map_or is_ext line.ext true && (nat_le line.first 255 && is_in_range 1 256 line.count))
+is_take_line line = is_label line.label && (option_map_or is_ext line.ext true && (nat_lt line.first most_words && is_in_range 1 most_words line.count))
 
 -- the TAKE lines of a terminal
 abbrev pub are_take_lines : List TakeLine → Bool
@@ -47,7 +48,7 @@ are_take_lines takes = nat_le (length takes) 64 && list_all is_take_line takes
 
 -- the SEND lines of a terminal
 abbrev pub are_send_lines : List SendLine → Bool
-are_send_lines sends = is_in_range 1 31 (length sends) && list_all is_send_line sends
+are_send_lines sends = is_in_range 1 most_strings (length sends) && list_all is_send_line sends
 
 -- a sender of which each number is in its range
 abbrev pub is_sender : Sender → Bool

@@ -1,5 +1,6 @@
 ghost use Rattle.std.specs.Prelude.{◌≡◌, ◌<◌, OnOk, IsTrue};
 ghost use Rattle.bus_text.specs.Entries.{texts};
+ghost use Rattle.bus_strings.specs.Limits.{most_strings};
 ghost use Rattle.bus_table.specs.declared.keyword.Keyword.TheVariants as keywords;
 ghost use Rattle.bus_table.specs.Drafts as drafts;
 ghost use Rattle.bus_table.specs.Ranges.{is_send_line};
@@ -10,9 +11,10 @@ use crate::keyword::{Keyword, keyword_of};
 use crate::line::SendLine;
 use crate::mode::Mode;
 use crate::place::Place;
-use crate::ranges::{LEAST_SG, LEAST_TI, MOST_SENDS, MOST_SG, MOST_TI};
+use crate::ranges::{LEAST_SG, LEAST_TI, MOST_SG, MOST_TI};
 use crate::sender::Sender;
 use crate::table::Table;
+use bus_strings::limits::MOST_STRINGS;
 use bus_text::cursor::Line;
 use bus_text::fault::LineFault;
 use bus_text::lines::fields;
@@ -32,7 +34,7 @@ fn last_count(senders: &[Sender]) -> usize
 
 /// Gives the last sender one more SEND line.
 fn add_to_last(senders: &mut Vec<Sender>, line: SendLine) -> Result<(), AllocError>
-    requires room { drafts.last_count senders.old.items < 31 }
+    requires room { drafts.last_count senders.old.items < most_strings }
     requires range { IsTrue (is_send_line line) }
     ensures ok { OnOk result (senders.new.items ≡ drafts.with_last_send line senders.old.items) }
 {
@@ -73,7 +75,7 @@ fn may_follow(place: Place, sends: usize, keyword: Keyword) -> bool
         (Place::Ti, Keyword::Sg) => true,
         (Place::Sg, Keyword::Sender | Keyword::Listener) => true,
         (Place::Sender(_), Keyword::Send) => true,
-        (Place::Send, Keyword::Send) => sends < MOST_SENDS,
+        (Place::Send, Keyword::Send) => sends < MOST_STRINGS,
         (Place::Send, Keyword::Take | Keyword::Sender | Keyword::Listener) => true,
         _ => false,
     }

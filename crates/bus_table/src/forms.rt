@@ -8,7 +8,7 @@ ghost use Rattle.bus_table.specs.Ranges.{is_send_line};
 
 use crate::head::Head;
 use crate::line::SendLine;
-use crate::ranges::MOST_WORDS;
+use bus_strings::limits::MOST_WORDS;
 use bus_text::fault::LineFault;
 use bus_text::lines::{field_at, is_at};
 use bus_text::numbers::{hexadecimal, plain_decimal};
@@ -111,7 +111,7 @@ fn send_of(label: Label, ext: Ext, least: u64, most: u64) -> Option<SendLine>
 {
     // The types of both keep their ranges, which are known from here on.
     let _ranges = (label.value(), ext.value());
-    if least <= most && most <= u64::from(MOST_WORDS) {
+    if least <= most && most <= MOST_WORDS as u64 {
         Some(SendLine {
             label,
             ext,

@@ -1,7 +1,8 @@
 ghost use Rattle.std.specs.Prelude.{◌≡◌, IsTrue, Some, None, if◌then◌else◌};
 ghost use Rattle.bus_table.specs.Heads.{is_head};
 
-use crate::ranges::{LEAST_TG, MOST_NUMBER, MOST_TG};
+use crate::ranges::{LEAST_TG, MOST_TG};
+use bus_strings::limits::MOST_TERMINAL;
 use std::marker::Model;
 
 /// What a SENDER line says. It keeps that both numbers are in their ranges.
@@ -29,7 +30,7 @@ impl Head {
     pub fn new(number: u64, tg: u64) -> Option<Head>
         ensures { result ≡ (if is_head (record { number = number; tg = tg }) then Some (record { number = number; tg = tg }) else None) }
     {
-        if (1..=u64::from(MOST_NUMBER)).contains(&number)
+        if (1..=u64::from(MOST_TERMINAL)).contains(&number)
             && (u64::from(LEAST_TG)..=u64::from(MOST_TG)).contains(&tg)
         {
             Some(Head {

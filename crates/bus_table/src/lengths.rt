@@ -1,5 +1,5 @@
 ghost use Rattle.std.specs.Prelude.{◌≡◌, ◌<◌, ◌≤◌, ◌^◌, IsTrue};
-ghost use Rattle.bus_strings.specs.Messages.{Message, bits};
+ghost use Rattle.bus_strings.specs.Messages.{Message, bits, most_bits};
 ghost use Rattle.bus_table.specs.Fits.{is_shortest, is_longest};
 ghost use Rattle.bus_table.specs.Lengths as lengths;
 
@@ -27,7 +27,7 @@ fn most_words(sends: &[SendLine]) -> u32
 pub fn shortest(sender: &Sender) -> u32
     ensures value { result ≡ lengths.shortest sender.now }
     ensures message { (message : Message) → IsTrue (is_shortest sender.now message) → bits message ≡ result }
-    ensures bound { result ≤ 159460 }
+    ensures bound { result ≤ most_bits }
 {
     let sends = sender.sends();
     20 * least_words(sends) + 4 * (sends.len() as u32 - 1)
@@ -38,7 +38,7 @@ pub fn shortest(sender: &Sender) -> u32
 pub fn longest(sender: &Sender) -> u32
     ensures value { result ≡ lengths.longest sender.now }
     ensures message { (message : Message) → IsTrue (is_longest sender.now message) → bits message ≡ result }
-    ensures bound { result ≤ 159460 }
+    ensures bound { result ≤ most_bits }
 {
     let sends = sender.sends();
     20 * most_words(sends) + 4 * (sends.len() as u32 - 1)

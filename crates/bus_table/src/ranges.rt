@@ -3,9 +3,7 @@ ghost use Rattle.std.specs.List.{list_all};
 ghost use Rattle.bus_table.specs.Ranges as ranges;
 
 use crate::line::{SendLine, TakeLine};
-
-/// The greatest terminal number; the least is 1.
-pub const MOST_NUMBER: u8 = 128;
+use bus_strings::limits::{MOST_STRINGS, MOST_TERMINAL, MOST_WORDS};
 
 /// The least transmit interval, in bit times.
 pub const LEAST_TI: u32 = 1000;
@@ -25,20 +23,14 @@ pub const LEAST_TG: u32 = 8;
 /// The greatest terminal gap, in bit times.
 pub const MOST_TG: u32 = 256;
 
-/// The most SEND lines of a sender.
-pub const MOST_SENDS: usize = 31;
-
 /// The most TAKE lines of a terminal.
 pub const MOST_TAKES: usize = 64;
-
-/// The most data words of a wordstring.
-pub const MOST_WORDS: u16 = 256;
 
 /// Whether a number is a terminal number.
 pub fn is_number(number: u8) -> bool
     ensures { result ≡ ranges.is_number number }
 {
-    (1..=MOST_NUMBER).contains(&number)
+    (1..=MOST_TERMINAL).contains(&number)
 }
 
 /// Whether so many bit times are a transmit interval.
@@ -75,7 +67,7 @@ fn is_send_line(line: &SendLine) -> bool
 {
     // The types of the label and of the extension keep their ranges, which are known from here on.
     let _ranges = (line.label.value(), line.ext.value());
-    line.least <= line.most && line.most <= MOST_WORDS
+    line.least <= line.most && usize::from(line.most) <= MOST_WORDS
 }
 
 /// Whether the numbers of a TAKE line are in their ranges.
@@ -84,7 +76,7 @@ fn is_take_line(line: &TakeLine) -> bool
 {
     // The types of the label and of the extension keep their ranges, which are known from here on.
     let _ranges = (line.label.value(), line.ext.map(|ext| ext.value()));
-    line.first < MOST_WORDS && (1..=MOST_WORDS).contains(&line.count)
+    usize::from(line.first) < MOST_WORDS && (1..=MOST_WORDS).contains(&usize::from(line.count))
 }
 
 /// Whether the numbers of each of these SEND lines are in their ranges.
@@ -105,7 +97,7 @@ fn each_take_line(takes: &[TakeLine]) -> bool
 pub fn are_send_lines(sends: &[SendLine]) -> bool
     ensures { result ≡ ranges.are_send_lines sends.now }
 {
-    (1..=MOST_SENDS).contains(&sends.len()) && each_send_line(sends)
+    (1..=MOST_STRINGS).contains(&sends.len()) && each_send_line(sends)
 }
 
 /// Whether there are at most 64 TAKE lines, and the numbers of each are in their ranges.

@@ -1,4 +1,5 @@
 ghost use Rattle.std.specs.Prelude.{◌≡◌, ◌<◌, length, IsTrue, IfOk, OnOk};
+ghost use Rattle.bus_strings.specs.Limits.{most_strings};
 ghost use Rattle.bus_table.specs.Ranges.{is_sender, is_send_line};
 
 use crate::head::Head;
@@ -81,7 +82,7 @@ impl Sender {
 
     /// Adds a SEND line behind the others.
     pub(crate) fn add_send(&mut self, line: SendLine) -> Result<(), AllocError>
-        requires room { length self.old.sends < 31 }
+        requires room { length self.old.sends < most_strings }
         requires range { IsTrue (is_send_line line) }
         ensures ok { OnOk result (self.new ≡ with_send self.old line) }
     {

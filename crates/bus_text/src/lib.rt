@@ -5,7 +5,7 @@
 //! blanks; blanks are space, tab and carriage return.
 //!
 //! - [`cursor::Lines`] goes over the lines of a text that aren't skipped, [`fields::Fields`] over the fields of one;
-//!   [`lines::fields`] collects them where they are asked for by place.
+//!   [`lines::fields`] collects them where they are asked for by place; [`lines::first_feed`] finds the end of a line.
 //! - [`numbers`] reads plain decimals and hexadecimal digits, [`digits`] writes hexadecimal digits in capitals.
 //! - [`reason::Reason`] says why a line is refused, [`fault::LineFault`] why it wasn't read.
 //!
