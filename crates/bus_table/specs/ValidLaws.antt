@@ -13,7 +13,7 @@ use Rattle.bus_table.specs.declared.mode.Mode.TheVariants.{Aperiodic, Periodic}
 use Rattle.bus_table.specs.declared.error.WholeReason.TheVariants.{NumberTwice}
 use Rattle.bus_table.specs.Tables.{Sender, Table}
 use Rattle.bus_table.specs.Ranges.{is_number, is_tg, is_sender, is_listener, is_ti, is_sg}
-use Rattle.bus_table.specs.Whole.{first_again, numbers, number_twice, no_sender, gap_twice, gap_not_short, pair_twice, offset_range, varies, periodic_refusal, whole_refusal}
+use Rattle.bus_table.specs.Whole.{first_again, numbers, number_twice, no_sender, gap_twice, gap_not_short, pair_twice, periodic_refusal, whole_refusal}
 use Rattle.bus_table.specs.Valid.{fits_mode, is_valid, is_in_range as table_in_range}
 use Rattle.bus_table.specs.Facts.{FitsMode, SenderFacts, TableFacts}
 
@@ -145,7 +145,7 @@ all_below ti (sender ∷ senders) h =
 -- what the mode asks of the offsets
 offsets : (mode : Mode) (ti : ℕ) (senders : List Sender) → fits_mode mode senders ≡ true → periodic_refusal mode ti senders ≡ None → AllByRecursion (λ s. FitsMode mode ti s.at) senders
 offsets Aperiodic ti senders fits none = all_zero ti senders fits
-offsets Periodic ti senders fits none = all_below ti senders (map_none _ _ (or_none (offset_range ti senders) (varies senders) none).0)
+offsets Periodic ti senders fits none = all_below ti senders (map_none _ _ none)
 
 some_sender : (senders : List Sender) → no_sender senders ≡ None → 0 < length senders
 some_sender [] h = absurd (cc)

@@ -1,11 +1,11 @@
 -- The whole reasons: why a table whose numbers are in their ranges is refused all the same.
-use Rattle.std.specs.Prelude.{ℕ, Bool, not, ◌&&◌, ◌==◌, nat_le, List, [], ◌∷◌, ◌++◌, map, Option, Some, None, if◌then◌else◌}
+use Rattle.std.specs.Prelude.{ℕ, Bool, ◌&&◌, ◌==◌, nat_le, List, [], ◌∷◌, ◌++◌, map, Option, Some, None, if◌then◌else◌}
 use Rattle.std.specs.List.{list_any, find, flat_map}
 use Rattle.std.specs.Option.{option_map, option_or}
 use Rattle.bus_table.specs.declared.mode.Mode.{Mode}
 use Rattle.bus_table.specs.declared.mode.Mode.TheVariants.{Aperiodic, Periodic}
 use Rattle.bus_table.specs.declared.error.WholeReason.{WholeReason}
-use Rattle.bus_table.specs.declared.error.WholeReason.TheVariants.{NoSender, NumberTwice, GapTwice, GapNotShort, PairTwice, OffsetRange, Varies}
+use Rattle.bus_table.specs.declared.error.WholeReason.TheVariants.{NoSender, NumberTwice, GapTwice, GapNotShort, PairTwice, OffsetRange}
 use Rattle.bus_table.specs.Tables.{SendLine, Sender, Listener, Table}
 
 -- the first of some that is the same as an earlier one, where these stand before them
@@ -32,10 +32,6 @@ send_lines senders = flat_map (λ sender. sender.sends) senders
 abbrev pub same_pair : SendLine → SendLine → Bool
 same_pair a b = a.label == b.label && a.ext == b.ext
 
--- whether some line of a sender has a least that isn't its most
-abbrev pub does_vary : Sender → Bool
-does_vary sender = list_any (λ line. not (line.least == line.most)) sender.sends
-
 -- there is no sender
 abbrev pub no_sender : List Sender → Option WholeReason
 no_sender [] = Some NoSender
@@ -61,14 +57,10 @@ pair_twice senders = option_map (λ line. PairTwice line.label line.ext) (first_
 abbrev pub offset_range : ℕ → List Sender → Option WholeReason
 offset_range ti senders = option_map (λ sender. OffsetRange sender.number) (find (λ sender. nat_le ti sender.at) senders)
 
--- a message may have several lengths
-abbrev pub varies : List Sender → Option WholeReason
-varies senders = option_map (λ sender. Varies sender.number) (find does_vary senders)
-
 -- what is asked of a periodic table alone
 abbrev pub periodic_refusal : Mode → ℕ → List Sender → Option WholeReason
 periodic_refusal Aperiodic ti senders = None
-periodic_refusal Periodic ti senders = option_or (offset_range ti senders) (varies senders)
+periodic_refusal Periodic ti senders = offset_range ti senders
 
 -- the first whole reason that applies
 abbrev pub whole_refusal : Table → Option WholeReason

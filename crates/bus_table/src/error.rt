@@ -18,8 +18,6 @@ pub enum WholeReason {
     PairTwice(Label, Ext),
     /// In periodic mode, the first sender whose offset isn't below the transmit interval.
     OffsetRange(u8),
-    /// In periodic mode, the first sender with a SEND line where the least isn't the most.
-    Varies(u8),
 }
 
 /// Why a table text wasn't read.

@@ -1,4 +1,4 @@
-ghost use Rattle.std.specs.Prelude.{◌≡◌, ◌==◌, [], ◌∷◌, ◌++◌, map, nat_le, not, Option};
+ghost use Rattle.std.specs.Prelude.{◌≡◌, ◌==◌, [], ◌∷◌, ◌++◌, map, nat_le, Option};
 ghost use Rattle.std.specs.List.{list_any, find};
 ghost use Rattle.std.specs.Option.{option_map};
 ghost use Rattle.bus_table.specs.declared.error.WholeReason.TheVariants.{NumberTwice};
@@ -59,13 +59,6 @@ fn has_send_line(senders: &[Sender], lines: &[SendLine], line: &SendLine) -> boo
     ensures { result ≡ list_any (λ other. whole.same_pair other line.now) (whole.send_lines senders.now ++ lines.now) }
 {
     is_sent(senders, line) || has_pair(lines, line)
-}
-
-/// Whether some line of a sender has a least that isn't its most.
-fn does_vary(sender: &Sender) -> bool
-    ensures { result ≡ whole.does_vary sender.now }
-{
-    sender.sends().iter().any(|line| line.least != line.most)
 }
 
 /// The first sender number that an earlier sender has.
@@ -153,21 +146,13 @@ fn offset_range(ti: u32, senders: &[Sender]) -> Option<WholeReason>
     Some(WholeReason::OffsetRange(sender.number()))
 }
 
-/// The first sender with a line where the least isn't the most.
-fn varies(senders: &[Sender]) -> Option<WholeReason>
-    ensures { result ≡ whole.varies senders.now }
-{
-    let sender = senders.iter().find(|sender| does_vary(sender))?;
-    Some(WholeReason::Varies(sender.number()))
-}
-
 /// What is asked of the senders of a periodic table alone.
 fn periodic_reason(mode: Mode, ti: u32, senders: &[Sender]) -> Option<WholeReason>
     ensures { result ≡ whole.periodic_refusal mode ti senders.now }
 {
     match mode {
         Mode::Aperiodic => None,
-        Mode::Periodic => offset_range(ti, senders).or_else(|| varies(senders)),
+        Mode::Periodic => offset_range(ti, senders),
     }
 }
 

@@ -7,7 +7,7 @@ use Rattle.bus_text.specs.declared.reason.Reason.TheVariants.{Ended, Keyword, Fi
 use Rattle.bus_table.specs.declared.fit.FitError.{FitError}
 use Rattle.bus_table.specs.declared.fit.FitError.TheVariants.{Stranger, Shape}
 use Rattle.bus_table.specs.declared.error.WholeReason.{WholeReason}
-use Rattle.bus_table.specs.declared.error.WholeReason.TheVariants.{NoSender, NumberTwice, GapTwice, GapNotShort, PairTwice, OffsetRange, Varies}
+use Rattle.bus_table.specs.declared.error.WholeReason.TheVariants.{NoSender, NumberTwice, GapTwice, GapNotShort, PairTwice, OffsetRange}
 use Rattle.bus_regime.specs.declared.verdict.TableVerdict.{TableVerdict}
 use Rattle.bus_regime.specs.Lines.{verdict_line}
 use Rattle.bus_tool.specs.declared.status.Status.{Status}
@@ -54,7 +54,6 @@ whole_words (GapTwice number) = codes "GapTwice " ++ decimal number
 whole_words (GapNotShort number) = codes "GapNotShort " ++ decimal number
 whole_words (PairTwice label ext) = pair_words label ext
 whole_words (OffsetRange number) = codes "OffsetRange " ++ decimal number
-whole_words (Varies number) = codes "Varies " ++ decimal number
 
 -- the item that doesn't fit, and why
 abbrev pub fit_words : FitError → List ℕ

@@ -87,7 +87,6 @@ fn put_whole<K: Sink>(text: &mut TextBuffer, sink: &mut K, reason: WholeReason)
             b"OffsetRange ",
             u64::from(number),
         ),
-        WholeReason::Varies(number) => put_numbered(text, sink, b"Varies ", u64::from(number)),
     }
 }
 
