@@ -4,7 +4,7 @@ use Rattle.std.proofs.lemmas.List.Folds.{list_any-append}
 use Rattle.bus_timers.specs.Timings.{due_place}
 use Rattle.bus_timers.specs.MayStart.{MayStart}
 use Rattle.bus_timers.specs.GapPlace.{GapFrom}
-use Rattle.bus_timers.specs.GapProofs.{gap_quiet, gap_started, gap_ready}
+use Rattle.bus_timers.specs.GapStepLaws.{gap_quiet, gap_started, gap_ready}
 use Rattle.bus_timers.specs.TimingLaws.{sound_sg, sound_tg}
 use Rattle.bus_strings.specs.Members.{In}
 use Rattle.bus_strings.specs.Messages.{Entry, bits}

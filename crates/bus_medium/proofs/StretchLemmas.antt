@@ -3,8 +3,8 @@ use Rattle.std.proofs.Common.{◌≡◌, ℕ, zero, suc, ◌+◌, ◌-◌, ◌<�
 use Rattle.std.proofs.lemmas.Bool.{cases_lt, cases_Bool, true≢false}
 use Rattle.std.proofs.lemmas.List.{length_push, get_or_append_left, get_or_push}
 use Rattle.bus_timers.specs.GapPlace.{GapFrom}
-use Rattle.bus_timers.specs.GapProofs.{gap_quiet, gap_carrier_elapsed, gap_carrier_waiting, gap_one}
-use Rattle.bus_timers.specs.GapStretchProofs.{gap_carriers_elapsed, gap_carriers_waiting}
+use Rattle.bus_timers.specs.GapStepLaws.{gap_quiet, gap_carrier_elapsed, gap_carrier_waiting, gap_one}
+use Rattle.bus_timers.specs.GapStretchLaws.{gap_carriers_elapsed, gap_carriers_waiting}
 use Rattle.bus_strings.specs.Messages.{Message, bits}
 use Rattle.bus_strings.specs.Pulses.{is_on}
 use Rattle.bus_strings.specs.PulseLaws.{Pulse}

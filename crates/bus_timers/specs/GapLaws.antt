@@ -1,5 +1,5 @@
 -- How the place from which the terminal gap counts moves, and that it tells when a terminal may start.
--- The contract of `laws::gap_place_moves` says that each of these holds; `GapProofs` and `GapStretchProofs` have the proofs, for the
+-- The contract of `laws::gap_place_moves` says that each of these holds; `GapStepLaws` and `GapStretchLaws` have the proofs, for the
 -- crates above to cite.
 use Rattle.std.specs.Prelude.{◌≡◌, ℕ, ◌+◌, ◌<◌, ◌≤◌, ◌↔◌, ◌++◌, ◌∷◌, [], Bool, true, false, List, length, replicate, Option, Some, None}
 use Rattle.bus_timers.specs.declared.timing.Timing.{Timing}
@@ -17,7 +17,8 @@ StartedPlace = (sg : ℕ) (past : List Bool) → 0 < sg → GapFrom sg past (Som
 
 -- a quiet bit time leaves it
 abbrev pub QuietPlace : Type 0
-QuietPlace = (sg : ℕ) (past : List Bool) (last : Option ℕ) (g : ℕ) → 0 < sg → GapFrom sg past last g → GapFrom sg (past ++ false ∷ []) last g
+QuietPlace = (sg : ℕ) (past : List Bool) (last : Option ℕ) (g : ℕ) → 0 < sg → GapFrom sg past last g
+    → GapFrom sg (past ++ false ∷ []) last g
 
 -- once the synchronization gap has elapsed, carrier puts it right behind
 abbrev pub CarrierPlace : Type 0
@@ -47,6 +48,7 @@ CarriersPlace =
     (sg : ℕ) (past : List Bool) (last : Option ℕ) (g k : ℕ) → 0 < sg → 0 < k → GapFrom sg past last g → g ≤ length past
     → GapFrom sg (past ++ replicate k true) last (length past + k)
 
+-- before the synchronization gap has elapsed too
 abbrev pub WaitingCarriersPlace : Type 0
 WaitingCarriersPlace =
     (sg : ℕ) (past : List Bool) (last : Option ℕ) (g k : ℕ) → 0 < sg → 0 < k → GapFrom sg past last g → length past < g

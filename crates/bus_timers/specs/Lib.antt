@@ -3,7 +3,9 @@ pub mod MayStart
 pub mod MayStartTest
 pub mod GapPlace
 pub mod GapLaws
-pub mod GapProofs
-pub mod GapStretchProofs
+pub mod GapStepLaws
+pub mod GapStretchLaws
 pub mod TimingLaws
 pub mod Counters
+pub mod Wait
+pub mod Deadlines

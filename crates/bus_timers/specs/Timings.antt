@@ -18,7 +18,8 @@ pub record IsSound (timing : Timing) : Type 0 where
   pub quiet_most : timing.quiet ≤ timing.sg + 256
   pub due_most : timing.due < 128000
 
--- the place in a past at which the transmit interval has elapsed: it runs from the last own start, and before the first one it is due at a moment of its own
+-- the place in a past at which the transmit interval has elapsed: it runs from the last own start, and before the first one it is due at a
+-- moment of its own
 abbrev pub due_place : Timing → Option ℕ → ℕ
 due_place timing None = timing.quiet + timing.due
 due_place timing (Some start) = start + timing.ti

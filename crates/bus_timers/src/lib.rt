@@ -1,15 +1,25 @@
 //! The timers of one terminal: transmit interval, synchronization gap and terminal gap.
 //!
-//! [`timing::Timing`] has the numbers by which they run. [`cores::Core`] is what any representation of the
-//! timers answers, by its relation to a past and a last own start; [`counter::CounterCore`] keeps them as
-//! counters. `specs/MayStart.antt` says when a terminal may start, and `specs/GapPlace.antt` the one place
-//! that tells how far the two gaps have come; [`laws`] says how it moves. [`plain`] computes the definition.
+//! [`Timing`] has the numbers by which they run. [`Core`] is what any representation of the timers answers, by its
+//! relation to a past and a last own start; [`CounterCore`] keeps them as counters, bit time by bit time.
+//! [`JumpCore`] tells how long it waits on a quiet bus, and is passed a whole stretch in one move; [`DeadlineCore`]
+//! keeps moments for that. `specs/MayStart.antt` says when a terminal may start, `specs/Wait.antt` how long it
+//! waits, and `specs/GapPlace.antt` the one place that tells how far the two gaps have come; [`laws`] says how it
+//! moves. [`plain`] computes the definition.
 #![tactic(auto)]
 
 pub mod cores;
 pub mod counter;
+pub mod deadline;
+pub mod jumps;
 pub mod laws;
 pub mod plain;
 #[cfg(test)]
 mod tests;
 pub mod timing;
+
+pub use crate::cores::Core;
+pub use crate::counter::CounterCore;
+pub use crate::deadline::DeadlineCore;
+pub use crate::jumps::JumpCore;
+pub use crate::timing::Timing;

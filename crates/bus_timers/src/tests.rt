@@ -1,7 +1,11 @@
+ghost use Rattle.std.specs.Prelude.{◌+◌, ◌≤◌};
 ghost use Rattle.bus_timers.specs.Timings.{IsSound};
+ghost use Rattle.bus_timers.specs.Wait.{longest_pass};
 
 use crate::cores::Core;
 use crate::counter::CounterCore;
+use crate::deadline::DeadlineCore;
+use crate::jumps::JumpCore;
 use crate::plain::may_start;
 use crate::timing::Timing;
 use std::alloc::{AllocError, Global};
@@ -78,5 +82,46 @@ fn an_offset_delays_the_first_start(rt: HostRuntime) -> Result<(), Fail> {
     };
     let starts = starts_beside_the_definition(&rt, rt.alloc(), timing, &[99, 60, 1200])?;
     assert_eq!(rt; starts.as_slice(), [140, 1340].as_slice());
+    Ok(())
+}
+
+/// Starts the core if it needn't wait, and passes it a stretch. It waits so long then.
+fn waits_behind<C: JumpCore>(rt: &impl Abort, core: &mut C, carrier: bool, bits: u64, wait: u64)
+    requires few { bits ≤ longest_pass }
+    requires room { bits ≤ C.room core.old }
+    ensures { C.room core.old ≤ C.room core.new + bits }
+{
+    if core.wait() == 0 {
+        assert!(rt; core.ready());
+        core.started();
+    }
+    core.pass_many(carrier, bits);
+    assert_eq!(rt; core.wait(), wait);
+}
+
+/// The interval is 1000, the synchronization gap 9, the terminal gap 8. Carrier in the terminal gap begins that gap
+/// anew, and carrier in the synchronization gap both of them. The longest pass of all comes last.
+#[test]
+fn stretches_are_passed_at_once(rt: HostRuntime) -> Result<(), Fail> {
+    let mut core = DeadlineCore::settled(Timing {
+        ti: 1000,
+        sg: 9,
+        tg: 8,
+        quiet: 9,
+        due: 0,
+    });
+    waits_behind(&rt, &mut core, false, 3, 5);
+    waits_behind(&rt, &mut core, true, 1, 8);
+    waits_behind(&rt, &mut core, false, 8, 0);
+    waits_behind(&rt, &mut core, true, 40, 960);
+    waits_behind(&rt, &mut core, false, 950, 10);
+    waits_behind(&rt, &mut core, true, 9, 8);
+    waits_behind(&rt, &mut core, false, 8, 0);
+    waits_behind(&rt, &mut core, true, 990, 17);
+    waits_behind(&rt, &mut core, false, 8, 9);
+    waits_behind(&rt, &mut core, true, 1, 17);
+    waits_behind(&rt, &mut core, false, 9, 8);
+    waits_behind(&rt, &mut core, false, 1_099_511_627_776, 0);
+    assert_eq!(rt; core.moves(), 12);
     Ok(())
 }

@@ -1,5 +1,6 @@
 -- How the place from which the terminal gap counts moves, and that it says when a terminal may start.
-use Rattle.std.proofs.Common.{◌≡◌, ℕ, ◌+◌, ◌-◌, ◌<◌, ◌≤◌, ◌⊎◌, ◌++◌, ◌∷◌, [], Bool, true, false, List, length, replicate, Option, Some, None, unwrap_or, inl, inr, arith, sym, refl, ◌∙◌}
+use Rattle.std.proofs.Common.{◌≡◌, ℕ, ◌+◌, ◌-◌, ◌<◌, ◌≤◌, ◌⊎◌, ◌++◌, ◌∷◌, [], Bool, true, false, List, length, replicate, Option, Some}
+use Rattle.std.proofs.Common.{None, unwrap_or, inl, inr, arith, sym, refl, ◌∙◌}
 use Rattle.std.proofs.lemmas.List.{get_or_append_left, get_or_push, length_push, get_or_past, get_or-replicate, length-replicate}
 use Rattle.std.proofs.lemmas.Bool.{cases_lt, true≢false}
 use Rattle.bus_timers.specs.MayStart.{IsQuiet, IsSync}
@@ -18,6 +19,7 @@ quiet_within past i e q h =
 quiet_pushed : (past : List Bool) (b : Bool) (i j : ℕ) → IsQuiet past i j → j ≤ length past → IsQuiet (past ++ b ∷ []) i j
 quiet_pushed past b i j q h k low high = get_or_append_left past (b ∷ []) true k (omega arith) ∙ q k low high
 
+-- and as quiet without the last bit time
 quiet_popped : (past : List Bool) (b : Bool) (i j : ℕ) → IsQuiet (past ++ b ∷ []) i j → j ≤ length past → IsQuiet past i j
 quiet_popped past b i j q h k low high = sym (get_or_append_left past (b ∷ []) true k (omega arith)) ∙ q k low high
 
@@ -42,17 +44,23 @@ sync_after : (sg : ℕ) (past : List Bool) (last : Option ℕ) (e : ℕ) → IsS
 sync_after sg past None e s = let h : sg ≤ e = s.long in omega arith
 sync_after sg past (Some start) e s = let h : sg ≤ e = s.long in let k : start ≤ e - sg = s.own in omega arith
 
+-- a place of synchronization lies within the past
 sync_within : (sg : ℕ) (past : List Bool) (last : Option ℕ) (e : ℕ) → 0 < sg → IsSync sg past last e → e ≤ length past
 sync_within sg past last e h s = let l : sg ≤ e = s.long in quiet_within past (e - sg) e s.quiet (omega arith)
 
-sync_pushed : (sg : ℕ) (past : List Bool) (b : Bool) (last : Option ℕ) (e : ℕ) → IsSync sg past last e → e ≤ length past → IsSync sg (past ++ b ∷ []) last e
+-- it stays one once a bit time more has passed
+sync_pushed : (sg : ℕ) (past : List Bool) (b : Bool) (last : Option ℕ) (e : ℕ) → IsSync sg past last e → e ≤ length past
+    → IsSync sg (past ++ b ∷ []) last e
 sync_pushed sg past b last e s h = record { long = s.long; quiet = quiet_pushed past b (e - sg) e s.quiet h; own = s.own }
 
-sync_popped : (sg : ℕ) (past : List Bool) (b : Bool) (last : Option ℕ) (e : ℕ) → IsSync sg (past ++ b ∷ []) last e → e ≤ length past → IsSync sg past last e
+-- and was one before the last bit time
+sync_popped : (sg : ℕ) (past : List Bool) (b : Bool) (last : Option ℕ) (e : ℕ) → IsSync sg (past ++ b ∷ []) last e → e ≤ length past
+    → IsSync sg past last e
 sync_popped sg past b last e s h = record { long = s.long; quiet = quiet_popped past b (e - sg) e s.quiet h; own = s.own }
 
 -- what is after the start is told by places alone
-sync_own : (sg : ℕ) (last : Option ℕ) (e : ℕ) → unwrap_or last 0 + sg ≤ e → (past : List Bool) → IsQuiet past (e - sg) e → IsSync sg past last e
+sync_own : (sg : ℕ) (last : Option ℕ) (e : ℕ) → unwrap_or last 0 + sg ≤ e → (past : List Bool) → IsQuiet past (e - sg) e
+    → IsSync sg past last e
 sync_own sg None e h past q = record { long = omega arith; quiet = q; own = tt }
 sync_own sg (Some start) e h past q = record { long = omega arith; quiet = q; own = let k : start ≤ e - sg = omega arith in k }
 
@@ -60,6 +68,7 @@ sync_own sg (Some start) e h past q = record { long = omega arith; quiet = q; ow
 quiet_more_at : (past : List Bool) (i : ℕ) → IsQuiet past i (length past) → IsQuiet (past ++ false ∷ []) i (length (past ++ false ∷ []))
 quiet_more_at past i q k low high = quiet_more past i q k low (omega (arith, length_push past false))
 
+-- the same behind the last carrier
 quiet_behind_at : (past : List Bool) (m : ℕ) → IsQuiet (past ++ true ∷ []) m (length (past ++ true ∷ [])) → length past + 1 ≤ m
 quiet_behind_at past m q = quiet_behind past m (λ k low high. q k low (omega (arith, length_push past true)))
 
@@ -67,11 +76,13 @@ quiet_behind_at past m q = quiet_behind past m (λ k low high. q k low (omega (a
 quiet_less : (past : List Bool) (b : Bool) (m : ℕ) → IsQuiet (past ++ b ∷ []) m (length (past ++ b ∷ [])) → IsQuiet past m (length past)
 quiet_less past b m q = quiet_popped past b m (length past) (λ k low high. q k low (omega (arith, length_push past b))) (omega arith)
 
+-- no bit time lies between a place and one before it
 no_quiet : (past : List Bool) (i j : ℕ) → j ≤ i → IsQuiet past i j
 no_quiet past i j h k low high = absurd (omega arith)
 
 -- a place of synchronization of a longer past is one of the shorter past, or its end
-sync_cases : (sg : ℕ) (past : List Bool) (b : Bool) (last : Option ℕ) (e : ℕ) → 0 < sg → IsSync sg (past ++ b ∷ []) last e → IsSync sg past last e ⊎ (e ≡ length past + 1)
+sync_cases : (sg : ℕ) (past : List Bool) (b : Bool) (last : Option ℕ) (e : ℕ) → 0 < sg → IsSync sg (past ++ b ∷ []) last e
+    → IsSync sg past last e ⊎ (e ≡ length past + 1)
 sync_cases sg past b last e pos s =
     let within : e ≤ length (past ++ b ∷ []) = sync_within sg (past ++ b ∷ []) last e pos s in
     elim (cases_lt (length past) e) [
@@ -117,14 +128,20 @@ gap_quiet sg past last g pos (inr w) =
           | inl old ↦ w.none e old
           | inr at ↦
               let long : sg ≤ e = s.long in
-              let k : g ≤ (e - sg) + sg = w.least (e - sg) (omega (arith, sync_after sg (past ++ false ∷ []) last e s)) (quiet_popped past false (e - sg) (length past) (λ k low high. s.quiet k low (omega arith)) (omega arith)) in
+              let k : g ≤ (e - sg) + sg = w.least (e - sg) (omega (arith, sync_after sg (past ++ false ∷ []) last e s))
+              (quiet_popped past false (e - sg) (length past) (λ k low high. s.quiet k low (omega arith)) (omega arith)) in
               absurd (omega arith)
         ];
         least = λ m low q. w.least m low (quiet_less past false m q);
       })
       | inr now ↦ inl (record {
         reached = omega (arith, length_push past false);
-        sync = (g, omega arith, sync_own sg last g own (past ++ false ∷ []) (λ k low high. quiet_more past (g - sg) w.quiet k low (omega arith)));
+        sync = (
+          g,
+          omega arith,
+          sync_own sg last g own (past ++ false ∷ [])
+              (λ k low high. quiet_more past (g - sg) w.quiet k low (omega arith)),
+        );
         quiet = no_quiet (past ++ false ∷ []) g (length (past ++ false ∷ [])) (omega (arith, length_push past false));
         least = λ e m s low q. elim (sync_cases sg past false last e pos s) [
           | inl old ↦ absurd (w.none e old)
@@ -138,12 +155,18 @@ pub gap_carrier_elapsed : CarrierPlace
 gap_carrier_elapsed sg past last g pos (inl x) h =
     inl (record {
       reached = omega (arith, length_push past true);
-      sync = (x.sync.0, let k : x.sync.0 ≤ g = x.sync.1 in omega arith, sync_pushed sg past true last x.sync.0 x.sync.2 (sync_within sg past last x.sync.0 pos x.sync.2));
+      sync = (
+        x.sync.0,
+        let k : x.sync.0 ≤ g = x.sync.1 in
+            omega arith,
+        sync_pushed sg past true last x.sync.0 x.sync.2 (sync_within sg past last x.sync.0 pos x.sync.2),
+      );
       quiet = no_quiet (past ++ true ∷ []) (length past + 1) (length (past ++ true ∷ [])) (omega (arith, length_push past true));
       least = λ e m s low q. quiet_behind_at past m q;
     })
 gap_carrier_elapsed sg past last g pos (inr w) h = let k : length past < g = w.ahead in absurd (omega arith)
 
+-- and before the synchronization gap has elapsed
 pub gap_carrier_waiting : WaitingCarrierPlace
 gap_carrier_waiting sg past last g pos (inl x) h = let k : g ≤ length past = x.reached in absurd (omega arith)
 gap_carrier_waiting sg past last g pos (inr w) h =
@@ -166,7 +189,8 @@ gap_started sg past pos =
       near = omega arith;
       own = omega arith;
       quiet = no_quiet past (length past + sg - sg) (length past) (omega arith);
-      none = λ e s. let k : e ≤ length past = sync_within sg past (Some (length past)) e pos s in let l : length past + sg ≤ e = sync_after sg past (Some (length past)) e s in absurd (omega arith);
+      none = λ e s. let k : e ≤ length past = sync_within sg past (Some (length past)) e pos s in
+          let l : length past + sg ≤ e = sync_after sg past (Some (length past)) e s in absurd (omega arith);
       least = λ m low q. omega arith;
     })
 
@@ -191,6 +215,7 @@ gap_least sg past last g h (inr a) (inr b) =
     let k : g ≤ h - sg + sg = a.least (h - sg) (omega arith) b.quiet in
     omega arith
 
+-- there is one such place
 pub gap_one : OnePlace
 gap_one sg past last g h a b =
     let up : g ≤ h = gap_least sg past last g h a b in
@@ -213,7 +238,8 @@ gap_ready timing past last g pos tpos (inl x) =
       (λ may.
           let fits : timing.tg ≤ length past = may.gap_fits in
           let room : may.synchronized.0 + timing.tg ≤ length past = may.synchronized.1 in
-          let k : g ≤ length past - timing.tg = x.least may.synchronized.0 (length past - timing.tg) may.synchronized.2 (omega arith) may.gap in
+          let k : g ≤ length past - timing.tg = x.least may.synchronized.0 (length past - timing.tg) may.synchronized.2
+          (omega arith) may.gap in
           (may.interval, omega arith)),
     )
 gap_ready timing past last g pos tpos (inr w) = (
