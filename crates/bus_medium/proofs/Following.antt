@@ -16,7 +16,7 @@ use Rattle.bus_strings.specs.PulseProofs.{quiet_behind}
 use Rattle.bus_strings.specs.MessageLaws.{bits_some}
 use Rattle.bus_table.specs.Tables.{Hand}
 use Rattle.bus_terminal.specs.Terminals.{last_begun, next_place}
-use Rattle.bus_terminal.specs.SendingProofs.{sending_is_not_ready}
+use Rattle.bus_terminal.specs.SendingLaws.{sending_is_not_ready}
 use Rattle.bus_medium.specs.Past.{past, own, last_place}
 use Rattle.bus_medium.specs.Buses.{last_of, running_at}
 use Rattle.bus_medium.specs.Following.{Running, Follows}

@@ -1,5 +1,6 @@
 pub mod Places
 pub mod Terminals
 pub mod SendingLaws
-pub mod SendingProofs
 pub mod Standing
+pub mod Jumps
+pub mod JumpLaws

@@ -31,4 +31,10 @@ next_place message d = if nat_lt (d + 1) (bits message) then Some (d + 1) else N
 
 -- the terminal a bit time later, its timers having become these
 abbrev pub with_passed : {C : Type 0} → Terminal C → C → Terminal C
-with_passed terminal core = record { core = core; hand = terminal.hand; sent = terminal.sent; running = option_and_then (next_place (last_begun terminal.hand terminal.sent)) terminal.running }
+with_passed terminal core = record {
+  core = core;
+  hand = terminal.hand;
+  sent = terminal.sent;
+  running = option_and_then
+      (next_place (last_begun terminal.hand terminal.sent)) terminal.running;
+}

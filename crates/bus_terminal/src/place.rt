@@ -1,5 +1,5 @@
-ghost use Rattle.std.specs.Prelude.{◌≡◌, ℕ, ◌+◌, ◌<◌, MatchOption, length};
-ghost use Rattle.bus_strings.specs.Messages.{bits, IsMessage};
+ghost use Rattle.std.specs.Prelude.{◌≡◌, ℕ, ◌+◌, ◌<◌, ◌≤◌, MatchOption, length};
+ghost use Rattle.bus_strings.specs.Messages.{bits as length_of, IsMessage};
 ghost use Rattle.bus_strings.specs.Pulses.{is_on};
 
 use bus_strings::message::Message;
@@ -34,7 +34,8 @@ impl Place {
     /// The next bit time of the message, unless this was its last.
     pub fn next(self, message: &Message) -> Option<Place>
         requires { IsPlace message.now self }
-        ensures { MatchOption result (place_of message.now self + 1 ≡ bits message.now) (λ next. IsPlace message.now next × (place_of message.now next ≡ place_of message.now self + 1)) }
+        ensures { MatchOption result (place_of message.now self + 1 ≡ length_of message.now)
+            (λ next. IsPlace message.now next × (place_of message.now next ≡ place_of message.now self + 1)) }
     {
         if self.left > 1 {
             return Some(Place {
@@ -58,5 +59,20 @@ impl Place {
             left: 4,
             ..self
         })
+    }
+
+    /// So many bit times later in the message, unless it has ended then: at most those left of the pulse or the quiet.
+    pub fn later(self, message: &Message, bits: u64) -> Option<Place>
+        requires place { IsPlace message.now self }
+        requires some { 1 ≤ bits }
+        requires steady { bits ≤ self.left }
+        ensures { MatchOption result (place_of message.now self + bits ≡ length_of message.now)
+            (λ next. IsPlace message.now next × (place_of message.now next ≡ place_of message.now self + bits)) }
+    {
+        let last = Place {
+            left: self.left - (bits as u32 - 1),
+            ..self
+        };
+        last.next(message)
     }
 }

@@ -1,15 +1,18 @@
-ghost use Rattle.std.specs.Prelude.{◌≡◌, ℕ, ◌+◌, ◌<◌, ◌≤◌, ◌↔◌, ◌⊎◌, ◌++◌, ◌∷◌, [], Bool, true, false, List, length, slice_get, Option, Some, None, IsTrue};
+ghost use Rattle.std.specs.Prelude.{◌≡◌, ℕ, ◌+◌, ◌<◌, ◌≤◌, ◌↔◌, ◌⊎◌, ◌++◌, ◌∷◌, [], Bool, true, false, List, length, replicate, slice_get, Option, Some, None, IsTrue, MatchOption};
 ghost use Rattle.bus_timers.specs.declared.timing.Timing.{Timing};
 ghost use Rattle.bus_timers.specs.MayStart.{MayStart};
 ghost use Rattle.bus_strings.specs.Messages.{IsMessage};
 ghost use Rattle.std.specs.Option.{option_and_then};
 ghost use Rattle.bus_terminal.specs.Terminals.{last_begun, next_place, sounds, with_begun, with_passed};
+ghost use Rattle.bus_timers.specs.Wait.{longest_pass};
+ghost use Rattle.bus_terminal.specs.Jumps.{IsSteady, later_place, with_passed_many, StaysFor, StretchOf, QuietWait};
 ghost use Rattle.bus_terminal.specs.Standing.{place_in, IsStanding};
 
 use crate::place::Place;
 use bus_strings::message::Message;
 use bus_table::hand::Hand;
 use bus_timers::cores::Core;
+use bus_timers::jumps::JumpCore;
 use std::marker::Model;
 
 /// Where the message begun last is a bit time later, if it is still running.
@@ -20,6 +23,18 @@ fn next_running(hand: &Hand, sent: usize, running: Option<Place>) -> Option<Plac
 {
     let place = running?;
     place.next(&hand.messages[sent - 1])
+}
+
+/// Where the message begun last is so many bit times later, if it is still running then.
+fn later_running(hand: &Hand, sent: usize, running: Option<Place>, bits: u64) -> Option<Place>
+    requires standing { IsStanding hand.now sent running }
+    requires some { 1 ≤ bits }
+    requires steady { MatchOption (place_in hand.now sent running) (Unit {0}) (λ d. IsSteady (last_begun hand.now sent) d bits) }
+    ensures standing { IsStanding hand.now sent result }
+    ensures place { place_in hand.now sent result ≡ option_and_then (later_place (last_begun hand.now sent) bits) (place_in hand.now sent running) }
+{
+    let place = running?;
+    place.later(&hand.messages[sent - 1], bits)
 }
 
 /// One terminal: its timers, its messages, how many of them it has begun, and where the running one is.
@@ -97,10 +112,22 @@ impl<C: Core> Terminal<C> {
         ensures told { (timing : Timing) (past : List Bool) (last : Option ℕ) → C.stands self.old.core timing past last
             → C.stands self.new.core timing (past ++ carrier ∷ []) last }
         ensures room { C.room self.old.core ≤ C.room self.new.core + 1 }
-        ensures moves { (C.moves self.new.core ≡ C.moves self.old.core + 1) ⊎ ((C.moves self.new.core ≡ C.moves self.old.core) × (C.moves self.old.core ≡ u64.MAX)) }
+        ensures moves { (C.moves self.new.core ≡ C.moves self.old.core + 1)
+            ⊎ ((C.moves self.new.core ≡ C.moves self.old.core) × (C.moves self.old.core ≡ u64.MAX)) }
     {
         self.running = next_running(&self.hand, self.sent, self.running);
         self.core.pass(carrier);
+    }
+
+    /// For how many bit times from the present one, at least 1, its running message stays as it is, on or quiet. None
+    /// where no message runs.
+    pub fn stretch(&self) -> Option<u64>
+        ensures { StretchOf self.now result }
+    {
+        match self.running {
+            None => None,
+            Some(place) => Some(place.left as u64),
+        }
     }
 
     /// How many messages it has begun.
@@ -127,5 +154,44 @@ impl<C: Core> Terminal<C> {
         let message = &self.hand.messages[k];
         let _ranges = message.strings();
         message
+    }
+}
+
+impl<C: JumpCore> Terminal<C> {
+    /// How many bit times it waits on a quiet bus until it may begin its next message. None where a message runs, or
+    /// none is left.
+    pub fn quiet_wait(&self) -> Option<u64>
+        ensures { QuietWait ⟦<C as Core>⟧ self.now result }
+    {
+        if self.running.is_some() || self.sent == self.hand.messages.len() {
+            return None;
+        }
+        Some(self.core.wait())
+    }
+
+    /// So many bit times are over, from 1 to 1,099,511,627,776, all with carrier or all without: it stands where as
+    /// many calls of `pass` leave it, and its core makes one move. A message that runs stays on or quiet for that long.
+    pub fn pass_many(&mut self, carrier: bool, bits: u64)
+        requires some { 1 ≤ bits }
+        requires few { bits ≤ longest_pass }
+        requires room { bits ≤ C.room self.old.core }
+        requires steady { StaysFor self.old bits }
+        requires own { sounds self.old ≡ true → carrier ≡ true }
+        ensures passed { self.new ≡ with_passed_many self.old bits self.new.core }
+        ensures told { (timing : Timing) (past : List Bool) (last : Option ℕ) → C.stands self.old.core timing past last
+            → C.stands self.new.core timing (past ++ replicate bits carrier) last }
+        ensures room { C.room self.old.core ≤ C.room self.new.core + bits }
+        ensures moves { (C.moves self.new.core ≡ C.moves self.old.core + 1)
+            ⊎ ((C.moves self.new.core ≡ C.moves self.old.core) × (C.moves self.old.core ≡ u64.MAX)) }
+    {
+        self.running = later_running(&self.hand, self.sent, self.running, bits);
+        self.core.pass_many(carrier, bits);
+    }
+
+    /// How often its core was moved since it was settled.
+    pub fn moves(&self) -> u64
+        ensures { result ≡ C.moves self.now.core }
+    {
+        self.core.moves()
     }
 }

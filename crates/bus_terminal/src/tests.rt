@@ -1,3 +1,5 @@
+ghost use Rattle.std.specs.Prelude.{◌+◌, ◌≤◌};
+
 use crate::terminal::Terminal;
 use bus_strings::message::Message;
 use bus_strings::pulses::{bits, is_on};
@@ -5,6 +7,8 @@ use bus_strings::wordstring::Wordstring;
 use bus_table::hand::Hand;
 use bus_timers::cores::Core;
 use bus_timers::counter::CounterCore;
+use bus_timers::deadline::DeadlineCore;
+use bus_timers::jumps::JumpCore;
 use bus_timers::timing::Timing;
 use bus_words::label::{Ext, Label};
 use std::alloc::Global;
@@ -59,6 +63,63 @@ fn a_terminal_alone_sends_its_messages(rt: HostRuntime) -> Result<(), Fail> {
     }
     assert_eq!(rt; starts.as_slice(), [20, 1020].as_slice());
     assert_eq!(rt; terminal.sent(), 2);
+    Ok(())
+}
+
+/// Passes the terminal, alone on its bus, up to its next change, and tells how many bit times that took.
+fn next_change<C: JumpCore>(terminal: &mut Terminal<C>) -> Option<u64>
+    requires room { 5000 ≤ C.room terminal.old.core }
+    ensures { C.room terminal.old.core ≤ C.room terminal.new.core + 5000 }
+{
+    terminal.decide();
+    let bits = match terminal.stretch() {
+        Some(bits) => bits,
+        None => terminal.quiet_wait()?,
+    };
+    if bits == 0 || bits > 5000 {
+        return None;
+    }
+    let carrier = terminal.is_on();
+    terminal.pass_many(carrier, bits);
+    Some(bits)
+}
+
+/// A wait, a pulse, the quiet behind it and another pulse, twice. Then nothing is left that it waits for.
+#[test]
+fn a_terminal_alone_jumps_from_change_to_change(rt: HostRuntime) -> Result<(), Fail> {
+    let alloc = rt.alloc();
+    let mut messages = Vec::new(alloc);
+    messages.push(message(alloc)?)?;
+    messages.push(message(alloc)?)?;
+    let hand = Hand {
+        terminal: 7,
+        messages,
+    };
+    let timing = Timing {
+        ti: 1000,
+        sg: 300,
+        tg: 20,
+        quiet: 300,
+        due: 0,
+    };
+    let mut terminal = Terminal::new(DeadlineCore::settled(timing), hand);
+    let first = [
+        next_change(&mut terminal),
+        next_change(&mut terminal),
+        next_change(&mut terminal),
+        next_change(&mut terminal),
+    ];
+    assert_eq!(rt; first, [Some(20), Some(40), Some(4), Some(60)]);
+    let second = [
+        next_change(&mut terminal),
+        next_change(&mut terminal),
+        next_change(&mut terminal),
+        next_change(&mut terminal),
+        next_change(&mut terminal),
+    ];
+    assert_eq!(rt; second, [Some(896), Some(40), Some(4), Some(60), None]);
+    assert_eq!(rt; terminal.sent(), 2);
+    assert_eq!(rt; terminal.moves(), 8);
     Ok(())
 }
 

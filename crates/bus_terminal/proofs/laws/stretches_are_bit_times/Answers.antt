@@ -1,0 +1,5 @@
+use Rattle.bus_terminal.specs.JumpLaws.{later_is_step_by_step, one_stretch, steady_within}
+use Rattle.bus_terminal.proofs.laws.stretches_are_bit_times.Goals as goal
+
+pub returns : goal.returns
+returns c = record { steps = later_is_step_by_step; one = one_stretch; within = steady_within }
