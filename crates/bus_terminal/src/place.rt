@@ -2,6 +2,7 @@ ghost use Rattle.std.specs.Prelude.{◌≡◌, ℕ, ◌+◌, ◌<◌, ◌≤◌,
 ghost use Rattle.bus_strings.specs.Messages.{bits as length_of, IsMessage};
 ghost use Rattle.bus_strings.specs.Pulses.{is_on};
 
+use bus_strings::limits::{INNER_GAP, WORD_BITS};
 use bus_strings::message::Message;
 
 /// Where a running message is: at a pulse, or in the quiet behind it, and how many bit times of that are left.
@@ -27,7 +28,7 @@ impl Place {
         Place {
             pulse: 0,
             on: true,
-            left: 20 * message.strings()[0].word_count(),
+            left: WORD_BITS * message.strings()[0].word_count(),
         }
     }
 
@@ -48,7 +49,7 @@ impl Place {
             return Some(Place {
                 pulse: self.pulse + 1,
                 on: true,
-                left: 20 * strings[self.pulse + 1].word_count(),
+                left: WORD_BITS * strings[self.pulse + 1].word_count(),
             });
         }
         if self.pulse + 1 == strings.len() {
@@ -56,7 +57,7 @@ impl Place {
         }
         Some(Place {
             on: false,
-            left: 4,
+            left: INNER_GAP,
             ..self
         })
     }
