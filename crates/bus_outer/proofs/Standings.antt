@@ -16,6 +16,7 @@ stands_longer held faults s k w f text bytes h = record {
   rest = h.rest ++ bytes;
   written = written_longer _ _ _ _ bytes h.written;
   waits = λ e. ap (λ l. l ++ bytes) (h.waits e);
+  same = h.same;
   later = h.later;
   cause = h.cause;
 }
@@ -26,17 +27,19 @@ stands_failed held faults s k w w' text bytes h = record {
   rest = h.rest ++ bytes;
   written = written_longer _ _ _ _ bytes h.written;
   waits = λ e. cc;
+  same = λ e. cc;
   later = h.later;
   cause = h.cause;
 }
 
 -- the buffer and more bytes were written, all or a part
 stands_written : {K : Type 0} (held : K → Option (List ℕ)) (faults : K → ℕ) (s k k' : K) (w w' : List ℕ) (f' : Bool) (text bytes rest : List ℕ) → Stands held faults s k w false text
-    → Written (held k) (held k') rest (w ++ bytes) → faults k ≤ faults k' → (f' ≡ false → rest ≡ w') → (f' ≡ true → Rose (faults k) (faults k')) → Stands held faults s k' w' f' (text ++ bytes)
-stands_written held faults s k k' w w' f' text bytes rest h v le same rose = record {
+    → Written (held k) (held k') rest (w ++ bytes) → faults k ≤ faults k' → (f' ≡ false → faults k' ≡ faults k) → (f' ≡ false → rest ≡ w') → (f' ≡ true → Rose (faults k) (faults k')) → Stands held faults s k' w' f' (text ++ bytes)
+stands_written held faults s k k' w w' f' text bytes rest h v le kept same rose = record {
   rest = rest;
   written = written_on _ _ _ _ _ bytes rest (subst (λ r. Written (held s) (held k) r text) (h.waits refl) h.written) v;
   waits = same;
+  same = λ e. kept e ∙ h.same refl;
   later = omega (arith, h.later);
   cause = λ e. rose_later _ _ _ h.later (rose e);
 }
@@ -50,13 +53,13 @@ sends_nothing held faults k bytes = record {
 -- all was written
 pub sends_all : {K T E : Type 0} (held : K → Option (List ℕ)) (faults : K → ℕ) (k k' : K) (bytes : List ℕ) (x : T) → WritesText {E = E} held faults k k' (Ok x) bytes → Sends held faults k k' false false bytes
 sends_all held faults k k' bytes x w = record {
-  goes = λ start waiting more text e h. stands_written held faults start k k' waiting [] false text more [] h (subst (Written (held k) (held k') []) e w.ok) w.later (λ _. refl) (λ f. cc);
+  goes = λ start waiting more text e h. stands_written held faults start k k' waiting [] false text more [] h (subst (Written (held k) (held k') []) e w.ok) w.later (λ _. w.same) (λ _. refl) (λ f. cc);
 }
 
 -- a part was written
 pub sends_part : {K T E : Type 0} (held : K → Option (List ℕ)) (faults : K → ℕ) (k k' : K) (bytes : List ℕ) (x : E) → WritesText {T = T} held faults k k' (Err x) bytes → Sends held faults k k' false true bytes
 sends_part held faults k k' bytes x w = record {
-  goes = λ start waiting more text e h. stands_written held faults start k k' waiting [] true text more w.prefix.0 h (subst (Written (held k) (held k') w.prefix.0) e w.prefix.1) w.later (λ f. cc) (λ _. w.cause);
+  goes = λ start waiting more text e h. stands_written held faults start k k' waiting [] true text more w.prefix.0 h (subst (Written (held k) (held k') w.prefix.0) e w.prefix.1) w.later (λ f. cc) (λ f. cc) (λ _. w.cause);
 }
 
 -- the buffer and more bytes were sent
@@ -73,6 +76,7 @@ ends_ok held faults k k' a b x p w f = record {
       record {
         ok = subst (λ t. Written (held start) (held k') [] t) (append-nil text) (subst (λ r. Written (held start) (held k') r (text ++ [])) (s.waits f ∙ w) s.written);
         prefix = tt;
+        same = s.same f;
         later = s.later;
         cause = tt;
       };
@@ -85,6 +89,7 @@ ends_err held faults k k' a b e p f = record {
       record {
         ok = tt;
         prefix = (s.rest, subst (λ t. Written (held start) (held k') s.rest t) (append-nil text) s.written);
+        same = tt;
         later = s.later;
         cause = s.cause f;
       };

@@ -17,7 +17,7 @@ use Rattle.bus_outer.specs.declared.source.Pull.TheVariants.{Got, End, Failed}
 use Rattle.bus_outer.specs.declared.file_source.NamedFile.{NamedFile}
 use Rattle.bus_outer.specs.declared.file_source.NamedFile.TheVariants.{None, Closed, Open}
 
--- a pull that is a read of a file gives what came from the file's front, and says that it ended only where nothing is left
+-- A pull that is a read of a file gives what came from the file's front, and says that it ended only where nothing is left.
 abbrev pub ReadsFile : Option (List ℕ) → Option (List ℕ) → Pull → List ℕ → Type 0
 ReadsFile old new (Got n) buf = Consumes old new (take n buf)
 ReadsFile old new End buf = IsAtEnd new
@@ -27,32 +27,35 @@ ReadsFile old new Failed buf = Keeps old new
 abbrev pub OpensFile : {F : Type 0} → (F → Option (List ℕ)) → String Global → NamedFile F → Pull → List ℕ → Type 0
 OpensFile {F} remaining path (Open file) pull buf = (opened : F) × ReadsFile (remaining opened) (left_ahead remaining file) pull buf
 OpensFile remaining path (Closed same) Failed buf = same ≡ path
-OpensFile remaining path new pull buf = ⊥
+OpensFile remaining path (Closed same) End buf = ⊥
+OpensFile remaining path (Closed same) (Got n) buf = ⊥
+OpensFile remaining path None pull buf = ⊥
 
 -- A source with no file has ended and stays so; a file is opened by a pull, and that pull and each later one is a read of it.
 abbrev pub PullsFile : {F : Type 0} → (F → Option (List ℕ)) → NamedFile F → NamedFile F → Pull → List ℕ → Type 0
 PullsFile remaining None new pull buf = (pull ≡ End) × (new ≡ None)
 PullsFile remaining (Closed path) new pull buf = OpensFile remaining path new pull buf
 PullsFile remaining (Open file) (Open next) pull buf = ReadsFile (left_ahead remaining file) (left_ahead remaining next) pull buf
-PullsFile remaining (Open file) new pull buf = ⊥
+PullsFile remaining (Open file) None pull buf = ⊥
+PullsFile remaining (Open file) (Closed path) pull buf = ⊥
 
--- the file of a source, as far as it has come
+-- The file of a source, as far as it has come.
 abbrev pub file_of : {R F D : Type 0} → FileSource R F D → NamedFile F
 file_of s = s.file
 
--- how often the file couldn't be opened or read
+-- How often the file couldn't be opened or read.
 abbrev pub file_faults : {R F D : Type 0} → FileSource R F D → ℕ
 file_faults s = s.faults
 
--- the writer behind a sink
+-- The writer behind a sink.
 abbrev pub writer_of : {W : Type 0} → OutSink W → W
 writer_of s = s.writer
 
--- how often it couldn't be written to or flushed
+-- How often it couldn't be written to or flushed.
 abbrev pub writer_faults : {W : Type 0} → OutSink W → ℕ
 writer_faults s = s.faults
 
--- what was taken went to the writer; where the push failed, no more than a front of the bytes did
+-- What was taken went to the writer; where the push failed, no more than a front of the bytes did.
 abbrev pub PushesOn : Option (List ℕ) → Option (List ℕ) → Push → List ℕ → Type 0
 PushesOn old new (Took n) bytes = Appends old new (take n bytes)
 PushesOn old new Refused bytes = (n : ℕ) × Appends old new (take n bytes)

@@ -1,26 +1,36 @@
--- What the source and the sink in memory show.
+-- What the sources and the sinks in memory show.
 use Rattle.std.specs.Prelude.{◌≡◌, ℕ, List, drop}
 use Rattle.bus_outer.specs.Faults.{one_more}
+use Rattle.bus_outer.specs.declared.steady_source.SteadySource.{SteadySource}
 use Rattle.bus_outer.specs.declared.memory_source.MemorySource.{MemorySource}
 use Rattle.bus_outer.specs.declared.memory_sink.MemorySink.{MemorySink}
+use Rattle.bus_outer.specs.declared.count_sink.CountSink.{CountSink}
 
--- the bytes that a source still gives
+-- The bytes that a source without failures still gives.
+abbrev pub steady_left : SteadySource → List ℕ
+steady_left s = drop s.at s.bytes.items
+
+-- The most that one pull of it gives.
+abbrev pub steady_piece : SteadySource → ℕ
+steady_piece s = s.piece
+
+-- The bytes that a source with failures still gives.
 abbrev pub source_left : MemorySource → List ℕ
-source_left s = drop s.at s.bytes.items
+source_left s = steady_left s.steady
 
--- the most that one pull gives
+-- The most that one pull of it gives.
 abbrev pub source_piece : MemorySource → ℕ
-source_piece s = s.piece
+source_piece s = steady_piece s.steady
 
--- the number of its next pull, from 0
+-- The number of its next pull, from 0.
 abbrev pub pull_number : MemorySource → ℕ
 pull_number s = s.number
 
--- the numbers of the pulls that fail
+-- The numbers of the pulls that fail.
 abbrev pub failing_pulls : MemorySource → List ℕ
 failing_pulls s = s.failing.items
 
--- how often a pull has failed
+-- How often a pull has failed.
 abbrev pub source_faults : MemorySource → ℕ
 source_faults s = s.faults
 
@@ -30,27 +40,27 @@ pub record PassesPull (old new : MemorySource) : Type 0 where
   pub piece : source_piece new ≡ source_piece old
   pub failing : failing_pulls new ≡ failing_pulls old
 
--- the bytes that a sink holds
+-- The bytes that a sink holds.
 abbrev pub sink_bytes : MemorySink → List ℕ
 sink_bytes s = s.bytes.items
 
--- how many bytes it can hold
+-- How many bytes it can hold.
 abbrev pub sink_room : MemorySink → ℕ
 sink_room s = s.room
 
--- the most that one push takes
+-- The most that one push takes.
 abbrev pub sink_piece : MemorySink → ℕ
 sink_piece s = s.piece
 
--- the number of its next push, from 0
+-- The number of its next push, from 0.
 abbrev pub push_number : MemorySink → ℕ
 push_number s = s.number
 
--- the numbers of the pushes that fail, beside those for which no room is left
+-- The numbers of the pushes that fail, beside those for which no room is left.
 abbrev pub failing_pushes : MemorySink → List ℕ
 failing_pushes s = s.failing.items
 
--- how often a push has failed
+-- How often a push has failed.
 abbrev pub sink_faults : MemorySink → ℕ
 sink_faults s = s.faults
 
@@ -60,3 +70,7 @@ pub record PassesPush (old new : MemorySink) : Type 0 where
   pub room : sink_room new ≡ sink_room old
   pub piece : sink_piece new ≡ sink_piece old
   pub failing : failing_pushes new ≡ failing_pushes old
+
+-- How many bytes a counting sink has taken, up to the last value of a u64.
+abbrev pub counted_bytes : CountSink → ℕ
+counted_bytes s = s.count

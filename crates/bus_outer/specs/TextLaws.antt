@@ -3,7 +3,7 @@
 --   adds_then, p ▸ q   one put after another adds the bytes of both
 --   ends_text          a buffer that was made, put and finished has written its text
 --   adds_nothing       no put adds nothing
-use Rattle.std.specs.Prelude.{ℕ, List, [], ◌++◌}
+use Rattle.std.specs.Prelude.{ℕ, List, [], ◌++◌, refl}
 use Rattle.std.proofs.Common.{sym, subst, append_assoc, append-nil, arith}
 use Rattle.std.specs.declared.option.Option.{Option}
 use Rattle.std.specs.declared.result.Result.{Result}
@@ -12,32 +12,39 @@ use Rattle.bus_outer.specs.Texts.{IsFresh, TextIs, Adds, Ends}
 use Rattle.bus_outer.specs.WriteLaws.{written_none}
 use Rattle.bus_outer.specs.declared.text_buffer.TextBuffer.{TextBuffer}
 
--- a buffer that was just made
-pub fresh_text : {K : Type 0} (held : K → Option (List ℕ)) (faults : K → ℕ) (k : K) (a : TextBuffer) → IsFresh a → TextIs held faults k k a []
+-- A buffer that was just made holds the empty text.
+pub fresh_text : {K : Type 0} (held : K → Option (List ℕ)) (faults : K → ℕ) (k : K) (a : TextBuffer) → IsFresh a
+    → TextIs held faults k k a []
 fresh_text held faults k a f = record {
   rest = [];
   written = written_none (held k) [];
   waits = λ _. sym f.empty;
+  same = λ _. refl;
   later = omega arith;
   cause = λ e. cc (e, f.sound);
 }
 
--- a text that was begun, put and finished is written
-pub ends_text : {K T E : Type 0} (held : K → Option (List ℕ)) (faults : K → ℕ) (start k k' : K) (a b : TextBuffer) (result : Result T E) (text : List ℕ) → Ends held faults k k' b result → Adds held faults start k a b text → IsFresh a → WritesText held faults start k' result text
+-- A text that was begun, put and finished is written.
+pub ends_text : {K T E : Type 0} (held : K → Option (List ℕ)) (faults : K → ℕ) (start k k' : K) (a b : TextBuffer) (result : Result T E)
+    (text : List ℕ) → Ends held faults k k' b result → Adds held faults start k a b text → IsFresh a
+    → WritesText held faults start k' result text
 ends_text held faults start k k' a b result text e p f = e.ends start text (p.goes start [] (fresh_text held faults start a f))
 
--- one call after another
-pub adds_then : {K : Type 0} {held : K → Option (List ℕ)} {faults : K → ℕ} {k k' k'' : K} {a b c : TextBuffer} {xs ys : List ℕ} → Adds held faults k k' a b xs → Adds held faults k' k'' b c ys → Adds held faults k k'' a c (xs ++ ys)
+-- One put after another adds the bytes of both.
+pub adds_then : {K : Type 0} {held : K → Option (List ℕ)} {faults : K → ℕ} {k k' k'' : K} {a b c : TextBuffer} {xs ys : List ℕ}
+    → Adds held faults k k' a b xs → Adds held faults k' k'' b c ys → Adds held faults k k'' a c (xs ++ ys)
 adds_then {K} {held} {faults} {k} {k'} {k''} {a} {b} {c} {xs} {ys} p q = record {
-  goes = λ start text h. subst (TextIs held faults start k'' c) (append_assoc text xs ys) (q.goes start (text ++ xs) (p.goes start text h));
+  goes = λ start text h.
+      subst (TextIs held faults start k'' c) (append_assoc text xs ys) (q.goes start (text ++ xs) (p.goes start text h));
 }
 
 infixl 5 ◌▸◌
--- the same, as an operator
-pub ◌▸◌ : {K : Type 0} {held : K → Option (List ℕ)} {faults : K → ℕ} {k k' k'' : K} {a b c : TextBuffer} {xs ys : List ℕ} → Adds held faults k k' a b xs → Adds held faults k' k'' b c ys → Adds held faults k k'' a c (xs ++ ys)
+-- The same law, as an operator.
+pub ◌▸◌ : {K : Type 0} {held : K → Option (List ℕ)} {faults : K → ℕ} {k k' k'' : K} {a b c : TextBuffer} {xs ys : List ℕ}
+    → Adds held faults k k' a b xs → Adds held faults k' k'' b c ys → Adds held faults k k'' a c (xs ++ ys)
 p ▸ q = adds_then p q
 
--- no call
+-- No put adds nothing.
 pub adds_nothing : {K : Type 0} (held : K → Option (List ℕ)) (faults : K → ℕ) (k : K) (a : TextBuffer) → Adds held faults k k a a []
 adds_nothing held faults k a = record {
   goes = λ start text h. subst (TextIs held faults start k a) (sym (append-nil text)) h;

@@ -23,19 +23,21 @@ use Rattle.bus_outer.specs.Sinks.{WritesText}
 use Rattle.bus_outer.specs.Standing.{Stands}
 use Rattle.bus_outer.specs.declared.text_buffer.TextBuffer.{TextBuffer}
 
--- nothing is put yet, and no write has failed
+-- Nothing is put yet, and no write has failed.
 pub record IsFresh (t : TextBuffer) : Type 0 where
   pub empty : t.buffer.items ≡ []
   pub sound : t.failed ≡ false
 
--- since the sink was `start`, this text was put
+-- Since the sink was `start`, this text was put.
 abbrev pub TextIs : {K : Type 0} → (K → Option (List ℕ)) → (K → ℕ) → K → K → TextBuffer → List ℕ → Type 0
 TextIs held faults start now t text = Stands held faults start now t.buffer.items t.failed text
 
--- a call adds these bytes to the text, whatever it was
-pub record Adds {K : Type 0} (held : K → Option (List ℕ)) (faults : K → ℕ) (k k' : K) (old new : TextBuffer) (bytes : List ℕ) : Type 0 where
+-- A call adds these bytes to the text, whatever it was.
+pub record Adds {K : Type 0} (held : K → Option (List ℕ)) (faults : K → ℕ) (k k' : K) (old new : TextBuffer) (bytes : List ℕ)
+    : Type 0 where
   pub goes : (start : K) (text : List ℕ) → TextIs held faults start k old text → TextIs held faults start k' new (text ++ bytes)
 
--- the text that was put is written, or a front of it
-pub record Ends {K T E : Type 0} (held : K → Option (List ℕ)) (faults : K → ℕ) (k k' : K) (old : TextBuffer) (result : Result T E) : Type 0 where
+-- The text that was put is written, or a front of it.
+pub record Ends {K T E : Type 0} (held : K → Option (List ℕ)) (faults : K → ℕ) (k k' : K) (old : TextBuffer) (result : Result T E)
+    : Type 0 where
   pub ends : (start : K) (text : List ℕ) → TextIs held faults start k old text → WritesText held faults start k' result text

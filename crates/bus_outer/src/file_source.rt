@@ -1,11 +1,14 @@
 // A file as a source: the trusted edge, which tells no content.
-ghost use Rattle.std.specs.Prelude.{◌≡◌, ◌≤◌, ◌<◌, MatchOption, None, length};
-ghost use Rattle.bus_outer.specs.Faults.{Rose, CountsFault, one_more};
-ghost use Rattle.bus_outer.specs.Sources.{Pulls};
+ghost use Rattle.std.specs.Prelude.{◌≡◌, ◌<◌, MatchOption, None, length};
+ghost use Rattle.bus_outer.specs.Faults.{one_more};
+ghost use Rattle.bus_outer.specs.Ahead.{left_ahead};
+ghost use Rattle.bus_outer.specs.Edge.{ReadsFile};
+ghost use Rattle.bus_outer.specs.Sources.{Pulls, CountsPull};
 
 use crate::read_ahead::ReadAhead;
 use crate::{Pull, Source};
 use std::fs;
+use std::io::Read;
 use std::rt::Files;
 
 /// A file by its path, opened at the first pull. With no path it is an empty source.
@@ -46,17 +49,6 @@ impl<'a, R: Files> FileSource<'a, R> {
             faults: 0,
         }
     }
-
-    // Counts a fault.
-    fn fail(&mut self) -> Pull
-        ensures failed { result ≡ Pull.Failed }
-        ensures counts { file_faults self.new ≡ one_more (file_faults self.old) }
-        ensures later { file_faults self.old ≤ file_faults self.new }
-        ensures file { file_of self.new ≡ file_of self.old }
-    {
-        self.faults = self.faults.saturating_add(1);
-        Pull::Failed
-    }
 }
 
 impl<'a, R: Files> Source for FileSource<'a, R> {
@@ -71,24 +63,44 @@ impl<'a, R: Files> Source for FileSource<'a, R> {
     fn pull(&mut self, buf: &mut [u8]) -> Pull
         requires { 0 < length buf.old }
         ensures bytes { Pulls None None result buf.new }
-        ensures later { file_faults self.old ≤ file_faults self.new }
-        ensures cause { result ≡ Pull.Failed → Rose (file_faults self.old) (file_faults self.new) }
-        ensures counts { CountsFault (result ≡ Pull.Failed) (file_faults self.old) (file_faults self.new) }
+        ensures counts { CountsPull (file_faults self.old) (file_faults self.new) result }
+        ensures once { result ≡ Pull.Failed → file_faults self.new ≡ one_more (file_faults self.old) }
         ensures file { PullsFile R.File.remaining (file_of self.old) (file_of self.new) result buf.new }
     {
         if let NamedFile::Closed(path) = &self.file {
             match fs::open(self.rt, path.as_str()) {
                 Ok(file) => self.file = NamedFile::Open(ReadAhead::new(file)),
-                Err(_) => return self.fail(),
+                Err(_) => return fail(&mut self.faults),
             }
         }
         let NamedFile::Open(file) = &mut self.file else {
             return Pull::End;
         };
-        match file.read(buf) {
-            Ok(0) => Pull::End,
-            Ok(n) => Pull::Got(n),
-            Err(_) => self.fail(),
-        }
+        pull_open(file, &mut self.faults, buf)
     }
+}
+
+/// Reads an open file once, and counts a failed read.
+pub(crate) fn pull_open<F: Read>(file: &mut ReadAhead<F>, faults: &mut u64, buf: &mut [u8]) -> Pull
+    requires { 0 < length buf.old }
+    ensures file { ReadsFile (left_ahead F.remaining file.old) (left_ahead F.remaining file.new) result buf.new }
+    ensures bytes { Pulls None None result buf.new }
+    ensures counts { CountsPull faults.old faults.new result }
+    ensures once { result ≡ Pull.Failed → faults.new ≡ one_more faults.old }
+{
+    match file.read(buf) {
+        Ok(0) => Pull::End,
+        Ok(n) => Pull::Got(n),
+        Err(_) => fail(faults),
+    }
+}
+
+// Counts a fault.
+fn fail(faults: &mut u64) -> Pull
+    ensures failed { result ≡ Pull.Failed }
+    ensures counts { CountsPull faults.old faults.new Pull.Failed }
+    ensures once { faults.new ≡ one_more faults.old }
+{
+    *faults = faults.saturating_add(1);
+    Pull::Failed
 }

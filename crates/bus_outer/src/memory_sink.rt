@@ -1,7 +1,7 @@
 // A sink in memory, which fails at the pushes that it is told and where it is full.
 ghost use Rattle.std.specs.Prelude.{◌≡◌, ◌⊎◌, ◌-◌, ◌<◌, ◌≤◌, ◌↔◌, ℕ, [], Contains, IfOk, Some, length, min, vec_capacity, vec_len};
-ghost use Rattle.bus_outer.specs.Faults.{Rose, CountsFault};
-ghost use Rattle.bus_outer.specs.Sinks.{Pushes};
+ghost use Rattle.bus_outer.specs.Faults.{one_more};
+ghost use Rattle.bus_outer.specs.Sinks.{Pushes, CountsPush};
 
 use crate::{Push, Sink};
 use std::alloc::{AllocError, Global};
@@ -74,10 +74,8 @@ impl Sink for MemorySink {
     fn push(&mut self, bytes: &[u8]) -> Push
         requires { 0 < length bytes.now }
         ensures bytes { Pushes (Some (sink_bytes self.old)) (Some (sink_bytes self.new)) result bytes.now }
-        ensures later { sink_faults self.old ≤ sink_faults self.new }
-        ensures cause { result ≡ Push.Failed → Rose (sink_faults self.old) (sink_faults self.new) }
-
-        ensures counts { CountsFault (result ≡ Push.Failed) (sink_faults self.old) (sink_faults self.new) }
+        ensures counts { CountsPush (sink_faults self.old) (sink_faults self.new) result }
+        ensures once { result ≡ Push.Failed → sink_faults self.new ≡ one_more (sink_faults self.old) }
         ensures listed { (result ≡ Push.Failed) ↔ (Contains (failing_pushes self.old) (push_number self.old)
             ⊎ (sink_room self.old ≤ length (sink_bytes self.old))) }
         ensures amount { (n : ℕ) → result ≡ Push.Took n →

@@ -1,10 +1,9 @@
 // A source in memory, which fails at the pulls that it is told.
-ghost use Rattle.std.specs.Prelude.{◌≡◌, ◌<◌, ◌≤◌, ◌↔◌, ℕ, Contains, Some, drop, length, min, vec_len};
-ghost use Rattle.bus_outer.specs.Faults.{Rose, CountsFault};
-ghost use Rattle.bus_outer.specs.Sources.{Pulls};
+ghost use Rattle.std.specs.Prelude.{◌≡◌, ◌<◌, ◌≤◌, ◌↔◌, ℕ, Contains, Some, length, min};
+ghost use Rattle.bus_outer.specs.Faults.{one_more};
+ghost use Rattle.bus_outer.specs.Sources.{Pulls, CountsPull};
 
-use crate::piece::copy_piece;
-use crate::{Pull, Source};
+use crate::{Pull, Source, SteadySource};
 
 /// Bytes in memory as a source. It gives them in pieces, and fails exactly at the pulls listed.
 ///
@@ -12,14 +11,10 @@ use crate::{Pull, Source};
 /// value of a `u64`.
 #[derive(Drop)]
 pub struct MemorySource {
-    bytes: Vec<u8>,
-    at: usize,
-    piece: usize,
+    steady: SteadySource,
     failing: Vec<u64>,
     number: u64,
     faults: u64,
-    ghost positive: { 1 ≤ piece },
-    ghost within: { at ≤ vec_len bytes },
 }
 
 impl MemorySource {
@@ -36,9 +31,7 @@ impl MemorySource {
         ensures faults { source_faults result ≡ 0 }
     {
         MemorySource {
-            bytes,
-            at: 0,
-            piece,
+            steady: SteadySource::new(bytes, piece),
             failing,
             number: 0,
             faults: 0,
@@ -57,10 +50,8 @@ impl Source for MemorySource {
     fn pull(&mut self, buf: &mut [u8]) -> Pull
         requires { 0 < length buf.old }
         ensures bytes { Pulls (Some (source_left self.old)) (Some (source_left self.new)) result buf.new }
-        ensures later { source_faults self.old ≤ source_faults self.new }
-        ensures cause { result ≡ Pull.Failed → Rose (source_faults self.old) (source_faults self.new) }
-
-        ensures counts { CountsFault (result ≡ Pull.Failed) (source_faults self.old) (source_faults self.new) }
+        ensures counts { CountsPull (source_faults self.old) (source_faults self.new) result }
+        ensures once { result ≡ Pull.Failed → source_faults self.new ≡ one_more (source_faults self.old) }
         ensures listed { (result ≡ Pull.Failed) ↔ Contains (failing_pulls self.old) (pull_number self.old) }
         ensures amount { (n : ℕ) → result ≡ Pull.Got n →
             n ≡ min (min (source_piece self.old) (length buf.old)) (length (source_left self.old)) }
@@ -72,11 +63,6 @@ impl Source for MemorySource {
             self.faults = self.faults.saturating_add(1);
             return Pull::Failed;
         }
-        if self.at == self.bytes.len() {
-            return Pull::End;
-        }
-        let n = copy_piece(&self.bytes[self.at..], self.piece, buf);
-        self.at += n;
-        Pull::Got(n)
+        self.steady.pull(buf)
     }
 }

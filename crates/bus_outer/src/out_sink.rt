@@ -1,7 +1,7 @@
 // A writer of std as a sink: the trusted edge, which tells no content.
-ghost use Rattle.std.specs.Prelude.{◌≡◌, ◌≤◌, ◌<◌, None, length};
-ghost use Rattle.bus_outer.specs.Faults.{Rose, CountsFault};
-ghost use Rattle.bus_outer.specs.Sinks.{Pushes};
+ghost use Rattle.std.specs.Prelude.{◌≡◌, ◌<◌, None, length};
+ghost use Rattle.bus_outer.specs.Faults.{one_more};
+ghost use Rattle.bus_outer.specs.Sinks.{Pushes, CountsPush};
 
 use crate::{Push, Sink};
 use std::io::Write;
@@ -39,9 +39,8 @@ impl<W: Write> Sink for OutSink<W> {
     fn push(&mut self, bytes: &[u8]) -> Push
         requires { 0 < length bytes.now }
         ensures bytes { Pushes None None result bytes.now }
-        ensures later { writer_faults self.old ≤ writer_faults self.new }
-        ensures cause { result ≡ Push.Failed → Rose (writer_faults self.old) (writer_faults self.new) }
-        ensures counts { CountsFault (result ≡ Push.Failed) (writer_faults self.old) (writer_faults self.new) }
+        ensures counts { CountsPush (writer_faults self.old) (writer_faults self.new) result }
+        ensures once { result ≡ Push.Failed → writer_faults self.new ≡ one_more (writer_faults self.old) }
         ensures writes { PushesOn (W.contents (writer_of self.old)) (W.contents (writer_of self.new)) result bytes.now }
     {
         if let Ok(n) = self.writer.write(bytes)

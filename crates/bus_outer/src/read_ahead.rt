@@ -1,6 +1,7 @@
 // A reader behind a buffer, so that short reads make few calls of the system.
 ghost use Rattle.std.specs.Prelude.{◌≡◌, ◌≤◌, ◌<◌, [], length, min, take, IfOk};
 ghost use Rattle.std.specs.Io.KnownBytes.{Consumes, ReadConsumes};
+ghost use Rattle.bus_outer.specs.declared.read_ahead.TheConstants.{AHEAD};
 
 use crate::piece::copy_piece;
 use std::io;
@@ -17,7 +18,7 @@ pub(crate) struct ReadAhead<F> {
     at: usize,
     end: usize,
     ghost ordered: { at ≤ end },
-    ghost within: { end ≤ 4096 },
+    ghost within: { end ≤ AHEAD },
 }
 
 impl<F: Read> ReadAhead<F> {

@@ -1,8 +1,7 @@
 // What takes bytes.
-ghost use Rattle.std.specs.Prelude.{◌≡◌, ◌<◌, ◌≤◌, List, ℕ, length};
+ghost use Rattle.std.specs.Prelude.{◌<◌, List, ℕ, length};
 ghost use Rattle.std.specs.declared.option.Option.{Option};
-ghost use Rattle.bus_outer.specs.Faults.{Rose};
-ghost use Rattle.bus_outer.specs.Sinks.{Pushes};
+ghost use Rattle.bus_outer.specs.Sinks.{Pushes, CountsPush};
 
 /// What a push answers.
 #[derive(Clone, Copy, Debug, PartialEq, Eq)]
@@ -27,10 +26,9 @@ pub trait Sink {
 
     /// Gives bytes, of which there is at least one, to the sink, which takes one or more from the front.
     ///
-    /// `Failed` comes only where the count of faults rose.
+    /// The count of faults rises where the answer is `Failed`, and at no other answer.
     fn push(&mut self, bytes: &[u8]) -> Push
         requires { 0 < length bytes.now }
         ensures bytes { Pushes (held self.old) (held self.new) result bytes.now }
-        ensures later { faults self.old ≤ faults self.new }
-        ensures cause { result ≡ Push.Failed → Rose (faults self.old) (faults self.new) };
+        ensures counts { CountsPush (faults self.old) (faults self.new) result };
 }

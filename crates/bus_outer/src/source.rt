@@ -1,8 +1,7 @@
 // What gives bytes.
-ghost use Rattle.std.specs.Prelude.{◌≡◌, ◌<◌, ◌≤◌, List, ℕ, length};
+ghost use Rattle.std.specs.Prelude.{◌<◌, List, ℕ, length};
 ghost use Rattle.std.specs.declared.option.Option.{Option};
-ghost use Rattle.bus_outer.specs.Faults.{Rose};
-ghost use Rattle.bus_outer.specs.Sources.{Pulls};
+ghost use Rattle.bus_outer.specs.Sources.{Pulls, CountsPull};
 
 /// What a pull answers.
 #[derive(Clone, Copy, Debug, PartialEq, Eq)]
@@ -25,10 +24,9 @@ pub trait Source {
 
     /// Takes bytes from the front into a buffer that isn't empty.
     ///
-    /// `End` comes only where nothing is left, `Failed` only where the count of faults rose.
+    /// `End` comes only where nothing is left. The count of faults rises where the answer is `Failed`, and at no other answer.
     fn pull(&mut self, buf: &mut [u8]) -> Pull
         requires { 0 < length buf.old }
         ensures bytes { Pulls (left self.old) (left self.new) result buf.new }
-        ensures later { faults self.old ≤ faults self.new }
-        ensures cause { result ≡ Pull.Failed → Rose (faults self.old) (faults self.new) };
+        ensures counts { CountsPull (faults self.old) (faults self.new) result };
 }

@@ -1,10 +1,12 @@
+use crate::file_source::pull_open;
+use crate::read_ahead::ReadAhead;
 use crate::{
-    FileSource, MemorySink, MemorySource, OutSink, Pull, Push, ReadError, Sink, Source, TextBuffer,
-    WriteFault, read_whole, write_all,
+    CountSink, FileSource, MemorySink, MemorySource, OutSink, Pull, Push, ReadError, Sink, Source,
+    SteadySource, TextBuffer, WriteFault, read_whole, write_all,
 };
-use std::fs;
-use std::io::BufWriter;
+use std::io::{BufWriter, Read, Write};
 use std::test::Fail;
+use std::{fs, io};
 
 #[test]
 fn a_source_gives_pieces_and_fails_where_listed(rt: HostRuntime) -> Result<(), Fail> {
@@ -81,6 +83,18 @@ fn bytes_are_written_whole_or_in_front(rt: HostRuntime) -> Result<(), Fail> {
     Ok(())
 }
 
+#[test]
+fn a_steady_source_gives_all_and_a_count_sink_counts_it(rt: HostRuntime) -> Result<(), Fail> {
+    let alloc = rt.alloc();
+    let mut source = SteadySource::new(vec![in alloc; 7u8; 10000]?, 3000);
+    let bytes = read_whole(alloc, &mut source, 10000).ok().ok_or("refused")?;
+    let mut sink = CountSink::new();
+    assert_eq!(rt; write_all(&mut sink, &bytes), Ok(()));
+    assert_eq!(rt; write_all(&mut sink, b"more"), Ok(()));
+    assert_eq!(rt; sink.count(), 10004);
+    Ok(())
+}
+
 // A line `HOLD n 2` for each n below 2000, in a buffer before a sink.
 fn write_holds<K: Sink>(sink: &mut K) -> Result<(), WriteFault> {
     let mut text = TextBuffer::new();
@@ -136,6 +150,52 @@ fn numbers_are_put_in_digits(rt: HostRuntime) -> Result<(), Fail> {
     Ok(())
 }
 
+// Reads `ab`, fails once, reads `ab` once more, and has ended.
+#[derive(Drop)]
+struct FailingReader(u8);
+
+impl Read for FailingReader {
+    fn read(&mut self, buf: &mut [u8]) -> io::Result<usize> {
+        let turn = self.0;
+        self.0 = turn.saturating_add(1);
+        if turn == 1 {
+            return Err(io::Error::from(io::ErrorKind::TimedOut));
+        }
+        if turn > 2 || buf.len() < 2 {
+            return Ok(0);
+        }
+        buf[..2].copy_from_slice(b"ab");
+        Ok(2)
+    }
+}
+
+#[test]
+fn a_read_that_fails_once_is_one_fault(rt: HostRuntime) -> Result<(), Fail> {
+    let mut file = ReadAhead::new(FailingReader(0));
+    let mut faults = 0;
+    let mut buf = [0u8; 8];
+    for want in [Pull::Got(2), Pull::Failed, Pull::Got(2), Pull::End] {
+        assert_eq!(rt; pull_open(&mut file, &mut faults, &mut buf), want);
+    }
+    assert_eq!(rt; faults, 1);
+    Ok(())
+}
+
+#[test]
+fn a_file_is_opened_by_exactly_its_name(rt: HostRuntime) -> Result<(), Fail> {
+    let alloc = rt.alloc();
+    fs::write(&rt, "named", "without blanks")?;
+    fs::write(&rt, " named ", "with blanks")?;
+    let mut file = FileSource::new(&rt, Some(String::from_str(alloc, " named ")?));
+    let bytes = read_whole(alloc, &mut file, 100);
+    assert!(rt; matches!(&bytes, Ok(v) if v.as_slice() == b"with blanks".as_slice()));
+    fs::remove_file(&rt, " named ")?;
+    let mut gone = FileSource::new(&rt, Some(String::from_str(alloc, " named ")?));
+    assert!(rt; matches!(read_whole(alloc, &mut gone, 100), Err(ReadError::Fault)));
+    fs::remove_file(&rt, "named")?;
+    Ok(())
+}
+
 #[test]
 fn a_file_is_read_and_a_missing_one_is_a_fault(rt: HostRuntime) -> Result<(), Fail> {
     let alloc = rt.alloc();
@@ -151,6 +211,50 @@ fn a_file_is_read_and_a_missing_one_is_a_fault(rt: HostRuntime) -> Result<(), Fa
     assert!(rt; matches!(read_whole(alloc, &mut folder, 100), Err(ReadError::Fault)));
     let mut nothing = FileSource::new(&rt, None);
     assert!(rt; matches!(&read_whole(alloc, &mut nothing, 100), Ok(v) if v.is_empty()));
+    Ok(())
+}
+
+// A writer whose calls with these numbers, from 0, fail: writes, and flushes.
+#[derive(Drop)]
+struct FailingWriter {
+    write: u8,
+    flush: u8,
+    failing_write: u8,
+    failing_flush: u8,
+}
+
+impl Write for FailingWriter {
+    fn write(&mut self, buf: &[u8]) -> io::Result<usize> {
+        let turn = self.write;
+        self.write = turn.saturating_add(1);
+        if turn == self.failing_write {
+            return Err(io::Error::from(io::ErrorKind::TimedOut));
+        }
+        Ok(buf.len())
+    }
+
+    fn flush(&mut self) -> io::Result<()> {
+        let turn = self.flush;
+        self.flush = turn.saturating_add(1);
+        if turn == self.failing_flush {
+            return Err(io::Error::from(io::ErrorKind::TimedOut));
+        }
+        Ok(())
+    }
+}
+
+#[test]
+fn a_write_or_a_flush_that_fails_once_is_a_fault(rt: HostRuntime) -> Result<(), Fail> {
+    for (failing_write, failing_flush) in [(0, 9), (9, 0)] {
+        let mut sink = OutSink::new(FailingWriter {
+            write: 0,
+            flush: 0,
+            failing_write,
+            failing_flush,
+        });
+        assert_eq!(rt; sink.push(b"some bytes"), Push::Failed);
+        assert_eq!(rt; sink.push(b"some bytes"), Push::Took(10));
+    }
     Ok(())
 }
 

@@ -1,8 +1,7 @@
 // All that a source gives, and all of some bytes to a sink.
-ghost use Rattle.std.specs.Prelude.{◌≡◌, ◌≤◌, IfOk, IfSome, IsErrOf};
+ghost use Rattle.std.specs.Prelude.{◌≡◌, ◌≤◌, IfOk, IfSome};
 ghost use Rattle.bus_outer.specs.declared.whole.ReadError.TheVariants.{Memory};
-ghost use Rattle.bus_outer.specs.Faults.{Rose};
-ghost use Rattle.bus_outer.specs.Sources.{ReadsWhole};
+ghost use Rattle.bus_outer.specs.Sources.{read_limit, ReadsWhole, CountsRead};
 ghost use Rattle.bus_outer.specs.Sinks.{WritesText};
 
 use crate::{Pull, Push, Sink, Source, WriteFault};
@@ -34,21 +33,24 @@ impl From<AllocError> for ReadError {
 // How many bytes one pull asks for.
 const PIECE: usize = 4096;
 
-/// Reads all that a source gives, at most `limit` bytes, which is at most 67,108,864.
+/// The greatest limit of [`read_whole`], in bytes.
+pub const READ_LIMIT: usize = 67_108_864;
+
+/// Reads all that a source gives, at most `limit` bytes, which is at most [`READ_LIMIT`].
 ///
-/// Ok has every byte up to the end. `Fault` comes only where the count of faults rose, `TooLarge` exactly
-/// where a byte past the limit was taken, `Memory` where memory was refused. After an error the bytes taken
-/// are gone from the source; after `Fault` and `Memory` these are at most `limit`.
+/// Ok has every byte up to the end. `Fault` comes exactly where a pull failed: the count of faults rose, as it
+/// does at no other answer. `TooLarge` comes exactly where a byte past the limit was taken, `Memory` where memory
+/// was refused. After an error the bytes taken are gone from the source: at most `limit` after `Fault` and
+/// `Memory`, and at most a pull of 4096 bytes more after `TooLarge`.
 pub fn read_whole<S: Source>(
     alloc: Global,
     source: &mut S,
     limit: usize,
 ) -> Result<Vec<u8>, ReadError>
-    requires { limit ≤ 67108864 }
+    requires { limit ≤ read_limit }
     ensures whole { IfOk result (λ v. IfSome (S.left source.old) (λ xs. v.items ≡ xs)) }
     ensures taken { ReadsWhole limit (S.left source.old) (S.left source.new) result }
-    ensures later { S.faults source.old ≤ S.faults source.new }
-    ensures fault { IsErrOf result ReadError.Fault → Rose (S.faults source.old) (S.faults source.new) }
+    ensures counts { CountsRead (S.faults source.old) (S.faults source.new) result }
 {
     let mut bytes = Vec::new(alloc);
     let mut buf = [0u8; PIECE];
@@ -69,7 +71,7 @@ pub fn read_whole<S: Source>(
 
 /// Writes all of some bytes, and takes no memory.
 ///
-/// At `WriteFault` the sink has taken a front of them, and its count of faults rose.
+/// `WriteFault` comes exactly where a push failed: the sink has taken a front of them, and its count of faults rose.
 pub fn write_all<K: Sink>(sink: &mut K, bytes: &[u8]) -> Result<(), WriteFault>
     ensures { WritesText K.held K.faults sink.old sink.new result bytes.now }
 {
