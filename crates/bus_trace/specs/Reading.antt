@@ -1,8 +1,10 @@
 -- What a read of a trace text from a source takes, and what it answers.
 --   TakesTrace old new result    which bytes were taken: exactly those of the trace text, or those up to where the refusal is decided
 --   ReadGives result reading     the answer is what the stream reads as, unless a pull failed or memory ran out
+--   CountsReading before now result   the count of faults of the source, before and after the read
 use Rattle.std.specs.Prelude.{◌≡◌, ◌≤◌, ◌+◌, ℕ, List, [], ◌∷◌, ◌++◌, length, IfSome, Result, Ok, Err}
 use Rattle.std.specs.declared.option.Option.{Option}
+use Rattle.bus_outer.specs.Faults.{Fails as FaultCounted}
 use Rattle.bus_outer.specs.Sources.{Taken}
 use Rattle.bus_trace.specs.declared.reason.TraceReason.{TraceReason}
 use Rattle.bus_trace.specs.declared.reason.TraceReason.TheVariants.{Ended, Long}
@@ -58,3 +60,11 @@ ReadGives (Err (Text byte reason)) reading = reading ≡ Fails byte reason
 ReadGives (Err TooLarge) reading = reading ≡ Passes
 ReadGives (Err ReadFault) reading = Unit {0}
 ReadGives (Err Memory) reading = Unit {0}
+
+-- A read counts a fault exactly where it answers one: a failed pull is never passed over, nor given as another error.
+abbrev pub CountsReading : ℕ → ℕ → Result Recording TraceError → Type 0
+CountsReading before now (Ok trace) = now ≡ before
+CountsReading before now (Err (Text byte reason)) = now ≡ before
+CountsReading before now (Err ReadFault) = FaultCounted before now
+CountsReading before now (Err TooLarge) = now ≡ before
+CountsReading before now (Err Memory) = now ≡ before

@@ -1,7 +1,6 @@
-ghost use Rattle.std.specs.Prelude.{◌≡◌, ◌≤◌, IfOk, IfSome, IsErrOf};
-ghost use Rattle.bus_outer.specs.Faults.{Rose};
+ghost use Rattle.std.specs.Prelude.{IfOk, IfSome};
 ghost use Rattle.bus_trace.specs.Runs.{Reads, reading};
-ghost use Rattle.bus_trace.specs.Reading.{TakesTrace, ReadGives};
+ghost use Rattle.bus_trace.specs.Reading.{TakesTrace, ReadGives, CountsReading};
 ghost use Rattle.bus_trace.specs.Looping.{Loops};
 ghost use Rattle.bus_trace.specs.Traces.{Recording, IsTrace, HoldsTrace, text_limit};
 
@@ -28,8 +27,7 @@ pub fn read_trace<S: Source>(alloc: Global, source: &mut S) -> Result<Trace, Tra
     // A trace text that stands there is read, unless a pull failed or memory ran out.
     ensures only { IfSome (S.left source.old) (λ stream. (t : Recording) → HoldsTrace text_limit stream t → ReadGives result (Reads t)) }
     ensures ranges { IfOk result IsTrace }
-    ensures later { S.faults source.old ≤ S.faults source.new }
-    ensures fault { IsErrOf result TraceError.ReadFault → Rose (S.faults source.old) (S.faults source.new) }
+    ensures counts { CountsReading (S.faults source.old) (S.faults source.new) result }
 {
     read_text(alloc, source)
 }
@@ -37,8 +35,7 @@ pub fn read_trace<S: Source>(alloc: Global, source: &mut S) -> Result<Trace, Tra
 // The loop: a byte, and what the reader says of it.
 fn read_text<S: Source>(alloc: Global, source: &mut S) -> Result<Trace, TraceError>
     ensures loops { Loops (S.left source.old) (S.left source.new) result }
-    ensures later { S.faults source.old ≤ S.faults source.new }
-    ensures fault { IsErrOf result TraceError.ReadFault → Rose (S.faults source.old) (S.faults source.new) }
+    ensures counts { CountsReading (S.faults source.old) (S.faults source.new) result }
 {
     let mut reader = TraceReader::new(alloc)?;
     let mut buf = [0u8; 1];

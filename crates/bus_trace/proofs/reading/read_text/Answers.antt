@@ -1,4 +1,4 @@
-use Rattle.std.proofs.Common.{arith, subst, Ok, length-append}
+use Rattle.std.proofs.Common.{arith, refl, subst, Ok, length-append}
 use Rattle.std.proofs.lemmas.Result.{err_from_is_err_and}
 use Rattle.bus_trace.specs.Runs.{stream_of}
 use Rattle.bus_trace.specs.Feeding.{FeedGives}
@@ -10,7 +10,7 @@ pub bytes-init : goal.bytes-init
 bytes-init g c =
     let e = c.in_ok-reader.ensures in
     let b = begins_reading (g.S.Source.left c.args.source.now) c.in_ok-reader.reader.at e.1 in
-    record { is_open = e.0; is_due = b.0; taken = b.1; later = omega arith }
+    record { is_open = e.0; is_due = b.0; taken = b.1; same = refl }
 
 pub returns-in_err-reader-clause-loops : goal.returns-in_err-reader-clause-loops
 returns-in_err-reader-clause-loops g c =

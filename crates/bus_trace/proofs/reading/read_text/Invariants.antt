@@ -1,4 +1,4 @@
-use Rattle.std.proofs.Common.{◌≡◌, ◌≤◌, ◌+◌, ◌-◌, length}
+use Rattle.std.proofs.Common.{◌≡◌, ◌+◌, ◌-◌, length}
 use Rattle.bus_outer.specs.Sources.{Taken}
 use Rattle.bus_trace.specs.Runs.{More, due, stream_of}
 use Rattle.bus_trace.specs.declared.stage.Stage.TheVariants.{Open}
@@ -11,7 +11,7 @@ invariant-bytes g l = record {
   is_open : l.reader.stage ≡ Open;
   is_due : due text_limit (stream_of l.reader.at) ≡ More l.reader.at;
   taken : Taken (g.S.Source.left l.initial.source) (g.S.Source.left l.source) (stream_of l.reader.at);
-  later : g.S.Source.faults l.initial.source ≤ g.S.Source.faults l.source;
+  same : g.S.Source.faults l.source ≡ g.S.Source.faults l.initial.source;
 }
 
 abbrev pub decreases-bytes : goal.decreases-bytes
