@@ -4,8 +4,8 @@ pub mod Unique
 pub mod Steps
 pub mod Following
 pub mod Seats
-pub mod Deciding
-pub mod Observing
+pub mod DecideLemmas
+pub mod Carrier
 pub mod TimingLemmas
 pub mod SeatingLemmas
 pub mod OrderLemmas
@@ -14,3 +14,10 @@ pub mod TurnLemmas
 pub mod ClockLemmas
 pub mod ChainLemmas
 pub mod Existence
+pub mod Sums
+pub mod EdgeLemmas
+pub mod Growing
+pub mod Jumping
+pub mod Stretching
+pub mod Reaching
+pub mod Running

@@ -1,16 +1,14 @@
 -- Senders, one after another.
-use Rattle.std.proofs.Common.{◌≡◌, ◌≢◌, ℕ, zero, suc, ◌+◌, ◌<◌, ◌≤◌, Bool, true, false, ◌||◌, List, [], ◌∷◌, length, set, get_or, map, Some, None, inl, inr, arith, sym, refl, ap, ◌∙◌, subst}
+use Rattle.std.proofs.Common.{◌≡◌, ◌≢◌, ℕ, zero, suc, ◌<◌, Bool, true, false, ◌||◌, List, [], ◌∷◌, length, set, get_or, map, Some, None, inl, inr, arith, sym, refl, ap, ◌∙◌}
 use Rattle.std.specs.Prelude.{slice_get}
 use Rattle.std.specs.Option.{option_map}
 use Rattle.std.specs.List.{list_any}
-use Rattle.std.proofs.lemmas.Bool.{cases_eq, cases_order}
-use Rattle.std.proofs.lemmas.List.{length-set, length-map}
+use Rattle.std.proofs.lemmas.Bool.{cases_order}
+use Rattle.std.proofs.lemmas.List.{length-map}
 use Rattle.std.proofs.lemmas.Option.{slice_get_within, slice_get-map, get_or_from_slice_get}
-use Rattle.bus_timers.specs.declared.cores.Core.{Ghosts}
 use Rattle.bus_strings.specs.Members.{In}
 use Rattle.bus_medium.specs.Lawful.{Station, HaveOwnNumbers}
 use Rattle.bus_medium.specs.Buses.{Seat, station_of, number_of}
-use Rattle.bus_medium.specs.Following.{Passed, AllPassed}
 use Rattle.bus_medium.specs.Orders.{IsByNumber}
 
 pub get_set_same : {X : Type 0} → (xs : List X) (i : ℕ) (y : X) → i < length xs → slice_get (set xs i y) i ≡ Some y
@@ -107,28 +105,3 @@ own_numbers xs places o a b a_in b_in same =
         | inr more ↦ let k : get_or (map number_of xs) y.place 0 < get_or (map number_of xs) x.place 0 = o.rising j.0 i.0 y.place x.place more j.1 i.1 in absurd (omega arith)
       ]
     ]
-
--- a bit time for each
-pub record PassedSoFar {C : Type 0} (core : Ghosts C) (carrier : Bool) (xs ys : List (Seat C)) (i : ℕ) : Type 0 where
-  pub same_length : length ys ≡ length xs
-  pub done : (j : ℕ) (x y : Seat C) → j < i → slice_get xs j ≡ Some x → slice_get ys j ≡ Some y → Passed core carrier x y
-  pub rest : (j : ℕ) → i ≤ j → slice_get ys j ≡ slice_get xs j
-
-pub passed_more : {C : Type 0} (core : Ghosts C) (carrier : Bool) (xs ys : List (Seat C)) (i : ℕ) (x y : Seat C) → PassedSoFar core carrier xs ys i → i < length ys → slice_get ys i ≡ Some x → Passed core carrier x y → PassedSoFar core carrier xs (set ys i y) (i + 1)
-passed_more core carrier xs ys i x y so h at p = record {
-  same_length = length-set ys i y ∙ so.same_length;
-  done = λ j a b below in_xs in_ys. elim (cases_eq i j) [
-    | inl here ↦
-        let old : Some a ≡ Some x = sym in_xs ∙ ap (slice_get xs) (sym here) ∙ sym (so.rest i (omega arith)) ∙ at in
-        let new : Some b ≡ Some y = sym in_ys ∙ ap (slice_get (set ys i y)) (sym here) ∙ get_set_same ys i y h in
-        subst (λ v. Passed core carrier v b) (sym (same_some a x old)) (subst (λ w. Passed core carrier x w) (sym (same_some b y new)) p)
-    | inr other ↦ so.done j a b (omega arith) in_xs (sym (get_set_other ys i j y other) ∙ in_ys)
-  ];
-  rest = λ j low. get_set_other ys i j y (λ e. omega arith) ∙ so.rest j (omega arith);
-}
-
-pub passed_all : {C : Type 0} (core : Ghosts C) (carrier : Bool) (xs ys : List (Seat C)) (i : ℕ) → PassedSoFar core carrier xs ys i → length ys ≤ i → AllPassed core carrier xs ys
-passed_all core carrier xs ys i so h = record {
-  same_length = so.same_length;
-  each = λ j a b in_xs in_ys. so.done j a b (let k : j < length ys = slice_get_within ys j b in_ys in omega arith) in_xs in_ys;
-}

@@ -11,11 +11,16 @@ use Rattle.bus_terminal.specs.Terminals.{Terminal, sounds}
 use Rattle.bus_medium.specs.Past.{past, own, last_place}
 use Rattle.bus_medium.specs.Lawful.{Station}
 
+-- the greatest horizon of the plain run, bit time for bit time
+abbrev pub observe_limit : ℕ
+observe_limit = 20000000
+
 -- a sender's timing, and its terminal
 pub record Seat (C : Type 0) : Type 0 where
   pub timing : Timing
   pub terminal : Terminal C
 
+-- the quiet before the settled start, and the senders in the order of the table
 pub record Bus (C : Type 0) : Type 0 where
   pub quiet : ℕ
   pub seats : List (Seat C)
@@ -24,6 +29,7 @@ pub record Bus (C : Type 0) : Type 0 where
 abbrev pub station_of : {C : Type 0} → Seat C → Station
 station_of seat = record { number = seat.terminal.hand.terminal; timing = seat.timing; hand = seat.terminal.hand.messages }
 
+-- a sender's number
 abbrev pub number_of : {C : Type 0} → Seat C → ℕ
 number_of seat = seat.terminal.hand.terminal
 
@@ -31,6 +37,7 @@ number_of seat = seat.terminal.hand.terminal
 abbrev pub seat_sounds : {C : Type 0} → Seat C → Bool
 seat_sounds seat = sounds seat.terminal
 
+-- what the rules read of the senders of a bus
 abbrev pub stations : {C : Type 0} → Bus C → List Station
 stations bus = map station_of bus.seats
 

@@ -1,5 +1,5 @@
 -- How a sender of a bus goes with the list of what was sent so far, within a moment too.
-use Rattle.std.specs.Prelude.{◌≡◌, ℕ, ◌+◌, ◌<◌, ◌≤◌, ◌⊎◌, ◌++◌, ◌∷◌, [], Bool, List, length, slice_get, slice_index_or, Option, Some, None}
+use Rattle.std.specs.Prelude.{◌≡◌, ℕ, ◌+◌, ◌<◌, ◌≤◌, ◌⊎◌, [], Bool, List, length, slice_get, slice_index_or, Option, Some, None}
 use Rattle.bus_timers.specs.declared.timing.Timing.{Timing}
 use Rattle.bus_timers.specs.declared.cores.Core.{Ghosts}
 use Rattle.bus_timers.specs.Timings.{IsSound}
@@ -8,7 +8,7 @@ use Rattle.bus_strings.specs.Members.{In}
 use Rattle.bus_strings.specs.Messages.{Entry, bits}
 use Rattle.bus_strings.specs.Transmissions.{end_of}
 use Rattle.bus_table.specs.Tables.{Hand}
-use Rattle.bus_terminal.specs.Terminals.{last_begun, with_begun, with_passed}
+use Rattle.bus_terminal.specs.Terminals.{last_begun, with_begun}
 use Rattle.bus_medium.specs.Past.{past, own, last_place}
 use Rattle.bus_medium.specs.Buses.{Seat, last_of}
 
@@ -57,19 +57,8 @@ pub record Started {C : Type 0} (core : Ghosts C) (x y : Seat C) (t : ℕ) (entr
   pub timing : y.timing ≡ x.timing
   pub terminal : y.terminal ≡ with_begun x.terminal y.terminal.core
   pub room : core.room y.terminal.core ≡ core.room x.terminal.core
+  pub moves : core.moves y.terminal.core ≡ core.moves x.terminal.core
   pub moment : entry.moment ≡ t
   pub number : entry.terminal ≡ x.terminal.hand.terminal
   pub message : slice_index_or x.terminal.hand.messages x.terminal.sent [] ≡ entry.message
   pub some : 0 < length entry.message
-
--- the sender was passed a bit time
-pub record Passed {C : Type 0} (core : Ghosts C) (carrier : Bool) (x y : Seat C) : Type 0 where
-  pub told : (timing : Timing) (past : List Bool) (last : Option ℕ) → core.stands x.terminal.core timing past last → core.stands y.terminal.core timing (past ++ carrier ∷ []) last
-  pub timing : y.timing ≡ x.timing
-  pub terminal : y.terminal ≡ with_passed x.terminal y.terminal.core
-  pub room : core.room x.terminal.core ≤ core.room y.terminal.core + 1
-
--- every sender was
-pub record AllPassed {C : Type 0} (core : Ghosts C) (carrier : Bool) (xs ys : List (Seat C)) : Type 0 where
-  pub same_length : length ys ≡ length xs
-  pub each : (j : ℕ) (x y : Seat C) → slice_get xs j ≡ Some x → slice_get ys j ≡ Some y → Passed core carrier x y

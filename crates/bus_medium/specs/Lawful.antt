@@ -47,9 +47,9 @@ pub record IsLawful (quiet : ℕ) (stations : List Station) (horizon : ℕ) (lis
   pub sent : (x : Entry) → In x list → (x.moment < horizon) × IsNext stations list x
   pub exact : (t : ℕ) (sender : Station) → t < horizon → In sender stations → HasEntry list sender.number t ↔ IsDue quiet list sender t
 
--- moment u and the terminal with number n come before moment t and the terminal with number m
+-- a moment comes before another, or is it, and then a terminal's number comes before another
 abbrev pub IsBefore : ℕ → ℕ → ℕ → ℕ → Type 0
-IsBefore u n t m = (u < t) ⊎ ((u ≡ t) × (n < m))
+IsBefore moment number other_moment other_number = (moment < other_moment) ⊎ ((moment ≡ other_moment) × (number < other_number))
 
 -- lawful for all moments before t, and at t for the terminals with numbers below n
 pub record IsLawfulTo (quiet : ℕ) (stations : List Station) (t n : ℕ) (list : List Entry) : Type 0 where

@@ -10,3 +10,6 @@ pub mod Buses
 pub mod Following
 pub mod Orders
 pub mod Seating
+pub mod Edges
+pub mod Jumps
+pub mod Runs

@@ -13,11 +13,16 @@
 //! stations of a valid table are, by which these laws apply to it.
 #![tactic(auto)]
 
+mod bit_times;
 pub mod bus;
+mod deciding;
 pub mod laws;
 mod note;
 pub mod seat;
 mod seating;
+mod stretches;
 #[cfg(test)]
 mod tests;
 pub mod timing;
+
+pub use crate::bus::{Bus, OBSERVE_LIMIT};

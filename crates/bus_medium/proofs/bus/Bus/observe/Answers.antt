@@ -2,7 +2,7 @@ use Rattle.std.proofs.Common.{◌≡◌, List, [], length, map, ap, sym, ◌∙�
 use Rattle.std.specs.Prelude.{IfOk}
 use Rattle.std.proofs.lemmas.List.{with_items_is, length-map}
 use Rattle.bus_medium.specs.Buses.{Seat, number_of, StandsAt}
-use Rattle.bus_medium.specs.Orders.{IsByNumber, AreNumbers}
+use Rattle.bus_medium.specs.Orders.{IsRoster}
 use Rattle.bus_medium.proofs.bus.Bus.observe.Goals as goal
 
 pub observe_all-requires-clause-stands : goal.observe_all-requires-clause-stands
@@ -24,9 +24,9 @@ invariant_of-self g c =
     let numbers = c.observe_all.ensures.numbers in
     let long : length new ≡ old.len = same_length new c.deref_mut.result.now numbers ∙ c.deref_mut.ensures.len in
     let kept : map number_of old.items ≡ map number_of new = ap (map number_of) (sym c.deref_mut.ensures.value) ∙ sym numbers in
-    let both : AreNumbers (map number_of old.items) × IsByNumber (map number_of old.items) c.self.inside.roster.places.items = c.self.invariant in
-    subst (λ seats. AreNumbers (map number_of seats) × IsByNumber (map number_of seats) c.self.inside.roster.places.items) (sym (with_items_is old new long))
-    (subst (λ ns. AreNumbers ns × IsByNumber ns c.self.inside.roster.places.items) kept both)
+    let roster : IsRoster (map number_of old.items) c.self.inside.roster.places.items = c.self.invariant in
+    subst (λ seats. IsRoster (map number_of seats) c.self.inside.roster.places.items) (sym (with_items_is old new long))
+    (subst (λ ns. IsRoster ns c.self.inside.roster.places.items) kept roster)
 
 pub returns-clause-stands : goal.returns-clause-stands
 returns-clause-stands g c =

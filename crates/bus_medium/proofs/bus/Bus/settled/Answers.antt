@@ -15,10 +15,11 @@ pub invariant_of-result : goal.invariant_of-result
 invariant_of-result g c =
     let table = c.args.table.now in
     let numbers = c.deref.ensures.value ∙ c.in_ok-numbers.ensures.numbers in
-    let same = seats_numbers table c.args.hands.items c.in_ok-seats.seats.items c.requires c.in_ok-seats.ensures.stations in (
-      subst AreNumbers (sym same) (are_numbers table c.in_ok-numbers.ensures.valid),
-      subst (λ (ns : List ℕ). IsByNumber ns c.in_ok-places.places.items) (numbers ∙ sym same) c.in_ok-places.ensures,
-    )
+    let same = seats_numbers table c.args.hands.items c.in_ok-seats.seats.items c.requires c.in_ok-seats.ensures.stations in
+    record {
+      ranges = subst AreNumbers (sym same) (are_numbers table c.in_ok-numbers.ensures.valid);
+      order = subst (λ (ns : List ℕ). IsByNumber ns c.in_ok-places.places.items) (numbers ∙ sym same) c.in_ok-places.ensures;
+    }
 
 pub returns-clause-stands : goal.returns-clause-stands
 returns-clause-stands g c =
