@@ -16,7 +16,6 @@ use Rattle.bus_outer.specs.declared.source.Pull.{Pull}
 use Rattle.bus_outer.specs.declared.source.Pull.TheVariants.{Got, End, Failed}
 use Rattle.bus_outer.specs.declared.whole.ReadError.{ReadError}
 use Rattle.bus_outer.specs.declared.whole.ReadError.TheVariants.{Fault, TooLarge, Memory}
-use Rattle.bus_outer.specs.declared.whole.TheConstants.{PIECE, READ_LIMIT}
 
 -- The bytes came from the front of what the source had left.
 abbrev pub Taken : Option (List ℕ) → Option (List ℕ) → List ℕ → Type 0
@@ -35,13 +34,13 @@ CountsPull before now (Got n) = now ≡ before
 CountsPull before now End = now ≡ before
 CountsPull before now Failed = Fails before now
 
--- The most bytes that one pull of a read of all there is asks for.
+-- The most bytes for which a read of all there is asks in one pull.
 abbrev pub most_piece : ℕ
-most_piece = PIECE
+most_piece = 4096
 
 -- The greatest limit of such a read.
 abbrev pub read_limit : ℕ
-read_limit = READ_LIMIT
+read_limit = 67108864
 
 -- Some bytes were taken, and their number is so.
 abbrev pub TakesSome : Option (List ℕ) → Option (List ℕ) → (ℕ → Type 0) → Type 0
