@@ -1,2 +1,5 @@
+pub mod Gaps
 pub mod Verdicts
 pub mod Lines
+pub mod Fine
+pub mod VerdictLaws

@@ -3,8 +3,8 @@ use Rattle.std.specs.Prelude.{ℕ, List, [], ◌∷◌, ◌++◌, codes}
 use Rattle.std.specs.Fmt.{decimal, signed_decimal}
 use Rattle.bus_table.specs.declared.mode.Mode.{Mode}
 use Rattle.bus_table.specs.declared.mode.Mode.TheVariants.{Aperiodic, Periodic}
-use Rattle.bus_regime.specs.declared.verdict.TableVerdict.{TableVerdict}
-use Rattle.bus_regime.specs.declared.verdict.TableVerdict.TheVariants.{Accept, ShortCycle, SmallGap, NoSync}
+use Rattle.bus_regime.specs.declared.table_verdict.TableVerdict.{TableVerdict}
+use Rattle.bus_regime.specs.declared.table_verdict.TableVerdict.TheVariants.{Accept, ShortCycle, SmallGap, NoSync}
 
 -- the word of a mode
 abbrev pub mode_name : Mode → List ℕ

@@ -1,7 +1,19 @@
 //! The regime of a table: the verdict on whether its senders can keep their turns.
 //!
-//! [`verdict::verdict`] gives it by sums alone, and [`line::write_verdict`] writes the answer as a line.
+//! [`verdict`] gives it, by the lengths of cycles in aperiodic mode and by the gaps between messages in periodic mode, and
+//! [`write_verdict`] writes the answer as a line. `specs/Verdicts.antt` says what the verdict on a table is, `specs/Gaps.antt`
+//! what the gaps of a periodic table are, and `specs/VerdictLaws.antt` has what callers may use of it: a periodic table is
+//! accepted exactly where each of its gaps is fine (`specs/Fine.antt`).
 #![tactic(auto)]
 
+mod gaps;
+pub mod judging;
 pub mod line;
-pub mod verdict;
+mod periodic;
+pub mod table_verdict;
+#[cfg(test)]
+mod tests;
+
+pub use judging::verdict;
+pub use line::write_verdict;
+pub use table_verdict::TableVerdict;

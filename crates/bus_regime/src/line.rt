@@ -1,10 +1,10 @@
 ghost use Rattle.std.specs.Fmt.{signed_decimal};
 ghost use Rattle.bus_outer.specs.Sinks.{WritesText};
 ghost use Rattle.bus_outer.specs.Texts.{Adds};
-ghost use Rattle.bus_regime.specs.declared.verdict.TableVerdict.TheVariants.{Accept, ShortCycle, SmallGap, NoSync};
+ghost use Rattle.bus_regime.specs.declared.table_verdict.TableVerdict.TheVariants.{Accept, ShortCycle, SmallGap, NoSync};
 ghost use Rattle.bus_regime.specs.Lines.{mode_name, verdict_words, verdict_line};
 
-use crate::verdict::TableVerdict;
+use crate::table_verdict::TableVerdict;
 use bus_outer::{Sink, TextBuffer, WriteFault};
 use bus_table::mode::Mode;
 

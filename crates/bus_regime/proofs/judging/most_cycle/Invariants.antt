@@ -2,7 +2,7 @@ use Rattle.std.proofs.Common.{◌≡◌, ◌≤◌, ◌*◌, ◌+◌, ◌^◌, t
 use Rattle.std.specs.List.{sum_by}
 use Rattle.bus_table.specs.Tables.{Sender}
 use Rattle.bus_table.specs.Lengths.{longest}
-use Rattle.bus_regime.proofs.verdict.most_cycle.Given as goal
+use Rattle.bus_regime.proofs.judging.most_cycle.Given as goal
 
 -- the turns so far, with room for more than there can be
 abbrev pub invariant-loop-sender : goal.invariant-loop-sender

@@ -1,0 +1,3 @@
+pub mod GapPlaces
+pub mod Counting
+pub mod Examples

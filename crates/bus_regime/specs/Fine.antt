@@ -1,0 +1,16 @@
+-- What the verdict asks of each gap of a periodic table, as a fact.
+use Rattle.std.specs.Prelude.{◌≢◌, ℕ, ◌+◌, ◌≤◌, ◌⊎◌, List}
+use Rattle.bus_strings.specs.Members.{In}
+use Rattle.bus_regime.specs.Gaps.{Gap}
+
+-- the gap of another sender has at least one synchronization gap
+pub record IsSynchronized (sg : ℕ) (all : List Gap) (gap : Gap) : Type 0 where
+  pub other : Gap
+  pub among : In other all
+  pub apart : other.sender.number ≢ gap.sender.number
+  pub wide : other.from + sg ≤ other.to
+
+-- a gap has at least its sender's terminal gap, and either room for a synchronization gap before that, or another sender's gap has
+pub record IsFine (sg : ℕ) (all : List Gap) (gap : Gap) : Type 0 where
+  pub wide : gap.from + gap.sender.tg ≤ gap.to
+  pub sync : (gap.from + (sg + gap.sender.tg) ≤ gap.to) ⊎ IsSynchronized sg all gap
