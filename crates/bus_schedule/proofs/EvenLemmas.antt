@@ -84,3 +84,9 @@ pub message_at : (table : Table) (hands : List Hand) (k round : ℕ) (sender : S
 message_at table hands k round sender hand messages message valid even less at hand_is messages_is message_is =
     let r = read_hand table hands k sender hand valid even at hand_is in
     get_or_read messages round message (message_there table hands k round sender hand messages valid even less at hand_is messages_is) message_is [] ∙ ap (λ ms. get_or ms round []) (messages_is ∙ sym r.0)
+
+-- the sender at a place
+pub sender_at : (senders : List Sender) (k : ℕ) → k < length senders → (sender : Sender) × (slice_get senders k ≡ Some sender)
+sender_at [] k less = absurd (omega arith)
+sender_at (s ∷ senders) zero less = (s, refl)
+sender_at (s ∷ senders) (suc k) less = sender_at senders k (omega arith)

@@ -1,11 +1,11 @@
 -- Worked examples: the closed schedule of some tables and hands, by computation.
-use Rattle.std.specs.Prelude.{◌≡◌, ℕ, ◌+◌, ◌*◌, IsTrue, List, [], ◌∷◌, map, replicate, refl}
+use Rattle.std.specs.Prelude.{◌≡◌, ℕ, pos, neg_ℤ, ◌+◌, ◌*◌, IsTrue, List, [], ◌∷◌, map, replicate, refl}
 use Rattle.bus_strings.specs.Messages.{Wordstring, Message, Entry}
 use Rattle.bus_table.specs.declared.line.SendLine.{SendLine}
-use Rattle.bus_table.specs.declared.mode.Mode.TheVariants.{Aperiodic}
+use Rattle.bus_table.specs.declared.mode.Mode.TheVariants.{Aperiodic, Periodic}
 use Rattle.bus_table.specs.Tables.{Sender, Table, Hand}
 use Rattle.bus_table.specs.Valid.{is_valid}
-use Rattle.bus_regime.specs.declared.verdict.TableVerdict.TheVariants.{ShortCycle}
+use Rattle.bus_regime.specs.declared.table_verdict.TableVerdict.TheVariants.{ShortCycle, SmallGap}
 use Rattle.bus_regime.specs.Verdicts.{verdict_of, is_accepted}
 use Rattle.bus_schedule.specs.Even.{are_even}
 use Rattle.bus_schedule.specs.Closed.{closed, closed_end}
@@ -148,3 +148,65 @@ greatest_gaps_end = refl
 
 greatest_gaps_end_in_bit_times : closed_end greatest_gaps three_messages ≡ 2876
 greatest_gaps_end_in_bit_times = refl
+
+-- a periodic table: terminal 1 at the beginning of each interval, and terminal 2 just its terminal gap behind the end of the first
+abbrev at_offset : ℕ → Sender → Sender
+at_offset at s = record s { at = at }
+
+abbrev periodic : ℕ → Sender → Sender → Table
+periodic ti one other = record { mode = Periodic; ti = ti; sg = 300; senders = one ∷ other ∷ []; listeners = [] }
+
+abbrev short_sender : Sender
+short_sender = sender 1 20 (line 0xa1 1 2 2 ∷ [])
+
+abbrev two_offsets : Table
+two_offsets = periodic 2000 short_sender (at_offset 90 second_sender)
+
+abbrev longest_last : List Hand
+longest_last =
+    hand 1 ((string 0xa1 1 2 ∷ []) ∷ (string 0xa1 1 2 ∷ []) ∷ [])
+    ∷ hand 2 ((string 0xb2 1 30 ∷ []) ∷ (string 0xb2 1 40 ∷ []) ∷ []) ∷ []
+
+two_offsets_are_accepted : IsTrue (is_valid two_offsets) × IsTrue (is_accepted (verdict_of two_offsets)) × IsTrue (are_even two_offsets longest_last)
+two_offsets_are_accepted = (refl, refl, refl)
+
+two_intervals : starts two_offsets shortest_twice ≡ start 1 0 ∷ start 2 90 ∷ start 1 2000 ∷ start 2 2090 ∷ []
+two_intervals = refl
+
+two_intervals_end : closed_end two_offsets shortest_twice ≡ 2710
+two_intervals_end = refl
+
+-- longer messages change no start, only the end
+two_intervals_of_the_longest : starts two_offsets longest_last ≡ start 1 0 ∷ start 2 90 ∷ start 1 2000 ∷ start 2 2090 ∷ []
+two_intervals_of_the_longest = refl
+
+two_intervals_of_the_longest_end : closed_end two_offsets longest_last ≡ 2910
+two_intervals_of_the_longest_end = refl
+
+-- both at the same offset: the table is refused, and its closed schedule stands in the order of numbers
+abbrev same_offset : Table
+same_offset = periodic 2000 (at_offset 0 second_sender) short_sender
+
+abbrev shortest_backwards : List Hand
+shortest_backwards =
+    hand 2 ((string 0xb2 1 30 ∷ []) ∷ (string 0xb2 1 30 ∷ []) ∷ [])
+    ∷ hand 1 ((string 0xa1 1 2 ∷ []) ∷ (string 0xa1 1 2 ∷ []) ∷ []) ∷ []
+
+same_offset_is_refused : IsTrue (is_valid same_offset) × (verdict_of same_offset ≡ SmallGap 2 (neg_ℤ (pos 60)) 30)
+same_offset_is_refused = (refl, refl)
+
+same_offset_by_number : starts same_offset shortest_backwards ≡ start 1 0 ∷ start 2 0 ∷ start 1 2000 ∷ start 2 2000 ∷ []
+same_offset_by_number = refl
+
+-- messages longer than the interval: a round ends behind the one after it
+abbrev longer_than_the_interval : Table
+longer_than_the_interval = record { mode = Periodic; ti = 1000; sg = 300; senders = sender 1 20 (line 1 0 0 100 ∷ []) ∷ []; listeners = [] }
+
+abbrev long_then_short : List Hand
+long_then_short = hand 1 ((string 1 0 100 ∷ []) ∷ (string 1 0 0 ∷ []) ∷ []) ∷ []
+
+long_then_short_starts : starts longer_than_the_interval long_then_short ≡ start 1 0 ∷ start 1 1000 ∷ []
+long_then_short_starts = refl
+
+long_then_short_ends_with_the_first : closed_end longer_than_the_interval long_then_short ≡ 2020
+long_then_short_ends_with_the_first = refl

@@ -1,25 +1,26 @@
 -- A schedule so far: lawful to the end of its last message, with the numbers that tell who is due.
-use Rattle.std.proofs.Common.{◌≡◌, ◌≢◌, ℕ, ◌+◌, ◌<◌, ◌≤◌, ◌⊎◌, max, List, [], ◌∷◌, ◌++◌, length, get_or, inl, inr, arith, sym, refl, ap, ◌∙◌, subst}
+use Rattle.std.proofs.Common.{◌≡◌, ◌≢◌, ℕ, ◌+◌, ◌<◌, ◌≤◌, ◌⊎◌, false, ltb, List, [], ◌∷◌, ◌++◌, length, get_or, inl, inr, arith, sym, refl, ap, ◌∙◌, subst}
 use Rattle.std.specs.Prelude.{slice_get}
-use Rattle.std.proofs.lemmas.List.Sums.{fold-append}
+use Rattle.std.proofs.lemmas.Bool.{le-ltb, and_right}
 use Rattle.bus_timers.specs.Timings.{IsSound}
 use Rattle.bus_strings.specs.Members.{In}
 use Rattle.bus_strings.specs.Messages.{Message, Entry, bits}
-use Rattle.bus_strings.specs.Transmissions.{end_of}
-use Rattle.bus_table.specs.declared.mode.Mode.TheVariants.{Aperiodic}
+use Rattle.bus_strings.specs.Marking.{greatest_end}
+use Rattle.bus_strings.specs.Transmissions.{end_of, overlaps}
 use Rattle.bus_table.specs.Tables.{Sender, Table}
 use Rattle.bus_table.specs.Facts.{TableFacts}
 use Rattle.bus_medium.specs.Lawful.{Station, HaveOwnNumbers, IsLawfulTo, IsLawful}
 use Rattle.bus_medium.specs.LawfulLaws.{LawfulToHorizon}
 use Rattle.bus_medium.specs.Timings.{quiet_of, due_for, timing_of}
-use Rattle.bus_medium.specs.Chains.{Chain, put, gap_put, Starts, ChainSettled, ChainStep, ChainStarts}
-use Rattle.bus_schedule.specs.Closed.{sends, greatest_end}
-use Rattle.bus_schedule.proofs.Members.{in_map, from_map}
-use Rattle.bus_schedule.proofs.HandLemmas.{HasHand, Sendable, station, stations, quiet_is, message_of}
+use Rattle.bus_medium.specs.Chains.{HaveEnded, Chain, put, gap_put, Starts, ChainSettled, ChainStep, ChainStarts}
+use Rattle.bus_schedule.specs.Closed.{sends}
+use Rattle.bus_schedule.specs.Runs.{IsClear}
+use Rattle.bus_strings.specs.MemberLaws.{in_map, from_map, ordered_push}
+use Rattle.bus_schedule.proofs.HandLemmas.{HasHand, Sendable, station, stations, message_of}
+use Rattle.bus_schedule.proofs.Greatest.{end_push}
 
--- a valid aperiodic table, and n messages of each sender
+-- a valid table, and n messages of each sender
 pub record Setting (table : Table) (hands : ℕ → List Message) (n : ℕ) : Type 0 where
-  pub mode : table.mode ≡ Aperiodic
   pub facts : TableFacts table
   pub numbers : HaveOwnNumbers (stations table hands)
   pub sound : (sender : Sender) → In sender table.senders → IsSound (timing_of table sender)
@@ -29,10 +30,6 @@ pub sendable : (table : Table) (hands : ℕ → List Message) (n : ℕ) → Sett
     → round < n → Sendable sender (hands sender.number) round (get_or (hands sender.number) round [])
 sendable table hands n setting sender round i less = message_of table hands n sender round setting.facts i (setting.hand sender i) less
 
-pub end_push : (list : List Entry) (x : Entry) (e : ℕ) → greatest_end list ≡ e → e ≤ x.moment → greatest_end (list ++ x ∷ []) ≡ end_of x
-end_push list x e at low =
-    fold-append (λ end y. max end (end_of y)) 0 list (x ∷ []) ∙ ap (λ end. max end (end_of x)) at ∙ (let k : max e (x.moment + bits x.message) ≡ x.moment + bits x.message = grind arith in k)
-
 nothing_sent : (quiet : ℕ) (stations : List Station) → IsLawfulTo quiet stations 0 0 []
 nothing_sent quiet stations = record {
   ordered = tt;
@@ -40,11 +37,17 @@ nothing_sent quiet stations = record {
   exact = λ u sender there before. elim before [ inl less ↦ absurd (omega arith) | inr same ↦ let k : sender.number < 0 = same.1 in absurd (omega arith) ];
 }
 
+clear_push : (list : List Entry) (x : Entry) (e : ℕ) → e ≤ x.moment → HaveEnded list e → IsClear list → IsClear (list ++ x ∷ [])
+clear_push list x e low ended clear = ordered_push (λ y z. overlaps y z ≡ false) list x clear (λ y i.
+    let k : end_of y ≤ e = ended y i in
+    and_right (ltb y.moment (end_of x)) (ltb x.moment (end_of y)) (le-ltb x.moment (end_of y) (omega arith)))
+
 -- the schedule so far
 pub record Sofar (table : Table) (hands : ℕ → List Message) (list : List Entry) (e : ℕ) (due gap count : ℕ → ℕ) : Type 0 where
   pub law : IsLawfulTo (quiet_of table) (stations table hands) e 0 list
   pub chain : Chain (quiet_of table) table.sg (stations table hands) list e due gap count
   pub ends : greatest_end list ≡ e
+  pub clear : IsClear list
 
 -- what the numbers must be where a sender starts
 pub record Takes (table : Table) (due gap count : ℕ → ℕ) (sender : Sender) (round moment : ℕ) : Type 0 where
@@ -75,17 +78,18 @@ module _ (settled : ChainSettled) (step : ChainStep) (starting : ChainStarts) (t
         law = starting (quiet_of table) table.sg (stations table hands) list e due gap count (station table hands sender) (sends hands round sender moment) setting.numbers so.chain place low refl m.some starts so.law;
         chain = step (quiet_of table) table.sg (stations table hands) list e due gap count (station table hands sender) (sends hands round sender moment) setting.numbers so.chain place low refl m.some;
         ends = end_push list (sends hands round sender moment) e so.ends low;
+        clear = clear_push list (sends hands round sender moment) e low so.chain.ended so.clear;
       }
 
-  pub sofar_settled : Sofar table hands [] 0 (λ _. table.sg) (λ _. table.sg) (λ _. 0)
-  sofar_settled = record {
+  pub sofar_settled : (due : ℕ → ℕ) → ((sender : Sender) → In sender table.senders → quiet_of table + due_for table.mode sender ≡ due sender.number)
+      → Sofar table hands [] 0 due (λ _. table.sg) (λ _. 0)
+  sofar_settled due due_is = record {
     law = nothing_sent (quiet_of table) (stations table hands);
-    chain = settled (quiet_of table) table.sg (stations table hands) (λ _. table.sg) (λ s there.
+    chain = settled (quiet_of table) table.sg (stations table hands) due (λ s there.
         let f = from_map (station table hands) table.senders s there in
-        let quiet : quiet_of table ≡ table.sg = quiet_is table setting.mode in
-        let due : due_for table.mode f.0 ≡ 0 = ap (λ m. due_for m f.0) setting.mode in
-        subst (λ (w : Station). IsSound w.timing × (w.timing.sg ≡ table.sg) × (w.timing.quiet ≡ quiet_of table) × (quiet_of table + w.timing.due ≡ table.sg)) f.2 (setting.sound f.0 f.1, refl, refl, omega arith));
+        subst (λ (w : Station). IsSound w.timing × (w.timing.sg ≡ table.sg) × (w.timing.quiet ≡ quiet_of table) × (quiet_of table + w.timing.due ≡ due w.number)) f.2 (setting.sound f.0 f.1, refl, refl, due_is f.0 f.1));
     ends = refl;
+    clear = tt;
   }
 
 pub sofar_lawful : LawfulToHorizon → (table : Table) (hands : ℕ → List Message) (list : List Entry) (e : ℕ) (due gap count : ℕ → ℕ)

@@ -21,7 +21,7 @@ use Rattle.bus_table.specs.TurnLaws.{of_each}
 use Rattle.bus_medium.specs.Lawful.{Station}
 use Rattle.bus_medium.specs.Timings.{quiet_for, quiet_of, timing_of}
 use Rattle.bus_schedule.specs.Even.{messages_of}
-use Rattle.bus_schedule.proofs.Members.{map_same}
+use Rattle.bus_strings.specs.MemberLaws.{map_same}
 
 -- the sender has this many messages, and each fits
 pub record HasHand (hands : ℕ → List Message) (rounds : ℕ) (sender : Sender) : Type 0 where

@@ -7,9 +7,9 @@ use Rattle.bus_strings.specs.Messages.{Message, Entry, bits}
 use Rattle.bus_strings.specs.Transmissions.{end_of, overlaps, Precedes, IsAscending}
 use Rattle.bus_table.specs.Tables.{Sender}
 use Rattle.bus_medium.specs.Chains.{HaveEnded}
-use Rattle.bus_schedule.specs.Closed.{sends, turns, turns_end, origin, schedule}
+use Rattle.bus_schedule.specs.Closed.{sends, turns, turns_end, origin, gap_schedule}
 use Rattle.bus_schedule.specs.Runs.{IsClear}
-use Rattle.bus_schedule.proofs.Members.{in_push_cases, ordered_push}
+use Rattle.bus_strings.specs.MemberLaws.{in_push_cases, ordered_push}
 
 -- none begins before the one before has ended, and all have ended at moment e
 pub record IsLaid (list : List Entry) (e : ℕ) : Type 0 where
@@ -56,8 +56,8 @@ laid_turns hands round (sender ∷ order) from list some laid =
 -- so many rounds
 pub laid_schedule : (hands : ℕ → List Message) (sg : ℕ) (order : List Sender) (n : ℕ)
     → ((sender : Sender) (round : ℕ) → In sender order → round < n → 0 < bits (get_or (hands sender.number) round []))
-    → IsLaid (schedule hands sg order n) (origin hands sg order n)
+    → IsLaid (gap_schedule hands sg order n) (origin hands sg order n)
 laid_schedule hands sg order zero some = record { ended = λ x i. absurd i; begun = λ x i. absurd i; ascends = tt; clear = tt }
 laid_schedule hands sg order (suc n) some =
-    laid_later (schedule hands sg order (suc n)) (turns_end hands n order (origin hands sg order n)) (origin hands sg order (suc n)) (omega arith)
-    (laid_turns hands n order (origin hands sg order n) (schedule hands sg order n) (λ sender i. some sender n i (omega arith)) (laid_schedule hands sg order n (λ sender round i less. some sender round i (omega arith))))
+    laid_later (gap_schedule hands sg order (suc n)) (turns_end hands n order (origin hands sg order n)) (origin hands sg order (suc n)) (omega arith)
+    (laid_turns hands n order (origin hands sg order n) (gap_schedule hands sg order n) (λ sender i. some sender n i (omega arith)) (laid_schedule hands sg order n (λ sender round i less. some sender round i (omega arith))))

@@ -6,13 +6,15 @@ use Rattle.std.proofs.lemmas.Bool.{eq-eqb, ne_eqb, lt-ltb}
 use Rattle.std.proofs.lemmas.List.{drop_all, take_all, take_more, length-map, map-append}
 use Rattle.std.proofs.lemmas.Option.{slice_get_within, get_or_from_slice_get}
 use Rattle.bus_strings.specs.Messages.{Message, Entry, bits}
+use Rattle.bus_strings.specs.Transmissions.{end_of}
 use Rattle.bus_table.specs.Tables.{Sender, Table}
 use Rattle.bus_table.specs.Turns.{Differ, turn_key, turn_order}
 use Rattle.bus_table.specs.TurnLaws.{at_in, in_at, from_sort, length-sort, numbers_differ}
 use Rattle.bus_table.specs.Valid.{is_valid}
 use Rattle.bus_table.specs.ValidLaws.{valid_facts}
 use Rattle.bus_schedule.specs.Places.{AreInTurn}
-use Rattle.bus_schedule.specs.Closed.{turns, turns_end}
+use Rattle.bus_schedule.specs.Closed.{sends, turns, turns_end}
+use Rattle.bus_schedule.proofs.EndLemmas.{turns_last}
 use Rattle.bus_schedule.proofs.EvenLemmas.{read_sender}
 
 -- what stands at a place of two lists that say the same
@@ -59,20 +61,29 @@ pub record Leads (hands : ℕ → List Message) (round : ℕ) (left : List Sende
   pub end : turns_end hands round left from ≡ last
 
 -- and so it does with one turn more, and one less that is left
-pub turn_more : (hands : ℕ → List Message) (round : ℕ) (left rest : List Sender) (from last : ℕ) (list whole : List Entry) (sender : Sender) (message : Message) (list' : List Entry) (from' : ℕ)
-    → Leads hands round left from last list whole → left ≡ sender ∷ rest → message ≡ get_or (hands sender.number) round []
-    → list' ≡ list ++ record { moment = from + sender.tg; terminal = sender.number; message = message } ∷ []
-    → from' ≡ from + sender.tg + bits message → Leads hands round rest from' last list' whole
-turn_more hands round left rest from last list whole sender message list' from' so left_is message_is list_is from_is =
+pub turn_more : (hands : ℕ → List Message) (round : ℕ) (left rest : List Sender) (from last : ℕ) (list whole : List Entry) (sender : Sender) (message : Message) (list' : List Entry) (moment from' : ℕ)
+    → Leads hands round left from last list whole → left ≡ sender ∷ rest → message ≡ get_or (hands sender.number) round [] → moment ≡ from + sender.tg
+    → list' ≡ list ++ record { moment = moment; terminal = sender.number; message = message } ∷ []
+    → from' ≡ moment + bits message → Leads hands round rest from' last list' whole
+turn_more hands round left rest from last list whole sender message list' moment from' so left_is message_is moment_is list_is from_is =
     let due = get_or (hands sender.number) round [] in
     let now : Entry = record { moment = from + sender.tg; terminal = sender.number; message = due } in
-    let added : list' ≡ list ++ now ∷ [] = list_is ∙ ap (λ (m : Message). list ++ record { moment = from + sender.tg; terminal = sender.number; message = m } ∷ []) message_is in
-    let ended : from' ≡ from + sender.tg + bits due = from_is ∙ ap (λ (m : Message). from + sender.tg + bits m) message_is in
+    let added : list' ≡ list ++ now ∷ [] = list_is ∙ ap (λ (m : Message). list ++ record { moment = moment; terminal = sender.number; message = m } ∷ []) message_is
+    ∙ ap (λ n. list ++ record { moment = n; terminal = sender.number; message = get_or (hands sender.number) round [] } ∷ []) moment_is in
+    let ended : from' ≡ from + sender.tg + bits due = from_is ∙ ap (λ (m : Message). moment + bits m) message_is ∙ ap (λ n. n + bits (get_or (hands sender.number) round [])) moment_is in
     record {
       turns = ap (λ (l : List Entry). l ++ turns hands round rest from') added ∙ ap (λ n. (list ++ now ∷ []) ++ turns hands round rest n) ended ∙ append_assoc list (now ∷ []) (turns hands round rest (from + sender.tg + bits due))
           ∙ ap (λ ss. list ++ turns hands round ss from) (sym left_is) ∙ so.turns;
       end = ap (turns_end hands round rest) ended ∙ ap (λ ss. turns_end hands round ss from) (sym left_is) ∙ so.end;
     }
+
+-- the next turn starts no later than the last of them ends
+pub turn_within : (hands : ℕ → List Message) (round : ℕ) (left rest : List Sender) (from last : ℕ) (list whole : List Entry) (sender : Sender)
+    → Leads hands round left from last list whole → left ≡ sender ∷ rest → from + sender.tg ≤ last
+turn_within hands round left rest from last list whole sender so left_is =
+    let x : Entry = sends hands round sender (from + sender.tg) in
+    let end : turns_end hands round rest (end_of x) ≡ last = ap (λ ss. turns_end hands round ss from) (sym left_is) ∙ so.end in
+    omega (arith, turns_last hands round rest (end_of x))
 
 -- where none is left, it is the whole
 pub none_left : (hands : ℕ → List Message) (round i : ℕ) (order : List Sender) (from last : ℕ) (list whole : List Entry) → length order ≤ i

@@ -1,34 +1,41 @@
 -- The closed schedule of even hands is orderly, and of an accepted table it is the run.
-use Rattle.std.proofs.Common.{◌≡◌, ℕ, suc, ◌+◌, ◌*◌, ◌/◌, ◌%◌, ◌<◌, ◌≤◌, true, false, cond, List, [], length, get_or, Some, arith, sym, refl, ap, ◌∙◌, subst}
-use Rattle.std.specs.Prelude.{nat_lt, slice_get, IsTrue}
-use Rattle.std.proofs.lemmas.Bool.{and_parts, ltb-false}
+use Rattle.std.proofs.Common.{◌≡◌, ℕ, zero, suc, ◌+◌, ◌*◌, ◌/◌, ◌%◌, ◌<◌, ◌≤◌, List, [], ◌∷◌, length, get_or, Some, arith, sym, refl, ap, ◌∙◌, subst}
+use Rattle.std.specs.Prelude.{slice_get, IsTrue}
+use Rattle.std.proofs.lemmas.Bool.{and_parts}
 use Rattle.std.proofs.lemmas.Nat.{div-add-mod'}
+use Rattle.bus_strings.specs.Marking.{greatest_end}
 use Rattle.bus_strings.specs.Members.{In}
 use Rattle.bus_strings.specs.Messages.{Entry}
-use Rattle.bus_table.specs.declared.mode.Mode.TheVariants.{Aperiodic}
+use Rattle.bus_strings.specs.Transmissions.{IsAscending}
+use Rattle.bus_table.specs.declared.mode.Mode.{Mode}
+use Rattle.bus_table.specs.declared.mode.Mode.TheVariants.{Aperiodic, Periodic}
 use Rattle.bus_table.specs.Tables.{Sender, Table, Hand}
+use Rattle.bus_table.specs.Facts.{SenderFacts}
 use Rattle.bus_table.specs.Valid.{is_valid}
 use Rattle.bus_table.specs.ValidLaws.{valid_facts}
 use Rattle.bus_table.specs.Hands.{are_hands}
 use Rattle.bus_table.specs.Lengths.{shortest, longest}
-use Rattle.bus_table.specs.Turns.{turn_key, turn_order}
-use Rattle.bus_table.specs.TurnLaws.{at_in, from_sort, length-sort, numbers_differ}
+use Rattle.bus_table.specs.Turns.{Rises, turn_key, turn_order}
+use Rattle.bus_table.specs.TurnLaws.{at_in, from_sort, length-sort, numbers_differ, of_each, order_rises}
 use Rattle.bus_medium.specs.Lawful.{HaveOwnNumbers, IsLawful}
 use Rattle.bus_medium.specs.LawfulLaws.{OneLawfulList, LawfulToHorizon}
 use Rattle.bus_medium.specs.Timings.{quiet_of, stations_of}
 use Rattle.bus_medium.specs.StationLaws.{timings_are_sound, stations_have_own_numbers}
 use Rattle.bus_medium.specs.Chains.{ChainSettled, ChainStep, ChainStarts}
-use Rattle.bus_regime.specs.declared.verdict.TableVerdict.TheVariants.{Accept, ShortCycle}
-use Rattle.bus_regime.specs.Verdicts.{least_cycle, most_cycle, verdict_of, is_accepted}
+use Rattle.bus_regime.specs.declared.table_verdict.TableVerdict.TheVariants.{Accept}
+use Rattle.bus_regime.specs.Verdicts.{least_cycle, most_cycle, verdict_of}
+use Rattle.bus_regime.specs.VerdictLaws.{accepted_cycle, accepted_gaps, aperiodic_numbers, periodic_numbers}
 use Rattle.bus_schedule.specs.Even.{messages_of, rounds, are_even}
-use Rattle.bus_schedule.specs.Closed.{sends, turns, turns_end, origin, closed, closed_end}
-use Rattle.bus_schedule.specs.Runs.{IsInTurns, IsSpaced}
+use Rattle.bus_schedule.specs.Closed.{sends, turns, turns_end, origin, offset_turns, in_rounds, gap_schedule, offset_schedule, schedule_in, closed, closed_end}
+use Rattle.bus_schedule.specs.Runs.{IsClear, IsInTurns, IsApart, IsSpaced}
 use Rattle.bus_schedule.specs.Laws.{AcceptedIsClosed, ClosedIsOrderly}
+use Rattle.bus_schedule.proofs.Ascending.{offset_schedule_ascends}
 use Rattle.bus_schedule.proofs.HandLemmas.{Sendable, stations, stations_are, own_hand}
 use Rattle.bus_schedule.proofs.Laying.{IsLaid, laid_schedule}
-use Rattle.bus_schedule.proofs.Places.{turns_at, length-schedule, more_turns, schedule_at, schedule_get}
+use Rattle.bus_schedule.proofs.Places.{IsRound, turns_are_round, offset_turns_are_round, offset_turn_at, more_turns, length-in_rounds, in_rounds_at, in_rounds_get}
 use Rattle.bus_schedule.proofs.Spacing.{cycle, cycle_sum, cycle_sort, lead, LeadsMore, lead_more, lengths, turns_end_cycle, IsTurn, is_turn}
 use Rattle.bus_schedule.proofs.Growing.{Setting, sendable, sofar_lawful}
+use Rattle.bus_schedule.proofs.Spanning.{at_below, intervals_on}
 use Rattle.bus_schedule.proofs.Turning.{rounds_on}
 
 -- even hands are dealt: one for each sender
@@ -39,13 +46,11 @@ stations_of_even : (table : Table) (hands : List Hand) → IsTrue (is_valid tabl
     → stations_of table hands ≡ stations table (messages_of hands)
 stations_of_even table hands valid even = stations_are table table.senders hands (dealt table hands even) (numbers_differ table (valid_facts table valid))
 
--- what a valid aperiodic table and even hands give
-setting_of : (table : Table) (hands : List Hand) → IsTrue (is_valid table) → table.mode ≡ Aperiodic → IsTrue (are_even table hands)
-    → Setting table (messages_of hands) (rounds hands)
-setting_of table hands valid mode even =
+-- what a valid table and even hands give
+pub setting_of : (table : Table) (hands : List Hand) → IsTrue (is_valid table) → IsTrue (are_even table hands) → Setting table (messages_of hands) (rounds hands)
+setting_of table hands valid even =
     let facts = valid_facts table valid in
     record {
-      mode = mode;
       facts = facts;
       numbers = subst HaveOwnNumbers (stations_of_even table hands valid even) (stations_have_own_numbers table hands valid (dealt table hands even));
       sound = λ sender there. timings_are_sound table sender valid there;
@@ -56,38 +61,109 @@ module _ (table : Table) (hands : List Hand) (setting : Setting table (messages_
   of_table : (sender : Sender) → In sender (turn_order table) → In sender table.senders
   of_table sender i = from_sort (turn_key table.mode) table.senders sender i
 
+  facts_of : (sender : Sender) → In sender (turn_order table) → SenderFacts table sender
+  facts_of sender i = of_each (SenderFacts table) table.senders setting.facts.senders sender (of_table sender i)
+
   as_many : length (turn_order table) ≡ length table.senders
   as_many = length-sort (turn_key table.mode) table.senders
 
   message : (sender : Sender) (round : ℕ) → In sender (turn_order table) → round < rounds hands → Sendable sender (messages_of hands sender.number) round (get_or (messages_of hands sender.number) round [])
   message sender round i less = sendable table (messages_of hands) (rounds hands) setting sender round (of_table sender i) less
 
-  pub closed_laid : IsLaid (closed table hands) (origin (messages_of hands) table.sg (turn_order table) (rounds hands))
-  closed_laid = laid_schedule (messages_of hands) table.sg (turn_order table) (rounds hands) (λ sender round i less. (message sender round i less).some_bits)
+  -- the closed schedule is rounds, one after the other, each with one turn of each sender
+  record HasRounds (mode : Mode) : Type 0 where
+    round : ℕ → List Entry
+    is : schedule_in mode table (messages_of hands) (rounds hands) ≡ in_rounds round (rounds hands)
+    each : (r : ℕ) → IsRound (messages_of hands) r (turn_order table) (round r)
 
-  pub closed_in_turns : IsInTurns table hands (closed table hands)
-  closed_in_turns = record {
-    whole = length-schedule (messages_of hands) table.sg (turn_order table) (rounds hands) ∙ ap (λ k. rounds hands * k) as_many;
-    turn = λ round turn sender less at.
-        let from : ℕ = origin (messages_of hands) table.sg (turn_order table) round in
-        let w = turns_at (messages_of hands) round (turn_order table) from turn sender at in
-        record {
-          entry = sends (messages_of hands) round sender w.0;
-          at = ap (λ k. slice_get (closed table hands) (round * k + turn)) (sym as_many) ∙ schedule_at (messages_of hands) table.sg (turn_order table) (rounds hands) round turn (sends (messages_of hands) round sender w.0) less w.1;
-          terminal = refl;
-          message = (message sender round (at_in (turn_order table) turn sender at) less).sent;
-        };
+  has_rounds : (mode : Mode) → HasRounds mode
+  has_rounds Aperiodic = record {
+    round = λ r. turns (messages_of hands) r (turn_order table) (origin (messages_of hands) table.sg (turn_order table) r);
+    is = refl;
+    each = λ r. turns_are_round (messages_of hands) r (turn_order table) (origin (messages_of hands) table.sg (turn_order table) r);
   }
+  has_rounds Periodic = record {
+    round = λ r. offset_turns (messages_of hands) r (turn_order table) (r * table.ti);
+    is = refl;
+    each = λ r. offset_turns_are_round (messages_of hands) r (r * table.ti) (turn_order table);
+  }
+
+  closed_in_turns : IsInTurns table hands (closed table hands)
+  closed_in_turns =
+      let w : HasRounds table.mode = has_rounds table.mode in
+      let k : ℕ = length (turn_order table) in
+      record {
+        whole = ap length w.is ∙ length-in_rounds (length (turn_order table)) w.round (λ r. (w.each r).whole) (rounds hands) ∙ ap (λ m. rounds hands * m) as_many;
+        turn = λ round turn sender less at.
+            let t = (w.each round).turn turn sender at in
+            record {
+              entry = sends (messages_of hands) round sender t.0;
+              at = ap (λ list. slice_get list (round * length table.senders + turn)) w.is
+                  ∙ ap (λ m. slice_get (in_rounds w.round (rounds hands)) (round * m + turn)) (sym as_many)
+                  ∙ in_rounds_at (length (turn_order table)) w.round (λ r. (w.each r).whole) (rounds hands) round turn (sends (messages_of hands) round sender t.0) less t.1;
+              terminal = refl;
+              message = (message sender round (at_in (turn_order table) turn sender at) less).sent;
+            };
+      }
+
+  gaps_laid : IsLaid (gap_schedule (messages_of hands) table.sg (turn_order table) (rounds hands)) (origin (messages_of hands) table.sg (turn_order table) (rounds hands))
+  gaps_laid = laid_schedule (messages_of hands) table.sg (turn_order table) (rounds hands) (λ sender round i less. (message sender round i less).some_bits)
+
+  ascends_in : (mode : Mode) → table.mode ≡ mode → IsAscending (schedule_in mode table (messages_of hands) (rounds hands))
+  ascends_in Aperiodic is = gaps_laid.ascends
+  ascends_in Periodic is =
+      offset_schedule_ascends (messages_of hands) table.ti (turn_order table) (λ s i. at_below table s is (facts_of s i)) (rounds hands)
+      (λ s i. (facts_of s i).number_most) (subst (λ m. Rises (turn_key m) (turn_order table)) is (order_rises table setting.facts))
+
+  -- a turn, and the same turn of the next round
+  record AreNext (mode : Mode) (k : ℕ) (x y : Entry) : Type 0 where
+    round : ℕ
+    turn : ℕ
+    more : suc round < rounds hands
+    inside : turn < length (turn_order table)
+    first : slice_get ((has_rounds mode).round round) turn ≡ Some x
+    second : slice_get ((has_rounds mode).round (suc round)) turn ≡ Some y
+
+  are_next : (mode : Mode) (k : ℕ) (x y : Entry) → slice_get (schedule_in mode table (messages_of hands) (rounds hands)) k ≡ Some x
+      → slice_get (schedule_in mode table (messages_of hands) (rounds hands)) (k + length table.senders) ≡ Some y → AreNext mode k x y
+  are_next mode k x y at_x at_y =
+      let w : HasRounds mode = has_rounds mode in
+      let some : 0 < length table.senders = setting.facts.some in
+      let same : length (turn_order table) ≡ length table.senders = as_many in
+      let inside : k % length (turn_order table) < length (turn_order table) = omega arith in
+      let place : k / length (turn_order table) * length (turn_order table) + k % length (turn_order table) ≡ k = div-add-mod' k (length (turn_order table)) in
+      let next : suc (k / length (turn_order table)) * length (turn_order table) + k % length (turn_order table) ≡ k + length table.senders = omega (arith, more_turns (k / length (turn_order table)) (length (turn_order table))) in
+      let first = in_rounds_get (length (turn_order table)) w.round (λ r. (w.each r).whole) (rounds hands) (k / length (turn_order table)) (k % length (turn_order table)) x inside
+      (ap (λ l. slice_get l (k / length (turn_order table) * length (turn_order table) + k % length (turn_order table))) (sym w.is) ∙ ap (slice_get (schedule_in mode table (messages_of hands) (rounds hands))) place ∙ at_x) in
+      let second = in_rounds_get (length (turn_order table)) w.round (λ r. (w.each r).whole) (rounds hands) (suc (k / length (turn_order table))) (k % length (turn_order table)) y inside
+      (ap (λ l. slice_get l (suc (k / length (turn_order table)) * length (turn_order table) + k % length (turn_order table))) (sym w.is) ∙ ap (slice_get (schedule_in mode table (messages_of hands) (rounds hands))) next ∙ at_y) in
+      record {
+        round = k / length (turn_order table);
+        turn = k % length (turn_order table);
+        more = second.0;
+        inside = inside;
+        first = first.1;
+        second = second.1;
+      }
 
   least_is : (w : Sender → ℕ) → cycle w (turn_order table) ≡ cycle w table.senders
   least_is w = cycle_sort w (turn_key table.mode) table.senders
 
-  -- a turn, and the same turn of the next round
-  turn_apart : (round turn : ℕ) (x y : Entry) → suc round < rounds hands
+  between : (from end sg first second : ℕ) (short long this next : Sender → ℕ) (order : List Sender) (turn : ℕ) → end ≡ from + cycle this order → first ≡ from + lead this order turn → second ≡ end + sg + lead next order turn
+      → ((a : Sender) → In a order → (short a ≤ this a) × (this a ≤ long a)) → ((a : Sender) → In a order → (short a ≤ next a) × (next a ≤ long a))
+      → (first + (sg + cycle short order) ≤ second) × (second ≤ first + (sg + cycle long order))
+  between from end sg first second short long this next order turn e f s h k =
+      let a : LeadsMore short this order turn = lead_more short this order turn (λ x i. (h x i).0) in
+      let b : LeadsMore this long order turn = lead_more this long order turn (λ x i. (h x i).1) in
+      let c : LeadsMore short next order turn = lead_more short next order turn (λ x i. (k x i).0) in
+      let d : LeadsMore next long order turn = lead_more next long order turn (λ x i. (k x i).1) in
+      (omega arith, omega arith)
+
+  gap_turns_apart : (round turn : ℕ) (x y : Entry) → suc round < rounds hands
       → slice_get (turns (messages_of hands) round (turn_order table) (origin (messages_of hands) table.sg (turn_order table) round)) turn ≡ Some x
       → slice_get (turns (messages_of hands) (suc round) (turn_order table) (origin (messages_of hands) table.sg (turn_order table) (suc round))) turn ≡ Some y
-      → (x.terminal ≡ y.terminal) × (x.moment + least_cycle table ≤ y.moment) × (y.moment ≤ x.moment + most_cycle table)
-  turn_apart round turn x y more at_x at_y =
+      → IsApart (least_cycle table) (most_cycle table) x y
+  gap_turns_apart round turn x y more at_x at_y =
       let from : ℕ = origin (messages_of hands) table.sg (turn_order table) round in
       let this : Sender → ℕ = lengths (messages_of hands) round in
       let next : Sender → ℕ = lengths (messages_of hands) (suc round) in
@@ -97,66 +173,91 @@ module _ (table : Table) (hands : List Hand) (setting : Setting table (messages_
       let numbers = between from (turns_end (messages_of hands) round (turn_order table) from) table.sg x.moment y.moment shortest longest this next (turn_order table) turn
       (turns_end_cycle (messages_of hands) round (turn_order table) from) t.moment u.moment
       (λ a i. let m = message a round i (omega arith) in (m.least, m.most))
-      (λ a i. let m = message a (suc round) i more in (m.least, m.most)) in (
-        t.terminal ∙ ap (λ (s : Sender). s.number) same ∙ sym u.terminal,
-        subst (λ c. x.moment + (table.sg + c) ≤ y.moment) (least_is shortest ∙ sym (cycle_sum shortest table.senders)) numbers.0,
-        subst (λ c. y.moment ≤ x.moment + (table.sg + c)) (least_is longest ∙ sym (cycle_sum longest table.senders)) numbers.1,
-      )
-    where
-      between : (from end sg first second : ℕ) (short long this next : Sender → ℕ) (order : List Sender) (turn : ℕ) → end ≡ from + cycle this order → first ≡ from + lead this order turn → second ≡ end + sg + lead next order turn
-          → ((a : Sender) → In a order → (short a ≤ this a) × (this a ≤ long a)) → ((a : Sender) → In a order → (short a ≤ next a) × (next a ≤ long a))
-          → (first + (sg + cycle short order) ≤ second) × (second ≤ first + (sg + cycle long order))
-      between from end sg first second short long this next order turn e f s h k =
-          let a : LeadsMore short this order turn = lead_more short this order turn (λ x i. (h x i).0) in
-          let b : LeadsMore this long order turn = lead_more this long order turn (λ x i. (h x i).1) in
-          let c : LeadsMore short next order turn = lead_more short next order turn (λ x i. (k x i).0) in
-          let d : LeadsMore next long order turn = lead_more next long order turn (λ x i. (k x i).1) in
-          (omega arith, omega arith)
+      (λ a i. let m = message a (suc round) i more in (m.least, m.most)) in
+      record {
+        one_sender = t.terminal ∙ ap (λ (s : Sender). s.number) same ∙ sym u.terminal;
+        no_sooner = subst (λ c. x.moment + (table.sg + c) ≤ y.moment) (least_is shortest ∙ sym (cycle_sum shortest table.senders)) numbers.0;
+        no_later = subst (λ c. y.moment ≤ x.moment + (table.sg + c)) (least_is longest ∙ sym (cycle_sum longest table.senders)) numbers.1;
+      }
 
-  pub closed_spaced : IsSpaced table (closed table hands)
-  closed_spaced = record {
-    apart = λ k x y at_x at_y.
-        let round : ℕ = k / length (turn_order table) in
-        let turn : ℕ = k % length (turn_order table) in
-        let some : 0 < length table.senders = setting.facts.some in
-        let same : length (turn_order table) ≡ length table.senders = as_many in
-        let inside : k % length (turn_order table) < length (turn_order table) = omega arith in
-        let place : k / length (turn_order table) * length (turn_order table) + k % length (turn_order table) ≡ k = div-add-mod' k (length (turn_order table)) in
-        let next : suc (k / length (turn_order table)) * length (turn_order table) + k % length (turn_order table) ≡ k + length table.senders = omega (arith, more_turns (k / length (turn_order table)) (length (turn_order table))) in
-        let first = schedule_get (messages_of hands) table.sg (turn_order table) (rounds hands) round turn x inside (ap (slice_get (closed table hands)) place ∙ at_x) in
-        let second = schedule_get (messages_of hands) table.sg (turn_order table) (rounds hands) (suc round) turn y inside (ap (slice_get (closed table hands)) next ∙ at_y) in
-        turn_apart round turn x y second.0 first.1 second.1;
-  }
+  at_place : (order : List Sender) (turn : ℕ) → turn < length order → (sender : Sender) × (slice_get order turn ≡ Some sender)
+  at_place [] turn less = absurd (omega arith)
+  at_place (a ∷ order) zero less = (a, refl)
+  at_place (a ∷ order) (suc turn) less = at_place order turn (omega arith)
+
+  offset_turns_apart : (round turn : ℕ) (x y : Entry) → turn < length (turn_order table)
+      → slice_get (offset_turns (messages_of hands) round (turn_order table) (round * table.ti)) turn ≡ Some x
+      → slice_get (offset_turns (messages_of hands) (suc round) (turn_order table) (suc round * table.ti)) turn ≡ Some y
+      → IsApart table.ti table.ti x y
+  offset_turns_apart round turn x y inside at_x at_y =
+      let s = at_place (turn_order table) turn inside in
+      let p : Some (sends (messages_of hands) round s.0 (round * table.ti + s.0.at)) ≡ Some x = sym (offset_turn_at (messages_of hands) round (round * table.ti) (turn_order table) turn s.0 s.1) ∙ at_x in
+      let q : Some (sends (messages_of hands) (suc round) s.0 (suc round * table.ti + s.0.at)) ≡ Some y = sym (offset_turn_at (messages_of hands) (suc round) (suc round * table.ti) (turn_order table) turn s.0 s.1) ∙ at_y in
+      let p_is : sends (messages_of hands) round s.0 (round * table.ti + s.0.at) ≡ x = cc in
+      let q_is : sends (messages_of hands) (suc round) s.0 (suc round * table.ti + s.0.at) ≡ y = cc in
+      let first : round * table.ti + s.0.at ≡ x.moment = ap (λ (z : Entry). z.moment) p_is in
+      let second : suc round * table.ti + s.0.at ≡ y.moment = ap (λ (z : Entry). z.moment) q_is in
+      let step : suc round * table.ti ≡ round * table.ti + table.ti = more_turns round table.ti in
+      record {
+        one_sender = sym (ap (λ (z : Entry). z.terminal) p_is) ∙ ap (λ (z : Entry). z.terminal) q_is;
+        no_sooner = omega arith;
+        no_later = omega arith;
+      }
+
+  spaced_in : (own : Mode) → table.mode ≡ own → (mode : Mode) (least most k : ℕ) (x y : Entry) → verdict_of table ≡ Accept mode least most
+      → slice_get (schedule_in own table (messages_of hands) (rounds hands)) k ≡ Some x
+      → slice_get (schedule_in own table (messages_of hands) (rounds hands)) (k + length table.senders) ≡ Some y → IsApart least most x y
+  unfolding has_rounds
+  spaced_in Aperiodic is mode least most k x y accepted at_x at_y =
+      let w : AreNext Aperiodic k x y = are_next Aperiodic k x y at_x at_y in
+      let numbers = aperiodic_numbers table mode least most is accepted in
+      subst (λ n. IsApart n most x y) (sym numbers.0) (subst (λ n. IsApart (least_cycle table) n x y) (sym numbers.1) (gap_turns_apart w.round w.turn x y w.more w.first w.second))
+  spaced_in Periodic is mode least most k x y accepted at_x at_y =
+      let w : AreNext Periodic k x y = are_next Periodic k x y at_x at_y in
+      let numbers = periodic_numbers table mode least most is accepted in
+      subst (λ n. IsApart n most x y) (sym numbers.0) (subst (λ n. IsApart table.ti n x y) (sym numbers.1) (offset_turns_apart w.round w.turn x y w.inside w.first w.second))
+
+  closed_spaced : IsSpaced table (closed table hands)
+  closed_spaced = record { apart = λ mode least most k x y accepted at_x at_y. spaced_in table.mode refl mode least most k x y accepted at_x at_y }
 
 -- the closed schedule, accepted or not
 pub closed_is_orderly : ClosedIsOrderly
-closed_is_orderly table hands valid mode even =
-    let setting : Setting table (messages_of hands) (rounds hands) = setting_of table hands valid mode even in
-    let laid : IsLaid (closed table hands) (origin (messages_of hands) table.sg (turn_order table) (rounds hands)) = closed_laid table hands setting in
-    record { ascends = laid.ascends; clear = laid.clear; turns = closed_in_turns table hands setting }
+closed_is_orderly table hands valid even =
+    let setting : Setting table (messages_of hands) (rounds hands) = setting_of table hands valid even in
+    record {
+      ascends = ascends_in table hands setting table.mode refl;
+      turns = closed_in_turns table hands setting;
+      clear = λ mode. subst (λ m. IsClear (schedule_in m table (messages_of hands) (rounds hands))) (sym mode) (gaps_laid table hands setting).clear;
+    }
 
--- an accepted table's shortest cycle is no shorter than its transmit interval
-cycle_least : (table : Table) → IsTrue (is_accepted (verdict_of table)) → table.ti ≤ least_cycle table
-cycle_least table accepted =
-    elim (nat_lt (least_cycle table) table.ti) as (λ b. nat_lt (least_cycle table) table.ti ≡ b → is_accepted (cond b (ShortCycle (least_cycle table) table.ti) (Accept Aperiodic (least_cycle table) (most_cycle table))) ≡ true → table.ti ≤ least_cycle table) [
-      | true ↦ λ e h. absurd cc
-      | false ↦ λ e h. ltb-false (least_cycle table) table.ti e
-    ] refl accepted
+-- lawful up to its end, without overlaps
+record IsLawfulRun (table : Table) (hands : List Hand) (list : List Entry) : Type 0 where
+  lawful : IsLawful (quiet_of table) (stations table (messages_of hands)) (greatest_end list) list
+  clear : IsClear list
 
 pub accepted_is_closed : ChainSettled → ChainStep → ChainStarts → OneLawfulList → LawfulToHorizon → AcceptedIsClosed
-accepted_is_closed settled step starting once whole table hands valid mode accepted even =
-    let setting : Setting table (messages_of hands) (rounds hands) = setting_of table hands valid mode even in
-    let same = stations_of_even table hands valid even in
-    let long : table.ti ≤ table.sg + cycle shortest table.senders = subst (λ c. table.ti ≤ table.sg + c) (cycle_sum shortest table.senders) (cycle_least table accepted) in
-    let t = rounds_on settled step starting shortest table (messages_of hands) (rounds hands) setting (λ sender round i less. (sendable table (messages_of hands) (rounds hands) setting sender round i less).least) long (rounds hands) (omega arith) in
+accepted_is_closed settled step starting once whole table hands valid accepted even =
+    let setting : Setting table (messages_of hands) (rounds hands) = setting_of table hands valid even in
+    let run : IsLawfulRun table hands (closed table hands) = run_in setting table.mode refl in
     let lawful : IsLawful (quiet_of table) (stations_of table hands) (closed_end table hands) (closed table hands) =
-    subst (λ ss. IsLawful (quiet_of table) ss (closed_end table hands) (closed table hands)) (sym same) (sofar_lawful whole table (messages_of hands) (closed table hands) t.e t.due t.gap t.count t.sofar) in
+    subst (λ ss. IsLawful (quiet_of table) ss (closed_end table hands) (closed table hands)) (sym (stations_of_even table hands valid even)) run.lawful in
     let own : HaveOwnNumbers (stations_of table hands) = stations_have_own_numbers table hands valid (dealt table hands even) in
     record {
       closed = refl;
       lawful = lawful;
       only = λ other law. once (quiet_of table) (stations_of table hands) (closed_end table hands) other (closed table hands) own law lawful;
-      clear = (closed_laid table hands setting).clear;
+      clear = run.clear;
       turns = closed_in_turns table hands setting;
       spaced = closed_spaced table hands setting;
     }
+  where
+    run_in : Setting table (messages_of hands) (rounds hands) → (mode : Mode) → table.mode ≡ mode
+        → IsLawfulRun table hands (schedule_in mode table (messages_of hands) (rounds hands))
+    run_in setting Aperiodic is =
+        let long : table.ti ≤ table.sg + cycle shortest table.senders = subst (λ c. table.ti ≤ table.sg + c) (cycle_sum shortest table.senders) (accepted_cycle table is accepted) in
+        let t = rounds_on settled step starting shortest table (messages_of hands) (rounds hands) setting
+        (λ sender round i less. (sendable table (messages_of hands) (rounds hands) setting sender round i less).least) is long (rounds hands) (omega arith) in
+        record { lawful = sofar_lawful whole table (messages_of hands) (gap_schedule (messages_of hands) table.sg (turn_order table) (rounds hands)) t.e t.due t.gap t.count t.sofar; clear = t.sofar.clear }
+    run_in setting Periodic is =
+        let t = intervals_on settled step starting table (messages_of hands) (rounds hands) setting is (accepted_gaps table is accepted) (rounds hands) (omega arith) in
+        record { lawful = sofar_lawful whole table (messages_of hands) (offset_schedule (messages_of hands) table.ti (turn_order table) (rounds hands)) t.e t.due t.gap t.count t.sofar; clear = t.sofar.clear }

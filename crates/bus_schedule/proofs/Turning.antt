@@ -6,30 +6,31 @@ use Rattle.std.proofs.lemmas.List.{append-nil, append_assoc}
 use Rattle.bus_strings.specs.Members.{In}
 use Rattle.bus_strings.specs.Messages.{Message, Entry, bits}
 use Rattle.bus_strings.specs.Transmissions.{end_of}
+use Rattle.bus_table.specs.declared.mode.Mode.TheVariants.{Aperiodic}
 use Rattle.bus_table.specs.Tables.{Sender, Table}
 use Rattle.bus_table.specs.Facts.{SenderFacts}
 use Rattle.bus_table.specs.Turns.{Rises, turn_key, turn_order}
 use Rattle.bus_table.specs.TurnLaws.{of_each, from_sort, in_sort, order_rises, numbers_differ}
-use Rattle.bus_medium.specs.Timings.{quiet_of}
+use Rattle.bus_medium.specs.Timings.{quiet_of, due_for}
 use Rattle.bus_medium.specs.Chains.{put, gap_put, ChainSettled, ChainStep, ChainStarts}
-use Rattle.bus_schedule.specs.Closed.{sends, turns, turns_end, origin, schedule}
-use Rattle.bus_schedule.proofs.Members.{in_append_cases, in_append_left, in_append_right, in_push_cases}
+use Rattle.bus_schedule.specs.Closed.{sends, turns, turns_end, origin, gap_schedule}
+use Rattle.bus_strings.specs.MemberLaws.{in_append_cases, in_append_left, in_append_right, in_push_cases}
 use Rattle.bus_schedule.proofs.Orders.{rises_before, rises_after, same_sender}
 use Rattle.bus_schedule.proofs.HandLemmas.{quiet_is}
 use Rattle.bus_schedule.proofs.Spacing.{cycle, cycle_sort}
 use Rattle.bus_schedule.proofs.Growing.{Setting, Sofar, Takes, sofar_step, sofar_settled}
 
 -- the numbers of a terminal that started, and of the others
-put_here : (f : ℕ → ℕ) (n v i : ℕ) → i ≡ n → put f n v i ≡ v
+pub put_here : (f : ℕ → ℕ) (n v i : ℕ) → i ≡ n → put f n v i ≡ v
 put_here f n v i e = rw (eq-eqb i n e) refl
 
-put_other : (f : ℕ → ℕ) (n v i : ℕ) → i ≢ n → put f n v i ≡ f i
+pub put_other : (f : ℕ → ℕ) (n v i : ℕ) → i ≢ n → put f n v i ≡ f i
 put_other f n v i e = rw (ne_eqb i n e) refl
 
 gap_put_here : (gap : ℕ → ℕ) (n p b sg i : ℕ) → i ≡ n → gap_put gap n p b sg i ≡ p + b + sg
 gap_put_here gap n p b sg i e = rw (eq-eqb i n e) refl
 
-gap_put_elapsed : (gap : ℕ → ℕ) (n p b sg i : ℕ) → i ≢ n → gap i ≤ p → gap_put gap n p b sg i ≡ p + b
+pub gap_put_elapsed : (gap : ℕ → ℕ) (n p b sg i : ℕ) → i ≢ n → gap i ≤ p → gap_put gap n p b sg i ≡ p + b
 gap_put_elapsed gap n p b sg i e low = rw (ne_eqb i n e, le-leb (gap i) p low) refl
 
 gap_put_waiting : (gap : ℕ → ℕ) (n p b sg i : ℕ) → i ≢ n → p < gap i → gap_put gap n p b sg i ≡ p + b + sg
@@ -92,9 +93,9 @@ round_on w table hands round from list t = record {
 
 module _ (settled : ChainSettled) (step : ChainStep) (starting : ChainStarts) (w : Sender → ℕ) (table : Table) (hands : ℕ → List Message) (n : ℕ) (setting : Setting table hands n)
     (long : (sender : Sender) (round : ℕ) → In sender table.senders → round < n → w sender ≤ bits (get_or (hands sender.number) round []))
-    (accepted : table.ti ≤ table.sg + cycle w table.senders) where
+    (mode : table.mode ≡ Aperiodic) (accepted : table.ti ≤ table.sg + cycle w table.senders) where
   rises : Rises (λ a. a.tg) (turn_order table)
-  rises = subst (λ m. Rises (turn_key m) (turn_order table)) setting.mode (order_rises table setting.facts)
+  rises = subst (λ m. Rises (turn_key m) (turn_order table)) mode (order_rises table setting.facts)
 
   turn : (done : List Sender) (a : Sender) (rest : List Sender) (round from : ℕ) (list : List Entry) → round < n → Turn w table hands done (a ∷ rest) round from list
       → Turn w table hands (done ++ a ∷ []) rest round (end_of (sends hands round a (from + a.tg))) (list ++ sends hands round a (from + a.tg) ∷ [])
@@ -110,7 +111,7 @@ module _ (settled : ChainSettled) (step : ChainStep) (starting : ChainStarts) (w
       let apart_after : (b : Sender) → In b rest → b.number ≢ a.number = λ b i same. let k : a.tg < b.tg = after b i in let e : b.tg ≡ a.tg = tell b (within b (in_append_right done (a ∷ rest) b (inr i))) same in omega arith in
       let least : w a ≤ bits (get_or (hands a.number) round []) = long a round there more in
       let short : a.tg < table.sg = (of_each (SenderFacts table) table.senders setting.facts.senders a there).tg_short in
-      let q : quiet_of table ≡ table.sg = quiet_is table setting.mode in
+      let q : quiet_of table ≡ table.sg = quiet_is table mode in
       let low : t.e ≤ from = t.low in
       let gap_a : t.gap a.number ≡ table.sg + from = t.waiting_gap a (inl refl) in
       let due_a : t.due a.number ≤ table.sg + from + a.tg = let h : t.due a.number ≤ table.sg + from + ahead w (a ∷ rest) a.number = t.waiting_due a (inl refl) in omega (arith, ahead_here w a rest a.number refl) in
@@ -179,7 +180,7 @@ module _ (settled : ChainSettled) (step : ChainStep) (starting : ChainStarts) (w
     due = λ _. table.sg;
     gap = λ _. table.sg;
     count = λ _. 0;
-    sofar = sofar_settled settled step starting table hands n setting;
+    sofar = sofar_settled settled step starting table hands n setting (λ _. table.sg) (λ a i. let q : quiet_of table ≡ table.sg = quiet_is table mode in let d : due_for table.mode a ≡ 0 = ap (λ m. due_for m a) mode in omega arith);
     split = refl;
     low = omega arith;
     waiting_gap = λ a i. omega arith;
@@ -190,9 +191,9 @@ module _ (settled : ChainSettled) (step : ChainStep) (starting : ChainStarts) (w
     spent_count = λ a i. absurd i;
   }
 
-  pub rounds_on : (round : ℕ) → round ≤ n → Turn w table hands [] (turn_order table) round (origin hands table.sg (turn_order table) round) (schedule hands table.sg (turn_order table) round)
+  pub rounds_on : (round : ℕ) → round ≤ n → Turn w table hands [] (turn_order table) round (origin hands table.sg (turn_order table) round) (gap_schedule hands table.sg (turn_order table) round)
   rounds_on zero h = at_start
   rounds_on (suc round) h =
       let from : ℕ = origin hands table.sg (turn_order table) round in
-      let so_far : List Entry = schedule hands table.sg (turn_order table) round in
-      round_on w table hands round (turns_end hands round (turn_order table) from) (schedule hands table.sg (turn_order table) (suc round)) (turns_on (turn_order table) [] round from so_far (omega arith) (rounds_on round (omega arith)))
+      let so_far : List Entry = gap_schedule hands table.sg (turn_order table) round in
+      round_on w table hands round (turns_end hands round (turn_order table) from) (gap_schedule hands table.sg (turn_order table) (suc round)) (turns_on (turn_order table) [] round from so_far (omega arith) (rounds_on round (omega arith)))

@@ -1,7 +1,7 @@
 -- The hands of a run: even ones.
 --   hand     what a sender has to send, in order
 --   rounds   the number of messages in each hand
-use Rattle.std.specs.Prelude.{ℕ, Bool, ◌&&◌, ◌==◌, List, [], ◌∷◌, length, if◌then◌else◌}
+use Rattle.std.specs.Prelude.{ℕ, Bool, ◌&&◌, ◌==◌, List, [], ◌∷◌, length, get_or, if◌then◌else◌}
 use Rattle.std.specs.List.{list_all}
 use Rattle.bus_strings.specs.Messages.{Message}
 use Rattle.bus_table.specs.Tables.{Table, Hand}
@@ -11,6 +11,10 @@ use Rattle.bus_table.specs.Hands.{are_hands}
 abbrev pub messages_of : List Hand → ℕ → List Message
 messages_of [] number = []
 messages_of (hand ∷ hands) number = if hand.terminal == number then hand.messages else messages_of hands number
+
+-- the message of this round of the terminal with this number, and none behind the last
+abbrev pub message_in : List Hand → ℕ → ℕ → Message
+message_in hands number round = get_or (messages_of hands number) round []
 
 -- how many messages each of some even hands has
 abbrev pub rounds : List Hand → ℕ

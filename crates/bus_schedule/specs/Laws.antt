@@ -11,23 +11,24 @@ use Rattle.bus_schedule.specs.Uneven.{uneven_of}
 use Rattle.bus_schedule.specs.Closed.{closed}
 use Rattle.bus_schedule.specs.Runs.{IsClear, IsInTurns, IsRun}
 
--- For an accepted aperiodic table and even hands, of any length, the closed schedule is the run.
+-- For an accepted table in either mode and even hands, of any length, the closed schedule is the run.
 abbrev pub AcceptedIsClosed : Type 0
 AcceptedIsClosed =
-    (table : Table) (hands : List Hand) → IsTrue (is_valid table) → table.mode ≡ Aperiodic → IsTrue (is_accepted (verdict_of table))
-    → IsTrue (are_even table hands) → IsRun table hands (closed table hands)
+    (table : Table) (hands : List Hand) → IsTrue (is_valid table) → IsTrue (is_accepted (verdict_of table)) → IsTrue (are_even table hands)
+    → IsRun table hands (closed table hands)
 
--- The closed schedule of an aperiodic table, accepted or not, and even hands ascends by moment, has no overlap, and holds each sender
--- once a cycle.
+-- The closed schedule of a table, accepted or not, and even hands:
+--   ascends   it is ordered by moment, then terminal
+--   turns     it holds each sender once a cycle, in turn order
+--   clear     in aperiodic mode no two of its transmissions overlap
 pub record IsOrderly (table : Table) (hands : List Hand) : Type 0 where
   pub ascends : IsAscending (closed table hands)
-  pub clear : IsClear (closed table hands)
   pub turns : IsInTurns table hands (closed table hands)
+  pub clear : table.mode ≡ Aperiodic → IsClear (closed table hands)
 
+-- Every closed schedule is orderly.
 abbrev pub ClosedIsOrderly : Type 0
-ClosedIsOrderly =
-    (table : Table) (hands : List Hand) → IsTrue (is_valid table) → table.mode ≡ Aperiodic → IsTrue (are_even table hands)
-    → IsOrderly table hands
+ClosedIsOrderly = (table : Table) (hands : List Hand) → IsTrue (is_valid table) → IsTrue (are_even table hands) → IsOrderly table hands
 
 -- Dealt hands are even exactly where no sender differs from the first in turn order.
 abbrev pub EvenHandsAgree : Type 0

@@ -2,11 +2,13 @@
 use Rattle.std.specs.Prelude.{◌≡◌, ℕ, ◌+◌, ◌*◌, ◌<◌, ◌≤◌, false, List, length, slice_get, Some}
 use Rattle.bus_strings.specs.Messages.{Entry}
 use Rattle.bus_strings.specs.Transmissions.{overlaps, IsOrdered}
+use Rattle.bus_table.specs.declared.mode.Mode.{Mode}
 use Rattle.bus_table.specs.Tables.{Sender, Table, Hand}
 use Rattle.bus_table.specs.Turns.{turn_order}
 use Rattle.bus_medium.specs.Lawful.{IsLawful}
 use Rattle.bus_medium.specs.Timings.{quiet_of, stations_of}
-use Rattle.bus_regime.specs.Verdicts.{least_cycle, most_cycle}
+use Rattle.bus_regime.specs.declared.table_verdict.TableVerdict.TheVariants.{Accept}
+use Rattle.bus_regime.specs.Verdicts.{verdict_of}
 use Rattle.bus_schedule.specs.Even.{messages_of, rounds}
 use Rattle.bus_schedule.specs.Closed.{closed, closed_end}
 
@@ -28,10 +30,17 @@ pub record IsInTurns (table : Table) (hands : List Hand) (list : List Entry) : T
   pub turn : (round turn : ℕ) (sender : Sender) → round < rounds hands → slice_get (turn_order table) turn ≡ Some sender →
       HasTurn hands list (round * length table.senders + turn) round sender
 
--- two successive starts of one sender are at least a shortest cycle apart, and at most a longest
+-- x and y are of one sender, and y starts at least `least` and at most `most` bit times behind x
+pub record IsApart (least most : ℕ) (x y : Entry) : Type 0 where
+  pub one_sender : x.terminal ≡ y.terminal
+  pub no_sooner : x.moment + least ≤ y.moment
+  pub no_later : y.moment ≤ x.moment + most
+
+-- two successive starts of one sender are as far apart as the numbers say with which the verdict accepts the table: in periodic mode
+-- exactly one transmit interval
 pub record IsSpaced (table : Table) (list : List Entry) : Type 0 where
-  pub apart : (k : ℕ) (x y : Entry) → slice_get list k ≡ Some x → slice_get list (k + length table.senders) ≡ Some y →
-      (x.terminal ≡ y.terminal) × (x.moment + least_cycle table ≤ y.moment) × (y.moment ≤ x.moment + most_cycle table)
+  pub apart : (mode : Mode) (least most k : ℕ) (x y : Entry) → verdict_of table ≡ Accept mode least most → slice_get list k ≡ Some x
+      → slice_get list (k + length table.senders) ≡ Some y → IsApart least most x y
 
 -- The list is the run of a table and even hands:
 --   closed    it is the closed schedule, in whole
@@ -39,7 +48,7 @@ pub record IsSpaced (table : Table) (list : List Entry) : Type 0 where
 --   only      no other list is lawful up to there
 --   clear     no two transmissions overlap
 --   turns     every cycle holds each sender once, in turn order
---   spaced    successive starts of a sender are at least a shortest and at most a longest cycle apart
+--   spaced    successive starts of a sender are as far apart as the verdict says
 pub record IsRun (table : Table) (hands : List Hand) (list : List Entry) : Type 0 where
   pub closed : list ≡ closed table hands
   pub lawful : IsLawful (quiet_of table) (stations_of table hands) (closed_end table hands) list

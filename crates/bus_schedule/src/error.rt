@@ -5,7 +5,7 @@ use std::alloc::AllocError;
 use thiserror::Error;
 
 /// The longest closed end for which a schedule is given, in bit times: ten seconds. It is this project's profile.
-pub const LONGEST_END: u128 = 20_000_000;
+pub const LONGEST_END: u64 = 20_000_000;
 
 /// Why no schedule is given.
 #[derive(Clone, Copy, Debug, PartialEq, Eq, Error)]

@@ -3,9 +3,9 @@ ghost use Rattle.bus_schedule.specs.Laws.{AcceptedIsClosed, ClosedIsOrderly, Eve
 
 use bus_medium::laws::{chains_tell, one_lawful_list};
 
-/// For an accepted aperiodic table and even hands, of any length, the closed schedule is the one lawful list up to the
-/// closed end; no two of its transmissions overlap, every cycle holds each sender once in turn order, and successive
-/// starts of a sender are at least a shortest and at most a longest cycle apart.
+/// For an accepted table in either mode and even hands, of any length, the closed schedule is the one lawful list up to the
+/// closed end; no two of its transmissions overlap, every cycle holds each sender once in turn order, and successive starts of
+/// a sender are as far apart as the verdict says.
 pub fn accepted_is_closed()
     ensures { AcceptedIsClosed }
 {
@@ -13,7 +13,8 @@ pub fn accepted_is_closed()
     one_lawful_list();
 }
 
-/// The closed schedule of any aperiodic table and even hands ascends, has no overlap, and holds each sender once a cycle.
+/// The closed schedule of any table and even hands, accepted or not, ascends and holds each sender once a cycle; in aperiodic
+/// mode it has no overlap.
 pub fn closed_is_orderly()
     ensures { ClosedIsOrderly }
 {}

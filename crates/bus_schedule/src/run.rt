@@ -1,5 +1,4 @@
 ghost use Rattle.std.specs.Prelude.{◌≡◌, IsTrue, IfOk};
-ghost use Rattle.bus_table.specs.declared.mode.Mode.TheVariants.{Aperiodic};
 ghost use Rattle.bus_table.specs.Valid.{is_valid};
 ghost use Rattle.bus_medium.specs.Buses.{stations, StandsAt};
 ghost use Rattle.bus_medium.specs.Timings.{quiet_of, stations_of};
@@ -19,13 +18,15 @@ use bus_table::table::Table;
 use bus_timers::cores::Core;
 use std::alloc::Global;
 
-/// What a bus did: the list of its transmissions, and the bus after them.
+/// What a bus did: the list of its transmissions, the bus after them, and how far it went.
 #[derive(Drop)]
 pub struct Ran<C: Core> {
     /// The transmissions, in order.
     pub list: Vec<Transmission>,
     /// The bus, which stands at the closed end.
     pub bus: Bus<C>,
+    /// The closed end, in bit times.
+    pub end: u64,
 }
 
 /// Every table is valid, as each of its getters says.
@@ -35,8 +36,7 @@ fn table_is_valid(table: &Table)
     table.sg();
 }
 
-/// Runs the bus of an accepted aperiodic table and even hands from its settled start up to the closed end, bit time for
-/// bit time.
+/// Runs the bus of an accepted table and even hands from its settled start up to the closed end, bit time for bit time.
 ///
 /// The list is the run (`specs/Runs.antt`): the closed schedule in whole, and the only list that is lawful up to the
 /// closed end, at which the bus stands then.
@@ -48,10 +48,10 @@ pub fn run_settled<C: Core>(
     table: &Table,
     hands: Vec<Hand>,
 ) -> Result<Ran<C>, ScheduleError>
-    requires aperiodic { table.now.mode ≡ Aperiodic }
     requires accepted { IsTrue (is_accepted (verdict_of table.now)) }
     requires even { IsTrue (are_even table.now hands.items) }
     ensures run { IfOk result (λ ran. IsRun table.now hands.items ran.list.items) }
+    ensures end { IfOk result (λ ran. ran.end ≡ closed_end table.now hands.items) }
     ensures stands { IfOk result (λ ran. StandsAt ⟦<C as Core>⟧ ran.bus ran.list.items (closed_end table.now hands.items)) }
     ensures quiet { IfOk result (λ ran. ran.bus.quiet ≡ quiet_of table.now) }
     ensures stations { IfOk result (λ ran. stations ran.bus ≡ stations_of table.now hands.items) }
@@ -62,5 +62,5 @@ pub fn run_settled<C: Core>(
     let list = bus.observe(end)?;
     table_is_valid(table);
     accepted_is_closed();
-    Ok(Ran { list, bus })
+    Ok(Ran { list, bus, end })
 }

@@ -1,12 +1,12 @@
 ghost use Rattle.std.specs.Prelude.{IfOk, IsTrue};
 ghost use Rattle.bus_schedule.specs.Even.{are_even};
 
-use crate::closed::closed;
 use crate::end::closed_end;
 use crate::error::ScheduleError;
 use crate::run::run_settled;
+use crate::schedule::closed;
 use crate::uneven::find_uneven;
-use bus_regime::verdict::verdict;
+use bus_regime::verdict;
 use bus_strings::reading::read_messages;
 use bus_strings::transmission::Transmission;
 use bus_table::fit::fits;

@@ -1,19 +1,9 @@
 use Rattle.std.proofs.Common.{◌≡◌, length, arith, ap, ◌∙◌}
-use Rattle.bus_table.specs.Tables.{Hand}
 use Rattle.bus_table.specs.ValidLaws.{valid_facts}
 use Rattle.bus_schedule.specs.Even.{messages_of}
-use Rattle.bus_schedule.proofs.EvenLemmas.{read_sender, hand_within, message_there, message_at}
+use Rattle.bus_schedule.proofs.EvenLemmas.{read_sender}
 use Rattle.bus_schedule.proofs.EndLemmas.{sum_more}
 use Rattle.bus_schedule.proofs.end.round_length.Goals as goal
-
-pub bounds-hands-k : goal.bounds-hands-k
-bounds-hands-k c = hand_within c.args.table.now c.args.hands.now c.loop-k.k c.sender-item.result c.senders-sender-items.ensures.valid c.requires.even (read_sender c.args.table.now c.senders-sender-items.result.now c.loop-k.k c.sender-item.result c.senders-sender-items.ensures.value c.loop-k-test.true c.sender-item.is)
-
-pub index-requires : goal.index-requires
-index-requires c =
-    let at = read_sender c.args.table.now c.senders-sender-items.result.now c.loop-k.k c.sender-item.result c.senders-sender-items.ensures.value c.loop-k-test.true c.sender-item.is in
-    let there = message_there c.args.table.now c.args.hands.now c.loop-k.k c.args.round c.sender-item.result c.index-hands-k.result c.hand.inside.messages.items c.senders-sender-items.ensures.valid c.requires.even c.requires.round at c.index-hands-k.is (ap (λ (h : Hand). h.messages) c.hand.view_is) in
-    omega (arith, there, c.hand.inside.messages.ok.0)
 
 pub overflow_add-sum-in-loop-k : goal.overflow_add-sum-in-loop-k
 overflow_add-sum-in-loop-k c =
@@ -24,9 +14,8 @@ overflow_add-sum-in-loop-k c =
 pub loop-k-preserved : goal.loop-k-preserved
 loop-k-preserved c =
     let at = read_sender c.args.table.now c.senders-sender-items.result.now c.loop-k.k c.sender-item.result c.senders-sender-items.ensures.value c.loop-k-test.true c.sender-item.is in
-    let message = message_at c.args.table.now c.args.hands.now c.loop-k.k c.args.round c.sender-item.result c.index-hands-k.result c.hand.inside.messages.items c.index.result.now c.senders-sender-items.ensures.valid c.requires.even c.requires.round at c.index-hands-k.is (ap (λ (h : Hand). h.messages) c.hand.view_is) c.index.ensures in
     record {
-      sum = sum_more (messages_of c.args.hands.now) c.args.round c.senders-sender-items.result.now c.loop-k.k c.loop-k.sum c.from.result c.from-in-loop-k.result c.sender-item.result c.index.result.now c.loop-k-test.true c.sender-item.is c.loop-k.invariant.sum (c.from.ensures ∙ c.tg.ensures.value) (c.from-in-loop-k.ensures ∙ c.bits.ensures.value) message;
+      sum = sum_more (messages_of c.args.hands.now) c.args.round c.senders-sender-items.result.now c.loop-k.k c.loop-k.sum c.from.result c.from-in-loop-k.result c.sender-item.result c.message_at-message.result.now c.loop-k-test.true c.sender-item.is c.loop-k.invariant.sum (c.from.ensures ∙ c.tg.ensures.value) (c.from-in-loop-k.ensures ∙ c.bits.ensures.value) (c.message_at-message.ensures c.sender-item.result at);
       most = omega (arith, c.loop-k.invariant.most, c.bits.ensures.most);
     }
 

@@ -3,7 +3,7 @@ use Rattle.bus_table.specs.Turns.{turn_order}
 use Rattle.bus_schedule.specs.Even.{messages_of}
 use Rattle.bus_schedule.specs.Closed.{turns, turns_end}
 use Rattle.bus_schedule.proofs.PlaceLemmas.{Leads}
-use Rattle.bus_schedule.proofs.closed.add_round.Given as goal
+use Rattle.bus_schedule.proofs.schedule.add_by_gaps.Given as goal
 
 abbrev pub invariant-loop-place : goal.invariant-loop-place
 invariant-loop-place l =
