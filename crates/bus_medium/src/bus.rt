@@ -15,7 +15,7 @@ use crate::deciding::Roster;
 use crate::seat::Seat;
 use crate::seating::{by_number, numbers, seat_all};
 use crate::stretches::jump_all;
-use crate::timing::quiet;
+use crate::timings::quiet;
 use bus_strings::transmission::Transmission;
 use bus_table::hand::Hand;
 use bus_table::table::Table;
@@ -86,6 +86,13 @@ impl<C: Core> Bus<C> {
         ensures stations { OnOk result (stations self.new ≡ stations self.old) }
     {
         observe_all(self.alloc, &self.roster, &mut self.seats, horizon)
+    }
+
+    /// How many senders the bus has.
+    pub fn senders(&self) -> usize
+        ensures { result ≡ length self.now.seats }
+    {
+        self.seats.len()
     }
 }
 

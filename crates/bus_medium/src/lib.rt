@@ -23,6 +23,7 @@ mod seating;
 mod stretches;
 #[cfg(test)]
 mod tests;
-pub mod timing;
+pub mod timings;
 
 pub use crate::bus::{Bus, OBSERVE_LIMIT};
+pub use crate::timings::timing;

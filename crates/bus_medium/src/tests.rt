@@ -1,9 +1,12 @@
-ghost use Rattle.std.specs.Prelude.{◌≤◌};
+ghost use Rattle.std.specs.Prelude.{IfOk, IsTrue};
+ghost use Rattle.bus_table.specs.Hands.{are_hands};
 
-use crate::bus::Bus;
-use crate::timing::{quiet, timing};
+use crate::bus::{Bus, OBSERVE_LIMIT};
+use crate::timings::{quiet, timing};
+use bus_strings::limits::HORIZON_LIMIT;
 use bus_strings::pulses::is_on;
 use bus_strings::reading::read_messages;
+use bus_strings::transmission::Transmission;
 use bus_table::fit::fits;
 use bus_table::hand::Hand;
 use bus_table::hands::hands;
@@ -12,9 +15,11 @@ use bus_table::mode::Mode;
 use bus_table::sender::Sender;
 use bus_table::table::Table;
 use bus_timers::counter::CounterCore;
+use bus_timers::deadline::DeadlineCore;
 use bus_timers::plain::may_start;
 use bus_words::label::{Ext, Label};
 use std::alloc::{AllocError, Global};
+use std::cmp::min;
 use std::process::Abort;
 use std::test::Fail;
 
@@ -77,26 +82,47 @@ fn text(alloc: Global, items: &[Item<'_>]) -> Result<String, AllocError> {
     Ok(text)
 }
 
-/// The starts that the bus gives.
-fn starts(
+/// The starts of a list.
+fn starts_of(alloc: Global, list: &[Transmission]) -> Result<Starts, AllocError> {
+    let mut starts = Vec::new(alloc);
+    for x in list {
+        starts.push((x.moment, x.terminal))?;
+    }
+    Ok(starts)
+}
+
+/// The hands that these items give, where they fit.
+fn hands_of(alloc: Global, table: &Table, items: &[Item<'_>]) -> Result<Vec<Hand>, Fail>
+    ensures { IfOk result (λ hands. IsTrue (are_hands table.now.senders hands.items)) }
+{
+    let payloads = read_messages(alloc, text(alloc, items)?.as_bytes())?;
+    if fits(table, &payloads).is_err() {
+        return Err("fitting items".into());
+    }
+    Ok(hands(alloc, table, payloads)?)
+}
+
+/// The starts that the bus gives, bit time for bit time.
+fn starts(alloc: Global, table: &Table, items: &[Item<'_>], horizon: u64) -> Result<Starts, Fail> {
+    let mut bus = Bus::<CounterCore>::settled(alloc, table, hands_of(alloc, table, items)?)?;
+    let list = bus.observe(min(horizon, OBSERVE_LIMIT))?;
+    Ok(starts_of(alloc, &list)?)
+}
+
+/// The starts that the bus gives by jumps, and the most moves of a core.
+fn jumped(
     alloc: Global,
     table: &Table,
     items: &[Item<'_>],
     horizon: u64,
-) -> Result<Option<Starts>, Fail>
-    requires { horizon ≤ 20000000 }
-{
-    let payloads = read_messages(alloc, text(alloc, items)?.as_bytes())?;
-    if fits(table, &payloads).is_err() {
-        return Ok(None);
+) -> Result<(Starts, u64), Fail> {
+    let mut bus = Bus::<DeadlineCore>::settled(alloc, table, hands_of(alloc, table, items)?)?;
+    let list = bus.observe_by_jumps(min(horizon, HORIZON_LIMIT))?;
+    let mut most = 0;
+    for k in 0..bus.senders() {
+        most = bus.moves(k).max(most);
     }
-    let mut bus = Bus::<CounterCore>::settled(alloc, table, hands(alloc, table, payloads)?)?;
-    let list = bus.observe(horizon)?;
-    let mut starts = Vec::new(alloc);
-    for x in &list {
-        starts.push((x.moment, x.terminal))?;
-    }
-    Ok(Some(starts))
+    Ok((starts_of(alloc, &list)?, most))
 }
 
 /// The messages of a hand that were begun so far: their moments.
@@ -126,12 +152,8 @@ fn starts_by_definition(
     table: &Table,
     items: &[Item<'_>],
     horizon: u64,
-) -> Result<Option<Starts>, Fail> {
-    let payloads = read_messages(alloc, text(alloc, items)?.as_bytes())?;
-    if fits(table, &payloads).is_err() {
-        return Ok(None);
-    }
-    let hands = hands(alloc, table, payloads)?;
+) -> Result<Starts, Fail> {
+    let hands = hands_of(alloc, table, items)?;
     let quiet = quiet(table) as usize;
     let mut past = vec![in alloc; false; quiet]?;
     let mut sent = Vec::new(alloc);
@@ -154,23 +176,33 @@ fn starts_by_definition(
         let carrier = sent.iter().any(|(moment, place, k)| sounds(&hands, *place, *k, *moment, t));
         past.push(carrier)?;
     }
-    Ok(Some(starts))
+    Ok(starts)
 }
 
-/// The starts of the bus up to the horizon, which the definition gives too.
-fn agreed(
+/// What a run shows: up to a horizon these starts, and at most so many moves of a core by jumps.
+type Run<'a> = (u64, &'a [(u64, u8)], u64);
+
+/// The bus gives these starts up to the horizon, bit time for bit time and by jumps, and so does the definition.
+fn runs(
     rt: &impl Abort,
     alloc: Global,
     table: &Table,
     items: &[Item<'_>],
-    horizon: u64,
-) -> Result<Starts, Fail>
-    requires { horizon ≤ 20000000 }
-{
-    let starts = starts(alloc, table, items, horizon)?.ok_or("fitting items")?;
-    let plain = starts_by_definition(alloc, table, items, horizon)?.ok_or("fitting items")?;
-    assert!(rt; starts.as_slice() == plain.as_slice());
-    Ok(starts)
+    run: Run<'_>,
+) -> Result<(), Fail> {
+    let (horizon, expected, most) = run;
+    assert!(rt;
+        starts_by_definition(alloc, table, items, horizon)?.as_slice() == expected,
+        "defined to {horizon}"
+    );
+    assert!(rt;
+        starts(alloc, table, items, horizon)?.as_slice() == expected,
+        "to {horizon}"
+    );
+    let (starts, moves) = jumped(alloc, table, items, horizon)?;
+    assert!(rt; starts.as_slice() == expected, "jumped to {horizon}");
+    assert!(rt; moves <= most, "{moves} moves to {horizon}");
+    Ok(())
 }
 
 /// Two senders with terminal gaps 20 and 30, of one wordstring each, aperiodic.
@@ -190,67 +222,48 @@ fn two_periodic(alloc: Global, first_at: u32, second_at: u32) -> Result<Table, F
 
 const TWO_ROUNDS: [Item<'static>; 4] = [(1, &[2]), (2, &[30]), (1, &[2]), (2, &[30])];
 
+/// Longer messages of the first round delay the second. The horizon itself has no start; it lies at the settled start,
+/// where a message ends, inside a message, and at the start of another.
 #[test]
-fn two_rounds_of_an_aperiodic_table(rt: HostRuntime) -> Result<(), Fail> {
+fn messages_of_an_aperiodic_table_take_turns(rt: HostRuntime) -> Result<(), Fail> {
     let alloc = rt.alloc();
     let table = two_senders(alloc, 1000, 300)?;
-    let starts = agreed(&rt, alloc, &table, &TWO_ROUNDS, 1760)?;
-    assert_eq!(rt;
-        starts.as_slice(),
-        [(20, 1), (110, 2), (1050, 1), (1140, 2)].as_slice()
-    );
-    Ok(())
+    let to: [Run<'_>; 6] = [
+        (1760, &[(20, 1), (110, 2), (1050, 1), (1140, 2)], 9),
+        (0, &[], 0),
+        (80, &[(20, 1)], 2),
+        (60, &[(20, 1)], 2),
+        (110, &[(20, 1)], 3),
+        (111, &[(20, 1), (110, 2)], 4),
+    ];
+    for run in to {
+        runs(&rt, alloc, &table, &TWO_ROUNDS, run)?;
+    }
+    let longer: [Item<'_>; 4] = [(1, &[4]), (2, &[40]), (1, &[2]), (2, &[30])];
+    runs(
+        &rt,
+        alloc,
+        &table,
+        &longer,
+        (2000, &[(20, 1), (150, 2), (1290, 1), (1380, 2)], 9),
+    )
 }
 
+/// Each has sent its last message long before the horizon. The last of them runs to just there.
 #[test]
-fn longer_messages_of_the_first_round_delay_the_second(rt: HostRuntime) -> Result<(), Fail> {
-    let alloc = rt.alloc();
-    let table = two_senders(alloc, 1000, 300)?;
-    let items: [Item<'_>; 4] = [(1, &[4]), (2, &[40]), (1, &[2]), (2, &[30])];
-    let starts = agreed(&rt, alloc, &table, &items, 2000)?;
-    assert_eq!(rt;
-        starts.as_slice(),
-        [(20, 1), (150, 2), (1290, 1), (1380, 2)].as_slice()
-    );
-    Ok(())
-}
-
-/// Bit times 48 to 51 are quiet inside the first message, and nobody starts there.
-#[test]
-fn quiet_within_a_message_is_no_gap(rt: HostRuntime) -> Result<(), Fail> {
-    let alloc = rt.alloc();
-    let lines: [Line<'_>; 2] = [(1, 8, 0, &[(1, 1), (2, 2)]), (2, 9, 0, &[(20, 20)])];
-    let table = table(alloc, Mode::Aperiodic, 1000, 500, &lines)?.ok_or("a valid table")?;
-    let items: [Item<'_>; 2] = [(1, &[1, 2]), (2, &[20])];
-    let starts = agreed(&rt, alloc, &table, &items, 541)?;
-    assert_eq!(rt; starts.as_slice(), [(8, 1), (121, 2)].as_slice());
-    Ok(())
-}
-
-#[test]
-fn the_horizon_itself_has_no_start(rt: HostRuntime) -> Result<(), Fail> {
-    let alloc = rt.alloc();
-    let table = two_senders(alloc, 1000, 300)?;
-    let before = agreed(&rt, alloc, &table, &TWO_ROUNDS, 110)?;
-    assert_eq!(rt; before.as_slice(), [(20, 1)].as_slice());
-    let behind = agreed(&rt, alloc, &table, &TWO_ROUNDS, 111)?;
-    assert_eq!(rt; behind.as_slice(), [(20, 1), (110, 2)].as_slice());
-    let none = agreed(&rt, alloc, &table, &TWO_ROUNDS, 0)?;
-    assert!(rt; none.is_empty());
-    Ok(())
-}
-
-#[test]
-fn a_sender_without_messages_is_silent(rt: HostRuntime) -> Result<(), Fail> {
+fn a_spent_sender_waits_for_nothing(rt: HostRuntime) -> Result<(), Fail> {
     let alloc = rt.alloc();
     let table = two_senders(alloc, 1000, 1000)?;
-    let items: [Item<'_>; 3] = [(1, &[2]), (2, &[1]), (1, &[2])];
-    let starts = agreed(&rt, alloc, &table, &items, 3000)?;
-    assert_eq!(rt;
-        starts.as_slice(),
-        [(20, 1), (110, 2), (1170, 1)].as_slice()
-    );
-    Ok(())
+    let round: [Item<'_>; 2] = [(1, &[2]), (2, &[1])];
+    runs(&rt, alloc, &table, &round, (150, &[(20, 1), (110, 2)], 5))?;
+    let more: [Item<'_>; 3] = [(1, &[2]), (2, &[1]), (1, &[2])];
+    runs(
+        &rt,
+        alloc,
+        &table,
+        &more,
+        (3000, &[(20, 1), (110, 2), (1170, 1)], 7),
+    )
 }
 
 /// The transmit interval is longer than the cycle of gaps and messages: it decides about the second round.
@@ -258,55 +271,76 @@ fn a_sender_without_messages_is_silent(rt: HostRuntime) -> Result<(), Fail> {
 fn the_interval_delays_a_short_cycle(rt: HostRuntime) -> Result<(), Fail> {
     let alloc = rt.alloc();
     let table = two_senders(alloc, 1031, 300)?;
-    let starts = agreed(&rt, alloc, &table, &TWO_ROUNDS, 2000)?;
-    assert_eq!(rt;
-        starts.as_slice(),
-        [(20, 1), (110, 2), (1051, 1), (1141, 2)].as_slice()
-    );
+    runs(
+        &rt,
+        alloc,
+        &table,
+        &TWO_ROUNDS,
+        (2000, &[(20, 1), (110, 2), (1051, 1), (1141, 2)], 9),
+    )
+}
+
+/// Bit times 48 to 51 are quiet inside the first message, and nobody starts there. The horizon lies at both ends of
+/// that quiet, and inside it.
+#[test]
+fn quiet_within_a_message_is_no_gap(rt: HostRuntime) -> Result<(), Fail> {
+    let alloc = rt.alloc();
+    let lines: [Line<'_>; 2] = [(1, 8, 0, &[(1, 1), (2, 2)]), (2, 9, 0, &[(20, 20)])];
+    let table = table(alloc, Mode::Aperiodic, 1000, 500, &lines)?.ok_or("a valid table")?;
+    let items: [Item<'_>; 2] = [(1, &[1, 2]), (2, &[20])];
+    let to: [Run<'_>; 4] = [
+        (541, &[(8, 1), (121, 2)], 6),
+        (48, &[(8, 1)], 2),
+        (50, &[(8, 1)], 3),
+        (52, &[(8, 1)], 3),
+    ];
+    for run in to {
+        runs(&rt, alloc, &table, &items, run)?;
+    }
     Ok(())
 }
 
+/// Starts recur every interval. With one offset two begin at once, whichever ends first.
 #[test]
 fn starts_of_a_periodic_table_recur_every_interval(rt: HostRuntime) -> Result<(), Fail> {
     let alloc = rt.alloc();
-    let table = two_periodic(alloc, 0, 90)?;
-    let starts = agreed(&rt, alloc, &table, &TWO_ROUNDS, 2710)?;
-    assert_eq!(rt;
-        starts.as_slice(),
-        [(0, 1), (90, 2), (2000, 1), (2090, 2)].as_slice()
-    );
-    Ok(())
+    let apart = two_periodic(alloc, 0, 90)?;
+    runs(
+        &rt,
+        alloc,
+        &apart,
+        &TWO_ROUNDS,
+        (2710, &[(0, 1), (90, 2), (2000, 1), (2090, 2)], 9),
+    )?;
+    let at_once = two_periodic(alloc, 0, 0)?;
+    runs(
+        &rt,
+        alloc,
+        &at_once,
+        &TWO_ROUNDS,
+        (2001, &[(0, 1), (0, 2), (2000, 1), (2000, 2)], 9),
+    )
 }
 
-#[test]
-fn two_senders_with_one_offset_start_at_once(rt: HostRuntime) -> Result<(), Fail> {
-    let alloc = rt.alloc();
-    let table = two_periodic(alloc, 0, 0)?;
-    let starts = agreed(&rt, alloc, &table, &TWO_ROUNDS, 2001)?;
-    assert_eq!(rt;
-        starts.as_slice(),
-        [(0, 1), (0, 2), (2000, 1), (2000, 2)].as_slice()
-    );
-    Ok(())
-}
-
-/// The table lists its senders in any order; the list goes by number. Each sender keeps its own hand.
+/// The table lists its senders in any order; the list goes by number. Each sender keeps its own hand. Two messages of
+/// three that begin at once end at once too.
 #[test]
 fn the_list_goes_by_number(rt: HostRuntime) -> Result<(), Fail> {
     let alloc = rt.alloc();
     let lines: [Line<'_>; 3] = [
         (9, 30, 0, &[(30, 30)]),
         (128, 40, 0, &[(1, 1), (1, 1)]),
-        (4, 20, 0, &[(2, 2)]),
+        (4, 20, 0, &[(3, 3)]),
     ];
     let table = table(alloc, Mode::Periodic, 1000, 300, &lines)?.ok_or("a valid table")?;
-    let items: [Item<'_>; 4] = [(9, &[30]), (4, &[2]), (128, &[1, 1]), (4, &[2])];
-    let starts = agreed(&rt, alloc, &table, &items, 1800)?;
-    assert_eq!(rt;
-        starts.as_slice(),
-        [(0, 4), (0, 9), (0, 128), (1000, 4)].as_slice()
-    );
-    Ok(())
+    let items: [Item<'_>; 4] = [(9, &[30]), (4, &[3]), (128, &[1, 1]), (4, &[3])];
+    runs(
+        &rt,
+        alloc,
+        &table,
+        &items,
+        (1800, &[(0, 4), (0, 9), (0, 128), (1000, 4)], 8),
+    )
 }
 
 /// Offsets that collide, gaps that differ, messages of several wordstrings.
@@ -328,7 +362,21 @@ fn the_bus_follows_the_definition_where_messages_collide(rt: HostRuntime) -> Res
         (3, &[1, 0]),
         (3, &[1, 0]),
     ];
-    let starts = agreed(&rt, alloc, &table, &items, 3600)?;
-    assert_eq!(rt; starts.len(), 7);
+    let defined = starts_by_definition(alloc, &table, &items, 3600)?;
+    assert_eq!(rt; defined.len(), 7);
+    runs(&rt, alloc, &table, &items, (3600, defined.as_slice(), 29))
+}
+
+/// A run bit time for bit time would not end here.
+#[test]
+fn a_horizon_of_days_takes_few_moves(rt: HostRuntime) -> Result<(), Fail> {
+    let alloc = rt.alloc();
+    let table = two_senders(alloc, 1000, 300)?;
+    let (starts, moves) = jumped(alloc, &table, &TWO_ROUNDS, HORIZON_LIMIT)?;
+    assert_eq!(rt;
+        starts.as_slice(),
+        [(20, 1), (110, 2), (1050, 1), (1140, 2)].as_slice()
+    );
+    assert_eq!(rt; moves, 9);
     Ok(())
 }

@@ -4,7 +4,7 @@ use Rattle.std.proofs.lemmas.Option.{slice_get_read}
 use Rattle.bus_medium.specs.Timings.{due_for}
 use Rattle.bus_medium.specs.StationLaws.{timings_are_sound}
 use Rattle.bus_medium.proofs.Seats.{in_at}
-use Rattle.bus_medium.proofs.timing.timing.Goals as goal
+use Rattle.bus_medium.proofs.timings.timing.Goals as goal
 
 pub returns-clause-sound : goal.returns-clause-sound
 returns-clause-sound c =
