@@ -1,23 +1,18 @@
--- A text of a valid table reads as it, and every table that is read is aperiodic.
-use Rattle.std.specs.Prelude.{◌≡◌, ℕ, Bool, true, false, ◌&&◌, is_none, IfOk, IfErr, IsTrue, List, Option, Some, None, Result, Ok, Err}
-use Rattle.std.proofs.Common.{refl, sym, ap, ◌∙◌, cond}
+-- A text of a valid table reads as it, and each refusal has its cause.
+use Rattle.std.specs.Prelude.{◌≡◌, ℕ, Bool, true, false, ◌&&◌, is_none, IfErr, IsTrue, List, Option, Some, None, Result, Ok, Err}
+use Rattle.std.proofs.Common.{refl, sym, ap, ◌∙◌}
 use Rattle.std.proofs.lemmas.Bool.{and_parts}
 use Rattle.bus_text.specs.declared.reason.Reason.{Reason}
-use Rattle.bus_text.specs.declared.reason.Reason.TheVariants.{Ended}
-use Rattle.bus_text.specs.AllOf.{◌>>=◌}
-use Rattle.bus_text.specs.Lines.{entries_of, line_after_of}
 use Rattle.bus_text.specs.Refusals.{Refusal}
-use Rattle.bus_table.specs.declared.mode.Mode.TheVariants.{Aperiodic}
 use Rattle.bus_table.specs.declared.error.WholeReason.{WholeReason}
 use Rattle.bus_table.specs.declared.error.TableError.{TableError}
 use Rattle.bus_table.specs.declared.error.TableError.TheVariants.{Text, Whole, Memory}
-use Rattle.bus_table.specs.Drafts.{Draft, start, may_end}
 use Rattle.bus_table.specs.Gives.{Answers, Refuses}
 use Rattle.bus_table.specs.Tables.{Table}
-use Rattle.bus_table.specs.Text.{IsTableText, IsBuiltText, is_built}
+use Rattle.bus_table.specs.Text.{IsTableText}
 use Rattle.bus_table.specs.Valid.{is_valid, is_in_range}
 use Rattle.bus_table.specs.Whole.{whole_refusal}
-use Rattle.bus_table.specs.Reading.{steps, table_of, ended, text_reading, unless_whole, answered, answer_of}
+use Rattle.bus_table.specs.Reading.{text_reading, unless_whole, answered, answer_of}
 use Rattle.bus_table.proofs.TextLemmas.{text_again, text_found}
 
 none_is : {A : Type 0} (a : Option A) → is_none a ≡ true → a ≡ None
@@ -25,42 +20,19 @@ none_is None h = refl
 none_is (Some x) h = absurd (cc)
 
 -- a text of a valid table reads as it
-pub answer_again : (text : List ℕ) (table : Table) → IsTableText table text → IsTrue (is_built table) → IsTrue (is_valid table) → answer_of text ≡ Ok table
-answer_again text table stands built valid =
+pub answer_again : (text : List ℕ) (table : Table) → IsTableText table text → IsTrue (is_valid table) → answer_of text ≡ Ok table
+answer_again text table stands valid =
     let none = none_is (whole_refusal table) (and_parts (is_in_range table) (is_none (whole_refusal table)) valid).1 in
-    ap answered (text_again text table stands built) ∙ ap (λ r. unless_whole r table) none
+    ap answered (text_again text table stands) ∙ ap (λ r. unless_whole r table) none
 
 -- a table that is judged good is the one that was judged
 judged_same : (reason : Option WholeReason) (table good : Table) → unless_whole reason table ≡ Ok good → table ≡ good
 judged_same None table good h = cc
 judged_same (Some reason) table good h = absurd (cc)
 
--- a table that was chosen is the one that was offered
-chosen : (b : Bool) (offered table : Table) (refusal : Refusal) → cond b (Ok offered) (Err refusal) ≡ Ok table → offered ≡ table
-chosen true offered table refusal h = cc
-chosen false offered table refusal h = absurd (cc)
-
--- what a draft ends as is aperiodic
-ended_mode : (after : ℕ) (draft : Draft) (table : Table) → ended after draft ≡ Ok table → table.mode ≡ Aperiodic
-ended_mode after draft table h = sym (ap (λ (t : Table). t.mode) (chosen (may_end draft.place) (table_of draft) table (record { line = after; reason = Ended }) h))
-
-read_mode : (after : ℕ) (read : Result Draft Refusal) (table : Table) → (read >>= ended after) ≡ Ok table → table.mode ≡ Aperiodic
-read_mode after (Ok draft) table h = ended_mode after draft table h
-read_mode after (Err refusal) table h = absurd (cc)
-
-answered_mode : (read : Result Table Refusal) (table : Table) → answered read ≡ Ok table → read ≡ Ok table
-answered_mode (Ok t) table h = ap Ok (judged_same (whole_refusal t) t table h)
-answered_mode (Err refusal) table h = absurd (cc)
-
--- every table that is read is aperiodic, as long as no other is built
-pub answer_aperiodic : (text : List ℕ) (table : Table) → answer_of text ≡ Ok table → table.mode ≡ Aperiodic
-unfolding text_reading
-answer_aperiodic text table h = read_mode (line_after_of text) (steps start (entries_of text)) table (answered_mode (text_reading text) table h)
-
--- the same of an answer
-pub aperiodic_answer : (text : List ℕ) (answer : Result Table TableError) → Answers answer (answer_of text) → IfOk answer (λ table. table.mode ≡ Aperiodic)
-aperiodic_answer text (Ok table) h = answer_aperiodic text table h
-aperiodic_answer text (Err error) h = tt
+answered_table : (read : Result Table Refusal) (table : Table) → answered read ≡ Ok table → read ≡ Ok table
+answered_table (Ok t) table h = ap Ok (judged_same (whole_refusal t) t table h)
+answered_table (Err refusal) table h = absurd (cc)
 
 -- a table is judged good or refused as a whole, never by a line
 judged_whole : (reason : Option WholeReason) (table : Table) (line : ℕ) (why : Reason) → unless_whole reason table ≡ Err (Text line why) → ⊥
@@ -81,7 +53,7 @@ whole_table (Err refusal) why h = absurd (cc)
 pub refused_answer : (text : List ℕ) (answer : Result Table TableError) → Answers answer (answer_of text) → IfErr answer (Refuses text)
 refused_answer text (Ok table) h = tt
 refused_answer text (Err Memory) h = tt
-refused_answer text (Err (Text line reason)) h = λ table has. judged_whole (whole_refusal table) table line reason (sym (ap answered (text_again text table has.stands has.built)) ∙ h)
+refused_answer text (Err (Text line reason)) h = λ table has. judged_whole (whole_refusal table) table line reason (sym (ap answered (text_again text table has)) ∙ h)
 refused_answer text (Err (Whole reason)) h = let w = whole_table (text_reading text) reason h in (w.0, text_found text w.0 w.1, w.2)
 
 -- ---- the same of what a text reads as
@@ -103,7 +75,7 @@ both : (a b : Bool) → a ≡ true → b ≡ true → (a && b) ≡ true
 both true b h k = k
 both false b h k = absurd (cc)
 
-pub found_reading : (text : List ℕ) (table : Table) → answer_of text ≡ Ok table → IsBuiltText table text × IsTrue (is_valid table)
+pub found_reading : (text : List ℕ) (table : Table) → answer_of text ≡ Ok table → IsTableText table text × IsTrue (is_valid table)
 found_reading text table h =
-    let found : IsBuiltText table text = text_found text table (answered_mode (text_reading text) table h) in
-    (found, both (is_in_range table) (is_none (whole_refusal table)) found.stands.ranges (answered_none (text_reading text) table h))
+    let found : IsTableText table text = text_found text table (answered_table (text_reading text) table h) in
+    (found, both (is_in_range table) (is_none (whole_refusal table)) found.ranges (answered_none (text_reading text) table h))

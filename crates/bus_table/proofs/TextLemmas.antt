@@ -1,8 +1,9 @@
 -- A text and its table: what is read is what the text stands for, and what it stands for is read.
 use Rattle.std.proofs.Common.{arith, ◌≡◌, ℕ, ◌+◌, ◌<◌, ◌≤◌, Bool, true, false, cond, ◌&&◌, ◌==◌, nat_lt, nat_le, List, [], ◌∷◌, ◌++◌, length, map, codes, Option, Some, None, Result, Ok, Err, refl, sym, ap, subst, ◌∙◌, append_assoc}
+use Rattle.std.specs.Prelude.{IfOk}
 use Rattle.std.specs.List.{flat_map, list_all, AllByRecursion}
 use Rattle.std.specs.Int.{is_in_range as in_numbers}
-use Rattle.std.proofs.lemmas.Bool.{and_parts, eqb-true}
+use Rattle.std.proofs.lemmas.Bool.{and_parts}
 use Rattle.std.proofs.lemmas.Bool.Decides.{nat_tests}
 use Rattle.std.proofs.lemmas.List.{append-nil}
 use Rattle.bus_text.specs.declared.reason.Reason.{Reason}
@@ -16,21 +17,20 @@ use Rattle.bus_table.specs.declared.keyword.Keyword.{Keyword}
 use Rattle.bus_table.specs.declared.keyword.Keyword.TheVariants as keywords
 use Rattle.bus_table.specs.declared.place.Place.{Place}
 use Rattle.bus_table.specs.declared.place.Place.TheVariants as places
-use Rattle.bus_table.specs.Drafts.{Draft, start, last_count, may_follow, may_end, opened, with_send, with_last_send, form_reading, keyword_reading, line_reading}
-use Rattle.bus_table.specs.Forms.{keyword_of}
-use Rattle.bus_table.specs.Heads.{Head, is_head}
-use Rattle.bus_table.specs.Ranges.{is_number, is_tg, is_ti, is_sg, is_offset, is_send_line, are_send_lines, is_sender}
-use Rattle.std.specs.Prelude.{IfOk}
 use Rattle.bus_table.specs.declared.error.WholeReason.{WholeReason}
 use Rattle.bus_table.specs.declared.error.TableError.{TableError}
+use Rattle.bus_table.specs.Drafts.{Draft, start, of_last, may_come, may_end, opened, hearing, with_send, with_take, with_heard, with_last, form_reading, keyword_reading, line_reading}
+use Rattle.bus_table.specs.Forms.{keyword_of}
 use Rattle.bus_table.specs.Gives.{Answers}
-use Rattle.bus_table.specs.Whole.{whole_refusal}
+use Rattle.bus_table.specs.Heads.{Head, is_head}
+use Rattle.bus_table.specs.Ranges.{is_number, is_ti, is_sg, is_send_line, is_take_line, is_sender, is_listener}
 use Rattle.bus_table.specs.Reading.{step, steps, table_of, ended, text_reading, unless_whole, answered, answer_of}
 use Rattle.bus_table.specs.Tables.{SendLine, TakeLine, Sender, Listener, Table}
-use Rattle.bus_table.specs.Text.{Line, TableLine, ModeLine, TiLine, SgLine, SenderLine, Sends, sender_lines, lines_of, IsLine, AreLines, IsTableText, IsBuiltText, is_built}
-use Rattle.bus_table.specs.Valid.{is_in_range}
-use Rattle.bus_table.proofs.LineLemmas.{bind_ok, table_again, mode_again, number_line_again, sender_line_again, send_line_again}
-use Rattle.bus_table.proofs.ReadingLemmas.{Kept, Built, draft_lines, line_adds, no_takes}
+use Rattle.bus_table.specs.Text.{Line, TableLine, ModeLine, TiLine, SgLine, SenderLine, Sends, Takes, ListenerLine, sender_lines, listener_lines, lines_of, IsLine, AreLines, IsTableText}
+use Rattle.bus_table.specs.Valid.{fits_mode, is_in_range}
+use Rattle.bus_table.specs.Whole.{whole_refusal}
+use Rattle.bus_table.proofs.LineLemmas.{bind_ok, table_again, mode_again, number_line_again, head_line_again, send_line_again, take_line_again, fits_offset}
+use Rattle.bus_table.proofs.ReadingLemmas.{Kept, Made, ranges_of, draft_of, draft_lines, line_adds}
 
 -- ---- found
 line_ok : {A : Type 0} (line : ℕ) (r : Result A Reason) (x : A) → at_line line r ≡ Ok x → r ≡ Ok x
@@ -43,60 +43,60 @@ lines_push mode [] (e ∷ entries) line entry h k = absurd h
 lines_push mode (l ∷ lines) [] line entry h k = absurd h
 lines_push mode (l ∷ lines) (e ∷ entries) line entry h k = (h.0, lines_push mode lines entries line entry h.1 k)
 
-steps_found : (entries before : List Entry) (old new : Draft) → Kept old → AreLines Aperiodic (draft_lines old) before → steps old entries ≡ Ok new → AreLines Aperiodic (draft_lines new) (before ++ entries) × Kept new
+steps_found : (entries before : List Entry) (old new : Draft) → Kept old → AreLines old.mode (draft_lines old) before → steps old entries ≡ Ok new → AreLines new.mode (draft_lines new) (before ++ entries) × Kept new
 unfolding steps
 steps_found [] before old new kept lines h =
     let same : old ≡ new = cc in
-    subst (λ (d : Draft). AreLines Aperiodic (draft_lines d) (before ++ []) × Kept d) same (subst (λ (es : List Entry). AreLines Aperiodic (draft_lines old) es) (sym (append-nil before)) lines, kept)
+    subst (λ (d : Draft). AreLines d.mode (draft_lines d) (before ++ []) × Kept d) same (subst (λ (es : List Entry). AreLines old.mode (draft_lines old) es) (sym (append-nil before)) lines, kept)
 steps_found (entry ∷ entries) before old new kept lines h =
     let first = bind_ok (step old entry) (λ next. steps next entries) new h in
     let adds = line_adds old first.0 entry.fields kept (line_ok entry.number (line_reading old entry.fields) first.0 first.1) in
-    let more = subst (λ (ls : List Line). AreLines Aperiodic ls (before ++ entry ∷ [])) (sym adds.lines) (lines_push Aperiodic (draft_lines old) before adds.line entry lines adds.says) in
-    subst (λ (es : List Entry). AreLines Aperiodic (draft_lines new) es × Kept new) (append_assoc before (entry ∷ []) entries) (steps_found entries (before ++ entry ∷ []) first.0 new adds.kept more first.2)
+    let more = subst (λ (ls : List Line). AreLines first.0.mode ls (before ++ entry ∷ [])) (sym adds.lines) (lines_push first.0.mode (draft_lines old) before adds.line entry (adds.carries before lines) adds.says) in
+    subst (λ (es : List Entry). AreLines new.mode (draft_lines new) es × Kept new) (append_assoc before (entry ∷ []) entries) (steps_found entries (before ++ entry ∷ []) first.0 new adds.kept more first.2)
 
 both : (a b : Bool) → a ≡ true → b ≡ true → (a && b) ≡ true
 both true true h k = refl
 both false b h k = absurd cc
 both true false h k = absurd cc
 
-senders_range : (senders : List Sender) → AllByRecursion Built senders → list_all is_sender senders ≡ true
-senders_range [] h = refl
-senders_range (s ∷ senders) h = both _ _ h.0.range (senders_range senders h.1)
+senders_range : (mode : Mode) (senders : List Sender) → AllByRecursion (Made mode) senders → list_all is_sender senders ≡ true
+senders_range mode [] h = refl
+senders_range mode (s ∷ senders) h = both _ _ h.0.range (senders_range mode senders h.1)
 
-zero_test : (n : ℕ) → n ≡ 0 → (n == 0) ≡ true
-zero_test n h = ap (λ m. m == 0) h
+listeners_range : (listeners : List Listener) → AllByRecursion (λ l. is_listener l ≡ true) listeners → list_all is_listener listeners ≡ true
+listeners_range [] h = refl
+listeners_range (l ∷ listeners) h = both _ _ h.0 (listeners_range listeners h.1)
 
-no_offsets : (senders : List Sender) → AllByRecursion Built senders → list_all (λ sender. sender.at == 0) senders ≡ true
-no_offsets [] h = refl
-no_offsets (s ∷ senders) h = both _ _ (zero_test s.at h.0.offset) (no_offsets senders h.1)
+mode_fits : (mode : Mode) (senders : List Sender) → AllByRecursion (Made mode) senders → fits_mode mode senders ≡ true
+mode_fits Aperiodic [] h = refl
+mode_fits Aperiodic (s ∷ senders) h = both _ _ h.0.offset (mode_fits Aperiodic senders h.1)
+mode_fits Periodic senders h = refl
 
-in_ranges : (ti sg : ℕ) (senders : List Sender) → is_ti ti ≡ true → is_sg sg ≡ true → AllByRecursion Built senders → is_in_range (record { mode = Aperiodic; ti = ti; sg = sg; senders = senders; listeners = [] }) ≡ true
-in_ranges ti sg senders t s h = both _ _ t (both _ _ s (both _ _ (senders_range senders h) (both _ _ refl (no_offsets senders h))))
-
-no_take_lines : (senders : List Sender) → AllByRecursion Built senders → list_all (λ sender. length sender.takes == 0) senders ≡ true
-no_take_lines [] h = refl
-no_take_lines (s ∷ senders) h = both _ _ (zero_test (length s.takes) (ap length h.0.takes)) (no_take_lines senders h.1)
+table_range : (draft : Draft) → is_ti draft.ti ≡ true → is_sg draft.sg ≡ true → Kept draft → is_in_range (table_of draft) ≡ true
+table_range draft t s kept =
+    both _ _ t (both _ _ s (both _ _ (senders_range draft.mode draft.senders kept.made) (both _ _ (listeners_range draft.listeners kept.heard) (mode_fits draft.mode draft.senders kept.made))))
 
 -- the table of a draft that may end
 pub record Whole (draft : Draft) (entries : List Entry) : Type 0 where
   pub ranges : is_in_range (table_of draft) ≡ true
-  pub built : is_built (table_of draft) ≡ true
-  pub lines : AreLines Aperiodic (lines_of (table_of draft)) entries
+  pub lines : AreLines draft.mode (lines_of (table_of draft)) entries
 
-whole_at : (place : Place) (ti sg : ℕ) (senders : List Sender) (entries : List Entry) → may_end place ≡ true → Kept (record { place = place; ti = ti; sg = sg; senders = senders }) → AreLines Aperiodic (draft_lines (record { place = place; ti = ti; sg = sg; senders = senders })) entries
-    → Whole (record { place = place; ti = ti; sg = sg; senders = senders }) entries
-whole_at places.Sg ti sg senders entries may kept lines = record { ranges = in_ranges ti sg senders kept.stands.0 kept.stands.1 kept.built; built = both _ _ (no_take_lines senders kept.built) refl; lines = lines }
-whole_at places.Send ti sg senders entries may kept lines = record { ranges = in_ranges ti sg senders kept.stands.0 kept.stands.1 kept.built; built = both _ _ (no_take_lines senders kept.built) refl; lines = lines }
-whole_at place ti sg senders entries may kept lines = absurd cc
+whole_at : (place : Place) (mode : Mode) (ti sg : ℕ) (senders : List Sender) (listeners : List Listener) (entries : List Entry) → may_end place ≡ true → Kept (draft_of place mode ti sg senders listeners)
+    → AreLines mode (draft_lines (draft_of place mode ti sg senders listeners)) entries → Whole (draft_of place mode ti sg senders listeners) entries
+whole_at places.Sg mode ti sg senders listeners entries may kept lines = record { ranges = table_range _ kept.stands.0 kept.stands.1 kept; lines = lines }
+whole_at places.Send mode ti sg senders listeners entries may kept lines = record { ranges = table_range _ kept.stands.0 kept.stands.1 kept; lines = lines }
+whole_at places.Take mode ti sg senders listeners entries may kept lines = record { ranges = table_range _ kept.stands.0 kept.stands.1 kept; lines = lines }
+whole_at places.Listener mode ti sg senders listeners entries may kept lines = record { ranges = table_range _ kept.stands.0 kept.stands.1 kept; lines = lines }
+whole_at place mode ti sg senders listeners entries may kept lines = absurd cc
 
 started : Kept start
-started = record { built = tt; stands = refl }
+started = record { made = tt; heard = tt; stands = (refl, refl) }
 
 -- the draft that the lines of a text leave, where it may end, is the table that the text stands for
 pub steps_whole : (entries : List Entry) (draft : Draft) → steps start entries ≡ Ok draft → may_end draft.place ≡ true → Whole draft entries
 steps_whole entries draft h may =
     let found = steps_found entries [] start draft started tt h in
-    whole_at draft.place draft.ti draft.sg draft.senders entries may found.1 found.0
+    whole_at draft.place draft.mode draft.ti draft.sg draft.senders draft.listeners entries may found.1 found.0
 
 abbrev read_table : Draft → Result Table Refusal
 read_table draft = Ok (table_of draft)
@@ -105,13 +105,13 @@ ended_ok : (after : ℕ) (draft : Draft) (t : Bool) (table : Table) → may_end 
 ended_ok after draft true table may h = (may, cc)
 ended_ok after draft false table may h = absurd cc
 
-pub text_found : (text : List ℕ) (table : Table) → text_reading text ≡ Ok table → IsBuiltText table text
+pub text_found : (text : List ℕ) (table : Table) → text_reading text ≡ Ok table → IsTableText table text
 unfolding text_reading
 text_found text table h =
     let last = bind_ok (steps start (entries_of text)) (ended (line_after_of text)) table h in
     let end = ended_ok (line_after_of text) last.0 (may_end last.0.place) table refl last.2 in
     let whole = steps_whole (entries_of text) last.0 last.1 end.0 in
-    subst (λ (t : Table). IsBuiltText t text) end.1 (record { stands = record { ranges = whole.ranges; lines = whole.lines }; built = whole.built })
+    subst (λ (t : Table). IsTableText t text) end.1 (record { ranges = whole.ranges; lines = whole.lines })
 
 -- a table that was answered was read
 judged_ok : (raw table : Table) (whole : Option WholeReason) → unless_whole whole raw ≡ Ok table → raw ≡ table
@@ -122,12 +122,12 @@ answered_ok : (reading : Result Table Refusal) (table : Table) → answered read
 answered_ok (Ok raw) table h = ap Ok (judged_ok raw table (whole_refusal raw) h)
 answered_ok (Err refusal) table h = absurd cc
 
-pub answer_found : (text : List ℕ) (answer : Result Table TableError) → Answers answer (answer_of text) → IfOk answer (λ table. IsBuiltText table text)
+pub answer_found : (text : List ℕ) (answer : Result Table TableError) → Answers answer (answer_of text) → IfOk answer (λ table. IsTableText table text)
 answer_found text (Ok table) h = text_found text table (answered_ok (text_reading text) table h)
 answer_found text (Err error) h = tt
 
 -- ---- and again
-word_line : (fields : List (List ℕ)) (keyword : Keyword) (draft : Draft) → keyword_of fields ≡ Some keyword → may_follow draft.place (last_count draft.senders) keyword ≡ true → line_reading draft fields ≡ form_reading draft keyword fields
+word_line : (fields : List (List ℕ)) (keyword : Keyword) (draft : Draft) → keyword_of fields ≡ Some keyword → may_come draft keyword ≡ true → line_reading draft fields ≡ form_reading draft keyword fields
 unfolding line_reading
 word_line fields keyword draft e may = ap (λ k. keyword_reading draft k fields) e ∙ ap (λ t. cond t (form_reading draft keyword fields) (Err reasons.Keyword)) may
 
@@ -136,230 +136,397 @@ takes_line : (draft next : Draft) (entry : Entry) (entries : List Entry) → lin
 unfolding steps
 takes_line draft next entry entries h = ap (λ r. at_line entry.number r >>= λ d. steps d entries) h
 
--- a draft of these parts
-abbrev draft_of : Place → ℕ → ℕ → List Sender → Draft
-draft_of place ti sg senders = record { place = place; ti = ti; sg = sg; senders = senders }
+-- what a line makes of a draft
+read_as : {A : Type 0} (make : A → Draft) (r : Result A Reason) (x : A) → r ≡ Ok x → (r >>= λ y. Ok (make y)) ≡ Ok (make x)
+read_as make r x h = ap (λ q. q >>= λ y. Ok (make y)) h
 
-table_line : (fields : List (List ℕ)) → IsLine Aperiodic TableLine fields → line_reading start fields ≡ Ok (draft_of places.Table 0 0 [])
-table_line fields h = word_line fields keywords.Table start (ap keyword_of h) refl ∙ ap (λ r. r >>= λ _. Ok (draft_of places.Table 0 0 [])) (table_again fields h)
+-- a table of this mode before its senders, and of these listeners behind them
+abbrev in_head : Place → Mode → ℕ → ℕ → Draft
+in_head place mode ti sg = draft_of place mode ti sg [] []
 
-mode_line : (fields : List (List ℕ)) → IsLine Aperiodic (ModeLine Aperiodic) fields → line_reading (draft_of places.Table 0 0 []) fields ≡ Ok (draft_of places.Mode 0 0 [])
-mode_line fields h = word_line fields keywords.Mode (draft_of places.Table 0 0 []) (ap keyword_of h) refl ∙ ap (λ r. r >>= λ _. Ok (draft_of places.Mode 0 0 [])) (mode_again fields h)
+table_line : (mode : Mode) (fields : List (List ℕ)) → IsLine mode TableLine fields → line_reading start fields ≡ Ok (in_head places.Table Aperiodic 0 0)
+table_line mode fields h = word_line fields keywords.Table start (ap keyword_of h) refl ∙ ap (λ r. r >>= λ _. Ok (in_head places.Table Aperiodic 0 0)) (table_again fields h)
 
-ti_line : (ti : ℕ) (fields : List (List ℕ)) → IsLine Aperiodic (TiLine ti) fields → is_ti ti ≡ true → line_reading (draft_of places.Mode 0 0 []) fields ≡ Ok (draft_of places.Ti ti 0 [])
-ti_line ti fields h r =
-    word_line fields keywords.Ti (draft_of places.Mode 0 0 []) (ap keyword_of h.parts) refl
-    ∙ ap (λ (n : Result ℕ Reason). n >>= λ t. Ok (draft_of places.Ti t 0 [])) (number_line_again is_ti fields (codes "TI") ti h r)
+mode_line : (mode : Mode) (fields : List (List ℕ)) → IsLine mode (ModeLine mode) fields → line_reading (in_head places.Table Aperiodic 0 0) fields ≡ Ok (in_head places.Mode mode 0 0)
+mode_line mode fields h =
+    word_line fields keywords.Mode (in_head places.Table Aperiodic 0 0) (ap keyword_of h) refl
+    ∙ read_as (λ m. in_head places.Mode m 0 0) _ mode (mode_again mode fields h)
 
-sg_line : (ti sg : ℕ) (fields : List (List ℕ)) → IsLine Aperiodic (SgLine sg) fields → is_sg sg ≡ true → line_reading (draft_of places.Ti ti 0 []) fields ≡ Ok (draft_of places.Sg ti sg [])
-sg_line ti sg fields h r =
-    word_line fields keywords.Sg (draft_of places.Ti ti 0 []) (ap keyword_of h.parts) refl
-    ∙ ap (λ (n : Result ℕ Reason). n >>= λ s. Ok (draft_of places.Sg ti s [])) (number_line_again is_sg fields (codes "SG") sg h r)
+ti_line : (mode : Mode) (ti : ℕ) (fields : List (List ℕ)) → IsLine mode (TiLine ti) fields → is_ti ti ≡ true → line_reading (in_head places.Mode mode 0 0) fields ≡ Ok (in_head places.Ti mode ti 0)
+ti_line mode ti fields h r =
+    word_line fields keywords.Ti (in_head places.Mode mode 0 0) (ap keyword_of h.parts) refl
+    ∙ read_as (λ t. in_head places.Ti mode t 0) _ ti (number_line_again is_ti fields (codes "TI") ti h r)
 
-sender_line : (place : Place) (ti sg : ℕ) (done : List Sender) (head : Head) (fields : List (List ℕ)) → may_follow place (last_count done) keywords.Sender ≡ true → IsLine Aperiodic (SenderLine head.number head.tg 0) fields → is_head head ≡ true
-    → line_reading (draft_of place ti sg done) fields ≡ Ok (draft_of (places.Sender head) ti sg done)
-sender_line place ti sg done head fields may h r =
-    word_line fields keywords.Sender (draft_of place ti sg done) (ap keyword_of h.parts) may
-    ∙ ap (λ (n : Result Head Reason). n >>= λ h. Ok (draft_of (places.Sender h) ti sg done)) (sender_line_again fields head h r)
+sg_line : (mode : Mode) (ti sg : ℕ) (fields : List (List ℕ)) → IsLine mode (SgLine sg) fields → is_sg sg ≡ true → line_reading (in_head places.Ti mode ti 0) fields ≡ Ok (in_head places.Sg mode ti sg)
+sg_line mode ti sg fields h r =
+    word_line fields keywords.Sg (in_head places.Ti mode ti 0) (ap keyword_of h.parts) refl
+    ∙ read_as (λ s. in_head places.Sg mode ti s) _ sg (number_line_again is_sg fields (codes "SG") sg h r)
 
-first_send : (ti sg : ℕ) (done : List Sender) (head : Head) (line : SendLine) (fields : List (List ℕ)) → IsLine Aperiodic (Sends line) fields → is_send_line line ≡ true
-    → line_reading (draft_of (places.Sender head) ti sg done) fields ≡ Ok (draft_of places.Send ti sg (done ++ opened head line ∷ []))
-first_send ti sg done head line fields h r =
-    word_line fields keywords.Send (draft_of (places.Sender head) ti sg done) (ap keyword_of h.parts) refl
-    ∙ ap (λ (n : Result SendLine Reason). n >>= λ l. Ok (draft_of places.Send ti sg (done ++ opened head l ∷ []))) (send_line_again fields line h r)
+-- the keyword of a SENDER line
+sender_word : (mode : Mode) (n tg at : ℕ) (fields : List (List ℕ)) → IsLine mode (SenderLine n tg at) fields → keyword_of fields ≡ Some keywords.Sender
+sender_word Aperiodic n tg at fields h = ap keyword_of h.parts
+sender_word Periodic n tg at fields h = ap keyword_of h.parts
 
-room : (n : ℕ) → n < 31 → nat_lt n 31 ≡ true
-room n h = grind (arith, nat_tests)
+-- the places at which a sender block may begin
+abbrev may_send : Place → Bool
+may_send places.Sg = true
+may_send places.Send = true
+may_send places.Take = true
+may_send place = false
 
-next_send : (ti sg : ℕ) (senders : List Sender) (line : SendLine) (fields : List (List ℕ)) → last_count senders < 31 → IsLine Aperiodic (Sends line) fields → is_send_line line ≡ true
-    → line_reading (draft_of places.Send ti sg senders) fields ≡ Ok (draft_of places.Send ti sg (with_last_send line senders))
-next_send ti sg senders line fields few h r =
-    word_line fields keywords.Send (draft_of places.Send ti sg senders) (ap keyword_of h.parts) (room (last_count senders) few)
-    ∙ ap (λ (n : Result SendLine Reason). n >>= λ l. Ok (draft_of places.Send ti sg (with_last_send l senders))) (send_line_again fields line h r)
+sender_may : (place : Place) (mode : Mode) (ti sg : ℕ) (done : List Sender) → may_send place ≡ true → may_come (draft_of place mode ti sg done []) keywords.Sender ≡ true
+sender_may places.Sg mode ti sg done h = refl
+sender_may places.Send mode ti sg done h = refl
+sender_may places.Take mode ti sg done h = refl
+sender_may place mode ti sg done h = absurd cc
 
--- the last of some senders
-last_count-push : (done : List Sender) (sender : Sender) → last_count (done ++ sender ∷ []) ≡ length sender.sends
-last_count-push [] sender = refl
-last_count-push (s ∷ []) sender = refl
-last_count-push (s ∷ t ∷ done) sender = last_count-push (t ∷ done) sender
+sender_line : (place : Place) (mode : Mode) (ti sg : ℕ) (done : List Sender) (head : Head) (fields : List (List ℕ)) → may_send place ≡ true → IsLine mode (SenderLine head.number head.tg head.at) fields → is_head head ≡ true → fits_offset mode head.at ≡ true
+    → line_reading (draft_of place mode ti sg done []) fields ≡ Ok (draft_of (places.Sender head) mode ti sg done [])
+sender_line place mode ti sg done head fields may h r fits =
+    word_line fields keywords.Sender (draft_of place mode ti sg done []) (sender_word mode head.number head.tg head.at fields h) (sender_may place mode ti sg done may)
+    ∙ read_as (λ h. draft_of (places.Sender h) mode ti sg done []) _ head (head_line_again mode fields head h r fits)
 
-with_last_send-push : (done : List Sender) (sender : Sender) (line : SendLine) → with_last_send line (done ++ sender ∷ []) ≡ done ++ with_send sender line ∷ []
-with_last_send-push [] sender line = refl
-with_last_send-push (s ∷ []) sender line = refl
-with_last_send-push (s ∷ t ∷ done) sender line = ap (λ (ss : List Sender). s ∷ ss) (with_last_send-push (t ∷ done) sender line)
+first_send : (mode : Mode) (ti sg : ℕ) (done : List Sender) (head : Head) (line : SendLine) (fields : List (List ℕ)) → IsLine mode (Sends line) fields → is_send_line line ≡ true
+    → line_reading (draft_of (places.Sender head) mode ti sg done []) fields ≡ Ok (draft_of places.Send mode ti sg (done ++ opened head line ∷ []) [])
+first_send mode ti sg done head line fields h r =
+    word_line fields keywords.Send (draft_of (places.Sender head) mode ti sg done []) (ap keyword_of h.parts) refl
+    ∙ read_as (λ l. draft_of places.Send mode ti sg (done ++ opened head l ∷ []) []) _ line (send_line_again fields line h r)
 
--- the lines behind those of a sender, once these are read
-record Behind (draft made : Draft) (more : List Line) (entries : List Entry) : Type 0 where
+room : (n most : ℕ) → n < most → nat_lt n most ≡ true
+room n most h = grind (arith, nat_tests)
+
+-- the last of some
+of_last-push : {X : Type 0} (count : X → ℕ) (xs : List X) (x : X) → of_last count (xs ++ x ∷ []) ≡ count x
+of_last-push count [] x = refl
+of_last-push count (y ∷ []) x = refl
+of_last-push count (y ∷ z ∷ xs) x = of_last-push count (z ∷ xs) x
+
+with_last-push : {X : Type 0} (change : X → X) (xs : List X) (x : X) → with_last change (xs ++ x ∷ []) ≡ xs ++ change x ∷ []
+with_last-push change [] x = refl
+with_last-push change (y ∷ []) x = refl
+with_last-push change (y ∷ z ∷ xs) x = ap (λ zs. y ∷ zs) (with_last-push change (z ∷ xs) x)
+
+next_send : (mode : Mode) (ti sg : ℕ) (done : List Sender) (sender : Sender) (line : SendLine) (fields : List (List ℕ)) → length sender.sends < 31 → IsLine mode (Sends line) fields → is_send_line line ≡ true
+    → line_reading (draft_of places.Send mode ti sg (done ++ sender ∷ []) []) fields ≡ Ok (draft_of places.Send mode ti sg (done ++ with_send line sender ∷ []) [])
+next_send mode ti sg done sender line fields few h r =
+    let senders = done ++ sender ∷ [] in
+    let count = of_last-push (λ (s : Sender). length s.sends) done sender in
+    word_line fields keywords.Send (draft_of places.Send mode ti sg senders []) (ap keyword_of h.parts) (ap (λ n. nat_lt n 31) count ∙ room (length sender.sends) 31 few)
+    ∙ read_as (λ l. draft_of places.Send mode ti sg (with_last (with_send l) senders) []) _ line (send_line_again fields line h r)
+    ∙ ap (λ (ss : List Sender). Ok (draft_of places.Send mode ti sg ss [])) (with_last-push (with_send line) done sender)
+
+-- the places of a sender's lines
+abbrev is_sent : Place → Bool
+is_sent places.Send = true
+is_sent places.Take = true
+is_sent place = false
+
+next_take : (place : Place) (mode : Mode) (ti sg : ℕ) (done : List Sender) (sender : Sender) (line : TakeLine) (fields : List (List ℕ)) → is_sent place ≡ true → length sender.takes < 64 → IsLine mode (Takes line) fields → is_take_line line ≡ true
+    → line_reading (draft_of place mode ti sg (done ++ sender ∷ []) []) fields ≡ Ok (draft_of places.Take mode ti sg (done ++ with_take line sender ∷ []) [])
+next_take places.Send mode ti sg done sender line fields sent few h r =
+    let senders = done ++ sender ∷ [] in
+    let count = of_last-push (λ (s : Sender). length s.takes) done sender in
+    word_line fields keywords.Take (draft_of places.Send mode ti sg senders []) (ap keyword_of h.parts) (ap (λ n. nat_lt n 64) count ∙ room (length sender.takes) 64 few)
+    ∙ read_as (λ l. draft_of places.Take mode ti sg (with_last (with_take l) senders) []) _ line (take_line_again fields line h r)
+    ∙ ap (λ (ss : List Sender). Ok (draft_of places.Take mode ti sg ss [])) (with_last-push (with_take line) done sender)
+next_take places.Take mode ti sg done sender line fields sent few h r =
+    let senders = done ++ sender ∷ [] in
+    let count = of_last-push (λ (s : Sender). length s.takes) done sender in
+    word_line fields keywords.Take (draft_of places.Take mode ti sg senders []) (ap keyword_of h.parts) (ap (λ n. nat_lt n 64) count ∙ room (length sender.takes) 64 few)
+    ∙ read_as (λ l. draft_of places.Take mode ti sg (with_last (with_take l) senders) []) _ line (take_line_again fields line h r)
+    ∙ ap (λ (ss : List Sender). Ok (draft_of places.Take mode ti sg ss [])) (with_last-push (with_take line) done sender)
+next_take place mode ti sg done sender line fields sent few h r = absurd cc
+
+-- the lines behind those of a terminal, once these are read
+record Behind (draft made : Draft) (mode : Mode) (more : List Line) (entries : List Entry) : Type 0 where
   rest : List Entry
-  lines : AreLines Aperiodic more rest
+  lines : AreLines mode more rest
   same : steps draft entries ≡ steps made rest
 
--- a sender with more SEND lines
+-- a terminal with more lines
 abbrev with_sends : Sender → List SendLine → Sender
 with_sends sender [] = sender
-with_sends sender (line ∷ lines) = with_sends (with_send sender line) lines
+with_sends sender (line ∷ lines) = with_sends (with_send line sender) lines
 
-count_push : (sends : List SendLine) (line : SendLine) → length (sends ++ line ∷ []) ≡ length sends + 1
-count_push [] line = refl
-count_push (s ∷ sends) line = omega (arith, count_push sends line)
+abbrev with_takes : Sender → List TakeLine → Sender
+with_takes sender [] = sender
+with_takes sender (line ∷ lines) = with_takes (with_take line sender) lines
 
-sends_again : (lines : List SendLine) (ti sg : ℕ) (done : List Sender) (sender : Sender) (more : List Line) (entries : List Entry) → list_all is_send_line lines ≡ true → length sender.sends + length lines ≤ 31
-    → AreLines Aperiodic (map Sends lines ++ more) entries → Behind (draft_of places.Send ti sg (done ++ sender ∷ [])) (draft_of places.Send ti sg (done ++ with_sends sender lines ∷ [])) more entries
-sends_again [] ti sg done sender more entries h few are = record { rest = entries; lines = are; same = refl }
-sends_again (line ∷ lines) ti sg done sender more [] h few are = absurd are
-sends_again (line ∷ lines) ti sg done sender more (entry ∷ entries) h few are =
+abbrev with_all_heard : Listener → List TakeLine → Listener
+with_all_heard listener [] = listener
+with_all_heard listener (line ∷ lines) = with_all_heard (with_heard line listener) lines
+
+count_push : {X : Type 0} (xs : List X) (x : X) → length (xs ++ x ∷ []) ≡ length xs + 1
+count_push [] x = refl
+count_push (y ∷ xs) x = omega (arith, count_push xs x)
+
+sends_again : (lines : List SendLine) (mode : Mode) (ti sg : ℕ) (done : List Sender) (sender : Sender) (more : List Line) (entries : List Entry) → list_all is_send_line lines ≡ true → length sender.sends + length lines ≤ 31
+    → AreLines mode (map Sends lines ++ more) entries → Behind (draft_of places.Send mode ti sg (done ++ sender ∷ []) []) (draft_of places.Send mode ti sg (done ++ with_sends sender lines ∷ []) []) mode more entries
+sends_again [] mode ti sg done sender more entries h few are = record { rest = entries; lines = are; same = refl }
+sends_again (line ∷ lines) mode ti sg done sender more [] h few are = absurd are
+sends_again (line ∷ lines) mode ti sg done sender more (entry ∷ entries) h few are =
     let parts = and_parts (is_send_line line) _ h in
-    let read = next_send ti sg (done ++ sender ∷ []) line entry.fields (omega (arith, last_count-push done sender)) are.0 parts.0 ∙ ap (λ (ss : List Sender). Ok (draft_of places.Send ti sg ss)) (with_last_send-push done sender line) in
-    let behind = sends_again lines ti sg done (with_send sender line) more entries parts.1 (omega (arith, count_push sender.sends line)) are.1 in
+    let read = next_send mode ti sg done sender line entry.fields (omega arith) are.0 parts.0 in
+    let behind = sends_again lines mode ti sg done (with_send line sender) more entries parts.1 (omega (arith, count_push sender.sends line)) are.1 in
     record {
       rest = behind.rest;
       lines = behind.lines;
-      same = takes_line _ (draft_of places.Send ti sg (done ++ with_send sender line ∷ [])) entry entries read ∙ behind.same;
+      same = takes_line _ (draft_of places.Send mode ti sg (done ++ with_send line sender ∷ []) []) entry entries read ∙ behind.same;
+    }
+
+-- the place behind TAKE lines
+abbrev taken_place : Place → List TakeLine → Place
+taken_place place [] = place
+taken_place place (line ∷ lines) = places.Take
+
+still_taken : (lines : List TakeLine) → taken_place places.Take lines ≡ places.Take
+still_taken [] = refl
+still_taken (line ∷ lines) = refl
+
+takes_again : (lines : List TakeLine) (place : Place) (mode : Mode) (ti sg : ℕ) (done : List Sender) (sender : Sender) (more : List Line) (entries : List Entry) → is_sent place ≡ true → list_all is_take_line lines ≡ true → length sender.takes + length lines ≤ 64
+    → AreLines mode (map Takes lines ++ more) entries → Behind (draft_of place mode ti sg (done ++ sender ∷ []) []) (draft_of (taken_place place lines) mode ti sg (done ++ with_takes sender lines ∷ []) []) mode more entries
+takes_again [] place mode ti sg done sender more entries sent h few are = record { rest = entries; lines = are; same = refl }
+takes_again (line ∷ lines) place mode ti sg done sender more [] sent h few are = absurd are
+takes_again (line ∷ lines) place mode ti sg done sender more (entry ∷ entries) sent h few are =
+    let parts = and_parts (is_take_line line) _ h in
+    let read = next_take place mode ti sg done sender line entry.fields sent (omega arith) are.0 parts.0 in
+    let behind = takes_again lines places.Take mode ti sg done (with_take line sender) more entries refl parts.1 (omega (arith, count_push sender.takes line)) are.1 in
+    record {
+      rest = behind.rest;
+      lines = behind.lines;
+      same = takes_line _ (draft_of places.Take mode ti sg (done ++ with_take line sender ∷ []) []) entry entries read ∙ behind.same
+          ∙ ap (λ (p : Place). steps (draft_of p mode ti sg (done ++ with_takes (with_take line sender) lines ∷ []) []) behind.rest) (still_taken lines);
     }
 
 with_sends-is : (sender : Sender) (lines : List SendLine) → with_sends sender lines ≡ record sender { sends = sender.sends ++ lines }
 with_sends-is sender [] = ap (λ (ls : List SendLine). record sender { sends = ls }) (sym (append-nil sender.sends))
-with_sends-is sender (line ∷ lines) = with_sends-is (with_send sender line) lines ∙ ap (λ (ls : List SendLine). record sender { sends = ls }) (append_assoc sender.sends (line ∷ []) lines)
+with_sends-is sender (line ∷ lines) = with_sends-is (with_send line sender) lines ∙ ap (λ (ls : List SendLine). record sender { sends = ls }) (append_assoc sender.sends (line ∷ []) lines)
 
--- the lines of a sender without TAKE lines
-abbrev plain_lines : Sender → List Line
-plain_lines sender = SenderLine sender.number sender.tg 0 ∷ map Sends sender.sends
+with_takes-is : (sender : Sender) (lines : List TakeLine) → with_takes sender lines ≡ record sender { takes = sender.takes ++ lines }
+with_takes-is sender [] = ap (λ (ls : List TakeLine). record sender { takes = ls }) (sym (append-nil sender.takes))
+with_takes-is sender (line ∷ lines) = with_takes-is (with_take line sender) lines ∙ ap (λ (ls : List TakeLine). record sender { takes = ls }) (append_assoc sender.takes (line ∷ []) lines)
+
+with_all_heard-is : (listener : Listener) (lines : List TakeLine) → with_all_heard listener lines ≡ record listener { takes = listener.takes ++ lines }
+with_all_heard-is listener [] = ap (λ (ls : List TakeLine). record listener { takes = ls }) (sym (append-nil listener.takes))
+with_all_heard-is listener (line ∷ lines) = with_all_heard-is (with_heard line listener) lines ∙ ap (λ (ls : List TakeLine). record listener { takes = ls }) (append_assoc listener.takes (line ∷ []) lines)
 
 -- what is known of a sender of the table
-record Plain (sender : Sender) : Type 0 where
-  head : is_head (record { number = sender.number; tg = sender.tg }) ≡ true
+record Ready (mode : Mode) (sender : Sender) : Type 0 where
+  head : is_head (record { number = sender.number; tg = sender.tg; at = sender.at }) ≡ true
   some : 0 < length sender.sends
   few : length sender.sends ≤ 31
   sends : list_all is_send_line sender.sends ≡ true
-  offset : sender.at ≡ 0
-  takes : sender.takes ≡ []
+  few_takes : length sender.takes ≤ 64
+  takes : list_all is_take_line sender.takes ≡ true
+  offset : fits_offset mode sender.at ≡ true
 
 abbrev head_of : Sender → Head
-head_of sender = record { number = sender.number; tg = sender.tg }
+head_of sender = record { number = sender.number; tg = sender.tg; at = sender.at }
 
--- the sender, as it is built up
-built_up : (sender : Sender) (line : SendLine) (lines : List SendLine) → sender.sends ≡ line ∷ lines → sender.at ≡ 0 → sender.takes ≡ [] → with_sends (opened (head_of sender) line) lines ≡ sender
-built_up sender line lines e offset takes =
-    with_sends-is (opened (head_of sender) line) lines
-    ∙ ap (λ (ls : List SendLine). record { number = sender.number; tg = sender.tg; at = 0; sends = ls; takes = [] }) (sym e)
-    ∙ ap (λ (n : ℕ). record { number = sender.number; tg = sender.tg; at = n; sends = sender.sends; takes = [] }) (sym offset)
-    ∙ ap (λ (ts : List TakeLine). record { number = sender.number; tg = sender.tg; at = sender.at; sends = sender.sends; takes = ts }) (sym takes)
+-- the sender, as it grows
+grown : (sender : Sender) (line : SendLine) (lines : List SendLine) → sender.sends ≡ line ∷ lines → with_takes (with_sends (opened (head_of sender) line) lines) sender.takes ≡ sender
+grown sender line lines e =
+    with_takes-is (with_sends (opened (head_of sender) line) lines) sender.takes
+    ∙ ap (λ (s : Sender). record s { takes = s.takes ++ sender.takes }) (with_sends-is (opened (head_of sender) line) lines)
+    ∙ ap (λ (ls : List SendLine). record { number = sender.number; tg = sender.tg; at = sender.at; sends = ls; takes = sender.takes }) (sym e)
 
-sender_again : (sends : List SendLine) (sender : Sender) (place : Place) (ti sg : ℕ) (done : List Sender) (more : List Line) (entries : List Entry) → sender.sends ≡ sends → Plain sender → may_follow place (last_count done) keywords.Sender ≡ true
-    → AreLines Aperiodic (SenderLine sender.number sender.tg 0 ∷ map Sends sends ++ more) entries → Behind (draft_of place ti sg done) (draft_of places.Send ti sg (done ++ sender ∷ [])) more entries
-sender_again [] sender place ti sg done more entries e plain may are = absurd (omega (arith, plain.some, ap length e))
-sender_again (line ∷ lines) sender place ti sg done more [] e plain may are = absurd are
-sender_again (line ∷ lines) sender place ti sg done more (entry ∷ []) e plain may are = absurd are.1
-sender_again (line ∷ lines) sender place ti sg done more (entry ∷ next ∷ entries) e plain may are =
+-- where a sender block ends
+abbrev block_end : Sender → Place
+block_end sender = taken_place places.Send sender.takes
+
+block_may : (sender : Sender) → may_send (block_end sender) ≡ true
+block_may sender = go sender.takes where
+  go : (takes : List TakeLine) → may_send (taken_place places.Send takes) ≡ true
+  go [] = refl
+  go (t ∷ takes) = refl
+
+sender_again : (sends : List SendLine) (sender : Sender) (place : Place) (mode : Mode) (ti sg : ℕ) (done : List Sender) (more : List Line) (entries : List Entry) → sender.sends ≡ sends → Ready mode sender → may_send place ≡ true
+    → AreLines mode (SenderLine sender.number sender.tg sender.at ∷ (map Sends sends ++ (map Takes sender.takes ++ more))) entries
+    → Behind (draft_of place mode ti sg done []) (draft_of (block_end sender) mode ti sg (done ++ sender ∷ []) []) mode more entries
+sender_again [] sender place mode ti sg done more entries e ready may are = absurd (omega (arith, ready.some, ap length e))
+sender_again (line ∷ lines) sender place mode ti sg done more [] e ready may are = absurd are
+sender_again (line ∷ lines) sender place mode ti sg done more (entry ∷ []) e ready may are = absurd are.1
+sender_again (line ∷ lines) sender place mode ti sg done more (entry ∷ next ∷ entries) e ready may are =
     let head = head_of sender in
-    let sends = and_parts (is_send_line line) _ (ap (list_all is_send_line) (sym e) ∙ plain.sends) in
-    let few : 1 + length lines ≤ 31 = omega (arith, plain.few, ap length e) in
-    let behind = sends_again lines ti sg done (opened head line) more entries sends.1 few are.1.1 in
-    let same = built_up sender line lines e plain.offset plain.takes in
+    let sends = and_parts (is_send_line line) _ (ap (list_all is_send_line) (sym e) ∙ ready.sends) in
+    let few : 1 + length lines ≤ 31 = omega (arith, ready.few, ap length e) in
+    let sent = sends_again lines mode ti sg done (opened head line) (map Takes sender.takes ++ more) entries sends.1 few are.1.1 in
+    let full = with_sends (opened head line) lines in
+    let no_takes : full.takes ≡ [] = ap (λ (s : Sender). s.takes) (with_sends-is (opened head line) lines) in
+    let behind = takes_again sender.takes places.Send mode ti sg done full more sent.rest refl ready.takes (omega (arith, ready.few_takes, ap length no_takes)) sent.lines in
     record {
       rest = behind.rest;
       lines = behind.lines;
-      same = takes_line (draft_of place ti sg done) (draft_of (places.Sender head) ti sg done) entry (next ∷ entries) (sender_line place ti sg done head entry.fields may are.0 plain.head)
-          ∙ takes_line (draft_of (places.Sender head) ti sg done) (draft_of places.Send ti sg (done ++ opened head line ∷ [])) next entries (first_send ti sg done head line next.fields are.1.0 sends.0)
+      same = takes_line (draft_of place mode ti sg done []) (draft_of (places.Sender head) mode ti sg done []) entry (next ∷ entries) (sender_line place mode ti sg done head entry.fields may are.0 ready.head ready.offset)
+          ∙ takes_line (draft_of (places.Sender head) mode ti sg done []) (draft_of places.Send mode ti sg (done ++ opened head line ∷ []) []) next entries (first_send mode ti sg done head line next.fields are.1.0 sends.0)
+          ∙ sent.same
           ∙ behind.same
-          ∙ ap (λ (s : Sender). steps (draft_of places.Send ti sg (done ++ s ∷ [])) behind.rest) same;
+          ∙ ap (λ (s : Sender). steps (draft_of (block_end sender) mode ti sg (done ++ s ∷ []) []) behind.rest) (grown sender line lines e);
     }
 
 -- where the senders end
-abbrev last_place : Place → List Sender → Place
-last_place place [] = place
-last_place place (s ∷ senders) = places.Send
+abbrev senders_end : Place → List Sender → Place
+senders_end place [] = place
+senders_end place (s ∷ senders) = senders_end (block_end s) senders
+
+senders_may : (place : Place) (senders : List Sender) → may_send place ≡ true → may_send (senders_end place senders) ≡ true
+senders_may place [] h = h
+senders_may place (s ∷ senders) h = senders_may (block_end s) senders (block_may s)
+
+senders_again : (senders : List Sender) (place : Place) (mode : Mode) (ti sg : ℕ) (done : List Sender) (more : List Line) (entries : List Entry) → AllByRecursion (Ready mode) senders → may_send place ≡ true
+    → AreLines mode (flat_map sender_lines senders ++ more) entries
+    → Behind (draft_of place mode ti sg done []) (draft_of (senders_end place senders) mode ti sg (done ++ senders) []) mode more entries
+senders_again [] place mode ti sg done more entries ready may are = record {
+  rest = entries;
+  lines = are;
+  same = ap (λ (ss : List Sender). steps (draft_of place mode ti sg ss []) entries) (sym (append-nil done));
+}
+senders_again (sender ∷ senders) place mode ti sg done more entries ready may are =
+    let rest = flat_map sender_lines senders ++ more in
+    let split = append_assoc (sender_lines sender) (flat_map sender_lines senders) more
+    ∙ ap (λ ls. SenderLine sender.number sender.tg sender.at ∷ ls) (append_assoc (map Sends sender.sends) (map Takes sender.takes) rest) in
+    let one = sender_again sender.sends sender place mode ti sg done rest entries refl ready.0 may (subst (λ (ls : List Line). AreLines mode ls entries) split are) in
+    let others = senders_again senders (block_end sender) mode ti sg (done ++ sender ∷ []) more one.rest ready.1 (block_may sender) one.lines in
+    record {
+      rest = others.rest;
+      lines = others.lines;
+      same = one.same ∙ others.same ∙ ap (λ (ss : List Sender). steps (draft_of (senders_end (block_end sender) senders) mode ti sg ss []) others.rest) (append_assoc done (sender ∷ []) senders);
+    }
+
+-- the places at which a listener block may begin
+listener_may : (place : Place) (mode : Mode) (ti sg : ℕ) (senders : List Sender) (heard : List Listener) → may_end place ≡ true → may_come (draft_of place mode ti sg senders heard) keywords.Listener ≡ true
+listener_may places.Sg mode ti sg senders heard h = refl
+listener_may places.Send mode ti sg senders heard h = refl
+listener_may places.Take mode ti sg senders heard h = refl
+listener_may places.Listener mode ti sg senders heard h = refl
+listener_may place mode ti sg senders heard h = absurd cc
+
+send_ends : (place : Place) → may_send place ≡ true → may_end place ≡ true
+send_ends places.Sg h = refl
+send_ends places.Send h = refl
+send_ends places.Take h = refl
+send_ends place h = absurd cc
+
+listener_line : (place : Place) (mode : Mode) (ti sg : ℕ) (senders : List Sender) (heard : List Listener) (n : ℕ) (fields : List (List ℕ)) → may_end place ≡ true → IsLine mode (ListenerLine n) fields → is_number n ≡ true
+    → line_reading (draft_of place mode ti sg senders heard) fields ≡ Ok (draft_of places.Listener mode ti sg senders (heard ++ hearing n ∷ []))
+listener_line place mode ti sg senders heard n fields may h r =
+    word_line fields keywords.Listener (draft_of place mode ti sg senders heard) (ap keyword_of h.parts) (listener_may place mode ti sg senders heard may)
+    ∙ read_as (λ n. draft_of places.Listener mode ti sg senders (heard ++ hearing n ∷ [])) _ n (number_line_again is_number fields (codes "LISTENER") n h r)
+
+next_heard : (mode : Mode) (ti sg : ℕ) (senders : List Sender) (heard : List Listener) (listener : Listener) (line : TakeLine) (fields : List (List ℕ)) → length listener.takes < 64 → IsLine mode (Takes line) fields → is_take_line line ≡ true
+    → line_reading (draft_of places.Listener mode ti sg senders (heard ++ listener ∷ [])) fields ≡ Ok (draft_of places.Listener mode ti sg senders (heard ++ with_heard line listener ∷ []))
+next_heard mode ti sg senders heard listener line fields few h r =
+    let listeners = heard ++ listener ∷ [] in
+    let count = of_last-push (λ (l : Listener). length l.takes) heard listener in
+    word_line fields keywords.Take (draft_of places.Listener mode ti sg senders listeners) (ap keyword_of h.parts) (ap (λ n. nat_lt n 64) count ∙ room (length listener.takes) 64 few)
+    ∙ read_as (λ l. draft_of places.Listener mode ti sg senders (with_last (with_heard l) listeners)) _ line (take_line_again fields line h r)
+    ∙ ap (λ (ls : List Listener). Ok (draft_of places.Listener mode ti sg senders ls)) (with_last-push (with_heard line) heard listener)
+
+heard_again : (lines : List TakeLine) (mode : Mode) (ti sg : ℕ) (senders : List Sender) (heard : List Listener) (listener : Listener) (more : List Line) (entries : List Entry) → list_all is_take_line lines ≡ true → length listener.takes + length lines ≤ 64
+    → AreLines mode (map Takes lines ++ more) entries
+    → Behind (draft_of places.Listener mode ti sg senders (heard ++ listener ∷ [])) (draft_of places.Listener mode ti sg senders (heard ++ with_all_heard listener lines ∷ [])) mode more entries
+heard_again [] mode ti sg senders heard listener more entries h few are = record { rest = entries; lines = are; same = refl }
+heard_again (line ∷ lines) mode ti sg senders heard listener more [] h few are = absurd are
+heard_again (line ∷ lines) mode ti sg senders heard listener more (entry ∷ entries) h few are =
+    let parts = and_parts (is_take_line line) _ h in
+    let read = next_heard mode ti sg senders heard listener line entry.fields (omega arith) are.0 parts.0 in
+    let behind = heard_again lines mode ti sg senders heard (with_heard line listener) more entries parts.1 (omega (arith, count_push listener.takes line)) are.1 in
+    record {
+      rest = behind.rest;
+      lines = behind.lines;
+      same = takes_line _ (draft_of places.Listener mode ti sg senders (heard ++ with_heard line listener ∷ [])) entry entries read ∙ behind.same;
+    }
+
+-- where the listeners end
+abbrev listeners_end : Place → List Listener → Place
+listeners_end place [] = place
+listeners_end place (l ∷ listeners) = places.Listener
 
 nothing_left : (draft : Draft) → steps draft [] ≡ Ok draft
 unfolding steps
 nothing_left draft = refl
 
-senders_again : (senders : List Sender) (place : Place) (ti sg : ℕ) (done : List Sender) (entries : List Entry) → AllByRecursion Plain senders → may_follow place (last_count done) keywords.Sender ≡ true → AreLines Aperiodic (flat_map plain_lines senders) entries
-    → steps (draft_of place ti sg done) entries ≡ Ok (draft_of (last_place place senders) ti sg (done ++ senders))
-senders_again [] place ti sg done [] plain may are = nothing_left (draft_of place ti sg done) ∙ ap (λ (ss : List Sender). Ok (draft_of place ti sg ss)) (sym (append-nil done))
-senders_again [] place ti sg done (entry ∷ entries) plain may are = absurd are
-senders_again (sender ∷ senders) place ti sg done entries plain may are =
-    let behind = sender_again sender.sends sender place ti sg done (flat_map plain_lines senders) entries refl plain.0 may are in
-    behind.same
-    ∙ senders_again senders places.Send ti sg (done ++ sender ∷ []) behind.rest plain.1 refl behind.lines
-    ∙ ap (λ (ss : List Sender). Ok (draft_of (last_place places.Send senders) ti sg ss)) (append_assoc done (sender ∷ []) senders)
-    ∙ ap (λ (p : Place). Ok (draft_of p ti sg (done ++ sender ∷ senders))) (still_send senders)
+listeners_again : (listeners : List Listener) (place : Place) (mode : Mode) (ti sg : ℕ) (senders : List Sender) (heard : List Listener) (entries : List Entry) → list_all is_listener listeners ≡ true → may_end place ≡ true
+    → AreLines mode (flat_map listener_lines listeners) entries
+    → steps (draft_of place mode ti sg senders heard) entries ≡ Ok (draft_of (listeners_end place listeners) mode ti sg senders (heard ++ listeners))
+listeners_again [] place mode ti sg senders heard [] range may are = nothing_left (draft_of place mode ti sg senders heard) ∙ ap (λ (ls : List Listener). Ok (draft_of place mode ti sg senders ls)) (sym (append-nil heard))
+listeners_again [] place mode ti sg senders heard (entry ∷ entries) range may are = absurd are
+listeners_again (listener ∷ listeners) place mode ti sg senders heard [] range may are = absurd are
+listeners_again (listener ∷ listeners) place mode ti sg senders heard (entry ∷ entries) range may are =
+    let parts = and_parts (is_listener listener) _ range in
+    let one = and_parts (is_number listener.number) _ parts.0 in
+    let takes = and_parts (nat_le (length listener.takes) 64) _ one.1 in
+    let most : length listener.takes ≤ 64 = grind (arith, nat_tests, takes.0) in
+    let few : 0 + length listener.takes ≤ 64 = omega arith in
+    let behind = heard_again listener.takes mode ti sg senders heard (hearing listener.number) (flat_map listener_lines listeners) entries takes.1 few are.1 in
+    let whole = with_all_heard-is (hearing listener.number) listener.takes in
+    takes_line (draft_of place mode ti sg senders heard) (draft_of places.Listener mode ti sg senders (heard ++ hearing listener.number ∷ [])) entry entries (listener_line place mode ti sg senders heard listener.number entry.fields may are.0 one.0)
+    ∙ behind.same
+    ∙ ap (λ (l : Listener). steps (draft_of places.Listener mode ti sg senders (heard ++ l ∷ [])) behind.rest) whole
+    ∙ listeners_again listeners places.Listener mode ti sg senders (heard ++ listener ∷ []) behind.rest parts.1 refl behind.lines
+    ∙ ap (λ (ls : List Listener). Ok (draft_of (listeners_end places.Listener listeners) mode ti sg senders ls)) (append_assoc heard (listener ∷ []) listeners)
+    ∙ ap (λ (p : Place). Ok (draft_of p mode ti sg senders (heard ++ listener ∷ listeners))) (still_heard listeners)
   where
-    still_send : (senders : List Sender) → last_place places.Send senders ≡ places.Send
-    still_send [] = refl
-    still_send (s ∷ senders) = refl
+    still_heard : (listeners : List Listener) → listeners_end places.Listener listeners ≡ places.Listener
+    still_heard [] = refl
+    still_heard (l ∷ listeners) = refl
 
-is_zero : (n : ℕ) → (n == 0) ≡ true → n ≡ 0
-is_zero n h = eqb-true n 0 h
+ends_well : (place : Place) (listeners : List Listener) → may_end place ≡ true → may_end (listeners_end place listeners) ≡ true
+ends_well place [] h = h
+ends_well place (l ∷ listeners) h = refl
 
-is_empty : (takes : List TakeLine) → length takes ≡ 0 → takes ≡ []
-is_empty [] h = refl
-is_empty (t ∷ takes) h = absurd (omega arith)
-
-plain_sender : (sender : Sender) → is_sender sender ≡ true → (sender.at == 0) ≡ true → (length sender.takes == 0) ≡ true → Plain sender
-plain_sender sender range at takes =
-    let number = and_parts (is_number sender.number) _ range in
-    let gap = and_parts (is_tg sender.tg) _ number.1 in
-    let lines = and_parts (are_send_lines sender.sends) _ (and_parts (is_offset sender.at) _ gap.1).1 in
-    let sends = and_parts (in_numbers 1 31 (length sender.sends)) _ lines.0 in
+ready_sender : (mode : Mode) (sender : Sender) → is_sender sender ≡ true → fits_offset mode sender.at ≡ true → Ready mode sender
+ready_sender mode sender range offset =
+    let r = ranges_of sender range in
+    let sends = and_parts (in_numbers 1 31 (length sender.sends)) _ r.sends in
     let count = and_parts (nat_le 1 (length sender.sends)) _ sends.0 in
+    let takes = and_parts (nat_le (length sender.takes) 64) _ r.takes in
     record {
-      head = both _ _ number.0 gap.0;
+      head = both _ _ r.number (both _ _ r.gap r.offset);
       some = grind (arith, nat_tests, count.0);
       few = grind (arith, nat_tests, count.1);
       sends = sends.1;
-      offset = is_zero sender.at at;
-      takes = is_empty sender.takes (is_zero (length sender.takes) takes);
+      few_takes = grind (arith, nat_tests, takes.0);
+      takes = takes.1;
+      offset = offset;
     }
 
-plain_senders : (senders : List Sender) → list_all is_sender senders ≡ true → list_all (λ s. s.at == 0) senders ≡ true → list_all (λ s. length s.takes == 0) senders ≡ true → AllByRecursion Plain senders
-plain_senders [] range at takes = tt
-plain_senders (s ∷ senders) range at takes =
+ready_senders : (mode : Mode) (senders : List Sender) → list_all is_sender senders ≡ true → fits_mode mode senders ≡ true → AllByRecursion (Ready mode) senders
+ready_senders mode [] range fits = tt
+ready_senders Aperiodic (s ∷ senders) range fits =
     let r = and_parts (is_sender s) _ range in
-    let a = and_parts (s.at == 0) _ at in
-    let t = and_parts (length s.takes == 0) _ takes in
-    (plain_sender s r.0 a.0 t.0, plain_senders senders r.1 a.1 t.1)
+    let f = and_parts (s.at == 0) _ fits in
+    (ready_sender Aperiodic s r.0 f.0, ready_senders Aperiodic senders r.1 f.1)
+ready_senders Periodic (s ∷ senders) range fits = let r = and_parts (is_sender s) _ range in (ready_sender Periodic s r.0 refl, ready_senders Periodic senders r.1 refl)
 
-plain_are : (senders : List Sender) → AllByRecursion Plain senders → flat_map sender_lines senders ≡ flat_map plain_lines senders
-plain_are [] h = refl
-plain_are (s ∷ senders) h =
-    ap (λ ls. ls ++ flat_map sender_lines senders) (no_takes s h.0.takes ∙ ap (λ (n : ℕ). SenderLine s.number s.tg n ∷ map Sends s.sends) h.0.offset)
-    ∙ ap (λ ls. plain_lines s ++ ls) (plain_are senders h.1)
-
-ends_well : (senders : List Sender) → may_end (last_place places.Sg senders) ≡ true
-ends_well [] = refl
-ends_well (s ∷ senders) = refl
-
--- the aperiodic table of these senders alone
-abbrev sent_table : ℕ → ℕ → List Sender → Table
-sent_table ti sg senders = record { mode = Aperiodic; ti = ti; sg = sg; senders = senders; listeners = [] }
+abbrev raw_table : Mode → ℕ → ℕ → List Sender → List Listener → Table
+raw_table mode ti sg senders listeners = record { mode = mode; ti = ti; sg = sg; senders = senders; listeners = listeners }
 
 again_at : (mode : Mode) (ti sg : ℕ) (senders : List Sender) (listeners : List Listener) (entries : List Entry) (after : ℕ)
-    → is_built (record { mode = mode; ti = ti; sg = sg; senders = senders; listeners = listeners }) ≡ true
-    → is_in_range (record { mode = mode; ti = ti; sg = sg; senders = senders; listeners = listeners }) ≡ true
-    → AreLines mode (lines_of (record { mode = mode; ti = ti; sg = sg; senders = senders; listeners = listeners })) entries
-    → (steps start entries >>= ended after) ≡ Ok (record { mode = mode; ti = ti; sg = sg; senders = senders; listeners = listeners })
-again_at Periodic ti sg senders listeners entries after built range are = absurd cc
-again_at Aperiodic ti sg senders (l ∷ listeners) entries after built range are =
-    let none = (and_parts (list_all (λ s. length s.takes == 0) senders) _ built).1 in absurd (omega (arith, is_zero (length (l ∷ listeners)) none))
-again_at Aperiodic ti sg senders [] [] after built range are = absurd are
-again_at Aperiodic ti sg senders [] (a ∷ []) after built range are = absurd are.1
-again_at Aperiodic ti sg senders [] (a ∷ b ∷ []) after built range are = absurd are.1.1
-again_at Aperiodic ti sg senders [] (a ∷ b ∷ c ∷ []) after built range are = absurd are.1.1.1
-again_at Aperiodic ti sg senders [] (a ∷ b ∷ c ∷ d ∷ entries) after built range are =
+    → is_in_range (raw_table mode ti sg senders listeners) ≡ true → AreLines mode (lines_of (raw_table mode ti sg senders listeners)) entries
+    → (steps start entries >>= ended after) ≡ Ok (raw_table mode ti sg senders listeners)
+again_at mode ti sg senders listeners [] after range are = absurd are
+again_at mode ti sg senders listeners (a ∷ []) after range are = absurd are.1
+again_at mode ti sg senders listeners (a ∷ b ∷ []) after range are = absurd are.1.1
+again_at mode ti sg senders listeners (a ∷ b ∷ c ∷ []) after range are = absurd are.1.1.1
+again_at mode ti sg senders listeners (a ∷ b ∷ c ∷ d ∷ entries) after range are =
     let t = and_parts (is_ti ti) _ range in
     let s = and_parts (is_sg sg) _ t.1 in
     let in_senders = and_parts (list_all is_sender senders) _ s.1 in
-    let plain = plain_senders senders in_senders.0 in_senders.1 (and_parts (list_all (λ s. length s.takes == 0) senders) _ built).0 in
-    let lines = subst (λ (ls : List Line). AreLines Aperiodic ls entries) (append-nil (flat_map sender_lines senders) ∙ plain_are senders plain) are.1.1.1.1 in
-    let read : steps start (a ∷ b ∷ c ∷ d ∷ entries) ≡ Ok (draft_of (last_place places.Sg senders) ti sg senders) =
-    takes_line start (draft_of places.Table 0 0 []) a (b ∷ c ∷ d ∷ entries) (table_line a.fields are.0)
-    ∙ takes_line (draft_of places.Table 0 0 []) (draft_of places.Mode 0 0 []) b (c ∷ d ∷ entries) (mode_line b.fields are.1.0)
-    ∙ takes_line (draft_of places.Mode 0 0 []) (draft_of places.Ti ti 0 []) c (d ∷ entries) (ti_line ti c.fields are.1.1.0 t.0)
-    ∙ takes_line (draft_of places.Ti ti 0 []) (draft_of places.Sg ti sg []) d entries (sg_line ti sg d.fields are.1.1.1.0 s.0)
-    ∙ senders_again senders places.Sg ti sg [] entries plain refl lines in
-    ap (λ r. r >>= ended after) read ∙ ap (λ t. cond t (read_table (draft_of places.Sg ti sg senders)) (Err (record { line = after; reason = reasons.Ended }))) (ends_well senders)
+    let in_listeners = and_parts (list_all is_listener listeners) _ in_senders.1 in
+    let sent = senders_again senders places.Sg mode ti sg [] (flat_map listener_lines listeners) entries (ready_senders mode senders in_senders.0 in_listeners.1) refl are.1.1.1.1 in
+    let end = senders_end places.Sg senders in
+    let may = send_ends end (senders_may places.Sg senders refl) in
+    let last = draft_of (listeners_end end listeners) mode ti sg senders listeners in
+    let read : steps start (a ∷ b ∷ c ∷ d ∷ entries) ≡ Ok last =
+    takes_line start (in_head places.Table Aperiodic 0 0) a (b ∷ c ∷ d ∷ entries) (table_line mode a.fields are.0)
+    ∙ takes_line (in_head places.Table Aperiodic 0 0) (in_head places.Mode mode 0 0) b (c ∷ d ∷ entries) (mode_line mode b.fields are.1.0)
+    ∙ takes_line (in_head places.Mode mode 0 0) (in_head places.Ti mode ti 0) c (d ∷ entries) (ti_line mode ti c.fields are.1.1.0 t.0)
+    ∙ takes_line (in_head places.Ti mode ti 0) (in_head places.Sg mode ti sg) d entries (sg_line mode ti sg d.fields are.1.1.1.0 s.0)
+    ∙ sent.same
+    ∙ listeners_again listeners end mode ti sg senders [] sent.rest in_listeners.0 may sent.lines in
+    ap (λ r. r >>= ended after) read ∙ ap (λ t. cond t (read_table last) (Err (record { line = after; reason = reasons.Ended }))) (ends_well end listeners may)
 
-pub text_again : (text : List ℕ) (table : Table) → IsTableText table text → is_built table ≡ true → text_reading text ≡ Ok table
+pub text_again : (text : List ℕ) (table : Table) → IsTableText table text → text_reading text ≡ Ok table
 unfolding text_reading
-text_again text table h built = again_at table.mode table.ti table.sg table.senders table.listeners (entries_of text) (line_after_of text) built h.ranges h.lines
+text_again text table h = again_at table.mode table.ti table.sg table.senders table.listeners (entries_of text) (line_after_of text) h.ranges h.lines

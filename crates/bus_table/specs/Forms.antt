@@ -1,17 +1,20 @@
 -- What a line reads as, by its form, and the first reason against it.
 -- Each form is a list of rows of a test and a reason: the first row whose test holds gives the reason.
-use Rattle.std.specs.Prelude.{ℕ, Bool, not, ◌&&◌, ◌==◌, List, [], ◌∷◌, length, codes, Option, Result, slice_index_or}
+use Rattle.std.specs.Prelude.{ℕ, Bool, not, ◌&&◌, ◌||◌, ◌==◌, List, [], ◌∷◌, length, codes, Option, Some, None, Result, slice_index_or, if◌then◌else◌}
 use Rattle.std.specs.List.{find}
+use Rattle.std.specs.Str.{bytes_eq}
 use Rattle.bus_text.specs.declared.reason.Reason.{Reason}
-use Rattle.bus_text.specs.declared.reason.Reason.TheVariants.{Fields, Spelling, Range, NotBuilt}
+use Rattle.bus_text.specs.declared.reason.Reason.TheVariants.{Fields, Spelling, Range}
 use Rattle.bus_text.specs.Fields.{is_at}
 use Rattle.bus_text.specs.Numbers.{is_plain_decimal, decimal_value, is_hexadecimal, hexadecimal_value}
 use Rattle.bus_text.specs.Refusals.{first_of, unless}
 use Rattle.bus_table.specs.declared.keyword.Keyword.{Keyword}
 use Rattle.bus_table.specs.declared.keyword.Keyword.TheVariants as keywords
+use Rattle.bus_table.specs.declared.mode.Mode.{Mode}
+use Rattle.bus_table.specs.declared.mode.Mode.TheVariants.{Aperiodic, Periodic}
 use Rattle.bus_table.specs.Heads.{Head, is_head}
-use Rattle.bus_table.specs.Tables.{SendLine}
-use Rattle.bus_table.specs.Ranges.{is_send_line}
+use Rattle.bus_table.specs.Tables.{SendLine, TakeLine}
+use Rattle.bus_table.specs.Ranges.{is_send_line, is_take_line}
 
 -- the field at a place, counted from 0
 abbrev pub field : List (List ℕ) → ℕ → List ℕ
@@ -28,8 +31,11 @@ word_of keywords.Send = codes "SEND"
 word_of keywords.Take = codes "TAKE"
 word_of keywords.Listener = codes "LISTENER"
 
+-- every keyword
 abbrev pub all_keywords : List Keyword
-all_keywords = keywords.Table ∷ keywords.Mode ∷ keywords.Ti ∷ keywords.Sg ∷ keywords.Sender ∷ keywords.Send ∷ keywords.Take ∷ keywords.Listener ∷ []
+all_keywords =
+    keywords.Table ∷ keywords.Mode ∷ keywords.Ti ∷ keywords.Sg
+    ∷ keywords.Sender ∷ keywords.Send ∷ keywords.Take ∷ keywords.Listener ∷ []
 
 -- the keyword of a line, which is its first field
 abbrev pub keyword_of : List (List ℕ) → Option Keyword
@@ -39,14 +45,17 @@ keyword_of fields = find (λ keyword. is_at fields 0 (word_of keyword)) all_keyw
 unfoldable pub table_reading : List (List ℕ) → Result (Unit {0}) Reason
 table_reading fields = unless (first_of ((not (length fields == 2 && is_at fields 1 (codes "1")), Fields) ∷ [])) tt
 
--- the MODE line: only aperiodic tables are built
-unfoldable pub mode_reading : List (List ℕ) → Result (Unit {0}) Reason
+-- the mode of a MODE line, where its word is one of the two
+abbrev pub mode_of : List (List ℕ) → Mode
+mode_of fields = if is_at fields 1 (codes "periodic") then Periodic else Aperiodic
+
+-- the MODE line
+unfoldable pub mode_reading : List (List ℕ) → Result Mode Reason
 mode_reading fields = unless (first_of
-    ((length fields == 2 && is_at fields 1 (codes "periodic"), NotBuilt)
-    ∷ (not (length fields == 2), Fields)
-    ∷ (not (is_at fields 1 (codes "aperiodic")), Spelling)
+    ((not (length fields == 2), Fields)
+    ∷ (not (is_at fields 1 (codes "aperiodic") || is_at fields 1 (codes "periodic")), Spelling)
     ∷ []))
-    tt
+    (mode_of fields)
 
 -- a line of a keyword and a number, as the TI line and the SG line
 unfoldable pub number_reading : (ℕ → Bool) → List (List ℕ) → Result ℕ Reason
@@ -57,11 +66,11 @@ number_reading in_range fields = unless (first_of
     ∷ []))
     (decimal_value (field fields 1))
 
--- the numbers of a SENDER line
+-- the numbers of a SENDER line without an offset
 abbrev pub head_of : List (List ℕ) → Head
-head_of fields = record { number = decimal_value (field fields 1); tg = decimal_value (field fields 3) }
+head_of fields = record { number = decimal_value (field fields 1); tg = decimal_value (field fields 3); at = 0 }
 
--- a SENDER line
+-- a SENDER line of an aperiodic table
 unfoldable pub sender_reading : List (List ℕ) → Result Head Reason
 sender_reading fields = unless (first_of
     ((not (length fields == 4 && is_at fields 2 (codes "TG")), Fields)
@@ -70,13 +79,42 @@ sender_reading fields = unless (first_of
     ∷ []))
     (head_of fields)
 
+-- the numbers of a SENDER line with an offset
+abbrev pub offset_head_of : List (List ℕ) → Head
+offset_head_of fields = record {
+  number = decimal_value (field fields 1);
+  tg = decimal_value (field fields 3);
+  at = decimal_value (field fields 5);
+}
+
+-- a SENDER line of a periodic table
+unfoldable pub offset_reading : List (List ℕ) → Result Head Reason
+offset_reading fields = unless (first_of
+    ((not (length fields == 6 && (is_at fields 2 (codes "TG") && is_at fields 4 (codes "AT"))), Fields)
+    ∷ (not (is_plain_decimal (field fields 1) && (is_plain_decimal (field fields 3) && is_plain_decimal (field fields 5))), Spelling)
+    ∷ (not (is_head (offset_head_of fields)), Range)
+    ∷ []))
+    (offset_head_of fields)
+
+-- a SENDER line of a table of this mode
+abbrev pub head_reading : Mode → List (List ℕ) → Result Head Reason
+head_reading Aperiodic fields = sender_reading fields
+head_reading Periodic fields = offset_reading fields
+
 -- what a SEND line says
 abbrev pub send_line_of : List (List ℕ) → SendLine
-send_line_of fields = record { label = hexadecimal_value (field fields 1); ext = hexadecimal_value (field fields 2); least = decimal_value (field fields 3); most = decimal_value (field fields 4) }
+send_line_of fields = record {
+  label = hexadecimal_value (field fields 1);
+  ext = hexadecimal_value (field fields 2);
+  least = decimal_value (field fields 3);
+  most = decimal_value (field fields 4);
+}
 
 -- whether the fields of a SEND line are spellings of their kinds
 abbrev pub is_send_spelled : List (List ℕ) → Bool
-is_send_spelled fields = is_hexadecimal 3 (field fields 1) && (is_hexadecimal 1 (field fields 2) && (is_plain_decimal (field fields 3) && is_plain_decimal (field fields 4)))
+is_send_spelled fields =
+    is_hexadecimal 3 (field fields 1)
+    && (is_hexadecimal 1 (field fields 2) && (is_plain_decimal (field fields 3) && is_plain_decimal (field fields 4)))
 
 -- a SEND line
 unfoldable pub send_reading : List (List ℕ) → Result SendLine Reason
@@ -86,3 +124,39 @@ send_reading fields = unless (first_of
     ∷ (not (is_send_line (send_line_of fields)), Range)
     ∷ []))
     (send_line_of fields)
+
+-- whether a field is a `*`
+abbrev pub is_star : List ℕ → Bool
+is_star field = bytes_eq field (codes "*")
+
+-- whether a field is an extension, or a `*` for every extension
+abbrev pub is_ext_spelled : List ℕ → Bool
+is_ext_spelled field = is_star field || is_hexadecimal 1 field
+
+-- the extension of such a field, or none for every extension
+abbrev pub ext_of : List ℕ → Option ℕ
+ext_of field = if is_star field then None else Some (hexadecimal_value field)
+
+-- what a TAKE line says
+abbrev pub take_line_of : List (List ℕ) → TakeLine
+take_line_of fields = record {
+  label = hexadecimal_value (field fields 1);
+  ext = ext_of (field fields 2);
+  first = decimal_value (field fields 3);
+  count = decimal_value (field fields 4);
+}
+
+-- whether the fields of a TAKE line are spellings of their kinds
+abbrev pub is_take_spelled : List (List ℕ) → Bool
+is_take_spelled fields =
+    is_hexadecimal 3 (field fields 1)
+    && (is_ext_spelled (field fields 2) && (is_plain_decimal (field fields 3) && is_plain_decimal (field fields 4)))
+
+-- a TAKE line
+unfoldable pub take_reading : List (List ℕ) → Result TakeLine Reason
+take_reading fields = unless (first_of
+    ((not (length fields == 5), Fields)
+    ∷ (not (is_take_spelled fields), Spelling)
+    ∷ (not (is_take_line (take_line_of fields)), Range)
+    ∷ []))
+    (take_line_of fields)

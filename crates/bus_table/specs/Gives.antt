@@ -8,7 +8,7 @@ use Rattle.bus_table.specs.declared.error.TableError.{TableError}
 use Rattle.bus_table.specs.declared.error.TableError.TheVariants.{Text, Whole, Memory}
 use Rattle.bus_table.specs.Drafts.{Draft}
 use Rattle.bus_table.specs.Tables.{Table}
-use Rattle.bus_table.specs.Text.{IsBuiltText}
+use Rattle.bus_table.specs.Text.{IsTableText}
 use Rattle.bus_table.specs.Whole.{whole_refusal}
 
 -- an error at a line is the refusal of the reading; want of memory says nothing of it
@@ -40,5 +40,5 @@ Answers (Err error) due = Fails error due
 -- the cause of each refusal: no table has the text; or a table has it, and this is the first whole reason that applies to it
 abbrev pub Refuses : List ℕ → TableError → Type 0
 Refuses text Memory = Unit {0}
-Refuses text (Text line reason) = (table : Table) → IsBuiltText table text → ⊥
-Refuses text (Whole reason) = (table : Table) × IsBuiltText table text × (whole_refusal table ≡ Some reason)
+Refuses text (Text line reason) = (table : Table) → IsTableText table text → ⊥
+Refuses text (Whole reason) = (table : Table) × IsTableText table text × (whole_refusal table ≡ Some reason)

@@ -1,12 +1,13 @@
 -- A sender before its first SEND line.
 use Rattle.std.specs.Prelude.{ℕ, Bool, ◌&&◌}
-use Rattle.bus_table.specs.Ranges.{is_number, is_tg}
+use Rattle.bus_table.specs.Ranges.{is_number, is_tg, is_offset}
 
--- the numbers of a SENDER line of an aperiodic table
+-- the numbers of a SENDER line; the offset is 0 where the line has none
 pub record Head : Type 0 where
   pub number : ℕ
   pub tg : ℕ
+  pub at : ℕ
 
--- whether both are in their ranges
+-- whether each of them is in its range
 abbrev pub is_head : Head → Bool
-is_head head = is_number head.number && is_tg head.tg
+is_head head = is_number head.number && (is_tg head.tg && is_offset head.at)

@@ -40,11 +40,17 @@ is_send_line line = is_label line.label && (is_ext line.ext && (nat_le line.leas
 
 -- a TAKE line: at least one data word, from a place that a wordstring can have
 abbrev pub is_take_line : TakeLine → Bool
-is_take_line line = is_label line.label && (option_map_or is_ext line.ext true && (nat_lt line.first most_words && is_in_range 1 most_words line.count))
+is_take_line line =
+    is_label line.label
+    && (option_map_or is_ext line.ext true && (nat_lt line.first most_words && is_in_range 1 most_words line.count))
+
+-- the most TAKE lines of a terminal
+abbrev pub most_takes : ℕ
+most_takes = 64
 
 -- the TAKE lines of a terminal
 abbrev pub are_take_lines : List TakeLine → Bool
-are_take_lines takes = nat_le (length takes) 64 && list_all is_take_line takes
+are_take_lines takes = nat_le (length takes) most_takes && list_all is_take_line takes
 
 -- the SEND lines of a terminal
 abbrev pub are_send_lines : List SendLine → Bool
@@ -52,7 +58,9 @@ are_send_lines sends = is_in_range 1 most_strings (length sends) && list_all is_
 
 -- a sender of which each number is in its range
 abbrev pub is_sender : Sender → Bool
-is_sender sender = is_number sender.number && (is_tg sender.tg && (is_offset sender.at && (are_send_lines sender.sends && are_take_lines sender.takes)))
+is_sender sender =
+    is_number sender.number
+    && (is_tg sender.tg && (is_offset sender.at && (are_send_lines sender.sends && are_take_lines sender.takes)))
 
 -- a listener of which each number is in its range
 abbrev pub is_listener : Listener → Bool

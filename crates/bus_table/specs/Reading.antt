@@ -4,7 +4,6 @@ use Rattle.bus_text.specs.declared.reason.Reason.TheVariants.{Ended}
 use Rattle.bus_text.specs.AllOf.{◌>>=◌}
 use Rattle.bus_text.specs.Lines.{Entry, entries_of, line_after_of}
 use Rattle.bus_text.specs.Refusals.{Refusal, at_line}
-use Rattle.bus_table.specs.declared.mode.Mode.TheVariants.{Aperiodic}
 use Rattle.bus_table.specs.declared.error.WholeReason.{WholeReason}
 use Rattle.bus_table.specs.declared.error.TableError.{TableError}
 use Rattle.bus_table.specs.declared.error.TableError.TheVariants.{Text, Whole}
@@ -23,7 +22,7 @@ steps draft (entry ∷ entries) = step draft entry >>= λ next. steps next entri
 
 -- the table of a draft that may end
 abbrev pub table_of : Draft → Table
-table_of draft = record { mode = Aperiodic; ti = draft.ti; sg = draft.sg; senders = draft.senders; listeners = [] }
+table_of draft = record { mode = draft.mode; ti = draft.ti; sg = draft.sg; senders = draft.senders; listeners = draft.listeners }
 
 -- the table of the last draft, where the text may end there; else the text has ended too early, one past its last line
 abbrev pub ended : ℕ → Draft → Result Table Refusal

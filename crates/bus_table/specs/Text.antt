@@ -1,7 +1,7 @@
 -- Which texts stand for which tables.
 -- Line: what one line of a table text says. A text says the lines of its table in order; between them may stand lines that are skipped.
-use Rattle.std.specs.Prelude.{◌≡◌, ℕ, Bool, true, false, IsTrue, ◌&&◌, ◌==◌, length, List, [], ◌∷◌, ◌++◌, map, codes, Option, Some, None}
-use Rattle.std.specs.List.{flat_map, list_all}
+use Rattle.std.specs.Prelude.{◌≡◌, ℕ, true, List, [], ◌∷◌, ◌++◌, map, codes, Option, Some, None}
+use Rattle.std.specs.List.{flat_map}
 use Rattle.bus_text.specs.Lines.{Entry, entries_of}
 use Rattle.bus_text.specs.Numbers.{IsDecimal, IsHexadecimal}
 use Rattle.bus_table.specs.declared.mode.Mode.{Mode}
@@ -30,7 +30,9 @@ listener_lines listener = ListenerLine listener.number ∷ map Takes listener.ta
 
 -- the four lines at the head, the sender blocks, the listener blocks
 abbrev pub lines_of : Table → List Line
-lines_of table = TableLine ∷ ModeLine table.mode ∷ TiLine table.ti ∷ SgLine table.sg ∷ flat_map sender_lines table.senders ++ flat_map listener_lines table.listeners
+lines_of table =
+    TableLine ∷ ModeLine table.mode ∷ TiLine table.ti ∷ SgLine table.sg
+    ∷ flat_map sender_lines table.senders ++ flat_map listener_lines table.listeners
 
 -- how a mode is spelled
 abbrev pub mode_word : Mode → List ℕ
@@ -113,21 +115,7 @@ AreLines mode [] (entry ∷ entries) = ⊥
 AreLines mode (line ∷ lines) [] = ⊥
 AreLines mode (line ∷ lines) (entry ∷ entries) = IsLine mode line entry.fields × AreLines mode lines entries
 
--- whether a mode is aperiodic
-abbrev pub is_aperiodic : Mode → Bool
-is_aperiodic Aperiodic = true
-is_aperiodic Periodic = false
-
 -- a text stands for a table, valid or not
 pub record IsTableText (table : Table) (text : List ℕ) : Type 0 where
   pub ranges : is_in_range table ≡ true
   pub lines : AreLines table.mode (lines_of table) (entries_of text)
-
--- whether the reader has the forms of the table's text: no periodic mode, no TAKE lines and no listeners yet
-abbrev pub is_built : Table → Bool
-is_built table = is_aperiodic table.mode && (list_all (λ sender. length sender.takes == 0) table.senders && length table.listeners == 0)
-
--- a text stands for a table of these forms, valid or not
-pub record IsBuiltText (table : Table) (text : List ℕ) : Type 0 where
-  pub stands : IsTableText table text
-  pub built : IsTrue (is_built table)

@@ -1,17 +1,20 @@
-ghost use Rattle.std.specs.Prelude.{◌≡◌, ◌<◌, OnOk, IsTrue};
+ghost use Rattle.std.specs.Prelude.{◌≡◌, ◌<◌, length, OnOk, IsTrue};
 ghost use Rattle.bus_text.specs.Entries.{texts};
 ghost use Rattle.bus_strings.specs.Limits.{most_strings};
 ghost use Rattle.bus_table.specs.declared.keyword.Keyword.TheVariants as keywords;
 ghost use Rattle.bus_table.specs.Drafts as drafts;
-ghost use Rattle.bus_table.specs.Ranges.{is_send_line};
+ghost use Rattle.bus_table.specs.Ranges.{is_send_line, is_take_line, most_takes};
 
 use crate::error::TableError;
-use crate::forms::{mode_line, number_line, send_line, sender_line, table_line};
+use crate::forms::{
+    listener_line, mode_line, number_line, send_line, sender_line, table_line, take_line,
+};
 use crate::keyword::{Keyword, keyword_of};
-use crate::line::SendLine;
+use crate::line::{SendLine, TakeLine};
+use crate::listener::Listener;
 use crate::mode::Mode;
 use crate::place::Place;
-use crate::ranges::{LEAST_SG, LEAST_TI, MOST_SG, MOST_TI};
+use crate::ranges::{LEAST_SG, LEAST_TI, MOST_SG, MOST_TAKES, MOST_TI};
 use crate::sender::Sender;
 use crate::table::Table;
 use bus_strings::limits::MOST_STRINGS;
@@ -23,8 +26,8 @@ use std::alloc::{AllocError, Global};
 use std::marker::Model;
 
 /// How many SEND lines the last sender has.
-fn last_count(senders: &[Sender]) -> usize
-    ensures { result ≡ drafts.last_count senders.now }
+fn last_sends(senders: &[Sender]) -> usize
+    ensures { result ≡ drafts.last_sends senders.now }
 {
     match senders.last() {
         Some(sender) => sender.sends().len(),
@@ -32,14 +35,68 @@ fn last_count(senders: &[Sender]) -> usize
     }
 }
 
+/// How many TAKE lines the last sender has.
+fn last_taken(senders: &[Sender]) -> usize
+    ensures { result ≡ drafts.of_last (λ sender. length sender.takes) senders.now }
+{
+    match senders.last() {
+        Some(sender) => sender.takes().len(),
+        None => 0,
+    }
+}
+
+/// How many TAKE lines the last listener has.
+fn last_heard(listeners: &[Listener]) -> usize
+    ensures { result ≡ drafts.of_last (λ listener. length listener.takes) listeners.now }
+{
+    match listeners.last() {
+        Some(listener) => listener.takes().len(),
+        None => 0,
+    }
+}
+
+/// How many TAKE lines the terminal has that stands last.
+fn last_takes(place: Place, senders: &[Sender], listeners: &[Listener]) -> usize
+    ensures { result ≡ drafts.last_takes place senders.now listeners.now }
+{
+    match place {
+        Place::Listener => last_heard(listeners),
+        _ => last_taken(senders),
+    }
+}
+
 /// Gives the last sender one more SEND line.
-fn add_to_last(senders: &mut Vec<Sender>, line: SendLine) -> Result<(), AllocError>
-    requires room { drafts.last_count senders.old.items < most_strings }
+fn send_by_last(senders: &mut Vec<Sender>, line: SendLine) -> Result<(), AllocError>
+    requires room { drafts.last_sends senders.old.items < most_strings }
     requires range { IsTrue (is_send_line line) }
-    ensures ok { OnOk result (senders.new.items ≡ drafts.with_last_send line senders.old.items) }
+    ensures ok { OnOk result (senders.new.items ≡ drafts.with_last (drafts.with_send line) senders.old.items) }
 {
     if let Some(sender) = senders.last_mut() {
         sender.add_send(line)?;
+    }
+    Ok(())
+}
+
+/// Gives the last sender one more TAKE line.
+fn take_by_last(senders: &mut Vec<Sender>, line: TakeLine) -> Result<(), AllocError>
+    requires room { drafts.of_last (λ sender. length sender.takes) senders.old.items < most_takes }
+    requires range { IsTrue (is_take_line line) }
+    ensures ok { OnOk result (senders.new.items ≡ drafts.with_last (drafts.with_take line) senders.old.items) }
+{
+    if let Some(sender) = senders.last_mut() {
+        sender.add_take(line)?;
+    }
+    Ok(())
+}
+
+/// Gives the last listener one more TAKE line.
+fn hear_by_last(listeners: &mut Vec<Listener>, line: TakeLine) -> Result<(), AllocError>
+    requires room { drafts.of_last (λ listener. length listener.takes) listeners.old.items < most_takes }
+    requires range { IsTrue (is_take_line line) }
+    ensures ok { OnOk result (listeners.new.items ≡ drafts.with_last (drafts.with_heard line) listeners.old.items) }
+{
+    if let Some(listener) = listeners.last_mut() {
+        listener.add_take(line)?;
     }
     Ok(())
 }
@@ -51,7 +108,7 @@ fn add_send(
     senders: &mut Vec<Sender>,
     line: SendLine,
 ) -> Result<(), AllocError>
-    requires room { IsTrue (drafts.may_follow place (drafts.last_count senders.old.items) keywords.Send) }
+    requires room { IsTrue (drafts.may_follow place (drafts.last_sends senders.old.items) 0 keywords.Send) }
     requires range { IsTrue (is_send_line line) }
     ensures ok { OnOk result (senders.new.items ≡ drafts.senders_after place line senders.old.items) }
 {
@@ -60,13 +117,13 @@ fn add_send(
             senders.push(Sender::open(alloc, head, line)?)?;
             Ok(())
         }
-        _ => add_to_last(senders, line),
+        _ => send_by_last(senders, line),
     }
 }
 
-/// Whether a keyword may stand behind a place, where the last sender has so many SEND lines.
-fn may_follow(place: Place, sends: usize, keyword: Keyword) -> bool
-    ensures { result ≡ drafts.may_follow place sends keyword }
+/// Whether a keyword may stand behind a place, where the terminal that stands last has so many SEND lines and TAKE lines.
+fn may_follow(place: Place, sends: usize, takes: usize, keyword: Keyword) -> bool
+    ensures { result ≡ drafts.may_follow place sends takes keyword }
 {
     match (place, keyword) {
         (Place::Start, Keyword::Table) => true,
@@ -76,7 +133,9 @@ fn may_follow(place: Place, sends: usize, keyword: Keyword) -> bool
         (Place::Sg, Keyword::Sender | Keyword::Listener) => true,
         (Place::Sender(_), Keyword::Send) => true,
         (Place::Send, Keyword::Send) => sends < MOST_STRINGS,
-        (Place::Send, Keyword::Take | Keyword::Sender | Keyword::Listener) => true,
+        (Place::Send | Place::Take | Place::Listener, Keyword::Take) => takes < MOST_TAKES,
+        (Place::Send | Place::Take, Keyword::Sender) => true,
+        (Place::Send | Place::Take | Place::Listener, Keyword::Listener) => true,
         _ => false,
     }
 }
@@ -85,9 +144,11 @@ fn may_follow(place: Place, sends: usize, keyword: Keyword) -> bool
 #[derive(Drop)]
 pub struct Draft {
     place: Place,
+    mode: Mode,
     ti: u32,
     sg: u32,
     senders: Vec<Sender>,
+    listeners: Vec<Listener>,
 }
 
 impl Model for Draft {
@@ -95,7 +156,7 @@ impl Model for Draft {
 
     ghost Value = { drafts.Draft };
 
-    ghost view = { λ d. record { place = d.place; ti = d.ti; sg = d.sg; senders = d.senders.items } };
+    ghost view = { λ d. record { place = d.place; mode = d.mode; ti = d.ti; sg = d.sg; senders = d.senders.items; listeners = d.listeners.items } };
 }
 
 impl Draft {
@@ -110,55 +171,84 @@ impl Draft {
     {
         Draft {
             place: Place::Start,
+            mode: Mode::Aperiodic,
             ti: 0,
             sg: 0,
             senders: Vec::new(alloc),
+            listeners: Vec::new(alloc),
         }
     }
 
-    /// Takes the fields of a line of this keyword, which may stand here.
+    /// Whether a line of a keyword may come next.
+    fn may_come(&self, keyword: Keyword) -> bool
+        ensures { result ≡ drafts.may_come self.now keyword }
+    {
+        let takes = last_takes(self.place, &self.senders, &self.listeners);
+        may_follow(self.place, last_sends(&self.senders), takes, keyword)
+    }
+
+    /// Takes a TAKE line, which is of the terminal that stands last.
+    fn add_take(&mut self, line: TakeLine) -> Result<(), AllocError>
+        requires room { IsTrue (drafts.may_come self.old keywords.Take) }
+        requires range { IsTrue (is_take_line line) }
+        ensures { OnOk result (self.new ≡ drafts.taken self.old.place self.old line) }
+    {
+        match self.place {
+            Place::Listener => hear_by_last(&mut self.listeners, line),
+            _ => {
+                take_by_last(&mut self.senders, line)?;
+                self.place = Place::Take;
+                Ok(())
+            }
+        }
+    }
+
+    /// Takes the fields of a line of this keyword, which may come next.
     fn take_form(
         &mut self,
         alloc: Global,
         keyword: Keyword,
         fields: &[&[u8]],
     ) -> Result<(), LineFault>
-        requires { IsTrue (drafts.may_follow self.old.place (drafts.last_count self.old.senders) keyword) }
+        requires { IsTrue (drafts.may_come self.old keyword) }
         ensures { FieldsGive self.new result (drafts.form_reading self.old keyword (texts fields.now)) }
     {
         match keyword {
             Keyword::Table => {
                 table_line(fields)?;
                 self.place = Place::Table;
-                Ok(())
             }
             Keyword::Mode => {
-                mode_line(fields)?;
+                self.mode = mode_line(fields)?;
                 self.place = Place::Mode;
-                Ok(())
             }
             Keyword::Ti => {
                 self.ti = number_line(fields, LEAST_TI, MOST_TI)?;
                 self.place = Place::Ti;
-                Ok(())
             }
             Keyword::Sg => {
                 self.sg = number_line(fields, LEAST_SG, MOST_SG)?;
                 self.place = Place::Sg;
-                Ok(())
             }
-            Keyword::Sender => {
-                self.place = Place::Sender(sender_line(fields)?);
-                Ok(())
-            }
+            Keyword::Sender => self.place = Place::Sender(sender_line(self.mode, fields)?),
             Keyword::Send => {
                 let line = send_line(fields)?;
                 add_send(alloc, self.place, &mut self.senders, line)?;
                 self.place = Place::Send;
-                Ok(())
             }
-            Keyword::Take | Keyword::Listener => Err(LineFault::Refused(Reason::NotBuilt)),
+            Keyword::Take => {
+                let line = take_line(fields)?;
+                // The checker knows of the option in the line only where it is named.
+                let _ext = line.ext;
+                self.add_take(line)?;
+            }
+            Keyword::Listener => {
+                let number = listener_line(fields)?;
+                self.listeners.push(Listener::open(alloc, number))?;
+                self.place = Place::Listener;
+            }
         }
+        Ok(())
     }
 
     /// Takes the fields of a line.
@@ -169,7 +259,7 @@ impl Draft {
         let Some(keyword) = keyword_of(fields) else {
             return Err(LineFault::Refused(Reason::Keyword));
         };
-        if !may_follow(self.place, last_count(&self.senders), keyword) {
+        if !self.may_come(keyword) {
             return Err(LineFault::Refused(Reason::Keyword));
         }
         self.take_form(alloc, keyword, fields)
@@ -194,20 +284,17 @@ impl Draft {
     pub fn may_end(&self) -> bool
         ensures { result ≡ drafts.may_end self.now.place }
     {
-        matches!(self.place, Place::Sg | Place::Send)
+        matches!(
+            self.place,
+            Place::Sg | Place::Send | Place::Take | Place::Listener
+        )
     }
 
     /// The table, unless a whole reason applies.
-    pub fn table(self, alloc: Global) -> Result<Table, TableError>
+    pub fn table(self) -> Result<Table, TableError>
         requires { IsTrue (is_in_range (table_of self)) }
         ensures { result ≡ judged (table_of self) }
     {
-        Table::judged(
-            Mode::Aperiodic,
-            self.ti,
-            self.sg,
-            self.senders,
-            Vec::new(alloc),
-        )
+        Table::judged(self.mode, self.ti, self.sg, self.senders, self.listeners)
     }
 }

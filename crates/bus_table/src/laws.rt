@@ -9,17 +9,17 @@ ghost use Rattle.bus_table.specs.Hands.{hands_of, are_hands};
 ghost use Rattle.bus_table.specs.Lengths.{shortest, longest};
 ghost use Rattle.bus_table.specs.Reading.{answer_of};
 ghost use Rattle.bus_table.specs.Tables as tables;
-ghost use Rattle.bus_table.specs.Text.{IsTableText, IsBuiltText, is_built};
+ghost use Rattle.bus_table.specs.Text.{IsTableText};
 ghost use Rattle.bus_table.specs.Valid.{is_valid};
 
 /// A text of a valid table reads as that table.
 pub fn text_reads_as_its_table()
-    ensures { (text : List ℕ) (table : tables.Table) → IsTableText table text → IsTrue (is_built table) → IsTrue (is_valid table) → answer_of text ≡ Ok table }
+    ensures { (text : List ℕ) (table : tables.Table) → IsTableText table text → IsTrue (is_valid table) → answer_of text ≡ Ok table }
 {}
 
-/// What reads as a table is a text of it, in the forms that are read, and the table is valid; and each refusal has its cause.
+/// What reads as a table is a text of it, and the table is valid; and each refusal has its cause.
 pub fn readings_have_their_cause()
-    ensures found { (text : List ℕ) (table : tables.Table) → answer_of text ≡ Ok table → IsBuiltText table text × IsTrue (is_valid table) }
+    ensures found { (text : List ℕ) (table : tables.Table) → answer_of text ≡ Ok table → IsTableText table text × IsTrue (is_valid table) }
     ensures refused { (text : List ℕ) (error : TableError) → answer_of text ≡ Err error → Refuses text error }
 {}
 

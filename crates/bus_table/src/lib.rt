@@ -2,7 +2,7 @@
 //!
 //! - [`table::Table`] with its [`sender::Sender`]s, its [`listener::Listener`]s and their [`line`]s keeps that it is
 //!   valid: every number is in its range, and none of the [`error::WholeReason`]s applies.
-//! - [`reading::read_table`] reads a text. So far it reads aperiodic tables without TAKE lines and listeners.
+//! - [`reading::read_table`] reads a text.
 //! - [`lengths`] tells the shortest and the longest message of a sender, [`turns::place`] who speaks after whom.
 //! - [`fit::fits`] holds the items of a messages text to the lines of their senders, and [`hands::hands`] deals them out.
 //!

@@ -1,8 +1,9 @@
-ghost use Rattle.std.specs.Prelude.{◌≡◌, IsTrue};
-ghost use Rattle.bus_table.specs.Ranges.{is_listener};
+ghost use Rattle.std.specs.Prelude.{◌≡◌, ◌<◌, length, IsTrue, OnOk};
+ghost use Rattle.bus_table.specs.Ranges.{is_listener, is_number as is_terminal, is_take_line, most_takes};
 
 use crate::line::TakeLine;
 use crate::ranges::{are_take_lines, is_number};
+use std::alloc::{AllocError, Global};
 use std::marker::Model;
 
 /// A terminal that takes and never sends. It keeps that its number and its lines are in their ranges.
@@ -26,6 +27,7 @@ impl Model for Listener {
 
 impl Listener {
     ghost use Rattle.std.specs.Prelude.{Some, None, if◌then◌else◌};
+    ghost use Rattle.bus_table.specs.Drafts.{hearing, with_heard};
     ghost use Rattle.bus_table.specs.Tables as tables;
 
     /// None exactly where the number is out of its range, where there are more than 64 TAKE lines, or where a number of
@@ -38,6 +40,29 @@ impl Listener {
         } else {
             None
         }
+    }
+
+    /// A listener without TAKE lines.
+    pub(crate) fn open(alloc: Global, number: u8) -> Listener
+        requires { IsTrue (is_terminal number) }
+        ensures { result ≡ hearing number }
+    {
+        Listener {
+            number,
+            takes: Vec::new(alloc),
+        }
+    }
+
+    /// Adds a TAKE line behind the others.
+    pub(crate) fn add_take(&mut self, line: TakeLine) -> Result<(), AllocError>
+        requires room { length self.old.takes < most_takes }
+        requires range { IsTrue (is_take_line line) }
+        ensures ok { OnOk result (self.new ≡ with_heard line self.old) }
+    {
+        // The checker knows of the option in the line only where it is named.
+        let _ext = line.ext;
+        self.takes.push(line)?;
+        Ok(())
     }
 
     /// Its terminal number: 1 to 128.

@@ -17,4 +17,8 @@ pub enum Place {
     Sender(Head),
     /// A SEND line of the last sender.
     Send,
+    /// A TAKE line of the last sender.
+    Take,
+    /// A LISTENER line, or a TAKE line of the last listener.
+    Listener,
 }

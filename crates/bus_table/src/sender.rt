@@ -1,6 +1,6 @@
 ghost use Rattle.std.specs.Prelude.{◌≡◌, ◌<◌, length, IsTrue, IfOk, OnOk};
 ghost use Rattle.bus_strings.specs.Limits.{most_strings};
-ghost use Rattle.bus_table.specs.Ranges.{is_sender, is_send_line};
+ghost use Rattle.bus_table.specs.Ranges.{is_sender, is_send_line, is_take_line, most_takes};
 
 use crate::head::Head;
 use crate::line::{SendLine, TakeLine};
@@ -32,7 +32,7 @@ impl Model for Sender {
 
 impl Sender {
     ghost use Rattle.std.specs.Prelude.{Some, None, if◌then◌else◌};
-    ghost use Rattle.bus_table.specs.Drafts.{opened, with_send};
+    ghost use Rattle.bus_table.specs.Drafts.{opened, with_send, with_take};
     ghost use Rattle.bus_table.specs.Tables as tables;
 
     /// None exactly where the number, the terminal gap or the offset is out of its range, where there are no SEND lines
@@ -64,7 +64,7 @@ impl Sender {
         }
     }
 
-    /// A sender with its first SEND line and no offset.
+    /// A sender with its first SEND line.
     pub(crate) fn open(alloc: Global, head: Head, line: SendLine) -> Result<Sender, AllocError>
         requires { IsTrue (is_send_line line) }
         ensures { IfOk result (λ sender. sender ≡ opened head line) }
@@ -74,7 +74,7 @@ impl Sender {
         Ok(Sender {
             number: head.number(),
             tg: head.tg(),
-            at: 0,
+            at: head.at(),
             sends,
             takes: Vec::new(alloc),
         })
@@ -84,9 +84,21 @@ impl Sender {
     pub(crate) fn add_send(&mut self, line: SendLine) -> Result<(), AllocError>
         requires room { length self.old.sends < most_strings }
         requires range { IsTrue (is_send_line line) }
-        ensures ok { OnOk result (self.new ≡ with_send self.old line) }
+        ensures ok { OnOk result (self.new ≡ with_send line self.old) }
     {
         self.sends.push(line)?;
+        Ok(())
+    }
+
+    /// Adds a TAKE line behind the others.
+    pub(crate) fn add_take(&mut self, line: TakeLine) -> Result<(), AllocError>
+        requires room { length self.old.takes < most_takes }
+        requires range { IsTrue (is_take_line line) }
+        ensures ok { OnOk result (self.new ≡ with_take line self.old) }
+    {
+        // The checker knows of the option in the line only where it is named.
+        let _ext = line.ext;
+        self.takes.push(line)?;
         Ok(())
     }
 

@@ -61,7 +61,7 @@ fn reads_two_senders(rt: HostRuntime) -> Result<(), Fail> {
 }
 
 #[test]
-fn a_gap_of_its_sender_is_below_the_synchronization_gap(rt: HostRuntime) -> Result<(), Fail> {
+fn gaps_and_offsets_are_below_their_bounds(rt: HostRuntime) -> Result<(), Fail> {
     let text =
         b"TABLE 1\nMODE aperiodic\nTI 1000\nSG 30\nSENDER 1 TG 20\nSEND 0A1 1 2 4\nSENDER 2 TG 30\nSEND 0B2 1 30 40\n";
     assert_eq!(rt;
@@ -72,12 +72,39 @@ fn a_gap_of_its_sender_is_below_the_synchronization_gap(rt: HostRuntime) -> Resu
         whole(&read_table(rt.alloc(), HEAD)),
         Some(WholeReason::NoSender)
     );
+    let late = b"TABLE 1\nMODE periodic\nTI 2000\nSG 300\nSENDER 1 TG 20 AT 2000\nSEND 0A1 1 2 4\n";
+    assert_eq!(rt;
+        whole(&read_table(rt.alloc(), late)),
+        Some(WholeReason::OffsetRange(1))
+    );
     Ok(())
 }
 
 #[test]
-fn names_the_first_line_and_reason(rt: HostRuntime) -> Result<(), Fail> {
-    let rows: [(&[u8], u64, Reason); 10] = [
+fn reads_periodic_tables_with_listeners(rt: HostRuntime) -> Result<(), Fail> {
+    let text =
+        b"TABLE 1\nMODE periodic\nTI 2000\nSG 300\nSENDER 1 TG 20 AT 0\nSEND 0a1 1 2 2\nTAKE 0B2 * 255 256\nSENDER 2 TG 30 AT 1999\nSEND 0B2 f 30 40\nLISTENER 3\nLISTENER 4\nTAKE 0A1 f 0 1\n";
+    let table = read_table(rt.alloc(), text)?;
+    assert_eq!(rt; table.mode(), Mode::Periodic);
+    let senders = table.senders();
+    assert_eq!(rt; senders[1].at(), 1999);
+    assert_eq!(rt; senders[1].takes().len(), 0);
+    let line = senders[0].takes()[0];
+    assert_eq!(rt; line.label.value(), 0x0b2);
+    assert!(rt; line.ext.is_none());
+    assert_eq!(rt; line.first, 255);
+    assert_eq!(rt; line.count, 256);
+    let listeners = table.listeners();
+    assert_eq!(rt; listeners.len(), 2);
+    assert_eq!(rt; listeners[0].takes().len(), 0);
+    assert_eq!(rt; listeners[1].number(), 4);
+    assert_eq!(rt; listeners[1].takes()[0].ext, Ext::new(15));
+    Ok(())
+}
+
+#[test]
+fn names_the_first_line_and_reason_of_a_head(rt: HostRuntime) -> Result<(), Fail> {
+    let rows: [(&[u8], u64, Reason); 6] = [
         (b"", 1, Reason::Ended),
         (
             b"TABLE 1\nMODE aperiodic\nTI 999\nSG 300\n",
@@ -89,32 +116,12 @@ fn names_the_first_line_and_reason(rt: HostRuntime) -> Result<(), Fail> {
             3,
             Reason::Spelling,
         ),
-        (b"TABLE 1\nMODE periodic\nTI 2000\n", 2, Reason::NotBuilt),
+        (b"TABLE 1\nMODE x\nTI 2000\n", 2, Reason::Spelling),
         (b"TABLE 1\nMODE periodic x\n", 2, Reason::Fields),
         (
             b"TABLE 1\r\n\t# a note\n\nMODE  aperiodic\r\nTI 1000 \nSG 300\nSENDER 999 TG x\n",
             7,
             Reason::Spelling,
-        ),
-        (
-            b"TABLE 1\nMODE aperiodic\nTI 1000\nSG 300\nTAKE 0A1 * 1 4\n",
-            5,
-            Reason::Keyword,
-        ),
-        (
-            b"TABLE 1\nMODE aperiodic\nTI 1000\nSG 300\nLISTENER\n",
-            5,
-            Reason::NotBuilt,
-        ),
-        (
-            b"TABLE 1\nMODE aperiodic\nTI 1000\nSG 300\nSENDER 1 TG 20\n",
-            6,
-            Reason::Ended,
-        ),
-        (
-            b"TABLE 1\nMODE aperiodic\nTI 1000\nSG 300\nSENDER 1 TG 20\nSEND 0A1 1 2 2\nTAKE x",
-            7,
-            Reason::NotBuilt,
         ),
     ];
     for (text, line, reason) in rows {
@@ -123,6 +130,53 @@ fn names_the_first_line_and_reason(rt: HostRuntime) -> Result<(), Fail> {
             Some((line, reason))
         );
     }
+    Ok(())
+}
+
+#[test]
+fn names_the_first_line_and_reason_of_a_terminal(rt: HostRuntime) -> Result<(), Fail> {
+    // The lines stand from line 5 on.
+    let rows: [(&[u8], u64, Reason); 10] = [
+        (b"TAKE 0A1 * 1 4\n", 5, Reason::Keyword),
+        (b"LISTENER\n", 5, Reason::Fields),
+        (b"LISTENER 129\n", 5, Reason::Range),
+        (b"SENDER 1 TG 20\n", 6, Reason::Ended),
+        (b"SENDER 1 TG 20\nTAKE 0A1 * 1 4\n", 6, Reason::Keyword),
+        (b"SENDER 1 TG 20 AT 0\n", 5, Reason::Fields),
+        (b"SENDER 1 TG 20\nSEND 0A1 * 2 2\n", 6, Reason::Spelling),
+        (
+            b"SENDER 1 TG 20\nSEND 0A1 1 2 2\nTAKE 0A1 * 256 x\n",
+            7,
+            Reason::Spelling,
+        ),
+        (b"LISTENER 1\nTAKE 0A1 * 0 0\n", 6, Reason::Range),
+        (b"LISTENER 1\nSENDER 2 TG 20\n", 6, Reason::Keyword),
+    ];
+    for (lines, line, reason) in rows {
+        let text = with_head(&rt, lines)?;
+        assert_eq!(rt;
+            refusal(&read_table(rt.alloc(), &text)),
+            Some((line, reason))
+        );
+    }
+    let text = b"TABLE 1\nMODE periodic\nTI 2000\nSG 300\nSENDER 1 TG 20\n";
+    assert_eq!(rt;
+        refusal(&read_table(rt.alloc(), text)),
+        Some((5, Reason::Fields))
+    );
+    Ok(())
+}
+
+#[test]
+fn a_listener_has_at_most_64_lines(rt: HostRuntime) -> Result<(), Fail> {
+    let mut text = with_head(&rt, b"LISTENER 1\n")?;
+    for _ in 0..65u8 {
+        text.extend_from_slice(b"TAKE 0A1 * 1 4\n")?;
+    }
+    assert_eq!(rt;
+        refusal(&read_table(rt.alloc(), &text)),
+        Some((70, Reason::Keyword))
+    );
     Ok(())
 }
 
@@ -163,7 +217,12 @@ fn names_what_stands_twice(rt: HostRuntime) -> Result<(), Fail> {
         Label::new(0x0a1).ok_or("a label")?,
         Ext::new(1).ok_or("an extension")?,
     );
-    let rows: [(&[u8], WholeReason); 3] = [
+    let rows: [(&[u8], WholeReason); 5] = [
+        (b"LISTENER 1\n", WholeReason::NoSender),
+        (
+            b"SENDER 1 TG 20\nSEND 0A1 1 2 4\nLISTENER 1\n",
+            WholeReason::NumberTwice(1),
+        ),
         (
             b"SENDER 1 TG 20\nSEND 0A1 1 2 4\nSENDER 1 TG 20\nSEND 0A1 1 2 4\n",
             WholeReason::NumberTwice(1),

@@ -12,6 +12,4 @@ pub enum Reason {
     Spelling,
     /// A number is out of its range.
     Range,
-    /// The form of the line isn't built yet.
-    NotBuilt,
 }

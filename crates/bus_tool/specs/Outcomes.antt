@@ -3,7 +3,7 @@ use Rattle.std.specs.Prelude.{ℕ, Bool, true, false, List, [], ◌∷◌, ◌++
 use Rattle.std.specs.Fmt.{decimal}
 use Rattle.bus_text.specs.Digits.{hex_digit, hexadecimal}
 use Rattle.bus_text.specs.declared.reason.Reason.{Reason}
-use Rattle.bus_text.specs.declared.reason.Reason.TheVariants.{Ended, Keyword, Fields, Spelling, Range, NotBuilt}
+use Rattle.bus_text.specs.declared.reason.Reason.TheVariants.{Ended, Keyword, Fields, Spelling, Range}
 use Rattle.bus_table.specs.declared.fit.FitError.{FitError}
 use Rattle.bus_table.specs.declared.fit.FitError.TheVariants.{Stranger, Shape}
 use Rattle.bus_table.specs.declared.error.WholeReason.{WholeReason}
@@ -40,7 +40,6 @@ reason_name Keyword = codes "Keyword"
 reason_name Fields = codes "Fields"
 reason_name Spelling = codes "Spelling"
 reason_name Range = codes "Range"
-reason_name NotBuilt = codes "NotBuilt"
 
 -- the label and the extension that stand on two SEND lines
 abbrev pub pair_words : ℕ → ℕ → List ℕ

@@ -25,7 +25,6 @@ fn put_reason<K: Sink>(text: &mut TextBuffer, sink: &mut K, reason: Reason)
         Reason::Fields => text.put(sink, b"Fields"),
         Reason::Spelling => text.put(sink, b"Spelling"),
         Reason::Range => text.put(sink, b"Range"),
-        Reason::NotBuilt => text.put(sink, b"NotBuilt"),
     }
 }
 
