@@ -20,11 +20,13 @@ use Rattle.bus_words.specs.WordTexts.{word_text}
 use Rattle.bus_strings.specs.Messages.{Wordstring, Entry, IsWordstring}
 use Rattle.bus_strings.specs.Transmissions.{IsAscending}
 use Rattle.bus_trace.specs.declared.hold.Hold.{Hold}
-use Rattle.bus_trace.specs.declared.place.Keyword.TheVariants.{Tx, Ws}
-use Rattle.bus_trace.specs.declared.place.Place.{Place}
-use Rattle.bus_trace.specs.declared.place.Place.TheVariants.{Headed, Holding, Begun, Stringing, Ended}
+use Rattle.bus_trace.specs.declared.keyword.Keyword.TheVariants.{Tx, Ws}
+use Rattle.bus_trace.specs.declared.position.Position.{Position}
+use Rattle.bus_trace.specs.declared.position.Position.TheVariants.{Headed, Holding, Begun, Stringing, Ended}
 use Rattle.bus_trace.specs.declared.reason.TraceReason.{TraceReason}
-use Rattle.bus_trace.specs.Traces.{Recording, Line, IsHold, AscendAbove, IsBelow, IsTrace, head_line, horizon_line, hold_line, begin_line, data_word, string_line, entry_lines, end_line, body_lines, trace_text, horizon_limit, line_limit}
+use Rattle.bus_strings.specs.Limits.{horizon_limit}
+use Rattle.bus_trace.specs.Limits.{line_limit}
+use Rattle.bus_trace.specs.Traces.{Recording, Line, IsHold, AscendAbove, IsBelow, IsTrace, head_line, horizon_line, hold_line, begin_line, data_word, string_line, entry_lines, end_line, body_lines, trace_text}
 use Rattle.bus_trace.specs.States.{State, start, may_follow, last_count, last_terminal, is_after, is_space, spaced_fields, is_ended, more_list, head_step, horizon_step, hold_step, begin_step, string_step, end_step, fields_step, step}
 use Rattle.bus_trace.specs.Runs.{Going, Found, judged, begin, run, ◌>>-◌, HasNoFeed}
 use Rattle.bus_trace.proofs.Lasts.{with_last, count_last}
@@ -78,7 +80,7 @@ line_again s n fields rest f h =
 -- these lines lead from one state to another, and none of them ends the text
 abbrev pub Leads : State → List Line → State → Type 0
 Leads s [] n = s ≡ n
-Leads s (fields ∷ lines) n = FitsLine fields × ((m : State) × (fields_step s fields ≡ Ok m) × (is_ended m.place ≡ false) × Leads m lines n)
+Leads s (fields ∷ lines) n = FitsLine fields × ((m : State) × (fields_step s fields ≡ Ok m) × (is_ended m.position ≡ false) × Leads m lines n)
 
 leads_run : (s n : State) (lines : List Line) (rest : List ℕ) → Leads s lines n → run (record { state = s; line = [] }) (spelled_lines lines ++ rest) ≡ run (record { state = n; line = [] }) rest
 leads_run s n [] rest h = ap (λ (x : State). run (record { state = x; line = [] }) rest) h
@@ -93,7 +95,7 @@ leads_append : (s m n : State) (xs ys : List Line) → Leads s xs m → Leads m 
 leads_append s m n [] ys h k = subst (λ (x : State). Leads x ys n) (sym h) k
 leads_append s m n (x ∷ xs) ys h k = (h.0, (h.1.0, h.1.1, h.1.2, leads_append h.1.0 m n xs ys h.1.3 k))
 
-leads_one : (s n : State) (fields : Line) → FitsLine fields → fields_step s fields ≡ Ok n → is_ended n.place ≡ false → Leads s (fields ∷ []) n
+leads_one : (s n : State) (fields : Line) → FitsLine fields → fields_step s fields ≡ Ok n → is_ended n.position ≡ false → Leads s (fields ∷ []) n
 leads_one s n fields f h e = (f, (n, h, e, refl))
 
 -- ---- tests that pass
@@ -115,24 +117,24 @@ digits : (n most count : ℕ) → 0 < count → n ≤ most → most < 10 ^ count
 digits n most count c h k l = length-decimal-le count n c (omega (arith, h, k)) (omega (arith, h, l))
 
 -- ---- each form
-head_again : Leads start (head_line ∷ []) (record { place = Headed; horizon = 0; holds = []; list = [] })
+head_again : Leads start (head_line ∷ []) (record { position = Headed; horizon = 0; holds = []; list = [] })
 unfolding head_step
 head_again =
-    leads_one start (record { place = Headed; horizon = 0; holds = []; list = [] }) head_line
+    leads_one start (record { position = Headed; horizon = 0; holds = []; list = [] }) head_line
     (record { some = omega arith; all = (constant_field (codes "TRACE") (omega arith) refl, (constant_field (codes "1") (omega arith) refl, tt)); short = omega arith }) refl refl
 
-horizon_again : (h : ℕ) → h ≤ horizon_limit → Leads (record { place = Headed; horizon = 0; holds = []; list = [] }) (horizon_line h ∷ []) (record { place = Holding; horizon = h; holds = []; list = [] })
+horizon_again : (h : ℕ) → h ≤ horizon_limit → Leads (record { position = Headed; horizon = 0; holds = []; list = [] }) (horizon_line h ∷ []) (record { position = Holding; horizon = h; holds = []; list = [] })
 unfolding horizon_step
 horizon_again h k =
     let d = decimal_is h (omega (arith, k)) in
-    leads_one (record { place = Headed; horizon = 0; holds = []; list = [] }) (record { place = Holding; horizon = h; holds = []; list = [] }) (horizon_line h)
-    (record { some = omega arith; all = (constant_field (codes "HORIZON") (omega arith) refl, (decimal_field h (omega (arith, k)), tt)); short = omega (arith, digits h horizon_limit 8 (omega arith) k (omega arith) (omega arith)) })
-    (pass _ _ _ _ _ d.plain (pass _ _ _ _ _ (ap (is_in_range 0 horizon_limit) d.value ∙ within h 0 horizon_limit (omega arith) k) (ap (λ x. Ok (record { place = Holding; horizon = x; holds = []; list = [] })) d.value)))
+    leads_one (record { position = Headed; horizon = 0; holds = []; list = [] }) (record { position = Holding; horizon = h; holds = []; list = [] }) (horizon_line h)
+    (record { some = omega arith; all = (constant_field (codes "HORIZON") (omega arith) refl, (decimal_field h (omega (arith, k)), tt)); short = omega (arith, digits h horizon_limit 13 (omega arith) k (omega arith) (omega arith)) })
+    (pass _ _ _ _ _ d.plain (pass _ _ _ _ _ (ap (is_in_range 0 horizon_limit) d.value ∙ within h 0 horizon_limit (omega arith) k) (ap (λ x. Ok (record { position = Holding; horizon = x; holds = []; list = [] })) d.value)))
     refl
 
 -- a state in which holds are read
 abbrev pub holding : ℕ → List Hold → State
-holding h hs = record { place = Holding; horizon = h; holds = hs; list = [] }
+holding h hs = record { position = Holding; horizon = h; holds = hs; list = [] }
 
 hold_again : (h : ℕ) (hs : List Hold) (hold : Hold) → IsHold hold → last_terminal hs < hold.terminal → Leads (holding h hs) (hold_line hold ∷ []) (holding h (hs ++ hold ∷ []))
 unfolding hold_step
@@ -160,26 +162,26 @@ holds_again h done (x ∷ left) f a =
     (subst (λ hs. Leads (holding h (done ++ x ∷ [])) (map hold_line left) (holding h hs)) e (holds_again h (done ++ x ∷ []) left f.1 (subst (AscendAbove 0) (sym e) a)))
 
 -- a state in which transmissions are read
-abbrev pub at_place : Place → ℕ → List Hold → List Entry → State
-at_place p h hs xs = record { place = p; horizon = h; holds = hs; list = xs }
+abbrev pub at_position : Position → ℕ → List Hold → List Entry → State
+at_position p h hs xs = record { position = p; horizon = h; holds = hs; list = xs }
 
-begin_again : (p : Place) (h : ℕ) (hs : List Hold) (xs : List Entry) (m n : ℕ) → h ≤ horizon_limit → may_follow p (last_count xs) Tx ≡ true → m < h → 1 ≤ n → n ≤ 128 → is_after xs m n ≡ true
-    → Leads (at_place p h hs xs) (begin_line m n ∷ []) (at_place (Begun m n) h hs xs)
+begin_again : (p : Position) (h : ℕ) (hs : List Hold) (xs : List Entry) (m n : ℕ) → h ≤ horizon_limit → may_follow p (last_count xs) Tx ≡ true → m < h → 1 ≤ n → n ≤ 128 → is_after xs m n ≡ true
+    → Leads (at_position p h hs xs) (begin_line m n ∷ []) (at_position (Begun m n) h hs xs)
 unfolding begin_step
 begin_again p h hs xs m n k may below positive low after =
     let t = decimal_is m (omega (arith, below, k)) in
     let c = decimal_is n (omega (arith, low)) in
-    leads_one (at_place p h hs xs) (at_place (Begun m n) h hs xs) (begin_line m n)
+    leads_one (at_position p h hs xs) (at_position (Begun m n) h hs xs) (begin_line m n)
     (record {
       some = omega arith;
       all = (constant_field (codes "TX") (omega arith) refl, (decimal_field m (omega (arith, below, k)), (decimal_field n (omega (arith, low)), tt)));
-      short = omega (arith, length-append (decimal m) (32 ∷ decimal n), digits m horizon_limit 8 (omega arith) (omega (arith, below, k)) (omega arith) (omega arith), digits n 128 3 (omega arith) low (omega arith) (omega arith));
+      short = omega (arith, length-append (decimal m) (32 ∷ decimal n), digits m horizon_limit 13 (omega arith) (omega (arith, below, k)) (omega arith) (omega arith), digits n 128 3 (omega arith) low (omega arith) (omega arith));
     })
     (stand _ _ _ _ may
     (pass _ _ _ _ _ (both _ _ t.plain c.plain)
     (pass _ _ _ _ _ (both _ _ (ap (λ x. nat_lt x h) t.value ∙ lt_test m h below) (ap (is_in_range 1 128) c.value ∙ within n 1 128 positive low))
     (pass _ _ _ _ _ (ap (λ x. is_after xs x (decimal_value (decimal n))) t.value ∙ ap (λ x. is_after xs m x) c.value ∙ after)
-    (ap (λ x. Ok (at_place (Begun x (decimal_value (decimal n))) h hs xs)) t.value ∙ ap (λ x. Ok (at_place (Begun m x) h hs xs)) c.value)))))
+    (ap (λ x. Ok (at_position (Begun x (decimal_value (decimal n))) h hs xs)) t.value ∙ ap (λ x. Ok (at_position (Begun m x) h hs xs)) c.value)))))
     refl
 
 words_room : (f : List ℕ) (ws : List ℕ) → length (join_with_byte 32 (f ∷ map (λ value. word_text (data_word value)) ws)) ≡ length f + 7 * length ws
@@ -195,77 +197,77 @@ string_line_fits w i =
       short = omega (arith, words_room (word_text (label_word w.label w.ext)) w.words, length-word (label_word w.label w.ext), i.few);
     }
 
-string_line_again : (p : Place) (h : ℕ) (hs : List Hold) (xs : List Entry) (w : Wordstring) → may_follow p (last_count xs) Ws ≡ true → IsWordstring w
-    → Leads (at_place p h hs xs) (string_line w ∷ []) (at_place Stringing h hs (more_list p w xs))
+string_line_again : (p : Position) (h : ℕ) (hs : List Hold) (xs : List Entry) (w : Wordstring) → may_follow p (last_count xs) Ws ≡ true → IsWordstring w
+    → Leads (at_position p h hs xs) (string_line w ∷ []) (at_position Stringing h hs (more_list p w xs))
 unfolding string_step
 string_line_again p h hs xs w may i =
     let r = string_again w i in
-    leads_one (at_place p h hs xs) (at_place Stringing h hs (more_list p w xs)) (string_line w) (string_line_fits w i)
+    leads_one (at_position p h hs xs) (at_position Stringing h hs (more_list p w xs)) (string_line w) (string_line_fits w i)
     (stand _ _ _ _ may
     (pass _ _ _ _ _ (within (length (string_line w)) 2 258 (omega arith) (omega (arith, length-map w.words (λ value. word_text (data_word value)), i.few)))
     (pass _ _ _ _ _ r.spelled
-    (pass _ _ _ _ _ r.even
-    (ap (λ (x : Wordstring). Ok (at_place Stringing h hs (more_list p x xs))) r.string)))))
+    (pass _ _ _ _ _ r.parity
+    (ap (λ (x : Wordstring). Ok (at_position Stringing h hs (more_list p x xs))) r.string)))))
     refl
 
 -- the wordstrings behind the first
 strings_again : (h : ℕ) (hs : List Hold) (xs : List Entry) (m n : ℕ) (done left : List Wordstring) → length done + length left ≤ 31 → AllByRecursion IsWordstring left
-    → Leads (at_place Stringing h hs (xs ++ record { moment = m; terminal = n; message = done } ∷ [])) (map string_line left) (at_place Stringing h hs (xs ++ record { moment = m; terminal = n; message = done ++ left } ∷ []))
-strings_again h hs xs m n done [] few f = ap (λ (ws : List Wordstring). at_place Stringing h hs (xs ++ record { moment = m; terminal = n; message = ws } ∷ [])) (sym (append-nil done))
+    → Leads (at_position Stringing h hs (xs ++ record { moment = m; terminal = n; message = done } ∷ [])) (map string_line left) (at_position Stringing h hs (xs ++ record { moment = m; terminal = n; message = done ++ left } ∷ []))
+strings_again h hs xs m n done [] few f = ap (λ (ws : List Wordstring). at_position Stringing h hs (xs ++ record { moment = m; terminal = n; message = ws } ∷ [])) (sym (append-nil done))
 strings_again h hs xs m n done (w ∷ left) few f =
     let now : List Entry = xs ++ record { moment = m; terminal = n; message = done } ∷ [] in
     let next : List Entry = xs ++ record { moment = m; terminal = n; message = done ++ w ∷ [] } ∷ [] in
     let last : List Entry = xs ++ record { moment = m; terminal = n; message = done ++ w ∷ left } ∷ [] in
-    let one = subst (λ (ys : List Entry). Leads (at_place Stringing h hs now) (string_line w ∷ []) (at_place Stringing h hs ys)) (with_last w xs m n done)
+    let one = subst (λ (ys : List Entry). Leads (at_position Stringing h hs now) (string_line w ∷ []) (at_position Stringing h hs ys)) (with_last w xs m n done)
     (string_line_again Stringing h hs now w (lt_test (last_count now) 31 (omega (arith, count_last xs m n done, few))) f.0) in
-    let others = subst (λ (ws : List Wordstring). Leads (at_place Stringing h hs next) (map string_line left) (at_place Stringing h hs (xs ++ record { moment = m; terminal = n; message = ws } ∷ [])))
+    let others = subst (λ (ws : List Wordstring). Leads (at_position Stringing h hs next) (map string_line left) (at_position Stringing h hs (xs ++ record { moment = m; terminal = n; message = ws } ∷ [])))
     (append_assoc done (w ∷ []) left) (strings_again h hs xs m n (done ++ w ∷ []) left (omega (arith, length-append done (w ∷ []), few)) f.1) in
-    leads_append (at_place Stringing h hs now) (at_place Stringing h hs next) (at_place Stringing h hs last) (string_line w ∷ []) (map string_line left) one others
+    leads_append (at_position Stringing h hs now) (at_position Stringing h hs next) (at_position Stringing h hs last) (string_line w ∷ []) (map string_line left) one others
 
 -- a message, from its first wordstring
 message_again : (h : ℕ) (hs : List Hold) (xs : List Entry) (m n : ℕ) (message : List Wordstring) → 0 < length message → length message ≤ 31 → AllByRecursion IsWordstring message
-    → Leads (at_place (Begun m n) h hs xs) (map string_line message) (at_place Stringing h hs (xs ++ record { moment = m; terminal = n; message = message } ∷ []))
+    → Leads (at_position (Begun m n) h hs xs) (map string_line message) (at_position Stringing h hs (xs ++ record { moment = m; terminal = n; message = message } ∷ []))
 message_again h hs xs m n [] some few f = absurd (omega arith)
 message_again h hs xs m n (w ∷ left) some few f =
-    leads_append (at_place (Begun m n) h hs xs) (at_place Stringing h hs (xs ++ record { moment = m; terminal = n; message = w ∷ [] } ∷ [])) (at_place Stringing h hs (xs ++ record { moment = m; terminal = n; message = w ∷ left } ∷ []))
+    leads_append (at_position (Begun m n) h hs xs) (at_position Stringing h hs (xs ++ record { moment = m; terminal = n; message = w ∷ [] } ∷ [])) (at_position Stringing h hs (xs ++ record { moment = m; terminal = n; message = w ∷ left } ∷ []))
     (string_line w ∷ []) (map string_line left) (string_line_again (Begun m n) h hs xs w refl f.0) (strings_again h hs xs m n (w ∷ []) left (omega (arith, few)) f.1)
 
-entry_again : (p : Place) (h : ℕ) (hs : List Hold) (xs : List Entry) (x : Entry) → h ≤ horizon_limit → may_follow p (last_count xs) Tx ≡ true → IsBelow h x → is_after xs x.moment x.terminal ≡ true
-    → Leads (at_place p h hs xs) (entry_lines x) (at_place Stringing h hs (xs ++ x ∷ []))
+entry_again : (p : Position) (h : ℕ) (hs : List Hold) (xs : List Entry) (x : Entry) → h ≤ horizon_limit → may_follow p (last_count xs) Tx ≡ true → IsBelow h x → is_after xs x.moment x.terminal ≡ true
+    → Leads (at_position p h hs xs) (entry_lines x) (at_position Stringing h hs (xs ++ x ∷ []))
 entry_again p h hs xs x k may b after =
-    leads_append (at_place p h hs xs) (at_place (Begun x.moment x.terminal) h hs xs) (at_place Stringing h hs (xs ++ x ∷ [])) (begin_line x.moment x.terminal ∷ []) (map string_line x.message)
+    leads_append (at_position p h hs xs) (at_position (Begun x.moment x.terminal) h hs xs) (at_position Stringing h hs (xs ++ x ∷ [])) (begin_line x.moment x.terminal ∷ []) (map string_line x.message)
     (begin_again p h hs xs x.moment x.terminal k may b.moment b.positive b.low after) (message_again h hs xs x.moment x.terminal x.message b.message.some b.message.few b.message.strings)
 
 list_again : (h : ℕ) (hs : List Hold) (done left : List Entry) → h ≤ horizon_limit → AllByRecursion (IsBelow h) left → IsAscending (done ++ left)
-    → Leads (at_place Stringing h hs done) (flat_map entry_lines left) (at_place Stringing h hs (done ++ left))
-list_again h hs done [] k f order = ap (at_place Stringing h hs) (sym (append-nil done))
+    → Leads (at_position Stringing h hs done) (flat_map entry_lines left) (at_position Stringing h hs (done ++ left))
+list_again h hs done [] k f order = ap (at_position Stringing h hs) (sym (append-nil done))
 list_again h hs done (x ∷ left) k f order =
     let e : (done ++ x ∷ []) ++ left ≡ done ++ x ∷ left = append_assoc done (x ∷ []) left in
-    leads_append (at_place Stringing h hs done) (at_place Stringing h hs (done ++ x ∷ [])) (at_place Stringing h hs (done ++ x ∷ left)) (entry_lines x) (flat_map entry_lines left)
+    leads_append (at_position Stringing h hs done) (at_position Stringing h hs (done ++ x ∷ [])) (at_position Stringing h hs (done ++ x ∷ left)) (entry_lines x) (flat_map entry_lines left)
     (entry_again Stringing h hs done x k refl f.0 (after_front done x left order))
-    (subst (λ (ys : List Entry). Leads (at_place Stringing h hs (done ++ x ∷ [])) (flat_map entry_lines left) (at_place Stringing h hs ys)) e
+    (subst (λ (ys : List Entry). Leads (at_position Stringing h hs (done ++ x ∷ [])) (flat_map entry_lines left) (at_position Stringing h hs ys)) e
     (list_again h hs (done ++ x ∷ []) left k f.1 (subst IsAscending (sym e) order)))
 
 -- ---- a whole trace
--- the place behind a list: no TX line was read, or the last transmission goes on
-abbrev pub last_place : List Entry → Place
-last_place [] = Holding
-last_place (x ∷ xs) = Stringing
+-- the position behind a list: no TX line was read, or the last transmission goes on
+abbrev pub last_position : List Entry → Position
+last_position [] = Holding
+last_position (x ∷ xs) = Stringing
 
-whole_list : (h : ℕ) (hs : List Hold) (xs : List Entry) → h ≤ horizon_limit → AllByRecursion (IsBelow h) xs → IsAscending xs → Leads (holding h hs) (flat_map entry_lines xs) (at_place (last_place xs) h hs xs)
+whole_list : (h : ℕ) (hs : List Hold) (xs : List Entry) → h ≤ horizon_limit → AllByRecursion (IsBelow h) xs → IsAscending xs → Leads (holding h hs) (flat_map entry_lines xs) (at_position (last_position xs) h hs xs)
 whole_list h hs [] k f order = refl
 whole_list h hs (x ∷ xs) k f order =
-    leads_append (holding h hs) (at_place Stringing h hs (x ∷ [])) (at_place Stringing h hs (x ∷ xs)) (entry_lines x) (flat_map entry_lines xs)
+    leads_append (holding h hs) (at_position Stringing h hs (x ∷ [])) (at_position Stringing h hs (x ∷ xs)) (entry_lines x) (flat_map entry_lines xs)
     (entry_again Holding h hs [] x k refl f.0 refl) (list_again h hs (x ∷ []) xs k f.1 order)
 
-body_again : (t : Recording) → IsTrace t → Leads start (body_lines t.horizon t.holds t.list) (at_place (last_place t.list) t.horizon t.holds t.list)
+body_again : (t : Recording) → IsTrace t → Leads start (body_lines t.horizon t.holds t.list) (at_position (last_position t.list) t.horizon t.holds t.list)
 body_again t i =
-    leads_append start (record { place = Headed; horizon = 0; holds = []; list = [] }) (at_place (last_place t.list) t.horizon t.holds t.list) (head_line ∷ []) (horizon_line t.horizon ∷ (map hold_line t.holds ++ flat_map entry_lines t.list)) head_again
-    (leads_append (record { place = Headed; horizon = 0; holds = []; list = [] }) (holding t.horizon []) (at_place (last_place t.list) t.horizon t.holds t.list) (horizon_line t.horizon ∷ []) (map hold_line t.holds ++ flat_map entry_lines t.list) (horizon_again t.horizon i.horizon)
-    (leads_append (holding t.horizon []) (holding t.horizon t.holds) (at_place (last_place t.list) t.horizon t.holds t.list) (map hold_line t.holds) (flat_map entry_lines t.list)
+    leads_append start (record { position = Headed; horizon = 0; holds = []; list = [] }) (at_position (last_position t.list) t.horizon t.holds t.list) (head_line ∷ []) (horizon_line t.horizon ∷ (map hold_line t.holds ++ flat_map entry_lines t.list)) head_again
+    (leads_append (record { position = Headed; horizon = 0; holds = []; list = [] }) (holding t.horizon []) (at_position (last_position t.list) t.horizon t.holds t.list) (horizon_line t.horizon ∷ []) (map hold_line t.holds ++ flat_map entry_lines t.list) (horizon_again t.horizon i.horizon)
+    (leads_append (holding t.horizon []) (holding t.horizon t.holds) (at_position (last_position t.list) t.horizon t.holds t.list) (map hold_line t.holds) (flat_map entry_lines t.list)
     (holds_again t.horizon [] t.holds i.holds i.terminals) (whole_list t.horizon t.holds t.list i.horizon i.list i.order)))
 
-end_again : (h : ℕ) (hs : List Hold) (xs : List Entry) → fields_step (at_place (last_place xs) h hs xs) end_line ≡ Ok (at_place Ended h hs xs)
+end_again : (h : ℕ) (hs : List Hold) (xs : List Entry) → fields_step (at_position (last_position xs) h hs xs) end_line ≡ Ok (at_position Ended h hs xs)
 unfolding end_step
 end_again h hs [] = refl
 end_again h hs (x ∷ xs) = refl
@@ -274,12 +276,12 @@ end_fits : FitsLine end_line
 end_fits = record { some = omega arith; all = (constant_field (codes "END") (omega arith) refl, tt); short = omega arith }
 
 -- the text of a trace is whole, whatever follows it
-pub trace_again : (t : Recording) (rest : List ℕ) → IsTrace t → run begin (trace_text t ++ rest) ≡ Found (at_place Ended t.horizon t.holds t.list)
+pub trace_again : (t : Recording) (rest : List ℕ) → IsTrace t → run begin (trace_text t ++ rest) ≡ Found (at_position Ended t.horizon t.holds t.list)
 trace_again t rest i =
-    let s : State = at_place (last_place t.list) t.horizon t.holds t.list in
+    let s : State = at_position (last_position t.list) t.horizon t.holds t.list in
     ap (λ x. run begin (x ++ rest)) (lines_end (body_lines t.horizon t.holds t.list))
     ∙ ap (run begin) (append_assoc (spelled_lines (body_lines t.horizon t.holds t.list)) (spelled_line end_line) rest)
     ∙ leads_run start s (body_lines t.horizon t.holds t.list) (spelled_line end_line ++ rest) (body_again t i)
-    ∙ line_again s (at_place Ended t.horizon t.holds t.list) end_line rest end_fits (end_again t.horizon t.holds t.list) where
+    ∙ line_again s (at_position Ended t.horizon t.holds t.list) end_line rest end_fits (end_again t.horizon t.holds t.list) where
       lines_end : (lines : List Line) → spelled_lines (lines ++ end_line ∷ []) ≡ spelled_lines lines ++ spelled_line end_line
       lines_end lines = flat_map-append spelled_line lines (end_line ∷ []) ∙ ap (λ x. spelled_lines lines ++ x) (append-nil (spelled_line end_line))

@@ -4,7 +4,7 @@ use Rattle.std.proofs.lemmas.Bool.Decides.{nat_tests}
 use Rattle.std.proofs.lemmas.List.{length-take, take_all}
 use Rattle.std.proofs.Math.Seq.{take-append-add}
 use Rattle.bus_trace.specs.States.{text_of}
-use Rattle.bus_trace.specs.Runs.{Standing, Outcome, Going, Found, Refused, More, ◌>>-◌, run, begin, due, due_by, stream_of}
+use Rattle.bus_trace.specs.Runs.{Standing, Progress, Going, Found, Refused, Over, ◌>>-◌, run, begin, due, due_by, stream_of}
 use Rattle.bus_trace.specs.Walking.{WalkGives}
 use Rattle.bus_trace.specs.Feeding.{fed_of, ReaderIs, FeedGives}
 use Rattle.bus_trace.specs.declared.walk.Walked.{Walked}
@@ -12,7 +12,7 @@ use Rattle.bus_trace.specs.declared.walk.Walked.TheVariants.{Passed, Ended, Fail
 use Rattle.bus_trace.specs.declared.stage.Stage.{Stage}
 use Rattle.bus_trace.specs.declared.stage.Stage.TheVariants as stage
 use Rattle.bus_trace.proofs.Runs.{run-append}
-use Rattle.bus_trace.specs.Traces.{text_limit}
+use Rattle.bus_trace.specs.Limits.{text_limit}
 
 pub begin_is : ReaderIs stage.Open begin
 unfolding text_of run
@@ -70,7 +70,7 @@ pub record Feeds (at : Standing) (piece front : List ℕ) : Type 0 where
   pub fits : length (stream_of at) ≤ text_limit
   pub front_is : front ≡ take (text_limit - length (stream_of at)) piece
 
-feeds_due : (at : Standing) (piece front : List ℕ) (out : Outcome) (t : Bool) → Feeds at piece front → run at front ≡ out → nat_lt (length front) (length piece) ≡ t → due text_limit (stream_of at ++ piece) ≡ due_by t out
+feeds_due : (at : Standing) (piece front : List ℕ) (out : Progress) (t : Bool) → Feeds at piece front → run at front ≡ out → nat_lt (length front) (length piece) ≡ t → due text_limit (stream_of at ++ piece) ≡ due_by t out
 feeds_due at piece front out t f h e = due_is at piece front f.going f.fits f.front_is ∙ ap (λ b. due_by b (run at front)) e ∙ ap (due_by t) h
 
 pub feed_gives : (at new : Standing) (piece front : List ℕ) (w : Walked) (t : Bool) → Feeds at piece front → nat_lt (length front) (length piece) ≡ t → WalkGives at new front (Ok w) (run at front)
@@ -89,7 +89,7 @@ feed_gives at new piece front (Ended used) t f e w = (
 feed_gives at new piece front (Failed byte reason) t f e w = (refl, feeds_due at piece front (Refused byte reason) t f w e)
 
 -- where a walk went is where the stream leads
-on : (at : Standing) (xs : List ℕ) (out : Outcome) → run begin (stream_of at) ≡ Going at → run at xs ≡ out → run begin (stream_of at ++ xs) ≡ out
+on : (at : Standing) (xs : List ℕ) (out : Progress) → run begin (stream_of at) ≡ Going at → run at xs ≡ out → run begin (stream_of at ++ xs) ≡ out
 on at xs out g h = run-append begin (stream_of at) xs ∙ ap (λ o. o >>- λ m. run m xs) g ∙ h
 
 room_is : (at : Standing) (piece front : List ℕ) → Feeds at piece front → length (stream_of at ++ front) ≤ text_limit
@@ -112,15 +112,16 @@ feeds at s piece front room i e r k =
     record { going = p.0; fits = p.1; front_is = k ∙ ap (λ n. take (text_limit - n) piece) r }
 
 -- nothing came
-pub begin_due : due text_limit (stream_of begin) ≡ More begin
+pub begin_due : due text_limit (stream_of begin) ≡ Going begin
 unfolding due run text_of
 begin_due = refl
 
-pub more_fits : (xs : List ℕ) (at : Standing) → due text_limit xs ≡ More at → length xs ≤ text_limit
+pub more_fits : (xs : List ℕ) (at : Standing) → due text_limit xs ≡ Going at → length xs ≤ text_limit
 unfolding due
 more_fits xs at h = by_test (nat_lt text_limit (length xs)) refl (run begin (take text_limit xs)) h where
-  by_test : (t : Bool) → nat_lt text_limit (length xs) ≡ t → (o : Outcome) → due_by t o ≡ More at → length xs ≤ text_limit
+  by_test : (t : Bool) → nat_lt text_limit (length xs) ≡ t → (o : Progress) → due_by t o ≡ Going at → length xs ≤ text_limit
   by_test true e (Going r) k = absurd cc
   by_test true e (Found s) k = absurd cc
   by_test true e (Refused b r) k = absurd cc
+  by_test true e Over k = absurd cc
   by_test false e o k = grind (arith, nat_tests)

@@ -8,13 +8,14 @@ use Rattle.bus_outer.specs.Sources.{Taken}
 use Rattle.bus_text.specs.Lines.{is_feed}
 use Rattle.bus_trace.specs.declared.fault.TraceError.{TraceError}
 use Rattle.bus_trace.specs.declared.fault.TraceError.TheVariants.{Text, ReadFault, TooLarge, Memory}
-use Rattle.bus_trace.specs.declared.place.Place.{Place}
-use Rattle.bus_trace.specs.declared.place.Place.TheVariants.{Start, Headed, Holding, Begun, Stringing, Ended}
+use Rattle.bus_trace.specs.declared.position.Position.{Position}
+use Rattle.bus_trace.specs.declared.position.Position.TheVariants.{Start, Headed, Holding, Begun, Stringing, Ended}
 use Rattle.bus_trace.specs.declared.reason.TraceReason.{TraceReason}
 use Rattle.bus_trace.specs.declared.reason.TraceReason.TheVariants.{Long, Ended as CutShort}
-use Rattle.bus_trace.specs.Traces.{Recording, IsTrace, HoldsTrace, trace_text, line_limit, text_limit}
+use Rattle.bus_trace.specs.Limits.{line_limit, text_limit}
+use Rattle.bus_trace.specs.Traces.{Recording, IsTrace, HoldsTrace, trace_text}
 use Rattle.bus_trace.specs.States.{State, IsSound, step, text_of, is_ended, recorded}
-use Rattle.bus_trace.specs.Runs.{Standing, Outcome, Going, Found, Refused, Due, More, Whole, Wrong, Large, Reads, Fails, judged, take_byte, ◌>>-◌, run, begin, due, due_by, ended_by, reading, stream_of, HasNoFeed}
+use Rattle.bus_trace.specs.Runs.{Standing, Progress, Going, Found, Refused, Over, judged, take_byte, ◌>>-◌, run, begin, due, due_by, ended_by, reading, stream_of, HasNoFeed}
 use Rattle.bus_trace.specs.Reading.{Gave, Refuses, Complete, Overlong, CutOff, TakesTrace, ReadGives}
 use Rattle.bus_trace.specs.Looping.{LineRefused, ByLine, ByEnd, Loops}
 use Rattle.bus_trace.proofs.Steps.{step_adds, step_sound}
@@ -23,18 +24,19 @@ use Rattle.bus_trace.proofs.Walks.{start_sound}
 use Rattle.bus_trace.proofs.Again.{trace_again}
 
 -- ---- where an end was found, the text of the trace stands at the front
-abbrev pub ByteGives : List ℕ → Outcome → Type 0
+abbrev pub ByteGives : List ℕ → Progress → Type 0
 ByteGives text (Going n) = (stream_of n ≡ text) × IsSound n.state
-ByteGives text (Found s) = (text_of s ≡ text) × IsSound s × (is_ended s.place ≡ true)
+ByteGives text (Found s) = (text_of s ≡ text) × IsSound s × (is_ended s.position ≡ true)
 ByteGives text (Refused byte reason) = Unit {0}
+ByteGives text Over = Unit {0}
 
 judged_gives : (s : State) (line : List ℕ) (r : Result State TraceReason) → step s line ≡ r → IsSound s → ByteGives ((text_of s ++ line) ++ 10 ∷ []) (judged s r)
 judged_gives s line (Err reason) h sound = tt
-judged_gives s line (Ok n) h sound = by_end (is_ended n.place) refl where
+judged_gives s line (Ok n) h sound = by_end (is_ended n.position) refl where
   text : text_of n ≡ (text_of s ++ line) ++ 10 ∷ []
   text = step_adds s n line sound h ∙ sym (append_assoc (text_of s) line (10 ∷ []))
 
-  by_end : (t : Bool) → is_ended n.place ≡ t → ByteGives ((text_of s ++ line) ++ 10 ∷ []) (cond t (Found n) (Going (record { state = n; line = [] })))
+  by_end : (t : Bool) → is_ended n.position ≡ t → ByteGives ((text_of s ++ line) ++ 10 ∷ []) (cond t (Found n) (Going (record { state = n; line = [] })))
   by_end true e = (text, step_sound s n line sound h, e)
   by_end false e = (append-nil (text_of n) ∙ text, step_sound s n line sound h)
 
@@ -50,9 +52,9 @@ record Finds (stream : List ℕ) (s : State) : Type 0 where
   rest : List ℕ
   parts : stream ≡ text_of s ++ rest
   sound : IsSound s
-  ended : is_ended s.place ≡ true
+  ended : is_ended s.position ≡ true
 
-found_next : (r : Standing) (b : ℕ) (bs : List ℕ) (o : Outcome) (s : State) → ByteGives (stream_of r ++ b ∷ []) o → (o >>- λ n. run n bs) ≡ Found s
+found_next : (r : Standing) (b : ℕ) (bs : List ℕ) (o : Progress) (s : State) → ByteGives (stream_of r ++ b ∷ []) o → (o >>- λ n. run n bs) ≡ Found s
     → ((n : Standing) → IsSound n.state → run n bs ≡ Found s → Finds (stream_of n ++ bs) s) → Finds (stream_of r ++ b ∷ bs) s
 found_next r b bs (Going n) s g h later =
     subst (λ t. Finds t s) (ap (λ t. t ++ bs) g.0 ∙ append_assoc (stream_of r) (b ∷ []) bs) (later n g.1 h)
@@ -60,13 +62,14 @@ found_next r b bs (Found t) s g h later =
     let is : t ≡ s = cc in
     subst (λ (u : State). Finds (stream_of r ++ b ∷ bs) u) is (record { rest = bs; parts = sym (append_assoc (stream_of r) (b ∷ []) bs) ∙ ap (λ x. x ++ bs) (sym g.0); sound = g.1; ended = g.2 })
 found_next r b bs (Refused byte reason) s g h later = absurd cc
+found_next r b bs Over s g h later = absurd cc
 
 run_finds : (r : Standing) (bs : List ℕ) (s : State) → IsSound r.state → run r bs ≡ Found s → Finds (stream_of r ++ bs) s
 unfolding run
 run_finds r [] s sound h = absurd cc
 run_finds r (b ∷ bs) s sound h = found_next r b bs (take_byte r b) s (byte_gives r b sound) h (λ n k q. run_finds n bs s k q)
 
-ended_is : (p : Place) → is_ended p ≡ true → p ≡ Ended
+ended_is : (p : Position) → is_ended p ≡ true → p ≡ Ended
 ended_is Start h = absurd cc
 ended_is Headed h = absurd cc
 ended_is Holding h = absurd cc
@@ -74,59 +77,87 @@ ended_is (Begun m n) h = absurd cc
 ended_is Stringing h = absurd cc
 ended_is Ended h = refl
 
-ended_text : (s : State) → is_ended s.place ≡ true → text_of s ≡ trace_text (recorded s)
+ended_text : (s : State) → is_ended s.position ≡ true → text_of s ≡ trace_text (recorded s)
 unfolding text_of
-ended_text s h = ap (λ p. text_of (record { place = p; horizon = s.horizon; holds = s.holds; list = s.list })) (ended_is s.place h)
-
-sound_trace : (s : State) → IsSound s → IsTrace (recorded s)
-sound_trace s i = record { horizon = i.horizon; holds = i.holds; terminals = i.terminals; list = i.list; order = i.order }
+ended_text s h = ap (λ p. text_of (record { position = p; horizon = s.horizon; holds = s.holds; list = s.list })) (ended_is s.position h)
 
 begin_stream : (xs : List ℕ) → stream_of begin ++ xs ≡ xs
 unfolding text_of
 begin_stream xs = refl
 
 -- ---- what is due, by where the run leads
-due_whole : (t : Bool) (o : Outcome) (s : State) → due_by t o ≡ Whole s → o ≡ Found s
-due_whole true (Going r) s h = absurd cc
-due_whole false (Going r) s h = absurd cc
-due_whole t (Found u) s h = cc
-due_whole t (Refused b e) s h = absurd cc
+due_found : (t : Bool) (o : Progress) (s : State) → due_by t o ≡ Found s → o ≡ Found s
+due_found true (Going r) s h = absurd cc
+due_found false (Going r) s h = absurd cc
+due_found t (Found u) s h = cc
+due_found t (Refused b e) s h = absurd cc
+due_found t Over s h = absurd cc
 
-due_wrong : (t : Bool) (o : Outcome) (byte : ℕ) (reason : TraceReason) → due_by t o ≡ Wrong byte reason → o ≡ Refused byte reason
-due_wrong true (Going r) byte reason h = absurd cc
-due_wrong false (Going r) byte reason h = absurd cc
-due_wrong t (Found u) byte reason h = absurd cc
-due_wrong t (Refused b e) byte reason h = cc
+due_refused : (t : Bool) (o : Progress) (byte : ℕ) (reason : TraceReason) → due_by t o ≡ Refused byte reason → o ≡ Refused byte reason
+due_refused true (Going r) byte reason h = absurd cc
+due_refused false (Going r) byte reason h = absurd cc
+due_refused t (Found u) byte reason h = absurd cc
+due_refused t (Refused b e) byte reason h = cc
+due_refused t Over byte reason h = absurd cc
 
-due_more : (t : Bool) (o : Outcome) (at : Standing) → due_by t o ≡ More at → (t ≡ false) × (o ≡ Going at)
-due_more true (Going r) at h = absurd cc
-due_more false (Going r) at h = (refl, cc)
-due_more t (Found u) at h = absurd cc
-due_more t (Refused b e) at h = absurd cc
+due_going : (t : Bool) (o : Progress) (at : Standing) → due_by t o ≡ Going at → (t ≡ false) × (o ≡ Going at)
+due_going true (Going r) at h = absurd cc
+due_going false (Going r) at h = (refl, cc)
+due_going t (Found u) at h = absurd cc
+due_going t (Refused b e) at h = absurd cc
+due_going t Over at h = absurd cc
 
-due_large : (t : Bool) (o : Outcome) → due_by t o ≡ Large → (t ≡ true) × ((at : Standing) × (o ≡ Going at))
-due_large true (Going r) h = (refl, (r, refl))
-due_large false (Going r) h = absurd cc
-due_large t (Found u) h = absurd cc
-due_large t (Refused b e) h = absurd cc
+due_over : (t : Bool) (o : Progress) → (o ≡ Over → ⊥) → due_by t o ≡ Over → (t ≡ true) × ((at : Standing) × (o ≡ Going at))
+due_over true (Going r) never h = (refl, (r, refl))
+due_over false (Going r) never h = absurd cc
+due_over t (Found u) never h = absurd cc
+due_over t (Refused b e) never h = absurd cc
+due_over t Over never h = absurd (never refl)
 
-whole_finds : (limit : ℕ) (stream : List ℕ) (s : State) → due limit stream ≡ Whole s → Finds (take limit stream) s
+-- a run passes no limit
+judged_within : (s : State) (o : Result State TraceReason) → judged s o ≡ Over → ⊥
+judged_within s (Err reason) h = cc
+judged_within s (Ok n) h = by_end (is_ended n.position) h where
+  by_end : (t : Bool) → cond t (Found n) (Going (record { state = n; line = [] })) ≡ Over → ⊥
+  by_end true e = cc
+  by_end false e = cc
+
+byte_within : (r : Standing) (b : ℕ) → take_byte r b ≡ Over → ⊥
+unfolding take_byte
+byte_within r b h = by_feed (is_feed b) (nat_lt (length r.line) line_limit) h where
+  by_feed : (t u : Bool) → cond t (judged r.state (step r.state r.line)) (cond u (Going (record { state = r.state; line = r.line ++ b ∷ [] })) (Refused (length (text_of r.state)) Long)) ≡ Over → ⊥
+  by_feed true u e = judged_within r.state (step r.state r.line) e
+  by_feed false true e = cc
+  by_feed false false e = cc
+
+then_within : (o : Progress) (f : Standing → Progress) → (o ≡ Over → ⊥) → ((n : Standing) → f n ≡ Over → ⊥) → (o >>- f) ≡ Over → ⊥
+then_within (Going n) f never later h = later n h
+then_within (Found s) f never later h = cc
+then_within (Refused b e) f never later h = cc
+then_within Over f never later h = never refl
+
+run_within : (r : Standing) (bs : List ℕ) → run r bs ≡ Over → ⊥
+unfolding run
+run_within r [] h = cc
+run_within r (b ∷ bs) h = then_within (take_byte r b) (λ n. run n bs) (byte_within r b) (λ n. run_within n bs) h
+
+found_finds : (limit : ℕ) (stream : List ℕ) (s : State) → due limit stream ≡ Found s → Finds (take limit stream) s
 unfolding due
-whole_finds limit stream s h =
-    let f = due_whole (nat_lt limit (length stream)) (run begin (take limit stream)) s h in
+found_finds limit stream s h =
+    let f = due_found (nat_lt limit (length stream)) (run begin (take limit stream)) s h in
     subst (λ (x : List ℕ). Finds x s) (begin_stream (take limit stream)) (run_finds begin (take limit stream) s start_sound f)
 
-pub whole_trace : (limit : ℕ) (stream : List ℕ) (s : State) → due limit stream ≡ Whole s → IsTrace (recorded s) × (text_of s ≡ trace_text (recorded s)) × (length (trace_text (recorded s)) ≤ limit)
-whole_trace limit stream s h =
-    let f = whole_finds limit stream s h in
+pub found_trace : (limit : ℕ) (stream : List ℕ) (s : State) → due limit stream ≡ Found s → IsTrace (recorded s) × (text_of s ≡ trace_text (recorded s)) × (length (trace_text (recorded s)) ≤ limit)
+found_trace limit stream s h =
+    let f = found_finds limit stream s h in
     let e = ended_text s f.ended in
-    (sound_trace s f.sound, e, omega (arith, length-take limit stream, ap length f.parts, length-append (text_of s) f.rest, ap length e))
+    (f.sound.trace, e, omega (arith, length-take limit stream, ap length f.parts, length-append (text_of s) f.rest, ap length e))
 
 -- whatever is whole holds the text of its trace
-pub whole_holds : (limit : ℕ) (stream : List ℕ) (s : State) → due limit stream ≡ Whole s → HoldsTrace limit stream (recorded s)
-whole_holds limit stream s h =
-    let f = whole_finds limit stream s h in
-    let w = whole_trace limit stream s h in
+pub found_holds : (limit : ℕ) (stream : List ℕ) (s : State) → due limit stream ≡ Found s → HoldsTrace limit stream (recorded s)
+found_holds limit stream s h =
+    let f = found_finds limit stream s h in
+    let w = found_trace limit stream s h in
     record {
       front = text_of s;
       rest = f.rest ++ drop limit stream;
@@ -161,8 +192,8 @@ going_is m n h = cc
 
 stands_judged : (r n : Standing) (o : Result State TraceReason) → IsSound r.state → Stands r → step r.state r.line ≡ o → judged r.state o ≡ Going n → Stands n
 stands_judged r n (Err reason) sound i e h = absurd cc
-stands_judged r n (Ok m) sound i e h = by_end (is_ended m.place) refl h where
-  by_end : (t : Bool) → is_ended m.place ≡ t → cond t (Found m) (Going (record { state = m; line = [] })) ≡ Going n → Stands n
+stands_judged r n (Ok m) sound i e h = by_end (is_ended m.position) refl h where
+  by_end : (t : Bool) → is_ended m.position ≡ t → cond t (Found m) (Going (record { state = m; line = [] })) ≡ Going n → Stands n
   by_end true k q = absurd cc
   by_end false k q =
       let gave : run begin (text_of m) ≡ Going (record { state = m; line = [] }) =
@@ -187,13 +218,14 @@ record Goes (r n : Standing) (bytes : List ℕ) : Type 0 where
   sound : IsSound n.state
   stream : stream_of n ≡ stream_of r ++ bytes
 
-goes_next : (r n : Standing) (b : ℕ) (bs : List ℕ) (o : Outcome) → take_byte r b ≡ o → IsSound r.state → Stands r → ByteGives (stream_of r ++ b ∷ []) o → (o >>- λ m. run m bs) ≡ Going n
+goes_next : (r n : Standing) (b : ℕ) (bs : List ℕ) (o : Progress) → take_byte r b ≡ o → IsSound r.state → Stands r → ByteGives (stream_of r ++ b ∷ []) o → (o >>- λ m. run m bs) ≡ Going n
     → ((m : Standing) → IsSound m.state → Stands m → run m bs ≡ Going n → Goes m n bs) → Goes r n (b ∷ bs)
 goes_next r n b bs (Going m) e sound i g h later =
     let k = later m g.1 (stands_byte r m b sound i e) h in
     record { stands = k.stands; sound = k.sound; stream = k.stream ∙ ap (λ x. x ++ bs) g.0 ∙ append_assoc (stream_of r) (b ∷ []) bs }
 goes_next r n b bs (Found s) e sound i g h later = absurd cc
 goes_next r n b bs (Refused byte reason) e sound i g h later = absurd cc
+goes_next r n b bs Over e sound i g h later = absurd cc
 
 run_goes : (r n : Standing) (bs : List ℕ) → IsSound r.state → Stands r → run r bs ≡ Going n → Goes r n bs
 unfolding run
@@ -209,10 +241,10 @@ record Undecided (limit : ℕ) (bytes : List ℕ) (at : Standing) : Type 0 where
   stream : stream_of at ≡ bytes
   short : length bytes ≤ limit
 
-more_is : (limit : ℕ) (bytes : List ℕ) (at : Standing) → due limit bytes ≡ More at → Undecided limit bytes at
+undecided_is : (limit : ℕ) (bytes : List ℕ) (at : Standing) → due limit bytes ≡ Going at → Undecided limit bytes at
 unfolding due
-more_is limit bytes at h =
-    let d = due_more (nat_lt limit (length bytes)) (run begin (take limit bytes)) at h in
+undecided_is limit bytes at h =
+    let d = due_going (nat_lt limit (length bytes)) (run begin (take limit bytes)) at h in
     let short = ge_from limit (length bytes) d.0 in
     let going : run begin bytes ≡ Going at = ap (run begin) (sym (take_all limit bytes short)) ∙ d.1 in
     let g = run_goes begin at bytes start_sound begin_stands going in
@@ -222,11 +254,12 @@ gave_is : (s : State) (r : Standing) → r.state ≡ s → Stands r → Gave (te
 gave_is s r e i = subst (λ (t : State). Gave (text_of t) t) e (record { text = refl; run = i.gave })
 
 -- ---- the byte that decides
-back : (o : Outcome) → (o >>- λ n. run n []) ≡ o
+back : (o : Progress) → (o >>- λ n. run n []) ≡ o
 unfolding run
 back (Going n) = refl
 back (Found s) = refl
 back (Refused b e) = refl
+back Over = refl
 
 run_one : (r : Standing) (b : ℕ) → run r (b ∷ []) ≡ take_byte r b
 unfolding run
@@ -244,7 +277,7 @@ next_byte limit front b at u = by_room (cases_lt (length front) limit) where
 
 refuses_judged : (r : Standing) (left : Option (List ℕ)) (byte : ℕ) (reason : TraceReason) (o : Result State TraceReason) → Stands r → step r.state r.line ≡ o → judged r.state o ≡ Refused byte reason
     → Refuses (stream_of r ++ 10 ∷ []) left byte reason
-refuses_judged r left byte reason (Ok m) i e h = by_end (is_ended m.place) h where
+refuses_judged r left byte reason (Ok m) i e h = by_end (is_ended m.position) h where
   by_end : (t : Bool) → cond t (Found m) (Going (record { state = m; line = [] })) ≡ Refused byte reason → Refuses (stream_of r ++ 10 ∷ []) left byte reason
   by_end true q = absurd cc
   by_end false q = absurd cc
@@ -268,12 +301,12 @@ refuses_byte r b left byte reason i h = by_feed (is_feed b) refl (nat_lt (length
       (omega (arith, length-append r.line (b ∷ []), i.short, ge_from (length r.line) line_limit f)) (sym why)
 
 -- what a decided refusal says of the bytes
-wrong_byte : (front : List ℕ) (b : ℕ) (at : Standing) (left : Option (List ℕ)) (byte : ℕ) (reason : TraceReason) → Undecided text_limit front at → due text_limit (front ++ b ∷ []) ≡ Wrong byte reason
+refused_byte : (front : List ℕ) (b : ℕ) (at : Standing) (left : Option (List ℕ)) (byte : ℕ) (reason : TraceReason) → Undecided text_limit front at → due text_limit (front ++ b ∷ []) ≡ Refused byte reason
     → Refuses (front ++ b ∷ []) left byte reason × (length (front ++ b ∷ []) ≤ text_limit)
 unfolding due
-wrong_byte front b at left byte reason u h = by_case (next_byte text_limit front b at u) where
+refused_byte front b at left byte reason u h = by_case (next_byte text_limit front b at u) where
   refused : run begin (take text_limit (front ++ b ∷ [])) ≡ Refused byte reason
-  refused = due_wrong (nat_lt text_limit (length (front ++ b ∷ []))) (run begin (take text_limit (front ++ b ∷ []))) byte reason h
+  refused = due_refused (nat_lt text_limit (length (front ++ b ∷ []))) (run begin (take text_limit (front ++ b ∷ []))) byte reason h
 
   by_case : ((length front < text_limit) × (run begin (take text_limit (front ++ b ∷ [])) ≡ take_byte at b)) ⊎ ((length front ≡ text_limit) × (run begin (take text_limit (front ++ b ∷ [])) ≡ Going at))
       → Refuses (front ++ b ∷ []) left byte reason × (length (front ++ b ∷ []) ≤ text_limit)
@@ -283,20 +316,20 @@ wrong_byte front b at left byte reason u h = by_case (next_byte text_limit front
   )
   by_case (inr k) = let wrong : Going at ≡ Refused byte reason = sym k.1 ∙ refused in absurd cc
 
-large_byte : (front : List ℕ) (b : ℕ) (at : Standing) → Undecided text_limit front at → due text_limit (front ++ b ∷ []) ≡ Large → length (front ++ b ∷ []) ≡ (text_limit + 1)
+over_byte : (front : List ℕ) (b : ℕ) (at : Standing) → Undecided text_limit front at → due text_limit (front ++ b ∷ []) ≡ Over → length (front ++ b ∷ []) ≡ (text_limit + 1)
 unfolding due
-large_byte front b at u h =
-    let d = due_large (nat_lt text_limit (length (front ++ b ∷ []))) (run begin (take text_limit (front ++ b ∷ []))) h in
+over_byte front b at u h =
+    let d = due_over (nat_lt text_limit (length (front ++ b ∷ []))) (run begin (take text_limit (front ++ b ∷ []))) (run_within begin (take text_limit (front ++ b ∷ []))) h in
     omega (arith, lt_from text_limit (length (front ++ b ∷ [])) d.0, length-append front (b ∷ []), u.short)
 
 -- ---- the clauses of a read
 refused_takes : (old new : Option (List ℕ)) (bytes : List ℕ) (byte : ℕ) (reason : TraceReason) → Taken old new bytes → LineRefused bytes new byte reason → TakesTrace old new (Err (Text byte reason))
 refused_takes old new bytes byte reason t (ByLine d) =
-    let u = more_is text_limit d.front d.before d.undecided in
-    let w = wrong_byte d.front d.last d.before new byte reason u (ap (due text_limit) (sym d.parts) ∙ d.decided) in
+    let u = undecided_is text_limit d.front d.before d.undecided in
+    let w = refused_byte d.front d.last d.before new byte reason u (ap (due text_limit) (sym d.parts) ∙ d.decided) in
     record { bytes = bytes; came = t; known = subst (λ x. Refuses x new byte reason × (length x ≤ text_limit)) (sym d.parts) w }
 refused_takes old new bytes byte reason t (ByEnd at d e b r) =
-    let u = more_is text_limit bytes at d in
+    let u = undecided_is text_limit bytes at d in
     record {
       bytes = bytes;
       came = t;
@@ -306,14 +339,14 @@ refused_takes old new bytes byte reason t (ByEnd at d e b r) =
 pub loops_takes : (old new : Option (List ℕ)) (result : Result Recording TraceError) → Loops old new result → TakesTrace old new result
 loops_takes old new (Ok trace) l =
     let s : State = l.gives.0 in
-    let w = whole_trace text_limit l.bytes s l.gives.1 in
+    let w = found_trace text_limit l.bytes s l.gives.1 in
     let e : text_of s ≡ trace_text trace = w.1 ∙ ap trace_text (sym l.gives.3) in
     (subst (Taken old new) (l.gives.2 ∙ e) l.came, subst (λ (t : Recording). length (trace_text t) ≤ text_limit) (sym l.gives.3) w.2)
 loops_takes old new (Err (Text byte reason)) l = refused_takes old new l.bytes byte reason l.came l.gives
 loops_takes old new (Err TooLarge) l =
     let d = l.gives in
-    let u = more_is text_limit d.front d.before d.undecided in
-    record { bytes = l.bytes; came = l.came; known = (d, ap length d.parts ∙ large_byte d.front d.last d.before u (ap (due text_limit) (sym d.parts) ∙ d.decided)) }
+    let u = undecided_is text_limit d.front d.before d.undecided in
+    record { bytes = l.bytes; came = l.came; known = (d, ap length d.parts ∙ over_byte d.front d.last d.before u (ap (due text_limit) (sym d.parts) ∙ d.decided)) }
 loops_takes old new (Err ReadFault) l = record { bytes = l.bytes; came = l.came; known = l.gives }
 loops_takes old new (Err Memory) l = record { bytes = l.bytes; came = l.came; known = l.gives }
 
@@ -326,27 +359,27 @@ take_more (suc limit) (x ∷ xs) ys = let r = take_more limit xs ys in (r.0, ap 
 run_more : (limit : ℕ) (xs ys : List ℕ) → (rest : List ℕ) × (run begin (take limit (xs ++ ys)) ≡ (run begin (take limit xs) >>- λ n. run n rest))
 run_more limit xs ys = let t = take_more limit xs ys in (t.0, ap (run begin) t.1 ∙ run-append begin (take limit xs) t.0)
 
-pub whole_more : (limit : ℕ) (xs ys : List ℕ) (s : State) → due limit xs ≡ Whole s → due limit (xs ++ ys) ≡ Whole s
+pub found_more : (limit : ℕ) (xs ys : List ℕ) (s : State) → due limit xs ≡ Found s → due limit (xs ++ ys) ≡ Found s
 unfolding due
-whole_more limit xs ys s h =
-    let f = due_whole (nat_lt limit (length xs)) (run begin (take limit xs)) s h in
+found_more limit xs ys s h =
+    let f = due_found (nat_lt limit (length xs)) (run begin (take limit xs)) s h in
     let r = run_more limit xs ys in
     ap (due_by (nat_lt limit (length (xs ++ ys)))) (r.1 ∙ ap (λ o. o >>- λ n. run n r.0) f)
 
-pub wrong_more : (limit : ℕ) (xs ys : List ℕ) (byte : ℕ) (reason : TraceReason) → due limit xs ≡ Wrong byte reason → due limit (xs ++ ys) ≡ Wrong byte reason
+pub refused_more : (limit : ℕ) (xs ys : List ℕ) (byte : ℕ) (reason : TraceReason) → due limit xs ≡ Refused byte reason → due limit (xs ++ ys) ≡ Refused byte reason
 unfolding due
-wrong_more limit xs ys byte reason h =
-    let f = due_wrong (nat_lt limit (length xs)) (run begin (take limit xs)) byte reason h in
+refused_more limit xs ys byte reason h =
+    let f = due_refused (nat_lt limit (length xs)) (run begin (take limit xs)) byte reason h in
     let r = run_more limit xs ys in
     ap (due_by (nat_lt limit (length (xs ++ ys)))) (r.1 ∙ ap (λ o. o >>- λ n. run n r.0) f)
 
 lt_test : (a b : ℕ) → a < b → nat_lt a b ≡ true
 lt_test a b h = grind (arith, nat_tests)
 
-pub large_more : (limit : ℕ) (xs ys : List ℕ) → due limit xs ≡ Large → due limit (xs ++ ys) ≡ Large
+pub over_more : (limit : ℕ) (xs ys : List ℕ) → due limit xs ≡ Over → due limit (xs ++ ys) ≡ Over
 unfolding due
-large_more limit xs ys h =
-    let d = due_large (nat_lt limit (length xs)) (run begin (take limit xs)) h in
+over_more limit xs ys h =
+    let d = due_over (nat_lt limit (length xs)) (run begin (take limit xs)) (run_within begin (take limit xs)) h in
     let l = lt_from limit (length xs) d.0 in
     ap (λ t. due_by t (run begin (take limit (xs ++ ys)))) (lt_test limit (length (xs ++ ys)) (omega (arith, l, length-append xs ys)))
     ∙ ap (λ x. due_by true (run begin x)) (take-append-le limit xs ys (omega (arith, l)))
@@ -357,23 +390,23 @@ told : (xs bytes : List ℕ) (new : Option (List ℕ)) → Taken (Some xs) new b
 told xs bytes None t = absurd cc
 told xs bytes (Some ys) t = (ys, refl, cc)
 
-refused_gives : (xs bytes : List ℕ) (new : Option (List ℕ)) (byte : ℕ) (reason : TraceReason) → Taken (Some xs) new bytes → LineRefused bytes new byte reason → reading text_limit xs ≡ Fails byte reason
+refused_gives : (xs bytes : List ℕ) (new : Option (List ℕ)) (byte : ℕ) (reason : TraceReason) → Taken (Some xs) new bytes → LineRefused bytes new byte reason → reading text_limit xs ≡ Err (Text byte reason)
 refused_gives xs bytes new byte reason t (ByLine d) =
     let k = told xs bytes new t in
-    ap (reading text_limit) k.2 ∙ ap ended_by (wrong_more text_limit bytes k.0 byte reason d.decided)
+    ap (reading text_limit) k.2 ∙ ap ended_by (refused_more text_limit bytes k.0 byte reason d.decided)
 refused_gives xs bytes new byte reason t (ByEnd at d e b r) =
     let k = told xs bytes new t in
     let none : k.0 ≡ [] = subst (λ (m : Option (List ℕ)). IfSome m (λ zs. zs ≡ [])) k.1 e in
-    ap (reading text_limit) (k.2 ∙ ap (λ zs. bytes ++ zs) none ∙ append-nil bytes) ∙ ap ended_by d ∙ ap (λ n. Fails n CutShort) (sym b) ∙ ap (Fails byte) (sym r)
+    ap (reading text_limit) (k.2 ∙ ap (λ zs. bytes ++ zs) none ∙ append-nil bytes) ∙ ap ended_by d ∙ ap (λ n. Err (Text n CutShort)) (sym b) ∙ ap (λ (x : TraceReason). Err (Text byte x)) (sym r)
 
 gives_told : (xs : List ℕ) (new : Option (List ℕ)) (result : Result Recording TraceError) → Loops (Some xs) new result → ReadGives result (reading text_limit xs)
 gives_told xs new (Ok trace) l =
     let k = told xs l.bytes new l.came in
-    ap (reading text_limit) k.2 ∙ ap ended_by (whole_more text_limit l.bytes k.0 l.gives.0 l.gives.1) ∙ ap Reads (sym l.gives.3)
+    ap (reading text_limit) k.2 ∙ ap ended_by (found_more text_limit l.bytes k.0 l.gives.0 l.gives.1) ∙ ap (λ (t : Recording). Ok t) (sym l.gives.3)
 gives_told xs new (Err (Text byte reason)) l = refused_gives xs l.bytes new byte reason l.came l.gives
 gives_told xs new (Err TooLarge) l =
     let k = told xs l.bytes new l.came in
-    ap (reading text_limit) k.2 ∙ ap ended_by (large_more text_limit l.bytes k.0 l.gives.decided)
+    ap (reading text_limit) k.2 ∙ ap ended_by (over_more text_limit l.bytes k.0 l.gives.decided)
 gives_told xs new (Err ReadFault) l = tt
 gives_told xs new (Err Memory) l = tt
 
@@ -382,23 +415,23 @@ loops_exact None new result l = tt
 loops_exact (Some xs) new result l = gives_told xs new result l
 
 -- ---- a reading and the grammar
-reads_is : (d : Due) (t : Recording) → ended_by d ≡ Reads t → (s : State) × (d ≡ Whole s) × (recorded s ≡ t)
-reads_is (More at) t h = absurd cc
-reads_is (Whole s) t h = (s, refl, cc)
-reads_is (Wrong byte reason) t h = absurd cc
-reads_is Large t h = absurd cc
+reads_is : (d : Progress) (t : Recording) → ended_by d ≡ Ok t → (s : State) × (d ≡ Found s) × (recorded s ≡ t)
+reads_is (Going at) t h = absurd cc
+reads_is (Found s) t h = (s, refl, cc)
+reads_is (Refused byte reason) t h = absurd cc
+reads_is Over t h = absurd cc
 
 -- what is read stands at the front
-pub reads_holds : (limit : ℕ) (stream : List ℕ) (t : Recording) → reading limit stream ≡ Reads t → HoldsTrace limit stream t
+pub reads_holds : (limit : ℕ) (stream : List ℕ) (t : Recording) → reading limit stream ≡ Ok t → HoldsTrace limit stream t
 reads_holds limit stream t h =
     let k = reads_is (due limit stream) t h in
-    subst (HoldsTrace limit stream) k.2 (whole_holds limit stream k.0 k.1)
+    subst (HoldsTrace limit stream) k.2 (found_holds limit stream k.0 k.1)
 
 -- what stands at the front is read
-pub holds_reads : (limit : ℕ) (stream : List ℕ) (t : Recording) → HoldsTrace limit stream t → reading limit stream ≡ Reads t
+pub holds_reads : (limit : ℕ) (stream : List ℕ) (t : Recording) → HoldsTrace limit stream t → reading limit stream ≡ Ok t
 unfolding due
 holds_reads limit stream t h =
-    let whole : State = record { place = Ended; horizon = t.horizon; holds = t.holds; list = t.list } in
+    let whole : State = record { position = Ended; horizon = t.horizon; holds = t.holds; list = t.list } in
     let cut : (rest : List ℕ) × (take limit stream ≡ trace_text t ++ rest) =
     let m = take_more limit h.front h.rest in
     (m.0, ap (take limit) h.parts ∙ m.1 ∙ ap (λ x. x ++ m.0) (take_all limit h.front h.short ∙ h.text.text_is)) in
@@ -414,7 +447,7 @@ exact_found None result h = tt
 exact_found (Some xs) result h = found_told xs result h
 
 pub exact_only : (old : Option (List ℕ)) (result : Result Recording TraceError) → IfSome old (λ stream. ReadGives result (reading text_limit stream))
-    → IfSome old (λ stream. (t : Recording) → HoldsTrace text_limit stream t → ReadGives result (Reads t))
+    → IfSome old (λ stream. (t : Recording) → HoldsTrace text_limit stream t → ReadGives result (Ok t))
 exact_only None result h = tt
 exact_only (Some xs) result h = λ t k. subst (ReadGives result) (holds_reads text_limit xs t k) h
 
@@ -423,7 +456,7 @@ pub front_is_whole : (t u : Recording) (rest : List ℕ) → IsTrace t → IsTra
 front_is_whole t u rest i j e =
     let a = trace_again t rest i in
     let b = trace_again u [] j in
-    let same : Found (record { place = Ended; horizon = t.horizon; holds = t.holds; list = t.list }) ≡ Found (record { place = Ended; horizon = u.horizon; holds = u.holds; list = u.list }) =
+    let same : Found (record { position = Ended; horizon = t.horizon; holds = t.holds; list = t.list }) ≡ Found (record { position = Ended; horizon = u.horizon; holds = u.holds; list = u.list }) =
     sym a ∙ ap (run begin) (sym e ∙ sym (append-nil (trace_text u))) ∙ b in
     let s : t ≡ u = ap recorded (found_is _ _ same) in
     (s, no_rest (trace_text t) rest (ap trace_text s ∙ e)) where

@@ -4,18 +4,20 @@ use Rattle.std.proofs.lemmas.Bool.Decides.{nat_tests}
 use Rattle.bus_text.specs.Lines.{is_feed}
 use Rattle.bus_trace.specs.declared.reason.TraceReason.TheVariants.{Long}
 use Rattle.bus_trace.specs.States.{step, text_of}
-use Rattle.bus_trace.specs.Runs.{Standing, Outcome, Going, Found, Refused, judged, take_byte, ◌>>-◌, run, HasNoFeed}
-use Rattle.bus_trace.specs.Traces.{line_limit}
+use Rattle.bus_trace.specs.Runs.{Standing, Progress, Going, Found, Refused, Over, judged, take_byte, ◌>>-◌, run, HasNoFeed}
+use Rattle.bus_trace.specs.Limits.{line_limit}
 
-then_assoc : (o : Outcome) (f g : Standing → Outcome) → ((o >>- f) >>- g) ≡ (o >>- λ r. f r >>- g)
+then_assoc : (o : Progress) (f g : Standing → Progress) → ((o >>- f) >>- g) ≡ (o >>- λ r. f r >>- g)
 then_assoc (Going r) f g = refl
 then_assoc (Found s) f g = refl
 then_assoc (Refused b r) f g = refl
+then_assoc Over f g = refl
 
-then_same : (o : Outcome) (f g : Standing → Outcome) → ((n : Standing) → f n ≡ g n) → (o >>- f) ≡ (o >>- g)
+then_same : (o : Progress) (f g : Standing → Progress) → ((n : Standing) → f n ≡ g n) → (o >>- f) ≡ (o >>- g)
 then_same (Going n) f g h = h n
 then_same (Found s) f g h = refl
 then_same (Refused b e) f g h = refl
+then_same Over f g h = refl
 
 -- a run goes on, however the bytes are cut
 pub run-append : (r : Standing) (xs ys : List ℕ) → run r (xs ++ ys) ≡ (run r xs >>- λ n. run n ys)
@@ -73,10 +75,11 @@ run-long r (x ∷ xs) h k l = long_by r x xs _ h.0 refl (λ room. run-long (reco
 pub run-feed : (r : Standing) → run r (10 ∷ []) ≡ judged r.state (step r.state r.line)
 unfolding run take_byte
 run-feed r = back (judged r.state (step r.state r.line)) where
-  back : (o : Outcome) → (o >>- λ n. run n []) ≡ o
+  back : (o : Progress) → (o >>- λ n. run n []) ≡ o
   back (Going n) = refl
   back (Found s) = refl
   back (Refused b e) = refl
+  back Over = refl
 
 pub run-whole_line : (r : Standing) (xs : List ℕ) → HasNoFeed xs → length r.line + length xs ≤ line_limit → run r (xs ++ 10 ∷ []) ≡ judged r.state (step r.state (r.line ++ xs))
 run-whole_line r xs h k =
@@ -86,7 +89,7 @@ run-whole_line r xs h k =
 pub run-whole_long : (r : Standing) (xs ys : List ℕ) → HasNoFeed xs → length r.line ≤ line_limit → line_limit < length r.line + length xs → run r (xs ++ ys) ≡ Refused (length (text_of r.state)) Long
 run-whole_long r xs ys h k l = run-append r xs ys ∙ ap (λ o. o >>- λ m. run m ys) (run-long r xs h k l)
 
--- ---- line feeds by place
+-- ---- line feeds by position
 pub no_feed : (xs : List ℕ) → ((k : ℕ) → k < length xs → get_or xs k 0 ≢ 10) → HasNoFeed xs
 no_feed [] h = tt
 no_feed (x ∷ xs) h = (other x (h 0 (omega arith)), no_feed xs (λ k l. h (suc k) (omega arith))) where

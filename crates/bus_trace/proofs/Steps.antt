@@ -21,15 +21,17 @@ use Rattle.bus_text.specs.Refusals.{unless}
 use Rattle.bus_strings.specs.Messages.{Wordstring, Entry, IsWordstring}
 use Rattle.bus_strings.specs.Transmissions.{IsAscending}
 use Rattle.bus_trace.specs.declared.hold.Hold.{Hold}
-use Rattle.bus_trace.specs.declared.place.Keyword.{Keyword}
-use Rattle.bus_trace.specs.declared.place.Keyword.TheVariants as keyword
-use Rattle.bus_trace.specs.declared.place.Place.{Place}
-use Rattle.bus_trace.specs.declared.place.Place.TheVariants.{Start, Headed, Holding, Begun, Stringing, Ended}
+use Rattle.bus_trace.specs.declared.keyword.Keyword.{Keyword}
+use Rattle.bus_trace.specs.declared.keyword.Keyword.TheVariants as keyword
+use Rattle.bus_trace.specs.declared.position.Position.{Position}
+use Rattle.bus_trace.specs.declared.position.Position.TheVariants.{Start, Headed, Holding, Begun, Stringing, Ended}
 use Rattle.bus_trace.specs.declared.reason.TraceReason.{TraceReason}
 use Rattle.bus_trace.specs.declared.reason.TraceReason.TheVariants as reason
-use Rattle.bus_trace.specs.Traces.{Line, IsHold, IsBelow, head_line, horizon_line, hold_line, begin_line, string_line, entry_lines, end_line, body_lines, horizon_limit}
-use Rattle.bus_trace.specs.WordFields.{are_spelled, are_even, string_of}
-use Rattle.bus_trace.specs.States.{State, IsSound, PlaceFits, lines_at, lines_of, text_of, keyword_of, last_count, may_follow, spaced_fields, field, is_number, number, last_terminal, is_after, with_string, more_list, head_step, horizon_step, hold_step, begin_step, string_step, end_step, form_step, keyword_step, step}
+use Rattle.bus_strings.specs.Limits.{horizon_limit, most_terminal}
+use Rattle.bus_trace.specs.Limits.{most_count, most_fields}
+use Rattle.bus_trace.specs.Traces.{Line, IsHold, IsBelow, head_line, horizon_line, hold_line, begin_line, string_line, entry_lines, end_line, body_lines}
+use Rattle.bus_trace.specs.WordFields.{are_spelled, have_parity, string_of}
+use Rattle.bus_trace.specs.States.{State, IsSound, PositionFits, lines_at, lines_of, text_of, keyword_of, last_count, may_follow, spaced_fields, field, is_number, number, last_terminal, is_after, with_string, more_list, head_step, horizon_step, hold_step, begin_step, string_step, end_step, form_step, keyword_step, step}
 use Rattle.bus_trace.proofs.Lasts.{length-with_string}
 use Rattle.bus_trace.proofs.Orders.{all_push, lt_from, ascending_push, ascending_with, below_with, terminals_push}
 use Rattle.bus_trace.proofs.WordLists.{string_is}
@@ -90,11 +92,11 @@ three_fields (a ∷ b ∷ []) h = absurd (omega (arith, eqb-true (length (a ∷ 
 three_fields (a ∷ b ∷ c ∷ []) h = refl
 three_fields (a ∷ b ∷ c ∷ d ∷ fields) h = absurd (omega (arith, eqb-true (length (a ∷ b ∷ c ∷ d ∷ fields)) 3 h))
 
-first_and : (fields : List (List ℕ)) → is_in_range 2 258 (length fields) ≡ true → fields ≡ field fields 0 ∷ drop 1 fields
+first_and : (fields : List (List ℕ)) → is_in_range 2 most_fields (length fields) ≡ true → fields ≡ field fields 0 ∷ drop 1 fields
 first_and [] h = absurd cc
 first_and (f ∷ fields) h = refl
 
-rest_few : (fields : List (List ℕ)) → is_in_range 2 258 (length fields) ≡ true → length (drop 1 fields) ≤ 257
+rest_few : (fields : List (List ℕ)) → is_in_range 2 most_fields (length fields) ≡ true → length (drop 1 fields) ≤ 257
 rest_few [] h = omega arith
 rest_few (f ∷ fields) h = let l : length (f ∷ fields) ≤ 258 = most (length (f ∷ fields)) 2 258 h in omega arith where
   most : (n lo hi : ℕ) → is_in_range lo hi n ≡ true → n ≤ hi
@@ -138,7 +140,7 @@ keyword_is f k h =
     by_keyword f (codes "TRACE") keyword.Trace _ k refl (by_keyword f (codes "HORIZON") keyword.Horizon _ k refl (by_keyword f (codes "HOLD") keyword.Hold _ k refl
     (by_keyword f (codes "TX") keyword.Tx _ k refl (by_keyword f (codes "WS") keyword.Ws _ k refl (by_keyword f (codes "END") keyword.End None k refl (λ e. absurd cc)))))) h
 
-trace_at : (p : Place) (n : ℕ) → may_follow p n keyword.Trace ≡ true → p ≡ Start
+trace_at : (p : Position) (n : ℕ) → may_follow p n keyword.Trace ≡ true → p ≡ Start
 trace_at Start n h = refl
 trace_at Headed n h = absurd cc
 trace_at Holding n h = absurd cc
@@ -146,7 +148,7 @@ trace_at (Begun m t) n h = absurd cc
 trace_at Stringing n h = absurd cc
 trace_at Ended n h = absurd cc
 
-horizon_at : (p : Place) (n : ℕ) → may_follow p n keyword.Horizon ≡ true → p ≡ Headed
+horizon_at : (p : Position) (n : ℕ) → may_follow p n keyword.Horizon ≡ true → p ≡ Headed
 horizon_at Start n h = absurd cc
 horizon_at Headed n h = refl
 horizon_at Holding n h = absurd cc
@@ -154,7 +156,7 @@ horizon_at (Begun m t) n h = absurd cc
 horizon_at Stringing n h = absurd cc
 horizon_at Ended n h = absurd cc
 
-hold_at : (p : Place) (n : ℕ) → may_follow p n keyword.Hold ≡ true → p ≡ Holding
+hold_at : (p : Position) (n : ℕ) → may_follow p n keyword.Hold ≡ true → p ≡ Holding
 hold_at Start n h = absurd cc
 hold_at Headed n h = absurd cc
 hold_at Holding n h = refl
@@ -162,8 +164,8 @@ hold_at (Begun m t) n h = absurd cc
 hold_at Stringing n h = absurd cc
 hold_at Ended n h = absurd cc
 
--- the lines of a place behind which TX may stand, and END alike
-body_at : (p : Place) (n h : ℕ) (hs : List Hold) (xs : List Entry) → may_follow p n keyword.Tx ≡ true → lines_at p h hs xs ≡ body_lines h hs xs
+-- the lines of a position behind which TX may stand, and END alike
+body_at : (p : Position) (n h : ℕ) (hs : List Hold) (xs : List Entry) → may_follow p n keyword.Tx ≡ true → lines_at p h hs xs ≡ body_lines h hs xs
 body_at Start n h hs xs e = absurd cc
 body_at Headed n h hs xs e = absurd cc
 body_at Holding n h hs xs e = refl
@@ -171,7 +173,7 @@ body_at (Begun m t) n h hs xs e = absurd cc
 body_at Stringing n h hs xs e = refl
 body_at Ended n h hs xs e = absurd cc
 
-end_at : (p : Place) (n : ℕ) → may_follow p n keyword.End ≡ true → may_follow p n keyword.Tx ≡ true
+end_at : (p : Position) (n : ℕ) → may_follow p n keyword.End ≡ true → may_follow p n keyword.Tx ≡ true
 end_at Start n h = absurd cc
 end_at Headed n h = absurd cc
 end_at Holding n h = refl
@@ -211,111 +213,115 @@ record Keeps (s n : State) (fields : List (List ℕ)) : Type 0 where
   sound : IsSound n
 
 -- the same, of a state by its parts
-keeps : (s n : State) (fields : List (List ℕ)) (p : Place) (h : ℕ) (hs : List Hold) (xs : List Entry) → let new : State = record { place = p; horizon = h; holds = hs; list = xs } in new ≡ n → lines_at p h hs xs ≡ lines_of s ++ fields ∷ [] → IsSound new → Keeps s n fields
+keeps : (s n : State) (fields : List (List ℕ)) (p : Position) (h : ℕ) (hs : List Hold) (xs : List Entry) → let new : State = record { position = p; horizon = h; holds = hs; list = xs } in new ≡ n → lines_at p h hs xs ≡ lines_of s ++ fields ∷ [] → IsSound new → Keeps s n fields
 keeps s n fields p h hs xs e lines sound = subst (λ (m : State). Keeps s m fields) e (record { lines = lines; sound = sound })
 
-place_lines : (s : State) (p : Place) (fields : List (List ℕ)) → s.place ≡ p → lines_at p s.horizon s.holds s.list ++ fields ∷ [] ≡ lines_of s ++ fields ∷ []
-place_lines s p fields e = ap (λ q. lines_at q s.horizon s.holds s.list ++ fields ∷ []) (sym e)
+position_lines : (s : State) (p : Position) (fields : List (List ℕ)) → s.position ≡ p → lines_at p s.horizon s.holds s.list ++ fields ∷ [] ≡ lines_of s ++ fields ∷ []
+position_lines s p fields e = ap (λ q. lines_at q s.horizon s.holds s.list ++ fields ∷ []) (sym e)
 
-fits_at : (s : State) (p : Place) → s.place ≡ p → PlaceFits s.place s.horizon s.holds s.list → PlaceFits p s.horizon s.holds s.list
-fits_at s p e f = subst (λ q. PlaceFits q s.horizon s.holds s.list) e f
+fits_at : (s : State) (p : Position) → s.position ≡ p → PositionFits s.position s.horizon s.holds s.list → PositionFits p s.horizon s.holds s.list
+fits_at s p e f = subst (λ q. PositionFits q s.horizon s.holds s.list) e f
 
-head_keeps : (s n : State) (fields : List (List ℕ)) → field fields 0 ≡ codes "TRACE" → s.place ≡ Start → IsSound s → head_step s fields ≡ Ok n → Keeps s n fields
+head_keeps : (s n : State) (fields : List (List ℕ)) → field fields 0 ≡ codes "TRACE" → s.position ≡ Start → IsSound s → head_step s fields ≡ Ok n → Keeps s n fields
 unfolding head_step
 head_keeps s n fields k p sound h =
     let a = row (length fields == 2 && is_at fields 1 (codes "1")) reason.Fields None _ n h in
     let b = and_parts (length fields == 2) (is_at fields 1 (codes "1")) a.0 in
     let line : head_line ≡ fields = ap (λ (f : List ℕ). f ∷ codes "1" ∷ []) (sym k) ∙ ap (λ (f : List ℕ). field fields 0 ∷ f ∷ []) (sym (at_is fields 1 (codes "1") b.1)) ∙ sym (two_fields fields b.0) in
-    keeps s n fields Headed s.horizon s.holds s.list (done _ n a.1) (ap (λ (l : Line). l ∷ []) line ∙ place_lines s Start fields p)
-    (record { place = fits_at s Start p sound.place; horizon = sound.horizon; holds = sound.holds; terminals = sound.terminals; list = sound.list; order = sound.order })
+    keeps s n fields Headed s.horizon s.holds s.list (done _ n a.1) (ap (λ (l : Line). l ∷ []) line ∙ position_lines s Start fields p)
+    (record { fits = fits_at s Start p sound.fits; trace = sound.trace })
 
-horizon_keeps : (s n : State) (fields : List (List ℕ)) → field fields 0 ≡ codes "HORIZON" → s.place ≡ Headed → IsSound s → horizon_step s fields ≡ Ok n → Keeps s n fields
+horizon_keeps : (s n : State) (fields : List (List ℕ)) → field fields 0 ≡ codes "HORIZON" → s.position ≡ Headed → IsSound s → horizon_step s fields ≡ Ok n → Keeps s n fields
 unfolding horizon_step
 horizon_keeps s n fields k p sound h =
     let a = row (length fields == 2) reason.Fields _ _ n h in
     let b = row (is_number fields 1) reason.Spelling _ _ n a.1 in
     let d = row (is_in_range 0 horizon_limit (number fields 1)) reason.Range None _ n b.1 in
     let low = most (number fields 1) 0 horizon_limit d.0 in
-    let none = fits_at s Headed p sound.place in
+    let none = fits_at s Headed p sound.fits in
     let line : horizon_line (number fields 1) ≡ fields = ap (λ (f : List ℕ). codes "HORIZON" ∷ f ∷ []) (decimal_is (field fields 1) b.0 (omega (arith, low))) ∙ ap (λ (f : List ℕ). f ∷ field fields 1 ∷ []) (sym k) ∙ sym (two_fields fields a.0) in
     keeps s n fields Holding (number fields 1) s.holds s.list (done _ n d.1)
-    (ap (λ (hs : List Hold). body_lines (number fields 1) hs s.list) none.0 ∙ ap (λ (xs : List Entry). body_lines (number fields 1) [] xs) none.1 ∙ ap (λ (l : Line). head_line ∷ l ∷ []) line ∙ place_lines s Headed fields p)
+    (ap (λ (hs : List Hold). body_lines (number fields 1) hs s.list) none.0 ∙ ap (λ (xs : List Entry). body_lines (number fields 1) [] xs) none.1 ∙ ap (λ (l : Line). head_line ∷ l ∷ []) line ∙ position_lines s Headed fields p)
     (record {
-      place = none.1;
-      horizon = low;
-      holds = sound.holds;
-      terminals = sound.terminals;
-      list = subst (AllByRecursion (IsBelow (number fields 1))) (sym none.1) tt;
-      order = sound.order;
+      fits = none.1;
+      trace = record {
+        horizon = low;
+        holds = sound.trace.holds;
+        terminals = sound.trace.terminals;
+        list = subst (AllByRecursion (IsBelow (number fields 1))) (sym none.1) tt;
+        order = sound.trace.order;
+      };
     })
 
-hold_keeps : (s n : State) (fields : List (List ℕ)) → field fields 0 ≡ codes "HOLD" → s.place ≡ Holding → IsSound s → hold_step s fields ≡ Ok n → Keeps s n fields
+hold_keeps : (s n : State) (fields : List (List ℕ)) → field fields 0 ≡ codes "HOLD" → s.position ≡ Holding → IsSound s → hold_step s fields ≡ Ok n → Keeps s n fields
 unfolding hold_step
 hold_keeps s n fields k p sound h =
     let a = row (length fields == 3) reason.Fields _ _ n h in
     let b = row (is_number fields 1 && is_number fields 2) reason.Spelling _ _ n a.1 in
-    let d = row (is_in_range 1 128 (number fields 1) && is_in_range 0 4294967295 (number fields 2)) reason.Range _ _ n b.1 in
+    let d = row (is_in_range 1 most_terminal (number fields 1) && is_in_range 0 most_count (number fields 2)) reason.Range _ _ n b.1 in
     let e = row (nat_lt (last_terminal s.holds) (number fields 1)) reason.Order None _ n d.1 in
     let plain = and_parts (is_number fields 1) (is_number fields 2) b.0 in
-    let ranges = and_parts (is_in_range 1 128 (number fields 1)) (is_in_range 0 4294967295 (number fields 2)) d.0 in
+    let ranges = and_parts (is_in_range 1 most_terminal (number fields 1)) (is_in_range 0 most_count (number fields 2)) d.0 in
     let hold : Hold = record { terminal = number fields 1; count = number fields 2 } in
-    let positive = least (number fields 1) 1 128 ranges.0 in
-    let low = most (number fields 1) 1 128 ranges.0 in
-    let count = most (number fields 2) 0 4294967295 ranges.1 in
-    let none = fits_at s Holding p sound.place in
+    let positive = least (number fields 1) 1 most_terminal ranges.0 in
+    let low = most (number fields 1) 1 most_terminal ranges.0 in
+    let count = most (number fields 2) 0 most_count ranges.1 in
+    let none = fits_at s Holding p sound.fits in
     let line : hold_line hold ≡ fields =
     ap (λ (f : List ℕ). codes "HOLD" ∷ f ∷ decimal (number fields 2) ∷ []) (decimal_is (field fields 1) plain.0 (omega (arith, low)))
     ∙ ap (λ (f : List ℕ). codes "HOLD" ∷ field fields 1 ∷ f ∷ []) (decimal_is (field fields 2) plain.1 (omega (arith, count)))
     ∙ ap (λ (f : List ℕ). f ∷ field fields 1 ∷ field fields 2 ∷ []) (sym k) ∙ sym (three_fields fields a.0) in
     keeps s n fields Holding s.horizon (s.holds ++ hold ∷ []) s.list (done _ n e.1)
-    (hold_lines s.horizon s.holds s.list hold none ∙ ap (λ (l : Line). body_lines s.horizon s.holds s.list ++ l ∷ []) line ∙ place_lines s Holding fields p)
+    (hold_lines s.horizon s.holds s.list hold none ∙ ap (λ (l : Line). body_lines s.horizon s.holds s.list ++ l ∷ []) line ∙ position_lines s Holding fields p)
     (record {
-      place = none;
-      horizon = sound.horizon;
-      holds = all_push IsHold s.holds hold sound.holds (record { positive = positive; low = low; count = count });
-      terminals = terminals_push 0 s.holds hold sound.terminals (λ _. positive) (lt_from (last_terminal s.holds) (number fields 1) e.0);
-      list = sound.list;
-      order = sound.order;
+      fits = none;
+      trace = record {
+        horizon = sound.trace.horizon;
+        holds = all_push IsHold s.holds hold sound.trace.holds (record { positive = positive; low = low; count = count });
+        terminals = terminals_push 0 s.holds hold sound.trace.terminals (λ _. positive) (lt_from (last_terminal s.holds) (number fields 1) e.0);
+        list = sound.trace.list;
+        order = sound.trace.order;
+      };
     })
 
-begin_keeps : (s n : State) (fields : List (List ℕ)) → field fields 0 ≡ codes "TX" → may_follow s.place (last_count s.list) keyword.Tx ≡ true → IsSound s → begin_step s fields ≡ Ok n → Keeps s n fields
+begin_keeps : (s n : State) (fields : List (List ℕ)) → field fields 0 ≡ codes "TX" → may_follow s.position (last_count s.list) keyword.Tx ≡ true → IsSound s → begin_step s fields ≡ Ok n → Keeps s n fields
 unfolding begin_step
 begin_keeps s n fields k p sound h =
     let a = row (length fields == 3) reason.Fields _ _ n h in
     let b = row (is_number fields 1 && is_number fields 2) reason.Spelling _ _ n a.1 in
-    let d = row (nat_lt (number fields 1) s.horizon && is_in_range 1 128 (number fields 2)) reason.Range _ _ n b.1 in
+    let d = row (nat_lt (number fields 1) s.horizon && is_in_range 1 most_terminal (number fields 2)) reason.Range _ _ n b.1 in
     let e = row (is_after s.list (number fields 1) (number fields 2)) reason.Order None _ n d.1 in
     let plain = and_parts (is_number fields 1) (is_number fields 2) b.0 in
-    let ranges = and_parts (nat_lt (number fields 1) s.horizon) (is_in_range 1 128 (number fields 2)) d.0 in
+    let ranges = and_parts (nat_lt (number fields 1) s.horizon) (is_in_range 1 most_terminal (number fields 2)) d.0 in
     let below = lt_from (number fields 1) s.horizon ranges.0 in
-    let positive = least (number fields 2) 1 128 ranges.1 in
-    let low = most (number fields 2) 1 128 ranges.1 in
+    let positive = least (number fields 2) 1 most_terminal ranges.1 in
+    let low = most (number fields 2) 1 most_terminal ranges.1 in
     let line : begin_line (number fields 1) (number fields 2) ≡ fields =
-    ap (λ (f : List ℕ). codes "TX" ∷ f ∷ decimal (number fields 2) ∷ []) (decimal_is (field fields 1) plain.0 (omega (arith, below, sound.horizon)))
+    ap (λ (f : List ℕ). codes "TX" ∷ f ∷ decimal (number fields 2) ∷ []) (decimal_is (field fields 1) plain.0 (omega (arith, below, sound.trace.horizon)))
     ∙ ap (λ (f : List ℕ). codes "TX" ∷ field fields 1 ∷ f ∷ []) (decimal_is (field fields 2) plain.1 (omega (arith, low)))
     ∙ ap (λ (f : List ℕ). f ∷ field fields 1 ∷ field fields 2 ∷ []) (sym k) ∙ sym (three_fields fields a.0) in
     keeps s n fields (Begun (number fields 1) (number fields 2)) s.horizon s.holds s.list (done _ n e.1)
-    (ap (λ (l : Line). body_lines s.horizon s.holds s.list ++ l ∷ []) line ∙ ap (λ (ls : List Line). ls ++ fields ∷ []) (sym (body_at s.place (last_count s.list) s.horizon s.holds s.list p)))
-    (record { place = (below, positive, low, e.0); horizon = sound.horizon; holds = sound.holds; terminals = sound.terminals; list = sound.list; order = sound.order })
+    (ap (λ (l : Line). body_lines s.horizon s.holds s.list ++ l ∷ []) line ∙ ap (λ (ls : List Line). ls ++ fields ∷ []) (sym (body_at s.position (last_count s.list) s.horizon s.holds s.list p)))
+    (record { fits = (below, positive, low, e.0); trace = sound.trace })
 
-end_keeps : (s n : State) (fields : List (List ℕ)) → field fields 0 ≡ codes "END" → may_follow s.place (last_count s.list) keyword.End ≡ true → IsSound s → end_step s fields ≡ Ok n → Keeps s n fields
+end_keeps : (s n : State) (fields : List (List ℕ)) → field fields 0 ≡ codes "END" → may_follow s.position (last_count s.list) keyword.End ≡ true → IsSound s → end_step s fields ≡ Ok n → Keeps s n fields
 unfolding end_step
 end_keeps s n fields k p sound h =
     let a = row (length fields == 1) reason.Fields None _ n h in
     let line : end_line ≡ fields = ap (λ (f : List ℕ). f ∷ []) (sym k) ∙ sym (one_field fields a.0) in
     keeps s n fields Ended s.horizon s.holds s.list (done _ n a.1)
-    (ap (λ (l : Line). body_lines s.horizon s.holds s.list ++ l ∷ []) line ∙ ap (λ (ls : List Line). ls ++ fields ∷ []) (sym (body_at s.place (last_count s.list) s.horizon s.holds s.list (end_at s.place (last_count s.list) p))))
-    (record { place = tt; horizon = sound.horizon; holds = sound.holds; terminals = sound.terminals; list = sound.list; order = sound.order })
+    (ap (λ (l : Line). body_lines s.horizon s.holds s.list ++ l ∷ []) line ∙ ap (λ (ls : List Line). ls ++ fields ∷ []) (sym (body_at s.position (last_count s.list) s.horizon s.holds s.list (end_at s.position (last_count s.list) p))))
+    (record { fits = tt; trace = sound.trace })
 
 -- a wordstring more
 record Grows (s : State) (w : Wordstring) : Type 0 where
-  lines : body_lines s.horizon s.holds (more_list s.place w s.list) ≡ lines_of s ++ string_line w ∷ []
-  some : 0 < length (more_list s.place w s.list)
-  list : AllByRecursion (IsBelow s.horizon) (more_list s.place w s.list)
-  order : IsAscending (more_list s.place w s.list)
+  lines : body_lines s.horizon s.holds (more_list s.position w s.list) ≡ lines_of s ++ string_line w ∷ []
+  some : 0 < length (more_list s.position w s.list)
+  list : AllByRecursion (IsBelow s.horizon) (more_list s.position w s.list)
+  order : IsAscending (more_list s.position w s.list)
 
-grows : (p : Place) (h : ℕ) (hs : List Hold) (xs : List Entry) (w : Wordstring) → may_follow p (last_count xs) keyword.Ws ≡ true → PlaceFits p h hs xs → AllByRecursion (IsBelow h) xs → IsAscending xs → IsWordstring w
-    → Grows (record { place = p; horizon = h; holds = hs; list = xs }) w
+grows : (p : Position) (h : ℕ) (hs : List Hold) (xs : List Entry) (w : Wordstring) → may_follow p (last_count xs) keyword.Ws ≡ true → PositionFits p h hs xs → AllByRecursion (IsBelow h) xs → IsAscending xs → IsWordstring w
+    → Grows (record { position = p; horizon = h; holds = hs; list = xs }) w
 grows Start h hs xs w m f below order i = absurd cc
 grows Headed h hs xs w m f below order i = absurd cc
 grows Holding h hs xs w m f below order i = absurd cc
@@ -335,24 +341,27 @@ grows Stringing h hs xs w m f below order i = record {
 }
 grows Ended h hs xs w m f below order i = absurd cc
 
-string_keeps : (s n : State) (fields : List (List ℕ)) → field fields 0 ≡ codes "WS" → may_follow s.place (last_count s.list) keyword.Ws ≡ true → IsSound s → string_step s fields ≡ Ok n → Keeps s n fields
+string_keeps : (s n : State) (fields : List (List ℕ)) → field fields 0 ≡ codes "WS" → may_follow s.position (last_count s.list) keyword.Ws ≡ true → IsSound s → string_step s fields ≡ Ok n → Keeps s n fields
 unfolding string_step
 string_keeps s n fields k p sound h =
-    let a = row (is_in_range 2 258 (length fields)) reason.Fields _ _ n h in
+    let a = row (is_in_range 2 most_fields (length fields)) reason.Fields _ _ n h in
     let b = row (are_spelled (drop 1 fields)) reason.Spelling _ _ n a.1 in
-    let d = row (are_even (drop 1 fields)) reason.Parity None _ n b.1 in
+    let d = row (have_parity (drop 1 fields)) reason.Parity None _ n b.1 in
     let w = string_is (drop 1 fields) b.0 d.0 (rest_few fields a.0) in
-    let g = grows s.place s.horizon s.holds s.list (string_of (drop 1 fields)) p sound.place sound.list sound.order w.1 in
+    let g = grows s.position s.horizon s.holds s.list (string_of (drop 1 fields)) p sound.fits sound.trace.list sound.trace.order w.1 in
     let line : string_line (string_of (drop 1 fields)) ≡ fields = ap (λ (fs : List (List ℕ)). codes "WS" ∷ fs) w.0 ∙ ap (λ (f : List ℕ). f ∷ drop 1 fields) (sym k) ∙ sym (first_and fields a.0) in
-    keeps s n fields Stringing s.horizon s.holds (more_list s.place (string_of (drop 1 fields)) s.list) (done _ n d.1)
+    keeps s n fields Stringing s.horizon s.holds (more_list s.position (string_of (drop 1 fields)) s.list) (done _ n d.1)
     (g.lines ∙ ap (λ (l : Line). lines_of s ++ l ∷ []) line)
-    (record { place = g.some; horizon = sound.horizon; holds = sound.holds; terminals = sound.terminals; list = g.list; order = g.order })
+    (record {
+      fits = g.some;
+      trace = record { horizon = sound.trace.horizon; holds = sound.trace.holds; terminals = sound.trace.terminals; list = g.list; order = g.order };
+    })
 
 -- ---- a step
-form_keeps : (k : Keyword) (s n : State) (fields : List (List ℕ)) → field fields 0 ≡ keyword_text k → may_follow s.place (last_count s.list) k ≡ true → IsSound s → form_step k s fields ≡ Ok n → Keeps s n fields
-form_keeps keyword.Trace s n fields e p sound h = head_keeps s n fields e (trace_at s.place (last_count s.list) p) sound h
-form_keeps keyword.Horizon s n fields e p sound h = horizon_keeps s n fields e (horizon_at s.place (last_count s.list) p) sound h
-form_keeps keyword.Hold s n fields e p sound h = hold_keeps s n fields e (hold_at s.place (last_count s.list) p) sound h
+form_keeps : (k : Keyword) (s n : State) (fields : List (List ℕ)) → field fields 0 ≡ keyword_text k → may_follow s.position (last_count s.list) k ≡ true → IsSound s → form_step k s fields ≡ Ok n → Keeps s n fields
+form_keeps keyword.Trace s n fields e p sound h = head_keeps s n fields e (trace_at s.position (last_count s.list) p) sound h
+form_keeps keyword.Horizon s n fields e p sound h = horizon_keeps s n fields e (horizon_at s.position (last_count s.list) p) sound h
+form_keeps keyword.Hold s n fields e p sound h = hold_keeps s n fields e (hold_at s.position (last_count s.list) p) sound h
 form_keeps keyword.Tx s n fields e p sound h = begin_keeps s n fields e p sound h
 form_keeps keyword.Ws s n fields e p sound h = string_keeps s n fields e p sound h
 form_keeps keyword.End s n fields e p sound h = end_keeps s n fields e p sound h
@@ -368,7 +377,7 @@ may_by false x n h = absurd cc
 keyword_keeps : (o : Option Keyword) (s n : State) (fields : List (List ℕ)) → keyword_of (field fields 0) ≡ o → IsSound s → keyword_step o s fields ≡ Ok n → Keeps s n fields
 keyword_keeps None s n fields e sound h = absurd cc
 keyword_keeps (Some k) s n fields e sound h =
-    let m = may_by (may_follow s.place (last_count s.list) k) (form_step k s fields) n h in
+    let m = may_by (may_follow s.position (last_count s.list) k) (form_step k s fields) n h in
     form_keeps k s n fields (keyword_is (field fields 0) k e) m.0 sound m.1
 
 step_keeps : (s n : State) (line : List ℕ) → IsSound s → step s line ≡ Ok n → Keeps s n (spaced_fields line)

@@ -12,10 +12,13 @@ use Rattle.bus_trace.specs.Walking.{WalkIs, KeepGives, JudgedGives, WalkGives}
 use Rattle.std.proofs.Math.Seq.{take-append_seam}
 use Rattle.bus_trace.proofs.Steps.{step_adds, step_sound}
 use Rattle.bus_trace.proofs.Runs.{run-append, run-line, run-long, run-feed}
-use Rattle.bus_trace.specs.Traces.{line_limit}
+use Rattle.bus_trace.specs.Limits.{line_limit}
 
 pub start_sound : IsSound start
-start_sound = record { place = (refl, refl); horizon = omega arith; holds = tt; terminals = tt; list = tt; order = tt }
+start_sound = record {
+  fits = (refl, refl);
+  trace = record { horizon = omega arith; holds = tt; terminals = tt; list = tt; order = tt };
+}
 
 pub start_is : WalkIs start [] 0
 unfolding text_of
@@ -26,7 +29,7 @@ judge_text : (s n : State) (l l' : List ℕ) → IsSound s → step s l ≡ Ok n
 judge_text s n l l' sound h e =
     ap (λ t. text_of n ++ t) e ∙ append-nil (text_of n) ∙ step_adds s n l sound h ∙ sym (append_assoc (text_of s) l (10 ∷ []))
 
-pub judge_gives : (s n : State) (l l' : List ℕ) (t : Bool) → IsSound s → step s l ≡ Ok n → t ≡ is_ended n.place → l' ≡ []
+pub judge_gives : (s n : State) (l l' : List ℕ) (t : Bool) → IsSound s → step s l ≡ Ok n → t ≡ is_ended n.position → l' ≡ []
     → JudgedGives (record { state = s; line = l }) (record { state = n; line = l' }) (10 ∷ []) (Ok (cond t Ends Passes)) (judged s (step s l))
 judge_gives s n l l' true sound h e q =
     (ap (judged s) h ∙ ap (λ b. cond b (Found n) (Going (record { state = n; line = [] }))) (sym e), judge_text s n l l' sound h q, q)

@@ -17,7 +17,7 @@ use Rattle.bus_words.specs.Words.{parity, frame, unframe, label_word}
 use Rattle.bus_words.specs.WordTexts.{form, is_of, kept, written_frame, word_text, read_word}
 use Rattle.bus_words.specs.WordTextLaws.{length_of_form, is_of-frame_text, written_frame-frame_text, read_word-word_text, word_text-read_word, word_text-field}
 use Rattle.bus_strings.specs.Messages.{Wordstring, IsWordstring}
-use Rattle.bus_trace.specs.WordFields.{same_kind, is_spelled, is_even, value_of, are_spelled, are_even, string_of}
+use Rattle.bus_trace.specs.WordFields.{same_kind, is_spelled, has_parity, value_of, are_spelled, have_parity, string_of}
 use Rattle.bus_trace.specs.Traces.{data_word, word_fields}
 
 -- ---- fields of the code
@@ -88,7 +88,7 @@ read_is field h e = by_test (beq (written_frame field).parity (parity (written_f
         no : false ≡ true → ⊥
         no q = cc
 
-pub word_is : (kind : Kind) (field : List ℕ) → is_spelled kind field ≡ true → is_even field ≡ true → (word_text (record { kind = kind; value = value_of field }) ≡ field) × (value_of field < 2 ^ 16)
+pub word_is : (kind : Kind) (field : List ℕ) → is_spelled kind field ≡ true → has_parity field ≡ true → (word_text (record { kind = kind; value = value_of field }) ≡ field) × (value_of field < 2 ^ 16)
 word_is kind field h e =
     let p = and_parts (is_of form field) (same_kind (written_frame field).kind kind) h in
     let w = word_text-read_word field (record { kind = (written_frame field).kind; value = (written_frame field).value }) (read_is field p.0 e) in
@@ -99,11 +99,11 @@ word_is kind field h e =
       subst (λ n. n < 2 ^ 16) (sym v) w.1,
     )
 
-words_are : (fs : List (List ℕ)) → list_all (is_spelled Plain) fs ≡ true → list_all is_even fs ≡ true → (map (λ value. word_text (data_word value)) (map value_of fs) ≡ fs) × AllByRecursion (λ word. word < 2 ^ 16) (map value_of fs)
+words_are : (fs : List (List ℕ)) → list_all (is_spelled Plain) fs ≡ true → list_all has_parity fs ≡ true → (map (λ value. word_text (data_word value)) (map value_of fs) ≡ fs) × AllByRecursion (λ word. word < 2 ^ 16) (map value_of fs)
 words_are [] h e = (refl, tt)
 words_are (f ∷ fs) h e =
     let p = and_parts (is_spelled Plain f) (list_all (is_spelled Plain) fs) h in
-    let q = and_parts (is_even f) (list_all is_even fs) e in
+    let q = and_parts (has_parity f) (list_all has_parity fs) e in
     let w = word_is Plain f p.0 q.0 in
     let r = words_are fs p.1 q.1 in
     (ap (λ x. x ∷ map (λ value. word_text (data_word value)) (map value_of fs)) w.0 ∙ ap (λ xs. f ∷ xs) r.0, (w.1, r.1))
@@ -112,11 +112,11 @@ label_again : (v : ℕ) → label_word (v / 16) (v % 16) ≡ record { kind = Lab
 label_again v = let word : ℕ → Word = λ n. record { kind = Label; value = n } in ap word (omega arith)
 
 -- fields that are right are those of the wordstring that they write
-pub string_is : (fs : List (List ℕ)) → are_spelled fs ≡ true → are_even fs ≡ true → length fs ≤ 257 → (word_fields (string_of fs) ≡ fs) × IsWordstring (string_of fs)
+pub string_is : (fs : List (List ℕ)) → are_spelled fs ≡ true → have_parity fs ≡ true → length fs ≤ 257 → (word_fields (string_of fs) ≡ fs) × IsWordstring (string_of fs)
 string_is [] h e few = absurd cc
 string_is (f ∷ fs) h e few =
     let p = and_parts (is_spelled Label f) (list_all (is_spelled Plain) fs) h in
-    let q = and_parts (is_even f) (list_all is_even fs) e in
+    let q = and_parts (has_parity f) (list_all has_parity fs) e in
     let w = word_is Label f p.0 q.0 in
     let r = words_are fs p.1 q.1 in (
       ap (λ (x : List ℕ). x ∷ map (λ value. word_text (data_word value)) (map value_of fs)) (ap word_text (label_again (value_of f)) ∙ w.0) ∙ ap (λ xs. f ∷ xs) r.0,
@@ -130,7 +130,7 @@ same_again Plain = refl
 
 pub record Again (word : Word) : Type 0 where
   pub spelled : is_spelled word.kind (word_text word) ≡ true
-  pub even : is_even (word_text word) ≡ true
+  pub parity : has_parity (word_text word) ≡ true
   pub value : value_of (word_text word) ≡ word.value
 
 pub word_again : (word : Word) → word.value < 2 ^ 16 → Again word
@@ -139,7 +139,7 @@ word_again word h =
     let w = written_frame-frame_text (frame word) h in
     record {
       spelled = ap (λ t. t && same_kind (written_frame (word_text word)).kind word.kind) o ∙ ap (λ (f : FramedWord). same_kind f.kind word.kind) w ∙ same_again word.kind;
-      even = ap is_ok (read_word-word_text word h);
+      parity = ap is_ok (read_word-word_text word h);
       value = value_is (word_text word) o ∙ ap (λ (f : FramedWord). f.value) w;
     }
 
@@ -148,19 +148,19 @@ length-word word = length_of_form form (word_text word) (is_of-frame_text (frame
 
 pub record WordsAgain (words : List ℕ) : Type 0 where
   pub spelled : list_all (is_spelled Plain) (map (λ value. word_text (data_word value)) words) ≡ true
-  pub even : list_all is_even (map (λ value. word_text (data_word value)) words) ≡ true
+  pub parity : list_all has_parity (map (λ value. word_text (data_word value)) words) ≡ true
   pub values : map value_of (map (λ value. word_text (data_word value)) words) ≡ words
   pub fields : AllByRecursion IsField (map (λ value. word_text (data_word value)) words)
 
 pub words_again : (words : List ℕ) → AllByRecursion (λ word. word < 2 ^ 16) words → WordsAgain words
-words_again [] h = record { spelled = refl; even = refl; values = refl; fields = tt }
+words_again [] h = record { spelled = refl; parity = refl; values = refl; fields = tt }
 words_again (v ∷ vs) h =
     let w = word_again (data_word v) h.0 in
     let r = words_again vs h.1 in
     let texts_of : List (List ℕ) = map (λ value. word_text (data_word value)) vs in
     record {
       spelled = ap (λ b. b && list_all (is_spelled Plain) texts_of) w.spelled ∙ r.spelled;
-      even = ap (λ b. b && list_all is_even texts_of) w.even ∙ r.even;
+      parity = ap (λ b. b && list_all has_parity texts_of) w.parity ∙ r.parity;
       values = ap (λ x. x ∷ map value_of texts_of) w.value ∙ ap (λ xs. v ∷ xs) r.values;
       fields = (word_text-field (data_word v), r.fields);
     }
@@ -168,7 +168,7 @@ words_again (v ∷ vs) h =
 -- the fields of a wordstring are right, and write it
 pub record StringAgain (s : Wordstring) : Type 0 where
   pub spelled : are_spelled (word_fields s) ≡ true
-  pub even : are_even (word_fields s) ≡ true
+  pub parity : have_parity (word_fields s) ≡ true
   pub string : string_of (word_fields s) ≡ s
   pub fields : AllByRecursion IsField (word_fields s)
 
@@ -180,7 +180,7 @@ string_again s i =
     let v : value_of (word_text (label_word s.label s.ext)) ≡ 16 * s.label + s.ext = w.value in
     record {
       spelled = ap (λ b. b && list_all (is_spelled Plain) texts_of) w.spelled ∙ r.spelled;
-      even = ap (λ b. b && list_all is_even texts_of) w.even ∙ r.even;
+      parity = ap (λ b. b && list_all has_parity texts_of) w.parity ∙ r.parity;
       string = string_same _ s.label _ s.ext _ s.words (omega (arith, v, i.ext)) (omega (arith, v, i.ext)) r.values;
       fields = (word_text-field (label_word s.label s.ext), r.fields);
     }

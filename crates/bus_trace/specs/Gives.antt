@@ -4,12 +4,12 @@ use Rattle.bus_trace.specs.declared.reason.TraceReason.{TraceReason}
 use Rattle.bus_trace.specs.declared.fault.LineFault.{LineFault}
 use Rattle.bus_trace.specs.declared.fault.LineFault.TheVariants as line
 
--- a refusal is that of the definition; want of memory says nothing of it
+-- A refusal is that of the definition; want of memory says nothing of it.
 abbrev pub LineFails : {Y : Type 0} → LineFault → Result Y TraceReason → Type 0
 LineFails line.Memory read = Unit {0}
 LineFails (line.Refused reason) read = read ≡ Err reason
 
--- a call that came from old to new; an error changes nothing
+-- A call came from old to new; an error changes nothing.
 abbrev pub StepGives : {Y : Type 0} → Y → Y → Result (Unit {0}) LineFault → Result Y TraceReason → Type 0
 StepGives old new (Ok u) read = read ≡ Ok new
 StepGives old new (Err e) read = (new ≡ old) × LineFails e read

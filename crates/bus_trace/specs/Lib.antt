@@ -1,3 +1,4 @@
+pub mod Limits
 pub mod Traces
 pub mod WordFields
 pub mod States

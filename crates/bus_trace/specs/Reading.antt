@@ -1,25 +1,26 @@
 -- What a read of a trace text from a source takes, and what it answers.
---   TakesTrace old new result    which bytes were taken: exactly those of the trace text, or those up to where the refusal is decided
---   ReadGives result reading     the answer is what the stream reads as, unless a pull failed or memory ran out
---   CountsReading before now result   the count of faults of the source, before and after the read
+--   TakesTrace old new result          which bytes were taken: exactly those of the trace text, or those up to where the refusal is decided
+--   ReadGives result reading           the answer is what the stream reads as, unless a pull failed or memory ran out
+--   CountsReading before now result    the count of faults of the source, before and after the read
 use Rattle.std.specs.Prelude.{◌≡◌, ◌≤◌, ◌+◌, ℕ, List, [], ◌∷◌, ◌++◌, length, IfSome, Result, Ok, Err}
 use Rattle.std.specs.declared.option.Option.{Option}
-use Rattle.bus_outer.specs.Faults.{Fails as FaultCounted}
+use Rattle.bus_outer.specs.Faults.{Fails}
 use Rattle.bus_outer.specs.Sources.{Taken}
 use Rattle.bus_trace.specs.declared.reason.TraceReason.{TraceReason}
 use Rattle.bus_trace.specs.declared.reason.TraceReason.TheVariants.{Ended, Long}
 use Rattle.bus_trace.specs.declared.fault.TraceError.{TraceError}
 use Rattle.bus_trace.specs.declared.fault.TraceError.TheVariants.{Text, ReadFault, TooLarge, Memory}
-use Rattle.bus_trace.specs.Traces.{Recording, trace_text, line_limit, text_limit}
+use Rattle.bus_trace.specs.Limits.{text_limit, line_limit}
+use Rattle.bus_trace.specs.Traces.{Recording, trace_text}
 use Rattle.bus_trace.specs.States.{State, step, text_of}
-use Rattle.bus_trace.specs.Runs.{Standing, Going, Due, More, Large, Reading, Reads, Fails, Passes, HasNoFeed, begin, run, due}
+use Rattle.bus_trace.specs.Runs.{Standing, Progress, Going, Over, HasNoFeed, begin, run, due}
 
--- whole lines that nothing is wrong with, and the state that they give
+-- Whole lines with which nothing is wrong gave this state.
 pub record Gave (lines : List ℕ) (s : State) : Type 0 where
   pub text : lines ≡ text_of s
   pub run : run begin lines ≡ Going (record { state = s; line = [] })
 
--- A text that is refused at the length of the lines before the offending line. It was taken up to where that line is decided: its
+-- A text is refused at the length of the lines before the offending line. It was taken up to where that line is decided: its
 -- line feed, its 1,802nd byte where no line feed came before, or the end of the source.
 pub data Refuses (taken : List ℕ) (left : Option (List ℕ)) (byte : ℕ) (reason : TraceReason) : Type 0 where
   Complete : (before : State) (lines line : List ℕ) → taken ≡ lines ++ (line ++ 10 ∷ []) → byte ≡ length lines → Gave lines before
@@ -29,16 +30,16 @@ pub data Refuses (taken : List ℕ) (left : Option (List ℕ)) (byte : ℕ) (rea
   CutOff : (before : State) (lines line : List ℕ) → taken ≡ lines ++ line → byte ≡ length lines → Gave lines before
       → HasNoFeed line → length line ≤ line_limit → IfSome left (λ rest. rest ≡ []) → reason ≡ Ended → Refuses taken left byte reason
 
--- bytes that decide, of which one less decides nothing
-pub record Decides (bytes : List ℕ) (d : Due) : Type 0 where
+-- These bytes decide, and one less of them decides nothing.
+pub record Decides (bytes : List ℕ) (p : Progress) : Type 0 where
   pub front : List ℕ
   pub last : ℕ
   pub parts : bytes ≡ front ++ last ∷ []
   pub before : Standing
-  pub undecided : due text_limit front ≡ More before
-  pub decided : due text_limit bytes ≡ d
+  pub undecided : due text_limit front ≡ Going before
+  pub decided : due text_limit bytes ≡ p
 
--- these bytes came from the source, and so much is known of them
+-- These bytes came from the source, and so much is known of them.
 pub record Takes (old new : Option (List ℕ)) (P : List ℕ → Type 0) : Type 0 where
   pub bytes : List ℕ
   pub came : Taken old new bytes
@@ -49,15 +50,15 @@ pub record Takes (old new : Option (List ℕ)) (P : List ℕ → Type 0) : Type 
 abbrev pub TakesTrace : Option (List ℕ) → Option (List ℕ) → Result Recording TraceError → Type 0
 TakesTrace old new (Ok trace) = Taken old new (trace_text trace) × (length (trace_text trace) ≤ text_limit)
 TakesTrace old new (Err (Text byte reason)) = Takes old new (λ bytes. Refuses bytes new byte reason × (length bytes ≤ text_limit))
-TakesTrace old new (Err TooLarge) = Takes old new (λ bytes. Decides bytes Large × (length bytes ≡ (text_limit + 1)))
-TakesTrace old new (Err ReadFault) = Takes old new (λ bytes. (at : Standing) × (due text_limit bytes ≡ More at))
+TakesTrace old new (Err TooLarge) = Takes old new (λ bytes. Decides bytes Over × (length bytes ≡ (text_limit + 1)))
+TakesTrace old new (Err ReadFault) = Takes old new (λ bytes. (at : Standing) × (due text_limit bytes ≡ Going at))
 TakesTrace old new (Err Memory) = Takes old new (λ bytes. length bytes ≤ text_limit)
 
--- the answer is this reading; a failed pull and want of memory say nothing of it
-abbrev pub ReadGives : Result Recording TraceError → Reading → Type 0
-ReadGives (Ok trace) reading = reading ≡ Reads trace
-ReadGives (Err (Text byte reason)) reading = reading ≡ Fails byte reason
-ReadGives (Err TooLarge) reading = reading ≡ Passes
+-- The answer is this reading; a failed pull and want of memory say nothing of it.
+abbrev pub ReadGives : Result Recording TraceError → Result Recording TraceError → Type 0
+ReadGives (Ok trace) reading = reading ≡ Ok trace
+ReadGives (Err (Text byte reason)) reading = reading ≡ Err (Text byte reason)
+ReadGives (Err TooLarge) reading = reading ≡ Err TooLarge
 ReadGives (Err ReadFault) reading = Unit {0}
 ReadGives (Err Memory) reading = Unit {0}
 
@@ -65,6 +66,6 @@ ReadGives (Err Memory) reading = Unit {0}
 abbrev pub CountsReading : ℕ → ℕ → Result Recording TraceError → Type 0
 CountsReading before now (Ok trace) = now ≡ before
 CountsReading before now (Err (Text byte reason)) = now ≡ before
-CountsReading before now (Err ReadFault) = FaultCounted before now
+CountsReading before now (Err ReadFault) = Fails before now
 CountsReading before now (Err TooLarge) = now ≡ before
 CountsReading before now (Err Memory) = now ≡ before

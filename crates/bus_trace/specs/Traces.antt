@@ -1,6 +1,7 @@
 -- Traces as plain numbers and lists, and the one text of each.
 --   recording   what a contract sees of a `Trace`: up to which moment the bus was looked at (the horizon), how many messages
 --               each terminal held (the holds), and what was sent (the list)
+--   entry       what a contract sees of a `Transmission` (`bus_strings`, `Messages`)
 --   line        a line of the text, by its fields: one space stands between two fields, and a line feed behind each line
 -- Numbers are plain decimals, a word is its word text. A trace has one text, and `IsTraceText` is the grammar.
 use Rattle.std.specs.Prelude.{◌≡◌, ◌≤◌, ◌<◌, ℕ, List, [], ◌∷◌, ◌++◌, length, codes, map, decimal}
@@ -10,45 +11,35 @@ use Rattle.bus_words.specs.declared.word.Kind.TheVariants.{Plain}
 use Rattle.bus_words.specs.declared.word.Word.{Word}
 use Rattle.bus_words.specs.Words.{label_word}
 use Rattle.bus_words.specs.WordTexts.{word_text}
+use Rattle.bus_strings.specs.Limits.{horizon_limit, most_terminal}
 use Rattle.bus_strings.specs.Messages.{Wordstring, Entry, IsMessage}
 use Rattle.bus_strings.specs.Transmissions.{IsAscending}
 use Rattle.bus_trace.specs.declared.hold.Hold.{Hold}
+use Rattle.bus_trace.specs.Limits.{most_count}
 
--- ---- the limits of this project's profile
--- the greatest horizon, in bit times from the settled start
-abbrev pub horizon_limit : ℕ
-horizon_limit = 20000000
-
--- the most bytes of a text
-abbrev pub text_limit : ℕ
-text_limit = 8388608
-
--- the most bytes of a line before its line feed
-abbrev pub line_limit : ℕ
-line_limit = 1801
-
+-- The horizon, the holds and the list of a trace, right or not.
 pub record Recording : Type 0 where
   pub horizon : ℕ
   pub holds : List Hold
   pub list : List Entry
 
 -- ---- what holds of each trace
--- the terminals of holds ascend strictly, from above this number
+-- The terminals of holds ascend strictly, from above this number.
 abbrev pub AscendAbove : ℕ → List Hold → Type 0
 AscendAbove least [] = Unit {0}
 AscendAbove least (hold ∷ holds) = (least < hold.terminal) × AscendAbove hold.terminal holds
 
--- a hold of a terminal 1 to 128
+-- A hold is of a terminal in its range, and its count fits its type.
 pub record IsHold (hold : Hold) : Type 0 where
   pub positive : 1 ≤ hold.terminal
-  pub low : hold.terminal ≤ 128
-  pub count : hold.count ≤ 4294967295
+  pub low : hold.terminal ≤ most_terminal
+  pub count : hold.count ≤ most_count
 
--- a transmission of a terminal 1 to 128 that starts below the horizon
+-- A transmission is right, and starts below the horizon.
 pub record IsBelow (horizon : ℕ) (x : Entry) : Type 0 where
   pub moment : x.moment < horizon
   pub positive : 1 ≤ x.terminal
-  pub low : x.terminal ≤ 128
+  pub low : x.terminal ≤ most_terminal
   pub message : IsMessage x.message
 
 -- The horizon is within its limit; the holds ascend strictly by terminal; the list ascends strictly by moment, then terminal, and
@@ -61,63 +52,65 @@ pub record IsTrace (t : Recording) : Type 0 where
   pub order : IsAscending t.list
 
 -- ---- the lines
+-- A line is its fields.
 abbrev pub Line : Type 0
 Line = List (List ℕ)
 
--- `TRACE 1`
+-- `TRACE 1` is the first line.
 abbrev pub head_line : Line
 head_line = codes "TRACE" ∷ codes "1" ∷ []
 
--- `HORIZON h`
+-- `HORIZON h`: the bus was looked at up to moment h.
 abbrev pub horizon_line : ℕ → Line
 horizon_line h = codes "HORIZON" ∷ decimal h ∷ []
 
--- `HOLD n c`: terminal n held c messages
+-- `HOLD n c`: terminal n held c messages.
 abbrev pub hold_line : Hold → Line
 hold_line hold = codes "HOLD" ∷ decimal hold.terminal ∷ decimal hold.count ∷ []
 
--- `TX m n`: terminal n starts at moment m
+-- `TX m n`: terminal n starts at moment m.
 abbrev pub begin_line : ℕ → ℕ → Line
 begin_line moment terminal = codes "TX" ∷ decimal moment ∷ decimal terminal ∷ []
 
+-- The data word of a value.
 abbrev pub data_word : ℕ → Word
 data_word value = record { kind = Plain; value = value }
 
--- the label word, and the data words
+-- The words of a wordstring are its label word, and the data words.
 abbrev pub word_fields : Wordstring → List (List ℕ)
 word_fields string = word_text (label_word string.label string.ext) ∷ map (λ value. word_text (data_word value)) string.words
 
--- `WS w w ..`: one wordstring
+-- `WS w w ..`: one wordstring.
 abbrev pub string_line : Wordstring → Line
 string_line string = codes "WS" ∷ word_fields string
 
--- a transmission: its TX line, and a WS line for each wordstring
+-- A transmission has its TX line, and a WS line for each wordstring.
 abbrev pub entry_lines : Entry → List Line
 entry_lines x = begin_line x.moment x.terminal ∷ map string_line x.message
 
--- `END`
+-- `END` is the last line.
 abbrev pub end_line : Line
 end_line = codes "END" ∷ []
 
--- the lines of a trace before its last
+-- The lines of a trace before its last.
 abbrev pub body_lines : ℕ → List Hold → List Entry → List Line
 body_lines horizon holds list = head_line ∷ horizon_line horizon ∷ (map hold_line holds ++ flat_map entry_lines list)
 
--- the lines of a trace
+-- The lines of a trace.
 abbrev pub trace_lines : Recording → List Line
 trace_lines t = body_lines t.horizon t.holds t.list ++ end_line ∷ []
 
 -- ---- the text
--- the one text of a trace
+-- The one text of a trace.
 abbrev pub trace_text : Recording → List ℕ
 trace_text t = spelled_lines (trace_lines t)
 
--- the grammar: these bytes are the text of this trace
+-- The grammar: these bytes are the text of this trace.
 pub record IsTraceText (t : Recording) (text : List ℕ) : Type 0 where
   pub trace : IsTrace t
   pub text_is : text ≡ trace_text t
 
--- a front of a stream, of no more bytes than the limit, is the text of this trace
+-- A front of a stream, of no more bytes than the limit, is the text of this trace.
 pub record HoldsTrace (limit : ℕ) (stream : List ℕ) (t : Recording) : Type 0 where
   pub front : List ℕ
   pub rest : List ℕ

@@ -1,26 +1,33 @@
 ghost use Rattle.std.specs.Prelude.{◌≡◌, ◌<◌, ◌≤◌, true, length};
 ghost use Rattle.bus_text.specs.Entries.{texts};
 ghost use Rattle.bus_trace.specs.Gives.{StepGives};
-ghost use Rattle.bus_trace.specs.States.{IsSound, TakesString, start, recorded, last_count as count_of, is_ended as ended_test, may_follow as may_stand, head_step, horizon_step, hold_step, begin_step, string_step, end_step, form_step, fields_step, step};
-ghost use Rattle.bus_trace.specs.Traces.{horizon_limit};
+ghost use Rattle.bus_strings.specs.Limits.{horizon_limit};
+ghost use Rattle.bus_trace.specs.States.{IsSound, TakesString, start, recorded, step, form_step, fields_step};
+ghost use Rattle.bus_trace.specs.States.{head_step, horizon_step, hold_step, begin_step, string_step, end_step};
+ghost use Rattle.bus_trace.specs.States.{last_count as count_of, is_ended as ended_test, may_follow as may_stand};
 
 use crate::fault::LineFault;
 use crate::fields::{below, bounded, fields, is_plain};
 use crate::hold::Hold;
+use crate::keyword::{Keyword, keyword_of};
 use crate::list::{is_after, last_count, last_terminal, take_string};
-use crate::place::{Keyword, Place, is_ended, keyword_of, may_follow};
+use crate::position::{Position, is_ended, may_follow};
 use crate::reason::TraceReason;
 use crate::trace::Trace;
-use crate::words::{are_even, are_spelled, wordstring};
+use crate::words::{are_spelled, have_parity, wordstring};
+use bus_strings::limits::{HORIZON_LIMIT, MOST_TERMINAL, MOST_WORDS};
 use bus_strings::transmission::Transmission;
 use bus_text::lines::{field_at, fields_from, is_at};
 use std::alloc::{AllocError, Global};
 use std::marker::Model;
 
+// The most fields of a WS line: its keyword, a label word and the data words.
+const MOST_FIELDS: usize = 2 + MOST_WORDS;
+
 /// What the lines so far have given.
 #[derive(Drop)]
 pub(crate) struct Draft {
-    place: Place,
+    position: Position,
     horizon: u64,
     holds: Vec<Hold>,
     list: Vec<Transmission>,
@@ -31,7 +38,7 @@ impl Model for Draft {
 
     ghost Value = { State };
 
-    ghost view = { λ d. record { place = d.place; horizon = d.horizon; holds = d.holds.items; list = d.list.items } };
+    ghost view = { λ d. record { position = d.position; horizon = d.horizon; holds = d.holds.items; list = d.list.items } };
 }
 
 impl Draft {
@@ -40,7 +47,7 @@ impl Draft {
         ensures { result ≡ start }
     {
         Draft {
-            place: Place::Start,
+            position: Position::Start,
             horizon: 0,
             holds: Vec::new(alloc),
             list: Vec::new(alloc),
@@ -49,11 +56,12 @@ impl Draft {
 
     /// Whether the last line was END.
     pub(crate) fn is_ended(&self) -> bool
-        ensures { result ≡ ended_test self.now.place }
+        ensures { result ≡ ended_test self.now.position }
     {
-        is_ended(self.place)
+        is_ended(self.position)
     }
 
+    // Takes a TRACE line.
     #[tactic(auto, unfolding(crate::specs::States::head_step))]
     fn take_head(&mut self, fields: &[&[u8]]) -> Result<(), LineFault>
         ensures { StepGives self.old self.new result (head_step self.old (texts fields.now)) }
@@ -61,10 +69,11 @@ impl Draft {
         if fields.len() != 2 || !is_at(fields, 1, b"1") {
             return Err(LineFault::Refused(TraceReason::Fields));
         }
-        self.place = Place::Headed;
+        self.position = Position::Headed;
         Ok(())
     }
 
+    // Takes a HORIZON line.
     #[tactic(auto, unfolding(crate::specs::States::horizon_step))]
     fn take_horizon(&mut self, fields: &[&[u8]]) -> Result<(), LineFault>
         ensures { StepGives self.old self.new result (horizon_step self.old (texts fields.now)) }
@@ -75,14 +84,15 @@ impl Draft {
         if !is_plain(field_at(fields, 1)) {
             return Err(LineFault::Refused(TraceReason::Spelling));
         }
-        let Some(horizon) = bounded(field_at(fields, 1), 0, 20_000_000) else {
+        let Some(horizon) = bounded(field_at(fields, 1), 0, HORIZON_LIMIT) else {
             return Err(LineFault::Refused(TraceReason::Range));
         };
-        self.place = Place::Holding;
+        self.position = Position::Holding;
         self.horizon = horizon;
         Ok(())
     }
 
+    // Takes a HOLD line.
     #[tactic(auto, unfolding(crate::specs::States::hold_step))]
     fn take_hold(&mut self, fields: &[&[u8]]) -> Result<(), LineFault>
         ensures { StepGives self.old self.new result (hold_step self.old (texts fields.now)) }
@@ -93,10 +103,10 @@ impl Draft {
         if !is_plain(field_at(fields, 1)) || !is_plain(field_at(fields, 2)) {
             return Err(LineFault::Refused(TraceReason::Spelling));
         }
-        let Some(terminal) = bounded(field_at(fields, 1), 1, 128) else {
+        let Some(terminal) = bounded(field_at(fields, 1), 1, MOST_TERMINAL as u64) else {
             return Err(LineFault::Refused(TraceReason::Range));
         };
-        let Some(count) = bounded(field_at(fields, 2), 0, 4_294_967_295) else {
+        let Some(count) = bounded(field_at(fields, 2), 0, u32::MAX as u64) else {
             return Err(LineFault::Refused(TraceReason::Range));
         };
         if u64::from(last_terminal(&self.holds)) >= terminal {
@@ -106,10 +116,11 @@ impl Draft {
             terminal: terminal as u8,
             count: count as u32,
         })?;
-        self.place = Place::Holding;
+        self.position = Position::Holding;
         Ok(())
     }
 
+    // Takes a TX line.
     #[tactic(auto, unfolding(crate::specs::States::begin_step))]
     fn take_begin(&mut self, fields: &[&[u8]]) -> Result<(), LineFault>
         requires { self.old.horizon ≤ horizon_limit }
@@ -124,40 +135,42 @@ impl Draft {
         let Some(moment) = below(field_at(fields, 1), self.horizon) else {
             return Err(LineFault::Refused(TraceReason::Range));
         };
-        let Some(terminal) = bounded(field_at(fields, 2), 1, 128) else {
+        let Some(terminal) = bounded(field_at(fields, 2), 1, MOST_TERMINAL as u64) else {
             return Err(LineFault::Refused(TraceReason::Range));
         };
         if !is_after(&self.list, moment, terminal) {
             return Err(LineFault::Refused(TraceReason::Order));
         }
-        self.place = Place::Begun {
+        self.position = Position::Begun {
             moment,
             terminal: terminal as u8,
         };
         Ok(())
     }
 
+    // Takes a WS line.
     #[tactic(auto, unfolding(crate::specs::States::string_step))]
     fn take_string(&mut self, alloc: Global, fields: &[&[u8]]) -> Result<(), LineFault>
-        requires { TakesString self.old.place (count_of self.old.list) }
+        requires { TakesString self.old.position (count_of self.old.list) }
         ensures { StepGives self.old self.new result (string_step self.old (texts fields.now)) }
     {
-        if fields.len() < 2 || fields.len() > 258 {
+        if fields.len() < 2 || fields.len() > MOST_FIELDS {
             return Err(LineFault::Refused(TraceReason::Fields));
         }
         let words = fields_from(fields, 1);
         if !are_spelled(words) {
             return Err(LineFault::Refused(TraceReason::Spelling));
         }
-        if !are_even(words) {
+        if !have_parity(words) {
             return Err(LineFault::Refused(TraceReason::Parity));
         }
         let string = wordstring(alloc, words)?;
-        take_string(alloc, &mut self.list, self.place, string)?;
-        self.place = Place::Stringing;
+        take_string(alloc, &mut self.list, self.position, string)?;
+        self.position = Position::Stringing;
         Ok(())
     }
 
+    // Takes an END line.
     #[tactic(auto, unfolding(crate::specs::States::end_step))]
     fn take_end(&mut self, fields: &[&[u8]]) -> Result<(), LineFault>
         ensures { StepGives self.old self.new result (end_step self.old (texts fields.now)) }
@@ -165,7 +178,7 @@ impl Draft {
         if fields.len() != 1 {
             return Err(LineFault::Refused(TraceReason::Fields));
         }
-        self.place = Place::Ended;
+        self.position = Position::Ended;
         Ok(())
     }
 
@@ -177,7 +190,7 @@ impl Draft {
         fields: &[&[u8]],
     ) -> Result<(), LineFault>
         requires sound { IsSound self.old }
-        requires stands { may_stand self.old.place (count_of self.old.list) keyword ≡ true }
+        requires stands { may_stand self.old.position (count_of self.old.list) keyword ≡ true }
         ensures { StepGives self.old self.new result (form_step keyword self.old (texts fields.now)) }
     {
         match keyword {
@@ -190,6 +203,7 @@ impl Draft {
         }
     }
 
+    // Takes a line by its fields.
     fn take_fields(&mut self, alloc: Global, fields: &[&[u8]]) -> Result<(), LineFault>
         requires sound { IsSound self.old }
         requires some { 0 < length fields.now }
@@ -198,7 +212,7 @@ impl Draft {
         let Some(keyword) = keyword_of(field_at(fields, 0)) else {
             return Err(LineFault::Refused(TraceReason::Keyword));
         };
-        if !may_follow(self.place, last_count(&self.list), keyword) {
+        if !may_follow(self.position, last_count(&self.list), keyword) {
             return Err(LineFault::Refused(TraceReason::Keyword));
         }
         self.take_form(alloc, keyword, fields)
@@ -219,6 +233,6 @@ impl Draft {
         requires { IsSound self }
         ensures { result ≡ recorded self }
     {
-        Trace::from_parts(self.horizon, self.holds, self.list)
+        Trace::of(self.horizon, self.holds, self.list)
     }
 }

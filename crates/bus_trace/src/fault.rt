@@ -56,7 +56,7 @@ pub enum TraceError {
     /// A pull failed: the count of faults of the source rose.
     #[error("the source failed")]
     ReadFault,
-    /// Byte 8,388,609 came, and nothing was decided before it.
+    /// A byte past the limit of a text came, and nothing was decided before it.
     #[error("the trace text has too many bytes")]
     TooLarge,
     /// Memory was refused.

@@ -1,9 +1,9 @@
 //! Traces of the bus: what each terminal held, and what was sent up to a horizon, as a value and as a text.
 //!
-//! - [`trace::Trace`] keeps in its type what every trace has: its order and its ranges.
-//! - [`writing::write_trace`] writes the one text of a trace to a sink, and [`reading::read_trace`] reads it back from a source, of
-//!   which it takes exactly the bytes of the trace text. A text that is none is refused with the place of its first offending line
-//!   and the [`reason::TraceReason`].
+//! - [`Trace`] keeps in its type what every trace has: its order and its ranges.
+//! - [`write_trace`] writes the one text of a trace to a sink, and [`read_trace`] reads it back from a source, of which it takes
+//!   exactly the bytes of the trace text. A text that is none is refused at the byte at which its first offending line begins, with
+//!   the [`TraceReason`].
 //!
 //! The text is this project's own: `TRACE 1`, `HORIZON h`, a `HOLD n c` for each terminal that held messages, then for each
 //! transmission `TX m n` and a `WS` line of words for each wordstring, and `END`. The definitions are in `specs/`: `Traces` has the
@@ -14,9 +14,11 @@ mod draft;
 pub mod fault;
 mod fields;
 pub mod hold;
+mod keyword;
 pub mod laws;
+pub mod limits;
 mod list;
-mod place;
+mod position;
 mod reader;
 pub mod reading;
 pub mod reason;
@@ -28,3 +30,10 @@ mod valid;
 mod walk;
 mod words;
 pub mod writing;
+
+pub use fault::TraceError;
+pub use hold::Hold;
+pub use reading::read_trace;
+pub use reason::TraceReason;
+pub use trace::Trace;
+pub use writing::write_trace;

@@ -1,8 +1,10 @@
-ghost use Rattle.std.specs.Prelude.{◌≡◌, ◌<◌, ◌≤◌, ◌^◌, length, [], ◌∷◌, ◌++◌, IfOk, OnOk, OnErr};
-ghost use Rattle.bus_trace.specs.States.{last_count as count_of, last_terminal as last_of, comes_after as comes_test, is_after as after_test, with_string, more_list, TakesString};
+ghost use Rattle.std.specs.Prelude.{◌≡◌, ◌<◌, ◌≤◌, length, [], ◌∷◌, ◌++◌, IfOk, OnOk, OnErr};
+ghost use Rattle.bus_strings.specs.Limits.{horizon_limit, most_terminal, most_strings};
+ghost use Rattle.bus_trace.specs.States.{last_count as count_of, last_terminal as last_of, comes_after as comes_test};
+ghost use Rattle.bus_trace.specs.States.{is_after as after_test, with_string, more_list, TakesString};
 
 use crate::hold::Hold;
-use crate::place::Place;
+use crate::position::Position;
 use bus_strings::message::Message;
 use bus_strings::transmission::Transmission;
 use bus_strings::wordstring::Wordstring;
@@ -28,6 +30,7 @@ pub(crate) fn last_count(list: &[Transmission]) -> usize
     }
 }
 
+/// Whether a moment and a terminal ascend behind a transmission.
 fn comes_after(last: &Transmission, moment: u64, terminal: u64) -> bool
     ensures { result ≡ comes_test last.now moment terminal }
 {
@@ -55,7 +58,7 @@ fn first_message(alloc: Global, string: Wordstring) -> Result<Message, AllocErro
 
 /// Adds a wordstring to the last transmission.
 fn add_string(list: &mut Vec<Transmission>, string: Wordstring) -> Result<(), AllocError>
-    requires { count_of list.old.items < 31 }
+    requires { count_of list.old.items < most_strings }
     ensures ok { OnOk result (list.new.items ≡ with_string string list.old.items) }
     ensures err { OnErr result (list.new.items ≡ list.old.items) }
 {
@@ -73,10 +76,11 @@ fn add_transmission(
     terminal: u8,
     string: Wordstring,
 ) -> Result<(), AllocError>
-    requires moment { moment < 2 ^ 40 }
+    requires moment { moment < horizon_limit }
     requires positive { 1 ≤ terminal }
-    requires low { terminal ≤ 128 }
-    ensures ok { OnOk result (list.new.items ≡ list.old.items ++ record { moment = moment; terminal = terminal; message = string ∷ [] } ∷ []) }
+    requires low { terminal ≤ most_terminal }
+    ensures ok { OnOk result (list.new.items ≡
+        list.old.items ++ record { moment = moment; terminal = terminal; message = string ∷ [] } ∷ []) }
     ensures err { OnErr result (list.new.items ≡ list.old.items) }
 {
     let message = first_message(alloc, string)?;
@@ -92,15 +96,15 @@ fn add_transmission(
 pub(crate) fn take_string(
     alloc: Global,
     list: &mut Vec<Transmission>,
-    place: Place,
+    position: Position,
     string: Wordstring,
 ) -> Result<(), AllocError>
-    requires { TakesString place (count_of list.old.items) }
-    ensures ok { OnOk result (list.new.items ≡ more_list place string list.old.items) }
+    requires { TakesString position (count_of list.old.items) }
+    ensures ok { OnOk result (list.new.items ≡ more_list position string list.old.items) }
     ensures err { OnErr result (list.new.items ≡ list.old.items) }
 {
-    match place {
-        Place::Begun { moment, terminal } => {
+    match position {
+        Position::Begun { moment, terminal } => {
             add_transmission(alloc, list, moment, terminal, string)
         }
         _ => add_string(list, string),

@@ -4,15 +4,13 @@ ghost use Rattle.bus_trace.specs.Feeding.{fed_of, FeedGives, FinishGives};
 ghost use Rattle.bus_trace.specs.declared.stage.Stage.TheVariants.{Open, Shut};
 
 use crate::fault::TraceError;
+use crate::limits::{LINE_LIMIT, TEXT_LIMIT};
 use crate::reason::TraceReason;
 use crate::stage::{Fed, Stage};
 use crate::trace::Trace;
 use crate::walk::{Walk, Walked};
 use std::alloc::{AllocError, Global};
 use std::marker::Model;
-
-/// How many bytes a trace text may have.
-const LIMIT: usize = 8_388_608;
 
 /// The front of a piece, as far as so many bytes.
 fn within(piece: &[u8], room: usize) -> &[u8]
@@ -56,10 +54,11 @@ impl Model for TraceReader {
 }
 
 impl TraceReader {
+    /// A reader to which nothing came. `AllocError`: the room for a line was refused.
     pub(crate) fn new(alloc: Global) -> Result<TraceReader, AllocError>
         ensures { IfOk result (λ r. (r.stage ≡ Open) × (r.at ≡ begin)) }
     {
-        let line = Vec::with_capacity(alloc, 1801)?;
+        let line = Vec::with_capacity(alloc, LINE_LIMIT)?;
         Ok(TraceReader {
             alloc,
             walk: Walk::new(alloc, line),
@@ -74,7 +73,7 @@ impl TraceReader {
     {
         self.stage = Stage::Shut;
         let used = self.walk.length();
-        let front = within(piece, LIMIT - used);
+        let front = within(piece, TEXT_LIMIT - used);
         let walked = self.walk.walk(self.alloc, front)?;
         let (stage, answer) = fed(walked, front.len() < piece.len());
         self.stage = stage;
@@ -89,7 +88,7 @@ impl TraceReader {
         match self.stage {
             Stage::Whole => Ok(self.walk.into_trace()),
             Stage::Open => Err(TraceError::Text {
-                byte: self.walk.place(),
+                byte: self.walk.used(),
                 reason: TraceReason::Ended,
             }),
             Stage::Shut => unreachable!(),

@@ -1,8 +1,9 @@
-ghost use Rattle.std.specs.Prelude.{IfOk, IfSome};
-ghost use Rattle.bus_trace.specs.Runs.{Reads, reading};
+ghost use Rattle.std.specs.Prelude.{IfOk, IfSome, Ok};
+ghost use Rattle.bus_trace.specs.Runs.{reading};
 ghost use Rattle.bus_trace.specs.Reading.{TakesTrace, ReadGives, CountsReading};
 ghost use Rattle.bus_trace.specs.Looping.{Loops};
-ghost use Rattle.bus_trace.specs.Traces.{Recording, IsTrace, HoldsTrace, text_limit};
+ghost use Rattle.bus_trace.specs.Limits.{text_limit};
+ghost use Rattle.bus_trace.specs.Traces.{Recording, IsTrace, HoldsTrace};
 
 use crate::fault::TraceError;
 use crate::reader::TraceReader;
@@ -11,12 +12,14 @@ use crate::trace::Trace;
 use bus_outer::{Pull, Source};
 use std::alloc::Global;
 
-/// Reads a trace text of at most 8,388,608 bytes, a byte at a time, and takes none of the bytes behind its END line.
+/// Reads a trace text of at most [`crate::limits::TEXT_LIMIT`] bytes, a byte at a time, and takes none of the bytes behind its
+/// END line.
 ///
 /// `Text` comes exactly where a line is refused within the limit, at the length of the lines before it: the source has then given
-/// that line with its line feed, its first 1,802 bytes where these have none, or all its bytes where it ended. `ReadFault` comes only
-/// where the count of faults of the source rose, `TooLarge` exactly where byte 8,388,609 was taken, and that byte is taken only where
-/// those before it decide nothing. `Memory`: memory was refused.
+/// that line with its line feed, its first 1,802 bytes where these have none, or all its bytes where it ended. `ReadFault` comes
+/// exactly where a pull failed: the count of faults rose, as it does at no other answer. `TooLarge` comes exactly where a byte past
+/// the limit was taken, and that byte is taken only where those before it decide nothing. `Memory`: memory was refused, before any
+/// pull failed.
 pub fn read_trace<S: Source>(alloc: Global, source: &mut S) -> Result<Trace, TraceError>
     // The bytes taken are exactly those of the trace text, or those up to where the refusal is decided.
     ensures taken { TakesTrace (S.left source.old) (S.left source.new) result }
@@ -25,7 +28,7 @@ pub fn read_trace<S: Source>(alloc: Global, source: &mut S) -> Result<Trace, Tra
     // What was read stands at the front of the source, within the limit.
     ensures found { IfSome (S.left source.old) (λ stream. IfOk result (HoldsTrace text_limit stream)) }
     // A trace text that stands there is read, unless a pull failed or memory ran out.
-    ensures only { IfSome (S.left source.old) (λ stream. (t : Recording) → HoldsTrace text_limit stream t → ReadGives result (Reads t)) }
+    ensures only { IfSome (S.left source.old) (λ stream. (t : Recording) → HoldsTrace text_limit stream t → ReadGives result (Ok t)) }
     ensures ranges { IfOk result IsTrace }
     ensures counts { CountsReading (S.faults source.old) (S.faults source.new) result }
 {

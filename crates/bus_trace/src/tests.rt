@@ -1,11 +1,7 @@
-ghost use Rattle.std.specs.Prelude.{◌≤◌, ◌<◌, ◌^◌};
+ghost use Rattle.std.specs.Prelude.{◌≤◌, ◌<◌};
+ghost use Rattle.bus_strings.specs.Limits.{horizon_limit, most_terminal};
 
-use crate::fault::TraceError;
-use crate::hold::Hold;
-use crate::reading::read_trace;
-use crate::reason::TraceReason;
-use crate::trace::Trace;
-use crate::writing::write_trace;
+use crate::{Hold, Trace, TraceError, TraceReason, read_trace, write_trace};
 use bus_outer::{MemorySink, MemorySource, read_whole};
 use bus_strings::message::Message;
 use bus_strings::transmission::Transmission;
@@ -99,9 +95,9 @@ fn a_changed_line_is_refused_where_it_begins(rt: HostRuntime) -> Result<(), Fail
         (3, b"HOLD 1 1\n", TraceReason::Order),
         (8, b"STOP\n", TraceReason::Keyword),
     ];
-    for (place, line, reason) in changes {
+    for (number, line, reason) in changes {
         let mut lines = LINES;
-        let Some(changed) = lines.get_mut(place) else {
+        let Some(changed) = lines.get_mut(number) else {
             return Err(Fail::new("no such line"));
         };
         let byte = changed.1 as u64;
@@ -109,7 +105,7 @@ fn a_changed_line_is_refused_where_it_begins(rt: HostRuntime) -> Result<(), Fail
         let answer = read(alloc, &text_of(alloc, &lines)?)?;
         assert!(rt;
             matches!(answer, Err(error) if error == (TraceError::Text { byte, reason })),
-            "line {place}"
+            "line {number}"
         );
     }
     Ok(())
@@ -141,9 +137,9 @@ fn a_failed_pull_in_mid_stream_is_a_fault(rt: HostRuntime) -> Result<(), Fail> {
 }
 
 fn transmission(alloc: Global, moment: u64, terminal: u8) -> Result<Transmission, Fail>
-    requires moment { moment < 2 ^ 40 }
+    requires moment { moment < horizon_limit }
     requires positive { 1 ≤ terminal }
-    requires low { terminal ≤ 128 }
+    requires low { terminal ≤ most_terminal }
 {
     let (Some(label), Some(ext)) = (Label::new(0x0A1), Ext::new(1)) else {
         return Err(Fail::new("no label"));

@@ -2,13 +2,14 @@ ghost use Rattle.std.specs.Prelude.{◌≡◌, ◌↔◌, IsSome, IfSome, IsTrue
 
 use crate::hold::Hold;
 use crate::valid::{are_below, are_holds};
+use bus_strings::limits::HORIZON_LIMIT;
 use bus_strings::transmission::Transmission;
 use std::marker::Model;
 
 /// What was seen of a bus up to a horizon: how many messages each terminal held, and what was sent.
 ///
-/// The horizon is at most 20,000,000 bit times from the settled start. The holds ascend strictly by terminal, all of 1 to
-/// 128. The list ascends strictly by moment, then terminal, and all its moments are below the horizon.
+/// The horizon is at most `bus_strings::limits::HORIZON_LIMIT` bit times from the settled start. The holds ascend strictly by
+/// terminal, all of 1 to 128. The list ascends strictly by moment, then terminal, and all its moments are below the horizon.
 #[derive(Drop)]
 pub struct Trace {
     horizon: u64,
@@ -34,7 +35,7 @@ impl Trace {
         ensures some { IsSome result ↔ IsTrace (record { horizon = horizon; holds = holds.items; list = list.items }) }
         ensures value { IfSome result (λ t. t ≡ record { horizon = horizon; holds = holds.items; list = list.items }) }
     {
-        if horizon > 20_000_000 || !are_holds(&holds) || !are_below(&list, horizon) {
+        if horizon > HORIZON_LIMIT || !are_holds(&holds) || !are_below(&list, horizon) {
             return None;
         }
         Some(Trace {
@@ -44,8 +45,8 @@ impl Trace {
         })
     }
 
-    /// The trace of a text that was read.
-    pub(crate) fn from_parts(horizon: u64, holds: Vec<Hold>, list: Vec<Transmission>) -> Trace
+    /// The trace of these three, where it is known that they are those of a trace: nothing is looked at again.
+    pub fn of(horizon: u64, holds: Vec<Hold>, list: Vec<Transmission>) -> Trace
         requires { IsTrace (record { horizon = horizon; holds = holds.items; list = list.items }) }
         ensures { result ≡ record { horizon = horizon; holds = holds.items; list = list.items } }
     {

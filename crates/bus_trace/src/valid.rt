@@ -5,6 +5,7 @@ ghost use Rattle.bus_trace.specs.Traces.{IsHold, AscendAbove, IsBelow};
 
 use crate::hold::Hold;
 use crate::list::{is_after, last_terminal};
+use bus_strings::limits::MOST_TERMINAL;
 use bus_strings::transmission::Transmission;
 
 /// Whether holds ascend strictly by terminal, all of 1 to 128.
@@ -13,7 +14,7 @@ pub(crate) fn are_holds(holds: &[Hold]) -> bool
 {
     for (i, hold) in holds.iter().enumerate() {
         let hold = *hold;
-        if hold.terminal <= last_terminal(&holds[..i]) || hold.terminal > 128 {
+        if hold.terminal <= last_terminal(&holds[..i]) || hold.terminal > MOST_TERMINAL {
             return false;
         }
     }

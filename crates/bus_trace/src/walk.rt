@@ -1,20 +1,18 @@
-ghost use Rattle.std.specs.Prelude.{◌≡◌, ◌<◌, ◌≤◌, if◌then◌else◌, ◌+◌, ◌^◌, ℕ, length, slice_index, ◌≢◌, ◌++◌, ◌∷◌, [], MatchOption, IfNone, IfSome};
-ghost use Rattle.bus_trace.specs.States.{step, text_of};
+ghost use Rattle.std.specs.Prelude.{◌≡◌, ◌<◌, if◌then◌else◌, ◌+◌, ◌^◌, length, ◌++◌, ◌∷◌, [], MatchOption};
+ghost use Rattle.bus_trace.specs.States.{step, text_of, recorded};
 ghost use Rattle.bus_trace.specs.Runs.{HasNoFeed, judged, run, begin, stream_of};
-ghost use Rattle.bus_trace.specs.States.{recorded};
 ghost use Rattle.bus_trace.specs.Walking.{KeepGives, JudgedGives, WalkGives};
 
 use crate::draft::Draft;
 use crate::fault::LineFault;
+use crate::limits::LINE_LIMIT;
 use crate::reason::TraceReason;
 use crate::trace::Trace;
+use bus_text::lines::first_feed;
 use std::alloc::{AllocError, Global};
 use std::marker::Model;
 
-/// How many bytes a line may have before its line feed.
-const MOST: usize = 1801;
-
-/// What some bytes gave.
+/// What the bytes of one line gave.
 #[derive(Clone, Copy)]
 pub(crate) enum Judged {
     Passes,
@@ -30,15 +28,6 @@ pub(crate) enum Walked {
     Failed { byte: u64, reason: TraceReason },
 }
 
-/// Where the first line feed stands.
-fn first_feed(text: &[u8]) -> Option<usize>
-    ensures none { IfNone result ((k : ℕ) → k < length text.now → slice_index text.now k ≢ 10) }
-    ensures before { IfSome result (λ at. (k : ℕ) → k < at → slice_index text.now k ≢ 10) }
-    ensures found { IfSome result (λ at. (at < length text.now) × (slice_index text.now at ≡ 10)) }
-{
-    memchr::memchr(b'\n', text)
-}
-
 /// The first line, where it is complete, and what is behind its line feed.
 fn first_line(text: &[u8]) -> Option<(&[u8], &[u8])>
     ensures { MatchOption result (HasNoFeed text.now) (λ r. (text.now ≡ r.0.now ++ 10 ∷ r.1.now) × HasNoFeed r.0.now) }
@@ -47,6 +36,7 @@ fn first_line(text: &[u8]) -> Option<(&[u8], &[u8])>
     Some((&text[..at], &text[at + 1..]))
 }
 
+/// What a line that was taken gave.
 fn passes(ended: bool) -> Judged
     ensures { result ≡ (if ended then Judged.Ends else Judged.Passes) }
 {
@@ -74,6 +64,7 @@ impl Model for Walk {
 }
 
 impl Walk {
+    /// Nothing came; `line` is the room for a line.
     pub(crate) fn new(alloc: Global, line: Vec<u8>) -> Walk
         requires { line.items ≡ [] }
         ensures { result ≡ begin }
@@ -86,7 +77,7 @@ impl Walk {
     }
 
     /// How many bytes the whole lines have.
-    pub(crate) fn place(&self) -> u64
+    pub(crate) fn used(&self) -> u64
         ensures { result ≡ length (text_of self.now.state) }
     {
         self.used
@@ -105,7 +96,7 @@ impl Walk {
         requires { HasNoFeed bytes.now }
         ensures { KeepGives self.old self.new bytes.now result }
     {
-        if bytes.len() > MOST - self.line.len() {
+        if bytes.len() > LINE_LIMIT - self.line.len() {
             return Ok(false);
         }
         self.line.extend_from_slice(bytes)?;
@@ -140,7 +131,7 @@ impl Walk {
     {
         if !self.keep(front)? {
             return Ok(Judged::Fails {
-                byte: self.place(),
+                byte: self.used(),
                 reason: TraceReason::Long,
             });
         }
@@ -166,7 +157,7 @@ impl Walk {
         }
         if !self.keep(rest)? {
             return Ok(Walked::Failed {
-                byte: self.place(),
+                byte: self.used(),
                 reason: TraceReason::Long,
             });
         }

@@ -1,9 +1,11 @@
-ghost use Rattle.std.specs.Prelude.{◌≡◌, ◌<◌, ◌≤◌, ◌&&◌, true, length, map, IfOk, Some, None, if◌then◌else◌};
+ghost use Rattle.std.specs.Prelude.{◌≡◌, ◌+◌, ◌<◌, ◌≤◌, ◌&&◌, true, length, map, IfOk, Some, None, if◌then◌else◌};
 ghost use Rattle.std.specs.List.{list_all};
+ghost use Rattle.bus_strings.specs.Limits.{most_words};
 ghost use Rattle.bus_text.specs.Entries.{texts};
 ghost use Rattle.bus_words.specs.declared.word.Kind.TheVariants.{Plain};
 ghost use Rattle.bus_words.specs.WordTexts.{written_frame};
-ghost use Rattle.bus_trace.specs.WordFields.{same_kind as same_test, is_spelled as spelled_test, is_even as even_test, value_of as value_in, are_spelled as all_spelled, are_even as all_even, string_of};
+ghost use Rattle.bus_trace.specs.WordFields.{same_kind as same_test, is_spelled as spelled_test, has_parity as parity_test};
+ghost use Rattle.bus_trace.specs.WordFields.{value_of as value_in, are_spelled as all_spelled, have_parity as all_parity, string_of};
 
 use bus_strings::wordstring::Wordstring;
 use bus_text::lines::{field_at, fields_from};
@@ -11,6 +13,7 @@ use bus_words::text::{read_frame, read_word};
 use bus_words::word::{FramedWord, Kind, split_label};
 use std::alloc::{AllocError, Global};
 
+/// Whether two kinds are the same.
 fn same_kind(one: Kind, other: Kind) -> bool
     ensures { result ≡ same_test one other }
 {
@@ -30,8 +33,9 @@ fn is_spelled(kind: Kind, field: &[u8]) -> bool
     }
 }
 
-fn is_even(field: &[u8]) -> bool
-    ensures { result ≡ even_test field.now }
+/// Whether a field is the text of a word, its parity digit included.
+fn has_parity(field: &[u8]) -> bool
+    ensures { result ≡ parity_test field.now }
 {
     read_word(field).is_ok()
 }
@@ -46,12 +50,14 @@ fn value_of(field: &[u8]) -> u16
     }
 }
 
+/// Whether each field is spelled as a data word, by the fields as they are lent.
 fn each_is_data(fields: &[&[u8]]) -> bool
     ensures { result ≡ list_all (λ f. spelled_test Plain f.now) fields.now }
 {
     fields.iter().all(|field| is_spelled(Kind::Plain, field))
 }
 
+/// Whether each field is spelled as a data word.
 fn are_data(fields: &[&[u8]]) -> bool
     ensures { result ≡ list_all (spelled_test Plain) (texts fields.now) }
 {
@@ -68,25 +74,28 @@ pub(crate) fn are_spelled(fields: &[&[u8]]) -> bool
     label && data
 }
 
-fn each_is_even(fields: &[&[u8]]) -> bool
-    ensures { result ≡ list_all (λ f. even_test f.now) fields.now }
+/// Whether each field is the text of a word, by the fields as they are lent.
+fn each_has_parity(fields: &[&[u8]]) -> bool
+    ensures { result ≡ list_all (λ f. parity_test f.now) fields.now }
 {
-    fields.iter().all(|field| is_even(field))
+    fields.iter().all(|field| has_parity(field))
 }
 
-/// Whether each word has its parity.
-pub(crate) fn are_even(fields: &[&[u8]]) -> bool
-    ensures { result ≡ all_even (texts fields.now) }
+/// Whether each field is the text of a word, its parity digit included.
+pub(crate) fn have_parity(fields: &[&[u8]]) -> bool
+    ensures { result ≡ all_parity (texts fields.now) }
 {
-    each_is_even(fields)
+    each_has_parity(fields)
 }
 
+/// The value of each field, by the fields as they are lent.
 fn each_value(alloc: Global, fields: &[&[u8]]) -> Result<Vec<u16>, AllocError>
     ensures { IfOk result (λ v. v.items ≡ map (λ f. value_in f.now) fields.now) }
 {
     fields.iter().map(|field| value_of(field)).collect(alloc)
 }
 
+/// The value of each field.
 fn values(alloc: Global, fields: &[&[u8]]) -> Result<Vec<u16>, AllocError>
     ensures { IfOk result (λ v. v.items ≡ map value_in (texts fields.now)) }
 {
@@ -97,7 +106,7 @@ fn values(alloc: Global, fields: &[&[u8]]) -> Result<Vec<u16>, AllocError>
 /// The wordstring of fields that are a label word and at most 256 data words.
 pub(crate) fn wordstring(alloc: Global, fields: &[&[u8]]) -> Result<Wordstring, AllocError>
     requires some { 0 < length fields.now }
-    requires few { length fields.now ≤ 257 }
+    requires few { length fields.now ≤ 1 + most_words }
     ensures { IfOk result (λ s. s ≡ string_of (texts fields.now)) }
 {
     let (label, ext) = split_label(value_of(field_at(fields, 0)));

@@ -13,6 +13,7 @@ use bus_strings::wordstring::Wordstring;
 use bus_words::text::word_text;
 use bus_words::word::{Kind, Word, label_word};
 
+// A word behind its space.
 fn put_word<K: Sink>(text: &mut TextBuffer, sink: &mut K, word: Word)
     ensures { Adds K.held K.faults sink.old sink.new text.old text.new (word_put word) }
 {
@@ -20,6 +21,7 @@ fn put_word<K: Sink>(text: &mut TextBuffer, sink: &mut K, word: Word)
     text.put(sink, &word_text(word));
 }
 
+// Data words, each behind its space.
 fn put_data<K: Sink>(text: &mut TextBuffer, sink: &mut K, words: &[u16])
     ensures { Adds K.held K.faults sink.old sink.new text.old text.new (data_put words.now) }
 {
@@ -32,6 +34,7 @@ fn put_data<K: Sink>(text: &mut TextBuffer, sink: &mut K, words: &[u16])
     }
 }
 
+// A WS line.
 fn put_string<K: Sink>(text: &mut TextBuffer, sink: &mut K, string: &Wordstring)
     ensures { Adds K.held K.faults sink.old sink.new text.old text.new (string_put string.now) }
 {
@@ -41,6 +44,7 @@ fn put_string<K: Sink>(text: &mut TextBuffer, sink: &mut K, string: &Wordstring)
     text.put_byte(sink, b'\n');
 }
 
+// The WS lines of a transmission.
 fn put_strings<K: Sink>(text: &mut TextBuffer, sink: &mut K, strings: &[Wordstring])
     ensures { Adds K.held K.faults sink.old sink.new text.old text.new (flat_map string_put strings.now) }
 {
@@ -49,6 +53,7 @@ fn put_strings<K: Sink>(text: &mut TextBuffer, sink: &mut K, strings: &[Wordstri
     }
 }
 
+// A line of a keyword and two numbers.
 fn put_pair<K: Sink>(text: &mut TextBuffer, sink: &mut K, keyword: &[u8], first: u64, second: u64)
     ensures { Adds K.held K.faults sink.old sink.new text.old text.new (pair_put keyword.now first second) }
 {
@@ -60,6 +65,7 @@ fn put_pair<K: Sink>(text: &mut TextBuffer, sink: &mut K, keyword: &[u8], first:
     text.put_byte(sink, b'\n');
 }
 
+// A HOLD line.
 fn put_hold<K: Sink>(text: &mut TextBuffer, sink: &mut K, hold: Hold)
     ensures { Adds K.held K.faults sink.old sink.new text.old text.new (hold_put hold) }
 {
@@ -67,6 +73,7 @@ fn put_hold<K: Sink>(text: &mut TextBuffer, sink: &mut K, hold: Hold)
     put_pair(text, sink, b"HOLD", terminal, count);
 }
 
+// The HOLD lines.
 fn put_holds<K: Sink>(text: &mut TextBuffer, sink: &mut K, holds: &[Hold])
     ensures { Adds K.held K.faults sink.old sink.new text.old text.new (flat_map hold_put holds.now) }
 {
@@ -75,6 +82,7 @@ fn put_holds<K: Sink>(text: &mut TextBuffer, sink: &mut K, holds: &[Hold])
     }
 }
 
+// The lines of a transmission.
 fn put_transmission<K: Sink>(text: &mut TextBuffer, sink: &mut K, x: &Transmission)
     ensures { Adds K.held K.faults sink.old sink.new text.old text.new (entry_put x.now) }
 {
@@ -82,6 +90,7 @@ fn put_transmission<K: Sink>(text: &mut TextBuffer, sink: &mut K, x: &Transmissi
     put_strings(text, sink, x.message.strings());
 }
 
+// The lines of all transmissions.
 fn put_list<K: Sink>(text: &mut TextBuffer, sink: &mut K, list: &[Transmission])
     ensures { Adds K.held K.faults sink.old sink.new text.old text.new (flat_map entry_put list.now) }
 {
@@ -90,6 +99,7 @@ fn put_list<K: Sink>(text: &mut TextBuffer, sink: &mut K, list: &[Transmission])
     }
 }
 
+// The first two lines.
 fn put_horizon<K: Sink>(text: &mut TextBuffer, sink: &mut K, horizon: u64)
     ensures { Adds K.held K.faults sink.old sink.new text.old text.new (horizon_put horizon) }
 {

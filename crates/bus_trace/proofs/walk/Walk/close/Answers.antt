@@ -7,7 +7,7 @@ use Rattle.bus_trace.proofs.walk.Walk.close.Goals as goal
 pub returns-then-not-branch : goal.returns-then-not-branch
 returns-then-not-branch c =
     let k = not_kept _ _ _ _ c.if-not-branch.true c.in_ok-keep.ensures in
-    close_long c.args.self.now c.args.front.now c.place.result k.1 (c.place.ensures ∙ ap (λ (s : Standing). length (text_of s.state)) k.0)
+    close_long c.args.self.now c.args.front.now c.used.result k.1 (c.used.ensures ∙ ap (λ (s : Standing). length (text_of s.state)) k.0)
 
 pub returns : goal.returns
 returns c =

@@ -29,7 +29,7 @@ returns-in-Fails c =
 pub returns-then-not-branch : goal.returns-then-not-branch
 returns-then-not-branch c =
     let k = not_kept _ _ _ _ c.if-not-branch.true c.in_ok-keep.ensures in
-    walks_give c.args.self.now c.loop-front.self c.args.piece.now c.loop-front.rest.now c.loop-front.invariant ∙ k.1 ∙ sym (ap (λ b. Refused b Long) (c.place.ensures ∙ ap (λ (s : Standing). length (text_of s.state)) k.0))
+    walks_give c.args.self.now c.loop-front.self c.args.piece.now c.loop-front.rest.now c.loop-front.invariant ∙ k.1 ∙ sym (ap (λ b. Refused b Long) (c.used.ensures ∙ ap (λ (s : Standing). length (text_of s.state)) k.0))
 
 pub returns : goal.returns
 returns c =

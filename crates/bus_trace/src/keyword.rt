@@ -1,0 +1,46 @@
+ghost use Rattle.std.specs.Prelude.{◌≡◌};
+ghost use Rattle.bus_trace.specs.States.{keyword_of as keyword_in};
+
+const TRACE: &[u8] = b"TRACE";
+
+const HORIZON: &[u8] = b"HORIZON";
+
+const HOLD: &[u8] = b"HOLD";
+
+const TX: &[u8] = b"TX";
+
+const WS: &[u8] = b"WS";
+
+const END: &[u8] = b"END";
+
+/// What a line begins with.
+#[derive(Clone, Copy, Debug, PartialEq, Eq)]
+pub(crate) enum Keyword {
+    Trace,
+    Horizon,
+    Hold,
+    Tx,
+    Ws,
+    End,
+}
+
+/// The keyword that a field is.
+pub(crate) fn keyword_of(field: &[u8]) -> Option<Keyword>
+    ensures { result ≡ keyword_in field.now }
+{
+    if field == TRACE {
+        Some(Keyword::Trace)
+    } else if field == HORIZON {
+        Some(Keyword::Horizon)
+    } else if field == HOLD {
+        Some(Keyword::Hold)
+    } else if field == TX {
+        Some(Keyword::Tx)
+    } else if field == WS {
+        Some(Keyword::Ws)
+    } else if field == END {
+        Some(Keyword::End)
+    } else {
+        None
+    }
+}
