@@ -12,6 +12,7 @@ use Rattle.bus_table.specs.Turns.{turn_key, turn_order, Differ, Rises}
 use Rattle.bus_table.specs.TurnLaws.{behind_rises, from_sort, numbers_differ, order_rises}
 use Rattle.bus_table.specs.Valid.{is_valid}
 use Rattle.bus_table.specs.ValidLaws.{valid_facts}
+use Rattle.bus_regime.specs.GapLaws.{gap_sender, same_by_number}
 use Rattle.bus_regime.specs.Gaps.{Gap, latest_end, last_end, gaps_from, gaps, has_width}
 use Rattle.bus_regime.specs.Verdicts.{synchronizes}
 
@@ -19,11 +20,6 @@ use Rattle.bus_regime.specs.Verdicts.{synchronizes}
 abbrev pub HaveOwnSenders : List Gap → Type 0
 HaveOwnSenders [] = Unit {0}
 HaveOwnSenders (gap ∷ others) = ((other : Gap) → In other others → other.sender.number ≢ gap.sender.number) × HaveOwnSenders others
-
-gap_sender : (ti from : ℕ) (order : List Sender) (g : Gap) → In g (gaps_from ti from order) → In g.sender order
-gap_sender ti from [] g i = absurd i
-gap_sender ti from (s ∷ order) g (inl same) = inl (ap (λ (h : Gap). h.sender) same)
-gap_sender ti from (s ∷ order) g (inr i) = inr (gap_sender ti (ti + latest_end s) order g i)
 
 own_senders : (key : Sender → ℕ) (ti from : ℕ) (order : List Sender) → Rises key order
     → ((a b : Sender) → In a order → In b order → a.number ≡ b.number → a ≡ b) → HaveOwnSenders (gaps_from ti from order)
@@ -36,13 +32,6 @@ own_senders key ti from (s ∷ order) r told = (
       absurd (omega arith)),
   own_senders key ti (ti + latest_end s) order r.1 (λ a b i j. told a b (inr i) (inr j)),
 )
-
-same_by_number : (senders : List Sender) → Differ (λ s. s.number) senders → (a b : Sender) → In a senders → In b senders → a.number ≡ b.number → a ≡ b
-same_by_number [] d a b i j e = absurd i
-same_by_number (s ∷ senders) d a b (inl p) (inl q) e = p ∙ sym q
-same_by_number (s ∷ senders) d a b (inl p) (inr j) e = absurd (d.0 b j (sym (ap (λ (x : Sender). x.number) p) ∙ e))
-same_by_number (s ∷ senders) d a b (inr i) (inl q) e = absurd (d.0 a i (sym (ap (λ (x : Sender). x.number) q) ∙ sym e))
-same_by_number (s ∷ senders) d a b (inr i) (inr j) e = same_by_number senders d.1 a b i j e
 
 own_gaps : (table : Table) → IsTrue (is_valid table) → HaveOwnSenders (gaps table)
 own_gaps table valid =

@@ -10,32 +10,8 @@ use Rattle.bus_table.specs.Turns.{turn_key, turn_order, Differ}
 use Rattle.bus_table.specs.TurnLaws.{at_in, from_sort, length-sort, numbers_differ}
 use Rattle.bus_table.specs.Valid.{is_valid}
 use Rattle.bus_table.specs.ValidLaws.{valid_facts}
+use Rattle.bus_regime.specs.GapLaws.{gap_first, gap_next, last_of, same_by_number}
 use Rattle.bus_regime.specs.Gaps.{Gap, latest_end, last_end, gaps_from, gaps}
-
--- the first gap of an order, and each other
-gap_first : (ti from : ℕ) (order : List Sender) (s : Sender) → slice_get order 0 ≡ Some s
-    → slice_get (gaps_from ti from order) 0 ≡ Some (record { sender = s; from = from; to = ti + s.at })
-gap_first ti from [] s h = absurd (let k : None ≡ Some s = h in cc)
-gap_first ti from (x ∷ xs) s h = ap gap_of h where
-  gap_of : Option Sender → Option Gap
-  gap_of None = None
-  gap_of (Some y) = Some (record { sender = y; from = from; to = ti + y.at })
-
-gap_next : (ti from : ℕ) (order : List Sender) (k : ℕ) (p s : Sender) → slice_get order k ≡ Some p → slice_get order (suc k) ≡ Some s
-    → slice_get (gaps_from ti from order) (suc k) ≡ Some (record { sender = s; from = ti + latest_end p; to = ti + s.at })
-gap_next ti from [] k p s h i = absurd (let w : None ≡ Some p = h in cc)
-gap_next ti from (x ∷ xs) zero p s h i =
-    let same : x ≡ p = (let w : Some x ≡ Some p = h in cc) in
-    ap (λ (q : Sender). slice_get (gaps_from ti (ti + latest_end q) xs) 0) same ∙ gap_first ti (ti + latest_end p) xs s i
-gap_next ti from (x ∷ xs) (suc k) p s h i = gap_next ti (ti + latest_end x) xs k p s h i
-
-last_is : (end : ℕ) (x : Sender) (xs : List Sender) (p : Sender) → slice_get (x ∷ xs) (length xs) ≡ Some p → last_end end (x ∷ xs) ≡ latest_end p
-last_is end x [] p h = let same : x ≡ p = (let w : Some x ≡ Some p = h in cc) in ap latest_end same
-last_is end x (y ∷ ys) p h = last_is (latest_end x) y ys p h
-
-last_of : (order : List Sender) (n : ℕ) (p : Sender) → suc n ≡ length order → slice_get order n ≡ Some p → last_end 0 order ≡ latest_end p
-last_of [] n p e h = absurd (omega (arith, e))
-last_of (x ∷ xs) n p e h = last_is 0 x xs p (let same : length xs ≡ n = omega (arith, e) in ap (slice_get (x ∷ xs)) same ∙ h)
 
 first_gap : (table : Table) (n : ℕ) (p s : Sender) → suc n ≡ length table.senders → slice_get (turn_order table) n ≡ Some p
     → slice_get (turn_order table) 0 ≡ Some s → slice_get (gaps table) 0 ≡ Some (record { sender = s; from = latest_end p; to = table.ti + s.at })
@@ -51,14 +27,6 @@ length-gaps_from ti from (s ∷ order) = let rest = length-gaps_from ti (ti + la
 -- there are as many gaps as senders
 pub length-gaps : (table : Table) → length (gaps table) ≡ length table.senders
 length-gaps table = length-gaps_from table.ti (last_end 0 (turn_order table)) (turn_order table) ∙ length-sort (turn_key table.mode) table.senders
-
--- a sender in turn order, by its number
-same_by_number : (senders : List Sender) → Differ (λ s. s.number) senders → (a b : Sender) → In a senders → In b senders → a.number ≡ b.number → a ≡ b
-same_by_number [] d a b i j e = absurd i
-same_by_number (s ∷ senders) d a b (inl p) (inl q) e = p ∙ sym q
-same_by_number (s ∷ senders) d a b (inl p) (inr j) e = absurd (d.0 b j (sym (ap (λ (x : Sender). x.number) p) ∙ e))
-same_by_number (s ∷ senders) d a b (inr i) (inl q) e = absurd (d.0 a i (sym (ap (λ (x : Sender). x.number) q) ∙ sym e))
-same_by_number (s ∷ senders) d a b (inr i) (inr j) e = same_by_number senders d.1 a b i j e
 
 turn_in : (table : Table) (k : ℕ) (a : Sender) → slice_get (turn_order table) k ≡ Some a → In a table.senders
 turn_in table k a h = from_sort (turn_key table.mode) table.senders a (at_in (turn_order table) k a h)

@@ -3,3 +3,4 @@ pub mod Verdicts
 pub mod Lines
 pub mod Fine
 pub mod VerdictLaws
+pub mod GapLaws
