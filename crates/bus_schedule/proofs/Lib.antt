@@ -11,8 +11,10 @@ pub mod Turning
 pub mod GapLemmas
 pub mod Spanning
 pub mod RunLemmas
+pub mod MovesLemmas
 pub mod EndLemmas
 pub mod OffsetEnds
+pub mod Leaving
 pub mod PlaceLemmas
 pub mod UnevenLemmas
 pub mod Examples

@@ -45,6 +45,13 @@ offset_turn_at messages round base [] place sender h = absurd (let k : None ≡ 
 offset_turn_at messages round base (a ∷ order) zero sender h = let e : a ≡ sender = let k : Some a ≡ Some sender = h in cc in ap (λ (s : Sender). Some (sends messages round s (base + s.at))) e
 offset_turn_at messages round base (a ∷ order) (suc place) sender h = offset_turn_at messages round base order place sender h
 
+-- and whose turn stands at a place
+pub offset_turn_is : (messages : ℕ → List Message) (round base : ℕ) (order : List Sender) (place : ℕ) (x : Entry) → slice_get (offset_turns messages round order base) place ≡ Some x
+    → (sender : Sender) × (slice_get order place ≡ Some sender) × (sends messages round sender (base + sender.at) ≡ x)
+offset_turn_is messages round base [] place x h = absurd (let k : None ≡ Some x = h in cc)
+offset_turn_is messages round base (a ∷ order) zero x h = (a, refl, (let k : Some (sends messages round a (base + a.at)) ≡ Some x = h in cc))
+offset_turn_is messages round base (a ∷ order) (suc place) x h = offset_turn_is messages round base order place x h
+
 pub offset_turns_are_round : (messages : ℕ → List Message) (round base : ℕ) (order : List Sender) → IsRound messages round order (offset_turns messages round order base)
 offset_turns_are_round messages round base order = record {
   whole = length-map order (λ (s : Sender). sends messages round s (base + s.at));

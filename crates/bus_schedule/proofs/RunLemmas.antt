@@ -32,7 +32,7 @@ use Rattle.bus_schedule.specs.Laws.{AcceptedIsClosed, ClosedIsOrderly}
 use Rattle.bus_schedule.proofs.Ascending.{offset_schedule_ascends}
 use Rattle.bus_schedule.proofs.HandLemmas.{Sendable, stations, stations_are, own_hand}
 use Rattle.bus_schedule.proofs.Laying.{IsLaid, laid_schedule}
-use Rattle.bus_schedule.proofs.Places.{IsRound, turns_are_round, offset_turns_are_round, offset_turn_at, more_turns, length-in_rounds, in_rounds_at, in_rounds_get}
+use Rattle.bus_schedule.proofs.Places.{IsRound, turns_are_round, offset_turns_are_round, offset_turn_is, more_turns, length-in_rounds, in_rounds_at, in_rounds_get}
 use Rattle.bus_schedule.proofs.Spacing.{cycle, cycle_sum, cycle_sort, lead, LeadsMore, lead_more, lengths, turns_end_cycle, IsTurn, is_turn}
 use Rattle.bus_schedule.proofs.Growing.{Setting, sendable, sofar_lawful}
 use Rattle.bus_schedule.proofs.Spanning.{at_below, intervals_on}
@@ -120,7 +120,6 @@ module _ (table : Table) (hands : List Hand) (setting : Setting table (messages_
     round : ℕ
     turn : ℕ
     more : suc round < rounds hands
-    inside : turn < length (turn_order table)
     first : slice_get ((has_rounds mode).round round) turn ≡ Some x
     second : slice_get ((has_rounds mode).round (suc round)) turn ≡ Some y
 
@@ -141,7 +140,6 @@ module _ (table : Table) (hands : List Hand) (setting : Setting table (messages_
         round = k / length (turn_order table);
         turn = k % length (turn_order table);
         more = second.0;
-        inside = inside;
         first = first.1;
         second = second.1;
       }
@@ -180,26 +178,19 @@ module _ (table : Table) (hands : List Hand) (setting : Setting table (messages_
         no_later = subst (λ c. y.moment ≤ x.moment + (table.sg + c)) (least_is longest ∙ sym (cycle_sum longest table.senders)) numbers.1;
       }
 
-  at_place : (order : List Sender) (turn : ℕ) → turn < length order → (sender : Sender) × (slice_get order turn ≡ Some sender)
-  at_place [] turn less = absurd (omega arith)
-  at_place (a ∷ order) zero less = (a, refl)
-  at_place (a ∷ order) (suc turn) less = at_place order turn (omega arith)
-
-  offset_turns_apart : (round turn : ℕ) (x y : Entry) → turn < length (turn_order table)
-      → slice_get (offset_turns (messages_of hands) round (turn_order table) (round * table.ti)) turn ≡ Some x
+  offset_turns_apart : (round turn : ℕ) (x y : Entry) → slice_get (offset_turns (messages_of hands) round (turn_order table) (round * table.ti)) turn ≡ Some x
       → slice_get (offset_turns (messages_of hands) (suc round) (turn_order table) (suc round * table.ti)) turn ≡ Some y
       → IsApart table.ti table.ti x y
-  offset_turns_apart round turn x y inside at_x at_y =
-      let s = at_place (turn_order table) turn inside in
-      let p : Some (sends (messages_of hands) round s.0 (round * table.ti + s.0.at)) ≡ Some x = sym (offset_turn_at (messages_of hands) round (round * table.ti) (turn_order table) turn s.0 s.1) ∙ at_x in
-      let q : Some (sends (messages_of hands) (suc round) s.0 (suc round * table.ti + s.0.at)) ≡ Some y = sym (offset_turn_at (messages_of hands) (suc round) (suc round * table.ti) (turn_order table) turn s.0 s.1) ∙ at_y in
-      let p_is : sends (messages_of hands) round s.0 (round * table.ti + s.0.at) ≡ x = cc in
-      let q_is : sends (messages_of hands) (suc round) s.0 (suc round * table.ti + s.0.at) ≡ y = cc in
-      let first : round * table.ti + s.0.at ≡ x.moment = ap (λ (z : Entry). z.moment) p_is in
-      let second : suc round * table.ti + s.0.at ≡ y.moment = ap (λ (z : Entry). z.moment) q_is in
+  offset_turns_apart round turn x y at_x at_y =
+      let p = offset_turn_is (messages_of hands) round (round * table.ti) (turn_order table) turn x at_x in
+      let q = offset_turn_is (messages_of hands) (suc round) (suc round * table.ti) (turn_order table) turn y at_y in
+      let same : p.0 ≡ q.0 = let k : Some p.0 ≡ Some q.0 = sym p.1 ∙ q.1 in cc in
+      let first : round * table.ti + p.0.at ≡ x.moment = ap (λ (z : Entry). z.moment) p.2 in
+      let second : suc round * table.ti + q.0.at ≡ y.moment = ap (λ (z : Entry). z.moment) q.2 in
+      let at : p.0.at ≡ q.0.at = ap (λ (z : Sender). z.at) same in
       let step : suc round * table.ti ≡ round * table.ti + table.ti = more_turns round table.ti in
       record {
-        one_sender = sym (ap (λ (z : Entry). z.terminal) p_is) ∙ ap (λ (z : Entry). z.terminal) q_is;
+        one_sender = sym (ap (λ (z : Entry). z.terminal) p.2) ∙ ap (λ (z : Sender). z.number) same ∙ ap (λ (z : Entry). z.terminal) q.2;
         no_sooner = omega arith;
         no_later = omega arith;
       }
@@ -215,7 +206,7 @@ module _ (table : Table) (hands : List Hand) (setting : Setting table (messages_
   spaced_in Periodic is mode least most k x y accepted at_x at_y =
       let w : AreNext Periodic k x y = are_next Periodic k x y at_x at_y in
       let numbers = periodic_numbers table mode least most is accepted in
-      subst (λ n. IsApart n most x y) (sym numbers.0) (subst (λ n. IsApart table.ti n x y) (sym numbers.1) (offset_turns_apart w.round w.turn x y w.inside w.first w.second))
+      subst (λ n. IsApart n most x y) (sym numbers.0) (subst (λ n. IsApart table.ti n x y) (sym numbers.1) (offset_turns_apart w.round w.turn x y w.first w.second))
 
   closed_spaced : IsSpaced table (closed table hands)
   closed_spaced = record { apart = λ mode least most k x y accepted at_x at_y. spaced_in table.mode refl mode least most k x y accepted at_x at_y }

@@ -1,10 +1,13 @@
 -- What follows of the definitions, with no limit on the closed end.
-use Rattle.std.specs.Prelude.{◌≡◌, ◌↔◌, IsNone, IsTrue, List}
-use Rattle.bus_strings.specs.Transmissions.{IsAscending}
-use Rattle.bus_table.specs.declared.mode.Mode.TheVariants.{Aperiodic}
+use Rattle.std.specs.Prelude.{◌≡◌, ◌↔◌, ◌+◌, ◌≤◌, ℕ, IsNone, IsTrue, List, Some, slice_get}
+use Rattle.bus_strings.specs.Members.{In}
+use Rattle.bus_strings.specs.Messages.{Entry}
+use Rattle.bus_strings.specs.Transmissions.{end_of, IsAscending}
+use Rattle.bus_table.specs.declared.mode.Mode.TheVariants.{Aperiodic, Periodic}
 use Rattle.bus_table.specs.Tables.{Table, Hand}
 use Rattle.bus_table.specs.Hands.{are_hands}
 use Rattle.bus_table.specs.Valid.{is_valid}
+use Rattle.bus_regime.specs.Gaps.{Gap, gaps}
 use Rattle.bus_regime.specs.Verdicts.{verdict_of, is_accepted}
 use Rattle.bus_schedule.specs.Even.{are_even}
 use Rattle.bus_schedule.specs.Uneven.{uneven_of}
@@ -29,6 +32,14 @@ pub record IsOrderly (table : Table) (hands : List Hand) : Type 0 where
 -- Every closed schedule is orderly.
 abbrev pub ClosedIsOrderly : Type 0
 ClosedIsOrderly = (table : Table) (hands : List Hand) → IsTrue (is_valid table) → IsTrue (are_even table hands) → IsOrderly table hands
+
+-- What the messages of a periodic table leave: of two neighbours in the closed schedule, accepted or not, the second starts at least as
+-- long behind the end of the first as the gap before its sender is, taken with longest messages.
+abbrev pub GapsAreLeft : Type 0
+GapsAreLeft =
+    (table : Table) (hands : List Hand) (k : ℕ) (x y : Entry) (gap : Gap) → IsTrue (is_valid table) → table.mode ≡ Periodic
+    → IsTrue (are_even table hands) → slice_get (closed table hands) k ≡ Some x → slice_get (closed table hands) (k + 1) ≡ Some y
+    → In gap (gaps table) → gap.sender.number ≡ y.terminal → end_of x + gap.to ≤ y.moment + gap.from
 
 -- Dealt hands are even exactly where no sender differs from the first in turn order.
 abbrev pub EvenHandsAgree : Type 0

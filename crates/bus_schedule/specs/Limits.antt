@@ -1,11 +1,11 @@
 -- The limit on the closed end, and why no schedule is given.
-use Rattle.std.specs.Prelude.{◌≡◌, ℕ, ◌<◌, ◌≤◌, Result, Err, IfOk, IfErr}
+use Rattle.std.specs.Prelude.{◌≡◌, ℕ, ◌^◌, ◌<◌, ◌≤◌, Result, Err, IfOk, IfErr}
 use Rattle.bus_schedule.specs.declared.error.ScheduleError.{ScheduleError}
 use Rattle.bus_schedule.specs.declared.error.ScheduleError.TheVariants.{Memory, TooLong}
 
--- the longest closed end for which a schedule is given, in bit times: ten seconds. It is this project's profile
+-- the longest closed end for which a schedule is given, in bit times: some nine and a half hours. It is this project's profile
 abbrev pub longest_end : ℕ
-longest_end = 20000000
+longest_end = 2 ^ 36
 
 -- why a schedule with this closed end is refused
 abbrev pub IsRefused : ℕ → ScheduleError → Type 0

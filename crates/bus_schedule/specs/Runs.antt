@@ -5,6 +5,8 @@ use Rattle.bus_strings.specs.Transmissions.{overlaps, IsOrdered}
 use Rattle.bus_table.specs.declared.mode.Mode.{Mode}
 use Rattle.bus_table.specs.Tables.{Sender, Table, Hand}
 use Rattle.bus_table.specs.Turns.{turn_order}
+use Rattle.bus_timers.specs.declared.cores.Core.{Ghosts}
+use Rattle.bus_medium.specs.Buses.{Seat, Bus}
 use Rattle.bus_medium.specs.Lawful.{IsLawful}
 use Rattle.bus_medium.specs.Timings.{quiet_of, stations_of}
 use Rattle.bus_regime.specs.declared.table_verdict.TableVerdict.TheVariants.{Accept}
@@ -41,6 +43,10 @@ pub record IsApart (least most : ℕ) (x y : Entry) : Type 0 where
 pub record IsSpaced (table : Table) (list : List Entry) : Type 0 where
   pub apart : (mode : Mode) (least most k : ℕ) (x y : Entry) → verdict_of table ≡ Accept mode least most → slice_get list k ≡ Some x
       → slice_get list (k + length table.senders) ≡ Some y → IsApart least most x y
+
+-- each core of the bus was moved at most n times since it was settled
+abbrev pub HaveMoved : {C : Type 0} → Ghosts C → ℕ → Bus C → Type 0
+HaveMoved {C} core n bus = (k : ℕ) (seat : Seat C) → slice_get bus.seats k ≡ Some seat → core.moves seat.terminal.core ≤ n
 
 -- The list is the run of a table and even hands:
 --   closed    it is the closed schedule, in whole

@@ -4,8 +4,9 @@ ghost use Rattle.std.specs.Prelude.{◌≡◌};
 use std::alloc::AllocError;
 use thiserror::Error;
 
-/// The longest closed end for which a schedule is given, in bit times: ten seconds. It is this project's profile.
-pub const LONGEST_END: u64 = 20_000_000;
+/// The longest closed end for which a schedule is given, in bit times: some nine and a half hours. It is this project's
+/// profile.
+pub const LONGEST_END: u64 = 68_719_476_736;
 
 /// Why no schedule is given.
 #[derive(Clone, Copy, Debug, PartialEq, Eq, Error)]

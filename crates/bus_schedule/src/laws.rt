@@ -1,5 +1,5 @@
 //! Laws of the definitions, each the contract of a function that does nothing.
-ghost use Rattle.bus_schedule.specs.Laws.{AcceptedIsClosed, ClosedIsOrderly, EvenHandsAgree};
+ghost use Rattle.bus_schedule.specs.Laws.{AcceptedIsClosed, ClosedIsOrderly, EvenHandsAgree, GapsAreLeft};
 
 use bus_medium::laws::{chains_tell, one_lawful_list};
 
@@ -17,6 +17,12 @@ pub fn accepted_is_closed()
 /// mode it has no overlap.
 pub fn closed_is_orderly()
     ensures { ClosedIsOrderly }
+{}
+
+/// Of two neighbours in the closed schedule of a periodic table, accepted or not, the second starts at least as long behind the
+/// end of the first as the gap before its sender is, taken with longest messages.
+pub fn gaps_are_left()
+    ensures { GapsAreLeft }
 {}
 
 /// Dealt hands are even exactly where no sender differs from the first in turn order.

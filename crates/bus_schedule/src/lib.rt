@@ -9,13 +9,13 @@
 //! - [`find_uneven`] tells whether the hands of a table are even. All else asks that they are.
 //! - [`closed_end`] is the moment at which the closed schedule ends, and [`closed`] its list, which is given where it
 //!   ends at [`LONGEST_END`] or before (`specs/Limits.antt`).
-//! - [`run_settled`] observes the bus up to the closed end, over any [`bus_timers::cores::Core`]. What a run is stands in
+//! - [`run_settled`] observes the bus up to the closed end, over any [`bus_timers::jumps::JumpCore`]. What a run is stands in
 //!   `specs/Runs.antt`: the closed schedule in whole, the one lawful list, without overlaps, each sender once a cycle.
 //! - [`laws`] has what holds of closed schedules of any length.
 //!
 //! ```
 //! if find_uneven(&table, &hands).is_none() && verdict(&table).is_accepted() {
-//!     let ran = run_settled::<CounterCore>(alloc, &table, hands)?;
+//!     let ran = run_settled::<DeadlineCore>(alloc, &table, hands)?;
 //! }
 //! ```
 #![tactic(auto)]

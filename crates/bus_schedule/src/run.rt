@@ -1,11 +1,12 @@
-ghost use Rattle.std.specs.Prelude.{◌≡◌, IsTrue, IfOk};
+ghost use Rattle.std.specs.Prelude.{◌≡◌, ◌+◌, ◌*◌, IsTrue, IfOk};
 ghost use Rattle.bus_table.specs.Valid.{is_valid};
 ghost use Rattle.bus_medium.specs.Buses.{stations, StandsAt};
+ghost use Rattle.bus_medium.specs.Edges.{strings_sent};
 ghost use Rattle.bus_medium.specs.Timings.{quiet_of, stations_of};
 ghost use Rattle.bus_regime.specs.Verdicts.{verdict_of, is_accepted};
 ghost use Rattle.bus_schedule.specs.Even.{are_even};
 ghost use Rattle.bus_schedule.specs.Closed.{closed_end};
-ghost use Rattle.bus_schedule.specs.Runs.{IsRun};
+ghost use Rattle.bus_schedule.specs.Runs.{HaveMoved, IsRun};
 ghost use Rattle.bus_schedule.specs.Limits.{IsLimited};
 
 use crate::end::limited_end;
@@ -16,6 +17,7 @@ use bus_strings::transmission::Transmission;
 use bus_table::hand::Hand;
 use bus_table::table::Table;
 use bus_timers::cores::Core;
+use bus_timers::jumps::JumpCore;
 use std::alloc::Global;
 
 /// What a bus did: the list of its transmissions, the bus after them, and how far it went.
@@ -36,14 +38,15 @@ fn table_is_valid(table: &Table)
     table.sg();
 }
 
-/// Runs the bus of an accepted table and even hands from its settled start up to the closed end, bit time for bit time.
+/// Runs the bus of an accepted table and even hands from its settled start up to the closed end, by jumps from change to
+/// change.
 ///
 /// The list is the run (`specs/Runs.antt`): the closed schedule in whole, and the only list that is lawful up to the
-/// closed end, at which the bus stands then.
+/// closed end, at which the bus stands then. Each core was moved at most twice for each wordstring sent, and once more.
 ///
 /// `TooLong` comes exactly where the closed end is above [`LONGEST_END`], also where no memory is left. `Memory` says that
 /// memory was refused, and nothing of the schedule.
-pub fn run_settled<C: Core>(
+pub fn run_settled<C: JumpCore>(
     alloc: Global,
     table: &Table,
     hands: Vec<Hand>,
@@ -55,11 +58,12 @@ pub fn run_settled<C: Core>(
     ensures stands { IfOk result (λ ran. StandsAt ⟦<C as Core>⟧ ran.bus ran.list.items (closed_end table.now hands.items)) }
     ensures quiet { IfOk result (λ ran. ran.bus.quiet ≡ quiet_of table.now) }
     ensures stations { IfOk result (λ ran. stations ran.bus ≡ stations_of table.now hands.items) }
+    ensures moves { IfOk result (λ ran. HaveMoved ⟦<C as Core>⟧ (2 * strings_sent ran.list.items + 1) ran.bus) }
     ensures limit { IsLimited (closed_end table.now hands.items) result }
 {
     let end = limited_end(table, &hands)?;
     let mut bus = Bus::settled(alloc, table, hands)?;
-    let list = bus.observe(end)?;
+    let list = bus.observe_by_jumps(end)?;
     table_is_valid(table);
     accepted_is_closed();
     Ok(Ran { list, bus, end })

@@ -1,11 +1,7 @@
 ghost use Rattle.std.specs.Prelude.{IfOk, IsTrue};
 ghost use Rattle.bus_schedule.specs.Even.{are_even};
 
-use crate::end::closed_end;
-use crate::error::ScheduleError;
-use crate::run::run_settled;
-use crate::schedule::closed;
-use crate::uneven::find_uneven;
+use crate::{ScheduleError, closed, closed_end, find_uneven, run_settled};
 use bus_regime::verdict;
 use bus_strings::reading::read_messages;
 use bus_strings::transmission::Transmission;
@@ -14,7 +10,7 @@ use bus_table::hand::Hand;
 use bus_table::hands::hands;
 use bus_table::reading::read_table;
 use bus_table::table::Table;
-use bus_timers::counter::CounterCore;
+use bus_timers::DeadlineCore;
 use std::alloc::{AllocError, Global};
 use std::process::Abort;
 use std::test::Fail;
@@ -30,12 +26,34 @@ SENDER 2 TG 30
 SEND 0B2 1 30 40
 ";
 
-/// One sender of messages of 20 bit times.
+/// The same two in periodic mode: the second starts just its terminal gap behind the end of the first.
+const TWO_OFFSETS: &[u8] = b"TABLE 1
+MODE periodic
+TI 2000
+SG 300
+SENDER 1 TG 20 AT 0
+SEND 0A1 1 2 2
+SENDER 2 TG 30 AT 90
+SEND 0B2 1 30 40
+";
+
+/// Both at the same offset.
+const SAME_OFFSET: &[u8] = b"TABLE 1
+MODE periodic
+TI 2000
+SG 300
+SENDER 2 TG 30 AT 0
+SEND 0B2 1 30 30
+SENDER 1 TG 20 AT 0
+SEND 0A1 1 2 2
+";
+
+/// One sender of messages of 20 bit times, at the beginning of each interval.
 const ONE_SENDER: &[u8] = b"TABLE 1
-MODE aperiodic
-TI 1000
-SG 1024
-SENDER 1 TG 256
+MODE periodic
+TI 128000
+SG 300
+SENDER 1 TG 20 AT 0
 SEND 001 0 0 0
 ";
 
@@ -96,30 +114,63 @@ fn the_bus_runs_as_the_schedule_says(rt: HostRuntime) -> Result<(), Fail> {
     let table = read_table(alloc, TWO_SENDERS)?;
     let hands = even_hands(&rt, alloc, &table, &TWO_ROUNDS)?;
     assert!(rt; verdict(&table).is_accepted());
-    let ran = run_settled::<CounterCore>(alloc, &table, hands)?;
+    let ran = run_settled::<DeadlineCore>(alloc, &table, hands)?;
     assert_eq!(rt;
         starts(alloc, &ran.list)?.as_slice(),
         [(20, 1), (110, 2), (1050, 1), (1140, 2)].as_slice()
     );
-    assert_eq!(rt; ran.list.last().map(|x| x.end()), Some(1760));
+    assert_eq!(rt; ran.end, 1760);
     Ok(())
 }
 
-/// A cycle of `ONE_SENDER` is 1300 bit times long, so that 15,386 messages end behind the limit, and one less doesn't.
+/// The second message of terminal 2 is longer than its first, which moves no start.
+#[test]
+fn a_periodic_bus_starts_at_its_offsets(rt: HostRuntime) -> Result<(), Fail> {
+    let alloc = rt.alloc();
+    let table = read_table(alloc, TWO_OFFSETS)?;
+    let hands = even_hands(&rt, alloc, &table, &[(1, 2), (2, 30), (1, 2), (2, 40)])?;
+    assert!(rt; verdict(&table).is_accepted());
+    let ran = run_settled::<DeadlineCore>(alloc, &table, hands)?;
+    assert_eq!(rt;
+        starts(alloc, &ran.list)?.as_slice(),
+        [(0, 1), (90, 2), (2000, 1), (2090, 2)].as_slice()
+    );
+    assert_eq!(rt; ran.end, 2910);
+    Ok(())
+}
+
+/// A refused table has a closed schedule too, in which senders at the same offset stand by number.
+#[test]
+fn a_refused_table_has_a_schedule(rt: HostRuntime) -> Result<(), Fail> {
+    let alloc = rt.alloc();
+    let table = read_table(alloc, SAME_OFFSET)?;
+    assert!(rt; !verdict(&table).is_accepted());
+    let hands = even_hands(&rt, alloc, &table, &TWO_ROUNDS)?;
+    let list = closed(alloc, &table, &hands)?;
+    assert_eq!(rt;
+        starts(alloc, &list)?.as_slice(),
+        [(0, 1), (0, 2), (2000, 1), (2000, 2)].as_slice()
+    );
+    assert_eq!(rt; closed_end(&table, &hands), 2620);
+    Ok(())
+}
+
+/// 536,872 messages of `ONE_SENDER` end behind the limit, and one less doesn't.
 #[test]
 fn a_schedule_above_the_limit_is_refused(rt: HostRuntime) -> Result<(), Fail> {
     let alloc = rt.alloc();
     let table = read_table(alloc, ONE_SENDER)?;
     assert!(rt; verdict(&table).is_accepted());
 
-    let items = vec![in alloc; (1, 0); 15_386]?;
+    let items = vec![in alloc; (1, 0); 536_872]?;
     let long = even_hands(&rt, alloc, &table, &items)?;
-    let too_long = ScheduleError::TooLong { end: 20_000_776 };
+    let too_long = ScheduleError::TooLong { end: 68_719_488_020 };
     assert!(rt; closed(alloc, &table, &long).err() == Some(too_long));
-    assert!(rt; run_settled::<CounterCore>(alloc, &table, long).err() == Some(too_long));
+    assert!(rt; run_settled::<DeadlineCore>(alloc, &table, long).err() == Some(too_long));
 
     let short = even_hands(&rt, alloc, &table, &items[1..])?;
-    let list = closed(alloc, &table, &short)?;
-    assert_eq!(rt; list.last().map(|x| x.end()), Some(19_999_476));
+    let ran = run_settled::<DeadlineCore>(alloc, &table, short)?;
+    assert_eq!(rt; ran.end, 68_719_360_020);
+    assert_eq!(rt; ran.list.last().map(|x| x.end()), Some(68_719_360_020));
     Ok(())
 }
