@@ -1,5 +1,5 @@
 -- The gaps of a periodic table in turn order, and what the messages that are sent leave of them.
-use Rattle.std.proofs.Common.{◌≡◌, ℕ, ◌+◌, ◌<◌, ◌≤◌, List, [], ◌∷◌, inl, inr, arith, sym, refl, ap, ◌∙◌}
+use Rattle.std.proofs.Common.{◌≡◌, ℕ, ◌+◌, ◌≤◌, List, [], ◌∷◌, inl, inr, arith, refl, ap}
 use Rattle.bus_strings.specs.Members.{In}
 use Rattle.bus_table.specs.Tables.{Sender}
 use Rattle.bus_regime.specs.Gaps.{Gap, latest_end, last_end, gaps_from}
