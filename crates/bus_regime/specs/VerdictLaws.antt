@@ -1,10 +1,10 @@
 -- Laws of the verdict: which tables it accepts, and with which numbers.
-use Rattle.std.specs.Prelude.{◌≡◌, ◌≢◌, ℕ, ◌+◌, ◌≤◌, ◌⊎◌, Bool, true, false, not, ◌||◌, ◌==◌, nat_le, nat_lt, List, [], ◌∷◌}
+use Rattle.std.specs.Prelude.{◌≡◌, ◌≢◌, ℕ, ◌+◌, ◌<◌, ◌≤◌, ◌⊎◌, Bool, true, false, not, ◌&&◌, ◌||◌, ◌==◌, nat_le, nat_lt, List, [], ◌∷◌}
 use Rattle.std.specs.Prelude.{Option, Some, None, IsTrue}
 use Rattle.std.specs.List.{list_any, find}
 use Rattle.std.specs.Option.{option_map, option_or}
 use Rattle.std.proofs.Common.{inl, inr, arith, sym, refl, ap, ◌∙◌, cond}
-use Rattle.std.proofs.lemmas.Bool.{and_parts, and_from, or_left, or_right, true≢false, ltb-false, le-ltb}
+use Rattle.std.proofs.lemmas.Bool.{and_parts, and_from, or_left, or_right, true≢false, cases_lt, ltb-false, le-ltb}
 use Rattle.std.proofs.lemmas.Bool.Decides.{nat_tests}
 use Rattle.bus_strings.specs.Members.{In}
 use Rattle.bus_table.specs.declared.mode.Mode.{Mode}
@@ -15,7 +15,7 @@ use Rattle.bus_regime.specs.declared.table_verdict.TableVerdict.TheVariants.{Acc
 use Rattle.bus_regime.specs.Gaps.{Gap, gaps, has_width}
 use Rattle.bus_regime.specs.Verdicts.{least_cycle, most_cycle, by_cycles, is_small, synchronizes, lacks_sync, small_gap, no_sync}
 use Rattle.bus_regime.specs.Verdicts.{refusal, unless_refused, by_gaps, verdict_in, verdict_of, is_accepted}
-use Rattle.bus_regime.specs.Fine.{IsSynchronized, IsFine}
+use Rattle.bus_regime.specs.Fine.{IsSynchronized, IsFine, HasSmall, HasUnsynchronized}
 
 -- lists and tests
 find_none : {A : Type 0} (p : A → Bool) (xs : List A) → find p xs ≡ None → (x : A) → In x xs → p x ≡ false
@@ -185,3 +185,75 @@ periodic_numbers table mode least most is h =
     let w : Accept Periodic table.ti table.ti ≡ Accept mode least most =
     sym (ap (λ o. unless_refused o table.ti) none) ∙ sym (periodic_verdict table is) ∙ h in
     (cc, cc)
+
+-- what a search finds
+find_some : {A : Type 0} (p : A → Bool) (xs : List A) (x : A) → find p xs ≡ Some x → In x xs × (p x ≡ true)
+find_some p [] x h = absurd (cc)
+find_some p (y ∷ ys) x h =
+    (elim (p y) as (λ b. p y ≡ b → cond b (Some y) (find p ys) ≡ Some x → In x (y ∷ ys) × (p x ≡ true)) [
+      | true ↦ λ e k. (let same : y ≡ x = cc in (inl (sym same), ap p (sym same) ∙ e))
+      | false ↦ λ e k. (let w = find_some p ys x k in (inr w.0, w.1))
+    ]) refl h
+
+or_false : (a b : Bool) → (a || b) ≡ false → (a ≡ false) × (b ≡ false)
+or_false true b h = absurd (cc)
+or_false false b h = (refl, h)
+
+none_other : {A : Type 0} (p : A → Bool) (xs : List A) (x : A) → list_any p xs ≡ false → In x xs → p x ≡ false
+none_other p xs x none i =
+    (elim (p x) as (λ b. p x ≡ b → b ≡ false) [
+      | true ↦ λ e. absurd (true≢false (sym (found_any p xs x i e) ∙ none))
+      | false ↦ λ e. refl
+    ]) refl
+
+is_small_gap : (gap : Gap) → is_small gap ≡ true → gap.to < gap.from + gap.sender.tg
+is_small_gap gap h = let w : has_width gap.sender.tg gap ≡ false = not_true _ h in grind (arith, nat_tests, w)
+
+narrow_other : (sg : ℕ) (all : List Gap) (gap other : Gap) → lacks_sync sg all gap ≡ true → In other all
+    → other.sender.number ≢ gap.sender.number → other.to < other.from + sg
+narrow_other sg all gap other h i apart =
+    let none = (or_false (has_width (sg + gap.sender.tg) gap) _ (not_true _ h)).1 in
+    let w : (not (other.sender.number == gap.sender.number) && has_width sg other) ≡ false =
+        none_other (synchronizes sg gap.sender.number) all other none i in
+    let k : has_width sg other ≡ false = ap (λ b. b && has_width sg other) (sym (not_same _ _ apart)) ∙ w in
+    grind (arith, nat_tests, k)
+
+unsynchronized : (sg : ℕ) (all : List Gap) (gap : Gap) → In gap all → lacks_sync sg all gap ≡ true → HasUnsynchronized sg all
+unsynchronized sg all gap i h =
+    let w : has_width (sg + gap.sender.tg) gap ≡ false = (or_false (has_width (sg + gap.sender.tg) gap) _ (not_true _ h)).0 in
+    record {
+      gap = gap;
+      among = i;
+      narrow = grind (arith, nat_tests, w);
+      others = λ other j apart. narrow_other sg all gap other h j apart;
+    }
+
+refused_some : (sg ti : ℕ) (all : List Gap) → is_accepted (unless_refused (refusal sg all) ti) ≡ false
+    → HasSmall all ⊎ HasUnsynchronized sg all
+refused_some sg ti all h =
+    (elim (find is_small all) as (λ o. find is_small all ≡ o
+    → is_accepted (unless_refused (option_or (option_map small_gap o) (option_map (no_sync sg) (find (lacks_sync sg all) all))) ti) ≡ false
+    → HasSmall all ⊎ HasUnsynchronized sg all) [
+      | Some gap ↦ λ e k.
+          (let f = find_some is_small all gap e in
+          inl (record { gap = gap; among = f.0; small = is_small_gap gap f.1 }))
+      | None ↦ λ e k.
+          (elim (find (lacks_sync sg all) all) as (λ o. find (lacks_sync sg all) all ≡ o
+          → is_accepted (unless_refused (option_map (no_sync sg) o) ti) ≡ false → HasSmall all ⊎ HasUnsynchronized sg all) [
+            | Some gap ↦ λ f m. (let w = find_some (lacks_sync sg all) all gap f in inr (unsynchronized sg all gap w.0 w.1))
+            | None ↦ λ f m. absurd (true≢false m)
+          ]) refl k
+    ]) refl h
+
+-- a periodic table that is refused has a small gap, or one whose sender lacks sync
+pub refused_gaps : (table : Table) → table.mode ≡ Periodic → is_accepted (verdict_of table) ≡ false
+    → HasSmall (gaps table) ⊎ HasUnsynchronized table.sg (gaps table)
+refused_gaps table mode h = refused_some table.sg table.ti (gaps table) (ap is_accepted (sym (periodic_verdict table mode)) ∙ h)
+
+-- an aperiodic table that is refused has a shortest cycle below its transmit interval
+pub refused_cycle : (table : Table) → table.mode ≡ Aperiodic → is_accepted (verdict_of table) ≡ false → least_cycle table < table.ti
+refused_cycle table mode h =
+    elim (cases_lt (least_cycle table) table.ti) [
+      | inl less ↦ less
+      | inr fits ↦ absurd (true≢false (sym (cycle_accepted table mode fits) ∙ h))
+    ]

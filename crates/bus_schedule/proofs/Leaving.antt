@@ -60,14 +60,14 @@ module _ (table : Table) (messages : ℕ → List Message) (n : ℕ) (setting : 
       let inside : k % length (turn_order table) < length (turn_order table) = omega arith in
       let place : k / length (turn_order table) * length (turn_order table) + k % length (turn_order table) ≡ k = div-add-mod' k (length (turn_order table)) in
       let first = in_rounds_get (length (turn_order table)) each long n (k / length (turn_order table)) (k % length (turn_order table)) x inside
-          (ap (slice_get (offset_schedule messages table.ti (turn_order table) n)) place ∙ at_x) in
+      (ap (slice_get (offset_schedule messages table.ti (turn_order table) n)) place ∙ at_x) in
       let p = offset_turn_is messages (k / length (turn_order table)) (k / length (turn_order table) * table.ti) (turn_order table) (k % length (turn_order table)) x first.1 in
       let p_there : In p.0 (turn_order table) = at_in (turn_order table) (k % length (turn_order table)) p.0 p.1 in
       elim (cases_lt (suc (k % length (turn_order table))) (length (turn_order table))) [
         | inl within ↦
             let next : k / length (turn_order table) * length (turn_order table) + suc (k % length (turn_order table)) ≡ k + 1 = omega arith in
             let second = in_rounds_get (length (turn_order table)) each long n (k / length (turn_order table)) (suc (k % length (turn_order table))) y within
-                (ap (slice_get (offset_schedule messages table.ti (turn_order table) n)) next ∙ at_y) in
+            (ap (slice_get (offset_schedule messages table.ti (turn_order table) n)) next ∙ at_y) in
             let s = offset_turn_is messages (k / length (turn_order table)) (k / length (turn_order table) * table.ti) (turn_order table) (suc (k % length (turn_order table))) y second.1 in
             let s_there : In s.0 (turn_order table) = at_in (turn_order table) (suc (k % length (turn_order table))) s.0 s.1 in
             let here : Gap = record { sender = s.0; from = table.ti + latest_end p.0; to = table.ti + s.0.at } in
@@ -77,7 +77,7 @@ module _ (table : Table) (messages : ℕ → List Message) (n : ℕ) (setting : 
         | inr over ↦
             let next : suc (k / length (turn_order table)) * length (turn_order table) + 0 ≡ k + 1 = omega (arith, more_turns (k / length (turn_order table)) (length (turn_order table))) in
             let second = in_rounds_get (length (turn_order table)) each long n (suc (k / length (turn_order table))) 0 y (omega arith)
-                (ap (slice_get (offset_schedule messages table.ti (turn_order table) n)) next ∙ at_y) in
+            (ap (slice_get (offset_schedule messages table.ti (turn_order table) n)) next ∙ at_y) in
             let s = offset_turn_is messages (suc (k / length (turn_order table))) (suc (k / length (turn_order table)) * table.ti) (turn_order table) 0 y second.1 in
             let s_there : In s.0 (turn_order table) = at_in (turn_order table) 0 s.0 s.1 in
             let here : Gap = record { sender = s.0; from = last_end 0 (turn_order table); to = table.ti + s.0.at } in

@@ -24,7 +24,8 @@ pub(crate) fn message_at<'a>(
     requires even { IsTrue (are_even table.now hands.now) }
     requires place { place < length table.now.senders }
     requires round { round < rounds hands.now }
-    ensures { (sender : tables.Sender) → slice_get table.now.senders place ≡ Some sender → result.now ≡ message_in hands.now sender.number round }
+    ensures { (sender : tables.Sender) → slice_get table.now.senders place ≡ Some sender
+        → result.now ≡ message_in hands.now sender.number round }
 {
     table.senders();
     let hand = &hands[place];

@@ -164,7 +164,9 @@ fn a_schedule_above_the_limit_is_refused(rt: HostRuntime) -> Result<(), Fail> {
 
     let items = vec![in alloc; (1, 0); 536_872]?;
     let long = even_hands(&rt, alloc, &table, &items)?;
-    let too_long = ScheduleError::TooLong { end: 68_719_488_020 };
+    let too_long = ScheduleError::TooLong {
+        end: 68_719_488_020,
+    };
     assert!(rt; closed(alloc, &table, &long).err() == Some(too_long));
     assert!(rt; run_settled::<DeadlineCore>(alloc, &table, long).err() == Some(too_long));
 
