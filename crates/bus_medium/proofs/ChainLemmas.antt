@@ -15,11 +15,11 @@ use Rattle.bus_strings.specs.MessageLaws.{bits_some}
 use Rattle.bus_medium.specs.Past.{past, own, last_place}
 use Rattle.bus_medium.specs.Lawful.{Station, IsDue, IsLawfulTo}
 use Rattle.bus_medium.specs.Chains.{HaveEnded, Clock, Chain, put, gap_put, ChainSettled, ChainStep, ChainDue, ChainStarts}
-use Rattle.bus_medium.proofs.Members.{in_push_cases}
-use Rattle.bus_medium.proofs.PastLemmas.{own_push, own_push_other}
+use Rattle.bus_strings.specs.MemberLaws.{in_push_cases}
+use Rattle.bus_medium.specs.PastLaws.{own_push, own_push_other, own_after}
 use Rattle.bus_medium.proofs.StretchLemmas.{no_start_during}
 use Rattle.bus_medium.proofs.TurnLemmas.{idle_stretch, lone_start}
-use Rattle.bus_medium.proofs.ClockLemmas.{clock_may, clock_quiet, clock_other, clock_own, past_during, gap_after, own_later}
+use Rattle.bus_medium.proofs.ClockLemmas.{clock_may, clock_quiet, clock_other, clock_own, past_during, gap_after}
 
 pub put_here : (f : ℕ → ℕ) (n v i : ℕ) → i ≡ n → put f n v i ≡ v
 put_here f n v i e = rw (eq-eqb i n e) refl
@@ -90,7 +90,7 @@ chain_step q sg ss l e due gap count s x o c there low mine some =
             (clock_other q r l x (due r.number) (gap r.number) (gap_put gap s.number (q + x.moment) (bits x.message) sg r.number) ended begun (λ same. apart (sym same ∙ mine)) some (now r i) move)
       ];
       counts = λ r i.
-          let was : length (own l r.number (end_of x)) ≡ count r.number = ap length (own_later l r.number e (end_of x) c.begun (omega arith)) ∙ c.counts r i in
+          let was : length (own l r.number (end_of x)) ≡ count r.number = ap length (own_after l r.number e (end_of x) c.begun (omega arith)) ∙ c.counts r i in
           elim (cases_eq r.number s.number) [
             | inl same ↦ ap length (own_push l r.number (end_of x) x (mine ∙ sym same) (omega arith)) ∙ length_push (own l r.number (end_of x)) x ∙ ap (λ n. n + 1) (was ∙ ap count same) ∙ sym (put_here count s.number (count s.number + 1) r.number same)
             | inr apart ↦ ap length (own_push_other l r.number (end_of x) x (λ p. apart (sym p.0 ∙ mine))) ∙ was ∙ sym (put_other count s.number (count s.number + 1) r.number apart)
@@ -102,7 +102,7 @@ chain_step q sg ss l e due gap count s x o c there low mine some =
 pub chain_due : ChainDue
 chain_due q sg ss l e due gap count s t c there low =
     let both = clock_may q s l t (due s.number) (gap s.number) (chain_clock q sg ss l e due gap count s t c there low) in
-    let sent : length (own l s.number t) ≡ count s.number = ap length (own_later l s.number e t c.begun low) ∙ c.counts s there in (
+    let sent : length (own l s.number t) ≡ count s.number = ap length (own_after l s.number e t c.begun low) ∙ c.counts s there in (
       (λ p. let left : count s.number < length s.hand = p.2 in record { may = both.0 (p.0, p.1); left = omega arith }),
       (λ d. let p = both.1 d.may in let left : length (own l s.number t) < length s.hand = d.left in (p.0, p.1, omega arith)),
     )
@@ -114,7 +114,7 @@ chain_starts q sg ss l e due gap count s x o c there low mine some starts law =
     let terminal : gap s.number + s.timing.tg ≤ q + x.moment = starts.terminal in
     let bit : 0 < bits x.message = bits_some x.message some in
     let ended : HaveEnded l x.moment = λ y i. let h : end_of y ≤ e = c.ended y i in omega arith in
-    let sent : length (own l s.number x.moment) ≡ count s.number = ap length (own_later l s.number e x.moment c.begun low) ∙ c.counts s there in
+    let sent : length (own l s.number x.moment) ≡ count s.number = ap length (own_after l s.number e x.moment c.begun low) ∙ c.counts s there in
     let left : count s.number < length s.hand = slice_get_within s.hand (count s.number) x.message starts.message in
     -- nobody else is due up to the start
     let others : (u : ℕ) (r : Station) → e ≤ u → u ≤ x.moment → In r ss → r.number ≢ s.number → IsDue q l r u → ⊥ = λ u r from to i apart d.

@@ -16,9 +16,7 @@ use Rattle.bus_medium.specs.Past.{past, own, last_place}
 use Rattle.bus_medium.specs.Lawful.{Station}
 use Rattle.bus_medium.specs.Stretches.{during}
 use Rattle.bus_medium.specs.Chains.{HaveEnded, Clock}
-use Rattle.bus_medium.proofs.Members.{none_any, filter_same}
-use Rattle.bus_medium.proofs.PastLemmas.{length_past, past_push, own_push, own_push_other, last_push, own_test, from_own_test, pulses_on}
-use Rattle.bus_medium.proofs.Following.{same_bools}
+use Rattle.bus_medium.specs.PastLaws.{length_past, no_carrier, past_push, own_after, own_push, own_push_other, last_push, pulses_on}
 use Rattle.bus_medium.proofs.StretchLemmas.{message_elapsed, message_waiting}
 
 -- two comparisons say when it may start
@@ -32,22 +30,14 @@ clock_may q s l t due g c =
     )
 
 pub ended_quiet : (l : List Entry) (t u : ℕ) → HaveEnded l t → t ≤ u → carrier l u ≡ false
-ended_quiet l t u e h = none_any (pulses u) l (λ x i. let k : end_of x ≤ t = e x i in pulses_on u x (omega arith) ∙ quiet_behind x.message (u - x.moment) (omega arith))
-
--- own transmissions at a later moment
-pub own_later : (l : List Entry) (n t u : ℕ) → ((x : Entry) → In x l → x.moment < t) → t ≤ u → own l n u ≡ own l n t
-own_later l n t u b h = filter_same _ _ l (λ x i.
-    let k : x.moment < t = b x i in
-    same_bools _ _
-    (λ w. own_test n t x (from_own_test n u x w).0 k)
-    (λ w. own_test n u x (from_own_test n t x w).0 (omega arith)))
+ended_quiet l t u e h = no_carrier l u (λ x i. let k : end_of x ≤ t = e x i in inl (omega arith))
 
 -- on a quiet bus nothing changes
 pub clock_quiet : (q : ℕ) (s : Station) (l : List Entry) (t due g k : ℕ) → HaveEnded l t → ((x : Entry) → In x l → x.moment < t) → Clock q s l t due g → Clock q s l (t + k) due g
 clock_quiet q s l t due g zero ended begun c = subst (λ u. Clock q s l u due g) (let e : t ≡ t + 0 = omega arith in e) c
 clock_quiet q s l t due g (suc k) ended begun c =
     let so : Clock q s l (t + k) due g = clock_quiet q s l t due g k ended begun c in
-    let same : own l s.number (suc (t + k)) ≡ own l s.number (t + k) = own_later l s.number t (suc (t + k)) begun (omega arith) ∙ sym (own_later l s.number t (t + k) begun (omega arith)) in
+    let same : own l s.number (suc (t + k)) ≡ own l s.number (t + k) = own_after l s.number t (suc (t + k)) begun (omega arith) ∙ sym (own_after l s.number t (t + k) begun (omega arith)) in
     let quiet : carrier l (t + k) ≡ false = ended_quiet l t (t + k) ended (omega arith) in
     subst (λ u. Clock q s l u due g) (let e : suc (t + k) ≡ t + suc k = omega arith in e) (record {
       sound = so.sound;
@@ -76,7 +66,7 @@ clock_other q s l x due g g' ended begun apart some c move =
     let len : length (past q l x.moment) ≡ q + x.moment = length_past q l x.moment in
     let tg : 8 ≤ s.timing.tg = c.sound.tg_least in
     let sg : s.timing.tg < s.timing.sg = c.sound.tg_short in
-    let same : own (l ++ x ∷ []) s.number (end_of x) ≡ own l s.number x.moment = own_push_other l s.number (end_of x) x (λ p. apart p.0) ∙ own_later l s.number x.moment (end_of x) begun (omega arith) in
+    let same : own (l ++ x ∷ []) s.number (end_of x) ≡ own l s.number x.moment = own_push_other l s.number (end_of x) x (λ p. apart p.0) ∙ own_after l s.number x.moment (end_of x) begun (omega arith) in
     let moved : GapFrom s.timing.sg (during (past q l x.moment) x.message (bits x.message)) (last_place q (own l s.number x.moment)) g' = elim move [
       | inl elapsed ↦
           let low : g ≤ q + x.moment = elapsed.0 in let e : g' ≡ q + x.moment + bits x.message = elapsed.1 in

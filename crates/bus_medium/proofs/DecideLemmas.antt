@@ -15,20 +15,15 @@ use Rattle.bus_medium.specs.Lawful.{Station, HaveOwnNumbers, HasEntry, IsDue, Is
 use Rattle.bus_medium.specs.Buses.{Seat, station_of, number_of}
 use Rattle.bus_medium.specs.Following.{Follows, FollowsAt, AllFollow, AllHaveRoom, Started, Idle}
 use Rattle.bus_medium.specs.Orders.{IsByNumber, AreNumbers}
-use Rattle.bus_medium.proofs.Members.{filter_same}
-use Rattle.bus_medium.proofs.PastLemmas.{length_past, past_push, own_test, from_own_test, own_push, own_push_other}
+use Rattle.bus_medium.specs.PastLaws.{length_past, past_push, own_later, own_push, own_push_other}
 use Rattle.bus_medium.proofs.Steps.{not_yet, lawful_idle, lawful_start, lawful_next}
-use Rattle.bus_medium.proofs.Following.{due_is_free, follows_started, same_bools}
+use Rattle.bus_medium.proofs.Following.{due_is_free, follows_started}
 use Rattle.bus_medium.proofs.Seats.{get_set_same, get_set_other, get_within, same_some, map_set_same, in_map, from_map, number_at, same_numbers, own_numbers}
 
 -- with no transmission at moment t, what is own up to it is what was own before it
 pub own_next : (l : List Entry) (n t : ℕ) → (HasEntry l n t → ⊥) → own l n (t + 1) ≡ own l n t
-own_next l n t not_there = filter_same (λ x. eqb x.terminal n && ltb x.moment (t + 1)) (λ x. eqb x.terminal n && ltb x.moment t) l (λ x i.
-    same_bools (eqb x.terminal n && ltb x.moment (t + 1)) (eqb x.terminal n && ltb x.moment t)
-    (λ h. let p = from_own_test n (t + 1) x h in
-    let below : x.moment < t + 1 = p.1 in
-    own_test n t x p.0 (elim (cases_lt x.moment t) [ inl yes' ↦ yes' | inr no' ↦ absurd (not_there (record { entry = x; there = i; moment = omega arith; terminal = p.0 })) ]))
-    (λ h. let p = from_own_test n t x h in let below : x.moment < t = p.1 in own_test n (t + 1) x p.0 (omega arith)))
+own_next l n t not_there =
+    own_later l n t (t + 1) (omega arith) (λ x i same from to. not_there (record { entry = x; there = i; moment = omega arith; terminal = same }))
 
 -- the senders with numbers below n have decided at moment t, and the others have not
 pub record DecidedSoFar {C : Type 0} (core : Ghosts C) (quiet t : ℕ) (xs ys : List (Seat C)) (l : List Entry) (n : ℕ) : Type 0 where

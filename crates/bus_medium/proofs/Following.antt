@@ -22,8 +22,8 @@ use Rattle.bus_terminal.specs.SendingLaws.{sending_is_not_ready}
 use Rattle.bus_medium.specs.Past.{past, own, last_place}
 use Rattle.bus_medium.specs.Buses.{last_of, running_at}
 use Rattle.bus_medium.specs.Following.{Running, Follows}
-use Rattle.bus_medium.proofs.Members.{any_in, in_push_cases, in_push}
-use Rattle.bus_medium.proofs.PastLemmas.{length_past, past_at, pulses_on, pulses_begun, from_own, last_push}
+use Rattle.bus_strings.specs.MemberLaws.{any_in, in_push_cases, in_push}
+use Rattle.bus_medium.specs.PastLaws.{length_past, past_at, pulses_on, pulses_begun, from_own, last_push}
 
 -- the last of a list is in it, and its place is that of the last start
 pub last_of_push : (l : List Entry) (x : Entry) → last_of (l ++ x ∷ []) ≡ Some x
@@ -132,11 +132,6 @@ follows_started {stands} {stands'} q timing hand sent p mine t x f len steps at 
         others = λ y i. elim (in_push_cases mine x y i) [ inl old ↦ inr (f.idle refl y old) | inr same ↦ inl same ];
       });
     }
-
-pub same_bools : (a b : Bool) → (a ≡ true → b ≡ true) → (b ≡ true → a ≡ true) → a ≡ b
-same_bools true b f g = sym (f refl)
-same_bools false true f g = g refl
-same_bools false false f g = refl
 
 -- a sender sounds only where a transmission of its own has a pulse
 pub sounding_pulse : {stands : Timing → List Bool → Option ℕ → Type 0} (q : ℕ) (timing : Timing) (hand : Hand) (sent : ℕ) (now : Option ℕ) (p : List Bool) (l : List Entry) (n t : ℕ) → Follows stands q timing hand sent now p (own l n (t + 1)) t

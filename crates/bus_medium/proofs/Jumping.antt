@@ -26,11 +26,10 @@ use Rattle.bus_medium.specs.Following.{Running, Follows, FollowsAt, AllFollow}
 use Rattle.bus_medium.specs.Edges.{edges_by}
 use Rattle.bus_medium.specs.Jumps.{Each, PassedMany, Lasts, AllStay, AllLast, SomeEnds}
 use Rattle.bus_medium.specs.Runs.{Grown, Counted}
-use Rattle.bus_medium.proofs.Members.{in_append_cases}
-use Rattle.bus_medium.proofs.PastLemmas.{length_past, past_at, past_push, pulses_on, in_own, from_own, own_push_other}
+use Rattle.bus_strings.specs.MemberLaws.{in_append_cases}
+use Rattle.bus_medium.specs.PastLaws.{own_after, length_past, past_at, past_push, pulses_on, in_own, from_own, own_push_other}
 use Rattle.bus_medium.proofs.Following.{running_not_may, follows_later}
 use Rattle.bus_medium.proofs.DecideLemmas.{own_next}
-use Rattle.bus_medium.proofs.ClockLemmas.{own_later}
 use Rattle.bus_medium.proofs.TurnLemmas.{idle_stretch}
 use Rattle.bus_medium.proofs.Seats.{get_within, from_map, in_map}
 use Rattle.bus_medium.proofs.Sums.{any_same}
@@ -88,7 +87,7 @@ past_steady q l t c (suc n) h =
 
 -- nobody begins behind moment t, so what is own stays
 pub own_steady : (q : ℕ) (ss : List Station) (l : List Entry) (t n number : ℕ) → 1 ≤ n → IsLawfulTo q ss (t + 1) 0 l → own l number (t + n) ≡ own l number (t + 1)
-own_steady q ss l t n number some law = own_later l number (t + 1) (t + n) (λ x i. begun_by x.moment x.terminal (t + 1) (law.sent x i).0) (omega arith)
+own_steady q ss l t n number some law = own_after l number (t + 1) (t + n) (λ x i. begun_by x.moment x.terminal (t + 1) (law.sent x i).0) (omega arith)
 
 pub all_later : {C : Type 0} (core : Ghosts C) (quiet t n : ℕ) (c : Bool) (ys zs : List (Seat C)) (l : List Entry) → 1 ≤ n → Each (PassedMany core c n) ys zs → IsLawfulTo quiet (map station_of ys) (t + 1) 0 l → AllFollow core quiet ys l t (t + 1) → AllStay n ys
     → past quiet l (t + n) ≡ past quiet l t ++ replicate n c → AllFollow core quiet zs l (t + n) (t + n)

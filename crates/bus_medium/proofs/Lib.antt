@@ -1,5 +1,3 @@
-pub mod Members
-pub mod PastLemmas
 pub mod Unique
 pub mod Steps
 pub mod Following

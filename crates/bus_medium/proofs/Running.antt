@@ -2,6 +2,7 @@
 use Rattle.std.proofs.Common.{◌≡◌, ℕ, ◌+◌, ◌-◌, ◌*◌, ◌^◌, ◌<◌, ◌≤◌, List, [], length, map, Some, None, inl, inr, arith, sym, refl, ap, ◌∙◌, subst}
 use Rattle.std.proofs.lemmas.Option.{slice_get_within}
 use Rattle.bus_timers.specs.declared.cores.Core.{Ghosts}
+use Rattle.bus_strings.specs.MemberLaws.{at_in, in_at}
 use Rattle.bus_strings.specs.Messages.{Entry}
 use Rattle.bus_medium.specs.Past.{past, own}
 use Rattle.bus_medium.specs.Lawful.{HaveOwnNumbers, IsLawfulTo, IsLawful}
@@ -13,7 +14,7 @@ use Rattle.bus_medium.specs.Runs.{Reached, Counted, Stretched}
 use Rattle.bus_medium.proofs.Steps.{lawful_none, lawful_whole}
 use Rattle.bus_medium.proofs.Unique.{lawful_once}
 use Rattle.bus_medium.proofs.Following.{running_is}
-use Rattle.bus_medium.proofs.Seats.{get_within, in_at, place_in}
+use Rattle.bus_medium.proofs.Seats.{get_within}
 use Rattle.bus_medium.proofs.EdgeLemmas.{list_most}
 
 -- at the settled start
@@ -22,9 +23,9 @@ reached_none core quiet xs s = record {
   stations = refl;
   to = record {
     lawful = lawful_none quiet (map station_of xs);
-    follow = λ j x at. let w = s x (in_at xs j x at) in
+    follow = λ j x at. let w = s x (at_in xs j x at) in
         record { sound = w.sound; core = w.stands; count = w.sent; idle = λ e y i. absurd i; running = λ d e. absurd (let none : x.terminal.running ≡ None = w.running in cc) };
-    room = λ j x at. let w = s x (in_at xs j x at) in let k : 2 ^ 62 ≤ core.room x.terminal.core + 0 = w.room in omega arith;
+    room = λ j x at. let w = s x (at_in xs j x at) in let k : 2 ^ 62 ≤ core.room x.terminal.core + 0 = w.room in omega arith;
   };
 }
 
@@ -42,7 +43,7 @@ reached_only core quiet t horizon xs ys l own_n so e other law = lawful_once qui
 
 pub reached_stands : {C : Type 0} (core : Ghosts C) (quiet t horizon : ℕ) (xs ys : List (Seat C)) (l : List Entry) → Reached core quiet t xs ys l → t ≡ horizon → horizon < 2 ^ 62 → StandsAt core (record { quiet = quiet; seats = ys }) l horizon
 reached_stands core quiet t horizon xs ys l so e small = λ y there.
-    let p = place_in ys y there in
+    let p = in_at ys y there in
     let f : FollowsAt core quiet y l t t = so.to.follow p.0 y p.1 in
     let r : 2 ^ 62 - t ≤ core.room y.terminal.core = so.to.room p.0 y p.1 in
     subst (λ u. SeatStands core quiet y l u) e (record {

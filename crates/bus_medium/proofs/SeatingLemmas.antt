@@ -15,7 +15,7 @@ use Rattle.bus_medium.specs.Timings.{quiet_of, timing_of, stations_of}
 use Rattle.bus_medium.specs.Lawful.{Station}
 use Rattle.bus_medium.specs.Buses.{Seat, station_of, number_of, StandsAt}
 use Rattle.bus_medium.specs.Seating.{Seated, IsSeated}
-use Rattle.bus_medium.proofs.Seats.{in_at}
+use Rattle.bus_strings.specs.MemberLaws.{at_in, of_each}
 
 -- the station of a sender with its hand
 abbrev pub station_with : Table → Sender → Hand → Station
@@ -74,7 +74,7 @@ one_seated core table hands seats hand left seat so made =
           ∙ ap (λ x. map station_of seats ++ x ∷ map f (zip (drop (length seats + 1) table.senders) left)) station
           ∙ ap (λ ss. map station_of seats ++ map f (zip ss (hand ∷ left))) (sym n.behind)
           ∙ so.made;
-      seated = all_push (IsSeated core table) seats seat so.seated (record { sender = n.sender; there = in_at table.senders (length seats) n.sender n.at; messages = hand; number = n.number; seated = s });
+      seated = all_push (IsSeated core table) seats seat so.seated (record { sender = n.sender; there = at_in table.senders (length seats) n.sender n.at; messages = hand; number = n.number; seated = s });
     }
 
 zip_none : (table : Table) (senders : List Sender) → map (λ p. station_with table p.0 p.1) (zip senders []) ≡ []
@@ -102,15 +102,10 @@ map_numbers (x ∷ seats) = ap (λ ns. number_of x ∷ ns) (map_numbers seats)
 pub seats_numbers : {C : Type 0} (table : Table) (hands : List Hand) (seats : List (Seat C)) → are_hands table.senders hands ≡ true → map station_of seats ≡ stations_of table hands → map number_of seats ≡ map (λ s. s.number) table.senders
 seats_numbers table hands seats h e = map_numbers seats ∙ ap (map (λ (s : Station). s.number)) e ∙ stations_numbers table table.senders hands h
 
-all_in : {X : Type 0} (P : X → Type 0) → (xs : List X) (x : X) → AllByRecursion P xs → In x xs → P x
-all_in P [] x a h = absurd h
-all_in P (y ∷ ys) x a (inl same) = subst P (sym same) a.0
-all_in P (y ∷ ys) x a (inr h) = all_in P ys x a.1 h
-
 -- senders that sit stand at the settled start
 pub seated_stands : {C : Type 0} (core : Ghosts C) (table : Table) (seats : List (Seat C)) → AllByRecursion (IsSeated core table) seats → StandsAt core (record { quiet = quiet_of table; seats = seats }) [] 0
 seated_stands core table seats a seat there =
-    let w : IsSeated core table seat = all_in (IsSeated core table) seats seat a there in
+    let w : IsSeated core table seat = of_each (IsSeated core table) seats a seat there in
     let s : Seated core table w.sender w.messages seat = w.seated in
     let quiet : seat.timing.quiet ≡ quiet_of table = ap (λ (t : Timing). t.quiet) s.timing in
     let room : 2 ^ 62 ≤ core.room seat.terminal.core = s.room in

@@ -7,6 +7,7 @@ use Rattle.std.proofs.lemmas.Bool.{cases_order}
 use Rattle.std.proofs.lemmas.List.{length-map}
 use Rattle.std.proofs.lemmas.Option.{slice_get_within, slice_get-map, get_or_from_slice_get}
 use Rattle.bus_strings.specs.Members.{In}
+use Rattle.bus_strings.specs.MemberLaws.{at_in}
 use Rattle.bus_medium.specs.Lawful.{Station, HaveOwnNumbers}
 use Rattle.bus_medium.specs.Buses.{Seat, station_of, number_of}
 use Rattle.bus_medium.specs.Orders.{IsByNumber}
@@ -42,16 +43,6 @@ get_within [] j h = absurd (omega arith)
 get_within (x ∷ xs) zero h = (x, refl)
 get_within (x ∷ xs) (suc j) h = get_within xs j (omega arith)
 
-pub in_at : {X : Type 0} → (xs : List X) (j : ℕ) (x : X) → slice_get xs j ≡ Some x → In x xs
-in_at [] j x h = absurd (let k : None ≡ Some x = h in cc)
-in_at (y ∷ ys) zero x h = inl (let same : x ≡ y = cc in same)
-in_at (y ∷ ys) (suc j) x h = inr (in_at ys j x h)
-
-pub place_in : {X : Type 0} → (xs : List X) (x : X) → In x xs → (j : ℕ) × (slice_get xs j ≡ Some x)
-place_in [] x h = absurd h
-place_in (y ∷ ys) x (inl same) = (0, ap Some (sym same))
-place_in (y ∷ ys) x (inr h) = let p = place_in ys x h in (suc p.0, p.1)
-
 pub record Mapped {X Y : Type 0} (f : X → Y) (xs : List X) (y : Y) : Type 0 where
   pub element : X
   pub place : ℕ
@@ -67,7 +58,7 @@ pub map_at : {X Y : Type 0} (f : X → Y) → (xs : List X) (j : ℕ) (x : X) �
 map_at f xs j x h = slice_get-map f xs j ∙ ap (option_map f) h
 
 pub in_map : {X Y : Type 0} (f : X → Y) → (xs : List X) (j : ℕ) (x : X) → slice_get xs j ≡ Some x → In (f x) (map f xs)
-in_map f xs j x h = in_at (map f xs) j (f x) (map_at f xs j x h)
+in_map f xs j x h = at_in (map f xs) j (f x) (map_at f xs j x h)
 
 pub number_at : {C : Type 0} (xs : List (Seat C)) (j : ℕ) (x : Seat C) → slice_get xs j ≡ Some x → get_or (map number_of xs) j 0 ≡ number_of x
 number_at xs j x h = get_or_from_slice_get (map number_of xs) j (number_of x) 0 (map_at number_of xs j x h)

@@ -3,7 +3,8 @@
 --   due     the place at which a sender's transmit interval elapses
 --   gap     the place from which its terminal gap counts, or will
 --   count   how many messages it has sent
-use Rattle.std.specs.Prelude.{◌≡◌, ◌≢◌, ℕ, ◌+◌, ◌<◌, ◌≤◌, ◌⊎◌, ◌↔◌, ◌==◌, nat_le, List, [], ◌∷◌, ◌++◌, length, slice_get, Some, if◌then◌else◌}
+use Rattle.std.specs.Prelude.{◌≡◌, ◌≢◌, ℕ, ◌+◌, ◌<◌, ◌≤◌, ◌⊎◌, ◌↔◌, ◌==◌, nat_le, List, [], ◌∷◌, ◌++◌, length, slice_get, Some}
+use Rattle.std.specs.Prelude.{if◌then◌else◌}
 use Rattle.bus_timers.specs.Timings.{IsSound, due_place}
 use Rattle.bus_timers.specs.GapPlace.{GapFrom}
 use Rattle.bus_strings.specs.Members.{In}
@@ -44,34 +45,40 @@ pub record Starts (quiet : ℕ) (stations : List Station) (due gap count : ℕ �
   pub interval : due sender.number ≤ quiet + x.moment
   pub terminal : gap sender.number + sender.timing.tg ≤ quiet + x.moment
   pub first : (quiet + x.moment ≤ due sender.number) ⊎ (quiet + x.moment ≤ gap sender.number + sender.timing.tg)
-  pub others : (other : Station) → In other stations → other.number ≢ sender.number → (quiet + x.moment < due other.number) ⊎ ((quiet + x.moment < gap other.number + other.timing.tg) ⊎ (length other.hand ≤ count other.number))
+  pub others : (other : Station) → In other stations → other.number ≢ sender.number → (quiet + x.moment < due other.number)
+      ⊎ ((quiet + x.moment < gap other.number + other.timing.tg) ⊎ (length other.hand ≤ count other.number))
   pub message : slice_get sender.hand (count sender.number) ≡ Some x.message
 
 -- at the settled start each interval elapses at its own time, and each terminal gap counts from one synchronization gap on
 abbrev pub ChainSettled : Type 0
 ChainSettled =
     (quiet sg : ℕ) (stations : List Station) (due : ℕ → ℕ)
-    → ((sender : Station) → In sender stations → IsSound sender.timing × (sender.timing.sg ≡ sg) × (sender.timing.quiet ≡ quiet) × (quiet + sender.timing.due ≡ due sender.number))
+    → ((sender : Station) → In sender stations → IsSound sender.timing × (sender.timing.sg ≡ sg) × (sender.timing.quiet ≡ quiet)
+    × (quiet + sender.timing.due ≡ due sender.number))
     → Chain quiet sg stations [] 0 due (λ _. sg) (λ _. 0)
 
 -- one transmission more, which begins when all have ended
 abbrev pub ChainStep : Type 0
 ChainStep =
-    (quiet sg : ℕ) (stations : List Station) (list : List Entry) (e : ℕ) (due gap count : ℕ → ℕ) (sender : Station) (x : Entry) → HaveOwnNumbers stations
+    (quiet sg : ℕ) (stations : List Station) (list : List Entry) (e : ℕ) (due gap count : ℕ → ℕ) (sender : Station) (x : Entry)
+    → HaveOwnNumbers stations
     → Chain quiet sg stations list e due gap count → In sender stations → e ≤ x.moment → x.terminal ≡ sender.number → 0 < length x.message
-    → Chain quiet sg stations (list ++ x ∷ []) (end_of x) (put due sender.number (quiet + x.moment + sender.timing.ti)) (gap_put gap sender.number (quiet + x.moment) (bits x.message) sg) (put count sender.number (count sender.number + 1))
+    → Chain quiet sg stations (list ++ x ∷ []) (end_of x) (put due sender.number (quiet + x.moment + sender.timing.ti))
+    (gap_put gap sender.number (quiet + x.moment) (bits x.message) sg) (put count sender.number (count sender.number + 1))
 
 -- who is due while all are silent: three comparisons
 abbrev pub ChainDue : Type 0
 ChainDue =
     (quiet sg : ℕ) (stations : List Station) (list : List Entry) (e : ℕ) (due gap count : ℕ → ℕ) (sender : Station) (t : ℕ)
     → Chain quiet sg stations list e due gap count → In sender stations → e ≤ t
-    → ((due sender.number ≤ quiet + t) × (gap sender.number + sender.timing.tg ≤ quiet + t) × (count sender.number < length sender.hand)) ↔ IsDue quiet list sender t
+    → ((due sender.number ≤ quiet + t) × (gap sender.number + sender.timing.tg ≤ quiet + t) × (count sender.number < length sender.hand))
+    ↔ IsDue quiet list sender t
 
 -- the next transmission is lawful, up to its end
 abbrev pub ChainStarts : Type 0
 ChainStarts =
-    (quiet sg : ℕ) (stations : List Station) (list : List Entry) (e : ℕ) (due gap count : ℕ → ℕ) (sender : Station) (x : Entry) → HaveOwnNumbers stations
+    (quiet sg : ℕ) (stations : List Station) (list : List Entry) (e : ℕ) (due gap count : ℕ → ℕ) (sender : Station) (x : Entry)
+    → HaveOwnNumbers stations
     → Chain quiet sg stations list e due gap count → In sender stations → e ≤ x.moment → x.terminal ≡ sender.number → 0 < length x.message
     → Starts quiet stations due gap count sender x → IsLawfulTo quiet stations e 0 list
     → IsLawfulTo quiet stations (end_of x) 0 (list ++ x ∷ [])

@@ -23,7 +23,9 @@ pub record Running (hand : Hand) (sent d : ℕ) (mine : List Entry) (t : ℕ) : 
   pub others : (x : Entry) → In x mine → (x ≡ entry) ⊎ (end_of x ≤ t)
 
 -- after the past p, of t bit times from the settled start, a sender stands where its own transmissions leave it
-pub record Follows (stands : Timing → List Bool → Option ℕ → Type 0) (quiet : ℕ) (timing : Timing) (hand : Hand) (sent : ℕ) (now : Option ℕ) (p : List Bool) (mine : List Entry) (t : ℕ) : Type 0 where
+pub record Follows (stands : Timing → List Bool → Option ℕ
+    → Type 0) (quiet : ℕ) (timing : Timing) (hand : Hand) (sent : ℕ) (now : Option ℕ) (p : List Bool) (mine : List Entry)
+    (t : ℕ) : Type 0 where
   pub sound : IsSound timing
   pub core : stands timing p (last_place quiet mine)
   pub count : sent ≡ length mine
@@ -33,7 +35,8 @@ pub record Follows (stands : Timing → List Bool → Option ℕ → Type 0) (qu
 -- the same of the list of all transmissions, of which those before `cut` count as its own
 abbrev pub FollowsAt : {C : Type 0} → Ghosts C → ℕ → Seat C → List Entry → ℕ → ℕ → Type 0
 FollowsAt core quiet seat list t cut =
-    Follows (core.stands seat.terminal.core) quiet seat.timing seat.terminal.hand seat.terminal.sent seat.terminal.running (past quiet list t) (own list seat.terminal.hand.terminal cut) t
+    Follows (core.stands seat.terminal.core) quiet seat.timing seat.terminal.hand seat.terminal.sent seat.terminal.running
+    (past quiet list t) (own list seat.terminal.hand.terminal cut) t
 
 -- every sender does
 abbrev pub AllFollow : {C : Type 0} → Ghosts C → ℕ → List (Seat C) → List Entry → ℕ → ℕ → Type 0
@@ -46,14 +49,17 @@ AllHaveRoom {C} core seats n = (j : ℕ) (seat : Seat C) → slice_get seats j �
 -- the sender is as before, and wasn't due
 pub record Idle {C : Type 0} (core : Ghosts C) (x y : Seat C) : Type 0 where
   pub same : y ≡ x
-  pub not : (timing : Timing) (past : List Bool) (last : Option ℕ) → core.stands x.terminal.core timing past last → MayStart timing past last × (x.terminal.running ≡ None) × (x.terminal.sent < length x.terminal.hand.messages) → ⊥
+  pub not : (timing : Timing) (past : List Bool) (last : Option ℕ) → core.stands x.terminal.core timing past last
+      → MayStart timing past last × (x.terminal.running ≡ None) × (x.terminal.sent < length x.terminal.hand.messages) → ⊥
 
 -- the sender began a message at moment t
 pub record Started {C : Type 0} (core : Ghosts C) (x y : Seat C) (t : ℕ) (entry : Entry) : Type 0 where
   pub free : x.terminal.running ≡ None
   pub unsent : x.terminal.sent < length x.terminal.hand.messages
-  pub may : (timing : Timing) (past : List Bool) (last : Option ℕ) → core.stands x.terminal.core timing past last → MayStart timing past last
-  pub told : (timing : Timing) (past : List Bool) (last : Option ℕ) → core.stands x.terminal.core timing past last → core.stands y.terminal.core timing past (Some (length past))
+  pub may : (timing : Timing) (past : List Bool) (last : Option ℕ) → core.stands x.terminal.core timing past last
+      → MayStart timing past last
+  pub told : (timing : Timing) (past : List Bool) (last : Option ℕ) → core.stands x.terminal.core timing past last
+      → core.stands y.terminal.core timing past (Some (length past))
   pub timing : y.timing ≡ x.timing
   pub terminal : y.terminal ≡ with_begun x.terminal y.terminal.core
   pub room : core.room y.terminal.core ≡ core.room x.terminal.core

@@ -37,7 +37,8 @@ pub record Lasts {C : Type 0} (core : Ghosts C) (carrier : Bool) (n : ℕ) (x : 
 pub record Changes {C : Type 0} (n : ℕ) (x : Seat C) : Type 0 where
   pub place : ℕ
   pub runs : x.terminal.running ≡ Some place
-  pub changes : is_on (last_begun x.terminal.hand x.terminal.sent) (place + n) ≡ not (is_on (last_begun x.terminal.hand x.terminal.sent) place)
+  pub changes : is_on (last_begun x.terminal.hand x.terminal.sent) (place + n) ≡ not
+      (is_on (last_begun x.terminal.hand x.terminal.sent) place)
 
 -- behind n bit times of a quiet bus the sender may start
 pub record Wakes {C : Type 0} (core : Ghosts C) (carrier : Bool) (n : ℕ) (x : Seat C) : Type 0 where

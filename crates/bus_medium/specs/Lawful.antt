@@ -10,6 +10,7 @@ use Rattle.bus_strings.specs.Messages.{Message, Entry}
 use Rattle.bus_strings.specs.Transmissions.{IsAscending}
 use Rattle.bus_medium.specs.Past.{past, own, last_place}
 
+-- what the rules read of a sender: its number, its timing and the messages of its hand
 pub record Station : Type 0 where
   pub number : ℕ
   pub timing : Timing
@@ -55,4 +56,5 @@ IsBefore moment number other_moment other_number = (moment < other_moment) ⊎ (
 pub record IsLawfulTo (quiet : ℕ) (stations : List Station) (t n : ℕ) (list : List Entry) : Type 0 where
   pub ordered : IsAscending list
   pub sent : (x : Entry) → In x list → IsBefore x.moment x.terminal t n × IsNext stations list x
-  pub exact : (u : ℕ) (sender : Station) → In sender stations → IsBefore u sender.number t n → HasEntry list sender.number u ↔ IsDue quiet list sender u
+  pub exact : (u : ℕ) (sender : Station) → In sender stations → IsBefore u sender.number t n → HasEntry list sender.number u
+      ↔ IsDue quiet list sender u

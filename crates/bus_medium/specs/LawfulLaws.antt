@@ -18,11 +18,13 @@ OneLawfulList =
 
 -- there is one, where no two senders have the same number
 abbrev pub ThereIsALawfulList : Type 0
-ThereIsALawfulList = (quiet : ℕ) (stations : List Station) (horizon : ℕ) → HaveOwnNumbers stations → (list : List Entry) × IsLawful quiet stations horizon list
+ThereIsALawfulList = (quiet : ℕ) (stations : List Station) (horizon : ℕ) → HaveOwnNumbers stations → (list : List Entry)
+    × IsLawful quiet stations horizon list
 
 -- it is the one that is computed
 abbrev pub TheComputedList : Type 0
-TheComputedList = (quiet : ℕ) (stations : List Station) (horizon : ℕ) → HaveOwnNumbers stations → IsLawful quiet stations horizon (lawful_list quiet stations horizon)
+TheComputedList = (quiet : ℕ) (stations : List Station) (horizon : ℕ) → HaveOwnNumbers stations
+    → IsLawful quiet stations horizon (lawful_list quiet stations horizon)
 
 -- every valid table, with a hand for each of its senders, has exactly one lawful list for each horizon
 abbrev pub OneListOfATable : Type 0
@@ -33,4 +35,5 @@ OneListOfATable =
 
 -- a list that is lawful for all moments before the horizon is lawful for it
 abbrev pub LawfulToHorizon : Type 0
-LawfulToHorizon = (quiet : ℕ) (stations : List Station) (horizon : ℕ) (list : List Entry) → IsLawfulTo quiet stations horizon 0 list → IsLawful quiet stations horizon list
+LawfulToHorizon = (quiet : ℕ) (stations : List Station) (horizon : ℕ) (list : List Entry) → IsLawfulTo quiet stations horizon 0 list
+    → IsLawful quiet stations horizon list

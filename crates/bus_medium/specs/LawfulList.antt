@@ -1,5 +1,6 @@
 -- The lawful list, computed: moment by moment, and at each moment by rising number.
-use Rattle.std.specs.Prelude.{ℕ, zero, suc, ◌+◌, max, Bool, ◌&&◌, ◌==◌, nat_lt, List, [], ◌∷◌, ◌++◌, length, slice_index_or, Option, Some, None, if◌then◌else◌}
+use Rattle.std.specs.Prelude.{ℕ, zero, suc, ◌+◌, max, Bool, ◌&&◌, ◌==◌, nat_lt, List, [], ◌∷◌, ◌++◌, length, slice_index_or, Option, Some}
+use Rattle.std.specs.Prelude.{None, if◌then◌else◌}
 use Rattle.std.specs.List.{find}
 use Rattle.bus_timers.specs.MayStartTest.{may_start}
 use Rattle.bus_strings.specs.Messages.{Entry}
@@ -14,7 +15,12 @@ is_due quiet list sender t =
 
 -- the next message of the sender, begun at moment t
 abbrev pub next_entry : List Entry → Station → ℕ → Entry
-next_entry list sender t = record { moment = t; terminal = sender.number; message = slice_index_or sender.hand (length (own list sender.number t)) [] }
+next_entry list sender t = record {
+  moment = t;
+  terminal = sender.number;
+  message = slice_index_or sender.hand
+      (length (own list sender.number t)) [];
+}
 
 -- the list when the sender, if there is one, has decided at moment t
 abbrev pub decided : ℕ → List Entry → Option Station → ℕ → List Entry

@@ -1,6 +1,9 @@
 pub mod Past
 pub mod Lawful
 pub mod LawfulList
+pub mod AscendingLaws
+pub mod PastLaws
+pub mod BusyLaws
 pub mod LawfulLaws
 pub mod Stretches
 pub mod Chains

@@ -2,7 +2,8 @@
 --   quiet     how long the bus was quiet before the settled start, in bit times
 --   moment    a number of bit times from the settled start; bit time t lies between the moments t and t + 1
 --   place     a moment counted from the beginning of the past, so `quiet` more
-use Rattle.std.specs.Prelude.{ℕ, zero, suc, ◌+◌, Bool, false, ◌&&◌, ◌==◌, nat_lt, List, [], ◌∷◌, ◌++◌, replicate, filter, fold, Option, Some, None}
+use Rattle.std.specs.Prelude.{ℕ, zero, suc, ◌+◌, Bool, false, ◌&&◌, ◌==◌, nat_lt, List, [], ◌∷◌, ◌++◌, replicate, filter, fold, Option}
+use Rattle.std.specs.Prelude.{Some, None}
 use Rattle.bus_strings.specs.Messages.{Entry}
 use Rattle.bus_strings.specs.Transmissions.{carrier}
 

@@ -11,4 +11,5 @@ timing_of table sender = record { ti = table.ti; sg = table.sg; tg = sender.tg; 
 
 -- what the rules read of the senders of a table, with one hand for each in the same order
 abbrev pub stations_of : Table → List Hand → List Station
-stations_of table hands = map (λ p. record { number = p.1.terminal; timing = timing_of table p.0; hand = p.1.messages }) (zip table.senders hands)
+stations_of table hands = map (λ p. record { number = p.1.terminal; timing = timing_of table p.0; hand = p.1.messages })
+    (zip table.senders hands)

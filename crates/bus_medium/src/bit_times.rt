@@ -76,7 +76,8 @@ pub fn observe_all<C: Core>(
     ensures lawful { IfOk result (λ list. IsLawful roster.now.quiet (map station_of seats.old) horizon list.items) }
     ensures only { IfOk result (λ list. (other : List Entry) → IsLawful roster.now.quiet (map station_of seats.old) horizon other
         → other ≡ list.items) }
-    ensures stands { IfOk result (λ list. StandsAt ⟦<C as Core>⟧ (record { quiet = roster.now.quiet; seats = seats.new }) list.items horizon) }
+    ensures stands { IfOk result (λ list. StandsAt ⟦<C as Core>⟧ (record { quiet = roster.now.quiet; seats = seats.new })
+        list.items horizon) }
     ensures keeps { OnOk result (map station_of seats.new ≡ map station_of seats.old) }
 {
     let mut list = Vec::new(alloc);

@@ -1,3 +1,5 @@
+ghost use Rattle.bus_medium.specs.PastLaws.{PastLength, PastAt, NoCarrier, OwnLater, OwnMore, LastMore, OneAt};
+ghost use Rattle.bus_medium.specs.BusyLaws.{EntryIsBusy, BusyElapsed, BusyWaiting, BusyNobody};
 ghost use Rattle.bus_medium.specs.LawfulLaws.{OneLawfulList, ThereIsALawfulList, TheComputedList, OneListOfATable, LawfulToHorizon};
 ghost use Rattle.bus_medium.specs.Stretches.{IdleStretch, LoneStart, MessageIsCarrier, MessageElapsed, MessageWaiting, NoStartDuring};
 ghost use Rattle.bus_medium.specs.Chains.{ChainSettled, ChainStep, ChainDue, ChainStarts};
@@ -36,4 +38,24 @@ pub fn chains_tell()
     ensures step { ChainStep }
     ensures due { ChainDue }
     ensures starts { ChainStarts }
+{}
+
+/// What the past that a list makes has where, and how a sender's own transmissions grow with the moment. A law, with no work.
+pub fn pasts()
+    ensures length { PastLength }
+    ensures at { PastAt }
+    ensures silent { NoCarrier }
+    ensures later { OwnLater }
+    ensures more { OwnMore }
+    ensures last { LastMore }
+    ensures one { OneAt }
+{}
+
+/// A transmission keeps the bus busy, whatever else is sent meanwhile. For the timers a busy stretch is as good as
+/// carrier on each of its bit times, and nobody starts inside it. A law, with no work.
+pub fn busy_stretches()
+    ensures entry { EntryIsBusy }
+    ensures elapsed { BusyElapsed }
+    ensures waiting { BusyWaiting }
+    ensures nobody { BusyNobody }
 {}

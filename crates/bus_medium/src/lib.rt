@@ -1,16 +1,19 @@
-//! The shared bus: bit time for bit time, every terminal decides, and all hear the carrier that any of them has.
+//! The shared bus: at each moment every terminal decides, and then all hear the carrier that any of them has.
 //!
-//! [`bus::Bus`] is settled of a table and the hands of its senders, over any [`bus_timers::cores::Core`], and
-//! observed up to a horizon. What it gives is the lawful list (`specs/Lawful.antt`): a sender starts exactly where
-//! its timers allow and it has a message left, after the past that the list itself makes (`specs/Past.antt`).
-//! [`timing`] has the timings of a table's senders.
+//! [`Bus`] is settled of a table and the hands of its senders, over any [`bus_timers::Core`], and observed up to a
+//! horizon, bit time for bit time; over a [`bus_timers::JumpCore`] also by jumps, from change to change of the carrier.
+//! Both give the lawful list (`specs/Lawful.antt`): a sender starts exactly where its timers allow and it has a message
+//! left, after the past that the list itself makes (`specs/Past.antt`). `specs/Runs.antt` says what a run knows from
+//! moment to moment, `specs/Jumps.antt` what a stretch is, and `specs/Edges.antt` what bounds their number.
+//! [`timings`] has the timings of a table's senders.
 //!
 //! [`laws`] has what follows of the definitions: every valid table with its hands has exactly one lawful list
 //! ([`laws::one_lawful_list`]), which `specs/LawfulList.antt` computes; it grows by stretches in which nobody is due
 //! and by single starts ([`laws::lawful_turns`]); a whole message counts for the timers as its bits of carrier
-//! ([`laws::messages_are_carrier`]); and as long as no transmission begins before the one before has ended, three
-//! numbers of each sender tell who is due next ([`laws::chains_tell`]). `specs/StationLaws.antt` says what the
-//! stations of a valid table are, by which these laws apply to it.
+//! ([`laws::messages_are_carrier`]), and so does any stretch that transmissions keep busy ([`laws::busy_stretches`]);
+//! what the past of a list has where ([`laws::pasts`]); and as long as no transmission begins before the one before has
+//! ended, three numbers of each sender tell who is due next ([`laws::chains_tell`]). `specs/StationLaws.antt` says what
+//! the stations of a valid table are, by which these laws apply to it.
 #![tactic(auto)]
 
 mod bit_times;

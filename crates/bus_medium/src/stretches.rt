@@ -119,7 +119,8 @@ pub fn jump_all<C: JumpCore>(
     ensures lawful { IfOk result (λ list. IsLawful roster.now.quiet (map station_of seats.old) horizon list.items) }
     ensures only { IfOk result (λ list. (other : List Entry) → IsLawful roster.now.quiet (map station_of seats.old) horizon other
         → other ≡ list.items) }
-    ensures stands { IfOk result (λ list. StandsAt ⟦<C as Core>⟧ (record { quiet = roster.now.quiet; seats = seats.new }) list.items horizon) }
+    ensures stands { IfOk result (λ list. StandsAt ⟦<C as Core>⟧ (record { quiet = roster.now.quiet; seats = seats.new })
+        list.items horizon) }
     ensures keeps { OnOk result (map station_of seats.new ≡ map station_of seats.old) }
     ensures moved { IfOk result (λ list. Moved ⟦<C as Core>⟧ (2 * strings_sent list.items + 1) seats.old seats.new) }
 {

@@ -7,6 +7,7 @@ use Rattle.bus_strings.specs.Messages.{Message, bits}
 use Rattle.bus_strings.specs.Pulses.{is_on}
 use Rattle.bus_table.specs.Tables.{Hand}
 
+-- its timers, its hand, how many of its messages are begun, and the bit time of the one that runs
 pub record Terminal (C : Type 0) : Type 0 where
   pub core : C
   pub hand : Hand

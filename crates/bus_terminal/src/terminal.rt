@@ -1,4 +1,5 @@
-ghost use Rattle.std.specs.Prelude.{◌≡◌, ℕ, ◌+◌, ◌<◌, ◌≤◌, ◌↔◌, ◌⊎◌, ◌++◌, ◌∷◌, [], Bool, true, false, List, length, replicate, slice_get, Option, Some, None, IsTrue, MatchOption};
+ghost use Rattle.std.specs.Prelude.{◌≡◌, ℕ, ◌+◌, ◌<◌, ◌≤◌, ◌↔◌, ◌⊎◌, ◌++◌, ◌∷◌, [], Bool, true, false, List, length, replicate, slice_get};
+ghost use Rattle.std.specs.Prelude.{Option, Some, None, IsTrue, MatchOption};
 ghost use Rattle.bus_timers.specs.declared.timing.Timing.{Timing};
 ghost use Rattle.bus_timers.specs.MayStart.{MayStart};
 ghost use Rattle.bus_strings.specs.Messages.{IsMessage};
@@ -19,7 +20,8 @@ use std::marker::Model;
 fn next_running(hand: &Hand, sent: usize, running: Option<Place>) -> Option<Place>
     requires { IsStanding hand.now sent running }
     ensures standing { IsStanding hand.now sent result }
-    ensures place { place_in hand.now sent result ≡ option_and_then (next_place (last_begun hand.now sent)) (place_in hand.now sent running) }
+    ensures place { place_in hand.now sent result ≡ option_and_then (next_place (last_begun hand.now sent))
+        (place_in hand.now sent running) }
 {
     let place = running?;
     place.next(&hand.messages[sent - 1])
@@ -31,7 +33,8 @@ fn later_running(hand: &Hand, sent: usize, running: Option<Place>, bits: u64) ->
     requires some { 1 ≤ bits }
     requires steady { MatchOption (place_in hand.now sent running) (Unit {0}) (λ d. IsSteady (last_begun hand.now sent) d bits) }
     ensures standing { IsStanding hand.now sent result }
-    ensures place { place_in hand.now sent result ≡ option_and_then (later_place (last_begun hand.now sent) bits) (place_in hand.now sent running) }
+    ensures place { place_in hand.now sent result ≡ option_and_then (later_place (last_begun hand.now sent) bits)
+        (place_in hand.now sent running) }
 {
     let place = running?;
     place.later(&hand.messages[sent - 1], bits)

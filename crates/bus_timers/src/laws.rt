@@ -1,5 +1,6 @@
 ghost use Rattle.bus_timers.specs.MayStartTest.{TestDecides};
-ghost use Rattle.bus_timers.specs.GapLaws.{SettledPlace, StartedPlace, QuietPlace, CarrierPlace, WaitingCarrierPlace, OnePlace, QuietsPlace, CarriersPlace, WaitingCarriersPlace, PlaceDecides};
+ghost use Rattle.bus_timers.specs.GapLaws.{SettledPlace, StartedPlace, QuietPlace, CarrierPlace, WaitingCarrierPlace, OnePlace};
+ghost use Rattle.bus_timers.specs.GapLaws.{QuietsPlace, CarriersPlace, WaitingCarriersPlace, PlaceDecides};
 
 /// The test of `specs/MayStartTest.antt`, which computes, says when a terminal may start.
 pub fn test_decides()
