@@ -1,12 +1,11 @@
 -- Senders take their seats.
-use Rattle.std.proofs.Common.{◌≡◌, ℕ, zero, suc, ◌+◌, ◌^◌, ◌≤◌, true, false, ◌&&◌, List, [], ◌∷◌, ◌++◌, length, drop, map, replicate, Some, None, inl, inr, arith, sym, refl, ap, ◌∙◌, subst, eqb, eqb-true, append_assoc}
+use Rattle.std.proofs.Common.{◌≡◌, ℕ, zero, suc, ◌+◌, ◌^◌, ◌≤◌, true, false, ◌&&◌, List, [], ◌∷◌, ◌++◌, length, drop, map, replicate, Some, None, arith, sym, refl, ap, ◌∙◌, subst, eqb, eqb-true, append_assoc}
 use Rattle.std.specs.Prelude.{slice_get, zip}
 use Rattle.std.specs.List.{list_all, AllByRecursion}
 use Rattle.std.proofs.lemmas.Bool.{and_parts, true≢false}
 use Rattle.std.proofs.lemmas.List.{length_push, append-nil, map-append}
 use Rattle.bus_timers.specs.declared.timing.Timing.{Timing}
 use Rattle.bus_timers.specs.declared.cores.Core.{Ghosts}
-use Rattle.bus_strings.specs.Members.{In}
 use Rattle.bus_strings.specs.ListLaws.{all_push}
 use Rattle.bus_table.specs.Tables.{Sender, Table, Hand}
 use Rattle.bus_table.specs.Fits.{fits}
