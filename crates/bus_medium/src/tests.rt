@@ -9,7 +9,7 @@ use bus_strings::reading::read_messages;
 use bus_strings::transmission::Transmission;
 use bus_table::fit::fits;
 use bus_table::hand::Hand;
-use bus_table::hands::hands;
+use bus_table::hands;
 use bus_table::line::SendLine;
 use bus_table::mode::Mode;
 use bus_table::sender::Sender;

@@ -7,7 +7,7 @@ use bus_strings::reading::read_messages;
 use bus_strings::transmission::Transmission;
 use bus_table::fit::fits;
 use bus_table::hand::Hand;
-use bus_table::hands::hands;
+use bus_table::hands;
 use bus_table::reading::read_table;
 use bus_table::table::Table;
 use bus_timers::DeadlineCore;

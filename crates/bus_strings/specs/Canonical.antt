@@ -9,9 +9,11 @@ use Rattle.bus_strings.specs.Items.{Item}
 abbrev pub string_fields : List ℕ → List (List ℕ)
 string_fields string = codes ":" ∷ map (hexadecimal 4) string
 
+-- the fields of an item's line
 abbrev pub item_fields : Item → List (List ℕ)
 item_fields item = codes "MSG" ∷ decimal item.terminal ∷ flat_map string_fields item.strings
 
+-- the fields of the first line
 abbrev pub header_fields : List (List ℕ)
 header_fields = codes "MESSAGES" ∷ codes "1" ∷ []
 

@@ -17,7 +17,9 @@ AreWords (word ∷ words) (field ∷ fields) = IsHexadecimal 4 field word × Are
 abbrev pub AreStrings : List (List ℕ) → List (List ℕ) → Type 0
 AreStrings [] fields = ⊥
 AreStrings (string ∷ []) fields = AreWords string fields
-AreStrings (string ∷ next ∷ strings) fields = (front : List (List ℕ)) × (rest : List (List ℕ)) × (fields ≡ front ++ codes ":" ∷ rest) × AreWords string front × AreStrings (next ∷ strings) rest
+AreStrings (string ∷ next ∷ strings) fields =
+    (front : List (List ℕ)) × (rest : List (List ℕ)) × (fields ≡ front ++ codes ":" ∷ rest)
+    × AreWords string front × AreStrings (next ∷ strings) rest
 
 -- the fields of an item's line
 pub record IsItemLine (item : Item) (fields : List (List ℕ)) : Type 0 where

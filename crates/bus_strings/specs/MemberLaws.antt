@@ -1,7 +1,8 @@
 -- What follows of the elements of lists: of lists put together, filtered, mapped and pushed to, and of places in lists.
 use Rattle.std.specs.Prelude.{slice_get}
 use Rattle.std.specs.List.{filter, list_any, AllByRecursion}
-use Rattle.std.proofs.Common.{◌≡◌, ◌⊎◌, ℕ, zero, suc, Bool, true, false, cond, ◌||◌, List, [], ◌∷◌, ◌++◌, map, Some, None, inl, inr, sym, refl, ap, ◌∙◌, subst}
+use Rattle.std.proofs.Common.{◌≡◌, ◌⊎◌, ℕ, zero, suc, Bool, true, false, cond, ◌||◌, List, [], ◌∷◌, ◌++◌, map, Some, None, inl, inr, sym}
+use Rattle.std.proofs.Common.{refl, ap, ◌∙◌, subst}
 use Rattle.std.proofs.lemmas.Bool.{true≢false}
 use Rattle.bus_strings.specs.ListLaws.{all_push}
 use Rattle.bus_strings.specs.Members.{In}
@@ -42,7 +43,8 @@ in_append_cases (y ∷ xs) ys x (inr h) = elim (in_append_cases xs ys x h) [ inl
 
 -- an element of a list that was pushed to
 pub in_push_cases : {X : Type 0} → (xs : List X) (y x : X) → In x (xs ++ y ∷ []) → In x xs ⊎ (x ≡ y)
-in_push_cases xs y x h = elim (in_append_cases xs (y ∷ []) x h) [ inl l ↦ inl l | inr r ↦ elim r [ inl same ↦ inr same | inr none ↦ absurd none ] ]
+in_push_cases xs y x h =
+    elim (in_append_cases xs (y ∷ []) x h) [ inl l ↦ inl l | inr r ↦ elim r [ inl same ↦ inr same | inr none ↦ absurd none ] ]
 
 pub in_push : {X : Type 0} → (xs : List X) (y : X) → In y (xs ++ y ∷ [])
 in_push xs y = in_append_right xs (y ∷ []) y (inl refl)
@@ -51,7 +53,8 @@ in_push xs y = in_append_right xs (y ∷ []) y (inl refl)
 pub in_filter : {X : Type 0} (p : X → Bool) → (xs : List X) (x : X) → In x xs → p x ≡ true → In x (filter p xs)
 in_filter p [] x h e = absurd h
 in_filter p (y ∷ ys) x (inl same) e = subst (λ b. In x (cond b (y ∷ filter p ys) (filter p ys))) (sym (ap p (sym same) ∙ e)) (inl same)
-in_filter p (y ∷ ys) x (inr h) e = elim (p y) as (λ b. In x (cond b (y ∷ filter p ys) (filter p ys))) [ true ↦ inr (in_filter p ys x h e) | false ↦ in_filter p ys x h e ]
+in_filter p (y ∷ ys) x (inr h) e =
+    elim (p y) as (λ b. In x (cond b (y ∷ filter p ys) (filter p ys))) [ true ↦ inr (in_filter p ys x h e) | false ↦ in_filter p ys x h e ]
 
 pub from_filter : {X : Type 0} (p : X → Bool) → (xs : List X) (x : X) → In x (filter p xs) → In x xs × (p x ≡ true)
 from_filter p [] x h = absurd h
@@ -64,10 +67,13 @@ from_filter p (y ∷ ys) x h =
 -- tests that say the same of each element take the same
 pub filter_same : {X : Type 0} (p q : X → Bool) → (xs : List X) → ((x : X) → In x xs → p x ≡ q x) → filter p xs ≡ filter q xs
 filter_same p q [] h = refl
-filter_same p q (y ∷ ys) h = ap (λ b. cond b (y ∷ filter p ys) (filter p ys)) (h y (inl refl)) ∙ ap (λ zs. cond (q y) (y ∷ zs) zs) (filter_same p q ys (λ x k. h x (inr k)))
+filter_same p q (y ∷ ys) h =
+    ap (λ b. cond b (y ∷ filter p ys) (filter p ys)) (h y (inl refl))
+    ∙ ap (λ zs. cond (q y) (y ∷ zs) zs) (filter_same p q ys (λ x k. h x (inr k)))
 
 -- what a test takes of what a weaker one took
-pub filter_filter : {X : Type 0} (p q : X → Bool) → (xs : List X) → ((x : X) → p x ≡ true → q x ≡ true) → filter p (filter q xs) ≡ filter p xs
+pub filter_filter : {X : Type 0} (p q : X → Bool) → (xs : List X) → ((x : X) → p x ≡ true → q x ≡ true)
+    → filter p (filter q xs) ≡ filter p xs
 filter_filter p q [] h = refl
 filter_filter p q (y ∷ ys) h =
     elim (q y) as (λ b. q y ≡ b → filter p (cond b (y ∷ filter q ys) (filter q ys)) ≡ cond (p y) (y ∷ filter p ys) (filter p ys)) [
@@ -89,7 +95,8 @@ none_any p [] h = refl
 none_any p (y ∷ ys) h = rw (h y (inl refl)) (none_any p ys (λ x k. h x (inr k)))
 
 -- a test that finds only what a filter keeps
-pub any_filter : {X : Type 0} (p q : X → Bool) → (xs : List X) → ((x : X) → p x ≡ true → q x ≡ true) → list_any p (filter q xs) ≡ list_any p xs
+pub any_filter : {X : Type 0} (p q : X → Bool) → (xs : List X) → ((x : X) → p x ≡ true → q x ≡ true)
+    → list_any p (filter q xs) ≡ list_any p xs
 any_filter p q [] h = refl
 any_filter p q (y ∷ ys) h =
     elim (q y) as (λ b. q y ≡ b → list_any p (cond b (y ∷ filter q ys) (filter q ys)) ≡ (p y || list_any p ys)) [
@@ -116,6 +123,7 @@ map_same f g [] h = refl
 map_same f g (x ∷ xs) h = ap (λ y. y ∷ map f xs) (h x (inl refl)) ∙ ap (λ ys. g x ∷ ys) (map_same f g xs (λ y i. h y (inr i)))
 
 -- a list in order, and one more entry that none of the others is behind
-pub ordered_push : (R : Entry → Entry → Type 0) (xs : List Entry) (x : Entry) → IsOrdered R xs → ((y : Entry) → In y xs → R y x) → IsOrdered R (xs ++ x ∷ [])
+pub ordered_push : (R : Entry → Entry → Type 0) (xs : List Entry) (x : Entry) → IsOrdered R xs → ((y : Entry) → In y xs → R y x)
+    → IsOrdered R (xs ++ x ∷ [])
 ordered_push R [] x o h = (tt, tt)
 ordered_push R (y ∷ xs) x o h = (all_push (R y) xs x o.0 (h y (inl refl)), ordered_push R xs x o.1 (λ z i. h z (inr i)))

@@ -17,11 +17,13 @@ OverlapsMeet =
     (x y : Entry) → 0 < length x.message → 0 < length y.message
     → (overlaps x y ≡ true) ↔ ((t : ℕ) × IsWithin x t × IsWithin y t)
 
--- in a list ordered by moment, an entry is garbled exactly where an earlier entry ends behind its moment or the next one begins before its end
+-- in a list ordered by moment, an entry is garbled exactly where an earlier entry ends behind its moment or the next one begins
+-- before its end
 abbrev pub NeighboursTell : Type 0
 NeighboursTell =
     (list : List Entry) (k : ℕ) (x : Entry) → IsByMoment list → AllByRecursion (λ y. 0 < length y.message) list → slice_get list k ≡ Some x
-    → garbled list k ≡ (list_any (λ y. nat_lt x.moment (end_of y)) (take k list) || option_map_or (λ y. nat_lt y.moment (end_of x)) (slice_get list (k + 1)) false)
+    → garbled list k ≡ (list_any (λ y. nat_lt x.moment (end_of y)) (take k list)
+    || option_map_or (λ y. nat_lt y.moment (end_of x)) (slice_get list (k + 1)) false)
 
 -- a list in strict order is ordered by moment
 abbrev pub AscendingIsByMoment : Type 0

@@ -1,5 +1,6 @@
 -- The pulses of a message, wordstring by wordstring.
-use Rattle.std.proofs.Common.{◌≡◌, ℕ, zero, suc, ◌+◌, ◌-◌, ◌*◌, ◌<◌, ◌≤◌, Bool, true, false, ◌&&◌, ◌||◌, ltb, leb, [], ◌∷◌, length, take, get_or, inl, inr, arith, sym, refl, ap, ◌∙◌}
+use Rattle.std.proofs.Common.{◌≡◌, ℕ, zero, suc, ◌+◌, ◌-◌, ◌*◌, ◌<◌, ◌≤◌, Bool, true, false, ◌&&◌, ◌||◌, ltb, leb, [], ◌∷◌, length, take}
+use Rattle.std.proofs.Common.{get_or, inl, inr, arith, sym, refl, ap, ◌∙◌}
 use Rattle.std.specs.List.{sum_by, list_any, range_with_len}
 use Rattle.std.proofs.lemmas.Bool.{cases_lt, lt-ltb, le-ltb, le-leb, lt-leb}
 use Rattle.std.proofs.lemmas.List.{take_all}
@@ -23,35 +24,56 @@ start_later s m k = omega (arith, sum_by-cons word_count s (take k m))
 
 -- both sides of a comparison, less the same number
 leb_less : (a x d : ℕ) → a ≤ d → leb (a + x) d ≡ leb x (d - a)
-leb_less a x d h = elim (cases_lt d (a + x)) [ inl l ↦ lt-leb (a + x) d l ∙ sym (lt-leb x (d - a) (omega arith)) | inr l ↦ le-leb (a + x) d l ∙ sym (le-leb x (d - a) (omega arith)) ]
+leb_less a x d h =
+    elim (cases_lt d (a + x)) [
+      | inl l ↦ lt-leb (a + x) d l ∙ sym (lt-leb x (d - a) (omega arith))
+      | inr l ↦ le-leb (a + x) d l
+          ∙ sym (le-leb x (d - a) (omega arith))
+    ]
 
 ltb_less : (a y d : ℕ) → a ≤ d → ltb d (a + y) ≡ ltb (d - a) y
-ltb_less a y d h = elim (cases_lt d (a + y)) [ inl l ↦ lt-ltb d (a + y) l ∙ sym (lt-ltb (d - a) y (omega arith)) | inr l ↦ le-ltb d (a + y) l ∙ sym (le-ltb (d - a) y (omega arith)) ]
+ltb_less a y d h =
+    elim (cases_lt d (a + y)) [
+      | inl l ↦ lt-ltb d (a + y) l ∙ sym (lt-ltb (d - a) y (omega arith))
+      | inr l ↦ le-ltb d (a + y) l
+          ∙ sym (le-ltb (d - a) y (omega arith))
+    ]
 
-covered_later : (s : Wordstring) (m : Message) (d k : ℕ) → is_covered (s ∷ m) d (suc k) ≡ (leb (first_part s) d && is_covered m (d - first_part s) k)
+covered_later : (s : Wordstring) (m : Message) (d k : ℕ)
+    → is_covered (s ∷ m) d (suc k) ≡ (leb (first_part s) d && is_covered m (d - first_part s) k)
 covered_later s m d k =
     let a : ℕ = pulse_start m k in
     let l : ℕ = pulse_length m k in
     let later : pulse_start (s ∷ m) (suc k) ≡ first_part s + a = start_later s m k in
     let begin : leb (pulse_start (s ∷ m) (suc k)) d ≡ leb (first_part s + a) d = ap (λ n. leb n d) later in
-    let end : ltb d (pulse_start (s ∷ m) (suc k) + l) ≡ ltb d (first_part s + (a + l)) = ap (λ n. ltb d n) (let e : pulse_start (s ∷ m) (suc k) + l ≡ first_part s + (a + l) = omega arith in e) in
-    ap (λ b. b && ltb d (pulse_start (s ∷ m) (suc k) + l)) begin ∙ ap (λ b. leb (first_part s + a) d && b) end ∙ elim (cases_lt d (first_part s)) [
+    let end : ltb d (pulse_start (s ∷ m) (suc k) + l) ≡ ltb d (first_part s + (a + l)) = ap (λ n. ltb d n)
+    (let e : pulse_start (s ∷ m) (suc k) + l ≡ first_part s + (a + l) = omega arith in e) in
+    ap (λ b. b && ltb d (pulse_start (s ∷ m) (suc k) + l)) begin ∙ ap (λ b. leb (first_part s + a) d && b) end
+    ∙ elim (cases_lt d (first_part s)) [
       | inl before ↦ rw (lt-leb (first_part s) d before, lt-leb (first_part s + a) d (let e : d < first_part s + a = omega arith in e)) refl
       | inr behind ↦ rw (le-leb (first_part s) d behind, leb_less (first_part s) a d behind, ltb_less (first_part s) (a + l) d behind) refl
     ]
 
 -- so are they all
-any_later : (s : Wordstring) (m : Message) (d a n : ℕ) → list_any (is_covered (s ∷ m) d) (range_with_len (suc a) n) ≡ (leb (first_part s) d && list_any (is_covered m (d - first_part s)) (range_with_len a n))
+any_later : (s : Wordstring) (m : Message) (d a n : ℕ)
+    → list_any (is_covered (s ∷ m) d) (range_with_len (suc a) n) ≡
+    (leb (first_part s) d && list_any (is_covered m (d - first_part s)) (range_with_len a n))
 any_later s m d a zero = elim (leb (first_part s) d) as (λ b. false ≡ (b && false)) [ true ↦ refl | false ↦ refl ]
 any_later s m d a (suc n) =
     ap (λ b. b || list_any (is_covered (s ∷ m) d) (range_with_len (suc a + 1) n)) (covered_later s m d a)
-    ∙ ap (λ b. (leb (first_part s) d && is_covered m (d - first_part s) a) || b) (ap (λ i. list_any (is_covered (s ∷ m) d) (range_with_len i n)) (let e : suc a + 1 ≡ suc (a + 1) = omega arith in e) ∙ any_later s m d (a + 1) n)
-    ∙ elim (leb (first_part s) d) as (λ b. ((b && is_covered m (d - first_part s) a) || (b && list_any (is_covered m (d - first_part s)) (range_with_len (a + 1) n))) ≡ (b && (is_covered m (d - first_part s) a || list_any (is_covered m (d - first_part s)) (range_with_len (a + 1) n)))) [ true ↦ refl | false ↦ refl ]
+    ∙ ap (λ b. (leb (first_part s) d && is_covered m (d - first_part s) a) || b)
+    (ap (λ i. list_any (is_covered (s ∷ m) d) (range_with_len i n)) (let e : suc a + 1 ≡ suc (a + 1) = omega arith in e)
+    ∙ any_later s m d (a + 1) n)
+    ∙ elim (leb (first_part s) d) as (λ b. ((b && is_covered m (d - first_part s) a) ||
+    (b && list_any (is_covered m (d - first_part s)) (range_with_len (a + 1) n))) ≡ (b &&
+    (is_covered m (d - first_part s) a || list_any (is_covered m (d - first_part s))
+    (range_with_len (a + 1) n)))) [ true ↦ refl | false ↦ refl ]
 
 pub on_is : (m : Message) (d : ℕ) → is_on m d ≡ on_along m d
 on_is [] d = refl
 on_is (s ∷ m) d =
-    let first : is_covered (s ∷ m) d 0 ≡ ltb d (20 * word_count s) = ap (λ b. b && ltb d (0 + 20 * word_count s)) (le-leb 0 d (omega arith)) ∙ ap (λ n. ltb d n) (let e : 0 + 20 * word_count s ≡ 20 * word_count s = omega arith in e) in
+    let first : is_covered (s ∷ m) d 0 ≡ ltb d (20 * word_count s) = ap (λ b. b && ltb d (0 + 20 * word_count s)) (le-leb 0 d (omega arith))
+    ∙ ap (λ n. ltb d n) (let e : 0 + 20 * word_count s ≡ 20 * word_count s = omega arith in e) in
     ap (λ b. b || list_any (is_covered (s ∷ m) d) (range_with_len 1 (length m))) first
     ∙ ap (λ b. ltb d (20 * word_count s) || b) (any_later s m d 0 (length m))
     ∙ ap (λ b. ltb d (20 * word_count s) || (leb (first_part s) d && b)) (on_is m (d - first_part s))
@@ -92,7 +114,8 @@ along_last s (t ∷ m) =
     let at : bits (s ∷ (t ∷ m)) - 1 - first_part s ≡ bits (t ∷ m) - 1 = omega arith in
     on_behind s (t ∷ m) (bits (s ∷ (t ∷ m)) - 1) (omega arith) ∙ ap (on_along (t ∷ m)) at ∙ along_last t m
 
-along_within : (m : Message) (k d : ℕ) → k < length m → d < pulse_length m k + 4 → on_along m (pulse_start m k + d) ≡ ltb d (pulse_length m k)
+along_within : (m : Message) (k d : ℕ) → k < length m → d < pulse_length m k + 4
+    → on_along m (pulse_start m k + d) ≡ ltb d (pulse_length m k)
 along_within [] k d h w = absurd (omega arith)
 along_within (s ∷ m) zero d h w =
     ap (on_along (s ∷ m)) (let e : pulse_start (s ∷ m) 0 + d ≡ d = omega arith in e) ∙ elim (cases_lt d (20 * word_count s)) [
@@ -113,12 +136,23 @@ along_soon (s ∷ (t ∷ m)) k b =
     elim (cases_lt k (20 * word_count s)) [
       | inl first ↦ (k, omega arith, omega arith, on_first s (t ∷ m) k first)
       | inr behind ↦ elim (cases_lt k (first_part s)) [
-        | inl quiet ↦ (first_part s, omega arith, omega arith, on_behind s (t ∷ m) (first_part s) (omega arith) ∙ ap (on_along (t ∷ m)) (let e : first_part s - first_part s ≡ 0 = omega arith in e) ∙ on_first t m 0 (omega arith))
+        | inl quiet ↦ (
+          first_part s,
+          omega arith,
+          omega arith,
+          on_behind s (t ∷ m) (first_part s) (omega arith)
+              ∙ ap (on_along (t ∷ m)) (let e : first_part s - first_part s ≡ 0 = omega arith in e) ∙ on_first t m 0 (omega arith),
+        )
         | inr later ↦
             let p = along_soon (t ∷ m) (k - first_part s) (omega arith) in
             let low : k - first_part s ≤ p.0 = p.1 in
-            let high : p.0 ≤ k - first_part s + 4 = p.2 in
-            (p.0 + first_part s, omega arith, omega arith, on_behind s (t ∷ m) (p.0 + first_part s) (omega arith) ∙ ap (on_along (t ∷ m)) (let e : p.0 + first_part s - first_part s ≡ p.0 = omega arith in e) ∙ p.3)
+            let high : p.0 ≤ k - first_part s + 4 = p.2 in (
+              p.0 + first_part s,
+              omega arith,
+              omega arith,
+              on_behind s (t ∷ m) (p.0 + first_part s) (omega arith)
+                  ∙ ap (on_along (t ∷ m)) (let e : p.0 + first_part s - first_part s ≡ p.0 = omega arith in e) ∙ p.3,
+            )
       ]
     ]
 
@@ -175,7 +209,8 @@ pub record IsSearched (m : Message) (k begin d : ℕ) : Type 0 where
 pub none_searched : (m : Message) (d : ℕ) → IsSearched m 0 0 d
 none_searched m d = record { begun = refl; none = λ h. absurd (omega arith) }
 
-pub one_searched : (m : Message) (k begin d : ℕ) (s : Wordstring) (begin' : ℕ) → k < length m → s ≡ get_or m k s → IsSearched m k begin d → begin ≤ d → 20 * word_count s ≤ d - begin → begin' ≡ begin + (20 * word_count s + 4) → IsSearched m (k + 1) begin' d
+pub one_searched : (m : Message) (k begin d : ℕ) (s : Wordstring) (begin' : ℕ) → k < length m → s ≡ get_or m k s → IsSearched m k begin d
+    → begin ≤ d → 20 * word_count s ≤ d - begin → begin' ≡ begin + (20 * word_count s + 4) → IsSearched m (k + 1) begin' d
 one_searched m k begin d s begin' h same i low behind e =
     let begun : begin ≡ pulse_start m k = i.begun in
     let next : pulse_start m (k + 1) ≡ pulse_start m k + pulse_length m k + 4 = next_pulse m k h in
@@ -187,7 +222,8 @@ one_searched m k begin d s begin' h same i low behind e =
           ap (is_on m) (sym at) ∙ on_within_pulse m k (d - begin) h (omega arith) ∙ le-ltb (d - begin) (pulse_length m k) (omega arith);
     }
 
-pub found : (m : Message) (k begin d : ℕ) (s : Wordstring) → k < length m → s ≡ get_or m k s → IsSearched m k begin d → begin ≤ d → d - begin < 20 * word_count s → is_on m d ≡ true
+pub found : (m : Message) (k begin d : ℕ) (s : Wordstring) → k < length m → s ≡ get_or m k s → IsSearched m k begin d → begin ≤ d
+    → d - begin < 20 * word_count s → is_on m d ≡ true
 found m k begin d s h same i low inside =
     let begun : begin ≡ pulse_start m k = i.begun in
     let long : pulse_length m k ≡ 20 * word_count s = length_at m k s h ∙ ap (λ w. 20 * word_count w) (sym same) in
@@ -198,5 +234,6 @@ pub all_searched : (m : Message) (k begin d : ℕ) → length m ≤ k → IsSear
 all_searched m k begin d h i =
     elim (cases_lt d begin) [
       | inl before ↦ i.none before
-      | inr behind ↦ let begun : begin ≡ pulse_start m k = i.begun in quiet_behind m d (omega (arith, ap (sum_by word_count) (take_all k m h)))
+      | inr behind ↦ let begun : begin ≡ pulse_start m k =
+          i.begun in quiet_behind m d (omega (arith, ap (sum_by word_count) (take_all k m h)))
     ]

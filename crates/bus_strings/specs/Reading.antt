@@ -1,6 +1,7 @@
 -- What a messages text reads as: its items, or the place and the reason of its refusal.
 --   A refusal of a line is the first of the line's rows whose test holds; that of a text is of its first refused line.
-use Rattle.std.specs.Prelude.{◌≡◌, ℕ, ◌-◌, ◌^◌, min, Bool, true, not, ◌&&◌, ◌||◌, ◌==◌, List, [], ◌∷◌, length, map, drop, codes, Option, Result, Err, slice_index_or}
+use Rattle.std.specs.Prelude.{◌≡◌, ℕ, ◌-◌, ◌^◌, min, Bool, true, not, ◌&&◌, ◌||◌, ◌==◌, List, [], ◌∷◌, length, map, drop, codes, Option}
+use Rattle.std.specs.Prelude.{Result, Err, slice_index_or}
 use Rattle.std.specs.List.{slice_split, list_all}
 use Rattle.std.specs.Str.{bytes_eq}
 use Rattle.bus_text.specs.Lines.{Entry, entries_of, line_after_of}
@@ -16,6 +17,7 @@ use Rattle.bus_strings.specs.Items.{Item, is_in_range}
 abbrev pub number_of : List (List ℕ) → List ℕ
 number_of fields = slice_index_or fields 1 []
 
+-- whether a field is a colon
 abbrev pub is_colon : List ℕ → Bool
 is_colon field = bytes_eq field (codes ":")
 
@@ -62,9 +64,11 @@ header_reading fields = unless (header_refusal fields) tt
 unfoldable pub item_reading : List (List ℕ) → Result Item Reason
 item_reading fields = unless (item_refusal fields) (item_of fields)
 
+-- what the first line reads as, with its number at a reason against it
 abbrev pub header_line : Entry → Result (Unit {0}) Refusal
 header_line entry = at_line entry.number (header_reading entry.fields)
 
+-- what a further line reads as, with its number at a reason against it
 abbrev pub item_line : Entry → Result Item Refusal
 item_line entry = at_line entry.number (item_reading entry.fields)
 
@@ -73,5 +77,6 @@ unfoldable pub lines_reading : List Entry → ℕ → Result (List Item) Refusal
 lines_reading [] after = Err (record { line = after; reason = Ended })
 lines_reading (first ∷ others) after = header_line first >>= λ _. all_of item_line others
 
+-- what a text reads as
 abbrev pub messages_reading : List ℕ → Result (List Item) Refusal
 messages_reading text = lines_reading (entries_of text) (line_after_of text)

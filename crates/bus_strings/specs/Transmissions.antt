@@ -1,5 +1,6 @@
 -- Lists of transmissions: their order, the carrier that they make, and which of them are garbled.
-use Rattle.std.specs.Prelude.{◌≡◌, ℕ, ◌+◌, ◌-◌, ◌<◌, ◌≤◌, ◌⊎◌, Bool, false, ◌&&◌, nat_lt, nat_le, List, [], ◌∷◌, length, map, slice_get, remove, ⊤}
+use Rattle.std.specs.Prelude.{◌≡◌, ℕ, ◌+◌, ◌-◌, ◌<◌, ◌≤◌, ◌⊎◌, Bool, false, ◌&&◌, nat_lt, nat_le, List, [], ◌∷◌, length, map, slice_get}
+use Rattle.std.specs.Prelude.{remove, ⊤}
 use Rattle.std.specs.List.{list_any, range_with_len, AllByRecursion}
 use Rattle.std.specs.Option.{option_map_or}
 use Rattle.bus_strings.specs.Limits.{most_terminal}

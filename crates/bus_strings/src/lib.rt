@@ -12,7 +12,7 @@
 #![tactic(auto)]
 
 pub mod fault;
-pub mod item;
+mod item;
 pub mod laws;
 pub mod limits;
 pub mod message;
@@ -25,3 +25,13 @@ mod tests;
 pub mod transmission;
 pub mod wordstring;
 pub mod writing;
+
+pub use fault::MessagesError;
+pub use message::{Message, copy_message};
+pub use overlap::{Marks, garbled, is_by_moment, overlaps};
+pub use payload::{Payload, Payloads};
+pub use pulses::{bits, is_on, pulse, pulse_count};
+pub use reading::read_messages;
+pub use transmission::Transmission;
+pub use wordstring::Wordstring;
+pub use writing::write_messages;

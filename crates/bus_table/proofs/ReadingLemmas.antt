@@ -14,9 +14,9 @@ use Rattle.bus_strings.specs.ListLaws.{all_push}
 use Rattle.bus_table.specs.declared.mode.Mode.{Mode}
 use Rattle.bus_table.specs.declared.keyword.Keyword.{Keyword}
 use Rattle.bus_table.specs.declared.keyword.Keyword.TheVariants as keywords
-use Rattle.bus_table.specs.declared.place.Place.{Place}
-use Rattle.bus_table.specs.declared.place.Place.TheVariants as places
-use Rattle.bus_table.specs.Drafts.{Draft, of_last, last_sends, may_come, opened, hearing, with_send, with_take, with_heard, with_last, form_reading, keyword_reading, line_reading}
+use Rattle.bus_table.specs.declared.stage.Stage.{Stage}
+use Rattle.bus_table.specs.declared.stage.Stage.TheVariants as stages
+use Rattle.bus_table.specs.Drafts.{Draft, draft_of, of_last, last_sends, may_come, opened, hearing, with_send, with_take, with_heard, with_last, form_reading, keyword_reading, line_reading}
 use Rattle.bus_table.specs.Forms.{word_of, keyword_of, table_reading, mode_reading, number_reading, head_reading, send_reading, take_reading}
 use Rattle.bus_table.specs.Heads.{Head, is_head}
 use Rattle.bus_table.specs.Ranges.{is_number, is_tg, is_ti, is_sg, is_offset, is_send_line, is_take_line, are_send_lines, are_take_lines, is_sender, is_listener}
@@ -26,22 +26,22 @@ use Rattle.bus_table.proofs.LineLemmas.{keyword_found, bind_ok, table_found, mod
 
 -- ---- what the lines so far say
 -- the lines at the head
-abbrev pub head_lines : Place → Mode → ℕ → ℕ → List Line
-head_lines places.Start mode ti sg = []
-head_lines places.Table mode ti sg = TableLine ∷ []
-head_lines places.Mode mode ti sg = TableLine ∷ ModeLine mode ∷ []
-head_lines places.Ti mode ti sg = TableLine ∷ ModeLine mode ∷ TiLine ti ∷ []
-head_lines place mode ti sg = TableLine ∷ ModeLine mode ∷ TiLine ti ∷ SgLine sg ∷ []
+abbrev pub head_lines : Stage → Mode → ℕ → ℕ → List Line
+head_lines stages.Start mode ti sg = []
+head_lines stages.Table mode ti sg = TableLine ∷ []
+head_lines stages.Mode mode ti sg = TableLine ∷ ModeLine mode ∷ []
+head_lines stages.Ti mode ti sg = TableLine ∷ ModeLine mode ∷ TiLine ti ∷ []
+head_lines stage mode ti sg = TableLine ∷ ModeLine mode ∷ TiLine ti ∷ SgLine sg ∷ []
 
 -- the SENDER line of a sender that has no SEND line yet
-abbrev pub open_lines : Place → List Line
-open_lines (places.Sender head) = SenderLine head.number head.tg head.at ∷ []
-open_lines place = []
+abbrev pub open_lines : Stage → List Line
+open_lines (stages.Sender head) = SenderLine head.number head.tg head.at ∷ []
+open_lines stage = []
 
 abbrev pub draft_lines : Draft → List Line
 draft_lines draft =
-    head_lines draft.place draft.mode draft.ti draft.sg
-    ++ (flat_map sender_lines draft.senders ++ (open_lines draft.place ++ flat_map listener_lines draft.listeners))
+    head_lines draft.stage draft.mode draft.ti draft.sg
+    ++ (flat_map sender_lines draft.senders ++ (open_lines draft.stage ++ flat_map listener_lines draft.listeners))
 
 -- ---- what is kept
 -- a sender that a text gives
@@ -58,24 +58,24 @@ HasLast P (first ∷ next ∷ others) = HasLast P (next ∷ others)
 abbrev pub Any : {X : Type 0} → X → Type 0
 Any x = Unit {0}
 
--- what a place says of the numbers, the senders and the listeners before it
-abbrev pub Stands : Place → Mode → ℕ → ℕ → List Sender → List Listener → Type 0
-Stands places.Start mode ti sg senders listeners = (senders ≡ []) × (listeners ≡ [])
-Stands places.Table mode ti sg senders listeners = (senders ≡ []) × (listeners ≡ [])
-Stands places.Mode mode ti sg senders listeners = (senders ≡ []) × (listeners ≡ [])
-Stands places.Ti mode ti sg senders listeners = (senders ≡ []) × (listeners ≡ []) × (is_ti ti ≡ true)
-Stands places.Sg mode ti sg senders listeners = (is_ti ti ≡ true) × (is_sg sg ≡ true) × (listeners ≡ [])
-Stands (places.Sender head) mode ti sg senders listeners =
+-- what a stage says of the numbers, the senders and the listeners before it
+abbrev pub Stands : Stage → Mode → ℕ → ℕ → List Sender → List Listener → Type 0
+Stands stages.Start mode ti sg senders listeners = (senders ≡ []) × (listeners ≡ [])
+Stands stages.Table mode ti sg senders listeners = (senders ≡ []) × (listeners ≡ [])
+Stands stages.Mode mode ti sg senders listeners = (senders ≡ []) × (listeners ≡ [])
+Stands stages.Ti mode ti sg senders listeners = (senders ≡ []) × (listeners ≡ []) × (is_ti ti ≡ true)
+Stands stages.Sg mode ti sg senders listeners = (is_ti ti ≡ true) × (is_sg sg ≡ true) × (listeners ≡ [])
+Stands (stages.Sender head) mode ti sg senders listeners =
     (is_ti ti ≡ true) × (is_sg sg ≡ true) × (listeners ≡ []) × (is_head head ≡ true) × (fits_offset mode head.at ≡ true)
-Stands places.Send mode ti sg senders listeners =
+Stands stages.Send mode ti sg senders listeners =
     (is_ti ti ≡ true) × (is_sg sg ≡ true) × (listeners ≡ []) × HasLast (λ (s : Sender). s.takes ≡ []) senders
-Stands places.Take mode ti sg senders listeners = (is_ti ti ≡ true) × (is_sg sg ≡ true) × (listeners ≡ []) × HasLast Any senders
-Stands places.Listener mode ti sg senders listeners = (is_ti ti ≡ true) × (is_sg sg ≡ true) × HasLast Any listeners
+Stands stages.Take mode ti sg senders listeners = (is_ti ti ≡ true) × (is_sg sg ≡ true) × (listeners ≡ []) × HasLast Any senders
+Stands stages.Listener mode ti sg senders listeners = (is_ti ti ≡ true) × (is_sg sg ≡ true) × HasLast Any listeners
 
 pub record Kept (draft : Draft) : Type 0 where
   pub made : AllByRecursion (Made draft.mode) draft.senders
   pub heard : AllByRecursion (λ l. is_listener l ≡ true) draft.listeners
-  pub stands : Stands draft.place draft.mode draft.ti draft.sg draft.senders draft.listeners
+  pub stands : Stands draft.stage draft.mode draft.ti draft.sg draft.senders draft.listeners
 
 -- a line was read: it says something more, and what is kept is kept
 pub record Adds (old new : Draft) (fields : List (List ℕ)) : Type 0 where
@@ -222,11 +222,7 @@ heard_lines_more : (line : TakeLine) (listener : Listener) → listener_lines (w
 heard_lines_more line listener = ap (λ ls. ListenerLine listener.number ∷ ls) (map_push Takes listener.takes line)
 
 -- ---- one line
--- a draft of these parts
-abbrev pub draft_of : Place → Mode → ℕ → ℕ → List Sender → List Listener → Draft
-draft_of place mode ti sg senders listeners = record { place = place; mode = mode; ti = ti; sg = sg; senders = senders; listeners = listeners }
-
--- what reading the line at this place makes of the draft is added
+-- what reading the line at this stage makes of the draft is added
 abbrev AddsAt : Draft → Keyword → List (List ℕ) → Type 0
 AddsAt old keyword fields = (new : Draft) → Kept old → is_at fields 0 (word_of keyword) ≡ true → form_reading old keyword fields ≡ Ok new → Adds old new fields
 
@@ -244,10 +240,10 @@ none_more f g line senders listeners s l h =
     ap (λ (ss : List Sender). flat_map sender_lines ss ++ flat_map listener_lines listeners) s ∙ ap (λ (ls : List Listener). flat_map listener_lines ls) l in
     ap f none ∙ h ∙ sym (ap (λ ls. g ls ++ line ∷ []) none)
 
-table_adds : (mode : Mode) (ti sg : ℕ) (senders : List Sender) (listeners : List Listener) (fields : List (List ℕ)) → AddsAt (draft_of places.Start mode ti sg senders listeners) keywords.Table fields
+table_adds : (mode : Mode) (ti sg : ℕ) (senders : List Sender) (listeners : List Listener) (fields : List (List ℕ)) → AddsAt (draft_of stages.Start mode ti sg senders listeners) keywords.Table fields
 table_adds mode ti sg senders listeners fields new kept word h =
-    let r = bind_ok (table_reading fields) (λ _. Ok (draft_of places.Table mode ti sg senders listeners)) new h in
-    to_new _ (draft_of places.Table mode ti sg senders listeners) new fields r.2 (record {
+    let r = bind_ok (table_reading fields) (λ _. Ok (draft_of stages.Table mode ti sg senders listeners)) new h in
+    to_new _ (draft_of stages.Table mode ti sg senders listeners) new fields r.2 (record {
       line = TableLine;
       says = table_found fields r.0 word r.1;
       lines = none_more (λ ls. TableLine ∷ ls) (λ ls. ls) TableLine senders listeners kept.stands.0 kept.stands.1 refl;
@@ -257,7 +253,7 @@ table_adds mode ti sg senders listeners fields new kept word h =
 
 -- the line before the mode is the same in each
 head_carries : (old mode : Mode) (ti sg : ℕ) (senders : List Sender) (listeners : List Listener) → senders ≡ [] → listeners ≡ []
-    → (entries : List Entry) → AreLines old (draft_lines (draft_of places.Table old ti sg senders listeners)) entries → AreLines mode (draft_lines (draft_of places.Table old ti sg senders listeners)) entries
+    → (entries : List Entry) → AreLines old (draft_lines (draft_of stages.Table old ti sg senders listeners)) entries → AreLines mode (draft_lines (draft_of stages.Table old ti sg senders listeners)) entries
 head_carries old mode ti sg senders listeners s l entries are =
     let none : flat_map sender_lines senders ++ flat_map listener_lines listeners ≡ [] =
     ap (λ (ss : List Sender). flat_map sender_lines ss ++ flat_map listener_lines listeners) s ∙ ap (λ (ls : List Listener). flat_map listener_lines ls) l in
@@ -271,10 +267,10 @@ head_carries old mode ti sg senders listeners s l entries are =
 no_senders : (mode : Mode) (senders : List Sender) → senders ≡ [] → AllByRecursion (Made mode) senders
 no_senders mode senders h = subst (λ (ss : List Sender). AllByRecursion (Made mode) ss) (sym h) tt
 
-mode_adds : (old : Mode) (ti sg : ℕ) (senders : List Sender) (listeners : List Listener) (fields : List (List ℕ)) → AddsAt (draft_of places.Table old ti sg senders listeners) keywords.Mode fields
+mode_adds : (old : Mode) (ti sg : ℕ) (senders : List Sender) (listeners : List Listener) (fields : List (List ℕ)) → AddsAt (draft_of stages.Table old ti sg senders listeners) keywords.Mode fields
 mode_adds old ti sg senders listeners fields new kept word h =
-    let r = bind_ok (mode_reading fields) (λ mode. Ok (draft_of places.Mode mode ti sg senders listeners)) new h in
-    to_new _ (draft_of places.Mode r.0 ti sg senders listeners) new fields r.2 (record {
+    let r = bind_ok (mode_reading fields) (λ mode. Ok (draft_of stages.Mode mode ti sg senders listeners)) new h in
+    to_new _ (draft_of stages.Mode r.0 ti sg senders listeners) new fields r.2 (record {
       line = ModeLine r.0;
       says = mode_found fields r.0 word r.1;
       lines = none_more (λ ls. TableLine ∷ ModeLine r.0 ∷ ls) (λ ls. TableLine ∷ ls) (ModeLine r.0) senders listeners kept.stands.0 kept.stands.1 refl;
@@ -282,11 +278,11 @@ mode_adds old ti sg senders listeners fields new kept word h =
       kept = record { made = no_senders r.0 senders kept.stands.0; heard = kept.heard; stands = kept.stands };
     })
 
-ti_adds : (mode : Mode) (ti sg : ℕ) (senders : List Sender) (listeners : List Listener) (fields : List (List ℕ)) → AddsAt (draft_of places.Mode mode ti sg senders listeners) keywords.Ti fields
+ti_adds : (mode : Mode) (ti sg : ℕ) (senders : List Sender) (listeners : List Listener) (fields : List (List ℕ)) → AddsAt (draft_of stages.Mode mode ti sg senders listeners) keywords.Ti fields
 ti_adds mode ti sg senders listeners fields new kept word h =
-    let r = bind_ok (number_reading is_ti fields) (λ n. Ok (draft_of places.Ti mode n sg senders listeners)) new h in
+    let r = bind_ok (number_reading is_ti fields) (λ n. Ok (draft_of stages.Ti mode n sg senders listeners)) new h in
     let found = number_line_found is_ti fields (codes "TI") r.0 word r.1 in
-    to_new _ (draft_of places.Ti mode r.0 sg senders listeners) new fields r.2 (record {
+    to_new _ (draft_of stages.Ti mode r.0 sg senders listeners) new fields r.2 (record {
       line = TiLine r.0;
       says = found.0;
       lines = none_more (λ ls. TableLine ∷ ModeLine mode ∷ TiLine r.0 ∷ ls) (λ ls. TableLine ∷ ModeLine mode ∷ ls) (TiLine r.0) senders listeners kept.stands.0 kept.stands.1 refl;
@@ -294,11 +290,11 @@ ti_adds mode ti sg senders listeners fields new kept word h =
       kept = record { made = kept.made; heard = kept.heard; stands = (kept.stands.0, kept.stands.1, found.1) };
     })
 
-sg_adds : (mode : Mode) (ti sg : ℕ) (senders : List Sender) (listeners : List Listener) (fields : List (List ℕ)) → AddsAt (draft_of places.Ti mode ti sg senders listeners) keywords.Sg fields
+sg_adds : (mode : Mode) (ti sg : ℕ) (senders : List Sender) (listeners : List Listener) (fields : List (List ℕ)) → AddsAt (draft_of stages.Ti mode ti sg senders listeners) keywords.Sg fields
 sg_adds mode ti sg senders listeners fields new kept word h =
-    let r = bind_ok (number_reading is_sg fields) (λ n. Ok (draft_of places.Sg mode ti n senders listeners)) new h in
+    let r = bind_ok (number_reading is_sg fields) (λ n. Ok (draft_of stages.Sg mode ti n senders listeners)) new h in
     let found = number_line_found is_sg fields (codes "SG") r.0 word r.1 in
-    to_new _ (draft_of places.Sg mode ti r.0 senders listeners) new fields r.2 (record {
+    to_new _ (draft_of stages.Sg mode ti r.0 senders listeners) new fields r.2 (record {
       line = SgLine r.0;
       says = found.0;
       lines = none_more (λ ls. TableLine ∷ ModeLine mode ∷ TiLine ti ∷ SgLine r.0 ∷ ls) (λ ls. TableLine ∷ ModeLine mode ∷ TiLine ti ∷ ls) (SgLine r.0) senders listeners kept.stands.0 kept.stands.1 refl;
@@ -327,14 +323,14 @@ sent_after before after listeners line none h =
     ∙ sym (ap (λ (ls : List Listener). (before ++ flat_map listener_lines ls) ++ line ∷ []) none)
 
 -- a SENDER line behind the SG line, or behind a line of a sender
-sender_adds_to : (place : Place) (mode : Mode) (ti sg : ℕ) (senders : List Sender) (listeners : List Listener) (fields : List (List ℕ)) (new : Draft)
-    → Kept (draft_of place mode ti sg senders listeners) → is_ti ti ≡ true → is_sg sg ≡ true → listeners ≡ []
-    → draft_lines (draft_of place mode ti sg senders listeners) ≡ behind_head mode ti sg (flat_map sender_lines senders ++ flat_map listener_lines listeners)
-    → is_at fields 0 (codes "SENDER") ≡ true → form_reading (draft_of place mode ti sg senders listeners) keywords.Sender fields ≡ Ok new → Adds (draft_of place mode ti sg senders listeners) new fields
-sender_adds_to place mode ti sg senders listeners fields new kept in_ti in_sg none lines word h =
-    let r = bind_ok (head_reading mode fields) (λ head. Ok (draft_of (places.Sender head) mode ti sg senders listeners)) new h in
+sender_adds_to : (stage : Stage) (mode : Mode) (ti sg : ℕ) (senders : List Sender) (listeners : List Listener) (fields : List (List ℕ)) (new : Draft)
+    → Kept (draft_of stage mode ti sg senders listeners) → is_ti ti ≡ true → is_sg sg ≡ true → listeners ≡ []
+    → draft_lines (draft_of stage mode ti sg senders listeners) ≡ behind_head mode ti sg (flat_map sender_lines senders ++ flat_map listener_lines listeners)
+    → is_at fields 0 (codes "SENDER") ≡ true → form_reading (draft_of stage mode ti sg senders listeners) keywords.Sender fields ≡ Ok new → Adds (draft_of stage mode ti sg senders listeners) new fields
+sender_adds_to stage mode ti sg senders listeners fields new kept in_ti in_sg none lines word h =
+    let r = bind_ok (head_reading mode fields) (λ head. Ok (draft_of (stages.Sender head) mode ti sg senders listeners)) new h in
     let found = head_line_found mode fields r.0 word r.1 in
-    to_new _ (draft_of (places.Sender r.0) mode ti sg senders listeners) new fields r.2 (record {
+    to_new _ (draft_of (stages.Sender r.0) mode ti sg senders listeners) new fields r.2 (record {
       line = SenderLine r.0.number r.0.tg r.0.at;
       says = found.0;
       lines = ap (behind_head mode ti sg) (open_after senders listeners (SenderLine r.0.number r.0.tg r.0.at) none) ∙ ap (λ ls. ls ++ SenderLine r.0.number r.0.tg r.0.at ∷ []) (sym lines);
@@ -342,12 +338,12 @@ sender_adds_to place mode ti sg senders listeners fields new kept in_ti in_sg no
       kept = record { made = kept.made; heard = kept.heard; stands = (in_ti, in_sg, none, found.1, found.2) };
     })
 
-first_send_adds : (head : Head) (mode : Mode) (ti sg : ℕ) (senders : List Sender) (listeners : List Listener) (fields : List (List ℕ)) → AddsAt (draft_of (places.Sender head) mode ti sg senders listeners) keywords.Send fields
+first_send_adds : (head : Head) (mode : Mode) (ti sg : ℕ) (senders : List Sender) (listeners : List Listener) (fields : List (List ℕ)) → AddsAt (draft_of (stages.Sender head) mode ti sg senders listeners) keywords.Send fields
 first_send_adds head mode ti sg senders listeners fields new kept word h =
-    let r = bind_ok (send_reading fields) (λ line. Ok (draft_of places.Send mode ti sg (senders ++ opened head line ∷ []) listeners)) new h in
+    let r = bind_ok (send_reading fields) (λ line. Ok (draft_of stages.Send mode ti sg (senders ++ opened head line ∷ []) listeners)) new h in
     let found = send_line_found fields r.0 word r.1 in
     let none = kept.stands.2 in
-    to_new _ (draft_of places.Send mode ti sg (senders ++ opened head r.0 ∷ []) listeners) new fields r.2 (record {
+    to_new _ (draft_of stages.Send mode ti sg (senders ++ opened head r.0 ∷ []) listeners) new fields r.2 (record {
       line = Sends r.0;
       says = found.0;
       lines = ap (behind_head mode ti sg)
@@ -363,11 +359,11 @@ first_send_adds head mode ti sg senders listeners fields new kept word h =
       };
     })
 
-next_send_adds : (mode : Mode) (ti sg : ℕ) (senders : List Sender) (listeners : List Listener) (fields : List (List ℕ)) → last_sends senders < 31 → AddsAt (draft_of places.Send mode ti sg senders listeners) keywords.Send fields
+next_send_adds : (mode : Mode) (ti sg : ℕ) (senders : List Sender) (listeners : List Listener) (fields : List (List ℕ)) → last_sends senders < 31 → AddsAt (draft_of stages.Send mode ti sg senders listeners) keywords.Send fields
 next_send_adds mode ti sg senders listeners fields room new kept word h =
-    let r = bind_ok (send_reading fields) (λ line. Ok (draft_of places.Send mode ti sg (with_last (with_send line) senders) listeners)) new h in
+    let r = bind_ok (send_reading fields) (λ line. Ok (draft_of stages.Send mode ti sg (with_last (with_send line) senders) listeners)) new h in
     let found = send_line_found fields r.0 word r.1 in
-    to_new _ (draft_of places.Send mode ti sg (with_last (with_send r.0) senders) listeners) new fields r.2 (record {
+    to_new _ (draft_of stages.Send mode ti sg (with_last (with_send r.0) senders) listeners) new fields r.2 (record {
       line = Sends r.0;
       says = found.0;
       lines = ap (behind_head mode ti sg) (sent_after (flat_map sender_lines senders) _ listeners (Sends r.0) kept.stands.2
@@ -381,14 +377,14 @@ next_send_adds mode ti sg senders listeners fields room new kept word h =
     })
 
 -- a TAKE line of a sender
-take_adds_to : (place : Place) (mode : Mode) (ti sg : ℕ) (senders : List Sender) (listeners : List Listener) (fields : List (List ℕ)) (new : Draft)
-    → Kept (draft_of place mode ti sg senders listeners) → is_ti ti ≡ true → is_sg sg ≡ true → listeners ≡ [] → HasLast Any senders → of_last (λ (s : Sender). length s.takes) senders < 64
-    → draft_lines (draft_of place mode ti sg senders listeners) ≡ behind_head mode ti sg (flat_map sender_lines senders ++ flat_map listener_lines listeners)
-    → is_at fields 0 (codes "TAKE") ≡ true → (line : TakeLine) → take_reading fields ≡ Ok line → read_as (draft_of places.Take mode ti sg (with_last (with_take line) senders) listeners) ≡ Ok new
-    → Adds (draft_of place mode ti sg senders listeners) new fields
-take_adds_to place mode ti sg senders listeners fields new kept in_ti in_sg none last room lines word line read made =
+take_adds_to : (stage : Stage) (mode : Mode) (ti sg : ℕ) (senders : List Sender) (listeners : List Listener) (fields : List (List ℕ)) (new : Draft)
+    → Kept (draft_of stage mode ti sg senders listeners) → is_ti ti ≡ true → is_sg sg ≡ true → listeners ≡ [] → HasLast Any senders → of_last (λ (s : Sender). length s.takes) senders < 64
+    → draft_lines (draft_of stage mode ti sg senders listeners) ≡ behind_head mode ti sg (flat_map sender_lines senders ++ flat_map listener_lines listeners)
+    → is_at fields 0 (codes "TAKE") ≡ true → (line : TakeLine) → take_reading fields ≡ Ok line → read_as (draft_of stages.Take mode ti sg (with_last (with_take line) senders) listeners) ≡ Ok new
+    → Adds (draft_of stage mode ti sg senders listeners) new fields
+take_adds_to stage mode ti sg senders listeners fields new kept in_ti in_sg none last room lines word line read made =
     let found = take_line_found fields line word read in
-    to_new _ (draft_of places.Take mode ti sg (with_last (with_take line) senders) listeners) new fields made (record {
+    to_new _ (draft_of stages.Take mode ti sg (with_last (with_take line) senders) listeners) new fields made (record {
       line = Takes line;
       says = found.0;
       lines = ap (behind_head mode ti sg) (sent_after (flat_map sender_lines senders) _ listeners (Takes line) none
@@ -403,14 +399,14 @@ take_adds_to place mode ti sg senders listeners fields new kept in_ti in_sg none
     })
 
 -- a LISTENER line
-listener_adds_to : (place : Place) (mode : Mode) (ti sg : ℕ) (senders : List Sender) (listeners : List Listener) (fields : List (List ℕ)) (new : Draft)
-    → Kept (draft_of place mode ti sg senders listeners) → is_ti ti ≡ true → is_sg sg ≡ true
-    → draft_lines (draft_of place mode ti sg senders listeners) ≡ behind_head mode ti sg (flat_map sender_lines senders ++ flat_map listener_lines listeners)
-    → is_at fields 0 (codes "LISTENER") ≡ true → form_reading (draft_of place mode ti sg senders listeners) keywords.Listener fields ≡ Ok new → Adds (draft_of place mode ti sg senders listeners) new fields
-listener_adds_to place mode ti sg senders listeners fields new kept in_ti in_sg lines word h =
-    let r = bind_ok (number_reading is_number fields) (λ n. Ok (draft_of places.Listener mode ti sg senders (listeners ++ hearing n ∷ []))) new h in
+listener_adds_to : (stage : Stage) (mode : Mode) (ti sg : ℕ) (senders : List Sender) (listeners : List Listener) (fields : List (List ℕ)) (new : Draft)
+    → Kept (draft_of stage mode ti sg senders listeners) → is_ti ti ≡ true → is_sg sg ≡ true
+    → draft_lines (draft_of stage mode ti sg senders listeners) ≡ behind_head mode ti sg (flat_map sender_lines senders ++ flat_map listener_lines listeners)
+    → is_at fields 0 (codes "LISTENER") ≡ true → form_reading (draft_of stage mode ti sg senders listeners) keywords.Listener fields ≡ Ok new → Adds (draft_of stage mode ti sg senders listeners) new fields
+listener_adds_to stage mode ti sg senders listeners fields new kept in_ti in_sg lines word h =
+    let r = bind_ok (number_reading is_number fields) (λ n. Ok (draft_of stages.Listener mode ti sg senders (listeners ++ hearing n ∷ []))) new h in
     let found = number_line_found is_number fields (codes "LISTENER") r.0 word r.1 in
-    to_new _ (draft_of places.Listener mode ti sg senders (listeners ++ hearing r.0 ∷ [])) new fields r.2 (record {
+    to_new _ (draft_of stages.Listener mode ti sg senders (listeners ++ hearing r.0 ∷ [])) new fields r.2 (record {
       line = ListenerLine r.0;
       says = found.0;
       lines = ap (behind_head mode ti sg)
@@ -425,11 +421,11 @@ listener_adds_to place mode ti sg senders listeners fields new kept in_ti in_sg 
       };
     })
 
-hear_adds : (mode : Mode) (ti sg : ℕ) (senders : List Sender) (listeners : List Listener) (fields : List (List ℕ)) → of_last (λ (l : Listener). length l.takes) listeners < 64 → AddsAt (draft_of places.Listener mode ti sg senders listeners) keywords.Take fields
+hear_adds : (mode : Mode) (ti sg : ℕ) (senders : List Sender) (listeners : List Listener) (fields : List (List ℕ)) → of_last (λ (l : Listener). length l.takes) listeners < 64 → AddsAt (draft_of stages.Listener mode ti sg senders listeners) keywords.Take fields
 hear_adds mode ti sg senders listeners fields room new kept word h =
-    let r = bind_ok (take_reading fields) (λ line. Ok (draft_of places.Listener mode ti sg senders (with_last (with_heard line) listeners))) new h in
+    let r = bind_ok (take_reading fields) (λ line. Ok (draft_of stages.Listener mode ti sg senders (with_last (with_heard line) listeners))) new h in
     let found = take_line_found fields r.0 word r.1 in
-    to_new _ (draft_of places.Listener mode ti sg senders (with_last (with_heard r.0) listeners)) new fields r.2 (record {
+    to_new _ (draft_of stages.Listener mode ti sg senders (with_last (with_heard r.0) listeners)) new fields r.2 (record {
       line = Takes r.0;
       says = found.0;
       lines = ap (behind_head mode ti sg)
@@ -449,38 +445,38 @@ send_room n h = grind (arith, nat_tests)
 take_room : (n : ℕ) → nat_lt n 64 ≡ true → n < 64
 take_room n h = grind (arith, nat_tests)
 
-take_adds : (place : Place) (mode : Mode) (ti sg : ℕ) (senders : List Sender) (listeners : List Listener) (fields : List (List ℕ)) → may_come (draft_of place mode ti sg senders listeners) keywords.Take ≡ true → AddsAt (draft_of place mode ti sg senders listeners) keywords.Take fields
-take_adds places.Send mode ti sg senders listeners fields may = λ new kept word h.
-    let r = bind_ok (take_reading fields) (λ line. Ok (draft_of places.Take mode ti sg (with_last (with_take line) senders) listeners)) new h in
-    take_adds_to places.Send mode ti sg senders listeners fields new kept kept.stands.0 kept.stands.1 kept.stands.2 (weaken_last (λ (s : Sender). s.takes ≡ []) Any (λ s e. tt) senders kept.stands.3) (take_room _ may) refl word r.0 r.1 r.2
-take_adds places.Take mode ti sg senders listeners fields may = λ new kept word h.
-    let r = bind_ok (take_reading fields) (λ line. Ok (draft_of places.Take mode ti sg (with_last (with_take line) senders) listeners)) new h in
-    take_adds_to places.Take mode ti sg senders listeners fields new kept kept.stands.0 kept.stands.1 kept.stands.2 kept.stands.3 (take_room _ may) refl word r.0 r.1 r.2
-take_adds places.Listener mode ti sg senders listeners fields may = hear_adds mode ti sg senders listeners fields (take_room _ may)
-take_adds place mode ti sg senders listeners fields may = absurd cc
+take_adds : (stage : Stage) (mode : Mode) (ti sg : ℕ) (senders : List Sender) (listeners : List Listener) (fields : List (List ℕ)) → may_come (draft_of stage mode ti sg senders listeners) keywords.Take ≡ true → AddsAt (draft_of stage mode ti sg senders listeners) keywords.Take fields
+take_adds stages.Send mode ti sg senders listeners fields may = λ new kept word h.
+    let r = bind_ok (take_reading fields) (λ line. Ok (draft_of stages.Take mode ti sg (with_last (with_take line) senders) listeners)) new h in
+    take_adds_to stages.Send mode ti sg senders listeners fields new kept kept.stands.0 kept.stands.1 kept.stands.2 (weaken_last (λ (s : Sender). s.takes ≡ []) Any (λ s e. tt) senders kept.stands.3) (take_room _ may) refl word r.0 r.1 r.2
+take_adds stages.Take mode ti sg senders listeners fields may = λ new kept word h.
+    let r = bind_ok (take_reading fields) (λ line. Ok (draft_of stages.Take mode ti sg (with_last (with_take line) senders) listeners)) new h in
+    take_adds_to stages.Take mode ti sg senders listeners fields new kept kept.stands.0 kept.stands.1 kept.stands.2 kept.stands.3 (take_room _ may) refl word r.0 r.1 r.2
+take_adds stages.Listener mode ti sg senders listeners fields may = hear_adds mode ti sg senders listeners fields (take_room _ may)
+take_adds stage mode ti sg senders listeners fields may = absurd cc
 
-form_adds : (place : Place) (mode : Mode) (ti sg : ℕ) (senders : List Sender) (listeners : List Listener) (keyword : Keyword) (fields : List (List ℕ)) → may_come (draft_of place mode ti sg senders listeners) keyword ≡ true → AddsAt (draft_of place mode ti sg senders listeners) keyword fields
-form_adds places.Start mode ti sg senders listeners keywords.Table fields may = table_adds mode ti sg senders listeners fields
-form_adds places.Table mode ti sg senders listeners keywords.Mode fields may = mode_adds mode ti sg senders listeners fields
-form_adds places.Mode mode ti sg senders listeners keywords.Ti fields may = ti_adds mode ti sg senders listeners fields
-form_adds places.Ti mode ti sg senders listeners keywords.Sg fields may = sg_adds mode ti sg senders listeners fields
-form_adds (places.Sender head) mode ti sg senders listeners keywords.Send fields may = first_send_adds head mode ti sg senders listeners fields
-form_adds places.Send mode ti sg senders listeners keywords.Send fields may = next_send_adds mode ti sg senders listeners fields (send_room (last_sends senders) may)
-form_adds place mode ti sg senders listeners keywords.Take fields may = take_adds place mode ti sg senders listeners fields may
-form_adds places.Sg mode ti sg senders listeners keywords.Sender fields may = λ new kept word h. sender_adds_to places.Sg mode ti sg senders listeners fields new kept kept.stands.0 kept.stands.1 kept.stands.2 refl word h
-form_adds places.Send mode ti sg senders listeners keywords.Sender fields may = λ new kept word h. sender_adds_to places.Send mode ti sg senders listeners fields new kept kept.stands.0 kept.stands.1 kept.stands.2 refl word h
-form_adds places.Take mode ti sg senders listeners keywords.Sender fields may = λ new kept word h. sender_adds_to places.Take mode ti sg senders listeners fields new kept kept.stands.0 kept.stands.1 kept.stands.2 refl word h
-form_adds places.Sg mode ti sg senders listeners keywords.Listener fields may = λ new kept word h. listener_adds_to places.Sg mode ti sg senders listeners fields new kept kept.stands.0 kept.stands.1 refl word h
-form_adds places.Send mode ti sg senders listeners keywords.Listener fields may = λ new kept word h. listener_adds_to places.Send mode ti sg senders listeners fields new kept kept.stands.0 kept.stands.1 refl word h
-form_adds places.Take mode ti sg senders listeners keywords.Listener fields may = λ new kept word h. listener_adds_to places.Take mode ti sg senders listeners fields new kept kept.stands.0 kept.stands.1 refl word h
-form_adds places.Listener mode ti sg senders listeners keywords.Listener fields may = λ new kept word h. listener_adds_to places.Listener mode ti sg senders listeners fields new kept kept.stands.0 kept.stands.1 refl word h
-form_adds place mode ti sg senders listeners keyword fields may = absurd cc
+form_adds : (stage : Stage) (mode : Mode) (ti sg : ℕ) (senders : List Sender) (listeners : List Listener) (keyword : Keyword) (fields : List (List ℕ)) → may_come (draft_of stage mode ti sg senders listeners) keyword ≡ true → AddsAt (draft_of stage mode ti sg senders listeners) keyword fields
+form_adds stages.Start mode ti sg senders listeners keywords.Table fields may = table_adds mode ti sg senders listeners fields
+form_adds stages.Table mode ti sg senders listeners keywords.Mode fields may = mode_adds mode ti sg senders listeners fields
+form_adds stages.Mode mode ti sg senders listeners keywords.Ti fields may = ti_adds mode ti sg senders listeners fields
+form_adds stages.Ti mode ti sg senders listeners keywords.Sg fields may = sg_adds mode ti sg senders listeners fields
+form_adds (stages.Sender head) mode ti sg senders listeners keywords.Send fields may = first_send_adds head mode ti sg senders listeners fields
+form_adds stages.Send mode ti sg senders listeners keywords.Send fields may = next_send_adds mode ti sg senders listeners fields (send_room (last_sends senders) may)
+form_adds stage mode ti sg senders listeners keywords.Take fields may = take_adds stage mode ti sg senders listeners fields may
+form_adds stages.Sg mode ti sg senders listeners keywords.Sender fields may = λ new kept word h. sender_adds_to stages.Sg mode ti sg senders listeners fields new kept kept.stands.0 kept.stands.1 kept.stands.2 refl word h
+form_adds stages.Send mode ti sg senders listeners keywords.Sender fields may = λ new kept word h. sender_adds_to stages.Send mode ti sg senders listeners fields new kept kept.stands.0 kept.stands.1 kept.stands.2 refl word h
+form_adds stages.Take mode ti sg senders listeners keywords.Sender fields may = λ new kept word h. sender_adds_to stages.Take mode ti sg senders listeners fields new kept kept.stands.0 kept.stands.1 kept.stands.2 refl word h
+form_adds stages.Sg mode ti sg senders listeners keywords.Listener fields may = λ new kept word h. listener_adds_to stages.Sg mode ti sg senders listeners fields new kept kept.stands.0 kept.stands.1 refl word h
+form_adds stages.Send mode ti sg senders listeners keywords.Listener fields may = λ new kept word h. listener_adds_to stages.Send mode ti sg senders listeners fields new kept kept.stands.0 kept.stands.1 refl word h
+form_adds stages.Take mode ti sg senders listeners keywords.Listener fields may = λ new kept word h. listener_adds_to stages.Take mode ti sg senders listeners fields new kept kept.stands.0 kept.stands.1 refl word h
+form_adds stages.Listener mode ti sg senders listeners keywords.Listener fields may = λ new kept word h. listener_adds_to stages.Listener mode ti sg senders listeners fields new kept kept.stands.0 kept.stands.1 refl word h
+form_adds stage mode ti sg senders listeners keyword fields may = absurd cc
 
 keyword_adds : (old new : Draft) (fields : List (List ℕ)) (k : Option Keyword) → keyword_of fields ≡ k → Kept old → keyword_reading old k fields ≡ Ok new → Adds old new fields
 keyword_adds old new fields None e kept h = absurd cc
 keyword_adds old new fields (Some keyword) e kept h = by_test (may_come old keyword) refl h where
   by_test : (t : Bool) → may_come old keyword ≡ t → cond t (form_reading old keyword fields) (Err reasons.Keyword) ≡ Ok new → Adds old new fields
-  by_test true may go = form_adds old.place old.mode old.ti old.sg old.senders old.listeners keyword fields may new kept (keyword_found fields keyword e) go
+  by_test true may go = form_adds old.stage old.mode old.ti old.sg old.senders old.listeners keyword fields may new kept (keyword_found fields keyword e) go
   by_test false may go = absurd cc
 
 pub line_adds : (old new : Draft) (fields : List (List ℕ)) → Kept old → line_reading old fields ≡ Ok new → Adds old new fields

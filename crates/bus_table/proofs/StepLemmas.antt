@@ -38,12 +38,12 @@ step_fails (Text line reason) draft entries others entry text p h so_far =
 step_fails (Whole reason) draft entries others entry text p h so_far = absurd h
 
 -- the text has ended too early
-pub too_early : (text : List ℕ) (draft : Draft) → steps start (entries_of text) ≡ Ok draft → may_end draft.place ≡ false → answer_of text ≡ Err (Text (line_after_of text) Ended)
+pub too_early : (text : List ℕ) (draft : Draft) → steps start (entries_of text) ≡ Ok draft → may_end draft.stage ≡ false → answer_of text ≡ Err (Text (line_after_of text) Ended)
 unfolding text_reading
 too_early text draft h early = ap (λ r. answered (r >>= ended (line_after_of text))) h ∙ ap (λ t. answered (cond t (Ok (table_of draft)) (Err (record { line = line_after_of text; reason = Ended })))) early
 
 -- the text may end
-pub in_time : (text : List ℕ) (draft : Draft) → steps start (entries_of text) ≡ Ok draft → may_end draft.place ≡ true → answer_of text ≡ answered (Ok (table_of draft))
+pub in_time : (text : List ℕ) (draft : Draft) → steps start (entries_of text) ≡ Ok draft → may_end draft.stage ≡ true → answer_of text ≡ answered (Ok (table_of draft))
 unfolding text_reading
 in_time text draft h may = ap (λ r. answered (r >>= ended (line_after_of text))) h ∙ ap (λ t. answered (cond t (Ok (table_of draft)) (Err (record { line = line_after_of text; reason = Ended })))) may
 
@@ -54,5 +54,5 @@ same_answer (Err (Text line reason)) due h = h
 same_answer (Err (Whole reason)) due h = h
 
 -- the table of the last draft is the answer that is due
-pub answers_judged : (text : List ℕ) (draft : Draft) (answer : Result Table TableError) → steps start (entries_of text) ≡ Ok draft → may_end draft.place ≡ true → answer ≡ judged (table_of draft) → Answers answer (answer_of text)
+pub answers_judged : (text : List ℕ) (draft : Draft) (answer : Result Table TableError) → steps start (entries_of text) ≡ Ok draft → may_end draft.stage ≡ true → answer ≡ judged (table_of draft) → Answers answer (answer_of text)
 answers_judged text draft answer h may e = same_answer answer (answer_of text) (in_time text draft h may ∙ sym e)

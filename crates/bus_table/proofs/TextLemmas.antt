@@ -15,11 +15,11 @@ use Rattle.bus_table.specs.declared.mode.Mode.{Mode}
 use Rattle.bus_table.specs.declared.mode.Mode.TheVariants.{Aperiodic, Periodic}
 use Rattle.bus_table.specs.declared.keyword.Keyword.{Keyword}
 use Rattle.bus_table.specs.declared.keyword.Keyword.TheVariants as keywords
-use Rattle.bus_table.specs.declared.place.Place.{Place}
-use Rattle.bus_table.specs.declared.place.Place.TheVariants as places
+use Rattle.bus_table.specs.declared.stage.Stage.{Stage}
+use Rattle.bus_table.specs.declared.stage.Stage.TheVariants as stages
 use Rattle.bus_table.specs.declared.error.WholeReason.{WholeReason}
 use Rattle.bus_table.specs.declared.error.TableError.{TableError}
-use Rattle.bus_table.specs.Drafts.{Draft, start, of_last, may_come, may_end, opened, hearing, with_send, with_take, with_heard, with_last, form_reading, keyword_reading, line_reading}
+use Rattle.bus_table.specs.Drafts.{Draft, draft_of, start, of_last, may_come, may_end, opened, hearing, with_send, with_take, with_heard, with_last, form_reading, keyword_reading, line_reading}
 use Rattle.bus_table.specs.Forms.{keyword_of}
 use Rattle.bus_table.specs.Gives.{Answers}
 use Rattle.bus_table.specs.Heads.{Head, is_head}
@@ -30,7 +30,7 @@ use Rattle.bus_table.specs.Text.{Line, TableLine, ModeLine, TiLine, SgLine, Send
 use Rattle.bus_table.specs.Valid.{fits_mode, is_in_range}
 use Rattle.bus_table.specs.Whole.{whole_refusal}
 use Rattle.bus_table.proofs.LineLemmas.{bind_ok, table_again, mode_again, number_line_again, head_line_again, send_line_again, take_line_again, fits_offset}
-use Rattle.bus_table.proofs.ReadingLemmas.{Kept, Made, ranges_of, draft_of, draft_lines, line_adds}
+use Rattle.bus_table.proofs.ReadingLemmas.{Kept, Made, ranges_of, draft_lines, line_adds}
 
 -- ---- found
 line_ok : {A : Type 0} (line : ℕ) (r : Result A Reason) (x : A) → at_line line r ≡ Ok x → r ≡ Ok x
@@ -81,27 +81,27 @@ pub record Whole (draft : Draft) (entries : List Entry) : Type 0 where
   pub ranges : is_in_range (table_of draft) ≡ true
   pub lines : AreLines draft.mode (lines_of (table_of draft)) entries
 
-whole_at : (place : Place) (mode : Mode) (ti sg : ℕ) (senders : List Sender) (listeners : List Listener) (entries : List Entry) → may_end place ≡ true → Kept (draft_of place mode ti sg senders listeners)
-    → AreLines mode (draft_lines (draft_of place mode ti sg senders listeners)) entries → Whole (draft_of place mode ti sg senders listeners) entries
-whole_at places.Sg mode ti sg senders listeners entries may kept lines = record { ranges = table_range _ kept.stands.0 kept.stands.1 kept; lines = lines }
-whole_at places.Send mode ti sg senders listeners entries may kept lines = record { ranges = table_range _ kept.stands.0 kept.stands.1 kept; lines = lines }
-whole_at places.Take mode ti sg senders listeners entries may kept lines = record { ranges = table_range _ kept.stands.0 kept.stands.1 kept; lines = lines }
-whole_at places.Listener mode ti sg senders listeners entries may kept lines = record { ranges = table_range _ kept.stands.0 kept.stands.1 kept; lines = lines }
-whole_at place mode ti sg senders listeners entries may kept lines = absurd cc
+whole_at : (stage : Stage) (mode : Mode) (ti sg : ℕ) (senders : List Sender) (listeners : List Listener) (entries : List Entry) → may_end stage ≡ true → Kept (draft_of stage mode ti sg senders listeners)
+    → AreLines mode (draft_lines (draft_of stage mode ti sg senders listeners)) entries → Whole (draft_of stage mode ti sg senders listeners) entries
+whole_at stages.Sg mode ti sg senders listeners entries may kept lines = record { ranges = table_range _ kept.stands.0 kept.stands.1 kept; lines = lines }
+whole_at stages.Send mode ti sg senders listeners entries may kept lines = record { ranges = table_range _ kept.stands.0 kept.stands.1 kept; lines = lines }
+whole_at stages.Take mode ti sg senders listeners entries may kept lines = record { ranges = table_range _ kept.stands.0 kept.stands.1 kept; lines = lines }
+whole_at stages.Listener mode ti sg senders listeners entries may kept lines = record { ranges = table_range _ kept.stands.0 kept.stands.1 kept; lines = lines }
+whole_at stage mode ti sg senders listeners entries may kept lines = absurd cc
 
 started : Kept start
 started = record { made = tt; heard = tt; stands = (refl, refl) }
 
 -- the draft that the lines of a text leave, where it may end, is the table that the text stands for
-pub steps_whole : (entries : List Entry) (draft : Draft) → steps start entries ≡ Ok draft → may_end draft.place ≡ true → Whole draft entries
+pub steps_whole : (entries : List Entry) (draft : Draft) → steps start entries ≡ Ok draft → may_end draft.stage ≡ true → Whole draft entries
 steps_whole entries draft h may =
     let found = steps_found entries [] start draft started tt h in
-    whole_at draft.place draft.mode draft.ti draft.sg draft.senders draft.listeners entries may found.1 found.0
+    whole_at draft.stage draft.mode draft.ti draft.sg draft.senders draft.listeners entries may found.1 found.0
 
 abbrev read_table : Draft → Result Table Refusal
 read_table draft = Ok (table_of draft)
 
-ended_ok : (after : ℕ) (draft : Draft) (t : Bool) (table : Table) → may_end draft.place ≡ t → cond t (read_table draft) (Err (record { line = after; reason = reasons.Ended })) ≡ Ok table → (may_end draft.place ≡ true) × (table_of draft ≡ table)
+ended_ok : (after : ℕ) (draft : Draft) (t : Bool) (table : Table) → may_end draft.stage ≡ t → cond t (read_table draft) (Err (record { line = after; reason = reasons.Ended })) ≡ Ok table → (may_end draft.stage ≡ true) × (table_of draft ≡ table)
 ended_ok after draft true table may h = (may, cc)
 ended_ok after draft false table may h = absurd cc
 
@@ -109,7 +109,7 @@ pub text_found : (text : List ℕ) (table : Table) → text_reading text ≡ Ok 
 unfolding text_reading
 text_found text table h =
     let last = bind_ok (steps start (entries_of text)) (ended (line_after_of text)) table h in
-    let end = ended_ok (line_after_of text) last.0 (may_end last.0.place) table refl last.2 in
+    let end = ended_ok (line_after_of text) last.0 (may_end last.0.stage) table refl last.2 in
     let whole = steps_whole (entries_of text) last.0 last.1 end.0 in
     subst (λ (t : Table). IsTableText t text) end.1 (record { ranges = whole.ranges; lines = whole.lines })
 
@@ -141,56 +141,56 @@ read_as : {A : Type 0} (make : A → Draft) (r : Result A Reason) (x : A) → r 
 read_as make r x h = ap (λ q. q >>= λ y. Ok (make y)) h
 
 -- a table of this mode before its senders, and of these listeners behind them
-abbrev in_head : Place → Mode → ℕ → ℕ → Draft
-in_head place mode ti sg = draft_of place mode ti sg [] []
+abbrev in_head : Stage → Mode → ℕ → ℕ → Draft
+in_head stage mode ti sg = draft_of stage mode ti sg [] []
 
-table_line : (mode : Mode) (fields : List (List ℕ)) → IsLine mode TableLine fields → line_reading start fields ≡ Ok (in_head places.Table Aperiodic 0 0)
-table_line mode fields h = word_line fields keywords.Table start (ap keyword_of h) refl ∙ ap (λ r. r >>= λ _. Ok (in_head places.Table Aperiodic 0 0)) (table_again fields h)
+table_line : (mode : Mode) (fields : List (List ℕ)) → IsLine mode TableLine fields → line_reading start fields ≡ Ok (in_head stages.Table Aperiodic 0 0)
+table_line mode fields h = word_line fields keywords.Table start (ap keyword_of h) refl ∙ ap (λ r. r >>= λ _. Ok (in_head stages.Table Aperiodic 0 0)) (table_again fields h)
 
-mode_line : (mode : Mode) (fields : List (List ℕ)) → IsLine mode (ModeLine mode) fields → line_reading (in_head places.Table Aperiodic 0 0) fields ≡ Ok (in_head places.Mode mode 0 0)
+mode_line : (mode : Mode) (fields : List (List ℕ)) → IsLine mode (ModeLine mode) fields → line_reading (in_head stages.Table Aperiodic 0 0) fields ≡ Ok (in_head stages.Mode mode 0 0)
 mode_line mode fields h =
-    word_line fields keywords.Mode (in_head places.Table Aperiodic 0 0) (ap keyword_of h) refl
-    ∙ read_as (λ m. in_head places.Mode m 0 0) _ mode (mode_again mode fields h)
+    word_line fields keywords.Mode (in_head stages.Table Aperiodic 0 0) (ap keyword_of h) refl
+    ∙ read_as (λ m. in_head stages.Mode m 0 0) _ mode (mode_again mode fields h)
 
-ti_line : (mode : Mode) (ti : ℕ) (fields : List (List ℕ)) → IsLine mode (TiLine ti) fields → is_ti ti ≡ true → line_reading (in_head places.Mode mode 0 0) fields ≡ Ok (in_head places.Ti mode ti 0)
+ti_line : (mode : Mode) (ti : ℕ) (fields : List (List ℕ)) → IsLine mode (TiLine ti) fields → is_ti ti ≡ true → line_reading (in_head stages.Mode mode 0 0) fields ≡ Ok (in_head stages.Ti mode ti 0)
 ti_line mode ti fields h r =
-    word_line fields keywords.Ti (in_head places.Mode mode 0 0) (ap keyword_of h.parts) refl
-    ∙ read_as (λ t. in_head places.Ti mode t 0) _ ti (number_line_again is_ti fields (codes "TI") ti h r)
+    word_line fields keywords.Ti (in_head stages.Mode mode 0 0) (ap keyword_of h.parts) refl
+    ∙ read_as (λ t. in_head stages.Ti mode t 0) _ ti (number_line_again is_ti fields (codes "TI") ti h r)
 
-sg_line : (mode : Mode) (ti sg : ℕ) (fields : List (List ℕ)) → IsLine mode (SgLine sg) fields → is_sg sg ≡ true → line_reading (in_head places.Ti mode ti 0) fields ≡ Ok (in_head places.Sg mode ti sg)
+sg_line : (mode : Mode) (ti sg : ℕ) (fields : List (List ℕ)) → IsLine mode (SgLine sg) fields → is_sg sg ≡ true → line_reading (in_head stages.Ti mode ti 0) fields ≡ Ok (in_head stages.Sg mode ti sg)
 sg_line mode ti sg fields h r =
-    word_line fields keywords.Sg (in_head places.Ti mode ti 0) (ap keyword_of h.parts) refl
-    ∙ read_as (λ s. in_head places.Sg mode ti s) _ sg (number_line_again is_sg fields (codes "SG") sg h r)
+    word_line fields keywords.Sg (in_head stages.Ti mode ti 0) (ap keyword_of h.parts) refl
+    ∙ read_as (λ s. in_head stages.Sg mode ti s) _ sg (number_line_again is_sg fields (codes "SG") sg h r)
 
 -- the keyword of a SENDER line
 sender_word : (mode : Mode) (n tg at : ℕ) (fields : List (List ℕ)) → IsLine mode (SenderLine n tg at) fields → keyword_of fields ≡ Some keywords.Sender
 sender_word Aperiodic n tg at fields h = ap keyword_of h.parts
 sender_word Periodic n tg at fields h = ap keyword_of h.parts
 
--- the places at which a sender block may begin
-abbrev may_send : Place → Bool
-may_send places.Sg = true
-may_send places.Send = true
-may_send places.Take = true
-may_send place = false
+-- the stages at which a sender block may begin
+abbrev may_send : Stage → Bool
+may_send stages.Sg = true
+may_send stages.Send = true
+may_send stages.Take = true
+may_send stage = false
 
-sender_may : (place : Place) (mode : Mode) (ti sg : ℕ) (done : List Sender) → may_send place ≡ true → may_come (draft_of place mode ti sg done []) keywords.Sender ≡ true
-sender_may places.Sg mode ti sg done h = refl
-sender_may places.Send mode ti sg done h = refl
-sender_may places.Take mode ti sg done h = refl
-sender_may place mode ti sg done h = absurd cc
+sender_may : (stage : Stage) (mode : Mode) (ti sg : ℕ) (done : List Sender) → may_send stage ≡ true → may_come (draft_of stage mode ti sg done []) keywords.Sender ≡ true
+sender_may stages.Sg mode ti sg done h = refl
+sender_may stages.Send mode ti sg done h = refl
+sender_may stages.Take mode ti sg done h = refl
+sender_may stage mode ti sg done h = absurd cc
 
-sender_line : (place : Place) (mode : Mode) (ti sg : ℕ) (done : List Sender) (head : Head) (fields : List (List ℕ)) → may_send place ≡ true → IsLine mode (SenderLine head.number head.tg head.at) fields → is_head head ≡ true → fits_offset mode head.at ≡ true
-    → line_reading (draft_of place mode ti sg done []) fields ≡ Ok (draft_of (places.Sender head) mode ti sg done [])
-sender_line place mode ti sg done head fields may h r fits =
-    word_line fields keywords.Sender (draft_of place mode ti sg done []) (sender_word mode head.number head.tg head.at fields h) (sender_may place mode ti sg done may)
-    ∙ read_as (λ h. draft_of (places.Sender h) mode ti sg done []) _ head (head_line_again mode fields head h r fits)
+sender_line : (stage : Stage) (mode : Mode) (ti sg : ℕ) (done : List Sender) (head : Head) (fields : List (List ℕ)) → may_send stage ≡ true → IsLine mode (SenderLine head.number head.tg head.at) fields → is_head head ≡ true → fits_offset mode head.at ≡ true
+    → line_reading (draft_of stage mode ti sg done []) fields ≡ Ok (draft_of (stages.Sender head) mode ti sg done [])
+sender_line stage mode ti sg done head fields may h r fits =
+    word_line fields keywords.Sender (draft_of stage mode ti sg done []) (sender_word mode head.number head.tg head.at fields h) (sender_may stage mode ti sg done may)
+    ∙ read_as (λ h. draft_of (stages.Sender h) mode ti sg done []) _ head (head_line_again mode fields head h r fits)
 
 first_send : (mode : Mode) (ti sg : ℕ) (done : List Sender) (head : Head) (line : SendLine) (fields : List (List ℕ)) → IsLine mode (Sends line) fields → is_send_line line ≡ true
-    → line_reading (draft_of (places.Sender head) mode ti sg done []) fields ≡ Ok (draft_of places.Send mode ti sg (done ++ opened head line ∷ []) [])
+    → line_reading (draft_of (stages.Sender head) mode ti sg done []) fields ≡ Ok (draft_of stages.Send mode ti sg (done ++ opened head line ∷ []) [])
 first_send mode ti sg done head line fields h r =
-    word_line fields keywords.Send (draft_of (places.Sender head) mode ti sg done []) (ap keyword_of h.parts) refl
-    ∙ read_as (λ l. draft_of places.Send mode ti sg (done ++ opened head l ∷ []) []) _ line (send_line_again fields line h r)
+    word_line fields keywords.Send (draft_of (stages.Sender head) mode ti sg done []) (ap keyword_of h.parts) refl
+    ∙ read_as (λ l. draft_of stages.Send mode ti sg (done ++ opened head l ∷ []) []) _ line (send_line_again fields line h r)
 
 room : (n most : ℕ) → n < most → nat_lt n most ≡ true
 room n most h = grind (arith, nat_tests)
@@ -207,35 +207,35 @@ with_last-push change (y ∷ []) x = refl
 with_last-push change (y ∷ z ∷ xs) x = ap (λ zs. y ∷ zs) (with_last-push change (z ∷ xs) x)
 
 next_send : (mode : Mode) (ti sg : ℕ) (done : List Sender) (sender : Sender) (line : SendLine) (fields : List (List ℕ)) → length sender.sends < 31 → IsLine mode (Sends line) fields → is_send_line line ≡ true
-    → line_reading (draft_of places.Send mode ti sg (done ++ sender ∷ []) []) fields ≡ Ok (draft_of places.Send mode ti sg (done ++ with_send line sender ∷ []) [])
+    → line_reading (draft_of stages.Send mode ti sg (done ++ sender ∷ []) []) fields ≡ Ok (draft_of stages.Send mode ti sg (done ++ with_send line sender ∷ []) [])
 next_send mode ti sg done sender line fields few h r =
     let senders = done ++ sender ∷ [] in
     let count = of_last-push (λ (s : Sender). length s.sends) done sender in
-    word_line fields keywords.Send (draft_of places.Send mode ti sg senders []) (ap keyword_of h.parts) (ap (λ n. nat_lt n 31) count ∙ room (length sender.sends) 31 few)
-    ∙ read_as (λ l. draft_of places.Send mode ti sg (with_last (with_send l) senders) []) _ line (send_line_again fields line h r)
-    ∙ ap (λ (ss : List Sender). Ok (draft_of places.Send mode ti sg ss [])) (with_last-push (with_send line) done sender)
+    word_line fields keywords.Send (draft_of stages.Send mode ti sg senders []) (ap keyword_of h.parts) (ap (λ n. nat_lt n 31) count ∙ room (length sender.sends) 31 few)
+    ∙ read_as (λ l. draft_of stages.Send mode ti sg (with_last (with_send l) senders) []) _ line (send_line_again fields line h r)
+    ∙ ap (λ (ss : List Sender). Ok (draft_of stages.Send mode ti sg ss [])) (with_last-push (with_send line) done sender)
 
--- the places of a sender's lines
-abbrev is_sent : Place → Bool
-is_sent places.Send = true
-is_sent places.Take = true
-is_sent place = false
+-- the stages of a sender's lines
+abbrev is_sent : Stage → Bool
+is_sent stages.Send = true
+is_sent stages.Take = true
+is_sent stage = false
 
-next_take : (place : Place) (mode : Mode) (ti sg : ℕ) (done : List Sender) (sender : Sender) (line : TakeLine) (fields : List (List ℕ)) → is_sent place ≡ true → length sender.takes < 64 → IsLine mode (Takes line) fields → is_take_line line ≡ true
-    → line_reading (draft_of place mode ti sg (done ++ sender ∷ []) []) fields ≡ Ok (draft_of places.Take mode ti sg (done ++ with_take line sender ∷ []) [])
-next_take places.Send mode ti sg done sender line fields sent few h r =
+next_take : (stage : Stage) (mode : Mode) (ti sg : ℕ) (done : List Sender) (sender : Sender) (line : TakeLine) (fields : List (List ℕ)) → is_sent stage ≡ true → length sender.takes < 64 → IsLine mode (Takes line) fields → is_take_line line ≡ true
+    → line_reading (draft_of stage mode ti sg (done ++ sender ∷ []) []) fields ≡ Ok (draft_of stages.Take mode ti sg (done ++ with_take line sender ∷ []) [])
+next_take stages.Send mode ti sg done sender line fields sent few h r =
     let senders = done ++ sender ∷ [] in
     let count = of_last-push (λ (s : Sender). length s.takes) done sender in
-    word_line fields keywords.Take (draft_of places.Send mode ti sg senders []) (ap keyword_of h.parts) (ap (λ n. nat_lt n 64) count ∙ room (length sender.takes) 64 few)
-    ∙ read_as (λ l. draft_of places.Take mode ti sg (with_last (with_take l) senders) []) _ line (take_line_again fields line h r)
-    ∙ ap (λ (ss : List Sender). Ok (draft_of places.Take mode ti sg ss [])) (with_last-push (with_take line) done sender)
-next_take places.Take mode ti sg done sender line fields sent few h r =
+    word_line fields keywords.Take (draft_of stages.Send mode ti sg senders []) (ap keyword_of h.parts) (ap (λ n. nat_lt n 64) count ∙ room (length sender.takes) 64 few)
+    ∙ read_as (λ l. draft_of stages.Take mode ti sg (with_last (with_take l) senders) []) _ line (take_line_again fields line h r)
+    ∙ ap (λ (ss : List Sender). Ok (draft_of stages.Take mode ti sg ss [])) (with_last-push (with_take line) done sender)
+next_take stages.Take mode ti sg done sender line fields sent few h r =
     let senders = done ++ sender ∷ [] in
     let count = of_last-push (λ (s : Sender). length s.takes) done sender in
-    word_line fields keywords.Take (draft_of places.Take mode ti sg senders []) (ap keyword_of h.parts) (ap (λ n. nat_lt n 64) count ∙ room (length sender.takes) 64 few)
-    ∙ read_as (λ l. draft_of places.Take mode ti sg (with_last (with_take l) senders) []) _ line (take_line_again fields line h r)
-    ∙ ap (λ (ss : List Sender). Ok (draft_of places.Take mode ti sg ss [])) (with_last-push (with_take line) done sender)
-next_take place mode ti sg done sender line fields sent few h r = absurd cc
+    word_line fields keywords.Take (draft_of stages.Take mode ti sg senders []) (ap keyword_of h.parts) (ap (λ n. nat_lt n 64) count ∙ room (length sender.takes) 64 few)
+    ∙ read_as (λ l. draft_of stages.Take mode ti sg (with_last (with_take l) senders) []) _ line (take_line_again fields line h r)
+    ∙ ap (λ (ss : List Sender). Ok (draft_of stages.Take mode ti sg ss [])) (with_last-push (with_take line) done sender)
+next_take stage mode ti sg done sender line fields sent few h r = absurd cc
 
 -- the lines behind those of a terminal, once these are read
 record Behind (draft made : Draft) (mode : Mode) (more : List Line) (entries : List Entry) : Type 0 where
@@ -261,7 +261,7 @@ count_push [] x = refl
 count_push (y ∷ xs) x = omega (arith, count_push xs x)
 
 sends_again : (lines : List SendLine) (mode : Mode) (ti sg : ℕ) (done : List Sender) (sender : Sender) (more : List Line) (entries : List Entry) → list_all is_send_line lines ≡ true → length sender.sends + length lines ≤ 31
-    → AreLines mode (map Sends lines ++ more) entries → Behind (draft_of places.Send mode ti sg (done ++ sender ∷ []) []) (draft_of places.Send mode ti sg (done ++ with_sends sender lines ∷ []) []) mode more entries
+    → AreLines mode (map Sends lines ++ more) entries → Behind (draft_of stages.Send mode ti sg (done ++ sender ∷ []) []) (draft_of stages.Send mode ti sg (done ++ with_sends sender lines ∷ []) []) mode more entries
 sends_again [] mode ti sg done sender more entries h few are = record { rest = entries; lines = are; same = refl }
 sends_again (line ∷ lines) mode ti sg done sender more [] h few are = absurd are
 sends_again (line ∷ lines) mode ti sg done sender more (entry ∷ entries) h few are =
@@ -271,31 +271,31 @@ sends_again (line ∷ lines) mode ti sg done sender more (entry ∷ entries) h f
     record {
       rest = behind.rest;
       lines = behind.lines;
-      same = takes_line _ (draft_of places.Send mode ti sg (done ++ with_send line sender ∷ []) []) entry entries read ∙ behind.same;
+      same = takes_line _ (draft_of stages.Send mode ti sg (done ++ with_send line sender ∷ []) []) entry entries read ∙ behind.same;
     }
 
--- the place behind TAKE lines
-abbrev taken_place : Place → List TakeLine → Place
-taken_place place [] = place
-taken_place place (line ∷ lines) = places.Take
+-- the stage behind TAKE lines
+abbrev taken_stage : Stage → List TakeLine → Stage
+taken_stage stage [] = stage
+taken_stage stage (line ∷ lines) = stages.Take
 
-still_taken : (lines : List TakeLine) → taken_place places.Take lines ≡ places.Take
+still_taken : (lines : List TakeLine) → taken_stage stages.Take lines ≡ stages.Take
 still_taken [] = refl
 still_taken (line ∷ lines) = refl
 
-takes_again : (lines : List TakeLine) (place : Place) (mode : Mode) (ti sg : ℕ) (done : List Sender) (sender : Sender) (more : List Line) (entries : List Entry) → is_sent place ≡ true → list_all is_take_line lines ≡ true → length sender.takes + length lines ≤ 64
-    → AreLines mode (map Takes lines ++ more) entries → Behind (draft_of place mode ti sg (done ++ sender ∷ []) []) (draft_of (taken_place place lines) mode ti sg (done ++ with_takes sender lines ∷ []) []) mode more entries
-takes_again [] place mode ti sg done sender more entries sent h few are = record { rest = entries; lines = are; same = refl }
-takes_again (line ∷ lines) place mode ti sg done sender more [] sent h few are = absurd are
-takes_again (line ∷ lines) place mode ti sg done sender more (entry ∷ entries) sent h few are =
+takes_again : (lines : List TakeLine) (stage : Stage) (mode : Mode) (ti sg : ℕ) (done : List Sender) (sender : Sender) (more : List Line) (entries : List Entry) → is_sent stage ≡ true → list_all is_take_line lines ≡ true → length sender.takes + length lines ≤ 64
+    → AreLines mode (map Takes lines ++ more) entries → Behind (draft_of stage mode ti sg (done ++ sender ∷ []) []) (draft_of (taken_stage stage lines) mode ti sg (done ++ with_takes sender lines ∷ []) []) mode more entries
+takes_again [] stage mode ti sg done sender more entries sent h few are = record { rest = entries; lines = are; same = refl }
+takes_again (line ∷ lines) stage mode ti sg done sender more [] sent h few are = absurd are
+takes_again (line ∷ lines) stage mode ti sg done sender more (entry ∷ entries) sent h few are =
     let parts = and_parts (is_take_line line) _ h in
-    let read = next_take place mode ti sg done sender line entry.fields sent (omega arith) are.0 parts.0 in
-    let behind = takes_again lines places.Take mode ti sg done (with_take line sender) more entries refl parts.1 (omega (arith, count_push sender.takes line)) are.1 in
+    let read = next_take stage mode ti sg done sender line entry.fields sent (omega arith) are.0 parts.0 in
+    let behind = takes_again lines stages.Take mode ti sg done (with_take line sender) more entries refl parts.1 (omega (arith, count_push sender.takes line)) are.1 in
     record {
       rest = behind.rest;
       lines = behind.lines;
-      same = takes_line _ (draft_of places.Take mode ti sg (done ++ with_take line sender ∷ []) []) entry entries read ∙ behind.same
-          ∙ ap (λ (p : Place). steps (draft_of p mode ti sg (done ++ with_takes (with_take line sender) lines ∷ []) []) behind.rest) (still_taken lines);
+      same = takes_line _ (draft_of stages.Take mode ti sg (done ++ with_take line sender ∷ []) []) entry entries read ∙ behind.same
+          ∙ ap (λ (p : Stage). steps (draft_of p mode ti sg (done ++ with_takes (with_take line sender) lines ∷ []) []) behind.rest) (still_taken lines);
     }
 
 with_sends-is : (sender : Sender) (lines : List SendLine) → with_sends sender lines ≡ record sender { sends = sender.sends ++ lines }
@@ -331,61 +331,61 @@ grown sender line lines e =
     ∙ ap (λ (ls : List SendLine). record { number = sender.number; tg = sender.tg; at = sender.at; sends = ls; takes = sender.takes }) (sym e)
 
 -- where a sender block ends
-abbrev block_end : Sender → Place
-block_end sender = taken_place places.Send sender.takes
+abbrev block_end : Sender → Stage
+block_end sender = taken_stage stages.Send sender.takes
 
 block_may : (sender : Sender) → may_send (block_end sender) ≡ true
 block_may sender = go sender.takes where
-  go : (takes : List TakeLine) → may_send (taken_place places.Send takes) ≡ true
+  go : (takes : List TakeLine) → may_send (taken_stage stages.Send takes) ≡ true
   go [] = refl
   go (t ∷ takes) = refl
 
-sender_again : (sends : List SendLine) (sender : Sender) (place : Place) (mode : Mode) (ti sg : ℕ) (done : List Sender) (more : List Line) (entries : List Entry) → sender.sends ≡ sends → Ready mode sender → may_send place ≡ true
+sender_again : (sends : List SendLine) (sender : Sender) (stage : Stage) (mode : Mode) (ti sg : ℕ) (done : List Sender) (more : List Line) (entries : List Entry) → sender.sends ≡ sends → Ready mode sender → may_send stage ≡ true
     → AreLines mode (SenderLine sender.number sender.tg sender.at ∷ (map Sends sends ++ (map Takes sender.takes ++ more))) entries
-    → Behind (draft_of place mode ti sg done []) (draft_of (block_end sender) mode ti sg (done ++ sender ∷ []) []) mode more entries
-sender_again [] sender place mode ti sg done more entries e ready may are = absurd (omega (arith, ready.some, ap length e))
-sender_again (line ∷ lines) sender place mode ti sg done more [] e ready may are = absurd are
-sender_again (line ∷ lines) sender place mode ti sg done more (entry ∷ []) e ready may are = absurd are.1
-sender_again (line ∷ lines) sender place mode ti sg done more (entry ∷ next ∷ entries) e ready may are =
+    → Behind (draft_of stage mode ti sg done []) (draft_of (block_end sender) mode ti sg (done ++ sender ∷ []) []) mode more entries
+sender_again [] sender stage mode ti sg done more entries e ready may are = absurd (omega (arith, ready.some, ap length e))
+sender_again (line ∷ lines) sender stage mode ti sg done more [] e ready may are = absurd are
+sender_again (line ∷ lines) sender stage mode ti sg done more (entry ∷ []) e ready may are = absurd are.1
+sender_again (line ∷ lines) sender stage mode ti sg done more (entry ∷ next ∷ entries) e ready may are =
     let head = head_of sender in
     let sends = and_parts (is_send_line line) _ (ap (list_all is_send_line) (sym e) ∙ ready.sends) in
     let few : 1 + length lines ≤ 31 = omega (arith, ready.few, ap length e) in
     let sent = sends_again lines mode ti sg done (opened head line) (map Takes sender.takes ++ more) entries sends.1 few are.1.1 in
     let full = with_sends (opened head line) lines in
     let no_takes : full.takes ≡ [] = ap (λ (s : Sender). s.takes) (with_sends-is (opened head line) lines) in
-    let behind = takes_again sender.takes places.Send mode ti sg done full more sent.rest refl ready.takes (omega (arith, ready.few_takes, ap length no_takes)) sent.lines in
+    let behind = takes_again sender.takes stages.Send mode ti sg done full more sent.rest refl ready.takes (omega (arith, ready.few_takes, ap length no_takes)) sent.lines in
     record {
       rest = behind.rest;
       lines = behind.lines;
-      same = takes_line (draft_of place mode ti sg done []) (draft_of (places.Sender head) mode ti sg done []) entry (next ∷ entries) (sender_line place mode ti sg done head entry.fields may are.0 ready.head ready.offset)
-          ∙ takes_line (draft_of (places.Sender head) mode ti sg done []) (draft_of places.Send mode ti sg (done ++ opened head line ∷ []) []) next entries (first_send mode ti sg done head line next.fields are.1.0 sends.0)
+      same = takes_line (draft_of stage mode ti sg done []) (draft_of (stages.Sender head) mode ti sg done []) entry (next ∷ entries) (sender_line stage mode ti sg done head entry.fields may are.0 ready.head ready.offset)
+          ∙ takes_line (draft_of (stages.Sender head) mode ti sg done []) (draft_of stages.Send mode ti sg (done ++ opened head line ∷ []) []) next entries (first_send mode ti sg done head line next.fields are.1.0 sends.0)
           ∙ sent.same
           ∙ behind.same
           ∙ ap (λ (s : Sender). steps (draft_of (block_end sender) mode ti sg (done ++ s ∷ []) []) behind.rest) (grown sender line lines e);
     }
 
 -- where the senders end
-abbrev senders_end : Place → List Sender → Place
-senders_end place [] = place
-senders_end place (s ∷ senders) = senders_end (block_end s) senders
+abbrev senders_end : Stage → List Sender → Stage
+senders_end stage [] = stage
+senders_end stage (s ∷ senders) = senders_end (block_end s) senders
 
-senders_may : (place : Place) (senders : List Sender) → may_send place ≡ true → may_send (senders_end place senders) ≡ true
-senders_may place [] h = h
-senders_may place (s ∷ senders) h = senders_may (block_end s) senders (block_may s)
+senders_may : (stage : Stage) (senders : List Sender) → may_send stage ≡ true → may_send (senders_end stage senders) ≡ true
+senders_may stage [] h = h
+senders_may stage (s ∷ senders) h = senders_may (block_end s) senders (block_may s)
 
-senders_again : (senders : List Sender) (place : Place) (mode : Mode) (ti sg : ℕ) (done : List Sender) (more : List Line) (entries : List Entry) → AllByRecursion (Ready mode) senders → may_send place ≡ true
+senders_again : (senders : List Sender) (stage : Stage) (mode : Mode) (ti sg : ℕ) (done : List Sender) (more : List Line) (entries : List Entry) → AllByRecursion (Ready mode) senders → may_send stage ≡ true
     → AreLines mode (flat_map sender_lines senders ++ more) entries
-    → Behind (draft_of place mode ti sg done []) (draft_of (senders_end place senders) mode ti sg (done ++ senders) []) mode more entries
-senders_again [] place mode ti sg done more entries ready may are = record {
+    → Behind (draft_of stage mode ti sg done []) (draft_of (senders_end stage senders) mode ti sg (done ++ senders) []) mode more entries
+senders_again [] stage mode ti sg done more entries ready may are = record {
   rest = entries;
   lines = are;
-  same = ap (λ (ss : List Sender). steps (draft_of place mode ti sg ss []) entries) (sym (append-nil done));
+  same = ap (λ (ss : List Sender). steps (draft_of stage mode ti sg ss []) entries) (sym (append-nil done));
 }
-senders_again (sender ∷ senders) place mode ti sg done more entries ready may are =
+senders_again (sender ∷ senders) stage mode ti sg done more entries ready may are =
     let rest = flat_map sender_lines senders ++ more in
     let split = append_assoc (sender_lines sender) (flat_map sender_lines senders) more
     ∙ ap (λ ls. SenderLine sender.number sender.tg sender.at ∷ ls) (append_assoc (map Sends sender.sends) (map Takes sender.takes) rest) in
-    let one = sender_again sender.sends sender place mode ti sg done rest entries refl ready.0 may (subst (λ (ls : List Line). AreLines mode ls entries) split are) in
+    let one = sender_again sender.sends sender stage mode ti sg done rest entries refl ready.0 may (subst (λ (ls : List Line). AreLines mode ls entries) split are) in
     let others = senders_again senders (block_end sender) mode ti sg (done ++ sender ∷ []) more one.rest ready.1 (block_may sender) one.lines in
     record {
       rest = others.rest;
@@ -393,38 +393,38 @@ senders_again (sender ∷ senders) place mode ti sg done more entries ready may 
       same = one.same ∙ others.same ∙ ap (λ (ss : List Sender). steps (draft_of (senders_end (block_end sender) senders) mode ti sg ss []) others.rest) (append_assoc done (sender ∷ []) senders);
     }
 
--- the places at which a listener block may begin
-listener_may : (place : Place) (mode : Mode) (ti sg : ℕ) (senders : List Sender) (heard : List Listener) → may_end place ≡ true → may_come (draft_of place mode ti sg senders heard) keywords.Listener ≡ true
-listener_may places.Sg mode ti sg senders heard h = refl
-listener_may places.Send mode ti sg senders heard h = refl
-listener_may places.Take mode ti sg senders heard h = refl
-listener_may places.Listener mode ti sg senders heard h = refl
-listener_may place mode ti sg senders heard h = absurd cc
+-- the stages at which a listener block may begin
+listener_may : (stage : Stage) (mode : Mode) (ti sg : ℕ) (senders : List Sender) (heard : List Listener) → may_end stage ≡ true → may_come (draft_of stage mode ti sg senders heard) keywords.Listener ≡ true
+listener_may stages.Sg mode ti sg senders heard h = refl
+listener_may stages.Send mode ti sg senders heard h = refl
+listener_may stages.Take mode ti sg senders heard h = refl
+listener_may stages.Listener mode ti sg senders heard h = refl
+listener_may stage mode ti sg senders heard h = absurd cc
 
-send_ends : (place : Place) → may_send place ≡ true → may_end place ≡ true
-send_ends places.Sg h = refl
-send_ends places.Send h = refl
-send_ends places.Take h = refl
-send_ends place h = absurd cc
+send_ends : (stage : Stage) → may_send stage ≡ true → may_end stage ≡ true
+send_ends stages.Sg h = refl
+send_ends stages.Send h = refl
+send_ends stages.Take h = refl
+send_ends stage h = absurd cc
 
-listener_line : (place : Place) (mode : Mode) (ti sg : ℕ) (senders : List Sender) (heard : List Listener) (n : ℕ) (fields : List (List ℕ)) → may_end place ≡ true → IsLine mode (ListenerLine n) fields → is_number n ≡ true
-    → line_reading (draft_of place mode ti sg senders heard) fields ≡ Ok (draft_of places.Listener mode ti sg senders (heard ++ hearing n ∷ []))
-listener_line place mode ti sg senders heard n fields may h r =
-    word_line fields keywords.Listener (draft_of place mode ti sg senders heard) (ap keyword_of h.parts) (listener_may place mode ti sg senders heard may)
-    ∙ read_as (λ n. draft_of places.Listener mode ti sg senders (heard ++ hearing n ∷ [])) _ n (number_line_again is_number fields (codes "LISTENER") n h r)
+listener_line : (stage : Stage) (mode : Mode) (ti sg : ℕ) (senders : List Sender) (heard : List Listener) (n : ℕ) (fields : List (List ℕ)) → may_end stage ≡ true → IsLine mode (ListenerLine n) fields → is_number n ≡ true
+    → line_reading (draft_of stage mode ti sg senders heard) fields ≡ Ok (draft_of stages.Listener mode ti sg senders (heard ++ hearing n ∷ []))
+listener_line stage mode ti sg senders heard n fields may h r =
+    word_line fields keywords.Listener (draft_of stage mode ti sg senders heard) (ap keyword_of h.parts) (listener_may stage mode ti sg senders heard may)
+    ∙ read_as (λ n. draft_of stages.Listener mode ti sg senders (heard ++ hearing n ∷ [])) _ n (number_line_again is_number fields (codes "LISTENER") n h r)
 
 next_heard : (mode : Mode) (ti sg : ℕ) (senders : List Sender) (heard : List Listener) (listener : Listener) (line : TakeLine) (fields : List (List ℕ)) → length listener.takes < 64 → IsLine mode (Takes line) fields → is_take_line line ≡ true
-    → line_reading (draft_of places.Listener mode ti sg senders (heard ++ listener ∷ [])) fields ≡ Ok (draft_of places.Listener mode ti sg senders (heard ++ with_heard line listener ∷ []))
+    → line_reading (draft_of stages.Listener mode ti sg senders (heard ++ listener ∷ [])) fields ≡ Ok (draft_of stages.Listener mode ti sg senders (heard ++ with_heard line listener ∷ []))
 next_heard mode ti sg senders heard listener line fields few h r =
     let listeners = heard ++ listener ∷ [] in
     let count = of_last-push (λ (l : Listener). length l.takes) heard listener in
-    word_line fields keywords.Take (draft_of places.Listener mode ti sg senders listeners) (ap keyword_of h.parts) (ap (λ n. nat_lt n 64) count ∙ room (length listener.takes) 64 few)
-    ∙ read_as (λ l. draft_of places.Listener mode ti sg senders (with_last (with_heard l) listeners)) _ line (take_line_again fields line h r)
-    ∙ ap (λ (ls : List Listener). Ok (draft_of places.Listener mode ti sg senders ls)) (with_last-push (with_heard line) heard listener)
+    word_line fields keywords.Take (draft_of stages.Listener mode ti sg senders listeners) (ap keyword_of h.parts) (ap (λ n. nat_lt n 64) count ∙ room (length listener.takes) 64 few)
+    ∙ read_as (λ l. draft_of stages.Listener mode ti sg senders (with_last (with_heard l) listeners)) _ line (take_line_again fields line h r)
+    ∙ ap (λ (ls : List Listener). Ok (draft_of stages.Listener mode ti sg senders ls)) (with_last-push (with_heard line) heard listener)
 
 heard_again : (lines : List TakeLine) (mode : Mode) (ti sg : ℕ) (senders : List Sender) (heard : List Listener) (listener : Listener) (more : List Line) (entries : List Entry) → list_all is_take_line lines ≡ true → length listener.takes + length lines ≤ 64
     → AreLines mode (map Takes lines ++ more) entries
-    → Behind (draft_of places.Listener mode ti sg senders (heard ++ listener ∷ [])) (draft_of places.Listener mode ti sg senders (heard ++ with_all_heard listener lines ∷ [])) mode more entries
+    → Behind (draft_of stages.Listener mode ti sg senders (heard ++ listener ∷ [])) (draft_of stages.Listener mode ti sg senders (heard ++ with_all_heard listener lines ∷ [])) mode more entries
 heard_again [] mode ti sg senders heard listener more entries h few are = record { rest = entries; lines = are; same = refl }
 heard_again (line ∷ lines) mode ti sg senders heard listener more [] h few are = absurd are
 heard_again (line ∷ lines) mode ti sg senders heard listener more (entry ∷ entries) h few are =
@@ -434,25 +434,25 @@ heard_again (line ∷ lines) mode ti sg senders heard listener more (entry ∷ e
     record {
       rest = behind.rest;
       lines = behind.lines;
-      same = takes_line _ (draft_of places.Listener mode ti sg senders (heard ++ with_heard line listener ∷ [])) entry entries read ∙ behind.same;
+      same = takes_line _ (draft_of stages.Listener mode ti sg senders (heard ++ with_heard line listener ∷ [])) entry entries read ∙ behind.same;
     }
 
 -- where the listeners end
-abbrev listeners_end : Place → List Listener → Place
-listeners_end place [] = place
-listeners_end place (l ∷ listeners) = places.Listener
+abbrev listeners_end : Stage → List Listener → Stage
+listeners_end stage [] = stage
+listeners_end stage (l ∷ listeners) = stages.Listener
 
 nothing_left : (draft : Draft) → steps draft [] ≡ Ok draft
 unfolding steps
 nothing_left draft = refl
 
-listeners_again : (listeners : List Listener) (place : Place) (mode : Mode) (ti sg : ℕ) (senders : List Sender) (heard : List Listener) (entries : List Entry) → list_all is_listener listeners ≡ true → may_end place ≡ true
+listeners_again : (listeners : List Listener) (stage : Stage) (mode : Mode) (ti sg : ℕ) (senders : List Sender) (heard : List Listener) (entries : List Entry) → list_all is_listener listeners ≡ true → may_end stage ≡ true
     → AreLines mode (flat_map listener_lines listeners) entries
-    → steps (draft_of place mode ti sg senders heard) entries ≡ Ok (draft_of (listeners_end place listeners) mode ti sg senders (heard ++ listeners))
-listeners_again [] place mode ti sg senders heard [] range may are = nothing_left (draft_of place mode ti sg senders heard) ∙ ap (λ (ls : List Listener). Ok (draft_of place mode ti sg senders ls)) (sym (append-nil heard))
-listeners_again [] place mode ti sg senders heard (entry ∷ entries) range may are = absurd are
-listeners_again (listener ∷ listeners) place mode ti sg senders heard [] range may are = absurd are
-listeners_again (listener ∷ listeners) place mode ti sg senders heard (entry ∷ entries) range may are =
+    → steps (draft_of stage mode ti sg senders heard) entries ≡ Ok (draft_of (listeners_end stage listeners) mode ti sg senders (heard ++ listeners))
+listeners_again [] stage mode ti sg senders heard [] range may are = nothing_left (draft_of stage mode ti sg senders heard) ∙ ap (λ (ls : List Listener). Ok (draft_of stage mode ti sg senders ls)) (sym (append-nil heard))
+listeners_again [] stage mode ti sg senders heard (entry ∷ entries) range may are = absurd are
+listeners_again (listener ∷ listeners) stage mode ti sg senders heard [] range may are = absurd are
+listeners_again (listener ∷ listeners) stage mode ti sg senders heard (entry ∷ entries) range may are =
     let parts = and_parts (is_listener listener) _ range in
     let one = and_parts (is_number listener.number) _ parts.0 in
     let takes = and_parts (nat_le (length listener.takes) 64) _ one.1 in
@@ -460,20 +460,20 @@ listeners_again (listener ∷ listeners) place mode ti sg senders heard (entry �
     let few : 0 + length listener.takes ≤ 64 = omega arith in
     let behind = heard_again listener.takes mode ti sg senders heard (hearing listener.number) (flat_map listener_lines listeners) entries takes.1 few are.1 in
     let whole = with_all_heard-is (hearing listener.number) listener.takes in
-    takes_line (draft_of place mode ti sg senders heard) (draft_of places.Listener mode ti sg senders (heard ++ hearing listener.number ∷ [])) entry entries (listener_line place mode ti sg senders heard listener.number entry.fields may are.0 one.0)
+    takes_line (draft_of stage mode ti sg senders heard) (draft_of stages.Listener mode ti sg senders (heard ++ hearing listener.number ∷ [])) entry entries (listener_line stage mode ti sg senders heard listener.number entry.fields may are.0 one.0)
     ∙ behind.same
-    ∙ ap (λ (l : Listener). steps (draft_of places.Listener mode ti sg senders (heard ++ l ∷ [])) behind.rest) whole
-    ∙ listeners_again listeners places.Listener mode ti sg senders (heard ++ listener ∷ []) behind.rest parts.1 refl behind.lines
-    ∙ ap (λ (ls : List Listener). Ok (draft_of (listeners_end places.Listener listeners) mode ti sg senders ls)) (append_assoc heard (listener ∷ []) listeners)
-    ∙ ap (λ (p : Place). Ok (draft_of p mode ti sg senders (heard ++ listener ∷ listeners))) (still_heard listeners)
+    ∙ ap (λ (l : Listener). steps (draft_of stages.Listener mode ti sg senders (heard ++ l ∷ [])) behind.rest) whole
+    ∙ listeners_again listeners stages.Listener mode ti sg senders (heard ++ listener ∷ []) behind.rest parts.1 refl behind.lines
+    ∙ ap (λ (ls : List Listener). Ok (draft_of (listeners_end stages.Listener listeners) mode ti sg senders ls)) (append_assoc heard (listener ∷ []) listeners)
+    ∙ ap (λ (p : Stage). Ok (draft_of p mode ti sg senders (heard ++ listener ∷ listeners))) (still_heard listeners)
   where
-    still_heard : (listeners : List Listener) → listeners_end places.Listener listeners ≡ places.Listener
+    still_heard : (listeners : List Listener) → listeners_end stages.Listener listeners ≡ stages.Listener
     still_heard [] = refl
     still_heard (l ∷ listeners) = refl
 
-ends_well : (place : Place) (listeners : List Listener) → may_end place ≡ true → may_end (listeners_end place listeners) ≡ true
-ends_well place [] h = h
-ends_well place (l ∷ listeners) h = refl
+ends_well : (stage : Stage) (listeners : List Listener) → may_end stage ≡ true → may_end (listeners_end stage listeners) ≡ true
+ends_well stage [] h = h
+ends_well stage (l ∷ listeners) h = refl
 
 ready_sender : (mode : Mode) (sender : Sender) → is_sender sender ≡ true → fits_offset mode sender.at ≡ true → Ready mode sender
 ready_sender mode sender range offset =
@@ -514,15 +514,15 @@ again_at mode ti sg senders listeners (a ∷ b ∷ c ∷ d ∷ entries) after ra
     let s = and_parts (is_sg sg) _ t.1 in
     let in_senders = and_parts (list_all is_sender senders) _ s.1 in
     let in_listeners = and_parts (list_all is_listener listeners) _ in_senders.1 in
-    let sent = senders_again senders places.Sg mode ti sg [] (flat_map listener_lines listeners) entries (ready_senders mode senders in_senders.0 in_listeners.1) refl are.1.1.1.1 in
-    let end = senders_end places.Sg senders in
-    let may = send_ends end (senders_may places.Sg senders refl) in
+    let sent = senders_again senders stages.Sg mode ti sg [] (flat_map listener_lines listeners) entries (ready_senders mode senders in_senders.0 in_listeners.1) refl are.1.1.1.1 in
+    let end = senders_end stages.Sg senders in
+    let may = send_ends end (senders_may stages.Sg senders refl) in
     let last = draft_of (listeners_end end listeners) mode ti sg senders listeners in
     let read : steps start (a ∷ b ∷ c ∷ d ∷ entries) ≡ Ok last =
-    takes_line start (in_head places.Table Aperiodic 0 0) a (b ∷ c ∷ d ∷ entries) (table_line mode a.fields are.0)
-    ∙ takes_line (in_head places.Table Aperiodic 0 0) (in_head places.Mode mode 0 0) b (c ∷ d ∷ entries) (mode_line mode b.fields are.1.0)
-    ∙ takes_line (in_head places.Mode mode 0 0) (in_head places.Ti mode ti 0) c (d ∷ entries) (ti_line mode ti c.fields are.1.1.0 t.0)
-    ∙ takes_line (in_head places.Ti mode ti 0) (in_head places.Sg mode ti sg) d entries (sg_line mode ti sg d.fields are.1.1.1.0 s.0)
+    takes_line start (in_head stages.Table Aperiodic 0 0) a (b ∷ c ∷ d ∷ entries) (table_line mode a.fields are.0)
+    ∙ takes_line (in_head stages.Table Aperiodic 0 0) (in_head stages.Mode mode 0 0) b (c ∷ d ∷ entries) (mode_line mode b.fields are.1.0)
+    ∙ takes_line (in_head stages.Mode mode 0 0) (in_head stages.Ti mode ti 0) c (d ∷ entries) (ti_line mode ti c.fields are.1.1.0 t.0)
+    ∙ takes_line (in_head stages.Ti mode ti 0) (in_head stages.Sg mode ti sg) d entries (sg_line mode ti sg d.fields are.1.1.1.0 s.0)
     ∙ sent.same
     ∙ listeners_again listeners end mode ti sg senders [] sent.rest in_listeners.0 may sent.lines in
     ap (λ r. r >>= ended after) read ∙ ap (λ t. cond t (read_table last) (Err (record { line = after; reason = reasons.Ended }))) (ends_well end listeners may)

@@ -1,5 +1,5 @@
 -- What the lines so far have given, and what a further line makes of it.
--- Draft: what is known of the table. Place: what stood last, which decides what may follow.
+-- Draft: what is known of the table. Stage: what stood last, which decides what may follow.
 use Rattle.std.specs.Prelude.{ℕ, Bool, true, false, nat_lt, List, [], ◌∷◌, ◌++◌, length, Option, Some, None, Result, Ok, Err, if◌then◌else◌}
 use Rattle.bus_text.specs.declared.reason.Reason.{Reason}
 use Rattle.bus_text.specs.declared.reason.Reason.TheVariants as reasons
@@ -9,8 +9,8 @@ use Rattle.bus_table.specs.declared.keyword.Keyword.{Keyword}
 use Rattle.bus_table.specs.declared.keyword.Keyword.TheVariants as keywords
 use Rattle.bus_table.specs.declared.mode.Mode.{Mode}
 use Rattle.bus_table.specs.declared.mode.Mode.TheVariants.{Aperiodic}
-use Rattle.bus_table.specs.declared.place.Place.{Place}
-use Rattle.bus_table.specs.declared.place.Place.TheVariants as places
+use Rattle.bus_table.specs.declared.stage.Stage.{Stage}
+use Rattle.bus_table.specs.declared.stage.Stage.TheVariants as stages
 use Rattle.bus_table.specs.Heads.{Head}
 use Rattle.bus_table.specs.Forms.{keyword_of, table_reading, mode_reading, number_reading, head_reading, send_reading, take_reading}
 use Rattle.bus_table.specs.Ranges.{is_number, is_ti, is_sg, most_takes}
@@ -18,16 +18,21 @@ use Rattle.bus_table.specs.Tables.{SendLine, TakeLine, Sender, Listener}
 
 -- what is known of a table; the mode is aperiodic before its line, and ti and sg are 0 before theirs
 pub record Draft : Type 0 where
-  pub place : Place
+  pub stage : Stage
   pub mode : Mode
   pub ti : ℕ
   pub sg : ℕ
   pub senders : List Sender
   pub listeners : List Listener
 
+-- a draft of these parts
+abbrev pub draft_of : Stage → Mode → ℕ → ℕ → List Sender → List Listener → Draft
+draft_of stage mode ti sg senders listeners =
+    record { stage = stage; mode = mode; ti = ti; sg = sg; senders = senders; listeners = listeners }
+
 -- before the first line
 abbrev pub start : Draft
-start = record { place = places.Start; mode = Aperiodic; ti = 0; sg = 0; senders = []; listeners = [] }
+start = draft_of stages.Start Aperiodic 0 0 [] []
 
 -- a number of the last of these, and 0 where there is none
 abbrev pub of_last : {X : Type 0} → (X → ℕ) → List X → ℕ
@@ -40,41 +45,41 @@ abbrev pub last_sends : List Sender → ℕ
 last_sends senders = of_last (λ sender. length sender.sends) senders
 
 -- how many TAKE lines the terminal has that stands last: the last listener, or before the first listener the last sender
-abbrev pub last_takes : Place → List Sender → List Listener → ℕ
-last_takes places.Listener senders listeners = of_last (λ listener. length listener.takes) listeners
-last_takes place senders listeners = of_last (λ sender. length sender.takes) senders
+abbrev pub last_takes : Stage → List Sender → List Listener → ℕ
+last_takes stages.Listener senders listeners = of_last (λ listener. length listener.takes) listeners
+last_takes stage senders listeners = of_last (λ sender. length sender.takes) senders
 
--- whether a keyword may stand behind a place, where the terminal that stands last has so many SEND lines and TAKE lines
-abbrev pub may_follow : Place → ℕ → ℕ → Keyword → Bool
-may_follow places.Start sends takes keywords.Table = true
-may_follow places.Table sends takes keywords.Mode = true
-may_follow places.Mode sends takes keywords.Ti = true
-may_follow places.Ti sends takes keywords.Sg = true
-may_follow places.Sg sends takes keywords.Sender = true
-may_follow places.Sg sends takes keywords.Listener = true
-may_follow (places.Sender head) sends takes keywords.Send = true
-may_follow places.Send sends takes keywords.Send = nat_lt sends most_strings
-may_follow places.Send sends takes keywords.Take = nat_lt takes most_takes
-may_follow places.Send sends takes keywords.Sender = true
-may_follow places.Send sends takes keywords.Listener = true
-may_follow places.Take sends takes keywords.Take = nat_lt takes most_takes
-may_follow places.Take sends takes keywords.Sender = true
-may_follow places.Take sends takes keywords.Listener = true
-may_follow places.Listener sends takes keywords.Take = nat_lt takes most_takes
-may_follow places.Listener sends takes keywords.Listener = true
-may_follow place sends takes keyword = false
+-- whether a keyword may come at a stage, where the terminal that stands last has so many SEND lines and TAKE lines
+abbrev pub may_follow : Stage → ℕ → ℕ → Keyword → Bool
+may_follow stages.Start sends takes keywords.Table = true
+may_follow stages.Table sends takes keywords.Mode = true
+may_follow stages.Mode sends takes keywords.Ti = true
+may_follow stages.Ti sends takes keywords.Sg = true
+may_follow stages.Sg sends takes keywords.Sender = true
+may_follow stages.Sg sends takes keywords.Listener = true
+may_follow (stages.Sender head) sends takes keywords.Send = true
+may_follow stages.Send sends takes keywords.Send = nat_lt sends most_strings
+may_follow stages.Send sends takes keywords.Take = nat_lt takes most_takes
+may_follow stages.Send sends takes keywords.Sender = true
+may_follow stages.Send sends takes keywords.Listener = true
+may_follow stages.Take sends takes keywords.Take = nat_lt takes most_takes
+may_follow stages.Take sends takes keywords.Sender = true
+may_follow stages.Take sends takes keywords.Listener = true
+may_follow stages.Listener sends takes keywords.Take = nat_lt takes most_takes
+may_follow stages.Listener sends takes keywords.Listener = true
+may_follow stage sends takes keyword = false
 
 -- whether a line of a keyword may come next
 abbrev pub may_come : Draft → Keyword → Bool
-may_come draft keyword = may_follow draft.place (last_sends draft.senders) (last_takes draft.place draft.senders draft.listeners) keyword
+may_come draft keyword = may_follow draft.stage (last_sends draft.senders) (last_takes draft.stage draft.senders draft.listeners) keyword
 
--- whether the text may end behind a place
-abbrev pub may_end : Place → Bool
-may_end places.Sg = true
-may_end places.Send = true
-may_end places.Take = true
-may_end places.Listener = true
-may_end place = false
+-- whether the text may end at a stage
+abbrev pub may_end : Stage → Bool
+may_end stages.Sg = true
+may_end stages.Send = true
+may_end stages.Take = true
+may_end stages.Listener = true
+may_end stage = false
 
 -- a sender with its first SEND line
 abbrev pub opened : Head → SendLine → Sender
@@ -103,27 +108,28 @@ with_last change (last ∷ []) = change last ∷ []
 with_last change (first ∷ next ∷ others) = first ∷ with_last change (next ∷ others)
 
 -- the senders after a SEND line, which behind a SENDER line is the first of a new one
-abbrev pub senders_after : Place → SendLine → List Sender → List Sender
-senders_after (places.Sender head) line senders = senders ++ opened head line ∷ []
-senders_after place line senders = with_last (with_send line) senders
+abbrev pub senders_after : Stage → SendLine → List Sender → List Sender
+senders_after (stages.Sender head) line senders = senders ++ opened head line ∷ []
+senders_after stage line senders = with_last (with_send line) senders
 
 -- the draft after a TAKE line, which is of the terminal that stands last
-abbrev pub taken : Place → Draft → TakeLine → Draft
-taken places.Listener draft line = record draft { listeners = with_last (with_heard line) draft.listeners }
-taken place draft line = record draft { place = places.Take; senders = with_last (with_take line) draft.senders }
+abbrev pub taken : Stage → Draft → TakeLine → Draft
+taken stages.Listener draft line = record draft { listeners = with_last (with_heard line) draft.listeners }
+taken stage draft line = record draft { stage = stages.Take; senders = with_last (with_take line) draft.senders }
 
 -- the draft after a line of this keyword, which may come next
 abbrev pub form_reading : Draft → Keyword → List (List ℕ) → Result Draft Reason
-form_reading draft keywords.Table fields = table_reading fields >>= λ _. Ok (record draft { place = places.Table })
-form_reading draft keywords.Mode fields = mode_reading fields >>= λ mode. Ok (record draft { place = places.Mode; mode = mode })
-form_reading draft keywords.Ti fields = number_reading is_ti fields >>= λ ti. Ok (record draft { place = places.Ti; ti = ti })
-form_reading draft keywords.Sg fields = number_reading is_sg fields >>= λ sg. Ok (record draft { place = places.Sg; sg = sg })
-form_reading draft keywords.Sender fields = head_reading draft.mode fields >>= λ head. Ok (record draft { place = places.Sender head })
+form_reading draft keywords.Table fields = table_reading fields >>= λ _. Ok (record draft { stage = stages.Table })
+form_reading draft keywords.Mode fields = mode_reading fields >>= λ mode. Ok (record draft { stage = stages.Mode; mode = mode })
+form_reading draft keywords.Ti fields = number_reading is_ti fields >>= λ ti. Ok (record draft { stage = stages.Ti; ti = ti })
+form_reading draft keywords.Sg fields = number_reading is_sg fields >>= λ sg. Ok (record draft { stage = stages.Sg; sg = sg })
+form_reading draft keywords.Sender fields = head_reading draft.mode fields >>= λ head. Ok (record draft { stage = stages.Sender head })
 form_reading draft keywords.Send fields =
-    send_reading fields >>= λ line. Ok (record draft { place = places.Send; senders = senders_after draft.place line draft.senders })
-form_reading draft keywords.Take fields = take_reading fields >>= λ line. Ok (taken draft.place draft line)
+    send_reading fields >>= λ line. Ok (record draft { stage = stages.Send; senders = senders_after draft.stage line draft.senders })
+form_reading draft keywords.Take fields = take_reading fields >>= λ line. Ok (taken draft.stage draft line)
 form_reading draft keywords.Listener fields =
-    number_reading is_number fields >>= λ number. Ok (record draft { place = places.Listener; listeners = draft.listeners ++ hearing number ∷ [] })
+    number_reading is_number fields
+    >>= λ number. Ok (record draft { stage = stages.Listener; listeners = draft.listeners ++ hearing number ∷ [] })
 
 -- the draft after a line whose keyword is this
 abbrev pub keyword_reading : Draft → Option Keyword → List (List ℕ) → Result Draft Reason

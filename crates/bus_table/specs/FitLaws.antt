@@ -16,11 +16,13 @@ both false b h k = absurd cc
 both true false h k = absurd cc
 
 -- a line and its wordstring
-record Matched (test : SendLine → ℕ → Bool) (line : SendLine) (string : Wordstring) (sends : List SendLine) (message : Message) : Type 0 where
+record Matched (test : SendLine → ℕ → Bool) (line : SendLine) (string : Wordstring) (sends : List SendLine) (message : Message)
+    : Type 0 where
   words : test line (length string.words) ≡ true
   others : matches test sends message ≡ true
 
-matched : (test : SendLine → ℕ → Bool) (line : SendLine) (sends : List SendLine) (string : Wordstring) (message : Message) → matches test (line ∷ sends) (string ∷ message) ≡ true → Matched test line string sends message
+matched : (test : SendLine → ℕ → Bool) (line : SendLine) (sends : List SendLine) (string : Wordstring) (message : Message)
+    → matches test (line ∷ sends) (string ∷ message) ≡ true → Matched test line string sends message
 matched test line sends string message h =
     let label = and_parts (string.label == line.label) _ h in
     let ext = and_parts (string.ext == line.ext) _ label.1 in
@@ -28,28 +30,38 @@ matched test line sends string message h =
     record { words = words.0; others = words.1 }
 
 -- as many wordstrings as lines
-same_count : (test : SendLine → ℕ → Bool) (sends : List SendLine) (message : Message) → matches test sends message ≡ true → length message ≡ length sends
+same_count : (test : SendLine → ℕ → Bool) (sends : List SendLine) (message : Message) → matches test sends message ≡ true
+    → length message ≡ length sends
 same_count test [] [] h = refl
 same_count test [] (string ∷ message) h = absurd cc
 same_count test (line ∷ sends) [] h = absurd cc
-same_count test (line ∷ sends) (string ∷ message) h = omega (arith, same_count test sends message (matched test line sends string message h).others)
+same_count test (line ∷ sends) (string ∷ message) h =
+    omega (arith, same_count test sends message (matched test line sends string message h).others)
 
 -- a number of words for each line, which the test holds the wordstring to
-words_at_least : (test : SendLine → ℕ → Bool) (count : SendLine → ℕ) → ((line : SendLine) (n : ℕ) → test line n ≡ true → count line ≤ n) → (sends : List SendLine) (message : Message) → matches test sends message ≡ true → sum_by (λ line. 1 + count line) sends ≤ sum_by word_count message
+words_at_least : (test : SendLine → ℕ → Bool) (count : SendLine → ℕ) → ((line : SendLine) (n : ℕ) → test line n ≡ true → count line ≤ n)
+    → (sends : List SendLine) (message : Message) → matches test sends message ≡ true
+    → sum_by (λ line. 1 + count line) sends ≤ sum_by word_count message
 words_at_least test count bound [] [] h = omega arith
 words_at_least test count bound [] (string ∷ message) h = absurd cc
 words_at_least test count bound (line ∷ sends) [] h = absurd cc
 words_at_least test count bound (line ∷ sends) (string ∷ message) h =
     let m = matched test line sends string message h in
-    omega (arith, bound line (length string.words) m.words, words_at_least test count bound sends message m.others, sum_by-cons (λ (l : SendLine). 1 + count l) line sends, sum_by-cons word_count string message)
+    let others = words_at_least test count bound sends message m.others in
+    let lines = sum_by-cons (λ (l : SendLine). 1 + count l) line sends in
+    omega (arith, bound line (length string.words) m.words, others, lines, sum_by-cons word_count string message)
 
-words_at_most : (test : SendLine → ℕ → Bool) (count : SendLine → ℕ) → ((line : SendLine) (n : ℕ) → test line n ≡ true → n ≤ count line) → (sends : List SendLine) (message : Message) → matches test sends message ≡ true → sum_by word_count message ≤ sum_by (λ line. 1 + count line) sends
+words_at_most : (test : SendLine → ℕ → Bool) (count : SendLine → ℕ) → ((line : SendLine) (n : ℕ) → test line n ≡ true → n ≤ count line)
+    → (sends : List SendLine) (message : Message) → matches test sends message ≡ true
+    → sum_by word_count message ≤ sum_by (λ line. 1 + count line) sends
 words_at_most test count bound [] [] h = omega arith
 words_at_most test count bound [] (string ∷ message) h = absurd cc
 words_at_most test count bound (line ∷ sends) [] h = absurd cc
 words_at_most test count bound (line ∷ sends) (string ∷ message) h =
     let m = matched test line sends string message h in
-    omega (arith, bound line (length string.words) m.words, words_at_most test count bound sends message m.others, sum_by-cons (λ (l : SendLine). 1 + count l) line sends, sum_by-cons word_count string message)
+    let others = words_at_most test count bound sends message m.others in
+    let lines = sum_by-cons (λ (l : SendLine). 1 + count l) line sends in
+    omega (arith, bound line (length string.words) m.words, others, lines, sum_by-cons word_count string message)
 
 allows_least : (line : SendLine) (n : ℕ) → allows line n ≡ true → line.least ≤ n
 allows_least line n h = let p = and_parts (nat_le line.least n) _ h in grind (arith, nat_tests, p.0)
@@ -58,7 +70,8 @@ allows_most : (line : SendLine) (n : ℕ) → allows line n ≡ true → n ≤ l
 allows_most line n h = let p = and_parts (nat_le line.least n) _ h in grind (arith, nat_tests, p.1)
 
 -- a message that fits a sender is no shorter than its shortest and no longer than its longest
-pub fitting_length : (sender : Sender) (message : Message) → fits sender message ≡ true → (shortest sender ≤ bits message) × (bits message ≤ longest sender)
+pub fitting_length : (sender : Sender) (message : Message) → fits sender message ≡ true
+    → (shortest sender ≤ bits message) × (bits message ≤ longest sender)
 fitting_length sender message h =
     let count = same_count allows sender.sends message h in
     let least = words_at_least allows (λ line. line.least) allows_least sender.sends message h in
@@ -89,9 +102,13 @@ longest_length sender message h =
     let high = words_at_most test (λ line. line.most) (λ line n e. omega (arith, equal_most line n e)) sender.sends message h in
     omega (arith, count, low, high)
 
-least_matches : (sends : List SendLine) → matches (λ line words. words == line.least) sends (map (λ line. record { label = line.label; ext = line.ext; words = replicate line.least 0 }) sends) ≡ true
+least_matches : (sends : List SendLine)
+    → let message : Message = map (λ line. record { label = line.label; ext = line.ext; words = replicate line.least 0 }) sends in
+    matches (λ line words. words == line.least) sends message ≡ true
 least_matches [] = refl
-least_matches (line ∷ sends) = both _ _ (eq-eqb line.label line.label refl) (both _ _ (eq-eqb line.ext line.ext refl) (both _ _ (eq-eqb (length (replicate line.least 0)) line.least (length-replicate line.least 0)) (least_matches sends)))
+least_matches (line ∷ sends) =
+    both _ _ (eq-eqb line.label line.label refl) (both _ _ (eq-eqb line.ext line.ext refl)
+    (both _ _ (eq-eqb (length (replicate line.least 0)) line.least (length-replicate line.least 0)) (least_matches sends)))
 
 -- there is such a message
 pub least_is_shortest : (sender : Sender) → is_shortest sender (least_message sender) ≡ true

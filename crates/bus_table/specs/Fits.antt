@@ -1,7 +1,8 @@
 -- Which messages fit a sender, and which items of a messages text give such messages.
 --   item    a terminal and the data words of one of its messages, without labels
 --   fits    has the labels and extensions of the SEND lines in order, and from least to most data words on each
-use Rattle.std.specs.Prelude.{ℕ, ◌+◌, Bool, true, false, ◌&&◌, ◌==◌, nat_le, List, [], ◌∷◌, length, map, replicate, Option, Some, None, Result, Ok, Err, if◌then◌else◌}
+use Rattle.std.specs.Prelude.{ℕ, ◌+◌, Bool, true, false, ◌&&◌, ◌==◌, nat_le, List, [], ◌∷◌, length, map, replicate, Option, Some, None}
+use Rattle.std.specs.Prelude.{Result, Ok, Err, if◌then◌else◌}
 use Rattle.std.specs.List.{find}
 use Rattle.bus_text.specs.AllOf.{◌>>=◌}
 use Rattle.bus_strings.specs.Items.{Item}
@@ -19,16 +20,18 @@ abbrev pub matches : (SendLine → ℕ → Bool) → List SendLine → Message �
 matches test [] [] = true
 matches test [] (string ∷ message) = false
 matches test (line ∷ sends) [] = false
-matches test (line ∷ sends) (string ∷ message) = string.label == line.label && (string.ext == line.ext && (test line (length string.words) && matches test sends message))
+matches test (line ∷ sends) (string ∷ message) =
+    string.label == line.label && (string.ext == line.ext && (test line (length string.words) && matches test sends message))
 
 -- whether a message fits a sender
 abbrev pub fits : Sender → Message → Bool
 fits sender message = matches allows sender.sends message
 
--- whether a message of a sender has the least data words on each line, or the most
+-- whether a message of a sender has the least data words on each line
 abbrev pub is_shortest : Sender → Message → Bool
 is_shortest sender message = matches (λ line words. words == line.least) sender.sends message
 
+-- whether a message of a sender has the most data words on each line
 abbrev pub is_longest : Sender → Message → Bool
 is_longest sender message = matches (λ line words. words == line.most) sender.sends message
 

@@ -1,5 +1,5 @@
 -- The hands that items give.
-use Rattle.std.specs.Prelude.{ℕ, Bool, true, false, ◌&&◌, ◌==◌, List, [], ◌∷◌, ◌++◌, map}
+use Rattle.std.specs.Prelude.{ℕ, Bool, true, false, IsTrue, ◌&&◌, ◌==◌, List, [], ◌∷◌, ◌++◌, map}
 use Rattle.std.specs.List.{filter, list_all}
 use Rattle.bus_strings.specs.Items.{Item}
 use Rattle.bus_strings.specs.Messages.{Message}
@@ -10,7 +10,8 @@ use Rattle.bus_table.specs.Tables.{SendLine, Sender, Table, Hand}
 abbrev pub message_of : List SendLine → List (List ℕ) → Message
 message_of [] strings = []
 message_of (line ∷ sends) [] = []
-message_of (line ∷ sends) (string ∷ strings) = record { label = line.label; ext = line.ext; words = string } ∷ message_of sends strings
+message_of (line ∷ sends) (string ∷ strings) =
+    record { label = line.label; ext = line.ext; words = string } ∷ message_of sends strings
 
 -- the items of a terminal, in order
 abbrev pub items_of : ℕ → List Item → List Item
@@ -18,7 +19,8 @@ items_of number items = filter (λ item. item.terminal == number) items
 
 -- the hand of a sender: its items are its messages
 abbrev pub hand_of : List Item → Sender → Hand
-hand_of items sender = record { terminal = sender.number; messages = map (λ item. message_of sender.sends item.strings) (items_of sender.number items) }
+hand_of items sender =
+    record { terminal = sender.number; messages = map (λ item. message_of sender.sends item.strings) (items_of sender.number items) }
 
 -- one hand for each sender, in the order of the table
 abbrev pub hands_of : Table → List Item → List Hand
@@ -33,4 +35,9 @@ abbrev pub are_hands : List Sender → List Hand → Bool
 are_hands [] [] = true
 are_hands [] (hand ∷ hands) = false
 are_hands (sender ∷ senders) [] = false
-are_hands (sender ∷ senders) (hand ∷ hands) = hand.terminal == sender.number && (list_all (fits sender) hand.messages && are_hands senders hands)
+are_hands (sender ∷ senders) (hand ∷ hands) =
+    hand.terminal == sender.number && (list_all (fits sender) hand.messages && are_hands senders hands)
+
+-- the hands that items give are those of the table's senders, and each message fits
+abbrev pub GiveHands : Table → List Item → Type 0
+GiveHands table items = IsTrue (are_hands table.senders (hands_of table items))

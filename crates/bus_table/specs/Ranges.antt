@@ -1,10 +1,14 @@
 -- The ranges of the numbers of a table, as tests.
-use Rattle.std.specs.Prelude.{ℕ, Bool, true, ◌&&◌, nat_lt, nat_le, List, length}
+use Rattle.std.specs.Prelude.{ℕ, Bool, true, ◌&&◌, nat_lt, nat_le, List, length, Option, Some, None, if◌then◌else◌}
 use Rattle.std.specs.Int.{is_in_range}
 use Rattle.std.specs.List.{list_all}
 use Rattle.std.specs.Option.{option_map_or}
 use Rattle.bus_strings.specs.Limits.{most_terminal, most_strings, most_words}
 use Rattle.bus_table.specs.Tables.{SendLine, TakeLine, Sender, Listener}
+
+-- a value, where a test takes it
+abbrev pub taken_by : {X : Type 0} → (X → Bool) → X → Option X
+taken_by test value = if test value then Some value else None
 
 -- a terminal number
 abbrev pub is_number : ℕ → Bool

@@ -1,4 +1,4 @@
--- What a table text reads as, and the place and the reason of its refusal.
+-- What a table text reads as, and the stage and the reason of its refusal.
 use Rattle.std.specs.Prelude.{ℕ, List, [], ◌∷◌, Option, Some, None, Result, Ok, Err, if◌then◌else◌}
 use Rattle.bus_text.specs.declared.reason.Reason.TheVariants.{Ended}
 use Rattle.bus_text.specs.AllOf.{◌>>=◌}
@@ -26,7 +26,7 @@ table_of draft = record { mode = draft.mode; ti = draft.ti; sg = draft.sg; sende
 
 -- the table of the last draft, where the text may end there; else the text has ended too early, one past its last line
 abbrev pub ended : ℕ → Draft → Result Table Refusal
-ended after draft = if may_end draft.place then Ok (table_of draft) else Err (record { line = after; reason = Ended })
+ended after draft = if may_end draft.stage then Ok (table_of draft) else Err (record { line = after; reason = Ended })
 
 -- the table that a text stands for, valid or not
 unfoldable pub text_reading : List ℕ → Result Table Refusal

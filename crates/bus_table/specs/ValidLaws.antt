@@ -1,5 +1,6 @@
 -- A valid table has its facts: a law of the computing test.
-use Rattle.std.specs.Prelude.{◌≡◌, ℕ, ◌<◌, ◌≤◌, Bool, true, false, ◌||◌, ◌==◌, nat_le, nat_eq, is_none, IsTrue, List, [], ◌∷◌, ◌++◌, length, map, Option, Some, None}
+use Rattle.std.specs.Prelude.{◌≡◌, ℕ, ◌<◌, ◌≤◌, Bool, true, false, ◌||◌, ◌==◌, nat_le, nat_eq, is_none, IsTrue, List, [], ◌∷◌, ◌++◌, length}
+use Rattle.std.specs.Prelude.{map, Option, Some, None}
 use Rattle.std.specs.List.{list_all, list_any, find, IsDistinct, AllByRecursion}
 use Rattle.std.specs.Option.{option_map, option_or}
 use Rattle.std.proofs.Common.{arith, refl, sym, ◌∙◌, cond}
@@ -13,7 +14,8 @@ use Rattle.bus_table.specs.declared.mode.Mode.TheVariants.{Aperiodic, Periodic}
 use Rattle.bus_table.specs.declared.error.WholeReason.TheVariants.{NumberTwice}
 use Rattle.bus_table.specs.Tables.{Sender, Table}
 use Rattle.bus_table.specs.Ranges.{is_number, is_tg, is_sender, is_listener, is_ti, is_sg}
-use Rattle.bus_table.specs.Whole.{first_again, numbers, number_twice, no_sender, gap_twice, gap_not_short, pair_twice, periodic_refusal, whole_refusal}
+use Rattle.bus_table.specs.Whole.{first_again, numbers, number_twice, no_sender, gap_twice, gap_not_short, pair_twice, periodic_refusal}
+use Rattle.bus_table.specs.Whole.{whole_refusal}
 use Rattle.bus_table.specs.Valid.{fits_mode, is_valid, is_in_range as table_in_range}
 use Rattle.bus_table.specs.Facts.{FitsMode, SenderFacts, TableFacts}
 
@@ -31,24 +33,30 @@ is_none_is None h = refl
 is_none_is (Some x) h = absurd (cc)
 
 -- the first element is not among the earlier ones
-fresh_first : {A : Type 0} (same : A → A → Bool) (earlier : List A) (x : A) (xs : List A) → first_again same earlier (x ∷ xs) ≡ None → (list_any (λ y. same y x) earlier ≡ false) × (first_again same (earlier ++ x ∷ []) xs ≡ None)
+fresh_first : {A : Type 0} (same : A → A → Bool) (earlier : List A) (x : A) (xs : List A) → first_again same earlier (x ∷ xs) ≡ None
+    → (list_any (λ y. same y x) earlier ≡ false) × (first_again same (earlier ++ x ∷ []) xs ≡ None)
 fresh_first same earlier x xs h =
-    elim (list_any (λ y. same y x) earlier) as (λ b. cond b (Some x) (first_again same (earlier ++ x ∷ []) xs) ≡ None → (b ≡ false) × (first_again same (earlier ++ x ∷ []) xs ≡ None)) [
+    elim (list_any (λ y. same y x) earlier) as (λ b. cond b (Some x) (first_again same (earlier ++ x ∷ []) xs) ≡ None → (b ≡ false) ×
+    (first_again same (earlier ++ x ∷ []) xs ≡ None)) [
       | true ↦ λ k. absurd (cc)
       | false ↦ λ k. (refl, k)
     ] h
 
 -- apart from the earlier ones and from one more
-apart_parts : {A : Type 0} (same : A → A → Bool) (earlier : List A) (x : A) (xs : List A) → AllByRecursion (λ z. list_any (λ y. same y z) (earlier ++ x ∷ []) ≡ false) xs → AllByRecursion (λ z. list_any (λ y. same y z) earlier ≡ false) xs × AllByRecursion (λ z. same x z ≡ false) xs
+apart_parts : {A : Type 0} (same : A → A → Bool) (earlier : List A) (x : A) (xs : List A)
+    → AllByRecursion (λ z. list_any (λ y. same y z) (earlier ++ x ∷ []) ≡ false) xs
+    → AllByRecursion (λ z. list_any (λ y. same y z) earlier ≡ false) xs × AllByRecursion (λ z. same x z ≡ false) xs
 apart_parts same earlier x [] h = (tt, tt)
 apart_parts same earlier x (z ∷ zs) h =
-    let both = or_parts (list_any (λ y. same y z) earlier) (same x z || false) (sym (list_any-append (λ y. same y z) earlier (x ∷ [])) ∙ h.0) in
+    let both = or_parts (list_any (λ y. same y z) earlier) (same x z || false) (sym (list_any-append (λ y. same y z) earlier (x ∷ []))
+    ∙ h.0) in
     let last = or_parts (same x z) false both.1 in
     let rest = apart_parts same earlier x zs h.1 in
     ((both.0, rest.0), (last.0, rest.1))
 
 -- where nothing stands again, all are different
-all_distinct : {A : Type 0} (same : A → A → Bool) (earlier xs : List A) → first_again same earlier xs ≡ None → IsDistinct same xs × AllByRecursion (λ z. list_any (λ y. same y z) earlier ≡ false) xs
+all_distinct : {A : Type 0} (same : A → A → Bool) (earlier xs : List A) → first_again same earlier xs ≡ None
+    → IsDistinct same xs × AllByRecursion (λ z. list_any (λ y. same y z) earlier ≡ false) xs
 unfolding IsDistinct
 all_distinct same earlier [] h = (tt, tt)
 all_distinct same earlier (x ∷ xs) h =
@@ -72,24 +80,28 @@ number_bounds sender h =
     let number = and_parts (nat_le 1 sender.number) _ (and_parts (is_number sender.number) _ h).0 in
     (grind (arith, nat_tests, number.0), grind (arith, nat_tests, number.1))
 
-no_zero : (senders : List Sender) → list_all is_sender senders ≡ true → AllByRecursion (λ n. nat_eq 0 n ≡ false) (map (λ sender. sender.number) senders)
+no_zero : (senders : List Sender) → list_all is_sender senders ≡ true
+    → AllByRecursion (λ n. nat_eq 0 n ≡ false) (map (λ sender. sender.number) senders)
 no_zero [] h = tt
 no_zero (sender ∷ senders) h =
     let parts = and_parts (is_sender sender) _ h in
     let least : 1 ≤ sender.number = (number_bounds sender parts.0).0 in
     (grind (arith, nat_tests), no_zero senders parts.1)
 
-below : (senders : List Sender) (q : ℕ) → list_all is_sender senders ≡ true → list_any (nat_eq q) (map (λ sender. sender.number) senders) ≡ true → q < 129
+below : (senders : List Sender) (q : ℕ) → list_all is_sender senders ≡ true
+    → list_any (nat_eq q) (map (λ sender. sender.number) senders) ≡ true → q < 129
 below [] q h k = absurd (cc)
 below (sender ∷ senders) q h k =
     let parts = and_parts (is_sender sender) _ h in
     let most : sender.number ≤ 128 = (number_bounds sender parts.0).1 in
-    elim (nat_eq q sender.number) as (λ b. nat_eq q sender.number ≡ b → (b || list_any (nat_eq q) (map (λ s. s.number) senders)) ≡ true → q < 129) [
+    elim (nat_eq q sender.number) as (λ b. nat_eq q sender.number ≡ b →
+    (b || list_any (nat_eq q) (map (λ s. s.number) senders)) ≡ true → q < 129) [
       | true ↦ λ e w. (let same : q ≡ sender.number = grind (arith, nat_tests) in omega arith)
       | false ↦ λ e w. below senders q parts.1 w
     ] refl k
 
-few_senders : (senders : List Sender) → list_all is_sender senders ≡ true → IsDistinct nat_eq (map (λ sender. sender.number) senders) → length (map (λ sender. sender.number) senders) ≤ 128
+few_senders : (senders : List Sender) → list_all is_sender senders ≡ true → IsDistinct nat_eq (map (λ sender. sender.number) senders)
+    → length (map (λ sender. sender.number) senders) ≤ 128
 unfolding IsDistinct
 few_senders senders h d =
     let ns : List ℕ = map (λ sender. sender.number) senders in
@@ -109,7 +121,8 @@ none_found p x xs h =
     ] h
 
 -- a sender's facts, from its own range, its gap and its mode
-one_sender : (table : Table) (sender : Sender) → is_sender sender ≡ true → nat_le table.sg sender.tg ≡ false → FitsMode table.mode table.ti sender.at → SenderFacts table sender
+one_sender : (table : Table) (sender : Sender) → is_sender sender ≡ true → nat_le table.sg sender.tg ≡ false
+    → FitsMode table.mode table.ti sender.at → SenderFacts table sender
 one_sender table sender h short mode =
     let number = number_bounds sender h in
     let gap = and_parts (nat_le 8 sender.tg) _ (and_parts (is_tg sender.tg) _ (and_parts (is_number sender.number) _ h).1).0 in
@@ -123,27 +136,31 @@ one_sender table sender h short mode =
       mode = mode;
     }
 
-all_senders : (table : Table) (senders : List Sender) → list_all is_sender senders ≡ true → find (λ s. nat_le table.sg s.tg) senders ≡ None → AllByRecursion (λ s. FitsMode table.mode table.ti s.at) senders → AllByRecursion (SenderFacts table) senders
+all_senders : (table : Table) (senders : List Sender) → list_all is_sender senders ≡ true → find (λ s. nat_le table.sg s.tg) senders ≡ None
+    → AllByRecursion (λ s. FitsMode table.mode table.ti s.at) senders → AllByRecursion (SenderFacts table) senders
 all_senders table [] h short mode = tt
 all_senders table (sender ∷ senders) h short mode =
     let parts = and_parts (is_sender sender) _ h in
     let gap = none_found (λ s. nat_le table.sg s.tg) sender senders short in
     (one_sender table sender parts.0 gap.0 mode.0, all_senders table senders parts.1 gap.1 mode.1)
 
-all_zero : (ti : ℕ) (senders : List Sender) → list_all (λ s. s.at == 0) senders ≡ true → AllByRecursion (λ s. FitsMode Aperiodic ti s.at) senders
+all_zero : (ti : ℕ) (senders : List Sender) → list_all (λ s. s.at == 0) senders ≡ true
+    → AllByRecursion (λ s. FitsMode Aperiodic ti s.at) senders
 all_zero ti [] h = tt
 all_zero ti (sender ∷ senders) h =
     let parts = and_parts (sender.at == 0) _ h in
     (grind (arith, nat_tests, parts.0), all_zero ti senders parts.1)
 
-all_below : (ti : ℕ) (senders : List Sender) → find (λ s. nat_le ti s.at) senders ≡ None → AllByRecursion (λ s. FitsMode Periodic ti s.at) senders
+all_below : (ti : ℕ) (senders : List Sender) → find (λ s. nat_le ti s.at) senders ≡ None
+    → AllByRecursion (λ s. FitsMode Periodic ti s.at) senders
 all_below ti [] h = tt
 all_below ti (sender ∷ senders) h =
     let parts = none_found (λ s. nat_le ti s.at) sender senders h in
     (grind (arith, nat_tests, parts.0), all_below ti senders parts.1)
 
 -- what the mode asks of the offsets
-offsets : (mode : Mode) (ti : ℕ) (senders : List Sender) → fits_mode mode senders ≡ true → periodic_refusal mode ti senders ≡ None → AllByRecursion (λ s. FitsMode mode ti s.at) senders
+offsets : (mode : Mode) (ti : ℕ) (senders : List Sender) → fits_mode mode senders ≡ true → periodic_refusal mode ti senders ≡ None
+    → AllByRecursion (λ s. FitsMode mode ti s.at) senders
 offsets Aperiodic ti senders fits none = all_zero ti senders fits
 offsets Periodic ti senders fits none = all_below ti senders (map_none _ _ none)
 
@@ -165,7 +182,8 @@ valid_facts table valid =
     let gaps_once = or_none (gap_twice table.senders) _ numbers_once.1 in
     let short = or_none (gap_not_short table.sg table.senders) _ gaps_once.1 in
     let mode = (or_none (pair_twice table.senders) _ short.1).1 in
-    let distinct = front_distinct nat_eq (map (λ s. s.number) table.senders) (map (λ l. l.number) table.listeners) (all_distinct nat_eq [] (numbers table) (map_none NumberTwice _ numbers_once.0)).0 in
+    let all = (all_distinct nat_eq [] (numbers table) (map_none NumberTwice _ numbers_once.0)).0 in
+    let distinct = front_distinct nat_eq (map (λ s. s.number) table.senders) (map (λ l. l.number) table.listeners) all in
     let few = few_senders table.senders senders.0 distinct in
     let ti_range = and_parts (nat_le 1000 table.ti) _ ti.0 in
     let sg_range = and_parts (nat_le 9 table.sg) _ sg.0 in

@@ -13,16 +13,21 @@ abbrev pub first_again : {A : Type 0} → (A → A → Bool) → List A → List
 first_again same earlier [] = None
 first_again same earlier (x ∷ xs) = if list_any (λ y. same y x) earlier then Some x else first_again same (earlier ++ x ∷ []) xs
 
--- the numbers of the senders, and of the listeners
+-- the numbers of the senders
 abbrev pub sender_numbers : List Sender → List ℕ
 sender_numbers senders = map (λ sender. sender.number) senders
 
+-- the numbers of the listeners
 abbrev pub listener_numbers : List Listener → List ℕ
 listener_numbers listeners = map (λ listener. listener.number) listeners
 
--- the terminal numbers in the order of the text
+-- the terminal numbers, senders before listeners
+abbrev pub all_numbers : List Sender → List Listener → List ℕ
+all_numbers senders listeners = sender_numbers senders ++ listener_numbers listeners
+
+-- the terminal numbers of a table in the order of the text
 abbrev pub numbers : Table → List ℕ
-numbers table = sender_numbers table.senders ++ listener_numbers table.listeners
+numbers table = all_numbers table.senders table.listeners
 
 -- the SEND lines in the order of the text
 abbrev pub send_lines : List Sender → List SendLine

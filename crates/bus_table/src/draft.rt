@@ -13,9 +13,9 @@ use crate::keyword::{Keyword, keyword_of};
 use crate::line::{SendLine, TakeLine};
 use crate::listener::Listener;
 use crate::mode::Mode;
-use crate::place::Place;
 use crate::ranges::{LEAST_SG, LEAST_TI, MOST_SG, MOST_TAKES, MOST_TI};
 use crate::sender::Sender;
+use crate::stage::Stage;
 use crate::table::Table;
 use bus_strings::limits::MOST_STRINGS;
 use bus_text::cursor::Line;
@@ -56,11 +56,11 @@ fn last_heard(listeners: &[Listener]) -> usize
 }
 
 /// How many TAKE lines the terminal has that stands last.
-fn last_takes(place: Place, senders: &[Sender], listeners: &[Listener]) -> usize
-    ensures { result ≡ drafts.last_takes place senders.now listeners.now }
+fn last_takes(stage: Stage, senders: &[Sender], listeners: &[Listener]) -> usize
+    ensures { result ≡ drafts.last_takes stage senders.now listeners.now }
 {
-    match place {
-        Place::Listener => last_heard(listeners),
+    match stage {
+        Stage::Listener => last_heard(listeners),
         _ => last_taken(senders),
     }
 }
@@ -104,16 +104,16 @@ fn hear_by_last(listeners: &mut Vec<Listener>, line: TakeLine) -> Result<(), All
 /// Adds a SEND line, which behind a SENDER line is the first of a new sender.
 fn add_send(
     alloc: Global,
-    place: Place,
+    stage: Stage,
     senders: &mut Vec<Sender>,
     line: SendLine,
 ) -> Result<(), AllocError>
-    requires room { IsTrue (drafts.may_follow place (drafts.last_sends senders.old.items) 0 keywords.Send) }
+    requires room { IsTrue (drafts.may_follow stage (drafts.last_sends senders.old.items) 0 keywords.Send) }
     requires range { IsTrue (is_send_line line) }
-    ensures ok { OnOk result (senders.new.items ≡ drafts.senders_after place line senders.old.items) }
+    ensures ok { OnOk result (senders.new.items ≡ drafts.senders_after stage line senders.old.items) }
 {
-    match place {
-        Place::Sender(head) => {
+    match stage {
+        Stage::Sender(head) => {
             senders.push(Sender::open(alloc, head, line)?)?;
             Ok(())
         }
@@ -121,21 +121,21 @@ fn add_send(
     }
 }
 
-/// Whether a keyword may stand behind a place, where the terminal that stands last has so many SEND lines and TAKE lines.
-fn may_follow(place: Place, sends: usize, takes: usize, keyword: Keyword) -> bool
-    ensures { result ≡ drafts.may_follow place sends takes keyword }
+/// Whether a keyword may come at a stage, where the terminal that stands last has so many SEND lines and TAKE lines.
+fn may_follow(stage: Stage, sends: usize, takes: usize, keyword: Keyword) -> bool
+    ensures { result ≡ drafts.may_follow stage sends takes keyword }
 {
-    match (place, keyword) {
-        (Place::Start, Keyword::Table) => true,
-        (Place::Table, Keyword::Mode) => true,
-        (Place::Mode, Keyword::Ti) => true,
-        (Place::Ti, Keyword::Sg) => true,
-        (Place::Sg, Keyword::Sender | Keyword::Listener) => true,
-        (Place::Sender(_), Keyword::Send) => true,
-        (Place::Send, Keyword::Send) => sends < MOST_STRINGS,
-        (Place::Send | Place::Take | Place::Listener, Keyword::Take) => takes < MOST_TAKES,
-        (Place::Send | Place::Take, Keyword::Sender) => true,
-        (Place::Send | Place::Take | Place::Listener, Keyword::Listener) => true,
+    match (stage, keyword) {
+        (Stage::Start, Keyword::Table) => true,
+        (Stage::Table, Keyword::Mode) => true,
+        (Stage::Mode, Keyword::Ti) => true,
+        (Stage::Ti, Keyword::Sg) => true,
+        (Stage::Sg, Keyword::Sender | Keyword::Listener) => true,
+        (Stage::Sender(_), Keyword::Send) => true,
+        (Stage::Send, Keyword::Send) => sends < MOST_STRINGS,
+        (Stage::Send | Stage::Take | Stage::Listener, Keyword::Take) => takes < MOST_TAKES,
+        (Stage::Send | Stage::Take, Keyword::Sender) => true,
+        (Stage::Send | Stage::Take | Stage::Listener, Keyword::Listener) => true,
         _ => false,
     }
 }
@@ -143,7 +143,7 @@ fn may_follow(place: Place, sends: usize, takes: usize, keyword: Keyword) -> boo
 /// What the lines so far have given.
 #[derive(Drop)]
 pub struct Draft {
-    place: Place,
+    stage: Stage,
     mode: Mode,
     ti: u32,
     sg: u32,
@@ -156,7 +156,7 @@ impl Model for Draft {
 
     ghost Value = { drafts.Draft };
 
-    ghost view = { λ d. record { place = d.place; mode = d.mode; ti = d.ti; sg = d.sg; senders = d.senders.items; listeners = d.listeners.items } };
+    ghost view = { λ d. drafts.draft_of d.stage d.mode d.ti d.sg d.senders.items d.listeners.items };
 }
 
 impl Draft {
@@ -170,7 +170,7 @@ impl Draft {
         ensures { result ≡ drafts.start }
     {
         Draft {
-            place: Place::Start,
+            stage: Stage::Start,
             mode: Mode::Aperiodic,
             ti: 0,
             sg: 0,
@@ -183,21 +183,21 @@ impl Draft {
     fn may_come(&self, keyword: Keyword) -> bool
         ensures { result ≡ drafts.may_come self.now keyword }
     {
-        let takes = last_takes(self.place, &self.senders, &self.listeners);
-        may_follow(self.place, last_sends(&self.senders), takes, keyword)
+        let takes = last_takes(self.stage, &self.senders, &self.listeners);
+        may_follow(self.stage, last_sends(&self.senders), takes, keyword)
     }
 
     /// Takes a TAKE line, which is of the terminal that stands last.
     fn add_take(&mut self, line: TakeLine) -> Result<(), AllocError>
         requires room { IsTrue (drafts.may_come self.old keywords.Take) }
         requires range { IsTrue (is_take_line line) }
-        ensures { OnOk result (self.new ≡ drafts.taken self.old.place self.old line) }
+        ensures { OnOk result (self.new ≡ drafts.taken self.old.stage self.old line) }
     {
-        match self.place {
-            Place::Listener => hear_by_last(&mut self.listeners, line),
+        match self.stage {
+            Stage::Listener => hear_by_last(&mut self.listeners, line),
             _ => {
                 take_by_last(&mut self.senders, line)?;
-                self.place = Place::Take;
+                self.stage = Stage::Take;
                 Ok(())
             }
         }
@@ -216,25 +216,25 @@ impl Draft {
         match keyword {
             Keyword::Table => {
                 table_line(fields)?;
-                self.place = Place::Table;
+                self.stage = Stage::Table;
             }
             Keyword::Mode => {
                 self.mode = mode_line(fields)?;
-                self.place = Place::Mode;
+                self.stage = Stage::Mode;
             }
             Keyword::Ti => {
                 self.ti = number_line(fields, LEAST_TI, MOST_TI)?;
-                self.place = Place::Ti;
+                self.stage = Stage::Ti;
             }
             Keyword::Sg => {
                 self.sg = number_line(fields, LEAST_SG, MOST_SG)?;
-                self.place = Place::Sg;
+                self.stage = Stage::Sg;
             }
-            Keyword::Sender => self.place = Place::Sender(sender_line(self.mode, fields)?),
+            Keyword::Sender => self.stage = Stage::Sender(sender_line(self.mode, fields)?),
             Keyword::Send => {
                 let line = send_line(fields)?;
-                add_send(alloc, self.place, &mut self.senders, line)?;
-                self.place = Place::Send;
+                add_send(alloc, self.stage, &mut self.senders, line)?;
+                self.stage = Stage::Send;
             }
             Keyword::Take => {
                 let line = take_line(fields)?;
@@ -245,7 +245,7 @@ impl Draft {
             Keyword::Listener => {
                 let number = listener_line(fields)?;
                 self.listeners.push(Listener::open(alloc, number))?;
-                self.place = Place::Listener;
+                self.stage = Stage::Listener;
             }
         }
         Ok(())
@@ -282,11 +282,11 @@ impl Draft {
 
     /// Whether the text may end here.
     pub fn may_end(&self) -> bool
-        ensures { result ≡ drafts.may_end self.now.place }
+        ensures { result ≡ drafts.may_end self.now.stage }
     {
         matches!(
-            self.place,
-            Place::Sg | Place::Send | Place::Take | Place::Listener
+            self.stage,
+            Stage::Sg | Stage::Send | Stage::Take | Stage::Listener
         )
     }
 

@@ -1,5 +1,5 @@
+use crate::dealing::hands;
 use crate::fit::{FitError, fits};
-use crate::hands::hands;
 use crate::line::{SendLine, TakeLine};
 use crate::listener::Listener;
 use crate::mode::Mode;

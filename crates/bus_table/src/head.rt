@@ -1,5 +1,6 @@
-ghost use Rattle.std.specs.Prelude.{◌≡◌, IsTrue, Some, None, if◌then◌else◌};
+ghost use Rattle.std.specs.Prelude.{◌≡◌, IsTrue};
 ghost use Rattle.bus_table.specs.Heads.{is_head};
+ghost use Rattle.bus_table.specs.Ranges.{taken_by};
 
 use crate::ranges::{LEAST_TG, MOST_TG, MOST_TI};
 use bus_strings::limits::MOST_TERMINAL;
@@ -27,11 +28,9 @@ impl Model for Head {
 }
 
 impl Head {
-    ghost use Rattle.bus_table.specs.Heads as heads;
-
     /// None where the number, the gap or the offset is out of its range.
     pub fn new(number: u64, tg: u64, at: u64) -> Option<Head>
-        ensures { let head : heads.Head = record { number = number; tg = tg; at = at } in result ≡ (if is_head head then Some head else None) }
+        ensures { result ≡ taken_by is_head (record { number = number; tg = tg; at = at }) }
     {
         if (1..=u64::from(MOST_TERMINAL)).contains(&number)
             && (u64::from(LEAST_TG)..=u64::from(MOST_TG)).contains(&tg)

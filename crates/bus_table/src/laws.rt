@@ -5,7 +5,7 @@ ghost use Rattle.bus_strings.specs.Messages.{Message, bits};
 ghost use Rattle.bus_table.specs.declared.error.TableError.{TableError};
 ghost use Rattle.bus_table.specs.Fits.{fits, items_fit, is_shortest, least_message};
 ghost use Rattle.bus_table.specs.Gives.{Refuses};
-ghost use Rattle.bus_table.specs.Hands.{hands_of, are_hands};
+ghost use Rattle.bus_table.specs.Hands.{GiveHands};
 ghost use Rattle.bus_table.specs.Lengths.{shortest, longest};
 ghost use Rattle.bus_table.specs.Reading.{answer_of};
 ghost use Rattle.bus_table.specs.Tables as tables;
@@ -25,12 +25,13 @@ pub fn readings_have_their_cause()
 
 /// Items that fit the senders of a valid table give these hands, whose messages fit.
 pub fn fitting_items_give_hands()
-    ensures { (table : tables.Table) (items : List Item) → IsTrue (is_valid table) → IsOk (items_fit table items) → IsTrue (are_hands table.senders (hands_of table items)) }
+    ensures { (table : tables.Table) (items : List Item) → IsTrue (is_valid table) → IsOk (items_fit table items) → GiveHands table items }
 {}
 
 /// A message that fits a sender is no shorter than the shortest and no longer than the longest of its messages.
 pub fn fitting_messages_have_their_lengths()
-    ensures { (sender : tables.Sender) (message : Message) → IsTrue (fits sender message) → (shortest sender ≤ bits message) × (bits message ≤ longest sender) }
+    ensures least { (sender : tables.Sender) (message : Message) → IsTrue (fits sender message) → shortest sender ≤ bits message }
+    ensures most { (sender : tables.Sender) (message : Message) → IsTrue (fits sender message) → bits message ≤ longest sender }
 {}
 
 /// Each sender has a message with the least data words on each of its lines.

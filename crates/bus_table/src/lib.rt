@@ -4,7 +4,7 @@
 //!   valid: every number is in its range, and none of the [`error::WholeReason`]s applies.
 //! - [`reading::read_table`] reads a text.
 //! - [`lengths`] tells the shortest and the longest message of a sender, [`turns::place`] who speaks after whom.
-//! - [`fit::fits`] holds the items of a messages text to the lines of their senders, and [`hands::hands`] deals them out.
+//! - [`fit::fits`] holds the items of a messages text to the lines of their senders, and [`dealing::hands`] deals them out.
 //!
 //! The gaps and intervals of a bus, and that each terminal has a gap of its own which is shorter than the
 //! synchronization gap, are facts of ARINC 629. All ranges, the lines, the text and the order of reasons are this
@@ -16,6 +16,7 @@
 //! beside the contracts are `Facts` and the files whose names end in `Laws`.
 #![tactic(auto)]
 
+pub mod dealing;
 mod draft;
 pub mod error;
 pub mod fit;
@@ -23,7 +24,6 @@ mod forms;
 pub mod hand;
 #[cfg(test)]
 mod hand_tests;
-pub mod hands;
 mod head;
 mod keyword;
 pub mod laws;
@@ -31,12 +31,25 @@ pub mod lengths;
 pub mod line;
 pub mod listener;
 pub mod mode;
-mod place;
 mod ranges;
 pub mod reading;
 pub mod sender;
+mod stage;
 pub mod table;
 #[cfg(test)]
 mod tests;
 pub mod turns;
 mod whole;
+
+pub use dealing::hands;
+pub use error::{TableError, WholeReason};
+pub use fit::{FitError, fits};
+pub use hand::Hand;
+pub use lengths::{longest, shortest};
+pub use line::{SendLine, TakeLine};
+pub use listener::Listener;
+pub use mode::Mode;
+pub use reading::read_table;
+pub use sender::Sender;
+pub use table::Table;
+pub use turns::place;

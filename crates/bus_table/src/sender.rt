@@ -1,6 +1,6 @@
 ghost use Rattle.std.specs.Prelude.{◌≡◌, ◌<◌, length, IsTrue, IfOk, OnOk};
 ghost use Rattle.bus_strings.specs.Limits.{most_strings};
-ghost use Rattle.bus_table.specs.Ranges.{is_sender, is_send_line, is_take_line, most_takes};
+ghost use Rattle.bus_table.specs.Ranges.{is_sender, is_send_line, is_take_line, most_takes, taken_by};
 
 use crate::head::Head;
 use crate::line::{SendLine, TakeLine};
@@ -31,9 +31,7 @@ impl Model for Sender {
 }
 
 impl Sender {
-    ghost use Rattle.std.specs.Prelude.{Some, None, if◌then◌else◌};
     ghost use Rattle.bus_table.specs.Drafts.{opened, with_send, with_take};
-    ghost use Rattle.bus_table.specs.Tables as tables;
 
     /// None exactly where the number, the terminal gap or the offset is out of its range, where there are no SEND lines
     /// or more than 31, or more than 64 TAKE lines, or where a number of a line is out of its range.
@@ -44,7 +42,7 @@ impl Sender {
         sends: Vec<SendLine>,
         takes: Vec<TakeLine>,
     ) -> Option<Sender>
-        ensures { let sender : tables.Sender = record { number = number; tg = tg; at = at; sends = sends.items; takes = takes.items } in result ≡ (if is_sender sender then Some sender else None) }
+        ensures { result ≡ taken_by is_sender (record { number = number; tg = tg; at = at; sends = sends.items; takes = takes.items }) }
     {
         if is_number(number)
             && is_tg(tg)

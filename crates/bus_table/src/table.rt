@@ -70,11 +70,9 @@ impl Model for Table {
 }
 
 impl Table {
-    ghost use Rattle.std.specs.Prelude.{◌&&◌, is_none, Some, None, if◌then◌else◌};
-    ghost use Rattle.bus_table.specs.Ranges.{is_ti, is_sg};
+    ghost use Rattle.bus_table.specs.Ranges.{taken_by};
     ghost use Rattle.bus_table.specs.Reading.{judged};
-    ghost use Rattle.bus_table.specs.Whole.{whole_refusal};
-    ghost use Rattle.bus_table.specs.Tables as tables;
+    ghost use Rattle.bus_table.specs.Valid.{can_be_made};
 
     /// None exactly where the transmit interval or the synchronization gap is out of its range, where some sender of an
     /// aperiodic table has another offset than 0, or where a whole reason applies.
@@ -85,7 +83,7 @@ impl Table {
         senders: Vec<Sender>,
         listeners: Vec<Listener>,
     ) -> Option<Table>
-        ensures { let table : tables.Table = record { mode = mode; ti = ti; sg = sg; senders = senders.items; listeners = listeners.items } in result ≡ (if is_ti ti && (is_sg sg && (valid.fits_mode mode table.senders && is_none (whole_refusal table))) then Some table else None) }
+        ensures { result ≡ taken_by can_be_made (record { mode = mode; ti = ti; sg = sg; senders = senders.items; listeners = listeners.items }) }
     {
         if !ranges::is_ti(ti) || !ranges::is_sg(sg) || !fits_mode(mode, &senders) {
             return None;

@@ -26,7 +26,7 @@ fn has_listener(listeners: &[Listener], number: u8) -> bool
 
 /// Whether some of these terminals has this number.
 fn has_number(senders: &[Sender], listeners: &[Listener], number: u8) -> bool
-    ensures { result ≡ list_any (λ n. n == number) (whole.sender_numbers senders.now ++ whole.listener_numbers listeners.now) }
+    ensures { result ≡ list_any (λ n. n == number) (whole.all_numbers senders.now listeners.now) }
 {
     has_sender(senders, number) || has_listener(listeners, number)
 }
@@ -88,7 +88,7 @@ fn listener_again(senders: &[Sender], listeners: &[Listener]) -> Option<u8>
 /// The first terminal, senders before listeners, whose number an earlier one has.
 #[tactic(auto, using(crate::proofs::WholeLemmas::number_again))]
 fn number_twice(senders: &[Sender], listeners: &[Listener]) -> Option<WholeReason>
-    ensures { result ≡ option_map NumberTwice (whole.first_again (λ n m. n == m) [] (whole.sender_numbers senders.now ++ whole.listener_numbers listeners.now)) }
+    ensures { result ≡ option_map NumberTwice (whole.first_again (λ n m. n == m) [] (whole.all_numbers senders.now listeners.now)) }
 {
     let number = sender_again(senders).or_else(|| listener_again(senders, listeners))?;
     Some(WholeReason::NumberTwice(number))

@@ -1,5 +1,6 @@
 -- Laws of hexadecimal digits: what is written reads as the number again.
-use Rattle.std.proofs.Common.{arith, zero, suc, ◌≡◌, ℕ, ◌/◌, ◌%◌, ◌<◌, ◌^◌, Bool, true, ◌&&◌, List, [], ◌∷◌, ◌++◌, length, refl, ap, ◌∙◌, length-append}
+use Rattle.std.proofs.Common.{arith, zero, suc, ◌≡◌, ℕ, ◌/◌, ◌%◌, ◌<◌, ◌^◌, Bool, true, ◌&&◌, List, [], ◌∷◌, ◌++◌, length, refl, ap, ◌∙◌}
+use Rattle.std.proofs.Common.{length-append}
 use Rattle.std.specs.Char.{digit_value, is_ascii_hexdigit}
 use Rattle.std.specs.List.{AllByRecursion, list_all}
 use Rattle.std.specs.Str.Parse.{digits_value}
@@ -33,28 +34,39 @@ low n = omega arith
 
 length-hexadecimal : (count n : ℕ) → length (hexadecimal count n) ≡ count
 length-hexadecimal zero n = refl
-length-hexadecimal (suc count) n = omega (arith, length-append (hexadecimal count (n / 16)) (hex_digit (n % 16) ∷ []), length-hexadecimal count (n / 16))
+length-hexadecimal (suc count) n =
+    omega (arith, length-append (hexadecimal count (n / 16)) (hex_digit (n % 16) ∷ []), length-hexadecimal count (n / 16))
 
 all_hexadecimal : (count n : ℕ) → list_all is_ascii_hexdigit (hexadecimal count n) ≡ true
 all_hexadecimal zero n = refl
-all_hexadecimal (suc count) n = all_push is_ascii_hexdigit (hexadecimal count (n / 16)) (hex_digit (n % 16)) (all_hexadecimal count (n / 16)) (digit_is_hex (n % 16) (low n))
+all_hexadecimal (suc count) n =
+    all_push is_ascii_hexdigit (hexadecimal count (n / 16)) (hex_digit (n % 16)) (all_hexadecimal count (n / 16))
+    (digit_is_hex (n % 16) (low n))
 
 value_is : (count n : ℕ) → n < 16 ^ count → digits_value 16 (hexadecimal count n) ≡ n
 value_is zero n h = omega arith
 value_is (suc count) n h =
     let below : n / 16 < 16 ^ count = omega arith in
-    omega (arith, digits_value_push 16 (hexadecimal count (n / 16)) (hex_digit (n % 16)), value_is count (n / 16) below, digit_value-hex_digit (n % 16) (low n))
+    omega (
+      arith,
+      digits_value_push 16 (hexadecimal count (n / 16)) (hex_digit (n % 16)),
+      value_is count
+          (n / 16) below,
+      digit_value-hex_digit (n % 16) (low n),
+    )
 
 -- the digits of a number that has no more of them write the number
 pub hexadecimal_is : (count n : ℕ) → n < 16 ^ count → IsHexadecimal count (hexadecimal count n) n
 hexadecimal_is count n h = record {
-  digits = ap (λ b. b && list_all is_ascii_hexdigit (hexadecimal count n)) (eq-eqb _ _ (length-hexadecimal count n)) ∙ all_hexadecimal count n;
+  digits =
+      ap (λ b. b && list_all is_ascii_hexdigit (hexadecimal count n)) (eq-eqb _ _ (length-hexadecimal count n)) ∙ all_hexadecimal count n;
   value = value_is count n h;
 }
 
 field_bytes : (count n : ℕ) → AllByRecursion IsFieldByte (hexadecimal count n)
 field_bytes zero n = tt
-field_bytes (suc count) n = bytes_push (hexadecimal count (n / 16)) (hex_digit (n % 16)) (field_bytes count (n / 16)) (digit_is_byte (n % 16) (low n))
+field_bytes (suc count) n =
+    bytes_push (hexadecimal count (n / 16)) (hex_digit (n % 16)) (field_bytes count (n / 16)) (digit_is_byte (n % 16) (low n))
 
 -- digits, where there are some, are a field
 pub hexadecimal_field : (count n : ℕ) → 0 < count → IsField (hexadecimal count n)

@@ -16,7 +16,9 @@ length-physical_lines-le (b ∷ bs) = omega (arith, one_more (is_feed b) b (phys
 kept : (n : ℕ) (lines : List (List ℕ)) → length (entries_from n lines) ≤ length lines
 kept n [] = omega arith
 kept n (line ∷ lines) = by_test (is_skipped line) (kept (n + 1) lines) where
-  by_test : (t : Bool) → length (entries_from (n + 1) lines) ≤ length lines → length (cond t (entries_from (n + 1) lines) (record { number = n; fields = fields_of line } ∷ entries_from (n + 1) lines)) ≤ length (line ∷ lines)
+  by_test : (t : Bool) → length (entries_from (n + 1) lines) ≤ length lines
+      → length (cond t (entries_from (n + 1) lines) (record { number = n; fields = fields_of line } ∷ entries_from (n + 1) lines)) ≤ length
+      (line ∷ lines)
   by_test true h = omega (arith, h)
   by_test false h = omega (arith, h)
 

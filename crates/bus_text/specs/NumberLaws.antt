@@ -1,5 +1,6 @@
 -- Laws of numbers in fields.
-use Rattle.std.proofs.Common.{arith, ◌==◌, zero, suc, ◌≡◌, ℕ, ◌<◌, ◌≤◌, ◌^◌, min, nat_le, ◌⊎◌, inl, inr, Bool, true, false, not, ◌&&◌, List, [], ◌∷◌, length, get_or, lit<, refl, sym, ap, subst, ◌∙◌}
+use Rattle.std.proofs.Common.{arith, ◌==◌, zero, suc, ◌≡◌, ℕ, ◌<◌, ◌≤◌, ◌^◌, min, nat_le, ◌⊎◌, inl, inr, Bool, true, false, not, ◌&&◌, List}
+use Rattle.std.proofs.Common.{[], ◌∷◌, length, get_or, lit<, refl, sym, ap, subst, ◌∙◌}
 use Rattle.std.specs.Char.{is_ascii_digit, is_ascii_hexdigit, digit_value}
 use Rattle.std.specs.Fmt.{decimal}
 use Rattle.std.specs.Int.{is_in_range}
@@ -44,12 +45,15 @@ ascii c h k = grind (arith, nat_tests)
 
 ascii_digits : (ds : List ℕ) → AllDigits 10 ds → list_all is_ascii_digit ds ≡ true
 ascii_digits [] h = refl
-ascii_digits (d ∷ ds) h = let r = digit_from_value d h.0 in ap (λ b. b && list_all is_ascii_digit ds) (ascii d r.0 r.1) ∙ ascii_digits ds h.1
+ascii_digits (d ∷ ds) h =
+    let r = digit_from_value d h.0 in ap (λ b. b && list_all is_ascii_digit ds) (ascii d r.0 r.1) ∙ ascii_digits ds h.1
 
-plain_is : (ds : List ℕ) → 0 < length ds → list_all is_ascii_digit ds ≡ true → (get_or ds 0 0 ≡ 48 → length ds ≡ 1) → is_plain_decimal ds ≡ true
+plain_is : (ds : List ℕ) → 0 < length ds → list_all is_ascii_digit ds ≡ true → (get_or ds 0 0 ≡ 48 → length ds ≡ 1)
+    → is_plain_decimal ds ≡ true
 plain_is [] some h k = absurd (omega arith)
 plain_is (d ∷ []) some h k = (and_parts (is_ascii_digit d) true h).0
-plain_is (d ∷ e ∷ ds) some h k = ap (λ t. not t && list_all is_ascii_digit (d ∷ e ∷ ds)) (ne_eqb d 48 (λ q. absurd (omega (arith, k q)))) ∙ h
+plain_is (d ∷ e ∷ ds) some h k =
+    ap (λ t. not t && list_all is_ascii_digit (d ∷ e ∷ ds)) (ne_eqb d 48 (λ q. absurd (omega (arith, k q)))) ∙ h
 
 one_zero : (n : ℕ) → n < 2 ^ 64 → get_or (decimal n) 0 0 ≡ 48 → length (decimal n) ≡ 1
 one_zero zero small e = ap length (decimal_digit 0 (lit< tt))
@@ -75,7 +79,8 @@ hex_value-lt c h = grind (arith, nat_tests)
 -- hexadecimal digits have values below 16
 pub hex_values-lt : (field : List ℕ) → list_all is_ascii_hexdigit field ≡ true → AllDigits 16 field
 hex_values-lt [] h = tt
-hex_values-lt (c ∷ cs) h = let p = and_parts (is_ascii_hexdigit c) (list_all is_ascii_hexdigit cs) h in (hex_value-lt c p.0, hex_values-lt cs p.1)
+hex_values-lt (c ∷ cs) h =
+    let p = and_parts (is_ascii_hexdigit c) (list_all is_ascii_hexdigit cs) h in (hex_value-lt c p.0, hex_values-lt cs p.1)
 
 -- so many digits write a number below that power of 16
 pub hexadecimal_value-lt : (count : ℕ) (field : List ℕ) → is_hexadecimal count field ≡ true → hexadecimal_value field < 16 ^ count

@@ -23,3 +23,11 @@ pub mod numbers;
 pub mod reason;
 #[cfg(test)]
 mod tests;
+
+pub use cursor::{Line, Lines};
+pub use digits::{capital_digit, four_digits, hex_digit, three_digits};
+pub use fault::LineFault;
+pub use fields::Fields;
+pub use lines::{field_at, fields_from, first_feed, is_at, is_skipped, line_after};
+pub use numbers::{hexadecimal, plain_decimal};
+pub use reason::Reason;

@@ -13,7 +13,7 @@ use bus_outer::{ReadError, Source, read_whole};
 use bus_strings::reading::read_messages;
 use bus_table::fit::fits;
 use bus_table::hand::Hand;
-use bus_table::hands::hands;
+use bus_table::hands;
 use bus_table::reading::read_table;
 use bus_table::table::Table;
 use std::alloc::Global;

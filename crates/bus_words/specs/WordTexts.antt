@@ -1,6 +1,7 @@
 -- The text of a word: a letter for the kind, four hexadecimal digits in capitals, and the parity digit.
 -- Form: a test for each byte of a text. Front: the first bytes of a text.
-use Rattle.std.specs.Prelude.{◌≡◌, ◌≢◌, ℕ, suc, ◌<◌, ◌≤◌, ◌^◌, Bool, true, false, ◌&&◌, ◌||◌, ◌==◌, List, [], ◌∷◌, ◌++◌, length, take, drop, slice_index, slice_index_or, Result, Err, if◌then◌else◌}
+use Rattle.std.specs.Prelude.{◌≡◌, ◌≢◌, ℕ, suc, ◌<◌, ◌≤◌, ◌^◌, Bool, true, false, ◌&&◌, ◌||◌, ◌==◌, List, [], ◌∷◌, ◌++◌, length, take, drop}
+use Rattle.std.specs.Prelude.{slice_index, slice_index_or, Result, Err, if◌then◌else◌}
 use Rattle.bus_text.specs.Digits.{hexadecimal, is_capital_digit}
 use Rattle.bus_text.specs.Numbers.{hexadecimal_value}
 use Rattle.bus_words.specs.declared.word.Kind.{Kind}
@@ -54,6 +55,7 @@ Fails text Parity = (f : FramedWord) × (f.value < 2 ^ 16) × (text ≡ frame_te
 abbrev pub is_letter : ℕ → Bool
 is_letter byte = byte == 76 || byte == 68
 
+-- whether a byte is the digit of a bit
 abbrev pub is_bit : ℕ → Bool
 is_bit byte = byte == 49 || byte == 48
 

@@ -2,7 +2,7 @@ use crate::head::Head;
 
 /// What stood last in a table text: it decides what may follow.
 #[derive(Clone, Copy)]
-pub enum Place {
+pub enum Stage {
     /// Nothing yet.
     Start,
     /// The TABLE line.

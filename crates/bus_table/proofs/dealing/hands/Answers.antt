@@ -10,7 +10,7 @@ use Rattle.bus_table.specs.Tables.{SendLine, Sender, Hand}
 use Rattle.bus_table.specs.ValidLaws.{valid_facts}
 use Rattle.bus_table.proofs.HandFits.{hands_of_fit}
 use Rattle.bus_table.proofs.HandLemmas.{is_fit, each_fits, fit_now, next_hands, stands, stands_at, shape_at}
-use Rattle.bus_table.proofs.hands.hands.Goals as goal
+use Rattle.bus_table.proofs.dealing.hands.Goals as goal
 
 pub loop-item-init : goal.loop-item-init
 loop-item-init c =
