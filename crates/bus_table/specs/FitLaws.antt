@@ -1,12 +1,11 @@
 -- Laws of messages that fit: how long they are.
-use Rattle.std.proofs.Common.{arith, ◌≡◌, ℕ, ◌+◌, ◌≤◌, Bool, true, false, ◌&&◌, ◌==◌, nat_le, List, [], ◌∷◌, length, map, replicate, refl}
+use Rattle.std.proofs.Common.{arith, ◌≡◌, ℕ, ◌+◌, ◌≤◌, Bool, true, false, ◌&&◌, ◌==◌, nat_le, List, [], ◌∷◌, length, refl}
 use Rattle.std.specs.List.{sum_by}
-use Rattle.std.proofs.lemmas.Bool.{and_parts, eqb-true, eq-eqb}
+use Rattle.std.proofs.lemmas.Bool.{and_parts, eqb-true}
 use Rattle.std.proofs.lemmas.Bool.Decides.{nat_tests}
-use Rattle.std.proofs.lemmas.List.{length-replicate}
 use Rattle.std.proofs.lemmas.List.Sums.{sum_by-cons}
 use Rattle.bus_strings.specs.Messages.{Wordstring, Message, word_count, bits}
-use Rattle.bus_table.specs.Fits.{allows, matches, fits, is_shortest, is_longest, least_message}
+use Rattle.bus_table.specs.Fits.{allows, matches, fits, is_shortest, is_longest}
 use Rattle.bus_table.specs.Lengths.{shortest, longest}
 use Rattle.bus_table.specs.Tables.{SendLine, Sender}
 
@@ -101,15 +100,3 @@ longest_length sender message h =
     let low = words_at_least test (λ line. line.most) (λ line n e. omega (arith, equal_most line n e)) sender.sends message h in
     let high = words_at_most test (λ line. line.most) (λ line n e. omega (arith, equal_most line n e)) sender.sends message h in
     omega (arith, count, low, high)
-
-least_matches : (sends : List SendLine)
-    → let message : Message = map (λ line. record { label = line.label; ext = line.ext; words = replicate line.least 0 }) sends in
-    matches (λ line words. words == line.least) sends message ≡ true
-least_matches [] = refl
-least_matches (line ∷ sends) =
-    both _ _ (eq-eqb line.label line.label refl) (both _ _ (eq-eqb line.ext line.ext refl)
-    (both _ _ (eq-eqb (length (replicate line.least 0)) line.least (length-replicate line.least 0)) (least_matches sends)))
-
--- there is such a message
-pub least_is_shortest : (sender : Sender) → is_shortest sender (least_message sender) ≡ true
-least_is_shortest sender = least_matches sender.sends

@@ -1,7 +1,7 @@
 -- Which messages fit a sender, and which items of a messages text give such messages.
 --   item    a terminal and the data words of one of its messages, without labels
 --   fits    has the labels and extensions of the SEND lines in order, and from least to most data words on each
-use Rattle.std.specs.Prelude.{ℕ, ◌+◌, Bool, true, false, ◌&&◌, ◌==◌, nat_le, List, [], ◌∷◌, length, map, replicate, Option, Some, None}
+use Rattle.std.specs.Prelude.{ℕ, ◌+◌, Bool, true, false, ◌&&◌, ◌==◌, nat_le, List, [], ◌∷◌, length, Option, Some, None}
 use Rattle.std.specs.Prelude.{Result, Ok, Err, if◌then◌else◌}
 use Rattle.std.specs.List.{find}
 use Rattle.bus_text.specs.AllOf.{◌>>=◌}
@@ -34,10 +34,6 @@ is_shortest sender message = matches (λ line words. words == line.least) sender
 -- whether a message of a sender has the most data words on each line
 abbrev pub is_longest : Sender → Message → Bool
 is_longest sender message = matches (λ line words. words == line.most) sender.sends message
-
--- the message of a sender with the least data words on each line, each of them 0
-abbrev pub least_message : Sender → Message
-least_message sender = map (λ line. record { label = line.label; ext = line.ext; words = replicate line.least 0 }) sender.sends
 
 -- whether there are as many strings as lines, and on each line a number of data words that it may have
 abbrev pub has_shape : List SendLine → List (List ℕ) → Bool

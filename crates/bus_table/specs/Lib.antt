@@ -17,3 +17,5 @@ pub mod Timers
 pub mod Turns
 pub mod TurnLaws
 pub mod FitLaws
+pub mod Filling
+pub mod FillingLaws

@@ -2,11 +2,15 @@
 ghost use Rattle.std.specs.Prelude.{◌≡◌, ◌≤◌, ℕ, IsTrue, IsOk, List, Ok, Err};
 ghost use Rattle.bus_strings.specs.Items.{Item};
 ghost use Rattle.bus_strings.specs.Messages.{Message, bits};
+ghost use Rattle.bus_table.specs.declared.mode.Mode.{Mode};
+ghost use Rattle.bus_table.specs.declared.mode.Mode.TheVariants.{Aperiodic, Periodic};
 ghost use Rattle.bus_table.specs.declared.error.TableError.{TableError};
-ghost use Rattle.bus_table.specs.Fits.{fits, items_fit, is_shortest, least_message};
+ghost use Rattle.bus_table.specs.Filling.{filling_message};
+ghost use Rattle.bus_table.specs.Fits.{fits, items_fit, is_shortest, is_longest};
 ghost use Rattle.bus_table.specs.Gives.{Refuses};
 ghost use Rattle.bus_table.specs.Hands.{GiveHands};
 ghost use Rattle.bus_table.specs.Lengths.{shortest, longest};
+ghost use Rattle.bus_table.specs.Ranges.{is_sender};
 ghost use Rattle.bus_table.specs.Reading.{answer_of};
 ghost use Rattle.bus_table.specs.Tables as tables;
 ghost use Rattle.bus_table.specs.Text.{IsTableText};
@@ -34,7 +38,10 @@ pub fn fitting_messages_have_their_lengths()
     ensures most { (sender : tables.Sender) (message : Message) → IsTrue (fits sender message) → bits message ≤ longest sender }
 {}
 
-/// Each sender has a message with the least data words on each of its lines.
-pub fn senders_have_shortest_messages()
-    ensures { (sender : tables.Sender) → IsTrue (is_shortest sender (least_message sender)) }
+/// The filling message of a sender fits it; in aperiodic mode it is the shortest of its messages, in periodic mode the
+/// longest.
+pub fn filling_messages_fit()
+    ensures fits { (mode : Mode) (sender : tables.Sender) → IsTrue (is_sender sender) → IsTrue (fits sender (filling_message mode sender)) }
+    ensures shortest { (sender : tables.Sender) → IsTrue (is_shortest sender (filling_message Aperiodic sender)) }
+    ensures longest { (sender : tables.Sender) → IsTrue (is_longest sender (filling_message Periodic sender)) }
 {}
