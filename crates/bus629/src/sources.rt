@@ -4,7 +4,7 @@ ghost use Rattle.bus_outer.specs.Edge.{file_of};
 ghost use Rattle.bus_tool.specs.Forms.{words_of};
 
 use bus_outer::FileSource;
-use bus_tool::status::Status;
+use bus_tool::Status;
 use std::rt::Files;
 
 /// The files of a command.

@@ -6,21 +6,24 @@ use Rattle.bus_strings.specs.Items.{Item}
 use Rattle.bus_table.specs.Tables.{Table}
 use Rattle.bus_regime.specs.Verdicts.{verdict_of}
 use Rattle.bus_schedule.specs.Closed.{closed_end}
+use Rattle.bus_trace.specs.TraceLaws.{ReadsBack}
 use Rattle.bus_tool.specs.declared.forms.Form.{Form}
-use Rattle.bus_tool.specs.declared.forms.Form.TheVariants.{Check, Observe, Run}
+use Rattle.bus_tool.specs.declared.forms.Form.TheVariants.{Check, Observe, Run, Receive}
 use Rattle.bus_tool.specs.declared.outcome.Outcome.{Outcome}
-use Rattle.bus_tool.specs.declared.outcome.Outcome.TheVariants.{Done, Answered, Refused, TableText, TableWhole, MessagesText, Unfit, Uneven, ReadFault, WriteFault, NoMemory, TooLong}
+use Rattle.bus_tool.specs.declared.outcome.Outcome.TheVariants.{Done, Answered, Refused, TableText, TableWhole, MessagesText, Unfit, Uneven, TraceText, ReadFault, WriteFault, NoMemory, TooLarge, TooLong}
 use Rattle.bus_tool.specs.Forms.{sources_of}
-use Rattle.bus_tool.specs.Outcomes.{is_written}
+use Rattle.bus_tool.specs.Kinds.{Answer, kind_of, is_answer}
 use Rattle.bus_tool.specs.Stages.{StandsFor}
-use Rattle.bus_tool.specs.Seen.{Seen, Sources, told, OfTexts}
-use Rattle.bus_tool.specs.Due.{table_due, items_due, Inputs, hands_in, inputs_due, run_due, verdict_outcome, outcome_with, form_due}
+use Rattle.bus_tool.specs.Outside.{Outside}
+use Rattle.bus_tool.specs.Readers.{told, OfTexts}
+use Rattle.bus_tool.specs.Due.{table_due, items_due, Inputs, hands_in, inputs_due, trace_due, traced_due, run_due, verdict_outcome, outcome_with, form_due}
 use Rattle.bus_tool.specs.Acts.{DoesForm}
 use Rattle.bus_tool.specs.Causes.{AreTextsWith, DifferAs, IsRefusal, IsLongEnd, RefusesTexts}
 use Rattle.bus_tool.proofs.LawTypes.{ReadsATable, RefusesATable, TextReadsAsItsItems, ReadsItems}
 use Rattle.bus_tool.proofs.CheckLemmas.{written_verdict}
 use Rattle.bus_tool.proofs.PrepareLemmas.{both_map}
-use Rattle.bus_tool.proofs.ReadLemmas.{table_read, table_text_read, table_whole_read, table_stops, messages_text_read, unfit_read, items_read, inputs_read, inputs_stop, items_stop, items_never_late}
+use Rattle.bus_tool.proofs.ReadLemmas.{table_read, table_text_read, table_whole_read, table_stops, messages_text_read, unfit_read, items_read, inputs_read, inputs_stop, items_stop, items_no_trace}
+use Rattle.bus_tool.proofs.TraceReads.{held_trace, trace_refuses, traced_stop}
 use Rattle.bus_tool.proofs.RunReads.{NotRun, Differ, NotAccepted, Longer, run_stop}
 
 -- the laws by which each refusal has its cause
@@ -29,27 +32,29 @@ pub record CauseLaws : Type 0 where
   pub refuses_table : RefusesATable
   pub items_again : TextReadsAsItsItems
   pub reads_items : ReadsItems
+  pub trace_back : ReadsBack
 
 -- what isn't an answer was refused
-refused : {Y : Type 0} (answer : Y → Outcome) (due : Result Y Outcome) (o : Outcome) → ((y : Y) → is_written (answer y) ≡ true) → is_written o ≡ false → outcome_with answer due ≡ o → due ≡ Err o
-refused answer (Ok y) o w never h = absurd (let k : is_written o ≡ true = ap is_written (sym h) ∙ w y in cc)
+refused : {Y : Type 0} (answer : Y → Outcome) (due : Result Y Outcome) (o : Outcome) → ((y : Y) → kind_of (answer y) ≡ Answer) → is_answer (kind_of o) ≡ false → outcome_with answer due ≡ o → due ≡ Err o
+refused answer (Ok y) o w never h = absurd (let k : is_answer (kind_of o) ≡ true = ap (λ o. is_answer (kind_of o)) (sym h) ∙ ap is_answer (w y) in cc)
 refused answer (Err r) o w never h = ap Err h
 
 -- ---- the first text
 no_table : CauseLaws → (first : List ℕ) (o : Outcome) (second : List ℕ) → table_due first ≡ Err o → RefusesTexts o first second
 no_table laws first (TableText line reason) second h = laws.refuses_table first (Text line reason) (table_text_read first line reason h)
 no_table laws first (TableWhole reason) second h = (let w = laws.refuses_table first (Whole reason) (table_whole_read first reason h) in record { table = w.0; stands = w.1; why = w.2 })
-no_table laws first (MessagesText line reason) second h = absurd (table_stops first (MessagesText line reason) h)
-no_table laws first (Unfit error) second h = absurd (table_stops first (Unfit error) h)
+no_table laws first (MessagesText line reason) second h = absurd (let s : 2 ≡ 1 = table_stops first (MessagesText line reason) h in omega arith)
+no_table laws first (Unfit error) second h = absurd (let s : 2 ≡ 1 = table_stops first (Unfit error) h in omega arith)
 no_table laws first (Uneven one one_count other other_count) second h = absurd (table_stops first (Uneven one one_count other other_count) h)
+no_table laws first (TraceText byte reason) second h = absurd (let s : 2 ≡ 1 = table_stops first (TraceText byte reason) h in omega arith)
 no_table laws first (Refused verdict) second h = absurd (table_stops first (Refused verdict) h)
 no_table laws first (TooLong end) second h = absurd (table_stops first (TooLong end) h)
 no_table laws first o second h = tt
 
 -- ---- the second text
 no_items : CauseLaws → (first second : List ℕ) (table : Table) (o : Outcome) → table_due first ≡ Ok table → items_due table second ≡ Err o → RefusesTexts o first second
-no_items laws first second table (TableText line reason) h k = absurd (let s = items_stop table second (TableText line reason) k in omega arith)
-no_items laws first second table (TableWhole reason) h k = absurd (let s = items_stop table second (TableWhole reason) k in omega arith)
+no_items laws first second table (TableText line reason) h k = absurd (let s : 1 ≡ 2 = items_stop table second (TableText line reason) k in omega arith)
+no_items laws first second table (TableWhole reason) h k = absurd (let s : 1 ≡ 2 = items_stop table second (TableWhole reason) k in omega arith)
 no_items laws first second table (MessagesText line reason) h k = λ items stands. (let w = messages_text_read table second line reason k in let again = laws.items_again second items stands in let never = w.1 in cc)
 no_items laws first second table (Unfit error) h k =
     let w = unfit_read table second error k in
@@ -61,10 +66,18 @@ no_items laws first second table (Unfit error) h k =
       items_stand = laws.reads_items second w.0 w.1.read;
       why = w.1.fits;
     }
-no_items laws first second table (Uneven one one_count other other_count) h k = absurd (items_never_late table second (Uneven one one_count other other_count) k)
-no_items laws first second table (Refused verdict) h k = absurd (items_never_late table second (Refused verdict) k)
-no_items laws first second table (TooLong end) h k = absurd (items_never_late table second (TooLong end) k)
+no_items laws first second table (Uneven one one_count other other_count) h k = absurd (items_stop table second (Uneven one one_count other other_count) k)
+no_items laws first second table (TraceText byte reason) h k = absurd (items_no_trace table second byte reason k)
+no_items laws first second table (Refused verdict) h k = absurd (items_stop table second (Refused verdict) k)
+no_items laws first second table (TooLong end) h k = absurd (items_stop table second (TooLong end) k)
 no_items laws first second table o h k = tt
+
+no_trace : CauseLaws → (first second : List ℕ) (o : Outcome) → trace_due second ≡ Err o → RefusesTexts o first second
+no_trace laws first second (TraceText byte reason) k = λ trace stands. (let held = held_trace laws.trace_back second trace stands in cc)
+no_trace laws first second (TooLarge source) k = tt
+no_trace laws first second (ReadFault source) k = tt
+no_trace laws first second NoMemory k = tt
+no_trace laws first second o k = absurd (trace_refuses second o k)
 
 -- ---- behind both texts
 -- the texts of inputs that were read, of which this holds
@@ -88,7 +101,7 @@ not_run laws first second inputs o h (NotAccepted why e) = subst (λ r. RefusesT
 not_run laws first second inputs o h (Longer why e) = subst (λ r. RefusesTexts r first second) (sym e) (texts_with laws (IsLongEnd (closed_end inputs.table (hands_in inputs))) first second inputs h (refl, why))
 
 -- ---- the forms
-form_cause : CauseLaws → (form : Form) (o : Outcome) (first second : List ℕ) → is_written o ≡ false → form_due form first second ≡ o → RefusesTexts o first second
+form_cause : CauseLaws → (form : Form) (o : Outcome) (first second : List ℕ) → is_answer (kind_of o) ≡ false → form_due form first second ≡ o → RefusesTexts o first second
 form_cause laws Check o first second never h = no_table laws first o second (refused (λ table. verdict_outcome (verdict_of table)) (table_due first) o (λ table. written_verdict (verdict_of table)) never h)
 form_cause laws (Observe horizon) o first second never h = elim (inputs_stop first second o (refused (λ inputs. Done) (inputs_due first second) o (λ inputs. refl) never h)) [
   | inl e ↦ no_table laws first o second e
@@ -97,6 +110,10 @@ form_cause laws (Observe horizon) o first second never h = elim (inputs_stop fir
 form_cause laws Run o first second never h = elim (run_stop first second o (refused (λ inputs. Done) (run_due first second) o (λ inputs. refl) never h)) [
   | inl e ↦ elim (inputs_stop first second o e) [ inl t ↦ no_table laws first o second t | inr w ↦ no_items laws first second w.0 o w.1 w.2 ]
   | inr w ↦ not_run laws first second w.0 o w.1 w.2
+]
+form_cause laws Receive o first second never h = elim (traced_stop first second o (refused (λ traced. Done) (traced_due first second) o (λ traced. refl) never h)) [
+  | inl e ↦ no_table laws first o second e
+  | inr w ↦ no_trace laws first second o w.2
 ]
 
 -- an outcome that stands for what is due
@@ -108,6 +125,7 @@ stands_cause laws form WriteFault first second h = tt
 stands_cause laws form NoMemory first second h = tt
 stands_cause laws form o first second h = form_cause laws form o first second refl h
 
-pub does_cause : CauseLaws → (form : Form) (before after : Sources) (out out' : Seen) (o : Outcome) → DoesForm form before after out out' o → OfTexts (sources_of form) before (RefusesTexts o)
-does_cause laws form before after out out' o does =
-    both_map (told (sources_of form) 1 before.first) (told (sources_of form) 2 before.second) (λ first second. StandsFor (form_due form first second) o) (RefusesTexts o) (λ first second h. stands_cause laws form o first second h) does.due
+pub does_cause : CauseLaws → (form : Form) (before after : Outside) (o : Outcome) → DoesForm form before after o → OfTexts (sources_of form) before.sources (RefusesTexts o)
+does_cause laws form before after o does =
+    both_map (told (sources_of form).first before.sources.first) (told (sources_of form).second before.sources.second) (λ first second. StandsFor (form_due form first second) o) (RefusesTexts o)
+    (λ first second h. stands_cause laws form o first second h) does.due

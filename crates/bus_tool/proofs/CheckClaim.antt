@@ -9,7 +9,8 @@ use Rattle.bus_tool.specs.declared.forms.Form.TheVariants.{Check}
 use Rattle.bus_tool.specs.Forms.{form_of}
 use Rattle.bus_tool.specs.Outcomes.{status_of}
 use Rattle.bus_tool.specs.Stages.{StandsFor}
-use Rattle.bus_tool.specs.Seen.{Seen, Sources}
+use Rattle.bus_tool.specs.Outside.{Call}
+use Rattle.bus_tool.specs.Readers.{entire, one_source}
 use Rattle.bus_tool.specs.Due.{verdict_outcome, table_due, outcome_with}
 use Rattle.bus_tool.specs.Texts.{IsTextOf, IsCheckText}
 use Rattle.bus_tool.specs.Acts.{Acts}
@@ -23,12 +24,13 @@ use Rattle.bus_tool.proofs.ToldLemmas.{table_told}
 check_text : (table : Table) (due : Result Table Outcome) (text : List ℕ) → due ≡ Ok table → IsTextOf IsCheckText due text → text ≡ verdict_line (verdict_of table)
 check_text table due text is h = (let same : Ok h.0 ≡ due = sym h.1 in let e : h.0 ≡ table = cc in h.2 ∙ ap (λ t. verdict_line (verdict_of t)) e)
 
-pub check_claim : TextReadsAsItsTable → (words : List (List ℕ)) (before after : Sources) (out out' : Seen) (outcome : Outcome) (table : Table) → Acts words before after out out' outcome → IsCheckOf words table before after out out' → GivesVerdict table out out' (status_of outcome)
-check_claim reads words before after out out' outcome table acts h =
+pub check_claim : TextReadsAsItsTable → (call : Call) (outcome : Outcome) (table : Table) → Acts call outcome → IsCheckOf table call → GivesVerdict table call (status_of outcome)
+check_claim reads call outcome table acts h =
     let told = h.table_told.told in
-    let due : table_due h.table_told.text ≡ Ok table = table_told reads table before.first h.table_told in
-    let does = does_of words before after out out' outcome Check (ap form_of h.form.form) acts in
-    answers 1 (verdict_outcome (verdict_of table)) outcome _ (λ text. text ≡ verdict_line (verdict_of table)) before after out out' (written_verdict (verdict_of table))
-    (λ text is. check_text table (table_due h.table_told.text) text due (of_told (λ first. IsTextOf IsCheckText (table_due first) text) before.first.bytes h.table_told.text told is))
-    (subst (λ d. StandsFor d outcome) (ap (outcome_with (λ t. verdict_outcome (verdict_of t))) due) (of_told (λ first. StandsFor (outcome_with (λ t. verdict_outcome (verdict_of t)) (table_due first)) outcome) before.first.bytes h.table_told.text told does.due))
-    does.text does.cause h.undisturbed
+    let first = h.table_told.text in
+    let due : table_due first ≡ Ok table = table_told reads table call.before.sources.first h.table_told in
+    let does = does_of call outcome Check (ap form_of h.form.form) acts in
+    answers (one_source entire) (verdict_outcome (verdict_of table)) outcome _ (λ text. text ≡ verdict_line (verdict_of table)) call (written_verdict (verdict_of table))
+    (λ text is. check_text table (table_due first) text due (of_told (λ first. IsTextOf IsCheckText (table_due first) text) call.before.sources.first.bytes first told is))
+    (subst (λ d. StandsFor d outcome) (ap (outcome_with (λ t. verdict_outcome (verdict_of t))) due) (of_told (λ first. StandsFor (outcome_with (λ t. verdict_outcome (verdict_of t)) (table_due first)) outcome) call.before.sources.first.bytes first told does.due))
+    does.text does.counts does.out_count h.undisturbed

@@ -11,7 +11,7 @@ use Rattle.bus_table.specs.Tables.{Sender, Hand}
 use Rattle.bus_table.specs.Hands.{message_of, items_of, hand_of}
 use Rattle.bus_trace.specs.declared.hold.Hold.{Hold}
 use Rattle.bus_trace.specs.Traces.{AscendAbove, IsHold}
-use Rattle.bus_tool.specs.Seen.{text_limit}
+use Rattle.bus_tool.specs.Readers.{text_limit}
 use Rattle.bus_tool.specs.Texts.{hold_of, hold_at, terminal_numbers, holds_of}
 
 abbrev pub AreFew : List Hand → Type 0

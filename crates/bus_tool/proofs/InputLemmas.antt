@@ -1,7 +1,7 @@
 -- What is made of the texts.
-use Rattle.std.specs.Prelude.{◌≡◌, ℕ, List, Vec, Result, Ok, Err, IsErrAnd}
+use Rattle.std.specs.Prelude.{◌≡◌, ℕ, ◌≤◌, List, Vec, Result, Ok, Err, IsErrAnd}
 use Rattle.std.specs.declared.alloc.Global.{Global}
-use Rattle.std.proofs.Common.{refl, sym, ap, ◌∙◌, subst}
+use Rattle.std.proofs.Common.{arith, refl, sym, ap, ◌∙◌, subst}
 use Rattle.std.proofs.lemmas.Result.{err_from_is_err_and}
 use Rattle.bus_text.specs.AllOf.{◌>>=◌}
 use Rattle.bus_table.specs.declared.error.TableError.{TableError}
@@ -10,45 +10,74 @@ use Rattle.bus_table.specs.Gives.{Fails}
 use Rattle.bus_table.specs.Tables.{Table, Hand}
 use Rattle.bus_table.specs.Reading.{answer_of}
 use Rattle.bus_tool.specs.declared.outcome.Outcome.{Outcome}
-use Rattle.bus_tool.specs.Stages.{Gives}
+use Rattle.bus_tool.specs.Stages.{stage_in, Gives}
 use Rattle.bus_tool.specs.declared.inputs.Inputs.{Inputs as Taken}
-use Rattle.bus_tool.specs.Seen.{Seen, both}
+use Rattle.bus_tool.specs.Kinds.{kind_of}
+use Rattle.bus_tool.specs.Outside.{Seen, both}
+use Rattle.bus_tool.specs.Readers.{entire, two_sources}
 use Rattle.bus_tool.specs.Steps.{Takes, Same, IsText, Prepares}
-use Rattle.bus_tool.specs.Due.{text_due, table_refusal, table_or_refusal, table_due, items_due, with_items, inputs_due}
+use Rattle.bus_tool.specs.Due.{text_due, table_refusal, table_or_refusal, table_due, items_due, with_items, inputs_due, table_refusal_of}
 use Rattle.bus_tool.specs.Taken.{AreHandsOf, AreInputs}
-use Rattle.bus_tool.proofs.StageLemmas.{table_later}
 use Rattle.bus_tool.proofs.TakeLemmas.{RefusesAt, takes_then}
-use Rattle.bus_tool.proofs.PrepareLemmas.{prepares_both}
+use Rattle.bus_tool.proofs.ReadLemmas.{items_stage}
+use Rattle.bus_tool.proofs.StageLemmas.{if_map, then_stage, stop_early, stop_low, gives_on}
+use Rattle.bus_tool.proofs.PrepareLemmas.{prepares_none, prepares_both}
+
+table_stage : (answer : Result Table TableError) → 1 ≤ stage_in (table_or_refusal answer)
+table_stage (Ok table) = omega arith
+table_stage (Err (Text line reason)) = omega arith
+table_stage (Err (Whole reason)) = omega arith
+table_stage (Err Memory) = omega arith
 
 -- a refused table text
 table_fails : (e : TableError) (text : List ℕ) → Fails e (answer_of text) → Gives {X = Table} {Y = Table} Same (Err (table_refusal e)) (table_or_refusal (answer_of text))
 table_fails (Text line reason) text h = ap table_or_refusal h
 table_fails (Whole reason) text h = ap table_or_refusal h
-table_fails Memory text h = table_later text
+table_fails Memory text h = table_stage (answer_of text)
 
-table_stops : (e : TableError) → RefusesAt 1 (table_refusal e)
+table_stops : (e : TableError) → RefusesAt 1 (kind_of (table_refusal e))
 table_stops (Text line reason) = refl
 table_stops (Whole reason) = refl
 table_stops Memory = tt
 
-pub table_refused : (old new : Seen) (text : Vec ℕ Global) (bytes : List ℕ) (e : TableError) (r : Result Table Outcome) → Takes IsText 1 (text_due 1) old new (Ok text) → bytes ≡ text.items → Fails e (answer_of bytes) → IsErrAnd r (λ o. o ≡ table_refusal e) → Takes Same 1 table_due old new r
+pub table_refused : (old new : Seen) (text : Vec ℕ Global) (bytes : List ℕ) (e : TableError) (r : Result Table Outcome) → Takes IsText 1 entire (text_due 1) old new (Ok text) → bytes ≡ text.items → Fails e (answer_of bytes) → IsErrAnd r (λ o. o ≡ table_refusal e) → Takes Same 1 entire table_due old new r
 table_refused old new text bytes e r t same fails h =
     let came = err_from_is_err_and r h in
     let is : r ≡ Err (table_refusal e) = came.1 ∙ ap Err came.2 in
-    subst (Takes Same 1 table_due old new) (sym is)
-    (takes_then IsText Same 1 (text_due 1) (λ whole. table_or_refusal (answer_of whole)) old new text (Err (table_refusal e)) t
+    subst (Takes Same 1 entire table_due old new) (sym is)
+    (takes_then IsText Same 1 entire (text_due 1) (λ whole. table_or_refusal (answer_of whole)) old new text (Err (table_refusal e)) t
     (λ whole read. table_fails e whole (subst (λ b. Fails e (answer_of b)) (same ∙ read) fails)) (table_stops e))
 
 -- a table
-pub table_taken : (old new : Seen) (text : Vec ℕ Global) (bytes : List ℕ) (table : Table) → Takes IsText 1 (text_due 1) old new (Ok text) → bytes ≡ text.items → answer_of bytes ≡ Ok table → Takes Same 1 table_due old new (Ok table)
+pub table_taken : (old new : Seen) (text : Vec ℕ Global) (bytes : List ℕ) (table : Table) → Takes IsText 1 entire (text_due 1) old new (Ok text) → bytes ≡ text.items → answer_of bytes ≡ Ok table → Takes Same 1 entire table_due old new (Ok table)
 table_taken old new text bytes table t same h =
-    takes_then IsText Same 1 (text_due 1) (λ whole. table_or_refusal (answer_of whole)) old new text (Ok table) t
+    takes_then IsText Same 1 entire (text_due 1) (λ whole. table_or_refusal (answer_of whole)) old new text (Ok table) t
     (λ whole read. (table, ap table_or_refusal (ap answer_of (sym (same ∙ read)) ∙ h), refl)) tt
 
 -- ---- both texts
-pub all_inputs : (old new old' new' : Seen) (table : Table) (hands : Vec Hand Global) → Takes Same 1 table_due old new (Ok table) → Takes (AreHandsOf table) 2 (items_due table) old' new' (Ok hands)
-    → Prepares AreInputs 2 inputs_due (both old old') (both new new') (Ok (record { table = table; hands = hands }))
-all_inputs old new old' new' table hands t u =
+made_stage : (table : Table) (text : List ℕ) → 2 ≤ stage_in (items_due table text >>= λ items. Ok (with_items table items))
+made_stage table text = then_stage 2 (items_due table text) (λ items. Ok (with_items table items)) (items_stage table text) (λ items. omega arith)
+
+pub no_table : (old new second : Seen) (o : Outcome) → Takes {X = Table} Same 1 entire table_due old new (Err o)
+    → Prepares AreInputs (two_sources entire entire) table_refusal_of inputs_due (both old second) (both new second) (Err o)
+no_table old new second o t = prepares_none Same AreInputs entire entire table_due (λ table b. items_due table b >>= λ items. Ok (with_items table items)) old new second o made_stage t
+
+with_hands : (old new : Seen) (table : Table) (hands : Vec Hand Global) → Takes (AreHandsOf table) 2 entire (items_due table) old new (Ok hands)
+    → Takes AreInputs 2 entire (λ b. items_due table b >>= λ items. Ok (with_items table items)) old new (Ok (record { table = table; hands = hands }))
+with_hands old new table hands u =
     let inputs : Taken = record { table = table; hands = hands } in
-    prepares_both AreInputs (λ table b. items_due table b >>= λ items. Ok (with_items table items)) old new old' new' table (Ok inputs) t
-    (takes_then (AreHandsOf table) AreInputs 2 (items_due table) (λ items. Ok (with_items table items)) old' new' hands (Ok inputs) u (λ items same. (with_items table items, refl, record { table = refl; hands = same })) tt)
+    takes_then (AreHandsOf table) AreInputs 2 entire (items_due table) (λ items. Ok (with_items table items)) old new hands (Ok inputs) u
+    (λ items same. (with_items table items, refl, record { table = refl; hands = same })) tt
+
+pub all_inputs : (old new old' new' : Seen) (table : Table) (hands : Vec Hand Global) → Takes Same 1 entire table_due old new (Ok table) → Takes (AreHandsOf table) 2 entire (items_due table) old' new' (Ok hands)
+    → Prepares AreInputs (two_sources entire entire) table_refusal_of inputs_due (both old old') (both new new') (Ok (record { table = table; hands = hands }))
+all_inputs old new old' new' table hands t u =
+    prepares_both Same AreInputs entire entire table_due (λ table b. items_due table b >>= λ items. Ok (with_items table items)) old new old' new' table table (Ok (record { table = table; hands = hands })) (λ z is. sym is) t
+    (with_hands old' new' table hands u)
+
+-- the second text was refused
+pub no_hands : (old new old' new' : Seen) (table : Table) (o : Outcome) → Takes Same 1 entire table_due old new (Ok table) → Takes (AreHandsOf table) 2 entire (items_due table) old' new' (Err o)
+    → Prepares AreInputs (two_sources entire entire) table_refusal_of inputs_due (both old old') (both new new') (Err o)
+no_hands old new old' new' table o t u =
+    prepares_both Same AreInputs entire entire table_due (λ table b. items_due table b >>= λ items. Ok (with_items table items)) old new old' new' table table (Err o) (λ z is. sym is) t
+    (record { gives = if_map old'.bytes _ _ (λ text g. gives_on (kind_of o) o (items_due table text) (with_items table) (stop_early 2 (kind_of o) u.stops) (stop_low 2 (kind_of o) (omega arith) u.stops) g) u.gives; reads = u.reads; stops = u.stops; counts = u.counts })

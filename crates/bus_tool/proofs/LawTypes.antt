@@ -9,16 +9,16 @@ use Rattle.bus_table.specs.Fits.{items_fit}
 use Rattle.bus_table.specs.Gives.{Refuses}
 use Rattle.bus_table.specs.Hands.{are_hands, hands_of}
 use Rattle.bus_table.specs.Reading.{answer_of}
-use Rattle.bus_table.specs.Text.{IsTableText, IsBuiltText, is_built}
+use Rattle.bus_table.specs.Text.{IsTableText}
 use Rattle.bus_table.specs.Valid.{is_valid}
 
 -- a text of a valid table reads as it
 abbrev pub TextReadsAsItsTable : Type 0
-TextReadsAsItsTable = (text : List ℕ) (table : Table) → IsTableText table text → IsTrue (is_built table) → IsTrue (is_valid table) → answer_of text ≡ Ok table
+TextReadsAsItsTable = (text : List ℕ) (table : Table) → IsTableText table text → IsTrue (is_valid table) → answer_of text ≡ Ok table
 
 -- what reads as a table is a text of it
 abbrev pub ReadsATable : Type 0
-ReadsATable = (text : List ℕ) (table : Table) → answer_of text ≡ Ok table → IsBuiltText table text × IsTrue (is_valid table)
+ReadsATable = (text : List ℕ) (table : Table) → answer_of text ≡ Ok table → IsTableText table text × IsTrue (is_valid table)
 
 -- a refusal of a table text has its cause
 abbrev pub RefusesATable : Type 0

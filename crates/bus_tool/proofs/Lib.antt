@@ -1,3 +1,4 @@
+pub mod TextLemmas
 pub mod StageLemmas
 pub mod ReachLemmas
 pub mod TakeLemmas
@@ -8,18 +9,21 @@ pub mod HoldLemmas
 pub mod HoldLawLemmas
 pub mod TraceLemmas
 pub mod InputLemmas
-pub mod LateLemmas
 pub mod CheckLemmas
 pub mod ObserveLemmas
+pub mod TracedLemmas
+pub mod ReceiveLemmas
 pub mod RunLemmas
 pub mod ActLemmas
 pub mod LawTypes
 pub mod ClaimLemmas
 pub mod ToldLemmas
 pub mod ReadLemmas
+pub mod TraceReads
 pub mod RunReads
 pub mod CheckClaim
 pub mod ObserveClaim
+pub mod ReceiveClaim
 pub mod CauseLemmas
 pub mod TextLawLemmas
 pub mod RunClaim

@@ -15,10 +15,12 @@ use Rattle.bus_medium.specs.Timings.{quiet_of, stations_of}
 use Rattle.bus_tool.specs.declared.outcome.Outcome.{Outcome}
 use Rattle.bus_tool.specs.declared.outcome.Outcome.TheVariants.{Done}
 use Rattle.bus_tool.specs.declared.forms.Form.TheVariants.{Observe}
-use Rattle.bus_tool.specs.Forms.{horizon_limit, four_words, form_of}
+use Rattle.bus_strings.specs.Limits.{horizon_limit}
+use Rattle.bus_tool.specs.Forms.{four_words, form_of}
 use Rattle.bus_tool.specs.Outcomes.{status_of}
 use Rattle.bus_tool.specs.Stages.{StandsFor}
-use Rattle.bus_tool.specs.Seen.{Seen, Sources, OfTexts}
+use Rattle.bus_tool.specs.Outside.{Sources, Call}
+use Rattle.bus_tool.specs.Readers.{Reader, entire, two_sources, OfTexts}
 use Rattle.bus_tool.specs.Due.{Inputs, with_items, inputs_due, outcome_with}
 use Rattle.bus_tool.specs.Texts.{IsObserveText, IsTextOf}
 use Rattle.bus_tool.specs.Acts.{Acts}
@@ -62,18 +64,18 @@ due_text : (horizon : ℕ) (inputs : Inputs) (due : Result Inputs Outcome) (text
 due_text horizon inputs due text is h = (let same : Ok h.0 ≡ due = sym h.1 in let e : h.0 ≡ inputs = cc in subst (λ i. IsObserveText horizon i text) e h.2)
 
 -- what holds of both texts that are told
-pub of_both : (P : List ℕ → List ℕ → Type 0) (before : Sources) (first second : List ℕ) → before.first.bytes ≡ Some first → before.second.bytes ≡ Some second → OfTexts 2 before P → P first second
-of_both P before first second h k p = subst (λ b. IfSome b (λ y. P first y)) k (subst (λ a. IfSome a (λ x. IfSome before.second.bytes (λ y. P x y))) h p)
+pub of_both : (one two : Reader) (P : List ℕ → List ℕ → Type 0) (before : Sources) (first second : List ℕ) → before.first.bytes ≡ Some first → before.second.bytes ≡ Some second → OfTexts (two_sources one two) before P → P first second
+of_both one two P before first second h k p = subst (λ b. IfSome b (λ y. P first y)) k (subst (λ a. IfSome a (λ x. IfSome before.second.bytes (λ y. P x y))) h p)
 
-pub observe_claim : ObserveLaws → (words : List (List ℕ)) (before after : Sources) (out out' : Seen) (outcome : Outcome) (table : Table) (items : List Item) (horizon : ℕ)
-    → Acts words before after out out' outcome → IsObserveOf words table items horizon before after out out' → GivesTrace table items horizon out out' (status_of outcome)
-observe_claim laws words before after out out' outcome table items horizon acts h =
+pub observe_claim : ObserveLaws → (call : Call) (outcome : Outcome) (table : Table) (items : List Item) (horizon : ℕ) → Acts call outcome → IsObserveOf table items horizon call → GivesTrace table items horizon call (status_of outcome)
+observe_claim laws call outcome table items horizon acts h =
     let first = h.table_told.text in
     let second = h.items_told.text in
+    let before = call.before.sources in
     let due : inputs_due first second ≡ Ok (with_items table items) = inputs_told table items first second (table_told laws.table_again table before.first h.table_told) (items_told laws.items_again table items before.second h.items_told) in
-    let does = does_of words before after out out' outcome (Observe horizon) (ap form_of h.form.form ∙ horizon_form h.form.number horizon h.form.spelled h.form.within) acts in
-    answers 2 Done outcome _ (IsTheTrace table (hands_of table items) horizon) before after out out' refl
+    let does = does_of call outcome (Observe horizon) (ap form_of h.form.form ∙ horizon_form h.form.number horizon h.form.spelled h.form.within) acts in
+    answers (two_sources entire entire) Done outcome _ (IsTheTrace table (hands_of table items) horizon) call refl
     (λ text is. trace_of laws table items horizon text h.table_told.valid h.items_told.fit
-    (due_text horizon (with_items table items) (inputs_due first second) text due (of_both (λ a b. IsTextOf (IsObserveText horizon) (inputs_due a b) text) before first second h.table_told.told h.items_told.told is)))
-    (subst (λ d. StandsFor d outcome) (ap (outcome_with (λ inputs. Done)) due) (of_both (λ a b. StandsFor (outcome_with (λ inputs. Done) (inputs_due a b)) outcome) before first second h.table_told.told h.items_told.told does.due))
-    does.text does.cause h.undisturbed
+    (due_text horizon (with_items table items) (inputs_due first second) text due (of_both entire entire (λ a b. IsTextOf (IsObserveText horizon) (inputs_due a b) text) before first second h.table_told.told h.items_told.told is)))
+    (subst (λ d. StandsFor d outcome) (ap (outcome_with (λ inputs. Done)) due) (of_both entire entire (λ a b. StandsFor (outcome_with (λ inputs. Done) (inputs_due a b)) outcome) before first second h.table_told.told h.items_told.told does.due))
+    does.text does.counts does.out_count h.undisturbed

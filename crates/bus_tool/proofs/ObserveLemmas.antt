@@ -8,15 +8,17 @@ use Rattle.bus_trace.specs.Traces.{Recording, trace_text}
 use Rattle.bus_tool.specs.declared.forms.Form.TheVariants.{Observe}
 use Rattle.bus_tool.specs.declared.outcome.Outcome.{Outcome}
 use Rattle.bus_tool.specs.declared.outcome.Outcome.TheVariants.{Done}
-use Rattle.bus_tool.specs.Seen.{Seen, Sources, sink_seen}
+use Rattle.bus_tool.specs.Outside.{Seen, Sources, around, sink_seen}
+use Rattle.bus_tool.specs.Readers.{entire, two_sources}
 use Rattle.bus_tool.specs.Steps.{Prepares}
-use Rattle.bus_tool.specs.Due.{inputs_due}
+use Rattle.bus_tool.specs.Due.{table_due, inputs_due, table_refusal_of}
 use Rattle.bus_tool.specs.Texts.{IsRecordingOf, IsObserveText}
 use Rattle.bus_tool.specs.Acts.{written, DoesForm}
 use Rattle.bus_tool.proofs.DoLemmas.{Tells, answered, stopped}
 
-pub observe_stopped : (horizon : ℕ) (before after : Sources) (out : Seen) (o : Outcome) → Prepares (IsRecordingOf horizon) 2 inputs_due before after (Err o) → DoesForm (Observe horizon) before after out out o
-observe_stopped horizon before after out o p = stopped (IsRecordingOf horizon) (λ inputs. Done) (IsObserveText horizon) 2 inputs_due before after out o (λ inputs. refl) p
+pub observe_stopped : (horizon : ℕ) (before after : Sources) (out : Seen) (o : Outcome) → Prepares (IsRecordingOf horizon) (two_sources entire entire) table_refusal_of inputs_due before after (Err o)
+    → DoesForm (Observe horizon) (around before out) (around after out) o
+observe_stopped horizon before after out o p = stopped (IsRecordingOf horizon) (λ inputs. Done) (IsObserveText horizon) (two_sources entire entire) table_refusal_of inputs_due before after out o (λ inputs. refl) p
 
 tells : (horizon : ℕ) (recording : Recording) → Tells (IsRecordingOf horizon) (λ inputs. Done) (IsObserveText horizon) recording Done (trace_text recording)
 tells horizon recording = record {
@@ -26,8 +28,8 @@ tells horizon recording = record {
 }
 
 pub observe_answered : {K : Type 0} (horizon : ℕ) (before after : Sources) (ghosts : SinkGhosts K) (k k' : K) (recording : Recording) (outcome : Outcome) (result : Result (Unit {0}) Fault)
-    → Prepares (IsRecordingOf horizon) 2 inputs_due before after (Ok recording) → WritesText ghosts.held ghosts.faults k k' result (trace_text recording) → outcome ≡ written result Done
-    → DoesForm (Observe horizon) before after (sink_seen ghosts k) (sink_seen ghosts k') outcome
+    → Prepares (IsRecordingOf horizon) (two_sources entire entire) table_refusal_of inputs_due before after (Ok recording) → WritesText ghosts.held ghosts.faults k k' result (trace_text recording) → outcome ≡ written result Done
+    → DoesForm (Observe horizon) (around before (sink_seen ghosts k)) (around after (sink_seen ghosts k')) outcome
 observe_answered horizon before after ghosts k k' recording outcome result p w h =
-    subst (DoesForm (Observe horizon) before after (sink_seen ghosts k) (sink_seen ghosts k')) (sym h)
-    (answered (IsRecordingOf horizon) (λ inputs. Done) (IsObserveText horizon) 2 inputs_due before after ghosts k k' recording Done (trace_text recording) result (tells horizon recording) p w)
+    subst (DoesForm (Observe horizon) (around before (sink_seen ghosts k)) (around after (sink_seen ghosts k'))) (sym h)
+    (answered (IsRecordingOf horizon) (λ inputs. Done) (IsObserveText horizon) (two_sources entire entire) table_refusal_of inputs_due before after ghosts k k' recording Done (trace_text recording) result (tells horizon recording) p w)

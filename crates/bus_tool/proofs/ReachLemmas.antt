@@ -1,65 +1,117 @@
--- How far the sources were read, by where a command stopped.
-use Rattle.std.specs.Prelude.{◌≡◌, ℕ, ◌≤◌, nat_lt, true, false}
-use Rattle.std.proofs.Common.{arith, refl, sym, ap, ◌∙◌, subst, cond}
+-- How far the sources were read, and their counts, by where a command stopped.
+use Rattle.std.specs.Prelude.{◌≡◌, ℕ, ◌≤◌, nat_lt, true, false, List, [], Option, Some, None, IsSome, Ok, Err, ◌⊎◌}
+use Rattle.std.proofs.Common.{arith, refl, sym, ap, ◌∙◌, subst, cond, inl, inr}
 use Rattle.std.proofs.lemmas.Bool.Decides.{nat_tests}
-use Rattle.bus_outer.specs.Faults.{Rose}
-use Rattle.bus_tool.specs.declared.outcome.Outcome.{Outcome}
-use Rattle.bus_tool.specs.declared.outcome.Outcome.TheVariants.{Done, Answered, Usage, ReadFault, WriteFault, NoMemory, TooLarge}
-use Rattle.bus_tool.specs.Outcomes.{is_written}
-use Rattle.bus_tool.specs.Stages.{stage_of}
-use Rattle.bus_tool.specs.Seen.{Seen, both, numbered, Reach, Untouched, Within, Whole, Reads, stopped_at, reach_at, reach_of, reach}
-use Rattle.bus_tool.specs.Steps.{StopsAt, IsEarly, FaultRose, HasReadCause}
+use Rattle.bus_outer.specs.Sources.{Taken}
+use Rattle.bus_trace.specs.Traces.{trace_text}
+use Rattle.bus_tool.specs.Kinds.{Kind, NoForm, NotRead, TooMuch, Wrong, Late, NotWritten, NoRoom, Answer}
+use Rattle.bus_tool.specs.Outside.{Seen, Sources, both, Rises, Stays, BothStay}
+use Rattle.bus_tool.specs.Readers.{Reader, Entire, Trace, Named, one_source, two_sources, Reach, Untouched, Within, Past, Judged, TakesDecided, ReadsBy, Reads, reach_at, reach, IsNamed, FailsToRead, First, Second, SourceCounts, OutCounts}
+use Rattle.bus_tool.specs.Steps.{stopped_at, StopsAt, StepCounts, IsEarly, IsLate}
 
 -- at its own stage
 here : (number stage : ℕ) (r : Reach) → stage ≡ number → reach_at number stage r ≡ r
 here number stage r h =
     let less : nat_lt stage number ≡ false = grind (arith, nat_tests) in
     let more : nat_lt number stage ≡ false = grind (arith, nat_tests) in
-    ap (λ b. cond b Untouched (cond (nat_lt number stage) Whole r)) less ∙ ap (λ b. cond b Whole r) more
+    ap (λ b. cond b Untouched (cond (nat_lt number stage) Judged r)) less ∙ ap (λ b. cond b Judged r) more
 
-own_reach : (number : ℕ) (o : Outcome) → StopsAt number o → reach_of number o ≡ stopped_at o
-own_reach number NoMemory h = refl
-own_reach number o h = here number (stage_of o) (stopped_at o) h
+own_reach : (number : ℕ) (k : Kind) → StopsAt number k → reach number k ≡ stopped_at k
+own_reach number NoForm h = absurd h
+own_reach number (NotRead source) h = here number source Within h
+own_reach number (TooMuch source) h = here number source Past h
+own_reach number (Wrong source) h = here number source Judged h
+own_reach number Late h = absurd h
+own_reach number NotWritten h = absurd h
+own_reach number NoRoom h = refl
+own_reach number Answer h = absurd h
+
+-- a source that wasn't pulled
+pub untouched : (reader : Reader) (seen : Seen) → ReadsBy reader Untouched seen seen
+untouched (Entire limit) seen = refl
+untouched Trace seen = refl
+
+-- nothing of it was taken
+took_nothing : (bytes : Option (List ℕ)) → Taken bytes bytes []
+took_nothing None = refl
+took_nothing (Some text) = refl
+
+pub nothing_within : (reader : Reader) (seen : Seen) → ReadsBy reader Within seen seen
+nothing_within (Entire limit) seen = ([], took_nothing seen.bytes, omega arith)
+nothing_within Trace seen = ([], took_nothing seen.bytes, omega arith)
 
 -- the source at which a step stopped
-pub reads_own : (number : ℕ) (o : Outcome) (old new : Seen) → StopsAt number o → Reads (stopped_at o) old new → Reads (reach_of number o) old new
-reads_own number o old new h r = subst (λ reach. Reads reach old new) (sym (own_reach number o h)) r
+pub reads_own : (reader : Reader) (number : ℕ) (k : Kind) (old new : Seen) → StopsAt number k → ReadsBy reader (stopped_at k) old new → ReadsBy reader (reach number k) old new
+reads_own reader number k old new h r = subst (λ reach. ReadsBy reader reach old new) (sym (own_reach number k h)) r
+
+-- what was read as far as its reader goes was read within its limit
+pub judged_within : (reader : Reader) (old new : Seen) → ReadsBy reader Judged old new → ReadsBy reader Within old new
+judged_within (Entire limit) old new r = r.0
+judged_within Trace old new r = elim r [ inl whole ↦ (trace_text whole.0, whole.1.0, whole.1.1) | inr wrong ↦ (wrong.2.bytes, wrong.2.came, wrong.2.known.1) ]
 
 -- the first, where the second step stopped
-pub reads_before : (o : Outcome) (old new : Seen) → StopsAt 2 o → Reads Whole old new → Reads (reach_of 1 o) old new
-reads_before NoMemory old new h r = r.0
-reads_before o old new h r = subst (λ stage. Reads (reach_at 1 stage (stopped_at o)) old new) (sym h) r
+pub reads_before : (reader : Reader) (k : Kind) (old new : Seen) → StopsAt 2 k → ReadsBy reader Judged old new → ReadsBy reader (reach 1 k) old new
+reads_before reader NoForm old new h r = absurd h
+reads_before reader (NotRead source) old new h r = subst (λ n. ReadsBy reader (reach_at 1 n Within) old new) (sym h) r
+reads_before reader (TooMuch source) old new h r = subst (λ n. ReadsBy reader (reach_at 1 n Past) old new) (sym h) r
+reads_before reader (Wrong source) old new h r = subst (λ n. ReadsBy reader (reach_at 1 n Judged) old new) (sym h) r
+reads_before reader Late old new h r = absurd h
+reads_before reader NotWritten old new h r = absurd h
+reads_before reader NoRoom old new h r = judged_within reader old new r
+reads_before reader Answer old new h r = absurd h
 
--- want of memory behind both
-pub reads_less_first : (named : ℕ) (old new : Seen) → Reads (reach named 1 Done) old new → Reads (reach named 1 NoMemory) old new
-reads_less_first named old new r = elim (nat_lt named 1) as (λ b. Reads (cond b Untouched Whole) old new → Reads (cond b Untouched Within) old new) [ true ↦ λ k. k | false ↦ λ k. k.0 ] r
+-- a source that was read, where a command stopped behind both
+pub reads_late : (reader : Option Reader) (number : ℕ) (k : Kind) (old new : Seen) → IsLate k → Reads reader (reach number Answer) old new → Reads reader (reach number k) old new
+reads_late None number k old new h r = r
+reads_late (Some reader) number NoForm old new h r = absurd h
+reads_late (Some reader) number (NotRead source) old new h r = absurd h
+reads_late (Some reader) number (TooMuch source) old new h r = absurd h
+reads_late (Some reader) number (Wrong source) old new h r = absurd h
+reads_late (Some reader) number Late old new h r = r
+reads_late (Some reader) number NotWritten old new h r = absurd h
+reads_late (Some reader) number NoRoom old new h r = judged_within reader old new r
+reads_late (Some reader) number Answer old new h r = absurd h
 
-pub reads_less_second : (named : ℕ) (old new : Seen) → Reads (reach named 2 Done) old new → Reads (reach named 2 NoMemory) old new
-reads_less_second named old new r = elim (nat_lt named 2) as (λ b. Reads (cond b Untouched Whole) old new → Reads (cond b Untouched Within) old new) [ true ↦ λ k. k | false ↦ λ k. k.0 ] r
+-- ---- the counts
+pub late_counts : (named : Named) (before after : Sources) (k : Kind) → IsLate k → BothStay before after → SourceCounts named before after k
+late_counts named before after NoForm h s = absurd h
+late_counts named before after (NotRead source) h s = absurd h
+late_counts named before after (TooMuch source) h s = absurd h
+late_counts named before after (Wrong source) h s = absurd h
+late_counts named before after Late h s = s
+late_counts named before after NotWritten h s = absurd h
+late_counts named before after NoRoom h s = s
+late_counts named before after Answer h s = absurd h
 
--- an answer, and a failed write
-pub answer_reach : (number : ℕ) (o : Outcome) → is_written o ≡ true → reach_of number o ≡ reach_of number Done
-answer_reach number Done h = refl
-answer_reach number Answered h = refl
-answer_reach number o h = absurd cc
+-- a step that stopped at the first source
+pub first_counts : (named : Named) (k : Kind) (old new second : Seen) → IsSome named.first → StopsAt 1 k → StepCounts old new k → SourceCounts named (both old second) (both new second) k
+first_counts named NoForm old new second some h c = absurd h
+first_counts named (NotRead source) old new second some h c = First h some c refl
+first_counts named (TooMuch source) old new second some h c = (inl (h, some), record { first = c; second = refl })
+first_counts named (Wrong source) old new second some h c = (inl (h, some), record { first = c; second = refl })
+first_counts named Late old new second some h c = absurd h
+first_counts named NotWritten old new second some h c = absurd h
+first_counts named NoRoom old new second some h c = record { first = c; second = refl }
+first_counts named Answer old new second some h c = absurd h
 
--- a step that reads a source stops before anything is written
-pub early_at : (number : ℕ) (o : Outcome) → 1 ≤ number → number ≤ 2 → StopsAt number o → IsEarly o
-early_at number Done some few h = absurd (omega arith)
-early_at number Answered some few h = absurd (omega arith)
-early_at number Usage some few h = absurd (omega arith)
-early_at number WriteFault some few h = absurd (omega arith)
-early_at number o some few h = tt
+-- a step that stopped at the second source
+pub second_counts : (named : Named) (k : Kind) (first first' old new : Seen) → IsSome named.second → Stays first first' → StopsAt 2 k → StepCounts old new k → SourceCounts named (both first old) (both first' new) k
+second_counts named NoForm first first' old new some stays h c = absurd h
+second_counts named (NotRead source) first first' old new some stays h c = Second h some stays c
+second_counts named (TooMuch source) first first' old new some stays h c = (inr (h, some), record { first = stays; second = c })
+second_counts named (Wrong source) first first' old new some stays h c = (inr (h, some), record { first = stays; second = c })
+second_counts named Late first first' old new some stays h c = absurd h
+second_counts named NotWritten first first' old new some stays h c = absurd h
+second_counts named NoRoom first first' old new some stays h c = record { first = stays; second = c }
+second_counts named Answer first first' old new some stays h c = absurd h
 
--- the causes of the first source, and of the second
-pub first_cause : (named : ℕ) (o : Outcome) (old new second : Seen) → 1 ≤ named → StopsAt 1 o → FaultRose old new o → HasReadCause named (both old second) (both new second) o
-first_cause named (ReadFault source) old new second some stop rose =
-    ((omega arith, omega arith), subst (λ s. Rose (numbered s (both old second)).faults (numbered s (both new second)).faults) (sym stop) rose)
-first_cause named (TooLarge source) old new second some stop rose = (omega arith, omega arith)
-first_cause named o old new second some stop rose = tt
-
-pub second_cause : (o : Outcome) (first first' old new : Seen) → StopsAt 2 o → FaultRose old new o → HasReadCause 2 (both first old) (both first' new) o
-second_cause (ReadFault source) first first' old new stop rose =
-    ((omega arith, omega arith), subst (λ s. Rose (numbered s (both first old)).faults (numbered s (both first' new)).faults) (sym stop) rose)
-second_cause (TooLarge source) first first' old new stop rose = (omega arith, omega arith)
-second_cause o first first' old new stop rose = tt
+-- nothing is written before an answer
+pub early_out : (k : Kind) (out : Seen) → IsEarly k → OutCounts out out k
+early_out NoForm out h = refl
+early_out (NotRead source) out h = refl
+early_out (TooMuch source) out h = refl
+early_out (Wrong source) out h = refl
+early_out Late out h = refl
+early_out NotWritten out h = absurd h
+early_out NoRoom out h = refl
+early_out Answer out h = refl

@@ -1,6 +1,6 @@
 -- What was read, by what is due.
 use Rattle.std.specs.Prelude.{◌≡◌, ℕ, ◌≤◌, nat_lt, true, false, ◌⊎◌, List, length, Result, Ok, Err}
-use Rattle.std.proofs.Common.{refl, sym, ap, ◌∙◌, subst, cond, inl, inr}
+use Rattle.std.proofs.Common.{arith, refl, sym, ap, ◌∙◌, subst, cond, inl, inr}
 use Rattle.bus_text.specs.declared.reason.Reason.{Reason}
 use Rattle.bus_text.specs.AllOf.{◌>>=◌}
 use Rattle.bus_text.specs.AllOfLaws.{bind_ok}
@@ -14,13 +14,15 @@ use Rattle.bus_table.specs.declared.fit.FitError.{FitError}
 use Rattle.bus_table.specs.Tables.{Table}
 use Rattle.bus_table.specs.Fits.{items_fit}
 use Rattle.bus_table.specs.Reading.{answer_of}
+use Rattle.bus_trace.specs.declared.reason.TraceReason.{TraceReason}
 use Rattle.bus_tool.specs.declared.outcome.Outcome.{Outcome}
-use Rattle.bus_tool.specs.declared.outcome.Outcome.TheVariants.{TableText, TableWhole, MessagesText, Unfit, Uneven, Refused, NoMemory, TooLarge, TooLong}
-use Rattle.bus_tool.specs.Outcomes.{is_written}
-use Rattle.bus_tool.specs.Stages.{stage_of, stage_in}
-use Rattle.bus_tool.specs.Seen.{text_limit}
+use Rattle.bus_tool.specs.declared.outcome.Outcome.TheVariants.{TableText, TableWhole, MessagesText, Unfit, TraceText, NoMemory, TooLarge}
+use Rattle.bus_tool.specs.Kinds.{Kind, NoForm, NotRead, TooMuch, Wrong, Late, NotWritten, NoRoom, Answer, kind_of, is_answer}
+use Rattle.bus_tool.specs.Stages.{stage_in}
+use Rattle.bus_tool.specs.Readers.{text_limit}
+use Rattle.bus_tool.specs.Steps.{StopsAt}
 use Rattle.bus_tool.specs.Due.{text_due, table_refusal, table_or_refusal, table_due, items_or_refusal, fitting_or_refusal, items_due, Inputs, with_items, inputs_due}
-use Rattle.bus_tool.proofs.StageLemmas.{items_stage}
+use Rattle.bus_tool.proofs.StageLemmas.{stop_stage}
 
 -- a text that was read, where the outcome isn't that it is too large
 read_text : {Y : Type 0} (number : ℕ) (text : List ℕ) (f : List ℕ → Result Y Outcome) (r : Result Y Outcome) → (Err (TooLarge number) ≡ r → ⊥) → (text_due number text >>= f) ≡ r → f text ≡ r
@@ -60,30 +62,26 @@ pub table_whole_read : (text : List ℕ) (reason : WholeReason) → table_due te
 table_whole_read text reason h =
     whole_error (answer_of text) reason (read_text 1 text (λ whole. table_or_refusal (answer_of whole)) (Err (TableWhole reason)) (λ e. let k : TooLarge 1 ≡ TableWhole reason = cc in cc) h)
 
--- an outcome that may refuse the first text
-abbrev pub IsOfFirst : Outcome → Type 0
-IsOfFirst (MessagesText line reason) = ⊥
-IsOfFirst (Unfit error) = ⊥
-IsOfFirst (Uneven one one_count other other_count) = ⊥
-IsOfFirst (Refused verdict) = ⊥
-IsOfFirst (TooLong end) = ⊥
-IsOfFirst o = Unit {0}
+-- it is refused at its own source
+refusal_stops : (error : TableError) → StopsAt 1 (kind_of (table_refusal error))
+refusal_stops (Text line reason) = refl
+refusal_stops (Whole reason) = refl
+refusal_stops Memory = tt
 
-refusal_of_first : (error : TableError) → IsOfFirst (table_refusal error)
-refusal_of_first (Text line reason) = tt
-refusal_of_first (Whole reason) = tt
-refusal_of_first Memory = tt
+error_stops : (r : Result Table TableError) (o : Outcome) → table_or_refusal r ≡ Err o → StopsAt 1 (kind_of o)
+error_stops (Ok t) o h = absurd cc
+error_stops (Err error) o h = (let e : table_refusal error ≡ o = cc in subst (λ o. StopsAt 1 (kind_of o)) e (refusal_stops error))
 
-error_of_first : (r : Result Table TableError) (o : Outcome) → table_or_refusal r ≡ Err o → IsOfFirst o
-error_of_first (Ok t) o h = absurd cc
-error_of_first (Err error) o h = (let e : table_refusal error ≡ o = cc in subst IsOfFirst e (refusal_of_first error))
-
-pub table_stops : (text : List ℕ) (o : Outcome) → table_due text ≡ Err o → IsOfFirst o
-table_stops text o h =
-    elim (nat_lt text_limit (length text)) as (λ b. (cond b (Err (TooLarge 1)) (Ok text) >>= λ whole. table_or_refusal (answer_of whole)) ≡ Err o → IsOfFirst o) [
-      | true ↦ λ k. (let e : TooLarge 1 ≡ o = cc in subst IsOfFirst e tt)
-      | false ↦ λ k. error_of_first (answer_of text) o k
+-- a text that is too large, or that is refused
+text_stops : {Y : Type 0} (number : ℕ) (text : List ℕ) (f : List ℕ → Result Y Outcome) (o : Outcome) → (f text ≡ Err o → StopsAt number (kind_of o)) → (text_due number text >>= f) ≡ Err o → StopsAt number (kind_of o)
+text_stops number text f o stops h =
+    elim (nat_lt text_limit (length text)) as (λ b. (cond b (Err (TooLarge number)) (Ok text) >>= f) ≡ Err o → StopsAt number (kind_of o)) [
+      | true ↦ λ k. (let e : TooLarge number ≡ o = cc in subst (λ o. StopsAt number (kind_of o)) e refl)
+      | false ↦ stops
     ] h
+
+pub table_stops : (text : List ℕ) (o : Outcome) → table_due text ≡ Err o → StopsAt 1 (kind_of o)
+table_stops text o h = text_stops 1 text (λ whole. table_or_refusal (answer_of whole)) o (error_stops (answer_of text) o) h
 
 -- ---- the second text
 -- the messages text, and whether the items fit
@@ -105,6 +103,19 @@ fit_err (Err e) given error h = (let k : Unfit e ≡ Unfit error = cc in let m :
 fit_no_text : (fit : Result (Unit {0}) FitError) (given : List Item) (line : ℕ) (reason : Reason) → fitting_or_refusal fit given ≡ Err (MessagesText line reason) → ⊥
 fit_no_text (Ok u) given line reason h = cc
 fit_no_text (Err e) given line reason h = (let k : Unfit e ≡ MessagesText line reason = cc in cc)
+
+fit_no_trace : (fit : Result (Unit {0}) FitError) (given : List Item) (byte : ℕ) (reason : TraceReason) → fitting_or_refusal fit given ≡ Err (TraceText byte reason) → ⊥
+fit_no_trace (Ok u) given byte reason h = cc
+fit_no_trace (Err e) given byte reason h = (let k : Unfit e ≡ TraceText byte reason = cc in cc)
+
+made_no_trace : (table : Table) (reading : Result (List Item) Refusal) (byte : ℕ) (reason : TraceReason) → made_items table reading ≡ Err (TraceText byte reason) → ⊥
+made_no_trace table (Ok given) byte reason h = fit_no_trace (items_fit table given) given byte reason h
+made_no_trace table (Err refusal) byte reason h = (let k : MessagesText refusal.line refusal.reason ≡ TraceText byte reason = cc in cc)
+
+-- a messages text is not refused as a trace
+pub items_no_trace : (table : Table) (text : List ℕ) (byte : ℕ) (reason : TraceReason) → items_due table text ≡ Err (TraceText byte reason) → ⊥
+items_no_trace table text byte reason h =
+    made_no_trace table (messages_reading text) byte reason (read_text 2 text (λ whole. made_items table (messages_reading whole)) (Err (TraceText byte reason)) (λ e. let k : TooLarge 2 ≡ TraceText byte reason = cc in cc) h)
 
 made_ok : (table : Table) (reading : Result (List Item) Refusal) (items : List Item) → made_items table reading ≡ Ok items → (reading ≡ Ok items) × (items_fit table items ≡ Ok tt)
 made_ok table (Ok given) items h = (let f = fit_ok (items_fit table given) given items h in (ap Ok f.0, ap (items_fit table) (sym f.0) ∙ f.1))
@@ -154,63 +165,42 @@ inputs_stop first second o h = elim (bind_err (table_due first) (λ table. items
   | inr w ↦ inr (w.0, w.1, elim (bind_err (items_due w.0 second) (λ items. Ok (with_items w.0 items)) o w.2) [ inl e ↦ e | inr v ↦ absurd (let k = v.2 in cc) ])
 ]
 
+-- ---- the second text is refused at its own source
+fit_stops : (fit : Result (Unit {0}) FitError) (given : List Item) (o : Outcome) → fitting_or_refusal fit given ≡ Err o → StopsAt 2 (kind_of o)
+fit_stops (Ok u) given o h = absurd cc
+fit_stops (Err e) given o h = (let k : Unfit e ≡ o = cc in subst (λ o. StopsAt 2 (kind_of o)) k refl)
+
+made_stops : (table : Table) (reading : Result (List Item) Refusal) (o : Outcome) → made_items table reading ≡ Err o → StopsAt 2 (kind_of o)
+made_stops table (Ok given) o h = fit_stops (items_fit table given) given o h
+made_stops table (Err refusal) o h = (let k : MessagesText refusal.line refusal.reason ≡ o = cc in subst (λ o. StopsAt 2 (kind_of o)) k refl)
+
+pub items_stop : (table : Table) (text : List ℕ) (o : Outcome) → items_due table text ≡ Err o → StopsAt 2 (kind_of o)
+items_stop table text o h = text_stops 2 text (λ whole. made_items table (messages_reading whole)) o (made_stops table (messages_reading text) o) h
+
+-- so it comes no earlier
+stage_at : {Y : Type 0} (number : ℕ) (due : Result Y Outcome) → number ≤ 3 → ((o : Outcome) → due ≡ Err o → StopsAt number (kind_of o)) → number ≤ stage_in due
+stage_at number (Ok y) low stops = low
+stage_at number (Err o) low stops = stop_stage number (kind_of o) low (stops o refl)
+
+pub items_stage : (table : Table) (text : List ℕ) → 2 ≤ stage_in (items_due table text)
+items_stage table text = stage_at 2 (items_due table text) (omega arith) (λ o h. items_stop table text o h)
+
 -- ---- no refusal is an answer
-refusal_unwritten : (error : TableError) → is_written (table_refusal error) ≡ false
-refusal_unwritten (Text line reason) = refl
-refusal_unwritten (Whole reason) = refl
-refusal_unwritten Memory = refl
+pub stop_unwritten : (number : ℕ) (k : Kind) → StopsAt number k → is_answer k ≡ false
+stop_unwritten number NoForm h = refl
+stop_unwritten number (NotRead source) h = refl
+stop_unwritten number (TooMuch source) h = refl
+stop_unwritten number (Wrong source) h = refl
+stop_unwritten number Late h = refl
+stop_unwritten number NotWritten h = refl
+stop_unwritten number NoRoom h = refl
+stop_unwritten number Answer h = absurd h
 
-error_unwritten : (r : Result Table TableError) (o : Outcome) → table_or_refusal r ≡ Err o → is_written o ≡ false
-error_unwritten (Ok t) o h = absurd cc
-error_unwritten (Err error) o h = (let e : table_refusal error ≡ o = cc in ap is_written (sym e) ∙ refusal_unwritten error)
+pub table_unwritten : (text : List ℕ) (o : Outcome) → table_due text ≡ Err o → is_answer (kind_of o) ≡ false
+table_unwritten text o h = stop_unwritten 1 (kind_of o) (table_stops text o h)
 
-pub table_unwritten : (text : List ℕ) (o : Outcome) → table_due text ≡ Err o → is_written o ≡ false
-table_unwritten text o h =
-    elim (nat_lt text_limit (length text)) as (λ b. (cond b (Err (TooLarge 1)) (Ok text) >>= λ whole. table_or_refusal (answer_of whole)) ≡ Err o → is_written o ≡ false) [
-      | true ↦ λ k. (let e : TooLarge 1 ≡ o = cc in ap is_written (sym e))
-      | false ↦ λ k. error_unwritten (answer_of text) o k
-    ] h
+items_unwritten : (table : Table) (text : List ℕ) (o : Outcome) → items_due table text ≡ Err o → is_answer (kind_of o) ≡ false
+items_unwritten table text o h = stop_unwritten 2 (kind_of o) (items_stop table text o h)
 
-fit_unwritten : (fit : Result (Unit {0}) FitError) (given : List Item) (o : Outcome) → fitting_or_refusal fit given ≡ Err o → is_written o ≡ false
-fit_unwritten (Ok u) given o h = absurd cc
-fit_unwritten (Err e) given o h = (let k : Unfit e ≡ o = cc in ap is_written (sym k))
-
-made_unwritten : (table : Table) (reading : Result (List Item) Refusal) (o : Outcome) → made_items table reading ≡ Err o → is_written o ≡ false
-made_unwritten table (Ok given) o h = fit_unwritten (items_fit table given) given o h
-made_unwritten table (Err refusal) o h = (let k : MessagesText refusal.line refusal.reason ≡ o = cc in ap is_written (sym k))
-
-items_unwritten : (table : Table) (text : List ℕ) (o : Outcome) → items_due table text ≡ Err o → is_written o ≡ false
-items_unwritten table text o h =
-    elim (nat_lt text_limit (length text)) as (λ b. (cond b (Err (TooLarge 2)) (Ok text) >>= λ whole. made_items table (messages_reading whole)) ≡ Err o → is_written o ≡ false) [
-      | true ↦ λ k. (let e : TooLarge 2 ≡ o = cc in ap is_written (sym e))
-      | false ↦ λ k. made_unwritten table (messages_reading text) o k
-    ] h
-
-pub inputs_unwritten : (first second : List ℕ) (o : Outcome) → inputs_due first second ≡ Err o → is_written o ≡ false
+pub inputs_unwritten : (first second : List ℕ) (o : Outcome) → inputs_due first second ≡ Err o → is_answer (kind_of o) ≡ false
 inputs_unwritten first second o h = elim (inputs_stop first second o h) [ inl e ↦ table_unwritten first o e | inr w ↦ items_unwritten w.0 second o w.2 ]
-
--- the second text is refused at its own stage
-pub items_stop : (table : Table) (text : List ℕ) (o : Outcome) → items_due table text ≡ Err o → 2 ≤ stage_of o
-items_stop table text o h = subst (λ r. 2 ≤ stage_in r) h (items_stage table text)
-
--- an outcome that may refuse the second text
-abbrev pub IsOfSecond : Outcome → Type 0
-IsOfSecond (Uneven one one_count other other_count) = ⊥
-IsOfSecond (Refused verdict) = ⊥
-IsOfSecond (TooLong end) = ⊥
-IsOfSecond o = Unit {0}
-
-fit_of_second : (fit : Result (Unit {0}) FitError) (given : List Item) (o : Outcome) → fitting_or_refusal fit given ≡ Err o → IsOfSecond o
-fit_of_second (Ok u) given o h = absurd cc
-fit_of_second (Err e) given o h = (let k : Unfit e ≡ o = cc in subst IsOfSecond k tt)
-
-made_of_second : (table : Table) (reading : Result (List Item) Refusal) (o : Outcome) → made_items table reading ≡ Err o → IsOfSecond o
-made_of_second table (Ok given) o h = fit_of_second (items_fit table given) given o h
-made_of_second table (Err refusal) o h = (let k : MessagesText refusal.line refusal.reason ≡ o = cc in subst IsOfSecond k tt)
-
-pub items_never_late : (table : Table) (text : List ℕ) (o : Outcome) → items_due table text ≡ Err o → IsOfSecond o
-items_never_late table text o h =
-    elim (nat_lt text_limit (length text)) as (λ b. (cond b (Err (TooLarge 2)) (Ok text) >>= λ whole. made_items table (messages_reading whole)) ≡ Err o → IsOfSecond o) [
-      | true ↦ λ k. (let e : TooLarge 2 ≡ o = cc in subst IsOfSecond e tt)
-      | false ↦ λ k. made_of_second table (messages_reading text) o k
-    ] h

@@ -19,7 +19,8 @@ use Rattle.bus_tool.specs.declared.forms.Form.TheVariants.{Run}
 use Rattle.bus_tool.specs.Forms.{form_of}
 use Rattle.bus_tool.specs.Outcomes.{status_of}
 use Rattle.bus_tool.specs.Stages.{StandsFor}
-use Rattle.bus_tool.specs.Seen.{Seen, Sources}
+use Rattle.bus_tool.specs.Outside.{Call}
+use Rattle.bus_tool.specs.Readers.{entire, two_sources}
 use Rattle.bus_tool.specs.Due.{Inputs, with_items, inputs_due, even_due, accepted_due, may_run, runs, run_due, outcome_with}
 use Rattle.bus_tool.specs.Texts.{IsRunText, IsTextOf}
 use Rattle.bus_tool.specs.Acts.{Acts}
@@ -74,9 +75,10 @@ accepted_if table accepted = cond accepted (Ok tt) (Err (Refused (verdict_of tab
 may_be_run : (table : Table) (hands : List Hand) → uneven_of table hands ≡ None → IsTrue (is_accepted (verdict_of table)) → may_run table hands ≡ Ok tt
 may_be_run table hands none accepted = ap (λ found. even_due found >>= λ _. accepted_due (verdict_of table)) none ∙ ap (accepted_if table) accepted
 
-run_told : RunLaws → (words : List (List ℕ)) (table : Table) (items : List Item) (before after : Sources) (out out' : Seen) (h : IsRunOf words table items before after out out') → run_due h.table_told.text h.items_told.text ≡ Ok (with_items table items)
-run_told laws words table items before after out out' h =
-    let due : inputs_due h.table_told.text h.items_told.text ≡ Ok (with_items table items) = inputs_told table items h.table_told.text h.items_told.text (table_told laws.table_again table before.first h.table_told) (items_told laws.items_again table items before.second h.items_told) in
+run_told : RunLaws → (table : Table) (items : List Item) (call : Call) (h : IsRunOf table items call) → run_due h.table_told.text h.items_told.text ≡ Ok (with_items table items)
+run_told laws table items call h =
+    let due : inputs_due h.table_told.text h.items_told.text ≡ Ok (with_items table items) =
+    inputs_told table items h.table_told.text h.items_told.text (table_told laws.table_again table call.before.sources.first h.table_told) (items_told laws.items_again table items call.before.sources.second h.items_told) in
     let dealt : IsTrue (are_hands table.senders (hands_of table items)) = laws.give_hands table items h.table_told.valid (subst IsOk (sym h.items_told.fit) refl) in
     let none : uneven_of table (hands_of table items) ≡ None = none_is (uneven_of table (hands_of table items)) ((laws.even_agree table (hands_of table items) h.table_told.valid dealt).1 (even_hands table items dealt h.even)) in
     ap (λ d. d >>= runs) due ∙ ap (λ d. d >>= λ _. Ok (with_items table items)) (can_be_run table (hands_of table items) (may_be_run table (hands_of table items) none h.accepted) h.short)
@@ -88,13 +90,14 @@ due_text inputs due text is h = (let same : Ok h.0 ≡ due = sym h.1 in let e : 
 the_run : (table : Table) (items : List Item) (text : List ℕ) → IsRunText (with_items table items) text → IsTheRun table (hands_of table items) text
 the_run table items text h = record { recording = h.recording; ran = h.ran; text_is = h.text_is }
 
-pub run_claim : RunLaws → (words : List (List ℕ)) (before after : Sources) (out out' : Seen) (outcome : Outcome) (table : Table) (items : List Item) → Acts words before after out out' outcome → IsRunOf words table items before after out out' → GivesRun table items out out' (status_of outcome)
-run_claim laws words before after out out' outcome table items acts h =
+pub run_claim : RunLaws → (call : Call) (outcome : Outcome) (table : Table) (items : List Item) → Acts call outcome → IsRunOf table items call → GivesRun table items call (status_of outcome)
+run_claim laws call outcome table items acts h =
     let first = h.table_told.text in
     let second = h.items_told.text in
-    let due : run_due first second ≡ Ok (with_items table items) = run_told laws words table items before after out out' h in
-    let does = does_of words before after out out' outcome Run (ap form_of h.form.form) acts in
-    answers 2 Done outcome _ (IsTheRun table (hands_of table items)) before after out out' refl
-    (λ text is. the_run table items text (due_text (with_items table items) (run_due first second) text due (of_both (λ a b. IsTextOf IsRunText (run_due a b) text) before first second h.table_told.told h.items_told.told is)))
-    (subst (λ d. StandsFor d outcome) (ap (outcome_with (λ inputs. Done)) due) (of_both (λ a b. StandsFor (outcome_with (λ inputs. Done) (run_due a b)) outcome) before first second h.table_told.told h.items_told.told does.due))
-    does.text does.cause h.undisturbed
+    let before = call.before.sources in
+    let due : run_due first second ≡ Ok (with_items table items) = run_told laws table items call h in
+    let does = does_of call outcome Run (ap form_of h.form.form) acts in
+    answers (two_sources entire entire) Done outcome _ (IsTheRun table (hands_of table items)) call refl
+    (λ text is. the_run table items text (due_text (with_items table items) (run_due first second) text due (of_both entire entire (λ a b. IsTextOf IsRunText (run_due a b) text) before first second h.table_told.told h.items_told.told is)))
+    (subst (λ d. StandsFor d outcome) (ap (outcome_with (λ inputs. Done)) due) (of_both entire entire (λ a b. StandsFor (outcome_with (λ inputs. Done) (run_due a b)) outcome) before first second h.table_told.told h.items_told.told does.due))
+    does.text does.counts does.out_count h.undisturbed

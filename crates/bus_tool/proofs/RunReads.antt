@@ -4,7 +4,7 @@ use Rattle.std.proofs.Common.{arith, refl, sym, ap, ◌∙◌, subst, cond, inl,
 use Rattle.std.proofs.lemmas.Bool.Decides.{nat_tests}
 use Rattle.bus_text.specs.AllOf.{◌>>=◌}
 use Rattle.bus_text.specs.AllOfLaws.{bind_ok}
-use Rattle.bus_regime.specs.declared.verdict.TableVerdict.{TableVerdict}
+use Rattle.bus_regime.specs.declared.table_verdict.TableVerdict.{TableVerdict}
 use Rattle.bus_regime.specs.Verdicts.{verdict_of, is_accepted}
 use Rattle.bus_schedule.specs.declared.uneven.Uneven.{Uneven as UnevenHands}
 use Rattle.bus_schedule.specs.Closed.{closed_end}
@@ -12,7 +12,7 @@ use Rattle.bus_schedule.specs.Limits.{longest_end}
 use Rattle.bus_schedule.specs.Uneven.{uneven_of}
 use Rattle.bus_tool.specs.declared.outcome.Outcome.{Outcome}
 use Rattle.bus_tool.specs.declared.outcome.Outcome.TheVariants.{Refused, TooLong}
-use Rattle.bus_tool.specs.Outcomes.{is_written}
+use Rattle.bus_tool.specs.Kinds.{kind_of, is_answer}
 use Rattle.bus_tool.specs.Due.{Inputs, hands_in, inputs_due, uneven_refusal, even_due, runs, run_due}
 use Rattle.bus_tool.proofs.ReadLemmas.{bind_err, inputs_unwritten}
 
@@ -66,10 +66,10 @@ run_stop first second o h = elim (bind_err (inputs_due first second) runs o h) [
   | inr w ↦ inr (w.0, w.1, asked_err w.0 o (uneven_of w.0.table (hands_in w.0)) (is_accepted (verdict_of w.0.table)) (nat_lt longest_end (closed_end w.0.table (hands_in w.0))) refl refl refl w.2)
 ]
 
-not_run_unwritten : (inputs : Inputs) (o : Outcome) → NotRun inputs o → is_written o ≡ false
-not_run_unwritten inputs o (Differ uneven why e) = ap is_written e
-not_run_unwritten inputs o (NotAccepted why e) = ap is_written e
-not_run_unwritten inputs o (Longer why e) = ap is_written e
+not_run_unwritten : (inputs : Inputs) (o : Outcome) → NotRun inputs o → is_answer (kind_of o) ≡ false
+not_run_unwritten inputs o (Differ uneven why e) = ap (λ o. is_answer (kind_of o)) e
+not_run_unwritten inputs o (NotAccepted why e) = ap (λ o. is_answer (kind_of o)) e
+not_run_unwritten inputs o (Longer why e) = ap (λ o. is_answer (kind_of o)) e
 
-pub run_unwritten : (first second : List ℕ) (o : Outcome) → run_due first second ≡ Err o → is_written o ≡ false
+pub run_unwritten : (first second : List ℕ) (o : Outcome) → run_due first second ≡ Err o → is_answer (kind_of o) ≡ false
 run_unwritten first second o h = elim (run_stop first second o h) [ inl e ↦ inputs_unwritten first second o e | inr w ↦ not_run_unwritten w.0 o w.2 ]

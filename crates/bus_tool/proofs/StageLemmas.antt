@@ -1,55 +1,75 @@
 -- Steps one after another: what they give, and at which stage.
-use Rattle.std.specs.Prelude.{◌≡◌, ℕ, ◌≤◌, nat_lt, true, false, List, length, Result, Ok, Err}
-use Rattle.std.proofs.Common.{arith, refl, sym, ap, subst, cond}
+use Rattle.std.specs.Prelude.{◌≡◌, ℕ, ◌≤◌, Option, Some, None, IfSome, Result, Ok, Err}
+use Rattle.std.proofs.Common.{arith, refl, sym, ap, ◌∙◌, subst}
 use Rattle.bus_text.specs.AllOf.{◌>>=◌}
-use Rattle.bus_text.specs.Refusals.{Refusal}
-use Rattle.bus_strings.specs.Items.{Item}
-use Rattle.bus_strings.specs.Reading.{messages_reading}
-use Rattle.bus_table.specs.declared.error.TableError.{TableError}
-use Rattle.bus_table.specs.declared.error.TableError.TheVariants.{Text, Whole, Memory}
-use Rattle.bus_table.specs.declared.fit.FitError.{FitError}
-use Rattle.bus_table.specs.Tables.{Table}
-use Rattle.bus_table.specs.Fits.{items_fit}
-use Rattle.bus_table.specs.Reading.{answer_of}
 use Rattle.bus_tool.specs.declared.outcome.Outcome.{Outcome}
-use Rattle.bus_tool.specs.declared.outcome.Outcome.TheVariants.{Done, Answered, ReadFault, WriteFault, NoMemory, TooLarge}
-use Rattle.bus_tool.specs.Outcomes.{is_written}
-use Rattle.bus_tool.specs.Stages.{stage_of, StandsFor, stage_in, Gives}
-use Rattle.bus_tool.specs.Seen.{text_limit}
-use Rattle.bus_tool.specs.Steps.{IsEarly}
-use Rattle.bus_tool.specs.Due.{text_due, table_or_refusal, items_or_refusal, fitting_or_refusal, items_due, outcome_with}
+use Rattle.bus_tool.specs.Kinds.{Kind, NoForm, NotRead, TooMuch, Wrong, Late, NotWritten, NoRoom, Answer, kind_of, stage_of}
+use Rattle.bus_tool.specs.Stages.{StandsAs, StandsFor, stage_in, GivesStop, Gives, refusal_in}
+use Rattle.bus_tool.specs.Outside.{Sources}
+use Rattle.bus_tool.specs.Steps.{StopsAt, IsEarly, IsLate, IsRefused}
+use Rattle.bus_tool.specs.Due.{outcome_with}
+
+pub if_map : {X : Type 0} (o : Option X) (P Q : X → Type 0) → ((x : X) → P x → Q x) → IfSome o P → IfSome o Q
+if_map None P Q f h = tt
+if_map (Some x) P Q f h = f x h
+
+-- ---- the kinds at which a step may stop
+-- a step that reads a source stops before anything is written
+pub stop_early : (number : ℕ) (k : Kind) → StopsAt number k → IsEarly k
+stop_early number NoForm h = absurd h
+stop_early number (NotRead source) h = tt
+stop_early number (TooMuch source) h = tt
+stop_early number (Wrong source) h = tt
+stop_early number Late h = absurd h
+stop_early number NotWritten h = absurd h
+stop_early number NoRoom h = tt
+stop_early number Answer h = absurd h
+
+pub late_early : (k : Kind) → IsLate k → IsEarly k
+late_early NoForm h = absurd h
+late_early (NotRead source) h = absurd h
+late_early (TooMuch source) h = absurd h
+late_early (Wrong source) h = absurd h
+late_early Late h = tt
+late_early NotWritten h = absurd h
+late_early NoRoom h = tt
+late_early Answer h = absurd h
+
+pub late_stage : (k : Kind) → IsLate k → stage_of k ≤ 3
+late_stage NoForm h = absurd h
+late_stage (NotRead source) h = absurd h
+late_stage (TooMuch source) h = absurd h
+late_stage (Wrong source) h = absurd h
+late_stage Late h = omega arith
+late_stage NotWritten h = absurd h
+late_stage NoRoom h = omega arith
+late_stage Answer h = absurd h
+
+-- and at its source
+pub stop_low : (number : ℕ) (k : Kind) → number ≤ 3 → StopsAt number k → stage_of k ≤ 3
+stop_low number NoForm low h = absurd h
+stop_low number (NotRead source) low h = omega arith
+stop_low number (TooMuch source) low h = omega arith
+stop_low number (Wrong source) low h = omega arith
+stop_low number Late low h = absurd h
+stop_low number NotWritten low h = absurd h
+stop_low number NoRoom low h = omega arith
+stop_low number Answer low h = absurd h
+
+pub stop_stage : (number : ℕ) (k : Kind) → number ≤ 3 → StopsAt number k → number ≤ stage_of k
+stop_stage number NoForm low h = absurd h
+stop_stage number (NotRead source) low h = omega arith
+stop_stage number (TooMuch source) low h = omega arith
+stop_stage number (Wrong source) low h = omega arith
+stop_stage number Late low h = absurd h
+stop_stage number NotWritten low h = absurd h
+stop_stage number NoRoom low h = low
+stop_stage number Answer low h = absurd h
 
 -- ---- the stages of what is due
--- a text, and what comes behind it, at its stage or behind
 pub then_stage : {X Y : Type 0} (n : ℕ) (due : Result X Outcome) (f : X → Result Y Outcome) → n ≤ stage_in due → ((x : X) → n ≤ stage_in (f x)) → n ≤ stage_in (due >>= f)
 then_stage n (Ok x) f h later = later x
 then_stage n (Err o) f h later = h
-
-pub text_stage : (n : ℕ) (text : List ℕ) → n ≤ 3 → n ≤ stage_in (text_due n text)
-text_stage n text h = elim (nat_lt text_limit (length text)) as (λ b. n ≤ stage_in (cond b (Err (TooLarge n)) (Ok text))) [ true ↦ omega arith | false ↦ h ]
-
-read_table_stage : (answer : Result Table TableError) → 1 ≤ stage_in (table_or_refusal answer)
-read_table_stage (Ok table) = omega arith
-read_table_stage (Err (Text line reason)) = omega arith
-read_table_stage (Err (Whole reason)) = omega arith
-read_table_stage (Err Memory) = omega arith
-
-pub table_later : (text : List ℕ) → 1 ≤ stage_in (table_or_refusal (answer_of text))
-table_later text = read_table_stage (answer_of text)
-
-fit_stage : (fit : Result (Unit {0}) FitError) (items : List Item) → 2 ≤ stage_in (fitting_or_refusal fit items)
-fit_stage (Ok u) items = omega arith
-fit_stage (Err error) items = omega arith
-
-read_items_stage : (reading : Result (List Item) Refusal) → 2 ≤ stage_in (items_or_refusal reading)
-read_items_stage (Ok items) = omega arith
-read_items_stage (Err refusal) = omega arith
-
-pub items_later : (table : Table) (text : List ℕ) → 2 ≤ stage_in (items_or_refusal (messages_reading text) >>= λ items. fitting_or_refusal (items_fit table items) items)
-items_later table text = then_stage 2 (items_or_refusal (messages_reading text)) (λ items. fitting_or_refusal (items_fit table items) items) (read_items_stage (messages_reading text)) (λ items. fit_stage (items_fit table items) items)
-
-pub items_stage : (table : Table) (text : List ℕ) → 2 ≤ stage_in (items_due table text)
-items_stage table text = then_stage 2 (text_due 2 text) (λ whole. items_or_refusal (messages_reading whole) >>= λ items. fitting_or_refusal (items_fit table items) items) (text_stage 2 text (omega arith)) (items_later table)
 
 -- ---- what steps give together
 -- the step before gave this
@@ -57,25 +77,77 @@ pub gives_then : {X Y V W : Type 0} (IsOf : X → Y → Type 0) (IsNext : V → 
     → Gives IsOf (Ok x) due → ((y : Y) → IsOf x y → Gives IsNext r (f y)) → Gives IsNext r (due >>= f)
 gives_then IsOf IsNext x due f r g next = subst (λ d. Gives IsNext r (d >>= f)) (sym g.1) (next g.0 g.2)
 
--- ---- what stands for the outcome that is due
-pub written_stage : (o : Outcome) → is_written o ≡ true → stage_of o ≡ 3
-written_stage Done h = refl
-written_stage Answered h = refl
-written_stage o h = absurd cc
+past_read : {Y W : Type 0} (source : ℕ) (due : Result Y Outcome) (f : Y → Result W Outcome) → ((y : Y) → 3 ≤ stage_in (f y)) → source ≤ stage_in due → source ≤ stage_in (due >>= f)
+past_read source (Ok y) f late g = omega (arith, late y)
+past_read source (Err e) f late g = g
 
-stage_with : {Y : Type 0} (answer : Y → Outcome) → ((y : Y) → is_written (answer y) ≡ true) → (due : Result Y Outcome) → stage_in due ≤ stage_of (outcome_with answer due)
-stage_with answer written (Ok y) = omega (arith, written_stage (answer y) (written y))
+-- the first of two steps stopped
+pub gives_first : {Y W : Type 0} (k : Kind) (o : Outcome) (due : Result Y Outcome) (f : Y → Result W Outcome) → StopsAt 1 k → ((y : Y) → 2 ≤ stage_in (f y)) → GivesStop k o due → GivesStop k o (due >>= f)
+gives_first NoForm o due f stop later g = absurd stop
+gives_first (NotRead source) o due f stop later g = then_stage source due f g (λ y. omega (arith, later y))
+gives_first (TooMuch source) o due f stop later g = ap (λ d. d >>= f) g
+gives_first (Wrong source) o due f stop later g = ap (λ d. d >>= f) g
+gives_first Late o due f stop later g = absurd stop
+gives_first NotWritten o due f stop later g = absurd stop
+gives_first NoRoom o due f stop later g = then_stage 1 due f g (λ y. omega (arith, later y))
+gives_first Answer o due f stop later g = absurd stop
+
+-- the steps before stopped, and what is asked behind them comes late
+pub gives_past : {Y W : Type 0} (k : Kind) (o : Outcome) (due : Result Y Outcome) (f : Y → Result W Outcome) → ((y : Y) → 3 ≤ stage_in (f y)) → GivesStop k o due → GivesStop k o (due >>= f)
+gives_past NoForm o due f late g = ap (λ d. d >>= f) g
+gives_past (NotRead source) o due f late g = past_read source due f late g
+gives_past (TooMuch source) o due f late g = ap (λ d. d >>= f) g
+gives_past (Wrong source) o due f late g = ap (λ d. d >>= f) g
+gives_past Late o due f late g = ap (λ d. d >>= f) g
+gives_past NotWritten o due f late g = ap (λ d. d >>= f) g
+gives_past NoRoom o due f late g = past_read 1 due f late g
+gives_past Answer o due f late g = ap (λ d. d >>= f) g
+
+-- a step stopped behind the texts, or at its own source, and nothing is asked behind it
+pub gives_on : {Y W : Type 0} (k : Kind) (o : Outcome) (due : Result Y Outcome) (f : Y → W) → IsEarly k → (stage_of k ≤ 3) → GivesStop k o due → GivesStop k o (due >>= λ y. Ok (f y))
+gives_on NoForm o due f early low g = absurd early
+gives_on (NotRead source) o due f early low g = then_stage source due (λ y. Ok (f y)) g (λ y. low)
+gives_on (TooMuch source) o due f early low g = ap (λ d. d >>= λ y. Ok (f y)) g
+gives_on (Wrong source) o due f early low g = ap (λ d. d >>= λ y. Ok (f y)) g
+gives_on Late o due f early low g = ap (λ d. d >>= λ y. Ok (f y)) g
+gives_on NotWritten o due f early low g = absurd early
+gives_on NoRoom o due f early low g = then_stage 1 due (λ y. Ok (f y)) g (λ y. omega arith)
+gives_on Answer o due f early low g = absurd early
+
+-- what is due of a value is no refusal
+pub no_refusal : {X Y : Type 0} (IsOf : X → Y → Type 0) (x : X) (due : Result Y Outcome) (P : Outcome → Type 0) → Gives IsOf (Ok x) due → IfSome (refusal_in due) P
+no_refusal IsOf x due P g = subst (λ d. IfSome (refusal_in d) P) (sym g.1) tt
+
+-- ---- what stands for the outcome that is due
+same_refusal : {Y : Type 0} (refusal o : Outcome) → (let e : Result Y Outcome = Err refusal in e) ≡ Err o → refusal ≡ o
+same_refusal refusal o h = cc
+
+-- a step that stopped, where its text is refused
+pub stop_stands : (Y : Type 0) (k : Kind) (refusal o : Outcome) → GivesStop {Y = Y} k o (Err refusal) → IsEarly k → StandsAs k refusal o
+stop_stands Y NoForm refusal o g early = absurd early
+stop_stands Y (NotRead source) refusal o g early = g
+stop_stands Y (TooMuch source) refusal o g early = same_refusal refusal o g
+stop_stands Y (Wrong source) refusal o g early = same_refusal refusal o g
+stop_stands Y Late refusal o g early = same_refusal refusal o g
+stop_stands Y NotWritten refusal o g early = absurd early
+stop_stands Y NoRoom refusal o g early = g
+stop_stands Y Answer refusal o g early = absurd early
+
+pub refused_first : {Y : Type 0} (o : Outcome) (due : Result Y Outcome) (before after : Sources) → IsEarly (kind_of o) → after.second ≡ before.second → GivesStop (kind_of o) o due → IfSome (refusal_in due) (λ refusal. IsRefused refusal o before after)
+refused_first o (Ok y) before after early same g = tt
+refused_first {Y} o (Err refusal) before after early same g = record { stands = stop_stands Y (kind_of o) refusal o g early; unpulled = same }
+
+stage_with : {Y : Type 0} (answer : Y → Outcome) → ((y : Y) → kind_of (answer y) ≡ Answer) → (due : Result Y Outcome) → stage_in due ≤ stage_of (kind_of (outcome_with answer due))
+stage_with answer written (Ok y) = (let e : stage_of (kind_of (answer y)) ≡ 3 = ap stage_of (written y) in omega arith)
 stage_with answer written (Err o) = omega arith
 
--- a step that stopped
-pub gives_stands : {X Y : Type 0} (IsOf : X → Y → Type 0) (answer : Y → Outcome) → ((y : Y) → is_written (answer y) ≡ true) → (o : Outcome) (due : Result Y Outcome) → IsEarly o → Gives IsOf (Err o) due → StandsFor (outcome_with answer due) o
-gives_stands IsOf answer written NoMemory due early h = omega (arith, stage_with answer written due)
-gives_stands IsOf answer written (ReadFault source) due early h = omega (arith, stage_with answer written due)
-gives_stands IsOf answer written WriteFault due early h = absurd early
-gives_stands IsOf answer written o due early h = ap (outcome_with answer) h
-
--- the answer
-pub stands_answer : (due o : Outcome) → is_written o ≡ true → due ≡ o → StandsFor due o
-stands_answer due Done h e = e
-stands_answer due Answered h e = e
-stands_answer due o h e = absurd cc
+-- a step that stopped, before the answer
+pub gives_stands : {Y : Type 0} (k : Kind) (answer : Y → Outcome) → ((y : Y) → kind_of (answer y) ≡ Answer) → (o : Outcome) (due : Result Y Outcome) → IsEarly k → GivesStop k o due → StandsAs k (outcome_with answer due) o
+gives_stands NoForm answer written o due early g = absurd early
+gives_stands (NotRead source) answer written o due early g = omega (arith, stage_with answer written due)
+gives_stands (TooMuch source) answer written o due early g = ap (outcome_with answer) g
+gives_stands (Wrong source) answer written o due early g = ap (outcome_with answer) g
+gives_stands Late answer written o due early g = ap (outcome_with answer) g
+gives_stands NotWritten answer written o due early g = absurd early
+gives_stands NoRoom answer written o due early g = omega (arith, stage_with answer written due)
+gives_stands Answer answer written o due early g = absurd early

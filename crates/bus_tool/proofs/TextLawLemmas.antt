@@ -2,11 +2,7 @@
 use Rattle.std.specs.Prelude.{◌≡◌, ℕ, true, false, is_some, IsOk, IsTrue, List, Option, Some, None, Result, Ok, Err}
 use Rattle.std.proofs.Common.{refl, sym, ap, ◌∙◌, subst}
 use Rattle.bus_strings.specs.Messages.{Entry}
-use Rattle.std.proofs.lemmas.Bool.{and_parts}
-use Rattle.bus_table.specs.declared.mode.Mode.{Mode}
-use Rattle.bus_table.specs.declared.mode.Mode.TheVariants.{Aperiodic, Periodic}
 use Rattle.bus_table.specs.Fits.{items_fit}
-use Rattle.bus_table.specs.Text.{is_aperiodic}
 use Rattle.bus_regime.specs.Verdicts.{verdict_of}
 use Rattle.bus_regime.specs.Lines.{verdict_line}
 use Rattle.bus_medium.specs.Lawful.{IsLawful}
@@ -15,19 +11,22 @@ use Rattle.bus_medium.specs.Timings.{quiet_of, stations_of}
 use Rattle.bus_schedule.specs.Closed.{closed, closed_end}
 use Rattle.bus_schedule.specs.Even.{are_even}
 use Rattle.bus_schedule.specs.Laws.{AcceptedIsClosed, EvenHandsAgree}
+use Rattle.bus_filter.specs.ReceivedTexts.{received_text}
 use Rattle.bus_trace.specs.declared.hold.Hold.{Hold}
 use Rattle.bus_trace.specs.Traces.{Recording, trace_text}
 use Rattle.bus_tool.specs.declared.forms.Form.{Form}
-use Rattle.bus_tool.specs.declared.forms.Form.TheVariants.{Check, Observe, Run}
+use Rattle.bus_tool.specs.declared.forms.Form.TheVariants.{Check, Observe, Run, Receive}
 use Rattle.bus_tool.specs.declared.outcome.Outcome.{Outcome}
 use Rattle.bus_tool.specs.declared.outcome.Outcome.TheVariants.{Done}
 use Rattle.bus_tool.specs.Forms.{form_of}
+use Rattle.bus_tool.specs.Kinds.{kind_of, is_answer}
 use Rattle.bus_tool.specs.Outcomes.{is_written}
-use Rattle.bus_tool.specs.Due.{Inputs, hands_in, table_due, inputs_due, run_due, verdict_outcome, outcome_with, form_due, outcome_for}
-use Rattle.bus_tool.specs.Texts.{holds_of, IsRecordingOf, IsObserveText, IsRunRecordingOf, IsRunText, IsCheckText, IsTextOf, IsFormText, IsTextFor}
+use Rattle.bus_tool.specs.Due.{Inputs, hands_in, table_due, inputs_due, traced_due, run_due, verdict_outcome, outcome_with, form_due, outcome_for}
+use Rattle.bus_tool.specs.Texts.{holds_of, IsRecordingOf, IsObserveText, IsRunRecording, run_text, IsRunText, IsReceiveText, IsCheckText, IsTextOf, IsFormText, IsTextFor}
 use Rattle.bus_tool.specs.TextLaws.{OneCommandText, AnswersHaveTexts}
 use Rattle.bus_tool.proofs.LawTypes.{ReadsATable, FittingItemsGiveHands}
 use Rattle.bus_tool.proofs.ReadLemmas.{table_read, items_read, inputs_read, table_unwritten, inputs_unwritten}
+use Rattle.bus_tool.proofs.TraceReads.{traced_unwritten}
 use Rattle.bus_tool.proofs.RunReads.{run_read, run_unwritten}
 
 pub record TextLaws : Type 0 where
@@ -69,31 +68,26 @@ observe_text inputs horizon one =
     (trace_text recording, record { recording = recording; observed = record { horizon = refl; holds = refl; lawful = one.lawful }; text_is = refl })
 
 -- ---- runs
-ran_is : (inputs : Inputs) (recording : Recording) → IsRunRecordingOf recording inputs → recording ≡ record { horizon = closed_end inputs.table (hands_in inputs); holds = holds_of (hands_in inputs); list = closed inputs.table (hands_in inputs) }
+ran_is : (inputs : Inputs) (recording : Recording) → IsRunRecording inputs.table (hands_in inputs) recording → recording ≡ record { horizon = closed_end inputs.table (hands_in inputs); holds = holds_of (hands_in inputs); list = closed inputs.table (hands_in inputs) }
 ran_is inputs recording h =
     ap (λ (n : ℕ). recorded n recording.holds recording.list) h.horizon ∙ ap (λ (l : List Hold). recorded (closed_end inputs.table (hands_in inputs)) l recording.list) h.holds
     ∙ ap (recorded (closed_end inputs.table (hands_in inputs)) (holds_of (hands_in inputs))) h.run.closed
 
 run_once : (inputs : Inputs) (text other : List ℕ) → IsRunText inputs text → IsRunText inputs other → other ≡ text
-run_once inputs text other h k = k.text_is ∙ ap trace_text (ran_is inputs k.recording k.ran ∙ sym (ran_is inputs h.recording h.ran)) ∙ sym h.text_is
-
-aperiodic : (mode : Mode) → is_aperiodic mode ≡ true → mode ≡ Aperiodic
-aperiodic Aperiodic h = refl
-aperiodic Periodic h = absurd cc
+run_once inputs text other h k = k.text_is ∙ ap (run_text inputs.table) (ran_is inputs k.recording k.ran ∙ sym (ran_is inputs h.recording h.ran)) ∙ sym h.text_is
 
 -- the run of inputs that are run
-run_text : TextLaws → (first second : List ℕ) (inputs : Inputs) → run_due first second ≡ Ok inputs → (text : List ℕ) × IsRunText inputs text
-run_text laws first second inputs h =
+ran_text : TextLaws → (first second : List ℕ) (inputs : Inputs) → run_due first second ≡ Ok inputs → (text : List ℕ) × IsRunText inputs text
+ran_text laws first second inputs h =
     let ran = run_read first second inputs h in
     let read = inputs_read first second inputs ran.0 in
     let stands = laws.reads_table first inputs.table (table_read first inputs.table read.table_is) in
-    let mode : inputs.table.mode ≡ Aperiodic = aperiodic inputs.table.mode (and_parts (is_aperiodic inputs.table.mode) _ stands.0.built).0 in
     let fits : IsOk (items_fit inputs.table inputs.items) = subst IsOk (sym (items_read inputs.table second inputs.items read.items_are).fits) refl in
     let dealt = laws.give_hands inputs.table inputs.items stands.1 fits in
     let even : IsTrue (are_even inputs.table (hands_in inputs)) = (laws.even_agree inputs.table (hands_in inputs) stands.1 dealt).0 (ap is_some ran.1.even) in
     let recording : Recording = record { horizon = closed_end inputs.table (hands_in inputs); holds = holds_of (hands_in inputs); list = closed inputs.table (hands_in inputs) } in (
-      trace_text recording,
-      record { recording = recording; ran = record { horizon = refl; holds = refl; run = laws.runs inputs.table (hands_in inputs) stands.1 mode ran.1.accepted even }; text_is = refl },
+      run_text inputs.table recording,
+      record { recording = recording; ran = record { horizon = refl; holds = refl; run = laws.runs inputs.table (hands_in inputs) stands.1 ran.1.accepted even }; text_is = refl },
     )
 
 -- ---- the forms
@@ -106,6 +100,7 @@ form_once laws (Observe horizon) first second text other h k =
     observe_once h.0 horizon (list_of laws first second h.0 horizon h.1) text other h.2
     (subst (λ inputs. IsObserveText horizon inputs other) (same_value (inputs_due first second) h.0 k.0 h.1 k.1) k.2)
 form_once laws Run first second text other h k = run_once h.0 text other h.2 (subst (λ inputs. IsRunText inputs other) (same_value (run_due first second) h.0 k.0 h.1 k.1) k.2)
+form_once laws Receive first second text other h k = k.2 ∙ ap (λ traced. received_text traced.table traced.trace.list) (same_value (traced_due first second) h.0 k.0 h.1 k.1) ∙ sym h.2
 
 once_for : TextLaws → (form : Option Form) (first second text other : List ℕ) → IsTextFor form first second text → IsTextFor form first second other → other ≡ text
 once_for laws None first second text other h k = absurd h
@@ -115,14 +110,16 @@ pub one_text : TextLaws → OneCommandText
 one_text laws words first second text other h k = once_for laws (form_of words) first second text other h k
 
 -- a form has a text, where it is answered
-text_with : {Y : Type 0} (answer : Y → Outcome) (IsIt : Y → List ℕ → Type 0) (due : Result Y Outcome) → (refusal : (o : Outcome) → due ≡ Err o → is_written o ≡ false) → ((y : Y) → due ≡ Ok y → (text : List ℕ) × IsIt y text) → is_written (outcome_with answer due) ≡ true → (text : List ℕ) × IsTextOf IsIt due text
+text_with : {Y : Type 0} (answer : Y → Outcome) (IsIt : Y → List ℕ → Type 0) (due : Result Y Outcome) → ((o : Outcome) → due ≡ Err o → is_answer (kind_of o) ≡ false) → ((y : Y) → due ≡ Ok y → (text : List ℕ) × IsIt y text) → is_written (outcome_with answer due) ≡ true → (text : List ℕ) × IsTextOf IsIt due text
 text_with answer IsIt (Ok y) never make h = (let made = make y refl in (made.0, (y, refl, made.1)))
 text_with answer IsIt (Err o) never make h = absurd (let k = never o refl in cc)
 
 form_has : TextLaws → (form : Form) (first second : List ℕ) → is_written (form_due form first second) ≡ true → (text : List ℕ) × IsFormText form first second text
 form_has laws Check first second h = text_with (λ table. verdict_outcome (verdict_of table)) IsCheckText (table_due first) (λ o e. table_unwritten first o e) (λ table e. (verdict_line (verdict_of table), refl)) h
 form_has laws (Observe horizon) first second h = text_with (λ inputs. Done) (IsObserveText horizon) (inputs_due first second) (λ o e. inputs_unwritten first second o e) (λ inputs e. observe_text inputs horizon (list_of laws first second inputs horizon e)) h
-form_has laws Run first second h = text_with (λ inputs. Done) IsRunText (run_due first second) (λ o e. run_unwritten first second o e) (λ inputs e. run_text laws first second inputs e) h
+form_has laws Run first second h = text_with (λ inputs. Done) IsRunText (run_due first second) (λ o e. run_unwritten first second o e) (λ inputs e. ran_text laws first second inputs e) h
+form_has laws Receive first second h =
+    text_with (λ traced. Done) IsReceiveText (traced_due first second) (λ o e. traced_unwritten first second o e) (λ traced e. (received_text traced.table traced.trace.list, refl)) h
 
 has_for : TextLaws → (form : Option Form) (first second : List ℕ) → is_written (outcome_for form first second) ≡ true → (text : List ℕ) × IsTextFor form first second text
 has_for laws None first second h = absurd cc

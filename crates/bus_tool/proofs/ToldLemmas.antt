@@ -9,18 +9,17 @@ use Rattle.bus_table.specs.Tables.{Table}
 use Rattle.bus_table.specs.Fits.{items_fit}
 use Rattle.bus_table.specs.Reading.{answer_of}
 use Rattle.bus_tool.specs.declared.outcome.Outcome.TheVariants.{TooLarge}
-use Rattle.bus_tool.specs.Seen.{Seen, text_limit}
+use Rattle.bus_tool.specs.Outside.{Seen}
+use Rattle.bus_tool.specs.Readers.{text_limit}
 use Rattle.bus_tool.specs.Due.{text_due, table_or_refusal, table_due, items_or_refusal, fitting_or_refusal, items_due, with_items, inputs_due}
 use Rattle.bus_tool.specs.Claims.{TellsTable, TellsItems}
+use Rattle.bus_tool.proofs.TextLemmas.{short_text}
 use Rattle.bus_tool.proofs.LawTypes.{TextReadsAsItsTable, TextReadsAsItsItems}
 
 -- ---- from a value to what is due
-short_text : (number : ℕ) (text : List ℕ) → length text ≤ text_limit → text_due number text ≡ Ok text
-short_text number text h = (let short : nat_lt text_limit (length text) ≡ false = grind (arith, nat_tests) in ap (λ b. cond b (Err (TooLarge number)) (Ok text)) short)
-
 pub table_told : TextReadsAsItsTable → (table : Table) (seen : Seen) (t : TellsTable table seen) → table_due t.text ≡ Ok table
 table_told reads table seen t =
-    ap (λ r. r >>= λ whole. table_or_refusal (answer_of whole)) (short_text 1 t.text t.short) ∙ ap table_or_refusal (reads t.text table t.stands.stands t.stands.built t.valid)
+    ap (λ r. r >>= λ whole. table_or_refusal (answer_of whole)) (short_text 1 t.text t.short) ∙ ap table_or_refusal (reads t.text table t.stands t.valid)
 
 pub items_told : TextReadsAsItsItems → (table : Table) (items : List Item) (seen : Seen) (t : TellsItems table items seen) → items_due table t.text ≡ Ok items
 items_told reads table items seen t =

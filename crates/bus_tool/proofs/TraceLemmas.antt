@@ -1,19 +1,20 @@
 -- What is seen of a bus is a trace.
 use Rattle.std.specs.Prelude.{◌≡◌, ℕ, ◌≤◌, ◌<◌, List, [], ◌∷◌}
 use Rattle.std.specs.List.{AllByRecursion}
-use Rattle.std.proofs.Common.{refl, sym, inl, inr, subst}
+use Rattle.std.proofs.Common.{arith, refl, sym, inl, inr, subst}
 use Rattle.bus_strings.specs.Members.{In}
 use Rattle.bus_strings.specs.Messages.{Entry}
 use Rattle.bus_table.specs.Tables.{Table, Hand}
 use Rattle.bus_medium.specs.Lawful.{Station, IsLawful}
 use Rattle.bus_medium.specs.Timings.{quiet_of, stations_of}
 use Rattle.bus_trace.specs.declared.hold.Hold.{Hold}
-use Rattle.bus_trace.specs.Traces.{AscendAbove, IsHold, IsBelow, IsTrace}
-use Rattle.bus_tool.specs.Forms.{horizon_limit}
-use Rattle.bus_tool.specs.Texts.{holds_of, IsRanged}
+use Rattle.bus_trace.specs.Traces.{Recording, AscendAbove, IsHold, IsBelow, IsTrace}
+use Rattle.bus_strings.specs.Limits.{horizon_limit}
+use Rattle.bus_tool.specs.Texts.{holds_of}
+use Rattle.bus_strings.specs.Transmissions.{Precedes, IsByMoment, IsAscending, IsTransmission}
 use Rattle.bus_tool.proofs.HoldLemmas.{AreFew, holds_ascend, holds_ranged}
 
-below : (horizon : ℕ) (list : List Entry) → ((x : Entry) → In x list → x.moment < horizon) → AllByRecursion IsRanged list → AllByRecursion (IsBelow horizon) list
+below : (horizon : ℕ) (list : List Entry) → ((x : Entry) → In x list → x.moment < horizon) → AllByRecursion IsTransmission list → AllByRecursion (IsBelow horizon) list
 below horizon [] early ranged = tt
 below horizon (x ∷ list) early ranged =
     (record { moment = early x (inl refl); positive = ranged.0.positive; low = ranged.0.low; message = ranged.0.message }, below horizon list (λ y i. early y (inr i)) ranged.1)
@@ -22,7 +23,7 @@ below horizon (x ∷ list) early ranged =
 pub lawful_of : (table : Table) (hands : List Hand) (quiet : ℕ) (stations : List Station) (horizon : ℕ) (list : List Entry) → quiet ≡ quiet_of table → stations ≡ stations_of table hands → IsLawful quiet stations horizon list → IsLawful (quiet_of table) (stations_of table hands) horizon list
 lawful_of table hands quiet stations horizon list q s h = subst (λ n. IsLawful n (stations_of table hands) horizon list) q (subst (λ all. IsLawful quiet all horizon list) s h)
 
-pub observed_is_trace : (table : Table) (hands : List Hand) (horizon : ℕ) (holds : List Hold) (list : List Entry) → horizon ≤ horizon_limit → AreFew hands → holds ≡ holds_of hands → IsLawful (quiet_of table) (stations_of table hands) horizon list → AllByRecursion IsRanged list → IsTrace (record { horizon = horizon; holds = holds; list = list })
+pub observed_is_trace : (table : Table) (hands : List Hand) (horizon : ℕ) (holds : List Hold) (list : List Entry) → horizon ≤ horizon_limit → AreFew hands → holds ≡ holds_of hands → IsLawful (quiet_of table) (stations_of table hands) horizon list → AllByRecursion IsTransmission list → IsTrace (record { horizon = horizon; holds = holds; list = list })
 observed_is_trace table hands horizon holds list within few same lawful ranged = record {
   horizon = within;
   holds = subst (AllByRecursion IsHold) (sym same) (holds_ranged hands few);
@@ -30,3 +31,15 @@ observed_is_trace table hands horizon holds list within few same lawful ranged =
   list = below horizon list (λ x i. (lawful.sent x i).0) ranged;
   order = lawful.ordered;
 }
+
+-- ---- a trace goes by moment
+no_later : (x : Entry) (list : List Entry) → AllByRecursion (Precedes x) list → AllByRecursion (λ y. x.moment ≤ y.moment) list
+no_later x [] h = tt
+no_later x (y ∷ list) h = (elim h.0 [ inl sooner ↦ omega arith | inr same ↦ omega (arith, same.0) ], no_later x list h.1)
+
+by_moment : (list : List Entry) → IsAscending list → IsByMoment list
+by_moment [] h = tt
+by_moment (x ∷ list) h = (no_later x list h.0, by_moment list h.1)
+
+pub trace_by_moment : (t : Recording) → IsTrace t → IsByMoment t.list
+trace_by_moment t h = by_moment t.list h.order

@@ -8,40 +8,46 @@ use Rattle.bus_table.specs.declared.error.WholeReason.{WholeReason}
 use Rattle.bus_table.specs.Tables.{Table}
 use Rattle.bus_table.specs.Fits.{items_fit}
 use Rattle.bus_table.specs.Hands.{hands_of}
-use Rattle.bus_table.specs.Text.{IsBuiltText}
+use Rattle.bus_table.specs.Text.{IsTableText}
 use Rattle.bus_table.specs.Valid.{is_valid}
 use Rattle.bus_table.specs.Whole.{whole_refusal}
-use Rattle.bus_regime.specs.declared.verdict.TableVerdict.{TableVerdict}
+use Rattle.bus_regime.specs.declared.table_verdict.TableVerdict.{TableVerdict}
 use Rattle.bus_regime.specs.Verdicts.{verdict_of, is_accepted}
 use Rattle.bus_schedule.specs.declared.uneven.Uneven.{Uneven}
 use Rattle.bus_schedule.specs.Closed.{closed_end}
 use Rattle.bus_schedule.specs.Limits.{longest_end}
 use Rattle.bus_schedule.specs.Uneven.{uneven_of}
+use Rattle.bus_trace.specs.Traces.{Recording, HoldsTrace}
+use Rattle.bus_trace.specs.Limits.{text_limit as trace_limit}
 use Rattle.bus_tool.specs.declared.outcome.Outcome.{Outcome}
-use Rattle.bus_tool.specs.declared.outcome.Outcome.TheVariants as outcomes
-use Rattle.bus_tool.specs.declared.outcome.Outcome.TheVariants.{TableText, TableWhole, MessagesText, Unfit, Refused, TooLong}
+use Rattle.bus_tool.specs.declared.outcome.Outcome.TheVariants as outcome
 use Rattle.bus_tool.specs.Forms.{form_of, sources_of}
-use Rattle.bus_tool.specs.Seen.{Sources, OfTexts}
+use Rattle.bus_tool.specs.Outside.{Sources}
+use Rattle.bus_tool.specs.Readers.{OfTexts}
 
 -- no table has the text, in the forms that are read today
 abbrev pub IsNoTableText : List ℕ → Type 0
-IsNoTableText text = (table : Table) → IsBuiltText table text → ⊥
+IsNoTableText text = (table : Table) → IsTableText table text → ⊥
 
 -- a table has the text, and this is the first whole reason that applies to it
 pub record IsWrongTableText (reason : WholeReason) (text : List ℕ) : Type 0 where
   pub table : Table
-  pub stands : IsBuiltText table text
+  pub stands : IsTableText table text
   pub why : whole_refusal table ≡ Some reason
 
 -- no items have the text
 abbrev pub IsNoMessagesText : List ℕ → Type 0
 IsNoMessagesText text = (items : List Item) → IsMessagesText items text → ⊥
 
+-- no trace stands at the front of the text, within its limit
+abbrev pub IsNoTraceText : List ℕ → Type 0
+IsNoTraceText text = (trace : Recording) → HoldsTrace trace_limit text trace → ⊥
+
 -- a valid table has the first text, and items have the second, of which this is the first that doesn't fit the table
 pub record IsUnfitText (error : FitError) (first second : List ℕ) : Type 0 where
   pub table : Table
   pub items : List Item
-  pub table_stands : IsBuiltText table first
+  pub table_stands : IsTableText table first
   pub valid : IsTrue (is_valid table)
   pub items_stand : IsMessagesText items second
   pub why : items_fit table items ≡ Err error
@@ -50,7 +56,7 @@ pub record IsUnfitText (error : FitError) (first second : List ℕ) : Type 0 whe
 pub record AreTextsWith (Holds : Table → List Item → Type 0) (first second : List ℕ) : Type 0 where
   pub table : Table
   pub items : List Item
-  pub table_stands : IsBuiltText table first
+  pub table_stands : IsTableText table first
   pub valid : IsTrue (is_valid table)
   pub items_stand : IsMessagesText items second
   pub fit : items_fit table items ≡ Ok tt
@@ -68,16 +74,25 @@ IsRefusal verdict table items = (verdict ≡ verdict_of table) × (is_accepted v
 abbrev pub IsLongEnd : ℕ → Table → List Item → Type 0
 IsLongEnd end table items = (end ≡ closed_end table (hands_of table items)) × (longest_end < end)
 
--- the cause of an outcome that refuses a text, or a table and items that were read
+-- The cause of an outcome that refuses a text, or a table and items that were read. An answer has its text, and a failure of the outside
+-- its count; of want of memory nothing is known.
 abbrev pub RefusesTexts : Outcome → List ℕ → List ℕ → Type 0
-RefusesTexts (TableText line reason) first second = IsNoTableText first
-RefusesTexts (TableWhole reason) first second = IsWrongTableText reason first
-RefusesTexts (MessagesText line reason) first second = IsNoMessagesText second
-RefusesTexts (Unfit error) first second = IsUnfitText error first second
-RefusesTexts (outcomes.Uneven one one_count other other_count) first second = AreTextsWith (DifferAs (record { one = one; one_count = one_count; other = other; other_count = other_count })) first second
-RefusesTexts (Refused verdict) first second = AreTextsWith (IsRefusal verdict) first second
-RefusesTexts (TooLong end) first second = AreTextsWith (IsLongEnd end) first second
-RefusesTexts outcome first second = Unit {0}
+RefusesTexts outcome.Done first second = Unit {0}
+RefusesTexts outcome.Answered first second = Unit {0}
+RefusesTexts (outcome.Refused verdict) first second = AreTextsWith (IsRefusal verdict) first second
+RefusesTexts outcome.Usage first second = Unit {0}
+RefusesTexts (outcome.TableText line reason) first second = IsNoTableText first
+RefusesTexts (outcome.TableWhole reason) first second = IsWrongTableText reason first
+RefusesTexts (outcome.MessagesText line reason) first second = IsNoMessagesText second
+RefusesTexts (outcome.Unfit error) first second = IsUnfitText error first second
+RefusesTexts (outcome.Uneven one one_count other other_count) first second =
+    AreTextsWith (DifferAs (record { one = one; one_count = one_count; other = other; other_count = other_count })) first second
+RefusesTexts (outcome.TraceText byte reason) first second = IsNoTraceText second
+RefusesTexts (outcome.ReadFault source) first second = Unit {0}
+RefusesTexts outcome.WriteFault first second = Unit {0}
+RefusesTexts outcome.NoMemory first second = Unit {0}
+RefusesTexts (outcome.TooLarge source) first second = Unit {0}
+RefusesTexts (outcome.TooLong end) first second = AreTextsWith (IsLongEnd end) first second
 
 -- where the sources that the form names tell their bytes, an outcome that refuses a text has its cause
 abbrev pub HasTextCause : List (List ℕ) → Sources → Outcome → Type 0

@@ -1,5 +1,5 @@
 -- What is claimed of the commands, in the words of their texts: by the relation between a value and its texts, not by how they are read.
-use Rattle.std.specs.Prelude.{◌≡◌, ℕ, ◌≤◌, IsTrue, List, [], ◌∷◌, length, codes, Some, Ok, ◌⊎◌}
+use Rattle.std.specs.Prelude.{◌≡◌, ℕ, ◌≤◌, IsTrue, List, [], ◌∷◌, length, codes, Option, Some, None, Ok, ◌⊎◌}
 use Rattle.std.specs.Io.KnownBytes.{append_known}
 use Rattle.bus_text.specs.Numbers.{IsDecimal}
 use Rattle.bus_outer.specs.Faults.{Rose}
@@ -9,7 +9,7 @@ use Rattle.bus_strings.specs.Grammar.{IsMessagesText}
 use Rattle.bus_table.specs.Tables.{Table, Hand}
 use Rattle.bus_table.specs.Fits.{items_fit}
 use Rattle.bus_table.specs.Hands.{hands_of}
-use Rattle.bus_table.specs.Text.{IsBuiltText}
+use Rattle.bus_table.specs.Text.{IsTableText}
 use Rattle.bus_table.specs.Valid.{is_valid}
 use Rattle.bus_regime.specs.Verdicts.{verdict_of}
 use Rattle.bus_regime.specs.Lines.{verdict_line}
@@ -18,24 +18,30 @@ use Rattle.bus_medium.specs.Timings.{quiet_of, stations_of}
 use Rattle.bus_trace.specs.Traces.{Recording, trace_text}
 use Rattle.bus_tool.specs.declared.status.Status.{Status}
 use Rattle.bus_tool.specs.declared.status.Status.TheVariants.{Done, NoMemory}
-use Rattle.bus_tool.specs.Forms.{horizon_limit}
+use Rattle.bus_strings.specs.Limits.{horizon_limit}
 use Rattle.bus_tool.specs.Outcomes.{status_of}
-use Rattle.bus_tool.specs.Seen.{Seen, Sources, numbered, text_limit}
-use Rattle.bus_tool.specs.Steps.{IsNamed}
+use Rattle.bus_tool.specs.Outside.{Seen, Outside, Call}
+use Rattle.bus_tool.specs.Readers.{Named, Reader, entire, one_source, two_sources, text_limit}
 use Rattle.bus_tool.specs.Due.{verdict_outcome}
 use Rattle.bus_tool.specs.Texts.{IsObserved}
 
+-- no count of faults of a source rises that is named
+abbrev pub IsUndisturbed : Option Reader → Seen → Seen → Type 0
+IsUndisturbed None old new = Unit {0}
+IsUndisturbed (Some reader) old new = Rose old.faults new.faults → ⊥
+
 -- nothing outside fails: no count of faults of a named source, or of `out`, rises
-pub record IsUndisturbed (named : ℕ) (before after : Sources) (out out' : Seen) : Type 0 where
-  pub reads : (source : ℕ) → IsNamed named source → Rose (numbered source before).faults (numbered source after).faults → ⊥
-  pub writes : Rose out.faults out'.faults → ⊥
+pub record NothingFails (named : Named) (before after : Outside) : Type 0 where
+  pub first : IsUndisturbed named.first before.sources.first after.sources.first
+  pub second : IsUndisturbed named.second before.sources.second after.sources.second
+  pub out : Rose before.out.faults after.out.faults → ⊥
 
 -- a source tells its bytes, and they are a text, within its limit, of a valid table in the forms that are read today
 pub record TellsTable (table : Table) (seen : Seen) : Type 0 where
   pub text : List ℕ
   pub told : seen.bytes ≡ Some text
   pub short : length text ≤ text_limit
-  pub stands : IsBuiltText table text
+  pub stands : IsTableText table text
   pub valid : IsTrue (is_valid table)
 
 -- a source tells its bytes, and they are a text, within its limit, of items that fit the table
@@ -47,10 +53,10 @@ pub record TellsItems (table : Table) (items : List Item) (seen : Seen) : Type 0
   pub fit : items_fit table items ≡ Ok tt
 
 -- the answer: this status, and this text behind what `out` held; or memory was refused, and nothing is written
-abbrev pub Answers : Status → (List ℕ → Type 0) → Seen → Seen → Status → Type 0
-Answers answer IsIt out out' status =
-    ((status ≡ answer) × ((text : List ℕ) × IsIt text × (out'.bytes ≡ append_known out.bytes text)))
-    ⊎ ((status ≡ NoMemory) × (out'.bytes ≡ out.bytes))
+abbrev pub Answers : Status → (List ℕ → Type 0) → Call → Status → Type 0
+Answers answer IsIt call status =
+    ((status ≡ answer) × ((text : List ℕ) × IsIt text × (call.after.out.bytes ≡ append_known call.before.out.bytes text)))
+    ⊎ ((status ≡ NoMemory) × (call.after.out.bytes ≡ call.before.out.bytes))
 
 -- ---- `check`
 -- the words are `check` and one more
@@ -59,14 +65,15 @@ pub record IsCheckForm (words : List (List ℕ)) : Type 0 where
   pub form : words ≡ codes "check" ∷ path ∷ []
 
 -- a call of `check T` on a text of a valid table, in which nothing outside fails
-pub record IsCheckOf (words : List (List ℕ)) (table : Table) (before after : Sources) (out out' : Seen) : Type 0 where
-  pub form : IsCheckForm words
-  pub table_told : TellsTable table before.first
-  pub undisturbed : IsUndisturbed 1 before after out out'
+pub record IsCheckOf (table : Table) (call : Call) : Type 0 where
+  pub form : IsCheckForm call.words
+  pub table_told : TellsTable table call.before.sources.first
+  pub undisturbed : NothingFails (one_source entire) call.before call.after
 
 -- the table's verdict line is written, and the status is Done where the verdict accepts, else Refused
-abbrev pub GivesVerdict : Table → Seen → Seen → Status → Type 0
-GivesVerdict table out out' status = Answers (status_of (verdict_outcome (verdict_of table))) (λ text. text ≡ verdict_line (verdict_of table)) out out' status
+abbrev pub GivesVerdict : Table → Call → Status → Type 0
+GivesVerdict table call status =
+    Answers (status_of (verdict_outcome (verdict_of table))) (λ text. text ≡ verdict_line (verdict_of table)) call status
 
 -- ---- `observe`
 -- the words are `observe`, two more, and the plain decimal of the horizon, which is within its limit
@@ -79,11 +86,11 @@ pub record IsObserveForm (words : List (List ℕ)) (horizon : ℕ) : Type 0 wher
   pub within : horizon ≤ horizon_limit
 
 -- a call of `observe T M N` on texts of a valid table and of items that fit it, in which nothing outside fails
-pub record IsObserveOf (words : List (List ℕ)) (table : Table) (items : List Item) (horizon : ℕ) (before after : Sources) (out out' : Seen) : Type 0 where
-  pub form : IsObserveForm words horizon
-  pub table_told : TellsTable table before.first
-  pub items_told : TellsItems table items before.second
-  pub undisturbed : IsUndisturbed 2 before after out out'
+pub record IsObserveOf (table : Table) (items : List Item) (horizon : ℕ) (call : Call) : Type 0 where
+  pub form : IsObserveForm call.words horizon
+  pub table_told : TellsTable table call.before.sources.first
+  pub items_told : TellsItems table items call.before.sources.second
+  pub undisturbed : NothingFails (two_sources entire entire) call.before call.after
 
 -- the text of the trace up to the horizon, whose list is the lawful list; and there is no other
 pub record IsTheTrace (table : Table) (hands : List Hand) (horizon : ℕ) (text : List ℕ) : Type 0 where
@@ -93,5 +100,5 @@ pub record IsTheTrace (table : Table) (hands : List Hand) (horizon : ℕ) (text 
   pub text_is : text ≡ trace_text recording
 
 -- that text is written, and the status is Done
-abbrev pub GivesTrace : Table → List Item → ℕ → Seen → Seen → Status → Type 0
-GivesTrace table items horizon out out' status = Answers Done (IsTheTrace table (hands_of table items) horizon) out out' status
+abbrev pub GivesTrace : Table → List Item → ℕ → Call → Status → Type 0
+GivesTrace table items horizon call status = Answers Done (IsTheTrace table (hands_of table items) horizon) call status

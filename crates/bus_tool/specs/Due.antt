@@ -13,8 +13,8 @@ use Rattle.bus_table.specs.Tables.{Table, Hand}
 use Rattle.bus_table.specs.Fits.{items_fit}
 use Rattle.bus_table.specs.Hands.{hands_of}
 use Rattle.bus_table.specs.Reading.{answer_of}
-use Rattle.bus_regime.specs.declared.verdict.TableVerdict.{TableVerdict}
-use Rattle.bus_regime.specs.declared.verdict.TableVerdict.TheVariants.{Accept, ShortCycle, SmallGap, NoSync}
+use Rattle.bus_regime.specs.declared.table_verdict.TableVerdict.{TableVerdict}
+use Rattle.bus_regime.specs.declared.table_verdict.TableVerdict.TheVariants.{Accept, ShortCycle, SmallGap, NoSync}
 use Rattle.bus_regime.specs.Verdicts.{verdict_of, is_accepted}
 use Rattle.bus_schedule.specs.declared.error.ScheduleError.{ScheduleError}
 use Rattle.bus_schedule.specs.declared.error.ScheduleError.TheVariants.{Memory as Small, TooLong as Long}
@@ -22,12 +22,18 @@ use Rattle.bus_schedule.specs.declared.uneven.Uneven.{Uneven as UnevenHands}
 use Rattle.bus_schedule.specs.Closed.{closed_end}
 use Rattle.bus_schedule.specs.Limits.{longest_end}
 use Rattle.bus_schedule.specs.Uneven.{uneven_of}
+use Rattle.bus_trace.specs.declared.fault.TraceError.{TraceError}
+use Rattle.bus_trace.specs.declared.fault.TraceError.TheVariants as trace
+use Rattle.bus_trace.specs.Traces.{Recording}
+use Rattle.bus_trace.specs.Limits.{text_limit as trace_limit}
+use Rattle.bus_trace.specs.Runs.{reading}
 use Rattle.bus_tool.specs.declared.forms.Form.{Form}
-use Rattle.bus_tool.specs.declared.forms.Form.TheVariants.{Check, Observe, Run}
+use Rattle.bus_tool.specs.declared.forms.Form.TheVariants.{Check, Observe, Run, Receive}
 use Rattle.bus_tool.specs.declared.outcome.Outcome.{Outcome}
-use Rattle.bus_tool.specs.declared.outcome.Outcome.TheVariants.{Done, Answered, Refused, Usage, TableText, TableWhole, MessagesText, Unfit, Uneven, NoMemory, TooLarge, TooLong}
+use Rattle.bus_tool.specs.declared.outcome.Outcome.TheVariants.{Done, Answered, Refused, Usage, TableText, TableWhole, MessagesText, Unfit, Uneven, TraceText, ReadFault, NoMemory, TooLarge, TooLong}
 use Rattle.bus_tool.specs.Forms.{form_of}
-use Rattle.bus_tool.specs.Seen.{text_limit}
+use Rattle.bus_tool.specs.Readers.{text_limit}
+use Rattle.bus_tool.specs.Stages.{refusal_in}
 
 -- the text of a source, which is too large before all that is read from it
 abbrev pub text_due : ℕ → List ℕ → Result (List ℕ) Outcome
@@ -48,6 +54,10 @@ table_or_refusal (Err error) = Err (table_refusal error)
 abbrev pub table_due : List ℕ → Result Table Outcome
 table_due text = text_due 1 text >>= λ whole. table_or_refusal (answer_of whole)
 
+-- why the first text is refused
+abbrev pub table_refusal_of : List ℕ → Option Outcome
+table_refusal_of text = refusal_in (table_due text)
+
 -- ---- the second text, where it is one of messages
 -- why a messages text is refused
 abbrev pub messages_refusal : MessagesError → Outcome
@@ -66,6 +76,23 @@ fitting_or_refusal (Err error) items = Err (Unfit error)
 abbrev pub items_due : Table → List ℕ → Result (List Item) Outcome
 items_due table text = text_due 2 text >>= λ whole. items_or_refusal (messages_reading whole) >>= λ items. fitting_or_refusal (items_fit table items) items
 
+-- ---- the second text, where it is a trace
+-- what a read of a trace comes to that failed
+abbrev pub trace_refusal : TraceError → Outcome
+trace_refusal (trace.Text byte reason) = TraceText byte reason
+trace_refusal trace.ReadFault = ReadFault 2
+trace_refusal trace.TooLarge = TooLarge 2
+trace_refusal trace.Memory = NoMemory
+
+-- what a stream of bytes reads as, or why it is refused
+abbrev pub trace_or_refusal : Result Recording TraceError → Result Recording Outcome
+trace_or_refusal (Ok recording) = Ok recording
+trace_or_refusal (Err error) = Err (trace_refusal error)
+
+-- the trace at the front of the second text
+abbrev pub trace_due : List ℕ → Result Recording Outcome
+trace_due text = trace_or_refusal (reading trace_limit text)
+
 -- ---- both texts
 -- a table, and items that fit it
 pub record Inputs : Type 0 where
@@ -78,6 +105,19 @@ with_items table items = record { table = table; items = items }
 -- the second text is looked at only where nothing of the first is refused
 abbrev pub inputs_due : List ℕ → List ℕ → Result Inputs Outcome
 inputs_due first second = table_due first >>= λ table. items_due table second >>= λ items. Ok (with_items table items)
+
+-- a table, and a trace
+pub record Traced : Type 0 where
+  pub table : Table
+  pub trace : Recording
+
+-- the pair of these
+abbrev pub with_trace : Table → Recording → Traced
+with_trace table trace = record { table = table; trace = trace }
+
+-- the second text is looked at only where nothing of the first is refused
+abbrev pub traced_due : List ℕ → List ℕ → Result Traced Outcome
+traced_due first second = table_due first >>= λ table. trace_due second >>= λ trace. Ok (with_trace table trace)
 
 -- ---- what `run` asks for behind both texts
 -- why hands aren't even
@@ -138,6 +178,14 @@ abbrev pub form_due : Form → List ℕ → List ℕ → Outcome
 form_due Check first second = outcome_with (λ table. verdict_outcome (verdict_of table)) (table_due first)
 form_due (Observe horizon) first second = outcome_with (λ inputs. Done) (inputs_due first second)
 form_due Run first second = outcome_with (λ inputs. Done) (run_due first second)
+form_due Receive first second = outcome_with (λ traced. Done) (traced_due first second)
+
+-- why a form refuses the first text, whatever the second is
+abbrev pub first_refusal : Form → List ℕ → Option Outcome
+first_refusal Check first = table_refusal_of first
+first_refusal (Observe horizon) first = table_refusal_of first
+first_refusal Run first = table_refusal_of first
+first_refusal Receive first = table_refusal_of first
 
 -- the outcome where the words ask for a form, or for none
 abbrev pub outcome_for : Option Form → List ℕ → List ℕ → Outcome

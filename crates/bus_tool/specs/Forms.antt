@@ -5,9 +5,10 @@ use Rattle.std.specs.declared.alloc.Global.{Global}
 use Rattle.std.specs.String.{string_bytes}
 use Rattle.std.specs.Str.{bytes_eq}
 use Rattle.bus_text.specs.Numbers.{is_plain_decimal, decimal_value}
-pub use Rattle.bus_trace.specs.Traces.{horizon_limit}
+use Rattle.bus_strings.specs.Limits.{horizon_limit}
+use Rattle.bus_tool.specs.Readers.{Named, Trace, entire, one_source, two_sources}
 use Rattle.bus_tool.specs.declared.forms.Form.{Form}
-use Rattle.bus_tool.specs.declared.forms.Form.TheVariants.{Check, Observe, Run}
+use Rattle.bus_tool.specs.declared.forms.Form.TheVariants.{Check, Observe, Run, Receive}
 
 -- the words of the program, as bytes
 abbrev pub words_of : List (String Global) → List (List ℕ)
@@ -21,9 +22,12 @@ is_horizon word = is_plain_decimal word && nat_le (decimal_value word) horizon_l
 abbrev pub two_words : List ℕ → Option Form
 two_words command = if bytes_eq command (codes "check") then Some Check else None
 
--- `run T M`
+-- `run T M`, `receive T R`
 abbrev pub three_words : List ℕ → Option Form
-three_words command = if bytes_eq command (codes "run") then Some Run else None
+three_words command =
+    if bytes_eq command (codes "run") then Some Run
+    else if bytes_eq command (codes "receive") then Some Receive
+    else None
 
 -- `observe T M N`
 abbrev pub four_words : List ℕ → List ℕ → Option Form
@@ -32,18 +36,20 @@ four_words command horizon = if bytes_eq command (codes "observe") && is_horizon
 -- the form of these words, whatever the words T and M are
 abbrev pub form_of : List (List ℕ) → Option Form
 form_of (command ∷ table ∷ []) = two_words command
-form_of (command ∷ table ∷ messages ∷ []) = three_words command
+form_of (command ∷ table ∷ other ∷ []) = three_words command
 form_of (command ∷ table ∷ messages ∷ horizon ∷ []) = four_words command horizon
 form_of words = None
 
--- how many sources a form names: the first, or the first and the second
-abbrev pub sources_of : Form → ℕ
-sources_of Check = 1
-sources_of (Observe horizon) = 2
-sources_of Run = 2
+-- the sources that a form names, and how each is read
+abbrev pub sources_of : Form → Named
+sources_of Check = one_source entire
+sources_of (Observe horizon) = two_sources entire entire
+sources_of Run = two_sources entire entire
+sources_of Receive = two_sources entire Trace
 
 -- the numbers of a form are within their limits
 abbrev pub IsWithinLimits : Form → Type 0
 IsWithinLimits Check = Unit {0}
 IsWithinLimits (Observe horizon) = horizon ≤ horizon_limit
 IsWithinLimits Run = Unit {0}
+IsWithinLimits Receive = Unit {0}

@@ -1,8 +1,10 @@
 pub mod Statuses
-pub mod Forms
+pub mod Kinds
 pub mod Outcomes
+pub mod Outside
+pub mod Readers
+pub mod Forms
 pub mod Stages
-pub mod Seen
 pub mod Due
 pub mod Texts
 pub mod Steps
@@ -11,4 +13,5 @@ pub mod Causes
 pub mod Acts
 pub mod Claims
 pub mod RunClaims
+pub mod TraceClaims
 pub mod TextLaws

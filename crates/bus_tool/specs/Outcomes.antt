@@ -1,5 +1,5 @@
 -- How the program ends with an outcome, and the line that says why.
-use Rattle.std.specs.Prelude.{ℕ, Bool, true, false, List, [], ◌∷◌, ◌++◌, codes, Option, Some, None, if◌then◌else◌}
+use Rattle.std.specs.Prelude.{ℕ, Bool, List, [], ◌∷◌, ◌++◌, codes, Option, Some, None, if◌then◌else◌}
 use Rattle.std.specs.Fmt.{decimal}
 use Rattle.bus_text.specs.Digits.{hex_digit, hexadecimal}
 use Rattle.bus_text.specs.declared.reason.Reason.{Reason}
@@ -8,12 +8,15 @@ use Rattle.bus_table.specs.declared.fit.FitError.{FitError}
 use Rattle.bus_table.specs.declared.fit.FitError.TheVariants.{Stranger, Shape}
 use Rattle.bus_table.specs.declared.error.WholeReason.{WholeReason}
 use Rattle.bus_table.specs.declared.error.WholeReason.TheVariants.{NoSender, NumberTwice, GapTwice, GapNotShort, PairTwice, OffsetRange}
-use Rattle.bus_regime.specs.declared.verdict.TableVerdict.{TableVerdict}
+use Rattle.bus_trace.specs.declared.reason.TraceReason.{TraceReason}
+use Rattle.bus_trace.specs.declared.reason.TraceReason.TheVariants as trace
+use Rattle.bus_regime.specs.declared.table_verdict.TableVerdict.{TableVerdict}
 use Rattle.bus_regime.specs.Lines.{verdict_line}
 use Rattle.bus_tool.specs.declared.status.Status.{Status}
 use Rattle.bus_tool.specs.declared.status.Status.TheVariants as status
 use Rattle.bus_tool.specs.declared.outcome.Outcome.{Outcome}
-use Rattle.bus_tool.specs.declared.outcome.Outcome.TheVariants.{Done, Answered, Refused, Usage, TableText, TableWhole, MessagesText, Unfit, Uneven, ReadFault, WriteFault, NoMemory, TooLarge, TooLong}
+use Rattle.bus_tool.specs.declared.outcome.Outcome.TheVariants.{Done, Answered, Refused, Usage, TableText, TableWhole, MessagesText, Unfit, Uneven, TraceText, ReadFault, WriteFault, NoMemory, TooLarge, TooLong}
+use Rattle.bus_tool.specs.Kinds.{kind_of, is_answer}
 use Rattle.bus_tool.specs.Statuses.{number_of}
 
 -- how the program ends
@@ -27,6 +30,7 @@ status_of (TableWhole reason) = status.TableRefused
 status_of (MessagesText line reason) = status.InputRefused
 status_of (Unfit error) = status.InputRefused
 status_of (Uneven one one_count other other_count) = status.InputRefused
+status_of (TraceText byte reason) = status.InputRefused
 status_of (ReadFault source) = status.ReadFault
 status_of WriteFault = status.WriteFault
 status_of NoMemory = status.NoMemory
@@ -40,6 +44,17 @@ reason_name Keyword = codes "Keyword"
 reason_name Fields = codes "Fields"
 reason_name Spelling = codes "Spelling"
 reason_name Range = codes "Range"
+
+-- the word of a reason against a line of a trace
+abbrev pub trace_reason_name : TraceReason → List ℕ
+trace_reason_name trace.Ended = codes "Ended"
+trace_reason_name trace.Long = codes "Long"
+trace_reason_name trace.Keyword = codes "Keyword"
+trace_reason_name trace.Fields = codes "Fields"
+trace_reason_name trace.Spelling = codes "Spelling"
+trace_reason_name trace.Parity = codes "Parity"
+trace_reason_name trace.Range = codes "Range"
+trace_reason_name trace.Order = codes "Order"
 
 -- the label and the extension that stand on two SEND lines
 abbrev pub pair_words : ℕ → ℕ → List ℕ
@@ -74,6 +89,7 @@ fault_words (TableWhole reason) = codes "table " ++ whole_words reason
 fault_words (MessagesText line reason) = codes "messages line " ++ decimal line ++ 32 ∷ [] ++ reason_name reason
 fault_words (Unfit error) = codes "messages item " ++ fit_words error
 fault_words (Uneven one one_count other other_count) = codes "messages uneven " ++ count_words one one_count ++ 32 ∷ [] ++ count_words other other_count
+fault_words (TraceText byte reason) = codes "trace byte " ++ decimal byte ++ 32 ∷ [] ++ trace_reason_name reason
 fault_words (ReadFault source) = codes "read " ++ decimal source
 fault_words WriteFault = codes "write"
 fault_words NoMemory = codes "memory"
@@ -86,14 +102,25 @@ error_line outcome = codes "ERROR " ++ decimal (number_of (status_of outcome)) +
 
 -- whether the answer is written
 abbrev pub is_written : Outcome → Bool
-is_written Done = true
-is_written Answered = true
-is_written outcome = false
+is_written outcome = is_answer (kind_of outcome)
 
 -- the verdict for which the senders of a table aren't run
 abbrev pub refused_verdict : Outcome → Option TableVerdict
+refused_verdict Done = None
+refused_verdict Answered = None
 refused_verdict (Refused verdict) = Some verdict
-refused_verdict outcome = None
+refused_verdict Usage = None
+refused_verdict (TableText line reason) = None
+refused_verdict (TableWhole reason) = None
+refused_verdict (MessagesText line reason) = None
+refused_verdict (Unfit error) = None
+refused_verdict (Uneven one one_count other other_count) = None
+refused_verdict (TraceText byte reason) = None
+refused_verdict (ReadFault source) = None
+refused_verdict WriteFault = None
+refused_verdict NoMemory = None
+refused_verdict (TooLarge source) = None
+refused_verdict (TooLong end) = None
 
 -- the line of an outcome that is no verdict; none where the answer is written
 abbrev pub plain_line : Outcome → List ℕ

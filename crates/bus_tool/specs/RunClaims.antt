@@ -7,12 +7,13 @@ use Rattle.bus_table.specs.Hands.{items_of, hands_of}
 use Rattle.bus_regime.specs.Verdicts.{verdict_of, is_accepted}
 use Rattle.bus_schedule.specs.Closed.{closed_end}
 use Rattle.bus_schedule.specs.Limits.{longest_end}
-use Rattle.bus_trace.specs.Traces.{Recording, trace_text}
+use Rattle.bus_trace.specs.Traces.{Recording}
 use Rattle.bus_tool.specs.declared.status.Status.{Status}
 use Rattle.bus_tool.specs.declared.status.Status.TheVariants.{Done}
-use Rattle.bus_tool.specs.Seen.{Seen, Sources}
-use Rattle.bus_tool.specs.Texts.{IsRunRecording}
-use Rattle.bus_tool.specs.Claims.{IsUndisturbed, TellsTable, TellsItems, Answers}
+use Rattle.bus_tool.specs.Outside.{Call}
+use Rattle.bus_tool.specs.Readers.{entire, two_sources}
+use Rattle.bus_tool.specs.Texts.{IsRunRecording, run_text}
+use Rattle.bus_tool.specs.Claims.{NothingFails, TellsTable, TellsItems, Answers}
 
 -- the words are `run` and two more
 pub record IsRunForm (words : List (List ℕ)) : Type 0 where
@@ -27,21 +28,22 @@ pub record AreEvenItems (table : Table) (items : List Item) : Type 0 where
 
 -- A call of `run T M` on texts of a valid table that the checker accepts and of items that fit it, as many for each sender, in which
 -- nothing outside fails; the closed end is within its limit.
-pub record IsRunOf (words : List (List ℕ)) (table : Table) (items : List Item) (before after : Sources) (out out' : Seen) : Type 0 where
-  pub form : IsRunForm words
-  pub table_told : TellsTable table before.first
+pub record IsRunOf (table : Table) (items : List Item) (call : Call) : Type 0 where
+  pub form : IsRunForm call.words
+  pub table_told : TellsTable table call.before.sources.first
   pub accepted : IsTrue (is_accepted (verdict_of table))
-  pub items_told : TellsItems table items before.second
+  pub items_told : TellsItems table items call.before.sources.second
   pub even : AreEvenItems table items
   pub short : closed_end table (hands_of table items) ≤ longest_end
-  pub undisturbed : IsUndisturbed 2 before after out out'
+  pub undisturbed : NothingFails (two_sources entire entire) call.before call.after
 
--- the text of the one trace of the run: its horizon is the closed end, its holds are those of the hands, and its list is the run
+-- The text of the one trace of the run, and behind it what each terminal receives of it: its horizon is the closed end, its holds are those
+-- of the hands, and its list is the run.
 pub record IsTheRun (table : Table) (hands : List Hand) (text : List ℕ) : Type 0 where
   pub recording : Recording
   pub ran : IsRunRecording table hands recording
-  pub text_is : text ≡ trace_text recording
+  pub text_is : text ≡ run_text table recording
 
 -- that text is written, and the status is Done
-abbrev pub GivesRun : Table → List Item → Seen → Seen → Status → Type 0
-GivesRun table items out out' status = Answers Done (IsTheRun table (hands_of table items)) out out' status
+abbrev pub GivesRun : Table → List Item → Call → Status → Type 0
+GivesRun table items call status = Answers Done (IsTheRun table (hands_of table items)) call status

@@ -1,15 +1,20 @@
 -- What the steps of a command do before its first written byte.
 --   step   it makes a value, or stops at an outcome
-use Rattle.std.specs.Prelude.{◌≡◌, ℕ, ◌≤◌, List, Vec, IfSome, Result, Ok, Err, IfErr, IsErrAnd}
+use Rattle.std.specs.Prelude.{◌≡◌, ℕ, List, Vec, Option, IfSome, Result, Ok, Err, IfErr}
 use Rattle.std.specs.declared.alloc.Global.{Global}
-use Rattle.bus_outer.specs.Faults.{Rose}
 use Rattle.bus_outer.specs.declared.whole.ReadError.{ReadError}
 use Rattle.bus_outer.specs.declared.whole.ReadError.TheVariants.{Fault, TooLarge as Larger, Memory}
 use Rattle.bus_tool.specs.declared.outcome.Outcome.{Outcome}
-use Rattle.bus_tool.specs.declared.outcome.Outcome.TheVariants.{Done, Answered, Refused, Usage, Uneven, ReadFault, WriteFault, NoMemory, TooLarge, TooLong}
-use Rattle.bus_tool.specs.Stages.{stage_of, StandsFor, Gives}
-use Rattle.bus_tool.specs.Seen.{Seen, Sources, numbered, OfTexts, Reach, Whole, Reads, stopped_at, reach}
-use Rattle.bus_tool.specs.Due.{table_due}
+use Rattle.bus_tool.specs.declared.outcome.Outcome.TheVariants.{ReadFault, NoMemory, TooLarge}
+use Rattle.bus_tool.specs.Kinds.{Kind, NoForm, NotRead, TooMuch, Wrong, Late, NotWritten, NoRoom, Answer, kind_of}
+use Rattle.bus_tool.specs.Stages.{StandsFor, Gives}
+use Rattle.bus_tool.specs.Outside.{Seen, Sources, Rises, Stays}
+use Rattle.bus_tool.specs.Readers.{Reader, Named, told, OfTexts, Reach, Untouched, Within, Past, Judged, ReadsBy, Reads, reach, SourceCounts}
+
+-- the kind of what a step came to so far, where nothing stops it behind
+abbrev pub came_to : {X : Type 0} → Result X Outcome → Kind
+came_to (Ok x) = Answer
+came_to (Err outcome) = kind_of outcome
 
 -- ---- a step that reads one source
 -- what a read that failed comes to
@@ -19,27 +24,45 @@ read_refusal number Larger = TooLarge number
 read_refusal number Memory = NoMemory
 
 -- how far the step read its source
-abbrev pub step_reach : {X : Type 0} → Result X Outcome → Reach
-step_reach (Ok x) = Whole
-step_reach (Err outcome) = stopped_at outcome
+abbrev pub stopped_at : Kind → Reach
+stopped_at NoForm = Untouched
+stopped_at (NotRead source) = Within
+stopped_at (TooMuch source) = Past
+stopped_at (Wrong source) = Judged
+stopped_at Late = Judged
+stopped_at NotWritten = Judged
+stopped_at NoRoom = Within
+stopped_at Answer = Judged
 
--- an outcome at which it may stop
-abbrev pub StopsAt : ℕ → Outcome → Type 0
-StopsAt number NoMemory = Unit {0}
-StopsAt number outcome = stage_of outcome ≡ number
+-- a kind at which a step may stop that reads the source of this number
+abbrev pub StopsAt : ℕ → Kind → Type 0
+StopsAt number NoForm = ⊥
+StopsAt number (NotRead source) = source ≡ number
+StopsAt number (TooMuch source) = source ≡ number
+StopsAt number (Wrong source) = source ≡ number
+StopsAt number Late = ⊥
+StopsAt number NotWritten = ⊥
+StopsAt number NoRoom = Unit {0}
+StopsAt number Answer = ⊥
 
--- its read fails only where the count of its source rose
-abbrev pub FaultRose : Seen → Seen → Outcome → Type 0
-FaultRose old new (ReadFault source) = Rose old.faults new.faults
-FaultRose old new outcome = Unit {0}
+-- the count of its source rose exactly where this couldn't be read
+abbrev pub StepCounts : Seen → Seen → Kind → Type 0
+StepCounts old new NoForm = Stays old new
+StepCounts old new (NotRead source) = Rises old new
+StepCounts old new (TooMuch source) = Stays old new
+StepCounts old new (Wrong source) = Stays old new
+StepCounts old new Late = Stays old new
+StepCounts old new NotWritten = Stays old new
+StepCounts old new NoRoom = Stays old new
+StepCounts old new Answer = Stays old new
 
--- it reads the source of this number, and gives what is made of its text
-pub record Takes {X Y : Type 0} (IsOf : X → Y → Type 0) (number : ℕ) (made : List ℕ → Result Y Outcome) (old new : Seen) (result : Result X Outcome) : Type 0 where
+-- It reads the source of this number by this reader, and gives what is made of its text.
+pub record Takes {X Y : Type 0} (IsOf : X → Y → Type 0) (number : ℕ) (reader : Reader) (made : List ℕ → Result Y Outcome)
+    (old new : Seen) (result : Result X Outcome) : Type 0 where
   pub gives : IfSome old.bytes (λ text. Gives IsOf result (made text))
-  pub reads : Reads (step_reach result) old new
-  pub stops : IfErr result (StopsAt number)
-  pub cause : IfErr result (FaultRose old new)
-  pub later : old.faults ≤ new.faults
+  pub reads : ReadsBy reader (stopped_at (came_to result)) old new
+  pub stops : IfErr result (λ outcome. StopsAt number (kind_of outcome))
+  pub counts : StepCounts old new (came_to result)
 
 -- the text that was read
 abbrev pub IsText : Vec ℕ Global → List ℕ → Type 0
@@ -50,49 +73,45 @@ abbrev pub Same : {X : Type 0} → X → X → Type 0
 Same x y = x ≡ y
 
 -- ---- the steps before the first written byte
--- what a command came to so far, if nothing stops it behind
-abbrev pub came_to : {X : Type 0} → Result X Outcome → Outcome
-came_to (Ok x) = Done
-came_to (Err outcome) = outcome
+-- a kind at which a command may stop that has written nothing
+abbrev pub IsEarly : Kind → Type 0
+IsEarly NoForm = ⊥
+IsEarly (NotRead source) = Unit {0}
+IsEarly (TooMuch source) = Unit {0}
+IsEarly (Wrong source) = Unit {0}
+IsEarly Late = Unit {0}
+IsEarly NotWritten = ⊥
+IsEarly NoRoom = Unit {0}
+IsEarly Answer = ⊥
 
--- an outcome at which a command may stop that has written nothing
-abbrev pub IsEarly : Outcome → Type 0
-IsEarly Done = ⊥
-IsEarly Answered = ⊥
-IsEarly Usage = ⊥
-IsEarly WriteFault = ⊥
-IsEarly outcome = Unit {0}
+-- a kind at which a command may stop behind both texts, before it has written anything
+abbrev pub IsLate : Kind → Type 0
+IsLate NoForm = ⊥
+IsLate (NotRead source) = ⊥
+IsLate (TooMuch source) = ⊥
+IsLate (Wrong source) = ⊥
+IsLate Late = Unit {0}
+IsLate NotWritten = ⊥
+IsLate NoRoom = Unit {0}
+IsLate Answer = ⊥
 
--- an outcome at which a command may stop behind both texts, before it has written anything
-abbrev pub IsLate : Outcome → Type 0
-IsLate NoMemory = Unit {0}
-IsLate (Uneven one one_count other other_count) = Unit {0}
-IsLate (Refused verdict) = Unit {0}
-IsLate (TooLong end) = Unit {0}
-IsLate outcome = ⊥
+-- Where the first text is refused, so is the command, whatever the second source is, which isn't pulled.
+pub record IsRefused (refusal outcome : Outcome) (before after : Sources) : Type 0 where
+  pub stands : StandsFor refusal outcome
+  pub unpulled : after.second ≡ before.second
 
--- a source of this number is named
-abbrev pub IsNamed : ℕ → ℕ → Type 0
-IsNamed named number = (1 ≤ number) × (number ≤ named)
+-- The steps stop at the refusal of the first text.
+abbrev pub StopsFirst : {X : Type 0} → Sources → Sources → Result X Outcome → Outcome → Type 0
+StopsFirst before after (Ok x) refusal = ⊥
+StopsFirst before after (Err outcome) refusal = IsRefused refusal outcome before after
 
--- A failed read comes only where the count of its source rose; it and a text that is too large are of a named source.
-abbrev pub HasReadCause : ℕ → Sources → Sources → Outcome → Type 0
-HasReadCause named before after (ReadFault source) = IsNamed named source × Rose (numbered source before).faults (numbered source after).faults
-HasReadCause named before after (TooLarge source) = IsNamed named source
-HasReadCause named before after outcome = Unit {0}
-
--- no count of faults falls
-pub record SourcesOn (before after : Sources) : Type 0 where
-  pub first : before.first.faults ≤ after.first.faults
-  pub second : before.second.faults ≤ after.second.faults
-
--- They read so many sources, and give what is made of both texts:
---   order   where the first text is refused they stop there, whatever the second source is, which isn't pulled
-pub record Prepares {X Y : Type 0} (IsOf : X → Y → Type 0) (named : ℕ) (made : List ℕ → List ℕ → Result Y Outcome) (before after : Sources) (result : Result X Outcome) : Type 0 where
+-- They read the named sources, and give what is made of both texts.
+--   order   where the first text is refused they stop there
+pub record Prepares {X Y : Type 0} (IsOf : X → Y → Type 0) (named : Named) (refusing : List ℕ → Option Outcome)
+    (made : List ℕ → List ℕ → Result Y Outcome) (before after : Sources) (result : Result X Outcome) : Type 0 where
   pub gives : OfTexts named before (λ first second. Gives IsOf result (made first second))
-  pub first : Reads (reach named 1 (came_to result)) before.first after.first
-  pub second : Reads (reach named 2 (came_to result)) before.second after.second
-  pub order : IfSome before.first.bytes (λ text. IfErr (table_due text) (λ refusal. IsErrAnd result (StandsFor refusal) × (after.second ≡ before.second)))
-  pub early : IfErr result IsEarly
-  pub cause : IfErr result (HasReadCause named before after)
-  pub later : SourcesOn before after
+  pub first : Reads named.first (reach 1 (came_to result)) before.first after.first
+  pub second : Reads named.second (reach 2 (came_to result)) before.second after.second
+  pub order : IfSome (told named.first before.first) (λ text. IfSome (refusing text) (StopsFirst before after result))
+  pub early : IfErr result (λ outcome. IsEarly (kind_of outcome))
+  pub counts : SourceCounts named before after (came_to result)

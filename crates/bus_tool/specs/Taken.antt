@@ -6,8 +6,9 @@ use Rattle.bus_strings.specs.Items.{Item}
 use Rattle.bus_table.specs.Tables.{Table, Hand}
 use Rattle.bus_table.specs.Hands.{hands_of, are_hands}
 use Rattle.bus_tool.specs.declared.inputs.Inputs.{Inputs as Taken}
-use Rattle.bus_tool.specs.Seen.{text_limit}
-use Rattle.bus_tool.specs.Due.{Inputs, hands_in}
+use Rattle.bus_tool.specs.Readers.{text_limit}
+use Rattle.bus_tool.specs.declared.inputs.Traced.{Traced as TakenTraced}
+use Rattle.bus_tool.specs.Due.{Inputs, hands_in, Traced}
 
 -- the hands that items give the senders of a table
 abbrev pub AreHandsOf : Table → Vec Hand Global → List Item → Type 0
@@ -22,3 +23,8 @@ pub record AreReady (table : Table) (hands : List Hand) : Type 0 where
 pub record AreInputs (taken : Taken) (inputs : Inputs) : Type 0 where
   pub table : taken.table ≡ inputs.table
   pub hands : taken.hands.items ≡ hands_in inputs
+
+-- a table and a trace
+pub record AreTraced (taken : TakenTraced) (traced : Traced) : Type 0 where
+  pub table : taken.table ≡ traced.table
+  pub trace : taken.trace ≡ traced.trace

@@ -1,6 +1,6 @@
 -- What the commands write on `out`, where their outcome is an answer.
 --   hold   how many messages a terminal held when the bus began to run: a line of a trace
-use Rattle.std.specs.Prelude.{◌≡◌, ℕ, ◌≤◌, ◌==◌, List, length, Option, Some, None, Result, Ok}
+use Rattle.std.specs.Prelude.{◌≡◌, ℕ, ◌≤◌, ◌==◌, List, ◌++◌, length, Option, Some, None, Result, Ok}
 use Rattle.std.specs.List.{find, filter_map, range_with_len}
 use Rattle.std.specs.Option.{option_map}
 use Rattle.bus_strings.specs.Messages.{Entry, IsMessage}
@@ -11,13 +11,15 @@ use Rattle.bus_medium.specs.Lawful.{IsLawful}
 use Rattle.bus_medium.specs.Timings.{quiet_of, stations_of}
 use Rattle.bus_schedule.specs.Closed.{closed_end}
 use Rattle.bus_schedule.specs.Runs.{IsRun}
+use Rattle.bus_filter.specs.ReceivedTexts.{received_text}
 use Rattle.bus_trace.specs.declared.hold.Hold.{Hold}
 use Rattle.bus_trace.specs.Traces.{Recording, trace_text}
 use Rattle.bus_tool.specs.declared.forms.Form.{Form}
-use Rattle.bus_tool.specs.declared.forms.Form.TheVariants.{Check, Observe, Run}
+use Rattle.bus_tool.specs.declared.forms.Form.TheVariants.{Check, Observe, Run, Receive}
 use Rattle.bus_tool.specs.declared.outcome.Outcome.{Outcome}
 use Rattle.bus_tool.specs.Forms.{form_of}
-use Rattle.bus_tool.specs.Due.{Inputs, hands_in, table_due, inputs_due, run_due}
+use Rattle.bus_tool.specs.declared.inputs.Traced.{Traced as Ran}
+use Rattle.bus_tool.specs.Due.{Inputs, hands_in, Traced, table_due, inputs_due, run_due, traced_due}
 
 -- the number of a hand's terminal and how many messages it has
 abbrev pub hold_of : Hand → Hold
@@ -56,20 +58,24 @@ pub record IsRunRecording (table : Table) (hands : List Hand) (recording : Recor
   pub holds : recording.holds ≡ holds_of hands
   pub run : IsRun table hands recording.list
 
-abbrev pub IsRunRecordingOf : Recording → Inputs → Type 0
-IsRunRecordingOf recording inputs = IsRunRecording inputs.table (hands_in inputs) recording
+-- a table and the recording of the run of inputs
+pub record IsRanOf (ran : Ran) (inputs : Inputs) : Type 0 where
+  pub table : ran.table ≡ inputs.table
+  pub run : IsRunRecording inputs.table (hands_in inputs) ran.trace
 
--- the trace text of a run
+-- the text of a trace, and behind it what each terminal of the table receives
+abbrev pub run_text : Table → Recording → List ℕ
+run_text table recording = trace_text recording ++ received_text table recording.list
+
+-- the text of a run
 pub record IsRunText (inputs : Inputs) (text : List ℕ) : Type 0 where
   pub recording : Recording
-  pub ran : IsRunRecordingOf recording inputs
-  pub text_is : text ≡ trace_text recording
+  pub ran : IsRunRecording inputs.table (hands_in inputs) recording
+  pub text_is : text ≡ run_text inputs.table recording
 
--- a transmission as its type has it: of a terminal 1 to 128, with a message in its ranges
-pub record IsRanged (x : Entry) : Type 0 where
-  pub positive : 1 ≤ x.terminal
-  pub low : x.terminal ≤ 128
-  pub message : IsMessage x.message
+-- what each terminal receives of a trace
+abbrev pub IsReceiveText : Traced → List ℕ → Type 0
+IsReceiveText traced text = text ≡ received_text traced.table traced.trace.list
 
 -- the verdict line of a table
 abbrev pub IsCheckText : Table → List ℕ → Type 0
@@ -84,6 +90,7 @@ abbrev pub IsFormText : Form → List ℕ → List ℕ → List ℕ → Type 0
 IsFormText Check first second text = IsTextOf IsCheckText (table_due first) text
 IsFormText (Observe horizon) first second text = IsTextOf (IsObserveText horizon) (inputs_due first second) text
 IsFormText Run first second text = IsTextOf IsRunText (run_due first second) text
+IsFormText Receive first second text = IsTextOf IsReceiveText (traced_due first second) text
 
 abbrev pub IsTextFor : Option Form → List ℕ → List ℕ → List ℕ → Type 0
 IsTextFor None first second text = ⊥

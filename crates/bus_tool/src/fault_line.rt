@@ -1,18 +1,19 @@
 ghost use Rattle.bus_outer.specs.Sinks.{WritesText};
 ghost use Rattle.bus_outer.specs.Texts.{Adds};
 ghost use Rattle.bus_table.specs.declared.fit.FitError.TheVariants.{Stranger, Shape};
-ghost use Rattle.bus_tool.specs.Outcomes.{reason_name, pair_words, whole_words, fit_words, fault_words, count_words, status_of, error_line, plain_line, fault_line};
+ghost use Rattle.bus_tool.specs.Outcomes.{reason_name, trace_reason_name, pair_words, whole_words, fit_words, fault_words, count_words, status_of, error_line, plain_line, fault_line};
 ghost use Rattle.bus_text.specs.Digits.{hex_digit, hexadecimal};
 ghost use Rattle.bus_tool.specs.Statuses.{number_of};
 ghost use Rattle.std.specs.Prelude.{List, [], ◌∷◌, ◌++◌, decimal};
 
 use crate::outcome::Outcome;
 use bus_outer::{Sink, TextBuffer, WriteFault};
-use bus_regime::line::write_verdict;
+use bus_regime::write_verdict;
 use bus_table::error::WholeReason;
 use bus_table::fit::FitError;
 use bus_text::digits::{hex_digit as digit, three_digits};
 use bus_text::reason::Reason;
+use bus_trace::TraceReason;
 use bus_words::label::{Ext, Label};
 
 /// Puts the word of a reason.
@@ -25,6 +26,22 @@ fn put_reason<K: Sink>(text: &mut TextBuffer, sink: &mut K, reason: Reason)
         Reason::Fields => text.put(sink, b"Fields"),
         Reason::Spelling => text.put(sink, b"Spelling"),
         Reason::Range => text.put(sink, b"Range"),
+    }
+}
+
+/// Puts the word of a reason against a line of a trace.
+fn put_trace_reason<K: Sink>(text: &mut TextBuffer, sink: &mut K, reason: TraceReason)
+    ensures { Adds K.held K.faults sink.old sink.new text.old text.new (trace_reason_name reason) }
+{
+    match reason {
+        TraceReason::Ended => text.put(sink, b"Ended"),
+        TraceReason::Long => text.put(sink, b"Long"),
+        TraceReason::Keyword => text.put(sink, b"Keyword"),
+        TraceReason::Fields => text.put(sink, b"Fields"),
+        TraceReason::Spelling => text.put(sink, b"Spelling"),
+        TraceReason::Parity => text.put(sink, b"Parity"),
+        TraceReason::Range => text.put(sink, b"Range"),
+        TraceReason::Order => text.put(sink, b"Order"),
     }
 }
 
@@ -180,6 +197,15 @@ fn put_too_long<K: Sink>(text: &mut TextBuffer, sink: &mut K, end: u128)
     text.put_number(sink, end);
 }
 
+/// Puts the refusal of a line of a trace.
+fn put_trace_text<K: Sink>(text: &mut TextBuffer, sink: &mut K, byte: u64, reason: TraceReason)
+    ensures { Adds K.held K.faults sink.old sink.new text.old text.new (fault_words (Outcome.TraceText byte reason)) }
+{
+    put_numbered(text, sink, b"trace byte ", byte);
+    text.put_byte(sink, b' ');
+    put_trace_reason(text, sink, reason);
+}
+
 /// Puts why a table is refused as a whole.
 fn put_table_whole<K: Sink>(text: &mut TextBuffer, sink: &mut K, reason: WholeReason)
     ensures { Adds K.held K.faults sink.old sink.new text.old text.new (fault_words (Outcome.TableWhole reason)) }
@@ -205,6 +231,7 @@ fn put_words<K: Sink>(text: &mut TextBuffer, sink: &mut K, outcome: &Outcome)
             other,
             other_count,
         } => put_uneven(text, sink, one, one_count, other, other_count),
+        Outcome::TraceText { byte, reason } => put_trace_text(text, sink, byte, reason),
         Outcome::ReadFault { source } => put_numbered(text, sink, b"read ", u64::from(source)),
         Outcome::WriteFault => text.put(sink, b"write"),
         Outcome::NoMemory => text.put(sink, b"memory"),

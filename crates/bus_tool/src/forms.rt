@@ -1,12 +1,11 @@
 ghost use Rattle.std.specs.Prelude.{◌≡◌, ◌≤◌, IfSome, Some, None, if◌then◌else◌};
 ghost use Rattle.bus_text.specs.Numbers.{decimal_value};
 ghost use Rattle.bus_tool.specs.Forms as forms;
-ghost use Rattle.bus_tool.specs.Forms.{words_of, is_horizon, horizon_limit, IsWithinLimits};
+ghost use Rattle.bus_tool.specs.Forms.{words_of, is_horizon, IsWithinLimits};
+ghost use Rattle.bus_strings.specs.Limits.{horizon_limit};
 
+use bus_strings::limits::HORIZON_LIMIT;
 use bus_text::numbers::plain_decimal;
-
-/// The greatest horizon, in bit times from the settled start.
-const HORIZON_LIMIT: u64 = 20_000_000;
 
 /// What the words of a command line ask for.
 #[derive(Clone, Copy, Debug, PartialEq, Eq)]
@@ -15,11 +14,13 @@ pub enum Form {
     Check,
     /// `observe T M N`: what the senders of the table in `T` do with the messages in `M`, in the bit times before N.
     Observe {
-        /// N: at most 20,000,000.
+        /// N: at most 1,099,511,627,776.
         horizon: u64,
     },
     /// `run T M`: what the senders of the table in `T` do with the messages in `M`, up to the end of the closed schedule.
     Run,
+    /// `receive T R`: what each terminal of the table in `T` receives of the trace in `R`.
+    Receive,
 }
 
 /// The horizon that a word writes; None where the word is no plain decimal, or the number is past its limit.
@@ -54,6 +55,8 @@ fn three_words(command: &str) -> Option<Form>
 {
     if command == "run" {
         Some(Form::Run)
+    } else if command == "receive" {
+        Some(Form::Receive)
     } else {
         None
     }

@@ -1,12 +1,13 @@
 //! What the commands take from their sources: a table from the first, and hands from the second.
 ghost use Rattle.std.specs.Prelude.{◌≡◌, ◌≤◌, length, IfOk, IsTrue};
 ghost use Rattle.std.specs.List.{AllByRecursion};
-ghost use Rattle.bus_table.specs.declared.mode.Mode.TheVariants.{Aperiodic};
 ghost use Rattle.bus_table.specs.Hands.{are_hands};
-ghost use Rattle.bus_tool.specs.Due.{text_due, table_due, items_due, inputs_due};
-ghost use Rattle.bus_tool.specs.Seen.{text_limit, source_seen, sources_seen};
-ghost use Rattle.bus_tool.specs.Steps.{read_refusal, Same, IsText, IsNamed, Takes, Prepares};
-ghost use Rattle.bus_tool.specs.Taken.{AreHandsOf, AreReady, AreInputs};
+ghost use Rattle.bus_tool.specs.Due.{text_due, table_due, table_refusal_of, items_due, inputs_due, trace_due, traced_due};
+ghost use Rattle.bus_tool.specs.Outside.{source_seen, sources_seen};
+ghost use Rattle.bus_tool.specs.Readers.{text_limit, Trace as ByTrace, entire, two_sources};
+ghost use Rattle.bus_tool.specs.Steps.{read_refusal, Same, IsText, Takes, Prepares};
+ghost use Rattle.bus_tool.specs.Taken.{AreHandsOf, AreReady, AreInputs, AreTraced};
+ghost use Rattle.bus_trace.specs.Traces.{IsTrace};
 
 use crate::outcome::Outcome;
 use bus_outer::{ReadError, Source, read_whole};
@@ -16,16 +17,24 @@ use bus_table::hand::Hand;
 use bus_table::hands;
 use bus_table::reading::read_table;
 use bus_table::table::Table;
+use bus_trace::{Trace, read_trace};
 use std::alloc::Global;
 
 /// The most bytes that a table text or a messages text may have.
-const TEXT_LIMIT: usize = 1_048_576;
+const TEXT_LIMIT: usize = 8_388_608;
 
 /// A table, and one hand for each of its senders, in its order.
 #[derive(Drop)]
 pub struct Inputs {
     pub table: Table,
     pub hands: Vec<Hand>,
+}
+
+/// A table, and a trace.
+#[derive(Drop)]
+pub struct Traced {
+    pub table: Table,
+    pub trace: Trace,
 }
 
 /// What a failed read of the source of this number comes to.
@@ -41,8 +50,9 @@ fn read_outcome(number: u8, error: ReadError) -> Outcome
 
 /// All that the source of this number gives, or why it wasn't read.
 fn take_text<S: Source>(alloc: Global, number: u8, source: &mut S) -> Result<Vec<u8>, Outcome>
-    requires { IsNamed 2 number }
-    ensures takes { Takes IsText number (text_due number) (source_seen ⟦<S as Source>⟧ source.old) (source_seen ⟦<S as Source>⟧ source.new) result }
+    requires { (1 ≤ number) × (number ≤ 2) }
+    ensures takes { Takes IsText number entire (text_due number)
+        (source_seen ⟦<S as Source>⟧ source.old) (source_seen ⟦<S as Source>⟧ source.new) result }
     ensures short { IfOk result (λ text. length text.items ≤ text_limit) }
 {
     match read_whole(alloc, source, TEXT_LIMIT) {
@@ -53,8 +63,7 @@ fn take_text<S: Source>(alloc: Global, number: u8, source: &mut S) -> Result<Vec
 
 /// The table in the first source, or why there is none.
 pub fn take_table<S: Source>(alloc: Global, first: &mut S) -> Result<Table, Outcome>
-    ensures takes { Takes Same 1 table_due (source_seen ⟦<S as Source>⟧ first.old) (source_seen ⟦<S as Source>⟧ first.new) result }
-    ensures aperiodic { IfOk result (λ table. table.mode ≡ Aperiodic) }
+    ensures { Takes Same 1 entire table_due (source_seen ⟦<S as Source>⟧ first.old) (source_seen ⟦<S as Source>⟧ first.new) result }
 {
     let text = take_text(alloc, 1, first)?;
     let table = read_table(alloc, &text)?;
@@ -63,7 +72,8 @@ pub fn take_table<S: Source>(alloc: Global, first: &mut S) -> Result<Table, Outc
 
 /// The hands that the messages text in the second source gives the senders of a table, or why there are none.
 fn take_hands<S: Source>(alloc: Global, table: &Table, second: &mut S) -> Result<Vec<Hand>, Outcome>
-    ensures takes { Takes (AreHandsOf table.now) 2 (items_due table.now) (source_seen ⟦<S as Source>⟧ second.old) (source_seen ⟦<S as Source>⟧ second.new) result }
+    ensures takes { Takes (AreHandsOf table.now) 2 entire (items_due table.now)
+        (source_seen ⟦<S as Source>⟧ second.old) (source_seen ⟦<S as Source>⟧ second.new) result }
     ensures ready { IfOk result (λ hands. AreReady table.now hands.items) }
 {
     let text = take_text(alloc, 2, second)?;
@@ -73,6 +83,32 @@ fn take_hands<S: Source>(alloc: Global, table: &Table, second: &mut S) -> Result
     Ok(hands)
 }
 
+/// The trace in the second source, or why there is none. Of the source exactly the bytes are taken that decide.
+fn take_trace<S: Source>(alloc: Global, second: &mut S) -> Result<Trace, Outcome>
+    ensures takes { Takes Same 2 ByTrace trace_due
+        (source_seen ⟦<S as Source>⟧ second.old) (source_seen ⟦<S as Source>⟧ second.new) result }
+    ensures ranges { IfOk result IsTrace }
+{
+    let trace = read_trace(alloc, second)?;
+    Ok(trace)
+}
+
+/// The table in the first source and the trace in the second, or why there are none. The second source is pulled only where the first
+/// gave a table.
+pub fn take_traced<S: Source>(
+    alloc: Global,
+    first: &mut S,
+    second: &mut S,
+) -> Result<Traced, Outcome>
+    ensures prepares { Prepares AreTraced (two_sources entire ByTrace) table_refusal_of traced_due
+        (sources_seen ⟦<S as Source>⟧ first.old second.old) (sources_seen ⟦<S as Source>⟧ first.new second.new) result }
+    ensures ranges { IfOk result (λ traced. IsTrace traced.trace) }
+{
+    let table = take_table(alloc, first)?;
+    let trace = take_trace(alloc, second)?;
+    Ok(Traced { table, trace })
+}
+
 /// The table in the first source and the hands that the messages text in the second gives its senders, or why there are none. The
 /// second source is pulled only where the first gave a table.
 pub fn take_inputs<S: Source>(
@@ -80,9 +116,9 @@ pub fn take_inputs<S: Source>(
     first: &mut S,
     second: &mut S,
 ) -> Result<Inputs, Outcome>
-    ensures prepares { Prepares AreInputs 2 inputs_due (sources_seen ⟦<S as Source>⟧ first.old second.old) (sources_seen ⟦<S as Source>⟧ first.new second.new) result }
+    ensures prepares { Prepares AreInputs (two_sources entire entire) table_refusal_of inputs_due
+        (sources_seen ⟦<S as Source>⟧ first.old second.old) (sources_seen ⟦<S as Source>⟧ first.new second.new) result }
     ensures ready { IfOk result (λ inputs. AreReady inputs.table inputs.hands.items) }
-    ensures aperiodic { IfOk result (λ inputs. inputs.table.mode ≡ Aperiodic) }
 {
     let table = take_table(alloc, first)?;
     let hands = take_hands(alloc, &table, second)?;

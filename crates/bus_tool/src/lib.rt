@@ -1,13 +1,13 @@
 //! The commands of bus629, whatever their words, sources and sinks.
 //!
-//! [`tool::tool`] is the top call: it does the command that the words ask for, writes a fault line on `err`, and says how the
-//! program ends. [`act::act`] is the command alone, [`outcome::Outcome`] what it came to, and [`fault_line::outcome_text`] the line.
+//! [`tool`] is the top call: it does the command that the words ask for, writes a fault line on `err`, and says how the program ends.
+//! [`act`] is the command alone, [`Outcome`] what it came to, and [`outcome_text`] the line.
 #![tactic(auto)]
 
-pub mod act;
 mod answer;
 mod check;
-pub mod fault_line;
+mod command;
+mod fault_line;
 pub mod forms;
 mod holds;
 mod inputs;
@@ -15,11 +15,20 @@ pub mod laws;
 mod observe;
 #[cfg(test)]
 mod observe_tests;
-pub mod outcome;
+mod outcome;
+mod receive;
+#[cfg(test)]
+mod receive_tests;
 mod run;
 #[cfg(test)]
 mod run_tests;
-pub mod status;
+mod status;
 #[cfg(test)]
 mod tests;
-pub mod tool;
+mod top;
+
+pub use command::act;
+pub use fault_line::outcome_text;
+pub use outcome::Outcome;
+pub use status::Status;
+pub use top::tool;

@@ -1,12 +1,14 @@
 //! `observe` over sources and sinks in memory, with ample memory.
 use crate::status::Status;
-use crate::tests::{Ran, TWO_SENDERS, run_over, sink, source};
-use bus_outer::{MemorySink, MemorySource};
+use crate::tests::{
+    Ran, TWO_PERIODIC_SENDERS, TWO_SENDERS, is_refused, run_on, run_over, sink_of, source, writes,
+};
+use bus_outer::MemorySource;
 use std::test::Fail;
 
-/// Two senders with a long synchronization gap and short messages.
+/// Two senders with a long synchronization gap and short messages, and a listener.
 pub const LONG_GAP: &str =
-    "TABLE 1\nMODE aperiodic\nTI 1000\nSG 1000\nSENDER 1 TG 20\nSEND 0A1 1 2 2\nSENDER 2 TG 30\nSEND 0B2 1 0 2\n";
+    "TABLE 1\nMODE aperiodic\nTI 1000\nSG 1000\nSENDER 1 TG 20\nSEND 0A1 1 2 2\nSENDER 2 TG 30\nSEND 0B2 1 0 2\nTAKE 0A1 * 1 4\nLISTENER 3\nTAKE 0B2 1 0 2\n";
 
 pub const ONE_EACH: &str = "MESSAGES 1\nMSG 1 : 0000 0001\nMSG 2 : 00FF\n";
 
@@ -14,24 +16,14 @@ pub const ONE_EACH_SEEN: &str =
     "TRACE 1\nHORIZON 150\nHOLD 1 1\nHOLD 2 1\nTX 20 1\nWS L0A111 D00001 D00010\nTX 110 2\nWS L0B210 D00FF1\nEND\n";
 
 fn observe(rt: &HostRuntime, table: &str, messages: &str, horizon: &str) -> Result<Ran, Fail> {
-    let (first, second) = (
-        source(rt, table.as_bytes())?,
-        source(rt, messages.as_bytes())?,
-    );
-    run_over(
-        rt,
-        &["observe", "T", "M", horizon],
-        first,
-        second,
-        sink(rt)?,
-    )
+    run_on(rt, &["observe", "T", "M", horizon], table, messages)
 }
 
-/// The TX lines of a trace text.
+/// The HORIZON line and the TX lines of a trace text.
 pub fn starts(rt: &HostRuntime, trace: &[u8]) -> Result<Vec<u8>, Fail> {
     let mut starts = Vec::new(rt.alloc());
     for line in trace.split(|byte| *byte == b'\n') {
-        if line.starts_with(b"TX") {
+        if line.starts_with(b"TX") || line.starts_with(b"HORIZON") {
             starts.extend_from_slice(line)?;
             starts.push(b'\n')?;
         }
@@ -39,104 +31,139 @@ pub fn starts(rt: &HostRuntime, trace: &[u8]) -> Result<Vec<u8>, Fail> {
     Ok(starts)
 }
 
-/// Two rounds: 2 words of terminal 1 and 30 of terminal 2, all 0.
-pub fn two_rounds(rt: &HostRuntime) -> Result<String, Fail> {
-    let mut text = String::from_str(rt.alloc(), "MESSAGES 1\n")?;
-    for _ in 0..2 {
-        text.push_str("MSG 1 : 0000 0000\nMSG 2 :")?;
-        for _ in 0..30 {
+/// A round: so many words of terminal 1 and of terminal 2, all 0.
+pub fn push_round(text: &mut String, one: usize, two: usize) -> Result<(), Fail> {
+    for (item, words) in [("MSG 1 :", one), ("MSG 2 :", two)] {
+        text.push_str(item)?;
+        for _ in 0..words {
             text.push_str(" 0000")?;
         }
         text.push_str("\n")?;
     }
+    Ok(())
+}
+
+/// Two rounds of so many words of each of two terminals.
+pub fn rounds(rt: &HostRuntime, one: (usize, usize), two: (usize, usize)) -> Result<String, Fail> {
+    let mut text = String::from_str(rt.alloc(), "MESSAGES 1\n")?;
+    push_round(&mut text, one.0, one.1)?;
+    push_round(&mut text, two.0, two.1)?;
     Ok(text)
 }
 
 #[test]
-fn the_trace_of_one_message_each(rt: HostRuntime) -> Result<(), Fail> {
+fn traces_of_one_message_each(rt: HostRuntime) -> Result<(), Fail> {
     let ran = observe(&rt, LONG_GAP, ONE_EACH, "150")?;
-    assert_eq!(rt; ran.status, Status::Done);
-    assert_eq!(rt; ran.out.bytes(), ONE_EACH_SEEN.as_bytes());
-    assert_eq!(rt; ran.err.bytes(), b"".as_slice());
-    Ok(())
-}
-
-#[test]
-fn a_horizon_of_nothing(rt: HostRuntime) -> Result<(), Fail> {
-    let ran = observe(&rt, LONG_GAP, ONE_EACH, "0")?;
-    let seen = b"TRACE 1\nHORIZON 0\nHOLD 1 1\nHOLD 2 1\nEND\n";
-    assert_eq!(rt; ran.out.bytes(), seen.as_slice());
-    Ok(())
-}
-
-#[test]
-fn a_horizon_up_to_a_start_and_behind_it(rt: HostRuntime) -> Result<(), Fail> {
-    let messages = two_rounds(&rt)?;
-    let before = observe(&rt, TWO_SENDERS, messages.as_str(), "110")?;
-    let seen = b"TRACE 1\nHORIZON 110\nHOLD 1 2\nHOLD 2 2\nTX 20 1\nWS L0A111 D00001 D00001\nEND\n";
-    assert_eq!(rt; before.out.bytes(), seen.as_slice());
-    let behind = observe(&rt, TWO_SENDERS, messages.as_str(), "111")?;
-    let starts = starts(&rt, behind.out.bytes())?;
-    assert_eq!(rt; starts.as_slice(), b"TX 20 1\nTX 110 2\n".as_slice());
-    Ok(())
-}
-
-#[test]
-fn a_refused_table_is_observed(rt: HostRuntime) -> Result<(), Fail> {
-    let table = TWO_SENDERS.replace(rt.alloc(), "TI 1000", "TI 1031")?;
-    let messages = two_rounds(&rt)?;
-    let ran = observe(&rt, table.as_str(), messages.as_str(), "2000")?;
-    let starts = starts(&rt, ran.out.bytes())?;
-    let expected = b"TX 20 1\nTX 110 2\nTX 1051 1\nTX 1141 2\n";
-    assert_eq!(rt; starts.as_slice(), expected.as_slice());
-    Ok(())
-}
-
-#[test]
-fn hands_of_different_lengths(rt: HostRuntime) -> Result<(), Fail> {
-    let messages = "MESSAGES 1\nMSG 1 : 0000 0001\nMSG 2 : 00FF\nMSG 1 : 0000 0001\n";
-    let ran = observe(&rt, LONG_GAP, messages, "3000")?;
-    let starts = starts(&rt, ran.out.bytes())?;
-    assert_eq!(rt;
-        starts.as_slice(),
-        b"TX 20 1\nTX 110 2\nTX 1170 1\n".as_slice()
+    assert!(rt; writes(&ran, Status::Done, ONE_EACH_SEEN));
+    let none = observe(&rt, LONG_GAP, ONE_EACH, "0")?;
+    assert!(rt;
+        writes(
+            &none,
+            Status::Done,
+            "TRACE 1\nHORIZON 0\nHOLD 1 1\nHOLD 2 1\nEND\n"
+        )
     );
+    let long = observe(&rt, LONG_GAP, ONE_EACH, "1099511627776")?;
+    let seen = ONE_EACH_SEEN.replace(rt.alloc(), "HORIZON 150", "HORIZON 1099511627776")?;
+    assert!(rt; writes(&long, Status::Done, seen.as_str()));
     Ok(())
 }
 
-/// Whether a command is refused so, with nothing on `out`.
-pub fn is_refused(ran: &Ran, status: Status, line: &[u8]) -> bool {
-    ran.status == status && ran.out.bytes().is_empty() && ran.err.bytes() == line
+/// Whether `observe` sees these starts.
+fn sees(
+    rt: &HostRuntime,
+    table: &str,
+    messages: &str,
+    horizon: &str,
+    expected: &[u8],
+) -> Result<bool, Fail> {
+    let ran = observe(rt, table, messages, horizon)?;
+    let starts = starts(rt, ran.out.bytes())?;
+    Ok(starts.as_slice() == expected)
+}
+
+#[test]
+fn starts_of_aperiodic_tables(rt: HostRuntime) -> Result<(), Fail> {
+    let two = rounds(&rt, (2, 30), (2, 30))?;
+    assert!(rt;
+        sees(
+            &rt,
+            TWO_SENDERS,
+            two.as_str(),
+            "110",
+            b"HORIZON 110\nTX 20 1\n"
+        )?
+    );
+    assert!(rt;
+        sees(
+            &rt,
+            TWO_SENDERS,
+            two.as_str(),
+            "111",
+            b"HORIZON 111\nTX 20 1\nTX 110 2\n"
+        )?
+    );
+    let refused = TWO_SENDERS.replace(rt.alloc(), "TI 1000", "TI 1031")?;
+    let late = b"HORIZON 2000\nTX 20 1\nTX 110 2\nTX 1051 1\nTX 1141 2\n";
+    assert!(rt; sees(&rt, refused.as_str(), two.as_str(), "2000", late)?);
+    let uneven = "MESSAGES 1\nMSG 1 : 0000 0001\nMSG 2 : 00FF\nMSG 1 : 0000 0001\n";
+    let seen = b"HORIZON 3000\nTX 20 1\nTX 110 2\nTX 1170 1\n";
+    assert!(rt; sees(&rt, LONG_GAP, uneven, "3000", seen)?);
+    Ok(())
+}
+
+#[test]
+fn starts_of_a_periodic_table_that_collide(rt: HostRuntime) -> Result<(), Fail> {
+    let two = rounds(&rt, (2, 30), (2, 30))?;
+    let table = TWO_PERIODIC_SENDERS.replace(rt.alloc(), "AT 90", "AT 0")?;
+    let together = b"HORIZON 2001\nTX 0 1\nTX 0 2\nTX 2000 1\nTX 2000 2\n";
+    assert!(rt; sees(&rt, table.as_str(), two.as_str(), "2001", together)?);
+    Ok(())
 }
 
 #[test]
 fn horizons_that_are_none(rt: HostRuntime) -> Result<(), Fail> {
-    for horizon in ["01", "20000001", "", "-1", "1.0"] {
+    for horizon in ["01", "1099511627777", "", "-1", "1.0"] {
         let ran = observe(&rt, "", ONE_EACH, horizon)?;
-        assert!(rt; is_refused(&ran, Status::Usage, b"ERROR 2 usage\n"));
+        assert!(rt; is_refused(&ran, Status::Usage, "ERROR 2 usage\n"));
     }
     Ok(())
 }
 
 #[test]
-fn items_that_do_not_fit(rt: HostRuntime) -> Result<(), Fail> {
+fn the_order_of_refusals(rt: HostRuntime) -> Result<(), Fail> {
     let stranger = observe(&rt, LONG_GAP, "MESSAGES 1\nMSG 3 : 0000\n", "150")?;
-    let line = b"ERROR 4 messages item 1 Stranger\n";
-    assert!(rt; is_refused(&stranger, Status::InputRefused, line));
+    assert!(rt;
+        is_refused(
+            &stranger,
+            Status::InputRefused,
+            "ERROR 4 messages item 1 Stranger\n"
+        )
+    );
     let shape = observe(&rt, LONG_GAP, "MESSAGES 1\nMSG 1 : 0000\n", "150")?;
-    let line = b"ERROR 4 messages item 1 Shape\n";
-    assert!(rt; is_refused(&shape, Status::InputRefused, line));
-    Ok(())
-}
-
-#[test]
-fn the_first_text_is_refused_before_the_second(rt: HostRuntime) -> Result<(), Fail> {
+    assert!(rt;
+        is_refused(
+            &shape,
+            Status::InputRefused,
+            "ERROR 4 messages item 1 Shape\n"
+        )
+    );
     let messages = observe(&rt, LONG_GAP, "MESSAGES 1\nMSG 1 0000\n", "150")?;
-    let line = b"ERROR 4 messages line 2 Fields\n";
-    assert!(rt; is_refused(&messages, Status::InputRefused, line));
+    assert!(rt;
+        is_refused(
+            &messages,
+            Status::InputRefused,
+            "ERROR 4 messages line 2 Fields\n"
+        )
+    );
     let table = observe(&rt, "TABLE 2\n", "MESSAGES 1\nMSG 1 0000\n", "150")?;
-    let line = b"ERROR 3 table line 1 Fields\n";
-    assert!(rt; is_refused(&table, Status::TableRefused, line));
+    assert!(rt;
+        is_refused(
+            &table,
+            Status::TableRefused,
+            "ERROR 3 table line 1 Fields\n"
+        )
+    );
     Ok(())
 }
 
@@ -145,39 +172,12 @@ fn a_second_source_that_fails_or_is_too_large(rt: HostRuntime) -> Result<(), Fai
     let words = ["observe", "T", "M", "150"];
     let messages = ONE_EACH.as_bytes().to_vec(rt.alloc())?;
     let failing = MemorySource::new(messages, 16, [1u64].to_vec(rt.alloc())?);
-    let failed = run_over(
-        &rt,
-        &words,
-        source(&rt, LONG_GAP.as_bytes())?,
-        failing,
-        sink(&rt)?,
-    )?;
-    assert!(rt; is_refused(&failed, Status::ReadFault, b"ERROR 5 read 2\n"));
-    let large = source(&rt, &vec![in rt.alloc(); b'#'; 1_048_577]?)?;
-    let large = run_over(
-        &rt,
-        &words,
-        source(&rt, LONG_GAP.as_bytes())?,
-        large,
-        sink(&rt)?,
-    )?;
-    assert!(rt; is_refused(&large, Status::TooLarge, b"ERROR 8 large 2\n"));
-    Ok(())
-}
-
-#[test]
-fn a_trace_that_is_cut(rt: HostRuntime) -> Result<(), Fail> {
-    let out = MemorySink::new(rt.alloc(), 200, 16, [2u64].to_vec(rt.alloc())?)?;
-    let (first, second) = (
-        source(&rt, LONG_GAP.as_bytes())?,
-        source(&rt, ONE_EACH.as_bytes())?,
-    );
-    let ran = run_over(&rt, &["observe", "T", "M", "150"], first, second, out)?;
-    assert_eq!(rt; ran.status, Status::WriteFault);
-    assert_eq!(rt; ran.err.bytes(), b"ERROR 6 write\n".as_slice());
-    assert_eq!(rt;
-        ran.out.bytes(),
-        b"TRACE 1\nHORIZON 150\nHOLD 1 1\nHOL".as_slice()
-    );
+    let table = source(&rt, LONG_GAP.as_bytes())?;
+    let failed = run_over(&rt, &words, table, failing, sink_of(&rt, 200)?)?;
+    assert!(rt; is_refused(&failed, Status::ReadFault, "ERROR 5 read 2\n"));
+    let large = source(&rt, &vec![in rt.alloc(); b'#'; 8_388_609]?)?;
+    let table = source(&rt, LONG_GAP.as_bytes())?;
+    let large = run_over(&rt, &words, table, large, sink_of(&rt, 200)?)?;
+    assert!(rt; is_refused(&large, Status::TooLarge, "ERROR 8 large 2\n"));
     Ok(())
 }

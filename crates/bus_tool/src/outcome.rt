@@ -2,13 +2,13 @@ ghost use Rattle.std.specs.Prelude.{◌≡◌};
 ghost use Rattle.bus_tool.specs.Outcomes.{is_written, refused_verdict, status_of};
 
 use crate::status::Status;
-use bus_regime::verdict::TableVerdict;
-use bus_schedule::error::ScheduleError;
-use bus_schedule::uneven::Uneven;
+use bus_regime::TableVerdict;
+use bus_schedule::{ScheduleError, Uneven};
 use bus_strings::fault::MessagesError;
 use bus_table::error::{TableError, WholeReason};
 use bus_table::fit::FitError;
 use bus_text::reason::Reason;
+use bus_trace::{TraceError, TraceReason};
 use std::alloc::AllocError;
 
 /// What a command came to.
@@ -43,6 +43,11 @@ pub enum Outcome {
         other: u8,
         other_count: u64,
     },
+    /// The second text is no trace text: the length of the lines before the offending one, and why.
+    TraceText {
+        byte: u64,
+        reason: TraceReason,
+    },
     /// A source, the first being 1, couldn't be read.
     ReadFault {
         source: u8,
@@ -75,7 +80,20 @@ impl Outcome {
     {
         match *self {
             Outcome::Refused(verdict) => Some(verdict),
-            _ => None,
+            Outcome::Done
+            | Outcome::Answered
+            | Outcome::Usage
+            | Outcome::TableText { .. }
+            | Outcome::TableWhole(_)
+            | Outcome::MessagesText { .. }
+            | Outcome::Unfit(_)
+            | Outcome::Uneven { .. }
+            | Outcome::TraceText { .. }
+            | Outcome::ReadFault { .. }
+            | Outcome::WriteFault
+            | Outcome::NoMemory
+            | Outcome::TooLarge { .. }
+            | Outcome::TooLong { .. } => None,
         }
     }
 
@@ -88,9 +106,10 @@ impl Outcome {
             Outcome::Answered | Outcome::Refused(_) => Status::Refused,
             Outcome::Usage => Status::Usage,
             Outcome::TableText { .. } | Outcome::TableWhole(_) => Status::TableRefused,
-            Outcome::MessagesText { .. } | Outcome::Unfit(_) | Outcome::Uneven { .. } => {
-                Status::InputRefused
-            }
+            Outcome::MessagesText { .. }
+            | Outcome::Unfit(_)
+            | Outcome::Uneven { .. }
+            | Outcome::TraceText { .. } => Status::InputRefused,
             Outcome::ReadFault { .. } => Status::ReadFault,
             Outcome::WriteFault => Status::WriteFault,
             Outcome::NoMemory => Status::NoMemory,
@@ -161,6 +180,21 @@ impl From<ScheduleError> for Outcome {
         match error {
             ScheduleError::Memory => Outcome::NoMemory,
             ScheduleError::TooLong { end } => Outcome::TooLong { end },
+        }
+    }
+}
+
+impl From<TraceError> for Outcome {
+    ghost use Rattle.bus_tool.specs.Due.{trace_refusal};
+
+    ghost from_gives = { λ error outcome. outcome ≡ trace_refusal error };
+
+    fn from(error: TraceError) -> Outcome {
+        match error {
+            TraceError::Text { byte, reason } => Outcome::TraceText { byte, reason },
+            TraceError::ReadFault => Outcome::ReadFault { source: 2 },
+            TraceError::TooLarge => Outcome::TooLarge { source: 2 },
+            TraceError::Memory => Outcome::NoMemory,
         }
     }
 }

@@ -1,6 +1,6 @@
-//! The commands over sources and sinks in memory, with ample memory.
+//! What every test of the commands uses, and `check`, over sources and sinks in memory, with ample memory.
 use crate::status::Status;
-use crate::tool::tool;
+use crate::tool;
 use bus_outer::{MemorySink, MemorySource};
 use std::test::Fail;
 
@@ -8,11 +8,9 @@ use std::test::Fail;
 pub const TWO_SENDERS: &str =
     "TABLE 1\nMODE aperiodic\nTI 1000\nSG 300\nSENDER 1 TG 20\nSEND 0A1 1 2 4\nSENDER 2 TG 30\nSEND 0B2 1 30 40\n";
 
-const TWO_PERIODIC_SENDERS: &str =
+/// Two senders with offsets, whose gaps are 1290 and 30.
+pub const TWO_PERIODIC_SENDERS: &str =
     "TABLE 1\nMODE periodic\nTI 2000\nSG 300\nSENDER 1 TG 20 AT 0\nSEND 0A1 1 2 2\nSENDER 2 TG 30 AT 90\nSEND 0B2 1 30 30\n";
-
-const WITH_RECEIVERS: &str =
-    "TABLE 1\nMODE aperiodic\nTI 1000\nSG 1000\nSENDER 1 TG 20\nSEND 0A1 1 2 2\nSENDER 2 TG 30\nSEND 0B2 1 0 2\nTAKE 0A1 * 1 4\nLISTENER 3\nTAKE 0B2 1 0 2\n";
 
 /// How a call ended, and what stands on `out` and on `err`.
 #[derive(Drop)]
@@ -30,9 +28,9 @@ fn words_of(rt: &HostRuntime, words: &[&str]) -> Result<Vec<String>, Fail> {
     Ok(all)
 }
 
-/// A sink with ample room that never fails.
-pub fn sink(rt: &HostRuntime) -> Result<MemorySink, Fail> {
-    Ok(MemorySink::new(rt.alloc(), 2000, 200, Vec::new(rt.alloc()))?)
+/// A sink with this room that never fails.
+pub fn sink_of(rt: &HostRuntime, room: usize) -> Result<MemorySink, Fail> {
+    Ok(MemorySink::new(rt.alloc(), room, 200, Vec::new(rt.alloc()))?)
 }
 
 /// A source of this text that never fails.
@@ -40,6 +38,7 @@ pub fn source(rt: &HostRuntime, text: &[u8]) -> Result<MemorySource, Fail> {
     Ok(MemorySource::new(text.to_vec(rt.alloc())?, 4096, Vec::new(rt.alloc())))
 }
 
+/// A call of these words over these.
 pub fn run_over(
     rt: &HostRuntime,
     words: &[&str],
@@ -48,7 +47,7 @@ pub fn run_over(
     mut out: MemorySink,
 ) -> Result<Ran, Fail> {
     let words = words_of(rt, words)?;
-    let mut err = sink(rt)?;
+    let mut err = sink_of(rt, 200)?;
     let status = tool(
         rt.alloc(),
         &words,
@@ -60,125 +59,221 @@ pub fn run_over(
     Ok(Ran { status, out, err })
 }
 
-fn run(rt: &HostRuntime, words: &[&str], text: &[u8]) -> Result<Ran, Fail> {
-    run_over(rt, words, source(rt, text)?, source(rt, b"")?, sink(rt)?)
+/// A call of these words over these texts.
+pub fn run_on(rt: &HostRuntime, words: &[&str], first: &str, second: &str) -> Result<Ran, Fail> {
+    let (first, second) = (
+        source(rt, first.as_bytes())?,
+        source(rt, second.as_bytes())?,
+    );
+    run_over(rt, words, first, second, sink_of(rt, 3000)?)
 }
 
-/// Whether `check` of a table text ends so.
-fn ends(
+/// Whether a command answers so, and writes this.
+pub fn writes(ran: &Ran, status: Status, out: &str) -> bool {
+    ran.status == status && ran.out.bytes() == out.as_bytes() && ran.err.bytes().is_empty()
+}
+
+/// Whether a command is refused so, with nothing on `out`.
+pub fn is_refused(ran: &Ran, status: Status, line: &str) -> bool {
+    ran.status == status && ran.out.bytes().is_empty() && ran.err.bytes() == line.as_bytes()
+}
+
+/// Whether `check` of a table text writes this line.
+fn judges(rt: &HostRuntime, table: &str, status: Status, line: &str) -> Result<bool, Fail> {
+    let ran = run_on(rt, &["check", "T"], table, "")?;
+    Ok(writes(&ran, status, line))
+}
+
+/// Whether `check` of the table of these two senders, with one text in place of another, writes this line.
+fn changed(
     rt: &HostRuntime,
-    text: &[u8],
+    table: &str,
+    from: &str,
+    to: &str,
     status: Status,
-    out: &[u8],
-    err: &[u8],
+    line: &str,
 ) -> Result<bool, Fail> {
-    let ran = run(rt, &["check", "T"], text)?;
-    Ok(ran.status == status && ran.out.bytes() == out && ran.err.bytes() == err)
+    let table = table.replace(rt.alloc(), from, to)?;
+    judges(rt, table.as_str(), status, line)
 }
 
 #[test]
-fn an_accepted_table(rt: HostRuntime) -> Result<(), Fail> {
-    let line = b"ACCEPT aperiodic 1030 1270\n";
-    assert!(rt; ends(&rt, TWO_SENDERS.as_bytes(), Status::Done, line, b"")?);
-    Ok(())
-}
-
-#[test]
-fn a_shortest_cycle_of_just_the_interval(rt: HostRuntime) -> Result<(), Fail> {
-    let text = TWO_SENDERS.replace(rt.alloc(), "TI 1000", "TI 1030")?;
-    let line = b"ACCEPT aperiodic 1030 1270\n";
-    assert!(rt; ends(&rt, text.as_bytes(), Status::Done, line, b"")?);
-    Ok(())
-}
-
-#[test]
-fn a_short_cycle(rt: HostRuntime) -> Result<(), Fail> {
-    let text = TWO_SENDERS.replace(rt.alloc(), "TI 1000", "TI 1031")?;
-    let line = b"REFUSE short-cycle 1030 1031\n";
-    assert!(rt; ends(&rt, text.as_bytes(), Status::Refused, line, b"")?);
-    Ok(())
-}
-
-#[test]
-fn a_table_that_is_wrong_as_a_whole(rt: HostRuntime) -> Result<(), Fail> {
-    let text = TWO_SENDERS.replace(rt.alloc(), "SG 300", "SG 30")?;
-    let line = b"ERROR 3 table GapNotShort 2\n";
-    assert!(rt; ends(&rt, text.as_bytes(), Status::TableRefused, b"", line)?);
-    Ok(())
-}
-
-#[test]
-fn forms_that_are_not_built(rt: HostRuntime) -> Result<(), Fail> {
+fn aperiodic_verdicts(rt: HostRuntime) -> Result<(), Fail> {
+    let accepted = "ACCEPT aperiodic 1030 1270\n";
+    assert!(rt; judges(&rt, TWO_SENDERS, Status::Done, accepted)?);
     assert!(rt;
-        ends(
+        changed(
             &rt,
-            TWO_PERIODIC_SENDERS.as_bytes(),
-            Status::TableRefused,
-            b"",
-            b"ERROR 3 table line 2 NotBuilt\n",
+            TWO_SENDERS,
+            "TI 1000",
+            "TI 1030",
+            Status::Done,
+            accepted
+        )?
+    );
+    let short = "REFUSE short-cycle 1030 1031\n";
+    assert!(rt;
+        changed(
+            &rt,
+            TWO_SENDERS,
+            "TI 1000",
+            "TI 1031",
+            Status::Refused,
+            short
+        )?
+    );
+    let one = "TABLE 1\nMODE aperiodic\nTI 1000\nSG 9\nSENDER 1 TG 8\nSEND 001 0 60 60\n";
+    assert!(rt; judges(&rt, one, Status::Done, "ACCEPT aperiodic 1237 1237\n")?);
+    Ok(())
+}
+
+#[test]
+fn periodic_verdicts(rt: HostRuntime) -> Result<(), Fail> {
+    let table = TWO_PERIODIC_SENDERS;
+    assert!(rt; judges(&rt, table, Status::Done, "ACCEPT periodic 2000 2000\n")?);
+    let small = "REFUSE small-gap 2 29 30\n";
+    assert!(rt; changed(&rt, table, "AT 90", "AT 89", Status::Refused, small)?);
+    let negative = "REFUSE small-gap 2 -60 30\n";
+    assert!(rt; changed(&rt, table, "AT 90", "AT 0", Status::Refused, negative)?);
+    let lost = "REFUSE no-sync 1 319 320\n";
+    assert!(rt; changed(&rt, table, "TI 2000", "TI 1029", Status::Refused, lost)?);
+    let tight = "ACCEPT periodic 1030 1030\n";
+    assert!(rt; changed(&rt, table, "TI 2000", "TI 1030", Status::Done, tight)?);
+    Ok(())
+}
+
+#[test]
+fn periodic_verdicts_of_messages_of_different_lengths(rt: HostRuntime) -> Result<(), Fail> {
+    let table = TWO_PERIODIC_SENDERS.replace(rt.alloc(), "1 30 30", "1 30 40")?;
+    let accepted = "ACCEPT periodic 2000 2000\n";
+    assert!(rt; judges(&rt, table.as_str(), Status::Done, accepted)?);
+    let lost = "REFUSE no-sync 1 319 320\n";
+    assert!(rt;
+        changed(
+            &rt,
+            table.as_str(),
+            "TI 2000",
+            "TI 1229",
+            Status::Refused,
+            lost
+        )?
+    );
+    let tight = "ACCEPT periodic 1230 1230\n";
+    assert!(rt;
+        changed(
+            &rt,
+            table.as_str(),
+            "TI 2000",
+            "TI 1230",
+            Status::Done,
+            tight
+        )?
+    );
+    let small = "REFUSE small-gap 2 10 30\n";
+    assert!(rt;
+        changed(
+            &rt,
+            table.as_str(),
+            "1 2 2",
+            "1 2 3",
+            Status::Refused,
+            small
+        )?
+    );
+    Ok(())
+}
+
+/// Whether `check` refuses the table of two senders, with one text in place of another.
+fn refuses(rt: &HostRuntime, from: &str, to: &str, line: &str) -> Result<bool, Fail> {
+    let table = TWO_SENDERS.replace(rt.alloc(), from, to)?;
+    let ran = run_on(rt, &["check", "T"], table.as_str(), "")?;
+    Ok(is_refused(&ran, Status::TableRefused, line))
+}
+
+#[test]
+fn tables_that_are_refused(rt: HostRuntime) -> Result<(), Fail> {
+    assert!(rt; refuses(&rt, "SG 300", "SG 30", "ERROR 3 table GapNotShort 2\n")?);
+    assert!(rt; refuses(&rt, TWO_SENDERS, "", "ERROR 3 table line 1 Ended\n")?);
+    assert!(rt; refuses(&rt, "TI 1000", "TI 999", "ERROR 3 table line 3 Range\n")?);
+    assert!(rt;
+        refuses(
+            &rt,
+            "TI 1000",
+            "TI 01000",
+            "ERROR 3 table line 3 Spelling\n"
         )?
     );
     assert!(rt;
-        ends(
+        refuses(
             &rt,
-            WITH_RECEIVERS.as_bytes(),
-            Status::TableRefused,
-            b"",
-            b"ERROR 3 table line 9 NotBuilt\n",
+            "SEND 0B2 1",
+            "SEND 0A1 1",
+            "ERROR 3 table PairTwice 0A1 1\n"
         )?
     );
-    Ok(())
-}
-
-#[test]
-fn texts_that_are_no_table_text(rt: HostRuntime) -> Result<(), Fail> {
-    let line = b"ERROR 3 table line 1 Ended\n";
-    assert!(rt; ends(&rt, b"", Status::TableRefused, b"", line)?);
-    let low = TWO_SENDERS.replace(rt.alloc(), "TI 1000", "TI 999")?;
-    let line = b"ERROR 3 table line 3 Range\n";
-    assert!(rt; ends(&rt, low.as_bytes(), Status::TableRefused, b"", line)?);
-    let zero = TWO_SENDERS.replace(rt.alloc(), "TI 1000", "TI 01000")?;
-    let line = b"ERROR 3 table line 3 Spelling\n";
-    assert!(rt; ends(&rt, zero.as_bytes(), Status::TableRefused, b"", line)?);
+    assert!(rt;
+        refuses(
+            &rt,
+            "aperiodic",
+            "periodic",
+            "ERROR 3 table line 5 Fields\n"
+        )?
+    );
     Ok(())
 }
 
 #[test]
 fn a_text_at_its_limit_and_past_it(rt: HostRuntime) -> Result<(), Fail> {
-    let past = vec![in rt.alloc(); b'#'; 1_048_577]?;
-    assert!(rt; ends(&rt, &past, Status::TooLarge, b"", b"ERROR 8 large 1\n")?);
-    let at = vec![in rt.alloc(); b'#'; 1_048_576]?;
-    let line = b"ERROR 3 table line 2 Ended\n";
-    assert!(rt; ends(&rt, &at, Status::TableRefused, b"", line)?);
+    let past = source(&rt, &vec![in rt.alloc(); b'#'; 8_388_609]?)?;
+    let past = run_over(
+        &rt,
+        &["check", "T"],
+        past,
+        source(&rt, b"")?,
+        sink_of(&rt, 200)?,
+    )?;
+    assert!(rt; is_refused(&past, Status::TooLarge, "ERROR 8 large 1\n"));
+    let at = source(&rt, &vec![in rt.alloc(); b'#'; 8_388_608]?)?;
+    let at = run_over(
+        &rt,
+        &["check", "T"],
+        at,
+        source(&rt, b"")?,
+        sink_of(&rt, 200)?,
+    )?;
+    assert!(rt; is_refused(&at, Status::TableRefused, "ERROR 3 table line 2 Ended\n"));
     Ok(())
 }
 
 #[test]
 fn words_that_are_no_form(rt: HostRuntime) -> Result<(), Fail> {
-    let none = run(&rt, &[], b"")?;
-    assert_eq!(rt; none.status, Status::Usage);
-    assert_eq!(rt; none.err.bytes(), b"ERROR 2 usage\n".as_slice());
-    let short = run(&rt, &["check"], b"")?;
-    assert_eq!(rt; short.status, Status::Usage);
-    let long = run(&rt, &["check", "T", "M"], TWO_SENDERS.as_bytes())?;
-    assert_eq!(rt; long.status, Status::Usage);
-    assert_eq!(rt; long.out.bytes(), b"".as_slice());
+    let forms: [&[&str]; 6] = [
+        &[],
+        &["check"],
+        &["check", "T", "M"],
+        &["run", "T"],
+        &["receive", "T", "R", "1"],
+        &["Check", "T"],
+    ];
+    for words in forms {
+        let ran = run_on(&rt, words, TWO_SENDERS, "")?;
+        assert!(rt; is_refused(&ran, Status::Usage, "ERROR 2 usage\n"));
+    }
     Ok(())
 }
 
 #[test]
-fn a_failed_read(rt: HostRuntime) -> Result<(), Fail> {
+fn a_failed_read_and_a_failed_write(rt: HostRuntime) -> Result<(), Fail> {
     let text = TWO_SENDERS.as_bytes().to_vec(rt.alloc())?;
     let first = MemorySource::new(text, 16, [2u64].to_vec(rt.alloc())?);
-    let ran = run_over(&rt, &["check", "T"], first, source(&rt, b"")?, sink(&rt)?)?;
-    assert_eq!(rt; ran.status, Status::ReadFault);
-    assert_eq!(rt; ran.out.bytes(), b"".as_slice());
-    assert_eq!(rt; ran.err.bytes(), b"ERROR 5 read 1\n".as_slice());
-    Ok(())
-}
-
-#[test]
-fn a_failed_write(rt: HostRuntime) -> Result<(), Fail> {
+    let ran = run_over(
+        &rt,
+        &["check", "T"],
+        first,
+        source(&rt, b"")?,
+        sink_of(&rt, 200)?,
+    )?;
+    assert!(rt; is_refused(&ran, Status::ReadFault, "ERROR 5 read 1\n"));
     let first = source(&rt, TWO_SENDERS.as_bytes())?;
     let out = MemorySink::new(rt.alloc(), 200, 10, [1u64].to_vec(rt.alloc())?)?;
     let ran = run_over(&rt, &["check", "T"], first, source(&rt, b"")?, out)?;

@@ -1,7 +1,8 @@
 use Rattle.std.proofs.Common.{take}
 use Rattle.std.specs.List.{AllByRecursion}
-use Rattle.bus_tool.specs.Texts.{IsRanged}
+use Rattle.bus_tool.specs.Texts.{}
+use Rattle.bus_strings.specs.Transmissions.{IsTransmission}
 use Rattle.bus_tool.proofs.observe.look_at.Given as goal
 
 abbrev pub invariant-loop-x : goal.invariant-loop-x
-invariant-loop-x l = AllByRecursion IsRanged (take l.x-index l.list)
+invariant-loop-x l = AllByRecursion IsTransmission (take l.x-index l.list)

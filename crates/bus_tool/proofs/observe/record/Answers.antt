@@ -1,11 +1,12 @@
 use Rattle.std.proofs.Common.{ap, ◌∙◌, subst}
 use Rattle.std.specs.List.{AllByRecursion}
-use Rattle.bus_tool.specs.Texts.{IsRanged, holds_of}
+use Rattle.bus_strings.specs.Transmissions.{IsTransmission}
+use Rattle.bus_tool.specs.Texts.{holds_of}
 use Rattle.bus_tool.proofs.TraceLemmas.{lawful_of, observed_is_trace}
 use Rattle.bus_tool.proofs.observe.record.Goals as goal
 
-pub unwrap-requires : goal.unwrap-requires
-unwrap-requires c = c.new.ensures.some.1 (observed_is_trace c.args.table.now c.args.hands.items c.args.horizon c.in_ok-holds.holds.items c.in_ok-list.list.items c.requires.horizon c.requires.ready.few
+pub of-requires : goal.of-requires
+of-requires c = observed_is_trace c.args.table.now c.args.hands.items c.args.horizon c.in_ok-holds.holds.items c.in_ok-list.list.items c.requires.horizon c.requires.ready.few
     (c.in_ok-holds.ensures ∙ ap holds_of c.deref.ensures.value)
     (lawful_of c.args.table.now c.args.hands.items c.in_ok-bus.bus.quiet _ c.args.horizon c.in_ok-list.list.items c.in_ok-bus.ensures.quiet c.in_ok-bus.ensures.stations c.in_ok-list.ensures.lawful)
-    (subst (AllByRecursion IsRanged) c.deref-2.ensures.value c.look_at.ensures))
+    (subst (AllByRecursion IsTransmission) c.deref-2.ensures.value c.look_at.ensures)

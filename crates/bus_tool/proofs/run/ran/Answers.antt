@@ -1,8 +1,11 @@
-use Rattle.bus_tool.proofs.RunLemmas.{no_inputs, ran_inputs}
+use Rattle.bus_tool.proofs.RunLemmas.{no_inputs, not_ran, ran_inputs}
 use Rattle.bus_tool.proofs.run.ran.Goals as goal
 
-pub returns-in_err-table : goal.returns-in_err-table
-returns-in_err-table g c = no_inputs _ _ c.in_err-table.field-0.0 c.from_residual.result c.from_residual.ensures.1 c.in_err-table.ensures.prepares
+pub returns-in_err-table-clause-prepares : goal.returns-in_err-table-clause-prepares
+returns-in_err-table-clause-prepares g c = no_inputs _ _ c.in_err-table.field-0.0 c.from_residual.result c.from_residual.ensures.1 c.in_err-table.ensures.prepares
 
-pub returns : goal.returns
-returns g c = ran_inputs _ _ c.in_ok-table.field-0.table c.in_ok-table.field-0.hands c.record.result c.in_ok-table.ensures.prepares c.record.ensures.gives c.record.ensures.late
+pub returns-in_err-trace-clause-prepares : goal.returns-in_err-trace-clause-prepares
+returns-in_err-trace-clause-prepares g c = not_ran _ _ c.in_ok-table.field-0.table c.in_ok-table.field-0.hands c.in_err-trace.field-0.0 c.from_residual-in_err-trace.result c.from_residual-in_err-trace.ensures.1 c.in_ok-table.ensures.prepares c.in_err-trace.ensures.gives c.in_err-trace.ensures.late
+
+pub returns-clause-prepares : goal.returns-clause-prepares
+returns-clause-prepares g c = ran_inputs _ _ c.in_ok-table.field-0.table c.in_ok-table.field-0.hands c.in_ok-trace.trace c.in_ok-table.ensures.prepares c.in_ok-trace.ensures.gives

@@ -1,15 +1,17 @@
 ghost use Rattle.bus_tool.specs.Acts.{Acts};
 ghost use Rattle.bus_tool.specs.Forms.{words_of};
-ghost use Rattle.bus_tool.specs.Seen.{sources_seen, sink_seen};
+ghost use Rattle.bus_tool.specs.Outside.{called, outside};
 
 use crate::check::check;
 use crate::forms::{Form, form_of};
 use crate::observe::observe;
 use crate::outcome::Outcome;
+use crate::receive::receive;
 use crate::run::run;
 use bus_outer::{Sink, Source};
 use bus_strings::laws::texts_read_as_their_items;
 use bus_table::laws::readings_have_their_cause;
+use bus_trace::laws::traces_read_back;
 use std::alloc::Global;
 
 /// Does the command that the words ask for, and says what it came to. All its memory is taken before its first written byte.
@@ -23,14 +25,17 @@ pub fn act<S: Source, K: Sink>(
     second: &mut S,
     out: &mut K,
 ) -> Outcome
-    ensures { Acts (words_of words.now) (sources_seen ⟦<S as Source>⟧ first.old second.old) (sources_seen ⟦<S as Source>⟧ first.new second.new) (sink_seen ⟦<K as Sink>⟧ out.old) (sink_seen ⟦<K as Sink>⟧ out.new) result }
+    ensures { Acts (called (words_of words.now) (outside ⟦<S as Source>⟧ ⟦<K as Sink>⟧ first.old second.old out.old)
+        (outside ⟦<S as Source>⟧ ⟦<K as Sink>⟧ first.new second.new out.new)) result }
 {
     readings_have_their_cause();
     texts_read_as_their_items();
+    traces_read_back();
     match form_of(words) {
         None => Outcome::Usage,
         Some(Form::Check) => check(alloc, first, out),
         Some(Form::Observe { horizon }) => observe(alloc, horizon, first, second, out),
         Some(Form::Run) => run(alloc, first, second, out),
+        Some(Form::Receive) => receive(alloc, first, second, out),
     }
 }

@@ -1,10 +1,11 @@
 use Rattle.bus_tool.proofs.CheckClaim.{check_claim}
 use Rattle.bus_tool.proofs.ObserveClaim.{ObserveLaws, observe_claim}
+use Rattle.bus_tool.proofs.ReceiveClaim.{TracedLaws, receive_claim}
 use Rattle.bus_tool.proofs.RunClaim.{RunLaws, run_claim}
-use Rattle.bus_tool.proofs.tool.tool.Goals as goal
+use Rattle.bus_tool.proofs.top.tool.Goals as goal
 
 pub returns-clause-check : goal.returns-clause-check
-returns-clause-check g c = λ table h. rw c.status.ensures (check_claim c.text_reads_as_its_table.ensures _ _ _ _ _ c.act-outcome.result table c.act-outcome.ensures h)
+returns-clause-check g c = λ table h. rw c.status.ensures (check_claim c.text_reads_as_its_table.ensures _ c.act-outcome.result table c.act-outcome.ensures h)
 
 pub returns-clause-observe : goal.returns-clause-observe
 returns-clause-observe g c =
@@ -14,7 +15,7 @@ returns-clause-observe g c =
       give_hands = c.fitting_items_give_hands.ensures;
       one_list = c.one_lawful_list.ensures.table;
     } in
-    λ table items horizon h. rw c.status.ensures (observe_claim laws _ _ _ _ _ c.act-outcome.result table items horizon c.act-outcome.ensures h)
+    λ table items horizon h. rw c.status.ensures (observe_claim laws _ c.act-outcome.result table items horizon c.act-outcome.ensures h)
 
 pub returns-clause-run : goal.returns-clause-run
 returns-clause-run g c =
@@ -24,4 +25,9 @@ returns-clause-run g c =
       give_hands = c.fitting_items_give_hands.ensures;
       even_agree = c.even_hands_agree.ensures;
     } in
-    λ table items h. rw c.status.ensures (run_claim laws _ _ _ _ _ c.act-outcome.result table items c.act-outcome.ensures h)
+    λ table items h. rw c.status.ensures (run_claim laws _ c.act-outcome.result table items c.act-outcome.ensures h)
+
+pub returns-clause-receive : goal.returns-clause-receive
+returns-clause-receive g c =
+    let laws : TracedLaws = record { table_again = c.text_reads_as_its_table.ensures; trace_back = c.traces_read_back.ensures.back } in
+    λ table trace h. rw c.status.ensures (receive_claim laws _ c.act-outcome.result table trace c.act-outcome.ensures h)

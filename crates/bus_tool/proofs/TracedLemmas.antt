@@ -1,0 +1,116 @@
+-- What is made of a table text and a trace text.
+use Rattle.std.specs.Prelude.{◌≡◌, ℕ, ◌≤◌, nat_lt, Bool, true, false, List, length, take, Option, Some, None, IfSome, Result, Ok, Err, IsErrAnd}
+use Rattle.std.proofs.Common.{arith, refl, sym, ap, ◌∙◌, subst, cond, inl, inr}
+use Rattle.std.proofs.lemmas.Bool.Decides.{nat_tests}
+use Rattle.std.proofs.lemmas.Result.{err_from_is_err_and}
+use Rattle.bus_text.specs.AllOf.{◌>>=◌}
+use Rattle.bus_table.specs.Tables.{Table}
+use Rattle.bus_trace.specs.declared.fault.TraceError.{TraceError}
+use Rattle.bus_trace.specs.declared.fault.TraceError.TheVariants.{Text, ReadFault, TooLarge, Memory}
+use Rattle.bus_trace.specs.Traces.{Recording}
+use Rattle.bus_trace.specs.Limits.{text_limit as trace_limit}
+use Rattle.bus_trace.specs.Runs.{Standing, Progress, Going, Found, Refused, Over, begin, run, due_by, due, reading}
+use Rattle.bus_trace.specs.Reading.{TakesTrace, ReadGives, CountsReading}
+use Rattle.bus_tool.specs.declared.inputs.Traced.{Traced as Taken}
+use Rattle.bus_tool.specs.declared.outcome.Outcome.{Outcome}
+use Rattle.bus_tool.specs.Kinds.{kind_of}
+use Rattle.bus_tool.specs.Stages.{stage_in, Gives}
+use Rattle.bus_tool.specs.Outside.{Seen, both}
+use Rattle.bus_tool.specs.Readers.{Trace, entire, two_sources}
+use Rattle.bus_tool.specs.Steps.{Takes, Same, Prepares}
+use Rattle.bus_tool.specs.Due.{table_due, table_refusal_of, trace_refusal, trace_or_refusal, trace_due, Traced, with_trace, traced_due}
+use Rattle.bus_tool.specs.Taken.{AreTraced}
+use Rattle.bus_tool.proofs.StageLemmas.{if_map, then_stage, stop_early, stop_low, gives_on}
+use Rattle.bus_tool.proofs.TakeLemmas.{takes_then}
+use Rattle.bus_tool.proofs.PrepareLemmas.{prepares_none, prepares_both}
+
+reading_stage : (r : Result Recording TraceError) → 2 ≤ stage_in (trace_or_refusal r)
+reading_stage (Ok trace) = omega arith
+reading_stage (Err (Text byte reason)) = omega arith
+reading_stage (Err ReadFault) = omega arith
+reading_stage (Err TooLarge) = omega arith
+reading_stage (Err Memory) = omega arith
+
+-- a stream that goes on is within the limit
+going_within : (longer : Bool) (p : Progress) (at : Standing) → due_by longer p ≡ Going at → longer ≡ false
+going_within false p at h = refl
+going_within true (Going r) at h = absurd cc
+going_within true (Found s) at h = absurd cc
+going_within true (Refused byte reason) at h = absurd cc
+going_within true Over at h = absurd cc
+
+short_stream : (stream : List ℕ) (at : Standing) → due trace_limit stream ≡ Going at → length stream ≤ trace_limit
+unfolding due
+short_stream stream at h = (let short = going_within (nat_lt trace_limit (length stream)) (run begin (take trace_limit stream)) at h in grind (arith, nat_tests))
+
+-- ---- the second text
+pub trace_taken : (old new : Seen) (trace : Recording) → TakesTrace old.bytes new.bytes (Ok trace) → IfSome old.bytes (λ stream. ReadGives (Ok trace) (reading trace_limit stream)) → new.faults ≡ old.faults
+    → Takes Same 2 Trace trace_due old new (Ok trace)
+trace_taken old new trace t g counts = record {
+  gives = if_map old.bytes _ _ (λ stream is. (trace, ap trace_or_refusal is, refl)) g;
+  reads = inl (trace, t);
+  stops = tt;
+  counts = counts;
+}
+
+trace_refused : (old new : Seen) (e : TraceError) → TakesTrace old.bytes new.bytes (Err e) → IfSome old.bytes (λ stream. ReadGives (Err e) (reading trace_limit stream)) → CountsReading old.faults new.faults (Err e)
+    → Takes {X = Recording} Same 2 Trace trace_due old new (Err (trace_refusal e))
+trace_refused old new (Text byte reason) t g counts = record {
+  gives = if_map old.bytes _ _ (λ stream is. ap trace_or_refusal is) g;
+  reads = inr (byte, reason, t);
+  stops = refl;
+  counts = counts;
+}
+trace_refused old new ReadFault t g counts = record {
+  gives = if_map old.bytes _ _ (λ stream is. reading_stage (reading trace_limit stream)) g;
+  reads = (t.bytes, t.came, short_stream t.bytes t.known.0 t.known.1);
+  stops = refl;
+  counts = counts;
+}
+trace_refused old new TooLarge t g counts = record {
+  gives = if_map old.bytes _ _ (λ stream is. ap trace_or_refusal is) g;
+  reads = t;
+  stops = refl;
+  counts = counts;
+}
+trace_refused old new Memory t g counts = record {
+  gives = if_map old.bytes _ _ (λ stream is. let s = reading_stage (reading trace_limit stream) in omega arith) g;
+  reads = (t.bytes, t.came, t.known);
+  stops = tt;
+  counts = counts;
+}
+
+pub trace_fails : (old new : Seen) (e : TraceError) (r : Result Recording Outcome) → TakesTrace old.bytes new.bytes (Err e) → IfSome old.bytes (λ stream. ReadGives (Err e) (reading trace_limit stream)) → CountsReading old.faults new.faults (Err e)
+    → IsErrAnd r (λ o. o ≡ trace_refusal e) → Takes Same 2 Trace trace_due old new r
+trace_fails old new e r t g counts h =
+    let came = err_from_is_err_and r h in
+    subst (Takes Same 2 Trace trace_due old new) (sym (came.1 ∙ ap Err came.2)) (trace_refused old new e t g counts)
+
+-- ---- both texts
+abbrev made : Table → List ℕ → Result Traced Outcome
+made table text = trace_due text >>= λ trace. Ok (with_trace table trace)
+
+made_stage : (table : Table) (text : List ℕ) → 2 ≤ stage_in (made table text)
+made_stage table text = then_stage 2 (trace_due text) (λ trace. Ok (with_trace table trace)) (reading_stage (reading trace_limit text)) (λ trace. omega arith)
+
+pub no_table : (old new second : Seen) (o : Outcome) (r : Result Taken Outcome) → IsErrAnd r (λ came. came ≡ o) → Takes {X = Table} Same 1 entire table_due old new (Err o)
+    → Prepares AreTraced (two_sources entire Trace) table_refusal_of traced_due (both old second) (both new second) r
+no_table old new second o r h t =
+    let came = err_from_is_err_and r h in
+    subst (Prepares AreTraced (two_sources entire Trace) table_refusal_of traced_due (both old second) (both new second)) (sym (came.1 ∙ ap Err came.2))
+    (prepares_none Same AreTraced entire Trace table_due made old new second o made_stage t)
+
+pub all_traced : (old new old' new' : Seen) (table : Table) (trace : Recording) → Takes Same 1 entire table_due old new (Ok table) → Takes Same 2 Trace trace_due old' new' (Ok trace)
+    → Prepares AreTraced (two_sources entire Trace) table_refusal_of traced_due (both old old') (both new new') (Ok (record { table = table; trace = trace }))
+all_traced old new old' new' table trace t u =
+    let taken : Taken = record { table = table; trace = trace } in
+    prepares_both Same AreTraced entire Trace table_due made old new old' new' table table (Ok taken) (λ z is. sym is) t
+    (takes_then Same AreTraced 2 Trace trace_due (λ trace. Ok (with_trace table trace)) old' new' trace (Ok taken) u (λ read same. (with_trace table read, refl, record { table = refl; trace = same })) tt)
+
+pub no_trace : (old new old' new' : Seen) (table : Table) (o : Outcome) (r : Result Taken Outcome) → IsErrAnd r (λ came. came ≡ o) → Takes Same 1 entire table_due old new (Ok table) → Takes {X = Recording} Same 2 Trace trace_due old' new' (Err o)
+    → Prepares AreTraced (two_sources entire Trace) table_refusal_of traced_due (both old old') (both new new') r
+no_trace old new old' new' table o r h t u =
+    let came = err_from_is_err_and r h in
+    subst (Prepares AreTraced (two_sources entire Trace) table_refusal_of traced_due (both old old') (both new new')) (sym (came.1 ∙ ap Err came.2))
+    (prepares_both Same AreTraced entire Trace table_due made old new old' new' table table (Err o) (λ z is. sym is) t
+    (record { gives = if_map old'.bytes _ _ (λ text g. gives_on (kind_of o) o (trace_due text) (with_trace table) (stop_early 2 (kind_of o) u.stops) (stop_low 2 (kind_of o) (omega arith) u.stops) g) u.gives; reads = u.reads; stops = u.stops; counts = u.counts }))

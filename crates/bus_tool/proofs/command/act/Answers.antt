@@ -1,0 +1,41 @@
+use Rattle.std.proofs.Common.{ap, sym, ◌∙◌}
+use Rattle.std.specs.Prelude.{Some}
+use Rattle.bus_tool.specs.declared.forms.Form.TheVariants.{Check, Observe, Run, Receive}
+use Rattle.bus_tool.proofs.ActLemmas.{acts_form}
+use Rattle.bus_tool.proofs.command.act.Goals as goal
+
+pub returns-in-Some-Check : goal.returns-in-Some-Check
+returns-in-Some-Check g c = acts_form (record {
+  reads_table = c.readings_have_their_cause.ensures.found;
+  refuses_table = c.readings_have_their_cause.ensures.refused;
+  items_again = c.texts_read_as_their_items.ensures.again;
+  reads_items = c.texts_read_as_their_items.ensures.found;
+  trace_back = c.traces_read_back.ensures.back;
+}) _ c.check.result Check (ap Some (sym c.in-Some-Check.field-0-is) ∙ c.in-Some-Check.ensures.form) (c.check.ensures _)
+
+pub returns-in-Some-Observe : goal.returns-in-Some-Observe
+returns-in-Some-Observe g c = acts_form (record {
+  reads_table = c.readings_have_their_cause.ensures.found;
+  refuses_table = c.readings_have_their_cause.ensures.refused;
+  items_again = c.texts_read_as_their_items.ensures.again;
+  reads_items = c.texts_read_as_their_items.ensures.found;
+  trace_back = c.traces_read_back.ensures.back;
+}) _ c.observe.result (Observe c.in-Some-Observe.horizon) (ap Some (sym c.in-Some-Observe.field-0-is) ∙ c.in-Some-Observe.ensures.form) c.observe.ensures
+
+pub returns-in-Some-Run : goal.returns-in-Some-Run
+returns-in-Some-Run g c = acts_form (record {
+  reads_table = c.readings_have_their_cause.ensures.found;
+  refuses_table = c.readings_have_their_cause.ensures.refused;
+  items_again = c.texts_read_as_their_items.ensures.again;
+  reads_items = c.texts_read_as_their_items.ensures.found;
+  trace_back = c.traces_read_back.ensures.back;
+}) _ c.run.result Run (ap Some (sym c.in-Some-Run.field-0-is) ∙ c.in-Some-Run.ensures.form) c.run.ensures
+
+pub returns-in-Some-Receive : goal.returns-in-Some-Receive
+returns-in-Some-Receive g c = acts_form (record {
+  reads_table = c.readings_have_their_cause.ensures.found;
+  refuses_table = c.readings_have_their_cause.ensures.refused;
+  items_again = c.texts_read_as_their_items.ensures.again;
+  reads_items = c.texts_read_as_their_items.ensures.found;
+  trace_back = c.traces_read_back.ensures.back;
+}) _ c.receive.result Receive (ap Some (sym c.in-Some-Receive.field-0-is) ∙ c.in-Some-Receive.ensures.form) c.receive.ensures

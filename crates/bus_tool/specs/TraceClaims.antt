@@ -1,0 +1,34 @@
+-- What is claimed of the commands that read a trace, in the words of their texts.
+use Rattle.std.specs.Prelude.{◌≡◌, ℕ, List, [], ◌∷◌, codes, Some}
+use Rattle.bus_table.specs.Tables.{Table}
+use Rattle.bus_trace.specs.Traces.{Recording, HoldsTrace}
+use Rattle.bus_trace.specs.Limits.{text_limit as trace_limit}
+use Rattle.bus_filter.specs.ReceivedTexts.{received_text}
+use Rattle.bus_tool.specs.declared.status.Status.{Status}
+use Rattle.bus_tool.specs.declared.status.Status.TheVariants.{Done}
+use Rattle.bus_tool.specs.Outside.{Seen, Call}
+use Rattle.bus_tool.specs.Readers.{Trace, entire, two_sources}
+use Rattle.bus_tool.specs.Claims.{NothingFails, TellsTable, Answers}
+
+-- a source tells its bytes, and at their front stands the text of a trace, within its limit, whatever follows it
+pub record TellsTrace (trace : Recording) (seen : Seen) : Type 0 where
+  pub stream : List ℕ
+  pub told : seen.bytes ≡ Some stream
+  pub stands : HoldsTrace trace_limit stream trace
+
+-- the words are `receive` and two more
+pub record IsReceiveForm (words : List (List ℕ)) : Type 0 where
+  pub first : List ℕ
+  pub second : List ℕ
+  pub form : words ≡ codes "receive" ∷ first ∷ second ∷ []
+
+-- a call of `receive T R` on texts of a valid table and of a trace, in which nothing outside fails
+pub record IsReceiveOf (table : Table) (trace : Recording) (call : Call) : Type 0 where
+  pub form : IsReceiveForm call.words
+  pub table_told : TellsTable table call.before.sources.first
+  pub trace_told : TellsTrace trace call.before.sources.second
+  pub undisturbed : NothingFails (two_sources entire Trace) call.before call.after
+
+-- what each terminal of the table receives of the trace is written, and the status is Done
+abbrev pub GivesReceived : Table → Recording → Call → Status → Type 0
+GivesReceived table trace call status = Answers Done (λ text. text ≡ received_text table trace.list) call status

@@ -1,0 +1,70 @@
+ghost use Rattle.std.specs.Prelude.{◌≡◌, ℕ, List};
+ghost use Rattle.bus_strings.specs.Items.{Item};
+ghost use Rattle.bus_table.specs.Tables.{Table};
+ghost use Rattle.bus_tool.specs.Acts.{Acts, TellsFault};
+ghost use Rattle.bus_tool.specs.Claims.{IsCheckOf, GivesVerdict, IsObserveOf, GivesTrace};
+ghost use Rattle.bus_tool.specs.Forms.{words_of};
+ghost use Rattle.bus_tool.specs.Outcomes.{status_of};
+ghost use Rattle.bus_tool.specs.RunClaims.{IsRunOf, GivesRun};
+ghost use Rattle.bus_tool.specs.Outside.{called, outside};
+ghost use Rattle.bus_tool.specs.TraceClaims.{IsReceiveOf, GivesReceived};
+ghost use Rattle.bus_trace.specs.Traces.{Recording};
+ghost use Rattle.bus_tool.specs.declared.outcome.Outcome.{Outcome as Came};
+
+use crate::command::act;
+use crate::fault_line::outcome_text;
+use crate::status::Status;
+use bus_medium::laws::one_lawful_list;
+use bus_outer::{Sink, Source};
+use bus_schedule::laws::even_hands_agree;
+use bus_strings::laws::texts_read_as_their_items;
+use bus_table::laws::{fitting_items_give_hands, text_reads_as_its_table};
+use bus_trace::laws::traces_read_back;
+use std::alloc::Global;
+
+/// The top call: does the command that the words ask for, writes a line on `err` where there is no answer, and says how the program
+/// ends. A failure on `err` changes no status.
+pub fn tool<S: Source, K: Sink, E: Sink>(
+    alloc: Global,
+    words: &[String],
+    first: &mut S,
+    second: &mut S,
+    out: &mut K,
+    err: &mut E,
+) -> Status
+    // `check T` of a valid table's text, where nothing outside fails: its verdict line and status, or want of memory.
+    ensures check { let call = called (words_of words.now) (outside ⟦<S as Source>⟧ ⟦<K as Sink>⟧ first.old second.old out.old)
+        (outside ⟦<S as Source>⟧ ⟦<K as Sink>⟧ first.new second.new out.new) in
+        (table : Table) → IsCheckOf table call → GivesVerdict table call result }
+
+    // `observe T M N` of texts of a valid table and of items that fit, where nothing outside fails: the one trace, or want of memory.
+    ensures observe { let call = called (words_of words.now) (outside ⟦<S as Source>⟧ ⟦<K as Sink>⟧ first.old second.old out.old)
+        (outside ⟦<S as Source>⟧ ⟦<K as Sink>⟧ first.new second.new out.new) in
+        (table : Table) (items : List Item) (horizon : ℕ) → IsObserveOf table items horizon call → GivesTrace table items horizon call result }
+
+    // `run T M` of texts of a valid table that is accepted and of items that fit, as many for each sender, where nothing outside fails: the
+    // one trace, which is the closed schedule, or want of memory.
+    ensures run { let call = called (words_of words.now) (outside ⟦<S as Source>⟧ ⟦<K as Sink>⟧ first.old second.old out.old)
+        (outside ⟦<S as Source>⟧ ⟦<K as Sink>⟧ first.new second.new out.new) in
+        (table : Table) (items : List Item) → IsRunOf table items call → GivesRun table items call result }
+
+    // `receive T R` of texts of a valid table and of a trace, where nothing outside fails: what each terminal receives, or want of memory.
+    ensures receive { let call = called (words_of words.now) (outside ⟦<S as Source>⟧ ⟦<K as Sink>⟧ first.old second.old out.old)
+        (outside ⟦<S as Source>⟧ ⟦<K as Sink>⟧ first.new second.new out.new) in
+        (table : Table) (trace : Recording) → IsReceiveOf table trace call → GivesReceived table trace call result }
+
+    // Of any words and bytes: the outcome that is due or a fault in its place, what was taken and written, what `err` holds, and the status.
+    ensures acts { let call = called (words_of words.now) (outside ⟦<S as Source>⟧ ⟦<K as Sink>⟧ first.old second.old out.old)
+        (outside ⟦<S as Source>⟧ ⟦<K as Sink>⟧ first.new second.new out.new) in
+        (outcome : Came) × Acts call outcome × TellsFault E.held E.faults err.old err.new outcome × (result ≡ status_of outcome) }
+{
+    text_reads_as_its_table();
+    texts_read_as_their_items();
+    fitting_items_give_hands();
+    one_lawful_list();
+    traces_read_back();
+    even_hands_agree();
+    let outcome = act(alloc, words, first, second, out);
+    let _ = outcome_text(&outcome, err);
+    outcome.status()
+}

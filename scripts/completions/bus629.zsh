@@ -1,0 +1,16 @@
+#compdef bus629
+# Completion of bus629 for zsh.
+_bus629() {
+  local -a commands
+  commands=(
+    'check:judge a table'
+    'run:run the senders of an accepted table, and write the trace'
+    'observe:look at the senders of any table up to a moment'
+  )
+  if (( CURRENT == 2 )); then
+    _describe command commands
+  elif (( CURRENT == 3 )) || { (( CURRENT == 4 )) && [[ $words[2] != check ]] }; then
+    _files
+  fi
+}
+_bus629 "$@"
