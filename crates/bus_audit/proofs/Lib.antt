@@ -1,0 +1,11 @@
+pub mod Lists
+pub mod Entries
+pub mod Pairs
+pub mod Telling
+pub mod Silence
+pub mod Standing
+pub mod Going
+pub mod Watching
+pub mod Meanings
+pub mod Once
+pub mod Computed

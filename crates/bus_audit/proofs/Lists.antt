@@ -1,0 +1,63 @@
+-- Elements of lists, by place and by test.
+use Rattle.std.proofs.Common.{◌≡◌, ◌≢◌, ℕ, zero, suc, ◌<◌, ◌⊎◌, Bool, true, false, cond, ◌||◌, List, [], ◌∷◌, length, set, Option, Some, None, inl, inr, arith, sym, refl, ap, ◌∙◌, subst}
+use Rattle.std.specs.Prelude.{slice_get}
+use Rattle.std.specs.List.{filter, list_any, find}
+use Rattle.std.proofs.lemmas.Bool.{true≢false}
+use Rattle.bus_strings.specs.Members.{In}
+
+pub same_some : {X : Type 0} (x y : X) → Some x ≡ Some y → x ≡ y
+same_some x y h = cc
+
+pub get_within : {X : Type 0} → (xs : List X) (j : ℕ) → j < length xs → (x : X) × (slice_get xs j ≡ Some x)
+get_within [] j h = absurd (omega arith)
+get_within (x ∷ xs) zero h = (x, refl)
+get_within (x ∷ xs) (suc j) h = get_within xs j (omega arith)
+
+pub get_set_same : {X : Type 0} → (xs : List X) (i : ℕ) (y : X) → i < length xs → slice_get (set xs i y) i ≡ Some y
+get_set_same [] i y h = absurd (omega arith)
+get_set_same (x ∷ xs) zero y h = refl
+get_set_same (x ∷ xs) (suc i) y h = get_set_same xs i y (omega arith)
+
+pub get_set_other : {X : Type 0} → (xs : List X) (i j : ℕ) (y : X) → i ≢ j → slice_get (set xs i y) j ≡ slice_get xs j
+get_set_other [] i j y h = refl
+get_set_other (x ∷ xs) zero zero y h = absurd (h refl)
+get_set_other (x ∷ xs) zero (suc j) y h = refl
+get_set_other (x ∷ xs) (suc i) zero y h = refl
+get_set_other (x ∷ xs) (suc i) (suc j) y h = get_set_other xs i j y (λ e. h (ap suc e))
+
+pub filter_none : {X : Type 0} (p : X → Bool) → (xs : List X) → ((x : X) → In x xs → p x ≡ false) → filter p xs ≡ []
+filter_none p [] h = refl
+filter_none p (y ∷ ys) h = ap (λ b. cond b (y ∷ filter p ys) (filter p ys)) (h y (inl refl)) ∙ filter_none p ys (λ x k. h x (inr k))
+
+-- what a test finds
+pub find_none : {X : Type 0} (p : X → Bool) → (xs : List X) → ((x : X) → In x xs → p x ≡ false) → find p xs ≡ None
+find_none p [] h = refl
+find_none p (y ∷ ys) h = ap (λ b. cond b (Some y) (find p ys)) (h y (inl refl)) ∙ find_none p ys (λ x k. h x (inr k))
+
+pub find_one : {X : Type 0} (p : X → Bool) → (xs : List X) (x : X) → In x xs → p x ≡ true → ((y : X) → In y xs → p y ≡ true → y ≡ x) → find p xs ≡ Some x
+find_one p [] x h e one = absurd h
+find_one p (y ∷ ys) x h e one =
+    elim (p y) as (λ b. p y ≡ b → cond b (Some y) (find p ys) ≡ Some x) [
+      | true ↦ λ t. ap Some (one y (inl refl) t)
+      | false ↦ λ f. elim h [
+        | inl same ↦ absurd (true≢false (sym e ∙ ap p same ∙ f))
+        | inr there ↦ find_one p ys x there e (λ z k. one z (inr k))
+      ]
+    ] refl
+
+pub record Found {X : Type 0} (p : X → Bool) (xs : List X) (x : X) : Type 0 where
+  pub there : In x xs
+  pub passes : p x ≡ true
+
+pub from_find : {X : Type 0} (p : X → Bool) → (xs : List X) (x : X) → find p xs ≡ Some x → Found p xs x
+from_find p [] x h = absurd (let k : None ≡ Some x = h in cc)
+from_find p (y ∷ ys) x h =
+    elim (p y) as (λ b. p y ≡ b → cond b (Some y) (find p ys) ≡ Some x → Found p (y ∷ ys) x) [
+      | true ↦ λ t k. let same : y ≡ x = same_some y x k in record { there = inl (sym same); passes = ap p (sym same) ∙ t }
+      | false ↦ λ f k. let so = from_find p ys x k in record { there = inr so.there; passes = so.passes }
+    ] refl h
+
+-- an option is nothing or something
+pub cases_option : {X : Type 0} (o : Option X) → (o ≡ None) ⊎ ((x : X) × (o ≡ Some x))
+cases_option None = inl refl
+cases_option (Some x) = inr (x, refl)

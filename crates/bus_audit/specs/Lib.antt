@@ -1,0 +1,4 @@
+pub mod Breaches
+pub mod Watches
+pub mod Standing
+pub mod Meaning
