@@ -1,3 +1,6 @@
 mod Folds
 mod PutLemmas
 mod MarkLemmas
+mod HearingLemmas
+mod TakerLemmas
+mod CountLemmas

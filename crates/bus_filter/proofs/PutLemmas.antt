@@ -1,5 +1,5 @@
 -- What is put is the received text.
-use Rattle.std.proofs.Common.{◌≡◌, ℕ, Bool, cond, List, [], ◌∷◌, ◌++◌, codes, map, take, refl, ap, sym, ◌∙◌, append_assoc, append-nil}
+use Rattle.std.proofs.Common.{◌≡◌, ℕ, Bool, cond, List, [], ◌∷◌, ◌++◌, codes, map, ap, sym, ◌∙◌, append_assoc}
 use Rattle.std.specs.Fmt.{decimal}
 use Rattle.std.specs.List.{filter, flat_map, zip}
 use Rattle.std.proofs.lemmas.List.Concat.{flat_map-append}
@@ -8,9 +8,9 @@ use Rattle.bus_strings.specs.Messages.{Wordstring, Entry}
 use Rattle.bus_strings.specs.Transmissions.{marks}
 use Rattle.bus_table.specs.declared.line.TakeLine.{TakeLine}
 use Rattle.bus_table.specs.Tables.{Sender, Listener, Table}
-use Rattle.bus_filter.specs.Received.{Taker, ReceivedLine, matches, selection, received_line, string_lines, entry_lines, is_heard, received_by, sender_taker, listener_taker, takers}
+use Rattle.bus_filter.specs.Received.{Taker, matches, selection, received_line, string_lines, entry_lines, is_heard, received_by, sender_taker, listener_taker}
 use Rattle.bus_filter.specs.ReceivedTexts.{word_text, line_text, taker_text, received_text}
-use Rattle.bus_filter.specs.Putting.{take_put, string_put, entry_put, marked_put, sender_put, listener_put}
+use Rattle.bus_filter.specs.Putting.{string_put, entry_put, marked_put, sender_put, listener_put}
 use Rattle.bus_filter.proofs.Folds.{flat_map-same, flat_map-map, flat_map-flat_map, flat_map-passing}
 
 -- an RX line by its parts

@@ -1,5 +1,5 @@
 -- What follows of the definitions of received words. `laws` says that each of these holds.
-use Rattle.std.specs.Prelude.{◌≡◌, ◌<◌, ℕ, IsTrue, List, [], if◌then◌else◌}
+use Rattle.std.specs.Prelude.{◌≡◌, ◌<◌, IsTrue, List, [], if◌then◌else◌}
 use Rattle.std.specs.List.{Contains}
 use Rattle.bus_strings.specs.Messages.{Wordstring, Entry}
 use Rattle.bus_table.specs.declared.line.TakeLine.{TakeLine}

@@ -12,9 +12,14 @@
 //! (a receiver, word by word), and `FilterLaws`.
 #![tactic(auto)]
 
+mod counting;
+pub mod laws;
 mod matching;
 pub mod receiver;
+#[cfg(test)]
+mod tests;
 mod writing;
 
+pub use counting::count_received;
 pub use receiver::{Heard, Receiver};
 pub use writing::write_received;

@@ -1,4 +1,4 @@
-use Rattle.std.proofs.Common.{List, ℕ, Bool, ap, sym, subst, take}
+use Rattle.std.proofs.Common.{List, ℕ, Bool, subst, take}
 use Rattle.std.specs.List.{flat_map, zip}
 use Rattle.bus_outer.specs.Texts.{Adds}
 use Rattle.bus_outer.specs.TextLaws.{◌▸◌, adds_nothing}
