@@ -21,6 +21,8 @@ mod entry;
 mod finding;
 pub mod laws;
 mod settle;
+#[cfg(test)]
+mod tests;
 mod walk;
 mod watch;
 
