@@ -5,6 +5,7 @@
 use Rattle.std.specs.Prelude.{◌≡◌, ℕ, ◌+◌, ◌-◌, ◌*◌, ◌^◌, ◌<◌, ◌≤◌, max, nat_le, List, slice_get, Some, if◌then◌else◌}
 use Rattle.bus_table.specs.Tables.{Sender, Table}
 use Rattle.bus_timers.specs.Timings.{IsSound}
+use Rattle.bus_strings.specs.Limits.{most_terminal}
 use Rattle.bus_trace.specs.declared.hold.Hold.{Hold}
 use Rattle.bus_medium.specs.Timings.{quiet_of, due_for, timing_of}
 use Rattle.bus_audit.specs.Breaches.{held}
@@ -26,7 +27,7 @@ pair t n = 256 * t + n
 abbrev pub turn : ℕ → ℕ → Watch → ℕ
 turn quiet c watch = pair (ready_moment quiet c watch) watch.number
 
--- at the settled start
+-- the watch of a sender at the settled start
 abbrev pub settled : Table → List Hold → Sender → Watch
 settled table holds sender = record {
   number = sender.number;
@@ -36,18 +37,18 @@ settled table holds sender = record {
   left = held holds sender.number;
 }
 
--- when the sender begins a message at this place
+-- the watch when its sender begins a message at this place
 abbrev pub begun : ℕ → Watch → Watch
 begun place watch = record watch { due = place + watch.timing.ti; gap = place + watch.timing.sg; left = watch.left - 1 }
 
--- when the bus was busy from one place to another
+-- the watch when the bus was busy from one place to another
 abbrev pub passed : ℕ → ℕ → Watch → Watch
 passed from to watch = record watch { gap = if nat_le watch.gap from then to else to + watch.timing.sg }
 
 -- its numbers are far below the end of their type
 pub record IsLow (watch : Watch) : Type 0 where
   pub sound : IsSound watch.timing
-  pub number : watch.number ≤ 128
+  pub number : watch.number ≤ most_terminal
   pub due : watch.due < 2 ^ 42
   pub gap : watch.gap < 2 ^ 42
 
