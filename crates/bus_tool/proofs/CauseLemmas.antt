@@ -8,7 +8,7 @@ use Rattle.bus_regime.specs.Verdicts.{verdict_of}
 use Rattle.bus_schedule.specs.Closed.{closed_end}
 use Rattle.bus_trace.specs.TraceLaws.{ReadsBack}
 use Rattle.bus_tool.specs.declared.forms.Form.{Form}
-use Rattle.bus_tool.specs.declared.forms.Form.TheVariants.{Check, Observe, Run, Receive}
+use Rattle.bus_tool.specs.declared.forms.Form.TheVariants.{Check, Observe, Run, Receive, Audit}
 use Rattle.bus_tool.specs.declared.outcome.Outcome.{Outcome}
 use Rattle.bus_tool.specs.declared.outcome.Outcome.TheVariants.{Done, Answered, Refused, TableText, TableWhole, MessagesText, Unfit, Uneven, TraceText, ReadFault, WriteFault, NoMemory, TooLarge, TooLong}
 use Rattle.bus_tool.specs.Forms.{sources_of}
@@ -16,11 +16,12 @@ use Rattle.bus_tool.specs.Kinds.{Answer, kind_of, is_answer}
 use Rattle.bus_tool.specs.Stages.{StandsFor}
 use Rattle.bus_tool.specs.Outside.{Outside}
 use Rattle.bus_tool.specs.Readers.{told, OfTexts}
-use Rattle.bus_tool.specs.Due.{table_due, items_due, Inputs, hands_in, inputs_due, trace_due, traced_due, run_due, verdict_outcome, outcome_with, form_due}
+use Rattle.bus_tool.specs.Due.{table_due, items_due, Inputs, hands_in, inputs_due, trace_due, traced_due, run_due, verdict_outcome, audit_outcome, audit_of, outcome_with, form_due}
 use Rattle.bus_tool.specs.Acts.{DoesForm}
 use Rattle.bus_tool.specs.Causes.{AreTextsWith, DifferAs, IsRefusal, IsLongEnd, RefusesTexts}
 use Rattle.bus_tool.proofs.LawTypes.{ReadsATable, RefusesATable, TextReadsAsItsItems, ReadsItems}
 use Rattle.bus_tool.proofs.CheckLemmas.{written_verdict}
+use Rattle.bus_tool.proofs.AuditLemmas.{written_audit}
 use Rattle.bus_tool.proofs.PrepareLemmas.{both_map}
 use Rattle.bus_tool.proofs.ReadLemmas.{table_read, table_text_read, table_whole_read, table_stops, messages_text_read, unfit_read, items_read, inputs_read, inputs_stop, items_stop, items_no_trace}
 use Rattle.bus_tool.proofs.TraceReads.{held_trace, trace_refuses, traced_stop}
@@ -112,6 +113,10 @@ form_cause laws Run o first second never h = elim (run_stop first second o (refu
   | inr w ↦ not_run laws first second w.0 o w.1 w.2
 ]
 form_cause laws Receive o first second never h = elim (traced_stop first second o (refused (λ traced. Done) (traced_due first second) o (λ traced. refl) never h)) [
+  | inl e ↦ no_table laws first o second e
+  | inr w ↦ no_trace laws first second o w.2
+]
+form_cause laws Audit o first second never h = elim (traced_stop first second o (refused (λ traced. audit_outcome (audit_of traced)) (traced_due first second) o (λ traced. written_audit (audit_of traced)) never h)) [
   | inl e ↦ no_table laws first o second e
   | inr w ↦ no_trace laws first second o w.2
 ]

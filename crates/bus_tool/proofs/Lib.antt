@@ -13,6 +13,7 @@ pub mod CheckLemmas
 pub mod ObserveLemmas
 pub mod TracedLemmas
 pub mod ReceiveLemmas
+pub mod AuditLemmas
 pub mod RunLemmas
 pub mod ActLemmas
 pub mod LawTypes
@@ -24,6 +25,7 @@ pub mod RunReads
 pub mod CheckClaim
 pub mod ObserveClaim
 pub mod ReceiveClaim
+pub mod AuditClaim
 pub mod CauseLemmas
 pub mod TextLawLemmas
 pub mod RunClaim

@@ -1,9 +1,11 @@
 -- The steps before the first written byte.
-use Rattle.std.specs.Prelude.{◌≡◌, ℕ, ◌≤◌, List, Option, Some, None, IfSome, Result, Ok, Err, IfErr}
-use Rattle.std.proofs.Common.{refl, sym, subst}
+use Rattle.std.specs.Prelude.{◌≡◌, ℕ, ◌≤◌, List, Option, Some, None, IfSome, Result, Ok, Err, IfErr, IsErrAnd}
+use Rattle.std.proofs.Common.{arith, refl, sym, ap, ◌∙◌, subst}
+use Rattle.std.proofs.lemmas.Result.{err_from_is_err_and}
 use Rattle.bus_text.specs.AllOf.{◌>>=◌}
 use Rattle.bus_table.specs.Tables.{Table}
 use Rattle.bus_tool.specs.declared.outcome.Outcome.{Outcome}
+use Rattle.bus_tool.specs.declared.outcome.Outcome.TheVariants.{NoMemory}
 use Rattle.bus_tool.specs.Kinds.{Kind, NoForm, NotRead, TooMuch, Wrong, Late, NotWritten, NoRoom, Answer, kind_of}
 use Rattle.bus_tool.specs.Stages.{stage_in, GivesStop, Gives, refusal_in}
 use Rattle.bus_tool.specs.Outside.{Seen, Sources, both}
@@ -100,6 +102,51 @@ prepares_past IsOf IsNext named refusing made f before after o late p = record {
   early = p.early;
   counts = p.counts;
 }
+
+-- they stopped, whatever was to be made of the value
+pub prepares_stopped : {X Y V : Type 0} (IsOf : X → Y → Type 0) (IsNext : V → Y → Type 0) (named : Named) (refusing : List ℕ → Option Outcome) (made : List ℕ → List ℕ → Result Y Outcome) (before after : Sources) (o : Outcome) (r : Result V Outcome)
+    → IsErrAnd r (λ came. came ≡ o) → Prepares IsOf named refusing made before after (Err o) → Prepares IsNext named refusing made before after r
+prepares_stopped {X} {Y} {V} IsOf IsNext named refusing made before after o r h p =
+    let came = err_from_is_err_and r h in
+    let stopped : Prepares {X = V} IsNext named refusing made before after (Err o) = record {
+      gives = p.gives;
+      first = p.first;
+      second = p.second;
+      order = p.order;
+      early = p.early;
+      counts = p.counts;
+    } in
+    subst (Prepares IsNext named refusing made before after) (sym (came.1 ∙ ap Err came.2)) stopped
+
+-- they gave a value, of which another is made
+pub prepares_made : {X Y V : Type 0} (IsOf : X → Y → Type 0) (IsNext : V → Y → Type 0) (named : Named) (refusing : List ℕ → Option Outcome) (made : List ℕ → List ℕ → Result Y Outcome) (before after : Sources) (x : X) (v : V)
+    → ((y : Y) → IsOf x y → IsNext v y) → Prepares IsOf named refusing made before after (Ok x) → Prepares IsNext named refusing made before after (Ok v)
+prepares_made IsOf IsNext named refusing made before after x v next p = record {
+  gives = both_map (told named.first before.first) (told named.second before.second) _ _ (λ a b g. (g.0, g.1, next g.0 g.2)) p.gives;
+  first = p.first;
+  second = p.second;
+  order = p.order;
+  early = tt;
+  counts = p.counts;
+}
+
+-- they gave a value, and there was no memory for what is made of it
+roomless : {X Y : Type 0} (IsOf : X → Y → Type 0) (x : X) (due : Result Y Outcome) → Gives IsOf (Ok x) due → 1 ≤ stage_in due
+roomless IsOf x due g = subst (λ d. 1 ≤ stage_in d) (sym g.1) (omega arith)
+
+pub prepares_roomless : {X Y V : Type 0} (IsOf : X → Y → Type 0) (IsNext : V → Y → Type 0) (named : Named) (refusing : List ℕ → Option Outcome) (made : List ℕ → List ℕ → Result Y Outcome) (before after : Sources) (x : X) (r : Result V Outcome)
+    → IsErrAnd r (λ came. came ≡ NoMemory) → Prepares IsOf named refusing made before after (Ok x) → Prepares IsNext named refusing made before after r
+prepares_roomless {X} {Y} {V} IsOf IsNext named refusing made before after x r h p =
+    let came = err_from_is_err_and r h in
+    let stopped : Prepares {X = V} IsNext named refusing made before after (Err NoMemory) = record {
+      gives = both_map (told named.first before.first) (told named.second before.second) _ _ (λ a b g. roomless IsOf x (made a b) g) p.gives;
+      first = reads_late named.first 1 NoRoom before.first after.first tt p.first;
+      second = reads_late named.second 2 NoRoom before.second after.second tt p.second;
+      order = if_map (told named.first before.first) _ _ (λ text k. if_map (refusing text) (λ refusal. ⊥) _ (λ refusal no. absurd no) k) p.order;
+      early = tt;
+      counts = p.counts;
+    } in
+    subst (Prepares IsNext named refusing made before after) (sym (came.1 ∙ ap Err came.2)) stopped
 
 -- they gave a value, of which something is asked
 pub prepares_then : {X Y V W : Type 0} (IsOf : X → Y → Type 0) (IsNext : V → W → Type 0) (named : Named) (refusing : List ℕ → Option Outcome) (made : List ℕ → List ℕ → Result Y Outcome) (f : Y → Result W Outcome) (before after : Sources) (x : X) (r : Result V Outcome)

@@ -15,14 +15,15 @@ use Rattle.bus_filter.specs.ReceivedTexts.{received_text}
 use Rattle.bus_trace.specs.declared.hold.Hold.{Hold}
 use Rattle.bus_trace.specs.Traces.{Recording, trace_text}
 use Rattle.bus_tool.specs.declared.forms.Form.{Form}
-use Rattle.bus_tool.specs.declared.forms.Form.TheVariants.{Check, Observe, Run, Receive}
+use Rattle.bus_tool.specs.declared.forms.Form.TheVariants.{Check, Observe, Run, Receive, Audit}
 use Rattle.bus_tool.specs.declared.outcome.Outcome.{Outcome}
 use Rattle.bus_tool.specs.declared.outcome.Outcome.TheVariants.{Done}
+use Rattle.bus_tool.specs.AuditLines.{audit_line}
 use Rattle.bus_tool.specs.Forms.{form_of}
 use Rattle.bus_tool.specs.Kinds.{kind_of, is_answer}
 use Rattle.bus_tool.specs.Outcomes.{is_written}
-use Rattle.bus_tool.specs.Due.{Inputs, hands_in, table_due, inputs_due, traced_due, run_due, verdict_outcome, outcome_with, form_due, outcome_for}
-use Rattle.bus_tool.specs.Texts.{holds_of, IsRecordingOf, IsObserveText, IsRunRecording, run_text, IsRunText, IsReceiveText, IsCheckText, IsTextOf, IsFormText, IsTextFor}
+use Rattle.bus_tool.specs.Due.{Inputs, hands_in, table_due, inputs_due, traced_due, run_due, verdict_outcome, audit_outcome, audit_of, outcome_with, form_due, outcome_for}
+use Rattle.bus_tool.specs.Texts.{holds_of, IsRecordingOf, IsObserveText, IsRunRecording, run_text, IsRunText, IsReceiveText, IsAuditText, IsCheckText, IsTextOf, IsFormText, IsTextFor}
 use Rattle.bus_tool.specs.TextLaws.{OneCommandText, AnswersHaveTexts}
 use Rattle.bus_tool.proofs.LawTypes.{ReadsATable, FittingItemsGiveHands}
 use Rattle.bus_tool.proofs.ReadLemmas.{table_read, items_read, inputs_read, table_unwritten, inputs_unwritten}
@@ -101,6 +102,7 @@ form_once laws (Observe horizon) first second text other h k =
     (subst (λ inputs. IsObserveText horizon inputs other) (same_value (inputs_due first second) h.0 k.0 h.1 k.1) k.2)
 form_once laws Run first second text other h k = run_once h.0 text other h.2 (subst (λ inputs. IsRunText inputs other) (same_value (run_due first second) h.0 k.0 h.1 k.1) k.2)
 form_once laws Receive first second text other h k = k.2 ∙ ap (λ traced. received_text traced.table traced.trace.list) (same_value (traced_due first second) h.0 k.0 h.1 k.1) ∙ sym h.2
+form_once laws Audit first second text other h k = k.2 ∙ ap (λ traced. audit_line (audit_of traced)) (same_value (traced_due first second) h.0 k.0 h.1 k.1) ∙ sym h.2
 
 once_for : TextLaws → (form : Option Form) (first second text other : List ℕ) → IsTextFor form first second text → IsTextFor form first second other → other ≡ text
 once_for laws None first second text other h k = absurd h
@@ -120,6 +122,8 @@ form_has laws (Observe horizon) first second h = text_with (λ inputs. Done) (Is
 form_has laws Run first second h = text_with (λ inputs. Done) IsRunText (run_due first second) (λ o e. run_unwritten first second o e) (λ inputs e. ran_text laws first second inputs e) h
 form_has laws Receive first second h =
     text_with (λ traced. Done) IsReceiveText (traced_due first second) (λ o e. traced_unwritten first second o e) (λ traced e. (received_text traced.table traced.trace.list, refl)) h
+form_has laws Audit first second h =
+    text_with (λ traced. audit_outcome (audit_of traced)) IsAuditText (traced_due first second) (λ o e. traced_unwritten first second o e) (λ traced e. (audit_line (audit_of traced), refl)) h
 
 has_for : TextLaws → (form : Option Form) (first second : List ℕ) → is_written (outcome_for form first second) ≡ true → (text : List ℕ) × IsTextFor form first second text
 has_for laws None first second h = absurd cc

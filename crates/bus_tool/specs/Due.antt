@@ -12,7 +12,7 @@ use Rattle.bus_table.specs.declared.fit.FitError.{FitError}
 use Rattle.bus_table.specs.Tables.{Table, Hand}
 use Rattle.bus_table.specs.Fits.{items_fit}
 use Rattle.bus_table.specs.Hands.{hands_of}
-use Rattle.bus_table.specs.Reading.{answer_of}
+use Rattle.bus_table.specs.Reading.{answer_of as table_answer}
 use Rattle.bus_regime.specs.declared.table_verdict.TableVerdict.{TableVerdict}
 use Rattle.bus_regime.specs.declared.table_verdict.TableVerdict.TheVariants.{Accept, ShortCycle, SmallGap, NoSync}
 use Rattle.bus_regime.specs.Verdicts.{verdict_of, is_accepted}
@@ -27,8 +27,11 @@ use Rattle.bus_trace.specs.declared.fault.TraceError.TheVariants as trace
 use Rattle.bus_trace.specs.Traces.{Recording}
 use Rattle.bus_trace.specs.Limits.{text_limit as trace_limit}
 use Rattle.bus_trace.specs.Runs.{reading}
+use Rattle.bus_audit.specs.declared.answer.AuditAnswer.{AuditAnswer}
+use Rattle.bus_audit.specs.declared.answer.AuditAnswer.TheVariants.{Lawful, Breach}
+use Rattle.bus_audit.specs.Breaches.{answer_of}
 use Rattle.bus_tool.specs.declared.forms.Form.{Form}
-use Rattle.bus_tool.specs.declared.forms.Form.TheVariants.{Check, Observe, Run, Receive}
+use Rattle.bus_tool.specs.declared.forms.Form.TheVariants.{Check, Observe, Run, Receive, Audit}
 use Rattle.bus_tool.specs.declared.outcome.Outcome.{Outcome}
 use Rattle.bus_tool.specs.declared.outcome.Outcome.TheVariants.{Done, Answered, Refused, Usage, TableText, TableWhole, MessagesText, Unfit, Uneven, TraceText, ReadFault, NoMemory, TooLarge, TooLong}
 use Rattle.bus_tool.specs.Forms.{form_of}
@@ -52,7 +55,7 @@ table_or_refusal (Err error) = Err (table_refusal error)
 
 -- the table of the first text
 abbrev pub table_due : List ℕ → Result Table Outcome
-table_due text = text_due 1 text >>= λ whole. table_or_refusal (answer_of whole)
+table_due text = text_due 1 text >>= λ whole. table_or_refusal (table_answer whole)
 
 -- why the first text is refused
 abbrev pub table_refusal_of : List ℕ → Option Outcome
@@ -168,6 +171,15 @@ verdict_outcome (ShortCycle least ti) = Answered
 verdict_outcome (SmallGap terminal gap needed) = Answered
 verdict_outcome (NoSync terminal gap needed) = Answered
 
+-- yes where nothing is found against the trace, else no
+abbrev pub audit_outcome : AuditAnswer → Outcome
+audit_outcome (Lawful collided) = Done
+audit_outcome (Breach moment terminal kind) = Answered
+
+-- what an audit of a trace finds
+abbrev pub audit_of : Traced → AuditAnswer
+audit_of traced = answer_of traced.table traced.trace
+
 -- a refusal, or the answer to a value
 abbrev pub outcome_with : {Y : Type 0} → (Y → Outcome) → Result Y Outcome → Outcome
 outcome_with answer (Ok y) = answer y
@@ -179,6 +191,7 @@ form_due Check first second = outcome_with (λ table. verdict_outcome (verdict_o
 form_due (Observe horizon) first second = outcome_with (λ inputs. Done) (inputs_due first second)
 form_due Run first second = outcome_with (λ inputs. Done) (run_due first second)
 form_due Receive first second = outcome_with (λ traced. Done) (traced_due first second)
+form_due Audit first second = outcome_with (λ traced. audit_outcome (audit_of traced)) (traced_due first second)
 
 -- why a form refuses the first text, whatever the second is
 abbrev pub first_refusal : Form → List ℕ → Option Outcome
@@ -186,6 +199,7 @@ first_refusal Check first = table_refusal_of first
 first_refusal (Observe horizon) first = table_refusal_of first
 first_refusal Run first = table_refusal_of first
 first_refusal Receive first = table_refusal_of first
+first_refusal Audit first = table_refusal_of first
 
 -- the outcome where the words ask for a form, or for none
 abbrev pub outcome_for : Option Form → List ℕ → List ℕ → Outcome

@@ -8,7 +8,7 @@ use Rattle.bus_text.specs.Numbers.{is_plain_decimal, decimal_value}
 use Rattle.bus_strings.specs.Limits.{horizon_limit}
 use Rattle.bus_tool.specs.Readers.{Named, Trace, entire, one_source, two_sources}
 use Rattle.bus_tool.specs.declared.forms.Form.{Form}
-use Rattle.bus_tool.specs.declared.forms.Form.TheVariants.{Check, Observe, Run, Receive}
+use Rattle.bus_tool.specs.declared.forms.Form.TheVariants.{Check, Observe, Run, Receive, Audit}
 
 -- the words of the program, as bytes
 abbrev pub words_of : List (String Global) → List (List ℕ)
@@ -22,11 +22,12 @@ is_horizon word = is_plain_decimal word && nat_le (decimal_value word) horizon_l
 abbrev pub two_words : List ℕ → Option Form
 two_words command = if bytes_eq command (codes "check") then Some Check else None
 
--- `run T M`, `receive T R`
+-- `run T M`, `receive T R`, `audit T R`
 abbrev pub three_words : List ℕ → Option Form
 three_words command =
     if bytes_eq command (codes "run") then Some Run
     else if bytes_eq command (codes "receive") then Some Receive
+    else if bytes_eq command (codes "audit") then Some Audit
     else None
 
 -- `observe T M N`
@@ -46,6 +47,7 @@ sources_of Check = one_source entire
 sources_of (Observe horizon) = two_sources entire entire
 sources_of Run = two_sources entire entire
 sources_of Receive = two_sources entire Trace
+sources_of Audit = two_sources entire Trace
 
 -- the numbers of a form are within their limits
 abbrev pub IsWithinLimits : Form → Type 0
@@ -53,3 +55,4 @@ IsWithinLimits Check = Unit {0}
 IsWithinLimits (Observe horizon) = horizon ≤ horizon_limit
 IsWithinLimits Run = Unit {0}
 IsWithinLimits Receive = Unit {0}
+IsWithinLimits Audit = Unit {0}

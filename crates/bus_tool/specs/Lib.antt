@@ -6,6 +6,7 @@ pub mod Readers
 pub mod Forms
 pub mod Stages
 pub mod Due
+pub mod AuditLines
 pub mod Texts
 pub mod Steps
 pub mod Taken

@@ -11,15 +11,17 @@ use Rattle.bus_medium.specs.Lawful.{IsLawful}
 use Rattle.bus_medium.specs.Timings.{quiet_of, stations_of}
 use Rattle.bus_schedule.specs.Closed.{closed_end}
 use Rattle.bus_schedule.specs.Runs.{IsRun}
+use Rattle.bus_audit.specs.declared.answer.AuditAnswer.{AuditAnswer}
 use Rattle.bus_filter.specs.ReceivedTexts.{received_text}
 use Rattle.bus_trace.specs.declared.hold.Hold.{Hold}
 use Rattle.bus_trace.specs.Traces.{Recording, trace_text}
 use Rattle.bus_tool.specs.declared.forms.Form.{Form}
-use Rattle.bus_tool.specs.declared.forms.Form.TheVariants.{Check, Observe, Run, Receive}
+use Rattle.bus_tool.specs.declared.forms.Form.TheVariants.{Check, Observe, Run, Receive, Audit}
 use Rattle.bus_tool.specs.declared.outcome.Outcome.{Outcome}
 use Rattle.bus_tool.specs.Forms.{form_of}
 use Rattle.bus_tool.specs.declared.inputs.Traced.{Traced as Ran}
-use Rattle.bus_tool.specs.Due.{Inputs, hands_in, Traced, table_due, inputs_due, run_due, traced_due}
+use Rattle.bus_tool.specs.Due.{Inputs, hands_in, Traced, table_due, inputs_due, run_due, traced_due, audit_of}
+use Rattle.bus_tool.specs.AuditLines.{audit_line}
 
 -- the number of a hand's terminal and how many messages it has
 abbrev pub hold_of : Hand → Hold
@@ -81,6 +83,14 @@ IsReceiveText traced text = text ≡ received_text traced.table traced.trace.lis
 abbrev pub IsCheckText : Table → List ℕ → Type 0
 IsCheckText table text = text ≡ verdict_line (verdict_of table)
 
+-- what an audit finds of a table and a trace
+abbrev pub IsAnswerOf : AuditAnswer → Traced → Type 0
+IsAnswerOf answer traced = answer ≡ audit_of traced
+
+-- the line of what an audit finds
+abbrev pub IsAuditText : Traced → List ℕ → Type 0
+IsAuditText traced text = text ≡ audit_line (audit_of traced)
+
 -- a text of the value that is due, where none of it is refused
 abbrev pub IsTextOf : {Y : Type 0} → (Y → List ℕ → Type 0) → Result Y Outcome → List ℕ → Type 0
 IsTextOf {Y} IsText due text = (y : Y) × (due ≡ Ok y) × IsText y text
@@ -91,6 +101,7 @@ IsFormText Check first second text = IsTextOf IsCheckText (table_due first) text
 IsFormText (Observe horizon) first second text = IsTextOf (IsObserveText horizon) (inputs_due first second) text
 IsFormText Run first second text = IsTextOf IsRunText (run_due first second) text
 IsFormText Receive first second text = IsTextOf IsReceiveText (traced_due first second) text
+IsFormText Audit first second text = IsTextOf IsAuditText (traced_due first second) text
 
 abbrev pub IsTextFor : Option Form → List ℕ → List ℕ → List ℕ → Type 0
 IsTextFor None first second text = ⊥

@@ -1,11 +1,18 @@
 -- What is claimed of the commands that read a trace, in the words of their texts.
-use Rattle.std.specs.Prelude.{◌≡◌, ℕ, List, [], ◌∷◌, codes, Some}
+use Rattle.std.specs.Prelude.{◌≡◌, ◌↔◌, ℕ, List, [], ◌∷◌, codes, Some}
 use Rattle.bus_table.specs.Tables.{Table}
 use Rattle.bus_trace.specs.Traces.{Recording, HoldsTrace}
 use Rattle.bus_trace.specs.Limits.{text_limit as trace_limit}
+use Rattle.bus_audit.specs.declared.answer.AuditAnswer.{AuditAnswer}
+use Rattle.bus_audit.specs.declared.answer.AuditAnswer.TheVariants.{Lawful}
+use Rattle.bus_audit.specs.Breaches.{IsAnswer}
+use Rattle.bus_audit.specs.Meaning.{IsRight}
 use Rattle.bus_filter.specs.ReceivedTexts.{received_text}
 use Rattle.bus_tool.specs.declared.status.Status.{Status}
 use Rattle.bus_tool.specs.declared.status.Status.TheVariants.{Done}
+use Rattle.bus_tool.specs.AuditLines.{audit_line}
+use Rattle.bus_tool.specs.Due.{audit_outcome}
+use Rattle.bus_tool.specs.Outcomes.{status_of}
 use Rattle.bus_tool.specs.Outside.{Seen, Call}
 use Rattle.bus_tool.specs.Readers.{Trace, entire, two_sources}
 use Rattle.bus_tool.specs.Claims.{NothingFails, TellsTable, Answers}
@@ -28,6 +35,33 @@ pub record IsReceiveOf (table : Table) (trace : Recording) (call : Call) : Type 
   pub table_told : TellsTable table call.before.sources.first
   pub trace_told : TellsTrace trace call.before.sources.second
   pub undisturbed : NothingFails (two_sources entire Trace) call.before call.after
+
+-- the words are `audit` and two more
+pub record IsAuditForm (words : List (List ℕ)) : Type 0 where
+  pub first : List ℕ
+  pub second : List ℕ
+  pub form : words ≡ codes "audit" ∷ first ∷ second ∷ []
+
+-- a call of `audit T R` on texts of a valid table and of a trace, in which nothing outside fails
+pub record IsAuditOf (table : Table) (trace : Recording) (call : Call) : Type 0 where
+  pub form : IsAuditForm call.words
+  pub table_told : TellsTable table call.before.sources.first
+  pub trace_told : TellsTrace trace call.before.sources.second
+  pub undisturbed : NothingFails (two_sources entire Trace) call.before call.after
+
+-- What an audit finds:
+--   first   the first breach, or none, and the number of garbled transmissions
+--   right   it is that the trace is lawful exactly where each transmission is of a sender and fits it, and the list is the lawful list for
+--           the trace's holds and its horizon
+pub record IsFinding (table : Table) (trace : Recording) (answer : AuditAnswer) : Type 0 where
+  pub first : IsAnswer table trace answer
+  pub right : ((collided : ℕ) × (answer ≡ Lawful collided)) ↔ IsRight table trace
+
+-- the line of what an audit finds is written, and the status is Done where it is that the trace is lawful, else Refused
+abbrev pub GivesFinding : Table → Recording → Call → Status → Type 0
+GivesFinding table trace call status =
+    (answer : AuditAnswer) × IsFinding table trace answer
+    × Answers (status_of (audit_outcome answer)) (λ text. text ≡ audit_line answer) call status
 
 -- what each terminal of the table receives of the trace is written, and the status is Done
 abbrev pub GivesReceived : Table → Recording → Call → Status → Type 0

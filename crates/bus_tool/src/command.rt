@@ -2,6 +2,7 @@ ghost use Rattle.bus_tool.specs.Acts.{Acts};
 ghost use Rattle.bus_tool.specs.Forms.{words_of};
 ghost use Rattle.bus_tool.specs.Outside.{called, outside};
 
+use crate::audit::audit;
 use crate::check::check;
 use crate::forms::{Form, form_of};
 use crate::observe::observe;
@@ -37,5 +38,6 @@ pub fn act<S: Source, K: Sink>(
         Some(Form::Observe { horizon }) => observe(alloc, horizon, first, second, out),
         Some(Form::Run) => run(alloc, first, second, out),
         Some(Form::Receive) => receive(alloc, first, second, out),
+        Some(Form::Audit) => audit(alloc, first, second, out),
     }
 }

@@ -21,6 +21,8 @@ pub enum Form {
     Run,
     /// `receive T R`: what each terminal of the table in `T` receives of the trace in `R`.
     Receive,
+    /// `audit T R`: whether each start of the trace in `R` is just where the timers of the table in `T` allow one.
+    Audit,
 }
 
 /// The horizon that a word writes; None where the word is no plain decimal, or the number is past its limit.
@@ -57,6 +59,8 @@ fn three_words(command: &str) -> Option<Form>
         Some(Form::Run)
     } else if command == "receive" {
         Some(Form::Receive)
+    } else if command == "audit" {
+        Some(Form::Audit)
     } else {
         None
     }

@@ -5,6 +5,10 @@
 #![tactic(auto)]
 
 mod answer;
+mod audit;
+mod audit_line;
+#[cfg(test)]
+mod audit_tests;
 mod check;
 mod command;
 mod fault_line;

@@ -169,7 +169,7 @@ fn the_order_of_refusals(rt: HostRuntime) -> Result<(), Fail> {
 
 #[test]
 fn a_second_source_that_fails_or_is_too_large(rt: HostRuntime) -> Result<(), Fail> {
-    let words = ["observe", "T", "M", "150"];
+    let words = ["run", "T", "M"];
     let messages = ONE_EACH.as_bytes().to_vec(rt.alloc())?;
     let failing = MemorySource::new(messages, 16, [1u64].to_vec(rt.alloc())?);
     let table = source(&rt, LONG_GAP.as_bytes())?;

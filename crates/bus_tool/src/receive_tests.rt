@@ -1,5 +1,5 @@
 //! `receive` over sources and sinks in memory, with ample memory.
-use crate::observe_tests::{LONG_GAP, ONE_EACH_SEEN};
+use crate::observe_tests::{LONG_GAP, ONE_EACH_SEEN, rounds};
 use crate::run_tests::{ONE_EACH_RECEIVED, joined};
 use crate::status::Status;
 use crate::tests::{
@@ -24,17 +24,15 @@ fn what_stands_behind_the_trace_is_left(rt: HostRuntime) -> Result<(), Fail> {
 
 #[test]
 fn nobody_receives_of_collided_messages(rt: HostRuntime) -> Result<(), Fail> {
-    let table = joined(
-        &rt,
-        TWO_PERIODIC_SENDERS,
-        "LISTENER 3\nTAKE 0A1 * 0 4\nTAKE 0B2 * 0 4\n",
-    )?;
-    let words = "WS L0A111 D00001 D00001\n";
-    let trace = format!(in rt.alloc();
-        "TRACE 1\nHORIZON 100\nTX 0 1\n{words}TX 0 2\nWS L0B210 D00001\nTX 70 1\n{words}END\n"
-    )?;
-    let ran = receive(&rt, table.as_str(), trace.as_str())?;
-    let received = "RECEIVED 1\nTERMINAL 1\nTERMINAL 2\nTERMINAL 3\nRX 70 0A1 1 0000 0000\nEND\n";
+    let together = TWO_PERIODIC_SENDERS.replace(rt.alloc(), "AT 90", "AT 0")?;
+    let listener = "LISTENER 3\nTAKE 0A1 * 0 4\nTAKE 0B2 * 0 4\n";
+    let table = joined(&rt, together.as_str(), listener)?;
+    let messages = rounds(&rt, (2, 30), (2, 30))?;
+    let words = ["observe", "T", "M", "2001"];
+    let seen = run_on(&rt, &words, table.as_str(), messages.as_str())?;
+    let (first, second) = (source(&rt, table.as_bytes())?, source(&rt, seen.out.bytes())?);
+    let ran = run_over(&rt, &["receive", "T", "R"], first, second, sink_of(&rt, 200)?)?;
+    let received = "RECEIVED 1\nTERMINAL 1\nTERMINAL 2\nTERMINAL 3\nEND\n";
     assert!(rt; writes(&ran, Status::Done, received));
     Ok(())
 }

@@ -7,13 +7,14 @@ ghost use Rattle.bus_tool.specs.Forms.{words_of};
 ghost use Rattle.bus_tool.specs.Outcomes.{status_of};
 ghost use Rattle.bus_tool.specs.RunClaims.{IsRunOf, GivesRun};
 ghost use Rattle.bus_tool.specs.Outside.{called, outside};
-ghost use Rattle.bus_tool.specs.TraceClaims.{IsReceiveOf, GivesReceived};
+ghost use Rattle.bus_tool.specs.TraceClaims.{IsReceiveOf, GivesReceived, IsAuditOf, GivesFinding};
 ghost use Rattle.bus_trace.specs.Traces.{Recording};
 ghost use Rattle.bus_tool.specs.declared.outcome.Outcome.{Outcome as Came};
 
 use crate::command::act;
 use crate::fault_line::outcome_text;
 use crate::status::Status;
+use bus_audit::laws::{no_breach_is_right, one_answer};
 use bus_medium::laws::one_lawful_list;
 use bus_outer::{Sink, Source};
 use bus_schedule::laws::even_hands_agree;
@@ -53,6 +54,11 @@ pub fn tool<S: Source, K: Sink, E: Sink>(
         (outside ⟦<S as Source>⟧ ⟦<K as Sink>⟧ first.new second.new out.new) in
         (table : Table) (trace : Recording) → IsReceiveOf table trace call → GivesReceived table trace call result }
 
+    // `audit T R` of texts of a valid table and of a trace, where nothing outside fails: what an audit finds, or want of memory.
+    ensures audit { let call = called (words_of words.now) (outside ⟦<S as Source>⟧ ⟦<K as Sink>⟧ first.old second.old out.old)
+        (outside ⟦<S as Source>⟧ ⟦<K as Sink>⟧ first.new second.new out.new) in
+        (table : Table) (trace : Recording) → IsAuditOf table trace call → GivesFinding table trace call result }
+
     // Of any words and bytes: the outcome that is due or a fault in its place, what was taken and written, what `err` holds, and the status.
     ensures acts { let call = called (words_of words.now) (outside ⟦<S as Source>⟧ ⟦<K as Sink>⟧ first.old second.old out.old)
         (outside ⟦<S as Source>⟧ ⟦<K as Sink>⟧ first.new second.new out.new) in
@@ -63,6 +69,8 @@ pub fn tool<S: Source, K: Sink, E: Sink>(
     fitting_items_give_hands();
     one_lawful_list();
     traces_read_back();
+    no_breach_is_right();
+    one_answer();
     even_hands_agree();
     let outcome = act(alloc, words, first, second, out);
     let _ = outcome_text(&outcome, err);

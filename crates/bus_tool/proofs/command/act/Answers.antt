@@ -1,6 +1,6 @@
 use Rattle.std.proofs.Common.{ap, sym, ◌∙◌}
 use Rattle.std.specs.Prelude.{Some}
-use Rattle.bus_tool.specs.declared.forms.Form.TheVariants.{Check, Observe, Run, Receive}
+use Rattle.bus_tool.specs.declared.forms.Form.TheVariants.{Check, Observe, Run, Receive, Audit}
 use Rattle.bus_tool.proofs.ActLemmas.{acts_form}
 use Rattle.bus_tool.proofs.command.act.Goals as goal
 
@@ -39,3 +39,12 @@ returns-in-Some-Receive g c = acts_form (record {
   reads_items = c.texts_read_as_their_items.ensures.found;
   trace_back = c.traces_read_back.ensures.back;
 }) _ c.receive.result Receive (ap Some (sym c.in-Some-Receive.field-0-is) ∙ c.in-Some-Receive.ensures.form) c.receive.ensures
+
+pub returns-in-Some-Audit : goal.returns-in-Some-Audit
+returns-in-Some-Audit g c = acts_form (record {
+  reads_table = c.readings_have_their_cause.ensures.found;
+  refuses_table = c.readings_have_their_cause.ensures.refused;
+  items_again = c.texts_read_as_their_items.ensures.again;
+  reads_items = c.texts_read_as_their_items.ensures.found;
+  trace_back = c.traces_read_back.ensures.back;
+}) _ c.audit.result Audit (ap Some (sym c.in-Some-Audit.field-0-is) ∙ c.in-Some-Audit.ensures.form) c.audit.ensures

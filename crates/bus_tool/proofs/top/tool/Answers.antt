@@ -1,6 +1,7 @@
 use Rattle.bus_tool.proofs.CheckClaim.{check_claim}
 use Rattle.bus_tool.proofs.ObserveClaim.{ObserveLaws, observe_claim}
 use Rattle.bus_tool.proofs.ReceiveClaim.{TracedLaws, receive_claim}
+use Rattle.bus_tool.proofs.AuditClaim.{AuditLaws, audit_claim}
 use Rattle.bus_tool.proofs.RunClaim.{RunLaws, run_claim}
 use Rattle.bus_tool.proofs.top.tool.Goals as goal
 
@@ -31,3 +32,12 @@ pub returns-clause-receive : goal.returns-clause-receive
 returns-clause-receive g c =
     let laws : TracedLaws = record { table_again = c.text_reads_as_its_table.ensures; trace_back = c.traces_read_back.ensures.back } in
     λ table trace h. rw c.status.ensures (receive_claim laws _ c.act-outcome.result table trace c.act-outcome.ensures h)
+
+pub returns-clause-audit : goal.returns-clause-audit
+returns-clause-audit g c =
+    let laws : AuditLaws = record {
+      texts = record { table_again = c.text_reads_as_its_table.ensures; trace_back = c.traces_read_back.ensures.back };
+      answer = c.one_answer.ensures.computed;
+      right = c.no_breach_is_right.ensures.answer;
+    } in
+    λ table trace h. rw c.status.ensures (audit_claim laws _ c.act-outcome.result table trace c.act-outcome.ensures h)
