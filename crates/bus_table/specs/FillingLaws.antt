@@ -61,7 +61,8 @@ count_allowed mode line h =
     ∙ both _ _ (le-leb line.least (filling_count mode line) b.low) (le-leb (filling_count mode line) line.most b.high)
 
 -- the strings have the shape of the lines
-pub filling_shape : (mode : Mode) (sends : List SendLine) → list_all is_send_line sends ≡ true → has_shape sends (filling_strings mode sends) ≡ true
+pub filling_shape : (mode : Mode) (sends : List SendLine) → list_all is_send_line sends ≡ true
+    → has_shape sends (filling_strings mode sends) ≡ true
 filling_shape mode [] h = refl
 filling_shape mode (line ∷ sends) h =
     let parts = and_parts (is_send_line line) _ h in
@@ -73,7 +74,8 @@ filling_matches : (mode : Mode) (test : SendLine → ℕ → Bool) (sends : List
     → matches test sends (message_of sends (filling_strings mode sends)) ≡ true
 filling_matches mode test [] h = refl
 filling_matches mode test (line ∷ sends) h =
-    both _ _ (eq-eqb line.label line.label refl) (both _ _ (eq-eqb line.ext line.ext refl) (both _ _ h.0 (filling_matches mode test sends h.1)))
+    both _ _ (eq-eqb line.label line.label refl) (both _ _ (eq-eqb line.ext line.ext refl)
+    (both _ _ h.0 (filling_matches mode test sends h.1)))
 
 each_allowed : (mode : Mode) (sends : List SendLine) → list_all is_send_line sends ≡ true
     → AllByRecursion (λ line. allows line (length (zeros (filling_count mode line))) ≡ true) sends
@@ -136,16 +138,19 @@ each_wordstring mode (line ∷ sends) h =
     let high : filling_count mode line ≤ line.most = b.high in
     let most : line.most ≤ 256 = r.most in
     let few : length (zeros (filling_count mode line)) ≤ 256 = omega (arith, count, high, most) in
-    (record { label = r.label; ext = r.ext; few = few; words = zeros_in_range (filling_count mode line) }, each_wordstring mode sends parts.1)
+    let words = zeros_in_range (filling_count mode line) in
+    (record { label = r.label; ext = r.ext; few = few; words = words }, each_wordstring mode sends parts.1)
 
 -- every number of it lies in its range
 pub filling_is_message : (mode : Mode) (sender : Sender) → is_sender sender ≡ true → IsMessage (filling_message mode sender)
 filling_is_message mode sender h =
-    let count = and_parts (nat_le 1 (length sender.sends)) _ (and_parts (is_in_range 1 most_strings (length sender.sends)) _ (sends_in_range sender h)).0 in
+    let range = and_parts (is_in_range 1 most_strings (length sender.sends)) _ (sends_in_range sender h) in
+    let count = and_parts (nat_le 1 (length sender.sends)) _ range.0 in
     let least : 1 ≤ length sender.sends = grind (arith, nat_tests, count.0) in
     let most : length sender.sends ≤ 31 = grind (arith, nat_tests, count.1) in
     let same = filling_wordstrings mode sender.sends in
-    record { some = omega (arith, same, least); few = omega (arith, same, most); strings = each_wordstring mode sender.sends (each_send_line sender h) }
+    let strings = each_wordstring mode sender.sends (each_send_line sender h) in
+    record { some = omega (arith, same, least); few = omega (arith, same, most); strings = strings }
 
 each_string : (mode : Mode) (sends : List SendLine) → list_all is_send_line sends ≡ true
     → list_all (λ string. nat_le (length string) most_words) (filling_strings mode sends) ≡ true
@@ -169,6 +174,7 @@ filling_is_item mode sender h =
     let count = (and_parts (is_in_range 1 most_strings (length sender.sends)) _ (sends_in_range sender h)).0 in
     let same = length-map sender.sends (λ (line : SendLine). zeros (filling_count mode line)) in
     record {
-      ranges = both _ _ number (both _ _ (ap (is_in_range 1 most_strings) same ∙ count) (each_string mode sender.sends (each_send_line sender h)));
+      ranges = both _ _ number
+          (both _ _ (ap (is_in_range 1 most_strings) same ∙ count) (each_string mode sender.sends (each_send_line sender h)));
       words = each_zero mode sender.sends;
     }

@@ -7,8 +7,8 @@ use Rattle.bus_strings.specs.Limits.{most_terminal, most_strings, most_words}
 use Rattle.bus_table.specs.Tables.{SendLine, TakeLine, Sender, Listener}
 
 -- a value, where a test takes it
-abbrev pub taken_by : {X : Type 0} → (X → Bool) → X → Option X
-taken_by test value = if test value then Some value else None
+abbrev pub kept : {X : Type 0} → (X → Bool) → X → Option X
+kept test value = if test value then Some value else None
 
 -- a terminal number
 abbrev pub is_number : ℕ → Bool

@@ -19,9 +19,9 @@ is_in_range table =
     && (is_sg table.sg
     && (list_all is_sender table.senders && (list_all is_listener table.listeners && fits_mode table.mode table.senders)))
 
--- whether a table can be made of senders and listeners that are each in their ranges
-abbrev pub can_be_made : Table → Bool
-can_be_made table = is_ti table.ti && (is_sg table.sg && (fits_mode table.mode table.senders && is_none (whole_refusal table)))
+-- whether senders and listeners that are each in their ranges make a table
+abbrev pub is_table : Table → Bool
+is_table table = is_ti table.ti && (is_sg table.sg && (fits_mode table.mode table.senders && is_none (whole_refusal table)))
 
 -- every number is in its range, and no whole reason applies
 abbrev pub is_valid : Table → Bool

@@ -6,7 +6,7 @@ ghost use Rattle.bus_text.specs.Gives.{LineGives};
 ghost use Rattle.bus_text.specs.Numbers.{is_hexadecimal, hexadecimal_value};
 ghost use Rattle.bus_text.specs.declared.reason.Reason.TheVariants.{Spelling};
 ghost use Rattle.bus_table.specs.Forms as forms;
-ghost use Rattle.bus_table.specs.Ranges.{is_ext, is_number, is_send_line, is_take_line, taken_by};
+ghost use Rattle.bus_table.specs.Ranges.{is_ext, is_number, is_send_line, is_take_line, kept};
 
 use crate::head::Head;
 use crate::line::{SendLine, TakeLine};
@@ -48,7 +48,7 @@ pub fn mode_line(fields: &[&[u8]]) -> Result<Mode, LineFault>
 
 /// The number, where it is in this range.
 fn within(number: u64, least: u32, most: u32) -> Option<u32>
-    ensures { result ≡ taken_by (is_in_range least most) number }
+    ensures { result ≡ kept (is_in_range least most) number }
 {
     if (u64::from(least)..=u64::from(most)).contains(&number) {
         Some(number as u32)
@@ -149,7 +149,7 @@ fn ext(field: &[u8]) -> Option<Ext>
 
 /// A SEND line with these numbers of data words, where they are in their ranges.
 fn send_of(label: Label, ext: Ext, least: u64, most: u64) -> Option<SendLine>
-    ensures { result ≡ taken_by is_send_line (record { label = label; ext = ext; least = least; most = most }) }
+    ensures { result ≡ kept is_send_line (record { label = label; ext = ext; least = least; most = most }) }
 {
     // The types of both keep their ranges, which are known from here on.
     let _ranges = (label.value(), ext.value());
@@ -211,7 +211,7 @@ fn look_at_ext(ext: &Option<Ext>)
 
 /// A TAKE line of this place and this number of data words, where they are in their ranges.
 fn take_of(label: Label, ext: Option<Ext>, first: u64, count: u64) -> Option<TakeLine>
-    ensures { result ≡ taken_by is_take_line (record { label = label; ext = ext; first = first; count = count }) }
+    ensures { result ≡ kept is_take_line (record { label = label; ext = ext; first = first; count = count }) }
 {
     // The type of the label keeps its range, which is known from here on.
     let _range = label.value();

@@ -1,6 +1,6 @@
 ghost use Rattle.std.specs.Prelude.{◌≡◌, IsTrue};
 ghost use Rattle.bus_table.specs.Heads.{is_head};
-ghost use Rattle.bus_table.specs.Ranges.{taken_by};
+ghost use Rattle.bus_table.specs.Ranges.{kept};
 
 use crate::ranges::{LEAST_TG, MOST_TG, MOST_TI};
 use bus_strings::limits::MOST_TERMINAL;
@@ -30,7 +30,7 @@ impl Model for Head {
 impl Head {
     /// None where the number, the gap or the offset is out of its range.
     pub fn new(number: u64, tg: u64, at: u64) -> Option<Head>
-        ensures { result ≡ taken_by is_head (record { number = number; tg = tg; at = at }) }
+        ensures { result ≡ kept is_head (record { number = number; tg = tg; at = at }) }
     {
         if (1..=u64::from(MOST_TERMINAL)).contains(&number)
             && (u64::from(LEAST_TG)..=u64::from(MOST_TG)).contains(&tg)

@@ -1,5 +1,5 @@
 ghost use Rattle.std.specs.Prelude.{◌≡◌, ◌<◌, length, IsTrue, OnOk};
-ghost use Rattle.bus_table.specs.Ranges.{is_listener, is_number as is_terminal, is_take_line, most_takes, taken_by};
+ghost use Rattle.bus_table.specs.Ranges.{is_listener, is_number as is_terminal, is_take_line, most_takes, kept};
 
 use crate::line::TakeLine;
 use crate::ranges::{are_take_lines, is_number};
@@ -31,7 +31,7 @@ impl Listener {
     /// None exactly where the number is out of its range, where there are more than 64 TAKE lines, or where a number of
     /// a line is out of its range.
     pub fn new(number: u8, takes: Vec<TakeLine>) -> Option<Listener>
-        ensures { result ≡ taken_by is_listener (record { number = number; takes = takes.items }) }
+        ensures { result ≡ kept is_listener (record { number = number; takes = takes.items }) }
     {
         if is_number(number) && are_take_lines(&takes) {
             Some(Listener { number, takes })

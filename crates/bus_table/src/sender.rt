@@ -1,6 +1,6 @@
 ghost use Rattle.std.specs.Prelude.{◌≡◌, ◌<◌, length, IsTrue, IfOk, OnOk};
 ghost use Rattle.bus_strings.specs.Limits.{most_strings};
-ghost use Rattle.bus_table.specs.Ranges.{is_sender, is_send_line, is_take_line, most_takes, taken_by};
+ghost use Rattle.bus_table.specs.Ranges.{is_sender, is_send_line, is_take_line, most_takes, kept};
 
 use crate::head::Head;
 use crate::line::{SendLine, TakeLine};
@@ -42,7 +42,7 @@ impl Sender {
         sends: Vec<SendLine>,
         takes: Vec<TakeLine>,
     ) -> Option<Sender>
-        ensures { result ≡ taken_by is_sender (record { number = number; tg = tg; at = at; sends = sends.items; takes = takes.items }) }
+        ensures { result ≡ kept is_sender (record { number = number; tg = tg; at = at; sends = sends.items; takes = takes.items }) }
     {
         if is_number(number)
             && is_tg(tg)

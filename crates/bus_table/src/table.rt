@@ -70,9 +70,9 @@ impl Model for Table {
 }
 
 impl Table {
-    ghost use Rattle.bus_table.specs.Ranges.{taken_by};
+    ghost use Rattle.bus_table.specs.Ranges.{kept};
     ghost use Rattle.bus_table.specs.Reading.{judged};
-    ghost use Rattle.bus_table.specs.Valid.{can_be_made};
+    ghost use Rattle.bus_table.specs.Valid.{is_table};
 
     /// None exactly where the transmit interval or the synchronization gap is out of its range, where some sender of an
     /// aperiodic table has another offset than 0, or where a whole reason applies.
@@ -83,7 +83,7 @@ impl Table {
         senders: Vec<Sender>,
         listeners: Vec<Listener>,
     ) -> Option<Table>
-        ensures { result ≡ taken_by can_be_made (record { mode = mode; ti = ti; sg = sg; senders = senders.items; listeners = listeners.items }) }
+        ensures { result ≡ kept is_table (record { mode = mode; ti = ti; sg = sg; senders = senders.items; listeners = listeners.items }) }
     {
         if !ranges::is_ti(ti) || !ranges::is_sg(sg) || !fits_mode(mode, &senders) {
             return None;
