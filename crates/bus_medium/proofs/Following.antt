@@ -12,7 +12,7 @@ use Rattle.bus_strings.specs.Members.{In}
 use Rattle.bus_strings.specs.Messages.{Entry, bits}
 use Rattle.bus_strings.specs.Pulses.{is_on}
 use Rattle.bus_strings.specs.Transmissions.{pulses, carrier, end_of}
-use Rattle.bus_strings.specs.PulseProofs.{quiet_behind}
+use Rattle.bus_strings.specs.PulsesAlongLaws.{quiet_behind}
 use Rattle.bus_strings.specs.MessageLaws.{bits_some}
 use Rattle.bus_table.specs.Tables.{Hand}
 use Rattle.bus_terminal.specs.Terminals.{last_begun}

@@ -8,7 +8,7 @@ use Rattle.bus_timers.specs.GapStretchLaws.{gap_carriers_elapsed, gap_carriers_w
 use Rattle.bus_strings.specs.Messages.{Message, bits}
 use Rattle.bus_strings.specs.Pulses.{is_on}
 use Rattle.bus_strings.specs.PulseLaws.{Pulse}
-use Rattle.bus_strings.specs.PulseProofs.{first_is_on, last_is_on, pulse_soon}
+use Rattle.bus_strings.specs.PulsesAlongLaws.{first_is_on, last_is_on, pulse_soon}
 use Rattle.bus_strings.specs.MessageLaws.{bits_some}
 use Rattle.bus_medium.specs.Stretches.{during, MessageIsCarrier, MessageElapsed, MessageWaiting, NoStartDuring}
 

@@ -13,7 +13,7 @@ use Rattle.bus_strings.specs.Members.{In}
 use Rattle.bus_strings.specs.Messages.{Entry, bits}
 use Rattle.bus_strings.specs.Pulses.{is_on}
 use Rattle.bus_strings.specs.PulseLaws.{Pulse}
-use Rattle.bus_strings.specs.PulseProofs.{first_is_on, last_is_on, pulse_soon}
+use Rattle.bus_strings.specs.PulsesAlongLaws.{first_is_on, last_is_on, pulse_soon}
 use Rattle.bus_strings.specs.MessageLaws.{bits_some}
 use Rattle.bus_strings.specs.Transmissions.{carrier, end_of}
 use Rattle.bus_medium.specs.Past.{past}

@@ -14,7 +14,7 @@ use Rattle.bus_strings.specs.Members.{In}
 use Rattle.bus_strings.specs.MemberLaws.{in_filter, from_filter, filter_same, filter_filter, any_in, none_any, any_filter}
 use Rattle.bus_strings.specs.Messages.{Entry}
 use Rattle.bus_strings.specs.Pulses.{is_on}
-use Rattle.bus_strings.specs.PulseProofs.{quiet_behind}
+use Rattle.bus_strings.specs.PulsesAlongLaws.{quiet_behind}
 use Rattle.bus_strings.specs.Transmissions.{pulses, carrier, end_of, Precedes, IsAscending}
 use Rattle.bus_medium.specs.Past.{past, own, last_place}
 use Rattle.bus_medium.specs.AscendingLaws.{behind_in}

@@ -1,17 +1,9 @@
-ghost use Rattle.std.specs.Prelude.{◌≡◌, ◌==◌, IfOk, position};
+ghost use Rattle.std.specs.Prelude.{IfOk};
 ghost use Rattle.bus_schedule.specs.Places.{AreInTurn};
 
-use bus_table::sender::Sender;
 use bus_table::table::Table;
-use bus_table::turns;
+use bus_table::{place_of, turns};
 use std::alloc::{AllocError, Global};
-
-/// Where the sender with this number stands.
-fn place_of(senders: &[Sender], number: u8) -> Option<usize>
-    ensures { result ≡ position (λ sender. sender.number == number) senders.now }
-{
-    senders.iter().position(|sender| sender.number() == number)
-}
 
 /// The places of the senders in the table, in turn order.
 pub fn turn_places(alloc: Global, table: &Table) -> Result<Vec<usize>, AllocError>

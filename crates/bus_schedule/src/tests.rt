@@ -167,7 +167,9 @@ fn a_schedule_above_the_limit_is_refused(rt: HostRuntime) -> Result<(), Fail> {
     let table = read_table(alloc, ONE_SENDER)?;
     assert!(rt; verdict(&table).is_accepted());
     let hands = even_hands(&rt, alloc, &table, &label_words(alloc, 536_872)?)?;
-    let too_long = ScheduleError::TooLong { end: 68_719_488_020 };
+    let too_long = ScheduleError::TooLong {
+        end: 68_719_488_020,
+    };
     assert!(rt; closed(alloc, &table, &hands).err() == Some(too_long));
     assert!(rt; run_settled::<DeadlineCore>(alloc, &table, hands).err() == Some(too_long));
     Ok(())

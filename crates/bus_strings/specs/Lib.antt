@@ -5,7 +5,7 @@ pub mod Messages
 pub mod MessageLaws
 pub mod Pulses
 pub mod PulseLaws
-pub mod PulseProofs
+pub mod PulsesAlongLaws
 pub mod Transmissions
 pub mod MemberLaws
 pub mod Items

@@ -1,5 +1,5 @@
 -- What follows of the pulses of a message, whatever its words.
--- The contract of `laws::pulses_cover` says that each of these holds; `PulseProofs` has the proofs, for the crates above to cite.
+-- The contract of `laws::pulses_cover` says that each of these holds; `PulsesAlongLaws` has the proofs, for the crates above to cite.
 use Rattle.std.specs.Prelude.{◌≡◌, ℕ, ◌+◌, ◌-◌, ◌<◌, ◌≤◌, true, false, nat_lt, length}
 use Rattle.bus_strings.specs.Limits.{inner_gap}
 use Rattle.bus_strings.specs.Messages.{Message, bits}

@@ -43,8 +43,8 @@ fn empty_hands(alloc: Global, senders: &[Sender]) -> Result<Vec<Hand>, AllocErro
     Ok(hands)
 }
 
-/// Where the sender with this number stands.
-fn place_of(senders: &[Sender], number: u8) -> Option<usize>
+/// Where the sender with this number stands in the list, from 0; None where there is none.
+pub fn place_of(senders: &[Sender], number: u8) -> Option<usize>
     ensures { result ≡ position (λ sender. sender.number == number) senders.now }
 {
     senders.iter().position(|sender| sender.number() == number)

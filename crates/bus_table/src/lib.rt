@@ -41,7 +41,7 @@ mod tests;
 pub mod turns;
 mod whole;
 
-pub use dealing::hands;
+pub use dealing::{hands, place_of};
 pub use error::{TableError, WholeReason};
 pub use fit::{FitError, fits};
 pub use hand::Hand;

@@ -4,7 +4,7 @@ use Rattle.std.specs.Option.{MatchOption, option_map}
 use Rattle.std.proofs.lemmas.Bool.{lt-ltb, le-ltb, cases_lt}
 use Rattle.bus_strings.specs.Messages.{Message, word_count, bits}
 use Rattle.bus_strings.specs.Pulses.{pulse_start, pulse_length, is_on}
-use Rattle.bus_strings.specs.PulseProofs.{next_pulse, length_at, on_within_pulse}
+use Rattle.bus_strings.specs.PulsesAlongLaws.{next_pulse, length_at, on_within_pulse}
 use Rattle.bus_table.specs.Tables.{Hand}
 use Rattle.bus_terminal.specs.declared.place.Place.{Place}
 use Rattle.bus_terminal.specs.Places.{place_of, IsPlace}

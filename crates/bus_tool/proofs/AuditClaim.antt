@@ -41,12 +41,11 @@ audit_claim laws call outcome table trace acts h =
     let before = call.before.sources in
     let due : traced_due first second ≡ Ok (with_trace table trace) = traced_told table trace first second (table_told laws.texts.table_again table before.first h.table_told) (held_trace laws.texts.trace_back second trace h.trace_told.stands) in
     let does = does_of call outcome Audit (ap form_of h.form.form) acts in
-    let is = h.trace_told.stands.text.trace in
-    (
+    let is = h.trace_told.stands.text.trace in (
       answer_of table trace,
       record { first = laws.answer table trace h.table_told.valid is; right = laws.right table trace h.table_told.valid is },
       answers (two_sources entire Trace) (audit_outcome (answer_of table trace)) outcome _ (λ text. text ≡ audit_line (answer_of table trace)) call (written_audit (answer_of table trace))
-      (λ text is. found (with_trace table trace) (traced_due first second) text due (of_both entire Trace (λ a b. IsTextOf IsAuditText (traced_due a b) text) before first second h.table_told.told h.trace_told.told is))
-      (subst (λ d. StandsFor d outcome) (ap (outcome_with (λ traced. audit_outcome (audit_of traced))) due) (of_both entire Trace (λ a b. StandsFor (outcome_with (λ traced. audit_outcome (audit_of traced)) (traced_due a b)) outcome) before first second h.table_told.told h.trace_told.told does.due))
-      does.text does.counts does.out_count h.undisturbed,
+          (λ text is. found (with_trace table trace) (traced_due first second) text due (of_both entire Trace (λ a b. IsTextOf IsAuditText (traced_due a b) text) before first second h.table_told.told h.trace_told.told is))
+          (subst (λ d. StandsFor d outcome) (ap (outcome_with (λ traced. audit_outcome (audit_of traced))) due) (of_both entire Trace (λ a b. StandsFor (outcome_with (λ traced. audit_outcome (audit_of traced)) (traced_due a b)) outcome) before first second h.table_told.told h.trace_told.told does.due))
+          does.text does.counts does.out_count h.undisturbed,
     )

@@ -26,11 +26,7 @@ fn audit_outcome(answer: AuditAnswer) -> Outcome
 }
 
 /// What an audit finds of the trace in the second source, or why it wasn't made. All the memory of the command is taken here.
-fn audited<S: Source>(
-    alloc: Global,
-    first: &mut S,
-    second: &mut S,
-) -> Result<AuditAnswer, Outcome>
+fn audited<S: Source>(alloc: Global, first: &mut S, second: &mut S) -> Result<AuditAnswer, Outcome>
     ensures { Prepares IsAnswerOf (two_sources entire ByTrace) table_refusal_of traced_due
         (sources_seen ⟦<S as Source>⟧ first.old second.old) (sources_seen ⟦<S as Source>⟧ first.new second.new) result }
 {

@@ -46,9 +46,20 @@ fn lawful_traces(rt: HostRuntime) -> Result<(), Fail> {
 fn what_observe_writes_is_lawful(rt: HostRuntime) -> Result<(), Fail> {
     let messages = rounds(&rt, (2, 30), (2, 30))?;
     let together = TWO_PERIODIC_SENDERS.replace(rt.alloc(), "AT 90", "AT 0")?;
-    for (table, line) in [(TWO_SENDERS, "LAWFUL 0\n"), (together.as_str(), "LAWFUL 4\n")] {
-        let seen = run_on(&rt, &["observe", "T", "M", "2001"], table, messages.as_str())?;
-        let (first, second) = (source(&rt, table.as_bytes())?, source(&rt, seen.out.bytes())?);
+    for (table, line) in [
+        (TWO_SENDERS, "LAWFUL 0\n"),
+        (together.as_str(), "LAWFUL 4\n"),
+    ] {
+        let seen = run_on(
+            &rt,
+            &["observe", "T", "M", "2001"],
+            table,
+            messages.as_str(),
+        )?;
+        let (first, second) = (
+            source(&rt, table.as_bytes())?,
+            source(&rt, seen.out.bytes())?,
+        );
         let ran = run_over(&rt, &["audit", "T", "R"], first, second, sink_of(&rt, 200)?)?;
         assert!(rt; writes(&ran, Status::Done, line));
     }

@@ -30,8 +30,17 @@ fn nobody_receives_of_collided_messages(rt: HostRuntime) -> Result<(), Fail> {
     let messages = rounds(&rt, (2, 30), (2, 30))?;
     let words = ["observe", "T", "M", "2001"];
     let seen = run_on(&rt, &words, table.as_str(), messages.as_str())?;
-    let (first, second) = (source(&rt, table.as_bytes())?, source(&rt, seen.out.bytes())?);
-    let ran = run_over(&rt, &["receive", "T", "R"], first, second, sink_of(&rt, 200)?)?;
+    let (first, second) = (
+        source(&rt, table.as_bytes())?,
+        source(&rt, seen.out.bytes())?,
+    );
+    let ran = run_over(
+        &rt,
+        &["receive", "T", "R"],
+        first,
+        second,
+        sink_of(&rt, 200)?,
+    )?;
     let received = "RECEIVED 1\nTERMINAL 1\nTERMINAL 2\nTERMINAL 3\nEND\n";
     assert!(rt; writes(&ran, Status::Done, received));
     Ok(())

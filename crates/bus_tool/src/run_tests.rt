@@ -2,8 +2,8 @@
 use crate::observe_tests::{LONG_GAP, ONE_EACH, ONE_EACH_SEEN, rounds, starts};
 use crate::status::Status;
 use crate::tests::{
-    Ran, TWO_PERIODIC_SENDERS, TWO_SENDERS, is_refused, run_on, run_over, sink_of, source, words_of,
-    writes,
+    Ran, TWO_PERIODIC_SENDERS, TWO_SENDERS, is_refused, run_on, run_over, sink_of, source,
+    words_of, writes,
 };
 use crate::tool;
 use bus_outer::{CountSink, MemorySink};
@@ -140,7 +140,14 @@ fn a_schedule_at_its_limit(rt: HostRuntime) -> Result<(), Fail> {
     );
     let (mut out, mut err) = (CountSink::new(), sink_of(&rt, 200)?);
     let words = words_of(&rt, &["run", "T", "M"])?;
-    let status = tool(rt.alloc(), &words, &mut first, &mut second, &mut out, &mut err);
+    let status = tool(
+        rt.alloc(),
+        &words,
+        &mut first,
+        &mut second,
+        &mut out,
+        &mut err,
+    );
     assert_eq!(rt; status, Status::Done);
     assert!(rt; out.count() > 10_000_000);
     Ok(())

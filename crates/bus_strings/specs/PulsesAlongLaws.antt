@@ -1,4 +1,4 @@
--- The pulses of a message, wordstring by wordstring.
+-- The pulses of a message, wordstring by wordstring: laws with their proofs, for the lemmas of the crates above to cite.
 use Rattle.std.proofs.Common.{◌≡◌, ℕ, zero, suc, ◌+◌, ◌-◌, ◌*◌, ◌<◌, ◌≤◌, Bool, true, false, ◌&&◌, ◌||◌, ltb, leb, [], ◌∷◌, length, take}
 use Rattle.std.proofs.Common.{get_or, inl, inr, arith, sym, refl, ap, ◌∙◌}
 use Rattle.std.specs.List.{sum_by, list_any, range_with_len}
