@@ -7,5 +7,6 @@ pub mod Standing
 pub mod Going
 pub mod Watching
 pub mod Meanings
+pub mod ObservedLemmas
 pub mod Once
 pub mod Computed

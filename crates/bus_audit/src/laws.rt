@@ -1,5 +1,6 @@
 ghost use Rattle.bus_audit.specs.Breaches.{OneAnswer, TheAnswer};
 ghost use Rattle.bus_audit.specs.Meaning.{NoBreachIsRight, LawfulIsRight};
+ghost use Rattle.bus_audit.specs.Observed.{ObservedIsRight, ObservedIsClean};
 
 use bus_timers::laws::test_decides;
 
@@ -18,4 +19,14 @@ pub fn one_answer()
     ensures computed { TheAnswer }
 {
     test_decides();
+}
+
+/// What the senders of a valid table do with any fitting hands, seen up to any horizon, has no breach, whatever
+/// collides: so an audit accepts what is observed, always. A law, with no work.
+pub fn observed_is_lawful()
+    ensures right { ObservedIsRight }
+    ensures clean { ObservedIsClean }
+{
+    test_decides();
+    no_breach_is_right();
 }
