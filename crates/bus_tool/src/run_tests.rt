@@ -2,11 +2,9 @@
 use crate::observe_tests::{LONG_GAP, ONE_EACH, ONE_EACH_SEEN, rounds, starts};
 use crate::status::Status;
 use crate::tests::{
-    Ran, TWO_PERIODIC_SENDERS, TWO_SENDERS, is_refused, run_on, run_over, sink_of, source,
-    words_of, writes,
+    Ran, TWO_PERIODIC_SENDERS, TWO_SENDERS, is_refused, run_on, run_over, sink_of, source, writes,
 };
-use crate::tool;
-use bus_outer::{CountSink, MemorySink};
+use bus_outer::MemorySink;
 use std::test::Fail;
 
 /// What each terminal of the table with a long gap receives of one message each.
@@ -127,29 +125,6 @@ fn a_schedule_past_its_limit(rt: HostRuntime) -> Result<(), Fail> {
     let messages = items(&rt, 536_872)?;
     let ran = run(&rt, table, messages.as_str())?;
     assert!(rt; is_refused(&ran, Status::TooLong, "ERROR 9 long 68719488020\n"));
-    Ok(())
-}
-
-#[test]
-fn a_schedule_at_its_limit(rt: HostRuntime) -> Result<(), Fail> {
-    let table = "TABLE 1\nMODE periodic\nTI 128000\nSG 300\nSENDER 1 TG 20 AT 0\nSEND 001 0 0 0\n";
-    let messages = items(&rt, 536_871)?;
-    let (mut first, mut second) = (
-        source(&rt, table.as_bytes())?,
-        source(&rt, messages.as_bytes())?,
-    );
-    let (mut out, mut err) = (CountSink::new(), sink_of(&rt, 200)?);
-    let words = words_of(&rt, &["run", "T", "M"])?;
-    let status = tool(
-        rt.alloc(),
-        &words,
-        &mut first,
-        &mut second,
-        &mut out,
-        &mut err,
-    );
-    assert_eq!(rt; status, Status::Done);
-    assert!(rt; out.count() > 10_000_000);
     Ok(())
 }
 

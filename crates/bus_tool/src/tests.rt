@@ -20,8 +20,7 @@ pub struct Ran {
     pub err: MemorySink,
 }
 
-/// Words of a command line.
-pub fn words_of(rt: &HostRuntime, words: &[&str]) -> Result<Vec<String>, Fail> {
+fn words_of(rt: &HostRuntime, words: &[&str]) -> Result<Vec<String>, Fail> {
     let mut all = Vec::new(rt.alloc());
     for word in words {
         all.push(String::from_str(rt.alloc(), *word)?)?;
