@@ -8,5 +8,6 @@ pub mod Going
 pub mod Watching
 pub mod Meanings
 pub mod ObservedLemmas
+pub mod StatedLemmas
 pub mod Once
 pub mod Computed

@@ -47,7 +47,7 @@ from_station table trace r i =
     (p.0, p.1, sym p.2)
 
 -- ---- the hands
-filled_length : (c : ℕ) (ms : List Message) (m : Message) → length (filled c ms m) ≡ c
+pub filled_length : (c : ℕ) (ms : List Message) (m : Message) → length (filled c ms m) ≡ c
 filled_length c ms m = omega (arith, length-append (take c ms) (replicate (c - length ms) m), length-take c ms, length-replicate (c - length ms) m)
 
 take_at : (c k : ℕ) (ms rs : List Message) (m : Message) → slice_get ms k ≡ Some m → k < c → slice_get (take c ms ++ rs) k ≡ Some m

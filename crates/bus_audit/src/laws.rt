@@ -1,7 +1,8 @@
 ghost use Rattle.bus_audit.specs.Breaches.{OneAnswer, TheAnswer};
 ghost use Rattle.bus_audit.specs.Meaning.{NoBreachIsRight, LawfulIsRight};
-ghost use Rattle.bus_audit.specs.Observed.{ObservedIsRight, ObservedIsClean};
+ghost use Rattle.bus_audit.specs.Observed.{ObservedIsRight, ObservedIsClean, LawfulIsObserved};
 
+use bus_table::laws::filling_messages_fit;
 use bus_timers::laws::test_decides;
 
 /// A trace has no breach exactly where its messages fit and it is the lawful list for the hands that it states; and
@@ -29,4 +30,14 @@ pub fn observed_is_lawful()
 {
     test_decides();
     no_breach_is_right();
+}
+
+/// A trace of a valid table that has no breach is observed of hands that fit, those that its HOLD lines give: what it
+/// shows of them in order, and filling messages for those that it doesn't show. So an audit accepts only what is
+/// observed of some fitting hands with just these counts. A law, with no work.
+pub fn lawful_is_observed()
+    ensures hands { LawfulIsObserved }
+{
+    no_breach_is_right();
+    filling_messages_fit();
 }
