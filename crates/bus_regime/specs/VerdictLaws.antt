@@ -214,7 +214,7 @@ narrow_other : (sg : ℕ) (all : List Gap) (gap other : Gap) → lacks_sync sg a
 narrow_other sg all gap other h i apart =
     let none = (or_false (has_width (sg + gap.sender.tg) gap) _ (not_true _ h)).1 in
     let w : (not (other.sender.number == gap.sender.number) && has_width sg other) ≡ false =
-        none_other (synchronizes sg gap.sender.number) all other none i in
+    none_other (synchronizes sg gap.sender.number) all other none i in
     let k : has_width sg other ≡ false = ap (λ b. b && has_width sg other) (sym (not_same _ _ apart)) ∙ w in
     grind (arith, nat_tests, k)
 
