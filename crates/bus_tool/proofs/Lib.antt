@@ -7,6 +7,7 @@ pub mod DoLemmas
 pub mod FormLemmas
 pub mod HoldLemmas
 pub mod HoldLawLemmas
+pub mod FoundLawfulLemmas
 pub mod TraceLemmas
 pub mod InputLemmas
 pub mod CheckLemmas

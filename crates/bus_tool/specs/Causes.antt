@@ -25,7 +25,7 @@ use Rattle.bus_tool.specs.Forms.{form_of, sources_of}
 use Rattle.bus_tool.specs.Outside.{Sources}
 use Rattle.bus_tool.specs.Readers.{OfTexts}
 
--- no table has the text, in the forms that are read today
+-- no table has the text
 abbrev pub IsNoTableText : List ℕ → Type 0
 IsNoTableText text = (table : Table) → IsTableText table text → ⊥
 

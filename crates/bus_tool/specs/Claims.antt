@@ -36,7 +36,7 @@ pub record NothingFails (named : Named) (before after : Outside) : Type 0 where
   pub second : IsUndisturbed named.second before.sources.second after.sources.second
   pub out : Rose before.out.faults after.out.faults → ⊥
 
--- a source tells its bytes, and they are a text, within its limit, of a valid table in the forms that are read today
+-- a source tells its bytes, and they are a text, within its limit, of a valid table
 pub record TellsTable (table : Table) (seen : Seen) : Type 0 where
   pub text : List ℕ
   pub told : seen.bytes ≡ Some text

@@ -1,15 +1,19 @@
 -- What follows of what the commands write.
-use Rattle.std.specs.Prelude.{◌≡◌, ℕ, true, IsTrue, List}
+use Rattle.std.specs.Prelude.{◌≡◌, ℕ, true, IsTrue, IsOk, List}
 use Rattle.bus_strings.specs.Items.{Item}
 use Rattle.bus_strings.specs.Members.{In}
 use Rattle.bus_table.specs.Tables.{Table, Hand}
+use Rattle.bus_table.specs.Fits.{items_fit}
 use Rattle.bus_table.specs.Hands.{hands_of}
 use Rattle.bus_table.specs.Valid.{is_valid}
 use Rattle.bus_trace.specs.declared.hold.Hold.{Hold}
-use Rattle.bus_trace.specs.Traces.{AscendAbove}
+use Rattle.bus_trace.specs.Traces.{Recording, IsTrace, AscendAbove}
+use Rattle.bus_audit.specs.declared.answer.AuditAnswer.{AuditAnswer}
+use Rattle.bus_audit.specs.declared.answer.AuditAnswer.TheVariants.{Lawful}
 use Rattle.bus_tool.specs.Outcomes.{is_written}
 use Rattle.bus_tool.specs.Due.{due}
-use Rattle.bus_tool.specs.Texts.{hold_of, holds_of, IsCommandText}
+use Rattle.bus_tool.specs.Texts.{hold_of, holds_of, IsObserved, IsRunRecording, IsCommandText}
+use Rattle.bus_tool.specs.TraceClaims.{IsFinding}
 
 -- a command writes one text at most
 abbrev pub OneCommandText : Type 0
@@ -28,3 +32,17 @@ pub record HoldEachHand (hands : List Hand) : Type 0 where
 -- each sender of a valid table has one hold
 abbrev pub SendersHaveHolds : Type 0
 SendersHaveHolds = (table : Table) (items : List Item) → IsTrue (is_valid table) → HoldEachHand (hands_of table items)
+
+-- an audit finds nothing against a trace
+abbrev pub IsFoundLawful : Table → Recording → Type 0
+IsFoundLawful table trace = (answer : AuditAnswer) → IsFinding table trace answer → (collided : ℕ) × (answer ≡ Lawful collided)
+
+-- nor against what is observed of a valid table and of items that fit it, whatever collides
+abbrev pub ObservedIsFoundLawful : Type 0
+ObservedIsFoundLawful = (table : Table) (items : List Item) (horizon : ℕ) (trace : Recording) → IsTrue (is_valid table)
+    → IsOk (items_fit table items) → IsTrace trace → IsObserved table (hands_of table items) horizon trace → IsFoundLawful table trace
+
+-- nor against a run
+abbrev pub RunIsFoundLawful : Type 0
+RunIsFoundLawful = (table : Table) (items : List Item) (trace : Recording) → IsTrue (is_valid table) → IsOk (items_fit table items)
+    → IsTrace trace → IsRunRecording table (hands_of table items) trace → IsFoundLawful table trace

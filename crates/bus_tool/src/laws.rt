@@ -1,6 +1,8 @@
 //! Laws of the definitions, each the contract of a function that does nothing.
 ghost use Rattle.bus_tool.specs.TextLaws.{OneCommandText, AnswersHaveTexts, SendersHaveHolds};
+ghost use Rattle.bus_tool.specs.TextLaws.{ObservedIsFoundLawful, RunIsFoundLawful};
 
+use bus_audit::laws::observed_is_lawful;
 use bus_medium::laws::one_lawful_list;
 use bus_schedule::laws::{accepted_is_closed, even_hands_agree};
 use bus_table::laws::{fitting_items_give_hands, readings_have_their_cause};
@@ -21,3 +23,14 @@ pub fn one_text_of_a_command()
 pub fn senders_have_holds()
     ensures { SendersHaveHolds }
 {}
+
+/// An audit accepts what `observe` and `run` write, whatever collides: it finds nothing against a trace of a valid table and of items that
+/// fit it.
+pub fn audit_accepts_what_is_observed()
+    ensures observed { ObservedIsFoundLawful }
+    ensures run { RunIsFoundLawful }
+{
+    observed_is_lawful();
+    fitting_items_give_hands();
+    senders_have_holds();
+}

@@ -1,0 +1,24 @@
+-- An audit finds nothing against what is observed.
+use Rattle.std.specs.Prelude.{◌≡◌, IsTrue, List}
+use Rattle.std.proofs.Common.{sym, subst}
+use Rattle.bus_strings.specs.Members.{In}
+use Rattle.bus_medium.specs.Lawful.{IsLawful}
+use Rattle.bus_medium.specs.Timings.{quiet_of, stations_of}
+use Rattle.bus_table.specs.Hands.{hands_of}
+use Rattle.bus_trace.specs.Traces.{AscendAbove}
+use Rattle.bus_audit.specs.Observed.{ObservedIsRight, states_hands}
+use Rattle.bus_tool.specs.Texts.{hold_of}
+use Rattle.bus_tool.specs.TextLaws.{SendersHaveHolds, ObservedIsFoundLawful, RunIsFoundLawful}
+use Rattle.bus_tool.proofs.LawTypes.{FittingItemsGiveHands}
+
+pub observed_is_found_lawful : ObservedIsRight → FittingItemsGiveHands → SendersHaveHolds → ObservedIsFoundLawful
+observed_is_found_lawful right give have table items horizon trace valid fit is o answer found =
+    let hands = hands_of table items in
+    let each = (have table items valid).each in
+    let states = states_hands hands trace is.terminals (λ hand i. subst (In (hold_of hand)) (sym o.holds) (each hand i)) in
+    let lawful = subst (λ n. IsLawful (quiet_of table) (stations_of table hands) n trace.list) (sym o.horizon) o.lawful in
+    found.right.1 (right table hands trace valid (give table items valid fit) is states lawful)
+
+pub run_is_found_lawful : ObservedIsFoundLawful → RunIsFoundLawful
+run_is_found_lawful law table items trace valid fit is ran =
+    law table items _ trace valid fit is (record { horizon = ran.horizon; holds = ran.holds; lawful = ran.run.lawful })
