@@ -87,9 +87,12 @@ fn reads_periodic_tables_with_listeners(rt: HostRuntime) -> Result<(), Fail> {
     let table = read_table(rt.alloc(), text)?;
     assert_eq!(rt; table.mode(), Mode::Periodic);
     let senders = table.senders();
+    assert_eq!(rt; senders.len(), 2);
     assert_eq!(rt; senders[1].at(), 1999);
     assert_eq!(rt; senders[1].takes().len(), 0);
-    let line = senders[0].takes()[0];
+    let takes = senders[0].takes();
+    assert_eq!(rt; takes.len(), 1);
+    let line = takes[0];
     assert_eq!(rt; line.label.value(), 0x0b2);
     assert!(rt; line.ext.is_none());
     assert_eq!(rt; line.first, 255);
@@ -98,7 +101,9 @@ fn reads_periodic_tables_with_listeners(rt: HostRuntime) -> Result<(), Fail> {
     assert_eq!(rt; listeners.len(), 2);
     assert_eq!(rt; listeners[0].takes().len(), 0);
     assert_eq!(rt; listeners[1].number(), 4);
-    assert_eq!(rt; listeners[1].takes()[0].ext, Ext::new(15));
+    let takes = listeners[1].takes();
+    assert_eq!(rt; takes.len(), 1);
+    assert_eq!(rt; takes[0].ext, Ext::new(15));
     Ok(())
 }
 
