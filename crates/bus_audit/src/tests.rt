@@ -1,3 +1,4 @@
+use crate::BreachKind::{Early, Missing, Stranger, Unheld};
 use crate::{AuditAnswer, BreachKind, audit};
 use bus_outer::MemorySource;
 use bus_table::read_table;
@@ -21,13 +22,20 @@ const ONE_EACH: &[u8] = b"HORIZON 150\nHOLD 1 1\nHOLD 2 1\n";
 
 const TWO_EACH: &[u8] = b"HORIZON 2001\nHOLD 1 2\nHOLD 2 2\n";
 
-/// The text of a trace, of its HORIZON and HOLD lines and what was sent; each `*` there stands for thirty data words.
+/// The text of a trace, of its HORIZON and HOLD lines and what was sent; there each `*` stands for thirty data words, and
+/// `a` and `b` for the WS line of terminals 1 and 2.
 fn trace_text(alloc: Global, head: &[u8], sent: &[u8]) -> Result<Vec<u8>, AllocError> {
     let mut text = Vec::from_slice(alloc, b"TRACE 1\n")?;
     text.extend_from_slice(head)?;
     for byte in sent {
         if *byte == b'*' {
             text.extend_from_slice(THIRTY_WORDS)?;
+        } else if *byte == b'a' {
+            text.extend_from_slice(b"WS L0A111 D00001 D00001\n")?;
+        } else if *byte == b'b' {
+            text.extend_from_slice(b"WS L0B210")?;
+            text.extend_from_slice(THIRTY_WORDS)?;
+            text.push(b'\n')?;
         } else {
             text.push(*byte)?;
         }
@@ -41,6 +49,22 @@ fn answer(alloc: Global, table: &[u8], head: &[u8], sent: &[u8]) -> Result<Audit
     let mut source = MemorySource::new(trace_text(alloc, head, sent)?, 7, Vec::new(alloc));
     let trace = read_trace(alloc, &mut source)?;
     Ok(audit(alloc, &table, &trace)?)
+}
+
+/// What a list of four entries comes to, where others stand for entry `at`.
+fn answer_with(
+    alloc: Global,
+    table: &[u8],
+    head: &[u8],
+    list: [&[u8]; 4],
+    at: usize,
+    others: &[u8],
+) -> Result<AuditAnswer, Fail> {
+    let mut sent = Vec::new(alloc);
+    for (k, entry) in list.iter().enumerate() {
+        sent.extend_from_slice(if k == at { others } else { *entry })?;
+    }
+    answer(alloc, table, head, &sent)
 }
 
 fn breach(moment: u64, terminal: u8, kind: BreachKind) -> AuditAnswer {
@@ -175,6 +199,142 @@ fn missed_turns_and_collisions_are_told(rt: HostRuntime) -> Result<(), Fail> {
     ];
     for (table, head, sent, wanted) in rows {
         assert_eq!(rt; answer(rt.alloc(), table, head, sent)?, wanted);
+    }
+    Ok(())
+}
+
+/// What is observed of two senders that take turns, and each change of it: an entry left out, earlier, later or twice, and
+/// a message more or less that was held.
+#[test]
+fn each_change_of_an_observed_trace_is_told(rt: HostRuntime) -> Result<(), Fail> {
+    let list: [&[u8]; 4] = [
+        b"TX 20 1\na",
+        b"TX 110 2\nb",
+        b"TX 1050 1\na",
+        b"TX 1140 2\nb",
+    ];
+    let held = b"HORIZON 2200\nHOLD 1 2\nHOLD 2 2\n";
+    let rows: [(&[u8], usize, &[u8], AuditAnswer); 21] = [
+        (held, 0, b"TX 20 1\na", lawful(0)),
+        (held, 0, b"", breach(20, 1, Missing)),
+        (held, 1, b"", breach(110, 2, Missing)),
+        (held, 2, b"", breach(1050, 1, Missing)),
+        (held, 3, b"", breach(1140, 2, Missing)),
+        (held, 0, b"TX 19 1\na", breach(19, 1, Early)),
+        (held, 1, b"TX 109 2\nb", breach(109, 2, Early)),
+        (held, 2, b"TX 1049 1\na", breach(1049, 1, Early)),
+        (held, 3, b"TX 1139 2\nb", breach(1139, 2, Early)),
+        (held, 0, b"TX 21 1\na", breach(20, 1, Missing)),
+        (held, 1, b"TX 111 2\nb", breach(110, 2, Missing)),
+        (held, 2, b"TX 1051 1\na", breach(1050, 1, Missing)),
+        (held, 3, b"TX 1141 2\nb", breach(1140, 2, Missing)),
+        (held, 0, b"TX 20 1\naTX 20 2\na", breach(20, 2, Early)),
+        (held, 1, b"TX 110 2\nbTX 110 3\nb", breach(110, 3, Stranger)),
+        (
+            held,
+            2,
+            b"TX 1050 1\naTX 1050 3\na",
+            breach(1050, 3, Stranger),
+        ),
+        (
+            held,
+            3,
+            b"TX 1140 1\nbTX 1140 2\nb",
+            breach(1140, 1, Unheld),
+        ),
+        (
+            b"HORIZON 2200\nHOLD 1 1\nHOLD 2 2\n",
+            0,
+            b"TX 20 1\na",
+            breach(1050, 1, Unheld),
+        ),
+        (
+            b"HORIZON 2200\nHOLD 1 3\nHOLD 2 2\n",
+            0,
+            b"TX 20 1\na",
+            breach(2080, 1, Missing),
+        ),
+        (
+            b"HORIZON 2200\nHOLD 1 2\nHOLD 2 1\n",
+            0,
+            b"TX 20 1\na",
+            breach(1140, 2, Unheld),
+        ),
+        (
+            b"HORIZON 2200\nHOLD 1 2\nHOLD 2 3\n",
+            0,
+            b"TX 20 1\na",
+            breach(2140, 2, Missing),
+        ),
+    ];
+    for (head, at, others, wanted) in rows {
+        assert_eq!(rt;
+            answer_with(rt.alloc(), SHORT_GAPS, head, list, at, others)?,
+            wanted
+        );
+    }
+    Ok(())
+}
+
+/// What is observed of two senders that collide, and each change of it that ascends: an entry left out, earlier, later or
+/// twice, and a message more or less that was held.
+#[test]
+fn each_change_of_a_collision_is_told(rt: HostRuntime) -> Result<(), Fail> {
+    let list: [&[u8]; 4] = [b"TX 0 1\na", b"TX 0 2\nb", b"TX 2000 1\na", b"TX 2000 2\nb"];
+    let held = b"HORIZON 4001\nHOLD 1 2\nHOLD 2 2\n";
+    let rows: [(&[u8], usize, &[u8], AuditAnswer); 16] = [
+        (held, 0, b"TX 0 1\na", lawful(4)),
+        (held, 0, b"", breach(0, 1, Missing)),
+        (held, 1, b"", breach(0, 2, Missing)),
+        (held, 2, b"", breach(2000, 1, Missing)),
+        (held, 3, b"", breach(2000, 2, Missing)),
+        (held, 2, b"TX 1999 1\na", breach(1999, 1, Early)),
+        (held, 1, b"TX 1 2\nb", breach(0, 2, Missing)),
+        (held, 3, b"TX 2001 2\nb", breach(2000, 2, Missing)),
+        (held, 1, b"TX 0 2\nbTX 0 3\na", breach(0, 3, Stranger)),
+        (held, 1, b"TX 0 2\nbTX 0 3\nb", breach(0, 3, Stranger)),
+        (
+            held,
+            3,
+            b"TX 2000 2\nbTX 2000 3\na",
+            breach(2000, 3, Stranger),
+        ),
+        (
+            held,
+            3,
+            b"TX 2000 2\nbTX 2000 3\nb",
+            breach(2000, 3, Stranger),
+        ),
+        (
+            b"HORIZON 4001\nHOLD 1 1\nHOLD 2 2\n",
+            0,
+            b"TX 0 1\na",
+            breach(2000, 1, Unheld),
+        ),
+        (
+            b"HORIZON 4001\nHOLD 1 3\nHOLD 2 2\n",
+            0,
+            b"TX 0 1\na",
+            breach(4000, 1, Missing),
+        ),
+        (
+            b"HORIZON 4001\nHOLD 1 2\nHOLD 2 1\n",
+            0,
+            b"TX 0 1\na",
+            breach(2000, 2, Unheld),
+        ),
+        (
+            b"HORIZON 4001\nHOLD 1 2\nHOLD 2 3\n",
+            0,
+            b"TX 0 1\na",
+            breach(4000, 2, Missing),
+        ),
+    ];
+    for (head, at, others, wanted) in rows {
+        assert_eq!(rt;
+            answer_with(rt.alloc(), SAME_OFFSET, head, list, at, others)?,
+            wanted
+        );
     }
     Ok(())
 }
