@@ -33,7 +33,8 @@ use Rattle.bus_audit.specs.Breaches.{answer_of}
 use Rattle.bus_tool.specs.declared.forms.Form.{Form}
 use Rattle.bus_tool.specs.declared.forms.Form.TheVariants.{Check, Observe, Run, Receive, Audit}
 use Rattle.bus_tool.specs.declared.outcome.Outcome.{Outcome}
-use Rattle.bus_tool.specs.declared.outcome.Outcome.TheVariants.{Done, Answered, Refused, Usage, TableText, TableWhole, MessagesText, Unfit, Uneven, TraceText, ReadFault, NoMemory, TooLarge, TooLong}
+use Rattle.bus_tool.specs.declared.outcome.Outcome.TheVariants.{Done, Answered, Refused, Usage, TableText, TableWhole, MessagesText}
+use Rattle.bus_tool.specs.declared.outcome.Outcome.TheVariants.{Unfit, Uneven, TraceText, ReadFault, NoMemory, TooLarge, TooLong}
 use Rattle.bus_tool.specs.Forms.{form_of}
 use Rattle.bus_tool.specs.Readers.{text_limit}
 use Rattle.bus_tool.specs.Stages.{refusal_in}
@@ -49,6 +50,7 @@ table_refusal (Text line reason) = TableText line reason
 table_refusal (Whole reason) = TableWhole reason
 table_refusal Memory = NoMemory
 
+-- a table, or the outcome of its refusal
 abbrev pub table_or_refusal : Result Table TableError → Result Table Outcome
 table_or_refusal (Ok table) = Ok table
 table_or_refusal (Err error) = Err (table_refusal error)
@@ -67,17 +69,21 @@ abbrev pub messages_refusal : MessagesError → Outcome
 messages_refusal (NotRead line reason) = MessagesText line reason
 messages_refusal NoRoom = NoMemory
 
+-- items, or the outcome of their refusal
 abbrev pub items_or_refusal : Result (List Item) Refusal → Result (List Item) Outcome
 items_or_refusal (Ok items) = Ok items
 items_or_refusal (Err refusal) = Err (MessagesText refusal.line refusal.reason)
 
+-- items, where each fits its sender
 abbrev pub fitting_or_refusal : Result (Unit {0}) FitError → List Item → Result (List Item) Outcome
 fitting_or_refusal (Ok fit) items = Ok items
 fitting_or_refusal (Err error) items = Err (Unfit error)
 
 -- the items of the second text, each of which fits its sender
 abbrev pub items_due : Table → List ℕ → Result (List Item) Outcome
-items_due table text = text_due 2 text >>= λ whole. items_or_refusal (messages_reading whole) >>= λ items. fitting_or_refusal (items_fit table items) items
+items_due table text =
+    text_due 2 text >>= λ whole. items_or_refusal (messages_reading whole)
+    >>= λ items. fitting_or_refusal (items_fit table items) items
 
 -- ---- the second text, where it is a trace
 -- what a read of a trace comes to that failed
@@ -102,6 +108,7 @@ pub record Inputs : Type 0 where
   pub table : Table
   pub items : List Item
 
+-- the pair of these
 abbrev pub with_items : Table → List Item → Inputs
 with_items table items = record { table = table; items = items }
 
@@ -157,9 +164,11 @@ can_run table hands = may_run table hands >>= λ _. short_due (closed_end table 
 abbrev pub hands_in : Inputs → List Hand
 hands_in inputs = hands_of inputs.table inputs.items
 
+-- inputs whose senders can be run
 abbrev pub runs : Inputs → Result Inputs Outcome
 runs inputs = can_run inputs.table (hands_in inputs) >>= λ _. Ok inputs
 
+-- what `run` asks for of both texts
 abbrev pub run_due : List ℕ → List ℕ → Result Inputs Outcome
 run_due first second = inputs_due first second >>= runs
 

@@ -32,7 +32,8 @@ three_words command =
 
 -- `observe T M N`
 abbrev pub four_words : List ℕ → List ℕ → Option Form
-four_words command horizon = if bytes_eq command (codes "observe") && is_horizon horizon then Some (Observe (decimal_value horizon)) else None
+four_words command horizon =
+    if bytes_eq command (codes "observe") && is_horizon horizon then Some (Observe (decimal_value horizon)) else None
 
 -- the form of these words, whatever the words T and M are
 abbrev pub form_of : List (List ℕ) → Option Form

@@ -15,7 +15,9 @@ use Rattle.bus_regime.specs.Lines.{verdict_line}
 use Rattle.bus_tool.specs.declared.status.Status.{Status}
 use Rattle.bus_tool.specs.declared.status.Status.TheVariants as status
 use Rattle.bus_tool.specs.declared.outcome.Outcome.{Outcome}
-use Rattle.bus_tool.specs.declared.outcome.Outcome.TheVariants.{Done, Answered, Refused, Usage, TableText, TableWhole, MessagesText, Unfit, Uneven, TraceText, ReadFault, WriteFault, NoMemory, TooLarge, TooLong}
+use Rattle.bus_tool.specs.declared.outcome.Outcome.TheVariants.{Done, Answered, Refused, Usage, TableText, TableWhole, MessagesText}
+use Rattle.bus_tool.specs.declared.outcome.Outcome.TheVariants.{Unfit, Uneven, TraceText, ReadFault, WriteFault, NoMemory, TooLarge}
+use Rattle.bus_tool.specs.declared.outcome.Outcome.TheVariants.{TooLong}
 use Rattle.bus_tool.specs.Kinds.{kind_of, is_answer}
 use Rattle.bus_tool.specs.Statuses.{number_of}
 
@@ -88,7 +90,8 @@ fault_words (TableText line reason) = codes "table line " ++ decimal line ++ 32 
 fault_words (TableWhole reason) = codes "table " ++ whole_words reason
 fault_words (MessagesText line reason) = codes "messages line " ++ decimal line ++ 32 ∷ [] ++ reason_name reason
 fault_words (Unfit error) = codes "messages item " ++ fit_words error
-fault_words (Uneven one one_count other other_count) = codes "messages uneven " ++ count_words one one_count ++ 32 ∷ [] ++ count_words other other_count
+fault_words (Uneven one one_count other other_count) =
+    codes "messages uneven " ++ count_words one one_count ++ 32 ∷ [] ++ count_words other other_count
 fault_words (TraceText byte reason) = codes "trace byte " ++ decimal byte ++ 32 ∷ [] ++ trace_reason_name reason
 fault_words (ReadFault source) = codes "read " ++ decimal source
 fault_words WriteFault = codes "write"
@@ -126,10 +129,11 @@ refused_verdict (TooLong end) = None
 abbrev pub plain_line : Outcome → List ℕ
 plain_line outcome = if is_written outcome then [] else error_line outcome
 
--- the line of an outcome: that of the verdict for which the senders of a table aren't run, or its own
+-- that of the verdict for which the senders of a table aren't run, or the outcome's own
 abbrev pub line_with : Option TableVerdict → Outcome → List ℕ
 line_with None outcome = plain_line outcome
 line_with (Some verdict) outcome = verdict_line verdict
 
+-- the line of an outcome
 abbrev pub fault_line : Outcome → List ℕ
 fault_line outcome = line_with (refused_verdict outcome) outcome

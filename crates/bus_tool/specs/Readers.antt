@@ -1,7 +1,8 @@
 -- How the sources are read.
 --   reader   how a source is read, and up to which limit
 --   reach    how far it was read
-use Rattle.std.specs.Prelude.{◌≡◌, ℕ, ◌+◌, ◌≤◌, ◌<◌, nat_lt, List, [], Option, Some, None, IfSome, IsSome, Result, Ok, Err, ◌⊎◌, if◌then◌else◌}
+use Rattle.std.specs.Prelude.{◌≡◌, ℕ, ◌+◌, ◌≤◌, ◌<◌, nat_lt, List, [], Option, Some, None, IfSome, IsSome, Result, Ok, Err, ◌⊎◌}
+use Rattle.std.specs.Prelude.{if◌then◌else◌}
 use Rattle.bus_outer.specs.Sources.{TakesSome, most_piece}
 use Rattle.bus_trace.specs.declared.fault.TraceError.TheVariants.{Text, ReadFault, TooLarge}
 use Rattle.bus_trace.specs.declared.reason.TraceReason.{TraceReason}
@@ -111,8 +112,10 @@ IsNamed named source = ((source ≡ 1) × IsSome named.first) ⊎ ((source ≡ 2
 
 -- A read that failed is of a named source. Its count of faults rose, and the other's is as it was.
 pub data FailsToRead (named : Named) (before after : Sources) (source : ℕ) : Type 0 where
-  First : source ≡ 1 → IsSome named.first → Rises before.first after.first → Stays before.second after.second → FailsToRead named before after source
-  Second : source ≡ 2 → IsSome named.second → Stays before.first after.first → Rises before.second after.second → FailsToRead named before after source
+  First : source ≡ 1 → IsSome named.first → Rises before.first after.first → Stays before.second after.second
+      → FailsToRead named before after source
+  Second : source ≡ 2 → IsSome named.second → Stays before.first after.first → Rises before.second after.second
+      → FailsToRead named before after source
 
 -- A count of a source rose exactly where it couldn't be read. What is said of a source is said of a named one.
 abbrev pub SourceCounts : Named → Sources → Sources → Kind → Type 0

@@ -1,8 +1,10 @@
 -- The number with which the process ends.
 use Rattle.std.specs.Prelude.{ℕ}
 use Rattle.bus_tool.specs.declared.status.Status.{Status}
-use Rattle.bus_tool.specs.declared.status.Status.TheVariants.{Done, Refused, Usage, TableRefused, InputRefused, ReadFault, WriteFault, NoMemory, TooLarge, TooLong}
+use Rattle.bus_tool.specs.declared.status.Status.TheVariants.{Done, Refused, Usage, TableRefused, InputRefused, ReadFault, WriteFault}
+use Rattle.bus_tool.specs.declared.status.Status.TheVariants.{NoMemory, TooLarge, TooLong}
 
+-- the number of a status
 abbrev pub number_of : Status → ℕ
 number_of Done = 0
 number_of Refused = 1

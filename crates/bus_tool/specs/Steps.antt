@@ -9,7 +9,8 @@ use Rattle.bus_tool.specs.declared.outcome.Outcome.TheVariants.{ReadFault, NoMem
 use Rattle.bus_tool.specs.Kinds.{Kind, NoForm, NotRead, TooMuch, Wrong, Late, NotWritten, NoRoom, Answer, kind_of}
 use Rattle.bus_tool.specs.Stages.{StandsFor, Gives}
 use Rattle.bus_tool.specs.Outside.{Seen, Sources, Rises, Stays}
-use Rattle.bus_tool.specs.Readers.{Reader, Named, told, OfTexts, Reach, Untouched, Within, Past, Judged, ReadsBy, Reads, reach, SourceCounts}
+use Rattle.bus_tool.specs.Readers.{Reader, Named, told, OfTexts, Reach, Untouched, Within, Past, Judged, ReadsBy, Reads, reach}
+use Rattle.bus_tool.specs.Readers.{SourceCounts}
 
 -- the kind of what a step came to so far, where nothing stops it behind
 abbrev pub came_to : {X : Type 0} → Result X Outcome → Kind

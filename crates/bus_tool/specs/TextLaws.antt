@@ -17,11 +17,13 @@ use Rattle.bus_tool.specs.TraceClaims.{IsFinding}
 
 -- a command writes one text at most
 abbrev pub OneCommandText : Type 0
-OneCommandText = (words : List (List ℕ)) (first second text other : List ℕ) → IsCommandText words first second text → IsCommandText words first second other → other ≡ text
+OneCommandText = (words : List (List ℕ)) (first second text other : List ℕ)
+    → IsCommandText words first second text → IsCommandText words first second other → other ≡ text
 
 -- it has a text, where an answer is due
 abbrev pub AnswersHaveTexts : Type 0
-AnswersHaveTexts = (words : List (List ℕ)) (first second : List ℕ) → is_written (due words first second) ≡ true → (text : List ℕ) × IsCommandText words first second text
+AnswersHaveTexts = (words : List (List ℕ)) (first second : List ℕ)
+    → is_written (due words first second) ≡ true → (text : List ℕ) × IsCommandText words first second text
 
 -- one hold for each hand, by rising number
 pub record HoldEachHand (hands : List Hand) : Type 0 where

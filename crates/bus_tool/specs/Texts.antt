@@ -45,6 +45,7 @@ pub record IsObserved (table : Table) (hands : List Hand) (until : ℕ) (recordi
   pub holds : recording.holds ≡ holds_of hands
   pub lawful : IsLawful (quiet_of table) (stations_of table hands) until recording.list
 
+-- the recording of the senders that inputs give
 abbrev pub IsRecordingOf : ℕ → Recording → Inputs → Type 0
 IsRecordingOf horizon recording inputs = IsObserved inputs.table (hands_in inputs) horizon recording
 
@@ -103,6 +104,7 @@ IsFormText Run first second text = IsTextOf IsRunText (run_due first second) tex
 IsFormText Receive first second text = IsTextOf IsReceiveText (traced_due first second) text
 IsFormText Audit first second text = IsTextOf IsAuditText (traced_due first second) text
 
+-- what is written where the words ask for a form, or for none
 abbrev pub IsTextFor : Option Form → List ℕ → List ℕ → List ℕ → Type 0
 IsTextFor None first second text = ⊥
 IsTextFor (Some form) first second text = IsFormText form first second text

@@ -1,7 +1,8 @@
 ghost use Rattle.bus_outer.specs.Sinks.{WritesText};
 ghost use Rattle.bus_outer.specs.Texts.{Adds};
 ghost use Rattle.bus_table.specs.declared.fit.FitError.TheVariants.{Stranger, Shape};
-ghost use Rattle.bus_tool.specs.Outcomes.{reason_name, trace_reason_name, pair_words, whole_words, fit_words, fault_words, count_words, status_of, error_line, plain_line, fault_line};
+ghost use Rattle.bus_tool.specs.Outcomes.{reason_name, trace_reason_name, pair_words, whole_words, fit_words, fault_words, count_words};
+ghost use Rattle.bus_tool.specs.Outcomes.{status_of, error_line, plain_line, fault_line};
 ghost use Rattle.bus_text.specs.Digits.{hex_digit, hexadecimal};
 ghost use Rattle.bus_tool.specs.Statuses.{number_of};
 ghost use Rattle.std.specs.Prelude.{List, [], ◌∷◌, ◌++◌, decimal};

@@ -19,7 +19,8 @@ pub fn one_text_of_a_command()
     even_hands_agree();
 }
 
-/// Each sender of a valid table has one hold, with the number of its terminal and of its messages; there is no other, and they rise by number.
+/// Each sender of a valid table has one hold, with the number of its terminal and of its messages; there is no other, and they rise by
+/// number.
 pub fn senders_have_holds()
     ensures { SendersHaveHolds }
 {}

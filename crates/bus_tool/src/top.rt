@@ -41,7 +41,7 @@ pub fn tool<S: Source, K: Sink, E: Sink>(
     // `observe T M N` of texts of a valid table and of items that fit, where nothing outside fails: the one trace, or want of memory.
     ensures observe { let call = called (words_of words.now) (outside ⟦<S as Source>⟧ ⟦<K as Sink>⟧ first.old second.old out.old)
         (outside ⟦<S as Source>⟧ ⟦<K as Sink>⟧ first.new second.new out.new) in
-        (table : Table) (items : List Item) (horizon : ℕ) → IsObserveOf table items horizon call → GivesTrace table items horizon call result }
+        (table : Table) (items : List Item) (until : ℕ) → IsObserveOf table items until call → GivesTrace table items until call result }
 
     // `run T M` of texts of a valid table that is accepted and of items that fit, as many for each sender, where nothing outside fails: the
     // one trace, which is the closed schedule, or want of memory.
@@ -59,7 +59,8 @@ pub fn tool<S: Source, K: Sink, E: Sink>(
         (outside ⟦<S as Source>⟧ ⟦<K as Sink>⟧ first.new second.new out.new) in
         (table : Table) (trace : Recording) → IsAuditOf table trace call → GivesFinding table trace call result }
 
-    // Of any words and bytes: the outcome that is due or a fault in its place, what was taken and written, what `err` holds, and the status.
+    // Of any words and bytes: the outcome that is due or a fault in its place, what was taken and written, what `err` holds, and the
+    // status.
     ensures acts { let call = called (words_of words.now) (outside ⟦<S as Source>⟧ ⟦<K as Sink>⟧ first.old second.old out.old)
         (outside ⟦<S as Source>⟧ ⟦<K as Sink>⟧ first.new second.new out.new) in
         (outcome : Came) × Acts call outcome × TellsFault E.held E.faults err.old err.new outcome × (result ≡ status_of outcome) }
