@@ -1,6 +1,6 @@
 -- What is claimed of `audit`.
 use Rattle.std.specs.Prelude.{◌≡◌, ℕ, List, Result, Ok}
-use Rattle.std.proofs.Common.{refl, sym, ap, ◌∙◌, subst}
+use Rattle.std.proofs.Common.{sym, ap, ◌∙◌, subst}
 use Rattle.bus_table.specs.Tables.{Table}
 use Rattle.bus_trace.specs.Traces.{Recording}
 use Rattle.bus_audit.specs.Breaches.{answer_of, TheAnswer}

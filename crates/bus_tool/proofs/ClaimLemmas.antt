@@ -12,7 +12,7 @@ use Rattle.bus_tool.specs.Kinds.{Answer, kind_of}
 use Rattle.bus_tool.specs.Stages.{StandsFor}
 use Rattle.bus_tool.specs.Outside.{Seen, Rises, Call, Outside}
 use Rattle.bus_tool.specs.Readers.{Reader, Named, FailsToRead, First, Second, SourceCounts, OutCounts}
-use Rattle.bus_tool.specs.Acts.{Leaves, Does, DoesForm, Acts}
+use Rattle.bus_tool.specs.Acts.{Leaves, DoesForm, Acts}
 use Rattle.bus_tool.specs.Claims.{IsUndisturbed, NothingFails, Answers}
 
 -- all of a text has gone

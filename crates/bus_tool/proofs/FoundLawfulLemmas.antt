@@ -1,11 +1,9 @@
 -- An audit finds nothing against what is observed.
-use Rattle.std.specs.Prelude.{◌≡◌, IsTrue, List}
 use Rattle.std.proofs.Common.{sym, subst}
 use Rattle.bus_strings.specs.Members.{In}
 use Rattle.bus_medium.specs.Lawful.{IsLawful}
 use Rattle.bus_medium.specs.Timings.{quiet_of, stations_of}
 use Rattle.bus_table.specs.Hands.{hands_of}
-use Rattle.bus_trace.specs.Traces.{AscendAbove}
 use Rattle.bus_audit.specs.Observed.{ObservedIsRight, states_hands}
 use Rattle.bus_tool.specs.Texts.{hold_of}
 use Rattle.bus_tool.specs.TextLaws.{SendersHaveHolds, ObservedIsFoundLawful, RunIsFoundLawful}

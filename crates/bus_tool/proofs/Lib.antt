@@ -9,6 +9,7 @@ pub mod HoldLemmas
 pub mod HoldLawLemmas
 pub mod FoundLawfulLemmas
 pub mod TraceLemmas
+pub mod EntryLemmas
 pub mod InputLemmas
 pub mod CheckLemmas
 pub mod ObserveLemmas

@@ -19,14 +19,15 @@ use Rattle.bus_strings.specs.Limits.{horizon_limit}
 use Rattle.bus_tool.specs.Forms.{four_words, form_of}
 use Rattle.bus_tool.specs.Outcomes.{status_of}
 use Rattle.bus_tool.specs.Stages.{StandsFor}
-use Rattle.bus_tool.specs.Outside.{Sources, Call}
+use Rattle.bus_tool.specs.Outside.{Seen, Sources, Call}
 use Rattle.bus_tool.specs.Readers.{Reader, entire, two_sources, OfTexts}
 use Rattle.bus_tool.specs.Due.{Inputs, with_items, inputs_due, outcome_with}
 use Rattle.bus_tool.specs.Texts.{IsObserveText, IsTextOf}
 use Rattle.bus_tool.specs.Acts.{Acts}
-use Rattle.bus_tool.specs.Claims.{IsObserveOf, IsTheTrace, GivesTrace}
+use Rattle.bus_tool.specs.Claims.{TellsItems, IsObserveOf, IsTheTrace, GivesTrace}
 use Rattle.bus_tool.proofs.LawTypes.{TextReadsAsItsTable, TextReadsAsItsItems, FittingItemsGiveHands}
 use Rattle.bus_tool.proofs.ClaimLemmas.{answers, does_of}
+use Rattle.bus_tool.proofs.EntryLemmas.{observed_recording}
 use Rattle.bus_tool.proofs.ToldLemmas.{table_told, items_told, inputs_told}
 
 -- the laws by which `observe` writes the one trace
@@ -52,11 +53,13 @@ only_list laws table items horizon list other valid fit h k =
     let one = laws.one_list table (hands_of table items) horizon valid (laws.give_hands table items valid fits) in
     one.2 other k ∙ sym (one.2 list h)
 
-trace_of : ObserveLaws → (table : Table) (items : List Item) (horizon : ℕ) (text : List ℕ) → IsTrue (is_valid table) → items_fit table items ≡ Ok tt → IsObserveText horizon (with_items table items) text → IsTheTrace table (hands_of table items) horizon text
-trace_of laws table items horizon text valid fit h = record {
+trace_of : ObserveLaws → (table : Table) (items : List Item) (seen : Seen) (horizon : ℕ) (text : List ℕ) → IsTrue (is_valid table) → TellsItems table items seen → horizon ≤ horizon_limit
+    → IsObserveText horizon (with_items table items) text → IsTheTrace table (hands_of table items) horizon text
+trace_of laws table items seen horizon text valid told within h = record {
   recording = h.recording;
+  trace = observed_recording table items told.text horizon h.recording valid (laws.give_hands table items valid (subst IsOk (sym told.fit) refl)) told.stands told.short within h.observed;
   observed = h.observed;
-  only = λ other k. only_list laws table items horizon h.recording.list other valid fit h.observed.lawful k;
+  only = λ other k. only_list laws table items horizon h.recording.list other valid told.fit h.observed.lawful k;
   text_is = h.text_is;
 }
 
@@ -75,7 +78,7 @@ observe_claim laws call outcome table items horizon acts h =
     let due : inputs_due first second ≡ Ok (with_items table items) = inputs_told table items first second (table_told laws.table_again table before.first h.table_told) (items_told laws.items_again table items before.second h.items_told) in
     let does = does_of call outcome (Observe horizon) (ap form_of h.form.form ∙ horizon_form h.form.number horizon h.form.spelled h.form.within) acts in
     answers (two_sources entire entire) Done outcome _ (IsTheTrace table (hands_of table items) horizon) call refl
-    (λ text is. trace_of laws table items horizon text h.table_told.valid h.items_told.fit
+    (λ text is. trace_of laws table items before.second horizon text h.table_told.valid h.items_told h.form.within
     (due_text horizon (with_items table items) (inputs_due first second) text due (of_both entire entire (λ a b. IsTextOf (IsObserveText horizon) (inputs_due a b) text) before first second h.table_told.told h.items_told.told is)))
     (subst (λ d. StandsFor d outcome) (ap (outcome_with (λ inputs. Done)) due) (of_both entire entire (λ a b. StandsFor (outcome_with (λ inputs. Done) (inputs_due a b)) outcome) before first second h.table_told.told h.items_told.told does.due))
     does.text does.counts does.out_count h.undisturbed

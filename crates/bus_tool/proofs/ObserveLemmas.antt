@@ -11,7 +11,7 @@ use Rattle.bus_tool.specs.declared.outcome.Outcome.TheVariants.{Done}
 use Rattle.bus_tool.specs.Outside.{Seen, Sources, around, sink_seen}
 use Rattle.bus_tool.specs.Readers.{entire, two_sources}
 use Rattle.bus_tool.specs.Steps.{Prepares}
-use Rattle.bus_tool.specs.Due.{table_due, inputs_due, table_refusal_of}
+use Rattle.bus_tool.specs.Due.{inputs_due, table_refusal_of}
 use Rattle.bus_tool.specs.Texts.{IsRecordingOf, IsObserveText}
 use Rattle.bus_tool.specs.Acts.{written, DoesForm}
 use Rattle.bus_tool.proofs.DoLemmas.{Tells, answered, stopped}

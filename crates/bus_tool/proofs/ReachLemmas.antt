@@ -1,12 +1,12 @@
 -- How far the sources were read, and their counts, by where a command stopped.
-use Rattle.std.specs.Prelude.{◌≡◌, ℕ, ◌≤◌, nat_lt, true, false, List, [], Option, Some, None, IsSome, Ok, Err, ◌⊎◌}
+use Rattle.std.specs.Prelude.{◌≡◌, ℕ, nat_lt, false, List, [], Option, Some, None, IsSome}
 use Rattle.std.proofs.Common.{arith, refl, sym, ap, ◌∙◌, subst, cond, inl, inr}
 use Rattle.std.proofs.lemmas.Bool.Decides.{nat_tests}
 use Rattle.bus_outer.specs.Sources.{Taken}
 use Rattle.bus_trace.specs.Traces.{trace_text}
 use Rattle.bus_tool.specs.Kinds.{Kind, NoForm, NotRead, TooMuch, Wrong, Late, NotWritten, NoRoom, Answer}
-use Rattle.bus_tool.specs.Outside.{Seen, Sources, both, Rises, Stays, BothStay}
-use Rattle.bus_tool.specs.Readers.{Reader, Entire, Trace, Named, one_source, two_sources, Reach, Untouched, Within, Past, Judged, TakesDecided, ReadsBy, Reads, reach_at, reach, IsNamed, FailsToRead, First, Second, SourceCounts, OutCounts}
+use Rattle.bus_tool.specs.Outside.{Seen, Sources, both, Stays, BothStay}
+use Rattle.bus_tool.specs.Readers.{Reader, Entire, Trace, Named, Reach, Untouched, Within, Past, Judged, ReadsBy, Reads, reach_at, reach, First, Second, SourceCounts, OutCounts}
 use Rattle.bus_tool.specs.Steps.{stopped_at, StopsAt, StepCounts, IsEarly, IsLate}
 
 -- at its own stage

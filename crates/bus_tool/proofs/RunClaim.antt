@@ -1,15 +1,17 @@
 -- What is claimed of `run`.
-use Rattle.std.specs.Prelude.{◌≡◌, ℕ, true, false, Bool, ◌&&◌, ◌==◌, IsTrue, IsOk, IsNone, List, [], ◌∷◌, length, map, Option, Some, None, Result, Ok, Err}
+use Rattle.std.specs.Prelude.{◌≡◌, ℕ, ◌≤◌, true, false, Bool, ◌&&◌, ◌==◌, IsTrue, IsOk, IsNone, List, [], ◌∷◌, length, map, Option, Some, None, Result, Ok, Err}
 use Rattle.std.specs.List.{list_all, AllByRecursion}
 use Rattle.std.proofs.Common.{arith, refl, sym, ap, ◌∙◌, subst, cond}
 use Rattle.std.proofs.lemmas.Bool.{eq-eqb}
 use Rattle.bus_text.specs.AllOf.{◌>>=◌}
 use Rattle.bus_strings.specs.Items.{Item}
+use Rattle.bus_strings.specs.Limits.{horizon_limit}
 use Rattle.bus_strings.specs.Messages.{Message}
 use Rattle.bus_table.specs.Tables.{Sender, Table, Hand}
 use Rattle.bus_table.specs.Hands.{message_of, items_of, hand_of, hands_of, are_hands}
 use Rattle.bus_regime.specs.Verdicts.{verdict_of, is_accepted}
 use Rattle.bus_schedule.specs.declared.uneven.Uneven.{Uneven as UnevenHands}
+use Rattle.bus_schedule.specs.Closed.{closed_end}
 use Rattle.bus_schedule.specs.Even.{rounds, are_even}
 use Rattle.bus_schedule.specs.Laws.{EvenHandsAgree}
 use Rattle.bus_schedule.specs.Uneven.{uneven_of}
@@ -22,11 +24,12 @@ use Rattle.bus_tool.specs.Stages.{StandsFor}
 use Rattle.bus_tool.specs.Outside.{Call}
 use Rattle.bus_tool.specs.Readers.{entire, two_sources}
 use Rattle.bus_tool.specs.Due.{Inputs, with_items, inputs_due, even_due, accepted_due, may_run, runs, run_due, outcome_with}
-use Rattle.bus_tool.specs.Texts.{IsRunText, IsTextOf}
+use Rattle.bus_tool.specs.Texts.{IsObserved, IsRunText, IsTextOf}
 use Rattle.bus_tool.specs.Acts.{Acts}
 use Rattle.bus_tool.specs.RunClaims.{AreEvenItems, IsRunOf, IsTheRun, GivesRun}
 use Rattle.bus_tool.proofs.LawTypes.{TextReadsAsItsTable, TextReadsAsItsItems, FittingItemsGiveHands}
 use Rattle.bus_tool.proofs.ClaimLemmas.{answers, does_of}
+use Rattle.bus_tool.proofs.EntryLemmas.{observed_recording}
 use Rattle.bus_tool.proofs.ToldLemmas.{table_told, items_told, inputs_told}
 use Rattle.bus_tool.proofs.ObserveClaim.{of_both}
 use Rattle.bus_tool.proofs.RunLemmas.{can_be_run}
@@ -87,8 +90,13 @@ run_told laws table items call h =
 due_text : (inputs : Inputs) (due : Result Inputs Outcome) (text : List ℕ) → due ≡ Ok inputs → IsTextOf IsRunText due text → IsRunText inputs text
 due_text inputs due text is h = (let same : Ok h.0 ≡ due = sym h.1 in let e : h.0 ≡ inputs = cc in subst (λ i. IsRunText i text) e h.2)
 
-the_run : (table : Table) (items : List Item) (text : List ℕ) → IsRunText (with_items table items) text → IsTheRun table (hands_of table items) text
-the_run table items text h = record { recording = h.recording; ran = h.ran; text_is = h.text_is }
+the_run : RunLaws → (table : Table) (items : List Item) (call : Call) (text : List ℕ) → IsRunOf table items call → IsRunText (with_items table items) text → IsTheRun table (hands_of table items) text
+the_run laws table items call text told h =
+    let dealt = laws.give_hands table items told.table_told.valid (subst IsOk (sym told.items_told.fit) refl) in
+    let observed : IsObserved table (hands_of table items) (closed_end table (hands_of table items)) h.recording = record { horizon = h.ran.horizon; holds = h.ran.holds; lawful = h.ran.run.lawful } in
+    let within : closed_end table (hands_of table items) ≤ horizon_limit = omega (arith, told.short) in
+    let trace = observed_recording table items told.items_told.text (closed_end table (hands_of table items)) h.recording told.table_told.valid dealt told.items_told.stands told.items_told.short within observed in
+    record { recording = h.recording; trace = trace; ran = h.ran; text_is = h.text_is }
 
 pub run_claim : RunLaws → (call : Call) (outcome : Outcome) (table : Table) (items : List Item) → Acts call outcome → IsRunOf table items call → GivesRun table items call (status_of outcome)
 run_claim laws call outcome table items acts h =
@@ -98,6 +106,6 @@ run_claim laws call outcome table items acts h =
     let due : run_due first second ≡ Ok (with_items table items) = run_told laws table items call h in
     let does = does_of call outcome Run (ap form_of h.form.form) acts in
     answers (two_sources entire entire) Done outcome _ (IsTheRun table (hands_of table items)) call refl
-    (λ text is. the_run table items text (due_text (with_items table items) (run_due first second) text due (of_both entire entire (λ a b. IsTextOf IsRunText (run_due a b) text) before first second h.table_told.told h.items_told.told is)))
+    (λ text is. the_run laws table items call text h (due_text (with_items table items) (run_due first second) text due (of_both entire entire (λ a b. IsTextOf IsRunText (run_due a b) text) before first second h.table_told.told h.items_told.told is)))
     (subst (λ d. StandsFor d outcome) (ap (outcome_with (λ inputs. Done)) due) (of_both entire entire (λ a b. StandsFor (outcome_with (λ inputs. Done) (run_due a b)) outcome) before first second h.table_told.told h.items_told.told does.due))
     does.text does.counts does.out_count h.undisturbed

@@ -1,5 +1,5 @@
 -- `run` of its steps.
-use Rattle.std.specs.Prelude.{◌≡◌, ℕ, ◌≤◌, nat_lt, true, false, Bool, List, Option, Some, None, Result, Ok, Err, IfErr, IsErrAnd, Vec}
+use Rattle.std.specs.Prelude.{◌≡◌, ℕ, ◌≤◌, nat_lt, true, false, Bool, List, Option, Some, None, Result, Ok, Err, IsErrAnd, Vec}
 use Rattle.std.specs.declared.alloc.Global.{Global}
 use Rattle.std.proofs.Common.{arith, refl, sym, ap, ◌∙◌, subst, cond}
 use Rattle.std.specs.List.{AllByRecursion}
@@ -34,7 +34,7 @@ use Rattle.bus_tool.specs.Outside.{Seen, Sources, around, sink_seen}
 use Rattle.bus_tool.specs.Readers.{entire, two_sources}
 use Rattle.bus_tool.specs.Stages.{stage_in, Gives}
 use Rattle.bus_tool.specs.Steps.{IsLate, Prepares}
-use Rattle.bus_tool.specs.Due.{Inputs, hands_in, table_due, inputs_due, even_due, accepted_due, short_due, may_run, can_run, runs, run_due, table_refusal_of}
+use Rattle.bus_tool.specs.Due.{Inputs, hands_in, inputs_due, even_due, accepted_due, short_due, may_run, can_run, runs, run_due, table_refusal_of}
 use Rattle.bus_tool.specs.Taken.{AreInputs}
 use Rattle.bus_tool.specs.Texts.{holds_of, IsRunRecording, IsRanOf, run_text, IsRunText}
 use Rattle.bus_strings.specs.Transmissions.{IsTransmission}

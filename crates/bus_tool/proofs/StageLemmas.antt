@@ -1,10 +1,10 @@
 -- Steps one after another: what they give, and at which stage.
 use Rattle.std.specs.Prelude.{◌≡◌, ℕ, ◌≤◌, Option, Some, None, IfSome, Result, Ok, Err}
-use Rattle.std.proofs.Common.{arith, refl, sym, ap, ◌∙◌, subst}
+use Rattle.std.proofs.Common.{arith, sym, ap, subst}
 use Rattle.bus_text.specs.AllOf.{◌>>=◌}
 use Rattle.bus_tool.specs.declared.outcome.Outcome.{Outcome}
 use Rattle.bus_tool.specs.Kinds.{Kind, NoForm, NotRead, TooMuch, Wrong, Late, NotWritten, NoRoom, Answer, kind_of, stage_of}
-use Rattle.bus_tool.specs.Stages.{StandsAs, StandsFor, stage_in, GivesStop, Gives, refusal_in}
+use Rattle.bus_tool.specs.Stages.{StandsAs, stage_in, GivesStop, Gives, refusal_in}
 use Rattle.bus_tool.specs.Outside.{Sources}
 use Rattle.bus_tool.specs.Steps.{StopsAt, IsEarly, IsLate, IsRefused}
 use Rattle.bus_tool.specs.Due.{outcome_with}

@@ -1,15 +1,14 @@
 -- A text that is read whole.
-use Rattle.std.specs.Prelude.{◌≡◌, ℕ, ◌≤◌, ◌<◌, nat_lt, true, false, List, length, Option, Some, None, IfSome, Vec, Result, Ok, Err}
+use Rattle.std.specs.Prelude.{◌≡◌, ℕ, ◌≤◌, ◌<◌, nat_lt, true, false, List, length, Option, Some, None, IfSome, Vec, Ok, Err}
 use Rattle.std.specs.declared.alloc.Global.{Global}
-use Rattle.std.proofs.Common.{arith, refl, sym, ap, ◌∙◌, subst, cond}
+use Rattle.std.proofs.Common.{arith, refl, sym, ap, subst, cond}
 use Rattle.std.proofs.lemmas.Bool.Decides.{nat_tests}
 use Rattle.std.proofs.lemmas.List.{length-append}
 use Rattle.bus_outer.specs.Sources.{Taken, ReadsWhole, CountsRead}
 use Rattle.bus_outer.specs.declared.whole.ReadError.{ReadError}
 use Rattle.bus_outer.specs.declared.whole.ReadError.TheVariants.{Fault, TooLarge as Larger, Memory}
-use Rattle.bus_tool.specs.declared.outcome.Outcome.{Outcome}
 use Rattle.bus_tool.specs.declared.outcome.Outcome.TheVariants.{TooLarge}
-use Rattle.bus_tool.specs.Stages.{stage_in, Gives}
+use Rattle.bus_tool.specs.Stages.{stage_in}
 use Rattle.bus_tool.specs.Outside.{Seen}
 use Rattle.bus_tool.specs.Readers.{text_limit, entire}
 use Rattle.bus_tool.specs.Steps.{read_refusal, IsText, Takes}

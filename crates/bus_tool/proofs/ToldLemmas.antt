@@ -1,17 +1,14 @@
 -- What is due to texts by the relation between a value and its texts, and the other way round.
-use Rattle.std.specs.Prelude.{◌≡◌, ℕ, ◌≤◌, nat_lt, false, List, length, Ok, Err}
-use Rattle.std.proofs.Common.{arith, ap, ◌∙◌, cond}
-use Rattle.std.proofs.lemmas.Bool.Decides.{nat_tests}
+use Rattle.std.specs.Prelude.{◌≡◌, ℕ, List, Ok}
+use Rattle.std.proofs.Common.{ap, ◌∙◌}
 use Rattle.bus_text.specs.AllOf.{◌>>=◌}
 use Rattle.bus_strings.specs.Items.{Item}
 use Rattle.bus_strings.specs.Reading.{messages_reading}
 use Rattle.bus_table.specs.Tables.{Table}
 use Rattle.bus_table.specs.Fits.{items_fit}
 use Rattle.bus_table.specs.Reading.{answer_of}
-use Rattle.bus_tool.specs.declared.outcome.Outcome.TheVariants.{TooLarge}
 use Rattle.bus_tool.specs.Outside.{Seen}
-use Rattle.bus_tool.specs.Readers.{text_limit}
-use Rattle.bus_tool.specs.Due.{text_due, table_or_refusal, table_due, items_or_refusal, fitting_or_refusal, items_due, with_items, inputs_due}
+use Rattle.bus_tool.specs.Due.{table_or_refusal, table_due, items_or_refusal, fitting_or_refusal, items_due, with_items, inputs_due}
 use Rattle.bus_tool.specs.Claims.{TellsTable, TellsItems}
 use Rattle.bus_tool.proofs.TextLemmas.{short_text}
 use Rattle.bus_tool.proofs.LawTypes.{TextReadsAsItsTable, TextReadsAsItsItems}

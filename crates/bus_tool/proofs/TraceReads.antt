@@ -1,6 +1,6 @@
 -- What was read of a trace, by what is due.
 use Rattle.std.specs.Prelude.{◌≡◌, ℕ, ◌≤◌, false, ◌⊎◌, List, ◌++◌, length, Result, Ok, Err}
-use Rattle.std.proofs.Common.{refl, sym, ap, ◌∙◌, subst, inl, inr}
+use Rattle.std.proofs.Common.{refl, ap, ◌∙◌, subst, inl, inr}
 use Rattle.bus_text.specs.AllOf.{◌>>=◌}
 use Rattle.bus_text.specs.AllOfLaws.{bind_ok}
 use Rattle.bus_table.specs.Tables.{Table}

@@ -1,6 +1,6 @@
 -- What is made of a table text and a trace text.
-use Rattle.std.specs.Prelude.{◌≡◌, ℕ, ◌≤◌, nat_lt, Bool, true, false, List, length, take, Option, Some, None, IfSome, Result, Ok, Err, IsErrAnd}
-use Rattle.std.proofs.Common.{arith, refl, sym, ap, ◌∙◌, subst, cond, inl, inr}
+use Rattle.std.specs.Prelude.{◌≡◌, ℕ, ◌≤◌, nat_lt, Bool, true, false, List, length, take, IfSome, Result, Ok, Err, IsErrAnd}
+use Rattle.std.proofs.Common.{arith, refl, sym, ap, ◌∙◌, subst, inl, inr}
 use Rattle.std.proofs.lemmas.Bool.Decides.{nat_tests}
 use Rattle.std.proofs.lemmas.Result.{err_from_is_err_and}
 use Rattle.bus_text.specs.AllOf.{◌>>=◌}
@@ -14,7 +14,7 @@ use Rattle.bus_trace.specs.Reading.{TakesTrace, ReadGives, CountsReading}
 use Rattle.bus_tool.specs.declared.inputs.Traced.{Traced as Taken}
 use Rattle.bus_tool.specs.declared.outcome.Outcome.{Outcome}
 use Rattle.bus_tool.specs.Kinds.{kind_of}
-use Rattle.bus_tool.specs.Stages.{stage_in, Gives}
+use Rattle.bus_tool.specs.Stages.{stage_in}
 use Rattle.bus_tool.specs.Outside.{Seen, both}
 use Rattle.bus_tool.specs.Readers.{Trace, entire, two_sources}
 use Rattle.bus_tool.specs.Steps.{Takes, Same, Prepares}

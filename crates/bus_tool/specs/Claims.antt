@@ -15,7 +15,7 @@ use Rattle.bus_regime.specs.Verdicts.{verdict_of}
 use Rattle.bus_regime.specs.Lines.{verdict_line}
 use Rattle.bus_medium.specs.Lawful.{IsLawful}
 use Rattle.bus_medium.specs.Timings.{quiet_of, stations_of}
-use Rattle.bus_trace.specs.Traces.{Recording, trace_text}
+use Rattle.bus_trace.specs.Traces.{Recording, IsTrace, trace_text}
 use Rattle.bus_tool.specs.declared.status.Status.{Status}
 use Rattle.bus_tool.specs.declared.status.Status.TheVariants.{Done, NoMemory}
 use Rattle.bus_strings.specs.Limits.{horizon_limit}
@@ -92,9 +92,10 @@ pub record IsObserveOf (table : Table) (items : List Item) (horizon : ℕ) (call
   pub items_told : TellsItems table items call.before.sources.second
   pub undisturbed : NothingFails (two_sources entire entire) call.before call.after
 
--- the text of the trace up to the horizon, whose list is the lawful list; and there is no other
+-- the text of a trace up to the horizon, whose list is the lawful list; and there is no other
 pub record IsTheTrace (table : Table) (hands : List Hand) (horizon : ℕ) (text : List ℕ) : Type 0 where
   pub recording : Recording
+  pub trace : IsTrace recording
   pub observed : IsObserved table hands horizon recording
   pub only : (other : List Entry) → IsLawful (quiet_of table) (stations_of table hands) horizon other → other ≡ recording.list
   pub text_is : text ≡ trace_text recording

@@ -1,10 +1,10 @@
 -- How the sources are read.
 --   reader   how a source is read, and up to which limit
 --   reach    how far it was read
-use Rattle.std.specs.Prelude.{◌≡◌, ℕ, ◌+◌, ◌≤◌, ◌<◌, nat_lt, List, [], Option, Some, None, IfSome, IsSome, Result, Ok, Err, ◌⊎◌}
+use Rattle.std.specs.Prelude.{◌≡◌, ℕ, ◌+◌, ◌≤◌, ◌<◌, nat_lt, List, [], Option, Some, None, IfSome, IsSome, Ok, Err, ◌⊎◌}
 use Rattle.std.specs.Prelude.{if◌then◌else◌}
 use Rattle.bus_outer.specs.Sources.{TakesSome, most_piece}
-use Rattle.bus_trace.specs.declared.fault.TraceError.TheVariants.{Text, ReadFault, TooLarge}
+use Rattle.bus_trace.specs.declared.fault.TraceError.TheVariants.{Text, TooLarge}
 use Rattle.bus_trace.specs.declared.reason.TraceReason.{TraceReason}
 use Rattle.bus_trace.specs.Traces.{Recording}
 use Rattle.bus_trace.specs.Limits.{text_limit as trace_limit}

@@ -7,7 +7,7 @@ use Rattle.bus_table.specs.Hands.{items_of, hands_of}
 use Rattle.bus_regime.specs.Verdicts.{verdict_of, is_accepted}
 use Rattle.bus_schedule.specs.Closed.{closed_end}
 use Rattle.bus_schedule.specs.Limits.{longest_end}
-use Rattle.bus_trace.specs.Traces.{Recording}
+use Rattle.bus_trace.specs.Traces.{Recording, IsTrace}
 use Rattle.bus_tool.specs.declared.status.Status.{Status}
 use Rattle.bus_tool.specs.declared.status.Status.TheVariants.{Done}
 use Rattle.bus_tool.specs.Outside.{Call}
@@ -41,6 +41,7 @@ pub record IsRunOf (table : Table) (items : List Item) (call : Call) : Type 0 wh
 -- of the hands, and its list is the run.
 pub record IsTheRun (table : Table) (hands : List Hand) (text : List ℕ) : Type 0 where
   pub recording : Recording
+  pub trace : IsTrace recording
   pub ran : IsRunRecording table hands recording
   pub text_is : text ≡ run_text table recording
 

@@ -1,9 +1,8 @@
 -- What the commands write on `out`, where their outcome is an answer.
 --   hold   how many messages a terminal held when the bus began to run: a line of a trace
-use Rattle.std.specs.Prelude.{◌≡◌, ℕ, ◌≤◌, ◌==◌, List, ◌++◌, length, Option, Some, None, Result, Ok}
+use Rattle.std.specs.Prelude.{◌≡◌, ℕ, ◌==◌, List, ◌++◌, length, Option, Some, None, Result, Ok}
 use Rattle.std.specs.List.{find, filter_map, range_with_len}
 use Rattle.std.specs.Option.{option_map}
-use Rattle.bus_strings.specs.Messages.{Entry, IsMessage}
 use Rattle.bus_table.specs.Tables.{Table, Hand}
 use Rattle.bus_regime.specs.Verdicts.{verdict_of}
 use Rattle.bus_regime.specs.Lines.{verdict_line}
