@@ -12,3 +12,4 @@ pub mod FitLemmas
 pub mod NewLemmas
 pub mod HandLemmas
 pub mod HandFits
+pub mod OffsetLemmas

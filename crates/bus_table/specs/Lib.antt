@@ -19,3 +19,5 @@ pub mod TurnLaws
 pub mod FitLaws
 pub mod Filling
 pub mod FillingLaws
+pub mod Offsets
+pub mod OffsetLaws

@@ -20,7 +20,7 @@ use Rattle.bus_table.specs.Valid.{fits_mode, is_valid, is_in_range as table_in_r
 use Rattle.bus_table.specs.Facts.{FitsMode, SenderFacts, TableFacts}
 
 -- neither of two is there
-or_none : {A : Type 0} (a b : Option A) → option_or a b ≡ None → (a ≡ None) × (b ≡ None)
+pub or_none : {A : Type 0} (a b : Option A) → option_or a b ≡ None → (a ≡ None) × (b ≡ None)
 or_none None b h = (refl, h)
 or_none (Some x) b h = absurd (cc)
 
@@ -28,7 +28,7 @@ map_none : {A B : Type 0} (f : A → B) (a : Option A) → option_map f a ≡ No
 map_none f None h = refl
 map_none f (Some x) h = absurd (cc)
 
-is_none_is : {A : Type 0} (a : Option A) → is_none a ≡ true → a ≡ None
+pub is_none_is : {A : Type 0} (a : Option A) → is_none a ≡ true → a ≡ None
 is_none_is None h = refl
 is_none_is (Some x) h = absurd (cc)
 

@@ -4,6 +4,7 @@
 //!   valid: every number is in its range, and none of the [`error::WholeReason`]s applies.
 //! - [`reading::read_table`] reads a text.
 //! - [`lengths`] tells the shortest and the longest message of a sender, [`turns::place`] who speaks after whom.
+//! - [`offsets::with_offsets`] gives the senders of a periodic table other offsets.
 //! - [`fit::fits`] holds the items of a messages text to the lines of their senders, and [`dealing::hands`] deals them out.
 //!
 //! The gaps and intervals of a bus, and that each terminal has a gap of its own which is shorter than the
@@ -12,7 +13,7 @@
 //!
 //! The definitions are in `specs/`: `Tables` (a table as plain numbers and lists), `Ranges`, `Whole` and `Valid` (which
 //! tables are valid), `Text` (which texts stand for which tables), `Forms`, `Drafts` and `Reading` (what a text reads as,
-//! line by line, and where and why it is refused), `Lengths`, `Turns`, `Fits` and `Hands`. What callers may use of them
+//! line by line, and where and why it is refused), `Lengths`, `Turns`, `Offsets`, `Fits` and `Hands`. What callers may use of them
 //! beside the contracts are `Facts` and the files whose names end in `Laws`.
 #![tactic(auto)]
 
@@ -31,6 +32,9 @@ pub mod lengths;
 pub mod line;
 pub mod listener;
 pub mod mode;
+#[cfg(test)]
+mod offset_tests;
+pub mod offsets;
 mod ranges;
 pub mod reading;
 pub mod sender;
@@ -49,6 +53,7 @@ pub use lengths::{longest, shortest};
 pub use line::{SendLine, TakeLine};
 pub use listener::Listener;
 pub use mode::Mode;
+pub use offsets::with_offsets;
 pub use reading::read_table;
 pub use sender::Sender;
 pub use table::Table;

@@ -1,4 +1,4 @@
-ghost use Rattle.std.specs.Prelude.{◌≡◌, ◌<◌, length, IsTrue, OnOk};
+ghost use Rattle.std.specs.Prelude.{◌≡◌, ◌<◌, length, IsTrue, IfOk, OnOk};
 ghost use Rattle.bus_table.specs.Ranges.{is_listener, is_number as is_terminal, is_take_line, most_takes, kept};
 
 use crate::line::TakeLine;
@@ -61,6 +61,16 @@ impl Listener {
         let _ext = line.ext;
         self.takes.push(line)?;
         Ok(())
+    }
+
+    /// An equal listener. Fails only where memory runs out.
+    pub(crate) fn copied(&self, alloc: Global) -> Result<Listener, AllocError>
+        ensures { IfOk result (λ listener. listener ≡ self.now) }
+    {
+        Ok(Listener {
+            number: self.number,
+            takes: Vec::from_slice(alloc, &self.takes)?,
+        })
     }
 
     /// Its terminal number: 1 to 128.

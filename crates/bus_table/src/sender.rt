@@ -32,6 +32,7 @@ impl Model for Sender {
 
 impl Sender {
     ghost use Rattle.bus_table.specs.Drafts.{opened, with_send, with_take};
+    ghost use Rattle.bus_table.specs.Offsets.{at_offset};
 
     /// None exactly where the number, the terminal gap or the offset is out of its range, where there are no SEND lines
     /// or more than 31, or more than 64 TAKE lines, or where a number of a line is out of its range.
@@ -98,6 +99,20 @@ impl Sender {
         let _ext = line.ext;
         self.takes.push(line)?;
         Ok(())
+    }
+
+    /// The same sender at another offset. Fails only where memory runs out.
+    pub(crate) fn moved(&self, alloc: Global, at: u32) -> Result<Sender, AllocError>
+        requires { at < 128000 }
+        ensures { IfOk result (λ sender. sender ≡ at_offset at self.now) }
+    {
+        Ok(Sender {
+            number: self.number,
+            tg: self.tg,
+            at,
+            sends: Vec::from_slice(alloc, &self.sends)?,
+            takes: Vec::from_slice(alloc, &self.takes)?,
+        })
     }
 
     /// Its terminal number: 1 to 128.

@@ -116,6 +116,26 @@ impl Table {
         }
     }
 
+    /// The table of these, which is valid.
+    pub(crate) fn of_parts(
+        mode: Mode,
+        ti: u32,
+        sg: u32,
+        senders: Vec<Sender>,
+        listeners: Vec<Listener>,
+    ) -> Table
+        requires { IsTrue (is_valid (record { mode = mode; ti = ti; sg = sg; senders = senders.items; listeners = listeners.items })) }
+        ensures { result ≡ record { mode = mode; ti = ti; sg = sg; senders = senders.items; listeners = listeners.items } }
+    {
+        Table {
+            mode,
+            ti,
+            sg,
+            senders,
+            listeners,
+        }
+    }
+
     /// Its mode.
     pub fn mode(&self) -> Mode
         ensures value { result ≡ self.now.mode }
