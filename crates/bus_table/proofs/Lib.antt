@@ -13,3 +13,4 @@ pub mod NewLemmas
 pub mod HandLemmas
 pub mod HandFits
 pub mod OffsetLemmas
+pub mod CanonicalLemmas

@@ -21,3 +21,5 @@ pub mod Filling
 pub mod FillingLaws
 pub mod Offsets
 pub mod OffsetLaws
+pub mod Canonical
+pub mod Puts

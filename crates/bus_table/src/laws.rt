@@ -5,6 +5,7 @@ ghost use Rattle.bus_strings.specs.Messages.{Message, bits};
 ghost use Rattle.bus_table.specs.declared.mode.Mode.{Mode};
 ghost use Rattle.bus_table.specs.declared.mode.Mode.TheVariants.{Aperiodic, Periodic};
 ghost use Rattle.bus_table.specs.declared.error.TableError.{TableError};
+ghost use Rattle.bus_table.specs.Canonical.{table_text};
 ghost use Rattle.bus_table.specs.Filling.{filling_message};
 ghost use Rattle.bus_table.specs.Fits.{fits, items_fit, is_shortest, is_longest};
 ghost use Rattle.bus_table.specs.Gives.{Refuses};
@@ -25,6 +26,13 @@ pub fn text_reads_as_its_table()
 pub fn readings_have_their_cause()
     ensures found { (text : List ℕ) (table : tables.Table) → answer_of text ≡ Ok table → IsTableText table text × IsTrue (is_valid table) }
     ensures refused { (text : List ℕ) (error : TableError) → answer_of text ≡ Err error → Refuses text error }
+{}
+
+/// The canonical text of a valid table is a text of it, and so it reads as that table: to write what was read of it gives
+/// the same text.
+pub fn canonical_text_reads_as_its_table()
+    ensures stands { (table : tables.Table) → IsTrue (is_valid table) → IsTableText table (table_text table) }
+    ensures reads { (table : tables.Table) → IsTrue (is_valid table) → answer_of (table_text table) ≡ Ok table }
 {}
 
 /// Items that fit the senders of a valid table give these hands, whose messages fit.

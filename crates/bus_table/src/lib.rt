@@ -2,7 +2,7 @@
 //!
 //! - [`table::Table`] with its [`sender::Sender`]s, its [`listener::Listener`]s and their [`line`]s keeps that it is
 //!   valid: every number is in its range, and none of the [`error::WholeReason`]s applies.
-//! - [`reading::read_table`] reads a text.
+//! - [`reading::read_table`] reads a text, and [`write_table`] writes the canonical one.
 //! - [`lengths`] tells the shortest and the longest message of a sender, [`turns::place`] who speaks after whom.
 //! - [`offsets::with_offsets`] gives the senders of a periodic table other offsets.
 //! - [`fit::fits`] holds the items of a messages text to the lines of their senders, and [`dealing::hands`] deals them out.
@@ -13,8 +13,9 @@
 //!
 //! The definitions are in `specs/`: `Tables` (a table as plain numbers and lists), `Ranges`, `Whole` and `Valid` (which
 //! tables are valid), `Text` (which texts stand for which tables), `Forms`, `Drafts` and `Reading` (what a text reads as,
-//! line by line, and where and why it is refused), `Lengths`, `Turns`, `Offsets`, `Fits` and `Hands`. What callers may use of them
-//! beside the contracts are `Facts` and the files whose names end in `Laws`.
+//! line by line, and where and why it is refused), `Canonical` (the text that is written), `Lengths`, `Turns`, `Offsets`,
+//! `Fits` and `Hands`. What callers may use of them beside the contracts are `Facts` and the files whose
+//! names end in `Laws`.
 #![tactic(auto)]
 
 pub mod dealing;
@@ -44,6 +45,7 @@ pub mod table;
 mod tests;
 pub mod turns;
 mod whole;
+mod writing;
 
 pub use dealing::{hands, place_of};
 pub use error::{TableError, WholeReason};
@@ -58,3 +60,4 @@ pub use reading::read_table;
 pub use sender::Sender;
 pub use table::Table;
 pub use turns::place;
+pub use writing::write_table;

@@ -3,6 +3,8 @@ use crate::lengths::{longest, shortest};
 use crate::mode::Mode;
 use crate::reading::read_table;
 use crate::table::Table;
+use crate::writing::write_table;
+use bus_outer::MemorySink;
 use bus_text::reason::Reason;
 use bus_words::label::{Ext, Label};
 use std::alloc::AllocError;
@@ -244,6 +246,23 @@ fn names_what_stands_twice(rt: HostRuntime) -> Result<(), Fail> {
     for (lines, reason) in rows {
         let text = with_head(&rt, lines)?;
         assert_eq!(rt; whole(&read_table(rt.alloc(), &text)), Some(reason));
+    }
+    Ok(())
+}
+
+/// What is written has no comment, no blank line and no digit in lower case, and is what a canonical text reads and writes again.
+#[test]
+fn writes_the_canonical_text(rt: HostRuntime) -> Result<(), Fail> {
+    let alloc = rt.alloc();
+    let given =
+        b"# bus\nTABLE 1\nMODE periodic\n\n\tTI\t2000\r\nSG 300\nSENDER 1 TG 20 AT 5\nSEND 0a1 f 2 3\nTAKE 0b2 * 255 256\nLISTENER 3";
+    let written =
+        b"TABLE 1\nMODE periodic\nTI 2000\nSG 300\nSENDER 1 TG 20 AT 5\nSEND 0A1 F 2 3\nTAKE 0B2 * 255 256\nLISTENER 3\n";
+    for text in [given.as_slice(), written.as_slice()] {
+        let table = read_table(alloc, text)?;
+        let mut sink = MemorySink::new(alloc, 200, 200, Vec::new(alloc))?;
+        assert!(rt; write_table(&table, &mut sink).is_ok());
+        assert_eq!(rt; sink.bytes(), written.as_slice());
     }
     Ok(())
 }
