@@ -1,10 +1,12 @@
--- Worked examples: the gaps and verdicts of small periodic tables, by computation.
-use Rattle.std.specs.Prelude.{◌≡◌, ℕ, pos, neg_ℤ, List, [], ◌∷◌, map, refl}
-use Rattle.bus_table.specs.declared.mode.Mode.TheVariants.{Periodic}
+-- Worked examples: the gaps, verdicts and witnesses of small tables, by computation.
+use Rattle.std.specs.Prelude.{◌≡◌, ℕ, pos, neg_ℤ, List, [], ◌∷◌, map, replicate, refl}
+use Rattle.bus_strings.specs.Items.{Item}
+use Rattle.bus_table.specs.declared.mode.Mode.TheVariants.{Aperiodic, Periodic}
 use Rattle.bus_table.specs.Tables.{Sender, Table}
 use Rattle.bus_regime.specs.declared.table_verdict.TableVerdict.TheVariants.{Accept, SmallGap, NoSync}
 use Rattle.bus_regime.specs.Gaps.{gaps, width}
 use Rattle.bus_regime.specs.Verdicts.{verdict_of}
+use Rattle.bus_regime.specs.Witness.{witness_of}
 
 -- a sender of one wordstring of this many data words, at least and at most
 abbrev sender : ℕ → ℕ → ℕ → ℕ → ℕ → Sender
@@ -73,3 +75,18 @@ varying_small = refl
 -- a sender alone, whatever its offset, has the gap between its own messages
 alone : map width (gaps (periodic 1000 (sender 1 20 700 2 2 ∷ []))) ≡ pos 940 ∷ []
 alone = refl
+
+-- the witness of a periodic table has the most data words on each line, that of an aperiodic one the least; the senders stand in the
+-- order of the table
+abbrev item : ℕ → ℕ → Item
+item terminal words = record { terminal = terminal; strings = replicate words 0 ∷ [] }
+
+periodic_witness : witness_of (varying 2000 3) ≡ item 1 3 ∷ (item 2 40 ∷ (item 1 3 ∷ (item 2 40 ∷ [])))
+periodic_witness = refl
+
+abbrev by_falling_gap : Table
+by_falling_gap =
+    record { mode = Aperiodic; ti = 1000; sg = 300; senders = sender 2 30 0 1 2 ∷ (sender 1 20 0 0 1 ∷ []); listeners = [] }
+
+aperiodic_witness : witness_of by_falling_gap ≡ item 2 1 ∷ (item 1 0 ∷ (item 2 1 ∷ (item 1 0 ∷ [])))
+aperiodic_witness = refl

@@ -4,3 +4,5 @@ pub mod Lines
 pub mod Fine
 pub mod VerdictLaws
 pub mod GapLaws
+pub mod Witness
+pub mod WitnessLaws

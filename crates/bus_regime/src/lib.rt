@@ -13,7 +13,9 @@ mod periodic;
 pub mod table_verdict;
 #[cfg(test)]
 mod tests;
+pub mod witnessing;
 
 pub use judging::verdict;
 pub use line::write_verdict;
 pub use table_verdict::TableVerdict;
+pub use witnessing::witness;

@@ -1,7 +1,9 @@
 use crate::judging::verdict;
 use crate::line::write_verdict;
 use crate::table_verdict::TableVerdict;
+use crate::witnessing::witness;
 use bus_outer::MemorySink;
+use bus_strings::payload::Payloads;
 use bus_table::line::SendLine;
 use bus_table::mode::Mode;
 use bus_table::sender::Sender;
@@ -112,5 +114,26 @@ fn gaps_of_a_periodic_table(rt: HostRuntime) -> Result<(), Fail> {
         let table = two_senders(&rt, alloc, Mode::Periodic, ti, at, most)?;
         has_line(&rt, alloc, &verdict(&table), line)?;
     }
+    Ok(())
+}
+
+/// How many data words the first wordstring of the last item has.
+fn last_words(witness: &Payloads) -> Option<usize> {
+    let item = witness.items.last()?;
+    Some(item.strings.first()?.len())
+}
+
+/// Two rounds in the order of the table, the least words in aperiodic mode and the most in periodic mode, also where the table is
+/// refused.
+#[test]
+fn witnesses_by_mode(rt: HostRuntime) -> Result<(), Fail> {
+    let alloc = rt.alloc();
+    let table = two_senders(&rt, alloc, Mode::Aperiodic, 1031, 0, 40)?;
+    let shortest = witness(alloc, &table)?;
+    let terminals: Vec<u8> = shortest.items.iter().map(|x| x.terminal).collect(alloc)?;
+    assert_eq!(rt; terminals.as_slice(), [1, 2, 1, 2].as_slice());
+    assert_eq!(rt; last_words(&shortest), Some(30));
+    let table = two_senders(&rt, alloc, Mode::Periodic, 2000, 59, 40)?;
+    assert_eq!(rt; last_words(&witness(alloc, &table)?), Some(40));
     Ok(())
 }
