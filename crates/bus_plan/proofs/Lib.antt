@@ -1,0 +1,13 @@
+pub mod Examples
+pub mod Orders
+pub mod Tops
+pub mod Members
+pub mod Slack
+pub mod Lower
+pub mod Moved
+pub mod Anew
+pub mod Planned
+pub mod Valid
+pub mod Outcome
+pub mod Walking
+pub mod Steps

@@ -1,0 +1,5 @@
+pub mod Plans
+pub mod Answers
+pub mod Laws
+pub mod Greatest
+pub mod Walks
