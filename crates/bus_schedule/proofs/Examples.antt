@@ -9,6 +9,7 @@ use Rattle.bus_regime.specs.declared.table_verdict.TableVerdict.TheVariants.{Sho
 use Rattle.bus_regime.specs.Verdicts.{verdict_of, is_accepted}
 use Rattle.bus_schedule.specs.Even.{are_even}
 use Rattle.bus_schedule.specs.Closed.{closed, closed_end}
+use Rattle.bus_schedule.specs.Settled.{witness_hands}
 
 abbrev line : ℕ → ℕ → ℕ → ℕ → SendLine
 line label ext least most = record { label = label; ext = ext; least = least; most = most }
@@ -84,6 +85,10 @@ refused_by_one_is_refused = (refl, refl, refl)
 
 refused_by_one_has_a_schedule : starts refused_by_one shortest_twice ≡ start 1 20 ∷ start 2 110 ∷ start 1 1050 ∷ start 2 1140 ∷ []
 refused_by_one_has_a_schedule = refl
+
+-- its witness has the shortest messages twice, which is just this
+refused_by_one_has_a_witness : witness_hands refused_by_one ≡ shortest_twice
+refused_by_one_has_a_witness = refl
 
 -- senders speak by terminal gap, however the table lists them
 abbrev listed_backwards : Table

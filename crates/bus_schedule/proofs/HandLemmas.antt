@@ -31,7 +31,7 @@ pub record HasHand (hands : ℕ → List Message) (rounds : ℕ) (sender : Sende
 pub hand_here : (hand : Hand) (hands : List Hand) (number : ℕ) → hand.terminal ≡ number → messages_of (hand ∷ hands) number ≡ hand.messages
 hand_here hand hands number e = rw (eq-eqb hand.terminal number e) refl
 
-hand_there : (hand : Hand) (hands : List Hand) (number : ℕ) → hand.terminal ≢ number → messages_of (hand ∷ hands) number ≡ messages_of hands number
+pub hand_there : (hand : Hand) (hands : List Hand) (number : ℕ) → hand.terminal ≢ number → messages_of (hand ∷ hands) number ≡ messages_of hands number
 hand_there hand hands number e = rw (ne_eqb hand.terminal number e) refl
 
 -- the hand of the first sender isn't that of another

@@ -17,4 +17,9 @@ pub mod OffsetEnds
 pub mod Leaving
 pub mod PlaceLemmas
 pub mod UnevenLemmas
+pub mod Folding
+pub mod Refusing
+pub mod Meeting
+pub mod WitnessLemmas
+pub mod ShortLemmas
 pub mod Examples

@@ -42,7 +42,7 @@ use Rattle.bus_schedule.proofs.Turning.{rounds_on}
 dealt : (table : Table) (hands : List Hand) → IsTrue (are_even table hands) → IsTrue (are_hands table.senders hands)
 dealt table hands even = (and_parts (are_hands table.senders hands) _ even).0
 
-stations_of_even : (table : Table) (hands : List Hand) → IsTrue (is_valid table) → IsTrue (are_even table hands)
+pub stations_of_even : (table : Table) (hands : List Hand) → IsTrue (is_valid table) → IsTrue (are_even table hands)
     → stations_of table hands ≡ stations table (messages_of hands)
 stations_of_even table hands valid even = stations_are table table.senders hands (dealt table hands even) (numbers_differ table (valid_facts table valid))
 

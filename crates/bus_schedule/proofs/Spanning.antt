@@ -48,11 +48,11 @@ pub record Span (table : Table) (messages : ℕ → List Message) (done rest : L
       → due a.number < due g.sender.number → gap a.number ≤ quiet_of table + e
 
 -- the offset of the sender with this number
-at_number : List Sender → ℕ → ℕ
+pub at_number : List Sender → ℕ → ℕ
 at_number [] n = 0
 at_number (a ∷ senders) n = cond (eqb n a.number) a.at (at_number senders n)
 
-at_number_is : (senders : List Sender) (a : Sender) → Differ (λ c. c.number) senders → In a senders → at_number senders a.number ≡ a.at
+pub at_number_is : (senders : List Sender) (a : Sender) → Differ (λ c. c.number) senders → In a senders → at_number senders a.number ≡ a.at
 unfolding at_number
 at_number_is [] a d i = absurd i
 at_number_is (b ∷ senders) a d (inl same) = rw (eq-eqb a.number b.number (ap (λ (c : Sender). c.number) same)) (ap (λ (c : Sender). c.at) (sym same))

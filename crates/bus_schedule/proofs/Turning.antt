@@ -27,13 +27,13 @@ put_here f n v i e = rw (eq-eqb i n e) refl
 pub put_other : (f : ℕ → ℕ) (n v i : ℕ) → i ≢ n → put f n v i ≡ f i
 put_other f n v i e = rw (ne_eqb i n e) refl
 
-gap_put_here : (gap : ℕ → ℕ) (n p b sg i : ℕ) → i ≡ n → gap_put gap n p b sg i ≡ p + b + sg
+pub gap_put_here : (gap : ℕ → ℕ) (n p b sg i : ℕ) → i ≡ n → gap_put gap n p b sg i ≡ p + b + sg
 gap_put_here gap n p b sg i e = rw (eq-eqb i n e) refl
 
 pub gap_put_elapsed : (gap : ℕ → ℕ) (n p b sg i : ℕ) → i ≢ n → gap i ≤ p → gap_put gap n p b sg i ≡ p + b
 gap_put_elapsed gap n p b sg i e low = rw (ne_eqb i n e, le-leb (gap i) p low) refl
 
-gap_put_waiting : (gap : ℕ → ℕ) (n p b sg i : ℕ) → i ≢ n → p < gap i → gap_put gap n p b sg i ≡ p + b + sg
+pub gap_put_waiting : (gap : ℕ → ℕ) (n p b sg i : ℕ) → i ≢ n → p < gap i → gap_put gap n p b sg i ≡ p + b + sg
 gap_put_waiting gap n p b sg i e high = rw (ne_eqb i n e, lt-leb (gap i) p high) refl
 
 -- the turns before the terminal with this number, where messages have so many bit times, and its terminal gap

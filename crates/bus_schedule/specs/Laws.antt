@@ -1,5 +1,5 @@
 -- What follows of the definitions, with no limit on the closed end.
-use Rattle.std.specs.Prelude.{◌≡◌, ◌↔◌, ◌+◌, ◌≤◌, ℕ, IsNone, IsTrue, List, Some, slice_get}
+use Rattle.std.specs.Prelude.{◌≡◌, ◌↔◌, ◌+◌, ◌≤◌, ℕ, false, IsNone, IsTrue, List, Some, slice_get}
 use Rattle.bus_strings.specs.Members.{In}
 use Rattle.bus_strings.specs.Messages.{Entry}
 use Rattle.bus_strings.specs.Transmissions.{end_of, IsAscending}
@@ -11,8 +11,10 @@ use Rattle.bus_regime.specs.Gaps.{Gap, gaps}
 use Rattle.bus_regime.specs.Verdicts.{verdict_of, is_accepted}
 use Rattle.bus_schedule.specs.Even.{are_even}
 use Rattle.bus_schedule.specs.Uneven.{uneven_of}
-use Rattle.bus_schedule.specs.Closed.{closed}
+use Rattle.bus_schedule.specs.Closed.{closed, closed_end}
+use Rattle.bus_schedule.specs.Limits.{longest_end}
 use Rattle.bus_schedule.specs.Runs.{IsClear, IsInTurns, IsRun}
+use Rattle.bus_schedule.specs.Settled.{Fails, IsSettled, witness_hands}
 
 -- For an accepted table in either mode and even hands, of any length, the closed schedule is the run.
 abbrev pub AcceptedIsClosed : Type 0
@@ -46,3 +48,20 @@ abbrev pub EvenHandsAgree : Type 0
 EvenHandsAgree =
     (table : Table) (hands : List Hand) → IsTrue (is_valid table) → IsTrue (are_hands table.senders hands)
     → IsNone (uneven_of table hands) ↔ IsTrue (are_even table hands)
+
+-- The verdict accepts exactly the settled tables.
+abbrev pub TheSettledAreAccepted : Type 0
+TheSettledAreAccepted = (table : Table) → IsTrue (is_valid table) → IsTrue (is_accepted (verdict_of table)) ↔ IsSettled table
+
+-- A table that isn't accepted fails with the hands of its witness.
+abbrev pub TheRefusedFail : Type 0
+TheRefusedFail =
+    (table : Table) → IsTrue (is_valid table) → is_accepted (verdict_of table) ≡ false
+    → Fails table (witness_hands table) (closed table (witness_hands table))
+
+-- The hands of a witness are even, and its closed end is within the limit.
+abbrev pub WitnessesAreEven : Type 0
+WitnessesAreEven = (table : Table) → IsTrue (is_valid table) → IsTrue (are_even table (witness_hands table))
+
+abbrev pub WitnessesAreShort : Type 0
+WitnessesAreShort = (table : Table) → IsTrue (is_valid table) → closed_end table (witness_hands table) ≤ longest_end

@@ -3,5 +3,6 @@ pub mod Uneven
 pub mod Closed
 pub mod Places
 pub mod Runs
+pub mod Settled
 pub mod Laws
 pub mod Limits

@@ -1,7 +1,9 @@
 //! Laws of the definitions, each the contract of a function that does nothing.
 ghost use Rattle.bus_schedule.specs.Laws.{AcceptedIsClosed, ClosedIsOrderly, EvenHandsAgree, GapsAreLeft};
+ghost use Rattle.bus_schedule.specs.Laws.{TheSettledAreAccepted, TheRefusedFail, WitnessesAreEven, WitnessesAreShort};
 
 use bus_medium::laws::{chains_tell, one_lawful_list};
+use bus_table::laws::fitting_items_give_hands;
 
 /// For an accepted table in either mode and even hands, of any length, the closed schedule is the one lawful list up to the
 /// closed end; no two of its transmissions overlap, every cycle holds each sender once in turn order, and successive starts of
@@ -29,3 +31,22 @@ pub fn gaps_are_left()
 pub fn even_hands_agree()
     ensures { EvenHandsAgree }
 {}
+
+/// The verdict accepts exactly the settled tables (`specs/Settled.antt`): those of which the closed schedule is what the bus does,
+/// without overlaps, whatever even hands the senders have. A table that isn't accepted fails with the hands of its witness.
+pub fn verdicts_are_exact()
+    ensures settled { TheSettledAreAccepted }
+    ensures refused { TheRefusedFail }
+{
+    chains_tell();
+    fitting_items_give_hands();
+    accepted_is_closed();
+}
+
+/// The hands of the witness of a table, accepted or refused, are even, and their closed end is within the limit.
+pub fn witnesses_have_schedules()
+    ensures even { WitnessesAreEven }
+    ensures short { WitnessesAreShort }
+{
+    fitting_items_give_hands();
+}

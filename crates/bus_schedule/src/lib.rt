@@ -11,7 +11,8 @@
 //!   ends at [`LONGEST_END`] or before (`specs/Limits.antt`).
 //! - [`run_settled`] observes the bus up to the closed end, over any [`bus_timers::jumps::JumpCore`]. What a run is stands in
 //!   `specs/Runs.antt`: the closed schedule in whole, the one lawful list, without overlaps, each sender once a cycle.
-//! - [`laws`] has what holds of closed schedules of any length.
+//! - [`laws`] has what holds of closed schedules of any length: with them, the verdict accepts exactly the settled tables
+//!   (`specs/Settled.antt`), and a refused table fails with the hands of its witness.
 //!
 //! ```
 //! if find_uneven(&table, &hands).is_none() && verdict(&table).is_accepted() {
@@ -30,6 +31,7 @@ pub mod schedule;
 #[cfg(test)]
 mod tests;
 pub mod uneven;
+mod valid;
 
 pub use end::closed_end;
 pub use error::{LONGEST_END, ScheduleError};

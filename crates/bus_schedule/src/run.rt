@@ -1,5 +1,4 @@
 ghost use Rattle.std.specs.Prelude.{◌≡◌, ◌+◌, ◌*◌, IsTrue, IfOk};
-ghost use Rattle.bus_table.specs.Valid.{is_valid};
 ghost use Rattle.bus_medium.specs.Buses.{stations, StandsAt};
 ghost use Rattle.bus_medium.specs.Edges.{strings_sent};
 ghost use Rattle.bus_medium.specs.Timings.{quiet_of, stations_of};
@@ -12,6 +11,7 @@ ghost use Rattle.bus_schedule.specs.Limits.{IsLimited};
 use crate::end::limited_end;
 use crate::error::{LONGEST_END, ScheduleError};
 use crate::laws::accepted_is_closed;
+use crate::valid::table_is_valid;
 use bus_medium::bus::Bus;
 use bus_strings::transmission::Transmission;
 use bus_table::hand::Hand;
@@ -29,13 +29,6 @@ pub struct Ran<C: Core> {
     pub bus: Bus<C>,
     /// The closed end, in bit times.
     pub end: u64,
-}
-
-/// Every table is valid, as each of its getters says.
-fn table_is_valid(table: &Table)
-    ensures { IsTrue (is_valid table.now) }
-{
-    table.sg();
 }
 
 /// Runs the bus of an accepted table and even hands from its settled start up to the closed end, by jumps from change to

@@ -1,4 +1,4 @@
-ghost use Rattle.std.specs.Prelude.{◌≡◌, ◌+◌, ◌<◌, ◌≤◌, ◌++◌, ◌∷◌, [], IsTrue, IfOk, OnOk};
+ghost use Rattle.std.specs.Prelude.{◌≡◌, ◌+◌, ◌<◌, ◌≤◌, ◌++◌, ◌∷◌, [], false, IsTrue, IfOk, IfErr, OnOk};
 ghost use Rattle.bus_strings.specs.Limits.{horizon_limit};
 ghost use Rattle.bus_strings.specs.Marking.{greatest_end};
 ghost use Rattle.bus_strings.specs.Messages.{bits};
@@ -9,12 +9,16 @@ ghost use Rattle.bus_schedule.specs.Even.{are_even, messages_of, rounds};
 ghost use Rattle.bus_schedule.specs.Closed.{sent_at, turns, turns_end, offset_turns, closed, closed_end};
 ghost use Rattle.bus_schedule.specs.Places.{AreInTurn};
 ghost use Rattle.bus_schedule.specs.Limits.{longest_end, IsLimited};
+ghost use Rattle.bus_schedule.specs.Settled.{Fails, witness_hands};
+ghost use Rattle.bus_schedule.specs.declared.error.ScheduleError.TheVariants.{Memory};
+ghost use Rattle.bus_regime.specs.Verdicts.{verdict_of, is_accepted};
 
 use crate::dealt::{message_at, rounds};
 use crate::end::limited_end;
 use crate::error::ScheduleError;
-use crate::laws::closed_is_orderly;
+use crate::laws::{closed_is_orderly, verdicts_are_exact, witnesses_have_schedules};
 use crate::order::turn_places;
+use crate::valid::table_is_valid;
 use bus_strings::message::{Message, copy_message};
 use bus_strings::transmission::Transmission;
 use bus_table::hand::Hand;
@@ -132,11 +136,26 @@ fn by_offsets(alloc: Global, table: &Table, hands: &[Hand]) -> Result<Vec<Transm
     Ok(list)
 }
 
+/// The closed schedule of a table, by its mode.
+fn by_mode(alloc: Global, table: &Table, hands: &[Hand]) -> Result<Vec<Transmission>, AllocError>
+    requires even { IsTrue (are_even table.now hands.now) }
+    requires short { closed_end table.now hands.now ≤ longest_end }
+    ensures { IfOk result (λ list. list.items ≡ closed table.now hands.now) }
+{
+    match table.mode() {
+        Mode::Aperiodic => by_gaps(alloc, table, hands),
+        Mode::Periodic => by_offsets(alloc, table, hands),
+    }
+}
+
 /// The closed schedule of a table, accepted or not, and even hands: who starts when, by gaps and messages alone in aperiodic
 /// mode, by offsets alone in periodic mode. It ascends by moment, then terminal.
 ///
-/// `TooLong` comes exactly where the closed end is above [`crate::error::LONGEST_END`], also where no memory is left. `Memory`
-/// says that memory was refused, and nothing of the schedule.
+/// With the hands of the witness of a table that isn't accepted, the list isn't what the bus does up to the closed end, or
+/// two of its transmissions overlap.
+///
+/// `TooLong` comes exactly where the closed end is above [`crate::error::LONGEST_END`], also where no memory is left, and so
+/// never with the hands of a witness. `Memory` says that memory was refused, and nothing of the schedule.
 pub fn closed(
     alloc: Global,
     table: &Table,
@@ -146,12 +165,15 @@ pub fn closed(
     ensures closed { IfOk result (λ list. list.items ≡ closed table.now hands.now) }
     ensures ordered { IfOk result (λ list. IsAscending list.items) }
     ensures limit { IsLimited (closed_end table.now hands.now) result }
+    ensures refused { is_accepted (verdict_of table.now) ≡ false → hands.now ≡ witness_hands table.now
+        → IfOk result (λ list. Fails table.now hands.now list.items) }
+    ensures witness { hands.now ≡ witness_hands table.now → IfErr result (λ error. error ≡ Memory) }
 {
-    limited_end(table, hands)?;
+    table_is_valid(table);
     closed_is_orderly();
-    let list = match table.mode() {
-        Mode::Aperiodic => by_gaps(alloc, table, hands)?,
-        Mode::Periodic => by_offsets(alloc, table, hands)?,
-    };
+    verdicts_are_exact();
+    witnesses_have_schedules();
+    limited_end(table, hands)?;
+    let list = by_mode(alloc, table, hands)?;
     Ok(list)
 }
