@@ -322,24 +322,24 @@ fn starts_of_a_periodic_table_recur_every_interval(rt: HostRuntime) -> Result<()
     )
 }
 
-/// The table lists its senders in any order; the list goes by number. Each sender keeps its own hand. Two messages of
-/// three that begin at once end at once too.
+/// The table lists its senders in any order; the list goes by number. Each sender keeps its own hand. Of three messages that
+/// begin at once, two end at once too, and so do their wordstrings.
 #[test]
 fn the_list_goes_by_number(rt: HostRuntime) -> Result<(), Fail> {
     let alloc = rt.alloc();
     let lines: [Line<'_>; 3] = [
         (9, 30, 0, &[(30, 30)]),
         (128, 40, 0, &[(1, 1), (1, 1)]),
-        (4, 20, 0, &[(3, 3)]),
+        (4, 20, 0, &[(1, 1), (1, 1)]),
     ];
     let table = table(alloc, Mode::Periodic, 1000, 300, &lines)?.ok_or("a valid table")?;
-    let items: [Item<'_>; 4] = [(9, &[30]), (4, &[3]), (128, &[1, 1]), (4, &[3])];
+    let items: [Item<'_>; 4] = [(9, &[30]), (4, &[1, 1]), (128, &[1, 1]), (4, &[1, 1])];
     runs(
         &rt,
         alloc,
         &table,
         &items,
-        (1800, &[(0, 4), (0, 9), (0, 128), (1000, 4)], 8),
+        (1800, &[(0, 4), (0, 9), (0, 128), (1000, 4)], 9),
     )
 }
 

@@ -5,10 +5,10 @@ use Rattle.bus_tool.specs.declared.forms.Form.{Form}
 use Rattle.bus_tool.specs.declared.outcome.Outcome.{Outcome}
 use Rattle.bus_tool.specs.Forms.{form_of, sources_of}
 use Rattle.bus_tool.specs.Outside.{Call}
-use Rattle.bus_tool.specs.Readers.{OfTexts}
-use Rattle.bus_tool.specs.Causes.{RefusesTexts}
+use Rattle.bus_tool.specs.Readers.{told, OfTexts}
+use Rattle.bus_tool.specs.Causes.{RefusesTexts, RefusesText}
 use Rattle.bus_tool.specs.Acts.{DoesForm, Acts}
-use Rattle.bus_tool.proofs.CauseLemmas.{CauseLaws, does_cause}
+use Rattle.bus_tool.proofs.CauseLemmas.{CauseLaws, does_cause, does_first}
 
 some_is : (form : Form) → IsNone (Some form) → ⊥
 some_is form h = cc
@@ -19,4 +19,5 @@ acts_form laws call outcome form is does = record {
   nothing = subst (λ f. IfNone f (call.after ≡ call.before)) is tt;
   does = subst (λ f. IfSome f (λ form. DoesForm form call.before call.after outcome)) is does;
   caused = subst (λ f. IfSome f (λ form. OfTexts (sources_of form) call.before.sources (RefusesTexts outcome))) is (does_cause laws form call.before call.after outcome does);
+  first = subst (λ f. IfSome f (λ form. IfSome (told (sources_of form).first call.before.sources.first) (RefusesText outcome))) is (does_first laws form call.before call.after outcome does);
 }

@@ -1,5 +1,5 @@
 -- The cause of each refusal of a text.
-use Rattle.std.specs.Prelude.{◌≡◌, ℕ, true, false, List, Result, Ok, Err}
+use Rattle.std.specs.Prelude.{◌≡◌, ℕ, true, false, List, Some, IfSome, Result, Ok, Err}
 use Rattle.std.proofs.Common.{arith, refl, sym, ap, ◌∙◌, subst, inl, inr}
 use Rattle.bus_table.specs.declared.error.TableError.TheVariants.{Text, Whole}
 use Rattle.bus_strings.specs.Items.{Item}
@@ -13,15 +13,17 @@ use Rattle.bus_tool.specs.declared.outcome.Outcome.{Outcome}
 use Rattle.bus_tool.specs.declared.outcome.Outcome.TheVariants.{Done, Answered, Refused, TableText, TableWhole, MessagesText, Unfit, Uneven, TraceText, ReadFault, WriteFault, NoMemory, TooLarge, TooLong}
 use Rattle.bus_tool.specs.Forms.{sources_of}
 use Rattle.bus_tool.specs.Kinds.{Answer, kind_of, is_answer}
-use Rattle.bus_tool.specs.Stages.{StandsFor}
+use Rattle.bus_tool.specs.Stages.{StandsFor, refusal_in}
 use Rattle.bus_tool.specs.Outside.{Outside}
 use Rattle.bus_tool.specs.Readers.{told, OfTexts}
-use Rattle.bus_tool.specs.Due.{table_due, items_due, Inputs, hands_in, inputs_due, trace_due, traced_due, run_due, verdict_outcome, audit_outcome, audit_of, outcome_with, form_due}
+use Rattle.bus_tool.specs.Due.{table_due, items_due, Inputs, hands_in, inputs_due, trace_due, traced_due, run_due, verdict_outcome, audit_outcome, audit_of, outcome_with, table_refusal_of, first_refusal, form_due}
+use Rattle.bus_tool.specs.Steps.{IsDueFirst}
 use Rattle.bus_tool.specs.Acts.{DoesForm}
-use Rattle.bus_tool.specs.Causes.{AreTextsWith, DifferAs, IsRefusal, IsLongEnd, RefusesTexts}
+use Rattle.bus_tool.specs.Causes.{AreTextsWith, DifferAs, IsRefusal, IsLongEnd, RefusesTexts, RefusesText}
 use Rattle.bus_tool.proofs.LawTypes.{ReadsATable, RefusesATable, TextReadsAsItsItems, ReadsItems}
 use Rattle.bus_tool.proofs.CheckLemmas.{written_verdict}
 use Rattle.bus_tool.proofs.AuditLemmas.{written_audit}
+use Rattle.bus_tool.proofs.StageLemmas.{if_map}
 use Rattle.bus_tool.proofs.PrepareLemmas.{both_map}
 use Rattle.bus_tool.proofs.ReadLemmas.{table_read, table_text_read, table_whole_read, table_stops, messages_text_read, unfit_read, items_read, inputs_read, inputs_stop, items_stop, items_no_trace}
 use Rattle.bus_tool.proofs.TraceReads.{held_trace, trace_refuses, traced_stop}
@@ -39,6 +41,11 @@ pub record CauseLaws : Type 0 where
 refused : {Y : Type 0} (answer : Y → Outcome) (due : Result Y Outcome) (o : Outcome) → ((y : Y) → kind_of (answer y) ≡ Answer) → is_answer (kind_of o) ≡ false → outcome_with answer due ≡ o → due ≡ Err o
 refused answer (Ok y) o w never h = absurd (let k : is_answer (kind_of o) ≡ true = ap (λ o. is_answer (kind_of o)) (sym h) ∙ ap is_answer (w y) in cc)
 refused answer (Err r) o w never h = ap Err h
+
+-- what is refused, of its refusal
+refused_so : {Y : Type 0} (due : Result Y Outcome) (o : Outcome) → refusal_in due ≡ Some o → due ≡ Err o
+refused_so (Ok y) o h = absurd cc
+refused_so (Err refusal) o h = (let same : refusal ≡ o = cc in ap Err same)
 
 -- ---- the first text
 no_table : CauseLaws → (first : List ℕ) (o : Outcome) (second : List ℕ) → table_due first ≡ Err o → RefusesTexts o first second
@@ -134,3 +141,30 @@ pub does_cause : CauseLaws → (form : Form) (before after : Outside) (o : Outco
 does_cause laws form before after o does =
     both_map (told (sources_of form).first before.sources.first) (told (sources_of form).second before.sources.second) (λ first second. StandsFor (form_due form first second) o) (RefusesTexts o)
     (λ first second h. stands_cause laws form o first second h) does.due
+
+-- ---- the first text alone
+-- a refusal of a table text
+refuses_table : CauseLaws → (first : List ℕ) (o : Outcome) → IsDueFirst o (table_refusal_of first) → RefusesText o first
+refuses_table laws first (TableText line reason) h = laws.refuses_table first (Text line reason) (table_text_read first line reason (refused_so (table_due first) (TableText line reason) (h refl)))
+refuses_table laws first (TableWhole reason) h = (let w = laws.refuses_table first (Whole reason) (table_whole_read first reason (refused_so (table_due first) (TableWhole reason) (h refl))) in record { table = w.0; stands = w.1; why = w.2 })
+refuses_table laws first (MessagesText line reason) h = tt
+refuses_table laws first (Unfit error) h = tt
+refuses_table laws first (Uneven one one_count other other_count) h = tt
+refuses_table laws first (TraceText byte reason) h = tt
+refuses_table laws first (Refused verdict) h = tt
+refuses_table laws first (TooLong end) h = tt
+refuses_table laws first (ReadFault source) h = tt
+refuses_table laws first (TooLarge source) h = tt
+refuses_table laws first o h = tt
+
+-- and of the first text of a form
+refuses_text : CauseLaws → (form : Form) (first : List ℕ) (o : Outcome) → IsDueFirst o (first_refusal form first) → RefusesText o first
+refuses_text laws Check first o h = refuses_table laws first o h
+refuses_text laws (Observe horizon) first o h = refuses_table laws first o h
+refuses_text laws Run first o h = refuses_table laws first o h
+refuses_text laws Receive first o h = refuses_table laws first o h
+refuses_text laws Audit first o h = refuses_table laws first o h
+
+pub does_first : CauseLaws → (form : Form) (before after : Outside) (o : Outcome) → DoesForm form before after o → IfSome (told (sources_of form).first before.sources.first) (RefusesText o)
+does_first laws form before after o does =
+    if_map (told (sources_of form).first before.sources.first) (λ text. IsDueFirst o (first_refusal form text)) (RefusesText o) (λ text h. refuses_text laws form text o h) does.alone

@@ -10,7 +10,7 @@ use Rattle.bus_tool.specs.Kinds.{Kind, NoForm, NotRead, TooMuch, Wrong, Late, No
 use Rattle.bus_tool.specs.Stages.{StandsAs, Gives}
 use Rattle.bus_tool.specs.Outside.{Seen, Sources, around, sink_seen}
 use Rattle.bus_tool.specs.Readers.{Named, told, OfTexts, Reads, reach, SourceCounts, OutCounts}
-use Rattle.bus_tool.specs.Steps.{IsEarly, Prepares}
+use Rattle.bus_tool.specs.Steps.{IsEarly, RefusesFirst, Prepares}
 use Rattle.bus_tool.specs.Due.{outcome_with}
 use Rattle.bus_tool.specs.Texts.{IsTextOf}
 use Rattle.bus_tool.specs.Acts.{Leaves, written, Does}
@@ -38,6 +38,7 @@ stopped IsOf answer IsIt named refusing made before after out o written p = reco
   first = p.first;
   second = p.second;
   order = p.order;
+  alone = p.alone;
   counts = p.counts;
   out_count = early_out (kind_of o) out p.early;
   form = λ e. subst (λ k. IsEarly (kind_of k)) e p.early;
@@ -68,6 +69,7 @@ answered IsOf answer IsIt named refusing made before after ghosts k k' x o text 
   first = subst (λ n. Reads named.first (reach 1 n) before.first after.first) (sym t.yes) p.first;
   second = subst (λ n. Reads named.second (reach 2 n) before.second after.second) (sym t.yes) p.second;
   order = if_map (told named.first before.first) _ _ (λ first r. if_map (refusing first) (λ refusal. ⊥) _ (λ refusal no. absurd no) r) p.order;
+  alone = if_map (told named.first before.first) _ _ (λ first r. subst (λ n. RefusesFirst n o (refusing first)) (sym t.yes) tt) p.order;
   counts = subst (SourceCounts named before after) (sym t.yes) p.counts;
   out_count = subst (OutCounts (sink_seen ghosts k) (sink_seen ghosts k')) (sym t.yes) w.same;
   form = no_form o t.yes;
@@ -78,6 +80,7 @@ answered IsOf answer IsIt named refusing made before after ghosts k k' x o text 
   first = p.first;
   second = p.second;
   order = if_map (told named.first before.first) _ _ (λ first r. if_map (refusing first) (λ refusal. ⊥) _ (λ refusal no. absurd no) r) p.order;
+  alone = if_map (told named.first before.first) _ _ (λ first r. tt) p.order;
   counts = p.counts;
   out_count = (w.later, w.cause);
   form = λ e. cc;

@@ -29,5 +29,6 @@ pub mod ObserveClaim
 pub mod ReceiveClaim
 pub mod AuditClaim
 pub mod CauseLemmas
+pub mod AnswerLemmas
 pub mod TextLawLemmas
 pub mod RunClaim

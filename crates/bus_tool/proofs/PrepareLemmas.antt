@@ -10,11 +10,15 @@ use Rattle.bus_tool.specs.Stages.{stage_in, GivesStop, Gives, refusal_in}
 use Rattle.bus_tool.specs.Outside.{Seen, Sources, both}
 use Rattle.bus_tool.specs.Readers.{Reader, Named, one_source, two_sources, told, Within, Past, Judged, ReadsBy, Reads, reach_at, reach}
 use Rattle.bus_tool.specs.Steps.{StopsAt, Takes, StopsFirst, IsLate, Prepares}
-use Rattle.bus_tool.proofs.StageLemmas.{if_map, stop_early, late_early, gives_then, gives_first, gives_past, no_refusal, refused_first}
+use Rattle.bus_tool.proofs.StageLemmas.{if_map, stop_early, late_early, gives_then, gives_first, gives_past, no_refusal, refused_first, due_first, second_alone, late_alone}
 use Rattle.bus_tool.proofs.ReachLemmas.{untouched, nothing_within, reads_own, reads_before, reads_late, first_counts, second_counts, late_counts}
 
 pub both_map : (a b : Option (List ℕ)) (P Q : List ℕ → List ℕ → Type 0) → ((x y : List ℕ) → P x y → Q x y) → IfSome a (λ x. IfSome b (λ y. P x y)) → IfSome a (λ x. IfSome b (λ y. Q x y))
 both_map a b P Q f h = if_map a (λ x. IfSome b (λ y. P x y)) (λ x. IfSome b (λ y. Q x y)) (λ x k. if_map b (λ y. P x y) (λ y. Q x y) (f x) k) h
+
+for_all : (b : Option (List ℕ)) (R : List ℕ → Type 0) → ((y : List ℕ) → R y) → IfSome b R
+for_all None R f = tt
+for_all (Some y) R f = f y
 
 -- a command that names the first source alone
 pub prepares_one : {X Y : Type 0} (IsOf : X → Y → Type 0) (reader : Reader) (made : List ℕ → Result Y Outcome) (old new second : Seen) (r : Result X Outcome)
@@ -24,6 +28,7 @@ prepares_one IsOf reader made old new second (Ok x) t = record {
   first = t.reads;
   second = refl;
   order = if_map old.bytes _ _ (λ text g. no_refusal IsOf x (made text) (λ refusal. ⊥) g) t.gives;
+  alone = for_all old.bytes (λ text. Unit {0}) (λ text. tt);
   early = tt;
   counts = record { first = t.counts; second = refl };
 }
@@ -32,13 +37,10 @@ prepares_one IsOf reader made old new second (Err o) t = record {
   first = reads_own reader 1 (kind_of o) old new t.stops t.reads;
   second = refl;
   order = if_map old.bytes _ _ (λ text g. refused_first o (made text) (both old second) (both new second) (stop_early 1 (kind_of o) t.stops) refl g) t.gives;
+  alone = if_map old.bytes _ _ (λ text g. due_first (kind_of o) o (made text) t.stops g) t.gives;
   early = stop_early 1 (kind_of o) t.stops;
   counts = first_counts (one_source reader) (kind_of o) old new second refl t.stops t.counts;
 }
-
-for_all : (b : Option (List ℕ)) (R : List ℕ → Type 0) → ((y : List ℕ) → R y) → IfSome b R
-for_all None R f = tt
-for_all (Some y) R f = f y
 
 -- the second source isn't pulled where the first step stopped
 unpulled : (k : Kind) (reader : Reader) (second : Seen) → StopsAt 1 k → Reads (Some reader) (reach 2 k) second second
@@ -60,6 +62,7 @@ prepares_none IsOf IsNext one two made next old new second o late t = record {
   first = reads_own one 1 (kind_of o) old new t.stops t.reads;
   second = unpulled (kind_of o) two second t.stops;
   order = if_map old.bytes _ _ (λ text g. refused_first o (made text) (both old second) (both new second) (stop_early 1 (kind_of o) t.stops) refl g) t.gives;
+  alone = if_map old.bytes _ _ (λ text g. due_first (kind_of o) o (made text) t.stops g) t.gives;
   early = stop_early 1 (kind_of o) t.stops;
   counts = first_counts (two_sources one two) (kind_of o) old new second refl t.stops t.counts;
 }
@@ -77,6 +80,7 @@ prepares_both {X} {Y} {V} {W} IsOf IsNext one two made next old new old' new' x 
   first = t.reads;
   second = u.reads;
   order = if_map old.bytes _ _ (λ text g. no_refusal IsOf x (made text) (λ refusal. ⊥) g) t.gives;
+  alone = for_all old.bytes (λ text. Unit {0}) (λ text. tt);
   early = tt;
   counts = record { first = t.counts; second = u.counts };
 }
@@ -85,6 +89,7 @@ prepares_both {X} {Y} {V} {W} IsOf IsNext one two made next old new old' new' x 
   first = reads_before one (kind_of o) old new u.stops t.reads;
   second = reads_own two 2 (kind_of o) old' new' u.stops u.reads;
   order = if_map old.bytes _ _ (λ text g. no_refusal IsOf x (made text) (StopsFirst {X = V} (both old old') (both new new') (Err o)) g) t.gives;
+  alone = if_map old.bytes _ _ (λ text g. second_alone (kind_of o) o (refusal_in (made text)) u.stops) t.gives;
   early = stop_early 2 (kind_of o) u.stops;
   counts = second_counts (two_sources one two) (kind_of o) old new old' new' refl t.counts u.stops u.counts;
 }
@@ -98,6 +103,7 @@ prepares_past IsOf IsNext named refusing made f before after o late p = record {
   first = p.first;
   second = p.second;
   order = p.order;
+  alone = p.alone;
   early = p.early;
   counts = p.counts;
 }
@@ -112,6 +118,7 @@ prepares_stopped {X} {Y} {V} IsOf IsNext named refusing made before after o r h 
       first = p.first;
       second = p.second;
       order = p.order;
+      alone = p.alone;
       early = p.early;
       counts = p.counts;
     } in
@@ -125,6 +132,7 @@ prepares_made IsOf IsNext named refusing made before after x v next p = record {
   first = p.first;
   second = p.second;
   order = p.order;
+  alone = p.alone;
   early = tt;
   counts = p.counts;
 }
@@ -142,6 +150,7 @@ prepares_roomless {X} {Y} {V} IsOf IsNext named refusing made before after x r h
       first = reads_late named.first 1 NoRoom before.first after.first tt p.first;
       second = reads_late named.second 2 NoRoom before.second after.second tt p.second;
       order = if_map (told named.first before.first) _ _ (λ text k. if_map (refusing text) (λ refusal. ⊥) _ (λ refusal no. absurd no) k) p.order;
+      alone = if_map (told named.first before.first) _ _ (λ text k. tt) p.order;
       early = tt;
       counts = p.counts;
     } in
@@ -155,6 +164,7 @@ prepares_then IsOf IsNext named refusing made f before after x (Ok v) late g p =
   first = p.first;
   second = p.second;
   order = p.order;
+  alone = p.alone;
   early = tt;
   counts = p.counts;
 }
@@ -163,6 +173,7 @@ prepares_then IsOf IsNext named refusing made f before after x (Err o) late g p 
   first = reads_late named.first 1 (kind_of o) before.first after.first late p.first;
   second = reads_late named.second 2 (kind_of o) before.second after.second late p.second;
   order = if_map (told named.first before.first) _ _ (λ text k. if_map (refusing text) (λ refusal. ⊥) _ (λ refusal no. absurd no) k) p.order;
+  alone = if_map (told named.first before.first) _ _ (λ text k. late_alone (kind_of o) o (refusing text) late) p.order;
   early = late_early (kind_of o) late;
   counts = late_counts named before after (kind_of o) late p.counts;
 }

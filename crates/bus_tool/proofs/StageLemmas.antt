@@ -6,7 +6,7 @@ use Rattle.bus_tool.specs.declared.outcome.Outcome.{Outcome}
 use Rattle.bus_tool.specs.Kinds.{Kind, NoForm, NotRead, TooMuch, Wrong, Late, NotWritten, NoRoom, Answer, kind_of, stage_of}
 use Rattle.bus_tool.specs.Stages.{StandsAs, stage_in, GivesStop, Gives, refusal_in}
 use Rattle.bus_tool.specs.Outside.{Sources}
-use Rattle.bus_tool.specs.Steps.{StopsAt, IsEarly, IsLate, IsRefused}
+use Rattle.bus_tool.specs.Steps.{StopsAt, IsEarly, IsLate, IsRefused, RefusesFirst}
 use Rattle.bus_tool.specs.Due.{outcome_with}
 
 pub if_map : {X : Type 0} (o : Option X) (P Q : X → Type 0) → ((x : X) → P x → Q x) → IfSome o P → IfSome o Q
@@ -151,3 +151,37 @@ gives_stands Late answer written o due early g = ap (outcome_with answer) g
 gives_stands NotWritten answer written o due early g = absurd early
 gives_stands NoRoom answer written o due early g = omega (arith, stage_with answer written due)
 gives_stands Answer answer written o due early g = absurd early
+
+-- ---- refusals of the first text
+-- a step that reads the first source refuses what is due of its text
+pub due_first : {Y : Type 0} (k : Kind) (o : Outcome) (due : Result Y Outcome) → StopsAt 1 k → GivesStop k o due → RefusesFirst k o (refusal_in due)
+due_first NoForm o due stop g = absurd stop
+due_first (NotRead source) o due stop g = tt
+due_first (TooMuch source) o due stop g = λ is. ap refusal_in g
+due_first (Wrong source) o due stop g = λ is. ap refusal_in g
+due_first Late o due stop g = absurd stop
+due_first NotWritten o due stop g = absurd stop
+due_first NoRoom o due stop g = tt
+due_first Answer o due stop g = absurd stop
+
+-- one that reads the second refuses no first text
+pub second_alone : (k : Kind) (o : Outcome) (refusal : Option Outcome) → StopsAt 2 k → RefusesFirst k o refusal
+second_alone NoForm o refusal stop = absurd stop
+second_alone (NotRead source) o refusal stop = tt
+second_alone (TooMuch source) o refusal stop = λ is. absurd (omega (arith, is, stop))
+second_alone (Wrong source) o refusal stop = λ is. absurd (omega (arith, is, stop))
+second_alone Late o refusal stop = absurd stop
+second_alone NotWritten o refusal stop = absurd stop
+second_alone NoRoom o refusal stop = tt
+second_alone Answer o refusal stop = absurd stop
+
+-- nor does one behind both
+pub late_alone : (k : Kind) (o : Outcome) (refusal : Option Outcome) → IsLate k → RefusesFirst k o refusal
+late_alone NoForm o refusal late = absurd late
+late_alone (NotRead source) o refusal late = absurd late
+late_alone (TooMuch source) o refusal late = absurd late
+late_alone (Wrong source) o refusal late = absurd late
+late_alone Late o refusal late = tt
+late_alone NotWritten o refusal late = absurd late
+late_alone NoRoom o refusal late = tt
+late_alone Answer o refusal late = absurd late

@@ -11,10 +11,10 @@ use Rattle.bus_tool.specs.Kinds.{Kind, NoForm, NotRead, TooMuch, Wrong, Late, No
 use Rattle.bus_tool.specs.Stages.{StandsFor}
 use Rattle.bus_tool.specs.Outside.{Outside, Call}
 use Rattle.bus_tool.specs.Readers.{Named, told, OfTexts, Reads, reach, SourceCounts, OutCounts}
-use Rattle.bus_tool.specs.Steps.{IsRefused}
+use Rattle.bus_tool.specs.Steps.{IsRefused, IsDueFirst}
 use Rattle.bus_tool.specs.Due.{first_refusal, form_due}
 use Rattle.bus_tool.specs.Texts.{IsFormText}
-use Rattle.bus_tool.specs.Causes.{HasTextCause}
+use Rattle.bus_tool.specs.Causes.{HasTextCause, HasFirstCause}
 
 -- all of a text is written
 abbrev pub Holds : (List ℕ → Type 0) → Option (List ℕ) → Option (List ℕ) → Type 0
@@ -45,6 +45,7 @@ written (Err fault) reply = WriteFault
 --   text            what `out` then holds, and that it is the command's text where the sources tell their bytes
 --   first, second   how far each source was read; one that isn't named wasn't pulled
 --   order           where the first text is refused, so is the command
+--   alone           the first text is refused only where it has to be, also where the second source tells nothing
 --   counts          a count of faults of a source rose exactly where this couldn't be read
 --   out_count       that of `out`, exactly where it couldn't be written
 --   form            the words are a form
@@ -57,6 +58,7 @@ pub record Does (named : Named) (refusing : List ℕ → Option Outcome) (due_of
   pub second : Reads named.second (reach 2 (kind_of outcome)) before.sources.second after.sources.second
   pub order : IfSome (told named.first before.sources.first)
       (λ text. IfSome (refusing text) (λ refusal. IsRefused refusal outcome before.sources after.sources))
+  pub alone : IfSome (told named.first before.sources.first) (λ text. IsDueFirst outcome (refusing text))
   pub counts : SourceCounts named before.sources after.sources (kind_of outcome)
   pub out_count : OutCounts before.out after.out (kind_of outcome)
   pub form : outcome ≢ Usage
@@ -70,11 +72,13 @@ DoesForm form before after outcome = Does (sources_of form) (first_refusal form)
 --   nothing    and then nothing outside is touched
 --   does       else it did what the form asks for
 --   caused     an outcome that refuses a text has its cause
+--   first      one that refuses the first text has it also where the second source tells nothing
 pub record Acts (call : Call) (outcome : Outcome) : Type 0 where
   pub usage : (outcome ≡ Usage) ↔ IsNone (form_of call.words)
   pub nothing : IfNone (form_of call.words) (call.after ≡ call.before)
   pub does : IfSome (form_of call.words) (λ form. DoesForm form call.before call.after outcome)
   pub caused : HasTextCause call.words call.before.sources outcome
+  pub first : HasFirstCause call.words call.before.sources outcome
 
 -- What `err` holds: the line of the outcome, or a beginning of it where the count of `err` rose.
 abbrev pub TellsFault : {K : Type 0} → (K → Option (List ℕ)) → (K → ℕ) → K → K → Outcome → Type 0

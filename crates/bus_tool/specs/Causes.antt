@@ -23,7 +23,7 @@ use Rattle.bus_tool.specs.declared.outcome.Outcome.{Outcome}
 use Rattle.bus_tool.specs.declared.outcome.Outcome.TheVariants as outcome
 use Rattle.bus_tool.specs.Forms.{form_of, sources_of}
 use Rattle.bus_tool.specs.Outside.{Sources}
-use Rattle.bus_tool.specs.Readers.{OfTexts}
+use Rattle.bus_tool.specs.Readers.{told, OfTexts}
 
 -- no table has the text
 abbrev pub IsNoTableText : List ℕ → Type 0
@@ -97,3 +97,26 @@ RefusesTexts (outcome.TooLong end) first second = AreTextsWith (IsLongEnd end) f
 -- where the sources that the form names tell their bytes, an outcome that refuses a text has its cause
 abbrev pub HasTextCause : List (List ℕ) → Sources → Outcome → Type 0
 HasTextCause words before outcome = IfSome (form_of words) (λ form. OfTexts (sources_of form) before (RefusesTexts outcome))
+
+-- ---- the first text alone
+-- what is wrong with the first text, by the outcome
+abbrev pub RefusesText : Outcome → List ℕ → Type 0
+RefusesText outcome.Done first = Unit {0}
+RefusesText outcome.Answered first = Unit {0}
+RefusesText (outcome.Refused verdict) first = Unit {0}
+RefusesText outcome.Usage first = Unit {0}
+RefusesText (outcome.TableText line reason) first = IsNoTableText first
+RefusesText (outcome.TableWhole reason) first = IsWrongTableText reason first
+RefusesText (outcome.MessagesText line reason) first = Unit {0}
+RefusesText (outcome.Unfit error) first = Unit {0}
+RefusesText (outcome.Uneven one one_count other other_count) first = Unit {0}
+RefusesText (outcome.TraceText byte reason) first = Unit {0}
+RefusesText (outcome.ReadFault source) first = Unit {0}
+RefusesText outcome.WriteFault first = Unit {0}
+RefusesText outcome.NoMemory first = Unit {0}
+RefusesText (outcome.TooLarge source) first = Unit {0}
+RefusesText (outcome.TooLong end) first = Unit {0}
+
+-- where the first source is named and tells its bytes, an outcome that refuses its text has its cause, whatever the second is
+abbrev pub HasFirstCause : List (List ℕ) → Sources → Outcome → Type 0
+HasFirstCause words before outcome = IfSome (form_of words) (λ form. IfSome (told (sources_of form).first before.first) (RefusesText outcome))

@@ -12,6 +12,7 @@ pub mod Steps
 pub mod Taken
 pub mod Causes
 pub mod Acts
+pub mod Answers
 pub mod Claims
 pub mod RunClaims
 pub mod TraceClaims

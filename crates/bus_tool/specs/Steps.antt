@@ -1,6 +1,6 @@
 -- What the steps of a command do before its first written byte.
 --   step   it makes a value, or stops at an outcome
-use Rattle.std.specs.Prelude.{◌≡◌, ℕ, List, Vec, Option, IfSome, Result, Ok, Err, IfErr}
+use Rattle.std.specs.Prelude.{◌≡◌, ℕ, List, Vec, Option, Some, IfSome, Result, Ok, Err, IfErr}
 use Rattle.std.specs.declared.alloc.Global.{Global}
 use Rattle.bus_outer.specs.declared.whole.ReadError.{ReadError}
 use Rattle.bus_outer.specs.declared.whole.ReadError.TheVariants.{Fault, TooLarge as Larger, Memory}
@@ -106,13 +106,30 @@ abbrev pub StopsFirst : {X : Type 0} → Sources → Sources → Result X Outcom
 StopsFirst before after (Ok x) refusal = ⊥
 StopsFirst before after (Err outcome) refusal = IsRefused refusal outcome before after
 
+-- A refusal of the first text is the one that is due to it.
+abbrev pub RefusesFirst : Kind → Outcome → Option Outcome → Type 0
+RefusesFirst NoForm outcome refusal = Unit {0}
+RefusesFirst (NotRead source) outcome refusal = Unit {0}
+RefusesFirst (TooMuch source) outcome refusal = source ≡ 1 → refusal ≡ Some outcome
+RefusesFirst (Wrong source) outcome refusal = source ≡ 1 → refusal ≡ Some outcome
+RefusesFirst Late outcome refusal = Unit {0}
+RefusesFirst NotWritten outcome refusal = Unit {0}
+RefusesFirst NoRoom outcome refusal = Unit {0}
+RefusesFirst Answer outcome refusal = Unit {0}
+
+-- the same, by the kind of the outcome
+abbrev pub IsDueFirst : Outcome → Option Outcome → Type 0
+IsDueFirst outcome refusal = RefusesFirst (kind_of outcome) outcome refusal
+
 -- They read the named sources, and give what is made of both texts.
 --   order   where the first text is refused they stop there
+--   alone   they refuse the first text only where it has to be
 pub record Prepares {X Y : Type 0} (IsOf : X → Y → Type 0) (named : Named) (refusing : List ℕ → Option Outcome)
     (made : List ℕ → List ℕ → Result Y Outcome) (before after : Sources) (result : Result X Outcome) : Type 0 where
   pub gives : OfTexts named before (λ first second. Gives IsOf result (made first second))
   pub first : Reads named.first (reach 1 (came_to result)) before.first after.first
   pub second : Reads named.second (reach 2 (came_to result)) before.second after.second
   pub order : IfSome (told named.first before.first) (λ text. IfSome (refusing text) (StopsFirst before after result))
+  pub alone : IfSome (told named.first before.first) (λ text. IfErr result (λ outcome. IsDueFirst outcome (refusing text)))
   pub early : IfErr result (λ outcome. IsEarly (kind_of outcome))
   pub counts : SourceCounts named before after (came_to result)

@@ -7,10 +7,10 @@ ghost use Rattle.bus_tool.specs.Steps.{Prepares};
 ghost use Rattle.bus_tool.specs.Texts.{IsAnswerOf};
 ghost use Rattle.bus_tool.specs.declared.forms.Form.TheVariants.{Audit};
 
-use crate::answer::after_writing;
 use crate::audit_line::write_audit;
 use crate::inputs::{Traced, take_traced};
 use crate::outcome::Outcome;
+use crate::writing::after_writing;
 use bus_audit::AuditAnswer;
 use bus_outer::{Sink, Source};
 use std::alloc::Global;

@@ -4,9 +4,9 @@ ghost use Rattle.bus_tool.specs.Due.{verdict_outcome as outcome_of};
 ghost use Rattle.bus_tool.specs.Outside.{Seen, beside};
 ghost use Rattle.bus_tool.specs.declared.forms.Form.TheVariants.{Check};
 
-use crate::answer::after_writing;
 use crate::inputs::take_table;
 use crate::outcome::Outcome;
+use crate::writing::after_writing;
 use bus_outer::{Sink, Source};
 use bus_regime::{TableVerdict, verdict, write_verdict};
 use std::alloc::Global;

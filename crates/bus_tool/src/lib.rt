@@ -4,7 +4,6 @@
 //! [`act`] is the command alone, [`Outcome`] what it came to, and [`outcome_text`] the line.
 #![tactic(auto)]
 
-mod answer;
 mod audit;
 mod audit_line;
 #[cfg(test)]
@@ -12,8 +11,11 @@ mod audit_tests;
 mod check;
 mod command;
 mod fault_line;
+#[cfg(test)]
+mod fault_tests;
 pub mod forms;
 mod holds;
+mod in_memory;
 mod inputs;
 pub mod laws;
 mod observe;
@@ -30,9 +32,11 @@ mod status;
 #[cfg(test)]
 mod tests;
 mod top;
+mod writing;
 
 pub use command::act;
 pub use fault_line::outcome_text;
+pub use in_memory::answer;
 pub use outcome::Outcome;
 pub use status::Status;
 pub use top::tool;

@@ -12,10 +12,10 @@ ghost use Rattle.bus_tool.specs.Texts.{IsObserved, IsRecordingOf};
 ghost use Rattle.bus_strings.specs.Transmissions.{IsTransmission};
 ghost use Rattle.bus_tool.specs.declared.forms.Form.TheVariants.{Observe};
 
-use crate::answer::after_writing;
 use crate::holds::holds;
 use crate::inputs::{Inputs, take_inputs};
 use crate::outcome::Outcome;
+use crate::writing::after_writing;
 use bus_medium::Bus;
 use bus_outer::{Sink, Source};
 use bus_strings::transmission::Transmission;

@@ -3,9 +3,9 @@ ghost use Rattle.bus_tool.specs.Acts.{DoesForm};
 ghost use Rattle.bus_tool.specs.Outside.{outside};
 ghost use Rattle.bus_tool.specs.declared.forms.Form.TheVariants.{Receive};
 
-use crate::answer::after_writing;
 use crate::inputs::{Traced, take_traced};
 use crate::outcome::Outcome;
+use crate::writing::after_writing;
 use bus_filter::write_received;
 use bus_outer::{Sink, Source};
 use std::alloc::Global;

@@ -15,11 +15,11 @@ ghost use Rattle.bus_outer.specs.Sinks.{WritesText};
 ghost use Rattle.bus_trace.specs.Traces.{IsTrace};
 ghost use Rattle.bus_tool.specs.declared.forms.Form.TheVariants.{Run};
 
-use crate::answer::after_writing;
 use crate::holds::holds;
 use crate::inputs::{Inputs, Traced, take_inputs};
 use crate::observe::look_at;
 use crate::outcome::Outcome;
+use crate::writing::after_writing;
 use bus_filter::write_received;
 use bus_outer::{Sink, Source, WriteFault};
 use bus_regime::verdict;

@@ -20,7 +20,8 @@ pub struct Ran {
     pub err: MemorySink,
 }
 
-fn words_of(rt: &HostRuntime, words: &[&str]) -> Result<Vec<String>, Fail> {
+/// Words of their own.
+pub fn words_of(rt: &HostRuntime, words: &[&str]) -> Result<Vec<String>, Fail> {
     let mut all = Vec::new(rt.alloc());
     for word in words {
         all.push(String::from_str(rt.alloc(), *word)?)?;

@@ -1,0 +1,248 @@
+//! Each pull and each push that fails in turn, and texts that are cut at each byte, over sources and sinks in memory.
+use crate::observe_tests::{LONG_GAP, ONE_EACH, ONE_EACH_SEEN};
+use crate::status::Status;
+use crate::tests::{Ran, TWO_SENDERS, is_refused, run_on, run_over, sink_of, words_of};
+use crate::tool;
+use bus_outer::{MemorySink, MemorySource};
+use std::test::Fail;
+
+/// A call: its words, and both texts.
+type Call<'a> = (&'a [&'a str], &'a str, &'a str);
+
+/// Calls of each command that read and write without a refusal.
+const CALLS: [Call<'static>; 5] = [
+    (&["check", "T"], TWO_SENDERS, ""),
+    (&["run", "T", "M"], LONG_GAP, ONE_EACH),
+    (&["observe", "T", "M", "150"], LONG_GAP, ONE_EACH),
+    (&["receive", "T", "R"], LONG_GAP, ONE_EACH_SEEN),
+    (&["audit", "T", "R"], LONG_GAP, ONE_EACH_SEEN),
+];
+
+/// More pulls and pushes than a call makes.
+const MANY: u64 = 1000;
+
+/// A source of this text in small pieces, of which these pulls fail.
+fn failing(rt: &HostRuntime, text: &str, pulls: &[u64]) -> Result<MemorySource, Fail> {
+    let bytes = text.as_bytes().to_vec(rt.alloc())?;
+    Ok(MemorySource::new(bytes, 16, pulls.to_vec(rt.alloc())?))
+}
+
+/// A call in which these pulls of the first and of the second source fail.
+fn pulled(rt: &HostRuntime, call: Call<'_>, first: &[u64], second: &[u64]) -> Result<Ran, Fail> {
+    let (words, one, other) = call;
+    let one = failing(rt, one, first)?;
+    let other = failing(rt, other, second)?;
+    run_over(rt, words, one, other, sink_of(rt, 3000)?)
+}
+
+/// How many pulls of a source can fail in a call: each is answered with this line and nothing else.
+fn failing_pulls(rt: &HostRuntime, call: Call<'_>, second: bool, line: &str) -> Result<u64, Fail> {
+    for pull in 0..MANY {
+        let one: &[u64] = if second { &[] } else { &[pull] };
+        let other: &[u64] = if second { &[pull] } else { &[] };
+        let ran = pulled(rt, call, one, other)?;
+        if ran.status != Status::ReadFault {
+            assert_eq!(rt; ran.status, Status::Done);
+            return Ok(pull);
+        }
+        assert!(rt; is_refused(&ran, Status::ReadFault, line));
+    }
+    Ok(MANY)
+}
+
+#[test]
+fn each_pull_that_fails(rt: HostRuntime) -> Result<(), Fail> {
+    for call in CALLS {
+        let pulls = failing_pulls(&rt, call, false, "ERROR 5 read 1\n")?;
+        assert!(rt; pulls > 5 && pulls < MANY);
+        let pulls = failing_pulls(&rt, call, true, "ERROR 5 read 2\n")?;
+        assert!(rt; pulls < MANY);
+        assert_eq!(rt; pulls == 0, call.2.is_empty());
+    }
+    Ok(())
+}
+
+/// Whether a call fails to write at this push, with a beginning of the whole answer on `out`.
+fn push_fails(rt: &HostRuntime, call: Call<'_>, whole: &[u8], push: u64) -> Result<bool, Fail> {
+    let (words, one, other) = call;
+    let out = MemorySink::new(rt.alloc(), 3000, 16, [push].to_vec(rt.alloc())?)?;
+    let ran = run_over(
+        rt,
+        words,
+        failing(rt, one, &[])?,
+        failing(rt, other, &[])?,
+        out,
+    )?;
+    assert!(rt; whole.starts_with(ran.out.bytes()));
+    if ran.status == Status::Done {
+        assert_eq!(rt; ran.out.bytes().len(), whole.len());
+        return Ok(false);
+    }
+    assert_eq!(rt; ran.status, Status::WriteFault);
+    assert_eq!(rt; ran.err.bytes(), b"ERROR 6 write\n".as_slice());
+    Ok(true)
+}
+
+#[test]
+fn each_push_that_fails(rt: HostRuntime) -> Result<(), Fail> {
+    for call in CALLS {
+        let whole = run_on(&rt, call.0, call.1, call.2)?;
+        let mut push = 0;
+        while push < MANY && push_fails(&rt, call, whole.out.bytes(), push)? {
+            push += 1;
+        }
+        assert!(rt; push > 0 && push < MANY);
+    }
+    Ok(())
+}
+
+/// The words of a call that is refused, and its line.
+const REFUSED: &[&str] = &["run", "T", "M"];
+
+const LINE: &[u8] = b"ERROR 3 table line 1 Ended\n";
+
+/// Whether this push of `err` fails: the status stays, and a beginning of the line stands there.
+fn line_fails(rt: &HostRuntime, push: u64) -> Result<bool, Fail> {
+    let words = words_of(rt, REFUSED)?;
+    let (mut first, mut second) = (failing(rt, "", &[])?, failing(rt, "", &[])?);
+    let mut out = sink_of(rt, 100)?;
+    let mut err = MemorySink::new(rt.alloc(), 100, 5, [push].to_vec(rt.alloc())?)?;
+    let status = tool(
+        rt.alloc(),
+        &words,
+        &mut first,
+        &mut second,
+        &mut out,
+        &mut err,
+    );
+    assert_eq!(rt; status, Status::TableRefused);
+    assert!(rt; out.bytes().is_empty());
+    assert!(rt; LINE.starts_with(err.bytes()));
+    Ok(err.bytes().len() < LINE.len())
+}
+
+#[test]
+fn each_push_of_the_line_that_fails(rt: HostRuntime) -> Result<(), Fail> {
+    let mut push = 0;
+    while push < MANY && line_fails(&rt, push)? {
+        push += 1;
+    }
+    assert_eq!(rt; push, 6);
+    Ok(())
+}
+
+/// What `run` of the messages of one each comes to whose last bytes are missing: from so many bytes left up to so many, this status,
+/// and the line, or the horizon of what is written.
+type Cut = (usize, usize, Status, &'static str);
+
+const CUTS: [Cut; 16] = [
+    (
+        0,
+        0,
+        Status::InputRefused,
+        "ERROR 4 messages line 1 Ended\n",
+    ),
+    (
+        1,
+        7,
+        Status::InputRefused,
+        "ERROR 4 messages line 1 Keyword\n",
+    ),
+    (
+        8,
+        9,
+        Status::InputRefused,
+        "ERROR 4 messages line 1 Fields\n",
+    ),
+    (10, 11, Status::Done, "\nHORIZON 0\n"),
+    (
+        12,
+        13,
+        Status::InputRefused,
+        "ERROR 4 messages line 2 Keyword\n",
+    ),
+    (
+        14,
+        17,
+        Status::InputRefused,
+        "ERROR 4 messages line 2 Fields\n",
+    ),
+    (
+        18,
+        19,
+        Status::InputRefused,
+        "ERROR 4 messages item 1 Shape\n",
+    ),
+    (
+        20,
+        22,
+        Status::InputRefused,
+        "ERROR 4 messages line 2 Spelling\n",
+    ),
+    (
+        23,
+        24,
+        Status::InputRefused,
+        "ERROR 4 messages item 1 Shape\n",
+    ),
+    (
+        25,
+        27,
+        Status::InputRefused,
+        "ERROR 4 messages line 2 Spelling\n",
+    ),
+    (
+        28,
+        29,
+        Status::InputRefused,
+        "ERROR 4 messages uneven 1 1 2 0\n",
+    ),
+    (
+        30,
+        31,
+        Status::InputRefused,
+        "ERROR 4 messages line 3 Keyword\n",
+    ),
+    (
+        32,
+        35,
+        Status::InputRefused,
+        "ERROR 4 messages line 3 Fields\n",
+    ),
+    (36, 37, Status::Done, "\nHORIZON 130\n"),
+    (
+        38,
+        40,
+        Status::InputRefused,
+        "ERROR 4 messages line 3 Spelling\n",
+    ),
+    (41, 42, Status::Done, "\nHORIZON 150\n"),
+];
+
+/// Whether a run of so many bytes of the messages comes to this.
+fn cut_comes_to(rt: &HostRuntime, bytes: usize, status: Status, text: &str) -> Result<bool, Fail> {
+    let cut = ONE_EACH.as_bytes().get(..bytes).ok_or("so many bytes")?;
+    let second = MemorySource::new(cut.to_vec(rt.alloc())?, 4096, Vec::new(rt.alloc()));
+    let ran = run_over(
+        rt,
+        REFUSED,
+        failing(rt, LONG_GAP, &[])?,
+        second,
+        sink_of(rt, 3000)?,
+    )?;
+    if status != Status::Done {
+        return Ok(is_refused(&ran, status, text));
+    }
+    let behind = ran.out.bytes().get(7..).ok_or("a first line")?;
+    Ok(ran.status == status && behind.starts_with(text.as_bytes()))
+}
+
+#[test]
+fn messages_cut_at_each_byte(rt: HostRuntime) -> Result<(), Fail> {
+    for (from, to, status, text) in CUTS {
+        for bytes in from..to + 1 {
+            assert!(rt; cut_comes_to(&rt, bytes, status, text)?, "{bytes} bytes");
+        }
+    }
+    Ok(())
+}
