@@ -3,7 +3,7 @@ use Rattle.std.specs.Prelude.{◌≡◌, ℕ, nat_lt, false, List, [], Option, S
 use Rattle.std.proofs.Common.{arith, refl, sym, ap, ◌∙◌, subst, cond, inl, inr}
 use Rattle.std.proofs.lemmas.Bool.Decides.{nat_tests}
 use Rattle.bus_outer.specs.Sources.{Taken}
-use Rattle.bus_trace.specs.Traces.{trace_text}
+use Rattle.bus_trace.specs.Traces.{text_in}
 use Rattle.bus_tool.specs.Kinds.{Kind, NoForm, NotRead, TooMuch, Wrong, Late, NotWritten, NoRoom, Answer}
 use Rattle.bus_tool.specs.Outside.{Seen, Sources, both, Stays, BothStay}
 use Rattle.bus_tool.specs.Readers.{Reader, Entire, Trace, Named, Reach, Untouched, Within, Past, Judged, ReadsBy, Reads, reach_at, reach, First, Second, SourceCounts, OutCounts}
@@ -47,7 +47,7 @@ reads_own reader number k old new h r = subst (λ reach. ReadsBy reader reach ol
 -- what was read as far as its reader goes was read within its limit
 pub judged_within : (reader : Reader) (old new : Seen) → ReadsBy reader Judged old new → ReadsBy reader Within old new
 judged_within (Entire limit) old new r = r.0
-judged_within Trace old new r = elim r [ inl whole ↦ (trace_text whole.0, whole.1.0, whole.1.1) | inr wrong ↦ (wrong.2.bytes, wrong.2.came, wrong.2.known.1) ]
+judged_within Trace old new r = elim r [ inl whole ↦ (text_in whole.1.format whole.0, whole.1.came, whole.1.short) | inr wrong ↦ (wrong.2.bytes, wrong.2.came, wrong.2.known.1) ]
 
 -- the first, where the second step stopped
 pub reads_before : (reader : Reader) (k : Kind) (old new : Seen) → StopsAt 2 k → ReadsBy reader Judged old new → ReadsBy reader (reach 1 k) old new

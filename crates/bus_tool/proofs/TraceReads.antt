@@ -55,7 +55,7 @@ trace_stops text o h = reading_stops (reading trace_limit text) o h
 -- a trace that stands at the front is due
 pub held_trace : ReadsBack → (stream : List ℕ) (trace : Recording) → HoldsTrace trace_limit stream trace → trace_due stream ≡ Ok trace
 held_trace back stream trace h =
-    ap trace_or_refusal (ap (reading trace_limit) (h.parts ∙ ap (λ front. front ++ h.rest) h.text.text_is) ∙ back trace_limit trace h.rest h.text.trace (subst (λ front. length front ≤ trace_limit) h.text.text_is h.short))
+    ap trace_or_refusal (ap (reading trace_limit) (h.parts ∙ ap (λ front. front ++ h.rest) h.text.text_is) ∙ back trace_limit h.text.format trace h.rest h.text.trace (subst (λ front. length front ≤ trace_limit) h.text.text_is h.short))
 
 -- the table and the trace
 pub record TracedRead (first second : List ℕ) (traced : Traced) : Type 0 where

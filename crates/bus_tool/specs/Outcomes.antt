@@ -57,6 +57,7 @@ trace_reason_name trace.Spelling = codes "Spelling"
 trace_reason_name trace.Parity = codes "Parity"
 trace_reason_name trace.Range = codes "Range"
 trace_reason_name trace.Order = codes "Order"
+trace_reason_name trace.Mark = codes "Mark"
 
 -- the label and the extension that stand on two SEND lines
 abbrev pub pair_words : ℕ → ℕ → List ℕ

@@ -1,5 +1,5 @@
 //! `audit` over sources and sinks in memory, with ample memory.
-use crate::observe_tests::{LONG_GAP, ONE_EACH_SEEN, rounds};
+use crate::observe_tests::{LONG_GAP, ONE_EACH_IN_FORMAT_1, ONE_EACH_SEEN, rounds};
 use crate::run_tests::{ONE_EACH_RECEIVED, joined};
 use crate::status::Status;
 use crate::tests::{
@@ -11,9 +11,9 @@ fn audit(rt: &HostRuntime, table: &str, trace: &str) -> Result<Ran, Fail> {
     run_on(rt, &["audit", "T", "R"], table, trace)
 }
 
-/// Whether an audit of the trace of one message each, with one text in place of another, finds this breach.
+/// Whether an audit of the trace of one message each in format 1, with one text in place of another, finds this breach.
 fn finds(rt: &HostRuntime, from: &str, to: &str, line: &str) -> Result<bool, Fail> {
-    let trace = ONE_EACH_SEEN.replace(rt.alloc(), from, to)?;
+    let trace = ONE_EACH_IN_FORMAT_1.replace(rt.alloc(), from, to)?;
     let ran = audit(rt, LONG_GAP, trace.as_str())?;
     Ok(writes(&ran, Status::Refused, line))
 }
@@ -37,8 +37,34 @@ fn lawful_traces(rt: HostRuntime) -> Result<(), Fail> {
     let long = ONE_EACH_SEEN.replace(rt.alloc(), "HORIZON 150", "HORIZON 1099511627776")?;
     let quiet = audit(&rt, LONG_GAP, long.as_str())?;
     assert!(rt; writes(&quiet, Status::Done, "LAWFUL 0\n"));
-    let cut = audit(&rt, LONG_GAP, "TRACE 1\nHORIZON 150\n")?;
+    let old = audit(&rt, LONG_GAP, ONE_EACH_IN_FORMAT_1)?;
+    assert!(rt; writes(&old, Status::Done, "LAWFUL 0\n"));
+    let cut = audit(&rt, LONG_GAP, "TRACE 2\nHORIZON 150\n")?;
     assert!(rt; is_refused(&cut, Status::InputRefused, "ERROR 4 trace byte 20 Ended\n"));
+    Ok(())
+}
+
+/// Whether an audit of the trace of one message each, with one text in place of another, is refused with this line.
+fn refuses(rt: &HostRuntime, from: &str, to: &str, line: &str) -> Result<bool, Fail> {
+    let trace = ONE_EACH_SEEN.replace(rt.alloc(), from, to)?;
+    let ran = audit(rt, LONG_GAP, trace.as_str())?;
+    Ok(is_refused(&ran, Status::InputRefused, line))
+}
+
+#[test]
+fn ends_and_marks_that_are_wrong(rt: HostRuntime) -> Result<(), Fail> {
+    assert!(rt; refuses(&rt, "TE 80 -", "TE 81 -", "ERROR 4 trace byte 70 Mark\n")?);
+    assert!(rt; refuses(&rt, "TE 80 -", "TE 80 C", "ERROR 4 trace byte 78 Mark\n")?);
+    assert!(rt; refuses(&rt, "TE 150 -", "TE 150 C", "ERROR 4 trace byte 113 Mark\n")?);
+    assert!(rt;
+        refuses(
+            &rt,
+            "TE 80 -",
+            "TE 80 +",
+            "ERROR 4 trace byte 70 Spelling\n"
+        )?
+    );
+    assert!(rt; refuses(&rt, "TX 110 2", "TX 20 1", "ERROR 4 trace byte 78 Order\n")?);
     Ok(())
 }
 

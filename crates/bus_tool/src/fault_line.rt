@@ -43,6 +43,7 @@ fn put_trace_reason<K: Sink>(text: &mut TextBuffer, sink: &mut K, reason: TraceR
         TraceReason::Parity => text.put(sink, b"Parity"),
         TraceReason::Range => text.put(sink, b"Range"),
         TraceReason::Order => text.put(sink, b"Order"),
+        TraceReason::Mark => text.put(sink, b"Mark"),
     }
 }
 

@@ -13,6 +13,10 @@ pub const LONG_GAP: &str =
 pub const ONE_EACH: &str = "MESSAGES 1\nMSG 1 : 0000 0001\nMSG 2 : 00FF\n";
 
 pub const ONE_EACH_SEEN: &str =
+    "TRACE 2\nHORIZON 150\nHOLD 1 1\nHOLD 2 1\nTX 20 1\nWS L0A111 D00001 D00010\nTE 80 -\nTX 110 2\nWS L0B210 D00FF1\nTE 150 -\nEND\n";
+
+/// The same trace in format 1, which is read and no longer written.
+pub const ONE_EACH_IN_FORMAT_1: &str =
     "TRACE 1\nHORIZON 150\nHOLD 1 1\nHOLD 2 1\nTX 20 1\nWS L0A111 D00001 D00010\nTX 110 2\nWS L0B210 D00FF1\nEND\n";
 
 fn observe(rt: &HostRuntime, table: &str, messages: &str, horizon: &str) -> Result<Ran, Fail> {
@@ -60,7 +64,7 @@ fn traces_of_one_message_each(rt: HostRuntime) -> Result<(), Fail> {
         writes(
             &none,
             Status::Done,
-            "TRACE 1\nHORIZON 0\nHOLD 1 1\nHOLD 2 1\nEND\n"
+            "TRACE 2\nHORIZON 0\nHOLD 1 1\nHOLD 2 1\nEND\n"
         )
     );
     let long = observe(&rt, LONG_GAP, ONE_EACH, "1099511627776")?;
@@ -118,6 +122,23 @@ fn starts_of_a_periodic_table_that_collide(rt: HostRuntime) -> Result<(), Fail> 
     let table = TWO_PERIODIC_SENDERS.replace(rt.alloc(), "AT 90", "AT 0")?;
     let together = b"HORIZON 2001\nTX 0 1\nTX 0 2\nTX 2000 1\nTX 2000 2\n";
     assert!(rt; sees(&rt, table.as_str(), two.as_str(), "2001", together)?);
+    Ok(())
+}
+
+#[test]
+fn marks_of_messages_that_collide(rt: HostRuntime) -> Result<(), Fail> {
+    let two = rounds(&rt, (2, 30), (2, 30))?;
+    let table = TWO_PERIODIC_SENDERS.replace(rt.alloc(), "AT 90", "AT 0")?;
+    let ran = observe(&rt, table.as_str(), two.as_str(), "2001")?;
+    let mut ends = Vec::new(rt.alloc());
+    for line in ran.out.bytes().split(|byte| *byte == b'\n') {
+        if line.starts_with(b"TE") {
+            ends.extend_from_slice(line)?;
+            ends.push(b'\n')?;
+        }
+    }
+    let marked = b"TE 60 C\nTE 620 C\nTE 2060 C\nTE 2620 C\n";
+    assert_eq!(rt; ends.as_slice(), marked.as_slice());
     Ok(())
 }
 

@@ -1,5 +1,5 @@
 //! `receive` over sources and sinks in memory, with ample memory.
-use crate::observe_tests::{LONG_GAP, ONE_EACH_SEEN, rounds};
+use crate::observe_tests::{LONG_GAP, ONE_EACH_IN_FORMAT_1, ONE_EACH_SEEN, rounds};
 use crate::run_tests::{ONE_EACH_RECEIVED, joined};
 use crate::status::Status;
 use crate::tests::{
@@ -14,8 +14,10 @@ fn receive(rt: &HostRuntime, table: &str, trace: &str) -> Result<Ran, Fail> {
 
 #[test]
 fn what_stands_behind_the_trace_is_left(rt: HostRuntime) -> Result<(), Fail> {
-    let alone = receive(&rt, LONG_GAP, ONE_EACH_SEEN)?;
-    assert!(rt; writes(&alone, Status::Done, ONE_EACH_RECEIVED));
+    for trace in [ONE_EACH_SEEN, ONE_EACH_IN_FORMAT_1] {
+        let alone = receive(&rt, LONG_GAP, trace)?;
+        assert!(rt; writes(&alone, Status::Done, ONE_EACH_RECEIVED));
+    }
     let whole = joined(&rt, ONE_EACH_SEEN, ONE_EACH_RECEIVED)?;
     let behind = receive(&rt, LONG_GAP, whole.as_str())?;
     assert!(rt; writes(&behind, Status::Done, ONE_EACH_RECEIVED));
@@ -48,7 +50,7 @@ fn nobody_receives_of_collided_messages(rt: HostRuntime) -> Result<(), Fail> {
 
 #[test]
 fn traces_that_are_refused(rt: HostRuntime) -> Result<(), Fail> {
-    let cut = ONE_EACH_SEEN.replace(rt.alloc(), "END\n", "EN")?;
+    let cut = ONE_EACH_IN_FORMAT_1.replace(rt.alloc(), "END\n", "EN")?;
     let ended = receive(&rt, LONG_GAP, cut.as_str())?;
     assert!(rt;
         is_refused(
@@ -57,7 +59,7 @@ fn traces_that_are_refused(rt: HostRuntime) -> Result<(), Fail> {
             "ERROR 4 trace byte 96 Ended\n"
         )
     );
-    let wrong = ONE_EACH_SEEN.replace(rt.alloc(), "D00FF1", "D00FF0")?;
+    let wrong = ONE_EACH_IN_FORMAT_1.replace(rt.alloc(), "D00FF1", "D00FF0")?;
     let parity = receive(&rt, LONG_GAP, wrong.as_str())?;
     assert!(rt;
         is_refused(

@@ -31,7 +31,7 @@ fn whole_answers(rt: HostRuntime) -> Result<(), Fail> {
     assert!(rt; writes(&one, Status::Done, whole.as_str()));
     let none = run(&rt, LONG_GAP, "MESSAGES 1\n")?;
     let empty =
-        "TRACE 1\nHORIZON 0\nHOLD 1 0\nHOLD 2 0\nEND\nRECEIVED 1\nTERMINAL 1\nTERMINAL 2\nTERMINAL 3\nEND\n";
+        "TRACE 2\nHORIZON 0\nHOLD 1 0\nHOLD 2 0\nEND\nRECEIVED 1\nTERMINAL 1\nTERMINAL 2\nTERMINAL 3\nEND\n";
     assert!(rt; writes(&none, Status::Done, empty));
     Ok(())
 }
@@ -47,7 +47,7 @@ fn quiet_inside_a_message_is_no_turn(rt: HostRuntime) -> Result<(), Fail> {
     let ran = run(&rt, table, messages.as_str())?;
     let data = " D00001 D00001 D00001 D00001 D00001 D00001 D00001 D00001 D00001 D00001";
     let trace = format!(in rt.alloc();
-        "TRACE 1\nHORIZON 541\nHOLD 1 1\nHOLD 2 1\nTX 8 1\nWS L0C100 D00001\nWS L0C200 D00001 D00001\nTX 121 2\nWS L0D101{data}{data}\nEND\nRECEIVED 1\nTERMINAL 1\nTERMINAL 2\nEND\n"
+        "TRACE 2\nHORIZON 541\nHOLD 1 1\nHOLD 2 1\nTX 8 1\nWS L0C100 D00001\nWS L0C200 D00001 D00001\nTE 112 -\nTX 121 2\nWS L0D101{data}{data}\nTE 541 -\nEND\nRECEIVED 1\nTERMINAL 1\nTERMINAL 2\nEND\n"
     )?;
     assert!(rt; writes(&ran, Status::Done, trace.as_str()));
     Ok(())
@@ -114,7 +114,7 @@ fn a_schedule_of_many_rounds(rt: HostRuntime) -> Result<(), Fail> {
             source(&rt, table.as_bytes())?,
             source(&rt, messages.as_bytes())?,
         );
-        let out = sink_of(&rt, 700_000)?;
+        let out = sink_of(&rt, 1_000_000)?;
         let ran = run_over(&rt, &["run", "T", "M"], first, second, out)?;
         assert_eq!(rt; ran.status, Status::Done);
         assert!(rt; starts(&rt, ran.out.bytes())?.starts_with(horizon.as_bytes()));
@@ -165,7 +165,7 @@ fn an_answer_that_is_cut(rt: HostRuntime) -> Result<(), Fail> {
     let ran = run_over(&rt, &["run", "T", "M"], first, second, out)?;
     assert_eq!(rt; ran.status, Status::WriteFault);
     assert_eq!(rt; ran.err.bytes(), b"ERROR 6 write\n".as_slice());
-    let front = b"TRACE 1\nHORIZON 150\nHOLD 1 1\nHOL";
+    let front = b"TRACE 2\nHORIZON 150\nHOLD 1 1\nHOL";
     assert_eq!(rt; ran.out.bytes(), front.as_slice());
     Ok(())
 }

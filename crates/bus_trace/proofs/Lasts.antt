@@ -1,8 +1,13 @@
 -- The last hold and the last transmission.
-use Rattle.std.proofs.Common.{arith, zero, suc, ◌≡◌, ℕ, List, [], ◌∷◌, ◌++◌, length, get_or, set, refl, sym, ap, ◌∙◌}
+use Rattle.std.proofs.Common.{arith, zero, suc, ◌≡◌, ℕ, ◌+◌, ◌*◌, ◌<◌, ◌≤◌, ◌^◌, List, [], ◌∷◌, ◌++◌, length, get_or, set, refl, sym, ap, ◌∙◌}
 use Rattle.bus_strings.specs.Messages.{Wordstring, Entry}
 use Rattle.bus_trace.specs.declared.hold.Hold.{Hold}
-use Rattle.bus_trace.specs.States.{last_terminal, last_count, is_after, comes_after, with_string}
+use Rattle.std.specs.List.{AllByRecursion, sum_by}
+use Rattle.std.proofs.lemmas.List.Sums.{sum_by-cons}
+use Rattle.bus_strings.specs.Messages.{Message, IsWordstring, IsMessage, word_count, bits}
+use Rattle.bus_strings.specs.Transmissions.{end_of}
+use Rattle.bus_trace.specs.Traces.{IsBelow}
+use Rattle.bus_trace.specs.States.{last_terminal, last_count, is_after, comes_after, with_string, last_moment, last_sender, last_end, earlier}
 
 pub last_is : (hs : List Hold) (i : ℕ) (h : Hold) → suc i ≡ length hs → h ≡ get_or hs i h → last_terminal hs ≡ h.terminal
 last_is [] i h e k = absurd (omega arith)
@@ -60,3 +65,67 @@ pub length-with_string : (w : Wordstring) (xs : List Entry) → length (with_str
 length-with_string w [] = refl
 length-with_string w (x ∷ []) = refl
 length-with_string w (x ∷ y ∷ xs) = ap suc (length-with_string w (y ∷ xs))
+
+pub last_moment_is : (xs : List Entry) (i : ℕ) (x : Entry) → suc i ≡ length xs → x ≡ get_or xs i x → last_moment xs ≡ x.moment
+last_moment_is [] i x e k = absurd (omega arith)
+last_moment_is (c ∷ []) zero x e k = ap (λ (d : Entry). d.moment) (sym k)
+last_moment_is (c ∷ []) (suc i) x e k = absurd (omega arith)
+last_moment_is (c ∷ d ∷ xs) zero x e k = absurd (omega arith)
+last_moment_is (c ∷ d ∷ xs) (suc i) x e k = last_moment_is (d ∷ xs) i x (omega arith) k
+
+pub last_sender_is : (xs : List Entry) (i : ℕ) (x : Entry) → suc i ≡ length xs → x ≡ get_or xs i x → last_sender xs ≡ x.terminal
+last_sender_is [] i x e k = absurd (omega arith)
+last_sender_is (c ∷ []) zero x e k = ap (λ (d : Entry). d.terminal) (sym k)
+last_sender_is (c ∷ []) (suc i) x e k = absurd (omega arith)
+last_sender_is (c ∷ d ∷ xs) zero x e k = absurd (omega arith)
+last_sender_is (c ∷ d ∷ xs) (suc i) x e k = last_sender_is (d ∷ xs) i x (omega arith) k
+
+pub last_end_is : (xs : List Entry) (i : ℕ) (x : Entry) → suc i ≡ length xs → x ≡ get_or xs i x → last_end xs ≡ end_of x
+last_end_is [] i x e k = absurd (omega arith)
+last_end_is (c ∷ []) zero x e k = ap (λ (d : Entry). end_of d) (sym k)
+last_end_is (c ∷ []) (suc i) x e k = absurd (omega arith)
+last_end_is (c ∷ d ∷ xs) zero x e k = absurd (omega arith)
+last_end_is (c ∷ d ∷ xs) (suc i) x e k = last_end_is (d ∷ xs) i x (omega arith) k
+
+-- the last of a list that has one more
+pub earlier_push : (xs : List Entry) (x : Entry) → earlier (xs ++ x ∷ []) ≡ xs
+earlier_push [] x = refl
+earlier_push (y ∷ []) x = refl
+earlier_push (y ∷ z ∷ xs) x = ap (λ ys. y ∷ ys) (earlier_push (z ∷ xs) x)
+
+pub moment_push : (xs : List Entry) (x : Entry) → last_moment (xs ++ x ∷ []) ≡ x.moment
+moment_push [] x = refl
+moment_push (y ∷ []) x = refl
+moment_push (y ∷ z ∷ xs) x = moment_push (z ∷ xs) x
+
+pub sender_push : (xs : List Entry) (x : Entry) → last_sender (xs ++ x ∷ []) ≡ x.terminal
+sender_push [] x = refl
+sender_push (y ∷ []) x = refl
+sender_push (y ∷ z ∷ xs) x = sender_push (z ∷ xs) x
+
+pub end_push : (xs : List Entry) (x : Entry) → last_end (xs ++ x ∷ []) ≡ end_of x
+end_push [] x = refl
+end_push (y ∷ []) x = refl
+end_push (y ∷ z ∷ xs) x = end_push (z ∷ xs) x
+
+pub earlier_with : (w : Wordstring) (xs : List Entry) → earlier (with_string w xs) ≡ earlier xs
+earlier_with w [] = refl
+earlier_with w (x ∷ []) = refl
+earlier_with w (x ∷ y ∷ []) = refl
+earlier_with w (x ∷ y ∷ z ∷ xs) = ap (λ ys. x ∷ ys) (earlier_with w (y ∷ z ∷ xs))
+
+-- ---- how long a message may be
+words_most : (ws : List Wordstring) → AllByRecursion IsWordstring ws → sum_by word_count ws ≤ 257 * length ws
+words_most [] h = omega arith
+words_most (w ∷ ws) h = omega (arith, sum_by-cons word_count w ws, words_most ws h.1, h.0.few)
+
+pub bits_most : (m : Message) → IsMessage m → bits m < 2 ^ 20
+bits_most m h = omega (arith, words_most m h.strings, h.few)
+
+pub end_most : (x : Entry) → IsMessage x.message → x.moment < 2 ^ 40 → end_of x < 2 ^ 41
+end_most x m h = omega (arith, bits_most x.message m, h)
+
+pub last_end_most : (horizon : ℕ) (xs : List Entry) → horizon ≤ 2 ^ 40 → AllByRecursion (IsBelow horizon) xs → last_end xs < 2 ^ 41
+last_end_most horizon [] k h = omega arith
+last_end_most horizon (x ∷ []) k h = end_most x h.0.message (omega (arith, h.0.moment, k))
+last_end_most horizon (x ∷ y ∷ xs) k h = last_end_most horizon (y ∷ xs) k h.1

@@ -1,6 +1,9 @@
 pub mod Lasts
 pub mod Orders
 pub mod WordLists
+pub mod Told
+pub mod Marks
+pub mod MarkSteps
 pub mod Steps
 pub mod Runs
 pub mod Walks

@@ -64,6 +64,11 @@ after_front [] x ys h = refl
 after_front (y ∷ []) x ys h = after_from y x h.0.0
 after_front (y ∷ z ∷ xs) x ys h = after_front (z ∷ xs) x ys h.1
 
+-- each comes before the next
+pub last_precedes : (xs : List Entry) (x y : Entry) (ys : List Entry) → IsAscending (xs ++ x ∷ y ∷ ys) → Precedes x y
+last_precedes [] x y ys h = h.0.0
+last_precedes (z ∷ xs) x y ys h = last_precedes xs x y ys h.1
+
 pub after_at : (xs : List Entry) (i : ℕ) (d : Entry) → i < length xs → IsAscending xs → is_after (take i xs) (get_or xs i d).moment (get_or xs i d).terminal ≡ true
 after_at [] i d within h = absurd (omega arith)
 after_at (x ∷ xs) zero d within h = refl

@@ -9,19 +9,24 @@ use Rattle.bus_text.specs.Lines.{is_feed}
 use Rattle.bus_trace.specs.declared.fault.TraceError.{TraceError}
 use Rattle.bus_trace.specs.declared.fault.TraceError.TheVariants.{Text, ReadFault, TooLarge, Memory}
 use Rattle.bus_trace.specs.declared.position.Position.{Position}
-use Rattle.bus_trace.specs.declared.position.Position.TheVariants.{Start, Headed, Holding, Begun, Stringing, Ended}
+use Rattle.bus_trace.specs.declared.position.Position.TheVariants.{Start, Headed, Holding, Begun, Stringing, Closed, Ended}
+use Rattle.bus_strings.specs.OverlapLaws.{NeighboursTell, AscendingIsByMoment}
+use Rattle.bus_trace.specs.declared.format.Format.{Format}
 use Rattle.bus_trace.specs.declared.reason.TraceReason.{TraceReason}
 use Rattle.bus_trace.specs.declared.reason.TraceReason.TheVariants.{Long, Ended as CutShort}
 use Rattle.bus_trace.specs.Limits.{line_limit, text_limit}
-use Rattle.bus_trace.specs.Traces.{Recording, IsTrace, HoldsTrace, trace_text}
-use Rattle.bus_trace.specs.States.{State, IsSound, step, text_of, is_ended, recorded}
+use Rattle.bus_trace.specs.Traces.{Recording, Line, IsTrace, HoldsTrace, opening_lines, end_line, text_in}
+use Rattle.bus_trace.specs.States.{State, IsSound, MarkFits, step, text_of, is_ended, recorded}
+use Rattle.bus_text.specs.Canonical.{spelled_lines}
 use Rattle.bus_trace.specs.Runs.{Standing, Progress, Going, Found, Refused, Over, judged, take_byte, ◌>>-◌, run, begin, due, due_by, ended_by, reading, stream_of, HasNoFeed}
 use Rattle.bus_trace.specs.Reading.{Gave, Refuses, Complete, Overlong, CutOff, TakesTrace, ReadGives}
 use Rattle.bus_trace.specs.Looping.{LineRefused, ByLine, ByEnd, Loops}
 use Rattle.bus_trace.proofs.Steps.{step_adds, step_sound}
 use Rattle.bus_trace.proofs.Runs.{run-append, run-whole_line}
 use Rattle.bus_trace.proofs.Walks.{start_sound}
-use Rattle.bus_trace.proofs.Again.{trace_again}
+use Rattle.bus_trace.proofs.Told.{lines_whole}
+use Rattle.bus_trace.proofs.Marks.{ended_is}
+use Rattle.bus_trace.proofs.Again.{ended, trace_again}
 
 -- ---- where an end was found, the text of the trace stands at the front
 abbrev pub ByteGives : List ℕ → Progress → Type 0
@@ -69,17 +74,28 @@ unfolding run
 run_finds r [] s sound h = absurd cc
 run_finds r (b ∷ bs) s sound h = found_next r b bs (take_byte r b) s (byte_gives r b sound) h (λ n k q. run_finds n bs s k q)
 
-ended_is : (p : Position) → is_ended p ≡ true → p ≡ Ended
-ended_is Start h = absurd cc
-ended_is Headed h = absurd cc
-ended_is Holding h = absurd cc
-ended_is (Begun m n) h = absurd cc
-ended_is Stringing h = absurd cc
-ended_is Ended h = refl
+end_is : (p : Position) → is_ended p ≡ true → p ≡ Ended
+end_is Start h = absurd cc
+end_is Headed h = absurd cc
+end_is Holding h = absurd cc
+end_is (Begun m n) h = absurd cc
+end_is Stringing h = absurd cc
+end_is Closed h = absurd cc
+end_is Ended h = refl
 
-ended_text : (s : State) → is_ended s.position ≡ true → text_of s ≡ trace_text (recorded s)
+-- two laws of bus_strings on marks
+pub record MarkLaws : Type 0 where
+  pub neighbours : NeighboursTell
+  pub ascending : AscendingIsByMoment
+
+ended_text : MarkLaws → (s : State) → IsSound s → is_ended s.position ≡ true → text_of s ≡ text_in s.format (recorded s)
 unfolding text_of
-ended_text s h = ap (λ p. text_of (record { position = p; horizon = s.horizon; holds = s.holds; list = s.list })) (ended_is s.position h)
+ended_text laws s sound h =
+    let p = end_is s.position h in
+    let marked = ended_is s.format s.mark s.list (subst (λ q. MarkFits q s.format s.mark s.list) p sound.marked) in
+    ap (λ q. text_of (record { position = q; format = s.format; mark = s.mark; horizon = s.horizon; holds = s.holds; list = s.list })) p
+    ∙ ap (λ (ls : List Line). spelled_lines ((opening_lines s.format s.horizon s.holds ++ ls) ++ end_line ∷ []))
+    (lines_whole laws.neighbours laws.ascending s.format s.horizon s.list s.mark sound.trace.order sound.trace.list marked)
 
 begin_stream : (xs : List ℕ) → stream_of begin ++ xs ≡ xs
 unfolding text_of
@@ -147,23 +163,23 @@ found_finds limit stream s h =
     let f = due_found (nat_lt limit (length stream)) (run begin (take limit stream)) s h in
     subst (λ (x : List ℕ). Finds x s) (begin_stream (take limit stream)) (run_finds begin (take limit stream) s start_sound f)
 
-pub found_trace : (limit : ℕ) (stream : List ℕ) (s : State) → due limit stream ≡ Found s → IsTrace (recorded s) × (text_of s ≡ trace_text (recorded s)) × (length (trace_text (recorded s)) ≤ limit)
-found_trace limit stream s h =
+pub found_trace : MarkLaws → (limit : ℕ) (stream : List ℕ) (s : State) → due limit stream ≡ Found s → IsTrace (recorded s) × (text_of s ≡ text_in s.format (recorded s)) × (length (text_in s.format (recorded s)) ≤ limit)
+found_trace laws limit stream s h =
     let f = found_finds limit stream s h in
-    let e = ended_text s f.ended in
+    let e = ended_text laws s f.sound f.ended in
     (f.sound.trace, e, omega (arith, length-take limit stream, ap length f.parts, length-append (text_of s) f.rest, ap length e))
 
 -- whatever is whole holds the text of its trace
-pub found_holds : (limit : ℕ) (stream : List ℕ) (s : State) → due limit stream ≡ Found s → HoldsTrace limit stream (recorded s)
-found_holds limit stream s h =
+pub found_holds : MarkLaws → (limit : ℕ) (stream : List ℕ) (s : State) → due limit stream ≡ Found s → HoldsTrace limit stream (recorded s)
+found_holds laws limit stream s h =
     let f = found_finds limit stream s h in
-    let w = found_trace limit stream s h in
+    let w = found_trace laws limit stream s h in
     record {
       front = text_of s;
       rest = f.rest ++ drop limit stream;
       parts = sym (take-append-drop limit stream) ∙ ap (λ x. x ++ drop limit stream) f.parts ∙ append_assoc (text_of s) f.rest (drop limit stream);
       short = omega (arith, ap length w.1, w.2);
-      text = record { trace = w.0; text_is = w.1 };
+      text = record { format = s.format; trace = w.0; text_is = w.1 };
     }
 
 -- ---- how a run stands
@@ -336,19 +352,23 @@ refused_takes old new bytes byte reason t (ByEnd at d e b r) =
       known = (CutOff at.state (text_of at.state) at.line (sym u.stream) b (gave_is at.state at refl u.stands) u.stands.feedless u.stands.short e r, u.short);
     }
 
-pub loops_takes : (old new : Option (List ℕ)) (result : Result Recording TraceError) → Loops old new result → TakesTrace old new result
-loops_takes old new (Ok trace) l =
+pub loops_takes : MarkLaws → (old new : Option (List ℕ)) (result : Result Recording TraceError) → Loops old new result → TakesTrace old new result
+loops_takes laws old new (Ok trace) l =
     let s : State = l.gives.0 in
-    let w = found_trace text_limit l.bytes s l.gives.1 in
-    let e : text_of s ≡ trace_text trace = w.1 ∙ ap trace_text (sym l.gives.3) in
-    (subst (Taken old new) (l.gives.2 ∙ e) l.came, subst (λ (t : Recording). length (trace_text t) ≤ text_limit) (sym l.gives.3) w.2)
-loops_takes old new (Err (Text byte reason)) l = refused_takes old new l.bytes byte reason l.came l.gives
-loops_takes old new (Err TooLarge) l =
+    let w = found_trace laws text_limit l.bytes s l.gives.1 in
+    let e : text_of s ≡ text_in s.format trace = w.1 ∙ ap (text_in s.format) (sym l.gives.3) in
+    record {
+      format = s.format;
+      came = subst (Taken old new) (l.gives.2 ∙ e) l.came;
+      short = subst (λ (t : Recording). length (text_in s.format t) ≤ text_limit) (sym l.gives.3) w.2;
+    }
+loops_takes laws old new (Err (Text byte reason)) l = refused_takes old new l.bytes byte reason l.came l.gives
+loops_takes laws old new (Err TooLarge) l =
     let d = l.gives in
     let u = undecided_is text_limit d.front d.before d.undecided in
     record { bytes = l.bytes; came = l.came; known = (d, ap length d.parts ∙ over_byte d.front d.last d.before u (ap (due text_limit) (sym d.parts) ∙ d.decided)) }
-loops_takes old new (Err ReadFault) l = record { bytes = l.bytes; came = l.came; known = l.gives }
-loops_takes old new (Err Memory) l = record { bytes = l.bytes; came = l.came; known = l.gives }
+loops_takes laws old new (Err ReadFault) l = record { bytes = l.bytes; came = l.came; known = l.gives }
+loops_takes laws old new (Err Memory) l = record { bytes = l.bytes; came = l.came; known = l.gives }
 
 -- ---- what is decided stays so, whatever follows
 take_more : (limit : ℕ) (xs ys : List ℕ) → (rest : List ℕ) × (take limit (xs ++ ys) ≡ take limit xs ++ rest)
@@ -422,44 +442,45 @@ reads_is (Refused byte reason) t h = absurd cc
 reads_is Over t h = absurd cc
 
 -- what is read stands at the front
-pub reads_holds : (limit : ℕ) (stream : List ℕ) (t : Recording) → reading limit stream ≡ Ok t → HoldsTrace limit stream t
-reads_holds limit stream t h =
+pub reads_holds : MarkLaws → (limit : ℕ) (stream : List ℕ) (t : Recording) → reading limit stream ≡ Ok t → HoldsTrace limit stream t
+reads_holds laws limit stream t h =
     let k = reads_is (due limit stream) t h in
-    subst (HoldsTrace limit stream) k.2 (found_holds limit stream k.0 k.1)
+    subst (HoldsTrace limit stream) k.2 (found_holds laws limit stream k.0 k.1)
 
 -- what stands at the front is read
-pub holds_reads : (limit : ℕ) (stream : List ℕ) (t : Recording) → HoldsTrace limit stream t → reading limit stream ≡ Ok t
+pub holds_reads : MarkLaws → (limit : ℕ) (stream : List ℕ) (t : Recording) → HoldsTrace limit stream t → reading limit stream ≡ Ok t
 unfolding due
-holds_reads limit stream t h =
-    let whole : State = record { position = Ended; horizon = t.horizon; holds = t.holds; list = t.list } in
-    let cut : (rest : List ℕ) × (take limit stream ≡ trace_text t ++ rest) =
+holds_reads laws limit stream t h =
+    let format : Format = h.text.format in
+    let cut : (rest : List ℕ) × (take limit stream ≡ text_in format t ++ rest) =
     let m = take_more limit h.front h.rest in
     (m.0, ap (take limit) h.parts ∙ m.1 ∙ ap (λ x. x ++ m.0) (take_all limit h.front h.short ∙ h.text.text_is)) in
     ap (λ x. ended_by (due_by (nat_lt limit (length stream)) (run begin x))) cut.1
-    ∙ ap (λ o. ended_by (due_by (nat_lt limit (length stream)) o)) (trace_again t cut.0 h.text.trace)
+    ∙ ap (λ o. ended_by (due_by (nat_lt limit (length stream)) o)) (trace_again laws.neighbours laws.ascending format t cut.0 h.text.trace)
 
-found_told : (xs : List ℕ) (result : Result Recording TraceError) → ReadGives result (reading text_limit xs) → IfOk result (HoldsTrace text_limit xs)
-found_told xs (Ok trace) h = reads_holds text_limit xs trace h
-found_told xs (Err e) h = tt
+found_told : MarkLaws → (xs : List ℕ) (result : Result Recording TraceError) → ReadGives result (reading text_limit xs) → IfOk result (HoldsTrace text_limit xs)
+found_told laws xs (Ok trace) h = reads_holds laws text_limit xs trace h
+found_told laws xs (Err e) h = tt
 
-pub exact_found : (old : Option (List ℕ)) (result : Result Recording TraceError) → IfSome old (λ stream. ReadGives result (reading text_limit stream)) → IfSome old (λ stream. IfOk result (HoldsTrace text_limit stream))
-exact_found None result h = tt
-exact_found (Some xs) result h = found_told xs result h
+pub exact_found : MarkLaws → (old : Option (List ℕ)) (result : Result Recording TraceError) → IfSome old (λ stream. ReadGives result (reading text_limit stream)) → IfSome old (λ stream. IfOk result (HoldsTrace text_limit stream))
+exact_found laws None result h = tt
+exact_found laws (Some xs) result h = found_told laws xs result h
 
-pub exact_only : (old : Option (List ℕ)) (result : Result Recording TraceError) → IfSome old (λ stream. ReadGives result (reading text_limit stream))
+pub exact_only : MarkLaws → (old : Option (List ℕ)) (result : Result Recording TraceError) → IfSome old (λ stream. ReadGives result (reading text_limit stream))
     → IfSome old (λ stream. (t : Recording) → HoldsTrace text_limit stream t → ReadGives result (Ok t))
-exact_only None result h = tt
-exact_only (Some xs) result h = λ t k. subst (ReadGives result) (holds_reads text_limit xs t k) h
+exact_only laws None result h = tt
+exact_only laws (Some xs) result h = λ t k. subst (ReadGives result) (holds_reads laws text_limit xs t k) h
 
 -- ---- no trace text is a proper front of another
-pub front_is_whole : (t u : Recording) (rest : List ℕ) → IsTrace t → IsTrace u → trace_text u ≡ trace_text t ++ rest → (t ≡ u) × (rest ≡ [])
-front_is_whole t u rest i j e =
-    let a = trace_again t rest i in
-    let b = trace_again u [] j in
-    let same : Found (record { position = Ended; horizon = t.horizon; holds = t.holds; list = t.list }) ≡ Found (record { position = Ended; horizon = u.horizon; holds = u.holds; list = u.list }) =
-    sym a ∙ ap (run begin) (sym e ∙ sym (append-nil (trace_text u))) ∙ b in
-    let s : t ≡ u = ap recorded (found_is _ _ same) in
-    (s, no_rest (trace_text t) rest (ap trace_text s ∙ e)) where
+pub front_is_whole : MarkLaws → (one other : Format) (t u : Recording) (rest : List ℕ) → IsTrace t → IsTrace u → text_in other u ≡ text_in one t ++ rest → (one ≡ other) × (t ≡ u) × (rest ≡ [])
+front_is_whole laws one other t u rest i j e =
+    let a = trace_again laws.neighbours laws.ascending one t rest i in
+    let b = trace_again laws.neighbours laws.ascending other u [] j in
+    let same : Found (ended one t) ≡ Found (ended other u) = sym a ∙ ap (run begin) (sym e ∙ sym (append-nil (text_in other u))) ∙ b in
+    let state : ended one t ≡ ended other u = found_is _ _ same in
+    let f : one ≡ other = ap (λ (s : State). s.format) state in
+    let s : t ≡ u = ap recorded state in
+    (f, s, no_rest (text_in one t) rest (ap (λ (g : Format). text_in g t) f ∙ ap (text_in other) s ∙ e)) where
       found_is : (m n : State) → Found m ≡ Found n → m ≡ n
       found_is m n h = cc
 

@@ -17,6 +17,7 @@ use Rattle.bus_trace.specs.Limits.{line_limit}
 pub start_sound : IsSound start
 start_sound = record {
   fits = (refl, refl);
+  marked = tt;
   trace = record { horizon = omega arith; holds = tt; terminals = tt; list = tt; order = tt };
 }
 

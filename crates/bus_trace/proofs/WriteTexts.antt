@@ -1,6 +1,6 @@
 -- What is put is the text of the trace.
-use Rattle.std.proofs.Common.{◌≡◌, ℕ, List, [], ◌∷◌, ◌++◌, codes, map, refl, sym, ap, ◌∙◌, append_assoc, append-nil}
-use Rattle.std.specs.List.{flat_map, join_with_byte}
+use Rattle.std.proofs.Common.{◌≡◌, ℕ, Bool, List, [], ◌∷◌, ◌++◌, codes, map, refl, sym, ap, ◌∙◌, append_assoc, append-nil}
+use Rattle.std.specs.List.{flat_map, zip, join_with_byte}
 use Rattle.std.specs.Fmt.{decimal}
 use Rattle.std.proofs.lemmas.List.Concat.{flat_map-append}
 use Rattle.bus_text.specs.Canonical.{spelled_line, spelled_lines}
@@ -8,8 +8,10 @@ use Rattle.bus_words.specs.Words.{label_word}
 use Rattle.bus_words.specs.WordTexts.{word_text}
 use Rattle.bus_strings.specs.Messages.{Wordstring, Entry}
 use Rattle.bus_trace.specs.declared.hold.Hold.{Hold}
-use Rattle.bus_trace.specs.Traces.{Recording, Line, data_word, head_line, horizon_line, hold_line, begin_line, string_line, entry_lines, end_line, body_lines, trace_text}
-use Rattle.bus_trace.specs.Writing.{word_put, data_put, string_put, pair_put, hold_put, entry_put, horizon_put, trace_put}
+use Rattle.bus_strings.specs.Transmissions.{end_of, marks}
+use Rattle.bus_trace.specs.declared.format.Format.TheVariants.{Two}
+use Rattle.bus_trace.specs.Traces.{Recording, Line, data_word, head_line, horizon_line, hold_line, begin_line, string_line, entry_lines, mark_text, close_line, marked_lines, list_lines, opening_lines, end_line, trace_text}
+use Rattle.bus_trace.specs.Writing.{word_put, data_put, string_put, pair_put, hold_put, close_put, entry_put, horizon_put, list_put, trace_put}
 
 flat_map-same : {X : Type 0} (f g : X → List ℕ) (xs : List X) → ((x : X) → f x ≡ g x) → flat_map f xs ≡ flat_map g xs
 flat_map-same f g [] h = refl
@@ -38,31 +40,42 @@ string_is s =
     append_assoc (codes "WS" ++ word_put (label_word s.label s.ext)) (data_put s.words) (codes "\n")
     ∙ ap (λ (t : List ℕ). 87 ∷ 83 ∷ 32 ∷ t) (sym (append_assoc label (data_put s.words) (10 ∷ [])) ∙ ap (λ t. t ++ 10 ∷ []) (sym (joined label s.words)))
 
-entry_is : (x : Entry) → entry_put x ≡ spelled_lines (entry_lines x)
-entry_is x =
-    ap (λ t. t ++ flat_map string_put x.message) (pair_is (codes "TX") x.moment x.terminal)
-    ∙ ap (λ t. spelled_line (begin_line x.moment x.terminal) ++ t) (flat_map-same string_put (λ s. spelled_line (string_line s)) x.message string_is ∙ sym (spelled_map string_line x.message))
+close_is : (x : Entry) (mark : Bool) → close_put x mark ≡ spelled_line (close_line x mark)
+close_is x mark = by_mark (decimal (end_of x)) mark where
+  by_mark : (e : List ℕ) (mark : Bool) → codes "TE" ++ codes " " ++ e ++ codes " " ++ mark_text mark ++ codes "\n" ≡ spelled_line (codes "TE" ∷ e ∷ mark_text mark ∷ [])
+  by_mark e mark = simp append_assoc
 
--- the lines of a body, part by part
-body_is : (h : ℕ) (hs : List Hold) (xs : List Entry) → spelled_lines (body_lines h hs xs) ≡ (horizon_put h ++ flat_map hold_put hs) ++ flat_map entry_put xs
-body_is h hs xs =
-    let front : List ℕ = spelled_line head_line ++ spelled_line (horizon_line h) in
+entry_is : (marked : Entry × Bool) → entry_put marked ≡ spelled_lines (marked_lines marked)
+entry_is marked =
+    let x : Entry = marked.0 in
+    ap (λ t. (t ++ flat_map string_put x.message) ++ close_put x marked.1) (pair_is (codes "TX") x.moment x.terminal)
+    ∙ ap (λ t. (spelled_line (begin_line x.moment x.terminal) ++ t) ++ close_put x marked.1) (flat_map-same string_put (λ s. spelled_line (string_line s)) x.message string_is ∙ sym (spelled_map string_line x.message))
+    ∙ ap (λ t. spelled_lines (entry_lines x) ++ t) (close_is x marked.1 ∙ sym (append-nil (spelled_line (close_line x marked.1))))
+    ∙ sym (flat_map-append spelled_line (entry_lines x) (close_line x marked.1 ∷ []))
+
+list_is : (xs : List Entry) → spelled_lines (list_lines Two xs) ≡ list_put xs
+list_is xs = spelled_flat_map marked_lines (zip xs (marks xs)) ∙ flat_map-same (λ m. spelled_lines (marked_lines m)) entry_put (zip xs (marks xs)) (λ m. sym (entry_is m))
+
+-- the lines before the list
+opening_is : (h : ℕ) (hs : List Hold) → spelled_lines (opening_lines Two h hs) ≡ horizon_put h ++ flat_map hold_put hs
+opening_is h hs =
     let holds : spelled_lines (map hold_line hs) ≡ flat_map hold_put hs = spelled_map hold_line hs ∙ flat_map-same (λ hold. spelled_line (hold_line hold)) hold_put hs (λ hold. sym (pair_is (codes "HOLD") hold.terminal hold.count)) in
-    let list : spelled_lines (flat_map entry_lines xs) ≡ flat_map entry_put xs = spelled_flat_map entry_lines xs ∙ flat_map-same (λ x. spelled_lines (entry_lines x)) entry_put xs (λ x. sym (entry_is x)) in
-    sym (append_assoc (spelled_line head_line) (spelled_line (horizon_line h)) (spelled_lines (map hold_line hs ++ flat_map entry_lines xs)))
-    ∙ ap (λ t. front ++ t) (flat_map-append spelled_line (map hold_line hs) (flat_map entry_lines xs) ∙ ap (λ t. t ++ spelled_lines (flat_map entry_lines xs)) holds ∙ ap (λ t. flat_map hold_put hs ++ t) list)
-    ∙ sym (append_assoc front (flat_map hold_put hs) (flat_map entry_put xs))
+    sym (append_assoc (spelled_line (head_line Two)) (spelled_line (horizon_line h)) (spelled_lines (map hold_line hs)))
+    ∙ ap (λ t. (spelled_line (head_line Two) ++ spelled_line (horizon_line h)) ++ t) holds
 
 pub put_is : (t : Recording) → trace_put t ≡ trace_text t
 put_is t =
-    ap (λ x. x ++ codes "END\n") (sym (body_is t.horizon t.holds t.list))
-    ∙ ap (λ x. spelled_lines (body_lines t.horizon t.holds t.list) ++ x) (sym (append-nil (spelled_line end_line)))
-    ∙ sym (flat_map-append spelled_line (body_lines t.horizon t.holds t.list) (end_line ∷ []))
+    let opening : List Line = opening_lines Two t.horizon t.holds in
+    ap (λ x. (x ++ list_put t.list) ++ codes "END\n") (sym (opening_is t.horizon t.holds))
+    ∙ ap (λ x. (spelled_lines opening ++ x) ++ codes "END\n") (sym (list_is t.list))
+    ∙ ap (λ x. x ++ codes "END\n") (sym (flat_map-append spelled_line opening (list_lines Two t.list)))
+    ∙ ap (λ x. spelled_lines (opening ++ list_lines Two t.list) ++ x) (sym (append-nil (spelled_line end_line)))
+    ∙ sym (flat_map-append spelled_line (opening ++ list_lines Two t.list) (end_line ∷ []))
 
 -- the same, of the parts that were read of the trace
-pub put_as_read : (t : Recording) (h : ℕ) (hs : List Hold) (xs : List Entry) → h ≡ t.horizon → hs ≡ t.holds → xs ≡ t.list → horizon_put h ++ flat_map hold_put hs ++ flat_map entry_put xs ++ codes "END\n" ≡ trace_text t
+pub put_as_read : (t : Recording) (h : ℕ) (hs : List Hold) (xs : List Entry) → h ≡ t.horizon → hs ≡ t.holds → xs ≡ t.list → horizon_put h ++ flat_map hold_put hs ++ list_put xs ++ codes "END\n" ≡ trace_text t
 put_as_read t h hs xs a b c =
-    ap (λ x. horizon_put x ++ flat_map hold_put hs ++ flat_map entry_put xs ++ codes "END\n") a
-    ∙ ap (λ (x : List Hold). horizon_put t.horizon ++ flat_map hold_put x ++ flat_map entry_put xs ++ codes "END\n") b
-    ∙ ap (λ (x : List Entry). horizon_put t.horizon ++ flat_map hold_put t.holds ++ flat_map entry_put x ++ codes "END\n") c
+    ap (λ x. horizon_put x ++ flat_map hold_put hs ++ list_put xs ++ codes "END\n") a
+    ∙ ap (λ (x : List Hold). horizon_put t.horizon ++ flat_map hold_put x ++ list_put xs ++ codes "END\n") b
+    ∙ ap (λ (x : List Entry). horizon_put t.horizon ++ flat_map hold_put t.holds ++ list_put x ++ codes "END\n") c
     ∙ put_is t

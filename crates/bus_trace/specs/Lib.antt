@@ -2,6 +2,7 @@ pub mod Limits
 pub mod Traces
 pub mod WordFields
 pub mod States
+pub mod Reach
 pub mod Runs
 pub mod Gives
 pub mod Walking

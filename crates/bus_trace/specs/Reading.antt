@@ -11,7 +11,8 @@ use Rattle.bus_trace.specs.declared.reason.TraceReason.TheVariants.{Ended, Long}
 use Rattle.bus_trace.specs.declared.fault.TraceError.{TraceError}
 use Rattle.bus_trace.specs.declared.fault.TraceError.TheVariants.{Text, ReadFault, TooLarge, Memory}
 use Rattle.bus_trace.specs.Limits.{text_limit, line_limit}
-use Rattle.bus_trace.specs.Traces.{Recording, trace_text}
+use Rattle.bus_trace.specs.declared.format.Format.{Format}
+use Rattle.bus_trace.specs.Traces.{Recording, text_in}
 use Rattle.bus_trace.specs.States.{State, step, text_of}
 use Rattle.bus_trace.specs.Runs.{Standing, Progress, Going, Over, HasNoFeed, begin, run, due}
 
@@ -45,10 +46,16 @@ pub record Takes (old new : Option (List ℕ)) (P : List ℕ → Type 0) : Type 
   pub came : Taken old new bytes
   pub known : P bytes
 
+-- The text of this trace in one of the formats came from the source, and it is within the limit.
+pub record TakesText (old new : Option (List ℕ)) (trace : Recording) : Type 0 where
+  pub format : Format
+  pub came : Taken old new (text_in format trace)
+  pub short : length (text_in format trace) ≤ text_limit
+
 -- Ok takes exactly the trace text. A refusal takes up to where it is decided, within the limit. One byte past the limit is taken only
 -- where those before it decide nothing. A failed pull comes before anything is decided.
 abbrev pub TakesTrace : Option (List ℕ) → Option (List ℕ) → Result Recording TraceError → Type 0
-TakesTrace old new (Ok trace) = Taken old new (trace_text trace) × (length (trace_text trace) ≤ text_limit)
+TakesTrace old new (Ok trace) = TakesText old new trace
 TakesTrace old new (Err (Text byte reason)) = Takes old new (λ bytes. Refuses bytes new byte reason × (length bytes ≤ text_limit))
 TakesTrace old new (Err TooLarge) = Takes old new (λ bytes. Decides bytes Over × (length bytes ≡ (text_limit + 1)))
 TakesTrace old new (Err ReadFault) = Takes old new (λ bytes. (at : Standing) × (due text_limit bytes ≡ Going at))

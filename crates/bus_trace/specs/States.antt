@@ -1,58 +1,125 @@
 -- What the lines of a trace text have given so far, and what one line more gives.
 --   position   which line was read last, as far as the next one depends on it
---   state      the position, and the values read; a TX line alone stands in the position, until its first WS line comes
+--   state      the position, the format, the values read and the mark of the last transmission that was closed; a TX line alone stands
+--              in the position, until its first WS line comes
+--   hit        of the last transmission: an earlier one ends behind its moment
+--   met        of the last transmission: the next one begins before its end
+-- A transmission is garbled exactly where it is hit or met. Whether it is met shows only at the line behind its TE line, so a wrong mark
+-- is told there at the latest.
 --   step       the state after one line more, or the reason for which that line is refused: the first of its form's rows that applies
 -- A line is split at each single space, so a doubled, leading or trailing space makes an empty field.
-use Rattle.std.specs.Prelude.{ℕ, Bool, true, false, not, ◌&&◌, ◌||◌, ◌==◌, nat_lt, ◌≡◌, ◌<◌, ◌≤◌, if◌then◌else◌}
-use Rattle.std.specs.Prelude.{List, [], ◌∷◌, ◌++◌, length, codes, Option, Some, None, Result, Err, slice_index_or, drop}
-use Rattle.std.specs.List.{slice_split}
+use Rattle.std.specs.Prelude.{ℕ, ◌+◌, Bool, true, false, not, ◌&&◌, ◌||◌, ◌==◌, nat_lt, ◌≡◌, ◌<◌, ◌≤◌, if◌then◌else◌}
+use Rattle.std.specs.Prelude.{List, [], ◌∷◌, ◌++◌, length, codes, Option, Some, None, Result, Ok, Err, slice_index_or, drop}
+use Rattle.std.specs.List.{slice_split, flat_map, list_any}
 use Rattle.std.specs.Int.{is_in_range}
 use Rattle.std.specs.Str.{bytes_eq}
-use Rattle.bus_text.specs.Fields.{is_at}
 use Rattle.bus_text.specs.Numbers.{is_plain_decimal, decimal_value}
 use Rattle.bus_text.specs.Refusals.{first_of, unless}
 use Rattle.bus_text.specs.Canonical.{spelled_lines}
 use Rattle.bus_strings.specs.Limits.{horizon_limit, most_terminal, most_strings}
 use Rattle.bus_strings.specs.Messages.{Wordstring, Entry}
+use Rattle.bus_strings.specs.Transmissions.{end_of}
+use Rattle.bus_trace.specs.declared.format.Format.{Format}
+use Rattle.bus_trace.specs.declared.format.Format.TheVariants.{One, Two}
 use Rattle.bus_trace.specs.declared.hold.Hold.{Hold}
 use Rattle.bus_trace.specs.declared.keyword.Keyword.{Keyword}
 use Rattle.bus_trace.specs.declared.keyword.Keyword.TheVariants as keyword
 use Rattle.bus_trace.specs.declared.position.Position.{Position}
-use Rattle.bus_trace.specs.declared.position.Position.TheVariants.{Start, Headed, Holding, Begun, Stringing, Ended}
+use Rattle.bus_trace.specs.declared.position.Position.TheVariants.{Start, Headed, Holding, Begun, Stringing, Closed, Ended}
 use Rattle.bus_trace.specs.declared.reason.TraceReason.{TraceReason}
 use Rattle.bus_trace.specs.declared.reason.TraceReason.TheVariants as reason
 use Rattle.bus_trace.specs.Limits.{most_count, most_fields}
-use Rattle.bus_trace.specs.Traces.{Recording, IsTrace, Line, head_line, begin_line, end_line, body_lines}
+use Rattle.bus_trace.specs.Traces.{Recording, IsTrace, Line, format_text, head_line, begin_line, entry_lines, mark_text, close_line}
+use Rattle.bus_trace.specs.Traces.{end_line, opening_lines}
 use Rattle.bus_trace.specs.WordFields.{are_spelled, have_parity, string_of}
 
 -- What the lines so far have given.
 pub record State : Type 0 where
   pub position : Position
+  pub format : Format
+  pub mark : Bool
   pub horizon : ℕ
   pub holds : List Hold
   pub list : List Entry
 
 -- No line was read.
 abbrev pub start : State
-start = record { position = Start; horizon = 0; holds = []; list = [] }
+start = record { position = Start; format = One; mark = false; horizon = 0; holds = []; list = [] }
 
 -- The trace that was read.
 abbrev pub recorded : State → Recording
 recorded s = record { horizon = s.horizon; holds = s.holds; list = s.list }
 
+-- ---- transmissions and their ends
+-- Whether some transmission of the list ends behind a moment.
+abbrev pub ends_behind : ℕ → List Entry → Bool
+ends_behind moment list = list_any (λ y. nat_lt moment (end_of y)) list
+
+-- All transmissions but the last.
+abbrev pub earlier : List Entry → List Entry
+earlier [] = []
+earlier (last ∷ []) = []
+earlier (first ∷ next ∷ others) = first ∷ earlier (next ∷ others)
+
+-- The moment of the last transmission, or 0.
+abbrev pub last_moment : List Entry → ℕ
+last_moment [] = 0
+last_moment (last ∷ []) = last.moment
+last_moment (first ∷ next ∷ others) = last_moment (next ∷ others)
+
+-- The terminal of the last transmission, or 0.
+abbrev pub last_sender : List Entry → ℕ
+last_sender [] = 0
+last_sender (last ∷ []) = last.terminal
+last_sender (first ∷ next ∷ others) = last_sender (next ∷ others)
+
+-- The moment at which the last transmission has ended, or 0.
+abbrev pub last_end : List Entry → ℕ
+last_end [] = 0
+last_end (last ∷ []) = end_of last
+last_end (first ∷ next ∷ others) = last_end (next ∷ others)
+
+-- Whether the last transmission is hit: an earlier one ends behind its moment.
+abbrev pub is_hit : List Entry → Bool
+is_hit list = ends_behind (last_moment list) (earlier list)
+
 -- ---- the text of what was read
+-- The TE line of the last transmission, where it has come.
+abbrev pub closing : Entry → Option Bool → List Line
+closing x None = []
+closing x (Some mark) = close_line x mark ∷ []
+
+-- The lines of transmissions behind those before: the mark of each is told by those before and the next, that of the last is given.
+abbrev pub told_lines : List Entry → Option Bool → List Entry → List Line
+told_lines before mark [] = []
+told_lines before mark (x ∷ []) = entry_lines x ++ closing x mark
+told_lines before mark (x ∷ y ∷ ys) =
+    (entry_lines x ++ close_line x (ends_behind x.moment before || nat_lt y.moment (end_of x)) ∷ [])
+    ++ told_lines (before ++ x ∷ []) mark (y ∷ ys)
+
+-- The lines of the transmissions read so far; the TE line of the last one has come with this mark, or not yet.
+abbrev pub lines_so_far : Format → Option Bool → List Entry → List Line
+lines_so_far One mark list = flat_map entry_lines list
+lines_so_far Two mark list = told_lines [] mark list
+
+-- The lines before a position, with these transmissions.
+abbrev pub body_lines : Format → Option Bool → ℕ → List Hold → List Entry → List Line
+body_lines format mark horizon holds list = opening_lines format horizon holds ++ lines_so_far format mark list
+
 -- The lines that gave these values, up to a position.
-abbrev pub lines_at : Position → ℕ → List Hold → List Entry → List Line
-lines_at Start horizon holds list = []
-lines_at Headed horizon holds list = head_line ∷ []
-lines_at Holding horizon holds list = body_lines horizon holds list
-lines_at (Begun moment terminal) horizon holds list = body_lines horizon holds list ++ begin_line moment terminal ∷ []
-lines_at Stringing horizon holds list = body_lines horizon holds list
-lines_at Ended horizon holds list = body_lines horizon holds list ++ end_line ∷ []
+abbrev pub lines_at : Position → Format → Bool → ℕ → List Hold → List Entry → List Line
+lines_at Start format mark horizon holds list = []
+lines_at Headed format mark horizon holds list = head_line format ∷ []
+lines_at Holding format mark horizon holds list = body_lines format (Some mark) horizon holds list
+lines_at (Begun moment terminal) format mark horizon holds list =
+    body_lines format (Some mark) horizon holds list ++ begin_line moment terminal ∷ []
+lines_at Stringing format mark horizon holds list = body_lines format None horizon holds list
+lines_at Closed format mark horizon holds list = body_lines format (Some mark) horizon holds list
+lines_at Ended format mark horizon holds list = body_lines format (Some mark) horizon holds list ++ end_line ∷ []
 
 -- The lines that gave this state.
 abbrev pub lines_of : State → List Line
-lines_of s = lines_at s.position s.horizon s.holds s.list
+lines_of s = lines_at s.position s.format s.mark s.horizon s.holds s.list
 
 -- The text of the lines that gave this state.
 unfoldable pub text_of : State → List ℕ
@@ -67,6 +134,7 @@ keyword_of field =
     else if bytes_eq field (codes "HOLD") then Some keyword.Hold
     else if bytes_eq field (codes "TX") then Some keyword.Tx
     else if bytes_eq field (codes "WS") then Some keyword.Ws
+    else if bytes_eq field (codes "TE") then Some keyword.Te
     else if bytes_eq field (codes "END") then Some keyword.End
     else None
 
@@ -76,29 +144,39 @@ last_count [] = 0
 last_count (last ∷ []) = length last.message
 last_count (first ∷ next ∷ others) = last_count (next ∷ others)
 
--- Whether the keyword may stand behind a WS line, whose transmission has so many of them.
-abbrev pub may_follow_string : ℕ → Keyword → Bool
-may_follow_string count keyword.Trace = false
-may_follow_string count keyword.Horizon = false
-may_follow_string count keyword.Hold = false
-may_follow_string count keyword.Tx = true
-may_follow_string count keyword.Ws = nat_lt count most_strings
-may_follow_string count keyword.End = true
+-- Whether transmissions have marks in this format, each in a TE line.
+abbrev pub is_marked : Format → Bool
+is_marked One = false
+is_marked Two = true
 
--- TRACE comes first, HORIZON behind it, then the HOLD lines; behind these and behind each transmission come TX or END; behind TX comes WS.
-abbrev pub may_follow : Position → ℕ → Keyword → Bool
-may_follow Start count keyword.Trace = true
-may_follow Start count k = false
-may_follow Headed count keyword.Horizon = true
-may_follow Headed count k = false
-may_follow Holding count keyword.Hold = true
-may_follow Holding count keyword.Tx = true
-may_follow Holding count keyword.End = true
-may_follow Holding count k = false
-may_follow (Begun moment terminal) count keyword.Ws = true
-may_follow (Begun moment terminal) count k = false
-may_follow Stringing count k = may_follow_string count k
-may_follow Ended count k = false
+-- Whether the keyword may stand behind a WS line, whose transmission has so many of them.
+abbrev pub may_follow_string : Format → ℕ → Keyword → Bool
+may_follow_string format count keyword.Trace = false
+may_follow_string format count keyword.Horizon = false
+may_follow_string format count keyword.Hold = false
+may_follow_string format count keyword.Tx = not (is_marked format)
+may_follow_string format count keyword.Ws = nat_lt count most_strings
+may_follow_string format count keyword.Te = is_marked format
+may_follow_string format count keyword.End = not (is_marked format)
+
+-- TRACE comes first, HORIZON behind it, then the HOLD lines; behind these and behind each transmission come TX or END; behind TX comes
+-- WS. In format 2 a transmission ends with its TE line.
+abbrev pub may_follow : Position → Format → ℕ → Keyword → Bool
+may_follow Start format count keyword.Trace = true
+may_follow Start format count k = false
+may_follow Headed format count keyword.Horizon = true
+may_follow Headed format count k = false
+may_follow Holding format count keyword.Hold = true
+may_follow Holding format count keyword.Tx = true
+may_follow Holding format count keyword.End = true
+may_follow Holding format count k = false
+may_follow (Begun moment terminal) format count keyword.Ws = true
+may_follow (Begun moment terminal) format count k = false
+may_follow Stringing format count k = may_follow_string format count k
+may_follow Closed format count keyword.Tx = true
+may_follow Closed format count keyword.End = true
+may_follow Closed format count k = false
+may_follow Ended format count k = false
 
 -- Whether the last line was END.
 abbrev pub is_ended : Position → Bool
@@ -107,7 +185,47 @@ is_ended Headed = false
 is_ended Holding = false
 is_ended (Begun moment terminal) = false
 is_ended Stringing = false
+is_ended Closed = false
 is_ended Ended = true
+
+-- Whether the last line was a TE line.
+abbrev pub is_closed : Position → Bool
+is_closed Start = false
+is_closed Headed = false
+is_closed Holding = false
+is_closed (Begun moment terminal) = false
+is_closed Stringing = false
+is_closed Closed = true
+is_closed Ended = false
+
+-- ---- marks
+-- Whether a field is a mark.
+abbrev pub is_mark : List ℕ → Bool
+is_mark field = bytes_eq field (codes "C") || bytes_eq field (codes "-")
+
+-- The mark that a field is: whether the transmission is garbled.
+abbrev pub mark_of : List ℕ → Bool
+mark_of field = bytes_eq field (codes "C")
+
+-- Whether a mark is wrong at its own TE line: it is `-` and the transmission is hit; or it is `C`, the transmission isn't hit, and none
+-- can come behind it that begins before its end.
+abbrev pub starts_wrong : Bool → Bool → Bool → Bool
+starts_wrong false hit final = hit
+starts_wrong true hit final = not hit && final
+
+-- Whether a mark shows wrong at the line behind its TE line: it is `C`, and the transmission is neither hit nor met; or it is `-`, and
+-- the transmission is met.
+abbrev pub turns_wrong : Bool → Bool → Bool → Bool
+turns_wrong true hit met = not (hit || met)
+turns_wrong false hit met = met
+
+-- Whether no transmission can come behind the last: it begins at the last moment below the horizon, and has the greatest terminal.
+abbrev pub is_final : ℕ → List Entry → Bool
+is_final horizon list = (last_moment list + 1 == horizon) && (last_sender list == most_terminal)
+
+-- Whether the last transmission is closed, and its mark shows wrong at a line that meets it or not.
+abbrev pub is_refuted : State → Bool → Bool
+is_refuted s met = is_closed s.position && turns_wrong s.mark (is_hit s.list) met
 
 -- ---- one line more
 -- Whether a byte is a space.
@@ -158,13 +276,24 @@ abbrev pub more_list : Position → Wordstring → List Entry → List Entry
 more_list (Begun moment terminal) string list = list ++ record { moment = moment; terminal = terminal; message = string ∷ [] } ∷ []
 more_list position string list = with_string string list
 
--- A TRACE line, by its rows: a test, and the reason that stands for it.
-unfoldable pub head_step : State → List (List ℕ) → Result State TraceReason
-head_step s fields =
-    unless (first_of ((not (length fields == 2 && is_at fields 1 (codes "1")), reason.Fields) ∷ []))
-    (record { position = Headed; horizon = s.horizon; holds = s.holds; list = s.list })
+-- The format that a field is the number of.
+abbrev pub format_of : List ℕ → Option Format
+format_of field =
+    if bytes_eq field (format_text One) then Some One
+    else if bytes_eq field (format_text Two) then Some Two
+    else None
 
--- A HORIZON line.
+-- The state behind a TRACE line of a format, if it is one.
+abbrev pub headed : State → Option Format → Result State TraceReason
+headed s None = Err reason.Fields
+headed s (Some format) =
+    Ok (record { position = Headed; format = format; mark = s.mark; horizon = s.horizon; holds = s.holds; list = s.list })
+
+-- A TRACE line: it has two fields, and the second is the number of a format.
+unfoldable pub head_step : State → List (List ℕ) → Result State TraceReason
+head_step s fields = if length fields == 2 then headed s (format_of (field fields 1)) else Err reason.Fields
+
+-- A HORIZON line, by its rows: a test, and the reason that stands for it.
 unfoldable pub horizon_step : State → List (List ℕ) → Result State TraceReason
 horizon_step s fields =
     unless (first_of (
@@ -172,7 +301,7 @@ horizon_step s fields =
     ∷ (not (is_number fields 1), reason.Spelling)
     ∷ (not (is_in_range 0 horizon_limit (number fields 1)), reason.Range)
     ∷ []))
-    (record { position = Holding; horizon = number fields 1; holds = s.holds; list = s.list })
+    (record { position = Holding; format = s.format; mark = s.mark; horizon = number fields 1; holds = s.holds; list = s.list })
 
 -- A HOLD line.
 unfoldable pub hold_step : State → List (List ℕ) → Result State TraceReason
@@ -184,35 +313,50 @@ hold_step s fields =
     ∷ (not (is_in_range 1 most_terminal (number fields 1) && is_in_range 0 most_count (number fields 2)), reason.Range)
     ∷ (not (nat_lt (last_terminal s.holds) (number fields 1)), reason.Order)
     ∷ []))
-    (record { position = Holding; horizon = s.horizon; holds = s.holds ++ hold ∷ []; list = s.list })
+    (record { position = Holding; format = s.format; mark = s.mark; horizon = s.horizon; holds = s.holds ++ hold ∷ []; list = s.list })
 
--- A TX line.
+-- A TX line. It meets the transmission before where it begins before that one's end.
 unfoldable pub begin_step : State → List (List ℕ) → Result State TraceReason
 begin_step s fields =
+    let position : Position = Begun (number fields 1) (number fields 2) in
     unless (first_of (
     (not (length fields == 3), reason.Fields)
     ∷ (not (is_number fields 1 && is_number fields 2), reason.Spelling)
     ∷ (not (nat_lt (number fields 1) s.horizon && is_in_range 1 most_terminal (number fields 2)), reason.Range)
     ∷ (not (is_after s.list (number fields 1) (number fields 2)), reason.Order)
+    ∷ (is_refuted s (nat_lt (number fields 1) (last_end s.list)), reason.Mark)
     ∷ []))
-    (record { position = Begun (number fields 1) (number fields 2); horizon = s.horizon; holds = s.holds; list = s.list })
+    (record { position = position; format = s.format; mark = s.mark; horizon = s.horizon; holds = s.holds; list = s.list })
 
 -- A WS line.
 unfoldable pub string_step : State → List (List ℕ) → Result State TraceReason
 string_step s fields =
     let words = drop 1 fields in
+    let list = more_list s.position (string_of words) s.list in
     unless (first_of (
     (not (is_in_range 2 most_fields (length fields)), reason.Fields)
     ∷ (not (are_spelled words), reason.Spelling)
     ∷ (not (have_parity words), reason.Parity)
     ∷ []))
-    (record { position = Stringing; horizon = s.horizon; holds = s.holds; list = more_list s.position (string_of words) s.list })
+    (record { position = Stringing; format = s.format; mark = s.mark; horizon = s.horizon; holds = s.holds; list = list })
 
--- An END line.
+-- A TE line.
+unfoldable pub close_step : State → List (List ℕ) → Result State TraceReason
+close_step s fields =
+    let mark = mark_of (field fields 2) in
+    unless (first_of (
+    (not (length fields == 3), reason.Fields)
+    ∷ (not (is_number fields 1 && is_mark (field fields 2)), reason.Spelling)
+    ∷ (not (number fields 1 == last_end s.list), reason.Mark)
+    ∷ (starts_wrong mark (is_hit s.list) (is_final s.horizon s.list), reason.Mark)
+    ∷ []))
+    (record { position = Closed; format = s.format; mark = mark; horizon = s.horizon; holds = s.holds; list = s.list })
+
+-- An END line. It meets no transmission.
 unfoldable pub end_step : State → List (List ℕ) → Result State TraceReason
 end_step s fields =
-    unless (first_of ((not (length fields == 1), reason.Fields) ∷ []))
-    (record { position = Ended; horizon = s.horizon; holds = s.holds; list = s.list })
+    unless (first_of ((not (length fields == 1), reason.Fields) ∷ (is_refuted s false, reason.Mark) ∷ []))
+    (record { position = Ended; format = s.format; mark = s.mark; horizon = s.horizon; holds = s.holds; list = s.list })
 
 -- A line of the form that a keyword begins.
 abbrev pub form_step : Keyword → State → List (List ℕ) → Result State TraceReason
@@ -221,13 +365,14 @@ form_step keyword.Horizon s fields = horizon_step s fields
 form_step keyword.Hold s fields = hold_step s fields
 form_step keyword.Tx s fields = begin_step s fields
 form_step keyword.Ws s fields = string_step s fields
+form_step keyword.Te s fields = close_step s fields
 form_step keyword.End s fields = end_step s fields
 
 -- A line whose first field is a keyword, or none.
 abbrev pub keyword_step : Option Keyword → State → List (List ℕ) → Result State TraceReason
 keyword_step None s fields = Err reason.Keyword
 keyword_step (Some k) s fields =
-    if may_follow s.position (last_count s.list) k then form_step k s fields else Err reason.Keyword
+    if may_follow s.position s.format (last_count s.list) k then form_step k s fields else Err reason.Keyword
 
 -- A line by its fields.
 abbrev pub fields_step : State → List (List ℕ) → Result State TraceReason
@@ -244,6 +389,7 @@ TakesString Headed count = ⊥
 TakesString Holding count = ⊥
 TakesString (Begun moment terminal) count = (moment < horizon_limit) × (1 ≤ terminal) × (terminal ≤ most_terminal)
 TakesString Stringing count = count < most_strings
+TakesString Closed count = ⊥
 TakesString Ended count = ⊥
 
 -- ---- what holds of each state that lines give
@@ -255,9 +401,28 @@ PositionFits Holding horizon holds list = list ≡ []
 PositionFits (Begun moment terminal) horizon holds list =
     (moment < horizon) × (1 ≤ terminal) × (terminal ≤ most_terminal) × (is_after list moment terminal ≡ true)
 PositionFits Stringing horizon holds list = 0 < length list
+PositionFits Closed horizon holds list = 0 < length list
 PositionFits Ended horizon holds list = Unit {0}
 
--- A state is right: its values fit its position, and are those of a trace.
+-- The mark of the last transmission, if there is one, is what it has to be where the next line meets it or not.
+abbrev pub MarkIs : Bool → List Entry → Bool → Type 0
+MarkIs mark list met = 0 < length list → mark ≡ (is_hit list || met)
+
+-- The mark fits the position: behind its own TE line it is `C` where the transmission is hit, and behind the next line it is right.
+-- Format 1 has no marks.
+abbrev pub MarkFits : Position → Format → Bool → List Entry → Type 0
+MarkFits Start format mark list = Unit {0}
+MarkFits Headed format mark list = Unit {0}
+MarkFits Holding format mark list = Unit {0}
+MarkFits (Begun moment terminal) One mark list = Unit {0}
+MarkFits (Begun moment terminal) Two mark list = MarkIs mark list (nat_lt moment (last_end list))
+MarkFits Stringing format mark list = Unit {0}
+MarkFits Closed format mark list = (format ≡ Two) × (mark ≡ false → is_hit list ≡ false)
+MarkFits Ended One mark list = Unit {0}
+MarkFits Ended Two mark list = MarkIs mark list false
+
+-- A state is right: its values fit its position and its format, and are those of a trace.
 pub record IsSound (s : State) : Type 0 where
   pub fits : PositionFits s.position s.horizon s.holds s.list
+  pub marked : MarkFits s.position s.format s.mark s.list
   pub trace : IsTrace (recorded s)

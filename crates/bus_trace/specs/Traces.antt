@@ -1,11 +1,12 @@
--- Traces as plain numbers and lists, and the one text of each.
+-- Traces as plain numbers and lists, and the one text of each in each format.
 --   recording   what a contract sees of a `Trace`: up to which moment the bus was looked at (the horizon), how many messages
 --               each terminal held (the holds), and what was sent (the list)
 --   entry       what a contract sees of a `Transmission` (`bus_strings`, `Messages`)
 --   line        a line of the text, by its fields: one space stands between two fields, and a line feed behind each line
--- Numbers are plain decimals, a word is its word text. A trace has one text, and `IsTraceText` is the grammar.
-use Rattle.std.specs.Prelude.{◌≡◌, ◌≤◌, ◌<◌, ℕ, List, [], ◌∷◌, ◌++◌, length, codes, map, decimal}
-use Rattle.std.specs.List.{flat_map, AllByRecursion}
+--   format      the form of the text: in format 2 each transmission is closed by a line with its end and a mark, in format 1 it isn't
+-- Numbers are plain decimals, a word is its word text. A trace has one text in each format, and `IsTraceText` is the grammar.
+use Rattle.std.specs.Prelude.{◌≡◌, ◌≤◌, ◌<◌, ℕ, Bool, true, false, List, [], ◌∷◌, ◌++◌, length, codes, map, decimal}
+use Rattle.std.specs.List.{flat_map, zip, AllByRecursion}
 use Rattle.bus_text.specs.Canonical.{spelled_lines}
 use Rattle.bus_words.specs.declared.word.Kind.TheVariants.{Plain}
 use Rattle.bus_words.specs.declared.word.Word.{Word}
@@ -13,7 +14,9 @@ use Rattle.bus_words.specs.Words.{label_word}
 use Rattle.bus_words.specs.WordTexts.{word_text}
 use Rattle.bus_strings.specs.Limits.{horizon_limit, most_terminal}
 use Rattle.bus_strings.specs.Messages.{Wordstring, Entry, IsMessage}
-use Rattle.bus_strings.specs.Transmissions.{IsAscending}
+use Rattle.bus_strings.specs.Transmissions.{IsAscending, end_of, marks}
+use Rattle.bus_trace.specs.declared.format.Format.{Format}
+use Rattle.bus_trace.specs.declared.format.Format.TheVariants.{One, Two}
 use Rattle.bus_trace.specs.declared.hold.Hold.{Hold}
 use Rattle.bus_trace.specs.Limits.{most_count}
 
@@ -56,9 +59,14 @@ pub record IsTrace (t : Recording) : Type 0 where
 abbrev pub Line : Type 0
 Line = List (List ℕ)
 
--- `TRACE 1` is the first line.
-abbrev pub head_line : Line
-head_line = codes "TRACE" ∷ codes "1" ∷ []
+-- The number of a format.
+abbrev pub format_text : Format → List ℕ
+format_text One = codes "1"
+format_text Two = codes "2"
+
+-- `TRACE f`, the number of the format, is the first line.
+abbrev pub head_line : Format → Line
+head_line format = codes "TRACE" ∷ format_text format ∷ []
 
 -- `HORIZON h`: the bus was looked at up to moment h.
 abbrev pub horizon_line : ℕ → Line
@@ -88,27 +96,50 @@ string_line string = codes "WS" ∷ word_fields string
 abbrev pub entry_lines : Entry → List Line
 entry_lines x = begin_line x.moment x.terminal ∷ map string_line x.message
 
+-- The mark of a transmission: `C` where it is garbled, else `-`.
+abbrev pub mark_text : Bool → List ℕ
+mark_text true = codes "C"
+mark_text false = codes "-"
+
+-- `TE e c`: the transmission has ended at moment e, and c is its mark.
+abbrev pub close_line : Entry → Bool → Line
+close_line x mark = codes "TE" ∷ decimal (end_of x) ∷ mark_text mark ∷ []
+
+-- The lines of a transmission of format 2, given its mark.
+abbrev pub marked_lines : Entry × Bool → List Line
+marked_lines marked = entry_lines marked.0 ++ close_line marked.0 marked.1 ∷ []
+
+-- The lines of all transmissions. In format 2 each has its mark: whether it is garbled in the whole list.
+abbrev pub list_lines : Format → List Entry → List Line
+list_lines One list = flat_map entry_lines list
+list_lines Two list = flat_map marked_lines (zip list (marks list))
+
 -- `END` is the last line.
 abbrev pub end_line : Line
 end_line = codes "END" ∷ []
 
--- The lines of a trace before its last.
-abbrev pub body_lines : ℕ → List Hold → List Entry → List Line
-body_lines horizon holds list = head_line ∷ horizon_line horizon ∷ (map hold_line holds ++ flat_map entry_lines list)
+-- The lines of a trace before its transmissions.
+abbrev pub opening_lines : Format → ℕ → List Hold → List Line
+opening_lines format horizon holds = head_line format ∷ horizon_line horizon ∷ map hold_line holds
 
 -- The lines of a trace.
-abbrev pub trace_lines : Recording → List Line
-trace_lines t = body_lines t.horizon t.holds t.list ++ end_line ∷ []
+abbrev pub trace_lines : Format → Recording → List Line
+trace_lines format t = (opening_lines format t.horizon t.holds ++ list_lines format t.list) ++ end_line ∷ []
 
 -- ---- the text
--- The one text of a trace.
-abbrev pub trace_text : Recording → List ℕ
-trace_text t = spelled_lines (trace_lines t)
+-- The one text of a trace in a format.
+abbrev pub text_in : Format → Recording → List ℕ
+text_in format t = spelled_lines (trace_lines format t)
 
--- The grammar: these bytes are the text of this trace.
+-- The text that is written of a trace: that of format 2.
+abbrev pub trace_text : Recording → List ℕ
+trace_text t = text_in Two t
+
+-- The grammar: these bytes are the text of this trace in one of the formats.
 pub record IsTraceText (t : Recording) (text : List ℕ) : Type 0 where
+  pub format : Format
   pub trace : IsTrace t
-  pub text_is : text ≡ trace_text t
+  pub text_is : text ≡ text_in format t
 
 -- A front of a stream, of no more bytes than the limit, is the text of this trace.
 pub record HoldsTrace (limit : ℕ) (stream : List ℕ) (t : Recording) : Type 0 where

@@ -1,12 +1,14 @@
 -- The text of a trace as it is put, field by field. That this is the text of the trace is `put_is` of `proofs/WriteTexts`.
-use Rattle.std.specs.Prelude.{ℕ, List, ◌++◌, codes, decimal}
-use Rattle.std.specs.List.{flat_map}
+use Rattle.std.specs.Prelude.{ℕ, Bool, List, ◌++◌, codes, decimal}
+use Rattle.std.specs.List.{flat_map, zip}
 use Rattle.bus_words.specs.declared.word.Word.{Word}
 use Rattle.bus_words.specs.Words.{label_word}
 use Rattle.bus_words.specs.WordTexts.{word_text}
 use Rattle.bus_strings.specs.Messages.{Wordstring, Entry}
+use Rattle.bus_strings.specs.Transmissions.{end_of, marks}
+use Rattle.bus_trace.specs.declared.format.Format.TheVariants.{Two}
 use Rattle.bus_trace.specs.declared.hold.Hold.{Hold}
-use Rattle.bus_trace.specs.Traces.{Recording, data_word}
+use Rattle.bus_trace.specs.Traces.{Recording, data_word, format_text, mark_text}
 
 -- A word behind its space.
 abbrev pub word_put : Word → List ℕ
@@ -28,14 +30,26 @@ pair_put keyword first second = keyword ++ codes " " ++ decimal first ++ codes "
 abbrev pub hold_put : Hold → List ℕ
 hold_put hold = pair_put (codes "HOLD") hold.terminal hold.count
 
--- The lines of a transmission.
-abbrev pub entry_put : Entry → List ℕ
-entry_put x = pair_put (codes "TX") x.moment x.terminal ++ flat_map string_put x.message
+-- A TE line.
+abbrev pub close_put : Entry → Bool → List ℕ
+close_put x mark = codes "TE" ++ codes " " ++ decimal (end_of x) ++ codes " " ++ mark_text mark ++ codes "\n"
+
+-- The lines of a transmission with its mark.
+abbrev pub entry_put : Entry × Bool → List ℕ
+entry_put marked = pair_put (codes "TX") marked.0.moment marked.0.terminal ++ flat_map string_put marked.0.message ++ close_put marked.0 marked.1
+
+-- The first line.
+abbrev pub head_put : List ℕ
+head_put = codes "TRACE" ++ codes " " ++ format_text Two ++ codes "\n"
 
 -- The first two lines.
 abbrev pub horizon_put : ℕ → List ℕ
-horizon_put horizon = codes "TRACE 1\nHORIZON " ++ decimal horizon ++ codes "\n"
+horizon_put horizon = head_put ++ codes "HORIZON " ++ decimal horizon ++ codes "\n"
+
+-- The lines of all transmissions.
+abbrev pub list_put : List Entry → List ℕ
+list_put list = flat_map entry_put (zip list (marks list))
 
 -- The text of a trace.
 abbrev pub trace_put : Recording → List ℕ
-trace_put t = horizon_put t.horizon ++ flat_map hold_put t.holds ++ flat_map entry_put t.list ++ codes "END\n"
+trace_put t = horizon_put t.horizon ++ flat_map hold_put t.holds ++ list_put t.list ++ codes "END\n"

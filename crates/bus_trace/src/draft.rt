@@ -3,21 +3,28 @@ ghost use Rattle.bus_text.specs.Entries.{texts};
 ghost use Rattle.bus_trace.specs.Gives.{StepGives};
 ghost use Rattle.bus_strings.specs.Limits.{horizon_limit};
 ghost use Rattle.bus_trace.specs.States.{IsSound, TakesString, start, recorded, step, form_step, fields_step};
-ghost use Rattle.bus_trace.specs.States.{head_step, horizon_step, hold_step, begin_step, string_step, end_step};
+ghost use Rattle.bus_trace.specs.States.{head_step, horizon_step, hold_step, begin_step, string_step, close_step, end_step};
+ghost use Rattle.bus_trace.specs.States.{is_hit as hit_test, is_final as final_test, is_refuted as refuted_test, more_list};
+ghost use Rattle.bus_trace.specs.Reach.{IsReach};
+ghost use Rattle.bus_strings.specs.Messages.{Wordstring as AnyString};
 ghost use Rattle.bus_trace.specs.States.{last_count as count_of, is_ended as ended_test, may_follow as may_stand};
 
 use crate::fault::LineFault;
-use crate::fields::{below, bounded, fields, is_plain};
+use crate::fields::{below, bounded, fields, is_plain, writes};
+use crate::format::{Format, format_of};
 use crate::hold::Hold;
 use crate::keyword::{Keyword, keyword_of};
-use crate::list::{is_after, last_count, last_terminal, take_string};
-use crate::position::{Position, is_ended, may_follow};
+use crate::list::{
+    is_after, last_count, last_end, last_moment, last_sender, last_terminal, take_string,
+};
+use crate::mark::{is_mark, mark_of, starts_wrong, turns_wrong};
+use crate::position::{Position, is_closed, is_ended, may_follow};
 use crate::reason::TraceReason;
 use crate::trace::Trace;
 use crate::words::{are_spelled, have_parity, wordstring};
 use bus_strings::limits::{HORIZON_LIMIT, MOST_TERMINAL, MOST_WORDS};
 use bus_strings::transmission::Transmission;
-use bus_text::lines::{field_at, fields_from, is_at};
+use bus_text::lines::{field_at, fields_from};
 use std::alloc::{AllocError, Global};
 use std::marker::Model;
 
@@ -28,17 +35,32 @@ const MOST_FIELDS: usize = 2 + MOST_WORDS;
 #[derive(Drop)]
 pub(crate) struct Draft {
     position: Position,
+    format: Format,
+    // Of the last transmission that was closed.
+    mark: bool,
     horizon: u64,
     holds: Vec<Hold>,
     list: Vec<Transmission>,
+    // The greatest end of the transmissions before the last.
+    reach: u64,
 }
 
 impl Model for Draft {
+    ghost use Rattle.bus_trace.specs.Reach.{IsReach};
     ghost use Rattle.bus_trace.specs.States.{State};
 
     ghost Value = { State };
 
-    ghost view = { λ d. record { position = d.position; horizon = d.horizon; holds = d.holds.items; list = d.list.items } };
+    ghost view = { λ d. record {
+      position = d.position;
+      format = d.format;
+      mark = d.mark;
+      horizon = d.horizon;
+      holds = d.holds.items;
+      list = d.list.items;
+    } };
+
+    ghost invariant = { λ d. IsReach d.list.items d.reach };
 }
 
 impl Draft {
@@ -48,9 +70,12 @@ impl Draft {
     {
         Draft {
             position: Position::Start,
+            format: Format::One,
+            mark: false,
             horizon: 0,
             holds: Vec::new(alloc),
             list: Vec::new(alloc),
+            reach: 0,
         }
     }
 
@@ -61,15 +86,50 @@ impl Draft {
         is_ended(self.position)
     }
 
+    // Whether an earlier transmission ends behind the moment of the last.
+    fn is_hit(&self) -> bool
+        ensures { result ≡ hit_test self.now.list }
+    {
+        last_moment(&self.list) < self.reach
+    }
+
+    // Whether no transmission can come behind the last.
+    fn is_final(&self) -> bool
+        ensures { result ≡ final_test self.now.horizon self.now.list }
+    {
+        last_moment(&self.list) + 1 == self.horizon && last_sender(&self.list) == MOST_TERMINAL
+    }
+
+    // Whether the mark of the last transmission shows wrong at a line that meets it or not.
+    fn is_refuted(&self, met: bool) -> bool
+        ensures { result ≡ refuted_test self.now met }
+    {
+        is_closed(self.position) && turns_wrong(self.mark, self.is_hit(), met)
+    }
+
+    // How far the transmissions before the last reach, once a wordstring has come.
+    fn reach_behind(&self) -> u64
+        ensures { (string : AnyString) → IsReach (more_list self.now.position string self.now.list) result }
+    {
+        match self.position {
+            Position::Begun { .. } => self.reach.max(last_end(&self.list)),
+            _ => self.reach,
+        }
+    }
+
     // Takes a TRACE line.
     #[tactic(auto, unfolding(crate::specs::States::head_step))]
     fn take_head(&mut self, fields: &[&[u8]]) -> Result<(), LineFault>
         ensures { StepGives self.old self.new result (head_step self.old (texts fields.now)) }
     {
-        if fields.len() != 2 || !is_at(fields, 1, b"1") {
+        if fields.len() != 2 {
             return Err(LineFault::Refused(TraceReason::Fields));
         }
+        let Some(format) = format_of(field_at(fields, 1)) else {
+            return Err(LineFault::Refused(TraceReason::Fields));
+        };
         self.position = Position::Headed;
+        self.format = format;
         Ok(())
     }
 
@@ -141,6 +201,9 @@ impl Draft {
         if !is_after(&self.list, moment, terminal) {
             return Err(LineFault::Refused(TraceReason::Order));
         }
+        if self.is_refuted(moment < last_end(&self.list)) {
+            return Err(LineFault::Refused(TraceReason::Mark));
+        }
         self.position = Position::Begun {
             moment,
             terminal: terminal as u8,
@@ -165,8 +228,33 @@ impl Draft {
             return Err(LineFault::Refused(TraceReason::Parity));
         }
         let string = wordstring(alloc, words)?;
+        let reach = self.reach_behind();
         take_string(alloc, &mut self.list, self.position, string)?;
+        self.reach = reach;
         self.position = Position::Stringing;
+        Ok(())
+    }
+
+    // Takes a TE line.
+    #[tactic(auto, unfolding(crate::specs::States::close_step))]
+    fn take_close(&mut self, fields: &[&[u8]]) -> Result<(), LineFault>
+        ensures { StepGives self.old self.new result (close_step self.old (texts fields.now)) }
+    {
+        if fields.len() != 3 {
+            return Err(LineFault::Refused(TraceReason::Fields));
+        }
+        if !is_plain(field_at(fields, 1)) || !is_mark(field_at(fields, 2)) {
+            return Err(LineFault::Refused(TraceReason::Spelling));
+        }
+        let mark = mark_of(field_at(fields, 2));
+        if !writes(field_at(fields, 1), last_end(&self.list)) {
+            return Err(LineFault::Refused(TraceReason::Mark));
+        }
+        if starts_wrong(mark, self.is_hit(), self.is_final()) {
+            return Err(LineFault::Refused(TraceReason::Mark));
+        }
+        self.position = Position::Closed;
+        self.mark = mark;
         Ok(())
     }
 
@@ -177,6 +265,9 @@ impl Draft {
     {
         if fields.len() != 1 {
             return Err(LineFault::Refused(TraceReason::Fields));
+        }
+        if self.is_refuted(false) {
+            return Err(LineFault::Refused(TraceReason::Mark));
         }
         self.position = Position::Ended;
         Ok(())
@@ -190,7 +281,7 @@ impl Draft {
         fields: &[&[u8]],
     ) -> Result<(), LineFault>
         requires sound { IsSound self.old }
-        requires stands { may_stand self.old.position (count_of self.old.list) keyword ≡ true }
+        requires stands { may_stand self.old.position self.old.format (count_of self.old.list) keyword ≡ true }
         ensures { StepGives self.old self.new result (form_step keyword self.old (texts fields.now)) }
     {
         match keyword {
@@ -199,6 +290,7 @@ impl Draft {
             Keyword::Hold => self.take_hold(fields),
             Keyword::Tx => self.take_begin(fields),
             Keyword::Ws => self.take_string(alloc, fields),
+            Keyword::Te => self.take_close(fields),
             Keyword::End => self.take_end(fields),
         }
     }
@@ -212,7 +304,7 @@ impl Draft {
         let Some(keyword) = keyword_of(field_at(fields, 0)) else {
             return Err(LineFault::Refused(TraceReason::Keyword));
         };
-        if !may_follow(self.position, last_count(&self.list), keyword) {
+        if !may_follow(self.position, self.format, last_count(&self.list), keyword) {
             return Err(LineFault::Refused(TraceReason::Keyword));
         }
         self.take_form(alloc, keyword, fields)

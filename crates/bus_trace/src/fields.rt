@@ -1,4 +1,4 @@
-ghost use Rattle.std.specs.Prelude.{◌≡◌, ◌^◌, ◌-◌, ◌<◌, nat_lt, length, true, IfOk, IfSome, Some, None, if◌then◌else◌};
+ghost use Rattle.std.specs.Prelude.{◌≡◌, ◌^◌, ◌-◌, ◌<◌, ◌==◌, nat_lt, length, true, IfOk, IfSome, Some, None, if◌then◌else◌};
 ghost use Rattle.std.specs.Int.{is_in_range as in_numbers};
 ghost use Rattle.bus_text.specs.Entries.{texts};
 ghost use Rattle.bus_text.specs.Numbers.{is_plain_decimal as decimal_test, decimal_value};
@@ -43,4 +43,13 @@ pub(crate) fn below(field: &[u8], limit: u64) -> Option<u64>
         Some(value) if value < limit => Some(value),
         _ => None,
     }
+}
+
+/// Whether a plain decimal writes this number.
+pub(crate) fn writes(field: &[u8], number: u64) -> bool
+    requires plain { decimal_test field.now ≡ true }
+    requires room { number < 2 ^ 64 - 1 }
+    ensures { result ≡ (decimal_value field.now == number) }
+{
+    plain_decimal(field) == Some(number)
 }

@@ -1,7 +1,8 @@
 ghost use Rattle.std.specs.Prelude.{◌≡◌};
 ghost use Rattle.bus_trace.specs.States.{keyword_of as keyword_in};
 
-const TRACE: &[u8] = b"TRACE";
+/// The keyword of the first line.
+pub(crate) const TRACE: &[u8] = b"TRACE";
 
 const HORIZON: &[u8] = b"HORIZON";
 
@@ -10,6 +11,8 @@ const HOLD: &[u8] = b"HOLD";
 const TX: &[u8] = b"TX";
 
 const WS: &[u8] = b"WS";
+
+const TE: &[u8] = b"TE";
 
 const END: &[u8] = b"END";
 
@@ -21,6 +24,7 @@ pub(crate) enum Keyword {
     Hold,
     Tx,
     Ws,
+    Te,
     End,
 }
 
@@ -38,6 +42,8 @@ pub(crate) fn keyword_of(field: &[u8]) -> Option<Keyword>
         Some(Keyword::Tx)
     } else if field == WS {
         Some(Keyword::Ws)
+    } else if field == TE {
+        Some(Keyword::Te)
     } else if field == END {
         Some(Keyword::End)
     } else {

@@ -1,23 +1,28 @@
 //! Traces of the bus: what each terminal held, and what was sent up to a horizon, as a value and as a text.
 //!
 //! - [`Trace`] keeps in its type what every trace has: its order and its ranges.
-//! - [`write_trace`] writes the one text of a trace to a sink, and [`read_trace`] reads it back from a source, of which it takes
-//!   exactly the bytes of the trace text. A text that is none is refused at the byte at which its first offending line begins, with
-//!   the [`TraceReason`].
+//! - [`write_trace`] writes the text of a trace in format 2 to a sink, and [`read_trace`] reads a text of either format back from a
+//!   source, of which it takes exactly the bytes of the trace text. A text that is none is refused at the byte at which its first
+//!   offending line begins, with the [`TraceReason`].
 //!
-//! The text is this project's own: `TRACE 1`, `HORIZON h`, a `HOLD n c` for each terminal that held messages, then for each
-//! transmission `TX m n` and a `WS` line of words for each wordstring, and `END`. The definitions are in `specs/`: `Traces` has the
-//! lines of a trace and the grammar, `States` what one line more gives and why it is refused, `Runs` what a stream reads as.
+//! The text is this project's own: `TRACE f`, `HORIZON h`, a `HOLD n c` for each terminal that held messages, then for each
+//! transmission `TX m n`, a `WS` line of words for each wordstring and, in format 2, a `TE e c` with its end and the mark of a
+//! collision, and `END`. The definitions are in `specs/`: `Traces` has the lines of a trace and the grammar, `States` what one line
+//! more gives and why it is refused, `Runs` what a stream reads as.
 #![tactic(auto)]
 
 mod draft;
 pub mod fault;
 mod fields;
+mod format;
 pub mod hold;
 mod keyword;
 pub mod laws;
 pub mod limits;
 mod list;
+mod mark;
+#[cfg(test)]
+mod mark_tests;
 mod position;
 mod reader;
 pub mod reading;

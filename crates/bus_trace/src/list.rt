@@ -1,7 +1,8 @@
-ghost use Rattle.std.specs.Prelude.{◌≡◌, ◌<◌, ◌≤◌, length, [], ◌∷◌, ◌++◌, IfOk, OnOk, OnErr};
+ghost use Rattle.std.specs.Prelude.{◌≡◌, ◌<◌, ◌≤◌, length, [], ◌∷◌, ◌++◌, ◌^◌, IfOk, OnOk, OnErr};
 ghost use Rattle.bus_strings.specs.Limits.{horizon_limit, most_terminal, most_strings};
 ghost use Rattle.bus_trace.specs.States.{last_count as count_of, last_terminal as last_of, comes_after as comes_test};
 ghost use Rattle.bus_trace.specs.States.{is_after as after_test, with_string, more_list, TakesString};
+ghost use Rattle.bus_trace.specs.States.{last_moment as moment_of, last_sender as sender_of, last_end as last_end_of};
 
 use crate::hold::Hold;
 use crate::position::Position;
@@ -26,6 +27,41 @@ pub(crate) fn last_count(list: &[Transmission]) -> usize
 {
     match list.last() {
         Some(last) => last.message.strings().len(),
+        None => 0,
+    }
+}
+
+/// The moment of the last transmission, or 0.
+pub(crate) fn last_moment(list: &[Transmission]) -> u64
+    ensures value { result ≡ moment_of list.now }
+    ensures room { result < 2 ^ 41 }
+{
+    match list.last() {
+        Some(last) => last.moment,
+        None => 0,
+    }
+}
+
+/// The terminal of the last transmission, or 0.
+pub(crate) fn last_sender(list: &[Transmission]) -> u8
+    ensures { result ≡ sender_of list.now }
+{
+    match list.last() {
+        Some(last) => last.terminal,
+        None => 0,
+    }
+}
+
+/// The moment at which the last transmission has ended, or 0.
+pub(crate) fn last_end(list: &[Transmission]) -> u64
+    ensures value { result ≡ last_end_of list.now }
+    ensures room { result < 2 ^ 41 }
+{
+    match list.last() {
+        Some(last) => {
+            let _moment = last.moment;
+            last.end()
+        }
         None => 0,
     }
 }

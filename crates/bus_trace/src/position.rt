@@ -1,6 +1,8 @@
 ghost use Rattle.std.specs.Prelude.{◌≡◌};
 ghost use Rattle.bus_trace.specs.States.{may_follow as may_stand, may_follow_string as may_stand_behind, is_ended as ended_test};
+ghost use Rattle.bus_trace.specs.States.{is_closed as closed_test};
 
+use crate::format::{Format, is_marked};
 use crate::keyword::Keyword;
 use bus_strings::limits::MOST_STRINGS;
 
@@ -17,31 +19,35 @@ pub(crate) enum Position {
     Begun { moment: u64, terminal: u8 },
     /// WS.
     Stringing,
+    /// TE.
+    Closed,
     /// END.
     Ended,
 }
 
 /// Whether a keyword may stand behind a WS line, whose transmission has so many of them.
-fn may_follow_string(count: usize, keyword: Keyword) -> bool
-    ensures { result ≡ may_stand_behind count keyword }
+fn may_follow_string(format: Format, count: usize, keyword: Keyword) -> bool
+    ensures { result ≡ may_stand_behind format count keyword }
 {
     match keyword {
         Keyword::Ws => count < MOST_STRINGS,
-        Keyword::Tx | Keyword::End => true,
+        Keyword::Tx | Keyword::End => !is_marked(format),
+        Keyword::Te => is_marked(format),
         Keyword::Trace | Keyword::Horizon | Keyword::Hold => false,
     }
 }
 
 /// Whether a keyword may stand at a position, where the last transmission has so many wordstrings.
-pub(crate) fn may_follow(position: Position, count: usize, keyword: Keyword) -> bool
-    ensures { result ≡ may_stand position count keyword }
+pub(crate) fn may_follow(position: Position, format: Format, count: usize, keyword: Keyword) -> bool
+    ensures { result ≡ may_stand position format count keyword }
 {
     match position {
         Position::Start => matches!(keyword, Keyword::Trace),
         Position::Headed => matches!(keyword, Keyword::Horizon),
         Position::Holding => matches!(keyword, Keyword::Hold | Keyword::Tx | Keyword::End),
         Position::Begun { .. } => matches!(keyword, Keyword::Ws),
-        Position::Stringing => may_follow_string(count, keyword),
+        Position::Stringing => may_follow_string(format, count, keyword),
+        Position::Closed => matches!(keyword, Keyword::Tx | Keyword::End),
         Position::Ended => false,
     }
 }
@@ -51,4 +57,11 @@ pub(crate) fn is_ended(position: Position) -> bool
     ensures { result ≡ ended_test position }
 {
     matches!(position, Position::Ended)
+}
+
+/// Whether the last line was a TE line.
+pub(crate) fn is_closed(position: Position) -> bool
+    ensures { result ≡ closed_test position }
+{
+    matches!(position, Position::Closed)
 }

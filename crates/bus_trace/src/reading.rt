@@ -10,6 +10,7 @@ use crate::reader::TraceReader;
 use crate::stage::Fed;
 use crate::trace::Trace;
 use bus_outer::{Pull, Source};
+use bus_strings::laws::neighbours_tell;
 use std::alloc::Global;
 
 /// Reads a trace text of at most [`crate::limits::TEXT_LIMIT`] bytes, a byte at a time, and takes none of the bytes behind its
@@ -32,6 +33,7 @@ pub fn read_trace<S: Source>(alloc: Global, source: &mut S) -> Result<Trace, Tra
     ensures ranges { IfOk result IsTrace }
     ensures counts { CountsReading (S.faults source.old) (S.faults source.new) result }
 {
+    neighbours_tell();
     read_text(alloc, source)
 }
 

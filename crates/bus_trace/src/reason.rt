@@ -9,12 +9,14 @@ pub enum TraceReason {
     Keyword,
     /// The number of fields isn't that of the form, or a field that the form fixes is another.
     Fields,
-    /// A number isn't a plain decimal, or a word isn't of its form and kind.
+    /// A number isn't a plain decimal, a word isn't of its form and kind, or a mark is neither `C` nor `-`.
     Spelling,
     /// A word's parity digit isn't that of its value.
     Parity,
-    /// A number is out of its range, a moment that isn't below the horizon among these.
+    /// A number of a HORIZON, HOLD or TX line is out of its range, a moment that isn't below the horizon among these.
     Range,
     /// A HOLD or TX line doesn't ascend.
     Order,
+    /// The moment of a TE line isn't the end of its transmission, or a mark is wrong, which shows at its own line or at the next.
+    Mark,
 }

@@ -10,8 +10,23 @@ use bus_words::label::{Ext, Label};
 use std::alloc::Global;
 use std::test::Fail;
 
-// The trace of two transmissions, each line with the byte at which it begins.
-const LINES: [(&[u8], usize); 9] = [
+/// The trace of two transmissions, each line with the byte at which it begins.
+pub(crate) const LINES: [(&[u8], usize); 11] = [
+    (b"TRACE 2\n", 0),
+    (b"HORIZON 150\n", 8),
+    (b"HOLD 1 1\n", 20),
+    (b"HOLD 2 1\n", 29),
+    (b"TX 20 1\n", 38),
+    (b"WS L0A111 D00001 D00010\n", 46),
+    (b"TE 80 -\n", 70),
+    (b"TX 110 2\n", 78),
+    (b"WS L0B210 D00FF1\n", 87),
+    (b"TE 150 -\n", 104),
+    (b"END\n", 113),
+];
+
+/// The same in format 1.
+pub(crate) const OLD_LINES: [(&[u8], usize); 9] = [
     (b"TRACE 1\n", 0),
     (b"HORIZON 150\n", 8),
     (b"HOLD 1 1\n", 20),
@@ -23,7 +38,7 @@ const LINES: [(&[u8], usize); 9] = [
     (b"END\n", 96),
 ];
 
-fn text_of(alloc: Global, lines: &[(&[u8], usize)]) -> Result<Vec<u8>, Fail> {
+pub(crate) fn text_of(alloc: Global, lines: &[(&[u8], usize)]) -> Result<Vec<u8>, Fail> {
     let mut text = Vec::new(alloc);
     for (line, _) in lines {
         text.extend_from_slice(line)?;
@@ -31,9 +46,18 @@ fn text_of(alloc: Global, lines: &[(&[u8], usize)]) -> Result<Vec<u8>, Fail> {
     Ok(text)
 }
 
-fn read(alloc: Global, text: &[u8]) -> Result<Result<Trace, TraceError>, Fail> {
+pub(crate) fn read(alloc: Global, text: &[u8]) -> Result<Result<Trace, TraceError>, Fail> {
     let mut source = MemorySource::new(Vec::from_slice(alloc, text)?, 7, Vec::new(alloc));
     Ok(read_trace(alloc, &mut source))
+}
+
+/// The text that is written of a trace.
+pub(crate) fn written(alloc: Global, trace: &Trace) -> Result<Vec<u8>, Fail> {
+    let mut sink = MemorySink::new(alloc, 400, 400, Vec::new(alloc))?;
+    if write_trace(trace, &mut sink).is_err() {
+        return Err(Fail::new("the trace isn't written"));
+    }
+    Ok(Vec::from_slice(alloc, sink.bytes())?)
 }
 
 #[test]
@@ -46,15 +70,26 @@ fn a_trace_is_read_up_to_its_end_and_written_again(rt: HostRuntime) -> Result<()
     let Ok(trace) = read_trace(alloc, &mut source) else {
         return Err(Fail::new("the trace is refused"));
     };
+    let rest = read_whole(alloc, &mut source, 100);
+    assert!(rt; matches!(&rest, Ok(rest) if rest.as_slice() == b"RECEIVED 1\n".as_slice()));
+    assert_eq!(rt; written(alloc, &trace)?.as_slice(), text.as_slice());
+    Ok(())
+}
+
+#[test]
+fn a_trace_of_format_1_is_written_in_format_2(rt: HostRuntime) -> Result<(), Fail> {
+    let alloc = rt.alloc();
+    let Ok(trace) = read(alloc, &text_of(alloc, &OLD_LINES)?)? else {
+        return Err(Fail::new("the trace is refused"));
+    };
     assert_eq!(rt;
         (trace.horizon(), trace.holds().len(), trace.list().len()),
         (150, 2, 2)
     );
-    let rest = read_whole(alloc, &mut source, 100);
-    assert!(rt; matches!(&rest, Ok(rest) if rest.as_slice() == b"RECEIVED 1\n".as_slice()));
-    let mut sink = MemorySink::new(alloc, 200, 200, Vec::new(alloc))?;
-    assert!(rt; write_trace(&trace, &mut sink).is_ok());
-    assert_eq!(rt; sink.bytes(), text.as_slice());
+    assert_eq!(rt;
+        written(alloc, &trace)?.as_slice(),
+        text_of(alloc, &LINES)?.as_slice()
+    );
     Ok(())
 }
 
@@ -62,7 +97,7 @@ fn a_trace_is_read_up_to_its_end_and_written_again(rt: HostRuntime) -> Result<()
 fn a_cut_trace_ends_where_its_last_line_begins(rt: HostRuntime) -> Result<(), Fail> {
     let alloc = rt.alloc();
     let text = text_of(alloc, &LINES)?;
-    for cut in 0..100usize {
+    for cut in 0..117usize {
         let mut begin = 0;
         for (_, at) in &LINES {
             if *at <= cut {
@@ -82,29 +117,39 @@ fn a_cut_trace_ends_where_its_last_line_begins(rt: HostRuntime) -> Result<(), Fa
     Ok(())
 }
 
+/// Whether a text with one line changed is refused where that line or a later one begins.
+pub(crate) fn is_refused(
+    alloc: Global,
+    lines: &[(&[u8], usize)],
+    number: usize,
+    line: &[u8],
+    want: TraceError,
+) -> Result<bool, Fail> {
+    let mut text = Vec::new(alloc);
+    for (k, (own, _)) in lines.iter().enumerate() {
+        text.extend_from_slice(if k == number { line } else { own })?;
+    }
+    let answer = read(alloc, &text)?;
+    Ok(matches!(answer, Err(error) if error == want))
+}
+
 #[test]
 fn a_changed_line_is_refused_where_it_begins(rt: HostRuntime) -> Result<(), Fail> {
-    let alloc = rt.alloc();
-    let changes: [(usize, &[u8], TraceReason); 8] = [
-        (4, b"TX  20 1\n", TraceReason::Fields),
-        (4, b"TX 020 1\n", TraceReason::Spelling),
-        (5, b"WS D0A111 D00001 D00010\n", TraceReason::Spelling),
-        (7, b"WS L0B210 D00FF0\n", TraceReason::Parity),
-        (6, b"TX 150 2\n", TraceReason::Range),
-        (6, b"TX 20 1\n", TraceReason::Order),
-        (3, b"HOLD 1 1\n", TraceReason::Order),
-        (8, b"STOP\n", TraceReason::Keyword),
+    let changes: [(usize, &[u8], u64, TraceReason); 9] = [
+        (4, b"TX  20 1\n", 38, TraceReason::Fields),
+        (4, b"TX 020 1\n", 38, TraceReason::Spelling),
+        (5, b"WS D0A111 D00001 D00010\n", 46, TraceReason::Spelling),
+        (7, b"WS L0B210 D00FF0\n", 79, TraceReason::Parity),
+        (6, b"TX 150 2\n", 70, TraceReason::Range),
+        (6, b"TX 20 1\n", 70, TraceReason::Order),
+        (3, b"HOLD 1 1\n", 29, TraceReason::Order),
+        (8, b"STOP\n", 96, TraceReason::Keyword),
+        (6, b"TE 80 -\n", 70, TraceReason::Keyword),
     ];
-    for (number, line, reason) in changes {
-        let mut lines = LINES;
-        let Some(changed) = lines.get_mut(number) else {
-            return Err(Fail::new("no such line"));
-        };
-        let byte = changed.1 as u64;
-        changed.0 = line;
-        let answer = read(alloc, &text_of(alloc, &lines)?)?;
+    for (number, line, byte, reason) in changes {
+        let want = TraceError::Text { byte, reason };
         assert!(rt;
-            matches!(answer, Err(error) if error == (TraceError::Text { byte, reason })),
+            is_refused(rt.alloc(), &OLD_LINES, number, line, want)?,
             "line {number}"
         );
     }

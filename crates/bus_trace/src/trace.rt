@@ -1,8 +1,11 @@
-ghost use Rattle.std.specs.Prelude.{◌≡◌, ◌↔◌, IsSome, IfSome, IsTrue, true};
+ghost use Rattle.std.specs.Prelude.{◌≡◌, ◌↔◌, ◌<◌, IsSome, IfSome, IsTrue, true, length, slice_get};
+ghost use Rattle.bus_strings.specs.Transmissions.{end_of, garbled as garbled_in};
 
 use crate::hold::Hold;
 use crate::valid::{are_below, are_holds};
+use bus_strings::laws::neighbours_tell;
 use bus_strings::limits::HORIZON_LIMIT;
+use bus_strings::overlap::garbled;
 use bus_strings::transmission::Transmission;
 use std::marker::Model;
 
@@ -79,5 +82,23 @@ impl Trace {
         ensures ranges { IsTrace self.now }
     {
         &self.list
+    }
+
+    /// The moment at which entry `k` of the list, counted from 0, has ended: its own moment and the bit times of its message.
+    pub fn end(&self, k: usize) -> u64
+        requires { k < length self.now.list }
+        ensures { IfSome (slice_get self.now.list k) (λ x. result ≡ end_of x) }
+    {
+        self.list[k].end()
+    }
+
+    /// Whether entry `k` of the list, counted from 0, is garbled: another entry overlaps it. This call looks at each earlier entry;
+    /// where each entry of a list is wanted, [`Marks`](bus_strings::overlap::Marks) goes over the list once.
+    pub fn collided(&self, k: usize) -> bool
+        requires { k < length self.now.list }
+        ensures { result ≡ garbled_in self.now.list k }
+    {
+        neighbours_tell();
+        garbled(&self.list, k)
     }
 }

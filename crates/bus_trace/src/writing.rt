@@ -1,13 +1,20 @@
 ghost use Rattle.std.specs.Prelude.{◌≡◌, ◌++◌, codes, length};
 ghost use Rattle.std.specs.List.{flat_map};
+ghost use Rattle.bus_strings.specs.Transmissions.{IsByMoment};
 ghost use Rattle.bus_outer.specs.Sinks.{WritesText};
 ghost use Rattle.bus_outer.specs.Texts.{Adds};
 ghost use Rattle.bus_trace.specs.Traces.{trace_text};
-ghost use Rattle.bus_trace.specs.Writing.{word_put, data_put, string_put, pair_put, hold_put, entry_put, horizon_put};
+ghost use Rattle.bus_trace.specs.Writing.{word_put, data_put, string_put, pair_put, hold_put, close_put, entry_put};
+ghost use Rattle.bus_trace.specs.Writing.{head_put, horizon_put, list_put};
 
+use crate::format::TWO;
 use crate::hold::Hold;
+use crate::keyword::TRACE;
+use crate::mark::mark_text;
 use crate::trace::Trace;
 use bus_outer::{Sink, TextBuffer, WriteFault};
+use bus_strings::laws::neighbours_tell;
+use bus_strings::overlap::Marks;
 use bus_strings::transmission::Transmission;
 use bus_strings::wordstring::Wordstring;
 use bus_words::text::word_text;
@@ -82,38 +89,66 @@ fn put_holds<K: Sink>(text: &mut TextBuffer, sink: &mut K, holds: &[Hold])
     }
 }
 
-// The lines of a transmission.
-fn put_transmission<K: Sink>(text: &mut TextBuffer, sink: &mut K, x: &Transmission)
-    ensures { Adds K.held K.faults sink.old sink.new text.old text.new (entry_put x.now) }
+// A TE line.
+fn put_close<K: Sink>(text: &mut TextBuffer, sink: &mut K, x: &Transmission, mark: bool)
+    ensures { Adds K.held K.faults sink.old sink.new text.old text.new (close_put x.now mark) }
+{
+    text.put(sink, b"TE");
+    text.put_byte(sink, b' ');
+    text.put_number(sink, x.end());
+    text.put_byte(sink, b' ');
+    text.put(sink, mark_text(mark));
+    text.put_byte(sink, b'\n');
+}
+
+// The lines of a transmission with its mark.
+fn put_transmission<K: Sink>(text: &mut TextBuffer, sink: &mut K, x: &Transmission, mark: bool)
+    ensures { Adds K.held K.faults sink.old sink.new text.old text.new (entry_put (x.now, mark)) }
 {
     put_pair(text, sink, b"TX", x.moment, u64::from(x.terminal));
     put_strings(text, sink, x.message.strings());
+    put_close(text, sink, x, mark);
 }
 
-// The lines of all transmissions.
+// The lines of all transmissions, of which one pass over the list tells which are garbled.
 fn put_list<K: Sink>(text: &mut TextBuffer, sink: &mut K, list: &[Transmission])
-    ensures { Adds K.held K.faults sink.old sink.new text.old text.new (flat_map entry_put list.now) }
+    requires { IsByMoment list.now }
+    ensures { Adds K.held K.faults sink.old sink.new text.old text.new (list_put list.now) }
 {
+    let mut marks = Marks::new(list);
     for x in list {
-        put_transmission(text, sink, x);
+        let mark = marks.next() == Some(true);
+        put_transmission(text, sink, x, mark);
     }
+}
+
+// The first line.
+fn put_head<K: Sink>(text: &mut TextBuffer, sink: &mut K)
+    ensures { Adds K.held K.faults sink.old sink.new text.old text.new head_put }
+{
+    text.put(sink, TRACE);
+    text.put_byte(sink, b' ');
+    text.put(sink, TWO);
+    text.put_byte(sink, b'\n');
 }
 
 // The first two lines.
 fn put_horizon<K: Sink>(text: &mut TextBuffer, sink: &mut K, horizon: u64)
     ensures { Adds K.held K.faults sink.old sink.new text.old text.new (horizon_put horizon) }
 {
-    text.put(sink, b"TRACE 1\nHORIZON ");
+    put_head(text, sink);
+    text.put(sink, b"HORIZON ");
     text.put_number(sink, horizon);
     text.put_byte(sink, b'\n');
 }
 
-/// Writes the one text of a trace, in pushes of a few kilobytes. It takes no memory.
+/// Writes the text of a trace in format 2, in pushes of a few kilobytes. It takes no memory.
 ///
 /// At `WriteFault` the sink has taken a front of the text, and its count of faults rose.
 pub fn write_trace<K: Sink>(trace: &Trace, sink: &mut K) -> Result<(), WriteFault>
     ensures { WritesText K.held K.faults sink.old sink.new result (trace_text trace.now) }
 {
+    neighbours_tell();
     let mut text = TextBuffer::new();
     put_horizon(&mut text, sink, trace.horizon());
     put_holds(&mut text, sink, trace.holds());

@@ -1,8 +1,14 @@
-use Rattle.std.proofs.Common.{take}
-use Rattle.std.specs.List.{flat_map}
+use Rattle.std.proofs.Common.{◌≡◌, take, drop}
+use Rattle.std.specs.List.{flat_map, zip}
 use Rattle.bus_outer.specs.Texts.{Adds}
+use Rattle.bus_strings.specs.Transmissions.{marks}
 use Rattle.bus_trace.specs.Writing.{entry_put}
 use Rattle.bus_trace.proofs.writing.put_list.Given as goal
 
+-- the transmissions so far are put, and the marks of the others are left
 abbrev pub invariant-loop-x : goal.invariant-loop-x
-invariant-loop-x g l = Adds g.K.Sink.held g.K.Sink.faults l.fn.sink l.sink l.fn.text l.text (flat_map entry_put (take l.x-index l.list))
+invariant-loop-x g l =
+    record {
+      left : l.marks ≡ drop l.x-index (marks l.list);
+      adds : Adds g.K.Sink.held g.K.Sink.faults l.fn.sink l.sink l.fn.text l.text (flat_map entry_put (take l.x-index (zip l.list (marks l.list))));
+    }

@@ -1,0 +1,29 @@
+use Rattle.std.proofs.Common.{List, ℕ, Bool, subst, take}
+use Rattle.std.specs.List.{flat_map, zip}
+use Rattle.bus_outer.specs.Texts.{Adds}
+use Rattle.bus_outer.specs.TextLaws.{◌▸◌, adds_nothing}
+use Rattle.bus_strings.specs.Messages.{Entry}
+use Rattle.bus_strings.specs.Transmissions.{marks}
+use Rattle.bus_trace.specs.Writing.{entry_put}
+use Rattle.bus_trace.proofs.MarkSteps.{flat_map-more, next_marked, all_marked}
+use Rattle.bus_trace.proofs.writing.put_list.Goals as goal
+
+pub loop-x-init : goal.loop-x-init
+loop-x-init g c = record { left = c.new-marks.ensures; adds = adds_nothing g.K.Sink.held g.K.Sink.faults c.args.sink.now c.args.text.now }
+
+pub loop-x-preserved : goal.loop-x-preserved
+loop-x-preserved g c =
+    let list : List Entry = c.args.list.now in
+    let n = next_marked list c.loop-x.x-index c.x-item.result c.loop-x.marks c.next.new.self c.next.result c.eq-mark.result
+    c.x-item.is c.loop-x-test.true c.loop-x.invariant.left c.next.ensures.steps c.eq-mark.ensures in
+    record {
+      left = n.1;
+      adds = subst (λ (t : List ℕ). Adds g.K.Sink.held g.K.Sink.faults c.args.sink.now c.put_transmission.new.sink c.args.text.now c.put_transmission.new.text t)
+          (flat_map-more entry_put (take c.loop-x.x-index (zip list (marks list))) _ (c.x-item.result, c.eq-mark.result) n.0)
+          (c.loop-x.invariant.adds ▸ c.put_transmission.ensures);
+    }
+
+pub returns : goal.returns
+returns g c =
+    subst (λ (pairs : List (Entry × Bool)). Adds g.K.Sink.held g.K.Sink.faults c.args.sink.now c.loop-x.sink c.args.text.now c.loop-x.text (flat_map entry_put pairs))
+    (all_marked c.args.list.now c.loop-x.x-index c.loop-x-test.false) c.loop-x.invariant.adds
