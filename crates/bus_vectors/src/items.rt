@@ -1,0 +1,74 @@
+//! The messages of a number.
+ghost use Rattle.std.specs.Prelude.{◌≡◌, ◌≤◌, ◌++◌, IfOk, OnOk};
+ghost use Rattle.bus_vectors.specs.Made as made;
+ghost use Rattle.bus_vectors.specs.Made.{most_number, made_words, made_item, made_round, made_items};
+
+use crate::tables::sender_count;
+use bus_strings::payload::{Payload, Payloads};
+use std::alloc::{AllocError, Global};
+
+/// How many messages each sender has in the input of a number: 10 to 500.
+pub fn round_count(number: u32) -> u32
+    ensures count { result ≡ made.round_count number }
+    ensures most { result ≤ 500 }
+{
+    10 + 10 * (number % 50)
+}
+
+/// The data words of sender `i` in a round.
+fn words(alloc: Global, number: u32, round: u32, i: u8) -> Result<Vec<u16>, AllocError>
+    requires number { number ≤ most_number }
+    requires round { round ≤ 500 }
+    ensures { IfOk result (λ words. words.items ≡ made_words number round i) }
+{
+    let i = u32::from(i);
+    let count = 30 + (number + round + i) % 11;
+    let mut words = Vec::with_capacity(alloc, count as usize)?;
+    for place in 0..count {
+        words.push(((number + 7 * round + 13 * i + place) % 65536) as u16)?;
+    }
+    Ok(words)
+}
+
+/// The item of sender `i` in a round.
+fn item(alloc: Global, number: u32, round: u32, i: u8) -> Result<Payload, AllocError>
+    requires number { number ≤ most_number }
+    requires round { round ≤ 500 }
+    ensures { IfOk result (λ item. item ≡ made_item number round i) }
+{
+    let mut strings = Vec::with_capacity(alloc, 1)?;
+    strings.push(words(alloc, number, round, i)?)?;
+    Ok(Payload {
+        terminal: i,
+        strings,
+    })
+}
+
+/// Adds the items of a round.
+fn add_round(
+    alloc: Global,
+    items: &mut Vec<Payload>,
+    number: u32,
+    round: u32,
+) -> Result<(), AllocError>
+    requires number { number ≤ most_number }
+    requires round { round ≤ 500 }
+    ensures { OnOk result (items.new.items ≡ items.old.items ++ made_round number round) }
+{
+    for i in 1..sender_count(number) + 1 {
+        items.push(item(alloc, number, round, i)?)?;
+    }
+    Ok(())
+}
+
+/// The items of a number, round by round.
+pub fn items(alloc: Global, number: u32) -> Result<Payloads, AllocError>
+    requires { number ≤ most_number }
+    ensures { IfOk result (λ items. items ≡ made_items number) }
+{
+    let mut items = Vec::new(alloc);
+    for round in 0..round_count(number) {
+        add_round(alloc, &mut items, number, round)?;
+    }
+    Ok(Payloads { items })
+}
