@@ -4,12 +4,13 @@ _bus629() {
   local -a commands
   commands=(
     'check:judge a table'
+    'tidy:write a table without comments, one space between fields'
     'run:run the senders of an accepted table, and write the trace'
     'observe:look at the senders of any table up to a moment'
   )
   if (( CURRENT == 2 )); then
     _describe command commands
-  elif (( CURRENT == 3 )) || { (( CURRENT == 4 )) && [[ $words[2] != check ]] }; then
+  elif (( CURRENT == 3 )) || { (( CURRENT == 4 )) && [[ $words[2] != (check|tidy) ]] }; then
     _files
   fi
 }

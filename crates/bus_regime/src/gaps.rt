@@ -87,8 +87,8 @@ impl<'a> TurnGap<'a> {
     }
 }
 
-/// The `k`-th sender in turn order, from 0.
-fn turn(table: &Table, k: usize) -> &Sender
+/// The `k`-th sender in turn order, from 0. It takes no memory.
+pub fn turn(table: &Table, k: usize) -> &Sender
     requires { k < length table.now.senders }
     ensures { slice_get (turn_order table.now) k ≡ Some result.now }
 {

@@ -3,7 +3,7 @@
 //! [`verdict`] gives it, by the lengths of cycles in aperiodic mode and by the gaps between messages in periodic mode, and
 //! [`write_verdict`] writes the answer as a line. `specs/Verdicts.antt` says what the verdict on a table is, `specs/Gaps.antt`
 //! what the gaps of a periodic table are, and `specs/VerdictLaws.antt` has what callers may use of it: a periodic table is
-//! accepted exactly where each of its gaps is fine (`specs/Fine.antt`).
+//! accepted exactly where each of its gaps is fine (`specs/Fine.antt`). [`turn`] gives the senders in turn order.
 #![tactic(auto)]
 
 mod gaps;
@@ -15,6 +15,7 @@ pub mod table_verdict;
 mod tests;
 pub mod witnessing;
 
+pub use gaps::turn;
 pub use judging::verdict;
 pub use line::write_verdict;
 pub use table_verdict::TableVerdict;

@@ -13,6 +13,7 @@ pub mod Spanning
 pub mod RunLemmas
 pub mod MovesLemmas
 pub mod EndLemmas
+pub mod CycleEnds
 pub mod OffsetEnds
 pub mod Leaving
 pub mod PlaceLemmas

@@ -1,5 +1,5 @@
 -- What follows of the definitions, with no limit on the closed end.
-use Rattle.std.specs.Prelude.{◌≡◌, ◌↔◌, ◌+◌, ◌≤◌, ℕ, false, IsNone, IsTrue, List, Some, slice_get}
+use Rattle.std.specs.Prelude.{◌≡◌, ◌↔◌, ◌+◌, ◌*◌, ◌≤◌, ℕ, false, IsNone, IsTrue, List, Some, slice_get}
 use Rattle.bus_strings.specs.Members.{In}
 use Rattle.bus_strings.specs.Messages.{Entry}
 use Rattle.bus_strings.specs.Transmissions.{end_of, IsAscending}
@@ -8,8 +8,8 @@ use Rattle.bus_table.specs.Tables.{Table, Hand}
 use Rattle.bus_table.specs.Hands.{are_hands}
 use Rattle.bus_table.specs.Valid.{is_valid}
 use Rattle.bus_regime.specs.Gaps.{Gap, gaps}
-use Rattle.bus_regime.specs.Verdicts.{verdict_of, is_accepted}
-use Rattle.bus_schedule.specs.Even.{are_even}
+use Rattle.bus_regime.specs.Verdicts.{most_cycle, verdict_of, is_accepted}
+use Rattle.bus_schedule.specs.Even.{are_even, rounds}
 use Rattle.bus_schedule.specs.Uneven.{uneven_of}
 use Rattle.bus_schedule.specs.Closed.{closed, closed_end}
 use Rattle.bus_schedule.specs.Limits.{longest_end}
@@ -34,6 +34,12 @@ pub record IsOrderly (table : Table) (hands : List Hand) : Type 0 where
 -- Every closed schedule is orderly.
 abbrev pub ClosedIsOrderly : Type 0
 ClosedIsOrderly = (table : Table) (hands : List Hand) → IsTrue (is_valid table) → IsTrue (are_even table hands) → IsOrderly table hands
+
+-- The closed schedule of an aperiodic table, accepted or not, ends within as many cycles of longest messages as it has rounds.
+abbrev pub ClosedEndsInCycles : Type 0
+ClosedEndsInCycles =
+    (table : Table) (hands : List Hand) → IsTrue (is_valid table) → table.mode ≡ Aperiodic → IsTrue (are_even table hands)
+    → closed_end table hands ≤ rounds hands * most_cycle table
 
 -- What the messages of a periodic table leave: of two neighbours in the closed schedule, accepted or not, the second starts at least as
 -- long behind the end of the first as the gap before its sender is, taken with longest messages.

@@ -1,5 +1,5 @@
 //! Laws of the definitions, each the contract of a function that does nothing.
-ghost use Rattle.bus_schedule.specs.Laws.{AcceptedIsClosed, ClosedIsOrderly, EvenHandsAgree, GapsAreLeft};
+ghost use Rattle.bus_schedule.specs.Laws.{AcceptedIsClosed, ClosedEndsInCycles, ClosedIsOrderly, EvenHandsAgree, GapsAreLeft};
 ghost use Rattle.bus_schedule.specs.Laws.{TheSettledAreAccepted, TheRefusedFail, WitnessesAreEven, WitnessesAreShort};
 
 use bus_medium::laws::{chains_tell, one_lawful_list};
@@ -19,6 +19,12 @@ pub fn accepted_is_closed()
 /// mode it has no overlap.
 pub fn closed_is_orderly()
     ensures { ClosedIsOrderly }
+{}
+
+/// The closed schedule of an aperiodic table, accepted or not, and even hands ends within as many cycles of longest messages as
+/// it has rounds.
+pub fn closed_ends_in_cycles()
+    ensures { ClosedEndsInCycles }
 {}
 
 /// Of two neighbours in the closed schedule of a periodic table, accepted or not, the second starts at least as long behind the

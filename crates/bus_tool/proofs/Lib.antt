@@ -12,6 +12,7 @@ pub mod TraceLemmas
 pub mod EntryLemmas
 pub mod InputLemmas
 pub mod CheckLemmas
+pub mod TidyLemmas
 pub mod ObserveLemmas
 pub mod TracedLemmas
 pub mod ReceiveLemmas
@@ -25,6 +26,7 @@ pub mod ReadLemmas
 pub mod TraceReads
 pub mod RunReads
 pub mod CheckClaim
+pub mod TidyClaim
 pub mod ObserveClaim
 pub mod ReceiveClaim
 pub mod AuditClaim

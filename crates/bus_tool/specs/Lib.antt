@@ -17,3 +17,4 @@ pub mod Claims
 pub mod RunClaims
 pub mod TraceClaims
 pub mod TextLaws
+pub mod TableClaims

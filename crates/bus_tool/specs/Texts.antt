@@ -4,6 +4,7 @@ use Rattle.std.specs.Prelude.{◌≡◌, ℕ, ◌==◌, List, ◌++◌, length, 
 use Rattle.std.specs.List.{find, filter_map, range_with_len}
 use Rattle.std.specs.Option.{option_map}
 use Rattle.bus_table.specs.Tables.{Table, Hand}
+use Rattle.bus_table.specs.Canonical.{table_text}
 use Rattle.bus_regime.specs.Verdicts.{verdict_of}
 use Rattle.bus_regime.specs.Lines.{verdict_line}
 use Rattle.bus_medium.specs.Lawful.{IsLawful}
@@ -15,7 +16,7 @@ use Rattle.bus_filter.specs.ReceivedTexts.{received_text}
 use Rattle.bus_trace.specs.declared.hold.Hold.{Hold}
 use Rattle.bus_trace.specs.Traces.{Recording, trace_text}
 use Rattle.bus_tool.specs.declared.forms.Form.{Form}
-use Rattle.bus_tool.specs.declared.forms.Form.TheVariants.{Check, Observe, Run, Receive, Audit}
+use Rattle.bus_tool.specs.declared.forms.Form.TheVariants.{Check, Tidy, Observe, Run, Receive, Audit}
 use Rattle.bus_tool.specs.declared.outcome.Outcome.{Outcome}
 use Rattle.bus_tool.specs.Forms.{form_of}
 use Rattle.bus_tool.specs.declared.inputs.Traced.{Traced as Ran}
@@ -83,6 +84,10 @@ IsReceiveText traced text = text ≡ received_text traced.table traced.trace.lis
 abbrev pub IsCheckText : Table → List ℕ → Type 0
 IsCheckText table text = text ≡ verdict_line (verdict_of table)
 
+-- the canonical text of a table
+abbrev pub IsTidyText : Table → List ℕ → Type 0
+IsTidyText table text = text ≡ table_text table
+
 -- what an audit finds of a table and a trace
 abbrev pub IsAnswerOf : AuditAnswer → Traced → Type 0
 IsAnswerOf answer traced = answer ≡ audit_of traced
@@ -98,6 +103,7 @@ IsTextOf {Y} IsText due text = (y : Y) × (due ≡ Ok y) × IsText y text
 -- what a form writes of both texts
 abbrev pub IsFormText : Form → List ℕ → List ℕ → List ℕ → Type 0
 IsFormText Check first second text = IsTextOf IsCheckText (table_due first) text
+IsFormText Tidy first second text = IsTextOf IsTidyText (table_due first) text
 IsFormText (Observe horizon) first second text = IsTextOf (IsObserveText horizon) (inputs_due first second) text
 IsFormText Run first second text = IsTextOf IsRunText (run_due first second) text
 IsFormText Receive first second text = IsTextOf IsReceiveText (traced_due first second) text

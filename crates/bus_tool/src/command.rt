@@ -9,6 +9,7 @@ use crate::observe::observe;
 use crate::outcome::Outcome;
 use crate::receive::receive;
 use crate::run::run;
+use crate::tidy::tidy;
 use bus_outer::{Sink, Source};
 use bus_strings::laws::texts_read_as_their_items;
 use bus_table::laws::readings_have_their_cause;
@@ -35,6 +36,7 @@ pub fn act<S: Source, K: Sink>(
     match form_of(words) {
         None => Outcome::Usage,
         Some(Form::Check) => check(alloc, first, out),
+        Some(Form::Tidy) => tidy(alloc, first, out),
         Some(Form::Observe { horizon }) => observe(alloc, horizon, first, second, out),
         Some(Form::Run) => run(alloc, first, second, out),
         Some(Form::Receive) => receive(alloc, first, second, out),

@@ -12,6 +12,8 @@ use bus_text::numbers::plain_decimal;
 pub enum Form {
     /// `check T`: the verdict of the table in the file `T`.
     Check,
+    /// `tidy T`: the canonical text of the table in the file `T`.
+    Tidy,
     /// `observe T M N`: what the senders of the table in `T` do with the messages in `M`, in the bit times before N.
     Observe {
         /// N: at most 1,099,511,627,776.
@@ -45,6 +47,8 @@ fn two_words(command: &str) -> Option<Form>
 {
     if command == "check" {
         Some(Form::Check)
+    } else if command == "tidy" {
+        Some(Form::Tidy)
     } else {
         None
     }

@@ -30,7 +30,10 @@ mod run;
 mod run_tests;
 mod status;
 #[cfg(test)]
+mod table_tests;
+#[cfg(test)]
 mod tests;
+mod tidy;
 mod top;
 mod writing;
 

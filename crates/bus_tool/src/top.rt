@@ -7,6 +7,7 @@ ghost use Rattle.bus_tool.specs.Forms.{words_of};
 ghost use Rattle.bus_tool.specs.Outcomes.{status_of};
 ghost use Rattle.bus_tool.specs.RunClaims.{IsRunOf, GivesRun};
 ghost use Rattle.bus_tool.specs.Outside.{called, outside};
+ghost use Rattle.bus_tool.specs.TableClaims.{IsTidyOf, GivesTidied};
 ghost use Rattle.bus_tool.specs.TraceClaims.{IsReceiveOf, GivesReceived, IsAuditOf, GivesFinding};
 ghost use Rattle.bus_trace.specs.Traces.{Recording};
 ghost use Rattle.bus_tool.specs.declared.outcome.Outcome.{Outcome as Came};
@@ -37,6 +38,11 @@ pub fn tool<S: Source, K: Sink, E: Sink>(
     ensures check { let call = called (words_of words.now) (outside ⟦<S as Source>⟧ ⟦<K as Sink>⟧ first.old second.old out.old)
         (outside ⟦<S as Source>⟧ ⟦<K as Sink>⟧ first.new second.new out.new) in
         (table : Table) → IsCheckOf table call → GivesVerdict table call result }
+
+    // `tidy T` of a valid table's text, where nothing outside fails: its canonical text, or want of memory.
+    ensures tidy { let call = called (words_of words.now) (outside ⟦<S as Source>⟧ ⟦<K as Sink>⟧ first.old second.old out.old)
+        (outside ⟦<S as Source>⟧ ⟦<K as Sink>⟧ first.new second.new out.new) in
+        (table : Table) → IsTidyOf table call → GivesTidied table call result }
 
     // `observe T M N` of texts of a valid table and of items that fit, where nothing outside fails: the one trace, or want of memory.
     ensures observe { let call = called (words_of words.now) (outside ⟦<S as Source>⟧ ⟦<K as Sink>⟧ first.old second.old out.old)

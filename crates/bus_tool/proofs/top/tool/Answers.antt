@@ -1,4 +1,5 @@
 use Rattle.bus_tool.proofs.CheckClaim.{check_claim}
+use Rattle.bus_tool.proofs.TidyClaim.{tidy_claim}
 use Rattle.bus_tool.proofs.ObserveClaim.{ObserveLaws, observe_claim}
 use Rattle.bus_tool.proofs.ReceiveClaim.{TracedLaws, receive_claim}
 use Rattle.bus_tool.proofs.AuditClaim.{AuditLaws, audit_claim}
@@ -7,6 +8,9 @@ use Rattle.bus_tool.proofs.top.tool.Goals as goal
 
 pub returns-clause-check : goal.returns-clause-check
 returns-clause-check g c = λ table h. rw c.status.ensures (check_claim c.text_reads_as_its_table.ensures _ c.act-outcome.result table c.act-outcome.ensures h)
+
+pub returns-clause-tidy : goal.returns-clause-tidy
+returns-clause-tidy g c = λ table h. rw c.status.ensures (tidy_claim c.text_reads_as_its_table.ensures _ c.act-outcome.result table c.act-outcome.ensures h)
 
 pub returns-clause-observe : goal.returns-clause-observe
 returns-clause-observe g c =
