@@ -1,5 +1,5 @@
 -- Whether two transmissions of a list overlap can be told.
-use Rattle.std.proofs.Common.{◌≡◌, ℕ, suc, ◌+◌, ◌<◌, ◌⊎◌, true, false, List, [], ◌∷◌, Some, inl, inr, arith, refl}
+use Rattle.std.proofs.Common.{◌≡◌, ℕ, suc, ◌<◌, ◌⊎◌, true, false, List, [], ◌∷◌, Some, inl, inr, arith, refl}
 use Rattle.std.specs.Prelude.{slice_get}
 use Rattle.std.specs.List.{AllByRecursion}
 use Rattle.std.proofs.lemmas.Bool.{cases_Bool}
@@ -27,7 +27,16 @@ one_meets x (y ∷ list) = elim (cases_Bool (overlaps x y)) [
 pub clear_or_overlap : (list : List Entry) → IsClear list ⊎ HasOverlap list
 clear_or_overlap [] = inl tt
 clear_or_overlap (x ∷ list) = elim (one_meets x list) [
-  | inr m ↦ inr (record { first = 0; second = suc m.place; behind = omega arith; one = x; other = m.y; one_at = refl; other_at = m.at; overlap = m.overlap })
+  | inr m ↦ inr (record {
+    first = 0;
+    second = suc m.place;
+    behind = omega arith;
+    one = x;
+    other = m.y;
+    one_at = refl;
+    other_at = m.at;
+    overlap = m.overlap;
+  })
   | inl none ↦ elim (clear_or_overlap list) [
     | inl clear ↦ inl (none, clear)
     | inr o ↦ inr (record {

@@ -1,37 +1,36 @@
 -- The hands of the witness: they are even, and end within the limit; and by them the verdict accepts exactly the settled tables.
-use Rattle.std.proofs.Common.{◌≡◌, ℕ, zero, suc, ◌+◌, ◌*◌, ◌<◌, ◌≤◌, ◌⊎◌, ◌↔◌, true, false, max, cond, List, [], ◌∷◌, ◌++◌, length, get_or, map, inl, inr, arith, sym, refl, ap, ◌∙◌, subst}
-use Rattle.std.specs.Prelude.{Bool, ◌==◌, ◌&&◌, IsTrue, IsOk}
+use Rattle.std.proofs.Common.{◌≡◌, ℕ, zero, suc, ◌<◌, true, false, List, [], ◌∷◌, length, get_or}
+use Rattle.std.proofs.Common.{map, inl, inr, arith, sym, refl, ap, ◌∙◌, subst}
+use Rattle.std.specs.Prelude.{Bool, ◌==◌, IsTrue, IsOk}
 use Rattle.std.specs.List.{list_all}
-use Rattle.std.proofs.lemmas.Bool.{and_from, eq-eqb, true≢false}
+use Rattle.std.proofs.lemmas.Bool.{and_from, eq-eqb}
 use Rattle.bus_strings.specs.Items.{Item}
-use Rattle.bus_strings.specs.Marking.{greatest_end}
-use Rattle.bus_strings.specs.MemberLaws.{of_each}
 use Rattle.bus_strings.specs.Members.{In}
-use Rattle.bus_strings.specs.Messages.{Message, Entry, bits}
+use Rattle.bus_strings.specs.Messages.{Message, bits}
 use Rattle.bus_table.specs.declared.mode.Mode.{Mode}
 use Rattle.bus_table.specs.declared.mode.Mode.TheVariants.{Aperiodic, Periodic}
-use Rattle.bus_table.specs.Facts.{SenderFacts, TableFacts}
+use Rattle.bus_table.specs.Facts.{TableFacts}
 use Rattle.bus_table.specs.Filling.{filling_message, filling_bits}
 use Rattle.bus_table.specs.FillingLaws.{filling_length}
 use Rattle.bus_table.specs.Fits.{items_fit}
-use Rattle.bus_table.specs.Hands.{hand_of, hands_of, are_hands, GiveHands}
+use Rattle.bus_table.specs.Hands.{hand_of, GiveHands}
 use Rattle.bus_table.specs.Tables.{Sender, Table, Hand}
-use Rattle.bus_table.specs.Turns.{Differ, turn_key, turn_order}
-use Rattle.bus_table.specs.TurnLaws.{from_sort, numbers_differ}
+use Rattle.bus_table.specs.Turns.{Differ, turn_order}
+use Rattle.bus_table.specs.TurnLaws.{numbers_differ}
 use Rattle.bus_table.specs.Valid.{is_valid}
 use Rattle.bus_table.specs.ValidLaws.{valid_facts}
 use Rattle.bus_medium.specs.Chains.{ChainSettled, ChainStep, ChainDue, ChainStarts}
 use Rattle.bus_medium.specs.Lawful.{IsLawful}
-use Rattle.bus_medium.specs.Timings.{quiet_of, stations_of}
+use Rattle.bus_medium.specs.Timings.{quiet_of}
 use Rattle.bus_regime.specs.Verdicts.{verdict_of, is_accepted}
 use Rattle.bus_regime.specs.VerdictLaws.{refused_cycle, refused_gaps}
 use Rattle.bus_regime.specs.Witness.{witness_of}
 use Rattle.bus_regime.specs.WitnessLaws.{witness_fits, witness_hand}
 use Rattle.bus_schedule.specs.Closed.{closed, closed_end, schedule_in}
-use Rattle.bus_schedule.specs.Even.{messages_of, rounds, are_even}
+use Rattle.bus_schedule.specs.Even.{messages_of, rounds}
 use Rattle.bus_schedule.specs.Laws.{AcceptedIsClosed, TheSettledAreAccepted, TheRefusedFail, WitnessesAreEven}
 use Rattle.bus_schedule.specs.Runs.{IsClear}
-use Rattle.bus_schedule.specs.Settled.{Happens, IsKept, IsSettled, Fails, witness_hands}
+use Rattle.bus_schedule.specs.Settled.{Happens, IsKept, IsSettled, witness_hands}
 use Rattle.bus_schedule.proofs.Growing.{Setting}
 use Rattle.bus_schedule.proofs.HandLemmas.{stations, hand_here, hand_there}
 use Rattle.bus_schedule.proofs.Meeting.{clear_or_overlap}
@@ -58,17 +57,20 @@ pub witness_messages : (table : Table) (sender : Sender) → TableFacts table �
 witness_messages table sender facts i =
     messages_are (witness_of table) table.senders sender (numbers_differ table facts) i ∙ witness_hand table sender facts i
 
-two_each : (items : List Item) (senders : List Sender) (n : ℕ) → ((sender : Sender) → In sender senders → length (hand_of items sender).messages ≡ n)
+two_each : (items : List Item) (senders : List Sender) (n : ℕ)
+    → ((sender : Sender) → In sender senders → length (hand_of items sender).messages ≡ n)
     → list_all (λ hand. length hand.messages == n) (map (hand_of items) senders) ≡ true
 two_each items [] n h = refl
-two_each items (s ∷ senders) n h = and_from _ _ (eq-eqb (length (hand_of items s).messages) n (h s (inl refl))) (two_each items senders n (λ x i. h x (inr i)))
+two_each items (s ∷ senders) n h = and_from _ _ (eq-eqb (length (hand_of items s).messages) n (h s (inl refl)))
+    (two_each items senders n (λ x i. h x (inr i)))
 
 rounds_are : (items : List Item) (senders : List Sender) (n : ℕ) → 0 < length senders
     → ((sender : Sender) → In sender senders → length (hand_of items sender).messages ≡ n) → rounds (map (hand_of items) senders) ≡ n
 rounds_are items [] n some h = absurd (omega arith)
 rounds_are items (s ∷ senders) n some h = h s (inl refl)
 
-counts : (table : Table) → TableFacts table → (sender : Sender) → In sender table.senders → length (hand_of (witness_of table) sender).messages ≡ 2
+counts : (table : Table) → TableFacts table → (sender : Sender) → In sender table.senders
+    → length (hand_of (witness_of table) sender).messages ≡ 2
 counts table facts sender i = ap length (witness_hand table sender facts i)
 
 pub two_rounds : (table : Table) → TableFacts table → rounds (witness_hands table) ≡ 2
@@ -78,38 +80,51 @@ pub witnesses_are_even : GivesHands → WitnessesAreEven
 witnesses_are_even give table valid =
     let facts = valid_facts table valid in
     and_from _ _ (give table (witness_of table) valid (witness_fits table facts))
-    (subst (λ n. list_all (λ hand. length hand.messages == n) (witness_hands table) ≡ true) (sym (two_rounds table facts)) (two_each (witness_of table) table.senders 2 (counts table facts)))
+    (subst (λ n. list_all (λ hand. length hand.messages == n) (witness_hands table) ≡ true) (sym (two_rounds table facts))
+    (two_each (witness_of table) table.senders 2 (counts table facts)))
 
 -- how long they are
 filled : (table : Table) → TableFacts table → (sender : Sender) (round : ℕ) → In sender table.senders → round < 2
     → bits (get_or (messages_of (witness_hands table) sender.number) round []) ≡ filling_bits table.mode sender
-filled table facts sender zero i less = ap (λ (hand : List Message). bits (get_or hand 0 [])) (witness_messages table sender facts i) ∙ filling_length table.mode sender
-filled table facts sender (suc zero) i less = ap (λ (hand : List Message). bits (get_or hand 1 [])) (witness_messages table sender facts i) ∙ filling_length table.mode sender
+filled table facts sender zero i less = ap (λ (hand : List Message). bits (get_or hand 0 [])) (witness_messages table sender facts i)
+    ∙ filling_length table.mode sender
+filled table facts sender (suc zero) i less = ap (λ (hand : List Message). bits (get_or hand 1 [])) (witness_messages table sender facts i)
+    ∙ filling_length table.mode sender
 filled table facts sender (suc (suc round)) i less = absurd (omega arith)
 
 module _ (settled : ChainSettled) (step : ChainStep) (tells : ChainDue) (starting : ChainStarts) (give : GivesHands) where
-  not_lawful : (table : Table) (mode : Mode) → table.mode ≡ mode → IsTrue (is_valid table) → is_accepted (verdict_of table) ≡ false → (horizon : ℕ)
-      → IsLawful (quiet_of table) (stations table (messages_of (witness_hands table))) horizon (schedule_in mode table (messages_of (witness_hands table)) 2)
+  not_lawful : (table : Table) (mode : Mode) → table.mode ≡ mode → IsTrue (is_valid table) → is_accepted (verdict_of table) ≡ false
+      → (horizon : ℕ)
+      → IsLawful (quiet_of table) (stations table (messages_of (witness_hands table))) horizon
+      (schedule_in mode table (messages_of (witness_hands table)) 2)
       → IsClear (schedule_in mode table (messages_of (witness_hands table)) 2) → ⊥
   not_lawful table Aperiodic is valid refused horizon law clear =
       let facts = valid_facts table valid in
       let hands : List Hand = witness_hands table in
-      let setting : Setting table (messages_of (witness_hands table)) 2 = subst (Setting table (messages_of (witness_hands table))) (two_rounds table facts) (setting_of table (witness_hands table) valid (witnesses_are_even give table valid)) in
-      cycle_holds settled step tells starting table (messages_of (witness_hands table)) setting (filled table facts) (turn_order table) refl horizon is (refused_cycle table is refused) law clear
+      let setting : Setting table (messages_of (witness_hands table)) 2 = subst (Setting table (messages_of (witness_hands table)))
+      (two_rounds table facts) (setting_of table (witness_hands table) valid (witnesses_are_even give table valid)) in
+      cycle_holds settled step tells starting table (messages_of (witness_hands table)) setting (filled table facts) (turn_order table)
+      refl horizon is (refused_cycle table is refused) law clear
   not_lawful table Periodic is valid refused horizon law clear =
       let facts = valid_facts table valid in
-      let setting : Setting table (messages_of (witness_hands table)) 2 = subst (Setting table (messages_of (witness_hands table))) (two_rounds table facts) (setting_of table (witness_hands table) valid (witnesses_are_even give table valid)) in
-      gaps_hold settled step tells starting table (messages_of (witness_hands table)) setting (filled table facts) is horizon (refused_gaps table is refused) law clear
+      let setting : Setting table (messages_of (witness_hands table)) 2 = subst (Setting table (messages_of (witness_hands table)))
+      (two_rounds table facts) (setting_of table (witness_hands table) valid (witnesses_are_even give table valid)) in
+      gaps_hold settled step tells starting table (messages_of (witness_hands table)) setting (filled table facts) is horizon
+      (refused_gaps table is refused) law clear
 
   -- the closed schedule of a refused table's witness isn't both
-  not_both : (table : Table) → IsTrue (is_valid table) → is_accepted (verdict_of table) ≡ false → Happens table (witness_hands table) (closed table (witness_hands table))
+  not_both : (table : Table) → IsTrue (is_valid table) → is_accepted (verdict_of table) ≡ false
+      → Happens table (witness_hands table) (closed table (witness_hands table))
       → IsClear (closed table (witness_hands table)) → ⊥
   not_both table valid refused law clear =
       let hands : List Hand = witness_hands table in
-      let two : closed table (witness_hands table) ≡ schedule_in table.mode table (messages_of (witness_hands table)) 2 = ap (schedule_in table.mode table (messages_of (witness_hands table))) (two_rounds table (valid_facts table valid)) in
+      let two : closed table (witness_hands table) ≡ schedule_in table.mode table (messages_of (witness_hands table)) 2 =
+      ap (schedule_in table.mode table (messages_of (witness_hands table))) (two_rounds table (valid_facts table valid)) in
       not_lawful table table.mode refl valid refused (closed_end table (witness_hands table))
-      (subst (λ l. IsLawful (quiet_of table) (stations table (messages_of (witness_hands table))) (closed_end table (witness_hands table)) l) two
-      (subst (λ ss. IsLawful (quiet_of table) ss (closed_end table (witness_hands table)) (closed table (witness_hands table))) (stations_of_even table (witness_hands table) valid (witnesses_are_even give table valid)) law))
+      (subst (λ l. IsLawful (quiet_of table) (stations table (messages_of (witness_hands table))) (closed_end table (witness_hands table))
+      l) two
+      (subst (λ ss. IsLawful (quiet_of table) ss (closed_end table (witness_hands table)) (closed table (witness_hands table)))
+      (stations_of_even table (witness_hands table) valid (witnesses_are_even give table valid)) law))
       (subst IsClear two clear)
 
   pub the_refused_fail : TheRefusedFail
@@ -126,4 +141,5 @@ module _ (settled : ChainSettled) (step : ChainStep) (tells : ChainDue) (startin
     where
       accepts : IsSettled table → (b : Bool) → is_accepted (verdict_of table) ≡ b → is_accepted (verdict_of table) ≡ true
       accepts is_settled true e = e
-      accepts is_settled false e = (let kept : IsKept table (witness_hands table) = is_settled (witness_hands table) (witnesses_are_even give table valid) in absurd (not_both table valid e kept.lawful kept.clear))
+      accepts is_settled false e = (let kept : IsKept table (witness_hands table) = is_settled (witness_hands table)
+          (witnesses_are_even give table valid) in absurd (not_both table valid e kept.lawful kept.clear))

@@ -1,7 +1,7 @@
 -- When a table is settled: whatever even hands its senders have, the bus does what the closed schedule says. No limit on the closed end is
 -- meant here.
 --   witness   two filling messages of each sender, by which a refused table fails
-use Rattle.std.specs.Prelude.{◌≡◌, ℕ, ◌<◌, ◌⊎◌, true, false, IsTrue, List, slice_get, Some}
+use Rattle.std.specs.Prelude.{◌≡◌, ℕ, ◌<◌, ◌⊎◌, true, IsTrue, List, slice_get, Some}
 use Rattle.bus_strings.specs.Messages.{Entry}
 use Rattle.bus_strings.specs.Transmissions.{overlaps}
 use Rattle.bus_table.specs.Hands.{hands_of}
