@@ -3,7 +3,7 @@ use Rattle.std.specs.Prelude.{◌≡◌, ◌≢◌, ℕ, List, Option, Some, Non
 use Rattle.std.proofs.Common.{arith, refl, sym, ap, subst, inl, inr}
 use Rattle.bus_outer.specs.Faults.{Fails, last_u64}
 use Rattle.bus_tool.specs.declared.forms.Form.{Form}
-use Rattle.bus_tool.specs.declared.forms.Form.TheVariants.{Check, Tidy, Observe, Run, Receive, Audit}
+use Rattle.bus_tool.specs.declared.forms.Form.TheVariants.{Check, Tidy, Witness, Observe, Run, Receive, Audit}
 use Rattle.bus_tool.specs.declared.outcome.Outcome.{Outcome}
 use Rattle.bus_tool.specs.declared.outcome.Outcome.TheVariants.{Done, Answered, Refused, Usage, TableText, TableWhole, MessagesText, Unfit, Uneven, TraceText, ReadFault, WriteFault, NoMemory, TooLarge, TooLong}
 use Rattle.bus_tool.specs.declared.status.Status.{Status}
@@ -42,6 +42,7 @@ no_read named f s f' s' source (Second is some stays rises) = no_fault rises
 of_form : (form : Form) (first second : List ℕ) (o : Outcome) → OfTexts (sources_of form) (both (steady first) (steady second)) (λ a b. StandsFor (form_due form a b) o) → StandsFor (form_due form first second) o
 of_form Check first second o h = h
 of_form Tidy first second o h = h
+of_form Witness first second o h = h
 of_form (Observe horizon) first second o h = h
 of_form Run first second o h = h
 of_form Receive first second o h = h

@@ -8,7 +8,7 @@ use Rattle.bus_regime.specs.Verdicts.{verdict_of}
 use Rattle.bus_schedule.specs.Closed.{closed_end}
 use Rattle.bus_trace.specs.TraceLaws.{ReadsBack}
 use Rattle.bus_tool.specs.declared.forms.Form.{Form}
-use Rattle.bus_tool.specs.declared.forms.Form.TheVariants.{Check, Tidy, Observe, Run, Receive, Audit}
+use Rattle.bus_tool.specs.declared.forms.Form.TheVariants.{Check, Tidy, Witness, Observe, Run, Receive, Audit}
 use Rattle.bus_tool.specs.declared.outcome.Outcome.{Outcome}
 use Rattle.bus_tool.specs.declared.outcome.Outcome.TheVariants.{Done, Answered, Refused, TableText, TableWhole, MessagesText, Unfit, Uneven, TraceText, ReadFault, WriteFault, NoMemory, TooLarge, TooLong}
 use Rattle.bus_tool.specs.Forms.{sources_of}
@@ -112,6 +112,7 @@ not_run laws first second inputs o h (Longer why e) = subst (λ r. RefusesTexts 
 form_cause : CauseLaws → (form : Form) (o : Outcome) (first second : List ℕ) → is_answer (kind_of o) ≡ false → form_due form first second ≡ o → RefusesTexts o first second
 form_cause laws Check o first second never h = no_table laws first o second (refused (λ table. verdict_outcome (verdict_of table)) (table_due first) o (λ table. written_verdict (verdict_of table)) never h)
 form_cause laws Tidy o first second never h = no_table laws first o second (refused (λ table. Done) (table_due first) o (λ table. refl) never h)
+form_cause laws Witness o first second never h = no_table laws first o second (refused (λ table. Done) (table_due first) o (λ table. refl) never h)
 form_cause laws (Observe horizon) o first second never h = elim (inputs_stop first second o (refused (λ inputs. Done) (inputs_due first second) o (λ inputs. refl) never h)) [
   | inl e ↦ no_table laws first o second e
   | inr w ↦ no_items laws first second w.0 o w.1 w.2
@@ -162,6 +163,7 @@ refuses_table laws first o h = tt
 refuses_text : CauseLaws → (form : Form) (first : List ℕ) (o : Outcome) → IsDueFirst o (first_refusal form first) → RefusesText o first
 refuses_text laws Check first o h = refuses_table laws first o h
 refuses_text laws Tidy first o h = refuses_table laws first o h
+refuses_text laws Witness first o h = refuses_table laws first o h
 refuses_text laws (Observe horizon) first o h = refuses_table laws first o h
 refuses_text laws Run first o h = refuses_table laws first o h
 refuses_text laws Receive first o h = refuses_table laws first o h

@@ -13,6 +13,7 @@ pub mod EntryLemmas
 pub mod InputLemmas
 pub mod CheckLemmas
 pub mod TidyLemmas
+pub mod WitnessLemmas
 pub mod ObserveLemmas
 pub mod TracedLemmas
 pub mod ReceiveLemmas
@@ -27,6 +28,7 @@ pub mod TraceReads
 pub mod RunReads
 pub mod CheckClaim
 pub mod TidyClaim
+pub mod WitnessClaim
 pub mod ObserveClaim
 pub mod ReceiveClaim
 pub mod AuditClaim

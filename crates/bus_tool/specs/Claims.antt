@@ -13,11 +13,15 @@ use Rattle.bus_table.specs.Text.{IsTableText}
 use Rattle.bus_table.specs.Valid.{is_valid}
 use Rattle.bus_regime.specs.Verdicts.{verdict_of}
 use Rattle.bus_regime.specs.Lines.{verdict_line}
+use Rattle.bus_regime.specs.Witness.{witness_of}
 use Rattle.bus_medium.specs.Lawful.{IsLawful}
 use Rattle.bus_medium.specs.Timings.{quiet_of, stations_of}
+use Rattle.bus_schedule.specs.Closed.{closed}
+use Rattle.bus_schedule.specs.Settled.{Fails, IsSettled, witness_hands}
+use Rattle.bus_strings.specs.Canonical.{messages_text}
 use Rattle.bus_trace.specs.Traces.{Recording, IsTrace, trace_text}
 use Rattle.bus_tool.specs.declared.status.Status.{Status}
-use Rattle.bus_tool.specs.declared.status.Status.TheVariants.{Done, NoMemory}
+use Rattle.bus_tool.specs.declared.status.Status.TheVariants.{Done, Refused, NoMemory}
 use Rattle.bus_strings.specs.Limits.{horizon_limit}
 use Rattle.bus_tool.specs.Outcomes.{status_of}
 use Rattle.bus_tool.specs.Outside.{Seen, Outside, Call}
@@ -74,6 +78,31 @@ pub record IsCheckOf (table : Table) (call : Call) : Type 0 where
 abbrev pub GivesVerdict : Table → Call → Status → Type 0
 GivesVerdict table call status =
     Answers (status_of (verdict_outcome (verdict_of table))) (λ text. text ≡ verdict_line (verdict_of table)) call status
+
+-- What the status tells of a table:
+--   settled     Done comes only for a settled table
+--   unsettled   Refused comes only for one that isn't
+--   witness     which then fails with the hands of its witness
+pub record TellsSettled (table : Table) (status : Status) : Type 0 where
+  pub settled : status ≡ Done → IsSettled table
+  pub unsettled : status ≡ Refused → IsSettled table → ⊥
+  pub witness : status ≡ Refused → Fails table (witness_hands table) (closed table (witness_hands table))
+
+-- ---- `witness`
+-- the words are `witness` and one more
+pub record IsWitnessForm (words : List (List ℕ)) : Type 0 where
+  pub path : List ℕ
+  pub form : words ≡ codes "witness" ∷ path ∷ []
+
+-- a call of `witness T` on a text of a valid table, in which nothing outside fails
+pub record IsWitnessCallOf (table : Table) (call : Call) : Type 0 where
+  pub form : IsWitnessForm call.words
+  pub table_told : TellsTable table call.before.sources.first
+  pub undisturbed : NothingFails (one_source entire) call.before call.after
+
+-- the canonical text of the table's witness is written, and the status is Done, whether the table is accepted or not
+abbrev pub GivesWitness : Table → Call → Status → Type 0
+GivesWitness table call status = Answers Done (λ text. text ≡ messages_text (witness_of table)) call status
 
 -- ---- `observe`
 -- the words are `observe`, two more, and the plain decimal of the horizon, which is within its limit

@@ -31,7 +31,7 @@ use Rattle.bus_audit.specs.declared.answer.AuditAnswer.{AuditAnswer}
 use Rattle.bus_audit.specs.declared.answer.AuditAnswer.TheVariants.{Lawful, Breach}
 use Rattle.bus_audit.specs.Breaches.{answer_of}
 use Rattle.bus_tool.specs.declared.forms.Form.{Form}
-use Rattle.bus_tool.specs.declared.forms.Form.TheVariants.{Check, Tidy, Observe, Run, Receive, Audit}
+use Rattle.bus_tool.specs.declared.forms.Form.TheVariants.{Check, Tidy, Witness, Observe, Run, Receive, Audit}
 use Rattle.bus_tool.specs.declared.outcome.Outcome.{Outcome}
 use Rattle.bus_tool.specs.declared.outcome.Outcome.TheVariants.{Done, Answered, Refused, Usage, TableText, TableWhole, MessagesText}
 use Rattle.bus_tool.specs.declared.outcome.Outcome.TheVariants.{Unfit, Uneven, TraceText, ReadFault, NoMemory, TooLarge, TooLong}
@@ -198,6 +198,7 @@ outcome_with answer (Err refusal) = refusal
 abbrev pub form_due : Form → List ℕ → List ℕ → Outcome
 form_due Check first second = outcome_with (λ table. verdict_outcome (verdict_of table)) (table_due first)
 form_due Tidy first second = outcome_with (λ table. Done) (table_due first)
+form_due Witness first second = outcome_with (λ table. Done) (table_due first)
 form_due (Observe horizon) first second = outcome_with (λ inputs. Done) (inputs_due first second)
 form_due Run first second = outcome_with (λ inputs. Done) (run_due first second)
 form_due Receive first second = outcome_with (λ traced. Done) (traced_due first second)
@@ -207,6 +208,7 @@ form_due Audit first second = outcome_with (λ traced. audit_outcome (audit_of t
 abbrev pub first_refusal : Form → List ℕ → Option Outcome
 first_refusal Check first = table_refusal_of first
 first_refusal Tidy first = table_refusal_of first
+first_refusal Witness first = table_refusal_of first
 first_refusal (Observe horizon) first = table_refusal_of first
 first_refusal Run first = table_refusal_of first
 first_refusal Receive first = table_refusal_of first

@@ -3,10 +3,13 @@
 use Rattle.std.specs.Prelude.{◌≡◌, ℕ, ◌==◌, List, ◌++◌, length, Option, Some, None, Result, Ok}
 use Rattle.std.specs.List.{find, filter_map, range_with_len}
 use Rattle.std.specs.Option.{option_map}
+use Rattle.bus_strings.specs.Canonical.{messages_text}
+use Rattle.bus_strings.specs.Items.{Item}
 use Rattle.bus_table.specs.Tables.{Table, Hand}
 use Rattle.bus_table.specs.Canonical.{table_text}
 use Rattle.bus_regime.specs.Verdicts.{verdict_of}
 use Rattle.bus_regime.specs.Lines.{verdict_line}
+use Rattle.bus_regime.specs.Witness.{witness_of}
 use Rattle.bus_medium.specs.Lawful.{IsLawful}
 use Rattle.bus_medium.specs.Timings.{quiet_of, stations_of}
 use Rattle.bus_schedule.specs.Closed.{closed_end}
@@ -16,7 +19,7 @@ use Rattle.bus_filter.specs.ReceivedTexts.{received_text}
 use Rattle.bus_trace.specs.declared.hold.Hold.{Hold}
 use Rattle.bus_trace.specs.Traces.{Recording, trace_text}
 use Rattle.bus_tool.specs.declared.forms.Form.{Form}
-use Rattle.bus_tool.specs.declared.forms.Form.TheVariants.{Check, Tidy, Observe, Run, Receive, Audit}
+use Rattle.bus_tool.specs.declared.forms.Form.TheVariants.{Check, Tidy, Witness, Observe, Run, Receive, Audit}
 use Rattle.bus_tool.specs.declared.outcome.Outcome.{Outcome}
 use Rattle.bus_tool.specs.Forms.{form_of}
 use Rattle.bus_tool.specs.declared.inputs.Traced.{Traced as Ran}
@@ -88,6 +91,14 @@ IsCheckText table text = text ≡ verdict_line (verdict_of table)
 abbrev pub IsTidyText : Table → List ℕ → Type 0
 IsTidyText table text = text ≡ table_text table
 
+-- the items of the witness of a table
+abbrev pub AreWitnessOf : List Item → Table → Type 0
+AreWitnessOf items table = items ≡ witness_of table
+
+-- their canonical messages text
+abbrev pub IsWitnessText : Table → List ℕ → Type 0
+IsWitnessText table text = text ≡ messages_text (witness_of table)
+
 -- what an audit finds of a table and a trace
 abbrev pub IsAnswerOf : AuditAnswer → Traced → Type 0
 IsAnswerOf answer traced = answer ≡ audit_of traced
@@ -104,6 +115,7 @@ IsTextOf {Y} IsText due text = (y : Y) × (due ≡ Ok y) × IsText y text
 abbrev pub IsFormText : Form → List ℕ → List ℕ → List ℕ → Type 0
 IsFormText Check first second text = IsTextOf IsCheckText (table_due first) text
 IsFormText Tidy first second text = IsTextOf IsTidyText (table_due first) text
+IsFormText Witness first second text = IsTextOf IsWitnessText (table_due first) text
 IsFormText (Observe horizon) first second text = IsTextOf (IsObserveText horizon) (inputs_due first second) text
 IsFormText Run first second text = IsTextOf IsRunText (run_due first second) text
 IsFormText Receive first second text = IsTextOf IsReceiveText (traced_due first second) text

@@ -10,6 +10,7 @@ use crate::outcome::Outcome;
 use crate::receive::receive;
 use crate::run::run;
 use crate::tidy::tidy;
+use crate::witness::witness;
 use bus_outer::{Sink, Source};
 use bus_strings::laws::texts_read_as_their_items;
 use bus_table::laws::readings_have_their_cause;
@@ -37,6 +38,7 @@ pub fn act<S: Source, K: Sink>(
         None => Outcome::Usage,
         Some(Form::Check) => check(alloc, first, out),
         Some(Form::Tidy) => tidy(alloc, first, out),
+        Some(Form::Witness) => witness(alloc, first, out),
         Some(Form::Observe { horizon }) => observe(alloc, horizon, first, second, out),
         Some(Form::Run) => run(alloc, first, second, out),
         Some(Form::Receive) => receive(alloc, first, second, out),

@@ -14,6 +14,8 @@ pub enum Form {
     Check,
     /// `tidy T`: the canonical text of the table in the file `T`.
     Tidy,
+    /// `witness T`: the messages with which the table in `T` fails, where it is refused.
+    Witness,
     /// `observe T M N`: what the senders of the table in `T` do with the messages in `M`, in the bit times before N.
     Observe {
         /// N: at most 1,099,511,627,776.
@@ -49,6 +51,8 @@ fn two_words(command: &str) -> Option<Form>
         Some(Form::Check)
     } else if command == "tidy" {
         Some(Form::Tidy)
+    } else if command == "witness" {
+        Some(Form::Witness)
     } else {
         None
     }

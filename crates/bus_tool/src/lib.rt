@@ -35,6 +35,9 @@ mod table_tests;
 mod tests;
 mod tidy;
 mod top;
+mod witness;
+#[cfg(test)]
+mod witness_tests;
 mod writing;
 
 pub use command::act;

@@ -2,7 +2,7 @@ ghost use Rattle.std.specs.Prelude.{◌≡◌, ℕ, List};
 ghost use Rattle.bus_strings.specs.Items.{Item};
 ghost use Rattle.bus_table.specs.Tables.{Table};
 ghost use Rattle.bus_tool.specs.Acts.{Acts, TellsFault};
-ghost use Rattle.bus_tool.specs.Claims.{IsCheckOf, GivesVerdict, IsObserveOf, GivesTrace};
+ghost use Rattle.bus_tool.specs.Claims.{IsCheckOf, GivesVerdict, TellsSettled, IsObserveOf, GivesTrace, IsWitnessCallOf, GivesWitness};
 ghost use Rattle.bus_tool.specs.Forms.{words_of};
 ghost use Rattle.bus_tool.specs.Outcomes.{status_of};
 ghost use Rattle.bus_tool.specs.RunClaims.{IsRunOf, GivesRun};
@@ -18,7 +18,7 @@ use crate::status::Status;
 use bus_audit::laws::{no_breach_is_right, one_answer};
 use bus_medium::laws::one_lawful_list;
 use bus_outer::{Sink, Source};
-use bus_schedule::laws::even_hands_agree;
+use bus_schedule::laws::{even_hands_agree, verdicts_are_exact};
 use bus_strings::laws::texts_read_as_their_items;
 use bus_table::laws::{fitting_items_give_hands, text_reads_as_its_table};
 use bus_trace::laws::traces_read_back;
@@ -34,10 +34,16 @@ pub fn tool<S: Source, K: Sink, E: Sink>(
     out: &mut K,
     err: &mut E,
 ) -> Status
-    // `check T` of a valid table's text, where nothing outside fails: its verdict line and status, or want of memory.
+    // `check T` of a valid table's text, where nothing outside fails: its verdict line and status, or want of memory. Status 0 comes only
+    // for a settled table, status 1 only for one that isn't.
     ensures check { let call = called (words_of words.now) (outside ⟦<S as Source>⟧ ⟦<K as Sink>⟧ first.old second.old out.old)
         (outside ⟦<S as Source>⟧ ⟦<K as Sink>⟧ first.new second.new out.new) in
-        (table : Table) → IsCheckOf table call → GivesVerdict table call result }
+        (table : Table) → IsCheckOf table call → GivesVerdict table call result × TellsSettled table result }
+
+    // `witness T` of a valid table's text, where nothing outside fails: the messages of its witness, or want of memory.
+    ensures witness { let call = called (words_of words.now) (outside ⟦<S as Source>⟧ ⟦<K as Sink>⟧ first.old second.old out.old)
+        (outside ⟦<S as Source>⟧ ⟦<K as Sink>⟧ first.new second.new out.new) in
+        (table : Table) → IsWitnessCallOf table call → GivesWitness table call result }
 
     // `tidy T` of a valid table's text, where nothing outside fails: its canonical text, or want of memory.
     ensures tidy { let call = called (words_of words.now) (outside ⟦<S as Source>⟧ ⟦<K as Sink>⟧ first.old second.old out.old)
@@ -79,6 +85,7 @@ pub fn tool<S: Source, K: Sink, E: Sink>(
     no_breach_is_right();
     one_answer();
     even_hands_agree();
+    verdicts_are_exact();
     let outcome = act(alloc, words, first, second, out);
     let _ = outcome_text(&outcome, err);
     outcome.status()

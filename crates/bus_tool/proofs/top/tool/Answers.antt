@@ -1,5 +1,6 @@
-use Rattle.bus_tool.proofs.CheckClaim.{check_claim}
+use Rattle.bus_tool.proofs.CheckClaim.{CheckLaws, check_claim}
 use Rattle.bus_tool.proofs.TidyClaim.{tidy_claim}
+use Rattle.bus_tool.proofs.WitnessClaim.{witness_claim}
 use Rattle.bus_tool.proofs.ObserveClaim.{ObserveLaws, observe_claim}
 use Rattle.bus_tool.proofs.ReceiveClaim.{TracedLaws, receive_claim}
 use Rattle.bus_tool.proofs.AuditClaim.{AuditLaws, audit_claim}
@@ -7,7 +8,16 @@ use Rattle.bus_tool.proofs.RunClaim.{RunLaws, run_claim}
 use Rattle.bus_tool.proofs.top.tool.Goals as goal
 
 pub returns-clause-check : goal.returns-clause-check
-returns-clause-check g c = λ table h. rw c.status.ensures (check_claim c.text_reads_as_its_table.ensures _ c.act-outcome.result table c.act-outcome.ensures h)
+returns-clause-check g c =
+    let laws : CheckLaws = record {
+      table_again = c.text_reads_as_its_table.ensures;
+      exact = c.verdicts_are_exact.ensures.settled;
+      fails = c.verdicts_are_exact.ensures.refused;
+    } in
+    λ table h. rw c.status.ensures (check_claim laws _ c.act-outcome.result table c.act-outcome.ensures h)
+
+pub returns-clause-witness : goal.returns-clause-witness
+returns-clause-witness g c = λ table h. rw c.status.ensures (witness_claim c.text_reads_as_its_table.ensures _ c.act-outcome.result table c.act-outcome.ensures h)
 
 pub returns-clause-tidy : goal.returns-clause-tidy
 returns-clause-tidy g c = λ table h. rw c.status.ensures (tidy_claim c.text_reads_as_its_table.ensures _ c.act-outcome.result table c.act-outcome.ensures h)
