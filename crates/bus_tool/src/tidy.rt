@@ -3,9 +3,9 @@ ghost use Rattle.bus_tool.specs.Acts.{DoesForm};
 ghost use Rattle.bus_tool.specs.Outside.{Seen, beside};
 ghost use Rattle.bus_tool.specs.declared.forms.Form.TheVariants.{Tidy};
 
-use crate::writing::after_writing;
 use crate::inputs::take_table;
 use crate::outcome::Outcome;
+use crate::writing::after_writing;
 use bus_outer::{Sink, Source};
 use bus_table::write_table;
 use std::alloc::Global;
