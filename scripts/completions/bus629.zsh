@@ -6,12 +6,13 @@ _bus629() {
     'check:judge a table'
     'tidy:write a table without comments, one space between fields'
     'witness:write messages with which a refused table fails'
+    'plan:choose the offsets of a periodic table'
     'run:run the senders of an accepted table, and write the trace'
     'observe:look at the senders of any table up to a moment'
   )
   if (( CURRENT == 2 )); then
     _describe command commands
-  elif (( CURRENT == 3 )) || { (( CURRENT == 4 )) && [[ $words[2] != (check|tidy|witness) ]] }; then
+  elif (( CURRENT == 3 )) || { (( CURRENT == 4 )) && [[ $words[2] != (check|tidy|witness|plan) ]] }; then
     _files
   fi
 }

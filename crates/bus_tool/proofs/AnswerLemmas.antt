@@ -1,17 +1,17 @@
 -- A call over texts in memory.
 use Rattle.std.specs.Prelude.{◌≡◌, ◌≢◌, ℕ, List, Option, Some, None, IfSome, IsNone, ◌↔◌}
 use Rattle.std.proofs.Common.{arith, refl, sym, ap, subst, inl, inr}
-use Rattle.bus_outer.specs.Faults.{Fails, last_u64}
+use Rattle.bus_outer.specs.Faults.{Fails}
 use Rattle.bus_tool.specs.declared.forms.Form.{Form}
-use Rattle.bus_tool.specs.declared.forms.Form.TheVariants.{Check, Tidy, Witness, Observe, Run, Receive, Audit}
+use Rattle.bus_tool.specs.declared.forms.Form.TheVariants.{Check, Tidy, Witness, Plan, Observe, Run, Receive, Audit}
 use Rattle.bus_tool.specs.declared.outcome.Outcome.{Outcome}
-use Rattle.bus_tool.specs.declared.outcome.Outcome.TheVariants.{Done, Answered, Refused, Usage, TableText, TableWhole, MessagesText, Unfit, Uneven, TraceText, ReadFault, WriteFault, NoMemory, TooLarge, TooLong}
+use Rattle.bus_tool.specs.declared.outcome.Outcome.TheVariants.{Usage, ReadFault, WriteFault, NoMemory}
 use Rattle.bus_tool.specs.declared.status.Status.{Status}
 use Rattle.bus_tool.specs.declared.status.Status.TheVariants as status
 use Rattle.bus_tool.specs.Forms.{form_of, sources_of}
 use Rattle.bus_tool.specs.Kinds.{kind_of, stage_of}
 use Rattle.bus_tool.specs.Stages.{StandsFor}
-use Rattle.bus_tool.specs.Outside.{Seen, Sources, Outside, both, around, called}
+use Rattle.bus_tool.specs.Outside.{Seen, Outside, both, around, called}
 use Rattle.bus_tool.specs.Readers.{Named, First, Second, FailsToRead, SourceCounts, OutCounts, OfTexts}
 use Rattle.bus_tool.specs.Outcomes.{status_of}
 use Rattle.bus_tool.specs.Due.{form_due, outcome_for}
@@ -43,6 +43,7 @@ of_form : (form : Form) (first second : List ℕ) (o : Outcome) → OfTexts (sou
 of_form Check first second o h = h
 of_form Tidy first second o h = h
 of_form Witness first second o h = h
+of_form Plan first second o h = h
 of_form (Observe horizon) first second o h = h
 of_form Run first second o h = h
 of_form Receive first second o h = h

@@ -1,5 +1,5 @@
 -- The cause of each refusal of a text.
-use Rattle.std.specs.Prelude.{◌≡◌, ℕ, true, false, List, Some, IfSome, Result, Ok, Err}
+use Rattle.std.specs.Prelude.{◌≡◌, ℕ, true, false, ◌⊎◌, List, Some, IfSome, Result, Ok, Err}
 use Rattle.std.proofs.Common.{arith, refl, sym, ap, ◌∙◌, subst, inl, inr}
 use Rattle.bus_table.specs.declared.error.TableError.TheVariants.{Text, Whole}
 use Rattle.bus_strings.specs.Items.{Item}
@@ -8,14 +8,18 @@ use Rattle.bus_regime.specs.Verdicts.{verdict_of}
 use Rattle.bus_schedule.specs.Closed.{closed_end}
 use Rattle.bus_trace.specs.TraceLaws.{ReadsBack}
 use Rattle.bus_tool.specs.declared.forms.Form.{Form}
-use Rattle.bus_tool.specs.declared.forms.Form.TheVariants.{Check, Tidy, Witness, Observe, Run, Receive, Audit}
+use Rattle.bus_tool.specs.declared.forms.Form.TheVariants.{Check, Tidy, Witness, Plan, Observe, Run, Receive, Audit}
 use Rattle.bus_tool.specs.declared.outcome.Outcome.{Outcome}
-use Rattle.bus_tool.specs.declared.outcome.Outcome.TheVariants.{Done, Answered, Refused, TableText, TableWhole, MessagesText, Unfit, Uneven, TraceText, ReadFault, WriteFault, NoMemory, TooLarge, TooLong}
+use Rattle.bus_tool.specs.declared.outcome.Outcome.TheVariants.{Done, Answered, Refused, TableText, TableWhole, TableMode, MessagesText, Unfit, Uneven, TraceText, ReadFault, WriteFault, NoMemory, TooLarge, TooLong}
 use Rattle.bus_tool.specs.Forms.{sources_of}
 use Rattle.bus_tool.specs.Kinds.{Answer, kind_of, is_answer}
 use Rattle.bus_tool.specs.Stages.{StandsFor, refusal_in}
 use Rattle.bus_tool.specs.Outside.{Outside}
 use Rattle.bus_tool.specs.Readers.{told, OfTexts}
+use Rattle.bus_table.specs.declared.mode.Mode.{Mode}
+use Rattle.bus_table.specs.declared.mode.Mode.TheVariants.{Periodic}
+use Rattle.bus_plan.specs.Answers.{plan_of}
+use Rattle.bus_tool.specs.Due.{table_in, plan_outcome, refusal_of_mode}
 use Rattle.bus_tool.specs.Due.{table_due, items_due, Inputs, hands_in, inputs_due, trace_due, traced_due, run_due, verdict_outcome, audit_outcome, audit_of, outcome_with, table_refusal_of, first_refusal, form_due}
 use Rattle.bus_tool.specs.Steps.{IsDueFirst}
 use Rattle.bus_tool.specs.Acts.{DoesForm}
@@ -23,9 +27,11 @@ use Rattle.bus_tool.specs.Causes.{AreTextsWith, DifferAs, IsRefusal, IsLongEnd, 
 use Rattle.bus_tool.proofs.LawTypes.{ReadsATable, RefusesATable, TextReadsAsItsItems, ReadsItems}
 use Rattle.bus_tool.proofs.CheckLemmas.{written_verdict}
 use Rattle.bus_tool.proofs.AuditLemmas.{written_audit}
+use Rattle.bus_tool.proofs.ModeLemmas.{IsOtherMode, mode_stop}
+use Rattle.bus_tool.proofs.PlanLemmas.{written_plan}
 use Rattle.bus_tool.proofs.StageLemmas.{if_map}
 use Rattle.bus_tool.proofs.PrepareLemmas.{both_map}
-use Rattle.bus_tool.proofs.ReadLemmas.{table_read, table_text_read, table_whole_read, table_stops, messages_text_read, unfit_read, items_read, inputs_read, inputs_stop, items_stop, items_no_trace}
+use Rattle.bus_tool.proofs.ReadLemmas.{table_read, table_text_read, table_whole_read, table_no_mode, table_stops, messages_text_read, unfit_read, items_read, inputs_read, inputs_stop, items_stop, items_no_trace}
 use Rattle.bus_tool.proofs.TraceReads.{held_trace, trace_refuses, traced_stop}
 use Rattle.bus_tool.proofs.RunReads.{NotRun, Differ, NotAccepted, Longer, run_stop}
 
@@ -51,6 +57,7 @@ refused_so (Err refusal) o h = (let same : refusal ≡ o = cc in ap Err same)
 no_table : CauseLaws → (first : List ℕ) (o : Outcome) (second : List ℕ) → table_due first ≡ Err o → RefusesTexts o first second
 no_table laws first (TableText line reason) second h = laws.refuses_table first (Text line reason) (table_text_read first line reason h)
 no_table laws first (TableWhole reason) second h = (let w = laws.refuses_table first (Whole reason) (table_whole_read first reason h) in record { table = w.0; stands = w.1; why = w.2 })
+no_table laws first (TableMode needed) second h = absurd (table_no_mode first needed h)
 no_table laws first (MessagesText line reason) second h = absurd (let s : 2 ≡ 1 = table_stops first (MessagesText line reason) h in omega arith)
 no_table laws first (Unfit error) second h = absurd (let s : 2 ≡ 1 = table_stops first (Unfit error) h in omega arith)
 no_table laws first (Uneven one one_count other other_count) second h = absurd (table_stops first (Uneven one one_count other other_count) h)
@@ -63,6 +70,7 @@ no_table laws first o second h = tt
 no_items : CauseLaws → (first second : List ℕ) (table : Table) (o : Outcome) → table_due first ≡ Ok table → items_due table second ≡ Err o → RefusesTexts o first second
 no_items laws first second table (TableText line reason) h k = absurd (let s : 1 ≡ 2 = items_stop table second (TableText line reason) k in omega arith)
 no_items laws first second table (TableWhole reason) h k = absurd (let s : 1 ≡ 2 = items_stop table second (TableWhole reason) k in omega arith)
+no_items laws first second table (TableMode needed) h k = absurd (let s : 1 ≡ 2 = items_stop table second (TableMode needed) k in omega arith)
 no_items laws first second table (MessagesText line reason) h k = λ items stands. (let w = messages_text_read table second line reason k in let again = laws.items_again second items stands in let never = w.1 in cc)
 no_items laws first second table (Unfit error) h k =
     let w = unfit_read table second error k in
@@ -108,11 +116,23 @@ not_run laws first second inputs o h (Differ uneven why e) = subst (λ r. Refuse
 not_run laws first second inputs o h (NotAccepted why e) = subst (λ r. RefusesTexts r first second) (sym e) (texts_with laws (IsRefusal (verdict_of inputs.table)) first second inputs h (refl, why))
 not_run laws first second inputs o h (Longer why e) = subst (λ r. RefusesTexts r first second) (sym e) (texts_with laws (IsLongEnd (closed_end inputs.table (hands_in inputs))) first second inputs h (refl, why))
 
+-- the table isn't of the mode that is needed
+wrong_mode : CauseLaws → (needed : Mode) (first second : List ℕ) (o : Outcome) → IsOtherMode needed first o → RefusesTexts o first second
+wrong_mode laws needed first second o w =
+    let read = laws.reads_table first w.table (table_read first w.table w.table_is) in
+    subst (λ o. RefusesTexts o first second) (sym w.came) (record { table = w.table; stands = read.0; valid = read.1; why = w.other })
+
 -- ---- the forms
 form_cause : CauseLaws → (form : Form) (o : Outcome) (first second : List ℕ) → is_answer (kind_of o) ≡ false → form_due form first second ≡ o → RefusesTexts o first second
 form_cause laws Check o first second never h = no_table laws first o second (refused (λ table. verdict_outcome (verdict_of table)) (table_due first) o (λ table. written_verdict (verdict_of table)) never h)
 form_cause laws Tidy o first second never h = no_table laws first o second (refused (λ table. Done) (table_due first) o (λ table. refl) never h)
 form_cause laws Witness o first second never h = no_table laws first o second (refused (λ table. Done) (table_due first) o (λ table. refl) never h)
+form_cause laws Plan o first second never h =
+    elim (mode_stop Periodic first o (refused (λ table. plan_outcome (plan_of table)) (table_in Periodic first) o
+    (λ table. written_plan (plan_of table)) never h)) [
+      | inl e ↦ no_table laws first o second e
+      | inr w ↦ wrong_mode laws Periodic first second o w
+    ]
 form_cause laws (Observe horizon) o first second never h = elim (inputs_stop first second o (refused (λ inputs. Done) (inputs_due first second) o (λ inputs. refl) never h)) [
   | inl e ↦ no_table laws first o second e
   | inr w ↦ no_items laws first second w.0 o w.1 w.2
@@ -149,6 +169,7 @@ does_cause laws form before after o does =
 refuses_table : CauseLaws → (first : List ℕ) (o : Outcome) → IsDueFirst o (table_refusal_of first) → RefusesText o first
 refuses_table laws first (TableText line reason) h = laws.refuses_table first (Text line reason) (table_text_read first line reason (refused_so (table_due first) (TableText line reason) (h refl)))
 refuses_table laws first (TableWhole reason) h = (let w = laws.refuses_table first (Whole reason) (table_whole_read first reason (refused_so (table_due first) (TableWhole reason) (h refl))) in record { table = w.0; stands = w.1; why = w.2 })
+refuses_table laws first (TableMode needed) h = absurd (table_no_mode first needed (refused_so (table_due first) (TableMode needed) (h refl)))
 refuses_table laws first (MessagesText line reason) h = tt
 refuses_table laws first (Unfit error) h = tt
 refuses_table laws first (Uneven one one_count other other_count) h = tt
@@ -159,11 +180,40 @@ refuses_table laws first (ReadFault source) h = tt
 refuses_table laws first (TooLarge source) h = tt
 refuses_table laws first o h = tt
 
+-- and where a table of a mode is needed
+refused_in : CauseLaws → (needed : Mode) (first : List ℕ) (o : Outcome) → (table_due first ≡ Err o → RefusesText o first)
+    → (table_due first ≡ Err o) ⊎ IsOtherMode needed first o → RefusesText o first
+refused_in laws needed first o alone (inl e) = alone e
+refused_in laws needed first o alone (inr w) =
+    let read = laws.reads_table first w.table (table_read first w.table w.table_is) in
+    subst (λ o. RefusesText o first) (sym w.came) (record { table = w.table; stands = read.0; valid = read.1; why = w.other })
+
+refuses_in : CauseLaws → (needed : Mode) (first : List ℕ) (o : Outcome) → IsDueFirst o (refusal_of_mode needed first) → RefusesText o first
+refuses_in laws needed first (TableText line reason) h =
+    refused_in laws needed first (TableText line reason) (λ e. refuses_table laws first (TableText line reason) (λ is. ap refusal_in e))
+    (mode_stop needed first (TableText line reason) (refused_so (table_in needed first) (TableText line reason) (h refl)))
+refuses_in laws needed first (TableWhole reason) h =
+    refused_in laws needed first (TableWhole reason) (λ e. refuses_table laws first (TableWhole reason) (λ is. ap refusal_in e))
+    (mode_stop needed first (TableWhole reason) (refused_so (table_in needed first) (TableWhole reason) (h refl)))
+refuses_in laws needed first (TableMode mode) h =
+    refused_in laws needed first (TableMode mode) (λ e. refuses_table laws first (TableMode mode) (λ is. ap refusal_in e))
+    (mode_stop needed first (TableMode mode) (refused_so (table_in needed first) (TableMode mode) (h refl)))
+refuses_in laws needed first (MessagesText line reason) h = tt
+refuses_in laws needed first (Unfit error) h = tt
+refuses_in laws needed first (Uneven one one_count other other_count) h = tt
+refuses_in laws needed first (TraceText byte reason) h = tt
+refuses_in laws needed first (Refused verdict) h = tt
+refuses_in laws needed first (TooLong end) h = tt
+refuses_in laws needed first (ReadFault source) h = tt
+refuses_in laws needed first (TooLarge source) h = tt
+refuses_in laws needed first o h = tt
+
 -- and of the first text of a form
 refuses_text : CauseLaws → (form : Form) (first : List ℕ) (o : Outcome) → IsDueFirst o (first_refusal form first) → RefusesText o first
 refuses_text laws Check first o h = refuses_table laws first o h
 refuses_text laws Tidy first o h = refuses_table laws first o h
 refuses_text laws Witness first o h = refuses_table laws first o h
+refuses_text laws Plan first o h = refuses_in laws Periodic first o h
 refuses_text laws (Observe horizon) first o h = refuses_table laws first o h
 refuses_text laws Run first o h = refuses_table laws first o h
 refuses_text laws Receive first o h = refuses_table laws first o h

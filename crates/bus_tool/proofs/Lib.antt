@@ -14,6 +14,8 @@ pub mod InputLemmas
 pub mod CheckLemmas
 pub mod TidyLemmas
 pub mod WitnessLemmas
+pub mod ModeLemmas
+pub mod PlanLemmas
 pub mod ObserveLemmas
 pub mod TracedLemmas
 pub mod ReceiveLemmas
@@ -29,6 +31,7 @@ pub mod RunReads
 pub mod CheckClaim
 pub mod TidyClaim
 pub mod WitnessClaim
+pub mod PlanClaim
 pub mod ObserveClaim
 pub mod ReceiveClaim
 pub mod AuditClaim

@@ -11,12 +11,13 @@ use Rattle.bus_table.specs.declared.error.TableError.{TableError}
 use Rattle.bus_table.specs.declared.error.TableError.TheVariants.{Text, Whole, Memory}
 use Rattle.bus_table.specs.declared.error.WholeReason.{WholeReason}
 use Rattle.bus_table.specs.declared.fit.FitError.{FitError}
+use Rattle.bus_table.specs.declared.mode.Mode.{Mode}
 use Rattle.bus_table.specs.Tables.{Table}
 use Rattle.bus_table.specs.Fits.{items_fit}
 use Rattle.bus_table.specs.Reading.{answer_of}
 use Rattle.bus_trace.specs.declared.reason.TraceReason.{TraceReason}
 use Rattle.bus_tool.specs.declared.outcome.Outcome.{Outcome}
-use Rattle.bus_tool.specs.declared.outcome.Outcome.TheVariants.{TableText, TableWhole, MessagesText, Unfit, TraceText, NoMemory, TooLarge}
+use Rattle.bus_tool.specs.declared.outcome.Outcome.TheVariants.{TableText, TableWhole, TableMode, MessagesText, Unfit, TraceText, NoMemory, TooLarge}
 use Rattle.bus_tool.specs.Kinds.{Kind, NoForm, NotRead, TooMuch, Wrong, Late, NotWritten, NoRoom, Answer, kind_of, is_answer}
 use Rattle.bus_tool.specs.Stages.{stage_in}
 use Rattle.bus_tool.specs.Readers.{text_limit}
@@ -61,6 +62,18 @@ whole_error (Err Memory) reason h = absurd (let e : NoMemory ≡ TableWhole reas
 pub table_whole_read : (text : List ℕ) (reason : WholeReason) → table_due text ≡ Err (TableWhole reason) → answer_of text ≡ Err (Whole reason)
 table_whole_read text reason h =
     whole_error (answer_of text) reason (read_text 1 text (λ whole. table_or_refusal (answer_of whole)) (Err (TableWhole reason)) (λ e. let k : TooLarge 1 ≡ TableWhole reason = cc in cc) h)
+
+-- it isn't refused for its mode
+no_mode_error : (r : Result Table TableError) (needed : Mode) → table_or_refusal r ≡ Err (TableMode needed) → ⊥
+no_mode_error (Ok t) needed h = cc
+no_mode_error (Err (Text l why)) needed h = (let e : TableText l why ≡ TableMode needed = cc in cc)
+no_mode_error (Err (Whole why)) needed h = (let e : TableWhole why ≡ TableMode needed = cc in cc)
+no_mode_error (Err Memory) needed h = (let e : NoMemory ≡ TableMode needed = cc in cc)
+
+pub table_no_mode : (text : List ℕ) (needed : Mode) → table_due text ≡ Err (TableMode needed) → ⊥
+table_no_mode text needed h =
+    no_mode_error (answer_of text) needed (read_text 1 text (λ whole. table_or_refusal (answer_of whole)) (Err (TableMode needed))
+    (λ e. let k : TooLarge 1 ≡ TableMode needed = cc in cc) h)
 
 -- it is refused at its own source
 refusal_stops : (error : TableError) → StopsAt 1 (kind_of (table_refusal error))

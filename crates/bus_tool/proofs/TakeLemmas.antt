@@ -1,13 +1,13 @@
 -- Steps that read one source.
-use Rattle.std.specs.Prelude.{◌≡◌, ℕ, List, Result, Ok, Err, IfErr}
+use Rattle.std.specs.Prelude.{◌≡◌, ℕ, ◌≤◌, List, Result, Ok, Err, IfErr}
 use Rattle.bus_text.specs.AllOf.{◌>>=◌}
 use Rattle.bus_tool.specs.declared.outcome.Outcome.{Outcome}
 use Rattle.bus_tool.specs.Kinds.{Kind, NoForm, NotRead, TooMuch, Wrong, Late, NotWritten, NoRoom, Answer, kind_of}
-use Rattle.bus_tool.specs.Stages.{Gives}
+use Rattle.bus_tool.specs.Stages.{stage_in, Gives}
 use Rattle.bus_tool.specs.Outside.{Seen, Stays}
 use Rattle.bus_tool.specs.Readers.{Reader, Judged, ReadsBy}
 use Rattle.bus_tool.specs.Steps.{stopped_at, StopsAt, StepCounts, Takes}
-use Rattle.bus_tool.proofs.StageLemmas.{if_map, gives_then}
+use Rattle.bus_tool.proofs.StageLemmas.{if_map, gives_then, gives_own}
 use Rattle.bus_tool.proofs.ReachLemmas.{judged_within}
 
 -- a kind of refusal of what is made of the text of the source of this number
@@ -65,4 +65,15 @@ takes_then IsOf IsNext n reader made f old new x (Err o) t next at = record {
   reads = refuses_reads reader n (kind_of o) old new at t.reads;
   stops = refuses_stops n (kind_of o) at;
   counts = refuses_counts n (kind_of o) old new at t.counts;
+}
+
+-- nothing was read of the first text of which something would be made
+pub takes_none : {X Y V W : Type 0} (IsOf : X → Y → Type 0) (IsNext : V → W → Type 0) (reader : Reader) (made : List ℕ → Result Y Outcome)
+    (f : Y → Result W Outcome) (old new : Seen) (o : Outcome) → ((y : Y) → 1 ≤ stage_in (f y)) → Takes IsOf 1 reader made old new (Err o)
+    → Takes IsNext 1 reader (λ text. made text >>= f) old new (Err o)
+takes_none IsOf IsNext reader made f old new o late t = record {
+  gives = if_map old.bytes _ _ (λ text g. gives_own (kind_of o) o (made text) f t.stops late g) t.gives;
+  reads = t.reads;
+  stops = t.stops;
+  counts = t.counts;
 }

@@ -18,13 +18,19 @@ use Rattle.bus_filter.specs.ReceivedTexts.{received_text}
 use Rattle.bus_trace.specs.declared.hold.Hold.{Hold}
 use Rattle.bus_trace.specs.Traces.{Recording, trace_text}
 use Rattle.bus_tool.specs.declared.forms.Form.{Form}
-use Rattle.bus_tool.specs.declared.forms.Form.TheVariants.{Check, Tidy, Witness, Observe, Run, Receive, Audit}
+use Rattle.bus_tool.specs.declared.forms.Form.TheVariants.{Check, Tidy, Witness, Plan, Observe, Run, Receive, Audit}
 use Rattle.bus_tool.specs.declared.outcome.Outcome.{Outcome}
 use Rattle.bus_tool.specs.declared.outcome.Outcome.TheVariants.{Done}
 use Rattle.bus_tool.specs.AuditLines.{audit_line}
 use Rattle.bus_tool.specs.Forms.{form_of}
 use Rattle.bus_tool.specs.Kinds.{kind_of, is_answer}
 use Rattle.bus_tool.specs.Outcomes.{is_written}
+use Rattle.bus_table.specs.declared.mode.Mode.TheVariants.{Periodic}
+use Rattle.bus_plan.specs.Answers.{plan_of}
+use Rattle.bus_tool.specs.PlanTexts.{plan_text}
+use Rattle.bus_tool.specs.Due.{table_in, plan_outcome}
+use Rattle.bus_tool.specs.Texts.{IsPlanText}
+use Rattle.bus_tool.proofs.ModeLemmas.{mode_unwritten}
 use Rattle.bus_tool.specs.Due.{Inputs, hands_in, table_due, inputs_due, traced_due, run_due, verdict_outcome, audit_outcome, audit_of, outcome_with, form_due, outcome_for}
 use Rattle.bus_tool.specs.Texts.{holds_of, IsRecordingOf, IsObserveText, IsRunRecording, run_text, IsRunText, IsReceiveText, IsAuditText, IsCheckText, IsTidyText, IsWitnessText, IsTextOf, IsFormText, IsTextFor}
 use Rattle.bus_tool.specs.TextLaws.{OneCommandText, AnswersHaveTexts}
@@ -102,6 +108,8 @@ form_once : TextLaws → (form : Form) (first second text other : List ℕ) → 
 form_once laws Check first second text other h k = k.2 ∙ ap (λ table. verdict_line (verdict_of table)) (same_value (table_due first) h.0 k.0 h.1 k.1) ∙ sym h.2
 form_once laws Tidy first second text other h k = k.2 ∙ ap table_text (same_value (table_due first) h.0 k.0 h.1 k.1) ∙ sym h.2
 form_once laws Witness first second text other h k = k.2 ∙ ap (λ table. messages_text (witness_of table)) (same_value (table_due first) h.0 k.0 h.1 k.1) ∙ sym h.2
+form_once laws Plan first second text other h k =
+    k.2 ∙ ap (λ table. plan_text (plan_of table)) (same_value (table_in Periodic first) h.0 k.0 h.1 k.1) ∙ sym h.2
 form_once laws (Observe horizon) first second text other h k =
     observe_once h.0 horizon (list_of laws first second h.0 horizon h.1) text other h.2
     (subst (λ inputs. IsObserveText horizon inputs other) (same_value (inputs_due first second) h.0 k.0 h.1 k.1) k.2)
@@ -125,6 +133,9 @@ form_has : TextLaws → (form : Form) (first second : List ℕ) → is_written (
 form_has laws Check first second h = text_with (λ table. verdict_outcome (verdict_of table)) IsCheckText (table_due first) (λ o e. table_unwritten first o e) (λ table e. (verdict_line (verdict_of table), refl)) h
 form_has laws Tidy first second h = text_with (λ table. Done) IsTidyText (table_due first) (λ o e. table_unwritten first o e) (λ table e. (table_text table, refl)) h
 form_has laws Witness first second h = text_with (λ table. Done) IsWitnessText (table_due first) (λ o e. table_unwritten first o e) (λ table e. (messages_text (witness_of table), refl)) h
+form_has laws Plan first second h =
+    text_with (λ table. plan_outcome (plan_of table)) IsPlanText (table_in Periodic first) (λ o e. mode_unwritten Periodic first o e)
+    (λ table e. (plan_text (plan_of table), refl)) h
 form_has laws (Observe horizon) first second h = text_with (λ inputs. Done) (IsObserveText horizon) (inputs_due first second) (λ o e. inputs_unwritten first second o e) (λ inputs e. observe_text inputs horizon (list_of laws first second inputs horizon e)) h
 form_has laws Run first second h = text_with (λ inputs. Done) IsRunText (run_due first second) (λ o e. run_unwritten first second o e) (λ inputs e. ran_text laws first second inputs e) h
 form_has laws Receive first second h =

@@ -1,9 +1,10 @@
 -- The cause of each refusal, by the relation between a value and its texts and not by how they are read. Which of several comes is the
 -- order of `Due`.
-use Rattle.std.specs.Prelude.{◌≡◌, ℕ, ◌<◌, false, IsTrue, List, IfSome, Some, Ok, Err}
+use Rattle.std.specs.Prelude.{◌≡◌, ◌≢◌, ℕ, ◌<◌, false, IsTrue, List, IfSome, Some, Ok, Err}
 use Rattle.bus_strings.specs.Items.{Item}
 use Rattle.bus_strings.specs.Grammar.{IsMessagesText}
 use Rattle.bus_table.specs.declared.fit.FitError.{FitError}
+use Rattle.bus_table.specs.declared.mode.Mode.{Mode}
 use Rattle.bus_table.specs.declared.error.WholeReason.{WholeReason}
 use Rattle.bus_table.specs.Tables.{Table}
 use Rattle.bus_table.specs.Fits.{items_fit}
@@ -34,6 +35,13 @@ pub record IsWrongTableText (reason : WholeReason) (text : List ℕ) : Type 0 wh
   pub table : Table
   pub stands : IsTableText table text
   pub why : whole_refusal table ≡ Some reason
+
+-- a valid table has the text, whose mode isn't the one that is needed
+pub record IsOtherModeText (needed : Mode) (text : List ℕ) : Type 0 where
+  pub table : Table
+  pub stands : IsTableText table text
+  pub valid : IsTrue (is_valid table)
+  pub why : table.mode ≢ needed
 
 -- no items have the text
 abbrev pub IsNoMessagesText : List ℕ → Type 0
@@ -83,6 +91,7 @@ RefusesTexts (outcome.Refused verdict) first second = AreTextsWith (IsRefusal ve
 RefusesTexts outcome.Usage first second = Unit {0}
 RefusesTexts (outcome.TableText line reason) first second = IsNoTableText first
 RefusesTexts (outcome.TableWhole reason) first second = IsWrongTableText reason first
+RefusesTexts (outcome.TableMode needed) first second = IsOtherModeText needed first
 RefusesTexts (outcome.MessagesText line reason) first second = IsNoMessagesText second
 RefusesTexts (outcome.Unfit error) first second = IsUnfitText error first second
 RefusesTexts (outcome.Uneven one one_count other other_count) first second =
@@ -107,6 +116,7 @@ RefusesText (outcome.Refused verdict) first = Unit {0}
 RefusesText outcome.Usage first = Unit {0}
 RefusesText (outcome.TableText line reason) first = IsNoTableText first
 RefusesText (outcome.TableWhole reason) first = IsWrongTableText reason first
+RefusesText (outcome.TableMode needed) first = IsOtherModeText needed first
 RefusesText (outcome.MessagesText line reason) first = Unit {0}
 RefusesText (outcome.Unfit error) first = Unit {0}
 RefusesText (outcome.Uneven one one_count other other_count) first = Unit {0}

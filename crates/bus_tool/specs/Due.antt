@@ -1,5 +1,5 @@
 -- What is due for given words and texts: the outcome, where nothing outside fails and memory is granted.
-use Rattle.std.specs.Prelude.{ℕ, nat_lt, List, length, Option, Some, None, Result, Ok, Err, if◌then◌else◌}
+use Rattle.std.specs.Prelude.{ℕ, Bool, true, false, nat_lt, List, length, Option, Some, None, Result, Ok, Err, if◌then◌else◌}
 use Rattle.bus_text.specs.AllOf.{◌>>=◌}
 use Rattle.bus_text.specs.Refusals.{Refusal}
 use Rattle.bus_strings.specs.Items.{Item}
@@ -9,6 +9,8 @@ use Rattle.bus_strings.specs.declared.fault.MessagesError.TheVariants.{Text as N
 use Rattle.bus_table.specs.declared.error.TableError.{TableError}
 use Rattle.bus_table.specs.declared.error.TableError.TheVariants.{Text, Whole, Memory}
 use Rattle.bus_table.specs.declared.fit.FitError.{FitError}
+use Rattle.bus_table.specs.declared.mode.Mode.{Mode}
+use Rattle.bus_table.specs.declared.mode.Mode.TheVariants.{Aperiodic, Periodic}
 use Rattle.bus_table.specs.Tables.{Table, Hand}
 use Rattle.bus_table.specs.Fits.{items_fit}
 use Rattle.bus_table.specs.Hands.{hands_of}
@@ -16,6 +18,9 @@ use Rattle.bus_table.specs.Reading.{answer_of as table_answer}
 use Rattle.bus_regime.specs.declared.table_verdict.TableVerdict.{TableVerdict}
 use Rattle.bus_regime.specs.declared.table_verdict.TableVerdict.TheVariants.{Accept, ShortCycle, SmallGap, NoSync}
 use Rattle.bus_regime.specs.Verdicts.{verdict_of, is_accepted}
+use Rattle.bus_plan.specs.declared.planning.PlanAnswer.{PlanAnswer}
+use Rattle.bus_plan.specs.declared.planning.PlanAnswer.TheVariants.{Planned, Infeasible}
+use Rattle.bus_plan.specs.Answers.{plan_of}
 use Rattle.bus_schedule.specs.declared.error.ScheduleError.{ScheduleError}
 use Rattle.bus_schedule.specs.declared.error.ScheduleError.TheVariants.{Memory as Small, TooLong as Long}
 use Rattle.bus_schedule.specs.declared.uneven.Uneven.{Uneven as UnevenHands}
@@ -31,10 +36,11 @@ use Rattle.bus_audit.specs.declared.answer.AuditAnswer.{AuditAnswer}
 use Rattle.bus_audit.specs.declared.answer.AuditAnswer.TheVariants.{Lawful, Breach}
 use Rattle.bus_audit.specs.Breaches.{answer_of}
 use Rattle.bus_tool.specs.declared.forms.Form.{Form}
-use Rattle.bus_tool.specs.declared.forms.Form.TheVariants.{Check, Tidy, Witness, Observe, Run, Receive, Audit}
+use Rattle.bus_tool.specs.declared.forms.Form.TheVariants.{Check, Tidy, Witness, Plan, Observe, Run, Receive, Audit}
 use Rattle.bus_tool.specs.declared.outcome.Outcome.{Outcome}
-use Rattle.bus_tool.specs.declared.outcome.Outcome.TheVariants.{Done, Answered, Refused, Usage, TableText, TableWhole, MessagesText}
-use Rattle.bus_tool.specs.declared.outcome.Outcome.TheVariants.{Unfit, Uneven, TraceText, ReadFault, NoMemory, TooLarge, TooLong}
+use Rattle.bus_tool.specs.declared.outcome.Outcome.TheVariants.{Done, Answered, Refused, Usage, TableText, TableWhole, TableMode}
+use Rattle.bus_tool.specs.declared.outcome.Outcome.TheVariants.{MessagesText, Unfit, Uneven, TraceText, ReadFault, NoMemory, TooLarge}
+use Rattle.bus_tool.specs.declared.outcome.Outcome.TheVariants.{TooLong}
 use Rattle.bus_tool.specs.Forms.{form_of}
 use Rattle.bus_tool.specs.Readers.{text_limit}
 use Rattle.bus_tool.specs.Stages.{refusal_in}
@@ -62,6 +68,25 @@ table_due text = text_due 1 text >>= λ whole. table_or_refusal (table_answer wh
 -- why the first text is refused
 abbrev pub table_refusal_of : List ℕ → Option Outcome
 table_refusal_of text = refusal_in (table_due text)
+
+-- whether a mode is the one that is needed
+abbrev pub is_mode : Mode → Mode → Bool
+is_mode Aperiodic Aperiodic = true
+is_mode Aperiodic Periodic = false
+is_mode Periodic Aperiodic = false
+is_mode Periodic Periodic = true
+
+-- a table, where its mode is the one that is needed
+abbrev pub mode_or_refusal : Mode → Table → Result Table Outcome
+mode_or_refusal needed table = if is_mode needed table.mode then Ok table else Err (TableMode needed)
+
+-- the table of the first text, where it is of this mode
+abbrev pub table_in : Mode → List ℕ → Result Table Outcome
+table_in needed text = table_due text >>= mode_or_refusal needed
+
+-- why the first text is refused, where a table of this mode is needed
+abbrev pub refusal_of_mode : Mode → List ℕ → Option Outcome
+refusal_of_mode needed text = refusal_in (table_in needed text)
 
 -- ---- the second text, where it is one of messages
 -- why a messages text is refused
@@ -180,6 +205,11 @@ verdict_outcome (ShortCycle least ti) = Answered
 verdict_outcome (SmallGap terminal gap needed) = Answered
 verdict_outcome (NoSync terminal gap needed) = Answered
 
+-- yes where there is a plan, else no
+abbrev pub plan_outcome : PlanAnswer → Outcome
+plan_outcome (Planned table) = Done
+plan_outcome (Infeasible least ti) = Answered
+
 -- yes where nothing is found against the trace, else no
 abbrev pub audit_outcome : AuditAnswer → Outcome
 audit_outcome (Lawful collided) = Done
@@ -199,6 +229,7 @@ abbrev pub form_due : Form → List ℕ → List ℕ → Outcome
 form_due Check first second = outcome_with (λ table. verdict_outcome (verdict_of table)) (table_due first)
 form_due Tidy first second = outcome_with (λ table. Done) (table_due first)
 form_due Witness first second = outcome_with (λ table. Done) (table_due first)
+form_due Plan first second = outcome_with (λ table. plan_outcome (plan_of table)) (table_in Periodic first)
 form_due (Observe horizon) first second = outcome_with (λ inputs. Done) (inputs_due first second)
 form_due Run first second = outcome_with (λ inputs. Done) (run_due first second)
 form_due Receive first second = outcome_with (λ traced. Done) (traced_due first second)
@@ -209,6 +240,7 @@ abbrev pub first_refusal : Form → List ℕ → Option Outcome
 first_refusal Check first = table_refusal_of first
 first_refusal Tidy first = table_refusal_of first
 first_refusal Witness first = table_refusal_of first
+first_refusal Plan first = refusal_of_mode Periodic first
 first_refusal (Observe horizon) first = table_refusal_of first
 first_refusal Run first = table_refusal_of first
 first_refusal Receive first = table_refusal_of first

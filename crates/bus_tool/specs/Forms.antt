@@ -8,7 +8,7 @@ use Rattle.bus_text.specs.Numbers.{is_plain_decimal, decimal_value}
 use Rattle.bus_strings.specs.Limits.{horizon_limit}
 use Rattle.bus_tool.specs.Readers.{Named, Trace, entire, one_source, two_sources}
 use Rattle.bus_tool.specs.declared.forms.Form.{Form}
-use Rattle.bus_tool.specs.declared.forms.Form.TheVariants.{Check, Tidy, Witness, Observe, Run, Receive, Audit}
+use Rattle.bus_tool.specs.declared.forms.Form.TheVariants.{Check, Tidy, Witness, Plan, Observe, Run, Receive, Audit}
 
 -- the words of the program, as bytes
 abbrev pub words_of : List (String Global) → List (List ℕ)
@@ -18,12 +18,13 @@ words_of words = map string_bytes words
 abbrev pub is_horizon : List ℕ → Bool
 is_horizon word = is_plain_decimal word && nat_le (decimal_value word) horizon_limit
 
--- `check T`, `tidy T`, `witness T`
+-- `check T`, `tidy T`, `witness T`, `plan T`
 abbrev pub two_words : List ℕ → Option Form
 two_words command =
     if bytes_eq command (codes "check") then Some Check
     else if bytes_eq command (codes "tidy") then Some Tidy
     else if bytes_eq command (codes "witness") then Some Witness
+    else if bytes_eq command (codes "plan") then Some Plan
     else None
 
 -- `run T M`, `receive T R`, `audit T R`
@@ -51,6 +52,7 @@ abbrev pub sources_of : Form → Named
 sources_of Check = one_source entire
 sources_of Tidy = one_source entire
 sources_of Witness = one_source entire
+sources_of Plan = one_source entire
 sources_of (Observe horizon) = two_sources entire entire
 sources_of Run = two_sources entire entire
 sources_of Receive = two_sources entire Trace
@@ -61,6 +63,7 @@ abbrev pub IsWithinLimits : Form → Type 0
 IsWithinLimits Check = Unit {0}
 IsWithinLimits Tidy = Unit {0}
 IsWithinLimits Witness = Unit {0}
+IsWithinLimits Plan = Unit {0}
 IsWithinLimits (Observe horizon) = horizon ≤ horizon_limit
 IsWithinLimits Run = Unit {0}
 IsWithinLimits Receive = Unit {0}

@@ -24,6 +24,7 @@ kind_of (outcome.Refused verdict) = Late
 kind_of outcome.Usage = NoForm
 kind_of (outcome.TableText line reason) = Wrong 1
 kind_of (outcome.TableWhole reason) = Wrong 1
+kind_of (outcome.TableMode needed) = Wrong 1
 kind_of (outcome.MessagesText line reason) = Wrong 2
 kind_of (outcome.Unfit error) = Wrong 2
 kind_of (outcome.Uneven one one_count other other_count) = Late

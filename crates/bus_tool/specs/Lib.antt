@@ -18,3 +18,5 @@ pub mod RunClaims
 pub mod TraceClaims
 pub mod TextLaws
 pub mod TableClaims
+pub mod PlanTexts
+pub mod PlanClaims

@@ -11,13 +11,13 @@ use Rattle.bus_table.specs.declared.error.WholeReason.TheVariants.{NoSender, Num
 use Rattle.bus_trace.specs.declared.reason.TraceReason.{TraceReason}
 use Rattle.bus_trace.specs.declared.reason.TraceReason.TheVariants as trace
 use Rattle.bus_regime.specs.declared.table_verdict.TableVerdict.{TableVerdict}
-use Rattle.bus_regime.specs.Lines.{verdict_line}
+use Rattle.bus_regime.specs.Lines.{mode_name, verdict_line}
 use Rattle.bus_tool.specs.declared.status.Status.{Status}
 use Rattle.bus_tool.specs.declared.status.Status.TheVariants as status
 use Rattle.bus_tool.specs.declared.outcome.Outcome.{Outcome}
-use Rattle.bus_tool.specs.declared.outcome.Outcome.TheVariants.{Done, Answered, Refused, Usage, TableText, TableWhole, MessagesText}
-use Rattle.bus_tool.specs.declared.outcome.Outcome.TheVariants.{Unfit, Uneven, TraceText, ReadFault, WriteFault, NoMemory, TooLarge}
-use Rattle.bus_tool.specs.declared.outcome.Outcome.TheVariants.{TooLong}
+use Rattle.bus_tool.specs.declared.outcome.Outcome.TheVariants.{Done, Answered, Refused, Usage, TableText, TableWhole, TableMode}
+use Rattle.bus_tool.specs.declared.outcome.Outcome.TheVariants.{MessagesText, Unfit, Uneven, TraceText, ReadFault, WriteFault, NoMemory}
+use Rattle.bus_tool.specs.declared.outcome.Outcome.TheVariants.{TooLarge, TooLong}
 use Rattle.bus_tool.specs.Kinds.{kind_of, is_answer}
 use Rattle.bus_tool.specs.Statuses.{number_of}
 
@@ -29,6 +29,7 @@ status_of (Refused verdict) = status.Refused
 status_of Usage = status.Usage
 status_of (TableText line reason) = status.TableRefused
 status_of (TableWhole reason) = status.TableRefused
+status_of (TableMode needed) = status.TableRefused
 status_of (MessagesText line reason) = status.InputRefused
 status_of (Unfit error) = status.InputRefused
 status_of (Uneven one one_count other other_count) = status.InputRefused
@@ -89,6 +90,7 @@ fault_words (Refused verdict) = []
 fault_words Usage = codes "usage"
 fault_words (TableText line reason) = codes "table line " ++ decimal line ++ 32 ∷ [] ++ reason_name reason
 fault_words (TableWhole reason) = codes "table " ++ whole_words reason
+fault_words (TableMode needed) = codes "table mode " ++ mode_name needed
 fault_words (MessagesText line reason) = codes "messages line " ++ decimal line ++ 32 ∷ [] ++ reason_name reason
 fault_words (Unfit error) = codes "messages item " ++ fit_words error
 fault_words (Uneven one one_count other other_count) =
@@ -116,6 +118,7 @@ refused_verdict (Refused verdict) = Some verdict
 refused_verdict Usage = None
 refused_verdict (TableText line reason) = None
 refused_verdict (TableWhole reason) = None
+refused_verdict (TableMode needed) = None
 refused_verdict (MessagesText line reason) = None
 refused_verdict (Unfit error) = None
 refused_verdict (Uneven one one_count other other_count) = None

@@ -7,6 +7,9 @@ use Rattle.bus_strings.specs.Canonical.{messages_text}
 use Rattle.bus_strings.specs.Items.{Item}
 use Rattle.bus_table.specs.Tables.{Table, Hand}
 use Rattle.bus_table.specs.Canonical.{table_text}
+use Rattle.bus_table.specs.declared.mode.Mode.TheVariants.{Periodic}
+use Rattle.bus_plan.specs.declared.planning.PlanAnswer.{PlanAnswer}
+use Rattle.bus_plan.specs.Answers.{plan_of}
 use Rattle.bus_regime.specs.Verdicts.{verdict_of}
 use Rattle.bus_regime.specs.Lines.{verdict_line}
 use Rattle.bus_regime.specs.Witness.{witness_of}
@@ -19,12 +22,13 @@ use Rattle.bus_filter.specs.ReceivedTexts.{received_text}
 use Rattle.bus_trace.specs.declared.hold.Hold.{Hold}
 use Rattle.bus_trace.specs.Traces.{Recording, trace_text}
 use Rattle.bus_tool.specs.declared.forms.Form.{Form}
-use Rattle.bus_tool.specs.declared.forms.Form.TheVariants.{Check, Tidy, Witness, Observe, Run, Receive, Audit}
+use Rattle.bus_tool.specs.declared.forms.Form.TheVariants.{Check, Tidy, Witness, Plan, Observe, Run, Receive, Audit}
 use Rattle.bus_tool.specs.declared.outcome.Outcome.{Outcome}
 use Rattle.bus_tool.specs.Forms.{form_of}
 use Rattle.bus_tool.specs.declared.inputs.Traced.{Traced as Ran}
-use Rattle.bus_tool.specs.Due.{Inputs, hands_in, Traced, table_due, inputs_due, run_due, traced_due, audit_of}
+use Rattle.bus_tool.specs.Due.{Inputs, hands_in, Traced, table_due, table_in, inputs_due, run_due, traced_due, audit_of}
 use Rattle.bus_tool.specs.AuditLines.{audit_line}
+use Rattle.bus_tool.specs.PlanTexts.{plan_text}
 
 -- the number of a hand's terminal and how many messages it has
 abbrev pub hold_of : Hand → Hold
@@ -99,6 +103,14 @@ AreWitnessOf items table = items ≡ witness_of table
 abbrev pub IsWitnessText : Table → List ℕ → Type 0
 IsWitnessText table text = text ≡ messages_text (witness_of table)
 
+-- what a planner answers to a table
+abbrev pub IsPlanOf : PlanAnswer → Table → Type 0
+IsPlanOf answer table = answer ≡ plan_of table
+
+-- the text of what a planner answers
+abbrev pub IsPlanText : Table → List ℕ → Type 0
+IsPlanText table text = text ≡ plan_text (plan_of table)
+
 -- what an audit finds of a table and a trace
 abbrev pub IsAnswerOf : AuditAnswer → Traced → Type 0
 IsAnswerOf answer traced = answer ≡ audit_of traced
@@ -116,6 +128,7 @@ abbrev pub IsFormText : Form → List ℕ → List ℕ → List ℕ → Type 0
 IsFormText Check first second text = IsTextOf IsCheckText (table_due first) text
 IsFormText Tidy first second text = IsTextOf IsTidyText (table_due first) text
 IsFormText Witness first second text = IsTextOf IsWitnessText (table_due first) text
+IsFormText Plan first second text = IsTextOf IsPlanText (table_in Periodic first) text
 IsFormText (Observe horizon) first second text = IsTextOf (IsObserveText horizon) (inputs_due first second) text
 IsFormText Run first second text = IsTextOf IsRunText (run_due first second) text
 IsFormText Receive first second text = IsTextOf IsReceiveText (traced_due first second) text

@@ -7,6 +7,7 @@ use crate::check::check;
 use crate::forms::{Form, form_of};
 use crate::observe::observe;
 use crate::outcome::Outcome;
+use crate::plan::plan;
 use crate::receive::receive;
 use crate::run::run;
 use crate::tidy::tidy;
@@ -39,6 +40,7 @@ pub fn act<S: Source, K: Sink>(
         Some(Form::Check) => check(alloc, first, out),
         Some(Form::Tidy) => tidy(alloc, first, out),
         Some(Form::Witness) => witness(alloc, first, out),
+        Some(Form::Plan) => plan(alloc, first, out),
         Some(Form::Observe { horizon }) => observe(alloc, horizon, first, second, out),
         Some(Form::Run) => run(alloc, first, second, out),
         Some(Form::Receive) => receive(alloc, first, second, out),

@@ -5,6 +5,7 @@ ghost use Rattle.bus_tool.specs.Outcomes.{reason_name, trace_reason_name, pair_w
 ghost use Rattle.bus_tool.specs.Outcomes.{status_of, error_line, plain_line, fault_line};
 ghost use Rattle.bus_text.specs.Digits.{hex_digit, hexadecimal};
 ghost use Rattle.bus_tool.specs.Statuses.{number_of};
+ghost use Rattle.bus_regime.specs.Lines.{mode_name};
 ghost use Rattle.std.specs.Prelude.{List, [], ◌∷◌, ◌++◌, decimal};
 
 use crate::outcome::Outcome;
@@ -12,6 +13,7 @@ use bus_outer::{Sink, TextBuffer, WriteFault};
 use bus_regime::write_verdict;
 use bus_table::error::WholeReason;
 use bus_table::fit::FitError;
+use bus_table::mode::Mode;
 use bus_text::digits::{hex_digit as digit, three_digits};
 use bus_text::reason::Reason;
 use bus_trace::TraceReason;
@@ -216,6 +218,24 @@ fn put_table_whole<K: Sink>(text: &mut TextBuffer, sink: &mut K, reason: WholeRe
     put_whole(text, sink, reason);
 }
 
+/// Puts the word of a mode.
+fn put_mode<K: Sink>(text: &mut TextBuffer, sink: &mut K, mode: Mode)
+    ensures { Adds K.held K.faults sink.old sink.new text.old text.new (mode_name mode) }
+{
+    match mode {
+        Mode::Aperiodic => text.put(sink, b"aperiodic"),
+        Mode::Periodic => text.put(sink, b"periodic"),
+    }
+}
+
+/// Puts that a table isn't of the mode that is needed.
+fn put_table_mode<K: Sink>(text: &mut TextBuffer, sink: &mut K, needed: Mode)
+    ensures { Adds K.held K.faults sink.old sink.new text.old text.new (fault_words (Outcome.TableMode needed)) }
+{
+    text.put(sink, b"table mode ");
+    put_mode(text, sink, needed);
+}
+
 /// Puts what a fault line says behind the status.
 fn put_words<K: Sink>(text: &mut TextBuffer, sink: &mut K, outcome: &Outcome)
     ensures { Adds K.held K.faults sink.old sink.new text.old text.new (fault_words outcome.now) }
@@ -225,6 +245,7 @@ fn put_words<K: Sink>(text: &mut TextBuffer, sink: &mut K, outcome: &Outcome)
         Outcome::Usage => text.put(sink, b"usage"),
         Outcome::TableText { line, reason } => put_table_text(text, sink, line, reason),
         Outcome::TableWhole(reason) => put_table_whole(text, sink, reason),
+        Outcome::TableMode { needed } => put_table_mode(text, sink, needed),
         Outcome::MessagesText { line, reason } => put_messages_text(text, sink, line, reason),
         Outcome::Unfit(error) => put_unfit(text, sink, error),
         Outcome::Uneven {

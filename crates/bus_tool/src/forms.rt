@@ -16,6 +16,8 @@ pub enum Form {
     Tidy,
     /// `witness T`: the messages with which the table in `T` fails, where it is refused.
     Witness,
+    /// `plan T`: the periodic table in the file `T` with offsets chosen anew, or that no offsets are accepted.
+    Plan,
     /// `observe T M N`: what the senders of the table in `T` do with the messages in `M`, in the bit times before N.
     Observe {
         /// N: at most 1,099,511,627,776.
@@ -53,6 +55,8 @@ fn two_words(command: &str) -> Option<Form>
         Some(Form::Tidy)
     } else if command == "witness" {
         Some(Form::Witness)
+    } else if command == "plan" {
+        Some(Form::Plan)
     } else {
         None
     }

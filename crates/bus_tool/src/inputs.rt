@@ -2,6 +2,8 @@
 ghost use Rattle.std.specs.Prelude.{◌≡◌, ◌≤◌, length, IfOk, IsTrue};
 ghost use Rattle.std.specs.List.{AllByRecursion};
 ghost use Rattle.bus_table.specs.Hands.{are_hands};
+ghost use Rattle.bus_tool.specs.Due as due;
+ghost use Rattle.bus_tool.specs.Due.{mode_or_refusal, table_in};
 ghost use Rattle.bus_tool.specs.Due.{text_due, table_due, table_refusal_of, items_due, inputs_due, trace_due, traced_due};
 ghost use Rattle.bus_tool.specs.Outside.{source_seen, sources_seen};
 ghost use Rattle.bus_tool.specs.Readers.{text_limit, Trace as ByTrace, entire, two_sources};
@@ -15,6 +17,7 @@ use bus_strings::reading::read_messages;
 use bus_table::fit::fits;
 use bus_table::hand::Hand;
 use bus_table::hands;
+use bus_table::mode::Mode;
 use bus_table::reading::read_table;
 use bus_table::table::Table;
 use bus_trace::{Trace, read_trace};
@@ -68,6 +71,41 @@ pub fn take_table<S: Source>(alloc: Global, first: &mut S) -> Result<Table, Outc
     let text = take_text(alloc, 1, first)?;
     let table = read_table(alloc, &text)?;
     Ok(table)
+}
+
+/// Whether a mode is the one that is needed.
+fn is_mode(needed: Mode, mode: Mode) -> bool
+    ensures { result ≡ due.is_mode needed mode }
+{
+    match (needed, mode) {
+        (Mode::Aperiodic, Mode::Aperiodic) | (Mode::Periodic, Mode::Periodic) => true,
+        (Mode::Aperiodic, Mode::Periodic) | (Mode::Periodic, Mode::Aperiodic) => false,
+    }
+}
+
+/// The table that was taken, where it is of the mode that is needed.
+fn in_mode(needed: Mode, taken: Table) -> Result<Table, Outcome>
+    ensures { result ≡ mode_or_refusal needed taken }
+{
+    if is_mode(needed, taken.mode()) {
+        Ok(taken)
+    } else {
+        Err(Outcome::TableMode { needed })
+    }
+}
+
+/// The table in the first source, which is of the mode that is needed, or why there is none.
+pub fn take_table_in<S: Source>(
+    alloc: Global,
+    needed: Mode,
+    first: &mut S,
+) -> Result<Table, Outcome>
+    ensures takes { Takes Same 1 entire (table_in needed)
+        (source_seen ⟦<S as Source>⟧ first.old) (source_seen ⟦<S as Source>⟧ first.new) result }
+    ensures mode { IfOk result (λ table. table.mode ≡ needed) }
+{
+    let table = take_table(alloc, first)?;
+    in_mode(needed, table)
 }
 
 /// The hands that the messages text in the second source gives the senders of a table, or why there are none.

@@ -22,6 +22,9 @@ mod observe;
 #[cfg(test)]
 mod observe_tests;
 mod outcome;
+mod plan;
+#[cfg(test)]
+mod plan_tests;
 mod receive;
 #[cfg(test)]
 mod receive_tests;

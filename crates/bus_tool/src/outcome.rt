@@ -7,6 +7,7 @@ use bus_schedule::{ScheduleError, Uneven};
 use bus_strings::fault::MessagesError;
 use bus_table::error::{TableError, WholeReason};
 use bus_table::fit::FitError;
+use bus_table::mode::Mode;
 use bus_text::reason::Reason;
 use bus_trace::{TraceError, TraceReason};
 use std::alloc::AllocError;
@@ -29,6 +30,10 @@ pub enum Outcome {
     },
     /// The first text is a table text of no valid table.
     TableWhole(WholeReason),
+    /// The table isn't of the mode that the command needs, which is this one.
+    TableMode {
+        needed: Mode,
+    },
     /// The second text is no messages text: the offending line, counted from 1, and why.
     MessagesText {
         line: u64,
@@ -85,6 +90,7 @@ impl Outcome {
             | Outcome::Usage
             | Outcome::TableText { .. }
             | Outcome::TableWhole(_)
+            | Outcome::TableMode { .. }
             | Outcome::MessagesText { .. }
             | Outcome::Unfit(_)
             | Outcome::Uneven { .. }
@@ -105,7 +111,8 @@ impl Outcome {
             Outcome::Done => Status::Done,
             Outcome::Answered | Outcome::Refused(_) => Status::Refused,
             Outcome::Usage => Status::Usage,
-            Outcome::TableText { .. } | Outcome::TableWhole(_) => Status::TableRefused,
+            Outcome::TableText { .. } | Outcome::TableWhole(_) | Outcome::TableMode { .. } =>
+                Status::TableRefused,
             Outcome::MessagesText { .. }
             | Outcome::Unfit(_)
             | Outcome::Uneven { .. }

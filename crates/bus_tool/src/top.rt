@@ -5,6 +5,7 @@ ghost use Rattle.bus_tool.specs.Acts.{Acts, TellsFault};
 ghost use Rattle.bus_tool.specs.Claims.{IsCheckOf, GivesVerdict, TellsSettled, IsObserveOf, GivesTrace, IsWitnessCallOf, GivesWitness};
 ghost use Rattle.bus_tool.specs.Forms.{words_of};
 ghost use Rattle.bus_tool.specs.Outcomes.{status_of};
+ghost use Rattle.bus_tool.specs.PlanClaims.{IsPlanCallOf, GivesPlan};
 ghost use Rattle.bus_tool.specs.RunClaims.{IsRunOf, GivesRun};
 ghost use Rattle.bus_tool.specs.Outside.{called, outside};
 ghost use Rattle.bus_tool.specs.TableClaims.{IsTidyOf, GivesTidied};
@@ -18,9 +19,12 @@ use crate::status::Status;
 use bus_audit::laws::{no_breach_is_right, one_answer};
 use bus_medium::laws::one_lawful_list;
 use bus_outer::{Sink, Source};
+use bus_plan::laws::{planned_is_accepted, short_is_refused};
 use bus_schedule::laws::{even_hands_agree, verdicts_are_exact};
 use bus_strings::laws::texts_read_as_their_items;
-use bus_table::laws::{fitting_items_give_hands, text_reads_as_its_table};
+use bus_table::laws::{
+    canonical_text_reads_as_its_table, fitting_items_give_hands, text_reads_as_its_table,
+};
 use bus_trace::laws::traces_read_back;
 use std::alloc::Global;
 
@@ -49,6 +53,12 @@ pub fn tool<S: Source, K: Sink, E: Sink>(
     ensures tidy { let call = called (words_of words.now) (outside ⟦<S as Source>⟧ ⟦<K as Sink>⟧ first.old second.old out.old)
         (outside ⟦<S as Source>⟧ ⟦<K as Sink>⟧ first.new second.new out.new) in
         (table : Table) → IsTidyOf table call → GivesTidied table call result }
+
+    // `plan T` of a valid periodic table's text, where nothing outside fails: the planned table, which is accepted, or that no offsets are,
+    // or want of memory.
+    ensures plan { let call = called (words_of words.now) (outside ⟦<S as Source>⟧ ⟦<K as Sink>⟧ first.old second.old out.old)
+        (outside ⟦<S as Source>⟧ ⟦<K as Sink>⟧ first.new second.new out.new) in
+        (table : Table) → IsPlanCallOf table call → GivesPlan table call result }
 
     // `observe T M N` of texts of a valid table and of items that fit, where nothing outside fails: the one trace, or want of memory.
     ensures observe { let call = called (words_of words.now) (outside ⟦<S as Source>⟧ ⟦<K as Sink>⟧ first.old second.old out.old)
@@ -79,6 +89,9 @@ pub fn tool<S: Source, K: Sink, E: Sink>(
 {
     text_reads_as_its_table();
     texts_read_as_their_items();
+    canonical_text_reads_as_its_table();
+    planned_is_accepted();
+    short_is_refused();
     fitting_items_give_hands();
     one_lawful_list();
     traces_read_back();

@@ -1,6 +1,6 @@
 use Rattle.std.proofs.Common.{ap, sym, ◌∙◌}
 use Rattle.std.specs.Prelude.{Some}
-use Rattle.bus_tool.specs.declared.forms.Form.TheVariants.{Check, Tidy, Witness, Observe, Run, Receive, Audit}
+use Rattle.bus_tool.specs.declared.forms.Form.TheVariants.{Check, Tidy, Witness, Plan, Observe, Run, Receive, Audit}
 use Rattle.bus_tool.proofs.ActLemmas.{acts_form}
 use Rattle.bus_tool.proofs.command.act.Goals as goal
 
@@ -30,6 +30,15 @@ returns-in-Some-Witness g c = acts_form (record {
   reads_items = c.texts_read_as_their_items.ensures.found;
   trace_back = c.traces_read_back.ensures.back;
 }) _ c.witness.result Witness (ap Some (sym c.in-Some-Witness.field-0-is) ∙ c.in-Some-Witness.ensures.form) (c.witness.ensures _)
+
+pub returns-in-Some-Plan : goal.returns-in-Some-Plan
+returns-in-Some-Plan g c = acts_form (record {
+  reads_table = c.readings_have_their_cause.ensures.found;
+  refuses_table = c.readings_have_their_cause.ensures.refused;
+  items_again = c.texts_read_as_their_items.ensures.again;
+  reads_items = c.texts_read_as_their_items.ensures.found;
+  trace_back = c.traces_read_back.ensures.back;
+}) _ c.plan.result Plan (ap Some (sym c.in-Some-Plan.field-0-is) ∙ c.in-Some-Plan.ensures.form) (c.plan.ensures _)
 
 pub returns-in-Some-Observe : goal.returns-in-Some-Observe
 returns-in-Some-Observe g c = acts_form (record {

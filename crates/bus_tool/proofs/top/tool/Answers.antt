@@ -1,6 +1,7 @@
 use Rattle.bus_tool.proofs.CheckClaim.{CheckLaws, check_claim}
 use Rattle.bus_tool.proofs.TidyClaim.{tidy_claim}
 use Rattle.bus_tool.proofs.WitnessClaim.{witness_claim}
+use Rattle.bus_tool.proofs.PlanClaim.{PlanLaws, plan_claim}
 use Rattle.bus_tool.proofs.ObserveClaim.{ObserveLaws, observe_claim}
 use Rattle.bus_tool.proofs.ReceiveClaim.{TracedLaws, receive_claim}
 use Rattle.bus_tool.proofs.AuditClaim.{AuditLaws, audit_claim}
@@ -21,6 +22,16 @@ returns-clause-witness g c = λ table h. rw c.status.ensures (witness_claim c.te
 
 pub returns-clause-tidy : goal.returns-clause-tidy
 returns-clause-tidy g c = λ table h. rw c.status.ensures (tidy_claim c.text_reads_as_its_table.ensures _ c.act-outcome.result table c.act-outcome.ensures h)
+
+pub returns-clause-plan : goal.returns-clause-plan
+returns-clause-plan g c =
+    let laws : PlanLaws = record {
+      table_again = c.text_reads_as_its_table.ensures;
+      text_stands = c.canonical_text_reads_as_its_table.ensures.stands;
+      accepted = c.planned_is_accepted.ensures;
+      refused = c.short_is_refused.ensures;
+    } in
+    λ table h. rw c.status.ensures (plan_claim laws _ c.act-outcome.result table c.act-outcome.ensures h)
 
 pub returns-clause-observe : goal.returns-clause-observe
 returns-clause-observe g c =
