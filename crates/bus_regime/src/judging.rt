@@ -51,8 +51,9 @@ fn by_cycles(table: &Table) -> TableVerdict
 /// The verdict on a table, by this project's profile. It takes no memory.
 ///
 /// An aperiodic table is refused where its shortest cycle is below the transmit interval. A periodic table is refused where a
-/// gap, taken with longest messages, is below its sender's terminal gap; and where none is, if neither another sender's gap
-/// nor its own gives some sender its synchronization gap. The first such sender in turn order is named.
+/// gap, taken with longest messages, is below its sender's terminal gap; and where none is, if for some sender no other
+/// sender's gap has a synchronization gap, and its own has none with its terminal gap behind it. The first such sender in
+/// turn order is named.
 pub fn verdict(table: &Table) -> TableVerdict
     ensures { result ≡ verdict_of table.now }
 {

@@ -3,7 +3,8 @@
 //! [`verdict`] gives it, by the lengths of cycles in aperiodic mode and by the gaps between messages in periodic mode, and
 //! [`write_verdict`] writes the answer as a line. `specs/Verdicts.antt` says what the verdict on a table is, `specs/Gaps.antt`
 //! what the gaps of a periodic table are, and `specs/VerdictLaws.antt` has what callers may use of it: a periodic table is
-//! accepted exactly where each of its gaps is fine (`specs/Fine.antt`). [`turn`] gives the senders in turn order.
+//! accepted exactly where each of its gaps is fine (`specs/Fine.antt`). [`turn`] gives the senders in turn order, and
+//! [`witness`] the messages with which a refused table fails (`specs/Witness.antt`).
 #![tactic(auto)]
 
 mod gaps;

@@ -13,7 +13,7 @@ pub enum TableVerdict {
     ShortCycle { least: u64, ti: u64 },
     /// Periodic: the gap before this sender is below its terminal gap. A negative gap is an overlap.
     SmallGap { terminal: u8, gap: i64, needed: u64 },
-    /// Periodic: neither another sender's gap nor its own gives this sender its synchronization gap.
+    /// Periodic: no other sender's gap has a synchronization gap, and this sender's own has none with its terminal gap behind it.
     NoSync { terminal: u8, gap: u64, needed: u64 },
 }
 

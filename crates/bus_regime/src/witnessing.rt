@@ -67,7 +67,8 @@ fn add_round(alloc: Global, table: &Table, items: &mut Vec<Payload>) -> Result<(
 /// is 0. In aperiodic mode each line has its least number of them, in periodic mode its most.
 ///
 /// Each item fits its sender, and each sender has two. For a refused table the closed schedule of these messages is not
-/// what the bus does, or two of its transmissions overlap. Fails only where memory runs out.
+/// what the bus does, or two of its transmissions overlap (`bus_schedule::laws::verdicts_are_exact`). Fails only where memory
+/// runs out.
 pub fn witness(alloc: Global, table: &Table) -> Result<Payloads, AllocError>
     ensures witness { IfOk result (λ made. made ≡ witness_of table.now) }
     ensures fits { IfOk result (λ made. IsOk (items_fit table.now made)) }

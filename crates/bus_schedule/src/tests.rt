@@ -26,6 +26,17 @@ SENDER 2 TG 30
 SEND 0B2 1 30 40
 ";
 
+/// The same with an interval that is one bit time longer than its shortest cycle.
+const SHORT_CYCLE: &[u8] = b"TABLE 1
+MODE aperiodic
+TI 1031
+SG 300
+SENDER 1 TG 20
+SEND 0A1 1 2 4
+SENDER 2 TG 30
+SEND 0B2 1 30 40
+";
+
 /// The same two in periodic mode: the second starts just its terminal gap behind the end of the first.
 const TWO_OFFSETS: &[u8] = b"TABLE 1
 MODE periodic
@@ -144,20 +155,32 @@ fn a_periodic_bus_starts_at_its_offsets(rt: HostRuntime) -> Result<(), Fail> {
     Ok(())
 }
 
-/// A refused table has a closed schedule too, in which senders at the same offset stand by number.
+/// The closed schedule of a refused table.
+fn refused_starts(
+    rt: &impl Abort,
+    alloc: Global,
+    table: &[u8],
+    starts_at: &[(u64, u8)],
+    end: u128,
+) -> Result<(), Fail> {
+    let table = read_table(alloc, table)?;
+    assert!(rt; !verdict(&table).is_accepted());
+    let hands = even_hands(rt, alloc, &table, &TWO_ROUNDS)?;
+    let list = closed(alloc, &table, &hands)?;
+    assert!(rt; starts(alloc, &list)?.as_slice() == starts_at);
+    assert_eq!(rt; closed_end(&table, &hands), end);
+    Ok(())
+}
+
+/// A refused table has a closed schedule too, in which senders at the same offset stand by number, and which doesn't look at
+/// an interval that is longer than the shortest cycle.
 #[test]
 fn a_refused_table_has_a_schedule(rt: HostRuntime) -> Result<(), Fail> {
     let alloc = rt.alloc();
-    let table = read_table(alloc, SAME_OFFSET)?;
-    assert!(rt; !verdict(&table).is_accepted());
-    let hands = even_hands(&rt, alloc, &table, &TWO_ROUNDS)?;
-    let list = closed(alloc, &table, &hands)?;
-    assert_eq!(rt;
-        starts(alloc, &list)?.as_slice(),
-        [(0, 1), (0, 2), (2000, 1), (2000, 2)].as_slice()
-    );
-    assert_eq!(rt; closed_end(&table, &hands), 2620);
-    Ok(())
+    let together = [(0, 1), (0, 2), (2000, 1), (2000, 2)];
+    refused_starts(&rt, alloc, SAME_OFFSET, &together, 2620)?;
+    let turns = [(20, 1), (110, 2), (1050, 1), (1140, 2)];
+    refused_starts(&rt, alloc, SHORT_CYCLE, &turns, 1760)
 }
 
 /// 536,872 messages of `ONE_SENDER` end behind the limit.
