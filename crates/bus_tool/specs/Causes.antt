@@ -129,4 +129,5 @@ RefusesText (outcome.TooLong end) first = Unit {0}
 
 -- where the first source is named and tells its bytes, an outcome that refuses its text has its cause, whatever the second is
 abbrev pub HasFirstCause : List (List ℕ) → Sources → Outcome → Type 0
-HasFirstCause words before outcome = IfSome (form_of words) (λ form. IfSome (told (sources_of form).first before.first) (RefusesText outcome))
+HasFirstCause words before outcome =
+    IfSome (form_of words) (λ form. IfSome (told (sources_of form).first before.first) (RefusesText outcome))

@@ -10,8 +10,10 @@ use std::test::Fail;
 type Call<'a> = (&'a [&'a str], &'a str, &'a str);
 
 /// Calls of each command that read and write without a refusal.
-const CALLS: [Call<'static>; 5] = [
+const CALLS: [Call<'static>; 7] = [
     (&["check", "T"], TWO_SENDERS, ""),
+    (&["witness", "T"], LONG_GAP, ""),
+    (&["tidy", "T"], LONG_GAP, ""),
     (&["run", "T", "M"], LONG_GAP, ONE_EACH),
     (&["observe", "T", "M", "150"], LONG_GAP, ONE_EACH),
     (&["receive", "T", "R"], LONG_GAP, ONE_EACH_SEEN),
@@ -21,31 +23,41 @@ const CALLS: [Call<'static>; 5] = [
 /// More pulls and pushes than a call makes.
 const MANY: u64 = 1000;
 
-/// A source of this text in small pieces, of which these pulls fail.
-fn failing(rt: &HostRuntime, text: &str, pulls: &[u64]) -> Result<MemorySource, Fail> {
-    let bytes = text.as_bytes().to_vec(rt.alloc())?;
-    Ok(MemorySource::new(bytes, 16, pulls.to_vec(rt.alloc())?))
+/// What has to hold of a case.
+fn must(holds: bool, what: &'static str) -> Result<(), Fail> {
+    if holds {
+        return Ok(());
+    }
+    Err(Fail::from(what))
 }
 
-/// A call in which these pulls of the first and of the second source fail.
-fn pulled(rt: &HostRuntime, call: Call<'_>, first: &[u64], second: &[u64]) -> Result<Ran, Fail> {
+/// A source of this text in small pieces, of which this pull fails.
+fn failing(rt: &HostRuntime, text: &str, pull: Option<u64>) -> Result<MemorySource, Fail> {
+    let mut pulls = Vec::new(rt.alloc());
+    pulls.extend(pull)?;
+    Ok(MemorySource::new(text.as_bytes().to_vec(rt.alloc())?, 16, pulls))
+}
+
+/// A call in which this pull of the first or of the second source fails.
+fn pulled(rt: &HostRuntime, call: Call<'_>, second: bool, pull: u64) -> Result<Ran, Fail> {
     let (words, one, other) = call;
-    let one = failing(rt, one, first)?;
-    let other = failing(rt, other, second)?;
+    let one = failing(rt, one, (!second).then_some(pull))?;
+    let other = failing(rt, other, second.then_some(pull))?;
     run_over(rt, words, one, other, sink_of(rt, 3000)?)
 }
 
 /// How many pulls of a source can fail in a call: each is answered with this line and nothing else.
 fn failing_pulls(rt: &HostRuntime, call: Call<'_>, second: bool, line: &str) -> Result<u64, Fail> {
     for pull in 0..MANY {
-        let one: &[u64] = if second { &[] } else { &[pull] };
-        let other: &[u64] = if second { &[pull] } else { &[] };
-        let ran = pulled(rt, call, one, other)?;
+        let ran = pulled(rt, call, second, pull)?;
         if ran.status != Status::ReadFault {
-            assert_eq!(rt; ran.status, Status::Done);
+            must(ran.status == Status::Done, "an answer where no pull fails")?;
             return Ok(pull);
         }
-        assert!(rt; is_refused(&ran, Status::ReadFault, line));
+        must(
+            is_refused(&ran, Status::ReadFault, line),
+            "the line of a failed read alone",
+        )?;
     }
     Ok(MANY)
 }
@@ -69,29 +81,42 @@ fn push_fails(rt: &HostRuntime, call: Call<'_>, whole: &[u8], push: u64) -> Resu
     let ran = run_over(
         rt,
         words,
-        failing(rt, one, &[])?,
-        failing(rt, other, &[])?,
+        failing(rt, one, None)?,
+        failing(rt, other, None)?,
         out,
     )?;
-    assert!(rt; whole.starts_with(ran.out.bytes()));
+    must(
+        whole.starts_with(ran.out.bytes()),
+        "a beginning of the answer",
+    )?;
     if ran.status == Status::Done {
-        assert_eq!(rt; ran.out.bytes().len(), whole.len());
+        must(ran.out.bytes().len() == whole.len(), "the whole answer")?;
         return Ok(false);
     }
-    assert_eq!(rt; ran.status, Status::WriteFault);
-    assert_eq!(rt; ran.err.bytes(), b"ERROR 6 write\n".as_slice());
+    must(ran.status == Status::WriteFault, "a failed write")?;
+    must(
+        ran.err.bytes() == b"ERROR 6 write\n".as_slice(),
+        "the line of a failed write",
+    )?;
     Ok(true)
+}
+
+/// How many pushes of `out` can fail in a call.
+fn failing_pushes(rt: &HostRuntime, call: Call<'_>) -> Result<u64, Fail> {
+    let whole = run_on(rt, call.0, call.1, call.2)?;
+    for push in 0..MANY {
+        if !push_fails(rt, call, whole.out.bytes(), push)? {
+            return Ok(push);
+        }
+    }
+    Ok(MANY)
 }
 
 #[test]
 fn each_push_that_fails(rt: HostRuntime) -> Result<(), Fail> {
     for call in CALLS {
-        let whole = run_on(&rt, call.0, call.1, call.2)?;
-        let mut push = 0;
-        while push < MANY && push_fails(&rt, call, whole.out.bytes(), push)? {
-            push += 1;
-        }
-        assert!(rt; push > 0 && push < MANY);
+        let pushes = failing_pushes(&rt, call)?;
+        assert!(rt; pushes > 0 && pushes < MANY);
     }
     Ok(())
 }
@@ -104,7 +129,7 @@ const LINE: &[u8] = b"ERROR 3 table line 1 Ended\n";
 /// Whether this push of `err` fails: the status stays, and a beginning of the line stands there.
 fn line_fails(rt: &HostRuntime, push: u64) -> Result<bool, Fail> {
     let words = words_of(rt, REFUSED)?;
-    let (mut first, mut second) = (failing(rt, "", &[])?, failing(rt, "", &[])?);
+    let (mut first, mut second) = (failing(rt, "", None)?, failing(rt, "", None)?);
     let mut out = sink_of(rt, 100)?;
     let mut err = MemorySink::new(rt.alloc(), 100, 5, [push].to_vec(rt.alloc())?)?;
     let status = tool(
@@ -115,19 +140,25 @@ fn line_fails(rt: &HostRuntime, push: u64) -> Result<bool, Fail> {
         &mut out,
         &mut err,
     );
-    assert_eq!(rt; status, Status::TableRefused);
-    assert!(rt; out.bytes().is_empty());
-    assert!(rt; LINE.starts_with(err.bytes()));
+    must(status == Status::TableRefused, "the status of the refusal")?;
+    must(out.bytes().is_empty(), "no answer")?;
+    must(LINE.starts_with(err.bytes()), "a beginning of the line")?;
     Ok(err.bytes().len() < LINE.len())
+}
+
+/// How many pushes of `err` can fail.
+fn failing_lines(rt: &HostRuntime) -> Result<u64, Fail> {
+    for push in 0..MANY {
+        if !line_fails(rt, push)? {
+            return Ok(push);
+        }
+    }
+    Ok(MANY)
 }
 
 #[test]
 fn each_push_of_the_line_that_fails(rt: HostRuntime) -> Result<(), Fail> {
-    let mut push = 0;
-    while push < MANY && line_fails(&rt, push)? {
-        push += 1;
-    }
-    assert_eq!(rt; push, 6);
+    assert_eq!(rt; failing_lines(&rt)?, 6);
     Ok(())
 }
 
@@ -226,7 +257,7 @@ fn cut_comes_to(rt: &HostRuntime, bytes: usize, status: Status, text: &str) -> R
     let ran = run_over(
         rt,
         REFUSED,
-        failing(rt, LONG_GAP, &[])?,
+        failing(rt, LONG_GAP, None)?,
         second,
         sink_of(rt, 3000)?,
     )?;

@@ -15,6 +15,8 @@ mod fault_line;
 mod fault_tests;
 pub mod forms;
 mod holds;
+#[cfg(test)]
+mod hostile_tests;
 mod in_memory;
 mod inputs;
 pub mod laws;

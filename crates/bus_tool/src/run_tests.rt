@@ -143,7 +143,7 @@ fn a_schedule_up_to_its_limit(rt: HostRuntime) -> Result<(), Fail> {
     );
     assert_eq!(rt; status, Status::Done);
     assert_eq!(rt; err.count(), 0);
-    assert_eq!(rt; out.count(), 14_408_777);
+    assert_eq!(rt; out.count(), 23_448_773);
     Ok(())
 }
 
