@@ -1,5 +1,6 @@
 -- Laws of the witness of a valid table: its items fit, and give each sender two filling messages.
-use Rattle.std.specs.Prelude.{◌≡◌, ◌≢◌, ℕ, ◌+◌, Bool, true, false, ◌&&◌, ◌==◌, nat_le, List, [], ◌∷◌, ◌++◌, length, map, Option, Some, None, cond, Ok, IsOk}
+use Rattle.std.specs.Prelude.{◌≡◌, ◌≢◌, ℕ, ◌+◌, Bool, true, false, ◌&&◌, ◌==◌, nat_le, List, [], ◌∷◌, ◌++◌, length, map}
+use Rattle.std.specs.Prelude.{Option, Some, None, cond, Ok, IsOk}
 use Rattle.std.specs.Int.{is_in_range}
 use Rattle.std.specs.List.{list_all, filter, find, AllByRecursion}
 use Rattle.std.proofs.Common.{inl, inr, sym, refl, ap, ◌∙◌, subst}
@@ -24,7 +25,8 @@ use Rattle.bus_table.specs.Turns.{Differ}
 use Rattle.bus_regime.specs.Witness.{filling_round, witness_of}
 
 -- a sender is found by its number
-found : (senders : List Sender) (sender : Sender) → Differ (λ s. s.number) senders → In sender senders → sender_of senders sender.number ≡ Some sender
+found : (senders : List Sender) (sender : Sender) → Differ (λ s. s.number) senders → In sender senders
+    → sender_of senders sender.number ≡ Some sender
 found [] sender d i = absurd i
 found (s ∷ senders) sender d (inl same) =
     ap (λ b. cond b (Some s) (sender_of senders sender.number)) (eq-eqb s.number sender.number (ap (λ (x : Sender). x.number) (sym same)))
@@ -41,7 +43,8 @@ each_send_line sender h =
 
 -- items of these senders' filling messages
 abbrev AreFillings : Table → List Item → Type 0
-AreFillings table items = (item : Item) → In item items → (sender : Sender) × In sender table.senders × (filling_item table.mode sender ≡ item)
+AreFillings table items =
+    (item : Item) → In item items → (sender : Sender) × In sender table.senders × (filling_item table.mode sender ≡ item)
 
 are_fillings : (table : Table) → AreFillings table (witness_of table)
 are_fillings table item i =
@@ -75,7 +78,8 @@ none_of_others : (mode : Mode) (number : ℕ) (senders : List Sender) → ((send
     → items_of number (map (filling_item mode) senders) ≡ []
 none_of_others mode number [] h = refl
 none_of_others mode number (s ∷ senders) h =
-    ap (λ b. cond b (filling_item mode s ∷ items_of number (map (filling_item mode) senders)) (items_of number (map (filling_item mode) senders)))
+    ap (λ b. cond b (filling_item mode s ∷ items_of number (map (filling_item mode) senders))
+    (items_of number (map (filling_item mode) senders)))
     (ne_eqb s.number number (h s (inl refl)))
     ∙ none_of_others mode number senders (λ x i. h x (inr i))
 

@@ -10,7 +10,8 @@ use Rattle.bus_terminal.specs.declared.place.Place.{Place}
 
 -- the bit time of the message at which the place is, counted from its first
 abbrev pub place_of : Message → Place → ℕ
-place_of message place = pulse_start message place.pulse + pulse_length message place.pulse + (if place.on then 0 else inner_gap) - place.left
+place_of message place =
+    pulse_start message place.pulse + pulse_length message place.pulse + (if place.on then 0 else inner_gap) - place.left
 
 -- the place is one of the message
 pub record IsPlace (message : Message) (place : Place) : Type 0 where
