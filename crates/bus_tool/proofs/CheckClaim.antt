@@ -1,5 +1,5 @@
 -- What is claimed of `check`.
-use Rattle.std.specs.Prelude.{◌≡◌, ℕ, ◌⊎◌, true, false, IsTrue, List, Result, Ok}
+use Rattle.std.specs.Prelude.{◌≡◌, ℕ, true, false, IsTrue, List, Result, Ok}
 use Rattle.std.proofs.Common.{inl, inr, refl, sym, ap, ◌∙◌, subst}
 use Rattle.std.proofs.lemmas.Bool.{true≢false}
 use Rattle.bus_table.specs.Tables.{Table}

@@ -1,5 +1,5 @@
 -- `witness` of its steps.
-use Rattle.std.specs.Prelude.{◌≡◌, ◌≤◌, ℕ, List, Result, Ok, Err, IsErrAnd}
+use Rattle.std.specs.Prelude.{◌≡◌, ◌≤◌, List, Result, Ok, Err, IsErrAnd}
 use Rattle.std.proofs.Common.{arith, refl, sym, ap, ◌∙◌, subst}
 use Rattle.std.proofs.lemmas.Result.{err_from_is_err_and}
 use Rattle.bus_outer.specs.Sinks.{WritesText}
