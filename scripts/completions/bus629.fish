@@ -1,8 +1,10 @@
 # Completion of bus629 for fish.
 complete -c bus629 -n 'test (count (commandline -opc)) -eq 1' -f -a check -d 'Judge a table'
 complete -c bus629 -n 'test (count (commandline -opc)) -eq 1' -f -a tidy -d 'Write a table without comments, one space between fields'
+complete -c bus629 -n 'test (count (commandline -opc)) -eq 1' -f -a report -d 'Tell the verdict of a table and its figures, as JSON'
 complete -c bus629 -n 'test (count (commandline -opc)) -eq 1' -f -a witness -d 'Write messages with which a refused table fails'
 complete -c bus629 -n 'test (count (commandline -opc)) -eq 1' -f -a plan -d 'Choose the offsets of a periodic table'
 complete -c bus629 -n 'test (count (commandline -opc)) -eq 1' -f -a run -d 'Run the senders of an accepted table, and write the trace'
 complete -c bus629 -n 'test (count (commandline -opc)) -eq 1' -f -a observe -d 'Look at the senders of any table up to a moment'
+complete -c bus629 -n 'test (count (commandline -opc)) -eq 1' -f -a drill -d 'Run a large input that a number makes'
 complete -c bus629 -n 'test (count (commandline -opc)) -ge 4' -f

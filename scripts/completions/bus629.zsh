@@ -5,14 +5,16 @@ _bus629() {
   commands=(
     'check:judge a table'
     'tidy:write a table without comments, one space between fields'
+    'report:tell the verdict of a table and its figures, as JSON'
     'witness:write messages with which a refused table fails'
     'plan:choose the offsets of a periodic table'
     'run:run the senders of an accepted table, and write the trace'
     'observe:look at the senders of any table up to a moment'
+    'drill:run a large input that a number makes'
   )
   if (( CURRENT == 2 )); then
     _describe command commands
-  elif (( CURRENT == 3 )) || { (( CURRENT == 4 )) && [[ $words[2] != (check|tidy|witness|plan) ]] }; then
+  elif { (( CURRENT == 3 )) && [[ $words[2] != drill ]] } || { (( CURRENT == 4 )) && [[ $words[2] != (check|tidy|report|witness|plan|drill) ]] }; then
     _files
   fi
 }

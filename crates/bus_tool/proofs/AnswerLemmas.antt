@@ -3,7 +3,7 @@ use Rattle.std.specs.Prelude.{◌≡◌, ◌≢◌, ℕ, List, Option, Some, Non
 use Rattle.std.proofs.Common.{arith, refl, sym, ap, subst, inl, inr}
 use Rattle.bus_outer.specs.Faults.{Fails}
 use Rattle.bus_tool.specs.declared.forms.Form.{Form}
-use Rattle.bus_tool.specs.declared.forms.Form.TheVariants.{Check, Tidy, Witness, Plan, Observe, Run, Receive, Audit}
+use Rattle.bus_tool.specs.declared.forms.Form.TheVariants.{Check, Tidy, Report, Witness, Plan, Drill, Observe, Run, Receive, Audit}
 use Rattle.bus_tool.specs.declared.outcome.Outcome.{Outcome}
 use Rattle.bus_tool.specs.declared.outcome.Outcome.TheVariants.{Usage, ReadFault, WriteFault, NoMemory}
 use Rattle.bus_tool.specs.declared.status.Status.{Status}
@@ -44,6 +44,8 @@ of_form Check first second o h = h
 of_form Tidy first second o h = h
 of_form Witness first second o h = h
 of_form Plan first second o h = h
+of_form Report first second o h = h
+of_form (Drill number) first second o h = h
 of_form (Observe horizon) first second o h = h
 of_form Run first second o h = h
 of_form Receive first second o h = h

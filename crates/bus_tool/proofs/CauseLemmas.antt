@@ -1,5 +1,5 @@
 -- The cause of each refusal of a text.
-use Rattle.std.specs.Prelude.{◌≡◌, ℕ, true, false, ◌⊎◌, List, Some, IfSome, Result, Ok, Err}
+use Rattle.std.specs.Prelude.{◌≡◌, ℕ, true, false, ◌⊎◌, List, Some, None, IfSome, Result, Ok, Err}
 use Rattle.std.proofs.Common.{arith, refl, sym, ap, ◌∙◌, subst, inl, inr}
 use Rattle.bus_table.specs.declared.error.TableError.TheVariants.{Text, Whole}
 use Rattle.bus_strings.specs.Items.{Item}
@@ -8,7 +8,7 @@ use Rattle.bus_regime.specs.Verdicts.{verdict_of}
 use Rattle.bus_schedule.specs.Closed.{closed_end}
 use Rattle.bus_trace.specs.TraceLaws.{ReadsBack}
 use Rattle.bus_tool.specs.declared.forms.Form.{Form}
-use Rattle.bus_tool.specs.declared.forms.Form.TheVariants.{Check, Tidy, Witness, Plan, Observe, Run, Receive, Audit}
+use Rattle.bus_tool.specs.declared.forms.Form.TheVariants.{Check, Tidy, Report, Witness, Plan, Drill, Observe, Run, Receive, Audit}
 use Rattle.bus_tool.specs.declared.outcome.Outcome.{Outcome}
 use Rattle.bus_tool.specs.declared.outcome.Outcome.TheVariants.{Done, Answered, Refused, TableText, TableWhole, TableMode, MessagesText, Unfit, Uneven, TraceText, ReadFault, WriteFault, NoMemory, TooLarge, TooLong}
 use Rattle.bus_tool.specs.Forms.{sources_of}
@@ -133,6 +133,8 @@ form_cause laws Plan o first second never h =
       | inl e ↦ no_table laws first o second e
       | inr w ↦ wrong_mode laws Periodic first second o w
     ]
+form_cause laws Report o first second never h = no_table laws first o second (refused (λ table. verdict_outcome (verdict_of table)) (table_due first) o (λ table. written_verdict (verdict_of table)) never h)
+form_cause laws (Drill number) o first second never h = absurd (let k : is_answer (kind_of o) ≡ true = ap (λ o. is_answer (kind_of o)) (sym h) in cc)
 form_cause laws (Observe horizon) o first second never h = elim (inputs_stop first second o (refused (λ inputs. Done) (inputs_due first second) o (λ inputs. refl) never h)) [
   | inl e ↦ no_table laws first o second e
   | inr w ↦ no_items laws first second w.0 o w.1 w.2
@@ -208,12 +210,29 @@ refuses_in laws needed first (ReadFault source) h = tt
 refuses_in laws needed first (TooLarge source) h = tt
 refuses_in laws needed first o h = tt
 
+-- a form that refuses no first text
+refuses_nothing : (first : List ℕ) (o : Outcome) → IsDueFirst o None → RefusesText o first
+refuses_nothing first (TableText line reason) h = absurd (let never = h refl in cc)
+refuses_nothing first (TableWhole reason) h = absurd (let never = h refl in cc)
+refuses_nothing first (TableMode needed) h = absurd (let never = h refl in cc)
+refuses_nothing first (MessagesText line reason) h = tt
+refuses_nothing first (Unfit error) h = tt
+refuses_nothing first (Uneven one one_count other other_count) h = tt
+refuses_nothing first (TraceText byte reason) h = tt
+refuses_nothing first (Refused verdict) h = tt
+refuses_nothing first (TooLong end) h = tt
+refuses_nothing first (ReadFault source) h = tt
+refuses_nothing first (TooLarge source) h = tt
+refuses_nothing first o h = tt
+
 -- and of the first text of a form
 refuses_text : CauseLaws → (form : Form) (first : List ℕ) (o : Outcome) → IsDueFirst o (first_refusal form first) → RefusesText o first
 refuses_text laws Check first o h = refuses_table laws first o h
 refuses_text laws Tidy first o h = refuses_table laws first o h
 refuses_text laws Witness first o h = refuses_table laws first o h
 refuses_text laws Plan first o h = refuses_in laws Periodic first o h
+refuses_text laws Report first o h = refuses_table laws first o h
+refuses_text laws (Drill number) first o h = refuses_nothing first o h
 refuses_text laws (Observe horizon) first o h = refuses_table laws first o h
 refuses_text laws Run first o h = refuses_table laws first o h
 refuses_text laws Receive first o h = refuses_table laws first o h

@@ -5,11 +5,11 @@ use Rattle.std.specs.String.{string_bytes}
 use Rattle.std.proofs.Common.{arith, sym, ap}
 use Rattle.bus_tool.specs.Forms.{words_of, two_words, three_words, four_words, form_of}
 
-pub form_of_two : (words : List (String Global)) (a : String Global) → length words ≡ 2 → a ≡ slice_index_or words 0 a → form_of (words_of words) ≡ two_words (string_bytes a)
-form_of_two [] a h i = absurd (omega arith)
-form_of_two (p ∷ []) a h i = absurd (omega arith)
-form_of_two (p ∷ q ∷ []) a h i = ap (λ word. two_words (string_bytes word)) (sym i)
-form_of_two (p ∷ q ∷ r ∷ rest) a h i = absurd (omega arith)
+pub form_of_two : (words : List (String Global)) (a b : String Global) → length words ≡ 2 → a ≡ slice_index_or words 0 a → b ≡ slice_index_or words 1 b → form_of (words_of words) ≡ two_words (string_bytes a) (string_bytes b)
+form_of_two [] a b h i j = absurd (omega arith)
+form_of_two (p ∷ []) a b h i j = absurd (omega arith)
+form_of_two (p ∷ q ∷ []) a b h i j = (let e : a ≡ p = i in let f : b ≡ q = j in cc)
+form_of_two (p ∷ q ∷ r ∷ rest) a b h i j = absurd (omega arith)
 
 pub form_of_three : (words : List (String Global)) (a : String Global) → length words ≡ 3 → a ≡ slice_index_or words 0 a → form_of (words_of words) ≡ three_words (string_bytes a)
 form_of_three [] a h i = absurd (omega arith)

@@ -13,6 +13,10 @@ pub mod EntryLemmas
 pub mod InputLemmas
 pub mod CheckLemmas
 pub mod TidyLemmas
+pub mod EscapeLemmas
+pub mod ReportTexts
+pub mod ReportLemmas
+pub mod DrillLemmas
 pub mod WitnessLemmas
 pub mod ModeLemmas
 pub mod PlanLemmas
@@ -30,6 +34,8 @@ pub mod TraceReads
 pub mod RunReads
 pub mod CheckClaim
 pub mod TidyClaim
+pub mod ReportClaim
+pub mod DrillClaim
 pub mod WitnessClaim
 pub mod PlanClaim
 pub mod ObserveClaim

@@ -18,10 +18,12 @@ use Rattle.bus_filter.specs.ReceivedTexts.{received_text}
 use Rattle.bus_trace.specs.declared.hold.Hold.{Hold}
 use Rattle.bus_trace.specs.Traces.{Recording, trace_text}
 use Rattle.bus_tool.specs.declared.forms.Form.{Form}
-use Rattle.bus_tool.specs.declared.forms.Form.TheVariants.{Check, Tidy, Witness, Plan, Observe, Run, Receive, Audit}
+use Rattle.bus_tool.specs.declared.forms.Form.TheVariants.{Check, Tidy, Report, Witness, Plan, Drill, Observe, Run, Receive, Audit}
 use Rattle.bus_tool.specs.declared.outcome.Outcome.{Outcome}
 use Rattle.bus_tool.specs.declared.outcome.Outcome.TheVariants.{Done}
 use Rattle.bus_tool.specs.AuditLines.{audit_line}
+use Rattle.bus_tool.specs.Drills.{drill_line}
+use Rattle.bus_tool.specs.Reports.{report_text}
 use Rattle.bus_tool.specs.Forms.{form_of}
 use Rattle.bus_tool.specs.Kinds.{kind_of, is_answer}
 use Rattle.bus_tool.specs.Outcomes.{is_written}
@@ -32,7 +34,7 @@ use Rattle.bus_tool.specs.Due.{table_in, plan_outcome}
 use Rattle.bus_tool.specs.Texts.{IsPlanText}
 use Rattle.bus_tool.proofs.ModeLemmas.{mode_unwritten}
 use Rattle.bus_tool.specs.Due.{Inputs, hands_in, table_due, inputs_due, traced_due, run_due, verdict_outcome, audit_outcome, audit_of, outcome_with, form_due, outcome_for}
-use Rattle.bus_tool.specs.Texts.{holds_of, IsRecordingOf, IsObserveText, IsRunRecording, run_text, IsRunText, IsReceiveText, IsAuditText, IsCheckText, IsTidyText, IsWitnessText, IsTextOf, IsFormText, IsTextFor}
+use Rattle.bus_tool.specs.Texts.{holds_of, IsRecordingOf, IsObserveText, IsRunRecording, run_text, IsRunText, IsReceiveText, IsAuditText, IsCheckText, IsTidyText, IsReportText, IsWitnessText, IsTextOf, IsFormText, IsTextFor}
 use Rattle.bus_tool.specs.TextLaws.{OneCommandText, AnswersHaveTexts}
 use Rattle.bus_tool.proofs.LawTypes.{ReadsATable, FittingItemsGiveHands}
 use Rattle.bus_tool.proofs.ReadLemmas.{table_read, items_read, inputs_read, table_unwritten, inputs_unwritten}
@@ -110,6 +112,8 @@ form_once laws Tidy first second text other h k = k.2 ∙ ap table_text (same_va
 form_once laws Witness first second text other h k = k.2 ∙ ap (λ table. messages_text (witness_of table)) (same_value (table_due first) h.0 k.0 h.1 k.1) ∙ sym h.2
 form_once laws Plan first second text other h k =
     k.2 ∙ ap (λ table. plan_text (plan_of table)) (same_value (table_in Periodic first) h.0 k.0 h.1 k.1) ∙ sym h.2
+form_once laws Report first second text other h k = k.2 ∙ ap report_text (same_value (table_due first) h.0 k.0 h.1 k.1) ∙ sym h.2
+form_once laws (Drill number) first second text other h k = k ∙ sym h
 form_once laws (Observe horizon) first second text other h k =
     observe_once h.0 horizon (list_of laws first second h.0 horizon h.1) text other h.2
     (subst (λ inputs. IsObserveText horizon inputs other) (same_value (inputs_due first second) h.0 k.0 h.1 k.1) k.2)
@@ -136,6 +140,8 @@ form_has laws Witness first second h = text_with (λ table. Done) IsWitnessText 
 form_has laws Plan first second h =
     text_with (λ table. plan_outcome (plan_of table)) IsPlanText (table_in Periodic first) (λ o e. mode_unwritten Periodic first o e)
     (λ table e. (plan_text (plan_of table), refl)) h
+form_has laws Report first second h = text_with (λ table. verdict_outcome (verdict_of table)) IsReportText (table_due first) (λ o e. table_unwritten first o e) (λ table e. (report_text table, refl)) h
+form_has laws (Drill number) first second h = (drill_line number, refl)
 form_has laws (Observe horizon) first second h = text_with (λ inputs. Done) (IsObserveText horizon) (inputs_due first second) (λ o e. inputs_unwritten first second o e) (λ inputs e. observe_text inputs horizon (list_of laws first second inputs horizon e)) h
 form_has laws Run first second h = text_with (λ inputs. Done) IsRunText (run_due first second) (λ o e. run_unwritten first second o e) (λ inputs e. ran_text laws first second inputs e) h
 form_has laws Receive first second h =

@@ -37,7 +37,7 @@ no_later : (x : Entry) (list : List Entry) → AllByRecursion (Precedes x) list 
 no_later x [] h = tt
 no_later x (y ∷ list) h = (elim h.0 [ inl sooner ↦ omega arith | inr same ↦ omega (arith, same.0) ], no_later x list h.1)
 
-by_moment : (list : List Entry) → IsAscending list → IsByMoment list
+pub by_moment : (list : List Entry) → IsAscending list → IsByMoment list
 by_moment [] h = tt
 by_moment (x ∷ list) h = (no_later x list h.0, by_moment list h.1)
 

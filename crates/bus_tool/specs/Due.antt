@@ -36,7 +36,7 @@ use Rattle.bus_audit.specs.declared.answer.AuditAnswer.{AuditAnswer}
 use Rattle.bus_audit.specs.declared.answer.AuditAnswer.TheVariants.{Lawful, Breach}
 use Rattle.bus_audit.specs.Breaches.{answer_of}
 use Rattle.bus_tool.specs.declared.forms.Form.{Form}
-use Rattle.bus_tool.specs.declared.forms.Form.TheVariants.{Check, Tidy, Witness, Plan, Observe, Run, Receive, Audit}
+use Rattle.bus_tool.specs.declared.forms.Form.TheVariants.{Check, Tidy, Report, Witness, Plan, Drill, Observe, Run, Receive, Audit}
 use Rattle.bus_tool.specs.declared.outcome.Outcome.{Outcome}
 use Rattle.bus_tool.specs.declared.outcome.Outcome.TheVariants.{Done, Answered, Refused, Usage, TableText, TableWhole, TableMode}
 use Rattle.bus_tool.specs.declared.outcome.Outcome.TheVariants.{MessagesText, Unfit, Uneven, TraceText, ReadFault, NoMemory, TooLarge}
@@ -230,6 +230,8 @@ form_due Check first second = outcome_with (λ table. verdict_outcome (verdict_o
 form_due Tidy first second = outcome_with (λ table. Done) (table_due first)
 form_due Witness first second = outcome_with (λ table. Done) (table_due first)
 form_due Plan first second = outcome_with (λ table. plan_outcome (plan_of table)) (table_in Periodic first)
+form_due Report first second = outcome_with (λ table. verdict_outcome (verdict_of table)) (table_due first)
+form_due (Drill number) first second = Done
 form_due (Observe horizon) first second = outcome_with (λ inputs. Done) (inputs_due first second)
 form_due Run first second = outcome_with (λ inputs. Done) (run_due first second)
 form_due Receive first second = outcome_with (λ traced. Done) (traced_due first second)
@@ -241,6 +243,8 @@ first_refusal Check first = table_refusal_of first
 first_refusal Tidy first = table_refusal_of first
 first_refusal Witness first = table_refusal_of first
 first_refusal Plan first = refusal_of_mode Periodic first
+first_refusal Report first = table_refusal_of first
+first_refusal (Drill number) first = None
 first_refusal (Observe horizon) first = table_refusal_of first
 first_refusal Run first = table_refusal_of first
 first_refusal Receive first = table_refusal_of first

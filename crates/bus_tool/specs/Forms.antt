@@ -6,9 +6,10 @@ use Rattle.std.specs.String.{string_bytes}
 use Rattle.std.specs.Str.{bytes_eq}
 use Rattle.bus_text.specs.Numbers.{is_plain_decimal, decimal_value}
 use Rattle.bus_strings.specs.Limits.{horizon_limit}
-use Rattle.bus_tool.specs.Readers.{Named, Trace, entire, one_source, two_sources}
+use Rattle.bus_vectors.specs.Made.{most_number}
+use Rattle.bus_tool.specs.Readers.{Named, Trace, entire, no_source, one_source, two_sources}
 use Rattle.bus_tool.specs.declared.forms.Form.{Form}
-use Rattle.bus_tool.specs.declared.forms.Form.TheVariants.{Check, Tidy, Witness, Plan, Observe, Run, Receive, Audit}
+use Rattle.bus_tool.specs.declared.forms.Form.TheVariants.{Check, Tidy, Report, Witness, Plan, Drill, Observe, Run, Receive, Audit}
 
 -- the words of the program, as bytes
 abbrev pub words_of : List (String Global) → List (List ℕ)
@@ -18,13 +19,19 @@ words_of words = map string_bytes words
 abbrev pub is_horizon : List ℕ → Bool
 is_horizon word = is_plain_decimal word && nat_le (decimal_value word) horizon_limit
 
--- `check T`, `tidy T`, `witness T`, `plan T`
-abbrev pub two_words : List ℕ → Option Form
-two_words command =
+-- whether a word is the plain decimal of a drill's number
+abbrev pub is_drill_number : List ℕ → Bool
+is_drill_number word = is_plain_decimal word && nat_le (decimal_value word) most_number
+
+-- `check T`, `tidy T`, `report T`, `witness T`, `plan T`, `drill N`
+abbrev pub two_words : List ℕ → List ℕ → Option Form
+two_words command second =
     if bytes_eq command (codes "check") then Some Check
     else if bytes_eq command (codes "tidy") then Some Tidy
+    else if bytes_eq command (codes "report") then Some Report
     else if bytes_eq command (codes "witness") then Some Witness
     else if bytes_eq command (codes "plan") then Some Plan
+    else if bytes_eq command (codes "drill") && is_drill_number second then Some (Drill (decimal_value second))
     else None
 
 -- `run T M`, `receive T R`, `audit T R`
@@ -42,7 +49,7 @@ four_words command horizon =
 
 -- the form of these words, whatever the words T and M are
 abbrev pub form_of : List (List ℕ) → Option Form
-form_of (command ∷ table ∷ []) = two_words command
+form_of (command ∷ second ∷ []) = two_words command second
 form_of (command ∷ table ∷ other ∷ []) = three_words command
 form_of (command ∷ table ∷ messages ∷ horizon ∷ []) = four_words command horizon
 form_of words = None
@@ -51,8 +58,10 @@ form_of words = None
 abbrev pub sources_of : Form → Named
 sources_of Check = one_source entire
 sources_of Tidy = one_source entire
+sources_of Report = one_source entire
 sources_of Witness = one_source entire
 sources_of Plan = one_source entire
+sources_of (Drill number) = no_source
 sources_of (Observe horizon) = two_sources entire entire
 sources_of Run = two_sources entire entire
 sources_of Receive = two_sources entire Trace
@@ -62,6 +71,8 @@ sources_of Audit = two_sources entire Trace
 abbrev pub IsWithinLimits : Form → Type 0
 IsWithinLimits Check = Unit {0}
 IsWithinLimits Tidy = Unit {0}
+IsWithinLimits Report = Unit {0}
+IsWithinLimits (Drill number) = number ≤ most_number
 IsWithinLimits Witness = Unit {0}
 IsWithinLimits Plan = Unit {0}
 IsWithinLimits (Observe horizon) = horizon ≤ horizon_limit

@@ -7,6 +7,11 @@ pub mod Forms
 pub mod Stages
 pub mod Due
 pub mod AuditLines
+pub mod Reports
+pub mod ReportData
+pub mod Drills
+pub mod DrillLaws
+pub mod Escapes
 pub mod Texts
 pub mod Steps
 pub mod Taken
@@ -18,5 +23,6 @@ pub mod RunClaims
 pub mod TraceClaims
 pub mod TextLaws
 pub mod TableClaims
+pub mod DrillClaims
 pub mod PlanTexts
 pub mod PlanClaims

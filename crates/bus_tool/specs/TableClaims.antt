@@ -4,6 +4,10 @@ use Rattle.bus_table.specs.Canonical.{table_text}
 use Rattle.bus_table.specs.Tables.{Table}
 use Rattle.bus_tool.specs.declared.status.Status.{Status}
 use Rattle.bus_tool.specs.declared.status.Status.TheVariants.{Done}
+use Rattle.bus_regime.specs.Verdicts.{verdict_of}
+use Rattle.bus_tool.specs.Due.{verdict_outcome}
+use Rattle.bus_tool.specs.Outcomes.{status_of}
+use Rattle.bus_tool.specs.Reports.{report_text}
 use Rattle.bus_tool.specs.Outside.{Call}
 use Rattle.bus_tool.specs.Readers.{entire, one_source}
 use Rattle.bus_tool.specs.Claims.{NothingFails, TellsTable, Answers}
@@ -27,3 +31,12 @@ IsTidyOf table call = IsOfTable (codes "tidy") table call
 -- the table's canonical text is written, and the status is Done
 abbrev pub GivesTidied : Table → Call → Status → Type 0
 GivesTidied table call status = Answers Done (λ text. text ≡ table_text table) call status
+
+-- ---- `report`
+-- a call of `report T`
+abbrev pub IsReportOf : Table → Call → Type 0
+IsReportOf table call = IsOfTable (codes "report") table call
+
+-- the table's report is written, and the status is Done where the verdict accepts, else Refused
+abbrev pub GivesReport : Table → Call → Status → Type 0
+GivesReport table call status = Answers (status_of (verdict_outcome (verdict_of table))) (λ text. text ≡ report_text table) call status

@@ -22,12 +22,14 @@ use Rattle.bus_filter.specs.ReceivedTexts.{received_text}
 use Rattle.bus_trace.specs.declared.hold.Hold.{Hold}
 use Rattle.bus_trace.specs.Traces.{Recording, trace_text}
 use Rattle.bus_tool.specs.declared.forms.Form.{Form}
-use Rattle.bus_tool.specs.declared.forms.Form.TheVariants.{Check, Tidy, Witness, Plan, Observe, Run, Receive, Audit}
+use Rattle.bus_tool.specs.declared.forms.Form.TheVariants.{Check, Tidy, Report, Witness, Plan, Drill, Observe, Run, Receive, Audit}
 use Rattle.bus_tool.specs.declared.outcome.Outcome.{Outcome}
 use Rattle.bus_tool.specs.Forms.{form_of}
 use Rattle.bus_tool.specs.declared.inputs.Traced.{Traced as Ran}
 use Rattle.bus_tool.specs.Due.{Inputs, hands_in, Traced, table_due, table_in, inputs_due, run_due, traced_due, audit_of}
 use Rattle.bus_tool.specs.AuditLines.{audit_line}
+use Rattle.bus_tool.specs.Drills.{drill_line}
+use Rattle.bus_tool.specs.Reports.{report_text}
 use Rattle.bus_tool.specs.PlanTexts.{plan_text}
 
 -- the number of a hand's terminal and how many messages it has
@@ -111,6 +113,10 @@ IsPlanOf answer table = answer ≡ plan_of table
 abbrev pub IsPlanText : Table → List ℕ → Type 0
 IsPlanText table text = text ≡ plan_text (plan_of table)
 
+-- the report of a table
+abbrev pub IsReportText : Table → List ℕ → Type 0
+IsReportText table text = text ≡ report_text table
+
 -- what an audit finds of a table and a trace
 abbrev pub IsAnswerOf : AuditAnswer → Traced → Type 0
 IsAnswerOf answer traced = answer ≡ audit_of traced
@@ -129,6 +135,8 @@ IsFormText Check first second text = IsTextOf IsCheckText (table_due first) text
 IsFormText Tidy first second text = IsTextOf IsTidyText (table_due first) text
 IsFormText Witness first second text = IsTextOf IsWitnessText (table_due first) text
 IsFormText Plan first second text = IsTextOf IsPlanText (table_in Periodic first) text
+IsFormText Report first second text = IsTextOf IsReportText (table_due first) text
+IsFormText (Drill number) first second text = text ≡ drill_line number
 IsFormText (Observe horizon) first second text = IsTextOf (IsObserveText horizon) (inputs_due first second) text
 IsFormText Run first second text = IsTextOf IsRunText (run_due first second) text
 IsFormText Receive first second text = IsTextOf IsReceiveText (traced_due first second) text

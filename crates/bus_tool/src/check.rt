@@ -12,7 +12,7 @@ use bus_regime::{TableVerdict, verdict, write_verdict};
 use std::alloc::Global;
 
 /// What comes of a verdict once its line is written.
-fn verdict_outcome(verdict: &TableVerdict) -> Outcome
+pub fn verdict_outcome(verdict: &TableVerdict) -> Outcome
     ensures { result ≡ outcome_of verdict.now }
 {
     match verdict {

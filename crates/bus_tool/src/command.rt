@@ -4,11 +4,13 @@ ghost use Rattle.bus_tool.specs.Outside.{called, outside};
 
 use crate::audit::audit;
 use crate::check::check;
+use crate::drill::drill;
 use crate::forms::{Form, form_of};
 use crate::observe::observe;
 use crate::outcome::Outcome;
 use crate::plan::plan;
 use crate::receive::receive;
+use crate::report::report;
 use crate::run::run;
 use crate::tidy::tidy;
 use crate::witness::witness;
@@ -41,6 +43,8 @@ pub fn act<S: Source, K: Sink>(
         Some(Form::Tidy) => tidy(alloc, first, out),
         Some(Form::Witness) => witness(alloc, first, out),
         Some(Form::Plan) => plan(alloc, first, out),
+        Some(Form::Report) => report(alloc, first, out),
+        Some(Form::Drill { number }) => drill(alloc, number, out),
         Some(Form::Observe { horizon }) => observe(alloc, horizon, first, second, out),
         Some(Form::Run) => run(alloc, first, second, out),
         Some(Form::Receive) => receive(alloc, first, second, out),

@@ -1,11 +1,15 @@
 ghost use Rattle.std.specs.Prelude.{◌≡◌, ◌≤◌, IfSome, Some, None, if◌then◌else◌};
 ghost use Rattle.bus_text.specs.Numbers.{decimal_value};
 ghost use Rattle.bus_tool.specs.Forms as forms;
-ghost use Rattle.bus_tool.specs.Forms.{words_of, is_horizon, IsWithinLimits};
+ghost use Rattle.bus_tool.specs.Forms.{words_of, is_horizon, is_drill_number, IsWithinLimits};
+ghost use Rattle.bus_vectors.specs.Made.{most_number};
 ghost use Rattle.bus_strings.specs.Limits.{horizon_limit};
 
 use bus_strings::limits::HORIZON_LIMIT;
 use bus_text::numbers::plain_decimal;
+
+/// The greatest number of a drill.
+const MOST_NUMBER: u64 = 9999;
 
 /// What the words of a command line ask for.
 #[derive(Clone, Copy, Debug, PartialEq, Eq)]
@@ -14,10 +18,17 @@ pub enum Form {
     Check,
     /// `tidy T`: the canonical text of the table in the file `T`.
     Tidy,
+    /// `report T`: the verdict of the table in the file `T` and its figures, as JSON.
+    Report,
     /// `witness T`: the messages with which the table in `T` fails, where it is refused.
     Witness,
     /// `plan T`: the periodic table in the file `T` with offsets chosen anew, or that no offsets are accepted.
     Plan,
+    /// `drill N`: what comes of a large input that a number makes.
+    Drill {
+        /// N: at most 9999.
+        number: u32,
+    },
     /// `observe T M N`: what the senders of the table in `T` do with the messages in `M`, in the bit times before N.
     Observe {
         /// N: at most 1,099,511,627,776.
@@ -44,15 +55,34 @@ fn horizon_of(word: &[u8]) -> Option<u64>
     }
 }
 
-/// The form of two words of which this is the first.
-fn two_words(command: &str) -> Option<Form>
-    ensures form { result ≡ forms.two_words command.now }
+/// The number of a drill that a word writes; None where the word is no plain decimal, or the number is past its limit.
+fn drill_number_of(word: &[u8]) -> Option<u32>
+    ensures value { result ≡ (if is_drill_number word.now then Some (decimal_value word.now) else None) }
+    ensures limit { IfSome result (λ number. number ≤ most_number) }
+{
+    let number = plain_decimal(word)?;
+    if number <= MOST_NUMBER {
+        Some(number as u32)
+    } else {
+        None
+    }
+}
+
+/// The form of these two words.
+fn two_words(command: &str, second: &[u8]) -> Option<Form>
+    ensures form { result ≡ forms.two_words command.now second.now }
     ensures limits { IfSome result IsWithinLimits }
 {
+    if command == "drill" {
+        let number = drill_number_of(second)?;
+        return Some(Form::Drill { number });
+    }
     if command == "check" {
         Some(Form::Check)
     } else if command == "tidy" {
         Some(Form::Tidy)
+    } else if command == "report" {
+        Some(Form::Report)
     } else if command == "witness" {
         Some(Form::Witness)
     } else if command == "plan" {
@@ -96,7 +126,7 @@ pub fn form_of(words: &[String]) -> Option<Form>
     ensures limits { IfSome result IsWithinLimits }
 {
     match words.len() {
-        2 => two_words(words[0].as_str()),
+        2 => two_words(words[0].as_str(), words[1].as_bytes()),
         3 => three_words(words[0].as_str()),
         4 => four_words(words[0].as_str(), words[3].as_bytes()),
         _ => None,

@@ -1,11 +1,13 @@
 //! Laws of the definitions, each the contract of a function that does nothing.
+ghost use Rattle.bus_tool.specs.DrillLaws.{DrillsAreAccepted};
 ghost use Rattle.bus_tool.specs.TextLaws.{OneCommandText, AnswersHaveTexts, SendersHaveHolds};
 ghost use Rattle.bus_tool.specs.TextLaws.{ObservedIsFoundLawful, RunIsFoundLawful};
 
 use bus_audit::laws::observed_is_lawful;
 use bus_medium::laws::one_lawful_list;
-use bus_schedule::laws::{accepted_is_closed, even_hands_agree};
+use bus_schedule::laws::{accepted_is_closed, closed_ends_in_cycles, even_hands_agree};
 use bus_table::laws::{fitting_items_give_hands, readings_have_their_cause};
+use bus_vectors::laws::{made_items_are_even, made_items_fit, made_tables_are_valid};
 
 /// What the words and the texts make a command write is one text: there is no other, and there is one where an answer is due.
 pub fn one_text_of_a_command()
@@ -34,4 +36,15 @@ pub fn audit_accepts_what_is_observed()
     observed_is_lawful();
     fitting_items_give_hands();
     senders_have_holds();
+}
+
+/// Every drill's table is accepted, its senders have as many messages each, and it ends at 13,914,000 or before: no drill is too long.
+pub fn drills_are_accepted()
+    ensures { DrillsAreAccepted }
+{
+    made_tables_are_valid();
+    made_items_fit();
+    made_items_are_even();
+    fitting_items_give_hands();
+    closed_ends_in_cycles();
 }

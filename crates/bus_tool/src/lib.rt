@@ -10,6 +10,9 @@ mod audit_line;
 mod audit_tests;
 mod check;
 mod command;
+mod drill;
+#[cfg(test)]
+mod drill_tests;
 mod fault_line;
 #[cfg(test)]
 mod fault_tests;
@@ -30,6 +33,9 @@ mod plan_tests;
 mod receive;
 #[cfg(test)]
 mod receive_tests;
+mod report;
+#[cfg(test)]
+mod row_tests;
 mod run;
 #[cfg(test)]
 mod run_tests;

@@ -1,4 +1,4 @@
-//! `tidy`, over sources and sinks in memory.
+//! `tidy` and `report`, over sources and sinks in memory.
 use crate::status::Status;
 use crate::tests::{TWO_SENDERS, run_on, writes};
 use std::test::Fail;
@@ -13,5 +13,30 @@ fn what_is_tidied_stays_as_it_is(rt: HostRuntime) -> Result<(), Fail> {
         let ran = run_on(&rt, &["tidy", "T"], text, "")?;
         assert!(rt; writes(&ran, Status::Done, TWO_SENDERS));
     }
+    Ok(())
+}
+
+/// The second sender of the text is the first in turn order.
+const SECOND_FIRST: &str =
+    "TABLE 1\nMODE periodic\nTI 2000\nSG 300\nSENDER 1 TG 20 AT 700\nSEND 0A1 1 2 2\nSENDER 2 TG 30 AT 0\nSEND 0B2 1 30 30\n";
+
+#[test]
+fn reports_in_turn_order(rt: HostRuntime) -> Result<(), Fail> {
+    let ran = run_on(&rt, &["report", "T"], SECOND_FIRST, "")?;
+    let second = "{\"at\":0,\"longest\":620,\"number\":2,\"shortest\":620,\"tg\":30}";
+    let first = "{\"at\":700,\"longest\":60,\"number\":1,\"shortest\":60,\"tg\":20}";
+    let head = "{\"line\":\"ACCEPT periodic 2000 2000\",\"mode\":\"periodic\",\"senders\":[";
+    let text = format!(in rt.alloc(); "{head}{second},{first}],\"sg\":300,\"ti\":2000}}\n")?;
+    assert!(rt; writes(&ran, Status::Done, text.as_str()));
+    Ok(())
+}
+
+#[test]
+fn reports_a_refused_table(rt: HostRuntime) -> Result<(), Fail> {
+    let table = SECOND_FIRST.replace(rt.alloc(), "AT 700", "AT 560")?;
+    let ran = run_on(&rt, &["report", "T"], table.as_str(), "")?;
+    let line = b"{\"line\":\"REFUSE small-gap 1 -60 20\",";
+    assert!(rt; ran.status == Status::Refused);
+    assert!(rt; ran.out.bytes().starts_with(line));
     Ok(())
 }

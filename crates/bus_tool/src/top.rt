@@ -8,7 +8,8 @@ ghost use Rattle.bus_tool.specs.Outcomes.{status_of};
 ghost use Rattle.bus_tool.specs.PlanClaims.{IsPlanCallOf, GivesPlan};
 ghost use Rattle.bus_tool.specs.RunClaims.{IsRunOf, GivesRun};
 ghost use Rattle.bus_tool.specs.Outside.{called, outside};
-ghost use Rattle.bus_tool.specs.TableClaims.{IsTidyOf, GivesTidied};
+ghost use Rattle.bus_tool.specs.DrillClaims.{IsDrillOf, GivesDrill};
+ghost use Rattle.bus_tool.specs.TableClaims.{IsReportOf, GivesReport, IsTidyOf, GivesTidied};
 ghost use Rattle.bus_tool.specs.TraceClaims.{IsReceiveOf, GivesReceived, IsAuditOf, GivesFinding};
 ghost use Rattle.bus_trace.specs.Traces.{Recording};
 ghost use Rattle.bus_tool.specs.declared.outcome.Outcome.{Outcome as Came};
@@ -59,6 +60,16 @@ pub fn tool<S: Source, K: Sink, E: Sink>(
     ensures plan { let call = called (words_of words.now) (outside ⟦<S as Source>⟧ ⟦<K as Sink>⟧ first.old second.old out.old)
         (outside ⟦<S as Source>⟧ ⟦<K as Sink>⟧ first.new second.new out.new) in
         (table : Table) → IsPlanCallOf table call → GivesPlan table call result }
+
+    // `report T` of a valid table's text, where nothing outside fails: its report and the status of its verdict, or want of memory.
+    ensures report { let call = called (words_of words.now) (outside ⟦<S as Source>⟧ ⟦<K as Sink>⟧ first.old second.old out.old)
+        (outside ⟦<S as Source>⟧ ⟦<K as Sink>⟧ first.new second.new out.new) in
+        (table : Table) → IsReportOf table call → GivesReport table call result }
+
+    // `drill N`, where nothing outside fails: the line of that drill, or want of memory.
+    ensures drill { let call = called (words_of words.now) (outside ⟦<S as Source>⟧ ⟦<K as Sink>⟧ first.old second.old out.old)
+        (outside ⟦<S as Source>⟧ ⟦<K as Sink>⟧ first.new second.new out.new) in
+        (number : ℕ) → IsDrillOf number call → GivesDrill number call result }
 
     // `observe T M N` of texts of a valid table and of items that fit, where nothing outside fails: the one trace, or want of memory.
     ensures observe { let call = called (words_of words.now) (outside ⟦<S as Source>⟧ ⟦<K as Sink>⟧ first.old second.old out.old)

@@ -1,6 +1,6 @@
 use Rattle.std.proofs.Common.{ap, sym, ◌∙◌}
 use Rattle.std.specs.Prelude.{Some}
-use Rattle.bus_tool.specs.declared.forms.Form.TheVariants.{Check, Tidy, Witness, Plan, Observe, Run, Receive, Audit}
+use Rattle.bus_tool.specs.declared.forms.Form.TheVariants.{Check, Tidy, Report, Witness, Plan, Drill, Observe, Run, Receive, Audit}
 use Rattle.bus_tool.proofs.ActLemmas.{acts_form}
 use Rattle.bus_tool.proofs.command.act.Goals as goal
 
@@ -39,6 +39,24 @@ returns-in-Some-Plan g c = acts_form (record {
   reads_items = c.texts_read_as_their_items.ensures.found;
   trace_back = c.traces_read_back.ensures.back;
 }) _ c.plan.result Plan (ap Some (sym c.in-Some-Plan.field-0-is) ∙ c.in-Some-Plan.ensures.form) (c.plan.ensures _)
+
+pub returns-in-Some-Report : goal.returns-in-Some-Report
+returns-in-Some-Report g c = acts_form (record {
+  reads_table = c.readings_have_their_cause.ensures.found;
+  refuses_table = c.readings_have_their_cause.ensures.refused;
+  items_again = c.texts_read_as_their_items.ensures.again;
+  reads_items = c.texts_read_as_their_items.ensures.found;
+  trace_back = c.traces_read_back.ensures.back;
+}) _ c.report.result Report (ap Some (sym c.in-Some-Report.field-0-is) ∙ c.in-Some-Report.ensures.form) (c.report.ensures _)
+
+pub returns-in-Some-Drill : goal.returns-in-Some-Drill
+returns-in-Some-Drill g c = acts_form (record {
+  reads_table = c.readings_have_their_cause.ensures.found;
+  refuses_table = c.readings_have_their_cause.ensures.refused;
+  items_again = c.texts_read_as_their_items.ensures.again;
+  reads_items = c.texts_read_as_their_items.ensures.found;
+  trace_back = c.traces_read_back.ensures.back;
+}) _ c.drill.result (Drill c.in-Some-Drill.number) (ap Some (sym c.in-Some-Drill.field-0-is) ∙ c.in-Some-Drill.ensures.form) (c.drill.ensures _)
 
 pub returns-in-Some-Observe : goal.returns-in-Some-Observe
 returns-in-Some-Observe g c = acts_form (record {

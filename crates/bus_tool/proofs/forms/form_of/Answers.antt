@@ -6,11 +6,14 @@ use Rattle.bus_tool.proofs.forms.form_of.Goals as goal
 
 pub returns-in-4-clause-form : goal.returns-in-4-clause-form
 returns-in-4-clause-form c =
-    c.four_words.ensures.form ∙ ap (λ command. four_words command c.as_bytes.result.now) c.as_str-in-4.ensures.value ∙ ap (four_words (string_bytes c.index-words-0-in-4.result)) c.as_bytes.ensures.value
+    c.four_words.ensures.form ∙ ap (λ command. four_words command c.as_bytes-in-4.result.now) c.as_str-in-4.ensures.value ∙ ap (four_words (string_bytes c.index-words-0-in-4.result)) c.as_bytes-in-4.ensures.value
     ∙ sym (form_of_four c.args.words.now c.index-words-0-in-4.result c.index-words-3.result c.in-4.is c.index-words-0-in-4.is c.index-words-3.is)
 
 pub returns-in-3-clause-form : goal.returns-in-3-clause-form
 returns-in-3-clause-form c = c.three_words.ensures.form ∙ ap three_words c.as_str-in-3.ensures.value ∙ sym (form_of_three c.args.words.now c.index-words-0-in-3.result c.in-3.is c.index-words-0-in-3.is)
 
 pub returns-in-2-clause-form : goal.returns-in-2-clause-form
-returns-in-2-clause-form c = c.two_words.ensures.form ∙ ap two_words c.as_str.ensures.value ∙ sym (form_of_two c.args.words.now c.index-words-0.result c.in-2.is c.index-words-0.is)
+returns-in-2-clause-form c =
+    c.two_words.ensures.form ∙ ap (λ command. two_words command c.as_bytes.result.now) c.as_str.ensures.value
+    ∙ ap (two_words (string_bytes c.index-words-0.result)) c.as_bytes.ensures.value
+    ∙ sym (form_of_two c.args.words.now c.index-words-0.result c.index-words-1.result c.in-2.is c.index-words-0.is c.index-words-1.is)

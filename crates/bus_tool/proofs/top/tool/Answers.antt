@@ -1,4 +1,6 @@
 use Rattle.bus_tool.proofs.CheckClaim.{CheckLaws, check_claim}
+use Rattle.bus_tool.proofs.DrillClaim.{drill_claim}
+use Rattle.bus_tool.proofs.ReportClaim.{report_claim}
 use Rattle.bus_tool.proofs.TidyClaim.{tidy_claim}
 use Rattle.bus_tool.proofs.WitnessClaim.{witness_claim}
 use Rattle.bus_tool.proofs.PlanClaim.{PlanLaws, plan_claim}
@@ -32,6 +34,12 @@ returns-clause-plan g c =
       refused = c.short_is_refused.ensures;
     } in
     λ table h. rw c.status.ensures (plan_claim laws _ c.act-outcome.result table c.act-outcome.ensures h)
+
+pub returns-clause-report : goal.returns-clause-report
+returns-clause-report g c = λ table h. rw c.status.ensures (report_claim c.text_reads_as_its_table.ensures _ c.act-outcome.result table c.act-outcome.ensures h)
+
+pub returns-clause-drill : goal.returns-clause-drill
+returns-clause-drill g c = λ number h. rw c.status.ensures (drill_claim _ c.act-outcome.result number c.act-outcome.ensures h)
 
 pub returns-clause-observe : goal.returns-clause-observe
 returns-clause-observe g c =
