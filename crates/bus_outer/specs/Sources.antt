@@ -3,10 +3,14 @@
 --
 --   Taken old new bs                  the bytes bs came from the front of what was left
 --   Pulls old new pull buf            one pull into a buffer, as the buffer is afterwards
+--   line_length xs                    how many bytes the first line has, its line feed included
+--   StopsAtFeed pull buf              of the bytes of one pull none but the last is a line feed
 --   CountsPull before now pull        the count of faults, before and after one pull
 --   ReadsWhole limit old new result   a read of all there is, up to a limit
 --   CountsRead before now result      the count of faults, before and after such a read
-use Rattle.std.specs.Prelude.{◌≡◌, ℕ, ◌+◌, ◌≤◌, ◌<◌, List, [], length, take, IfSome, Vec, Ok, Err}
+use Rattle.std.specs.Prelude.{◌≡◌, ℕ, suc, ◌+◌, ◌-◌, ◌≤◌, ◌<◌, ◌==◌, false, List, [], ◌∷◌, length, take, IfSome, Vec, Ok, Err}
+use Rattle.std.specs.Prelude.{if◌then◌else◌}
+use Rattle.std.specs.List.{AllByRecursion}
 use Rattle.std.specs.declared.option.Option.{Option}
 use Rattle.std.specs.declared.result.Result.{Result}
 use Rattle.std.specs.declared.alloc.Global.{Global}
@@ -27,6 +31,17 @@ abbrev pub Pulls : Option (List ℕ) → Option (List ℕ) → Pull → List ℕ
 Pulls old new (Got n) buf = (1 ≤ n) × (n ≤ length buf) × Taken old new (take n buf)
 Pulls old new End buf = IfSome old (λ xs. xs ≡ []) × (new ≡ old)
 Pulls old new Failed buf = new ≡ old
+
+-- How many bytes the first line has, its line feed included; all where there is no line feed.
+abbrev pub line_length : List ℕ → ℕ
+line_length [] = 0
+line_length (b ∷ bs) = if b == 10 then 1 else suc (line_length bs)
+
+-- Of the bytes that a pull took none but the last is a line feed.
+abbrev pub StopsAtFeed : Pull → List ℕ → Type 0
+StopsAtFeed (Got n) buf = AllByRecursion (λ b. (b == 10) ≡ false) (take (n - 1) buf)
+StopsAtFeed End buf = Unit {0}
+StopsAtFeed Failed buf = Unit {0}
 
 -- A pull counts a fault exactly where it answers one.
 abbrev pub CountsPull : ℕ → ℕ → Pull → Type 0

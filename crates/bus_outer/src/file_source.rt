@@ -3,7 +3,7 @@ ghost use Rattle.std.specs.Prelude.{◌≡◌, ◌<◌, MatchOption, None, lengt
 ghost use Rattle.bus_outer.specs.Faults.{one_more};
 ghost use Rattle.bus_outer.specs.Ahead.{left_ahead};
 ghost use Rattle.bus_outer.specs.Edge.{ReadsFile};
-ghost use Rattle.bus_outer.specs.Sources.{Pulls, CountsPull};
+ghost use Rattle.bus_outer.specs.Sources.{Pulls, StopsAtFeed, CountsPull};
 
 use crate::read_ahead::ReadAhead;
 use crate::{Pull, Source};
@@ -78,6 +78,27 @@ impl<'a, R: Files> Source for FileSource<'a, R> {
         };
         pull_open(file, &mut self.faults, buf)
     }
+
+    /// Gives what was read ahead up to the next line feed, or else reads the file as `pull` does.
+    fn pull_line(&mut self, buf: &mut [u8]) -> Pull
+        requires { 0 < length buf.old }
+        ensures bytes { Pulls None None result buf.new }
+        ensures line { StopsAtFeed result buf.new }
+        ensures counts { CountsPull (file_faults self.old) (file_faults self.new) result }
+        ensures once { result ≡ Pull.Failed → file_faults self.new ≡ one_more (file_faults self.old) }
+        ensures file { PullsFile R.File.remaining (file_of self.old) (file_of self.new) result buf.new }
+    {
+        if let NamedFile::Closed(path) = &self.file {
+            match fs::open(self.rt, path.as_str()) {
+                Ok(file) => self.file = NamedFile::Open(ReadAhead::new(file)),
+                Err(_) => return fail(&mut self.faults),
+            }
+        }
+        let NamedFile::Open(file) = &mut self.file else {
+            return Pull::End;
+        };
+        pull_line_open(file, &mut self.faults, buf)
+    }
 }
 
 /// Reads an open file once, and counts a failed read.
@@ -92,6 +113,26 @@ pub(crate) fn pull_open<F: Read>(file: &mut ReadAhead<F>, faults: &mut u64, buf:
         Ok(0) => Pull::End,
         Ok(n) => Pull::Got(n),
         Err(_) => fail(faults),
+    }
+}
+
+/// Reads an open file up to the next line feed, and counts a failed read.
+pub(crate) fn pull_line_open<F: Read>(
+    file: &mut ReadAhead<F>,
+    faults: &mut u64,
+    buf: &mut [u8],
+) -> Pull
+    requires { 0 < length buf.old }
+    ensures file { ReadsFile (left_ahead F.remaining file.old) (left_ahead F.remaining file.new) result buf.new }
+    ensures bytes { Pulls None None result buf.new }
+    ensures line { StopsAtFeed result buf.new }
+    ensures counts { CountsPull faults.old faults.new result }
+    ensures once { result ≡ Pull.Failed → faults.new ≡ one_more faults.old }
+{
+    match file.read_line(buf) {
+        Ok(0) => Pull::End,
+        Ok(n) => Pull::Got(n),
+        Err(_error) => fail(faults),
     }
 }
 

@@ -19,6 +19,7 @@
 
 mod count_sink;
 mod file_source;
+mod line;
 mod memory_sink;
 mod memory_source;
 mod out_sink;

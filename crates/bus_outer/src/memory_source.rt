@@ -1,7 +1,7 @@
 // A source in memory, which fails at the pulls that it is told.
-ghost use Rattle.std.specs.Prelude.{◌≡◌, ◌<◌, ◌≤◌, ◌↔◌, ℕ, Contains, Some, length, min};
-ghost use Rattle.bus_outer.specs.Faults.{one_more};
-ghost use Rattle.bus_outer.specs.Sources.{Pulls, CountsPull};
+ghost use Rattle.std.specs.Prelude.{◌≡◌, ◌<◌, ◌≤◌, ◌↔◌, ℕ, Contains, IsTrue, Some, length, min, true, false};
+ghost use Rattle.bus_outer.specs.Faults.{one_more, Fails};
+ghost use Rattle.bus_outer.specs.Sources.{Pulls, StopsAtFeed, CountsPull, line_length as length_of_line};
 
 use crate::{Pull, Source, SteadySource};
 
@@ -18,7 +18,7 @@ pub struct MemorySource {
 }
 
 impl MemorySource {
-    ghost use Rattle.bus_outer.specs.Memory.{source_left, source_piece, pull_number, failing_pulls, source_faults};
+    ghost use Rattle.bus_outer.specs.Memory.{source_left, source_piece, pull_number, failing_pulls, source_faults, PassesPull};
 
     /// A source of these bytes, of which a pull gives at most `piece`, at least 1. The pulls whose numbers
     /// are in `failing` fail.
@@ -36,6 +36,23 @@ impl MemorySource {
             number: 0,
             faults: 0,
         }
+    }
+
+    // Whether the next pull is listed, which is counted, as is its fault.
+    fn fails(&mut self) -> bool
+        ensures listed { IsTrue result ↔ Contains (failing_pulls self.old) (pull_number self.old) }
+        ensures counted { result ≡ true → source_faults self.new ≡ one_more (source_faults self.old) }
+        ensures rises { result ≡ true → Fails (source_faults self.old) (source_faults self.new) }
+        ensures kept { result ≡ false → source_faults self.new ≡ source_faults self.old }
+        ensures left { source_left self.new ≡ source_left self.old }
+        ensures passes { PassesPull self.old self.new }
+    {
+        let fails = self.failing.contains(&self.number);
+        self.number = self.number.saturating_add(1);
+        if fails {
+            self.faults = self.faults.saturating_add(1);
+        }
+        fails
     }
 }
 
@@ -57,12 +74,27 @@ impl Source for MemorySource {
             n ≡ min (min (source_piece self.old) (length buf.old)) (length (source_left self.old)) }
         ensures passes { PassesPull self.old self.new }
     {
-        let fails = self.failing.contains(&self.number);
-        self.number = self.number.saturating_add(1);
-        if fails {
-            self.faults = self.faults.saturating_add(1);
+        if self.fails() {
             return Pull::Failed;
         }
         self.steady.pull(buf)
+    }
+
+    /// Gives the least of a piece, the buffer and the line, or fails where this pull is listed.
+    fn pull_line(&mut self, buf: &mut [u8]) -> Pull
+        requires { 0 < length buf.old }
+        ensures bytes { Pulls (Some (source_left self.old)) (Some (source_left self.new)) result buf.new }
+        ensures line { StopsAtFeed result buf.new }
+        ensures counts { CountsPull (source_faults self.old) (source_faults self.new) result }
+        ensures once { result ≡ Pull.Failed → source_faults self.new ≡ one_more (source_faults self.old) }
+        ensures listed { (result ≡ Pull.Failed) ↔ Contains (failing_pulls self.old) (pull_number self.old) }
+        ensures amount { (n : ℕ) → result ≡ Pull.Got n →
+            n ≡ min (min (source_piece self.old) (length buf.old)) (length_of_line (source_left self.old)) }
+        ensures passes { PassesPull self.old self.new }
+    {
+        if self.fails() {
+            return Pull::Failed;
+        }
+        self.steady.pull_line(buf)
     }
 }

@@ -1,8 +1,11 @@
 // A reader behind a buffer, so that short reads make few calls of the system.
 ghost use Rattle.std.specs.Prelude.{◌≡◌, ◌≤◌, ◌<◌, [], length, min, take, IfOk};
 ghost use Rattle.std.specs.Io.KnownBytes.{Consumes, ReadConsumes};
+ghost use Rattle.bus_outer.specs.Sources.{StopsAtFeed};
 ghost use Rattle.bus_outer.specs.declared.read_ahead.TheConstants.{AHEAD};
+ghost use Rattle.bus_outer.specs.declared.source.Pull.TheVariants.{Got};
 
+use crate::line::copy_line;
 use crate::piece::copy_piece;
 use std::io;
 use std::io::Read;
@@ -48,6 +51,19 @@ impl<F: Read> ReadAhead<F> {
         Ok(self.take(buf))
     }
 
+    /// Reads as `read` does, and nothing behind a line feed.
+    pub(crate) fn read_line(&mut self, buf: &mut [u8]) -> io::Result<usize>
+        requires { 0 < length buf.old }
+        ensures bound { IfOk result (λ n. n ≤ length buf.new) }
+        ensures bytes { ReadConsumes (left_ahead F.remaining self.old) (left_ahead F.remaining self.new) result buf.new }
+        ensures line { IfOk result (λ n. StopsAtFeed (Got n) buf.new) }
+    {
+        if self.at >= self.end {
+            self.fill()?;
+        }
+        Ok(self.take_line(buf))
+    }
+
     // Reads ahead, where nothing that was read ahead is left.
     fn fill(&mut self) -> io::Result<()>
         requires { waiting self.old ≡ [] }
@@ -66,6 +82,19 @@ impl<F: Read> ReadAhead<F> {
         ensures nothing { result ≡ 0 → left_ahead F.remaining self.new ≡ left_ahead F.remaining self.old }
     {
         let n = copy_piece(&self.bytes[self.at..self.end], buf.len(), buf);
+        self.at += n;
+        n
+    }
+
+    // Takes of the first line that was read ahead as much as the buffer has room for.
+    fn take_line(&mut self, buf: &mut [u8]) -> usize
+        ensures bound { result ≤ length buf.new }
+        ensures some { 0 < length buf.old → 0 < length (waiting self.old) → 0 < result }
+        ensures bytes { Consumes (left_ahead F.remaining self.old) (left_ahead F.remaining self.new) (take result buf.new) }
+        ensures nothing { result ≡ 0 → left_ahead F.remaining self.new ≡ left_ahead F.remaining self.old }
+        ensures line { StopsAtFeed (Got result) buf.new }
+    {
+        let n = copy_line(&self.bytes[self.at..self.end], buf.len(), buf);
         self.at += n;
         n
     }

@@ -1,7 +1,7 @@
 // What gives bytes.
 ghost use Rattle.std.specs.Prelude.{◌<◌, List, ℕ, length};
 ghost use Rattle.std.specs.declared.option.Option.{Option};
-ghost use Rattle.bus_outer.specs.Sources.{Pulls, CountsPull};
+ghost use Rattle.bus_outer.specs.Sources.{Pulls, StopsAtFeed, CountsPull};
 
 /// What a pull answers.
 #[derive(Clone, Copy, Debug, PartialEq, Eq)]
@@ -29,4 +29,17 @@ pub trait Source {
         requires { 0 < length buf.old }
         ensures bytes { Pulls (left self.old) (left self.new) result buf.new }
         ensures counts { CountsPull (faults self.old) (faults self.new) result };
+
+    /// Takes bytes as [`Source::pull`] does, and none behind a line feed: up to and including the next one, where it has come and the
+    /// buffer has room for it.
+    ///
+    /// By itself it takes a byte; a source that has bytes at hand looks for the line feed among them.
+    fn pull_line(&mut self, buf: &mut [u8]) -> Pull
+        requires { 0 < length buf.old }
+        ensures bytes { Pulls (left self.old) (left self.new) result buf.new }
+        ensures line { StopsAtFeed result buf.new }
+        ensures counts { CountsPull (faults self.old) (faults self.new) result }
+    {
+        self.pull(&mut buf[..1])
+    }
 }

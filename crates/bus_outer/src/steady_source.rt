@@ -1,7 +1,8 @@
 // A source in memory that never fails.
 ghost use Rattle.std.specs.Prelude.{◌≡◌, ◌≢◌, ◌<◌, ◌≤◌, ℕ, Some, drop, length, min, vec_len};
-ghost use Rattle.bus_outer.specs.Sources.{Pulls, CountsPull};
+ghost use Rattle.bus_outer.specs.Sources.{Pulls, StopsAtFeed, CountsPull, line_length as length_of_line};
 
+use crate::line::copy_line;
 use crate::piece::copy_piece;
 use crate::{Pull, Source};
 
@@ -53,6 +54,25 @@ impl Source for SteadySource {
             return Pull::End;
         }
         let n = copy_piece(&self.bytes[self.at..], self.piece, buf);
+        self.at += n;
+        Pull::Got(n)
+    }
+
+    /// Gives the least of a piece, the buffer and the line.
+    fn pull_line(&mut self, buf: &mut [u8]) -> Pull
+        requires { 0 < length buf.old }
+        ensures bytes { Pulls (Some (steady_left self.old)) (Some (steady_left self.new)) result buf.new }
+        ensures line { StopsAtFeed result buf.new }
+        ensures counts { CountsPull 0 0 result }
+        ensures steady { result ≢ Pull.Failed }
+        ensures amount { (n : ℕ) → result ≡ Pull.Got n →
+            n ≡ min (min (steady_piece self.old) (length buf.old)) (length_of_line (steady_left self.old)) }
+        ensures piece { steady_piece self.new ≡ steady_piece self.old }
+    {
+        if self.at == self.bytes.len() {
+            return Pull::End;
+        }
+        let n = copy_line(&self.bytes[self.at..], self.piece, buf);
         self.at += n;
         Pull::Got(n)
     }

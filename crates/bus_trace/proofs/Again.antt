@@ -30,7 +30,7 @@ use Rattle.bus_strings.specs.Limits.{horizon_limit}
 use Rattle.bus_trace.specs.Limits.{line_limit}
 use Rattle.bus_strings.specs.Transmissions.{Precedes, end_of}
 use Rattle.bus_strings.specs.OverlapLaws.{NeighboursTell, AscendingIsByMoment}
-use Rattle.bus_trace.specs.Traces.{Recording, Line, IsHold, AscendAbove, IsBelow, IsTrace, format_text, head_line, horizon_line, hold_line, begin_line, data_word, string_line, entry_lines, mark_text, close_line, list_lines, end_line, opening_lines, text_in}
+use Rattle.bus_trace.specs.Traces.{Recording, Line, IsHold, AscendAbove, IsBelow, IsTrace, format_text, head_line, horizon_line, hold_line, begin_line, data_word, string_line, entry_lines, mark_text, ended_line, close_line, list_lines, end_line, opening_lines, text_in}
 use Rattle.bus_trace.specs.States.{State, start, may_follow, last_count, last_terminal, last_end, is_after, is_hit, is_final, ends_behind, is_refuted, is_closed, starts_wrong, turns_wrong, closing, told_lines, lines_so_far, body_lines, is_mark, mark_of, is_space, spaced_fields, is_ended, more_list, format_of, head_step, horizon_step, hold_step, begin_step, string_step, close_step, end_step, fields_step, step}
 use Rattle.bus_trace.specs.Runs.{Going, Found, judged, begin, run, ◌>>-◌, HasNoFeed}
 use Rattle.bus_trace.proofs.Lasts.{with_last, count_last, end_push, end_most}
@@ -61,7 +61,7 @@ feedless_line [] h = tt
 feedless_line (f ∷ []) h = feedless f h.0.bytes
 feedless_line (f ∷ g ∷ fields) h = feedless_append f _ (feedless f h.0.bytes) (refl, feedless_line (g ∷ fields) h.1)
 
-fields_again : (fields : List (List ℕ)) → 0 < length fields → AllByRecursion IsField fields → spaced_fields (join_with_byte 32 fields) ≡ fields
+pub fields_again : (fields : List (List ℕ)) → 0 < length fields → AllByRecursion IsField fields → spaced_fields (join_with_byte 32 fields) ≡ fields
 fields_again [] some h = absurd (omega arith)
 fields_again (f ∷ []) some h = slice_split_none is_space f (All-from_recursion _ f (spaceless f h.0.bytes))
 fields_again (f ∷ g ∷ fields) some h =
@@ -181,7 +181,7 @@ holds_again g h done (x ∷ left) f a =
     leads_append (holding g h done) (holding g h (done ++ x ∷ [])) (holding g h (done ++ x ∷ left)) (hold_line x ∷ []) (map hold_line left) (hold_again g h done x f.0 (terminals_rest 0 done x left a))
     (subst (λ hs. Leads (holding g h (done ++ x ∷ [])) (map hold_line left) (holding g h hs)) e (holds_again g h (done ++ x ∷ []) left f.1 (subst (AscendAbove 0) (sym e) a)))
 
-begin_again : (p : Position) (g : Format) (mark : Bool) (h : ℕ) (hs : List Hold) (xs : List Entry) (m n : ℕ) → h ≤ horizon_limit → may_follow p g (last_count xs) Tx ≡ true → m < h → 1 ≤ n → n ≤ 128 → is_after xs m n ≡ true
+pub begin_again : (p : Position) (g : Format) (mark : Bool) (h : ℕ) (hs : List Hold) (xs : List Entry) (m n : ℕ) → h ≤ horizon_limit → may_follow p g (last_count xs) Tx ≡ true → m < h → 1 ≤ n → n ≤ 128 → is_after xs m n ≡ true
     → (is_closed p && turns_wrong mark (is_hit xs) (nat_lt m (last_end xs))) ≡ false → Leads (at_position p g mark h hs xs) (begin_line m n ∷ []) (at_position (Begun m n) g mark h hs xs)
 unfolding begin_step
 begin_again p g mark h hs xs m n k may below positive low after fine =
@@ -212,23 +212,28 @@ mark_long false = refl
 same_test : (n m : ℕ) → n ≡ m → (n == m) ≡ true
 same_test n m h = grind (arith, nat_tests)
 
-close_again : (mark old : Bool) (h : ℕ) (hs : List Hold) (xs : List Entry) (x : Entry) → last_end xs ≡ end_of x → end_of x < 2 ^ 41 → starts_wrong mark (is_hit xs) (is_final h xs) ≡ false
-    → Leads (at_position Stringing Two old h hs xs) (close_line x mark ∷ []) (at_position Closed Two mark h hs xs)
+pub close_by_end : (p : Position) (g : Format) (mark old : Bool) (h : ℕ) (hs : List Hold) (xs : List Entry) (end : ℕ) → may_follow p g (last_count xs) Te ≡ true → end ≡ last_end xs → end < 2 ^ 41 → starts_wrong mark (is_hit xs) (is_final h xs) ≡ false
+    → Leads (at_position p g old h hs xs) (ended_line end mark ∷ []) (at_position Closed g mark h hs xs)
 unfolding close_step
-close_again mark old h hs xs x e room fine =
-    let t = decimal_is (end_of x) (omega (arith, room)) in
+close_by_end p g mark old h hs xs end may e room fine =
+    let t = decimal_is end (omega (arith, room)) in
     let m = mark_again mark in
-    leads_one (at_position Stringing Two old h hs xs) (at_position Closed Two mark h hs xs) (close_line x mark)
+    leads_one (at_position p g old h hs xs) (at_position Closed g mark h hs xs) (ended_line end mark)
     (record {
       some = omega arith;
-      all = (constant_field (codes "TE") (omega arith) refl, (decimal_field (end_of x) (omega (arith, room)), (mark_fits mark, tt)));
-      short = omega (arith, length-append (decimal (end_of x)) (32 ∷ mark_text mark), mark_long mark, digits (end_of x) (2 ^ 41) 13 (omega arith) (omega (arith, room)) (omega arith) (omega arith));
+      all = (constant_field (codes "TE") (omega arith) refl, (decimal_field end (omega (arith, room)), (mark_fits mark, tt)));
+      short = omega (arith, length-append (decimal end) (32 ∷ mark_text mark), mark_long mark, digits end (2 ^ 41) 13 (omega arith) (omega (arith, room)) (omega arith) (omega arith));
     })
+    (stand _ _ _ _ may
     (pass _ _ _ _ _ (both _ _ t.plain m.0)
-    (pass _ _ _ _ _ (ap (λ x. x == last_end xs) t.value ∙ same_test (end_of x) (last_end xs) (sym e))
+    (pass _ _ _ _ _ (ap (λ x. x == last_end xs) t.value ∙ same_test end (last_end xs) e)
     (let_by _ _ _ _ _ (ap (λ b. starts_wrong b (is_hit xs) (is_final h xs)) m.1 ∙ fine)
-    (ap (λ b. Ok (at_position Closed Two b h hs xs)) m.1))))
+    (ap (λ b. Ok (at_position Closed g b h hs xs)) m.1)))))
     refl
+
+close_again : (mark old : Bool) (h : ℕ) (hs : List Hold) (xs : List Entry) (x : Entry) → last_end xs ≡ end_of x → end_of x < 2 ^ 41 → starts_wrong mark (is_hit xs) (is_final h xs) ≡ false
+    → Leads (at_position Stringing Two old h hs xs) (close_line x mark ∷ []) (at_position Closed Two mark h hs xs)
+close_again mark old h hs xs x e room fine = close_by_end Stringing Two mark old h hs xs (end_of x) refl (sym e) room fine
 
 words_room : (f : List ℕ) (ws : List ℕ) → length (join_with_byte 32 (f ∷ map (λ value. word_text (data_word value)) ws)) ≡ length f + 7 * length ws
 words_room f [] = omega arith
@@ -243,7 +248,7 @@ string_line_fits w i =
       short = omega (arith, words_room (word_text (label_word w.label w.ext)) w.words, length-word (label_word w.label w.ext), i.few);
     }
 
-string_line_again : (p : Position) (g : Format) (mark : Bool) (h : ℕ) (hs : List Hold) (xs : List Entry) (w : Wordstring) → may_follow p g (last_count xs) Ws ≡ true → IsWordstring w
+pub string_line_again : (p : Position) (g : Format) (mark : Bool) (h : ℕ) (hs : List Hold) (xs : List Entry) (w : Wordstring) → may_follow p g (last_count xs) Ws ≡ true → IsWordstring w
     → Leads (at_position p g mark h hs xs) (string_line w ∷ []) (at_position Stringing g mark h hs (more_list p w xs))
 unfolding string_step
 string_line_again p g mark h hs xs w may i =

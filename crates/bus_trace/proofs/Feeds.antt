@@ -73,6 +73,10 @@ pub record Feeds (at : Standing) (piece front : List ℕ) : Type 0 where
 feeds_due : (at : Standing) (piece front : List ℕ) (out : Progress) (t : Bool) → Feeds at piece front → run at front ≡ out → nat_lt (length front) (length piece) ≡ t → due text_limit (stream_of at ++ piece) ≡ due_by t out
 feeds_due at piece front out t f h e = due_is at piece front f.going f.fits f.front_is ∙ ap (λ b. due_by b (run at front)) e ∙ ap (due_by t) h
 
+-- where a walk went is where the stream leads
+on : (at : Standing) (xs : List ℕ) (out : Progress) → run begin (stream_of at) ≡ Going at → run at xs ≡ out → run begin (stream_of at ++ xs) ≡ out
+on at xs out g h = run-append begin (stream_of at) xs ∙ ap (λ o. o >>- λ m. run m xs) g ∙ h
+
 pub feed_gives : (at new : Standing) (piece front : List ℕ) (w : Walked) (t : Bool) → Feeds at piece front → nat_lt (length front) (length piece) ≡ t → WalkGives at new front (Ok w) (run at front)
     → FeedGives (record { stage = stage.Open; at = at }) (record { stage = (fed_of w t).0; at = new }) piece (Ok (fed_of w t).1)
 feed_gives at new piece front Passed true f e w = (refl, feeds_due at piece front (Going new) true f w.0 e)
@@ -85,12 +89,9 @@ feed_gives at new piece front (Ended used) t f e w = (
   omega (arith, ap length f.front_is, length-take (text_limit - length (stream_of at)) piece, w.2),
   w.4,
   w.1 ∙ ap (λ p. stream_of at ++ p) (take_front piece front (text_limit - length (stream_of at)) used f.front_is w.2),
+  ap (λ p. run begin (stream_of at ++ p)) (sym (take_front piece front (text_limit - length (stream_of at)) used f.front_is w.2)) ∙ on at (take used front) (Found new.state) f.going w.5,
 )
 feed_gives at new piece front (Failed byte reason) t f e w = (refl, feeds_due at piece front (Refused byte reason) t f w e)
-
--- where a walk went is where the stream leads
-on : (at : Standing) (xs : List ℕ) (out : Progress) → run begin (stream_of at) ≡ Going at → run at xs ≡ out → run begin (stream_of at ++ xs) ≡ out
-on at xs out g h = run-append begin (stream_of at) xs ∙ ap (λ o. o >>- λ m. run m xs) g ∙ h
 
 room_is : (at : Standing) (piece front : List ℕ) → Feeds at piece front → length (stream_of at ++ front) ≤ text_limit
 room_is at piece front f = omega (arith, f.fits, ap length f.front_is, length-take (text_limit - length (stream_of at)) piece, length-append (stream_of at) front)
@@ -125,3 +126,33 @@ more_fits xs at h = by_test (nat_lt text_limit (length xs)) refl (run begin (tak
   by_test true e (Refused b r) k = absurd cc
   by_test true e Over k = absurd cc
   by_test false e o k = grind (arith, nat_tests)
+
+-- a stream within the limit leads where its bytes do
+pub due_within : (xs : List ℕ) (d : Progress) → length xs ≤ text_limit → run begin xs ≡ d → due text_limit xs ≡ d
+unfolding due
+due_within xs d h e = ap (λ t. due_by t (run begin (take text_limit xs))) (within_is text_limit (length xs) h) ∙ ap (λ x. due_by false (run begin x)) (take_all text_limit xs h) ∙ ap (due_by false) e ∙ same d where
+  within_is : (a b : ℕ) → b ≤ a → nat_lt a b ≡ false
+  within_is a b h = grind (arith, nat_tests)
+
+  same : (d : Progress) → due_by false d ≡ d
+  same (Going r) = refl
+  same (Found s) = refl
+  same (Refused b r) = refl
+  same Over = refl
+
+pub goes_on : (at : Standing) → due text_limit (stream_of at) ≡ Going at → run begin (stream_of at) ≡ Going at
+unfolding due
+goes_on at h = by_test (nat_lt text_limit (length (stream_of at))) refl (run begin (take text_limit (stream_of at))) refl h where
+  by_test : (t : Bool) → nat_lt text_limit (length (stream_of at)) ≡ t → (o : Progress) → run begin (take text_limit (stream_of at)) ≡ o → due_by t o ≡ Going at → run begin (stream_of at) ≡ Going at
+  by_test true e (Going r) k q = absurd cc
+  by_test true e (Found s) k q = absurd cc
+  by_test true e (Refused b r) k q = absurd cc
+  by_test true e Over k q = absurd cc
+  by_test false e o k q =
+      let short : length (stream_of at) ≤ text_limit = grind (arith, nat_tests) in
+      ap (run begin) (sym (take_all text_limit (stream_of at) short)) ∙ k ∙ within o q where
+        within : (o : Progress) → due_by false o ≡ Going at → o ≡ Going at
+        within (Going r) q = q
+        within (Found s) q = absurd cc
+        within (Refused b r) q = absurd cc
+        within Over q = absurd cc

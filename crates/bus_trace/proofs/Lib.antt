@@ -9,6 +9,7 @@ pub mod Runs
 pub mod Walks
 pub mod Feeds
 pub mod Again
+pub mod QuickLines
 pub mod WriteTexts
 pub mod Readings
 pub mod ReadLaws

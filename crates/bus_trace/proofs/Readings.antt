@@ -1,6 +1,8 @@
--- Reads of a source, a byte at a time.
-use Rattle.std.proofs.Common.{arith, ◌≡◌, ◌≤◌, ℕ, List, [], ◌∷◌, ◌++◌, length, take, IfSome, Some, None, Result, Ok, Err, refl, sym, ap, subst, ◌∙◌, append-nil}
-use Rattle.std.proofs.lemmas.List.{take_all}
+-- Reads of a source, a line or a part of one at a time.
+use Rattle.std.proofs.Common.{arith, ◌≡◌, ◌+◌, ◌-◌, ◌<◌, ◌≤◌, ◌==◌, ◌⊎◌, inl, inr, false, get_or, length-append, append_assoc, ℕ, List, [], ◌∷◌, ◌++◌, length, take, IfSome, Some, None, Result, Ok, Err, refl, sym, ap, subst, ◌∙◌, append-nil}
+use Rattle.std.proofs.lemmas.List.{take_all, take_more, length-take, take-append-le}
+use Rattle.std.proofs.lemmas.Bool.{cases_lt}
+use Rattle.std.specs.List.{AllByRecursion}
 use Rattle.std.specs.declared.option.Option.{Option}
 use Rattle.bus_outer.specs.Sources.{Taken}
 use Rattle.bus_outer.specs.WriteLaws.{taken_on}
@@ -9,39 +11,94 @@ use Rattle.bus_trace.specs.declared.fault.TraceError.{TraceError}
 use Rattle.bus_trace.specs.declared.fault.TraceError.TheVariants.{Text, ReadFault, TooLarge, Memory}
 use Rattle.bus_trace.specs.declared.stage.Stage.TheVariants as stage
 use Rattle.bus_trace.specs.declared.stage.Fed.TheVariants as fed
-use Rattle.bus_trace.specs.Limits.{text_limit}
+use Rattle.bus_trace.specs.Limits.{line_limit, text_limit}
 use Rattle.bus_trace.specs.Traces.{Recording}
-use Rattle.bus_trace.specs.States.{text_of}
-use Rattle.bus_trace.specs.Runs.{Standing, Progress, Going, Refused, Over, begin, due, stream_of}
+use Rattle.bus_trace.specs.States.{State, text_of}
+use Rattle.bus_trace.specs.Runs.{Standing, Progress, Going, Found, Refused, Over, HasNoFeed, begin, run, ◌>>-◌, due, stream_of}
 use Rattle.bus_trace.specs.Feeding.{Reader, FeedGives, FinishGives}
 use Rattle.bus_trace.specs.Reading.{Decides}
 use Rattle.bus_trace.specs.Looping.{ByLine, ByEnd, Loops}
-use Rattle.bus_trace.proofs.Feeds.{begin_due}
+use Rattle.bus_trace.proofs.Runs.{run-append, run-line, feedless_take}
+use Rattle.bus_trace.proofs.Feeds.{begin_due, due_within, goes_on}
 
-pub pulled : (start mid new : Option (List ℕ)) (stream buf : List ℕ) (n : ℕ) → Taken start mid stream → 1 ≤ n → length buf ≡ 1 → Taken mid new (take n buf) → Taken start new (stream ++ buf)
-pulled start mid new stream buf n t h l k =
-    taken_on start mid new stream buf t (subst (λ (bs : List ℕ). Taken mid new bs) (take_all n buf (omega arith)) k)
+pub pulled : (start mid new : Option (List ℕ)) (stream buf : List ℕ) (n : ℕ) → Taken start mid stream → Taken mid new (take n buf) → Taken start new (stream ++ take n buf)
+pulled start mid new stream buf n t k = taken_on start mid new stream (take n buf) t k
+
+-- what was pulled: bytes that are no line feed, and one byte more, for all of which there is room
+pub record Pulled (at : Standing) (piece : List ℕ) : Type 0 where
+  pub front : List ℕ
+  pub last : ℕ
+  pub parts : piece ≡ front ++ last ∷ []
+  pub feedless : HasNoFeed front
+  pub line : length at.line + length front ≤ line_limit
+  pub text : length (stream_of at) + length front ≤ text_limit
+
+last_of : (n : ℕ) (buf : List ℕ) → 1 ≤ n → n ≤ length buf → take n buf ≡ take (n - 1) buf ++ get_or buf (n - 1) 0 ∷ []
+last_of n buf some within =
+    let e : n ≡ (n - 1) + 1 = omega arith in
+    ap (λ m. take m buf) e ∙ take_more buf (n - 1) 0 (omega arith)
+
+pub pulled_is : (at : Standing) (n room : ℕ) (buf : List ℕ) → 1 ≤ n → n ≤ length buf → length buf ≤ room → length at.line + room ≤ line_limit + 1 → length (stream_of at) + room ≤ text_limit + 1
+    → AllByRecursion (λ b. (b == 10) ≡ false) (take (n - 1) buf) → Pulled at (take n buf)
+pulled_is at n room buf some within long line text f =
+    let l = length-take (n - 1) buf in
+    record {
+      front = take (n - 1) buf;
+      last = get_or buf (n - 1) 0;
+      parts = last_of n buf some within;
+      feedless = f;
+      line = omega (arith, l, some, within, long, line);
+      text = omega (arith, l, some, within, long, text);
+    }
+
+pub short_slice : (room : ℕ) (xs ys : List ℕ) → length ys ≡ length (take room xs) → length ys ≤ room
+short_slice room xs ys h = omega (arith, h, length-take room xs)
+
+-- the front decides nothing
+front_going : (at : Standing) (front : List ℕ) → due text_limit (stream_of at) ≡ Going at → HasNoFeed front → length at.line + length front ≤ line_limit → length (stream_of at) + length front ≤ text_limit
+    → (run begin (stream_of at ++ front) ≡ Going (record { state = at.state; line = at.line ++ front })) × (due text_limit (stream_of at ++ front) ≡ Going (record { state = at.state; line = at.line ++ front }))
+front_going at front m f line text =
+    let g = goes_on at m in
+    let r = run-append begin (stream_of at) front ∙ ap (λ o. o >>- λ x. run x front) g ∙ run-line at front f line in
+    (r, due_within (stream_of at ++ front) _ (omega (arith, length-append (stream_of at) front, text)) r)
 
 -- the last byte, and what was undecided without it
-decides : (at : Standing) (buf : List ℕ) (d : Progress) → due text_limit (stream_of at) ≡ Going at → length buf ≡ 1 → due text_limit (stream_of at ++ buf) ≡ d → Decides (stream_of at ++ buf) d
-decides at [] d m l h = absurd (omega arith)
-decides at (b ∷ []) d m l h = record { front = stream_of at; last = b; parts = refl; before = at; undecided = m; decided = h }
-decides at (b ∷ c ∷ bs) d m l h = absurd (omega arith)
+decides : (at : Standing) (piece : List ℕ) (d : Progress) → due text_limit (stream_of at) ≡ Going at → Pulled at piece → due text_limit (stream_of at ++ piece) ≡ d → Decides (stream_of at ++ piece) d
+decides at piece d m p h = record {
+  front = stream_of at ++ p.front;
+  last = p.last;
+  parts = ap (λ x. stream_of at ++ x) p.parts ∙ sym (append_assoc (stream_of at) p.front (p.last ∷ []));
+  before = record { state = at.state; line = at.line ++ p.front };
+  undecided = (front_going at p.front m p.feedless p.line p.text).1;
+  decided = h;
+}
 
-pub whole_reads : (start new : Option (List ℕ)) (old r : Reader) (buf : List ℕ) (used : ℕ) (result : Result Recording TraceError) → Taken start new (stream_of old.at ++ buf) → length buf ≡ 1
-    → FeedGives old r buf (Ok (fed.Whole used)) → FinishGives r result → Loops start new result
-whole_reads start new old r buf used (Ok trace) t l f h = record {
-  bytes = stream_of old.at ++ buf;
+-- an end is found at the last byte alone
+all_used : (at : Standing) (piece : List ℕ) (used : ℕ) (s : State) → due text_limit (stream_of at) ≡ Going at → Pulled at piece → used ≤ length piece → run begin (stream_of at ++ take used piece) ≡ Found s → take used piece ≡ piece
+all_used at piece used s m p within found = by_case (cases_lt (length p.front) used) where
+  by_case : (length p.front < used) ⊎ (used ≤ length p.front) → take used piece ≡ piece
+  by_case (inl l) = take_all used piece (omega (arith, l, ap length p.parts, length-append p.front (p.last ∷ [])))
+  by_case (inr l) =
+      let short : take used piece ≡ take used p.front = ap (take used) p.parts ∙ take-append-le used p.front (p.last ∷ []) l in
+      let n = length-take used p.front in
+      let g = (front_going at (take used p.front) m (feedless_take used p.front p.feedless) (omega (arith, n, l, p.line)) (omega (arith, n, l, p.text))).0 in
+      let wrong : Going (record { state = at.state; line = at.line ++ take used p.front }) ≡ Found s = sym g ∙ ap (λ x. run begin (stream_of at ++ x)) (sym short) ∙ found in
+      absurd cc
+
+pub whole_reads : (start new : Option (List ℕ)) (old r : Reader) (piece : List ℕ) (used : ℕ) (result : Result Recording TraceError) → Taken start new (stream_of old.at ++ piece) → due text_limit (stream_of old.at) ≡ Going old.at → Pulled old.at piece
+    → FeedGives old r piece (Ok (fed.Whole used)) → FinishGives r result → Loops start new result
+whole_reads start new old r piece used (Ok trace) t m p f h = record {
+  bytes = stream_of old.at ++ piece;
   came = t;
   gives =
-      let all : take used buf ≡ buf = take_all used buf (omega (arith, f.2)) in
-      let text : text_of r.at.state ++ r.at.line ≡ stream_of old.at ++ buf = f.5 ∙ ap (λ bs. stream_of old.at ++ bs) all in
+      let all : take used piece ≡ piece = all_used old.at piece used r.at.state m p f.3 f.6 in
+      let text : text_of r.at.state ++ r.at.line ≡ stream_of old.at ++ piece = f.5 ∙ ap (λ bs. stream_of old.at ++ bs) all in
       (r.at.state, f.1, sym text ∙ ap (λ bs. text_of r.at.state ++ bs) f.4 ∙ append-nil (text_of r.at.state), h.1);
 }
-whole_reads start new old r buf used (Err (Text byte reason)) t l f h = absurd (cc (f.0, h.0))
-whole_reads start new old r buf used (Err ReadFault) t l f h = absurd h
-whole_reads start new old r buf used (Err TooLarge) t l f h = absurd h
-whole_reads start new old r buf used (Err Memory) t l f h = absurd h
+whole_reads start new old r piece used (Err (Text byte reason)) t m p f h = absurd (cc (f.0, h.0))
+whole_reads start new old r piece used (Err ReadFault) t m p f h = absurd h
+whole_reads start new old r piece used (Err TooLarge) t m p f h = absurd h
+whole_reads start new old r piece used (Err Memory) t m p f h = absurd h
 
 pub end_reads : (start mid new : Option (List ℕ)) (r : Reader) (result : Result Recording TraceError) → r.stage ≡ stage.Open → due text_limit (stream_of r.at) ≡ Going r.at → Taken start mid (stream_of r.at)
     → IfSome mid (λ xs. xs ≡ []) → new ≡ mid → FinishGives r result → Loops start new result
@@ -58,12 +115,12 @@ end_reads start mid new r (Err Memory) o d t e n h = absurd h
 pub fault_reads : (start mid new : Option (List ℕ)) (r : Reader) → due text_limit (stream_of r.at) ≡ Going r.at → Taken start mid (stream_of r.at) → new ≡ mid → Loops start new (Err ReadFault)
 fault_reads start mid new r d t n = record { bytes = stream_of r.at; came = subst (λ m. Taken start m (stream_of r.at)) (sym n) t; gives = (r.at, d) }
 
-pub refused_reads : (start new : Option (List ℕ)) (old r : Reader) (buf : List ℕ) (byte : ℕ) (reason : TraceReason) → Taken start new (stream_of old.at ++ buf) → due text_limit (stream_of old.at) ≡ Going old.at → length buf ≡ 1
-    → FeedGives old r buf (Ok (fed.Refused byte reason)) → Loops start new (Err (Text byte reason))
-refused_reads start new old r buf byte reason t m l f = record { bytes = stream_of old.at ++ buf; came = t; gives = ByLine (decides old.at buf (Refused byte reason) m l f.1) }
+pub refused_reads : (start new : Option (List ℕ)) (old r : Reader) (piece : List ℕ) (byte : ℕ) (reason : TraceReason) → Taken start new (stream_of old.at ++ piece) → due text_limit (stream_of old.at) ≡ Going old.at → Pulled old.at piece
+    → FeedGives old r piece (Ok (fed.Refused byte reason)) → Loops start new (Err (Text byte reason))
+refused_reads start new old r piece byte reason t m p f = record { bytes = stream_of old.at ++ piece; came = t; gives = ByLine (decides old.at piece (Refused byte reason) m p f.1) }
 
-pub large_reads : (start new : Option (List ℕ)) (old r : Reader) (buf : List ℕ) → Taken start new (stream_of old.at ++ buf) → due text_limit (stream_of old.at) ≡ Going old.at → length buf ≡ 1 → FeedGives old r buf (Ok fed.TooLarge) → Loops start new (Err TooLarge)
-large_reads start new old r buf t m l f = record { bytes = stream_of old.at ++ buf; came = t; gives = decides old.at buf Over m l f.1 }
+pub large_reads : (start new : Option (List ℕ)) (old r : Reader) (piece : List ℕ) → Taken start new (stream_of old.at ++ piece) → due text_limit (stream_of old.at) ≡ Going old.at → Pulled old.at piece → FeedGives old r piece (Ok fed.TooLarge) → Loops start new (Err TooLarge)
+large_reads start new old r piece t m p f = record { bytes = stream_of old.at ++ piece; came = t; gives = decides old.at piece Over m p f.1 }
 
 pub memory_reads : (start new : Option (List ℕ)) (bytes : List ℕ) → Taken start new bytes → length bytes ≤ text_limit → Loops start new (Err Memory)
 memory_reads start new bytes t l = record { bytes = bytes; came = t; gives = l }

@@ -107,3 +107,8 @@ pub split-feed : (xs : List ℕ) (at : ℕ) → at < length xs → get_or xs at 
 split-feed [] at l h = absurd (omega arith)
 split-feed (x ∷ xs) zero l h = ap (λ y. y ∷ xs) h
 split-feed (x ∷ xs) (suc at) l h = ap (λ ys. x ∷ ys) (split-feed xs at (omega arith) h)
+
+pub feedless_take : (n : ℕ) (xs : List ℕ) → HasNoFeed xs → HasNoFeed (take n xs)
+feedless_take zero xs h = tt
+feedless_take (suc n) [] h = tt
+feedless_take (suc n) (x ∷ xs) h = (h.0, feedless_take n xs h.1)

@@ -31,20 +31,20 @@ use Rattle.bus_trace.specs.declared.reason.TraceReason.{TraceReason}
 use Rattle.bus_trace.specs.declared.reason.TraceReason.TheVariants as reason
 use Rattle.bus_strings.specs.Limits.{horizon_limit, most_terminal}
 use Rattle.bus_trace.specs.Limits.{most_count, most_fields}
-use Rattle.bus_trace.specs.Traces.{Line, IsHold, IsBelow, format_text, head_line, horizon_line, hold_line, begin_line, string_line, entry_lines, end_line, opening_lines}
+use Rattle.bus_trace.specs.Traces.{Line, IsHold, IsBelow, format_text, head_line, horizon_line, hold_line, begin_line, string_line, entry_lines, ended_line, end_line, opening_lines}
 use Rattle.bus_trace.specs.WordFields.{are_spelled, have_parity, string_of}
 use Rattle.bus_trace.specs.States.{State, IsSound, PositionFits, MarkFits, lines_so_far, body_lines, lines_at, lines_of, text_of, keyword_of, last_count, may_follow, spaced_fields, field, is_number, number, last_terminal, last_end, is_after, is_hit, is_final, is_refuted, is_mark, mark_of, starts_wrong, with_string, more_list, format_of, headed, head_step, horizon_step, hold_step, begin_step, string_step, close_step, end_step, form_step, keyword_step, step}
 use Rattle.bus_trace.proofs.Lasts.{length-with_string, last_end_most}
 use Rattle.bus_trace.proofs.Orders.{all_push, lt_from, ascending_push, ascending_with, below_with, terminals_push}
 use Rattle.bus_trace.proofs.WordLists.{string_is}
-use Rattle.bus_trace.proofs.Told.{te_line, told_closed, told_next, told_string}
+use Rattle.bus_trace.proofs.Told.{told_closed, told_next, told_string}
 use Rattle.bus_trace.proofs.Marks.{mark_is, unhit, mark_shown, begun_fits, ended_fits}
 
 -- ---- numbers
 digit_small : (c : ℕ) → is_ascii_digit c ≡ true → digit_value c < 10
 digit_small c h = grind (arith, nat_tests)
 
-digits_from : (ds : List ℕ) → list_all is_ascii_digit ds ≡ true → AllDigits 10 ds
+pub digits_from : (ds : List ℕ) → list_all is_ascii_digit ds ≡ true → AllDigits 10 ds
 digits_from [] h = tt
 digits_from (d ∷ ds) h = let p = and_parts (is_ascii_digit d) (list_all is_ascii_digit ds) h in (digit_small d p.0, digits_from ds p.1)
 
@@ -65,7 +65,7 @@ all_digits (d ∷ []) h = grind (arith, nat_tests)
 all_digits (d ∷ e ∷ ds) h = (and_parts (not (d == 48)) (list_all is_ascii_digit (d ∷ e ∷ ds)) h).1
 
 -- a plain decimal is the one spelling of its number
-decimal_is : (ds : List ℕ) → is_plain_decimal ds ≡ true → decimal_value ds < 2 ^ 64 → decimal (decimal_value ds) ≡ ds
+pub decimal_is : (ds : List ℕ) → is_plain_decimal ds ≡ true → decimal_value ds < 2 ^ 64 → decimal (decimal_value ds) ≡ ds
 decimal_is ds h k = decimal-digits_value (numerals_by_value (AllDigits 10) tells_digits) ds (digits_from ds (all_digits ds h)) (some_digits ds h) (one_zero ds h) k
 
 -- ---- rows of tests
@@ -389,15 +389,15 @@ close_keeps s n fields k p sound h =
     let e = row_against (starts_wrong mark (is_hit s.list) (is_final s.horizon s.list)) reason.Mark None _ n d.1 in
     let plain = and_parts (is_number fields 1) (is_mark (field fields 2)) b.0 in
     let same = eqb-true (number fields 1) (last_end s.list) d.0 in
-    let line : te_line (last_end s.list) mark ≡ fields =
-    ap (λ x. te_line x mark) (sym same)
+    let line : ended_line (last_end s.list) mark ≡ fields =
+    ap (λ x. ended_line x mark) (sym same)
     ∙ ap (λ (f : List ℕ). codes "TE" ∷ decimal (number fields 1) ∷ f ∷ []) (mark_is (field fields 2) plain.1)
     ∙ ap (λ (f : List ℕ). codes "TE" ∷ f ∷ field fields 2 ∷ []) (decimal_is (field fields 1) plain.0 (omega (arith, same, last_end_most s.horizon s.list sound.trace.horizon sound.trace.list)))
     ∙ ap (λ (f : List ℕ). f ∷ field fields 1 ∷ field fields 2 ∷ []) (sym k) ∙ sym (three_fields fields a.0) in
-    let closed : lines_so_far s.format (Some mark) s.list ≡ lines_so_far s.format None s.list ++ te_line (last_end s.list) mark ∷ [] =
-    subst (λ (f : Format). lines_so_far f (Some mark) s.list ≡ lines_so_far f None s.list ++ te_line (last_end s.list) mark ∷ []) (sym at.1) (told_closed [] mark s.list some) in
+    let closed : lines_so_far s.format (Some mark) s.list ≡ lines_so_far s.format None s.list ++ ended_line (last_end s.list) mark ∷ [] =
+    subst (λ (f : Format). lines_so_far f (Some mark) s.list ≡ lines_so_far f None s.list ++ ended_line (last_end s.list) mark ∷ []) (sym at.1) (told_closed [] mark s.list some) in
     keeps s n fields Closed s.format mark s.horizon s.holds s.list (done _ n e.1)
-    (more_lines s.format None (Some mark) s.horizon s.holds s.list s.list (te_line (last_end s.list) mark ∷ []) closed
+    (more_lines s.format None (Some mark) s.horizon s.holds s.list s.list (ended_line (last_end s.list) mark ∷ []) closed
     ∙ ap (λ (l : Line). body_lines s.format None s.horizon s.holds s.list ++ l ∷ []) line ∙ position_lines s Stringing fields at.0)
     (record { fits = some; marked = (at.1, unhit mark (is_hit s.list) (is_final s.horizon s.list) e.0); trace = sound.trace })
 

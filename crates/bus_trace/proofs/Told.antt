@@ -1,6 +1,5 @@
 -- Lines with marks: as they come, and those of the whole list.
-use Rattle.std.proofs.Common.{arith, zero, suc, ◌≡◌, ℕ, ◌+◌, ◌<◌, Bool, true, false, not, ◌&&◌, ◌||◌, List, [], ◌∷◌, ◌++◌, length, take, nat_lt, map, Option, Some, None, refl, sym, ap, subst, ◌∙◌, append_assoc, append-nil, length-append, codes}
-use Rattle.std.specs.Fmt.{decimal}
+use Rattle.std.proofs.Common.{arith, zero, suc, ◌≡◌, ℕ, ◌+◌, ◌<◌, Bool, true, false, not, ◌&&◌, ◌||◌, List, [], ◌∷◌, ◌++◌, length, take, nat_lt, map, Option, Some, None, refl, sym, ap, subst, ◌∙◌, append_assoc, append-nil, length-append}
 use Rattle.std.specs.List.{flat_map, zip, slice_get, range_with_len, list_any, AllByRecursion}
 use Rattle.std.specs.Option.{option_map_or}
 use Rattle.std.proofs.lemmas.List.{map-append}
@@ -10,21 +9,17 @@ use Rattle.bus_strings.specs.Transmissions.{end_of, garbled, marks, IsByMoment, 
 use Rattle.bus_strings.specs.OverlapLaws.{NeighboursTell, AscendingIsByMoment}
 use Rattle.bus_trace.specs.declared.format.Format.{Format}
 use Rattle.bus_trace.specs.declared.format.Format.TheVariants.{One, Two}
-use Rattle.bus_trace.specs.Traces.{Line, IsBelow, mark_text, begin_line, string_line, entry_lines, close_line, marked_lines, list_lines}
+use Rattle.bus_trace.specs.Traces.{Line, IsBelow, begin_line, string_line, entry_lines, ended_line, close_line, marked_lines, list_lines}
 use Rattle.bus_trace.specs.States.{ends_behind, earlier, last_moment, last_end, is_hit, closing, told_lines, lines_so_far, with_string, MarkIs}
 
--- a TE line by its moment
-abbrev pub te_line : ℕ → Bool → Line
-te_line e mark = codes "TE" ∷ decimal e ∷ mark_text mark ∷ []
-
 -- the last is closed
-pub told_closed : (before : List Entry) (mark : Bool) (xs : List Entry) → 0 < length xs → told_lines before (Some mark) xs ≡ told_lines before None xs ++ te_line (last_end xs) mark ∷ []
+pub told_closed : (before : List Entry) (mark : Bool) (xs : List Entry) → 0 < length xs → told_lines before (Some mark) xs ≡ told_lines before None xs ++ ended_line (last_end xs) mark ∷ []
 told_closed before mark [] some = absurd (omega arith)
-told_closed before mark (x ∷ []) some = ap (λ ls. ls ++ te_line (end_of x) mark ∷ []) (sym (append-nil (entry_lines x)))
+told_closed before mark (x ∷ []) some = ap (λ ls. ls ++ ended_line (end_of x) mark ∷ []) (sym (append-nil (entry_lines x)))
 told_closed before mark (x ∷ y ∷ ys) some =
     let front : List Line = entry_lines x ++ close_line x (ends_behind x.moment before || nat_lt y.moment (end_of x)) ∷ [] in
     ap (λ ls. front ++ ls) (told_closed (before ++ x ∷ []) mark (y ∷ ys) (omega arith))
-    ∙ sym (append_assoc front (told_lines (before ++ x ∷ []) None (y ∷ ys)) (te_line (last_end (y ∷ ys)) mark ∷ []))
+    ∙ sym (append_assoc front (told_lines (before ++ x ∷ []) None (y ∷ ys)) (ended_line (last_end (y ∷ ys)) mark ∷ []))
 
 -- the next one comes, which shows that the mark of the last is right
 pub told_next : (before xs : List Entry) (mark : Bool) (y : Entry) → 0 < length xs → mark ≡ (ends_behind (last_moment xs) (before ++ earlier xs) || nat_lt y.moment (last_end xs))

@@ -1,5 +1,5 @@
 -- Walks over pieces.
-use Rattle.std.proofs.Common.{arith, ◌≡◌, ℕ, ◌+◌, ◌<◌, ◌≤◌, Bool, true, false, cond, List, [], ◌∷◌, ◌++◌, length, take, Result, Ok, Err, refl, sym, ap, ◌∙◌, append_assoc, append-nil, length-append}
+use Rattle.std.proofs.Common.{arith, ◌≡◌, ℕ, ◌+◌, ◌<◌, ◌≤◌, Bool, true, false, cond, List, [], ◌∷◌, ◌++◌, length, take, Result, Ok, Err, refl, sym, ap, subst, ◌∙◌, append_assoc, append-nil, length-append}
 use Rattle.std.specs.declared.alloc.AllocError.{AllocError}
 use Rattle.bus_trace.specs.declared.reason.TraceReason.{TraceReason}
 use Rattle.bus_trace.specs.declared.reason.TraceReason.TheVariants.{Long}
@@ -7,11 +7,11 @@ use Rattle.bus_trace.specs.declared.walk.Judged.{Judged}
 use Rattle.bus_trace.specs.declared.walk.Judged.TheVariants.{Passes, Ends, Fails}
 use Rattle.bus_trace.specs.declared.walk.Walked.TheVariants.{Ended}
 use Rattle.bus_trace.specs.States.{State, IsSound, start, step, text_of, is_ended}
-use Rattle.bus_trace.specs.Runs.{Standing, Going, Found, Refused, judged, ◌>>-◌, run, stream_of, HasNoFeed}
+use Rattle.bus_trace.specs.Runs.{Standing, Progress, Going, Found, Refused, judged, ◌>>-◌, run, stream_of, HasNoFeed}
 use Rattle.bus_trace.specs.Walking.{WalkIs, KeepGives, JudgedGives, WalkGives}
 use Rattle.std.proofs.Math.Seq.{take-append_seam}
 use Rattle.bus_trace.proofs.Steps.{step_adds, step_sound}
-use Rattle.bus_trace.proofs.Runs.{run-append, run-line, run-long, run-feed}
+use Rattle.bus_trace.proofs.Runs.{run-append, run-line, run-long, run-feed, run-whole_line}
 use Rattle.bus_trace.specs.Limits.{line_limit}
 
 pub start_sound : IsSound start
@@ -24,6 +24,9 @@ start_sound = record {
 pub start_is : WalkIs start [] 0
 unfolding text_of
 start_is = record { sound = start_sound; used_is = refl; short = omega arith }
+
+front_text : (s : State) (l kept : List ℕ) → kept ≡ [] → (text_of s ++ l) ++ 10 ∷ [] ≡ (text_of s ++ kept) ++ (l ++ 10 ∷ [])
+front_text s l kept e = append_assoc (text_of s) l (10 ∷ []) ∙ ap (λ t. t ++ (l ++ 10 ∷ [])) (sym (append-nil (text_of s)) ∙ ap (λ k. text_of s ++ k) (sym e))
 
 -- the line was judged, and the next begins
 judge_text : (s n : State) (l l' : List ℕ) → IsSound s → step s l ≡ Ok n → l' ≡ [] → text_of n ++ l' ≡ (text_of s ++ l) ++ 10 ∷ []
@@ -48,6 +51,26 @@ judge_is s n l l' used len w h e q = record {
       omega (arith, k, length-append l (10 ∷ []), w.used_is, e);
   short = omega (arith, ap length q);
 }
+
+-- the same, where the line is all in front of what was kept
+pub front_gives : (s : State) (new : Standing) (l kept : List ℕ) (r : Result Judged AllocError) (p : Progress) → kept ≡ [] → JudgedGives (record { state = s; line = l }) new (10 ∷ []) r p → JudgedGives (record { state = s; line = kept }) new (l ++ 10 ∷ []) r p
+front_gives s new l kept (Ok Passes) p e j = (j.0, j.1 ∙ front_text s l kept e)
+front_gives s new l kept (Ok Ends) p e j = (j.0, j.1 ∙ front_text s l kept e, j.2)
+front_gives s new l kept (Ok (Fails byte reason)) p e j = j
+front_gives s new l kept (Err x) p e j = tt
+
+pub front_is : (s n : State) (l kept : List ℕ) (used len : ℕ) → WalkIs s kept used → kept ≡ [] → length l ≤ line_limit → step s l ≡ Ok n → len ≡ length l → WalkIs n kept (used + (len + 1))
+front_is s n l kept used len w e short h k = judge_is s n l kept used len (record { sound = w.sound; used_is = w.used_is; short = short }) h k e
+
+pub is_nil : (xs : List ℕ) → length xs ≡ 0 → xs ≡ []
+is_nil [] h = refl
+is_nil (x ∷ xs) h = absurd (omega arith)
+
+pub front_closes : (old new : Standing) (l : List ℕ) (r : Result Judged AllocError) → old.line ≡ [] → HasNoFeed l → length l ≤ line_limit → JudgedGives old new (l ++ 10 ∷ []) r (judged old.state (step old.state l)) → JudgedGives old new (l ++ 10 ∷ []) r (run old (l ++ 10 ∷ []))
+front_closes old new l r e f short j =
+    let same : run old (l ++ 10 ∷ []) ≡ judged old.state (step old.state l) =
+    run-whole_line old l f (omega (arith, short, ap length e)) ∙ ap (λ x. judged old.state (step old.state (x ++ l))) e in
+    subst (JudgedGives old new (l ++ 10 ∷ []) r) (sym same) j
 
 pub keep_long : (s : State) (l bytes : List ℕ) → HasNoFeed bytes → length l ≤ line_limit → line_limit < length l + length bytes → run (record { state = s; line = l }) bytes ≡ Refused (length (text_of s)) Long
 keep_long s l bytes h k m = run-long (record { state = s; line = l }) bytes h k m

@@ -30,7 +30,7 @@ pair_is : (keyword : List ℕ) (m n : ℕ) → pair_put keyword m n ≡ spelled_
 pair_is keyword m n = simp append_assoc
 
 -- a space before each field
-joined : (f : List ℕ) (ws : List ℕ) → join_with_byte 32 (f ∷ map (λ value. word_text (data_word value)) ws) ≡ f ++ data_put ws
+pub joined : (f : List ℕ) (ws : List ℕ) → join_with_byte 32 (f ∷ map (λ value. word_text (data_word value)) ws) ≡ f ++ data_put ws
 joined f [] = sym (append-nil f)
 joined f (w ∷ ws) = ap (λ t. f ++ 32 ∷ t) (joined (word_text (data_word w)) ws)
 

@@ -41,6 +41,7 @@ FeedGives old new piece (Ok fed.More) =
 FeedGives old new piece (Ok (fed.Whole used)) =
     (new.stage ≡ stage.Whole) × (due text_limit (stream_of old.at ++ piece) ≡ Found new.at.state) × (0 < used)
     × (used ≤ length piece) × (new.at.line ≡ []) × (stream_of new.at ≡ stream_of old.at ++ take used piece)
+    × (run begin (stream_of old.at ++ take used piece) ≡ Found new.at.state)
 FeedGives old new piece (Ok (fed.Refused byte reason)) =
     (new.stage ≡ stage.Shut) × (due text_limit (stream_of old.at ++ piece) ≡ Refused byte reason)
 FeedGives old new piece (Ok fed.TooLarge) =

@@ -3,6 +3,7 @@ pub mod Traces
 pub mod WordFields
 pub mod States
 pub mod Reach
+pub mod Quick
 pub mod Runs
 pub mod Gives
 pub mod Walking

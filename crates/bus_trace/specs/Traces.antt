@@ -102,8 +102,12 @@ mark_text true = codes "C"
 mark_text false = codes "-"
 
 -- `TE e c`: the transmission has ended at moment e, and c is its mark.
+abbrev pub ended_line : ℕ → Bool → Line
+ended_line e mark = codes "TE" ∷ decimal e ∷ mark_text mark ∷ []
+
+-- The TE line of a transmission.
 abbrev pub close_line : Entry → Bool → Line
-close_line x mark = codes "TE" ∷ decimal (end_of x) ∷ mark_text mark ∷ []
+close_line x mark = ended_line (end_of x) mark
 
 -- The lines of a transmission of format 2, given its mark.
 abbrev pub marked_lines : Entry × Bool → List Line

@@ -2,10 +2,13 @@ ghost use Rattle.std.specs.Prelude.{◌≡◌, ◌<◌, ◌≤◌, true, length}
 ghost use Rattle.bus_text.specs.Entries.{texts};
 ghost use Rattle.bus_trace.specs.Gives.{StepGives};
 ghost use Rattle.bus_strings.specs.Limits.{horizon_limit};
+ghost use Rattle.bus_trace.specs.Limits.{line_limit};
 ghost use Rattle.bus_trace.specs.States.{IsSound, TakesString, start, recorded, step, form_step, fields_step};
 ghost use Rattle.bus_trace.specs.States.{head_step, horizon_step, hold_step, begin_step, string_step, close_step, end_step};
 ghost use Rattle.bus_trace.specs.States.{is_hit as hit_test, is_final as final_test, is_refuted as refuted_test, more_list};
 ghost use Rattle.bus_trace.specs.Reach.{IsReach};
+ghost use Rattle.bus_trace.specs.Quick.{string_taken, BeginsRight, ClosesRight, TakesQuickly};
+ghost use Rattle.std.specs.Prelude.{IsTrue, OnOk, OnErr, false, IfOk};
 ghost use Rattle.bus_strings.specs.Messages.{Wordstring as AnyString};
 ghost use Rattle.bus_trace.specs.States.{last_count as count_of, is_ended as ended_test, may_follow as may_stand};
 
@@ -19,11 +22,13 @@ use crate::list::{
 };
 use crate::mark::{is_mark, mark_of, starts_wrong, turns_wrong};
 use crate::position::{Position, is_closed, is_ended, may_follow};
+use crate::quick::{begin_line, close_line, string_line};
 use crate::reason::TraceReason;
 use crate::trace::Trace;
 use crate::words::{are_spelled, have_parity, wordstring};
 use bus_strings::limits::{HORIZON_LIMIT, MOST_TERMINAL, MOST_WORDS};
 use bus_strings::transmission::Transmission;
+use bus_strings::wordstring::Wordstring;
 use bus_text::lines::{field_at, fields_from};
 use std::alloc::{AllocError, Global};
 use std::marker::Model;
@@ -228,6 +233,16 @@ impl Draft {
             return Err(LineFault::Refused(TraceReason::Parity));
         }
         let string = wordstring(alloc, words)?;
+        self.add_string(alloc, string)?;
+        Ok(())
+    }
+
+    // Takes the wordstring of a WS line.
+    fn add_string(&mut self, alloc: Global, string: Wordstring) -> Result<(), AllocError>
+        requires { TakesString self.old.position (count_of self.old.list) }
+        ensures ok { OnOk result (self.new ≡ string_taken self.old string) }
+        ensures err { OnErr result (self.new ≡ self.old) }
+    {
         let reach = self.reach_behind();
         take_string(alloc, &mut self.list, self.position, string)?;
         self.reach = reach;
@@ -310,14 +325,127 @@ impl Draft {
         self.take_form(alloc, keyword, fields)
     }
 
-    /// Takes the next line, which is given without its line feed.
+    // Takes a WS line that is spelled as it is written, where all of it is right.
+    fn take_quick_string(&mut self, alloc: Global, line: &[u8]) -> Result<bool, AllocError>
+        requires sound { IsSound self.old }
+        requires short { length line.now ≤ line_limit }
+        ensures ok { IfOk result (λ taken. TakesQuickly self.old self.new line.now taken) }
+        ensures err { OnErr result (self.new ≡ self.old) }
+    {
+        if !may_follow(
+            self.position,
+            self.format,
+            last_count(&self.list),
+            Keyword::Ws,
+        ) {
+            return Ok(false);
+        }
+        let Some(string) = string_line(alloc, line)? else {
+            return Ok(false);
+        };
+        let _ranges = string.words();
+        self.add_string(alloc, string)?;
+        Ok(true)
+    }
+
+    // Whether a TX line of these numbers is right.
+    fn begins_right(&self, moment: u64, terminal: u64) -> bool
+        ensures { IsTrue result → BeginsRight self.now moment terminal }
+    {
+        may_follow(
+            self.position,
+            self.format,
+            last_count(&self.list),
+            Keyword::Tx,
+        ) && moment < self.horizon
+            && 1 <= terminal
+            && terminal <= MOST_TERMINAL as u64
+            && is_after(&self.list, moment, terminal)
+            && !self.is_refuted(moment < last_end(&self.list))
+    }
+
+    // Takes a TX line that is spelled as it is written, where all of it is right.
+    fn take_quick_begin(&mut self, line: &[u8]) -> bool
+        requires { IsSound self.old }
+        ensures { TakesQuickly self.old self.new line.now result }
+    {
+        let Some((moment, terminal)) = begin_line(line) else {
+            return false;
+        };
+        if !self.begins_right(moment, terminal) {
+            return false;
+        }
+        self.position = Position::Begun {
+            moment,
+            terminal: terminal as u8,
+        };
+        true
+    }
+
+    // Whether a TE line of this moment and this mark is right, or not yet wrong.
+    fn closes_right(&self, end: u64, mark: bool) -> bool
+        ensures { IsTrue result → ClosesRight self.now end mark }
+    {
+        may_follow(
+            self.position,
+            self.format,
+            last_count(&self.list),
+            Keyword::Te,
+        ) && end == last_end(&self.list)
+            && !starts_wrong(mark, self.is_hit(), self.is_final())
+    }
+
+    // Takes a TE line that is spelled as it is written, where all of it is right.
+    fn take_quick_close(&mut self, line: &[u8]) -> bool
+        requires { IsSound self.old }
+        ensures { TakesQuickly self.old self.new line.now result }
+    {
+        let Some((end, mark)) = close_line(line) else {
+            return false;
+        };
+        if !self.closes_right(end, mark) {
+            return false;
+        }
+        self.position = Position::Closed;
+        self.mark = mark;
+        true
+    }
+
+    // Takes a line of a transmission that is spelled as it is written, where all of it is right.
+    fn take_quickly(&mut self, alloc: Global, line: &[u8]) -> Result<bool, AllocError>
+        requires sound { IsSound self.old }
+        requires short { length line.now ≤ line_limit }
+        ensures ok { IfOk result (λ taken. TakesQuickly self.old self.new line.now taken) }
+        ensures err { OnErr result (self.new ≡ self.old) }
+    {
+        match line {
+            [b'W', ..] => self.take_quick_string(alloc, line),
+            [b'T', b'X', ..] => Ok(self.take_quick_begin(line)),
+            [b'T', b'E', ..] => Ok(self.take_quick_close(line)),
+            _ => Ok(false),
+        }
+    }
+
+    // Takes the next line by its fields.
     #[tactic(auto, unfolding(crate::specs::States::step))]
-    pub(crate) fn take_line(&mut self, alloc: Global, line: &[u8]) -> Result<(), LineFault>
+    fn take_slowly(&mut self, alloc: Global, line: &[u8]) -> Result<(), LineFault>
         requires { IsSound self.old }
         ensures { StepGives self.old self.new result (step self.old line.now) }
     {
         let fields = fields(alloc, line)?;
         self.take_fields(alloc, &fields)
+    }
+
+    /// Takes the next line, which is given without its line feed.
+    pub(crate) fn take_line(&mut self, alloc: Global, line: &[u8]) -> Result<(), LineFault>
+        requires sound { IsSound self.old }
+        requires short { length line.now ≤ line_limit }
+        ensures { StepGives self.old self.new result (step self.old line.now) }
+    {
+        if self.take_quickly(alloc, line)? {
+            return Ok(());
+        }
+        self.take_slowly(alloc, line)
     }
 
     /// The trace of what was read.

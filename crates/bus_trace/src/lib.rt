@@ -24,6 +24,7 @@ mod mark;
 #[cfg(test)]
 mod mark_tests;
 mod position;
+mod quick;
 mod reader;
 pub mod reading;
 pub mod reason;

@@ -1,4 +1,5 @@
 ghost use Rattle.std.specs.Prelude.{◌≡◌, ◌≢◌, ◌≤◌, ◌-◌, ◌+◌, ◌<◌, length, take, IfOk};
+ghost use Rattle.bus_trace.specs.Limits.{line_limit, text_limit};
 ghost use Rattle.bus_trace.specs.Runs.{begin, stream_of};
 ghost use Rattle.bus_trace.specs.Feeding.{fed_of, FeedGives, FinishGives};
 ghost use Rattle.bus_trace.specs.declared.stage.Stage.TheVariants.{Open, Shut};
@@ -66,8 +67,22 @@ impl TraceReader {
         })
     }
 
-    /// Takes the next piece of the stream.
-    pub(crate) fn feed(&mut self, piece: &[u8]) -> Result<Fed, AllocError>
+    /// How many bytes may be looked at next, so that none is behind the one that decides: up to the first byte past the limit of a line,
+    /// and up to the limit of the text, or the one byte past it.
+    pub(crate) fn room(&self) -> usize
+        requires { self.now.stage ≡ Open }
+        ensures some { 0 < result }
+        ensures line { length self.now.at.line + result ≤ line_limit + 1 }
+        ensures text { length (stream_of self.now.at) + result ≤ text_limit + 1 }
+        ensures within { length (stream_of self.now.at) < text_limit → length (stream_of self.now.at) + result ≤ text_limit }
+    {
+        let line = LINE_LIMIT + 1 - self.walk.pending().len();
+        let text = (TEXT_LIMIT - self.walk.length()).max(1);
+        line.min(text)
+    }
+
+    // Takes the next piece of the stream.
+    pub(crate) fn take(&mut self, piece: &[u8]) -> Result<Fed, AllocError>
         requires { self.old.stage ≡ Open }
         ensures { FeedGives self.old self.new piece.now result }
     {

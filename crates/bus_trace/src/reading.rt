@@ -6,6 +6,7 @@ ghost use Rattle.bus_trace.specs.Limits.{text_limit};
 ghost use Rattle.bus_trace.specs.Traces.{Recording, IsTrace, HoldsTrace};
 
 use crate::fault::TraceError;
+use crate::limits::LINE_LIMIT;
 use crate::reader::TraceReader;
 use crate::stage::Fed;
 use crate::trace::Trace;
@@ -13,7 +14,10 @@ use bus_outer::{Pull, Source};
 use bus_strings::laws::neighbours_tell;
 use std::alloc::Global;
 
-/// Reads a trace text of at most [`crate::limits::TEXT_LIMIT`] bytes, a byte at a time, and takes none of the bytes behind its
+// The longest line that is refused, as far as it is looked at.
+const ROOM: usize = LINE_LIMIT + 1;
+
+/// Reads a trace text of at most [`crate::limits::TEXT_LIMIT`] bytes, a line at a time, and takes none of the bytes behind its
 /// END line.
 ///
 /// `Text` comes exactly where a line is refused within the limit, at the length of the lines before it: the source has then given
@@ -37,16 +41,17 @@ pub fn read_trace<S: Source>(alloc: Global, source: &mut S) -> Result<Trace, Tra
     read_text(alloc, source)
 }
 
-// The loop: a byte, and what the reader says of it.
+// The loop: a line or a part of one, of which no byte is behind the one that decides, and what the reader says of it.
 fn read_text<S: Source>(alloc: Global, source: &mut S) -> Result<Trace, TraceError>
     ensures loops { Loops (S.left source.old) (S.left source.new) result }
     ensures counts { CountsReading (S.faults source.old) (S.faults source.new) result }
 {
     let mut reader = TraceReader::new(alloc)?;
-    let mut buf = [0u8; 1];
-    'bytes: loop {
-        match source.pull(&mut buf) {
-            Pull::Got(_) => match reader.feed(&buf)? {
+    let mut buf = [0u8; ROOM];
+    'lines: loop {
+        let room = reader.room();
+        match source.pull_line(&mut buf[..room]) {
+            Pull::Got(n) => match reader.take(&buf[..n])? {
                 Fed::More => {}
                 Fed::Whole { .. } => return reader.finish(),
                 Fed::Refused { byte, reason } => return Err(TraceError::Text { byte, reason }),

@@ -1,4 +1,5 @@
-ghost use Rattle.std.specs.Prelude.{◌≡◌, ◌<◌, if◌then◌else◌, ◌+◌, ◌^◌, length, ◌++◌, ◌∷◌, [], MatchOption};
+ghost use Rattle.std.specs.Prelude.{◌≡◌, ◌<◌, ◌≤◌, if◌then◌else◌, ◌+◌, ◌^◌, length, ◌++◌, ◌∷◌, [], MatchOption};
+ghost use Rattle.bus_trace.specs.Limits.{line_limit};
 ghost use Rattle.bus_trace.specs.States.{step, text_of, recorded};
 ghost use Rattle.bus_trace.specs.Runs.{HasNoFeed, judged, run, begin, stream_of};
 ghost use Rattle.bus_trace.specs.Walking.{KeepGives, JudgedGives, WalkGives};
@@ -91,6 +92,14 @@ impl Walk {
         self.used as usize + self.line.len()
     }
 
+    /// The bytes behind the last line feed.
+    pub(crate) fn pending(&self) -> &[u8]
+        ensures value { result.now ≡ self.now.line }
+        ensures short { length result.now ≤ line_limit }
+    {
+        &self.line
+    }
+
     // Takes bytes of one line, where there is room for them.
     fn keep(&mut self, bytes: &[u8]) -> Result<bool, AllocError>
         requires { HasNoFeed bytes.now }
@@ -123,12 +132,36 @@ impl Walk {
         Ok(passes(self.draft.is_ended()))
     }
 
+    // The line is complete, and this is all of it.
+    fn judge_front(&mut self, alloc: Global, line: &[u8]) -> Result<Judged, AllocError>
+        requires room { length (stream_of self.old) + length line.now < 2 ^ 63 }
+        requires empty { self.old.line ≡ [] }
+        requires short { length line.now ≤ line_limit }
+        ensures { JudgedGives self.old self.new (line.now ++ 10 ∷ []) result (judged self.old.state (step self.old.state line.now)) }
+    {
+        match self.draft.take_line(alloc, line) {
+            Ok(()) => {}
+            Err(LineFault::Memory) => return Err(AllocError),
+            Err(LineFault::Refused(reason)) => {
+                return Ok(Judged::Fails {
+                    byte: self.used,
+                    reason,
+                });
+            }
+        }
+        self.used += line.len() as u64 + 1;
+        Ok(passes(self.draft.is_ended()))
+    }
+
     // Takes the rest of a line, and its line feed.
     fn close(&mut self, alloc: Global, front: &[u8]) -> Result<Judged, AllocError>
         requires room { length (stream_of self.old) + length front.now < 2 ^ 63 }
         requires one { HasNoFeed front.now }
         ensures { JudgedGives self.old self.new (front.now ++ 10 ∷ []) result (run self.old (front.now ++ 10 ∷ [])) }
     {
+        if self.line.is_empty() && front.len() <= LINE_LIMIT {
+            return self.judge_front(alloc, front);
+        }
         if !self.keep(front)? {
             return Ok(Judged::Fails {
                 byte: self.used(),

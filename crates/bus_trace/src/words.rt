@@ -14,7 +14,7 @@ use bus_words::word::{FramedWord, Kind, split_label};
 use std::alloc::{AllocError, Global};
 
 /// Whether two kinds are the same.
-fn same_kind(one: Kind, other: Kind) -> bool
+pub(crate) fn same_kind(one: Kind, other: Kind) -> bool
     ensures { result ≡ same_test one other }
 {
     match one {

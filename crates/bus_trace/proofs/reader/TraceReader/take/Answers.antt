@@ -4,7 +4,7 @@ use Rattle.bus_trace.specs.declared.stage.Stage.{Stage}
 use Rattle.bus_trace.specs.declared.stage.Fed.{Fed}
 use Rattle.bus_trace.specs.declared.stage.Stage.TheVariants.{Open}
 use Rattle.bus_trace.proofs.Feeds.{feeds, feed_gives, feed_is}
-use Rattle.bus_trace.proofs.reader.TraceReader.feed.Goals as goal
+use Rattle.bus_trace.proofs.reader.TraceReader.take.Goals as goal
 
 pub invariant_of-self-2 : goal.invariant_of-self-2
 invariant_of-self-2 c =

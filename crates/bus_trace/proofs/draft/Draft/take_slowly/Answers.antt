@@ -2,7 +2,7 @@ use Rattle.std.proofs.Common.{arith, length, ap}
 use Rattle.std.proofs.lemmas.List.{length-map}
 use Rattle.std.proofs.lemmas.List.Splits.{length-slice_split}
 use Rattle.bus_trace.specs.States.{is_space}
-use Rattle.bus_trace.proofs.draft.Draft.take_line.Goals as goal
+use Rattle.bus_trace.proofs.draft.Draft.take_slowly.Goals as goal
 
 pub take_fields-requires-clause-some : goal.take_fields-requires-clause-some
 take_fields-requires-clause-some c =

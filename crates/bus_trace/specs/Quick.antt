@@ -1,0 +1,38 @@
+-- Lines that are taken without their fields being gathered: what is known where such a line is right.
+use Rattle.std.specs.Prelude.{◌≡◌, ◌≤◌, ◌<◌, ℕ, Bool, true, false, ◌&&◌, nat_lt, List, Ok}
+use Rattle.bus_strings.specs.Limits.{most_terminal}
+use Rattle.bus_strings.specs.Messages.{Wordstring}
+use Rattle.bus_trace.specs.declared.keyword.Keyword.TheVariants as keyword
+use Rattle.bus_trace.specs.declared.position.Position.TheVariants.{Stringing}
+use Rattle.bus_trace.specs.States.{State, step, may_follow, last_count, last_end, is_after, is_hit, is_final, is_refuted, starts_wrong, more_list}
+
+-- The state once the wordstring of a WS line has come.
+abbrev pub string_taken : State → Wordstring → State
+string_taken s string = record {
+  position = Stringing;
+  format = s.format;
+  mark = s.mark;
+  horizon = s.horizon;
+  holds = s.holds;
+  list = more_list s.position string s.list;
+}
+
+-- A TX line of these numbers is right.
+pub record BeginsRight (s : State) (moment terminal : ℕ) : Type 0 where
+  pub stands : may_follow s.position s.format (last_count s.list) keyword.Tx ≡ true
+  pub below : moment < s.horizon
+  pub positive : 1 ≤ terminal
+  pub low : terminal ≤ most_terminal
+  pub after : is_after s.list moment terminal ≡ true
+  pub fine : is_refuted s (nat_lt moment (last_end s.list)) ≡ false
+
+-- A TE line of this moment and this mark is right, or not yet wrong.
+pub record ClosesRight (s : State) (end : ℕ) (mark : Bool) : Type 0 where
+  pub stands : may_follow s.position s.format (last_count s.list) keyword.Te ≡ true
+  pub ends : end ≡ last_end s.list
+  pub fine : starts_wrong mark (is_hit s.list) (is_final s.horizon s.list) ≡ false
+
+-- The line was taken, and the step says so; or nothing has changed.
+abbrev pub TakesQuickly : State → State → List ℕ → Bool → Type 0
+TakesQuickly old new line true = step old line ≡ Ok new
+TakesQuickly old new line false = new ≡ old

@@ -1,0 +1,139 @@
+//! Lines that are spelled as they are written, recognized in one pass: no field of them is gathered. What isn't recognized here is judged
+//! field by field.
+ghost use Rattle.std.specs.Prelude.{◌≡◌, ◌≤◌, ◌<◌, ◌^◌, ◌++◌, ◌∷◌, true, length, take, decimal, IfSome, IfOk};
+ghost use Rattle.std.specs.List.{list_all, join_with_byte};
+ghost use Rattle.std.specs.Char.{is_ascii_digit};
+ghost use Rattle.bus_text.specs.Numbers.{decimal_value};
+ghost use Rattle.bus_words.specs.WordTexts.{word_text};
+ghost use Rattle.bus_trace.specs.Traces.{begin_line as begin_fields, ended_line, string_line as string_fields};
+ghost use Rattle.bus_trace.specs.Writing.{data_put};
+
+use crate::words::same_kind;
+use bus_strings::wordstring::Wordstring;
+use bus_words::text::read_word;
+use bus_words::word::{Kind, split_label};
+use std::alloc::{AllocError, Global};
+
+// The text of a word, and the space before it.
+const PLACES: usize = 7;
+
+// A number that one digit more can be put behind.
+const MOST_BEFORE: u64 = 100_000_000_000_000_000;
+
+/// What is behind a word at the front.
+fn behind<'a>(text: &'a [u8], word: &[u8]) -> Option<&'a [u8]>
+    ensures { IfSome result (λ r. text.now ≡ word.now ++ r.now) }
+{
+    if text.len() < word.len() || &text[..word.len()] != word {
+        return None;
+    }
+    Some(&text[word.len()..])
+}
+
+/// How many digits stand in front, as far as their number has room, and that number.
+fn leading_digits(text: &[u8]) -> (usize, u64)
+    ensures within { result.0 ≤ length text.now }
+    ensures digits { list_all is_ascii_digit (take result.0 text.now) ≡ true }
+    ensures value { result.1 ≡ decimal_value (take result.0 text.now) }
+    ensures room { result.1 < 10 ^ 18 }
+{
+    let mut value = 0;
+    let mut count = 0;
+    while count < text.len() && value < MOST_BEFORE && text[count].is_ascii_digit() {
+        value = 10 * value + u64::from(text[count] - b'0');
+        count += 1;
+    }
+    (count, value)
+}
+
+/// The plain decimal at the front, and what is behind it.
+fn first_number(text: &[u8]) -> Option<(u64, &[u8])>
+    ensures { IfSome result (λ r. (text.now ≡ decimal r.0 ++ r.1.now) × (r.0 < 10 ^ 18)) }
+{
+    let (count, value) = leading_digits(text);
+    if count == 0 || (count > 1 && text[0] == b'0') {
+        return None;
+    }
+    Some((value, &text[count..]))
+}
+
+/// The moment and the terminal of a TX line.
+pub(crate) fn begin_line(line: &[u8]) -> Option<(u64, u64)>
+    ensures { IfSome result (λ r. line.now ≡ join_with_byte 32 (begin_fields r.0 r.1)) }
+{
+    let rest = behind(line, b"TX ")?;
+    let (moment, rest) = first_number(rest)?;
+    let rest = behind(rest, b" ")?;
+    let (terminal, rest) = first_number(rest)?;
+    if rest.is_empty() {
+        Some((moment, terminal))
+    } else {
+        None
+    }
+}
+
+/// The moment and the mark of a TE line.
+pub(crate) fn close_line(line: &[u8]) -> Option<(u64, bool)>
+    ensures { IfSome result (λ r. line.now ≡ join_with_byte 32 (ended_line r.0 r.1)) }
+{
+    let rest = behind(line, b"TE ")?;
+    let (end, rest) = first_number(rest)?;
+    if rest == b" -".as_slice() {
+        Some((end, false))
+    } else if rest == b" C".as_slice() {
+        Some((end, true))
+    } else {
+        None
+    }
+}
+
+/// The value of a word of a kind, whose text stands behind a space.
+fn spaced_word(text: &[u8], kind: Kind) -> Option<u16>
+    ensures { IfSome result (λ v. text.now ≡ 32 ∷ word_text (record { kind = kind; value = v })) }
+{
+    let [b' ', word @ ..] = text else {
+        return None;
+    };
+    match read_word(word) {
+        Ok(word) if same_kind(word.kind, kind) => Some(word.value),
+        _ => None,
+    }
+}
+
+/// The values of data words, each behind a space.
+fn spaced_words(alloc: Global, text: &[u8]) -> Result<Option<Vec<u16>>, AllocError>
+    requires { length text.now ≤ 2000 }
+    ensures { IfOk result (λ o. IfSome o (λ v. text.now ≡ data_put v.items)) }
+{
+    let mut words = Vec::with_capacity(alloc, text.len() / PLACES)?;
+    let mut rest = text;
+    while rest.len() >= PLACES {
+        let Some(word) = spaced_word(&rest[..PLACES], Kind::Plain) else {
+            return Ok(None);
+        };
+        words.push(word)?;
+        rest = &rest[PLACES..];
+    }
+    Ok(if rest.is_empty() { Some(words) } else { None })
+}
+
+/// The wordstring of a WS line.
+pub(crate) fn string_line(alloc: Global, line: &[u8]) -> Result<Option<Wordstring>, AllocError>
+    requires { length line.now ≤ 2000 }
+    ensures { IfOk result (λ o. IfSome o (λ s. line.now ≡ join_with_byte 32 (string_fields s))) }
+{
+    let Some(text) = behind(line, b"WS") else {
+        return Ok(None);
+    };
+    if text.len() < PLACES {
+        return Ok(None);
+    }
+    let Some(label) = spaced_word(&text[..PLACES], Kind::Label) else {
+        return Ok(None);
+    };
+    let Some(words) = spaced_words(alloc, &text[PLACES..])? else {
+        return Ok(None);
+    };
+    let (label, ext) = split_label(label);
+    Ok(Wordstring::new(label, ext, words))
+}
