@@ -1,5 +1,6 @@
 -- Bytes that were read ahead, and a front of them that is taken.
-use Rattle.std.proofs.Common.{arith, zero, suc, ◌≡◌, ◌+◌, ◌-◌, ℕ, List, [], ◌∷◌, ◌++◌, take, drop, refl, sym, ap, ◌∙◌, append_assoc, Some, None}
+use Rattle.std.proofs.Common.{arith, zero, suc, ◌≡◌, ◌+◌, ◌-◌, ℕ, List, [], ◌∷◌, ◌++◌, take, drop, refl, sym, ap, ◌∙◌, append_assoc, Some}
+use Rattle.std.proofs.Common.{None}
 use Rattle.std.specs.List.{slice_range}
 use Rattle.std.specs.declared.option.Option.{Option}
 use Rattle.std.specs.Io.KnownBytes.{prepend_known, Consumes}
@@ -27,11 +28,16 @@ drop_drop (suc a) n (x ∷ xs) = let e : suc (a + n) ≡ suc a + n = omega arith
 
 -- what is left of a range behind its first n bytes
 range_rest : (xs : List ℕ) (a b n : ℕ) → drop n (slice_range xs a b) ≡ slice_range xs (a + n) b
-range_rest xs a b n = drop_take n (b - a) (drop a xs) ∙ ap (take (b - a - n)) (drop_drop a n xs) ∙ ap (λ k. take k (drop (a + n) xs)) (omega arith)
+range_rest xs a b n = drop_take n (b - a) (drop a xs) ∙ ap (take (b - a - n)) (drop_drop a n xs)
+    ∙ ap (λ k. take k (drop (a + n) xs)) (omega arith)
 
-consumes : (known : Option (List ℕ)) (old new taken : List ℕ) → old ≡ taken ++ new → Consumes (prepend_known old known) (prepend_known new known) taken
+consumes : (known : Option (List ℕ)) (old new taken : List ℕ) → old ≡ taken ++ new
+    → Consumes (prepend_known old known) (prepend_known new known) taken
 consumes None old new taken e = tt
 consumes (Some xs) old new taken e = ap (λ l. l ++ xs) e ∙ append_assoc taken new xs
 
-pub takes_ahead : (known : Option (List ℕ)) (xs : List ℕ) (a b n : ℕ) (taken : List ℕ) → slice_range xs a b ≡ taken ++ drop n (slice_range xs a b) → Consumes (prepend_known (slice_range xs a b) known) (prepend_known (slice_range xs (a + n) b) known) taken
-takes_ahead known xs a b n taken e = consumes known (slice_range xs a b) (slice_range xs (a + n) b) taken (e ∙ ap (λ l. taken ++ l) (range_rest xs a b n))
+pub takes_ahead : (known : Option (List ℕ)) (xs : List ℕ) (a b n : ℕ) (taken : List ℕ)
+    → slice_range xs a b ≡ taken ++ drop n (slice_range xs a b)
+    → Consumes (prepend_known (slice_range xs a b) known) (prepend_known (slice_range xs (a + n) b) known) taken
+takes_ahead known xs a b n taken e = consumes known (slice_range xs a b) (slice_range xs (a + n) b) taken
+    (e ∙ ap (λ l. taken ++ l) (range_rest xs a b n))

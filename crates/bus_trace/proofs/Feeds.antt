@@ -1,5 +1,6 @@
 -- Pieces that a reader is fed.
-use Rattle.std.proofs.Common.{arith, zero, suc, ◌≡◌, ℕ, ◌+◌, ◌-◌, ◌<◌, ◌≤◌, Bool, true, false, List, [], ◌∷◌, ◌++◌, length, take, nat_lt, Ok, refl, sym, ap, subst, ◌∙◌, length-append}
+use Rattle.std.proofs.Common.{arith, zero, suc, ◌≡◌, ℕ, ◌+◌, ◌-◌, ◌<◌, ◌≤◌, Bool, true, false, List, [], ◌∷◌, ◌++◌, length, take, nat_lt}
+use Rattle.std.proofs.Common.{Ok, refl, sym, ap, subst, ◌∙◌, length-append}
 use Rattle.std.proofs.lemmas.Bool.Decides.{nat_tests}
 use Rattle.std.proofs.lemmas.List.{length-take, take_all}
 use Rattle.std.proofs.Math.Seq.{take-append-add}
@@ -18,7 +19,7 @@ pub begin_is : ReaderIs stage.Open begin
 unfolding text_of run
 begin_is = (refl, omega arith)
 
-take_on : (limit : ℕ) (xs ys : List ℕ) → length xs ≤ limit → take limit (xs ++ ys) ≡ xs ++ take (limit - length xs) ys
+pub take_on : (limit : ℕ) (xs ys : List ℕ) → length xs ≤ limit → take limit (xs ++ ys) ≡ xs ++ take (limit - length xs) ys
 take_on limit xs ys h =
     let e : limit ≡ length xs + (limit - length xs) = omega arith in
     ap (λ n. take n (xs ++ ys)) e ∙ take-append-add xs ys (limit - length xs)
@@ -27,12 +28,15 @@ take_on limit xs ys h =
 same_run : (at : Standing) (piece : List ℕ) → run begin (stream_of at) ≡ Going at → length (stream_of at) ≤ text_limit
     → run begin (take text_limit (stream_of at ++ piece)) ≡ run at (take (text_limit - length (stream_of at)) piece)
 same_run at piece h k =
-    ap (run begin) (take_on text_limit (stream_of at) piece k) ∙ run-append begin (stream_of at) (take (text_limit - length (stream_of at)) piece) ∙ ap (λ o. o >>- λ m. run m (take (text_limit - length (stream_of at)) piece)) h
+    ap (run begin) (take_on text_limit (stream_of at) piece k)
+    ∙ run-append begin (stream_of at) (take (text_limit - length (stream_of at)) piece)
+    ∙ ap (λ o. o >>- λ m. run m (take (text_limit - length (stream_of at)) piece)) h
 
 lt_same : (a b c d : ℕ) → (a < b → c < d) → (c < d → a < b) → nat_lt a b ≡ nat_lt c d
 lt_same a b c d h k = grind (arith, nat_tests)
 
-longer_is : (at : Standing) (piece front : List ℕ) → length (stream_of at) ≤ text_limit → front ≡ take (text_limit - length (stream_of at)) piece
+longer_is : (at : Standing) (piece front : List ℕ) → length (stream_of at) ≤ text_limit
+    → front ≡ take (text_limit - length (stream_of at)) piece
     → nat_lt text_limit (length (stream_of at ++ piece)) ≡ nat_lt (length front) (length piece)
 longer_is at piece front k e =
     let l = length-take (text_limit - length (stream_of at)) piece in
@@ -40,7 +44,8 @@ longer_is at piece front k e =
     let f = ap length e in
     lt_same text_limit (length (stream_of at ++ piece)) (length front) (length piece) (λ h. omega arith) (λ h. omega arith)
 
-pub due_is : (at : Standing) (piece front : List ℕ) → run begin (stream_of at) ≡ Going at → length (stream_of at) ≤ text_limit → front ≡ take (text_limit - length (stream_of at)) piece
+pub due_is : (at : Standing) (piece front : List ℕ) → run begin (stream_of at) ≡ Going at → length (stream_of at) ≤ text_limit
+    → front ≡ take (text_limit - length (stream_of at)) piece
     → due text_limit (stream_of at ++ piece) ≡ due_by (nat_lt (length front) (length piece)) (run at front)
 unfolding due
 due_is at piece front h k e =
@@ -70,18 +75,26 @@ pub record Feeds (at : Standing) (piece front : List ℕ) : Type 0 where
   pub fits : length (stream_of at) ≤ text_limit
   pub front_is : front ≡ take (text_limit - length (stream_of at)) piece
 
-feeds_due : (at : Standing) (piece front : List ℕ) (out : Progress) (t : Bool) → Feeds at piece front → run at front ≡ out → nat_lt (length front) (length piece) ≡ t → due text_limit (stream_of at ++ piece) ≡ due_by t out
-feeds_due at piece front out t f h e = due_is at piece front f.going f.fits f.front_is ∙ ap (λ b. due_by b (run at front)) e ∙ ap (due_by t) h
+feeds_due : (at : Standing) (piece front : List ℕ) (out : Progress) (t : Bool) → Feeds at piece front → run at front ≡ out
+    → nat_lt (length front) (length piece) ≡ t → due text_limit (stream_of at ++ piece) ≡ due_by t out
+feeds_due at piece front out t f h e = due_is at piece front f.going f.fits f.front_is ∙ ap (λ b. due_by b (run at front)) e
+    ∙ ap (due_by t) h
 
 -- where a walk went is where the stream leads
-on : (at : Standing) (xs : List ℕ) (out : Progress) → run begin (stream_of at) ≡ Going at → run at xs ≡ out → run begin (stream_of at ++ xs) ≡ out
+on : (at : Standing) (xs : List ℕ) (out : Progress) → run begin (stream_of at) ≡ Going at → run at xs ≡ out
+    → run begin (stream_of at ++ xs) ≡ out
 on at xs out g h = run-append begin (stream_of at) xs ∙ ap (λ o. o >>- λ m. run m xs) g ∙ h
 
-pub feed_gives : (at new : Standing) (piece front : List ℕ) (w : Walked) (t : Bool) → Feeds at piece front → nat_lt (length front) (length piece) ≡ t → WalkGives at new front (Ok w) (run at front)
+pub feed_gives : (at new : Standing) (piece front : List ℕ) (w : Walked) (t : Bool) → Feeds at piece front
+    → nat_lt (length front) (length piece) ≡ t → WalkGives at new front (Ok w) (run at front)
     → FeedGives (record { stage = stage.Open; at = at }) (record { stage = (fed_of w t).0; at = new }) piece (Ok (fed_of w t).1)
 feed_gives at new piece front Passed true f e w = (refl, feeds_due at piece front (Going new) true f w.0 e)
-feed_gives at new piece front Passed false f e w =
-    (refl, feeds_due at piece front (Going new) false f w.0 e, w.1 ∙ ap (λ p. stream_of at ++ p) (front_all piece front (text_limit - length (stream_of at)) f.front_is e))
+feed_gives at new piece front Passed false f e w = (
+  refl,
+  feeds_due at piece front (Going new) false f w.0 e,
+  w.1
+      ∙ ap (λ p. stream_of at ++ p) (front_all piece front (text_limit - length (stream_of at)) f.front_is e),
+)
 feed_gives at new piece front (Ended used) t f e w = (
   refl,
   feeds_due at piece front (Found new.state) t f w.0 e,
@@ -89,25 +102,41 @@ feed_gives at new piece front (Ended used) t f e w = (
   omega (arith, ap length f.front_is, length-take (text_limit - length (stream_of at)) piece, w.2),
   w.4,
   w.1 ∙ ap (λ p. stream_of at ++ p) (take_front piece front (text_limit - length (stream_of at)) used f.front_is w.2),
-  ap (λ p. run begin (stream_of at ++ p)) (sym (take_front piece front (text_limit - length (stream_of at)) used f.front_is w.2)) ∙ on at (take used front) (Found new.state) f.going w.5,
+  ap (λ p. run begin (stream_of at ++ p)) (sym (take_front piece front (text_limit - length (stream_of at)) used f.front_is w.2))
+      ∙ on at (take used front) (Found new.state) f.going w.5,
 )
 feed_gives at new piece front (Failed byte reason) t f e w = (refl, feeds_due at piece front (Refused byte reason) t f w e)
 
 room_is : (at : Standing) (piece front : List ℕ) → Feeds at piece front → length (stream_of at ++ front) ≤ text_limit
-room_is at piece front f = omega (arith, f.fits, ap length f.front_is, length-take (text_limit - length (stream_of at)) piece, length-append (stream_of at) front)
+room_is at piece front f = omega (
+  arith,
+  f.fits,
+  ap length f.front_is,
+  length-take (text_limit - length (stream_of at)) piece,
+  length-append (stream_of at) front,
+)
 
-pub feed_is : (at new : Standing) (piece front : List ℕ) (w : Walked) (t : Bool) → Feeds at piece front → WalkGives at new front (Ok w) (run at front) → ReaderIs (fed_of w t).0 new
+pub feed_is : (at new : Standing) (piece front : List ℕ) (w : Walked) (t : Bool) → Feeds at piece front
+    → WalkGives at new front (Ok w) (run at front) → ReaderIs (fed_of w t).0 new
 feed_is at new piece front Passed true f w = tt
 feed_is at new piece front Passed false f w =
     (ap (run begin) w.1 ∙ on at front (Going new) f.going w.0, omega (arith, ap length w.1, room_is at piece front f))
 feed_is at new piece front (Ended used) t f w = (
   ap (run begin) w.1 ∙ on at (take used front) (Found new.state) f.going w.5,
-  omega (arith, ap length w.1, length-append (stream_of at) (take used front), length-take used front, room_is at piece front f, length-append (stream_of at) front),
+  omega (
+    arith,
+    ap length w.1,
+    length-append (stream_of at) (take used front),
+    length-take used front,
+    room_is at piece front f,
+    length-append (stream_of at) front,
+  ),
   w.4,
 )
 feed_is at new piece front (Failed byte reason) t f w = tt
 
-pub feeds : (at : Standing) (s : Stage) (piece front : List ℕ) (room : ℕ) → ReaderIs s at → s ≡ stage.Open → room ≡ length (stream_of at) → front ≡ take (text_limit - room) piece → Feeds at piece front
+pub feeds : (at : Standing) (s : Stage) (piece front : List ℕ) (room : ℕ) → ReaderIs s at → s ≡ stage.Open → room ≡ length (stream_of at)
+    → front ≡ take (text_limit - room) piece → Feeds at piece front
 feeds at s piece front room i e r k =
     let p : ReaderIs stage.Open at = subst (λ q. ReaderIs q at) e i in
     record { going = p.0; fits = p.1; front_is = k ∙ ap (λ n. take (text_limit - n) piece) r }
@@ -130,20 +159,22 @@ more_fits xs at h = by_test (nat_lt text_limit (length xs)) refl (run begin (tak
 -- a stream within the limit leads where its bytes do
 pub due_within : (xs : List ℕ) (d : Progress) → length xs ≤ text_limit → run begin xs ≡ d → due text_limit xs ≡ d
 unfolding due
-due_within xs d h e = ap (λ t. due_by t (run begin (take text_limit xs))) (within_is text_limit (length xs) h) ∙ ap (λ x. due_by false (run begin x)) (take_all text_limit xs h) ∙ ap (due_by false) e ∙ same d where
-  within_is : (a b : ℕ) → b ≤ a → nat_lt a b ≡ false
-  within_is a b h = grind (arith, nat_tests)
+due_within xs d h e = ap (λ t. due_by t (run begin (take text_limit xs))) (within_is text_limit (length xs) h)
+    ∙ ap (λ x. due_by false (run begin x)) (take_all text_limit xs h) ∙ ap (due_by false) e ∙ same d where
+      within_is : (a b : ℕ) → b ≤ a → nat_lt a b ≡ false
+      within_is a b h = grind (arith, nat_tests)
 
-  same : (d : Progress) → due_by false d ≡ d
-  same (Going r) = refl
-  same (Found s) = refl
-  same (Refused b r) = refl
-  same Over = refl
+      same : (d : Progress) → due_by false d ≡ d
+      same (Going r) = refl
+      same (Found s) = refl
+      same (Refused b r) = refl
+      same Over = refl
 
 pub goes_on : (at : Standing) → due text_limit (stream_of at) ≡ Going at → run begin (stream_of at) ≡ Going at
 unfolding due
 goes_on at h = by_test (nat_lt text_limit (length (stream_of at))) refl (run begin (take text_limit (stream_of at))) refl h where
-  by_test : (t : Bool) → nat_lt text_limit (length (stream_of at)) ≡ t → (o : Progress) → run begin (take text_limit (stream_of at)) ≡ o → due_by t o ≡ Going at → run begin (stream_of at) ≡ Going at
+  by_test : (t : Bool) → nat_lt text_limit (length (stream_of at)) ≡ t → (o : Progress) → run begin (take text_limit (stream_of at)) ≡ o
+      → due_by t o ≡ Going at → run begin (stream_of at) ≡ Going at
   by_test true e (Going r) k q = absurd cc
   by_test true e (Found s) k q = absurd cc
   by_test true e (Refused b r) k q = absurd cc

@@ -1,5 +1,6 @@
 -- The last hold and the last transmission.
-use Rattle.std.proofs.Common.{arith, zero, suc, ◌≡◌, ℕ, ◌+◌, ◌*◌, ◌<◌, ◌≤◌, ◌^◌, List, [], ◌∷◌, ◌++◌, length, get_or, set, refl, sym, ap, ◌∙◌}
+use Rattle.std.proofs.Common.{arith, zero, suc, ◌≡◌, ℕ, ◌+◌, ◌*◌, ◌<◌, ◌≤◌, ◌^◌, List, [], ◌∷◌, ◌++◌, length, get_or, set, refl, sym, ap}
+use Rattle.std.proofs.Common.{◌∙◌}
 use Rattle.bus_strings.specs.Messages.{Wordstring, Entry}
 use Rattle.bus_trace.specs.declared.hold.Hold.{Hold}
 use Rattle.std.specs.List.{AllByRecursion, sum_by}
@@ -7,7 +8,8 @@ use Rattle.std.proofs.lemmas.List.Sums.{sum_by-cons}
 use Rattle.bus_strings.specs.Messages.{Message, IsWordstring, IsMessage, word_count, bits}
 use Rattle.bus_strings.specs.Transmissions.{end_of}
 use Rattle.bus_trace.specs.Traces.{IsBelow}
-use Rattle.bus_trace.specs.States.{last_terminal, last_count, is_after, comes_after, with_string, last_moment, last_sender, last_end, earlier}
+use Rattle.bus_trace.specs.States.{last_terminal, last_count, is_after, comes_after, with_string, last_moment, last_sender, last_end}
+use Rattle.bus_trace.specs.States.{earlier}
 
 pub last_is : (hs : List Hold) (i : ℕ) (h : Hold) → suc i ≡ length hs → h ≡ get_or hs i h → last_terminal hs ≡ h.terminal
 last_is [] i h e k = absurd (omega arith)
@@ -28,7 +30,8 @@ last_count_is (c ∷ []) (suc i) x e k = absurd (omega arith)
 last_count_is (c ∷ d ∷ xs) zero x e k = absurd (omega arith)
 last_count_is (c ∷ d ∷ xs) (suc i) x e k = last_count_is (d ∷ xs) i x (omega arith) k
 
-pub last_after_is : (xs : List Entry) (i : ℕ) (x : Entry) (m n : ℕ) → suc i ≡ length xs → x ≡ get_or xs i x → is_after xs m n ≡ comes_after x m n
+pub last_after_is : (xs : List Entry) (i : ℕ) (x : Entry) (m n : ℕ) → suc i ≡ length xs → x ≡ get_or xs i x
+    → is_after xs m n ≡ comes_after x m n
 last_after_is [] i x m n e k = absurd (omega arith)
 last_after_is (c ∷ []) zero x m n e k = ap (λ (d : Entry). comes_after d m n) (sym k)
 last_after_is (c ∷ []) (suc i) x m n e k = absurd (omega arith)
@@ -36,27 +39,42 @@ last_after_is (c ∷ d ∷ xs) zero x m n e k = absurd (omega arith)
 last_after_is (c ∷ d ∷ xs) (suc i) x m n e k = last_after_is (d ∷ xs) i x m n (omega arith) k
 
 -- the last is set to what it was, with a wordstring more
-pub set_last : (xs : List Entry) (i : ℕ) (x : Entry) (w : Wordstring) → suc i ≡ length xs → x ≡ get_or xs i x → set xs i (record { moment = x.moment; terminal = x.terminal; message = x.message ++ w ∷ [] }) ≡ with_string w xs
+pub set_last : (xs : List Entry) (i : ℕ) (x : Entry) (w : Wordstring) → suc i ≡ length xs → x ≡ get_or xs i x
+    → set xs i (record { moment = x.moment; terminal = x.terminal; message = x.message ++ w ∷ [] }) ≡ with_string w xs
 set_last [] i x w e k = absurd (omega arith)
-set_last (c ∷ []) zero x w e k = ap (λ (d : Entry). record { moment = d.moment; terminal = d.terminal; message = d.message ++ w ∷ [] } ∷ []) k
+set_last (c ∷ []) zero x w e k = ap (λ (d : Entry). record {
+  moment = d.moment;
+  terminal = d.terminal;
+  message =
+      d.message ++ w ∷ [];
+} ∷ []) k
 set_last (c ∷ []) (suc i) x w e k = absurd (omega arith)
 set_last (c ∷ d ∷ xs) zero x w e k = absurd (omega arith)
 set_last (c ∷ d ∷ xs) (suc i) x w e k = ap (λ us. c ∷ us) (set_last (d ∷ xs) i x w (omega arith) k)
 
-pub set_last_string : (xs : List Entry) (i moment terminal : ℕ) (old new : List Wordstring) (x : Entry) (w : Wordstring) → suc i ≡ length xs → x ≡ get_or xs i x
-    → record { moment = moment; terminal = terminal; message = old } ≡ x → new ≡ old ++ w ∷ [] → set xs i (record { moment = moment; terminal = terminal; message = new }) ≡ with_string w xs
+pub set_last_string : (xs : List Entry) (i moment terminal : ℕ) (old new : List Wordstring) (x : Entry) (w : Wordstring)
+    → suc i ≡ length xs → x ≡ get_or xs i x
+    → record { moment = moment; terminal = terminal; message = old } ≡ x → new ≡ old ++ w ∷ []
+    → set xs i (record { moment = moment; terminal = terminal; message = new }) ≡ with_string w xs
 set_last_string xs i moment terminal old new x w e k view n =
     ap (λ (ws : List Wordstring). set xs i (record { moment = moment; terminal = terminal; message = ws })) n
     ∙ ap (λ (d : Entry). set xs i (record { moment = d.moment; terminal = d.terminal; message = d.message ++ w ∷ [] })) view
     ∙ set_last xs i x w e k
 
 -- a wordstring more of a transmission that was just begun, or goes on
-pub with_last : (w : Wordstring) (xs : List Entry) (m n : ℕ) (ws : List Wordstring) → with_string w (xs ++ record { moment = m; terminal = n; message = ws } ∷ []) ≡ xs ++ record { moment = m; terminal = n; message = ws ++ w ∷ [] } ∷ []
+pub with_last : (w : Wordstring) (xs : List Entry) (m n : ℕ) (ws : List Wordstring)
+    → with_string w (xs ++ record { moment = m; terminal = n; message = ws } ∷ []) ≡ xs ++ record {
+      moment = m;
+      terminal = n;
+      message =
+          ws ++ w ∷ [];
+    } ∷ []
 with_last w [] m n ws = refl
 with_last w (x ∷ []) m n ws = refl
 with_last w (x ∷ y ∷ xs) m n ws = ap (λ us. x ∷ us) (with_last w (y ∷ xs) m n ws)
 
-pub count_last : (xs : List Entry) (m n : ℕ) (ws : List Wordstring) → last_count (xs ++ record { moment = m; terminal = n; message = ws } ∷ []) ≡ length ws
+pub count_last : (xs : List Entry) (m n : ℕ) (ws : List Wordstring)
+    → last_count (xs ++ record { moment = m; terminal = n; message = ws } ∷ []) ≡ length ws
 count_last [] m n ws = refl
 count_last (x ∷ []) m n ws = refl
 count_last (x ∷ y ∷ xs) m n ws = count_last (y ∷ xs) m n ws

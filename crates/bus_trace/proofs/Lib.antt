@@ -4,12 +4,16 @@ pub mod WordLists
 pub mod Told
 pub mod Marks
 pub mod MarkSteps
+pub mod StepRows
 pub mod Steps
 pub mod Runs
 pub mod Walks
 pub mod Feeds
+pub mod AgainLines
 pub mod Again
 pub mod QuickLines
 pub mod WriteTexts
 pub mod Readings
+pub mod ReadRuns
 pub mod ReadLaws
+pub mod PieceLaws

@@ -1,5 +1,6 @@
 -- A walk over a list, and the marks that come with it.
-use Rattle.std.proofs.Common.{append-nil, arith, zero, suc, ◌≡◌, ℕ, ◌+◌, ◌<◌, ◌≤◌, Bool, true, false, List, [], ◌∷◌, ◌++◌, length, take, drop, get_or, Option, Some, None, refl, ap, sym, ◌∙◌}
+use Rattle.std.proofs.Common.{append-nil, arith, zero, suc, ◌≡◌, ℕ, ◌+◌, ◌<◌, ◌≤◌, Bool, true, false, List, [], ◌∷◌, ◌++◌, length, take}
+use Rattle.std.proofs.Common.{drop, get_or, Option, Some, None, refl, ap, sym, ◌∙◌}
 use Rattle.std.specs.Bool.{beq}
 use Rattle.std.specs.List.{zip, flat_map}
 use Rattle.std.proofs.lemmas.List.Concat.{flat_map-append}
@@ -12,7 +13,8 @@ use Rattle.bus_strings.specs.Messages.{Entry}
 use Rattle.bus_strings.specs.Transmissions.{garbled, marks}
 
 -- the first pair of what is left
-next_pair : {X : Type 0} (xs : List X) (ms : List Bool) (i : ℕ) (x : X) (m : Bool) (rest : List Bool) → x ≡ get_or xs i x → i < length xs → drop i ms ≡ m ∷ rest
+next_pair : {X : Type 0} (xs : List X) (ms : List Bool) (i : ℕ) (x : X) (m : Bool) (rest : List Bool) → x ≡ get_or xs i x → i < length xs
+    → drop i ms ≡ m ∷ rest
     → (take (suc i) (zip xs ms) ≡ take i (zip xs ms) ++ (x, m) ∷ []) × (rest ≡ drop (suc i) ms)
 next_pair [] ms i x m rest e within h = absurd (omega arith)
 next_pair (y ∷ xs) [] zero x m rest e within h = absurd cc
@@ -36,14 +38,16 @@ length-marks : (list : List Entry) → length (marks list) ≡ length list
 length-marks list = length-map-range_with_len (garbled list) 0 (length list)
 
 -- the next entry, and its mark as it was taken
-next_by : (list : List Entry) (ms : List Bool) (i : ℕ) (x : Entry) (old new : List Bool) (r : Option Bool) → length ms ≡ length list → x ≡ get_or list i x → i < length list → old ≡ drop i ms → YieldsFirst (λ (s : List Bool). s) old r new
+next_by : (list : List Entry) (ms : List Bool) (i : ℕ) (x : Entry) (old new : List Bool) (r : Option Bool) → length ms ≡ length list
+    → x ≡ get_or list i x → i < length list → old ≡ drop i ms → YieldsFirst (λ (s : List Bool). s) old r new
     → (take (suc i) (zip list ms) ≡ take i (zip list ms) ++ (x, option_eq beq r (Some true)) ∷ []) × (new ≡ drop (suc i) ms)
 next_by list ms i x old new None l e within o y = absurd (none_left ms i (omega arith) (sym o ∙ y.0))
 next_by list ms i x old new (Some m) l e within o y =
     let p = next_pair list ms i x m new e within (sym o ∙ y) in
     (p.0 ∙ ap (λ b. take i (zip list ms) ++ (x, b) ∷ []) (sym (is_true m)), p.1)
 
-pub next_marked : (list : List Entry) (i : ℕ) (x : Entry) (old new : List Bool) (r : Option Bool) (b : Bool) → x ≡ get_or list i x → i < length list → old ≡ drop i (marks list) → YieldsFirst (λ (s : List Bool). s) old r new → b ≡ option_eq beq r (Some true)
+pub next_marked : (list : List Entry) (i : ℕ) (x : Entry) (old new : List Bool) (r : Option Bool) (b : Bool) → x ≡ get_or list i x
+    → i < length list → old ≡ drop i (marks list) → YieldsFirst (λ (s : List Bool). s) old r new → b ≡ option_eq beq r (Some true)
     → (take (i + 1) (zip list (marks list)) ≡ take i (zip list (marks list)) ++ (x, b) ∷ []) × (new ≡ drop (i + 1) (marks list))
 next_marked list i x old new r b e within o y t =
     let n = next_by list (marks list) i x old new r (length-marks list) e within o y in

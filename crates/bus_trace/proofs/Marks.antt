@@ -1,5 +1,6 @@
 -- Marks that are wrong, and marks that are right.
-use Rattle.std.proofs.Common.{arith, ◌≡◌, ℕ, ◌+◌, ◌<◌, ◌≤◌, Bool, true, false, not, ◌&&◌, ◌||◌, ◌==◌, ◌⊎◌, inl, inr, List, [], ◌∷◌, ◌++◌, length, nat_lt, max, codes, refl, sym, ap, subst, ◌∙◌}
+use Rattle.std.proofs.Common.{arith, ◌≡◌, ℕ, ◌+◌, ◌<◌, ◌≤◌, Bool, true, false, not, ◌&&◌, ◌||◌, ◌==◌, ◌⊎◌, inl, inr, List, [], ◌∷◌, ◌++◌}
+use Rattle.std.proofs.Common.{length, nat_lt, max, codes, refl, sym, ap, subst, ◌∙◌}
 use Rattle.std.specs.Str.{bytes_eq}
 use Rattle.std.specs.List.{list_any}
 use Rattle.std.proofs.lemmas.Bool.Decides.{nat_tests}
@@ -14,7 +15,8 @@ use Rattle.bus_trace.specs.declared.keyword.Keyword.TheVariants as keyword
 use Rattle.bus_trace.specs.declared.position.Position.{Position}
 use Rattle.bus_trace.specs.declared.position.Position.TheVariants.{Start, Headed, Holding, Begun, Stringing, Closed, Ended}
 use Rattle.bus_trace.specs.Traces.{mark_text}
-use Rattle.bus_trace.specs.States.{ends_behind, earlier, last_moment, last_sender, last_end, is_hit, is_final, with_string, more_list, may_follow, is_closed, is_mark, mark_of, starts_wrong, turns_wrong, PositionFits, MarkIs, MarkFits}
+use Rattle.bus_trace.specs.States.{ends_behind, earlier, last_moment, last_sender, last_end, is_hit, is_final, with_string, more_list}
+use Rattle.bus_trace.specs.States.{may_follow, is_closed, is_mark, mark_of, starts_wrong, turns_wrong, PositionFits, MarkIs, MarkFits}
 use Rattle.bus_trace.specs.Reach.{IsReach}
 use Rattle.bus_trace.proofs.Lasts.{earlier_push, earlier_with, moment_push, sender_push}
 
@@ -45,7 +47,8 @@ right false false false k h = refl
 no_two : One ≡ Two → ⊥
 no_two h = cc
 
-pub mark_shown : (p : Position) (f : Format) (mark : Bool) (n h : ℕ) (hs : List Hold) (xs : List Entry) (met : Bool) → may_follow p f n keyword.Tx ≡ true → PositionFits p h hs xs → MarkFits p f mark xs
+pub mark_shown : (p : Position) (f : Format) (mark : Bool) (n h : ℕ) (hs : List Hold) (xs : List Entry) (met : Bool)
+    → may_follow p f n keyword.Tx ≡ true → PositionFits p h hs xs → MarkFits p f mark xs
     → (is_closed p && turns_wrong mark (is_hit xs) met) ≡ false → f ≡ Two → MarkIs mark xs met
 mark_shown Start f mark n h hs xs met m fits k e two = absurd cc
 mark_shown Headed f mark n h hs xs met m fits k e two = absurd cc
@@ -56,7 +59,8 @@ mark_shown Stringing Two mark n h hs xs met m fits k e two = absurd cc
 mark_shown Closed f mark n h hs xs met m fits k e two = λ some. right mark (is_hit xs) met k.1 e
 mark_shown Ended f mark n h hs xs met m fits k e two = absurd cc
 
-pub begun_fits : (f : Format) (m n : ℕ) (mark : Bool) (xs : List Entry) → (f ≡ Two → MarkIs mark xs (nat_lt m (last_end xs))) → MarkFits (Begun m n) f mark xs
+pub begun_fits : (f : Format) (m n : ℕ) (mark : Bool) (xs : List Entry) → (f ≡ Two → MarkIs mark xs (nat_lt m (last_end xs)))
+    → MarkFits (Begun m n) f mark xs
 begun_fits One m n mark xs h = tt
 begun_fits Two m n mark xs h = h refl
 
@@ -99,7 +103,9 @@ pub started_next : (h : ℕ) (done : List Entry) (x y : Entry) → Precedes x y 
     → starts_wrong (ends_behind x.moment done || nat_lt y.moment (end_of x)) (is_hit (done ++ x ∷ [])) (is_final h (done ++ x ∷ [])) ≡ false
 started_next h done x y p below low =
     ap (λ b. starts_wrong (ends_behind x.moment done || nat_lt y.moment (end_of x)) b (is_final h (done ++ x ∷ []))) (hit_push done x)
-    ∙ started (ends_behind x.moment done) (nat_lt y.moment (end_of x)) (is_final h (done ++ x ∷ [])) (λ _. ap (λ m. m + 1 == h && last_sender (done ++ x ∷ []) == 128) (moment_push done x) ∙ ap (λ t. x.moment + 1 == h && t == 128) (sender_push done x)
+    ∙ started (ends_behind x.moment done) (nat_lt y.moment (end_of x)) (is_final h (done ++ x ∷ []))
+    (λ _. ap (λ m. m + 1 == h && last_sender (done ++ x ∷ []) == 128) (moment_push done x)
+    ∙ ap (λ t. x.moment + 1 == h && t == 128) (sender_push done x)
     ∙ not_final x.moment x.terminal h 128 (room p)) where
       room : Precedes x y → (x.moment + 1 < h) ⊎ (x.terminal < 128)
       room (inl k) = inl (omega (arith, k, below))
@@ -113,25 +119,29 @@ or_nil false = refl
 ends_last : (m : ℕ) (xs : List Entry) → ends_behind m xs ≡ (ends_behind m (earlier xs) || nat_lt m (last_end xs))
 ends_last m [] = let e : nat_lt m 0 ≡ false = grind (arith, nat_tests) in sym e
 ends_last m (x ∷ []) = sym (or_nil (nat_lt m (end_of x)))
-ends_last m (x ∷ y ∷ xs) = ap (λ b. nat_lt m (end_of x) || b) (ends_last m (y ∷ xs)) ∙ assoc (nat_lt m (end_of x)) (ends_behind m (earlier (y ∷ xs))) (nat_lt m (last_end (y ∷ xs))) where
-  assoc : (a b c : Bool) → (a || (b || c)) ≡ ((a || b) || c)
-  assoc true b c = refl
-  assoc false b c = refl
+ends_last m (x ∷ y ∷ xs) = ap (λ b. nat_lt m (end_of x) || b) (ends_last m (y ∷ xs))
+    ∙ assoc (nat_lt m (end_of x)) (ends_behind m (earlier (y ∷ xs))) (nat_lt m (last_end (y ∷ xs))) where
+      assoc : (a b c : Bool) → (a || (b || c)) ≡ ((a || b) || c)
+      assoc true b c = refl
+      assoc false b c = refl
 
 behind_either : (m a b : ℕ) → (nat_lt m a || nat_lt m b) ≡ nat_lt m (max a b)
 behind_either m a b = grind (arith, nat_tests)
 
 reach_push : (xs : List Entry) (x : Entry) (reach : ℕ) → IsReach xs reach → IsReach (xs ++ x ∷ []) (max reach (last_end xs))
-reach_push xs x reach h = λ m. ap (ends_behind m) (earlier_push xs x) ∙ ends_last m xs ∙ ap (λ b. b || nat_lt m (last_end xs)) (h m) ∙ behind_either m reach (last_end xs)
+reach_push xs x reach h = λ m. ap (ends_behind m) (earlier_push xs x) ∙ ends_last m xs ∙ ap (λ b. b || nat_lt m (last_end xs)) (h m)
+    ∙ behind_either m reach (last_end xs)
 
-pub reach_begun : (m n : ℕ) (xs : List Entry) (reach : ℕ) → IsReach xs reach → (w : Wordstring) → IsReach (more_list (Begun m n) w xs) (max reach (last_end xs))
+pub reach_begun : (m n : ℕ) (xs : List Entry) (reach : ℕ) → IsReach xs reach → (w : Wordstring)
+    → IsReach (more_list (Begun m n) w xs) (max reach (last_end xs))
 reach_begun m n xs reach h w = reach_push xs (record { moment = m; terminal = n; message = w ∷ [] }) reach h
 
 pub reach_with : (xs : List Entry) (reach : ℕ) → IsReach xs reach → (w : Wordstring) → IsReach (with_string w xs) reach
 reach_with xs reach h w = λ m. ap (ends_behind m) (earlier_with w xs) ∙ h m
 
 -- in every place but behind a TX line
-pub reach_other : (p : Position) (xs : List Entry) (reach : ℕ) → ((m n : ℕ) → p ≡ Begun m n → ⊥) → IsReach xs reach → (w : Wordstring) → IsReach (more_list p w xs) reach
+pub reach_other : (p : Position) (xs : List Entry) (reach : ℕ) → ((m n : ℕ) → p ≡ Begun m n → ⊥) → IsReach xs reach → (w : Wordstring)
+    → IsReach (more_list p w xs) reach
 reach_other Start xs reach other h w = reach_with xs reach h w
 reach_other Headed xs reach other h w = reach_with xs reach h w
 reach_other Holding xs reach other h w = reach_with xs reach h w

@@ -1,5 +1,6 @@
 -- Holds and transmissions in their order.
-use Rattle.std.proofs.Common.{arith, zero, suc, ◌≡◌, ℕ, ◌+◌, ◌<◌, Bool, true, false, ◌&&◌, ◌||◌, ◌==◌, nat_lt, ◌⊎◌, inl, inr, List, [], ◌∷◌, ◌++◌, length, take, get_or, refl, sym, ap, subst, ◌∙◌, length-append}
+use Rattle.std.proofs.Common.{arith, zero, suc, ◌≡◌, ℕ, ◌+◌, ◌<◌, Bool, true, false, ◌&&◌, ◌||◌, ◌==◌, nat_lt, ◌⊎◌, inl, inr, List, []}
+use Rattle.std.proofs.Common.{◌∷◌, ◌++◌, length, take, get_or, refl, sym, ap, subst, ◌∙◌, length-append}
 use Rattle.std.specs.List.{AllByRecursion}
 use Rattle.std.proofs.lemmas.Bool.{and_parts, eqb-true}
 use Rattle.std.proofs.lemmas.Bool.Decides.{nat_tests}
@@ -30,7 +31,8 @@ pub precedes_from : (x y : Entry) → comes_after x y.moment y.terminal ≡ true
 precedes_from x y h = by_test (nat_lt x.moment y.moment) refl h where
   by_test : (t : Bool) → nat_lt x.moment y.moment ≡ t → (t || (x.moment == y.moment && nat_lt x.terminal y.terminal)) ≡ true → Precedes x y
   by_test true e k = inl (lt_from x.moment y.moment e)
-  by_test false e k = let p = and_parts (x.moment == y.moment) (nat_lt x.terminal y.terminal) k in inr (eqb-true x.moment y.moment p.0, lt_from x.terminal y.terminal p.1)
+  by_test false e k = let p = and_parts (x.moment == y.moment) (nat_lt x.terminal y.terminal) k in inr
+      (eqb-true x.moment y.moment p.0, lt_from x.terminal y.terminal p.1)
 
 test_from : (a b c d : ℕ) → (a < b) ⊎ ((a ≡ b) × (c < d)) → (nat_lt a b || (a == b && nat_lt c d)) ≡ true
 test_from a b c d (inl h) = ap (λ t. t || (a == b && nat_lt c d)) (lt_test a b h)
@@ -50,7 +52,8 @@ all_before [] x h a = tt
 all_before (y ∷ []) x h a = (precedes_from y x a, tt)
 all_before (y ∷ z ∷ ys) x h a = let r = all_before (z ∷ ys) x h.1 a in (precedes_trans y z x h.0.0 r.0, r)
 
-ordered_push : (R : Entry → Entry → Type 0) (xs : List Entry) (x : Entry) → IsOrdered R xs → AllByRecursion (λ y. R y x) xs → IsOrdered R (xs ++ x ∷ [])
+ordered_push : (R : Entry → Entry → Type 0) (xs : List Entry) (x : Entry) → IsOrdered R xs → AllByRecursion (λ y. R y x) xs
+    → IsOrdered R (xs ++ x ∷ [])
 ordered_push R [] x h a = (tt, tt)
 ordered_push R (y ∷ ys) x h a = (all_push (R y) ys x h.0 a.0, ordered_push R ys x h.1 a.1)
 
@@ -69,7 +72,8 @@ pub last_precedes : (xs : List Entry) (x y : Entry) (ys : List Entry) → IsAsce
 last_precedes [] x y ys h = h.0.0
 last_precedes (z ∷ xs) x y ys h = last_precedes xs x y ys h.1
 
-pub after_at : (xs : List Entry) (i : ℕ) (d : Entry) → i < length xs → IsAscending xs → is_after (take i xs) (get_or xs i d).moment (get_or xs i d).terminal ≡ true
+pub after_at : (xs : List Entry) (i : ℕ) (d : Entry) → i < length xs → IsAscending xs
+    → is_after (take i xs) (get_or xs i d).moment (get_or xs i d).terminal ≡ true
 after_at [] i d within h = absurd (omega arith)
 after_at (x ∷ xs) zero d within h = refl
 after_at (x ∷ []) (suc i) d within h = absurd (omega arith)
@@ -87,7 +91,8 @@ ascending_with w [] h = h
 ascending_with w (x ∷ []) h = (tt, tt)
 ascending_with w (x ∷ y ∷ xs) h = (all_with x w (y ∷ xs) h.0, ascending_with w (y ∷ xs) h.1)
 
-pub below_with : (horizon : ℕ) (w : Wordstring) (xs : List Entry) → IsWordstring w → last_count xs < 31 → AllByRecursion (IsBelow horizon) xs → AllByRecursion (IsBelow horizon) (with_string w xs)
+pub below_with : (horizon : ℕ) (w : Wordstring) (xs : List Entry) → IsWordstring w → last_count xs < 31
+    → AllByRecursion (IsBelow horizon) xs → AllByRecursion (IsBelow horizon) (with_string w xs)
 below_with horizon w [] i few h = tt
 below_with horizon w (x ∷ []) i few h = (
   record {
@@ -105,13 +110,15 @@ below_with horizon w (x ∷ []) i few h = (
 below_with horizon w (x ∷ y ∷ xs) i few h = (h.0, below_with horizon w (y ∷ xs) i few h.1)
 
 -- ---- holds
-pub terminals_push : (k : ℕ) (hs : List Hold) (h : Hold) → AscendAbove k hs → (hs ≡ [] → k < h.terminal) → last_terminal hs < h.terminal → AscendAbove k (hs ++ h ∷ [])
+pub terminals_push : (k : ℕ) (hs : List Hold) (h : Hold) → AscendAbove k hs → (hs ≡ [] → k < h.terminal) → last_terminal hs < h.terminal
+    → AscendAbove k (hs ++ h ∷ [])
 terminals_push k [] h a e l = (e refl, tt)
 terminals_push k (x ∷ []) h a e l = (a.0, (l, tt))
 terminals_push k (x ∷ y ∷ hs) h a e l = (a.0, terminals_push x.terminal (y ∷ hs) h a.1 (λ q. absurd cc) l)
 
 -- each is above the last of those before it
-pub terminal_at : (k : ℕ) (hs : List Hold) (i : ℕ) (d : Hold) → i < length hs → AscendAbove k hs → last_terminal (take i hs) < (get_or hs i d).terminal
+pub terminal_at : (k : ℕ) (hs : List Hold) (i : ℕ) (d : Hold) → i < length hs → AscendAbove k hs
+    → last_terminal (take i hs) < (get_or hs i d).terminal
 terminal_at k [] i d within h = absurd (omega arith)
 terminal_at k (x ∷ hs) zero d within h = omega (arith, h.0)
 terminal_at k (x ∷ []) (suc i) d within h = absurd (omega arith)
@@ -125,7 +132,8 @@ terminals_rest k (x ∷ []) h rest a = a.1.0
 terminals_rest k (x ∷ y ∷ hs) h rest a = terminals_rest x.terminal (y ∷ hs) h rest a.1
 
 -- ---- lists that are looked at from the front
-pub holds_more : (hs : List Hold) (i : ℕ) (d : Hold) → i < length hs → AllByRecursion IsHold (take i hs) → AscendAbove 0 (take i hs) → last_terminal (take i hs) < (get_or hs i d).terminal → IsHold (get_or hs i d)
+pub holds_more : (hs : List Hold) (i : ℕ) (d : Hold) → i < length hs → AllByRecursion IsHold (take i hs) → AscendAbove 0 (take i hs)
+    → last_terminal (take i hs) < (get_or hs i d).terminal → IsHold (get_or hs i d)
     → AllByRecursion IsHold (take (i + 1) hs) × AscendAbove 0 (take (i + 1) hs)
 holds_more hs i d within f a l k =
     let e = sym (take_more hs i d within) in (
@@ -134,7 +142,9 @@ holds_more hs i d within f a l k =
     )
 
 -- of an element as it was read
-pub list_more : (horizon : ℕ) (xs : List Entry) (i : ℕ) (x : Entry) → x ≡ get_or xs i x → i < length xs → AllByRecursion (IsBelow horizon) (take i xs) → IsAscending (take i xs) → is_after (take i xs) x.moment x.terminal ≡ true → IsBelow horizon x
+pub list_more : (horizon : ℕ) (xs : List Entry) (i : ℕ) (x : Entry) → x ≡ get_or xs i x → i < length xs
+    → AllByRecursion (IsBelow horizon) (take i xs) → IsAscending (take i xs) → is_after (take i xs) x.moment x.terminal ≡ true
+    → IsBelow horizon x
     → AllByRecursion (IsBelow horizon) (take (i + 1) xs) × IsAscending (take (i + 1) xs)
 list_more horizon xs i x here within f o a k =
     let e : take i xs ++ x ∷ [] ≡ take (i + 1) xs = ap (λ (y : Entry). take i xs ++ y ∷ []) here ∙ sym (take_more xs i x within) in (
@@ -142,8 +152,12 @@ list_more horizon xs i x here within f o a k =
       subst IsAscending e (ascending_push (take i xs) x o a),
     )
 
-pub below_at : (horizon : ℕ) (xs : List Entry) (i : ℕ) (x : Entry) → x ≡ get_or xs i x → i < length xs → AllByRecursion (IsBelow horizon) xs → x.moment < horizon
-below_at horizon xs i x here within f = subst (λ (y : Entry). y.moment < horizon) (sym here) (all_at (IsBelow horizon) xs i x within f).moment
+pub below_at : (horizon : ℕ) (xs : List Entry) (i : ℕ) (x : Entry) → x ≡ get_or xs i x → i < length xs
+    → AllByRecursion (IsBelow horizon) xs → x.moment < horizon
+below_at horizon xs i x here within f = subst (λ (y : Entry). y.moment < horizon) (sym here)
+    (all_at (IsBelow horizon) xs i x within f).moment
 
-pub follows_at : (xs : List Entry) (i : ℕ) (x : Entry) → x ≡ get_or xs i x → i < length xs → IsAscending xs → is_after (take i xs) x.moment x.terminal ≡ true
-follows_at xs i x here within o = subst (λ (y : Entry). is_after (take i xs) y.moment y.terminal ≡ true) (sym here) (after_at xs i x within o)
+pub follows_at : (xs : List Entry) (i : ℕ) (x : Entry) → x ≡ get_or xs i x → i < length xs → IsAscending xs
+    → is_after (take i xs) x.moment x.terminal ≡ true
+follows_at xs i x here within o = subst (λ (y : Entry). is_after (take i xs) y.moment y.terminal ≡ true) (sym here)
+    (after_at xs i x within o)

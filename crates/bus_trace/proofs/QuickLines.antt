@@ -1,5 +1,7 @@
 -- Lines that are recognized as they are written.
-use Rattle.std.proofs.Common.{arith, zero, suc, ◌≡◌, ℕ, ◌+◌, ◌-◌, ◌*◌, ◌<◌, ◌≤◌, ◌^◌, Bool, true, false, not, ◌&&◌, ◌==◌, List, [], ◌∷◌, ◌++◌, length, take, drop, get_or, map, Ok, Some, None, IfSome, Vec, Global, refl, sym, ap, subst, ◌∙◌, append_assoc, append-nil, length-append, take-append-drop}
+use Rattle.std.proofs.Common.{arith, zero, suc, ◌≡◌, ℕ, ◌+◌, ◌-◌, ◌*◌, ◌<◌, ◌≤◌, ◌^◌, Bool, true, false, not, ◌&&◌, ◌==◌, List, [], ◌∷◌}
+use Rattle.std.proofs.Common.{◌++◌, length, take, drop, get_or, map, Ok, Some, None, IfSome, Vec, Global, refl, sym, ap, subst, ◌∙◌}
+use Rattle.std.proofs.Common.{append_assoc, append-nil, length-append, take-append-drop}
 use Rattle.std.specs.List.{list_all, flat_map, join_with_byte}
 use Rattle.std.specs.declared.option.Option.{Option}
 use Rattle.std.specs.Char.{is_ascii_digit, digit_value}
@@ -29,25 +31,30 @@ use Rattle.bus_trace.specs.Traces.{Line, data_word, string_line, begin_line, end
 use Rattle.bus_trace.specs.Writing.{data_put}
 use Rattle.bus_trace.specs.States.{State, IsSound, step, spaced_fields, fields_step, last_count, may_follow}
 use Rattle.bus_trace.specs.Quick.{string_taken, BeginsRight, ClosesRight}
-use Rattle.bus_trace.proofs.Steps.{digits_from}
+use Rattle.bus_trace.proofs.StepRows.{digits_from}
 use Rattle.bus_trace.proofs.Lasts.{last_end_most}
 use Rattle.bus_trace.proofs.WriteTexts.{joined}
-use Rattle.bus_trace.proofs.Again.{Leads, FitsLine, fields_again, begin_again, close_by_end, string_line_again}
+use Rattle.bus_trace.proofs.Again.{begin_again, close_by_end, string_line_again}
+use Rattle.bus_trace.proofs.AgainLines.{Leads, FitsLine, fields_again}
 
 not_false : (b : Bool) → not b ≡ false → b ≡ true
 not_false true h = refl
 not_false false h = absurd cc
 
 pub rest_is : (text : List ℕ) (n : ℕ) → n ≤ length text → text ≡ take n text ++ take (length text - n) (drop n text)
-rest_is text n h = sym (take-append-drop n text) ∙ ap (λ r. take n text ++ r) (sym (take_all (length text - n) (drop n text) (omega (arith, length-drop n text))))
+rest_is text n h = sym (take-append-drop n text) ∙ ap (λ r. take n text ++ r)
+    (sym (take_all (length text - n) (drop n text) (omega (arith, length-drop n text))))
 
-pub behind_is : (text word : List ℕ) (r : Bool) → length word ≤ length text → r ≡ not (bytes_eq (take (length word) text) word) → r ≡ false → text ≡ word ++ take (length text - length word) (drop (length word) text)
+pub behind_is : (text word : List ℕ) (r : Bool) → length word ≤ length text → r ≡ not (bytes_eq (take (length word) text) word)
+    → r ≡ false → text ≡ word ++ take (length text - length word) (drop (length word) text)
 behind_is text word r h e f =
-    let same : take (length word) text ≡ word = (bytes_eq-Decides (take (length word) text) word).0 (not_false (bytes_eq (take (length word) text) word) (sym e ∙ f)) in
+    let same : take (length word) text ≡ word = (bytes_eq-Decides (take (length word) text) word).0
+    (not_false (bytes_eq (take (length word) text) word) (sym e ∙ f)) in
     rest_is text (length word) h ∙ ap (λ w. w ++ take (length text - length word) (drop (length word) text)) same
 
 -- ---- digits
-all_push : (ds : List ℕ) (d : ℕ) → list_all is_ascii_digit ds ≡ true → is_ascii_digit d ≡ true → list_all is_ascii_digit (ds ++ d ∷ []) ≡ true
+all_push : (ds : List ℕ) (d : ℕ) → list_all is_ascii_digit ds ≡ true → is_ascii_digit d ≡ true
+    → list_all is_ascii_digit (ds ++ d ∷ []) ≡ true
 all_push [] d h k = ap (λ b. b && true) k
 all_push (x ∷ ds) d h k =
     let p = and_parts (is_ascii_digit x) (list_all is_ascii_digit ds) h in
@@ -62,12 +69,14 @@ pub record NextDigit (text : List ℕ) (count number : ℕ) : Type 0 where
   pub value : number ≡ decimal_value (take count text)
   pub room : number < 10 ^ 18
 
-pub next_digit : (text : List ℕ) (count value b d : ℕ) → count < length text → list_all is_ascii_digit (take count text) ≡ true → value ≡ decimal_value (take count text) → value < 10 ^ 17 → b ≡ get_or text count 0 → is_ascii_digit b ≡ true → d ≡ b - 48
+pub next_digit : (text : List ℕ) (count value b d : ℕ) → count < length text → list_all is_ascii_digit (take count text) ≡ true
+    → value ≡ decimal_value (take count text) → value < 10 ^ 17 → b ≡ get_or text count 0 → is_ascii_digit b ≡ true → d ≡ b - 48
     → NextDigit text (count + 1) (10 * value + d)
 next_digit text count value b d within digits value_is low here k d_is =
     let digit = digit_is b k in
     let more = digits_value_more 10 text count within in
-    let front : take count text ++ b ∷ [] ≡ take (count + 1) text = ap (λ x. take count text ++ x ∷ []) here ∙ sym (take_more text count 0 within) in
+    let front : take count text ++ b ∷ [] ≡ take (count + 1) text = ap (λ x. take count text ++ x ∷ []) here
+    ∙ sym (take_more text count 0 within) in
     record {
       within = omega arith;
       digits = subst (λ ds. list_all is_ascii_digit ds ≡ true) front (all_push (take count text) b digits k);
@@ -84,14 +93,17 @@ pub no_idle : (b : ℕ) → (b == 48) ≡ false → b ≡ 48 → ⊥
 no_idle b h e = grind (arith, nat_tests)
 
 -- a number that begins with no idle zero is the decimal of its value
-pub number_front : (text : List ℕ) (count value : ℕ) → count ≤ length text → list_all is_ascii_digit (take count text) ≡ true → value ≡ decimal_value (take count text) → value < 10 ^ 18 → 0 < count → (1 < count → get_or text 0 0 ≡ 48 → ⊥)
+pub number_front : (text : List ℕ) (count value : ℕ) → count ≤ length text → list_all is_ascii_digit (take count text) ≡ true
+    → value ≡ decimal_value (take count text) → value < 10 ^ 18 → 0 < count → (1 < count → get_or text 0 0 ≡ 48 → ⊥)
     → text ≡ decimal value ++ take (length text - count) (drop count text)
 number_front text count value within digits value_is room some idle =
     let ds : List ℕ = take count text in
     let long : length ds ≡ count = length-take count text ∙ omega (arith, within) in
-    let one : get_or ds 0 0 ≡ 48 → length ds ≡ 1 = λ e. omega (arith, long, some, at_most count (λ l. idle l (sym (get_take count text some) ∙ e))) in
+    let one : get_or ds 0 0 ≡ 48 → length ds ≡ 1 = λ e. omega
+    (arith, long, some, at_most count (λ l. idle l (sym (get_take count text some) ∙ e))) in
     let is : decimal value ≡ ds =
-    ap decimal value_is ∙ decimal-digits_value (numerals_by_value (AllDigits 10) tells_digits) ds (digits_from ds digits) (omega (arith, long, some)) one (omega (arith, value_is, room)) in
+    ap decimal value_is ∙ decimal-digits_value (numerals_by_value (AllDigits 10) tells_digits) ds (digits_from ds digits)
+    (omega (arith, long, some)) one (omega (arith, value_is, room)) in
     rest_is text count within ∙ ap (λ w. w ++ take (length text - count) (drop count text)) (sym is) where
       at_most : (n : ℕ) → (1 < n → ⊥) → n ≤ 1
       at_most zero h = omega arith
@@ -102,20 +114,36 @@ number_front text count value within digits value_is room some idle =
 pub step_of : (s n : State) (fields : Line) (line : List ℕ) → Leads s (fields ∷ []) n → line ≡ join_with_byte 32 fields → step s line ≡ Ok n
 unfolding step
 step_of s n fields line h e =
-    ap (λ l. fields_step s (spaced_fields l)) e ∙ ap (fields_step s) (fields_again fields h.0.some h.0.all) ∙ h.1.1 ∙ ap (λ (m : State). Ok m) h.1.3
+    ap (λ l. fields_step s (spaced_fields l)) e ∙ ap (fields_step s) (fields_again fields h.0.some h.0.all) ∙ h.1.1
+    ∙ ap (λ (m : State). Ok m) h.1.3
 
-pub begin_taken : (s : State) (moment terminal : ℕ) (line : List ℕ) → IsSound s → BeginsRight s moment terminal → line ≡ join_with_byte 32 (begin_line moment terminal)
-    → step s line ≡ Ok (record { position = Begun moment terminal; format = s.format; mark = s.mark; horizon = s.horizon; holds = s.holds; list = s.list })
+pub begin_taken : (s : State) (moment terminal : ℕ) (line : List ℕ) → IsSound s → BeginsRight s moment terminal
+    → line ≡ join_with_byte 32 (begin_line moment terminal)
+    → step s line ≡ Ok (record {
+      position = Begun moment terminal;
+      format = s.format;
+      mark = s.mark;
+      horizon = s.horizon;
+      holds =
+          s.holds;
+      list = s.list;
+    })
 begin_taken s moment terminal line sound b e =
-    step_of s _ (begin_line moment terminal) line (begin_again s.position s.format s.mark s.horizon s.holds s.list moment terminal sound.trace.horizon b.stands b.below b.positive b.low b.after b.fine) e
+    step_of s _ (begin_line moment terminal) line
+    (begin_again s.position s.format s.mark s.horizon s.holds s.list moment terminal sound.trace.horizon b.stands b.below b.positive
+    b.low b.after b.fine) e
 
-pub close_taken : (s : State) (end : ℕ) (mark : Bool) (line : List ℕ) → IsSound s → ClosesRight s end mark → line ≡ join_with_byte 32 (ended_line end mark)
+pub close_taken : (s : State) (end : ℕ) (mark : Bool) (line : List ℕ) → IsSound s → ClosesRight s end mark
+    → line ≡ join_with_byte 32 (ended_line end mark)
     → step s line ≡ Ok (record { position = Closed; format = s.format; mark = mark; horizon = s.horizon; holds = s.holds; list = s.list })
 close_taken s end mark line sound c e =
-    step_of s _ (ended_line end mark) line (close_by_end s.position s.format mark s.mark s.horizon s.holds s.list end c.stands c.ends (omega (arith, c.ends, last_end_most s.horizon s.list sound.trace.horizon sound.trace.list)) c.fine) e
+    step_of s _ (ended_line end mark) line (close_by_end s.position s.format mark s.mark s.horizon s.holds s.list end c.stands c.ends
+    (omega (arith, c.ends, last_end_most s.horizon s.list sound.trace.horizon sound.trace.list)) c.fine) e
 
-pub string_step_taken : (s : State) (w : Wordstring) (line : List ℕ) → may_follow s.position s.format (last_count s.list) Ws ≡ true → IsWordstring w → line ≡ join_with_byte 32 (string_line w) → step s line ≡ Ok (string_taken s w)
-string_step_taken s w line may i e = step_of s (string_taken s w) (string_line w) line (string_line_again s.position s.format s.mark s.horizon s.holds s.list w may i) e
+pub string_step_taken : (s : State) (w : Wordstring) (line : List ℕ) → may_follow s.position s.format (last_count s.list) Ws ≡ true
+    → IsWordstring w → line ≡ join_with_byte 32 (string_line w) → step s line ≡ Ok (string_taken s w)
+string_step_taken s w line may i e = step_of s (string_taken s w) (string_line w) line
+    (string_line_again s.position s.format s.mark s.horizon s.holds s.list w may i) e
 
 -- ---- words
 pub kind_is : (a b : Kind) → same_kind a b ≡ true → a ≡ b
@@ -124,18 +152,22 @@ kind_is Label Plain h = absurd cc
 kind_is Plain Label h = absurd cc
 kind_is Plain Plain h = refl
 
-pub string_given : (o : Option Wordstring) (w : Wordstring) (line : List ℕ) → IfSome o (λ s. s ≡ w) → line ≡ join_with_byte 32 (string_line w) → IfSome o (λ s. line ≡ join_with_byte 32 (string_line s))
+pub string_given : (o : Option Wordstring) (w : Wordstring) (line : List ℕ) → IfSome o (λ s. s ≡ w)
+    → line ≡ join_with_byte 32 (string_line w) → IfSome o (λ s. line ≡ join_with_byte 32 (string_line s))
 string_given None w line h e = tt
 string_given (Some s) w line h e = e ∙ ap (λ (x : Wordstring). join_with_byte 32 (string_line x)) (sym h)
 
-pub some_given : (o : Option Wordstring) (w : Wordstring) (line : List ℕ) → o ≡ Some w → IfSome o (λ s. line ≡ join_with_byte 32 (string_line s)) → line ≡ join_with_byte 32 (string_line w)
+pub some_given : (o : Option Wordstring) (w : Wordstring) (line : List ℕ) → o ≡ Some w
+    → IfSome o (λ s. line ≡ join_with_byte 32 (string_line s)) → line ≡ join_with_byte 32 (string_line w)
 some_given o w line e h = subst (λ p. IfSome p (λ s. line ≡ join_with_byte 32 (string_line s))) e h
 
-pub words_given : (o : Option (Vec ℕ Global)) (w : Vec ℕ Global) (text : List ℕ) → o ≡ Some w → IfSome o (λ v. text ≡ data_put v.items) → text ≡ data_put w.items
+pub words_given : (o : Option (Vec ℕ Global)) (w : Vec ℕ Global) (text : List ℕ) → o ≡ Some w → IfSome o (λ v. text ≡ data_put v.items)
+    → text ≡ data_put w.items
 words_given o w text e h = subst (λ p. IfSome p (λ v. text ≡ data_put v.items)) e h
 
 -- the words of a line, its label word first
-pub words_joined : (label ext value : ℕ) (words : List ℕ) (line front rest : List ℕ) → 16 * label + ext ≡ value → line ≡ 87 ∷ 83 ∷ (front ++ rest) → front ≡ 32 ∷ word_text (record { kind = Label; value = value }) → rest ≡ data_put words
+pub words_joined : (label ext value : ℕ) (words : List ℕ) (line front rest : List ℕ) → 16 * label + ext ≡ value
+    → line ≡ 87 ∷ 83 ∷ (front ++ rest) → front ≡ 32 ∷ word_text (record { kind = Label; value = value }) → rest ≡ data_put words
     → line ≡ join_with_byte 32 (string_line (record { label = label; ext = ext; words = words }))
 words_joined label ext value words line front rest v e f r =
     let word : Word = label_word label ext in

@@ -1,5 +1,7 @@
 -- Which streams hold a trace text, of which trace, and where a text is refused.
-use Rattle.std.proofs.Common.{arith, zero, suc, ◌≡◌, ℕ, ◌+◌, ◌<◌, ◌≤◌, Bool, true, false, cond, ◌⊎◌, inl, inr, List, [], ◌∷◌, ◌++◌, length, take, drop, nat_lt, IfSome, IfOk, Some, None, Result, Ok, Err, refl, sym, ap, subst, ◌∙◌, append_assoc, append-nil, length-append, take-append-drop}
+use Rattle.std.proofs.Common.{arith, zero, suc, ◌≡◌, ℕ, ◌+◌, ◌<◌, ◌≤◌, Bool, true, false, cond, ◌⊎◌, inl, inr, List, [], ◌∷◌, ◌++◌}
+use Rattle.std.proofs.Common.{length, take, drop, nat_lt, IfSome, IfOk, Some, None, Result, Ok, Err, refl, sym, ap, subst, ◌∙◌}
+use Rattle.std.proofs.Common.{append_assoc, append-nil, length-append, take-append-drop}
 use Rattle.std.specs.declared.option.Option.{Option}
 use Rattle.std.proofs.lemmas.Bool.{eqb-true, cases_lt}
 use Rattle.std.proofs.lemmas.Bool.Decides.{nat_tests}
@@ -18,8 +20,9 @@ use Rattle.bus_trace.specs.Limits.{line_limit, text_limit}
 use Rattle.bus_trace.specs.Traces.{Recording, Line, IsTrace, HoldsTrace, opening_lines, end_line, text_in}
 use Rattle.bus_trace.specs.States.{State, IsSound, MarkFits, step, text_of, is_ended, recorded}
 use Rattle.bus_text.specs.Canonical.{spelled_lines}
-use Rattle.bus_trace.specs.Runs.{Standing, Progress, Going, Found, Refused, Over, judged, take_byte, ◌>>-◌, run, begin, due, due_by, ended_by, reading, stream_of, HasNoFeed}
-use Rattle.bus_trace.specs.Reading.{Gave, Refuses, Complete, Overlong, CutOff, TakesTrace, ReadGives}
+use Rattle.bus_trace.specs.Runs.{Standing, Progress, Going, Found, Refused, Over, judged, take_byte, ◌>>-◌, run, begin, due, due_by}
+use Rattle.bus_trace.specs.Runs.{ended_by, reading, stream_of, HasNoFeed}
+use Rattle.bus_trace.specs.Reading.{Gave, Offends, Complete, Overlong, Refuses, ByLine as Decided, CutOff, TakesTrace, ReadGives}
 use Rattle.bus_trace.specs.Looping.{LineRefused, ByLine, ByEnd, Loops}
 use Rattle.bus_trace.proofs.Steps.{step_adds, step_sound}
 use Rattle.bus_trace.proofs.Runs.{run-append, run-whole_line}
@@ -27,228 +30,8 @@ use Rattle.bus_trace.proofs.Walks.{start_sound}
 use Rattle.bus_trace.proofs.Told.{lines_whole}
 use Rattle.bus_trace.proofs.Marks.{ended_is}
 use Rattle.bus_trace.proofs.Again.{ended, trace_again}
-
--- ---- where an end was found, the text of the trace stands at the front
-abbrev pub ByteGives : List ℕ → Progress → Type 0
-ByteGives text (Going n) = (stream_of n ≡ text) × IsSound n.state
-ByteGives text (Found s) = (text_of s ≡ text) × IsSound s × (is_ended s.position ≡ true)
-ByteGives text (Refused byte reason) = Unit {0}
-ByteGives text Over = Unit {0}
-
-judged_gives : (s : State) (line : List ℕ) (r : Result State TraceReason) → step s line ≡ r → IsSound s → ByteGives ((text_of s ++ line) ++ 10 ∷ []) (judged s r)
-judged_gives s line (Err reason) h sound = tt
-judged_gives s line (Ok n) h sound = by_end (is_ended n.position) refl where
-  text : text_of n ≡ (text_of s ++ line) ++ 10 ∷ []
-  text = step_adds s n line sound h ∙ sym (append_assoc (text_of s) line (10 ∷ []))
-
-  by_end : (t : Bool) → is_ended n.position ≡ t → ByteGives ((text_of s ++ line) ++ 10 ∷ []) (cond t (Found n) (Going (record { state = n; line = [] })))
-  by_end true e = (text, step_sound s n line sound h, e)
-  by_end false e = (append-nil (text_of n) ∙ text, step_sound s n line sound h)
-
-byte_gives : (r : Standing) (b : ℕ) → IsSound r.state → ByteGives (stream_of r ++ b ∷ []) (take_byte r b)
-unfolding take_byte
-byte_gives r b sound = by_feed (is_feed b) refl (nat_lt (length r.line) line_limit) where
-  by_feed : (t : Bool) → is_feed b ≡ t → (u : Bool) → ByteGives (stream_of r ++ b ∷ []) (cond t (judged r.state (step r.state r.line)) (cond u (Going (record { state = r.state; line = r.line ++ b ∷ [] })) (Refused (length (text_of r.state)) Long)))
-  by_feed true e u = subst (λ (c : ℕ). ByteGives (stream_of r ++ c ∷ []) (judged r.state (step r.state r.line))) (sym (eqb-true b 10 e)) (judged_gives r.state r.line (step r.state r.line) refl sound)
-  by_feed false e true = (sym (append_assoc (text_of r.state) r.line (b ∷ [])), sound)
-  by_feed false e false = tt
-
-record Finds (stream : List ℕ) (s : State) : Type 0 where
-  rest : List ℕ
-  parts : stream ≡ text_of s ++ rest
-  sound : IsSound s
-  ended : is_ended s.position ≡ true
-
-found_next : (r : Standing) (b : ℕ) (bs : List ℕ) (o : Progress) (s : State) → ByteGives (stream_of r ++ b ∷ []) o → (o >>- λ n. run n bs) ≡ Found s
-    → ((n : Standing) → IsSound n.state → run n bs ≡ Found s → Finds (stream_of n ++ bs) s) → Finds (stream_of r ++ b ∷ bs) s
-found_next r b bs (Going n) s g h later =
-    subst (λ t. Finds t s) (ap (λ t. t ++ bs) g.0 ∙ append_assoc (stream_of r) (b ∷ []) bs) (later n g.1 h)
-found_next r b bs (Found t) s g h later =
-    let is : t ≡ s = cc in
-    subst (λ (u : State). Finds (stream_of r ++ b ∷ bs) u) is (record { rest = bs; parts = sym (append_assoc (stream_of r) (b ∷ []) bs) ∙ ap (λ x. x ++ bs) (sym g.0); sound = g.1; ended = g.2 })
-found_next r b bs (Refused byte reason) s g h later = absurd cc
-found_next r b bs Over s g h later = absurd cc
-
-run_finds : (r : Standing) (bs : List ℕ) (s : State) → IsSound r.state → run r bs ≡ Found s → Finds (stream_of r ++ bs) s
-unfolding run
-run_finds r [] s sound h = absurd cc
-run_finds r (b ∷ bs) s sound h = found_next r b bs (take_byte r b) s (byte_gives r b sound) h (λ n k q. run_finds n bs s k q)
-
-end_is : (p : Position) → is_ended p ≡ true → p ≡ Ended
-end_is Start h = absurd cc
-end_is Headed h = absurd cc
-end_is Holding h = absurd cc
-end_is (Begun m n) h = absurd cc
-end_is Stringing h = absurd cc
-end_is Closed h = absurd cc
-end_is Ended h = refl
-
--- two laws of bus_strings on marks
-pub record MarkLaws : Type 0 where
-  pub neighbours : NeighboursTell
-  pub ascending : AscendingIsByMoment
-
-ended_text : MarkLaws → (s : State) → IsSound s → is_ended s.position ≡ true → text_of s ≡ text_in s.format (recorded s)
-unfolding text_of
-ended_text laws s sound h =
-    let p = end_is s.position h in
-    let marked = ended_is s.format s.mark s.list (subst (λ q. MarkFits q s.format s.mark s.list) p sound.marked) in
-    ap (λ q. text_of (record { position = q; format = s.format; mark = s.mark; horizon = s.horizon; holds = s.holds; list = s.list })) p
-    ∙ ap (λ (ls : List Line). spelled_lines ((opening_lines s.format s.horizon s.holds ++ ls) ++ end_line ∷ []))
-    (lines_whole laws.neighbours laws.ascending s.format s.horizon s.list s.mark sound.trace.order sound.trace.list marked)
-
-begin_stream : (xs : List ℕ) → stream_of begin ++ xs ≡ xs
-unfolding text_of
-begin_stream xs = refl
-
--- ---- what is due, by where the run leads
-due_found : (t : Bool) (o : Progress) (s : State) → due_by t o ≡ Found s → o ≡ Found s
-due_found true (Going r) s h = absurd cc
-due_found false (Going r) s h = absurd cc
-due_found t (Found u) s h = cc
-due_found t (Refused b e) s h = absurd cc
-due_found t Over s h = absurd cc
-
-due_refused : (t : Bool) (o : Progress) (byte : ℕ) (reason : TraceReason) → due_by t o ≡ Refused byte reason → o ≡ Refused byte reason
-due_refused true (Going r) byte reason h = absurd cc
-due_refused false (Going r) byte reason h = absurd cc
-due_refused t (Found u) byte reason h = absurd cc
-due_refused t (Refused b e) byte reason h = cc
-due_refused t Over byte reason h = absurd cc
-
-due_going : (t : Bool) (o : Progress) (at : Standing) → due_by t o ≡ Going at → (t ≡ false) × (o ≡ Going at)
-due_going true (Going r) at h = absurd cc
-due_going false (Going r) at h = (refl, cc)
-due_going t (Found u) at h = absurd cc
-due_going t (Refused b e) at h = absurd cc
-due_going t Over at h = absurd cc
-
-due_over : (t : Bool) (o : Progress) → (o ≡ Over → ⊥) → due_by t o ≡ Over → (t ≡ true) × ((at : Standing) × (o ≡ Going at))
-due_over true (Going r) never h = (refl, (r, refl))
-due_over false (Going r) never h = absurd cc
-due_over t (Found u) never h = absurd cc
-due_over t (Refused b e) never h = absurd cc
-due_over t Over never h = absurd (never refl)
-
--- a run passes no limit
-judged_within : (s : State) (o : Result State TraceReason) → judged s o ≡ Over → ⊥
-judged_within s (Err reason) h = cc
-judged_within s (Ok n) h = by_end (is_ended n.position) h where
-  by_end : (t : Bool) → cond t (Found n) (Going (record { state = n; line = [] })) ≡ Over → ⊥
-  by_end true e = cc
-  by_end false e = cc
-
-byte_within : (r : Standing) (b : ℕ) → take_byte r b ≡ Over → ⊥
-unfolding take_byte
-byte_within r b h = by_feed (is_feed b) (nat_lt (length r.line) line_limit) h where
-  by_feed : (t u : Bool) → cond t (judged r.state (step r.state r.line)) (cond u (Going (record { state = r.state; line = r.line ++ b ∷ [] })) (Refused (length (text_of r.state)) Long)) ≡ Over → ⊥
-  by_feed true u e = judged_within r.state (step r.state r.line) e
-  by_feed false true e = cc
-  by_feed false false e = cc
-
-then_within : (o : Progress) (f : Standing → Progress) → (o ≡ Over → ⊥) → ((n : Standing) → f n ≡ Over → ⊥) → (o >>- f) ≡ Over → ⊥
-then_within (Going n) f never later h = later n h
-then_within (Found s) f never later h = cc
-then_within (Refused b e) f never later h = cc
-then_within Over f never later h = never refl
-
-run_within : (r : Standing) (bs : List ℕ) → run r bs ≡ Over → ⊥
-unfolding run
-run_within r [] h = cc
-run_within r (b ∷ bs) h = then_within (take_byte r b) (λ n. run n bs) (byte_within r b) (λ n. run_within n bs) h
-
-found_finds : (limit : ℕ) (stream : List ℕ) (s : State) → due limit stream ≡ Found s → Finds (take limit stream) s
-unfolding due
-found_finds limit stream s h =
-    let f = due_found (nat_lt limit (length stream)) (run begin (take limit stream)) s h in
-    subst (λ (x : List ℕ). Finds x s) (begin_stream (take limit stream)) (run_finds begin (take limit stream) s start_sound f)
-
-pub found_trace : MarkLaws → (limit : ℕ) (stream : List ℕ) (s : State) → due limit stream ≡ Found s → IsTrace (recorded s) × (text_of s ≡ text_in s.format (recorded s)) × (length (text_in s.format (recorded s)) ≤ limit)
-found_trace laws limit stream s h =
-    let f = found_finds limit stream s h in
-    let e = ended_text laws s f.sound f.ended in
-    (f.sound.trace, e, omega (arith, length-take limit stream, ap length f.parts, length-append (text_of s) f.rest, ap length e))
-
--- whatever is whole holds the text of its trace
-pub found_holds : MarkLaws → (limit : ℕ) (stream : List ℕ) (s : State) → due limit stream ≡ Found s → HoldsTrace limit stream (recorded s)
-found_holds laws limit stream s h =
-    let f = found_finds limit stream s h in
-    let w = found_trace laws limit stream s h in
-    record {
-      front = text_of s;
-      rest = f.rest ++ drop limit stream;
-      parts = sym (take-append-drop limit stream) ∙ ap (λ x. x ++ drop limit stream) f.parts ∙ append_assoc (text_of s) f.rest (drop limit stream);
-      short = omega (arith, ap length w.1, w.2);
-      text = record { format = s.format; trace = w.0; text_is = w.1 };
-    }
-
--- ---- how a run stands
--- the lines before the one begun gave the state, and the one begun has no line feed yet
-record Stands (r : Standing) : Type 0 where
-  gave : run begin (text_of r.state) ≡ Going (record { state = r.state; line = [] })
-  feedless : HasNoFeed r.line
-  short : length r.line ≤ line_limit
-
-begin_stands : Stands begin
-unfolding text_of run
-begin_stands = record { gave = refl; feedless = tt; short = omega arith }
-
-feedless_push : (xs : List ℕ) (b : ℕ) → HasNoFeed xs → is_feed b ≡ false → HasNoFeed (xs ++ b ∷ [])
-feedless_push [] b h k = (k, tt)
-feedless_push (x ∷ xs) b h k = (h.0, feedless_push xs b h.1 k)
-
-lt_from : (a b : ℕ) → nat_lt a b ≡ true → a < b
-lt_from a b h = grind (arith, nat_tests)
-
-ge_from : (a b : ℕ) → nat_lt a b ≡ false → b ≤ a
-ge_from a b h = grind (arith, nat_tests)
-
-going_is : (m n : Standing) → Going m ≡ Going n → m ≡ n
-going_is m n h = cc
-
-stands_judged : (r n : Standing) (o : Result State TraceReason) → IsSound r.state → Stands r → step r.state r.line ≡ o → judged r.state o ≡ Going n → Stands n
-stands_judged r n (Err reason) sound i e h = absurd cc
-stands_judged r n (Ok m) sound i e h = by_end (is_ended m.position) refl h where
-  by_end : (t : Bool) → is_ended m.position ≡ t → cond t (Found m) (Going (record { state = m; line = [] })) ≡ Going n → Stands n
-  by_end true k q = absurd cc
-  by_end false k q =
-      let gave : run begin (text_of m) ≡ Going (record { state = m; line = [] }) =
-      ap (run begin) (step_adds r.state m r.line sound e) ∙ run-append begin (text_of r.state) (r.line ++ 10 ∷ []) ∙ ap (λ o. o >>- λ x. run x (r.line ++ 10 ∷ [])) i.gave
-      ∙ run-whole_line (record { state = r.state; line = [] }) r.line i.feedless (omega (arith, i.short))
-      ∙ ap (judged r.state) e ∙ ap (λ t. cond t (Found m) (Going (record { state = m; line = [] }))) k in
-      subst Stands (going_is (record { state = m; line = [] }) n q) (record { gave = gave; feedless = tt; short = omega arith })
-
-stands_byte : (r n : Standing) (b : ℕ) → IsSound r.state → Stands r → take_byte r b ≡ Going n → Stands n
-unfolding take_byte
-stands_byte r n b sound i h = by_feed (is_feed b) refl (nat_lt (length r.line) line_limit) refl h where
-  by_feed : (t : Bool) → is_feed b ≡ t → (u : Bool) → nat_lt (length r.line) line_limit ≡ u
-      → cond t (judged r.state (step r.state r.line)) (cond u (Going (record { state = r.state; line = r.line ++ b ∷ [] })) (Refused (length (text_of r.state)) Long)) ≡ Going n → Stands n
-  by_feed true e u f q = stands_judged r n (step r.state r.line) sound i refl q
-  by_feed false e true f q =
-      subst Stands (going_is (record { state = r.state; line = r.line ++ b ∷ [] }) n q)
-      (record { gave = i.gave; feedless = feedless_push r.line b i.feedless e; short = omega (arith, length-append r.line (b ∷ []), lt_from (length r.line) line_limit f) })
-  by_feed false e false f q = absurd cc
-
-record Goes (r n : Standing) (bytes : List ℕ) : Type 0 where
-  stands : Stands n
-  sound : IsSound n.state
-  stream : stream_of n ≡ stream_of r ++ bytes
-
-goes_next : (r n : Standing) (b : ℕ) (bs : List ℕ) (o : Progress) → take_byte r b ≡ o → IsSound r.state → Stands r → ByteGives (stream_of r ++ b ∷ []) o → (o >>- λ m. run m bs) ≡ Going n
-    → ((m : Standing) → IsSound m.state → Stands m → run m bs ≡ Going n → Goes m n bs) → Goes r n (b ∷ bs)
-goes_next r n b bs (Going m) e sound i g h later =
-    let k = later m g.1 (stands_byte r m b sound i e) h in
-    record { stands = k.stands; sound = k.sound; stream = k.stream ∙ ap (λ x. x ++ bs) g.0 ∙ append_assoc (stream_of r) (b ∷ []) bs }
-goes_next r n b bs (Found s) e sound i g h later = absurd cc
-goes_next r n b bs (Refused byte reason) e sound i g h later = absurd cc
-goes_next r n b bs Over e sound i g h later = absurd cc
-
-run_goes : (r n : Standing) (bs : List ℕ) → IsSound r.state → Stands r → run r bs ≡ Going n → Goes r n bs
-unfolding run
-run_goes r n [] sound i h =
-    let e : r ≡ n = going_is r n h in
-    subst (λ (m : Standing). Goes r m []) e (record { stands = i; sound = sound; stream = sym (append-nil (stream_of r)) })
-run_goes r n (b ∷ bs) sound i h = goes_next r n b bs (take_byte r b) refl sound i (byte_gives r b sound) h (λ m s k q. run_goes m n bs s k q)
+use Rattle.bus_trace.proofs.ReadRuns.{MarkLaws, begin_stream, due_found, due_refused, due_going, due_over, run_within, found_trace}
+use Rattle.bus_trace.proofs.ReadRuns.{found_holds, Stands, begin_stands, feedless_push, lt_from, ge_from, run_goes}
 
 -- ---- where nothing is decided yet
 record Undecided (limit : ℕ) (bytes : List ℕ) (at : Standing) : Type 0 where
@@ -283,63 +66,82 @@ run_one r b = back (take_byte r b)
 
 -- one byte more leads where the byte does, or isn't looked at
 next_byte : (limit : ℕ) (front : List ℕ) (b : ℕ) (at : Standing) → Undecided limit front at
-    → ((length front < limit) × (run begin (take limit (front ++ b ∷ [])) ≡ take_byte at b)) ⊎ ((length front ≡ limit) × (run begin (take limit (front ++ b ∷ [])) ≡ Going at))
+    → ((length front < limit) × (run begin (take limit (front ++ b ∷ [])) ≡ take_byte at b)) ⊎
+    ((length front ≡ limit) × (run begin (take limit (front ++ b ∷ [])) ≡ Going at))
 next_byte limit front b at u = by_room (cases_lt (length front) limit) where
-  by_room : (length front < limit) ⊎ (limit ≤ length front) → ((length front < limit) × (run begin (take limit (front ++ b ∷ [])) ≡ take_byte at b)) ⊎ ((length front ≡ limit) × (run begin (take limit (front ++ b ∷ [])) ≡ Going at))
-  by_room (inl l) = inl (l, ap (run begin) (take_all limit (front ++ b ∷ []) (omega (arith, length-append front (b ∷ [])))) ∙ run-append begin front (b ∷ []) ∙ ap (λ o. o >>- λ m. run m (b ∷ [])) u.going ∙ run_one at b)
+  by_room : (length front < limit) ⊎ (limit ≤ length front)
+      → ((length front < limit) × (run begin (take limit (front ++ b ∷ [])) ≡ take_byte at b)) ⊎
+      ((length front ≡ limit) × (run begin (take limit (front ++ b ∷ [])) ≡ Going at))
+  by_room (inl l) = inl (
+    l,
+    ap (run begin) (take_all limit (front ++ b ∷ []) (omega (arith, length-append front (b ∷ []))))
+        ∙ run-append begin front (b ∷ []) ∙ ap (λ o. o >>- λ m. run m (b ∷ [])) u.going ∙ run_one at b,
+  )
   by_room (inr l) =
       let e : length front ≡ limit = omega (arith, u.short) in
       inr (e, ap (run begin) (take-append-le limit front (b ∷ []) l ∙ take_all limit front u.short) ∙ u.going)
 
-refuses_judged : (r : Standing) (left : Option (List ℕ)) (byte : ℕ) (reason : TraceReason) (o : Result State TraceReason) → Stands r → step r.state r.line ≡ o → judged r.state o ≡ Refused byte reason
-    → Refuses (stream_of r ++ 10 ∷ []) left byte reason
-refuses_judged r left byte reason (Ok m) i e h = by_end (is_ended m.position) h where
-  by_end : (t : Bool) → cond t (Found m) (Going (record { state = m; line = [] })) ≡ Refused byte reason → Refuses (stream_of r ++ 10 ∷ []) left byte reason
+refuses_judged : (r : Standing) (byte : ℕ) (reason : TraceReason) (o : Result State TraceReason) → Stands r → step r.state r.line ≡ o
+    → judged r.state o ≡ Refused byte reason
+    → Offends (stream_of r ++ 10 ∷ []) byte reason
+refuses_judged r byte reason (Ok m) i e h = by_end (is_ended m.position) h where
+  by_end : (t : Bool) → cond t (Found m) (Going (record { state = m; line = [] })) ≡ Refused byte reason
+      → Offends (stream_of r ++ 10 ∷ []) byte reason
   by_end true q = absurd cc
   by_end false q = absurd cc
-refuses_judged r left byte reason (Err why) i e h =
+refuses_judged r byte reason (Err why) i e h =
     let length_is : length (text_of r.state) ≡ byte = cc in
     let why_is : why ≡ reason = cc in
-    Complete r.state (text_of r.state) r.line (append_assoc (text_of r.state) r.line (10 ∷ [])) (sym length_is) (gave_is r.state r refl i) i.feedless i.short (e ∙ ap (λ (x : TraceReason). Err x) why_is)
+    Complete r.state (text_of r.state) r.line (append_assoc (text_of r.state) r.line (10 ∷ [])) (sym length_is)
+    (gave_is r.state r refl i) i.feedless i.short (e ∙ ap (λ (x : TraceReason). Err x) why_is)
 
-refuses_byte : (r : Standing) (b : ℕ) (left : Option (List ℕ)) (byte : ℕ) (reason : TraceReason) → Stands r → take_byte r b ≡ Refused byte reason → Refuses (stream_of r ++ b ∷ []) left byte reason
+pub refuses_byte : (r : Standing) (b : ℕ) (byte : ℕ) (reason : TraceReason) → Stands r → take_byte r b ≡ Refused byte reason
+    → Offends (stream_of r ++ b ∷ []) byte reason
 unfolding take_byte
-refuses_byte r b left byte reason i h = by_feed (is_feed b) refl (nat_lt (length r.line) line_limit) refl h where
+refuses_byte r b byte reason i h = by_feed (is_feed b) refl (nat_lt (length r.line) line_limit) refl h where
   by_feed : (t : Bool) → is_feed b ≡ t → (u : Bool) → nat_lt (length r.line) line_limit ≡ u
-      → cond t (judged r.state (step r.state r.line)) (cond u (Going (record { state = r.state; line = r.line ++ b ∷ [] })) (Refused (length (text_of r.state)) Long)) ≡ Refused byte reason → Refuses (stream_of r ++ b ∷ []) left byte reason
+      → cond t (judged r.state (step r.state r.line)) (cond u (Going (record { state = r.state; line = r.line ++ b ∷ [] }))
+      (Refused (length (text_of r.state)) Long)) ≡ Refused byte reason → Offends (stream_of r ++ b ∷ []) byte reason
   by_feed true e u f q =
-      subst (λ c. Refuses (stream_of r ++ c ∷ []) left byte reason) (sym (eqb-true b 10 e)) (refuses_judged r left byte reason (step r.state r.line) i refl q)
+      subst (λ c. Offends (stream_of r ++ c ∷ []) byte reason) (sym (eqb-true b 10 e))
+      (refuses_judged r byte reason (step r.state r.line) i refl q)
   by_feed false e true f q = absurd cc
   by_feed false e false f q =
       let length_is : length (text_of r.state) ≡ byte = cc in
       let why : Long ≡ reason = cc in
-      Overlong r.state (text_of r.state) (r.line ++ b ∷ []) (append_assoc (text_of r.state) r.line (b ∷ [])) (sym length_is) (gave_is r.state r refl i) (feedless_push r.line b i.feedless e)
+      Overlong r.state (text_of r.state) (r.line ++ b ∷ []) (append_assoc (text_of r.state) r.line (b ∷ [])) (sym length_is)
+      (gave_is r.state r refl i) (feedless_push r.line b i.feedless e)
       (omega (arith, length-append r.line (b ∷ []), i.short, ge_from (length r.line) line_limit f)) (sym why)
 
 -- what a decided refusal says of the bytes
-refused_byte : (front : List ℕ) (b : ℕ) (at : Standing) (left : Option (List ℕ)) (byte : ℕ) (reason : TraceReason) → Undecided text_limit front at → due text_limit (front ++ b ∷ []) ≡ Refused byte reason
+refused_byte : (front : List ℕ) (b : ℕ) (at : Standing) (left : Option (List ℕ)) (byte : ℕ) (reason : TraceReason)
+    → Undecided text_limit front at → due text_limit (front ++ b ∷ []) ≡ Refused byte reason
     → Refuses (front ++ b ∷ []) left byte reason × (length (front ++ b ∷ []) ≤ text_limit)
 unfolding due
 refused_byte front b at left byte reason u h = by_case (next_byte text_limit front b at u) where
   refused : run begin (take text_limit (front ++ b ∷ [])) ≡ Refused byte reason
   refused = due_refused (nat_lt text_limit (length (front ++ b ∷ []))) (run begin (take text_limit (front ++ b ∷ []))) byte reason h
 
-  by_case : ((length front < text_limit) × (run begin (take text_limit (front ++ b ∷ [])) ≡ take_byte at b)) ⊎ ((length front ≡ text_limit) × (run begin (take text_limit (front ++ b ∷ [])) ≡ Going at))
+  by_case : ((length front < text_limit) × (run begin (take text_limit (front ++ b ∷ [])) ≡ take_byte at b)) ⊎
+      ((length front ≡ text_limit) × (run begin (take text_limit (front ++ b ∷ [])) ≡ Going at))
       → Refuses (front ++ b ∷ []) left byte reason × (length (front ++ b ∷ []) ≤ text_limit)
   by_case (inl k) = (
-    subst (λ x. Refuses (x ++ b ∷ []) left byte reason) u.stream (refuses_byte at b left byte reason u.stands (sym k.1 ∙ refused)),
+    Decided (subst (λ x. Offends (x ++ b ∷ []) byte reason) u.stream (refuses_byte at b byte reason u.stands (sym k.1 ∙ refused))),
     omega (arith, length-append front (b ∷ []), k.0),
   )
   by_case (inr k) = let wrong : Going at ≡ Refused byte reason = sym k.1 ∙ refused in absurd cc
 
-over_byte : (front : List ℕ) (b : ℕ) (at : Standing) → Undecided text_limit front at → due text_limit (front ++ b ∷ []) ≡ Over → length (front ++ b ∷ []) ≡ (text_limit + 1)
+over_byte : (front : List ℕ) (b : ℕ) (at : Standing) → Undecided text_limit front at → due text_limit (front ++ b ∷ []) ≡ Over
+    → length (front ++ b ∷ []) ≡ (text_limit + 1)
 unfolding due
 over_byte front b at u h =
-    let d = due_over (nat_lt text_limit (length (front ++ b ∷ []))) (run begin (take text_limit (front ++ b ∷ []))) (run_within begin (take text_limit (front ++ b ∷ []))) h in
+    let d = due_over (nat_lt text_limit (length (front ++ b ∷ []))) (run begin (take text_limit (front ++ b ∷ [])))
+    (run_within begin (take text_limit (front ++ b ∷ []))) h in
     omega (arith, lt_from text_limit (length (front ++ b ∷ [])) d.0, length-append front (b ∷ []), u.short)
 
 -- ---- the clauses of a read
-refused_takes : (old new : Option (List ℕ)) (bytes : List ℕ) (byte : ℕ) (reason : TraceReason) → Taken old new bytes → LineRefused bytes new byte reason → TakesTrace old new (Err (Text byte reason))
+refused_takes : (old new : Option (List ℕ)) (bytes : List ℕ) (byte : ℕ) (reason : TraceReason) → Taken old new bytes
+    → LineRefused bytes new byte reason → TakesTrace old new (Err (Text byte reason))
 refused_takes old new bytes byte reason t (ByLine d) =
     let u = undecided_is text_limit d.front d.before d.undecided in
     let w = refused_byte d.front d.last d.before new byte reason u (ap (due text_limit) (sym d.parts) ∙ d.decided) in
@@ -349,10 +151,15 @@ refused_takes old new bytes byte reason t (ByEnd at d e b r) =
     record {
       bytes = bytes;
       came = t;
-      known = (CutOff at.state (text_of at.state) at.line (sym u.stream) b (gave_is at.state at refl u.stands) u.stands.feedless u.stands.short e r, u.short);
+      known = (
+        CutOff at.state (text_of at.state) at.line (sym u.stream) b
+            (gave_is at.state at refl u.stands) u.stands.feedless u.stands.short e r,
+        u.short,
+      );
     }
 
-pub loops_takes : MarkLaws → (old new : Option (List ℕ)) (result : Result Recording TraceError) → Loops old new result → TakesTrace old new result
+pub loops_takes : MarkLaws → (old new : Option (List ℕ)) (result : Result Recording TraceError) → Loops old new result
+    → TakesTrace old new result
 loops_takes laws old new (Ok trace) l =
     let s : State = l.gives.0 in
     let w = found_trace laws text_limit l.bytes s l.gives.1 in
@@ -366,17 +173,26 @@ loops_takes laws old new (Err (Text byte reason)) l = refused_takes old new l.by
 loops_takes laws old new (Err TooLarge) l =
     let d = l.gives in
     let u = undecided_is text_limit d.front d.before d.undecided in
-    record { bytes = l.bytes; came = l.came; known = (d, ap length d.parts ∙ over_byte d.front d.last d.before u (ap (due text_limit) (sym d.parts) ∙ d.decided)) }
+    record {
+      bytes = l.bytes;
+      came = l.came;
+      known = (
+        d,
+        ap length d.parts
+            ∙ over_byte d.front d.last d.before u (ap (due text_limit) (sym d.parts) ∙ d.decided),
+      );
+    }
 loops_takes laws old new (Err ReadFault) l = record { bytes = l.bytes; came = l.came; known = l.gives }
 loops_takes laws old new (Err Memory) l = record { bytes = l.bytes; came = l.came; known = l.gives }
 
 -- ---- what is decided stays so, whatever follows
-take_more : (limit : ℕ) (xs ys : List ℕ) → (rest : List ℕ) × (take limit (xs ++ ys) ≡ take limit xs ++ rest)
+pub take_more : (limit : ℕ) (xs ys : List ℕ) → (rest : List ℕ) × (take limit (xs ++ ys) ≡ take limit xs ++ rest)
 take_more zero xs ys = ([], refl)
 take_more (suc limit) [] ys = (take (suc limit) ys, refl)
 take_more (suc limit) (x ∷ xs) ys = let r = take_more limit xs ys in (r.0, ap (λ l. x ∷ l) r.1)
 
-run_more : (limit : ℕ) (xs ys : List ℕ) → (rest : List ℕ) × (run begin (take limit (xs ++ ys)) ≡ (run begin (take limit xs) >>- λ n. run n rest))
+pub run_more : (limit : ℕ) (xs ys : List ℕ) → (rest : List ℕ)
+    × (run begin (take limit (xs ++ ys)) ≡ (run begin (take limit xs) >>- λ n. run n rest))
 run_more limit xs ys = let t = take_more limit xs ys in (t.0, ap (run begin) t.1 ∙ run-append begin (take limit xs) t.0)
 
 pub found_more : (limit : ℕ) (xs ys : List ℕ) (s : State) → due limit xs ≡ Found s → due limit (xs ++ ys) ≡ Found s
@@ -386,7 +202,8 @@ found_more limit xs ys s h =
     let r = run_more limit xs ys in
     ap (due_by (nat_lt limit (length (xs ++ ys)))) (r.1 ∙ ap (λ o. o >>- λ n. run n r.0) f)
 
-pub refused_more : (limit : ℕ) (xs ys : List ℕ) (byte : ℕ) (reason : TraceReason) → due limit xs ≡ Refused byte reason → due limit (xs ++ ys) ≡ Refused byte reason
+pub refused_more : (limit : ℕ) (xs ys : List ℕ) (byte : ℕ) (reason : TraceReason) → due limit xs ≡ Refused byte reason
+    → due limit (xs ++ ys) ≡ Refused byte reason
 unfolding due
 refused_more limit xs ys byte reason h =
     let f = due_refused (nat_lt limit (length xs)) (run begin (take limit xs)) byte reason h in
@@ -410,19 +227,23 @@ told : (xs bytes : List ℕ) (new : Option (List ℕ)) → Taken (Some xs) new b
 told xs bytes None t = absurd cc
 told xs bytes (Some ys) t = (ys, refl, cc)
 
-refused_gives : (xs bytes : List ℕ) (new : Option (List ℕ)) (byte : ℕ) (reason : TraceReason) → Taken (Some xs) new bytes → LineRefused bytes new byte reason → reading text_limit xs ≡ Err (Text byte reason)
+refused_gives : (xs bytes : List ℕ) (new : Option (List ℕ)) (byte : ℕ) (reason : TraceReason) → Taken (Some xs) new bytes
+    → LineRefused bytes new byte reason → reading text_limit xs ≡ Err (Text byte reason)
 refused_gives xs bytes new byte reason t (ByLine d) =
     let k = told xs bytes new t in
     ap (reading text_limit) k.2 ∙ ap ended_by (refused_more text_limit bytes k.0 byte reason d.decided)
 refused_gives xs bytes new byte reason t (ByEnd at d e b r) =
     let k = told xs bytes new t in
     let none : k.0 ≡ [] = subst (λ (m : Option (List ℕ)). IfSome m (λ zs. zs ≡ [])) k.1 e in
-    ap (reading text_limit) (k.2 ∙ ap (λ zs. bytes ++ zs) none ∙ append-nil bytes) ∙ ap ended_by d ∙ ap (λ n. Err (Text n CutShort)) (sym b) ∙ ap (λ (x : TraceReason). Err (Text byte x)) (sym r)
+    ap (reading text_limit) (k.2 ∙ ap (λ zs. bytes ++ zs) none ∙ append-nil bytes) ∙ ap ended_by d
+    ∙ ap (λ n. Err (Text n CutShort)) (sym b) ∙ ap (λ (x : TraceReason). Err (Text byte x)) (sym r)
 
-gives_told : (xs : List ℕ) (new : Option (List ℕ)) (result : Result Recording TraceError) → Loops (Some xs) new result → ReadGives result (reading text_limit xs)
+gives_told : (xs : List ℕ) (new : Option (List ℕ)) (result : Result Recording TraceError) → Loops (Some xs) new result
+    → ReadGives result (reading text_limit xs)
 gives_told xs new (Ok trace) l =
     let k = told xs l.bytes new l.came in
-    ap (reading text_limit) k.2 ∙ ap ended_by (found_more text_limit l.bytes k.0 l.gives.0 l.gives.1) ∙ ap (λ (t : Recording). Ok t) (sym l.gives.3)
+    ap (reading text_limit) k.2 ∙ ap ended_by (found_more text_limit l.bytes k.0 l.gives.0 l.gives.1)
+    ∙ ap (λ (t : Recording). Ok t) (sym l.gives.3)
 gives_told xs new (Err (Text byte reason)) l = refused_gives xs l.bytes new byte reason l.came l.gives
 gives_told xs new (Err TooLarge) l =
     let k = told xs l.bytes new l.came in
@@ -430,7 +251,8 @@ gives_told xs new (Err TooLarge) l =
 gives_told xs new (Err ReadFault) l = tt
 gives_told xs new (Err Memory) l = tt
 
-pub loops_exact : (old new : Option (List ℕ)) (result : Result Recording TraceError) → Loops old new result → IfSome old (λ stream. ReadGives result (reading text_limit stream))
+pub loops_exact : (old new : Option (List ℕ)) (result : Result Recording TraceError) → Loops old new result
+    → IfSome old (λ stream. ReadGives result (reading text_limit stream))
 loops_exact None new result l = tt
 loops_exact (Some xs) new result l = gives_told xs new result l
 
@@ -447,32 +269,41 @@ reads_holds laws limit stream t h =
     let k = reads_is (due limit stream) t h in
     subst (HoldsTrace limit stream) k.2 (found_holds laws limit stream k.0 k.1)
 
--- what stands at the front is read
-pub holds_reads : MarkLaws → (limit : ℕ) (stream : List ℕ) (t : Recording) → HoldsTrace limit stream t → reading limit stream ≡ Ok t
+pub holds_due : MarkLaws → (limit : ℕ) (stream : List ℕ) (t : Recording) (h : HoldsTrace limit stream t)
+    → due limit stream ≡ Found (ended h.text.format t)
 unfolding due
-holds_reads laws limit stream t h =
+holds_due laws limit stream t h =
     let format : Format = h.text.format in
     let cut : (rest : List ℕ) × (take limit stream ≡ text_in format t ++ rest) =
     let m = take_more limit h.front h.rest in
     (m.0, ap (take limit) h.parts ∙ m.1 ∙ ap (λ x. x ++ m.0) (take_all limit h.front h.short ∙ h.text.text_is)) in
-    ap (λ x. ended_by (due_by (nat_lt limit (length stream)) (run begin x))) cut.1
-    ∙ ap (λ o. ended_by (due_by (nat_lt limit (length stream)) o)) (trace_again laws.neighbours laws.ascending format t cut.0 h.text.trace)
+    ap (λ x. due_by (nat_lt limit (length stream)) (run begin x)) cut.1
+    ∙ ap (λ o. due_by (nat_lt limit (length stream)) o) (trace_again laws.neighbours laws.ascending format t cut.0 h.text.trace)
 
-found_told : MarkLaws → (xs : List ℕ) (result : Result Recording TraceError) → ReadGives result (reading text_limit xs) → IfOk result (HoldsTrace text_limit xs)
+-- what stands at the front is read
+pub holds_reads : MarkLaws → (limit : ℕ) (stream : List ℕ) (t : Recording) → HoldsTrace limit stream t → reading limit stream ≡ Ok t
+holds_reads laws limit stream t h = ap ended_by (holds_due laws limit stream t h)
+
+found_told : MarkLaws → (xs : List ℕ) (result : Result Recording TraceError) → ReadGives result (reading text_limit xs)
+    → IfOk result (HoldsTrace text_limit xs)
 found_told laws xs (Ok trace) h = reads_holds laws text_limit xs trace h
 found_told laws xs (Err e) h = tt
 
-pub exact_found : MarkLaws → (old : Option (List ℕ)) (result : Result Recording TraceError) → IfSome old (λ stream. ReadGives result (reading text_limit stream)) → IfSome old (λ stream. IfOk result (HoldsTrace text_limit stream))
+pub exact_found : MarkLaws → (old : Option (List ℕ)) (result : Result Recording TraceError)
+    → IfSome old (λ stream. ReadGives result (reading text_limit stream))
+    → IfSome old (λ stream. IfOk result (HoldsTrace text_limit stream))
 exact_found laws None result h = tt
 exact_found laws (Some xs) result h = found_told laws xs result h
 
-pub exact_only : MarkLaws → (old : Option (List ℕ)) (result : Result Recording TraceError) → IfSome old (λ stream. ReadGives result (reading text_limit stream))
+pub exact_only : MarkLaws → (old : Option (List ℕ)) (result : Result Recording TraceError)
+    → IfSome old (λ stream. ReadGives result (reading text_limit stream))
     → IfSome old (λ stream. (t : Recording) → HoldsTrace text_limit stream t → ReadGives result (Ok t))
 exact_only laws None result h = tt
 exact_only laws (Some xs) result h = λ t k. subst (ReadGives result) (holds_reads laws text_limit xs t k) h
 
 -- ---- no trace text is a proper front of another
-pub front_is_whole : MarkLaws → (one other : Format) (t u : Recording) (rest : List ℕ) → IsTrace t → IsTrace u → text_in other u ≡ text_in one t ++ rest → (one ≡ other) × (t ≡ u) × (rest ≡ [])
+pub front_is_whole : MarkLaws → (one other : Format) (t u : Recording) (rest : List ℕ) → IsTrace t → IsTrace u
+    → text_in other u ≡ text_in one t ++ rest → (one ≡ other) × (t ≡ u) × (rest ≡ [])
 front_is_whole laws one other t u rest i j e =
     let a = trace_again laws.neighbours laws.ascending one t rest i in
     let b = trace_again laws.neighbours laws.ascending other u [] j in

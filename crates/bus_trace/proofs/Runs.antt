@@ -1,5 +1,6 @@
 -- Runs over bytes.
-use Rattle.std.proofs.Common.{arith, zero, suc, ◌≡◌, ◌≢◌, ℕ, ◌+◌, ◌<◌, ◌≤◌, Bool, true, false, cond, List, [], ◌∷◌, ◌++◌, length, take, drop, get_or, nat_lt, refl, sym, ap, ◌∙◌, append_assoc, append-nil, length-append}
+use Rattle.std.proofs.Common.{arith, zero, suc, ◌≡◌, ◌≢◌, ℕ, ◌+◌, ◌<◌, ◌≤◌, Bool, true, false, cond, List, [], ◌∷◌, ◌++◌, length, take}
+use Rattle.std.proofs.Common.{drop, get_or, nat_lt, refl, sym, ap, ◌∙◌, append_assoc, append-nil, length-append}
 use Rattle.std.proofs.lemmas.Bool.Decides.{nat_tests}
 use Rattle.bus_text.specs.Lines.{is_feed}
 use Rattle.bus_trace.specs.declared.reason.TraceReason.TheVariants.{Long}
@@ -34,20 +35,27 @@ ge_is : (a b : ℕ) → b ≤ a → nat_lt a b ≡ false
 ge_is a b h = grind (arith, nat_tests)
 
 -- a byte that is no line feed, within the room of a line
-byte_kept : (r : Standing) (b : ℕ) → is_feed b ≡ false → length r.line < line_limit → take_byte r b ≡ Going (record { state = r.state; line = r.line ++ b ∷ [] })
+byte_kept : (r : Standing) (b : ℕ) → is_feed b ≡ false → length r.line < line_limit
+    → take_byte r b ≡ Going (record { state = r.state; line = r.line ++ b ∷ [] })
 unfolding take_byte
 byte_kept r b h k =
-    ap (λ t. cond t (judged r.state (step r.state r.line)) (cond (nat_lt (length r.line) line_limit) (Going (record { state = r.state; line = r.line ++ b ∷ [] })) (Refused (length (text_of r.state)) Long))) h
-    ∙ ap (λ t. cond t (Going (record { state = r.state; line = r.line ++ b ∷ [] })) (Refused (length (text_of r.state)) Long)) (lt_is (length r.line) line_limit k)
+    ap (λ t. cond t (judged r.state (step r.state r.line)) (cond (nat_lt (length r.line) line_limit)
+    (Going (record { state = r.state; line = r.line ++ b ∷ [] })) (Refused (length (text_of r.state)) Long))) h
+    ∙ ap (λ t. cond t (Going (record { state = r.state; line = r.line ++ b ∷ [] })) (Refused (length (text_of r.state)) Long))
+    (lt_is (length r.line) line_limit k)
 
-byte_long : (r : Standing) (b : ℕ) → is_feed b ≡ false → line_limit ≤ length r.line → take_byte r b ≡ Refused (length (text_of r.state)) Long
+byte_long : (r : Standing) (b : ℕ) → is_feed b ≡ false → line_limit ≤ length r.line
+    → take_byte r b ≡ Refused (length (text_of r.state)) Long
 unfolding take_byte
 byte_long r b h k =
-    ap (λ t. cond t (judged r.state (step r.state r.line)) (cond (nat_lt (length r.line) line_limit) (Going (record { state = r.state; line = r.line ++ b ∷ [] })) (Refused (length (text_of r.state)) Long))) h
-    ∙ ap (λ t. cond t (Going (record { state = r.state; line = r.line ++ b ∷ [] })) (Refused (length (text_of r.state)) Long)) (ge_is (length r.line) line_limit k)
+    ap (λ t. cond t (judged r.state (step r.state r.line)) (cond (nat_lt (length r.line) line_limit)
+    (Going (record { state = r.state; line = r.line ++ b ∷ [] })) (Refused (length (text_of r.state)) Long))) h
+    ∙ ap (λ t. cond t (Going (record { state = r.state; line = r.line ++ b ∷ [] })) (Refused (length (text_of r.state)) Long))
+    (ge_is (length r.line) line_limit k)
 
 -- bytes with no line feed, within the room of a line
-pub run-line : (r : Standing) (xs : List ℕ) → HasNoFeed xs → length r.line + length xs ≤ line_limit → run r xs ≡ Going (record { state = r.state; line = r.line ++ xs })
+pub run-line : (r : Standing) (xs : List ℕ) → HasNoFeed xs → length r.line + length xs ≤ line_limit
+    → run r xs ≡ Going (record { state = r.state; line = r.line ++ xs })
 unfolding run
 run-line r [] h k = ap (λ (l : List ℕ). Going (record { state = r.state; line = l })) (sym (append-nil r.line))
 run-line r (x ∷ xs) h k =
@@ -57,7 +65,8 @@ run-line r (x ∷ xs) h k =
     ∙ ap (λ (l : List ℕ). Going (record { state = r.state; line = l })) (append_assoc r.line (x ∷ []) xs)
 
 long_by : (r : Standing) (x : ℕ) (xs : List ℕ) (t : Bool) → is_feed x ≡ false → nat_lt (length r.line) line_limit ≡ t
-    → (length r.line < line_limit → run (record { state = r.state; line = r.line ++ x ∷ [] }) xs ≡ Refused (length (text_of r.state)) Long) → run r (x ∷ xs) ≡ Refused (length (text_of r.state)) Long
+    → (length r.line < line_limit → run (record { state = r.state; line = r.line ++ x ∷ [] }) xs ≡ Refused
+    (length (text_of r.state)) Long) → run r (x ∷ xs) ≡ Refused (length (text_of r.state)) Long
 unfolding run
 long_by r x xs true h e rest =
     let room : length r.line < line_limit = grind (arith, nat_tests) in
@@ -67,9 +76,11 @@ long_by r x xs false h e rest =
     ap (λ o. o >>- λ m. run m xs) (byte_long r x h full)
 
 -- bytes with no line feed, past the room of a line
-pub run-long : (r : Standing) (xs : List ℕ) → HasNoFeed xs → length r.line ≤ line_limit → line_limit < length r.line + length xs → run r xs ≡ Refused (length (text_of r.state)) Long
+pub run-long : (r : Standing) (xs : List ℕ) → HasNoFeed xs → length r.line ≤ line_limit → line_limit < length r.line + length xs
+    → run r xs ≡ Refused (length (text_of r.state)) Long
 run-long r [] h k l = absurd (omega arith)
-run-long r (x ∷ xs) h k l = long_by r x xs _ h.0 refl (λ room. run-long (record { state = r.state; line = r.line ++ x ∷ [] }) xs h.1 (omega (arith, length-append r.line (x ∷ []))) (omega (arith, length-append r.line (x ∷ []))))
+run-long r (x ∷ xs) h k l = long_by r x xs _ h.0 refl (λ room. run-long (record { state = r.state; line = r.line ++ x ∷ [] }) xs h.1
+    (omega (arith, length-append r.line (x ∷ []))) (omega (arith, length-append r.line (x ∷ []))))
 
 -- a line that is complete
 pub run-feed : (r : Standing) → run r (10 ∷ []) ≡ judged r.state (step r.state r.line)
@@ -81,12 +92,14 @@ run-feed r = back (judged r.state (step r.state r.line)) where
   back (Refused b e) = refl
   back Over = refl
 
-pub run-whole_line : (r : Standing) (xs : List ℕ) → HasNoFeed xs → length r.line + length xs ≤ line_limit → run r (xs ++ 10 ∷ []) ≡ judged r.state (step r.state (r.line ++ xs))
+pub run-whole_line : (r : Standing) (xs : List ℕ) → HasNoFeed xs → length r.line + length xs ≤ line_limit
+    → run r (xs ++ 10 ∷ []) ≡ judged r.state (step r.state (r.line ++ xs))
 run-whole_line r xs h k =
     let n : Standing = record { state = r.state; line = r.line ++ xs } in
     run-append r xs (10 ∷ []) ∙ ap (λ o. o >>- λ m. run m (10 ∷ [])) (run-line r xs h k) ∙ run-feed n
 
-pub run-whole_long : (r : Standing) (xs ys : List ℕ) → HasNoFeed xs → length r.line ≤ line_limit → line_limit < length r.line + length xs → run r (xs ++ ys) ≡ Refused (length (text_of r.state)) Long
+pub run-whole_long : (r : Standing) (xs ys : List ℕ) → HasNoFeed xs → length r.line ≤ line_limit → line_limit < length r.line + length xs
+    → run r (xs ++ ys) ≡ Refused (length (text_of r.state)) Long
 run-whole_long r xs ys h k l = run-append r xs ys ∙ ap (λ o. o >>- λ m. run m ys) (run-long r xs h k l)
 
 -- ---- line feeds by position

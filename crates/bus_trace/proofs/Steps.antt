@@ -1,5 +1,7 @@
 -- What a step adds to the text.
-use Rattle.std.proofs.Common.{arith, zero, suc, ◌≡◌, ℕ, ◌<◌, ◌≤◌, ◌^◌, Bool, true, false, not, cond, ◌&&◌, ◌||◌, ◌==◌, List, [], ◌∷◌, ◌++◌, length, get_or, codes, nat_lt, Option, Some, None, Result, Ok, Err, refl, sym, ap, subst, ◌∙◌, append_assoc, append-nil, length-append, drop, map}
+use Rattle.std.proofs.Common.{arith, zero, suc, ◌≡◌, ℕ, ◌<◌, ◌≤◌, ◌^◌, Bool, true, false, not, cond, ◌&&◌, ◌||◌, ◌==◌, List, [], ◌∷◌}
+use Rattle.std.proofs.Common.{◌++◌, length, get_or, codes, nat_lt, Option, Some, None, Result, Ok, Err, refl, sym, ap, subst, ◌∙◌}
+use Rattle.std.proofs.Common.{append_assoc, append-nil, length-append, drop, map}
 use Rattle.std.specs.List.{flat_map, list_all, AllByRecursion}
 use Rattle.std.specs.Str.{bytes_eq}
 use Rattle.std.specs.Fmt.{decimal}
@@ -31,99 +33,21 @@ use Rattle.bus_trace.specs.declared.reason.TraceReason.{TraceReason}
 use Rattle.bus_trace.specs.declared.reason.TraceReason.TheVariants as reason
 use Rattle.bus_strings.specs.Limits.{horizon_limit, most_terminal}
 use Rattle.bus_trace.specs.Limits.{most_count, most_fields}
-use Rattle.bus_trace.specs.Traces.{Line, IsHold, IsBelow, format_text, head_line, horizon_line, hold_line, begin_line, string_line, entry_lines, ended_line, end_line, opening_lines}
+use Rattle.bus_trace.specs.Traces.{Line, IsHold, IsBelow, format_text, head_line, horizon_line, hold_line, begin_line, string_line}
+use Rattle.bus_trace.specs.Traces.{entry_lines, ended_line, end_line, opening_lines}
 use Rattle.bus_trace.specs.WordFields.{are_spelled, have_parity, string_of}
-use Rattle.bus_trace.specs.States.{State, IsSound, PositionFits, MarkFits, lines_so_far, body_lines, lines_at, lines_of, text_of, keyword_of, last_count, may_follow, spaced_fields, field, is_number, number, last_terminal, last_end, is_after, is_hit, is_final, is_refuted, is_mark, mark_of, starts_wrong, with_string, more_list, format_of, headed, head_step, horizon_step, hold_step, begin_step, string_step, close_step, end_step, form_step, keyword_step, step}
+use Rattle.bus_trace.specs.States.{State, IsSound, PositionFits, MarkFits, lines_so_far, body_lines, lines_at, lines_of, text_of}
+use Rattle.bus_trace.specs.States.{keyword_of, last_count, may_follow, spaced_fields, field, is_number, number, last_terminal, last_end}
+use Rattle.bus_trace.specs.States.{is_after, is_hit, is_final, is_refuted, is_mark, mark_of, starts_wrong, with_string, more_list}
+use Rattle.bus_trace.specs.States.{format_of, headed, head_step, horizon_step, hold_step, begin_step, string_step, close_step, end_step}
+use Rattle.bus_trace.specs.States.{form_step, keyword_step, step}
 use Rattle.bus_trace.proofs.Lasts.{length-with_string, last_end_most}
 use Rattle.bus_trace.proofs.Orders.{all_push, lt_from, ascending_push, ascending_with, below_with, terminals_push}
 use Rattle.bus_trace.proofs.WordLists.{string_is}
 use Rattle.bus_trace.proofs.Told.{told_closed, told_next, told_string}
 use Rattle.bus_trace.proofs.Marks.{mark_is, unhit, mark_shown, begun_fits, ended_fits}
-
--- ---- numbers
-digit_small : (c : ℕ) → is_ascii_digit c ≡ true → digit_value c < 10
-digit_small c h = grind (arith, nat_tests)
-
-pub digits_from : (ds : List ℕ) → list_all is_ascii_digit ds ≡ true → AllDigits 10 ds
-digits_from [] h = tt
-digits_from (d ∷ ds) h = let p = and_parts (is_ascii_digit d) (list_all is_ascii_digit ds) h in (digit_small d p.0, digits_from ds p.1)
-
-one_zero : (ds : List ℕ) → is_plain_decimal ds ≡ true → get_or ds 0 0 ≡ 48 → length ds ≡ 1
-one_zero [] h e = absurd cc
-one_zero (d ∷ []) h e = refl
-one_zero (d ∷ c ∷ ds) h e = let p = and_parts (not (d == 48)) (list_all is_ascii_digit (d ∷ c ∷ ds)) h in absurd (no d e p.0) where
-  no : (d : ℕ) → d ≡ 48 → not (d == 48) ≡ true → ⊥
-  no d e h = let k : not (48 == 48) ≡ true = subst (λ (n : ℕ). not (n == 48) ≡ true) e h in cc
-
-some_digits : (ds : List ℕ) → is_plain_decimal ds ≡ true → 0 < length ds
-some_digits [] h = absurd cc
-some_digits (d ∷ ds) h = omega arith
-
-all_digits : (ds : List ℕ) → is_plain_decimal ds ≡ true → list_all is_ascii_digit ds ≡ true
-all_digits [] h = absurd cc
-all_digits (d ∷ []) h = grind (arith, nat_tests)
-all_digits (d ∷ e ∷ ds) h = (and_parts (not (d == 48)) (list_all is_ascii_digit (d ∷ e ∷ ds)) h).1
-
--- a plain decimal is the one spelling of its number
-pub decimal_is : (ds : List ℕ) → is_plain_decimal ds ≡ true → decimal_value ds < 2 ^ 64 → decimal (decimal_value ds) ≡ ds
-decimal_is ds h k = decimal-digits_value (numerals_by_value (AllDigits 10) tells_digits) ds (digits_from ds (all_digits ds h)) (some_digits ds h) (one_zero ds h) k
-
--- ---- rows of tests
--- no row stands in the way: the first one's test doesn't hold, nor do those of the others
-row : {A : Type 0} (t : Bool) (r : TraceReason) (others : Option TraceReason) (x y : A) → unless (cond (not t) (Some r) others) x ≡ Ok y → (t ≡ true) × (unless others x ≡ Ok y)
-row true r others x y h = (refl, h)
-row false r others x y h = absurd cc
-
--- a row whose test stands in the way where it holds
-row_against : {A : Type 0} (t : Bool) (r : TraceReason) (others : Option TraceReason) (x y : A) → unless (cond t (Some r) others) x ≡ Ok y → (t ≡ false) × (unless others x ≡ Ok y)
-row_against true r others x y h = absurd cc
-row_against false r others x y h = (refl, h)
-
-done : {A : Type 0} (x y : A) → unless {R = TraceReason} None x ≡ Ok y → x ≡ y
-done x y h = cc
-
--- ---- fields by their number
-one_field : (fields : List (List ℕ)) → (length fields == 1) ≡ true → fields ≡ field fields 0 ∷ []
-one_field [] h = absurd cc
-one_field (a ∷ []) h = refl
-one_field (a ∷ b ∷ fields) h = absurd (omega (arith, eqb-true (length (a ∷ b ∷ fields)) 1 h))
-
-two_fields : (fields : List (List ℕ)) → (length fields == 2) ≡ true → fields ≡ field fields 0 ∷ field fields 1 ∷ []
-two_fields [] h = absurd cc
-two_fields (a ∷ []) h = absurd (omega (arith, eqb-true (length (a ∷ [])) 2 h))
-two_fields (a ∷ b ∷ []) h = refl
-two_fields (a ∷ b ∷ c ∷ fields) h = absurd (omega (arith, eqb-true (length (a ∷ b ∷ c ∷ fields)) 2 h))
-
-three_fields : (fields : List (List ℕ)) → (length fields == 3) ≡ true → fields ≡ field fields 0 ∷ field fields 1 ∷ field fields 2 ∷ []
-three_fields [] h = absurd cc
-three_fields (a ∷ []) h = absurd (omega (arith, eqb-true (length (a ∷ [])) 3 h))
-three_fields (a ∷ b ∷ []) h = absurd (omega (arith, eqb-true (length (a ∷ b ∷ [])) 3 h))
-three_fields (a ∷ b ∷ c ∷ []) h = refl
-three_fields (a ∷ b ∷ c ∷ d ∷ fields) h = absurd (omega (arith, eqb-true (length (a ∷ b ∷ c ∷ d ∷ fields)) 3 h))
-
-first_and : (fields : List (List ℕ)) → is_in_range 2 most_fields (length fields) ≡ true → fields ≡ field fields 0 ∷ drop 1 fields
-first_and [] h = absurd cc
-first_and (f ∷ fields) h = refl
-
-rest_few : (fields : List (List ℕ)) → is_in_range 2 most_fields (length fields) ≡ true → length (drop 1 fields) ≤ 257
-rest_few [] h = omega arith
-rest_few (f ∷ fields) h = let l : length (f ∷ fields) ≤ 258 = most (length (f ∷ fields)) 2 258 h in omega arith where
-  most : (n lo hi : ℕ) → is_in_range lo hi n ≡ true → n ≤ hi
-  most n lo hi h = grind (arith, nat_tests)
-
-least : (n lo hi : ℕ) → is_in_range lo hi n ≡ true → lo ≤ n
-least n lo hi h = grind (arith, nat_tests)
-
-most : (n lo hi : ℕ) → is_in_range lo hi n ≡ true → n ≤ hi
-most n lo hi h = grind (arith, nat_tests)
-
-word_is : (f word : List ℕ) → bytes_eq f word ≡ true → f ≡ word
-word_is f word h = (bytes_eq-Decides f word).0 h
-
-at_is : (fields : List (List ℕ)) (k : ℕ) (word : List ℕ) → is_at fields k word ≡ true → field fields k ≡ word
-at_is [] k word h = absurd cc
-at_is (f ∷ fields) zero word h = word_is f word h
-at_is (f ∷ fields) (suc k) word h = at_is fields k word h
+use Rattle.bus_trace.proofs.StepRows.{decimal_is, row, row_against, done, one_field, two_fields, three_fields, first_and, rest_few, least}
+use Rattle.bus_trace.proofs.StepRows.{most, word_is}
 
 -- ---- keywords and places
 -- the text of a keyword
@@ -139,7 +63,8 @@ keyword_text keyword.End = codes "END"
 some_is : (x y : Keyword) → Some x ≡ Some y → x ≡ y
 some_is x y h = cc
 
-by_keyword : (f word : List ℕ) (x : Keyword) (rest : Option Keyword) (k : Keyword) → word ≡ keyword_text x → (rest ≡ Some k → f ≡ keyword_text k) → cond (bytes_eq f word) (Some x) rest ≡ Some k → f ≡ keyword_text k
+by_keyword : (f word : List ℕ) (x : Keyword) (rest : Option Keyword) (k : Keyword) → word ≡ keyword_text x
+    → (rest ≡ Some k → f ≡ keyword_text k) → cond (bytes_eq f word) (Some x) rest ≡ Some k → f ≡ keyword_text k
 by_keyword f word x rest k w later h = by_test (bytes_eq f word) refl h where
   by_test : (t : Bool) → bytes_eq f word ≡ t → cond t (Some x) rest ≡ Some k → f ≡ keyword_text k
   by_test true e q = word_is f word e ∙ w ∙ ap keyword_text (some_is x k q)
@@ -147,8 +72,10 @@ by_keyword f word x rest k w later h = by_test (bytes_eq f word) refl h where
 
 keyword_is : (f : List ℕ) (k : Keyword) → keyword_of f ≡ Some k → f ≡ keyword_text k
 keyword_is f k h =
-    by_keyword f (codes "TRACE") keyword.Trace _ k refl (by_keyword f (codes "HORIZON") keyword.Horizon _ k refl (by_keyword f (codes "HOLD") keyword.Hold _ k refl
-    (by_keyword f (codes "TX") keyword.Tx _ k refl (by_keyword f (codes "WS") keyword.Ws _ k refl (by_keyword f (codes "TE") keyword.Te _ k refl (by_keyword f (codes "END") keyword.End None k refl (λ e. absurd cc))))))) h
+    by_keyword f (codes "TRACE") keyword.Trace _ k refl (by_keyword f (codes "HORIZON") keyword.Horizon _ k refl
+    (by_keyword f (codes "HOLD") keyword.Hold _ k refl
+    (by_keyword f (codes "TX") keyword.Tx _ k refl (by_keyword f (codes "WS") keyword.Ws _ k refl
+    (by_keyword f (codes "TE") keyword.Te _ k refl (by_keyword f (codes "END") keyword.End None k refl (λ e. absurd cc))))))) h
 
 trace_at : (p : Position) (f : Format) (n : ℕ) → may_follow p f n keyword.Trace ≡ true → p ≡ Start
 trace_at Start f n h = refl
@@ -189,7 +116,8 @@ close_at Closed f n h = absurd cc
 close_at Ended f n h = absurd cc
 
 -- the lines of a position behind which TX may stand, and END alike
-body_at : (p : Position) (f : Format) (mark : Bool) (n h : ℕ) (hs : List Hold) (xs : List Entry) → may_follow p f n keyword.Tx ≡ true → lines_at p f mark h hs xs ≡ body_lines f (Some mark) h hs xs
+body_at : (p : Position) (f : Format) (mark : Bool) (n h : ℕ) (hs : List Hold) (xs : List Entry) → may_follow p f n keyword.Tx ≡ true
+    → lines_at p f mark h hs xs ≡ body_lines f (Some mark) h hs xs
 body_at Start f mark n h hs xs e = absurd cc
 body_at Headed f mark n h hs xs e = absurd cc
 body_at Holding f mark n h hs xs e = refl
@@ -214,39 +142,48 @@ none_so_far One o = refl
 none_so_far Two o = refl
 
 -- the lines of no transmissions
-none_lines : (f : Format) (o : Option Bool) (h : ℕ) (hs : List Hold) (xs : List Entry) → xs ≡ [] → body_lines f o h hs xs ≡ opening_lines f h hs
-none_lines f o h hs xs none = ap (λ ys. opening_lines f h hs ++ lines_so_far f o ys) none ∙ ap (λ ls. opening_lines f h hs ++ ls) (none_so_far f o) ∙ append-nil (opening_lines f h hs)
+none_lines : (f : Format) (o : Option Bool) (h : ℕ) (hs : List Hold) (xs : List Entry) → xs ≡ []
+    → body_lines f o h hs xs ≡ opening_lines f h hs
+none_lines f o h hs xs none = ap (λ ys. opening_lines f h hs ++ lines_so_far f o ys) none
+    ∙ ap (λ ls. opening_lines f h hs ++ ls) (none_so_far f o) ∙ append-nil (opening_lines f h hs)
 
-hold_lines : (f : Format) (o : Option Bool) (h : ℕ) (hs : List Hold) (xs : List Entry) (hold : Hold) → xs ≡ [] → body_lines f o h (hs ++ hold ∷ []) xs ≡ body_lines f o h hs xs ++ hold_line hold ∷ []
+hold_lines : (f : Format) (o : Option Bool) (h : ℕ) (hs : List Hold) (xs : List Entry) (hold : Hold) → xs ≡ []
+    → body_lines f o h (hs ++ hold ∷ []) xs ≡ body_lines f o h hs xs ++ hold_line hold ∷ []
 hold_lines f o h hs xs hold none =
     none_lines f o h (hs ++ hold ∷ []) xs none
     ∙ ap (λ (ls : List Line). head_line f ∷ horizon_line h ∷ ls) (map-append hold_line hs (hold ∷ []))
     ∙ ap (λ (ls : List Line). ls ++ hold_line hold ∷ []) (sym (none_lines f o h hs xs none))
 
 -- the lines of a list that has grown
-more_lines : (f : Format) (o p : Option Bool) (h : ℕ) (hs : List Hold) (xs ys : List Entry) (more : List Line) → lines_so_far f p ys ≡ lines_so_far f o xs ++ more → body_lines f p h hs ys ≡ body_lines f o h hs xs ++ more
+more_lines : (f : Format) (o p : Option Bool) (h : ℕ) (hs : List Hold) (xs ys : List Entry) (more : List Line)
+    → lines_so_far f p ys ≡ lines_so_far f o xs ++ more → body_lines f p h hs ys ≡ body_lines f o h hs xs ++ more
 more_lines f o p h hs xs ys more e =
     ap (λ (ls : List Line). opening_lines f h hs ++ ls) e ∙ sym (append_assoc (opening_lines f h hs) (lines_so_far f o xs) more)
 
-begun_next : (xs : List Entry) (mark : Bool) (x : Entry) → (0 < length xs → mark ≡ (is_hit xs || nat_lt x.moment (last_end xs))) → lines_so_far Two None (xs ++ x ∷ []) ≡ lines_so_far Two (Some mark) xs ++ entry_lines x
+begun_next : (xs : List Entry) (mark : Bool) (x : Entry) → (0 < length xs → mark ≡ (is_hit xs || nat_lt x.moment (last_end xs)))
+    → lines_so_far Two None (xs ++ x ∷ []) ≡ lines_so_far Two (Some mark) xs ++ entry_lines x
 begun_next [] mark x h = append-nil (entry_lines x)
 begun_next (y ∷ xs) mark x h = told_next [] (y ∷ xs) mark x (omega arith) (h (omega arith))
 
 begun_lines : (f : Format) (mark : Bool) (xs : List Entry) (m n : ℕ) (w : Wordstring) → MarkFits (Begun m n) f mark xs
-    → lines_so_far f None (xs ++ record { moment = m; terminal = n; message = w ∷ [] } ∷ []) ≡ lines_so_far f (Some mark) xs ++ (begin_line m n ∷ string_line w ∷ [])
+    → lines_so_far f None (xs ++ record { moment = m; terminal = n; message = w ∷ [] } ∷ []) ≡ lines_so_far f (Some mark) xs ++
+    (begin_line m n ∷ string_line w ∷ [])
 begun_lines One mark xs m n w h = flat_map-append entry_lines xs (record { moment = m; terminal = n; message = w ∷ [] } ∷ [])
 begun_lines Two mark xs m n w h = begun_next xs mark (record { moment = m; terminal = n; message = w ∷ [] }) h
 
-with_lines : (w : Wordstring) (xs : List Entry) → 0 < length xs → flat_map entry_lines (with_string w xs) ≡ flat_map entry_lines xs ++ string_line w ∷ []
+with_lines : (w : Wordstring) (xs : List Entry) → 0 < length xs
+    → flat_map entry_lines (with_string w xs) ≡ flat_map entry_lines xs ++ string_line w ∷ []
 with_lines w [] some = absurd (omega arith)
 with_lines w (x ∷ []) some =
     append-nil (begin_line x.moment x.terminal ∷ map string_line (x.message ++ w ∷ []))
     ∙ ap (λ (ls : List Line). begin_line x.moment x.terminal ∷ ls) (map-append string_line x.message (w ∷ []))
     ∙ ap (λ (ls : List Line). ls ++ string_line w ∷ []) (sym (append-nil (entry_lines x)))
 with_lines w (x ∷ y ∷ xs) some =
-    ap (λ (ls : List Line). entry_lines x ++ ls) (with_lines w (y ∷ xs) (omega arith)) ∙ sym (append_assoc (entry_lines x) (flat_map entry_lines (y ∷ xs)) (string_line w ∷ []))
+    ap (λ (ls : List Line). entry_lines x ++ ls) (with_lines w (y ∷ xs) (omega arith))
+    ∙ sym (append_assoc (entry_lines x) (flat_map entry_lines (y ∷ xs)) (string_line w ∷ []))
 
-string_lines : (f : Format) (w : Wordstring) (xs : List Entry) → 0 < length xs → lines_so_far f None (with_string w xs) ≡ lines_so_far f None xs ++ string_line w ∷ []
+string_lines : (f : Format) (w : Wordstring) (xs : List Entry) → 0 < length xs
+    → lines_so_far f None (with_string w xs) ≡ lines_so_far f None xs ++ string_line w ∷ []
 string_lines One w xs some = with_lines w xs some
 string_lines Two w xs some = told_string [] w xs some
 
@@ -257,14 +194,17 @@ record Keeps (s n : State) (fields : List (List ℕ)) : Type 0 where
   sound : IsSound n
 
 -- the same, of a state by its parts
-keeps : (s n : State) (fields : List (List ℕ)) (p : Position) (f : Format) (m : Bool) (h : ℕ) (hs : List Hold) (xs : List Entry) → let new : State = record { position = p; format = f; mark = m; horizon = h; holds = hs; list = xs } in new ≡ n
+keeps : (s n : State) (fields : List (List ℕ)) (p : Position) (f : Format) (m : Bool) (h : ℕ) (hs : List Hold) (xs : List Entry)
+    → let new : State = record { position = p; format = f; mark = m; horizon = h; holds = hs; list = xs } in new ≡ n
     → lines_at p f m h hs xs ≡ lines_of s ++ fields ∷ [] → IsSound new → Keeps s n fields
 keeps s n fields p f m h hs xs e lines sound = subst (λ (m : State). Keeps s m fields) e (record { lines = lines; sound = sound })
 
-position_lines : (s : State) (p : Position) (fields : List (List ℕ)) → s.position ≡ p → lines_at p s.format s.mark s.horizon s.holds s.list ++ fields ∷ [] ≡ lines_of s ++ fields ∷ []
+position_lines : (s : State) (p : Position) (fields : List (List ℕ)) → s.position ≡ p
+    → lines_at p s.format s.mark s.horizon s.holds s.list ++ fields ∷ [] ≡ lines_of s ++ fields ∷ []
 position_lines s p fields e = ap (λ q. lines_at q s.format s.mark s.horizon s.holds s.list ++ fields ∷ []) (sym e)
 
-fits_at : (s : State) (p : Position) → s.position ≡ p → PositionFits s.position s.horizon s.holds s.list → PositionFits p s.horizon s.holds s.list
+fits_at : (s : State) (p : Position) → s.position ≡ p → PositionFits s.position s.horizon s.holds s.list
+    → PositionFits p s.horizon s.holds s.list
 fits_at s p e f = subst (λ q. PositionFits q s.horizon s.holds s.list) e f
 
 stands_by : {A : Type 0} (t : Bool) (x : Result A TraceReason) (n : A) (r : TraceReason) → cond t x (Err r) ≡ Ok n → (t ≡ true) × (x ≡ Ok n)
@@ -280,24 +220,29 @@ format_is f x h = by_one (bytes_eq f (format_text One)) refl h where
   by_two true e k = word_is f (format_text Two) e ∙ ap format_text (one_is Two x k)
   by_two false e k = absurd cc
 
-  by_one : (t : Bool) → bytes_eq f (format_text One) ≡ t → cond t (Some One) (cond (bytes_eq f (format_text Two)) (Some Two) None) ≡ Some x → f ≡ format_text x
+  by_one : (t : Bool) → bytes_eq f (format_text One) ≡ t → cond t (Some One)
+      (cond (bytes_eq f (format_text Two)) (Some Two) None) ≡ Some x → f ≡ format_text x
   by_one true e k = word_is f (format_text One) e ∙ ap format_text (one_is One x k)
   by_one false e k = by_two (bytes_eq f (format_text Two)) refl k
 
-headed_by : (s n : State) (o : Option Format) → headed s o ≡ Ok n → (x : Format) × (o ≡ Some x) × (record { position = Headed; format = x; mark = s.mark; horizon = s.horizon; holds = s.holds; list = s.list } ≡ n)
+headed_by : (s n : State) (o : Option Format) → headed s o ≡ Ok n → (x : Format) × (o ≡ Some x)
+    × (record { position = Headed; format = x; mark = s.mark; horizon = s.horizon; holds = s.holds; list = s.list } ≡ n)
 headed_by s n None h = absurd cc
 headed_by s n (Some x) h = (x, refl, cc)
 
-head_keeps : (s n : State) (fields : List (List ℕ)) → field fields 0 ≡ codes "TRACE" → s.position ≡ Start → IsSound s → head_step s fields ≡ Ok n → Keeps s n fields
+head_keeps : (s n : State) (fields : List (List ℕ)) → field fields 0 ≡ codes "TRACE" → s.position ≡ Start → IsSound s
+    → head_step s fields ≡ Ok n → Keeps s n fields
 unfolding head_step
 head_keeps s n fields k p sound h =
     let a = stands_by (length fields == 2) (headed s (format_of (field fields 1))) n reason.Fields h in
     let b = headed_by s n (format_of (field fields 1)) a.1 in
-    let line : head_line b.0 ≡ fields = ap (λ (f : List ℕ). f ∷ format_text b.0 ∷ []) (sym k) ∙ ap (λ (f : List ℕ). field fields 0 ∷ f ∷ []) (sym (format_is (field fields 1) b.0 b.1)) ∙ sym (two_fields fields a.0) in
+    let line : head_line b.0 ≡ fields = ap (λ (f : List ℕ). f ∷ format_text b.0 ∷ []) (sym k)
+    ∙ ap (λ (f : List ℕ). field fields 0 ∷ f ∷ []) (sym (format_is (field fields 1) b.0 b.1)) ∙ sym (two_fields fields a.0) in
     keeps s n fields Headed b.0 s.mark s.horizon s.holds s.list b.2 (ap (λ (l : Line). l ∷ []) line ∙ position_lines s Start fields p)
     (record { fits = fits_at s Start p sound.fits; marked = tt; trace = sound.trace })
 
-horizon_keeps : (s n : State) (fields : List (List ℕ)) → field fields 0 ≡ codes "HORIZON" → s.position ≡ Headed → IsSound s → horizon_step s fields ≡ Ok n → Keeps s n fields
+horizon_keeps : (s n : State) (fields : List (List ℕ)) → field fields 0 ≡ codes "HORIZON" → s.position ≡ Headed → IsSound s
+    → horizon_step s fields ≡ Ok n → Keeps s n fields
 unfolding horizon_step
 horizon_keeps s n fields k p sound h =
     let a = row (length fields == 2) reason.Fields _ _ n h in
@@ -305,9 +250,13 @@ horizon_keeps s n fields k p sound h =
     let d = row (is_in_range 0 horizon_limit (number fields 1)) reason.Range None _ n b.1 in
     let low = most (number fields 1) 0 horizon_limit d.0 in
     let none = fits_at s Headed p sound.fits in
-    let line : horizon_line (number fields 1) ≡ fields = ap (λ (f : List ℕ). codes "HORIZON" ∷ f ∷ []) (decimal_is (field fields 1) b.0 (omega (arith, low))) ∙ ap (λ (f : List ℕ). f ∷ field fields 1 ∷ []) (sym k) ∙ sym (two_fields fields a.0) in
+    let line : horizon_line (number fields 1) ≡ fields = ap (λ (f : List ℕ). codes "HORIZON" ∷ f ∷ [])
+    (decimal_is (field fields 1) b.0 (omega (arith, low))) ∙ ap (λ (f : List ℕ). f ∷ field fields 1 ∷ []) (sym k)
+    ∙ sym (two_fields fields a.0) in
     keeps s n fields Holding s.format s.mark (number fields 1) s.holds s.list (done _ n d.1)
-    (none_lines s.format (Some s.mark) (number fields 1) s.holds s.list none.1 ∙ ap (λ (hs : List Hold). opening_lines s.format (number fields 1) hs) none.0 ∙ ap (λ (l : Line). head_line s.format ∷ l ∷ []) line ∙ position_lines s Headed fields p)
+    (none_lines s.format (Some s.mark) (number fields 1) s.holds s.list none.1
+    ∙ ap (λ (hs : List Hold). opening_lines s.format (number fields 1) hs) none.0
+    ∙ ap (λ (l : Line). head_line s.format ∷ l ∷ []) line ∙ position_lines s Headed fields p)
     (record {
       fits = none.1;
       marked = tt;
@@ -320,7 +269,8 @@ horizon_keeps s n fields k p sound h =
       };
     })
 
-hold_keeps : (s n : State) (fields : List (List ℕ)) → field fields 0 ≡ codes "HOLD" → s.position ≡ Holding → IsSound s → hold_step s fields ≡ Ok n → Keeps s n fields
+hold_keeps : (s n : State) (fields : List (List ℕ)) → field fields 0 ≡ codes "HOLD" → s.position ≡ Holding → IsSound s
+    → hold_step s fields ≡ Ok n → Keeps s n fields
 unfolding hold_step
 hold_keeps s n fields k p sound h =
     let a = row (length fields == 3) reason.Fields _ _ n h in
@@ -339,20 +289,24 @@ hold_keeps s n fields k p sound h =
     ∙ ap (λ (f : List ℕ). codes "HOLD" ∷ field fields 1 ∷ f ∷ []) (decimal_is (field fields 2) plain.1 (omega (arith, count)))
     ∙ ap (λ (f : List ℕ). f ∷ field fields 1 ∷ field fields 2 ∷ []) (sym k) ∙ sym (three_fields fields a.0) in
     keeps s n fields Holding s.format s.mark s.horizon (s.holds ++ hold ∷ []) s.list (done _ n e.1)
-    (hold_lines s.format (Some s.mark) s.horizon s.holds s.list hold none ∙ ap (λ (l : Line). body_lines s.format (Some s.mark) s.horizon s.holds s.list ++ l ∷ []) line ∙ position_lines s Holding fields p)
+    (hold_lines s.format (Some s.mark) s.horizon s.holds s.list hold none
+    ∙ ap (λ (l : Line). body_lines s.format (Some s.mark) s.horizon s.holds s.list ++ l ∷ []) line
+    ∙ position_lines s Holding fields p)
     (record {
       fits = none;
       marked = tt;
       trace = record {
         horizon = sound.trace.horizon;
         holds = all_push IsHold s.holds hold sound.trace.holds (record { positive = positive; low = low; count = count });
-        terminals = terminals_push 0 s.holds hold sound.trace.terminals (λ _. positive) (lt_from (last_terminal s.holds) (number fields 1) e.0);
+        terminals = terminals_push 0 s.holds hold sound.trace.terminals (λ _. positive)
+            (lt_from (last_terminal s.holds) (number fields 1) e.0);
         list = sound.trace.list;
         order = sound.trace.order;
       };
     })
 
-begin_keeps : (s n : State) (fields : List (List ℕ)) → field fields 0 ≡ codes "TX" → may_follow s.position s.format (last_count s.list) keyword.Tx ≡ true → IsSound s → begin_step s fields ≡ Ok n → Keeps s n fields
+begin_keeps : (s n : State) (fields : List (List ℕ)) → field fields 0 ≡ codes "TX"
+    → may_follow s.position s.format (last_count s.list) keyword.Tx ≡ true → IsSound s → begin_step s fields ≡ Ok n → Keeps s n fields
 unfolding begin_step
 begin_keeps s n fields k p sound h =
     let a = row (length fields == 3) reason.Fields _ _ n h in
@@ -366,18 +320,24 @@ begin_keeps s n fields k p sound h =
     let positive = least (number fields 2) 1 most_terminal ranges.1 in
     let low = most (number fields 2) 1 most_terminal ranges.1 in
     let line : begin_line (number fields 1) (number fields 2) ≡ fields =
-    ap (λ (f : List ℕ). codes "TX" ∷ f ∷ decimal (number fields 2) ∷ []) (decimal_is (field fields 1) plain.0 (omega (arith, below, sound.trace.horizon)))
+    ap (λ (f : List ℕ). codes "TX" ∷ f ∷ decimal (number fields 2) ∷ [])
+    (decimal_is (field fields 1) plain.0 (omega (arith, below, sound.trace.horizon)))
     ∙ ap (λ (f : List ℕ). codes "TX" ∷ field fields 1 ∷ f ∷ []) (decimal_is (field fields 2) plain.1 (omega (arith, low)))
     ∙ ap (λ (f : List ℕ). f ∷ field fields 1 ∷ field fields 2 ∷ []) (sym k) ∙ sym (three_fields fields a.0) in
     keeps s n fields (Begun (number fields 1) (number fields 2)) s.format s.mark s.horizon s.holds s.list (done _ n g.1)
-    (ap (λ (l : Line). body_lines s.format (Some s.mark) s.horizon s.holds s.list ++ l ∷ []) line ∙ ap (λ (ls : List Line). ls ++ fields ∷ []) (sym (body_at s.position s.format s.mark (last_count s.list) s.horizon s.holds s.list p)))
+    (ap (λ (l : Line). body_lines s.format (Some s.mark) s.horizon s.holds s.list ++ l ∷ []) line
+    ∙ ap (λ (ls : List Line). ls ++ fields ∷ []) (sym (body_at s.position s.format s.mark
+    (last_count s.list) s.horizon s.holds s.list p)))
     (record {
       fits = (below, positive, low, e.0);
-      marked = begun_fits s.format (number fields 1) (number fields 2) s.mark s.list (mark_shown s.position s.format s.mark (last_count s.list) s.horizon s.holds s.list (nat_lt (number fields 1) (last_end s.list)) p sound.fits sound.marked g.0);
+      marked = begun_fits s.format (number fields 1) (number fields 2) s.mark s.list
+          (mark_shown s.position s.format s.mark (last_count s.list) s.horizon s.holds s.list
+          (nat_lt (number fields 1) (last_end s.list)) p sound.fits sound.marked g.0);
       trace = sound.trace;
     })
 
-close_keeps : (s n : State) (fields : List (List ℕ)) → field fields 0 ≡ codes "TE" → may_follow s.position s.format (last_count s.list) keyword.Te ≡ true → IsSound s → close_step s fields ≡ Ok n → Keeps s n fields
+close_keeps : (s n : State) (fields : List (List ℕ)) → field fields 0 ≡ codes "TE"
+    → may_follow s.position s.format (last_count s.list) keyword.Te ≡ true → IsSound s → close_step s fields ≡ Ok n → Keeps s n fields
 unfolding close_step
 close_keeps s n fields k p sound h =
     let at = close_at s.position s.format (last_count s.list) p in
@@ -392,16 +352,19 @@ close_keeps s n fields k p sound h =
     let line : ended_line (last_end s.list) mark ≡ fields =
     ap (λ x. ended_line x mark) (sym same)
     ∙ ap (λ (f : List ℕ). codes "TE" ∷ decimal (number fields 1) ∷ f ∷ []) (mark_is (field fields 2) plain.1)
-    ∙ ap (λ (f : List ℕ). codes "TE" ∷ f ∷ field fields 2 ∷ []) (decimal_is (field fields 1) plain.0 (omega (arith, same, last_end_most s.horizon s.list sound.trace.horizon sound.trace.list)))
+    ∙ ap (λ (f : List ℕ). codes "TE" ∷ f ∷ field fields 2 ∷ [])
+    (decimal_is (field fields 1) plain.0 (omega (arith, same, last_end_most s.horizon s.list sound.trace.horizon sound.trace.list)))
     ∙ ap (λ (f : List ℕ). f ∷ field fields 1 ∷ field fields 2 ∷ []) (sym k) ∙ sym (three_fields fields a.0) in
     let closed : lines_so_far s.format (Some mark) s.list ≡ lines_so_far s.format None s.list ++ ended_line (last_end s.list) mark ∷ [] =
-    subst (λ (f : Format). lines_so_far f (Some mark) s.list ≡ lines_so_far f None s.list ++ ended_line (last_end s.list) mark ∷ []) (sym at.1) (told_closed [] mark s.list some) in
+    subst (λ (f : Format). lines_so_far f (Some mark) s.list ≡ lines_so_far f None s.list ++ ended_line (last_end s.list) mark ∷ [])
+    (sym at.1) (told_closed [] mark s.list some) in
     keeps s n fields Closed s.format mark s.horizon s.holds s.list (done _ n e.1)
     (more_lines s.format None (Some mark) s.horizon s.holds s.list s.list (ended_line (last_end s.list) mark ∷ []) closed
     ∙ ap (λ (l : Line). body_lines s.format None s.horizon s.holds s.list ++ l ∷ []) line ∙ position_lines s Stringing fields at.0)
     (record { fits = some; marked = (at.1, unhit mark (is_hit s.list) (is_final s.horizon s.list) e.0); trace = sound.trace })
 
-end_keeps : (s n : State) (fields : List (List ℕ)) → field fields 0 ≡ codes "END" → may_follow s.position s.format (last_count s.list) keyword.End ≡ true → IsSound s → end_step s fields ≡ Ok n → Keeps s n fields
+end_keeps : (s n : State) (fields : List (List ℕ)) → field fields 0 ≡ codes "END"
+    → may_follow s.position s.format (last_count s.list) keyword.End ≡ true → IsSound s → end_step s fields ≡ Ok n → Keeps s n fields
 unfolding end_step
 end_keeps s n fields k p sound h =
     let a = row (length fields == 1) reason.Fields _ _ n h in
@@ -409,10 +372,13 @@ end_keeps s n fields k p sound h =
     let begins = end_at s.position s.format (last_count s.list) p in
     let line : end_line ≡ fields = ap (λ (f : List ℕ). f ∷ []) (sym k) ∙ sym (one_field fields a.0) in
     keeps s n fields Ended s.format s.mark s.horizon s.holds s.list (done _ n g.1)
-    (ap (λ (l : Line). body_lines s.format (Some s.mark) s.horizon s.holds s.list ++ l ∷ []) line ∙ ap (λ (ls : List Line). ls ++ fields ∷ []) (sym (body_at s.position s.format s.mark (last_count s.list) s.horizon s.holds s.list begins)))
+    (ap (λ (l : Line). body_lines s.format (Some s.mark) s.horizon s.holds s.list ++ l ∷ []) line
+    ∙ ap (λ (ls : List Line). ls ++ fields ∷ []) (sym (body_at s.position s.format s.mark
+    (last_count s.list) s.horizon s.holds s.list begins)))
     (record {
       fits = tt;
-      marked = ended_fits s.format s.mark s.list (mark_shown s.position s.format s.mark (last_count s.list) s.horizon s.holds s.list false begins sound.fits sound.marked g.0);
+      marked = ended_fits s.format s.mark s.list (mark_shown s.position s.format s.mark
+          (last_count s.list) s.horizon s.holds s.list false begins sound.fits sound.marked g.0);
       trace = sound.trace;
     })
 
@@ -423,17 +389,26 @@ record Grows (s : State) (w : Wordstring) : Type 0 where
   list : AllByRecursion (IsBelow s.horizon) (more_list s.position w s.list)
   order : IsAscending (more_list s.position w s.list)
 
-grows : (p : Position) (g : Format) (mark : Bool) (h : ℕ) (hs : List Hold) (xs : List Entry) (w : Wordstring) → may_follow p g (last_count xs) keyword.Ws ≡ true → PositionFits p h hs xs → MarkFits p g mark xs
-    → AllByRecursion (IsBelow h) xs → IsAscending xs → IsWordstring w → Grows (record { position = p; format = g; mark = mark; horizon = h; holds = hs; list = xs }) w
+grows : (p : Position) (g : Format) (mark : Bool) (h : ℕ) (hs : List Hold) (xs : List Entry) (w : Wordstring)
+    → may_follow p g (last_count xs) keyword.Ws ≡ true → PositionFits p h hs xs → MarkFits p g mark xs
+    → AllByRecursion (IsBelow h) xs → IsAscending xs → IsWordstring w
+    → Grows (record { position = p; format = g; mark = mark; horizon = h; holds = hs; list = xs }) w
 grows Start g mark h hs xs w m f k below order i = absurd cc
 grows Headed g mark h hs xs w m f k below order i = absurd cc
 grows Holding g mark h hs xs w m f k below order i = absurd cc
 grows (Begun m n) g mark h hs xs w e f k below order i =
     let x : Entry = record { moment = m; terminal = n; message = w ∷ [] } in
     record {
-      lines = more_lines g (Some mark) None h hs xs (xs ++ x ∷ []) (begin_line m n ∷ string_line w ∷ []) (begun_lines g mark xs m n w k) ∙ sym (append_assoc (body_lines g (Some mark) h hs xs) (begin_line m n ∷ []) (string_line w ∷ []));
+      lines = more_lines g (Some mark) None h hs xs (xs ++ x ∷ []) (begin_line m n ∷ string_line w ∷ []) (begun_lines g mark xs m n w k)
+          ∙ sym (append_assoc (body_lines g (Some mark) h hs xs) (begin_line m n ∷ []) (string_line w ∷ []));
       some = omega (arith, length-append xs (x ∷ []));
-      list = all_push (IsBelow h) xs x below (record { moment = f.0; positive = f.1; low = f.2; message = record { some = omega arith; few = omega arith; strings = (i, tt) } });
+      list = all_push (IsBelow h) xs x below (record {
+        moment = f.0;
+        positive = f.1;
+        low = f.2;
+        message =
+            record { some = omega arith; few = omega arith; strings = (i, tt) };
+      });
       order = ascending_push xs x order f.3;
     }
 grows Stringing g mark h hs xs w m f k below order i = record {
@@ -445,34 +420,47 @@ grows Stringing g mark h hs xs w m f k below order i = record {
 grows Closed g mark h hs xs w m f k below order i = absurd cc
 grows Ended g mark h hs xs w m f k below order i = absurd cc
 
-string_keeps : (s n : State) (fields : List (List ℕ)) → field fields 0 ≡ codes "WS" → may_follow s.position s.format (last_count s.list) keyword.Ws ≡ true → IsSound s → string_step s fields ≡ Ok n → Keeps s n fields
+string_keeps : (s n : State) (fields : List (List ℕ)) → field fields 0 ≡ codes "WS"
+    → may_follow s.position s.format (last_count s.list) keyword.Ws ≡ true → IsSound s → string_step s fields ≡ Ok n → Keeps s n fields
 unfolding string_step
 string_keeps s n fields k p sound h =
     let a = row (is_in_range 2 most_fields (length fields)) reason.Fields _ _ n h in
     let b = row (are_spelled (drop 1 fields)) reason.Spelling _ _ n a.1 in
     let d = row (have_parity (drop 1 fields)) reason.Parity None _ n b.1 in
     let w = string_is (drop 1 fields) b.0 d.0 (rest_few fields a.0) in
-    let g = grows s.position s.format s.mark s.horizon s.holds s.list (string_of (drop 1 fields)) p sound.fits sound.marked sound.trace.list sound.trace.order w.1 in
-    let line : string_line (string_of (drop 1 fields)) ≡ fields = ap (λ (fs : List (List ℕ)). codes "WS" ∷ fs) w.0 ∙ ap (λ (f : List ℕ). f ∷ drop 1 fields) (sym k) ∙ sym (first_and fields a.0) in
+    let g = grows s.position s.format s.mark s.horizon s.holds s.list
+    (string_of (drop 1 fields)) p sound.fits sound.marked sound.trace.list sound.trace.order w.1 in
+    let line : string_line (string_of (drop 1 fields)) ≡ fields = ap (λ (fs : List (List ℕ)). codes "WS" ∷ fs) w.0
+    ∙ ap (λ (f : List ℕ). f ∷ drop 1 fields) (sym k) ∙ sym (first_and fields a.0) in
     keeps s n fields Stringing s.format s.mark s.horizon s.holds (more_list s.position (string_of (drop 1 fields)) s.list) (done _ n d.1)
     (g.lines ∙ ap (λ (l : Line). lines_of s ++ l ∷ []) line)
     (record {
       fits = g.some;
       marked = tt;
-      trace = record { horizon = sound.trace.horizon; holds = sound.trace.holds; terminals = sound.trace.terminals; list = g.list; order = g.order };
+      trace = record {
+        horizon = sound.trace.horizon;
+        holds = sound.trace.holds;
+        terminals = sound.trace.terminals;
+        list =
+            g.list;
+        order = g.order;
+      };
     })
 
 -- ---- a step
-form_keeps : (k : Keyword) (s n : State) (fields : List (List ℕ)) → field fields 0 ≡ keyword_text k → may_follow s.position s.format (last_count s.list) k ≡ true → IsSound s → form_step k s fields ≡ Ok n → Keeps s n fields
+form_keeps : (k : Keyword) (s n : State) (fields : List (List ℕ)) → field fields 0 ≡ keyword_text k
+    → may_follow s.position s.format (last_count s.list) k ≡ true → IsSound s → form_step k s fields ≡ Ok n → Keeps s n fields
 form_keeps keyword.Trace s n fields e p sound h = head_keeps s n fields e (trace_at s.position s.format (last_count s.list) p) sound h
-form_keeps keyword.Horizon s n fields e p sound h = horizon_keeps s n fields e (horizon_at s.position s.format (last_count s.list) p) sound h
+form_keeps keyword.Horizon s n fields e p sound h = horizon_keeps s n fields e
+    (horizon_at s.position s.format (last_count s.list) p) sound h
 form_keeps keyword.Hold s n fields e p sound h = hold_keeps s n fields e (hold_at s.position s.format (last_count s.list) p) sound h
 form_keeps keyword.Tx s n fields e p sound h = begin_keeps s n fields e p sound h
 form_keeps keyword.Ws s n fields e p sound h = string_keeps s n fields e p sound h
 form_keeps keyword.Te s n fields e p sound h = close_keeps s n fields e p sound h
 form_keeps keyword.End s n fields e p sound h = end_keeps s n fields e p sound h
 
-keyword_keeps : (o : Option Keyword) (s n : State) (fields : List (List ℕ)) → keyword_of (field fields 0) ≡ o → IsSound s → keyword_step o s fields ≡ Ok n → Keeps s n fields
+keyword_keeps : (o : Option Keyword) (s n : State) (fields : List (List ℕ)) → keyword_of (field fields 0) ≡ o → IsSound s
+    → keyword_step o s fields ≡ Ok n → Keeps s n fields
 keyword_keeps None s n fields e sound h = absurd cc
 keyword_keeps (Some k) s n fields e sound h =
     let m = stands_by (may_follow s.position s.format (last_count s.list) k) (form_step k s fields) n reason.Keyword h in
@@ -488,7 +476,8 @@ unfolding text_of
 step_adds s n line sound h =
     ap spelled_lines (step_keeps s n line sound h).lines
     ∙ flat_map-append spelled_line (lines_of s) (spaced_fields line ∷ [])
-    ∙ ap (λ (l : List ℕ). text_of s ++ l) (append-nil (spelled_line (spaced_fields line)) ∙ ap (λ (l : List ℕ). l ++ 10 ∷ []) (join_with_byte-slice_split 32 line))
+    ∙ ap (λ (l : List ℕ). text_of s ++ l) (append-nil (spelled_line (spaced_fields line))
+    ∙ ap (λ (l : List ℕ). l ++ 10 ∷ []) (join_with_byte-slice_split 32 line))
 
 pub step_sound : (s n : State) (line : List ℕ) → IsSound s → step s line ≡ Ok n → IsSound n
 step_sound s n line sound h = (step_keeps s n line sound h).sound

@@ -1,5 +1,6 @@
 -- Fields that are word texts, and the wordstring that they write.
-use Rattle.std.proofs.Common.{arith, ◌≡◌, ℕ, ◌+◌, ◌*◌, ◌/◌, ◌%◌, ◌<◌, ◌≤◌, ◌^◌, Bool, true, false, cond, ◌&&◌, List, [], ◌∷◌, length, drop, map, slice_index_or, is_ok, Ok, Err, Some, None, refl, sym, ap, subst, ◌∙◌}
+use Rattle.std.proofs.Common.{arith, ◌≡◌, ℕ, ◌+◌, ◌*◌, ◌/◌, ◌%◌, ◌<◌, ◌≤◌, ◌^◌, Bool, true, false, cond, ◌&&◌, List, [], ◌∷◌, length}
+use Rattle.std.proofs.Common.{drop, map, slice_index_or, is_ok, Ok, Err, Some, None, refl, sym, ap, subst, ◌∙◌}
 use Rattle.std.specs.Bool.{beq}
 use Rattle.std.specs.declared.option.Option.{Option}
 use Rattle.std.specs.List.{list_all, AllByRecursion}
@@ -15,7 +16,8 @@ use Rattle.bus_words.specs.declared.word.FramedWord.{FramedWord}
 use Rattle.bus_words.specs.declared.word.WordError.TheVariants.{Shape, Parity}
 use Rattle.bus_words.specs.Words.{parity, frame, unframe, label_word}
 use Rattle.bus_words.specs.WordTexts.{form, is_of, kept, written_frame, word_text, read_word}
-use Rattle.bus_words.specs.WordTextLaws.{length_of_form, is_of-frame_text, written_frame-frame_text, read_word-word_text, word_text-read_word, word_text-field}
+use Rattle.bus_words.specs.WordTextLaws.{length_of_form, is_of-frame_text, written_frame-frame_text, read_word-word_text}
+use Rattle.bus_words.specs.WordTextLaws.{word_text-read_word, word_text-field}
 use Rattle.bus_strings.specs.Messages.{Wordstring, IsWordstring}
 use Rattle.bus_trace.specs.WordFields.{same_kind, is_spelled, has_parity, value_of, are_spelled, have_parity, string_of}
 use Rattle.bus_trace.specs.Traces.{data_word, word_fields}
@@ -29,31 +31,38 @@ pub map-texts : (v : List ℕ → ℕ) (fields : List (Bor (List ℕ))) → map 
 map-texts v [] = refl
 map-texts v (f ∷ fields) = ap (λ ns. v f.now ∷ ns) (map-texts v fields)
 
-pub spelled_is : (fields : List (Bor (List ℕ))) (label others : Bool) (first : List ℕ) (rest : List (List ℕ)) → 0 < length fields → label ≡ is_spelled Label first → first ≡ slice_index_or (texts fields) 0 []
+pub spelled_is : (fields : List (Bor (List ℕ))) (label others : Bool) (first : List ℕ) (rest : List (List ℕ)) → 0 < length fields
+    → label ≡ is_spelled Label first → first ≡ slice_index_or (texts fields) 0 []
     → others ≡ list_all (is_spelled Plain) rest → rest ≡ drop 1 (texts fields) → (label && others) ≡ are_spelled (texts fields)
 spelled_is [] label others first rest h a b c d = absurd (omega arith)
 spelled_is (f ∷ fields) label others first rest h a b c d =
     ap (λ x. x && others) (a ∙ ap (is_spelled Label) b) ∙ ap (λ x. is_spelled Label f.now && x) (c ∙ ap (list_all (is_spelled Plain)) d)
 
-string_same : (l l' e e' : ℕ) (ws ws' : List ℕ) → l ≡ l' → e ≡ e' → ws ≡ ws' → let s : Wordstring = record { label = l; ext = e; words = ws } in let t : Wordstring = record { label = l'; ext = e'; words = ws' } in s ≡ t
+string_same : (l l' e e' : ℕ) (ws ws' : List ℕ) → l ≡ l' → e ≡ e' → ws ≡ ws'
+    → let s : Wordstring = record { label = l; ext = e; words = ws } in let t : Wordstring =
+    record { label = l'; ext = e'; words = ws' } in s ≡ t
 string_same l l' e e' ws ws' h i j =
     ap (λ x. let s : Wordstring = record { label = x; ext = e; words = ws } in s) h
     ∙ ap (λ x. let s : Wordstring = record { label = l'; ext = x; words = ws } in s) i
     ∙ ap (λ x. let s : Wordstring = record { label = l'; ext = e'; words = x } in s) j
 
-pub string_is_of : (fields : List (Bor (List ℕ))) (value label ext : ℕ) (first : List ℕ) (rest : List (List ℕ)) (words : List ℕ) → 0 < length fields → value ≡ value_of first → first ≡ slice_index_or (texts fields) 0 []
-    → 16 * label + ext ≡ value → ext < 16 → words ≡ map value_of rest → rest ≡ drop 1 (texts fields) → let s : Wordstring = record { label = label; ext = ext; words = words } in s ≡ string_of (texts fields)
+pub string_is_of : (fields : List (Bor (List ℕ))) (value label ext : ℕ) (first : List ℕ) (rest : List (List ℕ)) (words : List ℕ)
+    → 0 < length fields → value ≡ value_of first → first ≡ slice_index_or (texts fields) 0 []
+    → 16 * label + ext ≡ value → ext < 16 → words ≡ map value_of rest → rest ≡ drop 1 (texts fields)
+    → let s : Wordstring = record { label = label; ext = ext; words = words } in s ≡ string_of (texts fields)
 string_is_of [] value label ext first rest words h a b c d e f = absurd (omega arith)
 string_is_of (g ∷ fields) value label ext first rest words h a b c d e f =
     let v : value ≡ value_of g.now = a ∙ ap value_of b in
-    string_same label (value_of g.now / 16) ext (value_of g.now % 16) words (map value_of (texts fields)) (omega (arith, v, c, d)) (omega (arith, v, c, d)) (e ∙ ap (map value_of) f)
+    string_same label (value_of g.now / 16) ext (value_of g.now % 16) words (map value_of (texts fields)) (omega (arith, v, c, d))
+    (omega (arith, v, c, d)) (e ∙ ap (map value_of) f)
 
 -- what a frame that was read says of its field
 framed_by : (t : Bool) (w f : FramedWord) → cond t (Some w) None ≡ Some f → (t ≡ true) × (w ≡ f)
 framed_by true w f h = (refl, cc)
 framed_by false w f h = absurd cc
 
-pub framed : (kind : Kind) (field : List ℕ) (r : Option FramedWord) (f : FramedWord) → r ≡ cond (is_of form field) (Some (written_frame field)) None → r ≡ Some f → same_kind f.kind kind ≡ is_spelled kind field
+pub framed : (kind : Kind) (field : List ℕ) (r : Option FramedWord) (f : FramedWord)
+    → r ≡ cond (is_of form field) (Some (written_frame field)) None → r ≡ Some f → same_kind f.kind kind ≡ is_spelled kind field
 framed kind field r f h e =
     let p = framed_by (is_of form field) (written_frame field) f (sym h ∙ e) in
     ap (λ (g : FramedWord). same_kind g.kind kind) (sym p.1) ∙ ap (λ t. t && same_kind (written_frame field).kind kind) (sym p.0)
@@ -62,7 +71,8 @@ none_by : (t : Bool) (w : FramedWord) → cond t (Some w) None ≡ None → t �
 none_by true w h = absurd cc
 none_by false w h = refl
 
-pub not_framed : (field : List ℕ) (r : Option FramedWord) → r ≡ cond (is_of form field) (Some (written_frame field)) None → r ≡ None → 0 ≡ value_of field
+pub not_framed : (field : List ℕ) (r : Option FramedWord) → r ≡ cond (is_of form field) (Some (written_frame field)) None → r ≡ None
+    → 0 ≡ value_of field
 not_framed field r h e = ap (λ t. cond t (written_frame field).value 0) (sym (none_by (is_of form field) (written_frame field) (sym h ∙ e)))
 
 -- ---- a word that is read is written so
@@ -75,23 +85,29 @@ kind_is Plain Plain h = refl
 value_is : (field : List ℕ) → is_of form field ≡ true → value_of field ≡ (written_frame field).value
 value_is field h = ap (λ t. cond t (written_frame field).value 0) h
 
-read_is : (field : List ℕ) → is_of form field ≡ true → is_ok (read_word field) ≡ true → read_word field ≡ Ok (record { kind = (written_frame field).kind; value = (written_frame field).value })
+read_is : (field : List ℕ) → is_of form field ≡ true → is_ok (read_word field) ≡ true
+    → read_word field ≡ Ok (record { kind = (written_frame field).kind; value = (written_frame field).value })
 read_is field h e = by_test (beq (written_frame field).parity (parity (written_frame field).value)) refl where
   whole : read_word field ≡ unframe (written_frame field)
   whole = ap (λ t. cond t (unframe (written_frame field)) (Err (Shape (kept form field)))) h
 
-  by_test : (t : Bool) → beq (written_frame field).parity (parity (written_frame field).value) ≡ t → read_word field ≡ Ok (record { kind = (written_frame field).kind; value = (written_frame field).value })
-  by_test true k = whole ∙ ap (λ t. cond t (Ok (record { kind = (written_frame field).kind; value = (written_frame field).value })) (Err Parity)) k
+  by_test : (t : Bool) → beq (written_frame field).parity (parity (written_frame field).value) ≡ t
+      → read_word field ≡ Ok (record { kind = (written_frame field).kind; value = (written_frame field).value })
+  by_test true k = whole ∙ ap (λ t. cond t (Ok (record { kind = (written_frame field).kind; value = (written_frame field).value }))
+      (Err Parity)) k
   by_test false k =
-      let w : read_word field ≡ Err Parity = whole ∙ ap (λ t. cond t (Ok (record { kind = (written_frame field).kind; value = (written_frame field).value })) (Err Parity)) k in
+      let w : read_word field ≡ Err Parity = whole ∙ ap (λ t. cond t
+      (Ok (record { kind = (written_frame field).kind; value = (written_frame field).value })) (Err Parity)) k in
       absurd (no (sym (ap is_ok w) ∙ e)) where
         no : false ≡ true → ⊥
         no q = cc
 
-pub word_is : (kind : Kind) (field : List ℕ) → is_spelled kind field ≡ true → has_parity field ≡ true → (word_text (record { kind = kind; value = value_of field }) ≡ field) × (value_of field < 2 ^ 16)
+pub word_is : (kind : Kind) (field : List ℕ) → is_spelled kind field ≡ true → has_parity field ≡ true
+    → (word_text (record { kind = kind; value = value_of field }) ≡ field) × (value_of field < 2 ^ 16)
 word_is kind field h e =
     let p = and_parts (is_of form field) (same_kind (written_frame field).kind kind) h in
-    let w = word_text-read_word field (record { kind = (written_frame field).kind; value = (written_frame field).value }) (read_is field p.0 e) in
+    let w = word_text-read_word field (record { kind = (written_frame field).kind; value = (written_frame field).value })
+    (read_is field p.0 e) in
     let k = kind_is (written_frame field).kind kind p.1 in
     let v = value_is field p.0 in
     let word : Kind → ℕ → Word = λ k n. record { kind = k; value = n } in (
@@ -99,7 +115,8 @@ word_is kind field h e =
       subst (λ n. n < 2 ^ 16) (sym v) w.1,
     )
 
-words_are : (fs : List (List ℕ)) → list_all (is_spelled Plain) fs ≡ true → list_all has_parity fs ≡ true → (map (λ value. word_text (data_word value)) (map value_of fs) ≡ fs) × AllByRecursion (λ word. word < 2 ^ 16) (map value_of fs)
+words_are : (fs : List (List ℕ)) → list_all (is_spelled Plain) fs ≡ true → list_all has_parity fs ≡ true
+    → (map (λ value. word_text (data_word value)) (map value_of fs) ≡ fs) × AllByRecursion (λ word. word < 2 ^ 16) (map value_of fs)
 words_are [] h e = (refl, tt)
 words_are (f ∷ fs) h e =
     let p = and_parts (is_spelled Plain f) (list_all (is_spelled Plain) fs) h in
@@ -112,14 +129,16 @@ label_again : (v : ℕ) → label_word (v / 16) (v % 16) ≡ record { kind = Lab
 label_again v = let word : ℕ → Word = λ n. record { kind = Label; value = n } in ap word (omega arith)
 
 -- fields that are right are those of the wordstring that they write
-pub string_is : (fs : List (List ℕ)) → are_spelled fs ≡ true → have_parity fs ≡ true → length fs ≤ 257 → (word_fields (string_of fs) ≡ fs) × IsWordstring (string_of fs)
+pub string_is : (fs : List (List ℕ)) → are_spelled fs ≡ true → have_parity fs ≡ true → length fs ≤ 257
+    → (word_fields (string_of fs) ≡ fs) × IsWordstring (string_of fs)
 string_is [] h e few = absurd cc
 string_is (f ∷ fs) h e few =
     let p = and_parts (is_spelled Label f) (list_all (is_spelled Plain) fs) h in
     let q = and_parts (has_parity f) (list_all has_parity fs) e in
     let w = word_is Label f p.0 q.0 in
     let r = words_are fs p.1 q.1 in (
-      ap (λ (x : List ℕ). x ∷ map (λ value. word_text (data_word value)) (map value_of fs)) (ap word_text (label_again (value_of f)) ∙ w.0) ∙ ap (λ xs. f ∷ xs) r.0,
+      ap (λ (x : List ℕ). x ∷ map (λ value. word_text (data_word value)) (map value_of fs))
+          (ap word_text (label_again (value_of f)) ∙ w.0) ∙ ap (λ xs. f ∷ xs) r.0,
       record { label = omega (arith, w.1); ext = omega arith; few = omega (arith, few, length-map fs value_of); words = r.1 },
     )
 
@@ -138,7 +157,8 @@ word_again word h =
     let o = is_of-frame_text (frame word) in
     let w = written_frame-frame_text (frame word) h in
     record {
-      spelled = ap (λ t. t && same_kind (written_frame (word_text word)).kind word.kind) o ∙ ap (λ (f : FramedWord). same_kind f.kind word.kind) w ∙ same_again word.kind;
+      spelled = ap (λ t. t && same_kind (written_frame (word_text word)).kind word.kind) o
+          ∙ ap (λ (f : FramedWord). same_kind f.kind word.kind) w ∙ same_again word.kind;
       parity = ap is_ok (read_word-word_text word h);
       value = value_is (word_text word) o ∙ ap (λ (f : FramedWord). f.value) w;
     }

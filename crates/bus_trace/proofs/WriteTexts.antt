@@ -10,8 +10,10 @@ use Rattle.bus_strings.specs.Messages.{Wordstring, Entry}
 use Rattle.bus_trace.specs.declared.hold.Hold.{Hold}
 use Rattle.bus_strings.specs.Transmissions.{end_of, marks}
 use Rattle.bus_trace.specs.declared.format.Format.TheVariants.{Two}
-use Rattle.bus_trace.specs.Traces.{Recording, Line, data_word, head_line, horizon_line, hold_line, begin_line, string_line, entry_lines, mark_text, close_line, marked_lines, list_lines, opening_lines, end_line, trace_text}
-use Rattle.bus_trace.specs.Writing.{word_put, data_put, string_put, pair_put, hold_put, close_put, entry_put, horizon_put, list_put, trace_put}
+use Rattle.bus_trace.specs.Traces.{Recording, Line, data_word, head_line, horizon_line, hold_line, begin_line, string_line, entry_lines}
+use Rattle.bus_trace.specs.Traces.{mark_text, close_line, marked_lines, list_lines, opening_lines, end_line, trace_text}
+use Rattle.bus_trace.specs.Writing.{word_put, data_put, string_put, pair_put, hold_put, close_put, entry_put, horizon_put, list_put}
+use Rattle.bus_trace.specs.Writing.{trace_put}
 
 flat_map-same : {X : Type 0} (f g : X → List ℕ) (xs : List X) → ((x : X) → f x ≡ g x) → flat_map f xs ≡ flat_map g xs
 flat_map-same f g [] h = refl
@@ -24,7 +26,8 @@ spelled_map f (x ∷ xs) = ap (λ t. spelled_line (f x) ++ t) (spelled_map f xs)
 
 spelled_flat_map : {X : Type 0} (f : X → List Line) (xs : List X) → spelled_lines (flat_map f xs) ≡ flat_map (λ x. spelled_lines (f x)) xs
 spelled_flat_map f [] = refl
-spelled_flat_map f (x ∷ xs) = flat_map-append spelled_line (f x) (flat_map f xs) ∙ ap (λ t. spelled_lines (f x) ++ t) (spelled_flat_map f xs)
+spelled_flat_map f (x ∷ xs) = flat_map-append spelled_line (f x) (flat_map f xs)
+    ∙ ap (λ t. spelled_lines (f x) ++ t) (spelled_flat_map f xs)
 
 pair_is : (keyword : List ℕ) (m n : ℕ) → pair_put keyword m n ≡ spelled_line (keyword ∷ decimal m ∷ decimal n ∷ [])
 pair_is keyword m n = simp append_assoc
@@ -38,28 +41,34 @@ string_is : (s : Wordstring) → string_put s ≡ spelled_line (string_line s)
 string_is s =
     let label : List ℕ = word_text (label_word s.label s.ext) in
     append_assoc (codes "WS" ++ word_put (label_word s.label s.ext)) (data_put s.words) (codes "\n")
-    ∙ ap (λ (t : List ℕ). 87 ∷ 83 ∷ 32 ∷ t) (sym (append_assoc label (data_put s.words) (10 ∷ [])) ∙ ap (λ t. t ++ 10 ∷ []) (sym (joined label s.words)))
+    ∙ ap (λ (t : List ℕ). 87 ∷ 83 ∷ 32 ∷ t) (sym (append_assoc label (data_put s.words) (10 ∷ []))
+    ∙ ap (λ t. t ++ 10 ∷ []) (sym (joined label s.words)))
 
 close_is : (x : Entry) (mark : Bool) → close_put x mark ≡ spelled_line (close_line x mark)
 close_is x mark = by_mark (decimal (end_of x)) mark where
-  by_mark : (e : List ℕ) (mark : Bool) → codes "TE" ++ codes " " ++ e ++ codes " " ++ mark_text mark ++ codes "\n" ≡ spelled_line (codes "TE" ∷ e ∷ mark_text mark ∷ [])
+  by_mark : (e : List ℕ) (mark : Bool) → codes "TE" ++ codes " " ++ e ++ codes " " ++ mark_text mark ++ codes "\n" ≡ spelled_line
+      (codes "TE" ∷ e ∷ mark_text mark ∷ [])
   by_mark e mark = simp append_assoc
 
 entry_is : (marked : Entry × Bool) → entry_put marked ≡ spelled_lines (marked_lines marked)
 entry_is marked =
     let x : Entry = marked.0 in
     ap (λ t. (t ++ flat_map string_put x.message) ++ close_put x marked.1) (pair_is (codes "TX") x.moment x.terminal)
-    ∙ ap (λ t. (spelled_line (begin_line x.moment x.terminal) ++ t) ++ close_put x marked.1) (flat_map-same string_put (λ s. spelled_line (string_line s)) x.message string_is ∙ sym (spelled_map string_line x.message))
+    ∙ ap (λ t. (spelled_line (begin_line x.moment x.terminal) ++ t) ++ close_put x marked.1)
+    (flat_map-same string_put (λ s. spelled_line (string_line s)) x.message string_is ∙ sym (spelled_map string_line x.message))
     ∙ ap (λ t. spelled_lines (entry_lines x) ++ t) (close_is x marked.1 ∙ sym (append-nil (spelled_line (close_line x marked.1))))
     ∙ sym (flat_map-append spelled_line (entry_lines x) (close_line x marked.1 ∷ []))
 
 list_is : (xs : List Entry) → spelled_lines (list_lines Two xs) ≡ list_put xs
-list_is xs = spelled_flat_map marked_lines (zip xs (marks xs)) ∙ flat_map-same (λ m. spelled_lines (marked_lines m)) entry_put (zip xs (marks xs)) (λ m. sym (entry_is m))
+list_is xs = spelled_flat_map marked_lines (zip xs (marks xs))
+    ∙ flat_map-same (λ m. spelled_lines (marked_lines m)) entry_put (zip xs (marks xs)) (λ m. sym (entry_is m))
 
 -- the lines before the list
 opening_is : (h : ℕ) (hs : List Hold) → spelled_lines (opening_lines Two h hs) ≡ horizon_put h ++ flat_map hold_put hs
 opening_is h hs =
-    let holds : spelled_lines (map hold_line hs) ≡ flat_map hold_put hs = spelled_map hold_line hs ∙ flat_map-same (λ hold. spelled_line (hold_line hold)) hold_put hs (λ hold. sym (pair_is (codes "HOLD") hold.terminal hold.count)) in
+    let holds : spelled_lines (map hold_line hs) ≡ flat_map hold_put hs = spelled_map hold_line hs
+    ∙ flat_map-same (λ hold. spelled_line (hold_line hold)) hold_put hs
+    (λ hold. sym (pair_is (codes "HOLD") hold.terminal hold.count)) in
     sym (append_assoc (spelled_line (head_line Two)) (spelled_line (horizon_line h)) (spelled_lines (map hold_line hs)))
     ∙ ap (λ t. (spelled_line (head_line Two) ++ spelled_line (horizon_line h)) ++ t) holds
 
@@ -73,7 +82,8 @@ put_is t =
     ∙ sym (flat_map-append spelled_line (opening ++ list_lines Two t.list) (end_line ∷ []))
 
 -- the same, of the parts that were read of the trace
-pub put_as_read : (t : Recording) (h : ℕ) (hs : List Hold) (xs : List Entry) → h ≡ t.horizon → hs ≡ t.holds → xs ≡ t.list → horizon_put h ++ flat_map hold_put hs ++ list_put xs ++ codes "END\n" ≡ trace_text t
+pub put_as_read : (t : Recording) (h : ℕ) (hs : List Hold) (xs : List Entry) → h ≡ t.horizon → hs ≡ t.holds → xs ≡ t.list
+    → horizon_put h ++ flat_map hold_put hs ++ list_put xs ++ codes "END\n" ≡ trace_text t
 put_as_read t h hs xs a b c =
     ap (λ x. horizon_put x ++ flat_map hold_put hs ++ list_put xs ++ codes "END\n") a
     ∙ ap (λ (x : List Hold). horizon_put t.horizon ++ flat_map hold_put x ++ list_put xs ++ codes "END\n") b

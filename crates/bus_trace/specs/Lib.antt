@@ -9,6 +9,7 @@ pub mod Gives
 pub mod Walking
 pub mod Feeding
 pub mod Reading
+pub mod Pieces
 pub mod Looping
 pub mod Writing
 pub mod TraceLaws

@@ -4,7 +4,8 @@ use Rattle.bus_strings.specs.Limits.{most_terminal}
 use Rattle.bus_strings.specs.Messages.{Wordstring}
 use Rattle.bus_trace.specs.declared.keyword.Keyword.TheVariants as keyword
 use Rattle.bus_trace.specs.declared.position.Position.TheVariants.{Stringing}
-use Rattle.bus_trace.specs.States.{State, step, may_follow, last_count, last_end, is_after, is_hit, is_final, is_refuted, starts_wrong, more_list}
+use Rattle.bus_trace.specs.States.{State, step, may_follow, last_count, last_end, is_after, is_hit, is_final, is_refuted, starts_wrong}
+use Rattle.bus_trace.specs.States.{more_list}
 
 -- The state once the wordstring of a WS line has come.
 abbrev pub string_taken : State → Wordstring → State

@@ -21,13 +21,18 @@ pub record Gave (lines : List ℕ) (s : State) : Type 0 where
   pub text : lines ≡ text_of s
   pub run : run begin lines ≡ Going (record { state = s; line = [] })
 
--- A text is refused at the length of the lines before the offending line. It was taken up to where that line is decided: its
--- line feed, its 1,802nd byte where no line feed came before, or the end of the source.
-pub data Refuses (taken : List ℕ) (left : Option (List ℕ)) (byte : ℕ) (reason : TraceReason) : Type 0 where
+-- These bytes end with the offending line, or with its 1,802nd byte where no line feed came before, which decides it. Its place is the
+-- length of the lines before.
+pub data Offends (taken : List ℕ) (byte : ℕ) (reason : TraceReason) : Type 0 where
   Complete : (before : State) (lines line : List ℕ) → taken ≡ lines ++ (line ++ 10 ∷ []) → byte ≡ length lines → Gave lines before
-      → HasNoFeed line → length line ≤ line_limit → step before line ≡ Err reason → Refuses taken left byte reason
+      → HasNoFeed line → length line ≤ line_limit → step before line ≡ Err reason → Offends taken byte reason
   Overlong : (before : State) (lines line : List ℕ) → taken ≡ lines ++ line → byte ≡ length lines → Gave lines before
-      → HasNoFeed line → length line ≡ (line_limit + 1) → reason ≡ Long → Refuses taken left byte reason
+      → HasNoFeed line → length line ≡ (line_limit + 1) → reason ≡ Long → Offends taken byte reason
+
+-- A text is refused at the length of the lines before the offending line. It was taken up to where that line is decided, or to the end
+-- of the source.
+pub data Refuses (taken : List ℕ) (left : Option (List ℕ)) (byte : ℕ) (reason : TraceReason) : Type 0 where
+  ByLine : Offends taken byte reason → Refuses taken left byte reason
   CutOff : (before : State) (lines line : List ℕ) → taken ≡ lines ++ line → byte ≡ length lines → Gave lines before
       → HasNoFeed line → length line ≤ line_limit → IfSome left (λ rest. rest ≡ []) → reason ≡ Ended → Refuses taken left byte reason
 

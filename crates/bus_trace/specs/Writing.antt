@@ -36,7 +36,8 @@ close_put x mark = codes "TE" ++ codes " " ++ decimal (end_of x) ++ codes " " ++
 
 -- The lines of a transmission with its mark.
 abbrev pub entry_put : Entry × Bool → List ℕ
-entry_put marked = pair_put (codes "TX") marked.0.moment marked.0.terminal ++ flat_map string_put marked.0.message ++ close_put marked.0 marked.1
+entry_put marked = pair_put
+    (codes "TX") marked.0.moment marked.0.terminal ++ flat_map string_put marked.0.message ++ close_put marked.0 marked.1
 
 -- The first line.
 abbrev pub head_put : List ℕ

@@ -5,6 +5,8 @@
 //!   source, of which it takes exactly the bytes of the trace text. A text that is none is refused at the byte at which its first
 //!   offending line begins, with the [`TraceReason`].
 //!
+//! - [`TraceReader`] reads a trace text that comes in pieces, and tells with each piece whether it ends there or is refused.
+//!
 //! The text is this project's own: `TRACE f`, `HORIZON h`, a `HOLD n c` for each terminal that held messages, then for each
 //! transmission `TX m n`, a `WS` line of words for each wordstring and, in format 2, a `TE e c` with its end and the mark of a
 //! collision, and `END`. The definitions are in `specs/`: `Traces` has the lines of a trace and the grammar, `States` what one line
@@ -23,12 +25,14 @@ mod list;
 mod mark;
 #[cfg(test)]
 mod mark_tests;
+#[cfg(test)]
+mod piece_tests;
 mod position;
 mod quick;
-mod reader;
+pub mod reader;
 pub mod reading;
 pub mod reason;
-mod stage;
+pub mod stage;
 #[cfg(test)]
 mod tests;
 pub mod trace;
@@ -39,7 +43,9 @@ pub mod writing;
 
 pub use fault::TraceError;
 pub use hold::Hold;
+pub use reader::TraceReader;
 pub use reading::read_trace;
 pub use reason::TraceReason;
+pub use stage::Fed;
 pub use trace::Trace;
 pub use writing::write_trace;

@@ -87,7 +87,8 @@ pub(crate) fn is_after(list: &[Transmission], moment: u64, terminal: u64) -> boo
 fn first_message(alloc: Global, string: Wordstring) -> Result<Message, AllocError>
     ensures { IfOk result (λ m. m ≡ string ∷ []) }
 {
-    let mut strings = Vec::new(alloc);
+    // Most messages have one wordstring: no room is taken for more.
+    let mut strings = Vec::with_capacity(alloc, 1)?;
     strings.push(string)?;
     Ok(Message::new(strings).unwrap())
 }

@@ -1,7 +1,8 @@
-ghost use Rattle.std.specs.Prelude.{◌≡◌, ◌≢◌, ◌≤◌, ◌-◌, ◌+◌, ◌<◌, length, take, IfOk};
+ghost use Rattle.std.specs.Prelude.{◌≡◌, ◌≢◌, ◌≤◌, ◌-◌, ◌+◌, ◌<◌, ◌++◌, ◌↔◌, [], length, take, IfOk, IsTrue, OnErr};
 ghost use Rattle.bus_trace.specs.Limits.{line_limit, text_limit};
 ghost use Rattle.bus_trace.specs.Runs.{begin, stream_of};
-ghost use Rattle.bus_trace.specs.Feeding.{fed_of, FeedGives, FinishGives};
+ghost use Rattle.bus_trace.specs.Feeding.{fed_of, ReaderIs, FeedGives, FinishGives};
+ghost use Rattle.bus_trace.specs.Pieces.{stream, IsOpen, IsShut, IsPending, IsDue, Stands, Finishes};
 ghost use Rattle.bus_trace.specs.declared.stage.Stage.TheVariants.{Open, Shut};
 
 use crate::fault::TraceError;
@@ -10,6 +11,7 @@ use crate::reason::TraceReason;
 use crate::stage::{Fed, Stage};
 use crate::trace::Trace;
 use crate::walk::{Walk, Walked};
+use bus_strings::laws::neighbours_tell;
 use std::alloc::{AllocError, Global};
 use std::marker::Model;
 
@@ -36,9 +38,21 @@ fn fed(walked: Walked, longer: bool) -> (Stage, Fed)
     }
 }
 
-/// Reads a trace text that comes in pieces, and keeps no more than one line of it beside the values.
+/// Reads a trace text of either format that comes in pieces, however they are cut, and keeps no more than one line of it beside the values
+/// already read.
+///
+/// ```
+/// let mut reader = TraceReader::new(alloc)?;
+/// for piece in pieces {
+///     match reader.feed(piece)? {
+///         Fed::More => {}
+///         answer => break,
+///     }
+/// }
+/// let trace = reader.finish()?;
+/// ```
 #[derive(Drop)]
-pub(crate) struct TraceReader {
+pub struct TraceReader {
     alloc: Global,
     walk: Walk,
     stage: Stage,
@@ -56,8 +70,10 @@ impl Model for TraceReader {
 
 impl TraceReader {
     /// A reader to which nothing came. `AllocError`: the room for a line was refused.
-    pub(crate) fn new(alloc: Global) -> Result<TraceReader, AllocError>
-        ensures { IfOk result (λ r. (r.stage ≡ Open) × (r.at ≡ begin)) }
+    pub fn new(alloc: Global) -> Result<TraceReader, AllocError>
+        ensures is_open { IfOk result IsOpen }
+        ensures nothing { IfOk result (λ r. stream r ≡ []) }
+        ensures begins { IfOk result (λ r. r.at ≡ begin) }
     {
         let line = Vec::with_capacity(alloc, LINE_LIMIT)?;
         Ok(TraceReader {
@@ -65,6 +81,53 @@ impl TraceReader {
             walk: Walk::new(alloc, line),
             stage: Stage::Open,
         })
+    }
+
+    /// Whether it takes more: true until a piece was answered by anything but `More`, or memory was refused.
+    pub fn is_open(&self) -> bool
+        ensures { IsTrue result ↔ IsOpen self.now }
+    {
+        matches!(self.stage, Stage::Open)
+    }
+
+    /// The bytes behind the last line feed of all that was fed.
+    pub fn pending(&self) -> &[u8]
+        requires { IsOpen self.now }
+        ensures behind { IsPending (stream self.now) result.now }
+        ensures short { length result.now ≤ line_limit }
+    {
+        self.walk.pending()
+    }
+
+    /// Takes the next piece of the stream, while the reader is open.
+    ///
+    /// `Whole` comes exactly where a trace text ends in this piece, within its limit, and `used` bytes of the piece belong to it. `Refused`
+    /// comes exactly where no front of the stream is a trace text, and the offending line, or its first 1,802 bytes, has come within the
+    /// limit; `byte` is the length of the lines before it. `TooLarge` comes exactly where the stream is past the limit and neither came
+    /// before, and `More` in every other case. `AllocError`: memory was refused, and the reader takes no more.
+    pub fn feed(&mut self, piece: &[u8]) -> Result<Fed, AllocError>
+        requires { IsOpen self.old }
+        // The answer is due for all that was fed.
+        ensures due { IfOk result (IsDue (stream self.old ++ piece.now) (length (stream self.old))) }
+        // No other answer is.
+        ensures only { IfOk result (λ a. (b : Fed) → IsDue (stream self.old ++ piece.now) (length (stream self.old)) b → b ≡ a) }
+        ensures stands { IfOk result (Stands self.old self.new piece.now) }
+        ensures failed { OnErr result (IsShut self.new) }
+    {
+        neighbours_tell();
+        self.take(piece)
+    }
+
+    /// Ends the stream. The reader is open, or its last answer was `Whole`; it takes no memory.
+    ///
+    /// Ok comes exactly where the last answer was `Whole`, and is the trace whose text was found. Else the error is `Text` with the reason
+    /// `Ended`, at the place at which what is pending begins.
+    pub fn finish(self) -> Result<Trace, TraceError>
+        requires { self.stage ≢ Shut }
+        ensures { Finishes self result }
+    {
+        neighbours_tell();
+        self.end()
     }
 
     /// How many bytes may be looked at next, so that none is behind the one that decides: up to the first byte past the limit of a line,
@@ -95,10 +158,11 @@ impl TraceReader {
         Ok(answer)
     }
 
-    /// Ends the stream.
-    pub(crate) fn finish(self) -> Result<Trace, TraceError>
+    // Ends the stream.
+    pub(crate) fn end(self) -> Result<Trace, TraceError>
         requires { self.stage ≢ Shut }
-        ensures { FinishGives self result }
+        ensures gives { FinishGives self result }
+        ensures is { ReaderIs self.stage self.at }
     {
         match self.stage {
             Stage::Whole => Ok(self.walk.into_trace()),

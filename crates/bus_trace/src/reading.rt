@@ -53,11 +53,11 @@ fn read_text<S: Source>(alloc: Global, source: &mut S) -> Result<Trace, TraceErr
         match source.pull_line(&mut buf[..room]) {
             Pull::Got(n) => match reader.take(&buf[..n])? {
                 Fed::More => {}
-                Fed::Whole { .. } => return reader.finish(),
+                Fed::Whole { .. } => return reader.end(),
                 Fed::Refused { byte, reason } => return Err(TraceError::Text { byte, reason }),
                 Fed::TooLarge => return Err(TraceError::TooLarge),
             },
-            Pull::End => return reader.finish(),
+            Pull::End => return reader.end(),
             Pull::Failed => return Err(TraceError::ReadFault),
         }
     }

@@ -13,7 +13,7 @@ pub(crate) enum Stage {
 
 /// What a piece of a stream gave.
 #[derive(Clone, Copy, Debug, PartialEq, Eq)]
-pub(crate) enum Fed {
+pub enum Fed {
     /// Nothing is decided yet.
     More,
     /// So many bytes of the piece end the trace text.

@@ -175,7 +175,7 @@ fn a_long_line_is_refused_at_its_limit(rt: HostRuntime) -> Result<(), Fail> {
 #[test]
 fn a_failed_pull_in_mid_stream_is_a_fault(rt: HostRuntime) -> Result<(), Fail> {
     let alloc = rt.alloc();
-    let failing = Vec::from_slice(alloc, &[50])?;
+    let failing = Vec::from_slice(alloc, &[10])?;
     let mut source = MemorySource::new(text_of(alloc, &LINES)?, 7, failing);
     assert!(rt; matches!(read_trace(alloc, &mut source), Err(TraceError::ReadFault)));
     Ok(())

@@ -5,7 +5,11 @@ use Rattle.bus_outer.specs.WriteLaws.{taken_on}
 use Rattle.bus_outer.proofs.whole.read_whole.Goals as goal
 
 pub returns-then-n-limit-clause-taken : goal.returns-then-n-limit-clause-taken
-returns-then-n-limit-clause-taken g c = (_, taken_on _ _ _ _ _ c.pieces.invariant.taken c.in-Got.ensures.bytes.2, grind (arith, common_steps))
+returns-then-n-limit-clause-taken g c = (
+  _,
+  taken_on _ _ _ _ _ c.pieces.invariant.taken c.in-Got.ensures.bytes.2,
+  grind (arith, common_steps),
+)
 
 pub returns-in_err-extend_from_slice-in-Got-clause-taken : goal.returns-in_err-extend_from_slice-in-Got-clause-taken
 returns-in_err-extend_from_slice-in-Got-clause-taken g c =

@@ -6,11 +6,14 @@ use Rattle.bus_trace.proofs.list.add_string.Goals as goal
 pub push-requires : goal.push-requires
 push-requires c =
     let item = c.in-Some.ensures.item in
-    let k = last_count_is c.args.list.now.items (vec_len c.args.list.now - 1) c.in-Some.last.now (omega (arith, item.3.0, c.args.list.now.ok.0)) item.1 in
+    let k = last_count_is c.args.list.now.items (vec_len c.args.list.now - 1) c.in-Some.last.now
+    (omega (arith, item.3.0, c.args.list.now.ok.0)) item.1 in
     omega (arith, k, ap (λ (x : Entry). length x.message) c.last.view_is, c.requires)
 
 pub returns-in_ok-push-clause-ok : goal.returns-in_ok-push-clause-ok
 returns-in_ok-push-clause-ok c =
     let item = c.in-Some.ensures.item in
-    set_last_string c.args.list.now.items (vec_len c.args.list.now - 1) c.last.inside.moment c.last.inside.terminal c.last.inside.message c.push.new.self c.in-Some.last.now c.args.string
+    set_last_string c.args.list.now.items
+    (vec_len c.args.list.now - 1) c.last.inside.moment c.last.inside.terminal c.last.inside.message c.push.new.self c.in-Some.last.now
+    c.args.string
     (omega (arith, item.3.0, c.args.list.now.ok.0)) item.1 c.last.view_is c.in_ok-push.ensures.ok

@@ -9,5 +9,8 @@ returns c =
     let idle : 1 < c.leading_digits-count.result.0 → get_or c.args.text.now 0 0 ≡ 48 → ⊥ = elim c.if-count-gt1.branch [
       | then-count-gt1 w ↦ λ l z. no_idle (get_or c.args.text.now 0 0) (sym w.value-is ∙ c.if-text-eq48.false) z
       | else-count-gt1 w ↦ λ l z. omega (arith, w.if-count-gt1.false, l)
-    ] in
-    (number_front c.args.text.now c.leading_digits-count.result.0 c.leading_digits-count.result.1 e.within e.digits e.value e.room (omega (arith, c.if-count-eq0.false)) idle, e.room)
+    ] in (
+      number_front c.args.text.now c.leading_digits-count.result.0 c.leading_digits-count.result.1 e.within e.digits e.value e.room
+          (omega (arith, c.if-count-eq0.false)) idle,
+      e.room,
+    )

@@ -6,14 +6,15 @@ use Rattle.bus_trace.specs.Limits.{text_limit}
 use Rattle.bus_trace.specs.Runs.{stream_of, due}
 use Rattle.bus_trace.specs.Feeding.{FeedGives}
 use Rattle.bus_trace.specs.declared.stage.Fed.{Fed}
-use Rattle.bus_trace.proofs.Readings.{begins_reading, pulled, pulled_is, short_slice, whole_reads, end_reads, refused_reads, large_reads, memory_reads, memory_first}
+use Rattle.bus_trace.proofs.Readings.{begins_reading, pulled, pulled_is, short_slice, whole_reads, end_reads, refused_reads, large_reads}
+use Rattle.bus_trace.proofs.Readings.{memory_reads, memory_first}
 use Rattle.bus_trace.proofs.reading.read_text.Goals as goal
 
 pub lines-init : goal.lines-init
 lines-init g c =
     let e = c.in_ok-reader.ensures in
-    let b = begins_reading (g.S.Source.left c.args.source.now) c.in_ok-reader.reader.at e.1 in
-    record { is_open = e.0; is_due = b.0; taken = b.1; same = refl }
+    let b = begins_reading (g.S.Source.left c.args.source.now) c.in_ok-reader.reader.at e.begins in
+    record { is_open = e.is_open; is_due = b.0; taken = b.1; same = refl }
 
 pub returns-in_err-reader-clause-loops : goal.returns-in_err-reader-clause-loops
 returns-in_err-reader-clause-loops g c =
@@ -25,7 +26,8 @@ lines-preserved g c =
     let b = c.in-Got.ensures.bytes in
     let t = pulled _ _ _ _ _ _ c.lines.invariant.taken b.2 in
     let gives = subst (λ (f : Fed). FeedGives c.lines.reader c.take.new.self (take c.in-Got.n (c.pull_line.new.buf)) (Ok f)) c.in-More.is
-    (subst (λ (p : List ℕ). FeedGives c.lines.reader c.take.new.self p (Ok c.in_ok-take-in-Got.field-0)) (take-append-le c.in-Got.n c.pull_line.new.buf _ b.1) c.in_ok-take-in-Got.ensures) in
+    (subst (λ (p : List ℕ). FeedGives c.lines.reader c.take.new.self p (Ok c.in_ok-take-in-Got.field-0))
+    (take-append-le c.in-Got.n c.pull_line.new.buf _ b.1) c.in_ok-take-in-Got.ensures) in
     record {
       is_open = gives.0;
       is_due = ap (due text_limit) gives.2 ∙ gives.1;
@@ -40,35 +42,53 @@ returns-in_err-take-in-Got-clause-loops g c =
     let t = pulled _ _ _ _ _ _ c.lines.invariant.taken b.2 in
     let room = c.room-room.ensures.within c.in_err-take-in-Got.ensures.1 in
     rw (p.1, p.2)
-    (memory_reads _ _ _ t (omega (arith, room, b.1, short_slice c.room-room.result _ c.pull_line.new.buf c.pull_line.auto.buf, length-take c.in-Got.n c.pull_line.new.buf, length-append (stream_of c.lines.reader.at) (take c.in-Got.n c.pull_line.new.buf))))
+    (memory_reads _ _ _ t (omega (
+      arith,
+      room,
+      b.1,
+      short_slice c.room-room.result _ c.pull_line.new.buf c.pull_line.auto.buf,
+      length-take c.in-Got.n c.pull_line.new.buf,
+      length-append (stream_of c.lines.reader.at) (take c.in-Got.n c.pull_line.new.buf),
+    )))
 
 pub returns-in-Whole-clause-loops : goal.returns-in-Whole-clause-loops
 returns-in-Whole-clause-loops g c =
     let b = c.in-Got.ensures.bytes in
     let t = pulled _ _ _ _ _ _ c.lines.invariant.taken b.2 in
-    let p = pulled_is c.lines.reader.at c.in-Got.n c.room-room.result c.pull_line.new.buf b.0 b.1 (short_slice c.room-room.result _ c.pull_line.new.buf c.pull_line.auto.buf) c.room-room.ensures.line c.room-room.ensures.text c.in-Got.ensures.line in
+    let p = pulled_is c.lines.reader.at c.in-Got.n c.room-room.result c.pull_line.new.buf b.0 b.1
+    (short_slice c.room-room.result _ c.pull_line.new.buf c.pull_line.auto.buf) c.room-room.ensures.line c.room-room.ensures.text
+    c.in-Got.ensures.line in
     let gives = subst (λ (f : Fed). FeedGives c.lines.reader c.take.new.self (take c.in-Got.n (c.pull_line.new.buf)) (Ok f)) c.in-Whole.is
-    (subst (λ (p : List ℕ). FeedGives c.lines.reader c.take.new.self p (Ok c.in_ok-take-in-Got.field-0)) (take-append-le c.in-Got.n c.pull_line.new.buf _ b.1) c.in_ok-take-in-Got.ensures) in
-    whole_reads _ _ c.lines.reader c.take.new.self _ c.in-Whole.used c.finish.result t c.lines.invariant.is_due p gives c.finish.ensures
+    (subst (λ (p : List ℕ). FeedGives c.lines.reader c.take.new.self p (Ok c.in_ok-take-in-Got.field-0))
+    (take-append-le c.in-Got.n c.pull_line.new.buf _ b.1) c.in_ok-take-in-Got.ensures) in
+    whole_reads _ _ c.lines.reader c.take.new.self _ c.in-Whole.used c.end.result t c.lines.invariant.is_due p gives c.end.ensures.gives
 
 pub returns-in-Refused-clause-loops : goal.returns-in-Refused-clause-loops
 returns-in-Refused-clause-loops g c =
     let b = c.in-Got.ensures.bytes in
     let t = pulled _ _ _ _ _ _ c.lines.invariant.taken b.2 in
-    let p = pulled_is c.lines.reader.at c.in-Got.n c.room-room.result c.pull_line.new.buf b.0 b.1 (short_slice c.room-room.result _ c.pull_line.new.buf c.pull_line.auto.buf) c.room-room.ensures.line c.room-room.ensures.text c.in-Got.ensures.line in
+    let p = pulled_is c.lines.reader.at c.in-Got.n c.room-room.result c.pull_line.new.buf b.0 b.1
+    (short_slice c.room-room.result _ c.pull_line.new.buf c.pull_line.auto.buf) c.room-room.ensures.line c.room-room.ensures.text
+    c.in-Got.ensures.line in
     let gives = subst (λ (f : Fed). FeedGives c.lines.reader c.take.new.self (take c.in-Got.n (c.pull_line.new.buf)) (Ok f)) c.in-Refused.is
-    (subst (λ (p : List ℕ). FeedGives c.lines.reader c.take.new.self p (Ok c.in_ok-take-in-Got.field-0)) (take-append-le c.in-Got.n c.pull_line.new.buf _ b.1) c.in_ok-take-in-Got.ensures) in
+    (subst (λ (p : List ℕ). FeedGives c.lines.reader c.take.new.self p (Ok c.in_ok-take-in-Got.field-0))
+    (take-append-le c.in-Got.n c.pull_line.new.buf _ b.1) c.in_ok-take-in-Got.ensures) in
     refused_reads _ _ c.lines.reader c.take.new.self _ c.in-Refused.byte c.in-Refused.reason t c.lines.invariant.is_due p gives
 
 pub returns-in-TooLarge-clause-loops : goal.returns-in-TooLarge-clause-loops
 returns-in-TooLarge-clause-loops g c =
     let b = c.in-Got.ensures.bytes in
     let t = pulled _ _ _ _ _ _ c.lines.invariant.taken b.2 in
-    let p = pulled_is c.lines.reader.at c.in-Got.n c.room-room.result c.pull_line.new.buf b.0 b.1 (short_slice c.room-room.result _ c.pull_line.new.buf c.pull_line.auto.buf) c.room-room.ensures.line c.room-room.ensures.text c.in-Got.ensures.line in
-    let gives = subst (λ (f : Fed). FeedGives c.lines.reader c.take.new.self (take c.in-Got.n (c.pull_line.new.buf)) (Ok f)) c.in-TooLarge.is
-    (subst (λ (p : List ℕ). FeedGives c.lines.reader c.take.new.self p (Ok c.in_ok-take-in-Got.field-0)) (take-append-le c.in-Got.n c.pull_line.new.buf _ b.1) c.in_ok-take-in-Got.ensures) in
+    let p = pulled_is c.lines.reader.at c.in-Got.n c.room-room.result c.pull_line.new.buf b.0 b.1
+    (short_slice c.room-room.result _ c.pull_line.new.buf c.pull_line.auto.buf) c.room-room.ensures.line c.room-room.ensures.text
+    c.in-Got.ensures.line in
+    let gives = subst (λ (f : Fed). FeedGives c.lines.reader c.take.new.self (take c.in-Got.n (c.pull_line.new.buf))
+    (Ok f)) c.in-TooLarge.is
+    (subst (λ (p : List ℕ). FeedGives c.lines.reader c.take.new.self p (Ok c.in_ok-take-in-Got.field-0))
+    (take-append-le c.in-Got.n c.pull_line.new.buf _ b.1) c.in_ok-take-in-Got.ensures) in
     large_reads _ _ c.lines.reader c.take.new.self _ t c.lines.invariant.is_due p gives
 
 pub returns-in-End-clause-loops : goal.returns-in-End-clause-loops
 returns-in-End-clause-loops g c =
-    end_reads _ _ _ c.lines.reader c.finish-in-End.result c.lines.invariant.is_open c.lines.invariant.is_due c.lines.invariant.taken c.in-End.ensures.bytes.0 c.in-End.ensures.bytes.1 c.finish-in-End.ensures
+    end_reads _ _ _ c.lines.reader c.end-in-End.result c.lines.invariant.is_open c.lines.invariant.is_due c.lines.invariant.taken
+    c.in-End.ensures.bytes.0 c.in-End.ensures.bytes.1 c.end-in-End.ensures.gives

@@ -5,4 +5,5 @@ use Rattle.bus_trace.specs.Writing.{hold_put}
 use Rattle.bus_trace.proofs.writing.put_holds.Given as goal
 
 abbrev pub invariant-loop-hold : goal.invariant-loop-hold
-invariant-loop-hold g l = Adds g.K.Sink.held g.K.Sink.faults l.fn.sink l.sink l.fn.text l.text (flat_map hold_put (take l.hold-index l.holds))
+invariant-loop-hold g l = Adds g.K.Sink.held g.K.Sink.faults l.fn.sink l.sink l.fn.text l.text
+    (flat_map hold_put (take l.hold-index l.holds))

@@ -18,12 +18,14 @@ loop-x-preserved g c =
     c.x-item.is c.loop-x-test.true c.loop-x.invariant.left c.next.ensures.steps c.eq-mark.ensures in
     record {
       left = n.1;
-      adds = subst (λ (t : List ℕ). Adds g.K.Sink.held g.K.Sink.faults c.args.sink.now c.put_transmission.new.sink c.args.text.now c.put_transmission.new.text t)
+      adds = subst (λ (t : List ℕ).
+          Adds g.K.Sink.held g.K.Sink.faults c.args.sink.now c.put_transmission.new.sink c.args.text.now c.put_transmission.new.text t)
           (flat_map-more entry_put (take c.loop-x.x-index (zip list (marks list))) _ (c.x-item.result, c.eq-mark.result) n.0)
           (c.loop-x.invariant.adds ▸ c.put_transmission.ensures);
     }
 
 pub returns : goal.returns
 returns g c =
-    subst (λ (pairs : List (Entry × Bool)). Adds g.K.Sink.held g.K.Sink.faults c.args.sink.now c.loop-x.sink c.args.text.now c.loop-x.text (flat_map entry_put pairs))
+    subst (λ (pairs : List (Entry × Bool)).
+    Adds g.K.Sink.held g.K.Sink.faults c.args.sink.now c.loop-x.sink c.args.text.now c.loop-x.text (flat_map entry_put pairs))
     (all_marked c.args.list.now c.loop-x.x-index c.loop-x-test.false) c.loop-x.invariant.adds

@@ -10,5 +10,6 @@ abbrev pub invariant-loop-x : goal.invariant-loop-x
 invariant-loop-x g l =
     record {
       left : l.marks ≡ drop l.x-index (marks l.list);
-      adds : Adds g.K.Sink.held g.K.Sink.faults l.fn.sink l.sink l.fn.text l.text (flat_map entry_put (take l.x-index (zip l.list (marks l.list))));
+      adds : Adds g.K.Sink.held g.K.Sink.faults l.fn.sink l.sink l.fn.text l.text
+          (flat_map entry_put (take l.x-index (zip l.list (marks l.list))));
     }

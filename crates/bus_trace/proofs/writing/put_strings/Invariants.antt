@@ -5,4 +5,5 @@ use Rattle.bus_trace.specs.Writing.{string_put}
 use Rattle.bus_trace.proofs.writing.put_strings.Given as goal
 
 abbrev pub invariant-loop-string : goal.invariant-loop-string
-invariant-loop-string g l = Adds g.K.Sink.held g.K.Sink.faults l.fn.sink l.sink l.fn.text l.text (flat_map string_put (take l.string-index l.strings))
+invariant-loop-string g l = Adds g.K.Sink.held g.K.Sink.faults l.fn.sink l.sink l.fn.text l.text
+    (flat_map string_put (take l.string-index l.strings))

@@ -5,4 +5,11 @@ use Rattle.bus_trace.proofs.draft.Draft.take_string.Goals as goal
 
 pub wordstring-requires-clause-few : goal.wordstring-requires-clause-few
 wordstring-requires-clause-few c =
-    omega (arith, ap length c.fields_from-words.ensures, length-map c.fields_from-words.result.now (λ f. f.now), length-drop 1 (texts c.args.fields.now), length-map c.args.fields.now (λ f. f.now), c.if-fields-gt-MOST_FIELDS.false)
+    omega (
+      arith,
+      ap length c.fields_from-words.ensures,
+      length-map c.fields_from-words.result.now (λ f. f.now),
+      length-drop 1 (texts c.args.fields.now),
+      length-map c.args.fields.now (λ f. f.now),
+      c.if-fields-gt-MOST_FIELDS.false,
+    )

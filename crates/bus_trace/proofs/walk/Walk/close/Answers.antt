@@ -17,6 +17,8 @@ returns c =
 
 pub returns-then-front-le-LINE_LIMIT : goal.returns-then-front-le-LINE_LIMIT
 returns-then-front-le-LINE_LIMIT c =
-    let inside : c.self.inside.line.items ≡ [] = is_nil c.self.inside.line.items (omega (arith, eqb-true (vec_len c.self.inside.line) 0 (sym c.is_empty.ensures ∙ c.if-is_empty.true), c.self.inside.line.ok.0)) in
+    let inside : c.self.inside.line.items ≡ [] = is_nil c.self.inside.line.items
+    (omega (arith, eqb-true (vec_len c.self.inside.line) 0 (sym c.is_empty.ensures ∙ c.if-is_empty.true), c.self.inside.line.ok.0)) in
     let empty = sym (ap (λ (r : Standing). r.line) c.self.view_is) ∙ inside in
-    front_closes c.args.self.now c.judge_front.new.self c.args.front.now c.judge_front.result empty c.requires.one c.if-front-le-LINE_LIMIT.true c.judge_front.ensures
+    front_closes c.args.self.now c.judge_front.new.self c.args.front.now c.judge_front.result empty c.requires.one
+    c.if-front-le-LINE_LIMIT.true c.judge_front.ensures

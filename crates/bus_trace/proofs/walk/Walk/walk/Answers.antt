@@ -12,24 +12,33 @@ loop-front-init c = walks_begin c.args.self.now c.args.piece.now
 
 pub loop-front-preserved : goal.loop-front-preserved
 loop-front-preserved c =
-    let k = subst (λ (j : Judged). JudgedGives c.loop-front.self c.close.new.self (c.in-Some.front.now ++ 10 ∷ []) (Ok j) (run c.loop-front.self (c.in-Some.front.now ++ 10 ∷ []))) c.in-Passes.is c.in_ok-close.ensures in
-    walks_on c.args.self.now c.loop-front.self c.close.new.self c.args.piece.now c.loop-front.rest.now c.in-Some.front.now c.in-Some.behind.now c.loop-front.invariant c.in-Some.ensures.0 k.0 k.1
+    let k = subst (λ (j : Judged). JudgedGives c.loop-front.self c.close.new.self (c.in-Some.front.now ++ 10 ∷ []) (Ok j)
+    (run c.loop-front.self (c.in-Some.front.now ++ 10 ∷ []))) c.in-Passes.is c.in_ok-close.ensures in
+    walks_on c.args.self.now c.loop-front.self c.close.new.self c.args.piece.now c.loop-front.rest.now c.in-Some.front.now
+    c.in-Some.behind.now c.loop-front.invariant c.in-Some.ensures.0 k.0 k.1
 
 pub returns-in-Ends : goal.returns-in-Ends
 returns-in-Ends c =
-    let k = subst (λ (j : Judged). JudgedGives c.loop-front.self c.close.new.self (c.in-Some.front.now ++ 10 ∷ []) (Ok j) (run c.loop-front.self (c.in-Some.front.now ++ 10 ∷ []))) c.in-Ends.is c.in_ok-close.ensures in
-    let s = behind_shorter c.args.self.now c.loop-front.self c.args.piece.now c.loop-front.rest.now c.in-Some.front.now c.in-Some.behind.now c.loop-front.invariant c.in-Some.ensures.0 in
-    walks_end c.args.self.now c.loop-front.self c.close.new.self c.args.piece.now c.loop-front.rest.now c.in-Some.front.now c.in-Some.behind.now (length c.args.piece.now - length c.in-Some.behind.now) c.loop-front.invariant c.in-Some.ensures.0 (omega (arith, s)) k
+    let k = subst (λ (j : Judged). JudgedGives c.loop-front.self c.close.new.self (c.in-Some.front.now ++ 10 ∷ []) (Ok j)
+    (run c.loop-front.self (c.in-Some.front.now ++ 10 ∷ []))) c.in-Ends.is c.in_ok-close.ensures in
+    let s = behind_shorter c.args.self.now c.loop-front.self c.args.piece.now c.loop-front.rest.now c.in-Some.front.now
+    c.in-Some.behind.now c.loop-front.invariant c.in-Some.ensures.0 in
+    walks_end c.args.self.now c.loop-front.self c.close.new.self c.args.piece.now c.loop-front.rest.now c.in-Some.front.now
+    c.in-Some.behind.now (length c.args.piece.now - length c.in-Some.behind.now) c.loop-front.invariant c.in-Some.ensures.0
+    (omega (arith, s)) k
 
 pub returns-in-Fails : goal.returns-in-Fails
 returns-in-Fails c =
-    let k = subst (λ (j : Judged). JudgedGives c.loop-front.self c.close.new.self (c.in-Some.front.now ++ 10 ∷ []) (Ok j) (run c.loop-front.self (c.in-Some.front.now ++ 10 ∷ []))) c.in-Fails.is c.in_ok-close.ensures in
-    walks_fail c.args.self.now c.loop-front.self c.args.piece.now c.loop-front.rest.now c.in-Some.front.now c.in-Some.behind.now c.in-Fails.byte c.in-Fails.reason c.loop-front.invariant c.in-Some.ensures.0 k
+    let k = subst (λ (j : Judged). JudgedGives c.loop-front.self c.close.new.self (c.in-Some.front.now ++ 10 ∷ []) (Ok j)
+    (run c.loop-front.self (c.in-Some.front.now ++ 10 ∷ []))) c.in-Fails.is c.in_ok-close.ensures in
+    walks_fail c.args.self.now c.loop-front.self c.args.piece.now c.loop-front.rest.now c.in-Some.front.now c.in-Some.behind.now
+    c.in-Fails.byte c.in-Fails.reason c.loop-front.invariant c.in-Some.ensures.0 k
 
 pub returns-then-not-branch : goal.returns-then-not-branch
 returns-then-not-branch c =
     let k = not_kept _ _ _ _ c.if-not-branch.true c.in_ok-keep.ensures in
-    walks_give c.args.self.now c.loop-front.self c.args.piece.now c.loop-front.rest.now c.loop-front.invariant ∙ k.1 ∙ sym (ap (λ b. Refused b Long) (c.used.ensures ∙ ap (λ (s : Standing). length (text_of s.state)) k.0))
+    walks_give c.args.self.now c.loop-front.self c.args.piece.now c.loop-front.rest.now c.loop-front.invariant ∙ k.1
+    ∙ sym (ap (λ b. Refused b Long) (c.used.ensures ∙ ap (λ (s : Standing). length (text_of s.state)) k.0))
 
 pub returns : goal.returns
 returns c =
