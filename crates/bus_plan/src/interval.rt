@@ -61,8 +61,8 @@ fn turns(table: &Table) -> u64
     sum
 }
 
-/// The least transmit interval, in bit times, for which some choice of offsets for the senders of this periodic table is accepted. It
-/// takes no memory.
+/// The least interval of the senders of this periodic table, in bit times: some choice of offsets is accepted exactly where the
+/// transmit interval is at least this. It may lie outside the range of a transmit interval. It takes no memory.
 pub fn least_interval(table: &Table) -> u64
     requires periodic { table.now.mode ≡ Periodic }
     ensures { result ≡ plans.least_interval table.now }

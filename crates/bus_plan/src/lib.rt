@@ -1,6 +1,6 @@
 //! The planner of periodic tables: the least transmit interval, and offsets for it.
 //!
-//! - [`least_interval`] tells the least transmit interval for which some choice of offsets is accepted.
+//! - [`least_interval`] tells from which transmit interval on some choice of offsets is accepted.
 //! - [`plan`] chooses the offsets of a table anew, or says that no choice is accepted.
 //!
 //! `specs/Plans.antt` says what the least interval, the planned order and the planned offsets are, `specs/Answers.antt` what an answer

@@ -20,7 +20,8 @@ pub record IsPlanCallOf (table : Table) (call : Call) : Type 0 where
   pub call_is : IsOfTable (codes "plan") table call
   pub periodic : table.mode ≡ Periodic
 
--- the canonical text of the planned table, which is the given one but for its offsets, and accepted: so `run` is claimed of that text
+-- the canonical text of the planned table, which is the given one but for its offsets, and accepted: so `run` is claimed of that text,
+-- where it is within its limit
 pub record IsPlannedText (table : Table) (text : List ℕ) : Type 0 where
   pub text_is : text ≡ table_text (planned_table table)
   pub stands : IsTableText (planned_table table) text
