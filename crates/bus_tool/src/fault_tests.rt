@@ -1,17 +1,23 @@
 //! Each pull and each push that fails in turn, and texts that are cut at each byte, over sources and sinks in memory.
 use crate::observe_tests::{LONG_GAP, ONE_EACH, ONE_EACH_SEEN};
 use crate::status::Status;
-use crate::tests::{Ran, TWO_SENDERS, is_refused, run_on, run_over, sink_of, words_of};
+use crate::tests::{
+    Ran, TWO_PERIODIC_SENDERS, TWO_SENDERS, is_refused, run_on, run_over, sink_of, words_of,
+};
 use crate::tool;
 use bus_outer::{MemorySink, MemorySource};
+use bus_vectors::row;
 use std::test::Fail;
 
 /// A call: its words, and both texts.
 type Call<'a> = (&'a [&'a str], &'a str, &'a str);
 
 /// Calls of each command that read and write without a refusal.
-const CALLS: [Call<'static>; 7] = [
+const CALLS: [Call<'static>; 10] = [
     (&["check", "T"], TWO_SENDERS, ""),
+    (&["report", "T"], TWO_SENDERS, ""),
+    (&["plan", "T"], TWO_PERIODIC_SENDERS, ""),
+    (&["drill", "0"], "", ""),
     (&["witness", "T"], LONG_GAP, ""),
     (&["tidy", "T"], LONG_GAP, ""),
     (&["run", "T", "M"], LONG_GAP, ONE_EACH),
@@ -66,10 +72,9 @@ fn failing_pulls(rt: &HostRuntime, call: Call<'_>, second: bool, line: &str) -> 
 fn each_pull_that_fails(rt: HostRuntime) -> Result<(), Fail> {
     for call in CALLS {
         let pulls = failing_pulls(&rt, call, false, "ERROR 5 read 1\n")?;
-        assert!(rt; pulls > 5 && pulls < MANY);
+        assert!(rt; pulls < MANY && (pulls == 0) == call.1.is_empty());
         let pulls = failing_pulls(&rt, call, true, "ERROR 5 read 2\n")?;
-        assert!(rt; pulls < MANY);
-        assert_eq!(rt; pulls == 0, call.2.is_empty());
+        assert!(rt; pulls < MANY && (pulls == 0) == call.2.is_empty());
     }
     Ok(())
 }
@@ -121,16 +126,52 @@ fn each_push_that_fails(rt: HostRuntime) -> Result<(), Fail> {
     Ok(())
 }
 
-/// The words of a call that is refused, and its line.
-const REFUSED: &[&str] = &["run", "T", "M"];
+/// A call, whether its first push of `out` fails, and its status and line then.
+struct Said<'a> {
+    call: Call<'a>,
+    out_fails: bool,
+    status: Status,
+    line: &'a [u8],
+}
 
-const LINE: &[u8] = b"ERROR 3 table line 1 Ended\n";
+/// A call whose answer is written or, where its first push fails, isn't.
+const fn answered(call: Call<'static>, out_fails: bool) -> Said<'static> {
+    if out_fails {
+        return Said {
+            call,
+            out_fails,
+            status: Status::WriteFault,
+            line: b"ERROR 6 write\n",
+        };
+    }
+    Said {
+        call,
+        out_fails,
+        status: Status::Done,
+        line: b"",
+    }
+}
+
+/// A call that is refused.
+const fn refused(call: Call<'static>, status: Status, line: &'static [u8]) -> Said<'static> {
+    Said {
+        call,
+        out_fails: false,
+        status,
+        line,
+    }
+}
 
 /// Whether this push of `err` fails: the status stays, and a beginning of the line stands there.
-fn line_fails(rt: &HostRuntime, push: u64) -> Result<bool, Fail> {
-    let words = words_of(rt, REFUSED)?;
-    let (mut first, mut second) = (failing(rt, "", None)?, failing(rt, "", None)?);
-    let mut out = sink_of(rt, 100)?;
+fn line_fails(rt: &HostRuntime, said: &Said<'_>, push: u64) -> Result<bool, Fail> {
+    let words = words_of(rt, said.call.0)?;
+    let (mut first, mut second) = (
+        failing(rt, said.call.1, None)?,
+        failing(rt, said.call.2, None)?,
+    );
+    let mut pushes = Vec::new(rt.alloc());
+    pushes.extend(said.out_fails.then_some(0))?;
+    let mut out = MemorySink::new(rt.alloc(), 3000, 200, pushes)?;
     let mut err = MemorySink::new(rt.alloc(), 100, 5, [push].to_vec(rt.alloc())?)?;
     let status = tool(
         rt.alloc(),
@@ -140,16 +181,18 @@ fn line_fails(rt: &HostRuntime, push: u64) -> Result<bool, Fail> {
         &mut out,
         &mut err,
     );
-    must(status == Status::TableRefused, "the status of the refusal")?;
-    must(out.bytes().is_empty(), "no answer")?;
-    must(LINE.starts_with(err.bytes()), "a beginning of the line")?;
-    Ok(err.bytes().len() < LINE.len())
+    must(status == said.status, "the status of the outcome")?;
+    must(
+        said.line.starts_with(err.bytes()),
+        "a beginning of the line",
+    )?;
+    Ok(err.bytes().len() < said.line.len())
 }
 
 /// How many pushes of `err` can fail.
-fn failing_lines(rt: &HostRuntime) -> Result<u64, Fail> {
+fn failing_lines(rt: &HostRuntime, said: &Said<'_>) -> Result<u64, Fail> {
     for push in 0..MANY {
-        if !line_fails(rt, push)? {
+        if !line_fails(rt, said, push)? {
             return Ok(push);
         }
     }
@@ -158,7 +201,16 @@ fn failing_lines(rt: &HostRuntime) -> Result<u64, Fail> {
 
 #[test]
 fn each_push_of_the_line_that_fails(rt: HostRuntime) -> Result<(), Fail> {
-    assert_eq!(rt; failing_lines(&rt)?, 6);
+    let none: Call<'_> = (&[], "", "");
+    let empty: Call<'_> = (&["run", "T", "M"], "", "");
+    let usage = refused(none, Status::Usage, b"ERROR 2 usage\n");
+    let table = refused(empty, Status::TableRefused, b"ERROR 3 table line 1 Ended\n");
+    assert_eq!(rt; failing_lines(&rt, &usage)?, 3);
+    assert_eq!(rt; failing_lines(&rt, &table)?, 6);
+    for call in CALLS {
+        assert_eq!(rt; failing_lines(&rt, &answered(call, false))?, 0);
+        assert_eq!(rt; failing_lines(&rt, &answered(call, true))?, 3);
+    }
     Ok(())
 }
 
@@ -250,22 +302,30 @@ const CUTS: [Cut; 16] = [
     (41, 42, Status::Done, "\nHORIZON 150\n"),
 ];
 
+/// Whether a run writes this horizon and, where the messages are whole or there are none, just what is stored.
+fn answers(ran: &Ran, bytes: usize, horizon: &str) -> Result<bool, Fail> {
+    let stored = match bytes {
+        10 | 11 => row(7),
+        41 | 42 => row(16),
+        _ => None,
+    };
+    if let Some(row) = stored {
+        return Ok(ran.out.bytes() == row.out);
+    }
+    let behind = ran.out.bytes().get(7..).ok_or("a first line")?;
+    Ok(behind.starts_with(horizon.as_bytes()))
+}
+
 /// Whether a run of so many bytes of the messages comes to this.
 fn cut_comes_to(rt: &HostRuntime, bytes: usize, status: Status, text: &str) -> Result<bool, Fail> {
     let cut = ONE_EACH.as_bytes().get(..bytes).ok_or("so many bytes")?;
     let second = MemorySource::new(cut.to_vec(rt.alloc())?, 4096, Vec::new(rt.alloc()));
-    let ran = run_over(
-        rt,
-        REFUSED,
-        failing(rt, LONG_GAP, None)?,
-        second,
-        sink_of(rt, 3000)?,
-    )?;
+    let first = failing(rt, LONG_GAP, None)?;
+    let ran = run_over(rt, &["run", "T", "M"], first, second, sink_of(rt, 3000)?)?;
     if status != Status::Done {
         return Ok(is_refused(&ran, status, text));
     }
-    let behind = ran.out.bytes().get(7..).ok_or("a first line")?;
-    Ok(ran.status == status && behind.starts_with(text.as_bytes()))
+    Ok(ran.status == status && answers(&ran, bytes, text)?)
 }
 
 #[test]

@@ -21,6 +21,8 @@ mod holds;
 #[cfg(test)]
 mod hostile_tests;
 mod in_memory;
+#[cfg(test)]
+mod in_memory_tests;
 mod inputs;
 pub mod laws;
 mod observe;

@@ -7,9 +7,13 @@ use std::test::Fail;
 const UNTIDY: &str =
     "# bus\nTABLE\t1\nMODE\taperiodic\n\nTI 1000\r\nSG 300\nSENDER\t1 TG 20\nSEND\t0a1 1 2 4\nSENDER 2 TG 30\n SEND 0b2 1 30 40";
 
+/// The same text behind a comment, with tabs and a lower-case digit.
+const TABBED: &str =
+    "# bus\nTABLE\t1\nMODE\taperiodic\nTI\t1000\nSG\t300\nSENDER\t1\tTG\t20\nSEND\t0a1\t1\t2\t4\nSENDER\t2\tTG\t30\nSEND\t0B2\t1\t30\t40\n";
+
 #[test]
 fn what_is_tidied_stays_as_it_is(rt: HostRuntime) -> Result<(), Fail> {
-    for text in [UNTIDY, TWO_SENDERS] {
+    for text in [UNTIDY, TABBED, TWO_SENDERS] {
         let ran = run_on(&rt, &["tidy", "T"], text, "")?;
         assert!(rt; writes(&ran, Status::Done, TWO_SENDERS));
     }
@@ -35,8 +39,10 @@ fn reports_in_turn_order(rt: HostRuntime) -> Result<(), Fail> {
 fn reports_a_refused_table(rt: HostRuntime) -> Result<(), Fail> {
     let table = SECOND_FIRST.replace(rt.alloc(), "AT 700", "AT 560")?;
     let ran = run_on(&rt, &["report", "T"], table.as_str(), "")?;
-    let line = b"{\"line\":\"REFUSE small-gap 1 -60 20\",";
-    assert!(rt; ran.status == Status::Refused);
-    assert!(rt; ran.out.bytes().starts_with(line));
+    let second = "{\"at\":0,\"longest\":620,\"number\":2,\"shortest\":620,\"tg\":30}";
+    let first = "{\"at\":560,\"longest\":60,\"number\":1,\"shortest\":60,\"tg\":20}";
+    let head = "{\"line\":\"REFUSE small-gap 1 -60 20\",\"mode\":\"periodic\",\"senders\":[";
+    let text = format!(in rt.alloc(); "{head}{second},{first}],\"sg\":300,\"ti\":2000}}\n")?;
+    assert!(rt; writes(&ran, Status::Refused, text.as_str()));
     Ok(())
 }
