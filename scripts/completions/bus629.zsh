@@ -10,6 +10,8 @@ _bus629() {
     'plan:choose the offsets of a periodic table'
     'run:run the senders of an accepted table, and write the trace'
     'observe:look at the senders of any table up to a moment'
+    'receive:tell what each terminal receives of a trace'
+    'audit:hold a trace to a table'
     'drill:run a large input that a number makes'
   )
   if (( CURRENT == 2 )); then

@@ -1,5 +1,7 @@
 ghost use Rattle.std.specs.Prelude.{◌≡◌, is_some};
-ghost use Rattle.bus_vectors.specs.Rows.{is_row};
+ghost use Rattle.std.specs.Option.{option_map};
+ghost use Rattle.bus_vectors.specs.Rows as rows;
+ghost use Rattle.bus_vectors.specs.Rows.{is_row, row_in, row_of};
 
 use crate::texts;
 
@@ -21,7 +23,9 @@ pub struct StoredRow {
 }
 
 /// A row of `check`, which has one line on standard output.
-const fn checked(first: &'static [u8], out: &'static [u8], status: u8) -> StoredRow {
+const fn checked(first: &'static [u8], out: &'static [u8], status: u8) -> StoredRow
+    ensures { row_in result ≡ rows.checked first.now out.now status }
+{
     StoredRow {
         words: &["check", "T"],
         first,
@@ -33,7 +37,9 @@ const fn checked(first: &'static [u8], out: &'static [u8], status: u8) -> Stored
 }
 
 /// A row of `run` of the receivers.
-const fn ran(second: &'static [u8], out: &'static [u8]) -> StoredRow {
+const fn ran(second: &'static [u8], out: &'static [u8]) -> StoredRow
+    ensures { row_in result ≡ rows.ran second.now out.now }
+{
     StoredRow {
         words: &["run", "T", "M"],
         first: texts::RECEIVERS,
@@ -66,7 +72,8 @@ const REPORTED: StoredRow = StoredRow {
 
 /// The stored row of this number; None exactly where it is none of 1, 4, 7, 10, 11, 13, 16 and 28. It takes no memory.
 pub fn row(k: u32) -> Option<StoredRow>
-    ensures { is_some result ≡ is_row k }
+    ensures is { option_map row_in result ≡ row_of k }
+    ensures some { is_some result ≡ is_row k }
 {
     match k {
         1 => Some(checked(texts::TWO_SENDERS, b"ACCEPT aperiodic 1030 1270\n", 0)),
