@@ -127,6 +127,7 @@ fn each_push_that_fails(rt: HostRuntime) -> Result<(), Fail> {
 }
 
 /// A call, whether its first push of `out` fails, and its status and line then.
+#[derive(Clone, Copy)]
 struct Said<'a> {
     call: Call<'a>,
     out_fails: bool,
