@@ -16,13 +16,9 @@ fn keeps(rt: &HostRuntime, row: &StoredRow) -> Result<bool, Fail> {
 
 #[test]
 fn each_stored_row_is_kept(rt: HostRuntime) -> Result<(), Fail> {
-    let mut kept = 0;
-    for k in 0..100u32 {
-        if let Some(row) = row(k) {
-            assert!(rt; keeps(&rt, &row)?, "row {k}");
-            kept += 1;
-        }
+    for k in [1u32, 4, 7, 10, 11, 13, 16, 28] {
+        let row = row(k).ok_or("a stored row")?;
+        assert!(rt; keeps(&rt, &row)?, "row {k}");
     }
-    assert_eq!(rt; kept, 8);
     Ok(())
 }
