@@ -6,8 +6,6 @@
 
 mod audit;
 mod audit_line;
-#[cfg(test)]
-mod audit_tests;
 mod check;
 mod command;
 mod drill;
@@ -33,8 +31,6 @@ mod plan;
 #[cfg(test)]
 mod plan_tests;
 mod receive;
-#[cfg(test)]
-mod receive_tests;
 mod report;
 #[cfg(test)]
 mod row_tests;

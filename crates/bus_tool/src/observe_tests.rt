@@ -1,8 +1,6 @@
 //! `observe` over sources and sinks in memory, with ample memory.
 use crate::status::Status;
-use crate::tests::{
-    Ran, TWO_PERIODIC_SENDERS, TWO_SENDERS, is_refused, run_on, run_over, sink_of, source, writes,
-};
+use crate::tests::{Ran, is_refused, run_on, run_over, sink_of, source, writes};
 use bus_outer::MemorySource;
 use std::test::Fail;
 
@@ -73,118 +71,12 @@ fn traces_of_one_message_each(rt: HostRuntime) -> Result<(), Fail> {
     Ok(())
 }
 
-/// Whether `observe` sees these starts.
-fn sees(
-    rt: &HostRuntime,
-    table: &str,
-    messages: &str,
-    horizon: &str,
-    expected: &[u8],
-) -> Result<bool, Fail> {
-    let ran = observe(rt, table, messages, horizon)?;
-    let starts = starts(rt, ran.out.bytes())?;
-    Ok(starts.as_slice() == expected)
-}
-
-#[test]
-fn starts_of_aperiodic_tables(rt: HostRuntime) -> Result<(), Fail> {
-    let two = rounds(&rt, (2, 30), (2, 30))?;
-    assert!(rt;
-        sees(
-            &rt,
-            TWO_SENDERS,
-            two.as_str(),
-            "110",
-            b"HORIZON 110\nTX 20 1\n"
-        )?
-    );
-    assert!(rt;
-        sees(
-            &rt,
-            TWO_SENDERS,
-            two.as_str(),
-            "111",
-            b"HORIZON 111\nTX 20 1\nTX 110 2\n"
-        )?
-    );
-    let refused = TWO_SENDERS.replace(rt.alloc(), "TI 1000", "TI 1031")?;
-    let late = b"HORIZON 2000\nTX 20 1\nTX 110 2\nTX 1051 1\nTX 1141 2\n";
-    assert!(rt; sees(&rt, refused.as_str(), two.as_str(), "2000", late)?);
-    let uneven = "MESSAGES 1\nMSG 1 : 0000 0001\nMSG 2 : 00FF\nMSG 1 : 0000 0001\n";
-    let seen = b"HORIZON 3000\nTX 20 1\nTX 110 2\nTX 1170 1\n";
-    assert!(rt; sees(&rt, LONG_GAP, uneven, "3000", seen)?);
-    Ok(())
-}
-
-#[test]
-fn starts_of_a_periodic_table_that_collide(rt: HostRuntime) -> Result<(), Fail> {
-    let two = rounds(&rt, (2, 30), (2, 30))?;
-    let table = TWO_PERIODIC_SENDERS.replace(rt.alloc(), "AT 90", "AT 0")?;
-    let together = b"HORIZON 2001\nTX 0 1\nTX 0 2\nTX 2000 1\nTX 2000 2\n";
-    assert!(rt; sees(&rt, table.as_str(), two.as_str(), "2001", together)?);
-    Ok(())
-}
-
-#[test]
-fn marks_of_messages_that_collide(rt: HostRuntime) -> Result<(), Fail> {
-    let two = rounds(&rt, (2, 30), (2, 30))?;
-    let table = TWO_PERIODIC_SENDERS.replace(rt.alloc(), "AT 90", "AT 0")?;
-    let ran = observe(&rt, table.as_str(), two.as_str(), "2001")?;
-    let mut ends = Vec::new(rt.alloc());
-    for line in ran.out.bytes().split(|byte| *byte == b'\n') {
-        if line.starts_with(b"TE") {
-            ends.extend_from_slice(line)?;
-            ends.push(b'\n')?;
-        }
-    }
-    let marked = b"TE 60 C\nTE 620 C\nTE 2060 C\nTE 2620 C\n";
-    assert_eq!(rt; ends.as_slice(), marked.as_slice());
-    Ok(())
-}
-
 #[test]
 fn horizons_that_are_none(rt: HostRuntime) -> Result<(), Fail> {
     for horizon in ["01", "1099511627777", "", "-1", "1.0"] {
         let ran = observe(&rt, "", ONE_EACH, horizon)?;
         assert!(rt; is_refused(&ran, Status::Usage, "ERROR 2 usage\n"));
     }
-    Ok(())
-}
-
-#[test]
-fn the_order_of_refusals(rt: HostRuntime) -> Result<(), Fail> {
-    let stranger = observe(&rt, LONG_GAP, "MESSAGES 1\nMSG 3 : 0000\n", "150")?;
-    assert!(rt;
-        is_refused(
-            &stranger,
-            Status::InputRefused,
-            "ERROR 4 messages item 1 Stranger\n"
-        )
-    );
-    let shape = observe(&rt, LONG_GAP, "MESSAGES 1\nMSG 1 : 0000\n", "150")?;
-    assert!(rt;
-        is_refused(
-            &shape,
-            Status::InputRefused,
-            "ERROR 4 messages item 1 Shape\n"
-        )
-    );
-    let messages = observe(&rt, LONG_GAP, "MESSAGES 1\nMSG 1 0000\n", "150")?;
-    assert!(rt;
-        is_refused(
-            &messages,
-            Status::InputRefused,
-            "ERROR 4 messages line 2 Fields\n"
-        )
-    );
-    let table = observe(&rt, "TABLE 2\n", "MESSAGES 1\nMSG 1 0000\n", "150")?;
-    assert!(rt;
-        is_refused(
-            &table,
-            Status::TableRefused,
-            "ERROR 3 table line 1 Fields\n"
-        )
-    );
     Ok(())
 }
 

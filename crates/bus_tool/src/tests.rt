@@ -129,101 +129,6 @@ fn aperiodic_verdicts(rt: HostRuntime) -> Result<(), Fail> {
 }
 
 #[test]
-fn periodic_verdicts(rt: HostRuntime) -> Result<(), Fail> {
-    let table = TWO_PERIODIC_SENDERS;
-    assert!(rt; judges(&rt, table, Status::Done, "ACCEPT periodic 2000 2000\n")?);
-    let small = "REFUSE small-gap 2 29 30\n";
-    assert!(rt; changed(&rt, table, "AT 90", "AT 89", Status::Refused, small)?);
-    let negative = "REFUSE small-gap 2 -60 30\n";
-    assert!(rt; changed(&rt, table, "AT 90", "AT 0", Status::Refused, negative)?);
-    let lost = "REFUSE no-sync 1 319 320\n";
-    assert!(rt; changed(&rt, table, "TI 2000", "TI 1029", Status::Refused, lost)?);
-    let tight = "ACCEPT periodic 1030 1030\n";
-    assert!(rt; changed(&rt, table, "TI 2000", "TI 1030", Status::Done, tight)?);
-    Ok(())
-}
-
-#[test]
-fn periodic_verdicts_of_messages_of_different_lengths(rt: HostRuntime) -> Result<(), Fail> {
-    let table = TWO_PERIODIC_SENDERS.replace(rt.alloc(), "1 30 30", "1 30 40")?;
-    let accepted = "ACCEPT periodic 2000 2000\n";
-    assert!(rt; judges(&rt, table.as_str(), Status::Done, accepted)?);
-    let lost = "REFUSE no-sync 1 319 320\n";
-    assert!(rt;
-        changed(
-            &rt,
-            table.as_str(),
-            "TI 2000",
-            "TI 1229",
-            Status::Refused,
-            lost
-        )?
-    );
-    let tight = "ACCEPT periodic 1230 1230\n";
-    assert!(rt;
-        changed(
-            &rt,
-            table.as_str(),
-            "TI 2000",
-            "TI 1230",
-            Status::Done,
-            tight
-        )?
-    );
-    let small = "REFUSE small-gap 2 10 30\n";
-    assert!(rt;
-        changed(
-            &rt,
-            table.as_str(),
-            "1 2 2",
-            "1 2 3",
-            Status::Refused,
-            small
-        )?
-    );
-    Ok(())
-}
-
-/// Whether `check` refuses the table of two senders, with one text in place of another.
-fn refuses(rt: &HostRuntime, from: &str, to: &str, line: &str) -> Result<bool, Fail> {
-    let table = TWO_SENDERS.replace(rt.alloc(), from, to)?;
-    let ran = run_on(rt, &["check", "T"], table.as_str(), "")?;
-    Ok(is_refused(&ran, Status::TableRefused, line))
-}
-
-#[test]
-fn tables_that_are_refused(rt: HostRuntime) -> Result<(), Fail> {
-    assert!(rt; refuses(&rt, "SG 300", "SG 30", "ERROR 3 table GapNotShort 2\n")?);
-    assert!(rt; refuses(&rt, TWO_SENDERS, "", "ERROR 3 table line 1 Ended\n")?);
-    assert!(rt; refuses(&rt, "TI 1000", "TI 999", "ERROR 3 table line 3 Range\n")?);
-    assert!(rt;
-        refuses(
-            &rt,
-            "TI 1000",
-            "TI 01000",
-            "ERROR 3 table line 3 Spelling\n"
-        )?
-    );
-    assert!(rt;
-        refuses(
-            &rt,
-            "SEND 0B2 1",
-            "SEND 0A1 1",
-            "ERROR 3 table PairTwice 0A1 1\n"
-        )?
-    );
-    assert!(rt;
-        refuses(
-            &rt,
-            "aperiodic",
-            "periodic",
-            "ERROR 3 table line 5 Fields\n"
-        )?
-    );
-    Ok(())
-}
-
-#[test]
 fn a_text_at_its_limit_and_past_it(rt: HostRuntime) -> Result<(), Fail> {
     let past = source(&rt, &vec![in rt.alloc(); b'#'; 8_388_609]?)?;
     let past = run_over(
@@ -260,26 +165,5 @@ fn words_that_are_no_form(rt: HostRuntime) -> Result<(), Fail> {
         let ran = run_on(&rt, words, TWO_SENDERS, "")?;
         assert!(rt; is_refused(&ran, Status::Usage, "ERROR 2 usage\n"));
     }
-    Ok(())
-}
-
-#[test]
-fn a_failed_read_and_a_failed_write(rt: HostRuntime) -> Result<(), Fail> {
-    let text = TWO_SENDERS.as_bytes().to_vec(rt.alloc())?;
-    let first = MemorySource::new(text, 16, [2u64].to_vec(rt.alloc())?);
-    let ran = run_over(
-        &rt,
-        &["check", "T"],
-        first,
-        source(&rt, b"")?,
-        sink_of(&rt, 200)?,
-    )?;
-    assert!(rt; is_refused(&ran, Status::ReadFault, "ERROR 5 read 1\n"));
-    let first = source(&rt, TWO_SENDERS.as_bytes())?;
-    let out = MemorySink::new(rt.alloc(), 200, 10, [1u64].to_vec(rt.alloc())?)?;
-    let ran = run_over(&rt, &["check", "T"], first, source(&rt, b"")?, out)?;
-    assert_eq!(rt; ran.status, Status::WriteFault);
-    assert_eq!(rt; ran.out.bytes(), b"ACCEPT ape".as_slice());
-    assert_eq!(rt; ran.err.bytes(), b"ERROR 6 write\n".as_slice());
     Ok(())
 }
