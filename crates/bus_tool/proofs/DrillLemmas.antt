@@ -1,5 +1,5 @@
 -- A drill of its steps.
-use Rattle.std.specs.Prelude.{◌≡◌, ℕ, ◌+◌, ◌*◌, ◌<◌, ◌≤◌, Bool, true, false, ◌&&◌, ◌==◌, nat_le, IsTrue, List, [], ◌∷◌, length, map, Result, Ok, Err, IfErr, IsErrAnd}
+use Rattle.std.specs.Prelude.{◌≡◌, ℕ, ◌+◌, ◌*◌, ◌<◌, ◌≤◌, Bool, true, false, ◌&&◌, ◌==◌, nat_le, List, [], ◌∷◌, length, map, Result, Ok, Err, IfErr, IsErrAnd}
 use Rattle.std.proofs.Common.{arith, refl, sym, ap, ◌∙◌, subst, zero, suc, ◌-◌}
 use Rattle.std.specs.List.{list_all, range_with_len, AllByRecursion}
 use Rattle.std.proofs.Math.Nat.{mul-le-mul_left, mul-le-mul_right}
@@ -10,7 +10,7 @@ use Rattle.bus_outer.specs.Sinks.{WritesText}
 use Rattle.bus_outer.specs.declared.sink.Sink.{Ghosts as SinkGhosts}
 use Rattle.bus_outer.specs.declared.sink.WriteFault.{WriteFault as Fault}
 use Rattle.bus_strings.specs.Items.{Item}
-use Rattle.bus_table.specs.Hands.{message_of, items_of, hand_of, hands_of, are_hands, GiveHands}
+use Rattle.bus_table.specs.Hands.{message_of, items_of, hand_of, hands_of, are_hands}
 use Rattle.bus_table.specs.Tables.{Sender, Table, Hand}
 use Rattle.bus_regime.specs.Verdicts.{most_cycle, verdict_of, is_accepted}
 use Rattle.bus_schedule.specs.declared.error.ScheduleError.{ScheduleError}
@@ -31,7 +31,7 @@ use Rattle.bus_tool.specs.declared.outcome.Outcome.TheVariants.{Done, NoMemory}
 use Rattle.bus_tool.specs.Outside.{Seen, Sources, around, sink_seen}
 use Rattle.bus_tool.specs.Due.{schedule_refusal}
 use Rattle.bus_tool.specs.Drills.{drill_hands, drill_list, garbled_count, IsDrilled, figures, line_of, drill_line}
-use Rattle.bus_tool.specs.DrillLaws.{longest_drill, IsDrillable, DrillsAreAccepted}
+use Rattle.bus_tool.specs.DrillLaws.{IsDrillable, DrillsAreAccepted}
 use Rattle.bus_tool.specs.Acts.{written, DoesForm}
 use Rattle.bus_tool.proofs.LawTypes.{FittingItemsGiveHands}
 

@@ -31,6 +31,7 @@ pub mod ClaimLemmas
 pub mod ToldLemmas
 pub mod ReadLemmas
 pub mod TraceReads
+pub mod OwnLemmas
 pub mod RunReads
 pub mod CheckClaim
 pub mod TidyClaim

@@ -8,7 +8,7 @@ use Rattle.bus_tool.specs.declared.outcome.Outcome.TheVariants.{NoMemory}
 use Rattle.bus_tool.specs.Kinds.{Kind, NoForm, NotRead, TooMuch, Wrong, Late, NotWritten, NoRoom, Answer, kind_of}
 use Rattle.bus_tool.specs.Stages.{stage_in, GivesStop, Gives, refusal_in}
 use Rattle.bus_tool.specs.Outside.{Seen, Sources, both}
-use Rattle.bus_tool.specs.Readers.{Reader, Named, one_source, two_sources, told, Within, Past, Judged, ReadsBy, Reads, reach_at, reach}
+use Rattle.bus_tool.specs.Readers.{Reader, Named, one_source, two_sources, told, Broken, Past, Judged, ReadsBy, Reads, reach_at, reach}
 use Rattle.bus_tool.specs.Steps.{StopsAt, Takes, StopsFirst, IsLate, Prepares}
 use Rattle.bus_tool.proofs.StageLemmas.{if_map, stop_early, late_early, gives_then, gives_first, gives_past, no_refusal, refused_first, due_first, second_alone, late_alone}
 use Rattle.bus_tool.proofs.ReachLemmas.{untouched, nothing_within, reads_own, reads_before, reads_late, first_counts, second_counts, late_counts}
@@ -45,7 +45,7 @@ prepares_one IsOf reader made old new second (Err o) t = record {
 -- the second source isn't pulled where the first step stopped
 unpulled : (k : Kind) (reader : Reader) (second : Seen) → StopsAt 1 k → Reads (Some reader) (reach 2 k) second second
 unpulled NoForm reader second h = absurd h
-unpulled (NotRead source) reader second h = subst (λ n. ReadsBy reader (reach_at 2 n Within) second second) (sym h) (untouched reader second)
+unpulled (NotRead source) reader second h = subst (λ n. ReadsBy reader (reach_at 2 n Broken) second second) (sym h) (untouched reader second)
 unpulled (TooMuch source) reader second h = subst (λ n. ReadsBy reader (reach_at 2 n Past) second second) (sym h) (untouched reader second)
 unpulled (Wrong source) reader second h = subst (λ n. ReadsBy reader (reach_at 2 n Judged) second second) (sym h) (untouched reader second)
 unpulled Late reader second h = absurd h

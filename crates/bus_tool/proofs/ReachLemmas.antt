@@ -6,7 +6,7 @@ use Rattle.bus_outer.specs.Sources.{Taken}
 use Rattle.bus_trace.specs.Traces.{text_in}
 use Rattle.bus_tool.specs.Kinds.{Kind, NoForm, NotRead, TooMuch, Wrong, Late, NotWritten, NoRoom, Answer}
 use Rattle.bus_tool.specs.Outside.{Seen, Sources, both, Stays, BothStay}
-use Rattle.bus_tool.specs.Readers.{Reader, Entire, Trace, Named, Reach, Untouched, Within, Past, Judged, ReadsBy, Reads, reach_at, reach, First, Second, SourceCounts, OutCounts}
+use Rattle.bus_tool.specs.Readers.{Reader, Entire, Trace, Named, Reach, Untouched, Broken, Within, Past, Judged, ReadsBy, Reads, reach_at, reach, First, Second, SourceCounts, OutCounts}
 use Rattle.bus_tool.specs.Steps.{stopped_at, StopsAt, StepCounts, IsEarly, IsLate}
 
 -- at its own stage
@@ -18,7 +18,7 @@ here number stage r h =
 
 own_reach : (number : ℕ) (k : Kind) → StopsAt number k → reach number k ≡ stopped_at k
 own_reach number NoForm h = absurd h
-own_reach number (NotRead source) h = here number source Within h
+own_reach number (NotRead source) h = here number source Broken h
 own_reach number (TooMuch source) h = here number source Past h
 own_reach number (Wrong source) h = here number source Judged h
 own_reach number Late h = absurd h
@@ -52,7 +52,7 @@ judged_within Trace old new r = elim r [ inl whole ↦ (text_in whole.1.format w
 -- the first, where the second step stopped
 pub reads_before : (reader : Reader) (k : Kind) (old new : Seen) → StopsAt 2 k → ReadsBy reader Judged old new → ReadsBy reader (reach 1 k) old new
 reads_before reader NoForm old new h r = absurd h
-reads_before reader (NotRead source) old new h r = subst (λ n. ReadsBy reader (reach_at 1 n Within) old new) (sym h) r
+reads_before reader (NotRead source) old new h r = subst (λ n. ReadsBy reader (reach_at 1 n Broken) old new) (sym h) r
 reads_before reader (TooMuch source) old new h r = subst (λ n. ReadsBy reader (reach_at 1 n Past) old new) (sym h) r
 reads_before reader (Wrong source) old new h r = subst (λ n. ReadsBy reader (reach_at 1 n Judged) old new) (sym h) r
 reads_before reader Late old new h r = absurd h

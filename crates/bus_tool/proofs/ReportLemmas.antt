@@ -1,24 +1,21 @@
 -- `report` of its steps.
 use Rattle.std.specs.Prelude.{◌≡◌, ℕ, ◌≤◌, List, Result, Ok, Err, IsErrAnd}
-use Rattle.std.proofs.Common.{arith, refl, sym, ap, ◌∙◌, subst}
+use Rattle.std.proofs.Common.{arith, sym, ap, ◌∙◌, subst}
 use Rattle.std.specs.Prelude.{string_bytes}
 use Rattle.bus_outer.specs.Sinks.{WritesText}
 use Rattle.bus_outer.specs.declared.sink.Sink.{Ghosts as SinkGhosts}
 use Rattle.bus_outer.specs.declared.sink.WriteFault.{WriteFault as Fault}
-use Rattle.bus_table.specs.Tables.{Table}
 use Rattle.bus_regime.specs.Verdicts.{verdict_of}
 use Rattle.bus_tool.specs.declared.forms.Form.TheVariants as forms
 use Rattle.bus_tool.specs.declared.outcome.Outcome.{Outcome}
 use Rattle.bus_tool.specs.declared.outcome.Outcome.TheVariants.{NoMemory}
 use Rattle.bus_tool.specs.declared.report.TableReport.{TableReport}
-use Rattle.bus_tool.specs.Kinds.{Answer, kind_of}
 use Rattle.bus_tool.specs.Stages.{stage_in}
 use Rattle.bus_tool.specs.Outside.{Seen, both, around, sink_seen}
 use Rattle.bus_tool.specs.Readers.{Reader, entire, one_source}
 use Rattle.bus_tool.specs.Steps.{Takes, Same}
 use Rattle.bus_tool.specs.Due.{table_due, table_refusal_of, verdict_outcome}
 use Rattle.bus_tool.specs.Texts.{IsReportText}
-use Rattle.bus_tool.specs.Reports.{report_text}
 use Rattle.bus_tool.specs.ReportData.{IsReported}
 use Rattle.bus_tool.specs.Acts.{written, DoesForm}
 use Rattle.bus_tool.proofs.StageLemmas.{if_map}

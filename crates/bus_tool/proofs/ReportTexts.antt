@@ -1,14 +1,13 @@
 -- The text of the JSON value is the text of the report.
-use Rattle.std.proofs.Common.{arith, ◌≡◌, ℕ, ◌+◌, ◌<◌, length, take, get_or, Some, Bool, true, false, ◌||◌, List, [], ◌∷◌, ◌++◌, map, codes, refl, sym, ap, ◌∙◌, append_assoc, append-nil}
+use Rattle.std.proofs.Common.{arith, ◌≡◌, ℕ, ◌+◌, ◌<◌, length, take, get_or, Some, true, false, ◌||◌, List, [], ◌∷◌, ◌++◌, map, codes, refl, sym, ap, ◌∙◌, append_assoc, append-nil}
 use Rattle.std.specs.Prelude.{decimal, flat_map, slice_get}
 use Rattle.std.proofs.lemmas.List.{take_more, map-append, take_all}
 use Rattle.std.proofs.lemmas.Option.{get_or_from_slice_get}
-use Rattle.std.specs.List.{join_with_byte}
-use Rattle.serde_json.specs.Data.{Data, array, Items, no_items, item}
+use Rattle.serde_json.specs.Data.{Data}
 use Rattle.serde_json.specs.View.{items_of, view}
 use Rattle.serde_json.specs.declared.value.Value.{Value}
 use Rattle.serde_json.specs.Written.{compact_text, items_text, has_float, items_have_float}
-use Rattle.json.specs.Print.{escape_byte, escape, quoted}
+use Rattle.json.specs.Print.{escape_byte, escape}
 use Rattle.bus_table.specs.Lengths.{shortest, longest}
 use Rattle.bus_table.specs.Tables.{Sender, Table}
 use Rattle.bus_table.specs.Turns.{turn_key, turn_order}
@@ -17,7 +16,7 @@ use Rattle.bus_regime.specs.Lines.{mode_name, verdict_words}
 use Rattle.bus_regime.specs.Verdicts.{verdict_of}
 use Rattle.bus_tool.specs.Escapes.{are_plain}
 use Rattle.bus_tool.specs.Reports.{sender_text, senders_text, report_text}
-use Rattle.bus_tool.specs.ReportData.{sender_data, data_of, report_data}
+use Rattle.bus_tool.specs.ReportData.{sender_data, report_data}
 use Rattle.bus_tool.proofs.EscapeLemmas.{stays, mode_plain}
 
 -- ---- a sender

@@ -1,7 +1,6 @@
 -- What is made of a table text and a trace text.
-use Rattle.std.specs.Prelude.{◌≡◌, ℕ, ◌≤◌, nat_lt, Bool, true, false, List, length, take, IfSome, Result, Ok, Err, IsErrAnd}
+use Rattle.std.specs.Prelude.{◌≡◌, ℕ, ◌≤◌, List, IfSome, Result, Ok, Err, IsErrAnd}
 use Rattle.std.proofs.Common.{arith, refl, sym, ap, ◌∙◌, subst, inl, inr}
-use Rattle.std.proofs.lemmas.Bool.Decides.{nat_tests}
 use Rattle.std.proofs.lemmas.Result.{err_from_is_err_and}
 use Rattle.bus_text.specs.AllOf.{◌>>=◌}
 use Rattle.bus_table.specs.Tables.{Table}
@@ -9,7 +8,7 @@ use Rattle.bus_trace.specs.declared.fault.TraceError.{TraceError}
 use Rattle.bus_trace.specs.declared.fault.TraceError.TheVariants.{Text, ReadFault, TooLarge, Memory}
 use Rattle.bus_trace.specs.Traces.{Recording}
 use Rattle.bus_trace.specs.Limits.{text_limit as trace_limit}
-use Rattle.bus_trace.specs.Runs.{Standing, Progress, Going, Found, Refused, Over, begin, run, due_by, due, reading}
+use Rattle.bus_trace.specs.Runs.{reading}
 use Rattle.bus_trace.specs.Reading.{TakesTrace, ReadGives, CountsReading}
 use Rattle.bus_tool.specs.declared.inputs.Traced.{Traced as Taken}
 use Rattle.bus_tool.specs.declared.outcome.Outcome.{Outcome}
@@ -31,18 +30,6 @@ reading_stage (Err ReadFault) = omega arith
 reading_stage (Err TooLarge) = omega arith
 reading_stage (Err Memory) = omega arith
 
--- a stream that goes on is within the limit
-going_within : (longer : Bool) (p : Progress) (at : Standing) → due_by longer p ≡ Going at → longer ≡ false
-going_within false p at h = refl
-going_within true (Going r) at h = absurd cc
-going_within true (Found s) at h = absurd cc
-going_within true (Refused byte reason) at h = absurd cc
-going_within true Over at h = absurd cc
-
-short_stream : (stream : List ℕ) (at : Standing) → due trace_limit stream ≡ Going at → length stream ≤ trace_limit
-unfolding due
-short_stream stream at h = (let short = going_within (nat_lt trace_limit (length stream)) (run begin (take trace_limit stream)) at h in grind (arith, nat_tests))
-
 -- ---- the second text
 pub trace_taken : (old new : Seen) (trace : Recording) → TakesTrace old.bytes new.bytes (Ok trace) → IfSome old.bytes (λ stream. ReadGives (Ok trace) (reading trace_limit stream)) → new.faults ≡ old.faults
     → Takes Same 2 Trace trace_due old new (Ok trace)
@@ -63,7 +50,7 @@ trace_refused old new (Text byte reason) t g counts = record {
 }
 trace_refused old new ReadFault t g counts = record {
   gives = if_map old.bytes _ _ (λ stream is. reading_stage (reading trace_limit stream)) g;
-  reads = (t.bytes, t.came, short_stream t.bytes t.known.0 t.known.1);
+  reads = t;
   stops = refl;
   counts = counts;
 }

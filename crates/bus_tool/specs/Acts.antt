@@ -11,6 +11,7 @@ use Rattle.bus_tool.specs.Kinds.{Kind, NoForm, NotRead, TooMuch, Wrong, Late, No
 use Rattle.bus_tool.specs.Stages.{StandsFor}
 use Rattle.bus_tool.specs.Outside.{Outside, Call}
 use Rattle.bus_tool.specs.Readers.{Named, told, OfTexts, Reads, reach, SourceCounts, OutCounts}
+use Rattle.bus_tool.specs.Own.{IsOwn}
 use Rattle.bus_tool.specs.Steps.{IsRefused, IsDueFirst}
 use Rattle.bus_tool.specs.Due.{first_refusal, form_due}
 use Rattle.bus_tool.specs.Texts.{IsFormText}
@@ -73,12 +74,15 @@ DoesForm form before after outcome = Does (sources_of form) (first_refusal form)
 --   does       else it did what the form asks for
 --   caused     an outcome that refuses a text has its cause
 --   first      one that refuses the first text has it also where the second source tells nothing
+--   own        it is one of the form's own, also where the sources tell nothing; one that refuses the second text has its cause also where
+--              the first source tells nothing
 pub record Acts (call : Call) (outcome : Outcome) : Type 0 where
   pub usage : (outcome ≡ Usage) ↔ IsNone (form_of call.words)
   pub nothing : IfNone (form_of call.words) (call.after ≡ call.before)
   pub does : IfSome (form_of call.words) (λ form. DoesForm form call.before call.after outcome)
   pub caused : HasTextCause call.words call.before.sources outcome
   pub first : HasFirstCause call.words call.before.sources outcome
+  pub own : IfSome (form_of call.words) (λ form. IsOwn form call.before.sources.second.bytes outcome)
 
 -- What `err` holds: the line of the outcome, or a beginning of it where the count of `err` rose.
 abbrev pub TellsFault : {K : Type 0} → (K → Option (List ℕ)) → (K → ℕ) → K → K → Outcome → Type 0

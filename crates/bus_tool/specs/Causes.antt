@@ -51,6 +51,14 @@ IsNoMessagesText text = (items : List Item) → IsMessagesText items text → �
 abbrev pub IsNoTraceText : List ℕ → Type 0
 IsNoTraceText text = (trace : Recording) → HoldsTrace trace_limit text trace → ⊥
 
+-- items have the text, of which this is the first that doesn't fit some valid table
+pub record IsUnfitIn (error : FitError) (text : List ℕ) : Type 0 where
+  pub table : Table
+  pub items : List Item
+  pub valid : IsTrue (is_valid table)
+  pub items_stand : IsMessagesText items text
+  pub why : items_fit table items ≡ Err error
+
 -- a valid table has the first text, and items have the second, of which this is the first that doesn't fit the table
 pub record IsUnfitText (error : FitError) (first second : List ℕ) : Type 0 where
   pub table : Table

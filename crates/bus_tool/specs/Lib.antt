@@ -16,6 +16,7 @@ pub mod Texts
 pub mod Steps
 pub mod Taken
 pub mod Causes
+pub mod Own
 pub mod Acts
 pub mod Answers
 pub mod Claims

@@ -4,7 +4,7 @@
 use Rattle.std.specs.Prelude.{◌≡◌, ℕ, ◌+◌, ◌≤◌, ◌<◌, nat_lt, List, [], Option, Some, None, IfSome, IsSome, Ok, Err, ◌⊎◌}
 use Rattle.std.specs.Prelude.{if◌then◌else◌}
 use Rattle.bus_outer.specs.Sources.{TakesSome, most_piece}
-use Rattle.bus_trace.specs.declared.fault.TraceError.TheVariants.{Text, TooLarge}
+use Rattle.bus_trace.specs.declared.fault.TraceError.TheVariants.{Text, ReadFault, TooLarge}
 use Rattle.bus_trace.specs.declared.reason.TraceReason.{TraceReason}
 use Rattle.bus_trace.specs.Traces.{Recording}
 use Rattle.bus_trace.specs.Limits.{text_limit as trace_limit}
@@ -52,10 +52,11 @@ abbrev pub OfTexts : Named → Sources → (List ℕ → List ℕ → Type 0) �
 OfTexts named all P = IfSome (told named.first all.first) (λ first. IfSome (told named.second all.second) (λ second. P first second))
 
 -- ---- how far a source was read
--- Untouched: it wasn't pulled. Within: no byte past the limit was taken. Past: one was, before anything was decided. Judged: it was read as
--- far as its reader goes.
+-- Untouched: it wasn't pulled. Broken: a pull failed, before anything was decided. Within: no byte past the limit was taken. Past: one was,
+-- before anything was decided. Judged: it was read as far as its reader goes.
 pub data Reach : Type 0 where
   Untouched : Reach
+  Broken : Reach
   Within : Reach
   Past : Reach
   Judged : Reach
@@ -69,6 +70,7 @@ TakesDecided old new =
 -- what was taken of a source that is read whole; past its limit no more than one piece is
 abbrev pub ReadsEntire : ℕ → Reach → Seen → Seen → Type 0
 ReadsEntire limit Untouched old new = new ≡ old
+ReadsEntire limit Broken old new = TakesSome old.bytes new.bytes (λ n. n ≤ limit)
 ReadsEntire limit Within old new = TakesSome old.bytes new.bytes (λ n. n ≤ limit)
 ReadsEntire limit Past old new = TakesSome old.bytes new.bytes (λ n. (limit < n) × (n ≤ limit + most_piece))
 ReadsEntire limit Judged old new = TakesSome old.bytes new.bytes (λ n. n ≤ limit) × IfSome new.bytes (λ xs. xs ≡ [])
@@ -76,6 +78,7 @@ ReadsEntire limit Judged old new = TakesSome old.bytes new.bytes (λ n. n ≤ li
 -- what was taken of a source that is read as a trace; past its limit one byte is
 abbrev pub ReadsTrace : Reach → Seen → Seen → Type 0
 ReadsTrace Untouched old new = new ≡ old
+ReadsTrace Broken old new = TakesTrace old.bytes new.bytes (Err ReadFault)
 ReadsTrace Within old new = TakesSome old.bytes new.bytes (λ n. n ≤ trace_limit)
 ReadsTrace Past old new = TakesTrace old.bytes new.bytes (Err TooLarge)
 ReadsTrace Judged old new = TakesDecided old.bytes new.bytes
@@ -97,7 +100,7 @@ reach_at number stop here = if nat_lt stop number then Untouched else (if nat_lt
 -- how far a source was read, by what the command came to; want of memory may come anywhere
 abbrev pub reach : ℕ → Kind → Reach
 reach number NoForm = Untouched
-reach number (NotRead source) = reach_at number source Within
+reach number (NotRead source) = reach_at number source Broken
 reach number (TooMuch source) = reach_at number source Past
 reach number (Wrong source) = reach_at number source Judged
 reach number Late = Judged

@@ -1,7 +1,7 @@
 -- The report of a table as the JSON value that is written.
 use Rattle.std.specs.Prelude.{◌≡◌, ℕ, true, List, map, codes, String, string_bytes}
 use Rattle.std.specs.declared.alloc.Global.{Global}
-use Rattle.serde_json.specs.Data.{Data, number, unsigned, string, array, object, Items, no_items, item, Members, no_members, member}
+use Rattle.serde_json.specs.Data.{Data, number, unsigned, string, array, object, no_members, member}
 use Rattle.serde_json.specs.View.{items_of}
 use Rattle.bus_table.specs.Lengths.{shortest, longest}
 use Rattle.bus_table.specs.Tables.{Sender, Table}

@@ -9,7 +9,7 @@ use Rattle.bus_tool.specs.declared.outcome.Outcome.TheVariants.{ReadFault, NoMem
 use Rattle.bus_tool.specs.Kinds.{Kind, NoForm, NotRead, TooMuch, Wrong, Late, NotWritten, NoRoom, Answer, kind_of}
 use Rattle.bus_tool.specs.Stages.{StandsFor, Gives}
 use Rattle.bus_tool.specs.Outside.{Seen, Sources, Rises, Stays}
-use Rattle.bus_tool.specs.Readers.{Reader, Named, told, OfTexts, Reach, Untouched, Within, Past, Judged, ReadsBy, Reads, reach}
+use Rattle.bus_tool.specs.Readers.{Reader, Named, told, OfTexts, Reach, Untouched, Broken, Within, Past, Judged, ReadsBy, Reads, reach}
 use Rattle.bus_tool.specs.Readers.{SourceCounts}
 
 -- the kind of what a step came to so far, where nothing stops it behind
@@ -27,7 +27,7 @@ read_refusal number Memory = NoMemory
 -- how far the step read its source
 abbrev pub stopped_at : Kind → Reach
 stopped_at NoForm = Untouched
-stopped_at (NotRead source) = Within
+stopped_at (NotRead source) = Broken
 stopped_at (TooMuch source) = Past
 stopped_at (Wrong source) = Judged
 stopped_at Late = Judged

@@ -2,6 +2,7 @@ ghost use Rattle.std.specs.Prelude.{◌≡◌};
 ghost use Rattle.bus_tool.specs.Acts.{DoesForm};
 ghost use Rattle.bus_tool.specs.Due.{verdict_outcome as outcome_of};
 ghost use Rattle.bus_tool.specs.Outside.{Seen, beside};
+ghost use Rattle.bus_tool.specs.Own.{IsOf};
 ghost use Rattle.bus_tool.specs.declared.forms.Form.TheVariants.{Check};
 
 use crate::inputs::take_table;
@@ -25,8 +26,9 @@ pub fn verdict_outcome(verdict: &TableVerdict) -> Outcome
 
 /// `check`: writes the verdict line of the table in the first source.
 pub fn check<S: Source, K: Sink>(alloc: Global, first: &mut S, out: &mut K) -> Outcome
-    ensures { (second : Seen) → DoesForm Check (beside ⟦<S as Source>⟧ ⟦<K as Sink>⟧ first.old second out.old)
+    ensures does { (second : Seen) → DoesForm Check (beside ⟦<S as Source>⟧ ⟦<K as Sink>⟧ first.old second out.old)
         (beside ⟦<S as Source>⟧ ⟦<K as Sink>⟧ first.new second out.new) result }
+    ensures own { IsOf Check result }
 {
     match take_table(alloc, first) {
         Ok(table) => {

@@ -7,6 +7,7 @@ ghost use Rattle.bus_vectors.specs.Made.{most_number};
 ghost use Rattle.bus_tool.specs.Acts.{DoesForm};
 ghost use Rattle.bus_tool.specs.Drills.{garbled_count, IsDrilled, line_of};
 ghost use Rattle.bus_tool.specs.Outside.{Sources, around, sink_seen};
+ghost use Rattle.bus_tool.specs.Own.{IsOf};
 ghost use Rattle.bus_tool.specs.declared.forms.Form.TheVariants.{Drill};
 ghost use Rattle.bus_tool.specs.declared.outcome.Outcome.TheVariants.{NoMemory};
 
@@ -101,8 +102,9 @@ fn write_drill<K: Sink>(drilled: &DrillFigures, sink: &mut K) -> Result<(), Writ
 /// `drill`: runs the input of a number, and writes what was found. It pulls no source.
 pub fn drill<K: Sink>(alloc: Global, number: u32, out: &mut K) -> Outcome
     requires { number ≤ most_number }
-    ensures { (sources : Sources) → DoesForm (Drill number) (around sources (sink_seen ⟦<K as Sink>⟧ out.old))
+    ensures does { (sources : Sources) → DoesForm (Drill number) (around sources (sink_seen ⟦<K as Sink>⟧ out.old))
         (around sources (sink_seen ⟦<K as Sink>⟧ out.new)) result }
+    ensures own { IsOf (Drill number) result }
 {
     match drilled(alloc, number) {
         Ok(drilled) => after_writing(write_drill(&drilled, out), Outcome::Done),

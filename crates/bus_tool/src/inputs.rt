@@ -1,11 +1,12 @@
 //! What the commands take from their sources: a table from the first, and hands from the second.
-ghost use Rattle.std.specs.Prelude.{◌≡◌, ◌≤◌, length, IfOk, IsTrue};
+ghost use Rattle.std.specs.Prelude.{◌≡◌, ◌≤◌, length, IfOk, IfErr, IsTrue};
 ghost use Rattle.std.specs.List.{AllByRecursion};
 ghost use Rattle.bus_table.specs.Hands.{are_hands};
 ghost use Rattle.bus_tool.specs.Due as due;
 ghost use Rattle.bus_tool.specs.Due.{mode_or_refusal, table_in};
 ghost use Rattle.bus_tool.specs.Due.{text_due, table_due, table_refusal_of, items_due, inputs_due, trace_due, traced_due};
 ghost use Rattle.bus_tool.specs.Outside.{source_seen, sources_seen};
+ghost use Rattle.bus_tool.specs.Own.{IsAnyones, IsOfMode, IsOfReader};
 ghost use Rattle.bus_tool.specs.Readers.{text_limit, Trace as ByTrace, entire, two_sources};
 ghost use Rattle.bus_tool.specs.Steps.{read_refusal, Same, IsText, Takes, Prepares};
 ghost use Rattle.bus_tool.specs.Taken.{AreHandsOf, AreReady, AreInputs, AreTraced};
@@ -13,6 +14,7 @@ ghost use Rattle.bus_trace.specs.Traces.{IsTrace};
 
 use crate::outcome::Outcome;
 use bus_outer::{ReadError, Source, read_whole};
+use bus_strings::laws::texts_read_as_their_items;
 use bus_strings::reading::read_messages;
 use bus_table::fit::fits;
 use bus_table::hand::Hand;
@@ -20,6 +22,7 @@ use bus_table::hands;
 use bus_table::mode::Mode;
 use bus_table::reading::read_table;
 use bus_table::table::Table;
+use bus_trace::laws::traces_read_back;
 use bus_trace::{Trace, read_trace};
 use std::alloc::Global;
 
@@ -57,6 +60,7 @@ fn take_text<S: Source>(alloc: Global, number: u8, source: &mut S) -> Result<Vec
     ensures takes { Takes IsText number entire (text_due number)
         (source_seen ⟦<S as Source>⟧ source.old) (source_seen ⟦<S as Source>⟧ source.new) result }
     ensures short { IfOk result (λ text. length text.items ≤ text_limit) }
+    ensures own { IfErr result IsAnyones }
 {
     match read_whole(alloc, source, TEXT_LIMIT) {
         Ok(text) => Ok(text),
@@ -66,7 +70,8 @@ fn take_text<S: Source>(alloc: Global, number: u8, source: &mut S) -> Result<Vec
 
 /// The table in the first source, or why there is none.
 pub fn take_table<S: Source>(alloc: Global, first: &mut S) -> Result<Table, Outcome>
-    ensures { Takes Same 1 entire table_due (source_seen ⟦<S as Source>⟧ first.old) (source_seen ⟦<S as Source>⟧ first.new) result }
+    ensures takes { Takes Same 1 entire table_due (source_seen ⟦<S as Source>⟧ first.old) (source_seen ⟦<S as Source>⟧ first.new) result }
+    ensures own { IfErr result IsAnyones }
 {
     let text = take_text(alloc, 1, first)?;
     let table = read_table(alloc, &text)?;
@@ -103,6 +108,7 @@ pub fn take_table_in<S: Source>(
     ensures takes { Takes Same 1 entire (table_in needed)
         (source_seen ⟦<S as Source>⟧ first.old) (source_seen ⟦<S as Source>⟧ first.new) result }
     ensures mode { IfOk result (λ table. table.mode ≡ needed) }
+    ensures own { IfErr result (IsOfMode needed) }
 {
     let table = take_table(alloc, first)?;
     in_mode(needed, table)
@@ -113,7 +119,11 @@ fn take_hands<S: Source>(alloc: Global, table: &Table, second: &mut S) -> Result
     ensures takes { Takes (AreHandsOf table.now) 2 entire (items_due table.now)
         (source_seen ⟦<S as Source>⟧ second.old) (source_seen ⟦<S as Source>⟧ second.new) result }
     ensures ready { IfOk result (λ hands. AreReady table.now hands.items) }
+    ensures own { IfErr result (IsOfReader entire (S.left second.old)) }
 {
+    texts_read_as_their_items();
+    // A look at the table makes known that it is valid.
+    let _mode = table.mode();
     let text = take_text(alloc, 2, second)?;
     let items = read_messages(alloc, &text)?;
     fits(table, &items)?;
@@ -126,7 +136,9 @@ fn take_trace<S: Source>(alloc: Global, second: &mut S) -> Result<Trace, Outcome
     ensures takes { Takes Same 2 ByTrace trace_due
         (source_seen ⟦<S as Source>⟧ second.old) (source_seen ⟦<S as Source>⟧ second.new) result }
     ensures ranges { IfOk result IsTrace }
+    ensures own { IfErr result (IsOfReader ByTrace (S.left second.old)) }
 {
+    traces_read_back();
     let trace = read_trace(alloc, second)?;
     Ok(trace)
 }
@@ -141,6 +153,7 @@ pub fn take_traced<S: Source>(
     ensures prepares { Prepares AreTraced (two_sources entire ByTrace) table_refusal_of traced_due
         (sources_seen ⟦<S as Source>⟧ first.old second.old) (sources_seen ⟦<S as Source>⟧ first.new second.new) result }
     ensures ranges { IfOk result (λ traced. IsTrace traced.trace) }
+    ensures own { IfErr result (IsOfReader ByTrace (S.left second.old)) }
 {
     let table = take_table(alloc, first)?;
     let trace = take_trace(alloc, second)?;
@@ -157,6 +170,7 @@ pub fn take_inputs<S: Source>(
     ensures prepares { Prepares AreInputs (two_sources entire entire) table_refusal_of inputs_due
         (sources_seen ⟦<S as Source>⟧ first.old second.old) (sources_seen ⟦<S as Source>⟧ first.new second.new) result }
     ensures ready { IfOk result (λ inputs. AreReady inputs.table inputs.hands.items) }
+    ensures own { IfErr result (IsOfReader entire (S.left second.old)) }
 {
     let table = take_table(alloc, first)?;
     let hands = take_hands(alloc, &table, second)?;

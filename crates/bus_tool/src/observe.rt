@@ -1,10 +1,11 @@
-ghost use Rattle.std.specs.Prelude.{◌≡◌, ◌≤◌, ◌<◌, ◌^◌, length, IfOk, IsTrue};
+ghost use Rattle.std.specs.Prelude.{◌≡◌, ◌≤◌, ◌<◌, ◌^◌, length, IfErr, IfOk, IsTrue};
 ghost use Rattle.std.specs.List.{AllByRecursion};
 ghost use Rattle.bus_table.specs.Hands.{are_hands};
 ghost use Rattle.bus_tool.specs.Acts.{DoesForm};
 ghost use Rattle.bus_tool.specs.Due.{table_refusal_of, inputs_due};
 ghost use Rattle.bus_strings.specs.Limits.{horizon_limit};
 ghost use Rattle.bus_tool.specs.Outside.{sources_seen, outside};
+ghost use Rattle.bus_tool.specs.Own.{IsOwn, IsOfReader};
 ghost use Rattle.bus_tool.specs.Readers.{entire, two_sources};
 ghost use Rattle.bus_tool.specs.Steps.{Prepares};
 ghost use Rattle.bus_tool.specs.Taken.{AreReady};
@@ -55,8 +56,9 @@ fn observed<S: Source>(
     second: &mut S,
 ) -> Result<Trace, Outcome>
     requires { horizon ≤ horizon_limit }
-    ensures { Prepares (IsRecordingOf horizon) (two_sources entire entire) table_refusal_of inputs_due
+    ensures prepares { Prepares (IsRecordingOf horizon) (two_sources entire entire) table_refusal_of inputs_due
         (sources_seen ⟦<S as Source>⟧ first.old second.old) (sources_seen ⟦<S as Source>⟧ first.new second.new) result }
+    ensures own { IfErr result (IsOfReader entire (S.left second.old)) }
 {
     let Inputs { table, hands } = take_inputs(alloc, first, second)?;
     let trace = record(alloc, &table, hands, horizon)?;
@@ -72,8 +74,9 @@ pub fn observe<S: Source, K: Sink>(
     out: &mut K,
 ) -> Outcome
     requires { horizon ≤ horizon_limit }
-    ensures { DoesForm (Observe horizon) (outside ⟦<S as Source>⟧ ⟦<K as Sink>⟧ first.old second.old out.old)
+    ensures does { DoesForm (Observe horizon) (outside ⟦<S as Source>⟧ ⟦<K as Sink>⟧ first.old second.old out.old)
         (outside ⟦<S as Source>⟧ ⟦<K as Sink>⟧ first.new second.new out.new) result }
+    ensures own { IsOwn (Observe horizon) (S.left second.old) result }
 {
     match observed(alloc, horizon, first, second) {
         Ok(trace) => after_writing(write_trace(&trace, out), Outcome::Done),

@@ -1,10 +1,11 @@
-ghost use Rattle.std.specs.Prelude.{◌≡◌};
+ghost use Rattle.std.specs.Prelude.{◌≡◌, IfErr};
 ghost use Rattle.bus_outer.specs.Sinks.{WritesText};
 ghost use Rattle.bus_outer.specs.Texts.{Adds};
 ghost use Rattle.bus_table.specs.declared.mode.Mode.TheVariants.{Periodic};
 ghost use Rattle.bus_tool.specs.Acts.{DoesForm};
 ghost use Rattle.bus_tool.specs.Due.{plan_outcome as outcome_of, table_in, refusal_of_mode};
 ghost use Rattle.bus_tool.specs.Outside.{Seen, beside, both, source_seen};
+ghost use Rattle.bus_tool.specs.Own.{IsOf, IsOfMode};
 ghost use Rattle.bus_tool.specs.PlanTexts.{infeasible_line, plan_text};
 ghost use Rattle.bus_tool.specs.Readers.{entire, one_source};
 ghost use Rattle.bus_tool.specs.Steps.{Prepares};
@@ -62,8 +63,9 @@ fn write_plan<K: Sink>(answer: &PlanAnswer, sink: &mut K) -> Result<(), WriteFau
 
 /// What the planner answers to the table in the first source, or why it isn't asked. All the memory of the command is taken here.
 fn planned<S: Source>(alloc: Global, first: &mut S) -> Result<PlanAnswer, Outcome>
-    ensures { (second : Seen) → Prepares IsPlanOf (one_source entire) (refusal_of_mode Periodic) (λ text _. table_in Periodic text)
+    ensures prepares { (second : Seen) → Prepares IsPlanOf (one_source entire) (refusal_of_mode Periodic) (λ text _. table_in Periodic text)
         (both (source_seen ⟦<S as Source>⟧ first.old) second) (both (source_seen ⟦<S as Source>⟧ first.new) second) result }
+    ensures own { IfErr result (IsOfMode Periodic) }
 {
     let table = take_table_in(alloc, Mode::Periodic, first)?;
     let answer = bus_plan::plan(alloc, &table)?;
@@ -73,8 +75,9 @@ fn planned<S: Source>(alloc: Global, first: &mut S) -> Result<PlanAnswer, Outcom
 /// `plan`: chooses the offsets of the periodic table in the first source anew, and writes the planned table, or that no offsets are
 /// accepted.
 pub fn plan<S: Source, K: Sink>(alloc: Global, first: &mut S, out: &mut K) -> Outcome
-    ensures { (second : Seen) → DoesForm Plan (beside ⟦<S as Source>⟧ ⟦<K as Sink>⟧ first.old second out.old)
+    ensures does { (second : Seen) → DoesForm Plan (beside ⟦<S as Source>⟧ ⟦<K as Sink>⟧ first.old second out.old)
         (beside ⟦<S as Source>⟧ ⟦<K as Sink>⟧ first.new second out.new) result }
+    ensures own { IsOf Plan result }
 {
     match planned(alloc, first) {
         Ok(answer) => after_writing(write_plan(&answer, out), plan_outcome(&answer)),

@@ -1,6 +1,7 @@
 ghost use Rattle.std.specs.Prelude.{◌≡◌};
 ghost use Rattle.bus_tool.specs.Acts.{DoesForm};
 ghost use Rattle.bus_tool.specs.Outside.{outside};
+ghost use Rattle.bus_tool.specs.Own.{IsOwn};
 ghost use Rattle.bus_tool.specs.declared.forms.Form.TheVariants.{Receive};
 
 use crate::inputs::{Traced, take_traced};
@@ -17,8 +18,9 @@ pub fn receive<S: Source, K: Sink>(
     second: &mut S,
     out: &mut K,
 ) -> Outcome
-    ensures { DoesForm Receive (outside ⟦<S as Source>⟧ ⟦<K as Sink>⟧ first.old second.old out.old)
+    ensures does { DoesForm Receive (outside ⟦<S as Source>⟧ ⟦<K as Sink>⟧ first.old second.old out.old)
         (outside ⟦<S as Source>⟧ ⟦<K as Sink>⟧ first.new second.new out.new) result }
+    ensures own { IsOwn Receive (S.left second.old) result }
 {
     match take_traced(alloc, first, second) {
         Ok(Traced { table, trace }) => {

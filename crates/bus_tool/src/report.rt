@@ -1,5 +1,5 @@
 //! The report of a table: its verdict and its figures as JSON.
-ghost use Rattle.std.specs.Prelude.{◌≡◌, ◌++◌, IfOk, codes, false, map, string_bytes};
+ghost use Rattle.std.specs.Prelude.{◌≡◌, ◌++◌, IfErr, IfOk, codes, false, map, string_bytes};
 ghost use Rattle.serde_json.specs.View.{view};
 ghost use Rattle.serde_json.specs.Written.{compact_text, has_float};
 ghost use Rattle.bus_table.specs.Turns.{turn_order};
@@ -9,6 +9,7 @@ ghost use Rattle.bus_regime.specs.declared.table_verdict.TableVerdict.TheVariant
 ghost use Rattle.bus_tool.specs.Acts.{DoesForm};
 ghost use Rattle.bus_tool.specs.Due.{table_due};
 ghost use Rattle.bus_tool.specs.Outside.{Seen, source_seen, beside};
+ghost use Rattle.bus_tool.specs.Own.{IsOf, IsAnyones};
 ghost use Rattle.bus_tool.specs.Readers.{entire};
 ghost use Rattle.bus_tool.specs.ReportData.{sender_data, report_data, IsLine, ArePlainWords, IsReported};
 ghost use Rattle.bus_tool.specs.Reports as reports;
@@ -154,7 +155,8 @@ fn report_text(alloc: Global, table: &Table) -> Result<String, AllocError>
 
 /// The report of the table in the first source, or why there is none. All the memory of the command is taken here.
 fn reported<S: Source>(alloc: Global, first: &mut S) -> Result<TableReport, Outcome>
-    ensures { Takes IsReported 1 entire table_due (source_seen ⟦<S as Source>⟧ first.old) (source_seen ⟦<S as Source>⟧ first.new) result }
+    ensures takes { Takes IsReported 1 entire table_due (source_seen ⟦<S as Source>⟧ first.old) (source_seen ⟦<S as Source>⟧ first.new) result }
+    ensures own { IfErr result IsAnyones }
 {
     let table = take_table(alloc, first)?;
     let text = report_text(alloc, &table)?;
@@ -166,8 +168,9 @@ fn reported<S: Source>(alloc: Global, first: &mut S) -> Result<TableReport, Outc
 
 /// `report`: writes the report of the table in the first source.
 pub fn report<S: Source, K: Sink>(alloc: Global, first: &mut S, out: &mut K) -> Outcome
-    ensures { (second : Seen) → DoesForm forms.Report (beside ⟦<S as Source>⟧ ⟦<K as Sink>⟧ first.old second out.old)
+    ensures does { (second : Seen) → DoesForm forms.Report (beside ⟦<S as Source>⟧ ⟦<K as Sink>⟧ first.old second out.old)
         (beside ⟦<S as Source>⟧ ⟦<K as Sink>⟧ first.new second out.new) result }
+    ensures own { IsOf forms.Report result }
 {
     match reported(alloc, first) {
         Ok(report) => after_writing(

@@ -5,6 +5,7 @@ ghost use Rattle.bus_schedule.specs.Even.{are_even};
 ghost use Rattle.bus_tool.specs.Acts.{DoesForm};
 ghost use Rattle.bus_tool.specs.Due.{may_run as may_run_due, can_run, table_refusal_of, run_due};
 ghost use Rattle.bus_tool.specs.Outside.{sources_seen, outside};
+ghost use Rattle.bus_tool.specs.Own.{IsOwn, IsOf};
 ghost use Rattle.bus_tool.specs.Readers.{entire, two_sources};
 ghost use Rattle.bus_tool.specs.Kinds.{kind_of};
 ghost use Rattle.bus_tool.specs.Stages.{Gives};
@@ -36,6 +37,7 @@ fn may_run(table: &Table, hands: &[Hand]) -> Result<(), Outcome>
     ensures value { result ≡ may_run_due table.now hands.now }
     ensures even { IfOk result (λ _. IsTrue (are_even table.now hands.now)) }
     ensures accepted { IfOk result (λ _. IsTrue (is_accepted (verdict_of table.now))) }
+    ensures own { IfErr result (IsOf Run) }
 {
     if let Some(uneven) = find_uneven(table, hands) {
         return Err(Outcome::from(uneven));
@@ -52,6 +54,7 @@ fn record(alloc: Global, table: &Table, hands: Vec<Hand>) -> Result<Trace, Outco
     requires ready { AreReady table.now hands.items }
     ensures gives { Gives (λ trace _. IsRunRecording table.now hands.items trace) result (can_run table.now hands.items) }
     ensures late { IfErr result (λ outcome. IsLate (kind_of outcome)) }
+    ensures own { IfErr result (IsOf Run) }
 {
     may_run(table, &hands)?;
     let holds = holds(alloc, &hands)?;
@@ -65,6 +68,7 @@ fn ran<S: Source>(alloc: Global, first: &mut S, second: &mut S) -> Result<Traced
     ensures ranges { IfOk result (λ ran. IsTrace ran.trace) }
     ensures prepares { Prepares IsRanOf (two_sources entire entire) table_refusal_of run_due
         (sources_seen ⟦<S as Source>⟧ first.old second.old) (sources_seen ⟦<S as Source>⟧ first.new second.new) result }
+    ensures own { IfErr result (IsOwn Run (S.left second.old)) }
 {
     let Inputs { table, hands } = take_inputs(alloc, first, second)?;
     let trace = record(alloc, &table, hands)?;
@@ -83,8 +87,9 @@ fn write_run<K: Sink>(ran: &Traced, out: &mut K) -> Result<(), WriteFault>
 /// `run`: writes the trace of the senders of the table in the first source, with the messages in the second, up to the end of the
 /// closed schedule, and behind it what each terminal of the table receives.
 pub fn run<S: Source, K: Sink>(alloc: Global, first: &mut S, second: &mut S, out: &mut K) -> Outcome
-    ensures { DoesForm Run (outside ⟦<S as Source>⟧ ⟦<K as Sink>⟧ first.old second.old out.old)
+    ensures does { DoesForm Run (outside ⟦<S as Source>⟧ ⟦<K as Sink>⟧ first.old second.old out.old)
         (outside ⟦<S as Source>⟧ ⟦<K as Sink>⟧ first.new second.new out.new) result }
+    ensures own { IsOwn Run (S.left second.old) result }
 {
     match ran(alloc, first, second) {
         Ok(ran) => after_writing(write_run(&ran, out), Outcome::Done),

@@ -1,4 +1,4 @@
-use Rattle.std.proofs.Common.{arith, ap, sym, ◌∙◌, length}
+use Rattle.std.proofs.Common.{arith, ap, length}
 use Rattle.bus_table.specs.Turns.{turn_order}
 use Rattle.bus_tool.proofs.ReportTexts.{values_next, values_whole, order_length}
 use Rattle.bus_tool.proofs.report.sender_values.Goals as goal

@@ -4,6 +4,11 @@ use Rattle.bus_tool.specs.Due.{may_run}
 use Rattle.bus_tool.specs.Texts.{holds_of}
 use Rattle.bus_strings.specs.Transmissions.{IsTransmission}
 use Rattle.bus_tool.proofs.RunLemmas.{run_is_trace, run_gives}
+use Rattle.bus_tool.specs.declared.forms.Form.TheVariants.{Run}
+use Rattle.bus_tool.specs.declared.outcome.Outcome.TheVariants.{NoMemory}
+use Rattle.bus_tool.specs.Due.{schedule_refusal}
+use Rattle.bus_tool.specs.Own.{IsOf}
+use Rattle.bus_tool.proofs.OwnLemmas.{own_stop, schedule_own}
 use Rattle.bus_tool.proofs.run.record.Goals as goal
 
 pub of-requires : goal.of-requires
@@ -23,3 +28,14 @@ returns-clause-gives c = run_gives c.args.table.now c.args.hands.items c.in_ok-l
     (c.in_ok-holds.ensures ∙ ap holds_of c.deref-2.ensures.value)
     c.in_ok-list.ensures.run
     c.of.ensures
+
+pub returns-in_err-may_run-clause-own : goal.returns-in_err-may_run-clause-own
+returns-in_err-may_run-clause-own c = own_stop (IsOf Run) c.in_err-may_run.field-0.0 c.from_residual.result c.from_residual.ensures.1 c.in_err-may_run.ensures.own
+
+pub returns-in_err-holds-clause-own : goal.returns-in_err-holds-clause-own
+returns-in_err-holds-clause-own c = own_stop (IsOf Run) NoMemory c.from_residual-in_err-holds.result c.from_residual-in_err-holds.ensures.1 (λ second. tt)
+
+pub returns-in_err-list-clause-own : goal.returns-in_err-list-clause-own
+returns-in_err-list-clause-own c =
+    own_stop (IsOf Run) (schedule_refusal c.in_err-list.field-0.0) c.from_residual-in_err-list.result c.from_residual-in_err-list.ensures.1
+    (schedule_own c.in_err-list.field-0.0)
