@@ -155,7 +155,8 @@ fn report_text(alloc: Global, table: &Table) -> Result<String, AllocError>
 
 /// The report of the table in the first source, or why there is none. All the memory of the command is taken here.
 fn reported<S: Source>(alloc: Global, first: &mut S) -> Result<TableReport, Outcome>
-    ensures takes { Takes IsReported 1 entire table_due (source_seen ⟦<S as Source>⟧ first.old) (source_seen ⟦<S as Source>⟧ first.new) result }
+    ensures takes { Takes IsReported 1 entire table_due
+        (source_seen ⟦<S as Source>⟧ first.old) (source_seen ⟦<S as Source>⟧ first.new) result }
     ensures own { IfErr result IsAnyones }
 {
     let table = take_table(alloc, first)?;

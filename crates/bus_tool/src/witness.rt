@@ -18,7 +18,8 @@ use std::alloc::Global;
 
 /// The witness of the table in the first source, or why there is none. All the memory of the command is taken here.
 fn witnessed<S: Source>(alloc: Global, first: &mut S) -> Result<Payloads, Outcome>
-    ensures takes { Takes AreWitnessOf 1 entire table_due (source_seen ⟦<S as Source>⟧ first.old) (source_seen ⟦<S as Source>⟧ first.new) result }
+    ensures takes { Takes AreWitnessOf 1 entire table_due
+        (source_seen ⟦<S as Source>⟧ first.old) (source_seen ⟦<S as Source>⟧ first.new) result }
     ensures own { IfErr result IsAnyones }
 {
     let table = take_table(alloc, first)?;
