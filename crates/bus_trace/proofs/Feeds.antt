@@ -5,14 +5,14 @@ use Rattle.std.proofs.lemmas.Bool.Decides.{nat_tests}
 use Rattle.std.proofs.lemmas.List.{length-take, take_all}
 use Rattle.std.proofs.Math.Seq.{take-append-add}
 use Rattle.bus_trace.specs.States.{text_of}
-use Rattle.bus_trace.specs.Runs.{Standing, Progress, Going, Found, Refused, Over, ◌>>-◌, run, begin, due, due_by, stream_of}
-use Rattle.bus_trace.specs.Walking.{WalkGives}
+use Rattle.bus_trace.specs.Runs.{Standing, Progress, Going, Found, Refused, Over, ◌>>-◌, HasNoFeed, run, begin, due, due_by, stream_of}
+use Rattle.bus_trace.specs.Walking.{WalkGives, IsOneLine}
 use Rattle.bus_trace.specs.Feeding.{fed_of, ReaderIs, FeedGives}
 use Rattle.bus_trace.specs.declared.walk.Walked.{Walked}
 use Rattle.bus_trace.specs.declared.walk.Walked.TheVariants.{Passed, Ended, Failed}
 use Rattle.bus_trace.specs.declared.stage.Stage.{Stage}
 use Rattle.bus_trace.specs.declared.stage.Stage.TheVariants as stage
-use Rattle.bus_trace.proofs.Runs.{run-append}
+use Rattle.bus_trace.proofs.Runs.{run-append, feedless_take}
 use Rattle.bus_trace.specs.Limits.{text_limit}
 
 pub begin_is : ReaderIs stage.Open begin
@@ -59,7 +59,7 @@ front_all piece front room e h =
     let l = length-take room piece in
     e ∙ take_all room piece (omega (arith, l, ap length e, k))
 
-take_take : (piece : List ℕ) (room used : ℕ) → used ≤ room → take used (take room piece) ≡ take used piece
+pub take_take : (piece : List ℕ) (room used : ℕ) → used ≤ room → take used (take room piece) ≡ take used piece
 take_take piece room zero h = refl
 take_take [] zero (suc used) h = absurd (omega arith)
 take_take [] (suc room) (suc used) h = refl
@@ -68,6 +68,15 @@ take_take (x ∷ piece) (suc room) (suc used) h = ap (λ xs. x ∷ xs) (take_tak
 
 take_front : (piece front : List ℕ) (room used : ℕ) → front ≡ take room piece → used ≤ length front → take used front ≡ take used piece
 take_front piece front room used e h = ap (take used) e ∙ take_take piece room used (omega (arith, length-take room piece, ap length e, h))
+
+-- a front of one line is one line
+pub one_line_front : (room : ℕ) (piece front : List ℕ) → front ≡ take room piece → IsOneLine piece → IsOneLine front
+one_line_front room piece front e h =
+    let m : ℕ = length (take room piece) - 1 in
+    let l = length-take room piece in
+    subst IsOneLine (sym e)
+    (subst HasNoFeed (take_take piece (length piece - 1) m (omega (arith, l)) ∙ sym (take_take piece room m (omega (arith, l))))
+    (feedless_take m (take (length piece - 1) piece) h))
 
 -- what the reader knows of the piece
 pub record Feeds (at : Standing) (piece front : List ℕ) : Type 0 where

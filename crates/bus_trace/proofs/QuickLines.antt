@@ -1,5 +1,5 @@
 -- Lines that are recognized as they are written.
-use Rattle.std.proofs.Common.{arith, zero, suc, ◌≡◌, ℕ, ◌+◌, ◌-◌, ◌*◌, ◌<◌, ◌≤◌, ◌^◌, Bool, true, false, not, ◌&&◌, ◌==◌, List, [], ◌∷◌}
+use Rattle.std.proofs.Common.{arith, zero, suc, ◌≡◌, ℕ, ◌+◌, ◌-◌, ◌*◌, ◌/◌, ◌%◌, ◌<◌, ◌≤◌, ◌^◌, Bool, cond, true, false, not, ◌&&◌, ◌==◌, List, [], ◌∷◌}
 use Rattle.std.proofs.Common.{◌++◌, length, take, drop, get_or, map, Ok, Some, None, IfSome, Vec, Global, refl, sym, ap, subst, ◌∙◌}
 use Rattle.std.proofs.Common.{append_assoc, append-nil, length-append, take-append-drop}
 use Rattle.std.specs.List.{list_all, flat_map, join_with_byte}
@@ -17,16 +17,16 @@ use Rattle.std.proofs.lemmas.Str.Parse.{numerals_by_value, tells_digits}
 use Rattle.std.proofs.lemmas.Fmt.{decimal-digits_value}
 use Rattle.std.proofs.lemmas.Int.Digits.{digits_value_more}
 use Rattle.bus_text.specs.Numbers.{decimal_value}
-use Rattle.bus_words.specs.declared.word.Kind.{Kind}
-use Rattle.bus_words.specs.declared.word.Kind.TheVariants.{Label, Plain}
+use Rattle.bus_words.specs.declared.word.Kind.TheVariants.{Label}
 use Rattle.bus_words.specs.declared.word.Word.{Word}
 use Rattle.bus_words.specs.Words.{label_word}
 use Rattle.bus_words.specs.WordTexts.{word_text}
+use Rattle.bus_text.specs.Digits.{hex_digit, is_capital_digit, hexadecimal}
+use Rattle.bus_text.specs.DigitLaws.{digit_value-lt, hex_digit-digit_value}
 use Rattle.bus_strings.specs.Messages.{Wordstring, IsWordstring}
 use Rattle.bus_trace.specs.declared.format.Format.TheVariants.{Two}
 use Rattle.bus_trace.specs.declared.position.Position.TheVariants.{Begun, Stringing, Closed}
 use Rattle.bus_trace.specs.declared.keyword.Keyword.TheVariants.{Ws}
-use Rattle.bus_trace.specs.WordFields.{same_kind}
 use Rattle.bus_trace.specs.Traces.{Line, data_word, string_line, begin_line, ended_line}
 use Rattle.bus_trace.specs.Writing.{data_put}
 use Rattle.bus_trace.specs.States.{State, IsSound, step, spaced_fields, fields_step, last_count, may_follow}
@@ -146,11 +146,32 @@ string_step_taken s w line may i e = step_of s (string_taken s w) (string_line w
     (string_line_again s.position s.format s.mark s.horizon s.holds s.list w may i) e
 
 -- ---- words
-pub kind_is : (a b : Kind) → same_kind a b ≡ true → a ≡ b
-kind_is Label Label h = refl
-kind_is Label Plain h = absurd cc
-kind_is Plain Label h = absurd cc
-kind_is Plain Plain h = refl
+some_if : {A : Type 0} (t : Bool) (x y : A) → Some x ≡ cond t (Some y) None → (t ≡ true) × (x ≡ y)
+some_if true x y h = (refl, cc)
+some_if false x y h = absurd cc
+
+same_four : (a b c d a' b' c' d' : ℕ) → a ≡ a' → b ≡ b' → c ≡ c' → d ≡ d' → a ∷ b ∷ c ∷ d ∷ [] ≡ a' ∷ b' ∷ c' ∷ d' ∷ []
+same_four a b c d a' b' c' d' h i j k = cc
+
+-- the four digits of a number of four digits
+parts : (a b c d v : ℕ) → a < 16 → b < 16 → c < 16 → d < 16 → v ≡ 256 * (16 * a + b) + (16 * c + d)
+    → (v / 16 / 16 / 16 % 16 ≡ a) × (v / 16 / 16 % 16 ≡ b) × (v / 16 % 16 ≡ c) × (v % 16 ≡ d)
+parts a b c d v h i j k e = (omega arith, omega arith, omega arith, omega arith)
+
+-- a number is written by the digits whose values make it
+pub four_written : (a b c d x y z w v : ℕ) → Some x ≡ cond (is_capital_digit a) (Some (digit_value a)) None
+    → Some y ≡ cond (is_capital_digit b) (Some (digit_value b)) None → Some z ≡ cond (is_capital_digit c) (Some (digit_value c)) None
+    → Some w ≡ cond (is_capital_digit d) (Some (digit_value d)) None → v ≡ 256 * (16 * x + y) + (16 * z + w)
+    → hexadecimal 4 v ≡ a ∷ b ∷ c ∷ d ∷ []
+four_written a b c d x y z w v h i j k e =
+    let p = some_if (is_capital_digit a) x (digit_value a) h in
+    let q = some_if (is_capital_digit b) y (digit_value b) i in
+    let r = some_if (is_capital_digit c) z (digit_value c) j in
+    let s = some_if (is_capital_digit d) w (digit_value d) k in
+    let n = parts (digit_value a) (digit_value b) (digit_value c) (digit_value d) v (digit_value-lt a p.0) (digit_value-lt b q.0)
+    (digit_value-lt c r.0) (digit_value-lt d s.0) (omega (arith, e, p.1, q.1, r.1, s.1)) in
+    same_four _ _ _ _ a b c d (ap hex_digit n.0 ∙ hex_digit-digit_value a p.0) (ap hex_digit n.1 ∙ hex_digit-digit_value b q.0)
+    (ap hex_digit n.2 ∙ hex_digit-digit_value c r.0) (ap hex_digit n.3 ∙ hex_digit-digit_value d s.0)
 
 pub string_given : (o : Option Wordstring) (w : Wordstring) (line : List ℕ) → IfSome o (λ s. s ≡ w)
     → line ≡ join_with_byte 32 (string_line w) → IfSome o (λ s. line ≡ join_with_byte 32 (string_line s))

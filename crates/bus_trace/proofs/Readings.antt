@@ -16,11 +16,12 @@ use Rattle.bus_trace.specs.Limits.{line_limit, text_limit}
 use Rattle.bus_trace.specs.Traces.{Recording}
 use Rattle.bus_trace.specs.States.{State, text_of}
 use Rattle.bus_trace.specs.Runs.{Standing, Progress, Going, Found, Refused, Over, HasNoFeed, begin, run, ◌>>-◌, due, stream_of}
+use Rattle.bus_trace.specs.Walking.{IsOneLine}
 use Rattle.bus_trace.specs.Feeding.{Reader, FeedGives, FinishGives}
 use Rattle.bus_trace.specs.Reading.{Decides}
 use Rattle.bus_trace.specs.Looping.{ByLine, ByEnd, Loops}
 use Rattle.bus_trace.proofs.Runs.{run-append, run-line, feedless_take}
-use Rattle.bus_trace.proofs.Feeds.{begin_due, due_within, goes_on}
+use Rattle.bus_trace.proofs.Feeds.{begin_due, due_within, goes_on, take_take}
 
 pub pulled : (start mid new : Option (List ℕ)) (stream buf : List ℕ) (n : ℕ) → Taken start mid stream → Taken mid new (take n buf)
     → Taken start new (stream ++ take n buf)
@@ -53,6 +54,15 @@ pulled_is at n room buf some within long line text f =
       line = omega (arith, l, some, within, long, line);
       text = omega (arith, l, some, within, long, text);
     }
+
+-- bytes that were pulled into the front of a buffer are one line
+pub one_line_pulled : (n : ℕ) (buf rest : List ℕ) → 1 ≤ n → n ≤ length buf → AllByRecursion (λ b. (b == 10) ≡ false) (take (n - 1) buf)
+    → IsOneLine (take n (buf ++ rest))
+one_line_pulled n buf rest some within f =
+    let one : IsOneLine (take n buf) =
+    subst (λ k. HasNoFeed (take (k - 1) (take n buf))) (sym (length-take n buf ∙ omega (arith, within)))
+    (subst HasNoFeed (sym (take_take buf n (n - 1) (omega arith))) f) in
+    subst IsOneLine (sym (take-append-le n buf rest within)) one
 
 pub short_slice : (room : ℕ) (xs ys : List ℕ) → length ys ≡ length (take room xs) → length ys ≤ room
 short_slice room xs ys h = omega (arith, h, length-take room xs)

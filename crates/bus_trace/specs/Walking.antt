@@ -1,9 +1,9 @@
 -- What the calls of a walk and of a reader give.
-use Rattle.std.specs.Prelude.{◌≡◌, ◌≤◌, ◌<◌, ℕ, Bool, true, false, List, [], ◌++◌, length, take, Result, Ok, Err}
+use Rattle.std.specs.Prelude.{◌≡◌, ◌-◌, ◌≤◌, ◌<◌, ℕ, Bool, true, false, List, [], ◌++◌, length, take, Result, Ok, Err}
 use Rattle.std.specs.declared.alloc.AllocError.{AllocError}
 use Rattle.bus_trace.specs.Limits.{line_limit}
 use Rattle.bus_trace.specs.States.{State, IsSound, text_of}
-use Rattle.bus_trace.specs.Runs.{Standing, Progress, Going, Found, Refused, run, stream_of}
+use Rattle.bus_trace.specs.Runs.{Standing, Progress, Going, Found, Refused, HasNoFeed, run, stream_of}
 use Rattle.bus_trace.specs.declared.walk.Judged.{Judged}
 use Rattle.bus_trace.specs.declared.walk.Judged.TheVariants.{Passes, Ends, Fails}
 use Rattle.bus_trace.specs.declared.walk.Walked.{Walked}
@@ -11,6 +11,16 @@ use Rattle.bus_trace.specs.declared.walk.Walked.TheVariants.{Passed, Ended, Fail
 use Rattle.bus_trace.specs.declared.reason.TraceReason.TheVariants.{Long}
 
 -- ---- bytes that a walk takes
+-- None of the bytes but the last is a line feed.
+abbrev pub IsOneLine : List ℕ → Type 0
+IsOneLine bytes = HasNoFeed (take (length bytes - 1) bytes)
+
+-- What a piece of so many bytes gives whose only line gave this.
+abbrev pub walked_of : Judged → ℕ → Walked
+walked_of Passes used = Passed
+walked_of Ends used = Ended used
+walked_of (Fails byte reason) used = Failed byte reason
+
 -- What a call gave on bytes of one line: they are kept, or they pass the room of a line.
 abbrev pub KeepGives : Standing → Standing → List ℕ → Result Bool AllocError → Type 0
 KeepGives old new bytes (Ok true) = (run old bytes ≡ Going new) × (stream_of new ≡ stream_of old ++ bytes)

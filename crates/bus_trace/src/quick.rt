@@ -1,17 +1,18 @@
 //! Lines that are spelled as they are written, recognized in one pass: no field of them is gathered. What isn't recognized here is judged
 //! field by field.
-ghost use Rattle.std.specs.Prelude.{◌≡◌, ◌≤◌, ◌<◌, ◌^◌, ◌++◌, ◌∷◌, true, length, take, decimal, IfSome, IfOk};
+ghost use Rattle.std.specs.Prelude.{◌≡◌, ◌≤◌, ◌<◌, ◌^◌, ◌++◌, ◌∷◌, [], true, length, take, decimal, IfSome, IfOk};
 ghost use Rattle.std.specs.List.{list_all, join_with_byte};
 ghost use Rattle.std.specs.Char.{is_ascii_digit};
 ghost use Rattle.bus_text.specs.Numbers.{decimal_value};
-ghost use Rattle.bus_words.specs.WordTexts.{word_text};
+ghost use Rattle.bus_text.specs.Digits.{hexadecimal};
+ghost use Rattle.bus_words.specs.Words.{parity as parity_of};
+ghost use Rattle.bus_words.specs.WordTexts.{word_text, letter as letter_of, bit_digit};
 ghost use Rattle.bus_trace.specs.Traces.{begin_line as begin_fields, ended_line, string_line as string_fields};
 ghost use Rattle.bus_trace.specs.Writing.{data_put};
 
-use crate::words::same_kind;
 use bus_strings::wordstring::Wordstring;
-use bus_words::text::read_word;
-use bus_words::word::{Kind, split_label};
+use bus_text::digits::capital_digit;
+use bus_words::word::{Kind, parity, split_label};
 use std::alloc::{AllocError, Global};
 
 // The text of a word, and the space before it.
@@ -87,6 +88,47 @@ pub(crate) fn close_line(line: &[u8]) -> Option<(u64, bool)>
     }
 }
 
+/// The letter of a kind.
+fn letter(kind: Kind) -> u8
+    ensures { result ≡ letter_of kind }
+{
+    match kind {
+        Kind::Label => b'L',
+        Kind::Plain => b'D',
+    }
+}
+
+/// The parity digit of a value.
+fn parity_digit(value: u16) -> u8
+    ensures { result ≡ bit_digit (parity_of value) }
+{
+    if parity(value) { b'1' } else { b'0' }
+}
+
+/// The number that four hexadecimal digits in capitals write.
+fn four_digit_value(a: u8, b: u8, c: u8, d: u8) -> Option<u16>
+    ensures { IfSome result (λ v. hexadecimal 4 v ≡ a ∷ b ∷ c ∷ d ∷ []) }
+{
+    let upper = 16 * capital_digit(a)? + capital_digit(b)?;
+    let lower = 16 * capital_digit(c)? + capital_digit(d)?;
+    Some(256 * u16::from(upper) + u16::from(lower))
+}
+
+/// The value of a word of a kind. Its parity digit is held to the one that its value has: a branch that went by the digit itself, which
+/// comes at random, would double the time of a line.
+fn word_value(text: &[u8], kind: Kind) -> Option<u16>
+    ensures { IfSome result (λ v. text.now ≡ word_text (record { kind = kind; value = v })) }
+{
+    let [first, a, b, c, d, digit] = text else {
+        return None;
+    };
+    let value = four_digit_value(*a, *b, *c, *d)?;
+    if *first != letter(kind) || *digit != parity_digit(value) {
+        return None;
+    }
+    Some(value)
+}
+
 /// The value of a word of a kind, whose text stands behind a space.
 fn spaced_word(text: &[u8], kind: Kind) -> Option<u16>
     ensures { IfSome result (λ v. text.now ≡ 32 ∷ word_text (record { kind = kind; value = v })) }
@@ -94,10 +136,8 @@ fn spaced_word(text: &[u8], kind: Kind) -> Option<u16>
     let [b' ', word @ ..] = text else {
         return None;
     };
-    match read_word(word) {
-        Ok(word) if same_kind(word.kind, kind) => Some(word.value),
-        _ => None,
-    }
+    let value = word_value(word, kind)?;
+    Some(value)
 }
 
 /// The values of data words, each behind a space.

@@ -51,7 +51,7 @@ fn read_text<S: Source>(alloc: Global, source: &mut S) -> Result<Trace, TraceErr
     'lines: loop {
         let room = reader.room();
         match source.pull_line(&mut buf[..room]) {
-            Pull::Got(n) => match reader.take(&buf[..n])? {
+            Pull::Got(n) => match reader.take_line(&buf[..n])? {
                 Fed::More => {}
                 Fed::Whole { .. } => return reader.end(),
                 Fed::Refused { byte, reason } => return Err(TraceError::Text { byte, reason }),

@@ -7,7 +7,7 @@ use Rattle.bus_trace.specs.Runs.{stream_of, due}
 use Rattle.bus_trace.specs.Feeding.{FeedGives}
 use Rattle.bus_trace.specs.declared.stage.Fed.{Fed}
 use Rattle.bus_trace.proofs.Readings.{begins_reading, pulled, pulled_is, short_slice, whole_reads, end_reads, refused_reads, large_reads}
-use Rattle.bus_trace.proofs.Readings.{memory_reads, memory_first}
+use Rattle.bus_trace.proofs.Readings.{memory_reads, memory_first, one_line_pulled}
 use Rattle.bus_trace.proofs.reading.read_text.Goals as goal
 
 pub lines-init : goal.lines-init
@@ -25,9 +25,9 @@ pub lines-preserved : goal.lines-preserved
 lines-preserved g c =
     let b = c.in-Got.ensures.bytes in
     let t = pulled _ _ _ _ _ _ c.lines.invariant.taken b.2 in
-    let gives = subst (λ (f : Fed). FeedGives c.lines.reader c.take.new.self (take c.in-Got.n (c.pull_line.new.buf)) (Ok f)) c.in-More.is
-    (subst (λ (p : List ℕ). FeedGives c.lines.reader c.take.new.self p (Ok c.in_ok-take-in-Got.field-0))
-    (take-append-le c.in-Got.n c.pull_line.new.buf _ b.1) c.in_ok-take-in-Got.ensures) in
+    let gives = subst (λ (f : Fed). FeedGives c.lines.reader c.take_line.new.self (take c.in-Got.n (c.pull_line.new.buf)) (Ok f)) c.in-More.is
+    (subst (λ (p : List ℕ). FeedGives c.lines.reader c.take_line.new.self p (Ok c.in_ok-take_line-in-Got.field-0))
+    (take-append-le c.in-Got.n c.pull_line.new.buf _ b.1) c.in_ok-take_line-in-Got.ensures) in
     record {
       is_open = gives.0;
       is_due = ap (due text_limit) gives.2 ∙ gives.1;
@@ -35,12 +35,17 @@ lines-preserved g c =
       same = c.in-Got.ensures.counts ∙ c.lines.invariant.same;
     }
 
-pub returns-in_err-take-in-Got-clause-loops : goal.returns-in_err-take-in-Got-clause-loops
-returns-in_err-take-in-Got-clause-loops g c =
-    let p = err_from_is_err_and c.from_residual-in_err-take-in-Got.result c.from_residual-in_err-take-in-Got.ensures.1 in
+pub take_line-requires-clause-one : goal.take_line-requires-clause-one
+take_line-requires-clause-one g c =
+    let b = c.in-Got.ensures.bytes in
+    one_line_pulled c.in-Got.n c.pull_line.new.buf _ b.0 b.1 c.in-Got.ensures.line
+
+pub returns-in_err-take_line-in-Got-clause-loops : goal.returns-in_err-take_line-in-Got-clause-loops
+returns-in_err-take_line-in-Got-clause-loops g c =
+    let p = err_from_is_err_and c.from_residual-in_err-take_line-in-Got.result c.from_residual-in_err-take_line-in-Got.ensures.1 in
     let b = c.in-Got.ensures.bytes in
     let t = pulled _ _ _ _ _ _ c.lines.invariant.taken b.2 in
-    let room = c.room-room.ensures.within c.in_err-take-in-Got.ensures.1 in
+    let room = c.room-room.ensures.within c.in_err-take_line-in-Got.ensures.1 in
     rw (p.1, p.2)
     (memory_reads _ _ _ t (omega (
       arith,
@@ -58,10 +63,10 @@ returns-in-Whole-clause-loops g c =
     let p = pulled_is c.lines.reader.at c.in-Got.n c.room-room.result c.pull_line.new.buf b.0 b.1
     (short_slice c.room-room.result _ c.pull_line.new.buf c.pull_line.auto.buf) c.room-room.ensures.line c.room-room.ensures.text
     c.in-Got.ensures.line in
-    let gives = subst (λ (f : Fed). FeedGives c.lines.reader c.take.new.self (take c.in-Got.n (c.pull_line.new.buf)) (Ok f)) c.in-Whole.is
-    (subst (λ (p : List ℕ). FeedGives c.lines.reader c.take.new.self p (Ok c.in_ok-take-in-Got.field-0))
-    (take-append-le c.in-Got.n c.pull_line.new.buf _ b.1) c.in_ok-take-in-Got.ensures) in
-    whole_reads _ _ c.lines.reader c.take.new.self _ c.in-Whole.used c.end.result t c.lines.invariant.is_due p gives c.end.ensures.gives
+    let gives = subst (λ (f : Fed). FeedGives c.lines.reader c.take_line.new.self (take c.in-Got.n (c.pull_line.new.buf)) (Ok f)) c.in-Whole.is
+    (subst (λ (p : List ℕ). FeedGives c.lines.reader c.take_line.new.self p (Ok c.in_ok-take_line-in-Got.field-0))
+    (take-append-le c.in-Got.n c.pull_line.new.buf _ b.1) c.in_ok-take_line-in-Got.ensures) in
+    whole_reads _ _ c.lines.reader c.take_line.new.self _ c.in-Whole.used c.end.result t c.lines.invariant.is_due p gives c.end.ensures.gives
 
 pub returns-in-Refused-clause-loops : goal.returns-in-Refused-clause-loops
 returns-in-Refused-clause-loops g c =
@@ -70,10 +75,10 @@ returns-in-Refused-clause-loops g c =
     let p = pulled_is c.lines.reader.at c.in-Got.n c.room-room.result c.pull_line.new.buf b.0 b.1
     (short_slice c.room-room.result _ c.pull_line.new.buf c.pull_line.auto.buf) c.room-room.ensures.line c.room-room.ensures.text
     c.in-Got.ensures.line in
-    let gives = subst (λ (f : Fed). FeedGives c.lines.reader c.take.new.self (take c.in-Got.n (c.pull_line.new.buf)) (Ok f)) c.in-Refused.is
-    (subst (λ (p : List ℕ). FeedGives c.lines.reader c.take.new.self p (Ok c.in_ok-take-in-Got.field-0))
-    (take-append-le c.in-Got.n c.pull_line.new.buf _ b.1) c.in_ok-take-in-Got.ensures) in
-    refused_reads _ _ c.lines.reader c.take.new.self _ c.in-Refused.byte c.in-Refused.reason t c.lines.invariant.is_due p gives
+    let gives = subst (λ (f : Fed). FeedGives c.lines.reader c.take_line.new.self (take c.in-Got.n (c.pull_line.new.buf)) (Ok f)) c.in-Refused.is
+    (subst (λ (p : List ℕ). FeedGives c.lines.reader c.take_line.new.self p (Ok c.in_ok-take_line-in-Got.field-0))
+    (take-append-le c.in-Got.n c.pull_line.new.buf _ b.1) c.in_ok-take_line-in-Got.ensures) in
+    refused_reads _ _ c.lines.reader c.take_line.new.self _ c.in-Refused.byte c.in-Refused.reason t c.lines.invariant.is_due p gives
 
 pub returns-in-TooLarge-clause-loops : goal.returns-in-TooLarge-clause-loops
 returns-in-TooLarge-clause-loops g c =
@@ -82,11 +87,11 @@ returns-in-TooLarge-clause-loops g c =
     let p = pulled_is c.lines.reader.at c.in-Got.n c.room-room.result c.pull_line.new.buf b.0 b.1
     (short_slice c.room-room.result _ c.pull_line.new.buf c.pull_line.auto.buf) c.room-room.ensures.line c.room-room.ensures.text
     c.in-Got.ensures.line in
-    let gives = subst (λ (f : Fed). FeedGives c.lines.reader c.take.new.self (take c.in-Got.n (c.pull_line.new.buf))
+    let gives = subst (λ (f : Fed). FeedGives c.lines.reader c.take_line.new.self (take c.in-Got.n (c.pull_line.new.buf))
     (Ok f)) c.in-TooLarge.is
-    (subst (λ (p : List ℕ). FeedGives c.lines.reader c.take.new.self p (Ok c.in_ok-take-in-Got.field-0))
-    (take-append-le c.in-Got.n c.pull_line.new.buf _ b.1) c.in_ok-take-in-Got.ensures) in
-    large_reads _ _ c.lines.reader c.take.new.self _ t c.lines.invariant.is_due p gives
+    (subst (λ (p : List ℕ). FeedGives c.lines.reader c.take_line.new.self p (Ok c.in_ok-take_line-in-Got.field-0))
+    (take-append-le c.in-Got.n c.pull_line.new.buf _ b.1) c.in_ok-take_line-in-Got.ensures) in
+    large_reads _ _ c.lines.reader c.take_line.new.self _ t c.lines.invariant.is_due p gives
 
 pub returns-in-End-clause-loops : goal.returns-in-End-clause-loops
 returns-in-End-clause-loops g c =
