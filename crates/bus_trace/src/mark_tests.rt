@@ -5,7 +5,7 @@ use std::test::Fail;
 
 #[test]
 fn a_wrong_end_or_mark_is_refused(rt: HostRuntime) -> Result<(), Fail> {
-    let changes: [(usize, &[u8], u64, TraceReason); 8] = [
+    let changes: [(usize, &[u8], u64, TraceReason); 13] = [
         (6, b"TE 81 -\n", 70, TraceReason::Mark),
         (6, b"TE 20 -\n", 70, TraceReason::Mark),
         (6, b"TE 99999999999999999999 -\n", 70, TraceReason::Mark),
@@ -14,6 +14,13 @@ fn a_wrong_end_or_mark_is_refused(rt: HostRuntime) -> Result<(), Fail> {
         (6, b"TE 80 C\n", 78, TraceReason::Mark),
         (9, b"TE 150 C\n", 113, TraceReason::Mark),
         (7, b"TX 20 1\n", 78, TraceReason::Order),
+        // The line behind shows it, unless that line is wrong in itself.
+        (6, b"TE 80 C\nTX 80 2\n", 78, TraceReason::Mark),
+        (6, b"TE 80 -\nTX 79 2\n", 78, TraceReason::Mark),
+        (6, b"TE 80 C\nTX 020 2\n", 78, TraceReason::Spelling),
+        // Right marks: what is refused is the second TX line.
+        (6, b"TE 80 C\nTX 79 2\n", 86, TraceReason::Keyword),
+        (6, b"TE 80 -\nTX 80 2\n", 86, TraceReason::Keyword),
     ];
     for (number, line, byte, reason) in changes {
         let want = TraceError::Text { byte, reason };

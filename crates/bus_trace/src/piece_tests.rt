@@ -64,12 +64,20 @@ fn in_pieces(alloc: Global, text: &[u8], size: usize) -> Result<(Vec<u8>, usize)
 fn pieces_of_any_size_give_the_same_trace(rt: HostRuntime) -> Result<(), Fail> {
     let alloc = rt.alloc();
     let text = text_of(alloc, &LINES)?;
-    let mut bytes = Vec::from_slice(alloc, &text)?;
-    bytes.extend_from_slice(b"RECEIVED 1\n")?;
-    for (size, used) in [(1, 1), (7, 5), (200, 117)] {
+    let rows: [(&[(&[u8], usize)], usize, usize); 6] = [
+        (&LINES, 1, 1),
+        (&LINES, 7, 5),
+        (&LINES, 200, 117),
+        (&OLD_LINES, 1, 1),
+        (&OLD_LINES, 7, 2),
+        (&OLD_LINES, 200, 100),
+    ];
+    for (lines, size, used) in rows {
+        let mut bytes = text_of(alloc, lines)?;
+        bytes.extend_from_slice(b"RECEIVED 1\n")?;
         let (again, count) = in_pieces(alloc, &bytes, size)?;
         assert_eq!(rt; again.as_slice(), text.as_slice());
-        assert_eq!(rt; count, used, "pieces of {size}");
+        assert_eq!(rt; count, used, "{} lines in pieces of {size}", lines.len());
     }
     Ok(())
 }

@@ -93,25 +93,33 @@ fn a_trace_of_format_1_is_written_in_format_2(rt: HostRuntime) -> Result<(), Fai
     Ok(())
 }
 
+/// Whether a text that ends after so many bytes is refused where its last line begins.
+fn ends_there(alloc: Global, lines: &[(&[u8], usize)], cut: usize) -> Result<bool, Fail> {
+    let text = text_of(alloc, lines)?;
+    let mut begin = 0;
+    for (_, at) in lines {
+        if *at <= cut {
+            begin = *at as u64;
+        }
+    }
+    let want = TraceError::Text {
+        byte: begin,
+        reason: TraceReason::Ended,
+    };
+    let answer = read(alloc, text.get(..cut).unwrap_or(&[]))?;
+    Ok(matches!(answer, Err(error) if error == want))
+}
+
 #[test]
 fn a_cut_trace_ends_where_its_last_line_begins(rt: HostRuntime) -> Result<(), Fail> {
     let alloc = rt.alloc();
-    let text = text_of(alloc, &LINES)?;
     for cut in 0..117usize {
-        let mut begin = 0;
-        for (_, at) in &LINES {
-            if *at <= cut {
-                begin = *at as u64;
-            }
-        }
-        let want = TraceError::Text {
-            byte: begin,
-            reason: TraceReason::Ended,
-        };
-        let answer = read(alloc, text.get(..cut).unwrap_or(&[]))?;
+        assert!(rt; ends_there(alloc, &LINES, cut)?, "cut after {cut}");
+    }
+    for cut in 0..100usize {
         assert!(rt;
-            matches!(answer, Err(error) if error == want),
-            "cut after {cut}"
+            ends_there(alloc, &OLD_LINES, cut)?,
+            "format 1 cut after {cut}"
         );
     }
     Ok(())
@@ -135,7 +143,8 @@ pub(crate) fn is_refused(
 
 #[test]
 fn a_changed_line_is_refused_where_it_begins(rt: HostRuntime) -> Result<(), Fail> {
-    let changes: [(usize, &[u8], u64, TraceReason); 9] = [
+    let changes: [(usize, &[u8], u64, TraceReason); 10] = [
+        (0, b"TRACE 3\n", 0, TraceReason::Fields),
         (4, b"TX  20 1\n", 38, TraceReason::Fields),
         (4, b"TX 020 1\n", 38, TraceReason::Spelling),
         (5, b"WS D0A111 D00001 D00010\n", 46, TraceReason::Spelling),
