@@ -1,5 +1,5 @@
 -- When the rounds of a closed schedule end.
-use Rattle.std.proofs.Common.{◌≡◌, ℕ, zero, suc, ◌+◌, ◌<◌, ◌≤◌, max, take, List, [], ◌∷◌, ◌++◌, length, get_or, arith, sym, ap, ◌∙◌, inl, inr}
+use Rattle.std.proofs.Common.{◌≡◌, ℕ, zero, suc, ◌+◌, ◌<◌, ◌≤◌, max, take, List, [], ◌∷◌, ◌++◌, length, get_or, arith, sym, refl, ap, ◌∙◌, subst, inl, inr}
 use Rattle.std.specs.Prelude.{IsTrue}
 use Rattle.std.specs.List.{sum_by}
 use Rattle.std.proofs.lemmas.Bool.{cases_lt}
@@ -15,7 +15,7 @@ use Rattle.bus_table.specs.Valid.{is_valid}
 use Rattle.bus_table.specs.ValidLaws.{valid_facts}
 use Rattle.bus_schedule.specs.Even.{messages_of, rounds}
 use Rattle.bus_schedule.specs.Closed.{sends, turns, turns_end, origin, gap_schedule, schedule_in, closed, closed_end}
-use Rattle.bus_schedule.proofs.Greatest.{max_low, greatest_append, greatest_cons, greatest_one}
+use Rattle.bus_schedule.proofs.Greatest.{max_low, max_within, greatest_append, greatest_cons, greatest_one}
 use Rattle.bus_schedule.proofs.Spacing.{lengths, cycle_sum, cycle_sort, turns_end_cycle}
 
 -- the terminal gap and the message of a sender's turn
@@ -51,38 +51,62 @@ turns_greatest hands round sender (next ∷ order) from =
     ∙ ap (λ n. max now n) (turns_greatest hands round next order now)
     ∙ max_low now (turns_end hands round (next ∷ order) now) (turns_last hands round (next ∷ order) now)
 
--- a round ends with the last of its turns, one synchronization gap before the next
-pub record EndsAt (hands : ℕ → List Message) (sg : ℕ) (order : List Sender) (round : ℕ) : Type 0 where
-  pub before : greatest_end (gap_schedule hands sg order round) ≤ origin hands sg order round
-  pub end : greatest_end (gap_schedule hands sg order (suc round)) ≡ turns_end hands round order (origin hands sg order round)
+turns_most : (hands : ℕ → List Message) (round : ℕ) (order : List Sender) (from : ℕ)
+    → greatest_end (turns hands round order from) ≤ turns_end hands round order from
+turns_most hands round [] from = omega arith
+turns_most hands round (sender ∷ order) from = omega (arith, turns_greatest hands round sender order from)
 
-end_behind : (hands : ℕ → List Message) (sg : ℕ) (order : List Sender) (round : ℕ) → 0 < length order
+-- all rounds before the next one counts have ended
+pub ends_before : (hands : ℕ → List Message) (sg : ℕ) (order : ℕ → List Sender) (round : ℕ)
     → greatest_end (gap_schedule hands sg order round) ≤ origin hands sg order round
-    → greatest_end (gap_schedule hands sg order (suc round)) ≡ turns_end hands round order (origin hands sg order round)
-end_behind hands sg [] round some before = absurd (omega arith)
-end_behind hands sg (sender ∷ order) round some before =
-    let from : ℕ = origin hands sg (sender ∷ order) round in
-    let so_far : ℕ = greatest_end (gap_schedule hands sg (sender ∷ order) round) in
-    greatest_append (gap_schedule hands sg (sender ∷ order) round) (turns hands round (sender ∷ order) (origin hands sg (sender ∷ order) round))
-    ∙ ap (λ n. max so_far n) (turns_greatest hands round sender order (origin hands sg (sender ∷ order) round))
-    ∙ max_low (greatest_end (gap_schedule hands sg (sender ∷ order) round)) (turns_end hands round (sender ∷ order) (origin hands sg (sender ∷ order) round))
-    (omega (arith, before, turns_last hands round (sender ∷ order) (origin hands sg (sender ∷ order) round)))
+ends_before hands sg order zero = omega arith
+ends_before hands sg order (suc round) =
+    let from : ℕ = origin hands sg order round in
+    let so_far : List Entry = gap_schedule hands sg order round in
+    omega (
+      arith,
+      greatest_append so_far (turns hands round (order round) from),
+      both_most (greatest_end so_far) (greatest_end (turns hands round (order round) from)) (turns_end hands round (order round) from)
+          (omega (arith, ends_before hands sg order round, turns_last hands round (order round) from))
+          (turns_most hands round (order round) from),
+    )
+  where
+    both_most : (a b c : ℕ) → a ≤ c → b ≤ c → max a b ≤ c
+    both_most a b c h k = grind arith
 
-pub ends_at : (hands : ℕ → List Message) (sg : ℕ) (order : List Sender) (round : ℕ) → 0 < length order → EndsAt hands sg order round
-ends_at hands sg order zero some = let low : 0 ≤ 0 = omega arith in record { before = low; end = end_behind hands sg order 0 some low }
-ends_at hands sg order (suc round) some =
-    let so : EndsAt hands sg order round = ends_at hands sg order round some in
-    let low : greatest_end (gap_schedule hands sg order (suc round)) ≤ origin hands sg order (suc round) = omega (arith, so.end) in
-    record { before = low; end = end_behind hands sg order (suc round) some low }
+-- a round of some senders ends with the last of its turns, one synchronization gap before the next
+pub ends_at : (hands : ℕ → List Message) (sg : ℕ) (order : ℕ → List Sender) (round : ℕ) → 0 < length (order round)
+    → greatest_end (gap_schedule hands sg order (suc round)) ≡ turns_end hands round (order round) (origin hands sg order round)
+ends_at hands sg order round some = of_some (order round) some refl
+  where
+    of_some : (senders : List Sender) → 0 < length senders → order round ≡ senders
+        → greatest_end (gap_schedule hands sg order (suc round)) ≡ turns_end hands round (order round) (origin hands sg order round)
+    of_some [] more is = absurd (omega arith)
+    of_some (sender ∷ senders) more is =
+        let from : ℕ = origin hands sg order round in
+        let so_far : ℕ = greatest_end (gap_schedule hands sg order round) in
+        let last : greatest_end (turns hands round (order round) from) ≡ turns_end hands round (order round) from =
+        subst (λ o. greatest_end (turns hands round o from) ≡ turns_end hands round o from) (sym is)
+        (turns_greatest hands round sender senders from) in
+        greatest_append (gap_schedule hands sg order round) (turns hands round (order round) from)
+        ∙ ap (λ n. max so_far n) last
+        ∙ max_low so_far (turns_end hands round (order round) from)
+        (omega (arith, ends_before hands sg order round, turns_last hands round (order round) from))
 
 -- no round ends behind the last
-pub end_grows : (hands : ℕ → List Message) (sg : ℕ) (order : List Sender) (round count : ℕ) → 0 < length order → round < count
+pub end_grows : (hands : ℕ → List Message) (sg : ℕ) (order : ℕ → List Sender) (round count : ℕ) → round < count
     → greatest_end (gap_schedule hands sg order (suc round)) ≤ greatest_end (gap_schedule hands sg order count)
-end_grows hands sg order round zero some less = absurd (omega arith)
-end_grows hands sg order round (suc count) some less =
-    let so : EndsAt hands sg order count = ends_at hands sg order count some in
+end_grows hands sg order round zero less = absurd (omega arith)
+end_grows hands sg order round (suc count) less =
     elim (cases_lt round count) [
-      | inl before ↦ omega (arith, end_grows hands sg order round count some before, so.before, so.end, turns_last hands count order (origin hands sg order count))
+      | inl before ↦
+          let from : ℕ = origin hands sg order count in
+          omega (
+            arith,
+            end_grows hands sg order round count before,
+            greatest_append (gap_schedule hands sg order count) (turns hands count (order count) from),
+            (max_within (greatest_end (gap_schedule hands sg order count)) (greatest_end (turns hands count (order count) from))).0,
+          )
       | inr not ↦
           let same : round ≡ count = omega arith in
           let e : greatest_end (gap_schedule hands sg order (suc round)) ≡ greatest_end (gap_schedule hands sg order (suc count)) = ap (λ n. greatest_end (gap_schedule hands sg order (suc n))) same in
@@ -96,43 +120,43 @@ some_turn table valid =
 
 -- the closed schedule of an aperiodic table goes by gaps
 pub closed_by_gaps : (table : Table) (hands : List Hand) → table.mode ≡ Aperiodic
-    → closed table hands ≡ gap_schedule (messages_of hands) table.sg (turn_order table) (rounds hands)
+    → closed table hands ≡ gap_schedule (messages_of hands) table.sg (λ round. turn_order table) (rounds hands)
 closed_by_gaps table hands mode = ap (λ m. schedule_in m table (messages_of hands) (rounds hands)) mode
 
 -- no round of a table ends behind the closed end
 pub round_short : (table : Table) (hands : List Hand) (round from : ℕ) → IsTrue (is_valid table) → table.mode ≡ Aperiodic → round < rounds hands
-    → from ≡ origin (messages_of hands) table.sg (turn_order table) round
+    → from ≡ origin (messages_of hands) table.sg (λ round. turn_order table) round
     → turns_end (messages_of hands) round (turn_order table) from ≤ closed_end table hands
 round_short table hands round from valid mode less from_is =
-    let some : 0 < length (turn_order table) = some_turn table valid in
-    let so : EndsAt (messages_of hands) table.sg (turn_order table) round = ends_at (messages_of hands) table.sg (turn_order table) round some in
-    let grows : greatest_end (gap_schedule (messages_of hands) table.sg (turn_order table) (suc round)) ≤ greatest_end (gap_schedule (messages_of hands) table.sg (turn_order table) (rounds hands)) = end_grows (messages_of hands) table.sg (turn_order table) round (rounds hands) some less in
-    let e : turns_end (messages_of hands) round (turn_order table) from ≡ turns_end (messages_of hands) round (turn_order table) (origin (messages_of hands) table.sg (turn_order table) round) = ap (turns_end (messages_of hands) round (turn_order table)) from_is in
-    let whole : closed_end table hands ≡ greatest_end (gap_schedule (messages_of hands) table.sg (turn_order table) (rounds hands)) = ap greatest_end (closed_by_gaps table hands mode) in
-    omega (arith, so.end)
+    let order : ℕ → List Sender = λ round. turn_order table in
+    let end = ends_at (messages_of hands) table.sg (λ round. turn_order table) round (some_turn table valid) in
+    let grows : greatest_end (gap_schedule (messages_of hands) table.sg (λ round. turn_order table) (suc round)) ≤ greatest_end (gap_schedule (messages_of hands) table.sg (λ round. turn_order table) (rounds hands)) = end_grows (messages_of hands) table.sg (λ round. turn_order table) round (rounds hands) less in
+    let e : turns_end (messages_of hands) round (turn_order table) from ≡ turns_end (messages_of hands) round (turn_order table) (origin (messages_of hands) table.sg (λ round. turn_order table) round) = ap (turns_end (messages_of hands) round (turn_order table)) from_is in
+    let whole : closed_end table hands ≡ greatest_end (gap_schedule (messages_of hands) table.sg (λ round. turn_order table) (rounds hands)) = ap greatest_end (closed_by_gaps table hands mode) in
+    omega (arith, end)
 
 -- one round more of the schedule
-pub round_added : (hands : ℕ → List Message) (own order_sg : ℕ) (order : List Sender) (round from end : ℕ) (list list' : List Entry)
+pub round_added : (hands : ℕ → List Message) (own order_sg : ℕ) (order : ℕ → List Sender) (round from end : ℕ) (list list' : List Entry)
     → list ≡ gap_schedule hands order_sg order round → from ≡ origin hands order_sg order round → own ≡ order_sg
-    → list' ≡ list ++ turns hands round order from → end ≡ turns_end hands round order from
+    → list' ≡ list ++ turns hands round (order round) from → end ≡ turns_end hands round (order round) from
     → (list' ≡ gap_schedule hands order_sg order (round + 1)) × (end + own ≡ origin hands order_sg order (round + 1))
 round_added hands own sg order round from end list list' list_is from_is own_is added end_is =
     let one : suc round ≡ round + 1 = omega arith in
-    let last : end ≡ turns_end hands round order (origin hands sg order round) = end_is ∙ ap (turns_end hands round order) from_is in (
-      added ∙ ap (λ n. list ++ turns hands round order n) from_is ∙ ap (λ (l : List Entry). l ++ turns hands round order (origin hands sg order round)) list_is ∙ ap (gap_schedule hands sg order) one,
-      ap (λ e. e + own) last ∙ ap (λ g. turns_end hands round order (origin hands sg order round) + g) own_is ∙ ap (origin hands sg order) one,
+    let last : end ≡ turns_end hands round (order round) (origin hands sg order round) = end_is ∙ ap (turns_end hands round (order round)) from_is in (
+      added ∙ ap (λ n. list ++ turns hands round (order round) n) from_is ∙ ap (λ (l : List Entry). l ++ turns hands round (order round) (origin hands sg order round)) list_is ∙ ap (gap_schedule hands sg order) one,
+      ap (λ e. e + own) last ∙ ap (λ g. turns_end hands round (order round) (origin hands sg order round) + g) own_is ∙ ap (origin hands sg order) one,
     )
 
 -- one round more, by its length, which the order of the senders doesn't change
 pub round_more : (table : Table) (hands : ℕ → List Message) (round from span end sg : ℕ) → IsTrue (is_valid table)
-    → from ≡ origin hands table.sg (turn_order table) round → span ≡ sum_by (turn_length hands round) table.senders → sg ≡ table.sg
+    → from ≡ origin hands table.sg (λ round. turn_order table) round → span ≡ sum_by (turn_length hands round) table.senders → sg ≡ table.sg
     → end ≡ from + span
-    → (end + sg ≡ origin hands table.sg (turn_order table) (round + 1)) × (end ≡ greatest_end (gap_schedule hands table.sg (turn_order table) (round + 1)))
+    → (end + sg ≡ origin hands table.sg (λ round. turn_order table) (round + 1)) × (end ≡ greatest_end (gap_schedule hands table.sg (λ round. turn_order table) (round + 1)))
 round_more table hands round from span end sg valid from_is span_is sg_is end_is =
-    let order = turn_order table in
+    let order : ℕ → List Sender = λ round. turn_order table in
     let one : suc round ≡ round + 1 = omega arith in
-    let last : end ≡ turns_end hands round order (origin hands table.sg order round) = omega (arith, turns_end_sum hands round table (origin hands table.sg order round)) in
-    let so : EndsAt hands table.sg order round = ends_at hands table.sg order round (some_turn table valid) in (
-      ap (λ e. e + sg) last ∙ ap (λ g. turns_end hands round order (origin hands table.sg order round) + g) sg_is ∙ ap (origin hands table.sg order) one,
-      last ∙ sym so.end ∙ ap (λ n. greatest_end (gap_schedule hands table.sg order n)) one,
+    let last : end ≡ turns_end hands round (turn_order table) (origin hands table.sg (λ round. turn_order table) round) = omega (arith, turns_end_sum hands round table (origin hands table.sg (λ round. turn_order table) round)) in
+    let so = ends_at hands table.sg (λ round. turn_order table) round (some_turn table valid) in (
+      ap (λ e. e + sg) last ∙ ap (λ g. turns_end hands round (turn_order table) (origin hands table.sg order round) + g) sg_is ∙ ap (origin hands table.sg order) one,
+      last ∙ sym so ∙ ap (λ n. greatest_end (gap_schedule hands table.sg order n)) one,
     )

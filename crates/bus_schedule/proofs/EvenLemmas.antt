@@ -14,38 +14,29 @@ use Rattle.bus_table.specs.ValidLaws.{valid_facts}
 use Rattle.bus_table.specs.Turns.{Differ}
 use Rattle.bus_table.specs.TurnLaws.{at_in, numbers_differ}
 use Rattle.bus_schedule.specs.Even.{messages_of, rounds, are_even}
-use Rattle.bus_schedule.proofs.HandLemmas.{hand_here, hand_of_other}
+use Rattle.bus_schedule.specs.HandLaws.{HandAt, hand_at}
+use Rattle.bus_schedule.proofs.HandLemmas.{own_count}
 
 -- the hand of a sender stands at the sender's place, and has a message for each round
-pub record HandAt (hands : List Hand) (k : ℕ) (sender : Sender) (count : ℕ) : Type 0 where
+pub record EvenHandAt (hands : List Hand) (k : ℕ) (sender : Sender) (count : ℕ) : Type 0 where
   pub hand : Hand
   pub at : slice_get hands k ≡ Some hand
   pub messages : messages_of hands sender.number ≡ hand.messages
   pub whole : length hand.messages ≡ count
 
-dealt : (count : ℕ) (senders : List Sender) (hands : List Hand) (k : ℕ) (sender : Sender) → Differ (λ s. s.number) senders → are_hands senders hands ≡ true
-    → list_all (λ hand. length hand.messages == count) hands ≡ true → slice_get senders k ≡ Some sender → HandAt hands k sender count
-dealt count [] hands k sender d a e at = absurd cc
-dealt count (s ∷ senders) [] k sender d a e at = absurd (true≢false (sym a))
-dealt count (s ∷ senders) (hand ∷ hands) zero sender d a e at =
-    let same : s ≡ sender = cc in
-    let one = and_parts (hand.terminal == s.number) (list_all (fits s) hand.messages && are_hands senders hands) a in
-    let number : hand.terminal ≡ sender.number = eqb-true hand.terminal s.number one.0 ∙ ap (λ (w : Sender). w.number) same in
-    let many = and_parts (length hand.messages == count) (list_all (λ h. length h.messages == count) hands) e in
-    record { hand = hand; at = refl; messages = hand_here hand hands sender.number number; whole = eqb-true (length hand.messages) count many.0 }
-dealt count (s ∷ senders) (hand ∷ hands) (suc k) sender d a e at =
-    let one = and_parts (hand.terminal == s.number) (list_all (fits s) hand.messages && are_hands senders hands) a in
-    let two = and_parts (list_all (fits s) hand.messages) (are_hands senders hands) one.1 in
-    let many = and_parts (length hand.messages == count) (list_all (λ h. length h.messages == count) hands) e in
-    let number : hand.terminal ≡ s.number = eqb-true hand.terminal s.number one.0 in
-    let there : HandAt hands k sender count = dealt count senders hands k sender d.1 two.1 many.1 at in
-    record { hand = there.hand; at = there.at; messages = hand_of_other s senders hand hands sender d number (at_in senders k sender at) ∙ there.messages; whole = there.whole }
-
-pub hand_at : (table : Table) (hands : List Hand) (k : ℕ) (sender : Sender) → IsTrue (is_valid table) → IsTrue (are_even table hands)
-    → slice_get table.senders k ≡ Some sender → HandAt hands k sender (rounds hands)
-hand_at table hands k sender valid even at =
+pub even_hand_at : (table : Table) (hands : List Hand) (k : ℕ) (sender : Sender) → IsTrue (is_valid table) → IsTrue (are_even table hands)
+    → slice_get table.senders k ≡ Some sender → EvenHandAt hands k sender (rounds hands)
+even_hand_at table hands k sender valid even at =
     let parts = and_parts (are_hands table.senders hands) (list_all (λ hand. length hand.messages == rounds hands) hands) even in
-    dealt (rounds hands) table.senders hands k sender (numbers_differ table (valid_facts table valid)) parts.0 parts.1 at
+    let differ = numbers_differ table (valid_facts table valid) in
+    let there : HandAt hands k sender = hand_at table.senders hands k sender differ parts.0 at in
+    record {
+      hand = there.hand;
+      at = there.at;
+      messages = there.messages;
+      whole = sym (ap length there.messages)
+          ∙ own_count (rounds hands) table.senders hands parts.0 parts.1 differ sender (at_in table.senders k sender at);
+    }
 
 -- a sender that is read stands in the table
 pub read_sender : (table : Table) (senders : List Sender) (k : ℕ) (sender : Sender) → senders ≡ table.senders → k < length senders
@@ -55,7 +46,7 @@ read_sender table senders k sender same inside is = ap (λ ss. slice_get ss k) (
 pub hand_within : (table : Table) (hands : List Hand) (k : ℕ) (sender : Sender) → IsTrue (is_valid table) → IsTrue (are_even table hands)
     → slice_get table.senders k ≡ Some sender → k < length hands
 hand_within table hands k sender valid even at =
-    let there : HandAt hands k sender (rounds hands) = hand_at table hands k sender valid even at in
+    let there : EvenHandAt hands k sender (rounds hands) = even_hand_at table hands k sender valid even at in
     slice_get_within hands k there.hand there.at
 
 -- the hand that is read at the place of a sender is that sender's
@@ -63,7 +54,7 @@ read_hand : (table : Table) (hands : List Hand) (k : ℕ) (sender : Sender) (han
     → slice_get table.senders k ≡ Some sender → hand ≡ get_or hands k hand
     → (messages_of hands sender.number ≡ hand.messages) × (length hand.messages ≡ rounds hands)
 read_hand table hands k sender hand valid even at hand_is =
-    let there : HandAt hands k sender (rounds hands) = hand_at table hands k sender valid even at in
+    let there : EvenHandAt hands k sender (rounds hands) = even_hand_at table hands k sender valid even at in
     let h : hand ≡ there.hand = hand_is ∙ get_or_from_slice_get hands k there.hand hand there.at in
     let m : hand.messages ≡ there.hand.messages = ap (λ (w : Hand). w.messages) h in
     (there.messages ∙ sym m, ap length m ∙ there.whole)

@@ -139,7 +139,7 @@ module _ (step : ChainStep) (tells : ChainDue) (table : Table) (messages : ℕ �
         subst (λ k. Chain (quiet_of table) table.sg (stations table messages) (list ++ y ∷ []) (end_of y)
         (put due k (quiet_of table + y.moment + table.ti)) (gap_put gap k (quiet_of table + y.moment) (bits y.message) table.sg)
         (put count k (count k + 1))) o.number
-        (step (quiet_of table) table.sg (stations table messages) list e due gap count (station table messages o.sender) y setting.numbers
+        (step (quiet_of table) table.sg (stations table messages) list e due gap count (station table messages o.sender) y setting.dealt.numbers
         chain there low (sym o.number) o.some) in
         subst (λ l. Chain (quiet_of table) table.sg (stations table messages) l (last_end e (y ∷ rest))
         (dues (quiet_of table) table.ti due (y ∷ rest)) (places (quiet_of table) table.sg gap (y ∷ rest)) (tallies count (y ∷ rest)))

@@ -1,4 +1,4 @@
--- What even hands give each sender, and its station.
+-- What hands give each sender, and its station.
 use Rattle.std.proofs.Common.{◌≡◌, ◌≢◌, ℕ, zero, suc, ◌<◌, ◌≤◌, true, List, [], ◌∷◌, length, get_or, map, Some, inl, inr, arith, sym, refl, ap, ◌∙◌}
 use Rattle.std.specs.Prelude.{◌==◌, nat_le, slice_get, zip}
 use Rattle.std.specs.List.{list_all}
@@ -21,45 +21,42 @@ use Rattle.bus_table.specs.TurnLaws.{of_each}
 use Rattle.bus_medium.specs.Lawful.{Station}
 use Rattle.bus_medium.specs.Timings.{quiet_for, quiet_of, timing_of}
 use Rattle.bus_schedule.specs.Even.{messages_of}
+use Rattle.bus_schedule.specs.HandLaws.{hand_here, hand_of_other}
 use Rattle.bus_strings.specs.MemberLaws.{map_same}
 
--- the sender has this many messages, and each fits
-pub record HasHand (hands : ℕ → List Message) (rounds : ℕ) (sender : Sender) : Type 0 where
-  pub count : length (hands sender.number) ≡ rounds
-  pub fit : list_all (fits sender) (hands sender.number) ≡ true
-
-pub hand_here : (hand : Hand) (hands : List Hand) (number : ℕ) → hand.terminal ≡ number → messages_of (hand ∷ hands) number ≡ hand.messages
-hand_here hand hands number e = rw (eq-eqb hand.terminal number e) refl
-
-pub hand_there : (hand : Hand) (hands : List Hand) (number : ℕ) → hand.terminal ≢ number → messages_of (hand ∷ hands) number ≡ messages_of hands number
-hand_there hand hands number e = rw (ne_eqb hand.terminal number e) refl
-
--- the hand of the first sender isn't that of another
-pub hand_of_other : (a : Sender) (senders : List Sender) (hand : Hand) (hands : List Hand) (b : Sender) → Differ (λ s. s.number) (a ∷ senders)
-    → hand.terminal ≡ a.number → In b senders → messages_of (hand ∷ hands) b.number ≡ messages_of hands b.number
-hand_of_other a senders hand hands b d same i = hand_there hand hands b.number (λ e. d.0 b i (sym same ∙ e))
-
--- one hand for each sender
-pub own_hand : (n : ℕ) (senders : List Sender) (hands : List Hand) → are_hands senders hands ≡ true
-    → list_all (λ hand. length hand.messages == n) hands ≡ true → Differ (λ s. s.number) senders → (sender : Sender) → In sender senders
-    → HasHand (messages_of hands) n sender
-own_hand n [] hands h counts d sender i = absurd i
-own_hand n (a ∷ senders) [] h counts d sender i = absurd cc
-own_hand n (a ∷ senders) (hand ∷ hands) h counts d sender (inl same) =
+-- each message of a sender's hand fits
+pub own_fit : (senders : List Sender) (hands : List Hand) → are_hands senders hands ≡ true → Differ (λ s. s.number) senders
+    → (sender : Sender) → In sender senders → list_all (fits sender) (messages_of hands sender.number) ≡ true
+own_fit [] hands h d sender i = absurd i
+own_fit (a ∷ senders) [] h d sender i = absurd cc
+own_fit (a ∷ senders) (hand ∷ hands) h d sender (inl same) =
     let parts = and_parts (hand.terminal == a.number) _ h in
     let own = and_parts (list_all (fits a) hand.messages) _ parts.1 in
     let number : hand.terminal ≡ sender.number = eqb-true hand.terminal a.number parts.0 ∙ ap (λ (s : Sender). s.number) (sym same) in
-    let here : messages_of (hand ∷ hands) sender.number ≡ hand.messages = hand_here hand hands sender.number number in
-    record {
-      count = ap length here ∙ eqb-true (length hand.messages) n (and_parts (length hand.messages == n) _ counts).0;
-      fit = ap (list_all (fits sender)) here ∙ ap (λ (s : Sender). list_all (fits s) hand.messages) same ∙ own.0;
-    }
-own_hand n (a ∷ senders) (hand ∷ hands) h counts d sender (inr i) =
+    ap (list_all (fits sender)) (hand_here hand hands sender.number number)
+    ∙ ap (λ (s : Sender). list_all (fits s) hand.messages) same ∙ own.0
+own_fit (a ∷ senders) (hand ∷ hands) h d sender (inr i) =
     let parts = and_parts (hand.terminal == a.number) _ h in
     let own = and_parts (list_all (fits a) hand.messages) _ parts.1 in
-    let there : messages_of (hand ∷ hands) sender.number ≡ messages_of hands sender.number = hand_of_other a senders hand hands sender d (eqb-true hand.terminal a.number parts.0) i in
-    let rest : HasHand (messages_of hands) n sender = own_hand n senders hands own.1 (and_parts (length hand.messages == n) _ counts).1 d.1 sender i in
-    record { count = ap length there ∙ rest.count; fit = ap (list_all (fits sender)) there ∙ rest.fit }
+    ap (list_all (fits sender)) (hand_of_other a senders hand hands sender d (eqb-true hand.terminal a.number parts.0) i)
+    ∙ own_fit senders hands own.1 d.1 sender i
+
+-- where all hands have the same number of messages, so has each sender
+pub own_count : (n : ℕ) (senders : List Sender) (hands : List Hand) → are_hands senders hands ≡ true
+    → list_all (λ hand. length hand.messages == n) hands ≡ true → Differ (λ s. s.number) senders → (sender : Sender) → In sender senders
+    → length (messages_of hands sender.number) ≡ n
+own_count n [] hands h counts d sender i = absurd i
+own_count n (a ∷ senders) [] h counts d sender i = absurd cc
+own_count n (a ∷ senders) (hand ∷ hands) h counts d sender (inl same) =
+    let parts = and_parts (hand.terminal == a.number) _ h in
+    let number : hand.terminal ≡ sender.number = eqb-true hand.terminal a.number parts.0 ∙ ap (λ (s : Sender). s.number) (sym same) in
+    ap length (hand_here hand hands sender.number number)
+    ∙ eqb-true (length hand.messages) n (and_parts (length hand.messages == n) _ counts).0
+own_count n (a ∷ senders) (hand ∷ hands) h counts d sender (inr i) =
+    let parts = and_parts (hand.terminal == a.number) _ h in
+    let own = and_parts (list_all (fits a) hand.messages) _ parts.1 in
+    ap length (hand_of_other a senders hand hands sender d (eqb-true hand.terminal a.number parts.0) i)
+    ∙ own_count n senders hands own.1 (and_parts (length hand.messages == n) _ counts).1 d.1 sender i
 
 -- a sender's station
 abbrev pub station : Table → (ℕ → List Message) → Sender → Station
@@ -114,13 +111,12 @@ some_lines table sender facts =
     let least : 1 ≤ length sender.sends = leb-true 1 (length sender.sends) range.0 in
     omega arith
 
--- the message of a sender in a round
-pub message_of : (table : Table) (hands : ℕ → List Message) (n : ℕ) (sender : Sender) (round : ℕ) → TableFacts table → In sender table.senders
-    → HasHand hands n sender → round < n → Sendable sender (hands sender.number) round (get_or (hands sender.number) round [])
-message_of table hands n sender round facts i own less =
-    let count : length (hands sender.number) ≡ n = own.count in
-    let within : round < length (hands sender.number) = omega arith in
-    let fit : fits sender (get_or (hands sender.number) round []) ≡ true = fits_at sender (hands sender.number) round own.fit within in
+-- the message of a sender in a round for which it has one
+pub message_of : (table : Table) (hands : ℕ → List Message) (sender : Sender) (round : ℕ) → TableFacts table → In sender table.senders
+    → list_all (fits sender) (hands sender.number) ≡ true → round < length (hands sender.number)
+    → Sendable sender (hands sender.number) round (get_or (hands sender.number) round [])
+message_of table hands sender round facts i own within =
+    let fit : fits sender (get_or (hands sender.number) round []) ≡ true = fits_at sender (hands sender.number) round own within in
     let some : 0 < length (get_or (hands sender.number) round []) = fits_some sender.sends (get_or (hands sender.number) round []) (some_lines table sender (of_each (SenderFacts table) table.senders facts.senders sender i)) fit in
     let length_is = fitting_length sender (get_or (hands sender.number) round []) fit in
     record {

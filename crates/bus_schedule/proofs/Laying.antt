@@ -54,10 +54,10 @@ laid_turns hands round (sender ∷ order) from list some laid =
     (laid_turns hands round order (end_of x) (list ++ x ∷ []) (λ b i. some b (inr i)) one)
 
 -- so many rounds
-pub laid_schedule : (hands : ℕ → List Message) (sg : ℕ) (order : List Sender) (n : ℕ)
-    → ((sender : Sender) (round : ℕ) → In sender order → round < n → 0 < bits (get_or (hands sender.number) round []))
+pub laid_schedule : (hands : ℕ → List Message) (sg : ℕ) (order : ℕ → List Sender) (n : ℕ)
+    → ((sender : Sender) (round : ℕ) → In sender (order round) → round < n → 0 < bits (get_or (hands sender.number) round []))
     → IsLaid (gap_schedule hands sg order n) (origin hands sg order n)
 laid_schedule hands sg order zero some = record { ended = λ x i. absurd i; begun = λ x i. absurd i; ascends = tt; clear = tt }
 laid_schedule hands sg order (suc n) some =
-    laid_later (gap_schedule hands sg order (suc n)) (turns_end hands n order (origin hands sg order n)) (origin hands sg order (suc n)) (omega arith)
-    (laid_turns hands n order (origin hands sg order n) (gap_schedule hands sg order n) (λ sender i. some sender n i (omega arith)) (laid_schedule hands sg order n (λ sender round i less. some sender round i (omega arith))))
+    laid_later (gap_schedule hands sg order (suc n)) (turns_end hands n (order n) (origin hands sg order n)) (origin hands sg order (suc n)) (omega arith)
+    (laid_turns hands n (order n) (origin hands sg order n) (gap_schedule hands sg order n) (λ sender i. some sender n i (omega arith)) (laid_schedule hands sg order n (λ sender round i less. some sender round i (omega arith))))

@@ -32,8 +32,8 @@ module _ (table : Table) (messages : ℕ → List Message) (n : ℕ) (setting : 
       → gap.sender.number ≡ s.number → gap ≡ here
   gap_is place s here gap at own there i same =
       let mine : In gap.sender (turn_order table) = gap_sender table.ti (last_end 0 (turn_order table)) (turn_order table) gap i in
-      let e : gap.sender ≡ s = same_by_number table.senders (numbers_differ table setting.facts) gap.sender s (in_table gap.sender mine) (in_table s there) same in
-      one_gap (turn_key table.mode) table.ti (last_end 0 (turn_order table)) (turn_order table) gap here (order_rises table setting.facts) i (at_in (gaps table) place here at) (e ∙ sym own)
+      let e : gap.sender ≡ s = same_by_number table.senders (numbers_differ table setting.dealt.facts) gap.sender s (in_table gap.sender mine) (in_table s there) same in
+      one_gap (turn_key table.mode) table.ti (last_end 0 (turn_order table)) (turn_order table) gap here (order_rises table setting.dealt.facts) i (at_in (gaps table) place here at) (e ∙ sym own)
 
   -- of two turns, of one round, or of the last sender and the first of the next round
   left : (round next from : ℕ) (p s : Sender) (x y : Entry) (gap : Gap) → In p table.senders → round < n
@@ -54,7 +54,7 @@ module _ (table : Table) (messages : ℕ → List Message) (n : ℕ) (setting : 
       → end_of x + gap.to ≤ y.moment + gap.from
   neighbours k x y gap at_x at_y i same =
       let many : length (turn_order table) ≡ length table.senders = length-sort (turn_key table.mode) table.senders in
-      let some : 0 < length table.senders = setting.facts.some in
+      let some : 0 < length table.senders = setting.dealt.facts.some in
       let each = λ (r : ℕ). offset_turns messages r (turn_order table) (r * table.ti) in
       let long : (r : ℕ) → length (offset_turns messages r (turn_order table) (r * table.ti)) ≡ length (turn_order table) = λ r. length-map (turn_order table) (λ (s : Sender). sends messages r s (r * table.ti + s.at)) in
       let inside : k % length (turn_order table) < length (turn_order table) = omega arith in

@@ -10,6 +10,7 @@ pub mod Growing
 pub mod Turning
 pub mod GapLemmas
 pub mod Spanning
+pub mod LiveLemmas
 pub mod RunLemmas
 pub mod MovesLemmas
 pub mod EndLemmas

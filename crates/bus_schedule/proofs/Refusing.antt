@@ -152,13 +152,13 @@ module _ (settled : ChainSettled) (step : ChainStep) (tells : ChainDue) (startin
       in_rest b i = in_table b (subst (λ o. In b o) (sym order_is) (in_append_right done (g.sender ∷ rest) b (inr i)))
 
       up : Rises (turn_key table.mode) (done ++ g.sender ∷ rest)
-      up = subst (λ o. Rises (turn_key table.mode) o) order_is (order_rises table setting.facts)
+      up = subst (λ o. Rises (turn_key table.mode) o) order_is (order_rises table setting.dealt.facts)
 
       apart : (b : Sender) → In b done ⊎ In b rest → g.sender.number ≢ b.number
       apart b which same =
           let there : In b table.senders = elim which [ inl i ↦ in_done b i | inr i ↦ in_rest b i ] in
           let key : turn_key table.mode g.sender ≡ turn_key table.mode b =
-          ap (turn_key table.mode) (same_sender (λ s. s.number) table.senders g.sender b (numbers_differ table setting.facts) in_here
+          ap (turn_key table.mode) (same_sender (λ s. s.number) table.senders g.sender b (numbers_differ table setting.dealt.facts) in_here
           there same) in
           elim which [
             | inl i ↦ let k : turn_key table.mode b < turn_key table.mode g.sender = rises_before (turn_key table.mode) done g.sender rest
@@ -188,9 +188,9 @@ module _ (settled : ChainSettled) (step : ChainStep) (tells : ChainDue) (startin
 
       at_settled : Chain (quiet_of table) table.sg (stations table messages) [] 0 due_first (λ _. table.sg) (λ _. 0)
       unfolding due_first
-      at_settled = (sofar_settled settled step starting table messages 2 setting due_first (λ a i.
+      at_settled = (sofar_settled settled step starting table messages setting.dealt due_first (λ a i.
           ap (λ m. quiet_of table + due_for m a) mode
-          ∙ ap (λ k. quiet_of table + k) (sym (at_number_is table.senders a (numbers_differ table setting.facts) i)))).chain
+          ∙ ap (λ k. quiet_of table + k) (sym (at_number_is table.senders a (numbers_differ table setting.dealt.facts) i)))).chain
 
       of_before : (y : Entry) → In y before → IsOf table y
       unfolding before first_round second_part
@@ -356,10 +356,10 @@ module _ (settled : ChainSettled) (step : ChainStep) (tells : ChainDue) (startin
   short mode a i = omega (arith, filled a 0 (in_table a i) (omega arith) ∙ ap (λ m. filling_bits m a) mode)
 
   pub cycle_holds : (order : List Sender) → turn_order table ≡ order → (horizon : ℕ) → table.mode ≡ Aperiodic → least_cycle table < table.ti
-      → IsLawful (quiet_of table) (stations table messages) horizon (gap_schedule messages table.sg order 2)
-      → IsClear (gap_schedule messages table.sg order 2) → ⊥
+      → IsLawful (quiet_of table) (stations table messages) horizon (gap_schedule messages table.sg (λ round. order) 2)
+      → IsClear (gap_schedule messages table.sg (λ round. order) 2) → ⊥
   cycle_holds [] e horizon mode less law clear =
-      absurd (none table.senders setting.facts.some (λ a i. subst (λ o. In a o) e (in_sort (turn_key table.mode) table.senders a i)))
+      absurd (none table.senders setting.dealt.facts.some (λ a i. subst (λ o. In a o) e (in_sort (turn_key table.mode) table.senders a i)))
     where
       none : (senders : List Sender) → 0 < length senders → ((a : Sender) → In a senders → ⊥) → ⊥
       none [] some h = omega arith
@@ -367,7 +367,7 @@ module _ (settled : ChainSettled) (step : ChainStep) (tells : ChainDue) (startin
   cycle_holds (a ∷ order) e horizon mode less law clear =
       let within : (b : Sender) → In b (a ∷ order) → In b table.senders = λ b i. in_table b (subst (λ o. In b o) (sym e) i) in
       let there : In a table.senders = within a (inl refl) in
-      let up : Rises (turn_key table.mode) (a ∷ order) = subst (λ o. Rises (turn_key table.mode) o) e (order_rises table setting.facts) in
+      let up : Rises (turn_key table.mode) (a ∷ order) = subst (λ o. Rises (turn_key table.mode) o) e (order_rises table setting.dealt.facts) in
       let start : ℕ = turns_end messages 0 (a ∷ order) 0 + table.sg + a.tg in
       let before : List Entry = turns messages 0 (a ∷ order) 0 in
       let here : Entry = sends messages 1 a (turns_end messages 0 (a ∷ order) 0 + table.sg + a.tg) in
@@ -375,7 +375,7 @@ module _ (settled : ChainSettled) (step : ChainStep) (tells : ChainDue) (startin
       in
       let q : ℕ = quiet_of table in
       let at_settled : Chain (quiet_of table) table.sg (stations table messages) [] 0 (λ _. quiet_of table) (λ _. table.sg) (λ _. 0) =
-      (sofar_settled settled step starting table messages 2 setting (λ _. quiet_of table)
+      (sofar_settled settled step starting table messages setting.dealt (λ _. quiet_of table)
       (λ b i. ap (λ m. quiet_of table + due_for m b) mode ∙ omega arith)).chain in
       let of_before : (y : Entry) → In y before → IsOf table y = λ y i.
       let w = turns_from (a ∷ order) 0 0 y i in subst (λ k. IsOf table k) (sym w.3) (entry_of w.0 0 w.1 (within w.0 w.2) (omega arith)) in
@@ -395,7 +395,7 @@ module _ (settled : ChainSettled) (step : ChainStep) (tells : ChainDue) (startin
       dues_skip (quiet_of table) table.ti (put (λ _. quiet_of table) a.number (quiet_of table + (0 + a.tg) + table.ti)) rest a.number
       (λ y i same.
       let w = turns_from order 0 (end_of (sends messages 0 a (0 + a.tg))) y i in
-      let is : a ≡ w.0 = same_sender (λ s. s.number) table.senders a w.0 (numbers_differ table setting.facts) there (within w.0 (inr w.2))
+      let is : a ≡ w.0 = same_sender (λ s. s.number) table.senders a w.0 (numbers_differ table setting.dealt.facts) there (within w.0 (inr w.2))
       (same ∙ ap (λ (z : Entry). z.terminal) w.3) in
       let k : turn_key table.mode a < turn_key table.mode w.0 = rises_after (turn_key table.mode) [] a order w.0 up w.2 in
       let l : turn_key table.mode a ≡ turn_key table.mode w.0 = ap (turn_key table.mode) is in omega arith)

@@ -28,15 +28,17 @@ use Rattle.bus_regime.specs.VerdictLaws.{accepted_cycle, accepted_gaps, aperiodi
 use Rattle.bus_schedule.specs.Even.{messages_of, rounds, are_even}
 use Rattle.bus_schedule.specs.Closed.{sends, turns, turns_end, origin, offset_turns, in_rounds, gap_schedule, offset_schedule, schedule_in, closed, closed_end}
 use Rattle.bus_schedule.specs.Runs.{IsClear, IsInTurns, IsApart, IsSpaced}
-use Rattle.bus_schedule.specs.Laws.{AcceptedIsClosed, ClosedIsOrderly}
+use Rattle.bus_schedule.specs.Laws.{AcceptedIsClosed, ClosedIsOrderly, EvenRoundsAreClosed}
+use Rattle.bus_schedule.specs.Live.{AreLong}
 use Rattle.bus_schedule.proofs.Ascending.{offset_schedule_ascends}
-use Rattle.bus_schedule.proofs.HandLemmas.{Sendable, stations, stations_are, own_hand}
+use Rattle.bus_schedule.proofs.EndLemmas.{closed_by_gaps}
+use Rattle.bus_schedule.proofs.HandLemmas.{Sendable, stations, own_count}
 use Rattle.bus_schedule.proofs.Laying.{IsLaid, laid_schedule}
 use Rattle.bus_schedule.proofs.Places.{IsRound, turns_are_round, offset_turns_are_round, offset_turn_is, more_turns, length-in_rounds, in_rounds_at, in_rounds_get}
 use Rattle.bus_schedule.proofs.Spacing.{cycle, cycle_sum, cycle_sort, lead, LeadsMore, lead_more, lengths, turns_end_cycle, IsTurn, is_turn}
 use Rattle.bus_schedule.proofs.Growing.{Setting, sendable, sofar_lawful}
 use Rattle.bus_schedule.proofs.Spanning.{at_below, intervals_on}
-use Rattle.bus_schedule.proofs.Turning.{rounds_on}
+use Rattle.bus_schedule.proofs.LiveLemmas.{IsLawfulRounds, dealt_of, stations_of_dealt, even_are_long, even_rounds, live_lawful}
 
 -- even hands are dealt: one for each sender
 dealt : (table : Table) (hands : List Hand) → IsTrue (are_even table hands) → IsTrue (are_hands table.senders hands)
@@ -44,25 +46,21 @@ dealt table hands even = (and_parts (are_hands table.senders hands) _ even).0
 
 pub stations_of_even : (table : Table) (hands : List Hand) → IsTrue (is_valid table) → IsTrue (are_even table hands)
     → stations_of table hands ≡ stations table (messages_of hands)
-stations_of_even table hands valid even = stations_are table table.senders hands (dealt table hands even) (numbers_differ table (valid_facts table valid))
+stations_of_even table hands valid even = stations_of_dealt table hands valid (dealt table hands even)
 
 -- what a valid table and even hands give
 pub setting_of : (table : Table) (hands : List Hand) → IsTrue (is_valid table) → IsTrue (are_even table hands) → Setting table (messages_of hands) (rounds hands)
-setting_of table hands valid even =
-    let facts = valid_facts table valid in
-    record {
-      facts = facts;
-      numbers = subst HaveOwnNumbers (stations_of_even table hands valid even) (stations_have_own_numbers table hands valid (dealt table hands even));
-      sound = λ sender there. timings_are_sound table sender valid there;
-      hand = own_hand (rounds hands) table.senders hands (dealt table hands even) (and_parts (are_hands table.senders hands) _ even).1 (numbers_differ table facts);
-    }
+setting_of table hands valid even = record {
+  dealt = dealt_of table hands valid (dealt table hands even);
+  count = own_count (rounds hands) table.senders hands (dealt table hands even) (and_parts (are_hands table.senders hands) _ even).1 (numbers_differ table (valid_facts table valid));
+}
 
 module _ (table : Table) (hands : List Hand) (setting : Setting table (messages_of hands) (rounds hands)) where
   of_table : (sender : Sender) → In sender (turn_order table) → In sender table.senders
   of_table sender i = from_sort (turn_key table.mode) table.senders sender i
 
   facts_of : (sender : Sender) → In sender (turn_order table) → SenderFacts table sender
-  facts_of sender i = of_each (SenderFacts table) table.senders setting.facts.senders sender (of_table sender i)
+  facts_of sender i = of_each (SenderFacts table) table.senders setting.dealt.facts.senders sender (of_table sender i)
 
   as_many : length (turn_order table) ≡ length table.senders
   as_many = length-sort (turn_key table.mode) table.senders
@@ -78,9 +76,9 @@ module _ (table : Table) (hands : List Hand) (setting : Setting table (messages_
 
   has_rounds : (mode : Mode) → HasRounds mode
   has_rounds Aperiodic = record {
-    round = λ r. turns (messages_of hands) r (turn_order table) (origin (messages_of hands) table.sg (turn_order table) r);
+    round = λ r. turns (messages_of hands) r (turn_order table) (origin (messages_of hands) table.sg (λ round. turn_order table) r);
     is = refl;
-    each = λ r. turns_are_round (messages_of hands) r (turn_order table) (origin (messages_of hands) table.sg (turn_order table) r);
+    each = λ r. turns_are_round (messages_of hands) r (turn_order table) (origin (messages_of hands) table.sg (λ round. turn_order table) r);
   }
   has_rounds Periodic = record {
     round = λ r. offset_turns (messages_of hands) r (turn_order table) (r * table.ti);
@@ -106,14 +104,14 @@ module _ (table : Table) (hands : List Hand) (setting : Setting table (messages_
             };
       }
 
-  gaps_laid : IsLaid (gap_schedule (messages_of hands) table.sg (turn_order table) (rounds hands)) (origin (messages_of hands) table.sg (turn_order table) (rounds hands))
-  gaps_laid = laid_schedule (messages_of hands) table.sg (turn_order table) (rounds hands) (λ sender round i less. (message sender round i less).some_bits)
+  gaps_laid : IsLaid (gap_schedule (messages_of hands) table.sg (λ round. turn_order table) (rounds hands)) (origin (messages_of hands) table.sg (λ round. turn_order table) (rounds hands))
+  gaps_laid = laid_schedule (messages_of hands) table.sg (λ round. turn_order table) (rounds hands) (λ sender round i less. (message sender round i less).some_bits)
 
   ascends_in : (mode : Mode) → table.mode ≡ mode → IsAscending (schedule_in mode table (messages_of hands) (rounds hands))
   ascends_in Aperiodic is = gaps_laid.ascends
   ascends_in Periodic is =
       offset_schedule_ascends (messages_of hands) table.ti (turn_order table) (λ s i. at_below table s is (facts_of s i)) (rounds hands)
-      (λ s i. (facts_of s i).number_most) (subst (λ m. Rises (turn_key m) (turn_order table)) is (order_rises table setting.facts))
+      (λ s i. (facts_of s i).number_most) (subst (λ m. Rises (turn_key m) (turn_order table)) is (order_rises table setting.dealt.facts))
 
   -- a turn, and the same turn of the next round
   record AreNext (mode : Mode) (k : ℕ) (x y : Entry) : Type 0 where
@@ -127,7 +125,7 @@ module _ (table : Table) (hands : List Hand) (setting : Setting table (messages_
       → slice_get (schedule_in mode table (messages_of hands) (rounds hands)) (k + length table.senders) ≡ Some y → AreNext mode k x y
   are_next mode k x y at_x at_y =
       let w : HasRounds mode = has_rounds mode in
-      let some : 0 < length table.senders = setting.facts.some in
+      let some : 0 < length table.senders = setting.dealt.facts.some in
       let same : length (turn_order table) ≡ length table.senders = as_many in
       let inside : k % length (turn_order table) < length (turn_order table) = omega arith in
       let place : k / length (turn_order table) * length (turn_order table) + k % length (turn_order table) ≡ k = div-add-mod' k (length (turn_order table)) in
@@ -158,15 +156,15 @@ module _ (table : Table) (hands : List Hand) (setting : Setting table (messages_
       (omega arith, omega arith)
 
   gap_turns_apart : (round turn : ℕ) (x y : Entry) → suc round < rounds hands
-      → slice_get (turns (messages_of hands) round (turn_order table) (origin (messages_of hands) table.sg (turn_order table) round)) turn ≡ Some x
-      → slice_get (turns (messages_of hands) (suc round) (turn_order table) (origin (messages_of hands) table.sg (turn_order table) (suc round))) turn ≡ Some y
+      → slice_get (turns (messages_of hands) round (turn_order table) (origin (messages_of hands) table.sg (λ round. turn_order table) round)) turn ≡ Some x
+      → slice_get (turns (messages_of hands) (suc round) (turn_order table) (origin (messages_of hands) table.sg (λ round. turn_order table) (suc round))) turn ≡ Some y
       → IsApart (least_cycle table) (most_cycle table) x y
   gap_turns_apart round turn x y more at_x at_y =
-      let from : ℕ = origin (messages_of hands) table.sg (turn_order table) round in
+      let from : ℕ = origin (messages_of hands) table.sg (λ round. turn_order table) round in
       let this : Sender → ℕ = lengths (messages_of hands) round in
       let next : Sender → ℕ = lengths (messages_of hands) (suc round) in
       let t : IsTurn (messages_of hands) round (turn_order table) from turn x = is_turn (messages_of hands) round (turn_order table) from turn x at_x in
-      let u : IsTurn (messages_of hands) (suc round) (turn_order table) (origin (messages_of hands) table.sg (turn_order table) (suc round)) turn y = is_turn (messages_of hands) (suc round) (turn_order table) (origin (messages_of hands) table.sg (turn_order table) (suc round)) turn y at_y in
+      let u : IsTurn (messages_of hands) (suc round) (turn_order table) (origin (messages_of hands) table.sg (λ round. turn_order table) (suc round)) turn y = is_turn (messages_of hands) (suc round) (turn_order table) (origin (messages_of hands) table.sg (λ round. turn_order table) (suc round)) turn y at_y in
       let same : t.sender ≡ u.sender = let k : Some t.sender ≡ Some u.sender = sym t.at ∙ u.at in cc in
       let numbers = between from (turns_end (messages_of hands) round (turn_order table) from) table.sg x.moment y.moment shortest longest this next (turn_order table) turn
       (turns_end_cycle (messages_of hands) round (turn_order table) from) t.moment u.moment
@@ -221,15 +219,15 @@ closed_is_orderly table hands valid even =
       clear = λ mode. subst (λ m. IsClear (schedule_in m table (messages_of hands) (rounds hands))) (sym mode) (gaps_laid table hands setting).clear;
     }
 
--- lawful up to its end, without overlaps
-record IsLawfulRun (table : Table) (hands : List Hand) (list : List Entry) : Type 0 where
-  lawful : IsLawful (quiet_of table) (stations table (messages_of hands)) (greatest_end list) list
-  clear : IsClear list
+pub even_rounds_are_closed : EvenRoundsAreClosed
+even_rounds_are_closed table hands valid mode even =
+    even_rounds table (messages_of hands) (rounds hands) (setting_of table hands valid even) (rounds hands) (omega arith)
+    ∙ sym (closed_by_gaps table hands mode)
 
 pub accepted_is_closed : ChainSettled → ChainStep → ChainStarts → OneLawfulList → LawfulToHorizon → AcceptedIsClosed
 accepted_is_closed settled step starting once whole table hands valid accepted even =
     let setting : Setting table (messages_of hands) (rounds hands) = setting_of table hands valid even in
-    let run : IsLawfulRun table hands (closed table hands) = run_in setting table.mode refl in
+    let run : IsLawfulRounds table (messages_of hands) (closed table hands) = run_in setting table.mode refl in
     let lawful : IsLawful (quiet_of table) (stations_of table hands) (closed_end table hands) (closed table hands) =
     subst (λ ss. IsLawful (quiet_of table) ss (closed_end table hands) (closed table hands)) (sym (stations_of_even table hands valid even)) run.lawful in
     let own : HaveOwnNumbers (stations_of table hands) = stations_have_own_numbers table hands valid (dealt table hands even) in
@@ -243,12 +241,11 @@ accepted_is_closed settled step starting once whole table hands valid accepted e
     }
   where
     run_in : Setting table (messages_of hands) (rounds hands) → (mode : Mode) → table.mode ≡ mode
-        → IsLawfulRun table hands (schedule_in mode table (messages_of hands) (rounds hands))
+        → IsLawfulRounds table (messages_of hands) (schedule_in mode table (messages_of hands) (rounds hands))
     run_in setting Aperiodic is =
-        let long : table.ti ≤ table.sg + cycle shortest table.senders = subst (λ c. table.ti ≤ table.sg + c) (cycle_sum shortest table.senders) (accepted_cycle table is accepted) in
-        let t = rounds_on settled step starting shortest table (messages_of hands) (rounds hands) setting
-        (λ sender round i less. (sendable table (messages_of hands) (rounds hands) setting sender round i less).least) is long (rounds hands) (omega arith) in
-        record { lawful = sofar_lawful whole table (messages_of hands) (gap_schedule (messages_of hands) table.sg (turn_order table) (rounds hands)) t.e t.due t.gap t.count t.sofar; clear = t.sofar.clear }
+        let long : AreLong table (messages_of hands) = even_are_long table (messages_of hands) (rounds hands) setting (accepted_cycle table is accepted) in
+        subst (IsLawfulRounds table (messages_of hands)) (even_rounds table (messages_of hands) (rounds hands) setting (rounds hands) (omega arith))
+        (live_lawful settled step starting whole table (messages_of hands) setting.dealt is long (rounds hands))
     run_in setting Periodic is =
         let t = intervals_on settled step starting table (messages_of hands) (rounds hands) setting is (accepted_gaps table is accepted) (rounds hands) (omega arith) in
         record { lawful = sofar_lawful whole table (messages_of hands) (offset_schedule (messages_of hands) table.ti (turn_order table) (rounds hands)) t.e t.due t.gap t.count t.sofar; clear = t.sofar.clear }

@@ -22,7 +22,7 @@ use Rattle.bus_schedule.specs.Even.{messages_of}
 use Rattle.bus_schedule.specs.Laws.{WitnessesAreShort}
 use Rattle.bus_schedule.specs.Limits.{longest_end}
 use Rattle.bus_schedule.specs.Settled.{witness_hands}
-use Rattle.bus_schedule.proofs.EndLemmas.{EndsAt, ends_at, some_turn}
+use Rattle.bus_schedule.proofs.EndLemmas.{ends_at, some_turn}
 use Rattle.bus_schedule.proofs.Greatest.{greatest_cons}
 use Rattle.bus_schedule.proofs.Spacing.{cycle, lengths, turns_end_cycle}
 use Rattle.bus_schedule.proofs.Spanning.{at_below}
@@ -70,15 +70,15 @@ module _ (table : Table) (facts : TableFacts table) where
       omega (arith, length_most a round (h a (inl refl)) less, cycle_most order round less (λ b i. h b (inr i)))
 
   gaps_short : 0 < length (turn_order table)
-      → greatest_end (gap_schedule (messages_of (witness_hands table)) table.sg (turn_order table) 2) ≤ longest_end
+      → greatest_end (gap_schedule (messages_of (witness_hands table)) table.sg (λ round. turn_order table) 2) ≤ longest_end
   gaps_short some =
       let hands = messages_of (witness_hands table) in
       let order = turn_order table in
-      let so : EndsAt (messages_of (witness_hands table)) table.sg (turn_order table) 1 = ends_at (messages_of (witness_hands table))
-      table.sg (turn_order table) 1 some in
-      let end : greatest_end (gap_schedule (messages_of (witness_hands table)) table.sg (turn_order table) 2) ≡ turns_end
+      let so = ends_at (messages_of (witness_hands table))
+      table.sg (λ round. turn_order table) 1 some in
+      let end : greatest_end (gap_schedule (messages_of (witness_hands table)) table.sg (λ round. turn_order table) 2) ≡ turns_end
       (messages_of (witness_hands table)) 1 (turn_order table) (turns_end (messages_of (witness_hands table)) 0 (turn_order table) 0 +
-      table.sg) = so.end in
+      table.sg) = so in
       let first = turns_end_cycle (messages_of (witness_hands table)) 0 (turn_order table) 0 in
       let second = turns_end_cycle (messages_of (witness_hands table)) 1 (turn_order table)
       (turns_end (messages_of (witness_hands table)) 0 (turn_order table) 0 + table.sg) in

@@ -1,7 +1,7 @@
 -- How far apart successive starts of one sender are.
-use Rattle.std.proofs.Common.{◌≡◌, ℕ, zero, suc, ◌+◌, ◌≤◌, true, false, cond, List, [], ◌∷◌, get_or, Some, None, inl, inr, arith, sym, refl, ap, ◌∙◌}
+use Rattle.std.proofs.Common.{◌≡◌, ℕ, zero, suc, ◌+◌, ◌≤◌, Bool, true, false, cond, List, [], ◌∷◌, get_or, Some, None, inl, inr, arith, sym, refl, ap, ◌∙◌}
 use Rattle.std.specs.Prelude.{nat_lt, slice_get}
-use Rattle.std.specs.List.{sum_by}
+use Rattle.std.specs.List.{filter, sum_by}
 use Rattle.std.proofs.lemmas.List.Sums.{sum_by-cons}
 use Rattle.bus_strings.specs.Members.{In}
 use Rattle.bus_strings.specs.Messages.{Message, Entry, bits}
@@ -26,6 +26,15 @@ cycle_insert w key a (c ∷ cs) = elim (nat_lt (key a) (key c)) as (λ b. cycle 
 pub cycle_sort : (w : Sender → ℕ) (key : Sender → ℕ) (bs : List Sender) → cycle w (sort key bs) ≡ cycle w bs
 cycle_sort w key [] = refl
 cycle_sort w key (a ∷ bs) = cycle_insert w key a (sort key bs) ∙ omega (arith, cycle_sort w key bs)
+
+-- what a test takes of some senders has no longer a cycle
+pub cycle_filter : (w : Sender → ℕ) (p : Sender → Bool) (bs : List Sender) → cycle w (filter p bs) ≤ cycle w bs
+cycle_filter w p [] = omega arith
+cycle_filter w p (a ∷ bs) =
+    elim (p a) as (λ b. cycle w (cond b (a ∷ filter p bs) (filter p bs)) ≤ a.tg + w a + cycle w bs) [
+      | true ↦ omega (arith, cycle_filter w p bs)
+      | false ↦ omega (arith, cycle_filter w p bs)
+    ]
 
 -- the part of a cycle up to the start at this turn
 abbrev pub lead : (Sender → ℕ) → List Sender → ℕ → ℕ

@@ -22,7 +22,7 @@ use Rattle.bus_strings.specs.MemberLaws.{in_append_cases, in_append_left, in_app
 use Rattle.bus_schedule.proofs.Orders.{rises_before, rises_after, same_sender}
 use Rattle.bus_schedule.proofs.HandLemmas.{Sendable}
 use Rattle.bus_schedule.proofs.GapLemmas.{behind_ends, final, final_last, gap_left}
-use Rattle.bus_schedule.proofs.Growing.{Setting, Sofar, Takes, sendable, sofar_step, sofar_settled}
+use Rattle.bus_schedule.proofs.Growing.{Setting, Sofar, Takes, has_left, sendable, sofar_step, sofar_settled}
 use Rattle.bus_schedule.proofs.Turning.{put_here, put_other, gap_put_elapsed}
 
 -- In the interval that begins at moment base some senders of this round are done; the longest message before has ended at `from`, which
@@ -95,7 +95,7 @@ module _ (settled : ChainSettled) (step : ChainStep) (starting : ChainStarts) (t
   quiet_is = ap (λ m. quiet_for m table.sg table.senders) mode
 
   rises : Rises (turn_key Periodic) (turn_order table)
-  rises = subst (λ m. Rises (turn_key m) (turn_order table)) mode (order_rises table setting.facts)
+  rises = subst (λ m. Rises (turn_key m) (turn_order table)) mode (order_rises table setting.dealt.facts)
 
   turn : (done : List Sender) (a : Sender) (rest : List Sender) (round base from : ℕ) (list : List Entry) → round < n
       → Span table messages done (a ∷ rest) round base from list
@@ -105,7 +105,7 @@ module _ (settled : ChainSettled) (step : ChainStep) (starting : ChainStarts) (t
       let up : Rises (turn_key Periodic) (done ++ a ∷ rest) = subst (λ o. Rises (turn_key Periodic) o) order rises in
       let within : (b : Sender) → In b (done ++ a ∷ rest) → In b table.senders = λ b i. from_sort (turn_key table.mode) table.senders b (subst (λ o. In b o) (sym order) i) in
       let there : In a table.senders = within a (in_append_right done (a ∷ rest) a (inl refl)) in
-      let facts : (b : Sender) → In b table.senders → SenderFacts table b = λ b i. of_each (SenderFacts table) table.senders setting.facts.senders b i in
+      let facts : (b : Sender) → In b table.senders → SenderFacts table b = λ b i. of_each (SenderFacts table) table.senders setting.dealt.facts.senders b i in
       let here : Gap = record { sender = a; from = from; to = table.ti + a.at } in
       let here_in : In (record { sender = a; from = from; to = table.ti + a.at }) (gaps table) =
       subst (λ k. In (record { sender = a; from = from; to = table.ti + a.at }) k) (sym w.gaps_split) (in_append_right w.before (gaps_from table.ti from (a ∷ rest)) (record { sender = a; from = from; to = table.ti + a.at }) (inl refl)) in
@@ -124,7 +124,7 @@ module _ (settled : ChainSettled) (step : ChainStep) (starting : ChainStarts) (t
       let k : table.ti + latest_end a ≤ table.ti + b.at = behind_ends table.ti (table.ti + latest_end a) rest b
       (λ g j. let h : g.from + g.sender.tg ≤ g.to = (fine g (subst (λ k. In g k) (sym w.gaps_split) (in_append_right w.before (gaps_from table.ti from (a ∷ rest)) g (inr j)))).wide in omega arith) i in
       omega arith in
-      let tell : (b : Sender) → In b table.senders → b.number ≡ a.number → b ≡ a = λ b i same. same_sender (λ c. c.number) table.senders b a (numbers_differ table setting.facts) i there same in
+      let tell : (b : Sender) → In b table.senders → b.number ≡ a.number → b ≡ a = λ b i same. same_sender (λ c. c.number) table.senders b a (numbers_differ table setting.dealt.facts) i there same in
       let key_apart : (b : Sender) → turn_key Periodic b ≢ turn_key Periodic a → In b table.senders → b.number ≢ a.number = λ b k i same. k (ap (turn_key Periodic) (tell b i same)) in
       let apart_before : (b : Sender) → In b done → b.number ≢ a.number = λ b i. key_apart b (λ e. let k : turn_key Periodic b < turn_key Periodic a = rises_before (turn_key Periodic) done a rest b up i in omega arith) (within b (in_append_left done (a ∷ rest) b i)) in
       let apart_after : (b : Sender) → In b rest → b.number ≢ a.number = λ b i. key_apart b (λ e. let k : turn_key Periodic a < turn_key Periodic b = rises_after (turn_key Periodic) done a rest b up i in omega arith) (within b (in_append_right done (a ∷ rest) b (inr i))) in
@@ -168,7 +168,7 @@ module _ (settled : ChainSettled) (step : ChainStep) (starting : ChainStarts) (t
                   omega arith
             ]
       ] in
-      let takes : Takes table w.due w.gap w.count a round (base + a.at) = record {
+      let takes : Takes table messages w.due w.gap w.count a round (base + a.at) = record {
         interval = omega arith;
         terminal = terminal;
         first = inl (omega arith);
@@ -180,7 +180,7 @@ module _ (settled : ChainSettled) (step : ChainStep) (starting : ChainStarts) (t
         due = put w.due a.number (quiet_of table + (base + a.at) + table.ti);
         gap = gap_put w.gap a.number (quiet_of table + (base + a.at)) (bits (get_or (messages a.number) round [])) table.sg;
         count = put w.count a.number (w.count a.number + 1);
-        sofar = sofar_step settled step starting table messages n setting list w.e w.due w.gap w.count a round (base + a.at) more w.sofar there low takes;
+        sofar = sofar_step settled step starting table messages setting.dealt list w.e w.due w.gap w.count a round (base + a.at) (has_left table messages n setting a round there more) w.sofar there low takes;
         split = order ∙ sym (append_assoc done (a ∷ []) rest);
         before = w.before ++ here ∷ [];
         gaps_split = w.gaps_split ∙ sym (append_assoc w.before (here ∷ []) (gaps_from table.ti (table.ti + latest_end a) rest));
@@ -240,7 +240,7 @@ module _ (settled : ChainSettled) (step : ChainStep) (starting : ChainStarts) (t
       (subst (λ k. Span table messages ((done ++ a ∷ []) ++ rest) [] round base (final table.ti from (a ∷ rest)) k) (append_assoc list (sends messages round a (base + a.at) ∷ []) (offset_turns messages round rest base)) so)
 
   first_sender : (a : Sender) × In a table.senders
-  first_sender = some_in table.senders setting.facts.some
+  first_sender = some_in table.senders setting.dealt.facts.some
     where
       some_in : (senders : List Sender) → 0 < length senders → (a : Sender) × In a senders
       some_in [] h = absurd (omega arith)
@@ -278,7 +278,7 @@ module _ (settled : ChainSettled) (step : ChainStep) (starting : ChainStarts) (t
 
   due_first_is : (a : Sender) → In a table.senders → quiet_of table + a.at ≡ due_first a.number
   unfolding due_first
-  due_first_is a i = ap (λ k. quiet_of table + k) (sym (at_number_is table.senders a (numbers_differ table setting.facts) i))
+  due_first_is a i = ap (λ k. quiet_of table + k) (sym (at_number_is table.senders a (numbers_differ table setting.dealt.facts) i))
 
   at_settled : Span table messages [] (turn_order table) 0 0 (last_end 0 (turn_order table)) []
   at_settled =
@@ -288,7 +288,7 @@ module _ (settled : ChainSettled) (step : ChainStep) (starting : ChainStarts) (t
         due = due_first;
         gap = λ _. table.sg;
         count = λ _. 0;
-        sofar = sofar_settled settled step starting table messages n setting due_first
+        sofar = sofar_settled settled step starting table messages setting.dealt due_first
             (λ a i. ap (λ m. quiet_of table + due_for m a) mode ∙ due_first_is a i);
         split = refl;
         before = [];

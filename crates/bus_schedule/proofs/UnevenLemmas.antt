@@ -17,7 +17,8 @@ use Rattle.bus_table.specs.ValidLaws.{valid_facts}
 use Rattle.bus_schedule.specs.declared.uneven.Uneven.{Uneven}
 use Rattle.bus_schedule.specs.Even.{messages_of, rounds, are_even}
 use Rattle.bus_schedule.specs.Uneven.{count_of, counts_of, differing, uneven_in, uneven_of}
-use Rattle.bus_schedule.proofs.HandLemmas.{HasHand, own_hand, hand_here, hand_of_other}
+use Rattle.bus_schedule.specs.HandLaws.{hand_here, hand_of_other}
+use Rattle.bus_schedule.proofs.HandLemmas.{own_count}
 
 both : (a b : Bool) → a ≡ true → b ≡ true → (a && b) ≡ true
 both true true h k = refl
@@ -100,8 +101,8 @@ in_order_even table hands (first ∷ order) facts dealt from to =
           both (are_hands table.senders hands) (list_all (λ hand. length hand.messages == rounds hands) hands) dealt (hands_count (rounds hands) table.senders hands dealt d (λ s i. same s i ∙ sym n))),
       (λ h.
           let counts = (and_parts (are_hands table.senders hands) _ h).1 in
-          let own : (s : Sender) → In s table.senders → HasHand (messages_of hands) (rounds hands) s = own_hand (rounds hands) table.senders hands dealt counts d in
-          ap is_some (all_same hands first.number order (λ s i. (own s (from s (inr i))).count ∙ sym (own first (from first (inl refl))).count))),
+          let own : (s : Sender) → In s table.senders → count_of hands s.number ≡ rounds hands = own_count (rounds hands) table.senders hands dealt counts d in
+          ap is_some (all_same hands first.number order (λ s i. own s (from s (inr i)) ∙ sym (own first (from first (inl refl)))))),
     )
 
 pub uneven_even : (table : Table) (hands : List Hand) → IsTrue (is_valid table) → IsTrue (are_hands table.senders hands)

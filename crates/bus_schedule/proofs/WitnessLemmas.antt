@@ -32,7 +32,8 @@ use Rattle.bus_schedule.specs.Laws.{AcceptedIsClosed, TheSettledAreAccepted, The
 use Rattle.bus_schedule.specs.Runs.{IsClear}
 use Rattle.bus_schedule.specs.Settled.{Happens, IsKept, IsSettled, witness_hands}
 use Rattle.bus_schedule.proofs.Growing.{Setting}
-use Rattle.bus_schedule.proofs.HandLemmas.{stations, hand_here, hand_there}
+use Rattle.bus_schedule.specs.HandLaws.{hand_here, hand_there}
+use Rattle.bus_schedule.proofs.HandLemmas.{stations}
 use Rattle.bus_schedule.proofs.Meeting.{clear_or_overlap}
 use Rattle.bus_schedule.proofs.Refusing.{gaps_hold, cycle_holds}
 use Rattle.bus_schedule.proofs.RunLemmas.{setting_of, stations_of_even}

@@ -38,10 +38,11 @@ abbrev pub turns_end : (ℕ → List Message) → ℕ → List Sender → ℕ �
 turns_end messages round [] from = from
 turns_end messages round (sender ∷ order) from = turns_end messages round order (end_of (sends messages round sender (from + sender.tg)))
 
--- the moment from which an aperiodic round counts: the settled start, or one synchronization gap behind the end of the round before
-abbrev pub origin : (ℕ → List Message) → ℕ → List Sender → ℕ → ℕ
+-- the moment from which an aperiodic round counts: the settled start, or one synchronization gap behind the end of the round before, where
+-- the senders of each round are given in turn order
+abbrev pub origin : (ℕ → List Message) → ℕ → (ℕ → List Sender) → ℕ → ℕ
 origin messages sg order zero = 0
-origin messages sg order (suc round) = turns_end messages round order (origin messages sg order round) + sg
+origin messages sg order (suc round) = turns_end messages round (order round) (origin messages sg order round) + sg
 
 -- the turns of a periodic round: each sender starts at its offset in the interval that begins at moment `base`
 abbrev pub offset_turns : (ℕ → List Message) → ℕ → List Sender → ℕ → List Entry
@@ -53,8 +54,8 @@ in_rounds round zero = []
 in_rounds round (suc n) = in_rounds round n ++ round n
 
 -- so many rounds by gaps
-abbrev pub gap_schedule : (ℕ → List Message) → ℕ → List Sender → ℕ → List Entry
-gap_schedule messages sg order n = in_rounds (λ round. turns messages round order (origin messages sg order round)) n
+abbrev pub gap_schedule : (ℕ → List Message) → ℕ → (ℕ → List Sender) → ℕ → List Entry
+gap_schedule messages sg order n = in_rounds (λ round. turns messages round (order round) (origin messages sg order round)) n
 
 -- so many rounds by offsets, one each transmit interval
 abbrev pub offset_schedule : (ℕ → List Message) → ℕ → List Sender → ℕ → List Entry
@@ -62,7 +63,7 @@ offset_schedule messages ti order n = in_rounds (λ round. offset_turns messages
 
 -- so many rounds in a mode, of these messages
 abbrev pub schedule_in : Mode → Table → (ℕ → List Message) → ℕ → List Entry
-schedule_in Aperiodic table messages n = gap_schedule messages table.sg (turn_order table) n
+schedule_in Aperiodic table messages n = gap_schedule messages table.sg (λ round. turn_order table) n
 schedule_in Periodic table messages n = offset_schedule messages table.ti (turn_order table) n
 
 -- the closed schedule of a table and even hands: as many rounds as each hand has messages. It ascends by moment, then terminal

@@ -1,17 +1,21 @@
 -- What follows of the definitions, with no limit on the closed end.
-use Rattle.std.specs.Prelude.{◌≡◌, ◌↔◌, ◌+◌, ◌*◌, ◌≤◌, ℕ, false, IsNone, IsTrue, List, Some, slice_get}
+use Rattle.std.specs.Prelude.{◌≡◌, ◌↔◌, suc, ◌+◌, ◌*◌, ◌<◌, ◌≤◌, ℕ, false, IsNone, IsTrue, List, Some, length, slice_get}
+use Rattle.bus_strings.specs.Marking.{greatest_end}
 use Rattle.bus_strings.specs.Members.{In}
-use Rattle.bus_strings.specs.Messages.{Entry}
+use Rattle.bus_strings.specs.Messages.{Message, Entry}
 use Rattle.bus_strings.specs.Transmissions.{end_of, IsAscending}
 use Rattle.bus_table.specs.declared.mode.Mode.TheVariants.{Aperiodic, Periodic}
 use Rattle.bus_table.specs.Tables.{Table, Hand}
 use Rattle.bus_table.specs.Hands.{are_hands}
 use Rattle.bus_table.specs.Valid.{is_valid}
+use Rattle.bus_medium.specs.Lawful.{IsLawful}
+use Rattle.bus_medium.specs.Timings.{quiet_of, stations_of}
 use Rattle.bus_regime.specs.Gaps.{Gap, gaps}
 use Rattle.bus_regime.specs.Verdicts.{most_cycle, verdict_of, is_accepted}
-use Rattle.bus_schedule.specs.Even.{are_even, rounds}
+use Rattle.bus_schedule.specs.Even.{are_even, messages_of, rounds}
 use Rattle.bus_schedule.specs.Uneven.{uneven_of}
-use Rattle.bus_schedule.specs.Closed.{closed, closed_end}
+use Rattle.bus_schedule.specs.Closed.{origin, turns_end, closed, closed_end}
+use Rattle.bus_schedule.specs.Live.{live, live_rounds, AreLong}
 use Rattle.bus_schedule.specs.Limits.{longest_end}
 use Rattle.bus_schedule.specs.Runs.{IsClear, IsInTurns, IsRun}
 use Rattle.bus_schedule.specs.Settled.{Fails, IsSettled, witness_hands}
@@ -40,6 +44,31 @@ abbrev pub ClosedEndsInCycles : Type 0
 ClosedEndsInCycles =
     (table : Table) (hands : List Hand) → IsTrue (is_valid table) → table.mode ≡ Aperiodic → IsTrue (are_even table hands)
     → closed_end table hands ≤ rounds hands * most_cycle table
+
+-- lawful up to its end, without overlaps
+pub record IsLawfulToItsEnd (table : Table) (hands : List Hand) (list : List Entry) : Type 0 where
+  pub lawful : IsLawful (quiet_of table) (stations_of table hands) (greatest_end list) list
+  pub clear : IsClear list
+
+-- For an aperiodic table and any hands, as many rounds as one likes of the senders that have a message left are lawful up to their end,
+-- without overlaps, where each behind the first is long enough. Whether the verdict accepts the table isn't asked.
+abbrev pub LiveRoundsAreLawful : Type 0
+LiveRoundsAreLawful =
+    (table : Table) (hands : List Hand) (n : ℕ) → IsTrue (is_valid table) → table.mode ≡ Aperiodic → IsTrue (are_hands table.senders hands)
+    → AreLong table (messages_of hands) → IsLawfulToItsEnd table hands (live_rounds table (messages_of hands) n)
+
+-- The greatest end of such rounds, of which the last has a sender, is that of the last turn.
+abbrev pub LiveRoundsEnd : Type 0
+LiveRoundsEnd =
+    (table : Table) (messages : ℕ → List Message) (round : ℕ) → 0 < length (live table messages round)
+    → greatest_end (live_rounds table messages (suc round))
+    ≡ turns_end messages round (live table messages round) (origin messages table.sg (live table messages) round)
+
+-- The closed schedule of an aperiodic table is such rounds.
+abbrev pub EvenRoundsAreClosed : Type 0
+EvenRoundsAreClosed =
+    (table : Table) (hands : List Hand) → IsTrue (is_valid table) → table.mode ≡ Aperiodic → IsTrue (are_even table hands)
+    → live_rounds table (messages_of hands) (rounds hands) ≡ closed table hands
 
 -- What the messages of a periodic table leave: of two neighbours in the closed schedule, accepted or not, the second starts at least as
 -- long behind the end of the first as the gap before its sender is, taken with longest messages.

@@ -1,6 +1,8 @@
 pub mod Even
+pub mod HandLaws
 pub mod Uneven
 pub mod Closed
+pub mod Live
 pub mod Places
 pub mod Runs
 pub mod Settled

@@ -1,9 +1,22 @@
 //! Laws of the definitions, each the contract of a function that does nothing.
 ghost use Rattle.bus_schedule.specs.Laws.{AcceptedIsClosed, ClosedEndsInCycles, ClosedIsOrderly, EvenHandsAgree, GapsAreLeft};
+ghost use Rattle.bus_schedule.specs.Laws.{EvenRoundsAreClosed, LiveRoundsAreLawful, LiveRoundsEnd};
 ghost use Rattle.bus_schedule.specs.Laws.{TheSettledAreAccepted, TheRefusedFail, WitnessesAreEven, WitnessesAreShort};
 
 use bus_medium::laws::{chains_tell, one_lawful_list};
 use bus_table::laws::fitting_items_give_hands;
+
+/// Rounds of the senders of an aperiodic table that have a message left (`specs/Live.antt`), with hands that need not be even, are
+/// lawful up to their end, without overlaps, where each behind the first takes at least one transmit interval. They end with the
+/// last turn. The closed schedule is such rounds of even hands.
+pub fn live_rounds()
+    ensures lawful { LiveRoundsAreLawful }
+    ensures end { LiveRoundsEnd }
+    ensures even { EvenRoundsAreClosed }
+{
+    chains_tell();
+    one_lawful_list();
+}
 
 /// For an accepted table in either mode and even hands, of any length, the closed schedule is the one lawful list up to the
 /// closed end; no two of its transmissions overlap, every cycle holds each sender once in turn order, and successive starts of

@@ -19,5 +19,5 @@ pub returns : goal.returns
 returns c =
     let last : c.loop-round.round ≡ rounds c.args.hands.now = omega (arith, c.loop-round-test.false, c.rounds-round-end.ensures) in
     c.loop-round.invariant.end
-    ∙ ap (λ n. greatest_end (gap_schedule (messages_of c.args.hands.now) c.args.table.now.sg (turn_order c.args.table.now) n)) last
+    ∙ ap (λ n. greatest_end (gap_schedule (messages_of c.args.hands.now) c.args.table.now.sg (λ round. turn_order c.args.table.now) n)) last
     ∙ sym (ap greatest_end (closed_by_gaps c.args.table.now c.args.hands.now c.requires.aperiodic))

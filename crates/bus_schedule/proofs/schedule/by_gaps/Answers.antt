@@ -19,11 +19,11 @@ overflow_add-from c =
 
 pub loop-round-preserved : goal.loop-round-preserved
 loop-round-preserved c =
-    let more = round_added (messages_of c.args.hands.now) c.from-sg.result c.args.table.now.sg (turn_order c.args.table.now) c.loop-round.round c.loop-round.from c.in_ok-from.field-0 c.loop-round.list.items c.add_by_gaps.new.list.items c.loop-round.invariant.list c.loop-round.invariant.from (c.from-sg.ensures ∙ c.sg.ensures.value) c.in_ok-from.ensures.turns c.in_ok-from.ensures.end in
+    let more = round_added (messages_of c.args.hands.now) c.from-sg.result c.args.table.now.sg (λ round. turn_order c.args.table.now) c.loop-round.round c.loop-round.from c.in_ok-from.field-0 c.loop-round.list.items c.add_by_gaps.new.list.items c.loop-round.invariant.list c.loop-round.invariant.from (c.from-sg.ensures ∙ c.sg.ensures.value) c.in_ok-from.ensures.turns c.in_ok-from.ensures.end in
     record { list = more.0; from = more.1 }
 
 pub returns : goal.returns
 returns c =
     let last : c.loop-round.round ≡ rounds c.args.hands.now = omega (arith, c.loop-round-test.false, c.rounds-round-end.ensures) in
-    c.loop-round.invariant.list ∙ ap (gap_schedule (messages_of c.args.hands.now) c.args.table.now.sg (turn_order c.args.table.now)) last
+    c.loop-round.invariant.list ∙ ap (gap_schedule (messages_of c.args.hands.now) c.args.table.now.sg (λ round. turn_order c.args.table.now)) last
     ∙ sym (closed_by_gaps c.args.table.now c.args.hands.now c.requires.aperiodic)

@@ -6,6 +6,6 @@ use Rattle.bus_schedule.proofs.schedule.by_gaps.Given as goal
 
 abbrev pub invariant-loop-round : goal.invariant-loop-round
 invariant-loop-round l = record {
-  list : l.list.items ≡ gap_schedule (messages_of l.hands) l.table.sg (turn_order l.table) l.round;
-  from : l.from ≡ origin (messages_of l.hands) l.table.sg (turn_order l.table) l.round;
+  list : l.list.items ≡ gap_schedule (messages_of l.hands) l.table.sg (λ round. turn_order l.table) l.round;
+  from : l.from ≡ origin (messages_of l.hands) l.table.sg (λ round. turn_order l.table) l.round;
 }

@@ -1,0 +1,3 @@
+pub mod DropOut
+pub mod Runs
+pub mod Laws
