@@ -1,7 +1,6 @@
 -- Worked examples: the drop-out schedule of some tables and hands, by computation.
 use Rattle.std.specs.Prelude.{◌≡◌, ℕ, List, [], ◌∷◌, map, replicate, Some, None, IsTrue, refl}
 use Rattle.bus_strings.specs.Messages.{Message, Entry}
-use Rattle.bus_table.specs.declared.line.SendLine.{SendLine}
 use Rattle.bus_table.specs.declared.mode.Mode.TheVariants.{Aperiodic}
 use Rattle.bus_table.specs.Tables.{Sender, Table, Hand}
 use Rattle.bus_table.specs.Hands.{are_hands}

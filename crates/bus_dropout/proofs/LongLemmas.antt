@@ -1,6 +1,6 @@
 -- The last cycle bounds every cycle behind the first.
 use Rattle.std.proofs.Common.{◌≡◌, ℕ, suc, ◌+◌, ◌<◌, ◌≤◌, Bool, true, false, cond, List, [], ◌∷◌, length, Some, None, arith, sym, refl, ap, ◌∙◌, subst, inl, inr}
-use Rattle.std.specs.Prelude.{◌==◌, nat_lt, IfSome, IsTrue}
+use Rattle.std.specs.Prelude.{◌==◌, nat_lt, IfSome}
 use Rattle.std.specs.List.{filter, sum_by}
 use Rattle.std.proofs.lemmas.Bool.{and_parts, eqb-true, eq-eqb, lt-ltb, ltb-true}
 use Rattle.bus_strings.specs.Members.{In}
@@ -14,7 +14,7 @@ use Rattle.bus_schedule.specs.Even.{messages_of, rounds}
 use Rattle.bus_schedule.specs.Laws.{EvenRoundsAreClosed}
 use Rattle.bus_schedule.specs.Live.{live, live_rounds, shortest_cycle, AreLong}
 use Rattle.bus_schedule.specs.Uneven.{count_of}
-use Rattle.bus_dropout.specs.DropOut.{most_messages, last_senders, last_cycle, LastIsLong}
+use Rattle.bus_dropout.specs.DropOut.{most_messages, last_senders, LastIsLong}
 use Rattle.bus_dropout.specs.Laws.{EvenDropOutIsClosed, EvenHandsAreLong}
 use Rattle.bus_dropout.proofs.Most.{count_most, most_even, count_even}
 use Rattle.bus_dropout.proofs.Sums.{share, sum_filter, sum_more_taken, sum_in_turn}

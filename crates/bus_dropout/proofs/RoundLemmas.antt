@@ -1,5 +1,5 @@
 -- The rounds of a drop-out schedule, and when each ends.
-use Rattle.std.proofs.Common.{◌≡◌, ℕ, suc, ◌+◌, ◌<◌, ◌≤◌, Bool, List, [], ◌∷◌, ◌++◌, map, length, get_or, Some, arith, sym, refl, ap, ◌∙◌, subst, inl, inr}
+use Rattle.std.proofs.Common.{◌≡◌, ℕ, suc, ◌+◌, ◌<◌, Bool, List, [], ◌∷◌, map, length, get_or, Some, arith, sym, refl, ap, ◌∙◌, inl, inr}
 use Rattle.std.specs.Prelude.{slice_get, nat_lt, IsTrue}
 use Rattle.std.specs.List.{sum_by}
 use Rattle.std.proofs.lemmas.Bool.{ltb-true}
@@ -23,7 +23,7 @@ use Rattle.bus_schedule.specs.Laws.{LiveRoundsAreLawful, LiveRoundsEnd}
 use Rattle.bus_schedule.specs.Live.{live, live_rounds}
 use Rattle.bus_dropout.specs.DropOut.{dropout, drop_end, most_messages}
 use Rattle.bus_dropout.specs.Laws.{DropOutIsLawful}
-use Rattle.bus_dropout.specs.Runs.{IsRoundOf, IsInLiveRounds}
+use Rattle.bus_dropout.specs.Runs.{IsInLiveRounds}
 use Rattle.bus_dropout.proofs.LongLemmas.{last_bounds}
 use Rattle.bus_dropout.proofs.Most.{live_some}
 

@@ -1,11 +1,9 @@
 -- An aperiodic closed schedule ends within as many longest cycles as it has rounds.
 use Rattle.std.proofs.Common.{◌≡◌, ℕ, zero, suc, ◌+◌, ◌*◌, ◌<◌, ◌≤◌, List, arith, sym, ap, ◌∙◌, subst}
-use Rattle.std.specs.Prelude.{IsTrue}
 use Rattle.bus_strings.specs.Marking.{greatest_end}
 use Rattle.bus_strings.specs.Members.{In}
 use Rattle.bus_strings.specs.Messages.{Message}
-use Rattle.bus_table.specs.declared.mode.Mode.TheVariants.{Aperiodic}
-use Rattle.bus_table.specs.Tables.{Sender, Table, Hand}
+use Rattle.bus_table.specs.Tables.{Sender}
 use Rattle.bus_table.specs.Lengths.{longest}
 use Rattle.bus_table.specs.Turns.{turn_key, turn_order}
 use Rattle.bus_table.specs.TurnLaws.{from_sort}

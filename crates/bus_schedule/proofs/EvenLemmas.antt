@@ -1,17 +1,15 @@
 -- The hand of each sender, where hands are even.
-use Rattle.std.proofs.Common.{◌≡◌, ℕ, zero, suc, ◌<◌, true, ◌==◌, List, [], ◌∷◌, length, get_or, Some, arith, sym, ap, ◌∙◌, refl}
-use Rattle.std.specs.Prelude.{slice_get, IsTrue, ◌&&◌}
+use Rattle.std.proofs.Common.{◌≡◌, ℕ, zero, suc, ◌<◌, ◌==◌, List, [], ◌∷◌, length, get_or, Some, arith, sym, ap, ◌∙◌, refl}
+use Rattle.std.specs.Prelude.{slice_get, IsTrue}
 use Rattle.std.specs.List.{list_all}
-use Rattle.std.proofs.lemmas.Bool.{true≢false, and_parts, eqb-true}
+use Rattle.std.proofs.lemmas.Bool.{and_parts}
 use Rattle.std.proofs.lemmas.List.{get_or_read}
 use Rattle.std.proofs.lemmas.Option.{slice_get_within, slice_get_read, get_or_from_slice_get}
 use Rattle.bus_strings.specs.Messages.{Message}
 use Rattle.bus_table.specs.Tables.{Sender, Table, Hand}
-use Rattle.bus_table.specs.Fits.{fits}
 use Rattle.bus_table.specs.Hands.{are_hands}
 use Rattle.bus_table.specs.Valid.{is_valid}
 use Rattle.bus_table.specs.ValidLaws.{valid_facts}
-use Rattle.bus_table.specs.Turns.{Differ}
 use Rattle.bus_table.specs.TurnLaws.{at_in, numbers_differ}
 use Rattle.bus_schedule.specs.Even.{messages_of, rounds, are_even}
 use Rattle.bus_schedule.specs.HandLaws.{HandAt, hand_at}

@@ -3,7 +3,6 @@ use Rattle.std.proofs.Common.{◌≡◌, ℕ, suc, ◌+◌, ◌*◌, ◌/◌, �
 use Rattle.std.specs.Prelude.{slice_get, IsTrue}
 use Rattle.std.proofs.lemmas.Bool.{and_parts}
 use Rattle.std.proofs.lemmas.Nat.{div-add-mod'}
-use Rattle.bus_strings.specs.Marking.{greatest_end}
 use Rattle.bus_strings.specs.Members.{In}
 use Rattle.bus_strings.specs.Messages.{Entry}
 use Rattle.bus_strings.specs.Transmissions.{IsAscending}
@@ -20,7 +19,7 @@ use Rattle.bus_table.specs.TurnLaws.{at_in, from_sort, length-sort, numbers_diff
 use Rattle.bus_medium.specs.Lawful.{HaveOwnNumbers, IsLawful}
 use Rattle.bus_medium.specs.LawfulLaws.{OneLawfulList, LawfulToHorizon}
 use Rattle.bus_medium.specs.Timings.{quiet_of, stations_of}
-use Rattle.bus_medium.specs.StationLaws.{timings_are_sound, stations_have_own_numbers}
+use Rattle.bus_medium.specs.StationLaws.{stations_have_own_numbers}
 use Rattle.bus_medium.specs.Chains.{ChainSettled, ChainStep, ChainStarts}
 use Rattle.bus_regime.specs.declared.table_verdict.TableVerdict.TheVariants.{Accept}
 use Rattle.bus_regime.specs.Verdicts.{least_cycle, most_cycle, verdict_of}

@@ -15,7 +15,7 @@ use Rattle.bus_table.specs.TurnLaws.{from_sort, in_sort, numbers_differ, length-
 use Rattle.bus_table.specs.Valid.{is_valid}
 use Rattle.bus_table.specs.ValidLaws.{valid_facts}
 use Rattle.bus_schedule.specs.declared.uneven.Uneven.{Uneven}
-use Rattle.bus_schedule.specs.Even.{messages_of, rounds, are_even}
+use Rattle.bus_schedule.specs.Even.{rounds, are_even}
 use Rattle.bus_schedule.specs.Uneven.{count_of, counts_of, differing, uneven_in, uneven_of}
 use Rattle.bus_schedule.specs.HandLaws.{hand_here, hand_of_other}
 use Rattle.bus_schedule.proofs.HandLemmas.{own_count}

@@ -4,7 +4,6 @@ use Rattle.std.specs.Prelude.{◌==◌, slice_get}
 use Rattle.std.specs.List.{list_all}
 use Rattle.std.proofs.lemmas.Bool.{and_parts, eqb-true, eq-eqb, ne_eqb, true≢false}
 use Rattle.bus_strings.specs.Members.{In}
-use Rattle.bus_strings.specs.Messages.{Message}
 use Rattle.bus_table.specs.Tables.{Sender, Hand}
 use Rattle.bus_table.specs.Fits.{fits}
 use Rattle.bus_table.specs.Hands.{are_hands}

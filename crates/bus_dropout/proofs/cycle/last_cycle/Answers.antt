@@ -1,4 +1,4 @@
-use Rattle.std.proofs.Common.{◌≡◌, ◌+◌, ◌==◌, cond, Option, Some, None, ℕ, nat_lt, length, List, true, arith, sym, ap, ◌∙◌}
+use Rattle.std.proofs.Common.{◌≡◌, ◌+◌, ◌==◌, cond, Some, None, ℕ, nat_lt, length, List, true, arith, sym, ap, ◌∙◌}
 use Rattle.std.proofs.lemmas.Bool.{lt-ltb}
 use Rattle.bus_strings.specs.Messages.{Message}
 use Rattle.bus_table.specs.Lengths.{shortest}
