@@ -18,7 +18,8 @@ use bus_table::table::Table;
 
 /// The terminal gap and the message of a sender in a round, in bit times, or 0 where its messages are spent.
 fn turn_length(sender: &Sender, hand: &Hand, round: usize) -> u64
-    ensures turn { result ≡ if nat_lt round (length hand.now.messages) then sender.now.tg + bits (get_or hand.now.messages round []) else 0 }
+    ensures turn { result ≡ if nat_lt round (length hand.now.messages)
+        then sender.now.tg + bits (get_or hand.now.messages round []) else 0 }
     ensures most { result ≤ 2 ^ 33 }
 {
     if round < hand.messages.len() {

@@ -14,11 +14,13 @@ use Rattle.bus_schedule.specs.Even.{messages_of}
 pub hand_here : (hand : Hand) (hands : List Hand) (number : ℕ) → hand.terminal ≡ number → messages_of (hand ∷ hands) number ≡ hand.messages
 hand_here hand hands number e = rw (eq-eqb hand.terminal number e) refl
 
-pub hand_there : (hand : Hand) (hands : List Hand) (number : ℕ) → hand.terminal ≢ number → messages_of (hand ∷ hands) number ≡ messages_of hands number
+pub hand_there : (hand : Hand) (hands : List Hand) (number : ℕ) → hand.terminal ≢ number
+    → messages_of (hand ∷ hands) number ≡ messages_of hands number
 hand_there hand hands number e = rw (ne_eqb hand.terminal number e) refl
 
 -- the hand of the first sender isn't that of another
-pub hand_of_other : (a : Sender) (senders : List Sender) (hand : Hand) (hands : List Hand) (b : Sender) → Differ (λ s. s.number) (a ∷ senders)
+pub hand_of_other : (a : Sender) (senders : List Sender) (hand : Hand) (hands : List Hand) (b : Sender)
+    → Differ (λ s. s.number) (a ∷ senders)
     → hand.terminal ≡ a.number → In b senders → messages_of (hand ∷ hands) b.number ≡ messages_of hands b.number
 hand_of_other a senders hand hands b d same i = hand_there hand hands b.number (λ e. d.0 b i (sym same ∙ e))
 
