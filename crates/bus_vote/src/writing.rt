@@ -1,0 +1,201 @@
+// The text of the votes.
+ghost use Rattle.std.specs.Prelude.{◌≡◌, ◌<◌, ◌≤◌, ◌++◌, IsTrue, length, map};
+ghost use Rattle.std.specs.List.{flat_map, range_with_len};
+ghost use Rattle.std.specs.Option.{option_copied};
+ghost use Rattle.bus_outer.specs.Sinks.{WritesText};
+ghost use Rattle.bus_outer.specs.Texts.{Adds};
+ghost use Rattle.bus_strings.specs.Transmissions.{IsByMoment};
+ghost use Rattle.bus_table.specs.Valid.{is_valid};
+ghost use Rattle.bus_vote.specs.Labels.{labels};
+ghost use Rattle.bus_vote.specs.Putting.{words_put, round_put, label_put};
+ghost use Rattle.bus_vote.specs.VoteLaws.{IsVotedInRuns};
+ghost use Rattle.bus_vote.specs.VoteTexts.{place_text, round_text, label_line, label_text, votes_text};
+ghost use Rattle.bus_vote.specs.Votes.{two_are_present, votes};
+
+use crate::cursor::Cursor;
+use crate::label::VotedLabel;
+use crate::laws::runs_are_voted;
+use crate::scan::voted_label;
+use crate::voting::{are_present, vote, width};
+use bus_outer::{Sink, TextBuffer, WriteFault};
+use bus_strings::laws::neighbours_tell;
+use bus_strings::transmission::Transmission;
+use bus_table::table::Table;
+use bus_text::digits::{four_digits, three_digits};
+use bus_trace::Trace;
+use bus_words::label::Label;
+
+// How many labels there are.
+const LABEL_COUNT: u16 = 4096;
+
+// A place of a vote.
+fn put_place<K: Sink>(text: &mut TextBuffer, sink: &mut K, word: Option<u16>)
+    ensures { Adds K.held K.faults sink.old sink.new text.old text.new (place_text word) }
+{
+    match word {
+        Some(word) => {
+            text.put_byte(sink, b' ');
+            text.put(sink, &four_digits(word));
+        }
+        None => text.put(sink, b" ----"),
+    }
+}
+
+// The places of a vote.
+fn put_places<K: Sink>(
+    text: &mut TextBuffer,
+    sink: &mut K,
+    a: Option<&[u16]>,
+    b: Option<&[u16]>,
+    c: Option<&[u16]>,
+)
+    requires { IsTrue (two_are_present (option_copied a) (option_copied b) (option_copied c)) }
+    ensures { Adds K.held K.faults sink.old sink.new text.old text.new
+        (flat_map place_text (votes (option_copied a.entry) (option_copied b.entry) (option_copied c.entry))) }
+{
+    for place in 0..width(a, b, c) {
+        put_place(text, sink, vote(a, b, c, place));
+    }
+}
+
+// The line of a round.
+fn put_votes<K: Sink>(
+    text: &mut TextBuffer,
+    sink: &mut K,
+    round: usize,
+    a: Option<&[u16]>,
+    b: Option<&[u16]>,
+    c: Option<&[u16]>,
+)
+    requires { IsTrue (two_are_present (option_copied a) (option_copied b) (option_copied c)) }
+    ensures { Adds K.held K.faults sink.old sink.new text.old text.new
+        (round_text round (votes (option_copied a.entry) (option_copied b.entry) (option_copied c.entry))) }
+{
+    text.put(sink, b"V ");
+    text.put_number(sink, round);
+    put_places(text, sink, a, b, c);
+    text.put_byte(sink, b'\n');
+}
+
+// The line of a round, where it is voted.
+fn put_round<K: Sink>(
+    text: &mut TextBuffer,
+    sink: &mut K,
+    round: usize,
+    a: Option<&[u16]>,
+    b: Option<&[u16]>,
+    c: Option<&[u16]>,
+)
+    ensures { Adds K.held K.faults sink.old sink.new text.old text.new
+        (words_put round (option_copied a.entry) (option_copied b.entry) (option_copied c.entry)) }
+{
+    if are_present(a, b, c) {
+        put_votes(text, sink, round, a, b, c);
+    }
+}
+
+// The rounds of a voted label. Three walks go over the list, one for each channel.
+fn put_rounds<K: Sink>(
+    text: &mut TextBuffer,
+    sink: &mut K,
+    voted: &VotedLabel,
+    list: &[Transmission],
+)
+    requires { IsByMoment list.now }
+    ensures { Adds K.held K.faults sink.old sink.new text.old text.new
+        (flat_map (round_put list.now voted.now) (range_with_len 0 (length list.now))) }
+{
+    let mut first = Cursor::new(list, voted.first.terminal);
+    let mut second = Cursor::new(list, voted.second.terminal);
+    let mut third = Cursor::new(list, voted.third.terminal);
+    for round in 0..list.len() {
+        let a = first.words(voted.label, voted.first.ext);
+        let b = second.words(voted.label, voted.second.ext);
+        let c = third.words(voted.label, voted.third.ext);
+        put_round(text, sink, round, a, b, c);
+    }
+}
+
+// The line of a voted label.
+fn put_label_line<K: Sink>(text: &mut TextBuffer, sink: &mut K, voted: &VotedLabel)
+    ensures { Adds K.held K.faults sink.old sink.new text.old text.new (label_line voted.now) }
+{
+    text.put(sink, b"LABEL ");
+    text.put(sink, &three_digits(voted.label.value()));
+    text.put_byte(sink, b' ');
+    text.put_number(sink, voted.first.terminal);
+    text.put_byte(sink, b' ');
+    text.put_number(sink, voted.second.terminal);
+    text.put_byte(sink, b' ');
+    text.put_number(sink, voted.third.terminal);
+    text.put_byte(sink, b'\n');
+}
+
+// A voted label.
+fn put_voted<K: Sink>(
+    text: &mut TextBuffer,
+    sink: &mut K,
+    voted: &VotedLabel,
+    list: &[Transmission],
+)
+    requires { IsByMoment list.now }
+    ensures { Adds K.held K.faults sink.old sink.new text.old text.new (label_text list.now voted.now) }
+{
+    put_label_line(text, sink, voted);
+    put_rounds(text, sink, voted, list);
+}
+
+// A label, where it is voted on.
+fn put_label<K: Sink>(
+    text: &mut TextBuffer,
+    sink: &mut K,
+    table: &Table,
+    list: &[Transmission],
+    label: Label,
+)
+    requires { IsByMoment list.now }
+    ensures { Adds K.held K.faults sink.old sink.new text.old text.new (label_put table.now list.now label) }
+{
+    if let Some(voted) = voted_label(table, label) {
+        put_voted(text, sink, &voted, list);
+    }
+}
+
+// The labels in ascending order.
+fn put_labels<K: Sink>(text: &mut TextBuffer, sink: &mut K, table: &Table, list: &[Transmission])
+    requires { IsByMoment list.now }
+    ensures { Adds K.held K.faults sink.old sink.new text.old text.new (flat_map (label_put table.now list.now) labels) }
+{
+    for number in 0..LABEL_COUNT {
+        put_label(text, sink, table, list, Label::new(number).unwrap());
+    }
+}
+
+// A look at a table, of which nothing is left in the built program, makes known that it is valid.
+fn table_is_valid(table: &Table)
+    ensures { IsTrue (is_valid table.now) }
+{
+    table.mode();
+}
+
+/// Writes the votes of a trace: each label of the table that three senders send on one SEND line each, and of each of its rounds the
+/// words that two of them agree on. It takes no memory.
+///
+/// Of the trace of a run of an accepted table and even hands every round below the number of messages is voted, from the words of the
+/// messages of that round in the three hands: two hands that are alike fix every vote.
+///
+/// At `WriteFault` the sink has taken a front of the text, and its count of faults rose.
+pub fn write_votes<K: Sink>(table: &Table, trace: &Trace, sink: &mut K) -> Result<(), WriteFault>
+    ensures text { WritesText K.held K.faults sink.old sink.new result (votes_text table.now trace.now.list) }
+    ensures runs { IsVotedInRuns table.now trace.now.list }
+{
+    neighbours_tell();
+    runs_are_voted();
+    table_is_valid(table);
+    let list = trace.list();
+    let mut text = TextBuffer::new();
+    text.put(sink, b"VOTE 1\n");
+    put_labels(&mut text, sink, table, list);
+    text.put(sink, b"END\n");
+    text.finish(sink)
+}
