@@ -308,3 +308,7 @@ feed_fails old new piece (Err e) f = f.0
 
 pub nothing_fed : (at : Standing) → at ≡ begin → stream_of at ≡ []
 nothing_fed at e = ap stream_of e ∙ sym (append-nil (stream_of begin)) ∙ begin_stream []
+
+pub nothing_came : (r : Result Reader AllocError) → IfOk r (λ x. x.at ≡ begin) → IfOk r (λ x. stream x ≡ [])
+nothing_came (Ok x) h = nothing_fed x.at h
+nothing_came (Err e) h = tt

@@ -74,14 +74,8 @@ impl TraceReader {
     pub fn new(alloc: Global) -> Result<TraceReader, AllocError>
         ensures is_open { IfOk result IsOpen }
         ensures nothing { IfOk result (λ r. stream r ≡ []) }
-        ensures begins { IfOk result (λ r. r.at ≡ begin) }
     {
-        let line = Vec::with_capacity(alloc, LINE_LIMIT)?;
-        Ok(TraceReader {
-            alloc,
-            walk: Walk::new(alloc, line),
-            stage: Stage::Open,
-        })
+        TraceReader::at_start(alloc)
     }
 
     /// Whether it takes more: true until a piece was answered by anything but `More`, or memory was refused.
@@ -124,11 +118,24 @@ impl TraceReader {
     /// Ok comes exactly where the last answer was `Whole`, and is the trace whose text was found. Else the error is `Text` with the reason
     /// `Ended`, at the place at which what is pending begins.
     pub fn finish(self) -> Result<Trace, TraceError>
-        requires { self.stage ≢ Shut }
+        requires { IsShut self → ⊥ }
         ensures { Finishes self result }
     {
         neighbours_tell();
         self.end()
+    }
+
+    // A reader to which nothing came.
+    pub(crate) fn at_start(alloc: Global) -> Result<TraceReader, AllocError>
+        ensures is_open { IfOk result (λ r. r.stage ≡ Open) }
+        ensures begins { IfOk result (λ r. r.at ≡ begin) }
+    {
+        let line = Vec::with_capacity(alloc, LINE_LIMIT)?;
+        Ok(TraceReader {
+            alloc,
+            walk: Walk::new(alloc, line),
+            stage: Stage::Open,
+        })
     }
 
     /// How many bytes may be looked at next, so that none is behind the one that decides: up to the first byte past the limit of a line,

@@ -46,7 +46,7 @@ fn read_text<S: Source>(alloc: Global, source: &mut S) -> Result<Trace, TraceErr
     ensures loops { Loops (S.left source.old) (S.left source.new) result }
     ensures counts { CountsReading (S.faults source.old) (S.faults source.new) result }
 {
-    let mut reader = TraceReader::new(alloc)?;
+    let mut reader = TraceReader::at_start(alloc)?;
     let mut buf = [0u8; ROOM];
     'lines: loop {
         let room = reader.room();
