@@ -19,8 +19,7 @@ use std::alloc::Global;
 /// the drop-out schedule, by jumps from change to change.
 ///
 /// The list is the run (`specs/Runs.antt`): the drop-out schedule in whole, and the only list that is lawful up to its end. The verdict
-/// on the table isn't asked: a last cycle that is at least the transmit interval makes it Accept, and one message of each sender
-/// runs whatever it is.
+/// on the table isn't asked: each cycle is at least the last one, and one message of each sender runs whatever the verdict is.
 ///
 /// `TooLong` comes exactly where the end is above [`LONGEST_END`], with the end, also where no memory is left. `Memory` says that memory
 /// was refused, and nothing of the schedule.
@@ -38,6 +37,7 @@ pub fn run_dropout(
     let end = limited_end(table, &hands)?;
     let mut bus = Bus::<DeadlineCore>::settled(alloc, table, hands)?;
     let list = bus.observe_by_jumps(end)?;
+    // A look at the table makes known that it is valid.
     table.sg();
     dropout_is_lawful();
     Ok(list)

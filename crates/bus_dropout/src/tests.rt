@@ -38,6 +38,17 @@ SENDER 2 TG 30
 SEND 0B2 1 30 40
 ";
 
+/// A synchronization gap with which the second sender alone, with shortest messages, keeps just the interval.
+const JUST_THE_INTERVAL: &[u8] = b"TABLE 1
+MODE aperiodic
+TI 1000
+SG 350
+SENDER 1 TG 20
+SEND 0A1 1 2 4
+SENDER 2 TG 30
+SEND 0B2 1 30 40
+";
+
 /// Three senders, listed against their turn order.
 const THREE_SENDERS: &[u8] = b"TABLE 1
 MODE aperiodic
@@ -158,6 +169,27 @@ fn the_last_sender_goes_on_alone(rt: HostRuntime) -> Result<(), Fail> {
     Ok(())
 }
 
+/// The second sender goes on alone with a short message and a long one, in either order: how many words the first has, and when the second
+/// starts.
+const LENGTHS: [(usize, u64); 2] = [(30, 1150), (40, 1350)];
+
+#[test]
+fn a_last_cycle_of_just_the_interval_is_run(rt: HostRuntime) -> Result<(), Fail> {
+    let alloc = rt.alloc();
+    let table = aperiodic(&rt, alloc, JUST_THE_INTERVAL)?;
+    for (words, again) in &LENGTHS {
+        let hands = dealt(&rt, alloc, &table, &[(1, 4), (2, *words), (2, 70 - *words)])?;
+        assert_eq!(rt; last_cycle(&table, &hands), Some(1000));
+        assert_eq!(rt; drop_end(&table, &hands), 1970);
+        assert!(rt; last_is_long(&table, &hands));
+        let list = run_dropout(alloc, &table, hands)?;
+        assert!(rt;
+            starts(alloc, &list)?.as_slice() == [(20, 1), (150, 2), (*again, 2)].as_slice()
+        );
+    }
+    Ok(())
+}
+
 /// The items of a case, round by round.
 fn items(alloc: Global, counts: &[u8; 3]) -> Result<Vec<(u8, usize)>, AllocError> {
     let mut items = Vec::new(alloc);
@@ -193,6 +225,7 @@ fn the_last_cycle_is_that_of_the_senders_that_go_on(rt: HostRuntime) -> Result<(
     let table = aperiodic(&rt, alloc, SHORT_GAP)?;
     let one_alone = dealt(&rt, alloc, &table, &[(1, 4), (2, 40), (2, 40)])?;
     assert_eq!(rt; last_cycle(&table, &one_alone), Some(950));
+    assert!(rt; !last_is_long(&table, &one_alone));
     let one_round = dealt(&rt, alloc, &table, &[(1, 4), (2, 40)])?;
     assert_eq!(rt; last_cycle(&table, &one_round), None);
     Ok(())

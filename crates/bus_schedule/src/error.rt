@@ -4,7 +4,7 @@ ghost use Rattle.std.specs.Prelude.{◌≡◌};
 use std::alloc::AllocError;
 use thiserror::Error;
 
-/// The longest closed end for which a schedule is given, in bit times: some nine and a half hours. It is this project's
+/// The longest end of a schedule that is given, in bit times: some nine and a half hours. It is this project's
 /// profile.
 pub const LONGEST_END: u64 = 68_719_476_736;
 
@@ -14,8 +14,8 @@ pub enum ScheduleError {
     /// Memory was refused. It says nothing of the schedule.
     #[error("out of memory")]
     Memory,
-    /// The closed end, which is this, is above [`LONGEST_END`].
-    #[error("the closed end {end} is above the limit")]
+    /// The end of the schedule, which is this, is above [`LONGEST_END`].
+    #[error("the end {end} of the schedule is above the limit")]
     TooLong { end: u128 },
 }
 

@@ -6,7 +6,8 @@
 //!
 //! - [`write_votes`] writes the votes of a trace.
 //! - [`width`] and [`vote`] are the vote of three lists of words: how many places it has, and what it is at each.
-//! - [`laws`] has what callers may use of them: two equal lists fix the vote, and of a run each round is voted.
+//! - [`laws`] has what callers may use of them: two equal lists fix the vote, and of a run each round below the
+//!   number of messages is voted.
 //!
 //! No call takes memory. The definitions are in `specs/`: `Votes` (what two of three agree on), `Labels` (which labels are voted on),
 //! `Rounds` (what a channel has in a round), `VoteTexts` (the text), and `VoteLaws`.
