@@ -5,6 +5,7 @@ complete -c bus629 -n 'test (count (commandline -opc)) -eq 1' -f -a report -d 'T
 complete -c bus629 -n 'test (count (commandline -opc)) -eq 1' -f -a witness -d 'Write messages with which a refused table fails'
 complete -c bus629 -n 'test (count (commandline -opc)) -eq 1' -f -a plan -d 'Choose the offsets of a periodic table'
 complete -c bus629 -n 'test (count (commandline -opc)) -eq 1' -f -a run -d 'Run the senders of an accepted table, and write the trace'
+complete -c bus629 -n 'test (count (commandline -opc)) -eq 1' -f -a drop -d 'Run senders that fall silent when their messages are spent'
 complete -c bus629 -n 'test (count (commandline -opc)) -eq 1' -f -a observe -d 'Look at the senders of any table up to a moment'
 complete -c bus629 -n 'test (count (commandline -opc)) -eq 1' -f -a drill -d 'Run a large input that a number makes'
 complete -c bus629 -n 'test (count (commandline -opc)) -eq 1' -f -a receive -d 'Tell what each terminal receives of a trace'

@@ -9,6 +9,7 @@ _bus629() {
     'witness:write messages with which a refused table fails'
     'plan:choose the offsets of a periodic table'
     'run:run the senders of an accepted table, and write the trace'
+    'drop:run senders that fall silent when their messages are spent'
     'observe:look at the senders of any table up to a moment'
     'receive:tell what each terminal receives of a trace'
     'audit:hold a trace to a table'

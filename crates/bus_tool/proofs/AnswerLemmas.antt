@@ -3,7 +3,7 @@ use Rattle.std.specs.Prelude.{◌≡◌, ◌≢◌, ℕ, List, Option, Some, Non
 use Rattle.std.proofs.Common.{arith, refl, sym, ap, subst, inl, inr}
 use Rattle.bus_outer.specs.Faults.{Fails}
 use Rattle.bus_tool.specs.declared.forms.Form.{Form}
-use Rattle.bus_tool.specs.declared.forms.Form.TheVariants.{Check, Tidy, Report, Witness, Plan, Drill, Observe, Run, Receive, Audit}
+use Rattle.bus_tool.specs.declared.forms.Form.TheVariants.{Check, Tidy, Report, Witness, Plan, Drill, Observe, Run, Drop, Receive, Audit}
 use Rattle.bus_tool.specs.declared.outcome.Outcome.{Outcome}
 use Rattle.bus_tool.specs.declared.outcome.Outcome.TheVariants.{Usage, ReadFault, WriteFault, NoMemory}
 use Rattle.bus_tool.specs.declared.status.Status.{Status}
@@ -48,6 +48,7 @@ of_form Report first second o h = h
 of_form (Drill number) first second o h = h
 of_form (Observe horizon) first second o h = h
 of_form Run first second o h = h
+of_form Drop first second o h = h
 of_form Receive first second o h = h
 of_form Audit first second o h = h
 

@@ -5,25 +5,26 @@ use Rattle.bus_table.specs.declared.error.TableError.TheVariants.{Text, Whole}
 use Rattle.bus_strings.specs.Items.{Item}
 use Rattle.bus_table.specs.Tables.{Table}
 use Rattle.bus_regime.specs.Verdicts.{verdict_of}
+use Rattle.bus_dropout.specs.DropOut.{drop_end}
 use Rattle.bus_schedule.specs.Closed.{closed_end}
 use Rattle.bus_trace.specs.TraceLaws.{ReadsBack}
 use Rattle.bus_tool.specs.declared.forms.Form.{Form}
-use Rattle.bus_tool.specs.declared.forms.Form.TheVariants.{Check, Tidy, Report, Witness, Plan, Drill, Observe, Run, Receive, Audit}
+use Rattle.bus_tool.specs.declared.forms.Form.TheVariants.{Check, Tidy, Report, Witness, Plan, Drill, Observe, Run, Drop, Receive, Audit}
 use Rattle.bus_tool.specs.declared.outcome.Outcome.{Outcome}
-use Rattle.bus_tool.specs.declared.outcome.Outcome.TheVariants.{Done, Answered, Refused, TableText, TableWhole, TableMode, MessagesText, Unfit, Uneven, TraceText, ReadFault, WriteFault, NoMemory, TooLarge, TooLong}
+use Rattle.bus_tool.specs.declared.outcome.Outcome.TheVariants.{Done, Answered, Refused, TableText, TableWhole, TableMode, MessagesText, Unfit, Uneven, TraceText, ReadFault, WriteFault, NoMemory, TooLarge, ShortLast, TooLong}
 use Rattle.bus_tool.specs.Forms.{sources_of}
 use Rattle.bus_tool.specs.Kinds.{Answer, kind_of, is_answer}
 use Rattle.bus_tool.specs.Stages.{StandsFor, refusal_in}
 use Rattle.bus_tool.specs.Outside.{Outside}
 use Rattle.bus_tool.specs.Readers.{told, OfTexts}
 use Rattle.bus_table.specs.declared.mode.Mode.{Mode}
-use Rattle.bus_table.specs.declared.mode.Mode.TheVariants.{Periodic}
+use Rattle.bus_table.specs.declared.mode.Mode.TheVariants.{Aperiodic, Periodic}
 use Rattle.bus_plan.specs.Answers.{plan_of}
 use Rattle.bus_tool.specs.Due.{table_in, plan_outcome, refusal_of_mode}
-use Rattle.bus_tool.specs.Due.{table_due, items_due, Inputs, hands_in, inputs_due, trace_due, traced_due, run_due, verdict_outcome, audit_outcome, audit_of, outcome_with, table_refusal_of, first_refusal, form_due}
+use Rattle.bus_tool.specs.Due.{table_due, items_due, Inputs, hands_in, inputs_due, trace_due, traced_due, run_due, drop_due, verdict_outcome, audit_outcome, audit_of, outcome_with, table_refusal_of, first_refusal, form_due}
 use Rattle.bus_tool.specs.Steps.{IsDueFirst}
 use Rattle.bus_tool.specs.Acts.{DoesForm}
-use Rattle.bus_tool.specs.Causes.{AreTextsWith, DifferAs, IsRefusal, IsLongEnd, RefusesTexts, RefusesText}
+use Rattle.bus_tool.specs.Causes.{AreTextsWith, DifferAs, IsRefusal, IsShortLast, IsLongEnd, RefusesTexts, RefusesText}
 use Rattle.bus_tool.proofs.LawTypes.{ReadsATable, RefusesATable, TextReadsAsItsItems, ReadsItems}
 use Rattle.bus_tool.proofs.CheckLemmas.{written_verdict}
 use Rattle.bus_tool.proofs.AuditLemmas.{written_audit}
@@ -33,6 +34,8 @@ use Rattle.bus_tool.proofs.StageLemmas.{if_map}
 use Rattle.bus_tool.proofs.PrepareLemmas.{both_map}
 use Rattle.bus_tool.proofs.ReadLemmas.{table_read, table_text_read, table_whole_read, table_no_mode, table_stops, messages_text_read, unfit_read, items_read, inputs_read, inputs_stop, items_stop, items_no_trace}
 use Rattle.bus_tool.proofs.TraceReads.{held_trace, trace_refuses, traced_stop}
+use Rattle.bus_tool.proofs.DropReads.{NotDropped, inputs_in_stop, drop_stop}
+use Rattle.bus_tool.proofs.DropReads as drop
 use Rattle.bus_tool.proofs.RunReads.{NotRun, Differ, NotAccepted, Longer, run_stop}
 
 -- the laws by which each refusal has its cause
@@ -63,6 +66,7 @@ no_table laws first (Unfit error) second h = absurd (let s : 2 ≡ 1 = table_sto
 no_table laws first (Uneven one one_count other other_count) second h = absurd (table_stops first (Uneven one one_count other other_count) h)
 no_table laws first (TraceText byte reason) second h = absurd (let s : 2 ≡ 1 = table_stops first (TraceText byte reason) h in omega arith)
 no_table laws first (Refused verdict) second h = absurd (table_stops first (Refused verdict) h)
+no_table laws first (ShortLast least ti) second h = absurd (table_stops first (ShortLast least ti) h)
 no_table laws first (TooLong end) second h = absurd (table_stops first (TooLong end) h)
 no_table laws first o second h = tt
 
@@ -85,6 +89,7 @@ no_items laws first second table (Unfit error) h k =
 no_items laws first second table (Uneven one one_count other other_count) h k = absurd (items_stop table second (Uneven one one_count other other_count) k)
 no_items laws first second table (TraceText byte reason) h k = absurd (items_no_trace table second byte reason k)
 no_items laws first second table (Refused verdict) h k = absurd (items_stop table second (Refused verdict) k)
+no_items laws first second table (ShortLast least ti) h k = absurd (items_stop table second (ShortLast least ti) k)
 no_items laws first second table (TooLong end) h k = absurd (items_stop table second (TooLong end) k)
 no_items laws first second table o h k = tt
 
@@ -114,7 +119,14 @@ texts_with laws Holds first second inputs h why =
 not_run : CauseLaws → (first second : List ℕ) (inputs : Inputs) (o : Outcome) → inputs_due first second ≡ Ok inputs → NotRun inputs o → RefusesTexts o first second
 not_run laws first second inputs o h (Differ uneven why e) = subst (λ r. RefusesTexts r first second) (sym e) (texts_with laws (DifferAs uneven) first second inputs h why)
 not_run laws first second inputs o h (NotAccepted why e) = subst (λ r. RefusesTexts r first second) (sym e) (texts_with laws (IsRefusal (verdict_of inputs.table)) first second inputs h (refl, why))
-not_run laws first second inputs o h (Longer why e) = subst (λ r. RefusesTexts r first second) (sym e) (texts_with laws (IsLongEnd (closed_end inputs.table (hands_in inputs))) first second inputs h (refl, why))
+not_run laws first second inputs o h (Longer why e) = subst (λ r. RefusesTexts r first second) (sym e) (texts_with laws (IsLongEnd (closed_end inputs.table (hands_in inputs))) first second inputs h (inl refl, why))
+
+not_dropped : CauseLaws → (first second : List ℕ) (inputs : Inputs) (o : Outcome) → inputs_due first second ≡ Ok inputs → inputs.table.mode ≡ Aperiodic → NotDropped inputs o → RefusesTexts o first second
+not_dropped laws first second inputs o h mode (drop.NotAccepted why e) = subst (λ r. RefusesTexts r first second) (sym e) (texts_with laws (IsRefusal (verdict_of inputs.table)) first second inputs h (refl, why))
+not_dropped laws first second inputs o h mode (drop.Shorter least is less e) =
+    subst (λ r. RefusesTexts r first second) (sym e)
+    (texts_with laws (IsShortLast least inputs.table.ti) first second inputs h (record { aperiodic = mode; last = is; interval = refl; shorter = less }))
+not_dropped laws first second inputs o h mode (drop.Longer why e) = subst (λ r. RefusesTexts r first second) (sym e) (texts_with laws (IsLongEnd (drop_end inputs.table (hands_in inputs))) first second inputs h (inr refl, why))
 
 -- the table isn't of the mode that is needed
 wrong_mode : CauseLaws → (needed : Mode) (first second : List ℕ) (o : Outcome) → IsOtherMode needed first o → RefusesTexts o first second
@@ -142,6 +154,13 @@ form_cause laws (Observe horizon) o first second never h = elim (inputs_stop fir
 form_cause laws Run o first second never h = elim (run_stop first second o (refused (λ inputs. Done) (run_due first second) o (λ inputs. refl) never h)) [
   | inl e ↦ elim (inputs_stop first second o e) [ inl t ↦ no_table laws first o second t | inr w ↦ no_items laws first second w.0 o w.1 w.2 ]
   | inr w ↦ not_run laws first second w.0 o w.1 w.2
+]
+form_cause laws Drop o first second never h = elim (drop_stop first second o (refused (λ inputs. Done) (drop_due first second) o (λ inputs. refl) never h)) [
+  | inl e ↦ elim (inputs_in_stop Aperiodic first second o e) [
+    | inl t ↦ elim (mode_stop Aperiodic first o t) [ inl k ↦ no_table laws first o second k | inr w ↦ wrong_mode laws Aperiodic first second o w ]
+    | inr w ↦ no_items laws first second w.0 o w.1 w.2
+  ]
+  | inr w ↦ not_dropped laws first second w.inputs o w.read w.aperiodic w.why
 ]
 form_cause laws Receive o first second never h = elim (traced_stop first second o (refused (λ traced. Done) (traced_due first second) o (λ traced. refl) never h)) [
   | inl e ↦ no_table laws first o second e
@@ -177,6 +196,7 @@ refuses_table laws first (Unfit error) h = tt
 refuses_table laws first (Uneven one one_count other other_count) h = tt
 refuses_table laws first (TraceText byte reason) h = tt
 refuses_table laws first (Refused verdict) h = tt
+refuses_table laws first (ShortLast least ti) h = tt
 refuses_table laws first (TooLong end) h = tt
 refuses_table laws first (ReadFault source) h = tt
 refuses_table laws first (TooLarge source) h = tt
@@ -205,6 +225,7 @@ refuses_in laws needed first (Unfit error) h = tt
 refuses_in laws needed first (Uneven one one_count other other_count) h = tt
 refuses_in laws needed first (TraceText byte reason) h = tt
 refuses_in laws needed first (Refused verdict) h = tt
+refuses_in laws needed first (ShortLast least ti) h = tt
 refuses_in laws needed first (TooLong end) h = tt
 refuses_in laws needed first (ReadFault source) h = tt
 refuses_in laws needed first (TooLarge source) h = tt
@@ -220,6 +241,7 @@ refuses_nothing first (Unfit error) h = tt
 refuses_nothing first (Uneven one one_count other other_count) h = tt
 refuses_nothing first (TraceText byte reason) h = tt
 refuses_nothing first (Refused verdict) h = tt
+refuses_nothing first (ShortLast least ti) h = tt
 refuses_nothing first (TooLong end) h = tt
 refuses_nothing first (ReadFault source) h = tt
 refuses_nothing first (TooLarge source) h = tt
@@ -235,6 +257,7 @@ refuses_text laws Report first o h = refuses_table laws first o h
 refuses_text laws (Drill number) first o h = refuses_nothing first o h
 refuses_text laws (Observe horizon) first o h = refuses_table laws first o h
 refuses_text laws Run first o h = refuses_table laws first o h
+refuses_text laws Drop first o h = refuses_in laws Aperiodic first o h
 refuses_text laws Receive first o h = refuses_table laws first o h
 refuses_text laws Audit first o h = refuses_table laws first o h
 

@@ -6,7 +6,7 @@ use Rattle.bus_medium.specs.Timings.{quiet_of, stations_of}
 use Rattle.bus_table.specs.Hands.{hands_of}
 use Rattle.bus_audit.specs.Observed.{ObservedIsRight, states_hands}
 use Rattle.bus_tool.specs.Texts.{hold_of}
-use Rattle.bus_tool.specs.TextLaws.{SendersHaveHolds, ObservedIsFoundLawful, RunIsFoundLawful}
+use Rattle.bus_tool.specs.TextLaws.{SendersHaveHolds, ObservedIsFoundLawful, RunIsFoundLawful, DropIsFoundLawful}
 use Rattle.bus_tool.proofs.LawTypes.{FittingItemsGiveHands}
 
 pub observed_is_found_lawful : ObservedIsRight → FittingItemsGiveHands → SendersHaveHolds → ObservedIsFoundLawful
@@ -19,4 +19,8 @@ observed_is_found_lawful right give have table items horizon trace valid fit is 
 
 pub run_is_found_lawful : ObservedIsFoundLawful → RunIsFoundLawful
 run_is_found_lawful law table items trace valid fit is ran =
+    law table items _ trace valid fit is (record { horizon = ran.horizon; holds = ran.holds; lawful = ran.run.lawful })
+
+pub drop_is_found_lawful : ObservedIsFoundLawful → DropIsFoundLawful
+drop_is_found_lawful law table items trace valid fit is ran =
     law table items _ trace valid fit is (record { horizon = ran.horizon; holds = ran.holds; lawful = ran.run.lawful })

@@ -1,5 +1,5 @@
 -- What is made of the texts.
-use Rattle.std.specs.Prelude.{◌≡◌, ℕ, ◌≤◌, List, Vec, Result, Ok, Err, IsErrAnd}
+use Rattle.std.specs.Prelude.{◌≡◌, ℕ, ◌≤◌, List, Vec, Option, Result, Ok, Err, IsErrAnd}
 use Rattle.std.specs.declared.alloc.Global.{Global}
 use Rattle.std.proofs.Common.{arith, refl, sym, ap, ◌∙◌, subst}
 use Rattle.std.proofs.lemmas.Result.{err_from_is_err_and}
@@ -10,13 +10,13 @@ use Rattle.bus_table.specs.Gives.{Fails}
 use Rattle.bus_table.specs.Tables.{Table, Hand}
 use Rattle.bus_table.specs.Reading.{answer_of}
 use Rattle.bus_tool.specs.declared.outcome.Outcome.{Outcome}
-use Rattle.bus_tool.specs.Stages.{stage_in, Gives}
+use Rattle.bus_tool.specs.Stages.{stage_in, Gives, refusal_in}
 use Rattle.bus_tool.specs.declared.inputs.Inputs.{Inputs as Taken}
 use Rattle.bus_tool.specs.Kinds.{kind_of}
 use Rattle.bus_tool.specs.Outside.{Seen, both}
 use Rattle.bus_tool.specs.Readers.{entire, two_sources}
 use Rattle.bus_tool.specs.Steps.{Takes, Same, IsText, Prepares}
-use Rattle.bus_tool.specs.Due.{text_due, table_refusal, table_or_refusal, table_due, items_due, with_items, inputs_due, table_refusal_of}
+use Rattle.bus_tool.specs.Due.{text_due, table_refusal, table_or_refusal, table_due, items_due, Inputs, with_items}
 use Rattle.bus_tool.specs.Taken.{AreHandsOf, AreInputs}
 use Rattle.bus_tool.proofs.TakeLemmas.{RefusesAt, takes_then}
 use Rattle.bus_tool.proofs.ReadLemmas.{items_stage}
@@ -55,29 +55,42 @@ table_taken old new text bytes table t same h =
     (λ whole read. (table, ap table_or_refusal (ap answer_of (sym (same ∙ read)) ∙ h), refl)) tt
 
 -- ---- both texts
-made_stage : (table : Table) (text : List ℕ) → 2 ≤ stage_in (items_due table text >>= λ items. Ok (with_items table items))
-made_stage table text = then_stage 2 (items_due table text) (λ items. Ok (with_items table items)) (items_stage table text) (λ items. omega arith)
+-- a table that is made of the first text, and items that fit it
+module _ (made : List ℕ → Result Table Outcome) where
+  abbrev pub both_made : List ℕ → List ℕ → Result Inputs Outcome
+  both_made first second = made first >>= λ table. items_due table second >>= λ items. Ok (with_items table items)
 
-pub no_table : (old new second : Seen) (o : Outcome) → Takes {X = Table} Same 1 entire table_due old new (Err o)
-    → Prepares AreInputs (two_sources entire entire) table_refusal_of inputs_due (both old second) (both new second) (Err o)
-no_table old new second o t = prepares_none Same AreInputs entire entire table_due (λ table b. items_due table b >>= λ items. Ok (with_items table items)) old new second o made_stage t
+  abbrev pub refused : List ℕ → Option Outcome
+  refused first = refusal_in (made first)
 
-with_hands : (old new : Seen) (table : Table) (hands : Vec Hand Global) → Takes (AreHandsOf table) 2 entire (items_due table) old new (Ok hands)
-    → Takes AreInputs 2 entire (λ b. items_due table b >>= λ items. Ok (with_items table items)) old new (Ok (record { table = table; hands = hands }))
-with_hands old new table hands u =
-    let inputs : Taken = record { table = table; hands = hands } in
-    takes_then (AreHandsOf table) AreInputs 2 entire (items_due table) (λ items. Ok (with_items table items)) old new hands (Ok inputs) u
-    (λ items same. (with_items table items, refl, record { table = refl; hands = same })) tt
+  made_stage : (table : Table) (text : List ℕ) → 2 ≤ stage_in (items_due table text >>= λ items. Ok (with_items table items))
+  made_stage table text = then_stage 2 (items_due table text) (λ items. Ok (with_items table items)) (items_stage table text) (λ items. omega arith)
 
-pub all_inputs : (old new old' new' : Seen) (table : Table) (hands : Vec Hand Global) → Takes Same 1 entire table_due old new (Ok table) → Takes (AreHandsOf table) 2 entire (items_due table) old' new' (Ok hands)
-    → Prepares AreInputs (two_sources entire entire) table_refusal_of inputs_due (both old old') (both new new') (Ok (record { table = table; hands = hands }))
-all_inputs old new old' new' table hands t u =
-    prepares_both Same AreInputs entire entire table_due (λ table b. items_due table b >>= λ items. Ok (with_items table items)) old new old' new' table table (Ok (record { table = table; hands = hands })) (λ z is. sym is) t
-    (with_hands old' new' table hands u)
+  pub none_made : (old new second : Seen) (o : Outcome) (r : Result Taken Outcome) → IsErrAnd r (λ came. came ≡ o) → Takes {X = Table} Same 1 entire made old new (Err o)
+      → Prepares AreInputs (two_sources entire entire) refused both_made (both old second) (both new second) r
+  none_made old new second o r h t =
+      let came = err_from_is_err_and r h in
+      subst (Prepares AreInputs (two_sources entire entire) refused both_made (both old second) (both new second)) (sym (came.1 ∙ ap Err came.2))
+      (prepares_none Same AreInputs entire entire made (λ table b. items_due table b >>= λ items. Ok (with_items table items)) old new second o made_stage t)
 
--- the second text was refused
-pub no_hands : (old new old' new' : Seen) (table : Table) (o : Outcome) → Takes Same 1 entire table_due old new (Ok table) → Takes (AreHandsOf table) 2 entire (items_due table) old' new' (Err o)
-    → Prepares AreInputs (two_sources entire entire) table_refusal_of inputs_due (both old old') (both new new') (Err o)
-no_hands old new old' new' table o t u =
-    prepares_both Same AreInputs entire entire table_due (λ table b. items_due table b >>= λ items. Ok (with_items table items)) old new old' new' table table (Err o) (λ z is. sym is) t
-    (record { gives = if_map old'.bytes _ _ (λ text g. gives_on (kind_of o) o (items_due table text) (with_items table) (stop_early 2 (kind_of o) u.stops) (stop_low 2 (kind_of o) (omega arith) u.stops) g) u.gives; reads = u.reads; stops = u.stops; counts = u.counts })
+  with_hands : (old new : Seen) (table : Table) (hands : Vec Hand Global) → Takes (AreHandsOf table) 2 entire (items_due table) old new (Ok hands)
+      → Takes AreInputs 2 entire (λ b. items_due table b >>= λ items. Ok (with_items table items)) old new (Ok (record { table = table; hands = hands }))
+  with_hands old new table hands u =
+      let inputs : Taken = record { table = table; hands = hands } in
+      takes_then (AreHandsOf table) AreInputs 2 entire (items_due table) (λ items. Ok (with_items table items)) old new hands (Ok inputs) u
+      (λ items same. (with_items table items, refl, record { table = refl; hands = same })) tt
+
+  pub all_made : (old new old' new' : Seen) (table : Table) (hands : Vec Hand Global) → Takes Same 1 entire made old new (Ok table) → Takes (AreHandsOf table) 2 entire (items_due table) old' new' (Ok hands)
+      → Prepares AreInputs (two_sources entire entire) refused both_made (both old old') (both new new') (Ok (record { table = table; hands = hands }))
+  all_made old new old' new' table hands t u =
+      prepares_both Same AreInputs entire entire made (λ table b. items_due table b >>= λ items. Ok (with_items table items)) old new old' new' table table (Ok (record { table = table; hands = hands })) (λ z is. sym is) t
+      (with_hands old' new' table hands u)
+
+  -- the second text was refused
+  pub hands_refused : (old new old' new' : Seen) (table : Table) (o : Outcome) (r : Result Taken Outcome) → IsErrAnd r (λ came. came ≡ o) → Takes Same 1 entire made old new (Ok table) → Takes (AreHandsOf table) 2 entire (items_due table) old' new' (Err o)
+      → Prepares AreInputs (two_sources entire entire) refused both_made (both old old') (both new new') r
+  hands_refused old new old' new' table o r h t u =
+      let came = err_from_is_err_and r h in
+      subst (Prepares AreInputs (two_sources entire entire) refused both_made (both old old') (both new new')) (sym (came.1 ∙ ap Err came.2))
+      (prepares_both Same AreInputs entire entire made (λ table b. items_due table b >>= λ items. Ok (with_items table items)) old new old' new' table table (Err o) (λ z is. sym is) t
+      (record { gives = if_map old'.bytes _ _ (λ text g. gives_on (kind_of o) o (items_due table text) (with_items table) (stop_early 2 (kind_of o) u.stops) (stop_low 2 (kind_of o) (omega arith) u.stops) g) u.gives; reads = u.reads; stops = u.stops; counts = u.counts }))

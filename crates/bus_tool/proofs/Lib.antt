@@ -24,7 +24,9 @@ pub mod ObserveLemmas
 pub mod TracedLemmas
 pub mod ReceiveLemmas
 pub mod AuditLemmas
+pub mod RanLemmas
 pub mod RunLemmas
+pub mod DropLemmas
 pub mod ActLemmas
 pub mod LawTypes
 pub mod ClaimLemmas
@@ -33,6 +35,7 @@ pub mod ReadLemmas
 pub mod TraceReads
 pub mod OwnLemmas
 pub mod RunReads
+pub mod DropReads
 pub mod CheckClaim
 pub mod TidyClaim
 pub mod ReportClaim
@@ -46,3 +49,4 @@ pub mod CauseLemmas
 pub mod AnswerLemmas
 pub mod TextLawLemmas
 pub mod RunClaim
+pub mod DropClaim

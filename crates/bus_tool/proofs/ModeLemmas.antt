@@ -3,6 +3,7 @@ use Rattle.std.specs.Prelude.{◌≡◌, ◌≢◌, ℕ, ◌≤◌, ◌⊎◌, t
 use Rattle.std.proofs.Common.{arith, refl, sym, ap, ◌∙◌, subst, cond, inl, inr}
 use Rattle.std.proofs.lemmas.Result.{err_from_is_err_and}
 use Rattle.bus_text.specs.AllOf.{◌>>=◌}
+use Rattle.bus_text.specs.AllOfLaws.{bind_ok}
 use Rattle.bus_table.specs.declared.mode.Mode.{Mode}
 use Rattle.bus_table.specs.declared.mode.Mode.TheVariants.{Aperiodic, Periodic}
 use Rattle.bus_table.specs.Tables.{Table}
@@ -77,6 +78,19 @@ pub told_in : (needed : Mode) (table : Table) (text : List ℕ) → table.mode �
 told_in needed table text mode h =
     ap (λ r. r >>= mode_or_refusal needed) h
     ∙ ap (λ b. cond b (Ok table) (Err (TableMode needed))) (ap (is_mode needed) mode ∙ own_mode needed)
+
+-- a table that is due is of this mode
+taken_mode : (needed : Mode) (given table : Table) (b : _) → is_mode needed given.mode ≡ b → cond b (Ok given) (Err (TableMode needed)) ≡ Ok table
+    → (given ≡ table) × (given.mode ≡ needed)
+taken_mode needed given table true is h = (cc, same_mode needed given.mode is)
+taken_mode needed given table false is h = absurd cc
+
+pub mode_read : (needed : Mode) (text : List ℕ) (table : Table) → table_in needed text ≡ Ok table
+    → (table_due text ≡ Ok table) × (table.mode ≡ needed)
+mode_read needed text table h =
+    let w = bind_ok (table_due text) (mode_or_refusal needed) table h in
+    let k = taken_mode needed w.0 table (is_mode needed w.0.mode) refl w.2 in
+    (w.1 ∙ ap Ok k.0, ap (λ (t : Table). t.mode) (sym k.0) ∙ k.1)
 
 -- the table isn't of the mode that is needed
 pub record IsOtherMode (needed : Mode) (text : List ℕ) (o : Outcome) : Type 0 where

@@ -35,7 +35,7 @@ use Rattle.bus_trace.specs.Reading.{ReadGives}
 use Rattle.bus_trace.specs.Runs.{reading}
 use Rattle.bus_trace.specs.TraceLaws.{ReadsBack}
 use Rattle.bus_tool.specs.declared.forms.Form.{Form}
-use Rattle.bus_tool.specs.declared.forms.Form.TheVariants.{Plan, Run, Audit}
+use Rattle.bus_tool.specs.declared.forms.Form.TheVariants.{Plan, Run, Drop, Audit}
 use Rattle.bus_tool.specs.declared.outcome.Outcome.{Outcome}
 use Rattle.bus_tool.specs.declared.outcome.Outcome.TheVariants.{TableMode, Unfit, NoMemory, TooLarge}
 use Rattle.bus_tool.specs.Acts.{written}
@@ -135,6 +135,10 @@ schedule_own (Long end) = λ second. refl
 
 pub uneven_own : (uneven : UnevenHands) → IsOf Run (uneven_refusal uneven)
 uneven_own uneven = λ second. refl
+
+pub dropped_own : (e : ScheduleError) → IsOf Drop (schedule_refusal e)
+dropped_own Tight = λ second. tt
+dropped_own (Long end) = λ second. refl
 
 -- ---- the answers
 pub verdict_own : (form : Form) (second : Option (List ℕ)) (verdict : TableVerdict) (o : Outcome) → IsTrue (is_question form)

@@ -212,7 +212,7 @@ stop_unwritten number Answer h = absurd h
 pub table_unwritten : (text : List ℕ) (o : Outcome) → table_due text ≡ Err o → is_answer (kind_of o) ≡ false
 table_unwritten text o h = stop_unwritten 1 (kind_of o) (table_stops text o h)
 
-items_unwritten : (table : Table) (text : List ℕ) (o : Outcome) → items_due table text ≡ Err o → is_answer (kind_of o) ≡ false
+pub items_unwritten : (table : Table) (text : List ℕ) (o : Outcome) → items_due table text ≡ Err o → is_answer (kind_of o) ≡ false
 items_unwritten table text o h = stop_unwritten 2 (kind_of o) (items_stop table text o h)
 
 pub inputs_unwritten : (first second : List ℕ) (o : Outcome) → inputs_due first second ≡ Err o → is_answer (kind_of o) ≡ false

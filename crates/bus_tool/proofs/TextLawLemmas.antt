@@ -12,13 +12,15 @@ use Rattle.bus_medium.specs.Lawful.{IsLawful}
 use Rattle.bus_medium.specs.LawfulLaws.{OneListOfATable}
 use Rattle.bus_medium.specs.Timings.{quiet_of, stations_of}
 use Rattle.bus_schedule.specs.Closed.{closed, closed_end}
+use Rattle.bus_dropout.specs.DropOut.{dropout, drop_end}
+use Rattle.bus_dropout.specs.Laws.{DropOutIsLawful}
 use Rattle.bus_schedule.specs.Even.{are_even}
 use Rattle.bus_schedule.specs.Laws.{AcceptedIsClosed, EvenHandsAgree}
 use Rattle.bus_filter.specs.ReceivedTexts.{received_text}
 use Rattle.bus_trace.specs.declared.hold.Hold.{Hold}
 use Rattle.bus_trace.specs.Traces.{Recording, trace_text}
 use Rattle.bus_tool.specs.declared.forms.Form.{Form}
-use Rattle.bus_tool.specs.declared.forms.Form.TheVariants.{Check, Tidy, Report, Witness, Plan, Drill, Observe, Run, Receive, Audit}
+use Rattle.bus_tool.specs.declared.forms.Form.TheVariants.{Check, Tidy, Report, Witness, Plan, Drill, Observe, Run, Drop, Receive, Audit}
 use Rattle.bus_tool.specs.declared.outcome.Outcome.{Outcome}
 use Rattle.bus_tool.specs.declared.outcome.Outcome.TheVariants.{Done}
 use Rattle.bus_tool.specs.AuditLines.{audit_line}
@@ -33,12 +35,13 @@ use Rattle.bus_tool.specs.PlanTexts.{plan_text}
 use Rattle.bus_tool.specs.Due.{table_in, plan_outcome}
 use Rattle.bus_tool.specs.Texts.{IsPlanText}
 use Rattle.bus_tool.proofs.ModeLemmas.{mode_unwritten}
-use Rattle.bus_tool.specs.Due.{Inputs, hands_in, table_due, inputs_due, traced_due, run_due, verdict_outcome, audit_outcome, audit_of, outcome_with, form_due, outcome_for}
-use Rattle.bus_tool.specs.Texts.{holds_of, IsRecordingOf, IsObserveText, IsRunRecording, run_text, IsRunText, IsReceiveText, IsAuditText, IsCheckText, IsTidyText, IsReportText, IsWitnessText, IsTextOf, IsFormText, IsTextFor}
+use Rattle.bus_tool.specs.Due.{Inputs, hands_in, table_due, inputs_due, traced_due, run_due, drop_due, verdict_outcome, audit_outcome, audit_of, outcome_with, form_due, outcome_for}
+use Rattle.bus_tool.specs.Texts.{holds_of, IsRecordingOf, IsObserveText, IsRunRecording, run_text, IsRunText, IsDropRecording, IsDropText, IsReceiveText, IsAuditText, IsCheckText, IsTidyText, IsReportText, IsWitnessText, IsTextOf, IsFormText, IsTextFor}
 use Rattle.bus_tool.specs.TextLaws.{OneCommandText, AnswersHaveTexts}
 use Rattle.bus_tool.proofs.LawTypes.{ReadsATable, FittingItemsGiveHands}
 use Rattle.bus_tool.proofs.ReadLemmas.{table_read, items_read, inputs_read, table_unwritten, inputs_unwritten}
 use Rattle.bus_tool.proofs.TraceReads.{traced_unwritten}
+use Rattle.bus_tool.proofs.DropReads.{drop_read, drop_unwritten}
 use Rattle.bus_tool.proofs.RunReads.{run_read, run_unwritten}
 
 pub record TextLaws : Type 0 where
@@ -46,6 +49,7 @@ pub record TextLaws : Type 0 where
   pub give_hands : FittingItemsGiveHands
   pub one_list : OneListOfATable
   pub runs : AcceptedIsClosed
+  pub drops : DropOutIsLawful
   pub even_agree : EvenHandsAgree
 
 -- the one list of inputs
@@ -102,6 +106,27 @@ ran_text laws first second inputs h =
       record { recording = recording; ran = record { horizon = refl; holds = refl; run = laws.runs inputs.table (hands_in inputs) stands.1 ran.1.accepted even }; text_is = refl },
     )
 
+-- ---- runs whose senders fall silent
+dropped_is : (inputs : Inputs) (recording : Recording) → IsDropRecording inputs.table (hands_in inputs) recording → recording ≡ record { horizon = drop_end inputs.table (hands_in inputs); holds = holds_of (hands_in inputs); list = dropout inputs.table (hands_in inputs) }
+dropped_is inputs recording h =
+    ap (λ (n : ℕ). recorded n recording.holds recording.list) h.horizon ∙ ap (λ (l : List Hold). recorded (drop_end inputs.table (hands_in inputs)) l recording.list) h.holds
+    ∙ ap (recorded (drop_end inputs.table (hands_in inputs)) (holds_of (hands_in inputs))) h.run.dropout
+
+drop_once : (inputs : Inputs) (text other : List ℕ) → IsDropText inputs text → IsDropText inputs other → other ≡ text
+drop_once inputs text other h k = k.text_is ∙ ap (run_text inputs.table) (dropped_is inputs k.recording k.ran ∙ sym (dropped_is inputs h.recording h.ran)) ∙ sym h.text_is
+
+dropped_text : TextLaws → (first second : List ℕ) (inputs : Inputs) → drop_due first second ≡ Ok inputs → (text : List ℕ) × IsDropText inputs text
+dropped_text laws first second inputs h =
+    let ran = drop_read first second inputs h in
+    let read = inputs_read first second inputs ran.0 in
+    let stands = laws.reads_table first inputs.table (table_read first inputs.table read.table_is) in
+    let fits : IsOk (items_fit inputs.table inputs.items) = subst IsOk (sym (items_read inputs.table second inputs.items read.items_are).fits) refl in
+    let dealt = laws.give_hands inputs.table inputs.items stands.1 fits in
+    let recording : Recording = record { horizon = drop_end inputs.table (hands_in inputs); holds = holds_of (hands_in inputs); list = dropout inputs.table (hands_in inputs) } in (
+      run_text inputs.table recording,
+      record { recording = recording; ran = record { horizon = refl; holds = refl; run = laws.drops inputs.table (hands_in inputs) stands.1 ran.1.aperiodic dealt ran.1.long }; text_is = refl },
+    )
+
 -- ---- the forms
 same_value : {Y : Type 0} (due : Result Y Outcome) (x y : Y) → due ≡ Ok x → due ≡ Ok y → y ≡ x
 same_value due x y h k = cc
@@ -118,6 +143,7 @@ form_once laws (Observe horizon) first second text other h k =
     observe_once h.0 horizon (list_of laws first second h.0 horizon h.1) text other h.2
     (subst (λ inputs. IsObserveText horizon inputs other) (same_value (inputs_due first second) h.0 k.0 h.1 k.1) k.2)
 form_once laws Run first second text other h k = run_once h.0 text other h.2 (subst (λ inputs. IsRunText inputs other) (same_value (run_due first second) h.0 k.0 h.1 k.1) k.2)
+form_once laws Drop first second text other h k = drop_once h.0 text other h.2 (subst (λ inputs. IsDropText inputs other) (same_value (drop_due first second) h.0 k.0 h.1 k.1) k.2)
 form_once laws Receive first second text other h k = k.2 ∙ ap (λ traced. received_text traced.table traced.trace.list) (same_value (traced_due first second) h.0 k.0 h.1 k.1) ∙ sym h.2
 form_once laws Audit first second text other h k = k.2 ∙ ap (λ traced. audit_line (audit_of traced)) (same_value (traced_due first second) h.0 k.0 h.1 k.1) ∙ sym h.2
 
@@ -144,6 +170,7 @@ form_has laws Report first second h = text_with (λ table. verdict_outcome (verd
 form_has laws (Drill number) first second h = (drill_line number, refl)
 form_has laws (Observe horizon) first second h = text_with (λ inputs. Done) (IsObserveText horizon) (inputs_due first second) (λ o e. inputs_unwritten first second o e) (λ inputs e. observe_text inputs horizon (list_of laws first second inputs horizon e)) h
 form_has laws Run first second h = text_with (λ inputs. Done) IsRunText (run_due first second) (λ o e. run_unwritten first second o e) (λ inputs e. ran_text laws first second inputs e) h
+form_has laws Drop first second h = text_with (λ inputs. Done) IsDropText (drop_due first second) (λ o e. drop_unwritten first second o e) (λ inputs e. dropped_text laws first second inputs e) h
 form_has laws Receive first second h =
     text_with (λ traced. Done) IsReceiveText (traced_due first second) (λ o e. traced_unwritten first second o e) (λ traced e. (received_text traced.table traced.trace.list, refl)) h
 form_has laws Audit first second h =

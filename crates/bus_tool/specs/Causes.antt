@@ -1,10 +1,11 @@
 -- The cause of each refusal, by the relation between a value and its texts and not by how they are read. Which of several comes is the
 -- order of `Due`.
-use Rattle.std.specs.Prelude.{◌≡◌, ◌≢◌, ℕ, ◌<◌, false, IsTrue, List, IfSome, Some, Ok, Err}
+use Rattle.std.specs.Prelude.{◌≡◌, ◌≢◌, ◌⊎◌, ℕ, ◌<◌, false, IsTrue, List, IfSome, Some, Ok, Err}
 use Rattle.bus_strings.specs.Items.{Item}
 use Rattle.bus_strings.specs.Grammar.{IsMessagesText}
 use Rattle.bus_table.specs.declared.fit.FitError.{FitError}
 use Rattle.bus_table.specs.declared.mode.Mode.{Mode}
+use Rattle.bus_table.specs.declared.mode.Mode.TheVariants.{Aperiodic}
 use Rattle.bus_table.specs.declared.error.WholeReason.{WholeReason}
 use Rattle.bus_table.specs.Tables.{Table}
 use Rattle.bus_table.specs.Fits.{items_fit}
@@ -14,6 +15,7 @@ use Rattle.bus_table.specs.Valid.{is_valid}
 use Rattle.bus_table.specs.Whole.{whole_refusal}
 use Rattle.bus_regime.specs.declared.table_verdict.TableVerdict.{TableVerdict}
 use Rattle.bus_regime.specs.Verdicts.{verdict_of, is_accepted}
+use Rattle.bus_dropout.specs.DropOut.{last_cycle, drop_end}
 use Rattle.bus_schedule.specs.declared.uneven.Uneven.{Uneven}
 use Rattle.bus_schedule.specs.Closed.{closed_end}
 use Rattle.bus_schedule.specs.Limits.{longest_end}
@@ -86,9 +88,17 @@ DifferAs uneven table items = uneven_of table (hands_of table items) ≡ Some un
 abbrev pub IsRefusal : TableVerdict → Table → List Item → Type 0
 IsRefusal verdict table items = (verdict ≡ verdict_of table) × (is_accepted verdict ≡ false)
 
--- the closed end, which is above its limit
+-- the last cycle and the transmit interval of an aperiodic table, which it is shorter than
+pub record IsShortLast (least ti : ℕ) (table : Table) (items : List Item) : Type 0 where
+  pub aperiodic : table.mode ≡ Aperiodic
+  pub last : last_cycle table (hands_of table items) ≡ Some least
+  pub interval : ti ≡ table.ti
+  pub shorter : least < ti
+
+-- the end of the closed schedule, or of the drop-out schedule, which is above its limit
 abbrev pub IsLongEnd : ℕ → Table → List Item → Type 0
-IsLongEnd end table items = (end ≡ closed_end table (hands_of table items)) × (longest_end < end)
+IsLongEnd end table items =
+    ((end ≡ closed_end table (hands_of table items)) ⊎ (end ≡ drop_end table (hands_of table items))) × (longest_end < end)
 
 -- The cause of an outcome that refuses a text, or a table and items that were read. An answer has its text, and a failure of the outside
 -- its count; of want of memory nothing is known.
@@ -109,6 +119,7 @@ RefusesTexts (outcome.ReadFault source) first second = Unit {0}
 RefusesTexts outcome.WriteFault first second = Unit {0}
 RefusesTexts outcome.NoMemory first second = Unit {0}
 RefusesTexts (outcome.TooLarge source) first second = Unit {0}
+RefusesTexts (outcome.ShortLast least ti) first second = AreTextsWith (IsShortLast least ti) first second
 RefusesTexts (outcome.TooLong end) first second = AreTextsWith (IsLongEnd end) first second
 
 -- where the sources that the form names tell their bytes, an outcome that refuses a text has its cause
@@ -133,6 +144,7 @@ RefusesText (outcome.ReadFault source) first = Unit {0}
 RefusesText outcome.WriteFault first = Unit {0}
 RefusesText outcome.NoMemory first = Unit {0}
 RefusesText (outcome.TooLarge source) first = Unit {0}
+RefusesText (outcome.ShortLast least ti) first = Unit {0}
 RefusesText (outcome.TooLong end) first = Unit {0}
 
 -- where the first source is named and tells its bytes, an outcome that refuses its text has its cause, whatever the second is

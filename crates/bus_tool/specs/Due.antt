@@ -21,6 +21,7 @@ use Rattle.bus_regime.specs.Verdicts.{verdict_of, is_accepted}
 use Rattle.bus_plan.specs.declared.planning.PlanAnswer.{PlanAnswer}
 use Rattle.bus_plan.specs.declared.planning.PlanAnswer.TheVariants.{Planned, Infeasible}
 use Rattle.bus_plan.specs.Answers.{plan_of}
+use Rattle.bus_dropout.specs.DropOut.{last_cycle, drop_end}
 use Rattle.bus_schedule.specs.declared.error.ScheduleError.{ScheduleError}
 use Rattle.bus_schedule.specs.declared.error.ScheduleError.TheVariants.{Memory as Small, TooLong as Long}
 use Rattle.bus_schedule.specs.declared.uneven.Uneven.{Uneven as UnevenHands}
@@ -36,11 +37,11 @@ use Rattle.bus_audit.specs.declared.answer.AuditAnswer.{AuditAnswer}
 use Rattle.bus_audit.specs.declared.answer.AuditAnswer.TheVariants.{Lawful, Breach}
 use Rattle.bus_audit.specs.Breaches.{answer_of}
 use Rattle.bus_tool.specs.declared.forms.Form.{Form}
-use Rattle.bus_tool.specs.declared.forms.Form.TheVariants.{Check, Tidy, Report, Witness, Plan, Drill, Observe, Run, Receive, Audit}
+use Rattle.bus_tool.specs.declared.forms.Form.TheVariants.{Check, Tidy, Report, Witness, Plan, Drill, Observe, Run, Drop, Receive, Audit}
 use Rattle.bus_tool.specs.declared.outcome.Outcome.{Outcome}
 use Rattle.bus_tool.specs.declared.outcome.Outcome.TheVariants.{Done, Answered, Refused, Usage, TableText, TableWhole, TableMode}
 use Rattle.bus_tool.specs.declared.outcome.Outcome.TheVariants.{MessagesText, Unfit, Uneven, TraceText, ReadFault, NoMemory, TooLarge}
-use Rattle.bus_tool.specs.declared.outcome.Outcome.TheVariants.{TooLong}
+use Rattle.bus_tool.specs.declared.outcome.Outcome.TheVariants.{ShortLast, TooLong}
 use Rattle.bus_tool.specs.Forms.{form_of}
 use Rattle.bus_tool.specs.Readers.{text_limit}
 use Rattle.bus_tool.specs.Stages.{refusal_in}
@@ -141,6 +142,10 @@ with_items table items = record { table = table; items = items }
 abbrev pub inputs_due : List ℕ → List ℕ → Result Inputs Outcome
 inputs_due first second = table_due first >>= λ table. items_due table second >>= λ items. Ok (with_items table items)
 
+-- the same, of a table of this mode
+abbrev pub inputs_in : Mode → List ℕ → List ℕ → Result Inputs Outcome
+inputs_in needed first second = table_in needed first >>= λ table. items_due table second >>= λ items. Ok (with_items table items)
+
 -- a table, and a trace
 pub record Traced : Type 0 where
   pub table : Table
@@ -173,7 +178,7 @@ even_due (Some uneven) = Err (uneven_refusal uneven)
 abbrev pub accepted_due : TableVerdict → Result (Unit {0}) Outcome
 accepted_due verdict = if is_accepted verdict then Ok tt else Err (Refused verdict)
 
--- a closed end within its limit
+-- an end of a schedule within its limit
 abbrev pub short_due : ℕ → Result (Unit {0}) Outcome
 short_due end = if nat_lt longest_end end then Err (TooLong end) else Ok tt
 
@@ -196,6 +201,28 @@ runs inputs = can_run inputs.table (hands_in inputs) >>= λ _. Ok inputs
 -- what `run` asks for of both texts
 abbrev pub run_due : List ℕ → List ℕ → Result Inputs Outcome
 run_due first second = inputs_due first second >>= runs
+
+-- ---- what `drop` asks for behind both texts
+-- a last cycle that is no shorter than the transmit interval, where there is one
+abbrev pub last_due : Option ℕ → ℕ → Result (Unit {0}) Outcome
+last_due None ti = Ok tt
+last_due (Some least) ti = if nat_lt least ti then Err (ShortLast least ti) else Ok tt
+
+-- an accepted table and such a last cycle, in this order
+abbrev pub may_drop : Table → List Hand → Result (Unit {0}) Outcome
+may_drop table hands = accepted_due (verdict_of table) >>= λ _. last_due (last_cycle table hands) table.ti
+
+-- and then an end of the drop-out schedule within its limit
+abbrev pub can_drop : Table → List Hand → Result (Unit {0}) Outcome
+can_drop table hands = may_drop table hands >>= λ _. short_due (drop_end table hands)
+
+-- inputs whose senders can be run until they fall silent
+abbrev pub drops : Inputs → Result Inputs Outcome
+drops inputs = can_drop inputs.table (hands_in inputs) >>= λ _. Ok inputs
+
+-- what `drop` asks for of both texts
+abbrev pub drop_due : List ℕ → List ℕ → Result Inputs Outcome
+drop_due first second = inputs_in Aperiodic first second >>= drops
 
 -- ---- the outcomes
 -- yes where the table is accepted, else no
@@ -234,6 +261,7 @@ form_due Report first second = outcome_with (λ table. verdict_outcome (verdict_
 form_due (Drill number) first second = Done
 form_due (Observe horizon) first second = outcome_with (λ inputs. Done) (inputs_due first second)
 form_due Run first second = outcome_with (λ inputs. Done) (run_due first second)
+form_due Drop first second = outcome_with (λ inputs. Done) (drop_due first second)
 form_due Receive first second = outcome_with (λ traced. Done) (traced_due first second)
 form_due Audit first second = outcome_with (λ traced. audit_outcome (audit_of traced)) (traced_due first second)
 
@@ -247,6 +275,7 @@ first_refusal Report first = table_refusal_of first
 first_refusal (Drill number) first = None
 first_refusal (Observe horizon) first = table_refusal_of first
 first_refusal Run first = table_refusal_of first
+first_refusal Drop first = refusal_of_mode Aperiodic first
 first_refusal Receive first = table_refusal_of first
 first_refusal Audit first = table_refusal_of first
 

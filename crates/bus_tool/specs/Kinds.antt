@@ -33,6 +33,7 @@ kind_of (outcome.ReadFault source) = NotRead source
 kind_of outcome.WriteFault = NotWritten
 kind_of outcome.NoMemory = NoRoom
 kind_of (outcome.TooLarge source) = TooMuch source
+kind_of (outcome.ShortLast least ti) = Late
 kind_of (outcome.TooLong end) = Late
 
 -- Where a kind stands in the order of refusals: 0 the words, then each source by its number, 3 what comes behind both.

@@ -21,6 +21,7 @@ pub mod Acts
 pub mod Answers
 pub mod Claims
 pub mod RunClaims
+pub mod DropClaims
 pub mod TraceClaims
 pub mod TextLaws
 pub mod TableClaims

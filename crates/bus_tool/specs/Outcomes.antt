@@ -17,7 +17,7 @@ use Rattle.bus_tool.specs.declared.status.Status.TheVariants as status
 use Rattle.bus_tool.specs.declared.outcome.Outcome.{Outcome}
 use Rattle.bus_tool.specs.declared.outcome.Outcome.TheVariants.{Done, Answered, Refused, Usage, TableText, TableWhole, TableMode}
 use Rattle.bus_tool.specs.declared.outcome.Outcome.TheVariants.{MessagesText, Unfit, Uneven, TraceText, ReadFault, WriteFault, NoMemory}
-use Rattle.bus_tool.specs.declared.outcome.Outcome.TheVariants.{TooLarge, TooLong}
+use Rattle.bus_tool.specs.declared.outcome.Outcome.TheVariants.{TooLarge, ShortLast, TooLong}
 use Rattle.bus_tool.specs.Kinds.{kind_of, is_answer}
 use Rattle.bus_tool.specs.Statuses.{number_of}
 
@@ -38,6 +38,7 @@ status_of (ReadFault source) = status.ReadFault
 status_of WriteFault = status.WriteFault
 status_of NoMemory = status.NoMemory
 status_of (TooLarge source) = status.TooLarge
+status_of (ShortLast least ti) = status.Refused
 status_of (TooLong end) = status.TooLong
 
 -- the word of a reason
@@ -82,7 +83,7 @@ fit_words (Shape item) = decimal item ++ codes " Shape"
 abbrev pub count_words : ℕ → ℕ → List ℕ
 count_words terminal count = decimal terminal ++ 32 ∷ [] ++ decimal count
 
--- what a fault line says behind the status; an outcome whose line is a verdict has none
+-- what a fault line says behind the status; an outcome whose line is a refusal has none
 abbrev pub fault_words : Outcome → List ℕ
 fault_words Done = []
 fault_words Answered = []
@@ -100,6 +101,7 @@ fault_words (ReadFault source) = codes "read " ++ decimal source
 fault_words WriteFault = codes "write"
 fault_words NoMemory = codes "memory"
 fault_words (TooLarge source) = codes "large " ++ decimal source
+fault_words (ShortLast least ti) = []
 fault_words (TooLong end) = codes "long " ++ decimal end
 
 -- a line: the number with which the process ends, and why
@@ -127,15 +129,45 @@ refused_verdict (ReadFault source) = None
 refused_verdict WriteFault = None
 refused_verdict NoMemory = None
 refused_verdict (TooLarge source) = None
+refused_verdict (ShortLast least ti) = None
 refused_verdict (TooLong end) = None
 
--- the line of an outcome that is no verdict; none where the answer is written
+-- a last cycle that is shorter than the transmit interval, which comes behind it
+abbrev pub short_last_of : Outcome → Option (ℕ × ℕ)
+short_last_of Done = None
+short_last_of Answered = None
+short_last_of (Refused verdict) = None
+short_last_of Usage = None
+short_last_of (TableText line reason) = None
+short_last_of (TableWhole reason) = None
+short_last_of (TableMode needed) = None
+short_last_of (MessagesText line reason) = None
+short_last_of (Unfit error) = None
+short_last_of (Uneven one one_count other other_count) = None
+short_last_of (TraceText byte reason) = None
+short_last_of (ReadFault source) = None
+short_last_of WriteFault = None
+short_last_of NoMemory = None
+short_last_of (TooLarge source) = None
+short_last_of (ShortLast least ti) = Some (least, ti)
+short_last_of (TooLong end) = None
+
+-- the line of a last cycle that is too short
+abbrev pub short_last_line : ℕ → ℕ → List ℕ
+short_last_line least ti = codes "REFUSE short-last " ++ decimal least ++ 32 ∷ [] ++ decimal ti ++ 10 ∷ []
+
+-- the line of an outcome that is no refusal by verdict or last cycle; none where the answer is written
 abbrev pub plain_line : Outcome → List ℕ
 plain_line outcome = if is_written outcome then [] else error_line outcome
 
--- that of the verdict for which the senders of a table aren't run, or the outcome's own
+-- that of a last cycle that is too short, or the outcome's own
+abbrev pub other_line : Option (ℕ × ℕ) → Outcome → List ℕ
+other_line None outcome = plain_line outcome
+other_line (Some short) outcome = short_last_line short.0 short.1
+
+-- that of the verdict for which the senders of a table aren't run, or of a last cycle, or the outcome's own
 abbrev pub line_with : Option TableVerdict → Outcome → List ℕ
-line_with None outcome = plain_line outcome
+line_with None outcome = other_line (short_last_of outcome) outcome
 line_with (Some verdict) outcome = verdict_line verdict
 
 -- the line of an outcome

@@ -2,9 +2,9 @@
 -- beside this that an outcome that refuses a source is of one that the form names, and `Does` which one is due where both tell their bytes.
 use Rattle.std.specs.Prelude.{◌≡◌, Bool, true, false, IsTrue, ℕ, List, Option, Some, None, IfSome}
 use Rattle.bus_table.specs.declared.mode.Mode.{Mode}
-use Rattle.bus_table.specs.declared.mode.Mode.TheVariants.{Periodic}
+use Rattle.bus_table.specs.declared.mode.Mode.TheVariants.{Aperiodic, Periodic}
 use Rattle.bus_tool.specs.declared.forms.Form.{Form}
-use Rattle.bus_tool.specs.declared.forms.Form.TheVariants.{Check, Tidy, Report, Witness, Plan, Drill, Observe, Run, Receive, Audit}
+use Rattle.bus_tool.specs.declared.forms.Form.TheVariants.{Check, Tidy, Report, Witness, Plan, Drill, Observe, Run, Drop, Receive, Audit}
 use Rattle.bus_tool.specs.declared.outcome.Outcome.{Outcome}
 use Rattle.bus_tool.specs.declared.outcome.Outcome.TheVariants as outcome
 use Rattle.bus_tool.specs.Causes.{IsNoMessagesText, IsUnfitIn, IsNoTraceText}
@@ -21,6 +21,7 @@ is_question Plan = true
 is_question (Drill number) = false
 is_question (Observe horizon) = false
 is_question Run = false
+is_question Drop = false
 is_question Receive = false
 is_question Audit = true
 
@@ -34,6 +35,7 @@ runs_accepted Plan = false
 runs_accepted (Drill number) = false
 runs_accepted (Observe horizon) = false
 runs_accepted Run = true
+runs_accepted Drop = true
 runs_accepted Receive = false
 runs_accepted Audit = false
 
@@ -47,6 +49,7 @@ needed_mode Plan = Some Periodic
 needed_mode (Drill number) = None
 needed_mode (Observe horizon) = None
 needed_mode Run = None
+needed_mode Drop = Some Aperiodic
 needed_mode Receive = None
 needed_mode Audit = None
 
@@ -72,6 +75,7 @@ IsOwn form second (outcome.ReadFault source) = Unit {0}
 IsOwn form second outcome.WriteFault = Unit {0}
 IsOwn form second outcome.NoMemory = Unit {0}
 IsOwn form second (outcome.TooLarge source) = Unit {0}
+IsOwn form second (outcome.ShortLast least ti) = form ≡ Drop
 IsOwn form second (outcome.TooLong end) = IsTrue (runs_accepted form)
 
 -- it is one of this form, whatever the second text is
@@ -89,3 +93,8 @@ IsOfMode needed outcome = (form : Form) → needed_mode form ≡ Some needed →
 -- it is one of each form that reads the second source so
 abbrev pub IsOfReader : Reader → Option (List ℕ) → Outcome → Type 0
 IsOfReader reader second outcome = (form : Form) → (sources_of form).second ≡ Some reader → IsOwn form second outcome
+
+-- it is one of each form that needs a table of this mode and reads the second source so
+abbrev pub IsOfInputs : Mode → Reader → Option (List ℕ) → Outcome → Type 0
+IsOfInputs needed reader second outcome =
+    (form : Form) → needed_mode form ≡ Some needed → (sources_of form).second ≡ Some reader → IsOwn form second outcome

@@ -12,7 +12,7 @@ use Rattle.bus_audit.specs.declared.answer.AuditAnswer.{AuditAnswer}
 use Rattle.bus_audit.specs.declared.answer.AuditAnswer.TheVariants.{Lawful}
 use Rattle.bus_tool.specs.Outcomes.{is_written}
 use Rattle.bus_tool.specs.Due.{due}
-use Rattle.bus_tool.specs.Texts.{hold_of, holds_of, IsObserved, IsRunRecording, IsCommandText}
+use Rattle.bus_tool.specs.Texts.{hold_of, holds_of, IsObserved, IsRunRecording, IsDropRecording, IsCommandText}
 use Rattle.bus_tool.specs.TraceClaims.{IsFinding}
 
 -- a command writes one text at most
@@ -48,3 +48,8 @@ ObservedIsFoundLawful = (table : Table) (items : List Item) (horizon : ℕ) (tra
 abbrev pub RunIsFoundLawful : Type 0
 RunIsFoundLawful = (table : Table) (items : List Item) (trace : Recording) → IsTrue (is_valid table) → IsOk (items_fit table items)
     → IsTrace trace → IsRunRecording table (hands_of table items) trace → IsFoundLawful table trace
+
+-- nor against a run whose senders fall silent
+abbrev pub DropIsFoundLawful : Type 0
+DropIsFoundLawful = (table : Table) (items : List Item) (trace : Recording) → IsTrue (is_valid table) → IsOk (items_fit table items)
+    → IsTrace trace → IsDropRecording table (hands_of table items) trace → IsFoundLawful table trace

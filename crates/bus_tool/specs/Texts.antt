@@ -16,17 +16,19 @@ use Rattle.bus_regime.specs.Witness.{witness_of}
 use Rattle.bus_medium.specs.Lawful.{IsLawful}
 use Rattle.bus_medium.specs.Timings.{quiet_of, stations_of}
 use Rattle.bus_schedule.specs.Closed.{closed_end}
+use Rattle.bus_dropout.specs.DropOut.{drop_end}
+use Rattle.bus_dropout.specs.Runs.{IsDropRun}
 use Rattle.bus_schedule.specs.Runs.{IsRun}
 use Rattle.bus_audit.specs.declared.answer.AuditAnswer.{AuditAnswer}
 use Rattle.bus_filter.specs.ReceivedTexts.{received_text}
 use Rattle.bus_trace.specs.declared.hold.Hold.{Hold}
 use Rattle.bus_trace.specs.Traces.{Recording, trace_text}
 use Rattle.bus_tool.specs.declared.forms.Form.{Form}
-use Rattle.bus_tool.specs.declared.forms.Form.TheVariants.{Check, Tidy, Report, Witness, Plan, Drill, Observe, Run, Receive, Audit}
+use Rattle.bus_tool.specs.declared.forms.Form.TheVariants.{Check, Tidy, Report, Witness, Plan, Drill, Observe, Run, Drop, Receive, Audit}
 use Rattle.bus_tool.specs.declared.outcome.Outcome.{Outcome}
 use Rattle.bus_tool.specs.Forms.{form_of}
 use Rattle.bus_tool.specs.declared.inputs.Traced.{Traced as Ran}
-use Rattle.bus_tool.specs.Due.{Inputs, hands_in, Traced, table_due, table_in, inputs_due, run_due, traced_due, audit_of}
+use Rattle.bus_tool.specs.Due.{Inputs, hands_in, Traced, table_due, table_in, inputs_due, run_due, drop_due, traced_due, audit_of}
 use Rattle.bus_tool.specs.AuditLines.{audit_line}
 use Rattle.bus_tool.specs.Drills.{drill_line}
 use Rattle.bus_tool.specs.Reports.{report_text}
@@ -70,20 +72,40 @@ pub record IsRunRecording (table : Table) (hands : List Hand) (recording : Recor
   pub holds : recording.holds ≡ holds_of hands
   pub run : IsRun table hands recording.list
 
--- a table and the recording of the run of inputs
-pub record IsRanOf (ran : Ran) (inputs : Inputs) : Type 0 where
+-- the recording of a run whose senders fall silent: its horizon is the end of the drop-out schedule
+pub record IsDropRecording (table : Table) (hands : List Hand) (recording : Recording) : Type 0 where
+  pub horizon : recording.horizon ≡ drop_end table hands
+  pub holds : recording.holds ≡ holds_of hands
+  pub run : IsDropRun table hands recording.list
+
+-- a table and the recording of this kind of the senders that inputs give
+pub record IsRanBy (IsRecording : Table → List Hand → Recording → Type 0) (ran : Ran) (inputs : Inputs) : Type 0 where
   pub table : ran.table ≡ inputs.table
-  pub run : IsRunRecording inputs.table (hands_in inputs) ran.trace
+  pub run : IsRecording inputs.table (hands_in inputs) ran.trace
+
+-- that of a run, and of a run whose senders fall silent
+abbrev pub IsRanOf : Ran → Inputs → Type 0
+IsRanOf = IsRanBy IsRunRecording
+
+abbrev pub IsDroppedOf : Ran → Inputs → Type 0
+IsDroppedOf = IsRanBy IsDropRecording
 
 -- the text of a trace, and behind it what each terminal of the table receives
 abbrev pub run_text : Table → Recording → List ℕ
 run_text table recording = trace_text recording ++ received_text table recording.list
 
--- the text of a run
-pub record IsRunText (inputs : Inputs) (text : List ℕ) : Type 0 where
+-- the text of a recording of this kind
+pub record IsRanText (IsRecording : Table → List Hand → Recording → Type 0) (inputs : Inputs) (text : List ℕ) : Type 0 where
   pub recording : Recording
-  pub ran : IsRunRecording inputs.table (hands_in inputs) recording
+  pub ran : IsRecording inputs.table (hands_in inputs) recording
   pub text_is : text ≡ run_text inputs.table recording
+
+-- the text of a run, and of a run whose senders fall silent
+abbrev pub IsRunText : Inputs → List ℕ → Type 0
+IsRunText = IsRanText IsRunRecording
+
+abbrev pub IsDropText : Inputs → List ℕ → Type 0
+IsDropText = IsRanText IsDropRecording
 
 -- what each terminal receives of a trace
 abbrev pub IsReceiveText : Traced → List ℕ → Type 0
@@ -139,6 +161,7 @@ IsFormText Report first second text = IsTextOf IsReportText (table_due first) te
 IsFormText (Drill number) first second text = text ≡ drill_line number
 IsFormText (Observe horizon) first second text = IsTextOf (IsObserveText horizon) (inputs_due first second) text
 IsFormText Run first second text = IsTextOf IsRunText (run_due first second) text
+IsFormText Drop first second text = IsTextOf IsDropText (drop_due first second) text
 IsFormText Receive first second text = IsTextOf IsReceiveText (traced_due first second) text
 IsFormText Audit first second text = IsTextOf IsAuditText (traced_due first second) text
 

@@ -5,6 +5,7 @@ ghost use Rattle.bus_tool.specs.Outside.{called, outside};
 use crate::audit::audit;
 use crate::check::check;
 use crate::drill::drill;
+use crate::dropout::dropout;
 use crate::forms::{Form, form_of};
 use crate::observe::observe;
 use crate::outcome::Outcome;
@@ -47,6 +48,7 @@ pub fn act<S: Source, K: Sink>(
         Some(Form::Drill { number }) => drill(alloc, number, out),
         Some(Form::Observe { horizon }) => observe(alloc, horizon, first, second, out),
         Some(Form::Run) => run(alloc, first, second, out),
+        Some(Form::Drop) => dropout(alloc, first, second, out),
         Some(Form::Receive) => receive(alloc, first, second, out),
         Some(Form::Audit) => audit(alloc, first, second, out),
     }

@@ -2,7 +2,7 @@ ghost use Rattle.bus_outer.specs.Sinks.{WritesText};
 ghost use Rattle.bus_outer.specs.Texts.{Adds};
 ghost use Rattle.bus_table.specs.declared.fit.FitError.TheVariants.{Stranger, Shape};
 ghost use Rattle.bus_tool.specs.Outcomes.{reason_name, trace_reason_name, pair_words, whole_words, fit_words, fault_words, count_words};
-ghost use Rattle.bus_tool.specs.Outcomes.{status_of, error_line, plain_line, fault_line};
+ghost use Rattle.bus_tool.specs.Outcomes.{status_of, error_line, plain_line, short_last_of, short_last_line, other_line, fault_line};
 ghost use Rattle.bus_text.specs.Digits.{hex_digit, hexadecimal};
 ghost use Rattle.bus_tool.specs.Statuses.{number_of};
 ghost use Rattle.bus_regime.specs.Lines.{mode_name};
@@ -241,7 +241,8 @@ fn put_words<K: Sink>(text: &mut TextBuffer, sink: &mut K, outcome: &Outcome)
     ensures { Adds K.held K.faults sink.old sink.new text.old text.new (fault_words outcome.now) }
 {
     match *outcome {
-        Outcome::Done | Outcome::Answered | Outcome::Refused(_) => text.put(sink, b""),
+        Outcome::Done | Outcome::Answered | Outcome::Refused(_) | Outcome::ShortLast { .. } =>
+            text.put(sink, b""),
         Outcome::Usage => text.put(sink, b"usage"),
         Outcome::TableText { line, reason } => put_table_text(text, sink, line, reason),
         Outcome::TableWhole(reason) => put_table_whole(text, sink, reason),
@@ -270,7 +271,7 @@ fn put_status<K: Sink>(text: &mut TextBuffer, sink: &mut K, outcome: &Outcome)
     text.put_number(sink, outcome.status().number())
 }
 
-/// Puts the line of an outcome that is no verdict; nothing where the answer is written.
+/// Puts the line of an outcome that is no refusal by verdict or last cycle; nothing where the answer is written.
 fn put_plain_line<K: Sink>(text: &mut TextBuffer, sink: &mut K, outcome: &Outcome)
     ensures { Adds K.held K.faults sink.old sink.new text.old text.new (plain_line outcome.now) }
 {
@@ -292,7 +293,7 @@ fn put_error_line<K: Sink>(text: &mut TextBuffer, sink: &mut K, outcome: &Outcom
     text.put_byte(sink, b'\n');
 }
 
-/// Writes the line of an outcome that is no verdict.
+/// Writes the line of an outcome that is no refusal by verdict or last cycle.
 fn plain_text<K: Sink>(outcome: &Outcome, err: &mut K) -> Result<(), WriteFault>
     ensures { WritesText K.held K.faults err.old err.new result (plain_line outcome.now) }
 {
@@ -301,14 +302,44 @@ fn plain_text<K: Sink>(outcome: &Outcome, err: &mut K) -> Result<(), WriteFault>
     text.finish(err)
 }
 
-/// Writes the line of an outcome: nothing where the answer is written, the verdict line where the senders of a table aren't run, else the
-/// ERROR line. It takes no memory. After a `WriteFault`, which comes only where the sink's count of faults rose, the sink has taken a
-/// beginning of the line.
+/// Puts the line of a last cycle that is shorter than the transmit interval.
+fn put_short_last<K: Sink>(text: &mut TextBuffer, sink: &mut K, least: u64, ti: u64)
+    ensures { Adds K.held K.faults sink.old sink.new text.old text.new (short_last_line least ti) }
+{
+    text.put(sink, b"REFUSE short-last ");
+    text.put_number(sink, least);
+    text.put_byte(sink, b' ');
+    text.put_number(sink, ti);
+    text.put_byte(sink, b'\n');
+}
+
+/// Writes the line of a last cycle that is shorter than the transmit interval.
+fn short_last_text<K: Sink>(least: u64, ti: u64, err: &mut K) -> Result<(), WriteFault>
+    ensures { WritesText K.held K.faults err.old err.new result (short_last_line least ti) }
+{
+    let mut text = TextBuffer::new();
+    put_short_last(&mut text, err, least, ti);
+    text.finish(err)
+}
+
+/// Writes the line of an outcome that is no refusal by verdict.
+fn other_text<K: Sink>(outcome: &Outcome, err: &mut K) -> Result<(), WriteFault>
+    ensures { WritesText K.held K.faults err.old err.new result (other_line (short_last_of outcome.now) outcome.now) }
+{
+    match outcome.short_last() {
+        None => plain_text(outcome, err),
+        Some((least, ti)) => short_last_text(least, ti, err),
+    }
+}
+
+/// Writes the line of an outcome: nothing where the answer is written, the verdict line or the last cycle where the senders of a table
+/// aren't run for it, else the ERROR line. It takes no memory. After a `WriteFault`, which comes only where the sink's count of faults
+/// rose, the sink has taken a beginning of the line.
 pub fn outcome_text<K: Sink>(outcome: &Outcome, err: &mut K) -> Result<(), WriteFault>
     ensures { WritesText K.held K.faults err.old err.new result (fault_line outcome.now) }
 {
     match outcome.refused() {
-        None => plain_text(outcome, err),
+        None => other_text(outcome, err),
         Some(verdict) => write_verdict(&verdict, err),
     }
 }

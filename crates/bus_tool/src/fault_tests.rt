@@ -13,7 +13,7 @@ use std::test::Fail;
 type Call<'a> = (&'a [&'a str], &'a str, &'a str);
 
 /// Calls of each command that read and write without a refusal.
-const CALLS: [Call<'static>; 10] = [
+const CALLS: [Call<'static>; 11] = [
     (&["check", "T"], TWO_SENDERS, ""),
     (&["report", "T"], TWO_SENDERS, ""),
     (&["plan", "T"], TWO_PERIODIC_SENDERS, ""),
@@ -21,6 +21,7 @@ const CALLS: [Call<'static>; 10] = [
     (&["witness", "T"], LONG_GAP, ""),
     (&["tidy", "T"], LONG_GAP, ""),
     (&["run", "T", "M"], LONG_GAP, ONE_EACH),
+    (&["drop", "T", "M"], LONG_GAP, ONE_EACH),
     (&["observe", "T", "M", "150"], LONG_GAP, ONE_EACH),
     (&["receive", "T", "R"], LONG_GAP, ONE_EACH_SEEN),
     (&["audit", "T", "R"], LONG_GAP, ONE_EACH_SEEN),

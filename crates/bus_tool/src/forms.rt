@@ -36,6 +36,9 @@ pub enum Form {
     },
     /// `run T M`: what the senders of the table in `T` do with the messages in `M`, up to the end of the closed schedule.
     Run,
+    /// `drop T M`: what the senders of the aperiodic table in `T` do with the messages in `M`, of which some may have fewer than others, up to
+    /// the end of the drop-out schedule.
+    Drop,
     /// `receive T R`: what each terminal of the table in `T` receives of the trace in `R`.
     Receive,
     /// `audit T R`: whether each start of the trace in `R` is just where the timers of the table in `T` allow one.
@@ -99,6 +102,8 @@ fn three_words(command: &str) -> Option<Form>
 {
     if command == "run" {
         Some(Form::Run)
+    } else if command == "drop" {
+        Some(Form::Drop)
     } else if command == "receive" {
         Some(Form::Receive)
     } else if command == "audit" {

@@ -3,10 +3,10 @@ ghost use Rattle.std.specs.Prelude.{◌≡◌, ◌≤◌, length, IfOk, IfErr, I
 ghost use Rattle.std.specs.List.{AllByRecursion};
 ghost use Rattle.bus_table.specs.Hands.{are_hands};
 ghost use Rattle.bus_tool.specs.Due as due;
-ghost use Rattle.bus_tool.specs.Due.{mode_or_refusal, table_in};
+ghost use Rattle.bus_tool.specs.Due.{mode_or_refusal, table_in, refusal_of_mode, inputs_in};
 ghost use Rattle.bus_tool.specs.Due.{text_due, table_due, table_refusal_of, items_due, inputs_due, trace_due, traced_due};
 ghost use Rattle.bus_tool.specs.Outside.{source_seen, sources_seen};
-ghost use Rattle.bus_tool.specs.Own.{IsAnyones, IsOfMode, IsOfReader};
+ghost use Rattle.bus_tool.specs.Own.{IsAnyones, IsOfMode, IsOfReader, IsOfInputs};
 ghost use Rattle.bus_tool.specs.Readers.{text_limit, Trace as ByTrace, entire, two_sources};
 ghost use Rattle.bus_tool.specs.Steps.{read_refusal, Same, IsText, Takes, Prepares};
 ghost use Rattle.bus_tool.specs.Taken.{AreHandsOf, AreReady, AreInputs, AreTraced};
@@ -175,4 +175,26 @@ pub fn take_inputs<S: Source>(
     let table = take_table(alloc, first)?;
     let hands = take_hands(alloc, &table, second)?;
     Ok(Inputs { table, hands })
+}
+
+/// What [`take_inputs`] takes, of a table of the mode that is needed, or why there is none. The second source is pulled only where the first
+/// gave a table of that mode.
+pub fn take_inputs_in<S: Source>(
+    alloc: Global,
+    needed: Mode,
+    first: &mut S,
+    second: &mut S,
+) -> Result<Inputs, Outcome>
+    ensures prepares { Prepares AreInputs (two_sources entire entire) (refusal_of_mode needed) (inputs_in needed)
+        (sources_seen ⟦<S as Source>⟧ first.old second.old) (sources_seen ⟦<S as Source>⟧ first.new second.new) result }
+    ensures mode { IfOk result (λ inputs. inputs.table.mode ≡ needed) }
+    ensures ready { IfOk result (λ inputs. AreReady inputs.table inputs.hands.items) }
+    ensures own { IfErr result (IsOfInputs needed entire (S.left second.old)) }
+{
+    let table = take_table_in(alloc, needed, first)?;
+    let dealt = take_hands(alloc, &table, second)?;
+    Ok(Inputs {
+        table,
+        hands: dealt,
+    })
 }

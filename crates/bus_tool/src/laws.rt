@@ -1,9 +1,10 @@
 //! Laws of the definitions, each the contract of a function that does nothing.
 ghost use Rattle.bus_tool.specs.DrillLaws.{DrillsAreAccepted};
 ghost use Rattle.bus_tool.specs.TextLaws.{OneCommandText, AnswersHaveTexts, SendersHaveHolds};
-ghost use Rattle.bus_tool.specs.TextLaws.{ObservedIsFoundLawful, RunIsFoundLawful};
+ghost use Rattle.bus_tool.specs.TextLaws.{ObservedIsFoundLawful, RunIsFoundLawful, DropIsFoundLawful};
 
 use bus_audit::laws::observed_is_lawful;
+use bus_dropout::laws::dropout_is_lawful;
 use bus_medium::laws::one_lawful_list;
 use bus_schedule::laws::{accepted_is_closed, closed_ends_in_cycles, even_hands_agree};
 use bus_table::laws::{fitting_items_give_hands, readings_have_their_cause};
@@ -18,6 +19,7 @@ pub fn one_text_of_a_command()
     readings_have_their_cause();
     fitting_items_give_hands();
     accepted_is_closed();
+    dropout_is_lawful();
     even_hands_agree();
 }
 
@@ -27,11 +29,12 @@ pub fn senders_have_holds()
     ensures { SendersHaveHolds }
 {}
 
-/// An audit accepts what `observe` and `run` write, whatever collides: it finds nothing against a trace of a valid table and of items that
+/// An audit accepts what `observe`, `run` and `drop` write, whatever collides: it finds nothing against a trace of a valid table and of items that
 /// fit it.
 pub fn audit_accepts_what_is_observed()
     ensures observed { ObservedIsFoundLawful }
     ensures run { RunIsFoundLawful }
+    ensures drop { DropIsFoundLawful }
 {
     observed_is_lawful();
     fitting_items_give_hands();

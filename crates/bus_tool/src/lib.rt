@@ -11,6 +11,7 @@ mod command;
 mod drill;
 #[cfg(test)]
 mod drill_tests;
+mod dropout;
 mod fault_line;
 #[cfg(test)]
 mod fault_tests;

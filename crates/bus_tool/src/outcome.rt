@@ -1,5 +1,5 @@
 ghost use Rattle.std.specs.Prelude.{◌≡◌};
-ghost use Rattle.bus_tool.specs.Outcomes.{is_written, refused_verdict, status_of};
+ghost use Rattle.bus_tool.specs.Outcomes.{is_written, refused_verdict, short_last_of, status_of};
 
 use crate::status::Status;
 use bus_regime::TableVerdict;
@@ -65,7 +65,12 @@ pub enum Outcome {
     TooLarge {
         source: u8,
     },
-    /// The closed schedule ends at this moment, which is above the limit.
+    /// The last cycle, of the senders with the most messages, is shorter than the transmit interval: both, in bit times.
+    ShortLast {
+        least: u64,
+        ti: u64,
+    },
+    /// The schedule ends at this moment, which is above the limit.
     TooLong {
         end: u128,
     },
@@ -99,6 +104,32 @@ impl Outcome {
             | Outcome::WriteFault
             | Outcome::NoMemory
             | Outcome::TooLarge { .. }
+            | Outcome::ShortLast { .. }
+            | Outcome::TooLong { .. } => None,
+        }
+    }
+
+    /// The last cycle and the transmit interval that it is shorter than, where this is what the command came to.
+    pub fn short_last(&self) -> Option<(u64, u64)>
+        ensures { result ≡ short_last_of self.now }
+    {
+        match *self {
+            Outcome::ShortLast { least, ti } => Some((least, ti)),
+            Outcome::Done
+            | Outcome::Answered
+            | Outcome::Refused(_)
+            | Outcome::Usage
+            | Outcome::TableText { .. }
+            | Outcome::TableWhole(_)
+            | Outcome::TableMode { .. }
+            | Outcome::MessagesText { .. }
+            | Outcome::Unfit(_)
+            | Outcome::Uneven { .. }
+            | Outcome::TraceText { .. }
+            | Outcome::ReadFault { .. }
+            | Outcome::WriteFault
+            | Outcome::NoMemory
+            | Outcome::TooLarge { .. }
             | Outcome::TooLong { .. } => None,
         }
     }
@@ -109,7 +140,7 @@ impl Outcome {
     {
         match self {
             Outcome::Done => Status::Done,
-            Outcome::Answered | Outcome::Refused(_) => Status::Refused,
+            Outcome::Answered | Outcome::Refused(_) | Outcome::ShortLast { .. } => Status::Refused,
             Outcome::Usage => Status::Usage,
             Outcome::TableText { .. } | Outcome::TableWhole(_) | Outcome::TableMode { .. } =>
                 Status::TableRefused,

@@ -76,7 +76,7 @@ fn ran<S: Source>(alloc: Global, first: &mut S, second: &mut S) -> Result<Traced
 }
 
 /// Writes a trace, and behind it what each terminal of the table receives.
-fn write_run<K: Sink>(ran: &Traced, out: &mut K) -> Result<(), WriteFault>
+pub(crate) fn write_run<K: Sink>(ran: &Traced, out: &mut K) -> Result<(), WriteFault>
     requires { IsTrace ran.now.trace }
     ensures { WritesText K.held K.faults out.old out.new result (run_text ran.now.table ran.now.trace) }
 {

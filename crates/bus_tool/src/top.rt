@@ -7,6 +7,7 @@ ghost use Rattle.bus_tool.specs.Forms.{words_of};
 ghost use Rattle.bus_tool.specs.Outcomes.{status_of};
 ghost use Rattle.bus_tool.specs.PlanClaims.{IsPlanCallOf, GivesPlan};
 ghost use Rattle.bus_tool.specs.RunClaims.{IsRunOf, GivesRun};
+ghost use Rattle.bus_tool.specs.DropClaims.{IsDropOf, GivesDrop};
 ghost use Rattle.bus_tool.specs.Outside.{called, outside};
 ghost use Rattle.bus_tool.specs.DrillClaims.{IsDrillOf, GivesDrill};
 ghost use Rattle.bus_tool.specs.TableClaims.{IsReportOf, GivesReport, IsTidyOf, GivesTidied};
@@ -81,6 +82,12 @@ pub fn tool<S: Source, K: Sink, E: Sink>(
     ensures run { let call = called (words_of words.now) (outside ⟦<S as Source>⟧ ⟦<K as Sink>⟧ first.old second.old out.old)
         (outside ⟦<S as Source>⟧ ⟦<K as Sink>⟧ first.new second.new out.new) in
         (table : Table) (items : List Item) → IsRunOf table items call → GivesRun table items call result }
+
+    // `drop T M` of texts of a valid aperiodic table that is accepted and of items that fit, where nothing outside fails and the last cycle is
+    // long enough: the one trace, which is the drop-out schedule, or want of memory.
+    ensures drop { let call = called (words_of words.now) (outside ⟦<S as Source>⟧ ⟦<K as Sink>⟧ first.old second.old out.old)
+        (outside ⟦<S as Source>⟧ ⟦<K as Sink>⟧ first.new second.new out.new) in
+        (table : Table) (items : List Item) → IsDropOf table items call → GivesDrop table items call result }
 
     // `receive T R` of texts of a valid table and of a trace, where nothing outside fails: what each terminal receives, or want of memory.
     ensures receive { let call = called (words_of words.now) (outside ⟦<S as Source>⟧ ⟦<K as Sink>⟧ first.old second.old out.old)

@@ -1,6 +1,6 @@
 use Rattle.std.proofs.Common.{ap, sym, ◌∙◌}
 use Rattle.std.specs.Prelude.{Some}
-use Rattle.bus_tool.specs.declared.forms.Form.TheVariants.{Check, Tidy, Report, Witness, Plan, Drill, Observe, Run, Receive, Audit}
+use Rattle.bus_tool.specs.declared.forms.Form.TheVariants.{Check, Tidy, Report, Witness, Plan, Drill, Observe, Run, Drop, Receive, Audit}
 use Rattle.bus_tool.proofs.ActLemmas.{acts_form}
 use Rattle.bus_tool.proofs.command.act.Goals as goal
 
@@ -75,6 +75,15 @@ returns-in-Some-Run g c = acts_form (record {
   reads_items = c.texts_read_as_their_items.ensures.found;
   trace_back = c.traces_read_back.ensures.back;
 }) _ c.run.result Run (ap Some (sym c.in-Some-Run.field-0-is) ∙ c.in-Some-Run.ensures.form) c.run.ensures.does c.run.ensures.own
+
+pub returns-in-Some-Drop : goal.returns-in-Some-Drop
+returns-in-Some-Drop g c = acts_form (record {
+  reads_table = c.readings_have_their_cause.ensures.found;
+  refuses_table = c.readings_have_their_cause.ensures.refused;
+  items_again = c.texts_read_as_their_items.ensures.again;
+  reads_items = c.texts_read_as_their_items.ensures.found;
+  trace_back = c.traces_read_back.ensures.back;
+}) _ c.dropout.result Drop (ap Some (sym c.in-Some-Drop.field-0-is) ∙ c.in-Some-Drop.ensures.form) c.dropout.ensures.does c.dropout.ensures.own
 
 pub returns-in-Some-Receive : goal.returns-in-Some-Receive
 returns-in-Some-Receive g c = acts_form (record {

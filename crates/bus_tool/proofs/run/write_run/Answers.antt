@@ -1,6 +1,6 @@
 use Rattle.std.proofs.Common.{sym, subst}
 use Rattle.bus_strings.specs.Transmissions.{IsByMoment}
-use Rattle.bus_tool.proofs.RunLemmas.{run_written, run_cut}
+use Rattle.bus_tool.proofs.RanLemmas.{run_written, run_cut}
 use Rattle.bus_tool.proofs.TraceLemmas.{trace_by_moment}
 use Rattle.bus_tool.proofs.run.write_run.Goals as goal
 

@@ -7,6 +7,7 @@ use Rattle.bus_tool.proofs.PlanClaim.{PlanLaws, plan_claim}
 use Rattle.bus_tool.proofs.ObserveClaim.{ObserveLaws, observe_claim}
 use Rattle.bus_tool.proofs.ReceiveClaim.{TracedLaws, receive_claim}
 use Rattle.bus_tool.proofs.AuditClaim.{AuditLaws, audit_claim}
+use Rattle.bus_tool.proofs.DropClaim.{DropLaws, drop_claim}
 use Rattle.bus_tool.proofs.RunClaim.{RunLaws, run_claim}
 use Rattle.bus_tool.proofs.top.tool.Goals as goal
 
@@ -60,6 +61,15 @@ returns-clause-run g c =
       even_agree = c.even_hands_agree.ensures;
     } in
     λ table items h. rw c.status.ensures (run_claim laws _ c.act-outcome.result table items c.act-outcome.ensures h)
+
+pub returns-clause-drop : goal.returns-clause-drop
+returns-clause-drop g c =
+    let laws : DropLaws = record {
+      table_again = c.text_reads_as_its_table.ensures;
+      items_again = c.texts_read_as_their_items.ensures.again;
+      give_hands = c.fitting_items_give_hands.ensures;
+    } in
+    λ table items h. rw c.status.ensures (drop_claim laws _ c.act-outcome.result table items c.act-outcome.ensures h)
 
 pub returns-clause-receive : goal.returns-clause-receive
 returns-clause-receive g c =

@@ -1,0 +1,5 @@
+use Rattle.bus_outer.specs.TextLaws.{ends_text}
+use Rattle.bus_tool.proofs.fault_line.short_last_text.Goals as goal
+
+pub returns : goal.returns
+returns g c = search ends_text depth 40
