@@ -13,6 +13,7 @@ _bus629() {
     'observe:look at the senders of any table up to a moment'
     'receive:tell what each terminal receives of a trace'
     'audit:hold a trace to a table'
+    'vote:take what two of three channels of a trace agree on'
     'drill:run a large input that a number makes'
   )
   if (( CURRENT == 2 )); then

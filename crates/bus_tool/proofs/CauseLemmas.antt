@@ -9,7 +9,7 @@ use Rattle.bus_dropout.specs.DropOut.{drop_end}
 use Rattle.bus_schedule.specs.Closed.{closed_end}
 use Rattle.bus_trace.specs.TraceLaws.{ReadsBack}
 use Rattle.bus_tool.specs.declared.forms.Form.{Form}
-use Rattle.bus_tool.specs.declared.forms.Form.TheVariants.{Check, Tidy, Report, Witness, Plan, Drill, Observe, Run, Drop, Receive, Audit}
+use Rattle.bus_tool.specs.declared.forms.Form.TheVariants.{Check, Tidy, Report, Witness, Plan, Drill, Observe, Run, Drop, Receive, Audit, Vote}
 use Rattle.bus_tool.specs.declared.outcome.Outcome.{Outcome}
 use Rattle.bus_tool.specs.declared.outcome.Outcome.TheVariants.{Done, Answered, Refused, TableText, TableWhole, TableMode, MessagesText, Unfit, Uneven, TraceText, ReadFault, WriteFault, NoMemory, TooLarge, ShortLast, TooLong}
 use Rattle.bus_tool.specs.Forms.{sources_of}
@@ -170,6 +170,10 @@ form_cause laws Audit o first second never h = elim (traced_stop first second o 
   | inl e ↦ no_table laws first o second e
   | inr w ↦ no_trace laws first second o w.2
 ]
+form_cause laws Vote o first second never h = elim (traced_stop first second o (refused (λ traced. Done) (traced_due first second) o (λ traced. refl) never h)) [
+  | inl e ↦ no_table laws first o second e
+  | inr w ↦ no_trace laws first second o w.2
+]
 
 -- an outcome that stands for what is due
 stands_cause : CauseLaws → (form : Form) (o : Outcome) (first second : List ℕ) → StandsFor (form_due form first second) o → RefusesTexts o first second
@@ -260,6 +264,7 @@ refuses_text laws Run first o h = refuses_table laws first o h
 refuses_text laws Drop first o h = refuses_in laws Aperiodic first o h
 refuses_text laws Receive first o h = refuses_table laws first o h
 refuses_text laws Audit first o h = refuses_table laws first o h
+refuses_text laws Vote first o h = refuses_table laws first o h
 
 pub does_first : CauseLaws → (form : Form) (before after : Outside) (o : Outcome) → DoesForm form before after o → IfSome (told (sources_of form).first before.sources.first) (RefusesText o)
 does_first laws form before after o does =

@@ -25,6 +25,7 @@ pub mod TracedLemmas
 pub mod ReceiveLemmas
 pub mod AuditLemmas
 pub mod RanLemmas
+pub mod VoteLemmas
 pub mod RunLemmas
 pub mod DropLemmas
 pub mod ActLemmas
@@ -45,6 +46,7 @@ pub mod PlanClaim
 pub mod ObserveClaim
 pub mod ReceiveClaim
 pub mod AuditClaim
+pub mod VoteClaim
 pub mod CauseLemmas
 pub mod AnswerLemmas
 pub mod TextLawLemmas

@@ -17,10 +17,11 @@ use Rattle.bus_dropout.specs.Laws.{DropOutIsLawful}
 use Rattle.bus_schedule.specs.Even.{are_even}
 use Rattle.bus_schedule.specs.Laws.{AcceptedIsClosed, EvenHandsAgree}
 use Rattle.bus_filter.specs.ReceivedTexts.{received_text}
+use Rattle.bus_vote.specs.VoteTexts.{votes_text}
 use Rattle.bus_trace.specs.declared.hold.Hold.{Hold}
 use Rattle.bus_trace.specs.Traces.{Recording, trace_text}
 use Rattle.bus_tool.specs.declared.forms.Form.{Form}
-use Rattle.bus_tool.specs.declared.forms.Form.TheVariants.{Check, Tidy, Report, Witness, Plan, Drill, Observe, Run, Drop, Receive, Audit}
+use Rattle.bus_tool.specs.declared.forms.Form.TheVariants.{Check, Tidy, Report, Witness, Plan, Drill, Observe, Run, Drop, Receive, Audit, Vote}
 use Rattle.bus_tool.specs.declared.outcome.Outcome.{Outcome}
 use Rattle.bus_tool.specs.declared.outcome.Outcome.TheVariants.{Done}
 use Rattle.bus_tool.specs.AuditLines.{audit_line}
@@ -36,7 +37,7 @@ use Rattle.bus_tool.specs.Due.{table_in, plan_outcome}
 use Rattle.bus_tool.specs.Texts.{IsPlanText}
 use Rattle.bus_tool.proofs.ModeLemmas.{mode_unwritten}
 use Rattle.bus_tool.specs.Due.{Inputs, hands_in, table_due, inputs_due, traced_due, run_due, drop_due, verdict_outcome, audit_outcome, audit_of, outcome_with, form_due, outcome_for}
-use Rattle.bus_tool.specs.Texts.{holds_of, IsRecordingOf, IsObserveText, IsRunRecording, run_text, IsRunText, IsDropRecording, IsDropText, IsReceiveText, IsAuditText, IsCheckText, IsTidyText, IsReportText, IsWitnessText, IsTextOf, IsFormText, IsTextFor}
+use Rattle.bus_tool.specs.Texts.{holds_of, IsRecordingOf, IsObserveText, IsRunRecording, run_text, IsRunText, IsDropRecording, IsDropText, IsReceiveText, IsAuditText, IsVoteText, IsCheckText, IsTidyText, IsReportText, IsWitnessText, IsTextOf, IsFormText, IsTextFor}
 use Rattle.bus_tool.specs.TextLaws.{OneCommandText, AnswersHaveTexts}
 use Rattle.bus_tool.proofs.LawTypes.{ReadsATable, FittingItemsGiveHands}
 use Rattle.bus_tool.proofs.ReadLemmas.{table_read, items_read, inputs_read, table_unwritten, inputs_unwritten}
@@ -146,6 +147,7 @@ form_once laws Run first second text other h k = run_once h.0 text other h.2 (su
 form_once laws Drop first second text other h k = drop_once h.0 text other h.2 (subst (λ inputs. IsDropText inputs other) (same_value (drop_due first second) h.0 k.0 h.1 k.1) k.2)
 form_once laws Receive first second text other h k = k.2 ∙ ap (λ traced. received_text traced.table traced.trace.list) (same_value (traced_due first second) h.0 k.0 h.1 k.1) ∙ sym h.2
 form_once laws Audit first second text other h k = k.2 ∙ ap (λ traced. audit_line (audit_of traced)) (same_value (traced_due first second) h.0 k.0 h.1 k.1) ∙ sym h.2
+form_once laws Vote first second text other h k = k.2 ∙ ap (λ traced. votes_text traced.table traced.trace.list) (same_value (traced_due first second) h.0 k.0 h.1 k.1) ∙ sym h.2
 
 once_for : TextLaws → (form : Option Form) (first second text other : List ℕ) → IsTextFor form first second text → IsTextFor form first second other → other ≡ text
 once_for laws None first second text other h k = absurd h
@@ -175,6 +177,8 @@ form_has laws Receive first second h =
     text_with (λ traced. Done) IsReceiveText (traced_due first second) (λ o e. traced_unwritten first second o e) (λ traced e. (received_text traced.table traced.trace.list, refl)) h
 form_has laws Audit first second h =
     text_with (λ traced. audit_outcome (audit_of traced)) IsAuditText (traced_due first second) (λ o e. traced_unwritten first second o e) (λ traced e. (audit_line (audit_of traced), refl)) h
+form_has laws Vote first second h =
+    text_with (λ traced. Done) IsVoteText (traced_due first second) (λ o e. traced_unwritten first second o e) (λ traced e. (votes_text traced.table traced.trace.list, refl)) h
 
 has_for : TextLaws → (form : Option Form) (first second : List ℕ) → is_written (outcome_for form first second) ≡ true → (text : List ℕ) × IsTextFor form first second text
 has_for laws None first second h = absurd cc

@@ -37,7 +37,7 @@ use Rattle.bus_audit.specs.declared.answer.AuditAnswer.{AuditAnswer}
 use Rattle.bus_audit.specs.declared.answer.AuditAnswer.TheVariants.{Lawful, Breach}
 use Rattle.bus_audit.specs.Breaches.{answer_of}
 use Rattle.bus_tool.specs.declared.forms.Form.{Form}
-use Rattle.bus_tool.specs.declared.forms.Form.TheVariants.{Check, Tidy, Report, Witness, Plan, Drill, Observe, Run, Drop, Receive, Audit}
+use Rattle.bus_tool.specs.declared.forms.Form.TheVariants.{Check, Tidy, Report, Witness, Plan, Drill, Observe, Run, Drop, Receive, Audit, Vote}
 use Rattle.bus_tool.specs.declared.outcome.Outcome.{Outcome}
 use Rattle.bus_tool.specs.declared.outcome.Outcome.TheVariants.{Done, Answered, Refused, Usage, TableText, TableWhole, TableMode}
 use Rattle.bus_tool.specs.declared.outcome.Outcome.TheVariants.{MessagesText, Unfit, Uneven, TraceText, ReadFault, NoMemory, TooLarge}
@@ -264,6 +264,7 @@ form_due Run first second = outcome_with (λ inputs. Done) (run_due first second
 form_due Drop first second = outcome_with (λ inputs. Done) (drop_due first second)
 form_due Receive first second = outcome_with (λ traced. Done) (traced_due first second)
 form_due Audit first second = outcome_with (λ traced. audit_outcome (audit_of traced)) (traced_due first second)
+form_due Vote first second = outcome_with (λ traced. Done) (traced_due first second)
 
 -- why a form refuses the first text, whatever the second is
 abbrev pub first_refusal : Form → List ℕ → Option Outcome
@@ -278,6 +279,7 @@ first_refusal Run first = table_refusal_of first
 first_refusal Drop first = refusal_of_mode Aperiodic first
 first_refusal Receive first = table_refusal_of first
 first_refusal Audit first = table_refusal_of first
+first_refusal Vote first = table_refusal_of first
 
 -- the outcome where the words ask for a form, or for none
 abbrev pub outcome_for : Option Form → List ℕ → List ℕ → Outcome

@@ -9,7 +9,7 @@ use Rattle.bus_strings.specs.Limits.{horizon_limit}
 use Rattle.bus_vectors.specs.Made.{most_number}
 use Rattle.bus_tool.specs.Readers.{Named, Trace, entire, no_source, one_source, two_sources}
 use Rattle.bus_tool.specs.declared.forms.Form.{Form}
-use Rattle.bus_tool.specs.declared.forms.Form.TheVariants.{Check, Tidy, Report, Witness, Plan, Drill, Observe, Run, Drop, Receive, Audit}
+use Rattle.bus_tool.specs.declared.forms.Form.TheVariants.{Check, Tidy, Report, Witness, Plan, Drill, Observe, Run, Drop, Receive, Audit, Vote}
 
 -- the words of the program, as bytes
 abbrev pub words_of : List (String Global) → List (List ℕ)
@@ -34,13 +34,14 @@ two_words command second =
     else if bytes_eq command (codes "drill") && is_drill_number second then Some (Drill (decimal_value second))
     else None
 
--- `run T M`, `drop T M`, `receive T R`, `audit T R`
+-- `run T M`, `drop T M`, `receive T R`, `audit T R`, `vote T R`
 abbrev pub three_words : List ℕ → Option Form
 three_words command =
     if bytes_eq command (codes "run") then Some Run
     else if bytes_eq command (codes "drop") then Some Drop
     else if bytes_eq command (codes "receive") then Some Receive
     else if bytes_eq command (codes "audit") then Some Audit
+    else if bytes_eq command (codes "vote") then Some Vote
     else None
 
 -- `observe T M N`
@@ -68,6 +69,7 @@ sources_of Run = two_sources entire entire
 sources_of Drop = two_sources entire entire
 sources_of Receive = two_sources entire Trace
 sources_of Audit = two_sources entire Trace
+sources_of Vote = two_sources entire Trace
 
 -- the numbers of a form are within their limits
 abbrev pub IsWithinLimits : Form → Type 0
@@ -82,3 +84,4 @@ IsWithinLimits Run = Unit {0}
 IsWithinLimits Drop = Unit {0}
 IsWithinLimits Receive = Unit {0}
 IsWithinLimits Audit = Unit {0}
+IsWithinLimits Vote = Unit {0}

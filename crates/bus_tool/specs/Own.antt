@@ -4,7 +4,7 @@ use Rattle.std.specs.Prelude.{◌≡◌, Bool, true, false, IsTrue, ℕ, List, O
 use Rattle.bus_table.specs.declared.mode.Mode.{Mode}
 use Rattle.bus_table.specs.declared.mode.Mode.TheVariants.{Aperiodic, Periodic}
 use Rattle.bus_tool.specs.declared.forms.Form.{Form}
-use Rattle.bus_tool.specs.declared.forms.Form.TheVariants.{Check, Tidy, Report, Witness, Plan, Drill, Observe, Run, Drop, Receive, Audit}
+use Rattle.bus_tool.specs.declared.forms.Form.TheVariants.{Check, Tidy, Report, Witness, Plan, Drill, Observe, Run, Drop, Receive, Audit, Vote}
 use Rattle.bus_tool.specs.declared.outcome.Outcome.{Outcome}
 use Rattle.bus_tool.specs.declared.outcome.Outcome.TheVariants as outcome
 use Rattle.bus_tool.specs.Causes.{IsNoMessagesText, IsUnfitIn, IsNoTraceText}
@@ -24,6 +24,7 @@ is_question Run = false
 is_question Drop = false
 is_question Receive = false
 is_question Audit = true
+is_question Vote = false
 
 -- whether a form runs the senders of a table up to their last message, for which the table has to be accepted
 abbrev pub runs_accepted : Form → Bool
@@ -38,6 +39,7 @@ runs_accepted Run = true
 runs_accepted Drop = true
 runs_accepted Receive = false
 runs_accepted Audit = false
+runs_accepted Vote = false
 
 -- the mode that a form needs of its table
 abbrev pub needed_mode : Form → Option Mode
@@ -52,6 +54,7 @@ needed_mode Run = None
 needed_mode Drop = Some Aperiodic
 needed_mode Receive = None
 needed_mode Audit = None
+needed_mode Vote = None
 
 -- the second source of a form is read so, and where it tells its bytes this holds of them
 pub record ReadsSecond (form : Form) (reader : Reader) (second : Option (List ℕ)) (Holds : List ℕ → Type 0) : Type 0 where

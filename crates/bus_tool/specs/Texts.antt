@@ -23,8 +23,9 @@ use Rattle.bus_audit.specs.declared.answer.AuditAnswer.{AuditAnswer}
 use Rattle.bus_filter.specs.ReceivedTexts.{received_text}
 use Rattle.bus_trace.specs.declared.hold.Hold.{Hold}
 use Rattle.bus_trace.specs.Traces.{Recording, trace_text}
+use Rattle.bus_vote.specs.VoteTexts.{votes_text}
 use Rattle.bus_tool.specs.declared.forms.Form.{Form}
-use Rattle.bus_tool.specs.declared.forms.Form.TheVariants.{Check, Tidy, Report, Witness, Plan, Drill, Observe, Run, Drop, Receive, Audit}
+use Rattle.bus_tool.specs.declared.forms.Form.TheVariants.{Check, Tidy, Report, Witness, Plan, Drill, Observe, Run, Drop, Receive, Audit, Vote}
 use Rattle.bus_tool.specs.declared.outcome.Outcome.{Outcome}
 use Rattle.bus_tool.specs.Forms.{form_of}
 use Rattle.bus_tool.specs.declared.inputs.Traced.{Traced as Ran}
@@ -147,6 +148,10 @@ IsAnswerOf answer traced = answer ≡ audit_of traced
 abbrev pub IsAuditText : Traced → List ℕ → Type 0
 IsAuditText traced text = text ≡ audit_line (audit_of traced)
 
+-- the votes of a trace
+abbrev pub IsVoteText : Traced → List ℕ → Type 0
+IsVoteText traced text = text ≡ votes_text traced.table traced.trace.list
+
 -- a text of the value that is due, where none of it is refused
 abbrev pub IsTextOf : {Y : Type 0} → (Y → List ℕ → Type 0) → Result Y Outcome → List ℕ → Type 0
 IsTextOf {Y} IsText due text = (y : Y) × (due ≡ Ok y) × IsText y text
@@ -164,6 +169,7 @@ IsFormText Run first second text = IsTextOf IsRunText (run_due first second) tex
 IsFormText Drop first second text = IsTextOf IsDropText (drop_due first second) text
 IsFormText Receive first second text = IsTextOf IsReceiveText (traced_due first second) text
 IsFormText Audit first second text = IsTextOf IsAuditText (traced_due first second) text
+IsFormText Vote first second text = IsTextOf IsVoteText (traced_due first second) text
 
 -- what is written where the words ask for a form, or for none
 abbrev pub IsTextFor : Option Form → List ℕ → List ℕ → List ℕ → Type 0

@@ -8,6 +8,8 @@ use Rattle.bus_audit.specs.declared.answer.AuditAnswer.TheVariants.{Lawful}
 use Rattle.bus_audit.specs.Breaches.{IsAnswer}
 use Rattle.bus_audit.specs.Meaning.{IsRight}
 use Rattle.bus_filter.specs.ReceivedTexts.{received_text}
+use Rattle.bus_vote.specs.VoteLaws.{IsVotedInRuns}
+use Rattle.bus_vote.specs.VoteTexts.{votes_text}
 use Rattle.bus_tool.specs.declared.status.Status.{Status}
 use Rattle.bus_tool.specs.declared.status.Status.TheVariants.{Done}
 use Rattle.bus_tool.specs.AuditLines.{audit_line}
@@ -66,3 +68,22 @@ GivesFinding table trace call status =
 -- what each terminal of the table receives of the trace is written, and the status is Done
 abbrev pub GivesReceived : Table → Recording → Call → Status → Type 0
 GivesReceived table trace call status = Answers Done (λ text. text ≡ received_text table trace.list) call status
+
+-- the words are `vote` and two more
+pub record IsVoteForm (words : List (List ℕ)) : Type 0 where
+  pub first : List ℕ
+  pub second : List ℕ
+  pub form : words ≡ codes "vote" ∷ first ∷ second ∷ []
+
+-- a call of `vote T R` on texts of a valid table and of a trace, in which nothing outside fails
+pub record IsVoteOf (table : Table) (trace : Recording) (call : Call) : Type 0 where
+  pub form : IsVoteForm call.words
+  pub table_told : TellsTable table call.before.sources.first
+  pub trace_told : TellsTrace trace call.before.sources.second
+  pub undisturbed : NothingFails (two_sources entire Trace) call.before call.after
+
+-- The votes of the trace are written, and the status is Done. Where its list is the closed schedule of even hands of an accepted table,
+-- every round below the number of messages is voted, from the words of the three hands, so that two hands that are alike fix every vote.
+abbrev pub GivesVotes : Table → Recording → Call → Status → Type 0
+GivesVotes table trace call status =
+    Answers Done (λ text. text ≡ votes_text table trace.list) call status × IsVotedInRuns table trace.list

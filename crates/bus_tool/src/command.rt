@@ -14,6 +14,7 @@ use crate::receive::receive;
 use crate::report::report;
 use crate::run::run;
 use crate::tidy::tidy;
+use crate::vote::vote;
 use crate::witness::witness;
 use bus_outer::{Sink, Source};
 use bus_strings::laws::texts_read_as_their_items;
@@ -51,5 +52,6 @@ pub fn act<S: Source, K: Sink>(
         Some(Form::Drop) => dropout(alloc, first, second, out),
         Some(Form::Receive) => receive(alloc, first, second, out),
         Some(Form::Audit) => audit(alloc, first, second, out),
+        Some(Form::Vote) => vote(alloc, first, second, out),
     }
 }

@@ -43,6 +43,8 @@ pub enum Form {
     Receive,
     /// `audit T R`: whether each start of the trace in `R` is just where the timers of the table in `T` allow one.
     Audit,
+    /// `vote T R`: the votes of the channels of the table in `T`, in the trace in `R`.
+    Vote,
 }
 
 /// The horizon that a word writes; None where the word is no plain decimal, or the number is past its limit.
@@ -108,6 +110,8 @@ fn three_words(command: &str) -> Option<Form>
         Some(Form::Receive)
     } else if command == "audit" {
         Some(Form::Audit)
+    } else if command == "vote" {
+        Some(Form::Vote)
     } else {
         None
     }

@@ -45,6 +45,9 @@ mod table_tests;
 mod tests;
 mod tidy;
 mod top;
+mod vote;
+#[cfg(test)]
+mod vote_tests;
 mod witness;
 #[cfg(test)]
 mod witness_tests;

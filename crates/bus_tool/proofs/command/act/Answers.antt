@@ -1,6 +1,6 @@
 use Rattle.std.proofs.Common.{ap, sym, ◌∙◌}
 use Rattle.std.specs.Prelude.{Some}
-use Rattle.bus_tool.specs.declared.forms.Form.TheVariants.{Check, Tidy, Report, Witness, Plan, Drill, Observe, Run, Drop, Receive, Audit}
+use Rattle.bus_tool.specs.declared.forms.Form.TheVariants.{Check, Tidy, Report, Witness, Plan, Drill, Observe, Run, Drop, Receive, Audit, Vote}
 use Rattle.bus_tool.proofs.ActLemmas.{acts_form}
 use Rattle.bus_tool.proofs.command.act.Goals as goal
 
@@ -102,3 +102,12 @@ returns-in-Some-Audit g c = acts_form (record {
   reads_items = c.texts_read_as_their_items.ensures.found;
   trace_back = c.traces_read_back.ensures.back;
 }) _ c.audit.result Audit (ap Some (sym c.in-Some-Audit.field-0-is) ∙ c.in-Some-Audit.ensures.form) c.audit.ensures.does c.audit.ensures.own
+
+pub returns-in-Some-Vote : goal.returns-in-Some-Vote
+returns-in-Some-Vote g c = acts_form (record {
+  reads_table = c.readings_have_their_cause.ensures.found;
+  refuses_table = c.readings_have_their_cause.ensures.refused;
+  items_again = c.texts_read_as_their_items.ensures.again;
+  reads_items = c.texts_read_as_their_items.ensures.found;
+  trace_back = c.traces_read_back.ensures.back;
+}) _ c.vote.result Vote (ap Some (sym c.in-Some-Vote.field-0-is) ∙ c.in-Some-Vote.ensures.form) c.vote.ensures.does c.vote.ensures.own

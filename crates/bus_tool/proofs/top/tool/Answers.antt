@@ -8,6 +8,7 @@ use Rattle.bus_tool.proofs.ObserveClaim.{ObserveLaws, observe_claim}
 use Rattle.bus_tool.proofs.ReceiveClaim.{TracedLaws, receive_claim}
 use Rattle.bus_tool.proofs.AuditClaim.{AuditLaws, audit_claim}
 use Rattle.bus_tool.proofs.DropClaim.{DropLaws, drop_claim}
+use Rattle.bus_tool.proofs.VoteClaim.{vote_claim}
 use Rattle.bus_tool.proofs.RunClaim.{RunLaws, run_claim}
 use Rattle.bus_tool.proofs.top.tool.Goals as goal
 
@@ -84,3 +85,8 @@ returns-clause-audit g c =
       right = c.no_breach_is_right.ensures.answer;
     } in
     λ table trace h. rw c.status.ensures (audit_claim laws _ c.act-outcome.result table trace c.act-outcome.ensures h)
+
+pub returns-clause-vote : goal.returns-clause-vote
+returns-clause-vote g c =
+    let laws : TracedLaws = record { table_again = c.text_reads_as_its_table.ensures; trace_back = c.traces_read_back.ensures.back } in
+    λ table trace h. rw c.status.ensures (vote_claim laws c.runs_are_voted.ensures _ c.act-outcome.result table trace c.act-outcome.ensures h)

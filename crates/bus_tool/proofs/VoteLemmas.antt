@@ -1,0 +1,36 @@
+-- `vote` of its steps.
+use Rattle.std.specs.Prelude.{◌≡◌, Result, Ok, Err}
+use Rattle.std.proofs.Common.{refl, sym, ap, ◌∙◌, subst}
+use Rattle.bus_outer.specs.Sinks.{WritesText}
+use Rattle.bus_outer.specs.declared.sink.Sink.{Ghosts as SinkGhosts}
+use Rattle.bus_outer.specs.declared.sink.WriteFault.{WriteFault as Fault}
+use Rattle.bus_vote.specs.VoteTexts.{votes_text}
+use Rattle.bus_tool.specs.declared.forms.Form.TheVariants.{Vote}
+use Rattle.bus_tool.specs.declared.inputs.Traced.{Traced as Taken}
+use Rattle.bus_tool.specs.declared.outcome.Outcome.{Outcome}
+use Rattle.bus_tool.specs.declared.outcome.Outcome.TheVariants.{Done}
+use Rattle.bus_tool.specs.Outside.{Seen, Sources, around, sink_seen}
+use Rattle.bus_tool.specs.Readers.{Trace, entire, two_sources}
+use Rattle.bus_tool.specs.Steps.{Prepares}
+use Rattle.bus_tool.specs.Due.{table_refusal_of, traced_due}
+use Rattle.bus_tool.specs.Taken.{AreTraced}
+use Rattle.bus_tool.specs.Texts.{IsVoteText}
+use Rattle.bus_tool.specs.Acts.{written, DoesForm}
+use Rattle.bus_tool.proofs.DoLemmas.{Tells, answered, stopped}
+
+pub vote_stopped : (before after : Sources) (out : Seen) (o : Outcome) → Prepares {X = Taken} AreTraced (two_sources entire Trace) table_refusal_of traced_due before after (Err o) → DoesForm Vote (around before out) (around after out) o
+vote_stopped before after out o p = stopped AreTraced (λ traced. Done) IsVoteText (two_sources entire Trace) table_refusal_of traced_due before after out o (λ traced. refl) p
+
+tells : (taken : Taken) → Tells AreTraced (λ traced. Done) IsVoteText taken Done (votes_text taken.table taken.trace.list)
+tells taken = record {
+  yes = refl;
+  answers = λ traced is. refl;
+  is_text = λ traced is. ap (λ t. votes_text t taken.trace.list) is.table ∙ ap (λ r. votes_text traced.table r.list) is.trace;
+}
+
+pub vote_answered : {K : Type 0} (before after : Sources) (ghosts : SinkGhosts K) (k k' : K) (taken : Taken) (outcome : Outcome) (result : Result (Unit {0}) Fault)
+    → Prepares AreTraced (two_sources entire Trace) table_refusal_of traced_due before after (Ok taken) → WritesText ghosts.held ghosts.faults k k' result (votes_text taken.table taken.trace.list) → outcome ≡ written result Done
+    → DoesForm Vote (around before (sink_seen ghosts k)) (around after (sink_seen ghosts k')) outcome
+vote_answered before after ghosts k k' taken outcome result p w h =
+    subst (DoesForm Vote (around before (sink_seen ghosts k)) (around after (sink_seen ghosts k'))) (sym h)
+    (answered AreTraced (λ traced. Done) IsVoteText (two_sources entire Trace) table_refusal_of traced_due before after ghosts k k' taken Done (votes_text taken.table taken.trace.list) result (tells taken) p w)
