@@ -21,8 +21,8 @@ pub record IsDropForm (words : List (List ℕ)) : Type 0 where
   pub second : List ℕ
   pub form : words ≡ codes "drop" ∷ first ∷ second ∷ []
 
--- A call of `drop T M` on texts of a valid aperiodic table that the checker accepts and of items that fit it, in which nothing outside fails;
--- the last cycle, where there is one, is at least the transmit interval, and the end of the drop-out schedule is within its limit.
+-- A call of `drop T M` on texts of a valid aperiodic table that the checker accepts and of items that fit it, in which nothing outside
+-- fails; the last cycle, where there is one, is at least the transmit interval, and the end of the drop-out schedule is within its limit.
 pub record IsDropOf (table : Table) (items : List Item) (call : Call) : Type 0 where
   pub form : IsDropForm call.words
   pub table_told : TellsTable table call.before.sources.first
@@ -33,8 +33,8 @@ pub record IsDropOf (table : Table) (items : List Item) (call : Call) : Type 0 w
   pub short : drop_end table (hands_of table items) ≤ longest_end
   pub undisturbed : NothingFails (two_sources entire entire) call.before call.after
 
--- The text of the one trace of the run, and behind it what each terminal receives of it: its horizon is the end of the drop-out schedule, its
--- holds are those of the hands, and its list is the run.
+-- The text of the one trace of the run, and behind it what each terminal receives of it: its horizon is the end of the drop-out schedule,
+-- its holds are those of the hands, and its list is the run.
 pub record IsTheDrop (table : Table) (hands : List Hand) (text : List ℕ) : Type 0 where
   pub recording : Recording
   pub trace : IsTrace recording

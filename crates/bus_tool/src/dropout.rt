@@ -90,8 +90,8 @@ fn dropped<S: Source>(alloc: Global, first: &mut S, second: &mut S) -> Result<Tr
     Ok(Traced { table, trace })
 }
 
-/// `drop`: writes what `run` writes, for an aperiodic table whose senders need not have as many messages each: they fall silent when these are
-/// spent. The trace ends with the drop-out schedule.
+/// `drop`: writes what `run` writes, for an aperiodic table whose senders need not have as many messages each: they fall silent when these
+/// are spent. The trace ends with the drop-out schedule.
 pub fn dropout<S: Source, K: Sink>(
     alloc: Global,
     first: &mut S,

@@ -36,8 +36,8 @@ pub enum Form {
     },
     /// `run T M`: what the senders of the table in `T` do with the messages in `M`, up to the end of the closed schedule.
     Run,
-    /// `drop T M`: what the senders of the aperiodic table in `T` do with the messages in `M`, of which some may have fewer than others, up to
-    /// the end of the drop-out schedule.
+    /// `drop T M`: what the senders of the aperiodic table in `T` do with the messages in `M`, of which some may have fewer than others, up
+    /// to the end of the drop-out schedule.
     Drop,
     /// `receive T R`: what each terminal of the table in `T` receives of the trace in `R`.
     Receive,

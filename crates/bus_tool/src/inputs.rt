@@ -177,8 +177,8 @@ pub fn take_inputs<S: Source>(
     Ok(Inputs { table, hands })
 }
 
-/// What [`take_inputs`] takes, of a table of the mode that is needed, or why there is none. The second source is pulled only where the first
-/// gave a table of that mode.
+/// What [`take_inputs`] takes, of a table of the mode that is needed, or why there is none. The second source is pulled only where the
+/// first gave a table of that mode.
 pub fn take_inputs_in<S: Source>(
     alloc: Global,
     needed: Mode,

@@ -29,8 +29,8 @@ pub fn senders_have_holds()
     ensures { SendersHaveHolds }
 {}
 
-/// An audit accepts what `observe`, `run` and `drop` write, whatever collides: it finds nothing against a trace of a valid table and of items that
-/// fit it.
+/// An audit accepts what `observe`, `run` and `drop` write, whatever collides: it finds nothing against a trace of a valid table and of
+/// items that fit it.
 pub fn audit_accepts_what_is_observed()
     ensures observed { ObservedIsFoundLawful }
     ensures run { RunIsFoundLawful }

@@ -84,8 +84,8 @@ pub fn tool<S: Source, K: Sink, E: Sink>(
         (outside ⟦<S as Source>⟧ ⟦<K as Sink>⟧ first.new second.new out.new) in
         (table : Table) (items : List Item) → IsRunOf table items call → GivesRun table items call result }
 
-    // `drop T M` of texts of a valid aperiodic table that is accepted and of items that fit, where nothing outside fails and the last cycle is
-    // long enough: the one trace, which is the drop-out schedule, or want of memory.
+    // `drop T M` of texts of a valid aperiodic table that is accepted and of items that fit, where nothing outside fails and the last cycle
+    // is long enough: the one trace, which is the drop-out schedule, or want of memory.
     ensures drop { let call = called (words_of words.now) (outside ⟦<S as Source>⟧ ⟦<K as Sink>⟧ first.old second.old out.old)
         (outside ⟦<S as Source>⟧ ⟦<K as Sink>⟧ first.new second.new out.new) in
         (table : Table) (items : List Item) → IsDropOf table items call → GivesDrop table items call result }
