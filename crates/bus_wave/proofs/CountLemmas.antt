@@ -1,0 +1,104 @@
+-- The holds of a list, and that spaced lists are those of traces.
+use Rattle.std.proofs.Common.{arith, ◌≡◌, ℕ, zero, suc, ◌+◌, ◌-◌, ◌<◌, ◌≤◌, ◌^◌, Bool, true, false, cond, ◌==◌, List, [], ◌∷◌, ◌++◌, length, Option, Some, None}
+use Rattle.std.proofs.Common.{refl, sym, ap, subst, ◌∙◌, inl}
+use Rattle.std.specs.Prelude.{IfSome, is_some, count_by, IsTrue}
+use Rattle.std.proofs.lemmas.List.Sums.{count_by-le-length}
+use Rattle.std.specs.List.{AllByRecursion, filter_map, range_with_len, cons_option}
+use Rattle.bus_strings.specs.Limits.{horizon_limit}
+use Rattle.bus_strings.specs.MessageLaws.{bits_some}
+use Rattle.bus_strings.specs.Messages.{Entry, IsMessage}
+use Rattle.bus_strings.specs.Transmissions.{end_of, Precedes, IsOrdered, IsAscending}
+use Rattle.bus_table.specs.Fits.{sender_of}
+use Rattle.bus_table.specs.Tables.{Sender, Table}
+use Rattle.bus_table.specs.Valid.{is_valid}
+use Rattle.bus_trace.specs.declared.hold.Hold.{Hold}
+use Rattle.bus_trace.specs.Limits.{most_count}
+use Rattle.bus_trace.specs.Traces.{Recording, AscendAbove, IsHold, IsBelow, IsTrace}
+use Rattle.bus_wave.specs.Counted.{entries_of, hold_at, holds_of}
+use Rattle.bus_wave.specs.Spacing.{least_gap, IsOfSender, AreApart}
+use Rattle.bus_wave.proofs.BeginLemmas.{of_number}
+use Rattle.bus_wave.proofs.SoundLemmas.{send_facts}
+
+-- ---- holds
+count_le : (list : List Entry) (n : ℕ) → entries_of list n ≤ length list
+count_le list n = count_by-le-length (λ x. x.terminal == n) list
+
+-- a hold is of its number, and of no more entries than there are
+hold_is : (senders : List Sender) (list : List Entry) (n : ℕ) → IfSome (hold_at senders list n) (λ hold. (hold.terminal ≡ n) × (hold.count ≤ length list))
+hold_is senders list n =
+    elim (is_some (sender_of senders n)) as (λ b. IfSome (cond b (let o : Option Hold = Some (record { terminal = n; count = entries_of list n }) in o) None) (λ hold. (hold.terminal ≡ n) × (hold.count ≤ length list))) [
+      | true ↦ (refl, count_le list n)
+      | false ↦ tt
+    ]
+
+weaker : (n k : ℕ) (holds : List Hold) → k ≤ n → AscendAbove n holds → AscendAbove k holds
+weaker n k [] h a = tt
+weaker n k (hold ∷ holds) h a = (omega (arith, a.0), a.1)
+
+ascend_from : (senders : List Sender) (list : List Entry) (n k : ℕ) → AscendAbove k (filter_map (hold_at senders list) (range_with_len (k + 1) n))
+ascend_from senders list zero k = tt
+ascend_from senders list (suc n) k =
+    let rest = ascend_from senders list n (k + 1) in
+    elim (hold_at senders list (k + 1)) as (λ o. IfSome o (λ hold. (hold.terminal ≡ k + 1) × (hold.count ≤ length list)) → AscendAbove k (cons_option o (filter_map (hold_at senders list) (range_with_len (k + 1 + 1) n)))) [
+      | None ↦ λ h. weaker (k + 1) k _ (omega arith) rest
+      | Some hold ↦ λ h. (omega (arith, h.0), subst (λ t. AscendAbove t (filter_map (hold_at senders list) (range_with_len (k + 1 + 1) n))) (sym h.0) rest)
+    ] (hold_is senders list (k + 1))
+
+ranged_from : (senders : List Sender) (list : List Entry) (n k : ℕ) → length list ≤ most_count → k + n ≤ 128
+    → AllByRecursion IsHold (filter_map (hold_at senders list) (range_with_len (k + 1) n))
+ranged_from senders list zero k few low = tt
+ranged_from senders list (suc n) k few low =
+    let rest = ranged_from senders list n (k + 1) few (omega arith) in
+    elim (hold_at senders list (k + 1)) as (λ o. IfSome o (λ hold. (hold.terminal ≡ k + 1) × (hold.count ≤ length list)) → AllByRecursion IsHold (cons_option o (filter_map (hold_at senders list) (range_with_len (k + 1 + 1) n)))) [
+      | None ↦ λ h. rest
+      | Some hold ↦ λ h. (record { positive = omega (arith, h.0); low = omega (arith, h.0); count = omega (arith, h.1) }, rest)
+    ] (hold_is senders list (k + 1))
+
+pub holds_ascend : (table : Table) (list : List Entry) → AscendAbove 0 (holds_of table list)
+unfolding holds_of
+holds_ascend table list = ascend_from table.senders list 128 0
+
+pub holds_ranged : (table : Table) (list : List Entry) → length list ≤ most_count → AllByRecursion IsHold (holds_of table list)
+unfolding holds_of
+holds_ranged table list few = ranged_from table.senders list 128 0 few (omega arith)
+
+-- ---- lists
+all_below : (table : Table) → IsTrue (is_valid table) → (start horizon : ℕ) (list : List Entry) → AreApart start horizon list
+    → AllByRecursion (IsOfSender table) list → AllByRecursion (λ x. IsMessage x.message) list → AllByRecursion (IsBelow horizon) list
+all_below table valid start horizon [] a of m = tt
+all_below table valid start horizon (x ∷ xs) a of m =
+    let w = of_number table.senders x.terminal of.0.sender of.0.found in
+    let facts = send_facts table valid of.0.sender w.0 in
+    let low : 1 ≤ of.0.sender.number = facts.low in
+    let high : of.0.sender.number ≤ 128 = facts.high in
+    let number : of.0.sender.number ≡ x.terminal = w.1 in
+    (
+      record {
+        moment = omega (arith, a.1, bits_some x.message m.0.some);
+        positive = omega (arith, low, number);
+        low = omega (arith, high, number);
+        message = m.0;
+      },
+      all_below table valid (end_of x + least_gap) horizon xs a.2 of.1 m.1,
+    )
+
+all_after : (start horizon : ℕ) (x : Entry) (list : List Entry) → x.moment < start → AreApart start horizon list → AllByRecursion (Precedes x) list
+all_after start horizon x [] low a = tt
+all_after start horizon x (y ∷ ys) low a =
+    let early : x.moment < y.moment = omega (arith, a.0) in
+    (inl early, all_after (end_of y + least_gap) horizon x ys (omega arith) a.2)
+
+pub ascending : (start horizon : ℕ) (list : List Entry) → AreApart start horizon list → IsAscending list
+ascending start horizon [] a = tt
+ascending start horizon (x ∷ xs) a = (all_after (end_of x + least_gap) horizon x xs (omega arith) a.2, ascending (end_of x + least_gap) horizon xs a.2)
+
+pub is_trace : (table : Table) → IsTrue (is_valid table) → (horizon : ℕ) (list : List Entry) → horizon ≤ horizon_limit → length list ≤ most_count
+    → AreApart 0 horizon list → AllByRecursion (IsOfSender table) list → AllByRecursion (λ x. IsMessage x.message) list
+    → IsTrace (record { horizon = horizon; holds = holds_of table list; list = list })
+is_trace table valid horizon list low few a of m = record {
+  horizon = low;
+  holds = holds_ranged table list few;
+  terminals = holds_ascend table list;
+  list = all_below table valid 0 horizon list a of m;
+  order = ascending 0 horizon list a;
+}

@@ -1,0 +1,14 @@
+mod BeginLemmas
+mod CodeLemmas
+mod CountLemmas
+mod DigitLemmas
+mod LeadLemmas
+mod LineLemmas
+mod ListLeads
+mod ReadLemmas
+mod SoundLemmas
+mod SpacingLemmas
+mod StateLemmas
+mod TextLemmas
+mod WaveLemmas
+mod WriteTexts

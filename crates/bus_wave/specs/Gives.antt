@@ -1,0 +1,28 @@
+-- What a call answered for a text or a line: what that reads as, unless memory ran out.
+use Rattle.std.specs.Prelude.{◌≡◌, Result, Ok, Err}
+use Rattle.bus_wave.specs.declared.fault.WaveReason.{WaveReason}
+use Rattle.bus_wave.specs.declared.fault.LineFault.{LineFault}
+use Rattle.bus_wave.specs.declared.fault.LineFault.TheVariants as line
+use Rattle.bus_wave.specs.declared.fault.WaveError.{WaveError}
+use Rattle.bus_wave.specs.declared.fault.WaveError.TheVariants.{Text, Memory}
+use Rattle.bus_wave.specs.Reading.{WaveRefusal}
+
+-- a refusal is that of the reading; want of memory says nothing of it
+abbrev pub Fails : {Y : Type 0} → WaveError → Result Y WaveRefusal → Type 0
+Fails Memory reading = Unit {0}
+Fails (Text number reason) reading = reading ≡ Err (record { line = number; reason = reason })
+
+-- a value is that of the reading
+abbrev pub Gives : {Y : Type 0} → Result Y WaveError → Result Y WaveRefusal → Type 0
+Gives (Ok value) reading = reading ≡ Ok value
+Gives (Err error) reading = Fails error reading
+
+-- the same of a line
+abbrev pub LineFails : {Y : Type 0} → LineFault → Result Y WaveReason → Type 0
+LineFails line.Memory reading = Unit {0}
+LineFails (line.Refused reason) reading = reading ≡ Err reason
+
+-- a call came to a new state, which is that of the reading; where it failed, nothing is said of the new one
+abbrev pub StepGives : {Y : Type 0} → Y → Result (Unit {0}) LineFault → Result Y WaveReason → Type 0
+StepGives new (Ok u) reading = reading ≡ Ok new
+StepGives new (Err fault) reading = LineFails fault reading

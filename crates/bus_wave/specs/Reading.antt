@@ -1,0 +1,63 @@
+-- What a wave text reads as: its trace, or the line that is refused and why.
+--   piece   what stands between two line feeds of the text; what stands behind the last one is no line, and has to be empty
+use Rattle.std.specs.Prelude.{ℕ, ◌+◌, Bool, true, false, ◌&&◌, ◌==◌, List, [], ◌∷◌, length, Result, Ok, Err, if◌then◌else◌}
+use Rattle.std.specs.List.{slice_split}
+use Rattle.bus_text.specs.AllOf.{◌>>=◌}
+use Rattle.bus_text.specs.Lines.{is_feed}
+use Rattle.bus_table.specs.Tables.{Table}
+use Rattle.bus_trace.specs.Traces.{Recording}
+use Rattle.bus_wave.specs.declared.fault.WaveReason.{WaveReason}
+use Rattle.bus_wave.specs.declared.fault.WaveReason.TheVariants.{Ended, Keyword}
+use Rattle.bus_wave.specs.Counted.{holds_of}
+use Rattle.bus_wave.specs.Symbols.{fields_of, head_reading, symbol_reading}
+use Rattle.bus_wave.specs.Judging.{Phase, Opened, Silent, Saying, Waiting, Closed, State, opening, step}
+
+-- the number of the refused line, from 1, and why it is refused
+pub record WaveRefusal : Type 0 where
+  pub line : ℕ
+  pub reason : WaveReason
+
+-- what a line reads as, with its number at a reason against it
+abbrev pub at_line : {A : Type 0} → ℕ → Result A WaveReason → Result A WaveRefusal
+at_line number (Ok value) = Ok value
+at_line number (Err reason) = Err (record { line = number; reason = reason })
+
+-- whether the last line was END
+abbrev pub is_closed : Phase → Bool
+is_closed Opened = false
+is_closed (Silent free) = false
+is_closed (Saying x line words left) = false
+is_closed (Waiting x next left) = false
+is_closed Closed = true
+
+-- the state after one line more; none stands behind END
+unfoldable pub judge : Table → State → List ℕ → Result State WaveReason
+judge table s line =
+    if is_closed s.phase then Err Keyword else symbol_reading (fields_of line) >>= step table.senders s
+
+-- the trace of complete lines
+abbrev pub recorded : Table → State → Recording
+recorded table s = record { horizon = s.at; holds = holds_of table s.list; list = s.list }
+
+-- the text ends here, with these bytes of an unfinished line
+abbrev pub ended : Table → ℕ → State → List ℕ → Result Recording WaveRefusal
+ended table number s rest =
+    if is_closed s.phase && length rest == 0 then Ok (recorded table s) else Err (record { line = number; reason = Ended })
+
+-- what pieces read as, from line `number` on
+unfoldable pub pieces_reading : Table → ℕ → State → List (List ℕ) → Result Recording WaveRefusal
+pieces_reading table number s [] = ended table number s []
+pieces_reading table number s (rest ∷ []) = ended table number s rest
+pieces_reading table number s (line ∷ next ∷ pieces) =
+    at_line number (judge table s line) >>= λ now. pieces_reading table (number + 1) now (next ∷ pieces)
+
+-- what the pieces of a text read as
+unfoldable pub text_reading : Table → List (List ℕ) → Result Recording WaveRefusal
+text_reading table [] = Err (record { line = 1; reason = Ended })
+text_reading table (rest ∷ []) = Err (record { line = 1; reason = Ended })
+text_reading table (line ∷ next ∷ pieces) =
+    at_line 1 (head_reading (fields_of line)) >>= λ _. pieces_reading table 2 opening (next ∷ pieces)
+
+-- what a text reads as
+abbrev pub wave_reading : Table → List ℕ → Result Recording WaveRefusal
+wave_reading table text = text_reading table (slice_split is_feed text)

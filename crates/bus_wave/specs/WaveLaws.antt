@@ -1,0 +1,51 @@
+-- What follows of waves and their texts. `laws::waves_tell_traces` says that each of these holds.
+use Rattle.std.specs.Prelude.{◌≡◌, ◌≤◌, ◌-◌, ◌^◌, ℕ, List, length, IsTrue, Ok}
+use Rattle.bus_table.specs.Tables.{Table}
+use Rattle.bus_table.specs.Valid.{is_valid}
+use Rattle.bus_trace.specs.Traces.{Recording, IsTrace}
+use Rattle.bus_wave.specs.Counted.{holds_of}
+use Rattle.bus_wave.specs.Reading.{wave_reading}
+use Rattle.bus_wave.specs.Spacing.{IsSpaced}
+use Rattle.bus_wave.specs.Waves.{wave}
+use Rattle.bus_wave.specs.WaveTexts.{IsWaveText, wave_text}
+
+-- The most bytes of a text that is read.
+abbrev pub most_bytes : ℕ
+most_bytes = 2 ^ 32 - 1
+
+-- A trace that is read from a wave text of a table: it is spaced for the table, and has one HOLD for each sender, with the number of its
+-- entries.
+pub record IsWaveTrace (table : Table) (t : Recording) : Type 0 where
+  pub trace : IsTrace t
+  pub spaced : IsSpaced table t
+  pub holds : t.holds ≡ holds_of table t.list
+
+-- Of a trace that is spaced for some table, what is written is its wave text, and the only one.
+pub record HasOneText (t : Recording) : Type 0 where
+  pub is : IsWaveText t (wave_text t)
+  pub only : (text : List ℕ) → IsWaveText t text → text ≡ wave_text t
+
+-- It is so of each spaced trace.
+abbrev pub SpacedHaveTexts : Type 0
+SpacedHaveTexts = (table : Table) (t : Recording) → IsTrue (is_valid table) → IsTrace t → IsSpaced table t → HasOneText t
+
+-- The wave text of such a trace reads as that trace.
+abbrev pub WavesReadBack : Type 0
+WavesReadBack =
+    (table : Table) (t : Recording) (text : List ℕ) → IsTrue (is_valid table) → IsWaveTrace table t → IsWaveText t text
+    → wave_reading table text ≡ Ok t
+
+-- What reads as a trace is its wave text, and the trace is spaced.
+pub record IsRead (table : Table) (t : Recording) (text : List ℕ) : Type 0 where
+  pub trace : IsWaveTrace table t
+  pub is_text : IsWaveText t text
+
+abbrev pub ReadsOnlyWaves : Type 0
+ReadsOnlyWaves = (table : Table) (t : Recording) (text : List ℕ) → IsTrue (is_valid table) → length text ≤ most_bytes
+    → wave_reading table text ≡ Ok t
+    → IsRead table t text
+
+-- Two such traces with the same wave are equal.
+abbrev pub WavesTell : Type 0
+WavesTell =
+    (table : Table) (t u : Recording) → IsTrue (is_valid table) → IsWaveTrace table t → IsWaveTrace table u → wave t ≡ wave u → t ≡ u

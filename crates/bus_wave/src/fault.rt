@@ -1,0 +1,115 @@
+use std::alloc::{AllocError, AllocFailed};
+use thiserror::Error;
+
+/// What is wrong with an entry of a trace that isn't spaced for a table. Each carries the number of the entry, from 0.
+#[derive(Clone, Copy, Debug, PartialEq, Eq)]
+pub enum WaveFault {
+    /// The entry is of no sender of the table.
+    Stranger(u64),
+    /// Its message doesn't fit its sender.
+    Misfit(u64),
+    /// It starts less than 8 bit times behind the end of the entry before it.
+    Close(u64),
+    /// It ends behind the horizon.
+    Cut(u64),
+}
+
+/// Why a line of a wave text is refused: the first of these that applies.
+#[derive(Clone, Copy, Debug, PartialEq, Eq)]
+pub enum WaveReason {
+    /// The text ends before END, or within the line.
+    Ended,
+    /// The first field isn't `WAVE` on the first line, or not `Q`, `W` or `END` on a later one, or the line stands behind END.
+    Keyword,
+    /// The number of fields isn't two, or one for END, or the second field of the first line isn't `1`.
+    Fields,
+    /// The number is no plain decimal, or the word isn't ten hexadecimal digits in capitals.
+    Spelling,
+    /// The first six half bits of the word are no sync, or a later pair is `00` or `11`.
+    Code,
+    /// The parity bit isn't that of the word's value.
+    Parity,
+    /// No bit times are quiet, or the line keeps the rules of order and the bit times to its end pass 1,099,511,627,776, counted with the
+    /// least rest of a begun message.
+    Range,
+    /// The line breaks a rule of order (`specs/Judging.antt`).
+    Order,
+}
+
+/// Why a wave text wasn't read.
+#[derive(Clone, Copy, Debug, PartialEq, Eq, Error)]
+pub enum WaveError {
+    /// The text is refused.
+    #[error("line {line}: {reason:?}")]
+    Text {
+        /// The number of the first line, from 1, to which a reason applies, or one past the last line.
+        line: u64,
+        /// The first reason that applies to that line.
+        reason: WaveReason,
+    },
+    /// There wasn't memory enough.
+    #[error("out of memory")]
+    Memory,
+}
+
+impl From<AllocError> for WaveError {
+    ghost use Rattle.std.specs.Prelude.{◌≡◌};
+    ghost use Rattle.bus_wave.specs.declared.fault.WaveError.TheVariants.{Memory};
+
+    ghost from_gives = { λ _ error. error ≡ Memory };
+
+    fn from(_error: AllocError) -> WaveError {
+        WaveError::Memory
+    }
+}
+
+impl<T: Drop> From<AllocFailed<T>> for WaveError {
+    ghost use Rattle.std.specs.Prelude.{◌≡◌};
+    ghost use Rattle.bus_wave.specs.declared.fault.WaveError.TheVariants.{Memory};
+
+    ghost from_gives = { λ _ error. error ≡ Memory };
+
+    fn from(_error: AllocFailed<T>) -> WaveError {
+        WaveError::Memory
+    }
+}
+
+/// Why a line wasn't taken.
+#[derive(Debug, Drop)]
+pub(crate) enum LineFault {
+    Refused(WaveReason),
+    Memory,
+}
+
+impl From<WaveReason> for LineFault {
+    ghost use Rattle.std.specs.Prelude.{◌≡◌};
+    ghost use Rattle.bus_wave.specs.declared.fault.LineFault.TheVariants.{Refused};
+
+    ghost from_gives = { λ reason fault. fault ≡ Refused reason };
+
+    fn from(reason: WaveReason) -> LineFault {
+        LineFault::Refused(reason)
+    }
+}
+
+impl From<AllocError> for LineFault {
+    ghost use Rattle.std.specs.Prelude.{◌≡◌};
+    ghost use Rattle.bus_wave.specs.declared.fault.LineFault.TheVariants.{Memory};
+
+    ghost from_gives = { λ _ fault. fault ≡ Memory };
+
+    fn from(_error: AllocError) -> LineFault {
+        LineFault::Memory
+    }
+}
+
+impl<T: Drop> From<AllocFailed<T>> for LineFault {
+    ghost use Rattle.std.specs.Prelude.{◌≡◌};
+    ghost use Rattle.bus_wave.specs.declared.fault.LineFault.TheVariants.{Memory};
+
+    ghost from_gives = { λ _ fault. fault ≡ Memory };
+
+    fn from(_error: AllocFailed<T>) -> LineFault {
+        LineFault::Memory
+    }
+}

@@ -1,0 +1,24 @@
+//! The wave of a trace, in a line code of this project's own, half bit for half bit, and the one text of it.
+//!
+//! - [`spaced`] says whether a trace has such a text for a table, from which it is read again, or names the first entry with which
+//!   something is wrong.
+//! - [`write_wave`] writes the text to a sink; [`read_wave`] reads a text back to its trace, and refuses each other text at its first
+//!   offending line, with the [`WaveReason`].
+//!
+//! The definitions are in `specs/`: `Code` for the half bits of a word, `Waves` for the wave of a trace, `WaveTexts` for its text,
+//! `Spacing` for spaced traces, and `Symbols`, `Judging` and `Reading` for what a text reads as, line by line.
+#![tactic(auto)]
+
+mod code;
+mod draft;
+pub mod fault;
+pub mod laws;
+mod phase;
+mod pieces;
+pub mod spacing;
+mod symbol;
+pub mod writing;
+
+pub use fault::{WaveError, WaveFault, WaveReason};
+pub use spacing::spaced;
+pub use writing::write_wave;

@@ -1,0 +1,119 @@
+ghost use Rattle.std.specs.Prelude.{◌≡◌, ◌==◌, ◌^◌, ◌-◌, IfOk, IfErr, false, true, length, codes, slice_index_or, []};
+ghost use Rattle.std.specs.Prelude.{Ok, Err, if◌then◌else◌};
+ghost use Rattle.bus_wave.specs.Symbols.{fields_of, head_reading, symbol_reading, word_reading, quiet_reading};
+ghost use Rattle.bus_wave.specs.Capped.{capped};
+
+use crate::code::{are_digits, heard};
+use crate::fault::WaveReason;
+use crate::pieces::cut;
+use bus_text::numbers::plain_decimal;
+use bus_words::word::{Word, unframe};
+
+const WAVE: &[u8] = b"WAVE";
+const ONE: &[u8] = b"1";
+const WORD: &[u8] = b"W";
+const QUIET: &[u8] = b"Q";
+const END: &[u8] = b"END";
+
+/// What a line of a wave text behind the first says by itself.
+#[derive(Clone, Copy, Debug, PartialEq, Eq)]
+pub(crate) enum Symbol {
+    /// So many quiet bit times.
+    Quiet(u64),
+    /// A word.
+    Sent(Word),
+    /// The last line.
+    End,
+}
+
+/// The first field of a line.
+fn keyword(line: &[u8]) -> &[u8]
+    ensures { result.now ≡ slice_index_or (fields_of line.now) 0 [] }
+{
+    match cut(b' ', line) {
+        Some((field, _)) => field,
+        None => line,
+    }
+}
+
+/// The second field of a line of two fields.
+fn second(line: &[u8]) -> Result<&[u8], WaveReason>
+    ensures two { IfOk result (λ field. (length (fields_of line.now) ≡ 2) × (field.now ≡ slice_index_or (fields_of line.now) 1 [])) }
+    ensures other { IfErr result (λ reason. (reason ≡ WaveReason.Fields) × ((length (fields_of line.now) == 2) ≡ false)) }
+{
+    let Some((_, rest)) = cut(b' ', line) else {
+        return Err(WaveReason::Fields);
+    };
+    match cut(b' ', rest) {
+        Some(_) => Err(WaveReason::Fields),
+        None => Ok(rest),
+    }
+}
+
+/// Whether a line has one field.
+fn is_alone(line: &[u8]) -> bool
+    ensures { result ≡ (length (fields_of line.now) == 1) }
+{
+    cut(b' ', line).is_none()
+}
+
+/// What the second field of a W line says.
+fn word_of(field: &[u8]) -> Result<Symbol, WaveReason>
+    ensures { result ≡ word_reading field.now }
+{
+    if !are_digits(field) {
+        return Err(WaveReason::Spelling);
+    }
+    let Some(frame) = heard(field) else {
+        return Err(WaveReason::Code);
+    };
+    match unframe(frame) {
+        Ok(word) => Ok(Symbol::Sent(word)),
+        Err(_) => Err(WaveReason::Parity),
+    }
+}
+
+/// What the second field of a Q line says: its number, or the last value of a `u64` where it is above that.
+fn quiet_of(field: &[u8]) -> Result<Symbol, WaveReason>
+    ensures { result ≡ capped (quiet_reading field.now) }
+{
+    match plain_decimal(field) {
+        Some(bit_times) => Ok(Symbol::Quiet(bit_times)),
+        None => Err(WaveReason::Spelling),
+    }
+}
+
+/// What a line behind the first says; a number above the last value of a `u64` is that value.
+#[tactic(auto, unfolding(crate::specs::Symbols::symbol_reading))]
+pub(crate) fn symbol_of(line: &[u8]) -> Result<Symbol, WaveReason>
+    ensures { result ≡ capped (symbol_reading (fields_of line.now)) }
+{
+    let keyword = keyword(line);
+    if keyword == WORD {
+        return word_of(second(line)?);
+    }
+    if keyword == QUIET {
+        return quiet_of(second(line)?);
+    }
+    if keyword != END {
+        return Err(WaveReason::Keyword);
+    }
+    if !is_alone(line) {
+        return Err(WaveReason::Fields);
+    }
+    Ok(Symbol::End)
+}
+
+/// Reads the first line.
+#[tactic(auto, unfolding(crate::specs::Symbols::head_reading))]
+pub(crate) fn head_of(line: &[u8]) -> Result<(), WaveReason>
+    ensures { result ≡ head_reading (fields_of line.now) }
+{
+    if keyword(line) != WAVE {
+        return Err(WaveReason::Keyword);
+    }
+    if second(line)? != ONE {
+        return Err(WaveReason::Fields);
+    }
+    Ok(())
+}
