@@ -18,7 +18,6 @@ use Rattle.bus_table.specs.Whole.{first_again, same_pair, send_lines, no_sender,
 use Rattle.bus_wave.specs.Judging.{is_label_of, begins, beginner}
 use Rattle.bus_wave.proofs.SoundLemmas.{find_is}
 
-
 -- ---- no line stands again
 once_split : (earlier : List SendLine) (x : SendLine) (xs : List SendLine) → first_again same_pair earlier (x ∷ xs) ≡ None
     → (list_any (λ y. same_pair y x) earlier ≡ false) × (first_again same_pair (earlier ++ x ∷ []) xs ≡ None)
@@ -86,9 +85,9 @@ not_other earlier (l ∷ ls) others line value h i label =
     let apart = (or_parts (same_pair l line) false last).0 in
     by_test (is_label_of value l) refl apart
   where
-  by_test : (b : Bool) → is_label_of value l ≡ b → same_pair l line ≡ false → b ≡ false
-  by_test false e apart = refl
-  by_test true e apart = absurd (true≢false (sym (label_again l line value e label) ∙ apart))
+    by_test : (b : Bool) → is_label_of value l ≡ b → same_pair l line ≡ false → b ≡ false
+    by_test false e apart = refl
+    by_test true e apart = absurd (true≢false (sym (label_again l line value e label) ∙ apart))
 
 found_first : (earlier : List SendLine) (senders : List Sender) (sender : Sender) (line : SendLine) (left : List SendLine) (value : ℕ)
     → first_again same_pair earlier (send_lines senders) ≡ None → In sender senders → sender.sends ≡ line ∷ left → is_label_of value line ≡ true

@@ -4,6 +4,8 @@ use Rattle.std.proofs.Common.{refl, sym, ap, subst, ◌∙◌, inl}
 use Rattle.std.specs.Prelude.{IfSome, is_some, count_by, IsTrue}
 use Rattle.std.proofs.lemmas.List.Sums.{count_by-le-length}
 use Rattle.std.specs.List.{AllByRecursion, filter_map, range_with_len, cons_option}
+use Rattle.std.specs.Option.{option_to_list}
+use Rattle.std.proofs.lemmas.List.Elements.{filter_map-append}
 use Rattle.bus_strings.specs.Limits.{horizon_limit}
 use Rattle.bus_strings.specs.MessageLaws.{bits_some}
 use Rattle.bus_strings.specs.Messages.{Entry, IsMessage}
@@ -71,8 +73,7 @@ all_below table valid start horizon (x ∷ xs) a of m =
     let facts = send_facts table valid of.0.sender w.0 in
     let low : 1 ≤ of.0.sender.number = facts.low in
     let high : of.0.sender.number ≤ 128 = facts.high in
-    let number : of.0.sender.number ≡ x.terminal = w.1 in
-    (
+    let number : of.0.sender.number ≡ x.terminal = w.1 in (
       record {
         moment = omega (arith, a.1, bits_some x.message m.0.some);
         positive = omega (arith, low, number);
@@ -102,3 +103,31 @@ is_trace table valid horizon list low few a of m = record {
   list = all_below table valid 0 horizon list a of m;
   order = ascending 0 horizon list a;
 }
+
+-- ---- one number more
+range_more : (a n : ℕ) → range_with_len a (suc n) ≡ range_with_len a n ++ (a + n) ∷ []
+range_more a zero = (let e : a ≡ a + 0 = omega arith in ap (λ k. k ∷ []) e)
+range_more a (suc n) = (let e : (a + 1) + n ≡ a + suc n = omega arith in ap (λ l. a ∷ l) (range_more (a + 1) n ∙ ap (λ k. range_with_len (a + 1) n ++ k ∷ []) e))
+
+one_hold : (o : Option Hold) → cons_option o [] ≡ option_to_list o
+one_hold None = refl
+one_hold (Some hold) = refl
+
+pub holds_more : (senders : List Sender) (list : List Entry) (number : ℕ) (old new : List Hold) → 1 ≤ number
+    → old ≡ filter_map (hold_at senders list) (range_with_len 1 (number - 1)) → new ≡ old ++ option_to_list (hold_at senders list number)
+    → new ≡ filter_map (hold_at senders list) (range_with_len 1 (number + 1 - 1))
+holds_more senders list number old new some h e =
+    let next : number + 1 - 1 ≡ suc (number - 1) = omega arith in
+    let last : 1 + (number - 1) ≡ number = omega arith in
+    e ∙ ap (λ l. l ++ option_to_list (hold_at senders list number)) h
+    ∙ ap (λ l. filter_map (hold_at senders list) (range_with_len 1 (number - 1)) ++ l) (sym (one_hold (hold_at senders list number)))
+    ∙ ap (λ k. filter_map (hold_at senders list) (range_with_len 1 (number - 1)) ++ filter_map (hold_at senders list) (k ∷ [])) (sym last)
+    ∙ sym (filter_map-append (hold_at senders list) (range_with_len 1 (number - 1)) ((1 + (number - 1)) ∷ []))
+    ∙ ap (filter_map (hold_at senders list)) (sym (range_more 1 (number - 1)))
+    ∙ ap (λ k. filter_map (hold_at senders list) (range_with_len 1 k)) (sym next)
+
+pub holds_all : (table : Table) (list : List Entry) (number : ℕ) (holds : List Hold) → number ≡ 129
+    → holds ≡ filter_map (hold_at table.senders list) (range_with_len 1 (number - 1)) → holds ≡ holds_of table list
+unfolding holds_of
+holds_all table list number holds last h =
+    (let e : number - 1 ≡ 128 = omega arith in h ∙ ap (λ k. filter_map (hold_at table.senders list) (range_with_len 1 k)) e)

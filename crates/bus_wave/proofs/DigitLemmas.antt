@@ -88,15 +88,16 @@ gathered_is n (digit ∷ digits) h =
     by_two (two_bits v) (two_below v) (λ m. gathered_is m digits p.1)
     ∙ ap (option_map (number_onto n)) (sym (two_heard (halves_of digits) v (digit_value-lt digit p.0)))
   where
-  by_bits : (two : ℕ) → two < 4 → (bits : Option (List Bool))
-      → option_map (number_onto (4 * n + two)) bits ≡ option_map (number_onto n) (option_map (λ bs. (two / 2 == 1) ∷ (two % 2 == 1) ∷ bs) bits)
-  by_bits two low None = refl
-  by_bits two low (Some bits) = ap (λ m. Some (number_onto m bits)) (sym (two_onto n two low))
-  by_two : (o : Option ℕ) → IfSome o (λ two. two < 4)
-      → ((m : ℕ) → gathered m digits ≡ option_map (number_onto m) (bits_in (halves_of digits)))
-      → option_and_then (λ two. gathered (4 * n + two) digits) o ≡ option_map (number_onto n) (with_two o (bits_in (halves_of digits)))
-  by_two None low again = refl
-  by_two (Some two) low again = again (4 * n + two) ∙ by_bits two low (bits_in (halves_of digits))
+    by_bits : (two : ℕ) → two < 4 → (bits : Option (List Bool))
+        → option_map (number_onto (4 * n + two)) bits ≡ option_map (number_onto n) (option_map (λ bs. (two / 2 == 1) ∷ (two % 2 == 1) ∷ bs) bits)
+    by_bits two low None = refl
+    by_bits two low (Some bits) = ap (λ m. Some (number_onto m bits)) (sym (two_onto n two low))
+
+    by_two : (o : Option ℕ) → IfSome o (λ two. two < 4)
+        → ((m : ℕ) → gathered m digits ≡ option_map (number_onto m) (bits_in (halves_of digits)))
+        → option_and_then (λ two. gathered (4 * n + two) digits) o ≡ option_map (number_onto n) (with_two o (bits_in (halves_of digits)))
+    by_two None low again = refl
+    by_two (Some two) low again = again (4 * n + two) ∙ by_bits two low (bits_in (halves_of digits))
 
 -- ---- the first two digits
 abbrev head_value : ℕ → ℕ → Option (Kind × ℕ)
@@ -177,14 +178,15 @@ heard_by_head a b digits h k all =
     ∙ by_head (head_value (digit_value a) (digit_value b)) (head_bit (digit_value a) (digit_value b))
     ∙ ap (taken digits) (sym (head_is a b h k))
   where
-  by_bits : (kind : Kind) (bit : ℕ) → bit < 2 → (bits : Option (List Bool))
-      → option_map (λ bs. frame_from kind ((bit == 1) ∷ bs)) bits ≡ option_map (frame_with kind) (option_map (number_onto bit) bits)
-  by_bits kind bit low None = refl
-  by_bits kind bit low (Some bits) = ap (λ n. Some (frame_with kind (number_onto n bits))) (bit_again bit low)
-  by_head : (head : Option (Kind × ℕ)) → HasBit head → head_frame (halves_of digits) head ≡ taken digits head
-  by_head None low = refl
-  by_head (Some head) low =
-      by_bits head.0 head.1 low (bits_in (halves_of digits)) ∙ ap (option_map (frame_with head.0)) (sym (gathered_is head.1 digits all))
+    by_bits : (kind : Kind) (bit : ℕ) → bit < 2 → (bits : Option (List Bool))
+        → option_map (λ bs. frame_from kind ((bit == 1) ∷ bs)) bits ≡ option_map (frame_with kind) (option_map (number_onto bit) bits)
+    by_bits kind bit low None = refl
+    by_bits kind bit low (Some bits) = ap (λ n. Some (frame_with kind (number_onto n bits))) (bit_again bit low)
+
+    by_head : (head : Option (Kind × ℕ)) → HasBit head → head_frame (halves_of digits) head ≡ taken digits head
+    by_head None low = refl
+    by_head (Some head) low =
+        by_bits head.0 head.1 low (bits_in (halves_of digits)) ∙ ap (option_map (frame_with head.0)) (sym (gathered_is head.1 digits all))
 
 -- ---- what is written
 code_two : (x y : Bool) → hex_digit (number_of_bits (x ∷ not x ∷ y ∷ not y ∷ [])) ≡ code_digit (2 * bit_value x + bit_value y)
@@ -239,7 +241,7 @@ highest (suc count) n =
 
 frame_digits : (kind : Kind) (value : ℕ) (parity : Bool) (bits : ℕ) → value < 2 ^ 16 → bits ≡ 2 * value + bit_value parity
     → digits_of (frame_halves (record { kind = kind; value = value; parity = parity }))
-      ≡ first_digit kind ∷ second_digit kind (bits / 65536) ∷ code_digits 8 bits
+    ≡ first_digit kind ∷ second_digit kind (bits / 65536) ∷ code_digits 8 bits
 unfolding frame_halves
 frame_digits kind value parity bits low e =
     let top : Bool = value / 2 ^ 15 % 2 == 1 in
@@ -254,17 +256,19 @@ frame_digits kind value parity bits low e =
     ∙ ap (λ ds. first_digit kind ∷ second_digit kind (bit_value top) ∷ ds) (by_fours 8 bits)
     ∙ ap (λ b. first_digit kind ∷ second_digit kind b ∷ code_digits 8 bits) (top_is value low ∙ (let k : value / 2 ^ 15 ≡ bits / 65536 = omega (arith, half) in k))
   where
-  odd_is : (p : Bool) → bits ≡ 2 * value + bit_value p → (bits % 2 == 1) ≡ p
-  odd_is true k = grind (arith, nat_tests)
-  odd_is false k = grind (arith, nat_tests)
-  top_is : (v : ℕ) → v < 2 ^ 16 → bit_value (v / 2 ^ 15 % 2 == 1) ≡ v / 2 ^ 15
-  top_is v h = grind (arith, nat_tests)
-  by_kind : (k : Kind) (top : Bool) → digits_of (sync k ++ (top ∷ not top ∷ flat_map pair (bits_of 16 bits)))
-      ≡ first_digit k ∷ second_digit k (bit_value top) ∷ digits_of (flat_map pair (bits_of 16 bits))
-  by_kind Label true = refl
-  by_kind Label false = refl
-  by_kind Plain true = refl
-  by_kind Plain false = refl
+    odd_is : (p : Bool) → bits ≡ 2 * value + bit_value p → (bits % 2 == 1) ≡ p
+    odd_is true k = grind (arith, nat_tests)
+    odd_is false k = grind (arith, nat_tests)
+
+    top_is : (v : ℕ) → v < 2 ^ 16 → bit_value (v / 2 ^ 15 % 2 == 1) ≡ v / 2 ^ 15
+    top_is v h = grind (arith, nat_tests)
+
+    by_kind : (k : Kind) (top : Bool) → digits_of (sync k ++ (top ∷ not top ∷ flat_map pair (bits_of 16 bits)))
+        ≡ first_digit k ∷ second_digit k (bit_value top) ∷ digits_of (flat_map pair (bits_of 16 bits))
+    by_kind Label true = refl
+    by_kind Label false = refl
+    by_kind Plain true = refl
+    by_kind Plain false = refl
 
 -- the digits of a word
 pub word_digits : (kind : Kind) (value : ℕ) (parity : Bool) (bits : ℕ) (digits : List ℕ) → value < 2 ^ 16 → bits ≡ 2 * value + bit_value parity

@@ -71,7 +71,7 @@ data_lead : (senders : List Sender) (at : ℕ) (list : List Entry) (x : Entry) (
     → length ws + length words ≤ line.most → line.least ≤ length ws + length words
     → at + word_bits * length words + later left ≤ horizon_limit → AllByRecursion (λ word. word < 2 ^ 16) words
     → Leads senders (record { at = at; list = list; phase = Saying x line ws left }) (map sent (map data_word words))
-      (record { at = at + word_bits * length words; list = list; phase = Saying x line (ws ++ words) left })
+    (record { at = at + word_bits * length words; list = list; phase = Saying x line (ws ++ words) left })
 data_lead senders at list x line left ws [] most least low values =
     let same : at ≡ at + 0 = omega arith in
     ap (λ n. (let s : State = record { at = n; list = list; phase = Saying x line ws left } in s)) same
@@ -107,9 +107,9 @@ words_lead : (senders : List Sender) (old : State) (x : Entry) (line : SendLine)
     → IsWordstring string → line.least ≤ length string.words → length string.words ≤ line.most
     → old.at + word_bits * word_count string + later left ≤ horizon_limit
     → (let m : State = record { at = old.at + word_bits; list = old.list; phase = Saying x line [] left } in
-      order_step senders old (symbol.Sent (label_word string.label string.ext)) ≡ Ok m)
+    order_step senders old (symbol.Sent (label_word string.label string.ext)) ≡ Ok m)
     → Leads senders old (string_lines string)
-      (record { at = old.at + word_bits * word_count string; list = old.list; phase = Saying x line string.words left })
+    (record { at = old.at + word_bits * word_count string; list = old.list; phase = Saying x line string.words left })
 words_lead senders old x line left string right least most low keeps =
     let m : State = record { at = old.at + word_bits; list = old.list; phase = Saying x line [] left } in
     let label : Word = label_word string.label string.ext in
@@ -139,8 +139,8 @@ rest_reaches : (senders : List Sender) (at : ℕ) (list : List Entry) (x : Entry
     (strings : List Wordstring) → matches allows left strings ≡ true → AllByRecursion IsWordstring strings → line.least ≤ length words
     → at + rest_bits strings ≤ horizon_limit
     → Reaches senders (record { at = at; list = list; phase = Saying x line words left })
-      (flat_map (λ next. Quiet inner_gap ∷ string_lines next) strings) (at + rest_bits strings) list
-      (record x { message = x.message ++ string_of line words ∷ strings })
+    (flat_map (λ next. Quiet inner_gap ∷ string_lines next) strings) (at + rest_bits strings) list
+    (record x { message = x.message ++ string_of line words ∷ strings })
 rest_reaches senders at list x line words [] [] fit right least low = record {
   x = x;
   line = line;
@@ -189,12 +189,12 @@ pub message_reaches : (senders : List Sender) (at : ℕ) (list : List Entry) (ph
     → ((string : Wordstring) (strings : List Wordstring) → message ≡ string ∷ strings → beginner senders (16 * string.label + string.ext) ≡ Some sender)
     → at + bits message ≤ horizon_limit
     → Reaches senders (record { at = at; list = list; phase = phase }) (message_lines message) (at + bits message) list
-      (record { moment = at; terminal = sender.number; message = message })
+    (record { moment = at; terminal = sender.number; message = message })
 message_reaches senders at list phase sender [] ready right fit found low = absurd (let k = right.some in omega arith)
 message_reaches senders at list phase sender (string ∷ strings) ready right fit found low = by_sends sender.sends refl fit where
   by_sends : (sends : List SendLine) → sender.sends ≡ sends → matches allows sends (string ∷ strings) ≡ true
       → Reaches senders (record { at = at; list = list; phase = phase }) (message_lines (string ∷ strings)) (at + bits (string ∷ strings)) list
-        (record { moment = at; terminal = sender.number; message = string ∷ strings })
+      (record { moment = at; terminal = sender.number; message = string ∷ strings })
   by_sends [] e h = absurd cc
   by_sends (line ∷ left) e h =
       let fits_line = matched line left string strings h in

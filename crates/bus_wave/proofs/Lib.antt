@@ -2,6 +2,7 @@ mod BeginLemmas
 mod CodeLemmas
 mod CountLemmas
 mod DigitLemmas
+mod DraftLemmas
 mod LeadLemmas
 mod LineLemmas
 mod ListLeads

@@ -36,15 +36,15 @@ entry_reaches table valid list phase x ready of right low =
     subst (λ (n : ℕ). Reaches table.senders (record { at = x.moment; list = list; phase = phase }) (message_lines x.message) (end_of x) list
     (record { moment = x.moment; terminal = n; message = x.message })) w.1 all
   where
-  by_sends : (sends : List SendLine) → of.sender.sends ≡ sends → (string : Wordstring) (strings : List Wordstring)
-      → matches allows of.sender.sends (string ∷ strings) ≡ true → IsMessage (string ∷ strings)
-      → beginner table.senders (16 * string.label + string.ext) ≡ Some of.sender
-  by_sends [] e string strings fit m = absurd (let k = ap (λ ls. matches allows ls (string ∷ strings)) (sym e) ∙ fit in cc)
-  by_sends (line ∷ left) e string strings fit m =
-      let f = matched line left string strings (ap (λ ls. matches allows ls (string ∷ strings)) (sym e) ∙ fit) in
-      let ext : string.ext < 16 = m.strings.0.ext in
-      beginner_is table valid of.sender line left (16 * string.label + string.ext) (of_number table.senders x.terminal of.sender of.found).0 e
-      (is_label line string f.label f.ext ext)
+    by_sends : (sends : List SendLine) → of.sender.sends ≡ sends → (string : Wordstring) (strings : List Wordstring)
+        → matches allows of.sender.sends (string ∷ strings) ≡ true → IsMessage (string ∷ strings)
+        → beginner table.senders (16 * string.label + string.ext) ≡ Some of.sender
+    by_sends [] e string strings fit m = absurd (let k = ap (λ ls. matches allows ls (string ∷ strings)) (sym e) ∙ fit in cc)
+    by_sends (line ∷ left) e string strings fit m =
+        let f = matched line left string strings (ap (λ ls. matches allows ls (string ∷ strings)) (sym e) ∙ fit) in
+        let ext : string.ext < 16 = m.strings.0.ext in
+        beginner_is table valid of.sender line left (16 * string.label + string.ext) (of_number table.senders x.terminal of.sender of.found).0 e
+        (is_label line string f.label f.ext ext)
 
 -- ---- all of them
 -- within the last wordstring of the last of these transmissions
@@ -71,7 +71,7 @@ onto_says senders s m ls ms at list a r =
 quiet_lead : (senders : List Sender) (at n : ℕ) (list before : List Entry) (x : Entry) (line : SendLine) (words : List ℕ) → 1 ≤ n
     → line.least ≤ length words → before ++ with_string x (string_of line words) ∷ [] ≡ list → at + n ≤ horizon_limit
     → step senders (record { at = at; list = before; phase = Saying x line words [] }) (symbol.Quiet n)
-      ≡ Ok (record { at = at + n; list = list; phase = Silent (nat_le least_gap n) })
+    ≡ Ok (record { at = at + n; list = list; phase = Silent (nat_le least_gap n) })
 quiet_lead senders at n list before x line words some least all low =
     let old : State = record { at = at; list = before; phase = Saying x line words [] } in
     let test : nat_lt (length words) line.least ≡ false = grind (arith, nat_tests) in
@@ -156,6 +156,7 @@ said_ends : (senders : List Sender) (horizon : ℕ) (list : List Entry) (lines :
 said_ends senders horizon list lines at h early low = by_rest (horizon - at) refl where
   test : nat_lt (length h.words) h.line.least ≡ false
   test = (let k = h.least in grind (arith, nat_tests))
+
   by_rest : (n : ℕ) → horizon - at ≡ n → LeadToEnd senders (lines ++ quiet_lines n) horizon list
   by_rest zero e =
       let said : State = record { at = at; list = h.before; phase = Saying h.x h.line h.words [] } in

@@ -1,7 +1,7 @@
 -- What reads as a trace is its wave text, and its wave text reads as it.
 use Rattle.std.proofs.Common.{arith, ◌≡◌, ℕ, zero, suc, ◌+◌, ◌-◌, ◌*◌, ◌<◌, ◌≤◌, ◌^◌, Bool, true, false, cond, ◌&&◌, ◌==◌, List, [], ◌∷◌, ◌++◌, codes, length, map}
 use Rattle.std.proofs.Common.{Option, Some, None, Result, Ok, Err, refl, sym, ap, subst, ◌∙◌, append_assoc, append-nil, length-append}
-use Rattle.std.specs.Prelude.{IsTrue}
+use Rattle.std.specs.Prelude.{IsTrue, IfOk}
 use Rattle.std.specs.Fmt.{decimal}
 use Rattle.std.specs.List.{slice_split, join_with_byte, AllByRecursion}
 use Rattle.std.proofs.lemmas.Bool.{and_parts, eqb-true}
@@ -23,6 +23,10 @@ use Rattle.bus_trace.specs.Limits.{most_count}
 use Rattle.bus_trace.specs.Traces.{Recording, IsTrace, IsBelow, data_word}
 use Rattle.bus_wave.specs.declared.fault.WaveReason.{WaveReason}
 use Rattle.bus_wave.specs.declared.fault.WaveReason.TheVariants.{Ended, Keyword, Order}
+use Rattle.bus_wave.specs.declared.fault.LineFault.{LineFault}
+use Rattle.bus_wave.specs.declared.fault.LineFault.TheVariants as fault
+use Rattle.bus_wave.specs.declared.fault.WaveError.{WaveError}
+use Rattle.bus_wave.specs.Gives.{Fails, Gives, LineFails, fault_at}
 use Rattle.bus_wave.specs.declared.symbol.Symbol.{Symbol}
 use Rattle.bus_wave.specs.declared.symbol.Symbol.TheVariants as symbol
 use Rattle.bus_wave.specs.Code.{digits_of}
@@ -34,7 +38,9 @@ use Rattle.bus_wave.specs.Spacing.{IsOfSender, AreApart, IsSpaced}
 use Rattle.bus_wave.specs.WaveLaws.{most_bytes, IsWaveTrace, IsRead, HasOneText}
 use Rattle.bus_wave.specs.Waves.{word_halves, wave}
 use Rattle.bus_wave.specs.WaveTexts.{WaveLine, Quiet, Halves, line_fields, text_of, lines_up_to, last_end, message_lines, laid, quiet_lines, wave_text, IsWaveText}
+use Rattle.bus_wave.specs.Capped.{cap, capped}
 use Rattle.bus_wave.proofs.CountLemmas.{is_trace}
+use Rattle.bus_wave.proofs.DraftLemmas.{cap_step}
 use Rattle.bus_wave.proofs.LeadLemmas.{Leads}
 use Rattle.bus_wave.proofs.ListLeads.{LeadToEnd, all_lead}
 use Rattle.bus_wave.proofs.SoundLemmas.{Sound, Follows, Ends, Steps, step_is, quiet_at, still_going, quiet_follows, label_follows, data_follows, end_ends}
@@ -108,7 +114,7 @@ record Judged (table : Table) (s : State) (line : List ℕ) (m : State) : Type 0
   reads : symbol_reading (fields_of line) ≡ Ok read
   steps : step table.senders s read ≡ Ok m
 
-judged : (table : Table) (s : State) (line : List ℕ) (m : State) → is_closed s.phase ≡ false → judge table s line ≡ Ok m → Judged table s line m
+judged : (table : Table) (s : State) (line : List ℕ) (m : State) → is_closed s.phase ≡ false → judge table.senders s line ≡ Ok m → Judged table s line m
 unfolding judge
 judged table s line m unclosed h =
     let k : (symbol_reading (fields_of line) >>= step table.senders s) ≡ Ok m =
@@ -116,18 +122,18 @@ judged table s line m unclosed h =
     let b = bind_ok (symbol_reading (fields_of line)) (step table.senders s) m k in
     record { read = b.0; reads = b.1; steps = b.2 }
 
-none_behind : (table : Table) (s : State) (line : List ℕ) → is_closed s.phase ≡ true → judge table s line ≡ Err Keyword
+pub none_behind : (table : Table) (s : State) (line : List ℕ) → is_closed s.phase ≡ true → judge table.senders s line ≡ Err Keyword
 unfolding judge
 none_behind table s line closed = ap (λ b. cond b (Err Keyword) (symbol_reading (fields_of line) >>= step table.senders s)) closed
 
 -- what one line more gives
-pieces_more : (table : Table) (number : ℕ) (s : State) (line next : List ℕ) (pieces : List (List ℕ))
+pub pieces_more : (table : Table) (number : ℕ) (s : State) (line next : List ℕ) (pieces : List (List ℕ))
     → pieces_reading table number s (line ∷ next ∷ pieces)
-      ≡ (at_line number (judge table s line) >>= λ now. pieces_reading table (number + 1) now (next ∷ pieces))
+    ≡ (at_line number (judge table.senders s line) >>= λ now. pieces_reading table (number + 1) now (next ∷ pieces))
 unfolding pieces_reading
 pieces_more table number s line next pieces = refl
 
-pieces_last : (table : Table) (number : ℕ) (s : State) (rest : List ℕ) → pieces_reading table number s (rest ∷ []) ≡ ended table number s rest
+pub pieces_last : (table : Table) (number : ℕ) (s : State) (rest : List ℕ) → pieces_reading table number s (rest ∷ []) ≡ ended table number s rest
 unfolding pieces_reading
 pieces_last table number s rest = refl
 
@@ -155,54 +161,55 @@ pieces_found : (table : Table) → IsTrue (is_valid table) → (number : ℕ) (s
 pieces_found table valid number s [] t sound unclosed h = absurd (not_ended table number s [] t unclosed (sym (pieces_none table number s) ∙ h))
 pieces_found table valid number s (rest ∷ []) t sound unclosed h = absurd (not_ended table number s rest t unclosed (sym (pieces_last table number s rest) ∙ h))
 pieces_found table valid number s (line ∷ next ∷ pieces) t sound unclosed h =
-    let b = bind_ok (at_line number (judge table s line)) (λ now. pieces_reading table (number + 1) now (next ∷ pieces)) t (sym (pieces_more table number s line next pieces) ∙ h) in
-    let j = judged table s line b.0 unclosed (line_ok number (judge table s line) b.0 b.1) in
+    let b = bind_ok (at_line number (judge table.senders s line)) (λ now. pieces_reading table (number + 1) now (next ∷ pieces)) t (sym (pieces_more table number s line next pieces) ∙ h) in
+    let j = judged table s line b.0 unclosed (line_ok number (judge table.senders s line) b.0 b.1) in
     by_symbol (λ m sound going rest. pieces_found table valid (number + 1) m (next ∷ pieces) t sound going rest) b.0 j.read (symbol_found line j.read j.reads) j.steps b.2
   where
-  parts : (front : List ℕ) (lines : List WaveLine) → line ≡ front → join_with_byte 10 (next ∷ pieces) ≡ spelled lines ++ codes "END\n"
-      → line ++ 10 ∷ join_with_byte 10 (next ∷ pieces) ≡ ((front ++ 10 ∷ []) ++ spelled lines) ++ codes "END\n"
-  parts front lines e f =
-      ap (λ l. l ++ 10 ∷ join_with_byte 10 (next ∷ pieces)) e ∙ ap (λ r. front ++ 10 ∷ r) f
-      ∙ sym (append_assoc (front ++ 10 ∷ []) (spelled lines) (codes "END\n") ∙ append_assoc front (10 ∷ []) (spelled lines ++ codes "END\n"))
-  by_symbol : ((m : State) → Sound table m → is_closed m.phase ≡ false → pieces_reading table (number + 1) m (next ∷ pieces) ≡ Ok t → Found table m (join_with_byte 10 (next ∷ pieces)) t)
-      → (m : State) (y : Symbol) → IsLineOf y line → step table.senders s y ≡ Ok m → pieces_reading table (number + 1) m (next ∷ pieces) ≡ Ok t
-      → Found table s (line ++ 10 ∷ join_with_byte 10 (next ∷ pieces)) t
-  by_symbol again m (symbol.Quiet n) is steps rest =
-      let f = quiet_sound table valid s m n sound steps in
-      let r = again m f.sound f.going rest in
-      record {
-        lines = Quiet n ∷ r.lines;
-        last = r.last;
-        leads = (m, steps, r.leads);
-        done = r.done;
-        ends = r.ends;
-        text_is = parts (81 ∷ 32 ∷ decimal n) r.lines (is (quiet_low table.senders s m n steps)) r.text_is;
-        trace = r.trace;
-      }
-  by_symbol again m (symbol.Sent word) is steps rest =
-      let f = word_sound table valid s m word is.0 sound steps in
-      let r = again m f.sound f.going rest in
-      record {
-        lines = sent word ∷ r.lines;
-        last = r.last;
-        leads = (m, word, is.0, refl, steps, r.leads);
-        done = r.done;
-        ends = r.ends;
-        text_is = parts (87 ∷ 32 ∷ digits_of (word_halves word)) r.lines is.1 r.text_is;
-        trace = r.trace;
-      }
-  by_symbol again m symbol.End is steps rest =
-      let f = end_sound table valid s m sound steps in
-      let c = closed_rest table (number + 1) m next pieces t f.closed rest in
-      record {
-        lines = [];
-        last = s;
-        leads = refl;
-        done = m;
-        ends = steps;
-        text_is = ap (λ l. l ++ 10 ∷ join_with_byte 10 (next ∷ pieces)) is ∙ ap (λ r. codes "END" ++ 10 ∷ r) c.0;
-        trace = c.1;
-      }
+    parts : (front : List ℕ) (lines : List WaveLine) → line ≡ front → join_with_byte 10 (next ∷ pieces) ≡ spelled lines ++ codes "END\n"
+        → line ++ 10 ∷ join_with_byte 10 (next ∷ pieces) ≡ ((front ++ 10 ∷ []) ++ spelled lines) ++ codes "END\n"
+    parts front lines e f =
+        ap (λ l. l ++ 10 ∷ join_with_byte 10 (next ∷ pieces)) e ∙ ap (λ r. front ++ 10 ∷ r) f
+        ∙ sym (append_assoc (front ++ 10 ∷ []) (spelled lines) (codes "END\n") ∙ append_assoc front (10 ∷ []) (spelled lines ++ codes "END\n"))
+
+    by_symbol : ((m : State) → Sound table m → is_closed m.phase ≡ false → pieces_reading table (number + 1) m (next ∷ pieces) ≡ Ok t → Found table m (join_with_byte 10 (next ∷ pieces)) t)
+        → (m : State) (y : Symbol) → IsLineOf y line → step table.senders s y ≡ Ok m → pieces_reading table (number + 1) m (next ∷ pieces) ≡ Ok t
+        → Found table s (line ++ 10 ∷ join_with_byte 10 (next ∷ pieces)) t
+    by_symbol again m (symbol.Quiet n) is steps rest =
+        let f = quiet_sound table valid s m n sound steps in
+        let r = again m f.sound f.going rest in
+        record {
+          lines = Quiet n ∷ r.lines;
+          last = r.last;
+          leads = (m, steps, r.leads);
+          done = r.done;
+          ends = r.ends;
+          text_is = parts (81 ∷ 32 ∷ decimal n) r.lines (is (quiet_low table.senders s m n steps)) r.text_is;
+          trace = r.trace;
+        }
+    by_symbol again m (symbol.Sent word) is steps rest =
+        let f = word_sound table valid s m word is.0 sound steps in
+        let r = again m f.sound f.going rest in
+        record {
+          lines = sent word ∷ r.lines;
+          last = r.last;
+          leads = (m, word, is.0, refl, steps, r.leads);
+          done = r.done;
+          ends = r.ends;
+          text_is = parts (87 ∷ 32 ∷ digits_of (word_halves word)) r.lines is.1 r.text_is;
+          trace = r.trace;
+        }
+    by_symbol again m symbol.End is steps rest =
+        let f = end_sound table valid s m sound steps in
+        let c = closed_rest table (number + 1) m next pieces t f.closed rest in
+        record {
+          lines = [];
+          last = s;
+          leads = refl;
+          done = m;
+          ends = steps;
+          text_is = ap (λ l. l ++ 10 ∷ join_with_byte 10 (next ∷ pieces)) is ∙ ap (λ r. codes "END" ++ 10 ∷ r) c.0;
+          trace = c.1;
+        }
 
 -- ---- what was found is the trace's text
 -- sound states that lines lead to
@@ -244,9 +251,9 @@ spelled_long : (lines : List WaveLine) → length lines ≤ length (spelled line
 spelled_long [] = omega arith
 spelled_long (l ∷ ls) =
     omega (arith, spelled_long ls, length-append (spelled_line (line_fields l)) (spelled ls), one_byte l) where
-  one_byte : (w : WaveLine) → 1 ≤ length (spelled_line (line_fields w))
-  one_byte (Quiet n) = omega arith
-  one_byte (Halves halves) = omega arith
+      one_byte : (w : WaveLine) → 1 ≤ length (spelled_line (line_fields w))
+      one_byte (Quiet n) = omega arith
+      one_byte (Halves halves) = omega arith
 
 message_long : (message : Message) → 0 < length message → 1 ≤ length (message_lines message)
 message_long [] h = absurd (omega (arith, h))
@@ -290,9 +297,10 @@ found_read table valid t text body short e f =
     subst (λ (u : Recording). IsRead table u text) f.trace (record {
       trace = record { trace = trace; spaced = record { senders = sound.senders; apart = sound.apart }; holds = refl };
       is_text = subst (λ (x : List ℕ). IsWaveText (recorded table done) x) (sym is) one.is;
+      few = many;
     })
 
-head_split : (table : Table) (line next : List ℕ) (pieces : List (List ℕ))
+pub head_split : (table : Table) (line next : List ℕ) (pieces : List (List ℕ))
     → text_reading table (line ∷ next ∷ pieces) ≡ (at_line 1 (head_reading (fields_of line)) >>= λ _. pieces_reading table 2 opening (next ∷ pieces))
 unfolding text_reading
 head_split table line next pieces = refl
@@ -316,7 +324,7 @@ reads_only table t text valid short h = by_pieces (slice_split is_feed text) ref
       (pieces_found table valid 2 opening (next ∷ pieces) t (first_sound table) refl b.2)
 
 -- ---- and back
-one_line : (table : Table) (number : ℕ) (s m : State) (line rest : List ℕ) → AllByRecursion (λ b. is_feed b ≡ false) line → judge table s line ≡ Ok m
+one_line : (table : Table) (number : ℕ) (s m : State) (line rest : List ℕ) → AllByRecursion (λ b. is_feed b ≡ false) line → judge table.senders s line ≡ Ok m
     → pieces_reading table number s (slice_split is_feed (line ++ 10 ∷ rest)) ≡ pieces_reading table (number + 1) m (slice_split is_feed rest)
 one_line table number s m line rest plain h =
     let p = some_piece rest in
@@ -326,7 +334,7 @@ one_line table number s m line rest plain h =
     ∙ ap (pieces_reading table (number + 1) m) (sym p.2)
 
 takes : (table : Table) (s m : State) (line : List ℕ) (y : Symbol) → symbol_reading (fields_of line) ≡ Ok y → step table.senders s y ≡ Ok m
-    → judge table s line ≡ Ok m
+    → judge table.senders s line ≡ Ok m
 unfolding judge
 takes table s m line y reads steps =
     ap (λ b. cond b (Err Keyword) (symbol_reading (fields_of line) >>= step table.senders s)) (going table.senders s m y steps)
@@ -340,7 +348,7 @@ pieces_back : (table : Table) (number : ℕ) (s : State) (lines : List WaveLine)
     → step table.senders last symbol.End ≡ Ok done → is_closed done.phase ≡ true
     → pieces_reading table number s (slice_split is_feed (spelled lines ++ codes "END\n")) ≡ Ok (recorded table done)
 pieces_back table number s [] last done h ends closed =
-    let now : judge table s (codes "END") ≡ Ok done = takes table s done (codes "END") symbol.End end_reads (ap (λ k. step table.senders k symbol.End) h ∙ ends) in
+    let now : judge table.senders s (codes "END") ≡ Ok done = takes table s done (codes "END") symbol.End end_reads (ap (λ k. step table.senders k symbol.End) h ∙ ends) in
     one_line table number s done (codes "END") [] (refl, (refl, (refl, tt))) now ∙ closes table (number + 1) done closed
 pieces_back table number s (Quiet n ∷ lines) last done h ends closed =
     let low = quiet_low table.senders s h.0 n h.1 in
@@ -390,3 +398,89 @@ waves_tell table t u valid h k same =
     let other : IsWaveText u (wave_text t) = record { lines = is.lines; right = is.right; stand = is.stand ∙ same; text_is = is.text_is } in
     let e = sym (reads_back table t (wave_text t) valid h is) ∙ reads_back table u (wave_text t) valid k other in
     cc
+
+-- ---- what the code gives
+pub capped_error : (r : Result Symbol WaveReason) (e : WaveReason) → Err e ≡ capped r → r ≡ Err e
+capped_error (Ok y) e h = absurd cc
+capped_error (Err f) e h = ap Err (let same : f ≡ e = cc in same)
+
+pub capped_symbol : (r : Result Symbol WaveReason) (y : Symbol) → Ok y ≡ capped r → (z : Symbol) × (r ≡ Ok z) × (y ≡ cap z)
+capped_symbol (Ok z) y h = (z, refl, (let same : y ≡ cap z = cc in same))
+capped_symbol (Err f) y h = absurd cc
+
+pub judged_error : (senders : List Sender) (s : State) (line : List ℕ) (e : WaveReason) → is_closed s.phase ≡ false
+    → symbol_reading (fields_of line) ≡ Err e → judge senders s line ≡ Err e
+unfolding judge
+judged_error senders s line e unclosed h =
+    ap (λ b. cond b (Err Keyword) (symbol_reading (fields_of line) >>= step senders s)) unclosed ∙ ap (λ r. r >>= step senders s) h
+
+pub judged_symbol : (senders : List Sender) (s : State) (line : List ℕ) (z : Symbol) → is_closed s.phase ≡ false → s.at ≤ horizon_limit
+    → symbol_reading (fields_of line) ≡ Ok z → step senders s (cap z) ≡ judge senders s line
+unfolding judge
+judged_symbol senders s line z unclosed low h =
+    cap_step senders s z low
+    ∙ sym (ap (λ b. cond b (Err Keyword) (symbol_reading (fields_of line) >>= step senders s)) unclosed ∙ ap (λ r. r >>= step senders s) h)
+
+pub closed_keyword : (senders : List Sender) (s : State) (line : List ℕ) → is_closed s.phase ≡ true → judge senders s line ≡ Err Keyword
+unfolding judge
+closed_keyword senders s line closed = ap (λ b. cond b (Err Keyword) (symbol_reading (fields_of line) >>= step senders s)) closed
+
+-- what one line more gives, by how the text is cut
+pub line_more : (table : Table) (number : ℕ) (s m : State) (rest line behind : List ℕ) → slice_split is_feed rest ≡ line ∷ slice_split is_feed behind
+    → judge table.senders s line ≡ Ok m
+    → pieces_reading table number s (slice_split is_feed rest) ≡ pieces_reading table (number + 1) m (slice_split is_feed behind)
+line_more table number s m rest line behind e h =
+    let p = some_piece behind in
+    ap (pieces_reading table number s) (e ∙ ap (λ ps. line ∷ ps) p.2)
+    ∙ pieces_more table number s line p.0 p.1
+    ∙ ap (λ r. at_line number r >>= λ now. pieces_reading table (number + 1) now (p.0 ∷ p.1)) h
+    ∙ ap (pieces_reading table (number + 1) m) (sym p.2)
+
+pub line_error : (table : Table) (number : ℕ) (s : State) (rest line behind : List ℕ) (reason : WaveReason) → slice_split is_feed rest ≡ line ∷ slice_split is_feed behind
+    → judge table.senders s line ≡ Err reason
+    → pieces_reading table number s (slice_split is_feed rest) ≡ Err (record { line = number; reason = reason })
+line_error table number s rest line behind reason e h =
+    let p = some_piece behind in
+    ap (pieces_reading table number s) (e ∙ ap (λ ps. line ∷ ps) p.2)
+    ∙ pieces_more table number s line p.0 p.1
+    ∙ ap (λ r. at_line number r >>= λ now. pieces_reading table (number + 1) now (p.0 ∷ p.1)) h
+
+-- the text ends
+pub text_ended : (table : Table) (number : ℕ) (s : State) (rest : List ℕ) → slice_split is_feed rest ≡ rest ∷ []
+    → pieces_reading table number s (slice_split is_feed rest) ≡ ended table number s rest
+text_ended table number s rest e = ap (pieces_reading table number s) e ∙ pieces_last table number s rest
+
+pub one_piece : (table : Table) (rest : List ℕ) → text_reading table (rest ∷ []) ≡ Err (record { line = 1; reason = Ended })
+unfolding text_reading
+one_piece table rest = refl
+
+pub head_more : (table : Table) (text line rest : List ℕ) → slice_split is_feed text ≡ line ∷ slice_split is_feed rest
+    → wave_reading table text ≡ (at_line 1 (head_reading (fields_of line)) >>= λ _. pieces_reading table 2 opening (slice_split is_feed rest))
+head_more table text line rest e =
+    let p = some_piece rest in
+    ap (text_reading table) (e ∙ ap (λ ps. line ∷ ps) p.2)
+    ∙ head_split table line p.0 p.1
+    ∙ ap (λ ps. at_line 1 (head_reading (fields_of line)) >>= λ _. pieces_reading table 2 opening ps) (sym p.2)
+
+-- whether the text may end
+pub undone : (table : Table) (number : ℕ) (s : State) (rest : List ℕ) → (is_closed s.phase && length rest == 0) ≡ false
+    → ended table number s rest ≡ Err (record { line = number; reason = Ended })
+undone table number s rest h =
+    ap (λ b. cond b (let r : Result Recording WaveRefusal = Ok (recorded table s) in r) (Err (record { line = number; reason = Ended }))) h
+
+pub done_is : (table : Table) (number : ℕ) (s : State) (rest : List ℕ) → (is_closed s.phase && length rest == 0) ≡ true
+    → ended table number s rest ≡ Ok (recorded table s)
+done_is table number s rest h =
+    ap (λ b. cond b (let r : Result Recording WaveRefusal = Ok (recorded table s) in r) (Err (record { line = number; reason = Ended }))) h
+
+-- a line that isn't taken
+pub line_fails : (table : Table) (number : ℕ) (s : State) (rest line behind : List ℕ) (f : LineFault) → slice_split is_feed rest ≡ line ∷ slice_split is_feed behind
+    → LineFails f (judge table.senders s line) → Fails (fault_at number f) (pieces_reading table number s (slice_split is_feed rest))
+line_fails table number s rest line behind (fault.Refused reason) e h = line_error table number s rest line behind reason e h
+line_fails table number s rest line behind fault.Memory e h = tt
+
+-- what an answer gives
+pub is_read_if : (table : Table) (text : List ℕ) (r : Result Recording WaveError) → IsTrue (is_valid table) → length text ≤ most_bytes
+    → Gives r (wave_reading table text) → IfOk r (λ t. IsRead table t text)
+is_read_if table text (Ok t) valid short h = reads_only table t text valid short h
+is_read_if table text (Err e) valid short h = tt

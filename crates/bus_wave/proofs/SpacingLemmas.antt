@@ -51,9 +51,9 @@ of_sender : (table : Table) (x : Entry) (o : Option Sender) → sender_of table.
 of_sender table x None e none fit = absurd cc
 of_sender table x (Some sender) e none fit =
     record { sender = sender; found = e; fits = by_test (fits sender x.message) fit } where
-  by_test : (b : Bool) → not b ≡ false → b ≡ true
-  by_test true h = refl
-  by_test false h = absurd cc
+      by_test : (b : Bool) → not b ≡ false → b ≡ true
+      by_test true h = refl
+      by_test false h = absurd cc
 
 right : (table : Table) (horizon from k : ℕ) (x : Entry) → entry_fault table.senders horizon from k x ≡ None → IsRight table horizon from x
 right table horizon from k x h =

@@ -150,7 +150,7 @@ label_is line value e f =
 -- the label word of a message that begins
 pub begin_lines : (at : ℕ) (list : List Entry) (terminal : ℕ) (line : SendLine) (word : Word) → label_word line.label line.ext ≡ word
     → lines_of (record { at = at + word_bits; list = list; phase = Saying (record { moment = at; terminal = terminal; message = [] }) line [] [] })
-      ≡ lines_up_to at list ++ sent word ∷ []
+    ≡ lines_up_to at list ++ sent word ∷ []
 begin_lines at list terminal line word same =
     let x : Entry = record { moment = at; terminal = terminal; message = string_of line [] ∷ [] } in
     let ends : last_end 0 (list ++ x ∷ []) ≡ at + word_bits = omega (arith, last_push 0 list x, bits_one (string_of line [])) in
@@ -183,7 +183,7 @@ next_lines at list x line word same some now =
 pub data_lines : (at : ℕ) (list : List Entry) (x : Entry) (line : SendLine) (words : List ℕ) (value : ℕ)
     → at ≡ end_of (with_string x (string_of line words))
     → lines_up_to (at + word_bits) (list ++ with_string x (string_of line (words ++ value ∷ [])) ∷ [])
-      ≡ lines_up_to at (list ++ with_string x (string_of line words) ∷ []) ++ sent (data_word value) ∷ []
+    ≡ lines_up_to at (list ++ with_string x (string_of line words) ∷ []) ++ sent (data_word value) ∷ []
 data_lines at list x line words value now =
     let y : Entry = with_string x (string_of line words) in
     let z : Entry = with_string x (string_of line (words ++ value ∷ [])) in

@@ -1,6 +1,6 @@
 -- Texts and their lines: what lines read as, and what reads so.
 use Rattle.std.proofs.Common.{arith, ◌≡◌, ◌≢◌, ℕ, zero, suc, ◌+◌, ◌-◌, ◌*◌, ◌<◌, ◌≤◌, ◌^◌, Bool, true, false, not, cond, ◌&&◌, ◌==◌, List, [], ◌∷◌, ◌++◌, codes}
-use Rattle.std.proofs.Common.{length, get_or, map, Option, Some, None, Result, Ok, Err, refl, sym, ap, subst, ◌∙◌, inl, inr, append_assoc, append-nil, lit<}
+use Rattle.std.proofs.Common.{length, take, drop, get_or, map, Option, Some, None, Result, Ok, Err, refl, sym, ap, subst, ◌∙◌, inl, inr, append_assoc, append-nil, lit<}
 use Rattle.std.specs.Fmt.{decimal}
 use Rattle.std.specs.Prelude.{slice_get, slice_index_or}
 use Rattle.std.specs.Bool.{beq}
@@ -8,14 +8,14 @@ use Rattle.std.specs.Char.{is_ascii_digit}
 use Rattle.std.specs.List.{slice_split, onto_first, join_with_byte, list_all, All, AllByRecursion}
 use Rattle.std.specs.Option.{option_map_or}
 use Rattle.std.specs.Str.{bytes_eq}
-use Rattle.std.proofs.lemmas.Bool.{and_parts, eqb-true, eq-eqb}
+use Rattle.std.proofs.lemmas.Bool.{and_parts, eqb-true, eq-eqb, ne_eqb}
 use Rattle.std.proofs.lemmas.Bool.Decides.{nat_tests}
 use Rattle.std.proofs.lemmas.Slice.Eq.{bytes_eq-Decides}
 use Rattle.std.proofs.lemmas.Fmt.{decimal-digits_value}
 use Rattle.std.proofs.lemmas.Str.Parse.{numerals_by_value, tells_digits}
 use Rattle.std.specs.Str.Parse.{AllDigits}
 use Rattle.std.proofs.lemmas.List.Elements.{All-from_recursion}
-use Rattle.std.proofs.lemmas.List.Splits.{slice_split_at, slice_split_none, join_with_byte-slice_split}
+use Rattle.std.proofs.lemmas.List.Splits.{slice_split_at, slice_split_none, length-slice_split, join_with_byte-slice_split}
 use Rattle.bus_text.specs.AllOf.{◌>>=◌}
 use Rattle.bus_text.specs.AllOfLaws.{bind_ok}
 use Rattle.bus_text.specs.Canonical.{IsFieldByte, IsField, spelled_line, spelled_lines}
@@ -69,8 +69,8 @@ quiet_reads n low =
     ∙ ap (λ b. cond b (let r : Result Symbol WaveReason = Ok (symbol.Quiet (decimal_value (decimal n))) in r) (Err Spelling)) d.plain
     ∙ ap (λ k. (let r : Result Symbol WaveReason = Ok (symbol.Quiet k) in r)) d.value
   where
-  symbol_of : List (List ℕ) → Result Symbol WaveReason
-  symbol_of fields = symbol_reading fields
+    symbol_of : List (List ℕ) → Result Symbol WaveReason
+    symbol_of fields = symbol_reading fields
 
 -- ---- a W line
 capital_byte : (b : ℕ) → is_capital_digit b ≡ true → IsFieldByte b
@@ -99,8 +99,8 @@ word_reads word low =
     ∙ ap coded (frame_heard (frame word) low)
     ∙ ap (λ b. parity_checked (cond b (Ok (record { kind = word.kind; value = word.value })) (Err WordParity))) (beq_same (parity word.value))
   where
-  symbol_of : List (List ℕ) → Result Symbol WaveReason
-  symbol_of fields = symbol_reading fields
+    symbol_of : List (List ℕ) → Result Symbol WaveReason
+    symbol_of fields = symbol_reading fields
 
 -- ---- what reads so
 -- a line is its fields, one space between them
@@ -191,6 +191,7 @@ word_found field s h = by_digits (are_digits field) refl h where
       sym (digits_again field (and_parts (length field == 10) (list_all is_capital_digit field) d).1) ∙ ap digits_of halves in
       let low : c.word.value < 2 ^ 16 = subst (λ (g : FramedWord). g.value < 2 ^ 16) c.framed is.1 in
       subst (λ t. IsLineOf t (87 ∷ 32 ∷ field)) c.is (low, ap (λ ds. 87 ∷ 32 ∷ ds) digits)
+
   by_digits : (b : Bool) → are_digits field ≡ b → cond b (coded (frame_of (halves_of field))) (Err Spelling) ≡ Ok s → IsLineOf s (87 ∷ 32 ∷ field)
   by_digits false e k = absurd cc
   by_digits true e k = by_frame (frame_of (halves_of field)) e refl k
@@ -213,6 +214,7 @@ symbol_found line s h = by_tests (is_at (fields_of line) 0 (codes "W")) (is_at (
       let same : symbol.End ≡ s = cc in
       let is : line ≡ codes "END" = sym (joined line) ∙ ap (join_with_byte 32) (one (fields_of line) (codes "END") at e) in
       subst (λ t. IsLineOf t line) same is
+
   by_tests : (w q e : Bool) → is_at (fields_of line) 0 (codes "W") ≡ w → is_at (fields_of line) 0 (codes "Q") ≡ q → is_at (fields_of line) 0 (codes "END") ≡ e
       → cond w (second_reading word_reading (fields_of line)) (cond q (second_reading quiet_reading (fields_of line)) (cond e (cond (length (fields_of line) == 1) (Ok symbol.End) (Err Fields)) (Err Keyword))) ≡ Ok s
       → IsLineOf s line
@@ -241,12 +243,12 @@ head_found line u h =
     let p = and_parts (length fields == 2) (is_at fields 1 (codes "1")) r.1 in
     sym (joined line) ∙ ap (join_with_byte 32) (both fields r.0 p.0 p.1)
   where
-  both : (fields : List (List ℕ)) → is_at fields 0 (codes "WAVE") ≡ true → (length fields == 2) ≡ true → is_at fields 1 (codes "1") ≡ true
-      → fields ≡ codes "WAVE" ∷ codes "1" ∷ []
-  both [] a n b = absurd cc
-  both (f ∷ []) a n b = absurd (let k = eqb-true (length (f ∷ [])) 2 n in omega arith)
-  both (f ∷ g ∷ []) a n b = ap (λ x. x ∷ g ∷ []) ((bytes_eq-Decides f (codes "WAVE")).0 a) ∙ ap (λ x. codes "WAVE" ∷ x ∷ []) ((bytes_eq-Decides g (codes "1")).0 b)
-  both (f ∷ g ∷ i ∷ others) a n b = absurd (let k = eqb-true (length (f ∷ g ∷ i ∷ others)) 2 n in omega arith)
+    both : (fields : List (List ℕ)) → is_at fields 0 (codes "WAVE") ≡ true → (length fields == 2) ≡ true → is_at fields 1 (codes "1") ≡ true
+        → fields ≡ codes "WAVE" ∷ codes "1" ∷ []
+    both [] a n b = absurd cc
+    both (f ∷ []) a n b = absurd (let k = eqb-true (length (f ∷ [])) 2 n in omega arith)
+    both (f ∷ g ∷ []) a n b = ap (λ x. x ∷ g ∷ []) ((bytes_eq-Decides f (codes "WAVE")).0 a) ∙ ap (λ x. codes "WAVE" ∷ x ∷ []) ((bytes_eq-Decides g (codes "1")).0 b)
+    both (f ∷ g ∷ i ∷ others) a n b = absurd (let k = eqb-true (length (f ∷ g ∷ i ∷ others)) 2 n in omega arith)
 
 pub head_reads : head_reading (fields_of (codes "WAVE 1")) ≡ Ok tt
 unfolding head_reading
@@ -275,3 +277,31 @@ quiet_feedless n low = (refl, (refl, feedless (decimal n) (decimal_field n low).
 
 pub word_feedless : (word : Word) → AllByRecursion (λ b. is_feed b ≡ false) (87 ∷ 32 ∷ digits_of (word_halves word))
 word_feedless word = (refl, (refl, feedless (digits_of (word_halves word)) (word_bytes word)))
+
+-- ---- cut at a byte
+not_there : (byte : ℕ) (text : List ℕ) → ((k : ℕ) → k < length text → get_or text k 0 ≢ byte) → AllByRecursion (λ b. (b == byte) ≡ false) text
+not_there byte [] h = tt
+not_there byte (b ∷ bs) h = (ne_eqb b byte (h 0 (omega arith)), not_there byte bs (λ k less. h (suc k) (omega arith)))
+
+pub uncut : (byte : ℕ) (text : List ℕ) → ((k : ℕ) → k < length text → get_or text k 0 ≢ byte) → slice_split (λ b. b == byte) text ≡ text ∷ []
+uncut byte text h = slice_split_none (λ b. b == byte) text (All-from_recursion (λ b. (b == byte) ≡ false) text (not_there byte text h))
+
+pub cut_at : (byte : ℕ) (text : List ℕ) (at : ℕ) → ((k : ℕ) → k < at → get_or text k 0 ≢ byte) → at < length text → get_or text at 0 ≡ byte
+    → slice_split (λ b. b == byte) text ≡ take at text ∷ slice_split (λ b. b == byte) (drop (at + 1) text)
+cut_at byte [] at h low e = absurd (omega (arith, low))
+cut_at byte (b ∷ bs) zero h low e =
+    ap (λ t. cond t ([] ∷ slice_split (λ c. c == byte) bs) (onto_first b (slice_split (λ c. c == byte) bs))) (eq-eqb b byte e)
+cut_at byte (b ∷ bs) (suc at) h low e =
+    let next : suc at + 1 ≡ suc (at + 1) = omega arith in
+    ap (λ t. cond t ([] ∷ slice_split (λ c. c == byte) bs) (onto_first b (slice_split (λ c. c == byte) bs))) (ne_eqb b byte (h 0 (omega arith)))
+    ∙ ap (onto_first b) (cut_at byte bs at (λ k less. h (suc k) (omega arith)) (omega arith) e)
+    ∙ ap (λ n. (b ∷ take at bs) ∷ slice_split (λ c. c == byte) (drop n (b ∷ bs))) (sym next)
+
+-- how many fields
+pub not_alone : (fields : List (List ℕ)) (first rest : List ℕ) → fields ≡ first ∷ fields_of rest → (length fields == 1) ≡ false
+not_alone fields first rest e = (let n = length-slice_split is_space rest in let m = ap length e in grind (arith, nat_tests, n, m))
+
+pub not_two : (fields : List (List ℕ)) (first rest second third : List ℕ) → fields ≡ first ∷ fields_of rest → fields_of rest ≡ second ∷ fields_of third
+    → (length fields == 2) ≡ false
+not_two fields first rest second third e f =
+    (let n = length-slice_split is_space third in let m = ap length e in let k = ap length f in grind (arith, nat_tests, n, m, k))

@@ -188,15 +188,15 @@ laid_stand from start horizon (x ∷ xs) low room a some =
     ∙ ap (λ ws. quiet (m - from) ++ (ms ++ ws)) third
     ∙ sym (parts (m - from) x.message (laid e xs) (quiet_lines (horizon - last_end e xs)))
   where
-  parts : (n : ℕ) (message : Message) (others rest : List WaveLine)
-      → lines_wave (((quiet_lines n ++ message_lines message) ++ others) ++ rest) ≡ quiet n ++ (message_wave message ++ lines_wave (others ++ rest))
-  parts n message others rest =
-      ap lines_wave (append_assoc (quiet_lines n ++ message_lines message) others rest)
-      ∙ flat_map-append line_wave (quiet_lines n ++ message_lines message) (others ++ rest)
-      ∙ ap (λ ws. ws ++ lines_wave (others ++ rest)) (flat_map-append line_wave (quiet_lines n) (message_lines message))
-      ∙ ap (λ ws. (ws ++ lines_wave (message_lines message)) ++ lines_wave (others ++ rest)) (quiet_stand n)
-      ∙ ap (λ ws. (quiet n ++ ws) ++ lines_wave (others ++ rest)) (message_stand message)
-      ∙ append_assoc (quiet n) (message_wave message) (lines_wave (others ++ rest))
+    parts : (n : ℕ) (message : Message) (others rest : List WaveLine)
+        → lines_wave (((quiet_lines n ++ message_lines message) ++ others) ++ rest) ≡ quiet n ++ (message_wave message ++ lines_wave (others ++ rest))
+    parts n message others rest =
+        ap lines_wave (append_assoc (quiet_lines n ++ message_lines message) others rest)
+        ∙ flat_map-append line_wave (quiet_lines n ++ message_lines message) (others ++ rest)
+        ∙ ap (λ ws. ws ++ lines_wave (others ++ rest)) (flat_map-append line_wave (quiet_lines n) (message_lines message))
+        ∙ ap (λ ws. (ws ++ lines_wave (message_lines message)) ++ lines_wave (others ++ rest)) (quiet_stand n)
+        ∙ ap (λ ws. (quiet n ++ ws) ++ lines_wave (others ++ rest)) (message_stand message)
+        ∙ append_assoc (quiet n) (message_wave message) (lines_wave (others ++ rest))
 
 -- ---- the form of the lines
 unquiet : (lines : List WaveLine) → AreLines true lines → AreLines false lines

@@ -1,10 +1,15 @@
 -- What a call answered for a text or a line: what that reads as, unless memory ran out.
-use Rattle.std.specs.Prelude.{◌≡◌, Result, Ok, Err}
+use Rattle.std.specs.Prelude.{◌≡◌, ℕ, Result, Ok, Err}
+use Rattle.std.specs.Global.{Vec}
+use Rattle.bus_strings.specs.Messages.{Entry}
+use Rattle.bus_table.specs.Tables.{Table}
+use Rattle.bus_trace.specs.Traces.{Recording}
 use Rattle.bus_wave.specs.declared.fault.WaveReason.{WaveReason}
 use Rattle.bus_wave.specs.declared.fault.LineFault.{LineFault}
 use Rattle.bus_wave.specs.declared.fault.LineFault.TheVariants as line
 use Rattle.bus_wave.specs.declared.fault.WaveError.{WaveError}
 use Rattle.bus_wave.specs.declared.fault.WaveError.TheVariants.{Text, Memory}
+use Rattle.bus_wave.specs.Counted.{holds_of}
 use Rattle.bus_wave.specs.Reading.{WaveRefusal}
 
 -- a refusal is that of the reading; want of memory says nothing of it
@@ -26,3 +31,13 @@ LineFails (line.Refused reason) reading = reading ≡ Err reason
 abbrev pub StepGives : {Y : Type 0} → Y → Result (Unit {0}) LineFault → Result Y WaveReason → Type 0
 StepGives new (Ok u) reading = reading ≡ Ok new
 StepGives new (Err fault) reading = LineFails fault reading
+
+-- the error of a line that wasn't taken
+abbrev pub fault_at : ℕ → LineFault → WaveError
+fault_at number (line.Refused reason) = Text number reason
+fault_at number line.Memory = Memory
+
+-- the bit times and the transmissions of a trace are those of the reading
+abbrev pub PartsGive : Table → Result (ℕ × Vec Entry) WaveError → Result Recording WaveRefusal → Type 0
+PartsGive table (Ok parts) reading = reading ≡ Ok (record { horizon = parts.0; holds = holds_of table parts.1.items; list = parts.1.items })
+PartsGive table (Err error) reading = Fails error reading

@@ -81,12 +81,24 @@ quiet_behind s n x [] = Ok (record { at = s.at + n; list = s.list ++ x ∷ []; p
 quiet_behind s n x (next ∷ left) =
     if n == inner_gap then Ok (record { at = s.at + n; list = s.list; phase = Waiting x next left }) else Err Order
 
+-- the same, unless it goes too far
+abbrev pub quiet_bounded : State → ℕ → Entry → List SendLine → Result State WaveReason
+quiet_bounded s n x left = quiet_behind s n x left >>= bounded
+
+-- quiet behind these data words of a wordstring of x
+abbrev pub pause_step : State → ℕ → Entry → SendLine → List ℕ → List SendLine → Result State WaveReason
+pause_step s n x line words left =
+    if nat_lt (length words) line.least then Err Order else quiet_behind s n (with_string x (string_of line words)) left
+
+-- the same, unless it goes too far
+abbrev pub pause_bounded : State → ℕ → Entry → SendLine → List ℕ → List SendLine → Result State WaveReason
+pause_bounded s n x line words left = pause_step s n x line words left >>= bounded
+
 -- so many quiet bit times, of which there is one, behind a phase
 abbrev pub quiet_step : Phase → State → ℕ → Result State WaveReason
 quiet_step Opened s n = Ok (record { at = s.at + n; list = s.list; phase = Silent true })
 quiet_step (Silent free) s n = Err Order
-quiet_step (Saying x line words left) s n =
-    if nat_lt (length words) line.least then Err Order else quiet_behind s n (with_string x (string_of line words)) left
+quiet_step (Saying x line words left) s n = pause_step s n x line words left
 quiet_step (Waiting x next left) s n = Err Order
 quiet_step Closed s n = Err Order
 
@@ -118,13 +130,25 @@ begin_step s (Some sender) = Ok (record {
   phase = begun (record { moment = s.at; terminal = sender.number; message = [] }) sender.sends;
 })
 
+-- the same, unless it goes too far
+abbrev pub begin_bounded : State → Option Sender → Result State WaveReason
+begin_bounded s sender = begin_step s sender >>= bounded
+
+-- a label word behind the wordstrings of x, where that of `next` has to come
+abbrev pub next_step : State → ℕ → Entry → SendLine → List SendLine → Result State WaveReason
+next_step s value x next left =
+    if is_label_of value next then Ok (record { at = s.at + word_bits; list = s.list; phase = Saying x next [] left }) else Err Order
+
+-- the same, unless it goes too far
+abbrev pub next_bounded : State → ℕ → Entry → SendLine → List SendLine → Result State WaveReason
+next_bounded s value x next left = next_step s value x next left >>= bounded
+
 -- a label word behind a phase
 abbrev pub label_step : List Sender → Phase → State → ℕ → Result State WaveReason
 label_step senders Opened s value = begin_step s (beginner senders value)
 label_step senders (Silent free) s value = if free then begin_step s (beginner senders value) else Err Order
 label_step senders (Saying x line words left) s value = Err Order
-label_step senders (Waiting x next left) s value =
-    if is_label_of value next then Ok (record { at = s.at + word_bits; list = s.list; phase = Saying x next [] left }) else Err Order
+label_step senders (Waiting x next left) s value = next_step s value x next left
 label_step senders Closed s value = Err Order
 
 -- ---- a data word
@@ -145,12 +169,19 @@ abbrev pub end_behind : State → Entry → List SendLine → Result State WaveR
 end_behind s x [] = Ok (record { at = s.at; list = s.list ++ x ∷ []; phase = Closed })
 end_behind s x (next ∷ left) = Err Order
 
+-- the end behind these data words of a wordstring of x
+abbrev pub last_step : State → Entry → SendLine → List ℕ → List SendLine → Result State WaveReason
+last_step s x line words left = if nat_lt (length words) line.least then Err Order else end_behind s (with_string x (string_of line words)) left
+
+-- the same, which goes no further
+abbrev pub last_bounded : State → Entry → SendLine → List ℕ → List SendLine → Result State WaveReason
+last_bounded s x line words left = last_step s x line words left >>= bounded
+
 -- the end behind a phase
 abbrev pub end_step : Phase → State → Result State WaveReason
 end_step Opened s = Ok (record { at = s.at; list = s.list; phase = Closed })
 end_step (Silent free) s = Ok (record { at = s.at; list = s.list; phase = Closed })
-end_step (Saying x line words left) s =
-    if nat_lt (length words) line.least then Err Order else end_behind s (with_string x (string_of line words)) left
+end_step (Saying x line words left) s = last_step s x line words left
 end_step (Waiting x next left) s = Err Order
 end_step Closed s = Err Order
 

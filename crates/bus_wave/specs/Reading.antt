@@ -4,7 +4,7 @@ use Rattle.std.specs.Prelude.{ℕ, ◌+◌, Bool, true, false, ◌&&◌, ◌==�
 use Rattle.std.specs.List.{slice_split}
 use Rattle.bus_text.specs.AllOf.{◌>>=◌}
 use Rattle.bus_text.specs.Lines.{is_feed}
-use Rattle.bus_table.specs.Tables.{Table}
+use Rattle.bus_table.specs.Tables.{Sender, Table}
 use Rattle.bus_trace.specs.Traces.{Recording}
 use Rattle.bus_wave.specs.declared.fault.WaveReason.{WaveReason}
 use Rattle.bus_wave.specs.declared.fault.WaveReason.TheVariants.{Ended, Keyword}
@@ -31,9 +31,8 @@ is_closed (Waiting x next left) = false
 is_closed Closed = true
 
 -- the state after one line more; none stands behind END
-unfoldable pub judge : Table → State → List ℕ → Result State WaveReason
-judge table s line =
-    if is_closed s.phase then Err Keyword else symbol_reading (fields_of line) >>= step table.senders s
+unfoldable pub judge : List Sender → State → List ℕ → Result State WaveReason
+judge senders s line = if is_closed s.phase then Err Keyword else symbol_reading (fields_of line) >>= step senders s
 
 -- the trace of complete lines
 abbrev pub recorded : Table → State → Recording
@@ -49,7 +48,7 @@ unfoldable pub pieces_reading : Table → ℕ → State → List (List ℕ) → 
 pieces_reading table number s [] = ended table number s []
 pieces_reading table number s (rest ∷ []) = ended table number s rest
 pieces_reading table number s (line ∷ next ∷ pieces) =
-    at_line number (judge table s line) >>= λ now. pieces_reading table (number + 1) now (next ∷ pieces)
+    at_line number (judge table.senders s line) >>= λ now. pieces_reading table (number + 1) now (next ∷ pieces)
 
 -- what the pieces of a text read as
 unfoldable pub text_reading : Table → List (List ℕ) → Result Recording WaveRefusal

@@ -35,11 +35,13 @@ WavesReadBack =
     (table : Table) (t : Recording) (text : List ℕ) → IsTrue (is_valid table) → IsWaveTrace table t → IsWaveText t text
     → wave_reading table text ≡ Ok t
 
--- What reads as a trace is its wave text, and the trace is spaced.
+-- A trace that is read from a text: the text is its wave text, and has no fewer bytes than the trace has entries.
 pub record IsRead (table : Table) (t : Recording) (text : List ℕ) : Type 0 where
   pub trace : IsWaveTrace table t
   pub is_text : IsWaveText t text
+  pub few : length t.list ≤ length text
 
+-- What reads as a trace is its wave text.
 abbrev pub ReadsOnlyWaves : Type 0
 ReadsOnlyWaves = (table : Table) (t : Recording) (text : List ℕ) → IsTrue (is_valid table) → length text ≤ most_bytes
     → wave_reading table text ≡ Ok t

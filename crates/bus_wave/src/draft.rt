@@ -1,7 +1,7 @@
-ghost use Rattle.std.specs.Prelude.{◌≡◌, ◌+◌, ◌*◌, ◌-◌, ◌<◌, ◌≤◌, ◌&&◌, ◌==◌, ◌++◌, ◌∷◌, [], true, false, length, find, IfOk, OnOk, vec_len};
+ghost use Rattle.std.specs.Prelude.{◌≡◌, ◌+◌, ◌*◌, ◌-◌, ◌/◌, ◌%◌, ◌<◌, ◌≤◌, ◌&&◌, ◌==◌, ◌++◌, ◌∷◌, [], true, false, length, find, IfOk, OnOk, vec_len, Some};
 ghost use Rattle.std.specs.List.{list_all, AllByRecursion};
 ghost use Rattle.std.specs.Option.{option_copied};
-ghost use Rattle.bus_words.specs.declared.word.Kind.TheVariants.{Label, Plain};
+ghost use Rattle.bus_words.specs.declared.word.Kind.TheVariants as kind;
 ghost use Rattle.bus_strings.specs.Limits.{horizon_limit, most_strings, most_terminal};
 ghost use Rattle.bus_table.specs.Ranges.{is_send_line};
 ghost use Rattle.bus_wave.specs.declared.symbol.Symbol.TheVariants.{Quiet, Sent, End};
@@ -10,10 +10,11 @@ ghost use Rattle.bus_wave.specs.Drafts.{Keeps, begun_of, state_of};
 ghost use Rattle.bus_wave.specs.Gives.{StepGives};
 ghost use Rattle.bus_wave.specs.Reading.{is_closed as closed_test};
 ghost use Rattle.bus_wave.specs.Judging as judging;
-ghost use Rattle.bus_wave.specs.Judging.{string_of, with_string, later as later_of, step, opening};
+ghost use Rattle.bus_wave.specs.Judging.{string_of, with_string, later as later_of, begin_bounded, next_bounded, quiet_bounded, pause_bounded, last_bounded, step, opening};
 
 use crate::fault::{LineFault, WaveReason};
 use crate::phase::Phase;
+use crate::spacing::LEAST_GAP;
 use crate::symbol::Symbol;
 use bus_strings::limits::{HORIZON_LIMIT, INNER_GAP, WORD_BITS};
 use bus_strings::message::Message;
@@ -21,8 +22,14 @@ use bus_strings::transmission::Transmission;
 use bus_strings::wordstring::Wordstring;
 use bus_table::line::SendLine;
 use bus_table::sender::Sender;
+use bus_words::label::{Ext, Label};
 use bus_words::word::{Kind, Word};
 use std::alloc::{AllocError, Global};
+use std::mem::replace;
+
+const WORD: u64 = WORD_BITS as u64;
+
+const GAP: u64 = INNER_GAP as u64;
 
 /// The least bit times of the wordstrings of SEND lines, each behind an inner gap.
 fn later(left: &[SendLine]) -> u64
@@ -32,16 +39,16 @@ fn later(left: &[SendLine]) -> u64
 {
     let mut bits = 0;
     for line in left {
-        bits += u64::from(INNER_GAP) + u64::from(WORD_BITS) * (1 + u64::from(line.least));
+        bits += GAP + WORD * (1 + u64::from(line.least));
     }
     bits
 }
 
-/// Whether a label word is that of a SEND line.
-fn is_label_of(value: u16, line: SendLine) -> bool
-    ensures { result ≡ judging.is_label_of value line }
+/// Whether a label word is that of a label and an extension.
+fn is_label_of(value: u16, label: Label, ext: Ext) -> bool
+    ensures { result ≡ (value / 16 == label && value % 16 == ext) }
 {
-    value / 16 == line.label.value() && value % 16 == u16::from(line.ext.value())
+    value / 16 == label.value() && value % 16 == u16::from(ext.value())
 }
 
 /// Whether a label word is that of the first of these SEND lines.
@@ -49,7 +56,7 @@ fn begins(value: u16, sends: &[SendLine]) -> bool
     ensures { result ≡ judging.begins value sends.now }
 {
     match sends.first() {
-        Some(line) => is_label_of(value, *line),
+        Some(line) => is_label_of(value, line.label, line.ext),
         None => false,
     }
 }
@@ -110,8 +117,8 @@ impl<'t> Draft<'t> {
 
     /// The bit times, and the transmissions.
     pub(crate) fn into_parts(self) -> (u64, Vec<Transmission>)
-        ensures at { result.0 ≡ self.at }
-        ensures list { result.1.items ≡ self.list.items }
+        ensures at { result.0 ≡ self.entry.at }
+        ensures list { result.1.items ≡ self.entry.list.items }
     {
         (self.at, self.list)
     }
@@ -119,27 +126,363 @@ impl<'t> Draft<'t> {
     // Takes a data word.
     fn take_data(&mut self, senders: &'t [Sender], value: u16) -> Result<(), LineFault>
         requires { Keeps self.old }
-        ensures gives { StepGives (state_of self.new) result (step senders.now (state_of self.old) (Sent (record { kind = Plain; value = value }))) }
+        ensures gives { StepGives (state_of self.new) result (step senders.now (state_of self.old) (Sent (record { kind = kind.Plain; value = value }))) }
         ensures keeps { OnOk result (Keeps self.new) }
     {
         match self.phase {
             Phase::Opened => Err(LineFault::Refused(WaveReason::Order)),
             Phase::Silent { free: _ } => Err(LineFault::Refused(WaveReason::Order)),
-            Phase::Waiting { next: _, left: _, later: _ } => Err(LineFault::Refused(WaveReason::Order)),
+            Phase::Waiting {
+                next: _,
+                left: _,
+                later: _,
+            } => Err(LineFault::Refused(WaveReason::Order)),
             Phase::Closed => Err(LineFault::Refused(WaveReason::Order)),
-            Phase::Saying { line, left: _, later } => {
+            Phase::Saying {
+                line,
+                left: _,
+                later,
+            } => {
                 let count = self.words.len();
                 if count >= usize::from(line.most) {
                     return Err(LineFault::Refused(WaveReason::Order));
                 }
                 let missing = u64::from(line.least).saturating_sub(count as u64 + 1);
-                if self.at + 20 + 20 * missing + later > HORIZON_LIMIT {
+                if self.at + WORD + WORD * missing + later > HORIZON_LIMIT {
                     return Err(LineFault::Refused(WaveReason::Range));
                 }
                 self.words.push(value)?;
-                self.at += 20;
+                self.at += WORD;
                 Ok(())
             }
+        }
+    }
+
+    // Begins a message of a sender with its first label word.
+    fn begin(&mut self, alloc: Global, sender: &'t Sender) -> Result<(), LineFault>
+        requires { Keeps self.old }
+        ensures gives { StepGives (state_of self.new) result (begin_bounded (state_of self.old) (Some sender.now)) }
+        ensures keeps { OnOk result (Keeps self.new) }
+    {
+        let sends = sender.sends();
+        let (line, left) = (sends[0], sends.split_at(1).1);
+        let later = later(left);
+        if self.at + WORD + WORD * u64::from(line.least) + later > HORIZON_LIMIT {
+            return Err(LineFault::Refused(WaveReason::Range));
+        }
+        self.strings = Vec::with_capacity(alloc, sends.len())?;
+        self.words.clear();
+        self.moment = self.at;
+        self.terminal = sender.number();
+        self.at += WORD;
+        self.phase = Phase::Saying { line, left, later };
+        Ok(())
+    }
+
+    // Takes a label word with which a message begins.
+    fn take_first(
+        &mut self,
+        alloc: Global,
+        senders: &'t [Sender],
+        value: u16,
+    ) -> Result<(), LineFault>
+        requires { Keeps self.old }
+        ensures gives { StepGives (state_of self.new) result (begin_bounded (state_of self.old) (judging.beginner senders.now value)) }
+        ensures keeps { OnOk result (Keeps self.new) }
+    {
+        match beginner(senders, value) {
+            Some(sender) => self.begin(alloc, sender),
+            None => Err(LineFault::Refused(WaveReason::Order)),
+        }
+    }
+
+    // Takes a label word behind the Q line behind a wordstring: `next` is the SEND line whose label word has to come.
+    fn take_next(
+        &mut self,
+        value: u16,
+        next: SendLine,
+        left: &'t [SendLine],
+        later: u64,
+    ) -> Result<(), LineFault>
+        requires keeps { Keeps self.old }
+        requires phase { self.old.phase ≡ Phase.Waiting next left later }
+        ensures gives { StepGives (state_of self.new) result (next_bounded (state_of self.old) value (begun_of self.old) next left.now) }
+        ensures keeps { OnOk result (Keeps self.new) }
+    {
+        if !is_label_of(value, next.label, next.ext) {
+            return Err(LineFault::Refused(WaveReason::Order));
+        }
+        self.words.clear();
+        self.at += WORD;
+        self.phase = Phase::Saying {
+            line: next,
+            left,
+            later,
+        };
+        Ok(())
+    }
+
+    // Takes a label word.
+    fn take_label(
+        &mut self,
+        alloc: Global,
+        senders: &'t [Sender],
+        value: u16,
+    ) -> Result<(), LineFault>
+        requires { Keeps self.old }
+        ensures gives { StepGives (state_of self.new) result (step senders.now (state_of self.old) (Sent (record { kind = kind.Label; value = value }))) }
+        ensures keeps { OnOk result (Keeps self.new) }
+    {
+        match self.phase {
+            Phase::Opened => self.take_first(alloc, senders, value),
+            Phase::Silent { free } => {
+                if free {
+                    self.take_first(alloc, senders, value)
+                } else {
+                    Err(LineFault::Refused(WaveReason::Order))
+                }
+            }
+            Phase::Waiting { next, left, later } => self.take_next(value, next, left, later),
+            Phase::Saying {
+                line: _,
+                left: _,
+                later: _,
+            } => Err(LineFault::Refused(WaveReason::Order)),
+            Phase::Closed => Err(LineFault::Refused(WaveReason::Order)),
+        }
+    }
+
+    // Completes the wordstring of a SEND line.
+    fn keep_string(&mut self, alloc: Global, line: SendLine) -> Result<(), AllocError>
+        requires { length self.old.words.items ≤ 256 }
+        ensures string { OnOk result (begun_of self.new ≡ with_string (begun_of self.old) (string_of line self.old.words.items)) }
+        ensures list { OnOk result (self.new.list.items ≡ self.old.list.items) }
+        ensures at { OnOk result (self.new.at ≡ self.old.at) }
+    {
+        let string = wordstring(alloc, line, &self.words)?;
+        self.strings.push(string)?;
+        Ok(())
+    }
+
+    // Completes the message with the wordstring of its last SEND line.
+    fn close(&mut self, alloc: Global, line: SendLine) -> Result<(), AllocError>
+        requires words { length self.old.words.items ≤ 256 }
+        requires strings { length self.old.strings.items < most_strings }
+        requires low { 1 ≤ self.old.terminal }
+        requires high { self.old.terminal ≤ most_terminal }
+        requires moment { self.old.moment < horizon_limit }
+        ensures list { OnOk result (self.new.list.items
+            ≡ self.old.list.items ++ with_string (begun_of self.old) (string_of line self.old.words.items) ∷ []) }
+        ensures at { OnOk result (self.new.at ≡ self.old.at) }
+    {
+        self.keep_string(alloc, line)?;
+        let strings = replace(&mut self.strings, Vec::new(alloc));
+        let message = Message::new(strings).unwrap();
+        self.list.push(Transmission {
+            moment: self.moment,
+            terminal: self.terminal,
+            message,
+        })?;
+        Ok(())
+    }
+
+    // Takes quiet bit times behind the last wordstring of a message, which its words may end.
+    fn take_silence(
+        &mut self,
+        alloc: Global,
+        bit_times: u64,
+        line: SendLine,
+        left: &'t [SendLine],
+        later: u64,
+    ) -> Result<(), LineFault>
+        requires keeps { Keeps self.old }
+        requires phase { self.old.phase ≡ Phase.Saying line left later }
+        requires last { left.now ≡ [] }
+        ensures gives { StepGives (state_of self.new) result
+            (quiet_bounded (state_of self.old) bit_times (with_string (begun_of self.old) (string_of line self.old.words.items)) left.now) }
+        ensures keeps { OnOk result (Keeps self.new) }
+    {
+        if bit_times > HORIZON_LIMIT - self.at {
+            return Err(LineFault::Refused(WaveReason::Range));
+        }
+        self.close(alloc, line)?;
+        self.at += bit_times;
+        self.phase = Phase::Silent {
+            free: bit_times >= LEAST_GAP,
+        };
+        Ok(())
+    }
+
+    // Takes quiet bit times behind a wordstring that isn't the last of its message, which its words may end.
+    fn take_gap(
+        &mut self,
+        alloc: Global,
+        bit_times: u64,
+        line: SendLine,
+        left: &'t [SendLine],
+        later: u64,
+    ) -> Result<(), LineFault>
+        requires keeps { Keeps self.old }
+        requires phase { self.old.phase ≡ Phase.Saying line left later }
+        requires some { 0 < length left.now }
+        requires least { line.least ≤ length self.old.words.items }
+        ensures gives { StepGives (state_of self.new) result
+            (quiet_bounded (state_of self.old) bit_times (with_string (begun_of self.old) (string_of line self.old.words.items)) left.now) }
+        ensures keeps { OnOk result (Keeps self.new) }
+    {
+        if bit_times != GAP {
+            return Err(LineFault::Refused(WaveReason::Order));
+        }
+        let (next, others) = (left[0], left.split_at(1).1);
+        let rest = later - GAP - WORD * (1 + u64::from(next.least));
+        self.keep_string(alloc, line)?;
+        self.at += GAP;
+        self.phase = Phase::Waiting {
+            next,
+            left: others,
+            later: rest,
+        };
+        Ok(())
+    }
+
+    // Takes quiet bit times within a message.
+    fn take_pause(
+        &mut self,
+        alloc: Global,
+        bit_times: u64,
+        line: SendLine,
+        left: &'t [SendLine],
+        later: u64,
+    ) -> Result<(), LineFault>
+        requires keeps { Keeps self.old }
+        requires phase { self.old.phase ≡ Phase.Saying line left later }
+        ensures gives { StepGives (state_of self.new) result (pause_bounded (state_of self.old) bit_times (begun_of self.old) line self.old.words.items left.now) }
+        ensures keeps { OnOk result (Keeps self.new) }
+    {
+        if self.words.len() < usize::from(line.least) {
+            return Err(LineFault::Refused(WaveReason::Order));
+        }
+        if left.is_empty() {
+            self.take_silence(alloc, bit_times, line, left, later)
+        } else {
+            self.take_gap(alloc, bit_times, line, left, later)
+        }
+    }
+
+    // Takes a Q line.
+    fn take_quiet(
+        &mut self,
+        alloc: Global,
+        senders: &'t [Sender],
+        bit_times: u64,
+    ) -> Result<(), LineFault>
+        requires { Keeps self.old }
+        ensures gives { StepGives (state_of self.new) result (step senders.now (state_of self.old) (Quiet bit_times)) }
+        ensures keeps { OnOk result (Keeps self.new) }
+    {
+        if bit_times == 0 {
+            return Err(LineFault::Refused(WaveReason::Range));
+        }
+        match self.phase {
+            Phase::Opened => {
+                if bit_times > HORIZON_LIMIT - self.at {
+                    return Err(LineFault::Refused(WaveReason::Range));
+                }
+                self.at += bit_times;
+                self.phase = Phase::Silent { free: true };
+                Ok(())
+            }
+            Phase::Silent { free: _ } => Err(LineFault::Refused(WaveReason::Order)),
+            Phase::Saying { line, left, later } => self.take_pause(
+                alloc, bit_times, line, left, later,
+            ),
+            Phase::Waiting {
+                next: _,
+                left: _,
+                later: _,
+            } => Err(LineFault::Refused(WaveReason::Order)),
+            Phase::Closed => Err(LineFault::Refused(WaveReason::Order)),
+        }
+    }
+
+    // Takes the end behind a wordstring, where its message is whole.
+    fn take_last(
+        &mut self,
+        alloc: Global,
+        line: SendLine,
+        left: &'t [SendLine],
+        later: u64,
+    ) -> Result<(), LineFault>
+        requires keeps { Keeps self.old }
+        requires phase { self.old.phase ≡ Phase.Saying line left later }
+        ensures gives { StepGives (state_of self.new) result (last_bounded (state_of self.old) (begun_of self.old) line self.old.words.items left.now) }
+        ensures keeps { OnOk result (Keeps self.new) }
+    {
+        if self.words.len() < usize::from(line.least) || !left.is_empty() {
+            return Err(LineFault::Refused(WaveReason::Order));
+        }
+        self.close(alloc, line)?;
+        self.phase = Phase::Closed;
+        Ok(())
+    }
+
+    // Takes the last line.
+    fn take_end(&mut self, alloc: Global, senders: &'t [Sender]) -> Result<(), LineFault>
+        requires { Keeps self.old }
+        ensures gives { StepGives (state_of self.new) result (step senders.now (state_of self.old) End) }
+        ensures keeps { OnOk result (Keeps self.new) }
+    {
+        match self.phase {
+            Phase::Opened => {
+                self.phase = Phase::Closed;
+                Ok(())
+            }
+            Phase::Silent { free: _ } => {
+                self.phase = Phase::Closed;
+                Ok(())
+            }
+            Phase::Saying { line, left, later } => self.take_last(alloc, line, left, later),
+            Phase::Waiting {
+                next: _,
+                left: _,
+                later: _,
+            } => Err(LineFault::Refused(WaveReason::Order)),
+            Phase::Closed => Err(LineFault::Refused(WaveReason::Order)),
+        }
+    }
+
+    /// Takes a symbol. After an error the draft is of no use.
+    pub(crate) fn take(
+        &mut self,
+        alloc: Global,
+        senders: &'t [Sender],
+        symbol: Symbol,
+    ) -> Result<(), LineFault>
+        requires { Keeps self.old }
+        ensures gives { StepGives (state_of self.new) result (step senders.now (state_of self.old) symbol) }
+        ensures keeps { OnOk result (Keeps self.new) }
+    {
+        match symbol {
+            Symbol::Quiet(bit_times) => self.take_quiet(alloc, senders, bit_times),
+            Symbol::Sent(word) => self.take_word(alloc, senders, word),
+            Symbol::End => self.take_end(alloc, senders),
+        }
+    }
+
+    // Takes a word.
+    fn take_word(
+        &mut self,
+        alloc: Global,
+        senders: &'t [Sender],
+        word: Word,
+    ) -> Result<(), LineFault>
+        requires { Keeps self.old }
+        ensures gives { StepGives (state_of self.new) result (step senders.now (state_of self.old) (Sent word)) }
+        ensures keeps { OnOk result (Keeps self.new) }
+    {
+        match word.kind {
+            Kind::Label => self.take_label(alloc, senders, word.value),
+            Kind::Plain => self.take_data(senders, word.value),
         }
     }
 }

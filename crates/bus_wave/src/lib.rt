@@ -12,13 +12,16 @@
 mod code;
 mod draft;
 pub mod fault;
+mod holds;
 pub mod laws;
 mod phase;
 mod pieces;
+pub mod reading;
 pub mod spacing;
 mod symbol;
 pub mod writing;
 
 pub use fault::{WaveError, WaveFault, WaveReason};
+pub use reading::read_wave;
 pub use spacing::spaced;
 pub use writing::write_wave;

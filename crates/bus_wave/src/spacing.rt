@@ -17,7 +17,7 @@ use bus_trace::trace::Trace;
 pub const LEAST_GAP: u64 = 8;
 
 /// The sender with this number.
-fn sender_of(senders: &[Sender], number: u8) -> Option<&Sender>
+pub(crate) fn sender_of(senders: &[Sender], number: u8) -> Option<&Sender>
     ensures { option_copied result ≡ fits.sender_of senders.now number }
 {
     senders.iter().find(|sender| sender.number() == number)
@@ -86,12 +86,9 @@ fn fault_of(
     None
 }
 
-/// Whether a trace is spaced for a table: each entry is of a sender and fits it, each but the first starts at least 8 bit times behind the
-/// end of the one before it, and each ends at or before the horizon. Else the first entry with which something is wrong, from 0, and what.
-/// It takes no memory.
-pub fn spaced(table: &Table, trace: &Trace) -> Result<(), WaveFault>
-    ensures ok { IsOk result ↔ IsSpaced table.now trace.now }
-    ensures exact { result ≡ spaced_of table.now trace.now }
+/// The first entry of a trace with which something is wrong, and what.
+fn first_fault(table: &Table, trace: &Trace) -> Result<(), WaveFault>
+    ensures { result ≡ spaced_of table.now trace.now }
 {
     let (senders, horizon) = (table.senders(), trace.horizon());
     let (mut from, mut k) = (0, 0);
@@ -103,4 +100,14 @@ pub fn spaced(table: &Table, trace: &Trace) -> Result<(), WaveFault>
         k += 1;
     }
     Ok(())
+}
+
+/// Whether a trace is spaced for a table: each entry is of a sender and fits it, each but the first starts at least 8 bit times behind the
+/// end of the one before it, and each ends at or before the horizon. Else the first entry with which something is wrong, from 0, and what.
+/// It takes no memory.
+pub fn spaced(table: &Table, trace: &Trace) -> Result<(), WaveFault>
+    ensures ok { IsOk result ↔ IsSpaced table.now trace.now }
+    ensures exact { result ≡ spaced_of table.now trace.now }
+{
+    first_fault(table, trace)
 }

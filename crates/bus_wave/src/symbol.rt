@@ -10,9 +10,13 @@ use bus_text::numbers::plain_decimal;
 use bus_words::word::{Word, unframe};
 
 const WAVE: &[u8] = b"WAVE";
+
 const ONE: &[u8] = b"1";
+
 const WORD: &[u8] = b"W";
+
 const QUIET: &[u8] = b"Q";
+
 const END: &[u8] = b"END";
 
 /// What a line of a wave text behind the first says by itself.
@@ -54,7 +58,10 @@ fn second(line: &[u8]) -> Result<&[u8], WaveReason>
 fn is_alone(line: &[u8]) -> bool
     ensures { result ≡ (length (fields_of line.now) == 1) }
 {
-    cut(b' ', line).is_none()
+    match cut(b' ', line) {
+        None => true,
+        Some(_) => false,
+    }
 }
 
 /// What the second field of a W line says.

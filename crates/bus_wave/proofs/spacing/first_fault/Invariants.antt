@@ -1,6 +1,6 @@
 use Rattle.std.proofs.Common.{◌≡◌, ◌≤◌, ◌<◌, ◌^◌, drop}
 use Rattle.bus_wave.specs.Spacing.{spaced_from}
-use Rattle.bus_wave.proofs.spacing.spaced.Given as goal
+use Rattle.bus_wave.proofs.spacing.first_fault.Given as goal
 
 -- nothing is wrong with the entries so far
 abbrev pub invariant-loop-entry : goal.invariant-loop-entry
