@@ -19,6 +19,8 @@ mod pieces;
 pub mod reading;
 pub mod spacing;
 mod symbol;
+#[cfg(test)]
+mod tests;
 pub mod writing;
 
 pub use fault::{WaveError, WaveFault, WaveReason};
