@@ -1,7 +1,10 @@
--- What follows of waves and their texts. `laws::waves_tell_traces` says that each of these holds.
+-- What follows of waves and their texts. `laws` says that each of these holds.
 use Rattle.std.specs.Prelude.{◌≡◌, ◌≤◌, ◌-◌, ◌^◌, ℕ, List, length, IsTrue, Ok}
-use Rattle.bus_table.specs.Tables.{Table}
+use Rattle.bus_table.specs.Tables.{Table, Hand}
 use Rattle.bus_table.specs.Valid.{is_valid}
+use Rattle.bus_regime.specs.Verdicts.{verdict_of, is_accepted}
+use Rattle.bus_schedule.specs.Closed.{closed, closed_end}
+use Rattle.bus_schedule.specs.Even.{are_even}
 use Rattle.bus_trace.specs.Traces.{Recording, IsTrace}
 use Rattle.bus_wave.specs.Counted.{holds_of}
 use Rattle.bus_wave.specs.Reading.{wave_reading}
@@ -51,3 +54,9 @@ ReadsOnlyWaves = (table : Table) (t : Recording) (text : List ℕ) → IsTrue (i
 abbrev pub WavesTell : Type 0
 WavesTell =
     (table : Table) (t u : Recording) → IsTrue (is_valid table) → IsWaveTrace table t → IsWaveTrace table u → wave t ≡ wave u → t ≡ u
+
+-- The trace of a run is spaced: of an accepted table and even hands, the closed schedule up to the closed end.
+abbrev pub RunsAreSpaced : Type 0
+RunsAreSpaced =
+    (table : Table) (hands : List Hand) (t : Recording) → IsTrue (is_valid table) → IsTrue (is_accepted (verdict_of table))
+    → IsTrue (are_even table hands) → t.list ≡ closed table hands → t.horizon ≡ closed_end table hands → IsSpaced table t

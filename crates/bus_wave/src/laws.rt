@@ -1,5 +1,7 @@
 //! Laws of the definitions, each the contract of a function that does nothing.
-ghost use Rattle.bus_wave.specs.WaveLaws.{SpacedHaveTexts, WavesReadBack, ReadsOnlyWaves, WavesTell};
+ghost use Rattle.bus_wave.specs.WaveLaws.{SpacedHaveTexts, WavesReadBack, ReadsOnlyWaves, WavesTell, RunsAreSpaced};
+
+use bus_schedule::laws::gaps_are_left;
 
 /// What follows of waves and their texts: laws, with no work in the built program.
 pub fn waves_tell_traces()
@@ -8,3 +10,11 @@ pub fn waves_tell_traces()
     ensures only { ReadsOnlyWaves }
     ensures tell { WavesTell }
 {}
+
+/// The trace of a run is spaced: of an accepted table in either mode and even hands, of any length, the closed schedule up to the
+/// closed end.
+pub fn runs_are_spaced()
+    ensures { RunsAreSpaced }
+{
+    gaps_are_left();
+}
