@@ -7,6 +7,7 @@ mod LeadLemmas
 mod LineLemmas
 mod ListLeads
 mod ReadLemmas
+mod RunHolds
 mod RunLemmas
 mod SoundLemmas
 mod SpacingLemmas

@@ -99,3 +99,6 @@ pub is_spaced : (table : Table) (t : Recording) (r : Result (Unit {0}) WaveFault
 is_spaced table t (Ok u) h =
     (λ _. (let p = spaced_parts table t.horizon 0 0 t.list u (sym h) in record { senders = p.0; apart = p.1 }), λ _. refl)
 is_spaced table t (Err fault) h = (λ e. absurd (cc), λ s. absurd (let k = parts_spaced table t.horizon 0 0 t.list s.senders s.apart in cc))
+
+pub spaced_passes : (table : Table) (t : Recording) → IsSpaced table t → spaced_of table t ≡ Ok tt
+spaced_passes table t s = parts_spaced table t.horizon 0 0 t.list s.senders s.apart

@@ -1,8 +1,9 @@
 -- The holds of a trace that is read from a wave: one for each sender, with the number of its entries.
-use Rattle.std.specs.Prelude.{ℕ, ◌==◌, Bool, true, false, is_some, List, count_by, Option, Some, None, if◌then◌else◌}
-use Rattle.std.specs.List.{filter_map, range_with_len}
+use Rattle.std.specs.Prelude.{ℕ, ◌==◌, Bool, true, false, is_some, List, length, count_by, Option, Some, None, if◌then◌else◌}
+use Rattle.std.specs.List.{find, filter_map, range_with_len}
+use Rattle.std.specs.Option.{option_map}
 use Rattle.bus_strings.specs.Messages.{Entry}
-use Rattle.bus_table.specs.Tables.{Sender, Table}
+use Rattle.bus_table.specs.Tables.{Sender, Table, Hand}
 use Rattle.bus_table.specs.Fits.{sender_of}
 use Rattle.bus_trace.specs.declared.hold.Hold.{Hold}
 
@@ -18,3 +19,12 @@ hold_at senders list number =
 -- the holds of the senders of a table, by rising number
 unfoldable pub holds_of : Table → List Entry → List Hold
 holds_of table list = filter_map (hold_at table.senders list) (range_with_len 1 128)
+
+-- the hold of the hand of the terminal with a number, where there is one: how many messages it has
+abbrev pub hand_hold : List Hand → ℕ → Option Hold
+hand_hold hands number =
+    option_map (λ hand. record { terminal = hand.terminal; count = length hand.messages }) (find (λ hand. hand.terminal == number) hands)
+
+-- the holds of hands, by rising number
+unfoldable pub hand_holds : List Hand → List Hold
+hand_holds hands = filter_map (hand_hold hands) (range_with_len 1 128)

@@ -39,11 +39,12 @@ abbrev pub code_digits : ℕ → ℕ → List ℕ
 code_digits zero n = []
 code_digits (suc count) n = code_digits count (n / 4) ++ code_digit (n % 4) ∷ []
 
--- the first digit of a kind, and the second of a kind and the highest bit
+-- the first digit of a kind
 abbrev pub first_digit : Kind → ℕ
 first_digit Label = 69
 first_digit Plain = 49
 
+-- the second digit of a kind and of the highest bit
 abbrev pub second_digit : Kind → ℕ → ℕ
 second_digit Label bit = if bit == 0 then 49 else 50
 second_digit Plain bit = if bit == 0 then 68 else 69

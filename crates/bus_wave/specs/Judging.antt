@@ -171,7 +171,8 @@ end_behind s x (next ∷ left) = Err Order
 
 -- the end behind these data words of a wordstring of x
 abbrev pub last_step : State → Entry → SendLine → List ℕ → List SendLine → Result State WaveReason
-last_step s x line words left = if nat_lt (length words) line.least then Err Order else end_behind s (with_string x (string_of line words)) left
+last_step s x line words left =
+    if nat_lt (length words) line.least then Err Order else end_behind s (with_string x (string_of line words)) left
 
 -- the same, which goes no further
 abbrev pub last_bounded : State → Entry → SendLine → List ℕ → List SendLine → Result State WaveReason

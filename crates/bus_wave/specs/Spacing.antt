@@ -1,4 +1,4 @@
--- Spaced traces: those that have a wave text from which they are read again.
+-- Spaced traces: those whose transmissions and horizon are read again from their wave text.
 --   entry k is told by its number, from 0
 use Rattle.std.specs.Prelude.{◌≡◌, ℕ, ◌+◌, ◌≤◌, Bool, true, false, not, nat_lt, List, [], ◌∷◌, Option, Some, None, Result, Ok, is_none}
 use Rattle.std.specs.List.{AllByRecursion}

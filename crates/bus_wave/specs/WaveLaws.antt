@@ -1,12 +1,13 @@
 -- What follows of waves and their texts. `laws` says that each of these holds.
-use Rattle.std.specs.Prelude.{◌≡◌, ◌≤◌, ◌-◌, ◌^◌, ℕ, List, length, IsTrue, Ok}
+use Rattle.std.specs.Prelude.{◌≡◌, ◌≤◌, ◌-◌, ◌^◌, ℕ, List, length, IsTrue, Result, Ok}
 use Rattle.bus_table.specs.Tables.{Table, Hand}
 use Rattle.bus_table.specs.Valid.{is_valid}
 use Rattle.bus_regime.specs.Verdicts.{verdict_of, is_accepted}
 use Rattle.bus_schedule.specs.Closed.{closed, closed_end}
 use Rattle.bus_schedule.specs.Even.{are_even}
 use Rattle.bus_trace.specs.Traces.{Recording, IsTrace}
-use Rattle.bus_wave.specs.Counted.{holds_of}
+use Rattle.bus_wave.specs.declared.fault.WaveFault.{WaveFault}
+use Rattle.bus_wave.specs.Counted.{holds_of, hand_holds}
 use Rattle.bus_wave.specs.Reading.{wave_reading}
 use Rattle.bus_wave.specs.Spacing.{IsSpaced}
 use Rattle.bus_wave.specs.Waves.{wave}
@@ -60,3 +61,22 @@ abbrev pub RunsAreSpaced : Type 0
 RunsAreSpaced =
     (table : Table) (hands : List Hand) (t : Recording) → IsTrue (is_valid table) → IsTrue (is_accepted (verdict_of table))
     → IsTrue (are_even table hands) → t.list ≡ closed table hands → t.horizon ≡ closed_end table hands → IsSpaced table t
+
+-- The answer for a trace of a table is Ok where the trace is that of a run.
+abbrev pub PassesRuns : Table → Recording → Result (Unit {0}) WaveFault → Type 0
+PassesRuns table t answer =
+    (hands : List Hand) → IsTrue (is_accepted (verdict_of table)) → IsTrue (are_even table hands) → t.list ≡ closed table hands
+    → t.horizon ≡ closed_end table hands → answer ≡ Ok tt
+
+-- The recording of a run: the closed schedule of the hands up to the closed end, and one HOLD for each hand, with the number of its
+-- messages.
+pub record IsRunOf (table : Table) (hands : List Hand) (t : Recording) : Type 0 where
+  pub list : t.list ≡ closed table hands
+  pub horizon : t.horizon ≡ closed_end table hands
+  pub holds : t.holds ≡ hand_holds hands
+
+-- The recording of a run is a trace that is read from a wave text: its HOLDs have the numbers of its entries.
+abbrev pub RunsAreWaveTraces : Type 0
+RunsAreWaveTraces =
+    (table : Table) (hands : List Hand) (t : Recording) → IsTrue (is_valid table) → IsTrue (is_accepted (verdict_of table))
+    → IsTrue (are_even table hands) → IsTrace t → IsRunOf table hands t → IsWaveTrace table t

@@ -1,4 +1,5 @@
-ghost use Rattle.std.specs.Prelude.{◌≡◌, ◌+◌, ◌*◌, ◌-◌, ◌/◌, ◌%◌, ◌<◌, ◌≤◌, ◌&&◌, ◌==◌, ◌++◌, ◌∷◌, [], true, false, length, find, IfOk, OnOk, vec_len, Some};
+ghost use Rattle.std.specs.Prelude.{◌≡◌, ◌+◌, ◌*◌, ◌-◌, ◌/◌, ◌%◌, ◌<◌, ◌≤◌, ◌&&◌, ◌==◌, ◌++◌, ◌∷◌, [], true, false, length, find, IfOk};
+ghost use Rattle.std.specs.Prelude.{OnOk, vec_len, Some};
 ghost use Rattle.std.specs.List.{list_all, AllByRecursion};
 ghost use Rattle.std.specs.Option.{option_copied};
 ghost use Rattle.bus_words.specs.declared.word.Kind.TheVariants as kind;
@@ -10,7 +11,8 @@ ghost use Rattle.bus_wave.specs.Drafts.{Keeps, begun_of, state_of};
 ghost use Rattle.bus_wave.specs.Gives.{StepGives};
 ghost use Rattle.bus_wave.specs.Reading.{is_closed as closed_test};
 ghost use Rattle.bus_wave.specs.Judging as judging;
-ghost use Rattle.bus_wave.specs.Judging.{string_of, with_string, later as later_of, begin_bounded, next_bounded, quiet_bounded, pause_bounded, last_bounded, step, opening};
+ghost use Rattle.bus_wave.specs.Judging.{string_of, with_string, later as later_of, step, opening};
+ghost use Rattle.bus_wave.specs.Judging.{begin_bounded, next_bounded, quiet_bounded, pause_bounded, last_bounded};
 
 use crate::fault::{LineFault, WaveReason};
 use crate::phase::Phase;
@@ -126,7 +128,8 @@ impl<'t> Draft<'t> {
     // Takes a data word.
     fn take_data(&mut self, senders: &'t [Sender], value: u16) -> Result<(), LineFault>
         requires { Keeps self.old }
-        ensures gives { StepGives (state_of self.new) result (step senders.now (state_of self.old) (Sent (record { kind = kind.Plain; value = value }))) }
+        ensures gives { StepGives (state_of self.new) result
+            (step senders.now (state_of self.old) (Sent (record { kind = kind.Plain; value = value }))) }
         ensures keeps { OnOk result (Keeps self.new) }
     {
         match self.phase {
@@ -230,7 +233,8 @@ impl<'t> Draft<'t> {
         value: u16,
     ) -> Result<(), LineFault>
         requires { Keeps self.old }
-        ensures gives { StepGives (state_of self.new) result (step senders.now (state_of self.old) (Sent (record { kind = kind.Label; value = value }))) }
+        ensures gives { StepGives (state_of self.new) result
+            (step senders.now (state_of self.old) (Sent (record { kind = kind.Label; value = value }))) }
         ensures keeps { OnOk result (Keeps self.new) }
     {
         match self.phase {
@@ -356,7 +360,8 @@ impl<'t> Draft<'t> {
     ) -> Result<(), LineFault>
         requires keeps { Keeps self.old }
         requires phase { self.old.phase ≡ Phase.Saying line left later }
-        ensures gives { StepGives (state_of self.new) result (pause_bounded (state_of self.old) bit_times (begun_of self.old) line self.old.words.items left.now) }
+        ensures gives { StepGives (state_of self.new) result
+            (pause_bounded (state_of self.old) bit_times (begun_of self.old) line self.old.words.items left.now) }
         ensures keeps { OnOk result (Keeps self.new) }
     {
         if self.words.len() < usize::from(line.least) {
@@ -415,7 +420,8 @@ impl<'t> Draft<'t> {
     ) -> Result<(), LineFault>
         requires keeps { Keeps self.old }
         requires phase { self.old.phase ≡ Phase.Saying line left later }
-        ensures gives { StepGives (state_of self.new) result (last_bounded (state_of self.old) (begun_of self.old) line self.old.words.items left.now) }
+        ensures gives { StepGives (state_of self.new) result
+            (last_bounded (state_of self.old) (begun_of self.old) line self.old.words.items left.now) }
         ensures keeps { OnOk result (Keeps self.new) }
     {
         if self.words.len() < usize::from(line.least) || !left.is_empty() {

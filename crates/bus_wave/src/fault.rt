@@ -29,8 +29,8 @@ pub enum WaveReason {
     Code,
     /// The parity bit isn't that of the word's value.
     Parity,
-    /// No bit times are quiet, or the line keeps the rules of order and the bit times to its end pass 1,099,511,627,776, counted with the
-    /// least rest of a begun message.
+    /// The number of quiet bit times is 0, or the line keeps the rules of order and the bit times to its end pass 1,099,511,627,776,
+    /// counted with the least rest of a begun message.
     Range,
     /// The line breaks a rule of order (`specs/Judging.antt`).
     Order,

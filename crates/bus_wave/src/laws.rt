@@ -1,5 +1,5 @@
 //! Laws of the definitions, each the contract of a function that does nothing.
-ghost use Rattle.bus_wave.specs.WaveLaws.{SpacedHaveTexts, WavesReadBack, ReadsOnlyWaves, WavesTell, RunsAreSpaced};
+ghost use Rattle.bus_wave.specs.WaveLaws.{SpacedHaveTexts, WavesReadBack, ReadsOnlyWaves, WavesTell, RunsAreSpaced, RunsAreWaveTraces};
 
 use bus_schedule::laws::gaps_are_left;
 
@@ -12,9 +12,10 @@ pub fn waves_tell_traces()
 {}
 
 /// The trace of a run is spaced: of an accepted table in either mode and even hands, of any length, the closed schedule up to the
-/// closed end.
+/// closed end. With one HOLD for each hand and the number of its messages it is read back from its wave text.
 pub fn runs_are_spaced()
-    ensures { RunsAreSpaced }
+    ensures spaced { RunsAreSpaced }
+    ensures waves { RunsAreWaveTraces }
 {
     gaps_are_left();
 }

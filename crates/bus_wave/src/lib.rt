@@ -1,7 +1,7 @@
 //! The wave of a trace, in a line code of this project's own, half bit for half bit, and the one text of it.
 //!
-//! - [`spaced`] says whether a trace has such a text for a table, from which it is read again, or names the first entry with which
-//!   something is wrong.
+//! - [`spaced`] says whether a trace is spaced for a table, one whose transmissions and horizon are read again from its wave text, or
+//!   names the first entry with which something is wrong. The trace of a run is spaced.
 //! - [`write_wave`] writes the text to a sink; [`read_wave`] reads a text back to its trace, and refuses each other text at its first
 //!   offending line, with the [`WaveReason`].
 //!

@@ -15,6 +15,7 @@ use crate::fault::{LineFault, WaveError, WaveReason};
 use crate::holds::holds;
 use crate::laws::waves_tell_traces;
 use crate::pieces::cut;
+use crate::spacing::table_is_valid;
 use crate::symbol::{head_of, symbol_of};
 use bus_strings::transmission::Transmission;
 use bus_table::sender::Sender;
@@ -108,13 +109,6 @@ fn read_parts(
         return Err(WaveError::Text { line: 1, reason });
     }
     read_lines(alloc, table, rest)
-}
-
-/// A look at a table makes its facts known; nothing of it is left in the built program.
-fn table_is_valid(table: &Table)
-    ensures { IsTrue (is_valid table.now) }
-{
-    let _valid = table.senders();
 }
 
 /// Reads a text, and counts the entries of each sender.

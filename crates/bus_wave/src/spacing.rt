@@ -2,9 +2,12 @@ ghost use Rattle.std.specs.Prelude.{◌≡◌, ◌==◌, ◌&&◌, ◌↔◌, Is
 ghost use Rattle.std.specs.Option.{option_copied};
 ghost use Rattle.bus_table.specs.Fits as fits;
 ghost use Rattle.bus_table.specs.Fits.{allows, matches};
+ghost use Rattle.bus_table.specs.Valid.{is_valid};
 ghost use Rattle.bus_wave.specs.Spacing.{IsSpaced, entry_fault, spaced_of};
+ghost use Rattle.bus_wave.specs.WaveLaws.{PassesRuns};
 
 use crate::fault::WaveFault;
+use crate::laws::runs_are_spaced;
 use bus_strings::message::Message;
 use bus_strings::transmission::Transmission;
 use bus_strings::wordstring::Wordstring;
@@ -32,7 +35,8 @@ fn allows(line: &SendLine, words: usize) -> bool
 
 /// Whether a wordstring is one of the line.
 fn string_fits(line: &SendLine, string: &Wordstring) -> bool
-    ensures { result ≡ (string.now.label == line.now.label && (string.now.ext == line.now.ext && allows line.now (length string.now.words))) }
+    ensures { result ≡ (string.now.label == line.now.label
+        && (string.now.ext == line.now.ext && allows line.now (length string.now.words))) }
 {
     string.label().value() == line.label.value()
         && string.ext().value() == line.ext.value()
@@ -102,12 +106,22 @@ fn first_fault(table: &Table, trace: &Trace) -> Result<(), WaveFault>
     Ok(())
 }
 
+/// A look at a table makes its facts known; nothing of it is left in the built program.
+pub(crate) fn table_is_valid(table: &Table)
+    ensures { IsTrue (is_valid table.now) }
+{
+    let _valid = table.senders();
+}
+
 /// Whether a trace is spaced for a table: each entry is of a sender and fits it, each but the first starts at least 8 bit times behind the
 /// end of the one before it, and each ends at or before the horizon. Else the first entry with which something is wrong, from 0, and what.
-/// It takes no memory.
+/// The trace of a run of an accepted table is spaced. It takes no memory.
 pub fn spaced(table: &Table, trace: &Trace) -> Result<(), WaveFault>
     ensures ok { IsOk result ↔ IsSpaced table.now trace.now }
     ensures exact { result ≡ spaced_of table.now trace.now }
+    ensures runs { PassesRuns table.now trace.now result }
 {
+    table_is_valid(table);
+    runs_are_spaced();
     first_fault(table, trace)
 }
