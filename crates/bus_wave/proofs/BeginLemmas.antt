@@ -1,11 +1,10 @@
 -- The sender of a message is found by its first label word, since no two SEND lines of a table have the same label and extension.
-use Rattle.std.proofs.Common.{arith, ◌≡◌, ℕ, ◌+◌, ◌*◌, ◌/◌, ◌%◌, ◌<◌, ◌≤◌, Bool, true, false, cond, ◌&&◌, ◌||◌, ◌==◌, List, [], ◌∷◌, ◌++◌, Option, Some, None}
+use Rattle.std.proofs.Common.{◌≡◌, ℕ, ◌/◌, ◌%◌, Bool, true, false, cond, ◌&&◌, ◌==◌, List, [], ◌∷◌, ◌++◌, Option, Some, None}
 use Rattle.std.proofs.Common.{refl, sym, ap, subst, ◌∙◌, inl, inr, append_assoc, append-nil}
-use Rattle.std.specs.Prelude.{find, IsTrue, is_none}
-use Rattle.std.specs.List.{list_any, flat_map}
-use Rattle.std.specs.Option.{option_map, option_or}
+use Rattle.std.specs.Prelude.{IsTrue, is_none}
+use Rattle.std.specs.List.{list_any}
+use Rattle.std.specs.Option.{option_map}
 use Rattle.std.proofs.lemmas.Bool.{and_parts, or_parts, eqb-true, eq-eqb, true≢false}
-use Rattle.std.proofs.lemmas.Bool.Decides.{nat_tests}
 use Rattle.std.proofs.lemmas.List.Folds.{list_any-append}
 use Rattle.bus_strings.specs.Members.{In}
 use Rattle.bus_strings.specs.MemberLaws.{in_append_right}
@@ -14,7 +13,7 @@ use Rattle.bus_table.specs.Fits.{sender_of}
 use Rattle.bus_table.specs.Tables.{Sender, Table}
 use Rattle.bus_table.specs.Valid.{is_valid, is_in_range}
 use Rattle.bus_table.specs.ValidLaws.{or_none, is_none_is}
-use Rattle.bus_table.specs.Whole.{first_again, same_pair, send_lines, no_sender, number_twice, gap_twice, gap_not_short, pair_twice, periodic_refusal, whole_refusal}
+use Rattle.bus_table.specs.Whole.{first_again, same_pair, send_lines, no_sender, number_twice, gap_twice, gap_not_short, pair_twice, whole_refusal}
 use Rattle.bus_wave.specs.Judging.{is_label_of, begins, beginner}
 use Rattle.bus_wave.proofs.SoundLemmas.{find_is}
 

@@ -1,7 +1,7 @@
 -- The holds of a list, and that spaced lists are those of traces.
-use Rattle.std.proofs.Common.{arith, ◌≡◌, ℕ, zero, suc, ◌+◌, ◌-◌, ◌<◌, ◌≤◌, ◌^◌, Bool, true, false, cond, ◌==◌, List, [], ◌∷◌, ◌++◌, length, Option, Some, None}
+use Rattle.std.proofs.Common.{arith, ◌≡◌, ℕ, zero, suc, ◌+◌, ◌-◌, ◌<◌, ◌≤◌, true, false, cond, ◌==◌, List, [], ◌∷◌, ◌++◌, length, Option, Some, None}
 use Rattle.std.proofs.Common.{refl, sym, ap, subst, ◌∙◌, inl}
-use Rattle.std.specs.Prelude.{IfSome, is_some, count_by, IsTrue}
+use Rattle.std.specs.Prelude.{IfSome, is_some, IsTrue}
 use Rattle.std.proofs.lemmas.List.Sums.{count_by-le-length}
 use Rattle.std.specs.List.{AllByRecursion, filter_map, range_with_len, cons_option}
 use Rattle.std.specs.Option.{option_to_list}
@@ -9,13 +9,13 @@ use Rattle.std.proofs.lemmas.List.Elements.{filter_map-append}
 use Rattle.bus_strings.specs.Limits.{horizon_limit}
 use Rattle.bus_strings.specs.MessageLaws.{bits_some}
 use Rattle.bus_strings.specs.Messages.{Entry, IsMessage}
-use Rattle.bus_strings.specs.Transmissions.{end_of, Precedes, IsOrdered, IsAscending}
+use Rattle.bus_strings.specs.Transmissions.{end_of, Precedes, IsAscending}
 use Rattle.bus_table.specs.Fits.{sender_of}
 use Rattle.bus_table.specs.Tables.{Sender, Table}
 use Rattle.bus_table.specs.Valid.{is_valid}
 use Rattle.bus_trace.specs.declared.hold.Hold.{Hold}
 use Rattle.bus_trace.specs.Limits.{most_count}
-use Rattle.bus_trace.specs.Traces.{Recording, AscendAbove, IsHold, IsBelow, IsTrace}
+use Rattle.bus_trace.specs.Traces.{AscendAbove, IsHold, IsBelow, IsTrace}
 use Rattle.bus_wave.specs.Counted.{entries_of, hold_at, holds_of}
 use Rattle.bus_wave.specs.Spacing.{least_gap, IsOfSender, AreApart}
 use Rattle.bus_wave.proofs.BeginLemmas.{of_number}

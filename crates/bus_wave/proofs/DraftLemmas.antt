@@ -1,11 +1,11 @@
 -- What a symbol more gives, by the phase of a draft.
-use Rattle.std.proofs.Common.{arith, ◌≡◌, ◌≢◌, ◌^◌, min, inl, inr, ℕ, zero, suc, ◌+◌, ◌-◌, ◌*◌, ◌<◌, ◌≤◌, Bool, true, false, cond, ◌==◌, List, [], ◌∷◌, ◌++◌, length, Option, Some, None}
+use Rattle.std.proofs.Common.{arith, ◌≡◌, ◌≢◌, ◌^◌, min, inl, inr, ℕ, ◌+◌, ◌-◌, ◌*◌, ◌<◌, ◌≤◌, Bool, true, false, cond, ◌==◌, List, [], ◌∷◌, ◌++◌, length}
 use Rattle.std.proofs.Common.{Result, Ok, Err, refl, sym, ap, subst, ◌∙◌, length-append}
 use Rattle.std.specs.Prelude.{nat_lt, nat_le}
 use Rattle.std.proofs.lemmas.Bool.{cases_lt}
 use Rattle.std.proofs.lemmas.Bool.Decides.{nat_tests}
 use Rattle.bus_text.specs.AllOf.{◌>>=◌}
-use Rattle.bus_words.specs.declared.word.Kind.TheVariants.{Label, Plain}
+use Rattle.bus_words.specs.declared.word.Kind.TheVariants.{Plain}
 use Rattle.bus_strings.specs.Limits.{horizon_limit, word_bits, inner_gap}
 use Rattle.bus_strings.specs.Messages.{Entry}
 use Rattle.bus_table.specs.declared.line.SendLine.{SendLine}

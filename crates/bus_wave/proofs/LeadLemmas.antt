@@ -1,34 +1,28 @@
 -- The lines of a spaced trace lead from the first line to the end.
-use Rattle.std.proofs.Common.{arith, ◌≡◌, ℕ, zero, suc, ◌+◌, ◌-◌, ◌*◌, ◌/◌, ◌%◌, ◌<◌, ◌≤◌, ◌^◌, ◌⊎◌, Bool, true, false, cond, ◌&&◌, ◌==◌, List, [], ◌∷◌, ◌++◌}
-use Rattle.std.proofs.Common.{length, map, Option, Some, None, Result, Ok, Err, refl, sym, ap, subst, ◌∙◌, inl, inr, length-append, append_assoc, append-nil}
-use Rattle.std.specs.Prelude.{nat_lt, nat_le, find, IsTrue}
-use Rattle.std.specs.List.{AllByRecursion, list_all, sum_by, flat_map}
-use Rattle.std.proofs.lemmas.Bool.{and_parts, eqb-true, eq-eqb}
+use Rattle.std.proofs.Common.{arith, ◌≡◌, ℕ, ◌+◌, ◌*◌, ◌/◌, ◌%◌, ◌<◌, ◌≤◌, ◌^◌, true, false, cond, ◌&&◌, ◌==◌, List, [], ◌∷◌, ◌++◌}
+use Rattle.std.proofs.Common.{length, map, Some, Result, Ok, Err, refl, sym, ap, subst, ◌∙◌, length-append, append_assoc, append-nil}
+use Rattle.std.specs.Prelude.{nat_lt}
+use Rattle.std.specs.List.{AllByRecursion, sum_by, flat_map}
+use Rattle.std.proofs.lemmas.Bool.{eq-eqb}
 use Rattle.std.proofs.lemmas.Bool.Decides.{nat_tests}
 use Rattle.std.proofs.lemmas.List.Sums.{sum_by-cons}
-use Rattle.bus_words.specs.declared.word.Kind.TheVariants.{Label, Plain}
 use Rattle.bus_words.specs.declared.word.Word.{Word}
 use Rattle.bus_words.specs.Words.{label_word}
 use Rattle.bus_strings.specs.Limits.{horizon_limit, word_bits, inner_gap}
-use Rattle.bus_strings.specs.Members.{In}
 use Rattle.bus_strings.specs.Messages.{Wordstring, Message, Entry, IsWordstring, IsMessage, word_count, bits}
-use Rattle.bus_strings.specs.Transmissions.{end_of}
 use Rattle.bus_table.specs.declared.line.SendLine.{SendLine}
-use Rattle.bus_table.specs.Fits.{allows, matches, sender_of, fits}
-use Rattle.bus_table.specs.Tables.{Sender, Table}
-use Rattle.bus_table.specs.Valid.{is_valid}
+use Rattle.bus_table.specs.Fits.{allows, matches}
+use Rattle.bus_table.specs.Tables.{Sender}
 use Rattle.bus_trace.specs.Traces.{data_word}
 use Rattle.bus_wave.specs.declared.fault.WaveReason.{WaveReason}
-use Rattle.bus_wave.specs.declared.fault.WaveReason.TheVariants.{Range, Order}
-use Rattle.bus_wave.specs.declared.symbol.Symbol.{Symbol}
+use Rattle.bus_wave.specs.declared.fault.WaveReason.TheVariants.{Order}
 use Rattle.bus_wave.specs.declared.symbol.Symbol.TheVariants as symbol
-use Rattle.bus_wave.specs.Judging.{Phase, Opened, Silent, Saying, Waiting, Closed, State, opening, string_of, with_string, later, least_rest}
-use Rattle.bus_wave.specs.Judging.{is_label_of, begins, beginner, begun, begin_step, label_step, end_step, order_step, step}
-use Rattle.bus_wave.specs.Spacing.{least_gap, IsOfSender, AreApart}
+use Rattle.bus_wave.specs.Judging.{Phase, Saying, Waiting, State, string_of, with_string, later}
+use Rattle.bus_wave.specs.Judging.{is_label_of, beginner, begun, begin_step, label_step, order_step, step}
 use Rattle.bus_wave.specs.Waves.{word_halves}
-use Rattle.bus_wave.specs.WaveTexts.{WaveLine, Quiet, Halves, quiet_lines, string_lines, message_lines, last_end, laid, lines_up_to}
-use Rattle.bus_wave.proofs.StateLemmas.{sent, quiet_some}
-use Rattle.bus_wave.proofs.SoundLemmas.{LineFacts, line_facts, send_facts, Matched, matched, Steps, step_ok}
+use Rattle.bus_wave.specs.WaveTexts.{WaveLine, Quiet, Halves, string_lines, message_lines}
+use Rattle.bus_wave.proofs.StateLemmas.{sent}
+use Rattle.bus_wave.proofs.SoundLemmas.{matched, step_ok}
 
 -- ---- lines that lead from one state to another
 abbrev pub Leads : List Sender → State → List WaveLine → State → Type 0

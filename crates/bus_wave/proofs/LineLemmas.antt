@@ -1,11 +1,10 @@
 -- The lines of a wave are the only ones of their form that stand for it.
-use Rattle.std.proofs.Common.{arith, ◌≡◌, ℕ, zero, suc, ◌+◌, ◌*◌, ◌<◌, ◌≤◌, Bool, true, false, List, [], ◌∷◌, ◌++◌, length, map, Some, None, refl, sym, ap, ◌∙◌}
+use Rattle.std.proofs.Common.{arith, ◌≡◌, ℕ, zero, suc, ◌*◌, ◌<◌, ◌≤◌, Bool, true, false, List, [], ◌∷◌, ◌++◌, length, map, Some, None, refl, sym, ap, ◌∙◌}
 use Rattle.std.proofs.Common.{length-append}
 use Rattle.std.specs.Prelude.{replicate}
-use Rattle.std.specs.List.{flat_map}
-use Rattle.std.proofs.lemmas.List.{length-replicate, length-map}
+use Rattle.std.proofs.lemmas.List.{length-replicate}
 use Rattle.bus_wave.specs.Waves.{Half, quiet}
-use Rattle.bus_wave.specs.WaveTexts.{WaveLine, Quiet, Halves, line_wave, lines_wave, AreLines}
+use Rattle.bus_wave.specs.WaveTexts.{WaveLine, Quiet, Halves, lines_wave, AreLines}
 
 -- what is empty or begins with a half bit
 abbrev StartsLoud : List Half → Type 0

@@ -1,25 +1,24 @@
 -- The lines of all transmissions of a spaced trace, and the end behind them.
-use Rattle.std.proofs.Common.{arith, ◌≡◌, ℕ, zero, suc, ◌+◌, ◌-◌, ◌*◌, ◌/◌, ◌%◌, ◌<◌, ◌≤◌, Bool, true, false, cond, ◌&&◌, ◌==◌, List, [], ◌∷◌, ◌++◌}
-use Rattle.std.proofs.Common.{length, Option, Some, None, Result, Ok, Err, refl, sym, ap, subst, ◌∙◌, append_assoc, append-nil}
+use Rattle.std.proofs.Common.{arith, ◌≡◌, ℕ, zero, suc, ◌+◌, ◌-◌, ◌*◌, ◌<◌, ◌≤◌, Bool, true, false, cond, ◌==◌, List, [], ◌∷◌, ◌++◌}
+use Rattle.std.proofs.Common.{length, Some, Result, Ok, Err, refl, sym, ap, subst, ◌∙◌, append_assoc, append-nil}
 use Rattle.std.specs.Prelude.{nat_lt, nat_le, IsTrue}
 use Rattle.std.specs.List.{AllByRecursion}
 use Rattle.std.proofs.lemmas.Bool.Decides.{nat_tests}
 use Rattle.bus_strings.specs.Limits.{horizon_limit}
-use Rattle.bus_strings.specs.Members.{In}
-use Rattle.bus_strings.specs.Messages.{Wordstring, Message, Entry, IsMessage, bits}
+use Rattle.bus_strings.specs.Messages.{Wordstring, Message, Entry, IsMessage}
 use Rattle.bus_strings.specs.Transmissions.{end_of}
 use Rattle.bus_table.specs.declared.line.SendLine.{SendLine}
-use Rattle.bus_table.specs.Fits.{allows, matches, sender_of, fits}
+use Rattle.bus_table.specs.Fits.{allows, matches}
 use Rattle.bus_table.specs.Tables.{Sender, Table}
 use Rattle.bus_table.specs.Valid.{is_valid}
 use Rattle.bus_wave.specs.declared.fault.WaveReason.{WaveReason}
 use Rattle.bus_wave.specs.declared.fault.WaveReason.TheVariants.{Order}
 use Rattle.bus_wave.specs.declared.symbol.Symbol.TheVariants as symbol
-use Rattle.bus_wave.specs.Judging.{Phase, Opened, Silent, Saying, Waiting, Closed, State, opening, string_of, with_string, quiet_behind, end_behind, beginner, order_step, step}
+use Rattle.bus_wave.specs.Judging.{Phase, Opened, Silent, Saying, Closed, State, opening, string_of, with_string, quiet_behind, end_behind, beginner, step}
 use Rattle.bus_wave.specs.Spacing.{least_gap, IsOfSender, AreApart}
-use Rattle.bus_wave.specs.WaveTexts.{WaveLine, Quiet, Halves, quiet_lines, message_lines, last_end, laid, lines_up_to}
+use Rattle.bus_wave.specs.WaveTexts.{WaveLine, Quiet, quiet_lines, message_lines, last_end, laid, lines_up_to}
 use Rattle.bus_wave.proofs.StateLemmas.{quiet_some}
-use Rattle.bus_wave.proofs.SoundLemmas.{Matched, matched, step_ok}
+use Rattle.bus_wave.proofs.SoundLemmas.{matched, step_ok}
 use Rattle.bus_wave.proofs.LeadLemmas.{Leads, lead_append, Reaches, message_reaches, IsReady, is_label}
 use Rattle.bus_wave.proofs.BeginLemmas.{beginner_is, of_number}
 

@@ -1,6 +1,6 @@
 -- What reads as a trace is its wave text, and its wave text reads as it.
-use Rattle.std.proofs.Common.{arith, ◌≡◌, ℕ, zero, suc, ◌+◌, ◌-◌, ◌*◌, ◌<◌, ◌≤◌, ◌^◌, Bool, true, false, cond, ◌&&◌, ◌==◌, List, [], ◌∷◌, ◌++◌, codes, length, map}
-use Rattle.std.proofs.Common.{Option, Some, None, Result, Ok, Err, refl, sym, ap, subst, ◌∙◌, append_assoc, append-nil, length-append}
+use Rattle.std.proofs.Common.{arith, ◌≡◌, ℕ, ◌+◌, ◌-◌, ◌<◌, ◌≤◌, ◌^◌, Bool, true, false, cond, ◌&&◌, ◌==◌, List, [], ◌∷◌, ◌++◌, codes, length}
+use Rattle.std.proofs.Common.{Result, Ok, Err, refl, sym, ap, subst, ◌∙◌, append_assoc, append-nil, length-append}
 use Rattle.std.specs.Prelude.{IsTrue, IfOk}
 use Rattle.std.specs.Fmt.{decimal}
 use Rattle.std.specs.List.{slice_split, join_with_byte, AllByRecursion}
@@ -19,10 +19,9 @@ use Rattle.bus_strings.specs.Messages.{Message, Entry, IsMessage}
 use Rattle.bus_strings.specs.Transmissions.{end_of}
 use Rattle.bus_table.specs.Tables.{Sender, Table}
 use Rattle.bus_table.specs.Valid.{is_valid}
-use Rattle.bus_trace.specs.Limits.{most_count}
-use Rattle.bus_trace.specs.Traces.{Recording, IsTrace, IsBelow, data_word}
+use Rattle.bus_trace.specs.Traces.{Recording, IsTrace, IsBelow}
 use Rattle.bus_wave.specs.declared.fault.WaveReason.{WaveReason}
-use Rattle.bus_wave.specs.declared.fault.WaveReason.TheVariants.{Ended, Keyword, Order}
+use Rattle.bus_wave.specs.declared.fault.WaveReason.TheVariants.{Ended, Keyword}
 use Rattle.bus_wave.specs.declared.fault.LineFault.{LineFault}
 use Rattle.bus_wave.specs.declared.fault.LineFault.TheVariants as fault
 use Rattle.bus_wave.specs.declared.fault.WaveError.{WaveError}
@@ -30,20 +29,18 @@ use Rattle.bus_wave.specs.Gives.{Fails, Gives, LineFails, fault_at}
 use Rattle.bus_wave.specs.declared.symbol.Symbol.{Symbol}
 use Rattle.bus_wave.specs.declared.symbol.Symbol.TheVariants as symbol
 use Rattle.bus_wave.specs.Code.{digits_of}
-use Rattle.bus_wave.specs.Counted.{holds_of}
 use Rattle.bus_wave.specs.Symbols.{fields_of, head_reading, symbol_reading}
-use Rattle.bus_wave.specs.Judging.{Phase, Opened, Silent, Saying, Waiting, Closed, State, opening, least_rest, quiet_step, label_step, data_step, end_step, order_step, step}
+use Rattle.bus_wave.specs.Judging.{Phase, Opened, Silent, Saying, Waiting, Closed, State, opening, least_rest, order_step, step}
 use Rattle.bus_wave.specs.Reading.{WaveRefusal, at_line, is_closed, judge, recorded, ended, pieces_reading, text_reading, wave_reading}
-use Rattle.bus_wave.specs.Spacing.{IsOfSender, AreApart, IsSpaced}
-use Rattle.bus_wave.specs.WaveLaws.{most_bytes, IsWaveTrace, IsRead, HasOneText}
+use Rattle.bus_wave.specs.WaveLaws.{most_bytes, IsWaveTrace, IsRead}
 use Rattle.bus_wave.specs.Waves.{word_halves, wave}
 use Rattle.bus_wave.specs.WaveTexts.{WaveLine, Quiet, Halves, line_fields, text_of, lines_up_to, last_end, message_lines, laid, quiet_lines, wave_text, IsWaveText}
 use Rattle.bus_wave.specs.Capped.{cap, capped}
 use Rattle.bus_wave.proofs.CountLemmas.{is_trace}
 use Rattle.bus_wave.proofs.DraftLemmas.{cap_step}
 use Rattle.bus_wave.proofs.LeadLemmas.{Leads}
-use Rattle.bus_wave.proofs.ListLeads.{LeadToEnd, all_lead}
-use Rattle.bus_wave.proofs.SoundLemmas.{Sound, Follows, Ends, Steps, step_is, quiet_at, still_going, quiet_follows, label_follows, data_follows, end_ends}
+use Rattle.bus_wave.proofs.ListLeads.{all_lead}
+use Rattle.bus_wave.proofs.SoundLemmas.{Sound, Follows, Ends, step_is, quiet_at, still_going, quiet_follows, label_follows, data_follows, end_ends}
 use Rattle.bus_wave.proofs.StateLemmas.{lines_of, sent}
 use Rattle.bus_wave.proofs.TextLemmas.{quiet_reads, word_reads, IsLineOf, symbol_found, head_found, head_reads, end_reads, some_piece, line_split}
 use Rattle.bus_wave.proofs.TextLemmas.{quiet_feedless, word_feedless}

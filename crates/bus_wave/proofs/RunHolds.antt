@@ -1,9 +1,8 @@
 -- The holds that a run states are those of its list.
-use Rattle.std.proofs.Common.{arith, ◌≡◌, ◌≢◌, ℕ, zero, suc, ◌+◌, ◌*◌, Bool, true, false, cond, ◌&&◌, ◌==◌, List, [], ◌∷◌, ◌++◌, length, map, Option, Some, None}
+use Rattle.std.proofs.Common.{arith, ◌≡◌, ◌≢◌, ℕ, zero, suc, ◌+◌, ◌*◌, Bool, true, false, cond, ◌==◌, List, [], ◌∷◌, length, Option, Some}
 use Rattle.std.proofs.Common.{inl, inr, refl, sym, ap, ◌∙◌}
-use Rattle.std.specs.Prelude.{IsTrue, nat_lt, is_some, count_by}
-use Rattle.std.specs.List.{list_all, find, filter_map, range_with_len, cons_option}
-use Rattle.std.specs.Option.{option_map}
+use Rattle.std.specs.Prelude.{IsTrue, nat_lt}
+use Rattle.std.specs.List.{list_all, filter_map, range_with_len, cons_option}
 use Rattle.std.proofs.lemmas.Bool.{and_parts, eqb-true, eq-eqb, ne_eqb}
 use Rattle.std.proofs.lemmas.List.Sums.{sum_by-cons, sum_by-append}
 use Rattle.bus_strings.specs.Members.{In}
@@ -11,7 +10,7 @@ use Rattle.bus_strings.specs.Messages.{Message, Entry}
 use Rattle.bus_strings.specs.Transmissions.{end_of}
 use Rattle.bus_table.specs.declared.mode.Mode.{Mode}
 use Rattle.bus_table.specs.declared.mode.Mode.TheVariants.{Aperiodic, Periodic}
-use Rattle.bus_table.specs.Fits.{fits, sender_of}
+use Rattle.bus_table.specs.Fits.{fits}
 use Rattle.bus_table.specs.Hands.{are_hands}
 use Rattle.bus_table.specs.Tables.{Sender, Table, Hand}
 use Rattle.bus_table.specs.Turns.{insert, sort, turn_key, turn_order, Differ}
@@ -21,7 +20,6 @@ use Rattle.bus_table.specs.ValidLaws.{valid_facts}
 use Rattle.bus_schedule.specs.Closed.{sends, turns, origin, offset_turns, in_rounds, schedule_in, closed}
 use Rattle.bus_schedule.specs.Even.{messages_of, rounds, are_even}
 use Rattle.bus_trace.specs.declared.hold.Hold.{Hold}
-use Rattle.bus_trace.specs.Traces.{Recording}
 use Rattle.bus_wave.specs.Counted.{entries_of, hold_at, holds_of, hand_hold, hand_holds}
 use Rattle.bus_wave.specs.WaveLaws.{RunsAreSpaced, RunsAreWaveTraces}
 

@@ -1,5 +1,5 @@
 -- The trace of a run is spaced.
-use Rattle.std.proofs.Common.{arith, ◌≡◌, ℕ, zero, suc, ◌+◌, ◌*◌, ◌<◌, ◌≤◌, max, Bool, true, false, ◌&&◌, ◌==◌, List, [], ◌∷◌, ◌++◌, length, get_or, Some}
+use Rattle.std.proofs.Common.{arith, ◌≡◌, ℕ, zero, suc, ◌+◌, ◌*◌, ◌<◌, ◌≤◌, max, Bool, true, ◌==◌, List, [], ◌∷◌, ◌++◌, length, get_or, Some}
 use Rattle.std.proofs.Common.{inl, inr, refl, sym, ap, subst, ◌∙◌, append_assoc}
 use Rattle.std.specs.Prelude.{IsTrue, fold, slice_get}
 use Rattle.std.specs.List.{list_all, AllByRecursion}
@@ -28,8 +28,7 @@ use Rattle.bus_schedule.specs.Closed.{sends, turns, turns_end, origin, offset_tu
 use Rattle.bus_schedule.specs.Even.{messages_of, rounds, are_even}
 use Rattle.bus_schedule.specs.HandLaws.{hand_here, hand_of_other}
 use Rattle.bus_schedule.specs.Laws.{GapsAreLeft}
-use Rattle.bus_trace.specs.Traces.{Recording}
-use Rattle.bus_wave.specs.Spacing.{least_gap, IsOfSender, AreApart, IsSpaced}
+use Rattle.bus_wave.specs.Spacing.{least_gap, IsOfSender, AreApart}
 use Rattle.bus_wave.specs.WaveLaws.{RunsAreSpaced}
 
 -- ---- the hand of a sender

@@ -1,6 +1,6 @@
 -- What holds of each state that lines have given, and that a step keeps it.
-use Rattle.std.proofs.Common.{arith, ◌≡◌, ◌≢◌, ℕ, zero, suc, ◌+◌, ◌-◌, ◌*◌, ◌/◌, ◌%◌, ◌<◌, ◌≤◌, ◌^◌, Bool, true, false, cond, ◌&&◌, ◌==◌, List, [], ◌∷◌, ◌++◌}
-use Rattle.std.proofs.Common.{length, Option, Some, None, Result, Ok, Err, refl, sym, ap, subst, ◌∙◌, inl, inr, length-append, append_assoc, append-nil}
+use Rattle.std.proofs.Common.{arith, ◌≡◌, ◌≢◌, ℕ, ◌+◌, ◌/◌, ◌%◌, ◌<◌, ◌≤◌, ◌^◌, Bool, true, false, cond, ◌&&◌, ◌==◌, List, [], ◌∷◌, ◌++◌}
+use Rattle.std.proofs.Common.{length, Option, Some, None, Result, Ok, Err, refl, sym, ap, subst, ◌∙◌, inl, inr, length-append, append_assoc}
 use Rattle.std.specs.Prelude.{nat_lt, nat_le, find, IsTrue}
 use Rattle.std.specs.List.{AllByRecursion, list_all}
 use Rattle.std.proofs.lemmas.Bool.{and_parts, eqb-true}
@@ -17,17 +17,16 @@ use Rattle.bus_strings.specs.MemberLaws.{of_each}
 use Rattle.bus_strings.specs.Messages.{Wordstring, Message, Entry, IsWordstring, IsMessage}
 use Rattle.bus_strings.specs.Transmissions.{end_of}
 use Rattle.bus_table.specs.declared.line.SendLine.{SendLine}
-use Rattle.bus_table.specs.Facts.{SenderFacts, TableFacts}
-use Rattle.bus_table.specs.Fits.{allows, matches, sender_of, fits}
+use Rattle.bus_table.specs.Facts.{SenderFacts}
+use Rattle.bus_table.specs.Fits.{allows, matches, sender_of}
 use Rattle.std.specs.Int.{is_in_range as is_between}
-use Rattle.bus_table.specs.Ranges.{is_send_line, is_sender, is_number, is_tg, is_offset, are_send_lines, are_take_lines}
+use Rattle.bus_table.specs.Ranges.{is_send_line, is_number, is_tg, is_offset, are_send_lines, are_take_lines}
 use Rattle.bus_table.specs.Tables.{Sender, Table}
 use Rattle.bus_table.specs.Turns.{Differ}
 use Rattle.bus_table.specs.TurnLaws.{numbers_differ}
 use Rattle.bus_table.specs.Valid.{is_valid}
 use Rattle.bus_table.specs.ValidLaws.{valid_facts}
 use Rattle.bus_trace.specs.Traces.{data_word}
-use Rattle.bus_wave.specs.declared.fault.WaveReason.{WaveReason}
 use Rattle.bus_wave.specs.declared.fault.WaveReason.TheVariants.{Range, Order}
 use Rattle.bus_wave.specs.declared.symbol.Symbol.{Symbol}
 use Rattle.bus_wave.specs.declared.symbol.Symbol.TheVariants as symbol
@@ -36,8 +35,8 @@ use Rattle.bus_wave.specs.Judging.{quiet_step, is_label_of, begins, beginner, be
 use Rattle.bus_wave.specs.Judging.{order_step, is_nothing, step}
 use Rattle.bus_wave.specs.Reading.{is_closed}
 use Rattle.bus_wave.specs.Spacing.{least_gap, IsOfSender, AreApart}
-use Rattle.bus_wave.specs.WaveTexts.{WaveLine, Quiet, Halves, last_end, lines_up_to}
-use Rattle.bus_wave.proofs.StateLemmas.{open_of, lines_of, earliest, bits_one, bits_push, bits_word, last_push, earliest_push, apart_push, apart_later}
+use Rattle.bus_wave.specs.WaveTexts.{WaveLine, Quiet, last_end, lines_up_to}
+use Rattle.bus_wave.proofs.StateLemmas.{lines_of, earliest, bits_one, bits_push, bits_word, last_push, earliest_push, apart_push, apart_later}
 use Rattle.bus_wave.proofs.StateLemmas.{quiet_more, sent, label_is, begin_lines, next_lines, data_lines}
 
 -- ---- senders and their lines

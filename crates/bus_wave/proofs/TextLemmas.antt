@@ -1,13 +1,11 @@
 -- Texts and their lines: what lines read as, and what reads so.
-use Rattle.std.proofs.Common.{arith, ◌≡◌, ◌≢◌, ℕ, zero, suc, ◌+◌, ◌-◌, ◌*◌, ◌<◌, ◌≤◌, ◌^◌, Bool, true, false, not, cond, ◌&&◌, ◌==◌, List, [], ◌∷◌, ◌++◌, codes}
-use Rattle.std.proofs.Common.{length, take, drop, get_or, map, Option, Some, None, Result, Ok, Err, refl, sym, ap, subst, ◌∙◌, inl, inr, append_assoc, append-nil, lit<}
+use Rattle.std.proofs.Common.{arith, ◌≡◌, ◌≢◌, ℕ, zero, suc, ◌+◌, ◌*◌, ◌<◌, ◌^◌, Bool, true, false, not, cond, ◌&&◌, ◌==◌, List, [], ◌∷◌, ◌++◌, codes}
+use Rattle.std.proofs.Common.{length, take, drop, get_or, Option, Some, None, Result, Ok, Err, refl, sym, ap, subst, ◌∙◌}
 use Rattle.std.specs.Fmt.{decimal}
-use Rattle.std.specs.Prelude.{slice_get, slice_index_or}
+use Rattle.std.specs.Prelude.{slice_index_or}
 use Rattle.std.specs.Bool.{beq}
 use Rattle.std.specs.Char.{is_ascii_digit}
-use Rattle.std.specs.List.{slice_split, onto_first, join_with_byte, list_all, All, AllByRecursion}
-use Rattle.std.specs.Option.{option_map_or}
-use Rattle.std.specs.Str.{bytes_eq}
+use Rattle.std.specs.List.{slice_split, onto_first, join_with_byte, list_all, AllByRecursion}
 use Rattle.std.proofs.lemmas.Bool.{and_parts, eqb-true, eq-eqb, ne_eqb}
 use Rattle.std.proofs.lemmas.Bool.Decides.{nat_tests}
 use Rattle.std.proofs.lemmas.Slice.Eq.{bytes_eq-Decides}
@@ -16,29 +14,25 @@ use Rattle.std.proofs.lemmas.Str.Parse.{numerals_by_value, tells_digits}
 use Rattle.std.specs.Str.Parse.{AllDigits}
 use Rattle.std.proofs.lemmas.List.Elements.{All-from_recursion}
 use Rattle.std.proofs.lemmas.List.Splits.{slice_split_at, slice_split_none, length-slice_split, join_with_byte-slice_split}
-use Rattle.bus_text.specs.AllOf.{◌>>=◌}
-use Rattle.bus_text.specs.AllOfLaws.{bind_ok}
-use Rattle.bus_text.specs.Canonical.{IsFieldByte, IsField, spelled_line, spelled_lines}
+use Rattle.bus_text.specs.Canonical.{IsFieldByte}
 use Rattle.bus_text.specs.Digits.{is_capital_digit}
 use Rattle.bus_text.specs.Fields.{is_at}
 use Rattle.bus_text.specs.Lines.{is_feed}
 use Rattle.bus_text.specs.Refusals.{first_of, unless}
-use Rattle.bus_text.specs.Numbers.{is_plain_decimal, decimal_value, IsDecimal}
+use Rattle.bus_text.specs.Numbers.{is_plain_decimal, decimal_value}
 use Rattle.bus_text.specs.NumberLaws.{decimal_is, decimal_field}
-use Rattle.bus_words.specs.declared.word.Kind.{Kind}
 use Rattle.bus_words.specs.declared.word.Word.{Word}
 use Rattle.bus_words.specs.declared.word.WordError.TheVariants.{Parity as WordParity}
 use Rattle.bus_words.specs.declared.word.FramedWord.{FramedWord}
 use Rattle.bus_words.specs.Words.{parity, frame, unframe}
 use Rattle.bus_wave.specs.declared.fault.WaveReason.{WaveReason}
-use Rattle.bus_wave.specs.declared.fault.WaveReason.TheVariants.{Keyword, Fields, Spelling, Code, Parity}
+use Rattle.bus_wave.specs.declared.fault.WaveReason.TheVariants.{Keyword, Fields, Spelling}
 use Rattle.bus_wave.specs.declared.symbol.Symbol.{Symbol}
 use Rattle.bus_wave.specs.declared.symbol.Symbol.TheVariants as symbol
 use Rattle.bus_wave.specs.Code.{digits_of, halves_of, frame_halves, frame_of}
-use Rattle.bus_wave.specs.Symbols.{is_space, fields_of, head_refusal, head_reading, are_digits, parity_checked, coded, word_reading, quiet_reading}
+use Rattle.bus_wave.specs.Symbols.{is_space, fields_of, head_reading, are_digits, parity_checked, coded, word_reading, quiet_reading}
 use Rattle.bus_wave.specs.Symbols.{second_reading, symbol_reading}
 use Rattle.bus_wave.specs.Waves.{word_halves}
-use Rattle.bus_wave.specs.WaveTexts.{WaveLine, Quiet, Halves, line_fields}
 use Rattle.bus_wave.proofs.CodeLemmas.{frame_heard, heard_is, length-frame_halves, halves_again, digits_again, ten_digits, forty_halves}
 
 -- ---- bytes of a line

@@ -1,6 +1,6 @@
 -- The lines of transmissions that stand apart stand for their wave.
-use Rattle.std.proofs.Common.{arith, ◌≡◌, ℕ, zero, suc, ◌+◌, ◌-◌, ◌*◌, ◌<◌, ◌≤◌, Bool, true, false, cond, List, [], ◌∷◌, ◌++◌, length, map, get_or}
-use Rattle.std.proofs.Common.{Option, Some, None, refl, sym, ap, subst, ◌∙◌, append_assoc, append-nil, length-append}
+use Rattle.std.proofs.Common.{arith, ◌≡◌, ℕ, zero, suc, ◌+◌, ◌-◌, ◌*◌, ◌<◌, ◌≤◌, true, false, cond, List, [], ◌∷◌, ◌++◌, length, map, get_or}
+use Rattle.std.proofs.Common.{Some, None, refl, sym, ap, subst, ◌∙◌, append_assoc, append-nil, length-append}
 use Rattle.std.specs.Prelude.{nat_lt, replicate}
 use Rattle.std.specs.List.{flat_map, range_with_len, sum_by, AllByRecursion}
 use Rattle.std.specs.Option.{option_or}
@@ -17,7 +17,7 @@ use Rattle.bus_trace.specs.Traces.{Recording, IsBelow, IsTrace, data_word}
 use Rattle.bus_wave.specs.Spacing.{least_gap, AreApart}
 use Rattle.bus_wave.specs.Waves.{Half, quiet, words_of, word_halves, string_wave, message_wave, half_of, half_at, wave}
 use Rattle.bus_wave.specs.WaveTexts.{WaveLine, Quiet, Halves, line_wave, lines_wave, AreLines, quiet_lines, string_lines, message_lines, last_end}
-use Rattle.bus_wave.specs.WaveTexts.{laid, lines_up_to, text_of, wave_text, IsWaveText}
+use Rattle.bus_wave.specs.WaveTexts.{laid, lines_up_to, text_of}
 use Rattle.bus_wave.specs.WaveLaws.{HasOneText}
 use Rattle.bus_wave.proofs.CodeLemmas.{length-frame_halves}
 use Rattle.bus_wave.proofs.LineLemmas.{one_list}

@@ -1,5 +1,5 @@
 -- The holds of a trace that is read from a wave: one for each sender, with the number of its entries.
-use Rattle.std.specs.Prelude.{ℕ, ◌==◌, Bool, true, false, is_some, List, length, count_by, Option, Some, None, if◌then◌else◌}
+use Rattle.std.specs.Prelude.{ℕ, ◌==◌, is_some, List, length, count_by, Option, Some, None, if◌then◌else◌}
 use Rattle.std.specs.List.{find, filter_map, range_with_len}
 use Rattle.std.specs.Option.{option_map}
 use Rattle.bus_strings.specs.Messages.{Entry}

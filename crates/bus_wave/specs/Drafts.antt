@@ -1,8 +1,8 @@
 -- What the code keeps of the lines so far, and the state that it stands for.
-use Rattle.std.specs.Prelude.{◌≡◌, ℕ, ◌+◌, ◌<◌, ◌≤◌, true, List, [], ◌∷◌, length}
+use Rattle.std.specs.Prelude.{◌≡◌, ℕ, ◌+◌, ◌<◌, ◌≤◌, true, List, ◌∷◌, length}
 use Rattle.std.specs.List.{list_all}
 use Rattle.bus_strings.specs.Limits.{horizon_limit, most_terminal, most_strings}
-use Rattle.bus_strings.specs.Messages.{Message, Entry}
+use Rattle.bus_strings.specs.Messages.{Entry}
 use Rattle.bus_table.specs.declared.line.SendLine.{SendLine}
 use Rattle.bus_table.specs.Ranges.{is_send_line}
 use Rattle.bus_wave.specs.declared.phase.Phase.{Phase}

@@ -14,9 +14,8 @@ use Rattle.std.specs.List.{sum_by}
 use Rattle.bus_text.specs.AllOf.{◌>>=◌}
 use Rattle.bus_words.specs.declared.word.Kind.{Kind}
 use Rattle.bus_words.specs.declared.word.Kind.TheVariants.{Label, Plain}
-use Rattle.bus_words.specs.declared.word.Word.{Word}
 use Rattle.bus_strings.specs.Limits.{horizon_limit, word_bits, inner_gap}
-use Rattle.bus_strings.specs.Messages.{Wordstring, Message, Entry}
+use Rattle.bus_strings.specs.Messages.{Wordstring, Entry}
 use Rattle.bus_table.specs.declared.line.SendLine.{SendLine}
 use Rattle.bus_table.specs.Tables.{Sender}
 use Rattle.bus_wave.specs.declared.fault.WaveReason.{WaveReason}

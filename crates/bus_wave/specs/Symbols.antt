@@ -1,8 +1,8 @@
 -- What a line of a wave text says by itself, or why it says nothing. A line is split at each single space, so a doubled, leading or
 -- trailing space makes an empty field.
 --   symbol   quiet bit times, a word, or the end
-use Rattle.std.specs.Prelude.{ℕ, Bool, true, false, not, ◌&&◌, ◌||◌, ◌==◌, List, [], ◌∷◌, length, codes, Option, Some, None}
-use Rattle.std.specs.Prelude.{Result, Ok, Err, is_none, slice_index_or, if◌then◌else◌}
+use Rattle.std.specs.Prelude.{ℕ, Bool, not, ◌&&◌, ◌==◌, List, [], ◌∷◌, length, codes, Option, Some, None}
+use Rattle.std.specs.Prelude.{Result, Ok, Err, slice_index_or, if◌then◌else◌}
 use Rattle.std.specs.List.{slice_split, list_all}
 use Rattle.bus_text.specs.Digits.{is_capital_digit}
 use Rattle.bus_text.specs.Fields.{is_at}

@@ -1,4 +1,4 @@
-use Rattle.std.proofs.Common.{◌≡◌, ◌≤◌, ◌^◌, ◌+◌, arith}
+use Rattle.std.proofs.Common.{◌≤◌, ◌^◌, arith}
 use Rattle.bus_wave.proofs.DigitLemmas.{few_fours, all_fours}
 use Rattle.bus_wave.proofs.code.gathered.Goals as goal
 

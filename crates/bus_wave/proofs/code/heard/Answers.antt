@@ -1,7 +1,7 @@
-use Rattle.std.proofs.Common.{◌≡◌, ℕ, List, Some, None, sym, ap, ◌∙◌, drop}
+use Rattle.std.proofs.Common.{Some, sym, ap, ◌∙◌, drop}
 use Rattle.std.specs.Option.{option_map}
 use Rattle.bus_wave.specs.Digits.{frame_with, gathered}
-use Rattle.bus_wave.proofs.DigitLemmas.{ten_heard, eight_more, taken}
+use Rattle.bus_wave.proofs.DigitLemmas.{ten_heard, taken}
 use Rattle.bus_wave.proofs.code.heard.Goals as goal
 
 pub returns-in_err-kind : goal.returns-in_err-kind

@@ -1,5 +1,4 @@
 use Rattle.std.proofs.Common.{◌≡◌, ◌≤◌, length, arith, List, sym, subst, ap, ◌∙◌, Result, Ok}
-use Rattle.bus_strings.specs.Messages.{Entry}
 use Rattle.bus_trace.specs.declared.hold.Hold.{Hold}
 use Rattle.bus_trace.specs.Traces.{Recording, IsTrace}
 use Rattle.bus_wave.specs.Counted.{holds_of}

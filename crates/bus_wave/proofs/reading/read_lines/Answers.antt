@@ -1,4 +1,4 @@
-use Rattle.std.proofs.Common.{◌≡◌, ◌+◌, ℕ, List, arith, sym, subst, ap, ◌∙◌, Result, Ok}
+use Rattle.std.proofs.Common.{ℕ, List, arith, sym, subst, ap, ◌∙◌, Result, Ok}
 use Rattle.std.specs.List.{slice_split}
 use Rattle.bus_strings.specs.Messages.{Entry}
 use Rattle.bus_table.specs.Tables.{Sender}

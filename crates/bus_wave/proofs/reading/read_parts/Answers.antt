@@ -1,4 +1,4 @@
-use Rattle.std.proofs.Common.{◌≡◌, ℕ, List, sym, subst, ap, ◌∙◌, Result}
+use Rattle.std.proofs.Common.{sym, subst, ap, ◌∙◌, Result}
 use Rattle.std.specs.List.{slice_split}
 use Rattle.bus_text.specs.AllOf.{◌>>=◌}
 use Rattle.bus_text.specs.Lines.{is_feed}

@@ -1,4 +1,4 @@
-use Rattle.std.proofs.Common.{◌≡◌, subst, Result}
+use Rattle.std.proofs.Common.{subst, Result}
 use Rattle.bus_trace.specs.Traces.{Recording}
 use Rattle.bus_wave.specs.Gives.{Gives}
 use Rattle.bus_wave.specs.Reading.{WaveRefusal}

@@ -1,4 +1,4 @@
-use Rattle.std.proofs.Common.{◌≡◌, ◌≤◌, arith, sym, subst, ap, ◌∙◌, Result, refl}
+use Rattle.std.proofs.Common.{◌≤◌, arith, sym, subst, ap, ◌∙◌, Result}
 use Rattle.std.proofs.lemmas.Result.{err_from_is_err_and}
 use Rattle.bus_strings.specs.Limits.{horizon_limit}
 use Rattle.bus_wave.specs.declared.fault.WaveReason.{WaveReason}

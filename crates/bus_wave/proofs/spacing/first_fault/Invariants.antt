@@ -1,4 +1,4 @@
-use Rattle.std.proofs.Common.{◌≡◌, ◌≤◌, ◌<◌, ◌^◌, drop}
+use Rattle.std.proofs.Common.{◌≡◌, drop}
 use Rattle.bus_wave.specs.Spacing.{spaced_from}
 use Rattle.bus_wave.proofs.spacing.first_fault.Given as goal
 

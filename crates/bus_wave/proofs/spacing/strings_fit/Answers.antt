@@ -1,4 +1,4 @@
-use Rattle.std.proofs.Common.{◌≡◌, arith, ap, sym, false}
+use Rattle.std.proofs.Common.{arith, sym}
 use Rattle.bus_wave.proofs.SpacingLemmas.{matches_length}
 use Rattle.bus_wave.proofs.spacing.strings_fit.Goals as goal
 

@@ -1,5 +1,4 @@
-use Rattle.std.proofs.Common.{◌≡◌, ◌++◌, codes, subst, List, ℕ}
-use Rattle.std.specs.List.{AllByRecursion}
+use Rattle.std.proofs.Common.{◌++◌, codes, subst, List, ℕ}
 use Rattle.bus_outer.specs.Texts.{Adds}
 use Rattle.bus_outer.specs.TextLaws.{◌▸◌, ends_text}
 use Rattle.bus_wave.specs.Puts.{list_put, quiet_put}

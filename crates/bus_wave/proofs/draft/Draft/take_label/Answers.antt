@@ -1,4 +1,4 @@
-use Rattle.std.proofs.Common.{◌≡◌, ap, sym, subst, ◌∙◌, cond, Err, Result}
+use Rattle.std.proofs.Common.{ap, sym, subst, ◌∙◌, cond, Err, Result}
 use Rattle.bus_text.specs.AllOf.{◌>>=◌}
 use Rattle.bus_words.specs.declared.word.Kind.TheVariants.{Label}
 use Rattle.bus_wave.specs.declared.fault.WaveReason.{WaveReason}

@@ -1,4 +1,4 @@
-use Rattle.std.proofs.Common.{◌≡◌, ◌≤◌, ◌<◌, ◌+◌, true, arith, ap, sym, subst, ◌∙◌, Result}
+use Rattle.std.proofs.Common.{◌≤◌, ◌+◌, true, arith, ap, sym, subst, ◌∙◌, Result}
 use Rattle.bus_strings.specs.Limits.{horizon_limit}
 use Rattle.bus_wave.specs.declared.fault.WaveReason.{WaveReason}
 use Rattle.bus_wave.specs.declared.phase.Phase.TheVariants as code
