@@ -9,7 +9,7 @@ use Rattle.bus_trace.specs.Traces.{Recording, IsTrace}
 use Rattle.bus_wave.specs.declared.fault.WaveFault.{WaveFault}
 use Rattle.bus_wave.specs.Counted.{holds_of, hand_holds}
 use Rattle.bus_wave.specs.Reading.{wave_reading}
-use Rattle.bus_wave.specs.Spacing.{IsSpaced}
+use Rattle.bus_wave.specs.Spacing.{IsSpaced, spaced_of}
 use Rattle.bus_wave.specs.Waves.{wave}
 use Rattle.bus_wave.specs.WaveTexts.{IsWaveText, wave_text}
 
@@ -23,6 +23,10 @@ pub record IsWaveTrace (table : Table) (t : Recording) : Type 0 where
   pub trace : IsTrace t
   pub spaced : IsSpaced table t
   pub holds : t.holds ≡ holds_of table t.list
+
+-- A trace that is spaced for a table passes.
+abbrev pub SpacedPasses : Type 0
+SpacedPasses = (table : Table) (t : Recording) → IsSpaced table t → spaced_of table t ≡ Ok tt
 
 -- Of a trace that is spaced for some table, what is written is its wave text, and the only one.
 pub record HasOneText (t : Recording) : Type 0 where

@@ -1,10 +1,11 @@
 //! Laws of the definitions, each the contract of a function that does nothing.
-ghost use Rattle.bus_wave.specs.WaveLaws.{SpacedHaveTexts, WavesReadBack, ReadsOnlyWaves, WavesTell, RunsAreSpaced, RunsAreWaveTraces};
+ghost use Rattle.bus_wave.specs.WaveLaws.{SpacedPasses, SpacedHaveTexts, WavesReadBack, ReadsOnlyWaves, WavesTell, RunsAreSpaced, RunsAreWaveTraces};
 
 use bus_schedule::laws::gaps_are_left;
 
 /// What follows of waves and their texts: laws, with no work in the built program.
 pub fn waves_tell_traces()
+    ensures passes { SpacedPasses }
     ensures texts { SpacedHaveTexts }
     ensures back { WavesReadBack }
     ensures only { ReadsOnlyWaves }
