@@ -8,12 +8,23 @@ use Rattle.bus_regime.specs.Verdicts.{verdict_of, is_accepted}
 use Rattle.bus_schedule.specs.Even.{are_even, message_in, rounds}
 use Rattle.bus_schedule.specs.Closed.{closed}
 use Rattle.bus_vote.specs.Labels.{Channel, VotedLabel, voted_labels}
-use Rattle.bus_vote.specs.Rounds.{words_in, channel_words, is_voted, round_votes}
+use Rattle.bus_vote.specs.Rounds.{words_in, channel_words, first_words, second_words, third_words, is_voted, round_votes}
 use Rattle.bus_vote.specs.Votes.{TwoAre, votes}
 
 -- Where two lists are present and equal, the vote is that list, of its length, with no place undecided, whatever the third is.
 abbrev pub TwoFixTheVote : Type 0
 TwoFixTheVote = (words : List ℕ) (a b c : Option (List ℕ)) → TwoAre words a b c → votes a b c ≡ map Some words
+
+-- Two channels of a voted label that have the same words in a round of a list fix its vote there, whatever the third has.
+abbrev pub IsFixedByTwo : List Entry → Type 0
+IsFixedByTwo list =
+    (voted : VotedLabel) (round : ℕ) (words : List ℕ)
+    → TwoAre words (first_words list voted round) (second_words list voted round) (third_words list voted round)
+    → round_votes list voted round ≡ map Some words
+
+-- It is so of every list.
+abbrev pub ListsAreFixedByTwo : Type 0
+ListsAreFixedByTwo = (list : List Entry) → IsFixedByTwo list
 
 -- The words that the message of a round in the hand of a channel's sender has for the channel.
 abbrev pub hand_words : List Hand → ℕ → Channel → ℕ → Option (List ℕ)
