@@ -14,6 +14,8 @@ _bus629() {
     'receive:tell what each terminal receives of a trace'
     'audit:hold a trace to a table'
     'vote:take what two of three channels of a trace agree on'
+    'wave:write the wave of a trace'
+    'unwave:read the trace of a wave back'
     'drill:run a large input that a number makes'
   )
   if (( CURRENT == 2 )); then

@@ -20,7 +20,7 @@ acts_form laws call outcome form is does own = record {
   usage = (λ e. absurd (does.form e), λ none. absurd (some_is form (subst IsNone (sym is) none)));
   nothing = subst (λ f. IfNone f (call.after ≡ call.before)) is tt;
   does = subst (λ f. IfSome f (λ form. DoesForm form call.before call.after outcome)) is does;
-  caused = subst (λ f. IfSome f (λ form. OfTexts (sources_of form) call.before.sources (RefusesTexts outcome))) is (does_cause laws form call.before call.after outcome does);
+  caused = subst (λ f. IfSome f (λ form. OfTexts (sources_of form) call.before.sources (RefusesTexts form outcome))) is (does_cause laws form call.before call.after outcome does);
   first = subst (λ f. IfSome f (λ form. IfSome (told (sources_of form).first call.before.sources.first) (RefusesText outcome))) is (does_first laws form call.before call.after outcome does);
   own = subst (λ f. IfSome f (λ form. IsOwn form call.before.sources.second.bytes outcome)) is own;
 }

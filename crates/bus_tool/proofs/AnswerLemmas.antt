@@ -3,7 +3,7 @@ use Rattle.std.specs.Prelude.{◌≡◌, ◌≢◌, ℕ, List, Option, Some, Non
 use Rattle.std.proofs.Common.{arith, refl, sym, ap, subst, inl, inr}
 use Rattle.bus_outer.specs.Faults.{Fails}
 use Rattle.bus_tool.specs.declared.forms.Form.{Form}
-use Rattle.bus_tool.specs.declared.forms.Form.TheVariants.{Check, Tidy, Report, Witness, Plan, Drill, Observe, Run, Drop, Receive, Audit, Vote}
+use Rattle.bus_tool.specs.declared.forms.Form.TheVariants.{Check, Tidy, Report, Witness, Plan, Drill, Observe, Run, Drop, Receive, Audit, Vote, Wave, Unwave}
 use Rattle.bus_tool.specs.declared.outcome.Outcome.{Outcome}
 use Rattle.bus_tool.specs.declared.outcome.Outcome.TheVariants.{Usage, ReadFault, WriteFault, NoMemory}
 use Rattle.bus_tool.specs.declared.status.Status.{Status}
@@ -52,6 +52,8 @@ of_form Drop first second o h = h
 of_form Receive first second o h = h
 of_form Audit first second o h = h
 of_form Vote first second o h = h
+of_form Wave first second o h = h
+of_form Unwave first second o h = h
 
 -- an outcome that stands for the one that is due, where nothing failed
 stands_status : (due o : Outcome) (named : Named) (f s f' s' : List ℕ) → StandsFor due o → SourceCounts named (both (steady f) (steady s)) (both (steady f') (steady s')) (kind_of o) → OutCounts counting counting (kind_of o) → o ≢ Usage → IsStatusOf due (status_of o)

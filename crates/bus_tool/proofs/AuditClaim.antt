@@ -13,7 +13,7 @@ use Rattle.bus_tool.specs.Outcomes.{status_of}
 use Rattle.bus_tool.specs.Stages.{StandsFor}
 use Rattle.bus_tool.specs.Outside.{Call}
 use Rattle.bus_tool.specs.Readers.{Trace, entire, two_sources}
-use Rattle.bus_tool.specs.Due.{Traced, with_trace, traced_due, audit_outcome, audit_of, outcome_with}
+use Rattle.bus_tool.specs.Due.{Traced, with_trace, traced_due, any_trace, audit_outcome, audit_of, outcome_with}
 use Rattle.bus_tool.specs.Texts.{IsTextOf, IsAuditText}
 use Rattle.bus_tool.specs.Acts.{Acts}
 use Rattle.bus_tool.specs.TraceClaims.{IsAuditOf, GivesFinding}
@@ -39,7 +39,7 @@ audit_claim laws call outcome table trace acts h =
     let first = h.table_told.text in
     let second = h.trace_told.stream in
     let before = call.before.sources in
-    let due : traced_due first second ≡ Ok (with_trace table trace) = traced_told table trace first second (table_told laws.texts.table_again table before.first h.table_told) (held_trace laws.texts.trace_back second trace h.trace_told.stands) in
+    let due : traced_due first second ≡ Ok (with_trace table trace) = traced_told any_trace table trace first second (table_told laws.texts.table_again table before.first h.table_told) (held_trace laws.texts.trace_back second trace h.trace_told.stands) in
     let does = does_of call outcome Audit (ap form_of h.form.form) acts in
     let is = h.trace_told.stands.text.trace in (
       answer_of table trace,

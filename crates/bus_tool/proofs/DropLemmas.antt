@@ -1,5 +1,5 @@
 -- `drop` of its steps.
-use Rattle.std.specs.Prelude.{◌≡◌, ℕ, ◌≤◌, nat_lt, true, false, Bool, IfOk, IfSome, List, Option, Some, None, Result, Ok, Err, IsErrAnd, Vec}
+use Rattle.std.specs.Prelude.{◌≡◌, ℕ, ◌≤◌, nat_lt, true, false, Bool, IfSome, List, Option, Some, None, Result, Ok, Err, IsErrAnd, Vec}
 use Rattle.std.specs.declared.alloc.Global.{Global}
 use Rattle.std.proofs.Common.{arith, refl, sym, ap, ◌∙◌, subst, cond}
 use Rattle.std.proofs.lemmas.Bool.Decides.{nat_tests}
@@ -11,7 +11,7 @@ use Rattle.bus_outer.specs.declared.sink.WriteFault.{WriteFault as Fault}
 use Rattle.bus_table.specs.declared.mode.Mode.TheVariants.{Aperiodic}
 use Rattle.bus_table.specs.Tables.{Table, Hand}
 use Rattle.bus_regime.specs.Verdicts.{verdict_of}
-use Rattle.bus_dropout.specs.DropOut.{last_cycle, drop_end, LastIsLong}
+use Rattle.bus_dropout.specs.DropOut.{last_cycle, drop_end}
 use Rattle.bus_dropout.specs.Runs.{IsDropRun}
 use Rattle.bus_schedule.specs.Limits.{longest_end}
 use Rattle.bus_strings.specs.Messages.{Entry}

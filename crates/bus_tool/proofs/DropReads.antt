@@ -1,5 +1,5 @@
 -- What is asked of the inputs of `drop`, by what is due.
-use Rattle.std.specs.Prelude.{◌≡◌, ℕ, ◌<◌, ◌≤◌, nat_lt, true, false, Bool, ◌⊎◌, List, Option, Some, None, IfSome, Result, Ok, Err}
+use Rattle.std.specs.Prelude.{◌≡◌, ℕ, ◌<◌, ◌≤◌, nat_lt, true, false, Bool, ◌⊎◌, IsTrue, List, Option, Some, None, Result, Ok, Err}
 use Rattle.std.proofs.Common.{arith, refl, sym, ap, ◌∙◌, subst, cond, inl, inr}
 use Rattle.std.proofs.lemmas.Bool.Decides.{nat_tests}
 use Rattle.bus_text.specs.AllOf.{◌>>=◌}
@@ -64,7 +64,7 @@ pub record IsDroppable (inputs : Inputs) : Type 0 where
 -- why the inputs aren't run
 pub data NotDropped (inputs : Inputs) (o : Outcome) : Type 0 where
   NotAccepted : is_accepted (verdict_of inputs.table) ≡ false → o ≡ Refused (verdict_of inputs.table) → NotDropped inputs o
-  Shorter : (least : ℕ) → last_cycle inputs.table (hands_in inputs) ≡ Some least → least < inputs.table.ti → o ≡ ShortLast least inputs.table.ti → NotDropped inputs o
+  Shorter : IsTrue (is_accepted (verdict_of inputs.table)) → (least : ℕ) → last_cycle inputs.table (hands_in inputs) ≡ Some least → least < inputs.table.ti → o ≡ ShortLast least inputs.table.ti → NotDropped inputs o
   Longer : longest_end < drop_end inputs.table (hands_in inputs) → o ≡ TooLong (drop_end inputs.table (hands_in inputs)) → NotDropped inputs o
 
 -- each step, by its answer
@@ -135,7 +135,7 @@ drops_err inputs o h = elim (bind_err (can_drop inputs.table (hands_in inputs)) 
       | inl g ↦ let k = accepted_err (verdict_of inputs.table) o (is_accepted (verdict_of inputs.table)) refl g in NotAccepted k.0 k.1
       | inr w ↦
           let k = last_err (last_cycle inputs.table (hands_in inputs)) inputs.table.ti o w.2 in
-          Shorter k.least k.last_is k.shorter k.came
+          Shorter (accepted_ok (verdict_of inputs.table) w.0 (is_accepted (verdict_of inputs.table)) refl w.1) k.least k.last_is k.shorter k.came
     ]
   ]
 ]
@@ -165,7 +165,7 @@ drop_stop first second o h = elim (bind_err (inputs_in Aperiodic first second) d
 
 not_dropped_unwritten : (inputs : Inputs) (o : Outcome) → NotDropped inputs o → is_answer (kind_of o) ≡ false
 not_dropped_unwritten inputs o (NotAccepted why e) = ap (λ o. is_answer (kind_of o)) e
-not_dropped_unwritten inputs o (Shorter least is less e) = ap (λ o. is_answer (kind_of o)) e
+not_dropped_unwritten inputs o (Shorter accepted least is less e) = ap (λ o. is_answer (kind_of o)) e
 not_dropped_unwritten inputs o (Longer why e) = ap (λ o. is_answer (kind_of o)) e
 
 pub drop_unwritten : (first second : List ℕ) (o : Outcome) → drop_due first second ≡ Err o → is_answer (kind_of o) ≡ false

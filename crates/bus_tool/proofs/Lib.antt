@@ -26,6 +26,7 @@ pub mod ReceiveLemmas
 pub mod AuditLemmas
 pub mod RanLemmas
 pub mod VoteLemmas
+pub mod WaveLemmas
 pub mod RunLemmas
 pub mod DropLemmas
 pub mod ActLemmas
@@ -34,6 +35,7 @@ pub mod ClaimLemmas
 pub mod ToldLemmas
 pub mod ReadLemmas
 pub mod TraceReads
+pub mod WaveReads
 pub mod OwnLemmas
 pub mod RunReads
 pub mod DropReads
@@ -47,6 +49,7 @@ pub mod ObserveClaim
 pub mod ReceiveClaim
 pub mod AuditClaim
 pub mod VoteClaim
+pub mod WaveClaim
 pub mod CauseLemmas
 pub mod AnswerLemmas
 pub mod TextLawLemmas

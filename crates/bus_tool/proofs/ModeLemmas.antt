@@ -46,7 +46,7 @@ pub no_table_in : (needed : Mode) (old new : Seen) (o : Outcome) (r : Result Tab
 no_table_in needed old new o r h t =
     let came = err_from_is_err_and r h in
     subst (Takes Same 1 entire (table_in needed) old new) (sym (came.1 ∙ ap Err came.2))
-    (takes_none Same Same entire table_due (mode_or_refusal needed) old new o (mode_stage needed) t)
+    (takes_none Same Same 1 entire table_due (mode_or_refusal needed) old new o (omega arith) (mode_stage needed) t)
 
 judged : (needed : Mode) (old new : Seen) (table : Table) (b : _) → Takes Same 1 entire table_due old new (Ok table)
     → is_mode needed table.mode ≡ b → Takes Same 1 entire (table_in needed) old new (cond b (Ok table) (Err (TableMode needed)))

@@ -1,5 +1,5 @@
 -- Outcomes of a form's own.
-use Rattle.std.specs.Prelude.{◌≡◌, ℕ, nat_lt, true, false, List, length, Option, IfSome, Vec, Result, Ok, Err, IfErr, IsErrAnd}
+use Rattle.std.specs.Prelude.{◌≡◌, ℕ, ◌<◌, nat_lt, true, false, List, length, Option, IfSome, Vec, Result, Ok, Err, IfErr, IsErrAnd}
 use Rattle.std.specs.Prelude.{IsTrue}
 use Rattle.std.specs.declared.alloc.Global.{Global}
 use Rattle.std.proofs.Common.{refl, sym, ap, ◌∙◌, subst, cond}
@@ -33,21 +33,30 @@ use Rattle.bus_trace.specs.declared.fault.TraceError.TheVariants as trace
 use Rattle.bus_trace.specs.Limits.{text_limit as trace_limit}
 use Rattle.bus_trace.specs.Reading.{ReadGives}
 use Rattle.bus_trace.specs.Runs.{reading}
-use Rattle.bus_trace.specs.TraceLaws.{ReadsBack}
+use Rattle.bus_trace.specs.TraceLaws.{ReadsBack, ReadsOnlyTraces}
+use Rattle.bus_trace.specs.Traces.{Recording}
+use Rattle.bus_wave.specs.declared.fault.WaveError.{WaveError}
+use Rattle.bus_wave.specs.declared.fault.WaveError.TheVariants as wave
+use Rattle.bus_wave.specs.declared.fault.WaveFault.{WaveFault}
+use Rattle.bus_wave.specs.Gives.{Fails as WaveFails}
+use Rattle.bus_wave.specs.Reading.{wave_reading}
+use Rattle.bus_wave.specs.Spacing.{spaced_of}
+use Rattle.bus_wave.specs.WaveLaws.{WavesReadBack}
 use Rattle.bus_tool.specs.declared.forms.Form.{Form}
-use Rattle.bus_tool.specs.declared.forms.Form.TheVariants.{Plan, Run, Drop, Audit}
+use Rattle.bus_tool.specs.declared.forms.Form.TheVariants.{Plan, Run, Drop, Audit, Wave}
 use Rattle.bus_tool.specs.declared.outcome.Outcome.{Outcome}
-use Rattle.bus_tool.specs.declared.outcome.Outcome.TheVariants.{TableMode, Unfit, NoMemory, TooLarge}
+use Rattle.bus_tool.specs.declared.outcome.Outcome.TheVariants.{TableMode, Unfit, Unspaced, NoMemory, TooLarge, ShortLast}
 use Rattle.bus_tool.specs.Acts.{written}
-use Rattle.bus_tool.specs.Due.{text_due, table_refusal, is_mode, mode_or_refusal, messages_refusal, trace_refusal, schedule_refusal}
+use Rattle.bus_tool.specs.Due.{text_within, text_due, trace_due, wave_refusal, table_refusal, is_mode, mode_or_refusal, messages_refusal, trace_refusal, schedule_refusal}
 use Rattle.bus_tool.specs.Due.{uneven_refusal, verdict_outcome, plan_outcome, audit_outcome}
 use Rattle.bus_tool.specs.Outside.{Seen}
 use Rattle.bus_tool.specs.Own.{is_question, IsOwn, IsOf, IsAnyones, IsOfMode, IsOfReader}
-use Rattle.bus_tool.specs.Readers.{Trace, entire, text_limit}
-use Rattle.bus_tool.specs.Steps.{IsText, Takes, read_refusal}
+use Rattle.bus_tool.specs.Readers.{Entire, Trace, entire, entire_wave, text_limit, wave_limit}
+use Rattle.bus_tool.specs.Steps.{IsText, Same, Takes, read_refusal}
 use Rattle.bus_tool.proofs.LawTypes.{TextReadsAsItsItems, ReadsItems}
 use Rattle.bus_tool.proofs.StageLemmas.{if_map}
-use Rattle.bus_tool.proofs.TraceReads.{held_trace}
+use Rattle.bus_tool.proofs.TraceReads.{held_trace, read_trace}
+use Rattle.bus_tool.proofs.WaveReads.{refused_wave}
 
 -- a step stopped at this outcome
 pub own_stop : {X : Type 0} (P : Outcome → Type 0) (o : Outcome) (r : Result X Outcome) → IsErrAnd r (λ came. came ≡ o) → P o → IfErr r P
@@ -82,13 +91,13 @@ mode_own needed table r h = subst (λ r. IfErr r (IsOfMode needed)) (sym h) (oth
 
 -- ---- a messages text
 -- the text that was read is the one that is told
-same_text : (number : ℕ) (text given : List ℕ) → text_due number text ≡ Ok given → given ≡ text
-same_text number text given h =
-    elim (nat_lt text_limit (length text)) as (λ b. cond b (Err (TooLarge number)) (Ok text) ≡ Ok given → given ≡ text) [ true ↦ λ k. cc | false ↦ λ k. cc ] h
+same_text : (limit number : ℕ) (text given : List ℕ) → text_within limit number text ≡ Ok given → given ≡ text
+same_text limit number text given h =
+    elim (nat_lt limit (length text)) as (λ b. cond b (Err (TooLarge number)) (Ok text) ≡ Ok given → given ≡ text) [ true ↦ λ k. cc | false ↦ λ k. cc ] h
 
-told_text : (number : ℕ) (old new : Seen) (text : Vec ℕ Global) → Takes IsText number entire (text_due number) old new (Ok text)
-    → IfSome old.bytes (λ bytes. text.items ≡ bytes)
-told_text number old new text t = if_map old.bytes _ _ (λ bytes g. g.2 ∙ same_text number bytes g.0 g.1) t.gives
+told_text : (limit number : ℕ) (old new : Seen) (text : Vec ℕ Global)
+    → Takes IsText number (Entire limit) (text_within limit number) old new (Ok text) → IfSome old.bytes (λ bytes. text.items ≡ bytes)
+told_text limit number old new text t = if_map old.bytes _ _ (λ bytes g. g.2 ∙ same_text limit number bytes g.0 g.1) t.gives
 
 -- it is refused
 pub messages_own : TextReadsAsItsItems → (old new : Seen) (text : Vec ℕ Global) (bytes : List ℕ) (e : MessagesError)
@@ -98,7 +107,7 @@ messages_own again old new text bytes (NotRead line reason) t same fails = λ fo
   by = is;
   told = if_map old.bytes _ _ (λ told read. λ items stands.
       (let k = again told items stands in let j = subst (λ b. Fails (NotRead line reason) (messages_reading b)) (same ∙ read) fails in cc))
-      (told_text 2 old new text t);
+      (told_text text_limit 2 old new text t);
 }
 messages_own again old new text bytes NoRoom t same fails = λ form is. tt
 
@@ -114,7 +123,7 @@ unfit_own found old new text bytes table items e t same read valid why = λ form
     valid = valid;
     items_stand = found told items (subst (λ b. messages_reading b ≡ Ok items) (same ∙ given) read);
     why = why;
-  }) (told_text 2 old new text t);
+  }) (told_text text_limit 2 old new text t);
 }
 
 -- ---- a trace
@@ -128,6 +137,36 @@ trace_own back told trace.ReadFault g = λ form is. tt
 trace_own back told trace.TooLarge g = λ form is. tt
 trace_own back told trace.Memory g = λ form is. tt
 
+-- it isn't spaced
+pub unspaced_own : ReadsOnlyTraces → (old new : Seen) (table : Table) (trace : Recording) (fault : WaveFault)
+    → Takes Same 2 Trace trace_due old new (Ok trace) → IsTrue (is_valid table) → spaced_of table trace ≡ Err fault
+    → IsOwn Wave old.bytes (Unspaced fault)
+unspaced_own only old new table trace fault t valid why = (
+  refl,
+  if_map old.bytes _ _ (λ stream g. record {
+    table = table;
+    trace = trace;
+    valid = valid;
+    trace_stands = read_trace only stream trace (g.1 ∙ ap Ok (sym g.2));
+    why = why;
+  }) t.gives,
+)
+
+-- ---- a wave
+pub wave_own : WavesReadBack → (old new : Seen) (text : Vec ℕ Global) (bytes : List ℕ) (table : Table) (e : WaveError)
+    → Takes IsText 2 entire_wave (text_within wave_limit 2) old new (Ok text) → bytes ≡ text.items → IsTrue (is_valid table)
+    → WaveFails e (wave_reading table bytes) → IsOfReader entire_wave old.bytes (wave_refusal e)
+wave_own back old new text bytes table (wave.Text line reason) t same valid fails = λ form is. record {
+  by = is;
+  told = if_map old.bytes _ _ (λ told read. record {
+    table = table;
+    valid = valid;
+    none = refused_wave back table told (record { line = line; reason = reason }) valid
+        (subst (λ b. wave_reading table b ≡ Err (record { line = line; reason = reason })) (same ∙ read) fails);
+  }) (told_text wave_limit 2 old new text t);
+}
+wave_own back old new text bytes table wave.Memory t same valid fails = λ form is. tt
+
 -- ---- a run
 pub schedule_own : (e : ScheduleError) → IsOf Run (schedule_refusal e)
 schedule_own Tight = λ second. tt
@@ -139,6 +178,10 @@ uneven_own uneven = λ second. refl
 pub dropped_own : (e : ScheduleError) → IsOf Drop (schedule_refusal e)
 dropped_own Tight = λ second. tt
 dropped_own (Long end) = λ second. refl
+
+-- a last cycle that is too short
+pub last_own : (least ti : ℕ) → least < ti → IsOf Drop (ShortLast least ti)
+last_own least ti less = λ second. (refl, less)
 
 -- ---- the answers
 pub verdict_own : (form : Form) (second : Option (List ℕ)) (verdict : TableVerdict) (o : Outcome) → IsTrue (is_question form)

@@ -15,20 +15,19 @@ use Rattle.bus_table.specs.declared.mode.Mode.{Mode}
 use Rattle.bus_table.specs.Tables.{Table}
 use Rattle.bus_table.specs.Fits.{items_fit}
 use Rattle.bus_table.specs.Reading.{answer_of}
-use Rattle.bus_trace.specs.declared.reason.TraceReason.{TraceReason}
 use Rattle.bus_tool.specs.declared.outcome.Outcome.{Outcome}
-use Rattle.bus_tool.specs.declared.outcome.Outcome.TheVariants.{TableText, TableWhole, TableMode, MessagesText, Unfit, TraceText, NoMemory, TooLarge}
+use Rattle.bus_tool.specs.declared.outcome.Outcome.TheVariants.{TableText, TableWhole, TableMode, MessagesText, Unfit, NoMemory, TooLarge}
 use Rattle.bus_tool.specs.Kinds.{Kind, NoForm, NotRead, TooMuch, Wrong, Late, NotWritten, NoRoom, Answer, kind_of, is_answer}
 use Rattle.bus_tool.specs.Stages.{stage_in}
 use Rattle.bus_tool.specs.Readers.{text_limit}
 use Rattle.bus_tool.specs.Steps.{StopsAt}
-use Rattle.bus_tool.specs.Due.{text_due, table_refusal, table_or_refusal, table_due, items_or_refusal, fitting_or_refusal, items_due, Inputs, with_items, inputs_due}
+use Rattle.bus_tool.specs.Due.{text_within, table_refusal, table_or_refusal, table_due, items_or_refusal, fitting_or_refusal, items_due, Inputs, with_items, inputs_due}
 use Rattle.bus_tool.proofs.StageLemmas.{stop_stage}
 
 -- a text that was read, where the outcome isn't that it is too large
-read_text : {Y : Type 0} (number : ℕ) (text : List ℕ) (f : List ℕ → Result Y Outcome) (r : Result Y Outcome) → (Err (TooLarge number) ≡ r → ⊥) → (text_due number text >>= f) ≡ r → f text ≡ r
-read_text number text f r never h =
-    elim (nat_lt text_limit (length text)) as (λ b. (cond b (Err (TooLarge number)) (Ok text) >>= f) ≡ r → f text ≡ r) [ true ↦ λ k. absurd (never k) | false ↦ λ k. k ] h
+pub read_text : {Y : Type 0} (limit number : ℕ) (text : List ℕ) (f : List ℕ → Result Y Outcome) (r : Result Y Outcome) → (Err (TooLarge number) ≡ r → ⊥) → (text_within limit number text >>= f) ≡ r → f text ≡ r
+read_text limit number text f r never h =
+    elim (nat_lt limit (length text)) as (λ b. (cond b (Err (TooLarge number)) (Ok text) >>= f) ≡ r → f text ≡ r) [ true ↦ λ k. absurd (never k) | false ↦ λ k. k ] h
 
 -- the first step stopped, or the second
 pub bind_err : {A B R : Type 0} (r : Result A R) (f : A → Result B R) (e : R) → (r >>= f) ≡ Err e → (r ≡ Err e) ⊎ ((x : A) × (r ≡ Ok x) × (f x ≡ Err e))
@@ -41,7 +40,7 @@ ok_table (Ok t) table h = (let e : t ≡ table = cc in ap Ok e)
 ok_table (Err error) table h = absurd cc
 
 pub table_read : (text : List ℕ) (table : Table) → table_due text ≡ Ok table → answer_of text ≡ Ok table
-table_read text table h = ok_table (answer_of text) table (read_text 1 text (λ whole. table_or_refusal (answer_of whole)) (Ok table) (λ e. cc) h)
+table_read text table h = ok_table (answer_of text) table (read_text text_limit 1 text (λ whole. table_or_refusal (answer_of whole)) (Ok table) (λ e. cc) h)
 
 text_error : (r : Result Table TableError) (line : ℕ) (reason : Reason) → table_or_refusal r ≡ Err (TableText line reason) → r ≡ Err (Text line reason)
 text_error (Ok t) line reason h = absurd cc
@@ -51,7 +50,7 @@ text_error (Err Memory) line reason h = absurd (let e : NoMemory ≡ TableText l
 
 pub table_text_read : (text : List ℕ) (line : ℕ) (reason : Reason) → table_due text ≡ Err (TableText line reason) → answer_of text ≡ Err (Text line reason)
 table_text_read text line reason h =
-    text_error (answer_of text) line reason (read_text 1 text (λ whole. table_or_refusal (answer_of whole)) (Err (TableText line reason)) (λ e. let k : TooLarge 1 ≡ TableText line reason = cc in cc) h)
+    text_error (answer_of text) line reason (read_text text_limit 1 text (λ whole. table_or_refusal (answer_of whole)) (Err (TableText line reason)) (λ e. let k : TooLarge 1 ≡ TableText line reason = cc in cc) h)
 
 whole_error : (r : Result Table TableError) (reason : WholeReason) → table_or_refusal r ≡ Err (TableWhole reason) → r ≡ Err (Whole reason)
 whole_error (Ok t) reason h = absurd cc
@@ -61,7 +60,7 @@ whole_error (Err Memory) reason h = absurd (let e : NoMemory ≡ TableWhole reas
 
 pub table_whole_read : (text : List ℕ) (reason : WholeReason) → table_due text ≡ Err (TableWhole reason) → answer_of text ≡ Err (Whole reason)
 table_whole_read text reason h =
-    whole_error (answer_of text) reason (read_text 1 text (λ whole. table_or_refusal (answer_of whole)) (Err (TableWhole reason)) (λ e. let k : TooLarge 1 ≡ TableWhole reason = cc in cc) h)
+    whole_error (answer_of text) reason (read_text text_limit 1 text (λ whole. table_or_refusal (answer_of whole)) (Err (TableWhole reason)) (λ e. let k : TooLarge 1 ≡ TableWhole reason = cc in cc) h)
 
 -- it isn't refused for its mode
 no_mode_error : (r : Result Table TableError) (needed : Mode) → table_or_refusal r ≡ Err (TableMode needed) → ⊥
@@ -72,7 +71,7 @@ no_mode_error (Err Memory) needed h = (let e : NoMemory ≡ TableMode needed = c
 
 pub table_no_mode : (text : List ℕ) (needed : Mode) → table_due text ≡ Err (TableMode needed) → ⊥
 table_no_mode text needed h =
-    no_mode_error (answer_of text) needed (read_text 1 text (λ whole. table_or_refusal (answer_of whole)) (Err (TableMode needed))
+    no_mode_error (answer_of text) needed (read_text text_limit 1 text (λ whole. table_or_refusal (answer_of whole)) (Err (TableMode needed))
     (λ e. let k : TooLarge 1 ≡ TableMode needed = cc in cc) h)
 
 -- it is refused at its own source
@@ -86,15 +85,15 @@ error_stops (Ok t) o h = absurd cc
 error_stops (Err error) o h = (let e : table_refusal error ≡ o = cc in subst (λ o. StopsAt 1 (kind_of o)) e (refusal_stops error))
 
 -- a text that is too large, or that is refused
-text_stops : {Y : Type 0} (number : ℕ) (text : List ℕ) (f : List ℕ → Result Y Outcome) (o : Outcome) → (f text ≡ Err o → StopsAt number (kind_of o)) → (text_due number text >>= f) ≡ Err o → StopsAt number (kind_of o)
-text_stops number text f o stops h =
-    elim (nat_lt text_limit (length text)) as (λ b. (cond b (Err (TooLarge number)) (Ok text) >>= f) ≡ Err o → StopsAt number (kind_of o)) [
+pub text_stops : {Y : Type 0} (limit number : ℕ) (text : List ℕ) (f : List ℕ → Result Y Outcome) (o : Outcome) → (f text ≡ Err o → StopsAt number (kind_of o)) → (text_within limit number text >>= f) ≡ Err o → StopsAt number (kind_of o)
+text_stops limit number text f o stops h =
+    elim (nat_lt limit (length text)) as (λ b. (cond b (Err (TooLarge number)) (Ok text) >>= f) ≡ Err o → StopsAt number (kind_of o)) [
       | true ↦ λ k. (let e : TooLarge number ≡ o = cc in subst (λ o. StopsAt number (kind_of o)) e refl)
       | false ↦ stops
     ] h
 
 pub table_stops : (text : List ℕ) (o : Outcome) → table_due text ≡ Err o → StopsAt 1 (kind_of o)
-table_stops text o h = text_stops 1 text (λ whole. table_or_refusal (answer_of whole)) o (error_stops (answer_of text) o) h
+table_stops text o h = text_stops text_limit 1 text (λ whole. table_or_refusal (answer_of whole)) o (error_stops (answer_of text) o) h
 
 -- ---- the second text
 -- the messages text, and whether the items fit
@@ -117,18 +116,27 @@ fit_no_text : (fit : Result (Unit {0}) FitError) (given : List Item) (line : ℕ
 fit_no_text (Ok u) given line reason h = cc
 fit_no_text (Err e) given line reason h = (let k : Unfit e ≡ MessagesText line reason = cc in cc)
 
-fit_no_trace : (fit : Result (Unit {0}) FitError) (given : List Item) (byte : ℕ) (reason : TraceReason) → fitting_or_refusal fit given ≡ Err (TraceText byte reason) → ⊥
-fit_no_trace (Ok u) given byte reason h = cc
-fit_no_trace (Err e) given byte reason h = (let k : Unfit e ≡ TraceText byte reason = cc in cc)
+-- an outcome that may refuse a messages text
+abbrev pub IsOfItems : Outcome → Type 0
+IsOfItems (MessagesText line reason) = Unit {0}
+IsOfItems (Unfit error) = Unit {0}
+IsOfItems (TooLarge source) = Unit {0}
+IsOfItems o = ⊥
 
-made_no_trace : (table : Table) (reading : Result (List Item) Refusal) (byte : ℕ) (reason : TraceReason) → made_items table reading ≡ Err (TraceText byte reason) → ⊥
-made_no_trace table (Ok given) byte reason h = fit_no_trace (items_fit table given) given byte reason h
-made_no_trace table (Err refusal) byte reason h = (let k : MessagesText refusal.line refusal.reason ≡ TraceText byte reason = cc in cc)
+fit_refuses : (fit : Result (Unit {0}) FitError) (given : List Item) (o : Outcome) → fitting_or_refusal fit given ≡ Err o → IsOfItems o
+fit_refuses (Ok u) given o h = absurd cc
+fit_refuses (Err e) given o h = (let k : Unfit e ≡ o = cc in subst IsOfItems k tt)
 
--- a messages text is not refused as a trace
-pub items_no_trace : (table : Table) (text : List ℕ) (byte : ℕ) (reason : TraceReason) → items_due table text ≡ Err (TraceText byte reason) → ⊥
-items_no_trace table text byte reason h =
-    made_no_trace table (messages_reading text) byte reason (read_text 2 text (λ whole. made_items table (messages_reading whole)) (Err (TraceText byte reason)) (λ e. let k : TooLarge 2 ≡ TraceText byte reason = cc in cc) h)
+made_refuses : (table : Table) (reading : Result (List Item) Refusal) (o : Outcome) → made_items table reading ≡ Err o → IsOfItems o
+made_refuses table (Ok given) o h = fit_refuses (items_fit table given) given o h
+made_refuses table (Err refusal) o h = (let k : MessagesText refusal.line refusal.reason ≡ o = cc in subst IsOfItems k tt)
+
+pub items_refuse : (table : Table) (text : List ℕ) (o : Outcome) → items_due table text ≡ Err o → IsOfItems o
+items_refuse table text o h =
+    elim (nat_lt text_limit (length text)) as (λ b. (cond b (Err (TooLarge 2)) (Ok text) >>= λ whole. made_items table (messages_reading whole)) ≡ Err o → IsOfItems o) [
+      | true ↦ λ k. (let e : TooLarge 2 ≡ o = cc in subst IsOfItems e tt)
+      | false ↦ λ k. made_refuses table (messages_reading text) o k
+    ] h
 
 made_ok : (table : Table) (reading : Result (List Item) Refusal) (items : List Item) → made_items table reading ≡ Ok items → (reading ≡ Ok items) × (items_fit table items ≡ Ok tt)
 made_ok table (Ok given) items h = (let f = fit_ok (items_fit table given) given items h in (ap Ok f.0, ap (items_fit table) (sym f.0) ∙ f.1))
@@ -136,7 +144,7 @@ made_ok table (Err refusal) items h = absurd cc
 
 pub items_read : (table : Table) (text : List ℕ) (items : List Item) → items_due table text ≡ Ok items → ItemsRead table text items (Ok tt)
 items_read table text items h =
-    let made = made_ok table (messages_reading text) items (read_text 2 text (λ whole. made_items table (messages_reading whole)) (Ok items) (λ e. cc) h) in
+    let made = made_ok table (messages_reading text) items (read_text text_limit 2 text (λ whole. made_items table (messages_reading whole)) (Ok items) (λ e. cc) h) in
     record { read = made.0; fits = made.1 }
 
 made_text : (table : Table) (reading : Result (List Item) Refusal) (line : ℕ) (reason : Reason) → made_items table reading ≡ Err (MessagesText line reason) → (refusal : Refusal) × (reading ≡ Err refusal)
@@ -146,7 +154,7 @@ made_text table (Err refusal) line reason h = (refusal, refl)
 -- a messages text that is refused
 pub messages_text_read : (table : Table) (text : List ℕ) (line : ℕ) (reason : Reason) → items_due table text ≡ Err (MessagesText line reason) → (refusal : Refusal) × (messages_reading text ≡ Err refusal)
 messages_text_read table text line reason h =
-    made_text table (messages_reading text) line reason (read_text 2 text (λ whole. made_items table (messages_reading whole)) (Err (MessagesText line reason)) (λ e. let k : TooLarge 2 ≡ MessagesText line reason = cc in cc) h)
+    made_text table (messages_reading text) line reason (read_text text_limit 2 text (λ whole. made_items table (messages_reading whole)) (Err (MessagesText line reason)) (λ e. let k : TooLarge 2 ≡ MessagesText line reason = cc in cc) h)
 
 made_unfit : (table : Table) (reading : Result (List Item) Refusal) (error : FitError) → made_items table reading ≡ Err (Unfit error) → (items : List Item) × (reading ≡ Ok items) × (items_fit table items ≡ Err error)
 made_unfit table (Ok given) error h = (given, refl, fit_err (items_fit table given) given error h)
@@ -155,7 +163,7 @@ made_unfit table (Err refusal) error h = absurd (let k : MessagesText refusal.li
 -- items that don't fit
 pub unfit_read : (table : Table) (text : List ℕ) (error : FitError) → items_due table text ≡ Err (Unfit error) → (items : List Item) × ItemsRead table text items (Err error)
 unfit_read table text error h =
-    let made = made_unfit table (messages_reading text) error (read_text 2 text (λ whole. made_items table (messages_reading whole)) (Err (Unfit error)) (λ e. let k : TooLarge 2 ≡ Unfit error = cc in cc) h) in
+    let made = made_unfit table (messages_reading text) error (read_text text_limit 2 text (λ whole. made_items table (messages_reading whole)) (Err (Unfit error)) (λ e. let k : TooLarge 2 ≡ Unfit error = cc in cc) h) in
     (made.0, record { read = made.1; fits = made.2 })
 
 -- ---- both texts
@@ -188,10 +196,10 @@ made_stops table (Ok given) o h = fit_stops (items_fit table given) given o h
 made_stops table (Err refusal) o h = (let k : MessagesText refusal.line refusal.reason ≡ o = cc in subst (λ o. StopsAt 2 (kind_of o)) k refl)
 
 pub items_stop : (table : Table) (text : List ℕ) (o : Outcome) → items_due table text ≡ Err o → StopsAt 2 (kind_of o)
-items_stop table text o h = text_stops 2 text (λ whole. made_items table (messages_reading whole)) o (made_stops table (messages_reading text) o) h
+items_stop table text o h = text_stops text_limit 2 text (λ whole. made_items table (messages_reading whole)) o (made_stops table (messages_reading text) o) h
 
 -- so it comes no earlier
-stage_at : {Y : Type 0} (number : ℕ) (due : Result Y Outcome) → number ≤ 3 → ((o : Outcome) → due ≡ Err o → StopsAt number (kind_of o)) → number ≤ stage_in due
+pub stage_at : {Y : Type 0} (number : ℕ) (due : Result Y Outcome) → number ≤ 3 → ((o : Outcome) → due ≡ Err o → StopsAt number (kind_of o)) → number ≤ stage_in due
 stage_at number (Ok y) low stops = low
 stage_at number (Err o) low stops = stop_stage number (kind_of o) low (stops o refl)
 

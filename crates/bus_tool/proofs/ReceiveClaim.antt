@@ -13,7 +13,7 @@ use Rattle.bus_tool.specs.Outcomes.{status_of}
 use Rattle.bus_tool.specs.Stages.{StandsFor}
 use Rattle.bus_tool.specs.Outside.{Call}
 use Rattle.bus_tool.specs.Readers.{Trace, entire, two_sources}
-use Rattle.bus_tool.specs.Due.{Traced, with_trace, traced_due, outcome_with}
+use Rattle.bus_tool.specs.Due.{Traced, with_trace, traced_due, any_trace, outcome_with}
 use Rattle.bus_tool.specs.Texts.{IsTextOf, IsReceiveText}
 use Rattle.bus_tool.specs.Acts.{Acts}
 use Rattle.bus_tool.specs.TraceClaims.{IsReceiveOf, GivesReceived}
@@ -37,7 +37,7 @@ receive_claim laws call outcome table trace acts h =
     let first = h.table_told.text in
     let second = h.trace_told.stream in
     let before = call.before.sources in
-    let due : traced_due first second ≡ Ok (with_trace table trace) = traced_told table trace first second (table_told laws.table_again table before.first h.table_told) (held_trace laws.trace_back second trace h.trace_told.stands) in
+    let due : traced_due first second ≡ Ok (with_trace table trace) = traced_told any_trace table trace first second (table_told laws.table_again table before.first h.table_told) (held_trace laws.trace_back second trace h.trace_told.stands) in
     let does = does_of call outcome Receive (ap form_of h.form.form) acts in
     answers (two_sources entire Trace) Done outcome _ (λ text. text ≡ received_text table trace.list) call refl
     (λ text is. received (with_trace table trace) (traced_due first second) text due (of_both entire Trace (λ a b. IsTextOf IsReceiveText (traced_due a b) text) before first second h.table_told.told h.trace_told.told is))

@@ -92,17 +92,17 @@ gives_first NotWritten o due f stop later g = absurd stop
 gives_first NoRoom o due f stop later g = then_stage 1 due f g (λ y. omega (arith, later y))
 gives_first Answer o due f stop later g = absurd stop
 
--- a step stopped at the first source, and what is asked behind it comes no earlier
-pub gives_own : {Y W : Type 0} (k : Kind) (o : Outcome) (due : Result Y Outcome) (f : Y → Result W Outcome) → StopsAt 1 k
-    → ((y : Y) → 1 ≤ stage_in (f y)) → GivesStop k o due → GivesStop k o (due >>= f)
-gives_own NoForm o due f stop later g = absurd stop
-gives_own (NotRead source) o due f stop later g = then_stage source due f g (λ y. let k : source ≡ 1 = stop in omega (arith, k, later y))
-gives_own (TooMuch source) o due f stop later g = ap (λ d. d >>= f) g
-gives_own (Wrong source) o due f stop later g = ap (λ d. d >>= f) g
-gives_own Late o due f stop later g = absurd stop
-gives_own NotWritten o due f stop later g = absurd stop
-gives_own NoRoom o due f stop later g = then_stage 1 due f g later
-gives_own Answer o due f stop later g = absurd stop
+-- a step stopped at its source, and what is asked behind it comes no earlier
+pub gives_own : {Y W : Type 0} (number : ℕ) (k : Kind) (o : Outcome) (due : Result Y Outcome) (f : Y → Result W Outcome) → 1 ≤ number → StopsAt number k
+    → ((y : Y) → number ≤ stage_in (f y)) → GivesStop k o due → GivesStop k o (due >>= f)
+gives_own number NoForm o due f low stop later g = absurd stop
+gives_own number (NotRead source) o due f low stop later g = then_stage source due f g (λ y. let k : source ≡ number = stop in omega (arith, k, later y))
+gives_own number (TooMuch source) o due f low stop later g = ap (λ d. d >>= f) g
+gives_own number (Wrong source) o due f low stop later g = ap (λ d. d >>= f) g
+gives_own number Late o due f low stop later g = absurd stop
+gives_own number NotWritten o due f low stop later g = absurd stop
+gives_own number NoRoom o due f low stop later g = then_stage 1 due f g (λ y. omega (arith, low, later y))
+gives_own number Answer o due f low stop later g = absurd stop
 
 -- the steps before stopped, and what is asked behind them comes late
 pub gives_past : {Y W : Type 0} (k : Kind) (o : Outcome) (due : Result Y Outcome) (f : Y → Result W Outcome) → ((y : Y) → 3 ≤ stage_in (f y)) → GivesStop k o due → GivesStop k o (due >>= f)

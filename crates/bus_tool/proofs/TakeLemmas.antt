@@ -67,12 +67,13 @@ takes_then IsOf IsNext n reader made f old new x (Err o) t next at = record {
   counts = refuses_counts n (kind_of o) old new at t.counts;
 }
 
--- nothing was read of the first text of which something would be made
-pub takes_none : {X Y V W : Type 0} (IsOf : X → Y → Type 0) (IsNext : V → W → Type 0) (reader : Reader) (made : List ℕ → Result Y Outcome)
-    (f : Y → Result W Outcome) (old new : Seen) (o : Outcome) → ((y : Y) → 1 ≤ stage_in (f y)) → Takes IsOf 1 reader made old new (Err o)
-    → Takes IsNext 1 reader (λ text. made text >>= f) old new (Err o)
-takes_none IsOf IsNext reader made f old new o late t = record {
-  gives = if_map old.bytes _ _ (λ text g. gives_own (kind_of o) o (made text) f t.stops late g) t.gives;
+-- nothing was read of which something would be made
+pub takes_none : {X Y V W : Type 0} (IsOf : X → Y → Type 0) (IsNext : V → W → Type 0) (number : ℕ) (reader : Reader)
+    (made : List ℕ → Result Y Outcome) (f : Y → Result W Outcome) (old new : Seen) (o : Outcome) → 1 ≤ number
+    → ((y : Y) → number ≤ stage_in (f y)) → Takes IsOf number reader made old new (Err o)
+    → Takes IsNext number reader (λ text. made text >>= f) old new (Err o)
+takes_none IsOf IsNext number reader made f old new o low late t = record {
+  gives = if_map old.bytes _ _ (λ text g. gives_own number (kind_of o) o (made text) f low t.stops late g) t.gives;
   reads = t.reads;
   stops = t.stops;
   counts = t.counts;

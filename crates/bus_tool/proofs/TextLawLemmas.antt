@@ -18,10 +18,11 @@ use Rattle.bus_schedule.specs.Even.{are_even}
 use Rattle.bus_schedule.specs.Laws.{AcceptedIsClosed, EvenHandsAgree}
 use Rattle.bus_filter.specs.ReceivedTexts.{received_text}
 use Rattle.bus_vote.specs.VoteTexts.{votes_text}
+use Rattle.bus_wave.specs.WaveTexts.{wave_text}
 use Rattle.bus_trace.specs.declared.hold.Hold.{Hold}
 use Rattle.bus_trace.specs.Traces.{Recording, trace_text}
 use Rattle.bus_tool.specs.declared.forms.Form.{Form}
-use Rattle.bus_tool.specs.declared.forms.Form.TheVariants.{Check, Tidy, Report, Witness, Plan, Drill, Observe, Run, Drop, Receive, Audit, Vote}
+use Rattle.bus_tool.specs.declared.forms.Form.TheVariants.{Check, Tidy, Report, Witness, Plan, Drill, Observe, Run, Drop, Receive, Audit, Vote, Wave, Unwave}
 use Rattle.bus_tool.specs.declared.outcome.Outcome.{Outcome}
 use Rattle.bus_tool.specs.declared.outcome.Outcome.TheVariants.{Done}
 use Rattle.bus_tool.specs.AuditLines.{audit_line}
@@ -36,12 +37,13 @@ use Rattle.bus_tool.specs.PlanTexts.{plan_text}
 use Rattle.bus_tool.specs.Due.{table_in, plan_outcome}
 use Rattle.bus_tool.specs.Texts.{IsPlanText}
 use Rattle.bus_tool.proofs.ModeLemmas.{mode_unwritten}
-use Rattle.bus_tool.specs.Due.{Inputs, hands_in, table_due, inputs_due, traced_due, run_due, drop_due, verdict_outcome, audit_outcome, audit_of, outcome_with, form_due, outcome_for}
-use Rattle.bus_tool.specs.Texts.{holds_of, IsRecordingOf, IsObserveText, IsRunRecording, run_text, IsRunText, IsDropRecording, IsDropText, IsReceiveText, IsAuditText, IsVoteText, IsCheckText, IsTidyText, IsReportText, IsWitnessText, IsTextOf, IsFormText, IsTextFor}
+use Rattle.bus_tool.specs.Due.{Inputs, hands_in, table_due, inputs_due, traced_due, any_trace, spaced_due, wave_due, wave_trace_due, unwave_due, run_due, drop_due, verdict_outcome, audit_outcome, audit_of, outcome_with, form_due, outcome_for}
+use Rattle.bus_tool.specs.Texts.{holds_of, IsRecordingOf, IsObserveText, IsRunRecording, run_text, IsRunText, IsDropRecording, IsDropText, IsReceiveText, IsAuditText, IsVoteText, IsWrittenWave, IsWrittenTrace, IsCheckText, IsTidyText, IsReportText, IsWitnessText, IsTextOf, IsFormText, IsTextFor}
 use Rattle.bus_tool.specs.TextLaws.{OneCommandText, AnswersHaveTexts}
 use Rattle.bus_tool.proofs.LawTypes.{ReadsATable, FittingItemsGiveHands}
 use Rattle.bus_tool.proofs.ReadLemmas.{table_read, items_read, inputs_read, table_unwritten, inputs_unwritten}
-use Rattle.bus_tool.proofs.TraceReads.{traced_unwritten}
+use Rattle.bus_tool.proofs.WaveReads.{spaced_stops, wave_stops}
+use Rattle.bus_tool.proofs.TraceReads.{trace_stops, traced_unwritten}
 use Rattle.bus_tool.proofs.DropReads.{drop_read, drop_unwritten}
 use Rattle.bus_tool.proofs.RunReads.{run_read, run_unwritten}
 
@@ -148,6 +150,8 @@ form_once laws Drop first second text other h k = drop_once h.0 text other h.2 (
 form_once laws Receive first second text other h k = k.2 ∙ ap (λ traced. received_text traced.table traced.trace.list) (same_value (traced_due first second) h.0 k.0 h.1 k.1) ∙ sym h.2
 form_once laws Audit first second text other h k = k.2 ∙ ap (λ traced. audit_line (audit_of traced)) (same_value (traced_due first second) h.0 k.0 h.1 k.1) ∙ sym h.2
 form_once laws Vote first second text other h k = k.2 ∙ ap (λ traced. votes_text traced.table traced.trace.list) (same_value (traced_due first second) h.0 k.0 h.1 k.1) ∙ sym h.2
+form_once laws Wave first second text other h k = k.2 ∙ ap (λ traced. wave_text traced.trace) (same_value (wave_due first second) h.0 k.0 h.1 k.1) ∙ sym h.2
+form_once laws Unwave first second text other h k = k.2 ∙ ap (λ traced. trace_text traced.trace) (same_value (unwave_due first second) h.0 k.0 h.1 k.1) ∙ sym h.2
 
 once_for : TextLaws → (form : Option Form) (first second text other : List ℕ) → IsTextFor form first second text → IsTextFor form first second other → other ≡ text
 once_for laws None first second text other h k = absurd h
@@ -174,11 +178,15 @@ form_has laws (Observe horizon) first second h = text_with (λ inputs. Done) (Is
 form_has laws Run first second h = text_with (λ inputs. Done) IsRunText (run_due first second) (λ o e. run_unwritten first second o e) (λ inputs e. ran_text laws first second inputs e) h
 form_has laws Drop first second h = text_with (λ inputs. Done) IsDropText (drop_due first second) (λ o e. drop_unwritten first second o e) (λ inputs e. dropped_text laws first second inputs e) h
 form_has laws Receive first second h =
-    text_with (λ traced. Done) IsReceiveText (traced_due first second) (λ o e. traced_unwritten first second o e) (λ traced e. (received_text traced.table traced.trace.list, refl)) h
+    text_with (λ traced. Done) IsReceiveText (traced_due first second) (λ o e. traced_unwritten any_trace (λ table. trace_stops) first second o e) (λ traced e. (received_text traced.table traced.trace.list, refl)) h
 form_has laws Audit first second h =
-    text_with (λ traced. audit_outcome (audit_of traced)) IsAuditText (traced_due first second) (λ o e. traced_unwritten first second o e) (λ traced e. (audit_line (audit_of traced), refl)) h
+    text_with (λ traced. audit_outcome (audit_of traced)) IsAuditText (traced_due first second) (λ o e. traced_unwritten any_trace (λ table. trace_stops) first second o e) (λ traced e. (audit_line (audit_of traced), refl)) h
 form_has laws Vote first second h =
-    text_with (λ traced. Done) IsVoteText (traced_due first second) (λ o e. traced_unwritten first second o e) (λ traced e. (votes_text traced.table traced.trace.list, refl)) h
+    text_with (λ traced. Done) IsVoteText (traced_due first second) (λ o e. traced_unwritten any_trace (λ table. trace_stops) first second o e) (λ traced e. (votes_text traced.table traced.trace.list, refl)) h
+form_has laws Wave first second h =
+    text_with (λ traced. Done) IsWrittenWave (wave_due first second) (λ o e. traced_unwritten spaced_due spaced_stops first second o e) (λ traced e. (wave_text traced.trace, refl)) h
+form_has laws Unwave first second h =
+    text_with (λ traced. Done) IsWrittenTrace (unwave_due first second) (λ o e. traced_unwritten wave_trace_due wave_stops first second o e) (λ traced e. (trace_text traced.trace, refl)) h
 
 has_for : TextLaws → (form : Option Form) (first second : List ℕ) → is_written (outcome_for form first second) ≡ true → (text : List ℕ) × IsTextFor form first second text
 has_for laws None first second h = absurd cc

@@ -10,9 +10,9 @@ use Rattle.bus_outer.specs.declared.whole.ReadError.TheVariants.{Fault, TooLarge
 use Rattle.bus_tool.specs.declared.outcome.Outcome.TheVariants.{TooLarge}
 use Rattle.bus_tool.specs.Stages.{stage_in}
 use Rattle.bus_tool.specs.Outside.{Seen}
-use Rattle.bus_tool.specs.Readers.{text_limit, entire}
+use Rattle.bus_tool.specs.Readers.{Entire}
 use Rattle.bus_tool.specs.Steps.{read_refusal, IsText, Takes}
-use Rattle.bus_tool.specs.Due.{text_due}
+use Rattle.bus_tool.specs.Due.{text_within}
 use Rattle.bus_tool.proofs.StageLemmas.{if_map}
 
 -- what was taken is no longer than the text
@@ -20,42 +20,42 @@ taken_within : (old new : Option (List ℕ)) (taken : List ℕ) → Taken old ne
 taken_within old None taken h = subst (λ o. IfSome o (λ text. length taken ≤ length text)) (sym h) tt
 taken_within old (Some rest) taken h = subst (λ o. IfSome o (λ text. length taken ≤ length text)) (sym h) (omega (arith, length-append taken rest))
 
-pub short_text : (number : ℕ) (text : List ℕ) → length text ≤ text_limit → text_due number text ≡ Ok text
-short_text number text h = (let short : nat_lt text_limit (length text) ≡ false = grind (arith, nat_tests) in ap (λ b. cond b (Err (TooLarge number)) (Ok text)) short)
+pub short_text : (limit number : ℕ) (text : List ℕ) → length text ≤ limit → text_within limit number text ≡ Ok text
+short_text limit number text h = (let short : nat_lt limit (length text) ≡ false = grind (arith, nat_tests) in ap (λ b. cond b (Err (TooLarge number)) (Ok text)) short)
 
-large_text : (number : ℕ) (text : List ℕ) → text_limit < length text → text_due number text ≡ Err (TooLarge number)
-large_text number text h = (let long : nat_lt text_limit (length text) ≡ true = grind (arith, nat_tests) in ap (λ b. cond b (Err (TooLarge number)) (Ok text)) long)
+large_text : (limit number : ℕ) (text : List ℕ) → limit < length text → text_within limit number text ≡ Err (TooLarge number)
+large_text limit number text h = (let long : nat_lt limit (length text) ≡ true = grind (arith, nat_tests) in ap (λ b. cond b (Err (TooLarge number)) (Ok text)) long)
 
-pub text_stage : (number : ℕ) (text : List ℕ) → number ≤ 3 → number ≤ stage_in (text_due number text)
-text_stage number text h = elim (nat_lt text_limit (length text)) as (λ b. number ≤ stage_in (cond b (Err (TooLarge number)) (Ok text))) [ true ↦ omega arith | false ↦ h ]
+pub text_stage : (limit number : ℕ) (text : List ℕ) → number ≤ 3 → number ≤ stage_in (text_within limit number text)
+text_stage limit number text h = elim (nat_lt limit (length text)) as (λ b. number ≤ stage_in (cond b (Err (TooLarge number)) (Ok text))) [ true ↦ omega arith | false ↦ h ]
 
-short_of : (number : ℕ) (v : Vec ℕ Global) (text : List ℕ) → length v.items ≤ text_limit → v.items ≡ text → text_due number text ≡ Ok text
-short_of number v text h same = short_text number text (subst (λ l. length l ≤ text_limit) same h)
+short_of : (limit number : ℕ) (v : Vec ℕ Global) (text : List ℕ) → length v.items ≤ limit → v.items ≡ text → text_within limit number text ≡ Ok text
+short_of limit number v text h same = short_text limit number text (subst (λ l. length l ≤ limit) same h)
 
-pub text_taken : (number : ℕ) (old new : Seen) (v : Vec ℕ Global) → IfSome old.bytes (λ text. v.items ≡ text) → ReadsWhole text_limit old.bytes new.bytes (Ok v) → new.faults ≡ old.faults → Takes IsText number entire (text_due number) old new (Ok v)
-text_taken number old new v whole r counts = record {
-  gives = if_map old.bytes _ _ (λ text same. (text, short_of number v text r.2 same, same)) whole;
+pub text_taken : (limit number : ℕ) (old new : Seen) (v : Vec ℕ Global) → IfSome old.bytes (λ text. v.items ≡ text) → ReadsWhole limit old.bytes new.bytes (Ok v) → new.faults ≡ old.faults → Takes IsText number (Entire limit) (text_within limit number) old new (Ok v)
+text_taken limit number old new v whole r counts = record {
+  gives = if_map old.bytes _ _ (λ text same. (text, short_of limit number v text r.2 same, same)) whole;
   reads = ((v.items, r.0, r.2), r.1);
   stops = tt;
   counts = counts;
 }
 
-pub text_refused : (number : ℕ) (old new : Seen) (e : ReadError) → 1 ≤ number → number ≤ 2 → ReadsWhole text_limit old.bytes new.bytes (Err e) → CountsRead {T = Vec ℕ Global} old.faults new.faults (Err e)
-    → Takes {X = Vec ℕ Global} IsText number entire (text_due number) old new (Err (read_refusal number e))
-text_refused number old new Fault some few r counts = record {
-  gives = if_map old.bytes (λ text. length r.0 ≤ length text) _ (λ text longer. text_stage number text (omega arith)) (taken_within old.bytes new.bytes r.0 r.1);
+pub text_refused : (limit number : ℕ) (old new : Seen) (e : ReadError) → 1 ≤ number → number ≤ 2 → ReadsWhole limit old.bytes new.bytes (Err e) → CountsRead {T = Vec ℕ Global} old.faults new.faults (Err e)
+    → Takes {X = Vec ℕ Global} IsText number (Entire limit) (text_within limit number) old new (Err (read_refusal number e))
+text_refused limit number old new Fault some few r counts = record {
+  gives = if_map old.bytes (λ text. length r.0 ≤ length text) _ (λ text longer. text_stage limit number text (omega arith)) (taken_within old.bytes new.bytes r.0 r.1);
   reads = r;
   stops = refl;
   counts = counts;
 }
-text_refused number old new Larger some few r counts = record {
-  gives = if_map old.bytes _ _ (λ text longer. large_text number text (omega (arith, longer, r.2.0))) (taken_within old.bytes new.bytes r.0 r.1);
+text_refused limit number old new Larger some few r counts = record {
+  gives = if_map old.bytes _ _ (λ text longer. large_text limit number text (omega (arith, longer, r.2.0))) (taken_within old.bytes new.bytes r.0 r.1);
   reads = r;
   stops = refl;
   counts = counts;
 }
-text_refused number old new Memory some few r counts = record {
-  gives = if_map old.bytes (λ text. length r.0 ≤ length text) _ (λ text longer. let s = text_stage number text (omega arith) in omega arith) (taken_within old.bytes new.bytes r.0 r.1);
+text_refused limit number old new Memory some few r counts = record {
+  gives = if_map old.bytes (λ text. length r.0 ≤ length text) _ (λ text longer. let s = text_stage limit number text (omega arith) in omega arith) (taken_within old.bytes new.bytes r.0 r.1);
   reads = r;
   stops = tt;
   counts = counts;

@@ -8,6 +8,7 @@ use Rattle.bus_table.specs.Tables.{Table}
 use Rattle.bus_table.specs.Fits.{items_fit}
 use Rattle.bus_table.specs.Reading.{answer_of}
 use Rattle.bus_tool.specs.Outside.{Seen}
+use Rattle.bus_tool.specs.Readers.{text_limit}
 use Rattle.bus_tool.specs.Due.{table_or_refusal, table_due, items_or_refusal, fitting_or_refusal, items_due, with_items, inputs_due}
 use Rattle.bus_tool.specs.Claims.{TellsTable, TellsItems}
 use Rattle.bus_tool.proofs.TextLemmas.{short_text}
@@ -16,11 +17,11 @@ use Rattle.bus_tool.proofs.LawTypes.{TextReadsAsItsTable, TextReadsAsItsItems}
 -- ---- from a value to what is due
 pub table_told : TextReadsAsItsTable → (table : Table) (seen : Seen) (t : TellsTable table seen) → table_due t.text ≡ Ok table
 table_told reads table seen t =
-    ap (λ r. r >>= λ whole. table_or_refusal (answer_of whole)) (short_text 1 t.text t.short) ∙ ap table_or_refusal (reads t.text table t.stands t.valid)
+    ap (λ r. r >>= λ whole. table_or_refusal (answer_of whole)) (short_text text_limit 1 t.text t.short) ∙ ap table_or_refusal (reads t.text table t.stands t.valid)
 
 pub items_told : TextReadsAsItsItems → (table : Table) (items : List Item) (seen : Seen) (t : TellsItems table items seen) → items_due table t.text ≡ Ok items
 items_told reads table items seen t =
-    ap (λ r. r >>= λ whole. items_or_refusal (messages_reading whole) >>= λ items. fitting_or_refusal (items_fit table items) items) (short_text 2 t.text t.short)
+    ap (λ r. r >>= λ whole. items_or_refusal (messages_reading whole) >>= λ items. fitting_or_refusal (items_fit table items) items) (short_text text_limit 2 t.text t.short)
     ∙ ap (λ r. items_or_refusal r >>= λ items. fitting_or_refusal (items_fit table items) items) (reads t.text items t.stands)
     ∙ ap (λ fit. fitting_or_refusal fit items) t.fit
 

@@ -15,9 +15,9 @@ use Rattle.bus_tool.specs.declared.outcome.Outcome.{Outcome}
 use Rattle.bus_tool.specs.Kinds.{kind_of}
 use Rattle.bus_tool.specs.Stages.{stage_in}
 use Rattle.bus_tool.specs.Outside.{Seen, both}
-use Rattle.bus_tool.specs.Readers.{Trace, entire, two_sources}
+use Rattle.bus_tool.specs.Readers.{Reader, Trace, entire, two_sources}
 use Rattle.bus_tool.specs.Steps.{Takes, Same, Prepares}
-use Rattle.bus_tool.specs.Due.{table_due, table_refusal_of, trace_refusal, trace_or_refusal, trace_due, Traced, with_trace, traced_due}
+use Rattle.bus_tool.specs.Due.{table_due, table_refusal_of, trace_refusal, trace_or_refusal, trace_due, Traced, with_trace, traced_by}
 use Rattle.bus_tool.specs.Taken.{AreTraced}
 use Rattle.bus_tool.proofs.StageLemmas.{if_map, then_stage, stop_early, stop_low, gives_on}
 use Rattle.bus_tool.proofs.TakeLemmas.{takes_then}
@@ -29,6 +29,10 @@ reading_stage (Err (Text byte reason)) = omega arith
 reading_stage (Err ReadFault) = omega arith
 reading_stage (Err TooLarge) = omega arith
 reading_stage (Err Memory) = omega arith
+
+-- so it comes no earlier
+pub trace_stage : (table : Table) (text : List ℕ) → 2 ≤ stage_in (trace_due text)
+trace_stage table text = reading_stage (reading trace_limit text)
 
 -- ---- the second text
 pub trace_taken : (old new : Seen) (trace : Recording) → TakesTrace old.bytes new.bytes (Ok trace) → IfSome old.bytes (λ stream. ReadGives (Ok trace) (reading trace_limit stream)) → new.faults ≡ old.faults
@@ -74,30 +78,32 @@ trace_fails old new e r t g counts h =
     subst (Takes Same 2 Trace trace_due old new) (sym (came.1 ∙ ap Err came.2)) (trace_refused old new e t g counts)
 
 -- ---- both texts
-abbrev made : Table → List ℕ → Result Traced Outcome
-made table text = trace_due text >>= λ trace. Ok (with_trace table trace)
+-- a table, and a trace that is made of the second text
+module _ (two : Reader) (made : Table → List ℕ → Result Recording Outcome) (late : (table : Table) (text : List ℕ) → 2 ≤ stage_in (made table text)) where
+  abbrev both_made : Table → List ℕ → Result Traced Outcome
+  both_made table text = made table text >>= λ trace. Ok (with_trace table trace)
 
-made_stage : (table : Table) (text : List ℕ) → 2 ≤ stage_in (made table text)
-made_stage table text = then_stage 2 (trace_due text) (λ trace. Ok (with_trace table trace)) (reading_stage (reading trace_limit text)) (λ trace. omega arith)
+  both_stage : (table : Table) (text : List ℕ) → 2 ≤ stage_in (both_made table text)
+  both_stage table text = then_stage 2 (made table text) (λ trace. Ok (with_trace table trace)) (late table text) (λ trace. omega arith)
 
-pub no_table : (old new second : Seen) (o : Outcome) (r : Result Taken Outcome) → IsErrAnd r (λ came. came ≡ o) → Takes {X = Table} Same 1 entire table_due old new (Err o)
-    → Prepares AreTraced (two_sources entire Trace) table_refusal_of traced_due (both old second) (both new second) r
-no_table old new second o r h t =
-    let came = err_from_is_err_and r h in
-    subst (Prepares AreTraced (two_sources entire Trace) table_refusal_of traced_due (both old second) (both new second)) (sym (came.1 ∙ ap Err came.2))
-    (prepares_none Same AreTraced entire Trace table_due made old new second o made_stage t)
+  pub table_none : (old new second : Seen) (o : Outcome) (r : Result Taken Outcome) → IsErrAnd r (λ came. came ≡ o) → Takes {X = Table} Same 1 entire table_due old new (Err o)
+      → Prepares AreTraced (two_sources entire two) table_refusal_of (traced_by made) (both old second) (both new second) r
+  table_none old new second o r h t =
+      let came = err_from_is_err_and r h in
+      subst (Prepares AreTraced (two_sources entire two) table_refusal_of (traced_by made) (both old second) (both new second)) (sym (came.1 ∙ ap Err came.2))
+      (prepares_none Same AreTraced entire two table_due both_made old new second o both_stage t)
 
-pub all_traced : (old new old' new' : Seen) (table : Table) (trace : Recording) → Takes Same 1 entire table_due old new (Ok table) → Takes Same 2 Trace trace_due old' new' (Ok trace)
-    → Prepares AreTraced (two_sources entire Trace) table_refusal_of traced_due (both old old') (both new new') (Ok (record { table = table; trace = trace }))
-all_traced old new old' new' table trace t u =
-    let taken : Taken = record { table = table; trace = trace } in
-    prepares_both Same AreTraced entire Trace table_due made old new old' new' table table (Ok taken) (λ z is. sym is) t
-    (takes_then Same AreTraced 2 Trace trace_due (λ trace. Ok (with_trace table trace)) old' new' trace (Ok taken) u (λ read same. (with_trace table read, refl, record { table = refl; trace = same })) tt)
+  pub both_taken : (old new old' new' : Seen) (table : Table) (trace : Recording) → Takes Same 1 entire table_due old new (Ok table) → Takes Same 2 two (made table) old' new' (Ok trace)
+      → Prepares AreTraced (two_sources entire two) table_refusal_of (traced_by made) (both old old') (both new new') (Ok (record { table = table; trace = trace }))
+  both_taken old new old' new' table trace t u =
+      let taken : Taken = record { table = table; trace = trace } in
+      prepares_both Same AreTraced entire two table_due both_made old new old' new' table table (Ok taken) (λ z is. sym is) t
+      (takes_then Same AreTraced 2 two (made table) (λ trace. Ok (with_trace table trace)) old' new' trace (Ok taken) u (λ read same. (with_trace table read, refl, record { table = refl; trace = same })) tt)
 
-pub no_trace : (old new old' new' : Seen) (table : Table) (o : Outcome) (r : Result Taken Outcome) → IsErrAnd r (λ came. came ≡ o) → Takes Same 1 entire table_due old new (Ok table) → Takes {X = Recording} Same 2 Trace trace_due old' new' (Err o)
-    → Prepares AreTraced (two_sources entire Trace) table_refusal_of traced_due (both old old') (both new new') r
-no_trace old new old' new' table o r h t u =
-    let came = err_from_is_err_and r h in
-    subst (Prepares AreTraced (two_sources entire Trace) table_refusal_of traced_due (both old old') (both new new')) (sym (came.1 ∙ ap Err came.2))
-    (prepares_both Same AreTraced entire Trace table_due made old new old' new' table table (Err o) (λ z is. sym is) t
-    (record { gives = if_map old'.bytes _ _ (λ text g. gives_on (kind_of o) o (trace_due text) (with_trace table) (stop_early 2 (kind_of o) u.stops) (stop_low 2 (kind_of o) (omega arith) u.stops) g) u.gives; reads = u.reads; stops = u.stops; counts = u.counts }))
+  pub trace_none : (old new old' new' : Seen) (table : Table) (o : Outcome) (r : Result Taken Outcome) → IsErrAnd r (λ came. came ≡ o) → Takes Same 1 entire table_due old new (Ok table) → Takes {X = Recording} Same 2 two (made table) old' new' (Err o)
+      → Prepares AreTraced (two_sources entire two) table_refusal_of (traced_by made) (both old old') (both new new') r
+  trace_none old new old' new' table o r h t u =
+      let came = err_from_is_err_and r h in
+      subst (Prepares AreTraced (two_sources entire two) table_refusal_of (traced_by made) (both old old') (both new new')) (sym (came.1 ∙ ap Err came.2))
+      (prepares_both Same AreTraced entire two table_due both_made old new old' new' table table (Err o) (λ z is. sym is) t
+      (record { gives = if_map old'.bytes _ _ (λ text g. gives_on (kind_of o) o (made table text) (with_trace table) (stop_early 2 (kind_of o) u.stops) (stop_low 2 (kind_of o) (omega arith) u.stops) g) u.gives; reads = u.reads; stops = u.stops; counts = u.counts }))

@@ -3,7 +3,7 @@ use Rattle.std.specs.Prelude.{◌≡◌, ℕ, List, Result, Ok}
 use Rattle.std.proofs.Common.{refl, sym, ap, ◌∙◌, subst}
 use Rattle.bus_table.specs.Tables.{Table}
 use Rattle.bus_trace.specs.Traces.{Recording}
-use Rattle.bus_vote.specs.VoteLaws.{RunsAreVoted}
+use Rattle.bus_vote.specs.VoteLaws.{ListsAreFixedByTwo, RunsAreVoted}
 use Rattle.bus_vote.specs.VoteTexts.{votes_text}
 use Rattle.bus_tool.specs.declared.outcome.Outcome.{Outcome}
 use Rattle.bus_tool.specs.declared.outcome.Outcome.TheVariants.{Done}
@@ -13,7 +13,7 @@ use Rattle.bus_tool.specs.Outcomes.{status_of}
 use Rattle.bus_tool.specs.Stages.{StandsFor}
 use Rattle.bus_tool.specs.Outside.{Call}
 use Rattle.bus_tool.specs.Readers.{Trace, entire, two_sources}
-use Rattle.bus_tool.specs.Due.{Traced, with_trace, traced_due, outcome_with}
+use Rattle.bus_tool.specs.Due.{Traced, with_trace, traced_due, any_trace, outcome_with}
 use Rattle.bus_tool.specs.Texts.{IsTextOf, IsVoteText}
 use Rattle.bus_tool.specs.Acts.{Acts}
 use Rattle.bus_tool.specs.TraceClaims.{IsVoteOf, GivesVotes}
@@ -27,16 +27,17 @@ use Rattle.bus_tool.proofs.ReceiveClaim.{TracedLaws}
 found : (traced : Traced) (due : Result Traced Outcome) (text : List ℕ) → due ≡ Ok traced → IsTextOf IsVoteText due text → text ≡ votes_text traced.table traced.trace.list
 found traced due text is h = (let same : Ok h.0 ≡ due = sym h.1 in let e : h.0 ≡ traced = cc in h.2 ∙ ap (λ t. votes_text t.table t.trace.list) e)
 
-pub vote_claim : TracedLaws → RunsAreVoted → (call : Call) (outcome : Outcome) (table : Table) (trace : Recording) → Acts call outcome → IsVoteOf table trace call → GivesVotes table trace call (status_of outcome)
-vote_claim laws runs call outcome table trace acts h =
+pub vote_claim : TracedLaws → ListsAreFixedByTwo → RunsAreVoted → (call : Call) (outcome : Outcome) (table : Table) (trace : Recording) → Acts call outcome → IsVoteOf table trace call → GivesVotes table trace call (status_of outcome)
+vote_claim laws two runs call outcome table trace acts h =
     let first = h.table_told.text in
     let second = h.trace_told.stream in
     let before = call.before.sources in
-    let due : traced_due first second ≡ Ok (with_trace table trace) = traced_told table trace first second (table_told laws.table_again table before.first h.table_told) (held_trace laws.trace_back second trace h.trace_told.stands) in
+    let due : traced_due first second ≡ Ok (with_trace table trace) = traced_told any_trace table trace first second (table_told laws.table_again table before.first h.table_told) (held_trace laws.trace_back second trace h.trace_told.stands) in
     let does = does_of call outcome Vote (ap form_of h.form.form) acts in (
       answers (two_sources entire Trace) Done outcome _ (λ text. text ≡ votes_text table trace.list) call refl
           (λ text is. found (with_trace table trace) (traced_due first second) text due (of_both entire Trace (λ a b. IsTextOf IsVoteText (traced_due a b) text) before first second h.table_told.told h.trace_told.told is))
           (subst (λ d. StandsFor d outcome) (ap (outcome_with (λ traced. Done)) due) (of_both entire Trace (λ a b. StandsFor (outcome_with (λ traced. Done) (traced_due a b)) outcome) before first second h.table_told.told h.trace_told.told does.due))
           does.text does.counts does.out_count h.undisturbed,
+      two trace.list,
       runs table trace.list h.table_told.valid,
     )

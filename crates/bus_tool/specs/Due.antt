@@ -33,22 +33,31 @@ use Rattle.bus_trace.specs.declared.fault.TraceError.TheVariants as trace
 use Rattle.bus_trace.specs.Traces.{Recording}
 use Rattle.bus_trace.specs.Limits.{text_limit as trace_limit}
 use Rattle.bus_trace.specs.Runs.{reading}
+use Rattle.bus_wave.specs.declared.fault.WaveError.{WaveError}
+use Rattle.bus_wave.specs.declared.fault.WaveError.TheVariants as wave
+use Rattle.bus_wave.specs.declared.fault.WaveFault.{WaveFault}
+use Rattle.bus_wave.specs.Reading.{WaveRefusal, wave_reading}
+use Rattle.bus_wave.specs.Spacing.{spaced_of}
 use Rattle.bus_audit.specs.declared.answer.AuditAnswer.{AuditAnswer}
 use Rattle.bus_audit.specs.declared.answer.AuditAnswer.TheVariants.{Lawful, Breach}
 use Rattle.bus_audit.specs.Breaches.{answer_of}
 use Rattle.bus_tool.specs.declared.forms.Form.{Form}
-use Rattle.bus_tool.specs.declared.forms.Form.TheVariants.{Check, Tidy, Report, Witness, Plan, Drill, Observe, Run, Drop, Receive, Audit, Vote}
+use Rattle.bus_tool.specs.declared.forms.Form.TheVariants.{Check, Tidy, Report, Witness, Plan, Drill, Observe, Run, Drop, Receive, Audit, Vote, Wave, Unwave}
 use Rattle.bus_tool.specs.declared.outcome.Outcome.{Outcome}
 use Rattle.bus_tool.specs.declared.outcome.Outcome.TheVariants.{Done, Answered, Refused, Usage, TableText, TableWhole, TableMode}
-use Rattle.bus_tool.specs.declared.outcome.Outcome.TheVariants.{MessagesText, Unfit, Uneven, TraceText, ReadFault, NoMemory, TooLarge}
+use Rattle.bus_tool.specs.declared.outcome.Outcome.TheVariants.{MessagesText, Unfit, Uneven, TraceText, Unspaced, WaveText, ReadFault, NoMemory, TooLarge}
 use Rattle.bus_tool.specs.declared.outcome.Outcome.TheVariants.{ShortLast, TooLong}
 use Rattle.bus_tool.specs.Forms.{form_of}
-use Rattle.bus_tool.specs.Readers.{text_limit}
+use Rattle.bus_tool.specs.Readers.{text_limit, wave_limit}
 use Rattle.bus_tool.specs.Stages.{refusal_in}
 
 -- the text of a source, which is too large before all that is read from it
+abbrev pub text_within : ℕ → ℕ → List ℕ → Result (List ℕ) Outcome
+text_within limit number text = if nat_lt limit (length text) then Err (TooLarge number) else Ok text
+
+-- a table text or a messages text
 abbrev pub text_due : ℕ → List ℕ → Result (List ℕ) Outcome
-text_due number text = if nat_lt text_limit (length text) then Err (TooLarge number) else Ok text
+text_due = text_within text_limit
 
 -- ---- the first text
 -- why a table text is refused
@@ -128,6 +137,34 @@ trace_or_refusal (Err error) = Err (trace_refusal error)
 abbrev pub trace_due : List ℕ → Result Recording Outcome
 trace_due text = trace_or_refusal (reading trace_limit text)
 
+-- the same, whatever the table is
+abbrev pub any_trace : Table → List ℕ → Result Recording Outcome
+any_trace table text = trace_due text
+
+-- a trace, where it is spaced
+abbrev pub spaced_or_refusal : Result (Unit {0}) WaveFault → Recording → Result Recording Outcome
+spaced_or_refusal (Ok spaced) trace = Ok trace
+spaced_or_refusal (Err fault) trace = Err (Unspaced fault)
+
+-- the trace at the front of the second text, which is spaced for the table
+abbrev pub spaced_due : Table → List ℕ → Result Recording Outcome
+spaced_due table text = trace_due text >>= λ trace. spaced_or_refusal (spaced_of table trace) trace
+
+-- ---- the second text, where it is a wave
+-- why a wave text is refused
+abbrev pub wave_refusal : WaveError → Outcome
+wave_refusal (wave.Text line reason) = WaveText line reason
+wave_refusal wave.Memory = NoMemory
+
+-- what a wave text reads as, or the outcome of its refusal
+abbrev pub wave_or_refusal : Result Recording WaveRefusal → Result Recording Outcome
+wave_or_refusal (Ok trace) = Ok trace
+wave_or_refusal (Err refusal) = Err (WaveText refusal.line refusal.reason)
+
+-- the trace whose wave text the second text is
+abbrev pub wave_trace_due : Table → List ℕ → Result Recording Outcome
+wave_trace_due table text = text_within wave_limit 2 text >>= λ whole. wave_or_refusal (wave_reading table whole)
+
 -- ---- both texts
 -- a table, and items that fit it
 pub record Inputs : Type 0 where
@@ -155,9 +192,19 @@ pub record Traced : Type 0 where
 abbrev pub with_trace : Table → Recording → Traced
 with_trace table trace = record { table = table; trace = trace }
 
--- the second text is looked at only where nothing of the first is refused
+-- a table, and the trace that is made of the second text, which is looked at only where nothing of the first is refused
+abbrev pub traced_by : (Table → List ℕ → Result Recording Outcome) → List ℕ → List ℕ → Result Traced Outcome
+traced_by made first second = table_due first >>= λ table. made table second >>= λ trace. Ok (with_trace table trace)
+
+-- a table and a trace; a table and a trace that is spaced for it; a table and the trace of a wave
 abbrev pub traced_due : List ℕ → List ℕ → Result Traced Outcome
-traced_due first second = table_due first >>= λ table. trace_due second >>= λ trace. Ok (with_trace table trace)
+traced_due = traced_by any_trace
+
+abbrev pub wave_due : List ℕ → List ℕ → Result Traced Outcome
+wave_due = traced_by spaced_due
+
+abbrev pub unwave_due : List ℕ → List ℕ → Result Traced Outcome
+unwave_due = traced_by wave_trace_due
 
 -- ---- what `run` asks for behind both texts
 -- why hands aren't even
@@ -265,6 +312,8 @@ form_due Drop first second = outcome_with (λ inputs. Done) (drop_due first seco
 form_due Receive first second = outcome_with (λ traced. Done) (traced_due first second)
 form_due Audit first second = outcome_with (λ traced. audit_outcome (audit_of traced)) (traced_due first second)
 form_due Vote first second = outcome_with (λ traced. Done) (traced_due first second)
+form_due Wave first second = outcome_with (λ traced. Done) (wave_due first second)
+form_due Unwave first second = outcome_with (λ traced. Done) (unwave_due first second)
 
 -- why a form refuses the first text, whatever the second is
 abbrev pub first_refusal : Form → List ℕ → Option Outcome
@@ -280,6 +329,8 @@ first_refusal Drop first = refusal_of_mode Aperiodic first
 first_refusal Receive first = table_refusal_of first
 first_refusal Audit first = table_refusal_of first
 first_refusal Vote first = table_refusal_of first
+first_refusal Wave first = table_refusal_of first
+first_refusal Unwave first = table_refusal_of first
 
 -- the outcome where the words ask for a form, or for none
 abbrev pub outcome_for : Option Form → List ℕ → List ℕ → Outcome

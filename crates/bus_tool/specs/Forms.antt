@@ -7,9 +7,9 @@ use Rattle.std.specs.Str.{bytes_eq}
 use Rattle.bus_text.specs.Numbers.{is_plain_decimal, decimal_value}
 use Rattle.bus_strings.specs.Limits.{horizon_limit}
 use Rattle.bus_vectors.specs.Made.{most_number}
-use Rattle.bus_tool.specs.Readers.{Named, Trace, entire, no_source, one_source, two_sources}
+use Rattle.bus_tool.specs.Readers.{Named, Trace, entire, entire_wave, no_source, one_source, two_sources}
 use Rattle.bus_tool.specs.declared.forms.Form.{Form}
-use Rattle.bus_tool.specs.declared.forms.Form.TheVariants.{Check, Tidy, Report, Witness, Plan, Drill, Observe, Run, Drop, Receive, Audit, Vote}
+use Rattle.bus_tool.specs.declared.forms.Form.TheVariants.{Check, Tidy, Report, Witness, Plan, Drill, Observe, Run, Drop, Receive, Audit, Vote, Wave, Unwave}
 
 -- the words of the program, as bytes
 abbrev pub words_of : List (String Global) → List (List ℕ)
@@ -34,7 +34,7 @@ two_words command second =
     else if bytes_eq command (codes "drill") && is_drill_number second then Some (Drill (decimal_value second))
     else None
 
--- `run T M`, `drop T M`, `receive T R`, `audit T R`, `vote T R`
+-- `run T M`, `drop T M`, `receive T R`, `audit T R`, `vote T R`, `wave T R`, `unwave T W`
 abbrev pub three_words : List ℕ → Option Form
 three_words command =
     if bytes_eq command (codes "run") then Some Run
@@ -42,6 +42,8 @@ three_words command =
     else if bytes_eq command (codes "receive") then Some Receive
     else if bytes_eq command (codes "audit") then Some Audit
     else if bytes_eq command (codes "vote") then Some Vote
+    else if bytes_eq command (codes "wave") then Some Wave
+    else if bytes_eq command (codes "unwave") then Some Unwave
     else None
 
 -- `observe T M N`
@@ -70,6 +72,8 @@ sources_of Drop = two_sources entire entire
 sources_of Receive = two_sources entire Trace
 sources_of Audit = two_sources entire Trace
 sources_of Vote = two_sources entire Trace
+sources_of Wave = two_sources entire Trace
+sources_of Unwave = two_sources entire entire_wave
 
 -- the numbers of a form are within their limits
 abbrev pub IsWithinLimits : Form → Type 0
@@ -85,3 +89,5 @@ IsWithinLimits Drop = Unit {0}
 IsWithinLimits Receive = Unit {0}
 IsWithinLimits Audit = Unit {0}
 IsWithinLimits Vote = Unit {0}
+IsWithinLimits Wave = Unit {0}
+IsWithinLimits Unwave = Unit {0}

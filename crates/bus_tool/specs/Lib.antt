@@ -23,6 +23,7 @@ pub mod Claims
 pub mod RunClaims
 pub mod DropClaims
 pub mod TraceClaims
+pub mod WaveClaims
 pub mod TextLaws
 pub mod TableClaims
 pub mod DrillClaims

@@ -10,13 +10,17 @@ use Rattle.bus_table.specs.declared.error.WholeReason.{WholeReason}
 use Rattle.bus_table.specs.declared.error.WholeReason.TheVariants.{NoSender, NumberTwice, GapTwice, GapNotShort, PairTwice, OffsetRange}
 use Rattle.bus_trace.specs.declared.reason.TraceReason.{TraceReason}
 use Rattle.bus_trace.specs.declared.reason.TraceReason.TheVariants as trace
+use Rattle.bus_wave.specs.declared.fault.WaveFault.{WaveFault}
+use Rattle.bus_wave.specs.declared.fault.WaveFault.TheVariants as entry
+use Rattle.bus_wave.specs.declared.fault.WaveReason.{WaveReason}
+use Rattle.bus_wave.specs.declared.fault.WaveReason.TheVariants as wave
 use Rattle.bus_regime.specs.declared.table_verdict.TableVerdict.{TableVerdict}
 use Rattle.bus_regime.specs.Lines.{mode_name, verdict_line}
 use Rattle.bus_tool.specs.declared.status.Status.{Status}
 use Rattle.bus_tool.specs.declared.status.Status.TheVariants as status
 use Rattle.bus_tool.specs.declared.outcome.Outcome.{Outcome}
 use Rattle.bus_tool.specs.declared.outcome.Outcome.TheVariants.{Done, Answered, Refused, Usage, TableText, TableWhole, TableMode}
-use Rattle.bus_tool.specs.declared.outcome.Outcome.TheVariants.{MessagesText, Unfit, Uneven, TraceText, ReadFault, WriteFault, NoMemory}
+use Rattle.bus_tool.specs.declared.outcome.Outcome.TheVariants.{MessagesText, Unfit, Uneven, TraceText, Unspaced, WaveText, ReadFault, WriteFault, NoMemory}
 use Rattle.bus_tool.specs.declared.outcome.Outcome.TheVariants.{TooLarge, ShortLast, TooLong}
 use Rattle.bus_tool.specs.Kinds.{kind_of, is_answer}
 use Rattle.bus_tool.specs.Statuses.{number_of}
@@ -34,6 +38,8 @@ status_of (MessagesText line reason) = status.InputRefused
 status_of (Unfit error) = status.InputRefused
 status_of (Uneven one one_count other other_count) = status.InputRefused
 status_of (TraceText byte reason) = status.InputRefused
+status_of (Unspaced fault) = status.InputRefused
+status_of (WaveText line reason) = status.InputRefused
 status_of (ReadFault source) = status.ReadFault
 status_of WriteFault = status.WriteFault
 status_of NoMemory = status.NoMemory
@@ -60,6 +66,24 @@ trace_reason_name trace.Parity = codes "Parity"
 trace_reason_name trace.Range = codes "Range"
 trace_reason_name trace.Order = codes "Order"
 trace_reason_name trace.Mark = codes "Mark"
+
+-- the word of a reason against a line of a wave
+abbrev pub wave_reason_name : WaveReason → List ℕ
+wave_reason_name wave.Ended = codes "Ended"
+wave_reason_name wave.Keyword = codes "Keyword"
+wave_reason_name wave.Fields = codes "Fields"
+wave_reason_name wave.Spelling = codes "Spelling"
+wave_reason_name wave.Code = codes "Code"
+wave_reason_name wave.Parity = codes "Parity"
+wave_reason_name wave.Range = codes "Range"
+wave_reason_name wave.Order = codes "Order"
+
+-- the entry of a trace that isn't spaced, and what is wrong with it
+abbrev pub entry_words : WaveFault → List ℕ
+entry_words (entry.Stranger k) = decimal k ++ codes " Stranger"
+entry_words (entry.Misfit k) = decimal k ++ codes " Misfit"
+entry_words (entry.Close k) = decimal k ++ codes " Close"
+entry_words (entry.Cut k) = decimal k ++ codes " Cut"
 
 -- the label and the extension that stand on two SEND lines
 abbrev pub pair_words : ℕ → ℕ → List ℕ
@@ -97,6 +121,8 @@ fault_words (Unfit error) = codes "messages item " ++ fit_words error
 fault_words (Uneven one one_count other other_count) =
     codes "messages uneven " ++ count_words one one_count ++ 32 ∷ [] ++ count_words other other_count
 fault_words (TraceText byte reason) = codes "trace byte " ++ decimal byte ++ 32 ∷ [] ++ trace_reason_name reason
+fault_words (Unspaced fault) = codes "wave entry " ++ entry_words fault
+fault_words (WaveText line reason) = codes "wave line " ++ decimal line ++ 32 ∷ [] ++ wave_reason_name reason
 fault_words (ReadFault source) = codes "read " ++ decimal source
 fault_words WriteFault = codes "write"
 fault_words NoMemory = codes "memory"
@@ -125,6 +151,8 @@ refused_verdict (MessagesText line reason) = None
 refused_verdict (Unfit error) = None
 refused_verdict (Uneven one one_count other other_count) = None
 refused_verdict (TraceText byte reason) = None
+refused_verdict (Unspaced fault) = None
+refused_verdict (WaveText line reason) = None
 refused_verdict (ReadFault source) = None
 refused_verdict WriteFault = None
 refused_verdict NoMemory = None
@@ -145,6 +173,8 @@ short_last_of (MessagesText line reason) = None
 short_last_of (Unfit error) = None
 short_last_of (Uneven one one_count other other_count) = None
 short_last_of (TraceText byte reason) = None
+short_last_of (Unspaced fault) = None
+short_last_of (WaveText line reason) = None
 short_last_of (ReadFault source) = None
 short_last_of WriteFault = None
 short_last_of NoMemory = None

@@ -1,15 +1,15 @@
 -- Which outcomes a form may come to, and what they tell of the second text, also where the first source tells nothing. `SourceCounts` says
 -- beside this that an outcome that refuses a source is of one that the form names, and `Does` which one is due where both tell their bytes.
-use Rattle.std.specs.Prelude.{◌≡◌, Bool, true, false, IsTrue, ℕ, List, Option, Some, None, IfSome}
+use Rattle.std.specs.Prelude.{◌≡◌, ◌<◌, Bool, true, false, IsTrue, ℕ, List, Option, Some, None, IfSome}
 use Rattle.bus_table.specs.declared.mode.Mode.{Mode}
 use Rattle.bus_table.specs.declared.mode.Mode.TheVariants.{Aperiodic, Periodic}
 use Rattle.bus_tool.specs.declared.forms.Form.{Form}
-use Rattle.bus_tool.specs.declared.forms.Form.TheVariants.{Check, Tidy, Report, Witness, Plan, Drill, Observe, Run, Drop, Receive, Audit, Vote}
+use Rattle.bus_tool.specs.declared.forms.Form.TheVariants.{Check, Tidy, Report, Witness, Plan, Drill, Observe, Run, Drop, Receive, Audit, Vote, Wave, Unwave}
 use Rattle.bus_tool.specs.declared.outcome.Outcome.{Outcome}
 use Rattle.bus_tool.specs.declared.outcome.Outcome.TheVariants as outcome
-use Rattle.bus_tool.specs.Causes.{IsNoMessagesText, IsUnfitIn, IsNoTraceText}
+use Rattle.bus_tool.specs.Causes.{IsNoMessagesText, IsUnfitIn, IsNoTraceText, IsUnspacedIn, IsNoWaveIn}
 use Rattle.bus_tool.specs.Forms.{sources_of}
-use Rattle.bus_tool.specs.Readers.{Reader, Trace, entire}
+use Rattle.bus_tool.specs.Readers.{Reader, Trace, entire, entire_wave}
 
 -- whether a form is a question, which may be answered with no
 abbrev pub is_question : Form → Bool
@@ -25,6 +25,8 @@ is_question Drop = false
 is_question Receive = false
 is_question Audit = true
 is_question Vote = false
+is_question Wave = false
+is_question Unwave = false
 
 -- whether a form runs the senders of a table up to their last message, for which the table has to be accepted
 abbrev pub runs_accepted : Form → Bool
@@ -40,6 +42,8 @@ runs_accepted Drop = true
 runs_accepted Receive = false
 runs_accepted Audit = false
 runs_accepted Vote = false
+runs_accepted Wave = false
+runs_accepted Unwave = false
 
 -- the mode that a form needs of its table
 abbrev pub needed_mode : Form → Option Mode
@@ -55,6 +59,8 @@ needed_mode Drop = Some Aperiodic
 needed_mode Receive = None
 needed_mode Audit = None
 needed_mode Vote = None
+needed_mode Wave = None
+needed_mode Unwave = None
 
 -- the second source of a form is read so, and where it tells its bytes this holds of them
 pub record ReadsSecond (form : Form) (reader : Reader) (second : Option (List ℕ)) (Holds : List ℕ → Type 0) : Type 0 where
@@ -74,11 +80,13 @@ IsOwn form second (outcome.MessagesText line reason) = ReadsSecond form entire s
 IsOwn form second (outcome.Unfit error) = ReadsSecond form entire second (IsUnfitIn error)
 IsOwn form second (outcome.Uneven one one_count other other_count) = form ≡ Run
 IsOwn form second (outcome.TraceText byte reason) = ReadsSecond form Trace second IsNoTraceText
+IsOwn form second (outcome.Unspaced fault) = (form ≡ Wave) × IfSome second (IsUnspacedIn fault)
+IsOwn form second (outcome.WaveText line reason) = ReadsSecond form entire_wave second IsNoWaveIn
 IsOwn form second (outcome.ReadFault source) = Unit {0}
 IsOwn form second outcome.WriteFault = Unit {0}
 IsOwn form second outcome.NoMemory = Unit {0}
 IsOwn form second (outcome.TooLarge source) = Unit {0}
-IsOwn form second (outcome.ShortLast least ti) = form ≡ Drop
+IsOwn form second (outcome.ShortLast least ti) = (form ≡ Drop) × (least < ti)
 IsOwn form second (outcome.TooLong end) = IsTrue (runs_accepted form)
 
 -- it is one of this form, whatever the second text is

@@ -16,6 +16,10 @@ use Rattle.bus_tool.specs.Outside.{Seen, Sources, Rises, Stays, BothStay}
 abbrev pub text_limit : ℕ
 text_limit = 8388608
 
+-- the most bytes that a wave text may have
+abbrev pub wave_limit : ℕ
+wave_limit = 67108864
+
 -- Entire: it is read whole, of no more bytes than a limit. Trace: it is read as far as a trace text goes.
 pub data Reader : Type 0 where
   Entire : (limit : ℕ) → Reader
@@ -24,6 +28,10 @@ pub data Reader : Type 0 where
 -- how a table text and a messages text are read
 abbrev pub entire : Reader
 entire = Entire text_limit
+
+-- how a wave text is read
+abbrev pub entire_wave : Reader
+entire_wave = Entire wave_limit
 
 -- the sources that a form names, each with its reader
 pub record Named : Type 0 where

@@ -24,12 +24,13 @@ use Rattle.bus_filter.specs.ReceivedTexts.{received_text}
 use Rattle.bus_trace.specs.declared.hold.Hold.{Hold}
 use Rattle.bus_trace.specs.Traces.{Recording, trace_text}
 use Rattle.bus_vote.specs.VoteTexts.{votes_text}
+use Rattle.bus_wave.specs.WaveTexts.{wave_text}
 use Rattle.bus_tool.specs.declared.forms.Form.{Form}
-use Rattle.bus_tool.specs.declared.forms.Form.TheVariants.{Check, Tidy, Report, Witness, Plan, Drill, Observe, Run, Drop, Receive, Audit, Vote}
+use Rattle.bus_tool.specs.declared.forms.Form.TheVariants.{Check, Tidy, Report, Witness, Plan, Drill, Observe, Run, Drop, Receive, Audit, Vote, Wave, Unwave}
 use Rattle.bus_tool.specs.declared.outcome.Outcome.{Outcome}
 use Rattle.bus_tool.specs.Forms.{form_of}
 use Rattle.bus_tool.specs.declared.inputs.Traced.{Traced as Ran}
-use Rattle.bus_tool.specs.Due.{Inputs, hands_in, Traced, table_due, table_in, inputs_due, run_due, drop_due, traced_due, audit_of}
+use Rattle.bus_tool.specs.Due.{Inputs, hands_in, Traced, table_due, table_in, inputs_due, run_due, drop_due, traced_due, wave_due, unwave_due, audit_of}
 use Rattle.bus_tool.specs.AuditLines.{audit_line}
 use Rattle.bus_tool.specs.Drills.{drill_line}
 use Rattle.bus_tool.specs.Reports.{report_text}
@@ -152,6 +153,14 @@ IsAuditText traced text = text ≡ audit_line (audit_of traced)
 abbrev pub IsVoteText : Traced → List ℕ → Type 0
 IsVoteText traced text = text ≡ votes_text traced.table traced.trace.list
 
+-- the wave text of a trace
+abbrev pub IsWrittenWave : Traced → List ℕ → Type 0
+IsWrittenWave traced text = text ≡ wave_text traced.trace
+
+-- the text of a trace
+abbrev pub IsWrittenTrace : Traced → List ℕ → Type 0
+IsWrittenTrace traced text = text ≡ trace_text traced.trace
+
 -- a text of the value that is due, where none of it is refused
 abbrev pub IsTextOf : {Y : Type 0} → (Y → List ℕ → Type 0) → Result Y Outcome → List ℕ → Type 0
 IsTextOf {Y} IsText due text = (y : Y) × (due ≡ Ok y) × IsText y text
@@ -170,6 +179,8 @@ IsFormText Drop first second text = IsTextOf IsDropText (drop_due first second) 
 IsFormText Receive first second text = IsTextOf IsReceiveText (traced_due first second) text
 IsFormText Audit first second text = IsTextOf IsAuditText (traced_due first second) text
 IsFormText Vote first second text = IsTextOf IsVoteText (traced_due first second) text
+IsFormText Wave first second text = IsTextOf IsWrittenWave (wave_due first second) text
+IsFormText Unwave first second text = IsTextOf IsWrittenTrace (unwave_due first second) text
 
 -- what is written where the words ask for a form, or for none
 abbrev pub IsTextFor : Option Form → List ℕ → List ℕ → List ℕ → Type 0

@@ -14,12 +14,15 @@ use crate::receive::receive;
 use crate::report::report;
 use crate::run::run;
 use crate::tidy::tidy;
+use crate::unwave::unwave;
 use crate::vote::vote;
+use crate::wave::wave;
 use crate::witness::witness;
 use bus_outer::{Sink, Source};
 use bus_strings::laws::texts_read_as_their_items;
 use bus_table::laws::readings_have_their_cause;
 use bus_trace::laws::traces_read_back;
+use bus_wave::laws::waves_tell_traces;
 use std::alloc::Global;
 
 /// Does the command that the words ask for, and says what it came to. All its memory is taken before its first written byte.
@@ -39,6 +42,7 @@ pub fn act<S: Source, K: Sink>(
     readings_have_their_cause();
     texts_read_as_their_items();
     traces_read_back();
+    waves_tell_traces();
     match form_of(words) {
         None => Outcome::Usage,
         Some(Form::Check) => check(alloc, first, out),
@@ -53,5 +57,7 @@ pub fn act<S: Source, K: Sink>(
         Some(Form::Receive) => receive(alloc, first, second, out),
         Some(Form::Audit) => audit(alloc, first, second, out),
         Some(Form::Vote) => vote(alloc, first, second, out),
+        Some(Form::Wave) => wave(alloc, first, second, out),
+        Some(Form::Unwave) => unwave(alloc, first, second, out),
     }
 }

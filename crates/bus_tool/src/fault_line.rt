@@ -1,7 +1,7 @@
 ghost use Rattle.bus_outer.specs.Sinks.{WritesText};
 ghost use Rattle.bus_outer.specs.Texts.{Adds};
-ghost use Rattle.bus_table.specs.declared.fit.FitError.TheVariants.{Stranger, Shape};
-ghost use Rattle.bus_tool.specs.Outcomes.{reason_name, trace_reason_name, pair_words, whole_words, fit_words, fault_words, count_words};
+ghost use Rattle.bus_tool.specs.Outcomes.{reason_name, trace_reason_name, wave_reason_name, pair_words, whole_words};
+ghost use Rattle.bus_tool.specs.Outcomes.{fit_words, entry_words, fault_words, count_words};
 ghost use Rattle.bus_tool.specs.Outcomes.{status_of, error_line, plain_line, short_last_of, short_last_line, other_line, fault_line};
 ghost use Rattle.bus_text.specs.Digits.{hex_digit, hexadecimal};
 ghost use Rattle.bus_tool.specs.Statuses.{number_of};
@@ -17,6 +17,7 @@ use bus_table::mode::Mode;
 use bus_text::digits::{hex_digit as digit, three_digits};
 use bus_text::reason::Reason;
 use bus_trace::TraceReason;
+use bus_wave::{WaveFault, WaveReason};
 use bus_words::label::{Ext, Label};
 
 /// Puts the word of a reason.
@@ -46,6 +47,22 @@ fn put_trace_reason<K: Sink>(text: &mut TextBuffer, sink: &mut K, reason: TraceR
         TraceReason::Range => text.put(sink, b"Range"),
         TraceReason::Order => text.put(sink, b"Order"),
         TraceReason::Mark => text.put(sink, b"Mark"),
+    }
+}
+
+/// Puts the word of a reason against a line of a wave.
+fn put_wave_reason<K: Sink>(text: &mut TextBuffer, sink: &mut K, reason: WaveReason)
+    ensures { Adds K.held K.faults sink.old sink.new text.old text.new (wave_reason_name reason) }
+{
+    match reason {
+        WaveReason::Ended => text.put(sink, b"Ended"),
+        WaveReason::Keyword => text.put(sink, b"Keyword"),
+        WaveReason::Fields => text.put(sink, b"Fields"),
+        WaveReason::Spelling => text.put(sink, b"Spelling"),
+        WaveReason::Code => text.put(sink, b"Code"),
+        WaveReason::Parity => text.put(sink, b"Parity"),
+        WaveReason::Range => text.put(sink, b"Range"),
+        WaveReason::Order => text.put(sink, b"Order"),
     }
 }
 
@@ -133,20 +150,12 @@ fn put_messages_text<K: Sink>(text: &mut TextBuffer, sink: &mut K, line: u64, re
     put_place(text, sink, b"messages line ", line, reason)
 }
 
-/// Puts an item whose terminal is no sender.
-fn put_stranger<K: Sink>(text: &mut TextBuffer, sink: &mut K, item: u64)
-    ensures { Adds K.held K.faults sink.old sink.new text.old text.new (fit_words (Stranger item)) }
+/// Puts a number and a word.
+fn put_number_and_word<K: Sink>(text: &mut TextBuffer, sink: &mut K, number: u64, word: &[u8])
+    ensures { Adds K.held K.faults sink.old sink.new text.old text.new (decimal number ++ word.now) }
 {
-    text.put_number(sink, item);
-    text.put(sink, b" Stranger");
-}
-
-/// Puts an item that isn't of the shape that its sender's lines ask for.
-fn put_shape<K: Sink>(text: &mut TextBuffer, sink: &mut K, item: u64)
-    ensures { Adds K.held K.faults sink.old sink.new text.old text.new (fit_words (Shape item)) }
-{
-    text.put_number(sink, item);
-    text.put(sink, b" Shape");
+    text.put_number(sink, number);
+    text.put(sink, word);
 }
 
 /// Puts the number of an item that doesn't fit, and why.
@@ -154,8 +163,8 @@ fn put_item<K: Sink>(text: &mut TextBuffer, sink: &mut K, error: FitError)
     ensures { Adds K.held K.faults sink.old sink.new text.old text.new (fit_words error) }
 {
     match error {
-        FitError::Stranger(item) => put_stranger(text, sink, item),
-        FitError::Shape(item) => put_shape(text, sink, item),
+        FitError::Stranger(item) => put_number_and_word(text, sink, item, b" Stranger"),
+        FitError::Shape(item) => put_number_and_word(text, sink, item, b" Shape"),
     }
 }
 
@@ -210,6 +219,35 @@ fn put_trace_text<K: Sink>(text: &mut TextBuffer, sink: &mut K, byte: u64, reaso
     put_trace_reason(text, sink, reason);
 }
 
+/// Puts an entry of a trace that isn't spaced, and what is wrong with it.
+fn put_entry<K: Sink>(text: &mut TextBuffer, sink: &mut K, fault: WaveFault)
+    ensures { Adds K.held K.faults sink.old sink.new text.old text.new (entry_words fault) }
+{
+    match fault {
+        WaveFault::Stranger(k) => put_number_and_word(text, sink, k, b" Stranger"),
+        WaveFault::Misfit(k) => put_number_and_word(text, sink, k, b" Misfit"),
+        WaveFault::Close(k) => put_number_and_word(text, sink, k, b" Close"),
+        WaveFault::Cut(k) => put_number_and_word(text, sink, k, b" Cut"),
+    }
+}
+
+/// Puts the refusal of a trace that isn't spaced.
+fn put_unspaced<K: Sink>(text: &mut TextBuffer, sink: &mut K, fault: WaveFault)
+    ensures { Adds K.held K.faults sink.old sink.new text.old text.new (fault_words (Outcome.Unspaced fault)) }
+{
+    text.put(sink, b"wave entry ");
+    put_entry(text, sink, fault);
+}
+
+/// Puts the refusal of a line of a wave.
+fn put_wave_text<K: Sink>(text: &mut TextBuffer, sink: &mut K, line: u64, reason: WaveReason)
+    ensures { Adds K.held K.faults sink.old sink.new text.old text.new (fault_words (Outcome.WaveText line reason)) }
+{
+    put_numbered(text, sink, b"wave line ", line);
+    text.put_byte(sink, b' ');
+    put_wave_reason(text, sink, reason);
+}
+
 /// Puts why a table is refused as a whole.
 fn put_table_whole<K: Sink>(text: &mut TextBuffer, sink: &mut K, reason: WholeReason)
     ensures { Adds K.held K.faults sink.old sink.new text.old text.new (fault_words (Outcome.TableWhole reason)) }
@@ -256,6 +294,8 @@ fn put_words<K: Sink>(text: &mut TextBuffer, sink: &mut K, outcome: &Outcome)
             other_count,
         } => put_uneven(text, sink, one, one_count, other, other_count),
         Outcome::TraceText { byte, reason } => put_trace_text(text, sink, byte, reason),
+        Outcome::Unspaced(fault) => put_unspaced(text, sink, fault),
+        Outcome::WaveText { line, reason } => put_wave_text(text, sink, line, reason),
         Outcome::ReadFault { source } => put_numbered(text, sink, b"read ", u64::from(source)),
         Outcome::WriteFault => text.put(sink, b"write"),
         Outcome::NoMemory => text.put(sink, b"memory"),

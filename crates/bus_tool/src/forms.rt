@@ -45,6 +45,10 @@ pub enum Form {
     Audit,
     /// `vote T R`: the votes of the channels of the table in `T`, in the trace in `R`.
     Vote,
+    /// `wave T R`: the wave of the trace in `R`, which has to be spaced for the table in `T`.
+    Wave,
+    /// `unwave T W`: the trace whose wave, of the table in `T`, is in `W`.
+    Unwave,
 }
 
 /// The horizon that a word writes; None where the word is no plain decimal, or the number is past its limit.
@@ -112,6 +116,10 @@ fn three_words(command: &str) -> Option<Form>
         Some(Form::Audit)
     } else if command == "vote" {
         Some(Form::Vote)
+    } else if command == "wave" {
+        Some(Form::Wave)
+    } else if command == "unwave" {
+        Some(Form::Unwave)
     } else {
         None
     }

@@ -1,13 +1,14 @@
 //! What the commands take from their sources: a table from the first, and hands from the second.
 ghost use Rattle.std.specs.Prelude.{◌≡◌, ◌≤◌, length, IfOk, IfErr, IsTrue};
 ghost use Rattle.std.specs.List.{AllByRecursion};
+ghost use Rattle.bus_outer.specs.Sources.{read_limit};
 ghost use Rattle.bus_table.specs.Hands.{are_hands};
 ghost use Rattle.bus_tool.specs.Due as due;
 ghost use Rattle.bus_tool.specs.Due.{mode_or_refusal, table_in, refusal_of_mode, inputs_in};
-ghost use Rattle.bus_tool.specs.Due.{text_due, table_due, table_refusal_of, items_due, inputs_due, trace_due, traced_due};
+ghost use Rattle.bus_tool.specs.Due.{text_within, table_due, table_refusal_of, items_due, inputs_due, trace_due, traced_due};
 ghost use Rattle.bus_tool.specs.Outside.{source_seen, sources_seen};
 ghost use Rattle.bus_tool.specs.Own.{IsAnyones, IsOfMode, IsOfReader, IsOfInputs};
-ghost use Rattle.bus_tool.specs.Readers.{text_limit, Trace as ByTrace, entire, two_sources};
+ghost use Rattle.bus_tool.specs.Readers.{Entire, Trace as ByTrace, entire, two_sources};
 ghost use Rattle.bus_tool.specs.Steps.{read_refusal, Same, IsText, Takes, Prepares};
 ghost use Rattle.bus_tool.specs.Taken.{AreHandsOf, AreReady, AreInputs, AreTraced};
 ghost use Rattle.bus_trace.specs.Traces.{IsTrace};
@@ -54,15 +55,21 @@ fn read_outcome(number: u8, error: ReadError) -> Outcome
     }
 }
 
-/// All that the source of this number gives, or why it wasn't read.
-fn take_text<S: Source>(alloc: Global, number: u8, source: &mut S) -> Result<Vec<u8>, Outcome>
-    requires { (1 ≤ number) × (number ≤ 2) }
-    ensures takes { Takes IsText number entire (text_due number)
+/// All that the source of this number gives, or why it wasn't read. It may have so many bytes.
+pub fn take_text<S: Source>(
+    alloc: Global,
+    limit: usize,
+    number: u8,
+    source: &mut S,
+) -> Result<Vec<u8>, Outcome>
+    requires limit { limit ≤ read_limit }
+    requires number { (1 ≤ number) × (number ≤ 2) }
+    ensures takes { Takes IsText number (Entire limit) (text_within limit number)
         (source_seen ⟦<S as Source>⟧ source.old) (source_seen ⟦<S as Source>⟧ source.new) result }
-    ensures short { IfOk result (λ text. length text.items ≤ text_limit) }
+    ensures short { IfOk result (λ text. length text.items ≤ limit) }
     ensures own { IfErr result IsAnyones }
 {
-    match read_whole(alloc, source, TEXT_LIMIT) {
+    match read_whole(alloc, source, limit) {
         Ok(text) => Ok(text),
         Err(error) => Err(read_outcome(number, error)),
     }
@@ -73,7 +80,7 @@ pub fn take_table<S: Source>(alloc: Global, first: &mut S) -> Result<Table, Outc
     ensures takes { Takes Same 1 entire table_due (source_seen ⟦<S as Source>⟧ first.old) (source_seen ⟦<S as Source>⟧ first.new) result }
     ensures own { IfErr result IsAnyones }
 {
-    let text = take_text(alloc, 1, first)?;
+    let text = take_text(alloc, TEXT_LIMIT, 1, first)?;
     let table = read_table(alloc, &text)?;
     Ok(table)
 }
@@ -124,7 +131,7 @@ fn take_hands<S: Source>(alloc: Global, table: &Table, second: &mut S) -> Result
     texts_read_as_their_items();
     // A look at the table makes known that it is valid.
     let _mode = table.mode();
-    let text = take_text(alloc, 2, second)?;
+    let text = take_text(alloc, TEXT_LIMIT, 2, second)?;
     let items = read_messages(alloc, &text)?;
     fits(table, &items)?;
     let hands = hands(alloc, table, items)?;
@@ -132,7 +139,7 @@ fn take_hands<S: Source>(alloc: Global, table: &Table, second: &mut S) -> Result
 }
 
 /// The trace in the second source, or why there is none. Of the source exactly the bytes are taken that decide.
-fn take_trace<S: Source>(alloc: Global, second: &mut S) -> Result<Trace, Outcome>
+pub fn take_trace<S: Source>(alloc: Global, second: &mut S) -> Result<Trace, Outcome>
     ensures takes { Takes Same 2 ByTrace trace_due
         (source_seen ⟦<S as Source>⟧ second.old) (source_seen ⟦<S as Source>⟧ second.new) result }
     ensures ranges { IfOk result IsTrace }

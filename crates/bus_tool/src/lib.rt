@@ -9,48 +9,26 @@ mod audit_line;
 mod check;
 mod command;
 mod drill;
-#[cfg(test)]
-mod drill_tests;
 mod dropout;
 mod fault_line;
-#[cfg(test)]
-mod fault_tests;
 pub mod forms;
 mod holds;
-#[cfg(test)]
-mod hostile_tests;
 mod in_memory;
-#[cfg(test)]
-mod in_memory_tests;
 mod inputs;
 pub mod laws;
 mod observe;
-#[cfg(test)]
-mod observe_tests;
 mod outcome;
 mod plan;
-#[cfg(test)]
-mod plan_tests;
 mod receive;
 mod report;
-#[cfg(test)]
-mod row_tests;
 mod run;
-#[cfg(test)]
-mod run_tests;
 mod status;
-#[cfg(test)]
-mod table_tests;
-#[cfg(test)]
-mod tests;
 mod tidy;
 mod top;
+mod unwave;
 mod vote;
-#[cfg(test)]
-mod vote_tests;
+mod wave;
 mod witness;
-#[cfg(test)]
-mod witness_tests;
 mod writing;
 
 pub use command::act;

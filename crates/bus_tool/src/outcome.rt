@@ -10,6 +10,7 @@ use bus_table::fit::FitError;
 use bus_table::mode::Mode;
 use bus_text::reason::Reason;
 use bus_trace::{TraceError, TraceReason};
+use bus_wave::{WaveError, WaveFault, WaveReason};
 use std::alloc::AllocError;
 
 /// What a command came to.
@@ -52,6 +53,13 @@ pub enum Outcome {
     TraceText {
         byte: u64,
         reason: TraceReason,
+    },
+    /// The trace of the second text isn't spaced for the table: its first entry at fault, counted from 0, and what is wrong with it.
+    Unspaced(WaveFault),
+    /// The second text is no wave text of a trace that is spaced for the table: the offending line, counted from 1, and why.
+    WaveText {
+        line: u64,
+        reason: WaveReason,
     },
     /// A source, the first being 1, couldn't be read.
     ReadFault {
@@ -100,6 +108,8 @@ impl Outcome {
             | Outcome::Unfit(_)
             | Outcome::Uneven { .. }
             | Outcome::TraceText { .. }
+            | Outcome::Unspaced(_)
+            | Outcome::WaveText { .. }
             | Outcome::ReadFault { .. }
             | Outcome::WriteFault
             | Outcome::NoMemory
@@ -126,6 +136,8 @@ impl Outcome {
             | Outcome::Unfit(_)
             | Outcome::Uneven { .. }
             | Outcome::TraceText { .. }
+            | Outcome::Unspaced(_)
+            | Outcome::WaveText { .. }
             | Outcome::ReadFault { .. }
             | Outcome::WriteFault
             | Outcome::NoMemory
@@ -147,7 +159,9 @@ impl Outcome {
             Outcome::MessagesText { .. }
             | Outcome::Unfit(_)
             | Outcome::Uneven { .. }
-            | Outcome::TraceText { .. } => Status::InputRefused,
+            | Outcome::TraceText { .. }
+            | Outcome::Unspaced(_)
+            | Outcome::WaveText { .. } => Status::InputRefused,
             Outcome::ReadFault { .. } => Status::ReadFault,
             Outcome::WriteFault => Status::WriteFault,
             Outcome::NoMemory => Status::NoMemory,
@@ -233,6 +247,29 @@ impl From<TraceError> for Outcome {
             TraceError::ReadFault => Outcome::ReadFault { source: 2 },
             TraceError::TooLarge => Outcome::TooLarge { source: 2 },
             TraceError::Memory => Outcome::NoMemory,
+        }
+    }
+}
+
+impl From<WaveFault> for Outcome {
+    ghost use Rattle.bus_tool.specs.declared.outcome.Outcome.TheVariants.{Unspaced};
+
+    ghost from_gives = { λ fault outcome. outcome ≡ Unspaced fault };
+
+    fn from(fault: WaveFault) -> Outcome {
+        Outcome::Unspaced(fault)
+    }
+}
+
+impl From<WaveError> for Outcome {
+    ghost use Rattle.bus_tool.specs.Due.{wave_refusal};
+
+    ghost from_gives = { λ error outcome. outcome ≡ wave_refusal error };
+
+    fn from(error: WaveError) -> Outcome {
+        match error {
+            WaveError::Text { line, reason } => Outcome::WaveText { line, reason },
+            WaveError::Memory => Outcome::NoMemory,
         }
     }
 }

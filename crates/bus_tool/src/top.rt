@@ -12,6 +12,7 @@ ghost use Rattle.bus_tool.specs.Outside.{called, outside};
 ghost use Rattle.bus_tool.specs.DrillClaims.{IsDrillOf, GivesDrill};
 ghost use Rattle.bus_tool.specs.TableClaims.{IsReportOf, GivesReport, IsTidyOf, GivesTidied};
 ghost use Rattle.bus_tool.specs.TraceClaims.{IsReceiveOf, GivesReceived, IsAuditOf, GivesFinding, IsVoteOf, GivesVotes};
+ghost use Rattle.bus_tool.specs.WaveClaims.{IsWaveOf, GivesWave, IsUnwaveOf, GivesUnwaved};
 ghost use Rattle.bus_trace.specs.Traces.{Recording};
 ghost use Rattle.bus_tool.specs.declared.outcome.Outcome.{Outcome as Came};
 
@@ -28,7 +29,8 @@ use bus_table::laws::{
     canonical_text_reads_as_its_table, fitting_items_give_hands, text_reads_as_its_table,
 };
 use bus_trace::laws::traces_read_back;
-use bus_vote::laws::runs_are_voted;
+use bus_vote::laws::{runs_are_voted, two_fix_the_vote};
+use bus_wave::laws::{runs_are_spaced, waves_tell_traces};
 use std::alloc::Global;
 
 /// The top call: does the command that the words ask for, writes a line on `err` where there is no answer, and says how the program
@@ -100,11 +102,23 @@ pub fn tool<S: Source, K: Sink, E: Sink>(
         (outside ⟦<S as Source>⟧ ⟦<K as Sink>⟧ first.new second.new out.new) in
         (table : Table) (trace : Recording) → IsAuditOf table trace call → GivesFinding table trace call result }
 
-    // `vote T R` of texts of a valid table and of a trace, where nothing outside fails: the votes, or want of memory. Of the trace of a run
-    // every round is voted, from the words of the hands.
+    // `vote T R` of texts of a valid table and of a trace, where nothing outside fails: the votes, or want of memory. Two equal channels fix
+    // a vote, and of the trace of a run every round is voted, from the words of the hands.
     ensures vote { let call = called (words_of words.now) (outside ⟦<S as Source>⟧ ⟦<K as Sink>⟧ first.old second.old out.old)
         (outside ⟦<S as Source>⟧ ⟦<K as Sink>⟧ first.new second.new out.new) in
         (table : Table) (trace : Recording) → IsVoteOf table trace call → GivesVotes table trace call result }
+
+    // `wave T R` of texts of a valid table and of a trace that is spaced for it, where nothing outside fails: its wave text, or want of
+    // memory. The trace of a run is spaced, and read from its wave text; two such traces with the same wave are equal.
+    ensures wave { let call = called (words_of words.now) (outside ⟦<S as Source>⟧ ⟦<K as Sink>⟧ first.old second.old out.old)
+        (outside ⟦<S as Source>⟧ ⟦<K as Sink>⟧ first.new second.new out.new) in
+        (table : Table) (trace : Recording) → IsWaveOf table trace call → GivesWave table trace call result }
+
+    // `unwave T W` of a text of a valid table and the wave text of a trace, where nothing outside fails: the text of the trace, or want of
+    // memory.
+    ensures unwave { let call = called (words_of words.now) (outside ⟦<S as Source>⟧ ⟦<K as Sink>⟧ first.old second.old out.old)
+        (outside ⟦<S as Source>⟧ ⟦<K as Sink>⟧ first.new second.new out.new) in
+        (table : Table) (trace : Recording) → IsUnwaveOf table trace call → GivesUnwaved table trace call result }
 
     // Of any words and bytes: the outcome that is due or a fault in its place, what was taken and written, what `err` holds, and the
     // status.
@@ -125,6 +139,9 @@ pub fn tool<S: Source, K: Sink, E: Sink>(
     even_hands_agree();
     verdicts_are_exact();
     runs_are_voted();
+    two_fix_the_vote();
+    runs_are_spaced();
+    waves_tell_traces();
     let outcome = act(alloc, words, first, second, out);
     let _ = outcome_text(&outcome, err);
     outcome.status()

@@ -9,6 +9,7 @@ use Rattle.bus_tool.proofs.ReceiveClaim.{TracedLaws, receive_claim}
 use Rattle.bus_tool.proofs.AuditClaim.{AuditLaws, audit_claim}
 use Rattle.bus_tool.proofs.DropClaim.{DropLaws, drop_claim}
 use Rattle.bus_tool.proofs.VoteClaim.{vote_claim}
+use Rattle.bus_tool.proofs.WaveClaim.{WaveLaws, wave_claim, unwave_claim}
 use Rattle.bus_tool.proofs.RunClaim.{RunLaws, run_claim}
 use Rattle.bus_tool.proofs.top.tool.Goals as goal
 
@@ -89,4 +90,30 @@ returns-clause-audit g c =
 pub returns-clause-vote : goal.returns-clause-vote
 returns-clause-vote g c =
     let laws : TracedLaws = record { table_again = c.text_reads_as_its_table.ensures; trace_back = c.traces_read_back.ensures.back } in
-    λ table trace h. rw c.status.ensures (vote_claim laws c.runs_are_voted.ensures _ c.act-outcome.result table trace c.act-outcome.ensures h)
+    λ table trace h. rw c.status.ensures (vote_claim laws c.two_fix_the_vote.ensures.rounds c.runs_are_voted.ensures _ c.act-outcome.result table trace c.act-outcome.ensures h)
+
+pub returns-clause-wave : goal.returns-clause-wave
+returns-clause-wave g c =
+    let laws : WaveLaws = record {
+      texts = record { table_again = c.text_reads_as_its_table.ensures; trace_back = c.traces_read_back.ensures.back };
+      passes = c.waves_tell_traces.ensures.passes;
+      one = c.waves_tell_traces.ensures.texts;
+      back = c.waves_tell_traces.ensures.back;
+      tell = c.waves_tell_traces.ensures.tell;
+      runs = c.runs_are_spaced.ensures.spaced;
+      read = c.runs_are_spaced.ensures.waves;
+    } in
+    λ table trace h. rw c.status.ensures (wave_claim laws _ c.act-outcome.result table trace c.act-outcome.ensures h)
+
+pub returns-clause-unwave : goal.returns-clause-unwave
+returns-clause-unwave g c =
+    let laws : WaveLaws = record {
+      texts = record { table_again = c.text_reads_as_its_table.ensures; trace_back = c.traces_read_back.ensures.back };
+      passes = c.waves_tell_traces.ensures.passes;
+      one = c.waves_tell_traces.ensures.texts;
+      back = c.waves_tell_traces.ensures.back;
+      tell = c.waves_tell_traces.ensures.tell;
+      runs = c.runs_are_spaced.ensures.spaced;
+      read = c.runs_are_spaced.ensures.waves;
+    } in
+    λ table trace h. rw c.status.ensures (unwave_claim laws _ c.act-outcome.result table trace c.act-outcome.ensures h)

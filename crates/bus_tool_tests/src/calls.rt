@@ -1,7 +1,6 @@
 //! What every test of the commands uses, and `check`, over sources and sinks in memory, with ample memory.
-use crate::status::Status;
-use crate::tool;
 use bus_outer::{MemorySink, MemorySource};
+use bus_tool::{Status, tool};
 use std::test::Fail;
 
 /// Two senders whose shortest cycle is longer than the transmit interval.

@@ -1,9 +1,9 @@
 //! `witness` over sources and sinks in memory, with ample memory, and `observe` over what it writes.
-use crate::observe_tests::{LONG_GAP, rounds, starts};
-use crate::status::Status;
-use crate::tests::{
+use crate::calls::{
     Ran, TWO_PERIODIC_SENDERS, TWO_SENDERS, is_refused, run_on, run_over, sink_of, source, writes,
 };
+use crate::observe::{LONG_GAP, rounds, starts};
+use bus_tool::Status;
 use std::test::Fail;
 
 /// Two senders of messages of several lengths, with offsets.

@@ -1,9 +1,8 @@
 //! `run` over sources and sinks in memory, with ample memory.
-use crate::observe_tests::starts;
-use crate::status::Status;
-use crate::tests::{Ran, is_refused, run_on, run_over, sink_of, source, words_of};
-use crate::tool;
+use crate::calls::{Ran, is_refused, run_on, run_over, sink_of, source, words_of};
+use crate::observe::starts;
 use bus_outer::CountSink;
+use bus_tool::{Status, tool};
 use std::test::Fail;
 
 fn run(rt: &HostRuntime, table: &str, messages: &str) -> Result<Ran, Fail> {

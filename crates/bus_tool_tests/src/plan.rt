@@ -1,6 +1,6 @@
 //! `plan` over sources and sinks in memory, with ample memory.
-use crate::status::Status;
-use crate::tests::{Ran, TWO_PERIODIC_SENDERS, TWO_SENDERS, is_refused, run_on, writes};
+use crate::calls::{Ran, TWO_PERIODIC_SENDERS, TWO_SENDERS, is_refused, run_on, writes};
+use bus_tool::Status;
 use std::test::Fail;
 
 /// Two senders whose terminal gaps are more than one synchronization gap, at the least interval.

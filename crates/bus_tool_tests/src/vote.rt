@@ -1,6 +1,6 @@
 //! Votes of what `run` wrote.
-use crate::Status;
-use crate::tests::{run_on, run_over, sink_of, source, writes};
+use crate::calls::{run_on, run_over, sink_of, source, writes};
+use bus_tool::Status;
 use std::test::Fail;
 
 const THREE_CHANNELS: &str =

@@ -1,6 +1,6 @@
 //! `tidy` and `report`, over sources and sinks in memory.
-use crate::status::Status;
-use crate::tests::{TWO_SENDERS, run_on, writes};
+use crate::calls::{TWO_SENDERS, run_on, writes};
+use bus_tool::Status;
 use std::test::Fail;
 
 /// A text that says the same as the one of the two senders, but isn't canonical.

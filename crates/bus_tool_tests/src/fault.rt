@@ -1,11 +1,11 @@
 //! Each pull and each push that fails in turn, and texts that are cut at each byte, over sources and sinks in memory.
-use crate::observe_tests::{LONG_GAP, ONE_EACH, ONE_EACH_SEEN};
-use crate::status::Status;
-use crate::tests::{
+use crate::calls::{
     Ran, TWO_PERIODIC_SENDERS, TWO_SENDERS, is_refused, run_on, run_over, sink_of, words_of,
 };
-use crate::tool;
+use crate::observe::{LONG_GAP, ONE_EACH, ONE_EACH_SEEN};
+use crate::wave::ONE_EACH_WAVE;
 use bus_outer::{MemorySink, MemorySource};
+use bus_tool::{Status, tool};
 use bus_vectors::row;
 use std::test::Fail;
 
@@ -13,7 +13,7 @@ use std::test::Fail;
 type Call<'a> = (&'a [&'a str], &'a str, &'a str);
 
 /// Calls of each command that read and write without a refusal.
-const CALLS: [Call<'static>; 11] = [
+const CALLS: [Call<'static>; 14] = [
     (&["check", "T"], TWO_SENDERS, ""),
     (&["report", "T"], TWO_SENDERS, ""),
     (&["plan", "T"], TWO_PERIODIC_SENDERS, ""),
@@ -25,6 +25,9 @@ const CALLS: [Call<'static>; 11] = [
     (&["observe", "T", "M", "150"], LONG_GAP, ONE_EACH),
     (&["receive", "T", "R"], LONG_GAP, ONE_EACH_SEEN),
     (&["audit", "T", "R"], LONG_GAP, ONE_EACH_SEEN),
+    (&["vote", "T", "R"], LONG_GAP, ONE_EACH_SEEN),
+    (&["wave", "T", "R"], LONG_GAP, ONE_EACH_SEEN),
+    (&["unwave", "T", "W"], LONG_GAP, ONE_EACH_WAVE),
 ];
 
 /// More pulls and pushes than a call makes.

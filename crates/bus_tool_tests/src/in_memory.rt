@@ -1,9 +1,8 @@
 //! `answer`, with ample memory.
-use crate::answer;
-use crate::observe_tests::{LONG_GAP, ONE_EACH};
-use crate::run_tests::{LONGEST_INTERVAL, items};
-use crate::status::Status;
-use crate::tests::{TWO_SENDERS, words_of};
+use crate::calls::{TWO_SENDERS, words_of};
+use crate::observe::{LONG_GAP, ONE_EACH};
+use crate::run::{LONGEST_INTERVAL, items};
+use bus_tool::{Status, answer};
 use std::test::Fail;
 
 /// How a call of these words over these texts ends.

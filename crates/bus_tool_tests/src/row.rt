@@ -1,5 +1,5 @@
 //! The stored rows, each run through the top call.
-use crate::tests::{run_over, sink_of, source};
+use crate::calls::{run_over, sink_of, source};
 use bus_vectors::{StoredRow, row};
 use std::test::Fail;
 

@@ -1,7 +1,7 @@
 //! Lines, numbers and counts that are too long by one, over sources and sinks in memory.
-use crate::observe_tests::{LONG_GAP, ONE_EACH_IN_FORMAT_1};
-use crate::status::Status;
-use crate::tests::{TWO_SENDERS, is_refused, run_on, writes};
+use crate::calls::{TWO_SENDERS, is_refused, run_on, writes};
+use crate::observe::{LONG_GAP, ONE_EACH_IN_FORMAT_1};
+use bus_tool::Status;
 use std::test::Fail;
 
 /// A text, and so many times another one, and a third behind it.

@@ -1,7 +1,7 @@
 //! `observe` over sources and sinks in memory, with ample memory.
-use crate::status::Status;
-use crate::tests::{Ran, is_refused, run_on, run_over, sink_of, source, writes};
+use crate::calls::{Ran, is_refused, run_on, run_over, sink_of, source, writes};
 use bus_outer::MemorySource;
+use bus_tool::Status;
 use std::test::Fail;
 
 /// Two senders with a long synchronization gap and short messages, and a listener.

@@ -1,6 +1,6 @@
 //! `drill`, which pulls no source.
-use crate::status::Status;
-use crate::tests::{is_refused, run_on, writes};
+use crate::calls::{is_refused, run_on, writes};
+use bus_tool::Status;
 use std::test::Fail;
 
 #[test]

@@ -1,0 +1,22 @@
+use Rattle.bus_tool.specs.declared.forms.Form.TheVariants.{Wave}
+use Rattle.bus_tool.specs.declared.outcome.Outcome.TheVariants.{Done}
+use Rattle.bus_tool.proofs.OwnLemmas.{own_written}
+use Rattle.bus_tool.proofs.WaveLemmas.{wave_answered, wave_stopped}
+use Rattle.bus_tool.proofs.wave.wave.Goals as goal
+
+pub write_wave-requires : goal.write_wave-requires
+write_wave-requires g c = c.in-Ok.ensures.spaced.apart
+
+pub returns-in-Ok-clause-does : goal.returns-in-Ok-clause-does
+returns-in-Ok-clause-does g c =
+    wave_answered _ _ g.K.Sink c.args.out.now c.write_wave.new.sink c.in-Ok.traced c.after_writing.result c.write_wave.result
+    c.in-Ok.ensures.prepares c.write_wave.ensures.written c.after_writing.ensures
+
+pub returns-in-Err-clause-does : goal.returns-in-Err-clause-does
+returns-in-Err-clause-does g c = wave_stopped _ _ _ c.in-Err.outcome c.in-Err.ensures.prepares
+
+pub returns-in-Ok-clause-own : goal.returns-in-Ok-clause-own
+returns-in-Ok-clause-own g c = own_written Wave (g.S.Source.left c.args.second.now) Done c.after_writing.result _ c.after_writing.ensures tt
+
+pub returns-in-Err-clause-own : goal.returns-in-Err-clause-own
+returns-in-Err-clause-own g c = c.in-Err.ensures.own

@@ -1,0 +1,29 @@
+//! Tests of bus_tool by its public calls: in a crate of their own, so that bus_tool is proved once and not a second time with them.
+#![tactic(auto)]
+
+#[cfg(test)]
+mod calls;
+#[cfg(test)]
+mod drill;
+#[cfg(test)]
+mod fault;
+#[cfg(test)]
+mod hostile;
+#[cfg(test)]
+mod in_memory;
+#[cfg(test)]
+mod observe;
+#[cfg(test)]
+mod plan;
+#[cfg(test)]
+mod row;
+#[cfg(test)]
+mod run;
+#[cfg(test)]
+mod table;
+#[cfg(test)]
+mod vote;
+#[cfg(test)]
+mod wave;
+#[cfg(test)]
+mod witness;
