@@ -2,6 +2,7 @@ pub mod VotingLemmas
 pub mod ListLemmas
 pub mod ScanLemmas
 pub mod RoundLemmas
+pub mod WalkLemmas
 pub mod PutLemmas
 pub mod HandLemmas
 pub mod TurnLemmas

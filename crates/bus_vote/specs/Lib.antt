@@ -1,6 +1,7 @@
 pub mod Votes
 pub mod Labels
 pub mod Rounds
+pub mod Walks
 pub mod VoteTexts
 pub mod VoteLaws
 pub mod Scans

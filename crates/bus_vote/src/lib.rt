@@ -16,6 +16,7 @@
 mod cursor;
 mod label;
 pub mod laws;
+mod mark;
 mod scan;
 mod seen;
 #[cfg(test)]

@@ -4,15 +4,15 @@ ghost use Rattle.std.specs.List.{flat_map, range_with_len};
 ghost use Rattle.std.specs.Option.{option_copied};
 ghost use Rattle.bus_outer.specs.Sinks.{WritesText};
 ghost use Rattle.bus_outer.specs.Texts.{Adds};
-ghost use Rattle.bus_strings.specs.Transmissions.{IsByMoment};
 ghost use Rattle.bus_table.specs.Valid.{is_valid};
 ghost use Rattle.bus_vote.specs.Labels.{labels};
 ghost use Rattle.bus_vote.specs.Putting.{words_put, round_put, label_put};
 ghost use Rattle.bus_vote.specs.VoteLaws.{IsVotedInRuns};
 ghost use Rattle.bus_vote.specs.VoteTexts.{place_text, round_text, label_line, label_text, votes_text};
 ghost use Rattle.bus_vote.specs.Votes.{two_are_present, votes};
+ghost use Rattle.bus_vote.specs.Walks.{IsSent};
 
-use crate::cursor::Cursor;
+use crate::cursor::{Cursor, are_over};
 use crate::label::VotedLabel;
 use crate::laws::runs_are_voted;
 use crate::scan::voted_label;
@@ -94,14 +94,14 @@ fn put_round<K: Sink>(
     }
 }
 
-// The rounds of a voted label. Three walks go over the list, one for each channel.
+// The rounds of a voted label. Three walks go over the list, one for each channel; once two are over, no round is voted.
 fn put_rounds<K: Sink>(
     text: &mut TextBuffer,
     sink: &mut K,
     voted: &VotedLabel,
     list: &[Transmission],
 )
-    requires { IsByMoment list.now }
+    requires { IsSent list.now }
     ensures { Adds K.held K.faults sink.old sink.new text.old text.new
         (flat_map (round_put list.now voted.now) (range_with_len 0 (length list.now))) }
 {
@@ -109,6 +109,9 @@ fn put_rounds<K: Sink>(
     let mut second = Cursor::new(list, voted.second.terminal);
     let mut third = Cursor::new(list, voted.third.terminal);
     for round in 0..list.len() {
+        if are_over(&first, &second, &third) {
+            return;
+        }
         let a = first.words(voted.label, voted.first.ext);
         let b = second.words(voted.label, voted.second.ext);
         let c = third.words(voted.label, voted.third.ext);
@@ -138,7 +141,7 @@ fn put_voted<K: Sink>(
     voted: &VotedLabel,
     list: &[Transmission],
 )
-    requires { IsByMoment list.now }
+    requires { IsSent list.now }
     ensures { Adds K.held K.faults sink.old sink.new text.old text.new (label_text list.now voted.now) }
 {
     put_label_line(text, sink, voted);
@@ -153,7 +156,7 @@ fn put_label<K: Sink>(
     list: &[Transmission],
     label: Label,
 )
-    requires { IsByMoment list.now }
+    requires { IsSent list.now }
     ensures { Adds K.held K.faults sink.old sink.new text.old text.new (label_put table.now list.now label) }
 {
     if let Some(voted) = voted_label(table, label) {
@@ -163,7 +166,7 @@ fn put_label<K: Sink>(
 
 // The labels in ascending order.
 fn put_labels<K: Sink>(text: &mut TextBuffer, sink: &mut K, table: &Table, list: &[Transmission])
-    requires { IsByMoment list.now }
+    requires { IsSent list.now }
     ensures { Adds K.held K.faults sink.old sink.new text.old text.new (flat_map (label_put table.now list.now) labels) }
 {
     for number in 0..LABEL_COUNT {
