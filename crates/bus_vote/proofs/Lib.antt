@@ -3,6 +3,7 @@ pub mod ListLemmas
 pub mod ScanLemmas
 pub mod RoundLemmas
 pub mod WalkLemmas
+pub mod PaceLemmas
 pub mod PutLemmas
 pub mod HandLemmas
 pub mod TurnLemmas

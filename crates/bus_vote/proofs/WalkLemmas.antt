@@ -3,11 +3,11 @@ use Rattle.std.proofs.Common.{◌≡◌, ℕ, zero, suc, ◌+◌, ◌-◌, ◌<�
 use Rattle.std.specs.Prelude.{slice_get}
 use Rattle.std.specs.List.{list_any, flat_map, range_with_len, AllByRecursion}
 use Rattle.std.specs.Option.{option_map_or, option_and_then}
-use Rattle.std.proofs.lemmas.Bool.{cases_lt, lt-ltb, le-ltb}
+use Rattle.std.proofs.lemmas.Bool.{cases_lt, lt-ltb, le-ltb, eq-eqb, ne_eqb}
 use Rattle.std.proofs.lemmas.List.{take_more}
 use Rattle.std.proofs.lemmas.List.Folds.{list_any-append}
 use Rattle.std.proofs.lemmas.List.FromFn.{length-map-range_with_len, get_or-map-range_with_len}
-use Rattle.std.proofs.lemmas.Option.{slice_get_read}
+use Rattle.std.proofs.lemmas.Option.{slice_get_read, slice_get_within, get_or_from_slice_get}
 use Rattle.std.proofs.Math.Seq.{drop-cons}
 use Rattle.bus_strings.specs.Messages.{Entry}
 use Rattle.bus_strings.specs.Transmissions.{end_of, garbled, marks}
@@ -16,8 +16,9 @@ use Rattle.bus_trace.specs.Traces.{Recording, IsTrace, IsBelow}
 use Rattle.bus_vote.specs.Labels.{VotedLabel}
 use Rattle.bus_vote.specs.Putting.{words_put, round_put}
 use Rattle.bus_vote.specs.Rounds.{sent_by, words_of, first_words, second_words, third_words}
-use Rattle.bus_vote.specs.Walks.{IsSent, IsReach, TwoAreOver}
+use Rattle.bus_vote.specs.Walks.{IsSent, IsReach, IsSpaced, TwoAreOver, sent_from}
 use Rattle.bus_vote.proofs.ListLemmas.{flat_map-range}
+use Rattle.bus_vote.proofs.RoundLemmas.{left_own, left_other, left_past}
 
 -- ---- the list of a trace
 messages_some : (horizon : ℕ) (list : List Entry) → AllByRecursion (IsBelow horizon) list → AllByRecursion (λ y. 0 < length y.message) list
@@ -32,17 +33,17 @@ pub none_reach : IsReach [] 0
 none_reach moment = sym (le-ltb moment 0 (omega arith))
 
 -- behind a moment lies one of two where the greater does
-behind_either : (m a b : ℕ) → (ltb m a || (ltb m b || false)) ≡ ltb m (max a b)
+behind_either : (m a b : ℕ) → (ltb m a || (ltb m b || false)) ≡ ltb m (max b a)
 behind_either m a b = elim (cases_lt m a) [
-  | inl here ↦ rw (lt-ltb m a here) (sym (lt-ltb m (max a b) (omega arith)))
+  | inl here ↦ rw (lt-ltb m a here) (sym (lt-ltb m (max b a) (omega arith)))
   | inr not ↦ rw (le-ltb m a not) (elim (cases_lt m b) [
-    | inl there ↦ rw (lt-ltb m b there) (sym (lt-ltb m (max a b) (omega arith)))
-    | inr none ↦ rw (le-ltb m b none) (sym (le-ltb m (max a b) (omega arith)))
+    | inl there ↦ rw (lt-ltb m b there) (sym (lt-ltb m (max b a) (omega arith)))
+    | inr none ↦ rw (le-ltb m b none) (sym (le-ltb m (max b a) (omega arith)))
   ])
 ]
 
 -- one transmission further
-pub reach_more : (list : List Entry) (at : ℕ) (x : Entry) (reach more : ℕ) → at < length list → x ≡ get_or list at x → more ≡ max reach (end_of x)
+pub reach_more : (list : List Entry) (at : ℕ) (x : Entry) (reach more : ℕ) → at < length list → x ≡ get_or list at x → more ≡ max (end_of x) reach
     → IsReach (take at list) reach → IsReach (take (at + 1) list) more
 reach_more list at x reach more within is e r m =
     ap (list_any (λ y. ltb m (end_of y))) (take_more list at x within ∙ ap (λ y. take at list ++ y ∷ []) (sym is))
@@ -80,6 +81,66 @@ pub garbled_behind : (list : List Entry) (at : ℕ) (x : Entry) (reach moment en
 garbled_behind list at x reach moment end tell sent within is r m e f =
     sym (garbled_by list at x reach moment end tell sent within is r m e
     ∙ ap (λ b. b || option_map_or (λ y. ltb y.moment end) (slice_get list (at + 1)) false) f)
+
+-- the transmissions so far aren't garbled, nor is one more
+pub clear_more : (list : List Entry) (at : ℕ) → ((place : ℕ) → place < at → garbled list place ≡ false) → garbled list at ≡ false
+    → (place : ℕ) → place < at + 1 → garbled list place ≡ false
+clear_more list at so_far here place before = elim (cases_lt place at) [
+  | inl earlier ↦ so_far place earlier
+  | inr late ↦ let e : place ≡ at = omega arith in ap (garbled list) e ∙ here
+]
+
+-- ---- what a walk passes over
+slice_get_none : {X : Type 0} (xs : List X) (k : ℕ) → slice_get xs k ≡ None → length xs ≤ k
+slice_get_none [] k e = omega arith
+slice_get_none (x ∷ xs) zero e = absurd (let w : Some x ≡ None = e in cc)
+slice_get_none (x ∷ xs) (suc k) e = let h : length xs ≤ k = slice_get_none xs k e in omega arith
+
+pub own_next : (terminal : ℕ) (list : List Entry) (at : ℕ) (x : Entry) → at < length list → x ≡ get_or list at x → x.terminal ≡ terminal
+    → sent_from terminal list at ≡ (x, garbled list at) ∷ sent_from terminal list (at + 1)
+own_next terminal list at x within is own =
+    left_own terminal list at x (garbled list at) (drop at (marks list)) (drop (at + 1) (marks list)) within is (marks_more list at within) (eq-eqb x.terminal terminal own)
+
+pub other_next : (terminal : ℕ) (list : List Entry) (at : ℕ) (x : Entry) → at < length list → x ≡ get_or list at x → (x.terminal ≡ terminal → ⊥)
+    → sent_from terminal list at ≡ sent_from terminal list (at + 1)
+other_next terminal list at x within is other =
+    left_other terminal list at x (garbled list at) (drop at (marks list)) (drop (at + 1) (marks list)) within is (marks_more list at within) (ne_eqb x.terminal terminal other)
+
+pub sent_past : (terminal : ℕ) (list : List Entry) (at : ℕ) → length list ≤ at → sent_from terminal list at ≡ []
+sent_past terminal list at h = left_past terminal list at (drop at (marks list)) h
+
+-- places at which no transmission of the terminal stands
+AreOthers : ℕ → List Entry → ℕ → ℕ → Type 0
+AreOthers terminal list from to = (j : ℕ) (x : Entry) → from ≤ j → j < to → slice_get list j ≡ Some x → x.terminal ≡ terminal → ⊥
+
+other_at : (terminal : ℕ) (list : List Entry) (at : ℕ) (o : Option Entry) → slice_get list at ≡ o → ((x : Entry) → o ≡ Some x → x.terminal ≡ terminal → ⊥)
+    → sent_from terminal list at ≡ sent_from terminal list (at + 1)
+other_at terminal list at None e others =
+    let past : length list ≤ at = slice_get_none list at e in
+    sent_past terminal list at past ∙ sym (sent_past terminal list (at + 1) (omega arith))
+other_at terminal list at (Some x) e others =
+    other_next terminal list at x (slice_get_within list at x e) (sym (get_or_from_slice_get list at x x e)) (others x refl)
+
+passed : (terminal : ℕ) (list : List Entry) (at more : ℕ) → AreOthers terminal list at (at + more) → sent_from terminal list at ≡ sent_from terminal list (at + more)
+unfolding AreOthers
+passed terminal list at zero others = let e : at ≡ at + 0 = omega arith in ap (sent_from terminal list) e
+passed terminal list at (suc more) others =
+    let e : (at + more) + 1 ≡ at + suc more = omega arith in
+    passed terminal list at more (λ j x from to is own. others j x from (omega arith) is own)
+    ∙ other_at terminal list (at + more) (slice_get list (at + more)) refl (λ x is own. others (at + more) x (omega arith) (omega arith) is own)
+    ∙ ap (sent_from terminal list) e
+
+-- as far as its transmissions stand apart
+pub leap : (terminal : ℕ) (list : List Entry) (at gap next : ℕ) (x : Entry) → IsSpaced terminal gap list → slice_get list at ≡ Some x → x.terminal ≡ terminal
+    → at + 1 ≤ next → next ≤ max (at + gap) (at + 1) → sent_from terminal list (at + 1) ≡ sent_from terminal list next
+unfolding AreOthers
+leap terminal list at gap next x spaced is own low high =
+    let e : (at + 1) + (next - (at + 1)) ≡ next = omega arith in
+    passed terminal list (at + 1) (next - (at + 1)) (λ j y from to there same.
+    let far : at + gap ≤ j = spaced at j x y (omega arith) is there own same in
+    let near : j < next = omega arith in
+    absurd (omega arith))
+    ∙ ap (sent_from terminal list) e
 
 -- ---- rounds behind two walks that are over
 gone : {X : Type 0} (xs : List X) (k r : ℕ) → k ≤ r → drop k xs ≡ [] → slice_get xs r ≡ None

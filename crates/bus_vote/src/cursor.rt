@@ -1,8 +1,9 @@
 // The transmissions of one terminal in a list, one after another.
-ghost use Rattle.std.specs.Prelude.{◌≡◌, IsTrue, [], ◌∷◌, IfSome, IfNone, slice_get, drop};
+ghost use Rattle.std.specs.Prelude.{◌≡◌, ◌≤◌, ℕ, IsTrue, [], ◌∷◌, IfSome, IfNone, Some, length, slice_get, take, drop};
 ghost use Rattle.std.specs.Option.{option_and_then, option_copied};
 ghost use Rattle.bus_vote.specs.Rounds as rounds;
-ghost use Rattle.bus_vote.specs.Walks.{IsSent, TwoAreOver};
+ghost use Rattle.bus_strings.specs.Messages.{Entry};
+ghost use Rattle.bus_vote.specs.Walks.{sent_from, IsSent, IsReach, IsPace, TwoAreOver};
 
 use crate::mark::is_garbled;
 use bus_strings::message::Message;
@@ -31,43 +32,71 @@ fn words_in(message: &Message, label: Label, ext: Ext) -> Option<&[u16]>
     None
 }
 
+/// The place of the next transmission of a terminal from a place on; where there is none, a place behind the list.
+fn next_place(list: &[Transmission], from: usize, terminal: u8) -> usize
+    ensures low { from ≤ result }
+    ensures own { (x : Entry) → slice_get list.now result ≡ Some x → x.terminal ≡ terminal }
+    ensures left { sent_from terminal list.now from ≡ sent_from terminal list.now result }
+{
+    for at in from..list.len() {
+        let x = &list[at];
+        if x.terminal == terminal {
+            return at;
+        }
+    }
+    from.max(list.len())
+}
+
+/// The greatest end of the transmissions before a place, given that of those before an earlier place.
+fn reach_to(list: &[Transmission], from: usize, to: usize, reach: u64) -> u64
+    requires { (from ≤ to) × (to ≤ length list.now) × IsReach (take from list.now) reach }
+    ensures { IsReach (take to list.now) result }
+{
+    let mut reach = reach;
+    for at in from..to {
+        reach = list[at].end().max(reach);
+    }
+    reach
+}
+
 /// A walk over the transmissions of a terminal, which goes over the list once. It is seen as what is left of them, each marked where it
-/// is garbled.
+/// is garbled. Where nothing of the list is garbled, it leaps as many places as its transmissions stand apart at least.
 #[derive(Drop)]
 pub(crate) struct Cursor<'a> {
     list: &'a [Transmission],
-    at: usize,
-    // The greatest end of the transmissions before that place.
-    reach: u64,
     terminal: u8,
+    // How many places its transmissions stand apart at least. None where some transmission of the list is garbled.
+    gap: Option<usize>,
+    at: usize,
+    // Without a gap, the greatest end of the transmissions before that place.
+    reach: u64,
 }
 
 impl<'a> Model for Cursor<'a> {
-    ghost use Rattle.std.specs.Prelude.{List, Bool, drop};
-    ghost use Rattle.std.specs.List.{filter, zip};
+    ghost use Rattle.std.specs.Prelude.{List, Bool};
     ghost use Rattle.bus_strings.specs.Messages.{Entry};
-    ghost use Rattle.bus_strings.specs.Transmissions.{marks};
-    ghost use Rattle.bus_vote.specs.Rounds.{is_of};
-    ghost use Rattle.bus_vote.specs.Walks.{IsWalk};
+    ghost use Rattle.bus_vote.specs.Walks.{sent_from, IsWalk};
 
     ghost Value = { List (Entry × Bool) };
 
-    ghost view = { λ c. filter (is_of c.terminal) (zip (drop c.at c.list.now) (drop c.at (marks c.list.now))) };
+    ghost view = { λ c. sent_from c.terminal c.list.now c.at };
 
-    ghost invariant = { λ c. IsWalk c.list.now c.at c.reach };
+    ghost invariant = { λ c. IsWalk c.list.now c.terminal c.gap c.at c.reach };
 }
 
 impl<'a> Cursor<'a> {
-    /// A walk over the transmissions of a terminal in a list.
-    pub fn new(list: &'a [Transmission], terminal: u8) -> Self
-        requires { IsSent list.now }
+    /// A walk over the transmissions of a terminal in a list, with its gap where nothing of the list is garbled.
+    pub fn new(list: &'a [Transmission], terminal: u8, gap: Option<usize>) -> Self
+        requires sent { IsSent list.now }
+        requires pace { (places : ℕ) → gap ≡ Some places → IsPace list.now terminal places }
         ensures { result ≡ rounds.sent_by terminal list.now }
     {
         Cursor {
             list,
+            terminal,
+            gap,
             at: 0,
             reach: 0,
-            terminal,
         }
     }
 
@@ -76,16 +105,20 @@ impl<'a> Cursor<'a> {
         ensures some { IfSome result (λ next. self.old ≡ (next.0.now, next.1) ∷ self.new) }
         ensures none { IfNone result ((self.old ≡ []) × (self.new ≡ [])) }
     {
-        for at in self.at..self.list.len() {
-            let x = &self.list[at];
-            let reach = self.reach;
-            self.at = at + 1;
-            self.reach = reach.max(x.end());
-            if x.terminal == self.terminal {
-                return Some((x, is_garbled(self.list, at, reach)));
-            }
+        let place = next_place(self.list, self.at, self.terminal);
+        if place >= self.list.len() {
+            self.at = place;
+            return None;
         }
-        None
+        let x = &self.list[place];
+        if let Some(gap) = self.gap {
+            self.at = place.saturating_add(gap).max(place + 1);
+            return Some((x, false));
+        }
+        let reach = reach_to(self.list, self.at, place, self.reach);
+        self.at = place + 1;
+        self.reach = x.end().max(reach);
+        Some((x, is_garbled(self.list, place, reach)))
     }
 
     /// Whether it has come to the end of the list.

@@ -17,6 +17,7 @@ mod cursor;
 mod label;
 pub mod laws;
 mod mark;
+mod pace;
 mod scan;
 mod seen;
 #[cfg(test)]

@@ -1,5 +1,5 @@
 // The text of the votes.
-ghost use Rattle.std.specs.Prelude.{◌≡◌, ◌<◌, ◌≤◌, ◌++◌, IsTrue, length, map};
+ghost use Rattle.std.specs.Prelude.{◌≡◌, ◌<◌, ◌≤◌, ◌++◌, ℕ, IsTrue, Some, length, map, slice_get};
 ghost use Rattle.std.specs.List.{flat_map, range_with_len};
 ghost use Rattle.std.specs.Option.{option_copied};
 ghost use Rattle.bus_outer.specs.Sinks.{WritesText};
@@ -7,14 +7,16 @@ ghost use Rattle.bus_outer.specs.Texts.{Adds};
 ghost use Rattle.bus_table.specs.Valid.{is_valid};
 ghost use Rattle.bus_vote.specs.Labels.{labels};
 ghost use Rattle.bus_vote.specs.Putting.{words_put, round_put, label_put};
+ghost use Rattle.bus_vote.specs.Rounds.{sent_by};
 ghost use Rattle.bus_vote.specs.VoteLaws.{IsVotedInRuns};
 ghost use Rattle.bus_vote.specs.VoteTexts.{place_text, round_text, label_line, label_text, votes_text};
 ghost use Rattle.bus_vote.specs.Votes.{two_are_present, votes};
-ghost use Rattle.bus_vote.specs.Walks.{IsSent};
+ghost use Rattle.bus_vote.specs.Walks.{IsSent, IsSpaced, ArePaces};
 
 use crate::cursor::{Cursor, are_over};
 use crate::label::VotedLabel;
 use crate::laws::runs_are_voted;
+use crate::pace::{gap_of, gaps, is_clear};
 use crate::scan::voted_label;
 use crate::voting::{are_present, vote, width};
 use bus_outer::{Sink, TextBuffer, WriteFault};
@@ -94,20 +96,31 @@ fn put_round<K: Sink>(
     }
 }
 
+// The walk of a channel's sender.
+fn walk<'a>(list: &'a [Transmission], gaps: Option<&[usize]>, terminal: u8) -> Cursor<'a>
+    requires sent { IsSent list.now }
+    requires paces { ArePaces list.now (option_copied gaps) }
+    ensures { result ≡ sent_by terminal list.now }
+{
+    Cursor::new(list, terminal, gap_of(gaps, terminal))
+}
+
 // The rounds of a voted label. Three walks go over the list, one for each channel; once two are over, no round is voted.
 fn put_rounds<K: Sink>(
     text: &mut TextBuffer,
     sink: &mut K,
     voted: &VotedLabel,
     list: &[Transmission],
+    gaps: Option<&[usize]>,
 )
-    requires { IsSent list.now }
+    requires sent { IsSent list.now }
+    requires paces { ArePaces list.now (option_copied gaps) }
     ensures { Adds K.held K.faults sink.old sink.new text.old text.new
         (flat_map (round_put list.now voted.now) (range_with_len 0 (length list.now))) }
 {
-    let mut first = Cursor::new(list, voted.first.terminal);
-    let mut second = Cursor::new(list, voted.second.terminal);
-    let mut third = Cursor::new(list, voted.third.terminal);
+    let mut first = walk(list, gaps, voted.first.terminal);
+    let mut second = walk(list, gaps, voted.second.terminal);
+    let mut third = walk(list, gaps, voted.third.terminal);
     for round in 0..list.len() {
         if are_over(&first, &second, &third) {
             return;
@@ -140,12 +153,14 @@ fn put_voted<K: Sink>(
     sink: &mut K,
     voted: &VotedLabel,
     list: &[Transmission],
+    gaps: Option<&[usize]>,
 )
-    requires { IsSent list.now }
+    requires sent { IsSent list.now }
+    requires paces { ArePaces list.now (option_copied gaps) }
     ensures { Adds K.held K.faults sink.old sink.new text.old text.new (label_text list.now voted.now) }
 {
     put_label_line(text, sink, voted);
-    put_rounds(text, sink, voted, list);
+    put_rounds(text, sink, voted, list, gaps);
 }
 
 // A label, where it is voted on.
@@ -154,24 +169,42 @@ fn put_label<K: Sink>(
     sink: &mut K,
     table: &Table,
     list: &[Transmission],
+    gaps: Option<&[usize]>,
     label: Label,
 )
-    requires { IsSent list.now }
+    requires sent { IsSent list.now }
+    requires paces { ArePaces list.now (option_copied gaps) }
     ensures { Adds K.held K.faults sink.old sink.new text.old text.new (label_put table.now list.now label) }
 {
     if let Some(voted) = voted_label(table, label) {
-        put_voted(text, sink, &voted, list);
+        put_voted(text, sink, &voted, list, gaps);
     }
 }
 
 // The labels in ascending order.
-fn put_labels<K: Sink>(text: &mut TextBuffer, sink: &mut K, table: &Table, list: &[Transmission])
-    requires { IsSent list.now }
+fn put_labels<K: Sink>(
+    text: &mut TextBuffer,
+    sink: &mut K,
+    table: &Table,
+    list: &[Transmission],
+    gaps: Option<&[usize]>,
+)
+    requires sent { IsSent list.now }
+    requires paces { ArePaces list.now (option_copied gaps) }
     ensures { Adds K.held K.faults sink.old sink.new text.old text.new (flat_map (label_put table.now list.now) labels) }
 {
     for number in 0..LABEL_COUNT {
-        put_label(text, sink, table, list, Label::new(number).unwrap());
+        put_label(text, sink, table, list, gaps, Label::new(number).unwrap());
     }
+}
+
+// The gaps, where nothing is garbled.
+fn clear_gaps<'a>(list: &[Transmission], gaps: &'a [usize]) -> Option<&'a [usize]>
+    requires sent { IsSent list.now }
+    requires spaced { (terminal gap : ℕ) → slice_get gaps.now terminal ≡ Some gap → IsSpaced terminal gap list.now }
+    ensures { ArePaces list.now (option_copied result) }
+{
+    if is_clear(list) { Some(gaps) } else { None }
 }
 
 // A look at a table, of which nothing is left in the built program, makes known that it is valid.
@@ -198,7 +231,8 @@ pub fn write_votes<K: Sink>(table: &Table, trace: &Trace, sink: &mut K) -> Resul
     let list = trace.list();
     let mut text = TextBuffer::new();
     text.put(sink, b"VOTE 1\n");
-    put_labels(&mut text, sink, table, list);
+    let gaps = gaps(list);
+    put_labels(&mut text, sink, table, list, clear_gaps(list, &gaps));
     text.put(sink, b"END\n");
     text.finish(sink)
 }
