@@ -24,8 +24,6 @@ pub mod error;
 pub mod fit;
 mod forms;
 pub mod hand;
-#[cfg(test)]
-mod hand_tests;
 mod head;
 mod keyword;
 pub mod laws;
@@ -33,16 +31,12 @@ pub mod lengths;
 pub mod line;
 pub mod listener;
 pub mod mode;
-#[cfg(test)]
-mod offset_tests;
 pub mod offsets;
 mod ranges;
 pub mod reading;
 pub mod sender;
 mod stage;
 pub mod table;
-#[cfg(test)]
-mod tests;
 pub mod turns;
 mod whole;
 mod writing;

@@ -1,6 +1,6 @@
-use crate::mode::Mode;
-use crate::offsets::with_offsets;
-use crate::reading::read_table;
+use bus_table::mode::Mode;
+use bus_table::offsets::with_offsets;
+use bus_table::reading::read_table;
 use std::test::Fail;
 
 const TABLE: &[u8] =

@@ -1,10 +1,10 @@
-use crate::error::{TableError, WholeReason};
-use crate::lengths::{longest, shortest};
-use crate::mode::Mode;
-use crate::reading::read_table;
-use crate::table::Table;
-use crate::writing::write_table;
 use bus_outer::MemorySink;
+use bus_table::error::{TableError, WholeReason};
+use bus_table::lengths::{longest, shortest};
+use bus_table::mode::Mode;
+use bus_table::reading::read_table;
+use bus_table::table::Table;
+use bus_table::write_table;
 use bus_text::reason::Reason;
 use bus_words::label::{Ext, Label};
 use std::alloc::AllocError;

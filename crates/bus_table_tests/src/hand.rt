@@ -1,12 +1,12 @@
-use crate::dealing::hands;
-use crate::fit::{FitError, fits};
-use crate::line::{SendLine, TakeLine};
-use crate::listener::Listener;
-use crate::mode::Mode;
-use crate::reading::read_table;
-use crate::sender::Sender;
-use crate::table::Table;
 use bus_strings::reading::read_messages;
+use bus_table::dealing::hands;
+use bus_table::fit::{FitError, fits};
+use bus_table::line::{SendLine, TakeLine};
+use bus_table::listener::Listener;
+use bus_table::mode::Mode;
+use bus_table::reading::read_table;
+use bus_table::sender::Sender;
+use bus_table::table::Table;
 use bus_words::label::{Ext, Label};
 use std::test::Fail;
 
