@@ -15,7 +15,7 @@ use Rattle.bus_table.specs.Valid.{is_valid, is_in_range}
 use Rattle.bus_table.specs.ValidLaws.{or_none, is_none_is}
 use Rattle.bus_table.specs.Whole.{first_again, same_pair, send_lines, no_sender, number_twice, gap_twice, gap_not_short, pair_twice, whole_refusal}
 use Rattle.bus_wave.specs.Judging.{is_label_of, begins, beginner}
-use Rattle.bus_wave.proofs.SoundLemmas.{find_is}
+use Rattle.bus_wave.proofs.SenderLemmas.{find_is}
 
 -- ---- no line stands again
 once_split : (earlier : List SendLine) (x : SendLine) (xs : List SendLine) → first_again same_pair earlier (x ∷ xs) ≡ None

@@ -19,7 +19,7 @@ use Rattle.bus_trace.specs.Traces.{AscendAbove, IsHold, IsBelow, IsTrace}
 use Rattle.bus_wave.specs.Counted.{entries_of, hold_at, holds_of}
 use Rattle.bus_wave.specs.Spacing.{least_gap, IsOfSender, AreApart}
 use Rattle.bus_wave.proofs.BeginLemmas.{of_number}
-use Rattle.bus_wave.proofs.SoundLemmas.{send_facts}
+use Rattle.bus_wave.proofs.SenderLemmas.{send_facts}
 
 -- ---- holds
 count_le : (list : List Entry) (n : ℕ) → entries_of list n ≤ length list

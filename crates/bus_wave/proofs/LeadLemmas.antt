@@ -22,7 +22,8 @@ use Rattle.bus_wave.specs.Judging.{is_label_of, beginner, begun, begin_step, lab
 use Rattle.bus_wave.specs.Waves.{word_halves}
 use Rattle.bus_wave.specs.WaveTexts.{WaveLine, Quiet, Halves, string_lines, message_lines}
 use Rattle.bus_wave.proofs.StateLemmas.{sent}
-use Rattle.bus_wave.proofs.SoundLemmas.{matched, step_ok}
+use Rattle.bus_wave.proofs.SenderLemmas.{matched}
+use Rattle.bus_wave.proofs.StepLemmas.{step_ok}
 
 -- ---- lines that lead from one state to another
 abbrev pub Leads : List Sender → State → List WaveLine → State → Type 0

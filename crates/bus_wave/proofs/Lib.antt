@@ -9,9 +9,11 @@ mod ListLeads
 mod ReadLemmas
 mod RunHolds
 mod RunLemmas
+mod SenderLemmas
 mod SoundLemmas
 mod SpacingLemmas
 mod StateLemmas
+mod StepLemmas
 mod TextLemmas
 mod WaveLemmas
 mod WriteTexts

@@ -18,7 +18,8 @@ use Rattle.bus_wave.specs.Judging.{Phase, Opened, Silent, Saying, Closed, State,
 use Rattle.bus_wave.specs.Spacing.{least_gap, IsOfSender, AreApart}
 use Rattle.bus_wave.specs.WaveTexts.{WaveLine, Quiet, quiet_lines, message_lines, last_end, laid, lines_up_to}
 use Rattle.bus_wave.proofs.StateLemmas.{quiet_some}
-use Rattle.bus_wave.proofs.SoundLemmas.{matched, step_ok}
+use Rattle.bus_wave.proofs.SenderLemmas.{matched}
+use Rattle.bus_wave.proofs.StepLemmas.{step_ok}
 use Rattle.bus_wave.proofs.LeadLemmas.{Leads, lead_append, Reaches, message_reaches, IsReady, is_label}
 use Rattle.bus_wave.proofs.BeginLemmas.{beginner_is, of_number}
 

@@ -40,7 +40,8 @@ use Rattle.bus_wave.proofs.CountLemmas.{is_trace}
 use Rattle.bus_wave.proofs.DraftLemmas.{cap_step}
 use Rattle.bus_wave.proofs.LeadLemmas.{Leads}
 use Rattle.bus_wave.proofs.ListLeads.{all_lead}
-use Rattle.bus_wave.proofs.SoundLemmas.{Sound, Follows, Ends, step_is, quiet_at, still_going, quiet_follows, label_follows, data_follows, end_ends}
+use Rattle.bus_wave.proofs.SoundLemmas.{Sound, Follows, Ends, quiet_follows, label_follows, data_follows, end_ends}
+use Rattle.bus_wave.proofs.StepLemmas.{step_is, quiet_at, still_going}
 use Rattle.bus_wave.proofs.StateLemmas.{lines_of, sent}
 use Rattle.bus_wave.proofs.TextLemmas.{quiet_reads, word_reads, IsLineOf, symbol_found, head_found, head_reads, end_reads, some_piece, line_split}
 use Rattle.bus_wave.proofs.TextLemmas.{quiet_feedless, word_feedless}
