@@ -1,8 +1,12 @@
 -- The holds of a list, and that spaced lists are those of traces.
 use Rattle.std.proofs.Common.{arith, ◌≡◌, ℕ, zero, suc, ◌+◌, ◌-◌, ◌<◌, ◌≤◌, true, false, cond, ◌==◌, List, [], ◌∷◌, ◌++◌, length, Option, Some, None}
-use Rattle.std.proofs.Common.{refl, sym, ap, subst, ◌∙◌, inl}
+use Rattle.std.proofs.Common.{◌≢◌, refl, sym, ap, subst, ◌∙◌, inl, get_or, take, set}
 use Rattle.std.specs.Prelude.{IfSome, is_some, IsTrue}
-use Rattle.std.proofs.lemmas.List.Sums.{count_by-le-length}
+use Rattle.std.proofs.lemmas.Bool.{eqb-true}
+use Rattle.std.proofs.lemmas.Bool.Decides.{nat_tests}
+use Rattle.std.proofs.lemmas.Grind.{get_or-set_at}
+use Rattle.std.proofs.lemmas.List.{get_or-set_other}
+use Rattle.std.proofs.lemmas.List.Sums.{count_by-le-length, count_by_more_no, count_by_more_yes}
 use Rattle.std.specs.List.{AllByRecursion, filter_map, range_with_len, cons_option}
 use Rattle.std.specs.Option.{option_to_list}
 use Rattle.std.proofs.lemmas.List.Elements.{filter_map-append}
@@ -21,8 +25,24 @@ use Rattle.bus_wave.specs.Spacing.{least_gap, IsOfSender, AreApart}
 use Rattle.bus_wave.proofs.BeginLemmas.{of_number}
 use Rattle.bus_wave.proofs.SenderLemmas.{send_facts}
 
+-- ---- counts of entries
+-- one entry more is counted at its terminal
+pub counted_more : (list : List Entry) (i : ℕ) (x : Entry) (counts : List ℕ) (count : ℕ) → i < length list → x ≡ get_or list i x
+    → x.terminal < length counts → count ≡ get_or counts x.terminal 0 + 1
+    → ((n : ℕ) → n < 256 → get_or counts n 0 ≡ entries_of (take i list) n)
+    → (n : ℕ) → n < 256 → get_or (set counts x.terminal count) n 0 ≡ entries_of (take (i + 1) list) n
+counted_more list i x counts count less is room next h n low =
+    elim (x.terminal == n) as (λ b. (x.terminal == n) ≡ b → get_or (set counts x.terminal count) n 0 ≡ entries_of (take (i + 1) list) n) [
+      | true ↦ λ e. (let same : n ≡ x.terminal = sym (eqb-true _ _ e) in
+          get_or-set_at counts x.terminal n count 0 same room ∙ next ∙ ap (λ t. get_or counts t 0 + 1) (sym same) ∙ ap (λ m. m + 1) (h n low)
+          ∙ sym (count_by_more_yes (λ (y : Entry). y.terminal == n) list i x less (ap (λ (y : Entry). y.terminal == n) (sym is) ∙ e)))
+      | false ↦ λ e. (let other : n ≢ x.terminal = grind (arith, nat_tests) in
+          get_or-set_other counts x.terminal n count 0 other ∙ h n low
+          ∙ sym (count_by_more_no (λ (y : Entry). y.terminal == n) list i x less (ap (λ (y : Entry). y.terminal == n) (sym is) ∙ e)))
+    ] refl
+
 -- ---- holds
-count_le : (list : List Entry) (n : ℕ) → entries_of list n ≤ length list
+pub count_le : (list : List Entry) (n : ℕ) → entries_of list n ≤ length list
 count_le list n = count_by-le-length (λ x. x.terminal == n) list
 
 -- a hold is of its number, and of no more entries than there are

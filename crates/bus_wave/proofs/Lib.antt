@@ -6,6 +6,7 @@ mod DraftLemmas
 mod LeadLemmas
 mod LineLemmas
 mod ListLeads
+mod QuickLemmas
 mod ReadLemmas
 mod RunHolds
 mod RunLemmas

@@ -31,11 +31,11 @@ use Rattle.bus_wave.specs.declared.symbol.Symbol.TheVariants as symbol
 use Rattle.bus_wave.specs.Code.{digits_of}
 use Rattle.bus_wave.specs.Symbols.{fields_of, head_reading, symbol_reading}
 use Rattle.bus_wave.specs.Judging.{Phase, Opened, Silent, Saying, Waiting, Closed, State, opening, least_rest, order_step, step}
-use Rattle.bus_wave.specs.Reading.{WaveRefusal, at_line, is_closed, judge, recorded, ended, pieces_reading, text_reading, wave_reading}
+use Rattle.bus_wave.specs.Reading.{WaveRefusal, at_line, is_closed, judge_read, judge, recorded, ended, pieces_reading, text_reading, wave_reading}
 use Rattle.bus_wave.specs.WaveLaws.{most_bytes, IsWaveTrace, IsRead}
 use Rattle.bus_wave.specs.Waves.{word_halves, wave}
 use Rattle.bus_wave.specs.WaveTexts.{WaveLine, Quiet, Halves, line_fields, text_of, lines_up_to, last_end, message_lines, laid, quiet_lines, wave_text, IsWaveText}
-use Rattle.bus_wave.specs.Capped.{cap, capped}
+use Rattle.bus_wave.specs.Capped.{capped}
 use Rattle.bus_wave.proofs.CountLemmas.{is_trace}
 use Rattle.bus_wave.proofs.DraftLemmas.{cap_step}
 use Rattle.bus_wave.proofs.LeadLemmas.{Leads}
@@ -398,30 +398,27 @@ waves_tell table t u valid h k same =
     cc
 
 -- ---- what the code gives
-pub capped_error : (r : Result Symbol WaveReason) (e : WaveReason) → Err e ≡ capped r → r ≡ Err e
-capped_error (Ok y) e h = absurd cc
-capped_error (Err f) e h = ap Err (let same : f ≡ e = cc in same)
+pub read_closed : (senders : List Sender) (s : State) (reading : Result Symbol WaveReason) → is_closed s.phase ≡ true
+    → judge_read senders s reading ≡ Err Keyword
+read_closed senders s reading closed = ap (λ b. cond b (Err Keyword) (reading >>= step senders s)) closed
 
-pub capped_symbol : (r : Result Symbol WaveReason) (y : Symbol) → Ok y ≡ capped r → (z : Symbol) × (r ≡ Ok z) × (y ≡ cap z)
-capped_symbol (Ok z) y h = (z, refl, (let same : y ≡ cap z = cc in same))
-capped_symbol (Err f) y h = absurd cc
+pub read_error : (senders : List Sender) (s : State) (reading : Result Symbol WaveReason) (e : WaveReason) → is_closed s.phase ≡ false
+    → reading ≡ Err e → judge_read senders s reading ≡ Err e
+read_error senders s reading e unclosed h = ap (λ b. cond b (Err Keyword) (reading >>= step senders s)) unclosed ∙ ap (λ r. r >>= step senders s) h
 
-pub judged_error : (senders : List Sender) (s : State) (line : List ℕ) (e : WaveReason) → is_closed s.phase ≡ false
-    → symbol_reading (fields_of line) ≡ Err e → judge senders s line ≡ Err e
+pub read_symbol : (senders : List Sender) (s : State) (reading : Result Symbol WaveReason) (y : Symbol) → is_closed s.phase ≡ false
+    → reading ≡ Ok y → step senders s y ≡ judge_read senders s reading
+read_symbol senders s reading y unclosed h = sym (ap (λ b. cond b (Err Keyword) (reading >>= step senders s)) unclosed ∙ ap (λ r. r >>= step senders s) h)
+
+capped_same : (senders : List Sender) (s : State) (r : Result Symbol WaveReason) → s.at ≤ horizon_limit
+    → judge_read senders s (capped r) ≡ judge_read senders s r
+capped_same senders s (Ok y) low = ap (λ x. cond (is_closed s.phase) (Err Keyword) x) (cap_step senders s y low)
+capped_same senders s (Err e) low = refl
+
+pub judged_read : (senders : List Sender) (s : State) (line : List ℕ) (reading : Result Symbol WaveReason) → s.at ≤ horizon_limit
+    → reading ≡ capped (symbol_reading (fields_of line)) → judge_read senders s reading ≡ judge senders s line
 unfolding judge
-judged_error senders s line e unclosed h =
-    ap (λ b. cond b (Err Keyword) (symbol_reading (fields_of line) >>= step senders s)) unclosed ∙ ap (λ r. r >>= step senders s) h
-
-pub judged_symbol : (senders : List Sender) (s : State) (line : List ℕ) (z : Symbol) → is_closed s.phase ≡ false → s.at ≤ horizon_limit
-    → symbol_reading (fields_of line) ≡ Ok z → step senders s (cap z) ≡ judge senders s line
-unfolding judge
-judged_symbol senders s line z unclosed low h =
-    cap_step senders s z low
-    ∙ sym (ap (λ b. cond b (Err Keyword) (symbol_reading (fields_of line) >>= step senders s)) unclosed ∙ ap (λ r. r >>= step senders s) h)
-
-pub closed_keyword : (senders : List Sender) (s : State) (line : List ℕ) → is_closed s.phase ≡ true → judge senders s line ≡ Err Keyword
-unfolding judge
-closed_keyword senders s line closed = ap (λ b. cond b (Err Keyword) (symbol_reading (fields_of line) >>= step senders s)) closed
+judged_read senders s line reading low h = ap (judge_read senders s) h ∙ capped_same senders s (symbol_reading (fields_of line)) low
 
 -- what one line more gives, by how the text is cut
 pub line_more : (table : Table) (number : ℕ) (s m : State) (rest line behind : List ℕ) → slice_split is_feed rest ≡ line ∷ slice_split is_feed behind

@@ -141,6 +141,23 @@ all_digits [] h = absurd cc
 all_digits (d ∷ []) h = grind (arith, nat_tests)
 all_digits (d ∷ e ∷ ds) h = (and_parts (not (d == 48)) (list_all is_ascii_digit (d ∷ e ∷ ds)) h).1
 
+digit_byte : (b : ℕ) → is_ascii_digit b ≡ true → IsFieldByte b
+digit_byte b h = record { no_blank = grind (arith, nat_tests); no_feed = grind (arith, nat_tests) }
+
+digit_bytes : (ds : List ℕ) → list_all is_ascii_digit ds ≡ true → AllByRecursion IsFieldByte ds
+digit_bytes [] h = tt
+digit_bytes (d ∷ ds) h = let p = and_parts (is_ascii_digit d) (list_all is_ascii_digit ds) h in (digit_byte d p.0, digit_bytes ds p.1)
+
+-- a plain decimal behind `Q` and a space is read as its number
+pub plain_reads : (field : List ℕ) → is_plain_decimal field ≡ true → symbol_reading (fields_of (81 ∷ 32 ∷ field)) ≡ Ok (symbol.Quiet (decimal_value field))
+unfolding symbol_reading
+plain_reads field h =
+    ap symbol_of (two_fields 81 field refl (digit_bytes field (all_digits field h)))
+    ∙ ap (λ b. cond b (let r : Result Symbol WaveReason = Ok (symbol.Quiet (decimal_value field)) in r) (Err Spelling)) h
+  where
+    symbol_of : List (List ℕ) → Result Symbol WaveReason
+    symbol_of fields = symbol_reading fields
+
 plain_again : (ds : List ℕ) → is_plain_decimal ds ≡ true → decimal_value ds < 2 ^ 64 → decimal (decimal_value ds) ≡ ds
 plain_again ds h k = decimal-digits_value (numerals_by_value (AllDigits 10) tells_digits) ds (digits_from ds (all_digits ds h))
     (some_digits ds h) (one_zero ds h) k

@@ -11,10 +11,13 @@ use Rattle.bus_trace.specs.declared.hold.Hold.{Hold}
 abbrev pub entries_of : List Entry → ℕ → ℕ
 entries_of list terminal = count_by (λ x. x.terminal == terminal) list
 
--- the hold of the sender with a number, where there is one
+-- the hold of the sender with a number, where there is one, with a count
+abbrev pub hold_of : List Sender → ℕ → ℕ → Option Hold
+hold_of senders number count = if is_some (sender_of senders number) then Some (record { terminal = number; count = count }) else None
+
+-- the hold of the sender with a number, where there is one, with the number of its entries
 abbrev pub hold_at : List Sender → List Entry → ℕ → Option Hold
-hold_at senders list number =
-    if is_some (sender_of senders number) then Some (record { terminal = number; count = entries_of list number }) else None
+hold_at senders list number = hold_of senders number (entries_of list number)
 
 -- the holds of the senders of a table, by rising number
 unfoldable pub holds_of : Table → List Entry → List Hold

@@ -1,5 +1,7 @@
 -- What a call answered for a text or a line: what that reads as, unless memory ran out.
-use Rattle.std.specs.Prelude.{◌≡◌, ℕ, Result, Ok, Err}
+use Rattle.std.specs.Prelude.{◌≡◌, ℕ, List, ◌∷◌, Result, Ok, Err}
+use Rattle.std.specs.List.{slice_split}
+use Rattle.bus_text.specs.Lines.{is_feed}
 use Rattle.std.specs.Global.{Vec}
 use Rattle.bus_strings.specs.Messages.{Entry}
 use Rattle.bus_table.specs.Tables.{Table}
@@ -9,7 +11,10 @@ use Rattle.bus_wave.specs.declared.fault.LineFault.{LineFault}
 use Rattle.bus_wave.specs.declared.fault.LineFault.TheVariants as line
 use Rattle.bus_wave.specs.declared.fault.WaveError.{WaveError}
 use Rattle.bus_wave.specs.declared.fault.WaveError.TheVariants.{Text, Memory}
+use Rattle.bus_wave.specs.declared.symbol.Symbol.{Symbol}
+use Rattle.bus_wave.specs.Capped.{capped}
 use Rattle.bus_wave.specs.Counted.{holds_of}
+use Rattle.bus_wave.specs.Symbols.{fields_of, symbol_reading}
 use Rattle.bus_wave.specs.Reading.{WaveRefusal}
 
 -- a refusal is that of the reading; want of memory says nothing of it
@@ -41,3 +46,9 @@ fault_at number line.Memory = Memory
 abbrev pub PartsGive : Table → Result (ℕ × Vec Entry) WaveError → Result Recording WaveRefusal → Type 0
 PartsGive table (Ok parts) reading = reading ≡ Ok (record { horizon = parts.0; holds = holds_of table parts.1.items; list = parts.1.items })
 PartsGive table (Err error) reading = Fails error reading
+
+-- the first line of a text reads as this, but for numbers past the types' end, and these bytes are behind it
+pub record HasLine (text : List ℕ) (reading : Result Symbol WaveReason) (behind : List ℕ) : Type 0 where
+  pub first : List ℕ
+  pub pieces : slice_split is_feed text ≡ first ∷ slice_split is_feed behind
+  pub reads : reading ≡ capped (symbol_reading (fields_of first))

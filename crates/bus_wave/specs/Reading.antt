@@ -9,6 +9,7 @@ use Rattle.bus_trace.specs.Traces.{Recording}
 use Rattle.bus_wave.specs.declared.fault.WaveReason.{WaveReason}
 use Rattle.bus_wave.specs.declared.fault.WaveReason.TheVariants.{Ended, Keyword}
 use Rattle.bus_wave.specs.Counted.{holds_of}
+use Rattle.bus_wave.specs.declared.symbol.Symbol.{Symbol}
 use Rattle.bus_wave.specs.Symbols.{fields_of, head_reading, symbol_reading}
 use Rattle.bus_wave.specs.Judging.{Phase, Opened, Silent, Saying, Waiting, Closed, State, opening, step}
 
@@ -30,9 +31,13 @@ is_closed (Saying x line words left) = false
 is_closed (Waiting x next left) = false
 is_closed Closed = true
 
--- the state after one line more; none stands behind END
+-- the state after what one line more reads as; none stands behind END
+abbrev pub judge_read : List Sender → State → Result Symbol WaveReason → Result State WaveReason
+judge_read senders s reading = if is_closed s.phase then Err Keyword else reading >>= step senders s
+
+-- the state after one line more
 unfoldable pub judge : List Sender → State → List ℕ → Result State WaveReason
-judge senders s line = if is_closed s.phase then Err Keyword else symbol_reading (fields_of line) >>= step senders s
+judge senders s line = judge_read senders s (symbol_reading (fields_of line))
 
 -- the trace of complete lines
 abbrev pub recorded : Table → State → Recording

@@ -1,11 +1,11 @@
-ghost use Rattle.std.specs.Prelude.{◌≡◌, ◌+◌, ◌*◌, ◌/◌, ◌<◌, ◌≤◌, ◌^◌, ◌==◌, ◌∷◌, IfSome, Some, None, length, true, if◌then◌else◌};
+ghost use Rattle.std.specs.Prelude.{◌≡◌, ◌+◌, ◌*◌, ◌/◌, ◌<◌, ◌≤◌, ◌^◌, ◌==◌, ◌∷◌, ◌++◌, [], IfSome, Some, None, length, true, if◌then◌else◌};
 ghost use Rattle.std.specs.Char.{digit_value};
 ghost use Rattle.std.specs.List.{list_all};
 ghost use Rattle.bus_text.specs.Digits.{is_capital_digit};
-ghost use Rattle.bus_wave.specs.Code.{digits_of, halves_of, frame_of};
+ghost use Rattle.bus_wave.specs.Code.{halves_of, frame_of};
 ghost use Rattle.bus_wave.specs.Digits as spec;
+ghost use Rattle.bus_wave.specs.Puts.{word_put};
 ghost use Rattle.bus_wave.specs.Symbols.{are_digits as digits_test};
-ghost use Rattle.bus_wave.specs.Waves.{word_halves};
 
 use bus_text::digits::capital_digit;
 use bus_words::word::{FramedWord, Kind, Word, frame};
@@ -73,8 +73,9 @@ fn gathered(front: u32, digits: &[u8]) -> Option<u32>
 }
 
 /// The kind of word and its highest bit, by its first two digits; None where these hold no sync, or no bit behind it.
-fn head_of(first: u8, second: u8) -> Option<(Kind, u32)>
+pub(crate) fn head_of(first: u8, second: u8) -> Option<(Kind, u32)>
     ensures value { result ≡ spec.head_of first second }
+    ensures digits { IfSome result (λ head. (first ≡ spec.first_digit head.0) × (second ≡ spec.second_digit head.0 head.1)) }
     ensures range { IfSome result (λ head. head.1 < 2) }
 {
     match (first, second) {
@@ -87,7 +88,7 @@ fn head_of(first: u8, second: u8) -> Option<(Kind, u32)>
 }
 
 /// The word of a kind and of its bits, the lowest of which is the parity bit.
-fn frame_with(kind: Kind, bits: u32) -> FramedWord
+pub(crate) fn frame_with(kind: Kind, bits: u32) -> FramedWord
     requires { bits < 2 ^ 17 }
     ensures { result ≡ spec.frame_with kind bits }
 {
@@ -161,19 +162,19 @@ fn sent_bits(frame: FramedWord) -> u32
     2 * u32::from(frame.value) + u32::from(frame.parity)
 }
 
-/// The ten digits of a kind of word and of its bits.
-fn bit_digits(kind: Kind, bits: u32) -> [u8; 10]
-    ensures { result ≡ spec.first_digit kind ∷ spec.second_digit kind (bits / 65536) ∷ spec.code_digits 8 bits }
+/// The W line of a kind of word and of its bits.
+fn bit_line(kind: Kind, bits: u32) -> [u8; 13]
+    ensures { result ≡ 87 ∷ 32 ∷ spec.first_digit kind ∷ spec.second_digit kind (bits / 65536) ∷ (spec.code_digits 8 bits ++ 10 ∷ []) }
 {
     let [a, b, c, d, e, f, g, h] = code_digits(bits);
     let (first, second) = (first_digit(kind), second_digit(kind, bits / 65536));
-    [first, second, a, b, c, d, e, f, g, h]
+    [b'W', b' ', first, second, a, b, c, d, e, f, g, h, b'\n']
 }
 
-/// The ten digits of a word.
-pub(crate) fn digits(word: Word) -> [u8; 10]
-    ensures { result ≡ digits_of (word_halves word) }
+/// The W line of a word.
+pub(crate) fn word_line(word: Word) -> [u8; 13]
+    ensures { result ≡ word_put word }
 {
     let frame = frame(word);
-    bit_digits(frame.kind, sent_bits(frame))
+    bit_line(frame.kind, sent_bits(frame))
 }

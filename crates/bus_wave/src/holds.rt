@@ -1,8 +1,9 @@
-ghost use Rattle.std.specs.Prelude.{◌≡◌, ◌≤◌, ◌==◌, ◌++◌, is_some, length, IfOk, OnOk};
+ghost use Rattle.std.specs.Prelude.{◌≡◌, ◌≤◌, ◌<◌, ◌++◌, ℕ, is_some, length, slice_index, IfOk, OnOk};
 ghost use Rattle.std.specs.Option.{option_to_list};
 ghost use Rattle.bus_table.specs.Fits as fits;
 ghost use Rattle.bus_trace.specs.Limits.{most_count};
 ghost use Rattle.bus_wave.specs.Counted as counted;
+ghost use Rattle.bus_wave.specs.Counted.{entries_of};
 
 use crate::spacing::sender_of;
 use bus_strings::transmission::Transmission;
@@ -21,31 +22,28 @@ fn is_sender(senders: &[Sender], number: u8) -> bool
     }
 }
 
-/// How many entries are of a terminal.
-fn entries_of(list: &[Transmission], terminal: u8) -> u32
+/// How many entries each terminal has, by its number.
+fn counts(list: &[Transmission]) -> [u32; 256]
     requires { length list.now ≤ most_count }
-    ensures { result ≡ counted.entries_of list.now terminal }
+    ensures { (number : ℕ) → number < 256 → slice_index result number ≡ entries_of list.now number }
 {
-    let mut count = 0;
+    let mut counts = [0; 256];
     for entry in list {
-        if entry.terminal == terminal {
-            count += 1;
-        }
+        counts[entry.terminal as usize] += 1;
     }
-    count
+    counts
 }
 
 /// The hold of the sender with this number, where there is one.
-fn hold_at(senders: &[Sender], list: &[Transmission], number: u8) -> Option<Hold>
-    requires { length list.now ≤ most_count }
-    ensures { result ≡ counted.hold_at senders.now list.now number }
+fn hold_at(senders: &[Sender], counts: &[u32; 256], number: u8) -> Option<Hold>
+    ensures { result ≡ counted.hold_of senders.now number (slice_index counts.now number) }
 {
     if !is_sender(senders, number) {
         return None;
     }
     Some(Hold {
         terminal: number,
-        count: entries_of(list, number),
+        count: counts[number as usize],
     })
 }
 
@@ -69,9 +67,10 @@ pub(crate) fn holds(
     ensures { IfOk result (λ holds. holds.items ≡ counted.holds_of table.now list.now) }
 {
     let senders = table.senders();
+    let counts = counts(list);
     let mut holds = Vec::with_capacity(alloc, senders.len())?;
     for number in 1..129u8 {
-        note(&mut holds, hold_at(senders, list, number))?;
+        note(&mut holds, hold_at(senders, &counts, number))?;
     }
     Ok(holds)
 }

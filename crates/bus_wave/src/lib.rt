@@ -16,6 +16,7 @@ mod holds;
 pub mod laws;
 mod phase;
 mod pieces;
+mod quick;
 pub mod reading;
 pub mod spacing;
 mod symbol;

@@ -6,7 +6,7 @@ ghost use Rattle.bus_trace.specs.Traces.{Recording};
 ghost use Rattle.bus_wave.specs.Drafts.{Keeps, state_of};
 ghost use Rattle.bus_wave.specs.Gives.{Gives, StepGives, PartsGive, fault_at};
 ghost use Rattle.bus_wave.specs.Judging.{opening};
-ghost use Rattle.bus_wave.specs.Reading.{is_closed as closed_test, judge, pieces_reading, wave_reading};
+ghost use Rattle.bus_wave.specs.Reading.{is_closed as closed_test, judge_read, pieces_reading, wave_reading};
 ghost use Rattle.bus_wave.specs.WaveLaws.{most_bytes, IsRead, IsWaveTrace};
 ghost use Rattle.bus_wave.specs.WaveTexts.{IsWaveText};
 
@@ -16,7 +16,7 @@ use crate::holds::holds;
 use crate::laws::waves_tell_traces;
 use crate::pieces::cut;
 use crate::spacing::table_is_valid;
-use crate::symbol::{head_of, symbol_of};
+use crate::symbol::{Symbol, first_symbol, head_of};
 use bus_strings::transmission::Transmission;
 use bus_table::sender::Sender;
 use bus_table::table::Table;
@@ -36,21 +36,21 @@ fn error_at(number: u64, fault: LineFault) -> WaveError
     }
 }
 
-/// Takes a line behind the first.
+/// Takes what a line behind the first says.
 fn take_line<'t>(
     alloc: Global,
     senders: &'t [Sender],
     draft: &mut Draft<'t>,
-    line: &[u8],
+    line: Result<Symbol, WaveReason>,
 ) -> Result<(), LineFault>
     requires { Keeps draft.old }
-    ensures gives { StepGives (state_of draft.new) result (judge senders.now (state_of draft.old) line.now) }
+    ensures gives { StepGives (state_of draft.new) result (judge_read senders.now (state_of draft.old) line) }
     ensures keeps { OnOk result (Keeps draft.new) }
 {
     if draft.is_closed() {
         return Err(LineFault::Refused(WaveReason::Keyword));
     }
-    let symbol = symbol_of(line)?;
+    let symbol = line?;
     draft.take(alloc, senders, symbol)
 }
 
@@ -74,7 +74,7 @@ fn read_lines(
     let mut draft = Draft::new(alloc);
     let mut rest = text;
     let mut number = 2;
-    while let Some((line, behind)) = cut(b'\n', rest) {
+    while let Some((line, behind)) = first_symbol(rest) {
         if let Err(fault) = take_line(alloc, senders, &mut draft, line) {
             return Err(error_at(number, fault));
         }

@@ -1,11 +1,15 @@
-ghost use Rattle.std.specs.Prelude.{◌≡◌, ◌==◌, ◌^◌, ◌-◌, IfOk, IfErr, false, true, length, codes, slice_index_or, []};
+ghost use Rattle.std.specs.Prelude.{◌≡◌, ◌==◌, ◌^◌, ◌-◌, ◌<◌, ◌∷◌, MatchOption, IfOk, IfErr, false, true, length, codes, slice_index_or, []};
 ghost use Rattle.std.specs.Prelude.{Ok, Err, if◌then◌else◌};
 ghost use Rattle.bus_wave.specs.Symbols.{fields_of, head_reading, symbol_reading, word_reading, quiet_reading};
 ghost use Rattle.bus_wave.specs.Capped.{capped};
+ghost use Rattle.bus_wave.specs.Gives.{HasLine};
+ghost use Rattle.bus_text.specs.Lines.{is_feed};
+ghost use Rattle.std.specs.List.{slice_split};
 
 use crate::code::{are_digits, heard};
 use crate::fault::WaveReason;
 use crate::pieces::cut;
+use crate::quick::{quiet_line, word_line};
 use bus_text::numbers::plain_decimal;
 use bus_words::word::{Word, unframe};
 
@@ -92,7 +96,7 @@ fn quiet_of(field: &[u8]) -> Result<Symbol, WaveReason>
 
 /// What a line behind the first says; a number above the last value of a `u64` is that value.
 #[tactic(auto, unfolding(crate::specs::Symbols::symbol_reading))]
-pub(crate) fn symbol_of(line: &[u8]) -> Result<Symbol, WaveReason>
+fn symbol_of(line: &[u8]) -> Result<Symbol, WaveReason>
     ensures { result ≡ capped (symbol_reading (fields_of line.now)) }
 {
     let keyword = keyword(line);
@@ -109,6 +113,30 @@ pub(crate) fn symbol_of(line: &[u8]) -> Result<Symbol, WaveReason>
         return Err(WaveReason::Fields);
     }
     Ok(Symbol::End)
+}
+
+/// What a line behind the first says; of the lines that come here most are Q lines.
+fn line_symbol(line: &[u8]) -> Result<Symbol, WaveReason>
+    ensures { result ≡ capped (symbol_reading (fields_of line.now)) }
+{
+    match quiet_line(line) {
+        Some(bit_times) => Ok(Symbol::Quiet(bit_times)),
+        None => symbol_of(line),
+    }
+}
+
+/// What the line at the front of a text says, and what is behind that line; None where there is no line feed.
+pub(crate) fn first_symbol(text: &[u8]) -> Option<(Result<Symbol, WaveReason>, &[u8])>
+    ensures line { MatchOption result (slice_split is_feed text.now ≡ text.now ∷ []) (λ r. HasLine text.now r.0 r.1.now) }
+    ensures shorter { MatchOption result (text.now ≡ text.now) (λ r. length r.1.now < length text.now) }
+{
+    if let Some((word, behind)) = word_line(text) {
+        return Some((Ok(Symbol::Sent(word)), behind));
+    }
+    match cut(b'\n', text) {
+        None => None,
+        Some((line, behind)) => Some((line_symbol(line), behind)),
+    }
 }
 
 /// Reads the first line.

@@ -25,11 +25,37 @@ const LINES: [&[u8]; 9] = [
     b"END\n",
 ];
 
+/// What a text of the lines is without each of them: which line is refused, and why.
+const LEFT_OUT: [Option<(u64, WaveReason)>; 9] = [
+    Some((1, WaveReason::Keyword)),
+    None,
+    Some((3, WaveReason::Order)),
+    Some((5, WaveReason::Order)),
+    Some((5, WaveReason::Order)),
+    Some((6, WaveReason::Order)),
+    Some((7, WaveReason::Order)),
+    None,
+    Some((9, WaveReason::Ended)),
+];
+
+/// The same with each of them twice.
+const TWICE: [Option<(u64, WaveReason)>; 9] = [
+    Some((2, WaveReason::Keyword)),
+    Some((3, WaveReason::Order)),
+    Some((4, WaveReason::Order)),
+    Some((6, WaveReason::Order)),
+    Some((6, WaveReason::Order)),
+    Some((7, WaveReason::Order)),
+    Some((8, WaveReason::Order)),
+    None,
+    Some((10, WaveReason::Keyword)),
+];
+
 fn table(alloc: Global) -> Result<Table, Fail> {
     Ok(read_table(alloc, TABLE)?)
 }
 
-/// The lines, one of them put in another's place.
+/// The lines, another put in the place of one.
 fn with_line(alloc: Global, place: usize, line: &[u8]) -> Result<Vec<u8>, Fail> {
     let mut text = Vec::new(alloc);
     for (k, own) in LINES.iter().enumerate() {
@@ -52,6 +78,36 @@ fn refused(alloc: Global, text: &[u8]) -> Result<Option<(u64, WaveReason)>, Fail
         Ok(_) => Ok(None),
         Err(WaveError::Text { line, reason }) => Ok(Some((line, reason))),
         Err(WaveError::Memory) => Err(Fail::new("no memory")),
+    }
+}
+
+/// A line twice.
+fn twice(alloc: Global, line: &[u8]) -> Result<Vec<u8>, Fail> {
+    let mut lines = Vec::from_slice(alloc, line)?;
+    lines.extend_from_slice(line)?;
+    Ok(lines)
+}
+
+/// A line with another digit.
+fn with_digit(alloc: Global, line: &[u8], place: usize, digit: u8) -> Result<Vec<u8>, Fail> {
+    let mut changed = Vec::from_slice(alloc, line)?;
+    match changed.get_mut(place) {
+        Some(byte) => *byte = digit,
+        None => return Err(Fail::new("a short line")),
+    }
+    Ok(changed)
+}
+
+/// A digit of a word with another last bit; of the first digit, which is of the sync alone, another.
+fn with_other_bit(digit: u8) -> u8 {
+    match digit {
+        b'5' => b'6',
+        b'6' => b'5',
+        b'9' => b'A',
+        b'A' => b'9',
+        b'1' => b'2',
+        b'D' => b'E',
+        _ => b'D',
     }
 }
 
@@ -106,6 +162,66 @@ fn each_reason_has_its_line(rt: HostRuntime) -> Result<(), Fail> {
     for (place, line, number, reason) in cases {
         let text = with_line(rt.alloc(), place, line)?;
         assert!(rt; refused(rt.alloc(), &text)? == Some((number, reason)));
+    }
+    Ok(())
+}
+
+#[test]
+fn each_line_left_out(rt: HostRuntime) -> Result<(), Fail> {
+    for (k, answer) in LEFT_OUT.iter().enumerate() {
+        let text = with_line(rt.alloc(), k, b"")?;
+        assert!(rt; refused(rt.alloc(), &text)? == *answer);
+    }
+    Ok(())
+}
+
+#[test]
+fn each_line_twice(rt: HostRuntime) -> Result<(), Fail> {
+    for (k, (line, answer)) in LINES.iter().zip(TWICE.iter()).enumerate() {
+        let text = with_line(rt.alloc(), k, &twice(rt.alloc(), line)?)?;
+        assert!(rt; refused(rt.alloc(), &text)? == *answer);
+    }
+    Ok(())
+}
+
+/// What a text of the lines is with another digit in one of them.
+fn changed(
+    alloc: Global,
+    k: usize,
+    line: &[u8],
+    place: usize,
+    digit: u8,
+) -> Result<Option<(u64, WaveReason)>, Fail> {
+    let text = with_line(alloc, k, &with_digit(alloc, line, place, digit)?)?;
+    refused(alloc, &text)
+}
+
+/// Whether a W line is refused for its code with the pairs 00 in place of a digit, and for its parity with another bit there; the first digit
+/// is of the sync alone.
+fn is_held_to(alloc: Global, k: usize, line: &[u8], place: usize) -> Result<bool, Fail> {
+    let Some(digit) = line.get(place) else {
+        return Err(Fail::new("a short line"));
+    };
+    let none = changed(alloc, k, line, place, b'0')?;
+    let other = changed(alloc, k, line, place, with_other_bit(*digit))?;
+    let reason = if place == 2 {
+        WaveReason::Code
+    } else {
+        WaveReason::Parity
+    };
+    let number = k as u64 + 1;
+    Ok(none == Some((number, WaveReason::Code)) && other == Some((number, reason)))
+}
+
+#[test]
+fn each_digit_of_a_word_changed(rt: HostRuntime) -> Result<(), Fail> {
+    for (k, line) in LINES.iter().enumerate() {
+        if line.len() < 13 {
+            continue;
+        }
+        for place in 2..12 {
+            assert!(rt; is_held_to(rt.alloc(), k, line, place)?);
+        }
     }
     Ok(())
 }

@@ -7,7 +7,7 @@ ghost use Rattle.bus_wave.specs.Spacing.{AreApart};
 ghost use Rattle.bus_wave.specs.WaveTexts.{last_end, wave_text};
 ghost use Rattle.bus_wave.specs.WaveLaws.{HasOneText};
 
-use crate::code::digits;
+use crate::code::word_line;
 use bus_outer::{Sink, TextBuffer, WriteFault};
 use bus_strings::limits::INNER_GAP;
 use bus_strings::transmission::Transmission;
@@ -19,9 +19,7 @@ use bus_words::word::{Kind, Word, label_word};
 fn put_word<K: Sink>(text: &mut TextBuffer, sink: &mut K, word: Word)
     ensures { Adds K.held K.faults sink.old sink.new text.old text.new (word_put word) }
 {
-    text.put(sink, b"W ");
-    text.put(sink, &digits(word));
-    text.put_byte(sink, b'\n');
+    text.put(sink, &word_line(word));
 }
 
 /// Puts a W line for each data word.

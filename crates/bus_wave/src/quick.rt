@@ -1,0 +1,104 @@
+//! Lines that are spelled as they are written, recognized in one look: no fields are cut out. What isn't recognized here is judged field by
+//! field.
+ghost use Rattle.std.specs.Prelude.{◌≡◌, ◌+◌, ◌*◌, ◌/◌, ◌<◌, ◌≤◌, ◌^◌, ◌++◌, ◌∷◌, IfSome, Ok, length};
+ghost use Rattle.bus_wave.specs.declared.symbol.Symbol.TheVariants.{Quiet};
+ghost use Rattle.bus_wave.specs.Capped.{capped};
+ghost use Rattle.bus_wave.specs.Code.{digits_of};
+ghost use Rattle.bus_wave.specs.Digits as spec;
+ghost use Rattle.bus_wave.specs.Puts.{word_put};
+ghost use Rattle.bus_wave.specs.Symbols.{fields_of, symbol_reading};
+ghost use Rattle.bus_wave.specs.Waves.{word_halves};
+
+use crate::code::{frame_with, head_of};
+use bus_text::numbers::plain_decimal;
+use bus_words::word::{Kind, Word, unframe};
+
+/// How many bytes a W line has.
+const LINE: usize = 13;
+
+/// What the table of bits has for a byte that is no digit of two pairs.
+const NO: u8 = 4;
+
+/// The two bits of each byte as a digit that is two pairs. A table, since data come in no order that a branch could learn.
+const BITS: [u8; 256] = [
+    NO, NO, NO, NO, NO, NO, NO, NO, NO, NO, NO, NO, NO, NO, NO, NO, NO, NO, NO, NO, NO, NO, NO, NO,
+    NO, NO, NO, NO, NO, NO, NO, NO, NO, NO, NO, NO, NO, NO, NO, NO, NO, NO, NO, NO, NO, NO, NO, NO,
+    NO, NO, NO, NO, NO, 0, 1, NO, NO, 2, NO, NO, NO, NO, NO, NO, NO, 3, NO, NO, NO, NO, NO, NO, NO,
+    NO, NO, NO, NO, NO, NO, NO, NO, NO, NO, NO, NO, NO, NO, NO, NO, NO, NO, NO, NO, NO, NO, NO, NO,
+    NO, NO, NO, NO, NO, NO, NO, NO, NO, NO, NO, NO, NO, NO, NO, NO, NO, NO, NO, NO, NO, NO, NO, NO,
+    NO, NO, NO, NO, NO, NO, NO, NO, NO, NO, NO, NO, NO, NO, NO, NO, NO, NO, NO, NO, NO, NO, NO, NO,
+    NO, NO, NO, NO, NO, NO, NO, NO, NO, NO, NO, NO, NO, NO, NO, NO, NO, NO, NO, NO, NO, NO, NO, NO,
+    NO, NO, NO, NO, NO, NO, NO, NO, NO, NO, NO, NO, NO, NO, NO, NO, NO, NO, NO, NO, NO, NO, NO, NO,
+    NO, NO, NO, NO, NO, NO, NO, NO, NO, NO, NO, NO, NO, NO, NO, NO, NO, NO, NO, NO, NO, NO, NO, NO,
+    NO, NO, NO, NO, NO, NO, NO, NO, NO, NO, NO, NO, NO, NO, NO, NO, NO, NO, NO, NO, NO, NO, NO, NO,
+    NO, NO, NO, NO, NO, NO, NO, NO, NO, NO, NO, NO, NO, NO, NO,
+];
+
+/// The two bits of a digit that is two pairs.
+fn two_bits(digit: u8) -> Option<u32>
+    ensures { IfSome result (λ two. (two < 4) × (digit ≡ spec.code_digit two)) }
+{
+    let two = BITS[digit as usize];
+    if two == NO {
+        return None;
+    }
+    Some(u32::from(two))
+}
+
+/// The number of a bit and of the bits of digits behind it, eight at most.
+fn gathered(front: u32, digits: &[u8]) -> Option<u32>
+    requires front { front < 2 }
+    requires few { length digits.now ≤ 8 }
+    ensures digits { IfSome result (λ bits. digits.now ≡ spec.code_digits (length digits.now) bits) }
+    ensures front { IfSome result (λ bits. bits / 4 ^ length digits.now ≡ front) }
+    ensures range { IfSome result (λ bits. bits < 2 ^ 17) }
+{
+    let mut bits = front;
+    for digit in digits {
+        bits = 4 * bits + two_bits(*digit)?;
+    }
+    Some(bits)
+}
+
+/// The word of a kind and of its bits, the lowest of which is the parity bit; None where this is another than the word's.
+fn word_with(kind: Kind, bits: u32) -> Option<Word>
+    requires { bits < 2 ^ 17 }
+    ensures digits { IfSome result (λ word. digits_of (word_halves word)
+        ≡ spec.first_digit kind ∷ spec.second_digit kind (bits / 65536) ∷ spec.code_digits 8 bits) }
+    ensures range { IfSome result (λ word. word.value < 2 ^ 16) }
+{
+    match unframe(frame_with(kind, bits)) {
+        Ok(word) => Some(word),
+        Err(_) => None,
+    }
+}
+
+/// The word of the W line at the front of a text, and what is behind that line.
+pub(crate) fn word_line(text: &[u8]) -> Option<(Word, &[u8])>
+    ensures line { IfSome result (λ r. text.now ≡ word_put r.0 ++ r.1.now) }
+    ensures range { IfSome result (λ r. r.0.value < 2 ^ 16) }
+{
+    if text.len() < LINE {
+        return None;
+    }
+    if text[0] != b'W' || text[1] != b' ' || text[LINE - 1] != b'\n' {
+        return None;
+    }
+    let (kind, front) = head_of(text[2], text[3])?;
+    let bits = gathered(front, &text[4..LINE - 1])?;
+    let word = word_with(kind, bits)?;
+    Some((word, &text[LINE..]))
+}
+
+/// The number of a Q line that says one, or the last value of a `u64` where it is above that.
+pub(crate) fn quiet_line(line: &[u8]) -> Option<u64>
+    ensures { IfSome result (λ n. Ok (Quiet n) ≡ capped (symbol_reading (fields_of line.now))) }
+{
+    if line.len() < 2 {
+        return None;
+    }
+    if line[0] != b'Q' || line[1] != b' ' {
+        return None;
+    }
+    plain_decimal(&line[2..])
+}
