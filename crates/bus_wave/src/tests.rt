@@ -209,7 +209,7 @@ fn is_held_to(alloc: Global, k: usize, line: &[u8], place: usize) -> Result<bool
     } else {
         WaveReason::Parity
     };
-    let number = k as u64 + 1;
+    let number = (k as u64).saturating_add(1);
     Ok(none == Some((number, WaveReason::Code)) && other == Some((number, reason)))
 }
 
