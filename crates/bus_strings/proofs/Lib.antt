@@ -4,3 +4,4 @@ pub mod TextLemmas
 pub mod GrammarLemmas
 pub mod CanonicalLemmas
 pub mod OverlapLemmas
+pub mod KeptLemmas

@@ -1,3 +1,4 @@
+pub mod Kept
 pub mod Limits
 pub mod Members
 pub mod ListLaws

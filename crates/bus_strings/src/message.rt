@@ -1,16 +1,26 @@
 ghost use Rattle.std.specs.Prelude.{◌≡◌, ◌<◌, ◌≤◌, ◌↔◌, IsSome, IsNone, [], ◌∷◌, ◌++◌, IfSome, IfOk, OnOk, OnErr, length, vec_len};
 ghost use Rattle.bus_strings.specs.Limits.{most_strings};
-ghost use Rattle.bus_strings.specs.Messages.{IsMessage};
+ghost use Rattle.bus_strings.specs.Messages.{IsMessage, bits as bits_in};
+ghost use Rattle.bus_strings.specs.Kept.{kept_message, AreKept};
 
-use crate::limits::MOST_STRINGS;
+use crate::limits::{INNER_GAP, MOST_STRINGS, WORD_BITS};
+use crate::pulses::bits_of;
 use crate::wordstring::Wordstring;
 use std::alloc::{AllocError, Global};
 use std::marker::Model;
+use std::slice;
 
 /// What a terminal sends at one start: 1 to 31 wordstrings. How many there may be is this project's profile.
 #[derive(Debug, Drop)]
 pub struct Message {
-    strings: Vec<Wordstring>,
+    strings: Strings,
+}
+
+// Most messages have one wordstring, which takes no memory of its own. Of more, the bit times are known.
+#[derive(Debug, Drop)]
+enum Strings {
+    One { alloc: Global, string: Wordstring },
+    Many { bits: u32, strings: Vec<Wordstring> },
 }
 
 impl Model for Message {
@@ -18,9 +28,11 @@ impl Model for Message {
 
     ghost Value = { messages.Message };
 
-    ghost view = { λ m. m.strings.items };
+    ghost use Rattle.bus_strings.specs.Kept.{kept_message, AreKept};
 
-    ghost invariant = { λ m. messages.IsMessage m.strings.items };
+    ghost view = { λ m. kept_message m.strings };
+
+    ghost invariant = { λ m. AreKept m.strings };
 }
 
 impl Message {
@@ -36,7 +48,20 @@ impl Message {
         for string in &strings {
             let _ranges = string.words();
         }
-        Some(Message { strings })
+        let bits = bits_of(&strings);
+        Some(Message {
+            strings: Strings::Many { bits, strings },
+        })
+    }
+
+    /// A message of one wordstring. It takes no memory; `alloc` is where further ones would go.
+    pub fn one(alloc: Global, string: Wordstring) -> Message
+        ensures { result ≡ string ∷ [] }
+    {
+        let _ranges = string.words();
+        Message {
+            strings: Strings::One { alloc, string },
+        }
     }
 
     /// Adds a wordstring behind the others, of which there are fewer than 31. Fails only where memory runs out, and
@@ -47,7 +72,20 @@ impl Message {
         ensures err { OnErr result (self.new ≡ self.old) }
     {
         let _ranges = string.words();
-        self.strings.push(string)?;
+        match &mut self.strings {
+            Strings::One {
+                alloc,
+                string: first,
+            } => {
+                let both = both(*alloc, first, string)?;
+                self.strings = both;
+            }
+            Strings::Many { bits, strings } => {
+                let words = string.word_count();
+                strings.push(string)?;
+                *bits += INNER_GAP + WORD_BITS * words;
+            }
+        }
         Ok(())
     }
 
@@ -56,17 +94,53 @@ impl Message {
         ensures value { result.now ≡ self.now }
         ensures ranges { IsMessage self.now }
     {
-        &self.strings
+        match &self.strings {
+            Strings::One { string, .. } => slice::from_ref(string),
+            Strings::Many { strings, .. } => strings,
+        }
     }
+
+    /// The bit times of the message, which is not walked.
+    pub(crate) fn bits(&self) -> u32
+        ensures value { result ≡ bits_in self.now }
+        ensures ranges { IsMessage self.now }
+    {
+        match &self.strings {
+            Strings::One { string, .. } => WORD_BITS * string.word_count(),
+            Strings::Many { bits, .. } => *bits,
+        }
+    }
+}
+
+// Both wordstrings.
+fn both(alloc: Global, first: &Wordstring, second: Wordstring) -> Result<Strings, AllocError>
+    ensures { IfOk result (λ both. (kept_message both ≡ first.now ∷ second ∷ []) × AreKept both) }
+{
+    let _ranges = first.words();
+    let _ranges_too = second.words();
+    let bits = WORD_BITS * (first.word_count() + second.word_count()) + INNER_GAP;
+    let mut strings = Vec::with_capacity(alloc, 2)?;
+    strings.push(first.copy(alloc)?)?;
+    strings.push(second)?;
+    Ok(Strings::Many { bits, strings })
 }
 
 /// An equal message.
 pub fn copy_message(alloc: Global, message: &Message) -> Result<Message, AllocError>
     ensures { IfOk result (λ m. m ≡ message.now) }
 {
-    let mut strings = Vec::with_capacity(alloc, message.strings.len())?;
-    for string in &message.strings {
+    if let Strings::One { string, .. } = &message.strings {
+        return Ok(Message::one(alloc, string.copy(alloc)?));
+    }
+    let from = message.strings();
+    let mut strings = Vec::with_capacity(alloc, from.len())?;
+    for string in from {
         strings.push(string.copy(alloc)?)?;
     }
-    Ok(Message { strings })
+    Ok(Message {
+        strings: Strings::Many {
+            bits: message.bits(),
+            strings,
+        },
+    })
 }

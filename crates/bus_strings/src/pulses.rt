@@ -21,6 +21,15 @@ fn words_of(strings: &[Wordstring]) -> u32
     words
 }
 
+/// The bit times of a message of these wordstrings.
+pub(crate) fn bits_of(strings: &[Wordstring]) -> u32
+    requires some { 0 < length strings.now }
+    requires few { length strings.now ≤ most_strings }
+    ensures { result ≡ bits strings.now }
+{
+    WORD_BITS * words_of(strings) + INNER_GAP * (strings.len() as u32 - 1)
+}
+
 /// The bit times of a message, from its first to its last: twenty for each word, label words included, and four
 /// quiet ones between two wordstrings. From 20, a label word alone, to 159,460.
 pub fn bits(message: &Message) -> u32
@@ -29,8 +38,7 @@ pub fn bits(message: &Message) -> u32
     ensures most { result ≤ most_bits }
     ensures ranges { IsMessage message.now }
 {
-    let strings = message.strings();
-    WORD_BITS * words_of(strings) + INNER_GAP * (strings.len() as u32 - 1)
+    message.bits()
 }
 
 /// How many pulses a message has: one for each wordstring, so 1 to 31.

@@ -1,4 +1,5 @@
-ghost use Rattle.std.specs.Prelude.{◌≡◌, ◌+◌, ◌<◌, ◌≤◌, ◌↔◌, IsSome, IsNone, IfSome, IfOk, vec_len, length};
+ghost use Rattle.std.specs.Prelude.{◌≡◌, ◌+◌, ◌<◌, ◌≤◌, ◌^◌, ◌↔◌, IsSome, IsNone, IfSome, IfOk, vec_len, length, take};
+ghost use Rattle.std.specs.List.{AllByRecursion};
 ghost use Rattle.bus_strings.specs.Limits.{most_words};
 ghost use Rattle.bus_strings.specs.Messages.{IsWordstring, word_count};
 
@@ -7,12 +8,30 @@ use bus_words::label::{Ext, Label};
 use std::alloc::{AllocError, Global};
 use std::marker::Model;
 
+/// As many data words as a wordstring keeps in itself, in no memory of their own.
+pub const SHORT: usize = 12;
+
 /// One label word, and 0 to 256 data words behind it. How many there may be is this project's profile.
 #[derive(Debug, Drop)]
 pub struct Wordstring {
-    label: Label,
-    ext: Ext,
-    words: Vec<u16>,
+    kept: Kept,
+}
+
+// Where the data words are. Each case has its own label and extension, which then take no room beside a `Vec`.
+#[derive(Debug, Drop)]
+enum Kept {
+    // The first so many of these.
+    Short {
+        label: Label,
+        ext: Ext,
+        count: u8,
+        words: [u16; SHORT],
+    },
+    Long {
+        label: Label,
+        ext: Ext,
+        words: Vec<u16>,
+    },
 }
 
 impl Model for Wordstring {
@@ -20,9 +39,20 @@ impl Model for Wordstring {
 
     ghost Value = { messages.Wordstring };
 
-    ghost view = { λ s. record { label = s.label; ext = s.ext; words = s.words.items } };
+    ghost use Rattle.bus_strings.specs.Kept.{kept_string, IsKept};
 
-    ghost invariant = { λ s. messages.IsWordstring (record { label = s.label; ext = s.ext; words = s.words.items }) };
+    ghost view = { λ s. kept_string s.kept };
+
+    ghost invariant = { λ s. IsKept s.kept };
+}
+
+// Each is a number of sixteen bits. Nothing is left of it in the built program.
+fn are_words(words: &[u16])
+    ensures { AllByRecursion (λ word. word < 2 ^ 16) words.now }
+{
+    for word in words {
+        let _word = *word;
+    }
 }
 
 impl Wordstring {
@@ -37,7 +67,27 @@ impl Wordstring {
         }
         // The types of both keep their ranges, which are known from here on.
         let _ranges = (label.value(), ext.value());
-        Some(Wordstring { label, ext, words })
+        Some(Wordstring {
+            kept: Kept::Long { label, ext, words },
+        })
+    }
+
+    /// The first `count` of these data words, at most [`SHORT`]. It takes no memory.
+    pub fn short(label: Label, ext: Ext, count: u8, words: [u16; SHORT]) -> Wordstring
+        requires { count ≤ length words }
+        ensures { result ≡ record { label = label; ext = ext; words = take count words } }
+    {
+        // The types of both keep their ranges, which are known from here on.
+        let _ranges = (label.value(), ext.value());
+        are_words(&words);
+        Wordstring {
+            kept: Kept::Short {
+                label,
+                ext,
+                count,
+                words,
+            },
+        }
     }
 
     /// The label of its label word.
@@ -45,7 +95,10 @@ impl Wordstring {
         ensures value { result ≡ self.now.label }
         ensures ranges { IsWordstring self.now }
     {
-        self.label
+        match &self.kept {
+            Kept::Short { label, .. } => *label,
+            Kept::Long { label, .. } => *label,
+        }
     }
 
     /// The extension of its label word.
@@ -53,7 +106,10 @@ impl Wordstring {
         ensures value { result ≡ self.now.ext }
         ensures ranges { IsWordstring self.now }
     {
-        self.ext
+        match &self.kept {
+            Kept::Short { ext, .. } => *ext,
+            Kept::Long { ext, .. } => *ext,
+        }
     }
 
     /// Its data words, in order.
@@ -61,7 +117,10 @@ impl Wordstring {
         ensures value { result.now ≡ self.now.words }
         ensures ranges { IsWordstring self.now }
     {
-        &self.words
+        match &self.kept {
+            Kept::Short { count, words, .. } => &words[..*count as usize],
+            Kept::Long { words, .. } => words,
+        }
     }
 
     /// How many words it has, its label word included: 1 to 257.
@@ -69,17 +128,34 @@ impl Wordstring {
         ensures value { result ≡ word_count self.now }
         ensures most { result ≤ 1 + most_words }
     {
-        1 + self.words.len() as u32
+        match &self.kept {
+            Kept::Short { count, .. } => 1 + u32::from(*count),
+            Kept::Long { words, .. } => 1 + words.len() as u32,
+        }
     }
 
     /// An equal wordstring.
     pub(crate) fn copy(&self, alloc: Global) -> Result<Wordstring, AllocError>
         ensures { IfOk result (λ s. s ≡ self.now) }
     {
-        Ok(Wordstring {
-            label: self.label,
-            ext: self.ext,
-            words: Vec::from_slice(alloc, &self.words)?,
-        })
+        let kept = match &self.kept {
+            Kept::Short {
+                label,
+                ext,
+                count,
+                words,
+            } => Kept::Short {
+                label: *label,
+                ext: *ext,
+                count: *count,
+                words: *words,
+            },
+            Kept::Long { label, ext, words } => Kept::Long {
+                label: *label,
+                ext: *ext,
+                words: Vec::from_slice(alloc, words)?,
+            },
+        };
+        Ok(Wordstring { kept })
     }
 }

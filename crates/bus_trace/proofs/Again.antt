@@ -1,22 +1,17 @@
 -- The lines of a trace text are read again.
-use Rattle.std.proofs.Common.{arith, ◌≡◌, ℕ, ◌+◌, ◌*◌, ◌<◌, ◌≤◌, ◌^◌, Bool, true, false, not, cond, ◌&&◌, ◌||◌, ◌==◌, List, [], ◌∷◌, ◌++◌}
-use Rattle.std.proofs.Common.{length, codes, map, nat_lt, Option, Some, None, Result, Ok, refl, sym, ap, subst, ◌∙◌, append_assoc}
+use Rattle.std.proofs.Common.{arith, ◌≡◌, ℕ, ◌+◌, ◌*◌, ◌<◌, ◌≤◌, ◌^◌, Bool, true, false, ◌&&◌, ◌||◌, ◌==◌, List, [], ◌∷◌, ◌++◌}
+use Rattle.std.proofs.Common.{length, codes, map, nat_lt, Some, Ok, refl, sym, ap, subst, ◌∙◌, append_assoc}
 use Rattle.std.proofs.Common.{append-nil, length-append}
 use Rattle.std.specs.List.{join_with_byte, flat_map, AllByRecursion}
 use Rattle.std.specs.Fmt.{decimal}
 use Rattle.std.specs.Int.{is_in_range}
 use Rattle.std.proofs.lemmas.Bool.Decides.{nat_tests}
 use Rattle.std.proofs.lemmas.List.{length-map}
-use Rattle.std.proofs.lemmas.List.Splits.{slice_split_at, slice_split_none}
 use Rattle.std.proofs.lemmas.List.Concat.{flat_map-append}
-use Rattle.std.proofs.lemmas.List.Elements.{All-from_recursion}
-use Rattle.std.proofs.lemmas.Fmt.{length-decimal-le}
-use Rattle.bus_text.specs.Lines.{is_blank}
 use Rattle.bus_text.specs.Numbers.{decimal_value}
 use Rattle.bus_text.specs.NumberLaws.{decimal_is, decimal_field}
-use Rattle.bus_text.specs.Canonical.{spelled_line, spelled_lines, IsField, IsFieldByte}
+use Rattle.bus_text.specs.Canonical.{spelled_line, spelled_lines, IsField}
 use Rattle.bus_text.specs.CanonicalLaws.{constant_field}
-use Rattle.bus_text.specs.Refusals.{unless}
 use Rattle.bus_words.specs.Words.{label_word}
 use Rattle.bus_words.specs.WordTexts.{word_text}
 use Rattle.bus_strings.specs.Messages.{Wordstring, Entry, IsWordstring}
@@ -27,25 +22,22 @@ use Rattle.bus_trace.specs.declared.position.Position.{Position}
 use Rattle.bus_trace.specs.declared.position.Position.TheVariants.{Headed, Holding, Begun, Stringing, Closed, Ended}
 use Rattle.bus_trace.specs.declared.format.Format.{Format}
 use Rattle.bus_trace.specs.declared.format.Format.TheVariants.{One, Two}
-use Rattle.bus_trace.specs.declared.reason.TraceReason.{TraceReason}
 use Rattle.bus_strings.specs.Limits.{horizon_limit}
-use Rattle.bus_trace.specs.Limits.{line_limit}
-use Rattle.bus_strings.specs.Transmissions.{Precedes, end_of}
+use Rattle.bus_strings.specs.Transmissions.{end_of}
 use Rattle.bus_strings.specs.OverlapLaws.{NeighboursTell, AscendingIsByMoment}
-use Rattle.bus_trace.specs.Traces.{Recording, Line, IsHold, AscendAbove, IsBelow, IsTrace, format_text, head_line, horizon_line}
+use Rattle.bus_trace.specs.Traces.{Recording, Line, IsHold, AscendAbove, IsBelow, IsTrace, head_line, horizon_line}
 use Rattle.bus_trace.specs.Traces.{hold_line, begin_line, data_word, string_line, entry_lines, mark_text, ended_line, close_line}
 use Rattle.bus_trace.specs.Traces.{list_lines, end_line, opening_lines, text_in}
 use Rattle.bus_trace.specs.States.{State, start, may_follow, last_count, last_terminal, last_end, is_after, is_hit, is_final, ends_behind}
-use Rattle.bus_trace.specs.States.{is_refuted, is_closed, starts_wrong, turns_wrong, closing, told_lines, lines_so_far, body_lines}
-use Rattle.bus_trace.specs.States.{is_mark, mark_of, is_space, spaced_fields, is_ended, more_list, format_of, head_step, horizon_step}
-use Rattle.bus_trace.specs.States.{hold_step, begin_step, string_step, close_step, end_step, fields_step, step}
-use Rattle.bus_trace.specs.Runs.{Going, Found, judged, begin, run, ◌>>-◌, HasNoFeed}
+use Rattle.bus_trace.specs.States.{is_closed, starts_wrong, turns_wrong, told_lines, lines_so_far, body_lines}
+use Rattle.bus_trace.specs.States.{more_list, head_step, horizon_step}
+use Rattle.bus_trace.specs.States.{hold_step, begin_step, string_step, close_step, end_step, fields_step}
+use Rattle.bus_trace.specs.Runs.{Found, begin, run}
 use Rattle.bus_trace.proofs.Lasts.{with_last, count_last, end_push, end_most}
 use Rattle.bus_trace.proofs.Orders.{lt_test, after_front, terminals_rest, last_precedes}
 use Rattle.bus_trace.proofs.Told.{lines_whole}
 use Rattle.bus_trace.proofs.Marks.{mark_again, turned, started_last, started_next, hit_push}
 use Rattle.bus_trace.proofs.WordLists.{string_again, length-word}
-use Rattle.bus_trace.proofs.Runs.{run-append, run-whole_line}
 use Rattle.bus_trace.proofs.AgainLines.{FitsLine, line_again, Leads, leads_run, leads_append, leads_one, pass, let_by, stand, both}
 use Rattle.bus_trace.proofs.AgainLines.{within, digits}
 

@@ -1,5 +1,5 @@
 -- The last hold and the last transmission.
-use Rattle.std.proofs.Common.{arith, zero, suc, ◌≡◌, ℕ, ◌+◌, ◌*◌, ◌<◌, ◌≤◌, ◌^◌, List, [], ◌∷◌, ◌++◌, length, get_or, set, refl, sym, ap}
+use Rattle.std.proofs.Common.{arith, zero, suc, ◌≡◌, ℕ, ◌*◌, ◌<◌, ◌≤◌, ◌^◌, List, [], ◌∷◌, ◌++◌, length, get_or, set, refl, sym, ap}
 use Rattle.std.proofs.Common.{◌∙◌}
 use Rattle.bus_strings.specs.Messages.{Wordstring, Entry}
 use Rattle.bus_trace.specs.declared.hold.Hold.{Hold}

@@ -1,10 +1,10 @@
 -- What is due for a stream, in the words of the grammar and of the refusals.
-use Rattle.std.proofs.Common.{arith, zero, suc, ◌≡◌, ℕ, ◌+◌, ◌-◌, ◌<◌, ◌≤◌, ◌⊎◌, inl, inr, Bool, true, false, List, [], ◌∷◌, ◌++◌, length}
+use Rattle.std.proofs.Common.{arith, ◌≡◌, ℕ, ◌+◌, ◌-◌, ◌<◌, ◌≤◌, inl, inr, true, List, [], ◌∷◌, ◌++◌, length}
 use Rattle.std.proofs.Common.{take, drop, nat_lt, Result, Ok, Err, IfOk, OnErr, refl, sym, ap, subst, ◌∙◌, append_assoc, append-nil}
 use Rattle.std.proofs.Common.{length-append, take-append-drop}
-use Rattle.std.specs.List.{flat_map, join_with_byte}
+use Rattle.std.specs.List.{join_with_byte}
 use Rattle.std.proofs.lemmas.Bool.Decides.{nat_tests}
-use Rattle.std.proofs.lemmas.List.{length-take, take_all, take-append-le}
+use Rattle.std.proofs.lemmas.List.{length-take}
 use Rattle.std.proofs.Math.Seq.{take-append_seam}
 use Rattle.bus_text.specs.Canonical.{spelled_line, spelled_lines}
 use Rattle.std.specs.declared.alloc.AllocError.{AllocError}
@@ -16,11 +16,11 @@ use Rattle.bus_trace.specs.declared.stage.Stage.TheVariants as stage
 use Rattle.bus_trace.specs.declared.fault.TraceError.{TraceError}
 use Rattle.bus_trace.specs.declared.fault.TraceError.TheVariants.{Text, ReadFault, TooLarge, Memory}
 use Rattle.bus_trace.specs.Limits.{line_limit, text_limit}
-use Rattle.bus_trace.specs.Traces.{Recording, Line, IsTraceText, HoldsTrace, text_in}
-use Rattle.bus_trace.specs.States.{State, IsSound, step, lines_of, text_of, recorded}
-use Rattle.bus_trace.specs.Runs.{Standing, Progress, Going, Found, Refused, Over, HasNoFeed, judged, take_byte, ◌>>-◌, run, begin, due}
+use Rattle.bus_trace.specs.Traces.{Recording, Line, IsTraceText, HoldsTrace}
+use Rattle.bus_trace.specs.States.{State, IsSound, lines_of, text_of, recorded}
+use Rattle.bus_trace.specs.Runs.{Standing, Progress, Going, Found, Refused, Over, judged, take_byte, ◌>>-◌, run, begin, due}
 use Rattle.bus_trace.specs.Runs.{due_by, stream_of}
-use Rattle.bus_trace.specs.Reading.{Gave, Offends, Complete, Overlong}
+use Rattle.bus_trace.specs.Reading.{Offends, Complete, Overlong}
 use Rattle.bus_trace.specs.Feeding.{Reader, ReaderIs, FeedGives, FinishGives}
 use Rattle.bus_trace.specs.Pieces.{stream, IsShut, IsWholeAt, IsRefusedAt, IsUndecided, IsDue, Stands as StandsThen, IsPending, AreLines}
 use Rattle.bus_trace.specs.Pieces.{Finishes}
@@ -28,8 +28,8 @@ use Rattle.bus_trace.proofs.Runs.{run-append, run-whole_line, run-long}
 use Rattle.bus_trace.proofs.Walks.{start_sound}
 use Rattle.bus_trace.proofs.Feeds.{take_on, more_fits, due_within}
 use Rattle.bus_trace.proofs.Again.{ended}
-use Rattle.bus_trace.proofs.ReadLaws.{refuses_byte, take_more, holds_due}
-use Rattle.bus_trace.proofs.ReadRuns.{MarkLaws, ByteGives, Stands, Goes, due_found, due_refused, due_over, ge_from, run_within, run_goes}
+use Rattle.bus_trace.proofs.ReadLaws.{refuses_byte, holds_due}
+use Rattle.bus_trace.proofs.ReadRuns.{MarkLaws, ByteGives, Stands, due_refused, due_over, run_within, run_goes}
 use Rattle.bus_trace.proofs.ReadRuns.{begin_stands, begin_stream, byte_gives, stands_byte, found_trace, found_front}
 
 -- ---- a whole text

@@ -1,8 +1,8 @@
 -- Lines that are recognized as they are written.
 use Rattle.std.proofs.Common.{arith, zero, suc, ◌≡◌, ℕ, ◌+◌, ◌-◌, ◌*◌, ◌/◌, ◌%◌, ◌<◌, ◌≤◌, ◌^◌, Bool, cond, true, false, not, ◌&&◌, ◌==◌, List, [], ◌∷◌}
-use Rattle.std.proofs.Common.{◌++◌, length, take, drop, get_or, map, Ok, Some, None, IfSome, Vec, Global, refl, sym, ap, subst, ◌∙◌}
-use Rattle.std.proofs.Common.{append_assoc, append-nil, length-append, take-append-drop}
-use Rattle.std.specs.List.{list_all, flat_map, join_with_byte}
+use Rattle.std.proofs.Common.{◌++◌, length, take, drop, get_or, Result, Ok, Err, IfOk, Some, None, IfSome, refl, sym, ap, subst, ◌∙◌}
+use Rattle.std.proofs.Common.{take-append-drop}
+use Rattle.std.specs.List.{list_all, join_with_byte}
 use Rattle.std.specs.declared.option.Option.{Option}
 use Rattle.std.specs.Char.{is_ascii_digit, digit_value}
 use Rattle.std.specs.Fmt.{decimal}
@@ -12,7 +12,6 @@ use Rattle.std.proofs.lemmas.Bool.{and_parts}
 use Rattle.std.proofs.lemmas.Bool.Decides.{nat_tests}
 use Rattle.std.proofs.lemmas.Slice.Eq.{bytes_eq-Decides}
 use Rattle.std.proofs.lemmas.List.{take_more, take_all, length-take, length-drop}
-use Rattle.std.proofs.lemmas.List.Concat.{flat_map-append}
 use Rattle.std.proofs.lemmas.Str.Parse.{numerals_by_value, tells_digits}
 use Rattle.std.proofs.lemmas.Fmt.{decimal-digits_value}
 use Rattle.std.proofs.lemmas.Int.Digits.{digits_value_more}
@@ -24,18 +23,17 @@ use Rattle.bus_words.specs.WordTexts.{word_text}
 use Rattle.bus_text.specs.Digits.{hex_digit, is_capital_digit, hexadecimal}
 use Rattle.bus_text.specs.DigitLaws.{digit_value-lt, hex_digit-digit_value}
 use Rattle.bus_strings.specs.Messages.{Wordstring, IsWordstring}
-use Rattle.bus_trace.specs.declared.format.Format.TheVariants.{Two}
-use Rattle.bus_trace.specs.declared.position.Position.TheVariants.{Begun, Stringing, Closed}
+use Rattle.bus_trace.specs.declared.position.Position.TheVariants.{Begun, Closed}
 use Rattle.bus_trace.specs.declared.keyword.Keyword.TheVariants.{Ws}
-use Rattle.bus_trace.specs.Traces.{Line, data_word, string_line, begin_line, ended_line}
+use Rattle.bus_trace.specs.Traces.{Line, string_line, begin_line, ended_line}
 use Rattle.bus_trace.specs.Writing.{data_put}
 use Rattle.bus_trace.specs.States.{State, IsSound, step, spaced_fields, fields_step, last_count, may_follow}
-use Rattle.bus_trace.specs.Quick.{string_taken, BeginsRight, ClosesRight}
+use Rattle.bus_trace.specs.Quick.{string_taken, BeginsRight, ClosesRight, HasData}
 use Rattle.bus_trace.proofs.StepRows.{digits_from}
 use Rattle.bus_trace.proofs.Lasts.{last_end_most}
 use Rattle.bus_trace.proofs.WriteTexts.{joined}
 use Rattle.bus_trace.proofs.Again.{begin_again, close_by_end, string_line_again}
-use Rattle.bus_trace.proofs.AgainLines.{Leads, FitsLine, fields_again}
+use Rattle.bus_trace.proofs.AgainLines.{Leads, fields_again}
 
 not_false : (b : Bool) → not b ≡ false → b ≡ true
 not_false true h = refl
@@ -173,18 +171,9 @@ four_written a b c d x y z w v h i j k e =
     same_four _ _ _ _ a b c d (ap hex_digit n.0 ∙ hex_digit-digit_value a p.0) (ap hex_digit n.1 ∙ hex_digit-digit_value b q.0)
     (ap hex_digit n.2 ∙ hex_digit-digit_value c r.0) (ap hex_digit n.3 ∙ hex_digit-digit_value d s.0)
 
-pub string_given : (o : Option Wordstring) (w : Wordstring) (line : List ℕ) → IfSome o (λ s. s ≡ w)
-    → line ≡ join_with_byte 32 (string_line w) → IfSome o (λ s. line ≡ join_with_byte 32 (string_line s))
-string_given None w line h e = tt
-string_given (Some s) w line h e = e ∙ ap (λ (x : Wordstring). join_with_byte 32 (string_line x)) (sym h)
-
 pub some_given : (o : Option Wordstring) (w : Wordstring) (line : List ℕ) → o ≡ Some w
     → IfSome o (λ s. line ≡ join_with_byte 32 (string_line s)) → line ≡ join_with_byte 32 (string_line w)
 some_given o w line e h = subst (λ p. IfSome p (λ s. line ≡ join_with_byte 32 (string_line s))) e h
-
-pub words_given : (o : Option (Vec ℕ Global)) (w : Vec ℕ Global) (text : List ℕ) → o ≡ Some w → IfSome o (λ v. text ≡ data_put v.items)
-    → text ≡ data_put w.items
-words_given o w text e h = subst (λ p. IfSome p (λ v. text ≡ data_put v.items)) e h
 
 -- the words of a line, its label word first
 pub words_joined : (label ext value : ℕ) (words : List ℕ) (line front rest : List ℕ) → 16 * label + ext ≡ value
@@ -194,3 +183,22 @@ words_joined label ext value words line front rest v e f r =
     let word : Word = label_word label ext in
     e ∙ ap (λ x. 87 ∷ 83 ∷ (x ++ rest)) f ∙ ap (λ n. 87 ∷ 83 ∷ 32 ∷ (word_text (record { kind = Label; value = n }) ++ rest)) (sym v)
     ∙ ap (λ x. 87 ∷ 83 ∷ 32 ∷ (word_text word ++ x)) r ∙ ap (λ x. 87 ∷ 83 ∷ 32 ∷ x) (sym (joined (word_text word) words))
+
+-- so is a line whose label word and data words are those of a wordstring
+pub string_joined : (label ext value : ℕ) (line front rest : List ℕ) (s : Wordstring) → 16 * label + ext ≡ value
+    → line ≡ 87 ∷ 83 ∷ (front ++ rest) → front ≡ 32 ∷ word_text (record { kind = Label; value = value }) → HasData label ext rest s
+    → line ≡ join_with_byte 32 (string_line s)
+string_joined label ext value line front rest s v e f h =
+    words_joined s.label s.ext value s.words line front rest (omega (arith, v, h.same_label, h.same_ext)) e f h.words
+
+pub found_joined : (label ext value : ℕ) (line front rest : List ℕ) (o : Option Wordstring) → 16 * label + ext ≡ value
+    → line ≡ 87 ∷ 83 ∷ (front ++ rest) → front ≡ 32 ∷ word_text (record { kind = Label; value = value })
+    → IfSome o (HasData label ext rest) → IfSome o (λ s. line ≡ join_with_byte 32 (string_line s))
+found_joined label ext value line front rest None v e f h = tt
+found_joined label ext value line front rest (Some s) v e f h = string_joined label ext value line front rest s v e f h
+
+pub given_joined : {E : Type 0} (label ext value : ℕ) (line front rest : List ℕ) (r : Result (Option Wordstring) E) → 16 * label + ext ≡ value
+    → line ≡ 87 ∷ 83 ∷ (front ++ rest) → front ≡ 32 ∷ word_text (record { kind = Label; value = value })
+    → IfOk r (λ o. IfSome o (HasData label ext rest)) → IfOk r (λ o. IfSome o (λ s. line ≡ join_with_byte 32 (string_line s)))
+given_joined label ext value line front rest (Ok o) v e f h = found_joined label ext value line front rest o v e f h
+given_joined label ext value line front rest (Err x) v e f h = tt

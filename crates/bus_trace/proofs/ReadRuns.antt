@@ -1,35 +1,27 @@
 -- Runs over a stream: where they end, and what stands at its front.
-use Rattle.std.proofs.Common.{arith, zero, suc, ◌≡◌, ℕ, ◌+◌, ◌<◌, ◌≤◌, Bool, true, false, cond, ◌⊎◌, inl, inr, List, [], ◌∷◌, ◌++◌}
-use Rattle.std.proofs.Common.{length, take, drop, nat_lt, IfSome, IfOk, Some, None, Result, Ok, Err, refl, sym, ap, subst, ◌∙◌}
+use Rattle.std.proofs.Common.{arith, ◌≡◌, ℕ, ◌<◌, ◌≤◌, Bool, true, false, cond, List, [], ◌∷◌, ◌++◌}
+use Rattle.std.proofs.Common.{length, take, drop, nat_lt, Result, Ok, Err, refl, sym, ap, subst, ◌∙◌}
 use Rattle.std.proofs.Common.{append_assoc, append-nil, length-append, take-append-drop}
-use Rattle.std.specs.declared.option.Option.{Option}
-use Rattle.std.proofs.lemmas.Bool.{eqb-true, cases_lt}
+use Rattle.std.proofs.lemmas.Bool.{eqb-true}
 use Rattle.std.proofs.lemmas.Bool.Decides.{nat_tests}
-use Rattle.std.proofs.lemmas.List.{length-take, take_all, take-append-le}
-use Rattle.bus_outer.specs.Sources.{Taken}
+use Rattle.std.proofs.lemmas.List.{length-take}
 use Rattle.bus_text.specs.Lines.{is_feed}
-use Rattle.bus_trace.specs.declared.fault.TraceError.{TraceError}
-use Rattle.bus_trace.specs.declared.fault.TraceError.TheVariants.{Text, ReadFault, TooLarge, Memory}
 use Rattle.bus_trace.specs.declared.position.Position.{Position}
 use Rattle.bus_trace.specs.declared.position.Position.TheVariants.{Start, Headed, Holding, Begun, Stringing, Closed, Ended}
 use Rattle.bus_strings.specs.OverlapLaws.{NeighboursTell, AscendingIsByMoment}
-use Rattle.bus_trace.specs.declared.format.Format.{Format}
 use Rattle.bus_trace.specs.declared.reason.TraceReason.{TraceReason}
-use Rattle.bus_trace.specs.declared.reason.TraceReason.TheVariants.{Long, Ended as CutShort}
-use Rattle.bus_trace.specs.Limits.{line_limit, text_limit}
-use Rattle.bus_trace.specs.Traces.{Recording, Line, IsTrace, HoldsTrace, opening_lines, end_line, text_in}
+use Rattle.bus_trace.specs.declared.reason.TraceReason.TheVariants.{Long}
+use Rattle.bus_trace.specs.Limits.{line_limit}
+use Rattle.bus_trace.specs.Traces.{Line, IsTrace, HoldsTrace, opening_lines, end_line, text_in}
 use Rattle.bus_trace.specs.States.{State, IsSound, MarkFits, step, text_of, is_ended, recorded}
 use Rattle.bus_text.specs.Canonical.{spelled_lines}
 use Rattle.bus_trace.specs.Runs.{Standing, Progress, Going, Found, Refused, Over, judged, take_byte, ◌>>-◌, run, begin, due, due_by}
-use Rattle.bus_trace.specs.Runs.{ended_by, reading, stream_of, HasNoFeed}
-use Rattle.bus_trace.specs.Reading.{Gave, Offends, Complete, Overlong, Refuses, ByLine as Decided, CutOff, TakesTrace, ReadGives}
-use Rattle.bus_trace.specs.Looping.{LineRefused, ByLine, ByEnd, Loops}
+use Rattle.bus_trace.specs.Runs.{stream_of, HasNoFeed}
 use Rattle.bus_trace.proofs.Steps.{step_adds, step_sound}
 use Rattle.bus_trace.proofs.Runs.{run-append, run-whole_line}
 use Rattle.bus_trace.proofs.Walks.{start_sound}
 use Rattle.bus_trace.proofs.Told.{lines_whole}
 use Rattle.bus_trace.proofs.Marks.{ended_is}
-use Rattle.bus_trace.proofs.Again.{ended, trace_again}
 
 -- ---- where an end was found, the text of the trace stands at the front
 abbrev pub ByteGives : List ℕ → Progress → Type 0

@@ -1,8 +1,8 @@
 -- Numbers, rows of tests and fields of a line.
-use Rattle.std.proofs.Common.{arith, zero, suc, ◌≡◌, ℕ, ◌<◌, ◌≤◌, ◌^◌, Bool, true, false, not, cond, ◌&&◌, ◌||◌, ◌==◌, List, [], ◌∷◌}
-use Rattle.std.proofs.Common.{◌++◌, length, get_or, codes, nat_lt, Option, Some, None, Result, Ok, Err, refl, sym, ap, subst, ◌∙◌}
-use Rattle.std.proofs.Common.{append_assoc, append-nil, length-append, drop, map}
-use Rattle.std.specs.List.{flat_map, list_all, AllByRecursion}
+use Rattle.std.proofs.Common.{arith, zero, suc, ◌≡◌, ℕ, ◌<◌, ◌≤◌, ◌^◌, Bool, true, false, not, cond, ◌==◌, List, [], ◌∷◌}
+use Rattle.std.proofs.Common.{length, get_or, Option, Some, None, Ok, refl, subst}
+use Rattle.std.proofs.Common.{drop}
+use Rattle.std.specs.List.{list_all}
 use Rattle.std.specs.Str.{bytes_eq}
 use Rattle.std.specs.Fmt.{decimal}
 use Rattle.std.specs.Int.{is_in_range}
@@ -11,41 +11,14 @@ use Rattle.std.specs.Str.Parse.{AllDigits}
 use Rattle.std.proofs.lemmas.Bool.{and_parts, eqb-true}
 use Rattle.std.proofs.lemmas.Bool.Decides.{nat_tests}
 use Rattle.std.proofs.lemmas.Slice.Eq.{bytes_eq-Decides}
-use Rattle.std.proofs.lemmas.List.{map-append}
-use Rattle.std.proofs.lemmas.List.Splits.{join_with_byte-slice_split}
-use Rattle.std.proofs.lemmas.List.Concat.{flat_map-append}
 use Rattle.std.proofs.lemmas.Str.Parse.{numerals_by_value, tells_digits}
 use Rattle.std.proofs.lemmas.Fmt.{decimal-digits_value}
 use Rattle.bus_text.specs.Fields.{is_at}
 use Rattle.bus_text.specs.Numbers.{is_plain_decimal, decimal_value}
-use Rattle.bus_text.specs.Canonical.{spelled_line, spelled_lines}
 use Rattle.bus_text.specs.Refusals.{unless}
-use Rattle.bus_strings.specs.Messages.{Wordstring, Entry, IsWordstring}
-use Rattle.bus_strings.specs.Transmissions.{IsAscending}
-use Rattle.bus_trace.specs.declared.hold.Hold.{Hold}
-use Rattle.bus_trace.specs.declared.keyword.Keyword.{Keyword}
-use Rattle.bus_trace.specs.declared.keyword.Keyword.TheVariants as keyword
-use Rattle.bus_trace.specs.declared.position.Position.{Position}
-use Rattle.bus_trace.specs.declared.position.Position.TheVariants.{Start, Headed, Holding, Begun, Stringing, Closed, Ended}
-use Rattle.bus_trace.specs.declared.format.Format.{Format}
-use Rattle.bus_trace.specs.declared.format.Format.TheVariants.{One, Two}
 use Rattle.bus_trace.specs.declared.reason.TraceReason.{TraceReason}
-use Rattle.bus_trace.specs.declared.reason.TraceReason.TheVariants as reason
-use Rattle.bus_strings.specs.Limits.{horizon_limit, most_terminal}
-use Rattle.bus_trace.specs.Limits.{most_count, most_fields}
-use Rattle.bus_trace.specs.Traces.{Line, IsHold, IsBelow, format_text, head_line, horizon_line, hold_line, begin_line, string_line}
-use Rattle.bus_trace.specs.Traces.{entry_lines, ended_line, end_line, opening_lines}
-use Rattle.bus_trace.specs.WordFields.{are_spelled, have_parity, string_of}
-use Rattle.bus_trace.specs.States.{State, IsSound, PositionFits, MarkFits, lines_so_far, body_lines, lines_at, lines_of, text_of}
-use Rattle.bus_trace.specs.States.{keyword_of, last_count, may_follow, spaced_fields, field, is_number, number, last_terminal, last_end}
-use Rattle.bus_trace.specs.States.{is_after, is_hit, is_final, is_refuted, is_mark, mark_of, starts_wrong, with_string, more_list}
-use Rattle.bus_trace.specs.States.{format_of, headed, head_step, horizon_step, hold_step, begin_step, string_step, close_step, end_step}
-use Rattle.bus_trace.specs.States.{form_step, keyword_step, step}
-use Rattle.bus_trace.proofs.Lasts.{length-with_string, last_end_most}
-use Rattle.bus_trace.proofs.Orders.{all_push, lt_from, ascending_push, ascending_with, below_with, terminals_push}
-use Rattle.bus_trace.proofs.WordLists.{string_is}
-use Rattle.bus_trace.proofs.Told.{told_closed, told_next, told_string}
-use Rattle.bus_trace.proofs.Marks.{mark_is, unhit, mark_shown, begun_fits, ended_fits}
+use Rattle.bus_trace.specs.Limits.{most_fields}
+use Rattle.bus_trace.specs.States.{field}
 
 -- ---- numbers
 pub digit_small : (c : ℕ) → is_ascii_digit c ≡ true → digit_value c < 10

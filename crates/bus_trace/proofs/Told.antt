@@ -1,17 +1,17 @@
 -- Lines with marks: as they come, and those of the whole list.
-use Rattle.std.proofs.Common.{arith, zero, suc, ◌≡◌, ℕ, ◌+◌, ◌<◌, Bool, true, false, not, ◌&&◌, ◌||◌, List, [], ◌∷◌, ◌++◌, length, take}
-use Rattle.std.proofs.Common.{nat_lt, map, Option, Some, None, refl, sym, ap, subst, ◌∙◌, append_assoc, append-nil, length-append}
-use Rattle.std.specs.List.{flat_map, zip, slice_get, range_with_len, list_any, AllByRecursion}
+use Rattle.std.proofs.Common.{arith, suc, ◌≡◌, ℕ, ◌+◌, ◌<◌, Bool, true, false, ◌||◌, List, [], ◌∷◌, ◌++◌, length, take}
+use Rattle.std.proofs.Common.{nat_lt, map, Some, None, refl, sym, ap, ◌∙◌, append_assoc, append-nil, length-append}
+use Rattle.std.specs.List.{flat_map, zip, slice_get, range_with_len, AllByRecursion}
 use Rattle.std.specs.Option.{option_map_or}
 use Rattle.std.proofs.lemmas.List.{map-append}
 use Rattle.std.proofs.Math.Seq.{take-append_seam}
-use Rattle.bus_strings.specs.Messages.{Wordstring, Entry, IsMessage}
+use Rattle.bus_strings.specs.Messages.{Wordstring, Entry}
 use Rattle.bus_strings.specs.Transmissions.{end_of, garbled, marks, IsByMoment, IsAscending}
 use Rattle.bus_strings.specs.OverlapLaws.{NeighboursTell, AscendingIsByMoment}
 use Rattle.bus_trace.specs.declared.format.Format.{Format}
 use Rattle.bus_trace.specs.declared.format.Format.TheVariants.{One, Two}
 use Rattle.bus_trace.specs.Traces.{Line, IsBelow, begin_line, string_line, entry_lines, ended_line, close_line, marked_lines, list_lines}
-use Rattle.bus_trace.specs.States.{ends_behind, earlier, last_moment, last_end, is_hit, closing, told_lines, lines_so_far, with_string}
+use Rattle.bus_trace.specs.States.{ends_behind, earlier, last_moment, last_end, is_hit, told_lines, lines_so_far, with_string}
 use Rattle.bus_trace.specs.States.{MarkIs}
 
 -- the last is closed

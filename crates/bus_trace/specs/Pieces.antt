@@ -4,8 +4,8 @@
 --   IsWholeAt    so many bytes of a stream are the text of a trace, within the limit
 --   IsRefusedAt  a line of a stream is refused, and what decides that is within the limit
 --   IsDue        the one answer that is due for a stream: neither of the two comes before the limit is passed, or one of them does
-use Rattle.std.specs.Prelude.{◌≡◌, ◌≢◌, ◌≤◌, ◌<◌, ◌+◌, ◌⊎◌, ℕ, List, [], ◌∷◌, ◌++◌, length, take, Result, Ok, Err}
-use Rattle.bus_trace.specs.Limits.{text_limit, line_limit}
+use Rattle.std.specs.Prelude.{◌≡◌, ◌≤◌, ◌<◌, ◌+◌, ◌⊎◌, ℕ, List, [], ◌∷◌, ◌++◌, length, take, Result, Ok, Err}
+use Rattle.bus_trace.specs.Limits.{text_limit}
 use Rattle.bus_trace.specs.Traces.{Recording, IsTraceText}
 use Rattle.bus_trace.specs.Runs.{HasNoFeed, stream_of}
 use Rattle.bus_trace.specs.Reading.{Offends}

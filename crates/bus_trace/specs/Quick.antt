@@ -1,11 +1,12 @@
 -- Lines that are taken without their fields being gathered: what is known where such a line is right.
-use Rattle.std.specs.Prelude.{◌≡◌, ◌≤◌, ◌<◌, ℕ, Bool, true, false, ◌&&◌, nat_lt, List, Ok}
+use Rattle.std.specs.Prelude.{◌≡◌, ◌≤◌, ◌<◌, ℕ, Bool, true, false, nat_lt, List, Ok}
 use Rattle.bus_strings.specs.Limits.{most_terminal}
 use Rattle.bus_strings.specs.Messages.{Wordstring}
 use Rattle.bus_trace.specs.declared.keyword.Keyword.TheVariants as keyword
 use Rattle.bus_trace.specs.declared.position.Position.TheVariants.{Stringing}
 use Rattle.bus_trace.specs.States.{State, step, may_follow, last_count, last_end, is_after, is_hit, is_final, is_refuted, starts_wrong}
 use Rattle.bus_trace.specs.States.{more_list}
+use Rattle.bus_trace.specs.Writing.{data_put}
 
 -- The state once the wordstring of a WS line has come.
 abbrev pub string_taken : State → Wordstring → State
@@ -37,3 +38,9 @@ pub record ClosesRight (s : State) (end : ℕ) (mark : Bool) : Type 0 where
 abbrev pub TakesQuickly : State → State → List ℕ → Bool → Type 0
 TakesQuickly old new line true = step old line ≡ Ok new
 TakesQuickly old new line false = new ≡ old
+
+-- The wordstring has this label and extension, and the text is that of its data words, each behind a space.
+pub record HasData (label ext : ℕ) (text : List ℕ) (string : Wordstring) : Type 0 where
+  pub same_label : string.label ≡ label
+  pub same_ext : string.ext ≡ ext
+  pub words : text ≡ data_put string.words

@@ -29,7 +29,7 @@ use Rattle.bus_trace.specs.declared.position.Position.TheVariants.{Start, Headed
 use Rattle.bus_trace.specs.declared.reason.TraceReason.{TraceReason}
 use Rattle.bus_trace.specs.declared.reason.TraceReason.TheVariants as reason
 use Rattle.bus_trace.specs.Limits.{most_count, most_fields}
-use Rattle.bus_trace.specs.Traces.{Recording, IsTrace, Line, format_text, head_line, begin_line, entry_lines, mark_text, close_line}
+use Rattle.bus_trace.specs.Traces.{Recording, IsTrace, Line, format_text, head_line, begin_line, entry_lines, close_line}
 use Rattle.bus_trace.specs.Traces.{end_line, opening_lines}
 use Rattle.bus_trace.specs.WordFields.{are_spelled, have_parity, string_of}
 

@@ -83,16 +83,6 @@ pub(crate) fn is_after(list: &[Transmission], moment: u64, terminal: u64) -> boo
     }
 }
 
-/// The message of one wordstring.
-fn first_message(alloc: Global, string: Wordstring) -> Result<Message, AllocError>
-    ensures { IfOk result (λ m. m ≡ string ∷ []) }
-{
-    // Most messages have one wordstring: no room is taken for more.
-    let mut strings = Vec::with_capacity(alloc, 1)?;
-    strings.push(string)?;
-    Ok(Message::new(strings).unwrap())
-}
-
 /// Adds a wordstring to the last transmission.
 fn add_string(list: &mut Vec<Transmission>, string: Wordstring) -> Result<(), AllocError>
     requires { count_of list.old.items < most_strings }
@@ -120,11 +110,10 @@ fn add_transmission(
         list.old.items ++ record { moment = moment; terminal = terminal; message = string ∷ [] } ∷ []) }
     ensures err { OnErr result (list.new.items ≡ list.old.items) }
 {
-    let message = first_message(alloc, string)?;
     list.push(Transmission {
         moment,
         terminal,
-        message,
+        message: Message::one(alloc, string),
     })?;
     Ok(())
 }

@@ -9,9 +9,11 @@ ghost use Rattle.bus_words.specs.Words.{parity as parity_of};
 ghost use Rattle.bus_words.specs.WordTexts.{word_text, letter as letter_of, bit_digit};
 ghost use Rattle.bus_trace.specs.Traces.{begin_line as begin_fields, ended_line, string_line as string_fields};
 ghost use Rattle.bus_trace.specs.Writing.{data_put};
+ghost use Rattle.bus_trace.specs.Quick.{HasData};
 
-use bus_strings::wordstring::Wordstring;
+use bus_strings::wordstring::{SHORT, Wordstring};
 use bus_text::digits::capital_digit;
+use bus_words::label::{Ext, Label};
 use bus_words::word::{Kind, parity, split_label};
 use std::alloc::{AllocError, Global};
 
@@ -157,6 +159,41 @@ fn spaced_words(alloc: Global, text: &[u8]) -> Result<Option<Vec<u16>>, AllocErr
     Ok(if rest.is_empty() { Some(words) } else { None })
 }
 
+/// The wordstring of a label and a few data words, each behind a space: no more than it keeps in itself.
+fn short_string(label: Label, ext: Ext, text: &[u8]) -> Option<Wordstring>
+    ensures { IfSome result (λ s. HasData label ext text.now s) }
+{
+    let mut words = [0; SHORT];
+    let mut count = 0;
+    let mut rest = text;
+    while count < SHORT && rest.len() >= PLACES {
+        words[count] = spaced_word(&rest[..PLACES], Kind::Plain)?;
+        count += 1;
+        rest = &rest[PLACES..];
+    }
+    if rest.is_empty() {
+        Some(Wordstring::short(label, ext, count as u8, words))
+    } else {
+        None
+    }
+}
+
+/// The wordstring of a label and data words, each behind a space.
+fn long_string(
+    alloc: Global,
+    label: Label,
+    ext: Ext,
+    text: &[u8],
+) -> Result<Option<Wordstring>, AllocError>
+    requires { length text.now ≤ 2000 }
+    ensures { IfOk result (λ o. IfSome o (λ s. HasData label ext text.now s)) }
+{
+    let Some(words) = spaced_words(alloc, text)? else {
+        return Ok(None);
+    };
+    Ok(Wordstring::new(label, ext, words))
+}
+
 /// The wordstring of a WS line.
 pub(crate) fn string_line(alloc: Global, line: &[u8]) -> Result<Option<Wordstring>, AllocError>
     requires { length line.now ≤ 2000 }
@@ -171,9 +208,10 @@ pub(crate) fn string_line(alloc: Global, line: &[u8]) -> Result<Option<Wordstrin
     let Some(label) = spaced_word(&text[..PLACES], Kind::Label) else {
         return Ok(None);
     };
-    let Some(words) = spaced_words(alloc, &text[PLACES..])? else {
-        return Ok(None);
-    };
     let (label, ext) = split_label(label);
-    Ok(Wordstring::new(label, ext, words))
+    let data = &text[PLACES..];
+    if data.len() > SHORT * PLACES {
+        return long_string(alloc, label, ext, data);
+    }
+    Ok(short_string(label, ext, data))
 }

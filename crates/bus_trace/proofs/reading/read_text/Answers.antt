@@ -1,4 +1,4 @@
-use Rattle.std.proofs.Common.{arith, ℕ, List, take, length, refl, ap, sym, subst, ◌∙◌, Ok, length-append}
+use Rattle.std.proofs.Common.{arith, ℕ, List, take, refl, ap, sym, subst, ◌∙◌, Ok, length-append}
 use Rattle.std.proofs.lemmas.List.{take-append-le, length-take}
 use Rattle.std.proofs.lemmas.Result.{err_from_is_err_and}
 use Rattle.bus_outer.specs.Sources.{Taken}

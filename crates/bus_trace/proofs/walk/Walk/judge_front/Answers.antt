@@ -1,4 +1,4 @@
-use Rattle.std.proofs.Common.{arith, subst, [], ◌++◌, ◌∷◌, ap, sym, ◌∙◌, Ok}
+use Rattle.std.proofs.Common.{arith, subst, [], ◌++◌, ◌∷◌, ap, ◌∙◌, Ok}
 use Rattle.bus_trace.specs.States.{step}
 use Rattle.bus_trace.specs.Runs.{Standing, judged}
 use Rattle.bus_trace.specs.Walking.{JudgedGives}
