@@ -5,6 +5,7 @@ pub mod RoundLemmas
 pub mod WalkLemmas
 pub mod PaceLemmas
 pub mod PutLemmas
+pub mod WrittenLemmas
 pub mod HandLemmas
 pub mod TurnLemmas
 pub mod RunLemmas

@@ -8,7 +8,7 @@ use Rattle.bus_regime.specs.Verdicts.{verdict_of, is_accepted}
 use Rattle.bus_schedule.specs.Even.{are_even, message_in, rounds}
 use Rattle.bus_schedule.specs.Closed.{closed}
 use Rattle.bus_vote.specs.Labels.{Channel, VotedLabel, voted_labels}
-use Rattle.bus_vote.specs.Rounds.{words_in, channel_words, first_words, second_words, third_words, is_voted, round_votes}
+use Rattle.bus_vote.specs.Rounds.{words_in, channel_words, first_words, second_words, third_words, is_voted, round_votes, voted_rounds}
 use Rattle.bus_vote.specs.Votes.{TwoAre, votes}
 
 -- Where two lists are present and equal, the vote is that list, of its length, with no place undecided, whatever the third is.
@@ -22,7 +22,16 @@ IsFixedByTwo list =
     → TwoAre words (first_words list voted round) (second_words list voted round) (third_words list voted round)
     → round_votes list voted round ≡ map Some words
 
+-- A round in which two channels of a voted label have words is one of those that are written: there are no more rounds than transmissions.
+abbrev pub IsWrittenWhereVoted : List Entry → Type 0
+IsWrittenWhereVoted list =
+    (voted : VotedLabel) (round : ℕ) → IsTrue (is_voted list voted round) → In round (voted_rounds list voted)
+
 -- It is so of every list.
+abbrev pub VotedAreWritten : Type 0
+VotedAreWritten = (list : List Entry) → IsWrittenWhereVoted list
+
+-- Two channels fix the vote in every list.
 abbrev pub ListsAreFixedByTwo : Type 0
 ListsAreFixedByTwo = (list : List Entry) → IsFixedByTwo list
 

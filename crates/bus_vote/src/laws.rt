@@ -1,13 +1,14 @@
 //! Laws of the definitions, each the contract of a function that does nothing.
-ghost use Rattle.bus_vote.specs.VoteLaws.{RunsAreVoted, ListsAreFixedByTwo, TwoFixTheVote};
+ghost use Rattle.bus_vote.specs.VoteLaws.{RunsAreVoted, ListsAreFixedByTwo, VotedAreWritten, TwoFixTheVote};
 
 use bus_schedule::laws::accepted_is_closed;
 
 /// Where two lists are present and equal, the vote is that list, of its length, with no place undecided, whatever the third is: so two
-/// channels of a round that are alike fix its vote.
+/// channels of a round that are alike fix its vote. Each round in which two channels have words is written.
 pub fn two_fix_the_vote()
     ensures votes { TwoFixTheVote }
     ensures rounds { ListsAreFixedByTwo }
+    ensures written { VotedAreWritten }
 {}
 
 /// Where a list is the closed schedule of even hands of an accepted table, every round below the number of messages is voted, from the

@@ -101,3 +101,9 @@ is_spaced table t (Err fault) h = (λ e. absurd (cc), λ s. absurd (let k = part
 
 pub spaced_passes : (table : Table) (t : Recording) → IsSpaced table t → spaced_of table t ≡ Ok tt
 spaced_passes table t s = parts_spaced table t.horizon 0 0 t.list s.senders s.apart
+
+passed_spaced : (table : Table) (t : Recording) → spaced_of table t ≡ Ok tt → IsSpaced table t
+passed_spaced table t h = (let p = spaced_parts table t.horizon 0 0 t.list tt h in record { senders = p.0; apart = p.1 })
+
+pub passes : (table : Table) (t : Recording) → (spaced_of table t ≡ Ok tt) ↔ IsSpaced table t
+passes table t = (λ h. passed_spaced table t h, λ s. spaced_passes table t s)

@@ -1,5 +1,5 @@
 -- What follows of waves and their texts. `laws` says that each of these holds.
-use Rattle.std.specs.Prelude.{◌≡◌, ◌≤◌, ◌-◌, ◌^◌, ℕ, List, length, IsTrue, Result, Ok}
+use Rattle.std.specs.Prelude.{◌≡◌, ◌↔◌, ◌≤◌, ◌-◌, ◌^◌, ℕ, List, length, IsTrue, Result, Ok}
 use Rattle.bus_table.specs.Tables.{Table, Hand}
 use Rattle.bus_table.specs.Valid.{is_valid}
 use Rattle.bus_regime.specs.Verdicts.{verdict_of, is_accepted}
@@ -24,9 +24,9 @@ pub record IsWaveTrace (table : Table) (t : Recording) : Type 0 where
   pub spaced : IsSpaced table t
   pub holds : t.holds ≡ holds_of table t.list
 
--- A trace that is spaced for a table passes.
+-- A trace passes exactly where it is spaced for the table.
 abbrev pub SpacedPasses : Type 0
-SpacedPasses = (table : Table) (t : Recording) → IsSpaced table t → spaced_of table t ≡ Ok tt
+SpacedPasses = (table : Table) (t : Recording) → (spaced_of table t ≡ Ok tt) ↔ IsSpaced table t
 
 -- Of a trace that is spaced for some table, what is written is its wave text, and the only one.
 pub record HasOneText (t : Recording) : Type 0 where
