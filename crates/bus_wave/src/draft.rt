@@ -21,7 +21,7 @@ use crate::symbol::Symbol;
 use bus_strings::limits::{HORIZON_LIMIT, INNER_GAP, WORD_BITS};
 use bus_strings::message::Message;
 use bus_strings::transmission::Transmission;
-use bus_strings::wordstring::Wordstring;
+use bus_strings::wordstring::{SHORT, Wordstring};
 use bus_table::line::SendLine;
 use bus_table::sender::Sender;
 use bus_words::label::{Ext, Label};
@@ -70,13 +70,54 @@ fn beginner<'t>(senders: &'t [Sender], value: u16) -> Option<&'t Sender>
     senders.iter().find(|sender| begins(value, sender.sends()))
 }
 
+/// The wordstring of a SEND line and of a few data words: no more than it keeps in itself.
+fn short_string(line: SendLine, words: &[u16]) -> Wordstring
+    requires { length words.now ≤ 12 }
+    ensures { result ≡ string_of line words.now }
+{
+    let mut kept = [0; SHORT];
+    for (k, word) in words.iter().enumerate() {
+        kept[k] = *word;
+    }
+    Wordstring::short(line.label, line.ext, words.len() as u8, kept)
+}
+
 /// The wordstring of a SEND line and of data words, which takes only the memory that it needs.
 fn wordstring(alloc: Global, line: SendLine, words: &[u16]) -> Result<Wordstring, AllocError>
     requires { length words.now ≤ 256 }
     ensures { IfOk result (λ string. string ≡ string_of line words.now) }
 {
+    if words.len() <= SHORT {
+        return Ok(short_string(line, words));
+    }
     let words = Vec::from_slice(alloc, words)?;
     Ok(Wordstring::new(line.label, line.ext, words).unwrap())
+}
+
+/// The message of wordstrings and of one behind them. A message of one takes no memory.
+fn message(
+    alloc: Global,
+    strings: &mut Vec<Wordstring>,
+    last: Wordstring,
+) -> Result<Message, AllocError>
+    requires { length strings.old.items < most_strings }
+    ensures { IfOk result (λ message. message ≡ strings.old.items ++ last ∷ []) }
+{
+    if strings.is_empty() {
+        return Ok(Message::one(alloc, last));
+    }
+    strings.push(last)?;
+    Ok(Message::new(replace(strings, Vec::new(alloc))).unwrap())
+}
+
+/// Room for the wordstrings before the last of so many.
+fn room_before_last(alloc: Global, count: usize) -> Result<Vec<Wordstring>, AllocError>
+    ensures { IfOk result (λ strings. strings.items ≡ []) }
+{
+    if count < 2 {
+        return Ok(Vec::new(alloc));
+    }
+    Vec::with_capacity(alloc, count)
 }
 
 /// What the lines so far have given. Room for data words is used again from wordstring to wordstring.
@@ -173,7 +214,7 @@ impl<'t> Draft<'t> {
         if self.at + WORD + WORD * u64::from(line.least) + later > HORIZON_LIMIT {
             return Err(LineFault::Refused(WaveReason::Range));
         }
-        self.strings = Vec::with_capacity(alloc, sends.len())?;
+        self.strings = room_before_last(alloc, sends.len())?;
         self.words.clear();
         self.moment = self.at;
         self.terminal = sender.number();
@@ -279,9 +320,8 @@ impl<'t> Draft<'t> {
             ≡ self.old.list.items ++ with_string (begun_of self.old) (string_of line self.old.words.items) ∷ []) }
         ensures at { OnOk result (self.new.at ≡ self.old.at) }
     {
-        self.keep_string(alloc, line)?;
-        let strings = replace(&mut self.strings, Vec::new(alloc));
-        let message = Message::new(strings).unwrap();
+        let last = wordstring(alloc, line, &self.words)?;
+        let message = message(alloc, &mut self.strings, last)?;
         self.list.push(Transmission {
             moment: self.moment,
             terminal: self.terminal,
