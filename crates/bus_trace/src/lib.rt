@@ -23,18 +23,12 @@ pub mod laws;
 pub mod limits;
 mod list;
 mod mark;
-#[cfg(test)]
-mod mark_tests;
-#[cfg(test)]
-mod piece_tests;
 mod position;
 mod quick;
 pub mod reader;
 pub mod reading;
 pub mod reason;
 pub mod stage;
-#[cfg(test)]
-mod tests;
 pub mod trace;
 mod valid;
 mod walk;

@@ -1,6 +1,6 @@
 //! Traces that come in pieces.
-use crate::tests::{LINES, OLD_LINES, text_of, written};
-use crate::{Fed, TraceError, TraceReader, TraceReason};
+use crate::texts::{LINES, OLD_LINES, text_of, written};
+use bus_trace::{Fed, TraceError, TraceReader, TraceReason};
 use std::alloc::Global;
 use std::test::Fail;
 

@@ -1,6 +1,6 @@
 //! Traces of format 2: ends and marks.
-use crate::tests::{LINES, is_refused, read, text_of, written};
-use crate::{TraceError, TraceReason};
+use crate::texts::{LINES, is_refused, read, text_of, written};
+use bus_trace::{TraceError, TraceReason};
 use std::test::Fail;
 
 #[test]
