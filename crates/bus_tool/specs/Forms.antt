@@ -9,7 +9,8 @@ use Rattle.bus_strings.specs.Limits.{horizon_limit}
 use Rattle.bus_vectors.specs.Made.{most_number}
 use Rattle.bus_tool.specs.Readers.{Named, Trace, entire, entire_wave, no_source, one_source, two_sources}
 use Rattle.bus_tool.specs.declared.forms.Form.{Form}
-use Rattle.bus_tool.specs.declared.forms.Form.TheVariants.{Check, Tidy, Report, Witness, Plan, Drill, Observe, Run, Drop, Receive, Audit, Vote, Wave, Unwave}
+use Rattle.bus_tool.specs.declared.forms.Form.TheVariants.{Check, Tidy, Report, Witness, Plan, Drill, Observe, Run, Drop, Receive, Audit}
+use Rattle.bus_tool.specs.declared.forms.Form.TheVariants.{Vote, Wave, Unwave}
 
 -- the words of the program, as bytes
 abbrev pub words_of : List (String Global) → List (List ℕ)

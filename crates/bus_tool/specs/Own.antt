@@ -4,7 +4,8 @@ use Rattle.std.specs.Prelude.{◌≡◌, ◌<◌, Bool, true, false, IsTrue, ℕ
 use Rattle.bus_table.specs.declared.mode.Mode.{Mode}
 use Rattle.bus_table.specs.declared.mode.Mode.TheVariants.{Aperiodic, Periodic}
 use Rattle.bus_tool.specs.declared.forms.Form.{Form}
-use Rattle.bus_tool.specs.declared.forms.Form.TheVariants.{Check, Tidy, Report, Witness, Plan, Drill, Observe, Run, Drop, Receive, Audit, Vote, Wave, Unwave}
+use Rattle.bus_tool.specs.declared.forms.Form.TheVariants.{Check, Tidy, Report, Witness, Plan, Drill, Observe, Run, Drop, Receive, Audit}
+use Rattle.bus_tool.specs.declared.forms.Form.TheVariants.{Vote, Wave, Unwave}
 use Rattle.bus_tool.specs.declared.outcome.Outcome.{Outcome}
 use Rattle.bus_tool.specs.declared.outcome.Outcome.TheVariants as outcome
 use Rattle.bus_tool.specs.Causes.{IsNoMessagesText, IsUnfitIn, IsNoTraceText, IsUnspacedIn, IsNoWaveIn}

@@ -26,11 +26,13 @@ use Rattle.bus_trace.specs.Traces.{Recording, trace_text}
 use Rattle.bus_vote.specs.VoteTexts.{votes_text}
 use Rattle.bus_wave.specs.WaveTexts.{wave_text}
 use Rattle.bus_tool.specs.declared.forms.Form.{Form}
-use Rattle.bus_tool.specs.declared.forms.Form.TheVariants.{Check, Tidy, Report, Witness, Plan, Drill, Observe, Run, Drop, Receive, Audit, Vote, Wave, Unwave}
+use Rattle.bus_tool.specs.declared.forms.Form.TheVariants.{Check, Tidy, Report, Witness, Plan, Drill, Observe, Run, Drop, Receive, Audit}
+use Rattle.bus_tool.specs.declared.forms.Form.TheVariants.{Vote, Wave, Unwave}
 use Rattle.bus_tool.specs.declared.outcome.Outcome.{Outcome}
 use Rattle.bus_tool.specs.Forms.{form_of}
 use Rattle.bus_tool.specs.declared.inputs.Traced.{Traced as Ran}
-use Rattle.bus_tool.specs.Due.{Inputs, hands_in, Traced, table_due, table_in, inputs_due, run_due, drop_due, traced_due, wave_due, unwave_due, audit_of}
+use Rattle.bus_tool.specs.Due.{Inputs, hands_in, Traced, table_due, table_in, inputs_due, run_due, drop_due, traced_due, wave_due}
+use Rattle.bus_tool.specs.Due.{unwave_due, audit_of}
 use Rattle.bus_tool.specs.AuditLines.{audit_line}
 use Rattle.bus_tool.specs.Drills.{drill_line}
 use Rattle.bus_tool.specs.Reports.{report_text}

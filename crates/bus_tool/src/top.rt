@@ -102,8 +102,8 @@ pub fn tool<S: Source, K: Sink, E: Sink>(
         (outside ⟦<S as Source>⟧ ⟦<K as Sink>⟧ first.new second.new out.new) in
         (table : Table) (trace : Recording) → IsAuditOf table trace call → GivesFinding table trace call result }
 
-    // `vote T R` of texts of a valid table and of a trace, where nothing outside fails: the votes, or want of memory. Two equal channels fix
-    // a vote, and of the trace of a run every round is voted, from the words of the hands.
+    // `vote T R` of texts of a valid table and of a trace, where nothing outside fails: the votes, or want of memory. Two equal channels
+    // fix a vote, and of the trace of a run every round is voted, from the words of the hands.
     ensures vote { let call = called (words_of words.now) (outside ⟦<S as Source>⟧ ⟦<K as Sink>⟧ first.old second.old out.old)
         (outside ⟦<S as Source>⟧ ⟦<K as Sink>⟧ first.new second.new out.new) in
         (table : Table) (trace : Recording) → IsVoteOf table trace call → GivesVotes table trace call result }
