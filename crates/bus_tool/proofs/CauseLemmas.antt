@@ -134,14 +134,14 @@ texts_with laws Holds first second inputs h why =
 not_run : CauseLaws → (first second : List ℕ) (inputs : Inputs) (o : Outcome) → inputs_due first second ≡ Ok inputs → NotRun inputs o → RefusesTexts Run o first second
 not_run laws first second inputs o h (Differ uneven why e) = subst (λ r. RefusesTexts Run r first second) (sym e) (texts_with laws (DifferAs uneven) first second inputs h why)
 not_run laws first second inputs o h (NotAccepted why e) = subst (λ r. RefusesTexts Run r first second) (sym e) (texts_with laws (IsRefusal (verdict_of inputs.table)) first second inputs h (refl, why))
-not_run laws first second inputs o h (Longer why e) = subst (λ r. RefusesTexts Run r first second) (sym e) (texts_with laws (IsLongEnd Run (closed_end inputs.table (hands_in inputs))) first second inputs h (refl, why))
+not_run laws first second inputs o h (Longer even accepted why e) = subst (λ r. RefusesTexts Run r first second) (sym e) (texts_with laws (IsLongEnd Run (closed_end inputs.table (hands_in inputs))) first second inputs h (record { accepted = accepted; end_is = (even, refl); above = why }))
 
 not_dropped : CauseLaws → (first second : List ℕ) (inputs : Inputs) (o : Outcome) → inputs_due first second ≡ Ok inputs → inputs.table.mode ≡ Aperiodic → NotDropped inputs o → RefusesTexts Drop o first second
 not_dropped laws first second inputs o h mode (drop.NotAccepted why e) = subst (λ r. RefusesTexts Drop r first second) (sym e) (texts_with laws (IsRefusal (verdict_of inputs.table)) first second inputs h (refl, why))
 not_dropped laws first second inputs o h mode (drop.Shorter accepted least is less e) =
     subst (λ r. RefusesTexts Drop r first second) (sym e)
     (texts_with laws (IsShortLast least inputs.table.ti) first second inputs h (record { aperiodic = mode; accepted = accepted; last = is; interval = refl; shorter = less }))
-not_dropped laws first second inputs o h mode (drop.Longer why e) = subst (λ r. RefusesTexts Drop r first second) (sym e) (texts_with laws (IsLongEnd Drop (drop_end inputs.table (hands_in inputs))) first second inputs h (refl, why))
+not_dropped laws first second inputs o h mode (drop.Longer accepted long why e) = subst (λ r. RefusesTexts Drop r first second) (sym e) (texts_with laws (IsLongEnd Drop (drop_end inputs.table (hands_in inputs))) first second inputs h (record { accepted = accepted; end_is = (mode, long, refl); above = why }))
 
 -- the table isn't of the mode that is needed
 wrong_mode : CauseLaws → (form : Form) (needed : Mode) (first second : List ℕ) (o : Outcome) → IsOtherMode needed first o → RefusesTexts form o first second

@@ -65,7 +65,7 @@ pub record IsDroppable (inputs : Inputs) : Type 0 where
 pub data NotDropped (inputs : Inputs) (o : Outcome) : Type 0 where
   NotAccepted : is_accepted (verdict_of inputs.table) ≡ false → o ≡ Refused (verdict_of inputs.table) → NotDropped inputs o
   Shorter : IsTrue (is_accepted (verdict_of inputs.table)) → (least : ℕ) → last_cycle inputs.table (hands_in inputs) ≡ Some least → least < inputs.table.ti → o ≡ ShortLast least inputs.table.ti → NotDropped inputs o
-  Longer : longest_end < drop_end inputs.table (hands_in inputs) → o ≡ TooLong (drop_end inputs.table (hands_in inputs)) → NotDropped inputs o
+  Longer : IsTrue (is_accepted (verdict_of inputs.table)) → LastIsLong inputs.table (hands_in inputs) → longest_end < drop_end inputs.table (hands_in inputs) → o ≡ TooLong (drop_end inputs.table (hands_in inputs)) → NotDropped inputs o
 
 -- each step, by its answer
 abbrev accepted_if : Bool → TableVerdict → Result (Unit {0}) Outcome
@@ -130,7 +130,9 @@ drops_err inputs o h = elim (bind_err (can_drop inputs.table (hands_in inputs)) 
   | inl e ↦ elim (bind_err (may_drop inputs.table (hands_in inputs)) (λ _. short_due (drop_end inputs.table (hands_in inputs))) o e) [
     | inr w ↦
         let k = short_err (drop_end inputs.table (hands_in inputs)) o (nat_lt longest_end (drop_end inputs.table (hands_in inputs))) refl w.2 in
-        Longer k.0 k.1
+        let one = bind_ok (accepted_due (verdict_of inputs.table)) (λ _. last_due (last_cycle inputs.table (hands_in inputs)) inputs.table.ti) w.0 w.1 in
+        Longer (accepted_ok (verdict_of inputs.table) one.0 (is_accepted (verdict_of inputs.table)) refl one.1)
+        (last_long (last_cycle inputs.table (hands_in inputs)) inputs.table.ti one.2) k.0 k.1
     | inl f ↦ elim (bind_err (accepted_due (verdict_of inputs.table)) (λ _. last_due (last_cycle inputs.table (hands_in inputs)) inputs.table.ti) o f) [
       | inl g ↦ let k = accepted_err (verdict_of inputs.table) o (is_accepted (verdict_of inputs.table)) refl g in NotAccepted k.0 k.1
       | inr w ↦
@@ -166,7 +168,7 @@ drop_stop first second o h = elim (bind_err (inputs_in Aperiodic first second) d
 not_dropped_unwritten : (inputs : Inputs) (o : Outcome) → NotDropped inputs o → is_answer (kind_of o) ≡ false
 not_dropped_unwritten inputs o (NotAccepted why e) = ap (λ o. is_answer (kind_of o)) e
 not_dropped_unwritten inputs o (Shorter accepted least is less e) = ap (λ o. is_answer (kind_of o)) e
-not_dropped_unwritten inputs o (Longer why e) = ap (λ o. is_answer (kind_of o)) e
+not_dropped_unwritten inputs o (Longer accepted long why e) = ap (λ o. is_answer (kind_of o)) e
 
 pub drop_unwritten : (first second : List ℕ) (o : Outcome) → drop_due first second ≡ Err o → is_answer (kind_of o) ≡ false
 drop_unwritten first second o h = elim (drop_stop first second o h) [

@@ -1,8 +1,9 @@
 -- Outcomes of a form's own.
-use Rattle.std.specs.Prelude.{◌≡◌, ℕ, ◌<◌, nat_lt, true, false, List, length, Option, IfSome, Vec, Result, Ok, Err, IfErr, IsErrAnd}
+use Rattle.std.specs.Prelude.{◌≡◌, ◌≢◌, ℕ, ◌<◌, ◌==◌, nat_lt, true, false, List, [], ◌∷◌, length, Option, Some, IfSome, Vec, Result, Ok, Err, IfErr, IsErrAnd}
 use Rattle.std.specs.Prelude.{IsTrue}
 use Rattle.std.specs.declared.alloc.Global.{Global}
-use Rattle.std.proofs.Common.{refl, sym, ap, ◌∙◌, subst, cond}
+use Rattle.std.proofs.Common.{arith, refl, sym, ap, ◌∙◌, subst, cond}
+use Rattle.std.proofs.lemmas.Bool.Decides.{nat_tests}
 use Rattle.std.proofs.lemmas.Result.{err_from_is_err_and}
 use Rattle.bus_outer.specs.declared.whole.ReadError.{ReadError}
 use Rattle.bus_outer.specs.declared.whole.ReadError.TheVariants.{Fault, TooLarge as Larger, Memory as Small}
@@ -17,7 +18,8 @@ use Rattle.bus_table.specs.declared.error.TableError.TheVariants.{Text, Whole, M
 use Rattle.bus_table.specs.declared.fit.FitError.{FitError}
 use Rattle.bus_table.specs.declared.mode.Mode.{Mode}
 use Rattle.bus_table.specs.Fits.{items_fit}
-use Rattle.bus_table.specs.Tables.{Table}
+use Rattle.bus_table.specs.Tables.{Table, Sender, Hand}
+use Rattle.bus_table.specs.Turns.{turn_order}
 use Rattle.bus_table.specs.Valid.{is_valid}
 use Rattle.bus_regime.specs.declared.table_verdict.TableVerdict.{TableVerdict}
 use Rattle.bus_regime.specs.declared.table_verdict.TableVerdict.TheVariants.{Accept, ShortCycle, SmallGap, NoSync}
@@ -25,6 +27,8 @@ use Rattle.bus_plan.specs.declared.planning.PlanAnswer.{PlanAnswer}
 use Rattle.bus_plan.specs.declared.planning.PlanAnswer.TheVariants.{Planned, Infeasible}
 use Rattle.bus_audit.specs.declared.answer.AuditAnswer.{AuditAnswer}
 use Rattle.bus_audit.specs.declared.answer.AuditAnswer.TheVariants.{Lawful, Breach}
+use Rattle.bus_schedule.specs.Limits.{longest_end, IsRefused as LongRefused}
+use Rattle.bus_schedule.specs.Uneven.{count_of, counts_of, differing, uneven_in, uneven_of}
 use Rattle.bus_schedule.specs.declared.uneven.Uneven.{Uneven as UnevenHands}
 use Rattle.bus_schedule.specs.declared.error.ScheduleError.{ScheduleError}
 use Rattle.bus_schedule.specs.declared.error.ScheduleError.TheVariants.{Memory as Tight, TooLong as Long}
@@ -168,16 +172,37 @@ wave_own back old new text bytes table (wave.Text line reason) t same valid fail
 wave_own back old new text bytes table wave.Memory t same valid fails = λ form is. tt
 
 -- ---- a run
-pub schedule_own : (e : ScheduleError) → IsOf Run (schedule_refusal e)
-schedule_own Tight = λ second. tt
-schedule_own (Long end) = λ second. refl
+pub schedule_own : (end : ℕ) (e : ScheduleError) → LongRefused end e → IsOf Run (schedule_refusal e)
+schedule_own end Tight h = λ second. tt
+schedule_own end (Long told) h = λ second. (refl, subst (λ n. longest_end < n) (sym h.1) h.0)
 
-pub uneven_own : (uneven : UnevenHands) → IsOf Run (uneven_refusal uneven)
-uneven_own uneven = λ second. refl
+pub dropped_own : (end : ℕ) (e : ScheduleError) → LongRefused end e → IsOf Drop (schedule_refusal e)
+dropped_own end Tight h = λ second. tt
+dropped_own end (Long told) h = λ second. (refl, subst (λ n. longest_end < n) (sym h.1) h.0)
 
-pub dropped_own : (e : ScheduleError) → IsOf Drop (schedule_refusal e)
-dropped_own Tight = λ second. tt
-dropped_own (Long end) = λ second. refl
+-- two senders that are told have different numbers of messages
+differ : (hands : List Hand) (one : ℕ) (order : List Sender) (uneven : UnevenHands) → differing hands one order ≡ Some uneven
+    → uneven.one_count ≢ uneven.other_count
+differ hands one [] uneven h = absurd cc
+differ hands one (other ∷ order) uneven h =
+    elim (count_of hands other.number == count_of hands one) as
+    (λ b. (count_of hands other.number == count_of hands one) ≡ b
+    → cond b (differing hands one order) (Some (counts_of hands one other.number)) ≡ Some uneven → uneven.one_count ≢ uneven.other_count) [
+      | true ↦ λ e k. differ hands one order uneven k
+      | false ↦ λ e k.
+          let same : counts_of hands one other.number ≡ uneven = cc in
+          let apart : count_of hands one ≢ count_of hands other.number = grind (arith, nat_tests, e) in
+          subst (λ (u : UnevenHands). u.one_count ≢ u.other_count) same apart
+    ] refl h
+
+differ_in : (hands : List Hand) (order : List Sender) (uneven : UnevenHands) → uneven_in hands order ≡ Some uneven
+    → uneven.one_count ≢ uneven.other_count
+differ_in hands [] uneven h = absurd cc
+differ_in hands (first ∷ order) uneven h = differ hands first.number order uneven h
+
+pub uneven_own : (table : Table) (hands : List Hand) (uneven : UnevenHands) → uneven_of table hands ≡ Some uneven
+    → IsOf Run (uneven_refusal uneven)
+uneven_own table hands uneven h = λ second. (refl, differ_in hands (turn_order table) uneven h)
 
 -- a last cycle that is too short
 pub last_own : (least ti : ℕ) → least < ti → IsOf Drop (ShortLast least ti)

@@ -26,7 +26,8 @@ pub record IsRunnable (inputs : Inputs) : Type 0 where
 pub data NotRun (inputs : Inputs) (o : Outcome) : Type 0 where
   Differ : (uneven : UnevenHands) → uneven_of inputs.table (hands_in inputs) ≡ Some uneven → o ≡ uneven_refusal uneven → NotRun inputs o
   NotAccepted : is_accepted (verdict_of inputs.table) ≡ false → o ≡ Refused (verdict_of inputs.table) → NotRun inputs o
-  Longer : longest_end < closed_end inputs.table (hands_in inputs) → o ≡ TooLong (closed_end inputs.table (hands_in inputs)) → NotRun inputs o
+  Longer : uneven_of inputs.table (hands_in inputs) ≡ None → is_accepted (verdict_of inputs.table) ≡ true
+      → longest_end < closed_end inputs.table (hands_in inputs) → o ≡ TooLong (closed_end inputs.table (hands_in inputs)) → NotRun inputs o
 
 abbrev accepted_if : Bool → TableVerdict → Result (Unit {0}) Outcome
 accepted_if accepted verdict = cond accepted (Ok tt) (Err (Refused verdict))
@@ -48,7 +49,7 @@ asked_ok inputs given (Some uneven) accepted long e a l h = absurd cc
 asked_err : (inputs : Inputs) (o : Outcome) (found : Option UnevenHands) (accepted long : Bool) → uneven_of inputs.table (hands_in inputs) ≡ found → is_accepted (verdict_of inputs.table) ≡ accepted → nat_lt longest_end (closed_end inputs.table (hands_in inputs)) ≡ long
     → asked inputs found accepted long ≡ Err o → NotRun inputs o
 asked_err inputs o None true false e a l h = absurd cc
-asked_err inputs o None true true e a l h = Longer (grind (arith, nat_tests, l)) (let k : TooLong (closed_end inputs.table (hands_in inputs)) ≡ o = cc in sym k)
+asked_err inputs o None true true e a l h = Longer e a (grind (arith, nat_tests, l)) (let k : TooLong (closed_end inputs.table (hands_in inputs)) ≡ o = cc in sym k)
 asked_err inputs o None false long e a l h = NotAccepted a (let k : Refused (verdict_of inputs.table) ≡ o = cc in sym k)
 asked_err inputs o (Some uneven) accepted long e a l h = Differ uneven e (let k : uneven_refusal uneven ≡ o = cc in sym k)
 
@@ -69,7 +70,7 @@ run_stop first second o h = elim (bind_err (inputs_due first second) runs o h) [
 not_run_unwritten : (inputs : Inputs) (o : Outcome) → NotRun inputs o → is_answer (kind_of o) ≡ false
 not_run_unwritten inputs o (Differ uneven why e) = ap (λ o. is_answer (kind_of o)) e
 not_run_unwritten inputs o (NotAccepted why e) = ap (λ o. is_answer (kind_of o)) e
-not_run_unwritten inputs o (Longer why e) = ap (λ o. is_answer (kind_of o)) e
+not_run_unwritten inputs o (Longer even accepted why e) = ap (λ o. is_answer (kind_of o)) e
 
 pub run_unwritten : (first second : List ℕ) (o : Outcome) → run_due first second ≡ Err o → is_answer (kind_of o) ≡ false
 run_unwritten first second o h = elim (run_stop first second o h) [ inl e ↦ inputs_unwritten first second o e | inr w ↦ not_run_unwritten w.0 o w.2 ]

@@ -3,7 +3,7 @@ use Rattle.std.specs.Prelude.{◌≡◌, ℕ, List, Result, Ok}
 use Rattle.std.proofs.Common.{refl, sym, ap, ◌∙◌, subst}
 use Rattle.bus_table.specs.Tables.{Table}
 use Rattle.bus_trace.specs.Traces.{Recording}
-use Rattle.bus_vote.specs.VoteLaws.{ListsAreFixedByTwo, RunsAreVoted}
+use Rattle.bus_vote.specs.VoteLaws.{VotedAreWritten, ListsAreFixedByTwo, RunsAreVoted}
 use Rattle.bus_vote.specs.VoteTexts.{votes_text}
 use Rattle.bus_tool.specs.declared.outcome.Outcome.{Outcome}
 use Rattle.bus_tool.specs.declared.outcome.Outcome.TheVariants.{Done}
@@ -27,8 +27,8 @@ use Rattle.bus_tool.proofs.ReceiveClaim.{TracedLaws}
 found : (traced : Traced) (due : Result Traced Outcome) (text : List ℕ) → due ≡ Ok traced → IsTextOf IsVoteText due text → text ≡ votes_text traced.table traced.trace.list
 found traced due text is h = (let same : Ok h.0 ≡ due = sym h.1 in let e : h.0 ≡ traced = cc in h.2 ∙ ap (λ t. votes_text t.table t.trace.list) e)
 
-pub vote_claim : TracedLaws → ListsAreFixedByTwo → RunsAreVoted → (call : Call) (outcome : Outcome) (table : Table) (trace : Recording) → Acts call outcome → IsVoteOf table trace call → GivesVotes table trace call (status_of outcome)
-vote_claim laws two runs call outcome table trace acts h =
+pub vote_claim : TracedLaws → VotedAreWritten → ListsAreFixedByTwo → RunsAreVoted → (call : Call) (outcome : Outcome) (table : Table) (trace : Recording) → Acts call outcome → IsVoteOf table trace call → GivesVotes table trace call (status_of outcome)
+vote_claim laws written two runs call outcome table trace acts h =
     let first = h.table_told.text in
     let second = h.trace_told.stream in
     let before = call.before.sources in
@@ -38,6 +38,7 @@ vote_claim laws two runs call outcome table trace acts h =
           (λ text is. found (with_trace table trace) (traced_due first second) text due (of_both entire Trace (λ a b. IsTextOf IsVoteText (traced_due a b) text) before first second h.table_told.told h.trace_told.told is))
           (subst (λ d. StandsFor d outcome) (ap (outcome_with (λ traced. Done)) due) (of_both entire Trace (λ a b. StandsFor (outcome_with (λ traced. Done) (traced_due a b)) outcome) before first second h.table_told.told h.trace_told.told does.due))
           does.text does.counts does.out_count h.undisturbed,
+      written trace.list,
       two trace.list,
       runs table trace.list h.table_told.valid,
     )

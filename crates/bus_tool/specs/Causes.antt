@@ -1,6 +1,6 @@
 -- The cause of each refusal, by the relation between a value and its texts and not by how they are read. Which of several comes is the
 -- order of `Due`.
-use Rattle.std.specs.Prelude.{◌≡◌, ◌≢◌, ℕ, ◌<◌, false, IsTrue, List, IfSome, Some, Ok, Err}
+use Rattle.std.specs.Prelude.{◌≡◌, ◌≢◌, ℕ, ◌<◌, false, IsTrue, List, IfSome, Some, None, Ok, Err}
 use Rattle.bus_strings.specs.Items.{Item}
 use Rattle.bus_strings.specs.Grammar.{IsMessagesText}
 use Rattle.bus_table.specs.declared.fit.FitError.{FitError}
@@ -15,7 +15,7 @@ use Rattle.bus_table.specs.Valid.{is_valid}
 use Rattle.bus_table.specs.Whole.{whole_refusal}
 use Rattle.bus_regime.specs.declared.table_verdict.TableVerdict.{TableVerdict}
 use Rattle.bus_regime.specs.Verdicts.{verdict_of, is_accepted}
-use Rattle.bus_dropout.specs.DropOut.{last_cycle, drop_end}
+use Rattle.bus_dropout.specs.DropOut.{last_cycle, drop_end, LastIsLong}
 use Rattle.bus_schedule.specs.declared.uneven.Uneven.{Uneven}
 use Rattle.bus_schedule.specs.Closed.{closed_end}
 use Rattle.bus_schedule.specs.Limits.{longest_end}
@@ -136,15 +136,18 @@ pub record IsShortLast (least ti : ℕ) (table : Table) (items : List Item) : Ty
   pub interval : ti ≡ table.ti
   pub shorter : least < ti
 
--- the end of the schedule by which a form runs the senders: of the closed one, or of the drop-out schedule
+-- the end of the schedule by which a form runs the senders: of the closed one, where their hands are even, or of the drop-out schedule of an
+-- aperiodic table, where the last cycle is no shorter than the interval
 abbrev pub IsEndOf : Form → ℕ → Table → List Hand → Type 0
-IsEndOf Run end table hands = end ≡ closed_end table hands
-IsEndOf Drop end table hands = end ≡ drop_end table hands
+IsEndOf Run end table hands = (uneven_of table hands ≡ None) × (end ≡ closed_end table hands)
+IsEndOf Drop end table hands = (table.mode ≡ Aperiodic) × LastIsLong table hands × (end ≡ drop_end table hands)
 IsEndOf form end table hands = ⊥
 
--- that end, which is above its limit
-abbrev pub IsLongEnd : Form → ℕ → Table → List Item → Type 0
-IsLongEnd form end table items = IsEndOf form end table (hands_of table items) × (longest_end < end)
+-- that end, of an accepted table, which is above its limit
+pub record IsLongEnd (form : Form) (end : ℕ) (table : Table) (items : List Item) : Type 0 where
+  pub accepted : IsTrue (is_accepted (verdict_of table))
+  pub end_is : IsEndOf form end table (hands_of table items)
+  pub above : longest_end < end
 
 -- The cause of an outcome of a form that refuses a text, or a table and items that were read. An answer has its text, and a failure of the
 -- outside its count; of want of memory nothing is known.

@@ -1,8 +1,10 @@
 -- Which outcomes a form may come to, and what they tell of the second text, also where the first source tells nothing. `SourceCounts` says
 -- beside this that an outcome that refuses a source is of one that the form names, and `Does` which one is due where both tell their bytes.
-use Rattle.std.specs.Prelude.{◌≡◌, ◌<◌, Bool, true, false, IsTrue, ℕ, List, Option, Some, None, IfSome}
+use Rattle.std.specs.Prelude.{◌≡◌, ◌≢◌, ◌<◌, Bool, true, false, IsTrue, ℕ, List, Option, Some, None, IfSome}
 use Rattle.bus_table.specs.declared.mode.Mode.{Mode}
 use Rattle.bus_table.specs.declared.mode.Mode.TheVariants.{Aperiodic, Periodic}
+use Rattle.bus_regime.specs.Verdicts.{is_accepted}
+use Rattle.bus_schedule.specs.Limits.{longest_end}
 use Rattle.bus_tool.specs.declared.forms.Form.{Form}
 use Rattle.bus_tool.specs.declared.forms.Form.TheVariants.{Check, Tidy, Report, Witness, Plan, Drill, Observe, Run, Drop, Receive, Audit}
 use Rattle.bus_tool.specs.declared.forms.Form.TheVariants.{Vote, Wave, Unwave}
@@ -72,14 +74,14 @@ pub record ReadsSecond (form : Form) (reader : Reader) (second : Option (List �
 abbrev pub IsOwn : Form → Option (List ℕ) → Outcome → Type 0
 IsOwn form second outcome.Done = Unit {0}
 IsOwn form second outcome.Answered = IsTrue (is_question form)
-IsOwn form second (outcome.Refused verdict) = IsTrue (runs_accepted form)
+IsOwn form second (outcome.Refused verdict) = IsTrue (runs_accepted form) × (is_accepted verdict ≡ false)
 IsOwn form second outcome.Usage = ⊥
 IsOwn form second (outcome.TableText line reason) = Unit {0}
 IsOwn form second (outcome.TableWhole reason) = Unit {0}
 IsOwn form second (outcome.TableMode needed) = needed_mode form ≡ Some needed
 IsOwn form second (outcome.MessagesText line reason) = ReadsSecond form entire second IsNoMessagesText
 IsOwn form second (outcome.Unfit error) = ReadsSecond form entire second (IsUnfitIn error)
-IsOwn form second (outcome.Uneven one one_count other other_count) = form ≡ Run
+IsOwn form second (outcome.Uneven one one_count other other_count) = (form ≡ Run) × (one_count ≢ other_count)
 IsOwn form second (outcome.TraceText byte reason) = ReadsSecond form Trace second IsNoTraceText
 IsOwn form second (outcome.Unspaced fault) = (form ≡ Wave) × IfSome second (IsUnspacedIn fault)
 IsOwn form second (outcome.WaveText line reason) = ReadsSecond form entire_wave second IsNoWaveIn
@@ -88,7 +90,7 @@ IsOwn form second outcome.WriteFault = Unit {0}
 IsOwn form second outcome.NoMemory = Unit {0}
 IsOwn form second (outcome.TooLarge source) = Unit {0}
 IsOwn form second (outcome.ShortLast least ti) = (form ≡ Drop) × (least < ti)
-IsOwn form second (outcome.TooLong end) = IsTrue (runs_accepted form)
+IsOwn form second (outcome.TooLong end) = IsTrue (runs_accepted form) × (longest_end < end)
 
 -- it is one of this form, whatever the second text is
 abbrev pub IsOf : Form → Outcome → Type 0

@@ -8,7 +8,7 @@ use Rattle.bus_audit.specs.declared.answer.AuditAnswer.TheVariants.{Lawful}
 use Rattle.bus_audit.specs.Breaches.{IsAnswer}
 use Rattle.bus_audit.specs.Meaning.{IsRight}
 use Rattle.bus_filter.specs.ReceivedTexts.{received_text}
-use Rattle.bus_vote.specs.VoteLaws.{IsFixedByTwo, IsVotedInRuns}
+use Rattle.bus_vote.specs.VoteLaws.{IsWrittenWhereVoted, IsFixedByTwo, IsVotedInRuns}
 use Rattle.bus_vote.specs.VoteTexts.{votes_text}
 use Rattle.bus_tool.specs.declared.status.Status.{Status}
 use Rattle.bus_tool.specs.declared.status.Status.TheVariants.{Done}
@@ -82,9 +82,10 @@ pub record IsVoteOf (table : Table) (trace : Recording) (call : Call) : Type 0 w
   pub trace_told : TellsTrace trace call.before.sources.second
   pub undisturbed : NothingFails (two_sources entire Trace) call.before call.after
 
--- The votes of the trace are written, and the status is Done. Two channels that have the same words in a round fix its vote. Where the
--- trace's list is the closed schedule of even hands of an accepted table, every round below the number of messages is voted, from the words
--- of the three hands.
+-- The votes of the trace are written, and the status is Done. Each round in which two channels have words is among them, and two that have
+-- the same words fix its vote. Where the trace's list is the closed schedule of even hands of an accepted table, every round below the
+-- number of messages is voted, from the words of the three hands.
 abbrev pub GivesVotes : Table → Recording → Call → Status → Type 0
 GivesVotes table trace call status =
-    Answers Done (λ text. text ≡ votes_text table trace.list) call status × IsFixedByTwo trace.list × IsVotedInRuns table trace.list
+    Answers Done (λ text. text ≡ votes_text table trace.list) call status
+    × IsWrittenWhereVoted trace.list × IsFixedByTwo trace.list × IsVotedInRuns table trace.list

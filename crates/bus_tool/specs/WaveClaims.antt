@@ -1,10 +1,11 @@
 -- What is claimed of `wave` and `unwave`, in the words of their texts.
-use Rattle.std.specs.Prelude.{◌≡◌, ℕ, ◌≤◌, IsTrue, List, [], ◌∷◌, length, codes, Some}
+use Rattle.std.specs.Prelude.{◌≡◌, ℕ, ◌≤◌, IsTrue, List, [], ◌∷◌, length, codes, Some, Ok}
 use Rattle.bus_table.specs.Tables.{Table, Hand}
 use Rattle.bus_regime.specs.Verdicts.{verdict_of, is_accepted}
 use Rattle.bus_schedule.specs.Closed.{closed, closed_end}
 use Rattle.bus_schedule.specs.Even.{are_even}
 use Rattle.bus_trace.specs.Traces.{Recording, trace_text}
+use Rattle.bus_wave.specs.Reading.{wave_reading}
 use Rattle.bus_wave.specs.Spacing.{IsSpaced}
 use Rattle.bus_wave.specs.WaveLaws.{HasOneText, IsWaveTrace}
 use Rattle.bus_wave.specs.Waves.{wave}
@@ -47,18 +48,21 @@ pub record IsTraceOfRun (table : Table) (hands : List Hand) (trace : Recording) 
 -- What holds of a trace and its wave:
 --   one      where it is spaced, the text that is written is its wave text, and the only one
 --   closed   it is spaced where its list is the closed schedule of a run, up to the closed end
---   read     the trace of a run is read from its wave text
+--   read     the trace of a run is one that is read from a wave text
+--   back     it is read from its own
 --   tells    another trace with the same wave that is read from its wave text is the same trace
 pub record HasAWave (table : Table) (trace : Recording) : Type 0 where
   pub one : IsSpaced table trace → HasOneText trace
   pub closed : (hands : List Hand) → IsClosedTrace table hands trace → IsSpaced table trace
   pub read : (hands : List Hand) → IsTraceOfRun table hands trace → IsWaveTrace table trace
+  pub back : (hands : List Hand) → IsTraceOfRun table hands trace → wave_reading table (wave_text trace) ≡ Ok trace
   pub tells : (other : Recording) → IsWaveTrace table trace → IsWaveTrace table other → wave trace ≡ wave other → trace ≡ other
 
--- where the trace is spaced for the table its wave text is written, and the status is Done
+-- Where the trace is spaced for the table its wave text is written, and the status is Done, which comes for no other trace.
 abbrev pub GivesWave : Table → Recording → Call → Status → Type 0
 GivesWave table trace call status =
-    (IsSpaced table trace → Answers Done (λ text. text ≡ wave_text trace) call status) × HasAWave table trace
+    (IsSpaced table trace → Answers Done (λ text. text ≡ wave_text trace) call status) × (status ≡ Done → IsSpaced table trace)
+    × HasAWave table trace
 
 -- ---- `unwave`
 -- the words are `unwave` and two more

@@ -41,4 +41,4 @@ returns-in_err-holds-clause-own c = own_stop (IsOf Drop) NoMemory c.from_residua
 pub returns-in_err-list-clause-own : goal.returns-in_err-list-clause-own
 returns-in_err-list-clause-own c =
     own_stop (IsOf Drop) (schedule_refusal c.in_err-list.field-0.0) c.from_residual-in_err-list.result c.from_residual-in_err-list.ensures.1
-    (dropped_own c.in_err-list.field-0.0)
+    (dropped_own _ c.in_err-list.field-0.0 c.in_err-list.ensures.limit.refused)

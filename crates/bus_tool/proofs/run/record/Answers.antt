@@ -38,4 +38,4 @@ returns-in_err-holds-clause-own c = own_stop (IsOf Run) NoMemory c.from_residual
 pub returns-in_err-list-clause-own : goal.returns-in_err-list-clause-own
 returns-in_err-list-clause-own c =
     own_stop (IsOf Run) (schedule_refusal c.in_err-list.field-0.0) c.from_residual-in_err-list.result c.from_residual-in_err-list.ensures.1
-    (schedule_own c.in_err-list.field-0.0)
+    (schedule_own _ c.in_err-list.field-0.0 c.in_err-list.ensures.limit.refused)

@@ -90,7 +90,7 @@ returns-clause-audit g c =
 pub returns-clause-vote : goal.returns-clause-vote
 returns-clause-vote g c =
     let laws : TracedLaws = record { table_again = c.text_reads_as_its_table.ensures; trace_back = c.traces_read_back.ensures.back } in
-    λ table trace h. rw c.status.ensures (vote_claim laws c.two_fix_the_vote.ensures.rounds c.runs_are_voted.ensures _ c.act-outcome.result table trace c.act-outcome.ensures h)
+    λ table trace h. rw c.status.ensures (vote_claim laws c.two_fix_the_vote.ensures.written c.two_fix_the_vote.ensures.rounds c.runs_are_voted.ensures _ c.act-outcome.result table trace c.act-outcome.ensures h)
 
 pub returns-clause-wave : goal.returns-clause-wave
 returns-clause-wave g c =
