@@ -1,0 +1,13 @@
+pub mod GlanceLemmas
+pub mod RangeLemmas
+pub mod LiveLemmas
+pub mod FewLemmas
+pub mod WalkLemmas
+pub mod LookLemmas
+pub mod ChangeLemmas
+pub mod ValueLemmas
+pub mod LaneLemmas
+pub mod DoubleLemmas
+pub mod BinaryLemmas
+pub mod WriteLemmas
+pub mod LawLemmas

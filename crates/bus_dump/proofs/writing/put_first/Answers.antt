@@ -1,0 +1,5 @@
+use Rattle.bus_outer.specs.TextLaws.{◌▸◌}
+use Rattle.bus_dump.proofs.writing.put_first.Goals as goal
+
+pub returns : goal.returns
+returns g c = c.put.ensures ▸ c.put_lines.ensures ▸ c.put-2.ensures

@@ -1,0 +1,7 @@
+pub mod OnBus
+pub mod Seen
+pub mod Signals
+pub mod Lanes
+pub mod Doubled
+pub mod DumpTexts
+pub mod Walks

@@ -1,0 +1,95 @@
+// What a message has on the bus at one of its bit times, and for how long.
+ghost use Rattle.std.specs.Prelude.{◌≡◌, ◌+◌, ◌*◌, ◌<◌, Some};
+ghost use Rattle.bus_strings.specs.Messages.{word_count, bits};
+ghost use Rattle.bus_dump.specs.OnBus.{label_value, word_at, string_bits};
+ghost use Rattle.bus_dump.specs.Walks.{IsGlance, glance_in, left_of};
+
+use crate::shown::Shown;
+use bus_strings::limits::{INNER_GAP, WORD_BITS};
+use bus_strings::message::Message;
+use bus_strings::wordstring::Wordstring;
+use bus_words::word::label_word;
+
+// The bit times of a word, and of the sync at its front.
+const WORD: u64 = WORD_BITS as u64;
+
+const SYNC: u64 = 3;
+
+// The quiet bit times between two wordstrings.
+const GAP: u64 = INNER_GAP as u64;
+
+/// What a message has on the bus at a bit time, None where it is quiet, and for how many bit times from there on.
+#[derive(Clone, Copy, Debug)]
+pub(crate) struct Glance {
+    pub shown: Option<Shown>,
+    pub left: u64,
+}
+
+// The value of the label word of a wordstring.
+fn label_of(string: &Wordstring) -> u16
+    ensures { result ≡ label_value string.now }
+{
+    label_word(string.label(), string.ext()).value
+}
+
+// The value of word k of a wordstring, from 0, which is its label word.
+fn word_of(string: &Wordstring, k: u64) -> u16
+    requires { k < word_count string.now }
+    ensures { result ≡ word_at string.now k }
+{
+    if k == 0 {
+        return label_of(string);
+    }
+    string.words()[k as usize - 1]
+}
+
+// How long a word stays as it is, from a bit time of it on: to the end of its sync, or to its own end.
+fn left_in_word(at: u64) -> u64
+    requires { at < WORD }
+    ensures { result ≡ left_of at }
+{
+    if at < SYNC { SYNC - at } else { WORD - at }
+}
+
+// A bit time of a wordstring.
+fn in_string(string: &Wordstring, at: u64) -> Glance
+    requires { at < string_bits string.now }
+    ensures { result ≡ glance_in string.now at }
+{
+    let bit = at % WORD;
+    let shown = Shown {
+        label: label_of(string),
+        word: word_of(string, at / WORD),
+        sync: bit < SYNC,
+    };
+    Glance {
+        shown: Some(shown),
+        left: left_in_word(bit),
+    }
+}
+
+/// A bit time of a message, counted from its first.
+pub(crate) fn glance_at(message: &Message, at: u64) -> Glance
+    requires { at < bits message.now }
+    ensures { IsGlance message.now at result }
+{
+    let mut rest = at;
+    for string in message.strings() {
+        let length = WORD * u64::from(string.word_count());
+        if rest < length {
+            return in_string(string, rest);
+        }
+        if rest < length + GAP {
+            return Glance {
+                shown: None,
+                left: length + GAP - rest,
+            };
+        }
+        rest -= length + GAP;
+    }
+    // A bit time of the message is never behind its last wordstring.
+    Glance {
+        shown: None,
+        left: 1,
+    }
+}

@@ -1,0 +1,33 @@
+//! A trace as a Value Change Dump (IEEE 1364), which wave viewers read: what each terminal does at each bit time, and what is on the bus.
+//!
+//! - [`write_dump`] writes the dump of a trace; [`Dump`] says which signals it has.
+//! - [`laws`] has what follows of the definitions.
+//! - [`doubled`] tells the first transmission that starts before an earlier one of its terminal has ended: of a list with one there is no
+//!   dump.
+//!
+//! The definitions are in `specs/`, by bit times: `OnBus` (what a message has on the bus), `Seen` (what is seen of a list at a bit
+//! time), `Signals` (the value of each signal of that), `Lanes` (the terminals that have signals), `Doubled`, and `DumpTexts` (the text).
+//! No call takes memory.
+#![tactic(auto)]
+
+mod binary;
+mod change;
+mod doubling;
+mod dump;
+mod glance;
+mod head;
+mod lanes;
+pub mod laws;
+mod live;
+mod look;
+mod shown;
+mod signal;
+#[cfg(test)]
+mod tests;
+mod value;
+mod walk;
+mod writing;
+
+pub use doubling::doubled;
+pub use dump::Dump;
+pub use writing::write_dump;

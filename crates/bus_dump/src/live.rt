@@ -1,0 +1,17 @@
+// The transmissions whose spans hold a bit time.
+
+/// One more than the greatest terminal number: no more transmissions are live at once, where none is doubled.
+pub(crate) const TERMINALS: usize = 129;
+
+/// A transmission whose span holds the present bit time.
+#[derive(Clone, Copy, Debug, Default, PartialEq, Eq)]
+pub(crate) struct Live {
+    /// Its place in the list.
+    pub at: usize,
+    /// The moment at which it has ended.
+    pub end: u64,
+    /// Which transmission of its terminal it is, from 1.
+    pub number: u64,
+    /// Whether it is garbled.
+    pub garbled: bool,
+}

@@ -1,0 +1,40 @@
+ghost use Rattle.std.specs.Prelude.{◌≡◌};
+ghost use Rattle.bus_dump.specs.Signals as signals;
+
+/// A signal of a dump. Those with a number are of the lane of that terminal.
+#[derive(Clone, Copy, Debug, Default, PartialEq, Eq)]
+pub(crate) enum Signal {
+    /// Whether there is carrier.
+    #[default]
+    Carrier,
+    /// Whether two spans meet here.
+    Overlap,
+    /// Whether a word on the bus is in its sync.
+    Sync,
+    /// The word on the bus.
+    Word,
+    /// Whether the terminal has a pulse.
+    Pulse(u8),
+    /// Whether the terminal's transmission is garbled.
+    Garbled(u8),
+    /// The label word of the wordstring that the terminal has on the bus.
+    Label(u8),
+    /// The number of the terminal's transmission.
+    Message(u8),
+}
+
+impl Signal {
+    /// Whether it has one bit.
+    pub fn is_wire(self) -> bool
+        ensures { result ≡ signals.is_wire self }
+    {
+        match self {
+            Signal::Carrier
+            | Signal::Overlap
+            | Signal::Sync
+            | Signal::Pulse(_)
+            | Signal::Garbled(_) => true,
+            Signal::Word | Signal::Label(_) | Signal::Message(_) => false,
+        }
+    }
+}

@@ -1,0 +1,159 @@
+ghost use Rattle.std.specs.Prelude.{◌≡◌, ◌&&◌};
+ghost use Rattle.std.specs.List.{list_any};
+ghost use Rattle.bus_dump.specs.Signals as signals;
+ghost use Rattle.bus_dump.specs.Walks.{with_word};
+
+use crate::shown::Seen;
+use crate::signal::Signal;
+
+/// The value of a signal.
+#[derive(Clone, Copy, Debug, PartialEq, Eq)]
+pub(crate) enum Value {
+    /// Of one bit.
+    Bit(bool),
+    /// A number.
+    Number(u64),
+    /// Nothing is there.
+    Floating,
+    /// More than one is there.
+    Unknown,
+}
+
+impl Value {
+    /// Whether it is that value too.
+    pub fn is_same(self, other: Value) -> bool
+        ensures { result ≡ signals.is_same self other }
+    {
+        match (self, other) {
+            (Value::Bit(a), Value::Bit(b)) => a == b,
+            (Value::Number(a), Value::Number(b)) => a == b,
+            (Value::Floating, Value::Floating) | (Value::Unknown, Value::Unknown) => true,
+            _ => false,
+        }
+    }
+}
+
+// Whether a transmission has a pulse.
+fn is_on(seen: &Seen) -> bool
+    ensures { result ≡ signals.is_on seen.now }
+{
+    seen.shown.is_some()
+}
+
+// Whether a transmission is of a terminal and has a pulse.
+fn is_on_lane(seen: &Seen, terminal: u8) -> bool
+    ensures { result ≡ (signals.is_of terminal seen.now && signals.is_on seen.now) }
+{
+    seen.terminal == terminal && is_on(seen)
+}
+
+// Whether a transmission has a pulse in the sync of a word.
+fn is_sync(seen: &Seen) -> bool
+    ensures { result ≡ signals.is_sync seen.now }
+{
+    match seen.shown {
+        Some(shown) => shown.sync,
+        None => false,
+    }
+}
+
+// The word on the bus with one more transmission.
+fn with_word(value: Value, seen: &Seen) -> Value
+    ensures { result ≡ with_word value seen.now }
+{
+    match (value, seen.shown) {
+        (value, None) => value,
+        (Value::Floating, Some(shown)) => Value::Number(u64::from(shown.word)),
+        (_, Some(_)) => Value::Unknown,
+    }
+}
+
+// The word on the bus.
+fn word(seen: &[Seen]) -> Value
+    ensures { result ≡ signals.word_value (signals.words seen.now) }
+{
+    let mut value = Value::Floating;
+    for one in seen {
+        value = with_word(value, one);
+    }
+    value
+}
+
+// The label word that a transmission has on the bus.
+fn shown_label(seen: &Seen) -> Value
+    ensures { result ≡ signals.shown_label seen.now }
+{
+    match seen.shown {
+        Some(shown) => Value::Number(u64::from(shown.label)),
+        None => Value::Floating,
+    }
+}
+
+// The label word that the terminal has on the bus.
+fn label(seen: &[Seen], terminal: u8) -> Value
+    ensures { result ≡ signals.label terminal seen.now }
+{
+    for one in seen {
+        if is_on_lane(one, terminal) {
+            return shown_label(one);
+        }
+    }
+    Value::Floating
+}
+
+// The number of the transmission whose span it is.
+fn message(seen: &[Seen], terminal: u8) -> Value
+    ensures { result ≡ signals.message terminal seen.now }
+{
+    for one in seen {
+        if one.terminal == terminal {
+            return Value::Number(one.number);
+        }
+    }
+    Value::Floating
+}
+
+// Whether the terminal has a pulse.
+fn pulse(seen: &[Seen], terminal: u8) -> bool
+    ensures { result ≡ list_any (λ s. signals.is_of terminal s && signals.is_on s) seen.now }
+{
+    seen.iter().any(|one| is_on_lane(one, terminal))
+}
+
+// Whether a transmission of the terminal is garbled.
+fn garbled(seen: &[Seen], terminal: u8) -> bool
+    ensures { result ≡ list_any (λ s. signals.is_of terminal s && s.garbled) seen.now }
+{
+    seen.iter()
+        .any(|one| one.terminal == terminal && one.garbled)
+}
+
+// Whether some transmission has a pulse.
+fn carrier(seen: &[Seen]) -> bool
+    ensures { result ≡ list_any signals.is_on seen.now }
+{
+    seen.iter().any(|one| is_on(one))
+}
+
+// Whether some transmission is in the sync of a word.
+fn sync(seen: &[Seen]) -> bool
+    ensures { result ≡ list_any signals.is_sync seen.now }
+{
+    seen.iter().any(|one| is_sync(one))
+}
+
+/// The value of a signal where this is seen.
+pub(crate) fn value_of(signal: Signal, seen: &[Seen]) -> Value
+    ensures { result ≡ signals.value signal seen.now }
+{
+    match signal {
+        Signal::Carrier => Value::Bit(carrier(seen)),
+        Signal::Overlap => Value::Bit(seen.len() > 1),
+        Signal::Sync => Value::Bit(sync(seen)),
+        Signal::Word => word(seen),
+        Signal::Pulse(terminal) => Value::Bit(pulse(seen, terminal)),
+        Signal::Garbled(terminal) => Value::Bit(garbled(seen, terminal)),
+        Signal::Label(terminal) => label(seen, terminal),
+        Signal::Message(terminal) => message(seen, terminal),
+    }
+}
