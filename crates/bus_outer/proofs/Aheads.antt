@@ -1,6 +1,7 @@
 -- Bytes that were read ahead, and a front of them that is taken.
-use Rattle.std.proofs.Common.{arith, zero, suc, ◌≡◌, ◌+◌, ◌-◌, ℕ, List, [], ◌∷◌, ◌++◌, take, drop, refl, sym, ap, ◌∙◌, append_assoc, Some}
-use Rattle.std.proofs.Common.{None}
+use Rattle.std.proofs.Common.{arith, zero, suc, ◌≡◌, ◌≤◌, ◌+◌, ◌-◌, ℕ, List, [], ◌∷◌, ◌++◌, length, take, drop, refl, sym, ap, ◌∙◌}
+use Rattle.std.proofs.Common.{append_assoc, take-append-drop, Some, None}
+use Rattle.std.proofs.lemmas.List.{length-take}
 use Rattle.std.specs.List.{slice_range}
 use Rattle.std.specs.declared.option.Option.{Option}
 use Rattle.std.specs.Io.KnownBytes.{prepend_known, Consumes}
@@ -41,3 +42,16 @@ pub takes_ahead : (known : Option (List ℕ)) (xs : List ℕ) (a b n : ℕ) (tak
     → Consumes (prepend_known (slice_range xs a b) known) (prepend_known (slice_range xs (a + n) b) known) taken
 takes_ahead known xs a b n taken e = consumes known (slice_range xs a b) (slice_range xs (a + n) b) taken
     (e ∙ ap (λ l. taken ++ l) (range_rest xs a b n))
+
+take_take : (n p : ℕ) (xs : List ℕ) → n ≤ p → take n (take p xs) ≡ take n xs
+take_take zero p xs h = refl
+take_take (suc n) zero xs h = absurd (omega arith)
+take_take (suc n) (suc p) [] h = refl
+take_take (suc n) (suc p) (x ∷ xs) h = ap (λ r. x ∷ r) (take_take n p xs (omega arith))
+
+-- what was taken of a piece behind the first a bytes, and what is left of all
+pub takes_piece : (p n a : ℕ) (xs : List ℕ) → n ≤ length (take p (drop a xs)) → drop a xs ≡ take n (take p (drop a xs)) ++ drop (a + n) xs
+takes_piece p n a xs h =
+    sym (take-append-drop n (drop a xs))
+    ∙ ap (λ t. t ++ drop n (drop a xs)) (sym (take_take n p (drop a xs) (omega (arith, h, length-take p (drop a xs)))))
+    ∙ ap (λ r. take n (take p (drop a xs)) ++ r) (drop_drop a n xs)

@@ -2,12 +2,13 @@
 --
 --   PullsFile remaining old new pull buf   a pull of a `FileSource`; `remaining` gives the bytes that a file has left, before which
 --                                          those come that were read ahead
+--   ConsumesFile remaining old new count   so many bytes are taken of those that were read ahead
 --   PushesOn old new push bytes            a push of an `OutSink`, by what its writer holds
-use Rattle.std.specs.Prelude.{◌≡◌, ℕ, List, String, take}
+use Rattle.std.specs.Prelude.{◌≡◌, ℕ, List, [], String, take}
 use Rattle.std.specs.declared.alloc.Global.{Global}
 use Rattle.std.specs.declared.option.Option.{Option}
 use Rattle.std.specs.Io.KnownBytes.{Appends, Consumes, Keeps, IsAtEnd}
-use Rattle.bus_outer.specs.Ahead.{left_ahead}
+use Rattle.bus_outer.specs.Ahead.{waiting, left_ahead}
 use Rattle.bus_outer.specs.declared.out_sink.OutSink.{OutSink}
 use Rattle.bus_outer.specs.declared.file_source.FileSource.{FileSource}
 use Rattle.bus_outer.specs.declared.sink.Push.{Push}
@@ -38,6 +39,21 @@ PullsFile remaining (Closed path) new pull buf = OpensFile remaining path new pu
 PullsFile remaining (Open file) (Open next) pull buf = ReadsFile (left_ahead remaining file) (left_ahead remaining next) pull buf
 PullsFile remaining (Open file) None pull buf = ⊥
 PullsFile remaining (Open file) (Closed path) pull buf = ⊥
+
+-- The bytes of a file that were read ahead.
+abbrev pub waiting_of : {F : Type 0} → NamedFile F → List ℕ
+waiting_of None = []
+waiting_of (Closed path) = []
+waiting_of (Open file) = waiting file
+
+-- Bytes that were read ahead are taken from an open file alone; any other stays as it is.
+abbrev pub ConsumesFile : {F : Type 0} → (F → Option (List ℕ)) → NamedFile F → NamedFile F → ℕ → Type 0
+ConsumesFile remaining None new count = new ≡ None
+ConsumesFile remaining (Closed path) new count = new ≡ Closed path
+ConsumesFile remaining (Open file) (Open next) count =
+    Consumes (left_ahead remaining file) (left_ahead remaining next) (take count (waiting file))
+ConsumesFile remaining (Open file) None count = ⊥
+ConsumesFile remaining (Open file) (Closed path) count = ⊥
 
 -- The file of a source, as far as it has come.
 abbrev pub file_of : {R F D : Type 0} → FileSource R F D → NamedFile F

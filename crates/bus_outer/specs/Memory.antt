@@ -1,5 +1,5 @@
 -- What the sources and the sinks in memory show.
-use Rattle.std.specs.Prelude.{◌≡◌, ℕ, List, drop}
+use Rattle.std.specs.Prelude.{◌≡◌, ℕ, List, [], drop, take}
 use Rattle.bus_outer.specs.Faults.{one_more}
 use Rattle.bus_outer.specs.declared.steady_source.SteadySource.{SteadySource}
 use Rattle.bus_outer.specs.declared.memory_source.MemorySource.{MemorySource}
@@ -14,9 +14,21 @@ steady_left s = drop s.at s.bytes.items
 abbrev pub steady_piece : SteadySource → ℕ
 steady_piece s = s.piece
 
+-- The bytes that it has at hand: the next piece.
+abbrev pub steady_lent : SteadySource → List ℕ
+steady_lent s = take (steady_piece s) (steady_left s)
+
+-- How often a pull of it has failed: never.
+abbrev pub steady_faults : SteadySource → ℕ
+steady_faults s = 0
+
 -- The bytes that a source with failures still gives.
 abbrev pub source_left : MemorySource → List ℕ
 source_left s = steady_left s.steady
+
+-- The bytes that it has at hand: none, since each pull that is listed has to fail.
+abbrev pub source_lent : MemorySource → List ℕ
+source_lent s = []
 
 -- The most that one pull of it gives.
 abbrev pub source_piece : MemorySource → ℕ

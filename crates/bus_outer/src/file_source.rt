@@ -1,9 +1,9 @@
 // A file as a source: the trusted edge, which tells no content.
-ghost use Rattle.std.specs.Prelude.{◌≡◌, ◌<◌, MatchOption, None, length};
+ghost use Rattle.std.specs.Prelude.{◌≡◌, ◌<◌, ◌≤◌, MatchOption, None, length, take};
 ghost use Rattle.bus_outer.specs.Faults.{one_more};
 ghost use Rattle.bus_outer.specs.Ahead.{left_ahead};
 ghost use Rattle.bus_outer.specs.Edge.{ReadsFile};
-ghost use Rattle.bus_outer.specs.Sources.{Pulls, StopsAtFeed, CountsPull};
+ghost use Rattle.bus_outer.specs.Sources.{Taken, Pulls, StopsAtFeed, CountsPull};
 
 use crate::read_ahead::ReadAhead;
 use crate::{Pull, Source};
@@ -52,11 +52,13 @@ impl<'a, R: Files> FileSource<'a, R> {
 }
 
 impl<'a, R: Files> Source for FileSource<'a, R> {
-    ghost use Rattle.bus_outer.specs.Edge.{file_of, file_faults, PullsFile};
+    ghost use Rattle.bus_outer.specs.Edge.{file_of, file_faults, waiting_of, PullsFile, ConsumesFile};
 
     ghost left = { λ _. None };
 
     ghost faults = { λ s. file_faults s };
+
+    ghost lent = { λ s. waiting_of (file_of s) };
 
     /// Gives what was read ahead, or else reads the file once, after opening it where it isn't open. `End`
     /// comes only with no path, or where the open file is at its end.
@@ -98,6 +100,28 @@ impl<'a, R: Files> Source for FileSource<'a, R> {
             return Pull::End;
         };
         pull_line_open(file, &mut self.faults, buf)
+    }
+
+    /// What was read ahead of an open file.
+    fn at_hand(&self) -> &[u8]
+        ensures { result.now ≡ waiting_of (file_of self.now) }
+    {
+        match &self.file {
+            NamedFile::Open(file) => file.at_hand(),
+            NamedFile::None | NamedFile::Closed(_) => &[],
+        }
+    }
+
+    /// Takes so many bytes of what was read ahead.
+    fn consume(&mut self, count: usize)
+        requires { count ≤ length (waiting_of (file_of self.old)) }
+        ensures bytes { Taken None None (take count (waiting_of (file_of self.old))) }
+        ensures counts { file_faults self.new ≡ file_faults self.old }
+        ensures file { ConsumesFile R.File.remaining (file_of self.old) (file_of self.new) count }
+    {
+        if let NamedFile::Open(file) = &mut self.file {
+            file.consume(count);
+        }
     }
 }
 

@@ -1,14 +1,14 @@
 // A source in memory, which fails at the pulls that it is told.
-ghost use Rattle.std.specs.Prelude.{◌≡◌, ◌<◌, ◌≤◌, ◌↔◌, ℕ, Contains, IsTrue, Some, length, min, true, false};
+ghost use Rattle.std.specs.Prelude.{◌≡◌, ◌<◌, ◌≤◌, ◌↔◌, ℕ, Contains, IsTrue, Some, length, min, take, true, false};
 ghost use Rattle.bus_outer.specs.Faults.{one_more, Fails};
-ghost use Rattle.bus_outer.specs.Sources.{Pulls, StopsAtFeed, CountsPull, line_length as length_of_line};
+ghost use Rattle.bus_outer.specs.Sources.{Taken, Pulls, StopsAtFeed, CountsPull, line_length as length_of_line};
 
 use crate::{Pull, Source, SteadySource};
 
 /// Bytes in memory as a source. It gives them in pieces, and fails exactly at the pulls listed.
 ///
 /// Pulls are numbered from 0, and a failed one counts as one fault; the number and the count stop at the last
-/// value of a `u64`.
+/// value of a `u64`. It has no bytes at hand, so that each is given by a pull that has a number.
 #[derive(Drop)]
 pub struct MemorySource {
     steady: SteadySource,
@@ -57,11 +57,13 @@ impl MemorySource {
 }
 
 impl Source for MemorySource {
-    ghost use Rattle.bus_outer.specs.Memory.{source_left, source_piece, pull_number, failing_pulls, source_faults, PassesPull};
+    ghost use Rattle.bus_outer.specs.Memory.{source_left, source_lent, source_piece, pull_number, failing_pulls, source_faults, PassesPull};
 
     ghost left = { λ s. Some (source_left s) };
 
     ghost faults = { λ s. source_faults s };
+
+    ghost lent = { λ s. source_lent s };
 
     /// Gives the least of a piece, the buffer and what is left, or fails where this pull is listed.
     fn pull(&mut self, buf: &mut [u8]) -> Pull
@@ -97,4 +99,19 @@ impl Source for MemorySource {
         }
         self.steady.pull_line(buf)
     }
+
+    /// None.
+    fn at_hand(&self) -> &[u8]
+        ensures { result.now ≡ source_lent self.now }
+    {
+        &[]
+    }
+
+    /// Takes nothing, since nothing is at hand.
+    fn consume(&mut self, count: usize)
+        requires { count ≤ length (source_lent self.old) }
+        ensures bytes { Taken (Some (source_left self.old)) (Some (source_left self.new)) (take count (source_lent self.old)) }
+        ensures counts { source_faults self.new ≡ source_faults self.old }
+        ensures nothing { self.new ≡ self.old }
+    {}
 }

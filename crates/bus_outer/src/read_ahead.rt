@@ -11,7 +11,7 @@ use std::io;
 use std::io::Read;
 
 // How many bytes are read ahead at most.
-const AHEAD: usize = 4096;
+const AHEAD: usize = 16384;
 
 /// A reader, and the bytes of it that were read ahead: those from `at` up to `end`.
 #[derive(Drop)]
@@ -37,6 +37,21 @@ impl<F: Read> ReadAhead<F> {
             at: 0,
             end: 0,
         }
+    }
+
+    /// The bytes that were read ahead.
+    pub(crate) fn at_hand(&self) -> &[u8]
+        ensures { result.now ≡ waiting self.now }
+    {
+        &self.bytes[self.at..self.end]
+    }
+
+    /// Takes so many of the bytes that were read ahead.
+    pub(crate) fn consume(&mut self, count: usize)
+        requires { count ≤ length (waiting self.old) }
+        ensures { Consumes (left_ahead F.remaining self.old) (left_ahead F.remaining self.new) (take count (waiting self.old)) }
+    {
+        self.at += count;
     }
 
     /// Reads some bytes into a buffer that isn't empty; none only at the end.

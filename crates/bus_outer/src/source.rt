@@ -1,7 +1,7 @@
 // What gives bytes.
-ghost use Rattle.std.specs.Prelude.{◌<◌, List, ℕ, length};
+ghost use Rattle.std.specs.Prelude.{◌≡◌, ◌<◌, ◌≤◌, List, ℕ, length, take};
 ghost use Rattle.std.specs.declared.option.Option.{Option};
-ghost use Rattle.bus_outer.specs.Sources.{Pulls, StopsAtFeed, CountsPull};
+ghost use Rattle.bus_outer.specs.Sources.{Taken, Pulls, StopsAtFeed, CountsPull};
 
 /// What a pull answers.
 #[derive(Clone, Copy, Debug, PartialEq, Eq)]
@@ -21,6 +21,9 @@ pub trait Source {
 
     /// How often the outside has failed: a count that never falls.
     ghost faults: { Self → ℕ };
+
+    /// The bytes at its front that it lends before they are taken.
+    ghost lent: { Self → List ℕ };
 
     /// Takes bytes from the front into a buffer that isn't empty.
     ///
@@ -42,4 +45,14 @@ pub trait Source {
     {
         self.pull(&mut buf[..1])
     }
+
+    /// The bytes at hand: those that are next and can be taken without a pull. Where there are none, a pull may still give some.
+    fn at_hand(&self) -> &[u8]
+        ensures { result.now ≡ lent self.now };
+
+    /// Takes so many of the bytes at hand.
+    fn consume(&mut self, count: usize)
+        requires { count ≤ length (lent self.old) }
+        ensures bytes { Taken (left self.old) (left self.new) (take count (lent self.old)) }
+        ensures counts { faults self.new ≡ faults self.old };
 }

@@ -1,6 +1,6 @@
 // A source in memory that never fails.
-ghost use Rattle.std.specs.Prelude.{◌≡◌, ◌≢◌, ◌<◌, ◌≤◌, ℕ, Some, drop, length, min, vec_len};
-ghost use Rattle.bus_outer.specs.Sources.{Pulls, StopsAtFeed, CountsPull, line_length as length_of_line};
+ghost use Rattle.std.specs.Prelude.{◌≡◌, ◌≢◌, ◌<◌, ◌≤◌, ℕ, Some, drop, length, min, take, vec_len};
+ghost use Rattle.bus_outer.specs.Sources.{Taken, Pulls, StopsAtFeed, CountsPull, line_length as length_of_line};
 
 use crate::line::copy_line;
 use crate::piece::copy_piece;
@@ -34,11 +34,13 @@ impl SteadySource {
 }
 
 impl Source for SteadySource {
-    ghost use Rattle.bus_outer.specs.Memory.{steady_left, steady_piece};
+    ghost use Rattle.bus_outer.specs.Memory.{steady_left, steady_piece, steady_lent, steady_faults};
 
     ghost left = { λ s. Some (steady_left s) };
 
-    ghost faults = { λ _. 0 };
+    ghost faults = { λ s. steady_faults s };
+
+    ghost lent = { λ s. steady_lent s };
 
     /// Gives the least of a piece, the buffer and what is left.
     fn pull(&mut self, buf: &mut [u8]) -> Pull
@@ -75,5 +77,24 @@ impl Source for SteadySource {
         let n = copy_line(&self.bytes[self.at..], self.piece, buf);
         self.at += n;
         Pull::Got(n)
+    }
+
+    /// A piece of what is left.
+    fn at_hand(&self) -> &[u8]
+        ensures { result.now ≡ steady_lent self.now }
+    {
+        let rest = &self.bytes[self.at..];
+        &rest[..self.piece.min(rest.len())]
+    }
+
+    /// Takes so many bytes of a piece of what is left.
+    fn consume(&mut self, count: usize)
+        requires { count ≤ length (steady_lent self.old) }
+        ensures bytes { Taken (Some (steady_left self.old)) (Some (steady_left self.new)) (take count (steady_lent self.old)) }
+        ensures counts { steady_faults self.new ≡ steady_faults self.old }
+        ensures left { steady_left self.new ≡ drop count (steady_left self.old) }
+        ensures piece { steady_piece self.new ≡ steady_piece self.old }
+    {
+        self.at += count;
     }
 }

@@ -27,6 +27,46 @@ fn a_source_gives_pieces_and_fails_where_listed(rt: HostRuntime) -> Result<(), F
 }
 
 #[test]
+fn a_line_is_pulled_without_what_is_behind_it(rt: HostRuntime) -> Result<(), Fail> {
+    let alloc = rt.alloc();
+    let bytes = Vec::from_slice(alloc, b"abcd\n\nef")?;
+    let mut source = MemorySource::new(bytes, 3, Vec::from_slice(alloc, &[1])?);
+    let mut buf = [0u8; 8];
+    for want in [
+        Pull::Got(3),
+        Pull::Failed,
+        Pull::Got(2),
+        Pull::Got(1),
+        Pull::Got(2),
+        Pull::End,
+    ] {
+        assert_eq!(rt; source.pull_line(&mut buf), want);
+    }
+    Ok(())
+}
+
+#[test]
+fn bytes_at_hand_are_taken_as_those_of_a_pull_are(rt: HostRuntime) -> Result<(), Fail> {
+    let alloc = rt.alloc();
+    fs::write(&rt, "lent", "abcde")?;
+    let mut file = FileSource::new(&rt, Some(String::from_str(alloc, "lent")?));
+    let mut buf = [0u8; 2];
+    // Nothing is read before the first pull.
+    assert_eq!(rt; file.at_hand(), b"".as_slice());
+    assert_eq!(rt; file.pull(&mut buf), Pull::Got(2));
+    assert_eq!(rt; file.at_hand(), b"cde".as_slice());
+    file.consume(2);
+    assert_eq!(rt; file.at_hand(), b"e".as_slice());
+    assert_eq!(rt; file.pull_line(&mut buf), Pull::Got(1));
+    assert_eq!(rt; file.pull(&mut buf), Pull::End);
+    fs::remove_file(&rt, "lent")?;
+    let mut steady = SteadySource::new(Vec::from_slice(alloc, b"abcde")?, 3);
+    steady.consume(2);
+    assert_eq!(rt; steady.at_hand(), b"cde".as_slice());
+    Ok(())
+}
+
+#[test]
 fn a_sink_takes_pieces_and_fails_where_listed_and_full(rt: HostRuntime) -> Result<(), Fail> {
     let alloc = rt.alloc();
     let mut sink = MemorySink::new(alloc, 5, 3, Vec::from_slice(alloc, &[1])?)?;

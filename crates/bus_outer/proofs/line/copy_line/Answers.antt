@@ -1,4 +1,4 @@
-use Rattle.std.proofs.Common.{arith, length, ap}
+use Rattle.std.proofs.Common.{arith}
 use Rattle.bus_outer.proofs.Lines.{stops, copied, line_is_long, line_some}
 use Rattle.bus_outer.proofs.line.copy_line.Goals as goal
 
