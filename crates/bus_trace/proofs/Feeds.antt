@@ -5,14 +5,14 @@ use Rattle.std.proofs.lemmas.Bool.Decides.{nat_tests}
 use Rattle.std.proofs.lemmas.List.{length-take, take_all}
 use Rattle.std.proofs.Math.Seq.{take-append-add}
 use Rattle.bus_trace.specs.States.{text_of}
-use Rattle.bus_trace.specs.Runs.{Standing, Progress, Going, Found, Refused, Over, ◌>>-◌, HasNoFeed, run, begin, due, due_by, stream_of}
-use Rattle.bus_trace.specs.Walking.{WalkGives, IsOneLine}
-use Rattle.bus_trace.specs.Feeding.{fed_of, ReaderIs, FeedGives}
+use Rattle.bus_trace.specs.Runs.{Standing, Progress, Going, Found, Refused, Over, ◌>>-◌, run, begin, due, due_by, stream_of}
+use Rattle.bus_trace.specs.Walking.{WalkGives, GoesOn}
+use Rattle.bus_trace.specs.Feeding.{fed_of, ReaderIs, FeedGives, LeadsOn}
 use Rattle.bus_trace.specs.declared.walk.Walked.{Walked}
 use Rattle.bus_trace.specs.declared.walk.Walked.TheVariants.{Passed, Ended, Failed}
 use Rattle.bus_trace.specs.declared.stage.Stage.{Stage}
 use Rattle.bus_trace.specs.declared.stage.Stage.TheVariants as stage
-use Rattle.bus_trace.proofs.Runs.{run-append, feedless_take}
+use Rattle.bus_trace.proofs.Runs.{run-append}
 use Rattle.bus_trace.specs.Limits.{text_limit}
 
 pub begin_is : ReaderIs stage.Open begin
@@ -68,15 +68,6 @@ take_take (x ∷ piece) (suc room) (suc used) h = ap (λ xs. x ∷ xs) (take_tak
 
 take_front : (piece front : List ℕ) (room used : ℕ) → front ≡ take room piece → used ≤ length front → take used front ≡ take used piece
 take_front piece front room used e h = ap (take used) e ∙ take_take piece room used (omega (arith, length-take room piece, ap length e, h))
-
--- a front of one line is one line
-pub one_line_front : (room : ℕ) (piece front : List ℕ) → front ≡ take room piece → IsOneLine piece → IsOneLine front
-one_line_front room piece front e h =
-    let m : ℕ = length (take room piece) - 1 in
-    let l = length-take room piece in
-    subst IsOneLine (sym e)
-    (subst HasNoFeed (take_take piece (length piece - 1) m (omega (arith, l)) ∙ sym (take_take piece room m (omega (arith, l))))
-    (feedless_take m (take (length piece - 1) piece) h))
 
 -- what the reader knows of the piece
 pub record Feeds (at : Standing) (piece front : List ℕ) : Type 0 where
@@ -149,6 +140,40 @@ pub feeds : (at : Standing) (s : Stage) (piece front : List ℕ) (room : ℕ) �
 feeds at s piece front room i e r k =
     let p : ReaderIs stage.Open at = subst (λ q. ReaderIs q at) e i in
     record { going = p.0; fits = p.1; front_is = k ∙ ap (λ n. take (text_limit - n) piece) r }
+
+-- a front of the piece is known as well
+part_feeds : (at : Standing) (piece front : List ℕ) (used : ℕ) → Feeds at piece front → used ≤ length front
+    → Feeds at (take used piece) (take used piece)
+part_feeds at piece front used f h = record {
+  going = f.going;
+  fits = f.fits;
+  front_is =
+      let l = length-take (text_limit - length (stream_of at)) piece in
+      sym (take_all (text_limit - length (stream_of at)) (take used piece) (omega (arith, length-take used piece, ap length f.front_is, l, h)));
+}
+
+no_longer : (n : ℕ) → nat_lt n n ≡ false
+no_longer n = grind (arith, nat_tests)
+
+on_the_piece : (at new : Standing) (piece front : List ℕ) (used : ℕ) → Feeds at piece front
+    → GoesOn at new front (Ok used) → WalkGives at new (take used piece) (Ok Passed) (run at (take used piece))
+on_the_piece at new piece front used f w =
+    let e = take_front piece front (text_limit - length (stream_of at)) used f.front_is w.0 in
+    (ap (run at) (sym e) ∙ w.1, w.2 ∙ ap (λ p. stream_of at ++ p) e)
+
+pub lead_gives : (at new : Standing) (piece front : List ℕ) (used : ℕ) → Feeds at piece front → GoesOn at new front (Ok used)
+    → LeadsOn (record { stage = stage.Open; at = at }) (record { stage = stage.Open; at = new }) piece (Ok used)
+lead_gives at new piece front used f w = (
+  omega (arith, w.0, ap length f.front_is, length-take (text_limit - length (stream_of at)) piece),
+  feed_gives at new (take used piece) (take used piece) Passed false (part_feeds at piece front used f w.0)
+      (no_longer (length (take used piece))) (on_the_piece at new piece front used f w),
+)
+
+pub lead_is : (at new : Standing) (piece front : List ℕ) (used : ℕ) → Feeds at piece front → GoesOn at new front (Ok used)
+    → ReaderIs stage.Open new
+lead_is at new piece front used f w =
+    feed_is at new (take used piece) (take used piece) Passed false (part_feeds at piece front used f w.0)
+    (on_the_piece at new piece front used f w)
 
 -- nothing came
 pub begin_due : due text_limit (stream_of begin) ≡ Going begin

@@ -16,12 +16,11 @@ use Rattle.bus_trace.specs.Limits.{line_limit, text_limit}
 use Rattle.bus_trace.specs.Traces.{Recording}
 use Rattle.bus_trace.specs.States.{State, text_of}
 use Rattle.bus_trace.specs.Runs.{Standing, Progress, Going, Found, Refused, Over, HasNoFeed, begin, run, ◌>>-◌, due, stream_of}
-use Rattle.bus_trace.specs.Walking.{IsOneLine}
-use Rattle.bus_trace.specs.Feeding.{Reader, FeedGives, FinishGives}
+use Rattle.bus_trace.specs.Feeding.{Reader, FeedGives, LeadsOn, FinishGives}
 use Rattle.bus_trace.specs.Reading.{Decides}
 use Rattle.bus_trace.specs.Looping.{ByLine, ByEnd, Loops}
 use Rattle.bus_trace.proofs.Runs.{run-append, run-line, feedless_take}
-use Rattle.bus_trace.proofs.Feeds.{begin_due, due_within, goes_on, take_take}
+use Rattle.bus_trace.proofs.Feeds.{begin_due, due_within, goes_on}
 
 pub pulled : (start mid new : Option (List ℕ)) (stream buf : List ℕ) (n : ℕ) → Taken start mid stream → Taken mid new (take n buf)
     → Taken start new (stream ++ take n buf)
@@ -55,14 +54,13 @@ pulled_is at n room buf some within long line text f =
       text = omega (arith, l, some, within, long, text);
     }
 
--- bytes that were pulled into the front of a buffer are one line
-pub one_line_pulled : (n : ℕ) (buf rest : List ℕ) → 1 ≤ n → n ≤ length buf → AllByRecursion (λ b. (b == 10) ≡ false) (take (n - 1) buf)
-    → IsOneLine (take n (buf ++ rest))
-one_line_pulled n buf rest some within f =
-    let one : IsOneLine (take n buf) =
-    subst (λ k. HasNoFeed (take (k - 1) (take n buf))) (sym (length-take n buf ∙ omega (arith, within)))
-    (subst HasNoFeed (sym (take_take buf n (n - 1) (omega arith))) f) in
-    subst IsOneLine (sym (take-append-le n buf rest within)) one
+-- lines at hand were taken, and decide nothing
+pub led : (start mid new : Option (List ℕ)) (old r : Reader) (piece lent : List ℕ) (used : ℕ) → Taken start mid (stream_of old.at)
+    → LeadsOn old r piece (Ok used) → piece ≡ lent → Taken mid new (take used lent)
+    → (r.stage ≡ stage.Open) × (due text_limit (stream_of r.at) ≡ Going r.at) × Taken start new (stream_of r.at)
+led start mid new old r piece lent used t l e k =
+    let came = taken_on start mid new (stream_of old.at) (take used piece) t (subst (λ p. Taken mid new (take used p)) (sym e) k) in
+    (l.1.0, ap (due text_limit) l.1.2 ∙ l.1.1, subst (λ bs. Taken start new bs) (sym l.1.2) came)
 
 pub short_slice : (room : ℕ) (xs ys : List ℕ) → length ys ≡ length (take room xs) → length ys ≤ room
 short_slice room xs ys h = omega (arith, h, length-take room xs)

@@ -9,7 +9,8 @@ use Rattle.bus_trace.specs.declared.walk.Judged.TheVariants.{Passes, Ends, Fails
 use Rattle.bus_trace.specs.declared.walk.Walked.TheVariants.{Ended}
 use Rattle.bus_trace.specs.States.{State, IsSound, start, step, text_of, is_ended}
 use Rattle.bus_trace.specs.Runs.{Standing, Progress, Going, Found, Refused, judged, ◌>>-◌, run, stream_of, HasNoFeed}
-use Rattle.bus_trace.specs.Walking.{WalkIs, KeepGives, JudgedGives, WalkGives}
+use Rattle.bus_trace.specs.Quick.{TakesQuickly}
+use Rattle.bus_trace.specs.Walking.{WalkIs, KeepGives, JudgedGives, WalkGives, QuickGives, GoesOn}
 use Rattle.std.proofs.Math.Seq.{take-append_seam}
 use Rattle.bus_trace.proofs.Steps.{step_adds, step_sound}
 use Rattle.bus_trace.proofs.Runs.{run-append, run-line, run-long, run-feed, run-whole_line}
@@ -207,3 +208,42 @@ walks_room old now piece rest f behind w e =
       ap length w.text,
       length-append (stream_of old) w.front,
     )
+
+-- what has come is a front of the piece that decides nothing
+pub walks_part : (old now : Standing) (piece rest : List ℕ) (used : ℕ) → WalksTo old now piece rest → used + length rest ≡ length piece
+    → GoesOn old now piece (Ok used)
+walks_part old now piece rest used w u =
+    let len : used ≡ length w.front = omega (arith, u, ap length w.parts, length-append w.front rest) in
+    let front_is : take used piece ≡ w.front = ap (λ n. take n piece) len ∙ ap (take (length w.front)) w.parts
+    ∙ take-append_seam w.front rest in
+    (omega (arith, u), ap (run old) front_is ∙ w.going, w.text ∙ ap (λ x. stream_of old ++ x) (sym front_is))
+
+-- a line that was taken as it is written
+pub quick_gives : (s n : State) (line kept : List ℕ) → IsSound s → kept ≡ [] → HasNoFeed line → length line ≤ line_limit
+    → step s line ≡ Ok n → is_ended n.position ≡ false
+    → QuickGives (record { state = s; line = kept }) (record { state = n; line = kept }) line (Ok true)
+quick_gives s n line kept sound e f short h goes =
+    let old : Standing = record { state = s; line = kept } in
+    let new : Standing = record { state = n; line = kept } in
+    let j : JudgedGives old new (line ++ 10 ∷ []) (Ok Passes) (run old (line ++ 10 ∷ [])) =
+    front_closes old new line (Ok Passes) e f short
+    (front_gives s new line kept (Ok Passes) (judged s (step s line)) e (judge_gives s n line kept false sound h (sym goes) e)) in
+    (j.0, j.1, e)
+
+pub quickly_taken : (s n : State) (line : List ℕ) (taken : Bool) → taken ≡ true → TakesQuickly s n line taken
+    → (step s line ≡ Ok n) × (is_ended n.position ≡ false)
+quickly_taken s n line true e t = t
+quickly_taken s n line false e t = absurd cc
+
+pub took_quickly : (old new : Standing) (line : List ℕ) (taken : Bool) → taken ≡ true → QuickGives old new line (Ok taken)
+    → QuickGives old new line (Ok true)
+took_quickly old new line true e q = q
+took_quickly old new line false e q = absurd cc
+
+pub took_nothing : (old new : Standing) (line : List ℕ) (taken : Bool) → taken ≡ false → QuickGives old new line (Ok taken) → new ≡ old
+took_nothing old new line true e q = absurd cc
+took_nothing old new line false e q = q
+
+pub walks_nowhere : (old : Standing) (piece : List ℕ) → GoesOn old old piece (Ok 0)
+unfolding run
+walks_nowhere old piece = (omega arith, refl, sym (append-nil (stream_of old)))

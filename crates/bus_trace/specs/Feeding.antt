@@ -48,6 +48,11 @@ FeedGives old new piece (Ok fed.TooLarge) =
     (new.stage ≡ stage.Shut) × (due text_limit (stream_of old.at ++ piece) ≡ Over)
 FeedGives old new piece (Err e) = (new.stage ≡ stage.Shut) × (length (stream_of old.at) < text_limit)
 
+-- So many bytes of a piece were taken, and more may come.
+abbrev pub LeadsOn : Reader → Reader → List ℕ → Result ℕ AllocError → Type 0
+LeadsOn old new piece (Ok used) = (used ≤ length piece) × FeedGives old new (take used piece) (Ok fed.More)
+LeadsOn old new piece (Err e) = Unit {0}
+
 -- What the end of a stream gives.
 abbrev pub FinishGives : Reader → Result Recording TraceError → Type 0
 FinishGives old (Ok trace) = (old.stage ≡ stage.Whole) × (trace ≡ recorded old.at.state)

@@ -5,7 +5,7 @@ use Rattle.bus_strings.specs.Messages.{Wordstring}
 use Rattle.bus_trace.specs.declared.keyword.Keyword.TheVariants as keyword
 use Rattle.bus_trace.specs.declared.position.Position.TheVariants.{Stringing}
 use Rattle.bus_trace.specs.States.{State, step, may_follow, last_count, last_end, is_after, is_hit, is_final, is_refuted, starts_wrong}
-use Rattle.bus_trace.specs.States.{more_list}
+use Rattle.bus_trace.specs.States.{more_list, is_ended}
 use Rattle.bus_trace.specs.Writing.{data_put}
 
 -- The state once the wordstring of a WS line has come.
@@ -34,9 +34,9 @@ pub record ClosesRight (s : State) (end : ℕ) (mark : Bool) : Type 0 where
   pub ends : end ≡ last_end s.list
   pub fine : starts_wrong mark (is_hit s.list) (is_final s.horizon s.list) ≡ false
 
--- The line was taken, and the step says so; or nothing has changed.
+-- The line was taken, and the step says so, which doesn't end the text; or nothing has changed.
 abbrev pub TakesQuickly : State → State → List ℕ → Bool → Type 0
-TakesQuickly old new line true = step old line ≡ Ok new
+TakesQuickly old new line true = (step old line ≡ Ok new) × (is_ended new.position ≡ false)
 TakesQuickly old new line false = new ≡ old
 
 -- The wordstring has this label and extension, and the text is that of its data words, each behind a space.

@@ -1,25 +1,14 @@
 -- What the calls of a walk and of a reader give.
-use Rattle.std.specs.Prelude.{◌≡◌, ◌-◌, ◌≤◌, ◌<◌, ℕ, Bool, true, false, List, [], ◌++◌, length, take, Result, Ok, Err}
+use Rattle.std.specs.Prelude.{◌≡◌, ◌≤◌, ◌<◌, ℕ, Bool, true, false, List, [], ◌∷◌, ◌++◌, length, take, Result, Ok, Err}
 use Rattle.std.specs.declared.alloc.AllocError.{AllocError}
 use Rattle.bus_trace.specs.Limits.{line_limit}
 use Rattle.bus_trace.specs.States.{State, IsSound, text_of}
-use Rattle.bus_trace.specs.Runs.{Standing, Progress, Going, Found, Refused, HasNoFeed, run, stream_of}
+use Rattle.bus_trace.specs.Runs.{Standing, Progress, Going, Found, Refused, run, stream_of}
 use Rattle.bus_trace.specs.declared.walk.Judged.{Judged}
 use Rattle.bus_trace.specs.declared.walk.Judged.TheVariants.{Passes, Ends, Fails}
 use Rattle.bus_trace.specs.declared.walk.Walked.{Walked}
 use Rattle.bus_trace.specs.declared.walk.Walked.TheVariants.{Passed, Ended, Failed}
 use Rattle.bus_trace.specs.declared.reason.TraceReason.TheVariants.{Long}
-
--- ---- bytes that a walk takes
--- None of the bytes but the last is a line feed.
-abbrev pub IsOneLine : List ℕ → Type 0
-IsOneLine bytes = HasNoFeed (take (length bytes - 1) bytes)
-
--- What a piece of so many bytes gives whose only line gave this.
-abbrev pub walked_of : Judged → ℕ → Walked
-walked_of Passes used = Passed
-walked_of Ends used = Ended used
-walked_of (Fails byte reason) used = Failed byte reason
 
 -- What a call gave on bytes of one line: they are kept, or they pass the room of a line.
 abbrev pub KeepGives : Standing → Standing → List ℕ → Result Bool AllocError → Type 0
@@ -33,6 +22,19 @@ JudgedGives old new bytes (Ok Passes) p = (p ≡ Going new) × (stream_of new �
 JudgedGives old new bytes (Ok Ends) p = (p ≡ Found new.state) × (stream_of new ≡ stream_of old ++ bytes) × (new.line ≡ [])
 JudgedGives old new bytes (Ok (Fails byte reason)) p = p ≡ Refused byte reason
 JudgedGives old new bytes (Err e) p = Unit {0}
+
+-- What a call gave on a line that may be recognized as it is written: it was taken, or nothing was.
+abbrev pub QuickGives : Standing → Standing → List ℕ → Result Bool AllocError → Type 0
+QuickGives old new line (Ok true) =
+    (run old (line ++ 10 ∷ []) ≡ Going new) × (stream_of new ≡ stream_of old ++ (line ++ 10 ∷ [])) × (new.line ≡ [])
+QuickGives old new line (Ok false) = new ≡ old
+QuickGives old new line (Err e) = Unit {0}
+
+-- So many bytes of a piece were taken, and decide nothing.
+abbrev pub GoesOn : Standing → Standing → List ℕ → Result ℕ AllocError → Type 0
+GoesOn old new piece (Ok used) =
+    (used ≤ length piece) × (run old (take used piece) ≡ Going new) × (stream_of new ≡ stream_of old ++ take used piece)
+GoesOn old new piece (Err e) = Unit {0}
 
 -- What a call gave on a piece; behind an END line the rest of the piece isn't looked at.
 abbrev pub WalkGives : Standing → Standing → List ℕ → Result Walked AllocError → Progress → Type 0

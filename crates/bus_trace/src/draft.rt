@@ -411,8 +411,8 @@ impl Draft {
         true
     }
 
-    // Takes a line of a transmission that is spelled as it is written, where all of it is right.
-    fn take_quickly(&mut self, alloc: Global, line: &[u8]) -> Result<bool, AllocError>
+    /// Takes a line of a transmission that is spelled as it is written, where all of it is right.
+    pub(crate) fn take_quickly(&mut self, alloc: Global, line: &[u8]) -> Result<bool, AllocError>
         requires sound { IsSound self.old }
         requires short { length line.now ≤ line_limit }
         ensures ok { IfOk result (λ taken. TakesQuickly self.old self.new line.now taken) }

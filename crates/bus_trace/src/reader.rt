@@ -1,8 +1,7 @@
 ghost use Rattle.std.specs.Prelude.{◌≡◌, ◌≢◌, ◌≤◌, ◌-◌, ◌+◌, ◌<◌, ◌++◌, ◌↔◌, [], length, take, IfOk, IsTrue, OnErr};
 ghost use Rattle.bus_trace.specs.Limits.{line_limit, text_limit};
 ghost use Rattle.bus_trace.specs.Runs.{begin, stream_of};
-ghost use Rattle.bus_trace.specs.Walking.{IsOneLine};
-ghost use Rattle.bus_trace.specs.Feeding.{fed_of, ReaderIs, FeedGives, FinishGives};
+ghost use Rattle.bus_trace.specs.Feeding.{fed_of, ReaderIs, FeedGives, LeadsOn, FinishGives};
 ghost use Rattle.bus_trace.specs.Pieces.{stream, IsOpen, IsShut, IsPending, IsDue, Stands, Finishes};
 ghost use Rattle.bus_trace.specs.declared.stage.Stage.TheVariants.{Open, Shut};
 
@@ -166,19 +165,17 @@ impl TraceReader {
         Ok(answer)
     }
 
-    // Takes the next piece of the stream, of which it is known that no byte but the last is a line feed.
-    pub(crate) fn take_line(&mut self, piece: &[u8]) -> Result<Fed, AllocError>
-        requires open { self.old.stage ≡ Open }
-        requires one { IsOneLine piece.now }
-        ensures { FeedGives self.old self.new piece.now result }
+    /// Takes the whole lines in front of a piece that are recognized as they are written, and says how many bytes these have.
+    pub(crate) fn take_quickly(&mut self, piece: &[u8]) -> Result<usize, AllocError>
+        requires { self.old.stage ≡ Open }
+        ensures { LeadsOn self.old self.new piece.now result }
     {
         self.stage = Stage::Shut;
         let used = self.walk.length();
         let front = within(piece, TEXT_LIMIT - used);
-        let walked = self.walk.walk_line(self.alloc, front)?;
-        let (stage, answer) = fed(walked, front.len() < piece.len());
-        self.stage = stage;
-        Ok(answer)
+        let count = self.walk.walk_quickly(self.alloc, front)?;
+        self.stage = Stage::Open;
+        Ok(count)
     }
 
     // Ends the stream.

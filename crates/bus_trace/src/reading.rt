@@ -41,7 +41,8 @@ pub fn read_trace<S: Source>(alloc: Global, source: &mut S) -> Result<Trace, Tra
     read_text(alloc, source)
 }
 
-// The loop: a line or a part of one, of which no byte is behind the one that decides, and what the reader says of it.
+// The loop: the lines at hand, as far as they are as they are written; then the next line or a part of it, of which no byte is behind the
+// one that decides, and what the reader says of it.
 fn read_text<S: Source>(alloc: Global, source: &mut S) -> Result<Trace, TraceError>
     ensures loops { Loops (S.left source.old) (S.left source.new) result }
     ensures counts { CountsReading (S.faults source.old) (S.faults source.new) result }
@@ -49,9 +50,11 @@ fn read_text<S: Source>(alloc: Global, source: &mut S) -> Result<Trace, TraceErr
     let mut reader = TraceReader::at_start(alloc)?;
     let mut buf = [0u8; ROOM];
     'lines: loop {
+        let count = reader.take_quickly(source.at_hand())?;
+        source.consume(count);
         let room = reader.room();
         match source.pull_line(&mut buf[..room]) {
-            Pull::Got(n) => match reader.take_line(&buf[..n])? {
+            Pull::Got(n) => match reader.take(&buf[..n])? {
                 Fed::More => {}
                 Fed::Whole { .. } => return reader.end(),
                 Fed::Refused { byte, reason } => return Err(TraceError::Text { byte, reason }),

@@ -2,7 +2,7 @@ ghost use Rattle.std.specs.Prelude.{◌≡◌, ◌<◌, ◌≤◌, if◌then◌e
 ghost use Rattle.bus_trace.specs.Limits.{line_limit};
 ghost use Rattle.bus_trace.specs.States.{step, text_of, recorded};
 ghost use Rattle.bus_trace.specs.Runs.{HasNoFeed, judged, run, begin, stream_of};
-ghost use Rattle.bus_trace.specs.Walking.{IsOneLine, KeepGives, JudgedGives, WalkGives, walked_of};
+ghost use Rattle.bus_trace.specs.Walking.{KeepGives, JudgedGives, QuickGives, WalkGives, GoesOn};
 
 use crate::draft::Draft;
 use crate::fault::LineFault;
@@ -42,17 +42,6 @@ fn passes(ended: bool) -> Judged
     ensures { result ≡ (if ended then Judged.Ends else Judged.Passes) }
 {
     if ended { Judged::Ends } else { Judged::Passes }
-}
-
-/// What a piece of so many bytes gives whose only line gave this.
-fn walked_by(judged: Judged, used: usize) -> Walked
-    ensures { result ≡ walked_of judged used }
-{
-    match judged {
-        Judged::Passes => Walked::Passed,
-        Judged::Ends => Walked::Ended { used },
-        Judged::Fails { byte, reason } => Walked::Failed { byte, reason },
-    }
 }
 
 /// What whole lines gave, and the bytes behind the last line feed.
@@ -182,17 +171,37 @@ impl Walk {
         self.judge(alloc)
     }
 
-    /// Takes the next piece of the stream, of which it is known that no byte but the last is a line feed.
-    pub(crate) fn walk_line(&mut self, alloc: Global, piece: &[u8]) -> Result<Walked, AllocError>
-        requires room { length (stream_of self.old) + length piece.now < 2 ^ 63 }
-        requires one { IsOneLine piece.now }
-        ensures { WalkGives self.old self.new piece.now result (run self.old piece.now) }
+    // Takes a whole line that is recognized as it is written, where none is begun.
+    fn take_quickly(&mut self, alloc: Global, line: &[u8]) -> Result<bool, AllocError>
+        requires room { length (stream_of self.old) + length line.now < 2 ^ 63 }
+        requires empty { self.old.line ≡ [] }
+        requires one { HasNoFeed line.now }
+        ensures { QuickGives self.old self.new line.now result }
     {
-        let [front @ .., b'\n'] = piece else {
-            return self.walk(alloc, piece);
-        };
-        let judged = self.close(alloc, front)?;
-        Ok(walked_by(judged, piece.len()))
+        if line.len() > LINE_LIMIT || !self.draft.take_quickly(alloc, line)? {
+            return Ok(false);
+        }
+        self.used += line.len() as u64 + 1;
+        Ok(true)
+    }
+
+    /// Takes the whole lines in front of a piece that are recognized as they are written, where no line is begun, and says how many bytes
+    /// these have: they decide nothing.
+    pub(crate) fn walk_quickly(&mut self, alloc: Global, piece: &[u8]) -> Result<usize, AllocError>
+        requires { length (stream_of self.old) + length piece.now < 2 ^ 63 }
+        ensures { GoesOn self.old self.new piece.now result }
+    {
+        if !self.pending().is_empty() {
+            return Ok(0);
+        }
+        let mut rest = piece;
+        while let Some((line, behind)) = first_line(rest) {
+            if !self.take_quickly(alloc, line)? {
+                break;
+            }
+            rest = behind;
+        }
+        Ok(piece.len() - rest.len())
     }
 
     /// Takes the next piece of the stream.
