@@ -27,7 +27,8 @@ impl Model for Sender {
 
     ghost view = { λ s. record { number = s.number; tg = s.tg; at = s.at; sends = s.sends.items; takes = s.takes.items } };
 
-    ghost invariant = { λ s. IsTrue (is_sender (record { number = s.number; tg = s.tg; at = s.at; sends = s.sends.items; takes = s.takes.items })) };
+    ghost invariant = { λ s.
+        IsTrue (is_sender (record { number = s.number; tg = s.tg; at = s.at; sends = s.sends.items; takes = s.takes.items })) };
 }
 
 impl Sender {

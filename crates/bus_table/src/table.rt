@@ -66,7 +66,8 @@ impl Model for Table {
 
     ghost view = { λ t. record { mode = t.mode; ti = t.ti; sg = t.sg; senders = t.senders.items; listeners = t.listeners.items } };
 
-    ghost invariant = { λ t. IsTrue (is_valid (record { mode = t.mode; ti = t.ti; sg = t.sg; senders = t.senders.items; listeners = t.listeners.items })) };
+    ghost invariant = { λ t.
+        IsTrue (is_valid (record { mode = t.mode; ti = t.ti; sg = t.sg; senders = t.senders.items; listeners = t.listeners.items })) };
 }
 
 impl Table {

@@ -136,8 +136,8 @@ pub record IsShortLast (least ti : ℕ) (table : Table) (items : List Item) : Ty
   pub interval : ti ≡ table.ti
   pub shorter : least < ti
 
--- the end of the schedule by which a form runs the senders: of the closed one, where their hands are even, or of the drop-out schedule of an
--- aperiodic table, where the last cycle is no shorter than the interval
+-- the end of the schedule by which a form runs the senders: of the closed one, where their hands are even, or of the drop-out schedule of
+-- an aperiodic table, where the last cycle is no shorter than the interval
 abbrev pub IsEndOf : Form → ℕ → Table → List Hand → Type 0
 IsEndOf Run end table hands = (uneven_of table hands ≡ None) × (end ≡ closed_end table hands)
 IsEndOf Drop end table hands = (table.mode ≡ Aperiodic) × LastIsLong table hands × (end ≡ drop_end table hands)

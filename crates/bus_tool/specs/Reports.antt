@@ -12,7 +12,8 @@ use Rattle.bus_regime.specs.Verdicts.{verdict_of}
 abbrev pub sender_text : Sender → List ℕ
 sender_text sender =
     codes "{\"at\":" ++ decimal sender.at ++ codes ",\"longest\":" ++ decimal (longest sender)
-    ++ codes ",\"number\":" ++ decimal sender.number ++ codes ",\"shortest\":" ++ decimal (shortest sender) ++ codes ",\"tg\":" ++ decimal sender.tg ++ codes "}"
+    ++ codes ",\"number\":" ++ decimal sender.number ++ codes ",\"shortest\":" ++ decimal (shortest sender)
+    ++ codes ",\"tg\":" ++ decimal sender.tg ++ codes "}"
 
 -- senders, a comma between two
 abbrev pub senders_text : List Sender → List ℕ

@@ -98,11 +98,13 @@ report =
 -- ---- the rows
 -- a row of `check`, which has one line on standard output
 abbrev pub checked : List ℕ → List ℕ → ℕ → Row
-checked table line status = record { words = codes "check" ∷ codes "T" ∷ []; first = table; second = []; out = line; err = []; status = status }
+checked table line status =
+    record { words = codes "check" ∷ codes "T" ∷ []; first = table; second = []; out = line; err = []; status = status }
 
 -- a row of `run` of the receivers
 abbrev pub ran : List ℕ → List ℕ → Row
-ran messages text = record { words = codes "run" ∷ codes "T" ∷ codes "M" ∷ []; first = receivers; second = messages; out = text; err = []; status = 0 }
+ran messages text =
+    record { words = codes "run" ∷ codes "T" ∷ codes "M" ∷ []; first = receivers; second = messages; out = text; err = []; status = 0 }
 
 -- a table that is wrong as a whole
 abbrev pub wrong : Row

@@ -46,7 +46,8 @@ fn kind_of(letter: u8) -> Option<Kind>
 
 /// The number that four hexadecimal digits in capitals write.
 fn four_digit_value(a: u8, b: u8, c: u8, d: u8) -> Option<u16>
-    ensures { let digits = a ∷ b ∷ c ∷ d ∷ [] in result ≡ (if list_all is_capital_digit digits then Some (hexadecimal_value digits) else None) }
+    ensures { let digits = a ∷ b ∷ c ∷ d ∷ [] in
+        result ≡ (if list_all is_capital_digit digits then Some (hexadecimal_value digits) else None) }
 {
     let upper = 16 * capital_digit(a)? + capital_digit(b)?;
     let lower = 16 * capital_digit(c)? + capital_digit(d)?;
