@@ -13,7 +13,8 @@ use Rattle.bus_table.specs.Text.{IsTableText}
 use Rattle.bus_table.specs.Valid.{is_valid, is_in_range}
 use Rattle.bus_table.specs.Whole.{whole_refusal}
 use Rattle.bus_table.specs.Reading.{text_reading, unless_whole, answered, answer_of}
-use Rattle.bus_table.proofs.TextLemmas.{text_again, text_found}
+use Rattle.bus_table.proofs.TextLemmas.{text_found}
+use Rattle.bus_table.proofs.AgainLemmas.{text_again}
 
 none_is : {A : Type 0} (a : Option A) → is_none a ≡ true → a ≡ None
 none_is None h = refl

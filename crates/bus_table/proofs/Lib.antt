@@ -5,6 +5,7 @@ pub mod WholeLemmas
 pub mod LineLemmas
 pub mod ReadingLemmas
 pub mod TextLemmas
+pub mod AgainLemmas
 pub mod StepLemmas
 pub mod AnswerLemmas
 pub mod RankLemmas

@@ -117,7 +117,7 @@ last_lines f change line P go (x ∷ y ∷ xs) h =
     ap (λ ls. f x ++ ls) (last_lines f change line P go (y ∷ xs) h) ∙ sym (append_assoc (f x) (flat_map f (y ∷ xs)) (line ∷ []))
 
 -- ---- terminals
-both : (a b : Bool) → a ≡ true → b ≡ true → (a && b) ≡ true
+pub both : (a b : Bool) → a ≡ true → b ≡ true → (a && b) ≡ true
 both true true h k = refl
 both false b h k = absurd cc
 both true false h k = absurd cc

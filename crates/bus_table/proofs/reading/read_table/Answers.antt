@@ -2,7 +2,8 @@ use Rattle.std.proofs.Common.{subst, ap}
 use Rattle.bus_table.specs.Gives.{Answers}
 use Rattle.bus_table.specs.Reading.{answered}
 use Rattle.bus_table.proofs.AnswerLemmas.{refused_answer}
-use Rattle.bus_table.proofs.TextLemmas.{answer_found, text_again}
+use Rattle.bus_table.proofs.TextLemmas.{answer_found}
+use Rattle.bus_table.proofs.AgainLemmas.{text_again}
 use Rattle.bus_table.proofs.reading.read_table.Goals as goal
 
 pub returns-clause-found : goal.returns-clause-found
