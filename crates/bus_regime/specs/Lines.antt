@@ -1,4 +1,4 @@
--- The line of a verdict.
+-- The words of a verdict, and its line.
 use Rattle.std.specs.Prelude.{ℕ, List, [], ◌∷◌, ◌++◌, codes}
 use Rattle.std.specs.Fmt.{decimal, signed_decimal}
 use Rattle.bus_table.specs.declared.mode.Mode.{Mode}

@@ -1,10 +1,10 @@
 //! The regime of a table: the verdict on whether its senders can keep their turns.
 //!
-//! [`verdict`] gives it, by the lengths of cycles in aperiodic mode and by the gaps between messages in periodic mode, and
-//! [`write_verdict`] writes the answer as a line. `specs/Verdicts.antt` says what the verdict on a table is, `specs/Gaps.antt`
-//! what the gaps of a periodic table are, and `specs/VerdictLaws.antt` has what callers may use of it: a periodic table is
-//! accepted exactly where each of its gaps is fine (`specs/Fine.antt`). [`turn`] gives the senders in turn order, and
-//! [`witness`] the messages with which a refused table fails (`specs/Witness.antt`).
+//! [`verdict`] gives it, by the lengths of cycles in aperiodic mode and by the gaps between messages in periodic mode,
+//! [`put_verdict`] puts its words into a text, and [`write_verdict`] writes them as a line. `specs/Verdicts.antt` says what the
+//! verdict on a table is, `specs/Gaps.antt` what the gaps of a periodic table are, and `specs/VerdictLaws.antt` has what callers
+//! may use of it: a periodic table is accepted exactly where each of its gaps is fine (`specs/Fine.antt`). [`turn`] gives the
+//! senders in turn order, and [`witness`] the messages with which a refused table fails (`specs/Witness.antt`).
 #![tactic(auto)]
 
 mod gaps;
@@ -18,6 +18,6 @@ pub mod witnessing;
 
 pub use gaps::turn;
 pub use judging::verdict;
-pub use line::write_verdict;
+pub use line::{put_verdict, write_verdict};
 pub use table_verdict::TableVerdict;
 pub use witnessing::witness;

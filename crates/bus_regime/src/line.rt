@@ -71,8 +71,9 @@ fn put_no_sync<K: Sink>(text: &mut TextBuffer, sink: &mut K, terminal: u8, gap: 
     text.put_number(sink, needed);
 }
 
-/// Puts what a verdict is called, and its numbers.
-fn put_words<K: Sink>(text: &mut TextBuffer, sink: &mut K, verdict: &TableVerdict)
+/// Puts the words of a verdict, which are its line without the line feed: what it is called, and its numbers. It takes no memory. After a
+/// failed write the text takes no more of them, as with every put of a `TextBuffer`.
+pub fn put_verdict<K: Sink>(text: &mut TextBuffer, sink: &mut K, verdict: &TableVerdict)
     ensures { Adds K.held K.faults sink.old sink.new text.old text.new (verdict_words verdict.now) }
 {
     match *verdict {
@@ -97,7 +98,7 @@ pub fn write_verdict<K: Sink>(verdict: &TableVerdict, sink: &mut K) -> Result<()
     ensures { WritesText K.held K.faults sink.old sink.new result (verdict_line verdict.now) }
 {
     let mut text = TextBuffer::new();
-    put_words(&mut text, sink, verdict);
+    put_verdict(&mut text, sink, verdict);
     text.put_byte(sink, b'\n');
     text.finish(sink)
 }
