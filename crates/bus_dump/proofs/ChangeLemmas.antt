@@ -4,79 +4,79 @@ use Rattle.std.proofs.Common.{arith, sym, refl, ap, ◌∙◌}
 use Rattle.std.specs.List.{filter, flat_map, list_any, range_with_len}
 use Rattle.std.proofs.lemmas.Bool.{eq-eqb}
 use Rattle.std.proofs.lemmas.List.Concat.{flat_map-append}
-use Rattle.bus_strings.specs.Messages.{Entry}
 use Rattle.bus_dump.specs.DumpTexts.{changes, changes_text, changes_at, changes_to, some_changes, value_line}
-use Rattle.bus_dump.specs.Seen.{Seen, seen_at}
+use Rattle.bus_dump.specs.Scenes.{Scene}
 use Rattle.bus_dump.specs.Signals.{Signal, Value, Bit, Number, Floating, Unknown, value, is_same}
-use Rattle.bus_dump.specs.Walks.{SteadyTo, change_put}
+use Rattle.bus_dump.specs.Walks.{change_put}
+use Rattle.bus_dump.specs.Watching.{StaysAs}
 use Rattle.bus_dump.proofs.RangeLemmas.{range_join, range_push}
 
 -- ---- nothing changes
-same_value : (v : Value) → is_same v v ≡ true
+pub same_value : (v : Value) → is_same v v ≡ true
 same_value (Bit true) = refl
 same_value (Bit false) = refl
 same_value (Number n) = eq-eqb n n refl
 same_value Floating = refl
 same_value Unknown = refl
 
-no_change : (seen : List Seen) (signals : List Signal) → list_any (changes seen seen) signals ≡ false
+no_change : (seen : Scene) (signals : List Signal) → list_any (changes seen seen) signals ≡ false
 no_change seen [] = refl
 no_change seen (s ∷ signals) = rw (same_value (value s seen)) (no_change seen signals)
 
-pub quiet_text : (signals : List Signal) (seen : List Seen) (t : ℕ) → changes_text signals seen seen t ≡ []
+pub quiet_text : (signals : List Signal) (seen : Scene) (t : ℕ) → changes_text signals seen seen t ≡ []
 quiet_text signals seen t =
     ap (λ b. cond b (some_changes signals seen seen t) []) (no_change seen signals)
 
-text_of : (signals : List Signal) (a b c d : List Seen) (t : ℕ) → a ≡ c → b ≡ d → changes_text signals a b t ≡ changes_text signals c d t
+text_of : (signals : List Signal) (a b c d : Scene) (t : ℕ) → a ≡ c → b ≡ d → changes_text signals a b t ≡ changes_text signals c d t
 text_of signals a b c d t e f = ap (λ x. changes_text signals x b t) e ∙ ap (λ x. changes_text signals c x t) f
 
 -- nothing changes at bit times at which the same is seen as before
-quiet_along : (signals : List Signal) (list : List Entry) (seen : List Seen) (a n : ℕ)
-    → ((v : ℕ) → a ≤ v → v < a + n → (seen_at list (v - 1) ≡ seen) × (seen_at list v ≡ seen))
-    → flat_map (changes_at signals list) (range_with_len a n) ≡ []
-quiet_along signals list seen a zero h = refl
-quiet_along signals list seen a (suc n) h =
+quiet_along : (signals : List Signal) (scene : ℕ → Scene) (seen : Scene) (a n : ℕ)
+    → ((v : ℕ) → a ≤ v → v < a + n → (scene (v - 1) ≡ seen) × (scene v ≡ seen))
+    → flat_map (changes_at signals scene) (range_with_len a n) ≡ []
+quiet_along signals scene seen a zero h = refl
+quiet_along signals scene seen a (suc n) h =
     let here = h a (omega arith) (omega arith) in
-    ap (λ t. t ++ flat_map (changes_at signals list) (range_with_len (a + 1) n))
-    (text_of signals (seen_at list (a - 1)) (seen_at list a) seen seen a here.0 here.1 ∙ quiet_text signals seen a)
-    ∙ quiet_along signals list seen (a + 1) n (λ v l u. h v (omega arith) (omega arith))
+    ap (λ t. t ++ flat_map (changes_at signals scene) (range_with_len (a + 1) n))
+    (text_of signals (scene (a - 1)) (scene a) seen seen a here.0 here.1 ∙ quiet_text signals seen a)
+    ∙ quiet_along signals scene seen (a + 1) n (λ v l u. h v (omega arith) (omega arith))
 
-steady_along : (signals : List Signal) (list : List Entry) (t until n : ℕ) → SteadyTo list t until → t + n < until
-    → flat_map (changes_at signals list) (range_with_len (1 + t) n) ≡ []
-steady_along signals list t until n steady h =
-    quiet_along signals list (seen_at list t) (1 + t) n (λ v l u. (steady (v - 1) (omega arith) (omega arith), steady v (omega arith) (omega arith)))
+steady_along : (signals : List Signal) (scene : ℕ → Scene) (t until n : ℕ) → StaysAs scene t until → t + n < until
+    → flat_map (changes_at signals scene) (range_with_len (1 + t) n) ≡ []
+steady_along signals scene t until n steady h =
+    quiet_along signals scene (scene t) (1 + t) n (λ v l u. (steady (v - 1) (omega arith) (omega arith), steady v (omega arith) (omega arith)))
 
 -- from bit time t to the next one at which something may change
-pub changes_next : (signals : List Signal) (list : List Entry) (t u : ℕ) → t < u → SteadyTo list t u
-    → flat_map (changes_at signals list) (range_with_len 1 t) ++ changes_text signals (seen_at list t) (seen_at list u) u
-    ≡ flat_map (changes_at signals list) (range_with_len 1 u)
-changes_next signals list t u h steady =
+pub changes_next : (signals : List Signal) (scene : ℕ → Scene) (t u : ℕ) → t < u → StaysAs scene t u
+    → flat_map (changes_at signals scene) (range_with_len 1 t) ++ changes_text signals (scene t) (scene u) u
+    ≡ flat_map (changes_at signals scene) (range_with_len 1 u)
+changes_next signals scene t u h steady =
     let n : ℕ = u - 1 - t in
-    let f = changes_at signals list in
+    let f = changes_at signals scene in
     let last : 1 + t + n ≡ u = omega arith in
-    let before : seen_at list (u - 1) ≡ seen_at list t = steady (u - 1) (omega arith) (omega arith) in
-    let end : flat_map f (range_with_len (1 + t) (suc n)) ≡ changes_text signals (seen_at list t) (seen_at list u) u =
+    let before : scene (u - 1) ≡ scene t = steady (u - 1) (omega arith) (omega arith) in
+    let end : flat_map f (range_with_len (1 + t) (suc n)) ≡ changes_text signals (scene t) (scene u) u =
     ap (flat_map f) (range_push (1 + t) n)
     ∙ flat_map-append f (range_with_len (1 + t) n) ((1 + t + n) ∷ [])
-    ∙ ap (λ x. x ++ flat_map f ((1 + t + n) ∷ [])) (steady_along signals list t u n steady (omega arith))
+    ∙ ap (λ x. x ++ flat_map f ((1 + t + n) ∷ [])) (steady_along signals scene t u n steady (omega arith))
     ∙ append-nil (f (1 + t + n))
     ∙ ap f last
-    ∙ text_of signals (seen_at list (u - 1)) (seen_at list u) (seen_at list t) (seen_at list u) u before refl in
+    ∙ text_of signals (scene (u - 1)) (scene u) (scene t) (scene u) u before refl in
     sym (ap (λ m. flat_map f (range_with_len 1 m)) (let e : u ≡ t + suc n = omega arith in e)
     ∙ ap (flat_map f) (range_join 1 t (suc n))
     ∙ flat_map-append f (range_with_len 1 t) (range_with_len (1 + t) (suc n))
     ∙ ap (λ x. flat_map f (range_with_len 1 t) ++ x) end)
 
 -- from the last bit time at which something changes to the horizon
-pub changes_last : (signals : List Signal) (list : List Entry) (t until horizon : ℕ) → t ≤ horizon - 1 → t < until → horizon ≤ until → SteadyTo list t until
-    → flat_map (changes_at signals list) (range_with_len 1 t) ≡ changes_to signals list horizon
-changes_last signals list t until horizon low some h steady =
+pub changes_last : (signals : List Signal) (scene : ℕ → Scene) (t until horizon : ℕ) → t ≤ horizon - 1 → t < until → horizon ≤ until → StaysAs scene t until
+    → flat_map (changes_at signals scene) (range_with_len 1 t) ≡ changes_to signals scene horizon
+changes_last signals scene t until horizon low some h steady =
     let n : ℕ = horizon - 1 - t in
-    let f = changes_at signals list in
+    let f = changes_at signals scene in
     sym (ap (λ m. flat_map f (range_with_len 1 m)) (let e : horizon - 1 ≡ t + n = omega arith in e)
     ∙ ap (flat_map f) (range_join 1 t n)
     ∙ flat_map-append f (range_with_len 1 t) (range_with_len (1 + t) n)
-    ∙ ap (λ x. flat_map f (range_with_len 1 t) ++ x) (steady_along signals list t until n steady (omega arith))
+    ∙ ap (λ x. flat_map f (range_with_len 1 t) ++ x) (steady_along signals scene t until n steady (omega arith))
     ∙ append-nil (flat_map f (range_with_len 1 t)))
 
 -- ---- puts
@@ -85,7 +85,7 @@ passing_by : (b : Bool) (line rest : List ℕ) (s : Signal) (f : Signal → List
 passing_by true line rest s f ss e h = ap (λ x. x ++ rest) e ∙ ap (λ x. f s ++ x) h
 passing_by false line rest s f ss e h = h
 
-pub changed_put : (before now : List Seen) (signals : List Signal)
+pub changed_put : (before now : Scene) (signals : List Signal)
     → flat_map (change_put before now) signals ≡ flat_map (value_line now) (filter (changes before now) signals)
 changed_put before now [] = refl
 changed_put before now (s ∷ signals) =

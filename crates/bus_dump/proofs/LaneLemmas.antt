@@ -1,13 +1,25 @@
 -- Lanes and signals, one after another.
-use Rattle.std.proofs.Common.{◌≡◌, ℕ, suc, ◌+◌, ◌<◌, Bool, true, false, cond, List, [], ◌∷◌, ◌++◌, length, map, take, get_or, Some}
-use Rattle.std.proofs.Common.{arith, sym, refl, ap, ◌∙◌, append_assoc, append-nil}
+use Rattle.std.proofs.Common.{◌≡◌, ℕ, suc, ◌+◌, ◌<◌, Bool, true, false, not, cond, ◌&&◌, ◌||◌, List, [], ◌∷◌, ◌++◌, length, map, take, Some, None}
+use Rattle.std.proofs.Common.{inl, inr, arith, sym, refl, ap, ◌∙◌, append_assoc}
 use Rattle.std.specs.Prelude.{slice_get}
-use Rattle.std.specs.List.{filter, flat_map, range_with_len}
-use Rattle.std.proofs.lemmas.List.{map_push, take_more}
+use Rattle.std.specs.List.{AllByRecursion, filter, find, flat_map, list_any, range_with_len}
+use Rattle.std.specs.Option.{option_map_or}
+use Rattle.std.proofs.lemmas.Bool.{cases_Bool, true≢false}
+use Rattle.std.proofs.lemmas.List.{map_push, map-append, take_more}
 use Rattle.std.proofs.lemmas.List.Concat.{flat_map-append}
 use Rattle.std.proofs.lemmas.List.Elements.{filter-append}
+use Rattle.std.proofs.lemmas.List.Folds.{list_any-append}
 use Rattle.std.proofs.lemmas.Option.{slice_get_within, get_or_from_slice_get}
-use Rattle.bus_dump.specs.Signals.{Signal}
+use Rattle.bus_dump.specs.declared.dump.Dump.{Dump}
+use Rattle.bus_dump.specs.declared.lane.Lane.{Lane}
+use Rattle.bus_dump.specs.DumpTexts.{changes, value_line}
+use Rattle.bus_dump.specs.Layouts.{IsStill}
+use Rattle.bus_dump.specs.Scenes.{Scene}
+use Rattle.bus_dump.specs.Seen.{Seen}
+use Rattle.bus_dump.specs.Signals.{Signal, Pulse, Garbled, Label, Message, Bit, Number, Floating, value, is_same, is_of, is_on, shown_label, has, lane_signals, signals_of}
+use Rattle.bus_dump.specs.Timers.{Elapsed}
+use Rattle.bus_dump.specs.Walks.{change_put}
+use Rattle.bus_dump.proofs.ChangeLemmas.{same_value}
 use Rattle.bus_dump.proofs.RangeLemmas.{range_push}
 
 -- one element more under a function
@@ -20,39 +32,132 @@ mapped_more f xs k x y ys ys' at is old new =
     ∙ ap (map f) (sym (take_more xs k x within ∙ ap (λ z. take k xs ++ z ∷ []) (get_or_from_slice_get xs k x x at)))
 
 -- one number more of a range that passes a test
-pub stranger_more : (p : ℕ → Bool) (before n : ℕ) (front ns ns' : List ℕ) → n ≡ before + 1 → ns ≡ front ++ filter p (range_with_len 1 before)
-    → ns' ≡ ns ++ filter p (n ∷ []) → ns' ≡ front ++ filter p (range_with_len 1 (before + 1))
-stranger_more p before n front ns ns' is old new =
+pub stranger_more : {Y : Type 0} (f : ℕ → Y) (p : ℕ → Bool) (before n : ℕ) (front ns ns' : List Y) → n ≡ before + 1
+    → ns ≡ front ++ map f (filter p (range_with_len 1 before)) → ns' ≡ ns ++ map f (filter p (n ∷ []))
+    → ns' ≡ front ++ map f (filter p (range_with_len 1 (before + 1)))
+stranger_more f p before n front ns ns' is old new =
     let one : before + 1 ≡ suc before = omega arith in
     let same : n ≡ 1 + before = omega arith in
-    new ∙ ap (λ l. l ++ filter p (n ∷ [])) old ∙ append_assoc front (filter p (range_with_len 1 before)) (filter p (n ∷ []))
-    ∙ ap (λ l. front ++ l) (ap (λ k. filter p (range_with_len 1 before) ++ filter p (k ∷ [])) same
-    ∙ sym (ap (λ k. filter p (range_with_len 1 k)) one ∙ ap (filter p) (range_push 1 before) ∙ filter-append p (range_with_len 1 before) ((1 + before) ∷ [])))
+    let rest = filter p (range_with_len 1 before) in
+    new ∙ ap (λ l. l ++ map f (filter p (n ∷ []))) old ∙ append_assoc front (map f rest) (map f (filter p (n ∷ [])))
+    ∙ ap (λ l. front ++ l) (ap (λ k. map f rest ++ map f (filter p (k ∷ []))) same
+    ∙ sym (ap (λ k. map f (filter p (range_with_len 1 k))) one ∙ ap (λ l. map f (filter p l)) (range_push 1 before)
+    ∙ ap (map f) (filter-append p (range_with_len 1 before) ((1 + before) ∷ [])) ∙ map-append f rest (filter p ((1 + before) ∷ []))))
 
--- four signals
-filter_first : {X : Type 0} (p : X → Bool) (x : X) (xs : List X) → filter p (x ∷ xs) ≡ filter p (x ∷ []) ++ filter p xs
-filter_first p x xs = elim (p x) as (λ b. cond b (x ∷ filter p xs) (filter p xs) ≡ cond b (x ∷ []) [] ++ filter p xs) [ true ↦ refl | false ↦ refl ]
+-- what is put of each lane is what is put of all their signals
+pub lanes_put : {X : Type 0} (f : Signal → List X) (of : Lane → List Signal) (bus : List Signal) (lanes : List Lane)
+    → flat_map f bus ++ flat_map (λ lane. flat_map f (of lane)) lanes ≡ flat_map f (bus ++ flat_map of lanes)
+lanes_put f of bus lanes = ap (λ l. flat_map f bus ++ l) (each lanes) ∙ sym (flat_map-append f bus (flat_map of lanes)) where
+  each : (ls : List Lane) → flat_map (λ lane. flat_map f (of lane)) ls ≡ flat_map f (flat_map of ls)
+  each [] = refl
+  each (l ∷ ls) = ap (λ x. flat_map f (of l) ++ x) (each ls) ∙ sym (flat_map-append f (of l) (flat_map of ls))
 
-pub four_more : {X : Type 0} (p : X → Bool) (a b c d : X) (old : List X)
-    → old ++ filter p (a ∷ []) ++ filter p (b ∷ []) ++ filter p (c ∷ []) ++ filter p (d ∷ []) ≡ old ++ filter p (a ∷ (b ∷ (c ∷ (d ∷ []))))
-four_more p a b c d old =
-    let fa = filter p (a ∷ []) in
-    let fb = filter p (b ∷ []) in
-    let fc = filter p (c ∷ []) in
-    let fd = filter p (d ∷ []) in
-    append_assoc (old ++ fa ++ fb) fc fd
-    ∙ ap (λ l. (old ++ fa ++ fb) ++ l) (sym (filter_first p c (d ∷ [])))
-    ∙ append_assoc (old ++ fa) fb (filter p (c ∷ (d ∷ [])))
-    ∙ ap (λ l. (old ++ fa) ++ l) (sym (filter_first p b (c ∷ (d ∷ []))))
-    ∙ append_assoc old fa (filter p (b ∷ (c ∷ (d ∷ []))))
-    ∙ ap (λ l. old ++ l) (sym (filter_first p a (b ∷ (c ∷ (d ∷ [])))))
+pub all_by_lanes : {X : Type 0} (f : Signal → List X) (of : Lane → List Signal) (bus bus' : List Signal) (lanes lanes' : List Lane) → bus ≡ bus' → lanes ≡ lanes'
+    → flat_map f bus ++ flat_map (λ lane. flat_map f (of lane)) lanes ≡ flat_map f (bus' ++ flat_map of lanes')
+all_by_lanes f of bus bus' lanes lanes' e d =
+    lanes_put f of bus lanes ∙ ap (λ b. flat_map f (b ++ flat_map of lanes)) e ∙ ap (λ l. flat_map f (bus' ++ flat_map of l)) d
 
--- the signals of one lane more
-pub lane_more : (p : Signal → Bool) (f : ℕ → List Signal) (bus : List Signal) (lanes : List ℕ) (i d : ℕ) (ss ss' : List Signal) → i < length lanes
-    → ss ≡ filter p (bus ++ flat_map f (take i lanes)) → ss' ≡ ss ++ filter p (f (get_or lanes i d)) → ss' ≡ filter p (bus ++ flat_map f (take (i + 1) lanes))
-lane_more p f bus lanes i d ss ss' h old new =
-    let n : ℕ = get_or lanes i d in
-    let rest : List Signal = flat_map f (take i lanes) in
-    new ∙ ap (λ l. l ++ filter p (f n)) old ∙ sym (filter-append p (bus ++ rest) (f n))
-    ∙ ap (filter p) (append_assoc bus rest (f n)
-    ∙ ap (λ l. bus ++ l) (sym (ap (flat_map f) (take_more lanes i d h) ∙ flat_map-append f (take i lanes) (n ∷ []) ∙ ap (λ l. rest ++ l) (append-nil (f n)))))
+pub put_by_lanes : {X : Type 0} (f : Signal → List X) (of : Lane → List Signal) (front : List X) (bus bus' : List Signal) (lanes lanes' : List Lane)
+    → bus ≡ bus' → lanes ≡ lanes'
+    → front ++ flat_map f bus ++ flat_map (λ lane. flat_map f (of lane)) lanes ≡ front ++ flat_map f (bus' ++ flat_map of lanes')
+put_by_lanes f of front bus bus' lanes lanes' e d =
+    append_assoc front (flat_map f bus) (flat_map (λ lane. flat_map f (of lane)) lanes) ∙ ap (λ l. front ++ l) (all_by_lanes f of bus bus' lanes lanes' e d)
+
+pub lanes_any : (p : Signal → Bool) (of : Lane → List Signal) (bus : List Signal) (lanes : List Lane)
+    → (list_any p bus || list_any (λ lane. list_any p (of lane)) lanes) ≡ list_any p (bus ++ flat_map of lanes)
+lanes_any p of bus lanes = ap (λ b. list_any p bus || b) (each lanes) ∙ sym (list_any-append p bus (flat_map of lanes)) where
+  each : (ls : List Lane) → list_any (λ lane. list_any p (of lane)) ls ≡ list_any p (flat_map of ls)
+  each [] = refl
+  each (l ∷ ls) = ap (λ b. list_any p (of l) || b) (each ls) ∙ sym (list_any-append p (of l) (flat_map of ls))
+
+-- ---- a lane in which nothing changes
+none_of : (n : ℕ) (q : Seen → Bool) (seen : List Seen) → list_any (is_of n) seen ≡ false → list_any (λ s. is_of n s && q s) seen ≡ false
+none_of n q [] h = refl
+none_of n q (s ∷ seen) h =
+    let first = none_first (is_of n s) (list_any (is_of n) seen) h in
+    rw (first.0) (none_of n q seen first.1)
+  where
+    none_first : (a b : Bool) → (a || b) ≡ false → (a ≡ false) × (b ≡ false)
+    none_first true b e = absurd (true≢false e)
+    none_first false b e = (refl, e)
+
+found_none : {X : Type 0} (p : X → Bool) (xs : List X) → list_any p xs ≡ false → find p xs ≡ None
+found_none p [] h = refl
+found_none p (x ∷ xs) h = elim (cases_Bool (p x)) [
+  | inl yes' ↦ absurd (true≢false (sym (ap (λ b. b || list_any p xs) yes') ∙ h))
+  | inr no' ↦ ap (λ b. cond b (Some x) (find p xs)) no' ∙ found_none p xs (sym (ap (λ b. b || list_any p xs) no') ∙ h)
+]
+
+still_pulse : (n : ℕ) (before now : Scene) → IsStill before now n → value (Pulse n) before ≡ value (Pulse n) now
+still_pulse n before now s = ap Bit (none_of n is_on before.seen s.was ∙ sym (none_of n is_on now.seen s.is))
+
+still_garbled : (n : ℕ) (before now : Scene) → IsStill before now n → value (Garbled n) before ≡ value (Garbled n) now
+still_garbled n before now s =
+    ap Bit (none_of n (λ (x : Seen). x.garbled) before.seen s.was ∙ sym (none_of n (λ (x : Seen). x.garbled) now.seen s.is))
+
+still_label : (n : ℕ) (before now : Scene) → IsStill before now n → value (Label n) before ≡ value (Label n) now
+still_label n before now s =
+    ap (λ o. option_map_or shown_label o Floating) (found_none (λ x. is_of n x && is_on x) before.seen (none_of n is_on before.seen s.was)
+    ∙ sym (found_none (λ x. is_of n x && is_on x) now.seen (none_of n is_on now.seen s.is)))
+
+still_message : (n : ℕ) (before now : Scene) → IsStill before now n → value (Message n) before ≡ value (Message n) now
+still_message n before now s =
+    ap (λ o. option_map_or (λ (x : Seen). Number x.number) o Floating) (found_none (is_of n) before.seen s.was ∙ sym (found_none (is_of n) now.seen s.is))
+
+-- no signal of the lane changes
+all_still : (n : ℕ) (before now : Scene) → IsStill before now n → AllByRecursion (λ signal. value signal before ≡ value signal now) (signals_of n)
+all_still n before now s = (
+  still_pulse n before now s,
+  (
+    still_garbled n before now s,
+    (
+      still_label n before now s,
+      (
+        still_message n before now s,
+        (
+          ap (λ (e : Elapsed). Bit e.interval) s.same,
+          (
+            ap (λ (e : Elapsed). Bit e.synchronization) s.same,
+            (
+              ap (λ (e : Elapsed). Bit e.gap) s.same,
+              (
+                ap (λ (e : Elapsed). Bit e.may) s.same,
+                tt,
+              ),
+            ),
+          ),
+        ),
+      ),
+    ),
+  ),
+)
+
+not_changed : (before now : Scene) (signal : Signal) → value signal before ≡ value signal now → changes before now signal ≡ false
+not_changed before now signal e = ap (λ v. not (is_same (value signal before) v)) (sym e) ∙ ap not (same_value (value signal before))
+
+still_any : (before now : Scene) (p : Signal → Bool) (ss : List Signal) → AllByRecursion (λ signal. value signal before ≡ value signal now) ss
+    → list_any (changes before now) (filter p ss) ≡ false
+still_any before now p [] all = refl
+still_any before now p (s ∷ ss) all =
+    elim (p s) as (λ b. list_any (changes before now) (cond b (s ∷ filter p ss) (filter p ss)) ≡ false) [
+      | true ↦ rw (not_changed before now s all.0) (still_any before now p ss all.1)
+      | false ↦ still_any before now p ss all.1
+    ]
+
+still_none : (before now : Scene) (p : Signal → Bool) (ss : List Signal) → AllByRecursion (λ signal. value signal before ≡ value signal now) ss
+    → flat_map (change_put before now) (filter p ss) ≡ []
+still_none before now p [] all = refl
+still_none before now p (s ∷ ss) all =
+    elim (p s) as (λ b. flat_map (change_put before now) (cond b (s ∷ filter p ss) (filter p ss)) ≡ []) [
+      | true ↦ ap (λ b. cond b (value_line now s) [] ++ flat_map (change_put before now) (filter p ss)) (not_changed before now s all.0)
+          ∙ still_none before now p ss all.1
+      | false ↦ still_none before now p ss all.1
+    ]
+
+pub still_lane : (dump : Dump) (lane : Lane) (before now : Scene) → IsStill before now lane.terminal
+    → list_any (changes before now) (lane_signals dump lane) ≡ false
+still_lane dump lane before now s = still_any before now (has dump lane.sender) (signals_of lane.terminal) (all_still lane.terminal before now s)
+
+pub still_lane_put : (dump : Dump) (lane : Lane) (before now : Scene) → IsStill before now lane.terminal
+    → flat_map (change_put before now) (lane_signals dump lane) ≡ []
+still_lane_put dump lane before now s = still_none before now (has dump lane.sender) (signals_of lane.terminal) (all_still lane.terminal before now s)

@@ -4,6 +4,7 @@ pub mod LiveLemmas
 pub mod FewLemmas
 pub mod WalkLemmas
 pub mod LookLemmas
+pub mod ClockLemmas
 pub mod ChangeLemmas
 pub mod ValueLemmas
 pub mod LaneLemmas
@@ -11,3 +12,9 @@ pub mod DoubleLemmas
 pub mod BinaryLemmas
 pub mod WriteLemmas
 pub mod LawLemmas
+pub mod WatchLemmas
+pub mod TimerLemmas
+pub mod SingleLemmas
+pub mod ReadLemmas
+pub mod SmallLemmas
+pub mod IdleLemmas

@@ -16,7 +16,7 @@ use Rattle.bus_dump.proofs.LiveLemmas.{LiveFacts, live_facts, held_from, holds_t
 
 -- what a list of live transmissions has where it has nothing
 abbrev pub no_live : Live
-no_live = record { at = 0; end = 0; number = 0; garbled = false }
+no_live = record { at = 0; terminal = 0; moment = 0; end = 0; number = 0; garbled = false }
 
 -- ---- one
 -- a glance at a message tells how long it stays as it is

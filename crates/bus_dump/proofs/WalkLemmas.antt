@@ -77,19 +77,20 @@ counted list counts i terminal x long low at own old n h =
           get_or-set_other counts terminal n (get_or counts terminal 0 + 1) 0 other ∙ old n h ∙ sym (count_by_more_no (is_sent_by n) list i x within no)
     ]
 
-abbrev live_with : ℕ → ℕ → ℕ → Bool → Live
-live_with at end number mark = record { at = at; end = end; number = number; garbled = mark }
+abbrev live_with : ℕ → ℕ → ℕ → ℕ → ℕ → Bool → Live
+live_with at terminal moment end number mark =
+    record { at = at; terminal = terminal; moment = moment; end = end; number = number; garbled = mark }
 
 pub walk_begun : (list : List Entry) (t terminal number end : ℕ) (mark : Bool) (w w' : Walk) (x : Entry) → Reaches list t w → slice_get list w.begun ≡ Some x
     → x.moment ≡ t → t < end_of x → end ≡ end_of x → x.terminal ≡ terminal → terminal ≤ 128 → length w.counts ≡ 129 → number ≡ get_or w.counts terminal 0 + 1
     → mark ≡ garbled list w.begun → w'.begun ≡ w.begun + 1 → w'.counts ≡ set w.counts terminal number → w'.marks ≡ drop (w.begun + 1) (marks list)
-    → w'.live.items ≡ w.live.items ++ record { at = w.begun; end = end; number = number; garbled = mark } ∷ [] → Reaches list t w'
+    → w'.live.items ≡ w.live.items ++ record { at = w.begun; terminal = terminal; moment = t; end = end; number = number; garbled = mark } ∷ [] → Reaches list t w'
 walk_begun list t terminal number end mark w w' x r at now some end_is own low long number_is mark_is begun counts left live =
     let within : w.begun < length list = slice_get_within list w.begun x at in
     let number_of_is : number ≡ number_of list w.begun x.terminal =
     number_is ∙ sym (get_or-set_same w.counts terminal (get_or w.counts terminal 0 + 1) 0 (omega arith))
     ∙ counted list w.counts w.begun terminal x long low at own r.counts terminal low ∙ ap (number_of list w.begun) (sym own) in
-    let new : record { at = w.begun; end = end; number = number; garbled = mark } ≡ live_of list w.begun x =
+    let new : record { at = w.begun; terminal = terminal; moment = t; end = end; number = number; garbled = mark } ≡ live_of list w.begun x =
     made end end_is number number_of_is mark mark_is in
     record {
       within = omega arith;
@@ -109,10 +110,12 @@ walk_begun list t terminal number end mark w w' x r at now some end_is own low l
     }
   where
     made : (ends : ℕ) → ends ≡ end_of x → (count : ℕ) → count ≡ number_of list w.begun x.terminal → (hurt : Bool) → hurt ≡ garbled list w.begun
-        → live_with w.begun ends count hurt ≡ live_of list w.begun x
+        → live_with w.begun terminal t ends count hurt ≡ live_of list w.begun x
     made ends e count n hurt m =
-        ap (λ k. live_with w.begun k count hurt) e ∙ ap (λ k. live_with w.begun (end_of x) k hurt) n
-        ∙ ap (live_with w.begun (end_of x) (number_of list w.begun x.terminal)) m
+        ap (λ k. live_with w.begun k t ends count hurt) (sym own)
+        ∙ ap (λ k. live_with w.begun x.terminal k ends count hurt) (sym now)
+        ∙ ap (λ k. live_with w.begun x.terminal x.moment k count hurt) e ∙ ap (λ k. live_with w.begun x.terminal x.moment (end_of x) k hurt) n
+        ∙ ap (live_with w.begun x.terminal x.moment (end_of x) (number_of list w.begun x.terminal)) m
 
 -- ---- all have begun
 pub walk_stands : (list : List Entry) (t : ℕ) (w : Walk) → IsWalkable list → Reaches list t w

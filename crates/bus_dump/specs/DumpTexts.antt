@@ -2,12 +2,11 @@
 use Rattle.std.specs.Prelude.{ℕ, ◌+◌, ◌-◌, ◌*◌, Bool, true, false, not, nat_eq, List, [], ◌++◌, codes, decimal, map, filter, if◌then◌else◌}
 use Rattle.std.specs.List.{list_any, flat_map, range_with_len}
 use Rattle.std.specs.Int.Digits.{digits_of}
-use Rattle.bus_strings.specs.Messages.{Entry}
 use Rattle.bus_table.specs.Tables.{Table}
 use Rattle.bus_trace.specs.Traces.{Recording}
 use Rattle.bus_dump.specs.declared.dump.Dump.{Dump}
-use Rattle.bus_dump.specs.Seen.{Seen, seen_at}
-use Rattle.bus_dump.specs.Signals.{Signal, Carrier, Overlap, Sync, Word, Pulse, Garbled, Label, Message}
+use Rattle.bus_dump.specs.Scenes.{Scene, scene_at}
+use Rattle.bus_dump.specs.Signals.{Signal, Carrier, Overlap, Sync, Word, Pulse, Garbled, Label, Message, Interval, Synchronization, Gap, May}
 use Rattle.bus_dump.specs.Signals.{Value, Bit, Number, Floating, Unknown, value, is_same, signals}
 use Rattle.bus_dump.specs.Lanes.{lanes}
 
@@ -22,6 +21,10 @@ id_text (Pulse terminal) = codes "p" ++ decimal terminal
 id_text (Garbled terminal) = codes "g" ++ decimal terminal
 id_text (Label terminal) = codes "l" ++ decimal terminal
 id_text (Message terminal) = codes "m" ++ decimal terminal
+id_text (Interval terminal) = codes "i" ++ decimal terminal
+id_text (Synchronization terminal) = codes "y" ++ decimal terminal
+id_text (Gap terminal) = codes "h" ++ decimal terminal
+id_text (May terminal) = codes "r" ++ decimal terminal
 
 -- The name of a signal of the lane of a terminal.
 abbrev pub lane_name : ℕ → List ℕ → List ℕ
@@ -37,6 +40,10 @@ name_text (Pulse terminal) = lane_name terminal (codes "_pulse")
 name_text (Garbled terminal) = lane_name terminal (codes "_garbled")
 name_text (Label terminal) = lane_name terminal (codes "_label")
 name_text (Message terminal) = lane_name terminal (codes "_message")
+name_text (Interval terminal) = lane_name terminal (codes "_ti")
+name_text (Synchronization terminal) = lane_name terminal (codes "_sg")
+name_text (Gap terminal) = lane_name terminal (codes "_tg")
+name_text (May terminal) = lane_name terminal (codes "_may")
 
 -- How many bits a signal has, and which these are where they are several.
 abbrev pub width_text : Signal → List ℕ
@@ -48,6 +55,10 @@ width_text (Pulse terminal) = codes "1 "
 width_text (Garbled terminal) = codes "1 "
 width_text (Label terminal) = codes "16 "
 width_text (Message terminal) = codes "32 "
+width_text (Interval terminal) = codes "1 "
+width_text (Synchronization terminal) = codes "1 "
+width_text (Gap terminal) = codes "1 "
+width_text (May terminal) = codes "1 "
 
 abbrev pub bits_text : Signal → List ℕ
 bits_text Carrier = []
@@ -58,6 +69,10 @@ bits_text (Pulse terminal) = []
 bits_text (Garbled terminal) = []
 bits_text (Label terminal) = codes " [15:0]"
 bits_text (Message terminal) = codes " [31:0]"
+bits_text (Interval terminal) = []
+bits_text (Synchronization terminal) = []
+bits_text (Gap terminal) = []
+bits_text (May terminal) = []
 
 -- The declaration of a signal.
 abbrev pub declaration : Signal → List ℕ
@@ -76,9 +91,9 @@ value_text (Number n) = codes "b" ++ binary n ++ codes " "
 value_text Floating = codes "bz "
 value_text Unknown = codes "bx "
 
--- The line of the value that a signal has where this is seen.
-abbrev pub value_line : List Seen → Signal → List ℕ
-value_line seen signal = value_text (value signal seen) ++ id_text signal ++ codes "\n"
+-- The line of the value that a signal has in a scene.
+abbrev pub value_line : Scene → Signal → List ℕ
+value_line scene signal = value_text (value signal scene) ++ id_text signal ++ codes "\n"
 
 -- ---- changes
 -- How many units of 100 ns a bit time has.
@@ -89,25 +104,25 @@ units = 5
 abbrev pub stamp : ℕ → List ℕ
 stamp t = codes "#" ++ decimal (units * t) ++ codes "\n"
 
--- Whether a signal has another value in what is seen now than in what was seen before.
-abbrev pub changes : List Seen → List Seen → Signal → Bool
+-- Whether a signal has another value in the scene now than in the one before.
+abbrev pub changes : Scene → Scene → Signal → Bool
 changes before now signal = not (is_same (value signal before) (value signal now))
 
 -- The stamp of bit time t and the value of each signal that changes there.
-unfoldable pub some_changes : List Signal → List Seen → List Seen → ℕ → List ℕ
+unfoldable pub some_changes : List Signal → Scene → Scene → ℕ → List ℕ
 some_changes signals before now t = stamp t ++ flat_map (value_line now) (filter (changes before now) signals)
 
 -- The same, and nothing where no signal changes.
-abbrev pub changes_text : List Signal → List Seen → List Seen → ℕ → List ℕ
+abbrev pub changes_text : List Signal → Scene → Scene → ℕ → List ℕ
 changes_text signals before now t = if list_any (changes before now) signals then some_changes signals before now t else []
 
--- What changes at bit time t in a list.
-abbrev pub changes_at : List Signal → List Entry → ℕ → List ℕ
-changes_at signals list t = changes_text signals (seen_at list (t - 1)) (seen_at list t) t
+-- What changes at bit time t, given the scene of each.
+abbrev pub changes_at : List Signal → (ℕ → Scene) → ℕ → List ℕ
+changes_at signals scene t = changes_text signals (scene (t - 1)) (scene t) t
 
 -- What changes at the bit times from 1 to below the horizon, and the stamp of the horizon.
-abbrev pub changes_to : List Signal → List Entry → ℕ → List ℕ
-changes_to signals list horizon = flat_map (changes_at signals list) (range_with_len 1 (horizon - 1))
+abbrev pub changes_to : List Signal → (ℕ → Scene) → ℕ → List ℕ
+changes_to signals scene horizon = flat_map (changes_at signals scene) (range_with_len 1 (horizon - 1))
 
 abbrev pub last_stamp : ℕ → List ℕ
 last_stamp horizon = if nat_eq horizon 0 then [] else stamp horizon
@@ -123,15 +138,16 @@ abbrev pub behind_text : List ℕ
 behind_text = codes "$upscope $end\n$enddefinitions $end\n"
 
 -- The values at bit time 0.
-abbrev pub first_values : List Signal → List Entry → List ℕ
-first_values signals list = codes "#0\n$dumpvars\n" ++ flat_map (value_line (seen_at list 0)) signals ++ codes "$end\n"
+abbrev pub first_values : List Signal → Scene → List ℕ
+first_values signals scene = codes "#0\n$dumpvars\n" ++ flat_map (value_line scene) signals ++ codes "$end\n"
 
--- The dump of a list with these signals and this comment.
-abbrev pub text_of : List ℕ → List Signal → List Entry → ℕ → List ℕ
-text_of comment signals list horizon =
-    head_text comment ++ flat_map declaration signals ++ behind_text ++ first_values signals list ++ changes_to signals list horizon
+-- The dump of these signals with this comment, given the scene of each bit time.
+abbrev pub text_of : List ℕ → List Signal → (ℕ → Scene) → ℕ → List ℕ
+text_of comment signals scene horizon =
+    head_text comment ++ flat_map declaration signals ++ behind_text ++ first_values signals (scene 0) ++ changes_to signals scene horizon
     ++ last_stamp horizon
 
 -- The dump of a trace on a table, with this comment.
 abbrev pub dump_text : Dump → List ℕ → Table → Recording → List ℕ
-dump_text dump comment table trace = text_of comment (signals dump (lanes table trace.list)) trace.list trace.horizon
+dump_text dump comment table trace =
+    text_of comment (signals dump (lanes table trace.list)) (scene_at dump table trace.list) trace.horizon

@@ -1,7 +1,14 @@
 pub mod OnBus
 pub mod Seen
+pub mod Timers
+pub mod Scenes
 pub mod Signals
 pub mod Lanes
 pub mod Doubled
 pub mod DumpTexts
+pub mod Clocks
 pub mod Walks
+pub mod Watching
+pub mod Layouts
+pub mod Reading
+pub mod Laws

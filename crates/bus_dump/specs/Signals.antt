@@ -1,14 +1,18 @@
--- The signals of a dump, and the value of each where this is seen.
-use Rattle.std.specs.Prelude.{ℕ, Bool, true, false, ◌&&◌, ◌==◌, nat_lt, List, [], ◌∷◌, ◌++◌, length, filter, Option}
+-- The signals of a dump, and the value of each in a scene.
+use Rattle.std.specs.Prelude.{ℕ, Bool, true, false, not, ◌&&◌, ◌||◌, ◌==◌, nat_lt, List, [], ◌∷◌, ◌++◌, length, filter, Option, unwrap_or}
 use Rattle.std.specs.Bool.{beq}
 use Rattle.std.specs.List.{list_any, find, filter_map, flat_map}
 use Rattle.std.specs.Option.{option_map, option_map_or, is_some}
 use Rattle.bus_dump.specs.declared.dump.Dump.{Dump}
-use Rattle.bus_dump.specs.declared.dump.Dump.TheVariants.{Vcd, Wires}
+use Rattle.bus_dump.specs.declared.dump.Dump.TheVariants.{Vcd, Wires, Timers}
+use Rattle.bus_dump.specs.declared.clock.Elapsed.{Elapsed}
+use Rattle.bus_dump.specs.declared.lane.Lane.{Lane}
 use Rattle.bus_dump.specs.declared.shown.Seen.{Seen}
 use Rattle.bus_dump.specs.declared.shown.Shown.{Shown}
+use Rattle.bus_dump.specs.Scenes.{Scene}
 pub use Rattle.bus_dump.specs.declared.signal.Signal.{Signal}
 pub use Rattle.bus_dump.specs.declared.signal.Signal.TheVariants.{Carrier, Overlap, Sync, Word, Pulse, Garbled, Label, Message}
+pub use Rattle.bus_dump.specs.declared.signal.Signal.TheVariants.{Interval, Synchronization, Gap, May}
 pub use Rattle.bus_dump.specs.declared.value.Value.{Value}
 pub use Rattle.bus_dump.specs.declared.value.Value.TheVariants.{Bit, Number, Floating, Unknown}
 
@@ -52,16 +56,27 @@ label terminal seen = option_map_or shown_label (find (λ s. is_of terminal s &&
 abbrev pub message : ℕ → List Seen → Value
 message terminal seen = option_map_or (λ (s : Seen). Number s.number) (find (is_of terminal) seen) Floating
 
--- The value of a signal where this is seen.
-abbrev pub value : Signal → List Seen → Value
-value Carrier seen = Bit (list_any is_on seen)
-value Overlap seen = Bit (nat_lt 1 (length seen))
-value Sync seen = Bit (list_any is_sync seen)
-value Word seen = word_value (words seen)
-value (Pulse terminal) seen = Bit (list_any (λ s. is_of terminal s && is_on s) seen)
-value (Garbled terminal) seen = Bit (list_any (λ s. is_of terminal s && s.garbled) seen)
-value (Label terminal) seen = label terminal seen
-value (Message terminal) seen = message terminal seen
+-- What the timers of a terminal tell, of these.
+abbrev pub no_elapsed : Elapsed
+no_elapsed = record { terminal = 0; interval = false; synchronization = false; gap = false; may = false }
+
+abbrev pub elapsed : ℕ → List Elapsed → Elapsed
+elapsed terminal timers = unwrap_or (find (λ (e : Elapsed). e.terminal == terminal) timers) no_elapsed
+
+-- The value of a signal in a scene.
+abbrev pub value : Signal → Scene → Value
+value Carrier scene = Bit (list_any is_on scene.seen)
+value Overlap scene = Bit (nat_lt 1 (length scene.seen))
+value Sync scene = Bit (list_any is_sync scene.seen)
+value Word scene = word_value (words scene.seen)
+value (Pulse terminal) scene = Bit (list_any (λ s. is_of terminal s && is_on s) scene.seen)
+value (Garbled terminal) scene = Bit (list_any (λ s. is_of terminal s && s.garbled) scene.seen)
+value (Label terminal) scene = label terminal scene.seen
+value (Message terminal) scene = message terminal scene.seen
+value (Interval terminal) scene = Bit (elapsed terminal scene.timers).interval
+value (Synchronization terminal) scene = Bit (elapsed terminal scene.timers).synchronization
+value (Gap terminal) scene = Bit (elapsed terminal scene.timers).gap
+value (May terminal) scene = Bit (elapsed terminal scene.timers).may
 
 -- Whether two values are the same.
 abbrev pub is_same : Value → Value → Bool
@@ -82,19 +97,45 @@ is_wire (Pulse terminal) = true
 is_wire (Garbled terminal) = true
 is_wire (Label terminal) = false
 is_wire (Message terminal) = false
+is_wire (Interval terminal) = true
+is_wire (Synchronization terminal) = true
+is_wire (Gap terminal) = true
+is_wire (May terminal) = true
 
--- Whether a dump has a signal.
-abbrev pub has : Dump → Signal → Bool
-has Vcd signal = true
-has Wires signal = is_wire signal
+-- Whether a signal tells of a timer.
+abbrev pub is_timer : Signal → Bool
+is_timer Carrier = false
+is_timer Overlap = false
+is_timer Sync = false
+is_timer Word = false
+is_timer (Pulse terminal) = false
+is_timer (Garbled terminal) = false
+is_timer (Label terminal) = false
+is_timer (Message terminal) = false
+is_timer (Interval terminal) = true
+is_timer (Synchronization terminal) = true
+is_timer (Gap terminal) = true
+is_timer (May terminal) = true
 
--- The signals of the bus, and of the lane of a terminal.
-abbrev pub bus_signals : List Signal
-bus_signals = Carrier ∷ (Overlap ∷ (Sync ∷ (Word ∷ [])))
+-- Whether a dump has a signal, of a sender or not.
+abbrev pub has : Dump → Bool → Signal → Bool
+has Vcd sender signal = not (is_timer signal)
+has Wires sender signal = is_wire signal && not (is_timer signal)
+has Timers sender signal = sender || not (is_timer signal)
 
-abbrev pub lane_signals : ℕ → List Signal
-lane_signals terminal = Pulse terminal ∷ (Garbled terminal ∷ (Label terminal ∷ (Message terminal ∷ [])))
+-- The signals of the bus.
+abbrev pub bus_signals : Dump → List Signal
+bus_signals dump = filter (has dump false) (Carrier ∷ (Overlap ∷ (Sync ∷ (Word ∷ []))))
+
+-- The signals of a lane: of its transmissions, then of its timers.
+abbrev pub signals_of : ℕ → List Signal
+signals_of terminal =
+    Pulse terminal ∷ (Garbled terminal ∷ (Label terminal ∷ (Message terminal
+    ∷ (Interval terminal ∷ (Synchronization terminal ∷ (Gap terminal ∷ (May terminal ∷ [])))))))
+
+abbrev pub lane_signals : Dump → Lane → List Signal
+lane_signals dump lane = filter (has dump lane.sender) (signals_of lane.terminal)
 
 -- The signals of a dump with these lanes, in order.
-abbrev pub signals : Dump → List ℕ → List Signal
-signals dump lanes = filter (has dump) (bus_signals ++ flat_map lane_signals lanes)
+abbrev pub signals : Dump → List Lane → List Signal
+signals dump lanes = bus_signals dump ++ flat_map (lane_signals dump) lanes

@@ -1,6 +1,6 @@
 -- How a writer walks over a list: what it keeps, and what that stands for.
-use Rattle.std.specs.Prelude.{◌≡◌, ℕ, ◌+◌, ◌-◌, ◌≤◌, ◌<◌, ◌%◌, Bool, nat_lt, List, [], ◌++◌, codes, length, take, drop, slice_get, slice_index_or, Option, Some, None, if◌then◌else◌}
-use Rattle.std.specs.List.{AllByRecursion, count_by, filter_map, flat_map, range_with_len}
+use Rattle.std.specs.Prelude.{◌≡◌, ℕ, ◌+◌, ◌-◌, ◌≤◌, ◌<◌, ◌%◌, Bool, nat_lt, List, [], length, take, drop, slice_get, slice_index_or, Option, Some, None, if◌then◌else◌}
+use Rattle.std.specs.List.{AllByRecursion, count_by, filter_map, range_with_len}
 use Rattle.std.specs.Option.{option_and_then}
 use Rattle.bus_strings.specs.Limits.{word_bits, most_terminal}
 use Rattle.bus_strings.specs.Messages.{Wordstring, Message, Entry, bits}
@@ -10,18 +10,15 @@ use Rattle.bus_dump.specs.declared.live.Live.{Live}
 use Rattle.bus_dump.specs.declared.walk.Walk.{Walk}
 use Rattle.bus_dump.specs.Doubled.{doubled}
 use Rattle.bus_dump.specs.OnBus.{shown_of, shown_at, sync_bits}
+use Rattle.bus_dump.specs.Scenes.{Scene}
 use Rattle.bus_dump.specs.Seen.{Seen, holds, is_sent_by, number_of, seen_entry, seen_at}
 use Rattle.bus_dump.specs.Signals.{Signal, Value, Number, Floating, Unknown, shown_word}
 use Rattle.bus_dump.specs.DumpTexts.{changes, value_line}
 
 -- ---- puts
 -- The line of a signal, where it changes.
-abbrev pub change_put : List Seen → List Seen → Signal → List ℕ
+abbrev pub change_put : Scene → Scene → Signal → List ℕ
 change_put before now signal = if changes before now signal then value_line now signal else []
-
--- The values at bit time 0, at which this is seen.
-abbrev pub first_put : List Signal → List Seen → List ℕ
-first_put signals seen = codes "#0\n$dumpvars\n" ++ flat_map (value_line seen) signals ++ codes "$end\n"
 
 -- ---- values
 -- The word on the bus where one transmission more is seen.
@@ -52,7 +49,14 @@ pub record IsGlance (message : Message) (at : ℕ) (glance : Glance) : Type 0 wh
 -- ---- live transmissions
 -- What is kept of entry k, given the entry.
 abbrev pub live_of : List Entry → ℕ → Entry → Live
-live_of list k x = record { at = k; end = end_of x; number = number_of list k x.terminal; garbled = garbled list k }
+live_of list k x = record {
+  at = k;
+  terminal = x.terminal;
+  moment = x.moment;
+  end = end_of x;
+  number = number_of list k x.terminal;
+  garbled = garbled list k;
+}
 
 -- What is kept of entry k at bit time t, if its span holds t.
 abbrev pub live_entry : List Entry → ℕ → ℕ → Option Live

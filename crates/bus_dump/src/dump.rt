@@ -10,16 +10,19 @@ pub enum Dump {
     Vcd,
     /// The signals of one bit alone.
     Wires,
+    /// All signals, and the timers of each sender.
+    Timers,
 }
 
 impl Dump {
-    /// Whether the dump has the signal.
-    pub(crate) fn has(self, signal: Signal) -> bool
-        ensures { result ≡ signals.has self signal }
+    /// Whether the dump has the signal, of a sender or not.
+    pub(crate) fn has(self, sender: bool, signal: Signal) -> bool
+        ensures { result ≡ signals.has self sender signal }
     {
         match self {
-            Dump::Vcd => true,
-            Dump::Wires => signal.is_wire(),
+            Dump::Vcd => !signal.is_timer(),
+            Dump::Wires => signal.is_wire() && !signal.is_timer(),
+            Dump::Timers => sender || !signal.is_timer(),
         }
     }
 }

@@ -1,13 +1,15 @@
 // The lanes of a dump and their signals.
-ghost use Rattle.std.specs.Prelude.{◌≡◌, ◌≤◌, ◌<◌, ◌+◌, ◌++◌, [], ◌∷◌, length, map, filter};
+ghost use Rattle.std.specs.Prelude.{◌≡◌, ◌≤◌, ◌<◌, ◌+◌, ◌++◌, [], ◌∷◌, IsTrue, length, map, filter};
 ghost use Rattle.std.specs.List.{range_with_len};
 ghost use Rattle.arrayvec.specs.ArrayVec.{array_vec_len};
 ghost use Rattle.bus_strings.specs.Limits.{most_terminal};
+ghost use Rattle.bus_table.specs.Valid.{is_valid};
 ghost use Rattle.bus_table.specs.Turns.{turn_order};
 ghost use Rattle.bus_dump.specs.Lanes as definition;
-ghost use Rattle.bus_dump.specs.Signals.{bus_signals, has, lane_signals, signals as signals_of};
+ghost use Rattle.bus_dump.specs.Signals.{bus_signals, lane_signals};
 
 use crate::dump::Dump;
+use crate::lane::Lane;
 use crate::signal::Signal;
 use arrayvec::ArrayVec;
 use bus_regime::turn;
@@ -15,11 +17,13 @@ use bus_strings::limits::MOST_TERMINAL;
 use bus_strings::transmission::Transmission;
 use bus_table::table::Table;
 
-// The most lanes, of 128 senders and 128 other terminals.
-const MOST_LANES: usize = 256;
+/// The most lanes, of 128 senders and 128 other terminals.
+pub(crate) const MOST_LANES: usize = 256;
 
-// The most signals: four of the bus and four of each lane.
-pub(crate) const MOST_SIGNALS: usize = 4 + 4 * MOST_LANES;
+// The signals of the bus, and of a lane.
+const BUS_SIGNALS: usize = 4;
+
+const LANE_SIGNALS: usize = 8;
 
 // Whether a terminal is a sender of the table.
 fn is_sender(table: &Table, terminal: u8) -> bool
@@ -45,8 +49,9 @@ fn is_stranger(table: &Table, list: &[Transmission], terminal: u8) -> bool
     !is_sender(table, terminal) && sends(list, terminal)
 }
 
-// How many senders the table has.
-fn sender_count(table: &Table) -> usize
+/// How many senders the table has.
+pub(crate) fn sender_count(table: &Table) -> usize
+    ensures valid { IsTrue (is_valid table.now) }
     ensures value { result ≡ length table.now.senders }
     ensures most { result ≤ 128 }
 {
@@ -54,44 +59,53 @@ fn sender_count(table: &Table) -> usize
 }
 
 // Adds the senders in turn order, of which there are at most 128.
-fn add_senders(lanes: &mut ArrayVec<u8, MOST_LANES>, table: &Table)
+fn add_senders(lanes: &mut ArrayVec<Lane, MOST_LANES>, table: &Table)
     requires { lanes.old.items ≡ [] }
-    ensures items { lanes.new.items ≡ map (λ sender. sender.number) (turn_order table.now) }
+    ensures items { lanes.new.items ≡ map definition.sender_lane (turn_order table.now) }
     ensures few { array_vec_len lanes.new ≤ 128 }
 {
     for k in 0..sender_count(table) {
-        lanes.push(turn(table, k).number());
+        let terminal = turn(table, k).number();
+        lanes.push(Lane {
+            terminal,
+            sender: true,
+        });
     }
 }
 
 // Adds a terminal, where it is a stranger.
 fn add_stranger(
-    lanes: &mut ArrayVec<u8, MOST_LANES>,
+    lanes: &mut ArrayVec<Lane, MOST_LANES>,
     table: &Table,
     list: &[Transmission],
     terminal: u8,
 )
     requires { array_vec_len lanes.old < MOST_LANES }
-    ensures items { lanes.new.items ≡ lanes.old.items ++ filter (definition.is_stranger table.now list.now) (terminal ∷ []) }
+    ensures items { lanes.new.items
+        ≡ lanes.old.items ++ map definition.stranger_lane (filter (definition.is_stranger table.now list.now) (terminal ∷ [])) }
     ensures few { array_vec_len lanes.new ≤ array_vec_len lanes.old + 1 }
 {
     if is_stranger(table, list, terminal) {
-        lanes.push(terminal);
+        lanes.push(Lane {
+            terminal,
+            sender: false,
+        });
     }
 }
 
 // Adds the strangers of the list by number.
-fn add_strangers(lanes: &mut ArrayVec<u8, MOST_LANES>, table: &Table, list: &[Transmission])
+fn add_strangers(lanes: &mut ArrayVec<Lane, MOST_LANES>, table: &Table, list: &[Transmission])
     requires { array_vec_len lanes.old ≤ 128 }
-    ensures { lanes.new.items ≡ lanes.old.items ++ filter (definition.is_stranger table.now list.now) (range_with_len 1 most_terminal) }
+    ensures { lanes.new.items
+        ≡ lanes.old.items ++ map definition.stranger_lane (filter (definition.is_stranger table.now list.now) (range_with_len 1 most_terminal)) }
 {
     for before in 0..MOST_TERMINAL {
         add_stranger(lanes, table, list, before + 1);
     }
 }
 
-// The senders in turn order, then the strangers of the list by number.
-fn lanes_of(table: &Table, list: &[Transmission]) -> ArrayVec<u8, MOST_LANES>
+/// The lanes of a dump: the senders in turn order, then the strangers of the list by number.
+pub(crate) fn lanes_of(table: &Table, list: &[Transmission]) -> ArrayVec<Lane, MOST_LANES>
     ensures { result.items ≡ definition.lanes table.now list.now }
 {
     let mut lanes = ArrayVec::new();
@@ -100,54 +114,35 @@ fn lanes_of(table: &Table, list: &[Transmission]) -> ArrayVec<u8, MOST_LANES>
     lanes
 }
 
-// Adds a signal, where the dump has it.
-fn add(signals: &mut ArrayVec<Signal, MOST_SIGNALS>, dump: Dump, signal: Signal)
-    requires { array_vec_len signals.old < MOST_SIGNALS }
-    ensures items { signals.new.items ≡ signals.old.items ++ filter (has dump) (signal ∷ []) }
-    ensures few { array_vec_len signals.new ≤ array_vec_len signals.old + 1 }
+/// The signals of the bus that a dump has.
+pub(crate) fn bus_signals(dump: Dump) -> ArrayVec<Signal, BUS_SIGNALS>
+    ensures { result.items ≡ bus_signals dump }
 {
-    if dump.has(signal) {
-        signals.push(signal);
-    }
+    let mut signals = ArrayVec::from([
+        Signal::Carrier,
+        Signal::Overlap,
+        Signal::Sync,
+        Signal::Word,
+    ]);
+    signals.retain(|signal| dump.has(false, *signal));
+    signals
 }
 
-// Adds the signals of the bus.
-fn add_bus(signals: &mut ArrayVec<Signal, MOST_SIGNALS>, dump: Dump)
-    requires { array_vec_len signals.old ≡ 0 }
-    ensures items { signals.new.items ≡ signals.old.items ++ filter (has dump) bus_signals }
-    ensures few { array_vec_len signals.new ≤ 4 }
+/// The signals of a lane that a dump has.
+pub(crate) fn lane_signals(dump: Dump, lane: Lane) -> ArrayVec<Signal, LANE_SIGNALS>
+    ensures { result.items ≡ lane_signals dump lane }
 {
-    add(signals, dump, Signal::Carrier);
-    add(signals, dump, Signal::Overlap);
-    add(signals, dump, Signal::Sync);
-    add(signals, dump, Signal::Word);
-}
-
-// Adds the signals of a lane.
-fn add_lane(signals: &mut ArrayVec<Signal, MOST_SIGNALS>, dump: Dump, terminal: u8)
-    requires { array_vec_len signals.old + 4 ≤ MOST_SIGNALS }
-    ensures items { signals.new.items ≡ signals.old.items ++ filter (has dump) (lane_signals terminal) }
-    ensures few { array_vec_len signals.new ≤ array_vec_len signals.old + 4 }
-{
-    add(signals, dump, Signal::Pulse(terminal));
-    add(signals, dump, Signal::Garbled(terminal));
-    add(signals, dump, Signal::Label(terminal));
-    add(signals, dump, Signal::Message(terminal));
-}
-
-/// The signals of a dump, in order.
-pub(crate) fn signals(
-    dump: Dump,
-    table: &Table,
-    list: &[Transmission],
-) -> ArrayVec<Signal, MOST_SIGNALS>
-    ensures { result.items ≡ signals_of dump (definition.lanes table.now list.now) }
-{
-    let mut signals = ArrayVec::new();
-    add_bus(&mut signals, dump);
-    let lanes = lanes_of(table, list);
-    for lane in lanes.as_slice() {
-        add_lane(&mut signals, dump, *lane);
-    }
+    let terminal = lane.terminal;
+    let mut signals = ArrayVec::from([
+        Signal::Pulse(terminal),
+        Signal::Garbled(terminal),
+        Signal::Label(terminal),
+        Signal::Message(terminal),
+        Signal::Interval(terminal),
+        Signal::Synchronization(terminal),
+        Signal::Gap(terminal),
+        Signal::May(terminal),
+    ]);
+    signals.retain(|signal| dump.has(lane.sender, *signal));
     signals
 }

@@ -6,26 +6,34 @@
 //!   dump.
 //!
 //! The definitions are in `specs/`, by bit times: `OnBus` (what a message has on the bus), `Seen` (what is seen of a list at a bit
-//! time), `Signals` (the value of each signal of that), `Lanes` (the terminals that have signals), `Doubled`, and `DumpTexts` (the text).
+//! time), `Timers` (what the timers of a sender tell), `Scenes` (both), `Signals` (the value of each signal of that), `Lanes` (the
+//! terminals that have signals), `Doubled`, `DumpTexts` (the text), and `Reading` (what a reader of such a text finds).
 //! No call takes memory.
 #![tactic(auto)]
 
 mod binary;
 mod change;
+mod clock;
+mod clocks;
+mod declaration;
 mod doubling;
 mod dump;
 mod glance;
 mod head;
+mod lane;
 mod lanes;
 pub mod laws;
+mod layout;
 mod live;
 mod look;
+mod scene;
 mod shown;
 mod signal;
 #[cfg(test)]
 mod tests;
 mod value;
 mod walk;
+mod watch;
 mod writing;
 
 pub use doubling::doubled;

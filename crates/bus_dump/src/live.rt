@@ -8,6 +8,10 @@ pub(crate) const TERMINALS: usize = 129;
 pub(crate) struct Live {
     /// Its place in the list.
     pub at: usize,
+    /// The terminal that sends it.
+    pub terminal: u8,
+    /// The moment at which it begins.
+    pub moment: u64,
     /// The moment at which it has ended.
     pub end: u64,
     /// Which transmission of its terminal it is, from 1.

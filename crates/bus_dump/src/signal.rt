@@ -21,6 +21,14 @@ pub(crate) enum Signal {
     Label(u8),
     /// The number of the terminal's transmission.
     Message(u8),
+    /// Whether the transmit interval of the sender has elapsed.
+    Interval(u8),
+    /// Whether its synchronization gap has elapsed since its last own start.
+    Synchronization(u8),
+    /// Whether its terminal gap has elapsed, behind the synchronization gap.
+    Gap(u8),
+    /// Whether it may start.
+    May(u8),
 }
 
 impl Signal {
@@ -34,7 +42,21 @@ impl Signal {
             | Signal::Sync
             | Signal::Pulse(_)
             | Signal::Garbled(_) => true,
+            Signal::Interval(_) | Signal::Synchronization(_) | Signal::Gap(_) | Signal::May(_) =>
+                true,
             Signal::Word | Signal::Label(_) | Signal::Message(_) => false,
+        }
+    }
+
+    /// Whether it tells of a timer.
+    pub fn is_timer(self) -> bool
+        ensures { result ≡ signals.is_timer self }
+    {
+        match self {
+            Signal::Interval(_) | Signal::Synchronization(_) | Signal::Gap(_) | Signal::May(_) =>
+                true,
+            Signal::Carrier | Signal::Overlap | Signal::Sync | Signal::Word => false,
+            Signal::Pulse(_) | Signal::Garbled(_) | Signal::Label(_) | Signal::Message(_) => false,
         }
     }
 }

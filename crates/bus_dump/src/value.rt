@@ -2,9 +2,21 @@ ghost use Rattle.std.specs.Prelude.{◌≡◌, ◌&&◌};
 ghost use Rattle.std.specs.List.{list_any};
 ghost use Rattle.bus_dump.specs.Signals as signals;
 ghost use Rattle.bus_dump.specs.Walks.{with_word};
+ghost use Rattle.bus_dump.specs.Watching.{scene_of};
 
+use crate::clock::Elapsed;
+use crate::scene::{Scene, has_carrier};
 use crate::shown::Seen;
 use crate::signal::Signal;
+
+// What is told of a terminal that has no timers here.
+const NOTHING: Elapsed = Elapsed {
+    terminal: 0,
+    interval: false,
+    synchronization: false,
+    gap: false,
+    may: false,
+};
 
 /// The value of a signal.
 #[derive(Clone, Copy, Debug, PartialEq, Eq)]
@@ -128,13 +140,6 @@ fn garbled(seen: &[Seen], terminal: u8) -> bool
         .any(|one| one.terminal == terminal && one.garbled)
 }
 
-// Whether some transmission has a pulse.
-fn carrier(seen: &[Seen]) -> bool
-    ensures { result ≡ list_any signals.is_on seen.now }
-{
-    seen.iter().any(|one| is_on(one))
-}
-
 // Whether some transmission is in the sync of a word.
 fn sync(seen: &[Seen]) -> bool
     ensures { result ≡ list_any signals.is_sync seen.now }
@@ -142,12 +147,25 @@ fn sync(seen: &[Seen]) -> bool
     seen.iter().any(|one| is_sync(one))
 }
 
-/// The value of a signal where this is seen.
-pub(crate) fn value_of(signal: Signal, seen: &[Seen]) -> Value
-    ensures { result ≡ signals.value signal seen.now }
+/// What the timers of a terminal tell, of these.
+pub(crate) fn elapsed(timers: &[Elapsed], terminal: u8) -> Elapsed
+    ensures { result ≡ signals.elapsed terminal timers.now }
 {
+    for one in timers {
+        if one.terminal == terminal {
+            return *one;
+        }
+    }
+    NOTHING
+}
+
+/// The value of a signal in a scene.
+pub(crate) fn value_of(signal: Signal, scene: &Scene) -> Value
+    ensures { result ≡ signals.value signal (scene_of scene.now) }
+{
+    let seen = scene.seen.as_slice();
     match signal {
-        Signal::Carrier => Value::Bit(carrier(seen)),
+        Signal::Carrier => Value::Bit(has_carrier(seen)),
         Signal::Overlap => Value::Bit(seen.len() > 1),
         Signal::Sync => Value::Bit(sync(seen)),
         Signal::Word => word(seen),
@@ -155,5 +173,13 @@ pub(crate) fn value_of(signal: Signal, seen: &[Seen]) -> Value
         Signal::Garbled(terminal) => Value::Bit(garbled(seen, terminal)),
         Signal::Label(terminal) => label(seen, terminal),
         Signal::Message(terminal) => message(seen, terminal),
+        Signal::Interval(terminal) => Value::Bit(
+            elapsed(scene.timers.as_slice(), terminal).interval,
+        ),
+        Signal::Synchronization(terminal) => {
+            Value::Bit(elapsed(scene.timers.as_slice(), terminal).synchronization)
+        }
+        Signal::Gap(terminal) => Value::Bit(elapsed(scene.timers.as_slice(), terminal).gap),
+        Signal::May(terminal) => Value::Bit(elapsed(scene.timers.as_slice(), terminal).may),
     }
 }

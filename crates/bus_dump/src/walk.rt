@@ -67,6 +67,8 @@ impl<'a> Walk<'a> {
         self.counts[terminal] = number;
         self.live.push(Live {
             at: self.begun,
+            terminal: x.terminal,
+            moment: t,
             end: x.end(),
             number,
             garbled,

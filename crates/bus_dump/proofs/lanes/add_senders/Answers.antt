@@ -1,8 +1,9 @@
-use Rattle.std.proofs.Common.{◌≡◌, ◌≤◌, ◌+◌, List, length, map, arith, ap, ◌∙◌}
+use Rattle.std.proofs.Common.{◌≡◌, ◌≤◌, ◌+◌, true, List, length, map, arith, ap, ◌∙◌}
 use Rattle.std.proofs.lemmas.List.{take_all}
 use Rattle.bus_table.specs.Tables.{Sender}
 use Rattle.bus_table.specs.Turns.{turn_key, turn_order}
 use Rattle.bus_table.specs.TurnLaws.{length-sort}
+use Rattle.bus_dump.specs.Lanes.{lane_with, sender_lane}
 use Rattle.bus_dump.proofs.LaneLemmas.{mapped_more}
 use Rattle.bus_dump.proofs.lanes.add_senders.Goals as goal
 
@@ -10,8 +11,8 @@ pub loop-k-preserved : goal.loop-k-preserved
 loop-k-preserved c =
     let i = c.loop-k.invariant in
     record {
-      items = mapped_more (λ (sender : Sender). sender.number) (turn_order c.args.table.now) c.loop-k.k c.turn.result.now c.number.result c.loop-k.lanes.items c.push.new.self.items
-          c.turn.ensures c.number.ensures.value i.items c.push.ensures.items;
+      items = mapped_more sender_lane (turn_order c.args.table.now) c.loop-k.k c.turn.result.now _ c.loop-k.lanes.items c.push.new.self.items
+          c.turn.ensures (ap (lane_with true) c.number-terminal.ensures.value) i.items c.push.ensures.items;
       count = c.push.ensures.len ∙ ap (λ n. n + 1) i.count;
     }
 
@@ -20,4 +21,4 @@ returns-clause-items c =
     let order : List Sender = turn_order c.args.table.now in
     let long : length order ≡ length c.args.table.now.senders = length-sort (turn_key c.args.table.now.mode) c.args.table.now.senders in
     let all : length order ≤ c.loop-k.k = omega (arith, c.sender_count-k-end.ensures.value) in
-    c.loop-k.invariant.items ∙ ap (map (λ (sender : Sender). sender.number)) (take_all c.loop-k.k order all)
+    c.loop-k.invariant.items ∙ ap (map sender_lane) (take_all c.loop-k.k order all)

@@ -1,50 +1,74 @@
-use Rattle.std.proofs.Common.{List, ℕ, ◌≡◌, ◌≤◌, ◌-◌, subst, arith, ap, ◌∙◌}
+use Rattle.std.proofs.Common.{List, ℕ, ◌≡◌, ◌≤◌, ◌-◌, map, subst, arith, ap, ◌∙◌}
 use Rattle.bus_outer.specs.Texts.{Adds}
-use Rattle.arrayvec.specs.ArrayVec.{ArrayVec}
 use Rattle.bus_outer.specs.TextLaws.{◌▸◌}
 use Rattle.bus_strings.specs.Messages.{Entry}
-use Rattle.bus_dump.specs.Seen.{Seen, seen_at}
+use Rattle.bus_table.specs.Tables.{Sender}
 use Rattle.bus_dump.specs.DumpTexts.{first_values}
-use Rattle.bus_dump.proofs.WriteLemmas.{first_is, last_put, next_put}
+use Rattle.bus_dump.specs.Layouts.{signals_of}
+use Rattle.bus_dump.specs.Scenes.{elapsed_at, scene_at, timed}
+use Rattle.bus_dump.specs.Seen.{seen_at}
+use Rattle.bus_dump.specs.Watching.{StaysAs, scene_of}
+use Rattle.bus_dump.proofs.WriteLemmas.{first_is, last_put, next_put, scene_is, scene_stays}
 use Rattle.bus_dump.proofs.writing.put_bit_times.Goals as goal
 
 pub loop-until-init : goal.loop-until-init
 loop-until-init g c =
-    let own : List Entry = c.begin_all.new.self.list.now in
-    let same : own ≡ c.args.list.now = c.begin_all.ensures.list ∙ c.new-walk.ensures.list in
+    let dump = c.args.layout.now.dump in
+    let table = c.args.table.now in
+    let senders : List Sender = timed dump table in
+    let own : List Entry = c.new-watch.result.walk.list.now in
+    let same : own ≡ c.args.list.now = c.new-watch.ensures.list in
+    let keeping = c.new-watch.ensures.keeping in
+    let now : scene_of c.look-until.new.now ≡ scene_at dump table c.args.list.now 0 =
+    scene_is c.look-until.new.now.seen.items (seen_at own 0) c.look-until.new.now.timers.items (map (elapsed_at table own 0) senders)
+    c.look-until.ensures.seen (c.look-until.ensures.timers table senders keeping) ∙ ap (λ (l : List Entry). scene_at dump table l 0) same in
     record {
       list = same;
-      walkable = c.begin_all.ensures.walkable;
-      stands = c.begin_all.ensures.stands;
-      now = c.look_around-until.ensures.seen;
-      later = c.look_around-until.ensures.later;
-      most = c.look_around-until.ensures.most;
-      ahead = c.look_around-until.ensures.ahead;
-      steady = c.look_around-until.ensures.steady;
+      watch = c.new-watch.ensures.watch;
+      keeping = keeping;
+      seen = c.look-until.ensures.seen;
+      now = now;
+      later = c.look-until.ensures.later;
+      most = c.look-until.ensures.most;
+      ahead = c.look-until.ensures.ahead;
+      steady = c.look-until.ensures.steady;
+      stays = subst (λ (l : List Entry). StaysAs (scene_at dump table l) 0 c.look-until.result) same
+          (scene_stays dump table own 0 c.look-until.result c.look-until.ensures.steady (c.look-until.ensures.still table senders keeping));
       adds = subst (λ (t : List ℕ). Adds g.K.Sink.held g.K.Sink.faults c.args.sink.now c.put_first.new.sink c.args.text.now c.put_first.new.text t)
-          (first_is c.args.signals.now own c.args.list.now c.as_slice.result.now same (c.as_slice.ensures.value ∙ c.look_around-until.ensures.seen))
+          (first_is (signals_of c.args.layout.now) (scene_at dump table c.args.list.now) (scene_of c.look-until.new.now) now)
           c.put_first.ensures;
     }
 
 pub loop-until-preserved : goal.loop-until-preserved
 loop-until-preserved g c =
     let i = c.loop-until.invariant in
-    let own : List Entry = c.loop-until.walk.list.now in
-    let was = c.as_slice-in-loop-until.ensures.value ∙ ap (λ (v : ArrayVec Seen). v.items) c.swap.ensures.x_after ∙ i.now in
-    let is = c.as_slice-in-loop-until-2.ensures.value ∙ c.look_around-until-in-loop-until.ensures.seen
-    ∙ ap (λ (l : List Entry). seen_at l c.loop-until.until) c.go_on.ensures.list in
+    let dump = c.args.layout.now.dump in
+    let table = c.args.table.now in
+    let senders : List Sender = timed dump table in
+    let own : List Entry = c.go_on.new.self.walk.list.now in
+    let same : own ≡ c.args.list.now = c.go_on.ensures.list ∙ i.list in
+    let keeping = c.go_on.ensures.keeping table senders i.keeping in
+    let was : scene_of c.swap.new.x ≡ scene_at dump table c.args.list.now c.loop-until.t = ap scene_of c.swap.ensures.x_after ∙ i.now in
+    let look = c.look-until-in-loop-until in
+    let now : scene_of look.new.now ≡ scene_at dump table c.args.list.now c.loop-until.until =
+    scene_is look.new.now.seen.items (seen_at own c.loop-until.until) look.new.now.timers.items (map (elapsed_at table own c.loop-until.until) senders)
+    look.ensures.seen (look.ensures.timers table senders keeping) ∙ ap (λ (l : List Entry). scene_at dump table l c.loop-until.until) same in
     record {
-      list = c.go_on.ensures.list ∙ i.list;
-      walkable = c.go_on.ensures.walkable;
-      stands = c.go_on.ensures.stands;
-      now = c.look_around-until-in-loop-until.ensures.seen;
-      later = c.look_around-until-in-loop-until.ensures.later;
-      most = c.look_around-until-in-loop-until.ensures.most;
-      ahead = c.look_around-until-in-loop-until.ensures.ahead;
-      steady = c.look_around-until-in-loop-until.ensures.steady;
+      list = same;
+      watch = c.go_on.ensures.watch;
+      keeping = keeping;
+      seen = look.ensures.seen;
+      now = now;
+      later = look.ensures.later;
+      most = look.ensures.most;
+      ahead = look.ensures.ahead;
+      steady = look.ensures.steady;
+      stays = subst (λ (l : List Entry). StaysAs (scene_at dump table l) c.loop-until.until look.result) same
+          (scene_stays dump table own c.loop-until.until look.result look.ensures.steady (look.ensures.still table senders keeping));
       adds = subst (λ (t : List ℕ). Adds g.K.Sink.held g.K.Sink.faults c.args.sink.now c.put_changes.new.sink c.args.text.now c.put_changes.new.text t)
-          (next_put c.args.signals.now own c.args.list.now (first_values c.args.signals.now c.args.list.now) c.loop-until.t c.loop-until.until
-          c.as_slice-in-loop-until.result.now c.as_slice-in-loop-until-2.result.now i.list i.later i.steady was is)
+          (next_put (signals_of c.args.layout.now) (scene_at dump table c.args.list.now)
+          (first_values (signals_of c.args.layout.now) (scene_at dump table c.args.list.now 0)) c.loop-until.t c.loop-until.until
+          (scene_of c.swap.new.x) (scene_of look.new.now) i.later i.stays was now)
           (i.adds ▸ c.put_changes.ensures);
     }
 
@@ -52,7 +76,8 @@ pub returns : goal.returns
 returns g c =
     let i = c.loop-until.invariant in
     let low : c.loop-until.t ≤ c.args.horizon - 1 = omega (arith, i.later, i.most, c.max-limit.ensures) in
+    let at = scene_at c.args.layout.now.dump c.args.table.now c.args.list.now in
     subst (λ (t : List ℕ). Adds g.K.Sink.held g.K.Sink.faults c.args.sink.now c.loop-until.sink c.args.text.now c.loop-until.text t)
-    (last_put c.args.signals.now c.loop-until.walk.list.now c.args.list.now (first_values c.args.signals.now c.args.list.now) c.loop-until.t c.loop-until.until
-    c.args.horizon i.list low i.later c.loop-until-test.false i.steady)
+    (last_put (signals_of c.args.layout.now) at (first_values (signals_of c.args.layout.now) (at 0)) c.loop-until.t c.loop-until.until
+    c.args.horizon low i.later c.loop-until-test.false i.stays)
     i.adds

@@ -2,23 +2,29 @@ use Rattle.std.proofs.Common.{◌≡◌, ◌<◌, ◌≤◌, ◌-◌, ◌++◌}
 use Rattle.std.specs.List.{flat_map, range_with_len}
 use Rattle.bus_outer.specs.Texts.{Adds}
 use Rattle.bus_dump.specs.DumpTexts.{changes_at, first_values}
+use Rattle.bus_dump.specs.Layouts.{signals_of}
+use Rattle.bus_dump.specs.Scenes.{scene_at, timed}
 use Rattle.bus_dump.specs.Seen.{seen_at}
-use Rattle.bus_dump.specs.Walks.{BeginsFrom, IsWalkable, Stands, SteadyTo}
+use Rattle.bus_dump.specs.Walks.{BeginsFrom, SteadyTo}
+use Rattle.bus_dump.specs.Watching.{IsWatch, Keeping, StaysAs, scene_of}
 use Rattle.bus_dump.proofs.writing.put_bit_times.Given as goal
 
--- the walk stands at bit time t, what is seen there is known and stays so until then, and all up to t is put
+-- the watch stands at bit time t, the scene there is known and stays so until then, and all up to t is put
 abbrev pub invariant-loop-until : goal.invariant-loop-until
 invariant-loop-until g l = record {
-  list : l.walk.list.now ≡ l.list;
-  walkable : IsWalkable l.walk.list.now;
-  stands : Stands l.walk.list.now l.t l.walk;
-  now : l.now.items ≡ seen_at l.walk.list.now l.t;
+  list : l.watch.walk.list.now ≡ l.list;
+  watch : IsWatch l.t l.watch;
+  keeping : Keeping l.table (timed l.layout.dump l.table) l.t l.watch;
+  seen : l.now.seen.items ≡ seen_at l.watch.walk.list.now l.t;
+  now : scene_of l.now ≡ scene_at l.layout.dump l.table l.list l.t;
   later : l.t < l.until;
   most : l.until ≤ l.limit;
-  ahead : BeginsFrom l.walk.list.now l.walk.begun l.until;
-  steady : SteadyTo l.walk.list.now l.t l.until;
+  ahead : BeginsFrom l.watch.walk.list.now l.watch.walk.begun l.until;
+  steady : SteadyTo l.watch.walk.list.now l.t l.until;
+  stays : StaysAs (scene_at l.layout.dump l.table l.list) l.t l.until;
   adds : Adds g.K.Sink.held g.K.Sink.faults l.fn.sink l.sink l.fn.text l.text
-      (first_values l.signals l.list ++ flat_map (changes_at l.signals l.list) (range_with_len 1 l.t));
+      (first_values (signals_of l.layout) (scene_at l.layout.dump l.table l.list 0)
+      ++ flat_map (changes_at (signals_of l.layout) (scene_at l.layout.dump l.table l.list)) (range_with_len 1 l.t));
 }
 
 abbrev pub decreases-loop-until : goal.decreases-loop-until

@@ -1,0 +1,584 @@
+-- What a reader makes of a dump.
+use Rattle.std.proofs.Common.{◌≡◌, ℕ, zero, suc, ◌+◌, ◌-◌, ◌*◌, ◌^◌, ◌<◌, ◌≤◌, Bool, true, false, not, ◌&&◌, ◌||◌, cond, eqb, leb, List, [], ◌∷◌, ◌++◌, map, codes, decimal, fold, min, Option, Some, None}
+use Rattle.std.proofs.Common.{inl, inr, arith, sym, refl, ap, subst, ◌∙◌, append_assoc, append-nil}
+use Rattle.std.specs.Int.Digits.{AllBelowBase, number_from_digits}
+use Rattle.std.specs.List.{AllByRecursion, filter, flat_map, list_any, onto_first, range_with_len, slice_split}
+use Rattle.std.specs.Str.{bytes_eq}
+use Rattle.std.specs.Str.Parse.{digits_value}
+use Rattle.std.specs.Char.{digit_value}
+use Rattle.std.specs.Int.Digits.{digits_of}
+use Rattle.std.proofs.lemmas.Bool.{cases_lt, cases_Bool, true≢false, le-leb, lt-leb, eqb-true, eq-eqb, ne_eqb}
+use Rattle.std.proofs.lemmas.Int.Digits.{all_below_base_digits_of, digits_value_is, number_digits_of}
+use Rattle.std.proofs.lemmas.List.Splits.{slice_split_at, slice_split_none}
+use Rattle.std.proofs.lemmas.List.Elements.{All-from_recursion}
+use Rattle.std.proofs.lemmas.Slice.Eq.{bytes_eq-Decides}
+use Rattle.bus_text.specs.Canonical.{IsFieldByte}
+use Rattle.bus_text.specs.Lines.{is_blank, is_feed, physical_lines}
+use Rattle.bus_text.specs.NumberLaws.{decimal_field, decimal_is}
+use Rattle.bus_strings.specs.Members.{In}
+use Rattle.bus_strings.specs.MemberLaws.{in_filter}
+use Rattle.bus_dump.specs.DumpTexts.{binary, changes, changes_at, changes_text, changes_to, declaration, first_values, head_text, behind_text, bits_text, id_text, last_stamp, name_text, width_text, some_changes, stamp, text_of, value_line, value_text}
+use Rattle.bus_dump.specs.Reading.{gives, other, Place, line_of, read, read_on, step, vector, vector_value}
+use Rattle.bus_dump.specs.Scenes.{Scene}
+use Rattle.bus_dump.specs.Signals.{Signal, Carrier, Overlap, Sync, Word, Pulse, Garbled, Label, Message, Interval, Synchronization, Gap, May, Value, Bit, Number, Floating, Unknown, value, is_same}
+
+-- ---- lines
+abbrev pub Feedless : List ℕ → Type 0
+Feedless line = AllByRecursion (λ b. is_feed b ≡ false) line
+
+goes_on : (b : ℕ) (bs : List ℕ) (line : List ℕ) (lines : List (List ℕ)) → is_feed b ≡ false → physical_lines bs ≡ line ∷ lines
+    → physical_lines (b ∷ bs) ≡ (b ∷ line) ∷ lines
+goes_on b bs line lines h e = ap (λ t. cond t ([] ∷ physical_lines bs) (onto_first b (physical_lines bs))) h ∙ ap (onto_first b) e
+
+line_first : (line rest : List ℕ) → Feedless line → physical_lines (line ++ 10 ∷ rest) ≡ line ∷ physical_lines rest
+line_first [] rest h = refl
+line_first (b ∷ line) rest h = goes_on b (line ++ 10 ∷ rest) line (physical_lines rest) h.0 (line_first line rest h.1)
+
+feedless_join : (xs ys : List ℕ) → Feedless xs → Feedless ys → Feedless (xs ++ ys)
+feedless_join [] ys h k = k
+feedless_join (x ∷ xs) ys h k = (h.0, feedless_join xs ys h.1 k)
+
+feedless_test : (xs : List ℕ) → list_any is_feed xs ≡ false → Feedless xs
+feedless_test [] h = tt
+feedless_test (x ∷ xs) h = elim (cases_Bool (is_feed x)) [
+  | inl yes' ↦ absurd (true≢false (sym (ap (λ b. b || list_any is_feed xs) yes') ∙ h))
+  | inr no' ↦ (no', feedless_test xs (sym (ap (λ b. b || list_any is_feed xs) no') ∙ h))
+]
+
+-- a line is read, and then the rest
+pub line_read : (id : List ℕ) (at : ℕ) (p : Place) (line rest : List ℕ) → Feedless line
+    → read_on id at p (line ++ 10 ∷ rest) ≡ read_on id at (step id at p (line_of line)) rest
+line_read id at p line rest h = ap (fold (λ (q : Place) l. step id at q (line_of l)) p) (line_first line rest h)
+
+pub line_skipped : (id : List ℕ) (at : ℕ) (p : Place) (line rest : List ℕ) → Feedless line → line_of line ≡ other
+    → read_on id at p (line ++ 10 ∷ rest) ≡ read_on id at p rest
+line_skipped id at p line rest h e = line_read id at p line rest h ∙ ap (λ l. read_on id at (step id at p l) rest) e
+
+-- ---- values
+is_same_equal : (v w : Value) → is_same v w ≡ true → v ≡ w
+is_same_equal (Bit true) (Bit true) h = refl
+is_same_equal (Bit true) (Bit false) h = absurd cc
+is_same_equal (Bit false) (Bit true) h = absurd cc
+is_same_equal (Bit false) (Bit false) h = refl
+is_same_equal (Bit a) (Number n) h = absurd cc
+is_same_equal (Bit a) Floating h = absurd cc
+is_same_equal (Bit a) Unknown h = absurd cc
+is_same_equal (Number n) (Number m) h = ap Number (eqb-true n m h)
+is_same_equal (Number n) (Bit b) h = absurd cc
+is_same_equal (Number n) Floating h = absurd cc
+is_same_equal (Number n) Unknown h = absurd cc
+is_same_equal Floating (Bit b) h = absurd cc
+is_same_equal Floating (Number m) h = absurd cc
+is_same_equal Floating Floating h = refl
+is_same_equal Floating Unknown h = absurd cc
+is_same_equal Unknown (Bit b) h = absurd cc
+is_same_equal Unknown (Number m) h = absurd cc
+is_same_equal Unknown Floating h = absurd cc
+is_same_equal Unknown Unknown h = refl
+
+-- ---- digits
+digit_is : (d : ℕ) → d < 2 → digit_value (48 + d) ≡ d
+digit_is zero h = refl
+digit_is (suc zero) h = refl
+digit_is (suc (suc d)) h = absurd (omega arith)
+
+digits_are : (ds : List ℕ) → AllBelowBase 2 ds → map digit_value (map (λ d. 48 + d) ds) ≡ ds
+digits_are [] h = refl
+digits_are (d ∷ ds) h = ap (λ x. x ∷ map digit_value (map (λ d. 48 + d) ds)) (digit_is d h.0) ∙ ap (λ l. d ∷ l) (digits_are ds h.1)
+
+-- no byte of a value's digits is a blank, nor a line feed
+abbrev NotOf : ℕ → List ℕ → Type 0
+NotOf b bs = AllByRecursion (λ x. eqb x b ≡ false) bs
+
+not_join : (b : ℕ) (xs ys : List ℕ) → NotOf b xs → NotOf b ys → NotOf b (xs ++ ys)
+not_join b [] ys h k = k
+not_join b (x ∷ xs) ys h k = (h.0, not_join b xs ys h.1 k)
+
+below_binary : (b d : ℕ) → d < 2 → 50 ≤ b → eqb (48 + d) b ≡ false
+below_binary b d low high = ne_eqb (48 + d) b (λ e. omega arith)
+
+low_binary : (b d : ℕ) → d < 2 → b < 48 → eqb (48 + d) b ≡ false
+low_binary b d low high = ne_eqb (48 + d) b (λ e. omega arith)
+
+digits_not : (b : ℕ) (ds : List ℕ) → b < 48 → AllBelowBase 2 ds → NotOf b (map (λ d. 48 + d) ds)
+digits_not b [] low h = tt
+digits_not b (d ∷ ds) low h = (low_binary b d h.0 low, digits_not b ds low h.1)
+
+binary_not : (b n : ℕ) → b < 48 → NotOf b (binary n)
+binary_not b n low = elim (cases_Bool (eqb n 0)) [
+  | inl zero' ↦ subst (NotOf b) (sym (ap (λ t. cond t (codes "0") (map (λ d. 48 + d) (digits_of 2 n))) zero')) (ne_eqb 48 b (λ e. omega arith), tt)
+  | inr more ↦ subst (NotOf b) (sym (ap (λ t. cond t (codes "0") (map (λ d. 48 + d) (digits_of 2 n))) more))
+      (digits_not b (digits_of 2 n) low (all_below_base_digits_of 2 n (omega arith)))
+]
+
+digits_read : (n : ℕ) (ds : List ℕ) → AllBelowBase 2 ds → number_from_digits 2 ds ≡ n → 0 < n → vector_value (map (λ d. 48 + d) ds) ≡ Number n
+digits_read n [] all is some = absurd (let e : 0 ≡ n = is in omega arith)
+digits_read n (d ∷ ds) all is some =
+    rw (below_binary 122 d all.0 (omega arith), below_binary 120 d all.0 (omega arith))
+    (ap Number (digits_value_is 2 (map (λ d. 48 + d) (d ∷ ds)) ∙ ap (number_from_digits 2) (digits_are (d ∷ ds) all) ∙ is))
+
+binary_read : (n : ℕ) → vector_value (binary n) ≡ Number n
+binary_read n = elim (cases_Bool (eqb n 0)) [
+  | inl zero' ↦
+      ap (λ t. vector_value (cond t (codes "0") (map (λ d. 48 + d) (digits_of 2 n)))) zero'
+      ∙ (let e : n ≡ 0 = eqb-true n 0 zero' in ap Number (sym e))
+  | inr more ↦
+      ap (λ t. vector_value (cond t (codes "0") (map (λ d. 48 + d) (digits_of 2 n)))) more
+      ∙ digits_read n (digits_of 2 n) (all_below_base_digits_of 2 n (omega arith)) (number_digits_of 2 n (omega arith))
+      (elim (cases_lt 0 n) [ inl some ↦ some | inr none ↦ absurd (true≢false (sym (eq-eqb n 0 (let e : n ≡ 0 = omega arith in e)) ∙ more)) ])
+]
+
+-- ---- identifiers
+-- the number of the terminal of a signal, 0 where it is of the bus
+abbrev pub terminal_of : Signal → ℕ
+terminal_of Carrier = 0
+terminal_of Overlap = 0
+terminal_of Sync = 0
+terminal_of Word = 0
+terminal_of (Pulse n) = n
+terminal_of (Garbled n) = n
+terminal_of (Label n) = n
+terminal_of (Message n) = n
+terminal_of (Interval n) = n
+terminal_of (Synchronization n) = n
+terminal_of (Gap n) = n
+terminal_of (May n) = n
+
+abbrev pub IsSmall : Signal → Type 0
+IsSmall s = terminal_of s < 2 ^ 64
+
+field_feedless : (bs : List ℕ) → AllByRecursion IsFieldByte bs → Feedless bs
+field_feedless [] h = tt
+field_feedless (b ∷ bs) h = (h.0.no_feed, field_feedless bs h.1)
+
+field_spaceless : (bs : List ℕ) → AllByRecursion IsFieldByte bs → NotOf 32 bs
+field_spaceless [] h = tt
+field_spaceless (b ∷ bs) h = (no_space b h.0.no_blank, field_spaceless bs h.1) where
+  no_space : (x : ℕ) → is_blank x ≡ false → eqb x 32 ≡ false
+  no_space x e = elim (cases_Bool (eqb x 32)) [
+    | inl yes' ↦ absurd (true≢false (sym (ap (λ b. b || eqb x 9 || eqb x 13) yes') ∙ e))
+    | inr no' ↦ no'
+  ]
+
+record GoodId (id : List ℕ) : Type 0 where
+  feedless : Feedless id
+  spaceless : NotOf 32 id
+
+lane_feedless : (n : ℕ) (name : List ℕ) → n < 2 ^ 64 → Feedless name → Feedless (codes "t" ++ decimal n ++ name)
+lane_feedless n name h f =
+    feedless_join (codes "t" ++ decimal n) name (refl, field_feedless (decimal n) (decimal_field n h).bytes) f
+
+lane_id : (letter n : ℕ) → is_feed letter ≡ false → eqb letter 32 ≡ false → n < 2 ^ 64 → GoodId (letter ∷ decimal n)
+lane_id letter n a b h =
+    let f = decimal_field n h in
+    record { feedless = (a, field_feedless (decimal n) f.bytes); spaceless = (b, field_spaceless (decimal n) f.bytes) }
+
+good_id : (s : Signal) → IsSmall s → GoodId (id_text s)
+good_id Carrier h = record { feedless = (refl, tt); spaceless = (refl, tt) }
+good_id Overlap h = record { feedless = (refl, tt); spaceless = (refl, tt) }
+good_id Sync h = record { feedless = (refl, tt); spaceless = (refl, tt) }
+good_id Word h = record { feedless = (refl, tt); spaceless = (refl, tt) }
+good_id (Pulse n) h = lane_id 112 n refl refl h
+good_id (Garbled n) h = lane_id 103 n refl refl h
+good_id (Label n) h = lane_id 108 n refl refl h
+good_id (Message n) h = lane_id 109 n refl refl h
+good_id (Interval n) h = lane_id 105 n refl refl h
+good_id (Synchronization n) h = lane_id 121 n refl refl h
+good_id (Gap n) h = lane_id 104 n refl refl h
+good_id (May n) h = lane_id 114 n refl refl h
+
+-- ---- the line of a value
+abbrev spaces : List ℕ → List (List ℕ)
+spaces bs = slice_split (λ b. eqb b 32) bs
+
+vector_read : (digits id : List ℕ) (v : Value) → NotOf 32 digits → NotOf 32 id → vector_value digits ≡ v
+    → vector (spaces (digits ++ 32 ∷ id)) ≡ gives id v
+vector_read digits id v a b is =
+    ap vector (slice_split_at (λ x. eqb x 32) digits 32 id (All-from_recursion _ digits a) refl
+    ∙ ap (λ l. digits ∷ l) (slice_split_none (λ x. eqb x 32) id (All-from_recursion _ id b)))
+    ∙ ap (gives id) is
+
+value_line_of : (v : Value) (id : List ℕ) → NotOf 32 id → line_of (value_text v ++ id) ≡ gives id v
+value_line_of (Bit true) id h = refl
+value_line_of (Bit false) id h = refl
+value_line_of (Number n) id h =
+    ap line_of (ap (λ l. 98 ∷ l) (append_assoc (binary n) (32 ∷ []) id))
+    ∙ vector_read (binary n) id (Number n) (binary_not 32 n (omega arith)) h (binary_read n)
+value_line_of Floating id h = vector_read (122 ∷ []) id Floating (refl, tt) h refl
+value_line_of Unknown id h = vector_read (120 ∷ []) id Unknown (refl, tt) h refl
+
+value_feedless : (v : Value) → Feedless (value_text v)
+value_feedless (Bit true) = (refl, tt)
+value_feedless (Bit false) = (refl, tt)
+value_feedless (Number n) = feedless_join (98 ∷ binary n) (32 ∷ []) (refl, binary_not 10 n (omega arith)) (refl, tt)
+value_feedless Floating = feedless_test (codes "bz ") refl
+value_feedless Unknown = feedless_test (codes "bx ") refl
+
+pub value_line_read : (id : List ℕ) (at : ℕ) (p : Place) (scene : Scene) (s : Signal) (rest : List ℕ) → IsSmall s
+    → read_on id at p (value_line scene s ++ rest) ≡ read_on id at (step id at p (gives (id_text s) (value s scene))) rest
+value_line_read id at p scene s rest h =
+    let g = good_id s h in
+    let line : List ℕ = value_text (value s scene) ++ id_text s in
+    ap (read_on id at p) (append_assoc line (10 ∷ []) rest)
+    ∙ line_read id at p line rest (feedless_join (value_text (value s scene)) (id_text s) (value_feedless (value s scene)) g.feedless)
+    ∙ ap (λ l. read_on id at (step id at p l) rest) (value_line_of (value s scene) (id_text s) g.spaceless)
+
+-- ---- the same identifier is that of the same signal
+-- the first letter tells which signal it is
+letter_apart : (a b : ℕ) (xs ys : List ℕ) → eqb a b ≡ false → bytes_eq (a ∷ xs) (b ∷ ys) ≡ false
+letter_apart a b xs ys h = ap (λ t. t && bytes_eq xs ys) h
+
+-- which signal has an identifier
+abbrev signal_of : List ℕ → Signal
+signal_of [] = Carrier
+signal_of (letter ∷ digits) =
+    let n : ℕ = digits_value 10 digits in
+    cond (eqb letter 99) Carrier (cond (eqb letter 111) Overlap (cond (eqb letter 115) Sync (cond (eqb letter 119) Word
+    (cond (eqb letter 112) (Pulse n) (cond (eqb letter 103) (Garbled n) (cond (eqb letter 108) (Label n) (cond (eqb letter 109) (Message n)
+    (cond (eqb letter 105) (Interval n) (cond (eqb letter 121) (Synchronization n) (cond (eqb letter 104) (Gap n) (May n)))))))))))
+
+signal_is : (s : Signal) → IsSmall s → signal_of (id_text s) ≡ s
+signal_is Carrier h = refl
+signal_is Overlap h = refl
+signal_is Sync h = refl
+signal_is Word h = refl
+signal_is (Pulse n) h = ap Pulse (decimal_is n h).value
+signal_is (Garbled n) h = ap Garbled (decimal_is n h).value
+signal_is (Label n) h = ap Label (decimal_is n h).value
+signal_is (Message n) h = ap Message (decimal_is n h).value
+signal_is (Interval n) h = ap Interval (decimal_is n h).value
+signal_is (Synchronization n) h = ap Synchronization (decimal_is n h).value
+signal_is (Gap n) h = ap Gap (decimal_is n h).value
+signal_is (May n) h = ap May (decimal_is n h).value
+
+same_bytes : (xs ys : List ℕ) → bytes_eq xs ys ≡ true → xs ≡ ys
+same_bytes xs ys h = (bytes_eq-Decides xs ys).0 h
+
+own_bytes : (xs : List ℕ) → bytes_eq xs xs ≡ true
+own_bytes xs = (bytes_eq-Decides xs xs).1 refl
+
+same_signal : (a b : Signal) → IsSmall a → IsSmall b → bytes_eq (id_text a) (id_text b) ≡ true → a ≡ b
+same_signal a b h k e = sym (signal_is a h) ∙ ap signal_of (same_bytes (id_text a) (id_text b) e) ∙ signal_is b k
+
+-- ---- texts that take a reader from a place to another
+abbrev Moves : List ℕ → ℕ → Place → List ℕ → Place → Type 0
+Moves id at p text q = (rest : List ℕ) → read_on id at p (text ++ rest) ≡ read_on id at q rest
+
+then : (id : List ℕ) (at : ℕ) (p q r : Place) (a b : List ℕ) → Moves id at p a q → Moves id at q b r → Moves id at p (a ++ b) r
+then id at p q r a b m n rest = ap (read_on id at p) (append_assoc a b rest) ∙ m (b ++ rest) ∙ n rest
+
+stays_at : (id : List ℕ) (at : ℕ) (p : Place) → Moves id at p [] p
+stays_at id at p rest = refl
+
+-- ---- lines of values
+-- past the time that is asked for, nothing is taken
+late : (s : Signal) (at : ℕ) (p : Place) (scene : Scene) (ss : List Signal) → AllByRecursion IsSmall ss → leb p.now at ≡ false
+    → Moves (id_text s) at p (flat_map (value_line scene) ss) p
+late s at p scene [] small h rest = refl
+late s at p scene (x ∷ ss) small h rest =
+    ap (read_on (id_text s) at p) (append_assoc (value_line scene x) (flat_map (value_line scene) ss) rest)
+    ∙ value_line_read (id_text s) at p scene x (flat_map (value_line scene) ss ++ rest) small.0
+    ∙ ap (λ q. read_on (id_text s) at q (flat_map (value_line scene) ss ++ rest)) (not_taken (bytes_eq (id_text x) (id_text s)))
+    ∙ late s at p scene ss small.1 h rest
+  where
+    not_taken : (b : Bool) → cond (b && leb p.now at) (record { now = p.now; value = Some (value x scene) }) p ≡ p
+    not_taken true = ap (λ t. cond t (record { now = p.now; value = Some (value x scene) }) p) h
+    not_taken false = refl
+
+abbrev with_value : Place → Option Value → Place
+with_value p v = record { now = p.now; value = v }
+
+-- what is taken is the value that is there already
+kept : (s : Signal) (at : ℕ) (p : Place) (scene : Scene) (ss : List Signal) → AllByRecursion IsSmall ss → IsSmall s → leb p.now at ≡ true
+    → p.value ≡ Some (value s scene) → Moves (id_text s) at p (flat_map (value_line scene) ss) p
+kept s at p scene [] small own h v rest = refl
+kept s at p scene (x ∷ ss) small own h v rest =
+    ap (read_on (id_text s) at p) (append_assoc (value_line scene x) (flat_map (value_line scene) ss) rest)
+    ∙ value_line_read (id_text s) at p scene x (flat_map (value_line scene) ss ++ rest) small.0
+    ∙ ap (λ q. read_on (id_text s) at q (flat_map (value_line scene) ss ++ rest)) (by_id (bytes_eq (id_text x) (id_text s)) refl)
+    ∙ kept s at p scene ss small.1 own h v rest
+  where
+    by_id : (b : Bool) → bytes_eq (id_text x) (id_text s) ≡ b → cond (b && leb p.now at) (with_value p (Some (value x scene))) p ≡ p
+    by_id true e =
+        ap (λ t. cond t (with_value p (Some (value x scene))) p) h
+        ∙ ap (λ y. with_value p (Some (value y scene))) (same_signal x s small.0 own e) ∙ ap (with_value p) (sym v)
+    by_id false e = refl
+
+-- the signal is among them
+taken : (s : Signal) (at : ℕ) (p : Place) (scene : Scene) (ss : List Signal) → AllByRecursion IsSmall ss → IsSmall s → leb p.now at ≡ true
+    → In s ss → Moves (id_text s) at p (flat_map (value_line scene) ss) (with_value p (Some (value s scene)))
+taken s at p scene [] small own h i rest = absurd i
+taken s at p scene (x ∷ ss) small own h i rest =
+    ap (read_on (id_text s) at p) (append_assoc (value_line scene x) (flat_map (value_line scene) ss) rest)
+    ∙ value_line_read (id_text s) at p scene x (flat_map (value_line scene) ss ++ rest) small.0
+    ∙ by_id (bytes_eq (id_text x) (id_text s)) refl (λ more. taken s at p scene ss small.1 own h more rest)
+  where
+    by_id : (b : Bool) → bytes_eq (id_text x) (id_text s) ≡ b
+        → (In s ss → read_on (id_text s) at p (flat_map (value_line scene) ss ++ rest) ≡ read_on (id_text s) at (with_value p (Some (value s scene))) rest)
+        → read_on (id_text s) at (cond (b && leb p.now at) (with_value p (Some (value x scene))) p) (flat_map (value_line scene) ss ++ rest)
+        ≡ read_on (id_text s) at (with_value p (Some (value s scene))) rest
+    by_id true e later =
+        ap (λ t. read_on (id_text s) at (cond t (with_value p (Some (value x scene))) p) (flat_map (value_line scene) ss ++ rest)) h
+        ∙ ap (λ y. read_on (id_text s) at (with_value p (Some (value y scene))) (flat_map (value_line scene) ss ++ rest)) (same_signal x s small.0 own e)
+        ∙ kept s at (with_value p (Some (value s scene))) scene ss small.1 own h refl rest
+    by_id false e later = elim i [
+      | inl same ↦ absurd (true≢false (sym (ap (λ y. bytes_eq (id_text y) (id_text s)) (sym same) ∙ own_bytes (id_text s)) ∙ e))
+      | inr more ↦ later more
+    ]
+
+-- ---- stamps
+stamp_moves : (id : List ℕ) (at : ℕ) (p : Place) (t : ℕ) → 5 * t < 2 ^ 64 → Moves id at p (stamp t) (record { now = 5 * t; value = p.value })
+stamp_moves id at p t h rest =
+    let d = decimal_field (5 * t) h in
+    ap (read_on id at p) (append_assoc (codes "#" ++ decimal (5 * t)) (10 ∷ []) rest)
+    ∙ line_read id at p (35 ∷ decimal (5 * t)) rest (refl, field_feedless (decimal (5 * t)) d.bytes)
+    ∙ ap (λ n. read_on id at (record { now = n; value = p.value }) rest) (decimal_is (5 * t) h).value
+
+-- ---- changes
+-- all up to bit time u is read, where the value at bit time t is asked for
+record Reached (s : Signal) (scene : ℕ → Scene) (t u : ℕ) (p : Place) : Type 0 where
+  now : p.now ≤ 5 * u
+  value : p.value ≡ Some (value s (scene (min u t)))
+
+record Goes (s : Signal) (ss : List Signal) (scene : ℕ → Scene) (t u : ℕ) (p : Place) (text : List ℕ) : Type 0 where
+  place : Place
+  moves : Moves (id_text s) (5 * t) p text place
+  reached : Reached s scene t u place
+
+not_any : (before now : Scene) (ss : List Signal) (s : Signal) → In s ss → list_any (changes before now) ss ≡ false → changes before now s ≡ false
+not_any before now [] s i h = absurd i
+not_any before now (x ∷ ss) s i h =
+    elim (cases_Bool (changes before now x)) [
+      | inl yes' ↦ absurd (true≢false (sym (ap (λ b. b || list_any (changes before now) ss) yes') ∙ h))
+      | inr no' ↦ elim i [
+        | inl same ↦ ap (changes before now) same ∙ no'
+        | inr more ↦ not_any before now ss s more (sym (ap (λ b. b || list_any (changes before now) ss) no') ∙ h)
+      ]
+    ]
+
+unchanged : (before now : Scene) (s : Signal) → changes before now s ≡ false → value s before ≡ value s now
+unchanged before now s h = is_same_equal (value s before) (value s now) (negated (is_same (value s before) (value s now)) h) where
+  negated : (b : Bool) → not b ≡ false → b ≡ true
+  negated true e = refl
+  negated false e = absurd (true≢false e)
+
+pub small_filter : (p : Signal → Bool) (ss : List Signal) → AllByRecursion IsSmall ss → AllByRecursion IsSmall (filter p ss)
+small_filter p [] h = tt
+small_filter p (s ∷ ss) h = elim (p s) as (λ b. AllByRecursion IsSmall (cond b (s ∷ filter p ss) (filter p ss))) [
+  | true ↦ (h.0, small_filter p ss h.1)
+  | false ↦ small_filter p ss h.1
+]
+
+some_moves : (s : Signal) (ss : List Signal) (scene : ℕ → Scene) (t u : ℕ) (p : Place) → AllByRecursion IsSmall ss → In s ss → IsSmall s → 5 * suc u < 2 ^ 64
+    → Reached s scene t u p → Goes s ss scene t (suc u) p (some_changes ss (scene u) (scene (suc u)) (suc u))
+unfolding some_changes
+some_moves s ss scene t u p small i own low r =
+    let q : Place = record { now = 5 * suc u; value = p.value } in
+    let id : List ℕ = id_text s in
+    let changed : List Signal = filter (changes (scene u) (scene (suc u))) ss in
+    let lines : List ℕ = flat_map (value_line (scene (suc u))) changed in
+    let few = small_filter (changes (scene u) (scene (suc u))) ss small in
+    elim (cases_lt t (suc u)) [
+      | inl past ↦ record {
+        place = q;
+        moves = then id (5 * t) p q q (stamp (suc u)) lines (stamp_moves id (5 * t) p (suc u) low)
+            (late s (5 * t) q (scene (suc u)) changed few (lt-leb (5 * suc u) (5 * t) (omega arith)));
+        reached = record {
+          now = omega arith;
+          value = r.value ∙ ap (λ k. Some (value s (scene k))) (let e : min u t ≡ min (suc u) t = omega arith in e);
+        };
+      }
+      | inr ahead ↦
+          let in_time : leb (5 * suc u) (5 * t) ≡ true = le-leb (5 * suc u) (5 * t) (omega arith) in
+          let was : p.value ≡ Some (value s (scene u)) = r.value ∙ ap (λ k. Some (value s (scene k))) (let e : min u t ≡ u = omega arith in e) in
+          let at : min (suc u) t ≡ suc u = omega arith in
+          elim (cases_Bool (changes (scene u) (scene (suc u)) s)) [
+            | inl yes' ↦ record {
+              place = with_value q (Some (value s (scene (suc u))));
+              moves = then id (5 * t) p q (with_value q (Some (value s (scene (suc u))))) (stamp (suc u)) lines (stamp_moves id (5 * t) p (suc u) low)
+                  (taken s (5 * t) q (scene (suc u)) changed few own in_time (in_filter (changes (scene u) (scene (suc u))) ss s i yes'));
+              reached = record { now = omega arith; value = ap (λ k. Some (value s (scene k))) (sym at) };
+            }
+            | inr no' ↦
+                let same : q.value ≡ Some (value s (scene (suc u))) = was ∙ ap Some (unchanged (scene u) (scene (suc u)) s no') in
+                record {
+                  place = q;
+                  moves = then id (5 * t) p q q (stamp (suc u)) lines (stamp_moves id (5 * t) p (suc u) low)
+                      (kept s (5 * t) q (scene (suc u)) changed few own in_time same);
+                  reached = record { now = omega arith; value = same ∙ ap (λ k. Some (value s (scene k))) (sym at) };
+                }
+          ]
+    ]
+
+next_moves : (s : Signal) (ss : List Signal) (scene : ℕ → Scene) (t u : ℕ) (p : Place) → AllByRecursion IsSmall ss → In s ss → IsSmall s → 5 * suc u < 2 ^ 64
+    → Reached s scene t u p → Goes s ss scene t (suc u) p (changes_text ss (scene u) (scene (suc u)) (suc u))
+next_moves s ss scene t u p small i own low r =
+    elim (list_any (changes (scene u) (scene (suc u))) ss)
+    as (λ b. list_any (changes (scene u) (scene (suc u))) ss ≡ b → Goes s ss scene t (suc u) p (cond b (some_changes ss (scene u) (scene (suc u)) (suc u)) [])) [
+      | true ↦ λ e. some_moves s ss scene t u p small i own low r
+      | false ↦ λ e.
+          let same : value s (scene u) ≡ value s (scene (suc u)) = unchanged (scene u) (scene (suc u)) s (not_any (scene u) (scene (suc u)) ss s i e) in
+          let now : p.now ≤ 5 * u = r.now in
+          record {
+            place = p;
+            moves = stays_at (id_text s) (5 * t) p;
+            reached = record {
+              now = omega arith;
+              value = r.value ∙ ap Some (elim (cases_lt u t) [
+                | inl ahead ↦ ap (λ k. value s (scene k)) (let e : min u t ≡ u = omega arith in e) ∙ same
+                    ∙ ap (λ k. value s (scene k)) (let e : suc u ≡ min (suc u) t = omega arith in e)
+                | inr past ↦ ap (λ k. value s (scene k)) (let e : min u t ≡ min (suc u) t = omega arith in e)
+              ]);
+            };
+          }
+    ] refl
+
+all_moves : (s : Signal) (ss : List Signal) (scene : ℕ → Scene) (t u n : ℕ) (p : Place) → AllByRecursion IsSmall ss → In s ss → IsSmall s → 5 * (u + n) < 2 ^ 64
+    → Reached s scene t u p → Goes s ss scene t (u + n) p (flat_map (changes_at ss scene) (range_with_len (suc u) n))
+all_moves s ss scene t u zero p small i own low r = record {
+  place = p;
+  moves = stays_at (id_text s) (5 * t) p;
+  reached = subst (λ k. Reached s scene t k p) (let e : u ≡ u + 0 = omega arith in e) r;
+}
+all_moves s ss scene t u (suc n) p small i own low r =
+    let first = next_moves s ss scene t u p small i own (omega arith) r in
+    let rest = all_moves s ss scene t (suc u) n first.place small i own (omega arith) first.reached in
+    let one : suc u + 1 ≡ suc (suc u) = omega arith in
+    let text : List ℕ = flat_map (changes_at ss scene) (range_with_len (suc (suc u)) n) in
+    record {
+      place = rest.place;
+      moves = subst (λ x. Moves (id_text s) (5 * t) p x rest.place)
+          (ap (λ v. changes_text ss (scene v) (scene (suc u)) (suc u) ++ text) (let e : u ≡ suc u - 1 = omega arith in e)
+          ∙ ap (λ v. changes_at ss scene (suc u) ++ flat_map (changes_at ss scene) (range_with_len v n)) (sym one))
+          (then (id_text s) (5 * t) p first.place rest.place (changes_text ss (scene u) (scene (suc u)) (suc u)) text first.moves rest.moves);
+      reached = subst (λ k. Reached s scene t k rest.place) (let e : suc u + n ≡ u + suc n = omega arith in e) rest.reached;
+    }
+
+-- ---- the head
+skips : (id : List ℕ) (at : ℕ) (p : Place) (line : List ℕ) → Feedless line → line_of line ≡ other → Moves id at p (line ++ 10 ∷ []) p
+skips id at p line h e rest = ap (read_on id at p) (append_assoc line (10 ∷ []) rest) ∙ line_skipped id at p line rest h e
+
+name_feedless : (s : Signal) → IsSmall s → Feedless (name_text s)
+name_feedless Carrier h = feedless_test (codes "carrier") refl
+name_feedless Overlap h = feedless_test (codes "overlap") refl
+name_feedless Sync h = feedless_test (codes "sync") refl
+name_feedless Word h = feedless_test (codes "word") refl
+name_feedless (Pulse n) h = lane_feedless n (codes "_pulse") h (feedless_test (codes "_pulse") refl)
+name_feedless (Garbled n) h = lane_feedless n (codes "_garbled") h (feedless_test (codes "_garbled") refl)
+name_feedless (Label n) h = lane_feedless n (codes "_label") h (feedless_test (codes "_label") refl)
+name_feedless (Message n) h = lane_feedless n (codes "_message") h (feedless_test (codes "_message") refl)
+name_feedless (Interval n) h = lane_feedless n (codes "_ti") h (feedless_test (codes "_ti") refl)
+name_feedless (Synchronization n) h = lane_feedless n (codes "_sg") h (feedless_test (codes "_sg") refl)
+name_feedless (Gap n) h = lane_feedless n (codes "_tg") h (feedless_test (codes "_tg") refl)
+name_feedless (May n) h = lane_feedless n (codes "_may") h (feedless_test (codes "_may") refl)
+
+width_feedless : (s : Signal) → list_any is_feed (width_text s) ≡ false
+width_feedless Carrier = refl
+width_feedless Overlap = refl
+width_feedless Sync = refl
+width_feedless Word = refl
+width_feedless (Pulse n) = refl
+width_feedless (Garbled n) = refl
+width_feedless (Label n) = refl
+width_feedless (Message n) = refl
+width_feedless (Interval n) = refl
+width_feedless (Synchronization n) = refl
+width_feedless (Gap n) = refl
+width_feedless (May n) = refl
+
+bits_feedless : (s : Signal) → list_any is_feed (bits_text s) ≡ false
+bits_feedless Carrier = refl
+bits_feedless Overlap = refl
+bits_feedless Sync = refl
+bits_feedless Word = refl
+bits_feedless (Pulse n) = refl
+bits_feedless (Garbled n) = refl
+bits_feedless (Label n) = refl
+bits_feedless (Message n) = refl
+bits_feedless (Interval n) = refl
+bits_feedless (Synchronization n) = refl
+bits_feedless (Gap n) = refl
+bits_feedless (May n) = refl
+
+declaration_skipped : (id : List ℕ) (at : ℕ) (p : Place) (s : Signal) → IsSmall s → Moves id at p (declaration s) p
+declaration_skipped id at p s h =
+    let a : List ℕ = codes "$var wire " ++ width_text s in
+    let b : List ℕ = a ++ id_text s in
+    let c : List ℕ = b ++ codes " " ++ name_text s in
+    let d : List ℕ = c ++ bits_text s in
+    let line : List ℕ = d ++ codes " $end" in
+    let fa : Feedless a = feedless_join (codes "$var wire ") (width_text s) (feedless_test (codes "$var wire ") refl) (feedless_test (width_text s) (width_feedless s)) in
+    let fb : Feedless b = feedless_join a (id_text s) fa (good_id s h).feedless in
+    let fc : Feedless c = feedless_join (b ++ codes " ") (name_text s) (feedless_join b (codes " ") fb (refl, tt)) (name_feedless s h) in
+    let fd : Feedless d = feedless_join c (bits_text s) fc (feedless_test (bits_text s) (bits_feedless s)) in
+    subst (λ x. Moves id at p x p) (append_assoc d (codes " $end") (10 ∷ []))
+    (skips id at p line (feedless_join d (codes " $end") fd (feedless_test (codes " $end") refl)) refl)
+
+declarations_skipped : (id : List ℕ) (at : ℕ) (p : Place) (ss : List Signal) → AllByRecursion IsSmall ss → Moves id at p (flat_map declaration ss) p
+declarations_skipped id at p [] small = stays_at id at p
+declarations_skipped id at p (s ∷ ss) small =
+    then id at p p p (declaration s) (flat_map declaration ss) (declaration_skipped id at p s small.0) (declarations_skipped id at p ss small.1)
+
+head_skipped : (id : List ℕ) (at : ℕ) (p : Place) (comment : List ℕ) → Feedless comment → Moves id at p (head_text comment) p
+head_skipped id at p comment h rest =
+    let a : List ℕ = codes "$version bus629-view 1 $end" in
+    let c : List ℕ = codes "$comment " ++ comment ++ codes " $end" in
+    let e : List ℕ = codes "$timescale 100 ns $end" in
+    let f : List ℕ = codes "$scope module bus $end" in
+    let tail : List ℕ = e ++ 10 ∷ (f ++ 10 ∷ rest) in
+    ap (read_on id at p) (append_assoc (codes "$version bus629-view 1 $end\n$comment " ++ comment) (codes " $end\n$timescale 100 ns $end\n$scope module bus $end\n") rest
+    ∙ append_assoc (codes "$version bus629-view 1 $end\n$comment ") comment (codes " $end\n$timescale 100 ns $end\n$scope module bus $end\n" ++ rest))
+    ∙ line_skipped id at p a (codes "$comment " ++ (comment ++ (codes " $end" ++ 10 ∷ tail))) (feedless_test a refl) refl
+    ∙ ap (read_on id at p) (sym (append_assoc (codes "$comment " ++ comment) (codes " $end") (10 ∷ tail) ∙ append_assoc (codes "$comment ") comment (codes " $end" ++ 10 ∷ tail)))
+    ∙ line_skipped id at p c tail (feedless_join (codes "$comment " ++ comment) (codes " $end")
+    (feedless_join (codes "$comment ") comment (feedless_test (codes "$comment ") refl) h) (feedless_test (codes " $end") refl)) refl
+    ∙ line_skipped id at p e (f ++ 10 ∷ rest) (feedless_test e refl) refl
+    ∙ line_skipped id at p f rest (feedless_test f refl) refl
+
+behind_skipped : (id : List ℕ) (at : ℕ) (p : Place) → Moves id at p behind_text p
+behind_skipped id at p rest =
+    line_skipped id at p (codes "$upscope $end") (codes "$enddefinitions $end" ++ 10 ∷ rest) (feedless_test (codes "$upscope $end") refl) refl
+    ∙ line_skipped id at p (codes "$enddefinitions $end") rest (feedless_test (codes "$enddefinitions $end") refl) refl
+
+-- ---- the values at bit time 0
+first_moves : (s : Signal) (ss : List Signal) (at : ℕ) (scene : Scene) → AllByRecursion IsSmall ss → In s ss → IsSmall s
+    → Moves (id_text s) at (record { now = 0; value = None }) (first_values ss scene) (record { now = 0; value = Some (value s scene) })
+first_moves s ss at scene small i own =
+    let id : List ℕ = id_text s in
+    let p : Place = record { now = 0; value = None } in
+    let q : Place = record { now = 0; value = Some (value s scene) } in
+    let lines : List ℕ = flat_map (value_line scene) ss in
+    then id at p q q (codes "#0\n$dumpvars\n" ++ lines) (codes "$end\n")
+    (then id at p p q (codes "#0\n$dumpvars\n") lines
+    (λ rest. line_read id at p (codes "#0") (codes "$dumpvars" ++ 10 ∷ rest) (feedless_test (codes "#0") refl)
+    ∙ line_skipped id at p (codes "$dumpvars") rest (feedless_test (codes "$dumpvars") refl) refl)
+    (taken s at p scene ss small own (le-leb 0 at (omega arith)) i))
+    (skips id at q (codes "$end") (feedless_test (codes "$end") refl) refl)
+
+last_moves : (id : List ℕ) (at : ℕ) (p : Place) (horizon : ℕ) → 5 * horizon < 2 ^ 64 → (q : Place) × (q.value ≡ p.value) × Moves id at p (last_stamp horizon) q
+last_moves id at p horizon low =
+    elim (eqb horizon 0) as (λ b. (q : Place) × (q.value ≡ p.value) × Moves id at p (cond b [] (stamp horizon)) q) [
+      | true ↦ (p, refl, stays_at id at p)
+      | false ↦ (record { now = 5 * horizon; value = p.value }, refl, stamp_moves id at p horizon low)
+    ]
+
+-- ---- the whole
+pub text_read : (comment : List ℕ) (ss : List Signal) (scene : ℕ → Scene) (horizon t : ℕ) (s : Signal) → Feedless comment → AllByRecursion IsSmall ss → In s ss
+    → IsSmall s → t < horizon → 5 * horizon < 2 ^ 64 → read (id_text s) (5 * t) (text_of comment ss scene horizon) ≡ Some (value s (scene t))
+text_read comment ss scene horizon t s plain small i own below low =
+    let id : List ℕ = id_text s in
+    let at : ℕ = 5 * t in
+    let p : Place = record { now = 0; value = None } in
+    let q : Place = record { now = 0; value = Some (value s (scene 0)) } in
+    let n : ℕ = horizon - 1 in
+    let begun : Reached s scene t 0 q = record { now = omega arith; value = ap (λ k. Some (value s (scene k))) (let e : 0 ≡ min 0 t = omega arith in e) } in
+    let all = all_moves s ss scene t 0 n q small i own (omega arith) begun in
+    let last = last_moves id at all.place horizon low in
+    let head : List ℕ = head_text comment in
+    let a = then id at p p p head (flat_map declaration ss) (head_skipped id at p comment plain) (declarations_skipped id at p ss small) in
+    let b = then id at p p p (head ++ flat_map declaration ss) behind_text a (behind_skipped id at p) in
+    let c = then id at p p q (head ++ flat_map declaration ss ++ behind_text) (first_values ss (scene 0)) b (first_moves s ss at (scene 0) small i own) in
+    let d = then id at p q all.place (head ++ flat_map declaration ss ++ behind_text ++ first_values ss (scene 0)) (changes_to ss scene horizon) c all.moves in
+    let e = then id at p all.place last.0 (head ++ flat_map declaration ss ++ behind_text ++ first_values ss (scene 0) ++ changes_to ss scene horizon) (last_stamp horizon) d last.2 in
+    ap (λ (r : Place). r.value) (ap (read_on id at p) (sym (append-nil (text_of comment ss scene horizon))) ∙ e [])
+    ∙ last.1 ∙ all.reached.value ∙ ap (λ k. Some (value s (scene k))) (let w : min (0 + n) t ≡ t = omega arith in w)

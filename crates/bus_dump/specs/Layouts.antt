@@ -1,0 +1,38 @@
+-- The signals of a dump by lanes.
+use Rattle.std.specs.Prelude.{◌≡◌, ℕ, false, List, ◌++◌}
+use Rattle.std.specs.List.{flat_map, list_any}
+use Rattle.bus_strings.specs.Messages.{Entry}
+use Rattle.bus_table.specs.Tables.{Table}
+use Rattle.bus_dump.specs.declared.dump.Dump.{Dump}
+use Rattle.bus_dump.specs.declared.lane.Lane.{Lane}
+use Rattle.bus_dump.specs.declared.layout.Layout.{Layout}
+use Rattle.bus_dump.specs.Scenes.{Scene, scene_at}
+use Rattle.bus_dump.specs.Signals.{Signal, elapsed, is_of, lane_signals, signals}
+use Rattle.bus_dump.specs.DumpTexts.{changes_to, declaration, first_values, value_line}
+use Rattle.bus_dump.specs.Walks.{change_put}
+
+-- The signals of a layout, in order.
+abbrev pub signals_of : Layout → List Signal
+signals_of layout = signals layout.dump layout.lanes.items
+
+-- What is put of a lane: its declarations, the lines of its values, and of its changes.
+abbrev pub lane_declarations : Dump → Lane → List ℕ
+lane_declarations dump lane = flat_map declaration (lane_signals dump lane)
+
+abbrev pub lane_lines : Dump → Scene → Lane → List ℕ
+lane_lines dump scene lane = flat_map (value_line scene) (lane_signals dump lane)
+
+abbrev pub lane_put : Dump → Scene → Scene → Lane → List ℕ
+lane_put dump before now lane = flat_map (change_put before now) (lane_signals dump lane)
+
+-- The values at bit time 0, and what changes behind it, where a layout is that of a list on a table.
+abbrev pub bit_times_put : Table → List Entry → ℕ → Layout → List ℕ
+bit_times_put table list horizon layout =
+    first_values (signals_of layout) (scene_at layout.dump table list 0)
+    ++ changes_to (signals_of layout) (scene_at layout.dump table list) horizon
+
+-- Nothing is seen of a terminal in either scene, and its timers tell the same.
+pub record IsStill (before now : Scene) (terminal : ℕ) : Type 0 where
+  pub was : list_any (is_of terminal) before.seen ≡ false
+  pub is : list_any (is_of terminal) now.seen ≡ false
+  pub same : elapsed terminal before.timers ≡ elapsed terminal now.timers

@@ -1,0 +1,8 @@
+/// A terminal that has signals.
+#[derive(Clone, Copy, Debug, Default, PartialEq, Eq)]
+pub(crate) struct Lane {
+    /// Its terminal number.
+    pub terminal: u8,
+    /// Whether it is a sender of the table.
+    pub sender: bool,
+}
