@@ -6,7 +6,9 @@ mod DraftLemmas
 mod LeadLemmas
 mod LineLemmas
 mod ListLeads
+mod PlaceLemmas
 mod QuickLemmas
+mod QuietLemmas
 mod ReadLemmas
 mod RunHolds
 mod RunLemmas

@@ -286,6 +286,9 @@ line_split line rest h = slice_split_at is_feed line 10 rest (All-from_recursion
 pub quiet_feedless : (n : ℕ) → n < 2 ^ 64 → AllByRecursion (λ b. is_feed b ≡ false) (81 ∷ 32 ∷ decimal n)
 quiet_feedless n low = (refl, (refl, feedless (decimal n) (decimal_field n low).bytes))
 
+pub plain_feedless : (field : List ℕ) → is_plain_decimal field ≡ true → AllByRecursion (λ b. is_feed b ≡ false) (81 ∷ 32 ∷ field)
+plain_feedless field h = (refl, (refl, feedless field (digit_bytes field (all_digits field h))))
+
 pub word_feedless : (word : Word) → AllByRecursion (λ b. is_feed b ≡ false) (87 ∷ 32 ∷ digits_of (word_halves word))
 word_feedless word = (refl, (refl, feedless (digits_of (word_halves word)) (word_bytes word)))
 

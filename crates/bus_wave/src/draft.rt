@@ -14,20 +14,20 @@ ghost use Rattle.bus_wave.specs.Judging as judging;
 ghost use Rattle.bus_wave.specs.Judging.{string_of, with_string, later as later_of, step, opening};
 ghost use Rattle.bus_wave.specs.Judging.{begin_bounded, next_bounded, quiet_bounded, pause_bounded, last_bounded};
 
+use crate::beginners::Beginners;
 use crate::fault::{LineFault, WaveReason};
+use crate::making::{clear_for, message, wordstring};
 use crate::phase::Phase;
 use crate::spacing::LEAST_GAP;
 use crate::symbol::Symbol;
 use bus_strings::limits::{HORIZON_LIMIT, INNER_GAP, WORD_BITS};
-use bus_strings::message::Message;
 use bus_strings::transmission::Transmission;
-use bus_strings::wordstring::{SHORT, Wordstring};
+use bus_strings::wordstring::Wordstring;
 use bus_table::line::SendLine;
 use bus_table::sender::Sender;
 use bus_words::label::{Ext, Label};
 use bus_words::word::{Kind, Word};
 use std::alloc::{AllocError, Global};
-use std::mem::replace;
 
 const WORD: u64 = WORD_BITS as u64;
 
@@ -51,73 +51,6 @@ fn is_label_of(value: u16, label: Label, ext: Ext) -> bool
     ensures { result ≡ (value / 16 == label && value % 16 == ext) }
 {
     value / 16 == label.value() && value % 16 == u16::from(ext.value())
-}
-
-/// Whether a label word is that of the first of these SEND lines.
-fn begins(value: u16, sends: &[SendLine]) -> bool
-    ensures { result ≡ judging.begins value sends.now }
-{
-    match sends.first() {
-        Some(line) => is_label_of(value, line.label, line.ext),
-        None => false,
-    }
-}
-
-/// The sender whose messages begin with a label word.
-fn beginner<'t>(senders: &'t [Sender], value: u16) -> Option<&'t Sender>
-    ensures { option_copied result ≡ judging.beginner senders.now value }
-{
-    senders.iter().find(|sender| begins(value, sender.sends()))
-}
-
-/// The wordstring of a SEND line and of a few data words: no more than it keeps in itself.
-fn short_string(line: SendLine, words: &[u16]) -> Wordstring
-    requires { length words.now ≤ 12 }
-    ensures { result ≡ string_of line words.now }
-{
-    let mut kept = [0; SHORT];
-    for (k, word) in words.iter().enumerate() {
-        kept[k] = *word;
-    }
-    Wordstring::short(line.label, line.ext, words.len() as u8, kept)
-}
-
-/// The wordstring of a SEND line and of data words, which takes only the memory that it needs.
-fn wordstring(alloc: Global, line: SendLine, words: &[u16]) -> Result<Wordstring, AllocError>
-    requires { length words.now ≤ 256 }
-    ensures { IfOk result (λ string. string ≡ string_of line words.now) }
-{
-    if words.len() <= SHORT {
-        return Ok(short_string(line, words));
-    }
-    let words = Vec::from_slice(alloc, words)?;
-    Ok(Wordstring::new(line.label, line.ext, words).unwrap())
-}
-
-/// The message of wordstrings and of one behind them. A message of one takes no memory.
-fn message(
-    alloc: Global,
-    strings: &mut Vec<Wordstring>,
-    last: Wordstring,
-) -> Result<Message, AllocError>
-    requires { length strings.old.items < most_strings }
-    ensures { IfOk result (λ message. message ≡ strings.old.items ++ last ∷ []) }
-{
-    if strings.is_empty() {
-        return Ok(Message::one(alloc, last));
-    }
-    strings.push(last)?;
-    Ok(Message::new(replace(strings, Vec::new(alloc))).unwrap())
-}
-
-/// Room for the wordstrings before the last of so many.
-fn room_before_last(alloc: Global, count: usize) -> Result<Vec<Wordstring>, AllocError>
-    ensures { IfOk result (λ strings. strings.items ≡ []) }
-{
-    if count < 2 {
-        return Ok(Vec::new(alloc));
-    }
-    Vec::with_capacity(alloc, count)
 }
 
 /// What the lines so far have given. Room for data words is used again from wordstring to wordstring.
@@ -167,10 +100,10 @@ impl<'t> Draft<'t> {
     }
 
     // Takes a data word.
-    fn take_data(&mut self, senders: &'t [Sender], value: u16) -> Result<(), LineFault>
+    fn take_data(&mut self, beginners: &Beginners<'t>, value: u16) -> Result<(), LineFault>
         requires { Keeps self.old }
         ensures gives { StepGives (state_of self.new) result
-            (step senders.now (state_of self.old) (Sent (record { kind = kind.Plain; value = value }))) }
+            (step beginners.now.senders.now (state_of self.old) (Sent (record { kind = kind.Plain; value = value }))) }
         ensures keeps { OnOk result (Keeps self.new) }
     {
         match self.phase {
@@ -214,7 +147,7 @@ impl<'t> Draft<'t> {
         if self.at + WORD + WORD * u64::from(line.least) + later > HORIZON_LIMIT {
             return Err(LineFault::Refused(WaveReason::Range));
         }
-        self.strings = room_before_last(alloc, sends.len())?;
+        clear_for(&mut self.strings, sends.len())?;
         self.words.clear();
         self.moment = self.at;
         self.terminal = sender.number();
@@ -227,14 +160,14 @@ impl<'t> Draft<'t> {
     fn take_first(
         &mut self,
         alloc: Global,
-        senders: &'t [Sender],
+        beginners: &Beginners<'t>,
         value: u16,
     ) -> Result<(), LineFault>
         requires { Keeps self.old }
-        ensures gives { StepGives (state_of self.new) result (begin_bounded (state_of self.old) (judging.beginner senders.now value)) }
+        ensures gives { StepGives (state_of self.new) result (begin_bounded (state_of self.old) (judging.beginner beginners.now.senders.now value)) }
         ensures keeps { OnOk result (Keeps self.new) }
     {
-        match beginner(senders, value) {
+        match beginners.find(value) {
             Some(sender) => self.begin(alloc, sender),
             None => Err(LineFault::Refused(WaveReason::Order)),
         }
@@ -270,19 +203,19 @@ impl<'t> Draft<'t> {
     fn take_label(
         &mut self,
         alloc: Global,
-        senders: &'t [Sender],
+        beginners: &Beginners<'t>,
         value: u16,
     ) -> Result<(), LineFault>
         requires { Keeps self.old }
         ensures gives { StepGives (state_of self.new) result
-            (step senders.now (state_of self.old) (Sent (record { kind = kind.Label; value = value }))) }
+            (step beginners.now.senders.now (state_of self.old) (Sent (record { kind = kind.Label; value = value }))) }
         ensures keeps { OnOk result (Keeps self.new) }
     {
         match self.phase {
-            Phase::Opened => self.take_first(alloc, senders, value),
+            Phase::Opened => self.take_first(alloc, beginners, value),
             Phase::Silent { free } => {
                 if free {
-                    self.take_first(alloc, senders, value)
+                    self.take_first(alloc, beginners, value)
                 } else {
                     Err(LineFault::Refused(WaveReason::Order))
                 }
@@ -418,11 +351,11 @@ impl<'t> Draft<'t> {
     fn take_quiet(
         &mut self,
         alloc: Global,
-        senders: &'t [Sender],
+        beginners: &Beginners<'t>,
         bit_times: u64,
     ) -> Result<(), LineFault>
         requires { Keeps self.old }
-        ensures gives { StepGives (state_of self.new) result (step senders.now (state_of self.old) (Quiet bit_times)) }
+        ensures gives { StepGives (state_of self.new) result (step beginners.now.senders.now (state_of self.old) (Quiet bit_times)) }
         ensures keeps { OnOk result (Keeps self.new) }
     {
         if bit_times == 0 {
@@ -473,9 +406,9 @@ impl<'t> Draft<'t> {
     }
 
     // Takes the last line.
-    fn take_end(&mut self, alloc: Global, senders: &'t [Sender]) -> Result<(), LineFault>
+    fn take_end(&mut self, alloc: Global, beginners: &Beginners<'t>) -> Result<(), LineFault>
         requires { Keeps self.old }
-        ensures gives { StepGives (state_of self.new) result (step senders.now (state_of self.old) End) }
+        ensures gives { StepGives (state_of self.new) result (step beginners.now.senders.now (state_of self.old) End) }
         ensures keeps { OnOk result (Keeps self.new) }
     {
         match self.phase {
@@ -501,17 +434,17 @@ impl<'t> Draft<'t> {
     pub(crate) fn take(
         &mut self,
         alloc: Global,
-        senders: &'t [Sender],
+        beginners: &Beginners<'t>,
         symbol: Symbol,
     ) -> Result<(), LineFault>
         requires { Keeps self.old }
-        ensures gives { StepGives (state_of self.new) result (step senders.now (state_of self.old) symbol) }
+        ensures gives { StepGives (state_of self.new) result (step beginners.now.senders.now (state_of self.old) symbol) }
         ensures keeps { OnOk result (Keeps self.new) }
     {
         match symbol {
-            Symbol::Quiet(bit_times) => self.take_quiet(alloc, senders, bit_times),
-            Symbol::Sent(word) => self.take_word(alloc, senders, word),
-            Symbol::End => self.take_end(alloc, senders),
+            Symbol::Quiet(bit_times) => self.take_quiet(alloc, beginners, bit_times),
+            Symbol::Sent(word) => self.take_word(alloc, beginners, word),
+            Symbol::End => self.take_end(alloc, beginners),
         }
     }
 
@@ -519,16 +452,16 @@ impl<'t> Draft<'t> {
     fn take_word(
         &mut self,
         alloc: Global,
-        senders: &'t [Sender],
+        beginners: &Beginners<'t>,
         word: Word,
     ) -> Result<(), LineFault>
         requires { Keeps self.old }
-        ensures gives { StepGives (state_of self.new) result (step senders.now (state_of self.old) (Sent word)) }
+        ensures gives { StepGives (state_of self.new) result (step beginners.now.senders.now (state_of self.old) (Sent word)) }
         ensures keeps { OnOk result (Keeps self.new) }
     {
         match word.kind {
-            Kind::Label => self.take_label(alloc, senders, word.value),
-            Kind::Plain => self.take_data(senders, word.value),
+            Kind::Label => self.take_label(alloc, beginners, word.value),
+            Kind::Plain => self.take_data(beginners, word.value),
         }
     }
 }

@@ -9,11 +9,13 @@
 //! `Spacing` for spaced traces, and `Symbols`, `Judging` and `Reading` for what a text reads as, line by line.
 #![tactic(auto)]
 
+mod beginners;
 mod code;
 mod draft;
 pub mod fault;
 mod holds;
 pub mod laws;
+mod making;
 mod phase;
 mod pieces;
 mod quick;

@@ -10,6 +10,7 @@ ghost use Rattle.bus_wave.specs.Reading.{is_closed as closed_test, judge_read, p
 ghost use Rattle.bus_wave.specs.WaveLaws.{most_bytes, IsRead, IsWaveTrace};
 ghost use Rattle.bus_wave.specs.WaveTexts.{IsWaveText};
 
+use crate::beginners::Beginners;
 use crate::draft::Draft;
 use crate::fault::{LineFault, WaveError, WaveReason};
 use crate::holds::holds;
@@ -36,22 +37,23 @@ fn error_at(number: u64, fault: LineFault) -> WaveError
     }
 }
 
-/// Takes what a line behind the first says.
+/// Takes what a line behind the first says. The checker knows of the lines in a draft only where its senders are named.
 fn take_line<'t>(
     alloc: Global,
-    senders: &'t [Sender],
+    _senders: &'t [Sender],
+    beginners: &Beginners<'t>,
     draft: &mut Draft<'t>,
     line: Result<Symbol, WaveReason>,
 ) -> Result<(), LineFault>
     requires { Keeps draft.old }
-    ensures gives { StepGives (state_of draft.new) result (judge_read senders.now (state_of draft.old) line) }
+    ensures gives { StepGives (state_of draft.new) result (judge_read beginners.now.senders.now (state_of draft.old) line) }
     ensures keeps { OnOk result (Keeps draft.new) }
 {
     if draft.is_closed() {
         return Err(LineFault::Refused(WaveReason::Keyword));
     }
     let symbol = line?;
-    draft.take(alloc, senders, symbol)
+    draft.take(alloc, beginners, symbol)
 }
 
 /// Whether a text may end here, with these bytes behind its last line feed.
@@ -70,12 +72,12 @@ fn read_lines(
     requires { length text.now ≤ most_bytes }
     ensures { PartsGive table.now result (pieces_reading table.now 2 opening (slice_split is_feed text.now)) }
 {
-    let senders = table.senders();
+    let beginners = Beginners::new(alloc, table)?;
     let mut draft = Draft::new(alloc);
     let mut rest = text;
     let mut number = 2;
     while let Some((line, behind)) = first_symbol(rest) {
-        if let Err(fault) = take_line(alloc, senders, &mut draft, line) {
+        if let Err(fault) = take_line(alloc, table.senders(), &beginners, &mut draft, line) {
             return Err(error_at(number, fault));
         }
         rest = behind;

@@ -115,16 +115,6 @@ fn symbol_of(line: &[u8]) -> Result<Symbol, WaveReason>
     Ok(Symbol::End)
 }
 
-/// What a line behind the first says; of the lines that come here most are Q lines.
-fn line_symbol(line: &[u8]) -> Result<Symbol, WaveReason>
-    ensures { result ≡ capped (symbol_reading (fields_of line.now)) }
-{
-    match quiet_line(line) {
-        Some(bit_times) => Ok(Symbol::Quiet(bit_times)),
-        None => symbol_of(line),
-    }
-}
-
 /// What the line at the front of a text says, and what is behind that line; None where there is no line feed.
 pub(crate) fn first_symbol(text: &[u8]) -> Option<(Result<Symbol, WaveReason>, &[u8])>
     ensures line { MatchOption result (slice_split is_feed text.now ≡ text.now ∷ []) (λ r. HasLine text.now r.0 r.1.now) }
@@ -133,9 +123,12 @@ pub(crate) fn first_symbol(text: &[u8]) -> Option<(Result<Symbol, WaveReason>, &
     if let Some((word, behind)) = word_line(text) {
         return Some((Ok(Symbol::Sent(word)), behind));
     }
+    if let Some((bit_times, behind)) = quiet_line(text) {
+        return Some((Ok(Symbol::Quiet(bit_times)), behind));
+    }
     match cut(b'\n', text) {
         None => None,
-        Some((line, behind)) => Some((line_symbol(line), behind)),
+        Some((line, behind)) => Some((symbol_of(line), behind)),
     }
 }
 

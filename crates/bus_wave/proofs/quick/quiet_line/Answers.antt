@@ -1,11 +1,16 @@
-use Rattle.std.proofs.Common.{◌≡◌, ◌≤◌, ◌-◌, length, get_or, take, drop, arith}
-use Rattle.bus_wave.proofs.QuickLemmas.{quiet_some, two_front}
+use Rattle.std.proofs.Common.{◌≡◌, ◌≤◌, ◌<◌, ◌-◌, length, get_or, take, drop, arith}
+use Rattle.bus_wave.proofs.QuickLemmas.{two_front}
+use Rattle.bus_wave.proofs.QuietLemmas.{quiet_first}
 use Rattle.bus_wave.proofs.quick.quiet_line.Goals as goal
 
-pub returns : goal.returns
-returns c =
-    let line = c.args.line.now in
-    let long : 2 ≤ length line = omega arith in
-    let q : get_or line 0 0 ≡ 81 = omega arith in
-    let s : get_or line 1 0 ≡ 32 = omega arith in
-    quiet_some line (take (length line - 2) (drop 2 line)) c.plain_decimal.result (two_front line long q s) c.plain_decimal.ensures
+pub returns-clause-line : goal.returns-clause-line
+returns-clause-line c =
+    let text = c.args.text.now in
+    let rest = take (length text - 2) (drop 2 text) in
+    let long : 2 ≤ length text = omega arith in
+    let q : get_or text 0 0 ≡ 81 = omega arith in
+    let s : get_or text 1 0 ≡ 32 = omega arith in
+    let some : 0 < c.leading_digits-count.result.0 = omega arith in
+    let less : c.leading_digits-count.result.0 < length rest = omega (arith, c.leading_digits-count.ensures.within) in
+    quiet_first text rest c.leading_digits-count.result.0 c.leading_digits-count.result.1 (two_front text long q s) c.leading_digits-count.ensures.digits
+    c.leading_digits-count.ensures.value c.leading_digits-count.ensures.room some less (omega arith) (omega arith)

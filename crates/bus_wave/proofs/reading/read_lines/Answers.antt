@@ -21,8 +21,8 @@ returns-in-Err c =
     let s = state_of c.loop-line.draft in
     let h = c.in-Some.ensures.line in
     let low : s.at ≤ horizon_limit = (let k = c.loop-line.invariant.keeps.low in omega arith) in
-    let g = subst (λ (r : Result State WaveReason). LineFails c.in-Err.fault r) (judged_read c.senders-senders.result.now s h.first c.in-Some.line low h.reads) c.in-Err.ensures.gives in
-    let j = subst (λ (ss : List Sender). LineFails c.in-Err.fault (judge ss s h.first)) c.senders-senders.ensures.value g in
+    let g = subst (λ (r : Result State WaveReason). LineFails c.in-Err.fault r) (judged_read c.in_ok-beginners.beginners.senders.now s h.first c.in-Some.line low h.reads) c.in-Err.ensures.gives in
+    let j = subst (λ (ss : List Sender). LineFails c.in-Err.fault (judge ss s h.first)) c.in_ok-beginners.ensures g in
     let f = line_fails table c.loop-line.number s c.loop-line.rest.now h.first c.in-Some.behind.now c.in-Err.fault h.pieces j in
     subst (λ (e : WaveError). Fails e (pieces_reading table 2 opening (slice_split is_feed c.args.text.now))) (sym c.error_at.ensures)
     (subst (λ (r : Result Recording WaveRefusal). Fails (fault_at c.loop-line.number c.in-Err.fault) r) c.loop-line.invariant.left f)
@@ -33,8 +33,8 @@ loop-line-preserved c =
     let s = state_of c.loop-line.draft in
     let h = c.in-Some.ensures.line in
     let low : s.at ≤ horizon_limit = (let k = c.loop-line.invariant.keeps.low in omega arith) in
-    let j = ap (λ (ss : List Sender). judge ss s h.first) (sym c.senders-senders.ensures.value)
-    ∙ sym (judged_read c.senders-senders.result.now s h.first c.in-Some.line low h.reads) ∙ c.in_default-take_line.ensures.gives in
+    let j = ap (λ (ss : List Sender). judge ss s h.first) (sym c.in_ok-beginners.ensures)
+    ∙ sym (judged_read c.in_ok-beginners.beginners.senders.now s h.first c.in-Some.line low h.reads) ∙ c.in_default-take_line.ensures.gives in
     record {
       keeps = c.in_default-take_line.ensures.keeps;
       left = sym (line_more table c.loop-line.number s (state_of c.take_line.new.draft) c.loop-line.rest.now h.first c.in-Some.behind.now h.pieces j)

@@ -10,26 +10,26 @@ use Rattle.bus_wave.proofs.draft.Draft.take_data.Goals as goal
 
 pub returns-in-Opened-clause-gives : goal.returns-in-Opened-clause-gives
 unfolding step
-returns-in-Opened-clause-gives c = stepped c.args.senders.now c.args.self.now code.Opened (Sent (record { kind = Plain; value = c.args.value })) c.in-Opened.is
+returns-in-Opened-clause-gives c = stepped c.args.beginners.now.senders.now c.args.self.now code.Opened (Sent (record { kind = Plain; value = c.args.value })) c.in-Opened.is
 
 pub returns-in-Silent-clause-gives : goal.returns-in-Silent-clause-gives
 unfolding step
-returns-in-Silent-clause-gives c = stepped c.args.senders.now c.args.self.now (code.Silent c.in-Silent.free) (Sent (record { kind = Plain; value = c.args.value })) c.in-Silent.is
+returns-in-Silent-clause-gives c = stepped c.args.beginners.now.senders.now c.args.self.now (code.Silent c.in-Silent.free) (Sent (record { kind = Plain; value = c.args.value })) c.in-Silent.is
 
 pub returns-in-Waiting-clause-gives : goal.returns-in-Waiting-clause-gives
 unfolding step
-returns-in-Waiting-clause-gives c = stepped c.args.senders.now c.args.self.now (code.Waiting c.in-Waiting.next c.in-Waiting.left c.in-Waiting.later) (Sent (record { kind = Plain; value = c.args.value })) c.in-Waiting.is
+returns-in-Waiting-clause-gives c = stepped c.args.beginners.now.senders.now c.args.self.now (code.Waiting c.in-Waiting.next c.in-Waiting.left c.in-Waiting.later) (Sent (record { kind = Plain; value = c.args.value })) c.in-Waiting.is
 
 pub returns-in-Closed-clause-gives : goal.returns-in-Closed-clause-gives
 unfolding step
-returns-in-Closed-clause-gives c = stepped c.args.senders.now c.args.self.now code.Closed (Sent (record { kind = Plain; value = c.args.value })) c.in-Closed.is
+returns-in-Closed-clause-gives c = stepped c.args.beginners.now.senders.now c.args.self.now code.Closed (Sent (record { kind = Plain; value = c.args.value })) c.in-Closed.is
 
 pub returns-then-count-from-clause-gives : goal.returns-then-count-from-clause-gives
 returns-then-count-from-clause-gives c =
     let d = c.args.self.now in
     let p = code.Saying c.in-Saying.line c.in-Saying.left c.in-Saying.later in
-    stepped c.args.senders.now d p (Sent (record { kind = Plain; value = c.args.value })) c.in-Saying.is
-    ∙ data_full c.args.senders.now d.at d.list.items (begun_of d) c.in-Saying.line d.words.items c.in-Saying.left.now c.args.value (omega (arith, d.words.ok.0))
+    stepped c.args.beginners.now.senders.now d p (Sent (record { kind = Plain; value = c.args.value })) c.in-Saying.is
+    ∙ data_full c.args.beginners.now.senders.now d.at d.list.items (begun_of d) c.in-Saying.line d.words.items c.in-Saying.left.now c.args.value (omega (arith, d.words.ok.0))
 
 pub returns-then-self-missing-gt-HORIZON_LIMIT-clause-gives : goal.returns-then-self-missing-gt-HORIZON_LIMIT-clause-gives
 returns-then-self-missing-gt-HORIZON_LIMIT-clause-gives c =
@@ -37,8 +37,8 @@ returns-then-self-missing-gt-HORIZON_LIMIT-clause-gives c =
     let p = code.Saying c.in-Saying.line c.in-Saying.left c.in-Saying.later in
     let k = kept d p c.requires c.in-Saying.is in
     let rest : c.in-Saying.later ≡ later c.in-Saying.left.now = k.0.0.rest_is in
-    stepped c.args.senders.now d p (Sent (record { kind = Plain; value = c.args.value })) c.in-Saying.is
-    ∙ data_past c.args.senders.now d.at d.list.items (begun_of d) c.in-Saying.line d.words.items c.in-Saying.left.now c.args.value
+    stepped c.args.beginners.now.senders.now d p (Sent (record { kind = Plain; value = c.args.value })) c.in-Saying.is
+    ∙ data_past c.args.beginners.now.senders.now d.at d.list.items (begun_of d) c.in-Saying.line d.words.items c.in-Saying.left.now c.args.value
     (omega (arith, d.words.ok.0)) (omega (arith, d.words.ok.0, rest))
 
 pub returns-in_ok-push-in-Saying-clause-gives : goal.returns-in_ok-push-in-Saying-clause-gives
@@ -48,8 +48,8 @@ returns-in_ok-push-in-Saying-clause-gives c =
     let p = code.Saying line c.in-Saying.left c.in-Saying.later in
     let k = kept d p c.requires c.in-Saying.is in
     let rest : c.in-Saying.later ≡ later c.in-Saying.left.now = k.0.0.rest_is in
-    stepped c.args.senders.now d p (Sent (record { kind = Plain; value = c.args.value })) c.in-Saying.is
-    ∙ data_taken c.args.senders.now d.at d.list.items (begun_of d) line d.words.items c.in-Saying.left.now c.args.value
+    stepped c.args.beginners.now.senders.now d p (Sent (record { kind = Plain; value = c.args.value })) c.in-Saying.is
+    ∙ data_taken c.args.beginners.now.senders.now d.at d.list.items (begun_of d) line d.words.items c.in-Saying.left.now c.args.value
     (omega (arith, d.words.ok.0)) (omega (arith, d.words.ok.0, rest))
     ∙ ap (λ ws. (let r : Result State WaveReason = Ok (record { at = d.at + 20; list = d.list.items; phase = Saying (begun_of d) line ws c.in-Saying.left.now }) in r)) (sym c.in_ok-push-in-Saying.ensures.items)
     ∙ ap (λ q. (let r : Result State WaveReason = Ok (record { at = d.at + 20; list = d.list.items; phase = phase_of q (begun_of d) c.push.new.self.items }) in r)) (sym c.in-Saying.is)

@@ -15,9 +15,9 @@ pub returns-in-Opened-clause-gives : goal.returns-in-Opened-clause-gives
 unfolding step
 returns-in-Opened-clause-gives c =
     let d = c.args.self.now in
-    let o = beginner c.args.senders.now c.args.value in
+    let o = beginner c.args.beginners.now.senders.now c.args.value in
     subst (λ (r : Result State WaveReason). StepGives (state_of c.take_first.new.self) c.take_first.result r)
-    (ap (λ q. begin_bounded (state_in d q) o) c.in-Opened.is ∙ sym (stepped c.args.senders.now d code.Opened (Sent (record { kind = Label; value = c.args.value })) c.in-Opened.is))
+    (ap (λ q. begin_bounded (state_in d q) o) c.in-Opened.is ∙ sym (stepped c.args.beginners.now.senders.now d code.Opened (Sent (record { kind = Label; value = c.args.value })) c.in-Opened.is))
     c.take_first.ensures.gives
 
 pub returns-then-free-clause-gives : goal.returns-then-free-clause-gives
@@ -25,11 +25,11 @@ unfolding step
 returns-then-free-clause-gives c =
     let d = c.args.self.now in
     let p = code.Silent c.in-Silent.free in
-    let o = beginner c.args.senders.now c.args.value in
+    let o = beginner c.args.beginners.now.senders.now c.args.value in
     subst (λ (r : Result State WaveReason). StepGives (state_of c.take_first-then-free.new.self) c.take_first-then-free.result r)
     (ap (λ q. begin_bounded (state_in d q) o) c.in-Silent.is
     ∙ ap (λ b. cond b (begin_step (state_in d p) o) (Err Order) >>= bounded) (sym c.if-free.true)
-    ∙ sym (stepped c.args.senders.now d p (Sent (record { kind = Label; value = c.args.value })) c.in-Silent.is))
+    ∙ sym (stepped c.args.beginners.now.senders.now d p (Sent (record { kind = Label; value = c.args.value })) c.in-Silent.is))
     c.take_first-then-free.ensures.gives
 
 pub returns-else-free-clause-gives : goal.returns-else-free-clause-gives
@@ -37,22 +37,22 @@ unfolding step
 returns-else-free-clause-gives c =
     let d = c.args.self.now in
     let p = code.Silent c.in-Silent.free in
-    stepped c.args.senders.now d p (Sent (record { kind = Label; value = c.args.value })) c.in-Silent.is
-    ∙ ap (λ b. cond b (begin_step (state_in d p) (beginner c.args.senders.now c.args.value)) (Err Order) >>= bounded) c.if-free.false
+    stepped c.args.beginners.now.senders.now d p (Sent (record { kind = Label; value = c.args.value })) c.in-Silent.is
+    ∙ ap (λ b. cond b (begin_step (state_in d p) (beginner c.args.beginners.now.senders.now c.args.value)) (Err Order) >>= bounded) c.if-free.false
 
 pub returns-in-Waiting-clause-gives : goal.returns-in-Waiting-clause-gives
 unfolding step
 returns-in-Waiting-clause-gives c =
     let d = c.args.self.now in
     subst (λ (r : Result State WaveReason). StepGives (state_of c.take_next.new.self) c.take_next.result r)
-    (sym (stepped c.args.senders.now d (code.Waiting c.in-Waiting.next c.in-Waiting.left c.in-Waiting.later) (Sent (record { kind = Label; value = c.args.value })) c.in-Waiting.is))
+    (sym (stepped c.args.beginners.now.senders.now d (code.Waiting c.in-Waiting.next c.in-Waiting.left c.in-Waiting.later) (Sent (record { kind = Label; value = c.args.value })) c.in-Waiting.is))
     c.take_next.ensures.gives
 
 pub returns-in-Saying-clause-gives : goal.returns-in-Saying-clause-gives
 unfolding step
 returns-in-Saying-clause-gives c =
-    stepped c.args.senders.now c.args.self.now (code.Saying c.in-Saying.line c.in-Saying.left c.in-Saying.later) (Sent (record { kind = Label; value = c.args.value })) c.in-Saying.is
+    stepped c.args.beginners.now.senders.now c.args.self.now (code.Saying c.in-Saying.line c.in-Saying.left c.in-Saying.later) (Sent (record { kind = Label; value = c.args.value })) c.in-Saying.is
 
 pub returns-in-Closed-clause-gives : goal.returns-in-Closed-clause-gives
 unfolding step
-returns-in-Closed-clause-gives c = stepped c.args.senders.now c.args.self.now code.Closed (Sent (record { kind = Label; value = c.args.value })) c.in-Closed.is
+returns-in-Closed-clause-gives c = stepped c.args.beginners.now.senders.now c.args.self.now code.Closed (Sent (record { kind = Label; value = c.args.value })) c.in-Closed.is

@@ -1,5 +1,5 @@
 use Rattle.std.proofs.Common.{length, take, ◌≡◌}
-use Rattle.bus_wave.proofs.draft.short_string.Given as goal
+use Rattle.bus_wave.proofs.making.short_string.Given as goal
 
 -- the words so far are kept
 abbrev pub invariant-loop-k : goal.invariant-loop-k

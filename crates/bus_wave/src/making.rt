@@ -1,0 +1,68 @@
+//! A message and its wordstrings, made of what the lines gave.
+ghost use Rattle.std.specs.Prelude.{◌≡◌, ◌<◌, ◌≤◌, ◌++◌, ◌∷◌, [], length, IfOk, OnOk};
+ghost use Rattle.bus_strings.specs.Limits.{most_strings};
+ghost use Rattle.bus_wave.specs.Judging.{string_of};
+
+use bus_strings::message::Message;
+use bus_strings::wordstring::{SHORT, Wordstring};
+use bus_table::line::SendLine;
+use std::alloc::{AllocError, Global};
+use std::mem::replace;
+
+/// The wordstring of a SEND line and of a few data words: no more than it keeps in itself.
+fn short_string(line: SendLine, words: &[u16]) -> Wordstring
+    requires { length words.now ≤ 12 }
+    ensures { result ≡ string_of line words.now }
+{
+    if words.is_empty() {
+        return Wordstring::short(line.label, line.ext, 0, [0; SHORT]);
+    }
+    let mut kept = [0; SHORT];
+    for (k, word) in words.iter().enumerate() {
+        kept[k] = *word;
+    }
+    Wordstring::short(line.label, line.ext, words.len() as u8, kept)
+}
+
+/// The wordstring of a SEND line and of data words, which takes only the memory that it needs.
+pub(crate) fn wordstring(
+    alloc: Global,
+    line: SendLine,
+    words: &[u16],
+) -> Result<Wordstring, AllocError>
+    requires { length words.now ≤ 256 }
+    ensures { IfOk result (λ string. string ≡ string_of line words.now) }
+{
+    if words.len() <= SHORT {
+        return Ok(short_string(line, words));
+    }
+    let words = Vec::from_slice(alloc, words)?;
+    Ok(Wordstring::new(line.label, line.ext, words).unwrap())
+}
+
+/// The message of wordstrings and of one behind them. A message of one takes no memory.
+pub(crate) fn message(
+    alloc: Global,
+    strings: &mut Vec<Wordstring>,
+    last: Wordstring,
+) -> Result<Message, AllocError>
+    requires { length strings.old.items < most_strings }
+    ensures { IfOk result (λ message. message ≡ strings.old.items ++ last ∷ []) }
+{
+    if strings.is_empty() {
+        return Ok(Message::one(alloc, last));
+    }
+    strings.push(last)?;
+    Ok(Message::new(replace(strings, Vec::new(alloc))).unwrap())
+}
+
+/// Empties the room for wordstrings, and makes it large enough for so many where they are more than one.
+pub(crate) fn clear_for(strings: &mut Vec<Wordstring>, count: usize) -> Result<(), AllocError>
+    ensures { OnOk result (strings.new.items ≡ []) }
+{
+    strings.clear();
+    if count > 1 {
+        strings.reserve(count)?;
+    }
+    Ok(())
+}
