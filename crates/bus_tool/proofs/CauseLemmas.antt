@@ -12,7 +12,7 @@ use Rattle.bus_wave.specs.WaveLaws.{WavesReadBack}
 use Rattle.bus_tool.specs.declared.forms.Form.{Form}
 use Rattle.bus_tool.specs.declared.forms.Form.TheVariants.{Check, Tidy, Report, Witness, Plan, Drill, Observe, Run, Drop, Receive, Audit, Vote, Wave, Unwave}
 use Rattle.bus_tool.specs.declared.outcome.Outcome.{Outcome}
-use Rattle.bus_tool.specs.declared.outcome.Outcome.TheVariants.{Done, Answered, Refused, TableText, TableWhole, TableMode, MessagesText, Unfit, Uneven, TraceText, Unspaced, WaveText, ReadFault, WriteFault, NoMemory, TooLarge, ShortLast, TooLong}
+use Rattle.bus_tool.specs.declared.outcome.Outcome.TheVariants.{Done, Answered, Refused, TableText, TableWhole, TableMode, MessagesText, Unfit, Uneven, TraceText, Unspaced, WaveText, Doubled, ReadFault, WriteFault, NoMemory, TooLarge, ShortLast, TooLong}
 use Rattle.bus_tool.specs.Forms.{sources_of}
 use Rattle.bus_tool.specs.Kinds.{Answer, kind_of, is_answer}
 use Rattle.bus_tool.specs.Stages.{StandsFor, refusal_in}
@@ -31,8 +31,8 @@ use Rattle.bus_tool.proofs.CheckLemmas.{written_verdict}
 use Rattle.bus_tool.proofs.AuditLemmas.{written_audit}
 use Rattle.bus_tool.proofs.ModeLemmas.{IsOtherMode, mode_stop}
 use Rattle.bus_tool.proofs.PlanLemmas.{written_plan}
-use Rattle.bus_tool.proofs.StageLemmas.{if_map}
-use Rattle.bus_tool.proofs.PrepareLemmas.{both_map}
+use Rattle.bus_tool.specs.StageLaws.{if_map}
+use Rattle.bus_tool.specs.PrepareLaws.{both_map}
 use Rattle.bus_tool.proofs.ReadLemmas.{table_read, table_text_read, table_whole_read, table_no_mode, table_stops, messages_text_read, unfit_read, items_read, inputs_read, inputs_stop, items_refuse}
 use Rattle.bus_tool.proofs.TraceReads.{held_trace, read_trace, trace_refuses, traced_stop}
 use Rattle.bus_tool.proofs.WaveReads.{spaced_stop, wave_refuses, no_wave_text}
@@ -224,6 +224,7 @@ refuses_table laws first (Uneven one one_count other other_count) h = tt
 refuses_table laws first (TraceText byte reason) h = tt
 refuses_table laws first (Unspaced fault) h = tt
 refuses_table laws first (WaveText line reason) h = tt
+refuses_table laws first (Doubled entry) h = tt
 refuses_table laws first (Refused verdict) h = tt
 refuses_table laws first (ShortLast least ti) h = tt
 refuses_table laws first (TooLong end) h = tt
@@ -255,6 +256,7 @@ refuses_in laws needed first (Uneven one one_count other other_count) h = tt
 refuses_in laws needed first (TraceText byte reason) h = tt
 refuses_in laws needed first (Unspaced fault) h = tt
 refuses_in laws needed first (WaveText line reason) h = tt
+refuses_in laws needed first (Doubled entry) h = tt
 refuses_in laws needed first (Refused verdict) h = tt
 refuses_in laws needed first (ShortLast least ti) h = tt
 refuses_in laws needed first (TooLong end) h = tt
@@ -273,6 +275,7 @@ refuses_nothing first (Uneven one one_count other other_count) h = tt
 refuses_nothing first (TraceText byte reason) h = tt
 refuses_nothing first (Unspaced fault) h = tt
 refuses_nothing first (WaveText line reason) h = tt
+refuses_nothing first (Doubled entry) h = tt
 refuses_nothing first (Refused verdict) h = tt
 refuses_nothing first (ShortLast least ti) h = tt
 refuses_nothing first (TooLong end) h = tt

@@ -1,9 +1,5 @@
 pub mod TextLemmas
-pub mod StageLemmas
-pub mod ReachLemmas
 pub mod TakeLemmas
-pub mod PrepareLemmas
-pub mod DoLemmas
 pub mod FormLemmas
 pub mod HoldLemmas
 pub mod HoldLawLemmas

@@ -29,9 +29,9 @@ use Rattle.bus_tool.specs.Due.{Inputs, hands_in, accepted_due, short_due, outcom
 use Rattle.bus_tool.specs.Taken.{AreInputs}
 use Rattle.bus_tool.specs.Texts.{IsRanBy, IsRanText, IsTextOf, run_text}
 use Rattle.bus_tool.specs.Acts.{written, Does}
-use Rattle.bus_tool.proofs.StageLemmas.{then_stage, late_early, late_stage, gives_on}
-use Rattle.bus_tool.proofs.PrepareLemmas.{prepares_past, prepares_then}
-use Rattle.bus_tool.proofs.DoLemmas.{Tells, answered, stopped}
+use Rattle.bus_tool.specs.StageLaws.{then_stage, late_early, late_stage, gives_on}
+use Rattle.bus_tool.specs.PrepareLaws.{prepares_past, prepares_then}
+use Rattle.bus_tool.specs.DoLaws.{Tells, answered, stopped}
 
 -- ---- what is due behind both texts
 abbrev accepted_if : Bool → TableVerdict → Result (Unit {0}) Outcome

@@ -11,7 +11,7 @@ use Rattle.bus_wave.specs.Spacing.{IsSpaced, spaced_of}
 use Rattle.bus_wave.specs.WaveTexts.{wave_text}
 use Rattle.bus_tool.specs.declared.outcome.Outcome.{Outcome}
 use Rattle.bus_tool.specs.declared.outcome.Outcome.TheVariants.{Done, Answered, Refused, Usage, TableText, TableWhole, TableMode}
-use Rattle.bus_tool.specs.declared.outcome.Outcome.TheVariants.{MessagesText, Unfit, Uneven, TraceText, Unspaced, WaveText, ReadFault}
+use Rattle.bus_tool.specs.declared.outcome.Outcome.TheVariants.{MessagesText, Unfit, Uneven, TraceText, Unspaced, WaveText, Doubled, ReadFault}
 use Rattle.bus_tool.specs.declared.outcome.Outcome.TheVariants.{WriteFault, NoMemory, TooLarge, ShortLast, TooLong}
 use Rattle.bus_tool.specs.declared.status.Status.TheVariants as status
 use Rattle.bus_tool.specs.declared.forms.Form.TheVariants.{Wave, Unwave}
@@ -87,6 +87,7 @@ refused_done fault (Uneven one one_count other other_count) stands h = cc
 refused_done fault (TraceText byte reason) stands h = cc
 refused_done fault (Unspaced other) stands h = cc
 refused_done fault (WaveText line reason) stands h = cc
+refused_done fault (Doubled entry) stands h = cc
 refused_done fault (ReadFault source) stands h = cc
 refused_done fault WriteFault stands h = cc
 refused_done fault NoMemory stands h = cc

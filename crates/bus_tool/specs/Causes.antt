@@ -166,6 +166,7 @@ RefusesTexts form (outcome.Uneven one one_count other other_count) first second 
 RefusesTexts form (outcome.TraceText byte reason) first second = IsNoTraceText second
 RefusesTexts form (outcome.Unspaced fault) first second = IsUnspacedText fault first second
 RefusesTexts form (outcome.WaveText line reason) first second = IsNoWaveOf first second
+RefusesTexts form (outcome.Doubled entry) first second = Unit {0}
 RefusesTexts form (outcome.ReadFault source) first second = Unit {0}
 RefusesTexts form outcome.WriteFault first second = Unit {0}
 RefusesTexts form outcome.NoMemory first second = Unit {0}
@@ -193,6 +194,7 @@ RefusesText (outcome.Uneven one one_count other other_count) first = Unit {0}
 RefusesText (outcome.TraceText byte reason) first = Unit {0}
 RefusesText (outcome.Unspaced fault) first = Unit {0}
 RefusesText (outcome.WaveText line reason) first = Unit {0}
+RefusesText (outcome.Doubled entry) first = Unit {0}
 RefusesText (outcome.ReadFault source) first = Unit {0}
 RefusesText outcome.WriteFault first = Unit {0}
 RefusesText outcome.NoMemory first = Unit {0}

@@ -31,6 +31,7 @@ kind_of (outcome.Uneven one one_count other other_count) = Late
 kind_of (outcome.TraceText byte reason) = Wrong 2
 kind_of (outcome.Unspaced fault) = Wrong 2
 kind_of (outcome.WaveText line reason) = Wrong 2
+kind_of (outcome.Doubled entry) = Wrong 2
 kind_of (outcome.ReadFault source) = NotRead source
 kind_of outcome.WriteFault = NotWritten
 kind_of outcome.NoMemory = NoRoom

@@ -20,7 +20,8 @@ use Rattle.bus_tool.specs.declared.status.Status.{Status}
 use Rattle.bus_tool.specs.declared.status.Status.TheVariants as status
 use Rattle.bus_tool.specs.declared.outcome.Outcome.{Outcome}
 use Rattle.bus_tool.specs.declared.outcome.Outcome.TheVariants.{Done, Answered, Refused, Usage, TableText, TableWhole, TableMode}
-use Rattle.bus_tool.specs.declared.outcome.Outcome.TheVariants.{MessagesText, Unfit, Uneven, TraceText, Unspaced, WaveText, ReadFault}
+use Rattle.bus_tool.specs.declared.outcome.Outcome.TheVariants.{MessagesText, Unfit, Uneven, TraceText, Unspaced, WaveText, Doubled}
+use Rattle.bus_tool.specs.declared.outcome.Outcome.TheVariants.{ReadFault}
 use Rattle.bus_tool.specs.declared.outcome.Outcome.TheVariants.{WriteFault, NoMemory}
 use Rattle.bus_tool.specs.declared.outcome.Outcome.TheVariants.{TooLarge, ShortLast, TooLong}
 use Rattle.bus_tool.specs.Kinds.{kind_of, is_answer}
@@ -41,6 +42,7 @@ status_of (Uneven one one_count other other_count) = status.InputRefused
 status_of (TraceText byte reason) = status.InputRefused
 status_of (Unspaced fault) = status.InputRefused
 status_of (WaveText line reason) = status.InputRefused
+status_of (Doubled entry) = status.InputRefused
 status_of (ReadFault source) = status.ReadFault
 status_of WriteFault = status.WriteFault
 status_of NoMemory = status.NoMemory
@@ -124,6 +126,7 @@ fault_words (Uneven one one_count other other_count) =
 fault_words (TraceText byte reason) = codes "trace byte " ++ decimal byte ++ 32 ∷ [] ++ trace_reason_name reason
 fault_words (Unspaced fault) = codes "wave entry " ++ entry_words fault
 fault_words (WaveText line reason) = codes "wave line " ++ decimal line ++ 32 ∷ [] ++ wave_reason_name reason
+fault_words (Doubled entry) = codes "trace entry " ++ decimal entry ++ codes " Doubled"
 fault_words (ReadFault source) = codes "read " ++ decimal source
 fault_words WriteFault = codes "write"
 fault_words NoMemory = codes "memory"
@@ -154,6 +157,7 @@ refused_verdict (Uneven one one_count other other_count) = None
 refused_verdict (TraceText byte reason) = None
 refused_verdict (Unspaced fault) = None
 refused_verdict (WaveText line reason) = None
+refused_verdict (Doubled entry) = None
 refused_verdict (ReadFault source) = None
 refused_verdict WriteFault = None
 refused_verdict NoMemory = None
@@ -176,6 +180,7 @@ short_last_of (Uneven one one_count other other_count) = None
 short_last_of (TraceText byte reason) = None
 short_last_of (Unspaced fault) = None
 short_last_of (WaveText line reason) = None
+short_last_of (Doubled entry) = None
 short_last_of (ReadFault source) = None
 short_last_of WriteFault = None
 short_last_of NoMemory = None

@@ -85,6 +85,7 @@ IsOwn form second (outcome.Uneven one one_count other other_count) = (form ≡ R
 IsOwn form second (outcome.TraceText byte reason) = ReadsSecond form Trace second IsNoTraceText
 IsOwn form second (outcome.Unspaced fault) = (form ≡ Wave) × IfSome second (IsUnspacedIn fault)
 IsOwn form second (outcome.WaveText line reason) = ReadsSecond form entire_wave second IsNoWaveIn
+IsOwn form second (outcome.Doubled entry) = ⊥
 IsOwn form second (outcome.ReadFault source) = Unit {0}
 IsOwn form second outcome.WriteFault = Unit {0}
 IsOwn form second outcome.NoMemory = Unit {0}

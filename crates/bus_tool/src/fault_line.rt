@@ -248,6 +248,14 @@ fn put_wave_text<K: Sink>(text: &mut TextBuffer, sink: &mut K, line: u64, reason
     put_wave_reason(text, sink, reason);
 }
 
+/// Puts the refusal of a trace in which a terminal starts before an earlier message of its own has ended.
+fn put_doubled<K: Sink>(text: &mut TextBuffer, sink: &mut K, entry: u64)
+    ensures { Adds K.held K.faults sink.old sink.new text.old text.new (fault_words (Outcome.Doubled entry)) }
+{
+    text.put(sink, b"trace entry ");
+    put_number_and_word(text, sink, entry, b" Doubled");
+}
+
 /// Puts why a table is refused as a whole.
 fn put_table_whole<K: Sink>(text: &mut TextBuffer, sink: &mut K, reason: WholeReason)
     ensures { Adds K.held K.faults sink.old sink.new text.old text.new (fault_words (Outcome.TableWhole reason)) }
@@ -296,6 +304,7 @@ fn put_words<K: Sink>(text: &mut TextBuffer, sink: &mut K, outcome: &Outcome)
         Outcome::TraceText { byte, reason } => put_trace_text(text, sink, byte, reason),
         Outcome::Unspaced(fault) => put_unspaced(text, sink, fault),
         Outcome::WaveText { line, reason } => put_wave_text(text, sink, line, reason),
+        Outcome::Doubled { entry } => put_doubled(text, sink, entry),
         Outcome::ReadFault { source } => put_numbered(text, sink, b"read ", u64::from(source)),
         Outcome::WriteFault => text.put(sink, b"write"),
         Outcome::NoMemory => text.put(sink, b"memory"),

@@ -2,6 +2,10 @@
 //!
 //! [`tool`] is the top call: it does the command that the words ask for, writes a fault line on `err`, and says how the program ends.
 //! [`act`] is the command alone, [`Outcome`] what it came to, and [`outcome_text`] the line.
+//!
+//! [`take_table`], [`take_trace`] and [`take_traced`] are the steps by which a command takes a table and a trace from its sources, and
+//! [`after_writing`] is what it comes to once its answer is written: for another program over the same texts, which `specs/PrepareLaws`
+//! and `specs/DoLaws` put together as the commands here are.
 #![tactic(auto)]
 
 mod audit;
@@ -34,6 +38,8 @@ mod writing;
 pub use command::act;
 pub use fault_line::outcome_text;
 pub use in_memory::answer;
+pub use inputs::{Traced, take_table, take_trace, take_traced};
 pub use outcome::Outcome;
 pub use status::Status;
 pub use top::tool;
+pub use writing::after_writing;

@@ -61,6 +61,11 @@ pub enum Outcome {
         line: u64,
         reason: WaveReason,
     },
+    /// An entry of the trace in the second text, counted from 0, is the first that starts before an earlier one of its terminal has ended.
+    /// No form of bus629 asks for that; what draws a terminal at one place does.
+    Doubled {
+        entry: u64,
+    },
     /// A source, the first being 1, couldn't be read.
     ReadFault {
         source: u8,
@@ -110,6 +115,7 @@ impl Outcome {
             | Outcome::TraceText { .. }
             | Outcome::Unspaced(_)
             | Outcome::WaveText { .. }
+            | Outcome::Doubled { .. }
             | Outcome::ReadFault { .. }
             | Outcome::WriteFault
             | Outcome::NoMemory
@@ -138,6 +144,7 @@ impl Outcome {
             | Outcome::TraceText { .. }
             | Outcome::Unspaced(_)
             | Outcome::WaveText { .. }
+            | Outcome::Doubled { .. }
             | Outcome::ReadFault { .. }
             | Outcome::WriteFault
             | Outcome::NoMemory
@@ -161,7 +168,8 @@ impl Outcome {
             | Outcome::Uneven { .. }
             | Outcome::TraceText { .. }
             | Outcome::Unspaced(_)
-            | Outcome::WaveText { .. } => Status::InputRefused,
+            | Outcome::WaveText { .. }
+            | Outcome::Doubled { .. } => Status::InputRefused,
             Outcome::ReadFault { .. } => Status::ReadFault,
             Outcome::WriteFault => Status::WriteFault,
             Outcome::NoMemory => Status::NoMemory,

@@ -6,7 +6,8 @@ use Rattle.bus_outer.specs.Sources.{Taken}
 use Rattle.bus_trace.specs.Traces.{text_in}
 use Rattle.bus_tool.specs.Kinds.{Kind, NoForm, NotRead, TooMuch, Wrong, Late, NotWritten, NoRoom, Answer}
 use Rattle.bus_tool.specs.Outside.{Seen, Sources, both, Stays, BothStay}
-use Rattle.bus_tool.specs.Readers.{Reader, Entire, Trace, Named, Reach, Untouched, Broken, Within, Past, Judged, ReadsBy, Reads, reach_at, reach, First, Second, SourceCounts, OutCounts}
+use Rattle.bus_tool.specs.Readers.{Reader, Entire, Trace, Named, Reach, Untouched, Broken, Within, Past, Judged, ReadsBy, Reads, reach_at}
+use Rattle.bus_tool.specs.Readers.{reach, First, Second, SourceCounts, OutCounts}
 use Rattle.bus_tool.specs.Steps.{stopped_at, StopsAt, StepCounts, IsEarly, IsLate}
 
 -- at its own stage
@@ -41,16 +42,22 @@ nothing_within (Entire limit) seen = ([], took_nothing seen.bytes, omega arith)
 nothing_within Trace seen = ([], took_nothing seen.bytes, omega arith)
 
 -- the source at which a step stopped
-pub reads_own : (reader : Reader) (number : ℕ) (k : Kind) (old new : Seen) → StopsAt number k → ReadsBy reader (stopped_at k) old new → ReadsBy reader (reach number k) old new
+pub reads_own : (reader : Reader) (number : ℕ) (k : Kind) (old new : Seen) → StopsAt number k → ReadsBy reader (stopped_at k) old new
+    → ReadsBy reader (reach number k) old new
 reads_own reader number k old new h r = subst (λ reach. ReadsBy reader reach old new) (sym (own_reach number k h)) r
 
 -- what was read as far as its reader goes was read within its limit
 pub judged_within : (reader : Reader) (old new : Seen) → ReadsBy reader Judged old new → ReadsBy reader Within old new
 judged_within (Entire limit) old new r = r.0
-judged_within Trace old new r = elim r [ inl whole ↦ (text_in whole.1.format whole.0, whole.1.came, whole.1.short) | inr wrong ↦ (wrong.2.bytes, wrong.2.came, wrong.2.known.1) ]
+judged_within Trace old new r = elim r [
+  | inl whole ↦ (text_in whole.1.format whole.0, whole.1.came, whole.1.short)
+  | inr wrong ↦
+      (wrong.2.bytes, wrong.2.came, wrong.2.known.1)
+]
 
 -- the first, where the second step stopped
-pub reads_before : (reader : Reader) (k : Kind) (old new : Seen) → StopsAt 2 k → ReadsBy reader Judged old new → ReadsBy reader (reach 1 k) old new
+pub reads_before : (reader : Reader) (k : Kind) (old new : Seen) → StopsAt 2 k → ReadsBy reader Judged old new
+    → ReadsBy reader (reach 1 k) old new
 reads_before reader NoForm old new h r = absurd h
 reads_before reader (NotRead source) old new h r = subst (λ n. ReadsBy reader (reach_at 1 n Broken) old new) (sym h) r
 reads_before reader (TooMuch source) old new h r = subst (λ n. ReadsBy reader (reach_at 1 n Past) old new) (sym h) r
@@ -61,7 +68,8 @@ reads_before reader NoRoom old new h r = judged_within reader old new r
 reads_before reader Answer old new h r = absurd h
 
 -- a source that was read, where a command stopped behind both
-pub reads_late : (reader : Option Reader) (number : ℕ) (k : Kind) (old new : Seen) → IsLate k → Reads reader (reach number Answer) old new → Reads reader (reach number k) old new
+pub reads_late : (reader : Option Reader) (number : ℕ) (k : Kind) (old new : Seen) → IsLate k → Reads reader (reach number Answer) old new
+    → Reads reader (reach number k) old new
 reads_late None number k old new h r = r
 reads_late (Some reader) number NoForm old new h r = absurd h
 reads_late (Some reader) number (NotRead source) old new h r = absurd h
@@ -84,7 +92,8 @@ late_counts named before after NoRoom h s = s
 late_counts named before after Answer h s = absurd h
 
 -- a step that stopped at the first source
-pub first_counts : (named : Named) (k : Kind) (old new second : Seen) → IsSome named.first → StopsAt 1 k → StepCounts old new k → SourceCounts named (both old second) (both new second) k
+pub first_counts : (named : Named) (k : Kind) (old new second : Seen) → IsSome named.first → StopsAt 1 k → StepCounts old new k
+    → SourceCounts named (both old second) (both new second) k
 first_counts named NoForm old new second some h c = absurd h
 first_counts named (NotRead source) old new second some h c = First h some c refl
 first_counts named (TooMuch source) old new second some h c = (inl (h, some), record { first = c; second = refl })
@@ -95,7 +104,8 @@ first_counts named NoRoom old new second some h c = record { first = c; second =
 first_counts named Answer old new second some h c = absurd h
 
 -- a step that stopped at the second source
-pub second_counts : (named : Named) (k : Kind) (first first' old new : Seen) → IsSome named.second → Stays first first' → StopsAt 2 k → StepCounts old new k → SourceCounts named (both first old) (both first' new) k
+pub second_counts : (named : Named) (k : Kind) (first first' old new : Seen) → IsSome named.second → Stays first first' → StopsAt 2 k
+    → StepCounts old new k → SourceCounts named (both first old) (both first' new) k
 second_counts named NoForm first first' old new some stays h c = absurd h
 second_counts named (NotRead source) first first' old new some stays h c = Second h some stays c
 second_counts named (TooMuch source) first first' old new some stays h c = (inr (h, some), record { first = stays; second = c })

@@ -67,22 +67,26 @@ stop_stage number NoRoom low h = low
 stop_stage number Answer low h = absurd h
 
 -- ---- the stages of what is due
-pub then_stage : {X Y : Type 0} (n : ℕ) (due : Result X Outcome) (f : X → Result Y Outcome) → n ≤ stage_in due → ((x : X) → n ≤ stage_in (f x)) → n ≤ stage_in (due >>= f)
+pub then_stage : {X Y : Type 0} (n : ℕ) (due : Result X Outcome) (f : X → Result Y Outcome) → n ≤ stage_in due
+    → ((x : X) → n ≤ stage_in (f x)) → n ≤ stage_in (due >>= f)
 then_stage n (Ok x) f h later = later x
 then_stage n (Err o) f h later = h
 
 -- ---- what steps give together
 -- the step before gave this
-pub gives_then : {X Y V W : Type 0} (IsOf : X → Y → Type 0) (IsNext : V → W → Type 0) (x : X) (due : Result Y Outcome) (f : Y → Result W Outcome) (r : Result V Outcome)
+pub gives_then : {X Y V W : Type 0} (IsOf : X → Y → Type 0) (IsNext : V → W → Type 0) (x : X) (due : Result Y Outcome)
+    (f : Y → Result W Outcome) (r : Result V Outcome)
     → Gives IsOf (Ok x) due → ((y : Y) → IsOf x y → Gives IsNext r (f y)) → Gives IsNext r (due >>= f)
 gives_then IsOf IsNext x due f r g next = subst (λ d. Gives IsNext r (d >>= f)) (sym g.1) (next g.0 g.2)
 
-past_read : {Y W : Type 0} (source : ℕ) (due : Result Y Outcome) (f : Y → Result W Outcome) → ((y : Y) → 3 ≤ stage_in (f y)) → source ≤ stage_in due → source ≤ stage_in (due >>= f)
+past_read : {Y W : Type 0} (source : ℕ) (due : Result Y Outcome) (f : Y → Result W Outcome) → ((y : Y) → 3 ≤ stage_in (f y))
+    → source ≤ stage_in due → source ≤ stage_in (due >>= f)
 past_read source (Ok y) f late g = omega (arith, late y)
 past_read source (Err e) f late g = g
 
 -- the first of two steps stopped
-pub gives_first : {Y W : Type 0} (k : Kind) (o : Outcome) (due : Result Y Outcome) (f : Y → Result W Outcome) → StopsAt 1 k → ((y : Y) → 2 ≤ stage_in (f y)) → GivesStop k o due → GivesStop k o (due >>= f)
+pub gives_first : {Y W : Type 0} (k : Kind) (o : Outcome) (due : Result Y Outcome) (f : Y → Result W Outcome) → StopsAt 1 k
+    → ((y : Y) → 2 ≤ stage_in (f y)) → GivesStop k o due → GivesStop k o (due >>= f)
 gives_first NoForm o due f stop later g = absurd stop
 gives_first (NotRead source) o due f stop later g = then_stage source due f g (λ y. omega (arith, later y))
 gives_first (TooMuch source) o due f stop later g = ap (λ d. d >>= f) g
@@ -93,10 +97,12 @@ gives_first NoRoom o due f stop later g = then_stage 1 due f g (λ y. omega (ari
 gives_first Answer o due f stop later g = absurd stop
 
 -- a step stopped at its source, and what is asked behind it comes no earlier
-pub gives_own : {Y W : Type 0} (number : ℕ) (k : Kind) (o : Outcome) (due : Result Y Outcome) (f : Y → Result W Outcome) → 1 ≤ number → StopsAt number k
+pub gives_own : {Y W : Type 0} (number : ℕ) (k : Kind) (o : Outcome) (due : Result Y Outcome) (f : Y → Result W Outcome) → 1 ≤ number
+    → StopsAt number k
     → ((y : Y) → number ≤ stage_in (f y)) → GivesStop k o due → GivesStop k o (due >>= f)
 gives_own number NoForm o due f low stop later g = absurd stop
-gives_own number (NotRead source) o due f low stop later g = then_stage source due f g (λ y. let k : source ≡ number = stop in omega (arith, k, later y))
+gives_own number (NotRead source) o due f low stop later g = then_stage source due f g
+    (λ y. let k : source ≡ number = stop in omega (arith, k, later y))
 gives_own number (TooMuch source) o due f low stop later g = ap (λ d. d >>= f) g
 gives_own number (Wrong source) o due f low stop later g = ap (λ d. d >>= f) g
 gives_own number Late o due f low stop later g = absurd stop
@@ -105,7 +111,8 @@ gives_own number NoRoom o due f low stop later g = then_stage 1 due f g (λ y. o
 gives_own number Answer o due f low stop later g = absurd stop
 
 -- the steps before stopped, and what is asked behind them comes late
-pub gives_past : {Y W : Type 0} (k : Kind) (o : Outcome) (due : Result Y Outcome) (f : Y → Result W Outcome) → ((y : Y) → 3 ≤ stage_in (f y)) → GivesStop k o due → GivesStop k o (due >>= f)
+pub gives_past : {Y W : Type 0} (k : Kind) (o : Outcome) (due : Result Y Outcome) (f : Y → Result W Outcome)
+    → ((y : Y) → 3 ≤ stage_in (f y)) → GivesStop k o due → GivesStop k o (due >>= f)
 gives_past NoForm o due f late g = ap (λ d. d >>= f) g
 gives_past (NotRead source) o due f late g = past_read source due f late g
 gives_past (TooMuch source) o due f late g = ap (λ d. d >>= f) g
@@ -116,7 +123,8 @@ gives_past NoRoom o due f late g = past_read 1 due f late g
 gives_past Answer o due f late g = ap (λ d. d >>= f) g
 
 -- a step stopped behind the texts, or at its own source, and nothing is asked behind it
-pub gives_on : {Y W : Type 0} (k : Kind) (o : Outcome) (due : Result Y Outcome) (f : Y → W) → IsEarly k → (stage_of k ≤ 3) → GivesStop k o due → GivesStop k o (due >>= λ y. Ok (f y))
+pub gives_on : {Y W : Type 0} (k : Kind) (o : Outcome) (due : Result Y Outcome) (f : Y → W) → IsEarly k → (stage_of k ≤ 3)
+    → GivesStop k o due → GivesStop k o (due >>= λ y. Ok (f y))
 gives_on NoForm o due f early low g = absurd early
 gives_on (NotRead source) o due f early low g = then_stage source due (λ y. Ok (f y)) g (λ y. low)
 gives_on (TooMuch source) o due f early low g = ap (λ d. d >>= λ y. Ok (f y)) g
@@ -127,7 +135,8 @@ gives_on NoRoom o due f early low g = then_stage 1 due (λ y. Ok (f y)) g (λ y.
 gives_on Answer o due f early low g = absurd early
 
 -- what is due of a value is no refusal
-pub no_refusal : {X Y : Type 0} (IsOf : X → Y → Type 0) (x : X) (due : Result Y Outcome) (P : Outcome → Type 0) → Gives IsOf (Ok x) due → IfSome (refusal_in due) P
+pub no_refusal : {X Y : Type 0} (IsOf : X → Y → Type 0) (x : X) (due : Result Y Outcome) (P : Outcome → Type 0) → Gives IsOf (Ok x) due
+    → IfSome (refusal_in due) P
 no_refusal IsOf x due P g = subst (λ d. IfSome (refusal_in d) P) (sym g.1) tt
 
 -- ---- what stands for the outcome that is due
@@ -145,16 +154,20 @@ stop_stands Y NotWritten refusal o g early = absurd early
 stop_stands Y NoRoom refusal o g early = g
 stop_stands Y Answer refusal o g early = absurd early
 
-pub refused_first : {Y : Type 0} (o : Outcome) (due : Result Y Outcome) (before after : Sources) → IsEarly (kind_of o) → after.second ≡ before.second → GivesStop (kind_of o) o due → IfSome (refusal_in due) (λ refusal. IsRefused refusal o before after)
+pub refused_first : {Y : Type 0} (o : Outcome) (due : Result Y Outcome) (before after : Sources) → IsEarly (kind_of o)
+    → after.second ≡ before.second → GivesStop (kind_of o) o due → IfSome (refusal_in due) (λ refusal. IsRefused refusal o before after)
 refused_first o (Ok y) before after early same g = tt
-refused_first {Y} o (Err refusal) before after early same g = record { stands = stop_stands Y (kind_of o) refusal o g early; unpulled = same }
+refused_first {Y} o (Err refusal) before after early same g = record
+    { stands = stop_stands Y (kind_of o) refusal o g early; unpulled = same }
 
-stage_with : {Y : Type 0} (answer : Y → Outcome) → ((y : Y) → kind_of (answer y) ≡ Answer) → (due : Result Y Outcome) → stage_in due ≤ stage_of (kind_of (outcome_with answer due))
+stage_with : {Y : Type 0} (answer : Y → Outcome) → ((y : Y) → kind_of (answer y) ≡ Answer) → (due : Result Y Outcome)
+    → stage_in due ≤ stage_of (kind_of (outcome_with answer due))
 stage_with answer written (Ok y) = (let e : stage_of (kind_of (answer y)) ≡ 3 = ap stage_of (written y) in omega arith)
 stage_with answer written (Err o) = omega arith
 
 -- a step that stopped, before the answer
-pub gives_stands : {Y : Type 0} (k : Kind) (answer : Y → Outcome) → ((y : Y) → kind_of (answer y) ≡ Answer) → (o : Outcome) (due : Result Y Outcome) → IsEarly k → GivesStop k o due → StandsAs k (outcome_with answer due) o
+pub gives_stands : {Y : Type 0} (k : Kind) (answer : Y → Outcome) → ((y : Y) → kind_of (answer y) ≡ Answer)
+    → (o : Outcome) (due : Result Y Outcome) → IsEarly k → GivesStop k o due → StandsAs k (outcome_with answer due) o
 gives_stands NoForm answer written o due early g = absurd early
 gives_stands (NotRead source) answer written o due early g = omega (arith, stage_with answer written due)
 gives_stands (TooMuch source) answer written o due early g = ap (outcome_with answer) g
@@ -166,7 +179,8 @@ gives_stands Answer answer written o due early g = absurd early
 
 -- ---- refusals of the first text
 -- a step that reads the first source refuses what is due of its text
-pub due_first : {Y : Type 0} (k : Kind) (o : Outcome) (due : Result Y Outcome) → StopsAt 1 k → GivesStop k o due → RefusesFirst k o (refusal_in due)
+pub due_first : {Y : Type 0} (k : Kind) (o : Outcome) (due : Result Y Outcome) → StopsAt 1 k → GivesStop k o due
+    → RefusesFirst k o (refusal_in due)
 due_first NoForm o due stop g = absurd stop
 due_first (NotRead source) o due stop g = tt
 due_first (TooMuch source) o due stop g = λ is. ap refusal_in g
