@@ -16,5 +16,6 @@ pub mod WatchLemmas
 pub mod TimerLemmas
 pub mod SingleLemmas
 pub mod ReadLemmas
+pub mod ReadThroughLemmas
 pub mod SmallLemmas
 pub mod IdleLemmas

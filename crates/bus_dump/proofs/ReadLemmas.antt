@@ -1,13 +1,13 @@
 -- What a reader makes of a dump.
-use Rattle.std.proofs.Common.{◌≡◌, ℕ, zero, suc, ◌+◌, ◌-◌, ◌*◌, ◌^◌, ◌<◌, ◌≤◌, Bool, true, false, not, ◌&&◌, ◌||◌, cond, eqb, leb, List, [], ◌∷◌, ◌++◌, map, codes, decimal, fold, min, Option, Some, None}
-use Rattle.std.proofs.Common.{inl, inr, arith, sym, refl, ap, subst, ◌∙◌, append_assoc, append-nil}
+use Rattle.std.proofs.Common.{◌≡◌, ℕ, zero, suc, ◌+◌, ◌*◌, ◌^◌, ◌<◌, ◌≤◌, Bool, true, false, ◌&&◌, ◌||◌, cond, eqb, leb, List, [], ◌∷◌, ◌++◌, map, codes, decimal, fold, Option, Some}
+use Rattle.std.proofs.Common.{inl, inr, arith, sym, refl, ap, subst, ◌∙◌, append_assoc}
 use Rattle.std.specs.Int.Digits.{AllBelowBase, number_from_digits}
-use Rattle.std.specs.List.{AllByRecursion, filter, flat_map, list_any, onto_first, range_with_len, slice_split}
+use Rattle.std.specs.List.{AllByRecursion, flat_map, list_any, onto_first, slice_split}
 use Rattle.std.specs.Str.{bytes_eq}
 use Rattle.std.specs.Str.Parse.{digits_value}
 use Rattle.std.specs.Char.{digit_value}
 use Rattle.std.specs.Int.Digits.{digits_of}
-use Rattle.std.proofs.lemmas.Bool.{cases_lt, cases_Bool, true≢false, le-leb, lt-leb, eqb-true, eq-eqb, ne_eqb}
+use Rattle.std.proofs.lemmas.Bool.{cases_lt, cases_Bool, true≢false, eqb-true, eq-eqb, ne_eqb}
 use Rattle.std.proofs.lemmas.Int.Digits.{all_below_base_digits_of, digits_value_is, number_digits_of}
 use Rattle.std.proofs.lemmas.List.Splits.{slice_split_at, slice_split_none}
 use Rattle.std.proofs.lemmas.List.Elements.{All-from_recursion}
@@ -16,9 +16,8 @@ use Rattle.bus_text.specs.Canonical.{IsFieldByte}
 use Rattle.bus_text.specs.Lines.{is_blank, is_feed, physical_lines}
 use Rattle.bus_text.specs.NumberLaws.{decimal_field, decimal_is}
 use Rattle.bus_strings.specs.Members.{In}
-use Rattle.bus_strings.specs.MemberLaws.{in_filter}
-use Rattle.bus_dump.specs.DumpTexts.{binary, changes, changes_at, changes_text, changes_to, declaration, first_values, head_text, behind_text, bits_text, id_text, last_stamp, name_text, width_text, some_changes, stamp, text_of, value_line, value_text}
-use Rattle.bus_dump.specs.Reading.{gives, other, Place, line_of, read, read_on, step, vector, vector_value}
+use Rattle.bus_dump.specs.DumpTexts.{binary, id_text, stamp, value_line, value_text}
+use Rattle.bus_dump.specs.Reading.{gives, other, Place, line_of, read_on, step, vector, vector_value}
 use Rattle.bus_dump.specs.Scenes.{Scene}
 use Rattle.bus_dump.specs.Signals.{Signal, Carrier, Overlap, Sync, Word, Pulse, Garbled, Label, Message, Interval, Synchronization, Gap, May, Value, Bit, Number, Floating, Unknown, value, is_same}
 
@@ -34,11 +33,11 @@ line_first : (line rest : List ℕ) → Feedless line → physical_lines (line +
 line_first [] rest h = refl
 line_first (b ∷ line) rest h = goes_on b (line ++ 10 ∷ rest) line (physical_lines rest) h.0 (line_first line rest h.1)
 
-feedless_join : (xs ys : List ℕ) → Feedless xs → Feedless ys → Feedless (xs ++ ys)
+pub feedless_join : (xs ys : List ℕ) → Feedless xs → Feedless ys → Feedless (xs ++ ys)
 feedless_join [] ys h k = k
 feedless_join (x ∷ xs) ys h k = (h.0, feedless_join xs ys h.1 k)
 
-feedless_test : (xs : List ℕ) → list_any is_feed xs ≡ false → Feedless xs
+pub feedless_test : (xs : List ℕ) → list_any is_feed xs ≡ false → Feedless xs
 feedless_test [] h = tt
 feedless_test (x ∷ xs) h = elim (cases_Bool (is_feed x)) [
   | inl yes' ↦ absurd (true≢false (sym (ap (λ b. b || list_any is_feed xs) yes') ∙ h))
@@ -55,7 +54,7 @@ pub line_skipped : (id : List ℕ) (at : ℕ) (p : Place) (line rest : List ℕ)
 line_skipped id at p line rest h e = line_read id at p line rest h ∙ ap (λ l. read_on id at (step id at p l) rest) e
 
 -- ---- values
-is_same_equal : (v w : Value) → is_same v w ≡ true → v ≡ w
+pub is_same_equal : (v w : Value) → is_same v w ≡ true → v ≡ w
 is_same_equal (Bit true) (Bit true) h = refl
 is_same_equal (Bit true) (Bit false) h = absurd cc
 is_same_equal (Bit false) (Bit true) h = absurd cc
@@ -87,7 +86,7 @@ digits_are [] h = refl
 digits_are (d ∷ ds) h = ap (λ x. x ∷ map digit_value (map (λ d. 48 + d) ds)) (digit_is d h.0) ∙ ap (λ l. d ∷ l) (digits_are ds h.1)
 
 -- no byte of a value's digits is a blank, nor a line feed
-abbrev NotOf : ℕ → List ℕ → Type 0
+abbrev pub NotOf : ℕ → List ℕ → Type 0
 NotOf b bs = AllByRecursion (λ x. eqb x b ≡ false) bs
 
 not_join : (b : ℕ) (xs ys : List ℕ) → NotOf b xs → NotOf b ys → NotOf b (xs ++ ys)
@@ -147,7 +146,7 @@ terminal_of (May n) = n
 abbrev pub IsSmall : Signal → Type 0
 IsSmall s = terminal_of s < 2 ^ 64
 
-field_feedless : (bs : List ℕ) → AllByRecursion IsFieldByte bs → Feedless bs
+pub field_feedless : (bs : List ℕ) → AllByRecursion IsFieldByte bs → Feedless bs
 field_feedless [] h = tt
 field_feedless (b ∷ bs) h = (h.0.no_feed, field_feedless bs h.1)
 
@@ -160,11 +159,11 @@ field_spaceless (b ∷ bs) h = (no_space b h.0.no_blank, field_spaceless bs h.1)
     | inr no' ↦ no'
   ]
 
-record GoodId (id : List ℕ) : Type 0 where
-  feedless : Feedless id
-  spaceless : NotOf 32 id
+pub record GoodId (id : List ℕ) : Type 0 where
+  pub feedless : Feedless id
+  pub spaceless : NotOf 32 id
 
-lane_feedless : (n : ℕ) (name : List ℕ) → n < 2 ^ 64 → Feedless name → Feedless (codes "t" ++ decimal n ++ name)
+pub lane_feedless : (n : ℕ) (name : List ℕ) → n < 2 ^ 64 → Feedless name → Feedless (codes "t" ++ decimal n ++ name)
 lane_feedless n name h f =
     feedless_join (codes "t" ++ decimal n) name (refl, field_feedless (decimal n) (decimal_field n h).bytes) f
 
@@ -173,7 +172,7 @@ lane_id letter n a b h =
     let f = decimal_field n h in
     record { feedless = (a, field_feedless (decimal n) f.bytes); spaceless = (b, field_spaceless (decimal n) f.bytes) }
 
-good_id : (s : Signal) → IsSmall s → GoodId (id_text s)
+pub good_id : (s : Signal) → IsSmall s → GoodId (id_text s)
 good_id Carrier h = record { feedless = (refl, tt); spaceless = (refl, tt) }
 good_id Overlap h = record { feedless = (refl, tt); spaceless = (refl, tt) }
 good_id Sync h = record { feedless = (refl, tt); spaceless = (refl, tt) }
@@ -261,18 +260,18 @@ same_signal : (a b : Signal) → IsSmall a → IsSmall b → bytes_eq (id_text a
 same_signal a b h k e = sym (signal_is a h) ∙ ap signal_of (same_bytes (id_text a) (id_text b) e) ∙ signal_is b k
 
 -- ---- texts that take a reader from a place to another
-abbrev Moves : List ℕ → ℕ → Place → List ℕ → Place → Type 0
+abbrev pub Moves : List ℕ → ℕ → Place → List ℕ → Place → Type 0
 Moves id at p text q = (rest : List ℕ) → read_on id at p (text ++ rest) ≡ read_on id at q rest
 
-then : (id : List ℕ) (at : ℕ) (p q r : Place) (a b : List ℕ) → Moves id at p a q → Moves id at q b r → Moves id at p (a ++ b) r
+pub then : (id : List ℕ) (at : ℕ) (p q r : Place) (a b : List ℕ) → Moves id at p a q → Moves id at q b r → Moves id at p (a ++ b) r
 then id at p q r a b m n rest = ap (read_on id at p) (append_assoc a b rest) ∙ m (b ++ rest) ∙ n rest
 
-stays_at : (id : List ℕ) (at : ℕ) (p : Place) → Moves id at p [] p
+pub stays_at : (id : List ℕ) (at : ℕ) (p : Place) → Moves id at p [] p
 stays_at id at p rest = refl
 
 -- ---- lines of values
 -- past the time that is asked for, nothing is taken
-late : (s : Signal) (at : ℕ) (p : Place) (scene : Scene) (ss : List Signal) → AllByRecursion IsSmall ss → leb p.now at ≡ false
+pub late : (s : Signal) (at : ℕ) (p : Place) (scene : Scene) (ss : List Signal) → AllByRecursion IsSmall ss → leb p.now at ≡ false
     → Moves (id_text s) at p (flat_map (value_line scene) ss) p
 late s at p scene [] small h rest = refl
 late s at p scene (x ∷ ss) small h rest =
@@ -285,11 +284,11 @@ late s at p scene (x ∷ ss) small h rest =
     not_taken true = ap (λ t. cond t (record { now = p.now; value = Some (value x scene) }) p) h
     not_taken false = refl
 
-abbrev with_value : Place → Option Value → Place
+abbrev pub with_value : Place → Option Value → Place
 with_value p v = record { now = p.now; value = v }
 
 -- what is taken is the value that is there already
-kept : (s : Signal) (at : ℕ) (p : Place) (scene : Scene) (ss : List Signal) → AllByRecursion IsSmall ss → IsSmall s → leb p.now at ≡ true
+pub kept : (s : Signal) (at : ℕ) (p : Place) (scene : Scene) (ss : List Signal) → AllByRecursion IsSmall ss → IsSmall s → leb p.now at ≡ true
     → p.value ≡ Some (value s scene) → Moves (id_text s) at p (flat_map (value_line scene) ss) p
 kept s at p scene [] small own h v rest = refl
 kept s at p scene (x ∷ ss) small own h v rest =
@@ -305,7 +304,7 @@ kept s at p scene (x ∷ ss) small own h v rest =
     by_id false e = refl
 
 -- the signal is among them
-taken : (s : Signal) (at : ℕ) (p : Place) (scene : Scene) (ss : List Signal) → AllByRecursion IsSmall ss → IsSmall s → leb p.now at ≡ true
+pub taken : (s : Signal) (at : ℕ) (p : Place) (scene : Scene) (ss : List Signal) → AllByRecursion IsSmall ss → IsSmall s → leb p.now at ≡ true
     → In s ss → Moves (id_text s) at p (flat_map (value_line scene) ss) (with_value p (Some (value s scene)))
 taken s at p scene [] small own h i rest = absurd i
 taken s at p scene (x ∷ ss) small own h i rest =
@@ -327,258 +326,9 @@ taken s at p scene (x ∷ ss) small own h i rest =
     ]
 
 -- ---- stamps
-stamp_moves : (id : List ℕ) (at : ℕ) (p : Place) (t : ℕ) → 5 * t < 2 ^ 64 → Moves id at p (stamp t) (record { now = 5 * t; value = p.value })
+pub stamp_moves : (id : List ℕ) (at : ℕ) (p : Place) (t : ℕ) → 5 * t < 2 ^ 64 → Moves id at p (stamp t) (record { now = 5 * t; value = p.value })
 stamp_moves id at p t h rest =
     let d = decimal_field (5 * t) h in
     ap (read_on id at p) (append_assoc (codes "#" ++ decimal (5 * t)) (10 ∷ []) rest)
     ∙ line_read id at p (35 ∷ decimal (5 * t)) rest (refl, field_feedless (decimal (5 * t)) d.bytes)
     ∙ ap (λ n. read_on id at (record { now = n; value = p.value }) rest) (decimal_is (5 * t) h).value
-
--- ---- changes
--- all up to bit time u is read, where the value at bit time t is asked for
-record Reached (s : Signal) (scene : ℕ → Scene) (t u : ℕ) (p : Place) : Type 0 where
-  now : p.now ≤ 5 * u
-  value : p.value ≡ Some (value s (scene (min u t)))
-
-record Goes (s : Signal) (ss : List Signal) (scene : ℕ → Scene) (t u : ℕ) (p : Place) (text : List ℕ) : Type 0 where
-  place : Place
-  moves : Moves (id_text s) (5 * t) p text place
-  reached : Reached s scene t u place
-
-not_any : (before now : Scene) (ss : List Signal) (s : Signal) → In s ss → list_any (changes before now) ss ≡ false → changes before now s ≡ false
-not_any before now [] s i h = absurd i
-not_any before now (x ∷ ss) s i h =
-    elim (cases_Bool (changes before now x)) [
-      | inl yes' ↦ absurd (true≢false (sym (ap (λ b. b || list_any (changes before now) ss) yes') ∙ h))
-      | inr no' ↦ elim i [
-        | inl same ↦ ap (changes before now) same ∙ no'
-        | inr more ↦ not_any before now ss s more (sym (ap (λ b. b || list_any (changes before now) ss) no') ∙ h)
-      ]
-    ]
-
-unchanged : (before now : Scene) (s : Signal) → changes before now s ≡ false → value s before ≡ value s now
-unchanged before now s h = is_same_equal (value s before) (value s now) (negated (is_same (value s before) (value s now)) h) where
-  negated : (b : Bool) → not b ≡ false → b ≡ true
-  negated true e = refl
-  negated false e = absurd (true≢false e)
-
-pub small_filter : (p : Signal → Bool) (ss : List Signal) → AllByRecursion IsSmall ss → AllByRecursion IsSmall (filter p ss)
-small_filter p [] h = tt
-small_filter p (s ∷ ss) h = elim (p s) as (λ b. AllByRecursion IsSmall (cond b (s ∷ filter p ss) (filter p ss))) [
-  | true ↦ (h.0, small_filter p ss h.1)
-  | false ↦ small_filter p ss h.1
-]
-
-some_moves : (s : Signal) (ss : List Signal) (scene : ℕ → Scene) (t u : ℕ) (p : Place) → AllByRecursion IsSmall ss → In s ss → IsSmall s → 5 * suc u < 2 ^ 64
-    → Reached s scene t u p → Goes s ss scene t (suc u) p (some_changes ss (scene u) (scene (suc u)) (suc u))
-unfolding some_changes
-some_moves s ss scene t u p small i own low r =
-    let q : Place = record { now = 5 * suc u; value = p.value } in
-    let id : List ℕ = id_text s in
-    let changed : List Signal = filter (changes (scene u) (scene (suc u))) ss in
-    let lines : List ℕ = flat_map (value_line (scene (suc u))) changed in
-    let few = small_filter (changes (scene u) (scene (suc u))) ss small in
-    elim (cases_lt t (suc u)) [
-      | inl past ↦ record {
-        place = q;
-        moves = then id (5 * t) p q q (stamp (suc u)) lines (stamp_moves id (5 * t) p (suc u) low)
-            (late s (5 * t) q (scene (suc u)) changed few (lt-leb (5 * suc u) (5 * t) (omega arith)));
-        reached = record {
-          now = omega arith;
-          value = r.value ∙ ap (λ k. Some (value s (scene k))) (let e : min u t ≡ min (suc u) t = omega arith in e);
-        };
-      }
-      | inr ahead ↦
-          let in_time : leb (5 * suc u) (5 * t) ≡ true = le-leb (5 * suc u) (5 * t) (omega arith) in
-          let was : p.value ≡ Some (value s (scene u)) = r.value ∙ ap (λ k. Some (value s (scene k))) (let e : min u t ≡ u = omega arith in e) in
-          let at : min (suc u) t ≡ suc u = omega arith in
-          elim (cases_Bool (changes (scene u) (scene (suc u)) s)) [
-            | inl yes' ↦ record {
-              place = with_value q (Some (value s (scene (suc u))));
-              moves = then id (5 * t) p q (with_value q (Some (value s (scene (suc u))))) (stamp (suc u)) lines (stamp_moves id (5 * t) p (suc u) low)
-                  (taken s (5 * t) q (scene (suc u)) changed few own in_time (in_filter (changes (scene u) (scene (suc u))) ss s i yes'));
-              reached = record { now = omega arith; value = ap (λ k. Some (value s (scene k))) (sym at) };
-            }
-            | inr no' ↦
-                let same : q.value ≡ Some (value s (scene (suc u))) = was ∙ ap Some (unchanged (scene u) (scene (suc u)) s no') in
-                record {
-                  place = q;
-                  moves = then id (5 * t) p q q (stamp (suc u)) lines (stamp_moves id (5 * t) p (suc u) low)
-                      (kept s (5 * t) q (scene (suc u)) changed few own in_time same);
-                  reached = record { now = omega arith; value = same ∙ ap (λ k. Some (value s (scene k))) (sym at) };
-                }
-          ]
-    ]
-
-next_moves : (s : Signal) (ss : List Signal) (scene : ℕ → Scene) (t u : ℕ) (p : Place) → AllByRecursion IsSmall ss → In s ss → IsSmall s → 5 * suc u < 2 ^ 64
-    → Reached s scene t u p → Goes s ss scene t (suc u) p (changes_text ss (scene u) (scene (suc u)) (suc u))
-next_moves s ss scene t u p small i own low r =
-    elim (list_any (changes (scene u) (scene (suc u))) ss)
-    as (λ b. list_any (changes (scene u) (scene (suc u))) ss ≡ b → Goes s ss scene t (suc u) p (cond b (some_changes ss (scene u) (scene (suc u)) (suc u)) [])) [
-      | true ↦ λ e. some_moves s ss scene t u p small i own low r
-      | false ↦ λ e.
-          let same : value s (scene u) ≡ value s (scene (suc u)) = unchanged (scene u) (scene (suc u)) s (not_any (scene u) (scene (suc u)) ss s i e) in
-          let now : p.now ≤ 5 * u = r.now in
-          record {
-            place = p;
-            moves = stays_at (id_text s) (5 * t) p;
-            reached = record {
-              now = omega arith;
-              value = r.value ∙ ap Some (elim (cases_lt u t) [
-                | inl ahead ↦ ap (λ k. value s (scene k)) (let e : min u t ≡ u = omega arith in e) ∙ same
-                    ∙ ap (λ k. value s (scene k)) (let e : suc u ≡ min (suc u) t = omega arith in e)
-                | inr past ↦ ap (λ k. value s (scene k)) (let e : min u t ≡ min (suc u) t = omega arith in e)
-              ]);
-            };
-          }
-    ] refl
-
-all_moves : (s : Signal) (ss : List Signal) (scene : ℕ → Scene) (t u n : ℕ) (p : Place) → AllByRecursion IsSmall ss → In s ss → IsSmall s → 5 * (u + n) < 2 ^ 64
-    → Reached s scene t u p → Goes s ss scene t (u + n) p (flat_map (changes_at ss scene) (range_with_len (suc u) n))
-all_moves s ss scene t u zero p small i own low r = record {
-  place = p;
-  moves = stays_at (id_text s) (5 * t) p;
-  reached = subst (λ k. Reached s scene t k p) (let e : u ≡ u + 0 = omega arith in e) r;
-}
-all_moves s ss scene t u (suc n) p small i own low r =
-    let first = next_moves s ss scene t u p small i own (omega arith) r in
-    let rest = all_moves s ss scene t (suc u) n first.place small i own (omega arith) first.reached in
-    let one : suc u + 1 ≡ suc (suc u) = omega arith in
-    let text : List ℕ = flat_map (changes_at ss scene) (range_with_len (suc (suc u)) n) in
-    record {
-      place = rest.place;
-      moves = subst (λ x. Moves (id_text s) (5 * t) p x rest.place)
-          (ap (λ v. changes_text ss (scene v) (scene (suc u)) (suc u) ++ text) (let e : u ≡ suc u - 1 = omega arith in e)
-          ∙ ap (λ v. changes_at ss scene (suc u) ++ flat_map (changes_at ss scene) (range_with_len v n)) (sym one))
-          (then (id_text s) (5 * t) p first.place rest.place (changes_text ss (scene u) (scene (suc u)) (suc u)) text first.moves rest.moves);
-      reached = subst (λ k. Reached s scene t k rest.place) (let e : suc u + n ≡ u + suc n = omega arith in e) rest.reached;
-    }
-
--- ---- the head
-skips : (id : List ℕ) (at : ℕ) (p : Place) (line : List ℕ) → Feedless line → line_of line ≡ other → Moves id at p (line ++ 10 ∷ []) p
-skips id at p line h e rest = ap (read_on id at p) (append_assoc line (10 ∷ []) rest) ∙ line_skipped id at p line rest h e
-
-name_feedless : (s : Signal) → IsSmall s → Feedless (name_text s)
-name_feedless Carrier h = feedless_test (codes "carrier") refl
-name_feedless Overlap h = feedless_test (codes "overlap") refl
-name_feedless Sync h = feedless_test (codes "sync") refl
-name_feedless Word h = feedless_test (codes "word") refl
-name_feedless (Pulse n) h = lane_feedless n (codes "_pulse") h (feedless_test (codes "_pulse") refl)
-name_feedless (Garbled n) h = lane_feedless n (codes "_garbled") h (feedless_test (codes "_garbled") refl)
-name_feedless (Label n) h = lane_feedless n (codes "_label") h (feedless_test (codes "_label") refl)
-name_feedless (Message n) h = lane_feedless n (codes "_message") h (feedless_test (codes "_message") refl)
-name_feedless (Interval n) h = lane_feedless n (codes "_ti") h (feedless_test (codes "_ti") refl)
-name_feedless (Synchronization n) h = lane_feedless n (codes "_sg") h (feedless_test (codes "_sg") refl)
-name_feedless (Gap n) h = lane_feedless n (codes "_tg") h (feedless_test (codes "_tg") refl)
-name_feedless (May n) h = lane_feedless n (codes "_may") h (feedless_test (codes "_may") refl)
-
-width_feedless : (s : Signal) → list_any is_feed (width_text s) ≡ false
-width_feedless Carrier = refl
-width_feedless Overlap = refl
-width_feedless Sync = refl
-width_feedless Word = refl
-width_feedless (Pulse n) = refl
-width_feedless (Garbled n) = refl
-width_feedless (Label n) = refl
-width_feedless (Message n) = refl
-width_feedless (Interval n) = refl
-width_feedless (Synchronization n) = refl
-width_feedless (Gap n) = refl
-width_feedless (May n) = refl
-
-bits_feedless : (s : Signal) → list_any is_feed (bits_text s) ≡ false
-bits_feedless Carrier = refl
-bits_feedless Overlap = refl
-bits_feedless Sync = refl
-bits_feedless Word = refl
-bits_feedless (Pulse n) = refl
-bits_feedless (Garbled n) = refl
-bits_feedless (Label n) = refl
-bits_feedless (Message n) = refl
-bits_feedless (Interval n) = refl
-bits_feedless (Synchronization n) = refl
-bits_feedless (Gap n) = refl
-bits_feedless (May n) = refl
-
-declaration_skipped : (id : List ℕ) (at : ℕ) (p : Place) (s : Signal) → IsSmall s → Moves id at p (declaration s) p
-declaration_skipped id at p s h =
-    let a : List ℕ = codes "$var wire " ++ width_text s in
-    let b : List ℕ = a ++ id_text s in
-    let c : List ℕ = b ++ codes " " ++ name_text s in
-    let d : List ℕ = c ++ bits_text s in
-    let line : List ℕ = d ++ codes " $end" in
-    let fa : Feedless a = feedless_join (codes "$var wire ") (width_text s) (feedless_test (codes "$var wire ") refl) (feedless_test (width_text s) (width_feedless s)) in
-    let fb : Feedless b = feedless_join a (id_text s) fa (good_id s h).feedless in
-    let fc : Feedless c = feedless_join (b ++ codes " ") (name_text s) (feedless_join b (codes " ") fb (refl, tt)) (name_feedless s h) in
-    let fd : Feedless d = feedless_join c (bits_text s) fc (feedless_test (bits_text s) (bits_feedless s)) in
-    subst (λ x. Moves id at p x p) (append_assoc d (codes " $end") (10 ∷ []))
-    (skips id at p line (feedless_join d (codes " $end") fd (feedless_test (codes " $end") refl)) refl)
-
-declarations_skipped : (id : List ℕ) (at : ℕ) (p : Place) (ss : List Signal) → AllByRecursion IsSmall ss → Moves id at p (flat_map declaration ss) p
-declarations_skipped id at p [] small = stays_at id at p
-declarations_skipped id at p (s ∷ ss) small =
-    then id at p p p (declaration s) (flat_map declaration ss) (declaration_skipped id at p s small.0) (declarations_skipped id at p ss small.1)
-
-head_skipped : (id : List ℕ) (at : ℕ) (p : Place) (comment : List ℕ) → Feedless comment → Moves id at p (head_text comment) p
-head_skipped id at p comment h rest =
-    let a : List ℕ = codes "$version bus629-view 1 $end" in
-    let c : List ℕ = codes "$comment " ++ comment ++ codes " $end" in
-    let e : List ℕ = codes "$timescale 100 ns $end" in
-    let f : List ℕ = codes "$scope module bus $end" in
-    let tail : List ℕ = e ++ 10 ∷ (f ++ 10 ∷ rest) in
-    ap (read_on id at p) (append_assoc (codes "$version bus629-view 1 $end\n$comment " ++ comment) (codes " $end\n$timescale 100 ns $end\n$scope module bus $end\n") rest
-    ∙ append_assoc (codes "$version bus629-view 1 $end\n$comment ") comment (codes " $end\n$timescale 100 ns $end\n$scope module bus $end\n" ++ rest))
-    ∙ line_skipped id at p a (codes "$comment " ++ (comment ++ (codes " $end" ++ 10 ∷ tail))) (feedless_test a refl) refl
-    ∙ ap (read_on id at p) (sym (append_assoc (codes "$comment " ++ comment) (codes " $end") (10 ∷ tail) ∙ append_assoc (codes "$comment ") comment (codes " $end" ++ 10 ∷ tail)))
-    ∙ line_skipped id at p c tail (feedless_join (codes "$comment " ++ comment) (codes " $end")
-    (feedless_join (codes "$comment ") comment (feedless_test (codes "$comment ") refl) h) (feedless_test (codes " $end") refl)) refl
-    ∙ line_skipped id at p e (f ++ 10 ∷ rest) (feedless_test e refl) refl
-    ∙ line_skipped id at p f rest (feedless_test f refl) refl
-
-behind_skipped : (id : List ℕ) (at : ℕ) (p : Place) → Moves id at p behind_text p
-behind_skipped id at p rest =
-    line_skipped id at p (codes "$upscope $end") (codes "$enddefinitions $end" ++ 10 ∷ rest) (feedless_test (codes "$upscope $end") refl) refl
-    ∙ line_skipped id at p (codes "$enddefinitions $end") rest (feedless_test (codes "$enddefinitions $end") refl) refl
-
--- ---- the values at bit time 0
-first_moves : (s : Signal) (ss : List Signal) (at : ℕ) (scene : Scene) → AllByRecursion IsSmall ss → In s ss → IsSmall s
-    → Moves (id_text s) at (record { now = 0; value = None }) (first_values ss scene) (record { now = 0; value = Some (value s scene) })
-first_moves s ss at scene small i own =
-    let id : List ℕ = id_text s in
-    let p : Place = record { now = 0; value = None } in
-    let q : Place = record { now = 0; value = Some (value s scene) } in
-    let lines : List ℕ = flat_map (value_line scene) ss in
-    then id at p q q (codes "#0\n$dumpvars\n" ++ lines) (codes "$end\n")
-    (then id at p p q (codes "#0\n$dumpvars\n") lines
-    (λ rest. line_read id at p (codes "#0") (codes "$dumpvars" ++ 10 ∷ rest) (feedless_test (codes "#0") refl)
-    ∙ line_skipped id at p (codes "$dumpvars") rest (feedless_test (codes "$dumpvars") refl) refl)
-    (taken s at p scene ss small own (le-leb 0 at (omega arith)) i))
-    (skips id at q (codes "$end") (feedless_test (codes "$end") refl) refl)
-
-last_moves : (id : List ℕ) (at : ℕ) (p : Place) (horizon : ℕ) → 5 * horizon < 2 ^ 64 → (q : Place) × (q.value ≡ p.value) × Moves id at p (last_stamp horizon) q
-last_moves id at p horizon low =
-    elim (eqb horizon 0) as (λ b. (q : Place) × (q.value ≡ p.value) × Moves id at p (cond b [] (stamp horizon)) q) [
-      | true ↦ (p, refl, stays_at id at p)
-      | false ↦ (record { now = 5 * horizon; value = p.value }, refl, stamp_moves id at p horizon low)
-    ]
-
--- ---- the whole
-pub text_read : (comment : List ℕ) (ss : List Signal) (scene : ℕ → Scene) (horizon t : ℕ) (s : Signal) → Feedless comment → AllByRecursion IsSmall ss → In s ss
-    → IsSmall s → t < horizon → 5 * horizon < 2 ^ 64 → read (id_text s) (5 * t) (text_of comment ss scene horizon) ≡ Some (value s (scene t))
-text_read comment ss scene horizon t s plain small i own below low =
-    let id : List ℕ = id_text s in
-    let at : ℕ = 5 * t in
-    let p : Place = record { now = 0; value = None } in
-    let q : Place = record { now = 0; value = Some (value s (scene 0)) } in
-    let n : ℕ = horizon - 1 in
-    let begun : Reached s scene t 0 q = record { now = omega arith; value = ap (λ k. Some (value s (scene k))) (let e : 0 ≡ min 0 t = omega arith in e) } in
-    let all = all_moves s ss scene t 0 n q small i own (omega arith) begun in
-    let last = last_moves id at all.place horizon low in
-    let head : List ℕ = head_text comment in
-    let a = then id at p p p head (flat_map declaration ss) (head_skipped id at p comment plain) (declarations_skipped id at p ss small) in
-    let b = then id at p p p (head ++ flat_map declaration ss) behind_text a (behind_skipped id at p) in
-    let c = then id at p p q (head ++ flat_map declaration ss ++ behind_text) (first_values ss (scene 0)) b (first_moves s ss at (scene 0) small i own) in
-    let d = then id at p q all.place (head ++ flat_map declaration ss ++ behind_text ++ first_values ss (scene 0)) (changes_to ss scene horizon) c all.moves in
-    let e = then id at p all.place last.0 (head ++ flat_map declaration ss ++ behind_text ++ first_values ss (scene 0) ++ changes_to ss scene horizon) (last_stamp horizon) d last.2 in
-    ap (λ (r : Place). r.value) (ap (read_on id at p) (sym (append-nil (text_of comment ss scene horizon))) ∙ e [])
-    ∙ last.1 ∙ all.reached.value ∙ ap (λ k. Some (value s (scene k))) (let w : min (0 + n) t ≡ t = omega arith in w)

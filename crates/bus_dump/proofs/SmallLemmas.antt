@@ -17,7 +17,8 @@ use Rattle.bus_dump.specs.Lanes.{Lane, is_stranger, lanes, sender_lane, stranger
 use Rattle.bus_dump.specs.Reading.{read}
 use Rattle.bus_dump.specs.Scenes.{scene_at}
 use Rattle.bus_dump.specs.Signals.{Signal, Carrier, Overlap, Sync, Word, value, bus_signals, has, lane_signals, signals, signals_of}
-use Rattle.bus_dump.proofs.ReadLemmas.{Feedless, IsSmall, small_filter, text_read}
+use Rattle.bus_dump.proofs.ReadLemmas.{Feedless, IsSmall}
+use Rattle.bus_dump.proofs.ReadThroughLemmas.{small_filter, text_read}
 
 all_join : {X : Type 0} (P : X → Type 0) (xs ys : List X) → AllByRecursion P xs → AllByRecursion P ys → AllByRecursion P (xs ++ ys)
 all_join P [] ys h k = k

@@ -76,7 +76,8 @@ bits_text (May terminal) = []
 
 -- The declaration of a signal.
 abbrev pub declaration : Signal → List ℕ
-declaration signal = codes "$var wire " ++ width_text signal ++ id_text signal ++ codes " " ++ name_text signal ++ bits_text signal ++ codes " $end\n"
+declaration signal =
+    codes "$var wire " ++ width_text signal ++ id_text signal ++ codes " " ++ name_text signal ++ bits_text signal ++ codes " $end\n"
 
 -- ---- values
 -- A number in binary digits, from the highest one.

@@ -33,7 +33,8 @@ DumpsAreRead =
 
 -- The carrier is that of the list.
 abbrev pub CarrierIsTold : Type 0
-CarrierIsTold = (dump : Dump) (table : Table) (list : List Entry) (t : ℕ) → value Carrier (scene_at dump table list t) ≡ Bit (carrier list t)
+CarrierIsTold =
+    (dump : Dump) (table : Table) (list : List Entry) (t : ℕ) → value Carrier (scene_at dump table list t) ≡ Bit (carrier list t)
 
 -- A terminal has a pulse where one of its transmissions has.
 abbrev pub PulsesAreTold : Type 0

@@ -76,12 +76,14 @@ IsLive list t live = live_entry list t live.at ≡ Some live
 
 -- What is seen at bit time t of a live transmission, given the entry.
 abbrev pub sight_of : ℕ → Entry → Live → Seen
-sight_of t x live = record { terminal = x.terminal; number = live.number; garbled = live.garbled; shown = shown_at x.message (t - x.moment) }
+sight_of t x live =
+    record { terminal = x.terminal; number = live.number; garbled = live.garbled; shown = shown_at x.message (t - x.moment) }
 
 -- From bit time t to below `until` a transmission shows the same, and has not ended.
 abbrev pub StaysTo : Entry → ℕ → ℕ → Type 0
 StaysTo x t until =
-    (later : ℕ) → t ≤ later → later < until → (later < end_of x) × (shown_at x.message (later - x.moment) ≡ shown_at x.message (t - x.moment))
+    (later : ℕ) → t ≤ later → later < until
+    → (later < end_of x) × (shown_at x.message (later - x.moment) ≡ shown_at x.message (t - x.moment))
 
 -- What is seen at bit time t of a live transmission.
 abbrev pub see : List Entry → ℕ → Live → Option Seen

@@ -92,7 +92,8 @@ pub(crate) fn put_changed<K: Sink>(
     before: &Scene,
     now: &Scene,
 )
-    ensures { Adds K.held K.faults sink.old sink.new text.old text.new (flat_map (change_put (scene_of before.now) (scene_of now.now)) signals.now) }
+    ensures { Adds K.held K.faults sink.old sink.new text.old text.new
+        (flat_map (change_put (scene_of before.now) (scene_of now.now)) signals.now) }
 {
     for signal in signals {
         put_change(text, sink, before, now, *signal);

@@ -97,7 +97,8 @@ fn add_stranger(
 fn add_strangers(lanes: &mut ArrayVec<Lane, MOST_LANES>, table: &Table, list: &[Transmission])
     requires { array_vec_len lanes.old ≤ 128 }
     ensures { lanes.new.items
-        ≡ lanes.old.items ++ map definition.stranger_lane (filter (definition.is_stranger table.now list.now) (range_with_len 1 most_terminal)) }
+        ≡ lanes.old.items
+        ++ map definition.stranger_lane (filter (definition.is_stranger table.now list.now) (range_with_len 1 most_terminal)) }
 {
     for before in 0..MOST_TERMINAL {
         add_stranger(lanes, table, list, before + 1);

@@ -80,7 +80,8 @@ fn put_lane<K: Sink>(
 
 // Whether a signal of any of these lanes changes.
 fn any_lane_changes(dump: Dump, lanes: &[Lane], before: &Scene, now: &Scene) -> bool
-    ensures { result ≡ list_any (λ lane. list_any (texts.changes (scene_of before.now) (scene_of now.now)) (signals.lane_signals dump lane)) lanes.now }
+    ensures { result
+        ≡ list_any (λ lane. list_any (texts.changes (scene_of before.now) (scene_of now.now)) (signals.lane_signals dump lane)) lanes.now }
 {
     lanes
         .iter()
