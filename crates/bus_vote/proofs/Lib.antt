@@ -9,3 +9,5 @@ pub mod WrittenLemmas
 pub mod HandLemmas
 pub mod TurnLemmas
 pub mod RunLemmas
+pub mod FindLemmas
+pub mod HearingLemmas

@@ -150,15 +150,15 @@ gone (x ∷ xs) zero r h e = absurd (let w : x ∷ xs ≡ [] = e in cc)
 gone (x ∷ xs) (suc k) zero h e = absurd (omega arith)
 gone (x ∷ xs) (suc k) (suc r) h e = gone xs k r (omega arith) e
 
-none_first : (round : ℕ) (c : Option (List ℕ)) → words_put round None None c ≡ []
+pub none_first : (round : ℕ) (c : Option (List ℕ)) → words_put round None None c ≡ []
 none_first round None = refl
 none_first round (Some x) = refl
 
-none_second : (round : ℕ) (b : Option (List ℕ)) → words_put round None b None ≡ []
+pub none_second : (round : ℕ) (b : Option (List ℕ)) → words_put round None b None ≡ []
 none_second round None = refl
 none_second round (Some x) = refl
 
-none_third : (round : ℕ) (a : Option (List ℕ)) → words_put round a None None ≡ []
+pub none_third : (round : ℕ) (a : Option (List ℕ)) → words_put round a None None ≡ []
 none_third round None = refl
 none_third round (Some x) = refl
 
@@ -182,7 +182,7 @@ round_over list label k r h over =
           ∙ ap (λ o. words_put r (first_words list label r) None o) (third bc.1) ∙ none_third r (first_words list label r)
     ]
 
-range_over : {A : Type 0} (f : ℕ → List A) (k m : ℕ) → ((r : ℕ) → k ≤ r → f r ≡ []) → flat_map f (range_with_len 0 (k + m)) ≡ flat_map f (range_with_len 0 k)
+pub range_over : {A : Type 0} (f : ℕ → List A) (k m : ℕ) → ((r : ℕ) → k ≤ r → f r ≡ []) → flat_map f (range_with_len 0 (k + m)) ≡ flat_map f (range_with_len 0 k)
 range_over f k zero h = let e : k + 0 ≡ k = omega arith in ap (λ n. flat_map f (range_with_len 0 n)) e
 range_over f k (suc m) h =
     let e : k + suc m ≡ (k + m) + 1 = omega arith in

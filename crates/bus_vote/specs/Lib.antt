@@ -6,3 +6,4 @@ pub mod VoteTexts
 pub mod VoteLaws
 pub mod Scans
 pub mod Putting
+pub mod Finds

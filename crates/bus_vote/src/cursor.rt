@@ -20,7 +20,7 @@ fn is_named(string: &Wordstring, label: Label, ext: Ext) -> bool
 }
 
 /// The data words of the first wordstring of a message with a label and an extension.
-fn words_in(message: &Message, label: Label, ext: Ext) -> Option<&[u16]>
+pub(crate) fn words_in(message: &Message, label: Label, ext: Ext) -> Option<&[u16]>
     ensures { option_copied result ≡ rounds.words_in label ext message.now }
 {
     let strings = message.strings();

@@ -14,6 +14,9 @@
 #![tactic(auto)]
 
 mod cursor;
+mod finds;
+mod hearing;
+mod index;
 mod label;
 pub mod laws;
 mod mark;

@@ -1,10 +1,11 @@
 // The text of the votes.
-ghost use Rattle.std.specs.Prelude.{◌≡◌, ◌<◌, ◌≤◌, ◌++◌, ℕ, IsTrue, Some, length, map, slice_get};
+ghost use Rattle.std.specs.Prelude.{◌≡◌, ◌<◌, ◌≤◌, ◌++◌, ℕ, IfSome, IsTrue, Some, length, map, slice_get};
 ghost use Rattle.std.specs.List.{flat_map, range_with_len};
 ghost use Rattle.std.specs.Option.{option_copied};
 ghost use Rattle.bus_outer.specs.Sinks.{WritesText};
 ghost use Rattle.bus_outer.specs.Texts.{Adds};
 ghost use Rattle.bus_table.specs.Valid.{is_valid};
+ghost use Rattle.bus_vote.specs.Finds.{AreFinds};
 ghost use Rattle.bus_vote.specs.Labels.{labels};
 ghost use Rattle.bus_vote.specs.Putting.{words_put, round_put, label_put};
 ghost use Rattle.bus_vote.specs.Rounds.{sent_by};
@@ -14,6 +15,9 @@ ghost use Rattle.bus_vote.specs.Votes.{two_are_present, votes};
 ghost use Rattle.bus_vote.specs.Walks.{IsSent, IsSpaced, ArePaces};
 
 use crate::cursor::{Cursor, are_over};
+use crate::finds::Find;
+use crate::hearing::{Reader, are_silent};
+use crate::index::{Index, LABEL_COUNT};
 use crate::label::VotedLabel;
 use crate::laws::runs_are_voted;
 use crate::pace::{gap_of, gaps, is_clear};
@@ -26,9 +30,6 @@ use bus_table::table::Table;
 use bus_text::digits::{four_digits, three_digits};
 use bus_trace::Trace;
 use bus_words::label::Label;
-
-// How many labels there are.
-const LABEL_COUNT: u16 = 4096;
 
 // A place of a vote.
 fn put_place<K: Sink>(text: &mut TextBuffer, sink: &mut K, word: Option<u16>)
@@ -132,6 +133,32 @@ fn put_rounds<K: Sink>(
     }
 }
 
+// The same from the finds of the label.
+fn put_found<K: Sink>(
+    text: &mut TextBuffer,
+    sink: &mut K,
+    voted: &VotedLabel,
+    list: &[Transmission],
+    finds: &[Find],
+)
+    requires { AreFinds list.now finds.now voted.now.label }
+    ensures { Adds K.held K.faults sink.old sink.new text.old text.new
+        (flat_map (round_put list.now voted.now) (range_with_len 0 (length list.now))) }
+{
+    let mut first = Reader::new(list, finds, voted.label, voted.first);
+    let mut second = Reader::new(list, finds, voted.label, voted.second);
+    let mut third = Reader::new(list, finds, voted.label, voted.third);
+    for round in 0..list.len() {
+        if are_silent(&first, &second, &third) {
+            return;
+        }
+        let a = first.words();
+        let b = second.words();
+        let c = third.words();
+        put_round(text, sink, round, a, b, c);
+    }
+}
+
 // The line of a voted label.
 fn put_label_line<K: Sink>(text: &mut TextBuffer, sink: &mut K, voted: &VotedLabel)
     ensures { Adds K.held K.faults sink.old sink.new text.old text.new (label_line voted.now) }
@@ -147,6 +174,27 @@ fn put_label_line<K: Sink>(text: &mut TextBuffer, sink: &mut K, voted: &VotedLab
     text.put_byte(sink, b'\n');
 }
 
+// The rounds of a voted label, from finds where there are some, and else by walks.
+fn put_all_rounds<K: Sink>(
+    text: &mut TextBuffer,
+    sink: &mut K,
+    voted: &VotedLabel,
+    list: &[Transmission],
+    gaps: Option<&[usize]>,
+    finds: Option<&[Find]>,
+)
+    requires sent { IsSent list.now }
+    requires paces { ArePaces list.now (option_copied gaps) }
+    requires finds { IfSome finds (λ finds. AreFinds list.now finds.now voted.now.label) }
+    ensures { Adds K.held K.faults sink.old sink.new text.old text.new
+        (flat_map (round_put list.now voted.now) (range_with_len 0 (length list.now))) }
+{
+    match finds {
+        None => put_rounds(text, sink, voted, list, gaps),
+        Some(finds) => put_found(text, sink, voted, list, finds),
+    }
+}
+
 // A voted label.
 fn put_voted<K: Sink>(
     text: &mut TextBuffer,
@@ -154,13 +202,15 @@ fn put_voted<K: Sink>(
     voted: &VotedLabel,
     list: &[Transmission],
     gaps: Option<&[usize]>,
+    index: &Index,
 )
     requires sent { IsSent list.now }
     requires paces { ArePaces list.now (option_copied gaps) }
+    requires same { index.now ≡ list.now }
     ensures { Adds K.held K.faults sink.old sink.new text.old text.new (label_text list.now voted.now) }
 {
     put_label_line(text, sink, voted);
-    put_rounds(text, sink, voted, list, gaps);
+    put_all_rounds(text, sink, voted, list, gaps, index.finds(voted.label));
 }
 
 // A label, where it is voted on.
@@ -170,14 +220,18 @@ fn put_label<K: Sink>(
     table: &Table,
     list: &[Transmission],
     gaps: Option<&[usize]>,
+    index: &mut Index,
     label: Label,
 )
     requires sent { IsSent list.now }
     requires paces { ArePaces list.now (option_copied gaps) }
-    ensures { Adds K.held K.faults sink.old sink.new text.old text.new (label_put table.now list.now label) }
+    requires same { index.old ≡ list.now }
+    ensures text { Adds K.held K.faults sink.old sink.new text.old text.new (label_put table.now list.now label) }
+    ensures same { index.new ≡ list.now }
 {
     if let Some(voted) = voted_label(table, label) {
-        put_voted(text, sink, &voted, list, gaps);
+        index.look_for(table, gaps, label);
+        put_voted(text, sink, &voted, list, gaps, index);
     }
 }
 
@@ -193,8 +247,10 @@ fn put_labels<K: Sink>(
     requires paces { ArePaces list.now (option_copied gaps) }
     ensures { Adds K.held K.faults sink.old sink.new text.old text.new (flat_map (label_put table.now list.now) labels) }
 {
+    let mut index = Index::new(list, table);
     for number in 0..LABEL_COUNT {
-        put_label(text, sink, table, list, gaps, Label::new(number).unwrap());
+        let label = Label::new(number).unwrap();
+        put_label(text, sink, table, list, gaps, &mut index, label);
     }
 }
 

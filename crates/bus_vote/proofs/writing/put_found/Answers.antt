@@ -1,0 +1,35 @@
+use Rattle.std.proofs.Common.{arith, length, List, ℕ, ◌++◌, ap, subst, sym, ◌∙◌}
+use Rattle.std.specs.List.{flat_map, range_with_len}
+use Rattle.std.specs.Option.{option_copied}
+use Rattle.bus_outer.specs.Texts.{Adds}
+use Rattle.bus_outer.specs.TextLaws.{◌▸◌}
+use Rattle.bus_vote.specs.Putting.{round_put}
+use Rattle.bus_vote.proofs.HearingLemmas.{all_silent, one_further, round_heard}
+use Rattle.bus_vote.proofs.ListLemmas.{flat_map-range}
+use Rattle.bus_vote.proofs.writing.put_found.Goals as goal
+
+pub loop-round-preserved : goal.loop-round-preserved
+loop-round-preserved g c =
+    let v = c.args.voted.now in
+    let list = c.args.list.now in
+    let k : ℕ = c.loop-round.round in
+    let i = c.loop-round.invariant in
+    let e = round_heard list v k c.loop-round.first c.loop-round.second c.loop-round.third (option_copied c.words-a.result) (option_copied c.words-b.result)
+    (option_copied c.words-c.result) i.first i.second i.third c.words-a.ensures.words c.words-b.ensures.words c.words-c.ensures.words in
+    record {
+      first = one_further c.loop-round.first list v.label v.first k c.words-a.new.self i.first c.words-a.ensures.after;
+      second = one_further c.loop-round.second list v.label v.second k c.words-b.new.self i.second c.words-b.ensures.after;
+      third = one_further c.loop-round.third list v.label v.third k c.words-c.new.self i.third c.words-c.ensures.after;
+      adds = subst (λ (t : List ℕ). Adds g.K.Sink.held g.K.Sink.faults c.args.sink.now c.put_round.new.sink c.args.text.now c.put_round.new.text t)
+          (ap (λ t. flat_map (round_put list v) (range_with_len 0 k) ++ t) e ∙ sym (flat_map-range (round_put list v) k))
+          (i.adds ▸ c.put_round.ensures);
+    }
+
+pub returns-then-are_silent : goal.returns-then-are_silent
+returns-then-are_silent g c =
+    let i = c.loop-round.invariant in
+    let list = c.args.list.now in
+    subst (λ (t : List ℕ). Adds g.K.Sink.held g.K.Sink.faults c.args.sink.now c.loop-round.sink c.args.text.now c.loop-round.text t)
+    (all_silent list c.args.voted.now c.loop-round.round (length list) c.loop-round.first c.loop-round.second c.loop-round.third (omega arith)
+    i.first i.second i.third (c.are_silent.ensures c.if-are_silent.true))
+    i.adds
