@@ -12,7 +12,7 @@ use bus_strings::wordstring::Wordstring;
 use bus_words::label::Label;
 
 /// How many finds there is room for, on the stack.
-pub(crate) const MOST_FINDS: usize = 40_000;
+pub(crate) const MOST_FINDS: usize = 80_000;
 
 /// A wordstring of a label that is looked for.
 #[derive(Clone, Copy, Debug, Default, PartialEq, Eq)]
