@@ -1,5 +1,6 @@
 use crate::{Dump, doubled, write_dump};
 use bus_outer::{MemorySink, MemorySource, WriteFault};
+use bus_regime::verdict;
 use bus_table::reading::read_table;
 use bus_trace::{Trace, read_trace};
 use std::alloc::Global;
@@ -99,13 +100,7 @@ fn written(
     if doubled(&trace).is_some() {
         return Ok(None);
     }
-    let answer = write_dump(
-        dump,
-        b"ACCEPT aperiodic 1130 1170",
-        &table,
-        &trace,
-        &mut sink,
-    );
+    let answer = write_dump(dump, &verdict(&table), &table, &trace, &mut sink);
     Ok(Some((answer, sink)))
 }
 

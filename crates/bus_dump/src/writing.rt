@@ -2,6 +2,7 @@
 ghost use Rattle.std.specs.Prelude.{◌≡◌, ◌≤◌, ◌^◌, None};
 ghost use Rattle.bus_outer.specs.Sinks.{WritesText};
 ghost use Rattle.bus_outer.specs.Texts.{Adds};
+ghost use Rattle.bus_regime.specs.Lines.{verdict_words};
 ghost use Rattle.bus_dump.specs.Doubled.{doubled};
 ghost use Rattle.bus_dump.specs.DumpTexts.{dump_text, first_values, last_stamp};
 ghost use Rattle.bus_dump.specs.Layouts.{bit_times_put, signals_of};
@@ -15,6 +16,7 @@ use crate::layout::Layout;
 use crate::scene::Scene;
 use crate::watch::Watch;
 use bus_outer::{Sink, TextBuffer, WriteFault};
+use bus_regime::TableVerdict;
 use bus_strings::laws::neighbours_tell;
 use bus_strings::transmission::Transmission;
 use bus_table::table::Table;
@@ -69,25 +71,25 @@ fn put_last<K: Sink>(text: &mut TextBuffer, sink: &mut K, horizon: u64)
 }
 
 /// Writes the dump of a trace on a table, in which no entry is doubled ([`doubled`](crate::doubled)). It goes over the trace once, from
-/// change to change, and takes no memory. The comment stands in its head: any text without `$`, as the line of the table's verdict.
+/// change to change, and takes no memory. The words of the verdict stand in its head, as a comment.
 ///
 /// At `WriteFault` the sink has taken a front of the text, and its count of faults rose.
 pub fn write_dump<K: Sink>(
     dump: Dump,
-    comment: &[u8],
+    verdict: &TableVerdict,
     table: &Table,
     trace: &Trace,
     sink: &mut K,
 ) -> Result<(), WriteFault>
     requires single { doubled trace.now.list ≡ None }
-    ensures { WritesText K.held K.faults sink.old sink.new result (dump_text dump comment.now table.now trace.now) }
+    ensures { WritesText K.held K.faults sink.old sink.new result (dump_text dump (verdict_words verdict.now) table.now trace.now) }
 {
     neighbours_tell();
     let list = trace.list();
     let horizon = trace.horizon();
     let layout = Layout::new(dump, table, list);
     let mut text = TextBuffer::new();
-    put_head(&mut text, sink, comment);
+    put_head(&mut text, sink, verdict);
     layout.put_declarations(&mut text, sink);
     text.put(sink, b"$upscope $end\n$enddefinitions $end\n");
     put_bit_times(&mut text, sink, &layout, table, list, horizon);

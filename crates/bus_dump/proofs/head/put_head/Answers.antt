@@ -2,4 +2,4 @@ use Rattle.bus_outer.specs.TextLaws.{◌▸◌}
 use Rattle.bus_dump.proofs.head.put_head.Goals as goal
 
 pub returns : goal.returns
-returns g c = c.put.ensures ▸ c.put-2.ensures ▸ c.put-3.ensures
+returns g c = c.put.ensures ▸ c.put_verdict.ensures ▸ c.put-2.ensures
