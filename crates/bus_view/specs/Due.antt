@@ -1,0 +1,49 @@
+-- What is due for given words and texts: the outcome, where nothing outside fails and memory is granted, and the text of an answer.
+use Rattle.std.specs.Prelude.{◌≡◌, ℕ, List, Option, Some, None, Result, Ok, Err}
+use Rattle.bus_text.specs.AllOf.{◌>>=◌}
+use Rattle.bus_table.specs.Tables.{Table}
+use Rattle.bus_regime.specs.Lines.{verdict_words}
+use Rattle.bus_regime.specs.Verdicts.{verdict_of}
+use Rattle.bus_trace.specs.Traces.{Recording}
+use Rattle.bus_dump.specs.declared.dump.Dump.{Dump}
+use Rattle.bus_dump.specs.Doubled.{doubled}
+use Rattle.bus_dump.specs.DumpTexts.{dump_text}
+use Rattle.bus_tool.specs.declared.outcome.Outcome.{Outcome}
+use Rattle.bus_tool.specs.declared.outcome.Outcome.TheVariants.{Done, Doubled}
+use Rattle.bus_tool.specs.Due.{trace_due, Traced, traced_by, outcome_with}
+use Rattle.bus_tool.specs.Texts.{IsTextOf}
+
+-- a trace, where none of its entries is doubled
+abbrev pub single_or_refusal : Option ℕ → Recording → Result Recording Outcome
+single_or_refusal None trace = Ok trace
+single_or_refusal (Some entry) trace = Err (Doubled entry)
+
+abbrev pub single : Recording → Result Recording Outcome
+single trace = single_or_refusal (doubled trace.list) trace
+
+-- the trace at the front of the second text, in which none is
+abbrev pub single_due : List ℕ → Result Recording Outcome
+single_due text = trace_due text >>= single
+
+-- the same, whatever the table is
+abbrev pub single_with : Table → List ℕ → Result Recording Outcome
+single_with table text = single_due text
+
+-- the table of the first text, and that trace; the second is looked at only where nothing of the first is refused
+abbrev pub drawn_due : List ℕ → List ℕ → Result Traced Outcome
+drawn_due = traced_by single_with
+
+-- the outcome, whatever the dump is
+abbrev pub view_due : List ℕ → List ℕ → Outcome
+view_due first second = outcome_with (λ traced. Done) (drawn_due first second)
+
+-- the dump of a trace on a table, with the words of the table's verdict as its comment
+abbrev pub drawing : Dump → Table → Recording → List ℕ
+drawing dump table trace = dump_text dump (verdict_words (verdict_of table)) table trace
+
+abbrev pub IsDrawing : Dump → Traced → List ℕ → Type 0
+IsDrawing dump traced text = text ≡ drawing dump traced.table traced.trace
+
+-- a text is the one that a form writes of these two
+abbrev pub IsFormText : Dump → List ℕ → List ℕ → List ℕ → Type 0
+IsFormText dump first second text = IsTextOf (IsDrawing dump) (drawn_due first second) text
