@@ -226,21 +226,22 @@ some_of f (y ∷ ys) (suc k) x a e h =
     record { at = length (f y) + rest.at; there = get_second (f y) (flat_map f ys) rest.at a rest.there }
 
 -- ---- what is put at a place
-record IsPut (list : List Entry) (place round : ℕ) (f : Find) : Type 0 where
+record IsPut (list : List Entry) (place terminal round : ℕ) (f : Find) : Type 0 where
   pub at : f.place ≡ place
   pub named : f.round ≡ round
+  pub sender : f.terminal ≡ terminal
   pub clear : garbled list place ≡ false
 
-string_put : (wanted : List Bool) (list : List Entry) (place round : ℕ) (string : Wordstring) (i : ℕ) (f : Find)
-    → slice_get (string_finds wanted list place round string) i ≡ Some f → IsPut list place round f
-string_put wanted list place round string i f e = by_test (is_wanted wanted string.label) (garbled list place) refl i e where
+string_put : (wanted : List Bool) (list : List Entry) (place terminal round : ℕ) (string : Wordstring) (i : ℕ) (f : Find)
+    → slice_get (string_finds wanted list place terminal round string) i ≡ Some f → IsPut list place terminal round f
+string_put wanted list place terminal round string i f e = by_test (is_wanted wanted string.label) (garbled list place) refl i e where
   own : Find
-  own = record { place = place; round = round; label = string.label }
+  own = record { place = place; round = round; label = string.label; terminal = terminal }
 
-  by_test : (w g : Bool) → garbled list place ≡ g → (j : ℕ) → slice_get (cond (w && not g) (own ∷ []) []) j ≡ Some f → IsPut list place round f
+  by_test : (w g : Bool) → garbled list place ≡ g → (j : ℕ) → slice_get (cond (w && not g) (own ∷ []) []) j ≡ Some f → IsPut list place terminal round f
   by_test true false c zero h =
       let same : own ≡ f = let w : Some own ≡ Some f = h in cc in
-      record { at = ap (λ (z : Find). z.place) (sym same); named = ap (λ (z : Find). z.round) (sym same); clear = c }
+      record { at = ap (λ (z : Find). z.place) (sym same); named = ap (λ (z : Find). z.round) (sym same); sender = ap (λ (z : Find). z.terminal) (sym same); clear = c }
   by_test true false c (suc j) h = nowhere j f h
   by_test true true c j h = nowhere j f h
   by_test false g c j h = nowhere j f h
@@ -248,7 +249,7 @@ string_put wanted list place round string i f e = by_test (is_wanted wanted stri
 record IsPutAt (list : List Entry) (place : ℕ) (f : Find) : Type 0 where
   pub x : Entry
   pub there : slice_get list place ≡ Some x
-  pub put : IsPut list place (sent_before x.terminal list place) f
+  pub put : IsPut list place x.terminal (sent_before x.terminal list place) f
 
 place_put : (wanted : List Bool) (list : List Entry) (place j : ℕ) (f : Find) → slice_get (place_finds wanted list place) j ≡ Some f → IsPutAt list place f
 place_put wanted list place j f e = by_option (slice_get list place) refl e where
@@ -257,8 +258,9 @@ place_put wanted list place j f e = by_option (slice_get list place) refl e wher
   by_option (Some x) there h = record {
     x = x;
     there = there;
-    put = all_of (string_finds wanted list place (sent_before x.terminal list place)) (IsPut list place (sent_before x.terminal list place)) x.message
-        (λ s i a k. string_put wanted list place (sent_before x.terminal list place) s i a k) j f h;
+    put = all_of (string_finds wanted list place x.terminal (sent_before x.terminal list place))
+        (IsPut list place x.terminal (sent_before x.terminal list place)) x.message
+        (λ s i a k. string_put wanted list place x.terminal (sent_before x.terminal list place) s i a k) j f h;
   }
 
 pub finds_more : (wanted : List Bool) (list : List Entry) (n : ℕ) → finds_before wanted list (n + 1) ≡ finds_before wanted list n ++ place_finds wanted list n
@@ -278,6 +280,7 @@ record IsGood (list : List Entry) (n : ℕ) (f : Find) : Type 0 where
   pub there : slice_get list f.place ≡ Some x
   pub clear : garbled list f.place ≡ false
   pub named : f.round ≡ sent_before x.terminal list f.place
+  pub sender : f.terminal ≡ x.terminal
   pub before : f.place < n
 
 good_at : (list : List Entry) (n : ℕ) (f : Find) → IsPutAt list n f → IsGood list (suc n) f
@@ -286,11 +289,12 @@ good_at list n f p = record {
   there = ap (slice_get list) p.put.at ∙ p.there;
   clear = ap (garbled list) p.put.at ∙ p.put.clear;
   named = p.put.named ∙ ap (sent_before p.x.terminal list) (sym p.put.at);
+  sender = p.put.sender;
   before = let e : f.place ≡ n = p.put.at in omega arith;
 }
 
 good_later : (list : List Entry) (n : ℕ) (f : Find) → IsGood list n f → IsGood list (suc n) f
-good_later list n f g = record { x = g.x; there = g.there; clear = g.clear; named = g.named; before = let b : f.place < n = g.before in omega arith }
+good_later list n f g = record { x = g.x; there = g.there; clear = g.clear; named = g.named; sender = g.sender; before = let b : f.place < n = g.before in omega arith }
 
 all_good : (wanted : List Bool) (list : List Entry) (n j : ℕ) (f : Find) → slice_get (finds_before wanted list n) j ≡ Some f → IsGood list n f
 all_good wanted list zero j f e = nowhere j f e
@@ -318,12 +322,12 @@ in_order wanted list (suc n) i j f g le a b = elim (split_finds wanted list n j 
 
 none_missing : (wanted : List Bool) (list : List Entry) (n place k : ℕ) (x : Entry) (string : Wordstring) → place < n → slice_get list place ≡ Some x
     → garbled list place ≡ false → slice_get x.message k ≡ Some string → is_wanted wanted string.label ≡ true
-    → IsSomewhere (finds_before wanted list n) (record { place = place; round = sent_before x.terminal list place; label = string.label })
+    → IsSomewhere (finds_before wanted list n) (record { place = place; round = sent_before x.terminal list place; label = string.label; terminal = x.terminal })
 none_missing wanted list zero place k x string before there clear has is = absurd (omega arith)
 none_missing wanted list (suc n) place k x string before there clear has is = elim (cases_lt place n) [
   | inl earlier ↦
       let rest = none_missing wanted list n place k x string earlier there clear has is in
-      let f : Find = record { place = place; round = sent_before x.terminal list place; label = string.label } in
+      let f : Find = record { place = place; round = sent_before x.terminal list place; label = string.label; terminal = x.terminal } in
       record {
         at = rest.at;
         there = ap (λ fs. slice_get fs rest.at) (finds_next wanted list n)
@@ -331,12 +335,12 @@ none_missing wanted list (suc n) place k x string before there clear has is = el
       }
   | inr late ↦
       let e : n ≡ place = omega arith in
-      let f : Find = record { place = place; round = sent_before x.terminal list place; label = string.label } in
-      let put : slice_get (string_finds wanted list place (sent_before x.terminal list place) string) 0 ≡ Some f =
+      let f : Find = record { place = place; round = sent_before x.terminal list place; label = string.label; terminal = x.terminal } in
+      let put : slice_get (string_finds wanted list place x.terminal (sent_before x.terminal list place) string) 0 ≡ Some f =
       ap (λ (b : Bool). slice_get (cond (b && not (garbled list place)) (f ∷ []) []) 0) is
       ∙ ap (λ (b : Bool). slice_get (cond (not b) (f ∷ []) []) 0) clear in
       let here : IsSomewhere (entry_finds wanted list place x) f =
-      some_of (string_finds wanted list place (sent_before x.terminal list place)) x.message k string f has put in
+      some_of (string_finds wanted list place x.terminal (sent_before x.terminal list place)) x.message k string f has put in
       let at_place : slice_get (place_finds wanted list n) here.at ≡ Some f =
       ap (λ m. slice_get (place_finds wanted list m) here.at) e
       ∙ ap (λ o. slice_get (option_map_or (entry_finds wanted list place) o []) here.at) there ∙ here.there in
@@ -364,16 +368,13 @@ labelled label ext (s ∷ message) words e = by_test (is_named label ext s) refl
   by_test false t h next = let rest : IsLabelled label message = next h in record { k = suc rest.k; string = rest.string; there = rest.there; is = rest.is }
 
 -- ---- they are the finds of each label that was looked for
-pub own_terminal : (list : List Entry) (label terminal : ℕ) (f : Find) (x : Entry) → is_own list label terminal f ≡ true → slice_get list f.place ≡ Some x
-    → x.terminal ≡ terminal
-own_terminal list label terminal f x own there =
-    let test : option_map_or (λ (y : Entry). y.terminal == terminal) (slice_get list f.place) false ≡ true =
-    (and_parts (f.label == label) (option_map_or (λ (y : Entry). y.terminal == terminal) (slice_get list f.place) false) own).1 in
-    eqb-true x.terminal terminal (sym (ap (λ o. option_map_or (λ (y : Entry). y.terminal == terminal) o false) there) ∙ test)
+pub own_terminal : (label terminal : ℕ) (f : Find) → is_own label terminal f ≡ true → f.terminal ≡ terminal
+own_terminal label terminal f own = eqb-true f.terminal terminal (and_parts (f.label == label) (f.terminal == terminal) own).1
 
-own_round : (list : List Entry) (label terminal n : ℕ) (f : Find) → is_own list label terminal f ≡ true → IsGood list n f → f.round ≡ sent_before terminal list f.place
+own_round : (list : List Entry) (label terminal n : ℕ) (f : Find) → is_own label terminal f ≡ true → IsGood list n f
+    → f.round ≡ sent_before terminal list f.place
 own_round list label terminal n f own good =
-    good.named ∙ ap (λ t. sent_before t list f.place) (own_terminal list label terminal f good.x own good.there)
+    good.named ∙ ap (λ t. sent_before t list f.place) (sym good.sender ∙ own_terminal label terminal f own)
 
 has_words : (label ext : ℕ) (m : Entry × Bool) (words : List ℕ) → words_of label ext m ≡ Some words → (m.1 ≡ false) × (words_in label ext m.0.message ≡ Some words)
 has_words label ext m words e = by_mark m.1 refl e where
@@ -387,21 +388,24 @@ found_by wanted list label is terminal ext round words m e h =
     let p : IsPlaced list terminal round m = round_which list terminal round m e in
     let has = has_words label ext m words h in
     let s : IsLabelled label m.0.message = labelled label ext m.0.message words has.1 in
-    let f : Find = record { place = p.place; round = sent_before m.0.terminal list p.place; label = s.string.label } in
+    let f : Find = record { place = p.place; round = sent_before m.0.terminal list p.place; label = s.string.label; terminal = m.0.terminal } in
     let there = none_missing wanted list (length list) p.place s.k m.0 s.string (slice_get_within list p.place m.0 p.there) p.there (sym p.mark ∙ has.0) s.there
     (ap (is_wanted wanted) s.is ∙ is) in
-    let of_terminal : option_map_or (λ (y : Entry). y.terminal == terminal) (slice_get list p.place) false ≡ true =
-    ap (λ o. option_map_or (λ (y : Entry). y.terminal == terminal) o false) p.there ∙ eq-eqb m.0.terminal terminal p.own in
     record {
       at = there.at;
       find = f;
       there = there.there;
-      own = ap (λ (b : Bool). b && option_map_or (λ (y : Entry). y.terminal == terminal) (slice_get list p.place) false) (eq-eqb s.string.label label s.is) ∙ of_terminal;
+      own = ap (λ (b : Bool). b && (m.0.terminal == terminal)) (eq-eqb s.string.label label s.is) ∙ eq-eqb m.0.terminal terminal p.own;
       named = ap (λ t. sent_before t list p.place) p.own ∙ p.before;
     }
 
 pub finds_are : (wanted : List Bool) (list : List Entry) (label : ℕ) → is_wanted wanted label ≡ true → AreFinds list (finds_before wanted list (length list)) label
 finds_are wanted list label is = record {
+  placed = λ at f there. (all_good wanted list (length list) at f there).before;
+  sender = λ at f x there sent.
+      let good : IsGood list (length list) f = all_good wanted list (length list) at f there in
+      let same : good.x ≡ x = let w : Some good.x ≡ Some x = sym good.there ∙ sent in cc in
+      ap (λ (y : Entry). y.terminal) (sym same) ∙ sym good.sender;
   sound = λ at f x there sent.
       let good : IsGood list (length list) f = all_good wanted list (length list) at f there in
       let same : good.x ≡ x = let w : Some good.x ≡ Some x = sym good.there ∙ sent in cc in
@@ -423,10 +427,10 @@ finds_are wanted list label is = record {
 -- one transmission's finds more
 pub found_more : (wanted : List Bool) (list : List Entry) (at : ℕ) (x : Entry) (round : ℕ) (strings : Message) (old new : List Find) → slice_get list at ≡ Some x
     → round ≡ sent_before x.terminal list at → strings ≡ x.message → old ≡ finds_before wanted list at
-    → new ≡ old ++ flat_map (string_finds wanted list at round) strings → new ≡ finds_before wanted list (at + 1)
+    → new ≡ old ++ flat_map (string_finds wanted list at x.terminal round) strings → new ≡ finds_before wanted list (at + 1)
 found_more wanted list at x round strings old new there r s o n =
-    n ∙ ap (λ fs. fs ++ flat_map (string_finds wanted list at round) strings) o
-    ∙ ap (λ k. finds_before wanted list at ++ flat_map (string_finds wanted list at k) strings) r
-    ∙ ap (λ m. finds_before wanted list at ++ flat_map (string_finds wanted list at (sent_before x.terminal list at)) m) s
+    n ∙ ap (λ fs. fs ++ flat_map (string_finds wanted list at x.terminal round) strings) o
+    ∙ ap (λ k. finds_before wanted list at ++ flat_map (string_finds wanted list at x.terminal k) strings) r
+    ∙ ap (λ m. finds_before wanted list at ++ flat_map (string_finds wanted list at x.terminal (sent_before x.terminal list at)) m) s
     ∙ ap (λ e. finds_before wanted list at ++ option_map_or (entry_finds wanted list at) e []) (sym there)
     ∙ sym (finds_more wanted list at)

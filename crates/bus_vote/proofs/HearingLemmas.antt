@@ -1,9 +1,9 @@
 -- What a reader that stands before a find knows of the rounds of its channel.
-use Rattle.std.proofs.Common.{◌≡◌, ℕ, ◌+◌, ◌-◌, ◌<◌, ◌≤◌, ◌==◌, Bool, true, false, List, [], length, subst, Option, Some, None, inl, inr, refl, ap, sym, ◌∙◌, arith}
+use Rattle.std.proofs.Common.{◌≡◌, ℕ, ◌+◌, ◌-◌, ◌<◌, ◌≤◌, Bool, true, List, [], length, subst, Option, Some, None, inl, inr, refl, ap, sym, ◌∙◌, arith}
 use Rattle.std.specs.Prelude.{slice_get}
 use Rattle.std.specs.List.{flat_map, range_with_len}
-use Rattle.std.specs.Option.{option_and_then, option_map_or}
-use Rattle.std.proofs.lemmas.Bool.{and_parts, cases_eq, cases_lt}
+use Rattle.std.specs.Option.{option_and_then}
+use Rattle.std.proofs.lemmas.Bool.{cases_eq, cases_lt}
 use Rattle.std.proofs.lemmas.Option.{slice_get_within}
 use Rattle.bus_strings.specs.Messages.{Entry}
 use Rattle.bus_vote.specs.Labels.{Channel, VotedLabel}
@@ -15,7 +15,7 @@ use Rattle.bus_vote.proofs.WalkLemmas.{none_first, none_second, none_third, rang
 
 -- ---- rounds without words
 silent_round : (list : List Entry) (finds : List Find) (label : ℕ) (channel : Channel) (round : ℕ) → AreFinds list finds label
-    → ((j : ℕ) (f : Find) → slice_get finds j ≡ Some f → is_own list label channel.terminal f ≡ true → f.round ≡ round → ⊥)
+    → ((j : ℕ) (f : Find) → slice_get finds j ≡ Some f → is_own label channel.terminal f ≡ true → f.round ≡ round → ⊥)
     → channel_words list label channel round ≡ None
 silent_round list finds label channel round a none = by_option (channel_words list label channel round) refl where
   by_option : (o : Option (List ℕ)) → channel_words list label channel round ≡ o → channel_words list label channel round ≡ None
@@ -47,22 +47,15 @@ words_found list finds label channel round at f x h there low sent =
     let here = h.here f there in
     let from : round ≤ f.round = here.1 in
     let named : f.round ≡ round = omega arith in
-    let own : x.terminal ≡ channel.terminal = own_terminal list label channel.terminal f x here.0 sent in
+    let own : x.terminal ≡ channel.terminal = h.finds_are.sender at f x there sent ∙ own_terminal label channel.terminal f here.0 in
     let words : Option (Entry × Bool) → Option (List ℕ) = option_and_then (words_of label channel.ext) in
     sym (ap (λ t. words (slice_get (sent_by t list) round)) (sym own) ∙ ap (λ r. words (slice_get (sent_by x.terminal list) r)) (sym named)
     ∙ ap words (h.finds_are.sound at f x there sent))
 
-pub nothing_found : (list : List Entry) (label terminal : ℕ) (f : Find) → is_own list label terminal f ≡ true → slice_get list f.place ≡ None → ⊥
-nothing_found list label terminal f own none =
-    let test : option_map_or (λ (y : Entry). y.terminal == terminal) (slice_get list f.place) false ≡ true =
-    (and_parts (f.label == label) (option_map_or (λ (y : Entry). y.terminal == terminal) (slice_get list f.place) false) own).1 in
-    let e : false ≡ true = sym (ap (λ o. option_map_or (λ (y : Entry). y.terminal == terminal) o false) none) ∙ test in
-    absurd cc
-
 -- ---- where it stands then
 pub hearing_first : (list : List Entry) (finds : List Find) (label : ℕ) (channel : Channel) (at : ℕ) → AreFinds list finds label
-    → ((j : ℕ) (f : Find) → 0 ≤ j → j < at → slice_get finds j ≡ Some f → is_own list label channel.terminal f ≡ true → f.round < 0)
-    → ((f : Find) → slice_get finds at ≡ Some f → (is_own list label channel.terminal f ≡ true) × (0 ≤ f.round)) → IsHearing list finds label channel 0 at
+    → ((j : ℕ) (f : Find) → 0 ≤ j → j < at → slice_get finds j ≡ Some f → is_own label channel.terminal f ≡ true → f.round < 0)
+    → ((f : Find) → slice_get finds at ≡ Some f → (is_own label channel.terminal f ≡ true) × (0 ≤ f.round)) → IsHearing list finds label channel 0 at
 hearing_first list finds label channel at a skipped own = record {
   finds_are = a;
   left = λ j f there of from. elim (cases_lt j at) [
@@ -82,8 +75,8 @@ hearing_later list finds label channel round at h later = record {
 
 pub hearing_next : (list : List Entry) (finds : List Find) (label : ℕ) (channel : Channel) (round at next : ℕ) (f : Find) → IsHearing list finds label channel round at
     → slice_get finds at ≡ Some f → f.round ≤ round
-    → ((j : ℕ) (g : Find) → at + 1 ≤ j → j < next → slice_get finds j ≡ Some g → is_own list label channel.terminal g ≡ true → g.round < round + 1)
-    → ((g : Find) → slice_get finds next ≡ Some g → (is_own list label channel.terminal g ≡ true) × (round + 1 ≤ g.round))
+    → ((j : ℕ) (g : Find) → at + 1 ≤ j → j < next → slice_get finds j ≡ Some g → is_own label channel.terminal g ≡ true → g.round < round + 1)
+    → ((g : Find) → slice_get finds next ≡ Some g → (is_own label channel.terminal g ≡ true) × (round + 1 ≤ g.round))
     → IsHearing list finds label channel (round + 1) next
 hearing_next list finds label channel round at next f h there low skipped own = record {
   finds_are = h.finds_are;

@@ -23,6 +23,8 @@ pub(crate) struct Find {
     pub round: u32,
     /// The number of its label.
     pub label: u16,
+    /// The terminal of its transmission.
+    pub terminal: u8,
 }
 
 /// The finds of a pass.
@@ -45,6 +47,7 @@ fn add_string(
     list: &[Transmission],
     at: usize,
     reach: u64,
+    terminal: u8,
     round: u32,
     string: &Wordstring,
 ) -> bool
@@ -52,7 +55,7 @@ fn add_string(
     requires within { at < length list.now }
     requires narrow { length list.now < 2 ^ 32 }
     requires reach { IsReach (take at list.now) reach }
-    ensures { IsTrue result → finds.new.items ≡ finds.old.items ++ string_finds wanted.now list.now at round string.now }
+    ensures { IsTrue result → finds.new.items ≡ finds.old.items ++ string_finds wanted.now list.now at terminal round string.now }
 {
     let label = string.label();
     if !is_wanted(wanted, label) || is_garbled(list, at, reach) {
@@ -62,6 +65,7 @@ fn add_string(
         place: at as u32,
         round,
         label: label.value(),
+        terminal,
     };
     finds.try_push(find).is_ok()
 }
@@ -73,6 +77,7 @@ fn add_strings(
     list: &[Transmission],
     at: usize,
     reach: u64,
+    terminal: u8,
     round: u32,
     strings: &[Wordstring],
 ) -> bool
@@ -80,10 +85,10 @@ fn add_strings(
     requires within { at < length list.now }
     requires narrow { length list.now < 2 ^ 32 }
     requires reach { IsReach (take at list.now) reach }
-    ensures { IsTrue result → finds.new.items ≡ finds.old.items ++ flat_map (string_finds wanted.now list.now at round) strings.now }
+    ensures { IsTrue result → finds.new.items ≡ finds.old.items ++ flat_map (string_finds wanted.now list.now at terminal round) strings.now }
 {
     for string in strings {
-        if !add_string(finds, wanted, list, at, reach, round, string) {
+        if !add_string(finds, wanted, list, at, reach, terminal, round, string) {
             return false;
         }
     }
@@ -105,7 +110,16 @@ fn find_all(finds: &mut Finds, wanted: &[bool], list: &[Transmission]) -> bool
         let x = &list[at];
         let terminal = usize::from(x.terminal);
         let round = sent[terminal];
-        if !add_strings(finds, wanted, list, at, reach, round, x.message.strings()) {
+        if !add_strings(
+            finds,
+            wanted,
+            list,
+            at,
+            reach,
+            x.terminal,
+            round,
+            x.message.strings(),
+        ) {
             return false;
         }
         sent[terminal] = round + 1;

@@ -13,36 +13,23 @@ use bus_words::label::Label;
 use std::marker::Model;
 
 /// Whether a find is of a label and a terminal.
-fn is_own(list: &[Transmission], find: &Find, label: Label, terminal: u8) -> bool
-    ensures { result ≡ definition.is_own list.now label terminal find.now }
+fn is_own(find: &Find, label: Label, terminal: u8) -> bool
+    ensures { result ≡ definition.is_own label terminal find.now }
 {
-    if find.label != label.value() {
-        return false;
-    }
-    match list.get(find.place as usize) {
-        None => false,
-        Some(x) => x.terminal == terminal,
-    }
+    find.label == label.value() && find.terminal == terminal
 }
 
 /// The place, from one on, of the next find of a label and a terminal whose round isn't below this one; where there is none, a place
 /// behind the finds.
-fn next_own(
-    list: &[Transmission],
-    finds: &[Find],
-    from: usize,
-    label: Label,
-    terminal: u8,
-    round: usize,
-) -> usize
+fn next_own(finds: &[Find], from: usize, label: Label, terminal: u8, round: usize) -> usize
     ensures skipped { (j : ℕ) (f : Find_in) → from ≤ j → j < result → slice_get finds.now j ≡ Some f
-        → definition.is_own list.now label terminal f ≡ true → f.round < round }
+        → definition.is_own label terminal f ≡ true → f.round < round }
     ensures own { (f : Find_in) → slice_get finds.now result ≡ Some f
-        → (definition.is_own list.now label terminal f ≡ true) × (round ≤ f.round) }
+        → (definition.is_own label terminal f ≡ true) × (round ≤ f.round) }
 {
     for at in from..finds.len() {
         let find = &finds[at];
-        if is_own(list, find, label, terminal) && find.round as usize >= round {
+        if is_own(find, label, terminal) && find.round as usize >= round {
             return at;
         }
     }
@@ -77,7 +64,7 @@ impl<'a> Reader<'a> {
         requires { AreFinds list.now finds.now label }
         ensures { result ≡ record { list = list.now; label = label; channel = channel; round = 0 } }
     {
-        let at = next_own(list, finds, 0, label, channel.terminal, 0);
+        let at = next_own(finds, 0, label, channel.terminal, 0);
         Reader {
             list,
             finds,
@@ -113,14 +100,13 @@ impl<'a> Reader<'a> {
             return None;
         }
         self.at = next_own(
-            self.list,
             self.finds,
             self.at + 1,
             self.label,
             self.channel.terminal,
             self.round,
         );
-        let x = self.list.get(find.place as usize)?;
+        let x = &self.list[find.place as usize];
         words_in(&x.message, self.label, self.channel.ext)
     }
 }

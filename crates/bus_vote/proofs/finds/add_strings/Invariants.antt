@@ -5,4 +5,4 @@ use Rattle.bus_vote.proofs.finds.add_strings.Given as goal
 
 -- the finds of the wordstrings so far are added
 abbrev pub invariant-loop-string : goal.invariant-loop-string
-invariant-loop-string l = l.finds.items ≡ l.fn.finds.items ++ flat_map (string_finds l.wanted l.list l.at l.round) (take l.string-index l.strings)
+invariant-loop-string l = l.finds.items ≡ l.fn.finds.items ++ flat_map (string_finds l.wanted l.list l.at l.terminal l.round) (take l.string-index l.strings)

@@ -1,10 +1,11 @@
-use Rattle.std.proofs.Common.{◌≡◌, ℕ, ◌+◌, ◌<◌, ◌≤◌, Some, length, get_or, replicate, max, refl, ap, ◌∙◌, arith}
+use Rattle.std.proofs.Common.{◌≡◌, ℕ, ◌+◌, ◌<◌, ◌≤◌, Some, length, get_or, replicate, max, refl, ap, subst, ◌++◌, ◌∙◌, arith}
 use Rattle.std.specs.Prelude.{slice_get}
+use Rattle.std.specs.List.{flat_map}
 use Rattle.std.proofs.lemmas.List.{get_or-replicate, length-set}
 use Rattle.std.proofs.lemmas.Option.{slice_get_read}
 use Rattle.bus_strings.specs.Messages.{Entry}
 use Rattle.bus_strings.specs.Transmissions.{end_of}
-use Rattle.bus_vote.specs.Finds.{sent_before}
+use Rattle.bus_vote.specs.Finds.{sent_before, string_finds}
 use Rattle.bus_vote.proofs.FindLemmas.{none_counted, count_more, found_more, sent_bound}
 use Rattle.bus_vote.proofs.WalkLemmas.{none_reach, reach_more}
 use Rattle.bus_vote.proofs.finds.find_all.Goals as goal
@@ -46,5 +47,7 @@ loop-at-preserved c =
       counted = count_more list at x own round c.loop-at.sent there names (omega (arith, i.sent_long)) refl i.counted;
       found = found_more c.args.wanted.now list at x round c.strings.result.now c.loop-at.finds.items c.add_strings.new.finds.items there
           (i.counted own (omega arith) ∙ ap (λ t. sent_before t list at) names) (c.strings.ensures.value ∙ ap (λ (e : Entry). e.message) c.x.view_is) i.found
-          (c.add_strings.ensures c.if-not-add_strings.false);
+          (subst (λ (t : ℕ). c.add_strings.new.finds.items
+          ≡ c.loop-at.finds.items ++ flat_map (string_finds c.args.wanted.now list at t (get_or c.loop-at.sent own 0)) c.strings.result.now)
+          (ap (λ (e : Entry). e.terminal) c.x.view_is) (c.add_strings.ensures c.if-not-add_strings.false));
     }
