@@ -2,36 +2,16 @@
 //! leaves everything else to `bus_tool::tool`.
 #![tactic(auto)]
 
-mod fates;
-mod sources;
-
 ghost use Rattle.std.specs.Prelude.{◌≡◌, ◌↔◌, IsNone, IfOk, IfErr};
 ghost use Rattle.bus_tool.specs.Forms.{words_of, form_of};
 
-use crate::fates::{exit_number, fate_of};
-use crate::sources::{Sources, sources_of};
 use bus_outer::OutSink;
+use bus_program::{Sources, exit_number, sources_of, words};
 use bus_tool::{Status, tool};
 use std::alloc::Global;
-use std::env;
 use std::io::Write;
 use std::process::ExitCode;
 use std::rt::Runtime;
-
-/// The words behind the program's name.
-///
-/// # Errors
-///
-/// `Usage` where one isn't UTF-8, and `NoMemory` for want of memory.
-fn words<R: Runtime<A = Global>>(rt: &R) -> Result<Vec<String>, Status> {
-    match env::args(rt) {
-        Ok(args) => args
-            .skip(1)
-            .collect(rt.alloc())
-            .map_err(|_| Status::NoMemory),
-        Err(error) => Err(fate_of(error.kind())),
-    }
-}
 
 /// Does the command of these words, whose files they name, over these streams.
 ///

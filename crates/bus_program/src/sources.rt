@@ -1,5 +1,5 @@
 ghost use Rattle.std.specs.Prelude.{◌≡◌, slice_get, IfOk, IfErr};
-ghost use Rattle.bus629.specs.Words.{IsFileOf};
+ghost use Rattle.bus_program.specs.Words.{IsFileOf};
 ghost use Rattle.bus_outer.specs.Edge.{file_of};
 ghost use Rattle.bus_tool.specs.Forms.{words_of};
 

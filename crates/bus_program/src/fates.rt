@@ -1,6 +1,6 @@
-ghost use Rattle.std.specs.Prelude.{◌≡◌, ◌≢◌};
+ghost use Rattle.std.specs.Prelude.{◌≡◌, ◌≢◌, ◌⊎◌};
 ghost use Rattle.std.specs.declared.io.ErrorKind.TheVariants.{OutOfMemory};
-ghost use Rattle.bus629.specs.Fates as fates;
+ghost use Rattle.bus_program.specs.Fates as fates;
 
 use bus_tool::Status;
 use std::io;
@@ -10,6 +10,7 @@ use std::io;
 pub fn fate_of(kind: io::ErrorKind) -> Status
     ensures memory { kind ≡ OutOfMemory → result ≡ Status.NoMemory }
     ensures words { kind ≢ OutOfMemory → result ≡ Status.Usage }
+    ensures either { (result ≡ Status.NoMemory) ⊎ (result ≡ Status.Usage) }
 {
     match kind {
         io::ErrorKind::OutOfMemory => Status::NoMemory,

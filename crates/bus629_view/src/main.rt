@@ -1,0 +1,54 @@
+//! The program `bus629-view`: it gathers its words, makes the files and the standard streams into sources and sinks, and
+//! leaves everything else to `bus_view::view`.
+#![tactic(auto)]
+
+ghost use Rattle.std.specs.Prelude.{◌≡◌, ◌↔◌, IsNone, IfOk, IfErr};
+ghost use Rattle.bus_tool.specs.Forms.{words_of};
+ghost use Rattle.bus_view.specs.Forms.{form_of};
+
+use bus_outer::OutSink;
+use bus_program::{Sources, exit_number, sources_of, words};
+use bus_tool::Status;
+use bus_view::view;
+use std::alloc::Global;
+use std::io::Write;
+use std::process::ExitCode;
+use std::rt::Runtime;
+
+/// Does the command of these words, whose files they name, over these streams.
+///
+/// # Errors
+///
+/// `NoMemory` where there is none before the command begins.
+fn run<R: Runtime<A = Global>, O: Write + Drop, E: Write + Drop>(
+    rt: &R,
+    words: &[String],
+    out: O,
+    err: E,
+) -> Result<Status, Status>
+    ensures usage { IfOk result (λ status. (status ≡ Status.Usage) ↔ IsNone (form_of (words_of words.now))) }
+    ensures memory { IfErr result (λ status. status ≡ Status.NoMemory) }
+{
+    let Sources {
+        mut first,
+        mut second,
+    } = sources_of(rt, words)?;
+    let mut out = OutSink::new(out);
+    let mut err = OutSink::new(err);
+    Ok(view(
+        rt.alloc(),
+        words,
+        &mut first,
+        &mut second,
+        &mut out,
+        &mut err,
+    ))
+}
+
+fn main(rt: HostRuntime) -> ExitCode {
+    let end = match words(&rt) {
+        Ok(words) => run(&rt, &words, rt.stdout(), rt.stderr()),
+        Err(status) => Err(status),
+    };
+    ExitCode::from(exit_number(end))
+}

@@ -1,0 +1,51 @@
+//! What every test uses: a call over sources and sinks in memory, with ample memory.
+use bus_outer::{MemorySink, MemorySource};
+use bus_tool::Status;
+use bus_view::view;
+use std::test::Fail;
+
+/// Two senders and a listener.
+pub const TABLE: &str =
+    "TABLE 1\nMODE aperiodic\nTI 1000\nSG 1000\nSENDER 1 TG 20\nSEND 0A1 1 2 2\nSENDER 2 TG 30\nSEND 0B2 1 0 2\nTAKE 0A1 * 1 4\nLISTENER 3\n";
+
+/// A message of each.
+pub const TRACE: &str =
+    "TRACE 1\nHORIZON 150\nHOLD 1 1\nHOLD 2 1\nTX 20 1\nWS L0A111 D00001 D00010\nTX 110 2\nWS L0B210 D00FF1\nEND\n";
+
+/// How a call ended, and what stands on `out` and on `err`.
+#[derive(Drop)]
+pub struct Ran {
+    pub status: Status,
+    pub out: MemorySink,
+    pub err: MemorySink,
+}
+
+/// A sink that never fails.
+fn sink(rt: &HostRuntime, room: usize) -> Result<MemorySink, Fail> {
+    Ok(MemorySink::new(rt.alloc(), room, 200, Vec::new(rt.alloc()))?)
+}
+
+/// A source of this text that never fails.
+fn source(rt: &HostRuntime, text: &str) -> Result<MemorySource, Fail> {
+    let bytes = text.as_bytes().to_vec(rt.alloc())?;
+    Ok(MemorySource::new(bytes, 4096, Vec::new(rt.alloc())))
+}
+
+/// A call of these words over these texts.
+pub fn run_on(rt: &HostRuntime, words: &[&str], first: &str, second: &str) -> Result<Ran, Fail> {
+    let mut all = Vec::new(rt.alloc());
+    for word in words {
+        all.push(String::from_str(rt.alloc(), *word)?)?;
+    }
+    let (mut first, mut second) = (source(rt, first)?, source(rt, second)?);
+    let (mut out, mut err) = (sink(rt, 3000)?, sink(rt, 200)?);
+    let status = view(
+        rt.alloc(),
+        &all,
+        &mut first,
+        &mut second,
+        &mut out,
+        &mut err,
+    );
+    Ok(Ran { status, out, err })
+}

@@ -1,0 +1,27 @@
+//! Dumps of a trace.
+use crate::calls::{TABLE, TRACE, run_on};
+use bus_tool::Status;
+use std::test::Fail;
+
+const WIRES: &str =
+    "$version bus629-view 1 $end\n$comment ACCEPT aperiodic 1130 1170 $end\n$timescale 100 ns $end\n$scope module bus $end\n$var wire 1 c carrier $end\n$var wire 1 o overlap $end\n$var wire 1 s sync $end\n$var wire 1 p1 t1_pulse $end\n$var wire 1 g1 t1_garbled $end\n$var wire 1 p2 t2_pulse $end\n$var wire 1 g2 t2_garbled $end\n$upscope $end\n$enddefinitions $end\n#0\n$dumpvars\n0c\n0o\n0s\n0p1\n0g1\n0p2\n0g2\n$end\n#100\n1c\n1s\n1p1\n#115\n0s\n#200\n1s\n#215\n0s\n#300\n1s\n#315\n0s\n#400\n0c\n0p1\n#550\n1c\n1s\n1p2\n#565\n0s\n#650\n1s\n#665\n0s\n#750\n";
+
+#[test]
+fn the_wires_of_a_trace(rt: HostRuntime) -> Result<(), Fail> {
+    let ran = run_on(&rt, &["wires", "T", "R"], TABLE, TRACE)?;
+    assert!(rt; ran.status == Status::Done);
+    assert_eq!(rt; ran.out.bytes(), WIRES.as_bytes());
+    assert!(rt; ran.err.bytes().is_empty());
+    Ok(())
+}
+
+// How many bytes each dump has. That these are the dump's is what the contract says.
+#[test]
+fn each_dump_of_a_trace(rt: HostRuntime) -> Result<(), Fail> {
+    for (command, length) in [("vcd", 832), ("wires", 502), ("timers", 1132)] {
+        let ran = run_on(&rt, &[command, "T", "R"], TABLE, TRACE)?;
+        assert!(rt; ran.status == Status::Done);
+        assert!(rt; ran.out.bytes().len() == length, "{command}");
+    }
+    Ok(())
+}

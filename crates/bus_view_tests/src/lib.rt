@@ -1,0 +1,9 @@
+//! Tests of bus_view by its public calls: in a crate of their own, so that bus_view is proved once and not a second time with them.
+#![tactic(auto)]
+
+#[cfg(test)]
+mod calls;
+#[cfg(test)]
+mod draw;
+#[cfg(test)]
+mod refused;

@@ -1,0 +1,16 @@
+#compdef bus629-view
+# Completion of bus629-view for zsh.
+_bus629_view() {
+  local -a commands
+  commands=(
+    'vcd:write the dump of a trace'
+    'wires:write the signals of one bit of that dump alone'
+    'timers:write the dump with the timers of each sender'
+  )
+  if (( CURRENT == 2 )); then
+    _describe command commands
+  elif (( CURRENT == 3 || CURRENT == 4 )); then
+    _files
+  fi
+}
+_bus629_view "$@"
