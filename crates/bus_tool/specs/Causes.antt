@@ -150,7 +150,7 @@ pub record IsLongEnd (form : Form) (end : ℕ) (table : Table) (items : List Ite
   pub above : longest_end < end
 
 -- The cause of an outcome of a form that refuses a text, or a table and items that were read. An answer has its text, and a failure of the
--- outside its count; of want of memory nothing is known.
+-- outside its count; of want of memory nothing is known. No form comes to a doubled trace (`Own`).
 abbrev pub RefusesTexts : Form → Outcome → List ℕ → List ℕ → Type 0
 RefusesTexts form outcome.Done first second = Unit {0}
 RefusesTexts form outcome.Answered first second = Unit {0}

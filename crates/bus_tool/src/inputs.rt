@@ -40,7 +40,9 @@ pub struct Inputs {
 /// A table, and a trace.
 #[derive(Drop)]
 pub struct Traced {
+    /// The table of the first source.
     pub table: Table,
+    /// The trace of the second.
     pub trace: Trace,
 }
 

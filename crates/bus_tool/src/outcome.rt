@@ -62,7 +62,7 @@ pub enum Outcome {
         reason: WaveReason,
     },
     /// An entry of the trace in the second text, counted from 0, is the first that starts before an earlier one of its terminal has ended.
-    /// No form of bus629 asks for that; what draws a terminal at one place does.
+    /// No form of bus629 comes to that; the dumps of bus629-view do.
     Doubled {
         entry: u64,
     },

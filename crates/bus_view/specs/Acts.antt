@@ -20,8 +20,8 @@ DoesView dump before after outcome = Does sources table_refusal_of view_due (IsF
 --   nothing    and then nothing outside is touched
 --   does       else it did what the words ask for
 --   first      an outcome that refuses the first text has its cause, also where the second source tells nothing
---   own        it is one of the program's own, also where the sources tell nothing; one that refuses the second text has its cause also where
---              the first source tells nothing
+--   own        it is one of the program's own, also where the sources tell nothing; one that refuses the second text has its cause also
+--              where the first source tells nothing
 pub record Acts (call : Call) (outcome : Outcome) : Type 0 where
   pub usage : (outcome ≡ Usage) ↔ IsNone (form_of call.words)
   pub nothing : IfNone (form_of call.words) (call.after ≡ call.before)
