@@ -19,3 +19,4 @@ pub mod ReadLemmas
 pub mod ReadThroughLemmas
 pub mod SmallLemmas
 pub mod IdleLemmas
+pub mod SaveLemmas

@@ -6,6 +6,7 @@ pub mod Signals
 pub mod Lanes
 pub mod Doubled
 pub mod DumpTexts
+pub mod SaveFiles
 pub mod Clocks
 pub mod Walks
 pub mod Watching

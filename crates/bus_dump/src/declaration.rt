@@ -44,8 +44,8 @@ fn put_lane_name<K: Sink>(text: &mut TextBuffer, sink: &mut K, terminal: u8, nam
     text.put(sink, name);
 }
 
-// The name of a signal.
-fn put_name<K: Sink>(text: &mut TextBuffer, sink: &mut K, signal: Signal)
+/// The name of a signal.
+pub(crate) fn put_name<K: Sink>(text: &mut TextBuffer, sink: &mut K, signal: Signal)
     ensures { Adds K.held K.faults sink.old sink.new text.old text.new (texts.name_text signal) }
 {
     match signal {
@@ -77,8 +77,8 @@ fn width_of(signal: Signal) -> &'static [u8]
     }
 }
 
-// Which bits a signal has, where they are several.
-fn bits_of(signal: Signal) -> &'static [u8]
+/// Which bits a signal has, where they are several.
+pub(crate) fn bits_of(signal: Signal) -> &'static [u8]
     ensures { result.now ≡ texts.bits_text signal }
 {
     match signal {

@@ -1,6 +1,7 @@
 //! Laws of the definitions, each the contract of a function that does nothing.
 ghost use Rattle.bus_dump.specs.Laws.{CarrierIsTold, DumpsAreRead, GarbledAreTold, LawfulIsSingle, NothingIsIdle, OverlapsAreTold};
 ghost use Rattle.bus_dump.specs.Laws.{PulsesAreTold, StartsAreTold, TimersAreTold};
+ghost use Rattle.bus_dump.specs.SaveFiles.{AllAreShown};
 
 /// A reader of Value Change Dumps (`specs/Reading.antt`) finds in a dump, at each bit time below the horizon, exactly the value that each
 /// of its signals has there.
@@ -31,4 +32,9 @@ pub fn timers_are_told()
 /// a dump.
 pub fn lawful_is_single()
     ensures { LawfulIsSingle }
+{}
+
+/// The save file shows each signal of each dump.
+pub fn all_are_shown()
+    ensures { AllAreShown }
 {}

@@ -1,13 +1,15 @@
 //! A trace as a Value Change Dump (IEEE 1364), which wave viewers read: what each terminal does at each bit time, and what is on the bus.
 //!
 //! - [`write_dump`] writes the dump of a trace; [`Dump`] says which signals it has.
+//! - [`write_save_file`] writes a save file of GTKWave, with which the viewer shows all signals of a dump.
 //! - [`laws`] has what follows of the definitions.
 //! - [`doubled`] tells the first transmission that starts before an earlier one of its terminal has ended: of a list with one there is no
 //!   dump.
 //!
 //! The definitions are in `specs/`, by bit times: `OnBus` (what a message has on the bus), `Seen` (what is seen of a list at a bit
 //! time), `Timers` (what the timers of a sender tell), `Scenes` (both), `Signals` (the value of each signal of that), `Lanes` (the
-//! terminals that have signals), `Doubled`, `DumpTexts` (the text), and `Reading` (what a reader of such a text finds).
+//! terminals that have signals), `Doubled`, `DumpTexts` (the text), `Reading` (what a reader of such a text finds),
+//! and `SaveFiles`.
 //! No call takes memory.
 #![tactic(auto)]
 
@@ -26,6 +28,7 @@ pub mod laws;
 mod layout;
 mod live;
 mod look;
+mod save_file;
 mod scene;
 mod shown;
 mod signal;
@@ -38,4 +41,5 @@ mod writing;
 
 pub use doubling::doubled;
 pub use dump::Dump;
+pub use save_file::write_save_file;
 pub use writing::write_dump;

@@ -1,0 +1,8 @@
+use Rattle.std.proofs.Common.{take}
+use Rattle.std.specs.List.{flat_map}
+use Rattle.bus_outer.specs.Texts.{Adds}
+use Rattle.bus_dump.specs.SaveFiles.{label_shown}
+use Rattle.bus_dump.proofs.save_file.put_labels.Given as goal
+
+abbrev pub invariant-loop-lane : goal.invariant-loop-lane
+invariant-loop-lane g l = Adds g.K.Sink.held g.K.Sink.faults l.fn.sink l.sink l.fn.text l.text (flat_map label_shown (take l.lane-index l.lanes))

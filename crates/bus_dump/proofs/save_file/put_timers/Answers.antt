@@ -1,0 +1,6 @@
+use Rattle.bus_outer.specs.TextLaws.{◌▸◌}
+use Rattle.bus_dump.proofs.save_file.put_timers.Goals as goal
+
+pub returns : goal.returns
+returns g c =
+    c.put.ensures ▸ c.put_shown.ensures ▸ c.put_shown-2.ensures ▸ c.put_shown-3.ensures ▸ c.put-2.ensures ▸ c.put_shown-4.ensures

@@ -1,0 +1,180 @@
+// The text of a save file.
+ghost use Rattle.std.specs.Prelude.{◌≡◌, ◌==◌, [], drop, if◌then◌else◌};
+ghost use Rattle.std.specs.List.{find, flat_map};
+ghost use Rattle.std.specs.Option.{option_copied, option_map_or};
+ghost use Rattle.bus_outer.specs.Sinks.{WritesText};
+ghost use Rattle.bus_outer.specs.Texts.{Adds};
+ghost use Rattle.bus_table.specs.Tables.{Sender as AnySender};
+ghost use Rattle.bus_dump.specs.DumpTexts.{bits_text};
+ghost use Rattle.bus_dump.specs.SaveFiles as texts;
+
+use crate::declaration::{bits_of, put_name};
+use crate::lane::Lane;
+use crate::lanes::lanes_of;
+use crate::signal::Signal;
+use bus_outer::{Sink, TextBuffer, WriteFault};
+use bus_table::mode::Mode;
+use bus_table::sender::Sender;
+use bus_table::table::Table;
+use bus_trace::Trace;
+
+// Which bits a signal has, where they are several, with no space before them.
+fn put_bits<K: Sink>(text: &mut TextBuffer, sink: &mut K, signal: Signal)
+    ensures { Adds K.held K.faults sink.old sink.new text.old text.new (drop 1 (bits_text signal)) }
+{
+    if let Some((_, bits)) = bits_of(signal).split_first() {
+        text.put(sink, bits);
+    }
+}
+
+// A signal is shown.
+fn put_shown<K: Sink>(text: &mut TextBuffer, sink: &mut K, signal: Signal)
+    ensures { Adds K.held K.faults sink.old sink.new text.old text.new (texts.shown signal) }
+{
+    text.put(sink, b"bus.");
+    put_name(text, sink, signal);
+    put_bits(text, sink, signal);
+    text.put_byte(sink, b'\n');
+}
+
+// The signals of the bus.
+fn put_bus<K: Sink>(text: &mut TextBuffer, sink: &mut K)
+    ensures { Adds K.held K.faults sink.old sink.new text.old text.new texts.bus_shown }
+{
+    text.put(sink, b"@200\n-bus\n@28\n");
+    put_shown(text, sink, Signal::Carrier);
+    text.put(sink, b"[color] 2\n");
+    put_shown(text, sink, Signal::Overlap);
+    put_shown(text, sink, Signal::Sync);
+    text.put(sink, b"@22\n");
+    put_shown(text, sink, Signal::Word);
+}
+
+// The labels of a lane.
+fn put_label<K: Sink>(text: &mut TextBuffer, sink: &mut K, lane: Lane)
+    ensures { Adds K.held K.faults sink.old sink.new text.old text.new (texts.label_shown lane) }
+{
+    put_shown(text, sink, Signal::Label(lane.terminal));
+}
+
+// The labels of each lane.
+fn put_labels<K: Sink>(text: &mut TextBuffer, sink: &mut K, lanes: &[Lane])
+    ensures { Adds K.held K.faults sink.old sink.new text.old text.new (flat_map texts.label_shown lanes.now) }
+{
+    for lane in lanes {
+        put_label(text, sink, *lane);
+    }
+}
+
+// The timers of a sender, of its own in this mode.
+fn put_timing<K: Sink>(text: &mut TextBuffer, sink: &mut K, mode: Mode, sender: &Sender)
+    ensures { Adds K.held K.faults sink.old sink.new text.old text.new (texts.timing_text mode sender.now) }
+{
+    text.put(sink, b" TG ");
+    text.put_number(sink, sender.tg());
+    if matches!(mode, Mode::Periodic) {
+        text.put(sink, b" AT ");
+        text.put_number(sink, sender.at());
+    }
+}
+
+// The sender with this number.
+fn sender_of(senders: &[Sender], number: u8) -> Option<&Sender>
+    ensures { option_copied result ≡ find (λ (s : AnySender). s.number == number) senders.now }
+{
+    senders.iter().find(|sender| sender.number() == number)
+}
+
+// The timers of a terminal, where it is a sender of the table.
+fn put_timing_of<K: Sink>(text: &mut TextBuffer, sink: &mut K, table: &Table, terminal: u8)
+    ensures { Adds K.held K.faults sink.old sink.new text.old text.new
+        (option_map_or (texts.timing_text table.now.mode) (find (λ (s : AnySender). s.number == terminal) table.now.senders) []) }
+{
+    if let Some(sender) = sender_of(table.senders(), terminal) {
+        put_timing(text, sink, table.mode(), sender);
+    }
+}
+
+// The name of a lane.
+fn put_title<K: Sink>(text: &mut TextBuffer, sink: &mut K, table: &Table, terminal: u8)
+    ensures { Adds K.held K.faults sink.old sink.new text.old text.new (texts.lane_title table.now terminal) }
+{
+    text.put_byte(sink, b'T');
+    text.put_number(sink, terminal);
+    put_timing_of(text, sink, table, terminal);
+}
+
+// The signals of a terminal's transmissions, but for its labels.
+fn put_messages<K: Sink>(text: &mut TextBuffer, sink: &mut K, terminal: u8)
+    ensures { Adds K.held K.faults sink.old sink.new text.old text.new (texts.messages_shown terminal) }
+{
+    text.put(sink, b"@28\n");
+    put_shown(text, sink, Signal::Pulse(terminal));
+    text.put(sink, b"[color] 2\n");
+    put_shown(text, sink, Signal::Garbled(terminal));
+    text.put(sink, b"@24\n");
+    put_shown(text, sink, Signal::Message(terminal));
+}
+
+// The signals of the timers of a sender.
+fn put_timers<K: Sink>(text: &mut TextBuffer, sink: &mut K, terminal: u8)
+    ensures { Adds K.held K.faults sink.old sink.new text.old text.new (texts.timers_shown terminal) }
+{
+    text.put(sink, b"@28\n");
+    put_shown(text, sink, Signal::Interval(terminal));
+    put_shown(text, sink, Signal::Synchronization(terminal));
+    put_shown(text, sink, Signal::Gap(terminal));
+    text.put(sink, b"[color] 2\n");
+    put_shown(text, sink, Signal::May(terminal));
+}
+
+// The signals of the timers of a lane, where it is of a sender.
+fn put_timers_of<K: Sink>(text: &mut TextBuffer, sink: &mut K, lane: Lane)
+    ensures { Adds K.held K.faults sink.old sink.new text.old text.new
+        (if lane.sender then texts.timers_shown lane.terminal else []) }
+{
+    if lane.sender {
+        put_timers(text, sink, lane.terminal);
+    }
+}
+
+// The signals of a lane.
+fn put_lane<K: Sink>(text: &mut TextBuffer, sink: &mut K, table: &Table, lane: Lane)
+    ensures { Adds K.held K.faults sink.old sink.new text.old text.new (texts.lane_shown table.now lane) }
+{
+    text.put(sink, b"@200\n-");
+    put_title(text, sink, table, lane.terminal);
+    text.put_byte(sink, b'\n');
+    put_messages(text, sink, lane.terminal);
+    put_timers_of(text, sink, lane);
+}
+
+// The signals of each lane.
+fn put_lanes<K: Sink>(text: &mut TextBuffer, sink: &mut K, table: &Table, lanes: &[Lane])
+    ensures { Adds K.held K.faults sink.old sink.new text.old text.new (flat_map (texts.lane_shown table.now) lanes.now) }
+{
+    for lane in lanes {
+        put_lane(text, sink, table, *lane);
+    }
+}
+
+/// Writes the save file of GTKWave that shows each signal of the dumps of a trace on a table: the bus, the labels of all lanes, then each
+/// lane, with what is garbled and where a sender may start in a colour of its own. The viewer leaves out those that a dump doesn't have.
+/// It takes no memory.
+///
+/// At `WriteFault` the sink has taken a front of the text, and its count of faults rose.
+pub fn write_save_file<K: Sink>(
+    table: &Table,
+    trace: &Trace,
+    sink: &mut K,
+) -> Result<(), WriteFault>
+    ensures { WritesText K.held K.faults sink.old sink.new result (texts.save_text table.now trace.now.list) }
+{
+    let lanes = lanes_of(table, trace.list());
+    let mut text = TextBuffer::new();
+    put_bus(&mut text, sink);
+    text.put(sink, b"@200\n-labels\n@22\n");
+    put_labels(&mut text, sink, lanes.as_slice());
+    put_lanes(&mut text, sink, table, lanes.as_slice());
+    text.finish(sink)
+}

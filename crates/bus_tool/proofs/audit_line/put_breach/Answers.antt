@@ -1,5 +1,0 @@
-use Rattle.bus_outer.specs.TextLaws.{adds_then}
-use Rattle.bus_tool.proofs.audit_line.put_breach.Goals as goal
-
-pub returns : goal.returns
-returns g c = search adds_then depth 40

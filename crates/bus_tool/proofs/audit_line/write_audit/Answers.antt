@@ -1,5 +1,0 @@
-use Rattle.bus_outer.specs.TextLaws.{ends_text}
-use Rattle.bus_tool.proofs.audit_line.write_audit.Goals as goal
-
-pub returns : goal.returns
-returns g c = search ends_text depth 40
