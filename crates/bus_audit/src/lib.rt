@@ -8,9 +8,9 @@
 //! It keeps three numbers of each sender, and goes from entry to entry and over whole intervals between changes of the
 //! carrier: its time goes with the entries times the senders, its memory with the senders, and neither with the horizon.
 //!
-//! `specs/Breaches.antt` says what is wrong at a pair and what the answer is, `specs/Meaning.antt` what it means that a
-//! trace has no breach, which [`laws`] tells. `specs/Watches.antt` has the numbers that are kept of a sender, and
-//! `specs/Standing.antt` what they stand for.
+//! `specs/Breaches.antt` says what is wrong at a pair and what the answer is, `specs/Lines.antt` how it is told, and
+//! `specs/Meaning.antt` what it means that a trace has no breach, which [`laws`] tells. `specs/Watches.antt` has the numbers that
+//! are kept of a sender, and `specs/Standing.antt` what they stand for.
 #![tactic(auto)]
 
 pub mod answer;
@@ -20,6 +20,7 @@ mod clock;
 mod entry;
 mod finding;
 pub mod laws;
+mod line;
 mod settle;
 #[cfg(test)]
 mod tests;
@@ -28,3 +29,4 @@ mod watch;
 
 pub use answer::{AuditAnswer, BreachKind};
 pub use auditing::audit;
+pub use line::{put_answer, write_answer};

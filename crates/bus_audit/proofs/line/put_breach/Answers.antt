@@ -1,0 +1,5 @@
+use Rattle.bus_outer.specs.TextLaws.{adds_then}
+use Rattle.bus_audit.proofs.line.put_breach.Goals as goal
+
+pub returns : goal.returns
+returns g c = search adds_then depth 40

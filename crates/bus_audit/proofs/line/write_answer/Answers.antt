@@ -1,0 +1,5 @@
+use Rattle.bus_outer.specs.TextLaws.{adds_then, ends_text}
+use Rattle.bus_audit.proofs.line.write_answer.Goals as goal
+
+pub returns : goal.returns
+returns g c = search (adds_then, ends_text) depth 40
