@@ -147,7 +147,7 @@ filter_later p a (suc n) =
       | false ↦ e
     ]
 
-filter_places : (p : Entry → Bool) (list : List Entry)
+pub filter_places : (p : Entry → Bool) (list : List Entry)
     → length (filter (λ k. option_map_or p (slice_get list k) false) (range_with_len 0 (length list))) ≡ length (filter p list)
 filter_places p [] = refl
 filter_places p (x ∷ list) =

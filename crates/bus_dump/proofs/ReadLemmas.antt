@@ -29,7 +29,7 @@ goes_on : (b : ℕ) (bs : List ℕ) (line : List ℕ) (lines : List (List ℕ)) 
     → physical_lines (b ∷ bs) ≡ (b ∷ line) ∷ lines
 goes_on b bs line lines h e = ap (λ t. cond t ([] ∷ physical_lines bs) (onto_first b (physical_lines bs))) h ∙ ap (onto_first b) e
 
-line_first : (line rest : List ℕ) → Feedless line → physical_lines (line ++ 10 ∷ rest) ≡ line ∷ physical_lines rest
+pub line_first : (line rest : List ℕ) → Feedless line → physical_lines (line ++ 10 ∷ rest) ≡ line ∷ physical_lines rest
 line_first [] rest h = refl
 line_first (b ∷ line) rest h = goes_on b (line ++ 10 ∷ rest) line (physical_lines rest) h.0 (line_first line rest h.1)
 
@@ -197,7 +197,7 @@ vector_read digits id v a b is =
     ∙ ap (λ l. digits ∷ l) (slice_split_none (λ x. eqb x 32) id (All-from_recursion _ id b)))
     ∙ ap (gives id) is
 
-value_line_of : (v : Value) (id : List ℕ) → NotOf 32 id → line_of (value_text v ++ id) ≡ gives id v
+pub value_line_of : (v : Value) (id : List ℕ) → NotOf 32 id → line_of (value_text v ++ id) ≡ gives id v
 value_line_of (Bit true) id h = refl
 value_line_of (Bit false) id h = refl
 value_line_of (Number n) id h =
@@ -206,7 +206,7 @@ value_line_of (Number n) id h =
 value_line_of Floating id h = vector_read (122 ∷ []) id Floating (refl, tt) h refl
 value_line_of Unknown id h = vector_read (120 ∷ []) id Unknown (refl, tt) h refl
 
-value_feedless : (v : Value) → Feedless (value_text v)
+pub value_feedless : (v : Value) → Feedless (value_text v)
 value_feedless (Bit true) = (refl, tt)
 value_feedless (Bit false) = (refl, tt)
 value_feedless (Number n) = feedless_join (98 ∷ binary n) (32 ∷ []) (refl, binary_not 10 n (omega arith)) (refl, tt)

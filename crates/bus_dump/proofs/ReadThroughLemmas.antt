@@ -178,19 +178,24 @@ bits_feedless (Synchronization n) = refl
 bits_feedless (Gap n) = refl
 bits_feedless (May n) = refl
 
-declaration_skipped : (id : List ℕ) (at : ℕ) (p : Place) (s : Signal) → IsSmall s → Moves id at p (declaration s) p
-declaration_skipped id at p s h =
+pub declaration_feedless : (s : Signal) → IsSmall s
+    → Feedless (codes "$var wire " ++ width_text s ++ id_text s ++ codes " " ++ name_text s ++ bits_text s ++ codes " $end")
+declaration_feedless s h =
     let a : List ℕ = codes "$var wire " ++ width_text s in
     let b : List ℕ = a ++ id_text s in
     let c : List ℕ = b ++ codes " " ++ name_text s in
     let d : List ℕ = c ++ bits_text s in
-    let line : List ℕ = d ++ codes " $end" in
     let fa : Feedless a = feedless_join (codes "$var wire ") (width_text s) (feedless_test (codes "$var wire ") refl) (feedless_test (width_text s) (width_feedless s)) in
     let fb : Feedless b = feedless_join a (id_text s) fa (good_id s h).feedless in
     let fc : Feedless c = feedless_join (b ++ codes " ") (name_text s) (feedless_join b (codes " ") fb (refl, tt)) (name_feedless s h) in
     let fd : Feedless d = feedless_join c (bits_text s) fc (feedless_test (bits_text s) (bits_feedless s)) in
+    feedless_join d (codes " $end") fd (feedless_test (codes " $end") refl)
+
+declaration_skipped : (id : List ℕ) (at : ℕ) (p : Place) (s : Signal) → IsSmall s → Moves id at p (declaration s) p
+declaration_skipped id at p s h =
+    let d : List ℕ = codes "$var wire " ++ width_text s ++ id_text s ++ codes " " ++ name_text s ++ bits_text s in
     subst (λ x. Moves id at p x p) (append_assoc d (codes " $end") (10 ∷ []))
-    (skips id at p line (feedless_join d (codes " $end") fd (feedless_test (codes " $end") refl)) refl)
+    (skips id at p (d ++ codes " $end") (declaration_feedless s h) refl)
 
 declarations_skipped : (id : List ℕ) (at : ℕ) (p : Place) (ss : List Signal) → AllByRecursion IsSmall ss → Moves id at p (flat_map declaration ss) p
 declarations_skipped id at p [] small = stays_at id at p

@@ -59,7 +59,7 @@ senders_small table (s ∷ all) from facts =
     fact (x ∷ xs) (inl same) f = rw same f.0
     fact (x ∷ xs) (inr i) f = fact xs i f.1
 
-signals_small : (dump : Dump) (table : Table) (list : List Entry) → IsTrue (is_valid table) → AllByRecursion IsSmall (signals dump (lanes table list))
+pub signals_small : (dump : Dump) (table : Table) (list : List Entry) → IsTrue (is_valid table) → AllByRecursion IsSmall (signals dump (lanes table list))
 signals_small dump table list valid =
     let facts = valid_facts table valid in
     let strangers = map stranger_lane (filter (is_stranger table list) (range_with_len 1 128)) in

@@ -6,7 +6,8 @@ use Rattle.bus_table.specs.Tables.{Table}
 use Rattle.bus_trace.specs.Traces.{Recording}
 use Rattle.bus_dump.specs.declared.dump.Dump.{Dump}
 use Rattle.bus_dump.specs.Scenes.{Scene, scene_at}
-use Rattle.bus_dump.specs.Signals.{Signal, Carrier, Overlap, Sync, Word, Pulse, Garbled, Label, Message, Interval, Synchronization, Gap, May}
+use Rattle.bus_dump.specs.Signals.{Signal, Carrier, Overlap, Sync, Word, Pulse, Garbled, Label, Message}
+use Rattle.bus_dump.specs.Signals.{Interval, Synchronization, Gap, May}
 use Rattle.bus_dump.specs.Signals.{Value, Bit, Number, Floating, Unknown, value, is_same, signals}
 use Rattle.bus_dump.specs.Lanes.{lanes}
 

@@ -1,17 +1,20 @@
 -- What follows of the definitions. The contracts of `laws` say that each of these holds.
-use Rattle.std.specs.Prelude.{◌≡◌, ◌≢◌, ◌⊎◌, ℕ, ◌-◌, ◌*◌, ◌<◌, true, false, ◌&&◌, ◌==◌, nat_lt, List, [], ◌++◌, length, slice_get, Some, None, IsTrue}
+use Rattle.std.specs.Prelude.{◌≡◌, ◌≢◌, ◌↔◌, ◌⊎◌, ℕ, ◌-◌, ◌*◌, ◌<◌, true, false, ◌&&◌, ◌==◌, nat_lt, List, [], ◌++◌, length}
+use Rattle.std.specs.Prelude.{slice_get, Some, None, IsTrue}
 use Rattle.std.specs.List.{AllByRecursion, count_by, filter, flat_map, list_any, range_with_len}
 use Rattle.std.specs.Option.{option_map_or}
 use Rattle.bus_text.specs.Lines.{is_feed}
 use Rattle.bus_strings.specs.Members.{In}
 use Rattle.bus_strings.specs.Messages.{Entry}
-use Rattle.bus_strings.specs.Transmissions.{carrier, garbled, pulses}
+use Rattle.bus_strings.specs.Transmissions.{IsOrdered, carrier, garbled, overlaps, pulses}
 use Rattle.bus_table.specs.Hands.{are_hands}
 use Rattle.bus_table.specs.Tables.{Hand, Sender, Table}
 use Rattle.bus_table.specs.Valid.{is_valid}
 use Rattle.bus_timers.specs.MayStartTest.{may_start}
+use Rattle.bus_regime.specs.Lines.{verdict_words}
+use Rattle.bus_regime.specs.Verdicts.{verdict_of}
 use Rattle.bus_trace.specs.Traces.{Recording, IsTrace}
-use Rattle.bus_medium.specs.Lawful.{IsLawful}
+use Rattle.bus_medium.specs.Lawful.{HasEntry, IsLawful, Station}
 use Rattle.bus_medium.specs.Past.{last_place, own, past}
 use Rattle.bus_medium.specs.Timings.{quiet_of, stations_of, timing_of}
 use Rattle.bus_dump.specs.declared.dump.Dump.{Dump}
@@ -22,14 +25,35 @@ use Rattle.bus_dump.specs.Lanes.{lanes}
 use Rattle.bus_dump.specs.Reading.{read}
 use Rattle.bus_dump.specs.Scenes.{Scene, elapsed_at, scene_at}
 use Rattle.bus_dump.specs.Seen.{holds}
-use Rattle.bus_dump.specs.Signals.{Signal, Carrier, Overlap, Pulse, Garbled, Interval, Synchronization, Gap, May, Bit, signals, value}
+use Rattle.bus_dump.specs.Signals.{Signal, Carrier, Overlap, Word, Pulse, Garbled, Interval, Synchronization, Gap, May, signals}
+use Rattle.bus_dump.specs.Signals.{Bit, Floating, Unknown, value}
+use Rattle.bus_dump.specs.Stamps.{StampsAre, stamped}
+
+-- A text without a line feed.
+abbrev pub HoldsNoFeed : List ℕ → Type 0
+HoldsNoFeed text = AllByRecursion (λ b. is_feed b ≡ false) text
 
 -- A reader of Value Change Dumps finds in a dump, at each bit time below the horizon, the value of each of its signals there.
 abbrev pub DumpsAreRead : Type 0
 DumpsAreRead =
     (dump : Dump) (comment : List ℕ) (table : Table) (trace : Recording) (t : ℕ) (signal : Signal) → IsTrue (is_valid table) → IsTrace trace
-    → AllByRecursion (λ b. is_feed b ≡ false) comment → t < trace.horizon → In signal (signals dump (lanes table trace.list))
+    → HoldsNoFeed comment → t < trace.horizon → In signal (signals dump (lanes table trace.list))
     → read (id_text signal) (units * t) (dump_text dump comment table trace) ≡ Some (value signal (scene_at dump table trace.list t))
+
+-- So it is of the dumps that are written of traces on a table, whose comment is the words of its verdict.
+abbrev pub WrittenDumpsAreRead : Table → Type 0
+WrittenDumpsAreRead table =
+    (dump : Dump) (trace : Recording) (t : ℕ) (signal : Signal) → IsTrue (is_valid table) → IsTrace trace
+    → t < trace.horizon → In signal (signals dump (lanes table trace.list))
+    → read (id_text signal) (units * t) (dump_text dump (verdict_words (verdict_of table)) table trace)
+    ≡ Some (value signal (scene_at dump table trace.list t))
+
+-- The stamps of a dump are those of 0, of each bit time at which something changes, and of the horizon, and rise strictly.
+abbrev pub StampsAreTold : Type 0
+StampsAreTold =
+    (dump : Dump) (comment : List ℕ) (table : Table) (trace : Recording) → IsTrue (is_valid table) → IsTrace trace → HoldsNoFeed comment
+    → StampsAre (stamped (signals dump (lanes table trace.list)) (scene_at dump table trace.list) trace.horizon) trace.horizon
+    (dump_text dump comment table trace)
 
 -- The carrier is that of the list.
 abbrev pub CarrierIsTold : Type 0
@@ -56,6 +80,33 @@ GarbledAreTold =
     ≡ Bit (list_any (λ k. option_map_or (λ x. holds t x && x.terminal == n && garbled list k) (slice_get list k) false)
     (range_with_len 0 (length list)))
 
+-- Nothing is on the bus exactly where no transmission has a pulse, and what is there can't be told exactly where two or more have one.
+pub record WordAgrees (dump : Dump) (table : Table) (list : List Entry) (t : ℕ) : Type 0 where
+  pub floating : (value Word (scene_at dump table list t) ≡ Floating) ↔ (count_by (pulses t) list ≡ 0)
+  pub unknown : (value Word (scene_at dump table list t) ≡ Unknown) ↔ (1 < count_by (pulses t) list)
+
+abbrev pub WordIsTold : Type 0
+WordIsTold = (dump : Dump) (table : Table) (list : List Entry) (t : ℕ) → WordAgrees dump table list t
+
+-- There is an overlap at some bit time exactly where some terminal is garbled at some bit time.
+abbrev pub OverlapsGarble : Type 0
+OverlapsGarble =
+    (dump : Dump) (table : Table) (list : List Entry) → AllByRecursion (λ x. 0 < length x.message) list
+    → ((t : ℕ) × (value Overlap (scene_at dump table list t) ≡ Bit true))
+    ↔ ((t : ℕ) × (n : ℕ) × (value (Garbled n) (scene_at dump table list t) ≡ Bit true))
+
+-- A dump shows no overlap at a bit time: there is none, no terminal is garbled, and what is on the bus can be told.
+pub record ShowsNoOverlap (dump : Dump) (table : Table) (list : List Entry) (t : ℕ) : Type 0 where
+  pub overlap : value Overlap (scene_at dump table list t) ≡ Bit false
+  pub garbled : (n : ℕ) → value (Garbled n) (scene_at dump table list t) ≡ Bit false
+  pub word : value Word (scene_at dump table list t) ≢ Unknown
+
+-- Of a list in which no two transmissions overlap, as the run of an accepted table, a dump shows none.
+abbrev pub ClearListsShowNone : Type 0
+ClearListsShowNone =
+    (dump : Dump) (table : Table) (list : List Entry) (t : ℕ) → IsOrdered (λ x y. overlaps x y ≡ false) list
+    → ShowsNoOverlap dump table list t
+
 -- A sender may start where its timers allow it, after the past of the list.
 abbrev pub StartsAreTold : Type 0
 StartsAreTold =
@@ -78,6 +129,15 @@ abbrev pub TimersAreTold : Type 0
 TimersAreTold =
     (table : Table) (list : List Entry) (t : ℕ) (sender : Sender) → IsTrue (is_valid table) → In sender table.senders
     → TimersAgree table list t sender
+
+-- Of what the senders of a table send by their timers, a sender starts exactly where the wire says that it may and it has a message left.
+abbrev pub StartsAreSeen : Type 0
+StartsAreSeen =
+    (table : Table) (hands : List Hand) (horizon : ℕ) (list : List Entry) (t : ℕ) (station : Station) → IsTrue (is_valid table)
+    → IsTrue (are_hands table.senders hands) → IsLawful (quiet_of table) (stations_of table hands) horizon list → t < horizon
+    → In station (stations_of table hands)
+    → HasEntry list station.number t
+    ↔ ((value (May station.number) (scene_at Timers table list t) ≡ Bit true) × (length (own list station.number t) < length station.hand))
 
 -- What the senders of a table send by their timers is never doubled, whatever hands they have.
 abbrev pub LawfulIsSingle : Type 0

@@ -1,11 +1,13 @@
 -- The signals of a dump by lanes.
-use Rattle.std.specs.Prelude.{◌≡◌, ℕ, false, List, ◌++◌}
+use Rattle.std.specs.Prelude.{◌≡◌, ℕ, ◌≤◌, Bool, false, List, ◌++◌, slice_index_or}
 use Rattle.std.specs.List.{flat_map, list_any}
+use Rattle.bus_strings.specs.Limits.{most_terminal}
 use Rattle.bus_strings.specs.Messages.{Entry}
 use Rattle.bus_table.specs.Tables.{Table}
 use Rattle.bus_dump.specs.declared.dump.Dump.{Dump}
 use Rattle.bus_dump.specs.declared.lane.Lane.{Lane}
 use Rattle.bus_dump.specs.declared.layout.Layout.{Layout}
+use Rattle.bus_dump.specs.Lanes.{sends}
 use Rattle.bus_dump.specs.Scenes.{Scene, scene_at}
 use Rattle.bus_dump.specs.Signals.{Signal, elapsed, is_of, lane_signals, signals}
 use Rattle.bus_dump.specs.DumpTexts.{changes_to, declaration, first_values, value_line}
@@ -30,6 +32,10 @@ abbrev pub bit_times_put : Table → List Entry → ℕ → Layout → List ℕ
 bit_times_put table list horizon layout =
     first_values (signals_of layout) (scene_at layout.dump table list 0)
     ++ changes_to (signals_of layout) (scene_at layout.dump table list) horizon
+
+-- For each terminal is kept whether it sends in the list.
+abbrev pub AreSending : List Entry → List Bool → Type 0
+AreSending list sending = (n : ℕ) → n ≤ most_terminal → slice_index_or sending n false ≡ sends list n
 
 -- Nothing is seen of a terminal in either scene, and its timers tell the same.
 pub record IsStill (before now : Scene) (terminal : ℕ) : Type 0 where

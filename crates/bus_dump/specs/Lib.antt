@@ -12,4 +12,5 @@ pub mod Walks
 pub mod Watching
 pub mod Layouts
 pub mod Reading
+pub mod Stamps
 pub mod Laws

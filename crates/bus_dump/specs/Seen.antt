@@ -1,5 +1,6 @@
 -- What is seen of a list of transmissions at a bit time, of each whose span holds it.
-use Rattle.std.specs.Prelude.{ℕ, ◌+◌, ◌-◌, Bool, ◌&&◌, ◌==◌, nat_lt, nat_le, List, length, take, slice_get, Option, Some, None, if◌then◌else◌}
+use Rattle.std.specs.Prelude.{ℕ, ◌+◌, ◌-◌, Bool, ◌&&◌, ◌==◌, nat_lt, nat_le, List, length, take, slice_get}
+use Rattle.std.specs.Prelude.{Option, Some, None, if◌then◌else◌}
 use Rattle.std.specs.List.{count_by, filter_map, range_with_len}
 use Rattle.std.specs.Option.{option_and_then}
 use Rattle.bus_strings.specs.Messages.{Entry}

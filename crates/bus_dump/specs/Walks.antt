@@ -1,5 +1,6 @@
 -- How a writer walks over a list: what it keeps, and what that stands for.
-use Rattle.std.specs.Prelude.{◌≡◌, ℕ, ◌+◌, ◌-◌, ◌≤◌, ◌<◌, ◌%◌, Bool, nat_lt, List, [], length, take, drop, slice_get, slice_index_or, Option, Some, None, if◌then◌else◌}
+use Rattle.std.specs.Prelude.{◌≡◌, ℕ, ◌+◌, ◌-◌, ◌≤◌, ◌<◌, ◌%◌, Bool, nat_lt, List, [], length, take, drop, slice_get, slice_index_or}
+use Rattle.std.specs.Prelude.{Option, Some, None, if◌then◌else◌}
 use Rattle.std.specs.List.{AllByRecursion, count_by, filter_map, range_with_len}
 use Rattle.std.specs.Option.{option_and_then}
 use Rattle.bus_strings.specs.Limits.{word_bits, most_terminal}

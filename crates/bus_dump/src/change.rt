@@ -1,5 +1,5 @@
 // The lines of the values of signals, and of what changes.
-ghost use Rattle.std.specs.Prelude.{◌≡◌, ◌*◌, ◌<◌, ◌^◌};
+ghost use Rattle.std.specs.Prelude.{◌≡◌, ◌*◌, ◌<◌, ◌^◌, ◌++◌, codes};
 ghost use Rattle.std.specs.List.{flat_map, list_any};
 ghost use Rattle.bus_outer.specs.Texts.{Adds};
 ghost use Rattle.bus_dump.specs.DumpTexts as texts;
@@ -39,11 +39,11 @@ fn put_value<K: Sink>(text: &mut TextBuffer, sink: &mut K, value: Value)
     }
 }
 
-// The line of the value that a signal has in a scene.
-fn put_line<K: Sink>(text: &mut TextBuffer, sink: &mut K, scene: &Scene, signal: Signal)
-    ensures { Adds K.held K.faults sink.old sink.new text.old text.new (texts.value_line (scene_of scene.now) signal) }
+// The line of a value of a signal.
+fn put_line<K: Sink>(text: &mut TextBuffer, sink: &mut K, value: Value, signal: Signal)
+    ensures { Adds K.held K.faults sink.old sink.new text.old text.new (texts.value_text value ++ texts.id_text signal ++ codes "\n") }
 {
-    put_value(text, sink, value_of(signal, scene));
+    put_value(text, sink, value);
     put_id(text, sink, signal);
     text.put_byte(sink, b'\n');
 }
@@ -58,7 +58,7 @@ pub(crate) fn put_lines<K: Sink>(
     ensures { Adds K.held K.faults sink.old sink.new text.old text.new (flat_map (texts.value_line (scene_of scene.now)) signals.now) }
 {
     for signal in signals {
-        put_line(text, sink, scene, *signal);
+        put_line(text, sink, value_of(*signal, scene), *signal);
     }
 }
 
@@ -79,8 +79,9 @@ fn put_change<K: Sink>(
 )
     ensures { Adds K.held K.faults sink.old sink.new text.old text.new (change_put (scene_of before.now) (scene_of now.now) signal) }
 {
-    if is_changed(before, now, signal) {
-        put_line(text, sink, now, signal);
+    let value = value_of(signal, now);
+    if !value_of(signal, before).is_same(value) {
+        put_line(text, sink, value, signal);
     }
 }
 

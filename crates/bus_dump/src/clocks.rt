@@ -62,26 +62,23 @@ fn begins(t: u64, live: &[Live], terminal: u8) -> bool
         .any(|one| one.moment == t && one.terminal == terminal)
 }
 
-/// The clocks at a later place, where these transmissions are live at bit time t, their present place.
+/// Passes the clocks on to a later place, where these transmissions are live at bit time t, their present place.
 pub(crate) fn pass_all(
-    clocks: &[Clock],
+    clocks: &mut [Clock],
     live: &[Live],
     t: u64,
     from: u64,
     to: u64,
     carrier: bool,
-    passed: &mut ArrayVec<Clock, SENDERS>,
 )
-    requires low { AllByRecursion IsLow clocks.now }
-    requires few { length clocks.now ≤ SENDERS }
+    requires low { AllByRecursion IsLow clocks.old }
     requires later { from < to }
     requires place { to < 2 ^ 42 }
-    ensures { passed.new.items ≡ map (definition.clock_passed t live.now from to carrier) clocks.now }
+    ensures { clocks.new ≡ map (definition.clock_passed t live.now from to carrier) clocks.old }
 {
-    passed.clear();
-    for clock in clocks {
+    for clock in clocks.iter_mut() {
         let starts = begins(t, live, clock.terminal);
-        passed.push(clock.passed(from, to, starts, carrier));
+        *clock = clock.passed(from, to, starts, carrier);
     }
 }
 

@@ -1,15 +1,19 @@
 // The lanes of a dump and their signals.
-ghost use Rattle.std.specs.Prelude.{◌≡◌, ◌≤◌, ◌<◌, ◌+◌, ◌++◌, [], ◌∷◌, IsTrue, length, map, filter};
+ghost use Rattle.std.specs.Prelude.{◌≡◌, ◌≤◌, ◌<◌, ◌+◌, ◌++◌, ◌&&◌, not, List, [], ◌∷◌, IsTrue, length, map, filter};
 ghost use Rattle.std.specs.List.{range_with_len};
 ghost use Rattle.arrayvec.specs.ArrayVec.{array_vec_len};
 ghost use Rattle.bus_strings.specs.Limits.{most_terminal};
+ghost use Rattle.bus_strings.specs.Messages.{Entry};
 ghost use Rattle.bus_table.specs.Valid.{is_valid};
 ghost use Rattle.bus_table.specs.Turns.{turn_order};
 ghost use Rattle.bus_dump.specs.Lanes as definition;
+ghost use Rattle.bus_dump.specs.Layouts.{AreSending};
 ghost use Rattle.bus_dump.specs.Signals.{bus_signals, lane_signals};
+ghost use Rattle.bus_dump.specs.Signals.{Label, Message, Interval, Synchronization, Gap, May};
 
 use crate::dump::Dump;
 use crate::lane::Lane;
+use crate::live::TERMINALS;
 use crate::signal::Signal;
 use arrayvec::ArrayVec;
 use bus_regime::turn;
@@ -35,18 +39,24 @@ fn is_sender(table: &Table, terminal: u8) -> bool
         .any(|sender| sender.number() == terminal)
 }
 
-// Whether a terminal sends in the list.
-fn sends(list: &[Transmission], terminal: u8) -> bool
-    ensures { result ≡ definition.sends list.now terminal }
+// Whether each terminal sends in the list.
+fn sending_of(list: &[Transmission]) -> [bool; TERMINALS]
+    ensures { AreSending list.now result }
 {
-    list.iter().any(|x| x.terminal == terminal)
+    let mut sending = [false; TERMINALS];
+    for k in 0..list.len() {
+        let x = &list[k];
+        let terminal = x.terminal as usize;
+        sending[terminal] = true;
+    }
+    sending
 }
 
-// Whether a terminal sends in the list without being a sender of the table.
-fn is_stranger(table: &Table, list: &[Transmission], terminal: u8) -> bool
-    ensures { result ≡ definition.is_stranger table.now list.now terminal }
+// Whether a terminal, which sends in the list or not, does so without being a sender of the table.
+fn is_stranger(table: &Table, sends: bool, terminal: u8) -> bool
+    ensures { result ≡ (not (definition.is_sender table.now terminal) && sends) }
 {
-    !is_sender(table, terminal) && sends(list, terminal)
+    !is_sender(table, terminal) && sends
 }
 
 /// How many senders the table has.
@@ -73,19 +83,14 @@ fn add_senders(lanes: &mut ArrayVec<Lane, MOST_LANES>, table: &Table)
     }
 }
 
-// Adds a terminal, where it is a stranger.
-fn add_stranger(
-    lanes: &mut ArrayVec<Lane, MOST_LANES>,
-    table: &Table,
-    list: &[Transmission],
-    terminal: u8,
-)
+// Adds a terminal, which sends in the list or not, where it is a stranger.
+fn add_stranger(lanes: &mut ArrayVec<Lane, MOST_LANES>, table: &Table, sends: bool, terminal: u8)
     requires { array_vec_len lanes.old < MOST_LANES }
-    ensures items { lanes.new.items
-        ≡ lanes.old.items ++ map definition.stranger_lane (filter (definition.is_stranger table.now list.now) (terminal ∷ [])) }
+    ensures items { (list : List Entry) → sends ≡ definition.sends list terminal → lanes.new.items
+        ≡ lanes.old.items ++ map definition.stranger_lane (filter (definition.is_stranger table.now list) (terminal ∷ [])) }
     ensures few { array_vec_len lanes.new ≤ array_vec_len lanes.old + 1 }
 {
-    if is_stranger(table, list, terminal) {
+    if is_stranger(table, sends, terminal) {
         lanes.push(Lane {
             terminal,
             sender: false,
@@ -100,8 +105,10 @@ fn add_strangers(lanes: &mut ArrayVec<Lane, MOST_LANES>, table: &Table, list: &[
         ≡ lanes.old.items
         ++ map definition.stranger_lane (filter (definition.is_stranger table.now list.now) (range_with_len 1 most_terminal)) }
 {
+    let sending = sending_of(list);
     for before in 0..MOST_TERMINAL {
-        add_stranger(lanes, table, list, before + 1);
+        let sends = sending[before as usize + 1];
+        add_stranger(lanes, table, sends, before + 1);
     }
 }
 
@@ -119,14 +126,35 @@ pub(crate) fn lanes_of(table: &Table, list: &[Transmission]) -> ArrayVec<Lane, M
 pub(crate) fn bus_signals(dump: Dump) -> ArrayVec<Signal, BUS_SIGNALS>
     ensures { result.items ≡ bus_signals dump }
 {
-    let mut signals = ArrayVec::from([
-        Signal::Carrier,
-        Signal::Overlap,
-        Signal::Sync,
-        Signal::Word,
-    ]);
-    signals.retain(|signal| dump.has(false, *signal));
+    let mut signals = ArrayVec::new();
+    signals.push(Signal::Carrier);
+    signals.push(Signal::Overlap);
+    signals.push(Signal::Sync);
+    if dump.has(false, Signal::Word) {
+        signals.push(Signal::Word);
+    }
     signals
+}
+
+// Adds the signals of a lane that have more than one bit.
+fn add_numbers(signals: &mut ArrayVec<Signal, LANE_SIGNALS>, terminal: u8)
+    requires { array_vec_len signals.old ≤ 2 }
+    ensures { signals.new.items ≡ signals.old.items ++ Label terminal ∷ (Message terminal ∷ []) }
+{
+    signals.push(Signal::Label(terminal));
+    signals.push(Signal::Message(terminal));
+}
+
+// Adds those of its timers.
+fn add_timers(signals: &mut ArrayVec<Signal, LANE_SIGNALS>, terminal: u8)
+    requires { array_vec_len signals.old ≤ 4 }
+    ensures { signals.new.items
+        ≡ signals.old.items ++ Interval terminal ∷ (Synchronization terminal ∷ (Gap terminal ∷ (May terminal ∷ []))) }
+{
+    signals.push(Signal::Interval(terminal));
+    signals.push(Signal::Synchronization(terminal));
+    signals.push(Signal::Gap(terminal));
+    signals.push(Signal::May(terminal));
 }
 
 /// The signals of a lane that a dump has.
@@ -134,16 +162,18 @@ pub(crate) fn lane_signals(dump: Dump, lane: Lane) -> ArrayVec<Signal, LANE_SIGN
     ensures { result.items ≡ lane_signals dump lane }
 {
     let terminal = lane.terminal;
-    let mut signals = ArrayVec::from([
-        Signal::Pulse(terminal),
-        Signal::Garbled(terminal),
-        Signal::Label(terminal),
-        Signal::Message(terminal),
-        Signal::Interval(terminal),
-        Signal::Synchronization(terminal),
-        Signal::Gap(terminal),
-        Signal::May(terminal),
-    ]);
-    signals.retain(|signal| dump.has(lane.sender, *signal));
+    let mut signals = ArrayVec::new();
+    signals.push(Signal::Pulse(terminal));
+    signals.push(Signal::Garbled(terminal));
+    match dump {
+        Dump::Wires => {}
+        Dump::Vcd => add_numbers(&mut signals, terminal),
+        Dump::Timers => {
+            add_numbers(&mut signals, terminal);
+            if lane.sender {
+                add_timers(&mut signals, terminal);
+            }
+        }
+    }
     signals
 }

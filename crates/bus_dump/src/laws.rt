@@ -1,12 +1,31 @@
 //! Laws of the definitions, each the contract of a function that does nothing.
-ghost use Rattle.bus_dump.specs.Laws.{CarrierIsTold, DumpsAreRead, GarbledAreTold, LawfulIsSingle, NothingIsIdle, OverlapsAreTold};
-ghost use Rattle.bus_dump.specs.Laws.{PulsesAreTold, StartsAreTold, TimersAreTold};
+ghost use Rattle.bus_dump.specs.Laws.{CarrierIsTold, ClearListsShowNone, DumpsAreRead, GarbledAreTold, LawfulIsSingle, NothingIsIdle};
+ghost use Rattle.bus_dump.specs.Laws.{OverlapsAreTold, OverlapsGarble, PulsesAreTold, StampsAreTold, StartsAreSeen, StartsAreTold, TimersAreTold};
+ghost use Rattle.bus_dump.specs.Laws.{WordIsTold, WrittenDumpsAreRead};
 ghost use Rattle.bus_dump.specs.SaveFiles.{AllAreShown};
+
+use crate::comment::holds_no_feed;
+use bus_regime::verdict;
+use bus_strings::laws::neighbours_tell;
+use bus_table::table::Table;
+use bus_timers::laws::test_decides;
 
 /// A reader of Value Change Dumps (`specs/Reading.antt`) finds in a dump, at each bit time below the horizon, exactly the value that each
 /// of its signals has there.
 pub fn dumps_are_read()
     ensures { DumpsAreRead }
+{}
+
+/// So it is of each dump that is written of a trace on this table: the words of a verdict, its comment, hold no line feed.
+pub fn written_dumps_are_read(table: &Table)
+    ensures { WrittenDumpsAreRead table.now }
+{
+    holds_no_feed(verdict(table));
+}
+
+/// The stamps of a dump rise strictly: 0, five times each bit time at which something changes, and last five times the horizon.
+pub fn stamps_are_told()
+    ensures { StampsAreTold }
 {}
 
 /// At each bit time behind the first either nothing is written, or its stamp and at least one value that isn't the one before.
@@ -22,11 +41,36 @@ pub fn wires_are_told()
     ensures garbled { GarbledAreTold }
 {}
 
+/// The word on the bus: nothing where no transmission has a pulse, and no one can tell where two or more have one.
+pub fn word_is_told()
+    ensures { WordIsTold }
+{}
+
+/// There is an overlap at some bit time exactly where some terminal is garbled at some bit time.
+pub fn overlaps_garble()
+    ensures { OverlapsGarble }
+{
+    neighbours_tell();
+}
+
+/// Of a list in which no two transmissions overlap a dump shows none: no overlap, no garbled terminal, and no word that can't be told.
+pub fn clear_lists_show_none()
+    ensures { ClearListsShowNone }
+{}
+
 /// The wires of the timers of a sender: what the definition of *may start* says after the past that the list makes.
 pub fn timers_are_told()
     ensures starts { StartsAreTold }
     ensures timers { TimersAreTold }
 {}
+
+/// Of what the senders of a table send by their timers, a sender starts at a bit time below the horizon exactly where the wire of its
+/// timers says that it may, and it has a message left.
+pub fn starts_are_seen()
+    ensures { StartsAreSeen }
+{
+    test_decides();
+}
 
 /// What the senders of a table send by their timers is never doubled, whatever hands they have: so each trace that is run or observed has
 /// a dump.

@@ -17,6 +17,7 @@ mod binary;
 mod change;
 mod clock;
 mod clocks;
+mod comment;
 mod declaration;
 mod doubling;
 mod dump;

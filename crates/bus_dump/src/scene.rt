@@ -1,7 +1,8 @@
 // What is there at a bit time.
-ghost use Rattle.std.specs.Prelude.{◌≡◌};
+ghost use Rattle.std.specs.Prelude.{◌≡◌, []};
 ghost use Rattle.std.specs.List.{list_any};
 ghost use Rattle.bus_dump.specs.Signals as signals;
+ghost use Rattle.bus_dump.specs.Watching.{scene_of};
 
 use crate::clock::Elapsed;
 use crate::live::TERMINALS;
@@ -21,13 +22,42 @@ pub(crate) struct Scene {
 }
 
 impl Scene {
-    /// Room for a scene.
-    pub fn new() -> Self {
+    /// Room for a scene, in which nothing is yet.
+    pub fn new() -> Self
+        ensures seen { result.seen.items ≡ [] }
+        ensures timers { result.timers.items ≡ [] }
+    {
         Scene {
             seen: ArrayVec::new(),
             timers: ArrayVec::new(),
         }
     }
+
+    /// Takes over what is there in another scene. Only that is copied: the room of both is much larger.
+    pub fn take_over(&mut self, other: &Scene)
+        ensures { scene_of self.new ≡ scene_of other.now }
+    {
+        copy_seen(&mut self.seen, &other.seen);
+        copy_timers(&mut self.timers, &other.timers);
+    }
+}
+
+// Takes over what is seen.
+fn copy_seen(to: &mut ArrayVec<Seen, TERMINALS>, from: &ArrayVec<Seen, TERMINALS>)
+    ensures { to.new.items ≡ from.now.items }
+{
+    to.clear();
+    let fits = to.try_extend_from_slice(from.as_slice()).is_ok();
+    prove!(fits);
+}
+
+// Takes over what the timers tell.
+fn copy_timers(to: &mut ArrayVec<Elapsed, SENDERS>, from: &ArrayVec<Elapsed, SENDERS>)
+    ensures { to.new.items ≡ from.now.items }
+{
+    to.clear();
+    let fits = to.try_extend_from_slice(from.as_slice()).is_ok();
+    prove!(fits);
 }
 
 /// Whether some transmission has a pulse.

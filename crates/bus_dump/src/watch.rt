@@ -29,8 +29,6 @@ pub(crate) struct Watch<'a> {
     pub quiet: u64,
     /// The clocks, in the order of the table.
     pub clocks: ArrayVec<Clock, SENDERS>,
-    /// Room for the next clocks.
-    pub spare: ArrayVec<Clock, SENDERS>,
 }
 
 impl<'a> Watch<'a> {
@@ -47,7 +45,6 @@ impl<'a> Watch<'a> {
             walk,
             quiet: u64::from(quiet(table)),
             clocks: settle(dump, table),
-            spare: ArrayVec::new(),
         }
     }
 
@@ -90,11 +87,9 @@ impl<'a> Watch<'a> {
             → Keeping table senders until self.new }
     {
         let carrier = has_carrier(scene.seen.as_slice());
-        let clocks = self.clocks.as_slice();
         let live = self.walk.live.as_slice();
         let (from, to) = (self.quiet + t, self.quiet + until);
-        pass_all(clocks, live, t, from, to, carrier, &mut self.spare);
-        std::mem::swap(&mut self.clocks, &mut self.spare);
+        pass_all(self.clocks.as_mut_slice(), live, t, from, to, carrier);
         self.walk.go_on(t, until);
     }
 }

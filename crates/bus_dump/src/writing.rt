@@ -52,7 +52,7 @@ fn put_bit_times<K: Sink>(
     let mut until = watch.look(t, limit, &mut now);
     put_first(text, sink, layout, &now);
     while until < horizon {
-        std::mem::swap(&mut before, &mut now);
+        before.take_over(&now);
         watch.go_on(&before, t, until);
         t = until;
         until = watch.look(t, limit, &mut now);
@@ -70,8 +70,9 @@ fn put_last<K: Sink>(text: &mut TextBuffer, sink: &mut K, horizon: u64)
     }
 }
 
-/// Writes the dump of a trace on a table, in which no entry is doubled ([`doubled`](crate::doubled)). It goes over the trace once, from
-/// change to change, and takes no memory. The words of the verdict stand in its head, as a comment.
+/// Writes the dump of a trace on a table, in which no entry is doubled ([`doubled`](crate::doubled)). It goes over the trace twice, once
+/// for the terminals that send in it and once from change to change, and takes no memory. The words of the verdict stand in its head, as
+/// a comment.
 ///
 /// At `WriteFault` the sink has taken a front of the text, and its count of faults rose.
 pub fn write_dump<K: Sink>(

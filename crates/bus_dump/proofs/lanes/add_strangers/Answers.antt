@@ -9,7 +9,8 @@ loop-before-preserved c =
     let i = c.loop-before.invariant in
     record {
       items = stranger_more stranger_lane (is_stranger c.args.table.now c.args.list.now) c.loop-before.before (c.loop-before.before + 1) c.args.lanes.now.items
-          c.loop-before.lanes.items c.add_stranger.new.lanes.items refl i.items c.add_stranger.ensures.items;
+          c.loop-before.lanes.items c.add_stranger.new.lanes.items refl i.items
+          (c.add_stranger.ensures.items c.args.list.now (c.sending_of-sending.ensures (c.loop-before.before + 1) (omega arith)));
       count = omega (arith, i.count, c.add_stranger.ensures.few);
     }
 

@@ -5,7 +5,7 @@ use Rattle.bus_strings.specs.Messages.{Entry}
 use Rattle.bus_table.specs.Tables.{Sender}
 use Rattle.bus_dump.specs.DumpTexts.{first_values}
 use Rattle.bus_dump.specs.Layouts.{signals_of}
-use Rattle.bus_dump.specs.Scenes.{elapsed_at, scene_at, timed}
+use Rattle.bus_dump.specs.Scenes.{Scene, elapsed_at, scene_at, timed}
 use Rattle.bus_dump.specs.Seen.{seen_at}
 use Rattle.bus_dump.specs.Watching.{StaysAs, scene_of}
 use Rattle.bus_dump.proofs.WriteLemmas.{first_is, last_put, next_put, scene_is, scene_stays}
@@ -48,7 +48,7 @@ loop-until-preserved g c =
     let own : List Entry = c.go_on.new.self.walk.list.now in
     let same : own ≡ c.args.list.now = c.go_on.ensures.list ∙ i.list in
     let keeping = c.go_on.ensures.keeping table senders i.keeping in
-    let was : scene_of c.swap.new.x ≡ scene_at dump table c.args.list.now c.loop-until.t = ap scene_of c.swap.ensures.x_after ∙ i.now in
+    let was : scene_of c.take_over.new.self ≡ scene_at dump table c.args.list.now c.loop-until.t = c.take_over.ensures ∙ i.now in
     let look = c.look-until-in-loop-until in
     let now : scene_of look.new.now ≡ scene_at dump table c.args.list.now c.loop-until.until =
     scene_is look.new.now.seen.items (seen_at own c.loop-until.until) look.new.now.timers.items (map (elapsed_at table own c.loop-until.until) senders)
@@ -68,9 +68,12 @@ loop-until-preserved g c =
       adds = subst (λ (t : List ℕ). Adds g.K.Sink.held g.K.Sink.faults c.args.sink.now c.put_changes.new.sink c.args.text.now c.put_changes.new.text t)
           (next_put (signals_of c.args.layout.now) (scene_at dump table c.args.list.now)
           (first_values (signals_of c.args.layout.now) (scene_at dump table c.args.list.now 0)) c.loop-until.t c.loop-until.until
-          (scene_of c.swap.new.x) (scene_of look.new.now) i.later i.stays was now)
+          (scene_of c.take_over.new.self) (scene_of look.new.now) i.later i.stays was now)
           (i.adds ▸ c.put_changes.ensures);
     }
+
+pub go_on-requires-clause-seen : goal.go_on-requires-clause-seen
+go_on-requires-clause-seen g c = ap (λ (s : Scene). s.seen) c.take_over.ensures ∙ c.loop-until.invariant.seen
 
 pub returns : goal.returns
 returns g c =

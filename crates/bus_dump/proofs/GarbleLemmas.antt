@@ -1,0 +1,231 @@
+-- There is an overlap somewhere exactly where a terminal is garbled somewhere.
+use Rattle.std.proofs.Common.{◌≡◌, ℕ, zero, suc, ◌+◌, ◌<◌, ◌≤◌, Bool, true, false, cond, ◌&&◌, ◌||◌, eqb, ltb, List, [], ◌∷◌, length, take, drop, Some, None}
+use Rattle.std.proofs.Common.{inl, inr, arith, sym, refl, ap, ◌∙◌}
+use Rattle.std.specs.Prelude.{slice_get, remove, ◌↔◌}
+use Rattle.std.specs.List.{AllByRecursion, count_by, filter, list_any, range_with_len}
+use Rattle.std.specs.Option.{option_map_or}
+use Rattle.std.proofs.lemmas.Bool.{and_parts, cases_Bool, cases_lt, eq-eqb, lt-ltb, ltb-true, true≢false}
+use Rattle.std.proofs.lemmas.List.{length-append, take-append-drop}
+use Rattle.std.proofs.lemmas.List.Elements.{filter-append}
+use Rattle.std.proofs.lemmas.List.Sums.{length-filter}
+use Rattle.std.proofs.lemmas.Option.{slice_get_within}
+use Rattle.bus_strings.specs.Members.{In}
+use Rattle.bus_strings.specs.MemberLaws.{of_each, at_in, in_append_cases, in_append_right, any_in}
+use Rattle.bus_strings.specs.Messages.{Entry}
+use Rattle.bus_strings.specs.OverlapLaws.{OverlapsMeet}
+use Rattle.bus_strings.specs.Transmissions.{garbled, overlaps}
+use Rattle.bus_table.specs.Tables.{Table}
+use Rattle.bus_dump.specs.declared.dump.Dump.{Dump}
+use Rattle.bus_dump.specs.Scenes.{scene_at}
+use Rattle.bus_dump.specs.Seen.{holds, seen_at}
+use Rattle.bus_dump.specs.Signals.{Bit, Garbled, Overlap, value}
+use Rattle.bus_dump.proofs.ClearLemmas.{both_overlap}
+use Rattle.bus_dump.proofs.LawLemmas.{garbled_seen, held_seen}
+use Rattle.bus_dump.proofs.LiveLemmas.{absent, present, at_place, holds_true}
+
+-- ---- from an overlap to a garbled terminal
+record Held (t : ℕ) (list : List Entry) : Type 0 where
+  place : ℕ
+  entry : Entry
+  at : slice_get list place ≡ Some entry
+  held : holds t entry ≡ true
+
+one_held : (t : ℕ) (list : List Entry) → 0 < length (filter (holds t) list) → Held t list
+one_held t [] some = absurd (omega arith)
+one_held t (x ∷ list) some = elim (cases_Bool (holds t x)) [
+  | inl on ↦ record { place = 0; entry = x; at = refl; held = on }
+  | inr off ↦
+      let rest : length (filter (holds t) (x ∷ list)) ≡ length (filter (holds t) list) =
+      ap (λ b. length (cond b (x ∷ filter (holds t) list) (filter (holds t) list))) off in
+      let more = one_held t list (omega (arith, some, rest)) in
+      record { place = suc more.place; entry = more.entry; at = more.at; held = more.held }
+]
+
+record TwoHeld (t : ℕ) (list : List Entry) : Type 0 where
+  place : ℕ
+  entry : Entry
+  at : slice_get list place ≡ Some entry
+  held : holds t entry ≡ true
+  other : Entry
+  behind : In other (drop (suc place) list)
+  other_held : holds t other ≡ true
+
+two_held : (t : ℕ) (list : List Entry) → 1 < length (filter (holds t) list) → TwoHeld t list
+two_held t [] some = absurd (omega arith)
+two_held t (x ∷ list) some = elim (cases_Bool (holds t x)) [
+  | inl on ↦
+      let rest : length (filter (holds t) (x ∷ list)) ≡ suc (length (filter (holds t) list)) =
+      ap (λ b. length (cond b (x ∷ filter (holds t) list) (filter (holds t) list))) on in
+      let more = one_held t list (omega (arith, some, rest)) in
+      record {
+        place = 0;
+        entry = x;
+        at = refl;
+        held = on;
+        other = more.entry;
+        behind = at_in list more.place more.entry more.at;
+        other_held = more.held;
+      }
+  | inr off ↦
+      let rest : length (filter (holds t) (x ∷ list)) ≡ length (filter (holds t) list) =
+      ap (λ b. length (cond b (x ∷ filter (holds t) list) (filter (holds t) list))) off in
+      let more = two_held t list (omega (arith, some, rest)) in
+      record {
+        place = suc more.place;
+        entry = more.entry;
+        at = more.at;
+        held = more.held;
+        other = more.other;
+        behind = more.behind;
+        other_held = more.other_held;
+      }
+]
+
+or_true : (b c : Bool) → c ≡ true → (b || c) ≡ true
+or_true true c h = refl
+or_true false c h = h
+
+any_at : (p : ℕ → Bool) (a n k : ℕ) → a ≤ k → k < a + n → p k ≡ true → list_any p (range_with_len a n) ≡ true
+any_at p a zero k l h e = absurd (omega arith)
+any_at p a (suc n) k l h e = elim (cases_lt a k) [
+  | inl more ↦ or_true (p a) (list_any p (range_with_len (a + 1) n)) (any_at p (a + 1) n k (omega arith) (omega arith) e)
+  | inr here ↦ (let same : k ≡ a = omega arith in ap (λ b. b || list_any p (range_with_len (a + 1) n)) (ap p (sym same) ∙ e))
+]
+
+-- whether a garbled entry of terminal n is held
+abbrev is_garbled : List Entry → ℕ → ℕ → ℕ → Bool
+is_garbled list t n k = option_map_or (λ (x : Entry). holds t x && eqb x.terminal n && garbled list k) (slice_get list k) false
+
+garbled_at : (list : List Entry) (t k : ℕ) (x : Entry) → slice_get list k ≡ Some x → holds t x ≡ true → garbled list k ≡ true
+    → is_garbled list t x.terminal k ≡ true
+garbled_at list t k x at on bad =
+    ap (λ o. option_map_or (λ (y : Entry). holds t y && eqb y.terminal x.terminal && garbled list k) o false) at
+    ∙ ap (λ b. b && eqb x.terminal x.terminal && garbled list k) on
+    ∙ ap (λ b. b && garbled list k) (eq-eqb x.terminal x.terminal refl) ∙ bad
+
+overlap_garbles : (list : List Entry) (k : ℕ) (x y : Entry) → slice_get list k ≡ Some x → In y (remove list k) → overlaps x y ≡ true
+    → garbled list k ≡ true
+overlap_garbles list k x y at i over =
+    ap (λ o. option_map_or (λ z. list_any (overlaps z) (remove list k)) o false) at ∙ any_in (overlaps x) (remove list k) y i over
+
+pub overlap_is_garbled : (list : List Entry) (t : ℕ) → 1 < count_by (holds t) list
+    → (n : ℕ) × (list_any (is_garbled list t n) (range_with_len 0 (length list)) ≡ true)
+overlap_is_garbled list t some =
+    let two = two_held t list (omega (arith, some, length-filter (holds t) list)) in
+    let i : In two.other (remove list two.place) = in_append_right (take two.place list) (drop (suc two.place) list) two.other two.behind in
+    let bad = overlap_garbles list two.place two.entry two.other two.at i (both_overlap two.entry two.other t two.held two.other_held) in (
+      two.entry.terminal,
+      any_at (is_garbled list t two.entry.terminal) 0 (length list) two.place (omega arith)
+          (let h : two.place < length list = slice_get_within list two.place two.entry two.at in omega arith)
+          (garbled_at list t two.place two.entry two.at two.held bad),
+    )
+
+-- ---- from a garbled terminal to an overlap
+any_of : {X : Type 0} (p : X → Bool) (xs : List X) → list_any p xs ≡ true → (x : X) × In x xs × (p x ≡ true)
+any_of p [] h = absurd (true≢false (sym h))
+any_of p (x ∷ xs) h = elim (cases_Bool (p x)) [
+  | inl yes' ↦ (x, inl refl, yes')
+  | inr no' ↦ (let more = any_of p xs (sym (ap (λ b. b || list_any p xs) no') ∙ h) in (more.0, inr more.1, more.2))
+]
+
+some_kept : (p : Entry → Bool) (xs : List Entry) (x : Entry) → In x xs → p x ≡ true → 0 < length (filter p xs)
+some_kept p [] x i h = absurd i
+some_kept p (y ∷ xs) x (inl same) h =
+    let one : length (filter p (y ∷ xs)) ≡ suc (length (filter p xs)) = ap (λ b. length (cond b (y ∷ filter p xs) (filter p xs))) (ap p (sym same) ∙ h) in
+    omega (arith, one)
+some_kept p (y ∷ xs) x (inr i) h = more (p y) (some_kept p xs x i h) where
+  more : (b : Bool) → 0 < length (filter p xs) → 0 < length (cond b (y ∷ filter p xs) (filter p xs))
+  more true w = omega arith
+  more false w = w
+
+two_kept : (p : Entry → Bool) (list : List Entry) (n : ℕ) (x y : Entry) → In x (take n list) → In y (drop n list) → p x ≡ true → p y ≡ true
+    → 1 < count_by p list
+two_kept p list n x y i k h w =
+    let parts : length (filter p list) ≡ length (filter p (take n list)) + length (filter p (drop n list)) =
+    ap (λ l. length (filter p l)) (sym (take-append-drop n list)) ∙ ap length (filter-append p (take n list) (drop n list))
+    ∙ length-append (filter p (take n list)) (filter p (drop n list)) in
+    omega (arith, parts, some_kept p (take n list) x i h, some_kept p (drop n list) y k w, length-filter p list)
+
+in_take : (list : List Entry) (k : ℕ) (x : Entry) → slice_get list k ≡ Some x → In x (take (suc k) list)
+in_take [] k x e = absurd (let w : None ≡ Some x = e in cc)
+in_take (z ∷ list) zero x e = inl (let w : Some z ≡ Some x = e in cc)
+in_take (z ∷ list) (suc k) x e = inr (in_take list k x e)
+
+in_drop : (list : List Entry) (k : ℕ) (x : Entry) → slice_get list k ≡ Some x → In x (drop k list)
+in_drop [] k x e = absurd (let w : None ≡ Some x = e in cc)
+in_drop (z ∷ list) zero x e = inl (let w : Some z ≡ Some x = e in cc)
+in_drop (z ∷ list) (suc k) x e = in_drop list k x e
+
+in_list : (list : List Entry) (k : ℕ) (y : Entry) → In y (remove list k) → In y list
+in_list list k y i = elim (in_append_cases (take k list) (drop (suc k) list) y i) [
+  | inl before ↦ front list k before
+  | inr behind ↦ back list (suc k) behind
+] where
+  front : (xs : List Entry) (n : ℕ) → In y (take n xs) → In y xs
+  front [] zero w = absurd w
+  front [] (suc n) w = absurd w
+  front (x ∷ xs) zero w = absurd w
+  front (x ∷ xs) (suc n) (inl same) = inl same
+  front (x ∷ xs) (suc n) (inr w) = inr (front xs n w)
+
+  back : (xs : List Entry) (n : ℕ) → In y (drop n xs) → In y xs
+  back [] zero w = absurd w
+  back [] (suc n) w = absurd w
+  back (x ∷ xs) zero w = w
+  back (x ∷ xs) (suc n) w = inr (back xs n w)
+
+record OverlapsThere (list : List Entry) : Type 0 where
+  time : ℕ
+  two : 1 < count_by (holds time) list
+
+garbled_overlaps : OverlapsMeet → (list : List Entry) (k : ℕ) (x : Entry) → AllByRecursion (λ y. 0 < length y.message) list → slice_get list k ≡ Some x
+    → garbled list k ≡ true → OverlapsThere list
+garbled_overlaps meet list k x some at bad =
+    let over : list_any (overlaps x) (remove list k) ≡ true =
+    sym (ap (λ o. option_map_or (λ z. list_any (overlaps z) (remove list k)) o false) at) ∙ bad in
+    let found = any_of (overlaps x) (remove list k) over in
+    let y : Entry = found.0 in
+    let there : In y (remove list k) = found.1 in
+    let long : (z : Entry) → In z list → 0 < length z.message = of_each (λ z. 0 < length z.message) list some in
+    let met = (meet x y (long x (at_in list k x at)) (long y (in_list list k y there))).0 found.2 in
+    let t : ℕ = met.0 in
+    let on : holds t x ≡ true = holds_true t x met.1.from met.1.to in
+    let other_on : holds t y ≡ true = holds_true t y met.2.from met.2.to in
+    elim (in_append_cases (take k list) (drop (suc k) list) y there) [
+      | inl before ↦ record { time = t; two = two_kept (holds t) list k y x before (in_drop list k x at) other_on on }
+      | inr behind ↦ record { time = t; two = two_kept (holds t) list (suc k) x y (in_take list k x at) behind on other_on }
+    ]
+
+garbled_there : OverlapsMeet → (list : List Entry) (t n k : ℕ) → AllByRecursion (λ y. 0 < length y.message) list → is_garbled list t n k ≡ true
+    → OverlapsThere list
+garbled_there meet list t n k some bad = elim (at_place list k) [
+  | absent e ↦ absurd (true≢false (sym bad ∙ ap (λ o. option_map_or (λ (x : Entry). holds t x && eqb x.terminal n && garbled list k) o false) e))
+  | present x e ↦
+      garbled_overlaps meet list k x some e
+      (and_parts (holds t x && eqb x.terminal n) (garbled list k)
+      (sym (ap (λ o. option_map_or (λ (y : Entry). holds t y && eqb y.terminal n && garbled list k) o false) e) ∙ bad)).1
+]
+
+-- ---- the wires
+same_bit : (a b : Bool) → Bit a ≡ Bit b → a ≡ b
+same_bit a b h = cc
+
+pub overlaps_garble : OverlapsMeet → (dump : Dump) (table : Table) (list : List Entry) → AllByRecursion (λ x. 0 < length x.message) list
+    → ((t : ℕ) × (value Overlap (scene_at dump table list t) ≡ Bit true))
+    ↔ ((t : ℕ) × (n : ℕ) × (value (Garbled n) (scene_at dump table list t) ≡ Bit true))
+overlaps_garble meet dump table list some = (
+  λ h.
+      let many : ltb 1 (length (seen_at list h.0)) ≡ true = same_bit (ltb 1 (length (seen_at list h.0))) true h.1 in
+      let two : 1 < length (seen_at list h.0) = ltb-true 1 (length (seen_at list h.0)) many in
+      let bad = overlap_is_garbled list h.0 (omega (arith, two, held_seen list h.0)) in (
+        h.0,
+        bad.0,
+        ap Bit (garbled_seen list h.0 bad.0 ∙ bad.1),
+      ),
+  λ h.
+      let bad = any_of (is_garbled list h.0 h.1) (range_with_len 0 (length list)) (sym (garbled_seen list h.0 h.1) ∙ same_bit _ true h.2) in
+      let over = garbled_there meet list h.0 h.1 bad.0 some bad.2 in (
+        over.time,
+        ap Bit (lt-ltb 1 (length (seen_at list over.time)) (omega (arith, over.two, held_seen list over.time))),
+      ),
+)

@@ -1,0 +1,12 @@
+use Rattle.std.proofs.Common.{subst}
+use Rattle.bus_regime.specs.declared.table_verdict.TableVerdict.{TableVerdict}
+use Rattle.bus_regime.specs.Lines.{verdict_words}
+use Rattle.bus_regime.specs.Verdicts.{verdict_of}
+use Rattle.bus_dump.specs.Laws.{HoldsNoFeed}
+use Rattle.bus_dump.proofs.SmallLemmas.{dump_read}
+use Rattle.bus_dump.proofs.laws.written_dumps_are_read.Goals as goal
+
+pub returns : goal.returns
+returns c dump trace t signal valid is below i =
+    dump_read dump (verdict_words (verdict_of c.args.table.now)) c.args.table.now trace t signal valid is
+    (subst (λ (v : TableVerdict). HoldsNoFeed (verdict_words v)) c.verdict.ensures c.holds_no_feed.ensures) below i
