@@ -89,40 +89,48 @@ Parts table list s lane = Shows s (label_shown lane) ⊎ Shows s (lane_shown tab
 of_lane : (dump : Dump) (table : Table) (list : List Entry) (s : Signal) (lane : Lane) → In s (lane_signals dump lane) → Parts table list s lane
 of_lane dump table list s lane i =
     (let found = from_filter (has dump lane.sender) (signals_of lane.terminal) s i in by found.0 found.1) where
-  t : ℕ
-  t = lane.terminal
-  timer : (z : Signal) → s ≡ z → is_timer z ≡ true → has dump lane.sender s ≡ true → Shows z (timers_shown t) → Parts table list s lane
-  timer z is one h shows =
-      inr (subst (λ y. Shows y (lane_shown table lane)) (sym is)
-      (timers_of table lane z (sends dump lane.sender z one (subst (λ y. has dump lane.sender y ≡ true) is h)) shows))
-  message : (z : Signal) → s ≡ z → Shows z (messages_shown t) → Parts table list s lane
-  message z is shows =
-      inr (subst (λ y. Shows y (lane_shown table lane)) (sym is)
-      (before (cond lane.sender (timers_shown t) []) (behind (heading (lane_title table t)) shows)))
-  m1 : List ℕ
-  m1 = as_wires ++ shown (Pulse t) ++ marked
-  m2 : List ℕ
-  m2 = m1 ++ shown (Garbled t) ++ as_decimal
-  t1 : List ℕ
-  t1 = as_wires ++ shown (Interval t)
-  t2 : List ℕ
-  t2 = t1 ++ shown (Synchronization t)
-  t3 : List ℕ
-  t3 = t2 ++ shown (Gap t) ++ marked
-  by : In s (signals_of t) → has dump lane.sender s ≡ true → Parts table list s lane
-  by (inl is) h = message (Pulse t) is
-      (before (shown (Message t)) (before as_decimal (before (shown (Garbled t)) (before marked (behind as_wires (itself (Pulse t)))))))
-  by (inr (inl is)) h = message (Garbled t) is (before (shown (Message t)) (before as_decimal (behind m1 (itself (Garbled t)))))
-  by (inr (inr (inl is))) h = inl (subst (λ y. Shows y (label_shown lane)) (sym is) (itself (Label t)))
-  by (inr (inr (inr (inl is)))) h = message (Message t) is (behind m2 (itself (Message t)))
-  by (inr (inr (inr (inr (inl is))))) h = timer (Interval t) is refl h
-      (before (shown (May t)) (before marked (before (shown (Gap t)) (before (shown (Synchronization t)) (behind as_wires (itself (Interval t)))))))
-  by (inr (inr (inr (inr (inr (inl is)))))) h = timer (Synchronization t) is refl h
-      (before (shown (May t)) (before marked (before (shown (Gap t)) (behind t1 (itself (Synchronization t))))))
-  by (inr (inr (inr (inr (inr (inr (inl is))))))) h = timer (Gap t) is refl h
-      (before (shown (May t)) (before marked (behind t2 (itself (Gap t)))))
-  by (inr (inr (inr (inr (inr (inr (inr (inl is)))))))) h = timer (May t) is refl h (behind t3 (itself (May t)))
-  by (inr (inr (inr (inr (inr (inr (inr (inr none)))))))) h = absurd none
+      t : ℕ
+      t = lane.terminal
+
+      timer : (z : Signal) → s ≡ z → is_timer z ≡ true → has dump lane.sender s ≡ true → Shows z (timers_shown t) → Parts table list s lane
+      timer z is one h shows =
+          inr (subst (λ y. Shows y (lane_shown table lane)) (sym is)
+          (timers_of table lane z (sends dump lane.sender z one (subst (λ y. has dump lane.sender y ≡ true) is h)) shows))
+
+      message : (z : Signal) → s ≡ z → Shows z (messages_shown t) → Parts table list s lane
+      message z is shows =
+          inr (subst (λ y. Shows y (lane_shown table lane)) (sym is)
+          (before (cond lane.sender (timers_shown t) []) (behind (heading (lane_title table t)) shows)))
+
+      m1 : List ℕ
+      m1 = as_wires ++ shown (Pulse t) ++ marked
+
+      m2 : List ℕ
+      m2 = m1 ++ shown (Garbled t) ++ as_decimal
+
+      t1 : List ℕ
+      t1 = as_wires ++ shown (Interval t)
+
+      t2 : List ℕ
+      t2 = t1 ++ shown (Synchronization t)
+
+      t3 : List ℕ
+      t3 = t2 ++ shown (Gap t) ++ marked
+
+      by : In s (signals_of t) → has dump lane.sender s ≡ true → Parts table list s lane
+      by (inl is) h = message (Pulse t) is
+          (before (shown (Message t)) (before as_decimal (before (shown (Garbled t)) (before marked (behind as_wires (itself (Pulse t)))))))
+      by (inr (inl is)) h = message (Garbled t) is (before (shown (Message t)) (before as_decimal (behind m1 (itself (Garbled t)))))
+      by (inr (inr (inl is))) h = inl (subst (λ y. Shows y (label_shown lane)) (sym is) (itself (Label t)))
+      by (inr (inr (inr (inl is)))) h = message (Message t) is (behind m2 (itself (Message t)))
+      by (inr (inr (inr (inr (inl is))))) h = timer (Interval t) is refl h
+          (before (shown (May t)) (before marked (before (shown (Gap t)) (before (shown (Synchronization t)) (behind as_wires (itself (Interval t)))))))
+      by (inr (inr (inr (inr (inr (inl is)))))) h = timer (Synchronization t) is refl h
+          (before (shown (May t)) (before marked (before (shown (Gap t)) (behind t1 (itself (Synchronization t))))))
+      by (inr (inr (inr (inr (inr (inr (inl is))))))) h = timer (Gap t) is refl h
+          (before (shown (May t)) (before marked (behind t2 (itself (Gap t)))))
+      by (inr (inr (inr (inr (inr (inr (inr (inl is)))))))) h = timer (May t) is refl h (behind t3 (itself (May t)))
+      by (inr (inr (inr (inr (inr (inr (inr (inr none)))))))) h = absurd none
 
 -- a lane more, of which the first or a later one shows the signal
 shown_first : (table : Table) (s : Signal) (l : Lane) (ls : List Lane) → Shows s (label_shown l) ⊎ Shows s (lane_shown table l)
@@ -140,9 +148,9 @@ of_lanes : (dump : Dump) (table : Table) (list : List Entry) (s : Signal) (ls : 
     → Shows s (flat_map label_shown ls) ⊎ Shows s (flat_map (lane_shown table) ls)
 of_lanes dump table list s [] i = absurd i
 of_lanes dump table list s (l ∷ ls) i = elim (in_append_cases (lane_signals dump l) (flat_map (lane_signals dump) ls) s i) [
-    inl here ↦ shown_first table s l ls (of_lane dump table list s l here)
+  | inl here ↦ shown_first table s l ls (of_lane dump table list s l here)
   | inr later ↦ shown_later table s l ls (of_lanes dump table list s ls later)
-  ]
+]
 
 -- ---- the whole
 abbrev labels : List ℕ
@@ -163,7 +171,7 @@ pub all_are_shown : AllAreShown
 all_are_shown dump table list s i =
     let ls = lanes table list in
     elim (in_append_cases (bus_signals dump) (flat_map (lane_signals dump) ls) s i) [
-        inl bus ↦ shown_of_bus table list s
-            (of_bus s (from_filter (has dump false) (Carrier ∷ (Overlap ∷ (Sync ∷ (Word ∷ [])))) s bus).0)
+      | inl bus ↦ shown_of_bus table list s
+          (of_bus s (from_filter (has dump false) (Carrier ∷ (Overlap ∷ (Sync ∷ (Word ∷ [])))) s bus).0)
       | inr lane ↦ shown_of_lanes table list s (of_lanes dump table list s ls lane)
-      ]
+    ]

@@ -1,7 +1,7 @@
 //! Laws of the definitions, each the contract of a function that does nothing.
 ghost use Rattle.bus_dump.specs.Laws.{CarrierIsTold, ClearListsShowNone, DumpsAreRead, GarbledAreTold, LawfulIsSingle, NothingIsIdle};
-ghost use Rattle.bus_dump.specs.Laws.{OverlapsAreTold, OverlapsGarble, PulsesAreTold, StampsAreTold, StartsAreSeen, StartsAreTold, TimersAreTold};
-ghost use Rattle.bus_dump.specs.Laws.{WordIsTold, WrittenDumpsAreRead};
+ghost use Rattle.bus_dump.specs.Laws.{OverlapsAreTold, OverlapsGarble, PulsesAreTold, StampsAreTold, StartsAreSeen, StartsAreTold};
+ghost use Rattle.bus_dump.specs.Laws.{TimersAreTold, WordIsTold, WrittenDumpsAreRead};
 ghost use Rattle.bus_dump.specs.SaveFiles.{AllAreShown};
 
 use crate::comment::holds_no_feed;

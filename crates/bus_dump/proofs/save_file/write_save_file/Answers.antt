@@ -12,7 +12,7 @@ returns g c =
     let table = c.args.table.now in
     let all : List Lane = lanes table c.args.trace.now.list in
     let labelled : List Lane → List Lane → List ℕ = λ a b.
-        bus_shown ++ (heading (codes "labels") ++ as_hexadecimal) ++ flat_map label_shown a ++ flat_map (lane_shown table) b in
+    bus_shown ++ (heading (codes "labels") ++ as_hexadecimal) ++ flat_map label_shown a ++ flat_map (lane_shown table) b in
     let found : c.lanes_of-lanes.result.items ≡ all = c.lanes_of-lanes.ensures ∙ ap (lanes table) c.list.ensures.value in
     let first : c.as_slice.result.now ≡ all = c.as_slice.ensures.value ∙ found in
     let second : c.as_slice-2.result.now ≡ all = c.as_slice-2.ensures.value ∙ found in
