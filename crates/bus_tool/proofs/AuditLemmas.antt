@@ -10,7 +10,7 @@ use Rattle.bus_outer.specs.declared.sink.WriteFault.{WriteFault as Fault}
 use Rattle.bus_tool.specs.declared.forms.Form.TheVariants.{Audit}
 use Rattle.bus_tool.specs.declared.inputs.Traced.{Traced as Taken}
 use Rattle.bus_tool.specs.declared.outcome.Outcome.{Outcome}
-use Rattle.bus_tool.specs.AuditLines.{audit_line}
+use Rattle.bus_audit.specs.Lines.{answer_line}
 use Rattle.bus_tool.specs.Kinds.{Answer, kind_of}
 use Rattle.bus_tool.specs.Outside.{Seen, Sources, around, sink_seen}
 use Rattle.bus_tool.specs.Readers.{Trace, entire, two_sources}
@@ -33,16 +33,16 @@ pub audit_stopped : (before after : Sources) (out : Seen) (o : Outcome) → Prep
 audit_stopped before after out o p =
     stopped IsAnswerOf (λ traced. audit_outcome (audit_of traced)) IsAuditText (two_sources entire Trace) table_refusal_of traced_due before after out o (λ traced. written_audit (audit_of traced)) p
 
-tells : (answer : AuditAnswer) → Tells IsAnswerOf (λ traced. audit_outcome (audit_of traced)) IsAuditText answer (audit_outcome answer) (audit_line answer)
+tells : (answer : AuditAnswer) → Tells IsAnswerOf (λ traced. audit_outcome (audit_of traced)) IsAuditText answer (audit_outcome answer) (answer_line answer)
 tells answer = record {
   yes = written_audit answer;
   answers = λ traced is. ap audit_outcome (sym is);
-  is_text = λ traced is. ap audit_line is;
+  is_text = λ traced is. ap answer_line is;
 }
 
 pub audit_answered : {K : Type 0} (before after : Sources) (ghosts : SinkGhosts K) (k k' : K) (answer : AuditAnswer) (reply outcome : Outcome) (result : Result (Unit {0}) Fault)
-    → Prepares IsAnswerOf (two_sources entire Trace) table_refusal_of traced_due before after (Ok answer) → WritesText ghosts.held ghosts.faults k k' result (audit_line answer) → reply ≡ audit_outcome answer → outcome ≡ written result reply
+    → Prepares IsAnswerOf (two_sources entire Trace) table_refusal_of traced_due before after (Ok answer) → WritesText ghosts.held ghosts.faults k k' result (answer_line answer) → reply ≡ audit_outcome answer → outcome ≡ written result reply
     → DoesForm Audit (around before (sink_seen ghosts k)) (around after (sink_seen ghosts k')) outcome
 audit_answered before after ghosts k k' answer reply outcome result p w e h =
     subst (DoesForm Audit (around before (sink_seen ghosts k)) (around after (sink_seen ghosts k'))) (sym (h ∙ ap (written result) e))
-    (answered IsAnswerOf (λ traced. audit_outcome (audit_of traced)) IsAuditText (two_sources entire Trace) table_refusal_of traced_due before after ghosts k k' answer (audit_outcome answer) (audit_line answer) result (tells answer) p w)
+    (answered IsAnswerOf (λ traced. audit_outcome (audit_of traced)) IsAuditText (two_sources entire Trace) table_refusal_of traced_due before after ghosts k k' answer (audit_outcome answer) (answer_line answer) result (tells answer) p w)

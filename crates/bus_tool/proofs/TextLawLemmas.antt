@@ -25,7 +25,7 @@ use Rattle.bus_tool.specs.declared.forms.Form.{Form}
 use Rattle.bus_tool.specs.declared.forms.Form.TheVariants.{Check, Tidy, Report, Witness, Plan, Drill, Observe, Run, Drop, Receive, Audit, Vote, Wave, Unwave}
 use Rattle.bus_tool.specs.declared.outcome.Outcome.{Outcome}
 use Rattle.bus_tool.specs.declared.outcome.Outcome.TheVariants.{Done}
-use Rattle.bus_tool.specs.AuditLines.{audit_line}
+use Rattle.bus_audit.specs.Lines.{answer_line}
 use Rattle.bus_tool.specs.Drills.{drill_line}
 use Rattle.bus_tool.specs.Reports.{report_text}
 use Rattle.bus_tool.specs.Forms.{form_of}
@@ -148,7 +148,7 @@ form_once laws (Observe horizon) first second text other h k =
 form_once laws Run first second text other h k = run_once h.0 text other h.2 (subst (λ inputs. IsRunText inputs other) (same_value (run_due first second) h.0 k.0 h.1 k.1) k.2)
 form_once laws Drop first second text other h k = drop_once h.0 text other h.2 (subst (λ inputs. IsDropText inputs other) (same_value (drop_due first second) h.0 k.0 h.1 k.1) k.2)
 form_once laws Receive first second text other h k = k.2 ∙ ap (λ traced. received_text traced.table traced.trace.list) (same_value (traced_due first second) h.0 k.0 h.1 k.1) ∙ sym h.2
-form_once laws Audit first second text other h k = k.2 ∙ ap (λ traced. audit_line (audit_of traced)) (same_value (traced_due first second) h.0 k.0 h.1 k.1) ∙ sym h.2
+form_once laws Audit first second text other h k = k.2 ∙ ap (λ traced. answer_line (audit_of traced)) (same_value (traced_due first second) h.0 k.0 h.1 k.1) ∙ sym h.2
 form_once laws Vote first second text other h k = k.2 ∙ ap (λ traced. votes_text traced.table traced.trace.list) (same_value (traced_due first second) h.0 k.0 h.1 k.1) ∙ sym h.2
 form_once laws Wave first second text other h k = k.2 ∙ ap (λ traced. wave_text traced.trace) (same_value (wave_due first second) h.0 k.0 h.1 k.1) ∙ sym h.2
 form_once laws Unwave first second text other h k = k.2 ∙ ap (λ traced. trace_text traced.trace) (same_value (unwave_due first second) h.0 k.0 h.1 k.1) ∙ sym h.2
@@ -180,7 +180,7 @@ form_has laws Drop first second h = text_with (λ inputs. Done) IsDropText (drop
 form_has laws Receive first second h =
     text_with (λ traced. Done) IsReceiveText (traced_due first second) (λ o e. traced_unwritten any_trace (λ table. trace_stops) first second o e) (λ traced e. (received_text traced.table traced.trace.list, refl)) h
 form_has laws Audit first second h =
-    text_with (λ traced. audit_outcome (audit_of traced)) IsAuditText (traced_due first second) (λ o e. traced_unwritten any_trace (λ table. trace_stops) first second o e) (λ traced e. (audit_line (audit_of traced), refl)) h
+    text_with (λ traced. audit_outcome (audit_of traced)) IsAuditText (traced_due first second) (λ o e. traced_unwritten any_trace (λ table. trace_stops) first second o e) (λ traced e. (answer_line (audit_of traced), refl)) h
 form_has laws Vote first second h =
     text_with (λ traced. Done) IsVoteText (traced_due first second) (λ o e. traced_unwritten any_trace (λ table. trace_stops) first second o e) (λ traced e. (votes_text traced.table traced.trace.list, refl)) h
 form_has laws Wave first second h =

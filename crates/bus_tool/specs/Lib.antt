@@ -6,7 +6,6 @@ pub mod Readers
 pub mod Forms
 pub mod Stages
 pub mod Due
-pub mod AuditLines
 pub mod Reports
 pub mod ReportData
 pub mod Drills

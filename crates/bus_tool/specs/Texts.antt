@@ -33,7 +33,7 @@ use Rattle.bus_tool.specs.Forms.{form_of}
 use Rattle.bus_tool.specs.declared.inputs.Traced.{Traced as Ran}
 use Rattle.bus_tool.specs.Due.{Inputs, hands_in, Traced, table_due, table_in, inputs_due, run_due, drop_due, traced_due, wave_due}
 use Rattle.bus_tool.specs.Due.{unwave_due, audit_of}
-use Rattle.bus_tool.specs.AuditLines.{audit_line}
+use Rattle.bus_audit.specs.Lines.{answer_line}
 use Rattle.bus_tool.specs.Drills.{drill_line}
 use Rattle.bus_tool.specs.Reports.{report_text}
 use Rattle.bus_tool.specs.PlanTexts.{plan_text}
@@ -149,7 +149,7 @@ IsAnswerOf answer traced = answer ≡ audit_of traced
 
 -- the line of what an audit finds
 abbrev pub IsAuditText : Traced → List ℕ → Type 0
-IsAuditText traced text = text ≡ audit_line (audit_of traced)
+IsAuditText traced text = text ≡ answer_line (audit_of traced)
 
 -- the votes of a trace
 abbrev pub IsVoteText : Traced → List ℕ → Type 0

@@ -12,7 +12,7 @@ use Rattle.bus_vote.specs.VoteLaws.{IsWrittenWhereVoted, IsFixedByTwo, IsVotedIn
 use Rattle.bus_vote.specs.VoteTexts.{votes_text}
 use Rattle.bus_tool.specs.declared.status.Status.{Status}
 use Rattle.bus_tool.specs.declared.status.Status.TheVariants.{Done}
-use Rattle.bus_tool.specs.AuditLines.{audit_line}
+use Rattle.bus_audit.specs.Lines.{answer_line}
 use Rattle.bus_tool.specs.Due.{audit_outcome}
 use Rattle.bus_tool.specs.Outcomes.{status_of}
 use Rattle.bus_tool.specs.Outside.{Seen, Call}
@@ -63,7 +63,7 @@ pub record IsFinding (table : Table) (trace : Recording) (answer : AuditAnswer) 
 abbrev pub GivesFinding : Table → Recording → Call → Status → Type 0
 GivesFinding table trace call status =
     (answer : AuditAnswer) × IsFinding table trace answer
-    × Answers (status_of (audit_outcome answer)) (λ text. text ≡ audit_line answer) call status
+    × Answers (status_of (audit_outcome answer)) (λ text. text ≡ answer_line answer) call status
 
 -- what each terminal of the table receives of the trace is written, and the status is Done
 abbrev pub GivesReceived : Table → Recording → Call → Status → Type 0

@@ -8,11 +8,10 @@ ghost use Rattle.bus_tool.specs.Steps.{Prepares};
 ghost use Rattle.bus_tool.specs.Texts.{IsAnswerOf};
 ghost use Rattle.bus_tool.specs.declared.forms.Form.TheVariants.{Audit};
 
-use crate::audit_line::write_audit;
 use crate::inputs::{Traced, take_traced};
 use crate::outcome::Outcome;
 use crate::writing::after_writing;
-use bus_audit::AuditAnswer;
+use bus_audit::{AuditAnswer, write_answer};
 use bus_outer::{Sink, Source};
 use std::alloc::Global;
 
@@ -49,7 +48,7 @@ pub fn audit<S: Source, K: Sink>(
     ensures own { IsOwn Audit (S.left second.old) result }
 {
     match audited(alloc, first, second) {
-        Ok(answer) => after_writing(write_audit(answer, out), audit_outcome(answer)),
+        Ok(answer) => after_writing(write_answer(&answer, out), audit_outcome(answer)),
         Err(outcome) => outcome,
     }
 }

@@ -9,7 +9,6 @@
 #![tactic(auto)]
 
 mod audit;
-mod audit_line;
 mod check;
 mod command;
 mod drill;

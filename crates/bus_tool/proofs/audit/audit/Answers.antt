@@ -5,7 +5,7 @@ use Rattle.std.proofs.Common.{refl}
 use Rattle.bus_tool.proofs.audit.audit.Goals as goal
 
 pub returns-in-Ok-clause-does : goal.returns-in-Ok-clause-does
-returns-in-Ok-clause-does g c = audit_answered _ _ g.K.Sink c.args.out.now c.write_audit.new.sink c.in-Ok.answer c.audit_outcome.result c.after_writing.result c.write_audit.result c.in-Ok.ensures.prepares c.write_audit.ensures c.audit_outcome.ensures c.after_writing.ensures
+returns-in-Ok-clause-does g c = audit_answered _ _ g.K.Sink c.args.out.now c.write_answer.new.sink c.in-Ok.answer c.audit_outcome.result c.after_writing.result c.write_answer.result c.in-Ok.ensures.prepares c.write_answer.ensures c.audit_outcome.ensures c.after_writing.ensures
 
 pub returns-in-Err-clause-does : goal.returns-in-Err-clause-does
 returns-in-Err-clause-does g c = audit_stopped _ _ _ c.in-Err.outcome c.in-Err.ensures.prepares
