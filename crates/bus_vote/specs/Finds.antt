@@ -2,7 +2,8 @@
 --   wanted   by label, whether it is looked for
 --   find     a wordstring of a label that is looked for, in a transmission that isn't garbled
 --   round    of a transmission: how many its terminal sent before it
-use Rattle.std.specs.Prelude.{◌≡◌, ◌⊎◌, ℕ, ◌<◌, ◌≤◌, ◌==◌, Bool, true, false, not, ◌&&◌, List, [], ◌∷◌, length, take, slice_get, Some, None, if◌then◌else◌}
+use Rattle.std.specs.Prelude.{◌≡◌, ◌⊎◌, ℕ, ◌<◌, ◌≤◌, ◌==◌, Bool, true, false, not, ◌&&◌, List, [], ◌∷◌, length, take, slice_get, Some}
+use Rattle.std.specs.Prelude.{None, if◌then◌else◌}
 use Rattle.std.specs.List.{filter, flat_map, range_with_len, zip}
 use Rattle.std.specs.Option.{option_and_then, option_map_or}
 use Rattle.bus_strings.specs.Messages.{Wordstring, Entry}
@@ -59,7 +60,8 @@ pub record AreFinds (list : List Entry) (finds : List Find) (label : ℕ) : Type
   pub order : (i j terminal : ℕ) (f g : Find) → i ≤ j → slice_get finds i ≡ Some f → slice_get finds j ≡ Some g
       → is_own label terminal f ≡ true → is_own label terminal g ≡ true → f.round ≤ g.round
   pub whole : (terminal ext round : ℕ) (words : List ℕ)
-      → option_and_then (words_of label ext) (slice_get (sent_by terminal list) round) ≡ Some words → IsFound list finds label terminal round
+      → option_and_then (words_of label ext) (slice_get (sent_by terminal list) round) ≡ Some words
+      → IsFound list finds label terminal round
 
 -- A channel of a label in a list, of which the rounds before one were read.
 pub record Hearing : Type 0 where

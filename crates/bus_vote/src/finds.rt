@@ -85,7 +85,8 @@ fn add_strings(
     requires within { at < length list.now }
     requires narrow { length list.now < 2 ^ 32 }
     requires reach { IsReach (take at list.now) reach }
-    ensures { IsTrue result → finds.new.items ≡ finds.old.items ++ flat_map (string_finds wanted.now list.now at terminal round) strings.now }
+    ensures { IsTrue result
+        → finds.new.items ≡ finds.old.items ++ flat_map (string_finds wanted.now list.now at terminal round) strings.now }
 {
     for string in strings {
         if !add_string(finds, wanted, list, at, reach, terminal, round, string) {

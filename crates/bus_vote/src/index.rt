@@ -118,7 +118,7 @@ impl<'a> Index<'a> {
         }
     }
 
-    // How many finds a label of a table has, where it is one that is looked for.
+    // How many finds a label of a table has, where it is voted and a pass finds it sooner than walks.
     fn load(&self, table: &Table, gaps: Option<&[usize]>, label: Label) -> Option<usize> {
         let voted = voted_label(table, label)?;
         let count = self.counts[usize::from(label.value())] as usize;

@@ -271,7 +271,7 @@ fn table_is_valid(table: &Table)
 }
 
 /// Writes the votes of a trace: each label of the table that three senders send on one SEND line each, and of each of its rounds the
-/// words that two of them agree on. It takes no memory.
+/// words that two of them agree on. It takes no memory, and about a megabyte of the stack.
 ///
 /// Of the trace of a run of an accepted table and even hands every round below the number of messages is voted, from the words of the
 /// messages of that round in the three hands: two hands that are alike fix every vote.
