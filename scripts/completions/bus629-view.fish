@@ -2,4 +2,5 @@
 complete -c bus629-view -n 'test (count (commandline -opc)) -eq 1' -f -a vcd -d 'Write the dump of a trace'
 complete -c bus629-view -n 'test (count (commandline -opc)) -eq 1' -f -a wires -d 'Write the signals of one bit of that dump alone'
 complete -c bus629-view -n 'test (count (commandline -opc)) -eq 1' -f -a timers -d 'Write the dump with the timers of each sender'
+complete -c bus629-view -n 'test (count (commandline -opc)) -eq 1' -f -a gtkw -d 'Write the save file with which GTKWave shows these'
 complete -c bus629-view -n 'test (count (commandline -opc)) -ge 4' -f

@@ -6,6 +6,7 @@ _bus629_view() {
     'vcd:write the dump of a trace'
     'wires:write the signals of one bit of that dump alone'
     'timers:write the dump with the timers of each sender'
+    'gtkw:write the save file with which GTKWave shows these'
   )
   if (( CURRENT == 2 )); then
     _describe command commands

@@ -5,16 +5,15 @@ use Rattle.bus_tool.specs.declared.outcome.Outcome.{Outcome}
 use Rattle.bus_tool.specs.declared.outcome.Outcome.TheVariants.{Usage}
 use Rattle.bus_tool.specs.Causes.{RefusesText}
 use Rattle.bus_tool.specs.Outside.{Call}
-use Rattle.bus_dump.specs.declared.dump.Dump.{Dump}
 use Rattle.bus_view.specs.Acts.{DoesView, Acts}
-use Rattle.bus_view.specs.Forms.{form_of}
+use Rattle.bus_view.specs.Forms.{View, form_of}
 use Rattle.bus_view.specs.Own.{IsOwn}
 use Rattle.bus_view.proofs.CauseLemmas.{RefusesATable, does_first}
 
-some_is : (form : Dump) → IsNone (Some form) → ⊥
+some_is : (form : View) → IsNone (Some form) → ⊥
 some_is form h = cc
 
-pub acts_form : RefusesATable → (call : Call) (outcome : Outcome) (form : Dump) → Some form ≡ form_of call.words
+pub acts_form : RefusesATable → (call : Call) (outcome : Outcome) (form : View) → Some form ≡ form_of call.words
     → DoesView form call.before call.after outcome → IsOwn call.before.sources.second.bytes outcome → Acts call outcome
 acts_form refuses call outcome form is does own = record {
   usage = (λ e. absurd (does.form e), λ none. absurd (some_is form (subst IsNone (sym is) none)));

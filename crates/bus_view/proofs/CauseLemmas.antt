@@ -19,8 +19,8 @@ use Rattle.bus_tool.specs.Readers.{text_limit}
 use Rattle.bus_tool.specs.StageLaws.{if_map}
 use Rattle.bus_tool.specs.Stages.{refusal_in}
 use Rattle.bus_tool.specs.Steps.{IsDueFirst}
-use Rattle.bus_dump.specs.declared.dump.Dump.{Dump}
 use Rattle.bus_view.specs.Acts.{DoesView}
+use Rattle.bus_view.specs.Forms.{View}
 
 -- a refusal of a table text has its cause
 abbrev pub RefusesATable : Type 0
@@ -74,8 +74,8 @@ refuses_table refuses first (TableMode needed) h =
     absurd (mode_error (answer_of first) needed (due_error first (TableMode needed) (λ e. cc) (h refl)))
 refuses_table refuses first o h = tt
 
-pub does_first : RefusesATable → (dump : Dump) (before after : Outside) (o : Outcome) → DoesView dump before after o
+pub does_first : RefusesATable → (view : View) (before after : Outside) (o : Outcome) → DoesView view before after o
     → IfSome before.sources.first.bytes (RefusesText o)
-does_first refuses dump before after o does =
+does_first refuses view before after o does =
     if_map before.sources.first.bytes (λ text. IsDueFirst o (table_refusal_of text)) (RefusesText o)
     (λ text h. refuses_table refuses text o h) does.alone

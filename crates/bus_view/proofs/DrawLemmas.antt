@@ -11,7 +11,7 @@ use Rattle.bus_trace.specs.Traces.{Recording}
 use Rattle.bus_regime.specs.declared.table_verdict.TableVerdict.{TableVerdict}
 use Rattle.bus_regime.specs.Lines.{verdict_words}
 use Rattle.bus_regime.specs.Verdicts.{verdict_of}
-use Rattle.bus_dump.specs.declared.dump.Dump.{Dump}
+use Rattle.bus_dump.specs.declared.dump.Dump.{Dump as AnyDump}
 use Rattle.bus_dump.specs.DumpTexts.{dump_text}
 use Rattle.bus_tool.specs.declared.inputs.Traced.{Traced as Taken}
 use Rattle.bus_tool.specs.declared.outcome.Outcome.{Outcome}
@@ -28,8 +28,8 @@ use Rattle.bus_tool.specs.Stages.{stage_in}
 use Rattle.bus_tool.specs.Steps.{Same, Takes, Prepares}
 use Rattle.bus_tool.specs.Taken.{AreTraced}
 use Rattle.bus_view.specs.Acts.{DoesView}
-use Rattle.bus_view.specs.Due.{single_due, drawn_due, drawing, IsDrawing}
-use Rattle.bus_view.specs.Forms.{sources}
+use Rattle.bus_view.specs.Due.{single_due, drawn_due, taken_due, view_text, IsView}
+use Rattle.bus_view.specs.Forms.{View, Dump, sources}
 use Rattle.bus_view.specs.Own.{IsOwn}
 use Rattle.bus_view.proofs.SingleLemmas.{single_stage}
 
@@ -80,32 +80,35 @@ both_taken old new old' new' table trace t u =
     } in
     prepares_both Same AreTraced entire Trace table_due with_table old new old' new' table table (Ok taken) (λ z is. sym is) t given
 
--- ---- the whole command
-pub draw_stopped : (dump : Dump) (before after : Sources) (out : Seen) (o : Outcome)
-    → Prepares {X = Taken} AreTraced sources table_refusal_of drawn_due before after (Err o)
-    → DoesView dump (around before out) (around after out) o
-draw_stopped dump before after out o p =
-    stopped AreTraced (λ traced. Done) (IsDrawing dump) sources table_refusal_of drawn_due before after out o (λ traced. refl) p
+-- ---- a whole command
+pub view_stopped : (view : View) (before after : Sources) (out : Seen) (o : Outcome)
+    → Prepares {X = Taken} AreTraced sources table_refusal_of (taken_due view) before after (Err o)
+    → DoesView view (around before out) (around after out) o
+view_stopped view before after out o p =
+    stopped AreTraced (λ traced. Done) (IsView view) sources table_refusal_of (taken_due view) before after out o (λ traced. refl) p
 
-tells : (dump : Dump) (taken : Taken)
-    → Tells AreTraced (λ traced. Done) (IsDrawing dump) taken Done (drawing dump taken.table taken.trace)
-tells dump taken = record {
+tells : (view : View) (taken : Taken)
+    → Tells AreTraced (λ traced. Done) (IsView view) taken Done (view_text view taken.table taken.trace)
+tells view taken = record {
   yes = refl;
   answers = λ traced is. refl;
-  is_text = λ traced is. ap (λ t. drawing dump t taken.trace) is.table ∙ ap (drawing dump traced.table) is.trace;
+  is_text = λ traced is. ap (λ t. view_text view t taken.trace) is.table ∙ ap (view_text view traced.table) is.trace;
 }
 
-pub draw_answered : {K : Type 0} (dump : Dump) (before after : Sources) (ghosts : SinkGhosts K) (k k' : K) (taken : Taken)
-    (verdict : TableVerdict) (outcome : Outcome) (result : Result (Unit {0}) Fault)
-    → Prepares AreTraced sources table_refusal_of drawn_due before after (Ok taken) → verdict ≡ verdict_of taken.table
-    → WritesText ghosts.held ghosts.faults k k' result (dump_text dump (verdict_words verdict) taken.table taken.trace)
-    → outcome ≡ written result Done → DoesView dump (around before (sink_seen ghosts k)) (around after (sink_seen ghosts k')) outcome
-draw_answered dump before after ghosts k k' taken verdict outcome result p is w h =
-    let text : WritesText ghosts.held ghosts.faults k k' result (drawing dump taken.table taken.trace) =
-    subst (λ v. WritesText ghosts.held ghosts.faults k k' result (dump_text dump (verdict_words v) taken.table taken.trace)) is w in
-    subst (DoesView dump (around before (sink_seen ghosts k)) (around after (sink_seen ghosts k'))) (sym h)
-    (answered AreTraced (λ traced. Done) (IsDrawing dump) sources table_refusal_of drawn_due before after ghosts k k' taken Done
-    (drawing dump taken.table taken.trace) result (tells dump taken) p text)
+pub view_answered : {K : Type 0} (view : View) (before after : Sources) (ghosts : SinkGhosts K) (k k' : K) (taken : Taken)
+    (text : List ℕ) (outcome : Outcome) (result : Result (Unit {0}) Fault)
+    → Prepares AreTraced sources table_refusal_of (taken_due view) before after (Ok taken) → text ≡ view_text view taken.table taken.trace
+    → WritesText ghosts.held ghosts.faults k k' result text
+    → outcome ≡ written result Done → DoesView view (around before (sink_seen ghosts k)) (around after (sink_seen ghosts k')) outcome
+view_answered view before after ghosts k k' taken text outcome result p is w h =
+    subst (DoesView view (around before (sink_seen ghosts k)) (around after (sink_seen ghosts k'))) (sym h)
+    (answered AreTraced (λ traced. Done) (IsView view) sources table_refusal_of (taken_due view) before after ghosts k k' taken Done
+    (view_text view taken.table taken.trace) result (tells view taken) p (subst (WritesText ghosts.held ghosts.faults k k' result) is w))
+
+-- a dump, of the verdict
+pub dump_is : (dump : AnyDump) (taken : Taken) (verdict : TableVerdict) → verdict ≡ verdict_of taken.table
+    → dump_text dump (verdict_words verdict) taken.table taken.trace ≡ view_text (Dump dump) taken.table taken.trace
+dump_is dump taken verdict is = ap (λ v. dump_text dump (verdict_words v) taken.table taken.trace) is
 
 -- ---- whose outcomes these are
 -- a step stopped at this outcome

@@ -4,4 +4,4 @@ pub mod DrawLemmas
 pub mod CauseLemmas
 pub mod ActLemmas
 pub mod ClaimLemmas
-pub mod DrawClaim
+pub mod ViewClaims

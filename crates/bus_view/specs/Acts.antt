@@ -6,14 +6,13 @@ use Rattle.bus_tool.specs.Acts.{Does}
 use Rattle.bus_tool.specs.Causes.{RefusesText}
 use Rattle.bus_tool.specs.Due.{table_refusal_of}
 use Rattle.bus_tool.specs.Outside.{Outside, Call}
-use Rattle.bus_dump.specs.declared.dump.Dump.{Dump}
 use Rattle.bus_view.specs.Due.{view_due, IsFormText}
-use Rattle.bus_view.specs.Forms.{form_of, sources}
+use Rattle.bus_view.specs.Forms.{View, form_of, sources}
 use Rattle.bus_view.specs.Own.{IsOwn}
 
--- what the command of a dump did
-abbrev pub DoesView : Dump → Outside → Outside → Outcome → Type 0
-DoesView dump before after outcome = Does sources table_refusal_of view_due (IsFormText dump) before after outcome
+-- what the command of a view did
+abbrev pub DoesView : View → Outside → Outside → Outcome → Type 0
+DoesView view before after outcome = Does sources table_refusal_of (view_due view) (IsFormText view) before after outcome
 
 -- What a call did:
 --   usage      Usage comes exactly where the words are no form
@@ -25,6 +24,6 @@ DoesView dump before after outcome = Does sources table_refusal_of view_due (IsF
 pub record Acts (call : Call) (outcome : Outcome) : Type 0 where
   pub usage : (outcome ≡ Usage) ↔ IsNone (form_of call.words)
   pub nothing : IfNone (form_of call.words) (call.after ≡ call.before)
-  pub does : IfSome (form_of call.words) (λ dump. DoesView dump call.before call.after outcome)
-  pub first : IfSome (form_of call.words) (λ dump. IfSome call.before.sources.first.bytes (RefusesText outcome))
-  pub own : IfSome (form_of call.words) (λ dump. IsOwn call.before.sources.second.bytes outcome)
+  pub does : IfSome (form_of call.words) (λ view. DoesView view call.before call.after outcome)
+  pub first : IfSome (form_of call.words) (λ view. IfSome call.before.sources.first.bytes (RefusesText outcome))
+  pub own : IfSome (form_of call.words) (λ view. IsOwn call.before.sources.second.bytes outcome)

@@ -5,7 +5,7 @@ use Rattle.bus_table.specs.Tables.{Table, Hand}
 use Rattle.bus_medium.specs.Lawful.{IsLawful}
 use Rattle.bus_medium.specs.Timings.{quiet_of, stations_of}
 use Rattle.bus_trace.specs.Traces.{Recording}
-use Rattle.bus_dump.specs.declared.dump.Dump.{Dump}
+use Rattle.bus_dump.specs.declared.dump.Dump.{Dump as AnyDump}
 use Rattle.bus_dump.specs.declared.dump.Dump.TheVariants.{Vcd, Wires, Timers}
 use Rattle.bus_dump.specs.Doubled.{doubled}
 use Rattle.bus_tool.specs.declared.status.Status.{Status}
@@ -14,23 +14,24 @@ use Rattle.bus_tool.specs.Claims.{NothingFails, TellsTable, Answers}
 use Rattle.bus_tool.specs.Outside.{Call}
 use Rattle.bus_tool.specs.TraceClaims.{TellsTrace}
 use Rattle.bus_view.specs.Due.{drawing}
-use Rattle.bus_view.specs.Forms.{sources}
+use Rattle.bus_view.specs.Forms.{View, Dump, SaveFile, sources}
 
--- the command of a dump
-abbrev pub dump_word : Dump → List ℕ
-dump_word Vcd = codes "vcd"
-dump_word Wires = codes "wires"
-dump_word Timers = codes "timers"
+-- the command of a view
+abbrev pub view_word : View → List ℕ
+view_word (Dump Vcd) = codes "vcd"
+view_word (Dump Wires) = codes "wires"
+view_word (Dump Timers) = codes "timers"
+view_word SaveFile = codes "gtkw"
 
 -- the words are that command and two more
-pub record IsDrawForm (dump : Dump) (words : List (List ℕ)) : Type 0 where
+pub record IsViewForm (view : View) (words : List (List ℕ)) : Type 0 where
   pub first : List ℕ
   pub second : List ℕ
-  pub form : words ≡ dump_word dump ∷ first ∷ second ∷ []
+  pub form : words ≡ view_word view ∷ first ∷ second ∷ []
 
 -- a call of it on texts of a valid table and of a trace, in which nothing outside fails
-pub record IsDrawOf (dump : Dump) (table : Table) (trace : Recording) (call : Call) : Type 0 where
-  pub form : IsDrawForm dump call.words
+pub record IsViewOf (view : View) (table : Table) (trace : Recording) (call : Call) : Type 0 where
+  pub form : IsViewForm view call.words
   pub table_told : TellsTable table call.before.sources.first
   pub trace_told : TellsTrace trace call.before.sources.second
   pub undisturbed : NothingFails sources call.before call.after
@@ -40,11 +41,11 @@ pub record Refuses (refusal : Status) (call : Call) (status : Status) : Type 0 w
   pub ends : (status ≡ refusal) ⊎ (status ≡ NoMemory)
   pub unwritten : call.after.out.bytes ≡ call.before.out.bytes
 
--- What comes of it:
+-- What comes of a dump:
 --   drawn     where no entry is doubled, the dump of the trace is written, with the words of the table's verdict as its comment
 --   refused   where one is, the trace is refused
 --   lawful    none is where the list is lawful, of any hands that fit the table's senders: as in what `observe`, `run` and `drop` write
-pub record GivesDump (dump : Dump) (table : Table) (trace : Recording) (call : Call) (status : Status) : Type 0 where
+pub record GivesDump (dump : AnyDump) (table : Table) (trace : Recording) (call : Call) (status : Status) : Type 0 where
   pub drawn : doubled trace.list ≡ None → Answers Done (λ text. text ≡ drawing dump table trace) call status
   pub refused : (entry : ℕ) → doubled trace.list ≡ Some entry → Refuses InputRefused call status
   pub lawful : (hands : List Hand) (horizon : ℕ) → IsTrue (are_hands table.senders hands)

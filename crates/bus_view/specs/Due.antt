@@ -5,13 +5,15 @@ use Rattle.bus_table.specs.Tables.{Table}
 use Rattle.bus_regime.specs.Lines.{verdict_words}
 use Rattle.bus_regime.specs.Verdicts.{verdict_of}
 use Rattle.bus_trace.specs.Traces.{Recording}
-use Rattle.bus_dump.specs.declared.dump.Dump.{Dump}
+use Rattle.bus_dump.specs.declared.dump.Dump.{Dump as AnyDump}
 use Rattle.bus_dump.specs.Doubled.{doubled}
 use Rattle.bus_dump.specs.DumpTexts.{dump_text}
+use Rattle.bus_dump.specs.SaveFiles.{save_text}
 use Rattle.bus_tool.specs.declared.outcome.Outcome.{Outcome}
 use Rattle.bus_tool.specs.declared.outcome.Outcome.TheVariants.{Done, Doubled}
-use Rattle.bus_tool.specs.Due.{trace_due, Traced, traced_by, outcome_with}
+use Rattle.bus_tool.specs.Due.{trace_due, Traced, traced_by, traced_due, outcome_with}
 use Rattle.bus_tool.specs.Texts.{IsTextOf}
+use Rattle.bus_view.specs.Forms.{View, Dump, SaveFile}
 
 -- a trace, where none of its entries is doubled
 abbrev pub single_or_refusal : Option ℕ → Recording → Result Recording Outcome
@@ -33,17 +35,27 @@ single_with table text = single_due text
 abbrev pub drawn_due : List ℕ → List ℕ → Result Traced Outcome
 drawn_due = traced_by single_with
 
--- the outcome, whatever the dump is
-abbrev pub view_due : List ℕ → List ℕ → Outcome
-view_due first second = outcome_with (λ traced. Done) (drawn_due first second)
+-- what is taken of both texts for a view: only of a dump it matters whether an entry is doubled
+abbrev pub taken_due : View → List ℕ → List ℕ → Result Traced Outcome
+taken_due (Dump dump) = drawn_due
+taken_due SaveFile = traced_due
+
+-- the outcome of a view
+abbrev pub view_due : View → List ℕ → List ℕ → Outcome
+view_due view first second = outcome_with (λ traced. Done) (taken_due view first second)
 
 -- the dump of a trace on a table, with the words of the table's verdict as its comment
-abbrev pub drawing : Dump → Table → Recording → List ℕ
+abbrev pub drawing : AnyDump → Table → Recording → List ℕ
 drawing dump table trace = dump_text dump (verdict_words (verdict_of table)) table trace
 
-abbrev pub IsDrawing : Dump → Traced → List ℕ → Type 0
-IsDrawing dump traced text = text ≡ drawing dump traced.table traced.trace
+-- the text of a view of a trace on a table
+abbrev pub view_text : View → Table → Recording → List ℕ
+view_text (Dump dump) table trace = drawing dump table trace
+view_text SaveFile table trace = save_text table trace.list
+
+abbrev pub IsView : View → Traced → List ℕ → Type 0
+IsView view traced text = text ≡ view_text view traced.table traced.trace
 
 -- a text is the one that a form writes of these two
-abbrev pub IsFormText : Dump → List ℕ → List ℕ → List ℕ → Type 0
-IsFormText dump first second text = IsTextOf (IsDrawing dump) (drawn_due first second) text
+abbrev pub IsFormText : View → List ℕ → List ℕ → List ℕ → Type 0
+IsFormText view first second text = IsTextOf (IsView view) (taken_due view first second) text

@@ -1,13 +1,33 @@
 ghost use Rattle.bus_tool.specs.Forms.{words_of};
 ghost use Rattle.bus_tool.specs.Outside.{called, outside};
-ghost use Rattle.bus_view.specs.Acts.{Acts};
+ghost use Rattle.bus_view.specs.Acts.{Acts, DoesView};
+ghost use Rattle.bus_view.specs.Own.{IsOwn};
 
 use crate::drawing::draw;
-use crate::forms::form_of;
+use crate::forms::{View, form_of};
+use crate::saving::save;
 use bus_outer::{Sink, Source};
 use bus_table::laws::readings_have_their_cause;
 use bus_tool::Outcome;
 use std::alloc::Global;
+
+/// Writes this view of the trace in the second source, on the table in the first.
+fn show<S: Source, K: Sink>(
+    alloc: Global,
+    view: View,
+    first: &mut S,
+    second: &mut S,
+    out: &mut K,
+) -> Outcome
+    ensures does { DoesView view (outside ⟦<S as Source>⟧ ⟦<K as Sink>⟧ first.old second.old out.old)
+        (outside ⟦<S as Source>⟧ ⟦<K as Sink>⟧ first.new second.new out.new) result }
+    ensures own { IsOwn (S.left second.old) result }
+{
+    match view {
+        View::Dump(dump) => draw(alloc, dump, first, second, out),
+        View::SaveFile => save(alloc, first, second, out),
+    }
+}
 
 /// Does the command that the words ask for, and says what it came to. All its memory is taken before its first written byte.
 ///
@@ -26,6 +46,6 @@ pub fn act<S: Source, K: Sink>(
     readings_have_their_cause();
     match form_of(words) {
         None => Outcome::Usage,
-        Some(dump) => draw(alloc, dump, first, second, out),
+        Some(view) => show(alloc, view, first, second, out),
     }
 }

@@ -7,7 +7,7 @@ ghost use Rattle.bus_tool.specs.Steps.{Same, Takes, Prepares};
 ghost use Rattle.bus_tool.specs.Taken.{AreTraced};
 ghost use Rattle.bus_view.specs.Acts.{DoesView};
 ghost use Rattle.bus_view.specs.Due.{single_due, drawn_due};
-ghost use Rattle.bus_view.specs.Forms.{sources};
+ghost use Rattle.bus_view.specs.Forms.{Dump as Dumped, sources};
 ghost use Rattle.bus_view.specs.Own.{IsOwn};
 
 use bus_dump::{Dump, doubled, write_dump};
@@ -56,7 +56,7 @@ pub fn draw<S: Source, K: Sink>(
     second: &mut S,
     out: &mut K,
 ) -> Outcome
-    ensures does { DoesView dump (outside ⟦<S as Source>⟧ ⟦<K as Sink>⟧ first.old second.old out.old)
+    ensures does { DoesView (Dumped dump) (outside ⟦<S as Source>⟧ ⟦<K as Sink>⟧ first.old second.old out.old)
         (outside ⟦<S as Source>⟧ ⟦<K as Sink>⟧ first.new second.new out.new) result }
     ensures own { IsOwn (S.left second.old) result }
 {

@@ -4,23 +4,34 @@ ghost use Rattle.bus_view.specs.Forms as forms;
 
 use bus_dump::Dump;
 
-/// The dump that three words ask for of which this is the first.
-fn three_words(command: &str) -> Option<Dump>
+/// What the words ask for: a view of the trace in the second source, on the table in the first.
+#[derive(Clone, Copy, Debug, PartialEq, Eq)]
+pub enum View {
+    /// `vcd T R`, `wires T R`, `timers T R`: this dump of it.
+    Dump(Dump),
+    /// `gtkw T R`: the save file with which GTKWave shows all signals of its dumps.
+    SaveFile,
+}
+
+/// The view that three words ask for of which this is the first.
+fn three_words(command: &str) -> Option<View>
     ensures { result ≡ forms.three_words command.now }
 {
     if command == "vcd" {
-        Some(Dump::Vcd)
+        Some(View::Dump(Dump::Vcd))
     } else if command == "wires" {
-        Some(Dump::Wires)
+        Some(View::Dump(Dump::Wires))
     } else if command == "timers" {
-        Some(Dump::Timers)
+        Some(View::Dump(Dump::Timers))
+    } else if command == "gtkw" {
+        Some(View::SaveFile)
     } else {
         None
     }
 }
 
-/// The dump that these words ask for: `vcd T R`, `wires T R`, or `timers T R`; None where they are no form.
-pub fn form_of(words: &[String]) -> Option<Dump>
+/// The view that these words ask for: `vcd T R`, `wires T R`, `timers T R`, or `gtkw T R`; None where they are no form.
+pub fn form_of(words: &[String]) -> Option<View>
     ensures { result ≡ forms.form_of (words_of words.now) }
 {
     match words.len() {

@@ -8,7 +8,9 @@
 mod command;
 mod drawing;
 mod forms;
+mod saving;
 mod top;
 
 pub use command::act;
+pub use forms::View;
 pub use top::view;

@@ -1,14 +1,18 @@
 ghost use Rattle.std.specs.Prelude.{◌≡◌};
 ghost use Rattle.bus_table.specs.Tables.{Table};
 ghost use Rattle.bus_tool.specs.declared.outcome.Outcome.{Outcome as Came};
+ghost use Rattle.bus_tool.specs.declared.status.Status.TheVariants.{Done};
 ghost use Rattle.bus_tool.specs.Acts.{TellsFault};
+ghost use Rattle.bus_tool.specs.Claims.{Answers};
 ghost use Rattle.bus_tool.specs.Forms.{words_of};
 ghost use Rattle.bus_tool.specs.Outcomes.{status_of};
 ghost use Rattle.bus_tool.specs.Outside.{called, outside};
 ghost use Rattle.bus_trace.specs.Traces.{Recording};
-ghost use Rattle.bus_dump.specs.declared.dump.Dump.{Dump};
+ghost use Rattle.bus_dump.specs.declared.dump.Dump.{Dump as AnyDump};
+ghost use Rattle.bus_dump.specs.SaveFiles.{save_text};
 ghost use Rattle.bus_view.specs.Acts.{Acts};
-ghost use Rattle.bus_view.specs.Claims.{IsDrawOf, GivesDump};
+ghost use Rattle.bus_view.specs.Claims.{IsViewOf, GivesDump};
+ghost use Rattle.bus_view.specs.Forms.{Dump, SaveFile};
 
 use crate::command::act;
 use bus_dump::laws::lawful_is_single;
@@ -32,7 +36,14 @@ pub fn view<S: Source, K: Sink, E: Sink>(
     // entry is doubled, or want of memory.
     ensures draw { let call = called (words_of words.now) (outside ⟦<S as Source>⟧ ⟦<K as Sink>⟧ first.old second.old out.old)
         (outside ⟦<S as Source>⟧ ⟦<K as Sink>⟧ first.new second.new out.new) in
-        (dump : Dump) (table : Table) (trace : Recording) → IsDrawOf dump table trace call → GivesDump dump table trace call result }
+        (dump : AnyDump) (table : Table) (trace : Recording) → IsViewOf (Dump dump) table trace call
+        → GivesDump dump table trace call result }
+
+    // `gtkw T R` of such texts: the save file, or want of memory.
+    ensures save { let call = called (words_of words.now) (outside ⟦<S as Source>⟧ ⟦<K as Sink>⟧ first.old second.old out.old)
+        (outside ⟦<S as Source>⟧ ⟦<K as Sink>⟧ first.new second.new out.new) in
+        (table : Table) (trace : Recording) → IsViewOf SaveFile table trace call
+        → Answers Done (λ text. text ≡ save_text table trace.list) call result }
 
     // Of any words and bytes: the outcome that is due or a fault in its place, what was taken and written, what `err` holds, and the
     // status.

@@ -1,4 +1,4 @@
-use Rattle.bus_view.proofs.DrawClaim.{DrawLaws, draw_claim}
+use Rattle.bus_view.proofs.ViewClaims.{DrawLaws, draw_claim, save_claim}
 use Rattle.bus_view.proofs.top.view.Goals as goal
 
 pub returns-clause-draw : goal.returns-clause-draw
@@ -9,3 +9,12 @@ returns-clause-draw g c =
       single = c.lawful_is_single.ensures;
     } in
     λ dump table trace h. rw c.status.ensures (draw_claim laws _ c.act-outcome.result dump table trace c.act-outcome.ensures h)
+
+pub returns-clause-save : goal.returns-clause-save
+returns-clause-save g c =
+    let laws : DrawLaws = record {
+      table_again = c.text_reads_as_its_table.ensures;
+      trace_back = c.traces_read_back.ensures.back;
+      single = c.lawful_is_single.ensures;
+    } in
+    λ table trace h. rw c.status.ensures (save_claim laws _ c.act-outcome.result table trace c.act-outcome.ensures h)

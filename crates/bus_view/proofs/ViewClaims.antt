@@ -1,0 +1,118 @@
+-- What is claimed of the forms.
+use Rattle.std.specs.Prelude.{◌≡◌, ℕ, List, Option, Some, None, IfSome, Result, Ok}
+use Rattle.std.proofs.Common.{refl, sym, ap, ◌∙◌, subst}
+use Rattle.bus_text.specs.AllOf.{◌>>=◌}
+use Rattle.bus_table.specs.Tables.{Table}
+use Rattle.bus_trace.specs.TraceLaws.{ReadsBack}
+use Rattle.bus_trace.specs.Traces.{Recording}
+use Rattle.bus_dump.specs.declared.dump.Dump.{Dump as AnyDump}
+use Rattle.bus_dump.specs.declared.dump.Dump.TheVariants.{Vcd, Wires, Timers}
+use Rattle.bus_dump.specs.Doubled.{doubled}
+use Rattle.bus_dump.specs.Laws.{LawfulIsSingle}
+use Rattle.bus_dump.specs.SaveFiles.{save_text}
+use Rattle.bus_tool.specs.declared.outcome.Outcome.{Outcome}
+use Rattle.bus_tool.specs.declared.outcome.Outcome.TheVariants.{Done}
+use Rattle.bus_tool.specs.declared.status.Status.TheVariants as status
+use Rattle.bus_tool.specs.Claims.{Answers}
+use Rattle.bus_tool.specs.Due.{table_due, trace_due, Traced, with_trace, traced_due, outcome_with}
+use Rattle.bus_tool.specs.Outcomes.{status_of}
+use Rattle.bus_tool.specs.Outside.{Call}
+use Rattle.bus_tool.specs.Stages.{StandsFor}
+use Rattle.bus_tool.specs.Texts.{IsTextOf}
+use Rattle.bus_view.specs.Acts.{DoesView, Acts}
+use Rattle.bus_view.specs.Claims.{view_word, IsViewOf, GivesDump}
+use Rattle.bus_view.specs.Due.{single_or_refusal, single_due, drawn_due, drawing, view_text, IsView}
+use Rattle.bus_view.specs.Forms.{View, Dump, SaveFile, three_words, form_of}
+use Rattle.bus_view.proofs.ClaimLemmas.{TextReadsAsItsTable, table_told, held_trace, of_told, answers, refuses}
+
+-- the words of a view
+viewed_word : (view : View) → three_words (view_word view) ≡ Some view
+viewed_word (Dump Vcd) = refl
+viewed_word (Dump Wires) = refl
+viewed_word (Dump Timers) = refl
+viewed_word SaveFile = refl
+
+-- what the command of these words did
+does_of : (call : Call) (outcome : Outcome) (form : View) → form_of call.words ≡ Some form → Acts call outcome
+    → DoesView form call.before call.after outcome
+does_of call outcome form is acts = subst (λ f. IfSome f (λ form. DoesView form call.before call.after outcome)) is acts.does
+
+-- what is due to texts that are told
+drawn_told : (table : Table) (trace : Recording) (entry : Option ℕ) (first second : List ℕ) → table_due first ≡ Ok table
+    → trace_due second ≡ Ok trace → doubled trace.list ≡ entry
+    → drawn_due first second ≡ (single_or_refusal entry trace >>= λ trace. Ok (with_trace table trace))
+drawn_told table trace entry first second h k e =
+    ap (λ r. r >>= λ table. single_due second >>= λ trace. Ok (with_trace table trace)) h
+    ∙ ap (λ r. (r >>= λ (trace : Recording). single_or_refusal (doubled trace.list) trace) >>= λ trace. Ok (with_trace table trace)) k
+    ∙ ap (λ e. single_or_refusal e trace >>= λ trace. Ok (with_trace table trace)) e
+
+-- the text of the table and the trace that are due
+found : (view : View) (traced : Traced) (due : Result Traced Outcome) (text : List ℕ) → due ≡ Ok traced → IsTextOf (IsView view) due text
+    → text ≡ view_text view traced.table traced.trace
+found view traced due text is h =
+    (let same : Ok h.0 ≡ due = sym h.1 in let e : h.0 ≡ traced = cc in h.2 ∙ ap (λ (t : Traced). view_text view t.table t.trace) e)
+
+-- the laws of the crates below, by which it follows
+pub record DrawLaws : Type 0 where
+  pub table_again : TextReadsAsItsTable
+  pub trace_back : ReadsBack
+  pub single : LawfulIsSingle
+
+pub draw_claim : DrawLaws → (call : Call) (outcome : Outcome) (dump : AnyDump) (table : Table) (trace : Recording) → Acts call outcome
+    → IsViewOf (Dump dump) table trace call → GivesDump dump table trace call (status_of outcome)
+draw_claim laws call outcome dump table trace acts h =
+    let first = h.table_told.text in
+    let second = h.trace_told.stream in
+    let before = call.before.sources in
+    let table_due_is : table_due first ≡ Ok table = table_told laws.table_again table before.first h.table_told in
+    let trace_due_is : trace_due second ≡ Ok trace = held_trace laws.trace_back second trace h.trace_told.stands in
+    let form : form_of call.words ≡ Some (Dump dump) = ap form_of h.form.form ∙ viewed_word (Dump dump) in
+    let does = does_of call outcome (Dump dump) form acts in
+    let due : StandsFor (outcome_with (λ traced. Done) (drawn_due first second)) outcome =
+    of_told (λ b. StandsFor (outcome_with (λ traced. Done) (drawn_due first b)) outcome) before.second.bytes second h.trace_told.told
+    (of_told (λ a. IfSome before.second.bytes (λ b. StandsFor (outcome_with (λ traced. Done) (drawn_due a b)) outcome)) before.first.bytes
+    first h.table_told.told does.due) in
+    record {
+      drawn = λ none.
+          let is = drawn_told table trace None first second table_due_is trace_due_is none in
+          answers outcome _ (λ text. text ≡ drawing dump table trace) call
+          (λ text is_text. found (Dump dump) (with_trace table trace) (drawn_due first second) text is
+          (of_told (λ b. IsTextOf (IsView (Dump dump)) (drawn_due first b) text) before.second.bytes second h.trace_told.told
+          (of_told (λ a. IfSome before.second.bytes (λ b. IsTextOf (IsView (Dump dump)) (drawn_due a b) text)) before.first.bytes first
+          h.table_told.told is_text)))
+          (subst (λ d. StandsFor d outcome) (ap (outcome_with (λ traced. Done)) is) due) does.text does.counts does.out_count h.undisturbed;
+      refused = λ entry some.
+          let is = drawn_told table trace (Some entry) first second table_due_is trace_due_is some in
+          refuses entry outcome _ call (subst (λ d. StandsFor d outcome) (ap (outcome_with (λ traced. Done)) is) due) does.text does.counts
+          does.out_count h.undisturbed;
+      lawful = λ hands horizon fit lawful. laws.single table hands horizon trace.list h.table_told.valid fit lawful;
+    }
+
+-- what is due to texts that are told, whatever is doubled
+traced_told : (table : Table) (trace : Recording) (first second : List ℕ) → table_due first ≡ Ok table → trace_due second ≡ Ok trace
+    → traced_due first second ≡ Ok (with_trace table trace)
+traced_told table trace first second h k =
+    ap (λ r. r >>= λ table. trace_due second >>= λ trace. Ok (with_trace table trace)) h
+    ∙ ap (λ r. r >>= λ trace. Ok (with_trace table trace)) k
+
+pub save_claim : DrawLaws → (call : Call) (outcome : Outcome) (table : Table) (trace : Recording) → Acts call outcome
+    → IsViewOf SaveFile table trace call → Answers status.Done (λ text. text ≡ save_text table trace.list) call (status_of outcome)
+save_claim laws call outcome table trace acts h =
+    let first = h.table_told.text in
+    let second = h.trace_told.stream in
+    let before = call.before.sources in
+    let table_due_is : table_due first ≡ Ok table = table_told laws.table_again table before.first h.table_told in
+    let trace_due_is : trace_due second ≡ Ok trace = held_trace laws.trace_back second trace h.trace_told.stands in
+    let form : form_of call.words ≡ Some SaveFile = ap form_of h.form.form ∙ viewed_word SaveFile in
+    let does = does_of call outcome SaveFile form acts in
+    let is = traced_told table trace first second table_due_is trace_due_is in
+    let due : StandsFor (outcome_with (λ traced. Done) (traced_due first second)) outcome =
+    of_told (λ b. StandsFor (outcome_with (λ traced. Done) (traced_due first b)) outcome) before.second.bytes second h.trace_told.told
+    (of_told (λ a. IfSome before.second.bytes (λ b. StandsFor (outcome_with (λ traced. Done) (traced_due a b)) outcome)) before.first.bytes
+    first h.table_told.told does.due) in
+    answers outcome _ (λ text. text ≡ save_text table trace.list) call
+    (λ text is_text. found SaveFile (with_trace table trace) (traced_due first second) text is
+    (of_told (λ b. IsTextOf (IsView SaveFile) (traced_due first b) text) before.second.bytes second h.trace_told.told
+    (of_told (λ a. IfSome before.second.bytes (λ b. IsTextOf (IsView SaveFile) (traced_due a b) text)) before.first.bytes first
+    h.table_told.told is_text)))
+    (subst (λ d. StandsFor d outcome) (ap (outcome_with (λ traced. Done)) is) due) does.text does.counts does.out_count h.undisturbed
