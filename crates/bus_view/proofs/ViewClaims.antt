@@ -8,7 +8,9 @@ use Rattle.bus_trace.specs.Traces.{Recording}
 use Rattle.bus_dump.specs.declared.dump.Dump.{Dump as AnyDump}
 use Rattle.bus_dump.specs.declared.dump.Dump.TheVariants.{Vcd, Wires, Timers}
 use Rattle.bus_dump.specs.Doubled.{doubled}
-use Rattle.bus_dump.specs.Laws.{LawfulIsSingle}
+use Rattle.bus_dump.specs.Laws.{ClearListsShowNone, LawfulIsSingle}
+use Rattle.bus_schedule.specs.Laws.{AcceptedIsClosed}
+use Rattle.bus_schedule.specs.Runs.{IsClear}
 use Rattle.bus_dump.specs.SaveFiles.{save_text}
 use Rattle.bus_tool.specs.declared.outcome.Outcome.{Outcome}
 use Rattle.bus_tool.specs.declared.outcome.Outcome.TheVariants.{Done}
@@ -57,6 +59,8 @@ pub record DrawLaws : Type 0 where
   pub table_again : TextReadsAsItsTable
   pub trace_back : ReadsBack
   pub single : LawfulIsSingle
+  pub closed : AcceptedIsClosed
+  pub clear : ClearListsShowNone
 
 pub draw_claim : DrawLaws → (call : Call) (outcome : Outcome) (dump : AnyDump) (table : Table) (trace : Recording) → Acts call outcome
     → IsViewOf (Dump dump) table trace call → GivesDump dump table trace call (status_of outcome)
@@ -86,6 +90,8 @@ draw_claim laws call outcome dump table trace acts h =
           refuses entry outcome _ call (subst (λ d. StandsFor d outcome) (ap (outcome_with (λ traced. Done)) is) due) does.text does.counts
           does.out_count h.undisturbed;
       lawful = λ hands horizon fit lawful. laws.single table hands horizon trace.list h.table_told.valid fit lawful;
+      clear = λ hands t accepted even is.
+          laws.clear dump table trace.list t (subst IsClear (sym is) (laws.closed table hands h.table_told.valid accepted even).clear);
     }
 
 -- what is due to texts that are told, whatever is doubled

@@ -4,10 +4,14 @@ use Rattle.bus_table.specs.Hands.{are_hands}
 use Rattle.bus_table.specs.Tables.{Table, Hand}
 use Rattle.bus_medium.specs.Lawful.{IsLawful}
 use Rattle.bus_medium.specs.Timings.{quiet_of, stations_of}
+use Rattle.bus_regime.specs.Verdicts.{is_accepted, verdict_of}
+use Rattle.bus_schedule.specs.Closed.{closed}
+use Rattle.bus_schedule.specs.Even.{are_even}
 use Rattle.bus_trace.specs.Traces.{Recording}
 use Rattle.bus_dump.specs.declared.dump.Dump.{Dump as AnyDump}
 use Rattle.bus_dump.specs.declared.dump.Dump.TheVariants.{Vcd, Wires, Timers}
 use Rattle.bus_dump.specs.Doubled.{doubled}
+use Rattle.bus_dump.specs.Laws.{ShowsNoOverlap}
 use Rattle.bus_tool.specs.declared.status.Status.{Status}
 use Rattle.bus_tool.specs.declared.status.Status.TheVariants.{Done, InputRefused, NoMemory}
 use Rattle.bus_tool.specs.Claims.{NothingFails, TellsTable, Answers}
@@ -45,8 +49,12 @@ pub record Refuses (refusal : Status) (call : Call) (status : Status) : Type 0 w
 --   drawn     where no entry is doubled, the dump of the trace is written, with the words of the table's verdict as its comment
 --   refused   where one is, the trace is refused
 --   lawful    none is where the list is lawful, of any hands that fit the table's senders: as in what `observe`, `run` and `drop` write
+--   clear     where the list is what `run` writes of an accepted table, the dump shows no overlap, no garbled transmission, and no word that
+--             can't be told
 pub record GivesDump (dump : AnyDump) (table : Table) (trace : Recording) (call : Call) (status : Status) : Type 0 where
   pub drawn : doubled trace.list ≡ None → Answers Done (λ text. text ≡ drawing dump table trace) call status
   pub refused : (entry : ℕ) → doubled trace.list ≡ Some entry → Refuses InputRefused call status
   pub lawful : (hands : List Hand) (horizon : ℕ) → IsTrue (are_hands table.senders hands)
       → IsLawful (quiet_of table) (stations_of table hands) horizon trace.list → doubled trace.list ≡ None
+  pub clear : (hands : List Hand) (t : ℕ) → IsTrue (is_accepted (verdict_of table)) → IsTrue (are_even table hands)
+      → trace.list ≡ closed table hands → ShowsNoOverlap dump table trace.list t

@@ -15,8 +15,9 @@ ghost use Rattle.bus_view.specs.Claims.{IsViewOf, GivesDump};
 ghost use Rattle.bus_view.specs.Forms.{Dump, SaveFile};
 
 use crate::command::act;
-use bus_dump::laws::lawful_is_single;
+use bus_dump::laws::{clear_lists_show_none, lawful_is_single};
 use bus_outer::{Sink, Source};
+use bus_schedule::laws::accepted_is_closed;
 use bus_table::laws::text_reads_as_its_table;
 use bus_tool::{Status, outcome_text};
 use bus_trace::laws::traces_read_back;
@@ -54,6 +55,8 @@ pub fn view<S: Source, K: Sink, E: Sink>(
     text_reads_as_its_table();
     traces_read_back();
     lawful_is_single();
+    accepted_is_closed();
+    clear_lists_show_none();
     let outcome = act(alloc, words, first, second, out);
     let _ = outcome_text(&outcome, err);
     outcome.status()

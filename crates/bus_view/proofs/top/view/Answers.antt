@@ -7,6 +7,8 @@ returns-clause-draw g c =
       table_again = c.text_reads_as_its_table.ensures;
       trace_back = c.traces_read_back.ensures.back;
       single = c.lawful_is_single.ensures;
+      closed = c.accepted_is_closed.ensures;
+      clear = c.clear_lists_show_none.ensures;
     } in
     λ dump table trace h. rw c.status.ensures (draw_claim laws _ c.act-outcome.result dump table trace c.act-outcome.ensures h)
 
@@ -16,5 +18,7 @@ returns-clause-save g c =
       table_again = c.text_reads_as_its_table.ensures;
       trace_back = c.traces_read_back.ensures.back;
       single = c.lawful_is_single.ensures;
+      closed = c.accepted_is_closed.ensures;
+      clear = c.clear_lists_show_none.ensures;
     } in
     λ table trace h. rw c.status.ensures (save_claim laws _ c.act-outcome.result table trace c.act-outcome.ensures h)
