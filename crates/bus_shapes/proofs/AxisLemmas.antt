@@ -1,0 +1,43 @@
+-- The steps and the marks of axes.
+use Rattle.std.proofs.Common.{◌≡◌, ℕ, ◌+◌, ◌<◌, ◌≤◌, Bool, true, false, cond, List, [], ◌∷◌, ◌++◌, Option, Some, append-nil, arith, refl, sym, ap, ◌∙◌}
+use Rattle.std.specs.Prelude.{◌&&◌, nat_lt, nat_le}
+use Rattle.std.specs.List.{find, flat_map, range_with_len, list_all}
+use Rattle.std.specs.Option.{unwrap_or}
+use Rattle.std.proofs.lemmas.Bool.{and_parts, leb-true, ltb-true}
+use Rattle.std.proofs.lemmas.Grind.{flat_map-append}
+use Rattle.std.proofs.lemmas.List.{map-id}
+use Rattle.std.proofs.lemmas.List.FromFn.{map-range_with_len_more}
+use Rattle.bus_shapes.specs.Axes.{rounds, most_units}
+
+-- ---- steps
+pub record IsRound (number : ℕ) : Type 0 where
+  pub some : 0 < number
+  pub low : number ≤ most_units
+
+abbrev is_round : ℕ → Bool
+is_round number = nat_lt 0 number && nat_le number most_units
+
+round : (n : ℕ) → is_round n ≡ true → IsRound n
+round n h =
+    let parts = and_parts (nat_lt 0 n) (nat_le n most_units) h in
+    record { some = ltb-true 0 n parts.0; low = leb-true n most_units parts.1 }
+
+first : (b : Bool) (x : ℕ) (o : Option ℕ) → is_round x ≡ true → IsRound (unwrap_or o most_units) → IsRound (unwrap_or (cond b (Some x) o) most_units)
+first true x o here there = round x here
+first false x o here there = there
+
+found : (p : ℕ → Bool) (xs : List ℕ) → list_all is_round xs ≡ true → IsRound (unwrap_or (find p xs) most_units)
+found p [] h = record { some = omega arith; low = omega arith }
+found p (x ∷ xs) h =
+    let parts = and_parts (is_round x) (list_all is_round xs) h in
+    first (p x) x (find p xs) parts.0 (found p xs parts.1)
+
+pub step_is_round : (p : ℕ → Bool) → IsRound (unwrap_or (find p rounds) most_units)
+step_is_round p = found p rounds refl
+
+-- ---- marks
+range_more : (n : ℕ) → range_with_len 0 (n + 1) ≡ range_with_len 0 n ++ n ∷ []
+range_more n = sym (map-id (range_with_len 0 (n + 1))) ∙ map-range_with_len_more (λ (k : ℕ). k) 0 n n (omega arith) ∙ ap (λ (l : List ℕ). l ++ n ∷ []) (map-id (range_with_len 0 n))
+
+pub one_more : (f : ℕ → List ℕ) (n : ℕ) → flat_map f (range_with_len 0 (n + 1)) ≡ flat_map f (range_with_len 0 n) ++ f n
+one_more f n = ap (flat_map f) (range_more n) ∙ flat_map-append f (range_with_len 0 n) (n ∷ []) ∙ ap (λ (l : List ℕ). flat_map f (range_with_len 0 n) ++ l) (append-nil (f n))

@@ -1,0 +1,4 @@
+pub mod AxisLemmas
+pub mod ScaleLemmas
+pub mod SayingLemmas
+pub mod SendingLemmas

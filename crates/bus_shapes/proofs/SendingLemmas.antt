@@ -1,0 +1,124 @@
+-- A walk that tells of the transmissions of a list.
+use Rattle.std.proofs.Common.{◌≡◌, ℕ, suc, ◌+◌, ◌<◌, ◌≤◌, Bool, true, false, List, [], ◌∷◌, ◌++◌, length, take, drop, get_or, set, max, Option, Some, None}
+use Rattle.std.proofs.Common.{inl, inr, arith, sym, refl, ap, ◌∙◌, drop-cons}
+use Rattle.std.specs.Prelude.{slice_get}
+use Rattle.std.specs.Bool.{beq}
+use Rattle.std.specs.Iterator.{YieldsFirst}
+use Rattle.std.specs.List.{count_by}
+use Rattle.std.specs.Option.{option_eq}
+use Rattle.std.proofs.lemmas.Bool.{cases_eq, eq-eqb, ne_eqb}
+use Rattle.std.proofs.lemmas.List.{get_or-set_same, get_or-set_other, take_more}
+use Rattle.std.proofs.lemmas.List.FromFn.{length-map-range_with_len, get_or-map-range_with_len}
+use Rattle.std.proofs.lemmas.List.Sums.{count_by_more_no, count_by_more_yes, fold-append}
+use Rattle.std.proofs.lemmas.Option.{slice_get_within, get_or_from_slice_get}
+use Rattle.std.proofs.Math.ListN.{drop_of_length-le}
+use Rattle.bus_strings.specs.Marking.{greatest_end}
+use Rattle.bus_strings.specs.Messages.{Entry}
+use Rattle.bus_strings.specs.Transmissions.{end_of, garbled, marks}
+use Rattle.bus_shapes.specs.Sayings.{Sent}
+use Rattle.bus_shapes.specs.Sending.{IsTelling, is_of, sent_of, sents_from}
+
+-- ---- the next mark
+left_mark : (list : List Entry) (i : ℕ) → i < length list → drop i (marks list) ≡ garbled list i ∷ drop (suc i) (marks list)
+left_mark list i h =
+    drop-cons (marks list) i false (omega (arith, length-map-range_with_len (garbled list) 0 (length list)))
+    ∙ ap (λ b. b ∷ drop (suc i) (marks list)) (get_or-map-range_with_len (garbled list) 0 (length list) i i false h (omega arith))
+
+is_true : (b : Bool) → beq b true ≡ b
+is_true true = refl
+is_true false = refl
+
+next_by : (list : List Entry) (i : ℕ) (old new : List Bool) (r : Option Bool) → i < length list → old ≡ drop i (marks list)
+    → YieldsFirst (λ (s : List Bool). s) old r new → (option_eq beq r (Some true) ≡ garbled list i) × (new ≡ drop (suc i) (marks list))
+next_by list i old new None h o y = absurd (let w : [] ≡ garbled list i ∷ drop (suc i) (marks list) = sym y.0 ∙ o ∙ left_mark list i h in cc)
+next_by list i old new (Some m) h o y =
+    let w : m ∷ new ≡ garbled list i ∷ drop (suc i) (marks list) = sym y ∙ o ∙ left_mark list i h in
+    let m_is : m ≡ garbled list i = cc in
+    let new_is : new ≡ drop (suc i) (marks list) = cc in
+    (is_true m ∙ m_is, new_is)
+
+next_mark : (list : List Entry) (i : ℕ) (old new : List Bool) (r : Option Bool) (b : Bool) → i < length list → old ≡ drop i (marks list)
+    → YieldsFirst (λ (s : List Bool). s) old r new → b ≡ option_eq beq r (Some true) → (b ≡ garbled list i) × (new ≡ drop (i + 1) (marks list))
+next_mark list i old new r b h o y e =
+    let n = next_by list i old new r h o y in
+    let one : i + 1 ≡ suc i = omega arith in
+    (e ∙ n.0, n.1 ∙ ap (λ k. drop k (marks list)) (sym one))
+
+-- ---- what is kept
+-- How many of each terminal there are, with one entry more.
+counted : (list : List Entry) (counts : List ℕ) (i terminal : ℕ) (x : Entry) → length counts ≡ 129 → terminal ≤ 128 → slice_get list i ≡ Some x → x.terminal ≡ terminal
+    → ((n : ℕ) → n ≤ 128 → get_or counts n 0 ≡ count_by (is_of n) (take i list))
+    → (n : ℕ) → n ≤ 128 → get_or (set counts terminal (get_or counts terminal 0 + 1)) n 0 ≡ count_by (is_of n) (take (i + 1) list)
+counted list counts i terminal x long low at own old n h =
+    let within : i < length list = slice_get_within list i x at in
+    let is : get_or list i x ≡ x = get_or_from_slice_get list i x x at in
+    elim (cases_eq n terminal) [
+      | inl same ↦
+          let fits : terminal < length counts = omega arith in
+          let yes : is_of n (get_or list i x) ≡ true = ap (is_of n) is ∙ eq-eqb x.terminal n (own ∙ sym same) in
+          ap (λ k. get_or (set counts terminal (get_or counts terminal 0 + 1)) k 0) same
+          ∙ get_or-set_same counts terminal (get_or counts terminal 0 + 1) 0 fits
+          ∙ ap (λ k. get_or counts k 0 + 1) (sym same)
+          ∙ ap (λ k. k + 1) (old n h)
+          ∙ sym (count_by_more_yes (is_of n) list i x within yes)
+      | inr other ↦
+          let no : is_of n (get_or list i x) ≡ false = ap (is_of n) is ∙ ne_eqb x.terminal n (λ e. other (sym e ∙ own)) in
+          get_or-set_other counts terminal n (get_or counts terminal 0 + 1) 0 other ∙ old n h ∙ sym (count_by_more_no (is_of n) list i x within no)
+    ]
+
+-- The greatest end, with one entry more.
+greatest_more : (list : List Entry) (k : ℕ) (x : Entry) → slice_get list k ≡ Some x → greatest_end (take (k + 1) list) ≡ max (greatest_end (take k list)) (end_of x)
+greatest_more list k x at =
+    let within : k < length list = slice_get_within list k x at in
+    ap greatest_end (take_more list k x within ∙ ap (λ y. take k list ++ y ∷ []) (get_or_from_slice_get list k x x at))
+    ∙ fold-append (λ end y. max end (end_of y)) 0 (take k list) (x ∷ [])
+
+abbrev pub sent_with : ℕ → ℕ → ℕ → ℕ → ℕ → ℕ → Bool → Sent
+sent_with at terminal number moment end before mark =
+    record { at = at; terminal = terminal; number = number; moment = moment; end = end; before = before; garbled = mark }
+
+same_sent : (at terminal terminal' number number' moment moment' end end' before before' : ℕ) (mark mark' : Bool) → terminal ≡ terminal' → number ≡ number' → moment ≡ moment'
+    → end ≡ end' → before ≡ before' → mark ≡ mark' → sent_with at terminal number moment end before mark ≡ sent_with at terminal' number' moment' end' before' mark'
+same_sent at terminal terminal' number number' moment moment' end end' before before' mark mark' t n m e b g =
+    ap (λ k. sent_with at k number moment end before mark) t ∙ ap (λ k. sent_with at terminal' k moment end before mark) n
+    ∙ ap (λ k. sent_with at terminal' number' k end before mark) m ∙ ap (λ k. sent_with at terminal' number' moment' k before mark) e
+    ∙ ap (λ k. sent_with at terminal' number' moment' end' k mark) b ∙ ap (sent_with at terminal' number' moment' end' before') g
+
+-- One entry is told of.
+pub record Told (list : List Entry) (k terminal moment end before : ℕ) (counts : List ℕ) (mark : Bool) (left : List Bool) (x : Entry) : Type 0 where
+  pub sent : sent_with k terminal (get_or counts terminal 0 + 1) moment end before mark ≡ sent_of list k x
+  pub telling : IsTelling list (k + 1) (max before end) (set counts terminal (get_or counts terminal 0 + 1)) left
+
+pub tell : (list : List Entry) (k terminal moment end before : ℕ) (counts : List ℕ) (left left' : List Bool) (r : Option Bool) (mark : Bool) (x : Entry)
+    → IsTelling list k before counts left → slice_get list k ≡ Some x → x.terminal ≡ terminal → moment ≡ x.moment → end ≡ end_of x → terminal ≤ 128
+    → length counts ≡ 129 → YieldsFirst (λ (s : List Bool). s) left r left' → mark ≡ option_eq beq r (Some true) → Told list k terminal moment end before counts mark left' x
+tell list k terminal moment end before counts left left' r mark x t at own m e low long y is =
+    let within : k < length list = slice_get_within list k x at in
+    let next = next_mark list k left left' r mark within t.marks y is in
+    let more = counted list counts k terminal x long low at own t.counted in
+    let number : get_or counts terminal 0 + 1 ≡ count_by (is_of x.terminal) (take (k + 1) list) =
+    sym (get_or-set_same counts terminal (get_or counts terminal 0 + 1) 0 (omega arith)) ∙ more terminal low
+    ∙ ap (λ n. count_by (is_of n) (take (k + 1) list)) (sym own) in
+    record {
+      sent = same_sent k terminal x.terminal _ _ moment x.moment end (end_of x) before (greatest_end (take k list)) mark (garbled list k)
+          (sym own) number m e t.ends next.0;
+      telling = record {
+        order = t.order;
+        within = omega arith;
+        ends = ap (λ n. max n end) t.ends ∙ ap (max (greatest_end (take k list))) e ∙ sym (greatest_more list k x at);
+        counted = more;
+        marks = next.1;
+      };
+    }
+
+-- ---- what is left to be told
+pub sents_more : (list : List Entry) (k : ℕ) (x : Entry) → slice_get list k ≡ Some x
+    → sents_from list k (drop k list) ≡ sent_of list k x ∷ sents_from list (k + 1) (drop (k + 1) list)
+sents_more list k x at =
+    let within : k < length list = slice_get_within list k x at in
+    let one : suc k ≡ k + 1 = omega arith in
+    ap (sents_from list k) (drop-cons list k x within ∙ ap (λ y. y ∷ drop (suc k) list) (get_or_from_slice_get list k x x at))
+    ∙ ap (λ n. sent_of list k x ∷ sents_from list (k + 1) (drop n list)) one
+
+pub sents_end : (list : List Entry) (k : ℕ) → length list ≤ k → sents_from list k (drop k list) ≡ []
+sents_end list k h = ap (sents_from list k) (drop_of_length-le list h)

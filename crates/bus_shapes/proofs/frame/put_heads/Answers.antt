@@ -1,0 +1,7 @@
+use Rattle.bus_outer.specs.TextLaws.{◌▸◌}
+use Rattle.bus_shapes.proofs.frame.put_heads.Goals as goal
+
+pub returns : goal.returns
+returns g c =
+    (c.begin_words.ensures ▸ c.put_verdict.ensures ▸ c.end_words.ensures)
+    ▸ (c.begin_words-2.ensures ▸ c.put_answer.ensures ▸ c.end_words-2.ensures)

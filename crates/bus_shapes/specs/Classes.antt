@@ -1,0 +1,92 @@
+-- The classes of boxes and words: what each is called in a picture, and how it looks. Blue and vermillion, by Okabe and Ito, are told
+-- apart by a colour-blind person; what is garbled is hatched too, so that it shows in grey.
+use Rattle.std.specs.Prelude.{ℕ, List, [], ◌∷◌, ◌++◌, codes}
+use Rattle.std.specs.List.{flat_map}
+pub use Rattle.bus_shapes.specs.declared.class.Class.{Class}
+pub use Rattle.bus_shapes.specs.declared.class.Class.TheVariants.{Background, Band, Unobserved, Grid}
+pub use Rattle.bus_shapes.specs.declared.class.Class.TheVariants.{Tick, Carrier, Message, Garbled, Wordstring}
+pub use Rattle.bus_shapes.specs.declared.class.Class.TheVariants.{Other, Label, Noise, Edge, Overlap, Gap, Interval, Mark, Breach}
+pub use Rattle.bus_shapes.specs.declared.class.Class.TheVariants.{Verdict, Answer, Note, Counts, Small, Detail, Number, Digits, NoiseDigits}
+pub use Rattle.bus_shapes.specs.declared.class.Class.TheVariants.{GapWords, IntervalWords, BreachWords}
+
+-- What a class is called.
+abbrev pub class_name : Class → List ℕ
+class_name Background = codes "background"
+class_name Band = codes "band"
+class_name Unobserved = codes "unobserved"
+class_name Grid = codes "grid"
+class_name Tick = codes "tick"
+class_name Carrier = codes "carrier"
+class_name Message = codes "message"
+class_name Garbled = codes "garbled"
+class_name Wordstring = codes "wordstring"
+class_name Other = codes "other"
+class_name Label = codes "label"
+class_name Noise = codes "noise"
+class_name Edge = codes "edge"
+class_name Overlap = codes "overlap"
+class_name Gap = codes "gap"
+class_name Interval = codes "interval"
+class_name Mark = codes "mark"
+class_name Breach = codes "breach"
+class_name Verdict = codes "verdict"
+class_name Answer = codes "answer"
+class_name Note = codes "note"
+class_name Counts = codes "counts"
+class_name Small = codes "small"
+class_name Detail = codes "detail"
+class_name Number = codes "number"
+class_name Digits = codes "digits"
+class_name NoiseDigits = codes "noise-digits"
+class_name GapWords = codes "gap-words"
+class_name IntervalWords = codes "interval-words"
+class_name BreachWords = codes "breach-words"
+
+-- How it looks.
+abbrev pub look : Class → List ℕ
+look Background = codes "fill:#fff"
+look Band = codes "fill:#f6f7f9"
+look Unobserved = codes "fill:#ddd"
+look Grid = codes "fill:#d5d8dd"
+look Tick = codes "fill:#666"
+look Carrier = codes "fill:#555"
+look Message = codes "fill:#cfe3f3;stroke:#0072b2;stroke-width:10"
+look Garbled = codes "fill:url(#hatch);stroke:#a63a00;stroke-width:14"
+look Wordstring = codes "fill:#0072b2"
+look Other = codes "fill:#4f9fce"
+look Label = codes "fill:#004c7a"
+look Noise = codes "fill:#d55e00;fill-opacity:.4"
+look Edge = codes "fill:#fff"
+look Overlap = codes "fill:#d55e00;fill-opacity:.2"
+look Gap = codes "fill:#b07800"
+look Interval = codes "fill:#009e73"
+look Mark = codes "fill:#000;fill-opacity:.6"
+look Breach = codes "fill:#000"
+look Verdict = codes "font-size:150px;font-weight:bold"
+look Answer = codes "font-size:150px;font-weight:bold;text-anchor:end"
+look Note = codes "fill:#222"
+look Counts = codes "text-anchor:end"
+look Small = codes "font-size:90px;fill:#555"
+look Detail = codes "font-size:90px;fill:#555;text-anchor:end"
+look Number = codes "text-anchor:middle"
+look Digits = codes "fill:#fff;text-anchor:middle"
+look NoiseDigits = codes "fill:#000;stroke:#fff;stroke-width:50;stroke-linejoin:round;paint-order:stroke;text-anchor:middle"
+look GapWords = codes "font-size:90px;fill:#7a5200;text-anchor:middle"
+look IntervalWords = codes "font-size:90px;fill:#00694d;text-anchor:end"
+look BreachWords =
+    codes "font-weight:bold;fill:#000;stroke:#fff;stroke-width:50;stroke-linejoin:round;paint-order:stroke;text-anchor:middle"
+
+-- All classes: of boxes, then of words.
+abbrev pub classes : List Class
+classes =
+    Background ∷ (Band ∷ (Unobserved ∷ (Grid ∷ (Tick ∷ (Carrier ∷ (Message ∷ (Garbled ∷ (Wordstring ∷ (Other ∷ (
+    Label ∷ (Noise ∷ (Edge ∷ (Overlap ∷ (Gap ∷ (Interval ∷ (Mark ∷ (Breach ∷ (Verdict ∷ (Answer ∷ (Note ∷ (Counts ∷ (
+    Small ∷ (Detail ∷ (Number ∷ (Digits ∷ (NoiseDigits ∷ (GapWords ∷ (IntervalWords ∷ (BreachWords ∷ [])))))))))))))))))))))))))))))
+
+-- The rule of a class in the style of a picture.
+abbrev pub rule_text : Class → List ℕ
+rule_text class = codes "." ++ class_name class ++ codes "{" ++ look class ++ codes "}\n"
+
+-- The rules of all classes.
+abbrev pub rules_text : List ℕ
+rules_text = flat_map rule_text classes

@@ -1,0 +1,61 @@
+-- What stands around each picture: its head with the title and the style, the words above the plot, and its end.
+use Rattle.std.specs.Prelude.{ℕ, ◌/◌, List, ◌++◌, codes, decimal}
+use Rattle.bus_table.specs.Tables.{Table}
+use Rattle.bus_shapes.specs.Classes.{Answer, Background, Note, Verdict, rules_text}
+use Rattle.bus_shapes.specs.Classes as classes
+use Rattle.bus_shapes.specs.Sayings.{table_words}
+use Rattle.bus_shapes.specs.Shapes.{Area, box_text, words_text}
+pub use Rattle.bus_shapes.specs.declared.counts.Counts.{Counts}
+
+-- ---- the head
+-- The style of words of every class, and the hatching of what is garbled.
+abbrev pub font_text : List ℕ
+font_text = codes "text{font-family:DejaVu Sans Mono,Menlo,Consolas,monospace;font-size:110px;fill:#222}\n"
+
+abbrev pub hatch_text : List ℕ
+hatch_text =
+    codes "<defs><pattern id=\"hatch\" width=\"80\" height=\"80\" patternUnits=\"userSpaceOnUse\" patternTransform=\"rotate(45)\">"
+    ++ codes "<rect width=\"80\" height=\"80\" fill=\"#ffd2a8\"/><rect width=\"24\" height=\"80\" fill=\"#d55e00\"/></pattern></defs>\n"
+
+abbrev pub style_text : List ℕ
+style_text = codes "<style>\n" ++ font_text ++ rules_text ++ codes "</style>\n" ++ hatch_text
+
+-- The size of a picture of this height; 15800 units is its width.
+abbrev pub size_text : ℕ → List ℕ
+size_text height =
+    codes "<svg xmlns=\"http://www.w3.org/2000/svg\" role=\"img\" width=\"1580\" height=\"" ++ decimal (height / 10)
+    ++ codes "\" viewBox=\"0 0 15800 " ++ decimal height ++ codes "\">\n"
+
+-- The title: the words of the verdict and of the audit.
+abbrev pub title_text : List ℕ → List ℕ → List ℕ
+title_text verdict answer = codes "<title>" ++ verdict ++ codes "; " ++ answer ++ codes "</title>\n"
+
+-- ---- the words above the plot
+-- What is shown of a trace: its moments, how many transmissions that is, and how many of these are garbled.
+abbrev pub counts_words : Counts → List ℕ
+counts_words counts =
+    codes "moments " ++ decimal counts.from ++ codes " to " ++ decimal counts.to ++ codes " of " ++ decimal counts.horizon
+    ++ codes ": " ++ decimal counts.shown ++ codes " transmissions, " ++ decimal counts.garbled ++ codes " garbled"
+
+-- The background of a picture of this height.
+abbrev pub background : ℕ → Area
+background height = record { left = 0; top = 0; width = 15800; height = height }
+
+-- The words of the verdict and of the audit.
+abbrev pub heads_text : List ℕ → List ℕ → List ℕ
+heads_text verdict answer = words_text Verdict 200 270 verdict ++ words_text Answer 15500 270 answer
+
+-- The words of the table, and the counts.
+abbrev pub facts_text : Table → Counts → List ℕ
+facts_text table counts =
+    words_text Note 200 480 (table_words table) ++ words_text classes.Counts 15500 480 (counts_words counts)
+
+-- All that stands before the plot of a picture of this height.
+abbrev pub frame_text : ℕ → List ℕ → List ℕ → Table → Counts → List ℕ
+frame_text height verdict answer table counts =
+    size_text height ++ title_text verdict answer ++ style_text ++ box_text Background (background height)
+    ++ heads_text verdict answer ++ facts_text table counts
+
+-- The end of a picture.
+abbrev pub tail_text : List ℕ
+tail_text = codes "</svg>\n"

@@ -1,0 +1,31 @@
+-- What a picture says in words: of a table, of a moment and of a transmission.
+use Rattle.std.specs.Prelude.{ℕ, ◌-◌, ◌*◌, ◌/◌, ◌%◌, Bool, true, false, List, [], ◌++◌, length, codes, decimal}
+use Rattle.bus_table.specs.declared.mode.Mode.{Mode}
+use Rattle.bus_table.specs.Tables.{Table}
+use Rattle.bus_regime.specs.Lines.{mode_name}
+pub use Rattle.bus_shapes.specs.declared.sent.Sent.{Sent}
+
+-- ---- a table
+-- A mode, the transmit interval, the synchronization gap, and how many senders there are.
+abbrev pub summary_words : Mode → ℕ → ℕ → ℕ → List ℕ
+summary_words mode ti sg senders =
+    mode_name mode ++ codes " TI " ++ decimal ti ++ codes " SG " ++ decimal sg ++ codes ", " ++ decimal senders ++ codes " senders"
+
+abbrev pub table_words : Table → List ℕ
+table_words table = summary_words table.mode table.ti table.sg (length table.senders)
+
+-- ---- a transmission
+-- A moment in microseconds: a bit time is half of one.
+abbrev pub microseconds : ℕ → List ℕ
+microseconds t = decimal (t / 2) ++ codes "." ++ decimal (t % 2 * 5)
+
+abbrev pub garbled_words : Bool → List ℕ
+garbled_words true = codes ", garbled"
+garbled_words false = []
+
+-- Who sends what when, and whether it is garbled.
+abbrev pub sent_words : Sent → List ℕ
+sent_words sent =
+    codes "T" ++ decimal sent.terminal ++ codes " message " ++ decimal sent.number ++ codes ": moments " ++ decimal sent.moment
+    ++ codes " to " ++ decimal sent.end ++ codes ", " ++ decimal (sent.end - sent.moment) ++ codes " bit times, "
+    ++ microseconds sent.moment ++ codes " to " ++ microseconds sent.end ++ codes " microseconds" ++ garbled_words sent.garbled

@@ -1,0 +1,211 @@
+// What stands around each picture.
+ghost use Rattle.std.specs.Prelude.{◌≡◌, length};
+ghost use Rattle.bus_outer.specs.Texts.{Adds};
+ghost use Rattle.bus_regime.specs.Lines.{mode_name, verdict_words};
+ghost use Rattle.bus_shapes.specs.Frames as definition;
+ghost use Rattle.bus_audit.specs.Lines.{answer_words};
+ghost use Rattle.bus_shapes.specs.Sayings.{summary_words, table_words};
+ghost use Rattle.bus_shapes.specs.Shapes.{words_text};
+
+use crate::area::Area;
+use crate::class::{Class, put_rules};
+use crate::counts::Counts;
+use crate::shapes::{begin_words, end_words, put_box};
+use bus_audit::{AuditAnswer, put_answer};
+use bus_outer::{Sink, TextBuffer};
+use bus_regime::{TableVerdict, put_verdict};
+use bus_table::mode::Mode;
+use bus_table::table::Table;
+
+// The style of all classes, and the hatching of what is garbled.
+fn put_style<K: Sink>(text: &mut TextBuffer, sink: &mut K)
+    ensures { Adds K.held K.faults sink.old sink.new text.old text.new definition.style_text }
+{
+    text.put(sink, b"<style>\n");
+    put_font(text, sink);
+    put_rules(text, sink);
+    text.put(sink, b"</style>\n");
+    put_hatch(text, sink);
+}
+
+fn put_font<K: Sink>(text: &mut TextBuffer, sink: &mut K)
+    ensures { Adds K.held K.faults sink.old sink.new text.old text.new definition.font_text }
+{
+    text.put(
+        sink,
+        b"text{font-family:DejaVu Sans Mono,Menlo,Consolas,monospace;font-size:110px;fill:#222}\n",
+    );
+}
+
+fn put_hatch<K: Sink>(text: &mut TextBuffer, sink: &mut K)
+    ensures { Adds K.held K.faults sink.old sink.new text.old text.new definition.hatch_text }
+{
+    text.put(
+        sink,
+        b"<defs><pattern id=\"hatch\" width=\"80\" height=\"80\" patternUnits=\"userSpaceOnUse\" patternTransform=\"rotate(45)\">",
+    );
+    text.put(
+        sink,
+        b"<rect width=\"80\" height=\"80\" fill=\"#ffd2a8\"/><rect width=\"24\" height=\"80\" fill=\"#d55e00\"/></pattern></defs>\n",
+    );
+}
+
+// The size of a picture of this height.
+fn put_size<K: Sink>(text: &mut TextBuffer, sink: &mut K, height: u64)
+    ensures { Adds K.held K.faults sink.old sink.new text.old text.new (definition.size_text height) }
+{
+    text.put(
+        sink,
+        b"<svg xmlns=\"http://www.w3.org/2000/svg\" role=\"img\" width=\"1580\" height=\"",
+    );
+    text.put_number(sink, height / 10);
+    text.put(sink, b"\" viewBox=\"0 0 15800 ");
+    text.put_number(sink, height);
+    text.put(sink, b"\">\n");
+}
+
+// The title.
+fn put_title<K: Sink>(
+    text: &mut TextBuffer,
+    sink: &mut K,
+    verdict: &TableVerdict,
+    answer: &AuditAnswer,
+)
+    ensures { Adds K.held K.faults sink.old sink.new text.old text.new
+        (definition.title_text (verdict_words verdict.now) (answer_words answer.now)) }
+{
+    text.put(sink, b"<title>");
+    put_verdict(text, sink, verdict);
+    text.put(sink, b"; ");
+    put_answer(text, sink, answer);
+    text.put(sink, b"</title>\n");
+}
+
+// The word of a mode.
+fn put_mode<K: Sink>(text: &mut TextBuffer, sink: &mut K, mode: Mode)
+    ensures { Adds K.held K.faults sink.old sink.new text.old text.new (mode_name mode) }
+{
+    match mode {
+        Mode::Aperiodic => text.put(sink, b"aperiodic"),
+        Mode::Periodic => text.put(sink, b"periodic"),
+    }
+}
+
+// How many senders the table has.
+fn sender_count(table: &Table) -> usize
+    ensures { result ≡ length table.now.senders }
+{
+    table.senders().len()
+}
+
+// A mode, the transmit interval, the synchronization gap, and how many senders there are.
+fn put_summary<K: Sink>(
+    text: &mut TextBuffer,
+    sink: &mut K,
+    mode: Mode,
+    ti: u32,
+    sg: u32,
+    senders: usize,
+)
+    ensures { Adds K.held K.faults sink.old sink.new text.old text.new (summary_words mode ti sg senders) }
+{
+    put_mode(text, sink, mode);
+    text.put(sink, b" TI ");
+    text.put_number(sink, ti);
+    text.put(sink, b" SG ");
+    text.put_number(sink, sg);
+    text.put(sink, b", ");
+    text.put_number(sink, senders);
+    text.put(sink, b" senders");
+}
+
+// The words of a table.
+fn put_table<K: Sink>(text: &mut TextBuffer, sink: &mut K, table: &Table)
+    ensures { Adds K.held K.faults sink.old sink.new text.old text.new (table_words table.now) }
+{
+    let (ti, sg) = (table.ti(), table.sg());
+    let senders = sender_count(table);
+    put_summary(text, sink, table.mode(), ti, sg, senders);
+}
+
+// The counts.
+fn put_counts<K: Sink>(text: &mut TextBuffer, sink: &mut K, counts: &Counts)
+    ensures { Adds K.held K.faults sink.old sink.new text.old text.new (definition.counts_words counts.now) }
+{
+    text.put(sink, b"moments ");
+    text.put_number(sink, counts.from);
+    text.put(sink, b" to ");
+    text.put_number(sink, counts.to);
+    text.put(sink, b" of ");
+    text.put_number(sink, counts.horizon);
+    text.put(sink, b": ");
+    text.put_number(sink, counts.shown);
+    text.put(sink, b" transmissions, ");
+    text.put_number(sink, counts.garbled);
+    text.put(sink, b" garbled");
+}
+
+// The words of the verdict and of the audit.
+fn put_heads<K: Sink>(
+    text: &mut TextBuffer,
+    sink: &mut K,
+    verdict: &TableVerdict,
+    answer: &AuditAnswer,
+)
+    ensures { Adds K.held K.faults sink.old sink.new text.old text.new
+        (definition.heads_text (verdict_words verdict.now) (answer_words answer.now)) }
+{
+    begin_words(text, sink, Class::Verdict, 200, 270);
+    put_verdict(text, sink, verdict);
+    end_words(text, sink);
+    begin_words(text, sink, Class::Answer, 15500, 270);
+    put_answer(text, sink, answer);
+    end_words(text, sink);
+}
+
+// The words of the table, and the counts.
+fn put_facts<K: Sink>(text: &mut TextBuffer, sink: &mut K, table: &Table, counts: &Counts)
+    ensures { Adds K.held K.faults sink.old sink.new text.old text.new (definition.facts_text table.now counts.now) }
+{
+    begin_words(text, sink, Class::Note, 200, 480);
+    put_table(text, sink, table);
+    end_words(text, sink);
+    begin_words(text, sink, Class::Counts, 15500, 480);
+    put_counts(text, sink, counts);
+    end_words(text, sink);
+}
+
+/// Puts all that stands before the plot of a picture of this height, in units of a tenth of a pixel: its head, whose title has the words
+/// of the verdict and of the audit, its background, these words again, those of the table, and the counts.
+pub fn put_frame<K: Sink>(
+    text: &mut TextBuffer,
+    sink: &mut K,
+    height: u64,
+    verdict: &TableVerdict,
+    answer: &AuditAnswer,
+    table: &Table,
+    counts: &Counts,
+)
+    ensures { Adds K.held K.faults sink.old sink.new text.old text.new
+        (definition.frame_text height (verdict_words verdict.now) (answer_words answer.now) table.now counts.now) }
+{
+    put_size(text, sink, height);
+    put_title(text, sink, verdict, answer);
+    put_style(text, sink);
+    let area = Area {
+        left: 0,
+        top: 0,
+        width: 15800,
+        height,
+    };
+    put_box(text, sink, Class::Background, area);
+    put_heads(text, sink, verdict, answer);
+    put_facts(text, sink, table, counts);
+}
+
+/// Puts the end of a picture.
+pub fn put_tail<K: Sink>(text: &mut TextBuffer, sink: &mut K)
+    ensures { Adds K.held K.faults sink.old sink.new text.old text.new definition.tail_text }
+{
+    text.put(sink, b"</svg>\n");
+}

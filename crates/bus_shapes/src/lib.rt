@@ -1,0 +1,32 @@
+//! What all pictures of a trace share: the two kinds of elements of an SVG, boxes and words, and what is made of them in each picture.
+//!
+//! - [`Class`] says what an element stands for, and so how it looks; [`put_box`], [`put_words`] and their like put elements into a text.
+//! - [`Window`] is the stretch of a trace that is shown, and [`Scale`] says where moments are drawn.
+//! - [`put_frame`] and [`put_tail`] put what stands around a picture, [`put_axis`] an axis.
+//! - [`Sents`] goes over a list and tells of each transmission what a picture says of it, a [`Sent`]; [`put_sent`] puts its words.
+//!
+//! All numbers are whole; a unit is a tenth of a pixel. The definitions are in `specs/`: `Classes`, `Shapes` (boxes and words), `Windows`,
+//! `Scales` (places of moments), `Axes`, `Sayings` (the words), `Sending` (what is told of a list) and `Frames`. No call takes memory.
+#![tactic(auto)]
+
+pub mod area;
+pub mod axis;
+pub mod class;
+pub mod counts;
+pub mod frame;
+pub mod scale;
+pub mod sent;
+pub mod sents;
+pub mod shapes;
+pub mod window;
+
+pub use area::Area;
+pub use axis::{Axis, Unit, put_axis};
+pub use class::Class;
+pub use counts::Counts;
+pub use frame::{put_frame, put_tail};
+pub use scale::Scale;
+pub use sent::{Sent, put_garbled, put_microseconds, put_sent};
+pub use sents::Sents;
+pub use shapes::{begin_titled, begin_words, end_titled, end_words, put_box, put_words};
+pub use window::Window;
