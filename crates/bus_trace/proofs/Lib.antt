@@ -10,6 +10,7 @@ pub mod Runs
 pub mod Walks
 pub mod Feeds
 pub mod AgainLines
+pub mod CapitalTable
 pub mod Again
 pub mod QuickLines
 pub mod WriteTexts

@@ -1,6 +1,6 @@
 -- Lines that are recognized as they are written.
 use Rattle.std.proofs.Common.{arith, zero, suc, ◌≡◌, ℕ, ◌+◌, ◌-◌, ◌*◌, ◌/◌, ◌%◌, ◌<◌, ◌≤◌, ◌^◌, Bool, cond, true, false, not, ◌&&◌, ◌==◌, List, [], ◌∷◌}
-use Rattle.std.proofs.Common.{◌++◌, length, take, drop, get_or, Result, Ok, Err, IfOk, Some, None, IfSome, refl, sym, ap, subst, ◌∙◌}
+use Rattle.std.proofs.Common.{◌++◌, length, take, drop, get_or, Ok, Some, IfSome, MatchOption, refl, sym, ap, subst, ◌∙◌, append-nil, append_assoc}
 use Rattle.std.proofs.Common.{take-append-drop}
 use Rattle.std.specs.List.{list_all, join_with_byte}
 use Rattle.std.specs.declared.option.Option.{Option}
@@ -27,13 +27,13 @@ use Rattle.bus_trace.specs.declared.position.Position.TheVariants.{Begun, Closed
 use Rattle.bus_trace.specs.declared.keyword.Keyword.TheVariants.{Ws}
 use Rattle.bus_trace.specs.Traces.{Line, string_line, begin_line, ended_line}
 use Rattle.bus_trace.specs.Writing.{data_put}
-use Rattle.bus_trace.specs.States.{State, IsSound, step, spaced_fields, fields_step, last_count, may_follow}
-use Rattle.bus_trace.specs.Quick.{string_taken, BeginsRight, ClosesRight, HasData}
+use Rattle.bus_trace.specs.States.{State, IsSound, step, spaced_fields, fields_step, last_count, may_follow, is_ended}
+use Rattle.bus_trace.specs.Quick.{string_taken, BeginsRight, ClosesRight, HasData, AreDigits, TakesFront, line_end}
 use Rattle.bus_trace.proofs.StepRows.{digits_from}
 use Rattle.bus_trace.proofs.Lasts.{last_end_most}
 use Rattle.bus_trace.proofs.WriteTexts.{joined}
 use Rattle.bus_trace.proofs.Again.{begin_again, close_by_end, string_line_again}
-use Rattle.bus_trace.proofs.AgainLines.{Leads, fields_again}
+use Rattle.bus_trace.proofs.AgainLines.{Leads, fields_again, feedless_line}
 
 not_false : (b : Bool) → not b ≡ false → b ≡ true
 not_false true h = refl
@@ -82,6 +82,34 @@ next_digit text count value b d within digits value_is low here k d_is =
       room = omega (arith, low, d_is, digit.2);
     }
 
+-- four digits more
+pub next_four : (text : List ℕ) (count value a b c d four : ℕ) → count + 4 ≤ length text
+    → list_all is_ascii_digit (take count text) ≡ true → value ≡ decimal_value (take count text) → value < 10 ^ 13
+    → a ≡ get_or text count 0 → b ≡ get_or text (count + 1) 0 → c ≡ get_or text (count + 2) 0 → d ≡ get_or text (count + 3) 0
+    → AreDigits a b c d four → NextDigit text (count + 4) (10000 * value + four)
+next_four text count value a b c d four within digits value_is low ha hb hc hd f =
+    let one = next_digit text count value a (a - 48) (omega (arith, within)) digits value_is (omega (arith, low)) ha f.first refl in
+    let at2 : count + 2 ≡ (count + 1) + 1 = omega arith in
+    let at3 : count + 3 ≡ ((count + 1) + 1) + 1 = omega arith in
+    let at4 : (((count + 1) + 1) + 1) + 1 ≡ count + 4 = omega arith in
+    let da = (digit_is a f.first).2 in
+    let db = (digit_is b f.second).2 in
+    let dc = (digit_is c f.third).2 in
+    let two = next_digit text (count + 1) (10 * value + (a - 48)) b (b - 48) (omega (arith, within)) one.digits one.value
+    (omega (arith, low, da)) hb f.second refl in
+    let three = next_digit text ((count + 1) + 1) (10 * (10 * value + (a - 48)) + (b - 48)) c (c - 48) (omega (arith, within)) two.digits
+    two.value (omega (arith, low, da, db)) (hc ∙ ap (λ k. get_or text k 0) at2) f.third refl in
+    let all = next_digit text (((count + 1) + 1) + 1) (10 * (10 * (10 * value + (a - 48)) + (b - 48)) + (c - 48)) d (d - 48)
+    (omega (arith, within)) three.digits three.value (omega (arith, low, da, db, dc)) (hd ∙ ap (λ k. get_or text k 0) at3) f.fourth refl in
+    let total : 10000 * value + four ≡ 10 * (10 * (10 * (10 * value + (a - 48)) + (b - 48)) + (c - 48)) + (d - 48) =
+    omega (arith, f.value) in
+    record {
+      within = within;
+      digits = subst (λ k. list_all is_ascii_digit (take k text) ≡ true) at4 all.digits;
+      value = total ∙ all.value ∙ ap (λ k. decimal_value (take k text)) at4;
+      room = omega (arith, total, all.room);
+    }
+
 get_take : (n : ℕ) (xs : List ℕ) → 0 < n → get_or (take n xs) 0 0 ≡ get_or xs 0 0
 get_take zero xs h = absurd (omega arith)
 get_take (suc n) [] h = refl
@@ -115,39 +143,48 @@ step_of s n fields line h e =
     ap (λ l. fields_step s (spaced_fields l)) e ∙ ap (fields_step s) (fields_again fields h.0.some h.0.all) ∙ h.1.1
     ∙ ap (λ (m : State). Ok m) h.1.3
 
-pub begin_taken : (s : State) (moment terminal : ℕ) (line : List ℕ) → IsSound s → BeginsRight s moment terminal
-    → line ≡ join_with_byte 32 (begin_line moment terminal)
-    → step s line ≡ Ok (record {
-      position = Begun moment terminal;
-      format = s.format;
-      mark = s.mark;
-      horizon = s.horizon;
-      holds =
-          s.holds;
-      list = s.list;
-    })
-begin_taken s moment terminal line sound b e =
-    step_of s _ (begin_line moment terminal) line
+-- a line that leads on was taken in front
+pub front_of : (feed : Bool) (s n : State) (fields : Line) (text rest after : List ℕ) → Leads s (fields ∷ []) n
+    → text ≡ join_with_byte 32 fields ++ rest → rest ≡ line_end feed after → TakesFront feed s n text after
+front_of feed s n fields text rest after h e k = record {
+  line = join_with_byte 32 fields;
+  parts = e ∙ ap (λ r. join_with_byte 32 fields ++ r) k;
+  feedless = feedless_line fields h.0.all;
+  short = h.0.short;
+  steps = step_of s n fields (join_with_byte 32 fields) h refl;
+  goes = ap (λ (m : State). is_ended m.position) (sym h.1.3) ∙ h.1.2;
+}
+
+pub begin_taken : (feed : Bool) (s : State) (moment terminal : ℕ) (text rest after : List ℕ) → IsSound s → BeginsRight s moment terminal
+    → text ≡ join_with_byte 32 (begin_line moment terminal) ++ rest → rest ≡ line_end feed after
+    → TakesFront feed s
+    (record { position = Begun moment terminal; format = s.format; mark = s.mark; horizon = s.horizon; holds = s.holds; list = s.list })
+    text after
+begin_taken feed s moment terminal text rest after sound b e k =
+    front_of feed s _ (begin_line moment terminal) text rest after
     (begin_again s.position s.format s.mark s.horizon s.holds s.list moment terminal sound.trace.horizon b.stands b.below b.positive
-    b.low b.after b.fine) e
+    b.low b.after b.fine) e k
 
-pub close_taken : (s : State) (end : ℕ) (mark : Bool) (line : List ℕ) → IsSound s → ClosesRight s end mark
-    → line ≡ join_with_byte 32 (ended_line end mark)
-    → step s line ≡ Ok (record { position = Closed; format = s.format; mark = mark; horizon = s.horizon; holds = s.holds; list = s.list })
-close_taken s end mark line sound c e =
-    step_of s _ (ended_line end mark) line (close_by_end s.position s.format mark s.mark s.horizon s.holds s.list end c.stands c.ends
-    (omega (arith, c.ends, last_end_most s.horizon s.list sound.trace.horizon sound.trace.list)) c.fine) e
+pub close_taken : (feed : Bool) (s : State) (end : ℕ) (mark : Bool) (text rest after : List ℕ) → IsSound s → ClosesRight s end mark
+    → text ≡ join_with_byte 32 (ended_line end mark) ++ rest → rest ≡ line_end feed after
+    → TakesFront feed s
+    (record { position = Closed; format = s.format; mark = mark; horizon = s.horizon; holds = s.holds; list = s.list }) text after
+close_taken feed s end mark text rest after sound c e k =
+    front_of feed s _ (ended_line end mark) text rest after
+    (close_by_end s.position s.format mark s.mark s.horizon s.holds s.list end c.stands c.ends
+    (omega (arith, c.ends, last_end_most s.horizon s.list sound.trace.horizon sound.trace.list)) c.fine) e k
 
-pub string_step_taken : (s : State) (w : Wordstring) (line : List ℕ) → may_follow s.position s.format (last_count s.list) Ws ≡ true
-    → IsWordstring w → line ≡ join_with_byte 32 (string_line w) → step s line ≡ Ok (string_taken s w)
-string_step_taken s w line may i e = step_of s (string_taken s w) (string_line w) line
-    (string_line_again s.position s.format s.mark s.horizon s.holds s.list w may i) e
+pub string_front : (feed : Bool) (s : State) (w : Wordstring) (text rest after : List ℕ)
+    → may_follow s.position s.format (last_count s.list) Ws ≡ true → IsWordstring w
+    → text ≡ join_with_byte 32 (string_line w) ++ rest → rest ≡ line_end feed after → TakesFront feed s (string_taken s w) text after
+string_front feed s w text rest after may i e k = front_of feed s (string_taken s w) (string_line w) text rest after
+    (string_line_again s.position s.format s.mark s.horizon s.holds s.list w may i) e k
+
+-- the line is all of a text that is given without a line feed
+pub whole_line : (s n : State) (text rest : List ℕ) → TakesFront false s n text rest → step s text ≡ Ok n
+whole_line s n text rest t = ap (step s) (t.parts ∙ append-nil t.line) ∙ t.steps
 
 -- ---- words
-some_if : {A : Type 0} (t : Bool) (x y : A) → Some x ≡ cond t (Some y) None → (t ≡ true) × (x ≡ y)
-some_if true x y h = (refl, cc)
-some_if false x y h = absurd cc
-
 same_four : (a b c d a' b' c' d' : ℕ) → a ≡ a' → b ≡ b' → c ≡ c' → d ≡ d' → a ∷ b ∷ c ∷ d ∷ [] ≡ a' ∷ b' ∷ c' ∷ d' ∷ []
 same_four a b c d a' b' c' d' h i j k = cc
 
@@ -156,24 +193,32 @@ parts : (a b c d v : ℕ) → a < 16 → b < 16 → c < 16 → d < 16 → v ≡ 
     → (v / 16 / 16 / 16 % 16 ≡ a) × (v / 16 / 16 % 16 ≡ b) × (v / 16 % 16 ≡ c) × (v % 16 ≡ d)
 parts a b c d v h i j k e = (omega arith, omega arith, omega arith, omega arith)
 
+-- four values that are below one that is no digit's are those of digits
+digit_by : (t : Bool) (v x : ℕ) → x ≡ cond t v 61 → x < 61 → (t ≡ true) × (x ≡ v)
+digit_by true v x h k = (refl, h)
+digit_by false v x h k = absurd (omega (arith, h, k))
+
 -- a number is written by the digits whose values make it
-pub four_written : (a b c d x y z w v : ℕ) → Some x ≡ cond (is_capital_digit a) (Some (digit_value a)) None
-    → Some y ≡ cond (is_capital_digit b) (Some (digit_value b)) None → Some z ≡ cond (is_capital_digit c) (Some (digit_value c)) None
-    → Some w ≡ cond (is_capital_digit d) (Some (digit_value d)) None → v ≡ 256 * (16 * x + y) + (16 * z + w)
+pub four_written : (a b c d x y z w v : ℕ) → x ≡ cond (is_capital_digit a) (digit_value a) 61
+    → y ≡ cond (is_capital_digit b) (digit_value b) 61 → z ≡ cond (is_capital_digit c) (digit_value c) 61
+    → w ≡ cond (is_capital_digit d) (digit_value d) 61 → x + y + z + w < 61 → v ≡ 256 * (16 * x + y) + (16 * z + w)
     → hexadecimal 4 v ≡ a ∷ b ∷ c ∷ d ∷ []
-four_written a b c d x y z w v h i j k e =
-    let p = some_if (is_capital_digit a) x (digit_value a) h in
-    let q = some_if (is_capital_digit b) y (digit_value b) i in
-    let r = some_if (is_capital_digit c) z (digit_value c) j in
-    let s = some_if (is_capital_digit d) w (digit_value d) k in
+four_written a b c d x y z w v h i j k low e =
+    let p = digit_by (is_capital_digit a) (digit_value a) x h (omega (arith, low)) in
+    let q = digit_by (is_capital_digit b) (digit_value b) y i (omega (arith, low)) in
+    let r = digit_by (is_capital_digit c) (digit_value c) z j (omega (arith, low)) in
+    let s = digit_by (is_capital_digit d) (digit_value d) w k (omega (arith, low)) in
     let n = parts (digit_value a) (digit_value b) (digit_value c) (digit_value d) v (digit_value-lt a p.0) (digit_value-lt b q.0)
     (digit_value-lt c r.0) (digit_value-lt d s.0) (omega (arith, e, p.1, q.1, r.1, s.1)) in
     same_four _ _ _ _ a b c d (ap hex_digit n.0 ∙ hex_digit-digit_value a p.0) (ap hex_digit n.1 ∙ hex_digit-digit_value b q.0)
     (ap hex_digit n.2 ∙ hex_digit-digit_value c r.0) (ap hex_digit n.3 ∙ hex_digit-digit_value d s.0)
 
-pub some_given : (o : Option Wordstring) (w : Wordstring) (line : List ℕ) → o ≡ Some w
-    → IfSome o (λ s. line ≡ join_with_byte 32 (string_line s)) → line ≡ join_with_byte 32 (string_line w)
-some_given o w line e h = subst (λ p. IfSome p (λ s. line ≡ join_with_byte 32 (string_line s))) e h
+-- what is said of an option's value, where that is known
+pub some_given : {A : Type 0} (o : Option A) (x : A) (P : A → Type 0) → o ≡ Some x → IfSome o P → P x
+some_given o x P e h = subst (λ p. IfSome p P) e h
+
+pub match_given : {A : Type 0} (o : Option A) (x : A) (N : Type 0) (P : A → Type 0) → o ≡ Some x → MatchOption o N P → P x
+match_given o x N P e h = subst (λ p. MatchOption p N P) e h
 
 -- the words of a line, its label word first
 pub words_joined : (label ext value : ℕ) (words : List ℕ) (line front rest : List ℕ) → 16 * label + ext ≡ value
@@ -191,14 +236,10 @@ pub string_joined : (label ext value : ℕ) (line front rest : List ℕ) (s : Wo
 string_joined label ext value line front rest s v e f h =
     words_joined s.label s.ext value s.words line front rest (omega (arith, v, h.same_label, h.same_ext)) e f h.words
 
-pub found_joined : (label ext value : ℕ) (line front rest : List ℕ) (o : Option Wordstring) → 16 * label + ext ≡ value
-    → line ≡ 87 ∷ 83 ∷ (front ++ rest) → front ≡ 32 ∷ word_text (record { kind = Label; value = value })
-    → IfSome o (HasData label ext rest) → IfSome o (λ s. line ≡ join_with_byte 32 (string_line s))
-found_joined label ext value line front rest None v e f h = tt
-found_joined label ext value line front rest (Some s) v e f h = string_joined label ext value line front rest s v e f h
-
-pub given_joined : {E : Type 0} (label ext value : ℕ) (line front rest : List ℕ) (r : Result (Option Wordstring) E) → 16 * label + ext ≡ value
-    → line ≡ 87 ∷ 83 ∷ (front ++ rest) → front ≡ 32 ∷ word_text (record { kind = Label; value = value })
-    → IfOk r (λ o. IfSome o (HasData label ext rest)) → IfOk r (λ o. IfSome o (λ s. line ≡ join_with_byte 32 (string_line s)))
-given_joined label ext value line front rest (Ok o) v e f h = found_joined label ext value line front rest o v e f h
-given_joined label ext value line front rest (Err x) v e f h = tt
+-- the same in front of a text
+pub string_joined_front : (label ext value : ℕ) (text front words rest : List ℕ) (s : Wordstring) → 16 * label + ext ≡ value
+    → text ≡ 87 ∷ 83 ∷ (front ++ (words ++ rest)) → front ≡ 32 ∷ word_text (record { kind = Label; value = value })
+    → HasData label ext words s → text ≡ join_with_byte 32 (string_line s) ++ rest
+string_joined_front label ext value text front words rest s v e f h =
+    e ∙ ap (λ x. 87 ∷ 83 ∷ x) (sym (append_assoc front words rest))
+    ∙ ap (λ x. x ++ rest) (string_joined label ext value (87 ∷ 83 ∷ (front ++ words)) front words s v refl f h)

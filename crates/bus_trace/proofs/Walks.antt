@@ -9,8 +9,8 @@ use Rattle.bus_trace.specs.declared.walk.Judged.TheVariants.{Passes, Ends, Fails
 use Rattle.bus_trace.specs.declared.walk.Walked.TheVariants.{Ended}
 use Rattle.bus_trace.specs.States.{State, IsSound, start, step, text_of, is_ended}
 use Rattle.bus_trace.specs.Runs.{Standing, Progress, Going, Found, Refused, judged, ◌>>-◌, run, stream_of, HasNoFeed}
-use Rattle.bus_trace.specs.Quick.{TakesQuickly}
-use Rattle.bus_trace.specs.Walking.{WalkIs, KeepGives, JudgedGives, WalkGives, QuickGives, GoesOn}
+use Rattle.bus_trace.specs.Quick.{TakesFront}
+use Rattle.bus_trace.specs.Walking.{WalkIs, KeepGives, JudgedGives, WalkGives, TookFront, GoesOn}
 use Rattle.std.proofs.Math.Seq.{take-append_seam}
 use Rattle.bus_trace.proofs.Steps.{step_adds, step_sound}
 use Rattle.bus_trace.proofs.Runs.{run-append, run-line, run-long, run-feed, run-whole_line}
@@ -218,31 +218,39 @@ walks_part old now piece rest used w u =
     ∙ take-append_seam w.front rest in
     (omega (arith, u), ap (run old) front_is ∙ w.going, w.text ∙ ap (λ x. stream_of old ++ x) (sym front_is))
 
--- a line that was taken as it is written
-pub quick_gives : (s n : State) (line kept : List ℕ) → IsSound s → kept ≡ [] → HasNoFeed line → length line ≤ line_limit
-    → step s line ≡ Ok n → is_ended n.position ≡ false
-    → QuickGives (record { state = s; line = kept }) (record { state = n; line = kept }) line (Ok true)
-quick_gives s n line kept sound e f short h goes =
+-- a line in front that was taken as it is written
+pub took_front : (s n : State) (text rest kept : List ℕ) → IsSound s → kept ≡ [] → TakesFront true s n text rest
+    → TookFront (record { state = s; line = kept }) (record { state = n; line = kept }) text rest
+took_front s n text rest kept sound e t =
     let old : Standing = record { state = s; line = kept } in
     let new : Standing = record { state = n; line = kept } in
-    let j : JudgedGives old new (line ++ 10 ∷ []) (Ok Passes) (run old (line ++ 10 ∷ [])) =
-    front_closes old new line (Ok Passes) e f short
-    (front_gives s new line kept (Ok Passes) (judged s (step s line)) e (judge_gives s n line kept false sound h (sym goes) e)) in
-    (j.0, j.1, e)
+    let j : JudgedGives old new (t.line ++ 10 ∷ []) (Ok Passes) (run old (t.line ++ 10 ∷ [])) =
+    front_closes old new t.line (Ok Passes) e t.feedless t.short
+    (front_gives s new t.line kept (Ok Passes) (judged s (step s t.line)) e
+    (judge_gives s n t.line kept false sound t.steps (sym t.goes) e)) in
+    record { line = t.line; parts = t.parts; going = j.0; adds = j.1; none_begun = e }
 
-pub quickly_taken : (s n : State) (line : List ℕ) (taken : Bool) → taken ≡ true → TakesQuickly s n line taken
-    → (step s line ≡ Ok n) × (is_ended n.position ≡ false)
-quickly_taken s n line true e t = t
-quickly_taken s n line false e t = absurd cc
+pub took_is : (s n : State) (text rest kept : List ℕ) (used added : ℕ) → WalkIs s kept used → kept ≡ [] → TakesFront true s n text rest
+    → added + length rest ≡ length text → WalkIs n kept (used + added)
+took_is s n text rest kept used added w e t a =
+    let all : length t.line + 1 ≡ added = omega (arith, a, ap length t.parts, length-append t.line (10 ∷ rest)) in
+    subst (λ u. WalkIs n kept (used + u)) all (front_is s n t.line kept used (length t.line) w e t.short t.steps refl)
 
-pub took_quickly : (old new : Standing) (line : List ℕ) (taken : Bool) → taken ≡ true → QuickGives old new line (Ok taken)
-    → QuickGives old new line (Ok true)
-took_quickly old new line true e q = q
-took_quickly old new line false e q = absurd cc
+pub took_shorter_by : (s n : State) (text rest : List ℕ) → TakesFront true s n text rest → length rest < length text
+took_shorter_by s n text rest t = omega (arith, ap length t.parts, length-append t.line (10 ∷ rest))
 
-pub took_nothing : (old new : Standing) (line : List ℕ) (taken : Bool) → taken ≡ false → QuickGives old new line (Ok taken) → new ≡ old
-took_nothing old new line true e q = absurd cc
-took_nothing old new line false e q = q
+pub walks_took : (old now new : Standing) (piece rest behind : List ℕ) → WalksTo old now piece rest → TookFront now new rest behind
+    → WalksTo old new piece behind
+walks_took old now new piece rest behind w t = walks_on old now new piece rest t.line behind w t.parts t.going t.adds
+
+pub took_shorter : (now new : Standing) (rest behind : List ℕ) → TookFront now new rest behind → length behind < length rest
+took_shorter now new rest behind t = omega (arith, ap length t.parts, length-append t.line (10 ∷ behind))
+
+-- what has come and what is left are all
+pub walks_left : (old now : Standing) (piece rest : List ℕ) → WalksTo old now piece rest
+    → length (stream_of now) + length rest ≡ length (stream_of old) + length piece
+walks_left old now piece rest w =
+    omega (arith, ap length w.parts, length-append w.front rest, ap length w.text, length-append (stream_of old) w.front)
 
 pub walks_nowhere : (old : Standing) (piece : List ℕ) → GoesOn old old piece (Ok 0)
 unfolding run

@@ -1,11 +1,14 @@
 -- Lines that are taken without their fields being gathered: what is known where such a line is right.
-use Rattle.std.specs.Prelude.{◌≡◌, ◌≤◌, ◌<◌, ℕ, Bool, true, false, nat_lt, List, Ok}
+use Rattle.std.specs.Char.{is_ascii_digit}
+use Rattle.std.specs.Prelude.{◌≡◌, ◌≤◌, ◌<◌, ◌+◌, ◌-◌, ◌*◌, ℕ, Bool, true, false, nat_lt, List, [], ◌∷◌, ◌++◌, length, Ok}
 use Rattle.bus_strings.specs.Limits.{most_terminal}
 use Rattle.bus_strings.specs.Messages.{Wordstring}
 use Rattle.bus_trace.specs.declared.keyword.Keyword.TheVariants as keyword
 use Rattle.bus_trace.specs.declared.position.Position.TheVariants.{Stringing}
 use Rattle.bus_trace.specs.States.{State, step, may_follow, last_count, last_end, is_after, is_hit, is_final, is_refuted, starts_wrong}
 use Rattle.bus_trace.specs.States.{more_list, is_ended}
+use Rattle.bus_trace.specs.Limits.{line_limit}
+use Rattle.bus_trace.specs.Runs.{HasNoFeed}
 use Rattle.bus_trace.specs.Writing.{data_put}
 
 -- The state once the wordstring of a WS line has come.
@@ -34,13 +37,30 @@ pub record ClosesRight (s : State) (end : ℕ) (mark : Bool) : Type 0 where
   pub ends : end ≡ last_end s.list
   pub fine : starts_wrong mark (is_hit s.list) (is_final s.horizon s.list) ≡ false
 
--- The line was taken, and the step says so, which doesn't end the text; or nothing has changed.
-abbrev pub TakesQuickly : State → State → List ℕ → Bool → Type 0
-TakesQuickly old new line true = (step old line ≡ Ok new) × (is_ended new.position ≡ false)
-TakesQuickly old new line false = new ≡ old
+-- What stands behind the last field of a line: its line feed and the rest, or nothing, where the line is given without one.
+abbrev pub line_end : Bool → List ℕ → List ℕ
+line_end true rest = 10 ∷ rest
+line_end false rest = []
+
+-- A line in front of a text was taken, and the step says so, which doesn't end the text of the trace; the rest is behind its line feed.
+pub record TakesFront (feed : Bool) (old new : State) (text rest : List ℕ) : Type 0 where
+  pub line : List ℕ
+  pub parts : text ≡ line ++ line_end feed rest
+  pub feedless : HasNoFeed line
+  pub short : length line ≤ line_limit
+  pub steps : step old line ≡ Ok new
+  pub goes : is_ended new.position ≡ false
 
 -- The wordstring has this label and extension, and the text is that of its data words, each behind a space.
 pub record HasData (label ext : ℕ) (text : List ℕ) (string : Wordstring) : Type 0 where
   pub same_label : string.label ≡ label
   pub same_ext : string.ext ≡ ext
   pub words : text ≡ data_put string.words
+
+-- These four bytes are digits, which write the number.
+pub record AreDigits (a b c d number : ℕ) : Type 0 where
+  pub first : is_ascii_digit a ≡ true
+  pub second : is_ascii_digit b ≡ true
+  pub third : is_ascii_digit c ≡ true
+  pub fourth : is_ascii_digit d ≡ true
+  pub value : number ≡ 1000 * (a - 48) + 100 * (b - 48) + 10 * (c - 48) + (d - 48)

@@ -23,12 +23,13 @@ JudgedGives old new bytes (Ok Ends) p = (p ≡ Found new.state) × (stream_of ne
 JudgedGives old new bytes (Ok (Fails byte reason)) p = p ≡ Refused byte reason
 JudgedGives old new bytes (Err e) p = Unit {0}
 
--- What a call gave on a line that may be recognized as it is written: it was taken, or nothing was.
-abbrev pub QuickGives : Standing → Standing → List ℕ → Result Bool AllocError → Type 0
-QuickGives old new line (Ok true) =
-    (run old (line ++ 10 ∷ []) ≡ Going new) × (stream_of new ≡ stream_of old ++ (line ++ 10 ∷ [])) × (new.line ≡ [])
-QuickGives old new line (Ok false) = new ≡ old
-QuickGives old new line (Err e) = Unit {0}
+-- A line in front of a text was taken, where none was begun; the rest is behind its line feed.
+pub record TookFront (old new : Standing) (text rest : List ℕ) : Type 0 where
+  pub line : List ℕ
+  pub parts : text ≡ line ++ 10 ∷ rest
+  pub going : run old (line ++ 10 ∷ []) ≡ Going new
+  pub adds : stream_of new ≡ stream_of old ++ (line ++ 10 ∷ [])
+  pub none_begun : new.line ≡ []
 
 -- So many bytes of a piece were taken, and decide nothing.
 abbrev pub GoesOn : Standing → Standing → List ℕ → Result ℕ AllocError → Type 0

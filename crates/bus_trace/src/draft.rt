@@ -7,8 +7,8 @@ ghost use Rattle.bus_trace.specs.States.{IsSound, TakesString, start, recorded, 
 ghost use Rattle.bus_trace.specs.States.{head_step, horizon_step, hold_step, begin_step, string_step, close_step, end_step};
 ghost use Rattle.bus_trace.specs.States.{is_hit as hit_test, is_final as final_test, is_refuted as refuted_test, more_list};
 ghost use Rattle.bus_trace.specs.Reach.{IsReach};
-ghost use Rattle.bus_trace.specs.Quick.{string_taken, BeginsRight, ClosesRight, TakesQuickly};
-ghost use Rattle.std.specs.Prelude.{IsTrue, OnOk, OnErr, false, IfOk};
+ghost use Rattle.bus_trace.specs.Quick.{string_taken, BeginsRight, ClosesRight, TakesFront};
+ghost use Rattle.std.specs.Prelude.{IsTrue, OnOk, OnErr, false, IfOk, MatchOption};
 ghost use Rattle.bus_strings.specs.Messages.{Wordstring as AnyString};
 ghost use Rattle.bus_trace.specs.States.{last_count as count_of, is_ended as ended_test, may_follow as may_stand};
 
@@ -22,7 +22,7 @@ use crate::list::{
 };
 use crate::mark::{is_mark, mark_of, starts_wrong, turns_wrong};
 use crate::position::{Position, is_closed, is_ended, may_follow};
-use crate::quick::{begin_line, close_line, string_line};
+use crate::quick::{begin_line, behind_end, close_line, string_line};
 use crate::reason::TraceReason;
 use crate::trace::Trace;
 use crate::words::{are_spelled, have_parity, wordstring};
@@ -326,10 +326,15 @@ impl Draft {
     }
 
     // Takes a WS line that is spelled as it is written, where all of it is right.
-    fn take_quick_string(&mut self, alloc: Global, line: &[u8]) -> Result<bool, AllocError>
-        requires sound { IsSound self.old }
-        requires short { length line.now ≤ line_limit }
-        ensures ok { IfOk result (λ taken. TakesQuickly self.old self.new line.now taken) }
+    #[inline(always)]
+    fn take_quick_string<'a>(
+        &mut self,
+        alloc: Global,
+        text: &'a [u8],
+        feed: bool,
+    ) -> Result<Option<&'a [u8]>, AllocError>
+        requires { IsSound self.old }
+        ensures ok { IfOk result (λ o. MatchOption o (self.new ≡ self.old) (λ r. TakesFront feed self.old self.new text.now r.now)) }
         ensures err { OnErr result (self.new ≡ self.old) }
     {
         if !may_follow(
@@ -338,14 +343,17 @@ impl Draft {
             last_count(&self.list),
             Keyword::Ws,
         ) {
-            return Ok(false);
+            return Ok(None);
         }
-        let Some(string) = string_line(alloc, line)? else {
-            return Ok(false);
+        let Some((string, rest)) = string_line(alloc, text)? else {
+            return Ok(None);
+        };
+        let Some(rest) = behind_end(rest, feed) else {
+            return Ok(None);
         };
         let _ranges = string.words();
         self.add_string(alloc, string)?;
-        Ok(true)
+        Ok(Some(rest))
     }
 
     // Whether a TX line of these numbers is right.
@@ -365,21 +373,21 @@ impl Draft {
     }
 
     // Takes a TX line that is spelled as it is written, where all of it is right.
-    fn take_quick_begin(&mut self, line: &[u8]) -> bool
+    #[inline(always)]
+    fn take_quick_begin<'a>(&mut self, text: &'a [u8], feed: bool) -> Option<&'a [u8]>
         requires { IsSound self.old }
-        ensures { TakesQuickly self.old self.new line.now result }
+        ensures { MatchOption result (self.new ≡ self.old) (λ r. TakesFront feed self.old self.new text.now r.now) }
     {
-        let Some((moment, terminal)) = begin_line(line) else {
-            return false;
-        };
+        let (moment, terminal, rest) = begin_line(text)?;
+        let rest = behind_end(rest, feed)?;
         if !self.begins_right(moment, terminal) {
-            return false;
+            return None;
         }
         self.position = Position::Begun {
             moment,
             terminal: terminal as u8,
         };
-        true
+        Some(rest)
     }
 
     // Whether a TE line of this moment and this mark is right, or not yet wrong.
@@ -396,33 +404,39 @@ impl Draft {
     }
 
     // Takes a TE line that is spelled as it is written, where all of it is right.
-    fn take_quick_close(&mut self, line: &[u8]) -> bool
+    #[inline(always)]
+    fn take_quick_close<'a>(&mut self, text: &'a [u8], feed: bool) -> Option<&'a [u8]>
         requires { IsSound self.old }
-        ensures { TakesQuickly self.old self.new line.now result }
+        ensures { MatchOption result (self.new ≡ self.old) (λ r. TakesFront feed self.old self.new text.now r.now) }
     {
-        let Some((end, mark)) = close_line(line) else {
-            return false;
-        };
+        let (end, mark, rest) = close_line(text)?;
+        let rest = behind_end(rest, feed)?;
         if !self.closes_right(end, mark) {
-            return false;
+            return None;
         }
         self.position = Position::Closed;
         self.mark = mark;
-        true
+        Some(rest)
     }
 
-    /// Takes a line of a transmission that is spelled as it is written, where all of it is right.
-    pub(crate) fn take_quickly(&mut self, alloc: Global, line: &[u8]) -> Result<bool, AllocError>
-        requires sound { IsSound self.old }
-        requires short { length line.now ≤ line_limit }
-        ensures ok { IfOk result (λ taken. TakesQuickly self.old self.new line.now taken) }
+    /// Takes a line of a transmission in front of a text that is spelled as it is written, where all of it is right, and gives what is
+    /// behind its line feed, or nothing, where the text is one line and given without one. It is a part of each loop that calls it.
+    #[inline(always)]
+    pub(crate) fn take_quickly<'a>(
+        &mut self,
+        alloc: Global,
+        text: &'a [u8],
+        feed: bool,
+    ) -> Result<Option<&'a [u8]>, AllocError>
+        requires { IsSound self.old }
+        ensures ok { IfOk result (λ o. MatchOption o (self.new ≡ self.old) (λ r. TakesFront feed self.old self.new text.now r.now)) }
         ensures err { OnErr result (self.new ≡ self.old) }
     {
-        match line {
-            [b'W', ..] => self.take_quick_string(alloc, line),
-            [b'T', b'X', ..] => Ok(self.take_quick_begin(line)),
-            [b'T', b'E', ..] => Ok(self.take_quick_close(line)),
-            _ => Ok(false),
+        match text {
+            [b'W', ..] => self.take_quick_string(alloc, text, feed),
+            [b'T', b'X', ..] => Ok(self.take_quick_begin(text, feed)),
+            [b'T', b'E', ..] => Ok(self.take_quick_close(text, feed)),
+            _ => Ok(None),
         }
     }
 
@@ -442,10 +456,10 @@ impl Draft {
         requires short { length line.now ≤ line_limit }
         ensures { StepGives self.old self.new result (step self.old line.now) }
     {
-        if self.take_quickly(alloc, line)? {
-            return Ok(());
+        match self.take_quickly(alloc, line, false)? {
+            Some(_) => Ok(()),
+            None => self.take_slowly(alloc, line),
         }
-        self.take_slowly(alloc, line)
     }
 
     /// The trace of what was read.

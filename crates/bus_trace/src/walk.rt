@@ -1,8 +1,8 @@
-ghost use Rattle.std.specs.Prelude.{◌≡◌, ◌<◌, ◌≤◌, if◌then◌else◌, ◌+◌, ◌^◌, length, ◌++◌, ◌∷◌, [], MatchOption};
+ghost use Rattle.std.specs.Prelude.{◌≡◌, ◌<◌, ◌≤◌, if◌then◌else◌, ◌+◌, ◌^◌, length, ◌++◌, ◌∷◌, [], MatchOption, IfOk};
 ghost use Rattle.bus_trace.specs.Limits.{line_limit};
 ghost use Rattle.bus_trace.specs.States.{step, text_of, recorded};
 ghost use Rattle.bus_trace.specs.Runs.{HasNoFeed, judged, run, begin, stream_of};
-ghost use Rattle.bus_trace.specs.Walking.{KeepGives, JudgedGives, QuickGives, WalkGives, GoesOn};
+ghost use Rattle.bus_trace.specs.Walking.{KeepGives, JudgedGives, TookFront, WalkGives, GoesOn};
 
 use crate::draft::Draft;
 use crate::fault::LineFault;
@@ -171,18 +171,21 @@ impl Walk {
         self.judge(alloc)
     }
 
-    // Takes a whole line that is recognized as it is written, where none is begun.
-    fn take_quickly(&mut self, alloc: Global, line: &[u8]) -> Result<bool, AllocError>
-        requires room { length (stream_of self.old) + length line.now < 2 ^ 63 }
+    // Takes a whole line in front that is recognized as it is written, where none is begun, and gives what is behind its line feed.
+    fn take_quickly<'a>(
+        &mut self,
+        alloc: Global,
+        text: &'a [u8],
+    ) -> Result<Option<&'a [u8]>, AllocError>
+        requires room { length (stream_of self.old) + length text.now < 2 ^ 63 }
         requires empty { self.old.line ≡ [] }
-        requires one { HasNoFeed line.now }
-        ensures { QuickGives self.old self.new line.now result }
+        ensures { IfOk result (λ o. MatchOption o (self.new ≡ self.old) (λ r. TookFront self.old self.new text.now r.now)) }
     {
-        if line.len() > LINE_LIMIT || !self.draft.take_quickly(alloc, line)? {
-            return Ok(false);
-        }
-        self.used += line.len() as u64 + 1;
-        Ok(true)
+        let Some(rest) = self.draft.take_quickly(alloc, text, true)? else {
+            return Ok(None);
+        };
+        self.used += (text.len() - rest.len()) as u64;
+        Ok(Some(rest))
     }
 
     /// Takes the whole lines in front of a piece that are recognized as they are written, where no line is begun, and says how many bytes
@@ -195,10 +198,7 @@ impl Walk {
             return Ok(0);
         }
         let mut rest = piece;
-        while let Some((line, behind)) = first_line(rest) {
-            if !self.take_quickly(alloc, line)? {
-                break;
-            }
+        while let Some(behind) = self.take_quickly(alloc, rest)? {
             rest = behind;
         }
         Ok(piece.len() - rest.len())

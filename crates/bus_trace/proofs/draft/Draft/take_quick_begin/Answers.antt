@@ -1,21 +1,20 @@
-use Rattle.std.proofs.Common.{refl, ap, sym, Ok, ◌∙◌}
+use Rattle.std.proofs.Common.{sym, subst}
 use Rattle.bus_trace.specs.declared.position.Position.TheVariants.{Begun}
 use Rattle.bus_trace.specs.States.{State}
+use Rattle.bus_trace.specs.Quick.{TakesFront}
 use Rattle.bus_trace.proofs.QuickLines.{begin_taken}
 use Rattle.bus_trace.proofs.draft.Draft.take_quick_begin.Goals as goal
 
 pub returns : goal.returns
-returns c = (
-  begin_taken c.args.self.now c.in-Some.moment c.in-Some.terminal c.args.line.now c.requires
-      (c.begins_right.ensures c.if-not-begins_right.false) c.in-Some.ensures
-      ∙ ap (λ (s : State). Ok (record {
-        position = Begun c.in-Some.moment c.in-Some.terminal;
-        format = s.format;
-        mark = s.mark;
-        horizon =
-            s.horizon;
-        holds = s.holds;
-        list = s.list;
-      })) (sym c.self.view_is),
-  refl,
-)
+returns c =
+    let P : State → Type 0 = λ s. TakesFront c.args.feed c.args.self.now (record {
+      position = Begun c.in_ok-moment.moment c.in_ok-moment.terminal;
+      format = s.format;
+      mark = s.mark;
+      horizon = s.horizon;
+      holds = s.holds;
+      list = s.list;
+    }) c.args.text.now c.in_ok-rest.rest.now in
+    subst P (sym c.self.view_is) (begin_taken c.args.feed c.args.self.now c.in_ok-moment.moment c.in_ok-moment.terminal c.args.text.now
+    c.in_ok-moment.rest.now c.in_ok-rest.rest.now c.requires (c.begins_right.ensures c.if-not-begins_right.false) c.in_ok-moment.ensures
+    c.in_ok-rest.ensures)

@@ -1,21 +1,20 @@
-use Rattle.std.proofs.Common.{refl, ap, sym, Ok, ◌∙◌}
+use Rattle.std.proofs.Common.{sym, subst}
 use Rattle.bus_trace.specs.declared.position.Position.TheVariants.{Closed}
 use Rattle.bus_trace.specs.States.{State}
+use Rattle.bus_trace.specs.Quick.{TakesFront}
 use Rattle.bus_trace.proofs.QuickLines.{close_taken}
 use Rattle.bus_trace.proofs.draft.Draft.take_quick_close.Goals as goal
 
 pub returns : goal.returns
-returns c = (
-  close_taken c.args.self.now c.in-Some.end c.in-Some.mark c.args.line.now c.requires
-      (c.closes_right.ensures c.if-not-closes_right.false) c.in-Some.ensures
-      ∙ ap (λ (s : State). Ok (record {
-        position = Closed;
-        format = s.format;
-        mark = c.in-Some.mark;
-        horizon = s.horizon;
-        holds =
-            s.holds;
-        list = s.list;
-      })) (sym c.self.view_is),
-  refl,
-)
+returns c =
+    let P : State → Type 0 = λ s. TakesFront c.args.feed c.args.self.now (record {
+      position = Closed;
+      format = s.format;
+      mark = c.in_ok-end.mark;
+      horizon = s.horizon;
+      holds = s.holds;
+      list = s.list;
+    }) c.args.text.now c.in_ok-rest.rest.now in
+    subst P (sym c.self.view_is) (close_taken c.args.feed c.args.self.now c.in_ok-end.end c.in_ok-end.mark c.args.text.now
+    c.in_ok-end.rest.now c.in_ok-rest.rest.now c.requires (c.closes_right.ensures c.if-not-closes_right.false) c.in_ok-end.ensures
+    c.in_ok-rest.ensures)
