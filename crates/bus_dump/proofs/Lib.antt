@@ -12,6 +12,7 @@ pub mod DoubleLemmas
 pub mod BinaryLemmas
 pub mod PassLemmas
 pub mod SendingLemmas
+pub mod TouchLemmas
 pub mod WriteLemmas
 pub mod LawLemmas
 pub mod WordLemmas

@@ -1,5 +1,5 @@
 -- The signals of a dump by lanes.
-use Rattle.std.specs.Prelude.{◌≡◌, ℕ, ◌≤◌, Bool, false, List, ◌++◌, slice_index_or}
+use Rattle.std.specs.Prelude.{◌≡◌, ℕ, ◌≤◌, ◌<◌, Bool, false, List, ◌++◌, slice_index_or}
 use Rattle.std.specs.List.{flat_map, list_any}
 use Rattle.bus_strings.specs.Limits.{most_terminal}
 use Rattle.bus_strings.specs.Messages.{Entry}
@@ -42,3 +42,7 @@ pub record IsStill (before now : Scene) (terminal : ℕ) : Type 0 where
   pub was : list_any (is_of terminal) before.seen ≡ false
   pub is : list_any (is_of terminal) now.seen ≡ false
   pub same : elapsed terminal before.timers ≡ elapsed terminal now.timers
+
+-- A terminal that isn't touched is still.
+abbrev pub LeavesStill : Scene → Scene → List Bool → Type 0
+LeavesStill before now touched = (n : ℕ) → n < 256 → slice_index_or touched n false ≡ false → IsStill before now n

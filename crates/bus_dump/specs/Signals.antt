@@ -60,8 +60,11 @@ message terminal seen = option_map_or (λ (s : Seen). Number s.number) (find (is
 abbrev pub no_elapsed : Elapsed
 no_elapsed = record { terminal = 0; interval = false; synchronization = false; gap = false; may = false }
 
+abbrev pub tells_of : ℕ → Elapsed → Bool
+tells_of terminal elapsed = elapsed.terminal == terminal
+
 abbrev pub elapsed : ℕ → List Elapsed → Elapsed
-elapsed terminal timers = unwrap_or (find (λ (e : Elapsed). e.terminal == terminal) timers) no_elapsed
+elapsed terminal timers = unwrap_or (find (tells_of terminal) timers) no_elapsed
 
 -- The value of a signal in a scene.
 abbrev pub value : Signal → Scene → Value

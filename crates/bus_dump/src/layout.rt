@@ -5,7 +5,7 @@ ghost use Rattle.bus_outer.specs.Texts.{Adds};
 ghost use Rattle.bus_dump.specs.DumpTexts as texts;
 ghost use Rattle.bus_dump.specs.Lanes.{lanes};
 ghost use Rattle.bus_dump.specs.Layouts as layouts;
-ghost use Rattle.bus_dump.specs.Layouts.{IsStill};
+ghost use Rattle.bus_dump.specs.Layouts.{IsStill, LeavesStill};
 ghost use Rattle.bus_dump.specs.Signals as signals;
 ghost use Rattle.bus_dump.specs.Walks.{change_put};
 ghost use Rattle.bus_dump.specs.Watching.{scene_of};
@@ -17,6 +17,7 @@ use crate::lane::Lane;
 use crate::lanes::{MOST_LANES, bus_signals, lane_signals, lanes_of};
 use crate::scene::Scene;
 use crate::shown::Seen;
+use crate::touched::{NUMBERS, touched};
 use crate::value::elapsed;
 use arrayvec::ArrayVec;
 use bus_outer::{Sink, TextBuffer};
@@ -66,13 +67,15 @@ fn put_lane<K: Sink>(
     sink: &mut K,
     dump: Dump,
     lane: Lane,
+    touched: &[bool; NUMBERS],
     before: &Scene,
     now: &Scene,
 )
+    requires { LeavesStill (scene_of before.now) (scene_of now.now) touched.now }
     ensures { Adds K.held K.faults sink.old sink.new text.old text.new
         (flat_map (change_put (scene_of before.now) (scene_of now.now)) (signals.lane_signals dump lane)) }
 {
-    if is_still(before, now, lane.terminal) {
+    if !touched[lane.terminal as usize] {
         return;
     }
     put_changed(text, sink, lane_signals(dump, lane).as_slice(), before, now);
@@ -100,8 +103,9 @@ fn put_lanes<K: Sink>(
     ensures { Adds K.held K.faults sink.old sink.new text.old text.new
         (flat_map (layouts.lane_put dump (scene_of before.now) (scene_of now.now)) lanes.now) }
 {
+    let touched = touched(before, now);
     for lane in lanes {
-        put_lane(text, sink, dump, *lane, before, now);
+        put_lane(text, sink, dump, *lane, &touched, before, now);
     }
 }
 

@@ -35,6 +35,7 @@ mod shown;
 mod signal;
 #[cfg(test)]
 mod tests;
+mod touched;
 mod value;
 mod walk;
 mod watch;
