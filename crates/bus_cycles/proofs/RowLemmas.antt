@@ -1,0 +1,127 @@
+-- What follows of rows.
+use Rattle.std.proofs.Common.{◌≡◌, ◌↔◌, ℕ, zero, suc, ◌+◌, ◌*◌, ◌/◌, ◌%◌, ◌<◌, ◌≤◌, Bool, true, false, cond, eqb, List, [], ◌∷◌, ◌++◌, Some, inl, inr, arith, sym, refl, ap, subst, ◌∙◌, append_assoc}
+use Rattle.std.specs.Prelude.{not, slice_get}
+use Rattle.std.specs.List.{AllByRecursion, flat_map}
+use Rattle.std.proofs.lemmas.Bool.{eqb-true, true≢false}
+use Rattle.std.proofs.lemmas.Nat.{div-add-mod'}
+use Rattle.std.proofs.Math.Nat.{mod-lt}
+use Rattle.bus_strings.specs.ListLaws.{all_push}
+use Rattle.bus_strings.specs.MemberLaws.{from_filter, in_append_left, in_append_right, of_each}
+use Rattle.bus_strings.specs.Members.{In}
+use Rattle.bus_strings.specs.Messages.{Entry}
+use Rattle.bus_strings.specs.Transmissions.{garbled}
+use Rattle.bus_table.specs.declared.mode.Mode.TheVariants.{Periodic}
+use Rattle.bus_table.specs.Tables.{Table}
+use Rattle.bus_table.specs.ValidLaws.{valid_facts}
+use Rattle.bus_shapes.specs.declared.class.Class.TheVariants.{Garbled}
+use Rattle.bus_shapes.specs.declared.sent.Sent.{Sent}
+use Rattle.bus_shapes.specs.Windows.{Window}
+use Rattle.bus_cycles.specs.Laws.{HatchedAreGarbled, IsToldOf, RowsAreAPartition, RowsAreIntervals}
+use Rattle.bus_cycles.specs.Rows.{Cycle, Row, begin_in, cycle_of, interval_of, is_new, is_new_in, row_at, rows, rows_from, rows_of, with_sent}
+use Rattle.bus_cycles.specs.RowTexts.{class_of, shade}
+use Rattle.bus_shapes.specs.Sending.{sent_of, sents, sents_from}
+use Rattle.bus_cycles.specs.Sents.{is_shown, shown}
+
+-- ---- a partition
+
+pub parts_from : (cycle : Cycle) (row : Row) (xs : List Sent) → flat_map (λ (r : Row). r.sents) (rows_from cycle row xs) ≡ row.sents ++ xs
+parts_from cycle row [] = refl
+parts_from cycle row (x ∷ xs) =
+    elim (is_new cycle row.begin x) as (λ b. flat_map (λ (r : Row). r.sents) (cond b (row ∷ rows_from cycle (row_at cycle (row.place + 1) x) xs) (rows_from cycle (with_sent row x) xs)) ≡ row.sents ++ x ∷ xs) [
+      | true ↦ ap (λ t. row.sents ++ t) (parts_from cycle (row_at cycle (row.place + 1) x) xs)
+      | false ↦ parts_from cycle (with_sent row x) xs ∙ append_assoc row.sents (x ∷ []) xs
+    ]
+
+pub parts_of : (cycle : Cycle) (xs : List Sent) → flat_map (λ (r : Row). r.sents) (rows_of cycle xs) ≡ xs
+parts_of cycle [] = refl
+parts_of cycle (x ∷ xs) = parts_from cycle (row_at cycle 0 x) xs
+
+pub partition : RowsAreAPartition
+partition table window list = parts_of (cycle_of table) (shown window list)
+
+-- ---- each transmission of a row is one of those that are shown
+in_flat : (rows : List Row) (row : Row) (sent : Sent) → In row rows → In sent row.sents → In sent (flat_map (λ (r : Row). r.sents) rows)
+in_flat [] row sent i j = absurd i
+in_flat (r ∷ rs) row sent (inl same) j = in_append_left r.sents (flat_map (λ (r : Row). r.sents) rs) sent (subst (λ (r : Row). In sent r.sents) same j)
+in_flat (r ∷ rs) row sent (inr i) j = in_append_right r.sents (flat_map (λ (r : Row). r.sents) rs) sent (in_flat rs row sent i j)
+
+told_from : (list : List Entry) (n : ℕ) (xs : List Entry) (sent : Sent) → In sent (sents_from list n xs)
+    → (k : ℕ) × (x : Entry) × (slice_get xs k ≡ Some x) × (sent ≡ sent_of list (n + k) x)
+told_from list n [] sent i = absurd i
+told_from list n (x ∷ xs) sent (inl same) = (0, x, refl, same ∙ ap (λ m. sent_of list m x) (let e : n ≡ n + 0 = omega arith in e))
+told_from list n (x ∷ xs) sent (inr i) =
+    let r = told_from list (n + 1) xs sent i in
+    (suc r.0, r.1, r.2, r.3 ∙ ap (λ m. sent_of list m r.1) (let e : n + 1 + r.0 ≡ n + suc r.0 = omega arith in e))
+
+pub told : (table : Table) (window : Window) (list : List Entry) (row : Row) (sent : Sent) → In row (rows table window list) → In sent row.sents → IsToldOf list sent
+told table window list row sent i j =
+    let all : In sent (shown window list) = subst (In sent) (partition table window list) (in_flat (rows table window list) row sent i j) in
+    let r = told_from list 0 list sent (from_filter (is_shown window) (sents list) sent all).0 in
+    let none : 0 + r.0 ≡ r.0 = omega arith in
+    let same : sent ≡ sent_of list r.0 r.1 = r.3 ∙ ap (λ m. sent_of list m r.1) none in
+    let at : sent.at ≡ r.0 = ap (λ (s : Sent). s.at) same in
+    record {
+      entry = r.1;
+      at = ap (slice_get list) at ∙ r.2;
+      told = same ∙ ap (λ m. sent_of list m r.1) (sym at);
+    }
+
+hatched_at : (garbled : Bool) (odd : ℕ) → odd < 2 → (class_of (cond garbled 2 0 + odd) ≡ Garbled) ↔ (garbled ≡ true)
+hatched_at true zero h = (λ e. refl, λ e. refl)
+hatched_at true (suc zero) h = (λ e. refl, λ e. refl)
+hatched_at true (suc (suc n)) h = absurd (omega arith)
+hatched_at false zero h = (λ e. cc, λ e. cc)
+hatched_at false (suc zero) h = (λ e. cc, λ e. cc)
+hatched_at false (suc (suc n)) h = absurd (omega arith)
+
+pub hatched : HatchedAreGarbled
+hatched table window list row sent i j =
+    let t = told table window list row sent i j in
+    let mark : sent.garbled ≡ garbled list sent.at = ap (λ (s : Sent). s.garbled) t.told in
+    let odd : sent.terminal % 2 < 2 = omega arith in
+    (t, subst (λ b. (class_of (shade sent) ≡ Garbled) ↔ (b ≡ true)) mark (hatched_at sent.garbled (sent.terminal % 2) odd))
+
+-- ---- intervals
+abbrev IsWhole : ℕ → Row → Type 0
+IsWhole ti row = AllByRecursion (λ (sent : Sent). interval_of ti sent.moment ≡ row.begin) row.sents
+
+whole_row : (cycle : Cycle) (place : ℕ) (sent : Sent) → cycle.mode ≡ Periodic → IsWhole cycle.ti (row_at cycle place sent)
+whole_row cycle place sent e = (sym (ap (λ m. begin_in m cycle sent) e), tt)
+
+not_false : (b : Bool) → not b ≡ false → b ≡ true
+not_false true h = refl
+not_false false h = absurd (true≢false h)
+
+whole_step : (cycle : Cycle) (row : Row) (x : Sent) (xs : List Sent) (b : Bool) → cycle.mode ≡ Periodic → IsWhole cycle.ti row → is_new cycle row.begin x ≡ b
+    → AllByRecursion (IsWhole cycle.ti) (rows_from cycle (row_at cycle (row.place + 1) x) xs)
+    → (IsWhole cycle.ti (with_sent row x) → AllByRecursion (IsWhole cycle.ti) (rows_from cycle (with_sent row x) xs))
+    → AllByRecursion (IsWhole cycle.ti) (cond b (row ∷ rows_from cycle (row_at cycle (row.place + 1) x) xs) (rows_from cycle (with_sent row x) xs))
+whole_step cycle row x xs true e w n new more = (w, new)
+whole_step cycle row x xs false e w n new more =
+    let same : is_new cycle row.begin x ≡ not (eqb (interval_of cycle.ti x.moment) row.begin) = ap (λ m. is_new_in m cycle row.begin x) e in
+    let here : interval_of cycle.ti x.moment ≡ row.begin = eqb-true (interval_of cycle.ti x.moment) row.begin (not_false (eqb (interval_of cycle.ti x.moment) row.begin) (sym same ∙ n)) in
+    more (all_push (λ (sent : Sent). interval_of cycle.ti sent.moment ≡ row.begin) row.sents x w here)
+
+whole_from : (cycle : Cycle) (row : Row) (xs : List Sent) → cycle.mode ≡ Periodic → IsWhole cycle.ti row → AllByRecursion (IsWhole cycle.ti) (rows_from cycle row xs)
+whole_from cycle row [] e w = (w, tt)
+whole_from cycle row (x ∷ xs) e w =
+    whole_step cycle row x xs (is_new cycle row.begin x) e w refl (whole_from cycle (row_at cycle (row.place + 1) x) xs e (whole_row cycle (row.place + 1) x e))
+    (λ h. whole_from cycle (with_sent row x) xs e h)
+
+whole_rows : (cycle : Cycle) (xs : List Sent) → cycle.mode ≡ Periodic → AllByRecursion (IsWhole cycle.ti) (rows_of cycle xs)
+whole_rows cycle [] e = tt
+whole_rows cycle (x ∷ xs) e = whole_from cycle (row_at cycle 0 x) xs e (whole_row cycle 0 x e)
+
+pub intervals : RowsAreIntervals
+intervals table window list row sent valid mode i j =
+    let whole : IsWhole table.ti row = of_each (IsWhole table.ti) (rows table window list) (whole_rows (cycle_of table) (shown window list) mode) row i in
+    let at : interval_of table.ti sent.moment ≡ row.begin = of_each (λ (s : Sent). interval_of table.ti s.moment ≡ row.begin) row.sents whole sent j in
+    let some : 0 < table.ti = (let f = valid_facts table valid in omega (arith, f.ti_least)) in
+    let parts = within_interval table.ti sent.moment some in
+    (subst (λ b. b ≤ sent.moment) at parts.0, subst (λ b. sent.moment < b + table.ti) at parts.1)
+  where
+    within_interval : (ti t : ℕ) → 0 < ti → (t / ti * ti ≤ t) × (t < t / ti * ti + ti)
+    within_interval ti t some =
+        let whole : t / ti * ti + t % ti ≡ t = div-add-mod' t ti in
+        let short : t % ti < ti = mod-lt t some in
+        (omega arith, omega arith)

@@ -1,0 +1,40 @@
+-- What holds of the transmissions of a list and of a window.
+use Rattle.std.proofs.Common.{ℕ, ◌+◌, ◌*◌, ◌^◌, ◌<◌, ◌≤◌, Bool, true, false, cond, List, [], ◌∷◌, length, arith}
+use Rattle.std.specs.List.{AllByRecursion, filter, sum_by}
+use Rattle.std.proofs.lemmas.List.Sums.{sum_by-cons}
+use Rattle.bus_strings.specs.Messages.{Entry, IsWordstring, Wordstring, word_count}
+use Rattle.bus_trace.specs.Traces.{IsBelow}
+use Rattle.bus_shapes.specs.Sending.{sent_of, sents, sents_from}
+use Rattle.bus_cycles.specs.Sents.{IsSent}
+
+some_words : (strings : List Wordstring) → AllByRecursion IsWordstring strings → sum_by word_count strings ≤ 257 * length strings
+some_words [] all = omega arith
+some_words (s ∷ ss) all =
+    let few : length s.words ≤ 256 = all.0.few in
+    let rest : sum_by word_count ss ≤ 257 * length ss = some_words ss all.1 in
+    omega (arith, sum_by-cons word_count s ss)
+
+entry_is_sent : (list : List Entry) (horizon k : ℕ) (x : Entry) → horizon ≤ 2 ^ 40 → IsBelow horizon x → IsSent (sent_of list k x)
+entry_is_sent list horizon k x low below =
+    let few : length x.message ≤ 31 = below.message.few in
+    let words : sum_by word_count x.message ≤ 257 * length x.message = some_words x.message below.message.strings in
+    let early : x.moment < horizon = below.moment in
+    record { order = omega arith; low = omega arith }
+
+each_from : (all : List Entry) (horizon n : ℕ) (xs : List Entry) → horizon ≤ 2 ^ 40 → AllByRecursion (IsBelow horizon) xs → AllByRecursion IsSent (sents_from all n xs)
+each_from all horizon n [] low below = tt
+each_from all horizon n (x ∷ xs) low below = (entry_is_sent all horizon n x low below.0, each_from all horizon (n + 1) xs low below.1)
+
+pub each_sent : (list : List Entry) (horizon : ℕ) → horizon ≤ 2 ^ 40 → AllByRecursion (IsBelow horizon) list → AllByRecursion IsSent (sents list)
+each_sent list horizon low below = each_from list horizon 0 list low below
+
+pub filtered : {X : Type 0} (P : X → Type 0) (p : X → Bool) → (xs : List X) → AllByRecursion P xs → AllByRecursion P (filter p xs)
+filtered P p [] all = tt
+filtered P p (x ∷ xs) all =
+    elim (p x) as (λ b. AllByRecursion P (cond b (x ∷ filter p xs) (filter p xs))) [ true ↦ (all.0, filtered P p xs all.1) | false ↦ filtered P p xs all.1 ]
+
+pub filtered_few : {X : Type 0} (p : X → Bool) → (xs : List X) → length (filter p xs) ≤ length xs
+filtered_few p [] = omega arith
+filtered_few p (x ∷ xs) =
+    let rest : length (filter p xs) ≤ length xs = filtered_few p xs in
+    elim (p x) as (λ b. length (cond b (x ∷ filter p xs) (filter p xs)) ≤ length (x ∷ xs)) [ true ↦ omega arith | false ↦ omega arith ]

@@ -1,0 +1,140 @@
+-- The text of a picture that has a row for each cycle.
+use Rattle.std.specs.Prelude.{ℕ, ◌+◌, ◌-◌, nat_le, nat_lt, min, List, [], ◌++◌, codes, decimal, Option, Some, None, if◌then◌else◌}
+use Rattle.std.specs.List.{flat_map}
+use Rattle.bus_audit.specs.declared.answer.AuditAnswer.{AuditAnswer}
+use Rattle.bus_regime.specs.declared.table_verdict.TableVerdict.{TableVerdict}
+use Rattle.bus_regime.specs.declared.table_verdict.TableVerdict.TheVariants.{Accept, ShortCycle, SmallGap, NoSync}
+use Rattle.bus_regime.specs.Lines.{verdict_words}
+use Rattle.bus_table.specs.declared.mode.Mode.{Mode}
+use Rattle.bus_table.specs.declared.mode.Mode.TheVariants.{Aperiodic, Periodic}
+use Rattle.bus_table.specs.Tables.{Table}
+use Rattle.bus_trace.specs.Traces.{Recording}
+use Rattle.bus_shapes.specs.declared.axis.Axis.{Axis}
+use Rattle.bus_shapes.specs.declared.axis.Unit.TheVariants.{BitTimes, Microseconds}
+use Rattle.bus_shapes.specs.Axes.{axis_text}
+use Rattle.bus_shapes.specs.declared.class.Class.{Class}
+use Rattle.bus_shapes.specs.declared.class.Class.TheVariants.{Breach, BreachWords, Detail, Grid, Mark, Small, Tick}
+use Rattle.bus_shapes.specs.Frames.{frame_text, tail_text}
+use Rattle.bus_audit.specs.Lines.{answer_words}
+use Rattle.bus_shapes.specs.declared.scale.Scale.{Scale}
+use Rattle.bus_shapes.specs.Scales.{place}
+use Rattle.bus_shapes.specs.declared.area.Area.{Area}
+use Rattle.bus_shapes.specs.Shapes.{box_text, words_text}
+use Rattle.bus_shapes.specs.Windows.{Window}
+use Rattle.bus_cycles.specs.Rows.{Extent, cycle_of, rows}
+use Rattle.bus_cycles.specs.Sents.{shown}
+use Rattle.bus_cycles.specs.RowTexts.{row_text, top_of}
+use Rattle.bus_cycles.specs.Surveys.{Survey, breach_in, counts, is_drawn, most_rows, survey_of}
+
+-- ---- the plot
+-- The moments behind the beginning of a row, as far as the longest that is drawn has some.
+abbrev pub scale_of : Survey → Scale
+scale_of survey = record { from = 0; to = survey.longest; left = 1500; width = 12900 }
+
+-- The lower edge of the rows.
+abbrev pub bottom_of : Survey → ℕ
+bottom_of survey = top_of (min survey.count most_rows)
+
+-- ---- words above the rows
+-- How many rows are drawn of how many, and where the next begins.
+abbrev pub next_words : Option ℕ → List ℕ
+next_words None = []
+next_words (Some begin) = codes ", the next at " ++ decimal begin
+
+abbrev pub row_words : Survey → List ℕ
+row_words survey =
+    codes "a row for each cycle, from the moment at which it begins: " ++ decimal (min survey.count most_rows) ++ codes " of "
+    ++ decimal survey.count ++ next_words survey.next
+
+-- The axes, of which the second has lines over all rows.
+abbrev pub upper_axis : Axis
+upper_axis = record { unit = Microseconds; words = 830; class = Tick; top = 850; height = 50 }
+
+abbrev pub lower_axis_to : ℕ → Axis
+lower_axis_to bottom = record { unit = BitTimes; words = 1010; class = Grid; top = 1040; height = bottom - 1040 }
+
+abbrev pub axes_text : Survey → List ℕ
+axes_text survey = axis_text (scale_of survey) upper_axis ++ axis_text (scale_of survey) (lower_axis_to (bottom_of survey))
+
+-- What stands above the rows.
+abbrev pub above_text : Survey → List ℕ
+above_text survey = words_text Small 200 620 (row_words survey) ++ axes_text survey ++ words_text Detail 15500 1010 (codes "length")
+
+-- ---- marks
+-- A line over all rows, at a distance from their beginning.
+abbrev pub mark_line : Survey → ℕ → Area
+mark_line survey t =
+    record { left = place (scale_of survey) t; top = 1070; width = 10; height = bottom_of survey - 1000 }
+
+-- Its words, below it.
+abbrev pub mark_words : Survey → Class → ℕ → List ℕ → ℕ → List ℕ
+mark_words survey class left name t = words_text class left (bottom_of survey + 150) (name ++ decimal t)
+
+-- A mark, with its words behind it or before it, unless it lies behind all rows.
+abbrev pub mark_text : Survey → List ℕ → ℕ → List ℕ
+mark_text survey name t =
+    if nat_le t survey.longest
+    then box_text Mark (mark_line survey t) ++ mark_words survey Small (place (scale_of survey) t + 40) name t
+    else []
+
+abbrev pub least_text : Survey → ℕ → List ℕ
+least_text survey t =
+    if nat_le t survey.longest
+    then box_text Mark (mark_line survey t) ++ mark_words survey Detail (place (scale_of survey) t - 30) (codes "least ") t
+    else []
+
+-- In aperiodic mode the synchronization gap is marked, the least that a cycle takes, and the most; or the transmit interval, where that
+-- is above the least. In periodic mode the transmit interval is.
+abbrev pub interval_mark : Survey → Table → List ℕ
+interval_mark survey table = mark_text survey (codes "TI ") table.ti
+
+abbrev pub least_marks : Survey → Table → ℕ → List ℕ
+least_marks survey table least = mark_text survey (codes "SG ") table.sg ++ least_text survey least
+
+abbrev pub accepted_marks : Survey → Table → Mode → ℕ → ℕ → List ℕ
+accepted_marks survey table Aperiodic least most = least_marks survey table least ++ mark_text survey (codes "most ") most
+accepted_marks survey table Periodic least most = interval_mark survey table
+
+abbrev pub short_marks : Survey → Table → ℕ → List ℕ
+short_marks survey table least = least_marks survey table least ++ interval_mark survey table
+
+abbrev pub marks_text : Survey → Table → TableVerdict → List ℕ
+marks_text survey table (Accept mode least most) = accepted_marks survey table mode least most
+marks_text survey table (ShortCycle least ti) = short_marks survey table least
+marks_text survey table (SmallGap terminal gap needed) = interval_mark survey table
+marks_text survey table (NoSync terminal gap needed) = interval_mark survey table
+
+-- ---- the first breach
+-- A line over its row, and a word beside it.
+abbrev pub breach_line : ℕ → ℕ → Area
+breach_line left row = record { left = left; top = top_of row - 30; width = 20; height = 200 }
+
+-- Where the word has its middle: behind the line, or before it in the right half.
+abbrev pub beside : ℕ → ℕ
+beside left = if nat_lt left 8000 then left + 270 else left - 250
+
+abbrev pub breach_at : ℕ → ℕ → List ℕ
+breach_at left row = box_text Breach (breach_line left row) ++ words_text BreachWords (beside left) (top_of row + 105) (codes "breach")
+
+-- The breach at this moment, in this row where it is drawn.
+abbrev pub breach_in_row : Scale → ℕ → Extent → List ℕ
+breach_in_row scale moment row = if is_drawn row.place then breach_at (place scale (moment - row.begin)) row.place else []
+
+abbrev pub breach_text : Scale → Option ℕ → Option Extent → List ℕ
+breach_text scale None marked = []
+breach_text scale (Some moment) None = []
+breach_text scale (Some moment) (Some row) = breach_in_row scale moment row
+
+-- ---- the whole
+-- The picture of a window of a trace on a table, given what is told of its rows.
+abbrev pub text_of : Survey → Window → TableVerdict → AuditAnswer → Table → Recording → List ℕ
+text_of survey window verdict answer table trace =
+    frame_text (bottom_of survey + 250) (verdict_words verdict) (answer_words answer) table (counts window trace)
+    ++ above_text survey ++ marks_text survey table verdict
+    ++ flat_map (row_text (scale_of survey)) (rows table window trace.list)
+    ++ breach_text (scale_of survey) (breach_in window answer) survey.marked ++ tail_text
+
+-- The picture of a window of a trace on a table.
+abbrev pub cycles_text : Window → TableVerdict → AuditAnswer → Table → Recording → List ℕ
+cycles_text window verdict answer table trace =
+    text_of (survey_of (cycle_of table) (breach_in window answer) (shown window trace.list)) window verdict answer table trace

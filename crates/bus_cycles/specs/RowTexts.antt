@@ -1,0 +1,106 @@
+-- The text of a row. A unit is a tenth of a pixel.
+use Rattle.std.specs.Prelude.{ℕ, ◌+◌, ◌-◌, ◌*◌, ◌/◌, ◌%◌, Bool, ◌&&◌, ◌==◌}
+use Rattle.std.specs.Prelude.{nat_le, nat_lt, max, List, [], ◌∷◌, ◌++◌, decimal, if◌then◌else◌}
+use Rattle.std.specs.List.{list_any}
+use Rattle.bus_shapes.specs.declared.class.Class.{Class}
+use Rattle.bus_shapes.specs.declared.class.Class.TheVariants.{Detail, Digits, Garbled, Other, Wordstring}
+use Rattle.bus_shapes.specs.declared.sent.Sent.{Sent}
+use Rattle.bus_shapes.specs.Sayings.{sent_words}
+use Rattle.bus_shapes.specs.declared.scale.Scale.{Scale}
+use Rattle.bus_shapes.specs.Scales.{place}
+use Rattle.bus_shapes.specs.declared.area.Area.{Area}
+use Rattle.bus_shapes.specs.Shapes.{titled_text, words_text}
+use Rattle.bus_cycles.specs.Rows.{Extent, Row, extent_of}
+use Rattle.bus_cycles.specs.Surveys.{is_drawn}
+
+-- ---- where a transmission is
+-- The upper edge of a row.
+abbrev pub top_of : ℕ → ℕ
+top_of row = 1190 + 140 * row
+
+-- The place of a moment behind another, on a whole pixel.
+abbrev pub pixel : Scale → ℕ → ℕ → ℕ
+pixel scale begin t = place scale (t - begin) / 10 * 10
+
+-- The left edge of a transmission in a row that began at this moment, and its right edge, at least a pixel behind.
+abbrev pub left_of : Scale → ℕ → Sent → ℕ
+left_of scale begin sent = pixel scale begin sent.moment
+
+abbrev pub right_of : Scale → ℕ → Sent → ℕ
+right_of scale begin sent = max (pixel scale begin sent.end) (left_of scale begin sent + 10)
+
+-- Its shade: by whether it is garbled, and whether its terminal's number is odd.
+abbrev pub shade : Sent → ℕ
+shade sent = (if sent.garbled then 2 else 0) + sent.terminal % 2
+
+-- What it is drawn as: a garbled one is hatched.
+abbrev pub class_of : ℕ → Class
+class_of shade = if shade == 0 then Other else (if shade == 1 then Wordstring else Garbled)
+
+-- How far below the upper edge of its row it begins, and its height: that of odd terminals is the upper half where it is garbled.
+abbrev pub below_top : ℕ → ℕ
+below_top shade = if shade == 2 then 76 else (if shade == 3 then 16 else 10)
+
+abbrev pub height_of : ℕ → ℕ
+height_of shade = if nat_lt shade 2 then 120 else 48
+
+abbrev pub area_of : Scale → ℕ → ℕ → Sent → Area
+area_of scale row begin sent = record {
+  left = left_of scale begin sent;
+  top = top_of row + below_top (shade sent);
+  width = right_of scale begin sent - left_of scale begin sent;
+  height = height_of (shade sent);
+}
+
+-- ---- boxes
+-- How wide the number of a terminal is, with a character around it.
+abbrev pub number_width : ℕ → ℕ
+number_width terminal = if nat_lt terminal 10 then 132 else (if nat_lt terminal 100 then 198 else 264)
+
+-- Whether a box has room for the number of its terminal: one that is garbled has none.
+abbrev pub has_room : Area → Sent → Bool
+has_room area sent = nat_lt (shade sent) 2 && nat_le (number_width sent.terminal) area.width
+
+-- The number of its terminal, in the middle of its box.
+abbrev pub number_text : Area → Sent → List ℕ
+number_text area sent =
+    if has_room area sent then words_text Digits (area.left + area.width / 2) (area.top + 95) (decimal sent.terminal) else []
+
+-- A transmission in an area: its box, and its number.
+abbrev pub sent_text : Area → Sent → List ℕ
+sent_text area sent = titled_text (class_of (shade sent)) area (sent_words sent) ++ number_text area sent
+
+-- A text of a row, which is left out where the row isn't drawn.
+abbrev pub where_drawn : ℕ → List ℕ → List ℕ
+where_drawn row text = if is_drawn row then text else []
+
+-- Whether one of these transmissions, of a row that began at this moment, has this shade and reaches as far.
+abbrev pub is_reached : Scale → ℕ → List Sent → ℕ → ℕ → Bool
+is_reached scale begin earlier tone right = list_any (λ y. shade y == tone && nat_le right (right_of scale begin y)) earlier
+
+-- What a transmission adds to a row that has these: nothing where one of these has its shade and reaches as far, since then a box of its
+-- shade holds its own.
+abbrev pub box_behind : Scale → ℕ → ℕ → List Sent → Sent → List ℕ
+box_behind scale row begin earlier sent =
+    if is_reached scale begin earlier (shade sent) (right_of scale begin sent) then []
+    else where_drawn row (sent_text (area_of scale row begin sent) sent)
+
+-- What transmissions add to a row that has these.
+abbrev pub boxes : Scale → ℕ → ℕ → List Sent → List Sent → List ℕ
+boxes scale row begin earlier [] = []
+boxes scale row begin earlier (sent ∷ sents) =
+    box_behind scale row begin earlier sent ++ boxes scale row begin (earlier ++ sent ∷ []) sents
+
+-- ---- rows
+-- The words of a row: the moment at which it begins at its left, its length at its right.
+abbrev pub words_of : Extent → List ℕ
+words_of row =
+    words_text Detail 1440 (top_of row.place + 105) (decimal row.begin)
+    ++ words_text Detail 15500 (top_of row.place + 105) (decimal (row.end - row.begin))
+
+abbrev pub ending_text : Extent → List ℕ
+ending_text row = where_drawn row.place (words_of row)
+
+-- A row: its transmissions, then its words.
+abbrev pub row_text : Scale → Row → List ℕ
+row_text scale row = boxes scale row.place row.begin [] row.sents ++ ending_text (extent_of row)

@@ -1,0 +1,82 @@
+-- The rows of a picture: where each begins and ends, and its transmissions.
+use Rattle.std.specs.Prelude.{ℕ, ◌+◌, ◌-◌, ◌*◌, ◌/◌, Bool, not, ◌==◌, nat_le, max, min, fold, List, [], ◌∷◌, ◌++◌, if◌then◌else◌}
+use Rattle.bus_strings.specs.Messages.{Entry}
+use Rattle.bus_table.specs.declared.mode.Mode.{Mode}
+use Rattle.bus_table.specs.declared.mode.Mode.TheVariants.{Aperiodic, Periodic}
+use Rattle.bus_table.specs.Tables.{Table}
+use Rattle.bus_shapes.specs.declared.sent.Sent.{Sent}
+use Rattle.bus_shapes.specs.Windows.{Window}
+use Rattle.bus_cycles.specs.Sents.{shown}
+pub use Rattle.bus_cycles.specs.declared.cycle.Cycle.{Cycle}
+pub use Rattle.bus_cycles.specs.declared.cycle.Extent.{Extent}
+
+-- ---- where rows begin
+-- The greatest terminal gap of a table.
+abbrev pub greatest_gap : Table → ℕ
+greatest_gap table = fold (λ most sender. max most sender.tg) 0 table.senders
+
+-- What of a table tells where rows begin: `lead` is how long before its first transmission a cycle begins, at most.
+abbrev pub cycle_of : Table → Cycle
+cycle_of table = record { mode = table.mode; ti = table.ti; sg = table.sg; lead = table.sg + greatest_gap table }
+
+-- The moment at which the interval began that holds a moment.
+abbrev pub interval_of : ℕ → ℕ → ℕ
+interval_of ti t = t / ti * ti
+
+-- The moment at which a row begins of which this is the first transmission: with its interval in periodic mode, and else as soon as the
+-- earlier transmissions have ended, but no more than the lead before it.
+abbrev pub begin_in : Mode → Cycle → Sent → ℕ
+begin_in Periodic cycle sent = interval_of cycle.ti sent.moment
+begin_in Aperiodic cycle sent = min sent.moment (max sent.before (sent.moment - cycle.lead))
+
+abbrev pub begin_of : Cycle → Sent → ℕ
+begin_of cycle sent = begin_in cycle.mode cycle sent
+
+-- Whether a transmission begins a new row behind one that began at this moment: where it is in another interval in periodic mode, and else
+-- where it comes a synchronization gap or more behind the end of all earlier ones.
+abbrev pub is_new_in : Mode → Cycle → ℕ → Sent → Bool
+is_new_in Periodic cycle begin sent = not (interval_of cycle.ti sent.moment == begin)
+is_new_in Aperiodic cycle begin sent = nat_le cycle.sg (sent.moment - sent.before)
+
+abbrev pub is_new : Cycle → ℕ → Sent → Bool
+is_new cycle begin sent = is_new_in cycle.mode cycle begin sent
+
+-- ---- rows
+-- A row: which one it is, from 0, the moment at which it begins, and its transmissions in order.
+pub record Row : Type 0 where
+  pub place : ℕ
+  pub begin : ℕ
+  pub sents : List Sent
+
+-- The row that begins with a transmission.
+abbrev pub row_at : Cycle → ℕ → Sent → Row
+row_at cycle place sent = record { place = place; begin = begin_of cycle sent; sents = sent ∷ [] }
+
+-- A row with one transmission more behind the others.
+abbrev pub with_sent : Row → Sent → Row
+with_sent row sent = record { place = row.place; begin = row.begin; sents = row.sents ++ sent ∷ [] }
+
+-- A row and those behind it, where these transmissions follow on it: each goes on with its row or begins the next one.
+abbrev pub rows_from : Cycle → Row → List Sent → List Row
+rows_from cycle row [] = row ∷ []
+rows_from cycle row (sent ∷ sents) =
+    if is_new cycle row.begin sent
+    then row ∷ rows_from cycle (row_at cycle (row.place + 1) sent) sents
+    else rows_from cycle (with_sent row sent) sents
+
+-- The rows of transmissions.
+abbrev pub rows_of : Cycle → List Sent → List Row
+rows_of cycle [] = []
+rows_of cycle (sent ∷ sents) = rows_from cycle (row_at cycle 0 sent) sents
+
+-- The rows of a list in a window: its cycles there.
+abbrev pub rows : Table → Window → List Entry → List Row
+rows table window list = rows_of (cycle_of table) (shown window list)
+
+-- The moment at which all transmissions of a row have ended.
+abbrev pub end_of_all : List Sent → ℕ
+end_of_all sents = fold (λ end sent. max end sent.end) 0 sents
+
+-- Where a row is.
+abbrev pub extent_of : Row → Extent
+extent_of row = record { place = row.place; begin = row.begin; end = end_of_all row.sents }

@@ -1,0 +1,68 @@
+-- What is told of the rows of a picture before they are drawn.
+use Rattle.std.specs.Prelude.{ℕ, ◌+◌, ◌-◌, Bool, false, ◌==◌, nat_le, nat_lt}
+use Rattle.std.specs.Prelude.{max, fold, List, length, map, Option, Some, None, if◌then◌else◌}
+use Rattle.std.specs.List.{count_by}
+use Rattle.bus_audit.specs.declared.answer.AuditAnswer.{AuditAnswer}
+use Rattle.bus_audit.specs.declared.answer.AuditAnswer.TheVariants.{Lawful, Breach}
+use Rattle.bus_trace.specs.Traces.{Recording}
+use Rattle.bus_shapes.specs.declared.counts.Counts.{Counts}
+use Rattle.bus_shapes.specs.Windows.{Window, holds}
+use Rattle.bus_shapes.specs.declared.sent.Sent.{Sent}
+use Rattle.bus_cycles.specs.Rows.{Cycle, Extent, extent_of, rows_of}
+use Rattle.bus_cycles.specs.Sents.{shown}
+pub use Rattle.bus_cycles.specs.declared.survey.Survey.{Survey}
+
+-- The most rows that are drawn.
+abbrev pub most_rows : ℕ
+most_rows = 500
+
+-- Whether a row is drawn.
+abbrev pub is_drawn : ℕ → Bool
+is_drawn place = nat_lt place most_rows
+
+-- The moment of the first breach, where there is one that the window holds.
+abbrev pub breach_in : Window → AuditAnswer → Option ℕ
+breach_in window (Lawful collided) = None
+breach_in window (Breach moment terminal kind) = if holds window moment then Some moment else None
+
+-- Whether a row has begun at this moment.
+abbrev pub has_begun : Option ℕ → Extent → Bool
+has_begun None row = false
+has_begun (Some moment) row = nat_le row.begin moment
+
+-- What is told where no row is looked at: a picture is at least as long as a transmit interval.
+abbrev pub nothing : Cycle → Survey
+nothing cycle = record { count = 0; longest = cycle.ti; next = None; marked = None }
+
+-- One row more: how many there are, how long the longest is that is drawn, where the first begins that isn't, and which is the last that
+-- has begun at the moment of the breach.
+abbrev pub longest_with : ℕ → Extent → ℕ
+longest_with longest row = if is_drawn row.place then max longest (row.end - row.begin) else longest
+
+abbrev pub next_with : Option ℕ → Extent → Option ℕ
+next_with next row = if row.place == most_rows then Some row.begin else next
+
+abbrev pub marked_with : Option Extent → Option ℕ → Extent → Option Extent
+marked_with marked breach row = if has_begun breach row then Some row else marked
+
+abbrev pub with_row : Option ℕ → Survey → Extent → Survey
+with_row breach survey row = record {
+  count = survey.count + 1;
+  longest = longest_with survey.longest row;
+  next = next_with survey.next row;
+  marked = marked_with survey.marked breach row;
+}
+
+-- What is told of the rows of transmissions.
+abbrev pub survey_of : Cycle → Option ℕ → List Sent → Survey
+survey_of cycle breach sents = fold (with_row breach) (nothing cycle) (map extent_of (rows_of cycle sents))
+
+-- What is shown: the transmissions that begin in the window.
+abbrev pub counts : Window → Recording → Counts
+counts window trace = record {
+  from = window.from;
+  to = window.to;
+  horizon = trace.horizon;
+  shown = length (shown window trace.list);
+  garbled = count_by (λ sent. sent.garbled) (shown window trace.list);
+}

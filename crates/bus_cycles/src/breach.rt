@@ -1,0 +1,72 @@
+// The first breach in a picture.
+ghost use Rattle.std.specs.Prelude.{◌≡◌, ◌<◌, ◌≤◌};
+ghost use Rattle.bus_outer.specs.Texts.{Adds};
+ghost use Rattle.bus_shapes.specs.Scales.{IsScale};
+ghost use Rattle.bus_cycles.specs.CyclesTexts as definition;
+
+use crate::boxes::top_of;
+use crate::cycle::Extent;
+use crate::survey::MOST_ROWS;
+use bus_outer::{Sink, TextBuffer};
+use bus_shapes::{Area, Class, Scale, put_box, put_words};
+
+// Where the word has its middle: behind the line, or before it in the right half.
+fn beside(left: u64) -> u64
+    requires { left < 2097152 }
+    ensures { result ≡ definition.beside left }
+{
+    if left < 8000 { left + 270 } else { left - 250 }
+}
+
+// The line over its row, and the word beside it.
+fn put_at<K: Sink>(text: &mut TextBuffer, sink: &mut K, left: u64, row: u64)
+    requires left { left < 2097152 }
+    requires row { row ≤ 500 }
+    ensures { Adds K.held K.faults sink.old sink.new text.old text.new (definition.breach_at left row) }
+{
+    let top = top_of(row);
+    let line = Area {
+        left,
+        top: top - 30,
+        width: 20,
+        height: 200,
+    };
+    put_box(text, sink, Class::Breach, line);
+    put_words(
+        text,
+        sink,
+        Class::BreachWords,
+        beside(left),
+        top + 105,
+        b"breach",
+    );
+}
+
+// The breach at this moment, in this row where it is drawn.
+fn put_in_row<K: Sink>(text: &mut TextBuffer, sink: &mut K, scale: &Scale, moment: u64, row: Extent)
+    requires { IsScale scale.now }
+    ensures { Adds K.held K.faults sink.old sink.new text.old text.new (definition.breach_in_row scale.now moment row) }
+{
+    if row.place < MOST_ROWS {
+        let left = scale.place(moment.saturating_sub(row.begin));
+        put_at(text, sink, left, row.place);
+    }
+}
+
+/// The breach at this moment, in this row.
+pub(crate) fn put_breach<K: Sink>(
+    text: &mut TextBuffer,
+    sink: &mut K,
+    scale: &Scale,
+    breach: Option<u64>,
+    marked: Option<Extent>,
+)
+    requires { IsScale scale.now }
+    ensures { Adds K.held K.faults sink.old sink.new text.old text.new (definition.breach_text scale.now breach marked) }
+{
+    if let Some(moment) = breach {
+        if let Some(row) = marked {
+            put_in_row(text, sink, scale, moment, row);
+        }
+    }
+}

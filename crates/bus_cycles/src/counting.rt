@@ -1,0 +1,28 @@
+// What a picture shows of a trace.
+ghost use Rattle.std.specs.Prelude.{◌≡◌};
+ghost use Rattle.bus_cycles.specs.Surveys as definition;
+
+use crate::shown::Shown;
+use bus_shapes::{Counts, Window};
+use bus_trace::Trace;
+
+/// How many transmissions begin in a window, and how many of them are garbled.
+pub(crate) fn counts(window: &Window, trace: &Trace) -> Counts
+    ensures { result ≡ definition.counts window.now trace.now }
+{
+    let mut count = 0;
+    let mut garbled = 0;
+    for sent in Shown::new(window, trace) {
+        count += 1;
+        if sent.garbled {
+            garbled += 1;
+        }
+    }
+    Counts {
+        from: window.from(),
+        to: window.to(),
+        horizon: trace.horizon(),
+        shown: count,
+        garbled,
+    }
+}

@@ -1,0 +1,21 @@
+//! A trace as an SVG picture that has a row for each of its cycles, one below the other: the form for long traces.
+//!
+//! - [`write_cycles`] writes the picture of a window of a trace.
+//! - [`laws`] has what follows of the definitions.
+//!
+//! The definitions are in `specs/`: `Sents` (the transmissions that begin in a window), `Rows` (where the rows begin, and which
+//! transmissions each has), `Surveys` (what is told of all rows before they are drawn), `RowTexts` (the text of a row) and
+//! `CyclesTexts` (the text of the picture). No call takes memory.
+#![tactic(auto)]
+
+mod boxes;
+mod breach;
+mod counting;
+mod cycle;
+pub mod laws;
+mod plot;
+mod shown;
+mod survey;
+mod writing;
+
+pub use writing::write_cycles;

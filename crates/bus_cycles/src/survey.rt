@@ -1,0 +1,150 @@
+// What is told of the rows of a picture before they are drawn.
+ghost use Rattle.std.specs.Prelude.{◌≡◌, ◌<◌, ◌≤◌, ◌-◌, ◌^◌, ◌∷◌, length};
+ghost use Rattle.std.specs.List.{AllByRecursion};
+ghost use Rattle.bus_cycles.specs.Sents.{IsSent, shown};
+ghost use Rattle.bus_cycles.specs.Surveys as definition;
+
+use crate::cycle::{Cycle, Extent};
+use crate::shown::Shown;
+use bus_audit::AuditAnswer;
+use bus_shapes::{Sent, Window};
+use bus_trace::Trace;
+
+/// The most rows that are drawn.
+pub(crate) const MOST_ROWS: u64 = 500;
+
+/// What is told of the rows of a list in a window.
+#[derive(Clone, Copy, Debug, PartialEq, Eq)]
+pub(crate) struct Survey {
+    /// How many there are.
+    pub count: u64,
+    /// How long the longest is that is drawn, at least a transmit interval.
+    pub longest: u64,
+    /// Where the first begins that isn't drawn.
+    pub next: Option<u64>,
+    /// The last that has begun at the moment of the first breach.
+    pub marked: Option<Extent>,
+}
+
+/// The moment of the first breach, where there is one that the window holds.
+pub(crate) fn breach_in(window: &Window, answer: AuditAnswer) -> Option<u64>
+    ensures { result ≡ definition.breach_in window.now answer }
+{
+    match answer {
+        AuditAnswer::Breach { moment, .. } if window.holds(moment) => Some(moment),
+        _ => None,
+    }
+}
+
+impl Survey {
+    // What is told where no row is looked at.
+    fn nothing(cycle: &Cycle) -> Survey
+        ensures value { result ≡ definition.nothing cycle.now }
+        ensures low { result.longest < 2 ^ 32 }
+    {
+        Survey {
+            count: 0,
+            longest: u64::from(cycle.ti),
+            next: None,
+            marked: None,
+        }
+    }
+
+    // One row more.
+    fn with_row(self, breach: Option<u64>, row: Extent) -> Survey
+        requires { self.count < 2 ^ 64 - 1 }
+        ensures { result ≡ definition.with_row breach self row }
+    {
+        Survey {
+            count: self.count + 1,
+            longest: longest_with(self.longest, row),
+            next: next_with(self.next, row),
+            marked: marked_with(self.marked, breach, row),
+        }
+    }
+}
+
+// The length of the longest row that is drawn, with one row more.
+fn longest_with(longest: u64, row: Extent) -> u64
+    ensures { result ≡ definition.longest_with longest row }
+{
+    if row.place < MOST_ROWS {
+        longest.max(row.end.saturating_sub(row.begin))
+    } else {
+        longest
+    }
+}
+
+// Where the first row begins that isn't drawn, with one row more.
+fn next_with(next: Option<u64>, row: Extent) -> Option<u64>
+    ensures { result ≡ definition.next_with next row }
+{
+    if row.place == MOST_ROWS {
+        Some(row.begin)
+    } else {
+        next
+    }
+}
+
+// Whether a row has begun at this moment.
+fn has_begun(breach: Option<u64>, row: Extent) -> bool
+    ensures { result ≡ definition.has_begun breach row }
+{
+    match breach {
+        Some(moment) => row.begin <= moment,
+        None => false,
+    }
+}
+
+// The last row that has begun at the moment of the breach, with one row more.
+fn marked_with(marked: Option<Extent>, breach: Option<u64>, row: Extent) -> Option<Extent>
+    ensures { result ≡ definition.marked_with marked breach row }
+{
+    if has_begun(breach, row) {
+        Some(row)
+    } else {
+        marked
+    }
+}
+
+// The survey of a transmission and those behind it.
+fn survey_from(cycle: &Cycle, breach: Option<u64>, first: &Sent, shown: Shown) -> Survey
+    requires some { 0 < cycle.now.ti }
+    requires sent { IsSent first.now }
+    requires each { AllByRecursion IsSent shown }
+    requires few { length shown < 2 ^ 64 - 1 }
+    ensures value { result ≡ definition.survey_of cycle.now breach (first.now ∷ shown.entry) }
+    ensures some { cycle.now.ti ≤ result.longest }
+    ensures low { result.longest ≤ 2 ^ 41 }
+{
+    let mut survey = Survey::nothing(cycle);
+    let mut row = cycle.row_at(0, first);
+    for sent in shown {
+        if cycle.is_new(row.begin, &sent) {
+            survey = survey.with_row(breach, row);
+            row = cycle.row_at(row.place + 1, &sent);
+        } else {
+            row = row.with(&sent);
+        }
+    }
+    survey.with_row(breach, row)
+}
+
+/// What is told of the rows of a trace in a window.
+pub(crate) fn take_survey(
+    cycle: &Cycle,
+    breach: Option<u64>,
+    window: &Window,
+    trace: &Trace,
+) -> Survey
+    requires { 0 < cycle.now.ti }
+    ensures value { result ≡ definition.survey_of cycle.now breach (shown window.now trace.now.list) }
+    ensures some { cycle.now.ti ≤ result.longest }
+    ensures low { result.longest ≤ 2 ^ 41 }
+{
+    let mut shown = Shown::new(window, trace);
+    match shown.next() {
+        None => Survey::nothing(cycle),
+        Some(first) => survey_from(cycle, breach, &first, shown),
+    }
+}

@@ -1,0 +1,47 @@
+// The text of a picture that has a row for each cycle.
+ghost use Rattle.std.specs.Prelude.{◌≡◌, ◌<◌, ◌≤◌};
+ghost use Rattle.bus_outer.specs.Sinks.{WritesText};
+ghost use Rattle.bus_cycles.specs.CyclesTexts.{cycles_text};
+
+use crate::boxes::put_rows;
+use crate::breach::put_breach;
+use crate::counting::counts;
+use crate::cycle::Cycle;
+use crate::plot::{bottom_of, put_above, put_marks, scale_of};
+use crate::survey::{breach_in, take_survey};
+use bus_audit::AuditAnswer;
+use bus_outer::{Sink, TextBuffer, WriteFault};
+use bus_regime::TableVerdict;
+use bus_shapes::{Window, put_frame, put_tail};
+use bus_table::table::Table;
+use bus_trace::Trace;
+
+/// Writes the picture of a window of a trace on a table as SVG: a row for each cycle, one below the other from the same left edge, at most
+/// 500, and above them the words of the verdict and of the audit. It goes over the trace three times, and takes no memory.
+///
+/// At `WriteFault` the sink has taken a front of the text, and its count of faults rose.
+pub fn write_cycles<K: Sink>(
+    window: &Window,
+    verdict: &TableVerdict,
+    answer: &AuditAnswer,
+    table: &Table,
+    trace: &Trace,
+    sink: &mut K,
+) -> Result<(), WriteFault>
+    ensures { WritesText K.held K.faults sink.old sink.new result (cycles_text window.now verdict.now answer.now table.now trace.now) }
+{
+    let cycle = Cycle::new(table);
+    let breach = breach_in(window, *answer);
+    let survey = take_survey(&cycle, breach, window, trace);
+    let counts = counts(window, trace);
+    let scale = scale_of(&survey);
+    let height = bottom_of(&survey) + 250;
+    let mut text = TextBuffer::new();
+    put_frame(&mut text, sink, height, verdict, answer, table, &counts);
+    put_above(&mut text, sink, &survey);
+    put_marks(&mut text, sink, &survey, table, verdict);
+    put_rows(&mut text, sink, &cycle, &scale, window, trace);
+    put_breach(&mut text, sink, &scale, breach, survey.marked);
+    put_tail(&mut text, sink);
+    text.finish(sink)
+}
