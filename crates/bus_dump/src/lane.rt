@@ -1,6 +1,6 @@
 /// A terminal that has signals.
 #[derive(Clone, Copy, Debug, Default, PartialEq, Eq)]
-pub(crate) struct Lane {
+pub struct Lane {
     /// Its terminal number.
     pub terminal: u8,
     /// Whether it is a sender of the table.

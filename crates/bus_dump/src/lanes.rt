@@ -22,7 +22,7 @@ use bus_strings::transmission::Transmission;
 use bus_table::table::Table;
 
 /// The most lanes, of 128 senders and 128 other terminals.
-pub(crate) const MOST_LANES: usize = 256;
+pub const MOST_LANES: usize = 256;
 
 // The signals of the bus, and of a lane.
 const BUS_SIGNALS: usize = 4;
@@ -113,7 +113,7 @@ fn add_strangers(lanes: &mut ArrayVec<Lane, MOST_LANES>, table: &Table, list: &[
 }
 
 /// The lanes of a dump: the senders in turn order, then the strangers of the list by number.
-pub(crate) fn lanes_of(table: &Table, list: &[Transmission]) -> ArrayVec<Lane, MOST_LANES>
+pub fn lanes_of(table: &Table, list: &[Transmission]) -> ArrayVec<Lane, MOST_LANES>
     ensures { result.items ≡ definition.lanes table.now list.now }
 {
     let mut lanes = ArrayVec::new();

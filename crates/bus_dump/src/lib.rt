@@ -43,5 +43,7 @@ mod writing;
 
 pub use doubling::doubled;
 pub use dump::Dump;
+pub use lane::Lane;
+pub use lanes::{MOST_LANES, lanes_of};
 pub use save_file::write_save_file;
 pub use writing::write_dump;
