@@ -1,6 +1,6 @@
 -- Places of moments.
-use Rattle.std.proofs.Common.{ℕ, ◌-◌, ◌*◌, ◌/◌, ◌<◌, ◌≤◌, arith}
-use Rattle.std.proofs.Math.Nat.{div-mul-le_self, mul-le-mul_right}
+use Rattle.std.proofs.Common.{ℕ, ◌+◌, ◌-◌, ◌*◌, ◌/◌, ◌<◌, ◌≤◌, arith}
+use Rattle.std.proofs.Math.Nat.{div-le_of_le-mul, div-mul-le_self, mul-le-mul_right}
 use Rattle.std.proofs.lemmas.Nat.{le-div}
 use Rattle.bus_shapes.specs.Scales.{Scale, IsScale, held, place}
 
@@ -18,3 +18,11 @@ place_rises scale t u s rise =
     let more = times_rises (held scale t - scale.from) (held scale u - scale.from) scale.width held_rises in
     let quotient = quotient_rises ((held scale t - scale.from) * scale.width) ((held scale u - scale.from) * scale.width) (scale.to - scale.from) (omega arith) more in
     omega arith
+
+pub place_within : (scale : Scale) (t : ℕ) → IsScale scale → (scale.left ≤ place scale t) × (place scale t ≤ scale.left + scale.width)
+place_within scale t s =
+    let some : scale.from < scale.to = s.some in
+    let short : held scale t - scale.from ≤ scale.to - scale.from = omega arith in
+    let most : (held scale t - scale.from) * scale.width / (scale.to - scale.from) ≤ scale.width =
+    div-le_of_le-mul (scale.to - scale.from) (times_rises (held scale t - scale.from) (scale.to - scale.from) scale.width short) in
+    (omega arith, omega arith)

@@ -7,3 +7,4 @@ pub mod Windows
 pub mod Scales
 pub mod Axes
 pub mod Frames
+pub mod Laws

@@ -4,6 +4,7 @@
 //! - [`Window`] is the stretch of a trace that is shown, and [`Scale`] says where moments are drawn.
 //! - [`put_frame`] and [`put_tail`] put what stands around a picture, [`put_axis`] an axis.
 //! - [`Sents`] goes over a list and tells of each transmission what a picture says of it, a [`Sent`]; [`put_sent`] puts its words.
+//! - [`laws`] has what follows of the definitions of places.
 //!
 //! All numbers are whole; a unit is a tenth of a pixel. The definitions are in `specs/`: `Classes`, `Shapes` (boxes and words), `Windows`,
 //! `Scales` (places of moments), `Axes`, `Sayings` (the words), `Sending` (what is told of a list) and `Frames`. No call takes memory.
@@ -14,6 +15,7 @@ pub mod axis;
 pub mod class;
 pub mod counts;
 pub mod frame;
+pub mod laws;
 pub mod scale;
 pub mod sent;
 pub mod sents;

@@ -1,0 +1,12 @@
+-- What follows of the definitions. The contracts of `laws` say that each of these holds.
+use Rattle.std.specs.Prelude.{ℕ, ◌+◌, ◌≤◌}
+use Rattle.bus_shapes.specs.Scales.{Scale, IsScale, place}
+
+-- Places don't fall as moments rise.
+abbrev pub PlacesRise : Type 0
+PlacesRise = (scale : Scale) (t u : ℕ) → IsScale scale → t ≤ u → place scale t ≤ place scale u
+
+-- Places lie between the edges.
+abbrev pub PlacesLieWithin : Type 0
+PlacesLieWithin =
+    (scale : Scale) (t : ℕ) → IsScale scale → (scale.left ≤ place scale t) × (place scale t ≤ scale.left + scale.width)
