@@ -1,0 +1,4 @@
+pub mod StringLemmas
+pub mod RowLemmas
+pub mod LaneLemmas
+pub mod LawLemmas

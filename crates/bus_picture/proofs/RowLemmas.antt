@@ -1,0 +1,150 @@
+-- The boxes of a row, one behind the other.
+use Rattle.std.proofs.Common.{◌≡◌, ℕ, suc, ◌+◌, ◌≤◌, max, Bool, true, false, cond, List, [], ◌∷◌, ◌++◌, length, filter, Option, Some, None, append-nil, arith, refl, sym, ap, subst, ◌∙◌}
+use Rattle.std.specs.Prelude.{fold}
+use Rattle.std.specs.List.{AllByRecursion, flat_map}
+use Rattle.std.proofs.lemmas.List.{length-append, append_assoc}
+use Rattle.std.proofs.lemmas.List.Sums.{fold-append}
+use Rattle.bus_strings.specs.Messages.{Entry}
+use Rattle.bus_shapes.specs.declared.sent.Sent.{Sent}
+use Rattle.bus_shapes.specs.declared.scale.Scale.{Scale}
+use Rattle.bus_shapes.specs.Sending.{sents}
+use Rattle.bus_shapes.specs.SendingLaws.{IsInOrder, all_in_order, as_many}
+use Rattle.bus_picture.specs.Boxes.{Box, Pile, boxes, boxes_from, joins, pile_of}
+use Rattle.bus_picture.specs.Rows.{Row, pile_text, row_text, shows}
+use Rattle.bus_picture.specs.Working.{IsLast, IsPile, Writing, grown, held, last_written, next_pile, next_written, one, to_come, with_next, written}
+
+abbrev single : Sent → Box
+single x = record { first = x; others = [] }
+
+abbrev longer : Box → Sent → Box
+longer box y = record { first = box.first; others = box.others ++ y ∷ [] }
+
+abbrev texts : Scale → Row → List Entry → List Box → List ℕ
+texts scale row list bs = flat_map (λ box. pile_text scale row list (pile_of box)) bs
+
+abbrev pile_with : Sent → ℕ → ℕ → Pile
+pile_with first count end = record { first = first; count = count; end = end }
+
+-- A box with one more.
+grows : (box : Box) (y : Sent) → grown (pile_of box) y ≡ pile_of (longer box y)
+grows box y =
+    let count : 1 + length box.others + 1 ≡ 1 + length (box.others ++ y ∷ []) = omega (arith, length-append box.others (y ∷ [])) in
+    ap (λ n. pile_with box.first n (max (fold (λ end x. max end x.end) box.first.end box.others) y.end)) count
+    ∙ ap (pile_with box.first (1 + length (box.others ++ y ∷ []))) (sym (fold-append (λ end (x : Sent). max end x.end) box.first.end box.others (y ∷ [])))
+
+-- Where x is shown, it shares the last box or not.
+by_joins : (scale : Scale) (row : Row) (list : List Entry) (box : Box) (x : Sent) (xs ys : List Sent) (j : Bool)
+    → to_come scale row list (Some (pile_of (longer box x))) xs ≡ texts scale row list (boxes_from scale (longer box x) ys)
+    → to_come scale row list (Some (pile_of (single x))) xs ≡ texts scale row list (boxes_from scale (single x) ys)
+    → (cond j [] (pile_text scale row list (pile_of box)) ++ to_come scale row list (Some (cond j (grown (pile_of box) x) (one x))) xs)
+    ≡ texts scale row list (cond j (boxes_from scale (longer box x) ys) (box ∷ boxes_from scale (single x) ys))
+by_joins scale row list box x xs ys true more new = ap (λ (pile : Pile). to_come scale row list (Some pile) xs) (grows box x) ∙ more
+by_joins scale row list box x xs ys false more new = ap (λ (t : List ℕ). pile_text scale row list (pile_of box) ++ t) new
+
+by_shown : (scale : Scale) (row : Row) (list : List Entry) (box : Box) (x : Sent) (xs ys : List Sent) (b : Bool)
+    → (written scale row list (Some (pile_of box)) x ++ to_come scale row list (Some (with_next scale (Some (pile_of box)) x)) xs)
+    ≡ texts scale row list (boxes_from scale box (x ∷ ys))
+    → to_come scale row list (Some (pile_of box)) xs ≡ texts scale row list (boxes_from scale box ys)
+    → (cond b (written scale row list (Some (pile_of box)) x) [] ++ to_come scale row list (cond b (Some (with_next scale (Some (pile_of box)) x)) (Some (pile_of box))) xs)
+    ≡ texts scale row list (boxes_from scale box (cond b (x ∷ ys) ys))
+by_shown scale row list box x xs ys true shared other = shared
+by_shown scale row list box x xs ys false shared other = other
+
+-- What is to come behind a box is that box and the others.
+behind : (scale : Scale) (row : Row) (list : List Entry) (box : Box) (xs : List Sent)
+    → to_come scale row list (Some (pile_of box)) xs ≡ texts scale row list (boxes_from scale box (filter (shows scale row) xs))
+behind scale row list box [] = sym (append-nil (pile_text scale row list (pile_of box)))
+behind scale row list box (x ∷ xs) =
+    by_shown scale row list box x xs (filter (shows scale row) xs) (shows scale row x)
+    (by_joins scale row list box x xs (filter (shows scale row) xs) (joins scale box.first x) (behind scale row list (longer box x) xs)
+    (behind scale row list (single x) xs))
+    (behind scale row list box xs)
+
+first_shown : (scale : Scale) (row : Row) (list : List Entry) (x : Sent) (xs ys : List Sent) (b : Bool)
+    → to_come scale row list (Some (one x)) xs ≡ texts scale row list (boxes_from scale (single x) ys)
+    → to_come scale row list None xs ≡ texts scale row list (boxes scale ys)
+    → (cond b [] [] ++ to_come scale row list (cond b (Some (one x)) None) xs) ≡ texts scale row list (boxes scale (cond b (x ∷ ys) ys))
+first_shown scale row list x xs ys true shared other = shared
+first_shown scale row list x xs ys false shared other = other
+
+all_come : (scale : Scale) (row : Row) (list : List Entry) (xs : List Sent)
+    → to_come scale row list None xs ≡ texts scale row list (boxes scale (filter (shows scale row) xs))
+all_come scale row list [] = refl
+all_come scale row list (x ∷ xs) =
+    first_shown scale row list x xs (filter (shows scale row) xs) (shows scale row x) (behind scale row list (single x) xs) (all_come scale row list xs)
+
+-- All that is to come is the row.
+pub whole_row : (scale : Scale) (row : Row) (list : List Entry) → to_come scale row list None (sents list) ≡ row_text scale row list
+whole_row scale row list = all_come scale row list (sents list)
+
+-- ---- what a writer keeps
+choose_pile : (b : Bool) (p : Pile) (o : Option Pile) → IsPile p → IsLast o → IsLast (cond b (Some p) o)
+choose_pile true p o h k = h
+choose_pile false p o h k = k
+
+choose_one : (b : Bool) (p q : Pile) → IsPile p → IsPile q → IsPile (cond b p q)
+choose_one true p q h k = h
+choose_one false p q h k = k
+
+next_is_pile : (scale : Scale) (last : Option Pile) (x : Sent) → IsLast last → IsInOrder x → IsPile (with_next scale last x)
+next_is_pile scale None x h order = record { first = order; later = order }
+next_is_pile scale (Some p) x h order =
+    choose_one (joins scale p.first x) (grown p x) (one x)
+    (let later : p.first.moment ≤ p.end = h.later in record { first = h.first; later = omega arith }) (record { first = order; later = order })
+
+next_is_last : (scale : Scale) (row : Row) (last : Option Pile) (x : Sent) → IsLast last → IsInOrder x → IsLast (next_pile scale row last x)
+next_is_last scale row last x h order =
+    choose_pile (shows scale row x) (with_next scale last x) last (next_is_pile scale last x h order) h
+
+choose_count : (b : Bool) (p q : Pile) (n : ℕ) → p.count ≤ n → q.count ≤ n → (cond b p q).count ≤ n
+choose_count true p q n h k = h
+choose_count false p q n h k = k
+
+next_count : (scale : Scale) (last : Option Pile) (x : Sent) → (with_next scale last x).count ≤ held last + 1
+next_count scale None x = omega arith
+next_count scale (Some p) x = choose_count (joins scale p.first x) (grown p x) (one x) (p.count + 1) (omega arith) (omega arith)
+
+choose_held : (b : Bool) (p : Pile) (o : Option Pile) (n : ℕ) → p.count ≤ n → held o ≤ n → held (cond b (Some p) o) ≤ n
+choose_held true p o n h k = h
+choose_held false p o n h k = k
+
+next_held : (scale : Scale) (row : Row) (last : Option Pile) (x : Sent) → held (next_pile scale row last x) ≤ held last + 1
+next_held scale row last x =
+    choose_held (shows scale row x) (with_next scale last x) last (held last + 1) (next_count scale last x) (omega arith)
+
+-- Nothing is written yet.
+pub begun : (text : List ℕ → Type 0) (scale : Scale) (row : Row) (list : List Entry) (left : List Sent) → left ≡ sents list → text []
+    → Writing text scale row list None left
+begun text scale row list left is nothing = record {
+  done = [];
+  adds = nothing;
+  rest = ap (to_come scale row list None) is;
+  order = subst (AllByRecursion IsInOrder) (sym is) (all_in_order list);
+  pile = tt;
+  few = omega (arith, ap length is, as_many list);
+}
+
+-- The next transmission is taken.
+pub took : (text text' : List ℕ → Type 0) (scale : Scale) (row : Row) (list : List Entry) (last last' : Option Pile) (x : Sent) (left xs : List Sent)
+    → (w : Writing text scale row list last left) → left ≡ x ∷ xs → last' ≡ next_pile scale row last x
+    → text' (w.done ++ next_written scale row list last x) → Writing text' scale row list last' xs
+took text text' scale row list last last' x left xs w is next adds =
+    let order : AllByRecursion IsInOrder (x ∷ xs) = subst (AllByRecursion IsInOrder) is w.order in
+    let long : length left ≡ suc (length xs) = ap length is in
+    let count = next_held scale row last x in
+    record {
+      done = w.done ++ next_written scale row list last x;
+      adds = adds;
+      rest = ap (λ (o : Option Pile). (w.done ++ next_written scale row list last x) ++ to_come scale row list o xs) next
+          ∙ append_assoc w.done (next_written scale row list last x) (to_come scale row list (next_pile scale row last x) xs)
+          ∙ ap (λ (ys : List Sent). w.done ++ to_come scale row list last ys) (sym is) ∙ w.rest;
+      order = order.1;
+      pile = subst IsLast (sym next) (next_is_last scale row last x w.pile order.0);
+      few = omega (arith, ap held next, w.few);
+    }
+
+-- All are taken.
+pub ended : (text : List ℕ → Type 0) (scale : Scale) (row : Row) (list : List Entry) (last : Option Pile) (left : List Sent)
+    → (w : Writing text scale row list last left) → left ≡ [] → w.done ++ last_written scale row list last ≡ row_text scale row list
+ended text scale row list last left w is =
+    ap (λ (xs : List Sent). w.done ++ to_come scale row list last xs) (sym is) ∙ w.rest ∙ whole_row scale row list

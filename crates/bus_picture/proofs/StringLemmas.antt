@@ -1,0 +1,31 @@
+-- Wordstrings of a transmission.
+use Rattle.std.proofs.Common.{◌≡◌, ℕ, ◌+◌, Bool, List, [], ◌∷◌, ◌++◌, Option, Some, append-nil, arith, sym, ap, ◌∙◌}
+use Rattle.std.specs.Prelude.{slice_get}
+use Rattle.std.specs.List.{flat_map, range_with_len}
+use Rattle.std.specs.Option.{option_map_or}
+use Rattle.std.proofs.lemmas.Grind.{flat_map-append}
+use Rattle.std.proofs.lemmas.List.{map-id}
+use Rattle.std.proofs.lemmas.List.FromFn.{map-range_with_len_more}
+use Rattle.bus_strings.specs.Messages.{Entry, Wordstring}
+use Rattle.bus_strings.specs.Pulses.{pulse_length, pulse_start}
+use Rattle.bus_shapes.specs.declared.scale.Scale.{Scale}
+use Rattle.bus_picture.specs.Strings.{pulse_text, string_text}
+
+range_more : (n : ℕ) → range_with_len 0 (n + 1) ≡ range_with_len 0 n ++ n ∷ []
+range_more n =
+    sym (map-id (range_with_len 0 (n + 1))) ∙ map-range_with_len_more (λ (k : ℕ). k) 0 n n (omega arith)
+    ∙ ap (λ (l : List ℕ). l ++ n ∷ []) (map-id (range_with_len 0 n))
+
+pub one_more : (f : ℕ → List ℕ) (n : ℕ) → flat_map f (range_with_len 0 (n + 1)) ≡ flat_map f (range_with_len 0 n) ++ f n
+one_more f n =
+    ap (flat_map f) (range_more n) ∙ flat_map-append f (range_with_len 0 n) (n ∷ [])
+    ∙ ap (λ (l : List ℕ). flat_map f (range_with_len 0 n) ++ l) (append-nil (f n))
+
+pub at_pulse : (scale : Scale) (top : ℕ) (garbled : Bool) (x : Entry) (k from to : ℕ) (string : Wordstring)
+    → from ≡ x.moment + pulse_start x.message k → to ≡ x.moment + pulse_start x.message k + pulse_length x.message k
+    → slice_get x.message k ≡ Some string
+    → string_text scale top garbled from to string ≡ option_map_or (pulse_text scale top garbled x k) (slice_get x.message k) []
+at_pulse scale top garbled x k from to string f t s =
+    ap (λ n. string_text scale top garbled n to string) f
+    ∙ ap (λ n. string_text scale top garbled (x.moment + pulse_start x.message k) n string) t
+    ∙ sym (ap (λ (o : Option Wordstring). option_map_or (pulse_text scale top garbled x k) o []) s)

@@ -1,0 +1,12 @@
+use Rattle.std.proofs.Common.{[], Option, subst}
+use Rattle.std.specs.Option.{option_map_or}
+use Rattle.bus_outer.specs.Texts.{Adds}
+use Rattle.bus_table.specs.Tables.{Sender}
+use Rattle.bus_table.specs.declared.mode.Mode.{Mode}
+use Rattle.bus_picture.specs.TimeLines.{sender_text}
+use Rattle.bus_picture.proofs.lanes.put_sender_of.Goals as goal
+
+pub returns-in-Some : goal.returns-in-Some
+returns-in-Some g c =
+    subst (λ (o : Option Sender). Adds g.K.Sink.held g.K.Sink.faults c.args.sink.now c.put_sender.new.sink c.args.text.now c.put_sender.new.text (option_map_or (sender_text c.args.table.now.mode c.args.top) o [])) c.in-Some.ensures
+    (subst (λ (mode : Mode). Adds g.K.Sink.held g.K.Sink.faults c.args.sink.now c.put_sender.new.sink c.args.text.now c.put_sender.new.text (sender_text mode c.args.top c.in-Some.sender.now)) c.mode-mode.ensures.value c.put_sender.ensures)

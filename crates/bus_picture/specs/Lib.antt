@@ -1,0 +1,6 @@
+pub mod Boxes
+pub mod Strings
+pub mod Rows
+pub mod TimeLines
+pub mod Working
+pub mod Laws

@@ -1,0 +1,69 @@
+-- The rows of a time line: of the bus, with all transmissions, and of each lane.
+use Rattle.std.specs.Prelude.{ℕ, ◌+◌, ◌-◌, Bool, true, not, ◌&&◌, ◌==◌, nat_eq, List, [], ◌++◌, filter, slice_get, Option, Some, None, if◌then◌else◌}
+use Rattle.std.specs.List.{flat_map}
+use Rattle.std.specs.Option.{option_map_or}
+use Rattle.bus_strings.specs.Messages.{Entry}
+use Rattle.bus_shapes.specs.declared.class.Class.{Class}
+use Rattle.bus_shapes.specs.declared.class.Class.TheVariants.{Carrier, Garbled, Message, Overlap}
+use Rattle.bus_shapes.specs.declared.sent.Sent.{Sent}
+use Rattle.bus_shapes.specs.declared.scale.Scale.{Scale}
+use Rattle.bus_shapes.specs.Scales.{extent, place}
+use Rattle.bus_shapes.specs.Sending.{sents}
+use Rattle.bus_shapes.specs.declared.area.Area.{Area}
+use Rattle.bus_shapes.specs.Shapes.{box_text, titled_text}
+use Rattle.bus_picture.specs.Boxes.{Pile, boxes, is_narrow, pile_of, pile_words}
+use Rattle.bus_picture.specs.Strings.{meets, strings_text}
+pub use Rattle.bus_picture.specs.declared.row.Row.{Row}
+
+-- Whether a transmission is of the row: of its terminal, or any where it is that of the bus.
+abbrev pub is_of : Row → Sent → Bool
+is_of row x = option_map_or (λ n. x.terminal == n) row.terminal true
+
+-- Whether it is, and meets the moments of the scale.
+abbrev pub shows : Scale → Row → Sent → Bool
+shows scale row x = is_of row x && meets scale x.moment x.end
+
+-- The transmissions of a row.
+abbrev pub shown : Scale → Row → List Entry → List Sent
+shown scale row list = filter (shows scale row) (sents list)
+
+-- How a box looks: hatched where it is garbled.
+abbrev pub plain_class : Option ℕ → Class
+plain_class None = Carrier
+plain_class (Some terminal) = Message
+
+abbrev pub box_class : Row → Pile → Class
+box_class row pile = if pile.first.garbled then Garbled else plain_class row.terminal
+
+-- What a box has of the scale: its left edge and its width, from its upper edge on.
+abbrev pub stretch : Scale → Pile → ℕ → ℕ → Area
+stretch scale pile top height =
+    record { left = place scale pile.first.moment; top = top; width = extent scale pile.first.moment pile.end; height = height }
+
+-- What is drawn over all lanes of a box of the bus: what is garbled, down to the end of the plot.
+abbrev pub column_text : Scale → Row → Pile → List ℕ
+column_text scale row pile =
+    if pile.first.garbled then box_text Overlap (stretch scale pile row.top (row.bottom - row.top)) else []
+
+-- The wordstrings of a transmission.
+abbrev pub entry_text : Scale → Row → List Entry → Sent → List ℕ
+entry_text scale row list sent = option_map_or (strings_text scale row.top sent.garbled) (slice_get list sent.at) []
+
+-- What is drawn in a box of a lane: the wordstrings of its one transmission, where that is not narrow.
+abbrev pub inner_text : Scale → Row → List Entry → Pile → List ℕ
+inner_text scale row list pile =
+    if nat_eq pile.count 1 && not (is_narrow scale pile.first) then entry_text scale row list pile.first else []
+
+abbrev pub more_text : Option ℕ → Scale → Row → List Entry → Pile → List ℕ
+more_text None scale row list pile = column_text scale row pile
+more_text (Some terminal) scale row list pile = inner_text scale row list pile
+
+-- A box.
+abbrev pub pile_text : Scale → Row → List Entry → Pile → List ℕ
+pile_text scale row list pile =
+    titled_text (box_class row pile) (stretch scale pile (row.top + 60) 180) (pile_words pile)
+    ++ more_text row.terminal scale row list pile
+
+-- A row: its boxes.
+abbrev pub row_text : Scale → Row → List Entry → List ℕ
+row_text scale row list = flat_map (λ box. pile_text scale row list (pile_of box)) (boxes scale (shown scale row list))

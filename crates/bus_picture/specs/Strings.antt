@@ -1,0 +1,79 @@
+-- What is drawn of the wordstrings of a message: inner quiet is what they leave free.
+use Rattle.std.specs.Prelude.{ℕ, ◌+◌, ◌/◌, Bool, ◌&&◌, nat_lt, List, [], ◌++◌, length, codes, decimal, slice_get, if◌then◌else◌}
+use Rattle.std.specs.List.{flat_map, range_with_len}
+use Rattle.std.specs.Option.{option_map_or}
+use Rattle.bus_text.specs.Digits.{hexadecimal}
+use Rattle.bus_strings.specs.Messages.{Entry, Wordstring}
+use Rattle.bus_strings.specs.Pulses.{pulse_length, pulse_start}
+use Rattle.bus_shapes.specs.declared.class.Class.{Class}
+use Rattle.bus_shapes.specs.declared.class.Class.TheVariants.{Digits, Noise, NoiseDigits}
+use Rattle.bus_shapes.specs.declared.class.Class.TheVariants as classes
+use Rattle.bus_shapes.specs.declared.scale.Scale.{Scale}
+use Rattle.bus_shapes.specs.Scales.{extent, place}
+use Rattle.bus_shapes.specs.declared.area.Area.{Area}
+use Rattle.bus_shapes.specs.Shapes.{titled_text, words_text}
+
+-- Whether what goes from one moment to another meets those of a scale.
+abbrev pub meets : Scale → ℕ → ℕ → Bool
+meets scale from to = nat_lt from scale.to && nat_lt scale.from to
+
+-- A label and an extension.
+abbrev pub both_words : ℕ → ℕ → List ℕ
+both_words label ext = hexadecimal 3 label ++ codes " " ++ hexadecimal 1 ext
+
+-- A wordstring is called by its label and its extension, in hexadecimal digits.
+abbrev pub name_words : Wordstring → List ℕ
+name_words string = both_words string.label string.ext
+
+-- Its name, and how many data words it has.
+abbrev pub long_words : Wordstring → List ℕ
+long_words string = name_words string ++ codes " +" ++ decimal (length string.words)
+
+-- All of that, and its moments.
+abbrev pub string_words : ℕ → ℕ → Wordstring → List ℕ
+string_words from to string =
+    name_words string ++ codes ": moments " ++ decimal from ++ codes " to " ++ decimal to ++ codes ", "
+    ++ decimal (length string.words) ++ codes " data words"
+
+-- How a wordstring and its words look, of a garbled transmission or of another.
+abbrev pub string_class : Bool → Class
+string_class garbled = if garbled then Noise else classes.Wordstring
+
+abbrev pub digits_class : Bool → Class
+digits_class garbled = if garbled then NoiseDigits else Digits
+
+-- The box of a wordstring, in a row with this upper edge.
+abbrev pub string_area : Scale → ℕ → ℕ → ℕ → Area
+string_area scale top from to = record { left = place scale from; top = top + 90; width = extent scale from to; height = 120 }
+
+-- The words for a box of this width.
+abbrev pub fitting_words : ℕ → Wordstring → List ℕ
+fitting_words width string = if nat_lt width 730 then name_words string else long_words string
+
+-- The words in a box, where it has room for them.
+abbrev pub label_text : Bool → Area → Wordstring → List ℕ
+label_text garbled area string =
+    if nat_lt area.width 400 then []
+    else words_text (digits_class garbled) (area.left + area.width / 2) (area.top + 100) (fitting_words area.width string)
+
+-- A wordstring from one moment to another.
+abbrev pub drawn_text : Scale → ℕ → Bool → ℕ → ℕ → Wordstring → List ℕ
+drawn_text scale top garbled from to string =
+    titled_text (string_class garbled) (string_area scale top from to) (string_words from to string)
+    ++ label_text garbled (string_area scale top from to) string
+
+-- The same, where it meets the moments of the scale.
+abbrev pub string_text : Scale → ℕ → Bool → ℕ → ℕ → Wordstring → List ℕ
+string_text scale top garbled from to string =
+    if meets scale from to then drawn_text scale top garbled from to string else []
+
+-- Wordstring k of a transmission, given the wordstring: its pulse.
+abbrev pub pulse_text : Scale → ℕ → Bool → Entry → ℕ → Wordstring → List ℕ
+pulse_text scale top garbled x k string =
+    string_text scale top garbled (x.moment + pulse_start x.message k)
+    (x.moment + pulse_start x.message k + pulse_length x.message k) string
+
+-- The wordstrings of a transmission.
+abbrev pub strings_text : Scale → ℕ → Bool → Entry → List ℕ
+strings_text scale top garbled x =
+    flat_map (λ k. option_map_or (pulse_text scale top garbled x k) (slice_get x.message k) []) (range_with_len 0 (length x.message))

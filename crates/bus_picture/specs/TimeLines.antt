@@ -1,0 +1,192 @@
+-- The text of a time line.
+use Rattle.std.specs.Prelude.{ℕ, ◌+◌, ◌-◌, ◌*◌, ◌%◌, max, min, Bool, ◌&&◌, ◌==◌, nat_eq, nat_le, nat_lt, List, [], ◌∷◌, ◌++◌, length, codes, decimal, Option, Some, None, if◌then◌else◌}
+use Rattle.std.specs.List.{count_by, find}
+use Rattle.std.specs.Option.{option_map_or}
+use Rattle.bus_table.specs.Tables.{Sender, Table}
+use Rattle.bus_table.specs.declared.mode.Mode.{Mode}
+use Rattle.bus_table.specs.declared.mode.Mode.TheVariants.{Aperiodic, Periodic}
+use Rattle.bus_trace.specs.Traces.{Recording}
+use Rattle.bus_strings.specs.Messages.{Entry}
+use Rattle.bus_audit.specs.Lines.{answer_words}
+use Rattle.bus_audit.specs.declared.answer.AuditAnswer.{AuditAnswer}
+use Rattle.bus_audit.specs.declared.answer.AuditAnswer.TheVariants.{Lawful, Breach}
+use Rattle.bus_dump.specs.declared.lane.Lane.{Lane}
+use Rattle.bus_dump.specs.Lanes.{lanes}
+use Rattle.bus_shapes.specs.declared.axis.Axis.{Axis}
+use Rattle.bus_shapes.specs.declared.axis.Unit.TheVariants.{BitTimes, Microseconds}
+use Rattle.bus_shapes.specs.Axes.{axis_text}
+use Rattle.bus_shapes.specs.declared.class.Class.{Class}
+use Rattle.bus_shapes.specs.declared.class.Class.TheVariants.{Band, BreachWords, Detail, Garbled, Grid, Noise, Overlap, Small, Tick, Unobserved}
+use Rattle.bus_shapes.specs.declared.class.Class.TheVariants as classes
+use Rattle.bus_shapes.specs.Frames.{frame_text, tail_text}
+use Rattle.bus_shapes.specs.declared.counts.Counts.{Counts}
+use Rattle.bus_shapes.specs.declared.sent.Sent.{Sent}
+use Rattle.bus_shapes.specs.declared.scale.Scale.{Scale}
+use Rattle.bus_shapes.specs.Scales.{extent, place}
+use Rattle.bus_shapes.specs.Sending.{sents}
+use Rattle.bus_shapes.specs.Shapes.{box_text, titled_text, words_text}
+use Rattle.bus_shapes.specs.Windows.{Window}
+use Rattle.bus_picture.specs.Rows.{row_text}
+use Rattle.bus_picture.specs.Strings.{meets}
+
+-- ---- where things are
+-- The upper edge of the plot, which is that of the bus; the height of a row; the upper edge of lane k; and the lower edge of so many lanes.
+abbrev pub plot_top : ℕ
+plot_top = 960
+
+abbrev pub row_height : ℕ
+row_height = 320
+
+abbrev pub lane_top : ℕ → ℕ
+lane_top k = plot_top + row_height * (k + 1)
+
+-- The scale of a window.
+abbrev pub scale_of : Window → Scale
+scale_of window = record { from = window.from; to = window.to; left = 1500; width = 14000 }
+
+-- ---- what is counted
+abbrev pub is_shown : Scale → Sent → Bool
+is_shown scale x = meets scale x.moment x.end
+
+-- The transmissions that meet the window, and how many of them are garbled.
+abbrev pub counts_of : Scale → Recording → Counts
+counts_of scale trace = record {
+  from = scale.from;
+  to = scale.to;
+  horizon = trace.horizon;
+  shown = count_by (is_shown scale) (sents trace.list);
+  garbled = count_by (λ x. is_shown scale x && x.garbled) (sents trace.list);
+}
+
+-- ---- the lanes
+-- The offset of a sender, which it has in periodic mode.
+abbrev pub offset_words : Mode → ℕ → List ℕ
+offset_words Aperiodic at = []
+offset_words Periodic at = codes " AT " ++ decimal at
+
+-- The timers of a sender.
+abbrev pub timer_words : Mode → ℕ → ℕ → List ℕ
+timer_words mode tg at = codes "TG " ++ decimal tg ++ offset_words mode at
+
+abbrev pub sender_text : Mode → ℕ → Sender → List ℕ
+sender_text mode top sender = words_text Detail 1380 (top + 270) (timer_words mode sender.tg sender.at)
+
+-- The terminal of a lane.
+abbrev pub terminal_text : ℕ → ℕ → List ℕ
+terminal_text top terminal = words_text classes.Counts 1380 (top + 160) (codes "T" ++ decimal terminal)
+
+-- The band behind every second lane.
+abbrev pub band_text : ℕ → ℕ → List ℕ
+band_text k top =
+    if nat_eq (k % 2) 0 then box_text Band (record { left = 1500; top = top; width = 14000; height = row_height }) else []
+
+-- The sender with this number.
+abbrev pub sender_of : Table → ℕ → Option Sender
+sender_of table terminal = find (λ (sender : Sender). sender.number == terminal) table.senders
+
+-- What stands behind and beside lane k.
+abbrev pub lane_front : Table → ℕ → Lane → List ℕ
+lane_front table k lane =
+    band_text k (lane_top k) ++ terminal_text (lane_top k) lane.terminal
+    ++ option_map_or (sender_text table.mode (lane_top k)) (sender_of table lane.terminal) []
+
+-- The boxes of lane k.
+abbrev pub lane_row : Scale → List Entry → ℕ → ℕ → Lane → List ℕ
+lane_row scale list bottom k lane =
+    row_text scale (record { terminal = Some lane.terminal; top = lane_top k; bottom = bottom }) list
+
+-- Something of each lane, in order, of which the first is lane k.
+abbrev pub each_lane : (ℕ → Lane → List ℕ) → ℕ → List Lane → List ℕ
+each_lane text k [] = []
+each_lane text k (lane ∷ lanes) = text k lane ++ each_lane text (k + 1) lanes
+
+-- ---- around the lanes
+-- What lies behind the horizon.
+abbrev pub unobserved_text : Scale → ℕ → ℕ → List ℕ
+unobserved_text scale bottom horizon =
+    if nat_lt horizon scale.to
+    then titled_text Unobserved (record {
+      left = place scale horizon;
+      top = plot_top;
+      width = extent scale horizon scale.to;
+      height = bottom - plot_top;
+    }) (codes "not observed: the horizon is " ++ decimal horizon)
+    else []
+
+-- The axes: of microseconds above, of bit times below.
+abbrev pub upper_axis : Axis
+upper_axis = record { unit = Microseconds; words = 840; class = Tick; top = 900; height = 60 }
+
+abbrev pub lower_axis : ℕ → Axis
+lower_axis bottom = record { unit = BitTimes; words = bottom + 210; class = Grid; top = plot_top; height = bottom - plot_top }
+
+abbrev pub axes_text : Scale → ℕ → List ℕ
+axes_text scale bottom = axis_text scale upper_axis ++ axis_text scale (lower_axis bottom)
+
+-- ---- the first breach
+-- The middle of the words of a breach, so far from both edges that they have room.
+abbrev pub words_middle : ℕ → ℕ
+words_middle left = min (max left 2500) 14500
+
+-- The mark of a breach at a place, in the lane with this upper edge.
+abbrev pub mark_at : ℕ → ℕ → AuditAnswer → List ℕ
+mark_at left top answer =
+    box_text classes.Breach (record { left = left; top = top; width = 24; height = row_height })
+    ++ words_text BreachWords (words_middle left) (top + 50) (answer_words answer)
+
+abbrev pub mark_text : Scale → ℕ → ℕ → AuditAnswer → List ℕ
+mark_text scale top moment answer = mark_at (place scale moment) top answer
+
+-- The first breach, in the lane of its terminal and where the scale has its moment.
+abbrev pub breach_text : Scale → AuditAnswer → ℕ → Lane → List ℕ
+breach_text scale (Lawful collided) k lane = []
+breach_text scale (Breach moment terminal kind) k lane =
+    if terminal == lane.terminal && nat_le scale.from moment && nat_lt moment scale.to
+    then mark_text scale (lane_top k) moment (Breach moment terminal kind) else []
+
+-- ---- the legend
+abbrev pub legend_box : Class → ℕ → ℕ → ℕ → ℕ → List ℕ
+legend_box class left top width height = box_text class (record { left = left; top = top; width = width; height = height })
+
+abbrev pub legend_message : ℕ → List ℕ
+legend_message top =
+    legend_box classes.Message 1500 top 700 180 ++ legend_box classes.Wordstring 1540 (top + 30) 260 120
+    ++ legend_box classes.Wordstring 1900 (top + 30) 260 120
+    ++ words_text Small 2280 (top + 120) (codes "a message and its wordstrings: label, extension, +data words")
+
+abbrev pub legend_garbled : ℕ → List ℕ
+legend_garbled top =
+    legend_box Garbled 6600 top 500 180 ++ legend_box Noise 6640 (top + 30) 420 120 ++ words_text Small 7180 (top + 120) (codes "garbled")
+
+abbrev pub legend_columns : ℕ → List ℕ
+legend_columns top =
+    legend_box Overlap 8100 top 300 180 ++ words_text Small 8480 (top + 120) (codes "garbled on the bus")
+    ++ legend_box Unobserved 10100 top 300 180 ++ words_text Small 10480 (top + 120) (codes "behind the horizon")
+
+abbrev pub legend_text : ℕ → List ℕ
+legend_text top = legend_message top ++ legend_garbled top ++ legend_columns top
+
+-- ---- the whole
+-- The rows of the bus and of the lanes.
+abbrev pub rows_text : Scale → ℕ → List Lane → Recording → List ℕ
+rows_text scale bottom lanes trace =
+    row_text scale (record { terminal = None; top = plot_top; bottom = bottom }) trace.list
+    ++ each_lane (lane_row scale trace.list bottom) 0 lanes
+
+-- The plot, above a lower edge.
+abbrev pub plot_text : Scale → ℕ → List Lane → AuditAnswer → Table → Recording → List ℕ
+plot_text scale bottom lanes answer table trace =
+    words_text classes.Counts 1380 (plot_top + 200) (codes "bus") ++ each_lane (lane_front table) 0 lanes ++ axes_text scale bottom
+    ++ unobserved_text scale bottom trace.horizon
+    ++ rows_text scale bottom lanes trace ++ each_lane (breach_text scale answer) 0 lanes
+
+-- A picture with these lanes.
+abbrev pub picture_text : Scale → List Lane → List ℕ → AuditAnswer → Table → Recording → List ℕ
+picture_text scale lanes verdict answer table trace =
+    frame_text (lane_top (length lanes) + 800) verdict (answer_words answer) table (counts_of scale trace)
+    ++ plot_text scale (lane_top (length lanes)) lanes answer table trace ++ legend_text (lane_top (length lanes) + 460) ++ tail_text
+
+-- The time line of a trace in a window, with the words of the verdict on the table and the answer of the audit.
+abbrev pub time_line_text : Window → List ℕ → AuditAnswer → Table → Recording → List ℕ
+time_line_text window verdict answer table trace =
+    picture_text (scale_of window) (lanes table trace.list) verdict answer table trace

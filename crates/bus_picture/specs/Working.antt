@@ -1,0 +1,69 @@
+-- What a writer of a row keeps: the last box so far, which may still grow.
+use Rattle.std.specs.Prelude.{◌≡◌, ℕ, ◌+◌, ◌≤◌, max, List, [], ◌∷◌, ◌++◌, length, ⊤, Option, Some, None, if◌then◌else◌}
+use Rattle.std.specs.List.{AllByRecursion}
+use Rattle.std.specs.Option.{option_map_or}
+use Rattle.bus_strings.specs.Messages.{Entry}
+use Rattle.bus_shapes.specs.declared.sent.Sent.{Sent}
+use Rattle.bus_shapes.specs.declared.scale.Scale.{Scale}
+use Rattle.bus_shapes.specs.Sending.{sents}
+use Rattle.bus_shapes.specs.SendingLaws.{IsInOrder}
+use Rattle.bus_picture.specs.Boxes.{Pile, joins}
+use Rattle.bus_picture.specs.Rows.{Row, pile_text, shows}
+
+-- A box of one transmission, and a box with one more.
+abbrev pub one : Sent → Pile
+one x = record { first = x; count = 1; end = x.end }
+
+abbrev pub grown : Pile → Sent → Pile
+grown pile x = record { first = pile.first; count = pile.count + 1; end = max pile.end x.end }
+
+-- The last box where x, which is shown, comes next, and what is written then: the box before, where x doesn't share it.
+abbrev pub with_next : Scale → Option Pile → Sent → Pile
+with_next scale None x = one x
+with_next scale (Some pile) x = if joins scale pile.first x then grown pile x else one x
+
+abbrev pub written : Scale → Row → List Entry → Option Pile → Sent → List ℕ
+written scale row list None x = []
+written scale row list (Some pile) x = if joins scale pile.first x then [] else pile_text scale row list pile
+
+-- The same, where x is shown or not.
+abbrev pub next_pile : Scale → Row → Option Pile → Sent → Option Pile
+next_pile scale row last x = if shows scale row x then Some (with_next scale last x) else last
+
+abbrev pub next_written : Scale → Row → List Entry → Option Pile → Sent → List ℕ
+next_written scale row list last x = if shows scale row x then written scale row list last x else []
+
+-- The last box, where there is one.
+abbrev pub last_written : Scale → Row → List Entry → Option Pile → List ℕ
+last_written scale row list last = option_map_or (pile_text scale row list) last []
+
+-- What is still to be written, where these transmissions are yet to come.
+abbrev pub to_come : Scale → Row → List Entry → Option Pile → List Sent → List ℕ
+to_come scale row list last [] = last_written scale row list last
+to_come scale row list last (x ∷ xs) =
+    next_written scale row list last x ++ to_come scale row list (next_pile scale row last x) xs
+
+-- How many transmissions the last box has.
+abbrev pub held : Option Pile → ℕ
+held None = 0
+held (Some pile) = pile.count
+
+-- A box ends no earlier than it begins, and so does its first transmission.
+pub record IsPile (pile : Pile) : Type 0 where
+  pub first : pile.first.moment ≤ pile.first.end
+  pub later : pile.first.moment ≤ pile.end
+
+-- The last box, where there is one.
+abbrev pub IsLast : Option Pile → Type 0
+IsLast None = ⊤
+IsLast (Some pile) = IsPile pile
+
+-- A writer of a row has these transmissions yet to come. `text done` is that it has written this.
+pub record Writing (text : List ℕ → Type 0) (scale : Scale) (row : Row) (list : List Entry) (last : Option Pile) (left : List Sent)
+    : Type 0 where
+  pub done : List ℕ
+  pub adds : text done
+  pub rest : done ++ to_come scale row list last left ≡ to_come scale row list None (sents list)
+  pub order : AllByRecursion IsInOrder left
+  pub pile : IsLast last
+  pub few : held last + length left ≤ length list

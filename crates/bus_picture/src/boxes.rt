@@ -1,0 +1,263 @@
+// The boxes of a row.
+ghost use Rattle.std.specs.Prelude.{◌≡◌, ◌<◌, ◌≤◌, ◌^◌};
+ghost use Rattle.bus_outer.specs.Texts.{Adds};
+ghost use Rattle.bus_strings.specs.Transmissions.{IsByMoment};
+ghost use Rattle.bus_shapes.specs.Scales.{IsScale};
+ghost use Rattle.bus_picture.specs.Rows as definition;
+ghost use Rattle.bus_picture.specs.Working as working;
+ghost use Rattle.bus_picture.specs.Working.{IsLast, IsPile, held};
+
+use crate::pile::{Pile, is_narrow, joins, put_pile_words};
+use crate::row::Row;
+use crate::strings::{meets, put_strings};
+use bus_outer::{Sink, TextBuffer};
+use bus_shapes::{Area, Class, Scale, Sent, Sents, begin_titled, end_titled, put_box};
+use bus_strings::transmission::Transmission;
+
+// Whether a transmission is of the row, and meets the moments of the scale.
+fn shows(scale: &Scale, row: &Row, sent: &Sent) -> bool
+    ensures { result ≡ definition.shows scale.now row.now sent.now }
+{
+    let is_of = match row.terminal {
+        None => true,
+        Some(terminal) => sent.terminal == terminal,
+    };
+    is_of && meets(scale, sent.moment, sent.end)
+}
+
+// How a box looks.
+fn box_class(row: &Row, pile: &Pile) -> Class
+    ensures { result ≡ definition.box_class row.now pile.now }
+{
+    if pile.first.garbled {
+        return Class::Garbled;
+    }
+    match row.terminal {
+        None => Class::Carrier,
+        Some(_) => Class::Message,
+    }
+}
+
+// What a box has of the scale: its left edge and its width, from its upper edge on.
+fn stretch(scale: &Scale, pile: &Pile, top: u64, height: u64) -> Area
+    requires scale { IsScale scale.now }
+    requires pile { IsPile pile.now }
+    ensures { result ≡ definition.stretch scale.now pile.now top height }
+{
+    Area {
+        left: scale.place(pile.first.moment),
+        top,
+        width: scale.extent(pile.first.moment, pile.end),
+        height,
+    }
+}
+
+// What is drawn over all lanes of a box of the bus.
+fn put_column<K: Sink>(text: &mut TextBuffer, sink: &mut K, scale: &Scale, row: &Row, pile: &Pile)
+    requires scale { IsScale scale.now }
+    requires pile { IsPile pile.now }
+    requires order { row.now.top ≤ row.now.bottom }
+    ensures { Adds K.held K.faults sink.old sink.new text.old text.new (definition.column_text scale.now row.now pile.now) }
+{
+    if pile.first.garbled {
+        let area = stretch(scale, pile, row.top, row.bottom - row.top);
+        put_box(text, sink, Class::Overlap, area);
+    }
+}
+
+// The wordstrings of entry `at` of the list.
+fn put_entry<K: Sink>(
+    text: &mut TextBuffer,
+    sink: &mut K,
+    scale: &Scale,
+    row: &Row,
+    list: &[Transmission],
+    sent: &Sent,
+)
+    requires scale { IsScale scale.now }
+    requires top { row.now.top < 2 ^ 40 }
+    ensures { Adds K.held K.faults sink.old sink.new text.old text.new (definition.entry_text scale.now row.now list.now sent.now) }
+{
+    if let Some(x) = list.get(sent.at) {
+        put_strings(text, sink, scale, row.top, sent.garbled, x);
+    }
+}
+
+// What is drawn in a box of a lane.
+fn put_inner<K: Sink>(
+    text: &mut TextBuffer,
+    sink: &mut K,
+    scale: &Scale,
+    row: &Row,
+    list: &[Transmission],
+    pile: &Pile,
+)
+    requires scale { IsScale scale.now }
+    requires pile { IsPile pile.now }
+    requires top { row.now.top < 2 ^ 40 }
+    ensures { Adds K.held K.faults sink.old sink.new text.old text.new
+        (definition.inner_text scale.now row.now list.now pile.now) }
+{
+    if pile.count == 1 && !is_narrow(scale, &pile.first) {
+        put_entry(text, sink, scale, row, list, &pile.first);
+    }
+}
+
+// What a box has beside itself.
+fn put_more<K: Sink>(
+    text: &mut TextBuffer,
+    sink: &mut K,
+    scale: &Scale,
+    row: &Row,
+    list: &[Transmission],
+    pile: &Pile,
+)
+    requires scale { IsScale scale.now }
+    requires pile { IsPile pile.now }
+    requires top { row.now.top < 2 ^ 40 }
+    requires order { row.now.top ≤ row.now.bottom }
+    ensures { Adds K.held K.faults sink.old sink.new text.old text.new
+        (definition.more_text row.now.terminal scale.now row.now list.now pile.now) }
+{
+    match row.terminal {
+        None => put_column(text, sink, scale, row, pile),
+        Some(_) => put_inner(text, sink, scale, row, list, pile),
+    }
+}
+
+// A box.
+fn put_pile<K: Sink>(
+    text: &mut TextBuffer,
+    sink: &mut K,
+    scale: &Scale,
+    row: &Row,
+    list: &[Transmission],
+    pile: &Pile,
+)
+    requires scale { IsScale scale.now }
+    requires pile { IsPile pile.now }
+    requires top { row.now.top < 2 ^ 40 }
+    requires order { row.now.top ≤ row.now.bottom }
+    ensures { Adds K.held K.faults sink.old sink.new text.old text.new
+        (definition.pile_text scale.now row.now list.now pile.now) }
+{
+    let area = stretch(scale, pile, row.top + 60, 180);
+    begin_titled(text, sink, box_class(row, pile), area);
+    put_pile_words(text, sink, pile);
+    end_titled(text, sink);
+    put_more(text, sink, scale, row, list, pile);
+}
+
+// What is written where a transmission that is shown comes next: the box before, where it doesn't share that.
+fn put_written<K: Sink>(
+    text: &mut TextBuffer,
+    sink: &mut K,
+    scale: &Scale,
+    row: &Row,
+    list: &[Transmission],
+    last: &Option<Pile>,
+    sent: &Sent,
+)
+    requires scale { IsScale scale.now }
+    requires last { IsLast last.now }
+    requires sent { sent.now.moment ≤ sent.now.end }
+    requires top { row.now.top < 2 ^ 40 }
+    requires order { row.now.top ≤ row.now.bottom }
+    ensures { Adds K.held K.faults sink.old sink.new text.old text.new
+        (working.written scale.now row.now list.now last.now sent.now) }
+{
+    if let Some(pile) = last {
+        if !joins(scale, &pile.first, sent) {
+            put_pile(text, sink, scale, row, list, pile);
+        }
+    }
+}
+
+// The last box, where a transmission that is shown comes next.
+fn with_next(scale: &Scale, last: &Option<Pile>, sent: &Sent) -> Pile
+    requires scale { IsScale scale.now }
+    requires last { IsLast last.now }
+    requires sent { sent.now.moment ≤ sent.now.end }
+    requires few { held last.now < 2 ^ 63 }
+    ensures { result ≡ working.with_next scale.now last.now sent.now }
+{
+    match last {
+        None => Pile::one(*sent),
+        Some(pile) => {
+            if joins(scale, &pile.first, sent) {
+                pile.grown(sent)
+            } else {
+                Pile::one(*sent)
+            }
+        }
+    }
+}
+
+// Takes the next transmission of the list: what is then the last box.
+fn take<K: Sink>(
+    text: &mut TextBuffer,
+    sink: &mut K,
+    scale: &Scale,
+    row: &Row,
+    list: &[Transmission],
+    last: Option<Pile>,
+    sent: &Sent,
+) -> Option<Pile>
+    requires scale { IsScale scale.now }
+    requires last { IsLast last }
+    requires sent { sent.now.moment ≤ sent.now.end }
+    requires few { held last < 2 ^ 63 }
+    requires top { row.now.top < 2 ^ 40 }
+    requires order { row.now.top ≤ row.now.bottom }
+    ensures adds { Adds K.held K.faults sink.old sink.new text.old text.new
+        (working.next_written scale.now row.now list.now last sent.now) }
+    ensures last { result ≡ working.next_pile scale.now row.now last sent.now }
+{
+    if !shows(scale, row, sent) {
+        return last;
+    }
+    put_written(text, sink, scale, row, list, &last, sent);
+    Some(with_next(scale, &last, sent))
+}
+
+// The last box, where there is one.
+fn put_last<K: Sink>(
+    text: &mut TextBuffer,
+    sink: &mut K,
+    scale: &Scale,
+    row: &Row,
+    list: &[Transmission],
+    last: &Option<Pile>,
+)
+    requires scale { IsScale scale.now }
+    requires last { IsLast last.now }
+    requires top { row.now.top < 2 ^ 40 }
+    requires order { row.now.top ≤ row.now.bottom }
+    ensures { Adds K.held K.faults sink.old sink.new text.old text.new
+        (working.last_written scale.now row.now list.now last.now) }
+{
+    if let Some(pile) = last {
+        put_pile(text, sink, scale, row, list, pile);
+    }
+}
+
+/// The boxes of a row. It goes over the list once.
+pub(crate) fn put_row<K: Sink>(
+    text: &mut TextBuffer,
+    sink: &mut K,
+    scale: &Scale,
+    row: &Row,
+    list: &[Transmission],
+)
+    requires scale { IsScale scale.now }
+    requires by_moment { IsByMoment list.now }
+    requires top { row.now.top < 2 ^ 40 }
+    requires order { row.now.top ≤ row.now.bottom }
+    ensures { Adds K.held K.faults sink.old sink.new text.old text.new (definition.row_text scale.now row.now list.now) }
+{
+    let mut last = None;
+    for sent in Sents::new(list) {
+        last = take(text, sink, scale, row, list, last, &sent);
+    }
+    put_last(text, sink, scale, row, list, &last);
+}

@@ -1,0 +1,277 @@
+// The wordstrings of a message.
+ghost use Rattle.std.specs.Prelude.{◌≡◌, ◌<◌, ◌≤◌, ◌^◌, ◌+◌, [], ◌∷◌, Some, decimal, slice_get, length};
+ghost use Rattle.std.specs.Option.{option_map_or};
+ghost use Rattle.bus_outer.specs.Texts.{Adds};
+ghost use Rattle.bus_text.specs.Digits.{hex_digit as digit_of, hexadecimal};
+ghost use Rattle.bus_strings.specs.Pulses.{pulse_length, pulse_start};
+ghost use Rattle.bus_shapes.specs.Scales.{IsScale};
+ghost use Rattle.bus_picture.specs.Strings as definition;
+
+use bus_outer::{Sink, TextBuffer};
+use bus_shapes::{Area, Class, Scale, begin_titled, begin_words, end_titled, end_words};
+use bus_strings::limits::WORD_BITS;
+use bus_strings::transmission::Transmission;
+use bus_strings::{Wordstring, pulse, pulse_count};
+use bus_text::digits::hex_digit;
+
+/// Whether what goes from one moment to another meets those of a scale.
+pub(crate) fn meets(scale: &Scale, from: u64, to: u64) -> bool
+    ensures { result ≡ definition.meets scale.now from to }
+{
+    from < scale.to && scale.from < to
+}
+
+// A hexadecimal digit.
+fn put_digit<K: Sink>(text: &mut TextBuffer, sink: &mut K, digit: u8)
+    requires { digit < 16 }
+    ensures { Adds K.held K.faults sink.old sink.new text.old text.new (digit_of digit ∷ []) }
+{
+    let byte = hex_digit(digit);
+    text.put_byte(sink, byte);
+}
+
+// A label, in three digits.
+fn put_label<K: Sink>(text: &mut TextBuffer, sink: &mut K, label: u16)
+    ensures { Adds K.held K.faults sink.old sink.new text.old text.new (hexadecimal 3 label) }
+{
+    put_digit(text, sink, (label / 16 / 16 % 16) as u8);
+    put_digit(text, sink, (label / 16 % 16) as u8);
+    put_digit(text, sink, (label % 16) as u8);
+}
+
+// A label and an extension.
+fn put_both<K: Sink>(text: &mut TextBuffer, sink: &mut K, label: u16, ext: u8)
+    ensures { Adds K.held K.faults sink.old sink.new text.old text.new (definition.both_words label ext) }
+{
+    put_label(text, sink, label);
+    text.put_byte(sink, b' ');
+    put_digit(text, sink, ext % 16);
+}
+
+// The name of a wordstring.
+fn put_name<K: Sink>(text: &mut TextBuffer, sink: &mut K, string: &Wordstring)
+    ensures { Adds K.held K.faults sink.old sink.new text.old text.new (definition.name_words string.now) }
+{
+    let label = string.label().value();
+    let ext = string.ext().value();
+    put_both(text, sink, label, ext);
+}
+
+// How many data words a wordstring has.
+fn data_count(string: &Wordstring) -> usize
+    ensures { result ≡ length string.now.words }
+{
+    string.words().len()
+}
+
+// A number, and what it counts.
+fn put_count<K: Sink>(text: &mut TextBuffer, sink: &mut K, string: &Wordstring)
+    ensures { Adds K.held K.faults sink.old sink.new text.old text.new (decimal (length string.now.words)) }
+{
+    let count = data_count(string);
+    text.put_number(sink, count);
+}
+
+// Its name, and how many data words it has.
+fn put_long<K: Sink>(text: &mut TextBuffer, sink: &mut K, string: &Wordstring)
+    ensures { Adds K.held K.faults sink.old sink.new text.old text.new (definition.long_words string.now) }
+{
+    put_name(text, sink, string);
+    text.put(sink, b" +");
+    put_count(text, sink, string);
+}
+
+// All of that, and its moments.
+fn put_string_words<K: Sink>(
+    text: &mut TextBuffer,
+    sink: &mut K,
+    from: u64,
+    to: u64,
+    string: &Wordstring,
+)
+    ensures { Adds K.held K.faults sink.old sink.new text.old text.new (definition.string_words from to string.now) }
+{
+    put_name(text, sink, string);
+    text.put(sink, b": moments ");
+    text.put_number(sink, from);
+    text.put(sink, b" to ");
+    text.put_number(sink, to);
+    text.put(sink, b", ");
+    put_count(text, sink, string);
+    text.put(sink, b" data words");
+}
+
+// How a wordstring and its words look.
+fn string_class(garbled: bool) -> Class
+    ensures { result ≡ definition.string_class garbled }
+{
+    if garbled {
+        Class::Noise
+    } else {
+        Class::Wordstring
+    }
+}
+
+fn digits_class(garbled: bool) -> Class
+    ensures { result ≡ definition.digits_class garbled }
+{
+    if garbled {
+        Class::NoiseDigits
+    } else {
+        Class::Digits
+    }
+}
+
+// The box of a wordstring.
+fn string_area(scale: &Scale, top: u64, from: u64, to: u64) -> Area
+    requires scale { IsScale scale.now }
+    requires order { from ≤ to }
+    requires top { top < 2 ^ 40 }
+    ensures value { result ≡ definition.string_area scale.now top from to }
+    ensures left { result.left < 2 ^ 22 }
+    ensures width { result.width < 2 ^ 22 }
+    ensures top { result.top < 2 ^ 41 }
+{
+    Area {
+        left: scale.place(from),
+        top: top + 90,
+        width: scale.extent(from, to),
+        height: 120,
+    }
+}
+
+// The words in the box of a wordstring, where it has room for them.
+fn put_words_in<K: Sink>(
+    text: &mut TextBuffer,
+    sink: &mut K,
+    garbled: bool,
+    area: Area,
+    string: &Wordstring,
+)
+    requires left { area.left < 2 ^ 22 }
+    requires width { area.width < 2 ^ 22 }
+    requires top { area.top < 2 ^ 41 }
+    ensures { Adds K.held K.faults sink.old sink.new text.old text.new (definition.label_text garbled area string.now) }
+{
+    if area.width < 400 {
+        return;
+    }
+    begin_words(
+        text,
+        sink,
+        digits_class(garbled),
+        area.left + area.width / 2,
+        area.top + 100,
+    );
+    if area.width < 730 {
+        put_name(text, sink, string);
+    } else {
+        put_long(text, sink, string);
+    }
+    end_words(text, sink);
+}
+
+// A wordstring from one moment to another.
+fn put_drawn<K: Sink>(
+    text: &mut TextBuffer,
+    sink: &mut K,
+    scale: &Scale,
+    top: u64,
+    garbled: bool,
+    from: u64,
+    to: u64,
+    string: &Wordstring,
+)
+    requires scale { IsScale scale.now }
+    requires order { from ≤ to }
+    requires top { top < 2 ^ 40 }
+    ensures { Adds K.held K.faults sink.old sink.new text.old text.new (definition.drawn_text scale.now top garbled from to string.now) }
+{
+    let area = string_area(scale, top, from, to);
+    begin_titled(text, sink, string_class(garbled), area);
+    put_string_words(text, sink, from, to, string);
+    end_titled(text, sink);
+    put_words_in(text, sink, garbled, area, string);
+}
+
+// The same, where it meets the moments of the scale.
+fn put_string<K: Sink>(
+    text: &mut TextBuffer,
+    sink: &mut K,
+    scale: &Scale,
+    top: u64,
+    garbled: bool,
+    from: u64,
+    to: u64,
+    string: &Wordstring,
+)
+    requires scale { IsScale scale.now }
+    requires order { from ≤ to }
+    requires top { top < 2 ^ 40 }
+    ensures { Adds K.held K.faults sink.old sink.new text.old text.new (definition.string_text scale.now top garbled from to string.now) }
+{
+    if meets(scale, from, to) {
+        put_drawn(text, sink, scale, top, garbled, from, to, string);
+    }
+}
+
+// The moments of pulse `k` of a transmission.
+fn pulse_moments(x: &Transmission, k: u32) -> (u64, u64)
+    requires { k < length x.now.message }
+    ensures from { result.0 ≡ x.now.moment + pulse_start x.now.message k }
+    ensures to { result.1 ≡ x.now.moment + pulse_start x.now.message k + pulse_length x.now.message k }
+    ensures order { result.0 ≤ result.1 }
+{
+    let (first, length) = pulse(&x.message, k);
+    let from = x.moment + u64::from(first);
+    (from, from + u64::from(length))
+}
+
+// Wordstring `k` of a transmission.
+fn string_of(x: &Transmission, k: u32) -> &Wordstring
+    requires { k < length x.now.message }
+    ensures { slice_get x.now.message k ≡ Some result.now }
+{
+    &x.message.strings()[k as usize]
+}
+
+// What is drawn of wordstring `k` of a transmission.
+fn put_pulse<K: Sink>(
+    text: &mut TextBuffer,
+    sink: &mut K,
+    scale: &Scale,
+    top: u64,
+    garbled: bool,
+    x: &Transmission,
+    k: u32,
+)
+    requires scale { IsScale scale.now }
+    requires top { top < 2 ^ 40 }
+    requires within { k < length x.now.message }
+    ensures { Adds K.held K.faults sink.old sink.new text.old text.new
+        (option_map_or (definition.pulse_text scale.now top garbled x.now k) (slice_get x.now.message k) []) }
+{
+    let moments = pulse_moments(x, k);
+    let string = string_of(x, k);
+    put_string(
+        text, sink, scale, top, garbled, moments.0, moments.1, string,
+    );
+}
+
+/// The wordstrings of a transmission, garbled or not, in a row with this upper edge.
+pub(crate) fn put_strings<K: Sink>(
+    text: &mut TextBuffer,
+    sink: &mut K,
+    scale: &Scale,
+    top: u64,
+    garbled: bool,
+    x: &Transmission,
+)
+    requires scale { IsScale scale.now }
+    requires top { top < 2 ^ 40 }
+    ensures { Adds K.held K.faults sink.old sink.new text.old text.new (definition.strings_text scale.now top garbled x.now) }
+{
+    for k in 0..pulse_count(&x.message) {
+        put_pulse(text, sink, scale, top, garbled, x, k);
+    }
+}

@@ -1,0 +1,196 @@
+// The text of a time line.
+ghost use Rattle.std.specs.Prelude.{◌≡◌, ◌<◌, ◌≤◌, length};
+ghost use Rattle.bus_outer.specs.Sinks.{WritesText};
+ghost use Rattle.bus_outer.specs.Texts.{Adds};
+ghost use Rattle.bus_regime.specs.Lines.{verdict_words};
+ghost use Rattle.bus_shapes.specs.Scales.{IsScale};
+ghost use Rattle.bus_picture.specs.TimeLines as definition;
+
+use crate::boxes::put_row;
+use crate::counting::counts;
+use crate::lanes::{lane_top, put_breaches, put_fronts, put_rows};
+use crate::legend::put_legend;
+use crate::row::Row;
+use bus_audit::AuditAnswer;
+use bus_dump::{Lane, lanes_of};
+use bus_outer::{Sink, TextBuffer, WriteFault};
+use bus_regime::TableVerdict;
+use bus_shapes::{
+    Area, Axis, Class, Scale, Unit, Window, begin_titled, end_titled, put_axis, put_frame,
+    put_tail, put_words,
+};
+use bus_strings::laws::neighbours_tell;
+use bus_table::table::Table;
+use bus_trace::Trace;
+
+// The scale of a window.
+fn scale_of(window: &Window) -> Scale
+    ensures value { result ≡ definition.scale_of window.now }
+    ensures scale { IsScale result }
+{
+    Scale {
+        from: window.from(),
+        to: window.to(),
+        left: 1500,
+        width: 14000,
+    }
+}
+
+// What lies behind the horizon.
+fn put_unobserved<K: Sink>(
+    text: &mut TextBuffer,
+    sink: &mut K,
+    scale: &Scale,
+    bottom: u64,
+    horizon: u64,
+)
+    requires scale { IsScale scale.now }
+    requires bottom { 960 ≤ bottom }
+    ensures { Adds K.held K.faults sink.old sink.new text.old text.new
+        (definition.unobserved_text scale.now bottom horizon) }
+{
+    if horizon < scale.to {
+        let area = Area {
+            left: scale.place(horizon),
+            top: 960,
+            width: scale.extent(horizon, scale.to),
+            height: bottom - 960,
+        };
+        begin_titled(text, sink, Class::Unobserved, area);
+        text.put(sink, b"not observed: the horizon is ");
+        text.put_number(sink, horizon);
+        end_titled(text, sink);
+    }
+}
+
+// The axes.
+fn put_axes<K: Sink>(text: &mut TextBuffer, sink: &mut K, scale: &Scale, bottom: u64)
+    requires scale { IsScale scale.now }
+    requires least { 960 ≤ bottom }
+    requires most { bottom < 100000 }
+    ensures { Adds K.held K.faults sink.old sink.new text.old text.new (definition.axes_text scale.now bottom) }
+{
+    let upper = Axis {
+        unit: Unit::Microseconds,
+        words: 840,
+        class: Class::Tick,
+        top: 900,
+        height: 60,
+    };
+    put_axis(text, sink, scale, &upper);
+    let lower = Axis {
+        unit: Unit::BitTimes,
+        words: bottom + 210,
+        class: Class::Grid,
+        top: 960,
+        height: bottom - 960,
+    };
+    put_axis(text, sink, scale, &lower);
+}
+
+// The rows of the bus and of the lanes.
+fn put_all_rows<K: Sink>(
+    text: &mut TextBuffer,
+    sink: &mut K,
+    scale: &Scale,
+    bottom: u64,
+    lanes: &[Lane],
+    trace: &Trace,
+)
+    requires scale { IsScale scale.now }
+    requires few { length lanes.now ≤ 256 }
+    requires bottom { bottom ≡ definition.lane_top (length lanes.now) }
+    ensures { Adds K.held K.faults sink.old sink.new text.old text.new
+        (definition.rows_text scale.now bottom lanes.now trace.now) }
+{
+    neighbours_tell();
+    let list = trace.list();
+    let bus = Row {
+        terminal: None,
+        top: 960,
+        bottom,
+    };
+    put_row(text, sink, scale, &bus, list);
+    put_rows(text, sink, scale, list, bottom, lanes);
+}
+
+// The plot, above a lower edge.
+fn put_plot<K: Sink>(
+    text: &mut TextBuffer,
+    sink: &mut K,
+    scale: &Scale,
+    bottom: u64,
+    lanes: &[Lane],
+    answer: &AuditAnswer,
+    table: &Table,
+    trace: &Trace,
+)
+    requires scale { IsScale scale.now }
+    requires few { length lanes.now ≤ 256 }
+    requires bottom { bottom ≡ definition.lane_top (length lanes.now) }
+    ensures { Adds K.held K.faults sink.old sink.new text.old text.new
+        (definition.plot_text scale.now bottom lanes.now answer.now table.now trace.now) }
+{
+    put_words(text, sink, Class::Counts, 1380, 1160, b"bus");
+    put_fronts(text, sink, table, lanes);
+    put_axes(text, sink, scale, bottom);
+    let horizon = trace.horizon();
+    put_unobserved(text, sink, scale, bottom, horizon);
+    put_all_rows(text, sink, scale, bottom, lanes, trace);
+    put_breaches(text, sink, scale, answer, lanes);
+}
+
+// A picture with these lanes.
+fn put_picture<K: Sink>(
+    text: &mut TextBuffer,
+    sink: &mut K,
+    scale: &Scale,
+    lanes: &[Lane],
+    verdict: &TableVerdict,
+    answer: &AuditAnswer,
+    table: &Table,
+    trace: &Trace,
+)
+    requires scale { IsScale scale.now }
+    requires few { length lanes.now ≤ 256 }
+    ensures { Adds K.held K.faults sink.old sink.new text.old text.new
+        (definition.picture_text scale.now lanes.now (verdict_words verdict.now) answer.now table.now trace.now) }
+{
+    let bottom = lane_top(lanes.len());
+    let counts = counts(scale, trace);
+    put_frame(text, sink, bottom + 800, verdict, answer, table, &counts);
+    put_plot(text, sink, scale, bottom, lanes, answer, table, trace);
+    put_legend(text, sink, bottom + 460);
+    put_tail(text, sink);
+}
+
+/// Writes the time line of a trace in a window, with the words of the verdict on the table and of the answer of the audit. It goes over the
+/// trace once for each lane, and takes no memory.
+///
+/// At `WriteFault` the sink has taken a front of the text, and its count of faults rose.
+pub fn write_time_line<K: Sink>(
+    window: &Window,
+    verdict: &TableVerdict,
+    answer: &AuditAnswer,
+    table: &Table,
+    trace: &Trace,
+    sink: &mut K,
+) -> Result<(), WriteFault>
+    ensures { WritesText K.held K.faults sink.old sink.new result
+        (definition.time_line_text window.now (verdict_words verdict.now) answer.now table.now trace.now) }
+{
+    let lanes = lanes_of(table, trace.list());
+    let scale = scale_of(window);
+    let mut text = TextBuffer::new();
+    put_picture(
+        &mut text,
+        sink,
+        &scale,
+        lanes.as_slice(),
+        verdict,
+        answer,
+        table,
+        trace,
+    );
+    text.finish(sink)
+}
