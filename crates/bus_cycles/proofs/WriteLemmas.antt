@@ -27,6 +27,7 @@ pub whole_put : (window : Window) (verdict : TableVerdict) (answer : AuditAnswer
     (survey : Survey) (cycle : Cycle) (scale : Scale) (breach : Option ℕ) → bottom ≡ bottom_of survey → told ≡ counts window trace → cycle ≡ cycle_of table
     → breach ≡ breach_in window answer → survey ≡ survey_of cycle breach (shown window trace.list) → scale ≡ scale_of survey
     → text_with window verdict answer table trace bottom told survey cycle scale breach ≡ cycles_text window verdict answer table trace
+unfolding cycles_text
 whole_put window verdict answer table trace bottom told survey cycle scale breach b t c f s sc =
     let text = text_with window verdict answer table trace in
     let list = shown window trace.list in

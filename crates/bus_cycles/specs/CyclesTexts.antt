@@ -135,6 +135,6 @@ text_of survey window verdict answer table trace =
     ++ breach_text (scale_of survey) (breach_in window answer) survey.marked ++ tail_text
 
 -- The picture of a window of a trace on a table.
-abbrev pub cycles_text : Window → TableVerdict → AuditAnswer → Table → Recording → List ℕ
+unfoldable pub cycles_text : Window → TableVerdict → AuditAnswer → Table → Recording → List ℕ
 cycles_text window verdict answer table trace =
     text_of (survey_of (cycle_of table) (breach_in window answer) (shown window trace.list)) window verdict answer table trace

@@ -1,5 +1,6 @@
 -- The text of a time line.
-use Rattle.std.specs.Prelude.{ℕ, ◌+◌, ◌-◌, ◌*◌, ◌%◌, max, min, Bool, ◌&&◌, ◌==◌, nat_eq, nat_le, nat_lt, List, [], ◌∷◌, ◌++◌, length, codes, decimal, Option, Some, None, if◌then◌else◌}
+use Rattle.std.specs.Prelude.{ℕ, ◌+◌, ◌-◌, ◌*◌, ◌%◌, max, min, Bool, ◌&&◌, ◌==◌, nat_eq, nat_le, nat_lt, List, [], ◌∷◌, ◌++◌, length}
+use Rattle.std.specs.Prelude.{codes, decimal, Option, Some, None, if◌then◌else◌}
 use Rattle.std.specs.List.{count_by, find}
 use Rattle.std.specs.Option.{option_map_or}
 use Rattle.bus_table.specs.Tables.{Sender, Table}
@@ -16,7 +17,8 @@ use Rattle.bus_shapes.specs.declared.axis.Axis.{Axis}
 use Rattle.bus_shapes.specs.declared.axis.Unit.TheVariants.{BitTimes, Microseconds}
 use Rattle.bus_shapes.specs.Axes.{axis_text}
 use Rattle.bus_shapes.specs.declared.class.Class.{Class}
-use Rattle.bus_shapes.specs.declared.class.Class.TheVariants.{Band, BreachWords, Detail, Garbled, Grid, Noise, Overlap, Small, Tick, Unobserved}
+use Rattle.bus_shapes.specs.declared.class.Class.TheVariants.{Band, BreachWords, Detail, Garbled, Grid, Noise, Overlap, Small, Tick}
+use Rattle.bus_shapes.specs.declared.class.Class.TheVariants.{Unobserved}
 use Rattle.bus_shapes.specs.declared.class.Class.TheVariants as classes
 use Rattle.bus_shapes.specs.Frames.{frame_text, tail_text}
 use Rattle.bus_shapes.specs.declared.counts.Counts.{Counts}
@@ -187,6 +189,6 @@ picture_text scale lanes verdict answer table trace =
     ++ plot_text scale (lane_top (length lanes)) lanes answer table trace ++ legend_text (lane_top (length lanes) + 460) ++ tail_text
 
 -- The time line of a trace in a window, with the words of the verdict on the table and the answer of the audit.
-abbrev pub time_line_text : Window → List ℕ → AuditAnswer → Table → Recording → List ℕ
+unfoldable pub time_line_text : Window → List ℕ → AuditAnswer → Table → Recording → List ℕ
 time_line_text window verdict answer table trace =
     picture_text (scale_of window) (lanes table trace.list) verdict answer table trace

@@ -5,10 +5,11 @@ use Rattle.bus_regime.specs.Lines.{verdict_words}
 use Rattle.bus_dump.specs.declared.lane.Lane.{Lane}
 use Rattle.bus_dump.specs.Lanes.{lanes}
 use Rattle.bus_shapes.specs.declared.scale.Scale.{Scale}
-use Rattle.bus_picture.specs.TimeLines.{picture_text, scale_of}
+use Rattle.bus_picture.specs.TimeLines.{picture_text, scale_of, time_line_text}
 use Rattle.bus_picture.proofs.writing.write_time_line.Goals as goal
 
 pub returns : goal.returns
+unfolding time_line_text
 returns g c =
     let all = c.as_slice.ensures.value ∙ c.lanes_of-lanes.ensures ∙ ap (lanes c.args.table.now) c.list.ensures.value in
     ends_text g.K.Sink.held g.K.Sink.faults c.args.sink.now c.put_picture.new.sink c.finish.new.sink c.new-text.result c.put_picture.new.text c.finish.result _
