@@ -7,6 +7,8 @@ _bus629_view() {
     'wires:write the signals of one bit of that dump alone'
     'timers:write the dump with the timers of each sender'
     'gtkw:write the save file with which GTKWave shows these'
+    'svg:write the trace as a time line'
+    'cycles:write a picture with a row for each cycle'
   )
   if (( CURRENT == 2 )); then
     _describe command commands

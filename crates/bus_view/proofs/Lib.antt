@@ -1,6 +1,8 @@
 pub mod FormLemmas
+pub mod WindowLemmas
 pub mod SingleLemmas
 pub mod DrawLemmas
+pub mod PaintLemmas
 pub mod CauseLemmas
 pub mod ActLemmas
 pub mod ClaimLemmas

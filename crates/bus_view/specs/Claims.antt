@@ -1,5 +1,7 @@
 -- What is claimed of the forms that draw, in the words of their texts.
 use Rattle.std.specs.Prelude.{◌≡◌, ℕ, IsTrue, List, [], ◌∷◌, codes, Some, None, ◌⊎◌}
+use Rattle.bus_shapes.specs.Windows.{Window}
+use Rattle.bus_text.specs.Numbers.{IsDecimal}
 use Rattle.bus_table.specs.Hands.{are_hands}
 use Rattle.bus_table.specs.Tables.{Table, Hand}
 use Rattle.bus_medium.specs.Lawful.{IsLawful}
@@ -18,20 +20,42 @@ use Rattle.bus_tool.specs.Claims.{NothingFails, TellsTable, Answers}
 use Rattle.bus_tool.specs.Outside.{Call}
 use Rattle.bus_tool.specs.TraceClaims.{TellsTrace}
 use Rattle.bus_view.specs.Due.{drawing}
-use Rattle.bus_view.specs.Forms.{View, Dump, SaveFile, sources}
+use Rattle.bus_view.specs.Forms.{View, Dump, SaveFile, Painted, Picture, TimeLine, Cycles, sources}
 
 -- the command of a view
+abbrev pub picture_word : Picture → List ℕ
+picture_word TimeLine = codes "svg"
+picture_word Cycles = codes "cycles"
+
 abbrev pub view_word : View → List ℕ
 view_word (Dump Vcd) = codes "vcd"
 view_word (Dump Wires) = codes "wires"
 view_word (Dump Timers) = codes "timers"
 view_word SaveFile = codes "gtkw"
+view_word (Painted picture window) = picture_word picture
 
--- the words are that command and two more
+-- two words are the plain decimals of both moments of a window
+pub record AreOfWindow (window : Window) (words : List (List ℕ)) : Type 0 where
+  pub first : List ℕ
+  pub second : List ℕ
+  pub form : words ≡ first ∷ second ∷ []
+  pub from : IsDecimal first window.from
+  pub to : IsDecimal second window.to
+
+-- the words behind those of both texts: those of the window, where one is asked for
+abbrev pub AreFurther : View → List (List ℕ) → Type 0
+AreFurther (Dump dump) words = words ≡ []
+AreFurther SaveFile words = words ≡ []
+AreFurther (Painted picture None) words = words ≡ []
+AreFurther (Painted picture (Some window)) words = AreOfWindow window words
+
+-- the words are that command, two more, and those of the window
 pub record IsViewForm (view : View) (words : List (List ℕ)) : Type 0 where
   pub first : List ℕ
   pub second : List ℕ
-  pub form : words ≡ view_word view ∷ first ∷ second ∷ []
+  pub further : List (List ℕ)
+  pub form : words ≡ view_word view ∷ first ∷ second ∷ further
+  pub window : AreFurther view further
 
 -- a call of it on texts of a valid table and of a trace, in which nothing outside fails
 pub record IsViewOf (view : View) (table : Table) (trace : Recording) (call : Call) : Type 0 where
@@ -49,8 +73,8 @@ pub record Refuses (refusal : Status) (call : Call) (status : Status) : Type 0 w
 --   drawn     where no entry is doubled, the dump of the trace is written, with the words of the table's verdict as its comment
 --   refused   where one is, the trace is refused
 --   lawful    none is where the list is lawful, of any hands that fit the table's senders: as in what `observe`, `run` and `drop` write
---   clear     where the list is what `run` writes of an accepted table, the dump shows no overlap, no garbled transmission, and no word that
---             can't be told
+--   clear     where the list is what `run` writes of an accepted table, the dump shows no overlap, no garbled transmission, and no word
+--             that can't be told
 pub record GivesDump (dump : AnyDump) (table : Table) (trace : Recording) (call : Call) (status : Status) : Type 0 where
   pub drawn : doubled trace.list ≡ None → Answers Done (λ text. text ≡ drawing dump table trace) call status
   pub refused : (entry : ℕ) → doubled trace.list ≡ Some entry → Refuses InputRefused call status

@@ -1,23 +1,61 @@
 -- The forms of the command line: each asks for a view of a trace. A word is its bytes.
-use Rattle.std.specs.Prelude.{ℕ, List, [], ◌∷◌, codes, Option, Some, None, if◌then◌else◌}
+use Rattle.std.specs.Prelude.{ℕ, List, [], ◌∷◌, Bool, ◌&&◌, nat_lt, nat_le, codes, Option, Some, None, if◌then◌else◌}
+use Rattle.std.specs.Option.{option_and_then, option_map}
 use Rattle.std.specs.Str.{bytes_eq}
+use Rattle.bus_strings.specs.Limits.{horizon_limit}
+use Rattle.bus_text.specs.Numbers.{is_plain_decimal, decimal_value}
 use Rattle.bus_dump.specs.declared.dump.Dump.TheVariants as dump
+use Rattle.bus_shapes.specs.Windows.{Window}
 use Rattle.bus_tool.specs.Readers.{Named, Trace, entire, two_sources}
+pub use Rattle.bus_view.specs.declared.forms.Picture.{Picture}
+pub use Rattle.bus_view.specs.declared.forms.Picture.TheVariants.{TimeLine, Cycles}
 pub use Rattle.bus_view.specs.declared.forms.View.{View}
-pub use Rattle.bus_view.specs.declared.forms.View.TheVariants.{Dump, SaveFile}
+pub use Rattle.bus_view.specs.declared.forms.View.TheVariants.{Dump, SaveFile, Picture as Painted}
 
--- `vcd T R`, `wires T R`, `timers T R`, `gtkw T R`
+-- ---- windows
+-- whether two words are the plain decimals of a window: a moment and a later one, which no horizon of a trace is below
+abbrev pub is_window : List ℕ → List ℕ → Bool
+is_window from to =
+    is_plain_decimal from && is_plain_decimal to && nat_lt (decimal_value from) (decimal_value to)
+    && nat_le (decimal_value to) horizon_limit
+
+-- the window that they write
+abbrev pub window_of : List ℕ → List ℕ → Option Window
+window_of from to =
+    if is_window from to then Some (record { from = decimal_value from; to = decimal_value to }) else None
+
+-- ---- forms
+-- the picture of a command
+abbrev pub picture_of : List ℕ → Option Picture
+picture_of command =
+    if bytes_eq command (codes "svg") then Some TimeLine
+    else if bytes_eq command (codes "cycles") then Some Cycles
+    else None
+
+-- a picture of all of a trace, or of a window of it
+abbrev pub all_of : Picture → View
+all_of picture = Painted picture None
+
+abbrev pub part_of : Picture → Window → View
+part_of picture window = Painted picture (Some window)
+
+-- `vcd T R`, `wires T R`, `timers T R`, `gtkw T R`, `svg T R`, `cycles T R`
 abbrev pub three_words : List ℕ → Option View
 three_words command =
     if bytes_eq command (codes "vcd") then Some (Dump dump.Vcd)
     else if bytes_eq command (codes "wires") then Some (Dump dump.Wires)
     else if bytes_eq command (codes "timers") then Some (Dump dump.Timers)
     else if bytes_eq command (codes "gtkw") then Some SaveFile
-    else None
+    else option_map all_of (picture_of command)
+
+-- `svg T R FROM TO`, `cycles T R FROM TO`
+abbrev pub five_words : List ℕ → List ℕ → List ℕ → Option View
+five_words command from to = option_and_then (λ picture. option_map (part_of picture) (window_of from to)) (picture_of command)
 
 -- the view that these words ask for, whatever the words T and R are
 abbrev pub form_of : List (List ℕ) → Option View
 form_of (command ∷ table ∷ trace ∷ []) = three_words command
+form_of (command ∷ table ∷ trace ∷ from ∷ to ∷ []) = five_words command from to
 form_of words = None
 
 -- the sources that each form names: a table, which is read whole, and a trace

@@ -5,6 +5,7 @@ ghost use Rattle.bus_view.specs.Own.{IsOwn};
 
 use crate::drawing::draw;
 use crate::forms::{View, form_of};
+use crate::painting::paint;
 use crate::saving::save;
 use bus_outer::{Sink, Source};
 use bus_table::laws::readings_have_their_cause;
@@ -26,6 +27,7 @@ fn show<S: Source, K: Sink>(
     match view {
         View::Dump(dump) => draw(alloc, dump, first, second, out),
         View::SaveFile => save(alloc, first, second, out),
+        View::Picture(picture, window) => paint(alloc, picture, window, first, second, out),
     }
 }
 

@@ -3,14 +3,47 @@ ghost use Rattle.bus_tool.specs.Forms.{words_of};
 ghost use Rattle.bus_view.specs.Forms as forms;
 
 use bus_dump::Dump;
+use bus_shapes::Window;
+use bus_text::numbers::plain_decimal;
+
+/// A picture of a trace.
+#[derive(Clone, Copy, Debug, PartialEq, Eq)]
+pub enum Picture {
+    /// A time line, with a lane for each terminal.
+    TimeLine,
+    /// A row for each cycle.
+    Cycles,
+}
 
 /// What the words ask for: a view of the trace in the second source, on the table in the first.
-#[derive(Clone, Copy, Debug, PartialEq, Eq)]
+#[derive(Debug, Drop)]
 pub enum View {
     /// `vcd T R`, `wires T R`, `timers T R`: this dump of it.
     Dump(Dump),
     /// `gtkw T R`: the save file with which GTKWave shows all signals of its dumps.
     SaveFile,
+    /// `svg T R`, `cycles T R`: this picture of it; `svg T R FROM TO`, `cycles T R FROM TO`: of a window of it.
+    Picture(Picture, Option<Window>),
+}
+
+/// The window that two words write, in bit times: plain decimals of which the first is less, and the second at most the limit of a horizon.
+fn window_of(from: &[u8], to: &[u8]) -> Option<Window>
+    ensures { result ≡ forms.window_of from.now to.now }
+{
+    Window::new(plain_decimal(from)?, plain_decimal(to)?)
+}
+
+/// The picture of a command.
+fn picture_of(command: &str) -> Option<Picture>
+    ensures { result ≡ forms.picture_of command.now }
+{
+    if command == "svg" {
+        Some(Picture::TimeLine)
+    } else if command == "cycles" {
+        Some(Picture::Cycles)
+    } else {
+        None
+    }
 }
 
 /// The view that three words ask for of which this is the first.
@@ -26,16 +59,28 @@ fn three_words(command: &str) -> Option<View>
     } else if command == "gtkw" {
         Some(View::SaveFile)
     } else {
-        None
+        let picture = picture_of(command)?;
+        Some(View::Picture(picture, None))
     }
 }
 
-/// The view that these words ask for: `vcd T R`, `wires T R`, `timers T R`, or `gtkw T R`; None where they are no form.
+/// The view that five words ask for of which these are the first and the last two.
+fn five_words(command: &str, from: &[u8], to: &[u8]) -> Option<View>
+    ensures { result ≡ forms.five_words command.now from.now to.now }
+{
+    let picture = picture_of(command)?;
+    let window = window_of(from, to)?;
+    Some(View::Picture(picture, Some(window)))
+}
+
+/// The view that these words ask for: `vcd T R`, `wires T R`, `timers T R`, `gtkw T R`, `svg T R`, `cycles T R`, and the last two with a
+/// window, `FROM TO`; None where they are no form.
 pub fn form_of(words: &[String]) -> Option<View>
     ensures { result ≡ forms.form_of (words_of words.now) }
 {
     match words.len() {
         3 => three_words(words[0].as_str()),
+        5 => five_words(words[0].as_str(), words[3].as_bytes(), words[4].as_bytes()),
         _ => None,
     }
 }

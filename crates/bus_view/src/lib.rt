@@ -8,9 +8,10 @@
 mod command;
 mod drawing;
 mod forms;
+mod painting;
 mod saving;
 mod top;
 
 pub use command::act;
-pub use forms::View;
+pub use forms::{Picture, View};
 pub use top::view;

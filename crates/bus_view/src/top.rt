@@ -1,4 +1,4 @@
-ghost use Rattle.std.specs.Prelude.{◌≡◌};
+ghost use Rattle.std.specs.Prelude.{◌≡◌, Option, IfSome};
 ghost use Rattle.bus_table.specs.Tables.{Table};
 ghost use Rattle.bus_tool.specs.declared.outcome.Outcome.{Outcome as Came};
 ghost use Rattle.bus_tool.specs.declared.status.Status.TheVariants.{Done};
@@ -12,7 +12,9 @@ ghost use Rattle.bus_dump.specs.declared.dump.Dump.{Dump as AnyDump};
 ghost use Rattle.bus_dump.specs.SaveFiles.{save_text};
 ghost use Rattle.bus_view.specs.Acts.{Acts};
 ghost use Rattle.bus_view.specs.Claims.{IsViewOf, GivesDump};
-ghost use Rattle.bus_view.specs.Forms.{Dump, SaveFile};
+ghost use Rattle.bus_shapes.specs.Windows.{Window, IsWindow};
+ghost use Rattle.bus_view.specs.Due.{painting, window_or_whole};
+ghost use Rattle.bus_view.specs.Forms.{Dump, SaveFile, Painted, Picture};
 
 use crate::command::act;
 use bus_dump::laws::{clear_lists_show_none, lawful_is_single};
@@ -45,6 +47,13 @@ pub fn view<S: Source, K: Sink, E: Sink>(
         (outside ⟦<S as Source>⟧ ⟦<K as Sink>⟧ first.new second.new out.new) in
         (table : Table) (trace : Recording) → IsViewOf SaveFile table trace call
         → Answers Done (λ text. text ≡ save_text table trace.list) call result }
+
+    // `svg T R` and `cycles T R` of such texts, and both with a window: the picture, or want of memory.
+    ensures paint { let call = called (words_of words.now) (outside ⟦<S as Source>⟧ ⟦<K as Sink>⟧ first.old second.old out.old)
+        (outside ⟦<S as Source>⟧ ⟦<K as Sink>⟧ first.new second.new out.new) in
+        (picture : Picture) (window : Option Window) (table : Table) (trace : Recording) → IfSome window IsWindow
+        → IsViewOf (Painted picture window) table trace call
+        → Answers Done (λ text. text ≡ painting picture (window_or_whole window trace) table trace) call result }
 
     // Of any words and bytes: the outcome that is due or a fault in its place, what was taken and written, what `err` holds, and the
     // status.

@@ -38,7 +38,7 @@ pub fn run_on(rt: &HostRuntime, words: &[&str], first: &str, second: &str) -> Re
         all.push(String::from_str(rt.alloc(), *word)?)?;
     }
     let (mut first, mut second) = (source(rt, first)?, source(rt, second)?);
-    let (mut out, mut err) = (sink(rt, 3000)?, sink(rt, 200)?);
+    let (mut out, mut err) = (sink(rt, 12_000)?, sink(rt, 200)?);
     let status = view(
         rt.alloc(),
         &all,

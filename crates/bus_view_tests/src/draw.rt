@@ -18,7 +18,12 @@ fn the_wires_of_a_trace(rt: HostRuntime) -> Result<(), Fail> {
 // How many bytes each dump and the save file have. That these are theirs is what the contract says.
 #[test]
 fn each_dump_of_a_trace(rt: HostRuntime) -> Result<(), Fail> {
-    for (command, length) in [("vcd", 832), ("wires", 502), ("timers", 1132), ("gtkw", 405)] {
+    for (command, length) in [
+        ("vcd", 832),
+        ("wires", 502),
+        ("timers", 1132),
+        ("gtkw", 405),
+    ] {
         let ran = run_on(&rt, &[command, "T", "R"], TABLE, TRACE)?;
         assert!(rt; ran.status == Status::Done);
         assert!(rt; ran.out.bytes().len() == length, "{command}");

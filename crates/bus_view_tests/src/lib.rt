@@ -6,4 +6,6 @@ mod calls;
 #[cfg(test)]
 mod draw;
 #[cfg(test)]
+mod paint;
+#[cfg(test)]
 mod refused;

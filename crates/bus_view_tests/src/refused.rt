@@ -25,6 +25,20 @@ fn each_refusal(rt: HostRuntime) -> Result<(), Fail> {
             "ERROR 2 usage\n",
         ),
         (
+            &["svg", "T", "R", "5", "5"][..],
+            TABLE,
+            TRACE,
+            Status::Usage,
+            "ERROR 2 usage\n",
+        ),
+        (
+            &["cycles", "T", "R", "0", "09"][..],
+            TABLE,
+            TRACE,
+            Status::Usage,
+            "ERROR 2 usage\n",
+        ),
+        (
             &["run", "T", "R"][..],
             TABLE,
             TRACE,

@@ -1,0 +1,78 @@
+//! Pictures of a trace.
+use crate::calls::{TABLE, TRACE, run_on};
+use bus_tool::Status;
+use std::test::Fail;
+
+/// A row of two transmissions, and one of two that collide; the first start that is missing is in the first.
+const COLLIDED: &str = "TRACE 1
+HORIZON 2500
+HOLD 1 2
+HOLD 2 2
+TX 1020 1
+WS L0A111 D00001 D00010
+TX 1110 2
+WS L0B210 D00FF1
+TX 2400 1
+WS L0A111 D00001 D00010
+TX 2430 2
+WS L0B210 D00FF1
+END
+";
+
+// The end of the picture: a row of two transmissions, one of two that collide, and the first start that is missing, in the first row.
+const ROWS: &str =
+    "<rect class=\"wordstring\" x=\"12940\" y=\"1200\" width=\"670\" height=\"120\"><title>T1 message 1: moments 1020 to 1080, 60 bit times, 510.0 to 540.0 microseconds</title></rect>
+<text class=\"digits\" x=\"13275\" y=\"1295\">1</text>
+<rect class=\"other\" x=\"13950\" y=\"1200\" width=\"450\" height=\"120\"><title>T2 message 1: moments 1110 to 1150, 40 bit times, 555.0 to 575.0 microseconds</title></rect>
+<text class=\"digits\" x=\"14175\" y=\"1295\">2</text>
+<text class=\"detail\" x=\"1440\" y=\"1295\">0</text>
+<text class=\"detail\" x=\"15500\" y=\"1295\">1150</text>
+<rect class=\"garbled\" x=\"13050\" y=\"1346\" width=\"670\" height=\"48\"><title>T1 message 2: moments 2400 to 2460, 60 bit times, 1200.0 to 1230.0 microseconds, garbled</title></rect>
+<rect class=\"garbled\" x=\"13390\" y=\"1406\" width=\"440\" height=\"48\"><title>T2 message 2: moments 2430 to 2470, 40 bit times, 1215.0 to 1235.0 microseconds, garbled</title></rect>
+<text class=\"detail\" x=\"1440\" y=\"1435\">1370</text>
+<text class=\"detail\" x=\"15500\" y=\"1435\">1100</text>
+<rect class=\"breach\" x=\"1724\" y=\"1160\" width=\"20\" height=\"200\"/>
+<text class=\"breach-words\" x=\"1994\" y=\"1295\">breach</text>
+</svg>
+";
+
+#[test]
+fn a_row_for_each_cycle(rt: HostRuntime) -> Result<(), Fail> {
+    for words in [
+        &["cycles", "T", "R"][..],
+        &["cycles", "T", "R", "0", "2500"][..],
+    ] {
+        let ran = run_on(&rt, words, TABLE, COLLIDED)?;
+        assert!(rt; ran.status == Status::Done);
+        assert!(rt; ran.out.bytes().ends_with(ROWS.as_bytes()));
+    }
+    Ok(())
+}
+
+// The lanes of a window that begins with the second transmission: the first has ended.
+#[test]
+fn a_time_line_of_a_window(rt: HostRuntime) -> Result<(), Fail> {
+    let ran = run_on(&rt, &["svg", "T", "R", "80", "180"], TABLE, TRACE)?;
+    assert!(rt; ran.status == Status::Done);
+    let text = ran.out.bytes();
+    assert!(rt;
+        contains(
+            text,
+            b"moments 80 to 180 of 150: 1 transmissions, 0 garbled"
+        )
+    );
+    assert!(rt;
+        contains(
+            text,
+            b"<title>T2 message 1: moments 110 to 150, 40 bit times, 55.0 to 75.0 microseconds</title>"
+        )
+    );
+    assert!(rt; contains(text, b"<title>not observed: the horizon is 150</title>"));
+    assert!(rt; !contains(text, b"T1 message 1"));
+    Ok(())
+}
+
+/// Whether a text has a part.
+fn contains(text: &[u8], part: &[u8]) -> bool {
+    text.windows(part.len()).any(|window| window == part)
+}
