@@ -1,4 +1,5 @@
 pub mod StringLemmas
+pub mod WordLemmas
 pub mod RowLemmas
 pub mod LaneLemmas
 pub mod LawLemmas

@@ -1,17 +1,19 @@
 -- What is drawn of the wordstrings of a message: inner quiet is what they leave free.
-use Rattle.std.specs.Prelude.{ℕ, ◌+◌, ◌/◌, Bool, ◌&&◌, nat_lt, List, [], ◌++◌, length, codes, decimal, slice_get, if◌then◌else◌}
+use Rattle.std.specs.Prelude.{ℕ, ◌+◌, ◌-◌, ◌*◌, ◌/◌, Bool, ◌&&◌, nat_le, nat_lt, List, [], ◌∷◌}
+use Rattle.std.specs.Prelude.{◌++◌, length, codes, decimal, slice_get, if◌then◌else◌}
 use Rattle.std.specs.List.{flat_map, range_with_len}
 use Rattle.std.specs.Option.{option_map_or}
 use Rattle.bus_text.specs.Digits.{hexadecimal}
+use Rattle.bus_strings.specs.Limits.{word_bits}
 use Rattle.bus_strings.specs.Messages.{Entry, Wordstring}
 use Rattle.bus_strings.specs.Pulses.{pulse_length, pulse_start}
 use Rattle.bus_shapes.specs.declared.class.Class.{Class}
-use Rattle.bus_shapes.specs.declared.class.Class.TheVariants.{Digits, Noise, NoiseDigits}
+use Rattle.bus_shapes.specs.declared.class.Class.TheVariants.{Digits, Edge, Label, Noise, NoiseDigits}
 use Rattle.bus_shapes.specs.declared.class.Class.TheVariants as classes
 use Rattle.bus_shapes.specs.declared.scale.Scale.{Scale}
 use Rattle.bus_shapes.specs.Scales.{extent, place}
 use Rattle.bus_shapes.specs.declared.area.Area.{Area}
-use Rattle.bus_shapes.specs.Shapes.{titled_text, words_text}
+use Rattle.bus_shapes.specs.Shapes.{box_text, titled_text, words_text}
 
 -- Whether what goes from one moment to another meets those of a scale.
 abbrev pub meets : Scale → ℕ → ℕ → Bool
@@ -46,6 +48,7 @@ digits_class garbled = if garbled then NoiseDigits else Digits
 abbrev pub string_area : Scale → ℕ → ℕ → ℕ → Area
 string_area scale top from to = record { left = place scale from; top = top + 90; width = extent scale from to; height = 120 }
 
+-- ---- a wordstring whose words have no room
 -- The words for a box of this width.
 abbrev pub fitting_words : ℕ → Wordstring → List ℕ
 fitting_words width string = if nat_lt width 730 then name_words string else long_words string
@@ -56,11 +59,66 @@ label_text garbled area string =
     if nat_lt area.width 400 then []
     else words_text (digits_class garbled) (area.left + area.width / 2) (area.top + 100) (fitting_words area.width string)
 
+-- ---- a wordstring whose words have room
+-- Whether they have: 34 pixels for each.
+abbrev pub has_room : Scale → Bool
+has_room scale = nat_le (340 * (scale.to - scale.from)) (word_bits * scale.width)
+
+-- The digits of a word, in the middle of its area, where that has this width.
+abbrev pub digits_text : Bool → Area → ℕ → List ℕ → List ℕ
+digits_text garbled area width digits =
+    if nat_lt area.width width then []
+    else words_text (digits_class garbled) (area.left + area.width / 2) (area.top + 100) digits
+
+-- A label word: its area, and the label and the extension.
+abbrev pub label_class : Bool → Class
+label_class garbled = if garbled then Noise else Label
+
+abbrev pub label_word : Bool → Area → Wordstring → List ℕ
+label_word garbled area string = box_text (label_class garbled) area ++ digits_text garbled area 330 (name_words string)
+
+-- A data word: the edge at which it begins, and its digits.
+abbrev pub edge_of : Area → Area
+edge_of area = record { left = area.left; top = area.top; width = 8; height = area.height }
+
+abbrev pub data_word : Bool → Area → ℕ → List ℕ
+data_word garbled area word = box_text Edge (edge_of area) ++ digits_text garbled area 264 (hexadecimal 4 word)
+
+-- The area of the word that begins at a moment.
+abbrev pub word_area : Scale → ℕ → ℕ → Area
+word_area scale top t = string_area scale top t (t + word_bits)
+
+-- The label word and a data word that begins at a moment, where it meets the moments of the scale.
+abbrev pub label_at : Scale → ℕ → Bool → ℕ → Wordstring → List ℕ
+label_at scale top garbled t string =
+    if meets scale t (t + word_bits) then label_word garbled (word_area scale top t) string else []
+
+abbrev pub data_at : Scale → ℕ → Bool → ℕ → ℕ → List ℕ
+data_at scale top garbled t word =
+    if meets scale t (t + word_bits) then data_word garbled (word_area scale top t) word else []
+
+-- Data words, one behind the other, of which the first begins at a moment.
+abbrev pub data_from : Scale → ℕ → Bool → ℕ → List ℕ → List ℕ
+data_from scale top garbled t [] = []
+data_from scale top garbled t (word ∷ words) =
+    data_at scale top garbled t word ++ data_from scale top garbled (t + word_bits) words
+
+-- The words of a wordstring that begins at a moment.
+abbrev pub each_word : Scale → ℕ → Bool → ℕ → Wordstring → List ℕ
+each_word scale top garbled t string =
+    label_at scale top garbled t string ++ data_from scale top garbled (t + word_bits) string.words
+
+-- ---- the wordstrings of a message
+-- What stands in the box of a wordstring: its words, or what it is called.
+abbrev pub inside_text : Scale → ℕ → Bool → ℕ → Area → Wordstring → List ℕ
+inside_text scale top garbled t area string =
+    if has_room scale then each_word scale top garbled t string else label_text garbled area string
+
 -- A wordstring from one moment to another.
 abbrev pub drawn_text : Scale → ℕ → Bool → ℕ → ℕ → Wordstring → List ℕ
 drawn_text scale top garbled from to string =
     titled_text (string_class garbled) (string_area scale top from to) (string_words from to string)
-    ++ label_text garbled (string_area scale top from to) string
+    ++ inside_text scale top garbled from (string_area scale top from to) string
 
 -- The same, where it meets the moments of the scale.
 abbrev pub string_text : Scale → ℕ → Bool → ℕ → ℕ → Wordstring → List ℕ

@@ -1,6 +1,6 @@
 -- The text of a time line.
-use Rattle.std.specs.Prelude.{ℕ, ◌+◌, ◌-◌, ◌*◌, ◌%◌, max, min, Bool, ◌&&◌, ◌==◌, nat_eq, nat_le, nat_lt, List, [], ◌∷◌, ◌++◌, length}
-use Rattle.std.specs.Prelude.{codes, decimal, Option, Some, None, if◌then◌else◌}
+use Rattle.std.specs.Prelude.{ℕ, ◌+◌, ◌-◌, ◌*◌, ◌%◌, max, min, Bool, ◌&&◌, ◌==◌, nat_eq, nat_le, nat_lt, List, [], ◌∷◌}
+use Rattle.std.specs.Prelude.{◌++◌, length, codes, decimal, Option, Some, None, if◌then◌else◌}
 use Rattle.std.specs.List.{count_by, find}
 use Rattle.std.specs.Option.{option_map_or}
 use Rattle.bus_table.specs.Tables.{Sender, Table}
@@ -17,8 +17,8 @@ use Rattle.bus_shapes.specs.declared.axis.Axis.{Axis}
 use Rattle.bus_shapes.specs.declared.axis.Unit.TheVariants.{BitTimes, Microseconds}
 use Rattle.bus_shapes.specs.Axes.{axis_text}
 use Rattle.bus_shapes.specs.declared.class.Class.{Class}
-use Rattle.bus_shapes.specs.declared.class.Class.TheVariants.{Band, BreachWords, Detail, Garbled, Grid, Noise, Overlap, Small, Tick}
-use Rattle.bus_shapes.specs.declared.class.Class.TheVariants.{Unobserved}
+use Rattle.bus_shapes.specs.declared.class.Class.TheVariants.{Band, BreachWords, Detail, Gap, Garbled, Grid, Interval, Noise}
+use Rattle.bus_shapes.specs.declared.class.Class.TheVariants.{Overlap, Small, Tick, Unobserved}
 use Rattle.bus_shapes.specs.declared.class.Class.TheVariants as classes
 use Rattle.bus_shapes.specs.Frames.{frame_text, tail_text}
 use Rattle.bus_shapes.specs.declared.counts.Counts.{Counts}
@@ -30,6 +30,7 @@ use Rattle.bus_shapes.specs.Shapes.{box_text, titled_text, words_text}
 use Rattle.bus_shapes.specs.Windows.{Window}
 use Rattle.bus_picture.specs.Rows.{row_text}
 use Rattle.bus_picture.specs.Strings.{meets}
+use Rattle.bus_picture.specs.Timers.{bus_timer, is_near, sender_timers}
 
 -- ---- where things are
 -- The upper edge of the plot, which is that of the bus; the height of a row; the upper edge of lane k; and the lower edge of so many lanes.
@@ -102,6 +103,19 @@ abbrev pub each_lane : (ℕ → Lane → List ℕ) → ℕ → List Lane → Lis
 each_lane text k [] = []
 each_lane text k (lane ∷ lanes) = text k lane ++ each_lane text (k + 1) lanes
 
+-- ---- the timers
+-- The timers of lane k, where its terminal is a sender.
+abbrev pub lane_timers : Scale → Table → List Entry → ℕ → Lane → List ℕ
+lane_timers scale table list k lane =
+    option_map_or (λ (sender : Sender). sender_timers scale list table.ti k (lane_top k) lane.terminal sender.tg)
+    (sender_of table lane.terminal) []
+
+-- Those of the bus and of the lanes, where the scale is near enough.
+abbrev pub timers_text : Scale → List Lane → Table → List Entry → List ℕ
+timers_text scale lanes table list =
+    if is_near scale table.ti
+    then bus_timer scale plot_top table.sg list ++ each_lane (lane_timers scale table list) 0 lanes else []
+
 -- ---- around the lanes
 -- What lies behind the horizon.
 abbrev pub unobserved_text : Scale → ℕ → ℕ → List ℕ
@@ -165,8 +179,13 @@ legend_columns top =
     legend_box Overlap 8100 top 300 180 ++ words_text Small 8480 (top + 120) (codes "garbled on the bus")
     ++ legend_box Unobserved 10100 top 300 180 ++ words_text Small 10480 (top + 120) (codes "behind the horizon")
 
+abbrev pub legend_timers : ℕ → List ℕ
+legend_timers top =
+    legend_box Gap 11700 (top + 83) 300 14 ++ words_text Small 12080 (top + 120) (codes "gap: SG, TG")
+    ++ legend_box Interval 13000 (top + 83) 300 14 ++ words_text Small 13380 (top + 120) (codes "transmit interval: TI")
+
 abbrev pub legend_text : ℕ → List ℕ
-legend_text top = legend_message top ++ legend_garbled top ++ legend_columns top
+legend_text top = legend_message top ++ legend_garbled top ++ legend_columns top ++ legend_timers top
 
 -- ---- the whole
 -- The rows of the bus and of the lanes.
@@ -180,7 +199,8 @@ abbrev pub plot_text : Scale → ℕ → List Lane → AuditAnswer → Table →
 plot_text scale bottom lanes answer table trace =
     words_text classes.Counts 1380 (plot_top + 200) (codes "bus") ++ each_lane (lane_front table) 0 lanes ++ axes_text scale bottom
     ++ unobserved_text scale bottom trace.horizon
-    ++ rows_text scale bottom lanes trace ++ each_lane (breach_text scale answer) 0 lanes
+    ++ rows_text scale bottom lanes trace ++ timers_text scale lanes table trace.list
+    ++ each_lane (breach_text scale answer) 0 lanes
 
 -- A picture with these lanes.
 abbrev pub picture_text : Scale → List Lane → List ℕ → AuditAnswer → Table → Recording → List ℕ

@@ -8,8 +8,9 @@ ghost use Rattle.bus_picture.specs.Working as working;
 ghost use Rattle.bus_picture.specs.Working.{IsLast, IsPile, held};
 
 use crate::pile::{Pile, is_narrow, joins, put_pile_words};
+use crate::places::meets;
 use crate::row::Row;
-use crate::strings::{meets, put_strings};
+use crate::strings::put_strings;
 use bus_outer::{Sink, TextBuffer};
 use bus_shapes::{Area, Class, Scale, Sent, Sents, begin_titled, end_titled, put_box};
 use bus_strings::transmission::Transmission;

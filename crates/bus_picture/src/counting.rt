@@ -2,7 +2,7 @@
 ghost use Rattle.std.specs.Prelude.{◌≡◌};
 ghost use Rattle.bus_picture.specs.TimeLines as definition;
 
-use crate::strings::meets;
+use crate::places::meets;
 use bus_shapes::{Counts, Scale, Sents};
 use bus_strings::laws::neighbours_tell;
 use bus_trace::Trace;

@@ -90,7 +90,7 @@ fn put_terminal<K: Sink>(text: &mut TextBuffer, sink: &mut K, top: u64, terminal
 }
 
 // The sender with this number.
-fn sender_of(table: &Table, terminal: u8) -> Option<&Sender>
+pub(crate) fn sender_of(table: &Table, terminal: u8) -> Option<&Sender>
     ensures { option_copied result ≡ definition.sender_of table.now terminal }
 {
     table

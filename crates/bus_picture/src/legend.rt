@@ -80,6 +80,24 @@ fn put_columns<K: Sink>(text: &mut TextBuffer, sink: &mut K, top: u64)
     );
 }
 
+// The timers.
+fn put_lines<K: Sink>(text: &mut TextBuffer, sink: &mut K, top: u64)
+    requires { top < 200000 }
+    ensures { Adds K.held K.faults sink.old sink.new text.old text.new (definition.legend_timers top) }
+{
+    put_sample(text, sink, Class::Gap, 11700, top + 83, 300, 14);
+    put_words(text, sink, Class::Small, 12080, top + 120, b"gap: SG, TG");
+    put_sample(text, sink, Class::Interval, 13000, top + 83, 300, 14);
+    put_words(
+        text,
+        sink,
+        Class::Small,
+        13380,
+        top + 120,
+        b"transmit interval: TI",
+    );
+}
+
 /// The legend, with this upper edge.
 pub(crate) fn put_legend<K: Sink>(text: &mut TextBuffer, sink: &mut K, top: u64)
     requires { top < 200000 }
@@ -88,4 +106,5 @@ pub(crate) fn put_legend<K: Sink>(text: &mut TextBuffer, sink: &mut K, top: u64)
     put_message(text, sink, top);
     put_garbled(text, sink, top);
     put_columns(text, sink, top);
+    put_lines(text, sink, top);
 }

@@ -1,61 +1,18 @@
 // The wordstrings of a message.
-ghost use Rattle.std.specs.Prelude.{◌≡◌, ◌<◌, ◌≤◌, ◌^◌, ◌+◌, [], ◌∷◌, Some, decimal, slice_get, length};
+ghost use Rattle.std.specs.Prelude.{◌≡◌, ◌<◌, ◌≤◌, ◌^◌, ◌+◌, [], Some, decimal, slice_get, length};
 ghost use Rattle.std.specs.Option.{option_map_or};
 ghost use Rattle.bus_outer.specs.Texts.{Adds};
-ghost use Rattle.bus_text.specs.Digits.{hex_digit as digit_of, hexadecimal};
 ghost use Rattle.bus_strings.specs.Pulses.{pulse_length, pulse_start};
 ghost use Rattle.bus_shapes.specs.Scales.{IsScale};
 ghost use Rattle.bus_picture.specs.Strings as definition;
 
+use crate::names::{digits_class, put_name};
+use crate::places::{meets, string_area};
+use crate::words::{has_room, put_each_word};
 use bus_outer::{Sink, TextBuffer};
 use bus_shapes::{Area, Class, Scale, begin_titled, begin_words, end_titled, end_words};
-use bus_strings::limits::WORD_BITS;
 use bus_strings::transmission::Transmission;
 use bus_strings::{Wordstring, pulse, pulse_count};
-use bus_text::digits::hex_digit;
-
-/// Whether what goes from one moment to another meets those of a scale.
-pub(crate) fn meets(scale: &Scale, from: u64, to: u64) -> bool
-    ensures { result ≡ definition.meets scale.now from to }
-{
-    from < scale.to && scale.from < to
-}
-
-// A hexadecimal digit.
-fn put_digit<K: Sink>(text: &mut TextBuffer, sink: &mut K, digit: u8)
-    requires { digit < 16 }
-    ensures { Adds K.held K.faults sink.old sink.new text.old text.new (digit_of digit ∷ []) }
-{
-    let byte = hex_digit(digit);
-    text.put_byte(sink, byte);
-}
-
-// A label, in three digits.
-fn put_label<K: Sink>(text: &mut TextBuffer, sink: &mut K, label: u16)
-    ensures { Adds K.held K.faults sink.old sink.new text.old text.new (hexadecimal 3 label) }
-{
-    put_digit(text, sink, (label / 16 / 16 % 16) as u8);
-    put_digit(text, sink, (label / 16 % 16) as u8);
-    put_digit(text, sink, (label % 16) as u8);
-}
-
-// A label and an extension.
-fn put_both<K: Sink>(text: &mut TextBuffer, sink: &mut K, label: u16, ext: u8)
-    ensures { Adds K.held K.faults sink.old sink.new text.old text.new (definition.both_words label ext) }
-{
-    put_label(text, sink, label);
-    text.put_byte(sink, b' ');
-    put_digit(text, sink, ext % 16);
-}
-
-// The name of a wordstring.
-fn put_name<K: Sink>(text: &mut TextBuffer, sink: &mut K, string: &Wordstring)
-    ensures { Adds K.held K.faults sink.old sink.new text.old text.new (definition.name_words string.now) }
-{
-    let label = string.label().value();
-    let ext = string.ext().value();
-    put_both(text, sink, label, ext);
-}
 
 // How many data words a wordstring has.
 fn data_count(string: &Wordstring) -> usize
@@ -101,7 +58,7 @@ fn put_string_words<K: Sink>(
     text.put(sink, b" data words");
 }
 
-// How a wordstring and its words look.
+// How a wordstring looks.
 fn string_class(garbled: bool) -> Class
     ensures { result ≡ definition.string_class garbled }
 {
@@ -109,34 +66,6 @@ fn string_class(garbled: bool) -> Class
         Class::Noise
     } else {
         Class::Wordstring
-    }
-}
-
-fn digits_class(garbled: bool) -> Class
-    ensures { result ≡ definition.digits_class garbled }
-{
-    if garbled {
-        Class::NoiseDigits
-    } else {
-        Class::Digits
-    }
-}
-
-// The box of a wordstring.
-fn string_area(scale: &Scale, top: u64, from: u64, to: u64) -> Area
-    requires scale { IsScale scale.now }
-    requires order { from ≤ to }
-    requires top { top < 2 ^ 40 }
-    ensures value { result ≡ definition.string_area scale.now top from to }
-    ensures left { result.left < 2 ^ 22 }
-    ensures width { result.width < 2 ^ 22 }
-    ensures top { result.top < 2 ^ 41 }
-{
-    Area {
-        left: scale.place(from),
-        top: top + 90,
-        width: scale.extent(from, to),
-        height: 120,
     }
 }
 
@@ -171,6 +100,33 @@ fn put_words_in<K: Sink>(
     end_words(text, sink);
 }
 
+// What stands in the box of a wordstring.
+fn put_inside<K: Sink>(
+    text: &mut TextBuffer,
+    sink: &mut K,
+    scale: &Scale,
+    top: u64,
+    garbled: bool,
+    from: u64,
+    area: Area,
+    string: &Wordstring,
+)
+    requires scale { IsScale scale.now }
+    requires top { top < 2 ^ 40 }
+    requires from { from < 2 ^ 42 }
+    requires left { area.left < 2 ^ 22 }
+    requires width { area.width < 2 ^ 22 }
+    requires line { area.top < 2 ^ 41 }
+    ensures { Adds K.held K.faults sink.old sink.new text.old text.new
+        (definition.inside_text scale.now top garbled from area string.now) }
+{
+    if has_room(scale) {
+        put_each_word(text, sink, scale, top, garbled, from, string);
+    } else {
+        put_words_in(text, sink, garbled, area, string);
+    }
+}
+
 // A wordstring from one moment to another.
 fn put_drawn<K: Sink>(
     text: &mut TextBuffer,
@@ -184,6 +140,7 @@ fn put_drawn<K: Sink>(
 )
     requires scale { IsScale scale.now }
     requires order { from ≤ to }
+    requires low { from < 2 ^ 42 }
     requires top { top < 2 ^ 40 }
     ensures { Adds K.held K.faults sink.old sink.new text.old text.new (definition.drawn_text scale.now top garbled from to string.now) }
 {
@@ -191,7 +148,7 @@ fn put_drawn<K: Sink>(
     begin_titled(text, sink, string_class(garbled), area);
     put_string_words(text, sink, from, to, string);
     end_titled(text, sink);
-    put_words_in(text, sink, garbled, area, string);
+    put_inside(text, sink, scale, top, garbled, from, area, string);
 }
 
 // The same, where it meets the moments of the scale.
@@ -207,6 +164,7 @@ fn put_string<K: Sink>(
 )
     requires scale { IsScale scale.now }
     requires order { from ≤ to }
+    requires low { from < 2 ^ 42 }
     requires top { top < 2 ^ 40 }
     ensures { Adds K.held K.faults sink.old sink.new text.old text.new (definition.string_text scale.now top garbled from to string.now) }
 {
@@ -221,6 +179,7 @@ fn pulse_moments(x: &Transmission, k: u32) -> (u64, u64)
     ensures from { result.0 ≡ x.now.moment + pulse_start x.now.message k }
     ensures to { result.1 ≡ x.now.moment + pulse_start x.now.message k + pulse_length x.now.message k }
     ensures order { result.0 ≤ result.1 }
+    ensures low { result.0 < 2 ^ 42 }
 {
     let (first, length) = pulse(&x.message, k);
     let from = x.moment + u64::from(first);

@@ -11,6 +11,7 @@ use crate::counting::counts;
 use crate::lanes::{lane_top, put_breaches, put_fronts, put_rows};
 use crate::legend::put_legend;
 use crate::row::Row;
+use crate::timers::put_timers;
 use bus_audit::AuditAnswer;
 use bus_dump::{Lane, lanes_of};
 use bus_outer::{Sink, TextBuffer, WriteFault};
@@ -137,6 +138,7 @@ fn put_plot<K: Sink>(
     let horizon = trace.horizon();
     put_unobserved(text, sink, scale, bottom, horizon);
     put_all_rows(text, sink, scale, bottom, lanes, trace);
+    put_timers(text, sink, scale, lanes, table, trace);
     put_breaches(text, sink, scale, answer, lanes);
 }
 
@@ -165,7 +167,7 @@ fn put_picture<K: Sink>(
 }
 
 /// Writes the time line of a trace in a window, with the words of the verdict on the table and of the answer of the audit. It goes over the
-/// trace once for each lane, and takes no memory.
+/// trace once or twice for each lane, and takes no memory.
 ///
 /// At `WriteFault` the sink has taken a front of the text, and its count of faults rose.
 pub fn write_time_line<K: Sink>(
