@@ -13,7 +13,7 @@ pub use Rattle.bus_view.specs.declared.forms.View.{View}
 pub use Rattle.bus_view.specs.declared.forms.View.TheVariants.{Dump, SaveFile, Picture as Painted}
 
 -- ---- windows
--- whether two words are the plain decimals of a window: a moment and a later one, which no horizon of a trace is below
+-- whether two words are the plain decimals of a window: a moment and a later one, at most the limit of a horizon
 abbrev pub is_window : List ℕ → List ℕ → Bool
 is_window from to =
     is_plain_decimal from && is_plain_decimal to && nat_lt (decimal_value from) (decimal_value to)
