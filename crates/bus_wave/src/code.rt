@@ -1,4 +1,5 @@
-ghost use Rattle.std.specs.Prelude.{◌≡◌, ◌+◌, ◌*◌, ◌/◌, ◌<◌, ◌≤◌, ◌^◌, ◌==◌, ◌∷◌, ◌++◌, [], IfSome, Some, None, length, true, if◌then◌else◌};
+ghost use Rattle.std.specs.Prelude.{◌≡◌, ◌+◌, ◌*◌, ◌/◌, ◌<◌, ◌≤◌, ◌^◌, ◌==◌, ◌∷◌, ◌++◌, []};
+ghost use Rattle.std.specs.Prelude.{IfSome, Some, None, length, true, if◌then◌else◌};
 ghost use Rattle.std.specs.Char.{digit_value};
 ghost use Rattle.std.specs.List.{list_all};
 ghost use Rattle.bus_text.specs.Digits.{is_capital_digit};

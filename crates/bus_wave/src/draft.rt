@@ -164,7 +164,8 @@ impl<'t> Draft<'t> {
         value: u16,
     ) -> Result<(), LineFault>
         requires { Keeps self.old }
-        ensures gives { StepGives (state_of self.new) result (begin_bounded (state_of self.old) (judging.beginner beginners.now.senders.now value)) }
+        ensures gives { StepGives (state_of self.new) result
+            (begin_bounded (state_of self.old) (judging.beginner beginners.now.senders.now value)) }
         ensures keeps { OnOk result (Keeps self.new) }
     {
         match beginners.find(value) {

@@ -1,5 +1,6 @@
 //! Laws of the definitions, each the contract of a function that does nothing.
-ghost use Rattle.bus_wave.specs.WaveLaws.{SpacedPasses, SpacedHaveTexts, WavesReadBack, ReadsOnlyWaves, WavesTell, RunsAreSpaced, RunsAreWaveTraces};
+ghost use Rattle.bus_wave.specs.WaveLaws.{SpacedPasses, SpacedHaveTexts, WavesReadBack, ReadsOnlyWaves, WavesTell};
+ghost use Rattle.bus_wave.specs.WaveLaws.{RunsAreSpaced, RunsAreWaveTraces};
 
 use bus_schedule::laws::gaps_are_left;
 
