@@ -16,10 +16,11 @@ use Rattle.bus_table.specs.ValidLaws.{valid_facts}
 use Rattle.bus_shapes.specs.declared.class.Class.TheVariants.{Garbled}
 use Rattle.bus_shapes.specs.declared.sent.Sent.{Sent}
 use Rattle.bus_shapes.specs.Windows.{Window}
-use Rattle.bus_cycles.specs.Laws.{HatchedAreGarbled, IsToldOf, RowsAreAPartition, RowsAreIntervals}
+use Rattle.bus_cycles.specs.Laws.{HatchedAreGarbled, RowsAreAPartition, RowsAreIntervals}
 use Rattle.bus_cycles.specs.Rows.{Cycle, Row, begin_in, cycle_of, interval_of, is_new, is_new_in, row_at, rows, rows_from, rows_of, with_sent}
 use Rattle.bus_cycles.specs.RowTexts.{class_of, shade}
 use Rattle.bus_shapes.specs.Sending.{sent_of, sents, sents_from}
+use Rattle.bus_shapes.specs.SendingLaws.{IsToldOf}
 use Rattle.bus_cycles.specs.Sents.{is_shown, shown}
 
 -- ---- a partition

@@ -1,5 +1,5 @@
 -- What follows of the definitions. The contracts of `laws` say that each of these holds.
-use Rattle.std.specs.Prelude.{◌≡◌, ◌↔◌, ◌+◌, ◌<◌, ◌≤◌, true, IsTrue, List, [], ◌∷◌, slice_get, Some, ⊤}
+use Rattle.std.specs.Prelude.{◌≡◌, ◌↔◌, ◌+◌, ◌<◌, ◌≤◌, true, IsTrue, List, [], ◌∷◌, ⊤}
 use Rattle.std.specs.List.{AllByRecursion, flat_map}
 use Rattle.bus_strings.specs.Members.{In}
 use Rattle.bus_strings.specs.Messages.{Entry}
@@ -10,22 +10,16 @@ use Rattle.bus_table.specs.Valid.{is_valid}
 use Rattle.bus_trace.specs.Traces.{Recording, IsTrace}
 use Rattle.bus_shapes.specs.declared.class.Class.TheVariants.{Garbled}
 use Rattle.bus_shapes.specs.declared.sent.Sent.{Sent}
+use Rattle.bus_shapes.specs.SendingLaws.{IsToldOf}
 use Rattle.bus_shapes.specs.Windows.{Window}
 use Rattle.bus_cycles.specs.Rows.{Row, rows}
 use Rattle.bus_cycles.specs.RowTexts.{class_of, shade}
-use Rattle.bus_shapes.specs.Sending.{sent_of}
 use Rattle.bus_cycles.specs.Sents.{shown}
 
 -- The rows of a window are a partition: their transmissions, one behind the other, are exactly those that begin in it, in order.
 abbrev pub RowsAreAPartition : Type 0
 RowsAreAPartition =
     (table : Table) (window : Window) (list : List Entry) → flat_map (λ (row : Row). row.sents) (rows table window list) ≡ shown window list
-
--- What is told of a transmission is told of an entry of the list.
-pub record IsToldOf (list : List Entry) (sent : Sent) : Type 0 where
-  pub entry : Entry
-  pub at : slice_get list sent.at ≡ Some entry
-  pub told : sent ≡ sent_of list sent.at entry
 
 -- Each transmission of a row is an entry of the list, and is hatched exactly where that is garbled.
 abbrev pub HatchedAreGarbled : Type 0

@@ -26,9 +26,9 @@ rounds =
     500000000 ∷ (1000000000 ∷ (2000000000 ∷ (5000000000 ∷ (10000000000 ∷ (20000000000 ∷ (50000000000 ∷ (100000000000 ∷ (
     200000000000 ∷ (500000000000 ∷ (1000000000000 ∷ (2000000000000 ∷ (5000000000000 ∷ []))))))))))))))))))))))))))))))))))))))
 
--- Whether marks so many units apart are 80 pixels apart.
+-- Whether marks so many units apart are 100 pixels apart, so that the numbers of the longest trace have room.
 abbrev pub is_wide : Scale → Unit → ℕ → Bool
-is_wide scale unit number = nat_le (800 * (scale.to - scale.from)) (number * unit_bits unit * scale.width)
+is_wide scale unit number = nat_le (1000 * (scale.to - scale.from)) (number * unit_bits unit * scale.width)
 
 -- The units from mark to mark, where no round number is enough.
 abbrev pub most_units : ℕ

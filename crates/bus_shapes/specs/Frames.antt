@@ -3,7 +3,7 @@ use Rattle.std.specs.Prelude.{ℕ, ◌/◌, List, ◌++◌, codes, decimal}
 use Rattle.bus_table.specs.Tables.{Table}
 use Rattle.bus_shapes.specs.Classes.{Answer, Background, Note, Verdict, rules_text}
 use Rattle.bus_shapes.specs.Classes as classes
-use Rattle.bus_shapes.specs.Sayings.{table_words}
+use Rattle.bus_shapes.specs.Sayings.{counted, table_words}
 use Rattle.bus_shapes.specs.Shapes.{Area, box_text, words_text}
 pub use Rattle.bus_shapes.specs.declared.counts.Counts.{Counts}
 
@@ -35,7 +35,7 @@ title_text verdict answer = codes "<title>" ++ verdict ++ codes "; " ++ answer +
 abbrev pub counts_words : Counts → List ℕ
 counts_words counts =
     codes "moments " ++ decimal counts.from ++ codes " to " ++ decimal counts.to ++ codes " of " ++ decimal counts.horizon
-    ++ codes ": " ++ decimal counts.shown ++ codes " transmissions, " ++ decimal counts.garbled ++ codes " garbled"
+    ++ codes ": " ++ counted counts.shown (codes "transmission") ++ codes ", " ++ decimal counts.garbled ++ codes " garbled"
 
 -- The background of a picture of this height.
 abbrev pub background : ℕ → Area

@@ -1,5 +1,10 @@
 -- What follows of the definitions. The contracts of `laws` say that each of these holds.
-use Rattle.std.specs.Prelude.{ℕ, ◌+◌, ◌≤◌}
+use Rattle.std.specs.Prelude.{ℕ, ◌+◌, ◌≤◌, List}
+use Rattle.bus_strings.specs.Members.{In}
+use Rattle.bus_strings.specs.Messages.{Entry}
+use Rattle.bus_shapes.specs.Sayings.{Sent}
+use Rattle.bus_shapes.specs.Sending.{sents}
+use Rattle.bus_shapes.specs.SendingLaws.{IsToldOf}
 use Rattle.bus_shapes.specs.Scales.{Scale, IsScale, place}
 
 -- Places don't fall as moments rise.
@@ -10,3 +15,7 @@ PlacesRise = (scale : Scale) (t u : ℕ) → IsScale scale → t ≤ u → place
 abbrev pub PlacesLieWithin : Type 0
 PlacesLieWithin =
     (scale : Scale) (t : ℕ) → IsScale scale → (scale.left ≤ place scale t) × (place scale t ≤ scale.left + scale.width)
+
+-- All that is told of a list is told of entries of it.
+abbrev pub SentsAreTold : Type 0
+SentsAreTold = (list : List Entry) (sent : Sent) → In sent (sents list) → IsToldOf list sent

@@ -1,15 +1,23 @@
--- What a picture says in words: of a table, of a moment and of a transmission.
-use Rattle.std.specs.Prelude.{ℕ, ◌-◌, ◌*◌, ◌/◌, ◌%◌, Bool, true, false, List, [], ◌++◌, length, codes, decimal}
+-- What a picture says in words: of a number of things, of a table, of a moment and of a transmission.
+use Rattle.std.specs.Prelude.{ℕ, ◌-◌, ◌*◌, ◌/◌, ◌%◌, Bool, true, false, nat_eq, List, [], ◌++◌, length, codes, decimal}
+use Rattle.std.specs.Prelude.{if◌then◌else◌}
 use Rattle.bus_table.specs.declared.mode.Mode.{Mode}
 use Rattle.bus_table.specs.Tables.{Table}
 use Rattle.bus_regime.specs.Lines.{mode_name}
 pub use Rattle.bus_shapes.specs.declared.sent.Sent.{Sent}
 
+-- The ending of the name of so many, and so many of something, which has this name where it is one.
+abbrev pub ending : ℕ → List ℕ
+ending count = if nat_eq count 1 then [] else codes "s"
+
+abbrev pub counted : ℕ → List ℕ → List ℕ
+counted count name = decimal count ++ codes " " ++ name ++ ending count
+
 -- ---- a table
 -- A mode, the transmit interval, the synchronization gap, and how many senders there are.
 abbrev pub summary_words : Mode → ℕ → ℕ → ℕ → List ℕ
 summary_words mode ti sg senders =
-    mode_name mode ++ codes " TI " ++ decimal ti ++ codes " SG " ++ decimal sg ++ codes ", " ++ decimal senders ++ codes " senders"
+    mode_name mode ++ codes " TI " ++ decimal ti ++ codes " SG " ++ decimal sg ++ codes ", " ++ counted senders (codes "sender")
 
 abbrev pub table_words : Table → List ℕ
 table_words table = summary_words table.mode table.ti table.sg (length table.senders)

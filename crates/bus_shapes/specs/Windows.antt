@@ -1,8 +1,6 @@
 -- The stretch of a trace that a picture shows.
 use Rattle.std.specs.Prelude.{ℕ, ◌<◌, ◌≤◌, Bool, ◌&&◌, nat_lt, nat_le, max}
 use Rattle.bus_strings.specs.Limits.{horizon_limit}
-use Rattle.bus_strings.specs.Messages.{Entry}
-use Rattle.bus_strings.specs.Transmissions.{end_of}
 
 -- From a moment to a later one, which is not shown itself.
 pub record Window : Type 0 where
@@ -21,7 +19,3 @@ whole horizon = record { from = 0; to = max horizon 1 }
 -- Whether a window holds a moment.
 abbrev pub holds : Window → ℕ → Bool
 holds window t = nat_le window.from t && nat_lt t window.to
-
--- Whether a transmission meets a window: one of its bit times, inner quiet included, is in it.
-abbrev pub meets : Window → Entry → Bool
-meets window x = nat_lt x.moment window.to && nat_lt window.from (end_of x)

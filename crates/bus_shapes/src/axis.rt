@@ -94,13 +94,13 @@ impl Unit {
     }
 }
 
-// Whether marks so many units apart are 80 pixels apart.
+// Whether marks so many units apart are 100 pixels apart.
 fn is_wide(scale: &Scale, unit: Unit, number: u64) -> bool
     requires { IsScale scale.now }
     ensures { result ≡ definition.is_wide scale.now unit number }
 {
     let wide = u128::from(number) * u128::from(unit.bits()) * u128::from(scale.width);
-    u128::from(800 * (scale.to - scale.from)) <= wide
+    u128::from(1000 * (scale.to - scale.from)) <= wide
 }
 
 // The least round number of units that is so wide.
@@ -184,7 +184,7 @@ fn put_name<K: Sink>(text: &mut TextBuffer, sink: &mut K, axis: &Axis)
     end_words(text, sink);
 }
 
-/// Puts an axis: its name at the left, and its marks, at least 80 pixels apart, where `scale` has their moments.
+/// Puts an axis: its name at the left, and its marks, at least 100 pixels apart, where `scale` has their moments.
 pub fn put_axis<K: Sink>(text: &mut TextBuffer, sink: &mut K, scale: &Scale, axis: &Axis)
     requires { IsScale scale.now }
     ensures { Adds K.held K.faults sink.old sink.new text.old text.new (definition.axis_text scale.now axis.now) }

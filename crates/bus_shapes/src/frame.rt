@@ -4,7 +4,7 @@ ghost use Rattle.bus_outer.specs.Texts.{Adds};
 ghost use Rattle.bus_regime.specs.Lines.{mode_name, verdict_words};
 ghost use Rattle.bus_shapes.specs.Frames as definition;
 ghost use Rattle.bus_audit.specs.Lines.{answer_words};
-ghost use Rattle.bus_shapes.specs.Sayings.{summary_words, table_words};
+ghost use Rattle.bus_shapes.specs.Sayings.{counted, ending, summary_words, table_words};
 ghost use Rattle.bus_shapes.specs.Shapes.{words_text};
 
 use crate::area::Area;
@@ -91,11 +91,30 @@ fn put_mode<K: Sink>(text: &mut TextBuffer, sink: &mut K, mode: Mode)
     }
 }
 
+// The ending of a name of something of which there are so many.
+fn put_ending<K: Sink>(text: &mut TextBuffer, sink: &mut K, count: u64)
+    ensures { Adds K.held K.faults sink.old sink.new text.old text.new (ending count) }
+{
+    if count != 1 {
+        text.put_byte(sink, b's');
+    }
+}
+
+// So many of something, which has this name where it is one.
+fn put_counted<K: Sink>(text: &mut TextBuffer, sink: &mut K, count: u64, name: &[u8])
+    ensures { Adds K.held K.faults sink.old sink.new text.old text.new (counted count name.now) }
+{
+    text.put_number(sink, count);
+    text.put_byte(sink, b' ');
+    text.put(sink, name);
+    put_ending(text, sink, count);
+}
+
 // How many senders the table has.
-fn sender_count(table: &Table) -> usize
+fn sender_count(table: &Table) -> u64
     ensures { result ≡ length table.now.senders }
 {
-    table.senders().len()
+    table.senders().len() as u64
 }
 
 // A mode, the transmit interval, the synchronization gap, and how many senders there are.
@@ -105,7 +124,7 @@ fn put_summary<K: Sink>(
     mode: Mode,
     ti: u32,
     sg: u32,
-    senders: usize,
+    senders: u64,
 )
     ensures { Adds K.held K.faults sink.old sink.new text.old text.new (summary_words mode ti sg senders) }
 {
@@ -115,8 +134,7 @@ fn put_summary<K: Sink>(
     text.put(sink, b" SG ");
     text.put_number(sink, sg);
     text.put(sink, b", ");
-    text.put_number(sink, senders);
-    text.put(sink, b" senders");
+    put_counted(text, sink, senders, b"sender");
 }
 
 // The words of a table.
@@ -139,8 +157,8 @@ fn put_counts<K: Sink>(text: &mut TextBuffer, sink: &mut K, counts: &Counts)
     text.put(sink, b" of ");
     text.put_number(sink, counts.horizon);
     text.put(sink, b": ");
-    text.put_number(sink, counts.shown);
-    text.put(sink, b" transmissions, ");
+    put_counted(text, sink, counts.shown, b"transmission");
+    text.put(sink, b", ");
     text.put_number(sink, counts.garbled);
     text.put(sink, b" garbled");
 }

@@ -1,8 +1,13 @@
 //! Laws of the definitions, each the contract of a function that does nothing.
-ghost use Rattle.bus_shapes.specs.Laws.{PlacesLieWithin, PlacesRise};
+ghost use Rattle.bus_shapes.specs.Laws.{PlacesLieWithin, PlacesRise, SentsAreTold};
 
 /// Places of moments: they don't fall as moments rise, and lie between the edges of the scale.
 pub fn places_keep_order()
     ensures rise { PlacesRise }
     ensures within { PlacesLieWithin }
+{}
+
+/// All that [`Sents`](crate::Sents) tell of a list is told of entries of it: each has the terminal, the moments and the mark of one.
+pub fn sents_are_told()
+    ensures { SentsAreTold }
 {}

@@ -58,7 +58,7 @@ fn a_time_line_of_a_window(rt: HostRuntime) -> Result<(), Fail> {
     assert!(rt;
         contains(
             text,
-            b"moments 80 to 180 of 150: 1 transmissions, 0 garbled"
+            b"moments 80 to 180 of 150: 1 transmission, 0 garbled"
         )
     );
     assert!(rt;

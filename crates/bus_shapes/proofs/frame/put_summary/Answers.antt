@@ -4,4 +4,4 @@ use Rattle.bus_shapes.proofs.frame.put_summary.Goals as goal
 pub returns : goal.returns
 returns g c =
     c.put_mode.ensures ▸ c.put.ensures ▸ c.put_number.ensures ▸ c.put-2.ensures ▸ c.put_number-2.ensures ▸ c.put-3.ensures
-    ▸ c.put_number-3.ensures ▸ c.put-4.ensures
+    ▸ c.put_counted.ensures

@@ -1,0 +1,6 @@
+use Rattle.bus_outer.specs.TextLaws.{◌▸◌}
+use Rattle.bus_shapes.proofs.frame.put_counted.Goals as goal
+
+pub returns : goal.returns
+returns g c =
+    c.put_number.ensures ▸ c.put_byte.ensures ▸ c.put.ensures ▸ c.put_ending.ensures
