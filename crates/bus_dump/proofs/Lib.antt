@@ -29,3 +29,4 @@ pub mod SmallLemmas
 pub mod IdleLemmas
 pub mod StampLemmas
 pub mod SaveLemmas
+pub mod LaneLawLemmas

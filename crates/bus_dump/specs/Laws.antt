@@ -1,5 +1,5 @@
 -- What follows of the definitions. The contracts of `laws` say that each of these holds.
-use Rattle.std.specs.Prelude.{◌≡◌, ◌≢◌, ◌↔◌, ◌⊎◌, ℕ, ◌-◌, ◌*◌, ◌<◌, true, false, ◌&&◌, ◌==◌, nat_lt, List, [], ◌++◌, length}
+use Rattle.std.specs.Prelude.{◌≡◌, ◌≢◌, ◌↔◌, ◌⊎◌, ℕ, ◌-◌, ◌*◌, ◌<◌, true, false, ◌&&◌, ◌||◌, ◌==◌, nat_lt, List, [], ◌++◌, length}
 use Rattle.std.specs.Prelude.{slice_get, Some, None, IsTrue}
 use Rattle.std.specs.List.{AllByRecursion, count_by, filter, flat_map, list_any, range_with_len}
 use Rattle.std.specs.Option.{option_map_or}
@@ -21,7 +21,7 @@ use Rattle.bus_dump.specs.declared.dump.Dump.{Dump}
 use Rattle.bus_dump.specs.declared.dump.Dump.TheVariants.{Timers}
 use Rattle.bus_dump.specs.Doubled.{doubled}
 use Rattle.bus_dump.specs.DumpTexts.{changes, changes_at, dump_text, id_text, stamp, units, value_line}
-use Rattle.bus_dump.specs.Lanes.{lanes}
+use Rattle.bus_dump.specs.Lanes.{Lane, is_sender, lanes, sends}
 use Rattle.bus_dump.specs.Reading.{read}
 use Rattle.bus_dump.specs.Scenes.{Scene, elapsed_at, scene_at}
 use Rattle.bus_dump.specs.Seen.{holds}
@@ -54,6 +54,22 @@ StampsAreTold =
     (dump : Dump) (comment : List ℕ) (table : Table) (trace : Recording) → IsTrue (is_valid table) → IsTrace trace → HoldsNoFeed comment
     → StampsAre (stamped (signals dump (lanes table trace.list)) (scene_at dump table trace.list) trace.horizon) trace.horizon
     (dump_text dump comment table trace)
+
+-- How many of the lanes are of a terminal.
+abbrev pub lane_count : Table → List Entry → ℕ → ℕ
+lane_count table list n = count_by (λ (lane : Lane). lane.terminal == n) (lanes table list)
+
+-- Each sender of the table has one lane, and so has each terminal that sends in the list; no other has any. A lane tells whether its
+-- terminal is a sender.
+pub record LanesAgree (table : Table) (list : List Entry) : Type 0 where
+  pub senders : (sender : Sender) → In sender table.senders → lane_count table list sender.number ≡ 1
+  pub sending : (x : Entry) → In x list → lane_count table list x.terminal ≡ 1
+  pub others : (n : ℕ) → is_sender table n ≡ false → sends list n ≡ false → lane_count table list n ≡ 0
+  pub some : (lane : Lane) → In lane (lanes table list) → (is_sender table lane.terminal || sends list lane.terminal) ≡ true
+  pub kind : (lane : Lane) → In lane (lanes table list) → lane.sender ≡ is_sender table lane.terminal
+
+abbrev pub LanesAreTerminals : Type 0
+LanesAreTerminals = (table : Table) (trace : Recording) → IsTrue (is_valid table) → IsTrace trace → LanesAgree table trace.list
 
 -- The carrier is that of the list.
 abbrev pub CarrierIsTold : Type 0

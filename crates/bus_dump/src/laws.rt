@@ -1,6 +1,6 @@
 //! Laws of the definitions, each the contract of a function that does nothing.
-ghost use Rattle.bus_dump.specs.Laws.{CarrierIsTold, ClearListsShowNone, DumpsAreRead, GarbledAreTold, LawfulIsSingle, NothingIsIdle};
-ghost use Rattle.bus_dump.specs.Laws.{OverlapsAreTold, OverlapsGarble, PulsesAreTold, StampsAreTold, StartsAreSeen, StartsAreTold};
+ghost use Rattle.bus_dump.specs.Laws.{CarrierIsTold, ClearListsShowNone, DumpsAreRead, GarbledAreTold, LanesAreTerminals, LawfulIsSingle};
+ghost use Rattle.bus_dump.specs.Laws.{NothingIsIdle, OverlapsAreTold, OverlapsGarble, PulsesAreTold, StampsAreTold, StartsAreSeen, StartsAreTold};
 ghost use Rattle.bus_dump.specs.Laws.{TimersAreTold, WordIsTold, WrittenDumpsAreRead};
 ghost use Rattle.bus_dump.specs.SaveFiles.{AllAreShown};
 
@@ -31,6 +31,11 @@ pub fn stamps_are_told()
 /// At each bit time behind the first either nothing is written, or its stamp and at least one value that isn't the one before.
 pub fn nothing_is_idle()
     ensures { NothingIsIdle }
+{}
+
+/// Each sender of a table and each terminal that sends in a trace has one lane, and no other terminal has any.
+pub fn lanes_are_terminals()
+    ensures { LanesAreTerminals }
 {}
 
 /// The wires of the bus and of a lane in the words of pulses and spans.
