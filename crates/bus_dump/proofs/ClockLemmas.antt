@@ -21,7 +21,7 @@ same_test false true f g = g refl
 same_test false false f g = refl
 
 -- with no interval and no terminal gap, the test of `may_start` asks for the synchronization gap alone
-abbrev bare : Timing → ℕ → Timing
+abbrev pub bare : Timing → ℕ → Timing
 bare timing tg = record timing { ti = 0; tg = tg; quiet = 0; due = 0 }
 
 -- the last own start lies in the past
@@ -38,7 +38,7 @@ last_within sg past (Some start) g pos (inr w) =
     let near : g ≤ length past + sg = w.near in
     omega arith
 
-bare_due : (timing : Timing) (tg : ℕ) (past : List Bool) (last : Option ℕ) → unwrap_or last 0 ≤ length past
+pub bare_due : (timing : Timing) (tg : ℕ) (past : List Bool) (last : Option ℕ) → unwrap_or last 0 ≤ length past
     → due_place (bare timing tg) last ≤ length past
 bare_due timing tg past None h = omega arith
 bare_due timing tg past (Some start) h = omega arith
@@ -47,7 +47,7 @@ bare_due timing tg past (Some start) h = omega arith
 no_quiet : (past : List Bool) (n : ℕ) → n ≡ length past → is_quiet past n (length past) ≡ true
 no_quiet past n e = rw (let z : length past - n ≡ 0 = omega arith in z) refl
 
-synchronization_test : (timing : Timing) (past : List Bool) (last : Option ℕ) → unwrap_or last 0 ≤ length past
+pub synchronization_test : (timing : Timing) (past : List Bool) (last : Option ℕ) → unwrap_or last 0 ≤ length past
     → may_start (bare timing 0) past last ≡ has_synchronization timing past last
 synchronization_test timing past last h =
     rw (
@@ -58,7 +58,7 @@ synchronization_test timing past last h =
     )
     (elim (has_synchronization timing past last) as (λ b. (b && true && true) ≡ b) [ true ↦ refl | false ↦ refl ])
 
-gap_test : (timing : Timing) (past : List Bool) (last : Option ℕ) → unwrap_or last 0 ≤ length past
+pub gap_test : (timing : Timing) (past : List Bool) (last : Option ℕ) → unwrap_or last 0 ≤ length past
     → may_start (bare timing timing.tg) past last ≡ has_gap timing past last
 gap_test timing past last h =
     rw (le-leb (due_place (bare timing timing.tg) last) (length past) (bare_due timing timing.tg past last h)) refl

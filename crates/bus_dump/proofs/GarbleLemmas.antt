@@ -1,7 +1,7 @@
 -- There is an overlap somewhere exactly where a terminal is garbled somewhere.
-use Rattle.std.proofs.Common.{◌≡◌, ℕ, zero, suc, ◌+◌, ◌<◌, ◌≤◌, Bool, true, false, cond, ◌&&◌, ◌||◌, eqb, ltb, List, [], ◌∷◌, length, take, drop, Some, None}
+use Rattle.std.proofs.Common.{◌≡◌, ℕ, zero, suc, ◌+◌, ◌<◌, ◌≤◌, Bool, true, false, cond, ◌&&◌, ◌||◌, eqb, ltb, max, List, [], ◌∷◌, length, take, drop, Some, None}
 use Rattle.std.proofs.Common.{inl, inr, arith, sym, refl, ap, ◌∙◌}
-use Rattle.std.specs.Prelude.{slice_get, remove, ◌↔◌}
+use Rattle.std.specs.Prelude.{slice_get, remove, IsTrue}
 use Rattle.std.specs.List.{AllByRecursion, count_by, filter, list_any, range_with_len}
 use Rattle.std.specs.Option.{option_map_or}
 use Rattle.std.proofs.lemmas.Bool.{and_parts, cases_Bool, cases_lt, eq-eqb, lt-ltb, ltb-true, true≢false}
@@ -13,13 +13,17 @@ use Rattle.bus_strings.specs.Members.{In}
 use Rattle.bus_strings.specs.MemberLaws.{of_each, at_in, in_append_cases, in_append_right, any_in}
 use Rattle.bus_strings.specs.Messages.{Entry}
 use Rattle.bus_strings.specs.OverlapLaws.{OverlapsMeet}
-use Rattle.bus_strings.specs.Transmissions.{garbled, overlaps}
+use Rattle.bus_strings.specs.Transmissions.{end_of, garbled, overlaps}
 use Rattle.bus_table.specs.Tables.{Table}
+use Rattle.bus_table.specs.Valid.{is_valid}
+use Rattle.bus_trace.specs.Traces.{IsBelow, IsTrace, Recording}
 use Rattle.bus_dump.specs.declared.dump.Dump.{Dump}
+use Rattle.bus_dump.specs.Laws.{GarbledIsShown, OverlapIsShown, OverlapsGarble}
 use Rattle.bus_dump.specs.Scenes.{scene_at}
-use Rattle.bus_dump.specs.Seen.{holds, seen_at}
-use Rattle.bus_dump.specs.Signals.{Bit, Garbled, Overlap, value}
+use Rattle.bus_dump.specs.Seen.{Seen, holds, seen_at}
+use Rattle.bus_dump.specs.Signals.{Bit, Garbled, is_of, value}
 use Rattle.bus_dump.proofs.ClearLemmas.{both_overlap}
+use Rattle.bus_dump.proofs.LaneLawLemmas.{lane_of}
 use Rattle.bus_dump.proofs.LawLemmas.{garbled_seen, held_seen}
 use Rattle.bus_dump.proofs.LiveLemmas.{absent, present, at_place, holds_true}
 
@@ -109,12 +113,13 @@ overlap_garbles list k x y at i over =
     ap (λ o. option_map_or (λ z. list_any (overlaps z) (remove list k)) o false) at ∙ any_in (overlaps x) (remove list k) y i over
 
 pub overlap_is_garbled : (list : List Entry) (t : ℕ) → 1 < count_by (holds t) list
-    → (n : ℕ) × (list_any (is_garbled list t n) (range_with_len 0 (length list)) ≡ true)
+    → (x : Entry) × In x list × (list_any (is_garbled list t x.terminal) (range_with_len 0 (length list)) ≡ true)
 overlap_is_garbled list t some =
     let two = two_held t list (omega (arith, some, length-filter (holds t) list)) in
     let i : In two.other (remove list two.place) = in_append_right (take two.place list) (drop (suc two.place) list) two.other two.behind in
     let bad = overlap_garbles list two.place two.entry two.other two.at i (both_overlap two.entry two.other t two.held two.other_held) in (
-      two.entry.terminal,
+      two.entry,
+      at_in list two.place two.entry two.at,
       any_at (is_garbled list t two.entry.terminal) 0 (length list) two.place (omega arith)
           (let h : two.place < length list = slice_get_within list two.place two.entry two.at in omega arith)
           (garbled_at list t two.place two.entry two.at two.held bad),
@@ -174,34 +179,46 @@ in_list list k y i = elim (in_append_cases (take k list) (drop (suc k) list) y i
   back (x ∷ xs) zero w = w
   back (x ∷ xs) (suc n) w = inr (back xs n w)
 
-record OverlapsThere (list : List Entry) : Type 0 where
+record OverlapsThere (horizon : ℕ) (list : List Entry) : Type 0 where
   time : ℕ
+  below : time < horizon
   two : 1 < count_by (holds time) list
 
-garbled_overlaps : OverlapsMeet → (list : List Entry) (k : ℕ) (x : Entry) → AllByRecursion (λ y. 0 < length y.message) list → slice_get list k ≡ Some x
-    → garbled list k ≡ true → OverlapsThere list
-garbled_overlaps meet list k x some at bad =
+-- where two overlap, the later one begins in the spans of both
+garbled_overlaps : OverlapsMeet → (horizon : ℕ) (list : List Entry) (k : ℕ) (x : Entry) → AllByRecursion (IsBelow horizon) list
+    → slice_get list k ≡ Some x → garbled list k ≡ true → OverlapsThere horizon list
+garbled_overlaps meet horizon list k x all at bad =
     let over : list_any (overlaps x) (remove list k) ≡ true =
     sym (ap (λ o. option_map_or (λ z. list_any (overlaps z) (remove list k)) o false) at) ∙ bad in
     let found = any_of (overlaps x) (remove list k) over in
     let y : Entry = found.0 in
     let there : In y (remove list k) = found.1 in
-    let long : (z : Entry) → In z list → 0 < length z.message = of_each (λ z. 0 < length z.message) list some in
-    let met = (meet x y (long x (at_in list k x at)) (long y (in_list list k y there))).0 found.2 in
+    let each : (z : Entry) → In z list → IsBelow horizon z = of_each (IsBelow horizon) list all in
+    let x_is = each x (at_in list k x at) in
+    let y_is = each y (in_list list k y there) in
+    let met = (meet x y x_is.message.some y_is.message.some).0 found.2 in
     let t : ℕ = met.0 in
-    let on : holds t x ≡ true = holds_true t x met.1.from met.1.to in
-    let other_on : holds t y ≡ true = holds_true t y met.2.from met.2.to in
+    let x_from : x.moment ≤ t = met.1.from in
+    let x_to : t < end_of x = met.1.to in
+    let y_from : y.moment ≤ t = met.2.from in
+    let y_to : t < end_of y = met.2.to in
+    let x_low : x.moment < horizon = x_is.moment in
+    let y_low : y.moment < horizon = y_is.moment in
+    let first : ℕ = max x.moment y.moment in
+    let on : holds first x ≡ true = holds_true first x (omega arith) (omega (arith, x_from, x_to, y_from)) in
+    let other_on : holds first y ≡ true = holds_true first y (omega arith) (omega (arith, y_from, y_to, x_from)) in
+    let low : first < horizon = omega (arith, x_low, y_low) in
     elim (in_append_cases (take k list) (drop (suc k) list) y there) [
-      | inl before ↦ record { time = t; two = two_kept (holds t) list k y x before (in_drop list k x at) other_on on }
-      | inr behind ↦ record { time = t; two = two_kept (holds t) list (suc k) x y (in_take list k x at) behind on other_on }
+      | inl before ↦ record { time = first; below = low; two = two_kept (holds first) list k y x before (in_drop list k x at) other_on on }
+      | inr behind ↦ record { time = first; below = low; two = two_kept (holds first) list (suc k) x y (in_take list k x at) behind on other_on }
     ]
 
-garbled_there : OverlapsMeet → (list : List Entry) (t n k : ℕ) → AllByRecursion (λ y. 0 < length y.message) list → is_garbled list t n k ≡ true
-    → OverlapsThere list
-garbled_there meet list t n k some bad = elim (at_place list k) [
+garbled_there : OverlapsMeet → (horizon : ℕ) (list : List Entry) (t n k : ℕ) → AllByRecursion (IsBelow horizon) list
+    → is_garbled list t n k ≡ true → OverlapsThere horizon list
+garbled_there meet horizon list t n k all bad = elim (at_place list k) [
   | absent e ↦ absurd (true≢false (sym bad ∙ ap (λ o. option_map_or (λ (x : Entry). holds t x && eqb x.terminal n && garbled list k) o false) e))
   | present x e ↦
-      garbled_overlaps meet list k x some e
+      garbled_overlaps meet horizon list k x all e
       (and_parts (holds t x && eqb x.terminal n) (garbled list k)
       (sym (ap (λ o. option_map_or (λ (y : Entry). holds t y && eqb y.terminal n && garbled list k) o false) e) ∙ bad)).1
 ]
@@ -210,22 +227,37 @@ garbled_there meet list t n k some bad = elim (at_place list k) [
 same_bit : (a b : Bool) → Bit a ≡ Bit b → a ≡ b
 same_bit a b h = cc
 
-pub overlaps_garble : OverlapsMeet → (dump : Dump) (table : Table) (list : List Entry) → AllByRecursion (λ x. 0 < length x.message) list
-    → ((t : ℕ) × (value Overlap (scene_at dump table list t) ≡ Bit true))
-    ↔ ((t : ℕ) × (n : ℕ) × (value (Garbled n) (scene_at dump table list t) ≡ Bit true))
-overlaps_garble meet dump table list some = (
-  λ h.
-      let many : ltb 1 (length (seen_at list h.0)) ≡ true = same_bit (ltb 1 (length (seen_at list h.0))) true h.1 in
-      let two : 1 < length (seen_at list h.0) = ltb-true 1 (length (seen_at list h.0)) many in
-      let bad = overlap_is_garbled list h.0 (omega (arith, two, held_seen list h.0)) in (
-        h.0,
-        bad.0,
-        ap Bit (garbled_seen list h.0 bad.0 ∙ bad.1),
-      ),
-  λ h.
-      let bad = any_of (is_garbled list h.0 h.1) (range_with_len 0 (length list)) (sym (garbled_seen list h.0 h.1) ∙ same_bit _ true h.2) in
-      let over = garbled_there meet list h.0 h.1 bad.0 some bad.2 in (
-        over.time,
-        ap Bit (lt-ltb 1 (length (seen_at list over.time)) (omega (arith, over.two, held_seen list over.time))),
-      ),
-)
+shown_garbled : (dump : Dump) (table : Table) (trace : Recording) → IsTrue (is_valid table) → IsTrace trace
+    → OverlapIsShown dump table trace → GarbledIsShown dump table trace
+shown_garbled dump table trace valid is h =
+    let list : List Entry = trace.list in
+    let t : ℕ = h.time in
+    let many : ltb 1 (length (seen_at list t)) ≡ true = same_bit (ltb 1 (length (seen_at list t))) true h.overlap in
+    let two : 1 < length (seen_at list t) = ltb-true 1 (length (seen_at list t)) many in
+    let bad = overlap_is_garbled list t (omega (arith, two, held_seen list t)) in
+    let x : Entry = bad.0 in
+    let own = lane_of table trace valid is x bad.1 in
+    record {
+      time = t;
+      below = h.below;
+      lane = own.0;
+      there = own.1;
+      garbled = ap (λ n. value (Garbled n) (scene_at dump table list t)) own.2 ∙ ap Bit (garbled_seen list t x.terminal ∙ bad.2);
+    }
+
+shown_overlap : OverlapsMeet → (dump : Dump) (table : Table) (trace : Recording) → IsTrace trace
+    → GarbledIsShown dump table trace → OverlapIsShown dump table trace
+shown_overlap meet dump table trace is h =
+    let list : List Entry = trace.list in
+    let n : ℕ = h.lane.terminal in
+    let bad = any_of (is_garbled list h.time n) (range_with_len 0 (length list))
+    (sym (garbled_seen list h.time n) ∙ same_bit (list_any (λ (s : Seen). is_of n s && s.garbled) (seen_at list h.time)) true h.garbled) in
+    let over = garbled_there meet trace.horizon list h.time n bad.0 is.list bad.2 in
+    record {
+      time = over.time;
+      below = over.below;
+      overlap = ap Bit (lt-ltb 1 (length (seen_at list over.time)) (omega (arith, over.two, held_seen list over.time)));
+    }
+
+pub overlaps_garble : OverlapsMeet → OverlapsGarble
+overlaps_garble meet dump table trace valid is = (shown_garbled dump table trace valid is, shown_overlap meet dump table trace is)

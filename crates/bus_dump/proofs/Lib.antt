@@ -30,3 +30,5 @@ pub mod IdleLemmas
 pub mod StampLemmas
 pub mod SaveLemmas
 pub mod LaneLawLemmas
+pub mod NumberLemmas
+pub mod NameLemmas

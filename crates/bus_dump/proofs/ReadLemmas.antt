@@ -2,7 +2,7 @@
 use Rattle.std.proofs.Common.{◌≡◌, ℕ, zero, suc, ◌+◌, ◌*◌, ◌^◌, ◌<◌, ◌≤◌, Bool, true, false, ◌&&◌, ◌||◌, cond, eqb, leb, List, [], ◌∷◌, ◌++◌, map, codes, decimal, fold, Option, Some}
 use Rattle.std.proofs.Common.{inl, inr, arith, sym, refl, ap, subst, ◌∙◌, append_assoc}
 use Rattle.std.specs.Int.Digits.{AllBelowBase, number_from_digits}
-use Rattle.std.specs.List.{AllByRecursion, flat_map, list_any, onto_first, slice_split}
+use Rattle.std.specs.List.{AllByRecursion, flat_map, list_any, onto_first}
 use Rattle.std.specs.Str.{bytes_eq}
 use Rattle.std.specs.Str.Parse.{digits_value}
 use Rattle.std.specs.Char.{digit_value}
@@ -17,7 +17,7 @@ use Rattle.bus_text.specs.Lines.{is_blank, is_feed, physical_lines}
 use Rattle.bus_text.specs.NumberLaws.{decimal_field, decimal_is}
 use Rattle.bus_strings.specs.Members.{In}
 use Rattle.bus_dump.specs.DumpTexts.{binary, id_text, stamp, value_line, value_text}
-use Rattle.bus_dump.specs.Reading.{gives, other, Place, line_of, read_on, step, vector, vector_value}
+use Rattle.bus_dump.specs.Reading.{gives, other, Place, line_of, parts_of, read_on, step, vector, vector_line}
 use Rattle.bus_dump.specs.Scenes.{Scene}
 use Rattle.bus_dump.specs.Signals.{Signal, Carrier, Overlap, Sync, Word, Pulse, Garbled, Label, Message, Interval, Synchronization, Gap, May, Value, Bit, Number, Floating, Unknown, value, is_same}
 
@@ -89,7 +89,7 @@ digits_are (d ∷ ds) h = ap (λ x. x ∷ map digit_value (map (λ d. 48 + d) ds
 abbrev pub NotOf : ℕ → List ℕ → Type 0
 NotOf b bs = AllByRecursion (λ x. eqb x b ≡ false) bs
 
-not_join : (b : ℕ) (xs ys : List ℕ) → NotOf b xs → NotOf b ys → NotOf b (xs ++ ys)
+pub not_join : (b : ℕ) (xs ys : List ℕ) → NotOf b xs → NotOf b ys → NotOf b (xs ++ ys)
 not_join b [] ys h k = k
 not_join b (x ∷ xs) ys h k = (h.0, not_join b xs ys h.1 k)
 
@@ -110,20 +110,21 @@ binary_not b n low = elim (cases_Bool (eqb n 0)) [
       (digits_not b (digits_of 2 n) low (all_below_base_digits_of 2 n (omega arith)))
 ]
 
-digits_read : (n : ℕ) (ds : List ℕ) → AllBelowBase 2 ds → number_from_digits 2 ds ≡ n → 0 < n → vector_value (map (λ d. 48 + d) ds) ≡ Number n
-digits_read n [] all is some = absurd (let e : 0 ≡ n = is in omega arith)
-digits_read n (d ∷ ds) all is some =
+digits_read : (n : ℕ) (ds id : List ℕ) → AllBelowBase 2 ds → number_from_digits 2 ds ≡ n → 0 < n
+    → vector_line (map (λ d. 48 + d) ds) id ≡ gives id (Number n)
+digits_read n [] id all is some = absurd (let e : 0 ≡ n = is in omega arith)
+digits_read n (d ∷ ds) id all is some =
     rw (below_binary 122 d all.0 (omega arith), below_binary 120 d all.0 (omega arith))
-    (ap Number (digits_value_is 2 (map (λ d. 48 + d) (d ∷ ds)) ∙ ap (number_from_digits 2) (digits_are (d ∷ ds) all) ∙ is))
+    (ap (λ k. gives id (Number k)) (digits_value_is 2 (map (λ d. 48 + d) (d ∷ ds)) ∙ ap (number_from_digits 2) (digits_are (d ∷ ds) all) ∙ is))
 
-binary_read : (n : ℕ) → vector_value (binary n) ≡ Number n
-binary_read n = elim (cases_Bool (eqb n 0)) [
+binary_read : (n : ℕ) (id : List ℕ) → vector_line (binary n) id ≡ gives id (Number n)
+binary_read n id = elim (cases_Bool (eqb n 0)) [
   | inl zero' ↦
-      ap (λ t. vector_value (cond t (codes "0") (map (λ d. 48 + d) (digits_of 2 n)))) zero'
-      ∙ (let e : n ≡ 0 = eqb-true n 0 zero' in ap Number (sym e))
+      ap (λ t. vector_line (cond t (codes "0") (map (λ d. 48 + d) (digits_of 2 n))) id) zero'
+      ∙ (let e : n ≡ 0 = eqb-true n 0 zero' in ap (λ k. gives id (Number k)) (sym e))
   | inr more ↦
-      ap (λ t. vector_value (cond t (codes "0") (map (λ d. 48 + d) (digits_of 2 n)))) more
-      ∙ digits_read n (digits_of 2 n) (all_below_base_digits_of 2 n (omega arith)) (number_digits_of 2 n (omega arith))
+      ap (λ t. vector_line (cond t (codes "0") (map (λ d. 48 + d) (digits_of 2 n))) id) more
+      ∙ digits_read n (digits_of 2 n) id (all_below_base_digits_of 2 n (omega arith)) (number_digits_of 2 n (omega arith))
       (elim (cases_lt 0 n) [ inl some ↦ some | inr none ↦ absurd (true≢false (sym (eq-eqb n 0 (let e : n ≡ 0 = omega arith in e)) ∙ more)) ])
 ]
 
@@ -150,7 +151,7 @@ pub field_feedless : (bs : List ℕ) → AllByRecursion IsFieldByte bs → Feedl
 field_feedless [] h = tt
 field_feedless (b ∷ bs) h = (h.0.no_feed, field_feedless bs h.1)
 
-field_spaceless : (bs : List ℕ) → AllByRecursion IsFieldByte bs → NotOf 32 bs
+pub field_spaceless : (bs : List ℕ) → AllByRecursion IsFieldByte bs → NotOf 32 bs
 field_spaceless [] h = tt
 field_spaceless (b ∷ bs) h = (no_space b h.0.no_blank, field_spaceless bs h.1) where
   no_space : (x : ℕ) → is_blank x ≡ false → eqb x 32 ≡ false
@@ -187,22 +188,19 @@ good_id (Gap n) h = lane_id 104 n refl refl h
 good_id (May n) h = lane_id 114 n refl refl h
 
 -- ---- the line of a value
-abbrev spaces : List ℕ → List (List ℕ)
-spaces bs = slice_split (λ b. eqb b 32) bs
-
-vector_read : (digits id : List ℕ) (v : Value) → NotOf 32 digits → NotOf 32 id → vector_value digits ≡ v
-    → vector (spaces (digits ++ 32 ∷ id)) ≡ gives id v
+vector_read : (digits id : List ℕ) (v : Value) → NotOf 32 digits → NotOf 32 id → vector_line digits id ≡ gives id v
+    → vector (parts_of (digits ++ 32 ∷ id)) ≡ gives id v
 vector_read digits id v a b is =
     ap vector (slice_split_at (λ x. eqb x 32) digits 32 id (All-from_recursion _ digits a) refl
     ∙ ap (λ l. digits ∷ l) (slice_split_none (λ x. eqb x 32) id (All-from_recursion _ id b)))
-    ∙ ap (gives id) is
+    ∙ is
 
 pub value_line_of : (v : Value) (id : List ℕ) → NotOf 32 id → line_of (value_text v ++ id) ≡ gives id v
 value_line_of (Bit true) id h = refl
 value_line_of (Bit false) id h = refl
 value_line_of (Number n) id h =
     ap line_of (ap (λ l. 98 ∷ l) (append_assoc (binary n) (32 ∷ []) id))
-    ∙ vector_read (binary n) id (Number n) (binary_not 32 n (omega arith)) h (binary_read n)
+    ∙ vector_read (binary n) id (Number n) (binary_not 32 n (omega arith)) h (binary_read n id)
 value_line_of Floating id h = vector_read (122 ∷ []) id Floating (refl, tt) h refl
 value_line_of Unknown id h = vector_read (120 ∷ []) id Unknown (refl, tt) h refl
 
@@ -250,14 +248,17 @@ signal_is (Synchronization n) h = ap Synchronization (decimal_is n h).value
 signal_is (Gap n) h = ap Gap (decimal_is n h).value
 signal_is (May n) h = ap May (decimal_is n h).value
 
-same_bytes : (xs ys : List ℕ) → bytes_eq xs ys ≡ true → xs ≡ ys
+pub same_bytes : (xs ys : List ℕ) → bytes_eq xs ys ≡ true → xs ≡ ys
 same_bytes xs ys h = (bytes_eq-Decides xs ys).0 h
 
-own_bytes : (xs : List ℕ) → bytes_eq xs xs ≡ true
+pub own_bytes : (xs : List ℕ) → bytes_eq xs xs ≡ true
 own_bytes xs = (bytes_eq-Decides xs xs).1 refl
 
+pub same_id : (a b : Signal) → IsSmall a → IsSmall b → id_text a ≡ id_text b → a ≡ b
+same_id a b h k e = sym (signal_is a h) ∙ ap signal_of e ∙ signal_is b k
+
 same_signal : (a b : Signal) → IsSmall a → IsSmall b → bytes_eq (id_text a) (id_text b) ≡ true → a ≡ b
-same_signal a b h k e = sym (signal_is a h) ∙ ap signal_of (same_bytes (id_text a) (id_text b) e) ∙ signal_is b k
+same_signal a b h k e = same_id a b h k (same_bytes (id_text a) (id_text b) e)
 
 -- ---- texts that take a reader from a place to another
 abbrev pub Moves : List ℕ → ℕ → Place → List ℕ → Place → Type 0

@@ -1,5 +1,5 @@
 -- Each signal of each dump is shown by the save file.
-use Rattle.std.proofs.Common.{◌≡◌, ◌⊎◌, ℕ, codes, ◌+◌, ◌<◌, length, take, get_or, Bool, true, false, not, ◌&&◌, cond, List, [], ◌∷◌, ◌++◌, inl, inr, sym, refl, ap, ◌∙◌, subst, append_assoc, append-nil}
+use Rattle.std.proofs.Common.{◌≡◌, ◌⊎◌, ℕ, codes, ◌+◌, ◌<◌, length, take, drop, get_or, Bool, true, false, not, ◌&&◌, cond, List, [], ◌∷◌, ◌++◌, inl, inr, sym, refl, ap, ◌∙◌, subst, append_assoc, append-nil}
 use Rattle.std.specs.List.{flat_map}
 use Rattle.std.proofs.lemmas.List.{take_more}
 use Rattle.std.proofs.lemmas.List.Concat.{flat_map-append}
@@ -10,28 +10,66 @@ use Rattle.bus_table.specs.Tables.{Table}
 use Rattle.bus_dump.specs.declared.dump.Dump.{Dump}
 use Rattle.bus_dump.specs.declared.dump.Dump.TheVariants.{Vcd, Wires, Timers}
 use Rattle.bus_dump.specs.declared.lane.Lane.{Lane}
+use Rattle.bus_dump.specs.DumpTexts.{bits_text, name_text}
 use Rattle.bus_dump.specs.Lanes.{lanes}
-use Rattle.bus_dump.specs.SaveFiles.{AllAreShown, Shows, as_decimal, as_hexadecimal, as_wires, bus_shown, heading, lane_title, marked, label_shown, lane_shown, messages_shown, save_text, shown, timers_shown}
+use Rattle.bus_dump.specs.Laws.{AllAreShown, EndsLine, Shows}
+use Rattle.bus_dump.specs.SaveFiles.{as_decimal, as_hexadecimal, as_wires, bus_shown, heading, lane_title, marked, label_shown, lane_shown, messages_shown, save_text, shown, timers_shown}
 use Rattle.bus_dump.specs.Signals.{Signal, Carrier, Overlap, Sync, Word, Pulse, Garbled, Label, Message, Interval, Synchronization, Gap, May}
 use Rattle.bus_dump.specs.Signals.{bus_signals, has, is_timer, is_wire, lane_signals, signals_of}
 
+-- ---- texts that end with a line feed
+ends_join : (xs ys : List ℕ) → EndsLine xs → EndsLine ys → EndsLine (xs ++ ys)
+ends_join xs ys h (inl none) = subst EndsLine (sym (ap (λ l. xs ++ l) none ∙ append-nil xs)) h
+ends_join xs ys h (inr e) = inr (xs ++ e.0, ap (λ l. xs ++ l) e.1 ∙ sym (append_assoc xs e.0 (10 ∷ [])))
+
+flat_map_ends : {X : Type 0} (f : X → List ℕ) → ((x : X) → EndsLine (f x)) → (xs : List X) → EndsLine (flat_map f xs)
+flat_map_ends f h [] = inl refl
+flat_map_ends f h (x ∷ xs) = ends_join (f x) (flat_map f xs) (h x) (flat_map_ends f h xs)
+
+shown_ends : (s : Signal) → EndsLine (shown s)
+shown_ends s = inr (codes "bus." ++ name_text s ++ drop 1 (bits_text s), refl)
+
+heading_ends : (name : List ℕ) → EndsLine (heading name)
+heading_ends name = inr (codes "@200\n-" ++ name, refl)
+
+wires_ends : EndsLine as_wires
+wires_ends = inr (codes "@28", refl)
+
+hexadecimal_ends : EndsLine as_hexadecimal
+hexadecimal_ends = inr (codes "@22", refl)
+
+decimal_ends : EndsLine as_decimal
+decimal_ends = inr (codes "@24", refl)
+
+marked_ends : EndsLine marked
+marked_ends = inr (codes "[color] 2", refl)
+
+-- a text, and a signal that is shown behind it
+and_shown : (xs : List ℕ) (s : Signal) → EndsLine xs → EndsLine (xs ++ shown s)
+and_shown xs s h = ends_join xs (shown s) h (shown_ends s)
+
+and_marked : (xs : List ℕ) → EndsLine xs → EndsLine (xs ++ marked)
+and_marked xs h = ends_join xs marked h marked_ends
+
 -- ---- texts that show a signal
 itself : (s : Signal) → Shows s (shown s)
-itself s = record { front = []; behind = []; parts = sym (append-nil (shown s)) }
+itself s = record { front = []; behind = []; parts = sym (append-nil (shown s)); line = inl refl }
 
 before : {s : Signal} {xs : List ℕ} (ys : List ℕ) → Shows s xs → Shows s (xs ++ ys)
 before {s} {xs} ys h = record {
   front = h.front;
   behind = h.behind ++ ys;
   parts = ap (λ l. l ++ ys) h.parts ∙ append_assoc (h.front ++ shown s) h.behind ys;
+  line = h.line;
 }
 
-behind : {s : Signal} {ys : List ℕ} (xs : List ℕ) → Shows s ys → Shows s (xs ++ ys)
-behind {s} {ys} xs h = record {
+behind : {s : Signal} {ys : List ℕ} (xs : List ℕ) → EndsLine xs → Shows s ys → Shows s (xs ++ ys)
+behind {s} {ys} xs e h = record {
   front = xs ++ h.front;
   behind = h.behind;
   parts = ap (λ l. xs ++ l) h.parts ∙ sym (append_assoc xs (h.front ++ shown s) h.behind)
       ∙ ap (λ l. l ++ h.behind) (sym (append_assoc xs h.front (shown s)));
+  line = ends_join xs h.front e h.line;
 }
 
 -- ---- loops
@@ -43,30 +81,104 @@ flat_map_next f xs k d within =
     ∙ ap (λ l. flat_map f (take k xs) ++ l) (append-nil (f (get_or xs k d)))
 
 -- ---- the bus
+abbrev bus1 : List ℕ
+bus1 = heading (codes "bus") ++ as_wires
+
+abbrev bus2 : List ℕ
+bus2 = bus1 ++ shown Carrier ++ marked
+
+abbrev bus3 : List ℕ
+bus3 = bus2 ++ shown Overlap
+
+abbrev bus4 : List ℕ
+bus4 = bus3 ++ shown Sync ++ as_hexadecimal
+
+bus1_ends : EndsLine bus1
+bus1_ends = ends_join (heading (codes "bus")) as_wires (heading_ends (codes "bus")) wires_ends
+
+bus2_ends : EndsLine bus2
+bus2_ends = and_marked (bus1 ++ shown Carrier) (and_shown bus1 Carrier bus1_ends)
+
+bus3_ends : EndsLine bus3
+bus3_ends = and_shown bus2 Overlap bus2_ends
+
+bus4_ends : EndsLine bus4
+bus4_ends = ends_join (bus3 ++ shown Sync) as_hexadecimal (and_shown bus3 Sync bus3_ends) hexadecimal_ends
+
 of_bus : (s : Signal) → In s (Carrier ∷ (Overlap ∷ (Sync ∷ (Word ∷ [])))) → Shows s bus_shown
 of_bus s (inl is) = subst (λ z. Shows z bus_shown) (sym is) (record {
-  front = heading (codes "bus") ++ as_wires;
+  front = bus1;
   behind = marked ++ shown Overlap ++ shown Sync ++ as_hexadecimal ++ shown Word;
   parts = refl;
+  line = bus1_ends;
 })
 of_bus s (inr (inl is)) = subst (λ z. Shows z bus_shown) (sym is) (record {
-  front = heading (codes "bus") ++ as_wires ++ shown Carrier ++ marked;
+  front = bus2;
   behind = shown Sync ++ as_hexadecimal ++ shown Word;
   parts = refl;
+  line = bus2_ends;
 })
 of_bus s (inr (inr (inl is))) = subst (λ z. Shows z bus_shown) (sym is) (record {
-  front = heading (codes "bus") ++ as_wires ++ shown Carrier ++ marked ++ shown Overlap;
+  front = bus3;
   behind = as_hexadecimal ++ shown Word;
   parts = refl;
+  line = bus3_ends;
 })
 of_bus s (inr (inr (inr (inl is)))) = subst (λ z. Shows z bus_shown) (sym is) (record {
-  front = heading (codes "bus") ++ as_wires ++ shown Carrier ++ marked ++ shown Overlap ++ shown Sync ++ as_hexadecimal;
+  front = bus4;
   behind = [];
   parts = refl;
+  line = bus4_ends;
 })
 of_bus s (inr (inr (inr (inr none)))) = absurd none
 
 -- ---- a lane
+-- the texts before its signals
+abbrev messages1 : ℕ → List ℕ
+messages1 t = as_wires ++ shown (Pulse t) ++ marked
+
+abbrev messages2 : ℕ → List ℕ
+messages2 t = messages1 t ++ shown (Garbled t) ++ as_decimal
+
+abbrev timers1 : ℕ → List ℕ
+timers1 t = as_wires ++ shown (Interval t)
+
+abbrev timers2 : ℕ → List ℕ
+timers2 t = timers1 t ++ shown (Synchronization t)
+
+abbrev timers3 : ℕ → List ℕ
+timers3 t = timers2 t ++ shown (Gap t) ++ marked
+
+messages1_ends : (t : ℕ) → EndsLine (messages1 t)
+messages1_ends t = and_marked (as_wires ++ shown (Pulse t)) (and_shown as_wires (Pulse t) wires_ends)
+
+messages2_ends : (t : ℕ) → EndsLine (messages2 t)
+messages2_ends t =
+    ends_join (messages1 t ++ shown (Garbled t)) as_decimal (and_shown (messages1 t) (Garbled t) (messages1_ends t)) decimal_ends
+
+timers1_ends : (t : ℕ) → EndsLine (timers1 t)
+timers1_ends t = and_shown as_wires (Interval t) wires_ends
+
+timers2_ends : (t : ℕ) → EndsLine (timers2 t)
+timers2_ends t = and_shown (timers1 t) (Synchronization t) (timers1_ends t)
+
+timers3_ends : (t : ℕ) → EndsLine (timers3 t)
+timers3_ends t = and_marked (timers2 t ++ shown (Gap t)) (and_shown (timers2 t) (Gap t) (timers2_ends t))
+
+front_ends : (table : Table) (lane : Lane) → EndsLine (heading (lane_title table lane.terminal) ++ messages_shown lane.terminal)
+front_ends table lane =
+    ends_join (heading (lane_title table lane.terminal)) (messages_shown lane.terminal) (heading_ends (lane_title table lane.terminal))
+    (and_shown (messages2 lane.terminal) (Message lane.terminal) (messages2_ends lane.terminal))
+
+lane_ends : (table : Table) (lane : Lane) → EndsLine (lane_shown table lane)
+lane_ends table lane =
+    let front : List ℕ = heading (lane_title table lane.terminal) ++ messages_shown lane.terminal in
+    elim (lane.sender) as (λ b. EndsLine (front ++ cond b (timers_shown lane.terminal) [])) [
+      | true ↦ ends_join front (timers_shown lane.terminal) (front_ends table lane)
+          (and_shown (timers3 lane.terminal) (May lane.terminal) (timers3_ends lane.terminal))
+      | false ↦ ends_join front [] (front_ends table lane) (inl refl)
+    ]
+
 -- only a sender has timers
 sends : (dump : Dump) (sender : Bool) (s : Signal) → is_timer s ≡ true → has dump sender s ≡ true → sender ≡ true
 sends Vcd sender s timer h = absurd (let e : false ≡ true = ap not (sym timer) ∙ h in cc)
@@ -79,7 +191,7 @@ sends Timers false s timer h = absurd (let e : false ≡ true = ap not (sym time
 
 timers_of : (table : Table) (lane : Lane) (s : Signal) → lane.sender ≡ true → Shows s (timers_shown lane.terminal) → Shows s (lane_shown table lane)
 timers_of table lane s sender h =
-    behind (heading (lane_title table lane.terminal) ++ messages_shown lane.terminal)
+    behind (heading (lane_title table lane.terminal) ++ messages_shown lane.terminal) (front_ends table lane)
     (subst (λ b. Shows s (cond b (timers_shown lane.terminal) [])) (sym sender) h)
 
 -- a text of both parts
@@ -100,36 +212,21 @@ of_lane dump table list s lane i =
       message : (z : Signal) → s ≡ z → Shows z (messages_shown t) → Parts table list s lane
       message z is shows =
           inr (subst (λ y. Shows y (lane_shown table lane)) (sym is)
-          (before (cond lane.sender (timers_shown t) []) (behind (heading (lane_title table t)) shows)))
-
-      m1 : List ℕ
-      m1 = as_wires ++ shown (Pulse t) ++ marked
-
-      m2 : List ℕ
-      m2 = m1 ++ shown (Garbled t) ++ as_decimal
-
-      t1 : List ℕ
-      t1 = as_wires ++ shown (Interval t)
-
-      t2 : List ℕ
-      t2 = t1 ++ shown (Synchronization t)
-
-      t3 : List ℕ
-      t3 = t2 ++ shown (Gap t) ++ marked
+          (before (cond lane.sender (timers_shown t) []) (behind (heading (lane_title table t)) (heading_ends (lane_title table t)) shows)))
 
       by : In s (signals_of t) → has dump lane.sender s ≡ true → Parts table list s lane
       by (inl is) h = message (Pulse t) is
-          (before (shown (Message t)) (before as_decimal (before (shown (Garbled t)) (before marked (behind as_wires (itself (Pulse t)))))))
-      by (inr (inl is)) h = message (Garbled t) is (before (shown (Message t)) (before as_decimal (behind m1 (itself (Garbled t)))))
+          (before (shown (Message t)) (before as_decimal (before (shown (Garbled t)) (before marked (behind as_wires wires_ends (itself (Pulse t)))))))
+      by (inr (inl is)) h = message (Garbled t) is (before (shown (Message t)) (before as_decimal (behind (messages1 t) (messages1_ends t) (itself (Garbled t)))))
       by (inr (inr (inl is))) h = inl (subst (λ y. Shows y (label_shown lane)) (sym is) (itself (Label t)))
-      by (inr (inr (inr (inl is)))) h = message (Message t) is (behind m2 (itself (Message t)))
+      by (inr (inr (inr (inl is)))) h = message (Message t) is (behind (messages2 t) (messages2_ends t) (itself (Message t)))
       by (inr (inr (inr (inr (inl is))))) h = timer (Interval t) is refl h
-          (before (shown (May t)) (before marked (before (shown (Gap t)) (before (shown (Synchronization t)) (behind as_wires (itself (Interval t)))))))
+          (before (shown (May t)) (before marked (before (shown (Gap t)) (before (shown (Synchronization t)) (behind as_wires wires_ends (itself (Interval t)))))))
       by (inr (inr (inr (inr (inr (inl is)))))) h = timer (Synchronization t) is refl h
-          (before (shown (May t)) (before marked (before (shown (Gap t)) (behind t1 (itself (Synchronization t))))))
+          (before (shown (May t)) (before marked (before (shown (Gap t)) (behind (timers1 t) (timers1_ends t) (itself (Synchronization t))))))
       by (inr (inr (inr (inr (inr (inr (inl is))))))) h = timer (Gap t) is refl h
-          (before (shown (May t)) (before marked (behind t2 (itself (Gap t)))))
-      by (inr (inr (inr (inr (inr (inr (inr (inl is)))))))) h = timer (May t) is refl h (behind t3 (itself (May t)))
+          (before (shown (May t)) (before marked (behind (timers2 t) (timers2_ends t) (itself (Gap t)))))
+      by (inr (inr (inr (inr (inr (inr (inr (inl is)))))))) h = timer (May t) is refl h (behind (timers3 t) (timers3_ends t) (itself (May t)))
       by (inr (inr (inr (inr (inr (inr (inr (inr none)))))))) h = absurd none
 
 -- a lane more, of which the first or a later one shows the signal
@@ -141,8 +238,8 @@ shown_first table s l ls (inr h) = inr (before (flat_map (lane_shown table) ls) 
 shown_later : (table : Table) (s : Signal) (l : Lane) (ls : List Lane)
     → Shows s (flat_map label_shown ls) ⊎ Shows s (flat_map (lane_shown table) ls)
     → Shows s (flat_map label_shown (l ∷ ls)) ⊎ Shows s (flat_map (lane_shown table) (l ∷ ls))
-shown_later table s l ls (inl h) = inl (behind (label_shown l) h)
-shown_later table s l ls (inr h) = inr (behind (lane_shown table l) h)
+shown_later table s l ls (inl h) = inl (behind (label_shown l) (shown_ends (Label l.terminal)) h)
+shown_later table s l ls (inr h) = inr (behind (lane_shown table l) (lane_ends table l) h)
 
 of_lanes : (dump : Dump) (table : Table) (list : List Entry) (s : Signal) (ls : List Lane) → In s (flat_map (lane_signals dump) ls)
     → Shows s (flat_map label_shown ls) ⊎ Shows s (flat_map (lane_shown table) ls)
@@ -156,6 +253,11 @@ of_lanes dump table list s (l ∷ ls) i = elim (in_append_cases (lane_signals du
 abbrev labels : List ℕ
 labels = heading (codes "labels") ++ as_hexadecimal
 
+labels_end : EndsLine (bus_shown ++ labels)
+labels_end =
+    ends_join bus_shown labels (and_shown bus4 Word bus4_ends)
+    (ends_join (heading (codes "labels")) as_hexadecimal (heading_ends (codes "labels")) hexadecimal_ends)
+
 shown_of_bus : (table : Table) (list : List Entry) (s : Signal) → Shows s bus_shown → Shows s (save_text table list)
 shown_of_bus table list s h =
     let ls = lanes table list in
@@ -164,8 +266,12 @@ shown_of_bus table list s h =
 shown_of_lanes : (table : Table) (list : List Entry) (s : Signal)
     → Shows s (flat_map label_shown (lanes table list)) ⊎ Shows s (flat_map (lane_shown table) (lanes table list))
     → Shows s (save_text table list)
-shown_of_lanes table list s (inl h) = before (flat_map (lane_shown table) (lanes table list)) (behind (bus_shown ++ labels) h)
-shown_of_lanes table list s (inr h) = behind (bus_shown ++ labels ++ flat_map label_shown (lanes table list)) h
+shown_of_lanes table list s (inl h) = before (flat_map (lane_shown table) (lanes table list)) (behind (bus_shown ++ labels) labels_end h)
+shown_of_lanes table list s (inr h) =
+    behind (bus_shown ++ labels ++ flat_map label_shown (lanes table list))
+    (ends_join (bus_shown ++ labels) (flat_map label_shown (lanes table list)) labels_end
+    (flat_map_ends label_shown (λ lane. shown_ends (Label lane.terminal)) (lanes table list)))
+    h
 
 pub all_are_shown : AllAreShown
 all_are_shown dump table list s i =

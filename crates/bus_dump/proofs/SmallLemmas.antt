@@ -1,5 +1,5 @@
 -- The terminals of a dump's signals are small, and so its dump is read.
-use Rattle.std.proofs.Common.{◌≡◌, ℕ, zero, suc, ◌+◌, ◌*◌, ◌^◌, ◌<◌, ◌≤◌, Bool, true, false, cond, List, [], ◌∷◌, ◌++◌, map, Some, inl, inr, arith, refl}
+use Rattle.std.proofs.Common.{◌≡◌, ℕ, zero, suc, ◌+◌, ◌*◌, ◌^◌, ◌<◌, ◌≤◌, Bool, true, false, cond, List, [], ◌∷◌, ◌++◌, map, Some, inl, inr, arith, refl, ◌∙◌}
 use Rattle.std.specs.Prelude.{IsTrue}
 use Rattle.std.specs.List.{AllByRecursion, filter, flat_map, range_with_len}
 use Rattle.bus_strings.specs.Members.{In}
@@ -10,14 +10,14 @@ use Rattle.bus_table.specs.Turns.{turn_key, turn_order}
 use Rattle.bus_table.specs.Valid.{is_valid}
 use Rattle.bus_table.specs.Facts.{SenderFacts}
 use Rattle.bus_table.specs.ValidLaws.{valid_facts}
-use Rattle.bus_trace.specs.Traces.{Recording, IsTrace}
 use Rattle.bus_dump.specs.declared.dump.Dump.{Dump}
-use Rattle.bus_dump.specs.DumpTexts.{dump_text, id_text, units}
+use Rattle.bus_dump.specs.DumpTexts.{dump_text, id_text, name_text}
 use Rattle.bus_dump.specs.Lanes.{Lane, is_stranger, lanes, sender_lane, stranger_lane}
-use Rattle.bus_dump.specs.Reading.{read}
+use Rattle.bus_dump.specs.Laws.{DumpsAreRead, IdentifiersDiffer, NamesAreDeclared}
 use Rattle.bus_dump.specs.Scenes.{scene_at}
-use Rattle.bus_dump.specs.Signals.{Signal, Carrier, Overlap, Sync, Word, value, bus_signals, has, lane_signals, signals, signals_of}
-use Rattle.bus_dump.proofs.ReadLemmas.{Feedless, IsSmall}
+use Rattle.bus_dump.specs.Signals.{Signal, Carrier, Overlap, Sync, Word, bus_signals, has, lane_signals, signals, signals_of}
+use Rattle.bus_dump.proofs.NameLemmas.{name_declared, read_by_name}
+use Rattle.bus_dump.proofs.ReadLemmas.{IsSmall, same_id}
 use Rattle.bus_dump.proofs.ReadThroughLemmas.{small_filter, text_read}
 
 all_join : {X : Type 0} (P : X → Type 0) (xs ys : List X) → AllByRecursion P xs → AllByRecursion P ys → AllByRecursion P (xs ++ ys)
@@ -73,11 +73,23 @@ small_in [] s i h = absurd i
 small_in (x ∷ ss) s (inl same) h = rw same h.0
 small_in (x ∷ ss) s (inr i) h = small_in ss s i h.1
 
-pub dump_read : (dump : Dump) (comment : List ℕ) (table : Table) (trace : Recording) (t : ℕ) (signal : Signal) → IsTrue (is_valid table) → IsTrace trace
-    → Feedless comment → t < trace.horizon → In signal (signals dump (lanes table trace.list))
-    → read (id_text signal) (units * t) (dump_text dump comment table trace) ≡ Some (value signal (scene_at dump table trace.list t))
+pub names_declared : NamesAreDeclared
+names_declared dump comment table trace signal valid is plain i =
+    let ss : List Signal = signals dump (lanes table trace.list) in
+    let small = signals_small dump table trace.list valid in
+    name_declared comment ss (scene_at dump table trace.list) trace.horizon signal plain small (small_in ss signal i small) i
+
+pub ids_differ : IdentifiersDiffer
+ids_differ dump table list a b valid i j e =
+    let ss : List Signal = signals dump (lanes table list) in
+    let small = signals_small dump table list valid in
+    same_id a b (small_in ss a i small) (small_in ss b j small) e
+
+pub dump_read : DumpsAreRead
 dump_read dump comment table trace t signal valid is plain below i =
+    let ss : List Signal = signals dump (lanes table trace.list) in
     let small = signals_small dump table trace.list valid in
     let limit : trace.horizon ≤ 2 ^ 40 = is.horizon in
-    text_read comment (signals dump (lanes table trace.list)) (scene_at dump table trace.list) trace.horizon t signal plain small i
-    (small_in (signals dump (lanes table trace.list)) signal i small) below (omega arith)
+    read_by_name (name_text signal) (id_text signal) (dump_text dump comment table trace) (5 * t)
+    (names_declared dump comment table trace signal valid is plain i)
+    ∙ text_read comment ss (scene_at dump table trace.list) trace.horizon t signal plain small i (small_in ss signal i small) below (omega arith)

@@ -6,12 +6,15 @@ use Rattle.std.proofs.lemmas.Bool.{cases_lt, ne_eqb}
 use Rattle.std.proofs.lemmas.List.{map-append}
 use Rattle.bus_text.specs.NumberLaws.{decimal_field, decimal_is}
 use Rattle.bus_dump.specs.DumpTexts.{behind_text, bits_text, changes, changes_at, changes_to, declaration, first_values, head_text, id_text, last_stamp, name_text, some_changes, stamp, text_of, value_line, value_text, width_text}
+use Rattle.bus_dump.specs.Lanes.{lanes}
+use Rattle.bus_dump.specs.Laws.{StampsAreTold}
 use Rattle.bus_dump.specs.Reading.{line_of}
-use Rattle.bus_dump.specs.Scenes.{Scene}
-use Rattle.bus_dump.specs.Signals.{Signal, value}
+use Rattle.bus_dump.specs.Scenes.{Scene, scene_at}
+use Rattle.bus_dump.specs.Signals.{Signal, signals, value}
 use Rattle.bus_dump.specs.Stamps.{Rises, StampsAre, is_change, stamped, stamps, time_of}
 use Rattle.bus_dump.proofs.ReadLemmas.{Feedless, IsSmall, feedless_join, feedless_test, field_feedless, good_id, line_first, value_feedless, value_line_of}
 use Rattle.bus_dump.proofs.ReadThroughLemmas.{declaration_feedless, small_filter}
+use Rattle.bus_dump.proofs.SmallLemmas.{signals_small}
 
 -- ---- lines
 abbrev none : List ℕ
@@ -228,3 +231,10 @@ stamps_are comment ss scene horizon plain small low =
       front = five (0 ∷ inner);
       last = λ some. are ∙ ap five (ends ss scene horizon some) ∙ map-append (λ u. 5 * u) (0 ∷ inner) (horizon ∷ []);
     }
+
+-- ---- the law
+pub stamps_told : StampsAreTold
+stamps_told dump comment table trace valid is plain =
+    let limit : trace.horizon ≤ 2 ^ 40 = is.horizon in
+    stamps_are comment (signals dump (lanes table trace.list)) (scene_at dump table trace.list) trace.horizon plain
+    (signals_small dump table trace.list valid) (omega arith)

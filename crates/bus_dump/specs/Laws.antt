@@ -1,16 +1,20 @@
 -- What follows of the definitions. The contracts of `laws` say that each of these holds.
-use Rattle.std.specs.Prelude.{◌≡◌, ◌≢◌, ◌↔◌, ◌⊎◌, ℕ, ◌-◌, ◌*◌, ◌<◌, true, false, ◌&&◌, ◌||◌, ◌==◌, nat_lt, List, [], ◌++◌, length}
-use Rattle.std.specs.Prelude.{slice_get, Some, None, IsTrue}
+use Rattle.std.specs.Prelude.{◌≡◌, ◌≢◌, ◌↔◌, ◌⊎◌, ℕ, ◌+◌, ◌-◌, ◌*◌, ◌/◌, ◌%◌, ◌<◌, ◌≤◌, Bool, true, false, ◌&&◌, ◌||◌, ◌==◌, nat_le, nat_lt}
+use Rattle.std.specs.Prelude.{List, [], ◌∷◌, ◌++◌, length, slice_get, Option, Some, None, IsTrue, if◌then◌else◌}
 use Rattle.std.specs.List.{AllByRecursion, count_by, filter, flat_map, list_any, range_with_len}
-use Rattle.std.specs.Option.{option_map_or}
+use Rattle.std.specs.Option.{is_some, option_map_or}
 use Rattle.bus_text.specs.Lines.{is_feed}
+use Rattle.bus_strings.specs.Limits.{word_bits}
 use Rattle.bus_strings.specs.Members.{In}
 use Rattle.bus_strings.specs.Messages.{Entry}
 use Rattle.bus_strings.specs.Transmissions.{IsOrdered, carrier, garbled, overlaps, pulses}
 use Rattle.bus_table.specs.Hands.{are_hands}
 use Rattle.bus_table.specs.Tables.{Hand, Sender, Table}
 use Rattle.bus_table.specs.Valid.{is_valid}
+use Rattle.bus_timers.specs.declared.timing.Timing.{Timing}
+use Rattle.bus_timers.specs.MayStart.{IsQuiet, IsSync}
 use Rattle.bus_timers.specs.MayStartTest.{may_start}
+use Rattle.bus_timers.specs.Timings.{due_place}
 use Rattle.bus_regime.specs.Lines.{verdict_words}
 use Rattle.bus_regime.specs.Verdicts.{verdict_of}
 use Rattle.bus_trace.specs.Traces.{Recording, IsTrace}
@@ -20,33 +24,48 @@ use Rattle.bus_medium.specs.Timings.{quiet_of, stations_of, timing_of}
 use Rattle.bus_dump.specs.declared.dump.Dump.{Dump}
 use Rattle.bus_dump.specs.declared.dump.Dump.TheVariants.{Timers}
 use Rattle.bus_dump.specs.Doubled.{doubled}
-use Rattle.bus_dump.specs.DumpTexts.{changes, changes_at, dump_text, id_text, stamp, units, value_line}
+use Rattle.bus_dump.specs.DumpTexts.{changes, changes_at, dump_text, id_text, name_text, stamp, units, value_line}
 use Rattle.bus_dump.specs.Lanes.{Lane, is_sender, lanes, sends}
-use Rattle.bus_dump.specs.Reading.{read}
-use Rattle.bus_dump.specs.Scenes.{Scene, elapsed_at, scene_at}
-use Rattle.bus_dump.specs.Seen.{holds}
-use Rattle.bus_dump.specs.Signals.{Signal, Carrier, Overlap, Word, Pulse, Garbled, Interval, Synchronization, Gap, May, signals}
-use Rattle.bus_dump.specs.Signals.{Bit, Floating, Unknown, value}
+use Rattle.bus_dump.specs.OnBus.{Bit as StringBit, bit_at, label_value, sync_bits, word_at}
+use Rattle.bus_dump.specs.Reading.{identifier, read_named}
+use Rattle.bus_dump.specs.SaveFiles.{save_text, shown}
+use Rattle.bus_dump.specs.Scenes.{Scene, scene_at}
+use Rattle.bus_dump.specs.Seen.{holds, number_of}
+use Rattle.bus_dump.specs.Signals.{Signal, Carrier, Overlap, Sync, Word, Pulse, Garbled, Label, Message, Interval, Synchronization, Gap, May}
+use Rattle.bus_dump.specs.Signals.{Bit, Floating, Number, Unknown, signals, value}
 use Rattle.bus_dump.specs.Stamps.{StampsAre, stamped}
 
+-- ---- texts
 -- A text without a line feed.
 abbrev pub HoldsNoFeed : List ℕ → Type 0
 HoldsNoFeed text = AllByRecursion (λ b. is_feed b ≡ false) text
 
--- A reader of Value Change Dumps finds in a dump, at each bit time below the horizon, the value of each of its signals there.
+-- A reader of Value Change Dumps finds in a dump, by the name of each of its signals, its value at each bit time below the horizon.
 abbrev pub DumpsAreRead : Type 0
 DumpsAreRead =
     (dump : Dump) (comment : List ℕ) (table : Table) (trace : Recording) (t : ℕ) (signal : Signal) → IsTrue (is_valid table) → IsTrace trace
     → HoldsNoFeed comment → t < trace.horizon → In signal (signals dump (lanes table trace.list))
-    → read (id_text signal) (units * t) (dump_text dump comment table trace) ≡ Some (value signal (scene_at dump table trace.list t))
+    → read_named (name_text signal) (units * t) (dump_text dump comment table trace) ≡ Some (value signal (scene_at dump table trace.list t))
 
 -- So it is of the dumps that are written of traces on a table, whose comment is the words of its verdict.
 abbrev pub WrittenDumpsAreRead : Table → Type 0
 WrittenDumpsAreRead table =
     (dump : Dump) (trace : Recording) (t : ℕ) (signal : Signal) → IsTrue (is_valid table) → IsTrace trace
     → t < trace.horizon → In signal (signals dump (lanes table trace.list))
-    → read (id_text signal) (units * t) (dump_text dump (verdict_words (verdict_of table)) table trace)
+    → read_named (name_text signal) (units * t) (dump_text dump (verdict_words (verdict_of table)) table trace)
     ≡ Some (value signal (scene_at dump table trace.list t))
+
+-- A dump declares for the name of each of its signals the identifier of it, and different signals have different identifiers.
+abbrev pub NamesAreDeclared : Type 0
+NamesAreDeclared =
+    (dump : Dump) (comment : List ℕ) (table : Table) (trace : Recording) (signal : Signal) → IsTrue (is_valid table) → IsTrace trace
+    → HoldsNoFeed comment → In signal (signals dump (lanes table trace.list))
+    → identifier (name_text signal) (dump_text dump comment table trace) ≡ Some (id_text signal)
+
+abbrev pub IdentifiersDiffer : Type 0
+IdentifiersDiffer =
+    (dump : Dump) (table : Table) (list : List Entry) (a b : Signal) → IsTrue (is_valid table)
+    → In a (signals dump (lanes table list)) → In b (signals dump (lanes table list)) → id_text a ≡ id_text b → a ≡ b
 
 -- The stamps of a dump are those of 0, of each bit time at which something changes, and of the horizon, and rise strictly.
 abbrev pub StampsAreTold : Type 0
@@ -55,6 +74,49 @@ StampsAreTold =
     → StampsAre (stamped (signals dump (lanes table trace.list)) (scene_at dump table trace.list) trace.horizon) trace.horizon
     (dump_text dump comment table trace)
 
+-- So it is of the dumps that are written of traces on a table.
+abbrev pub WrittenStampsAreTold : Table → Type 0
+WrittenStampsAreTold table =
+    (dump : Dump) (trace : Recording) → IsTrue (is_valid table) → IsTrace trace
+    → StampsAre (stamped (signals dump (lanes table trace.list)) (scene_at dump table trace.list) trace.horizon) trace.horizon
+    (dump_text dump (verdict_words (verdict_of table)) table trace)
+
+-- At a bit time behind 0 no signal has another value than before, and nothing is written of it.
+pub record StaysSame (signals : List Signal) (scene : ℕ → Scene) (t : ℕ) : Type 0 where
+  pub same : AllByRecursion (λ signal. value signal (scene (t - 1)) ≡ value signal (scene t)) signals
+  pub text : changes_at signals scene t ≡ []
+
+-- Or one has, and the stamp of the bit time is written, and the value of each that has another.
+pub record Changes (signals : List Signal) (scene : ℕ → Scene) (t : ℕ) : Type 0 where
+  pub signal : Signal
+  pub there : In signal signals
+  pub other : value signal (scene (t - 1)) ≢ value signal (scene t)
+  pub which : (s : Signal)
+      → (changes (scene (t - 1)) (scene t) s ≡ true) ↔ (value s (scene (t - 1)) ≢ value s (scene t))
+  pub text : changes_at signals scene t
+      ≡ stamp t ++ flat_map (value_line (scene t)) (filter (changes (scene (t - 1)) (scene t)) signals)
+
+abbrev pub NothingIsIdle : Type 0
+NothingIsIdle = (signals : List Signal) (scene : ℕ → Scene) (t : ℕ) → StaysSame signals scene t ⊎ Changes signals scene t
+
+-- A text is empty, or ends with a line feed.
+abbrev pub EndsLine : List ℕ → Type 0
+EndsLine text = (text ≡ []) ⊎ ((line : List ℕ) × (text ≡ line ++ 10 ∷ []))
+
+-- A signal is shown by a line of a text.
+pub record Shows (signal : Signal) (text : List ℕ) : Type 0 where
+  pub front : List ℕ
+  pub behind : List ℕ
+  pub parts : text ≡ front ++ shown signal ++ behind
+  pub line : EndsLine front
+
+-- The save file shows each signal of each dump.
+abbrev pub AllAreShown : Type 0
+AllAreShown =
+    (dump : Dump) (table : Table) (list : List Entry) (signal : Signal) → In signal (signals dump (lanes table list))
+    → Shows signal (save_text table list)
+
+-- ---- lanes
 -- How many of the lanes are of a terminal.
 abbrev pub lane_count : Table → List Entry → ℕ → ℕ
 lane_count table list n = count_by (λ (lane : Lane). lane.terminal == n) (lanes table list)
@@ -71,6 +133,7 @@ pub record LanesAgree (table : Table) (list : List Entry) : Type 0 where
 abbrev pub LanesAreTerminals : Type 0
 LanesAreTerminals = (table : Table) (trace : Recording) → IsTrue (is_valid table) → IsTrace trace → LanesAgree table trace.list
 
+-- ---- wires
 -- The carrier is that of the list.
 abbrev pub CarrierIsTold : Type 0
 CarrierIsTold =
@@ -96,20 +159,78 @@ GarbledAreTold =
     ≡ Bit (list_any (λ k. option_map_or (λ x. holds t x && x.terminal == n && garbled list k) (slice_get list k) false)
     (range_with_len 0 (length list)))
 
--- Nothing is on the bus exactly where no transmission has a pulse, and what is there can't be told exactly where two or more have one.
+-- ---- words and numbers
+-- The bit time of a wordstring that a transmission has on the bus at bit time t, and None where it is quiet.
+abbrev pub bit_on : ℕ → Entry → Option StringBit
+bit_on t x = if nat_le x.moment t then bit_at x.message (t - x.moment) else None
+
+-- Whether a transmission has one of the first bit times of a word on the bus, its sync.
+abbrev pub is_in_sync : ℕ → Entry → Bool
+is_in_sync t x = option_map_or (λ (bit : StringBit). nat_lt (bit.at % word_bits) sync_bits) (bit_on t x) false
+
+-- There is sync where a transmission is in it.
+abbrev pub SyncIsTold : Type 0
+SyncIsTold =
+    (dump : Dump) (table : Table) (list : List Entry) (t : ℕ)
+    → value Sync (scene_at dump table list t) ≡ Bit (list_any (is_in_sync t) list)
+
+-- A transmission has a bit time of a wordstring on the bus where it has a pulse.
+abbrev pub BitsArePulses : Type 0
+BitsArePulses = (t : ℕ) (x : Entry) → is_some (bit_on t x) ≡ pulses t x
+
+-- Nothing is on the bus exactly where no transmission has a pulse; where one has, its word is; and what is there can't be told exactly
+-- where two or more have one.
 pub record WordAgrees (dump : Dump) (table : Table) (list : List Entry) (t : ℕ) : Type 0 where
   pub floating : (value Word (scene_at dump table list t) ≡ Floating) ↔ (count_by (pulses t) list ≡ 0)
+  pub number : (x : Entry) (bit : StringBit) → In x list → bit_on t x ≡ Some bit → count_by (pulses t) list ≡ 1
+      → value Word (scene_at dump table list t) ≡ Number (word_at bit.string (bit.at / word_bits))
   pub unknown : (value Word (scene_at dump table list t) ≡ Unknown) ↔ (1 < count_by (pulses t) list)
 
 abbrev pub WordIsTold : Type 0
 WordIsTold = (dump : Dump) (table : Table) (list : List Entry) (t : ℕ) → WordAgrees dump table list t
 
--- There is an overlap at some bit time exactly where some terminal is garbled at some bit time.
+-- A terminal has the label word of the wordstring that its transmission has on the bus, and none where it has no pulse.
+pub record LabelAgrees (dump : Dump) (table : Table) (list : List Entry) (t n : ℕ) : Type 0 where
+  pub floating : list_any (λ (x : Entry). x.terminal == n && pulses t x) list ≡ false
+      → value (Label n) (scene_at dump table list t) ≡ Floating
+  pub number : (x : Entry) (bit : StringBit) → In x list → x.terminal ≡ n → bit_on t x ≡ Some bit
+      → value (Label n) (scene_at dump table list t) ≡ Number (label_value bit.string)
+
+abbrev pub LabelsAreTold : Type 0
+LabelsAreTold =
+    (dump : Dump) (table : Table) (list : List Entry) (t n : ℕ) → doubled list ≡ None → LabelAgrees dump table list t n
+
+-- A terminal has the number of its transmission whose span holds the bit time, counted among its own, and none where there is no such.
+pub record MessageAgrees (dump : Dump) (table : Table) (list : List Entry) (t n : ℕ) : Type 0 where
+  pub floating : list_any (λ (x : Entry). x.terminal == n && holds t x) list ≡ false
+      → value (Message n) (scene_at dump table list t) ≡ Floating
+  pub number : (k : ℕ) (x : Entry) → slice_get list k ≡ Some x → x.terminal ≡ n → holds t x ≡ true
+      → value (Message n) (scene_at dump table list t) ≡ Number (number_of list k n)
+
+abbrev pub MessagesAreTold : Type 0
+MessagesAreTold =
+    (dump : Dump) (table : Table) (list : List Entry) (t n : ℕ) → doubled list ≡ None → MessageAgrees dump table list t n
+
+-- ---- overlaps
+-- A dump shows an overlap at a bit time below the horizon.
+pub record OverlapIsShown (dump : Dump) (table : Table) (trace : Recording) : Type 0 where
+  pub time : ℕ
+  pub below : time < trace.horizon
+  pub overlap : value Overlap (scene_at dump table trace.list time) ≡ Bit true
+
+-- A dump shows a terminal that has a lane garbled at a bit time below the horizon.
+pub record GarbledIsShown (dump : Dump) (table : Table) (trace : Recording) : Type 0 where
+  pub time : ℕ
+  pub below : time < trace.horizon
+  pub lane : Lane
+  pub there : In lane (lanes table trace.list)
+  pub garbled : value (Garbled lane.terminal) (scene_at dump table trace.list time) ≡ Bit true
+
+-- A dump shows an overlap exactly where it shows a garbled terminal.
 abbrev pub OverlapsGarble : Type 0
 OverlapsGarble =
-    (dump : Dump) (table : Table) (list : List Entry) → AllByRecursion (λ x. 0 < length x.message) list
-    → ((t : ℕ) × (value Overlap (scene_at dump table list t) ≡ Bit true))
-    ↔ ((t : ℕ) × (n : ℕ) × (value (Garbled n) (scene_at dump table list t) ≡ Bit true))
+    (dump : Dump) (table : Table) (trace : Recording) → IsTrue (is_valid table) → IsTrace trace
+    → OverlapIsShown dump table trace ↔ GarbledIsShown dump table trace
 
 -- A dump shows no overlap at a bit time: there is none, no terminal is garbled, and what is on the bus can be told.
 pub record ShowsNoOverlap (dump : Dump) (table : Table) (list : List Entry) (t : ℕ) : Type 0 where
@@ -123,6 +244,7 @@ ClearListsShowNone =
     (dump : Dump) (table : Table) (list : List Entry) (t : ℕ) → IsOrdered (λ x y. overlaps x y ≡ false) list
     → ShowsNoOverlap dump table list t
 
+-- ---- timers
 -- A sender may start where its timers allow it, after the past of the list.
 abbrev pub StartsAreTold : Type 0
 StartsAreTold =
@@ -131,20 +253,31 @@ StartsAreTold =
     ≡ Bit (may_start (timing_of table sender) (past (quiet_of table) list t)
     (last_place (quiet_of table) (own list sender.number t)))
 
--- The timers of a sender: it may start where the transmit interval and the terminal gap have elapsed, and this gap has only where the
--- synchronization gap has.
-pub record TimersAgree (table : Table) (list : List Entry) (t : ℕ) (sender : Sender) : Type 0 where
-  pub own : value (Interval sender.number) (scene_at Timers table list t) ≡ Bit (elapsed_at table list t sender).interval
-  pub synchronization : value (Synchronization sender.number) (scene_at Timers table list t)
-      ≡ Bit (elapsed_at table list t sender).synchronization
-  pub gap : value (Gap sender.number) (scene_at Timers table list t) ≡ Bit (elapsed_at table list t sender).gap
-  pub may : (elapsed_at table list t sender).may ≡ ((elapsed_at table list t sender).interval && (elapsed_at table list t sender).gap)
-  pub behind : (elapsed_at table list t sender).gap ≡ true → (elapsed_at table list t sender).synchronization ≡ true
+-- The synchronization gap has elapsed somewhere in the past, with room for so many bit times behind it.
+abbrev pub Synchronizes : ℕ → ℕ → List Bool → Option ℕ → Type 0
+Synchronizes sg room heard last = (e : ℕ) × (e + room ≤ length heard) × IsSync sg heard last e
+
+-- The terminal gap has elapsed: what `MayStart` asks besides the transmit interval.
+pub record GapElapsed (timing : Timing) (heard : List Bool) (last : Option ℕ) : Type 0 where
+  pub synchronized : Synchronizes timing.sg timing.tg heard last
+  pub gap_fits : timing.tg ≤ length heard
+  pub gap : IsQuiet heard (length heard - timing.tg) (length heard)
+
+-- The wires of the timers of the sender with this number, after what it has heard and the place of its last own start. It may start where
+-- the transmit interval and the terminal gap have elapsed, and this gap has only where the synchronization gap has.
+pub record TimersAgree (scene : Scene) (number : ℕ) (timing : Timing) (heard : List Bool) (last : Option ℕ) : Type 0 where
+  pub interval : (value (Interval number) scene ≡ Bit true) ↔ (due_place timing last ≤ length heard)
+  pub synchronization : (value (Synchronization number) scene ≡ Bit true) ↔ Synchronizes timing.sg 0 heard last
+  pub gap : (value (Gap number) scene ≡ Bit true) ↔ GapElapsed timing heard last
+  pub may : (value (May number) scene ≡ Bit true)
+      ↔ ((value (Interval number) scene ≡ Bit true) × (value (Gap number) scene ≡ Bit true))
+  pub behind : value (Gap number) scene ≡ Bit true → value (Synchronization number) scene ≡ Bit true
 
 abbrev pub TimersAreTold : Type 0
 TimersAreTold =
     (table : Table) (list : List Entry) (t : ℕ) (sender : Sender) → IsTrue (is_valid table) → In sender table.senders
-    → TimersAgree table list t sender
+    → TimersAgree (scene_at Timers table list t) sender.number (timing_of table sender) (past (quiet_of table) list t)
+    (last_place (quiet_of table) (own list sender.number t))
 
 -- Of what the senders of a table send by their timers, a sender starts exactly where the wire says that it may and it has a message left.
 abbrev pub StartsAreSeen : Type 0
@@ -160,15 +293,3 @@ abbrev pub LawfulIsSingle : Type 0
 LawfulIsSingle =
     (table : Table) (hands : List Hand) (horizon : ℕ) (list : List Entry) → IsTrue (is_valid table) → IsTrue (are_hands table.senders hands)
     → IsLawful (quiet_of table) (stations_of table hands) horizon list → doubled list ≡ None
-
--- Behind bit time 0 nothing is written of a bit time at which no signal has another value than before; else its stamp is, and of each
--- signal that has one its value.
-pub record Changes (signals : List Signal) (scene : ℕ → Scene) (t : ℕ) : Type 0 where
-  pub signal : Signal
-  pub there : In signal signals
-  pub other : value signal (scene (t - 1)) ≢ value signal (scene t)
-  pub text : changes_at signals scene t
-      ≡ stamp t ++ flat_map (value_line (scene t)) (filter (changes (scene (t - 1)) (scene t)) signals)
-
-abbrev pub NothingIsIdle : Type 0
-NothingIsIdle = (signals : List Signal) (scene : ℕ → Scene) (t : ℕ) → (changes_at signals scene t ≡ []) ⊎ Changes signals scene t

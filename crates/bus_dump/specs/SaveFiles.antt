@@ -1,18 +1,16 @@
 -- The text of a save file of GTKWave: what the viewer shows of the dumps of a trace, in which order, and how.
-use Rattle.std.specs.Prelude.{◌≡◌, ℕ, ◌==◌, List, [], ◌++◌, codes, decimal, drop, if◌then◌else◌}
+use Rattle.std.specs.Prelude.{ℕ, ◌==◌, List, [], ◌++◌, codes, decimal, drop, if◌then◌else◌}
 use Rattle.std.specs.List.{find, flat_map}
 use Rattle.std.specs.Option.{option_map_or}
-use Rattle.bus_strings.specs.Members.{In}
 use Rattle.bus_strings.specs.Messages.{Entry}
 use Rattle.bus_table.specs.Tables.{Sender, Table}
 use Rattle.bus_table.specs.declared.mode.Mode.{Mode}
 use Rattle.bus_table.specs.declared.mode.Mode.TheVariants.{Aperiodic, Periodic}
-use Rattle.bus_dump.specs.declared.dump.Dump.{Dump}
 use Rattle.bus_dump.specs.declared.lane.Lane.{Lane}
 use Rattle.bus_dump.specs.DumpTexts.{bits_text, name_text}
 use Rattle.bus_dump.specs.Lanes.{lanes}
 use Rattle.bus_dump.specs.Signals.{Signal, Carrier, Overlap, Sync, Word, Pulse, Garbled, Label, Message, Interval, Synchronization, Gap}
-use Rattle.bus_dump.specs.Signals.{May, signals}
+use Rattle.bus_dump.specs.Signals.{May}
 
 -- ---- lines
 -- A heading between signals.
@@ -78,16 +76,3 @@ abbrev pub save_text : Table → List Entry → List ℕ
 save_text table list =
     bus_shown ++ (heading (codes "labels") ++ as_hexadecimal) ++ flat_map label_shown (lanes table list)
     ++ flat_map (lane_shown table) (lanes table list)
-
--- ---- a law
--- A signal is shown by a text.
-pub record Shows (signal : Signal) (text : List ℕ) : Type 0 where
-  pub front : List ℕ
-  pub behind : List ℕ
-  pub parts : text ≡ front ++ shown signal ++ behind
-
--- Each signal of each dump is shown.
-abbrev pub AllAreShown : Type 0
-AllAreShown =
-    (dump : Dump) (table : Table) (list : List Entry) (signal : Signal) → In signal (signals dump (lanes table list))
-    → Shows signal (save_text table list)

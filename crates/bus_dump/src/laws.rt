@@ -1,8 +1,9 @@
 //! Laws of the definitions, each the contract of a function that does nothing.
-ghost use Rattle.bus_dump.specs.Laws.{CarrierIsTold, ClearListsShowNone, DumpsAreRead, GarbledAreTold, LanesAreTerminals, LawfulIsSingle};
-ghost use Rattle.bus_dump.specs.Laws.{NothingIsIdle, OverlapsAreTold, OverlapsGarble, PulsesAreTold, StampsAreTold, StartsAreSeen, StartsAreTold};
-ghost use Rattle.bus_dump.specs.Laws.{TimersAreTold, WordIsTold, WrittenDumpsAreRead};
-ghost use Rattle.bus_dump.specs.SaveFiles.{AllAreShown};
+ghost use Rattle.bus_dump.specs.Laws.{AllAreShown, BitsArePulses, CarrierIsTold, ClearListsShowNone, DumpsAreRead, GarbledAreTold};
+ghost use Rattle.bus_dump.specs.Laws.{IdentifiersDiffer, LabelsAreTold, LanesAreTerminals, LawfulIsSingle, MessagesAreTold};
+ghost use Rattle.bus_dump.specs.Laws.{NamesAreDeclared, NothingIsIdle, OverlapsAreTold, OverlapsGarble, PulsesAreTold, StampsAreTold};
+ghost use Rattle.bus_dump.specs.Laws.{StartsAreSeen, StartsAreTold, SyncIsTold, TimersAreTold, WordIsTold, WrittenDumpsAreRead};
+ghost use Rattle.bus_dump.specs.Laws.{WrittenStampsAreTold};
 
 use crate::comment::holds_no_feed;
 use bus_regime::verdict;
@@ -10,8 +11,8 @@ use bus_strings::laws::neighbours_tell;
 use bus_table::table::Table;
 use bus_timers::laws::test_decides;
 
-/// A reader of Value Change Dumps (`specs/Reading.antt`) finds in a dump, at each bit time below the horizon, exactly the value that each
-/// of its signals has there.
+/// A reader of Value Change Dumps (`specs/Reading.antt`) finds in a dump, by the name of each of its signals, exactly the value that this
+/// signal has at each bit time below the horizon.
 pub fn dumps_are_read()
     ensures { DumpsAreRead }
 {}
@@ -23,12 +24,26 @@ pub fn written_dumps_are_read(table: &Table)
     holds_no_feed(verdict(table));
 }
 
+/// A dump declares the identifier of each of its signals beside the name of it, and no two of them have the same identifier.
+pub fn names_are_declared()
+    ensures names { NamesAreDeclared }
+    ensures differ { IdentifiersDiffer }
+{}
+
 /// The stamps of a dump rise strictly: 0, five times each bit time at which something changes, and last five times the horizon.
 pub fn stamps_are_told()
     ensures { StampsAreTold }
 {}
 
-/// At each bit time behind the first either nothing is written, or its stamp and at least one value that isn't the one before.
+/// So do those of each dump that is written of a trace on this table.
+pub fn written_stamps_are_told(table: &Table)
+    ensures { WrittenStampsAreTold table.now }
+{
+    holds_no_feed(verdict(table));
+}
+
+/// At each bit time behind the first either no signal has another value than before, and nothing is written; or one has, and the stamp
+/// is written and the value of each signal that has another than before.
 pub fn nothing_is_idle()
     ensures { NothingIsIdle }
 {}
@@ -44,14 +59,23 @@ pub fn wires_are_told()
     ensures pulses { PulsesAreTold }
     ensures overlaps { OverlapsAreTold }
     ensures garbled { GarbledAreTold }
+    ensures sync { SyncIsTold }
 {}
 
-/// The word on the bus: nothing where no transmission has a pulse, and no one can tell where two or more have one.
+/// The word on the bus: nothing where no transmission has a pulse, the word of the one that has, and no one can tell where two or more
+/// have one.
 pub fn word_is_told()
-    ensures { WordIsTold }
+    ensures word { WordIsTold }
+    ensures bits { BitsArePulses }
 {}
 
-/// There is an overlap at some bit time exactly where some terminal is garbled at some bit time.
+/// The label word of the wordstring that a terminal has on the bus, and the number of its transmission.
+pub fn numbers_are_told()
+    ensures labels { LabelsAreTold }
+    ensures messages { MessagesAreTold }
+{}
+
+/// A dump shows an overlap below the horizon exactly where it shows a terminal garbled there.
 pub fn overlaps_garble()
     ensures { OverlapsGarble }
 {
@@ -67,7 +91,9 @@ pub fn clear_lists_show_none()
 pub fn timers_are_told()
     ensures starts { StartsAreTold }
     ensures timers { TimersAreTold }
-{}
+{
+    test_decides();
+}
 
 /// Of what the senders of a table send by their timers, a sender starts at a bit time below the horizon exactly where the wire of its
 /// timers says that it may, and it has a message left.
@@ -83,7 +109,7 @@ pub fn lawful_is_single()
     ensures { LawfulIsSingle }
 {}
 
-/// The save file shows each signal of each dump.
+/// The save file has a line that shows each signal of each dump.
 pub fn all_are_shown()
     ensures { AllAreShown }
 {}

@@ -8,8 +8,8 @@
 //!
 //! The definitions are in `specs/`, by bit times: `OnBus` (what a message has on the bus), `Seen` (what is seen of a list at a bit
 //! time), `Timers` (what the timers of a sender tell), `Scenes` (both), `Signals` (the value of each signal of that), `Lanes` (the
-//! terminals that have signals), `Doubled`, `DumpTexts` (the text), `Reading` (what a reader of such a text finds),
-//! and `SaveFiles`.
+//! terminals that have signals), `Doubled`, `DumpTexts` (the text), `Reading` (what a reader of such a text finds), `Stamps` (the times
+//! of its lines), `SaveFiles`, and `Laws` (what follows of all these).
 //! No call takes memory.
 #![tactic(auto)]
 

@@ -1,6 +1,7 @@
 use Rattle.std.proofs.Common.{ap, ltb}
 use Rattle.bus_dump.specs.Signals.{Bit}
 use Rattle.bus_dump.proofs.LawLemmas.{carrier_seen, garbled_seen, held_seen, pulse_seen}
+use Rattle.bus_dump.proofs.NumberLemmas.{sync_seen}
 use Rattle.bus_dump.proofs.laws.wires_are_told.Goals as goal
 
 pub returns-clause-carrier : goal.returns-clause-carrier
@@ -14,3 +15,6 @@ returns-clause-overlaps c dump table list t = ap (λ k. Bit (ltb 1 k)) (held_see
 
 pub returns-clause-garbled : goal.returns-clause-garbled
 returns-clause-garbled c dump table list t n = ap Bit (garbled_seen list t n)
+
+pub returns-clause-sync : goal.returns-clause-sync
+returns-clause-sync c dump table list t = ap Bit (sync_seen list t)
