@@ -10,7 +10,7 @@ use Rattle.bus_dump.specs.declared.layout.Layout.{Layout}
 use Rattle.bus_dump.specs.Doubled.{doubled}
 use Rattle.bus_dump.specs.DumpTexts.{behind_text, changes_at, changes_text, changes_to, declaration, dump_text, first_values, head_text, last_stamp}
 use Rattle.bus_dump.specs.Lanes.{lanes}
-use Rattle.bus_dump.specs.Layouts.{bit_times_put, signals_of}
+use Rattle.bus_dump.specs.Layouts.{bit_times_put, layout_signals}
 use Rattle.bus_dump.specs.Scenes.{Scene, elapsed_at, scene_at, timed}
 use Rattle.bus_dump.specs.Seen.{Seen, seen_at}
 use Rattle.bus_dump.specs.Signals.{Signal, signals}
@@ -65,11 +65,11 @@ last_put ss at first t until horizon low later past steady = ap (λ x. first ++ 
 
 -- the whole
 pub whole_put : (dump : Dump) (comment : List ℕ) (table : Table) (t : Recording) (layout : Layout) (list : List Entry) (horizon : ℕ) → list ≡ t.list
-    → horizon ≡ t.horizon → layout.dump ≡ dump → signals_of layout ≡ signals dump (lanes table list)
-    → head_text comment ++ flat_map declaration (signals_of layout) ++ behind_text ++ bit_times_put table list horizon layout ++ last_stamp horizon
+    → horizon ≡ t.horizon → layout.dump ≡ dump → layout_signals layout ≡ signals dump (lanes table list)
+    → head_text comment ++ flat_map declaration (layout_signals layout) ++ behind_text ++ bit_times_put table list horizon layout ++ last_stamp horizon
     ≡ dump_text dump comment table t
 whole_put dump comment table t layout list horizon l h d s =
-    let ss = signals_of layout in
+    let ss = layout_signals layout in
     let front : List ℕ = head_text comment ++ flat_map declaration ss ++ behind_text in
     let at = scene_at layout.dump table list in
     ap (λ x. x ++ last_stamp horizon) (sym (append_assoc front (first_values ss (at 0)) (changes_to ss at horizon)))

@@ -14,8 +14,8 @@ use Rattle.bus_dump.specs.DumpTexts.{changes_to, declaration, first_values, valu
 use Rattle.bus_dump.specs.Walks.{change_put}
 
 -- The signals of a layout, in order.
-abbrev pub signals_of : Layout → List Signal
-signals_of layout = signals layout.dump layout.lanes.items
+abbrev pub layout_signals : Layout → List Signal
+layout_signals layout = signals layout.dump layout.lanes.items
 
 -- What is put of a lane: its declarations, the lines of its values, and of its changes.
 abbrev pub lane_declarations : Dump → Lane → List ℕ
@@ -30,8 +30,8 @@ lane_put dump before now lane = flat_map (change_put before now) (lane_signals d
 -- The values at bit time 0, and what changes behind it, where a layout is that of a list on a table.
 abbrev pub bit_times_put : Table → List Entry → ℕ → Layout → List ℕ
 bit_times_put table list horizon layout =
-    first_values (signals_of layout) (scene_at layout.dump table list 0)
-    ++ changes_to (signals_of layout) (scene_at layout.dump table list) horizon
+    first_values (layout_signals layout) (scene_at layout.dump table list 0)
+    ++ changes_to (layout_signals layout) (scene_at layout.dump table list) horizon
 
 -- For each terminal is kept whether it sends in the list.
 abbrev pub AreSending : List Entry → List Bool → Type 0

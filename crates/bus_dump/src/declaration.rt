@@ -8,7 +8,7 @@ use crate::signal::Signal;
 use bus_outer::{Sink, TextBuffer};
 
 // A letter and the number of a terminal.
-fn put_lane<K: Sink>(text: &mut TextBuffer, sink: &mut K, letter: u8, terminal: u8)
+fn put_lane_id<K: Sink>(text: &mut TextBuffer, sink: &mut K, letter: u8, terminal: u8)
     ensures { Adds K.held K.faults sink.old sink.new text.old text.new (letter ∷ decimal terminal) }
 {
     text.put_byte(sink, letter);
@@ -24,14 +24,14 @@ pub(crate) fn put_id<K: Sink>(text: &mut TextBuffer, sink: &mut K, signal: Signa
         Signal::Overlap => text.put_byte(sink, b'o'),
         Signal::Sync => text.put_byte(sink, b's'),
         Signal::Word => text.put_byte(sink, b'w'),
-        Signal::Pulse(terminal) => put_lane(text, sink, b'p', terminal),
-        Signal::Garbled(terminal) => put_lane(text, sink, b'g', terminal),
-        Signal::Label(terminal) => put_lane(text, sink, b'l', terminal),
-        Signal::Message(terminal) => put_lane(text, sink, b'm', terminal),
-        Signal::Interval(terminal) => put_lane(text, sink, b'i', terminal),
-        Signal::Synchronization(terminal) => put_lane(text, sink, b'y', terminal),
-        Signal::Gap(terminal) => put_lane(text, sink, b'h', terminal),
-        Signal::May(terminal) => put_lane(text, sink, b'r', terminal),
+        Signal::Pulse(terminal) => put_lane_id(text, sink, b'p', terminal),
+        Signal::Garbled(terminal) => put_lane_id(text, sink, b'g', terminal),
+        Signal::Label(terminal) => put_lane_id(text, sink, b'l', terminal),
+        Signal::Message(terminal) => put_lane_id(text, sink, b'm', terminal),
+        Signal::Interval(terminal) => put_lane_id(text, sink, b'i', terminal),
+        Signal::Synchronization(terminal) => put_lane_id(text, sink, b'y', terminal),
+        Signal::Gap(terminal) => put_lane_id(text, sink, b'h', terminal),
+        Signal::May(terminal) => put_lane_id(text, sink, b'r', terminal),
     }
 }
 

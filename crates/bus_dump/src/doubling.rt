@@ -1,10 +1,8 @@
 ghost use Rattle.std.specs.Prelude.{◌≡◌};
 ghost use Rattle.bus_dump.specs.Doubled as definition;
 
+use crate::live::TERMINALS;
 use bus_trace::Trace;
-
-// One more than the greatest terminal number.
-const TERMINALS: usize = 129;
 
 /// The first entry of the list of a trace, from 0, that starts before an earlier entry of its terminal has ended.
 pub fn doubled(trace: &Trace) -> Option<usize>

@@ -62,7 +62,7 @@ fn lane_changes(dump: Dump, lane: Lane, before: &Scene, now: &Scene) -> bool
 }
 
 // The lines of the signals of a lane that change.
-fn put_lane<K: Sink>(
+fn put_lane_changes<K: Sink>(
     text: &mut TextBuffer,
     sink: &mut K,
     dump: Dump,
@@ -92,7 +92,7 @@ fn any_lane_changes(dump: Dump, lanes: &[Lane], before: &Scene, now: &Scene) -> 
 }
 
 // The lines of the signals of these lanes that change.
-fn put_lanes<K: Sink>(
+fn put_all_changes<K: Sink>(
     text: &mut TextBuffer,
     sink: &mut K,
     dump: Dump,
@@ -105,7 +105,7 @@ fn put_lanes<K: Sink>(
 {
     let touched = touched(before, now);
     for lane in lanes {
-        put_lane(text, sink, dump, *lane, &touched, before, now);
+        put_lane_changes(text, sink, dump, *lane, &touched, before, now);
     }
 }
 
@@ -137,7 +137,7 @@ impl Layout {
     /// The signals of a dump of a list on a table.
     pub fn new(dump: Dump, table: &Table, list: &[Transmission]) -> Self
         ensures dump { result.dump ≡ dump }
-        ensures signals { layouts.signals_of result ≡ signals.signals dump (lanes table.now list.now) }
+        ensures signals { layouts.layout_signals result ≡ signals.signals dump (lanes table.now list.now) }
     {
         Layout {
             dump,
@@ -147,7 +147,7 @@ impl Layout {
 
     /// The declarations of the signals.
     pub fn put_declarations<K: Sink>(&self, text: &mut TextBuffer, sink: &mut K)
-        ensures { Adds K.held K.faults sink.old sink.new text.old text.new (flat_map texts.declaration (layouts.signals_of self.now)) }
+        ensures { Adds K.held K.faults sink.old sink.new text.old text.new (flat_map texts.declaration (layouts.layout_signals self.now)) }
     {
         put_declarations(text, sink, bus_signals(self.dump).as_slice());
         declare_lanes(text, sink, self.dump, self.lanes.as_slice());
@@ -156,7 +156,7 @@ impl Layout {
     /// The lines of the values of the signals in a scene.
     pub fn put_lines<K: Sink>(&self, text: &mut TextBuffer, sink: &mut K, scene: &Scene)
         ensures { Adds K.held K.faults sink.old sink.new text.old text.new
-            (flat_map (texts.value_line (scene_of scene.now)) (layouts.signals_of self.now)) }
+            (flat_map (texts.value_line (scene_of scene.now)) (layouts.layout_signals self.now)) }
     {
         put_lines(text, sink, bus_signals(self.dump).as_slice(), scene);
         put_lane_lines(text, sink, self.dump, self.lanes.as_slice(), scene);
@@ -164,7 +164,7 @@ impl Layout {
 
     // Whether any signal changes.
     fn any_changed(&self, before: &Scene, now: &Scene) -> bool
-        ensures { result ≡ list_any (texts.changes (scene_of before.now) (scene_of now.now)) (layouts.signals_of self.now) }
+        ensures { result ≡ list_any (texts.changes (scene_of before.now) (scene_of now.now)) (layouts.layout_signals self.now) }
     {
         any_changed(bus_signals(self.dump).as_slice(), before, now)
             || any_lane_changes(self.dump, self.lanes.as_slice(), before, now)
@@ -181,11 +181,11 @@ impl Layout {
     )
         requires { t < 2 ^ 60 }
         ensures { Adds K.held K.faults sink.old sink.new text.old text.new
-            (texts.some_changes (layouts.signals_of self.now) (scene_of before.now) (scene_of now.now) t) }
+            (texts.some_changes (layouts.layout_signals self.now) (scene_of before.now) (scene_of now.now) t) }
     {
         put_stamp(text, sink, t);
         put_changed(text, sink, bus_signals(self.dump).as_slice(), before, now);
-        put_lanes(text, sink, self.dump, self.lanes.as_slice(), before, now);
+        put_all_changes(text, sink, self.dump, self.lanes.as_slice(), before, now);
     }
 
     /// The stamp of bit time t and the lines of the signals that change there; nothing where none does.
@@ -199,7 +199,7 @@ impl Layout {
     )
         requires { t < 2 ^ 60 }
         ensures { Adds K.held K.faults sink.old sink.new text.old text.new
-            (texts.changes_text (layouts.signals_of self.now) (scene_of before.now) (scene_of now.now) t) }
+            (texts.changes_text (layouts.layout_signals self.now) (scene_of before.now) (scene_of now.now) t) }
     {
         if self.any_changed(before, now) {
             self.put_some(text, sink, before, now, t);

@@ -139,7 +139,7 @@ fn put_timers_of<K: Sink>(text: &mut TextBuffer, sink: &mut K, lane: Lane)
 }
 
 // The signals of a lane.
-fn put_lane<K: Sink>(text: &mut TextBuffer, sink: &mut K, table: &Table, lane: Lane)
+fn show_lane<K: Sink>(text: &mut TextBuffer, sink: &mut K, table: &Table, lane: Lane)
     ensures { Adds K.held K.faults sink.old sink.new text.old text.new (texts.lane_shown table.now lane) }
 {
     text.put(sink, b"@200\n-");
@@ -150,11 +150,11 @@ fn put_lane<K: Sink>(text: &mut TextBuffer, sink: &mut K, table: &Table, lane: L
 }
 
 // The signals of each lane.
-fn put_lanes<K: Sink>(text: &mut TextBuffer, sink: &mut K, table: &Table, lanes: &[Lane])
+fn show_lanes<K: Sink>(text: &mut TextBuffer, sink: &mut K, table: &Table, lanes: &[Lane])
     ensures { Adds K.held K.faults sink.old sink.new text.old text.new (flat_map (texts.lane_shown table.now) lanes.now) }
 {
     for lane in lanes {
-        put_lane(text, sink, table, *lane);
+        show_lane(text, sink, table, *lane);
     }
 }
 
@@ -175,6 +175,6 @@ pub fn write_save_file<K: Sink>(
     put_bus(&mut text, sink);
     text.put(sink, b"@200\n-labels\n@22\n");
     put_labels(&mut text, sink, lanes.as_slice());
-    put_lanes(&mut text, sink, table, lanes.as_slice());
+    show_lanes(&mut text, sink, table, lanes.as_slice());
     text.finish(sink)
 }

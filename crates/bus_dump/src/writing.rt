@@ -5,7 +5,7 @@ ghost use Rattle.bus_outer.specs.Texts.{Adds};
 ghost use Rattle.bus_regime.specs.Lines.{verdict_words};
 ghost use Rattle.bus_dump.specs.Doubled.{doubled};
 ghost use Rattle.bus_dump.specs.DumpTexts.{dump_text, first_values, last_stamp};
-ghost use Rattle.bus_dump.specs.Layouts.{bit_times_put, signals_of};
+ghost use Rattle.bus_dump.specs.Layouts.{bit_times_put, layout_signals};
 ghost use Rattle.bus_dump.specs.Walks.{IsWalkable};
 ghost use Rattle.bus_dump.specs.Watching.{scene_of};
 
@@ -24,7 +24,7 @@ use bus_trace::Trace;
 
 // The values at bit time 0.
 fn put_first<K: Sink>(text: &mut TextBuffer, sink: &mut K, layout: &Layout, scene: &Scene)
-    ensures { Adds K.held K.faults sink.old sink.new text.old text.new (first_values (signals_of layout.now) (scene_of scene.now)) }
+    ensures { Adds K.held K.faults sink.old sink.new text.old text.new (first_values (layout_signals layout.now) (scene_of scene.now)) }
 {
     text.put(sink, b"#0\n$dumpvars\n");
     layout.put_lines(text, sink, scene);

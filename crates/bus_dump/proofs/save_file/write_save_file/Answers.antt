@@ -16,8 +16,8 @@ returns g c =
     let found : c.lanes_of-lanes.result.items ≡ all = c.lanes_of-lanes.ensures ∙ ap (lanes table) c.list.ensures.value in
     let first : c.as_slice.result.now ≡ all = c.as_slice.ensures.value ∙ found in
     let second : c.as_slice-2.result.now ≡ all = c.as_slice-2.ensures.value ∙ found in
-    ends_text g.K.Sink.held g.K.Sink.faults c.args.sink.now c.put_lanes.new.sink c.finish.new.sink c.new-text.result c.put_lanes.new.text
+    ends_text g.K.Sink.held g.K.Sink.faults c.args.sink.now c.show_lanes.new.sink c.finish.new.sink c.new-text.result c.show_lanes.new.text
     c.finish.result _ c.finish.ensures
-    (subst (λ (t : List ℕ). Adds g.K.Sink.held g.K.Sink.faults c.args.sink.now c.put_lanes.new.sink c.new-text.result c.put_lanes.new.text t)
+    (subst (λ (t : List ℕ). Adds g.K.Sink.held g.K.Sink.faults c.args.sink.now c.show_lanes.new.sink c.new-text.result c.show_lanes.new.text t)
     (ap (λ a. labelled a c.as_slice-2.result.now) first ∙ ap (labelled all) second)
-    (c.put_bus.ensures ▸ c.put.ensures ▸ c.put_labels.ensures ▸ c.put_lanes.ensures)) c.new-text.ensures
+    (c.put_bus.ensures ▸ c.put.ensures ▸ c.put_labels.ensures ▸ c.show_lanes.ensures)) c.new-text.ensures

@@ -4,7 +4,7 @@ use Rattle.bus_outer.specs.TextLaws.{◌▸◌}
 use Rattle.bus_strings.specs.Messages.{Entry}
 use Rattle.bus_table.specs.Tables.{Sender}
 use Rattle.bus_dump.specs.DumpTexts.{first_values}
-use Rattle.bus_dump.specs.Layouts.{signals_of}
+use Rattle.bus_dump.specs.Layouts.{layout_signals}
 use Rattle.bus_dump.specs.Scenes.{Scene, elapsed_at, scene_at, timed}
 use Rattle.bus_dump.specs.Seen.{seen_at}
 use Rattle.bus_dump.specs.Watching.{StaysAs, scene_of}
@@ -35,7 +35,7 @@ loop-until-init g c =
       stays = subst (λ (l : List Entry). StaysAs (scene_at dump table l) 0 c.look-until.result) same
           (scene_stays dump table own 0 c.look-until.result c.look-until.ensures.steady (c.look-until.ensures.still table senders keeping));
       adds = subst (λ (t : List ℕ). Adds g.K.Sink.held g.K.Sink.faults c.args.sink.now c.put_first.new.sink c.args.text.now c.put_first.new.text t)
-          (first_is (signals_of c.args.layout.now) (scene_at dump table c.args.list.now) (scene_of c.look-until.new.now) now)
+          (first_is (layout_signals c.args.layout.now) (scene_at dump table c.args.list.now) (scene_of c.look-until.new.now) now)
           c.put_first.ensures;
     }
 
@@ -66,8 +66,8 @@ loop-until-preserved g c =
       stays = subst (λ (l : List Entry). StaysAs (scene_at dump table l) c.loop-until.until look.result) same
           (scene_stays dump table own c.loop-until.until look.result look.ensures.steady (look.ensures.still table senders keeping));
       adds = subst (λ (t : List ℕ). Adds g.K.Sink.held g.K.Sink.faults c.args.sink.now c.put_changes.new.sink c.args.text.now c.put_changes.new.text t)
-          (next_put (signals_of c.args.layout.now) (scene_at dump table c.args.list.now)
-          (first_values (signals_of c.args.layout.now) (scene_at dump table c.args.list.now 0)) c.loop-until.t c.loop-until.until
+          (next_put (layout_signals c.args.layout.now) (scene_at dump table c.args.list.now)
+          (first_values (layout_signals c.args.layout.now) (scene_at dump table c.args.list.now 0)) c.loop-until.t c.loop-until.until
           (scene_of c.take_over.new.self) (scene_of look.new.now) i.later i.stays was now)
           (i.adds ▸ c.put_changes.ensures);
     }
@@ -81,6 +81,6 @@ returns g c =
     let low : c.loop-until.t ≤ c.args.horizon - 1 = omega (arith, i.later, i.most, c.max-limit.ensures) in
     let at = scene_at c.args.layout.now.dump c.args.table.now c.args.list.now in
     subst (λ (t : List ℕ). Adds g.K.Sink.held g.K.Sink.faults c.args.sink.now c.loop-until.sink c.args.text.now c.loop-until.text t)
-    (last_put (signals_of c.args.layout.now) at (first_values (signals_of c.args.layout.now) (at 0)) c.loop-until.t c.loop-until.until
+    (last_put (layout_signals c.args.layout.now) at (first_values (layout_signals c.args.layout.now) (at 0)) c.loop-until.t c.loop-until.until
     c.args.horizon low i.later c.loop-until-test.false i.stays)
     i.adds

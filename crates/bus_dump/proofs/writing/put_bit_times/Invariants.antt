@@ -2,7 +2,7 @@ use Rattle.std.proofs.Common.{◌≡◌, ◌<◌, ◌≤◌, ◌-◌, ◌++◌}
 use Rattle.std.specs.List.{flat_map, range_with_len}
 use Rattle.bus_outer.specs.Texts.{Adds}
 use Rattle.bus_dump.specs.DumpTexts.{changes_at, first_values}
-use Rattle.bus_dump.specs.Layouts.{signals_of}
+use Rattle.bus_dump.specs.Layouts.{layout_signals}
 use Rattle.bus_dump.specs.Scenes.{scene_at, timed}
 use Rattle.bus_dump.specs.Seen.{seen_at}
 use Rattle.bus_dump.specs.Walks.{BeginsFrom, SteadyTo}
@@ -23,8 +23,8 @@ invariant-loop-until g l = record {
   steady : SteadyTo l.watch.walk.list.now l.t l.until;
   stays : StaysAs (scene_at l.layout.dump l.table l.list) l.t l.until;
   adds : Adds g.K.Sink.held g.K.Sink.faults l.fn.sink l.sink l.fn.text l.text
-      (first_values (signals_of l.layout) (scene_at l.layout.dump l.table l.list 0)
-      ++ flat_map (changes_at (signals_of l.layout) (scene_at l.layout.dump l.table l.list)) (range_with_len 1 l.t));
+      (first_values (layout_signals l.layout) (scene_at l.layout.dump l.table l.list 0)
+      ++ flat_map (changes_at (layout_signals l.layout) (scene_at l.layout.dump l.table l.list)) (range_with_len 1 l.t));
 }
 
 abbrev pub decreases-loop-until : goal.decreases-loop-until

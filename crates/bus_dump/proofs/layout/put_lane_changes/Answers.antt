@@ -3,7 +3,7 @@ use Rattle.bus_outer.specs.Texts.{Adds}
 use Rattle.bus_outer.specs.TextLaws.{adds_nothing}
 use Rattle.bus_dump.specs.Watching.{scene_of}
 use Rattle.bus_dump.proofs.LaneLemmas.{still_lane_put}
-use Rattle.bus_dump.proofs.layout.put_lane.Goals as goal
+use Rattle.bus_dump.proofs.layout.put_lane_changes.Goals as goal
 
 pub returns-then-not-touched-lane : goal.returns-then-not-touched-lane
 returns-then-not-touched-lane g c =

@@ -2,7 +2,7 @@ use Rattle.std.proofs.Common.{take}
 use Rattle.std.specs.List.{flat_map}
 use Rattle.bus_outer.specs.Texts.{Adds}
 use Rattle.bus_dump.specs.SaveFiles.{lane_shown}
-use Rattle.bus_dump.proofs.save_file.put_lanes.Given as goal
+use Rattle.bus_dump.proofs.save_file.show_lanes.Given as goal
 
 abbrev pub invariant-loop-lane : goal.invariant-loop-lane
 invariant-loop-lane g l =

@@ -1,5 +1,5 @@
 use Rattle.bus_outer.specs.TextLaws.{◌▸◌}
-use Rattle.bus_dump.proofs.save_file.put_lane.Goals as goal
+use Rattle.bus_dump.proofs.save_file.show_lane.Goals as goal
 
 pub returns : goal.returns
 returns g c = c.put.ensures ▸ c.put_title.ensures ▸ c.put_byte.ensures ▸ c.put_messages.ensures ▸ c.put_timers_of.ensures

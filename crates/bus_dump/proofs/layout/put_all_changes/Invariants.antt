@@ -3,7 +3,7 @@ use Rattle.std.specs.List.{flat_map}
 use Rattle.bus_outer.specs.Texts.{Adds}
 use Rattle.bus_dump.specs.Layouts.{lane_put}
 use Rattle.bus_dump.specs.Watching.{scene_of}
-use Rattle.bus_dump.proofs.layout.put_lanes.Given as goal
+use Rattle.bus_dump.proofs.layout.put_all_changes.Given as goal
 
 abbrev pub invariant-loop-lane : goal.invariant-loop-lane
 invariant-loop-lane g l =
