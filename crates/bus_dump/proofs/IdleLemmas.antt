@@ -4,7 +4,7 @@ use Rattle.std.specs.Prelude.{◌≢◌, ◌↔◌}
 use Rattle.std.specs.List.{AllByRecursion, list_any}
 use Rattle.std.proofs.lemmas.Bool.{cases_Bool, not-false, or_parts, true≢false}
 use Rattle.bus_strings.specs.Members.{In}
-use Rattle.bus_dump.specs.DumpTexts.{changes, changes_at, some_changes}
+use Rattle.bus_dump.specs.DumpTexts.{changes, some_changes}
 use Rattle.bus_dump.specs.Laws.{Changes, StaysSame}
 use Rattle.bus_dump.specs.Scenes.{Scene}
 use Rattle.bus_dump.specs.Signals.{Signal, value, is_same}

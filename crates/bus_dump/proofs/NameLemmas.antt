@@ -1,5 +1,5 @@
 -- A dump declares the name of each of its signals.
-use Rattle.std.proofs.Common.{◌≡◌, ℕ, ◌^◌, ◌<◌, Bool, true, false, not, ◌&&◌, ◌||◌, cond, eqb, List, [], ◌∷◌, ◌++◌, codes, decimal, Option, Some, None}
+use Rattle.std.proofs.Common.{◌≡◌, ℕ, ◌^◌, ◌<◌, true, false, not, ◌&&◌, cond, eqb, List, [], ◌∷◌, ◌++◌, codes, decimal, Some, None}
 use Rattle.std.proofs.Common.{inl, inr, arith, sym, refl, ap, ◌∙◌, append_assoc}
 use Rattle.std.specs.Prelude.{slice_get, slice_index_or}
 use Rattle.std.specs.Char.{is_ascii_digit}
