@@ -33,8 +33,6 @@ mod save_file;
 mod scene;
 mod shown;
 mod signal;
-#[cfg(test)]
-mod tests;
 mod touched;
 mod value;
 mod walk;

@@ -1,0 +1,58 @@
+//! What every test uses: a table, and what is written of a trace in memory.
+use bus_dump::{Dump, doubled, write_dump, write_save_file};
+use bus_outer::{MemorySink, MemorySource};
+use bus_regime::verdict;
+use bus_table::reading::read_table;
+use bus_table::table::Table;
+use bus_trace::{Trace, read_trace};
+use std::alloc::Global;
+use std::test::Fail;
+
+/// Two senders and a listener.
+pub(crate) const TABLE: &[u8] = b"TABLE 1
+MODE aperiodic
+TI 1000
+SG 1000
+SENDER 1 TG 20
+SEND 0A1 1 2 2
+SENDER 2 TG 30
+SEND 0B2 1 0 2
+TAKE 0A1 * 1 4
+LISTENER 3
+";
+
+/// What is written of a trace.
+#[derive(Clone, Copy)]
+pub(crate) enum Text {
+    Dump(Dump),
+    SaveFile,
+}
+
+/// A trace of its text.
+pub(crate) fn trace_of(alloc: Global, text: &[u8]) -> Result<Trace, Fail> {
+    let mut source = MemorySource::new(Vec::from_slice(alloc, text)?, 1000, Vec::new(alloc));
+    Ok(read_trace(alloc, &mut source)?)
+}
+
+/// What is written of a trace, whose sink never fails.
+pub(crate) fn written(
+    alloc: Global,
+    text: Text,
+    table: &[u8],
+    trace: &[u8],
+) -> Result<Vec<u8>, Fail> {
+    let table = read_table(alloc, table)?;
+    let trace = trace_of(alloc, trace)?;
+    let mut sink = MemorySink::new(alloc, 10000, 1000, Vec::new(alloc))?;
+    if doubled(&trace).is_some() {
+        return Err(Fail::new("an entry is doubled"));
+    }
+    let answer = match text {
+        Text::Dump(dump) => write_dump(dump, &verdict(&table), &table, &trace, &mut sink),
+        Text::SaveFile => write_save_file(&table, &trace, &mut sink),
+    };
+    if answer.is_err() {
+        return Err(Fail::new("the text isn't written"));
+    }
+    Ok(Vec::from_slice(alloc, sink.bytes())?)
+}
