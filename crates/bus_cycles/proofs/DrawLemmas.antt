@@ -1,7 +1,6 @@
 -- How a picture goes on, transmission by transmission.
 use Rattle.std.proofs.Common.{◌≡◌, ◌⊎◌, ℕ, ◌+◌, ◌<◌, ◌≤◌, Bool, true, false, cond, ◌&&◌, ◌||◌, leb, eqb, List, [], ◌∷◌, ◌++◌, length, get_or, set, replicate, Option, inl, inr, arith, sym, refl, ap, subst, ◌∙◌}
 use Rattle.std.proofs.Common.{append_assoc, append-nil}
-use Rattle.std.specs.List.{flat_map}
 use Rattle.std.proofs.lemmas.Bool.{cases_eq, cases_lt, eq-eqb, ne_eqb, le-leb, lt-leb}
 use Rattle.std.proofs.lemmas.List.{get_or-set_same, get_or-set_other, get_or-replicate, length-replicate}
 use Rattle.std.proofs.lemmas.List.Folds.{list_any-append}
@@ -13,7 +12,7 @@ use Rattle.bus_shapes.specs.declared.sent.Sent.{Sent}
 use Rattle.bus_shapes.specs.declared.scale.Scale.{Scale}
 use Rattle.bus_cycles.specs.Drawing.{Draws, Keeps, Reaches, more_text, new_text, next_row, next_text}
 use Rattle.bus_cycles.specs.Rows.{Cycle, Extent, Row, extent_of, is_new, row_at, rows_from, rows_of, with_sent}
-use Rattle.bus_cycles.specs.RowTexts.{box_behind, boxes, ending_text, is_reached, right_of, row_text, shade}
+use Rattle.bus_cycles.specs.RowTexts.{box_behind, boxes, ending_text, is_reached, right_of, row_text, shade, walk_text}
 
 -- ---- how far transmissions reach
 pub reaches_none : (scale : Scale) (begin : ℕ) → Reaches scale begin [] (replicate 4 0)
@@ -33,7 +32,7 @@ or_true : (b : Bool) → (b || true) ≡ true
 or_true true = refl
 or_true false = refl
 
-reached_more : (scale : Scale) (begin : ℕ) (earlier : List Sent) (sent : Sent) (tone right : ℕ)
+pub reached_more : (scale : Scale) (begin : ℕ) (earlier : List Sent) (sent : Sent) (tone right : ℕ)
     → is_reached scale begin (earlier ++ sent ∷ []) tone right
     ≡ (is_reached scale begin earlier tone right || (eqb (shade sent) tone && leb right (right_of scale begin sent)))
 reached_more scale begin earlier sent tone right =
@@ -105,41 +104,41 @@ reaches_more scale begin earlier edges sent tone right was low tone_is right_is 
 }
 
 -- ---- boxes
-pub boxes_more : (scale : Scale) (row begin : ℕ) (earlier xs : List Sent) (x : Sent)
-    → boxes scale row begin earlier (xs ++ x ∷ []) ≡ boxes scale row begin earlier xs ++ box_behind scale row begin (earlier ++ xs) x
-boxes_more scale row begin earlier [] x =
-    append-nil (box_behind scale row begin earlier x) ∙ ap (λ e. box_behind scale row begin e x) (sym (append-nil earlier))
-boxes_more scale row begin earlier (y ∷ ys) x =
-    ap (λ t. box_behind scale row begin earlier y ++ t) (boxes_more scale row begin (earlier ++ y ∷ []) ys x)
-    ∙ ap (λ e. box_behind scale row begin earlier y ++ (boxes scale row begin (earlier ++ y ∷ []) ys ++ box_behind scale row begin e x)) (append_assoc earlier (y ∷ []) ys)
-    ∙ sym (append_assoc (box_behind scale row begin earlier y) (boxes scale row begin (earlier ++ y ∷ []) ys) (box_behind scale row begin (earlier ++ y ∷ ys) x))
+pub boxes_more : (scale : Scale) (garbled : Bool) (row begin : ℕ) (earlier xs : List Sent) (x : Sent)
+    → boxes scale garbled row begin earlier (xs ++ x ∷ []) ≡ boxes scale garbled row begin earlier xs ++ box_behind scale garbled row begin (earlier ++ xs) x
+boxes_more scale garbled row begin earlier [] x =
+    append-nil (box_behind scale garbled row begin earlier x) ∙ ap (λ e. box_behind scale garbled row begin e x) (sym (append-nil earlier))
+boxes_more scale garbled row begin earlier (y ∷ ys) x =
+    ap (λ t. box_behind scale garbled row begin earlier y ++ t) (boxes_more scale garbled row begin (earlier ++ y ∷ []) ys x)
+    ∙ ap (λ e. box_behind scale garbled row begin earlier y ++ (boxes scale garbled row begin (earlier ++ y ∷ []) ys ++ box_behind scale garbled row begin e x)) (append_assoc earlier (y ∷ []) ys)
+    ∙ sym (append_assoc (box_behind scale garbled row begin earlier y) (boxes scale garbled row begin (earlier ++ y ∷ []) ys) (box_behind scale garbled row begin (earlier ++ y ∷ ys) x))
 
 -- ---- the next transmission
-pub draws_next : {K : Type 0} (held : K → Option (List ℕ)) (faults : K → ℕ) (k k' k'' : K) (a b c : TextBuffer) (cycle : Cycle) (scale : Scale) (whole : List ℕ)
-    (extent extent' : Extent) (edges edges' : List ℕ) (sent : Sent) (left : List Sent) → Draws held faults k k' a b cycle scale whole extent edges (sent ∷ left)
-    → ((was : Row) → Keeps scale was extent edges → Adds held faults k' k'' b c (next_text cycle scale was sent))
+pub draws_next : {K : Type 0} (held : K → Option (List ℕ)) (faults : K → ℕ) (k k' k'' : K) (a b c : TextBuffer) (cycle : Cycle) (scale : Scale) (garbled : Bool) (whole : List ℕ)
+    (extent extent' : Extent) (edges edges' : List ℕ) (sent : Sent) (left : List Sent) → Draws held faults k k' a b cycle scale garbled whole extent edges (sent ∷ left)
+    → ((was : Row) → Keeps scale was extent edges → Adds held faults k' k'' b c (next_text cycle scale garbled was sent))
     → ((was : Row) → Keeps scale was extent edges → Keeps scale (next_row cycle was sent) extent' edges')
-    → Draws held faults k k'' a c cycle scale whole extent' edges' left
-draws_next held faults k k' k'' a b c cycle scale whole extent extent' edges edges' sent left d adds keeps =
+    → Draws held faults k k'' a c cycle scale garbled whole extent' edges' left
+draws_next held faults k k' k'' a b c cycle scale garbled whole extent extent' edges edges' sent left d adds keeps =
     both (is_new cycle d.row.begin sent) refl
   where
     row : Row
     row = d.row
 
     so_far : List ℕ
-    so_far = boxes scale row.place row.begin [] row.sents
+    so_far = boxes scale garbled row.place row.begin [] row.sents
 
-    both : (t : Bool) → is_new cycle row.begin sent ≡ t → Draws held faults k k'' a c cycle scale whole extent' edges' left
+    both : (t : Bool) → is_new cycle row.begin sent ≡ t → Draws held faults k k'' a c cycle scale garbled whole extent' edges' left
     both true e =
         let next : Row = row_at cycle (row.place + 1) sent in
-        let box : List ℕ = box_behind scale next.place next.begin [] sent in
-        let ending : List ℕ = ending_text (extent_of row) in
-        let text_is : next_text cycle scale row sent ≡ ending ++ box = ap (λ t. cond t (new_text cycle scale row sent) (more_text scale row sent)) e in
+        let box : List ℕ = box_behind scale garbled next.place next.begin [] sent in
+        let ending : List ℕ = ending_text garbled (extent_of row) in
+        let text_is : next_text cycle scale garbled row sent ≡ ending ++ box = ap (λ t. cond t (new_text cycle scale garbled row sent) (more_text scale garbled row sent)) e in
         let row_is : next_row cycle row sent ≡ next = ap (λ t. cond t next (with_sent row sent)) e in
         record {
           row = next;
           keeps = subst (λ r. Keeps scale r extent' edges') row_is (keeps row d.keeps);
-          front = d.front ++ row_text scale row;
+          front = d.front ++ row_text scale garbled row;
           adds = subst (λ (t : List ℕ). Adds held faults k k'' a c t)
               (ap (λ t. (d.front ++ so_far) ++ t) text_is
               ∙ append_assoc d.front so_far (ending ++ box)
@@ -147,13 +146,13 @@ draws_next held faults k k' k'' a b c cycle scale whole extent extent' edges edg
               ∙ sym (append_assoc d.front (so_far ++ ending) box)
               ∙ ap (λ t. (d.front ++ (so_far ++ ending)) ++ t) (sym (append-nil box)))
               (d.adds ▸ adds row d.keeps);
-          whole_is = append_assoc d.front (row_text scale row) (flat_map (row_text scale) (rows_from cycle next left))
-              ∙ ap (λ t. d.front ++ flat_map (row_text scale) t) (sym (ap (λ t. cond t (row ∷ rows_from cycle next left) (rows_from cycle (with_sent row sent) left)) e))
+          whole_is = append_assoc d.front (row_text scale garbled row) (walk_text scale garbled (rows_from cycle next left))
+              ∙ ap (λ t. d.front ++ walk_text scale garbled t) (sym (ap (λ t. cond t (row ∷ rows_from cycle next left) (rows_from cycle (with_sent row sent) left)) e))
               ∙ d.whole_is;
         }
     both false e =
         let next : Row = with_sent row sent in
-        let text_is : next_text cycle scale row sent ≡ more_text scale row sent = ap (λ t. cond t (new_text cycle scale row sent) (more_text scale row sent)) e in
+        let text_is : next_text cycle scale garbled row sent ≡ more_text scale garbled row sent = ap (λ t. cond t (new_text cycle scale garbled row sent) (more_text scale garbled row sent)) e in
         let row_is : next_row cycle row sent ≡ next = ap (λ t. cond t (row_at cycle (row.place + 1) sent) next) e in
         record {
           row = next;
@@ -161,48 +160,48 @@ draws_next held faults k k' k'' a b c cycle scale whole extent extent' edges edg
           front = d.front;
           adds = subst (λ (t : List ℕ). Adds held faults k k'' a c t)
               (ap (λ t. (d.front ++ so_far) ++ t) text_is
-              ∙ append_assoc d.front so_far (more_text scale row sent)
-              ∙ ap (λ t. d.front ++ t) (sym (boxes_more scale row.place row.begin [] row.sents sent)))
+              ∙ append_assoc d.front so_far (more_text scale garbled row sent)
+              ∙ ap (λ t. d.front ++ t) (sym (boxes_more scale garbled row.place row.begin [] row.sents sent)))
               (d.adds ▸ adds row d.keeps);
-          whole_is = ap (λ t. d.front ++ flat_map (row_text scale) t) (sym (ap (λ t. cond t (row ∷ rows_from cycle (row_at cycle (row.place + 1) sent) left) (rows_from cycle next left)) e))
+          whole_is = ap (λ t. d.front ++ walk_text scale garbled t) (sym (ap (λ t. cond t (row ∷ rows_from cycle (row_at cycle (row.place + 1) sent) left) (rows_from cycle next left)) e))
               ∙ d.whole_is;
         }
 
 -- no transmission more
-pub draws_end : {K : Type 0} (held : K → Option (List ℕ)) (faults : K → ℕ) (k k' k'' : K) (a b c : TextBuffer) (cycle : Cycle) (scale : Scale) (whole : List ℕ)
-    (extent : Extent) (edges : List ℕ) (left : List Sent) → Draws held faults k k' a b cycle scale whole extent edges left → left ≡ []
-    → Adds held faults k' k'' b c (ending_text extent) → Adds held faults k k'' a c whole
-draws_end held faults k k' k'' a b c cycle scale whole extent edges left d none ends =
+pub draws_end : {K : Type 0} (held : K → Option (List ℕ)) (faults : K → ℕ) (k k' k'' : K) (a b c : TextBuffer) (cycle : Cycle) (scale : Scale) (garbled : Bool) (whole : List ℕ)
+    (extent : Extent) (edges : List ℕ) (left : List Sent) → Draws held faults k k' a b cycle scale garbled whole extent edges left → left ≡ []
+    → Adds held faults k' k'' b c (ending_text garbled extent) → Adds held faults k k'' a c whole
+draws_end held faults k k' k'' a b c cycle scale garbled whole extent edges left d none ends =
     subst (λ (t : List ℕ). Adds held faults k k'' a c t)
-    (ap (λ x. (d.front ++ so_far) ++ ending_text x) d.keeps.extent_is
-    ∙ append_assoc d.front so_far (ending_text (extent_of d.row))
-    ∙ ap (λ t. d.front ++ t) (sym (append-nil (row_text scale d.row)))
-    ∙ ap (λ l. d.front ++ flat_map (row_text scale) (rows_from cycle d.row l)) (sym none)
+    (ap (λ x. (d.front ++ so_far) ++ ending_text garbled x) d.keeps.extent_is
+    ∙ append_assoc d.front so_far (ending_text garbled (extent_of d.row))
+    ∙ ap (λ t. d.front ++ t) (sym (append-nil (row_text scale garbled d.row)))
+    ∙ ap (λ l. d.front ++ walk_text scale garbled (rows_from cycle d.row l)) (sym none)
     ∙ d.whole_is)
     (d.adds ▸ ends)
   where
     so_far : List ℕ
-    so_far = boxes scale d.row.place d.row.begin [] d.row.sents
+    so_far = boxes scale garbled d.row.place d.row.begin [] d.row.sents
 
 -- the first transmission
-pub draws_first : {K : Type 0} (held : K → Option (List ℕ)) (faults : K → ℕ) (k k' : K) (a b : TextBuffer) (cycle : Cycle) (scale : Scale) (extent : Extent) (edges : List ℕ)
-    (first : Sent) (left : List Sent) → extent ≡ extent_of (row_at cycle 0 first) → Adds held faults k k' a b (box_behind scale extent.place extent.begin [] first)
+pub draws_first : {K : Type 0} (held : K → Option (List ℕ)) (faults : K → ℕ) (k k' : K) (a b : TextBuffer) (cycle : Cycle) (scale : Scale) (garbled : Bool) (extent : Extent) (edges : List ℕ)
+    (first : Sent) (left : List Sent) → extent ≡ extent_of (row_at cycle 0 first) → Adds held faults k k' a b (box_behind scale garbled extent.place extent.begin [] first)
     → Reaches scale extent.begin (first ∷ []) edges
-    → Draws held faults k k' a b cycle scale (flat_map (row_text scale) (rows_of cycle (first ∷ left))) extent edges left
-draws_first held faults k k' a b cycle scale extent edges first left is adds reaches = record {
+    → Draws held faults k k' a b cycle scale garbled (walk_text scale garbled (rows_of cycle (first ∷ left))) extent edges left
+draws_first held faults k k' a b cycle scale garbled extent edges first left is adds reaches = record {
   row = row_at cycle 0 first;
   keeps = record { extent_is = is; reaches = subst (λ (e : Extent). Reaches scale e.begin (first ∷ []) edges) is reaches };
   front = [];
   adds = subst (λ (t : List ℕ). Adds held faults k k' a b t)
-      (ap (λ (e : Extent). box_behind scale e.place e.begin [] first) is ∙ sym (append-nil (box_behind scale 0 (row_at cycle 0 first).begin [] first))) adds;
+      (ap (λ (e : Extent). box_behind scale garbled e.place e.begin [] first) is ∙ sym (append-nil (box_behind scale garbled 0 (row_at cycle 0 first).begin [] first))) adds;
   whole_is = refl;
 }
 
 -- what the next transmission adds, by whether it begins a row
-pub next_is : (cycle : Cycle) (scale : Scale) (row : Row) (extent : Extent) (edges : List ℕ) (sent : Sent) (b : Bool) → Keeps scale row extent edges
+pub next_is : (cycle : Cycle) (scale : Scale) (garbled : Bool) (row : Row) (extent : Extent) (edges : List ℕ) (sent : Sent) (b : Bool) → Keeps scale row extent edges
     → is_new cycle extent.begin sent ≡ b
-    → (next_text cycle scale row sent ≡ cond b (new_text cycle scale row sent) (more_text scale row sent))
+    → (next_text cycle scale garbled row sent ≡ cond b (new_text cycle scale garbled row sent) (more_text scale garbled row sent))
     × (next_row cycle row sent ≡ cond b (row_at cycle (row.place + 1) sent) (with_sent row sent))
-next_is cycle scale row extent edges sent b keeps new =
+next_is cycle scale garbled row extent edges sent b keeps new =
     let now : is_new cycle row.begin sent ≡ b = ap (λ (e : Extent). is_new cycle e.begin sent) (sym keeps.extent_is) ∙ new in
-    (ap (λ t. cond t (new_text cycle scale row sent) (more_text scale row sent)) now, ap (λ t. cond t (row_at cycle (row.place + 1) sent) (with_sent row sent)) now)
+    (ap (λ t. cond t (new_text cycle scale garbled row sent) (more_text scale garbled row sent)) now, ap (λ t. cond t (row_at cycle (row.place + 1) sent) (with_sent row sent)) now)

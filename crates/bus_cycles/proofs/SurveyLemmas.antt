@@ -4,7 +4,7 @@ use Rattle.std.proofs.lemmas.List.Sums.{fold-append}
 use Rattle.bus_shapes.specs.declared.sent.Sent.{Sent}
 use Rattle.bus_cycles.specs.Rows.{Cycle, Extent, Row, end_of_all, extent_of, is_new, row_at, rows_from, with_sent}
 use Rattle.bus_cycles.specs.Surveying.{Surveys, rest_of}
-use Rattle.bus_cycles.specs.Surveys.{Survey, is_drawn, longest_with, nothing, survey_of, with_row}
+use Rattle.bus_cycles.specs.Surveys.{Survey, is_drawn, longest_with, nothing, told_of, with_row}
 
 pub longest_most : (longest : ℕ) (row : Extent) (limit : ℕ) → longest ≤ limit → row.end ≤ limit → (longest_with longest row ≤ limit) × (longest ≤ longest_with longest row)
 longest_most longest row limit low ends =
@@ -19,7 +19,7 @@ end_with row sent = fold-append (λ end (s : Sent). max end s.end) 0 row.sents (
 
 pub surveys_new : (breach : Option ℕ) (cycle : Cycle) (whole survey survey' : Survey) (extent extent' : Extent) (sent : Sent) (left : List Sent)
     → Surveys breach cycle whole survey extent (sent ∷ left) → sent.end ≤ 2 ^ 41 → is_new cycle extent.begin sent ≡ true
-    → survey' ≡ with_row breach survey extent → extent' ≡ extent_of (row_at cycle (extent.place + 1) sent) → Surveys breach cycle whole survey' extent' left
+    → survey' ≡ with_row cycle breach survey extent → extent' ≡ extent_of (row_at cycle (extent.place + 1) sent) → Surveys breach cycle whole survey' extent' left
 surveys_new breach cycle whole survey survey' extent extent' sent left s low new survey_is extent_is =
     let row : Row = s.row in
     let next : Row = row_at cycle (row.place + 1) sent in
@@ -39,8 +39,8 @@ surveys_new breach cycle whole survey survey' extent extent' sent left s low new
     record {
       row = next;
       extent_is = now_is;
-      whole_is = ap (λ v. rest_of breach v (rows_from cycle next left)) (survey_is ∙ ap (with_row breach survey) s.extent_is)
-          ∙ ap (rest_of breach survey) (sym (ap (λ t. cond t (row ∷ rows_from cycle next left) (rows_from cycle (with_sent row sent) left)) now))
+      whole_is = ap (λ v. rest_of cycle breach v (rows_from cycle next left)) (survey_is ∙ ap (with_row cycle breach survey) s.extent_is)
+          ∙ ap (rest_of cycle breach survey) (sym (ap (λ t. cond t (row ∷ rows_from cycle next left) (rows_from cycle (with_sent row sent) left)) now))
           ∙ s.whole_is;
       some = omega arith;
       low = omega arith;
@@ -66,7 +66,7 @@ surveys_more breach cycle whole survey extent extent' sent left s low new extent
     record {
       row = next;
       extent_is = now_is;
-      whole_is = ap (rest_of breach survey) (sym (ap (λ t. cond t (row ∷ rows_from cycle (row_at cycle (row.place + 1) sent) left) (rows_from cycle next left)) now))
+      whole_is = ap (rest_of cycle breach survey) (sym (ap (λ t. cond t (row ∷ rows_from cycle (row_at cycle (row.place + 1) sent) left) (rows_from cycle next left)) now))
           ∙ s.whole_is;
       some = s.some;
       low = s.low;
@@ -75,20 +75,20 @@ surveys_more breach cycle whole survey extent extent' sent left s low new extent
     }
 
 pub surveys_end : (breach : Option ℕ) (cycle : Cycle) (whole survey result : Survey) (extent : Extent) (left : List Sent) → Surveys breach cycle whole survey extent left → left ≡ []
-    → result ≡ with_row breach survey extent → (result ≡ whole) × (cycle.ti ≤ result.longest) × (result.longest ≤ 2 ^ 41)
+    → result ≡ with_row cycle breach survey extent → (result ≡ whole) × (cycle.ti ≤ result.longest) × (result.longest ≤ 2 ^ 41)
 surveys_end breach cycle whole survey result extent left s none result_is =
     let longest = longest_most survey.longest extent (2 ^ 41) s.low s.ends in
     let more : result.longest ≡ longest_with survey.longest extent = ap (λ (v : Survey). v.longest) result_is in
     let least : survey.longest ≤ longest_with survey.longest extent = longest.1 in
     let most : longest_with survey.longest extent ≤ 2 ^ 41 = longest.0 in
     let some_was : cycle.ti ≤ survey.longest = s.some in (
-      result_is ∙ ap (with_row breach survey) s.extent_is ∙ ap (λ l. rest_of breach survey (rows_from cycle s.row l)) (sym none) ∙ s.whole_is,
+      result_is ∙ ap (with_row cycle breach survey) s.extent_is ∙ ap (λ l. rest_of cycle breach survey (rows_from cycle s.row l)) (sym none) ∙ s.whole_is,
       omega arith,
       omega arith,
     )
 
 pub surveys_first : (breach : Option ℕ) (cycle : Cycle) (survey : Survey) (extent : Extent) (first : Sent) (left : List Sent) → survey ≡ nothing cycle
-    → extent ≡ extent_of (row_at cycle 0 first) → first.end ≤ 2 ^ 41 → cycle.ti ≤ 2 ^ 41 → Surveys breach cycle (survey_of cycle breach (first ∷ left)) survey extent left
+    → extent ≡ extent_of (row_at cycle 0 first) → first.end ≤ 2 ^ 41 → cycle.ti ≤ 2 ^ 41 → Surveys breach cycle (told_of cycle breach (first ∷ left)) survey extent left
 surveys_first breach cycle survey extent first left survey_is extent_is low short =
     let longest_is : survey.longest ≡ cycle.ti = ap (λ (v : Survey). v.longest) survey_is in
     let count_is : survey.count ≡ 0 = ap (λ (v : Survey). v.count) survey_is in
@@ -97,7 +97,7 @@ surveys_first breach cycle survey extent first left survey_is extent_is low shor
     record {
       row = row_at cycle 0 first;
       extent_is = extent_is;
-      whole_is = ap (λ v. rest_of breach v (rows_from cycle (row_at cycle 0 first) left)) survey_is;
+      whole_is = ap (λ v. rest_of cycle breach v (rows_from cycle (row_at cycle 0 first) left)) survey_is;
       some = omega arith;
       low = omega arith;
       ends = omega arith;

@@ -1,6 +1,5 @@
 -- What is put is the text of the picture.
 use Rattle.std.proofs.Common.{◌≡◌, ℕ, ◌+◌, List, ◌++◌, Option, ap, ◌∙◌}
-use Rattle.std.specs.List.{flat_map}
 use Rattle.bus_audit.specs.declared.answer.AuditAnswer.{AuditAnswer}
 use Rattle.bus_audit.specs.Lines.{answer_words}
 use Rattle.bus_regime.specs.declared.table_verdict.TableVerdict.{TableVerdict}
@@ -13,14 +12,14 @@ use Rattle.bus_shapes.specs.Frames.{frame_text, tail_text}
 use Rattle.bus_shapes.specs.Windows.{Window}
 use Rattle.bus_cycles.specs.CyclesTexts.{above_text, bottom_of, breach_text, cycles_text, marks_text, scale_of}
 use Rattle.bus_cycles.specs.Rows.{Cycle, cycle_of, rows_of}
-use Rattle.bus_cycles.specs.RowTexts.{row_text}
+use Rattle.bus_cycles.specs.RowTexts.{rows_text}
 use Rattle.bus_cycles.specs.Sents.{shown}
 use Rattle.bus_cycles.specs.Surveys.{Survey, breach_in, counts, survey_of}
 
 abbrev pub text_with : Window → TableVerdict → AuditAnswer → Table → Recording → ℕ → Counts → Survey → Cycle → Scale → Option ℕ → List ℕ
 text_with window verdict answer table trace bottom told survey cycle scale breach =
     frame_text (bottom + 250) (verdict_words verdict) (answer_words answer) table told
-    ++ above_text survey ++ marks_text survey table verdict ++ flat_map (row_text scale) (rows_of cycle (shown window trace.list))
+    ++ above_text survey ++ marks_text survey table verdict ++ rows_text scale (rows_of cycle (shown window trace.list))
     ++ breach_text scale breach survey.marked ++ tail_text
 
 pub whole_put : (window : Window) (verdict : TableVerdict) (answer : AuditAnswer) (table : Table) (trace : Recording) (bottom : ℕ) (told : Counts)

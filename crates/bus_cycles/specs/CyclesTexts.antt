@@ -1,6 +1,5 @@
 -- The text of a picture that has a row for each cycle.
 use Rattle.std.specs.Prelude.{ℕ, ◌+◌, ◌-◌, nat_le, nat_lt, min, List, [], ◌++◌, codes, decimal, Option, Some, None, if◌then◌else◌}
-use Rattle.std.specs.List.{flat_map}
 use Rattle.bus_audit.specs.declared.answer.AuditAnswer.{AuditAnswer}
 use Rattle.bus_regime.specs.declared.table_verdict.TableVerdict.{TableVerdict}
 use Rattle.bus_regime.specs.declared.table_verdict.TableVerdict.TheVariants.{Accept, ShortCycle, SmallGap, NoSync}
@@ -23,11 +22,11 @@ use Rattle.bus_shapes.specs.Shapes.{box_text, words_text}
 use Rattle.bus_shapes.specs.Windows.{Window}
 use Rattle.bus_cycles.specs.Rows.{Extent, cycle_of, rows}
 use Rattle.bus_cycles.specs.Sents.{shown}
-use Rattle.bus_cycles.specs.RowTexts.{row_text, top_of}
+use Rattle.bus_cycles.specs.RowTexts.{rows_text, top_of}
 use Rattle.bus_cycles.specs.Surveys.{Survey, breach_in, counts, is_drawn, most_rows, survey_of}
 
 -- ---- the plot
--- The moments behind the beginning of a row, as far as the longest that is drawn has some.
+-- The moments behind the beginning of a row, as far as the longest that is drawn has some, and as the breach needs some.
 abbrev pub scale_of : Survey → Scale
 scale_of survey = record { from = 0; to = survey.longest; left = 1500; width = 12900 }
 
@@ -131,7 +130,7 @@ abbrev pub text_of : Survey → Window → TableVerdict → AuditAnswer → Tabl
 text_of survey window verdict answer table trace =
     frame_text (bottom_of survey + 250) (verdict_words verdict) (answer_words answer) table (counts window trace)
     ++ above_text survey ++ marks_text survey table verdict
-    ++ flat_map (row_text (scale_of survey)) (rows table window trace.list)
+    ++ rows_text (scale_of survey) (rows table window trace.list)
     ++ breach_text (scale_of survey) (breach_in window answer) survey.marked ++ tail_text
 
 -- The picture of a window of a trace on a table.

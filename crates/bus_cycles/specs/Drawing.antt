@@ -1,12 +1,11 @@
 -- How far a picture has come: what is kept of the row that is drawn, and what that stands for.
-use Rattle.std.specs.Prelude.{◌≡◌, ℕ, ◌+◌, ◌<◌, nat_le, List, [], ◌++◌, length, slice_index_or, Option, if◌then◌else◌}
-use Rattle.std.specs.List.{flat_map}
+use Rattle.std.specs.Prelude.{◌≡◌, ℕ, ◌+◌, ◌<◌, Bool, nat_le, List, [], ◌++◌, length, slice_index_or, Option, if◌then◌else◌}
 use Rattle.bus_outer.specs.Texts.{Adds}
 use Rattle.bus_outer.specs.declared.text_buffer.TextBuffer.{TextBuffer}
 use Rattle.bus_shapes.specs.declared.sent.Sent.{Sent}
 use Rattle.bus_shapes.specs.declared.scale.Scale.{Scale}
 use Rattle.bus_cycles.specs.Rows.{Cycle, Extent, Row, extent_of, is_new, row_at, rows_from, with_sent}
-use Rattle.bus_cycles.specs.RowTexts.{box_behind, boxes, ending_text, is_reached, row_text}
+use Rattle.bus_cycles.specs.RowTexts.{box_behind, boxes, ending_text, is_reached, walk_text}
 
 -- How many shades there are.
 abbrev pub shades : ℕ
@@ -27,22 +26,23 @@ pub record Keeps (scale : Scale) (row : Row) (extent : Extent) (edges : List ℕ
 abbrev pub next_row : Cycle → Row → Sent → Row
 next_row cycle row sent = if is_new cycle row.begin sent then row_at cycle (row.place + 1) sent else with_sent row sent
 
--- What the next transmission adds: where it begins a row, the words of the one before it come first.
-abbrev pub new_text : Cycle → Scale → Row → Sent → List ℕ
-new_text cycle scale row sent =
-    ending_text (extent_of row) ++ box_behind scale (row.place + 1) (row_at cycle (row.place + 1) sent).begin [] sent
+-- What the next transmission adds in a walk: where it begins a row, the words of the one before it come first.
+abbrev pub new_text : Cycle → Scale → Bool → Row → Sent → List ℕ
+new_text cycle scale garbled row sent =
+    ending_text garbled (extent_of row) ++ box_behind scale garbled (row.place + 1) (row_at cycle (row.place + 1) sent).begin [] sent
 
-abbrev pub more_text : Scale → Row → Sent → List ℕ
-more_text scale row sent = box_behind scale row.place row.begin row.sents sent
+abbrev pub more_text : Scale → Bool → Row → Sent → List ℕ
+more_text scale garbled row sent = box_behind scale garbled row.place row.begin row.sents sent
 
-abbrev pub next_text : Cycle → Scale → Row → Sent → List ℕ
-next_text cycle scale row sent = if is_new cycle row.begin sent then new_text cycle scale row sent else more_text scale row sent
+abbrev pub next_text : Cycle → Scale → Bool → Row → Sent → List ℕ
+next_text cycle scale garbled row sent =
+    if is_new cycle row.begin sent then new_text cycle scale garbled row sent else more_text scale garbled row sent
 
--- These rows are drawn, and the transmissions so far of the one behind them; the others are still to come.
+-- These rows are drawn in a walk, and the transmissions so far of the one behind them; the others are still to come.
 pub record Draws {K : Type 0} (held : K → Option (List ℕ)) (faults : K → ℕ) (k k' : K) (old new : TextBuffer) (cycle : Cycle)
-    (scale : Scale) (whole : List ℕ) (extent : Extent) (edges : List ℕ) (left : List Sent) : Type 0 where
+    (scale : Scale) (garbled : Bool) (whole : List ℕ) (extent : Extent) (edges : List ℕ) (left : List Sent) : Type 0 where
   pub row : Row
   pub keeps : Keeps scale row extent edges
   pub front : List ℕ
-  pub adds : Adds held faults k k' old new (front ++ boxes scale row.place row.begin [] row.sents)
-  pub whole_is : front ++ flat_map (row_text scale) (rows_from cycle row left) ≡ whole
+  pub adds : Adds held faults k k' old new (front ++ boxes scale garbled row.place row.begin [] row.sents)
+  pub whole_is : front ++ walk_text scale garbled (rows_from cycle row left) ≡ whole

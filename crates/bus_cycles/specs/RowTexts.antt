@@ -1,7 +1,7 @@
 -- The text of a row. A unit is a tenth of a pixel.
-use Rattle.std.specs.Prelude.{ℕ, ◌+◌, ◌-◌, ◌*◌, ◌/◌, ◌%◌, Bool, ◌&&◌, ◌==◌}
+use Rattle.std.specs.Prelude.{ℕ, ◌+◌, ◌-◌, ◌*◌, ◌/◌, ◌%◌, Bool, true, false, not, ◌&&◌, ◌==◌}
 use Rattle.std.specs.Prelude.{nat_le, nat_lt, max, List, [], ◌∷◌, ◌++◌, decimal, if◌then◌else◌}
-use Rattle.std.specs.List.{list_any}
+use Rattle.std.specs.List.{flat_map, list_any}
 use Rattle.bus_shapes.specs.declared.class.Class.{Class}
 use Rattle.bus_shapes.specs.declared.class.Class.TheVariants.{Detail, Digits, Garbled, Other, Wordstring}
 use Rattle.bus_shapes.specs.declared.sent.Sent.{Sent}
@@ -78,18 +78,30 @@ where_drawn row text = if is_drawn row then text else []
 abbrev pub is_reached : Scale → ℕ → List Sent → ℕ → ℕ → Bool
 is_reached scale begin earlier tone right = list_any (λ y. shade y == tone && nat_le right (right_of scale begin y)) earlier
 
--- What a transmission adds to a row that has these: nothing where one of these has its shade and reaches as far, since then a box of its
--- shade holds its own.
-abbrev pub box_behind : Scale → ℕ → ℕ → List Sent → Sent → List ℕ
-box_behind scale row begin earlier sent =
-    if is_reached scale begin earlier (shade sent) (right_of scale begin sent) then []
-    else where_drawn row (sent_text (area_of scale row begin sent) sent)
+-- Whether a transmission is left out of a row that has these: one of these has its shade and reaches as far, so that a box of its shade
+-- holds its own.
+abbrev pub is_left_out : Scale → ℕ → List Sent → Sent → Bool
+is_left_out scale begin earlier sent = is_reached scale begin earlier (shade sent) (right_of scale begin sent)
+
+-- A picture is drawn in two walks over its rows: in the first what is plain, in the second what is garbled. Whether a transmission is drawn
+-- in the walk for those that are garbled, or in that for the others.
+abbrev pub is_due : Bool → Sent → Bool
+is_due garbled sent = if garbled then sent.garbled else not sent.garbled
+
+abbrev pub where_due : Bool → Sent → List ℕ → List ℕ
+where_due garbled sent text = if is_due garbled sent then text else []
+
+-- What a transmission adds, in a walk, to a row that has these.
+abbrev pub box_behind : Scale → Bool → ℕ → ℕ → List Sent → Sent → List ℕ
+box_behind scale garbled row begin earlier sent =
+    if is_left_out scale begin earlier sent then []
+    else where_due garbled sent (where_drawn row (sent_text (area_of scale row begin sent) sent))
 
 -- What transmissions add to a row that has these.
-abbrev pub boxes : Scale → ℕ → ℕ → List Sent → List Sent → List ℕ
-boxes scale row begin earlier [] = []
-boxes scale row begin earlier (sent ∷ sents) =
-    box_behind scale row begin earlier sent ++ boxes scale row begin (earlier ++ sent ∷ []) sents
+abbrev pub boxes : Scale → Bool → ℕ → ℕ → List Sent → List Sent → List ℕ
+boxes scale garbled row begin earlier [] = []
+boxes scale garbled row begin earlier (sent ∷ sents) =
+    box_behind scale garbled row begin earlier sent ++ boxes scale garbled row begin (earlier ++ sent ∷ []) sents
 
 -- ---- rows
 -- The words of a row: the moment at which it begins at its left, its length at its right.
@@ -98,9 +110,17 @@ words_of row =
     words_text Detail 1440 (top_of row.place + 105) (decimal row.begin)
     ++ words_text Detail 15500 (top_of row.place + 105) (decimal (row.end - row.begin))
 
-abbrev pub ending_text : Extent → List ℕ
-ending_text row = where_drawn row.place (words_of row)
+-- They stand in the walk for what is plain.
+abbrev pub ending_text : Bool → Extent → List ℕ
+ending_text garbled row = if garbled then [] else where_drawn row.place (words_of row)
 
--- A row: its transmissions, then its words.
-abbrev pub row_text : Scale → Row → List ℕ
-row_text scale row = boxes scale row.place row.begin [] row.sents ++ ending_text (extent_of row)
+-- What a walk draws of a row: its transmissions, then its words.
+abbrev pub row_text : Scale → Bool → Row → List ℕ
+row_text scale garbled row = boxes scale garbled row.place row.begin [] row.sents ++ ending_text garbled (extent_of row)
+
+abbrev pub walk_text : Scale → Bool → List Row → List ℕ
+walk_text scale garbled rows = flat_map (row_text scale garbled) rows
+
+-- The rows: what is plain of all of them, then what is garbled, so that no plain box lies over a garbled one.
+abbrev pub rows_text : Scale → List Row → List ℕ
+rows_text scale rows = walk_text scale false rows ++ walk_text scale true rows

@@ -80,3 +80,11 @@ end_of_all sents = fold (λ end sent. max end sent.end) 0 sents
 -- Where a row is.
 abbrev pub extent_of : Row → Extent
 extent_of row = record { place = row.place; begin = row.begin; end = end_of_all row.sents }
+
+-- Whether a row takes a moment: in periodic mode one of the interval that begins with it, and else one that isn't before its beginning.
+abbrev pub takes_in : Mode → Cycle → Extent → ℕ → Bool
+takes_in Periodic cycle row t = interval_of cycle.ti t == row.begin
+takes_in Aperiodic cycle row t = nat_le row.begin t
+
+abbrev pub takes : Cycle → Extent → ℕ → Bool
+takes cycle row t = takes_in cycle.mode cycle row t

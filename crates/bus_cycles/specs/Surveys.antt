@@ -1,5 +1,5 @@
 -- What is told of the rows of a picture before they are drawn.
-use Rattle.std.specs.Prelude.{ℕ, ◌+◌, ◌-◌, Bool, false, ◌==◌, nat_le, nat_lt}
+use Rattle.std.specs.Prelude.{ℕ, ◌+◌, ◌-◌, Bool, false, ◌==◌, nat_lt}
 use Rattle.std.specs.Prelude.{max, fold, List, length, map, Option, Some, None, if◌then◌else◌}
 use Rattle.std.specs.List.{count_by}
 use Rattle.bus_audit.specs.declared.answer.AuditAnswer.{AuditAnswer}
@@ -8,7 +8,7 @@ use Rattle.bus_trace.specs.Traces.{Recording}
 use Rattle.bus_shapes.specs.declared.counts.Counts.{Counts}
 use Rattle.bus_shapes.specs.Windows.{Window, holds}
 use Rattle.bus_shapes.specs.declared.sent.Sent.{Sent}
-use Rattle.bus_cycles.specs.Rows.{Cycle, Extent, extent_of, rows_of}
+use Rattle.bus_cycles.specs.Rows.{Cycle, Extent, extent_of, rows_of, takes}
 use Rattle.bus_cycles.specs.Sents.{shown}
 pub use Rattle.bus_cycles.specs.declared.survey.Survey.{Survey}
 
@@ -25,37 +25,58 @@ abbrev pub breach_in : Window → AuditAnswer → Option ℕ
 breach_in window (Lawful collided) = None
 breach_in window (Breach moment terminal kind) = if holds window moment then Some moment else None
 
--- Whether a row has begun at this moment.
-abbrev pub has_begun : Option ℕ → Extent → Bool
-has_begun None row = false
-has_begun (Some moment) row = nat_le row.begin moment
+-- Whether a row takes the breach at this moment.
+abbrev pub takes_breach : Cycle → Option ℕ → Extent → Bool
+takes_breach cycle None row = false
+takes_breach cycle (Some moment) row = takes cycle row moment
 
 -- What is told where no row is looked at: a picture is at least as long as a transmit interval.
 abbrev pub nothing : Cycle → Survey
 nothing cycle = record { count = 0; longest = cycle.ti; next = None; marked = None }
 
 -- One row more: how many there are, how long the longest is that is drawn, where the first begins that isn't, and which is the last that
--- has begun at the moment of the breach.
+-- takes the breach.
 abbrev pub longest_with : ℕ → Extent → ℕ
 longest_with longest row = if is_drawn row.place then max longest (row.end - row.begin) else longest
 
 abbrev pub next_with : Option ℕ → Extent → Option ℕ
 next_with next row = if row.place == most_rows then Some row.begin else next
 
-abbrev pub marked_with : Option Extent → Option ℕ → Extent → Option Extent
-marked_with marked breach row = if has_begun breach row then Some row else marked
+abbrev pub marked_with : Cycle → Option ℕ → Option Extent → Extent → Option Extent
+marked_with cycle breach marked row = if takes_breach cycle breach row then Some row else marked
 
-abbrev pub with_row : Option ℕ → Survey → Extent → Survey
-with_row breach survey row = record {
+abbrev pub with_row : Cycle → Option ℕ → Survey → Extent → Survey
+with_row cycle breach survey row = record {
   count = survey.count + 1;
   longest = longest_with survey.longest row;
   next = next_with survey.next row;
-  marked = marked_with survey.marked breach row;
+  marked = marked_with cycle breach survey.marked row;
 }
 
--- What is told of the rows of transmissions.
+-- How far the breach is behind the beginning of its row, where that is drawn.
+abbrev pub reach_in : ℕ → Extent → ℕ
+reach_in moment row = if is_drawn row.place then moment - row.begin else 0
+
+abbrev pub reach_of : Option ℕ → Option Extent → ℕ
+reach_of None marked = 0
+reach_of (Some moment) None = 0
+reach_of (Some moment) (Some row) = reach_in moment row
+
+-- A picture is also as long as the breach needs, of which the row is known when all rows are told of.
+abbrev pub with_breach : Option ℕ → Survey → Survey
+with_breach breach survey = record {
+  count = survey.count;
+  longest = max survey.longest (reach_of breach survey.marked);
+  next = survey.next;
+  marked = survey.marked;
+}
+
+-- What is told of the rows of transmissions, first of all of them, then with the breach.
+abbrev pub told_of : Cycle → Option ℕ → List Sent → Survey
+told_of cycle breach sents = fold (with_row cycle breach) (nothing cycle) (map extent_of (rows_of cycle sents))
+
 abbrev pub survey_of : Cycle → Option ℕ → List Sent → Survey
-survey_of cycle breach sents = fold (with_row breach) (nothing cycle) (map extent_of (rows_of cycle sents))
+survey_of cycle breach sents = with_breach breach (told_of cycle breach sents)
 
 -- What is shown: the transmissions that begin in the window.
 abbrev pub counts : Window → Recording → Counts

@@ -1,6 +1,6 @@
 // The rows of a picture: their boxes and words.
 ghost use Rattle.std.specs.Prelude.{◌≡◌, ◌<◌, ◌≤◌, ◌+◌, ◌++◌, [], ◌∷◌, ◌-◌, ◌^◌, List, length};
-ghost use Rattle.std.specs.List.{AllByRecursion, flat_map};
+ghost use Rattle.std.specs.List.{AllByRecursion};
 ghost use Rattle.bus_outer.specs.Texts.{Adds};
 ghost use Rattle.bus_shapes.specs.declared.sent.Sent as sayings;
 ghost use Rattle.bus_shapes.specs.Scales.{IsScale};
@@ -180,11 +180,38 @@ fn put_where_drawn<K: Sink>(
     }
 }
 
-// What a transmission adds to a row.
+// Whether a transmission is drawn in a walk.
+fn is_due(garbled: bool, sent: &Sent) -> bool
+    ensures { result ≡ definition.is_due garbled sent.now }
+{
+    if garbled { sent.garbled } else { !sent.garbled }
+}
+
+// A transmission of a row, in its walk.
+fn put_where_due<K: Sink>(
+    text: &mut TextBuffer,
+    sink: &mut K,
+    scale: &Scale,
+    garbled: bool,
+    row: Extent,
+    sent: &Sent,
+)
+    requires scale { IsScale scale.now }
+    requires order { sent.now.moment ≤ sent.now.end }
+    ensures { Adds K.held K.faults sink.old sink.new text.old text.new (definition.where_due garbled sent.now (definition.where_drawn row.place
+        (definition.sent_text (definition.area_of scale.now row.place row.begin sent.now) sent.now))) }
+{
+    if is_due(garbled, sent) {
+        put_where_drawn(text, sink, scale, row, sent);
+    }
+}
+
+// What a transmission adds to a row in a walk.
 fn put_behind<K: Sink>(
     text: &mut TextBuffer,
     sink: &mut K,
     scale: &Scale,
+    garbled: bool,
     row: Extent,
     edges: &mut [u64; SHADES],
     sent: &Sent,
@@ -192,7 +219,8 @@ fn put_behind<K: Sink>(
     requires scale { IsScale scale.now }
     requires order { sent.now.moment ≤ sent.now.end }
     ensures adds { (earlier : List sayings.Sent) → Reaches scale.now row.begin earlier edges.old
-        → Adds K.held K.faults sink.old sink.new text.old text.new (definition.box_behind scale.now row.place row.begin earlier sent.now) }
+        → Adds K.held K.faults sink.old sink.new text.old text.new
+        (definition.box_behind scale.now garbled row.place row.begin earlier sent.now) }
     ensures keeps { (earlier : List sayings.Sent) → Reaches scale.now row.begin earlier edges.old
         → Reaches scale.now row.begin (earlier ++ sent.now ∷ []) edges.new }
 {
@@ -202,7 +230,7 @@ fn put_behind<K: Sink>(
         return;
     }
     edges[shade] = right;
-    put_where_drawn(text, sink, scale, row, sent);
+    put_where_due(text, sink, scale, garbled, row, sent);
 }
 
 // The words of a row.
@@ -219,11 +247,11 @@ fn put_row_words<K: Sink>(text: &mut TextBuffer, sink: &mut K, row: Extent)
     end_words(text, sink);
 }
 
-// The words of a row, where it is drawn.
-fn put_ending<K: Sink>(text: &mut TextBuffer, sink: &mut K, row: Extent)
-    ensures { Adds K.held K.faults sink.old sink.new text.old text.new (definition.ending_text row) }
+// The words of a row, where it is drawn, in the walk for what is plain.
+fn put_ending<K: Sink>(text: &mut TextBuffer, sink: &mut K, garbled: bool, row: Extent)
+    ensures { Adds K.held K.faults sink.old sink.new text.old text.new (definition.ending_text garbled row) }
 {
-    if row.place < MOST_ROWS {
+    if !garbled && row.place < MOST_ROWS {
         put_row_words(text, sink, row);
     }
 }
@@ -234,6 +262,7 @@ fn put_new<K: Sink>(
     sink: &mut K,
     cycle: &Cycle,
     scale: &Scale,
+    garbled: bool,
     row: &mut Extent,
     edges: &mut [u64; SHADES],
     sent: &Sent,
@@ -243,15 +272,15 @@ fn put_new<K: Sink>(
     requires order { sent.now.moment ≤ sent.now.end }
     requires few { row.old.place < 2 ^ 64 - 1 }
     ensures adds { (was : Row) → Keeps scale.now was row.old edges.old
-        → Adds K.held K.faults sink.old sink.new text.old text.new (new_text cycle.now scale.now was sent.now) }
+        → Adds K.held K.faults sink.old sink.new text.old text.new (new_text cycle.now scale.now garbled was sent.now) }
     ensures keeps { (was : Row) → Keeps scale.now was row.old edges.old
         → Keeps scale.now (row_at cycle.now (was.place + 1) sent.now) row.new edges.new }
     ensures place { row.new.place ≡ row.old.place + 1 }
 {
-    put_ending(text, sink, *row);
+    put_ending(text, sink, garbled, *row);
     *row = cycle.row_at(row.place + 1, sent);
     *edges = [0; SHADES];
-    put_behind(text, sink, scale, *row, edges, sent);
+    put_behind(text, sink, scale, garbled, *row, edges, sent);
 }
 
 // One transmission more of a row.
@@ -259,6 +288,7 @@ fn put_more<K: Sink>(
     text: &mut TextBuffer,
     sink: &mut K,
     scale: &Scale,
+    garbled: bool,
     row: &mut Extent,
     edges: &mut [u64; SHADES],
     sent: &Sent,
@@ -266,13 +296,13 @@ fn put_more<K: Sink>(
     requires scale { IsScale scale.now }
     requires order { sent.now.moment ≤ sent.now.end }
     ensures adds { (was : Row) → Keeps scale.now was row.old edges.old
-        → Adds K.held K.faults sink.old sink.new text.old text.new (more_text scale.now was sent.now) }
+        → Adds K.held K.faults sink.old sink.new text.old text.new (more_text scale.now garbled was sent.now) }
     ensures keeps { (was : Row) → Keeps scale.now was row.old edges.old
         → Keeps scale.now (with_sent was sent.now) row.new edges.new }
     ensures place { row.new.place ≡ row.old.place }
 {
     *row = row.with(sent);
-    put_behind(text, sink, scale, *row, edges, sent);
+    put_behind(text, sink, scale, garbled, *row, edges, sent);
 }
 
 // The next transmission, of the row or of the next one.
@@ -281,6 +311,7 @@ fn put_next<K: Sink>(
     sink: &mut K,
     cycle: &Cycle,
     scale: &Scale,
+    garbled: bool,
     row: &mut Extent,
     edges: &mut [u64; SHADES],
     sent: &Sent,
@@ -290,24 +321,25 @@ fn put_next<K: Sink>(
     requires order { sent.now.moment ≤ sent.now.end }
     requires few { row.old.place < 2 ^ 64 - 1 }
     ensures adds { (was : Row) → Keeps scale.now was row.old edges.old
-        → Adds K.held K.faults sink.old sink.new text.old text.new (next_text cycle.now scale.now was sent.now) }
+        → Adds K.held K.faults sink.old sink.new text.old text.new (next_text cycle.now scale.now garbled was sent.now) }
     ensures keeps { (was : Row) → Keeps scale.now was row.old edges.old
         → Keeps scale.now (next_row cycle.now was sent.now) row.new edges.new }
     ensures place { row.new.place ≤ row.old.place + 1 }
 {
     if cycle.is_new(row.begin, sent) {
-        put_new(text, sink, cycle, scale, row, edges, sent);
+        put_new(text, sink, cycle, scale, garbled, row, edges, sent);
     } else {
-        put_more(text, sink, scale, row, edges, sent);
+        put_more(text, sink, scale, garbled, row, edges, sent);
     }
 }
 
-// The rows of a transmission and those behind it.
+// What a walk draws of the rows of a transmission and those behind it.
 fn put_rows_from<K: Sink>(
     text: &mut TextBuffer,
     sink: &mut K,
     cycle: &Cycle,
     scale: &Scale,
+    garbled: bool,
     first: &Sent,
     left: Shown,
 )
@@ -317,18 +349,41 @@ fn put_rows_from<K: Sink>(
     requires each { AllByRecursion IsSent left }
     requires few { length left < 2 ^ 64 - 1 }
     ensures { Adds K.held K.faults sink.old sink.new text.old text.new
-        (flat_map (definition.row_text scale.now) (rows_of cycle.now (first.now ∷ left.entry))) }
+        (definition.walk_text scale.now garbled (rows_of cycle.now (first.now ∷ left.entry))) }
 {
     let mut row = cycle.row_at(0, first);
     let mut edges = [0; SHADES];
-    put_behind(text, sink, scale, row, &mut edges, first);
+    put_behind(text, sink, scale, garbled, row, &mut edges, first);
     for sent in left {
-        put_next(text, sink, cycle, scale, &mut row, &mut edges, &sent);
+        put_next(
+            text, sink, cycle, scale, garbled, &mut row, &mut edges, &sent,
+        );
     }
-    put_ending(text, sink, row);
+    put_ending(text, sink, garbled, row);
 }
 
-/// The rows of a trace in a window.
+// A walk over the rows of a trace in a window.
+fn put_walk<K: Sink>(
+    text: &mut TextBuffer,
+    sink: &mut K,
+    cycle: &Cycle,
+    scale: &Scale,
+    garbled: bool,
+    window: &Window,
+    trace: &Trace,
+)
+    requires scale { IsScale scale.now }
+    requires some { 0 < cycle.now.ti }
+    ensures { Adds K.held K.faults sink.old sink.new text.old text.new
+        (definition.walk_text scale.now garbled (rows_of cycle.now (shown window.now trace.now.list))) }
+{
+    let mut left = Shown::new(window, trace);
+    if let Some(first) = left.next() {
+        put_rows_from(text, sink, cycle, scale, garbled, &first, left);
+    }
+}
+
+/// The rows of a trace in a window: first what is plain, then what is garbled.
 pub(crate) fn put_rows<K: Sink>(
     text: &mut TextBuffer,
     sink: &mut K,
@@ -340,10 +395,8 @@ pub(crate) fn put_rows<K: Sink>(
     requires scale { IsScale scale.now }
     requires some { 0 < cycle.now.ti }
     ensures { Adds K.held K.faults sink.old sink.new text.old text.new
-        (flat_map (definition.row_text scale.now) (rows_of cycle.now (shown window.now trace.now.list))) }
+        (definition.rows_text scale.now (rows_of cycle.now (shown window.now trace.now.list))) }
 {
-    let mut left = Shown::new(window, trace);
-    if let Some(first) = left.next() {
-        put_rows_from(text, sink, cycle, scale, &first, left);
-    }
+    put_walk(text, sink, cycle, scale, false, window, trace);
+    put_walk(text, sink, cycle, scale, true, window, trace);
 }

@@ -99,6 +99,17 @@ impl Cycle {
             end: sent.end,
         }
     }
+
+    /// Whether a row takes a moment.
+    pub fn takes(&self, row: Extent, t: u64) -> bool
+        requires { 0 < self.now.ti }
+        ensures { result ≡ definition.takes self.now row t }
+    {
+        match self.mode {
+            Mode::Periodic => interval_of(self.ti, t) == row.begin,
+            Mode::Aperiodic => row.begin <= t,
+        }
+    }
 }
 
 impl Extent {

@@ -17,7 +17,8 @@ use bus_table::table::Table;
 use bus_trace::Trace;
 
 /// Writes the picture of a window of a trace on a table as SVG: a row for each cycle, one below the other from the same left edge, at most
-/// 500, and above them the words of the verdict and of the audit. It goes over the trace three times, and takes no memory.
+/// 500, and above them the words of the verdict and of the audit. What is garbled is drawn over all that is plain. It goes over the trace
+/// four times, and takes no memory.
 ///
 /// At `WriteFault` the sink has taken a front of the text, and its count of faults rose.
 pub fn write_cycles<K: Sink>(

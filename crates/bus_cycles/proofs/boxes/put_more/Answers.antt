@@ -11,7 +11,7 @@ returns-clause-adds g c was keeps =
     let reach : Reaches c.args.scale.now c.with.result.begin was.sents c.args.edges.now =
     subst (λ (e : Extent). Reaches c.args.scale.now e.begin was.sents c.args.edges.now) (sym same) keeps.reaches in
     subst (λ (e : Extent). Adds g.K.Sink.held g.K.Sink.faults c.args.sink.now c.put_behind.new.sink c.args.text.now c.put_behind.new.text
-    (box_behind c.args.scale.now e.place e.begin was.sents c.args.sent.now)) same (c.put_behind.ensures.adds was.sents reach)
+    (box_behind c.args.scale.now c.args.garbled e.place e.begin was.sents c.args.sent.now)) same (c.put_behind.ensures.adds was.sents reach)
 
 pub returns-clause-keeps : goal.returns-clause-keeps
 returns-clause-keeps g c was keeps =
