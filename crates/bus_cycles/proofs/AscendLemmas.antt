@@ -68,7 +68,7 @@ chain_from all front (x ∷ xs) horizon parts order below =
 pub chain : (list : List Entry) (horizon : ℕ) → IsAscending list → AllByRecursion (IsBelow horizon) list → Chain (sents list)
 chain list horizon order below = chain_from list [] list horizon refl order below
 
-chain_filtered : (p : Sent → Bool) (xs : List Sent) → Chain xs → Chain (filter p xs)
+pub chain_filtered : (p : Sent → Bool) (xs : List Sent) → Chain xs → Chain (filter p xs)
 chain_filtered p [] h = tt
 chain_filtered p (x ∷ xs) h =
     elim (p x) as (λ b. Chain (cond b (x ∷ filter p xs) (filter p xs))) [

@@ -4,3 +4,6 @@ pub mod AscendLemmas
 pub mod SurveyLemmas
 pub mod DrawLemmas
 pub mod WriteLemmas
+pub mod CycleLemmas
+pub mod CoverLemmas
+pub mod BreachLemmas

@@ -83,6 +83,12 @@ hatched table window list row sent i j =
     (t, subst (λ b. (class_of (shade sent) ≡ Garbled) ↔ (b ≡ true)) mark (hatched_at sent.garbled (sent.terminal % 2) odd))
 
 -- ---- intervals
+pub within_interval : (ti t : ℕ) → 0 < ti → (t / ti * ti ≤ t) × (t < t / ti * ti + ti)
+within_interval ti t some =
+    let whole : t / ti * ti + t % ti ≡ t = div-add-mod' t ti in
+    let short : t % ti < ti = mod-lt t some in
+    (omega arith, omega arith)
+
 abbrev IsWhole : ℕ → Row → Type 0
 IsWhole ti row = AllByRecursion (λ (sent : Sent). interval_of ti sent.moment ≡ row.begin) row.sents
 
@@ -119,10 +125,4 @@ intervals table window list row sent valid mode i j =
     let at : interval_of table.ti sent.moment ≡ row.begin = of_each (λ (s : Sent). interval_of table.ti s.moment ≡ row.begin) row.sents whole sent j in
     let some : 0 < table.ti = (let f = valid_facts table valid in omega (arith, f.ti_least)) in
     let parts = within_interval table.ti sent.moment some in
-    (subst (λ b. b ≤ sent.moment) at parts.0, subst (λ b. sent.moment < b + table.ti) at parts.1)
-  where
-    within_interval : (ti t : ℕ) → 0 < ti → (t / ti * ti ≤ t) × (t < t / ti * ti + ti)
-    within_interval ti t some =
-        let whole : t / ti * ti + t % ti ≡ t = div-add-mod' t ti in
-        let short : t % ti < ti = mod-lt t some in
-        (omega arith, omega arith)
+    (sym at, subst (λ b. b ≤ sent.moment) at parts.0, subst (λ b. sent.moment < b + table.ti) at parts.1)

@@ -1,20 +1,24 @@
 -- What follows of the definitions. The contracts of `laws` say that each of these holds.
-use Rattle.std.specs.Prelude.{◌≡◌, ◌↔◌, ◌+◌, ◌<◌, ◌≤◌, true, IsTrue, List, [], ◌∷◌, ⊤}
-use Rattle.std.specs.List.{AllByRecursion, flat_map}
+use Rattle.std.specs.Prelude.{◌≡◌, ◌↔◌, ℕ, ◌+◌, ◌-◌, ◌<◌, ◌≤◌, true, false, IsTrue, List, [], ◌∷◌, ◌++◌, length, slice_get, Some, ⊤}
+use Rattle.std.specs.List.{AllByRecursion, count_by, flat_map, sum_by}
 use Rattle.bus_strings.specs.Members.{In}
 use Rattle.bus_strings.specs.Messages.{Entry}
 use Rattle.bus_strings.specs.Transmissions.{garbled}
-use Rattle.bus_table.specs.declared.mode.Mode.TheVariants.{Periodic}
+use Rattle.bus_table.specs.declared.mode.Mode.TheVariants.{Aperiodic, Periodic}
 use Rattle.bus_table.specs.Tables.{Table}
 use Rattle.bus_table.specs.Valid.{is_valid}
 use Rattle.bus_trace.specs.Traces.{Recording, IsTrace}
 use Rattle.bus_shapes.specs.declared.class.Class.TheVariants.{Garbled}
 use Rattle.bus_shapes.specs.declared.sent.Sent.{Sent}
+use Rattle.bus_shapes.specs.declared.scale.Scale.{Scale}
+use Rattle.bus_shapes.specs.Scales.{IsScale}
 use Rattle.bus_shapes.specs.SendingLaws.{IsToldOf}
 use Rattle.bus_shapes.specs.Windows.{Window}
-use Rattle.bus_cycles.specs.Rows.{Row, rows}
-use Rattle.bus_cycles.specs.RowTexts.{class_of, shade}
+use Rattle.bus_cycles.specs.CyclesTexts.{scale_of}
+use Rattle.bus_cycles.specs.Rows.{Extent, Row, cycle_of, extent_of, interval_of, rows}
+use Rattle.bus_cycles.specs.RowTexts.{class_of, is_left_out, left_of, right_of, shade}
 use Rattle.bus_cycles.specs.Sents.{shown}
+use Rattle.bus_cycles.specs.Surveys.{Survey, counts, is_drawn, survey_of}
 
 -- The rows of a window are a partition: their transmissions, one behind the other, are exactly those that begin in it, in order.
 abbrev pub RowsAreAPartition : Type 0
@@ -31,7 +35,29 @@ HatchedAreGarbled =
 abbrev pub RowsAreIntervals : Type 0
 RowsAreIntervals =
     (table : Table) (window : Window) (list : List Entry) (row : Row) (sent : Sent) → IsTrue (is_valid table) → table.mode ≡ Periodic
-    → In row (rows table window list) → In sent row.sents → (row.begin ≤ sent.moment) × (sent.moment < row.begin + table.ti)
+    → In row (rows table window list) → In sent row.sents
+    → (row.begin ≡ interval_of table.ti sent.moment) × (row.begin ≤ sent.moment) × (sent.moment < row.begin + table.ti)
+
+-- A row is a cycle of this synchronization gap: the first of its transmissions comes the gap or more behind the end of all earlier ones of
+-- the list, but for the first row; each other one comes less than the gap behind it.
+pub record IsCycle (gap : ℕ) (row : Row) : Type 0 where
+  pub first : Sent
+  pub others : List Sent
+  pub sents_are : row.sents ≡ first ∷ others
+  pub far : 0 < row.place → first.before + gap ≤ first.moment
+  pub near : AllByRecursion (λ (sent : Sent). sent.moment < sent.before + gap) others
+
+-- In aperiodic mode each row is a cycle.
+abbrev pub RowsAreCycles : Type 0
+RowsAreCycles =
+    (table : Table) (window : Window) (list : List Entry) (row : Row) → IsTrue (is_valid table) → table.mode ≡ Aperiodic
+    → In row (rows table window list) → IsCycle table.sg row
+
+-- The place of a row says which one it is.
+abbrev pub RowsAreNumbered : Type 0
+RowsAreNumbered =
+    (table : Table) (window : Window) (list : List Entry) (k : ℕ) (row : Row) → slice_get (rows table window list) k ≡ Some row
+    → row.place ≡ k
 
 -- Each row begins later than all before it.
 abbrev pub Ascend : List Row → Type 0
@@ -41,3 +67,53 @@ Ascend (row ∷ rows) = AllByRecursion (λ (next : Row). row.begin < next.begin)
 abbrev pub RowsAscend : Type 0
 RowsAscend =
     (table : Table) (window : Window) (trace : Recording) → IsTrue (is_valid table) → IsTrace trace → Ascend (rows table window trace.list)
+
+-- The counts above the plot are those of the rows: how many transmissions they have, and how many of these are garbled.
+abbrev pub garbled_of : Row → ℕ
+garbled_of row = count_by (λ (sent : Sent). sent.garbled) row.sents
+
+abbrev pub CountsAreOfRows : Type 0
+CountsAreOfRows =
+    (table : Table) (window : Window) (trace : Recording)
+    → ((counts window trace).shown ≡ sum_by (λ (row : Row). length row.sents) (rows table window trace.list))
+    × ((counts window trace).garbled ≡ sum_by garbled_of (rows table window trace.list))
+
+-- A transmission is covered by an earlier one of its row, which isn't left out and has its shade: its box begins no later, and reaches as
+-- far.
+pub record IsCovered (scale : Scale) (begin : ℕ) (earlier : List Sent) (sent : Sent) : Type 0 where
+  pub front : List Sent
+  pub other : Sent
+  pub back : List Sent
+  pub earlier_are : earlier ≡ front ++ other ∷ back
+  pub stays : is_left_out scale begin front other ≡ false
+  pub same : shade other ≡ shade sent
+  pub left : left_of scale begin other ≤ left_of scale begin sent
+  pub right : right_of scale begin sent ≤ right_of scale begin other
+
+-- Each transmission of a row that is left out is covered.
+abbrev pub LeftOutAreCovered : Type 0
+LeftOutAreCovered =
+    (table : Table) (window : Window) (trace : Recording) (scale : Scale) (row : Row) (earlier later : List Sent) (sent : Sent)
+    → IsTrace trace → IsScale scale → In row (rows table window trace.list) → row.sents ≡ earlier ++ sent ∷ later
+    → is_left_out scale row.begin earlier sent ≡ true → IsCovered scale row.begin earlier sent
+
+-- What is told of the rows of a window with a breach at this moment.
+abbrev pub survey_with : Table → Window → List Entry → ℕ → Survey
+survey_with table window list moment = survey_of (cycle_of table) (Some moment) (shown window list)
+
+-- The breach stands at its moment in the row of this extent: the row has begun by then, the scale holds the moment, and so does the row's
+-- interval in periodic mode.
+pub record IsAtItsMoment (table : Table) (window : Window) (list : List Entry) (moment : ℕ) (extent : Extent) : Type 0 where
+  pub row : Row
+  pub one : In row (rows table window list)
+  pub extent_is : extent ≡ extent_of row
+  pub begun : extent.begin ≤ moment
+  pub held : moment - extent.begin ≤ (scale_of (survey_with table window list moment)).to
+  pub within : table.mode ≡ Periodic → moment < extent.begin + table.ti
+
+-- A breach that is drawn stands at its moment.
+abbrev pub BreachIsAtItsMoment : Type 0
+BreachIsAtItsMoment =
+    (table : Table) (window : Window) (list : List Entry) (moment : ℕ) (extent : Extent) → IsTrue (is_valid table)
+    → (survey_with table window list moment).marked ≡ Some extent → IsTrue (is_drawn extent.place)
+    → IsAtItsMoment table window list moment extent

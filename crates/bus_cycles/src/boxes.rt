@@ -198,8 +198,8 @@ fn put_where_due<K: Sink>(
 )
     requires scale { IsScale scale.now }
     requires order { sent.now.moment ≤ sent.now.end }
-    ensures { Adds K.held K.faults sink.old sink.new text.old text.new (definition.where_due garbled sent.now (definition.where_drawn row.place
-        (definition.sent_text (definition.area_of scale.now row.place row.begin sent.now) sent.now))) }
+    ensures { Adds K.held K.faults sink.old sink.new text.old text.new (definition.where_due garbled sent.now
+        (definition.where_drawn row.place (definition.sent_text (definition.area_of scale.now row.place row.begin sent.now) sent.now))) }
 {
     if is_due(garbled, sent) {
         put_where_drawn(text, sink, scale, row, sent);

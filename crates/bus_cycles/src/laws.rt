@@ -1,5 +1,8 @@
 //! Laws of the definitions, each the contract of a function that does nothing.
-ghost use Rattle.bus_cycles.specs.Laws.{HatchedAreGarbled, RowsAreAPartition, RowsAreIntervals, RowsAscend};
+ghost use Rattle.bus_cycles.specs.Laws.{BreachIsAtItsMoment, CountsAreOfRows, HatchedAreGarbled, LeftOutAreCovered};
+ghost use Rattle.bus_cycles.specs.Laws.{RowsAreAPartition, RowsAreCycles, RowsAreIntervals, RowsAreNumbered, RowsAscend};
+
+use bus_shapes::laws::places_keep_order;
 
 /// The rows of a window are a partition: their transmissions, one behind the other, are exactly those that begin in the window, in order.
 pub fn rows_are_a_partition()
@@ -16,7 +19,34 @@ pub fn rows_are_intervals()
     ensures { RowsAreIntervals }
 {}
 
+/// In aperiodic mode a row begins where a synchronization gap or more is quiet, and at no other transmission but the first.
+pub fn rows_are_cycles()
+    ensures { RowsAreCycles }
+{}
+
+/// The place of a row says which one it is, from 0.
+pub fn rows_are_numbered()
+    ensures { RowsAreNumbered }
+{}
+
 /// Each row begins later than all before it.
 pub fn rows_ascend()
     ensures { RowsAscend }
+{}
+
+/// The counts above the plot are those of the rows.
+pub fn counts_are_of_rows()
+    ensures { CountsAreOfRows }
+{}
+
+/// Each transmission of a row that is left out lies under the box of an earlier one of its row and shade.
+pub fn left_out_are_covered()
+    ensures { LeftOutAreCovered }
+{
+    places_keep_order();
+}
+
+/// A first breach that is drawn stands at its moment, in a row that has begun by then, and in periodic mode in the row of its interval.
+pub fn breach_is_at_its_moment()
+    ensures { BreachIsAtItsMoment }
 {}

@@ -1,0 +1,78 @@
+-- A breach that is drawn stands at its moment.
+use Rattle.std.proofs.Common.{◌≡◌, ◌⊎◌, ℕ, ◌+◌, ◌-◌, ◌<◌, ◌≤◌, Bool, true, false, cond, max, List, [], ◌∷◌, Some, inl, inr, arith, sym, refl, ap, subst, ◌∙◌}
+use Rattle.std.specs.Prelude.{fold, map}
+use Rattle.std.proofs.lemmas.Bool.{eqb-true, leb-true}
+use Rattle.bus_strings.specs.Members.{In}
+use Rattle.bus_table.specs.declared.mode.Mode.{Mode}
+use Rattle.bus_table.specs.declared.mode.Mode.TheVariants.{Aperiodic, Periodic}
+use Rattle.bus_table.specs.ValidLaws.{valid_facts}
+use Rattle.bus_cycles.specs.Laws.{BreachIsAtItsMoment}
+use Rattle.bus_cycles.specs.Rows.{Cycle, Extent, Row, cycle_of, extent_of, interval_of, rows, takes, takes_in}
+use Rattle.bus_cycles.specs.Sents.{shown}
+use Rattle.bus_cycles.specs.Surveys.{Survey, is_drawn, nothing, reach_of, told_of, with_row}
+use Rattle.bus_cycles.proofs.RowLemmas.{within_interval}
+
+-- ---- the row that is marked is one of the rows, and takes the breach
+pub record IsTaken (cycle : Cycle) (moment : ℕ) (list : List Row) (extent : Extent) : Type 0 where
+  pub row : Row
+  pub one : In row list
+  pub extent_is : extent ≡ extent_of row
+  pub takes_it : takes cycle extent moment ≡ true
+
+taken_from : (cycle : Cycle) (moment : ℕ) (list : List Row) (survey : Survey) (extent : Extent)
+    → (fold (with_row cycle (Some moment)) survey (map extent_of list)).marked ≡ Some extent → (survey.marked ≡ Some extent) ⊎ IsTaken cycle moment list extent
+taken_from cycle moment [] survey extent e = inl e
+taken_from cycle moment (r ∷ rs) survey extent e =
+    elim (taken_from cycle moment rs (with_row cycle (Some moment) survey (extent_of r)) extent e) [
+      | inl here ↦ both (takes cycle (extent_of r) moment) refl here
+      | inr later ↦ inr (record { row = later.row; one = inr later.one; extent_is = later.extent_is; takes_it = later.takes_it })
+    ]
+  where
+    both : (b : Bool) → takes cycle (extent_of r) moment ≡ b → cond b (Some (extent_of r)) survey.marked ≡ Some extent
+        → (survey.marked ≡ Some extent) ⊎ IsTaken cycle moment (r ∷ rs) extent
+    both true t h =
+        let same : extent_of r ≡ extent = cc in
+        inr (record { row = r; one = inl refl; extent_is = sym same; takes_it = subst (λ (x : Extent). takes cycle x moment ≡ true) same t })
+    both false t h = inl h
+
+-- ---- what a row takes
+pub record IsTaking (mode : Mode) (cycle : Cycle) (extent : Extent) (moment : ℕ) : Type 0 where
+  pub begun : extent.begin ≤ moment
+  pub within : mode ≡ Periodic → moment < extent.begin + cycle.ti
+
+taking : (mode : Mode) (cycle : Cycle) (extent : Extent) (moment : ℕ) → 0 < cycle.ti → takes_in mode cycle extent moment ≡ true
+    → IsTaking mode cycle extent moment
+taking Periodic cycle extent moment some e =
+    let at : interval_of cycle.ti moment ≡ extent.begin = eqb-true (interval_of cycle.ti moment) extent.begin e in
+    let parts = within_interval cycle.ti moment some in
+    record { begun = subst (λ b. b ≤ moment) at parts.0; within = λ h. subst (λ b. moment < b + cycle.ti) at parts.1 }
+taking Aperiodic cycle extent moment some e = record { begun = leb-true extent.begin moment e; within = λ h. absurd (cc) }
+
+-- ---- the scale holds it
+held_by : (survey : Survey) (moment : ℕ) (extent : Extent) → survey.marked ≡ Some extent → is_drawn extent.place ≡ true
+    → moment - extent.begin ≤ max survey.longest (reach_of (Some moment) survey.marked)
+held_by survey moment extent marked drawn =
+    let reach : reach_of (Some moment) survey.marked ≡ moment - extent.begin =
+    ap (reach_of (Some moment)) marked ∙ ap (λ b. cond b (moment - extent.begin) 0) drawn in
+    omega arith
+
+pub at_its_moment : BreachIsAtItsMoment
+at_its_moment table window list moment extent valid marked drawn =
+    let cycle = cycle_of table in
+    let told = told_of cycle (Some moment) (shown window list) in
+    let facts = valid_facts table valid in
+    let least : 1000 ≤ table.ti = facts.ti_least in
+    let some : 0 < table.ti = omega arith in
+    elim (taken_from cycle moment (rows table window list) (nothing cycle) extent marked) [
+      | inl none ↦ absurd (cc)
+      | inr taken ↦
+          let is : IsTaking table.mode cycle extent moment = taking table.mode cycle extent moment some taken.takes_it in
+          record {
+            row = taken.row;
+            one = taken.one;
+            extent_is = taken.extent_is;
+            begun = is.begun;
+            held = held_by told moment extent marked drawn;
+            within = is.within;
+          }
+    ]

@@ -1,0 +1,135 @@
+-- What is left out of a row is covered.
+use Rattle.std.proofs.Common.{◌≡◌, ℕ, ◌-◌, ◌*◌, ◌/◌, ◌<◌, ◌≤◌, Bool, true, false, ◌&&◌, ◌||◌, eqb, leb, List, [], ◌∷◌, ◌++◌, inl, inr, arith, sym, refl, ap, subst, ◌∙◌, append_assoc}
+use Rattle.std.specs.List.{AllByRecursion, flat_map}
+use Rattle.std.proofs.lemmas.Bool.{and_parts, eqb-true, leb-true, leb-false, lt-leb, true≢false}
+use Rattle.bus_strings.specs.MemberLaws.{in_append_right, of_each}
+use Rattle.bus_strings.specs.Members.{In}
+use Rattle.bus_shapes.specs.Laws.{PlacesRise}
+use Rattle.bus_shapes.specs.declared.scale.Scale.{Scale}
+use Rattle.bus_shapes.specs.Scales.{IsScale, place}
+use Rattle.bus_shapes.specs.declared.sent.Sent.{Sent}
+use Rattle.bus_shapes.specs.Sending.{sents}
+use Rattle.bus_cycles.specs.Laws.{LeftOutAreCovered}
+use Rattle.bus_cycles.specs.Rows.{Row, rows}
+use Rattle.bus_cycles.specs.RowTexts.{is_reached, left_of, right_of, shade}
+use Rattle.bus_cycles.specs.Sents.{is_shown, shown}
+use Rattle.bus_cycles.proofs.AscendLemmas.{Chain, IsBehind, chain, chain_filtered}
+use Rattle.bus_cycles.proofs.DrawLemmas.{reached_more}
+use Rattle.bus_cycles.proofs.RowLemmas.{partition}
+
+-- ---- the transmissions of a row are in order
+chain_right : (xs ys : List Sent) → Chain (xs ++ ys) → Chain ys
+chain_right [] ys h = h
+chain_right (x ∷ xs) ys h = chain_right xs ys h.1
+
+all_left : (m : ℕ) (xs ys : List Sent) → AllByRecursion (IsBehind m) (xs ++ ys) → AllByRecursion (IsBehind m) xs
+all_left m [] ys h = tt
+all_left m (x ∷ xs) ys h = (h.0, all_left m xs ys h.1)
+
+chain_left : (xs ys : List Sent) → Chain (xs ++ ys) → Chain xs
+chain_left [] ys h = tt
+chain_left (x ∷ xs) ys h = (all_left x.moment xs ys h.0, chain_left xs ys h.1)
+
+chain_row : (rs : List Row) (row : Row) → Chain (flat_map (λ (r : Row). r.sents) rs) → In row rs → Chain row.sents
+chain_row [] row h i = absurd i
+chain_row (r ∷ rs) row h (inl same) = subst (λ (y : Row). Chain y.sents) (sym same) (chain_left r.sents (flat_map (λ (r : Row). r.sents) rs) h)
+chain_row (r ∷ rs) row h (inr i) = chain_row rs row (chain_right r.sents (flat_map (λ (r : Row). r.sents) rs) h) i
+
+in_order : (front back later : List Sent) (other sent : Sent) → Chain ((front ++ other ∷ back) ++ sent ∷ later) → other.moment ≤ sent.moment
+in_order front back later other sent h =
+    let parts : Chain (front ++ other ∷ (back ++ sent ∷ later)) = subst Chain (append_assoc front (other ∷ back) (sent ∷ later)) h in
+    let behind : Chain (other ∷ (back ++ sent ∷ later)) = chain_right front (other ∷ (back ++ sent ∷ later)) parts in
+    let one : IsBehind other.moment sent =
+    of_each (IsBehind other.moment) (back ++ sent ∷ later) behind.0 sent (in_append_right back (sent ∷ later) sent (inl refl)) in
+    one.moment
+
+left_rises : (scale : Scale) (begin : ℕ) (other sent : Sent) → PlacesRise → IsScale scale → other.moment ≤ sent.moment
+    → left_of scale begin other ≤ left_of scale begin sent
+left_rises scale begin other sent rise is order =
+    let places : place scale (other.moment - begin) ≤ place scale (sent.moment - begin) =
+    rise scale (other.moment - begin) (sent.moment - begin) is (omega arith) in
+    tens (place scale (other.moment - begin)) (place scale (sent.moment - begin)) places
+  where
+    tens : (a b : ℕ) → a ≤ b → a / 10 * 10 ≤ b / 10 * 10
+    tens a b h = omega arith
+
+-- ---- the first that has a shade and reaches as far
+pub record IsFirst (scale : Scale) (begin : ℕ) (whole : List Sent) (tone right : ℕ) : Type 0 where
+  pub front : List Sent
+  pub other : Sent
+  pub back : List Sent
+  pub whole_is : whole ≡ front ++ other ∷ back
+  pub stays : is_reached scale begin front tone (right_of scale begin other) ≡ false
+  pub same : shade other ≡ tone
+  pub reaches : right ≤ right_of scale begin other
+
+further : (scale : Scale) (begin : ℕ) (xs : List Sent) (tone near far : ℕ) → near ≤ far → is_reached scale begin xs tone near ≡ false
+    → is_reached scale begin xs tone far ≡ false
+further scale begin [] tone near far h e = refl
+further scale begin (x ∷ xs) tone near far h e =
+    let parts = or_none (eqb (shade x) tone && leb near (right_of scale begin x)) (is_reached scale begin xs tone near) e in
+    both_none (eqb (shade x) tone && leb far (right_of scale begin x)) (is_reached scale begin xs tone far)
+    (one (eqb (shade x) tone) (right_of scale begin x) parts.0) (further scale begin xs tone near far h parts.1)
+  where
+    or_none : (a b : Bool) → (a || b) ≡ false → (a ≡ false) × (b ≡ false)
+    or_none true b e = absurd (true≢false e)
+    or_none false b e = (refl, e)
+
+    both_none : (a b : Bool) → a ≡ false → b ≡ false → (a || b) ≡ false
+    both_none a b p q = cc
+
+    one : (t : Bool) (right : ℕ) → (t && leb near right) ≡ false → (t && leb far right) ≡ false
+    one true right e = let short : right < near = leb-false near right e in lt-leb far right (omega arith)
+    one false right e = refl
+
+first_step : (scale : Scale) (begin : ℕ) (front : List Sent) (x : Sent) (xs : List Sent) (tone right : ℕ) (b : Bool)
+    → is_reached scale begin front tone right ≡ false → (eqb (shade x) tone && leb right (right_of scale begin x)) ≡ b
+    → (b || is_reached scale begin xs tone right) ≡ true
+    → (is_reached scale begin (front ++ x ∷ []) tone right ≡ false → is_reached scale begin xs tone right ≡ true
+    → IsFirst scale begin ((front ++ x ∷ []) ++ xs) tone right)
+    → IsFirst scale begin (front ++ x ∷ xs) tone right
+first_step scale begin front x xs tone right true none here h next =
+    let parts = and_parts (eqb (shade x) tone) (leb right (right_of scale begin x)) here in
+    let reach : right ≤ right_of scale begin x = leb-true right (right_of scale begin x) parts.1 in
+    record {
+      front = front;
+      other = x;
+      back = xs;
+      whole_is = refl;
+      stays = further scale begin front tone right (right_of scale begin x) reach none;
+      same = eqb-true (shade x) tone parts.0;
+      reaches = reach;
+    }
+first_step scale begin front x xs tone right false none here h next =
+    subst (λ l. IsFirst scale begin l tone right) (append_assoc front (x ∷ []) xs)
+    (next (reached_more scale begin front x tone right
+    ∙ ap (λ b. is_reached scale begin front tone right || b) here
+    ∙ ap (λ b. b || false) none) h)
+
+first_from : (scale : Scale) (begin : ℕ) (front xs : List Sent) (tone right : ℕ) → is_reached scale begin front tone right ≡ false
+    → is_reached scale begin xs tone right ≡ true → IsFirst scale begin (front ++ xs) tone right
+first_from scale begin front [] tone right none e = absurd (true≢false (sym e))
+first_from scale begin front (x ∷ xs) tone right none e =
+    first_step scale begin front x xs tone right (eqb (shade x) tone && leb right (right_of scale begin x)) none refl e
+    (λ h r. first_from scale begin (front ++ x ∷ []) xs tone right h r)
+
+-- ---- covered
+pub left_out_covered : PlacesRise → LeftOutAreCovered
+left_out_covered rise table window trace scale row earlier later sent is fits i parts out =
+    let shown_chain : Chain (shown window trace.list) =
+    chain_filtered (is_shown window) (sents trace.list) (chain trace.list trace.horizon is.order is.list) in
+    let all : Chain row.sents = chain_row (rows table window trace.list) row (subst Chain (sym (partition table window trace.list)) shown_chain) i in
+    let first : IsFirst scale row.begin earlier (shade sent) (right_of scale row.begin sent) =
+    first_from scale row.begin [] earlier (shade sent) (right_of scale row.begin sent) refl out in
+    let whole : row.sents ≡ (first.front ++ first.other ∷ first.back) ++ sent ∷ later = parts ∙ ap (λ l. l ++ sent ∷ later) first.whole_is in
+    let order = in_order first.front first.back later first.other sent (subst Chain whole all) in
+    record {
+      front = first.front;
+      other = first.other;
+      back = first.back;
+      earlier_are = first.whole_is;
+      stays = ap (λ tone. is_reached scale row.begin first.front tone (right_of scale row.begin first.other)) first.same ∙ first.stays;
+      same = first.same;
+      left = left_rises scale row.begin first.other sent rise fits order;
+      right = first.reaches;
+    }
