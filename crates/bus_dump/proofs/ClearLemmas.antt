@@ -54,11 +54,11 @@ few_held t (x ∷ list) apart = elim (cases_Bool (holds t x)) [
       omega (arith, same, few_held t list apart.1)
 ]
 
-few_seen : (list : List Entry) (t : ℕ) → IsOrdered AreApart list → length (seen_at list t) ≤ 1
+pub few_seen : (list : List Entry) (t : ℕ) → IsOrdered AreApart list → length (seen_at list t) ≤ 1
 few_seen list t apart = omega (arith, held_seen list t, length-filter (holds t) list, few_held t list apart)
 
 -- ---- none is garbled
-before_it : (R : Entry → Entry → Type 0) (list : List Entry) (k : ℕ) (x y : Entry) → IsOrdered R list → In x (take k list) → slice_get list k ≡ Some y
+pub before_it : (R : Entry → Entry → Type 0) (list : List Entry) (k : ℕ) (x y : Entry) → IsOrdered R list → In x (take k list) → slice_get list k ≡ Some y
     → R x y
 before_it R [] k x y o i e = absurd (let w : None ≡ Some y = e in cc)
 before_it R (z ∷ list) zero x y o i e = absurd i

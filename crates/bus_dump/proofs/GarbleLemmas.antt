@@ -126,14 +126,14 @@ overlap_is_garbled list t some =
     )
 
 -- ---- from a garbled terminal to an overlap
-any_of : {X : Type 0} (p : X → Bool) (xs : List X) → list_any p xs ≡ true → (x : X) × In x xs × (p x ≡ true)
+pub any_of : {X : Type 0} (p : X → Bool) (xs : List X) → list_any p xs ≡ true → (x : X) × In x xs × (p x ≡ true)
 any_of p [] h = absurd (true≢false (sym h))
 any_of p (x ∷ xs) h = elim (cases_Bool (p x)) [
   | inl yes' ↦ (x, inl refl, yes')
   | inr no' ↦ (let more = any_of p xs (sym (ap (λ b. b || list_any p xs) no') ∙ h) in (more.0, inr more.1, more.2))
 ]
 
-some_kept : (p : Entry → Bool) (xs : List Entry) (x : Entry) → In x xs → p x ≡ true → 0 < length (filter p xs)
+pub some_kept : (p : Entry → Bool) (xs : List Entry) (x : Entry) → In x xs → p x ≡ true → 0 < length (filter p xs)
 some_kept p [] x i h = absurd i
 some_kept p (y ∷ xs) x (inl same) h =
     let one : length (filter p (y ∷ xs)) ≡ suc (length (filter p xs)) = ap (λ b. length (cond b (y ∷ filter p xs) (filter p xs))) (ap p (sym same) ∙ h) in
@@ -151,7 +151,7 @@ two_kept p list n x y i k h w =
     ∙ length-append (filter p (take n list)) (filter p (drop n list)) in
     omega (arith, parts, some_kept p (take n list) x i h, some_kept p (drop n list) y k w, length-filter p list)
 
-in_take : (list : List Entry) (k : ℕ) (x : Entry) → slice_get list k ≡ Some x → In x (take (suc k) list)
+pub in_take : (list : List Entry) (k : ℕ) (x : Entry) → slice_get list k ≡ Some x → In x (take (suc k) list)
 in_take [] k x e = absurd (let w : None ≡ Some x = e in cc)
 in_take (z ∷ list) zero x e = inl (let w : Some z ≡ Some x = e in cc)
 in_take (z ∷ list) (suc k) x e = inr (in_take list k x e)

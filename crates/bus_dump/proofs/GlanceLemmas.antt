@@ -32,13 +32,13 @@ left_is b h =
     ]
 
 -- what is at a bit time of a message whose first wordstring is s
-first_at : (s : Wordstring) (m : Message) (d : ℕ) → d < 20 * word_count s → shown_at (s ∷ m) d ≡ Some (shown_of (record { string = s; at = d }))
+pub first_at : (s : Wordstring) (m : Message) (d : ℕ) → d < 20 * word_count s → shown_at (s ∷ m) d ≡ Some (shown_of (record { string = s; at = d }))
 first_at s m d h = rw (lt-ltb d (20 * word_count s) h) refl
 
-quiet_at : (s : Wordstring) (m : Message) (d : ℕ) → 20 * word_count s ≤ d → d < 20 * word_count s + 4 → shown_at (s ∷ m) d ≡ None
+pub quiet_at : (s : Wordstring) (m : Message) (d : ℕ) → 20 * word_count s ≤ d → d < 20 * word_count s + 4 → shown_at (s ∷ m) d ≡ None
 quiet_at s m d h k = rw (le-ltb d (20 * word_count s) h, lt-ltb d (20 * word_count s + 4) k) refl
 
-later_at : (s : Wordstring) (m : Message) (d : ℕ) → 20 * word_count s + 4 ≤ d → shown_at (s ∷ m) d ≡ shown_at m (d - (20 * word_count s + 4))
+pub later_at : (s : Wordstring) (m : Message) (d : ℕ) → 20 * word_count s + 4 ≤ d → shown_at (s ∷ m) d ≡ shown_at m (d - (20 * word_count s + 4))
 later_at s m d h =
     let k : 20 * word_count s ≤ d = omega arith in
     rw (le-ltb d (20 * word_count s) k, le-ltb d (20 * word_count s + 4) h) refl
@@ -50,7 +50,7 @@ bits_one s = omega (arith, sum_by-cons word_count s [])
 bits_more : (s t : Wordstring) (m : Message) → bits (s ∷ (t ∷ m)) ≡ 20 * word_count s + 4 + bits (t ∷ m)
 bits_more s t m = omega (arith, sum_by-cons word_count s (t ∷ m))
 
-bits_least : (s : Wordstring) (m : Message) → 20 * word_count s ≤ bits (s ∷ m)
+pub bits_least : (s : Wordstring) (m : Message) → 20 * word_count s ≤ bits (s ∷ m)
 bits_least s m = omega (arith, sum_by-cons word_count s m)
 
 -- the same wordstring as many bit times later shows the same

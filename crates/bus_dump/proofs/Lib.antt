@@ -32,3 +32,6 @@ pub mod SaveLemmas
 pub mod LaneLawLemmas
 pub mod NumberLemmas
 pub mod NameLemmas
+pub mod MessageLemmas
+pub mod LostLemmas
+pub mod NothingLostLemmas

@@ -1,5 +1,5 @@
 -- A dump declares the name of each of its signals.
-use Rattle.std.proofs.Common.{◌≡◌, ℕ, ◌^◌, ◌<◌, true, false, not, ◌&&◌, cond, eqb, List, [], ◌∷◌, ◌++◌, codes, decimal, Some, None}
+use Rattle.std.proofs.Common.{◌≡◌, ℕ, ◌^◌, ◌<◌, Bool, true, false, not, ◌&&◌, cond, eqb, List, [], ◌∷◌, ◌++◌, codes, decimal, Some, None}
 use Rattle.std.proofs.Common.{inl, inr, arith, sym, refl, ap, ◌∙◌, append_assoc}
 use Rattle.std.specs.Prelude.{slice_get, slice_index_or}
 use Rattle.std.specs.Char.{is_ascii_digit}
@@ -11,6 +11,7 @@ use Rattle.std.proofs.lemmas.Bool.{and_parts, cases_Bool, or_parts, true≢false
 use Rattle.std.proofs.lemmas.Bool.Decides.{nat_tests}
 use Rattle.std.proofs.lemmas.List.Elements.{All-from_recursion}
 use Rattle.std.proofs.lemmas.List.Splits.{slice_split_at, slice_split_none}
+use Rattle.bus_text.specs.Lines.{physical_lines}
 use Rattle.bus_text.specs.Numbers.{is_plain_decimal}
 use Rattle.bus_text.specs.NumberLaws.{decimal_field, decimal_is}
 use Rattle.bus_strings.specs.Members.{In}
@@ -18,7 +19,7 @@ use Rattle.bus_dump.specs.DumpTexts.{behind_text, bits_text, changes_to, declara
 use Rattle.bus_dump.specs.Reading.{declared, first_declared, identifier, parts_of, read, read_named}
 use Rattle.bus_dump.specs.Scenes.{Scene}
 use Rattle.bus_dump.specs.Signals.{Signal, Carrier, Overlap, Sync, Word, Pulse, Garbled, Label, Message, Interval, Synchronization, Gap, May}
-use Rattle.bus_dump.proofs.ReadLemmas.{Feedless, IsSmall, NotOf, feedless_join, feedless_test, field_spaceless, good_id, line_first, not_join, own_bytes, same_bytes}
+use Rattle.bus_dump.proofs.ReadLemmas.{Feedless, IsSmall, NotOf, feedless_join, feedless_test, field_spaceless, good_id, line_first, not_join, own_bytes, same_bytes, same_id}
 use Rattle.bus_dump.proofs.ReadThroughLemmas.{declaration_feedless}
 
 -- ---- parts of lines
@@ -275,3 +276,79 @@ name_declared comment ss scene horizon s plain small own i =
 -- so the signal is read by its name
 pub read_by_name : (name id text : List ℕ) (at : ℕ) → identifier name text ≡ Some id → read_named name at text ≡ read id at text
 read_by_name name id text at e = ap (λ o. option_and_then (λ i. read i at text) o) e
+
+-- ---- the same declarations are those of the same signals
+declaration_first : (s : Signal) (rest : List ℕ) → IsSmall s → physical_lines (declaration s ++ rest) ≡ line_text s ∷ physical_lines rest
+declaration_first s rest h =
+    let front : List ℕ = codes "$var wire " ++ width_text s ++ id_text s ++ codes " " ++ name_text s ++ bits_text s in
+    ap (λ l. physical_lines (l ++ rest)) (sym (append_assoc front (codes " $end") (10 ∷ [])))
+    ∙ ap physical_lines (append_assoc (line_text s) (10 ∷ []) rest)
+    ∙ line_first (line_text s) rest (declaration_feedless s h)
+
+declarations_first : (s : Signal) (ss : List Signal) (rest : List ℕ) → IsSmall s
+    → physical_lines (flat_map declaration (s ∷ ss) ++ rest) ≡ line_text s ∷ physical_lines (flat_map declaration ss ++ rest)
+declarations_first s ss rest h =
+    ap physical_lines (append_assoc (declaration s) (flat_map declaration ss) rest) ∙ declaration_first s (flat_map declaration ss ++ rest) h
+
+behind_first : (rest : List ℕ) → physical_lines (behind_text ++ rest) ≡ codes "$upscope $end" ∷ physical_lines (codes "$enddefinitions $end\n" ++ rest)
+behind_first rest = line_first (codes "$upscope $end") (codes "$enddefinitions $end" ++ 10 ∷ rest) (feedless_test (codes "$upscope $end") refl)
+
+-- whether a line is a declaration
+is_var : List ℕ → Bool
+is_var line = bytes_eq (slice_index_or (parts_of line) 0 []) (codes "$var")
+
+line_var : (s : Signal) → IsSmall s → is_var (line_text s) ≡ true
+unfolding is_var
+line_var s h = ap (λ p. bytes_eq (slice_index_or p 0 []) (codes "$var")) (line_parts s h)
+
+behind_var : is_var (codes "$upscope $end") ≡ false
+unfolding is_var
+behind_var =
+    ap (λ p. bytes_eq (slice_index_or p 0 []) (codes "$var")) (part_first (codes "$upscope") (codes "$end") (not_test 32 (codes "$upscope") refl))
+
+-- the first of some lines, and the others
+same_first : (a b : List ℕ) (others more : List (List ℕ)) → a ∷ others ≡ b ∷ more → a ≡ b
+same_first a b others more h = cc
+
+same_others : (a b : List ℕ) (others more : List (List ℕ)) → a ∷ others ≡ b ∷ more → others ≡ more
+same_others a b others more h = cc
+
+not_both : (s : Signal) (others more : List (List ℕ)) → IsSmall s → line_text s ∷ others ≡ codes "$upscope $end" ∷ more → ⊥
+not_both s others more h e =
+    true≢false (sym (line_var s h) ∙ ap is_var (same_first (line_text s) (codes "$upscope $end") others more e) ∙ behind_var)
+
+pub same_declared : (ss ts : List Signal) (x y : List ℕ) → AllByRecursion IsSmall ss → AllByRecursion IsSmall ts
+    → physical_lines (flat_map declaration ss ++ (behind_text ++ x)) ≡ physical_lines (flat_map declaration ts ++ (behind_text ++ y)) → ss ≡ ts
+same_declared [] [] x y h k e = refl
+same_declared [] (t ∷ ts) x y h k e =
+    absurd (not_both t (physical_lines (flat_map declaration ts ++ (behind_text ++ y))) (physical_lines (codes "$enddefinitions $end\n" ++ x)) k.0
+    (sym (declarations_first t ts (behind_text ++ y) k.0) ∙ sym e ∙ behind_first x))
+same_declared (s ∷ ss) [] x y h k e =
+    absurd (not_both s (physical_lines (flat_map declaration ss ++ (behind_text ++ x))) (physical_lines (codes "$enddefinitions $end\n" ++ y)) h.0
+    (sym (declarations_first s ss (behind_text ++ x) h.0) ∙ e ∙ behind_first y))
+same_declared (s ∷ ss) (t ∷ ts) x y h k e =
+    let others : List (List ℕ) = physical_lines (flat_map declaration ss ++ (behind_text ++ x)) in
+    let more : List (List ℕ) = physical_lines (flat_map declaration ts ++ (behind_text ++ y)) in
+    let both : line_text s ∷ others ≡ line_text t ∷ more =
+    sym (declarations_first s ss (behind_text ++ x) h.0) ∙ e ∙ declarations_first t ts (behind_text ++ y) k.0 in
+    let ids : id_text s ≡ id_text t =
+    sym (ap (λ p. slice_index_or p 3 []) (line_parts s h.0))
+    ∙ ap (λ l. slice_index_or (parts_of l) 3 []) (same_first (line_text s) (line_text t) others more both)
+    ∙ ap (λ p. slice_index_or p 3 []) (line_parts t k.0) in
+    ap (λ z. z ∷ ss) (same_id s t h.0 k.0 ids)
+    ∙ ap (λ zs. t ∷ zs) (same_declared ss ts x y h.1 k.1 (same_others (line_text s) (line_text t) others more both))
+
+same_behind : (front xs ys : List ℕ) → front ++ xs ≡ front ++ ys → xs ≡ ys
+same_behind [] xs ys h = h
+same_behind (b ∷ front) xs ys h = same_behind front xs ys (let w : b ∷ (front ++ xs) ≡ b ∷ (front ++ ys) = h in cc)
+
+-- the same texts have the same signals
+pub same_signals : (comment : List ℕ) (ss ts : List Signal) (scene other : ℕ → Scene) (horizon until : ℕ) → AllByRecursion IsSmall ss
+    → AllByRecursion IsSmall ts → text_of comment ss scene horizon ≡ text_of comment ts other until → ss ≡ ts
+same_signals comment ss ts scene other horizon until h k e =
+    let head : List ℕ = head_text comment in
+    let x : List ℕ = first_values ss (scene 0) ++ (changes_to ss scene horizon ++ last_stamp horizon) in
+    let y : List ℕ = first_values ts (other 0) ++ (changes_to ts other until ++ last_stamp until) in
+    same_declared ss ts x y h k (ap physical_lines (same_behind head (flat_map declaration ss ++ (behind_text ++ x)) (flat_map declaration ts ++ (behind_text ++ y))
+    (sym (six_parts head (flat_map declaration ss) behind_text (first_values ss (scene 0)) (changes_to ss scene horizon) (last_stamp horizon))
+    ∙ e ∙ six_parts head (flat_map declaration ts) behind_text (first_values ts (other 0)) (changes_to ts other until) (last_stamp until))))

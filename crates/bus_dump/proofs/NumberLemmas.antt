@@ -29,7 +29,7 @@ some_mapped : {X Y : Type 0} (f : X → Y) (o : Option X) → is_some (option_ma
 some_mapped f None = refl
 some_mapped f (Some x) = refl
 
-is_none : {X : Type 0} (o : Option X) → is_some o ≡ false → o ≡ None
+pub is_none : {X : Type 0} (o : Option X) → is_some o ≡ false → o ≡ None
 is_none None h = refl
 is_none (Some x) h = absurd (true≢false h)
 
@@ -43,7 +43,7 @@ bit_pulse t x =
 bit_begun : (t : ℕ) (x : Entry) → x.moment ≤ t → bit_on t x ≡ bit_at x.message (t - x.moment)
 bit_begun t x h = ap (λ b. cond b (bit_at x.message (t - x.moment)) None) (le-leb x.moment t h)
 
-bit_off : (t : ℕ) (x : Entry) → holds t x ≡ false → bit_on t x ≡ None
+pub bit_off : (t : ℕ) (x : Entry) → holds t x ≡ false → bit_on t x ≡ None
 bit_off t x off = elim (cases_lt t x.moment) [
   | inl before ↦ ap (λ b. cond b (bit_at x.message (t - x.moment)) None) (lt-leb x.moment t before)
   | inr begun ↦
@@ -108,7 +108,7 @@ word_in list t x bit i e =
     subst (In w) (sym (given_along shown_word (seen_entry list t) given 0 (length list) (λ j. refl)))
     (given_in given 0 (length list) k w (omega arith) (omega (arith, within)) here)
 
-one_word : (ws : List ℕ) (w : ℕ) → length ws ≡ 1 → In w ws → word_value ws ≡ Number w
+pub one_word : (ws : List ℕ) (w : ℕ) → length ws ≡ 1 → In w ws → word_value ws ≡ Number w
 one_word [] w e i = absurd i
 one_word (v ∷ []) w e (inl same) = ap Number (sym same)
 one_word (v ∷ []) w e (inr none) = absurd none
@@ -137,7 +137,7 @@ find_given p f a (suc n) k y l u e yes' none = elim (cases_lt a k) [
       ∙ ap (λ b. cond b (Some y) (find p (filter_map f (range_with_len (a + 1) n)))) yes'
 ]
 
-apart : (list : List Entry) (t i k : ℕ) (y x : Entry) → doubled list ≡ None → i < k → slice_get list i ≡ Some y → slice_get list k ≡ Some x
+pub apart : (list : List Entry) (t i k : ℕ) (y x : Entry) → doubled list ≡ None → i < k → slice_get list i ≡ Some y → slice_get list k ≡ Some x
     → y.terminal ≡ x.terminal → holds t x ≡ true → holds t y ≡ false
 apart list t i k y x single h p q same on = elim (cases_Bool (holds t y)) [
   | inr no' ↦ no'
@@ -148,7 +148,7 @@ apart list t i k y x single h p q same on = elim (cases_Bool (holds t y)) [
       absurd (omega arith)
 ]
 
-find_seen : (list : List Entry) (t k n : ℕ) (x : Entry) (p : Seen → Bool) → doubled list ≡ None → slice_get list k ≡ Some x → x.terminal ≡ n
+pub find_seen : (list : List Entry) (t k n : ℕ) (x : Entry) (p : Seen → Bool) → doubled list ≡ None → slice_get list k ≡ Some x → x.terminal ≡ n
     → holds t x ≡ true → ((s : Seen) → p s ≡ true → s.terminal ≡ n) → p (seen_of list t k x) ≡ true
     → find p (seen_at list t) ≡ Some (seen_of list t k x)
 find_seen list t k n x p single at own on of yes' =

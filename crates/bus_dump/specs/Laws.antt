@@ -7,7 +7,7 @@ use Rattle.bus_text.specs.Lines.{is_feed}
 use Rattle.bus_strings.specs.Limits.{word_bits}
 use Rattle.bus_strings.specs.Members.{In}
 use Rattle.bus_strings.specs.Messages.{Entry}
-use Rattle.bus_strings.specs.Transmissions.{IsOrdered, carrier, garbled, overlaps, pulses}
+use Rattle.bus_strings.specs.Transmissions.{IsOrdered, carrier, end_of, garbled, overlaps, pulses}
 use Rattle.bus_table.specs.Hands.{are_hands}
 use Rattle.bus_table.specs.Tables.{Hand, Sender, Table}
 use Rattle.bus_table.specs.Valid.{is_valid}
@@ -22,7 +22,7 @@ use Rattle.bus_medium.specs.Lawful.{HasEntry, IsLawful, Station}
 use Rattle.bus_medium.specs.Past.{last_place, own, past}
 use Rattle.bus_medium.specs.Timings.{quiet_of, stations_of, timing_of}
 use Rattle.bus_dump.specs.declared.dump.Dump.{Dump}
-use Rattle.bus_dump.specs.declared.dump.Dump.TheVariants.{Timers}
+use Rattle.bus_dump.specs.declared.dump.Dump.TheVariants.{Timers, Vcd}
 use Rattle.bus_dump.specs.Doubled.{doubled}
 use Rattle.bus_dump.specs.DumpTexts.{changes, changes_at, dump_text, id_text, name_text, stamp, units, value_line}
 use Rattle.bus_dump.specs.Lanes.{Lane, is_sender, lanes, sends}
@@ -293,3 +293,23 @@ abbrev pub LawfulIsSingle : Type 0
 LawfulIsSingle =
     (table : Table) (hands : List Hand) (horizon : ℕ) (list : List Entry) → IsTrue (is_valid table) → IsTrue (are_hands table.senders hands)
     → IsLawful (quiet_of table) (stations_of table hands) horizon list → doubled list ≡ None
+
+-- ---- nothing is lost
+-- A trace is shown whole: no two of its transmissions overlap, and each has ended by the horizon.
+pub record IsShownWhole (trace : Recording) : Type 0 where
+  pub apart : IsOrdered (λ x y. overlaps x y ≡ false) trace.list
+  pub ended : AllByRecursion (λ x. end_of x ≤ trace.horizon) trace.list
+
+-- Two traces on a table, each shown whole, have the same dump only where they have the same horizon and the same list.
+abbrev pub NothingIsLost : Type 0
+NothingIsLost =
+    (comment : List ℕ) (table : Table) (a b : Recording) → IsTrue (is_valid table) → IsTrace a → IsTrace b → HoldsNoFeed comment
+    → IsShownWhole a → IsShownWhole b → dump_text Vcd comment table a ≡ dump_text Vcd comment table b
+    → (a.horizon ≡ b.horizon) × (a.list ≡ b.list)
+
+-- So it is of the dumps that are written of traces on a table.
+abbrev pub NothingWrittenIsLost : Table → Type 0
+NothingWrittenIsLost table =
+    (a b : Recording) → IsTrue (is_valid table) → IsTrace a → IsTrace b → IsShownWhole a → IsShownWhole b
+    → dump_text Vcd (verdict_words (verdict_of table)) table a ≡ dump_text Vcd (verdict_words (verdict_of table)) table b
+    → (a.horizon ≡ b.horizon) × (a.list ≡ b.list)

@@ -1,8 +1,8 @@
 //! Laws of the definitions, each the contract of a function that does nothing.
 ghost use Rattle.bus_dump.specs.Laws.{AllAreShown, BitsArePulses, CarrierIsTold, ClearListsShowNone, DumpsAreRead, GarbledAreTold};
 ghost use Rattle.bus_dump.specs.Laws.{IdentifiersDiffer, LabelsAreTold, LanesAreTerminals, LawfulIsSingle, MessagesAreTold};
-ghost use Rattle.bus_dump.specs.Laws.{NamesAreDeclared, NothingIsIdle, OverlapsAreTold, OverlapsGarble, PulsesAreTold, StampsAreTold};
-ghost use Rattle.bus_dump.specs.Laws.{StartsAreSeen, StartsAreTold, SyncIsTold, TimersAreTold, WordIsTold, WrittenDumpsAreRead};
+ghost use Rattle.bus_dump.specs.Laws.{NamesAreDeclared, NothingIsIdle, NothingIsLost, NothingWrittenIsLost, OverlapsAreTold, OverlapsGarble};
+ghost use Rattle.bus_dump.specs.Laws.{PulsesAreTold, StampsAreTold, StartsAreSeen, StartsAreTold, SyncIsTold, TimersAreTold, WordIsTold, WrittenDumpsAreRead};
 ghost use Rattle.bus_dump.specs.Laws.{WrittenStampsAreTold};
 
 use crate::comment::holds_no_feed;
@@ -113,3 +113,16 @@ pub fn lawful_is_single()
 pub fn all_are_shown()
     ensures { AllAreShown }
 {}
+
+/// Two traces on a table, of which no two transmissions overlap and all have ended by the horizon, have the same dump only where they have
+/// the same horizon and the same list.
+pub fn nothing_is_lost()
+    ensures { NothingIsLost }
+{}
+
+/// So it is of the dumps that are written of traces on this table.
+pub fn nothing_written_is_lost(table: &Table)
+    ensures { NothingWrittenIsLost table.now }
+{
+    holds_no_feed(verdict(table));
+}
