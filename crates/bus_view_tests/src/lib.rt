@@ -2,6 +2,8 @@
 #![tactic(auto)]
 
 #[cfg(test)]
+mod breach;
+#[cfg(test)]
 mod calls;
 #[cfg(test)]
 mod draw;

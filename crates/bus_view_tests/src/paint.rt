@@ -19,7 +19,8 @@ WS L0B210 D00FF1
 END
 ";
 
-// The end of the picture: a row of two transmissions, one of two that collide, and the first start that is missing, in the first row.
+// The end of the picture: a row of two transmissions, the words of one of two that collide, which are drawn behind them, and the first
+// start that is missing, in the first row.
 const ROWS: &str =
     "<rect class=\"wordstring\" x=\"12940\" y=\"1200\" width=\"670\" height=\"120\"><title>T1 message 1: moments 1020 to 1080, 60 bit times, 510.0 to 540.0 microseconds</title></rect>
 <text class=\"digits\" x=\"13275\" y=\"1295\">1</text>
@@ -27,10 +28,10 @@ const ROWS: &str =
 <text class=\"digits\" x=\"14175\" y=\"1295\">2</text>
 <text class=\"detail\" x=\"1440\" y=\"1295\">0</text>
 <text class=\"detail\" x=\"15500\" y=\"1295\">1150</text>
-<rect class=\"garbled\" x=\"13050\" y=\"1346\" width=\"670\" height=\"48\"><title>T1 message 2: moments 2400 to 2460, 60 bit times, 1200.0 to 1230.0 microseconds, garbled</title></rect>
-<rect class=\"garbled\" x=\"13390\" y=\"1406\" width=\"440\" height=\"48\"><title>T2 message 2: moments 2430 to 2470, 40 bit times, 1215.0 to 1235.0 microseconds, garbled</title></rect>
 <text class=\"detail\" x=\"1440\" y=\"1435\">1370</text>
 <text class=\"detail\" x=\"15500\" y=\"1435\">1100</text>
+<rect class=\"garbled\" x=\"13050\" y=\"1346\" width=\"670\" height=\"48\"><title>T1 message 2: moments 2400 to 2460, 60 bit times, 1200.0 to 1230.0 microseconds, garbled</title></rect>
+<rect class=\"garbled\" x=\"13390\" y=\"1406\" width=\"440\" height=\"48\"><title>T2 message 2: moments 2430 to 2470, 40 bit times, 1215.0 to 1235.0 microseconds, garbled</title></rect>
 <rect class=\"breach\" x=\"1724\" y=\"1160\" width=\"20\" height=\"200\"/>
 <text class=\"breach-words\" x=\"1994\" y=\"1295\">breach</text>
 </svg>

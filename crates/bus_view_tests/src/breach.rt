@@ -1,0 +1,63 @@
+//! Where the first breach is marked in a picture of cycles.
+use crate::calls::{TABLE, run_on};
+use bus_tool::Status;
+use std::test::Fail;
+
+/// A message of each, and the next start missing, far behind them.
+const MISSED: &str = "TRACE 1
+HORIZON 1500
+HOLD 1 2
+HOLD 2 2
+TX 20 1
+WS L0A111 D00001 D00010
+TX 110 2
+WS L0B210 D00FF1
+END
+";
+
+// The end of the picture, as long as the missing start needs, which has 1170 bit times.
+const LONG: &str =
+    "<rect class=\"wordstring\" x=\"1720\" y=\"1200\" width=\"660\" height=\"120\"><title>T1 message 1: moments 20 to 80, 60 bit times, 10.0 to 40.0 microseconds</title></rect>
+<text class=\"digits\" x=\"2050\" y=\"1295\">1</text>
+<rect class=\"other\" x=\"2710\" y=\"1200\" width=\"440\" height=\"120\"><title>T2 message 1: moments 110 to 150, 40 bit times, 55.0 to 75.0 microseconds</title></rect>
+<text class=\"digits\" x=\"2930\" y=\"1295\">2</text>
+<text class=\"detail\" x=\"1440\" y=\"1295\">0</text>
+<text class=\"detail\" x=\"15500\" y=\"1295\">150</text>
+<rect class=\"breach\" x=\"14400\" y=\"1160\" width=\"20\" height=\"200\"/>
+<text class=\"breach-words\" x=\"14150\" y=\"1295\">breach</text>
+</svg>
+";
+
+/// A sender in turns of 1000 bit times, which misses the second.
+const TURNS: &str =
+    "TABLE 1\nMODE periodic\nTI 1000\nSG 300\nSENDER 1 TG 20 AT 0\nSEND 0A1 1 2 2\n";
+
+const SKIPPED: &str = "TRACE 1
+HORIZON 1500
+HOLD 1 2
+TX 0 1
+WS L0A111 D00001 D00010
+END
+";
+
+// The end of the picture: the breach at moment 1000 isn't marked.
+const UNMARKED: &str = "<text class=\"detail\" x=\"1440\" y=\"1295\">0</text>
+<text class=\"detail\" x=\"15500\" y=\"1295\">60</text>
+</svg>
+";
+
+#[test]
+fn a_picture_as_long_as_its_breach_needs(rt: HostRuntime) -> Result<(), Fail> {
+    let ran = run_on(&rt, &["cycles", "T", "R"], TABLE, MISSED)?;
+    assert!(rt; ran.status == Status::Done);
+    assert!(rt; ran.out.bytes().ends_with(LONG.as_bytes()));
+    Ok(())
+}
+
+#[test]
+fn no_mark_where_its_interval_has_no_row(rt: HostRuntime) -> Result<(), Fail> {
+    let ran = run_on(&rt, &["cycles", "T", "R"], TURNS, SKIPPED)?;
+    assert!(rt; ran.status == Status::Done);
+    assert!(rt; ran.out.bytes().ends_with(UNMARKED.as_bytes()));
+    Ok(())
+}
