@@ -1,15 +1,17 @@
 -- A breach that is drawn stands at its moment.
-use Rattle.std.proofs.Common.{◌≡◌, ◌⊎◌, ℕ, ◌+◌, ◌-◌, ◌<◌, ◌≤◌, Bool, true, false, cond, max, List, [], ◌∷◌, Some, inl, inr, arith, sym, refl, ap, subst, ◌∙◌}
+use Rattle.std.proofs.Common.{◌≡◌, ◌⊎◌, ℕ, ◌+◌, ◌-◌, ◌<◌, ◌≤◌, Bool, true, false, cond, max, List, [], ◌∷◌, Option, Some, inl, inr, arith, sym, refl, ap, subst, ◌∙◌}
 use Rattle.std.specs.Prelude.{fold, map}
+use Rattle.std.specs.List.{AllByRecursion}
 use Rattle.std.proofs.lemmas.Bool.{eqb-true, leb-true}
 use Rattle.bus_strings.specs.Members.{In}
 use Rattle.bus_table.specs.declared.mode.Mode.{Mode}
 use Rattle.bus_table.specs.declared.mode.Mode.TheVariants.{Aperiodic, Periodic}
 use Rattle.bus_table.specs.ValidLaws.{valid_facts}
-use Rattle.bus_cycles.specs.Laws.{BreachIsAtItsMoment}
+use Rattle.bus_cycles.specs.Laws.{Ascend, BreachIsAtItsMoment, TheLastRowIsMarked}
 use Rattle.bus_cycles.specs.Rows.{Cycle, Extent, Row, cycle_of, extent_of, interval_of, rows, takes, takes_in}
 use Rattle.bus_cycles.specs.Sents.{shown}
 use Rattle.bus_cycles.specs.Surveys.{Survey, is_drawn, nothing, reach_of, told_of, with_row}
+use Rattle.bus_cycles.proofs.AscendLemmas.{rows_ascend}
 use Rattle.bus_cycles.proofs.RowLemmas.{within_interval}
 
 -- ---- the row that is marked is one of the rows, and takes the breach
@@ -76,3 +78,40 @@ at_its_moment table window list moment extent valid marked drawn =
             within = is.within;
           }
     ]
+
+-- ---- the last row that takes it
+pub record IsBehind (marked : Option Extent) (begin : ℕ) : Type 0 where
+  pub extent : Extent
+  pub is : marked ≡ Some extent
+  pub last : begin ≤ extent.begin
+
+stays_behind : (cycle : Cycle) (moment : ℕ) (list : List Row) (survey : Survey) (begin : ℕ) → AllByRecursion (λ (next : Row). begin < next.begin) list
+    → IsBehind survey.marked begin → IsBehind (fold (with_row cycle (Some moment)) survey (map extent_of list)).marked begin
+stays_behind cycle moment [] survey begin later is = is
+stays_behind cycle moment (r ∷ rs) survey begin later is =
+    stays_behind cycle moment rs (with_row cycle (Some moment) survey (extent_of r)) begin later.1 (next (takes cycle (extent_of r) moment))
+  where
+    next : (b : Bool) → IsBehind (cond b (Some (extent_of r)) survey.marked) begin
+    next true = let low : begin < r.begin = later.0 in record { extent = extent_of r; is = refl; last = omega arith }
+    next false = is
+
+marked_from : (cycle : Cycle) (moment : ℕ) (list : List Row) (survey : Survey) (row : Row) → Ascend list → In row list
+    → takes cycle (extent_of row) moment ≡ true → IsBehind (fold (with_row cycle (Some moment)) survey (map extent_of list)).marked row.begin
+marked_from cycle moment [] survey row order i t = absurd i
+marked_from cycle moment (r ∷ rs) survey row order (inl same) t =
+    let here : takes cycle (extent_of r) moment ≡ true = subst (λ (y : Row). takes cycle (extent_of y) moment ≡ true) same t in
+    let begins : row.begin ≡ r.begin = ap (λ (y : Row). y.begin) same in
+    subst (λ b. IsBehind (fold (with_row cycle (Some moment)) (with_row cycle (Some moment) survey (extent_of r)) (map extent_of rs)).marked b) (sym begins)
+    (stays_behind cycle moment rs (with_row cycle (Some moment) survey (extent_of r)) r.begin order.0 (record {
+      extent = extent_of r;
+      is = ap (λ b. cond b (Some (extent_of r)) survey.marked) here;
+      last = omega arith;
+    }))
+marked_from cycle moment (r ∷ rs) survey row order (inr i) t =
+    marked_from cycle moment rs (with_row cycle (Some moment) survey (extent_of r)) row order.1 i t
+
+pub last_marked : TheLastRowIsMarked
+last_marked table window trace moment row valid is i t =
+    let cycle = cycle_of table in
+    let found = marked_from cycle moment (rows table window trace.list) (nothing cycle) row (rows_ascend table window trace valid is) i t in
+    record { extent = found.extent; marked = found.is; last = found.last }

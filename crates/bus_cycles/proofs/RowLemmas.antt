@@ -16,7 +16,7 @@ use Rattle.bus_table.specs.ValidLaws.{valid_facts}
 use Rattle.bus_shapes.specs.declared.class.Class.TheVariants.{Garbled}
 use Rattle.bus_shapes.specs.declared.sent.Sent.{Sent}
 use Rattle.bus_shapes.specs.Windows.{Window}
-use Rattle.bus_cycles.specs.Laws.{HatchedAreGarbled, RowsAreAPartition, RowsAreIntervals}
+use Rattle.bus_cycles.specs.Laws.{HatchedAreDrawnLast, HatchedAreGarbled, RowsAreAPartition, RowsAreIntervals}
 use Rattle.bus_cycles.specs.Rows.{Cycle, Row, begin_in, cycle_of, interval_of, is_new, is_new_in, row_at, rows, rows_from, rows_of, with_sent}
 use Rattle.bus_cycles.specs.RowTexts.{class_of, shade}
 use Rattle.bus_shapes.specs.Sending.{sent_of, sents, sents_from}
@@ -81,6 +81,15 @@ hatched table window list row sent i j =
     let mark : sent.garbled ≡ garbled list sent.at = ap (λ (s : Sent). s.garbled) t.told in
     let odd : sent.terminal % 2 < 2 = omega arith in
     (t, subst (λ b. (class_of (shade sent) ≡ Garbled) ↔ (b ≡ true)) mark (hatched_at sent.garbled (sent.terminal % 2) odd))
+
+pub drawn_last : HatchedAreDrawnLast
+drawn_last true sent due =
+    let odd : sent.terminal % 2 < 2 = omega arith in
+    (λ e. refl, λ e. (hatched_at sent.garbled (sent.terminal % 2) odd).1 due)
+drawn_last false sent due =
+    let odd : sent.terminal % 2 < 2 = omega arith in
+    let plain = (hatched_at sent.garbled (sent.terminal % 2) odd).0 in
+    (λ e. absurd (true≢false (sym due ∙ ap not (plain e))), λ e. absurd (true≢false (sym e)))
 
 -- ---- intervals
 pub within_interval : (ti t : ℕ) → 0 < ti → (t / ti * ti ≤ t) × (t < t / ti * ti + ti)

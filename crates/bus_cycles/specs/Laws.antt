@@ -1,5 +1,5 @@
 -- What follows of the definitions. The contracts of `laws` say that each of these holds.
-use Rattle.std.specs.Prelude.{◌≡◌, ◌↔◌, ℕ, ◌+◌, ◌-◌, ◌<◌, ◌≤◌, true, false, IsTrue, List, [], ◌∷◌, ◌++◌, length, slice_get, Some, ⊤}
+use Rattle.std.specs.Prelude.{◌≡◌, ◌↔◌, ℕ, ◌+◌, ◌-◌, ◌<◌, ◌≤◌, Bool, true, false, IsTrue, List, [], ◌∷◌, ◌++◌, length, slice_get, Some, ⊤}
 use Rattle.std.specs.List.{AllByRecursion, count_by, flat_map, sum_by}
 use Rattle.bus_strings.specs.Members.{In}
 use Rattle.bus_strings.specs.Messages.{Entry}
@@ -15,8 +15,8 @@ use Rattle.bus_shapes.specs.Scales.{IsScale}
 use Rattle.bus_shapes.specs.SendingLaws.{IsToldOf}
 use Rattle.bus_shapes.specs.Windows.{Window}
 use Rattle.bus_cycles.specs.CyclesTexts.{scale_of}
-use Rattle.bus_cycles.specs.Rows.{Extent, Row, cycle_of, extent_of, interval_of, rows}
-use Rattle.bus_cycles.specs.RowTexts.{class_of, is_left_out, left_of, right_of, shade}
+use Rattle.bus_cycles.specs.Rows.{Extent, Row, cycle_of, extent_of, interval_of, rows, takes}
+use Rattle.bus_cycles.specs.RowTexts.{class_of, is_due, is_left_out, left_of, right_of, shade}
 use Rattle.bus_cycles.specs.Sents.{shown}
 use Rattle.bus_cycles.specs.Surveys.{Survey, counts, is_drawn, survey_of}
 
@@ -68,6 +68,11 @@ abbrev pub RowsAscend : Type 0
 RowsAscend =
     (table : Table) (window : Window) (trace : Recording) → IsTrue (is_valid table) → IsTrace trace → Ascend (rows table window trace.list)
 
+-- A walk draws hatched boxes exactly where it is that for what is garbled, so that all of these are drawn after all others.
+abbrev pub HatchedAreDrawnLast : Type 0
+HatchedAreDrawnLast =
+    (garbled : Bool) (sent : Sent) → IsTrue (is_due garbled sent) → (class_of (shade sent) ≡ Garbled) ↔ (garbled ≡ true)
+
 -- The counts above the plot are those of the rows: how many transmissions they have, and how many of these are garbled.
 abbrev pub garbled_of : Row → ℕ
 garbled_of row = count_by (λ (sent : Sent). sent.garbled) row.sents
@@ -117,3 +122,15 @@ BreachIsAtItsMoment =
     (table : Table) (window : Window) (list : List Entry) (moment : ℕ) (extent : Extent) → IsTrue (is_valid table)
     → (survey_with table window list moment).marked ≡ Some extent → IsTrue (is_drawn extent.place)
     → IsAtItsMoment table window list moment extent
+
+-- Where rows take the moment of a breach, one is marked, and none of them begins later.
+pub record IsMarkedBehind (table : Table) (window : Window) (list : List Entry) (moment : ℕ) (row : Row) : Type 0 where
+  pub extent : Extent
+  pub marked : (survey_with table window list moment).marked ≡ Some extent
+  pub last : row.begin ≤ extent.begin
+
+abbrev pub TheLastRowIsMarked : Type 0
+TheLastRowIsMarked =
+    (table : Table) (window : Window) (trace : Recording) (moment : ℕ) (row : Row) → IsTrue (is_valid table) → IsTrace trace
+    → In row (rows table window trace.list) → IsTrue (takes (cycle_of table) (extent_of row) moment)
+    → IsMarkedBehind table window trace.list moment row

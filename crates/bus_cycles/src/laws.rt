@@ -1,6 +1,7 @@
 //! Laws of the definitions, each the contract of a function that does nothing.
-ghost use Rattle.bus_cycles.specs.Laws.{BreachIsAtItsMoment, CountsAreOfRows, HatchedAreGarbled, LeftOutAreCovered};
-ghost use Rattle.bus_cycles.specs.Laws.{RowsAreAPartition, RowsAreCycles, RowsAreIntervals, RowsAreNumbered, RowsAscend};
+ghost use Rattle.bus_cycles.specs.Laws.{BreachIsAtItsMoment, CountsAreOfRows, HatchedAreDrawnLast, HatchedAreGarbled};
+ghost use Rattle.bus_cycles.specs.Laws.{LeftOutAreCovered, RowsAreAPartition, RowsAreCycles, RowsAreIntervals, RowsAreNumbered};
+ghost use Rattle.bus_cycles.specs.Laws.{RowsAscend, TheLastRowIsMarked};
 
 use bus_shapes::laws::places_keep_order;
 
@@ -12,6 +13,11 @@ pub fn rows_are_a_partition()
 /// Each transmission of a row is an entry of the list, and is hatched exactly where that is garbled.
 pub fn hatched_are_garbled()
     ensures { HatchedAreGarbled }
+{}
+
+/// Of the two walks over the rows the first draws no hatched box, and the second no plain one: no plain box lies over a hatched one.
+pub fn hatched_are_drawn_last()
+    ensures { HatchedAreDrawnLast }
 {}
 
 /// In periodic mode each transmission of a row begins in the interval that begins with the row.
@@ -49,4 +55,9 @@ pub fn left_out_are_covered()
 /// A first breach that is drawn stands at its moment, in a row that has begun by then, and in periodic mode in the row of its interval.
 pub fn breach_is_at_its_moment()
     ensures { BreachIsAtItsMoment }
+{}
+
+/// Where rows take the moment of the first breach, one is marked, and none of them begins later.
+pub fn the_last_row_is_marked()
+    ensures { TheLastRowIsMarked }
 {}
