@@ -12,6 +12,10 @@ pub const TABLE: &str =
 pub const TRACE: &str =
     "TRACE 1\nHORIZON 150\nHOLD 1 1\nHOLD 2 1\nTX 20 1\nWS L0A111 D00001 D00010\nTX 110 2\nWS L0B210 D00FF1\nEND\n";
 
+/// Two senders of periodic mode, of which the second speaks first.
+pub const PERIODIC: &str =
+    "TABLE 1\nMODE periodic\nTI 2000\nSG 300\nSENDER 1 TG 20 AT 90\nSEND 0A1 1 2 2\nSENDER 2 TG 30 AT 0\nSEND 0B2 1 0 0\n";
+
 /// How a call ended, and what stands on `out` and on `err`.
 #[derive(Drop)]
 pub struct Ran {
@@ -38,7 +42,7 @@ pub fn run_on(rt: &HostRuntime, words: &[&str], first: &str, second: &str) -> Re
         all.push(String::from_str(rt.alloc(), *word)?)?;
     }
     let (mut first, mut second) = (source(rt, first)?, source(rt, second)?);
-    let (mut out, mut err) = (sink(rt, 12_000)?, sink(rt, 200)?);
+    let (mut out, mut err) = (sink(rt, 400_000)?, sink(rt, 200)?);
     let status = view(
         rt.alloc(),
         &all,
@@ -48,4 +52,24 @@ pub fn run_on(rt: &HostRuntime, words: &[&str], first: &str, second: &str) -> Re
         &mut err,
     );
     Ok(Ran { status, out, err })
+}
+
+/// Whether a text has a part.
+pub fn contains(text: &[u8], part: &str) -> bool {
+    for k in 0..text.len() {
+        if text[k..].starts_with(part.as_bytes()) {
+            return true;
+        }
+    }
+    false
+}
+
+/// Whether a call wrote a text that has each of these parts, and nothing on `err`.
+pub fn shows(ran: &Ran, parts: &[&str]) -> bool {
+    for part in parts {
+        if !contains(ran.out.bytes(), *part) {
+            return false;
+        }
+    }
+    ran.status == Status::Done && ran.err.bytes().is_empty()
 }

@@ -1,5 +1,5 @@
 //! Dumps of a trace.
-use crate::calls::{TABLE, TRACE, run_on};
+use crate::calls::{TABLE, TRACE, contains, run_on, shows};
 use bus_tool::Status;
 use std::test::Fail;
 
@@ -28,5 +28,41 @@ fn each_dump_of_a_trace(rt: HostRuntime) -> Result<(), Fail> {
         assert!(rt; ran.status == Status::Done);
         assert!(rt; ran.out.bytes().len() == length, "{command}");
     }
+    Ok(())
+}
+
+/// A sender alone, with the shortest gaps.
+const SHORT_GAPS: &str = "TABLE 1\nMODE aperiodic\nTI 1000\nSG 9\nSENDER 1 TG 8\nSEND 0A1 1 0 0\n";
+
+/// It starts as soon as it may, twice, and a stranger sets back its terminal gap between.
+const TURNING: &str =
+    "TRACE 1\nHORIZON 1010\nHOLD 1 2\nHOLD 7 1\nTX 8 1\nWS L0A111\nTX 40 7\nWS L07110\nTX 1008 1\nWS L0A111\nEND\n";
+
+#[test]
+fn timers_that_turn(rt: HostRuntime) -> Result<(), Fail> {
+    let ran = run_on(&rt, &["timers", "T", "R"], SHORT_GAPS, TURNING)?;
+    let parts = [
+        "$comment REFUSE short-cycle 37 1000 $end\n",
+        "\n#185\n1y1\n#200\n",
+        "\n#340\n1h1\n#5040\n",
+    ];
+    assert!(rt; shows(&ran, &parts));
+    assert!(rt;
+        ran.out
+            .bytes()
+            .ends_with(b"\n#5045\n0i1\n0y1\n0h1\n0r1\n#5050\n")
+    );
+    Ok(())
+}
+
+#[test]
+fn a_save_file_shows_the_timers_of_senders(rt: HostRuntime) -> Result<(), Fail> {
+    let ran = run_on(&rt, &["gtkw", "T", "R"], SHORT_GAPS, TURNING)?;
+    let parts = [
+        "@200\n-T1 TG 8\n@28\nbus.t1_pulse\n",
+        "bus.t1_tg\n[color] 2\nbus.t1_may\n@200\n-T7\n",
+    ];
+    assert!(rt; shows(&ran, &parts));
+    assert!(rt; !contains(ran.out.bytes(), "t7_may"));
     Ok(())
 }

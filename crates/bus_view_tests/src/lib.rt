@@ -10,4 +10,6 @@ mod draw;
 #[cfg(test)]
 mod paint;
 #[cfg(test)]
+mod periodic;
+#[cfg(test)]
 mod refused;

@@ -1,5 +1,5 @@
 //! Pictures of a trace.
-use crate::calls::{TABLE, TRACE, run_on};
+use crate::calls::{TABLE, TRACE, contains, run_on, shows};
 use bus_tool::Status;
 use std::test::Fail;
 
@@ -54,31 +54,60 @@ fn a_row_for_each_cycle(rt: HostRuntime) -> Result<(), Fail> {
 #[test]
 fn a_time_line_of_a_window(rt: HostRuntime) -> Result<(), Fail> {
     let ran = run_on(&rt, &["svg", "T", "R", "80", "180"], TABLE, TRACE)?;
-    assert!(rt; ran.status == Status::Done);
-    let text = ran.out.bytes();
-    assert!(rt;
-        contains(
-            text,
-            b"moments 80 to 180 of 150: 1 transmission, 0 garbled"
-        )
-    );
-    assert!(rt;
-        contains(
-            text,
-            b"<title>T2 message 1: moments 110 to 150, 40 bit times, 55.0 to 75.0 microseconds</title>"
-        )
-    );
-    assert!(rt; contains(text, b"<title>not observed: the horizon is 150</title>"));
-    assert!(rt; !contains(text, b"T1 message 1"));
+    let parts = [
+        "moments 80 to 180 of 150: 1 transmission, 0 garbled",
+        "<title>T2 message 1: moments 110 to 150, 40 bit times, 55.0 to 75.0 microseconds</title>",
+        "<title>not observed: the horizon is 150</title>",
+    ];
+    assert!(rt; shows(&ran, &parts));
+    assert!(rt; !contains(ran.out.bytes(), "T1 message 1"));
     Ok(())
 }
 
-/// Whether a text has a part.
-fn contains(text: &[u8], part: &[u8]) -> bool {
-    for k in 0..text.len() {
-        if text[k..].starts_with(part) {
-            return true;
-        }
+// The row of a cycle of which only the second transmission begins in the window: it begins where the first has ended.
+#[test]
+fn a_row_of_a_window_inside_a_cycle(rt: HostRuntime) -> Result<(), Fail> {
+    let ran = run_on(&rt, &["cycles", "T", "R", "100", "140"], TABLE, TRACE)?;
+    let parts = [
+        "moments 100 to 140 of 150: 1 transmission, 0 garbled",
+        "from the moment at which it begins: 1 of 1</text>\n",
+        "<rect class=\"other\" x=\"1880\" y=\"1200\" width=\"520\" height=\"120\"><title>T2 message 1: moments 110 to 150, ",
+        "<text class=\"detail\" x=\"1440\" y=\"1295\">80</text>\n<text class=\"detail\" x=\"15500\" y=\"1295\">70</text>\n",
+    ];
+    assert!(rt; shows(&ran, &parts));
+    Ok(())
+}
+
+/// The first terminal holds a second message, and may send it from moment 1170 on.
+const MISSING: &str =
+    "TRACE 1\nHORIZON 2500\nHOLD 1 2\nHOLD 2 1\nTX 20 1\nWS L0A111 D00001 D00010\nTX 110 2\nWS L0B210 D00FF1\nEND\n";
+
+// A row that ends before the start that is missing: the mark is at its end of the scale, and its word before it.
+#[test]
+fn a_start_that_is_missing_behind_the_last_row(rt: HostRuntime) -> Result<(), Fail> {
+    let ran = run_on(&rt, &["cycles", "T", "R"], TABLE, MISSING)?;
+    let parts = [
+        "<title>ACCEPT aperiodic 1130 1170; BREACH 1170 1 Missing</title>\n",
+        "<rect class=\"breach\" x=\"14400\" y=\"1160\" width=\"20\" height=\"200\"/>\n",
+        "<text class=\"breach-words\" x=\"14150\" y=\"1295\">breach</text>\n",
+    ];
+    assert!(rt; shows(&ran, &parts));
+    Ok(())
+}
+
+// The longest window, and one that goes a moment further.
+#[test]
+fn a_window_goes_as_far_as_a_horizon_may(rt: HostRuntime) -> Result<(), Fail> {
+    for command in ["svg", "cycles"] {
+        let longest = [command, "T", "R", "0", "1099511627776"];
+        let ran = run_on(&rt, &longest, TABLE, TRACE)?;
+        let words = "moments 0 to 1099511627776 of 150: 2 transmissions, 0 garbled";
+        assert!(rt; shows(&ran, &[words]));
+        let longer = [command, "T", "R", "0", "1099511627777"];
+        let ran = run_on(&rt, &longer, TABLE, TRACE)?;
+        assert!(rt; ran.status == Status::Usage);
+        assert!(rt; ran.out.bytes().is_empty());
+        assert_eq!(rt; ran.err.bytes(), b"ERROR 2 usage\n".as_slice());
     }
-    false
+    Ok(())
 }

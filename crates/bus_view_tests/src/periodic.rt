@@ -1,0 +1,68 @@
+//! Views of a trace of a periodic table, whose second sender speaks first.
+use crate::calls::{PERIODIC, contains, run_on, shows};
+use std::test::Fail;
+
+/// Two rounds.
+const ROUNDS: &str =
+    "TRACE 1\nHORIZON 2200\nHOLD 1 2\nHOLD 2 2\nTX 0 2\nWS L0B210\nTX 90 1\nWS L0A111 D00001 D00010\nTX 2000 2\nWS L0B210\nTX 2090 1\nWS L0A111 D00001 D00010\nEND\n";
+
+#[test]
+fn a_dump_has_its_lanes_in_turn_order(rt: HostRuntime) -> Result<(), Fail> {
+    let ran = run_on(&rt, &["vcd", "T", "R"], PERIODIC, ROUNDS)?;
+    let parts = [
+        "$var wire 16 w word [15:0] $end\n$var wire 1 p2 t2_pulse $end\n",
+        "$var wire 32 m2 t2_message [31:0] $end\n$var wire 1 p1 t1_pulse $end\n",
+        "\n#10450\n1c\n1s\nb101000010001 w\n1p1\nb101000010001 l1\nb10 m1\n#10465\n0s\n",
+    ];
+    assert!(rt; shows(&ran, &parts));
+    assert!(rt; ran.out.bytes().ends_with(b"\n#11000\n"));
+    Ok(())
+}
+
+#[test]
+fn a_time_line_has_offsets_and_the_transmit_interval(rt: HostRuntime) -> Result<(), Fail> {
+    let ran = run_on(&rt, &["svg", "T", "R"], PERIODIC, ROUNDS)?;
+    let parts = [
+        "; LAWFUL 0</title>\n",
+        "<text class=\"detail\" x=\"1380\" y=\"1550\">TG 30 AT 0</text>\n",
+        "<text class=\"detail\" x=\"1380\" y=\"1870\">TG 20 AT 90</text>\n",
+        " y=\"1546\">TI 2000</text>\n",
+    ];
+    assert!(rt; shows(&ran, &parts));
+    Ok(())
+}
+
+#[test]
+fn a_row_is_a_transmit_interval(rt: HostRuntime) -> Result<(), Fail> {
+    let ran = run_on(&rt, &["cycles", "T", "R"], PERIODIC, ROUNDS)?;
+    let parts = [
+        "from the moment at which it begins: 2 of 2</text>\n",
+        "<rect class=\"wordstring\" x=\"2080\" y=\"1200\" width=\"380\" height=\"120\"><title>T1 message 1: moments 90 to 150, ",
+        "<text class=\"detail\" x=\"1440\" y=\"1295\">0</text>\n<text class=\"detail\" x=\"15500\" y=\"1295\">150</text>\n",
+        "<rect class=\"wordstring\" x=\"2080\" y=\"1340\" width=\"380\" height=\"120\"><title>T1 message 2: moments 2090 to 2150, ",
+        "<text class=\"detail\" x=\"1440\" y=\"1435\">2000</text>\n<text class=\"detail\" x=\"15500\" y=\"1435\">150</text>\n",
+        "<text class=\"small\" x=\"14440\" y=\"1620\">TI 2000</text>\n",
+    ];
+    assert!(rt; shows(&ran, &parts));
+    Ok(())
+}
+
+// A transmission of the second terminal in each of 504 intervals, of which 500 have a row.
+#[test]
+fn rows_that_are_too_many(rt: HostRuntime) -> Result<(), Fail> {
+    let mut text = String::from_str(rt.alloc(), "TRACE 1\nHORIZON 1010000\nHOLD 2 504\n")?;
+    for k in 0..504u64 {
+        let moment = 2000 * k;
+        text.push_str(format!(in rt.alloc(); "TX {moment} 2\nWS L0B210\n")?.as_str())?;
+    }
+    text.push_str("END\n")?;
+    let ran = run_on(&rt, &["cycles", "T", "R"], PERIODIC, text.as_str())?;
+    let parts = [
+        "moments 0 to 1010000 of 1010000: 504 transmissions, 0 garbled",
+        "from the moment at which it begins: 500 of 504, the next at 1000000</text>\n",
+        "<text class=\"detail\" x=\"1440\" y=\"71155\">998000</text>\n",
+    ];
+    assert!(rt; shows(&ran, &parts));
+    assert!(rt; !contains(ran.out.bytes(), "T2 message 501:"));
+    Ok(())
+}
