@@ -54,14 +54,19 @@ pub fn run_on(rt: &HostRuntime, words: &[&str], first: &str, second: &str) -> Re
     Ok(Ran { status, out, err })
 }
 
-/// Whether a text has a part.
-pub fn contains(text: &[u8], part: &str) -> bool {
+/// Where a text has a part first.
+pub fn position(text: &[u8], part: &str) -> Option<usize> {
     for k in 0..text.len() {
         if text[k..].starts_with(part.as_bytes()) {
-            return true;
+            return Some(k);
         }
     }
-    false
+    None
+}
+
+/// Whether a text has a part.
+pub fn contains(text: &[u8], part: &str) -> bool {
+    position(text, part).is_some()
 }
 
 /// Whether a call wrote a text that has each of these parts, and nothing on `err`.

@@ -12,4 +12,6 @@ mod paint;
 #[cfg(test)]
 mod periodic;
 #[cfg(test)]
+mod pile;
+#[cfg(test)]
 mod refused;
