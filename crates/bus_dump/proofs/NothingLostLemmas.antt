@@ -1,9 +1,9 @@
 -- Equal dumps are those of equal lists.
-use Rattle.std.proofs.Common.{◌≡◌, ℕ, ◌*◌, ◌<◌, ◌≤◌, true, eqb, ltb, List, [], ◌∷◌, ◌++◌, map, Some, None, inl, inr, arith, sym, refl, ap, subst, ◌∙◌}
+use Rattle.std.proofs.Common.{◌≡◌, ℕ, ◌*◌, ◌<◌, ◌≤◌, Bool, true, false, not, eqb, ltb, List, [], ◌∷◌, ◌++◌, map, Some, None, inl, inr, arith, sym, refl, ap, subst, ◌∙◌}
 use Rattle.std.specs.Prelude.{IsTrue}
 use Rattle.std.specs.List.{AllByRecursion, flat_map}
 use Rattle.std.proofs.lemmas.Bool.{and_parts, cases_lt, lt-ltb, ltb-true, true≢false}
-use Rattle.bus_strings.specs.MemberLaws.{at_in, in_append_left, in_append_right, of_each}
+use Rattle.bus_strings.specs.MemberLaws.{at_in, in_append_left, in_append_right, in_filter, of_each}
 use Rattle.bus_strings.specs.Members.{In}
 use Rattle.bus_strings.specs.Messages.{Entry, bits}
 use Rattle.bus_strings.specs.Transmissions.{IsAscending, IsOrdered, end_of, overlaps}
@@ -11,14 +11,15 @@ use Rattle.bus_table.specs.Tables.{Table}
 use Rattle.bus_table.specs.Valid.{is_valid}
 use Rattle.bus_trace.specs.Traces.{IsBelow, IsTrace, Recording}
 use Rattle.bus_medium.specs.AscendingLaws.{same_ascending}
-use Rattle.bus_dump.specs.declared.dump.Dump.TheVariants.{Vcd}
+use Rattle.bus_dump.specs.declared.dump.Dump.{Dump}
+use Rattle.bus_dump.specs.declared.dump.Dump.TheVariants.{Timers, Vcd, Wires}
 use Rattle.bus_dump.specs.Doubled.{doubled}
 use Rattle.bus_dump.specs.DumpTexts.{dump_text, name_text}
 use Rattle.bus_dump.specs.Lanes.{Lane, lanes}
 use Rattle.bus_dump.specs.Laws.{HoldsNoFeed, IsShownWhole, NothingIsLost}
 use Rattle.bus_dump.specs.Reading.{read_named}
 use Rattle.bus_dump.specs.Scenes.{Scene, scene_at}
-use Rattle.bus_dump.specs.Signals.{Signal, Label, Message, Word, bus_signals, lane_signals, signals, value}
+use Rattle.bus_dump.specs.Signals.{Signal, Carrier, Overlap, Sync, Word, Label, Message, bus_signals, has, is_timer, lane_signals, signals, signals_of, value}
 use Rattle.bus_dump.specs.Stamps.{StampsAre, stamped, stamps}
 use Rattle.bus_dump.proofs.ClearLemmas.{AreApart, before_it}
 use Rattle.bus_dump.proofs.LaneLawLemmas.{lane_of}
@@ -33,65 +34,83 @@ in_flat f [] x y i j = absurd i
 in_flat f (z ∷ xs) x y (inl same) j = in_append_left (f z) (flat_map f xs) y (subst (λ w. In y (f w)) same j)
 in_flat f (z ∷ xs) x y (inr i) j = in_append_right (f z) (flat_map f xs) y (in_flat f xs x y i j)
 
--- the signals of who sends
-abbrev signals_in : Table → Recording → List Signal
-signals_in table trace = signals Vcd (lanes table trace.list)
+-- the signals of a dump that has the words on the bus
+abbrev HasWords : Dump → Type 0
+HasWords dump = has dump false Word ≡ true
 
-message_in : (table : Table) (trace : Recording) (lane : Lane) (n : ℕ) → In lane (lanes table trace.list) → lane.terminal ≡ n
-    → In (Message n) (signals_in table trace)
-message_in table trace lane n i is =
-    in_append_right (bus_signals Vcd) (flat_map (lane_signals Vcd) (lanes table trace.list)) (Message n)
-    (in_flat (lane_signals Vcd) (lanes table trace.list) lane (Message n) i
-    (subst (λ k. In (Message k) (lane_signals Vcd lane)) is (inr (inr (inr (inl refl))))))
+abbrev signals_in : Dump → Table → Recording → List Signal
+signals_in dump table trace = signals dump (lanes table trace.list)
 
-label_in : (table : Table) (trace : Recording) (lane : Lane) (n : ℕ) → In lane (lanes table trace.list) → lane.terminal ≡ n
-    → In (Label n) (signals_in table trace)
-label_in table trace lane n i is =
-    in_append_right (bus_signals Vcd) (flat_map (lane_signals Vcd) (lanes table trace.list)) (Label n)
-    (in_flat (lane_signals Vcd) (lanes table trace.list) lane (Label n) i
-    (subst (λ k. In (Label k) (lane_signals Vcd lane)) is (inr (inr (inl refl)))))
+-- it has all signals but timers
+has_all : (dump : Dump) (sender : Bool) (s : Signal) → HasWords dump → is_timer s ≡ false → has dump sender s ≡ true
+has_all Vcd sender s words plain = ap not plain
+has_all Wires sender s words plain = absurd (true≢false (sym words))
+has_all Timers true s words plain = refl
+has_all Timers false s words plain = ap not plain
 
-word_in : (table : Table) (trace : Recording) → In Word (signals_in table trace)
-word_in table trace =
-    in_append_left (bus_signals Vcd) (flat_map (lane_signals Vcd) (lanes table trace.list)) Word (inr (inr (inr (inl refl))))
+of_lane : (dump : Dump) (table : Table) (trace : Recording) (lane : Lane) (s : Signal) → HasWords dump → In lane (lanes table trace.list)
+    → In s (signals_of lane.terminal) → is_timer s ≡ false → In s (signals_in dump table trace)
+of_lane dump table trace lane s words i j plain =
+    in_append_right (bus_signals dump) (flat_map (lane_signals dump) (lanes table trace.list)) s
+    (in_flat (lane_signals dump) (lanes table trace.list) lane s i
+    (in_filter (has dump lane.sender) (signals_of lane.terminal) s j (has_all dump lane.sender s words plain)))
+
+message_in : (dump : Dump) (table : Table) (trace : Recording) (lane : Lane) (n : ℕ) → HasWords dump → In lane (lanes table trace.list)
+    → lane.terminal ≡ n → In (Message n) (signals_in dump table trace)
+message_in dump table trace lane n words i is =
+    subst (λ k. In (Message k) (signals_in dump table trace)) is
+    (of_lane dump table trace lane (Message lane.terminal) words i (inr (inr (inr (inl refl)))) refl)
+
+label_in : (dump : Dump) (table : Table) (trace : Recording) (lane : Lane) (n : ℕ) → HasWords dump → In lane (lanes table trace.list)
+    → lane.terminal ≡ n → In (Label n) (signals_in dump table trace)
+label_in dump table trace lane n words i is =
+    subst (λ k. In (Label k) (signals_in dump table trace)) is
+    (of_lane dump table trace lane (Label lane.terminal) words i (inr (inr (inl refl))) refl)
+
+word_in : (dump : Dump) (table : Table) (trace : Recording) → HasWords dump → In Word (signals_in dump table trace)
+word_in dump table trace words =
+    in_append_left (bus_signals dump) (flat_map (lane_signals dump) (lanes table trace.list)) Word
+    (in_filter (has dump false) (Carrier ∷ (Overlap ∷ (Sync ∷ (Word ∷ [])))) Word (inr (inr (inr (inl refl)))) words)
 
 -- what is known of two traces
-record AreDumped (comment : List ℕ) (table : Table) (a b : Recording) : Type 0 where
+record AreDumped (dump : Dump) (comment : List ℕ) (table : Table) (a b : Recording) : Type 0 where
+  words : HasWords dump
   valid : IsTrue (is_valid table)
   left : IsTrace a
   right : IsTrace b
   plain : HoldsNoFeed comment
   horizons : a.horizon ≡ b.horizon
-  texts : dump_text Vcd comment table a ≡ dump_text Vcd comment table b
+  texts : dump_text dump comment table a ≡ dump_text dump comment table b
 
-same_in : (comment : List ℕ) (table : Table) (a b : Recording) → AreDumped comment table a b → signals_in table a ≡ signals_in table b
-same_in comment table a b h =
-    same_signals comment (signals_in table a) (signals_in table b) (scene_at Vcd table a.list) (scene_at Vcd table b.list) a.horizon b.horizon
-    (signals_small Vcd table a.list h.valid) (signals_small Vcd table b.list h.valid) h.texts
+same_in : (dump : Dump) (comment : List ℕ) (table : Table) (a b : Recording) → AreDumped dump comment table a b → signals_in dump table a ≡ signals_in dump table b
+same_in dump comment table a b h =
+    same_signals comment (signals_in dump table a) (signals_in dump table b) (scene_at dump table a.list) (scene_at dump table b.list) a.horizon b.horizon
+    (signals_small dump table a.list h.valid) (signals_small dump table b.list h.valid) h.texts
 
-same_value : (comment : List ℕ) (table : Table) (a b : Recording) (s : Signal) (t : ℕ) → AreDumped comment table a b → In s (signals_in table a)
-    → t < a.horizon → value s (scene_at Vcd table a.list t) ≡ value s (scene_at Vcd table b.list t)
-same_value comment table a b s t h i low =
-    let j : In s (signals_in table b) = subst (λ ss. In s ss) (same_in comment table a b h) i in
+same_value : (dump : Dump) (comment : List ℕ) (table : Table) (a b : Recording) (s : Signal) (t : ℕ) → AreDumped dump comment table a b → In s (signals_in dump table a)
+    → t < a.horizon → value s (scene_at dump table a.list t) ≡ value s (scene_at dump table b.list t)
+same_value dump comment table a b s t h i low =
+    let j : In s (signals_in dump table b) = subst (λ ss. In s ss) (same_in dump comment table a b h) i in
     let horizons : a.horizon ≡ b.horizon = h.horizons in
-    let both : Some (value s (scene_at Vcd table a.list t)) ≡ Some (value s (scene_at Vcd table b.list t)) =
-    sym (dump_read Vcd comment table a t s h.valid h.left h.plain low i)
+    let both : Some (value s (scene_at dump table a.list t)) ≡ Some (value s (scene_at dump table b.list t)) =
+    sym (dump_read dump comment table a t s h.valid h.left h.plain low i)
     ∙ ap (read_named (name_text s) (5 * t)) h.texts
-    ∙ dump_read Vcd comment table b t s h.valid h.right h.plain (omega (arith, low, horizons)) j in
+    ∙ dump_read dump comment table b t s h.valid h.right h.plain (omega (arith, low, horizons)) j in
     cc
 
-same_terminal : (comment : List ℕ) (table : Table) (a b : Recording) (x : Entry) → AreDumped comment table a b → In x a.list
+same_terminal : (dump : Dump) (comment : List ℕ) (table : Table) (a b : Recording) (x : Entry) → AreDumped dump comment table a b → In x a.list
     → IsSame a.list b.list a.horizon x.terminal
-same_terminal comment table a b x h i =
+same_terminal dump comment table a b x h i =
     let own = lane_of table a h.valid h.left x i in
     record {
-      message = λ t low. same_value comment table a b (Message x.terminal) t h (message_in table a own.0 x.terminal own.1 own.2) low;
-      label = λ t low. same_value comment table a b (Label x.terminal) t h (label_in table a own.0 x.terminal own.1 own.2) low;
-      word = λ t low. same_value comment table a b Word t h (word_in table a) low;
+      message = λ t low. same_value dump comment table a b (Message x.terminal) t h (message_in dump table a own.0 x.terminal h.words own.1 own.2) low;
+      label = λ t low. same_value dump comment table a b (Label x.terminal) t h (label_in dump table a own.0 x.terminal h.words own.1 own.2) low;
+      word = λ t low. same_value dump comment table a b Word t h (word_in dump table a h.words) low;
     }
 
-turned : (comment : List ℕ) (table : Table) (a b : Recording) → AreDumped comment table a b → AreDumped comment table b a
-turned comment table a b h = record {
+turned : (dump : Dump) (comment : List ℕ) (table : Table) (a b : Recording) → AreDumped dump comment table a b → AreDumped dump comment table b a
+turned dump comment table a b h = record {
+  words = h.words;
   valid = h.valid;
   left = h.right;
   right = h.left;
@@ -122,13 +141,13 @@ ends_with ss scene horizon text s = elim (cases_lt 0 horizon) [
       )
 ]
 
-same_horizon : (comment : List ℕ) (table : Table) (a b : Recording) → IsTrue (is_valid table) → IsTrace a → IsTrace b → HoldsNoFeed comment
-    → dump_text Vcd comment table a ≡ dump_text Vcd comment table b → a.horizon ≡ b.horizon
-same_horizon comment table a b valid left right plain texts =
-    let first = ends_with (signals_in table a) (scene_at Vcd table a.list) a.horizon (dump_text Vcd comment table a)
-    (stamps_told Vcd comment table a valid left plain) in
-    let second = ends_with (signals_in table b) (scene_at Vcd table b.list) b.horizon (dump_text Vcd comment table b)
-    (stamps_told Vcd comment table b valid right plain) in
+same_horizon : (dump : Dump) (comment : List ℕ) (table : Table) (a b : Recording) → IsTrue (is_valid table) → IsTrace a → IsTrace b → HoldsNoFeed comment
+    → dump_text dump comment table a ≡ dump_text dump comment table b → a.horizon ≡ b.horizon
+same_horizon dump comment table a b valid left right plain texts =
+    let first = ends_with (signals_in dump table a) (scene_at dump table a.list) a.horizon (dump_text dump comment table a)
+    (stamps_told dump comment table a valid left plain) in
+    let second = ends_with (signals_in dump table b) (scene_at dump table b.list) b.horizon (dump_text dump comment table b)
+    (stamps_told dump comment table b valid right plain) in
     let last : 5 * a.horizon ≡ 5 * b.horizon =
     same_end first.0 second.0 (5 * a.horizon) (5 * b.horizon) (sym first.1 ∙ ap stamps texts ∙ second.1) in
     omega (arith, last)
@@ -157,14 +176,14 @@ right_list trace is w = record {
 }
 
 pub nothing_lost : NothingIsLost
-nothing_lost comment table a b valid left right plain whole other texts =
-    let horizons : a.horizon ≡ b.horizon = same_horizon comment table a b valid left right plain texts in
-    let h : AreDumped comment table a b =
-    record { valid = valid; left = left; right = right; plain = plain; horizons = horizons; texts = texts } in
+nothing_lost dump comment table a b words valid left right plain whole other texts =
+    let horizons : a.horizon ≡ b.horizon = same_horizon dump comment table a b valid left right plain texts in
+    let h : AreDumped dump comment table a b =
+    record { words = words; valid = valid; left = left; right = right; plain = plain; horizons = horizons; texts = texts } in
     let c : IsRight a.list a.horizon = right_list a left whole in
     let d : IsRight b.list b.horizon = right_list b right other in (
       horizons,
       same_ascending a.list b.list left.order right.order
-          (in_other a.list b.list a.horizon c (subst (IsRight b.list) (sym horizons) d) (λ x i. same_terminal comment table a b x h i))
-          (in_other b.list a.list b.horizon d (subst (IsRight a.list) horizons c) (λ x i. same_terminal comment table b a x (turned comment table a b h) i)),
+          (in_other a.list b.list a.horizon c (subst (IsRight b.list) (sym horizons) d) (λ x i. same_terminal dump comment table a b x h i))
+          (in_other b.list a.list b.horizon d (subst (IsRight a.list) horizons c) (λ x i. same_terminal dump comment table b a x (turned dump comment table a b h) i)),
     )

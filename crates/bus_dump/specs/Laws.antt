@@ -22,7 +22,7 @@ use Rattle.bus_medium.specs.Lawful.{HasEntry, IsLawful, Station}
 use Rattle.bus_medium.specs.Past.{last_place, own, past}
 use Rattle.bus_medium.specs.Timings.{quiet_of, stations_of, timing_of}
 use Rattle.bus_dump.specs.declared.dump.Dump.{Dump}
-use Rattle.bus_dump.specs.declared.dump.Dump.TheVariants.{Timers, Vcd}
+use Rattle.bus_dump.specs.declared.dump.Dump.TheVariants.{Timers}
 use Rattle.bus_dump.specs.Doubled.{doubled}
 use Rattle.bus_dump.specs.DumpTexts.{changes, changes_at, dump_text, id_text, name_text, stamp, units, value_line}
 use Rattle.bus_dump.specs.Lanes.{Lane, is_sender, lanes, sends}
@@ -32,7 +32,7 @@ use Rattle.bus_dump.specs.SaveFiles.{save_text, shown}
 use Rattle.bus_dump.specs.Scenes.{Scene, scene_at}
 use Rattle.bus_dump.specs.Seen.{holds, number_of}
 use Rattle.bus_dump.specs.Signals.{Signal, Carrier, Overlap, Sync, Word, Pulse, Garbled, Label, Message, Interval, Synchronization, Gap, May}
-use Rattle.bus_dump.specs.Signals.{Bit, Floating, Number, Unknown, signals, value}
+use Rattle.bus_dump.specs.Signals.{Bit, Floating, Number, Unknown, has, signals, value}
 use Rattle.bus_dump.specs.Stamps.{StampsAre, stamped}
 
 -- ---- texts
@@ -300,16 +300,17 @@ pub record IsShownWhole (trace : Recording) : Type 0 where
   pub apart : IsOrdered (λ x y. overlaps x y ≡ false) trace.list
   pub ended : AllByRecursion (λ x. end_of x ≤ trace.horizon) trace.list
 
--- Two traces on a table, each shown whole, have the same dump only where they have the same horizon and the same list.
+-- Two traces on a table, each shown whole, have the same dump with words, as all but `Wires`, only where they have the same horizon and
+-- the same list.
 abbrev pub NothingIsLost : Type 0
 NothingIsLost =
-    (comment : List ℕ) (table : Table) (a b : Recording) → IsTrue (is_valid table) → IsTrace a → IsTrace b → HoldsNoFeed comment
-    → IsShownWhole a → IsShownWhole b → dump_text Vcd comment table a ≡ dump_text Vcd comment table b
+    (dump : Dump) (comment : List ℕ) (table : Table) (a b : Recording) → has dump false Word ≡ true → IsTrue (is_valid table) → IsTrace a → IsTrace b → HoldsNoFeed comment
+    → IsShownWhole a → IsShownWhole b → dump_text dump comment table a ≡ dump_text dump comment table b
     → (a.horizon ≡ b.horizon) × (a.list ≡ b.list)
 
 -- So it is of the dumps that are written of traces on a table.
 abbrev pub NothingWrittenIsLost : Table → Type 0
 NothingWrittenIsLost table =
-    (a b : Recording) → IsTrue (is_valid table) → IsTrace a → IsTrace b → IsShownWhole a → IsShownWhole b
-    → dump_text Vcd (verdict_words (verdict_of table)) table a ≡ dump_text Vcd (verdict_words (verdict_of table)) table b
+    (dump : Dump) (a b : Recording) → has dump false Word ≡ true → IsTrue (is_valid table) → IsTrace a → IsTrace b → IsShownWhole a → IsShownWhole b
+    → dump_text dump (verdict_words (verdict_of table)) table a ≡ dump_text dump (verdict_words (verdict_of table)) table b
     → (a.horizon ≡ b.horizon) × (a.list ≡ b.list)

@@ -114,8 +114,8 @@ pub fn all_are_shown()
     ensures { AllAreShown }
 {}
 
-/// Two traces on a table, of which no two transmissions overlap and all have ended by the horizon, have the same dump only where they have
-/// the same horizon and the same list.
+/// Two traces on a table, of which no two transmissions overlap and all have ended by the horizon, have the same dump with words only where
+/// they have the same horizon and the same list.
 pub fn nothing_is_lost()
     ensures { NothingIsLost }
 {}
