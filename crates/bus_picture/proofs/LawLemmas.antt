@@ -1,19 +1,25 @@
--- The boxes of a row hold its transmissions.
-use Rattle.std.proofs.Common.{◌≡◌, ◌↔◌, ℕ, Bool, true, false, cond, ◌&&◌, nat_eq, List, [], ◌∷◌, ◌++◌, length, filter, Option, Some, None, refl, sym, ap, ◌∙◌}
+-- The boxes of a row.
+use Rattle.std.proofs.Common.{◌≡◌, ◌↔◌, ℕ, ◌+◌, ◌<◌, ◌≤◌, Bool, true, false, cond, max, List, [], ◌∷◌, ◌++◌, filter, Option, Some, None, inl, inr, arith, refl, sym, ap, subst, ◌∙◌}
+use Rattle.std.specs.Prelude.{◌&&◌, ◌⊎◌, fold, nat_lt, ⊤}
 use Rattle.std.specs.Bool.{beq}
-use Rattle.std.specs.List.{AllByRecursion, count_by, flat_map}
-use Rattle.std.proofs.lemmas.Bool.{and_parts, true≢false}
+use Rattle.std.specs.List.{AllByRecursion, flat_map}
+use Rattle.std.proofs.lemmas.Bool.{and_parts, cases_Bool, ltb-false, ltb-true, true≢false}
 use Rattle.std.proofs.lemmas.List.{append_assoc}
-use Rattle.std.proofs.lemmas.List.Sums.{length-filter}
 use Rattle.bus_strings.specs.ListLaws.{all_push}
+use Rattle.bus_strings.specs.MemberLaws.{from_filter, in_append_left, in_append_right, of_each}
+use Rattle.bus_strings.specs.Members.{In}
+use Rattle.bus_strings.specs.Messages.{Entry}
+use Rattle.bus_strings.specs.Transmissions.{IsByMoment, garbled}
 use Rattle.bus_shapes.specs.declared.class.Class.TheVariants.{Garbled}
 use Rattle.bus_shapes.specs.declared.scale.Scale.{Scale}
 use Rattle.bus_shapes.specs.declared.sent.Sent.{Sent}
-use Rattle.bus_shapes.specs.Sending.{sents}
-use Rattle.bus_picture.specs.Boxes.{Box, boxes, boxes_from, bucket, is_narrow, joins, members}
-use Rattle.bus_picture.specs.Rows.{Row, plain_class, shown}
-use Rattle.bus_picture.specs.TimeLines.{is_shown}
-use Rattle.bus_picture.specs.Laws.{BoxesHoldRows, CountsAreShown, HatchedAreGarbled, IsHatched, bus_row}
+use Rattle.bus_shapes.specs.Laws.{SentsAreTold}
+use Rattle.bus_shapes.specs.Sending.{sents, sents_from}
+use Rattle.bus_shapes.specs.SendingLaws.{IsToldOf}
+use Rattle.bus_picture.specs.Boxes.{Box, boxes, boxes_from, joins, members, pile_of}
+use Rattle.bus_picture.specs.Rows.{Row, box_class, is_of, plain_class, shown, shows}
+use Rattle.bus_picture.specs.Strings.{meets}
+use Rattle.bus_picture.specs.Laws.{BoxesHoldRows, BoxesHoldTheirs, HatchedAreGarbled, HoldsIts}
 
 abbrev single : Sent → Box
 single x = record { first = x; others = [] }
@@ -40,8 +46,10 @@ pub boxes_hold_rows : BoxesHoldRows
 boxes_hold_rows scale row list = all_held scale (shown scale row list)
 
 -- ---- hatched boxes
-abbrev IsAlike : Box → Type 0
-IsAlike box = AllByRecursion (λ (x : Sent). x.garbled ≡ box.first.garbled) box.others
+in_flat : (bs : List Box) (box : Box) (x : Sent) → In box bs → In x (members box) → In x (flat_map members bs)
+in_flat [] box x i j = absurd i
+in_flat (b ∷ bs) box x (inl same) j = in_append_left (members b) (flat_map members bs) x (subst (λ (b : Box). In x (members b)) same j)
+in_flat (b ∷ bs) box x (inr i) j = in_append_right (members b) (flat_map members bs) x (in_flat bs box x i j)
 
 same : (a b : Bool) → beq a b ≡ true → b ≡ a
 same true true h = refl
@@ -49,27 +57,11 @@ same true false h = absurd (true≢false (sym h))
 same false true h = absurd (true≢false (sym h))
 same false false h = refl
 
-joined : (scale : Scale) (x y : Sent) → joins scale x y ≡ true → y.garbled ≡ x.garbled
-joined scale x y h =
-    same x.garbled y.garbled
-    (and_parts (is_narrow scale x && is_narrow scale y && nat_eq (bucket scale x) (bucket scale y)) (beq x.garbled y.garbled) h).1
-
-alike_by : (scale : Scale) (box : Box) (y : Sent) (ys : List Sent) (j : Bool) → IsAlike box
-    → (j ≡ true → AllByRecursion IsAlike (boxes_from scale (longer box y) ys)) → AllByRecursion IsAlike (boxes_from scale (single y) ys)
-    → AllByRecursion IsAlike (cond j (boxes_from scale (longer box y) ys) (box ∷ boxes_from scale (single y) ys))
-alike_by scale box y ys true h more new = more refl
-alike_by scale box y ys false h more new = (h, new)
-
-alike : (scale : Scale) (box : Box) (ys : List Sent) → IsAlike box → AllByRecursion IsAlike (boxes_from scale box ys)
-alike scale box [] h = (h, tt)
-alike scale box (y ∷ ys) h =
-    alike_by scale box y ys (joins scale box.first y) h
-    (λ j. alike scale (longer box y) ys (all_push (λ (x : Sent). x.garbled ≡ box.first.garbled) box.others y h (joined scale box.first y j)))
-    (alike scale (single y) ys tt)
-
-all_alike : (scale : Scale) (xs : List Sent) → AllByRecursion IsAlike (boxes scale xs)
-all_alike scale [] = tt
-all_alike scale (x ∷ xs) = alike scale (single x) xs tt
+-- A row shows only what is garbled as it is.
+pub as_row : (scale : Scale) (row : Row) (x : Sent) → shows scale row x ≡ true → row.garbled ≡ x.garbled
+as_row scale row x h =
+    same x.garbled row.garbled
+    (and_parts (is_of row x) (beq x.garbled row.garbled) (and_parts (is_of row x && beq x.garbled row.garbled) (meets scale x.moment x.end) h).0).1
 
 plain : (terminal : Option ℕ) → plain_class terminal ≡ Garbled → ⊥
 plain None h = cc
@@ -79,30 +71,109 @@ hatched_by : (g : Bool) (terminal : Option ℕ) → (cond g Garbled (plain_class
 hatched_by true terminal = (λ h. refl, λ h. refl)
 hatched_by false terminal = (λ h. absurd (plain terminal h), λ h. absurd (true≢false (sym h)))
 
-each_hatched : (row : Row) (bs : List Box) → AllByRecursion IsAlike bs → AllByRecursion (IsHatched row) bs
-each_hatched row [] h = tt
-each_hatched row (box ∷ bs) h = (record { hatched = hatched_by box.first.garbled row.terminal; alike = h.0 }, each_hatched row bs h.1)
+pub hatched_are_garbled : SentsAreTold → HatchedAreGarbled
+hatched_are_garbled told scale row list box x i j =
+    let all : In x (shown scale row list) = subst (In x) (boxes_hold_rows scale row list) (in_flat (boxes scale (shown scale row list)) box x i j) in
+    let kept = from_filter (shows scale row) (sents list) x all in
+    let t : IsToldOf list x = told list x kept.0 in
+    let mark : row.garbled ≡ garbled list x.at = as_row scale row x kept.1 ∙ ap (λ (s : Sent). s.garbled) t.told in
+    (t, subst (λ b. (box_class row ≡ Garbled) ↔ (b ≡ true)) mark (hatched_by row.garbled row.terminal))
 
-pub hatched_are_garbled : HatchedAreGarbled
-hatched_are_garbled scale row list = each_hatched row (boxes scale (shown scale row list)) (all_alike scale (shown scale row list))
+-- ---- from the first to the last
+abbrev IsBehind : ℕ → Sent → Type 0
+IsBehind t x = t ≤ x.moment
 
--- ---- counts
-both_step : (b : Bool) (q : Sent → Bool) (x : Sent) (rest some : List Sent) → filter q rest ≡ some
-    → filter q (cond b (x ∷ rest) rest) ≡ cond (b && q x) (x ∷ some) some
-both_step true q x rest some h = ap (λ (l : List Sent). cond (q x) (x ∷ l) l) h
-both_step false q x rest some h = h
+abbrev Rise : List Sent → Type 0
+Rise [] = ⊤
+Rise (x ∷ xs) = AllByRecursion (IsBehind x.moment) xs × Rise xs
 
-filter_both : (p q : Sent → Bool) (xs : List Sent) → filter q (filter p xs) ≡ filter (λ x. p x && q x) xs
-filter_both p q [] = refl
-filter_both p q (x ∷ xs) = both_step (p x) q x (filter p xs) (filter (λ y. p y && q y) xs) (filter_both p q xs)
+all_behind : (list : List Entry) (k t : ℕ) (xs : List Entry) → AllByRecursion (λ (y : Entry). t ≤ y.moment) xs → AllByRecursion (IsBehind t) (sents_from list k xs)
+all_behind list k t [] h = tt
+all_behind list k t (x ∷ xs) h = (h.0, all_behind list (k + 1) t xs h.1)
 
-counted_both : (p q : Sent → Bool) (xs : List Sent) → count_by (λ x. p x && q x) xs ≡ count_by q (filter p xs)
-counted_both p q xs =
-    sym (length-filter (λ x. p x && q x) xs) ∙ ap length (sym (filter_both p q xs)) ∙ length-filter q (filter p xs)
+rise : (list : List Entry) (k : ℕ) (xs : List Entry) → IsByMoment xs → Rise (sents_from list k xs)
+rise list k [] order = tt
+rise list k (x ∷ xs) order = (all_behind list (k + 1) x.moment xs order.0, rise list (k + 1) xs order.1)
 
-pub counts_are_shown : CountsAreShown
-counts_are_shown scale trace top bottom = record {
-  all = sym (length-filter (is_shown scale) (sents trace.list)) ∙ ap length (sym (boxes_hold_rows scale (bus_row top bottom) trace.list));
-  hurt = counted_both (is_shown scale) (λ (x : Sent). x.garbled) (sents trace.list)
-      ∙ ap (count_by (λ (x : Sent). x.garbled)) (sym (boxes_hold_rows scale (bus_row top bottom) trace.list));
-}
+kept_behind : (t : ℕ) (p : Sent → Bool) (xs : List Sent) → AllByRecursion (IsBehind t) xs → AllByRecursion (IsBehind t) (filter p xs)
+kept_behind t p [] h = tt
+kept_behind t p (x ∷ xs) h =
+    elim (p x) as (λ b. AllByRecursion (IsBehind t) (cond b (x ∷ filter p xs) (filter p xs))) [
+      | true ↦ (h.0, kept_behind t p xs h.1)
+      | false ↦ kept_behind t p xs h.1
+    ]
+
+kept_rise : (p : Sent → Bool) (xs : List Sent) → Rise xs → Rise (filter p xs)
+kept_rise p [] h = tt
+kept_rise p (x ∷ xs) h =
+    elim (p x) as (λ b. Rise (cond b (x ∷ filter p xs) (filter p xs))) [
+      | true ↦ (kept_behind x.moment p xs h.0, kept_rise p xs h.1)
+      | false ↦ kept_rise p xs h.1
+    ]
+
+abbrev IsFirst : Box → Type 0
+IsFirst box = AllByRecursion (IsBehind box.first.moment) box.others
+
+first_by : (scale : Scale) (box : Box) (y : Sent) (ys : List Sent) (j : Bool) → IsFirst box
+    → AllByRecursion IsFirst (boxes_from scale (longer box y) ys) → AllByRecursion IsFirst (boxes_from scale (single y) ys)
+    → AllByRecursion IsFirst (cond j (boxes_from scale (longer box y) ys) (box ∷ boxes_from scale (single y) ys))
+first_by scale box y ys true h more new = more
+first_by scale box y ys false h more new = (h, new)
+
+led : (scale : Scale) (box : Box) (ys : List Sent) → IsFirst box → AllByRecursion (IsBehind box.first.moment) ys → Rise ys
+    → AllByRecursion IsFirst (boxes_from scale box ys)
+led scale box [] h later order = (h, tt)
+led scale box (y ∷ ys) h later order =
+    first_by scale box y ys (joins scale box.first y) h
+    (led scale (longer box y) ys (all_push (IsBehind box.first.moment) box.others y h later.0) later.1 order.1)
+    (led scale (single y) ys tt order.0 order.1)
+
+all_first : (scale : Scale) (xs : List Sent) → Rise xs → AllByRecursion IsFirst (boxes scale xs)
+all_first scale [] order = tt
+all_first scale (x ∷ xs) order = led scale (single x) xs tt order.0 order.1
+
+abbrev end_from : ℕ → List Sent → ℕ
+end_from end xs = fold (λ end (x : Sent). max end x.end) end xs
+
+no_less : (end : ℕ) (xs : List Sent) → end ≤ end_from end xs
+no_less end [] = omega arith
+no_less end (x ∷ xs) = omega (arith, no_less (max end x.end) xs)
+
+each_within : (t end : ℕ) (xs : List Sent) → AllByRecursion (IsBehind t) xs → AllByRecursion (λ (x : Sent). (t ≤ x.moment) × (x.end ≤ end_from end xs)) xs
+each_within t end [] h = tt
+each_within t end (x ∷ xs) h = ((h.0, omega (arith, no_less (max end x.end) xs)), each_within t (max end x.end) xs h.1)
+
+one_of : (a b : ℕ) → (max a b ≡ a) ⊎ (max a b ≡ b)
+one_of a b =
+    elim (cases_Bool (nat_lt a b)) [
+      | inl less ↦ inr (let low : a < b = ltb-true a b less in omega arith)
+      | inr not_less ↦ inl (let low : b ≤ a = ltb-false a b not_less in omega arith)
+    ]
+
+abbrev EndsOne : ℕ → List Sent → Type 0
+EndsOne end xs = (x : Sent) × In x xs × (x.end ≡ end)
+
+ends_one : (end : ℕ) (xs : List Sent) → (end_from end xs ≡ end) ⊎ EndsOne (end_from end xs) xs
+ends_one end [] = inl refl
+ends_one end (x ∷ xs) =
+    elim (ends_one (max end x.end) xs) [
+      | inl same ↦ elim (one_of end x.end) [ inl old ↦ inl (same ∙ old) | inr new ↦ inr (x, inl refl, sym (same ∙ new)) ]
+      | inr one ↦ inr (one.0, inr one.1, one.2)
+    ]
+
+holds_its : (box : Box) → IsFirst box → HoldsIts box
+holds_its box h =
+    let end = ends_one box.first.end box.others in
+    let one : EndsOne (pile_of box).end (members box) =
+    elim end [ inl same ↦ (box.first, inl refl, sym same) | inr one ↦ (one.0, inr one.1, one.2) ] in
+    record {
+      within = ((omega arith, no_less box.first.end box.others), each_within box.first.moment box.first.end box.others h);
+      last = one.0;
+      held = one.1;
+      ends = one.2;
+    }
+
+pub boxes_hold_theirs : BoxesHoldTheirs
+boxes_hold_theirs scale row list box order i =
+    let all = all_first scale (shown scale row list) (kept_rise (shows scale row) (sents list) (rise list 0 list order)) in
+    holds_its box (of_each IsFirst (boxes scale (shown scale row list)) all box i)

@@ -3,3 +3,4 @@ pub mod WordLemmas
 pub mod RowLemmas
 pub mod LaneLemmas
 pub mod LawLemmas
+pub mod CountLemmas

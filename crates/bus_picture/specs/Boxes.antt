@@ -1,7 +1,7 @@
--- The boxes of a row of transmissions. Small neighbours share a box, so that a row has no more boxes than it has room for.
+-- The boxes of a row of transmissions. Narrow neighbours share a box: of two neighbouring boxes that begin in the same six pixels, one takes
+-- at least six, so that a row has no more boxes than it has room for.
 use Rattle.std.specs.Prelude.{ℕ, ◌+◌, ◌/◌, max, Bool, ◌&&◌, nat_lt, nat_eq, List, [], ◌∷◌, ◌++◌, length, codes, decimal, fold}
 use Rattle.std.specs.Prelude.{if◌then◌else◌}
-use Rattle.std.specs.Bool.{beq}
 use Rattle.bus_shapes.specs.declared.sent.Sent.{Sent}
 use Rattle.bus_shapes.specs.Sayings.{garbled_words, sent_words}
 use Rattle.bus_shapes.specs.declared.scale.Scale.{Scale}
@@ -17,10 +17,9 @@ is_narrow scale x = nat_lt (extent scale x.moment x.end) 60
 abbrev pub bucket : Scale → Sent → ℕ
 bucket scale x = place scale x.moment / 60
 
--- Whether y shares the box of x: both are narrow and begin in the same stretch, and both are garbled or neither is.
+-- Whether y shares the box of x: both are narrow and begin in the same stretch.
 abbrev pub joins : Scale → Sent → Sent → Bool
-joins scale x y =
-    is_narrow scale x && is_narrow scale y && nat_eq (bucket scale x) (bucket scale y) && beq x.garbled y.garbled
+joins scale x y = is_narrow scale x && is_narrow scale y && nat_eq (bucket scale x) (bucket scale y)
 
 -- A box: a transmission, and those behind it that share it.
 pub record Box : Type 0 where

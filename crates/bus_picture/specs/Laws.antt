@@ -1,39 +1,86 @@
 -- What follows of the definitions. The contracts of `laws` say that each of these holds.
-use Rattle.std.specs.Prelude.{◌≡◌, ◌↔◌, ℕ, true, List, length, None}
-use Rattle.std.specs.List.{AllByRecursion, count_by, flat_map}
+use Rattle.std.specs.Prelude.{◌≡◌, ◌↔◌, ℕ, ◌+◌, ◌≤◌, true, IsTrue, List, [], ◌∷◌, length, filter, ⊤}
+use Rattle.std.specs.List.{AllByRecursion, count_by, flat_map, sum_by}
+use Rattle.bus_strings.specs.Members.{In}
 use Rattle.bus_strings.specs.Messages.{Entry}
-use Rattle.bus_trace.specs.Traces.{Recording}
+use Rattle.bus_strings.specs.Transmissions.{IsByMoment, garbled}
+use Rattle.bus_table.specs.Tables.{Table}
+use Rattle.bus_table.specs.Valid.{is_valid}
+use Rattle.bus_trace.specs.Traces.{Recording, IsTrace}
+use Rattle.bus_dump.specs.declared.lane.Lane.{Lane}
+use Rattle.bus_dump.specs.Lanes.{lanes}
 use Rattle.bus_shapes.specs.declared.class.Class.TheVariants.{Garbled}
 use Rattle.bus_shapes.specs.declared.scale.Scale.{Scale}
 use Rattle.bus_shapes.specs.declared.sent.Sent.{Sent}
+use Rattle.bus_shapes.specs.Sending.{sents}
+use Rattle.bus_shapes.specs.SendingLaws.{IsToldOf}
 use Rattle.bus_picture.specs.Boxes.{Box, boxes, members, pile_of}
-use Rattle.bus_picture.specs.Rows.{Row, box_class, shown}
-use Rattle.bus_picture.specs.TimeLines.{counts_of}
+use Rattle.bus_picture.specs.Rows.{Row, box_class, shown, shows}
+use Rattle.bus_picture.specs.TimeLines.{bus_rows, counts_of, is_shown, row_height, rows_of, rows_of_lanes}
 
--- The transmissions of the boxes of a row, one behind the other, are those of the row that meet the moments of the scale, in order: so each
--- of these is in exactly one box.
+-- ---- boxes
+-- The transmissions of the boxes of a row, one behind the other, are those that the row shows, in order: so each of these is in exactly one
+-- box.
 abbrev pub BoxesHoldRows : Type 0
 BoxesHoldRows =
     (scale : Scale) (row : Row) (list : List Entry) → flat_map members (boxes scale (shown scale row list)) ≡ shown scale row list
 
--- A box is hatched where its first transmission is garbled, and the others of it are garbled as that is.
-pub record IsHatched (row : Row) (box : Box) : Type 0 where
-  pub hatched : (box_class row (pile_of box) ≡ Garbled) ↔ (box.first.garbled ≡ true)
-  pub alike : AllByRecursion (λ (x : Sent). x.garbled ≡ box.first.garbled) box.others
-
+-- Each transmission of a box is an entry of the list, and the box is hatched exactly where that is garbled.
 abbrev pub HatchedAreGarbled : Type 0
 HatchedAreGarbled =
-    (scale : Scale) (row : Row) (list : List Entry) → AllByRecursion (IsHatched row) (boxes scale (shown scale row list))
+    (scale : Scale) (row : Row) (list : List Entry) (box : Box) (x : Sent) → In box (boxes scale (shown scale row list))
+    → In x (members box) → IsToldOf list x × ((box_class row ≡ Garbled) ↔ (garbled list x.at ≡ true))
 
--- The row of the bus.
-abbrev pub bus_row : ℕ → ℕ → Row
-bus_row top bottom = record { terminal = None; top = top; bottom = bottom }
+-- A box goes from the begin of its first transmission, before which none of it begins, to the end of one of them, behind which none of it
+-- ends.
+pub record HoldsIts (box : Box) : Type 0 where
+  pub within : AllByRecursion (λ (x : Sent). (box.first.moment ≤ x.moment) × (x.end ≤ (pile_of box).end)) (members box)
+  pub last : Sent
+  pub held : In last (members box)
+  pub ends : last.end ≡ (pile_of box).end
 
--- What is counted are the transmissions of the boxes of the bus, and those of them that are garbled.
-pub record AreCounted (scale : Scale) (trace : Recording) (row : Row) : Type 0 where
-  pub all : (counts_of scale trace).shown ≡ length (flat_map members (boxes scale (shown scale row trace.list)))
-  pub hurt : (counts_of scale trace).garbled
-      ≡ count_by (λ (x : Sent). x.garbled) (flat_map members (boxes scale (shown scale row trace.list)))
+abbrev pub BoxesHoldTheirs : Type 0
+BoxesHoldTheirs =
+    (scale : Scale) (row : Row) (list : List Entry) (box : Box) → IsByMoment list → In box (boxes scale (shown scale row list))
+    → HoldsIts box
 
-abbrev pub CountsAreShown : Type 0
-CountsAreShown = (scale : Scale) (trace : Recording) (top bottom : ℕ) → AreCounted scale trace (bus_row top bottom)
+-- ---- rows
+-- All rows that are drawn behind a garbled one lie below it.
+abbrev pub AreUncovered : List Row → Type 0
+AreUncovered [] = ⊤
+AreUncovered (row ∷ rows) =
+    (row.garbled ≡ true → AllByRecursion (λ (next : Row). row.top + row_height ≤ next.top) rows) × AreUncovered rows
+
+abbrev pub GarbledAreUncovered : Type 0
+GarbledAreUncovered = (bottom : ℕ) (lanes : List Lane) → AreUncovered (rows_of bottom lanes)
+
+-- How many of these rows show a transmission.
+abbrev pub rows_with : Scale → List Row → Sent → ℕ
+rows_with scale rows x = count_by (λ (row : Row). shows scale row x) rows
+
+-- Each transmission that meets the window is shown by exactly one row of the bus, and by exactly one of all lanes.
+abbrev pub EachIsOnTheBus : Type 0
+EachIsOnTheBus = (scale : Scale) (bottom : ℕ) (x : Sent) → is_shown scale x ≡ true → rows_with scale (bus_rows bottom) x ≡ 1
+
+abbrev pub EachIsInOneLane : Type 0
+EachIsInOneLane =
+    (scale : Scale) (bottom : ℕ) (table : Table) (trace : Recording) (x : Sent) → IsTrue (is_valid table) → IsTrace trace
+    → In x (sents trace.list) → is_shown scale x ≡ true → rows_with scale (rows_of_lanes bottom (lanes table trace.list)) x ≡ 1
+
+-- ---- counts
+-- How many transmissions the boxes of rows have.
+abbrev pub in_boxes : Scale → List Entry → List Row → ℕ
+in_boxes scale list rows = sum_by (λ (row : Row). length (flat_map members (boxes scale (shown scale row list)))) rows
+
+-- What is counted above the plot are the transmissions of the boxes of these rows, and those of the garbled rows among them.
+pub record AreCounted (scale : Scale) (trace : Recording) (rows : List Row) : Type 0 where
+  pub all : (counts_of scale trace).shown ≡ in_boxes scale trace.list rows
+  pub hurt : (counts_of scale trace).garbled ≡ in_boxes scale trace.list (filter (λ (row : Row). row.garbled) rows)
+
+abbrev pub BusIsCounted : Type 0
+BusIsCounted = (scale : Scale) (trace : Recording) (bottom : ℕ) → AreCounted scale trace (bus_rows bottom)
+
+abbrev pub LanesAreCounted : Type 0
+LanesAreCounted =
+    (scale : Scale) (table : Table) (trace : Recording) (bottom : ℕ) → IsTrue (is_valid table) → IsTrace trace
+    → AreCounted scale trace (rows_of_lanes bottom (lanes table trace.list))

@@ -1,6 +1,8 @@
--- The rows of a time line: of the bus, with all transmissions, and of each lane.
+-- The rows of a time line. The bus has all transmissions, and a lane those of its terminal: each has a row of those that are garbled, and a
+-- row of the others.
 use Rattle.std.specs.Prelude.{ℕ, ◌+◌, ◌-◌, Bool, true, not, ◌&&◌, ◌==◌, nat_eq, List, [], ◌++◌, filter, slice_get, Option, Some, None}
 use Rattle.std.specs.Prelude.{if◌then◌else◌}
+use Rattle.std.specs.Bool.{beq}
 use Rattle.std.specs.List.{flat_map}
 use Rattle.std.specs.Option.{option_map_or}
 use Rattle.bus_strings.specs.Messages.{Entry}
@@ -16,25 +18,25 @@ use Rattle.bus_picture.specs.Boxes.{Pile, boxes, is_narrow, pile_of, pile_words}
 use Rattle.bus_picture.specs.Strings.{meets, strings_text}
 pub use Rattle.bus_picture.specs.declared.row.Row.{Row}
 
--- Whether a transmission is of the row: of its terminal, or any where it is that of the bus.
+-- Whether a transmission is of the terminal of the row, or any where it is that of the bus.
 abbrev pub is_of : Row → Sent → Bool
 is_of row x = option_map_or (λ n. x.terminal == n) row.terminal true
 
--- Whether it is, and meets the moments of the scale.
+-- Whether it is, is garbled exactly where the row is, and meets the moments of the scale.
 abbrev pub shows : Scale → Row → Sent → Bool
-shows scale row x = is_of row x && meets scale x.moment x.end
+shows scale row x = is_of row x && beq x.garbled row.garbled && meets scale x.moment x.end
 
 -- The transmissions of a row.
 abbrev pub shown : Scale → Row → List Entry → List Sent
 shown scale row list = filter (shows scale row) (sents list)
 
--- How a box looks: hatched where it is garbled.
+-- How the boxes of a row look: hatched where it is garbled.
 abbrev pub plain_class : Option ℕ → Class
 plain_class None = Carrier
 plain_class (Some terminal) = Message
 
-abbrev pub box_class : Row → Pile → Class
-box_class row pile = if pile.first.garbled then Garbled else plain_class row.terminal
+abbrev pub box_class : Row → Class
+box_class row = if row.garbled then Garbled else plain_class row.terminal
 
 -- What a box has of the scale: its left edge and its width, from its upper edge on.
 abbrev pub stretch : Scale → Pile → ℕ → ℕ → Area
@@ -44,7 +46,7 @@ stretch scale pile top height =
 -- What is drawn over all lanes of a box of the bus: what is garbled, down to the end of the plot.
 abbrev pub column_text : Scale → Row → Pile → List ℕ
 column_text scale row pile =
-    if pile.first.garbled then box_text Overlap (stretch scale pile row.top (row.bottom - row.top)) else []
+    if row.garbled then box_text Overlap (stretch scale pile row.top (row.bottom - row.top)) else []
 
 -- The wordstrings of a transmission.
 abbrev pub entry_text : Scale → Row → List Entry → Sent → List ℕ
@@ -62,9 +64,13 @@ more_text (Some terminal) scale row list pile = inner_text scale row list pile
 -- A box.
 abbrev pub pile_text : Scale → Row → List Entry → Pile → List ℕ
 pile_text scale row list pile =
-    titled_text (box_class row pile) (stretch scale pile (row.top + 60) 180) (pile_words pile)
+    titled_text (box_class row) (stretch scale pile (row.top + 60) 180) (pile_words pile)
     ++ more_text row.terminal scale row list pile
 
 -- A row: its boxes.
 abbrev pub row_text : Scale → Row → List Entry → List ℕ
 row_text scale row list = flat_map (λ box. pile_text scale row list (pile_of box)) (boxes scale (shown scale row list))
+
+-- Rows, one drawn behind the other.
+abbrev pub rows_text : Scale → List Entry → List Row → List ℕ
+rows_text scale list rows = flat_map (λ row. row_text scale row list) rows

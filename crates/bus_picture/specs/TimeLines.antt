@@ -1,5 +1,5 @@
 -- The text of a time line.
-use Rattle.std.specs.Prelude.{ℕ, ◌+◌, ◌-◌, ◌*◌, ◌%◌, max, min, Bool, ◌&&◌, ◌==◌, nat_eq, nat_le, nat_lt, List, [], ◌∷◌}
+use Rattle.std.specs.Prelude.{ℕ, ◌+◌, ◌-◌, ◌*◌, ◌%◌, max, min, Bool, true, false, ◌&&◌, ◌==◌, nat_eq, nat_le, nat_lt, List, [], ◌∷◌}
 use Rattle.std.specs.Prelude.{◌++◌, length, codes, decimal, Option, Some, None, if◌then◌else◌}
 use Rattle.std.specs.List.{count_by, find}
 use Rattle.std.specs.Option.{option_map_or}
@@ -28,7 +28,7 @@ use Rattle.bus_shapes.specs.Scales.{extent, place}
 use Rattle.bus_shapes.specs.Sending.{sents}
 use Rattle.bus_shapes.specs.Shapes.{box_text, titled_text, words_text}
 use Rattle.bus_shapes.specs.Windows.{Window}
-use Rattle.bus_picture.specs.Rows.{row_text}
+use Rattle.bus_picture.specs.Rows.{Row, rows_text}
 use Rattle.bus_picture.specs.Strings.{meets}
 use Rattle.bus_picture.specs.Timers.{bus_timer, is_near, sender_timers}
 
@@ -43,9 +43,16 @@ row_height = 320
 abbrev pub lane_top : ℕ → ℕ
 lane_top k = plot_top + row_height * (k + 1)
 
+-- The left edge of the plot, and its width, which leaves room for half of a number at its right edge.
+abbrev pub plot_left : ℕ
+plot_left = 1500
+
+abbrev pub plot_width : ℕ
+plot_width = 13800
+
 -- The scale of a window.
 abbrev pub scale_of : Window → Scale
-scale_of window = record { from = window.from; to = window.to; left = 1500; width = 14000 }
+scale_of window = record { from = window.from; to = window.to; left = plot_left; width = plot_width }
 
 -- ---- what is counted
 abbrev pub is_shown : Scale → Sent → Bool
@@ -81,7 +88,7 @@ terminal_text top terminal = words_text classes.Counts 1380 (top + 160) (codes "
 -- The band behind every second lane.
 abbrev pub band_text : ℕ → ℕ → List ℕ
 band_text k top =
-    if nat_eq (k % 2) 0 then box_text Band (record { left = 1500; top = top; width = 14000; height = row_height }) else []
+    if nat_eq (k % 2) 0 then box_text Band (record { left = plot_left; top = top; width = plot_width; height = row_height }) else []
 
 -- The sender with this number.
 abbrev pub sender_of : Table → ℕ → Option Sender
@@ -93,15 +100,32 @@ lane_front table k lane =
     band_text k (lane_top k) ++ terminal_text (lane_top k) lane.terminal
     ++ option_map_or (sender_text table.mode (lane_top k)) (sender_of table lane.terminal) []
 
--- The boxes of lane k.
-abbrev pub lane_row : Scale → List Entry → ℕ → ℕ → Lane → List ℕ
-lane_row scale list bottom k lane =
-    row_text scale (record { terminal = Some lane.terminal; top = lane_top k; bottom = bottom }) list
-
 -- Something of each lane, in order, of which the first is lane k.
-abbrev pub each_lane : (ℕ → Lane → List ℕ) → ℕ → List Lane → List ℕ
-each_lane text k [] = []
-each_lane text k (lane ∷ lanes) = text k lane ++ each_lane text (k + 1) lanes
+abbrev pub each_lane : {X : Type 0} → (ℕ → Lane → List X) → ℕ → List Lane → List X
+each_lane of k [] = []
+each_lane of k (lane ∷ lanes) = of k lane ++ each_lane of (k + 1) lanes
+
+-- ---- the rows
+-- The two rows of one place, in the order in which they are drawn: what isn't garbled, and over it what is.
+abbrev pub row_at : Option ℕ → ℕ → ℕ → Bool → Row
+row_at terminal top bottom garbled = record { terminal = terminal; garbled = garbled; top = top; bottom = bottom }
+
+abbrev pub rows_at : Option ℕ → ℕ → ℕ → List Row
+rows_at terminal top bottom = row_at terminal top bottom false ∷ (row_at terminal top bottom true ∷ [])
+
+-- Those of the bus, of lane k, and of all lanes.
+abbrev pub bus_rows : ℕ → List Row
+bus_rows bottom = rows_at None plot_top bottom
+
+abbrev pub lane_rows : ℕ → ℕ → Lane → List Row
+lane_rows bottom k lane = rows_at (Some lane.terminal) (lane_top k) bottom
+
+abbrev pub rows_of_lanes : ℕ → List Lane → List Row
+rows_of_lanes bottom lanes = each_lane (lane_rows bottom) 0 lanes
+
+-- All rows, in the order in which they are drawn.
+abbrev pub rows_of : ℕ → List Lane → List Row
+rows_of bottom lanes = bus_rows bottom ++ rows_of_lanes bottom lanes
 
 -- ---- the timers
 -- The timers of lane k, where its terminal is a sender.
@@ -188,18 +212,12 @@ abbrev pub legend_text : ℕ → List ℕ
 legend_text top = legend_message top ++ legend_garbled top ++ legend_columns top ++ legend_timers top
 
 -- ---- the whole
--- The rows of the bus and of the lanes.
-abbrev pub rows_text : Scale → ℕ → List Lane → Recording → List ℕ
-rows_text scale bottom lanes trace =
-    row_text scale (record { terminal = None; top = plot_top; bottom = bottom }) trace.list
-    ++ each_lane (lane_row scale trace.list bottom) 0 lanes
-
 -- The plot, above a lower edge.
 abbrev pub plot_text : Scale → ℕ → List Lane → AuditAnswer → Table → Recording → List ℕ
 plot_text scale bottom lanes answer table trace =
     words_text classes.Counts 1380 (plot_top + 200) (codes "bus") ++ each_lane (lane_front table) 0 lanes ++ axes_text scale bottom
     ++ unobserved_text scale bottom trace.horizon
-    ++ rows_text scale bottom lanes trace ++ timers_text scale lanes table trace.list
+    ++ rows_text scale trace.list (rows_of bottom lanes) ++ timers_text scale lanes table trace.list
     ++ each_lane (breach_text scale answer) 0 lanes
 
 -- A picture with these lanes.

@@ -15,7 +15,7 @@ use bus_outer::{Sink, TextBuffer};
 use bus_shapes::{Area, Class, Scale, Sent, Sents, begin_titled, end_titled, put_box};
 use bus_strings::transmission::Transmission;
 
-// Whether a transmission is of the row, and meets the moments of the scale.
+// Whether a transmission is of the row, is garbled exactly where that is, and meets the moments of the scale.
 fn shows(scale: &Scale, row: &Row, sent: &Sent) -> bool
     ensures { result ≡ definition.shows scale.now row.now sent.now }
 {
@@ -23,14 +23,14 @@ fn shows(scale: &Scale, row: &Row, sent: &Sent) -> bool
         None => true,
         Some(terminal) => sent.terminal == terminal,
     };
-    is_of && meets(scale, sent.moment, sent.end)
+    is_of && sent.garbled == row.garbled && meets(scale, sent.moment, sent.end)
 }
 
-// How a box looks.
-fn box_class(row: &Row, pile: &Pile) -> Class
-    ensures { result ≡ definition.box_class row.now pile.now }
+// How the boxes of a row look.
+fn box_class(row: &Row) -> Class
+    ensures { result ≡ definition.box_class row.now }
 {
-    if pile.first.garbled {
+    if row.garbled {
         return Class::Garbled;
     }
     match row.terminal {
@@ -60,7 +60,7 @@ fn put_column<K: Sink>(text: &mut TextBuffer, sink: &mut K, scale: &Scale, row: 
     requires order { row.now.top ≤ row.now.bottom }
     ensures { Adds K.held K.faults sink.old sink.new text.old text.new (definition.column_text scale.now row.now pile.now) }
 {
-    if pile.first.garbled {
+    if row.garbled {
         let area = stretch(scale, pile, row.top, row.bottom - row.top);
         put_box(text, sink, Class::Overlap, area);
     }
@@ -143,7 +143,7 @@ fn put_pile<K: Sink>(
         (definition.pile_text scale.now row.now list.now pile.now) }
 {
     let area = stretch(scale, pile, row.top + 60, 180);
-    begin_titled(text, sink, box_class(row, pile), area);
+    begin_titled(text, sink, box_class(row), area);
     put_pile_words(text, sink, pile);
     end_titled(text, sink);
     put_more(text, sink, scale, row, list, pile);

@@ -2,17 +2,13 @@
 ghost use Rattle.std.specs.Prelude.{◌≡◌, ◌<◌, ◌≤◌, ◌++◌, [], codes, decimal, length};
 ghost use Rattle.std.specs.Option.{option_copied, option_map_or};
 ghost use Rattle.bus_outer.specs.Texts.{Adds};
-ghost use Rattle.bus_strings.specs.Transmissions.{IsByMoment};
 ghost use Rattle.bus_shapes.specs.Scales.{IsScale};
 ghost use Rattle.bus_picture.specs.TimeLines as definition;
 
-use crate::boxes::put_row;
-use crate::row::Row;
 use bus_audit::{AuditAnswer, put_answer};
 use bus_dump::Lane;
 use bus_outer::{Sink, TextBuffer};
 use bus_shapes::{Area, Class, Scale, begin_words, end_words, put_box};
-use bus_strings::transmission::Transmission;
 use bus_table::mode::Mode;
 use bus_table::sender::Sender;
 use bus_table::table::Table;
@@ -71,7 +67,7 @@ fn put_band<K: Sink>(text: &mut TextBuffer, sink: &mut K, k: usize, top: u64)
         let area = Area {
             left: 1500,
             top,
-            width: 14000,
+            width: 13800,
             height: 320,
         };
         put_box(text, sink, Class::Band, area);
@@ -141,52 +137,6 @@ pub(crate) fn put_fronts<K: Sink>(
 {
     for k in 0..lanes.len() {
         put_front(text, sink, table, k, lanes[k]);
-    }
-}
-
-// The boxes of lane `k`.
-fn put_lane_row<K: Sink>(
-    text: &mut TextBuffer,
-    sink: &mut K,
-    scale: &Scale,
-    list: &[Transmission],
-    bottom: u64,
-    k: usize,
-    lane: Lane,
-)
-    requires scale { IsScale scale.now }
-    requires by_moment { IsByMoment list.now }
-    requires few { k ≤ 256 }
-    requires below { definition.lane_top k ≤ bottom }
-    ensures { Adds K.held K.faults sink.old sink.new text.old text.new
-        (definition.lane_row scale.now list.now bottom k lane) }
-{
-    let row = Row {
-        terminal: Some(lane.terminal),
-        top: lane_top(k),
-        bottom,
-    };
-    put_row(text, sink, scale, &row, list);
-}
-
-/// The boxes of each lane. It goes over the list once for each.
-pub(crate) fn put_rows<K: Sink>(
-    text: &mut TextBuffer,
-    sink: &mut K,
-    scale: &Scale,
-    list: &[Transmission],
-    bottom: u64,
-    lanes: &[Lane],
-)
-    requires scale { IsScale scale.now }
-    requires by_moment { IsByMoment list.now }
-    requires few { length lanes.now ≤ 256 }
-    requires bottom { definition.lane_top (length lanes.now) ≤ bottom }
-    ensures { Adds K.held K.faults sink.old sink.new text.old text.new
-        (definition.each_lane (definition.lane_row scale.now list.now bottom) 0 lanes.now) }
-{
-    for k in 0..lanes.len() {
-        put_lane_row(text, sink, scale, list, bottom, k, lanes[k]);
     }
 }
 

@@ -1,17 +1,46 @@
 //! Laws of the definitions, each the contract of a function that does nothing.
-ghost use Rattle.bus_picture.specs.Laws.{BoxesHoldRows, CountsAreShown, HatchedAreGarbled};
+ghost use Rattle.bus_picture.specs.Laws.{BoxesHoldRows, BoxesHoldTheirs, BusIsCounted, EachIsOnTheBus, GarbledAreUncovered};
+ghost use Rattle.bus_picture.specs.Laws.{EachIsInOneLane, HatchedAreGarbled, LanesAreCounted};
 
-/// Each transmission of a row that meets the moments of the scale is in exactly one box of it.
+use bus_dump::laws::lanes_are_terminals;
+use bus_shapes::laws::sents_are_told;
+
+/// Each transmission that a row shows is in exactly one box of it.
 pub fn boxes_hold_rows()
     ensures { BoxesHoldRows }
 {}
 
-/// A box is hatched exactly where its transmissions are garbled: another transmission of the list overlaps them.
+/// A box is hatched exactly where its transmissions, all of them entries of the list, are garbled: another one of the list overlaps them.
 pub fn hatched_are_garbled()
     ensures { HatchedAreGarbled }
+{
+    sents_are_told();
+}
+
+/// A box goes from the begin of its first transmission to the end of one of them, and all lie between.
+pub fn boxes_hold_theirs()
+    ensures { BoxesHoldTheirs }
 {}
 
-/// The counts above the plot are those of the boxes of the bus.
-pub fn counts_are_shown()
-    ensures { CountsAreShown }
+/// What is drawn behind a garbled row lies below it: so no other box covers a garbled one.
+pub fn garbled_are_uncovered()
+    ensures { GarbledAreUncovered }
 {}
+
+/// Each transmission that meets the window is shown by exactly one row of the bus, and by exactly one of all lanes: so it is in exactly one box
+/// of the bus, and in exactly one of its lane.
+pub fn each_is_in_one_row()
+    ensures bus { EachIsOnTheBus }
+    ensures lanes { EachIsInOneLane }
+{
+    lanes_are_terminals();
+    sents_are_told();
+}
+
+/// The counts above the plot are those of the boxes of the bus, and those of the boxes of all lanes.
+pub fn counts_are_shown()
+    ensures bus { BusIsCounted }
+    ensures lanes { LanesAreCounted }
+{
+    each_is_in_one_row();
+}

@@ -1,4 +1,4 @@
-//! The time line of a trace as an SVG picture: a row of the bus, and a lane for each terminal that sends.
+//! The time line of a trace as an SVG picture: what is on the bus, and a lane for each terminal that sends.
 //!
 //! [`write_time_line`] writes it, and [`laws`] has what follows of its definitions. These are in `specs/`: `Boxes` (which transmissions
 //! share a box), `Strings` (the wordstrings of a message, and their words where these have room), `Rows` (what is drawn of the
@@ -15,6 +15,7 @@ mod names;
 mod pile;
 mod places;
 mod row;
+mod rows;
 mod strings;
 mod timers;
 mod words;

@@ -42,10 +42,7 @@ pub(crate) fn joins(scale: &Scale, first: &Sent, next: &Sent) -> bool
     requires next { next.now.moment ≤ next.now.end }
     ensures { result ≡ definition.joins scale.now first.now next.now }
 {
-    is_narrow(scale, first)
-        && is_narrow(scale, next)
-        && bucket(scale, first) == bucket(scale, next)
-        && first.garbled == next.garbled
+    is_narrow(scale, first) && is_narrow(scale, next) && bucket(scale, first) == bucket(scale, next)
 }
 
 impl Pile {

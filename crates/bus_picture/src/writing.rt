@@ -6,11 +6,10 @@ ghost use Rattle.bus_regime.specs.Lines.{verdict_words};
 ghost use Rattle.bus_shapes.specs.Scales.{IsScale};
 ghost use Rattle.bus_picture.specs.TimeLines as definition;
 
-use crate::boxes::put_row;
 use crate::counting::counts;
-use crate::lanes::{lane_top, put_breaches, put_fronts, put_rows};
+use crate::lanes::{lane_top, put_breaches, put_fronts};
 use crate::legend::put_legend;
-use crate::row::Row;
+use crate::rows::put_rows;
 use crate::timers::put_timers;
 use bus_audit::AuditAnswer;
 use bus_dump::{Lane, lanes_of};
@@ -20,7 +19,6 @@ use bus_shapes::{
     Area, Axis, Class, Scale, Unit, Window, begin_titled, end_titled, put_axis, put_frame,
     put_tail, put_words,
 };
-use bus_strings::laws::neighbours_tell;
 use bus_table::table::Table;
 use bus_trace::Trace;
 
@@ -33,7 +31,7 @@ fn scale_of(window: &Window) -> Scale
         from: window.from(),
         to: window.to(),
         left: 1500,
-        width: 14000,
+        width: 13800,
     }
 }
 
@@ -89,32 +87,6 @@ fn put_axes<K: Sink>(text: &mut TextBuffer, sink: &mut K, scale: &Scale, bottom:
     put_axis(text, sink, scale, &lower);
 }
 
-// The rows of the bus and of the lanes.
-fn put_all_rows<K: Sink>(
-    text: &mut TextBuffer,
-    sink: &mut K,
-    scale: &Scale,
-    bottom: u64,
-    lanes: &[Lane],
-    trace: &Trace,
-)
-    requires scale { IsScale scale.now }
-    requires few { length lanes.now ≤ 256 }
-    requires bottom { bottom ≡ definition.lane_top (length lanes.now) }
-    ensures { Adds K.held K.faults sink.old sink.new text.old text.new
-        (definition.rows_text scale.now bottom lanes.now trace.now) }
-{
-    neighbours_tell();
-    let list = trace.list();
-    let bus = Row {
-        terminal: None,
-        top: 960,
-        bottom,
-    };
-    put_row(text, sink, scale, &bus, list);
-    put_rows(text, sink, scale, list, bottom, lanes);
-}
-
 // The plot, above a lower edge.
 fn put_plot<K: Sink>(
     text: &mut TextBuffer,
@@ -137,7 +109,7 @@ fn put_plot<K: Sink>(
     put_axes(text, sink, scale, bottom);
     let horizon = trace.horizon();
     put_unobserved(text, sink, scale, bottom, horizon);
-    put_all_rows(text, sink, scale, bottom, lanes, trace);
+    put_rows(text, sink, scale, bottom, lanes, trace);
     put_timers(text, sink, scale, lanes, table, trace);
     put_breaches(text, sink, scale, answer, lanes);
 }
@@ -167,7 +139,7 @@ fn put_picture<K: Sink>(
 }
 
 /// Writes the time line of a trace in a window, with the words of the verdict on the table and of the answer of the audit. It goes over the
-/// trace once or twice for each lane, and takes no memory.
+/// trace two or three times for each lane, and takes no memory.
 ///
 /// At `WriteFault` the sink has taken a front of the text, and its count of faults rose.
 pub fn write_time_line<K: Sink>(

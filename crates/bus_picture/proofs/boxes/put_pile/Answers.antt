@@ -11,7 +11,7 @@ use Rattle.bus_picture.proofs.boxes.put_pile.Goals as goal
 pub returns : goal.returns
 returns g c =
     subst (λ (area : Area). Adds g.K.Sink.held g.K.Sink.faults c.args.sink.now c.put_more.new.sink c.args.text.now c.put_more.new.text
-    (titled_text (box_class c.args.row.now c.args.pile.now) area (pile_words c.args.pile.now)
+    (titled_text (box_class c.args.row.now) area (pile_words c.args.pile.now)
     ++ more_text c.args.row.now.terminal c.args.scale.now c.args.row.now c.args.list.now c.args.pile.now)) c.stretch-area.ensures
     (subst (λ (class : Class). Adds g.K.Sink.held g.K.Sink.faults c.args.sink.now c.put_more.new.sink c.args.text.now c.put_more.new.text
     (titled_text class c.stretch-area.result (pile_words c.args.pile.now)

@@ -3,7 +3,8 @@ use Rattle.bus_outer.specs.Texts.{Adds}
 use Rattle.bus_outer.specs.TextLaws.{◌▸◌}
 use Rattle.bus_shapes.specs.declared.class.Class.TheVariants.{Counts}
 use Rattle.bus_shapes.specs.Shapes.{words_text}
-use Rattle.bus_picture.specs.TimeLines.{axes_text, breach_text, each_lane, lane_front, plot_top, rows_text, timers_text, unobserved_text}
+use Rattle.bus_picture.specs.Rows.{rows_text}
+use Rattle.bus_picture.specs.TimeLines.{axes_text, breach_text, each_lane, lane_front, plot_top, rows_of, timers_text, unobserved_text}
 use Rattle.bus_picture.proofs.writing.put_plot.Goals as goal
 
 pub returns : goal.returns
@@ -11,8 +12,8 @@ returns g c =
     subst (λ (horizon : ℕ). Adds g.K.Sink.held g.K.Sink.faults c.args.sink.now c.put_breaches.new.sink c.args.text.now c.put_breaches.new.text
     (words_text Counts 1380 (plot_top + 200) (codes "bus") ++ each_lane (lane_front c.args.table.now) 0 c.args.lanes.now
     ++ axes_text c.args.scale.now c.args.bottom ++ unobserved_text c.args.scale.now c.args.bottom horizon
-    ++ rows_text c.args.scale.now c.args.bottom c.args.lanes.now c.args.trace.now
+    ++ rows_text c.args.scale.now c.args.trace.now.list (rows_of c.args.bottom c.args.lanes.now)
     ++ timers_text c.args.scale.now c.args.lanes.now c.args.table.now c.args.trace.now.list
     ++ each_lane (breach_text c.args.scale.now c.args.answer.now) 0 c.args.lanes.now)) c.horizon-horizon.ensures.value
-    (c.put_words.ensures ▸ c.put_fronts.ensures ▸ c.put_axes.ensures ▸ c.put_unobserved.ensures ▸ c.put_all_rows.ensures
+    (c.put_words.ensures ▸ c.put_fronts.ensures ▸ c.put_axes.ensures ▸ c.put_unobserved.ensures ▸ c.put_rows.ensures
     ▸ c.put_timers.ensures ▸ c.put_breaches.ensures)

@@ -1,0 +1,195 @@
+-- Which rows show a transmission, and how many they show.
+use Rattle.std.proofs.Common.{◌≡◌, ℕ, ◌+◌, ◌≤◌, Bool, true, false, cond, List, [], ◌∷◌, length, filter, Option, Some, None, inl, inr, arith, refl, sym, ap, ◌∙◌}
+use Rattle.std.specs.Prelude.{◌&&◌, ◌==◌}
+use Rattle.std.specs.Bool.{beq}
+use Rattle.std.specs.List.{AllByRecursion, count_by, flat_map, sum_by}
+use Rattle.std.specs.Option.{option_map_or}
+use Rattle.std.proofs.lemmas.Bool.{cases_eq, eq-eqb, ne_eqb, true≢false}
+use Rattle.std.proofs.lemmas.List.Sums.{length-filter, sum_by-append, sum_by-cons}
+use Rattle.bus_strings.specs.MemberLaws.{at_in}
+use Rattle.bus_strings.specs.Members.{In}
+use Rattle.bus_strings.specs.Messages.{Entry}
+use Rattle.bus_trace.specs.Traces.{Recording}
+use Rattle.bus_dump.specs.declared.lane.Lane.{Lane}
+use Rattle.bus_dump.specs.Lanes.{lanes}
+use Rattle.bus_dump.specs.Laws.{LanesAreTerminals, lane_count}
+use Rattle.bus_shapes.specs.declared.scale.Scale.{Scale}
+use Rattle.bus_shapes.specs.declared.sent.Sent.{Sent}
+use Rattle.bus_shapes.specs.Laws.{SentsAreTold}
+use Rattle.bus_shapes.specs.Sending.{sents}
+use Rattle.bus_shapes.specs.SendingLaws.{IsToldOf}
+use Rattle.bus_picture.specs.Boxes.{boxes, members}
+use Rattle.bus_picture.specs.Rows.{Row, is_of, shown, shows}
+use Rattle.bus_picture.specs.TimeLines.{bus_rows, each_lane, is_shown, lane_rows, lane_top, plot_top, row_height, rows_at, rows_of_lanes}
+use Rattle.bus_picture.specs.Laws.{AreCounted, AreUncovered, BusIsCounted, EachIsInOneLane, EachIsOnTheBus, GarbledAreUncovered, LanesAreCounted, in_boxes, rows_with}
+use Rattle.bus_picture.proofs.LawLemmas.{as_row, boxes_hold_rows}
+
+-- ---- what is drawn behind a garbled row
+lower : (bottom k t : ℕ) (lanes : List Lane) → t ≤ lane_top k → AllByRecursion (λ (next : Row). t ≤ next.top) (each_lane (lane_rows bottom) k lanes)
+lower bottom k t [] h = tt
+lower bottom k t (lane ∷ lanes) h = (h, (h, lower bottom (k + 1) t lanes (omega arith)))
+
+uncovered : (bottom k : ℕ) (lanes : List Lane) → AreUncovered (each_lane (lane_rows bottom) k lanes)
+uncovered bottom k [] = tt
+uncovered bottom k (lane ∷ lanes) =
+    (λ h. absurd (true≢false (sym h)), (λ h. lower bottom (k + 1) (lane_top k + row_height) lanes (omega arith), uncovered bottom (k + 1) lanes))
+
+pub garbled_are_uncovered : GarbledAreUncovered
+garbled_are_uncovered bottom lanes =
+    (λ h. absurd (true≢false (sym h)), (λ h. lower bottom 0 (plot_top + row_height) lanes (omega arith), uncovered bottom 0 lanes))
+
+-- ---- the rows that show a transmission
+abbrev one_if : Bool → ℕ
+one_if b = cond b 1 0
+
+-- One of the two rows of a place shows what is of its terminal.
+two : (own mark meets : Bool) → 0 + cond (own && beq mark false && meets) 1 0 + cond (own && beq mark true && meets) 1 0 ≡ cond (own && meets) 1 0
+two true true true = refl
+two true true false = refl
+two true false true = refl
+two true false false = refl
+two false true true = refl
+two false true false = refl
+two false false true = refl
+two false false false = refl
+
+at_place : (scale : Scale) (x : Sent) (terminal : Option ℕ) (top bottom : ℕ)
+    → rows_with scale (rows_at terminal top bottom) x ≡ cond (option_map_or (λ n. x.terminal == n) terminal true && is_shown scale x) 1 0
+at_place scale x terminal top bottom = two (option_map_or (λ n. x.terminal == n) terminal true) x.garbled (is_shown scale x)
+
+both_true : (own : Bool) → one_if (own && true) ≡ one_if own
+both_true true = refl
+both_true false = refl
+
+both_false : (own : Bool) → one_if (own && false) ≡ 0
+both_false true = refl
+both_false false = refl
+
+pub each_is_on_the_bus : EachIsOnTheBus
+each_is_on_the_bus scale bottom x h = at_place scale x None plot_top bottom ∙ ap (λ b. one_if (true && b)) h
+
+-- As many rows of lanes as lanes of its terminal.
+abbrev is_lane : Sent → Lane → Bool
+is_lane x lane = lane.terminal == x.terminal
+
+turned : (a b : ℕ) → (a == b) ≡ (b == a)
+turned a b = elim (cases_eq a b) [ inl same ↦ eq-eqb a b same ∙ sym (eq-eqb b a (sym same)) | inr other ↦ ne_eqb a b other ∙ sym (ne_eqb b a (λ same. other (sym same))) ]
+
+by_lanes : (scale : Scale) (bottom k : ℕ) (x : Sent) (lanes : List Lane) → is_shown scale x ≡ true
+    → rows_with scale (each_lane (lane_rows bottom) k lanes) x ≡ count_by (is_lane x) lanes
+by_lanes scale bottom k x [] h = refl
+by_lanes scale bottom k x (lane ∷ lanes) h =
+    let here : rows_with scale (lane_rows bottom k lane) x ≡ cond (is_lane x lane) 1 0 =
+    at_place scale x (Some lane.terminal) (lane_top k) bottom ∙ ap (λ b. one_if ((x.terminal == lane.terminal) && b)) h
+    ∙ both_true (x.terminal == lane.terminal) ∙ ap one_if (turned x.terminal lane.terminal) in
+    sum_by-append (λ (row : Row). cond (shows scale row x) 1 0) (lane_rows bottom k lane) (each_lane (lane_rows bottom) (k + 1) lanes)
+    ∙ ap (λ n. n + rows_with scale (each_lane (lane_rows bottom) (k + 1) lanes) x) here
+    ∙ ap (λ n. cond (is_lane x lane) 1 0 + n) (by_lanes scale bottom (k + 1) x lanes h)
+    ∙ sym (sum_by-cons (λ (l : Lane). cond (is_lane x l) 1 0) lane lanes)
+
+pub in_lanes : (scale : Scale) (bottom : ℕ) (x : Sent) (lanes : List Lane) → is_shown scale x ≡ true
+    → rows_with scale (rows_of_lanes bottom lanes) x ≡ count_by (is_lane x) lanes
+in_lanes scale bottom x lanes h = by_lanes scale bottom 0 x lanes h
+
+-- No row shows what doesn't meet the window.
+none_with : (scale : Scale) (x : Sent) (rows : List Row) → is_shown scale x ≡ false → rows_with scale rows x ≡ 0
+none_with scale x [] h = refl
+none_with scale x (row ∷ rows) h =
+    let here : cond (shows scale row x) 1 0 ≡ 0 =
+    ap (λ b. one_if (is_of row x && beq x.garbled row.garbled && b)) h ∙ both_false (is_of row x && beq x.garbled row.garbled) in
+    omega (arith, sum_by-cons (λ (r : Row). cond (shows scale r x) 1 0) row rows, here, none_with scale x rows h)
+
+-- ---- how many they show
+abbrev of_row : Scale → List Sent → Row → ℕ
+of_row scale xs row = count_by (shows scale row) xs
+
+same_sums : (f g : Row → ℕ) (rows : List Row) → ((row : Row) → f row ≡ g row) → sum_by f rows ≡ sum_by g rows
+same_sums f g [] h = refl
+same_sums f g (row ∷ rows) h = omega (arith, sum_by-cons f row rows, sum_by-cons g row rows, h row, same_sums f g rows h)
+
+in_sums : (scale : Scale) (list : List Entry) (rows : List Row) → in_boxes scale list rows ≡ sum_by (of_row scale (sents list)) rows
+in_sums scale list rows =
+    same_sums (λ (row : Row). length (flat_map members (boxes scale (shown scale row list)))) (of_row scale (sents list)) rows
+    (λ row. ap length (boxes_hold_rows scale row list) ∙ length-filter (shows scale row) (sents list))
+
+no_more : (scale : Scale) (rows : List Row) → sum_by (of_row scale []) rows ≡ 0
+no_more scale [] = refl
+no_more scale (row ∷ rows) = omega (arith, sum_by-cons (of_row scale []) row rows, no_more scale rows)
+
+one_more : (scale : Scale) (x : Sent) (xs : List Sent) (rows : List Row) → sum_by (of_row scale (x ∷ xs)) rows ≡ rows_with scale rows x + sum_by (of_row scale xs) rows
+one_more scale x xs [] = refl
+one_more scale x xs (row ∷ rows) =
+    omega (
+      arith,
+      sum_by-cons (of_row scale (x ∷ xs)) row rows,
+      sum_by-cons (of_row scale xs) row rows,
+      sum_by-cons (λ (r : Row). cond (shows scale r x) 1 0) row rows,
+      sum_by-cons (λ (y : Sent). cond (shows scale row y) 1 0) x xs,
+      one_more scale x xs rows,
+    )
+
+summed : (scale : Scale) (rows : List Row) (q : Sent → Bool) (xs : List Sent) → ((x : Sent) → In x xs → rows_with scale rows x ≡ cond (q x) 1 0)
+    → sum_by (of_row scale xs) rows ≡ count_by q xs
+summed scale rows q [] h = no_more scale rows
+summed scale rows q (x ∷ xs) h =
+    omega (arith, one_more scale x xs rows, h x (inl refl), summed scale rows q xs (λ y i. h y (inr i)), sum_by-cons (λ (y : Sent). cond (q y) 1 0) x xs)
+
+-- Of what is garbled the garbled rows show all, and of what isn't they show nothing.
+hurt_by : (p : Row → Bool) (row : Row) (some rows : List Row) (of mark takes : Bool) → p row ≡ takes → (takes ≡ true → of ≡ mark)
+    → count_by p some ≡ cond mark (count_by p rows) 0 → count_by p (cond of (row ∷ some) some) ≡ cond mark (count_by p (row ∷ rows)) 0
+hurt_by p row some rows true true takes is alike h =
+    omega (arith, sum_by-cons (λ (r : Row). cond (p r) 1 0) row some, sum_by-cons (λ (r : Row). cond (p r) 1 0) row rows, h)
+hurt_by p row some rows false false takes is alike h = h
+hurt_by p row some rows true false true is alike h = absurd (true≢false (alike refl))
+hurt_by p row some rows true false false is alike h =
+    omega (arith, sum_by-cons (λ (r : Row). cond (p r) 1 0) row some, ap one_if is, h)
+hurt_by p row some rows false true true is alike h = absurd (true≢false (sym (alike refl)))
+hurt_by p row some rows false true false is alike h =
+    omega (arith, sum_by-cons (λ (r : Row). cond (p r) 1 0) row rows, ap one_if is, h)
+
+none_hurt : (mark : Bool) (n : ℕ) → n ≡ 0 → n ≡ cond mark n 0
+none_hurt true n none = refl
+none_hurt false n none = none
+
+hurt_with : (scale : Scale) (x : Sent) (rows : List Row)
+    → rows_with scale (filter (λ (row : Row). row.garbled) rows) x ≡ cond x.garbled (rows_with scale rows x) 0
+hurt_with scale x [] = none_hurt x.garbled 0 refl
+hurt_with scale x (row ∷ rows) =
+    hurt_by (λ (r : Row). shows scale r x) row (filter (λ (r : Row). r.garbled) rows) rows row.garbled x.garbled (shows scale row x) refl (as_row scale row x)
+    (hurt_with scale x rows)
+
+hurt_one : (mark meets : Bool) → cond mark (one_if meets) 0 ≡ one_if (meets && mark)
+hurt_one true true = refl
+hurt_one true false = refl
+hurt_one false true = refl
+hurt_one false false = refl
+
+pub counted : (scale : Scale) (trace : Recording) (rows : List Row)
+    → ((x : Sent) → In x (sents trace.list) → is_shown scale x ≡ true → rows_with scale rows x ≡ 1) → AreCounted scale trace rows
+counted scale trace rows h =
+    let one : (x : Sent) → In x (sents trace.list) → rows_with scale rows x ≡ cond (is_shown scale x) 1 0 =
+    λ x i. elim (is_shown scale x) as (λ b. is_shown scale x ≡ b → rows_with scale rows x ≡ cond b 1 0) [
+      | true ↦ λ e. h x i e
+      | false ↦ λ e. none_with scale x rows e
+    ] refl in
+    record {
+      all = sym (in_sums scale trace.list rows ∙ summed scale rows (is_shown scale) (sents trace.list) one);
+      hurt = sym (in_sums scale trace.list (filter (λ (row : Row). row.garbled) rows)
+          ∙ summed scale (filter (λ (row : Row). row.garbled) rows) (λ (x : Sent). is_shown scale x && x.garbled) (sents trace.list)
+          (λ x i. hurt_with scale x rows ∙ ap (λ n. cond x.garbled n 0) (one x i) ∙ hurt_one x.garbled (is_shown scale x)));
+    }
+
+pub bus_is_counted : BusIsCounted
+bus_is_counted scale trace bottom = counted scale trace (bus_rows bottom) (λ x i h. each_is_on_the_bus scale bottom x h)
+
+-- ---- lanes
+pub each_is_in_one_lane : LanesAreTerminals → SentsAreTold → EachIsInOneLane
+each_is_in_one_lane agree told scale bottom table trace x valid is i h =
+    let t : IsToldOf trace.list x = told trace.list x i in
+    let terminal : x.terminal ≡ t.entry.terminal = ap (λ (s : Sent). s.terminal) t.told in
+    let one : lane_count table trace.list t.entry.terminal ≡ 1 = (agree table trace valid is).sending t.entry (at_in trace.list x.at t.entry t.at) in
+    in_lanes scale bottom x (lanes table trace.list) h ∙ ap (λ n. lane_count table trace.list n) terminal ∙ one
+
+pub lanes_are_counted : EachIsInOneLane → LanesAreCounted
+lanes_are_counted each scale table trace bottom valid is =
+    counted scale trace (rows_of_lanes bottom (lanes table trace.list)) (λ x i h. each scale bottom table trace x valid is i h)
