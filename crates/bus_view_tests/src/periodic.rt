@@ -26,7 +26,7 @@ fn a_time_line_has_offsets_and_the_transmit_interval(rt: HostRuntime) -> Result<
         "; LAWFUL 0</title>\n",
         "<text class=\"detail\" x=\"1380\" y=\"1550\">TG 30 AT 0</text>\n",
         "<text class=\"detail\" x=\"1380\" y=\"1870\">TG 20 AT 90</text>\n",
-        " y=\"1546\">TI 2000</text>\n",
+        "<text class=\"interval-words\" x=\"14045\" y=\"1546\">TI 2000</text>\n",
     ];
     assert!(rt; shows(&ran, &parts));
     Ok(())

@@ -1,4 +1,4 @@
-//! Many narrow transmissions of which one is garbled by another: it is drawn behind the others, so that none of them hides it.
+//! Many narrow transmissions of which one is garbled by another: its box is drawn after all others, so that none of them hides it.
 use crate::calls::{TABLE, position, run_on};
 use bus_tool::Status;
 use std::test::Fail;
@@ -29,6 +29,17 @@ fn is_behind(rt: &HostRuntime, words: &[&str], first: &str, second: &str) -> Res
                 _ => false,
             },
     )
+}
+
+#[test]
+fn a_garbled_box_of_a_time_line(rt: HostRuntime) -> Result<(), Fail> {
+    let words = ["svg", "T", "R", "0", "1000000"];
+    let plain =
+        "<rect class=\"carrier\" x=\"1500\" y=\"1020\" width=\"54\" height=\"180\"><title>39 transmissions, moments 0 to 3920</title></rect>\n";
+    let garbled =
+        "<rect class=\"garbled\" x=\"1513\" y=\"1020\" width=\"10\" height=\"180\"><title>2 transmissions, moments 1000 to 1030, garbled</title></rect>\n";
+    assert!(rt; is_behind(&rt, &words, plain, garbled)?);
+    Ok(())
 }
 
 #[test]
