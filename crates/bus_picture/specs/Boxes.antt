@@ -1,5 +1,5 @@
--- The boxes of a row of transmissions. Narrow neighbours share a box: of two neighbouring boxes that begin in the same six pixels, one takes
--- at least six, so that a row has no more boxes than it has room for.
+-- The boxes of a row of transmissions. Narrow neighbours share a box: of two neighbouring boxes that begin in the same six pixels, one
+-- takes at least six, so that a row has no more boxes than it has room for.
 use Rattle.std.specs.Prelude.{ℕ, ◌+◌, ◌/◌, max, Bool, ◌&&◌, nat_lt, nat_eq, List, [], ◌∷◌, ◌++◌, length, codes, decimal, fold}
 use Rattle.std.specs.Prelude.{if◌then◌else◌}
 use Rattle.bus_shapes.specs.declared.sent.Sent.{Sent}

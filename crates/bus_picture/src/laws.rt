@@ -22,13 +22,13 @@ pub fn boxes_hold_theirs()
     ensures { BoxesHoldTheirs }
 {}
 
-/// What is drawn behind a garbled row lies below it: so no other box covers a garbled one.
+/// What is drawn behind a garbled row lies below it: so no box of another row covers a garbled one.
 pub fn garbled_are_uncovered()
     ensures { GarbledAreUncovered }
 {}
 
-/// Each transmission that meets the window is shown by exactly one row of the bus, and by exactly one of all lanes: so it is in exactly one box
-/// of the bus, and in exactly one of its lane.
+/// Each transmission that meets the window is shown by exactly one row of the bus, and by exactly one of all lanes: so it is in exactly one
+/// box of the bus, and in exactly one of its lane.
 pub fn each_is_in_one_row()
     ensures bus { EachIsOnTheBus }
     ensures lanes { EachIsInOneLane }
