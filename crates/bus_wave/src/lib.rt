@@ -22,8 +22,6 @@ mod quick;
 pub mod reading;
 pub mod spacing;
 mod symbol;
-#[cfg(test)]
-mod tests;
 pub mod writing;
 
 pub use fault::{WaveError, WaveFault, WaveReason};
