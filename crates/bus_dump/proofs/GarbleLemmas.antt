@@ -125,6 +125,13 @@ overlap_is_garbled list t some =
           (garbled_at list t two.place two.entry two.at two.held bad),
     )
 
+-- two that are held overlap, so that one is garbled
+overlap_place : (list : List Entry) (t : ℕ) → 1 < count_by (holds t) list → (k : ℕ) × (garbled list k ≡ true)
+overlap_place list t some =
+    let two = two_held t list (omega (arith, some, length-filter (holds t) list)) in
+    let i : In two.other (remove list two.place) = in_append_right (take two.place list) (drop (suc two.place) list) two.other two.behind in
+    (two.place, overlap_garbles list two.place two.entry two.other two.at i (both_overlap two.entry two.other t two.held two.other_held))
+
 -- ---- from a garbled terminal to an overlap
 pub any_of : {X : Type 0} (p : X → Bool) (xs : List X) → list_any p xs ≡ true → (x : X) × In x xs × (p x ≡ true)
 any_of p [] h = absurd (true≢false (sym h))
@@ -245,6 +252,13 @@ shown_garbled dump table trace valid is h =
       garbled = ap (λ n. value (Garbled n) (scene_at dump table list t)) own.2 ∙ ap Bit (garbled_seen list t x.terminal ∙ bad.2);
     }
 
+overlap_shown : (dump : Dump) (table : Table) (trace : Recording) → OverlapsThere trace.horizon trace.list → OverlapIsShown dump table trace
+overlap_shown dump table trace over = record {
+  time = over.time;
+  below = over.below;
+  overlap = ap Bit (lt-ltb 1 (length (seen_at trace.list over.time)) (omega (arith, over.two, held_seen trace.list over.time)));
+}
+
 shown_overlap : OverlapsMeet → (dump : Dump) (table : Table) (trace : Recording) → IsTrace trace
     → GarbledIsShown dump table trace → OverlapIsShown dump table trace
 shown_overlap meet dump table trace is h =
@@ -252,12 +266,26 @@ shown_overlap meet dump table trace is h =
     let n : ℕ = h.lane.terminal in
     let bad = any_of (is_garbled list h.time n) (range_with_len 0 (length list))
     (sym (garbled_seen list h.time n) ∙ same_bit (list_any (λ (s : Seen). is_of n s && s.garbled) (seen_at list h.time)) true h.garbled) in
-    let over = garbled_there meet trace.horizon list h.time n bad.0 is.list bad.2 in
-    record {
-      time = over.time;
-      below = over.below;
-      overlap = ap Bit (lt-ltb 1 (length (seen_at list over.time)) (omega (arith, over.two, held_seen list over.time)));
-    }
+    overlap_shown dump table trace (garbled_there meet trace.horizon list h.time n bad.0 is.list bad.2)
+
+-- ---- the list
+shown_place : (dump : Dump) (table : Table) (trace : Recording) → OverlapIsShown dump table trace → (k : ℕ) × (garbled trace.list k ≡ true)
+shown_place dump table trace h =
+    let list : List Entry = trace.list in
+    let many : ltb 1 (length (seen_at list h.time)) ≡ true = same_bit (ltb 1 (length (seen_at list h.time))) true h.overlap in
+    let two : 1 < length (seen_at list h.time) = ltb-true 1 (length (seen_at list h.time)) many in
+    overlap_place list h.time (omega (arith, two, held_seen list h.time))
+
+place_shown : OverlapsMeet → (dump : Dump) (table : Table) (trace : Recording) → IsTrace trace → (k : ℕ) → garbled trace.list k ≡ true
+    → OverlapIsShown dump table trace
+place_shown meet dump table trace is k bad = elim (at_place trace.list k) [
+  | absent e ↦
+      absurd (true≢false (sym bad ∙ ap (λ o. option_map_or (λ (z : Entry). list_any (overlaps z) (remove trace.list k)) o false) e))
+  | present x e ↦ overlap_shown dump table trace (garbled_overlaps meet trace.horizon trace.list k x is.list e bad)
+]
 
 pub overlaps_garble : OverlapsMeet → OverlapsGarble
-overlaps_garble meet dump table trace valid is = (shown_garbled dump table trace valid is, shown_overlap meet dump table trace is)
+overlaps_garble meet dump table trace valid is = record {
+  shown = (shown_garbled dump table trace valid is, shown_overlap meet dump table trace is);
+  there = (shown_place dump table trace, λ some. place_shown meet dump table trace is some.0 some.1);
+}

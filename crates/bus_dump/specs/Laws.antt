@@ -31,8 +31,8 @@ use Rattle.bus_dump.specs.Reading.{identifier, read_named}
 use Rattle.bus_dump.specs.SaveFiles.{save_text, shown}
 use Rattle.bus_dump.specs.Scenes.{Scene, scene_at}
 use Rattle.bus_dump.specs.Seen.{holds, number_of}
-use Rattle.bus_dump.specs.Signals.{Signal, Carrier, Overlap, Sync, Word, Pulse, Garbled, Label, Message, Interval, Synchronization, Gap, May}
-use Rattle.bus_dump.specs.Signals.{Bit, Floating, Number, Unknown, has, signals, value}
+use Rattle.bus_dump.specs.Signals.{Signal, Carrier, Overlap, Sync, Word, Pulse, Garbled, Label, Message, Interval, Synchronization, Gap}
+use Rattle.bus_dump.specs.Signals.{May, Bit, Floating, Number, Unknown, has, signals, value}
 use Rattle.bus_dump.specs.Stamps.{StampsAre, stamped}
 
 -- ---- texts
@@ -45,7 +45,8 @@ abbrev pub DumpsAreRead : Type 0
 DumpsAreRead =
     (dump : Dump) (comment : List ℕ) (table : Table) (trace : Recording) (t : ℕ) (signal : Signal) → IsTrue (is_valid table) → IsTrace trace
     → HoldsNoFeed comment → t < trace.horizon → In signal (signals dump (lanes table trace.list))
-    → read_named (name_text signal) (units * t) (dump_text dump comment table trace) ≡ Some (value signal (scene_at dump table trace.list t))
+    → read_named (name_text signal) (units * t) (dump_text dump comment table trace)
+    ≡ Some (value signal (scene_at dump table trace.list t))
 
 -- So it is of the dumps that are written of traces on a table, whose comment is the words of its verdict.
 abbrev pub WrittenDumpsAreRead : Table → Type 0
@@ -226,11 +227,15 @@ pub record GarbledIsShown (dump : Dump) (table : Table) (trace : Recording) : Ty
   pub there : In lane (lanes table trace.list)
   pub garbled : value (Garbled lane.terminal) (scene_at dump table trace.list time) ≡ Bit true
 
--- A dump shows an overlap exactly where it shows a garbled terminal.
+-- A dump shows an overlap at some bit time exactly if it shows a terminal garbled at some bit time, and exactly if a transmission of the
+-- list is garbled: another overlaps it.
+pub record OverlapsAgree (dump : Dump) (table : Table) (trace : Recording) : Type 0 where
+  pub shown : OverlapIsShown dump table trace ↔ GarbledIsShown dump table trace
+  pub there : OverlapIsShown dump table trace ↔ ((k : ℕ) × (garbled trace.list k ≡ true))
+
 abbrev pub OverlapsGarble : Type 0
 OverlapsGarble =
-    (dump : Dump) (table : Table) (trace : Recording) → IsTrue (is_valid table) → IsTrace trace
-    → OverlapIsShown dump table trace ↔ GarbledIsShown dump table trace
+    (dump : Dump) (table : Table) (trace : Recording) → IsTrue (is_valid table) → IsTrace trace → OverlapsAgree dump table trace
 
 -- A dump shows no overlap at a bit time: there is none, no terminal is garbled, and what is on the bus can be told.
 pub record ShowsNoOverlap (dump : Dump) (table : Table) (list : List Entry) (t : ℕ) : Type 0 where
@@ -304,13 +309,15 @@ pub record IsShownWhole (trace : Recording) : Type 0 where
 -- the same list.
 abbrev pub NothingIsLost : Type 0
 NothingIsLost =
-    (dump : Dump) (comment : List ℕ) (table : Table) (a b : Recording) → has dump false Word ≡ true → IsTrue (is_valid table) → IsTrace a → IsTrace b → HoldsNoFeed comment
-    → IsShownWhole a → IsShownWhole b → dump_text dump comment table a ≡ dump_text dump comment table b
+    (dump : Dump) (comment : List ℕ) (table : Table) (a b : Recording) → has dump false Word ≡ true → IsTrue (is_valid table)
+    → IsTrace a → IsTrace b → HoldsNoFeed comment → IsShownWhole a → IsShownWhole b
+    → dump_text dump comment table a ≡ dump_text dump comment table b
     → (a.horizon ≡ b.horizon) × (a.list ≡ b.list)
 
 -- So it is of the dumps that are written of traces on a table.
 abbrev pub NothingWrittenIsLost : Table → Type 0
 NothingWrittenIsLost table =
-    (dump : Dump) (a b : Recording) → has dump false Word ≡ true → IsTrue (is_valid table) → IsTrace a → IsTrace b → IsShownWhole a → IsShownWhole b
+    (dump : Dump) (a b : Recording) → has dump false Word ≡ true → IsTrue (is_valid table)
+    → IsTrace a → IsTrace b → IsShownWhole a → IsShownWhole b
     → dump_text dump (verdict_words (verdict_of table)) table a ≡ dump_text dump (verdict_words (verdict_of table)) table b
     → (a.horizon ≡ b.horizon) × (a.list ≡ b.list)

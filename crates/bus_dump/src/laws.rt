@@ -1,9 +1,9 @@
 //! Laws of the definitions, each the contract of a function that does nothing.
 ghost use Rattle.bus_dump.specs.Laws.{AllAreShown, BitsArePulses, CarrierIsTold, ClearListsShowNone, DumpsAreRead, GarbledAreTold};
 ghost use Rattle.bus_dump.specs.Laws.{IdentifiersDiffer, LabelsAreTold, LanesAreTerminals, LawfulIsSingle, MessagesAreTold};
-ghost use Rattle.bus_dump.specs.Laws.{NamesAreDeclared, NothingIsIdle, NothingIsLost, NothingWrittenIsLost, OverlapsAreTold, OverlapsGarble};
-ghost use Rattle.bus_dump.specs.Laws.{PulsesAreTold, StampsAreTold, StartsAreSeen, StartsAreTold, SyncIsTold, TimersAreTold, WordIsTold, WrittenDumpsAreRead};
-ghost use Rattle.bus_dump.specs.Laws.{WrittenStampsAreTold};
+ghost use Rattle.bus_dump.specs.Laws.{NamesAreDeclared, NothingIsIdle, NothingIsLost, NothingWrittenIsLost, OverlapsAreTold};
+ghost use Rattle.bus_dump.specs.Laws.{OverlapsGarble, PulsesAreTold, StampsAreTold, StartsAreSeen, StartsAreTold, SyncIsTold};
+ghost use Rattle.bus_dump.specs.Laws.{TimersAreTold, WordIsTold, WrittenDumpsAreRead, WrittenStampsAreTold};
 
 use crate::comment::holds_no_feed;
 use bus_regime::verdict;
@@ -75,7 +75,8 @@ pub fn numbers_are_told()
     ensures messages { MessagesAreTold }
 {}
 
-/// A dump shows an overlap below the horizon exactly where it shows a terminal garbled there.
+/// A dump shows an overlap at some bit time below the horizon exactly if it shows a terminal garbled at some bit time below it, and exactly
+/// if the trace has a garbled transmission.
 pub fn overlaps_garble()
     ensures { OverlapsGarble }
 {
