@@ -15,7 +15,7 @@ use Rattle.bus_dump.specs.declared.dump.Dump.{Dump as AnyDump}
 use Rattle.bus_dump.specs.DumpTexts.{dump_text}
 use Rattle.bus_tool.specs.declared.inputs.Traced.{Traced as Taken}
 use Rattle.bus_tool.specs.declared.outcome.Outcome.{Outcome}
-use Rattle.bus_tool.specs.declared.outcome.Outcome.TheVariants.{Done}
+use Rattle.bus_tool.specs.declared.outcome.Outcome.TheVariants.{Done, WriteFault}
 use Rattle.bus_tool.specs.Acts.{written}
 use Rattle.bus_tool.specs.DoLaws.{Tells, answered, stopped}
 use Rattle.bus_tool.specs.Due.{table_due, table_refusal_of, Traced, with_trace}
@@ -30,7 +30,6 @@ use Rattle.bus_tool.specs.Taken.{AreTraced}
 use Rattle.bus_view.specs.Acts.{DoesView}
 use Rattle.bus_view.specs.Due.{single_due, drawn_due, taken_due, view_text, IsView}
 use Rattle.bus_view.specs.Forms.{View, Dump, sources}
-use Rattle.bus_view.specs.Own.{IsOwn}
 use Rattle.bus_view.proofs.SingleLemmas.{single_stage}
 
 -- ---- both texts
@@ -116,7 +115,6 @@ pub own_stop : {X : Type 0} (P : Outcome → Type 0) (o : Outcome) (r : Result X
 own_stop P o r h p = (let came = err_from_is_err_and r h in subst (λ r. IfErr r P) (sym (came.1 ∙ ap Err came.2)) p)
 
 -- an answer, or a failed write
-pub answer_own : (second : Option (List ℕ)) (o : Outcome) (result : Result (Unit {0}) Fault) → o ≡ written result Done
-    → IsOwn second o
-answer_own second o (Ok u) is = subst (IsOwn second) (sym is) tt
-answer_own second o (Err fault) is = subst (IsOwn second) (sym is) tt
+pub answer_own : (P : Outcome → Type 0) (o : Outcome) (result : Result (Unit {0}) Fault) → P Done → P WriteFault → o ≡ written result Done → P o
+answer_own P o (Ok u) done fault is = subst P (sym is) done
+answer_own P o (Err error) done fault is = subst P (sym is) fault

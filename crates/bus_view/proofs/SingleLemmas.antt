@@ -21,7 +21,7 @@ use Rattle.bus_tool.specs.StageLaws.{if_map, then_stage, gives_then, gives_own}
 use Rattle.bus_tool.specs.Stages.{stage_in}
 use Rattle.bus_tool.specs.Steps.{Same, Takes}
 use Rattle.bus_view.specs.Due.{single_or_refusal, single, single_due}
-use Rattle.bus_view.specs.Own.{IsOwn}
+use Rattle.bus_view.specs.Own.{IsDrawn}
 
 -- ---- where it comes in the order of refusals
 reading_stage : (r : Result Recording TraceError) → 2 ≤ stage_in (trace_or_refusal r)
@@ -84,7 +84,7 @@ single_none old new o r h t =
 
 -- ---- whose outcomes these are
 -- an outcome of `receive`
-pub received_own : (second : Option (List ℕ)) (o : Outcome) → received.IsOwn Receive second o → IsOwn second o
+pub received_own : (second : Option (List ℕ)) (o : Outcome) → received.IsOwn Receive second o → IsDrawn second o
 received_own second (Doubled entry) h = absurd h
 received_own second o h = h
 
@@ -98,7 +98,7 @@ held only text trace h = only trace_limit text trace (read_ok (reading trace_lim
 
 -- a doubled entry
 pub doubled_own : ReadsOnlyTraces → (old new : Seen) (trace : Recording) (entry : ℕ) → Takes Same 2 Trace trace_due old new (Ok trace)
-    → doubled trace.list ≡ Some entry → IsOwn old.bytes (Doubled entry)
+    → doubled trace.list ≡ Some entry → IsDrawn old.bytes (Doubled entry)
 doubled_own only old new trace entry t h = if_map old.bytes _ _ (λ text g. record {
   trace = trace;
   trace_stands = held only text trace (g.1 ∙ ap Ok (sym g.2));

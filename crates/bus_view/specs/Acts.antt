@@ -26,4 +26,4 @@ pub record Acts (call : Call) (outcome : Outcome) : Type 0 where
   pub nothing : IfNone (form_of call.words) (call.after ≡ call.before)
   pub does : IfSome (form_of call.words) (λ view. DoesView view call.before call.after outcome)
   pub first : IfSome (form_of call.words) (λ view. IfSome call.before.sources.first.bytes (RefusesText outcome))
-  pub own : IfSome (form_of call.words) (λ view. IsOwn call.before.sources.second.bytes outcome)
+  pub own : IfSome (form_of call.words) (λ view. IsOwn view call.before.sources.second.bytes outcome)

@@ -22,7 +22,7 @@ fn show<S: Source, K: Sink>(
 ) -> Outcome
     ensures does { DoesView view (outside ⟦<S as Source>⟧ ⟦<K as Sink>⟧ first.old second.old out.old)
         (outside ⟦<S as Source>⟧ ⟦<K as Sink>⟧ first.new second.new out.new) result }
-    ensures own { IsOwn (S.left second.old) result }
+    ensures own { IsOwn view (S.left second.old) result }
 {
     match view {
         View::Dump(dump) => draw(alloc, dump, first, second, out),

@@ -8,7 +8,7 @@ ghost use Rattle.bus_tool.specs.Taken.{AreTraced};
 ghost use Rattle.bus_view.specs.Acts.{DoesView};
 ghost use Rattle.bus_view.specs.Due.{single_due, drawn_due};
 ghost use Rattle.bus_view.specs.Forms.{Dump as Dumped, sources};
-ghost use Rattle.bus_view.specs.Own.{IsOwn};
+ghost use Rattle.bus_view.specs.Own.{IsDrawn};
 
 use bus_dump::{Dump, doubled, write_dump};
 use bus_outer::{Sink, Source};
@@ -23,7 +23,7 @@ fn take_single<S: Source>(alloc: Global, second: &mut S) -> Result<Trace, Outcom
     ensures takes { Takes Same 2 ByTrace single_due
         (source_seen ⟦<S as Source>⟧ second.old) (source_seen ⟦<S as Source>⟧ second.new) result }
     ensures single { IfOk result (λ trace. definition.doubled trace.list ≡ None) }
-    ensures own { IfErr result (IsOwn (S.left second.old)) }
+    ensures own { IfErr result (IsDrawn (S.left second.old)) }
 {
     traces_read_back();
     let trace = take_trace(alloc, second)?;
@@ -41,7 +41,7 @@ fn take_drawn<S: Source>(alloc: Global, first: &mut S, second: &mut S) -> Result
     ensures prepares { Prepares AreTraced sources table_refusal_of drawn_due
         (sources_seen ⟦<S as Source>⟧ first.old second.old) (sources_seen ⟦<S as Source>⟧ first.new second.new) result }
     ensures single { IfOk result (λ traced. definition.doubled traced.trace.list ≡ None) }
-    ensures own { IfErr result (IsOwn (S.left second.old)) }
+    ensures own { IfErr result (IsDrawn (S.left second.old)) }
 {
     let table = take_table(alloc, first)?;
     let trace = take_single(alloc, second)?;
@@ -58,7 +58,7 @@ pub fn draw<S: Source, K: Sink>(
 ) -> Outcome
     ensures does { DoesView (Dumped dump) (outside ⟦<S as Source>⟧ ⟦<K as Sink>⟧ first.old second.old out.old)
         (outside ⟦<S as Source>⟧ ⟦<K as Sink>⟧ first.new second.new out.new) result }
-    ensures own { IsOwn (S.left second.old) result }
+    ensures own { IsDrawn (S.left second.old) result }
 {
     match take_drawn(alloc, first, second) {
         Ok(Traced { table, trace }) => {

@@ -7,7 +7,7 @@ ghost use Rattle.bus_tool.specs.Steps.{Prepares};
 ghost use Rattle.bus_view.specs.Acts.{DoesView};
 ghost use Rattle.bus_view.specs.Due.{AreAudited, painted, window_or_whole};
 ghost use Rattle.bus_view.specs.Forms.{Painted, sources};
-ghost use Rattle.bus_view.specs.Own.{IsOwn};
+ghost use Rattle.bus_view.specs.Own.{IsOwn, IsRead};
 
 use crate::forms::Picture;
 use bus_audit::{AuditAnswer, audit};
@@ -37,7 +37,7 @@ fn take_audited<S: Source>(alloc: Global, first: &mut S, second: &mut S) -> Resu
     ensures prepares { Prepares AreAudited sources table_refusal_of traced_due
         (sources_seen ⟦<S as Source>⟧ first.old second.old) (sources_seen ⟦<S as Source>⟧ first.new second.new) result }
     ensures answer { IfOk result (λ audited. audited.answer ≡ answer_of audited.table audited.trace) }
-    ensures own { IfErr result (IsOwn (S.left second.old)) }
+    ensures own { IfErr result (IsRead (S.left second.old)) }
 {
     let Traced { table, trace } = take_traced(alloc, first, second)?;
     let answer = audit(alloc, &table, &trace)?;
@@ -91,7 +91,7 @@ pub fn paint<S: Source, K: Sink>(
 ) -> Outcome
     ensures does { DoesView (Painted picture window) (outside ⟦<S as Source>⟧ ⟦<K as Sink>⟧ first.old second.old out.old)
         (outside ⟦<S as Source>⟧ ⟦<K as Sink>⟧ first.new second.new out.new) result }
-    ensures own { IsOwn (S.left second.old) result }
+    ensures own { IsOwn (Painted picture window) (S.left second.old) result }
 {
     match take_audited(alloc, first, second) {
         Ok(audited) => {

@@ -17,7 +17,7 @@ pub fn save<S: Source, K: Sink>(
 ) -> Outcome
     ensures does { DoesView SaveFile (outside ⟦<S as Source>⟧ ⟦<K as Sink>⟧ first.old second.old out.old)
         (outside ⟦<S as Source>⟧ ⟦<K as Sink>⟧ first.new second.new out.new) result }
-    ensures own { IsOwn (S.left second.old) result }
+    ensures own { IsOwn SaveFile (S.left second.old) result }
 {
     match take_traced(alloc, first, second) {
         Ok(Traced { table, trace }) => after_writing(

@@ -1,4 +1,5 @@
 use Rattle.bus_view.specs.Forms.{Dump}
+use Rattle.bus_view.specs.Own.{IsDrawn}
 use Rattle.bus_view.proofs.DrawLemmas.{view_answered, view_stopped, dump_is, answer_own}
 use Rattle.bus_view.proofs.drawing.draw.Goals as goal
 
@@ -15,7 +16,8 @@ pub returns-in-Err-clause-does : goal.returns-in-Err-clause-does
 returns-in-Err-clause-does g c = view_stopped (Dump c.args.dump) _ _ _ c.in-Err.outcome c.in-Err.ensures.prepares
 
 pub returns-in-Ok-clause-own : goal.returns-in-Ok-clause-own
-returns-in-Ok-clause-own g c = answer_own _ c.after_writing.result _ c.after_writing.ensures
+returns-in-Ok-clause-own g c =
+    answer_own (IsDrawn (g.S.Source.left c.args.second.now)) c.after_writing.result _ tt tt c.after_writing.ensures
 
 pub returns-in-Err-clause-own : goal.returns-in-Err-clause-own
 returns-in-Err-clause-own g c = c.in-Err.ensures.own

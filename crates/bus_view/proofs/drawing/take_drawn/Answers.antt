@@ -1,5 +1,5 @@
 use Rattle.bus_tool.specs.declared.forms.Form.TheVariants.{Receive}
-use Rattle.bus_view.specs.Own.{IsOwn}
+use Rattle.bus_view.specs.Own.{IsDrawn}
 use Rattle.bus_view.proofs.DrawLemmas.{table_none, trace_none, both_taken, own_stop}
 use Rattle.bus_view.proofs.SingleLemmas.{received_own}
 use Rattle.bus_view.proofs.drawing.take_drawn.Goals as goal
@@ -19,10 +19,10 @@ returns-clause-prepares g c =
 
 pub returns-in_err-table-clause-own : goal.returns-in_err-table-clause-own
 returns-in_err-table-clause-own g c =
-    own_stop (IsOwn (g.S.Source.left c.args.second.now)) c.in_err-table.field-0.0 c.from_residual.result c.from_residual.ensures.1
+    own_stop (IsDrawn (g.S.Source.left c.args.second.now)) c.in_err-table.field-0.0 c.from_residual.result c.from_residual.ensures.1
     (received_own _ c.in_err-table.field-0.0 (c.in_err-table.ensures.own Receive _))
 
 pub returns-in_err-trace-clause-own : goal.returns-in_err-trace-clause-own
 returns-in_err-trace-clause-own g c =
-    own_stop (IsOwn (g.S.Source.left c.args.second.now)) c.in_err-trace.field-0.0 c.from_residual-in_err-trace.result
+    own_stop (IsDrawn (g.S.Source.left c.args.second.now)) c.in_err-trace.field-0.0 c.from_residual-in_err-trace.result
     c.from_residual-in_err-trace.ensures.1 c.in_err-trace.ensures.own

@@ -1,6 +1,6 @@
 use Rattle.std.proofs.Common.{refl, sym}
 use Rattle.bus_tool.specs.declared.forms.Form.TheVariants.{Receive}
-use Rattle.bus_view.specs.Own.{IsOwn}
+use Rattle.bus_view.specs.Own.{IsDrawn}
 use Rattle.bus_view.proofs.DrawLemmas.{own_stop}
 use Rattle.bus_view.proofs.SingleLemmas.{single_taken, single_refused, single_none, received_own, doubled_own}
 use Rattle.bus_view.proofs.drawing.take_single.Goals as goal
@@ -11,7 +11,7 @@ returns-in_err-trace-clause-takes g c =
 
 pub returns-in_err-trace-clause-own : goal.returns-in_err-trace-clause-own
 returns-in_err-trace-clause-own g c =
-    own_stop (IsOwn (g.S.Source.left c.args.second.now)) c.in_err-trace.field-0.0 c.from_residual.result c.from_residual.ensures.1
+    own_stop (IsDrawn (g.S.Source.left c.args.second.now)) c.in_err-trace.field-0.0 c.from_residual.result c.from_residual.ensures.1
     (received_own _ c.in_err-trace.field-0.0 (c.in_err-trace.ensures.own Receive refl))
 
 pub returns-in-Some-clause-takes : goal.returns-in-Some-clause-takes

@@ -6,9 +6,8 @@ use Rattle.bus_tool.specs.PrepareLaws.{prepares_stopped, prepares_made, prepares
 use Rattle.bus_tool.specs.Taken.{AreTraced}
 use Rattle.bus_view.specs.Due.{AreAudited}
 use Rattle.bus_view.specs.Forms.{sources}
-use Rattle.bus_view.specs.Own.{IsOwn}
+use Rattle.bus_view.specs.Own.{IsRead}
 use Rattle.bus_view.proofs.DrawLemmas.{own_stop}
-use Rattle.bus_view.proofs.SingleLemmas.{received_own}
 use Rattle.bus_view.proofs.painting.take_audited.Goals as goal
 
 pub returns-in_err-table-clause-prepares : goal.returns-in_err-table-clause-prepares
@@ -28,10 +27,10 @@ returns-clause-prepares g c =
 
 pub returns-in_err-table-clause-own : goal.returns-in_err-table-clause-own
 returns-in_err-table-clause-own g c =
-    own_stop (IsOwn (g.S.Source.left c.args.second.now)) c.in_err-table.field-0.0 c.from_residual.result c.from_residual.ensures.1
-    (received_own _ c.in_err-table.field-0.0 (c.in_err-table.ensures.own Receive refl))
+    own_stop (IsRead (g.S.Source.left c.args.second.now)) c.in_err-table.field-0.0 c.from_residual.result c.from_residual.ensures.1
+    (c.in_err-table.ensures.own Receive refl)
 
 pub returns-in_err-answer-clause-own : goal.returns-in_err-answer-clause-own
 returns-in_err-answer-clause-own g c =
-    own_stop (IsOwn (g.S.Source.left c.args.second.now)) NoMemory c.from_residual-in_err-answer.result
+    own_stop (IsRead (g.S.Source.left c.args.second.now)) NoMemory c.from_residual-in_err-answer.result
     c.from_residual-in_err-answer.ensures.1 tt

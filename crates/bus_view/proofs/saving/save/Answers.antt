@@ -1,8 +1,8 @@
 use Rattle.std.proofs.Common.{refl}
 use Rattle.bus_tool.specs.declared.forms.Form.TheVariants.{Receive}
 use Rattle.bus_view.specs.Forms.{SaveFile}
+use Rattle.bus_view.specs.Own.{IsRead}
 use Rattle.bus_view.proofs.DrawLemmas.{view_answered, view_stopped, answer_own}
-use Rattle.bus_view.proofs.SingleLemmas.{received_own}
 use Rattle.bus_view.proofs.saving.save.Goals as goal
 
 pub returns-in-Ok-clause-does : goal.returns-in-Ok-clause-does
@@ -14,7 +14,8 @@ pub returns-in-Err-clause-does : goal.returns-in-Err-clause-does
 returns-in-Err-clause-does g c = view_stopped SaveFile _ _ _ c.in-Err.outcome c.in-Err.ensures.prepares
 
 pub returns-in-Ok-clause-own : goal.returns-in-Ok-clause-own
-returns-in-Ok-clause-own g c = answer_own _ c.after_writing.result _ c.after_writing.ensures
+returns-in-Ok-clause-own g c =
+    answer_own (IsRead (g.S.Source.left c.args.second.now)) c.after_writing.result _ tt tt c.after_writing.ensures
 
 pub returns-in-Err-clause-own : goal.returns-in-Err-clause-own
-returns-in-Err-clause-own g c = received_own _ c.in-Err.outcome (c.in-Err.ensures.own Receive refl)
+returns-in-Err-clause-own g c = c.in-Err.ensures.own Receive refl
