@@ -7,7 +7,7 @@ use Rattle.std.specs.List.{flat_map}
 use Rattle.std.specs.Option.{option_map_or}
 use Rattle.bus_strings.specs.Messages.{Entry}
 use Rattle.bus_shapes.specs.declared.class.Class.{Class}
-use Rattle.bus_shapes.specs.declared.class.Class.TheVariants.{Carrier, Garbled, Message, Overlap}
+use Rattle.bus_shapes.specs.declared.class.Class.TheVariants.{Garbled, Message, Overlap, Span}
 use Rattle.bus_shapes.specs.declared.sent.Sent.{Sent}
 use Rattle.bus_shapes.specs.declared.scale.Scale.{Scale}
 use Rattle.bus_shapes.specs.Scales.{extent, place}
@@ -32,7 +32,7 @@ shown scale row list = filter (shows scale row) (sents list)
 
 -- How the boxes of a row look: hatched where it is garbled.
 abbrev pub plain_class : Option ℕ → Class
-plain_class None = Carrier
+plain_class None = Span
 plain_class (Some terminal) = Message
 
 abbrev pub box_class : Row → Class
@@ -71,6 +71,6 @@ pile_text scale row list pile =
 abbrev pub row_text : Scale → Row → List Entry → List ℕ
 row_text scale row list = flat_map (λ box. pile_text scale row list (pile_of box)) (boxes scale (shown scale row list))
 
--- Rows, one drawn behind the other.
+-- Rows, one drawn after the other.
 abbrev pub rows_text : Scale → List Entry → List Row → List ℕ
 rows_text scale list rows = flat_map (λ row. row_text scale row list) rows

@@ -34,7 +34,7 @@ fn box_class(row: &Row) -> Class
         return Class::Garbled;
     }
     match row.terminal {
-        None => Class::Carrier,
+        None => Class::Span,
         Some(_) => Class::Message,
     }
 }

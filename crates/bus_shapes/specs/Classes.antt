@@ -4,7 +4,7 @@ use Rattle.std.specs.Prelude.{ℕ, List, [], ◌∷◌, ◌++◌, codes}
 use Rattle.std.specs.List.{flat_map}
 pub use Rattle.bus_shapes.specs.declared.class.Class.{Class}
 pub use Rattle.bus_shapes.specs.declared.class.Class.TheVariants.{Background, Band, Unobserved, Grid}
-pub use Rattle.bus_shapes.specs.declared.class.Class.TheVariants.{Tick, Carrier, Message, Garbled, Wordstring}
+pub use Rattle.bus_shapes.specs.declared.class.Class.TheVariants.{Tick, Span, Message, Garbled, Wordstring}
 pub use Rattle.bus_shapes.specs.declared.class.Class.TheVariants.{Other, Label, Noise, Edge, Overlap, Gap, Interval, Mark, Breach}
 pub use Rattle.bus_shapes.specs.declared.class.Class.TheVariants.{Verdict, Answer, Note, Counts, Small, Detail, Number, Digits, NoiseDigits}
 pub use Rattle.bus_shapes.specs.declared.class.Class.TheVariants.{GapWords, IntervalWords, BreachWords}
@@ -16,7 +16,7 @@ class_name Band = codes "band"
 class_name Unobserved = codes "unobserved"
 class_name Grid = codes "grid"
 class_name Tick = codes "tick"
-class_name Carrier = codes "carrier"
+class_name Span = codes "span"
 class_name Message = codes "message"
 class_name Garbled = codes "garbled"
 class_name Wordstring = codes "wordstring"
@@ -42,26 +42,26 @@ class_name GapWords = codes "gap-words"
 class_name IntervalWords = codes "interval-words"
 class_name BreachWords = codes "breach-words"
 
--- How it looks.
+-- How it looks. What has no words under the pointer and is drawn over boxes that have such words, lets the pointer through to these.
 abbrev pub look : Class → List ℕ
 look Background = codes "fill:#fff"
 look Band = codes "fill:#f6f7f9"
 look Unobserved = codes "fill:#ddd"
 look Grid = codes "fill:#d5d8dd"
 look Tick = codes "fill:#666"
-look Carrier = codes "fill:#555"
+look Span = codes "fill:#555"
 look Message = codes "fill:#cfe3f3;stroke:#0072b2;stroke-width:10"
 look Garbled = codes "fill:url(#hatch);stroke:#a63a00;stroke-width:14"
 look Wordstring = codes "fill:#0072b2"
 look Other = codes "fill:#4f9fce"
-look Label = codes "fill:#004c7a"
+look Label = codes "fill:#004c7a;pointer-events:none"
 look Noise = codes "fill:#d55e00;fill-opacity:.4"
-look Edge = codes "fill:#fff"
-look Overlap = codes "fill:#d55e00;fill-opacity:.2"
-look Gap = codes "fill:#b07800"
-look Interval = codes "fill:#009e73"
-look Mark = codes "fill:#000;fill-opacity:.6"
-look Breach = codes "fill:#000"
+look Edge = codes "fill:#fff;pointer-events:none"
+look Overlap = codes "fill:#d55e00;fill-opacity:.2;pointer-events:none"
+look Gap = codes "fill:#b07800;pointer-events:none"
+look Interval = codes "fill:#009e73;pointer-events:none"
+look Mark = codes "fill:#000;fill-opacity:.6;pointer-events:none"
+look Breach = codes "fill:#000;pointer-events:none"
 look Verdict = codes "font-size:150px;font-weight:bold"
 look Answer = codes "font-size:150px;font-weight:bold;text-anchor:end"
 look Note = codes "fill:#222"
@@ -79,7 +79,7 @@ look BreachWords =
 -- All classes: of boxes, then of words.
 abbrev pub classes : List Class
 classes =
-    Background ∷ (Band ∷ (Unobserved ∷ (Grid ∷ (Tick ∷ (Carrier ∷ (Message ∷ (Garbled ∷ (Wordstring ∷ (Other ∷ (
+    Background ∷ (Band ∷ (Unobserved ∷ (Grid ∷ (Tick ∷ (Span ∷ (Message ∷ (Garbled ∷ (Wordstring ∷ (Other ∷ (
     Label ∷ (Noise ∷ (Edge ∷ (Overlap ∷ (Gap ∷ (Interval ∷ (Mark ∷ (Breach ∷ (Verdict ∷ (Answer ∷ (Note ∷ (Counts ∷ (
     Small ∷ (Detail ∷ (Number ∷ (Digits ∷ (NoiseDigits ∷ (GapWords ∷ (IntervalWords ∷ (BreachWords ∷ [])))))))))))))))))))))))))))))
 

@@ -10,7 +10,7 @@ pub use Rattle.bus_shapes.specs.declared.counts.Counts.{Counts}
 -- ---- the head
 -- The style of words of every class, and the hatching of what is garbled.
 abbrev pub font_text : List ℕ
-font_text = codes "text{font-family:DejaVu Sans Mono,Menlo,Consolas,monospace;font-size:110px;fill:#222}\n"
+font_text = codes "text{font-family:DejaVu Sans Mono,Menlo,Consolas,monospace;font-size:110px;fill:#222;pointer-events:none}\n"
 
 abbrev pub hatch_text : List ℕ
 hatch_text =

@@ -6,7 +6,7 @@ ghost use Rattle.bus_shapes.specs.Classes as definition;
 use bus_outer::{Sink, TextBuffer};
 
 /// What a box or words of a picture stand for, which says how they look. Those up to [`Class::Breach`] are classes of boxes, those
-/// behind it of words.
+/// after it of words.
 #[derive(Clone, Copy, Debug, PartialEq, Eq)]
 pub enum Class {
     /// The whole picture, behind all else.
@@ -19,8 +19,8 @@ pub enum Class {
     Grid,
     /// A short line at a mark of an axis.
     Tick,
-    /// A transmission on the bus.
-    Carrier,
+    /// The span of a transmission on the bus.
+    Span,
     /// A transmission of a terminal that is not garbled.
     Message,
     /// A garbled transmission: hatched.
@@ -78,7 +78,7 @@ const CLASSES: [Class; 30] = [
     Class::Unobserved,
     Class::Grid,
     Class::Tick,
-    Class::Carrier,
+    Class::Span,
     Class::Message,
     Class::Garbled,
     Class::Wordstring,
@@ -116,7 +116,7 @@ impl Class {
             Class::Unobserved => b"unobserved",
             Class::Grid => b"grid",
             Class::Tick => b"tick",
-            Class::Carrier => b"carrier",
+            Class::Span => b"span",
             Class::Message => b"message",
             Class::Garbled => b"garbled",
             Class::Wordstring => b"wordstring",
@@ -154,19 +154,19 @@ impl Class {
             Class::Unobserved => b"fill:#ddd",
             Class::Grid => b"fill:#d5d8dd",
             Class::Tick => b"fill:#666",
-            Class::Carrier => b"fill:#555",
+            Class::Span => b"fill:#555",
             Class::Message => b"fill:#cfe3f3;stroke:#0072b2;stroke-width:10",
             Class::Garbled => b"fill:url(#hatch);stroke:#a63a00;stroke-width:14",
             Class::Wordstring => b"fill:#0072b2",
             Class::Other => b"fill:#4f9fce",
-            Class::Label => b"fill:#004c7a",
+            Class::Label => b"fill:#004c7a;pointer-events:none",
             Class::Noise => b"fill:#d55e00;fill-opacity:.4",
-            Class::Edge => b"fill:#fff",
-            Class::Overlap => b"fill:#d55e00;fill-opacity:.2",
-            Class::Gap => b"fill:#b07800",
-            Class::Interval => b"fill:#009e73",
-            Class::Mark => b"fill:#000;fill-opacity:.6",
-            Class::Breach => b"fill:#000",
+            Class::Edge => b"fill:#fff;pointer-events:none",
+            Class::Overlap => b"fill:#d55e00;fill-opacity:.2;pointer-events:none",
+            Class::Gap => b"fill:#b07800;pointer-events:none",
+            Class::Interval => b"fill:#009e73;pointer-events:none",
+            Class::Mark => b"fill:#000;fill-opacity:.6;pointer-events:none",
+            Class::Breach => b"fill:#000;pointer-events:none",
             Class::Verdict => b"font-size:150px;font-weight:bold",
             Class::Answer => b"font-size:150px;font-weight:bold;text-anchor:end",
             Class::Note => b"fill:#222",

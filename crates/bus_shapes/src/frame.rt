@@ -33,7 +33,7 @@ fn put_font<K: Sink>(text: &mut TextBuffer, sink: &mut K)
 {
     text.put(
         sink,
-        b"text{font-family:DejaVu Sans Mono,Menlo,Consolas,monospace;font-size:110px;fill:#222}\n",
+        b"text{font-family:DejaVu Sans Mono,Menlo,Consolas,monospace;font-size:110px;fill:#222;pointer-events:none}\n",
     );
 }
 
@@ -100,8 +100,8 @@ fn put_ending<K: Sink>(text: &mut TextBuffer, sink: &mut K, count: u64)
     }
 }
 
-// So many of something, which has this name where it is one.
-fn put_counted<K: Sink>(text: &mut TextBuffer, sink: &mut K, count: u64, name: &[u8])
+/// Puts how many there are of something, which has this name where it is one.
+pub fn put_counted<K: Sink>(text: &mut TextBuffer, sink: &mut K, count: u64, name: &[u8])
     ensures { Adds K.held K.faults sink.old sink.new text.old text.new (counted count name.now) }
 {
     text.put_number(sink, count);

@@ -26,7 +26,7 @@ pub use area::Area;
 pub use axis::{Axis, Unit, put_axis};
 pub use class::Class;
 pub use counts::Counts;
-pub use frame::{put_frame, put_tail};
+pub use frame::{put_counted, put_frame, put_tail};
 pub use scale::Scale;
 pub use sent::{Sent, put_garbled, put_microseconds, put_sent};
 pub use sents::Sents;
