@@ -21,7 +21,7 @@ bucket scale x = place scale x.moment / 60
 abbrev pub joins : Scale → Sent → Sent → Bool
 joins scale x y = is_narrow scale x && is_narrow scale y && nat_eq (bucket scale x) (bucket scale y)
 
--- A box: a transmission, and those behind it that share it.
+-- A box: a transmission, and those after it that share it.
 pub record Box : Type 0 where
   pub first : Sent
   pub others : List Sent

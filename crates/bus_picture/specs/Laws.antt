@@ -19,7 +19,7 @@ use Rattle.bus_picture.specs.Rows.{Row, box_class, shown, shows}
 use Rattle.bus_picture.specs.TimeLines.{bus_rows, counts_of, is_shown, row_height, rows_of, rows_of_lanes}
 
 -- ---- boxes
--- The transmissions of the boxes of a row, one behind the other, are those that the row shows, in order: so each of these is in exactly one
+-- The transmissions of the boxes of a row, one after the other, are those that the row shows, in order: so each of these is in exactly one
 -- box.
 abbrev pub BoxesHoldRows : Type 0
 BoxesHoldRows =
@@ -45,7 +45,7 @@ BoxesHoldTheirs =
     → HoldsIts box
 
 -- ---- rows
--- All rows that are drawn behind a garbled one lie below it.
+-- All rows that are drawn after one of what is garbled lie below it. Boxes of the same row, timers and the breach may lie over a box.
 abbrev pub AreUncovered : List Row → Type 0
 AreUncovered [] = ⊤
 AreUncovered (row ∷ rows) =

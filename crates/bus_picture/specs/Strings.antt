@@ -8,9 +8,10 @@ use Rattle.bus_strings.specs.Limits.{word_bits}
 use Rattle.bus_strings.specs.Messages.{Entry, Wordstring}
 use Rattle.bus_strings.specs.Pulses.{pulse_length, pulse_start}
 use Rattle.bus_shapes.specs.declared.class.Class.{Class}
-use Rattle.bus_shapes.specs.declared.class.Class.TheVariants.{Digits, Edge, Label, Noise, NoiseDigits}
+use Rattle.bus_shapes.specs.declared.class.Class.TheVariants.{Digits, Edge, Label, Noise, NoiseDigits, Overlap}
 use Rattle.bus_shapes.specs.declared.class.Class.TheVariants as classes
 use Rattle.bus_shapes.specs.declared.scale.Scale.{Scale}
+use Rattle.bus_shapes.specs.Sayings.{counted}
 use Rattle.bus_shapes.specs.Scales.{extent, place}
 use Rattle.bus_shapes.specs.declared.area.Area.{Area}
 use Rattle.bus_shapes.specs.Shapes.{box_text, titled_text, words_text}
@@ -31,11 +32,11 @@ name_words string = both_words string.label string.ext
 abbrev pub long_words : Wordstring → List ℕ
 long_words string = name_words string ++ codes " +" ++ decimal (length string.words)
 
--- All of that, and its moments.
+-- Its name, its moments, and how many data words it has.
 abbrev pub string_words : ℕ → ℕ → Wordstring → List ℕ
 string_words from to string =
     name_words string ++ codes ": moments " ++ decimal from ++ codes " to " ++ decimal to ++ codes ", "
-    ++ decimal (length string.words) ++ codes " data words"
+    ++ counted (length string.words) (codes "data word")
 
 -- How a wordstring and its words look, of a garbled transmission or of another.
 abbrev pub string_class : Bool → Class
@@ -70,9 +71,10 @@ digits_text garbled area width digits =
     if nat_lt area.width width then []
     else words_text (digits_class garbled) (area.left + area.width / 2) (area.top + 100) digits
 
--- A label word: its area, and the label and the extension.
+-- A label word: its area, and the label and the extension. Of a garbled transmission the area is but tinted: its wordstring has the
+-- words under the pointer.
 abbrev pub label_class : Bool → Class
-label_class garbled = if garbled then Noise else Label
+label_class garbled = if garbled then Overlap else Label
 
 abbrev pub label_word : Bool → Area → Wordstring → List ℕ
 label_word garbled area string = box_text (label_class garbled) area ++ digits_text garbled area 330 (name_words string)

@@ -168,11 +168,15 @@ axes_text scale bottom = axis_text scale upper_axis ++ axis_text scale (lower_ax
 abbrev pub words_middle : ℕ → ℕ
 words_middle left = min (max left 2500) 14500
 
--- The mark of a breach at a place, in the lane with this upper edge.
+-- A part of the mark of a breach at a place: a box with this upper edge.
+abbrev pub mark_part : ℕ → ℕ → ℕ → List ℕ
+mark_part left top height = box_text classes.Breach (record { left = left; top = top; width = 24; height = height })
+
+-- The mark of a breach at a place, in the lane with this upper edge: above and below the boxes of the lane, so that it hides none.
 abbrev pub mark_at : ℕ → ℕ → AuditAnswer → List ℕ
 mark_at left top answer =
-    box_text classes.Breach (record { left = left; top = top; width = 24; height = row_height })
-    ++ words_text BreachWords (words_middle left) (top + 50) (answer_words answer)
+    mark_part left top 60 ++ mark_part left (top + 240) 80
+    ++ words_text BreachWords (words_middle left) (top + 312) (answer_words answer)
 
 abbrev pub mark_text : Scale → ℕ → ℕ → AuditAnswer → List ℕ
 mark_text scale top moment answer = mark_at (place scale moment) top answer

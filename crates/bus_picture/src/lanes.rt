@@ -165,6 +165,19 @@ fn words_middle(left: u64) -> u64
     left.max(2500).min(14500)
 }
 
+// A part of the mark of a breach at a place.
+fn put_mark_part<K: Sink>(text: &mut TextBuffer, sink: &mut K, left: u64, top: u64, height: u64)
+    ensures { Adds K.held K.faults sink.old sink.new text.old text.new (definition.mark_part left top height) }
+{
+    let area = Area {
+        left,
+        top,
+        width: 24,
+        height,
+    };
+    put_box(text, sink, Class::Breach, area);
+}
+
 // The mark of a breach at a place.
 fn put_mark_at<K: Sink>(
     text: &mut TextBuffer,
@@ -176,15 +189,10 @@ fn put_mark_at<K: Sink>(
     requires { top < 100000 }
     ensures { Adds K.held K.faults sink.old sink.new text.old text.new (definition.mark_at left top answer.now) }
 {
-    let area = Area {
-        left,
-        top,
-        width: 24,
-        height: 320,
-    };
-    put_box(text, sink, Class::Breach, area);
+    put_mark_part(text, sink, left, top, 60);
+    put_mark_part(text, sink, left, top + 240, 80);
     let middle = words_middle(left);
-    begin_words(text, sink, Class::BreachWords, middle, top + 50);
+    begin_words(text, sink, Class::BreachWords, middle, top + 312);
     put_answer(text, sink, answer);
     end_words(text, sink);
 }

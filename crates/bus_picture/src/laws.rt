@@ -22,7 +22,7 @@ pub fn boxes_hold_theirs()
     ensures { BoxesHoldTheirs }
 {}
 
-/// What is drawn behind a garbled row lies below it: so no box of another row covers a garbled one.
+/// All rows that are drawn after one of what is garbled lie below it. Boxes of the same row, timers and the breach may lie over a box.
 pub fn garbled_are_uncovered()
     ensures { GarbledAreUncovered }
 {}

@@ -1,8 +1,9 @@
 // The wordstrings of a message.
-ghost use Rattle.std.specs.Prelude.{◌≡◌, ◌<◌, ◌≤◌, ◌^◌, ◌+◌, [], Some, decimal, slice_get, length};
+ghost use Rattle.std.specs.Prelude.{◌≡◌, ◌<◌, ◌≤◌, ◌^◌, ◌+◌, [], Some, codes, decimal, slice_get, length};
 ghost use Rattle.std.specs.Option.{option_map_or};
 ghost use Rattle.bus_outer.specs.Texts.{Adds};
 ghost use Rattle.bus_strings.specs.Pulses.{pulse_length, pulse_start};
+ghost use Rattle.bus_shapes.specs.Sayings.{counted};
 ghost use Rattle.bus_shapes.specs.Scales.{IsScale};
 ghost use Rattle.bus_picture.specs.Strings as definition;
 
@@ -10,7 +11,9 @@ use crate::names::{digits_class, put_name};
 use crate::places::{meets, string_area};
 use crate::words::{has_room, put_each_word};
 use bus_outer::{Sink, TextBuffer};
-use bus_shapes::{Area, Class, Scale, begin_titled, begin_words, end_titled, end_words};
+use bus_shapes::{
+    Area, Class, Scale, begin_titled, begin_words, end_titled, end_words, put_counted,
+};
 use bus_strings::transmission::Transmission;
 use bus_strings::{Wordstring, pulse, pulse_count};
 
@@ -38,7 +41,15 @@ fn put_long<K: Sink>(text: &mut TextBuffer, sink: &mut K, string: &Wordstring)
     put_count(text, sink, string);
 }
 
-// All of that, and its moments.
+// How many data words it has, in words.
+fn put_data_words<K: Sink>(text: &mut TextBuffer, sink: &mut K, string: &Wordstring)
+    ensures { Adds K.held K.faults sink.old sink.new text.old text.new (counted (length string.now.words) (codes "data word")) }
+{
+    let count = data_count(string);
+    put_counted(text, sink, count as u64, b"data word");
+}
+
+// Its name, its moments, and how many data words it has.
 fn put_string_words<K: Sink>(
     text: &mut TextBuffer,
     sink: &mut K,
@@ -54,8 +65,7 @@ fn put_string_words<K: Sink>(
     text.put(sink, b" to ");
     text.put_number(sink, to);
     text.put(sink, b", ");
-    put_count(text, sink, string);
-    text.put(sink, b" data words");
+    put_data_words(text, sink, string);
 }
 
 // How a wordstring looks.

@@ -24,7 +24,11 @@ pub(crate) fn has_room(scale: &Scale) -> bool
 fn label_class(garbled: bool) -> Class
     ensures { result ≡ definition.label_class garbled }
 {
-    if garbled { Class::Noise } else { Class::Label }
+    if garbled {
+        Class::Overlap
+    } else {
+        Class::Label
+    }
 }
 
 // The label and the extension, in the middle of an area that has room for them.

@@ -4,4 +4,4 @@ use Rattle.bus_picture.proofs.strings.put_string_words.Goals as goal
 pub returns : goal.returns
 returns g c =
     c.put_name.ensures ▸ c.put.ensures ▸ c.put_number.ensures ▸ c.put-2.ensures ▸ c.put_number-2.ensures ▸ c.put-3.ensures
-    ▸ c.put_count.ensures ▸ c.put-4.ensures
+    ▸ c.put_data_words.ensures
