@@ -63,6 +63,12 @@ terminal_gap scale top moment tg =
 abbrev pub interval_text : Scale → ℕ → ℕ → ℕ → List ℕ
 interval_text scale top moment ti = box_text Interval (line_area scale (top + 275) moment (moment + ti))
 
+-- Its end, where the scale has it: so an interval that the window cuts has none.
+abbrev pub interval_end : Scale → ℕ → ℕ → List ℕ
+interval_end scale top to =
+    if nat_le to scale.to
+    then box_text Interval (record { left = place scale to - 14; top = top + 258; width = 14; height = 48 }) else []
+
 -- Its words, in the first lane alone, since it is the same in all.
 abbrev pub interval_words : Scale → ℕ → ℕ → ℕ → ℕ → List ℕ
 interval_words scale k top moment ti =
@@ -71,7 +77,8 @@ interval_words scale k top moment ti =
 -- The timers of a sender in lane k, at a moment at which it begins to send.
 abbrev pub timers_at : Scale → ℕ → ℕ → ℕ → ℕ → ℕ → List ℕ
 timers_at scale k top ti tg moment =
-    terminal_gap scale top moment tg ++ interval_text scale top moment ti ++ interval_words scale k top moment ti
+    terminal_gap scale top moment tg ++ interval_text scale top moment ti ++ interval_end scale top (moment + ti)
+    ++ interval_words scale k top moment ti
 
 -- The same, at its first transmission that begins in the scale.
 abbrev pub sender_timers : Scale → List Entry → ℕ → ℕ → ℕ → ℕ → ℕ → List ℕ

@@ -192,6 +192,23 @@ fn put_interval<K: Sink>(
     put_box(text, sink, Class::Interval, area);
 }
 
+// Its end, where the scale has it.
+fn put_interval_end<K: Sink>(text: &mut TextBuffer, sink: &mut K, scale: &Scale, top: u64, to: u64)
+    requires scale { IsScale scale.now }
+    requires top { top < 100000 }
+    ensures { Adds K.held K.faults sink.old sink.new text.old text.new (definition.interval_end scale.now top to) }
+{
+    if to <= scale.to {
+        let area = Area {
+            left: scale.place(to).saturating_sub(14),
+            top: top + 258,
+            width: 14,
+            height: 48,
+        };
+        put_box(text, sink, Class::Interval, area);
+    }
+}
+
 // Its words, in the first lane alone.
 fn put_interval_words<K: Sink>(
     text: &mut TextBuffer,
@@ -236,6 +253,7 @@ fn put_timers_at<K: Sink>(
 {
     put_terminal_gap(text, sink, scale, top, moment, tg);
     put_interval(text, sink, scale, top, moment, ti);
+    put_interval_end(text, sink, scale, top, moment + u64::from(ti));
     put_interval_words(text, sink, scale, k, top, moment, ti);
 }
 
