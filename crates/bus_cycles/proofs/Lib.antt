@@ -7,3 +7,4 @@ pub mod WriteLemmas
 pub mod CycleLemmas
 pub mod CoverLemmas
 pub mod BreachLemmas
+pub mod DrawnLemmas

@@ -22,7 +22,7 @@ use Rattle.bus_shapes.specs.Shapes.{box_text, words_text}
 use Rattle.bus_shapes.specs.Windows.{Window}
 use Rattle.bus_cycles.specs.Rows.{Extent, cycle_of, rows}
 use Rattle.bus_cycles.specs.Sents.{shown}
-use Rattle.bus_cycles.specs.RowTexts.{rows_text, top_of}
+use Rattle.bus_cycles.specs.RowTexts.{pixel, rows_text, top_of}
 use Rattle.bus_cycles.specs.Surveys.{Survey, breach_in, counts, is_drawn, most_rows, survey_of}
 
 -- ---- the plot
@@ -65,21 +65,22 @@ abbrev pub mark_line : Survey → ℕ → Area
 mark_line survey t =
     record { left = place (scale_of survey) t; top = 1070; width = 10; height = bottom_of survey - 1000 }
 
--- Its words, below it.
-abbrev pub mark_words : Survey → Class → ℕ → List ℕ → ℕ → List ℕ
-mark_words survey class left name t = words_text class left (bottom_of survey + 150) (name ++ decimal t)
+-- Its words, this far below the rows.
+abbrev pub mark_words : Survey → Class → ℕ → ℕ → List ℕ → ℕ → List ℕ
+mark_words survey class left below name t = words_text class left (bottom_of survey + below) (name ++ decimal t)
 
--- A mark, with its words behind it or before it, unless it lies behind all rows.
+-- A mark, with its words behind it, unless it lies behind all rows. Those of the least cycle stand before it, and a line lower, since its
+-- mark may be near that of the synchronization gap.
 abbrev pub mark_text : Survey → List ℕ → ℕ → List ℕ
 mark_text survey name t =
     if nat_le t survey.longest
-    then box_text Mark (mark_line survey t) ++ mark_words survey Small (place (scale_of survey) t + 40) name t
+    then box_text Mark (mark_line survey t) ++ mark_words survey Small (place (scale_of survey) t + 40) 150 name t
     else []
 
 abbrev pub least_text : Survey → ℕ → List ℕ
 least_text survey t =
     if nat_le t survey.longest
-    then box_text Mark (mark_line survey t) ++ mark_words survey Detail (place (scale_of survey) t - 30) (codes "least ") t
+    then box_text Mark (mark_line survey t) ++ mark_words survey Detail (place (scale_of survey) t - 30) 240 (codes "least ") t
     else []
 
 -- In aperiodic mode the synchronization gap is marked, the least that a cycle takes, and the most; or the transmit interval, where that
@@ -104,20 +105,28 @@ marks_text survey table (SmallGap terminal gap needed) = interval_mark survey ta
 marks_text survey table (NoSync terminal gap needed) = interval_mark survey table
 
 -- ---- the first breach
--- A line over its row, and a word beside it.
-abbrev pub breach_line : ℕ → ℕ → Area
-breach_line left row = record { left = left; top = top_of row - 30; width = 20; height = 200 }
+-- A line across its row in two parts, above and below the boxes of the row, and a word beside it.
+abbrev pub breach_part : ℕ → ℕ → Area
+breach_part left top = record { left = left; top = top; width = 20; height = 40 }
+
+abbrev pub part_above : ℕ → ℕ → Area
+part_above left row = breach_part left (top_of row - 30)
+
+abbrev pub part_below : ℕ → ℕ → Area
+part_below left row = breach_part left (top_of row + 130)
 
 -- Where the word has its middle: behind the line, or before it in the right half.
 abbrev pub beside : ℕ → ℕ
 beside left = if nat_lt left 8000 then left + 270 else left - 250
 
 abbrev pub breach_at : ℕ → ℕ → List ℕ
-breach_at left row = box_text Breach (breach_line left row) ++ words_text BreachWords (beside left) (top_of row + 105) (codes "breach")
+breach_at left row =
+    box_text Breach (part_above left row) ++ box_text Breach (part_below left row)
+    ++ words_text BreachWords (beside left) (top_of row + 105) (codes "breach")
 
--- The breach at this moment, in this row where it is drawn.
+-- The breach at this moment, in this row where it is drawn, on a whole pixel as the boxes are.
 abbrev pub breach_in_row : Scale → ℕ → Extent → List ℕ
-breach_in_row scale moment row = if is_drawn row.place then breach_at (place scale (moment - row.begin)) row.place else []
+breach_in_row scale moment row = if is_drawn row.place then breach_at (pixel scale row.begin moment) row.place else []
 
 abbrev pub breach_text : Scale → Option ℕ → Option Extent → List ℕ
 breach_text scale None marked = []

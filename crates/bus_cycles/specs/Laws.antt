@@ -1,5 +1,5 @@
 -- What follows of the definitions. The contracts of `laws` say that each of these holds.
-use Rattle.std.specs.Prelude.{◌≡◌, ◌↔◌, ℕ, ◌+◌, ◌-◌, ◌<◌, ◌≤◌, Bool, true, false, IsTrue, List, [], ◌∷◌, ◌++◌, length, slice_get, Some, ⊤}
+use Rattle.std.specs.Prelude.{◌≡◌, ◌↔◌, ℕ, ◌+◌, ◌-◌, ◌<◌, ◌≤◌, Bool, true, false, not, IsTrue, List, [], ◌∷◌, ◌++◌, length, slice_get, filter, Some, if◌then◌else◌, ⊤}
 use Rattle.std.specs.List.{AllByRecursion, count_by, flat_map, sum_by}
 use Rattle.bus_strings.specs.Members.{In}
 use Rattle.bus_strings.specs.Messages.{Entry}
@@ -14,9 +14,9 @@ use Rattle.bus_shapes.specs.declared.scale.Scale.{Scale}
 use Rattle.bus_shapes.specs.Scales.{IsScale}
 use Rattle.bus_shapes.specs.SendingLaws.{IsToldOf}
 use Rattle.bus_shapes.specs.Windows.{Window}
-use Rattle.bus_cycles.specs.CyclesTexts.{scale_of}
+use Rattle.bus_cycles.specs.CyclesTexts.{part_above, part_below, scale_of}
 use Rattle.bus_cycles.specs.Rows.{Extent, Row, cycle_of, extent_of, interval_of, rows, takes}
-use Rattle.bus_cycles.specs.RowTexts.{class_of, is_due, is_left_out, left_of, right_of, shade}
+use Rattle.bus_cycles.specs.RowTexts.{area_of, boxes, class_of, is_due, is_left_out, left_of, right_of, sent_text, shade, where_drawn}
 use Rattle.bus_cycles.specs.Sents.{shown}
 use Rattle.bus_cycles.specs.Surveys.{Survey, counts, is_drawn, survey_of}
 
@@ -72,6 +72,35 @@ RowsAscend =
 abbrev pub HatchedAreDrawnLast : Type 0
 HatchedAreDrawnLast =
     (garbled : Bool) (sent : Sent) → IsTrue (is_due garbled sent) → (class_of (shade sent) ≡ Garbled) ↔ (garbled ≡ true)
+
+-- Each transmission is due in exactly one of the two walks.
+abbrev pub EachIsDueOnce : Type 0
+EachIsDueOnce = (sent : Sent) → is_due true sent ≡ not (is_due false sent)
+
+-- The transmissions that aren't left out of a row that has these.
+abbrev pub kept : Scale → ℕ → List Sent → List Sent → List Sent
+kept scale begin earlier [] = []
+kept scale begin earlier (sent ∷ sents) =
+    if is_left_out scale begin earlier sent
+    then kept scale begin (earlier ++ sent ∷ []) sents
+    else sent ∷ kept scale begin (earlier ++ sent ∷ []) sents
+
+-- What is drawn of a transmission.
+abbrev pub drawing_of : Scale → ℕ → ℕ → Sent → List ℕ
+drawing_of scale row begin sent = where_drawn row (sent_text (area_of scale row begin sent) sent)
+
+-- A walk draws of a row exactly those that aren't left out and are due in it, one behind the other.
+abbrev pub KeptAreDrawn : Type 0
+KeptAreDrawn =
+    (scale : Scale) (garbled : Bool) (row begin : ℕ) (sents : List Sent)
+    → boxes scale garbled row begin [] sents ≡ flat_map (drawing_of scale row begin) (filter (is_due garbled) (kept scale begin [] sents))
+
+-- The two parts of the line of a breach in a row lie above and below the box of each transmission of the row.
+abbrev pub BreachHidesNone : Type 0
+BreachHidesNone =
+    (scale : Scale) (row begin left : ℕ) (sent : Sent)
+    → ((part_above left row).top + (part_above left row).height ≤ (area_of scale row begin sent).top)
+    × ((area_of scale row begin sent).top + (area_of scale row begin sent).height ≤ (part_below left row).top)
 
 -- The counts above the plot are those of the rows: how many transmissions they have, and how many of these are garbled.
 abbrev pub garbled_of : Row → ℕ

@@ -31,7 +31,7 @@ pub(crate) fn top_of(row: u64) -> u64
 }
 
 // The place of a moment behind another, on a whole pixel.
-fn pixel(scale: &Scale, begin: u64, t: u64) -> u64
+pub(crate) fn pixel(scale: &Scale, begin: u64, t: u64) -> u64
     requires { IsScale scale.now }
     ensures value { result ≡ definition.pixel scale.now begin t }
     ensures low { result < 2 ^ 21 }

@@ -1,10 +1,12 @@
 // The first breach in a picture.
 ghost use Rattle.std.specs.Prelude.{◌≡◌, ◌<◌, ◌≤◌};
 ghost use Rattle.bus_outer.specs.Texts.{Adds};
+ghost use Rattle.bus_shapes.specs.declared.class.Class.TheVariants.{Breach};
 ghost use Rattle.bus_shapes.specs.Scales.{IsScale};
+ghost use Rattle.bus_shapes.specs.Shapes.{box_text};
 ghost use Rattle.bus_cycles.specs.CyclesTexts as definition;
 
-use crate::boxes::top_of;
+use crate::boxes::{pixel, top_of};
 use crate::cycle::Extent;
 use crate::survey::MOST_ROWS;
 use bus_outer::{Sink, TextBuffer};
@@ -18,20 +20,30 @@ fn beside(left: u64) -> u64
     if left < 8000 { left + 270 } else { left - 250 }
 }
 
-// The line over its row, and the word beside it.
+// A part of the line.
+fn put_part<K: Sink>(text: &mut TextBuffer, sink: &mut K, left: u64, top: u64)
+    requires left { left < 2097152 }
+    requires top { top ≤ 71320 }
+    ensures { Adds K.held K.faults sink.old sink.new text.old text.new (box_text Breach (definition.breach_part left top)) }
+{
+    let area = Area {
+        left,
+        top,
+        width: 20,
+        height: 40,
+    };
+    put_box(text, sink, Class::Breach, area);
+}
+
+// The line across its row, above and below the boxes, and the word beside it.
 fn put_at<K: Sink>(text: &mut TextBuffer, sink: &mut K, left: u64, row: u64)
     requires left { left < 2097152 }
     requires row { row ≤ 500 }
     ensures { Adds K.held K.faults sink.old sink.new text.old text.new (definition.breach_at left row) }
 {
     let top = top_of(row);
-    let line = Area {
-        left,
-        top: top - 30,
-        width: 20,
-        height: 200,
-    };
-    put_box(text, sink, Class::Breach, line);
+    put_part(text, sink, left, top - 30);
+    put_part(text, sink, left, top + 130);
     put_words(
         text,
         sink,
@@ -48,7 +60,7 @@ fn put_in_row<K: Sink>(text: &mut TextBuffer, sink: &mut K, scale: &Scale, momen
     ensures { Adds K.held K.faults sink.old sink.new text.old text.new (definition.breach_in_row scale.now moment row) }
 {
     if row.place < MOST_ROWS {
-        let left = scale.place(moment.saturating_sub(row.begin));
+        let left = pixel(scale, row.begin, moment);
         put_at(text, sink, left, row.place);
     }
 }

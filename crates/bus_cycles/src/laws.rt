@@ -1,7 +1,7 @@
 //! Laws of the definitions, each the contract of a function that does nothing.
-ghost use Rattle.bus_cycles.specs.Laws.{BreachIsAtItsMoment, CountsAreOfRows, HatchedAreDrawnLast, HatchedAreGarbled};
-ghost use Rattle.bus_cycles.specs.Laws.{LeftOutAreCovered, RowsAreAPartition, RowsAreCycles, RowsAreIntervals, RowsAreNumbered};
-ghost use Rattle.bus_cycles.specs.Laws.{RowsAscend, TheLastRowIsMarked};
+ghost use Rattle.bus_cycles.specs.Laws.{BreachHidesNone, BreachIsAtItsMoment, CountsAreOfRows, EachIsDueOnce, HatchedAreDrawnLast};
+ghost use Rattle.bus_cycles.specs.Laws.{HatchedAreGarbled, KeptAreDrawn, LeftOutAreCovered, RowsAreAPartition, RowsAreCycles};
+ghost use Rattle.bus_cycles.specs.Laws.{RowsAreIntervals, RowsAreNumbered, RowsAscend, TheLastRowIsMarked};
 
 use bus_shapes::laws::places_keep_order;
 
@@ -18,6 +18,16 @@ pub fn hatched_are_garbled()
 /// Of the two walks over the rows the first draws no hatched box, and the second no plain one: no plain box lies over a hatched one.
 pub fn hatched_are_drawn_last()
     ensures { HatchedAreDrawnLast }
+{}
+
+/// Each transmission is due in exactly one of the two walks.
+pub fn each_is_due_once()
+    ensures { EachIsDueOnce }
+{}
+
+/// A walk draws of a row exactly those transmissions that aren't left out and are due in it, each once and in order.
+pub fn kept_are_drawn()
+    ensures { KeptAreDrawn }
 {}
 
 /// In periodic mode each transmission of a row begins in the interval that begins with the row.
@@ -55,6 +65,11 @@ pub fn left_out_are_covered()
 /// A first breach that is drawn stands at its moment, in a row that has begun by then, and in periodic mode in the row of its interval.
 pub fn breach_is_at_its_moment()
     ensures { BreachIsAtItsMoment }
+{}
+
+/// The line of a first breach hides no box of its row.
+pub fn breach_hides_none()
+    ensures { BreachHidesNone }
 {}
 
 /// Where rows take the moment of the first breach, one is marked, and none of them begins later.

@@ -110,19 +110,21 @@ fn mark_line(survey: &Survey, t: u64) -> Area
     }
 }
 
-// The words of a mark.
+// The words of a mark, this far below the rows.
 fn put_mark_words<K: Sink>(
     text: &mut TextBuffer,
     sink: &mut K,
     survey: &Survey,
     class: Class,
     left: u64,
+    below: u64,
     name: &[u8],
     t: u64,
 )
-    ensures { Adds K.held K.faults sink.old sink.new text.old text.new (definition.mark_words survey.now class left name.now t) }
+    requires { below ≤ 240 }
+    ensures { Adds K.held K.faults sink.old sink.new text.old text.new (definition.mark_words survey.now class left below name.now t) }
 {
-    begin_words(text, sink, class, left, bottom_of(survey) + 150);
+    begin_words(text, sink, class, left, bottom_of(survey) + below);
     text.put(sink, name);
     text.put_number(sink, t);
     end_words(text, sink);
@@ -136,11 +138,11 @@ fn put_mark<K: Sink>(text: &mut TextBuffer, sink: &mut K, survey: &Survey, name:
     if t <= survey.longest {
         put_box(text, sink, Class::Mark, mark_line(survey, t));
         let left = scale_of(survey).place(t) + 40;
-        put_mark_words(text, sink, survey, Class::Small, left, name, t);
+        put_mark_words(text, sink, survey, Class::Small, left, 150, name, t);
     }
 }
 
-// The mark of the least cycle, with its words before it.
+// The mark of the least cycle, with its words before it, a line lower.
 fn put_least<K: Sink>(text: &mut TextBuffer, sink: &mut K, survey: &Survey, t: u64)
     requires { IsScale (definition.scale_of survey.now) }
     ensures { Adds K.held K.faults sink.old sink.new text.old text.new (definition.least_text survey.now t) }
@@ -148,7 +150,7 @@ fn put_least<K: Sink>(text: &mut TextBuffer, sink: &mut K, survey: &Survey, t: u
     if t <= survey.longest {
         put_box(text, sink, Class::Mark, mark_line(survey, t));
         let left = scale_of(survey).place(t) - 30;
-        put_mark_words(text, sink, survey, Class::Detail, left, b"least ", t);
+        put_mark_words(text, sink, survey, Class::Detail, left, 240, b"least ", t);
     }
 }
 
