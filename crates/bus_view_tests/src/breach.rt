@@ -1,5 +1,5 @@
 //! Where the first breach is marked in a picture of cycles.
-use crate::calls::{TABLE, run_on};
+use crate::calls::{TABLE, contains, run_on};
 use bus_tool::Status;
 use std::test::Fail;
 
@@ -23,7 +23,8 @@ const LONG: &str =
 <text class=\"digits\" x=\"2930\" y=\"1295\">2</text>
 <text class=\"detail\" x=\"1440\" y=\"1295\">0</text>
 <text class=\"detail\" x=\"15500\" y=\"1295\">150</text>
-<rect class=\"breach\" x=\"14400\" y=\"1160\" width=\"20\" height=\"200\"/>
+<rect class=\"breach\" x=\"14400\" y=\"1160\" width=\"20\" height=\"40\"/>
+<rect class=\"breach\" x=\"14400\" y=\"1320\" width=\"20\" height=\"40\"/>
 <text class=\"breach-words\" x=\"14150\" y=\"1295\">breach</text>
 </svg>
 ";
@@ -49,7 +50,9 @@ const UNMARKED: &str = "<text class=\"detail\" x=\"1440\" y=\"1295\">0</text>
 #[test]
 fn a_picture_as_long_as_its_breach_needs(rt: HostRuntime) -> Result<(), Fail> {
     let ran = run_on(&rt, &["cycles", "T", "R"], TABLE, MISSED)?;
+    let title = "<title>ACCEPT aperiodic 1130 1170; BREACH 1170 1 Missing</title>\n";
     assert!(rt; ran.status == Status::Done);
+    assert!(rt; contains(ran.out.bytes(), title));
     assert!(rt; ran.out.bytes().ends_with(LONG.as_bytes()));
     Ok(())
 }

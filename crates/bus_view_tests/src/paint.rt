@@ -32,8 +32,9 @@ const ROWS: &str =
 <text class=\"detail\" x=\"15500\" y=\"1435\">1100</text>
 <rect class=\"garbled\" x=\"13050\" y=\"1346\" width=\"670\" height=\"48\"><title>T1 message 2: moments 2400 to 2460, 60 bit times, 1200.0 to 1230.0 microseconds, garbled</title></rect>
 <rect class=\"garbled\" x=\"13390\" y=\"1406\" width=\"440\" height=\"48\"><title>T2 message 2: moments 2430 to 2470, 40 bit times, 1215.0 to 1235.0 microseconds, garbled</title></rect>
-<rect class=\"breach\" x=\"1724\" y=\"1160\" width=\"20\" height=\"200\"/>
-<text class=\"breach-words\" x=\"1994\" y=\"1295\">breach</text>
+<rect class=\"breach\" x=\"1720\" y=\"1160\" width=\"20\" height=\"40\"/>
+<rect class=\"breach\" x=\"1720\" y=\"1320\" width=\"20\" height=\"40\"/>
+<text class=\"breach-words\" x=\"1990\" y=\"1295\">breach</text>
 </svg>
 ";
 
@@ -73,23 +74,6 @@ fn a_row_of_a_window_inside_a_cycle(rt: HostRuntime) -> Result<(), Fail> {
         "from the moment at which it begins: 1 of 1</text>\n",
         "<rect class=\"other\" x=\"1880\" y=\"1200\" width=\"520\" height=\"120\"><title>T2 message 1: moments 110 to 150, ",
         "<text class=\"detail\" x=\"1440\" y=\"1295\">80</text>\n<text class=\"detail\" x=\"15500\" y=\"1295\">70</text>\n",
-    ];
-    assert!(rt; shows(&ran, &parts));
-    Ok(())
-}
-
-/// The first terminal holds a second message, and may send it from moment 1170 on.
-const MISSING: &str =
-    "TRACE 1\nHORIZON 2500\nHOLD 1 2\nHOLD 2 1\nTX 20 1\nWS L0A111 D00001 D00010\nTX 110 2\nWS L0B210 D00FF1\nEND\n";
-
-// A row that ends before the start that is missing: the mark is at its end of the scale, and its word before it.
-#[test]
-fn a_start_that_is_missing_behind_the_last_row(rt: HostRuntime) -> Result<(), Fail> {
-    let ran = run_on(&rt, &["cycles", "T", "R"], TABLE, MISSING)?;
-    let parts = [
-        "<title>ACCEPT aperiodic 1130 1170; BREACH 1170 1 Missing</title>\n",
-        "<rect class=\"breach\" x=\"14400\" y=\"1160\" width=\"20\" height=\"200\"/>\n",
-        "<text class=\"breach-words\" x=\"14150\" y=\"1295\">breach</text>\n",
     ];
     assert!(rt; shows(&ran, &parts));
     Ok(())
