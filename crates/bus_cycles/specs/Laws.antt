@@ -1,5 +1,6 @@
 -- What follows of the definitions. The contracts of `laws` say that each of these holds.
-use Rattle.std.specs.Prelude.{◌≡◌, ◌↔◌, ℕ, ◌+◌, ◌-◌, ◌<◌, ◌≤◌, Bool, true, false, not, IsTrue, List, [], ◌∷◌, ◌++◌, length, slice_get, filter, Some, if◌then◌else◌, ⊤}
+use Rattle.std.specs.Prelude.{◌≡◌, ◌↔◌, ℕ, ◌+◌, ◌-◌, ◌<◌, ◌≤◌, Bool, true, false, not, IsTrue, List, [], ◌∷◌, ◌++◌, length}
+use Rattle.std.specs.Prelude.{slice_get, filter, Some, if◌then◌else◌, ⊤}
 use Rattle.std.specs.List.{AllByRecursion, count_by, flat_map, sum_by}
 use Rattle.bus_strings.specs.Members.{In}
 use Rattle.bus_strings.specs.Messages.{Entry}
@@ -152,7 +153,8 @@ BreachIsAtItsMoment =
     → (survey_with table window list moment).marked ≡ Some extent → IsTrue (is_drawn extent.place)
     → IsAtItsMoment table window list moment extent
 
--- Where rows take the moment of a breach, one is marked, and none of them begins later.
+-- Where rows take the moment of a breach that the window has, one is marked, and none of them begins later; it is drawn where it is one of
+-- the first.
 pub record IsMarkedBehind (table : Table) (window : Window) (list : List Entry) (moment : ℕ) (row : Row) : Type 0 where
   pub extent : Extent
   pub marked : (survey_with table window list moment).marked ≡ Some extent

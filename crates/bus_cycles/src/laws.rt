@@ -72,7 +72,7 @@ pub fn breach_hides_none()
     ensures { BreachHidesNone }
 {}
 
-/// Where rows take the moment of the first breach, one is marked, and none of them begins later.
+/// Where rows take the moment of the first breach, which the window has, one is marked, and none of them begins later.
 pub fn the_last_row_is_marked()
     ensures { TheLastRowIsMarked }
 {}

@@ -1,9 +1,7 @@
-// What stands around the rows of a picture: the axes, the marks, and the first breach.
-ghost use Rattle.std.specs.Prelude.{◌≡◌, ◌<◌, ◌≤◌, ◌++◌, decimal, ◌^◌};
+// What stands around the rows of a picture: the axes and the marks.
+ghost use Rattle.std.specs.Prelude.{◌≡◌, ◌<◌, ◌≤◌, ◌++◌, ◌^◌};
 ghost use Rattle.bus_outer.specs.Texts.{Adds};
-ghost use Rattle.bus_regime.specs.declared.table_verdict.TableVerdict.TheVariants.{};
 ghost use Rattle.bus_shapes.specs.Scales.{IsScale};
-ghost use Rattle.bus_shapes.specs.Shapes.{words_text};
 ghost use Rattle.bus_cycles.specs.CyclesTexts as definition;
 
 use crate::boxes::top_of;
@@ -16,7 +14,7 @@ use bus_shapes::{
 use bus_table::mode::Mode;
 use bus_table::table::Table;
 
-/// The moments behind the beginning of a row, as far as the longest that is drawn has some.
+/// The moments behind the beginning of a row, as far as the longest that is drawn has some, and as the breach needs some.
 pub(crate) fn scale_of(survey: &Survey) -> Scale
     ensures { result ≡ definition.scale_of survey.now }
 {

@@ -31,6 +31,7 @@ pub(crate) fn breach_in(window: &Window, answer: AuditAnswer) -> Option<u64>
     ensures value { result ≡ definition.breach_in window.now answer }
     ensures low { IfSome result (λ moment. moment ≤ 2 ^ 40) }
 {
+    // Its end is below the limit of a horizon, and so is the moment.
     let _to = window.to();
     match answer {
         AuditAnswer::Breach { moment, .. } if window.holds(moment) => Some(moment),

@@ -221,10 +221,6 @@ value_line_read id at p scene s rest h =
     ∙ ap (λ l. read_on id at (step id at p l) rest) (value_line_of (value s scene) (id_text s) g.spaceless)
 
 -- ---- the same identifier is that of the same signal
--- the first letter tells which signal it is
-letter_apart : (a b : ℕ) (xs ys : List ℕ) → eqb a b ≡ false → bytes_eq (a ∷ xs) (b ∷ ys) ≡ false
-letter_apart a b xs ys h = ap (λ t. t && bytes_eq xs ys) h
-
 -- which signal has an identifier
 abbrev signal_of : List ℕ → Signal
 signal_of [] = Carrier

@@ -45,7 +45,8 @@ BoxesHoldTheirs =
     → HoldsIts box
 
 -- ---- rows
--- All rows that are drawn after one of what is garbled lie below it. Boxes of the same row, timers and the breach may lie over a box.
+-- All rows that are drawn after one of what is garbled lie below it. Boxes of the same row, timers and the words
+-- at the breach may lie over a box.
 abbrev pub AreUncovered : List Row → Type 0
 AreUncovered [] = ⊤
 AreUncovered (row ∷ rows) =

@@ -24,7 +24,7 @@ fn data_count(string: &Wordstring) -> usize
     string.words().len()
 }
 
-// A number, and what it counts.
+// The number of the data words of a wordstring.
 fn put_count<K: Sink>(text: &mut TextBuffer, sink: &mut K, string: &Wordstring)
     ensures { Adds K.held K.faults sink.old sink.new text.old text.new (decimal (length string.now.words)) }
 {

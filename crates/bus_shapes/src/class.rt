@@ -35,7 +35,7 @@ pub enum Class {
     Noise,
     /// The line between two words.
     Edge,
-    /// The moments of garbled transmissions, through all lanes.
+    /// The moments of garbled transmissions, through all lanes, and the label word of a garbled wordstring.
     Overlap,
     /// A synchronization gap or a terminal gap.
     Gap,

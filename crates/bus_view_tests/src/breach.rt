@@ -61,6 +61,7 @@ fn a_picture_as_long_as_its_breach_needs(rt: HostRuntime) -> Result<(), Fail> {
 fn no_mark_where_its_interval_has_no_row(rt: HostRuntime) -> Result<(), Fail> {
     let ran = run_on(&rt, &["cycles", "T", "R"], TURNS, SKIPPED)?;
     assert!(rt; ran.status == Status::Done);
+    assert!(rt; contains(ran.out.bytes(), "; BREACH 1000 1 Missing</title>\n"));
     assert!(rt; ran.out.bytes().ends_with(UNMARKED.as_bytes()));
     Ok(())
 }

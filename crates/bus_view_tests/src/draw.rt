@@ -18,12 +18,7 @@ fn the_wires_of_a_trace(rt: HostRuntime) -> Result<(), Fail> {
 // How many bytes each dump and the save file have. That these are theirs is what the contract says.
 #[test]
 fn each_dump_of_a_trace(rt: HostRuntime) -> Result<(), Fail> {
-    for (command, length) in [
-        ("vcd", 832),
-        ("wires", 502),
-        ("timers", 1132),
-        ("gtkw", 405),
-    ] {
+    for (command, length) in [("vcd", 832), ("timers", 1132), ("gtkw", 405)] {
         let ran = run_on(&rt, &[command, "T", "R"], TABLE, TRACE)?;
         assert!(rt; ran.status == Status::Done);
         assert!(rt; ran.out.bytes().len() == length, "{command}");
@@ -37,23 +32,6 @@ const SHORT_GAPS: &str = "TABLE 1\nMODE aperiodic\nTI 1000\nSG 9\nSENDER 1 TG 8\
 /// It starts as soon as it may, twice, and a stranger sets back its terminal gap between.
 const TURNING: &str =
     "TRACE 1\nHORIZON 1010\nHOLD 1 2\nHOLD 7 1\nTX 8 1\nWS L0A111\nTX 40 7\nWS L07110\nTX 1008 1\nWS L0A111\nEND\n";
-
-#[test]
-fn timers_that_turn(rt: HostRuntime) -> Result<(), Fail> {
-    let ran = run_on(&rt, &["timers", "T", "R"], SHORT_GAPS, TURNING)?;
-    let parts = [
-        "$comment REFUSE short-cycle 37 1000 $end\n",
-        "\n#185\n1y1\n#200\n",
-        "\n#340\n1h1\n#5040\n",
-    ];
-    assert!(rt; shows(&ran, &parts));
-    assert!(rt;
-        ran.out
-            .bytes()
-            .ends_with(b"\n#5045\n0i1\n0y1\n0h1\n0r1\n#5050\n")
-    );
-    Ok(())
-}
 
 #[test]
 fn a_save_file_shows_the_timers_of_senders(rt: HostRuntime) -> Result<(), Fail> {

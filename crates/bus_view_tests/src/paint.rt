@@ -19,7 +19,7 @@ WS L0B210 D00FF1
 END
 ";
 
-// The end of the picture: a row of two transmissions, the words of one of two that collide, which are drawn behind them, and the first
+// The end of the picture: a row of two transmissions, the words of one of two that collide, which are drawn after them, and the first
 // start that is missing, in the first row.
 const ROWS: &str =
     "<rect class=\"wordstring\" x=\"12940\" y=\"1200\" width=\"670\" height=\"120\"><title>T1 message 1: moments 1020 to 1080, 60 bit times, 510.0 to 540.0 microseconds</title></rect>

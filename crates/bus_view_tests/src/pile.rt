@@ -18,7 +18,12 @@ fn pile(rt: &HostRuntime) -> Result<String, Fail> {
 }
 
 /// Whether a picture has both parts, and the first before the other.
-fn is_behind(rt: &HostRuntime, words: &[&str], first: &str, second: &str) -> Result<bool, Fail> {
+fn is_drawn_later(
+    rt: &HostRuntime,
+    words: &[&str],
+    first: &str,
+    second: &str,
+) -> Result<bool, Fail> {
     let trace = pile(rt)?;
     let ran = run_on(rt, words, TABLE, trace.as_str())?;
     let text = ran.out.bytes();
@@ -38,7 +43,7 @@ fn a_garbled_box_of_a_time_line(rt: HostRuntime) -> Result<(), Fail> {
         "<rect class=\"span\" x=\"1500\" y=\"1020\" width=\"54\" height=\"180\"><title>39 transmissions, moments 0 to 3920</title></rect>\n";
     let garbled =
         "<rect class=\"garbled\" x=\"1513\" y=\"1020\" width=\"10\" height=\"180\"><title>2 transmissions, moments 1000 to 1030, garbled</title></rect>\n";
-    assert!(rt; is_behind(&rt, &words, plain, garbled)?);
+    assert!(rt; is_drawn_later(&rt, &words, plain, garbled)?);
     Ok(())
 }
 
@@ -48,6 +53,6 @@ fn a_garbled_box_of_a_row(rt: HostRuntime) -> Result<(), Fail> {
     let plain = "<title>T1 message 40: moments 3900 to 3920, ";
     let garbled =
         "<title>T1 message 11: moments 1000 to 1020, 20 bit times, 500.0 to 510.0 microseconds, garbled</title>";
-    assert!(rt; is_behind(&rt, &words, plain, garbled)?);
+    assert!(rt; is_drawn_later(&rt, &words, plain, garbled)?);
     Ok(())
 }

@@ -40,8 +40,8 @@ fn changed(
     refused(alloc, &text)
 }
 
-/// Whether a W line is refused for its code with the pairs 00 in place of a digit, and for its parity with another bit there; the first digit
-/// is of the sync alone.
+/// Whether a W line is refused for its code with the pairs 00 in place of a digit, and for its parity with another bit there; the first
+/// digit is of the sync alone.
 fn is_held_to(alloc: Global, k: usize, line: &[u8], place: usize) -> Result<bool, Fail> {
     let Some(digit) = line.get(place) else {
         return Err(Fail::new("a short line"));
