@@ -15,7 +15,7 @@ use Rattle.bus_dump.specs.declared.dump.Dump.{Dump}
 use Rattle.bus_dump.specs.Laws.{ShowsNoOverlap}
 use Rattle.bus_dump.specs.Seen.{holds, seen_at}
 use Rattle.bus_dump.specs.Signals.{Bit, words}
-use Rattle.bus_dump.proofs.LawLemmas.{garbled_seen, held_seen}
+use Rattle.bus_dump.proofs.LawLemmas.{garbled_seen, held_seen, nothing}
 use Rattle.bus_dump.proofs.LiveLemmas.{absent, present, at_place, held_from, held_to}
 use Rattle.bus_dump.proofs.WordLemmas.{few_words, word_unknown}
 
@@ -94,10 +94,6 @@ none_garbled list k apart = elim (at_place list k) [
 none_along : (p : ℕ → Bool) (a n : ℕ) → ((k : ℕ) → p k ≡ false) → list_any p (range_with_len a n) ≡ false
 none_along p a zero h = refl
 none_along p a (suc n) h = ap (λ b. b || list_any p (range_with_len (a + 1) n)) (h a) ∙ none_along p (a + 1) n h
-
-nothing : (b : Bool) → (b && false) ≡ false
-nothing true = refl
-nothing false = refl
 
 clear_garbled : (list : List Entry) (t n : ℕ) → IsOrdered AreApart list
     → list_any (λ k. option_map_or (λ (x : Entry). holds t x && eqb x.terminal n && garbled list k) (slice_get list k) false) (range_with_len 0 (length list))

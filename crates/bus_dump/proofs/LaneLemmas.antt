@@ -81,7 +81,7 @@ none_of n q (s ∷ seen) h =
     none_first true b e = absurd (true≢false e)
     none_first false b e = (refl, e)
 
-found_none : {X : Type 0} (p : X → Bool) (xs : List X) → list_any p xs ≡ false → find p xs ≡ None
+pub found_none : {X : Type 0} (p : X → Bool) (xs : List X) → list_any p xs ≡ false → find p xs ≡ None
 found_none p [] h = refl
 found_none p (x ∷ xs) h = elim (cases_Bool (p x)) [
   | inl yes' ↦ absurd (true≢false (sym (ap (λ b. b || list_any p xs) yes') ∙ h))

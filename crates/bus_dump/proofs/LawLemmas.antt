@@ -60,7 +60,7 @@ any_places p [] = refl
 any_places p (x ∷ list) =
     ap (λ b. p x || b) (any_later (λ k. option_map_or p (slice_get (x ∷ list) k) false) 0 (length list) ∙ any_places p list)
 
-nothing : (b : Bool) → (b && false) ≡ false
+pub nothing : (b : Bool) → (b && false) ≡ false
 nothing true = refl
 nothing false = refl
 

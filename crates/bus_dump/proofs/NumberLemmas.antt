@@ -19,6 +19,7 @@ use Rattle.bus_dump.specs.OnBus.{Bit as StringBit, Shown, bit_at, label_value, s
 use Rattle.bus_dump.specs.Seen.{Seen, holds, number_of, seen_at, seen_entry, seen_of}
 use Rattle.bus_dump.specs.Signals.{Floating, Number, is_of, is_on, is_sync, label, message, shown_label, shown_word, word_value, words}
 use Rattle.bus_dump.proofs.FewLemmas.{ended_before}
+use Rattle.bus_dump.proofs.LaneLemmas.{found_none}
 use Rattle.bus_dump.proofs.LawLemmas.{any_places, pulse_seen, seen_any, shown_is_on}
 use Rattle.bus_dump.proofs.LiveLemmas.{absent, present, at_place, held_from, held_to, not_held, seen_none, seen_some}
 use Rattle.bus_dump.proofs.RangeLemmas.{given_along, given_in}
@@ -186,17 +187,10 @@ label_number list t n x bit single i own e =
     ap (λ o. option_map_or shown_label o Floating) found
     ∙ ap (λ o. option_map_or (λ (s : Shown). Number s.label) o Floating) shown
 
-none_found : {X : Type 0} (p : X → Bool) (xs : List X) → list_any p xs ≡ false → find p xs ≡ None
-none_found p [] h = refl
-none_found p (x ∷ xs) h = elim (cases_Bool (p x)) [
-  | inl yes' ↦ absurd (true≢false (sym (ap (λ b. b || list_any p xs) yes') ∙ h))
-  | inr no' ↦ ap (λ b. cond b (Some x) (find p xs)) no' ∙ none_found p xs (sym (ap (λ b. b || list_any p xs) no') ∙ h)
-]
-
 pub label_floating : (list : List Entry) (t n : ℕ) → list_any (λ (x : Entry). eqb x.terminal n && pulses t x) list ≡ false
     → label n (seen_at list t) ≡ Floating
 label_floating list t n h =
-    ap (λ o. option_map_or shown_label o Floating) (none_found (λ s. is_of n s && is_on s) (seen_at list t) (pulse_seen list t n ∙ h))
+    ap (λ o. option_map_or shown_label o Floating) (found_none (λ s. is_of n s && is_on s) (seen_at list t) (pulse_seen list t n ∙ h))
 
 -- ---- numbers
 pub message_number : (list : List Entry) (t n k : ℕ) (x : Entry) → doubled list ≡ None → slice_get list k ≡ Some x → x.terminal ≡ n
@@ -226,4 +220,4 @@ held_of list t n =
 pub message_floating : (list : List Entry) (t n : ℕ) → list_any (λ (x : Entry). eqb x.terminal n && holds t x) list ≡ false
     → message n (seen_at list t) ≡ Floating
 message_floating list t n h =
-    ap (λ o. option_map_or (λ (s : Seen). Number s.number) o Floating) (none_found (is_of n) (seen_at list t) (held_of list t n ∙ h))
+    ap (λ o. option_map_or (λ (s : Seen). Number s.number) o Floating) (found_none (is_of n) (seen_at list t) (held_of list t n ∙ h))

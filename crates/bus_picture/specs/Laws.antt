@@ -14,8 +14,8 @@ use Rattle.bus_shapes.specs.declared.scale.Scale.{Scale}
 use Rattle.bus_shapes.specs.declared.sent.Sent.{Sent}
 use Rattle.bus_shapes.specs.Sending.{sents}
 use Rattle.bus_shapes.specs.SendingLaws.{IsToldOf}
-use Rattle.bus_picture.specs.Boxes.{Box, boxes, members, pile_of}
-use Rattle.bus_picture.specs.Rows.{Row, box_class, shown, shows}
+use Rattle.bus_picture.specs.Boxes.{Box, Pile, boxes, members, pile_of}
+use Rattle.bus_picture.specs.Rows.{Row, box_area, box_class, shown, shows}
 use Rattle.bus_picture.specs.TimeLines.{bus_rows, counts_of, is_shown, row_height, rows_of, rows_of_lanes}
 
 -- ---- boxes
@@ -54,6 +54,13 @@ AreUncovered (row ∷ rows) =
 
 abbrev pub GarbledAreUncovered : Type 0
 GarbledAreUncovered = (bottom : ℕ) (lanes : List Lane) → AreUncovered (rows_of bottom lanes)
+
+-- A box lies within its row.
+abbrev pub BoxesLieInRows : Type 0
+BoxesLieInRows =
+    (scale : Scale) (row : Row) (pile : Pile)
+    → (row.top ≤ (box_area scale row pile).top)
+    × ((box_area scale row pile).top + (box_area scale row pile).height ≤ row.top + row_height)
 
 -- How many of these rows show a transmission.
 abbrev pub rows_with : Scale → List Row → Sent → ℕ

@@ -61,10 +61,13 @@ abbrev pub more_text : Option ℕ → Scale → Row → List Entry → Pile → 
 more_text None scale row list pile = column_text scale row pile
 more_text (Some terminal) scale row list pile = inner_text scale row list pile
 
--- A box.
+-- A box, and its area.
+abbrev pub box_area : Scale → Row → Pile → Area
+box_area scale row pile = stretch scale pile (row.top + 60) 180
+
 abbrev pub pile_text : Scale → Row → List Entry → Pile → List ℕ
 pile_text scale row list pile =
-    titled_text (box_class row) (stretch scale pile (row.top + 60) 180) (pile_words pile)
+    titled_text (box_class row) (box_area scale row pile) (pile_words pile)
     ++ more_text row.terminal scale row list pile
 
 -- A row: its boxes.

@@ -1,6 +1,6 @@
 //! Laws of the definitions, each the contract of a function that does nothing.
-ghost use Rattle.bus_picture.specs.Laws.{BoxesHoldRows, BoxesHoldTheirs, BusIsCounted, EachIsOnTheBus, GarbledAreUncovered};
-ghost use Rattle.bus_picture.specs.Laws.{EachIsInOneLane, HatchedAreGarbled, LanesAreCounted};
+ghost use Rattle.bus_picture.specs.Laws.{BoxesHoldRows, BoxesHoldTheirs, BoxesLieInRows, BusIsCounted, EachIsOnTheBus};
+ghost use Rattle.bus_picture.specs.Laws.{EachIsInOneLane, GarbledAreUncovered, HatchedAreGarbled, LanesAreCounted};
 
 use bus_dump::laws::lanes_are_terminals;
 use bus_shapes::laws::sents_are_told;
@@ -22,9 +22,11 @@ pub fn boxes_hold_theirs()
     ensures { BoxesHoldTheirs }
 {}
 
-/// All rows that are drawn after one of what is garbled lie below it. Boxes of the same row, timers and the breach may lie over a box.
+/// All rows that are drawn after one of what is garbled lie below it, and each box lies within its row. Boxes of the same row, timers and
+/// the words at the breach may lie over a box.
 pub fn garbled_are_uncovered()
-    ensures { GarbledAreUncovered }
+    ensures rows { GarbledAreUncovered }
+    ensures boxes { BoxesLieInRows }
 {}
 
 /// Each transmission that meets the window is shown by exactly one row of the bus, and by exactly one of all lanes: so it is in exactly one

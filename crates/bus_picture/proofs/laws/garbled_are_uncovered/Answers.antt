@@ -1,5 +1,9 @@
+use Rattle.std.proofs.Common.{arith}
 use Rattle.bus_picture.proofs.CountLemmas.{garbled_are_uncovered}
 use Rattle.bus_picture.proofs.laws.garbled_are_uncovered.Goals as goal
 
-pub returns : goal.returns
-returns c = garbled_are_uncovered
+pub returns-clause-rows : goal.returns-clause-rows
+returns-clause-rows c = garbled_are_uncovered
+
+pub returns-clause-boxes : goal.returns-clause-boxes
+returns-clause-boxes c = λ scale row pile. (omega arith, omega arith)
