@@ -4,23 +4,23 @@ use bus_tool::{Status, tool};
 use std::test::Fail;
 
 /// Two senders whose shortest cycle is longer than the transmit interval.
-pub const TWO_SENDERS: &str =
+pub(crate) const TWO_SENDERS: &str =
     "TABLE 1\nMODE aperiodic\nTI 1000\nSG 300\nSENDER 1 TG 20\nSEND 0A1 1 2 4\nSENDER 2 TG 30\nSEND 0B2 1 30 40\n";
 
 /// Two senders with offsets, whose gaps are 1290 and 30.
-pub const TWO_PERIODIC_SENDERS: &str =
+pub(crate) const TWO_PERIODIC_SENDERS: &str =
     "TABLE 1\nMODE periodic\nTI 2000\nSG 300\nSENDER 1 TG 20 AT 0\nSEND 0A1 1 2 2\nSENDER 2 TG 30 AT 90\nSEND 0B2 1 30 30\n";
 
 /// How a call ended, and what stands on `out` and on `err`.
 #[derive(Drop)]
-pub struct Ran {
+pub(crate) struct Ran {
     pub status: Status,
     pub out: MemorySink,
     pub err: MemorySink,
 }
 
 /// Words of their own.
-pub fn words_of(rt: &HostRuntime, words: &[&str]) -> Result<Vec<String>, Fail> {
+pub(crate) fn words_of(rt: &HostRuntime, words: &[&str]) -> Result<Vec<String>, Fail> {
     let mut all = Vec::new(rt.alloc());
     for word in words {
         all.push(String::from_str(rt.alloc(), *word)?)?;
@@ -29,17 +29,17 @@ pub fn words_of(rt: &HostRuntime, words: &[&str]) -> Result<Vec<String>, Fail> {
 }
 
 /// A sink with this room that never fails.
-pub fn sink_of(rt: &HostRuntime, room: usize) -> Result<MemorySink, Fail> {
+pub(crate) fn sink_of(rt: &HostRuntime, room: usize) -> Result<MemorySink, Fail> {
     Ok(MemorySink::new(rt.alloc(), room, 200, Vec::new(rt.alloc()))?)
 }
 
 /// A source of this text that never fails.
-pub fn source(rt: &HostRuntime, text: &[u8]) -> Result<MemorySource, Fail> {
+pub(crate) fn source(rt: &HostRuntime, text: &[u8]) -> Result<MemorySource, Fail> {
     Ok(MemorySource::new(text.to_vec(rt.alloc())?, 4096, Vec::new(rt.alloc())))
 }
 
 /// A call of these words over these.
-pub fn run_over(
+pub(crate) fn run_over(
     rt: &HostRuntime,
     words: &[&str],
     mut first: MemorySource,
@@ -60,7 +60,12 @@ pub fn run_over(
 }
 
 /// A call of these words over these texts.
-pub fn run_on(rt: &HostRuntime, words: &[&str], first: &str, second: &str) -> Result<Ran, Fail> {
+pub(crate) fn run_on(
+    rt: &HostRuntime,
+    words: &[&str],
+    first: &str,
+    second: &str,
+) -> Result<Ran, Fail> {
     let (first, second) = (
         source(rt, first.as_bytes())?,
         source(rt, second.as_bytes())?,
@@ -69,12 +74,12 @@ pub fn run_on(rt: &HostRuntime, words: &[&str], first: &str, second: &str) -> Re
 }
 
 /// Whether a command answers so, and writes this.
-pub fn writes(ran: &Ran, status: Status, out: &str) -> bool {
+pub(crate) fn writes(ran: &Ran, status: Status, out: &str) -> bool {
     ran.status == status && ran.out.bytes() == out.as_bytes() && ran.err.bytes().is_empty()
 }
 
 /// Whether a command is refused so, with nothing on `out`.
-pub fn is_refused(ran: &Ran, status: Status, line: &str) -> bool {
+pub(crate) fn is_refused(ran: &Ran, status: Status, line: &str) -> bool {
     ran.status == status && ran.out.bytes().is_empty() && ran.err.bytes() == line.as_bytes()
 }
 

@@ -5,16 +5,16 @@ use bus_tool::Status;
 use std::test::Fail;
 
 /// Two senders with a long synchronization gap and short messages, and a listener.
-pub const LONG_GAP: &str =
+pub(crate) const LONG_GAP: &str =
     "TABLE 1\nMODE aperiodic\nTI 1000\nSG 1000\nSENDER 1 TG 20\nSEND 0A1 1 2 2\nSENDER 2 TG 30\nSEND 0B2 1 0 2\nTAKE 0A1 * 1 4\nLISTENER 3\nTAKE 0B2 1 0 2\n";
 
-pub const ONE_EACH: &str = "MESSAGES 1\nMSG 1 : 0000 0001\nMSG 2 : 00FF\n";
+pub(crate) const ONE_EACH: &str = "MESSAGES 1\nMSG 1 : 0000 0001\nMSG 2 : 00FF\n";
 
-pub const ONE_EACH_SEEN: &str =
+pub(crate) const ONE_EACH_SEEN: &str =
     "TRACE 2\nHORIZON 150\nHOLD 1 1\nHOLD 2 1\nTX 20 1\nWS L0A111 D00001 D00010\nTE 80 -\nTX 110 2\nWS L0B210 D00FF1\nTE 150 -\nEND\n";
 
 /// The same trace in format 1, which is read and no longer written.
-pub const ONE_EACH_IN_FORMAT_1: &str =
+pub(crate) const ONE_EACH_IN_FORMAT_1: &str =
     "TRACE 1\nHORIZON 150\nHOLD 1 1\nHOLD 2 1\nTX 20 1\nWS L0A111 D00001 D00010\nTX 110 2\nWS L0B210 D00FF1\nEND\n";
 
 fn observe(rt: &HostRuntime, table: &str, messages: &str, horizon: &str) -> Result<Ran, Fail> {
@@ -22,7 +22,7 @@ fn observe(rt: &HostRuntime, table: &str, messages: &str, horizon: &str) -> Resu
 }
 
 /// The HORIZON line and the TX lines of a trace text.
-pub fn starts(rt: &HostRuntime, trace: &[u8]) -> Result<Vec<u8>, Fail> {
+pub(crate) fn starts(rt: &HostRuntime, trace: &[u8]) -> Result<Vec<u8>, Fail> {
     let mut starts = Vec::new(rt.alloc());
     for line in trace.split(|byte| *byte == b'\n') {
         if line.starts_with(b"TX") || line.starts_with(b"HORIZON") {
@@ -34,7 +34,7 @@ pub fn starts(rt: &HostRuntime, trace: &[u8]) -> Result<Vec<u8>, Fail> {
 }
 
 /// A round: so many words of terminal 1 and of terminal 2, all 0.
-pub fn push_round(text: &mut String, one: usize, two: usize) -> Result<(), Fail> {
+pub(crate) fn push_round(text: &mut String, one: usize, two: usize) -> Result<(), Fail> {
     for (item, words) in [("MSG 1 :", one), ("MSG 2 :", two)] {
         text.push_str(item)?;
         for _ in 0..words {
@@ -46,7 +46,11 @@ pub fn push_round(text: &mut String, one: usize, two: usize) -> Result<(), Fail>
 }
 
 /// Two rounds of so many words of each of two terminals.
-pub fn rounds(rt: &HostRuntime, one: (usize, usize), two: (usize, usize)) -> Result<String, Fail> {
+pub(crate) fn rounds(
+    rt: &HostRuntime,
+    one: (usize, usize),
+    two: (usize, usize),
+) -> Result<String, Fail> {
     let mut text = String::from_str(rt.alloc(), "MESSAGES 1\n")?;
     push_round(&mut text, one.0, one.1)?;
     push_round(&mut text, two.0, two.1)?;

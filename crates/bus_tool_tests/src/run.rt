@@ -10,7 +10,7 @@ fn run(rt: &HostRuntime, table: &str, messages: &str) -> Result<Ran, Fail> {
 }
 
 /// So many items of one sender without words.
-pub fn items(rt: &HostRuntime, number: usize) -> Result<String, Fail> {
+pub(crate) fn items(rt: &HostRuntime, number: usize) -> Result<String, Fail> {
     let mut messages = String::from_str(rt.alloc(), "MESSAGES 1\n")?;
     for _ in 0..number {
         messages.push_str("MSG 1 :\n")?;
@@ -40,7 +40,7 @@ fn a_schedule_of_many_rounds(rt: HostRuntime) -> Result<(), Fail> {
 }
 
 /// A table of one sender whose starts recur every longest interval, so that the schedule ends as late as it may.
-pub const LONGEST_INTERVAL: &str =
+pub(crate) const LONGEST_INTERVAL: &str =
     "TABLE 1\nMODE periodic\nTI 128000\nSG 300\nSENDER 1 TG 20 AT 0\nSEND 001 0 0 0\n";
 
 #[test]

@@ -5,7 +5,7 @@ use bus_tool::Status;
 use std::test::Fail;
 
 /// The wave of one message each of two senders.
-pub const ONE_EACH_WAVE: &str =
+pub(crate) const ONE_EACH_WAVE: &str =
     "WAVE 1\nQ 20\nW E15665595A\nW 1D55555556\nW 1D55555559\nQ 30\nW E156696559\nW 1D5556AAAA\nEND\n";
 
 #[test]

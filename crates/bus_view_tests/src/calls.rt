@@ -5,20 +5,20 @@ use bus_view::view;
 use std::test::Fail;
 
 /// Two senders and a listener.
-pub const TABLE: &str =
+pub(crate) const TABLE: &str =
     "TABLE 1\nMODE aperiodic\nTI 1000\nSG 1000\nSENDER 1 TG 20\nSEND 0A1 1 2 2\nSENDER 2 TG 30\nSEND 0B2 1 0 2\nTAKE 0A1 * 1 4\nLISTENER 3\n";
 
 /// A message of each.
-pub const TRACE: &str =
+pub(crate) const TRACE: &str =
     "TRACE 1\nHORIZON 150\nHOLD 1 1\nHOLD 2 1\nTX 20 1\nWS L0A111 D00001 D00010\nTX 110 2\nWS L0B210 D00FF1\nEND\n";
 
 /// Two senders of periodic mode, of which the second speaks first.
-pub const PERIODIC: &str =
+pub(crate) const PERIODIC: &str =
     "TABLE 1\nMODE periodic\nTI 2000\nSG 300\nSENDER 1 TG 20 AT 90\nSEND 0A1 1 2 2\nSENDER 2 TG 30 AT 0\nSEND 0B2 1 0 0\n";
 
 /// How a call ended, and what stands on `out` and on `err`.
 #[derive(Drop)]
-pub struct Ran {
+pub(crate) struct Ran {
     pub status: Status,
     pub out: MemorySink,
     pub err: MemorySink,
@@ -36,7 +36,12 @@ fn source(rt: &HostRuntime, text: &str) -> Result<MemorySource, Fail> {
 }
 
 /// A call of these words over these texts.
-pub fn run_on(rt: &HostRuntime, words: &[&str], first: &str, second: &str) -> Result<Ran, Fail> {
+pub(crate) fn run_on(
+    rt: &HostRuntime,
+    words: &[&str],
+    first: &str,
+    second: &str,
+) -> Result<Ran, Fail> {
     let mut all = Vec::new(rt.alloc());
     for word in words {
         all.push(String::from_str(rt.alloc(), *word)?)?;
@@ -55,7 +60,7 @@ pub fn run_on(rt: &HostRuntime, words: &[&str], first: &str, second: &str) -> Re
 }
 
 /// Where a text has a part first.
-pub fn position(text: &[u8], part: &str) -> Option<usize> {
+pub(crate) fn position(text: &[u8], part: &str) -> Option<usize> {
     for k in 0..text.len() {
         if text[k..].starts_with(part.as_bytes()) {
             return Some(k);
@@ -65,12 +70,12 @@ pub fn position(text: &[u8], part: &str) -> Option<usize> {
 }
 
 /// Whether a text has a part.
-pub fn contains(text: &[u8], part: &str) -> bool {
+pub(crate) fn contains(text: &[u8], part: &str) -> bool {
     position(text, part).is_some()
 }
 
 /// Whether a call wrote a text that has each of these parts, and nothing on `err`.
-pub fn shows(ran: &Ran, parts: &[&str]) -> bool {
+pub(crate) fn shows(ran: &Ran, parts: &[&str]) -> bool {
     for part in parts {
         if !contains(ran.out.bytes(), *part) {
             return false;
