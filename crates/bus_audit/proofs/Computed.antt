@@ -8,8 +8,8 @@ use Rattle.bus_strings.specs.Limits.{most_terminal}
 use Rattle.bus_table.specs.Tables.{Table}
 use Rattle.bus_table.specs.Facts.{SenderFacts}
 use Rattle.bus_table.specs.Valid.{is_valid}
-use Rattle.bus_table.specs.ValidLaws.{valid_facts}
-use Rattle.bus_table.specs.TurnLaws.{of_each}
+use Rattle.bus_table.proofs.ValidLaws.{valid_facts}
+use Rattle.bus_table.proofs.TurnLaws.{of_each}
 use Rattle.bus_trace.specs.Traces.{Recording, IsTrace, IsBelow}
 use Rattle.bus_audit.specs.declared.answer.BreachKind.{BreachKind}
 use Rattle.bus_audit.specs.declared.answer.AuditAnswer.{AuditAnswer}

@@ -3,7 +3,7 @@ use Rattle.std.proofs.Common.{◌≡◌, ℕ, ◌<◌, true, false, ◌&&◌, eq
 use Rattle.std.proofs.lemmas.Bool.{cases_Bool, and_parts, eq-eqb, eqb-true}
 use Rattle.bus_strings.specs.Messages.{Entry}
 use Rattle.bus_medium.specs.Past.{own}
-use Rattle.bus_medium.specs.PastLaws.{not_own_test}
+use Rattle.bus_medium.proofs.PastLaws.{not_own_test}
 use Rattle.bus_audit.proofs.Lists.{filter_none}
 
 -- the test of `entry_at`

@@ -11,19 +11,19 @@ use Rattle.bus_timers.specs.MayStartTest.{TestDecides}
 use Rattle.bus_timers.specs.Timings.{IsSound}
 use Rattle.bus_strings.specs.Members.{In}
 use Rattle.bus_strings.specs.Messages.{Entry, Message, bits}
-use Rattle.bus_strings.specs.MessageLaws.{bits_some}
+use Rattle.bus_strings.proofs.MessageLaws.{bits_some}
 use Rattle.bus_strings.specs.Transmissions.{end_of, IsAscending, Precedes}
 use Rattle.bus_table.specs.Tables.{Sender, Table}
 use Rattle.bus_table.specs.Fits.{fits, sender_of}
 use Rattle.bus_table.specs.Facts.{SenderFacts, TableFacts}
 use Rattle.bus_table.specs.Valid.{is_valid}
-use Rattle.bus_table.specs.ValidLaws.{valid_facts}
-use Rattle.bus_table.specs.TurnLaws.{of_each, numbers_differ}
+use Rattle.bus_table.proofs.ValidLaws.{valid_facts}
+use Rattle.bus_table.proofs.TurnLaws.{of_each, numbers_differ}
 use Rattle.bus_trace.specs.Traces.{Recording, IsTrace, IsBelow}
 use Rattle.bus_medium.specs.Past.{own}
 use Rattle.bus_medium.specs.Lawful.{IsBefore}
 use Rattle.bus_medium.specs.Timings.{quiet_of, timing_of}
-use Rattle.bus_medium.specs.StationLaws.{timings_are_sound}
+use Rattle.bus_medium.proofs.StationLaws.{timings_are_sound}
 use Rattle.bus_audit.specs.declared.answer.BreachKind.{BreachKind}
 use Rattle.bus_audit.specs.declared.answer.BreachKind.TheVariants.{Stranger, Missing}
 use Rattle.bus_audit.specs.declared.watch.Watch.{Watch}
@@ -31,12 +31,12 @@ use Rattle.bus_audit.specs.declared.clock.Clock.{Clock}
 use Rattle.bus_audit.specs.Breaches.{held, flaw, kind_at, IsFirstBreach}
 use Rattle.bus_audit.specs.Watches.{ready, pair, settled, begun, passed, IsLow, AreLow, NoneBefore, Misses}
 use Rattle.bus_audit.specs.Standing.{NotBefore, NoEntries, Keeps, Tells, At, Told, Stands, Group, Near, Arrived, AreFar, Judged, Closed, Behind, JudgedTo}
-use Rattle.bus_strings.specs.MemberLaws.{at_in, in_at}
-use Rattle.bus_medium.specs.PastLaws.{same_bools}
+use Rattle.bus_strings.proofs.MemberLaws.{at_in, in_at}
+use Rattle.bus_medium.proofs.PastLaws.{same_bools}
 use Rattle.bus_audit.proofs.Lists.{get_within, get_set_same, get_set_other, same_some}
-use Rattle.bus_medium.specs.AscendingLaws.{behind_in}
+use Rattle.bus_medium.proofs.AscendingLaws.{behind_in}
 use Rattle.bus_medium.specs.BusyLaws.{IsBusy}
-use Rattle.bus_medium.specs.BusyLaws.{entry_is_busy}
+use Rattle.bus_medium.proofs.BusyLaws.{entry_is_busy}
 use Rattle.bus_audit.proofs.Pairs.{from_sender_of, left_test, may_test, from_may_test, entry_stranger, entry_flaw}
 use Rattle.bus_audit.proofs.Telling.{keeps_settled}
 use Rattle.bus_audit.proofs.Silence.{not_both, Seated, silence_breach}

@@ -11,3 +11,4 @@ pub mod ObservedLemmas
 pub mod StatedLemmas
 pub mod Once
 pub mod Computed
+pub mod Observed

@@ -8,7 +8,7 @@ use Rattle.std.proofs.lemmas.List.{length-take, length-replicate}
 use Rattle.std.proofs.lemmas.Option.{slice_get-map}
 use Rattle.bus_timers.specs.MayStartTest.{TestDecides}
 use Rattle.bus_strings.specs.Members.{In}
-use Rattle.bus_strings.specs.MemberLaws.{in_map, from_map}
+use Rattle.bus_strings.proofs.MemberLaws.{in_map, from_map}
 use Rattle.bus_strings.specs.Messages.{Entry, Message}
 use Rattle.bus_strings.specs.Transmissions.{IsAscending, Precedes}
 use Rattle.bus_table.specs.declared.mode.Mode.{Mode}
@@ -24,8 +24,8 @@ use Rattle.bus_audit.specs.declared.answer.BreachKind.TheVariants.{Stranger, Mis
 use Rattle.bus_audit.specs.Breaches.{held, entry_at, has_left, may, flaw, kind_at, HasNoBreach}
 use Rattle.bus_audit.specs.Meaning.{messages_of, filled, hand_of, hands_of, IsFitting, IsRight, NoBreachIsRight}
 use Rattle.bus_audit.proofs.Lists.{filter_none, cases_option}
-use Rattle.bus_medium.specs.PastLaws.{own_test, not_own_test}
-use Rattle.bus_medium.specs.AscendingLaws.{behind_in}
+use Rattle.bus_medium.proofs.PastLaws.{own_test, not_own_test}
+use Rattle.bus_medium.proofs.AscendingLaws.{behind_in}
 use Rattle.bus_audit.proofs.Pairs.{left_test, from_left_test, may_test, from_may_test, EntryAt, from_entry_at, SenderAt, from_sender_of, kind_is, flaw_is, lack_is, lack_none, entry_is_at}
 use Rattle.bus_audit.proofs.Silence.{sender_is_of}
 use Rattle.bus_audit.proofs.Going.{seated, below_in}

@@ -6,7 +6,7 @@ use Rattle.std.proofs.lemmas.Bool.{and_parts}
 use Rattle.bus_timers.specs.MayStart.{MayStart}
 use Rattle.bus_timers.specs.MayStartTest.{TestDecides}
 use Rattle.bus_strings.specs.Members.{In}
-use Rattle.bus_strings.specs.MemberLaws.{at_in}
+use Rattle.bus_strings.proofs.MemberLaws.{at_in}
 use Rattle.bus_strings.specs.Messages.{Entry, Message}
 use Rattle.bus_table.specs.Tables.{Sender, Table, Hand}
 use Rattle.bus_table.specs.Fits.{fits, sender_of}
@@ -14,7 +14,7 @@ use Rattle.bus_trace.specs.Traces.{Recording}
 use Rattle.bus_medium.specs.Past.{past, own, last_place}
 use Rattle.bus_medium.specs.Lawful.{Station, IsDue, IsNext}
 use Rattle.bus_medium.specs.Timings.{quiet_of, stations_of}
-use Rattle.bus_medium.specs.StationLaws.{IsStationOf, HasSender, HasStation, stations_are_of_senders, senders_have_stations}
+use Rattle.bus_medium.proofs.StationLaws.{IsStationOf, HasSender, HasStation, stations_are_of_senders, senders_have_stations}
 use Rattle.bus_audit.specs.Breaches.{held, entry_at, has_left, may}
 use Rattle.bus_audit.specs.Meaning.{NoBreachIsRight}
 use Rattle.bus_audit.specs.Observed.{StatesHands, ObservedIsRight, ObservedIsClean}

@@ -8,7 +8,7 @@ use Rattle.std.proofs.lemmas.Option.{slice_get_within, slice_get-map}
 use Rattle.bus_timers.specs.MayStartTest.{TestDecides}
 use Rattle.bus_strings.specs.Members.{In}
 use Rattle.bus_strings.specs.Messages.{Entry, bits}
-use Rattle.bus_strings.specs.MessageLaws.{bits_some}
+use Rattle.bus_strings.proofs.MessageLaws.{bits_some}
 use Rattle.bus_strings.specs.Transmissions.{end_of, IsAscending}
 use Rattle.bus_table.specs.Tables.{Sender, Table}
 use Rattle.bus_table.specs.Turns.{Differ}
@@ -18,10 +18,10 @@ use Rattle.bus_audit.specs.declared.watch.Watch.{Watch}
 use Rattle.bus_audit.specs.Breaches.{kind_at, IsCleanTo}
 use Rattle.bus_audit.specs.Watches.{ready, ready_moment, pair, turn, begun, passed, NoneBefore}
 use Rattle.bus_audit.specs.Standing.{NotBefore, NoEntries, Keeps, Tells, At, Told, Stands, Near, Arrived}
-use Rattle.bus_strings.specs.MemberLaws.{at_in}
+use Rattle.bus_strings.proofs.MemberLaws.{at_in}
 use Rattle.bus_audit.proofs.Lists.{get_within, get_set_same, get_set_other, same_some}
 use Rattle.bus_medium.specs.PastLaws.{NoneOf}
-use Rattle.bus_medium.specs.PastLaws.{own_later, no_carrier, one_at}
+use Rattle.bus_medium.proofs.PastLaws.{own_later, no_carrier, one_at}
 use Rattle.bus_medium.specs.BusyLaws.{IsBusy}
 use Rattle.bus_audit.proofs.Telling.{keeps_tells, keeps_until, keeps_cut, keeps_busy, busy_tells, keeps_begun, passed_gap}
 use Rattle.bus_audit.proofs.Silence.{cases_before, Seated, silence_clean}

@@ -3,7 +3,7 @@ use Rattle.std.proofs.Common.{◌≡◌, ℕ, zero, suc, ◌-◌, Bool, true, eq
 use Rattle.std.specs.Prelude.{IsTrue}
 use Rattle.std.specs.List.{list_all}
 use Rattle.bus_strings.specs.Members.{In}
-use Rattle.bus_strings.specs.MemberLaws.{in_append_cases, from_map, from_filter}
+use Rattle.bus_strings.proofs.MemberLaws.{in_append_cases, from_map, from_filter}
 use Rattle.bus_strings.specs.Messages.{Entry, Message}
 use Rattle.bus_table.specs.declared.mode.Mode.{Mode}
 use Rattle.bus_table.specs.Tables.{Sender, Table, Hand}
@@ -12,8 +12,8 @@ use Rattle.bus_table.specs.Filling.{filling_message}
 use Rattle.bus_table.specs.Fits.{fits, sender_of}
 use Rattle.bus_table.specs.Hands.{are_hands}
 use Rattle.bus_table.specs.Ranges.{is_sender}
-use Rattle.bus_table.specs.ValidLaws.{valid_facts}
-use Rattle.bus_table.specs.TurnLaws.{of_each}
+use Rattle.bus_table.proofs.ValidLaws.{valid_facts}
+use Rattle.bus_table.proofs.TurnLaws.{of_each}
 use Rattle.bus_trace.specs.Traces.{Recording}
 use Rattle.bus_audit.specs.Breaches.{held}
 use Rattle.bus_audit.specs.Meaning.{messages_of, filled, hand_of, hands_of, IsFitting, IsRight, NoBreachIsRight}

@@ -5,7 +5,7 @@ use Rattle.std.proofs.lemmas.List.{length_push}
 use Rattle.bus_timers.specs.declared.timing.Timing.{Timing}
 use Rattle.bus_timers.specs.Timings.{IsSound, due_place}
 use Rattle.bus_timers.specs.GapPlace.{GapFrom}
-use Rattle.bus_timers.specs.GapStepLaws.{gap_quiet, gap_ready, gap_settled, gap_started}
+use Rattle.bus_timers.proofs.GapStepLaws.{gap_quiet, gap_ready, gap_settled, gap_started}
 use Rattle.bus_strings.specs.Members.{In}
 use Rattle.bus_strings.specs.Messages.{Entry}
 use Rattle.bus_strings.specs.Transmissions.{carrier, IsAscending}
@@ -18,10 +18,10 @@ use Rattle.bus_audit.specs.declared.watch.Watch.{Watch}
 use Rattle.bus_audit.specs.Watches.{settled, begun, passed}
 use Rattle.bus_audit.specs.Standing.{Keeps, Tells}
 use Rattle.bus_medium.specs.PastLaws.{NoneOf}
-use Rattle.bus_medium.specs.PastLaws.{length_past, own_later, own_more, last_push}
+use Rattle.bus_medium.proofs.PastLaws.{length_past, own_later, own_more, last_push}
 use Rattle.bus_audit.proofs.Entries.{own_none}
 use Rattle.bus_medium.specs.BusyLaws.{IsBusy}
-use Rattle.bus_medium.specs.BusyLaws.{busy_elapsed, busy_waiting, busy_nobody}
+use Rattle.bus_medium.proofs.BusyLaws.{busy_elapsed, busy_waiting, busy_nobody}
 
 -- what it keeps it tells
 pub keeps_tells : (table : Table) (trace : Recording) (s : Sender) (w : Watch) (u : ℕ) → Keeps table trace s w u u → Tells table trace s w u

@@ -2,7 +2,7 @@
 use Rattle.std.proofs.Common.{◌≡◌, ℕ, ◌-◌, ◌*◌, ◌/◌, ◌<◌, ◌≤◌, Bool, true, false, ◌&&◌, ◌||◌, eqb, leb, List, [], ◌∷◌, ◌++◌, inl, inr, arith, sym, refl, ap, subst, ◌∙◌, append_assoc}
 use Rattle.std.specs.List.{AllByRecursion, flat_map}
 use Rattle.std.proofs.lemmas.Bool.{and_parts, eqb-true, leb-true, leb-false, lt-leb, true≢false}
-use Rattle.bus_strings.specs.MemberLaws.{in_append_right, of_each}
+use Rattle.bus_strings.proofs.MemberLaws.{in_append_right, of_each}
 use Rattle.bus_strings.specs.Members.{In}
 use Rattle.bus_shapes.specs.Laws.{PlacesRise}
 use Rattle.bus_shapes.specs.declared.scale.Scale.{Scale}

@@ -7,10 +7,10 @@ use Rattle.std.proofs.lemmas.List.Concat.{length-flat_map}
 use Rattle.std.proofs.lemmas.List.{length-append}
 use Rattle.std.proofs.lemmas.List.Elements.{filter-append}
 use Rattle.std.proofs.lemmas.List.Sums.{length-filter, sum_by-cons}
-use Rattle.bus_strings.specs.ListLaws.{all_push}
-use Rattle.bus_strings.specs.MemberLaws.{of_each}
+use Rattle.bus_strings.proofs.ListLaws.{all_push}
+use Rattle.bus_strings.proofs.MemberLaws.{of_each}
 use Rattle.bus_table.specs.declared.mode.Mode.TheVariants.{Aperiodic}
-use Rattle.bus_table.specs.ValidLaws.{valid_facts}
+use Rattle.bus_table.proofs.ValidLaws.{valid_facts}
 use Rattle.bus_shapes.specs.declared.sent.Sent.{Sent}
 use Rattle.bus_cycles.specs.Laws.{CountsAreOfRows, IsCycle, RowsAreCycles, RowsAreNumbered, garbled_of}
 use Rattle.bus_cycles.specs.Rows.{Cycle, Row, cycle_of, is_new, is_new_in, row_at, rows, rows_from, rows_of, with_sent}

@@ -4,12 +4,12 @@ use Rattle.std.specs.Prelude.{◌==◌, nat_lt, IfSome}
 use Rattle.std.specs.List.{filter, sum_by}
 use Rattle.std.proofs.lemmas.Bool.{and_parts, eqb-true, eq-eqb, lt-ltb, ltb-true}
 use Rattle.bus_strings.specs.Members.{In}
-use Rattle.bus_strings.specs.MemberLaws.{from_filter}
+use Rattle.bus_strings.proofs.MemberLaws.{from_filter}
 use Rattle.bus_strings.specs.Messages.{Message}
 use Rattle.bus_table.specs.Lengths.{shortest}
 use Rattle.bus_table.specs.Tables.{Sender, Table, Hand}
 use Rattle.bus_table.specs.Turns.{turn_order}
-use Rattle.bus_regime.specs.VerdictLaws.{accepted_cycle}
+use Rattle.bus_regime.proofs.VerdictLaws.{accepted_cycle}
 use Rattle.bus_schedule.specs.Even.{messages_of, rounds}
 use Rattle.bus_schedule.specs.Laws.{EvenRoundsAreClosed}
 use Rattle.bus_schedule.specs.Live.{live, live_rounds, shortest_cycle, AreLong}

@@ -5,16 +5,16 @@ use Rattle.std.specs.List.{list_all}
 use Rattle.std.proofs.lemmas.Bool.{and_parts, cases_lt, eqb-true, lt-ltb}
 use Rattle.std.proofs.lemmas.Option.{slice_get_within, slice_get_read, get_or_from_slice_get}
 use Rattle.bus_strings.specs.Members.{In}
-use Rattle.bus_strings.specs.MemberLaws.{in_at, in_filter}
+use Rattle.bus_strings.proofs.MemberLaws.{in_at, in_filter}
 use Rattle.bus_table.specs.Fits.{fits}
 use Rattle.bus_table.specs.Hands.{are_hands}
 use Rattle.bus_table.specs.Tables.{Sender, Table, Hand}
 use Rattle.bus_table.specs.Turns.{Differ, turn_key, turn_order}
-use Rattle.bus_table.specs.TurnLaws.{in_sort, numbers_differ}
+use Rattle.bus_table.proofs.TurnLaws.{in_sort, numbers_differ}
 use Rattle.bus_table.specs.Valid.{is_valid}
-use Rattle.bus_table.specs.ValidLaws.{valid_facts}
+use Rattle.bus_table.proofs.ValidLaws.{valid_facts}
 use Rattle.bus_schedule.specs.Even.{messages_of, rounds, are_even}
-use Rattle.bus_schedule.specs.HandLaws.{HandAt, hand_at, hand_here, hand_of_other}
+use Rattle.bus_schedule.proofs.HandLaws.{HandAt, hand_at, hand_here, hand_of_other}
 use Rattle.bus_schedule.specs.Live.{live}
 use Rattle.bus_schedule.specs.Uneven.{count_of}
 use Rattle.bus_dropout.specs.DropOut.{most_messages}

@@ -7,7 +7,7 @@ use Rattle.std.proofs.lemmas.List.Sums.{sum_by-cons}
 use Rattle.std.proofs.lemmas.Option.{slice_get-get_or}
 use Rattle.bus_strings.specs.Marking.{greatest_end}
 use Rattle.bus_strings.specs.Members.{In}
-use Rattle.bus_strings.specs.MemberLaws.{from_filter}
+use Rattle.bus_strings.proofs.MemberLaws.{from_filter}
 use Rattle.bus_strings.specs.Messages.{Message, Entry, bits}
 use Rattle.bus_strings.specs.Transmissions.{end_of}
 use Rattle.bus_table.specs.Hands.{are_hands}
@@ -15,7 +15,7 @@ use Rattle.bus_table.specs.Tables.{Sender, Table, Hand}
 use Rattle.bus_table.specs.Turns.{turn_order}
 use Rattle.bus_table.specs.Valid.{is_valid}
 use Rattle.bus_medium.specs.LawfulLaws.{OneLawfulList}
-use Rattle.bus_medium.specs.StationLaws.{stations_have_own_numbers}
+use Rattle.bus_medium.proofs.StationLaws.{stations_have_own_numbers}
 use Rattle.bus_medium.specs.Timings.{quiet_of, stations_of}
 use Rattle.bus_schedule.specs.Closed.{sends, turns, turns_end, origin}
 use Rattle.bus_schedule.specs.Even.{messages_of}

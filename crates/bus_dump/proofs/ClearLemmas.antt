@@ -7,7 +7,7 @@ use Rattle.std.specs.Option.{option_map_or}
 use Rattle.std.proofs.lemmas.Bool.{cases_Bool, true≢false, lt-ltb, le-ltb}
 use Rattle.std.proofs.lemmas.List.Sums.{length-filter}
 use Rattle.bus_strings.specs.Members.{In}
-use Rattle.bus_strings.specs.MemberLaws.{of_each, at_in, in_append_cases, none_any}
+use Rattle.bus_strings.proofs.MemberLaws.{of_each, at_in, in_append_cases, none_any}
 use Rattle.bus_strings.specs.Messages.{Entry}
 use Rattle.bus_strings.specs.Transmissions.{IsOrdered, end_of, garbled, overlaps}
 use Rattle.bus_table.specs.Tables.{Table}

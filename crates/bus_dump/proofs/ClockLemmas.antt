@@ -7,9 +7,9 @@ use Rattle.bus_timers.specs.Timings.{IsSound, due_place}
 use Rattle.bus_timers.specs.MayStart.{IsSync, MayStart}
 use Rattle.bus_timers.specs.MayStartTest.{is_quiet, may_start, TestDecides}
 use Rattle.bus_timers.specs.GapPlace.{GapFrom}
-use Rattle.bus_timers.specs.GapStepLaws.{gap_ready, gap_started}
-use Rattle.bus_timers.specs.GapStretchLaws.{gap_quiets, gap_carriers_elapsed, gap_carriers_waiting}
-use Rattle.bus_timers.specs.TimingLaws.{sound_sg, sound_tg}
+use Rattle.bus_timers.proofs.GapStepLaws.{gap_ready, gap_started}
+use Rattle.bus_timers.proofs.GapStretchLaws.{gap_quiets, gap_carriers_elapsed, gap_carriers_waiting}
+use Rattle.bus_timers.proofs.TimingLaws.{sound_sg, sound_tg}
 use Rattle.bus_dump.specs.declared.clock.Clock.{Clock}
 use Rattle.bus_dump.specs.Timers.{Elapsed, elapsed_of, has_interval, has_synchronization, has_gap}
 use Rattle.bus_dump.specs.Clocks.{Keeps, tells_at, passed, last_behind, next_turn, gap_behind, gap_from, later_or}

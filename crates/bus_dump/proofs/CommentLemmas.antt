@@ -3,7 +3,7 @@ use Rattle.std.proofs.Common.{ℕ, suc, ◌^◌, ◌<◌, List, [], ◌∷◌, �
 use Rattle.std.specs.Prelude.{ℤ, pos, negsuc, decimal}
 use lib.Signed.{mag}
 use Rattle.std.specs.Fmt.{signed_decimal}
-use Rattle.bus_text.specs.NumberLaws.{decimal_field}
+use Rattle.bus_text.proofs.NumberLaws.{decimal_field}
 use Rattle.bus_dump.specs.Laws.{HoldsNoFeed}
 use Rattle.bus_dump.proofs.ReadLemmas.{feedless_join, field_feedless}
 

@@ -8,7 +8,7 @@ use Rattle.std.proofs.lemmas.Bool.{true≢false, cases_lt, lt-ltb, eq-eqb, eqb-t
 use Rattle.std.proofs.lemmas.Map.Steps.{length-le_from_distinct_below}
 use Rattle.std.proofs.lemmas.Option.{slice_get_within}
 use Rattle.bus_strings.specs.Members.{In}
-use Rattle.bus_strings.specs.MemberLaws.{of_each, at_in, any_in}
+use Rattle.bus_strings.proofs.MemberLaws.{of_each, at_in, any_in}
 use Rattle.bus_strings.specs.Messages.{Entry}
 use Rattle.bus_strings.specs.Transmissions.{end_of, IsTransmission}
 use Rattle.bus_dump.specs.Doubled.{doubled, is_doubled, runs_into}

@@ -10,7 +10,7 @@ use Rattle.std.proofs.lemmas.List.Elements.{filter-append}
 use Rattle.std.proofs.lemmas.List.Sums.{length-filter}
 use Rattle.std.proofs.lemmas.Option.{slice_get_within}
 use Rattle.bus_strings.specs.Members.{In}
-use Rattle.bus_strings.specs.MemberLaws.{of_each, at_in, in_append_cases, in_append_right, any_in}
+use Rattle.bus_strings.proofs.MemberLaws.{of_each, at_in, in_append_cases, in_append_right, any_in}
 use Rattle.bus_strings.specs.Messages.{Entry}
 use Rattle.bus_strings.specs.OverlapLaws.{OverlapsMeet}
 use Rattle.bus_strings.specs.Transmissions.{end_of, garbled, overlaps}

@@ -7,15 +7,15 @@ use Rattle.std.proofs.lemmas.Bool.{and_parts, cases_Bool, cases_eq, eq-eqb, eqb-
 use Rattle.std.proofs.lemmas.List.{length-append}
 use Rattle.std.proofs.lemmas.List.Elements.{filter-append}
 use Rattle.std.proofs.lemmas.List.Sums.{length-filter}
-use Rattle.bus_strings.specs.MemberLaws.{any_in, from_filter, from_map, in_append_cases, none_any}
+use Rattle.bus_strings.proofs.MemberLaws.{any_in, from_filter, from_map, in_append_cases, none_any}
 use Rattle.bus_strings.specs.Members.{In}
 use Rattle.bus_strings.specs.Messages.{Entry}
 use Rattle.bus_table.specs.Facts.{TableFacts}
 use Rattle.bus_table.specs.Tables.{Sender, Table}
-use Rattle.bus_table.specs.TurnLaws.{from_sort, numbers_differ}
+use Rattle.bus_table.proofs.TurnLaws.{from_sort, numbers_differ}
 use Rattle.bus_table.specs.Turns.{Differ, insert, sort, turn_key, turn_order}
 use Rattle.bus_table.specs.Valid.{is_valid}
-use Rattle.bus_table.specs.ValidLaws.{valid_facts}
+use Rattle.bus_table.proofs.ValidLaws.{valid_facts}
 use Rattle.bus_trace.specs.Traces.{IsBelow, IsTrace, Recording}
 use Rattle.bus_dump.specs.declared.lane.Lane.{Lane}
 use Rattle.bus_dump.specs.Lanes.{is_sender, is_stranger, lanes, sender_lane, sends, stranger_lane}

@@ -6,10 +6,10 @@ use Rattle.std.specs.List.{count_by, cons_option, filter, filter_map, list_any, 
 use Rattle.std.specs.Option.{is_some, option_map_or}
 use Rattle.std.proofs.lemmas.Bool.{cases_lt, cases_Bool, lt-ltb, le-ltb, le-leb, lt-leb, or_left, or_from, and_left, eq-eqb, eqb-true}
 use Rattle.std.proofs.lemmas.List.Sums.{length-filter}
-use Rattle.bus_strings.specs.MemberLaws.{filter_same}
+use Rattle.bus_strings.proofs.MemberLaws.{filter_same}
 use Rattle.bus_strings.specs.Messages.{Message, Entry, word_count}
 use Rattle.bus_strings.specs.Pulses.{is_on as is_on_bus}
-use Rattle.bus_strings.specs.PulsesAlongLaws.{on_is, quiet_behind}
+use Rattle.bus_strings.proofs.PulsesAlongLaws.{on_is, quiet_behind}
 use Rattle.bus_strings.specs.Transmissions.{carrier, end_of, garbled, pulses}
 use Rattle.bus_dump.specs.OnBus.{shown_at}
 use Rattle.bus_dump.specs.Seen.{Seen, holds, seen_of, seen_entry, seen_at}

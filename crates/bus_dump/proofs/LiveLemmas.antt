@@ -5,7 +5,7 @@ use Rattle.std.specs.Prelude.{slice_get}
 use Rattle.std.specs.List.{AllByRecursion, cons_option, filter, filter_map, range_with_len}
 use Rattle.std.specs.Option.{option_and_then}
 use Rattle.std.proofs.lemmas.Bool.{true≢false, cases_lt, lt-ltb, le-ltb, le-leb, lt-leb, ltb-true, leb-true, and_parts, cases_Bool}
-use Rattle.bus_strings.specs.MemberLaws.{of_each, at_in}
+use Rattle.bus_strings.proofs.MemberLaws.{of_each, at_in}
 use Rattle.bus_strings.specs.Messages.{Entry}
 use Rattle.bus_strings.specs.Transmissions.{end_of, IsAscending, Precedes}
 use Rattle.bus_dump.specs.declared.live.Live.{Live}

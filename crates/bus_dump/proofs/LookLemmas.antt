@@ -5,7 +5,7 @@ use Rattle.std.specs.Prelude.{slice_get}
 use Rattle.std.specs.List.{AllByRecursion, cons_option, filter_map}
 use Rattle.std.proofs.lemmas.List.{take_more}
 use Rattle.std.proofs.lemmas.List.Elements.{filter_map-append, All-from_recursion}
-use Rattle.bus_strings.specs.ListLaws.{all_more}
+use Rattle.bus_strings.proofs.ListLaws.{all_more}
 use Rattle.bus_strings.specs.Messages.{Message, Entry, bits}
 use Rattle.bus_dump.specs.declared.glance.Glance.{Glance}
 use Rattle.bus_dump.specs.declared.live.Live.{Live}

@@ -13,7 +13,7 @@ use Rattle.std.proofs.lemmas.List.Elements.{All-from_recursion}
 use Rattle.std.proofs.lemmas.List.Splits.{slice_split_at, slice_split_none}
 use Rattle.bus_text.specs.Lines.{physical_lines}
 use Rattle.bus_text.specs.Numbers.{is_plain_decimal}
-use Rattle.bus_text.specs.NumberLaws.{decimal_field, decimal_is}
+use Rattle.bus_text.proofs.NumberLaws.{decimal_field, decimal_is}
 use Rattle.bus_strings.specs.Members.{In}
 use Rattle.bus_dump.specs.DumpTexts.{behind_text, bits_text, changes_to, declaration, first_values, head_text, id_text, last_stamp, name_text, text_of, width_text}
 use Rattle.bus_dump.specs.Reading.{declared, first_declared, identifier, parts_of, read, read_named}

@@ -3,14 +3,14 @@ use Rattle.std.proofs.Common.{◌≡◌, ℕ, ◌*◌, ◌<◌, ◌≤◌, Bool,
 use Rattle.std.specs.Prelude.{IsTrue}
 use Rattle.std.specs.List.{AllByRecursion, flat_map}
 use Rattle.std.proofs.lemmas.Bool.{and_parts, cases_lt, lt-ltb, ltb-true, true≢false}
-use Rattle.bus_strings.specs.MemberLaws.{at_in, in_append_left, in_append_right, in_filter, of_each}
+use Rattle.bus_strings.proofs.MemberLaws.{at_in, in_append_left, in_append_right, in_filter, of_each}
 use Rattle.bus_strings.specs.Members.{In}
 use Rattle.bus_strings.specs.Messages.{Entry, bits}
 use Rattle.bus_strings.specs.Transmissions.{IsAscending, IsOrdered, end_of, overlaps}
 use Rattle.bus_table.specs.Tables.{Table}
 use Rattle.bus_table.specs.Valid.{is_valid}
 use Rattle.bus_trace.specs.Traces.{IsBelow, IsTrace, Recording}
-use Rattle.bus_medium.specs.AscendingLaws.{same_ascending}
+use Rattle.bus_medium.proofs.AscendingLaws.{same_ascending}
 use Rattle.bus_dump.specs.declared.dump.Dump.{Dump}
 use Rattle.bus_dump.specs.declared.dump.Dump.TheVariants.{Timers, Vcd, Wires}
 use Rattle.bus_dump.specs.Doubled.{doubled}

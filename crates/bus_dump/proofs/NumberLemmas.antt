@@ -7,11 +7,11 @@ use Rattle.std.specs.Option.{is_some, option_and_then, option_map, option_map_or
 use Rattle.std.proofs.lemmas.Bool.{and_parts, cases_Bool, cases_lt, eq-eqb, eqb-true, le-leb, lt-leb, true≢false}
 use Rattle.std.proofs.lemmas.Option.{slice_get_within}
 use Rattle.bus_strings.specs.Limits.{word_bits}
-use Rattle.bus_strings.specs.MemberLaws.{in_at}
+use Rattle.bus_strings.proofs.MemberLaws.{in_at}
 use Rattle.bus_strings.specs.Members.{In}
 use Rattle.bus_strings.specs.Messages.{Entry}
 use Rattle.bus_strings.specs.Pulses.{is_on as is_on_bus}
-use Rattle.bus_strings.specs.PulsesAlongLaws.{quiet_behind}
+use Rattle.bus_strings.proofs.PulsesAlongLaws.{quiet_behind}
 use Rattle.bus_strings.specs.Transmissions.{end_of, pulses}
 use Rattle.bus_dump.specs.Doubled.{doubled}
 use Rattle.bus_dump.specs.Laws.{bit_on, is_in_sync}

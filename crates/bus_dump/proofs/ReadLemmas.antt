@@ -14,7 +14,7 @@ use Rattle.std.proofs.lemmas.List.Elements.{All-from_recursion}
 use Rattle.std.proofs.lemmas.Slice.Eq.{bytes_eq-Decides}
 use Rattle.bus_text.specs.Canonical.{IsFieldByte}
 use Rattle.bus_text.specs.Lines.{is_blank, is_feed, physical_lines}
-use Rattle.bus_text.specs.NumberLaws.{decimal_field, decimal_is}
+use Rattle.bus_text.proofs.NumberLaws.{decimal_field, decimal_is}
 use Rattle.bus_strings.specs.Members.{In}
 use Rattle.bus_dump.specs.DumpTexts.{binary, id_text, stamp, value_line, value_text}
 use Rattle.bus_dump.specs.Reading.{gives, other, Place, line_of, parts_of, read_on, step, vector, vector_line}

@@ -5,7 +5,7 @@ use Rattle.std.specs.List.{AllByRecursion, filter, flat_map, list_any, range_wit
 use Rattle.std.proofs.lemmas.Bool.{cases_lt, cases_Bool, true≢false, le-leb, lt-leb}
 use Rattle.bus_text.specs.Lines.{is_feed}
 use Rattle.bus_strings.specs.Members.{In}
-use Rattle.bus_strings.specs.MemberLaws.{in_filter}
+use Rattle.bus_strings.proofs.MemberLaws.{in_filter}
 use Rattle.bus_dump.specs.DumpTexts.{changes, changes_at, changes_text, changes_to, declaration, first_values, head_text, behind_text, bits_text, id_text, last_stamp, name_text, width_text, some_changes, stamp, text_of, value_line}
 use Rattle.bus_dump.specs.Reading.{other, Place, line_of, read, read_on}
 use Rattle.bus_dump.specs.Scenes.{Scene}

@@ -6,16 +6,16 @@ use Rattle.std.specs.List.{find, list_any, range_with_len}
 use Rattle.std.specs.Option.{option_map_or}
 use Rattle.std.proofs.lemmas.Bool.{cases_Bool, and_parts, eqb-true, ltb-true}
 use Rattle.bus_strings.specs.Members.{In}
-use Rattle.bus_strings.specs.MemberLaws.{of_each, at_in, none_any}
+use Rattle.bus_strings.proofs.MemberLaws.{of_each, at_in, none_any}
 use Rattle.bus_strings.specs.Messages.{Message, Entry, bits}
 use Rattle.bus_strings.specs.Transmissions.{IsAscending, Precedes, end_of}
 use Rattle.bus_table.specs.Hands.{are_hands}
 use Rattle.bus_table.specs.Tables.{Table, Hand}
 use Rattle.bus_table.specs.Valid.{is_valid}
-use Rattle.bus_medium.specs.BusyLaws.{busy_nobody, entry_is_busy}
+use Rattle.bus_medium.proofs.BusyLaws.{busy_nobody, entry_is_busy}
 use Rattle.bus_medium.specs.Lawful.{IsLawful}
 use Rattle.bus_medium.specs.Past.{last_place, own}
-use Rattle.bus_medium.specs.StationLaws.{stations_are_of_senders}
+use Rattle.bus_medium.proofs.StationLaws.{stations_are_of_senders}
 use Rattle.bus_medium.specs.Timings.{quiet_of, stations_of}
 use Rattle.bus_dump.specs.Doubled.{doubled, is_doubled, runs_into}
 use Rattle.bus_dump.proofs.LiveLemmas.{absent, present, at_place}

@@ -5,11 +5,11 @@ use Rattle.std.specs.List.{AllByRecursion, filter, flat_map, range_with_len}
 use Rattle.bus_strings.specs.Members.{In}
 use Rattle.bus_strings.specs.Messages.{Entry}
 use Rattle.bus_table.specs.Tables.{Sender, Table}
-use Rattle.bus_table.specs.TurnLaws.{from_sort}
+use Rattle.bus_table.proofs.TurnLaws.{from_sort}
 use Rattle.bus_table.specs.Turns.{turn_key, turn_order}
 use Rattle.bus_table.specs.Valid.{is_valid}
 use Rattle.bus_table.specs.Facts.{SenderFacts}
-use Rattle.bus_table.specs.ValidLaws.{valid_facts}
+use Rattle.bus_table.proofs.ValidLaws.{valid_facts}
 use Rattle.bus_dump.specs.declared.dump.Dump.{Dump}
 use Rattle.bus_dump.specs.DumpTexts.{dump_text, id_text, name_text}
 use Rattle.bus_dump.specs.Lanes.{Lane, is_stranger, lanes, sender_lane, stranger_lane}

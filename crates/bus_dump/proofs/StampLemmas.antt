@@ -4,7 +4,7 @@ use Rattle.std.proofs.Common.{inl, inr, arith, sym, refl, ap, subst, ◌∙◌, 
 use Rattle.std.specs.List.{AllByRecursion, cons_option, filter, filter_map, flat_map, range_with_len}
 use Rattle.std.proofs.lemmas.Bool.{cases_lt, ne_eqb}
 use Rattle.std.proofs.lemmas.List.{map-append}
-use Rattle.bus_text.specs.NumberLaws.{decimal_field, decimal_is}
+use Rattle.bus_text.proofs.NumberLaws.{decimal_field, decimal_is}
 use Rattle.bus_dump.specs.DumpTexts.{behind_text, bits_text, changes, changes_at, changes_to, declaration, first_values, head_text, id_text, last_stamp, name_text, some_changes, stamp, text_of, value_line, value_text, width_text}
 use Rattle.bus_dump.specs.Lanes.{lanes}
 use Rattle.bus_dump.specs.Laws.{StampsAreTold}

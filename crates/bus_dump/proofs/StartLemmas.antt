@@ -10,7 +10,7 @@ use Rattle.bus_timers.specs.declared.timing.Timing.{Timing}
 use Rattle.bus_timers.specs.MayStartTest.{TestDecides, may_start}
 use Rattle.bus_medium.specs.Lawful.{HasEntry, IsLawful, Station}
 use Rattle.bus_medium.specs.Past.{last_place, own, past}
-use Rattle.bus_medium.specs.StationLaws.{stations_are_of_senders}
+use Rattle.bus_medium.proofs.StationLaws.{stations_are_of_senders}
 use Rattle.bus_medium.specs.Timings.{quiet_of, stations_of, timing_of}
 use Rattle.bus_dump.specs.declared.dump.Dump.TheVariants.{Timers}
 use Rattle.bus_dump.specs.Scenes.{scene_at}

@@ -9,12 +9,12 @@ use Rattle.bus_strings.specs.Members.{In}
 use Rattle.bus_strings.specs.Messages.{Entry}
 use Rattle.bus_table.specs.Tables.{Sender, Table}
 use Rattle.bus_table.specs.Valid.{is_valid}
-use Rattle.bus_table.specs.ValidLaws.{valid_facts}
+use Rattle.bus_table.proofs.ValidLaws.{valid_facts}
 use Rattle.bus_timers.specs.declared.timing.Timing.{Timing}
 use Rattle.bus_timers.specs.Timings.{due_place}
 use Rattle.bus_timers.specs.MayStartTest.{TestDecides, is_quiet, is_sync, may_start}
 use Rattle.bus_medium.specs.Past.{last_place, own, past}
-use Rattle.bus_medium.specs.PastLaws.{length_past}
+use Rattle.bus_medium.proofs.PastLaws.{length_past}
 use Rattle.bus_medium.specs.Timings.{quiet_of, timing_of}
 use Rattle.bus_dump.specs.declared.dump.Dump.TheVariants.{Timers}
 use Rattle.bus_dump.specs.Laws.{GapElapsed, Synchronizes, TimersAreTold}

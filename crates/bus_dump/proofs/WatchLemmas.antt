@@ -7,22 +7,22 @@ use Rattle.std.specs.Option.{option_map_or}
 use Rattle.std.proofs.lemmas.Bool.{cases_lt, cases_Bool, true≢false, eq-eqb, eqb-true, ne_eqb, and_parts}
 use Rattle.std.proofs.lemmas.List.{map_push, take_more}
 use Rattle.std.proofs.lemmas.Option.{slice_get-get_or}
-use Rattle.bus_strings.specs.ListLaws.{all_more}
+use Rattle.bus_strings.proofs.ListLaws.{all_more}
 use Rattle.bus_strings.specs.Members.{In}
-use Rattle.bus_strings.specs.MemberLaws.{of_each, at_in, any_in}
-use Rattle.bus_strings.specs.MessageLaws.{bits_some}
+use Rattle.bus_strings.proofs.MemberLaws.{of_each, at_in, any_in}
+use Rattle.bus_strings.proofs.MessageLaws.{bits_some}
 use Rattle.bus_strings.specs.Messages.{Entry, bits}
 use Rattle.bus_strings.specs.Transmissions.{IsTransmission, IsAscending, carrier}
 use Rattle.bus_table.specs.Tables.{Sender, Table}
 use Rattle.bus_table.specs.Valid.{is_valid}
 use Rattle.bus_timers.specs.Timings.{IsSound, due_place}
 use Rattle.bus_timers.specs.GapPlace.{GapFrom}
-use Rattle.bus_timers.specs.GapStepLaws.{gap_settled}
+use Rattle.bus_timers.proofs.GapStepLaws.{gap_settled}
 use Rattle.bus_timers.specs.MayStartTest.{TestDecides}
-use Rattle.bus_timers.specs.TimingLaws.{sound_sg}
+use Rattle.bus_timers.proofs.TimingLaws.{sound_sg}
 use Rattle.bus_medium.specs.Past.{past, own, last_place}
-use Rattle.bus_medium.specs.PastLaws.{length_past, own_later, own_more, last_push, not_own_test}
-use Rattle.bus_medium.specs.StationLaws.{timings_are_sound}
+use Rattle.bus_medium.proofs.PastLaws.{length_past, own_later, own_more, last_push, not_own_test}
+use Rattle.bus_medium.proofs.StationLaws.{timings_are_sound}
 use Rattle.bus_medium.specs.Timings.{quiet_of, timing_of}
 use Rattle.bus_dump.specs.declared.clock.Clock.{Clock}
 use Rattle.bus_dump.specs.declared.live.Live.{Live}

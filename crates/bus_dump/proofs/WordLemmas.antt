@@ -5,7 +5,7 @@ use Rattle.std.specs.Prelude.{slice_get, ◌↔◌}
 use Rattle.std.specs.List.{count_by, cons_option, filter, filter_map, range_with_len}
 use Rattle.std.specs.Option.{is_some, option_map, option_map_or}
 use Rattle.std.proofs.lemmas.List.Sums.{length-filter}
-use Rattle.bus_strings.specs.MemberLaws.{filter_same}
+use Rattle.bus_strings.proofs.MemberLaws.{filter_same}
 use Rattle.bus_strings.specs.Messages.{Entry}
 use Rattle.bus_strings.specs.Transmissions.{pulses}
 use Rattle.bus_dump.specs.OnBus.{Shown}

@@ -7,16 +7,16 @@ use Rattle.std.proofs.lemmas.Option.{slice_get_within}
 use Rattle.bus_timers.specs.Timings.{IsSound}
 use Rattle.bus_timers.specs.MayStart.{MayStart}
 use Rattle.bus_timers.specs.GapPlace.{GapFrom}
-use Rattle.bus_timers.specs.GapStepLaws.{gap_settled}
+use Rattle.bus_timers.proofs.GapStepLaws.{gap_settled}
 use Rattle.bus_strings.specs.Members.{In}
 use Rattle.bus_strings.specs.Messages.{Entry, bits}
 use Rattle.bus_strings.specs.Transmissions.{end_of}
-use Rattle.bus_strings.specs.MessageLaws.{bits_some}
+use Rattle.bus_strings.proofs.MessageLaws.{bits_some}
 use Rattle.bus_medium.specs.Past.{past, own, last_place}
 use Rattle.bus_medium.specs.Lawful.{Station, IsDue, IsLawfulTo}
 use Rattle.bus_medium.specs.Chains.{HaveEnded, Clock, Chain, put, gap_put, ChainSettled, ChainStep, ChainDue, ChainStarts}
-use Rattle.bus_strings.specs.MemberLaws.{in_push_cases}
-use Rattle.bus_medium.specs.PastLaws.{own_push, own_push_other, own_after}
+use Rattle.bus_strings.proofs.MemberLaws.{in_push_cases}
+use Rattle.bus_medium.proofs.PastLaws.{own_push, own_push_other, own_after}
 use Rattle.bus_medium.proofs.StretchLemmas.{no_start_during}
 use Rattle.bus_medium.proofs.TurnLemmas.{idle_stretch, lone_start}
 use Rattle.bus_medium.proofs.ClockLemmas.{clock_may, clock_quiet, clock_other, clock_own, past_during, gap_after}

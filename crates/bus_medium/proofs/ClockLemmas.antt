@@ -4,18 +4,18 @@ use Rattle.std.proofs.lemmas.List.Folds.{list_any-append}
 use Rattle.bus_timers.specs.Timings.{due_place}
 use Rattle.bus_timers.specs.MayStart.{MayStart}
 use Rattle.bus_timers.specs.GapPlace.{GapFrom}
-use Rattle.bus_timers.specs.GapStepLaws.{gap_quiet, gap_started, gap_ready}
-use Rattle.bus_timers.specs.TimingLaws.{sound_sg, sound_tg}
+use Rattle.bus_timers.proofs.GapStepLaws.{gap_quiet, gap_started, gap_ready}
+use Rattle.bus_timers.proofs.TimingLaws.{sound_sg, sound_tg}
 use Rattle.bus_strings.specs.Members.{In}
 use Rattle.bus_strings.specs.Messages.{Entry, bits}
 use Rattle.bus_strings.specs.Pulses.{is_on}
 use Rattle.bus_strings.specs.Transmissions.{pulses, carrier, end_of}
-use Rattle.bus_strings.specs.MessageLaws.{bits_some}
+use Rattle.bus_strings.proofs.MessageLaws.{bits_some}
 use Rattle.bus_medium.specs.Past.{past, own, last_place}
 use Rattle.bus_medium.specs.Lawful.{Station}
 use Rattle.bus_medium.specs.Stretches.{during}
 use Rattle.bus_medium.specs.Chains.{HaveEnded, Clock}
-use Rattle.bus_medium.specs.PastLaws.{length_past, no_carrier, past_push, own_after, own_push, own_push_other, last_push, pulses_on}
+use Rattle.bus_medium.proofs.PastLaws.{length_past, no_carrier, past_push, own_after, own_push, own_push_other, last_push, pulses_on}
 use Rattle.bus_medium.proofs.StretchLemmas.{message_elapsed, message_waiting}
 
 -- two comparisons say when it may start

@@ -15,7 +15,7 @@ use Rattle.bus_medium.specs.Lawful.{Station, HaveOwnNumbers, HasEntry, IsDue, Is
 use Rattle.bus_medium.specs.Buses.{Seat, station_of, number_of}
 use Rattle.bus_medium.specs.Following.{Follows, FollowsAt, AllFollow, AllHaveRoom, Started, Idle}
 use Rattle.bus_medium.specs.Orders.{IsByNumber, AreNumbers}
-use Rattle.bus_medium.specs.PastLaws.{length_past, past_push, own_later, own_push, own_push_other}
+use Rattle.bus_medium.proofs.PastLaws.{length_past, past_push, own_later, own_push, own_push_other}
 use Rattle.bus_medium.proofs.Steps.{not_yet, lawful_idle, lawful_start, lawful_next}
 use Rattle.bus_medium.proofs.Following.{due_is_free, follows_started}
 use Rattle.bus_medium.proofs.Seats.{get_set_same, get_set_other, get_within, same_some, map_set_same, in_map, from_map, number_at, same_numbers, own_numbers}

@@ -10,7 +10,7 @@ use Rattle.bus_medium.specs.Lawful.{Station, HaveOwnNumbers, IsDue, IsLawful, Is
 use Rattle.bus_medium.specs.LawfulLaws.{OneListOfATable}
 use Rattle.bus_medium.specs.LawfulList.{is_due, next_entry, decided, with_number, decided_below, above, lawful_list}
 use Rattle.bus_medium.specs.Timings.{quiet_of, stations_of}
-use Rattle.bus_medium.specs.StationLaws.{stations_have_own_numbers}
+use Rattle.bus_medium.proofs.StationLaws.{stations_have_own_numbers}
 use Rattle.bus_medium.proofs.Unique.{lawful_once}
 use Rattle.bus_medium.proofs.Steps.{lawful_none, lawful_idle, lawful_start, lawful_next, lawful_whole}
 use Rattle.bus_medium.proofs.TurnLemmas.{below_above}

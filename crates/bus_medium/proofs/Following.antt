@@ -12,18 +12,18 @@ use Rattle.bus_strings.specs.Members.{In}
 use Rattle.bus_strings.specs.Messages.{Entry, bits}
 use Rattle.bus_strings.specs.Pulses.{is_on}
 use Rattle.bus_strings.specs.Transmissions.{pulses, carrier, end_of}
-use Rattle.bus_strings.specs.PulsesAlongLaws.{quiet_behind}
-use Rattle.bus_strings.specs.MessageLaws.{bits_some}
+use Rattle.bus_strings.proofs.PulsesAlongLaws.{quiet_behind}
+use Rattle.bus_strings.proofs.MessageLaws.{bits_some}
 use Rattle.bus_table.specs.Tables.{Hand}
 use Rattle.bus_terminal.specs.Terminals.{last_begun}
 use Rattle.bus_terminal.specs.Jumps.{IsSteady, later_place}
-use Rattle.bus_terminal.specs.JumpLaws.{steady_within}
-use Rattle.bus_terminal.specs.SendingLaws.{sending_is_not_ready}
+use Rattle.bus_terminal.proofs.JumpLaws.{steady_within}
+use Rattle.bus_terminal.proofs.SendingLaws.{sending_is_not_ready}
 use Rattle.bus_medium.specs.Past.{past, own, last_place}
 use Rattle.bus_medium.specs.Buses.{last_of, running_at}
 use Rattle.bus_medium.specs.Following.{Running, Follows}
-use Rattle.bus_strings.specs.MemberLaws.{any_in, in_push_cases, in_push}
-use Rattle.bus_medium.specs.PastLaws.{length_past, past_at, pulses_on, pulses_begun, from_own, last_push}
+use Rattle.bus_strings.proofs.MemberLaws.{any_in, in_push_cases, in_push}
+use Rattle.bus_medium.proofs.PastLaws.{length_past, past_at, pulses_on, pulses_begun, from_own, last_push}
 
 -- the last of a list is in it, and its place is that of the last start
 pub last_of_push : (l : List Entry) (x : Entry) → last_of (l ++ x ∷ []) ≡ Some x

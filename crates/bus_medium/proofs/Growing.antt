@@ -7,7 +7,7 @@ use Rattle.bus_strings.specs.Messages.{Entry}
 use Rattle.bus_medium.specs.Buses.{Seat}
 use Rattle.bus_medium.specs.Following.{Idle, Started}
 use Rattle.bus_medium.specs.Runs.{Grown}
-use Rattle.bus_strings.specs.MemberLaws.{in_push_cases}
+use Rattle.bus_strings.proofs.MemberLaws.{in_push_cases}
 
 pub grown_none : (t : ℕ) (l : List Entry) → Grown t l l
 grown_none t l = record { more = []; is = sym (append-nil l); at = λ x i. absurd i; some = λ x i. absurd i }

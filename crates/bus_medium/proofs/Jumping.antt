@@ -13,12 +13,12 @@ use Rattle.bus_strings.specs.Members.{In}
 use Rattle.bus_strings.specs.Messages.{Entry, bits}
 use Rattle.bus_strings.specs.Pulses.{is_on}
 use Rattle.bus_strings.specs.Transmissions.{pulses, carrier, end_of}
-use Rattle.bus_strings.specs.PulsesAlongLaws.{quiet_behind}
-use Rattle.bus_strings.specs.MessageLaws.{bits_some}
+use Rattle.bus_strings.proofs.PulsesAlongLaws.{quiet_behind}
+use Rattle.bus_strings.proofs.MessageLaws.{bits_some}
 use Rattle.bus_table.specs.Tables.{Hand}
 use Rattle.bus_terminal.specs.Terminals.{Terminal, last_begun}
 use Rattle.bus_terminal.specs.Jumps.{IsSteady, IsFree, later_place}
-use Rattle.bus_terminal.specs.JumpLaws.{steady_within}
+use Rattle.bus_terminal.proofs.JumpLaws.{steady_within}
 use Rattle.bus_medium.specs.Past.{past, own, last_place}
 use Rattle.bus_medium.specs.Lawful.{Station, HasEntry, IsDue, IsBefore, IsLawfulTo}
 use Rattle.bus_medium.specs.Buses.{Seat, station_of, number_of}
@@ -26,8 +26,8 @@ use Rattle.bus_medium.specs.Following.{Running, Follows, FollowsAt, AllFollow}
 use Rattle.bus_medium.specs.Edges.{edges_by}
 use Rattle.bus_medium.specs.Jumps.{Each, PassedMany, Lasts, AllStay, AllLast, SomeEnds}
 use Rattle.bus_medium.specs.Runs.{Grown, Counted}
-use Rattle.bus_strings.specs.MemberLaws.{in_append_cases}
-use Rattle.bus_medium.specs.PastLaws.{own_after, length_past, past_at, past_push, pulses_on, in_own, from_own, own_push_other}
+use Rattle.bus_strings.proofs.MemberLaws.{in_append_cases}
+use Rattle.bus_medium.proofs.PastLaws.{own_after, length_past, past_at, past_push, pulses_on, in_own, from_own, own_push_other}
 use Rattle.bus_medium.proofs.Following.{running_not_may, follows_later}
 use Rattle.bus_medium.proofs.DecideLemmas.{own_next}
 use Rattle.bus_medium.proofs.TurnLemmas.{idle_stretch}

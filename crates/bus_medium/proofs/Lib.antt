@@ -19,3 +19,7 @@ pub mod Jumping
 pub mod Stretching
 pub mod Reaching
 pub mod Running
+pub mod AscendingLaws
+pub mod PastLaws
+pub mod StationLaws
+pub mod BusyLaws

@@ -2,7 +2,7 @@
 use Rattle.std.proofs.Common.{◌≡◌, ℕ, ◌+◌, ◌-◌, ◌*◌, ◌^◌, ◌<◌, ◌≤◌, List, [], length, map, Some, None, inl, inr, arith, sym, refl, ap, ◌∙◌, subst}
 use Rattle.std.proofs.lemmas.Option.{slice_get_within}
 use Rattle.bus_timers.specs.declared.cores.Core.{Ghosts}
-use Rattle.bus_strings.specs.MemberLaws.{at_in, in_at}
+use Rattle.bus_strings.proofs.MemberLaws.{at_in, in_at}
 use Rattle.bus_strings.specs.Messages.{Entry}
 use Rattle.bus_medium.specs.Past.{past, own}
 use Rattle.bus_medium.specs.Lawful.{HaveOwnNumbers, IsLawfulTo, IsLawful}

@@ -6,7 +6,7 @@ use Rattle.std.proofs.lemmas.Bool.{and_parts, true≢false}
 use Rattle.std.proofs.lemmas.List.{length_push, append-nil, map-append}
 use Rattle.bus_timers.specs.declared.timing.Timing.{Timing}
 use Rattle.bus_timers.specs.declared.cores.Core.{Ghosts}
-use Rattle.bus_strings.specs.ListLaws.{all_push}
+use Rattle.bus_strings.proofs.ListLaws.{all_push}
 use Rattle.bus_table.specs.Tables.{Sender, Table, Hand}
 use Rattle.bus_table.specs.Fits.{fits}
 use Rattle.bus_table.specs.Hands.{are_hands}
@@ -14,7 +14,7 @@ use Rattle.bus_medium.specs.Timings.{quiet_of, timing_of, stations_of}
 use Rattle.bus_medium.specs.Lawful.{Station}
 use Rattle.bus_medium.specs.Buses.{Seat, station_of, number_of, StandsAt}
 use Rattle.bus_medium.specs.Seating.{Seated, IsSeated}
-use Rattle.bus_strings.specs.MemberLaws.{at_in, of_each}
+use Rattle.bus_strings.proofs.MemberLaws.{at_in, of_each}
 
 -- the station of a sender with its hand
 abbrev pub station_with : Table → Sender → Hand → Station

@@ -7,7 +7,7 @@ use Rattle.std.proofs.lemmas.Bool.{cases_order}
 use Rattle.std.proofs.lemmas.List.{length-map}
 use Rattle.std.proofs.lemmas.Option.{slice_get_within, slice_get-map, get_or_from_slice_get}
 use Rattle.bus_strings.specs.Members.{In}
-use Rattle.bus_strings.specs.MemberLaws.{at_in}
+use Rattle.bus_strings.proofs.MemberLaws.{at_in}
 use Rattle.bus_medium.specs.Lawful.{Station, HaveOwnNumbers}
 use Rattle.bus_medium.specs.Buses.{Seat, station_of, number_of}
 use Rattle.bus_medium.specs.Orders.{IsByNumber}

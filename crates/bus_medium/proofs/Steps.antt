@@ -7,9 +7,9 @@ use Rattle.bus_strings.specs.Messages.{Entry}
 use Rattle.bus_strings.specs.Transmissions.{Precedes}
 use Rattle.bus_medium.specs.Past.{past, own}
 use Rattle.bus_medium.specs.Lawful.{Station, HaveOwnNumbers, HasEntry, IsDue, IsBefore, IsLawfulTo, IsLawful}
-use Rattle.bus_strings.specs.MemberLaws.{in_append_left, in_push, in_push_cases}
-use Rattle.bus_medium.specs.AscendingLaws.{ascending_push}
-use Rattle.bus_medium.specs.PastLaws.{past_push, own_push_other}
+use Rattle.bus_strings.proofs.MemberLaws.{in_append_left, in_push, in_push_cases}
+use Rattle.bus_medium.proofs.AscendingLaws.{ascending_push}
+use Rattle.bus_medium.proofs.PastLaws.{past_push, own_push_other}
 use Rattle.bus_medium.proofs.Unique.{same_due}
 
 pub lawful_none : (q : ℕ) (ss : List Station) → IsLawfulTo q ss 0 0 []

@@ -3,13 +3,13 @@ use Rattle.std.proofs.Common.{◌≡◌, ℕ, zero, suc, ◌+◌, ◌-◌, ◌<�
 use Rattle.std.proofs.lemmas.Bool.{cases_lt, cases_Bool, true≢false}
 use Rattle.std.proofs.lemmas.List.{length_push, get_or_append_left, get_or_push}
 use Rattle.bus_timers.specs.GapPlace.{GapFrom}
-use Rattle.bus_timers.specs.GapStepLaws.{gap_quiet, gap_carrier_elapsed, gap_carrier_waiting, gap_one}
-use Rattle.bus_timers.specs.GapStretchLaws.{gap_carriers_elapsed, gap_carriers_waiting}
+use Rattle.bus_timers.proofs.GapStepLaws.{gap_quiet, gap_carrier_elapsed, gap_carrier_waiting, gap_one}
+use Rattle.bus_timers.proofs.GapStretchLaws.{gap_carriers_elapsed, gap_carriers_waiting}
 use Rattle.bus_strings.specs.Messages.{Message, bits}
 use Rattle.bus_strings.specs.Pulses.{is_on}
 use Rattle.bus_strings.specs.PulseLaws.{Pulse}
-use Rattle.bus_strings.specs.PulsesAlongLaws.{first_is_on, last_is_on, pulse_soon}
-use Rattle.bus_strings.specs.MessageLaws.{bits_some}
+use Rattle.bus_strings.proofs.PulsesAlongLaws.{first_is_on, last_is_on, pulse_soon}
+use Rattle.bus_strings.proofs.MessageLaws.{bits_some}
 use Rattle.bus_medium.specs.Stretches.{during, MessageIsCarrier, MessageElapsed, MessageWaiting, NoStartDuring}
 
 pub length_during : (past : List Bool) (m : Message) (d : ℕ) → length (during past m d) ≡ length past + d

@@ -7,7 +7,7 @@ use Rattle.std.proofs.lemmas.List.{length-map}
 use Rattle.bus_table.specs.Tables.{Sender, Table}
 use Rattle.bus_table.specs.Valid.{is_valid}
 use Rattle.bus_table.specs.Facts.{SenderFacts}
-use Rattle.bus_table.specs.ValidLaws.{valid_facts}
+use Rattle.bus_table.proofs.ValidLaws.{valid_facts}
 use Rattle.bus_medium.specs.Orders.{AreNumbers, AreDistinct}
 
 pub sender_at : (table : Table) (senders : List Sender) (k : ℕ) (s : Sender) → AllByRecursion (SenderFacts table) senders → slice_get senders k ≡ Some s → SenderFacts table s

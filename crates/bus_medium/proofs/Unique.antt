@@ -8,9 +8,9 @@ use Rattle.bus_strings.specs.Messages.{Message, Entry}
 use Rattle.bus_strings.specs.Transmissions.{IsAscending}
 use Rattle.bus_medium.specs.Past.{past, own, last_place}
 use Rattle.bus_medium.specs.Lawful.{Station, HaveOwnNumbers, HasEntry, IsDue, IsLawful}
-use Rattle.bus_strings.specs.MemberLaws.{in_filter, from_filter}
-use Rattle.bus_medium.specs.AscendingLaws.{ascending_filter, same_ascending}
-use Rattle.bus_medium.specs.PastLaws.{before, past_before, own_before}
+use Rattle.bus_strings.proofs.MemberLaws.{in_filter, from_filter}
+use Rattle.bus_medium.proofs.AscendingLaws.{ascending_filter, same_ascending}
+use Rattle.bus_medium.proofs.PastLaws.{before, past_before, own_before}
 
 pub same_entry : (x y : Entry) → x.moment ≡ y.moment → x.terminal ≡ y.terminal → x.message ≡ y.message → x ≡ y
 same_entry x y a b c =

@@ -1,14 +1,12 @@
 pub mod Past
 pub mod Lawful
 pub mod LawfulList
-pub mod AscendingLaws
 pub mod PastLaws
 pub mod BusyLaws
 pub mod LawfulLaws
 pub mod Stretches
 pub mod Chains
 pub mod Timings
-pub mod StationLaws
 pub mod Buses
 pub mod Following
 pub mod Orders

@@ -1,5 +1,4 @@
 pub mod Faults
-pub mod FaultLaws
 pub mod Sources
 pub mod Sinks
 pub mod Memory
@@ -7,5 +6,3 @@ pub mod Ahead
 pub mod Edge
 pub mod Standing
 pub mod Texts
-pub mod TextLaws
-pub mod WriteLaws

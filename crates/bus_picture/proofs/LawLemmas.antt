@@ -5,8 +5,8 @@ use Rattle.std.specs.Bool.{beq}
 use Rattle.std.specs.List.{AllByRecursion, flat_map}
 use Rattle.std.proofs.lemmas.Bool.{and_parts, cases_Bool, ltb-false, ltb-true, true≢false}
 use Rattle.std.proofs.lemmas.List.{append_assoc}
-use Rattle.bus_strings.specs.ListLaws.{all_push}
-use Rattle.bus_strings.specs.MemberLaws.{from_filter, in_append_left, in_append_right, of_each}
+use Rattle.bus_strings.proofs.ListLaws.{all_push}
+use Rattle.bus_strings.proofs.MemberLaws.{from_filter, in_append_left, in_append_right, of_each}
 use Rattle.bus_strings.specs.Members.{In}
 use Rattle.bus_strings.specs.Messages.{Entry}
 use Rattle.bus_strings.specs.Transmissions.{IsByMoment, garbled}

@@ -4,7 +4,7 @@ use Rattle.std.proofs.Common.{sym, refl, ap, ◌∙◌}
 use Rattle.bus_table.specs.Tables.{Sender, Table}
 use Rattle.bus_table.specs.Lengths.{longest}
 use Rattle.bus_table.specs.Offsets.{at_offset, at_offsets, with_offsets}
-use Rattle.bus_table.specs.OffsetLaws.{strip_offsets}
+use Rattle.bus_table.proofs.OffsetLaws.{strip_offsets}
 use Rattle.bus_plan.specs.Plans.{planned_order, behind, second_gap, planned, offset_in, planned_table}
 use Rattle.bus_plan.proofs.Moved.{planned_map}
 

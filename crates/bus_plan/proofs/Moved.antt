@@ -10,7 +10,7 @@ use Rattle.bus_regime.specs.Verdicts.{verdict_of}
 use Rattle.bus_plan.specs.Plans.{turn_time, lead, greatest_first, second_greatest, planned_order, sync_time, least_interval}
 use Rattle.bus_table.specs.Offsets.{at_offset, at_offsets, with_offsets}
 use Rattle.bus_table.specs.declared.mode.Mode.TheVariants.{Periodic}
-use Rattle.bus_table.specs.OffsetLaws.{strip_offsets}
+use Rattle.bus_table.proofs.OffsetLaws.{strip_offsets}
 use Rattle.bus_plan.proofs.Lower.{accepted_least}
 
 -- ---- senders changed in something else than their terminal gaps

@@ -5,7 +5,7 @@ use Rattle.bus_strings.specs.Members.{In}
 use Rattle.bus_table.specs.declared.mode.Mode.TheVariants.{Periodic}
 use Rattle.bus_table.specs.Tables.{Sender, Table}
 use Rattle.bus_table.specs.Valid.{is_valid}
-use Rattle.bus_table.specs.ValidLaws.{valid_facts}
+use Rattle.bus_table.proofs.ValidLaws.{valid_facts}
 use Rattle.bus_regime.specs.Verdicts.{is_accepted}
 use Rattle.bus_regime.specs.Verdicts.{verdict_of}
 use Rattle.bus_plan.specs.Answers.{IsFeasible, plan_of}
@@ -14,7 +14,7 @@ use Rattle.std.proofs.lemmas.Bool.Decides.{nat_tests}
 use Rattle.bus_plan.specs.Plans.{planned_order, planned, least_interval, offset_in, planned_offsets, planned_table}
 use Rattle.bus_plan.proofs.Planned.{planned_below}
 use Rattle.bus_plan.proofs.Valid.{modest, time_in_order, planned_accepted}
-use Rattle.bus_table.specs.OffsetLaws.{kept_valid}
+use Rattle.bus_table.proofs.OffsetLaws.{kept_valid}
 
 found_below : (ti : ℕ) (plan : List Sender) (number : ℕ) → 0 < ti → ((s : Sender) → In s plan → s.at < ti) → offset_in plan number < ti
 found_below ti [] number some low = some

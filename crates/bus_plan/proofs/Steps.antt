@@ -6,7 +6,7 @@ use Rattle.std.proofs.lemmas.List.{take_more, take_all}
 use Rattle.bus_strings.specs.Members.{In}
 use Rattle.bus_table.specs.Tables.{Sender, Table}
 use Rattle.bus_table.specs.Facts.{SenderFacts, TableFacts}
-use Rattle.bus_table.specs.TurnLaws.{of_each, numbers_differ, gaps_differ}
+use Rattle.bus_table.proofs.TurnLaws.{of_each, numbers_differ, gaps_differ}
 use Rattle.bus_plan.specs.Greatest.{greatest_tg, second_tg}
 use Rattle.bus_plan.specs.Plans.{planned_offsets}
 use Rattle.bus_plan.specs.Walks.{offset_for, end_after, walk, walk_end, longest_with, gap_between}

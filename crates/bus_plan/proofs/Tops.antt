@@ -7,7 +7,7 @@ use Rattle.std.proofs.lemmas.List.{take_more}
 use Rattle.bus_strings.specs.Members.{In}
 use Rattle.bus_table.specs.Tables.{Sender, Table}
 use Rattle.bus_table.specs.Facts.{SenderFacts, TableFacts}
-use Rattle.bus_table.specs.TurnLaws.{of_each}
+use Rattle.bus_table.proofs.TurnLaws.{of_each}
 use Rattle.std.specs.List.{sum_by}
 use Rattle.bus_plan.specs.Plans.{turn_time, lead, greatest_first, second_greatest, planned_order, sync_time, least_interval}
 use Rattle.bus_plan.specs.Greatest.{greatest_tg, second_tg}

@@ -9,10 +9,10 @@ use Rattle.std.proofs.lemmas.Option.{slice_get_within, get_or_from_slice_get}
 use Rattle.bus_strings.specs.Members.{In}
 use Rattle.bus_table.specs.Tables.{Sender, Table}
 use Rattle.bus_table.specs.Turns.{turn_key, turn_order, Differ, Rises}
-use Rattle.bus_table.specs.TurnLaws.{behind_rises, from_sort, numbers_differ, order_rises}
+use Rattle.bus_table.proofs.TurnLaws.{behind_rises, from_sort, numbers_differ, order_rises}
 use Rattle.bus_table.specs.Valid.{is_valid}
-use Rattle.bus_table.specs.ValidLaws.{valid_facts}
-use Rattle.bus_regime.specs.GapLaws.{gap_sender, same_by_number}
+use Rattle.bus_table.proofs.ValidLaws.{valid_facts}
+use Rattle.bus_regime.proofs.GapLaws.{gap_sender, same_by_number}
 use Rattle.bus_regime.specs.Gaps.{Gap, latest_end, last_end, gaps_from, gaps, has_width}
 use Rattle.bus_regime.specs.Verdicts.{synchronizes}
 

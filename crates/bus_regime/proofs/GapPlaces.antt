@@ -7,10 +7,10 @@ use Rattle.std.proofs.lemmas.Option.{slice_get_read}
 use Rattle.bus_strings.specs.Members.{In}
 use Rattle.bus_table.specs.Tables.{Sender, Table}
 use Rattle.bus_table.specs.Turns.{turn_key, turn_order, Differ}
-use Rattle.bus_table.specs.TurnLaws.{at_in, from_sort, length-sort, numbers_differ}
+use Rattle.bus_table.proofs.TurnLaws.{at_in, from_sort, length-sort, numbers_differ}
 use Rattle.bus_table.specs.Valid.{is_valid}
-use Rattle.bus_table.specs.ValidLaws.{valid_facts}
-use Rattle.bus_regime.specs.GapLaws.{gap_first, gap_next, last_of, same_by_number}
+use Rattle.bus_table.proofs.ValidLaws.{valid_facts}
+use Rattle.bus_regime.proofs.GapLaws.{gap_first, gap_next, last_of, same_by_number}
 use Rattle.bus_regime.specs.Gaps.{Gap, latest_end, last_end, gaps_from, gaps}
 
 first_gap : (table : Table) (n : ℕ) (p s : Sender) → suc n ≡ length table.senders → slice_get (turn_order table) n ≡ Some p

@@ -1,3 +1,6 @@
 pub mod GapPlaces
 pub mod Counting
 pub mod Examples
+pub mod WitnessLaws
+pub mod VerdictLaws
+pub mod GapLaws

@@ -9,7 +9,7 @@ use Rattle.bus_table.specs.declared.mode.Mode.TheVariants.{Periodic}
 use Rattle.bus_table.specs.Tables.{Sender}
 use Rattle.bus_table.specs.Turns.{Rises, RisesBehind, turn_key}
 use Rattle.bus_schedule.specs.Closed.{sends, offset_turns, offset_schedule}
-use Rattle.bus_strings.specs.MemberLaws.{in_append_cases, from_map}
+use Rattle.bus_strings.proofs.MemberLaws.{in_append_cases, from_map}
 
 all_append : (P : Entry → Type 0) (xs ys : List Entry) → AllByRecursion P xs → ((y : Entry) → In y ys → P y) → AllByRecursion P (xs ++ ys)
 all_append P [] [] h k = tt

@@ -6,7 +6,7 @@ use Rattle.bus_strings.specs.Messages.{Message}
 use Rattle.bus_table.specs.Tables.{Sender}
 use Rattle.bus_table.specs.Lengths.{longest}
 use Rattle.bus_table.specs.Turns.{turn_key, turn_order}
-use Rattle.bus_table.specs.TurnLaws.{from_sort}
+use Rattle.bus_table.proofs.TurnLaws.{from_sort}
 use Rattle.bus_regime.specs.Verdicts.{most_cycle}
 use Rattle.bus_schedule.specs.Even.{messages_of, rounds}
 use Rattle.bus_schedule.specs.Closed.{origin, gap_schedule, closed_end}

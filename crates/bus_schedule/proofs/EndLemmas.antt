@@ -10,9 +10,9 @@ use Rattle.bus_strings.specs.Transmissions.{end_of}
 use Rattle.bus_table.specs.declared.mode.Mode.TheVariants.{Aperiodic}
 use Rattle.bus_table.specs.Tables.{Sender, Table, Hand}
 use Rattle.bus_table.specs.Turns.{turn_key, turn_order}
-use Rattle.bus_table.specs.TurnLaws.{length-sort}
+use Rattle.bus_table.proofs.TurnLaws.{length-sort}
 use Rattle.bus_table.specs.Valid.{is_valid}
-use Rattle.bus_table.specs.ValidLaws.{valid_facts}
+use Rattle.bus_table.proofs.ValidLaws.{valid_facts}
 use Rattle.bus_schedule.specs.Even.{messages_of, rounds}
 use Rattle.bus_schedule.specs.Closed.{sends, turns, turns_end, origin, gap_schedule, schedule_in, closed, closed_end}
 use Rattle.bus_schedule.proofs.Greatest.{max_low, max_within, greatest_append, greatest_cons, greatest_one}

@@ -9,10 +9,10 @@ use Rattle.bus_strings.specs.Messages.{Message}
 use Rattle.bus_table.specs.Tables.{Sender, Table, Hand}
 use Rattle.bus_table.specs.Hands.{are_hands}
 use Rattle.bus_table.specs.Valid.{is_valid}
-use Rattle.bus_table.specs.ValidLaws.{valid_facts}
-use Rattle.bus_table.specs.TurnLaws.{at_in, numbers_differ}
+use Rattle.bus_table.proofs.ValidLaws.{valid_facts}
+use Rattle.bus_table.proofs.TurnLaws.{at_in, numbers_differ}
 use Rattle.bus_schedule.specs.Even.{messages_of, rounds, are_even}
-use Rattle.bus_schedule.specs.HandLaws.{HandAt, hand_at}
+use Rattle.bus_schedule.proofs.HandLaws.{HandAt, hand_at}
 use Rattle.bus_schedule.proofs.HandLemmas.{own_count}
 
 -- the hand of a sender stands at the sender's place, and has a message for each round

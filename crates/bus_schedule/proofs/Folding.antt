@@ -6,13 +6,13 @@ use Rattle.std.proofs.lemmas.Bool.{cases_lt, and_from, lt-ltb, true≢false}
 use Rattle.std.proofs.lemmas.List.{append-nil, append_assoc}
 use Rattle.bus_timers.specs.MayStart.{MayStart}
 use Rattle.bus_strings.specs.Members.{In}
-use Rattle.bus_strings.specs.MemberLaws.{of_each, in_append_right, in_map, in_push}
-use Rattle.bus_strings.specs.MessageLaws.{bits_some}
+use Rattle.bus_strings.proofs.MemberLaws.{of_each, in_append_right, in_map, in_push}
+use Rattle.bus_strings.proofs.MessageLaws.{bits_some}
 use Rattle.bus_strings.specs.Messages.{Message, Entry, bits}
 use Rattle.bus_strings.specs.Transmissions.{end_of, overlaps, Precedes, IsOrdered, IsAscending}
 use Rattle.bus_table.specs.Tables.{Sender, Table}
 use Rattle.bus_medium.specs.Past.{past, own, last_place}
-use Rattle.bus_medium.specs.PastLaws.{past_push, own_push_other}
+use Rattle.bus_medium.proofs.PastLaws.{past_push, own_push_other}
 use Rattle.bus_medium.specs.Lawful.{Station, IsDue, IsLawful}
 use Rattle.bus_medium.specs.Timings.{quiet_of}
 use Rattle.bus_medium.specs.Chains.{Chain, put, gap_put, ChainStep, ChainDue}

@@ -17,7 +17,7 @@ use Rattle.bus_medium.specs.Timings.{quiet_of, due_for, timing_of}
 use Rattle.bus_medium.specs.Chains.{HaveEnded, Chain, put, gap_put, Starts, ChainSettled, ChainStep, ChainStarts}
 use Rattle.bus_schedule.specs.Closed.{sends}
 use Rattle.bus_schedule.specs.Runs.{IsClear}
-use Rattle.bus_strings.specs.MemberLaws.{in_map, from_map, ordered_push}
+use Rattle.bus_strings.proofs.MemberLaws.{in_map, from_map, ordered_push}
 use Rattle.bus_schedule.proofs.HandLemmas.{Sendable, station, stations, message_of}
 use Rattle.bus_schedule.proofs.Greatest.{end_push}
 

@@ -9,7 +9,7 @@ use Rattle.bus_table.specs.Tables.{Sender}
 use Rattle.bus_medium.specs.Chains.{HaveEnded}
 use Rattle.bus_schedule.specs.Closed.{sends, turns, turns_end, origin, gap_schedule}
 use Rattle.bus_schedule.specs.Runs.{IsClear}
-use Rattle.bus_strings.specs.MemberLaws.{in_push_cases, ordered_push}
+use Rattle.bus_strings.proofs.MemberLaws.{in_push_cases, ordered_push}
 
 -- none begins before the one before has ended, and all have ended at moment e
 pub record IsLaid (list : List Entry) (e : ℕ) : Type 0 where

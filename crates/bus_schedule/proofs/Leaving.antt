@@ -4,16 +4,16 @@ use Rattle.std.specs.Prelude.{slice_get}
 use Rattle.std.proofs.lemmas.Bool.{cases_lt}
 use Rattle.std.proofs.lemmas.List.{length-map}
 use Rattle.std.proofs.lemmas.Nat.{div-add-mod'}
-use Rattle.bus_strings.specs.MemberLaws.{at_in}
+use Rattle.bus_strings.proofs.MemberLaws.{at_in}
 use Rattle.bus_strings.specs.Members.{In}
 use Rattle.bus_strings.specs.Messages.{Message, Entry, bits}
 use Rattle.bus_strings.specs.Transmissions.{end_of}
 use Rattle.bus_table.specs.Tables.{Sender, Table}
 use Rattle.bus_table.specs.Lengths.{longest}
 use Rattle.bus_table.specs.Turns.{turn_key, turn_order}
-use Rattle.bus_table.specs.TurnLaws.{from_sort, length-sort, numbers_differ, order_rises}
+use Rattle.bus_table.proofs.TurnLaws.{from_sort, length-sort, numbers_differ, order_rises}
 use Rattle.bus_regime.specs.Gaps.{Gap, latest_end, last_end, gaps}
-use Rattle.bus_regime.specs.GapLaws.{gap_sender, one_gap, gap_first, gap_next, last_of, same_by_number}
+use Rattle.bus_regime.proofs.GapLaws.{gap_sender, one_gap, gap_first, gap_next, last_of, same_by_number}
 use Rattle.bus_schedule.specs.Even.{messages_of, rounds}
 use Rattle.bus_schedule.specs.Closed.{sends, offset_turns, offset_schedule}
 use Rattle.bus_schedule.specs.Laws.{GapsAreLeft}

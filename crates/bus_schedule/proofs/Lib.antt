@@ -25,3 +25,4 @@ pub mod Meeting
 pub mod WitnessLemmas
 pub mod ShortLemmas
 pub mod Examples
+pub mod HandLaws

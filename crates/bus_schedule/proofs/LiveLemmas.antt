@@ -12,13 +12,13 @@ use Rattle.bus_table.specs.Tables.{Sender, Table, Hand}
 use Rattle.bus_table.specs.Hands.{are_hands}
 use Rattle.bus_table.specs.Lengths.{shortest}
 use Rattle.bus_table.specs.Turns.{turn_key, turn_order}
-use Rattle.bus_table.specs.TurnLaws.{from_sort, numbers_differ}
+use Rattle.bus_table.proofs.TurnLaws.{from_sort, numbers_differ}
 use Rattle.bus_table.specs.Valid.{is_valid}
-use Rattle.bus_table.specs.ValidLaws.{valid_facts}
+use Rattle.bus_table.proofs.ValidLaws.{valid_facts}
 use Rattle.bus_medium.specs.Lawful.{HaveOwnNumbers, IsLawful}
 use Rattle.bus_medium.specs.LawfulLaws.{LawfulToHorizon}
 use Rattle.bus_medium.specs.Timings.{quiet_of, stations_of}
-use Rattle.bus_medium.specs.StationLaws.{timings_are_sound, stations_have_own_numbers}
+use Rattle.bus_medium.proofs.StationLaws.{timings_are_sound, stations_have_own_numbers}
 use Rattle.bus_medium.specs.Chains.{ChainSettled, ChainStep, ChainStarts}
 use Rattle.bus_schedule.specs.Closed.{turns, turns_end, origin, gap_schedule}
 use Rattle.bus_schedule.specs.Even.{messages_of}

@@ -9,9 +9,9 @@ use Rattle.bus_strings.specs.Messages.{Message, Entry, bits}
 use Rattle.bus_strings.specs.Transmissions.{end_of}
 use Rattle.bus_table.specs.Tables.{Sender, Table}
 use Rattle.bus_table.specs.Turns.{Differ, turn_key, turn_order}
-use Rattle.bus_table.specs.TurnLaws.{at_in, in_at, from_sort, length-sort, numbers_differ}
+use Rattle.bus_table.proofs.TurnLaws.{at_in, in_at, from_sort, length-sort, numbers_differ}
 use Rattle.bus_table.specs.Valid.{is_valid}
-use Rattle.bus_table.specs.ValidLaws.{valid_facts}
+use Rattle.bus_table.proofs.ValidLaws.{valid_facts}
 use Rattle.bus_schedule.specs.Places.{AreInTurn}
 use Rattle.bus_schedule.specs.Closed.{sends, turns, turns_end}
 use Rattle.bus_schedule.proofs.EndLemmas.{turns_last}

@@ -3,7 +3,7 @@ use Rattle.std.proofs.Common.{◌≡◌, ◌≢◌, ℕ, ◌+◌, ◌*◌, ◌<�
 use Rattle.std.proofs.Common.{arith, sym, refl, ap, ◌∙◌, subst}
 use Rattle.std.proofs.lemmas.List.{append_assoc}
 use Rattle.bus_strings.specs.Members.{In}
-use Rattle.bus_strings.specs.MemberLaws.{in_append_cases, in_append_left, in_append_right, in_map, from_map}
+use Rattle.bus_strings.proofs.MemberLaws.{in_append_cases, in_append_left, in_append_right, in_map, from_map}
 use Rattle.bus_strings.specs.Messages.{Message, Entry, bits}
 use Rattle.bus_strings.specs.Transmissions.{end_of, overlaps, Precedes}
 use Rattle.bus_table.specs.declared.mode.Mode.TheVariants.{Aperiodic, Periodic}
@@ -11,13 +11,13 @@ use Rattle.bus_table.specs.Filling.{filling_bits}
 use Rattle.bus_table.specs.Lengths.{shortest, longest}
 use Rattle.bus_table.specs.Tables.{Sender, Table}
 use Rattle.bus_table.specs.Turns.{Rises, turn_key, turn_order}
-use Rattle.bus_table.specs.TurnLaws.{from_sort, in_sort, order_rises, numbers_differ}
+use Rattle.bus_table.proofs.TurnLaws.{from_sort, in_sort, order_rises, numbers_differ}
 use Rattle.bus_medium.specs.Chains.{Chain, put, gap_put, ChainSettled, ChainStep, ChainDue, ChainStarts}
 use Rattle.bus_medium.specs.Lawful.{IsLawful}
 use Rattle.bus_medium.specs.Timings.{quiet_of, due_for}
 use Rattle.bus_regime.specs.Fine.{HasSmall, HasUnsynchronized}
 use Rattle.bus_regime.specs.Gaps.{Gap, latest_end, last_end as last_of_order, gaps_from, gaps}
-use Rattle.bus_regime.specs.GapLaws.{gap_sender}
+use Rattle.bus_regime.proofs.GapLaws.{gap_sender}
 use Rattle.bus_regime.specs.Verdicts.{least_cycle}
 use Rattle.bus_schedule.specs.Closed.{sends, turns, turns_end, offset_turns, gap_schedule, offset_schedule}
 use Rattle.bus_schedule.specs.Runs.{IsClear}

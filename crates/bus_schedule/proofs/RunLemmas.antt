@@ -11,19 +11,19 @@ use Rattle.bus_table.specs.declared.mode.Mode.TheVariants.{Aperiodic, Periodic}
 use Rattle.bus_table.specs.Tables.{Sender, Table, Hand}
 use Rattle.bus_table.specs.Facts.{SenderFacts}
 use Rattle.bus_table.specs.Valid.{is_valid}
-use Rattle.bus_table.specs.ValidLaws.{valid_facts}
+use Rattle.bus_table.proofs.ValidLaws.{valid_facts}
 use Rattle.bus_table.specs.Hands.{are_hands}
 use Rattle.bus_table.specs.Lengths.{shortest, longest}
 use Rattle.bus_table.specs.Turns.{Rises, turn_key, turn_order}
-use Rattle.bus_table.specs.TurnLaws.{at_in, from_sort, length-sort, numbers_differ, of_each, order_rises}
+use Rattle.bus_table.proofs.TurnLaws.{at_in, from_sort, length-sort, numbers_differ, of_each, order_rises}
 use Rattle.bus_medium.specs.Lawful.{HaveOwnNumbers, IsLawful}
 use Rattle.bus_medium.specs.LawfulLaws.{OneLawfulList, LawfulToHorizon}
 use Rattle.bus_medium.specs.Timings.{quiet_of, stations_of}
-use Rattle.bus_medium.specs.StationLaws.{stations_have_own_numbers}
+use Rattle.bus_medium.proofs.StationLaws.{stations_have_own_numbers}
 use Rattle.bus_medium.specs.Chains.{ChainSettled, ChainStep, ChainStarts}
 use Rattle.bus_regime.specs.declared.table_verdict.TableVerdict.TheVariants.{Accept}
 use Rattle.bus_regime.specs.Verdicts.{least_cycle, most_cycle, verdict_of}
-use Rattle.bus_regime.specs.VerdictLaws.{accepted_cycle, accepted_gaps, aperiodic_numbers, periodic_numbers}
+use Rattle.bus_regime.proofs.VerdictLaws.{accepted_cycle, accepted_gaps, aperiodic_numbers, periodic_numbers}
 use Rattle.bus_schedule.specs.Even.{messages_of, rounds, are_even}
 use Rattle.bus_schedule.specs.Closed.{sends, turns, turns_end, origin, offset_turns, in_rounds, gap_schedule, offset_schedule, schedule_in, closed, closed_end}
 use Rattle.bus_schedule.specs.Runs.{IsClear, IsInTurns, IsApart, IsSpaced}

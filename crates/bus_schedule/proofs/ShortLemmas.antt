@@ -4,7 +4,7 @@ use Rattle.std.proofs.Common.{ap, subst}
 use Rattle.std.specs.List.{sum_by, AllByRecursion}
 use Rattle.std.proofs.lemmas.List.Sums.{sum_by-cons}
 use Rattle.bus_strings.specs.Marking.{greatest_end}
-use Rattle.bus_strings.specs.MemberLaws.{of_each, in_append_cases, from_map}
+use Rattle.bus_strings.proofs.MemberLaws.{of_each, in_append_cases, from_map}
 use Rattle.bus_strings.specs.Members.{In}
 use Rattle.bus_strings.specs.Messages.{Message, Entry, IsWordstring, IsMessage, word_count, bits}
 use Rattle.bus_strings.specs.Transmissions.{end_of}
@@ -12,11 +12,11 @@ use Rattle.bus_table.specs.declared.mode.Mode.{Mode}
 use Rattle.bus_table.specs.declared.mode.Mode.TheVariants.{Aperiodic, Periodic}
 use Rattle.bus_table.specs.Facts.{SenderFacts, TableFacts}
 use Rattle.bus_table.specs.Filling.{filling_message}
-use Rattle.bus_table.specs.FillingLaws.{filling_is_message}
+use Rattle.bus_table.proofs.FillingLaws.{filling_is_message}
 use Rattle.bus_table.specs.Tables.{Sender, Table}
 use Rattle.bus_table.specs.Turns.{turn_key, turn_order}
-use Rattle.bus_table.specs.TurnLaws.{from_sort, length-sort}
-use Rattle.bus_table.specs.ValidLaws.{valid_facts}
+use Rattle.bus_table.proofs.TurnLaws.{from_sort, length-sort}
+use Rattle.bus_table.proofs.ValidLaws.{valid_facts}
 use Rattle.bus_schedule.specs.Closed.{sends, turns_end, offset_turns, gap_schedule, offset_schedule, schedule_in}
 use Rattle.bus_schedule.specs.Even.{messages_of}
 use Rattle.bus_schedule.specs.Laws.{WitnessesAreShort}

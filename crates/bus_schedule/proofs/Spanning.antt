@@ -11,14 +11,14 @@ use Rattle.bus_table.specs.Tables.{Sender, Table}
 use Rattle.bus_table.specs.Facts.{FitsMode, SenderFacts}
 use Rattle.bus_table.specs.Lengths.{longest}
 use Rattle.bus_table.specs.Turns.{Differ, Rises, turn_key, turn_order}
-use Rattle.bus_table.specs.TurnLaws.{of_each, from_sort, in_sort, order_rises, numbers_differ}
+use Rattle.bus_table.proofs.TurnLaws.{of_each, from_sort, in_sort, order_rises, numbers_differ}
 use Rattle.bus_medium.specs.Timings.{greatest_gap, quiet_for, quiet_of, due_for}
 use Rattle.bus_medium.specs.Chains.{put, gap_put, ChainSettled, ChainStep, ChainStarts}
 use Rattle.bus_regime.specs.Gaps.{Gap, latest_end, last_end, gaps_from, gaps}
-use Rattle.bus_regime.specs.GapLaws.{gap_sender, one_gap}
+use Rattle.bus_regime.proofs.GapLaws.{gap_sender, one_gap}
 use Rattle.bus_regime.specs.Fine.{IsFine}
 use Rattle.bus_schedule.specs.Closed.{sends, offset_turns, offset_schedule}
-use Rattle.bus_strings.specs.MemberLaws.{in_append_cases, in_append_left, in_append_right, in_push_cases}
+use Rattle.bus_strings.proofs.MemberLaws.{in_append_cases, in_append_left, in_append_right, in_push_cases}
 use Rattle.bus_schedule.proofs.Orders.{rises_before, rises_after, same_sender}
 use Rattle.bus_schedule.proofs.HandLemmas.{Sendable}
 use Rattle.bus_schedule.proofs.GapLemmas.{behind_ends, final, final_last, gap_left}

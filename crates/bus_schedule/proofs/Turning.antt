@@ -14,12 +14,12 @@ use Rattle.bus_table.specs.Tables.{Sender, Table}
 use Rattle.bus_table.specs.Facts.{SenderFacts}
 use Rattle.bus_table.specs.Lengths.{shortest}
 use Rattle.bus_table.specs.Turns.{Rises, turn_key, turn_order}
-use Rattle.bus_table.specs.TurnLaws.{of_each, from_sort, in_sort, order_rises, numbers_differ}
+use Rattle.bus_table.proofs.TurnLaws.{of_each, from_sort, in_sort, order_rises, numbers_differ}
 use Rattle.bus_medium.specs.Timings.{quiet_of, due_for}
 use Rattle.bus_medium.specs.Chains.{put, gap_put, ChainSettled, ChainStep, ChainStarts}
 use Rattle.bus_schedule.specs.Closed.{sends, turns, turns_end, origin}
 use Rattle.bus_schedule.specs.Live.{live, live_rounds, AreLong}
-use Rattle.bus_strings.specs.MemberLaws.{in_append_cases, in_append_left, in_append_right, in_push_cases, in_filter, from_filter, filter_filter}
+use Rattle.bus_strings.proofs.MemberLaws.{in_append_cases, in_append_left, in_append_right, in_push_cases, in_filter, from_filter, filter_filter}
 use Rattle.bus_schedule.proofs.Orders.{rises_before, rises_after, rises_filter, same_sender}
 use Rattle.bus_schedule.proofs.HandLemmas.{quiet_is}
 use Rattle.bus_schedule.proofs.Spacing.{cycle, cycle_sum, cycle_filter}

@@ -11,13 +11,13 @@ use Rattle.bus_table.specs.Hands.{are_hands}
 use Rattle.bus_table.specs.Facts.{TableFacts}
 use Rattle.bus_table.specs.Fits.{fits}
 use Rattle.bus_table.specs.Turns.{Differ, turn_key, turn_order}
-use Rattle.bus_table.specs.TurnLaws.{from_sort, in_sort, numbers_differ, length-sort}
+use Rattle.bus_table.proofs.TurnLaws.{from_sort, in_sort, numbers_differ, length-sort}
 use Rattle.bus_table.specs.Valid.{is_valid}
-use Rattle.bus_table.specs.ValidLaws.{valid_facts}
+use Rattle.bus_table.proofs.ValidLaws.{valid_facts}
 use Rattle.bus_schedule.specs.declared.uneven.Uneven.{Uneven}
 use Rattle.bus_schedule.specs.Even.{rounds, are_even}
 use Rattle.bus_schedule.specs.Uneven.{count_of, counts_of, differing, uneven_in, uneven_of}
-use Rattle.bus_schedule.specs.HandLaws.{hand_here, hand_of_other}
+use Rattle.bus_schedule.proofs.HandLaws.{hand_here, hand_of_other}
 use Rattle.bus_schedule.proofs.HandLemmas.{own_count}
 
 both : (a b : Bool) → a ≡ true → b ≡ true → (a && b) ≡ true

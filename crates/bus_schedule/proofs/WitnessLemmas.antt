@@ -11,28 +11,28 @@ use Rattle.bus_table.specs.declared.mode.Mode.{Mode}
 use Rattle.bus_table.specs.declared.mode.Mode.TheVariants.{Aperiodic, Periodic}
 use Rattle.bus_table.specs.Facts.{TableFacts}
 use Rattle.bus_table.specs.Filling.{filling_message, filling_bits}
-use Rattle.bus_table.specs.FillingLaws.{filling_length}
+use Rattle.bus_table.proofs.FillingLaws.{filling_length}
 use Rattle.bus_table.specs.Fits.{items_fit}
 use Rattle.bus_table.specs.Hands.{hand_of, GiveHands}
 use Rattle.bus_table.specs.Tables.{Sender, Table, Hand}
 use Rattle.bus_table.specs.Turns.{Differ, turn_order}
-use Rattle.bus_table.specs.TurnLaws.{numbers_differ}
+use Rattle.bus_table.proofs.TurnLaws.{numbers_differ}
 use Rattle.bus_table.specs.Valid.{is_valid}
-use Rattle.bus_table.specs.ValidLaws.{valid_facts}
+use Rattle.bus_table.proofs.ValidLaws.{valid_facts}
 use Rattle.bus_medium.specs.Chains.{ChainSettled, ChainStep, ChainDue, ChainStarts}
 use Rattle.bus_medium.specs.Lawful.{IsLawful}
 use Rattle.bus_medium.specs.Timings.{quiet_of}
 use Rattle.bus_regime.specs.Verdicts.{verdict_of, is_accepted}
-use Rattle.bus_regime.specs.VerdictLaws.{refused_cycle, refused_gaps}
+use Rattle.bus_regime.proofs.VerdictLaws.{refused_cycle, refused_gaps}
 use Rattle.bus_regime.specs.Witness.{witness_of}
-use Rattle.bus_regime.specs.WitnessLaws.{witness_fits, witness_hand}
+use Rattle.bus_regime.proofs.WitnessLaws.{witness_fits, witness_hand}
 use Rattle.bus_schedule.specs.Closed.{closed, closed_end, schedule_in}
 use Rattle.bus_schedule.specs.Even.{messages_of, rounds}
 use Rattle.bus_schedule.specs.Laws.{AcceptedIsClosed, TheSettledAreAccepted, TheRefusedFail, WitnessesAreEven}
 use Rattle.bus_schedule.specs.Runs.{IsClear}
 use Rattle.bus_schedule.specs.Settled.{Happens, IsKept, IsSettled, witness_hands}
 use Rattle.bus_schedule.proofs.Growing.{Setting}
-use Rattle.bus_schedule.specs.HandLaws.{hand_here, hand_there}
+use Rattle.bus_schedule.proofs.HandLaws.{hand_here, hand_there}
 use Rattle.bus_schedule.proofs.HandLemmas.{stations}
 use Rattle.bus_schedule.proofs.Meeting.{clear_or_overlap}
 use Rattle.bus_schedule.proofs.Refusing.{gaps_hold, cycle_holds}

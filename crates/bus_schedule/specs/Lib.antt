@@ -1,5 +1,4 @@
 pub mod Even
-pub mod HandLaws
 pub mod Uneven
 pub mod Closed
 pub mod Live

@@ -8,11 +8,11 @@ use Rattle.std.proofs.lemmas.Bool.Decides.{nat_tests}
 use Rattle.std.proofs.lemmas.Grind.{flat_map-append}
 use Rattle.std.proofs.lemmas.List.Folds.{flat_map-map}
 use Rattle.bus_text.specs.Canonical.{spelled_line, spelled_lines, IsField, AreFields, numbered}
-use Rattle.bus_text.specs.CanonicalLaws.{entries_of-spelled_lines, constant_field, spelled_line-cons}
+use Rattle.bus_text.proofs.CanonicalLaws.{entries_of-spelled_lines, constant_field, spelled_line-cons}
 use Rattle.bus_text.specs.Digits.{hexadecimal}
-use Rattle.bus_text.specs.DigitLaws.{hexadecimal_is, hexadecimal_field}
+use Rattle.bus_text.proofs.DigitLaws.{hexadecimal_is, hexadecimal_field}
 use Rattle.bus_text.specs.Lines.{Entry}
-use Rattle.bus_text.specs.NumberLaws.{decimal_is, decimal_field}
+use Rattle.bus_text.proofs.NumberLaws.{decimal_is, decimal_field}
 use Rattle.bus_strings.specs.Items.{Item, IsItem}
 use Rattle.bus_strings.specs.Canonical.{string_fields, item_fields, header_fields, messages_text}
 use Rattle.bus_strings.specs.Grammar.{AreWords, AreStrings, IsItemLine, AreItemLines, AreMessageLines, IsMessagesText}

@@ -8,9 +8,9 @@ use Rattle.std.proofs.lemmas.Slice.Eq.{bytes_eq-Decides}
 use Rattle.std.proofs.lemmas.List.Elements.{All-from_recursion}
 use Rattle.std.proofs.lemmas.List.Splits.{slice_split_at, slice_split_none}
 use Rattle.bus_text.specs.AllOf.{◌>>=◌, all_of}
-use Rattle.bus_text.specs.AllOfLaws.{bind_ok, length-all_of}
+use Rattle.bus_text.proofs.AllOfLaws.{bind_ok, length-all_of}
 use Rattle.bus_text.specs.Lines.{Entry, entries_of, line_after_of}
-use Rattle.bus_text.specs.LineLaws.{length-entries_of-le}
+use Rattle.bus_text.proofs.LineLaws.{length-entries_of-le}
 use Rattle.bus_text.specs.Fields.{is_at}
 use Rattle.bus_text.specs.Numbers.{is_plain_decimal, is_hexadecimal, hexadecimal_value, IsHexadecimal}
 use Rattle.bus_text.specs.Refusals.{at_line}

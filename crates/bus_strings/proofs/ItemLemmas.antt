@@ -8,7 +8,7 @@ use Rattle.std.proofs.lemmas.Bool.Decides.{nat_tests}
 use Rattle.bus_text.specs.Fields.{is_at}
 use Rattle.bus_text.specs.Gives.{LineFails}
 use Rattle.bus_text.specs.Numbers.{is_plain_decimal, decimal_value, is_hexadecimal}
-use Rattle.bus_text.specs.NumberLaws.{is_in_range-min, hexadecimal_value-lt}
+use Rattle.bus_text.proofs.NumberLaws.{is_in_range-min, hexadecimal_value-lt}
 use Rattle.bus_text.specs.Refusals.{first_of, unless}
 use Rattle.bus_text.specs.declared.fault.LineFault.{LineFault}
 use Rattle.bus_text.specs.declared.fault.LineFault.TheVariants as line

@@ -5,3 +5,7 @@ pub mod GrammarLemmas
 pub mod CanonicalLemmas
 pub mod OverlapLemmas
 pub mod KeptLemmas
+pub mod PulsesAlongLaws
+pub mod MessageLaws
+pub mod MemberLaws
+pub mod ListLaws

@@ -12,10 +12,10 @@ use Rattle.std.proofs.lemmas.Option.{slice_get_within, get_or_from_slice_get}
 use Rattle.std.proofs.Math.Seq.{drop-cons}
 use Rattle.std.proofs.Math.ListN.{drop_of_length-le}
 use Rattle.bus_strings.specs.Messages.{Entry, bits}
-use Rattle.bus_strings.specs.MessageLaws.{bits_some}
+use Rattle.bus_strings.proofs.MessageLaws.{bits_some}
 use Rattle.bus_strings.specs.Transmissions.{end_of, overlaps, garbled, marks, Precedes, IsOrdered, IsByMoment}
 use Rattle.bus_strings.specs.Marking.{greatest_end}
-use Rattle.bus_strings.specs.ListLaws.{all_push}
+use Rattle.bus_strings.proofs.ListLaws.{all_push}
 use Rattle.bus_strings.specs.OverlapLaws.{OverlapsMeet, NeighboursTell, AscendingIsByMoment}
 
 abbrev HasWords : Entry → Type 0

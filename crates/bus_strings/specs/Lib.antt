@@ -1,14 +1,10 @@
 pub mod Kept
 pub mod Limits
 pub mod Members
-pub mod ListLaws
 pub mod Messages
-pub mod MessageLaws
 pub mod Pulses
 pub mod PulseLaws
-pub mod PulsesAlongLaws
 pub mod Transmissions
-pub mod MemberLaws
 pub mod Items
 pub mod Grammar
 pub mod Reading

@@ -10,12 +10,12 @@ use Rattle.std.proofs.lemmas.Bool.Decides.{nat_tests}
 use Rattle.std.proofs.lemmas.List.{take_more}
 use Rattle.std.proofs.lemmas.List.Concat.{flat_map-append}
 use Rattle.bus_text.specs.Canonical.{spelled_line, spelled_lines, IsField, AreFields, numbered}
-use Rattle.bus_text.specs.CanonicalLaws.{entries_of-spelled_lines, constant_field}
+use Rattle.bus_text.proofs.CanonicalLaws.{entries_of-spelled_lines, constant_field}
 use Rattle.bus_text.specs.Digits.{hex_digit, hexadecimal}
-use Rattle.bus_text.specs.DigitLaws.{hexadecimal_is, hexadecimal_field}
+use Rattle.bus_text.proofs.DigitLaws.{hexadecimal_is, hexadecimal_field}
 use Rattle.bus_text.specs.Lines.{Entry}
 use Rattle.bus_text.specs.Numbers.{IsHexadecimal}
-use Rattle.bus_text.specs.NumberLaws.{decimal_is, decimal_field}
+use Rattle.bus_text.proofs.NumberLaws.{decimal_is, decimal_field}
 use Rattle.bus_table.specs.declared.mode.Mode.{Mode}
 use Rattle.bus_table.specs.declared.mode.Mode.TheVariants.{Aperiodic, Periodic}
 use Rattle.bus_table.specs.Canonical.{sender_fields, send_fields, ext_field, take_fields, line_fields, table_text}

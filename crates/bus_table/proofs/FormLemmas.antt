@@ -10,7 +10,7 @@ use Rattle.bus_text.specs.Entries.{texts}
 use Rattle.bus_text.specs.declared.reason.Reason.{Reason}
 use Rattle.bus_text.specs.declared.reason.Reason.TheVariants.{Fields, Spelling, Range}
 use Rattle.bus_text.specs.Numbers.{is_plain_decimal, decimal_value}
-use Rattle.bus_text.specs.NumberLaws.{is_in_range-min}
+use Rattle.bus_text.proofs.NumberLaws.{is_in_range-min}
 use Rattle.bus_text.specs.Refusals.{first_of, unless}
 use Rattle.bus_text.specs.Numbers.{is_hexadecimal, hexadecimal_value}
 use Rattle.bus_text.specs.Fields.{is_at}

@@ -10,7 +10,7 @@ use Rattle.bus_table.specs.Fits.{allows, matches, fits, has_shape, items_fit}
 use Rattle.bus_table.specs.Hands.{message_of, items_of, hand_of, hands_of, are_hands}
 use Rattle.bus_table.specs.Tables.{SendLine, Sender, Table}
 use Rattle.bus_table.specs.Valid.{is_valid}
-use Rattle.bus_table.specs.ValidLaws.{valid_facts}
+use Rattle.bus_table.proofs.ValidLaws.{valid_facts}
 use Rattle.bus_table.proofs.HandLemmas.{is_fit, each_fits}
 
 both : (a b : Bool) → a ≡ true → b ≡ true → (a && b) ≡ true

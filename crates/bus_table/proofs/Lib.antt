@@ -15,3 +15,8 @@ pub mod HandLemmas
 pub mod HandFits
 pub mod OffsetLemmas
 pub mod CanonicalLemmas
+pub mod TurnLaws
+pub mod OffsetLaws
+pub mod FillingLaws
+pub mod ValidLaws
+pub mod FitLaws

@@ -10,7 +10,7 @@ use Rattle.bus_table.specs.declared.mode.Mode.{Mode}
 use Rattle.bus_table.specs.declared.mode.Mode.TheVariants.{Periodic}
 use Rattle.bus_table.specs.Tables.{Sender, Listener, Table}
 use Rattle.bus_table.specs.Valid.{is_valid}
-use Rattle.bus_table.specs.OffsetLaws.{kept_valid}
+use Rattle.bus_table.proofs.OffsetLaws.{kept_valid}
 use Rattle.bus_table.specs.Offsets.{at_offset, at_offsets, with_offsets}
 
 moved_more : (offsets : List ℕ) (senders : List Sender) (i at d : ℕ) (s : Sender) → i < length offsets → i < length senders

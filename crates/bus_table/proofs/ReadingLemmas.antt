@@ -10,7 +10,7 @@ use Rattle.bus_text.specs.declared.reason.Reason.{Reason}
 use Rattle.bus_text.specs.declared.reason.Reason.TheVariants as reasons
 use Rattle.bus_text.specs.Fields.{is_at}
 use Rattle.bus_text.specs.Lines.{Entry}
-use Rattle.bus_strings.specs.ListLaws.{all_push}
+use Rattle.bus_strings.proofs.ListLaws.{all_push}
 use Rattle.bus_table.specs.declared.mode.Mode.{Mode}
 use Rattle.bus_table.specs.declared.keyword.Keyword.{Keyword}
 use Rattle.bus_table.specs.declared.keyword.Keyword.TheVariants as keywords

@@ -4,7 +4,6 @@ pub mod Whole
 pub mod Valid
 pub mod Lengths
 pub mod Facts
-pub mod ValidLaws
 pub mod Fits
 pub mod Hands
 pub mod Heads
@@ -15,11 +14,7 @@ pub mod Reading
 pub mod Gives
 pub mod Timers
 pub mod Turns
-pub mod TurnLaws
-pub mod FitLaws
 pub mod Filling
-pub mod FillingLaws
 pub mod Offsets
-pub mod OffsetLaws
 pub mod Canonical
 pub mod Puts

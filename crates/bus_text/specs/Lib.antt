@@ -7,8 +7,3 @@ pub mod Refusals
 pub mod Gives
 pub mod AllOf
 pub mod Canonical
-pub mod LineLaws
-pub mod AllOfLaws
-pub mod NumberLaws
-pub mod DigitLaws
-pub mod CanonicalLaws

@@ -6,8 +6,8 @@ use Rattle.bus_timers.specs.declared.timing.Timing.{Timing}
 use Rattle.bus_timers.specs.Timings.{IsSound, due_place}
 use Rattle.bus_timers.specs.MayStart.{MayStart}
 use Rattle.bus_timers.specs.Counters.{CountersStand}
-use Rattle.bus_timers.specs.TimingLaws.{sound_sg, sound_tg}
-use Rattle.bus_timers.specs.GapStepLaws.{gap_quiet, gap_carrier_elapsed, gap_carrier_waiting, gap_started, gap_settled, gap_ready}
+use Rattle.bus_timers.proofs.TimingLaws.{sound_sg, sound_tg}
+use Rattle.bus_timers.proofs.GapStepLaws.{gap_quiet, gap_carrier_elapsed, gap_carrier_waiting, gap_started, gap_settled, gap_ready}
 
 pub counters_settled : (timing : Timing) (gap : ℕ) → IsSound timing → gap ≡ min timing.tg (timing.quiet - timing.sg) → CountersStand timing timing.due timing.sg gap (replicate timing.quiet false) None
 counters_settled timing gap s e =

@@ -8,9 +8,9 @@ use Rattle.bus_timers.specs.MayStart.{MayStart}
 use Rattle.bus_timers.specs.GapPlace.{GapFrom}
 use Rattle.bus_timers.specs.Deadlines.{DeadlinesStand}
 use Rattle.bus_timers.specs.Wait.{IsWait}
-use Rattle.bus_timers.specs.TimingLaws.{sound_sg, sound_tg}
-use Rattle.bus_timers.specs.GapStepLaws.{gap_started, gap_ready}
-use Rattle.bus_timers.specs.GapStretchLaws.{gap_quiets, gap_carriers_elapsed, gap_carriers_waiting}
+use Rattle.bus_timers.proofs.TimingLaws.{sound_sg, sound_tg}
+use Rattle.bus_timers.proofs.GapStepLaws.{gap_started, gap_ready}
+use Rattle.bus_timers.proofs.GapStretchLaws.{gap_quiets, gap_carriers_elapsed, gap_carriers_waiting}
 
 pub deadlines_started : (timing : Timing) (now due gap_from : ℕ) (past : List Bool) (last : Option ℕ) → DeadlinesStand timing now due gap_from past last → DeadlinesStand timing now (now + timing.ti) (now + timing.sg) past (Some (length past))
 deadlines_started timing now due gap_from past last d =

@@ -3,9 +3,6 @@ pub mod MayStart
 pub mod MayStartTest
 pub mod GapPlace
 pub mod GapLaws
-pub mod GapStepLaws
-pub mod GapStretchLaws
-pub mod TimingLaws
 pub mod Counters
 pub mod Wait
 pub mod Deadlines

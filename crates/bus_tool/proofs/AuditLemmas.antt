@@ -19,7 +19,7 @@ use Rattle.bus_tool.specs.Due.{table_refusal_of, Traced, traced_due, audit_outco
 use Rattle.bus_tool.specs.Taken.{AreTraced}
 use Rattle.bus_tool.specs.Texts.{IsAnswerOf, IsAuditText}
 use Rattle.bus_tool.specs.Acts.{written, DoesForm}
-use Rattle.bus_tool.specs.DoLaws.{Tells, answered, stopped}
+use Rattle.bus_tool.proofs.DoLaws.{Tells, answered, stopped}
 
 pub written_audit : (answer : AuditAnswer) → kind_of (audit_outcome answer) ≡ Answer
 written_audit (Lawful collided) = refl

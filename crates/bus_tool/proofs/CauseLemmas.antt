@@ -31,8 +31,8 @@ use Rattle.bus_tool.proofs.CheckLemmas.{written_verdict}
 use Rattle.bus_tool.proofs.AuditLemmas.{written_audit}
 use Rattle.bus_tool.proofs.ModeLemmas.{IsOtherMode, mode_stop}
 use Rattle.bus_tool.proofs.PlanLemmas.{written_plan}
-use Rattle.bus_tool.specs.StageLaws.{if_map}
-use Rattle.bus_tool.specs.PrepareLaws.{both_map}
+use Rattle.bus_tool.proofs.StageLaws.{if_map}
+use Rattle.bus_tool.proofs.PrepareLaws.{both_map}
 use Rattle.bus_tool.proofs.ReadLemmas.{table_read, table_text_read, table_whole_read, table_no_mode, table_stops, messages_text_read, unfit_read, items_read, inputs_read, inputs_stop, items_refuse}
 use Rattle.bus_tool.proofs.TraceReads.{held_trace, read_trace, trace_refuses, traced_stop}
 use Rattle.bus_tool.proofs.WaveReads.{spaced_stop, wave_refuses, no_wave_text}

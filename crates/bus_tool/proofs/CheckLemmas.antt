@@ -18,8 +18,8 @@ use Rattle.bus_tool.specs.Steps.{Takes, Same}
 use Rattle.bus_tool.specs.Due.{table_due, verdict_outcome, table_refusal_of}
 use Rattle.bus_tool.specs.Texts.{IsCheckText}
 use Rattle.bus_tool.specs.Acts.{written, DoesForm}
-use Rattle.bus_tool.specs.PrepareLaws.{prepares_one}
-use Rattle.bus_tool.specs.DoLaws.{Tells, answered, stopped}
+use Rattle.bus_tool.proofs.PrepareLaws.{prepares_one}
+use Rattle.bus_tool.proofs.DoLaws.{Tells, answered, stopped}
 
 pub written_verdict : (v : TableVerdict) → kind_of (verdict_outcome v) ≡ Answer
 written_verdict (Accept mode least most) = refl

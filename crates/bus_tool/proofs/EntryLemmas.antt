@@ -6,13 +6,13 @@ use Rattle.std.proofs.Common.{arith, refl, sym, ap, ◌∙◌, subst, inl, inr}
 use Rattle.std.proofs.lemmas.Bool.{and_parts}
 use Rattle.std.proofs.lemmas.Bool.Decides.{nat_tests}
 use Rattle.bus_text.specs.Lines.{Entry as Line, entries_of}
-use Rattle.bus_text.specs.LineLaws.{length-entries_of-le}
-use Rattle.bus_text.specs.NumberLaws.{hexadecimal_value-lt}
+use Rattle.bus_text.proofs.LineLaws.{length-entries_of-le}
+use Rattle.bus_text.proofs.NumberLaws.{hexadecimal_value-lt}
 use Rattle.bus_strings.specs.Grammar.{AreWords, AreStrings, IsItemLine, AreItemLines, AreMessageLines, IsMessagesText}
 use Rattle.bus_strings.specs.Items.{Item, is_in_range}
 use Rattle.bus_strings.specs.Limits.{horizon_limit, most_strings, most_words}
 use Rattle.bus_strings.specs.Members.{In}
-use Rattle.bus_strings.specs.MemberLaws.{of_each, at_in, from_filter, from_map}
+use Rattle.bus_strings.proofs.MemberLaws.{of_each, at_in, from_filter, from_map}
 use Rattle.bus_strings.specs.Messages.{Entry, Message, IsWordstring}
 use Rattle.bus_strings.specs.Transmissions.{IsTransmission}
 use Rattle.bus_table.specs.Facts.{SenderFacts}
@@ -22,9 +22,9 @@ use Rattle.bus_table.specs.Ranges.{is_label, is_ext, is_send_line, are_send_line
 use Rattle.bus_table.specs.declared.line.SendLine.{SendLine}
 use Rattle.bus_table.specs.Tables.{Sender, Table, Hand}
 use Rattle.bus_table.specs.Valid.{is_valid}
-use Rattle.bus_table.specs.ValidLaws.{valid_facts}
+use Rattle.bus_table.proofs.ValidLaws.{valid_facts}
 use Rattle.bus_medium.specs.Lawful.{IsLawful}
-use Rattle.bus_medium.specs.StationLaws.{HasSender, stations_are_of_senders}
+use Rattle.bus_medium.proofs.StationLaws.{HasSender, stations_are_of_senders}
 use Rattle.bus_medium.specs.Timings.{quiet_of, stations_of}
 use Rattle.bus_trace.specs.Traces.{Recording, IsTrace}
 use Rattle.bus_tool.specs.Readers.{text_limit}

@@ -4,7 +4,8 @@ use Rattle.bus_strings.specs.Members.{In}
 use Rattle.bus_medium.specs.Lawful.{IsLawful}
 use Rattle.bus_medium.specs.Timings.{quiet_of, stations_of}
 use Rattle.bus_table.specs.Hands.{hands_of}
-use Rattle.bus_audit.specs.Observed.{ObservedIsRight, states_hands}
+use Rattle.bus_audit.specs.Observed.{ObservedIsRight}
+use Rattle.bus_audit.proofs.Observed.{states_hands}
 use Rattle.bus_tool.specs.Texts.{hold_of}
 use Rattle.bus_tool.specs.TextLaws.{SendersHaveHolds, ObservedIsFoundLawful, RunIsFoundLawful, DropIsFoundLawful}
 use Rattle.bus_tool.proofs.LawTypes.{FittingItemsGiveHands}

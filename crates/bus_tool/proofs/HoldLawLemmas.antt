@@ -9,9 +9,9 @@ use Rattle.bus_strings.specs.Members.{In}
 use Rattle.bus_table.specs.Tables.{Sender, Table, Hand}
 use Rattle.bus_table.specs.Hands.{hand_of, hands_of}
 use Rattle.bus_table.specs.Facts.{SenderFacts, TableFacts}
-use Rattle.bus_table.specs.ValidLaws.{valid_facts}
+use Rattle.bus_table.proofs.ValidLaws.{valid_facts}
 use Rattle.bus_table.specs.Turns.{Differ}
-use Rattle.bus_table.specs.TurnLaws.{of_each, numbers_differ}
+use Rattle.bus_table.proofs.TurnLaws.{of_each, numbers_differ}
 use Rattle.bus_trace.specs.declared.hold.Hold.{Hold}
 use Rattle.bus_tool.specs.Texts.{hold_of, hold_at, terminal_numbers, holds_of}
 use Rattle.bus_tool.specs.TextLaws.{SendersHaveHolds}

@@ -20,8 +20,8 @@ use Rattle.bus_tool.specs.Due.{text_due, table_refusal, table_or_refusal, table_
 use Rattle.bus_tool.specs.Taken.{AreHandsOf, AreInputs}
 use Rattle.bus_tool.proofs.TakeLemmas.{RefusesAt, takes_then}
 use Rattle.bus_tool.proofs.ReadLemmas.{items_stage}
-use Rattle.bus_tool.specs.StageLaws.{if_map, then_stage, stop_early, stop_low, gives_on}
-use Rattle.bus_tool.specs.PrepareLaws.{prepares_none, prepares_both}
+use Rattle.bus_tool.proofs.StageLaws.{if_map, then_stage, stop_early, stop_low, gives_on}
+use Rattle.bus_tool.proofs.PrepareLaws.{prepares_none, prepares_both}
 
 table_stage : (answer : Result Table TableError) → 1 ≤ stage_in (table_or_refusal answer)
 table_stage (Ok table) = omega arith

@@ -51,3 +51,7 @@ pub mod AnswerLemmas
 pub mod TextLawLemmas
 pub mod RunClaim
 pub mod DropClaim
+pub mod StageLaws
+pub mod ReachLaws
+pub mod PrepareLaws
+pub mod DoLaws

@@ -14,7 +14,7 @@ use Rattle.bus_tool.specs.Steps.{Prepares}
 use Rattle.bus_tool.specs.Due.{inputs_due, table_refusal_of}
 use Rattle.bus_tool.specs.Texts.{IsRecordingOf, IsObserveText}
 use Rattle.bus_tool.specs.Acts.{written, DoesForm}
-use Rattle.bus_tool.specs.DoLaws.{Tells, answered, stopped}
+use Rattle.bus_tool.proofs.DoLaws.{Tells, answered, stopped}
 
 pub observe_stopped : (horizon : ℕ) (before after : Sources) (out : Seen) (o : Outcome) → Prepares (IsRecordingOf horizon) (two_sources entire entire) table_refusal_of inputs_due before after (Err o)
     → DoesForm (Observe horizon) (around before out) (around after out) o

@@ -58,7 +58,7 @@ use Rattle.bus_tool.specs.Own.{is_question, IsOwn, IsOf, IsAnyones, IsOfMode, Is
 use Rattle.bus_tool.specs.Readers.{Entire, Trace, entire, entire_wave, text_limit, wave_limit}
 use Rattle.bus_tool.specs.Steps.{IsText, Same, Takes, read_refusal}
 use Rattle.bus_tool.proofs.LawTypes.{TextReadsAsItsItems, ReadsItems}
-use Rattle.bus_tool.specs.StageLaws.{if_map}
+use Rattle.bus_tool.proofs.StageLaws.{if_map}
 use Rattle.bus_tool.proofs.TraceReads.{held_trace, read_trace}
 use Rattle.bus_tool.proofs.WaveReads.{refused_wave}
 

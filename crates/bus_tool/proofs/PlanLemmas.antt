@@ -19,7 +19,7 @@ use Rattle.bus_tool.specs.Steps.{Same, Prepares}
 use Rattle.bus_tool.specs.Due.{refusal_of_mode, table_in, plan_outcome}
 use Rattle.bus_tool.specs.Texts.{IsPlanOf, IsPlanText}
 use Rattle.bus_tool.specs.Acts.{written, DoesForm}
-use Rattle.bus_tool.specs.DoLaws.{Tells, answered, stopped}
+use Rattle.bus_tool.proofs.DoLaws.{Tells, answered, stopped}
 
 pub written_plan : (answer : PlanAnswer) → kind_of (plan_outcome answer) ≡ Answer
 written_plan (Planned table) = refl

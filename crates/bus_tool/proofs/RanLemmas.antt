@@ -7,7 +7,7 @@ use Rattle.std.proofs.lemmas.Result.{err_from_is_err_and}
 use Rattle.bus_text.specs.AllOf.{◌>>=◌}
 use Rattle.bus_filter.specs.ReceivedTexts.{received_text}
 use Rattle.bus_outer.specs.Sinks.{WritesText}
-use Rattle.bus_outer.specs.WriteLaws.{writes_then, writes_cut}
+use Rattle.bus_outer.proofs.WriteLaws.{writes_then, writes_cut}
 use Rattle.bus_outer.specs.declared.sink.Sink.{Ghosts as SinkGhosts}
 use Rattle.bus_outer.specs.declared.sink.WriteFault.{WriteFault as Fault}
 use Rattle.bus_table.specs.Tables.{Table, Hand}
@@ -29,9 +29,9 @@ use Rattle.bus_tool.specs.Due.{Inputs, hands_in, accepted_due, short_due, outcom
 use Rattle.bus_tool.specs.Taken.{AreInputs}
 use Rattle.bus_tool.specs.Texts.{IsRanBy, IsRanText, IsTextOf, run_text}
 use Rattle.bus_tool.specs.Acts.{written, Does}
-use Rattle.bus_tool.specs.StageLaws.{then_stage, late_early, late_stage, gives_on}
-use Rattle.bus_tool.specs.PrepareLaws.{prepares_past, prepares_then}
-use Rattle.bus_tool.specs.DoLaws.{Tells, answered, stopped}
+use Rattle.bus_tool.proofs.StageLaws.{then_stage, late_early, late_stage, gives_on}
+use Rattle.bus_tool.proofs.PrepareLaws.{prepares_past, prepares_then}
+use Rattle.bus_tool.proofs.DoLaws.{Tells, answered, stopped}
 
 -- ---- what is due behind both texts
 abbrev accepted_if : Bool → TableVerdict → Result (Unit {0}) Outcome

@@ -3,7 +3,7 @@ use Rattle.std.specs.Prelude.{◌≡◌, ℕ, ◌≤◌, nat_lt, true, false, �
 use Rattle.std.proofs.Common.{arith, refl, sym, ap, ◌∙◌, subst, cond, inl, inr}
 use Rattle.bus_text.specs.declared.reason.Reason.{Reason}
 use Rattle.bus_text.specs.AllOf.{◌>>=◌}
-use Rattle.bus_text.specs.AllOfLaws.{bind_ok}
+use Rattle.bus_text.proofs.AllOfLaws.{bind_ok}
 use Rattle.bus_text.specs.Refusals.{Refusal}
 use Rattle.bus_strings.specs.Items.{Item}
 use Rattle.bus_strings.specs.Reading.{messages_reading}
@@ -22,7 +22,7 @@ use Rattle.bus_tool.specs.Stages.{stage_in}
 use Rattle.bus_tool.specs.Readers.{text_limit}
 use Rattle.bus_tool.specs.Steps.{StopsAt}
 use Rattle.bus_tool.specs.Due.{text_within, table_refusal, table_or_refusal, table_due, items_or_refusal, fitting_or_refusal, items_due, Inputs, with_items, inputs_due}
-use Rattle.bus_tool.specs.StageLaws.{stop_stage}
+use Rattle.bus_tool.proofs.StageLaws.{stop_stage}
 
 -- a text that was read, where the outcome isn't that it is too large
 pub read_text : {Y : Type 0} (limit number : ℕ) (text : List ℕ) (f : List ℕ → Result Y Outcome) (r : Result Y Outcome) → (Err (TooLarge number) ≡ r → ⊥) → (text_within limit number text >>= f) ≡ r → f text ≡ r

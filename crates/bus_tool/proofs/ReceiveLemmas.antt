@@ -17,7 +17,7 @@ use Rattle.bus_tool.specs.Due.{table_refusal_of, traced_due}
 use Rattle.bus_tool.specs.Taken.{AreTraced}
 use Rattle.bus_tool.specs.Texts.{IsReceiveText}
 use Rattle.bus_tool.specs.Acts.{written, DoesForm}
-use Rattle.bus_tool.specs.DoLaws.{Tells, answered, stopped}
+use Rattle.bus_tool.proofs.DoLaws.{Tells, answered, stopped}
 
 pub receive_stopped : (before after : Sources) (out : Seen) (o : Outcome) → Prepares {X = Taken} AreTraced (two_sources entire Trace) table_refusal_of traced_due before after (Err o) → DoesForm Receive (around before out) (around after out) o
 receive_stopped before after out o p = stopped AreTraced (λ traced. Done) IsReceiveText (two_sources entire Trace) table_refusal_of traced_due before after out o (λ traced. refl) p

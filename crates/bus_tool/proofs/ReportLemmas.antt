@@ -18,11 +18,11 @@ use Rattle.bus_tool.specs.Due.{table_due, table_refusal_of, verdict_outcome}
 use Rattle.bus_tool.specs.Texts.{IsReportText}
 use Rattle.bus_tool.specs.ReportData.{IsReported}
 use Rattle.bus_tool.specs.Acts.{written, DoesForm}
-use Rattle.bus_tool.specs.StageLaws.{if_map}
-use Rattle.bus_tool.specs.ReachLaws.{judged_within}
+use Rattle.bus_tool.proofs.StageLaws.{if_map}
+use Rattle.bus_tool.proofs.ReachLaws.{judged_within}
 use Rattle.bus_tool.proofs.CheckLemmas.{written_verdict}
-use Rattle.bus_tool.specs.PrepareLaws.{prepares_one}
-use Rattle.bus_tool.specs.DoLaws.{Tells, answered, stopped}
+use Rattle.bus_tool.proofs.PrepareLaws.{prepares_one}
+use Rattle.bus_tool.proofs.DoLaws.{Tells, answered, stopped}
 
 -- ---- what is made of a value that was taken
 -- the step before stopped

@@ -11,7 +11,7 @@ use Rattle.json.specs.Print.{escape_byte, escape}
 use Rattle.bus_table.specs.Lengths.{shortest, longest}
 use Rattle.bus_table.specs.Tables.{Sender, Table}
 use Rattle.bus_table.specs.Turns.{turn_key, turn_order}
-use Rattle.bus_table.specs.TurnLaws.{length-sort}
+use Rattle.bus_table.proofs.TurnLaws.{length-sort}
 use Rattle.bus_regime.specs.Lines.{mode_name, verdict_words}
 use Rattle.bus_regime.specs.Verdicts.{verdict_of}
 use Rattle.bus_tool.specs.Escapes.{are_plain}

@@ -33,7 +33,7 @@ use Rattle.bus_tool.specs.Taken.{AreInputs}
 use Rattle.bus_tool.specs.Texts.{holds_of, IsRunRecording, IsRanOf, run_text}
 use Rattle.bus_strings.specs.Transmissions.{IsTransmission}
 use Rattle.bus_tool.specs.Acts.{written, DoesForm}
-use Rattle.bus_tool.specs.StageLaws.{then_stage}
+use Rattle.bus_tool.proofs.StageLaws.{then_stage}
 use Rattle.bus_tool.proofs.HoldLemmas.{AreFew}
 use Rattle.bus_tool.proofs.TraceLemmas.{observed_is_trace}
 use Rattle.bus_tool.proofs.RanLemmas as ran

@@ -3,7 +3,7 @@ use Rattle.std.specs.Prelude.{◌≡◌, ℕ, ◌<◌, ◌≤◌, nat_lt, true, 
 use Rattle.std.proofs.Common.{arith, refl, sym, ap, ◌∙◌, subst, cond, inl, inr}
 use Rattle.std.proofs.lemmas.Bool.Decides.{nat_tests}
 use Rattle.bus_text.specs.AllOf.{◌>>=◌}
-use Rattle.bus_text.specs.AllOfLaws.{bind_ok}
+use Rattle.bus_text.proofs.AllOfLaws.{bind_ok}
 use Rattle.bus_regime.specs.declared.table_verdict.TableVerdict.{TableVerdict}
 use Rattle.bus_regime.specs.Verdicts.{verdict_of, is_accepted}
 use Rattle.bus_schedule.specs.declared.uneven.Uneven.{Uneven as UnevenHands}

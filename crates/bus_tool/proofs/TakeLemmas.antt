@@ -7,8 +7,8 @@ use Rattle.bus_tool.specs.Stages.{stage_in, Gives}
 use Rattle.bus_tool.specs.Outside.{Seen, Stays}
 use Rattle.bus_tool.specs.Readers.{Reader, Judged, ReadsBy}
 use Rattle.bus_tool.specs.Steps.{stopped_at, StopsAt, StepCounts, Takes}
-use Rattle.bus_tool.specs.StageLaws.{if_map, gives_then, gives_own}
-use Rattle.bus_tool.specs.ReachLaws.{judged_within}
+use Rattle.bus_tool.proofs.StageLaws.{if_map, gives_then, gives_own}
+use Rattle.bus_tool.proofs.ReachLaws.{judged_within}
 
 -- a kind of refusal of what is made of the text of the source of this number
 abbrev pub RefusesAt : ℕ → Kind → Type 0

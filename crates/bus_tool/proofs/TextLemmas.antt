@@ -13,7 +13,7 @@ use Rattle.bus_tool.specs.Outside.{Seen}
 use Rattle.bus_tool.specs.Readers.{Entire}
 use Rattle.bus_tool.specs.Steps.{read_refusal, IsText, Takes}
 use Rattle.bus_tool.specs.Due.{text_within}
-use Rattle.bus_tool.specs.StageLaws.{if_map}
+use Rattle.bus_tool.proofs.StageLaws.{if_map}
 
 -- what was taken is no longer than the text
 taken_within : (old new : Option (List ℕ)) (taken : List ℕ) → Taken old new taken → IfSome old (λ text. length taken ≤ length text)

@@ -15,8 +15,8 @@ use Rattle.bus_tool.specs.Steps.{Takes, Same}
 use Rattle.bus_tool.specs.Due.{table_due, table_refusal_of}
 use Rattle.bus_tool.specs.Texts.{IsTidyText}
 use Rattle.bus_tool.specs.Acts.{written, DoesForm}
-use Rattle.bus_tool.specs.PrepareLaws.{prepares_one}
-use Rattle.bus_tool.specs.DoLaws.{Tells, answered, stopped}
+use Rattle.bus_tool.proofs.PrepareLaws.{prepares_one}
+use Rattle.bus_tool.proofs.DoLaws.{Tells, answered, stopped}
 
 pub tidy_stopped : (old new second out : Seen) (o : Outcome) → Takes {X = Table} Same 1 entire table_due old new (Err o)
     → DoesForm Tidy (around (both old second) out) (around (both new second) out) o

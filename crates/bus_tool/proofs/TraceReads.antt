@@ -2,7 +2,7 @@
 use Rattle.std.specs.Prelude.{◌≡◌, ℕ, ◌≤◌, false, ◌⊎◌, List, ◌++◌, length, Result, Ok, Err}
 use Rattle.std.proofs.Common.{refl, ap, ◌∙◌, subst, inl, inr}
 use Rattle.bus_text.specs.AllOf.{◌>>=◌}
-use Rattle.bus_text.specs.AllOfLaws.{bind_ok}
+use Rattle.bus_text.proofs.AllOfLaws.{bind_ok}
 use Rattle.bus_table.specs.Tables.{Table}
 use Rattle.bus_trace.specs.Traces.{Recording, HoldsTrace}
 use Rattle.bus_trace.specs.Limits.{text_limit as trace_limit}

@@ -19,9 +19,9 @@ use Rattle.bus_tool.specs.Readers.{Reader, Trace, entire, two_sources}
 use Rattle.bus_tool.specs.Steps.{Takes, Same, Prepares}
 use Rattle.bus_tool.specs.Due.{table_due, table_refusal_of, trace_refusal, trace_or_refusal, trace_due, Traced, with_trace, traced_by}
 use Rattle.bus_tool.specs.Taken.{AreTraced}
-use Rattle.bus_tool.specs.StageLaws.{if_map, then_stage, stop_early, stop_low, gives_on}
+use Rattle.bus_tool.proofs.StageLaws.{if_map, then_stage, stop_early, stop_low, gives_on}
 use Rattle.bus_tool.proofs.TakeLemmas.{takes_then}
-use Rattle.bus_tool.specs.PrepareLaws.{prepares_none, prepares_both}
+use Rattle.bus_tool.proofs.PrepareLaws.{prepares_none, prepares_both}
 
 reading_stage : (r : Result Recording TraceError) → 2 ≤ stage_in (trace_or_refusal r)
 reading_stage (Ok trace) = omega arith

@@ -16,7 +16,7 @@ use Rattle.bus_tool.specs.Due.{table_refusal_of, traced_due}
 use Rattle.bus_tool.specs.Taken.{AreTraced}
 use Rattle.bus_tool.specs.Texts.{IsVoteText}
 use Rattle.bus_tool.specs.Acts.{written, DoesForm}
-use Rattle.bus_tool.specs.DoLaws.{Tells, answered, stopped}
+use Rattle.bus_tool.proofs.DoLaws.{Tells, answered, stopped}
 
 pub vote_stopped : (before after : Sources) (out : Seen) (o : Outcome) → Prepares {X = Taken} AreTraced (two_sources entire Trace) table_refusal_of traced_due before after (Err o) → DoesForm Vote (around before out) (around after out) o
 vote_stopped before after out o p = stopped AreTraced (λ traced. Done) IsVoteText (two_sources entire Trace) table_refusal_of traced_due before after out o (λ traced. refl) p

@@ -29,7 +29,7 @@ use Rattle.bus_tool.specs.Due.{table_refusal_of, wave_due, unwave_due}
 use Rattle.bus_tool.specs.Taken.{AreTraced}
 use Rattle.bus_tool.specs.Texts.{IsWrittenWave, IsWrittenTrace}
 use Rattle.bus_tool.specs.Acts.{written, DoesForm}
-use Rattle.bus_tool.specs.DoLaws.{Tells, answered, stopped}
+use Rattle.bus_tool.proofs.DoLaws.{Tells, answered, stopped}
 use Rattle.bus_tool.proofs.TakeLemmas.{RefusesAt, takes_then, takes_none}
 
 -- ---- a trace that has to be spaced

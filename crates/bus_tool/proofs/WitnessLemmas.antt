@@ -19,10 +19,10 @@ use Rattle.bus_tool.specs.Steps.{Takes, Same}
 use Rattle.bus_tool.specs.Due.{table_due, table_refusal_of}
 use Rattle.bus_tool.specs.Texts.{AreWitnessOf, IsWitnessText}
 use Rattle.bus_tool.specs.Acts.{written, DoesForm}
-use Rattle.bus_tool.specs.PrepareLaws.{prepares_one}
-use Rattle.bus_tool.specs.ReachLaws.{judged_within}
-use Rattle.bus_tool.specs.StageLaws.{if_map}
-use Rattle.bus_tool.specs.DoLaws.{Tells, answered, stopped}
+use Rattle.bus_tool.proofs.PrepareLaws.{prepares_one}
+use Rattle.bus_tool.proofs.ReachLaws.{judged_within}
+use Rattle.bus_tool.proofs.StageLaws.{if_map}
+use Rattle.bus_tool.proofs.DoLaws.{Tells, answered, stopped}
 
 -- no table was taken
 pub no_table : (old new : Seen) (o : Outcome) (r : Result (List Item) Outcome) → IsErrAnd r (λ came. came ≡ o)

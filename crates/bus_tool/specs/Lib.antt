@@ -17,10 +17,6 @@ pub mod Taken
 pub mod Causes
 pub mod Own
 pub mod Acts
-pub mod StageLaws
-pub mod ReachLaws
-pub mod PrepareLaws
-pub mod DoLaws
 pub mod Answers
 pub mod Claims
 pub mod RunClaims

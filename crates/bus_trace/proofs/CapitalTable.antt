@@ -3,7 +3,7 @@ use Rattle.std.proofs.Common.{arith, zero, suc, ◌≡◌, ℕ, ◌+◌, ◌<◌
 use Rattle.std.specs.Char.{digit_value}
 use Rattle.std.proofs.lemmas.Bool.{and_parts, eqb-true}
 use Rattle.bus_text.specs.Digits.{is_capital_digit}
-use Rattle.bus_text.specs.DigitLaws.{digit_value-lt}
+use Rattle.bus_text.proofs.DigitLaws.{digit_value-lt}
 
 abbrev pub value_of : ℕ → ℕ
 value_of byte = cond (is_capital_digit byte) (digit_value byte) 61

@@ -21,7 +21,7 @@ use Rattle.bus_words.specs.declared.word.Word.{Word}
 use Rattle.bus_words.specs.Words.{label_word}
 use Rattle.bus_words.specs.WordTexts.{word_text}
 use Rattle.bus_text.specs.Digits.{hex_digit, is_capital_digit, hexadecimal}
-use Rattle.bus_text.specs.DigitLaws.{digit_value-lt, hex_digit-digit_value}
+use Rattle.bus_text.proofs.DigitLaws.{digit_value-lt, hex_digit-digit_value}
 use Rattle.bus_strings.specs.Messages.{Wordstring, IsWordstring}
 use Rattle.bus_trace.specs.declared.position.Position.TheVariants.{Begun, Closed}
 use Rattle.bus_trace.specs.declared.keyword.Keyword.TheVariants.{Ws}

@@ -16,7 +16,7 @@ use Rattle.bus_tool.specs.Causes.{RefusesText}
 use Rattle.bus_tool.specs.Due.{table_or_refusal, table_due, table_refusal_of}
 use Rattle.bus_tool.specs.Outside.{Outside}
 use Rattle.bus_tool.specs.Readers.{text_limit}
-use Rattle.bus_tool.specs.StageLaws.{if_map}
+use Rattle.bus_tool.proofs.StageLaws.{if_map}
 use Rattle.bus_tool.specs.Stages.{refusal_in}
 use Rattle.bus_tool.specs.Steps.{IsDueFirst}
 use Rattle.bus_view.specs.Acts.{DoesView}

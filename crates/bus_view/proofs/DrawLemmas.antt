@@ -17,13 +17,13 @@ use Rattle.bus_tool.specs.declared.inputs.Traced.{Traced as Taken}
 use Rattle.bus_tool.specs.declared.outcome.Outcome.{Outcome}
 use Rattle.bus_tool.specs.declared.outcome.Outcome.TheVariants.{Done, WriteFault}
 use Rattle.bus_tool.specs.Acts.{written}
-use Rattle.bus_tool.specs.DoLaws.{Tells, answered, stopped}
+use Rattle.bus_tool.proofs.DoLaws.{Tells, answered, stopped}
 use Rattle.bus_tool.specs.Due.{table_due, table_refusal_of, Traced, with_trace}
 use Rattle.bus_tool.specs.Kinds.{kind_of}
 use Rattle.bus_tool.specs.Outside.{Seen, Sources, both, around, sink_seen}
-use Rattle.bus_tool.specs.PrepareLaws.{prepares_none, prepares_both}
+use Rattle.bus_tool.proofs.PrepareLaws.{prepares_none, prepares_both}
 use Rattle.bus_tool.specs.Readers.{Trace, entire}
-use Rattle.bus_tool.specs.StageLaws.{if_map, then_stage, stop_early, stop_low, gives_then, gives_on}
+use Rattle.bus_tool.proofs.StageLaws.{if_map, then_stage, stop_early, stop_low, gives_then, gives_on}
 use Rattle.bus_tool.specs.Stages.{stage_in}
 use Rattle.bus_tool.specs.Steps.{Same, Takes, Prepares}
 use Rattle.bus_tool.specs.Taken.{AreTraced}

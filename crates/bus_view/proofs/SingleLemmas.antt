@@ -17,7 +17,7 @@ use Rattle.bus_tool.specs.Kinds.{kind_of}
 use Rattle.bus_tool.specs.Outside.{Seen}
 use Rattle.bus_tool.specs.Own as received
 use Rattle.bus_tool.specs.Readers.{Trace}
-use Rattle.bus_tool.specs.StageLaws.{if_map, then_stage, gives_then, gives_own}
+use Rattle.bus_tool.proofs.StageLaws.{if_map, then_stage, gives_then, gives_own}
 use Rattle.bus_tool.specs.Stages.{stage_in}
 use Rattle.bus_tool.specs.Steps.{Same, Takes}
 use Rattle.bus_view.specs.Due.{single_or_refusal, single, single_due}

@@ -7,12 +7,12 @@ use Rattle.std.specs.Option.{option_map}
 use Rattle.std.proofs.lemmas.Bool.{and_parts, or_parts, eqb-true, eq-eqb, true≢false}
 use Rattle.std.proofs.lemmas.List.Folds.{list_any-append}
 use Rattle.bus_strings.specs.Members.{In}
-use Rattle.bus_strings.specs.MemberLaws.{in_append_right}
+use Rattle.bus_strings.proofs.MemberLaws.{in_append_right}
 use Rattle.bus_table.specs.declared.line.SendLine.{SendLine}
 use Rattle.bus_table.specs.Fits.{sender_of}
 use Rattle.bus_table.specs.Tables.{Sender, Table}
 use Rattle.bus_table.specs.Valid.{is_valid, is_in_range}
-use Rattle.bus_table.specs.ValidLaws.{or_none, is_none_is}
+use Rattle.bus_table.proofs.ValidLaws.{or_none, is_none_is}
 use Rattle.bus_table.specs.Whole.{first_again, same_pair, send_lines, no_sender, number_twice, gap_twice, gap_not_short, pair_twice, whole_refusal}
 use Rattle.bus_wave.specs.Judging.{is_label_of, begins, beginner}
 use Rattle.bus_wave.proofs.SenderLemmas.{find_is}

@@ -9,7 +9,7 @@ use Rattle.std.proofs.lemmas.Bool.Decides.{nat_tests}
 use Rattle.std.proofs.lemmas.List.{take-append-drop, length-drop}
 use Rattle.std.proofs.lemmas.Grind.{fold-append}
 use Rattle.bus_text.specs.Digits.{hex_digit, is_capital_digit}
-use Rattle.bus_text.specs.DigitLaws.{digit_value-hex_digit, digit_value-lt, hex_digit-digit_value, is_capital_digit-hex_digit}
+use Rattle.bus_text.proofs.DigitLaws.{digit_value-hex_digit, digit_value-lt, hex_digit-digit_value, is_capital_digit-hex_digit}
 use Rattle.bus_words.specs.declared.word.Kind.{Kind}
 use Rattle.bus_words.specs.declared.word.Kind.TheVariants.{Label, Plain}
 use Rattle.bus_words.specs.declared.word.FramedWord.{FramedWord}

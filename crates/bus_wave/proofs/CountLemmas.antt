@@ -11,7 +11,7 @@ use Rattle.std.specs.List.{AllByRecursion, filter_map, range_with_len, cons_opti
 use Rattle.std.specs.Option.{option_to_list}
 use Rattle.std.proofs.lemmas.List.Elements.{filter_map-append}
 use Rattle.bus_strings.specs.Limits.{horizon_limit}
-use Rattle.bus_strings.specs.MessageLaws.{bits_some}
+use Rattle.bus_strings.proofs.MessageLaws.{bits_some}
 use Rattle.bus_strings.specs.Messages.{Entry, IsMessage}
 use Rattle.bus_strings.specs.Transmissions.{end_of, Precedes, IsAscending}
 use Rattle.bus_table.specs.Fits.{sender_of}

@@ -8,7 +8,7 @@ use Rattle.std.proofs.lemmas.Bool.{and_parts, eqb-true}
 use Rattle.std.proofs.lemmas.Bool.Decides.{nat_tests}
 use Rattle.std.proofs.lemmas.List.Splits.{join_with_byte-slice_split}
 use Rattle.bus_text.specs.AllOf.{◌>>=◌}
-use Rattle.bus_text.specs.AllOfLaws.{bind_ok}
+use Rattle.bus_text.proofs.AllOfLaws.{bind_ok}
 use Rattle.bus_text.specs.Canonical.{spelled_line}
 use Rattle.bus_text.specs.Lines.{is_feed}
 use Rattle.bus_words.specs.declared.word.Kind.{Kind}

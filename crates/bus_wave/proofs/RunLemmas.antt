@@ -7,7 +7,7 @@ use Rattle.std.proofs.lemmas.Bool.{and_parts, eqb-true, eq-eqb, ne_eqb}
 use Rattle.std.proofs.lemmas.List.{append-nil}
 use Rattle.bus_strings.specs.Marking.{greatest_end}
 use Rattle.bus_strings.specs.Members.{In}
-use Rattle.bus_strings.specs.MemberLaws.{of_each, at_in, in_append_cases, from_map}
+use Rattle.bus_strings.proofs.MemberLaws.{of_each, at_in, in_append_cases, from_map}
 use Rattle.bus_strings.specs.Messages.{Message, Entry}
 use Rattle.bus_strings.specs.Transmissions.{end_of}
 use Rattle.bus_table.specs.declared.mode.Mode.{Mode}
@@ -17,16 +17,16 @@ use Rattle.bus_table.specs.Fits.{fits, sender_of}
 use Rattle.bus_table.specs.Hands.{are_hands}
 use Rattle.bus_table.specs.Tables.{Sender, Table, Hand}
 use Rattle.bus_table.specs.Turns.{turn_key, turn_order, Differ}
-use Rattle.bus_table.specs.TurnLaws.{from_sort, numbers_differ}
+use Rattle.bus_table.proofs.TurnLaws.{from_sort, numbers_differ}
 use Rattle.bus_table.specs.Valid.{is_valid}
-use Rattle.bus_table.specs.ValidLaws.{valid_facts}
+use Rattle.bus_table.proofs.ValidLaws.{valid_facts}
 use Rattle.bus_regime.specs.Fine.{IsFine}
 use Rattle.bus_regime.specs.Gaps.{Gap, latest_end, last_end, gaps_from, gaps}
-use Rattle.bus_regime.specs.VerdictLaws.{accepted_gaps}
+use Rattle.bus_regime.proofs.VerdictLaws.{accepted_gaps}
 use Rattle.bus_regime.specs.Verdicts.{verdict_of, is_accepted}
 use Rattle.bus_schedule.specs.Closed.{sends, turns, turns_end, origin, offset_turns, in_rounds, gap_schedule, schedule_in, closed, closed_end}
 use Rattle.bus_schedule.specs.Even.{messages_of, rounds, are_even}
-use Rattle.bus_schedule.specs.HandLaws.{hand_here, hand_of_other}
+use Rattle.bus_schedule.proofs.HandLaws.{hand_here, hand_of_other}
 use Rattle.bus_schedule.specs.Laws.{GapsAreLeft}
 use Rattle.bus_wave.specs.Spacing.{least_gap, IsOfSender, AreApart}
 use Rattle.bus_wave.specs.WaveLaws.{RunsAreSpaced}

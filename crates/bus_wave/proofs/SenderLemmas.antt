@@ -6,7 +6,7 @@ use Rattle.std.specs.List.{list_all}
 use Rattle.std.proofs.lemmas.Bool.{and_parts, eqb-true}
 use Rattle.std.proofs.lemmas.Bool.Decides.{nat_tests}
 use Rattle.bus_strings.specs.Members.{In}
-use Rattle.bus_strings.specs.MemberLaws.{of_each}
+use Rattle.bus_strings.proofs.MemberLaws.{of_each}
 use Rattle.bus_strings.specs.Messages.{Wordstring, Message}
 use Rattle.bus_table.specs.declared.line.SendLine.{SendLine}
 use Rattle.bus_table.specs.Facts.{SenderFacts}
@@ -16,7 +16,7 @@ use Rattle.bus_table.specs.Ranges.{is_send_line, is_number, is_tg, is_offset, ar
 use Rattle.bus_table.specs.Tables.{Sender, Table}
 use Rattle.bus_table.specs.Turns.{Differ}
 use Rattle.bus_table.specs.Valid.{is_valid}
-use Rattle.bus_table.specs.ValidLaws.{valid_facts}
+use Rattle.bus_table.proofs.ValidLaws.{valid_facts}
 use Rattle.bus_wave.specs.Judging.{string_of}
 
 -- ---- senders and their lines

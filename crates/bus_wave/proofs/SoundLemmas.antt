@@ -8,7 +8,7 @@ use Rattle.std.proofs.lemmas.Bool.Decides.{nat_tests}
 use Rattle.bus_words.specs.declared.word.Kind.TheVariants.{Label}
 use Rattle.bus_words.specs.declared.word.Word.{Word}
 use Rattle.bus_strings.specs.Limits.{word_bits, inner_gap}
-use Rattle.bus_strings.specs.ListLaws.{all_push}
+use Rattle.bus_strings.proofs.ListLaws.{all_push}
 use Rattle.bus_strings.specs.Members.{In}
 use Rattle.bus_strings.specs.Messages.{Entry, IsWordstring, IsMessage}
 use Rattle.bus_strings.specs.Transmissions.{end_of}
@@ -16,9 +16,9 @@ use Rattle.bus_table.specs.declared.line.SendLine.{SendLine}
 use Rattle.bus_table.specs.Fits.{allows, matches}
 use Rattle.bus_table.specs.Ranges.{is_send_line}
 use Rattle.bus_table.specs.Tables.{Sender, Table}
-use Rattle.bus_table.specs.TurnLaws.{numbers_differ}
+use Rattle.bus_table.proofs.TurnLaws.{numbers_differ}
 use Rattle.bus_table.specs.Valid.{is_valid}
-use Rattle.bus_table.specs.ValidLaws.{valid_facts}
+use Rattle.bus_table.proofs.ValidLaws.{valid_facts}
 use Rattle.bus_trace.specs.Traces.{data_word}
 use Rattle.bus_wave.specs.declared.fault.WaveReason.TheVariants.{Order}
 use Rattle.bus_wave.specs.Judging.{Phase, Opened, Silent, Saying, Waiting, Closed, State, string_of, with_string, quiet_behind}

@@ -4,7 +4,7 @@ use Rattle.std.proofs.Common.{length, Result, Ok, Err, refl, sym, ap, subst, ◌
 use Rattle.std.specs.Prelude.{nat_lt, nat_le}
 use Rattle.std.proofs.lemmas.Bool.Decides.{nat_tests}
 use Rattle.bus_text.specs.AllOf.{◌>>=◌}
-use Rattle.bus_text.specs.AllOfLaws.{bind_ok}
+use Rattle.bus_text.proofs.AllOfLaws.{bind_ok}
 use Rattle.bus_words.specs.declared.word.Kind.{Kind}
 use Rattle.bus_words.specs.declared.word.Kind.TheVariants.{Label, Plain}
 use Rattle.bus_strings.specs.Limits.{horizon_limit, inner_gap}

@@ -20,7 +20,7 @@ use Rattle.bus_text.specs.Fields.{is_at}
 use Rattle.bus_text.specs.Lines.{is_feed}
 use Rattle.bus_text.specs.Refusals.{first_of, unless}
 use Rattle.bus_text.specs.Numbers.{is_plain_decimal, decimal_value}
-use Rattle.bus_text.specs.NumberLaws.{decimal_is, decimal_field}
+use Rattle.bus_text.proofs.NumberLaws.{decimal_is, decimal_field}
 use Rattle.bus_words.specs.declared.word.Word.{Word}
 use Rattle.bus_words.specs.declared.word.WordError.TheVariants.{Parity as WordParity}
 use Rattle.bus_words.specs.declared.word.FramedWord.{FramedWord}

@@ -1,4 +1,4 @@
-use Rattle.bus_outer.specs.TextLaws.{adds_then}
+use Rattle.bus_outer.proofs.TextLaws.{adds_then}
 use Rattle.bus_audit.proofs.line.put_lawful.Goals as goal
 
 pub returns : goal.returns

@@ -1,4 +1,4 @@
-use Rattle.bus_outer.specs.TextLaws.{adds_then, ends_text}
+use Rattle.bus_outer.proofs.TextLaws.{adds_then, ends_text}
 use Rattle.bus_audit.proofs.line.write_answer.Goals as goal
 
 pub returns : goal.returns

@@ -1,6 +1,6 @@
 use Rattle.std.proofs.Common.{◌+◌, [], ◌∷◌, ◌++◌, ap, subst, ◌∙◌}
 use Rattle.bus_outer.specs.Texts.{Adds}
-use Rattle.bus_outer.specs.TextLaws.{◌▸◌}
+use Rattle.bus_outer.proofs.TextLaws.{◌▸◌}
 use Rattle.bus_cycles.specs.Drawing.{Reaches}
 use Rattle.bus_cycles.specs.Rows.{Extent, extent_of, row_at}
 use Rattle.bus_cycles.specs.RowTexts.{box_behind, ending_text}

@@ -1,7 +1,7 @@
 use Rattle.std.proofs.Common.{ℕ, ◌++◌, codes, subst}
 use Rattle.std.specs.Prelude.{decimal}
 use Rattle.bus_outer.specs.Texts.{Adds}
-use Rattle.bus_outer.specs.TextLaws.{◌▸◌}
+use Rattle.bus_outer.proofs.TextLaws.{◌▸◌}
 use Rattle.bus_cycles.specs.CyclesTexts.{next_words}
 use Rattle.bus_cycles.proofs.plot.put_row_words.Goals as goal
 

@@ -2,7 +2,7 @@ use Rattle.std.proofs.Common.{◌≡◌, ◌+◌, ◌==◌, cond, Some, None, �
 use Rattle.std.proofs.lemmas.Bool.{lt-ltb}
 use Rattle.bus_strings.specs.Messages.{Message}
 use Rattle.bus_table.specs.Lengths.{shortest}
-use Rattle.bus_table.specs.ValidLaws.{valid_facts}
+use Rattle.bus_table.proofs.ValidLaws.{valid_facts}
 use Rattle.bus_dropout.specs.DropOut.{most_messages, last_senders}
 use Rattle.bus_schedule.specs.Even.{messages_of}
 use Rattle.bus_schedule.specs.Live.{shortest_cycle}

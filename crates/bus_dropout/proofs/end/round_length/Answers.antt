@@ -1,6 +1,6 @@
 use Rattle.std.proofs.Common.{◌≡◌, ◌+◌, cond, nat_lt, length, get_or, [], List, arith, sym, ap, ◌∙◌}
 use Rattle.bus_strings.specs.Messages.{Message, bits}
-use Rattle.bus_table.specs.ValidLaws.{valid_facts}
+use Rattle.bus_table.proofs.ValidLaws.{valid_facts}
 use Rattle.bus_schedule.specs.Even.{messages_of}
 use Rattle.bus_dropout.proofs.Most.{hand_within, read_hand}
 use Rattle.bus_dropout.proofs.RoundLemmas.{has_left, turn_length}

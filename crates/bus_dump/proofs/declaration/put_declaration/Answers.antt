@@ -1,4 +1,4 @@
-use Rattle.bus_outer.specs.TextLaws.{◌▸◌}
+use Rattle.bus_outer.proofs.TextLaws.{◌▸◌}
 use Rattle.std.proofs.Common.{List, ℕ, ◌++◌, codes, subst, ap, ◌∙◌}
 use Rattle.bus_outer.specs.Texts.{Adds}
 use Rattle.bus_dump.specs.DumpTexts.{id_text, name_text, width_text}

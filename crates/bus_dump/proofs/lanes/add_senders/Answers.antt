@@ -2,7 +2,7 @@ use Rattle.std.proofs.Common.{◌≡◌, ◌≤◌, ◌+◌, true, List, length,
 use Rattle.std.proofs.lemmas.List.{take_all}
 use Rattle.bus_table.specs.Tables.{Sender}
 use Rattle.bus_table.specs.Turns.{turn_key, turn_order}
-use Rattle.bus_table.specs.TurnLaws.{length-sort}
+use Rattle.bus_table.proofs.TurnLaws.{length-sort}
 use Rattle.bus_dump.specs.Lanes.{lane_with, sender_lane}
 use Rattle.bus_dump.proofs.LaneLemmas.{mapped_more}
 use Rattle.bus_dump.proofs.lanes.add_senders.Goals as goal

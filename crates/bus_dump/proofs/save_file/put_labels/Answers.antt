@@ -1,6 +1,6 @@
 use Rattle.std.proofs.Common.{List, ℕ, false, sym, subst}
 use Rattle.bus_outer.specs.Texts.{Adds}
-use Rattle.bus_outer.specs.TextLaws.{◌▸◌}
+use Rattle.bus_outer.proofs.TextLaws.{◌▸◌}
 use Rattle.bus_dump.specs.Lanes.{lane_with}
 use Rattle.bus_dump.specs.SaveFiles.{label_shown}
 use Rattle.bus_dump.proofs.SaveLemmas.{flat_map_next}

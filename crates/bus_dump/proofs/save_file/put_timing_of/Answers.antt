@@ -2,7 +2,7 @@ use Rattle.std.proofs.Common.{Bool, ◌==◌, Option, sym, ap, ◌∙◌, subst,
 use Rattle.std.specs.List.{find}
 use Rattle.std.specs.Option.{option_copied, option_map_or}
 use Rattle.bus_outer.specs.Texts.{Adds}
-use Rattle.bus_outer.specs.TextLaws.{adds_nothing}
+use Rattle.bus_outer.proofs.TextLaws.{adds_nothing}
 use Rattle.bus_table.specs.Tables.{Sender}
 use Rattle.bus_dump.specs.SaveFiles.{timing_text}
 use Rattle.bus_dump.proofs.save_file.put_timing_of.Goals as goal

@@ -1,6 +1,6 @@
 use Rattle.std.proofs.Common.{List, ℕ, ◌≡◌, ◌≤◌, ◌-◌, map, subst, arith, ap, ◌∙◌}
 use Rattle.bus_outer.specs.Texts.{Adds}
-use Rattle.bus_outer.specs.TextLaws.{◌▸◌}
+use Rattle.bus_outer.proofs.TextLaws.{◌▸◌}
 use Rattle.bus_strings.specs.Messages.{Entry}
 use Rattle.bus_table.specs.Tables.{Sender}
 use Rattle.bus_dump.specs.DumpTexts.{first_values}

@@ -1,4 +1,4 @@
-use Rattle.bus_outer.specs.TextLaws.{◌▸◌}
+use Rattle.bus_outer.proofs.TextLaws.{◌▸◌}
 use Rattle.bus_dump.proofs.writing.put_first.Goals as goal
 
 pub returns : goal.returns

@@ -1,6 +1,6 @@
 use Rattle.std.proofs.Common.{List, ℕ, subst}
 use Rattle.bus_outer.specs.Texts.{Adds}
-use Rattle.bus_outer.specs.TextLaws.{◌▸◌, ends_text}
+use Rattle.bus_outer.proofs.TextLaws.{◌▸◌, ends_text}
 use Rattle.bus_regime.specs.Lines.{verdict_words}
 use Rattle.bus_dump.proofs.WriteLemmas.{trace_walkable, whole_put}
 use Rattle.bus_dump.proofs.writing.write_dump.Goals as goal

@@ -1,6 +1,6 @@
 use Rattle.std.proofs.Common.{List, ℕ, ap, subst, ◌∙◌}
 use Rattle.bus_outer.specs.Texts.{Adds}
-use Rattle.bus_outer.specs.TextLaws.{◌▸◌}
+use Rattle.bus_outer.proofs.TextLaws.{◌▸◌}
 use Rattle.bus_text.specs.Digits.{hex_digit, hexadecimal}
 use Rattle.bus_filter.specs.Received.{selection}
 use Rattle.bus_filter.proofs.PutLemmas.{line_is}

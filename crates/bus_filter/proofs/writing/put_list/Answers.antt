@@ -1,7 +1,7 @@
 use Rattle.std.proofs.Common.{List, ℕ, Bool, subst, take}
 use Rattle.std.specs.List.{flat_map, zip}
 use Rattle.bus_outer.specs.Texts.{Adds}
-use Rattle.bus_outer.specs.TextLaws.{◌▸◌, adds_nothing}
+use Rattle.bus_outer.proofs.TextLaws.{◌▸◌, adds_nothing}
 use Rattle.bus_strings.specs.Messages.{Entry}
 use Rattle.bus_strings.specs.Transmissions.{marks}
 use Rattle.bus_filter.specs.Received.{Taker}

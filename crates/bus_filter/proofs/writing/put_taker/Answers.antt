@@ -1,7 +1,7 @@
 use Rattle.std.proofs.Common.{List, ℕ, ◌++◌, codes, ap, subst}
 use Rattle.std.specs.Fmt.{decimal}
 use Rattle.bus_outer.specs.Texts.{Adds}
-use Rattle.bus_outer.specs.TextLaws.{◌▸◌}
+use Rattle.bus_outer.proofs.TextLaws.{◌▸◌}
 use Rattle.bus_filter.specs.Received.{Taker}
 use Rattle.bus_filter.proofs.PutLemmas.{list_is}
 use Rattle.bus_filter.proofs.writing.put_taker.Goals as goal

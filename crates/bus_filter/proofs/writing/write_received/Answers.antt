@@ -1,6 +1,6 @@
 use Rattle.std.proofs.Common.{List, ℕ, subst}
 use Rattle.bus_outer.specs.Texts.{Adds}
-use Rattle.bus_outer.specs.TextLaws.{◌▸◌, ends_text}
+use Rattle.bus_outer.proofs.TextLaws.{◌▸◌, ends_text}
 use Rattle.bus_filter.proofs.PutLemmas.{takers_put}
 use Rattle.bus_filter.proofs.writing.write_received.Goals as goal
 

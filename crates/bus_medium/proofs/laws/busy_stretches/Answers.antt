@@ -1,4 +1,4 @@
-use Rattle.bus_medium.specs.BusyLaws.{entry_is_busy, busy_elapsed, busy_waiting, busy_nobody}
+use Rattle.bus_medium.proofs.BusyLaws.{entry_is_busy, busy_elapsed, busy_waiting, busy_nobody}
 use Rattle.bus_medium.proofs.laws.busy_stretches.Goals as goal
 
 pub returns : goal.returns

@@ -1,4 +1,4 @@
-use Rattle.bus_medium.specs.PastLaws.{length_past, past_at, no_carrier, own_later, own_more, last_push, one_at}
+use Rattle.bus_medium.proofs.PastLaws.{length_past, past_at, no_carrier, own_later, own_more, last_push, one_at}
 use Rattle.bus_medium.proofs.laws.pasts.Goals as goal
 
 pub returns : goal.returns

@@ -2,8 +2,8 @@ use Rattle.std.proofs.Common.{◌≡◌, length, Some, refl, ap, sym, ◌∙◌,
 use Rattle.std.specs.Prelude.{slice_get}
 use Rattle.std.proofs.lemmas.Option.{slice_get_read}
 use Rattle.bus_medium.specs.Timings.{due_for}
-use Rattle.bus_medium.specs.StationLaws.{timings_are_sound}
-use Rattle.bus_strings.specs.MemberLaws.{at_in}
+use Rattle.bus_medium.proofs.StationLaws.{timings_are_sound}
+use Rattle.bus_strings.proofs.MemberLaws.{at_in}
 use Rattle.bus_medium.proofs.timings.timing.Goals as goal
 
 pub returns-clause-sound : goal.returns-clause-sound

@@ -1,7 +1,7 @@
 use Rattle.std.proofs.Common.{arith}
 use Rattle.std.proofs.lemmas.Grind.{common_steps}
 use Rattle.std.proofs.lemmas.Result.{err_from_is_err_and}
-use Rattle.bus_outer.specs.WriteLaws.{taken_on}
+use Rattle.bus_outer.proofs.WriteLaws.{taken_on}
 use Rattle.bus_outer.proofs.whole.read_whole.Goals as goal
 
 pub returns-then-n-limit-clause-taken : goal.returns-then-n-limit-clause-taken

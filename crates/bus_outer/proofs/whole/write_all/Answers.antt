@@ -1,5 +1,5 @@
 use Rattle.std.proofs.Common.{◌∙◌}
-use Rattle.bus_outer.specs.WriteLaws.{written_front}
+use Rattle.bus_outer.proofs.WriteLaws.{written_front}
 use Rattle.bus_outer.proofs.whole.write_all.Goals as goal
 
 pub loop-rest-preserved : goal.loop-rest-preserved

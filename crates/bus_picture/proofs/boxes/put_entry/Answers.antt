@@ -3,7 +3,7 @@ use Rattle.std.specs.Option.{option_map_or}
 use Rattle.std.proofs.lemmas.Bool.{ltb-false}
 use Rattle.std.proofs.lemmas.Option.{slice_get_past}
 use Rattle.bus_outer.specs.Texts.{Adds}
-use Rattle.bus_outer.specs.TextLaws.{adds_nothing}
+use Rattle.bus_outer.proofs.TextLaws.{adds_nothing}
 use Rattle.bus_strings.specs.Messages.{Entry}
 use Rattle.bus_picture.specs.Strings.{strings_text}
 use Rattle.bus_picture.proofs.boxes.put_entry.Goals as goal

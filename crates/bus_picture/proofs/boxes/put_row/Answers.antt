@@ -1,6 +1,6 @@
 use Rattle.std.proofs.Common.{List, ℕ, subst, ◌∙◌}
 use Rattle.bus_outer.specs.Texts.{Adds}
-use Rattle.bus_outer.specs.TextLaws.{◌▸◌, adds_nothing}
+use Rattle.bus_outer.proofs.TextLaws.{◌▸◌, adds_nothing}
 use Rattle.bus_picture.proofs.RowLemmas.{begun, ended, took}
 use Rattle.bus_picture.proofs.boxes.put_row.Goals as goal
 

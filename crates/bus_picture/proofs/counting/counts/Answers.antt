@@ -2,7 +2,7 @@ use Rattle.std.proofs.Common.{◌≡◌, ◌&&◌, length, arith, ap, ◌∙◌}
 use Rattle.std.specs.List.{count_by}
 use Rattle.bus_shapes.specs.declared.sent.Sent.{Sent}
 use Rattle.bus_shapes.specs.Sending.{sents}
-use Rattle.bus_shapes.specs.SendingLaws.{as_many}
+use Rattle.bus_shapes.proofs.SendingLaws.{as_many}
 use Rattle.bus_picture.specs.TimeLines.{is_shown}
 use Rattle.bus_picture.proofs.counting.counts.Goals as goal
 

@@ -1,6 +1,6 @@
 use Rattle.std.proofs.Common.{List, ℕ, arith, sym, subst}
 use Rattle.bus_outer.specs.Texts.{Adds}
-use Rattle.bus_outer.specs.TextLaws.{◌▸◌}
+use Rattle.bus_outer.proofs.TextLaws.{◌▸◌}
 use Rattle.bus_picture.specs.TimeLines.{breach_text}
 use Rattle.bus_picture.proofs.LaneLemmas.{one_more}
 use Rattle.bus_picture.proofs.lanes.put_breaches.Goals as goal

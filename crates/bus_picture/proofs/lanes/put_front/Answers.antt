@@ -1,7 +1,7 @@
 use Rattle.std.proofs.Common.{ℕ, [], ◌++◌, subst}
 use Rattle.std.specs.Option.{option_map_or}
 use Rattle.bus_outer.specs.Texts.{Adds}
-use Rattle.bus_outer.specs.TextLaws.{◌▸◌}
+use Rattle.bus_outer.proofs.TextLaws.{◌▸◌}
 use Rattle.bus_picture.specs.TimeLines.{band_text, sender_of, sender_text, terminal_text}
 use Rattle.bus_picture.proofs.lanes.put_front.Goals as goal
 

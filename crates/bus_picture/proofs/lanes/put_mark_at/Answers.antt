@@ -1,6 +1,6 @@
 use Rattle.std.proofs.Common.{ℕ, ◌+◌, ◌++◌, subst}
 use Rattle.bus_outer.specs.Texts.{Adds}
-use Rattle.bus_outer.specs.TextLaws.{◌▸◌}
+use Rattle.bus_outer.proofs.TextLaws.{◌▸◌}
 use Rattle.bus_audit.specs.Lines.{answer_words}
 use Rattle.bus_shapes.specs.declared.class.Class.TheVariants.{BreachWords}
 use Rattle.bus_shapes.specs.Shapes.{words_text}

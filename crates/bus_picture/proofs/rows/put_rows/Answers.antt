@@ -1,6 +1,6 @@
 use Rattle.std.proofs.Common.{List, ℕ, sym, subst}
 use Rattle.bus_outer.specs.Texts.{Adds}
-use Rattle.bus_outer.specs.TextLaws.{◌▸◌}
+use Rattle.bus_outer.proofs.TextLaws.{◌▸◌}
 use Rattle.bus_strings.specs.Messages.{Entry}
 use Rattle.bus_picture.specs.Rows.{rows_text}
 use Rattle.bus_picture.specs.TimeLines.{bus_rows, rows_of, rows_of_lanes}

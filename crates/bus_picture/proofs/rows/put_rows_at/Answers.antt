@@ -1,4 +1,4 @@
-use Rattle.bus_outer.specs.TextLaws.{◌▸◌, adds_nothing}
+use Rattle.bus_outer.proofs.TextLaws.{◌▸◌, adds_nothing}
 use Rattle.bus_picture.proofs.rows.put_rows_at.Goals as goal
 
 pub returns : goal.returns

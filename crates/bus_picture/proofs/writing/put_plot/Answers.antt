@@ -1,6 +1,6 @@
 use Rattle.std.proofs.Common.{ℕ, ◌+◌, ◌++◌, codes, subst}
 use Rattle.bus_outer.specs.Texts.{Adds}
-use Rattle.bus_outer.specs.TextLaws.{◌▸◌}
+use Rattle.bus_outer.proofs.TextLaws.{◌▸◌}
 use Rattle.bus_shapes.specs.declared.class.Class.TheVariants.{Counts}
 use Rattle.bus_shapes.specs.Shapes.{words_text}
 use Rattle.bus_picture.specs.Rows.{rows_text}

@@ -1,7 +1,7 @@
 use Rattle.std.proofs.Common.{◌<◌}
 use Rattle.std.proofs.lemmas.List.{length-map}
 use Rattle.bus_table.specs.Tables.{Sender}
-use Rattle.bus_table.specs.ValidLaws.{valid_facts}
+use Rattle.bus_table.proofs.ValidLaws.{valid_facts}
 use Rattle.bus_plan.specs.Plans.{planned_order, planned, offset_in, planned_offsets}
 use Rattle.bus_plan.proofs.Moved.{accepted_long}
 use Rattle.bus_plan.proofs.Outcome.{planned_offsets_below, planned_good}

@@ -1,4 +1,4 @@
-use Rattle.bus_table.specs.ValidLaws.{valid_facts}
+use Rattle.bus_table.proofs.ValidLaws.{valid_facts}
 use Rattle.bus_plan.proofs.Moved.{short_refused}
 use Rattle.bus_plan.proofs.laws.short_is_refused.Goals as goal
 

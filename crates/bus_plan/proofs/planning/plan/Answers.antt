@@ -1,7 +1,7 @@
 use Rattle.std.proofs.Common.{arith, ap, ◌∙◌, ◌<◌, ◌≤◌, sym, subst, List, ℕ}
 use Rattle.std.specs.List.{All}
 use Rattle.bus_table.specs.Offsets.{with_offsets}
-use Rattle.bus_table.specs.ValidLaws.{valid_facts}
+use Rattle.bus_table.proofs.ValidLaws.{valid_facts}
 use Rattle.bus_plan.specs.Plans.{least_interval}
 use Rattle.bus_plan.proofs.Moved.{short_refused}
 use Rattle.bus_plan.proofs.Outcome.{planned_offsets_below, is_feasible, answer_short, answer_long}

@@ -1,5 +1,5 @@
 use Rattle.std.proofs.Common.{arith, ap, length, ◌≡◌}
-use Rattle.bus_table.specs.ValidLaws.{valid_facts}
+use Rattle.bus_table.proofs.ValidLaws.{valid_facts}
 use Rattle.bus_regime.proofs.judging.least_cycle.Goals as goal
 
 pub overflow_add-sum-in-loop-sender : goal.overflow_add-sum-in-loop-sender

@@ -1,4 +1,4 @@
-use Rattle.bus_outer.specs.TextLaws.{adds_then}
+use Rattle.bus_outer.proofs.TextLaws.{adds_then}
 use Rattle.bus_regime.proofs.line.put_no_sync.Goals as goal
 
 pub returns : goal.returns

@@ -1,5 +1,5 @@
 use Rattle.std.proofs.Common.{arith, sym, ap, ◌∙◌, ◌≡◌, length}
-use Rattle.bus_table.specs.TurnLaws.{at_in}
+use Rattle.bus_table.proofs.TurnLaws.{at_in}
 use Rattle.bus_regime.specs.Gaps.{gaps}
 use Rattle.bus_regime.specs.Verdicts as verdicts
 use Rattle.bus_regime.proofs.GapPlaces.{step_found, step_next, step_end, length-gaps}

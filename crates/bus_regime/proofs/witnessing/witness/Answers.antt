@@ -4,9 +4,9 @@ use Rattle.std.specs.List.{AllByRecursion}
 use Rattle.bus_strings.specs.Items.{Item, IsItem}
 use Rattle.bus_table.specs.Fits.{items_fit}
 use Rattle.bus_table.specs.Hands.{items_of}
-use Rattle.bus_table.specs.ValidLaws.{valid_facts}
+use Rattle.bus_table.proofs.ValidLaws.{valid_facts}
 use Rattle.bus_regime.specs.Witness.{witness_of}
-use Rattle.bus_regime.specs.WitnessLaws.{witness_fits, witness_items, witness_is_items}
+use Rattle.bus_regime.proofs.WitnessLaws.{witness_fits, witness_items, witness_is_items}
 use Rattle.bus_regime.proofs.witnessing.witness.Goals as goal
 
 pub invariant_of-result : goal.invariant_of-result

@@ -1,5 +1,5 @@
 use Rattle.std.proofs.Common.{◌≡◌, length, arith, ap, ◌∙◌}
-use Rattle.bus_table.specs.ValidLaws.{valid_facts}
+use Rattle.bus_table.proofs.ValidLaws.{valid_facts}
 use Rattle.bus_schedule.specs.Even.{messages_of}
 use Rattle.bus_schedule.proofs.EvenLemmas.{read_sender}
 use Rattle.bus_schedule.proofs.EndLemmas.{sum_more}

@@ -1,6 +1,6 @@
 use Rattle.std.proofs.Common.{◌+◌, length, drop, arith, ap}
 use Rattle.bus_table.specs.Turns.{turn_order}
-use Rattle.bus_table.specs.ValidLaws.{valid_facts}
+use Rattle.bus_table.proofs.ValidLaws.{valid_facts}
 use Rattle.bus_schedule.specs.Even.{messages_of}
 use Rattle.bus_schedule.proofs.PlaceLemmas.{place_within, turn_sender, turn_behind, turn_more, none_left, as_long, turn_within}
 use Rattle.bus_schedule.proofs.schedule.add_by_gaps.Goals as goal

@@ -1,6 +1,6 @@
 use Rattle.std.proofs.Common.{◌+◌, length, drop, arith, ap, ◌∙◌}
 use Rattle.bus_table.specs.Turns.{turn_order}
-use Rattle.bus_table.specs.ValidLaws.{valid_facts}
+use Rattle.bus_table.proofs.ValidLaws.{valid_facts}
 use Rattle.bus_schedule.specs.Even.{messages_of}
 use Rattle.bus_schedule.specs.Limits.{longest_end}
 use Rattle.bus_schedule.proofs.OffsetEnds.{next_ends, offset_turn_more, none_left_at}

@@ -1,6 +1,6 @@
 use Rattle.std.proofs.Common.{List, ℕ, ◌+◌, ◌*◌, sym, subst}
 use Rattle.bus_outer.specs.Texts.{Adds}
-use Rattle.bus_outer.specs.TextLaws.{◌▸◌}
+use Rattle.bus_outer.proofs.TextLaws.{◌▸◌}
 use Rattle.bus_shapes.specs.Axes.{first_mark, mark_text}
 use Rattle.bus_shapes.proofs.AxisLemmas.{one_more}
 use Rattle.bus_shapes.proofs.axis.put_marks.Goals as goal

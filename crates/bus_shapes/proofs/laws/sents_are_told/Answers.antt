@@ -1,4 +1,4 @@
-use Rattle.bus_shapes.specs.SendingLaws.{all_told}
+use Rattle.bus_shapes.proofs.SendingLaws.{all_told}
 use Rattle.bus_shapes.proofs.laws.sents_are_told.Goals as goal
 
 pub returns : goal.returns

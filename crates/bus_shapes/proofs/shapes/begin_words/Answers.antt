@@ -1,4 +1,4 @@
-use Rattle.bus_outer.specs.TextLaws.{◌▸◌}
+use Rattle.bus_outer.proofs.TextLaws.{◌▸◌}
 use Rattle.bus_shapes.proofs.shapes.begin_words.Goals as goal
 
 pub returns : goal.returns

@@ -1,4 +1,4 @@
-use Rattle.bus_strings.specs.PulsesAlongLaws.{first_is_on, last_is_on, quiet_behind, pulse_soon, on_within_pulse, next_pulse, last_pulse_ends}
+use Rattle.bus_strings.proofs.PulsesAlongLaws.{first_is_on, last_is_on, quiet_behind, pulse_soon, on_within_pulse, next_pulse, last_pulse_ends}
 use Rattle.bus_strings.proofs.laws.pulses_cover.Goals as goal
 
 pub returns : goal.returns

@@ -1,7 +1,7 @@
 use Rattle.std.proofs.Common.{◌*◌, ◌<◌, ◌-◌, arith, sym, ap, ◌∙◌}
 use Rattle.bus_strings.specs.Messages.{word_count}
 use Rattle.bus_strings.specs.Pulses.{is_on}
-use Rattle.bus_strings.specs.PulsesAlongLaws.{found, one_searched, all_searched}
+use Rattle.bus_strings.proofs.PulsesAlongLaws.{found, one_searched, all_searched}
 use Rattle.bus_strings.proofs.pulses.is_on.Goals as goal
 
 pub returns-then-d-begin-2 : goal.returns-then-d-begin-2

@@ -1,5 +1,5 @@
 use Rattle.std.proofs.Common.{◌*◌, ◌≤◌}
-use Rattle.bus_strings.specs.PulsesAlongLaws.{IsSearched}
+use Rattle.bus_strings.proofs.PulsesAlongLaws.{IsSearched}
 use Rattle.bus_strings.proofs.pulses.is_on.Given as goal
 
 abbrev pub invariant-loop-string : goal.invariant-loop-string

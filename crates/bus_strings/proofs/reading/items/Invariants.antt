@@ -1,7 +1,7 @@
 use Rattle.std.proofs.Common.{◌≡◌}
 use Rattle.std.specs.List.{AllByRecursion}
 use Rattle.bus_text.specs.AllOf.{all_of}
-use Rattle.bus_text.specs.AllOfLaws.{with_front}
+use Rattle.bus_text.proofs.AllOfLaws.{with_front}
 use Rattle.bus_strings.specs.Items.{IsItem}
 use Rattle.bus_strings.specs.Reading.{item_line}
 use Rattle.bus_strings.proofs.reading.items.Given as goal

@@ -1,7 +1,7 @@
 use Rattle.std.proofs.Common.{◌≡◌, ◌∙◌, List, ℕ, ap, subst}
 use Rattle.std.specs.List.{AllByRecursion}
 use Rattle.bus_outer.specs.Sinks.{WritesText}
-use Rattle.bus_outer.specs.TextLaws.{◌▸◌, ends_text}
+use Rattle.bus_outer.proofs.TextLaws.{◌▸◌, ends_text}
 use Rattle.bus_strings.specs.Items.{Item, IsItem}
 use Rattle.bus_strings.specs.Canonical.{messages_text}
 use Rattle.bus_strings.specs.Puts.{messages_bytes}

@@ -7,7 +7,7 @@ use Rattle.bus_strings.specs.Messages.{Message}
 use Rattle.bus_table.specs.Fits.{has_shape}
 use Rattle.bus_table.specs.Hands.{message_of, hand_of, with_message, are_hands}
 use Rattle.bus_table.specs.Tables.{SendLine, Sender, Hand}
-use Rattle.bus_table.specs.ValidLaws.{valid_facts}
+use Rattle.bus_table.proofs.ValidLaws.{valid_facts}
 use Rattle.bus_table.proofs.HandFits.{hands_of_fit}
 use Rattle.bus_table.proofs.HandLemmas.{is_fit, each_fits, fit_now, next_hands, stands, stands_at, shape_at}
 use Rattle.bus_table.proofs.dealing.hands.Goals as goal

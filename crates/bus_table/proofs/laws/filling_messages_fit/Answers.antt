@@ -1,4 +1,4 @@
-use Rattle.bus_table.specs.FillingLaws.{filling_fits, filling_shortest, filling_longest}
+use Rattle.bus_table.proofs.FillingLaws.{filling_fits, filling_shortest, filling_longest}
 use Rattle.bus_table.proofs.laws.filling_messages_fit.Goals as goal
 
 pub returns-clause-fits : goal.returns-clause-fits

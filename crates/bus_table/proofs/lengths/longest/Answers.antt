@@ -1,5 +1,5 @@
 use Rattle.std.proofs.Common.{arith, length, ap}
-use Rattle.bus_table.specs.FitLaws.{longest_length}
+use Rattle.bus_table.proofs.FitLaws.{longest_length}
 use Rattle.bus_table.specs.Lengths.{most_words}
 use Rattle.bus_table.proofs.lengths.longest.Goals as goal
 

@@ -1,5 +1,5 @@
 use Rattle.std.proofs.Common.{arith, length, ap}
-use Rattle.bus_table.specs.FitLaws.{shortest_length}
+use Rattle.bus_table.proofs.FitLaws.{shortest_length}
 use Rattle.bus_table.specs.Lengths.{least_words}
 use Rattle.bus_table.proofs.lengths.shortest.Goals as goal
 

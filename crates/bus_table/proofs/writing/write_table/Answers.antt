@@ -1,6 +1,6 @@
 use Rattle.std.proofs.Common.{subst, List, ℕ}
 use Rattle.bus_outer.specs.Texts.{Adds}
-use Rattle.bus_outer.specs.TextLaws.{◌▸◌, ends_text}
+use Rattle.bus_outer.proofs.TextLaws.{◌▸◌, ends_text}
 use Rattle.bus_table.proofs.CanonicalLemmas.{put_as_read, canonical_is, canonical_again}
 use Rattle.bus_table.proofs.writing.write_table.Goals as goal
 

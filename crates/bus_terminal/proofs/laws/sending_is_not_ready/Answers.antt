@@ -1,4 +1,4 @@
-use Rattle.bus_terminal.specs.SendingLaws as sending
+use Rattle.bus_terminal.proofs.SendingLaws as sending
 use Rattle.bus_terminal.proofs.laws.sending_is_not_ready.Goals as goal
 
 pub returns : goal.returns

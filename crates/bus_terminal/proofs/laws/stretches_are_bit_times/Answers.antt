@@ -1,4 +1,4 @@
-use Rattle.bus_terminal.specs.JumpLaws.{later_is_step_by_step, one_stretch, steady_within}
+use Rattle.bus_terminal.proofs.JumpLaws.{later_is_step_by_step, one_stretch, steady_within}
 use Rattle.bus_terminal.proofs.laws.stretches_are_bit_times.Goals as goal
 
 pub returns : goal.returns

@@ -1,5 +1,5 @@
-use Rattle.bus_timers.specs.GapStepLaws.{gap_settled, gap_started, gap_quiet, gap_carrier_elapsed, gap_carrier_waiting, gap_one, gap_ready}
-use Rattle.bus_timers.specs.GapStretchLaws.{gap_quiets, gap_carriers_elapsed, gap_carriers_waiting}
+use Rattle.bus_timers.proofs.GapStepLaws.{gap_settled, gap_started, gap_quiet, gap_carrier_elapsed, gap_carrier_waiting, gap_one, gap_ready}
+use Rattle.bus_timers.proofs.GapStretchLaws.{gap_quiets, gap_carriers_elapsed, gap_carriers_waiting}
 use Rattle.bus_timers.proofs.laws.gap_place_moves.Goals as goal
 
 pub returns : goal.returns

@@ -3,7 +3,7 @@ use Rattle.bus_tool.specs.Readers.{Trace, entire, two_sources}
 use Rattle.bus_tool.specs.Taken.{AreTraced}
 use Rattle.bus_tool.specs.Texts.{IsAnswerOf}
 use Rattle.bus_tool.proofs.AuditLemmas.{answer_is}
-use Rattle.bus_tool.specs.PrepareLaws.{prepares_stopped, prepares_made, prepares_roomless}
+use Rattle.bus_tool.proofs.PrepareLaws.{prepares_stopped, prepares_made, prepares_roomless}
 use Rattle.bus_tool.specs.declared.outcome.Outcome.TheVariants.{NoMemory}
 use Rattle.bus_tool.specs.Own.{IsOfReader}
 use Rattle.bus_tool.proofs.OwnLemmas.{own_stop}

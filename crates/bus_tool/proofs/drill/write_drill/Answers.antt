@@ -1,6 +1,6 @@
 use Rattle.std.proofs.Common.{List, ℕ, refl, subst}
 use Rattle.bus_outer.specs.Sinks.{WritesText}
-use Rattle.bus_outer.specs.TextLaws.{◌▸◌, ends_text}
+use Rattle.bus_outer.proofs.TextLaws.{◌▸◌, ends_text}
 use Rattle.bus_tool.proofs.DrillLemmas.{figures_same}
 use Rattle.bus_tool.proofs.drill.write_drill.Goals as goal
 

@@ -1,4 +1,4 @@
-use Rattle.bus_outer.specs.TextLaws.{ends_text}
+use Rattle.bus_outer.proofs.TextLaws.{ends_text}
 use Rattle.bus_tool.proofs.fault_line.plain_text.Goals as goal
 
 pub returns : goal.returns

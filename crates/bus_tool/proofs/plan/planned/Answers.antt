@@ -4,7 +4,7 @@ use Rattle.bus_tool.specs.Readers.{entire, one_source}
 use Rattle.bus_tool.specs.Steps.{Same}
 use Rattle.bus_tool.specs.Texts.{IsPlanOf}
 use Rattle.bus_tool.proofs.PlanLemmas.{plan_is}
-use Rattle.bus_tool.specs.PrepareLaws.{prepares_one, prepares_stopped, prepares_made, prepares_roomless}
+use Rattle.bus_tool.proofs.PrepareLaws.{prepares_one, prepares_stopped, prepares_made, prepares_roomless}
 use Rattle.bus_tool.specs.declared.outcome.Outcome.TheVariants.{NoMemory}
 use Rattle.bus_tool.specs.Own.{IsOfMode}
 use Rattle.bus_tool.proofs.OwnLemmas.{own_stop}

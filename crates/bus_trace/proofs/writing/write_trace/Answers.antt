@@ -1,6 +1,6 @@
 use Rattle.std.proofs.Common.{subst, List, ℕ}
 use Rattle.bus_outer.specs.Texts.{Adds}
-use Rattle.bus_outer.specs.TextLaws.{◌▸◌, ends_text}
+use Rattle.bus_outer.proofs.TextLaws.{◌▸◌, ends_text}
 use Rattle.bus_trace.proofs.WriteTexts.{put_as_read}
 use Rattle.bus_trace.proofs.writing.write_trace.Goals as goal
 

@@ -2,7 +2,7 @@ use Rattle.std.proofs.Common.{refl}
 use Rattle.bus_tool.specs.declared.forms.Form.TheVariants.{Receive}
 use Rattle.bus_tool.specs.declared.outcome.Outcome.TheVariants.{NoMemory}
 use Rattle.bus_tool.specs.Due.{table_refusal_of, traced_due}
-use Rattle.bus_tool.specs.PrepareLaws.{prepares_stopped, prepares_made, prepares_roomless}
+use Rattle.bus_tool.proofs.PrepareLaws.{prepares_stopped, prepares_made, prepares_roomless}
 use Rattle.bus_tool.specs.Taken.{AreTraced}
 use Rattle.bus_view.specs.Due.{AreAudited}
 use Rattle.bus_view.specs.Forms.{sources}

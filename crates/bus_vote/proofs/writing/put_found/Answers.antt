@@ -2,7 +2,7 @@ use Rattle.std.proofs.Common.{arith, length, List, ℕ, ◌++◌, ap, subst, sym
 use Rattle.std.specs.List.{flat_map, range_with_len}
 use Rattle.std.specs.Option.{option_copied}
 use Rattle.bus_outer.specs.Texts.{Adds}
-use Rattle.bus_outer.specs.TextLaws.{◌▸◌}
+use Rattle.bus_outer.proofs.TextLaws.{◌▸◌}
 use Rattle.bus_vote.specs.Putting.{round_put}
 use Rattle.bus_vote.proofs.HearingLemmas.{all_silent, one_further, round_heard}
 use Rattle.bus_vote.proofs.ListLemmas.{flat_map-range}

@@ -1,7 +1,7 @@
 use Rattle.std.proofs.Common.{arith, List, ℕ, ◌≡◌, ◌++◌, ap, subst, sym, ◌∙◌}
 use Rattle.std.specs.List.{flat_map, range_with_len}
 use Rattle.bus_outer.specs.Texts.{Adds}
-use Rattle.bus_outer.specs.TextLaws.{◌▸◌}
+use Rattle.bus_outer.proofs.TextLaws.{◌▸◌}
 use Rattle.bus_vote.specs.Putting.{label_put}
 use Rattle.bus_vote.proofs.ListLemmas.{flat_map-range}
 use Rattle.bus_vote.proofs.PutLemmas.{labels_are}

@@ -2,7 +2,7 @@ use Rattle.std.proofs.Common.{arith, length, List, ℕ, ◌++◌, drop, ap, subs
 use Rattle.std.specs.List.{flat_map, range_with_len}
 use Rattle.std.specs.Option.{option_copied}
 use Rattle.bus_outer.specs.Texts.{Adds}
-use Rattle.bus_outer.specs.TextLaws.{◌▸◌}
+use Rattle.bus_outer.proofs.TextLaws.{◌▸◌}
 use Rattle.bus_vote.specs.Putting.{round_put}
 use Rattle.bus_vote.specs.Rounds.{sent_by}
 use Rattle.bus_vote.proofs.ListLemmas.{flat_map-range, rest_left}

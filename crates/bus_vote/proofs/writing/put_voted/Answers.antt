@@ -1,6 +1,6 @@
 use Rattle.std.proofs.Common.{List, ℕ, ◌++◌, ap, subst}
 use Rattle.bus_outer.specs.Texts.{Adds}
-use Rattle.bus_outer.specs.TextLaws.{◌▸◌}
+use Rattle.bus_outer.proofs.TextLaws.{◌▸◌}
 use Rattle.bus_vote.specs.VoteTexts.{label_line}
 use Rattle.bus_vote.proofs.PutLemmas.{rounds_put}
 use Rattle.bus_vote.proofs.writing.put_voted.Goals as goal

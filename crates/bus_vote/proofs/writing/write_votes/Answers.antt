@@ -1,6 +1,6 @@
 use Rattle.std.proofs.Common.{List, ℕ, subst}
 use Rattle.bus_outer.specs.Texts.{Adds}
-use Rattle.bus_outer.specs.TextLaws.{◌▸◌, ends_text}
+use Rattle.bus_outer.proofs.TextLaws.{◌▸◌, ends_text}
 use Rattle.bus_vote.proofs.PutLemmas.{text_put}
 use Rattle.bus_vote.proofs.writing.write_votes.Goals as goal
 

@@ -1,7 +1,7 @@
 use Rattle.std.proofs.Common.{Err, ap, ◌∙◌}
 use Rattle.bus_words.specs.declared.word.WordError.TheVariants.{Shape}
 use Rattle.bus_words.specs.WordTexts.{read_word}
-use Rattle.bus_words.specs.WordTextLaws.{read_word-word_text}
+use Rattle.bus_words.proofs.WordTextLaws.{read_word-word_text}
 use Rattle.bus_words.proofs.FormLemmas.{reads_framed, reads_unformed, is_found, is_cause}
 use Rattle.bus_words.proofs.text.read_word.Goals as goal
 

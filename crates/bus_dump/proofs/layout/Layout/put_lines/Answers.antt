@@ -1,6 +1,6 @@
 use Rattle.std.proofs.Common.{List, ℕ, subst, ◌∙◌}
 use Rattle.bus_outer.specs.Texts.{Adds}
-use Rattle.bus_outer.specs.TextLaws.{◌▸◌}
+use Rattle.bus_outer.proofs.TextLaws.{◌▸◌}
 use Rattle.bus_dump.specs.DumpTexts.{value_line}
 use Rattle.bus_dump.specs.Signals.{bus_signals, lane_signals}
 use Rattle.bus_dump.specs.Watching.{scene_of}

@@ -1,6 +1,6 @@
 use Rattle.std.proofs.Common.{List, ℕ, ◌++◌, subst, ap, ◌∙◌}
 use Rattle.bus_outer.specs.Texts.{Adds}
-use Rattle.bus_outer.specs.TextLaws.{◌▸◌}
+use Rattle.bus_outer.proofs.TextLaws.{◌▸◌}
 use Rattle.bus_dump.specs.DumpTexts.{some_changes, stamp}
 use Rattle.bus_dump.specs.Layouts.{layout_signals}
 use Rattle.bus_dump.specs.Signals.{bus_signals, lane_signals}

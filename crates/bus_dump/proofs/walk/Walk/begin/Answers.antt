@@ -1,7 +1,7 @@
 use Rattle.std.proofs.Common.{◌≡◌, ◌+◌, ◌<◌, ◌≤◌, List, length, Some, get_or, arith, refl, sym, ap}
 use Rattle.std.specs.Prelude.{slice_get}
 use Rattle.std.proofs.lemmas.Option.{slice_get-get_or}
-use Rattle.bus_strings.specs.MemberLaws.{of_each, at_in}
+use Rattle.bus_strings.proofs.MemberLaws.{of_each, at_in}
 use Rattle.bus_strings.specs.Messages.{Entry}
 use Rattle.bus_strings.specs.Transmissions.{IsTransmission, end_of}
 use Rattle.bus_dump.proofs.WalkLemmas.{next_mark, room, walk_begun}

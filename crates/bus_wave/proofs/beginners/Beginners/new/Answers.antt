@@ -1,6 +1,6 @@
 use Rattle.std.proofs.Common.{◌≡◌, ◌<◌, ◌-◌, ◌==◌, ℕ, suc, length, drop, sym, ap, ◌∙◌, arith}
 use Rattle.std.proofs.lemmas.List.{length-set, length-replicate}
-use Rattle.bus_table.specs.ValidLaws.{valid_facts}
+use Rattle.bus_table.proofs.ValidLaws.{valid_facts}
 use Rattle.bus_wave.specs.Judging.{beginner}
 use Rattle.bus_wave.proofs.PlaceLemmas.{none_placed, place_more}
 use Rattle.bus_wave.proofs.beginners.Beginners.new.Goals as goal

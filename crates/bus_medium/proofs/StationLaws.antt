@@ -5,7 +5,7 @@ use Rattle.std.proofs.Common.{false, inl, inr, arith, refl, sym, ap, ◌∙◌, 
 use Rattle.std.proofs.lemmas.Bool.{and_parts, true≢false}
 use Rattle.bus_timers.specs.Timings.{IsSound}
 use Rattle.bus_strings.specs.Members.{In}
-use Rattle.bus_strings.specs.MemberLaws.{in_map, from_map}
+use Rattle.bus_strings.proofs.MemberLaws.{in_map, from_map}
 use Rattle.bus_table.specs.declared.mode.Mode.{Mode}
 use Rattle.bus_table.specs.declared.mode.Mode.TheVariants.{Aperiodic, Periodic}
 use Rattle.bus_table.specs.Tables.{Sender, Table, Hand}
@@ -13,7 +13,7 @@ use Rattle.bus_table.specs.Fits.{fits}
 use Rattle.bus_table.specs.Hands.{are_hands}
 use Rattle.bus_table.specs.Valid.{is_valid}
 use Rattle.bus_table.specs.Facts.{FitsMode, SenderFacts, TableFacts}
-use Rattle.bus_table.specs.ValidLaws.{valid_facts}
+use Rattle.bus_table.proofs.ValidLaws.{valid_facts}
 use Rattle.bus_medium.specs.Lawful.{Station, HaveOwnNumbers}
 use Rattle.bus_medium.specs.Timings.{greatest_gap, quiet_for, due_for, timing_of, stations_of}
 

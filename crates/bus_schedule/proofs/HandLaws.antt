@@ -8,7 +8,7 @@ use Rattle.bus_table.specs.Tables.{Sender, Hand}
 use Rattle.bus_table.specs.Fits.{fits}
 use Rattle.bus_table.specs.Hands.{are_hands}
 use Rattle.bus_table.specs.Turns.{Differ}
-use Rattle.bus_table.specs.TurnLaws.{at_in}
+use Rattle.bus_table.proofs.TurnLaws.{at_in}
 use Rattle.bus_schedule.specs.Even.{messages_of}
 
 pub hand_here : (hand : Hand) (hands : List Hand) (number : ℕ) → hand.terminal ≡ number → messages_of (hand ∷ hands) number ≡ hand.messages

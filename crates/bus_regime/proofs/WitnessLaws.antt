@@ -8,17 +8,17 @@ use Rattle.std.proofs.lemmas.Bool.{and_parts, eq-eqb, ne_eqb}
 use Rattle.std.proofs.lemmas.List.Elements.{filter-append}
 use Rattle.bus_strings.specs.Items.{Item, IsItem}
 use Rattle.bus_strings.specs.Limits.{most_strings}
-use Rattle.bus_strings.specs.MemberLaws.{of_each, from_map, in_append_cases}
+use Rattle.bus_strings.proofs.MemberLaws.{of_each, from_map, in_append_cases}
 use Rattle.bus_strings.specs.Members.{In}
 use Rattle.bus_table.specs.declared.mode.Mode.{Mode}
 use Rattle.bus_table.specs.Facts.{SenderFacts, TableFacts}
 use Rattle.bus_table.specs.Filling.{filling_strings, filling_item, filling_message}
-use Rattle.bus_table.specs.FillingLaws.{filling_shape, filling_is_item}
+use Rattle.bus_table.proofs.FillingLaws.{filling_shape, filling_is_item}
 use Rattle.bus_table.specs.Fits.{sender_of, shape_fit, item_fit, fit_from, items_fit}
 use Rattle.bus_table.specs.Hands.{message_of, items_of, hand_of}
 use Rattle.bus_table.specs.Ranges.{is_number, is_tg, is_offset, are_send_lines, is_send_line, is_sender}
 use Rattle.bus_table.specs.Tables.{Sender, Table}
-use Rattle.bus_table.specs.TurnLaws.{numbers_differ}
+use Rattle.bus_table.proofs.TurnLaws.{numbers_differ}
 use Rattle.bus_table.specs.Turns.{Differ}
 use Rattle.bus_regime.specs.Witness.{filling_round, witness_of}
 

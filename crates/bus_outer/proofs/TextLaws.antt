@@ -9,7 +9,7 @@ use Rattle.std.specs.declared.option.Option.{Option}
 use Rattle.std.specs.declared.result.Result.{Result}
 use Rattle.bus_outer.specs.Sinks.{WritesText}
 use Rattle.bus_outer.specs.Texts.{IsFresh, TextIs, Adds, Ends}
-use Rattle.bus_outer.specs.WriteLaws.{written_none}
+use Rattle.bus_outer.proofs.WriteLaws.{written_none}
 use Rattle.bus_outer.specs.declared.text_buffer.TextBuffer.{TextBuffer}
 
 -- A buffer that was just made holds the empty text.

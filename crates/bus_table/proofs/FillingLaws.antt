@@ -12,7 +12,7 @@ use Rattle.bus_strings.specs.Messages.{IsWordstring, IsMessage, bits}
 use Rattle.bus_table.specs.declared.mode.Mode.{Mode}
 use Rattle.bus_table.specs.declared.mode.Mode.TheVariants.{Aperiodic, Periodic}
 use Rattle.bus_table.specs.Filling.{zeros, filling_count, filling_strings, filling_item, filling_message, filling_bits}
-use Rattle.bus_table.specs.FitLaws.{shortest_length, longest_length}
+use Rattle.bus_table.proofs.FitLaws.{shortest_length, longest_length}
 use Rattle.bus_table.specs.Fits.{allows, matches, fits, is_shortest, is_longest, has_shape}
 use Rattle.bus_table.specs.Hands.{message_of}
 use Rattle.bus_table.specs.Ranges.{is_number, is_tg, is_offset, is_label, is_ext, is_send_line, are_send_lines, is_sender}

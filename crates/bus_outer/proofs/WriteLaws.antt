@@ -9,7 +9,7 @@ use Rattle.std.proofs.Common.{sym, ap, ◌∙◌, append_assoc, append-nil, take
 use Rattle.std.specs.declared.option.Option.{Option}
 use Rattle.std.specs.declared.result.Result.{Result}
 use Rattle.std.specs.Io.KnownBytes.{append_known, prepend_known}
-use Rattle.bus_outer.specs.FaultLaws.{rose_later}
+use Rattle.bus_outer.proofs.FaultLaws.{rose_later}
 use Rattle.bus_outer.specs.Sources.{Taken}
 use Rattle.bus_outer.specs.Sinks.{Written, WritesText}
 

@@ -10,10 +10,10 @@ use Rattle.bus_tool.specs.Stages.{stage_in, GivesStop, Gives, refusal_in}
 use Rattle.bus_tool.specs.Outside.{Seen, Sources, both}
 use Rattle.bus_tool.specs.Readers.{Reader, Named, one_source, two_sources, told, Broken, Past, Judged, ReadsBy, Reads, reach_at, reach}
 use Rattle.bus_tool.specs.Steps.{StopsAt, Takes, StopsFirst, IsLate, Prepares}
-use Rattle.bus_tool.specs.StageLaws.{if_map, stop_early, late_early, gives_then, gives_first, gives_past, no_refusal, refused_first}
-use Rattle.bus_tool.specs.StageLaws.{due_first, second_alone, late_alone}
-use Rattle.bus_tool.specs.ReachLaws.{untouched, nothing_within, reads_own, reads_before, reads_late, first_counts, second_counts}
-use Rattle.bus_tool.specs.ReachLaws.{late_counts}
+use Rattle.bus_tool.proofs.StageLaws.{if_map, stop_early, late_early, gives_then, gives_first, gives_past, no_refusal, refused_first}
+use Rattle.bus_tool.proofs.StageLaws.{due_first, second_alone, late_alone}
+use Rattle.bus_tool.proofs.ReachLaws.{untouched, nothing_within, reads_own, reads_before, reads_late, first_counts, second_counts}
+use Rattle.bus_tool.proofs.ReachLaws.{late_counts}
 
 pub both_map : (a b : Option (List ℕ)) (P Q : List ℕ → List ℕ → Type 0) → ((x y : List ℕ) → P x y → Q x y)
     → IfSome a (λ x. IfSome b (λ y. P x y)) → IfSome a (λ x. IfSome b (λ y. Q x y))

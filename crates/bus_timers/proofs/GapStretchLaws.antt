@@ -4,7 +4,7 @@ use Rattle.std.proofs.Common.{sym, subst, append_assoc}
 use Rattle.std.proofs.lemmas.List.{length_push, append-nil}
 use Rattle.bus_timers.specs.GapPlace.{GapFrom}
 use Rattle.bus_timers.specs.GapLaws.{QuietsPlace, CarriersPlace, WaitingCarriersPlace}
-use Rattle.bus_timers.specs.GapStepLaws.{gap_quiet, gap_carrier_elapsed, gap_carrier_waiting}
+use Rattle.bus_timers.proofs.GapStepLaws.{gap_quiet, gap_carrier_elapsed, gap_carrier_waiting}
 
 -- a quiet stretch leaves the place, bit time for bit time
 pub gap_quiets : QuietsPlace

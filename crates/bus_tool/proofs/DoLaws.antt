@@ -14,9 +14,9 @@ use Rattle.bus_tool.specs.Steps.{IsEarly, RefusesFirst, Prepares}
 use Rattle.bus_tool.specs.Due.{outcome_with}
 use Rattle.bus_tool.specs.Texts.{IsTextOf}
 use Rattle.bus_tool.specs.Acts.{Leaves, written, Does}
-use Rattle.bus_tool.specs.StageLaws.{if_map, gives_stands}
-use Rattle.bus_tool.specs.ReachLaws.{early_out}
-use Rattle.bus_tool.specs.PrepareLaws.{both_map}
+use Rattle.bus_tool.proofs.StageLaws.{if_map, gives_stands}
+use Rattle.bus_tool.proofs.ReachLaws.{early_out}
+use Rattle.bus_tool.proofs.PrepareLaws.{both_map}
 
 -- ---- where the steps stopped
 leaves_early : (k : Kind) (IsIt : List ℕ → Type 0) (out : Option (List ℕ)) → IsEarly k → Leaves k IsIt out out

@@ -4,7 +4,7 @@ use Rattle.std.proofs.Common.{inl, inr, arith, sym, ap, ◌∙◌}
 use Rattle.bus_strings.specs.Members.{In}
 use Rattle.bus_table.specs.Tables.{Sender}
 use Rattle.bus_table.specs.Turns.{Differ, Rises}
-use Rattle.bus_table.specs.TurnLaws.{behind_rises}
+use Rattle.bus_table.proofs.TurnLaws.{behind_rises}
 use Rattle.bus_regime.specs.Gaps.{Gap, latest_end, last_end, gaps_from}
 
 -- each gap is that of a sender of the order
