@@ -18,7 +18,7 @@ use Rattle.bus_medium.specs.Chains.{HaveEnded, Clock, Chain, put, gap_put, Chain
 use Rattle.bus_strings.proofs.MemberLaws.{in_push_cases}
 use Rattle.bus_medium.proofs.PastLaws.{own_push, own_push_other, own_after}
 use Rattle.bus_medium.proofs.StretchLemmas.{no_start_during}
-use Rattle.bus_medium.proofs.TurnLemmas.{idle_stretch, lone_start}
+use Rattle.bus_medium.proofs.Steps.{idle_stretch, lone_start}
 use Rattle.bus_medium.proofs.ClockLemmas.{clock_may, clock_quiet, clock_other, clock_own, past_during, gap_after}
 
 pub put_here : (f : ℕ → ℕ) (n v i : ℕ) → i ≡ n → put f n v i ≡ v

@@ -30,7 +30,7 @@ use Rattle.bus_strings.proofs.MemberLaws.{in_append_cases}
 use Rattle.bus_medium.proofs.PastLaws.{own_after, length_past, past_at, past_push, pulses_on, in_own, from_own, own_push_other}
 use Rattle.bus_medium.proofs.Following.{running_not_may, follows_later}
 use Rattle.bus_medium.proofs.DecideLemmas.{own_next}
-use Rattle.bus_medium.proofs.TurnLemmas.{idle_stretch}
+use Rattle.bus_medium.proofs.Steps.{idle_stretch}
 use Rattle.bus_medium.proofs.Seats.{get_within, from_map, in_map}
 use Rattle.bus_medium.proofs.Sums.{any_same}
 use Rattle.bus_medium.proofs.EdgeLemmas.{not_itself, list_more, list_change, list_append, list_first}

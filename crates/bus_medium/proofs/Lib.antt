@@ -1,4 +1,5 @@
-pub mod Unique
+pub mod Ruled
+pub mod RuledList
 pub mod Steps
 pub mod Following
 pub mod Seats
@@ -8,7 +9,6 @@ pub mod TimingLemmas
 pub mod SeatingLemmas
 pub mod OrderLemmas
 pub mod StretchLemmas
-pub mod TurnLemmas
 pub mod ClockLemmas
 pub mod ChainLemmas
 pub mod Existence
@@ -23,3 +23,8 @@ pub mod AscendingLaws
 pub mod PastLaws
 pub mod StationLaws
 pub mod BusyLaws
+pub mod Hearing
+pub mod CableLists
+pub mod Waking
+pub mod CableClocks
+pub mod CableSteps

@@ -1,9 +1,8 @@
 -- What follows of the past that a list makes, and of what is a sender's own.
 -- The contract of `laws::pasts` says that each law with a name of its own holds; the proofs are for the crates above to cite.
-use Rattle.std.proofs.Common.{◌≡◌, ℕ, zero, suc, ◌+◌, ◌-◌, ◌<◌, ◌≤◌, ◌⊎◌, Bool, true, false, ◌&&◌, ◌||◌, cond, eqb, ltb, List, [], ◌∷◌}
+use Rattle.std.proofs.Common.{◌≡◌, ℕ, zero, suc, ◌+◌, ◌-◌, ◌<◌, ◌≤◌, Bool, true, false, ◌&&◌, ◌||◌, cond, eqb, ltb, List, [], ◌∷◌}
 use Rattle.std.proofs.Common.{◌++◌}
-use Rattle.std.proofs.Common.{length, Some, None, inl, inr, arith, sym, refl, ap, ◌∙◌, subst}
-use Rattle.std.specs.Prelude.{slice_index_or}
+use Rattle.std.proofs.Common.{Some, None, inl, inr, arith, sym, refl, ap, ◌∙◌, subst}
 use Rattle.std.specs.List.{filter}
 use Rattle.std.proofs.lemmas.Bool.{cases_lt, cases_Bool, true≢false, and_parts, lt-ltb, le-leb, lt-leb, ltb-true, eq-eqb, eqb-true}
 use Rattle.std.proofs.lemmas.List.{length_push, length-replicate, get_or_append_left, get_or_push, append-nil}
@@ -15,10 +14,10 @@ use Rattle.bus_strings.proofs.MemberLaws.{in_filter, from_filter, filter_same, f
 use Rattle.bus_strings.specs.Messages.{Entry}
 use Rattle.bus_strings.specs.Pulses.{is_on}
 use Rattle.bus_strings.proofs.PulsesAlongLaws.{quiet_behind}
-use Rattle.bus_strings.specs.Transmissions.{pulses, carrier, end_of, Precedes, IsAscending}
-use Rattle.bus_medium.specs.Past.{past, own, last_place}
+use Rattle.bus_strings.specs.Transmissions.{pulses, carrier, end_of, Precedes}
+use Rattle.bus_medium.specs.Past.{past, own}
 use Rattle.bus_medium.proofs.AscendingLaws.{behind_in}
-use Rattle.bus_medium.specs.PastLaws.{PastLength, PastAt, NoCarrier, NoneOf, OwnLater, OwnMore, LastMore, OneAt}
+use Rattle.bus_medium.specs.PastLaws.{PastLength, PastAt, NoCarrier, OwnLater, OwnMore, LastMore, OneAt}
 
 pub length_past : PastLength
 length_past q l zero = length-replicate q false ∙ omega arith

@@ -12,7 +12,7 @@ use Rattle.bus_medium.specs.Edges.{edges_by, strings_sent}
 use Rattle.bus_medium.specs.Jumps.{Moved}
 use Rattle.bus_medium.specs.Runs.{Reached, Counted, Stretched}
 use Rattle.bus_medium.proofs.Steps.{lawful_none, lawful_whole}
-use Rattle.bus_medium.proofs.Unique.{lawful_once}
+use Rattle.bus_medium.proofs.Steps.{lawful_once}
 use Rattle.bus_medium.proofs.Following.{running_is}
 use Rattle.bus_medium.proofs.Seats.{get_within}
 use Rattle.bus_medium.proofs.EdgeLemmas.{list_most}

@@ -1,23 +1,15 @@
 -- A stretch of the bus that is busy: carrier at its first and its last bit time, and in between at one of five. A message is such a
 -- stretch, and so are messages that begin together. For the timers it is as good as carrier throughout.
 -- The contract of `laws::busy_stretches` says that each law with a name of its own holds; the proofs are for the crates above to cite.
-use Rattle.std.proofs.Common.{◌≡◌, ℕ, zero, suc, ◌+◌, ◌-◌, ◌<◌, ◌≤◌, ◌⊎◌, true, false, List, [], ◌∷◌, ◌++◌, length, Option}
-use Rattle.std.proofs.Common.{inl, inr, arith, sym, refl, ap, ◌∙◌, subst}
-use Rattle.std.proofs.lemmas.Bool.{cases_lt, cases_Bool, true≢false}
+use Rattle.std.specs.Prelude.{◌≡◌, ℕ, ◌+◌, ◌-◌, ◌<◌, ◌≤◌, true, List, length, Option}
 use Rattle.bus_timers.specs.declared.timing.Timing.{Timing}
 use Rattle.bus_timers.specs.Timings.{IsSound}
 use Rattle.bus_timers.specs.MayStart.{MayStart}
 use Rattle.bus_timers.specs.GapPlace.{GapFrom}
-use Rattle.bus_timers.proofs.GapStepLaws.{gap_quiet, gap_carrier_elapsed, gap_carrier_waiting}
 use Rattle.bus_strings.specs.Members.{In}
-use Rattle.bus_strings.specs.Messages.{Entry, bits}
-use Rattle.bus_strings.specs.Pulses.{is_on}
-use Rattle.bus_strings.specs.PulseLaws.{Pulse}
-use Rattle.bus_strings.proofs.PulsesAlongLaws.{first_is_on, last_is_on, pulse_soon}
-use Rattle.bus_strings.proofs.MessageLaws.{bits_some}
+use Rattle.bus_strings.specs.Messages.{Entry}
 use Rattle.bus_strings.specs.Transmissions.{carrier, end_of}
 use Rattle.bus_medium.specs.Past.{past}
-use Rattle.bus_medium.proofs.PastLaws.{length_past, past_at, some_carrier}
 
 -- at one of five bit times from k on there is carrier
 pub record Heard (l : List Entry) (k : ℕ) : Type 0 where

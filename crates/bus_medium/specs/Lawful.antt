@@ -39,22 +39,30 @@ pub record IsNext (stations : List Station) (list : List Entry) (x : Entry) : Ty
   pub number : sender.number ≡ x.terminal
   pub message : slice_get sender.hand (length (own list sender.number x.moment)) ≡ Some x.message
 
--- the list is lawful for these senders up to the horizon:
+-- The list is what these senders make by a rule up to the horizon:
 --   ordered: it ascends strictly by moment, then terminal;
 --   sent: each transmission starts before the horizon, is of a sender, and has the next message of its hand;
---   exact: a sender starts at a moment before the horizon exactly where it is due
-pub record IsLawful (quiet : ℕ) (stations : List Station) (horizon : ℕ) (list : List Entry) : Type 0 where
+--   exact: a sender starts at a moment before the horizon exactly where it is due.
+pub record IsRuled (due : List Entry → Station → ℕ → Type 0) (stations : List Station) (horizon : ℕ) (list : List Entry) : Type 0 where
   pub ordered : IsAscending list
   pub sent : (x : Entry) → In x list → (x.moment < horizon) × IsNext stations list x
-  pub exact : (t : ℕ) (sender : Station) → t < horizon → In sender stations → HasEntry list sender.number t ↔ IsDue quiet list sender t
+  pub exact : (t : ℕ) (sender : Station) → t < horizon → In sender stations → HasEntry list sender.number t ↔ due list sender t
+
+-- The list is lawful for these senders up to the horizon: a sender starts exactly where its timers and its hand say that it is due.
+abbrev pub IsLawful : ℕ → List Station → ℕ → List Entry → Type 0
+IsLawful quiet = IsRuled (IsDue quiet)
 
 -- a moment comes before another, or is it, and then a terminal's number comes before another
 abbrev pub IsBefore : ℕ → ℕ → ℕ → ℕ → Type 0
 IsBefore moment number other_moment other_number = (moment < other_moment) ⊎ ((moment ≡ other_moment) × (number < other_number))
 
--- lawful for all moments before t, and at t for the terminals with numbers below n
-pub record IsLawfulTo (quiet : ℕ) (stations : List Station) (t n : ℕ) (list : List Entry) : Type 0 where
+-- What the senders make by a rule at all moments before t, and at t those with numbers below n.
+pub record IsRuledTo (due : List Entry → Station → ℕ → Type 0) (stations : List Station) (t n : ℕ) (list : List Entry) : Type 0 where
   pub ordered : IsAscending list
   pub sent : (x : Entry) → In x list → IsBefore x.moment x.terminal t n × IsNext stations list x
   pub exact : (u : ℕ) (sender : Station) → In sender stations → IsBefore u sender.number t n → HasEntry list sender.number u
-      ↔ IsDue quiet list sender u
+      ↔ due list sender u
+
+-- Lawful for all moments before t, and at t for the terminals with numbers below n.
+abbrev pub IsLawfulTo : ℕ → List Station → ℕ → ℕ → List Entry → Type 0
+IsLawfulTo quiet = IsRuledTo (IsDue quiet)

@@ -6,6 +6,8 @@ use Rattle.bus_timers.specs.MayStartTest.{may_start}
 use Rattle.bus_strings.specs.Messages.{Entry}
 use Rattle.bus_medium.specs.Past.{past, own, last_place}
 use Rattle.bus_medium.specs.Lawful.{Station}
+use Rattle.bus_medium.specs.Delays.{Delays, heard}
+use Rattle.bus_medium.specs.Wakes.{Wakes, woken_past, woken_place}
 
 -- whether the sender is due at moment t
 abbrev pub is_due : ℕ → List Entry → Station → ℕ → Bool
@@ -22,26 +24,41 @@ next_entry list sender t = record {
       (length (own list sender.number t)) [];
 }
 
--- the list when the sender, if there is one, has decided at moment t
-abbrev pub decided : ℕ → List Entry → Option Station → ℕ → List Entry
-decided quiet list None t = list
-decided quiet list (Some sender) t = if is_due quiet list sender t then list ++ next_entry list sender t ∷ [] else list
-
 -- the sender with this number
 abbrev pub with_number : List Station → ℕ → Option Station
 with_number stations number = find (λ sender. sender.number == number) stations
-
--- the list when the senders with numbers below n have decided at moment t
-abbrev pub decided_below : ℕ → List Station → List Entry → ℕ → ℕ → List Entry
-decided_below quiet stations list t zero = list
-decided_below quiet stations list t (suc n) = decided quiet (decided_below quiet stations list t n) (with_number stations n) t
 
 -- a number above those of all senders
 abbrev pub above : List Station → ℕ
 above [] = 0
 above (sender ∷ stations) = max (sender.number + 1) (above stations)
 
--- the lawful list up to the horizon
+-- The list when the sender, if there is one, has decided at moment t.
+abbrev pub decided : (List Entry → Station → ℕ → Bool) → List Entry → Option Station → ℕ → List Entry
+decided due list None t = list
+decided due list (Some sender) t = if due list sender t then list ++ next_entry list sender t ∷ [] else list
+
+-- The list when the senders with numbers below n have decided at moment t.
+abbrev pub decided_below : (List Entry → Station → ℕ → Bool) → List Station → List Entry → ℕ → ℕ → List Entry
+decided_below due stations list t zero = list
+decided_below due stations list t (suc n) = decided due (decided_below due stations list t n) (with_number stations n) t
+
+-- The list up to the horizon that senders make by a rule that can be tested.
+abbrev pub ruled_list : (List Entry → Station → ℕ → Bool) → List Station → ℕ → List Entry
+ruled_list due stations zero = []
+ruled_list due stations (suc t) = decided_below due stations (ruled_list due stations t) t (above stations)
+
+-- The lawful list up to the horizon.
 abbrev pub lawful_list : ℕ → List Station → ℕ → List Entry
-lawful_list quiet stations zero = []
-lawful_list quiet stations (suc t) = decided_below quiet stations (lawful_list quiet stations t) t (above stations)
+lawful_list quiet = ruled_list (is_due quiet)
+
+-- Whether the sender is due at moment t, where it hears others later and was powered up at a moment of its own.
+abbrev pub is_due_on_cable : ℕ → Delays → Wakes → List Entry → Station → ℕ → Bool
+is_due_on_cable quiet delay wake list sender t =
+    may_start sender.timing (woken_past quiet (wake sender.number) (heard delay sender.number list) t)
+    (woken_place quiet (wake sender.number) (own list sender.number t))
+    && nat_lt (length (own list sender.number t)) (length sender.hand)
+
+-- The lawful list on a cable up to the horizon.
+abbrev pub cable_list : ℕ → Delays → Wakes → List Station → ℕ → List Entry
+cable_list quiet delay wake = ruled_list (is_due_on_cable quiet delay wake)

@@ -1,9 +1,13 @@
 pub mod Past
 pub mod Lawful
+pub mod Delays
+pub mod Wakes
+pub mod CableLawful
 pub mod LawfulList
 pub mod PastLaws
 pub mod BusyLaws
 pub mod LawfulLaws
+pub mod CableLaws
 pub mod Stretches
 pub mod Chains
 pub mod Timings

@@ -1,6 +1,7 @@
 ghost use Rattle.bus_medium.specs.PastLaws.{PastLength, PastAt, NoCarrier, OwnLater, OwnMore, LastMore, OneAt};
 ghost use Rattle.bus_medium.specs.BusyLaws.{EntryIsBusy, BusyElapsed, BusyWaiting, BusyNobody};
 ghost use Rattle.bus_medium.specs.LawfulLaws.{OneLawfulList, ThereIsALawfulList, TheComputedList, OneListOfATable, LawfulToHorizon};
+ghost use Rattle.bus_medium.specs.CableLaws.{OneCableList, TheComputedCableList, OneCableListOfATable, NoDelayIsTheBus};
 ghost use Rattle.bus_medium.specs.Stretches.{IdleStretch, LoneStart, MessageIsCarrier, MessageElapsed, MessageWaiting, NoStartDuring};
 ghost use Rattle.bus_medium.specs.Chains.{ChainSettled, ChainStep, ChainDue, ChainStarts};
 
@@ -14,6 +15,18 @@ pub fn one_lawful_list()
     ensures computed { TheComputedList }
     ensures table { OneListOfATable }
     ensures whole { LawfulToHorizon }
+{
+    test_decides();
+}
+
+/// On a cable too, whatever the delays are and whenever the senders wake, there is exactly one lawful list for each horizon, the one
+/// that `cable_list` computes; so it is of every valid table with its hands. Without delays, where all senders wake at the settled
+/// start, it is the lawful list of the bus.
+pub fn one_cable_list()
+    ensures once { OneCableList }
+    ensures computed { TheComputedCableList }
+    ensures table { OneCableListOfATable }
+    ensures none { NoDelayIsTheBus }
 {
     test_decides();
 }

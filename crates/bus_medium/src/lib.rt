@@ -12,8 +12,11 @@
 //! and by single starts ([`laws::lawful_turns`]); a whole message counts for the timers as its bits of carrier
 //! ([`laws::messages_are_carrier`]), and so does any stretch that transmissions keep busy ([`laws::busy_stretches`]);
 //! what the past of a list has where ([`laws::pasts`]); and as long as no transmission begins before the one before has
-//! ended, three numbers of each sender tell who is due next ([`laws::chains_tell`]). `specs/StationLaws.antt` says what
-//! the stations of a valid table are, by which these laws apply to it.
+//! ended, three numbers of each sender tell who is due next ([`laws::chains_tell`]).
+//!
+//! The same bus on a cable with length, whose terminals were powered up when they liked, stands beside it: what each terminal
+//! hears and when (`specs/Delays.antt`), what it has heard since its power-up (`specs/Wakes.antt`), and the lawful list of that
+//! (`specs/CableLawful.antt`), which differs in who is due alone. Here too there is exactly one ([`laws::one_cable_list`]).
 #![tactic(auto)]
 
 mod bit_times;

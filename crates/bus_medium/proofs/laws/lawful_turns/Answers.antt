@@ -1,4 +1,4 @@
-use Rattle.bus_medium.proofs.TurnLemmas.{idle_stretch, lone_start}
+use Rattle.bus_medium.proofs.Steps.{idle_stretch, lone_start}
 use Rattle.bus_medium.proofs.laws.lawful_turns.Goals as goal
 
 pub returns : goal.returns

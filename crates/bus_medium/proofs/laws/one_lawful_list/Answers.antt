@@ -1,6 +1,5 @@
 use Rattle.bus_medium.specs.LawfulList.{lawful_list}
-use Rattle.bus_medium.proofs.Unique.{lawful_once}
-use Rattle.bus_medium.proofs.Steps.{lawful_whole}
+use Rattle.bus_medium.proofs.Steps.{lawful_once, lawful_whole}
 use Rattle.bus_medium.proofs.Existence.{lawful_list_is, one_of_a_table}
 use Rattle.bus_medium.proofs.laws.one_lawful_list.Goals as goal
 
