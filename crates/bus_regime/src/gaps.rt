@@ -1,5 +1,6 @@
 //! The gaps of a periodic table, one by one in turn order.
 ghost use Rattle.std.specs.Prelude.{◌≡◌, ◌≤◌, ◌<◌, ◌^◌, ◌+◌, IsSomeAnd, Some, length, slice_get};
+ghost use Rattle.bus_table.specs.Turned.{AreTurned};
 ghost use Rattle.bus_table.specs.Turns.{turn_order};
 ghost use Rattle.bus_table.specs.Lengths.{longest as longest_of};
 ghost use Rattle.bus_regime.specs.Gaps.{gaps};
@@ -8,12 +9,12 @@ use crate::table_verdict::TableVerdict;
 use bus_table::lengths::longest;
 use bus_table::sender::Sender;
 use bus_table::table::Table;
-use bus_table::turns::place;
+use bus_table::turns::{place, turn_at};
 use std::marker::Model;
 
 /// The gap before a sender: from the end of the sender before it to the sender's own start, both one interval later.
 #[derive(Drop)]
-pub(crate) struct TurnGap<'a> {
+pub struct TurnGap<'a> {
     sender: &'a Sender,
     from: u64,
     to: u64,
@@ -35,8 +36,31 @@ impl<'a> TurnGap<'a> {
     ghost use Rattle.bus_regime.specs.Gaps.{has_width, width as gap_width};
     ghost use Rattle.bus_regime.specs.Verdicts as verdicts;
 
+    /// Its sender, before which it stands.
+    pub fn sender(&self) -> &'a Sender
+        ensures { result.now ≡ self.now.sender }
+    {
+        self.sender
+    }
+
+    /// Where it begins, in bit times from the begin of the interval before.
+    pub fn begin(&self) -> u64
+        ensures value { result ≡ self.now.from }
+        ensures bound { result ≤ 2 ^ 40 }
+    {
+        self.from
+    }
+
+    /// Where it ends, counted likewise: before its begin where it is an overlap.
+    pub fn end(&self) -> u64
+        ensures value { result ≡ self.now.to }
+        ensures bound { result ≤ 2 ^ 40 }
+    {
+        self.to
+    }
+
     /// Whether it has at least so many bit times.
-    pub(crate) fn has_width(&self, bits: u32) -> bool
+    pub fn has_width(&self, bits: u32) -> bool
         ensures { result ≡ has_width bits self.now }
     {
         self.from + u64::from(bits) <= self.to
@@ -87,7 +111,8 @@ impl<'a> TurnGap<'a> {
     }
 }
 
-/// The `k`-th sender in turn order, from 0. It takes no memory.
+/// The `k`-th sender in turn order, from 0. It takes no memory. For all of
+/// them [`bus_table::turn_places`] finds turn order once.
 pub fn turn(table: &Table, k: usize) -> &Sender
     requires { k < length table.now.senders }
     ensures { slice_get (turn_order table.now) k ≡ Some result.now }
@@ -111,27 +136,30 @@ fn latest_end(sender: &Sender) -> u64
 }
 
 /// Where the gap before the `k`-th sender in turn order begins.
-fn gap_from(table: &Table, k: usize) -> u64
-    requires { k < length table.now.senders }
+fn gap_from(table: &Table, places: &[usize; 128], k: usize) -> u64
+    requires place { k < length table.now.senders }
+    requires turned { AreTurned table.now places.now }
     ensures bound { result ≤ 2 ^ 40 }
     ensures value { IsSomeAnd (slice_get (gaps table.now) k) (λ gap. result ≡ gap.from) }
 {
     if k == 0 {
-        latest_end(turn(table, table.senders().len() - 1))
+        latest_end(turn_at(table, places, table.senders().len() - 1))
     } else {
-        u64::from(table.ti()) + latest_end(turn(table, k - 1))
+        u64::from(table.ti()) + latest_end(turn_at(table, places, k - 1))
     }
 }
 
-/// The gap before the `k`-th sender in turn order, from 0.
-pub(crate) fn gap_at(table: &Table, k: usize) -> TurnGap<'_>
-    requires { k < length table.now.senders }
+/// The gap before the `k`-th sender in turn order, from 0, where the places of turn order are known: by
+/// [`bus_table::turn_places`], once for all gaps.
+pub fn gap_at<'a>(table: &'a Table, places: &[usize; 128], k: usize) -> TurnGap<'a>
+    requires place { k < length table.now.senders }
+    requires turned { AreTurned table.now places.now }
     ensures { slice_get (gaps table.now) k ≡ Some result }
 {
-    let sender = turn(table, k);
+    let sender = turn_at(table, places, k);
     TurnGap {
         sender,
-        from: gap_from(table, k),
+        from: gap_from(table, places, k),
         to: u64::from(table.ti()) + u64::from(sender.at()),
     }
 }

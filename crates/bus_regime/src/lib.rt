@@ -16,7 +16,7 @@ pub mod table_verdict;
 mod tests;
 pub mod witnessing;
 
-pub use gaps::turn;
+pub use gaps::{TurnGap, gap_at, turn};
 pub use judging::verdict;
 pub use line::{put_verdict, write_verdict};
 pub use table_verdict::TableVerdict;

@@ -2,6 +2,7 @@
 ghost use Rattle.std.specs.Prelude.{◌≡◌, ◌+◌, ◌<◌, ◌≤◌, cond, IfOk, IfErr, None, Some};
 ghost use Rattle.std.specs.List.{count_by, find};
 ghost use Rattle.bus_strings.specs.Members.{In};
+ghost use Rattle.bus_table.specs.Turned.{AreTurned};
 ghost use Rattle.bus_table.specs.declared.mode.Mode.TheVariants.{Periodic};
 ghost use Rattle.bus_regime.specs.Gaps.{gaps, has_width};
 ghost use Rattle.bus_regime.specs.Verdicts as verdicts;
@@ -10,6 +11,7 @@ use crate::gaps::{TurnGap, gap_at};
 use crate::table_verdict::TableVerdict;
 use bus_table::mode::Mode;
 use bus_table::table::Table;
+use bus_table::turns::turn_places;
 
 /// One, where the test is passed, and else none.
 fn one_if(test: bool) -> usize
@@ -19,14 +21,15 @@ fn one_if(test: bool) -> usize
 }
 
 /// How many gaps have at least one synchronization gap, unless one is small: then the first of those.
-fn wide_gaps(table: &Table) -> Result<usize, TurnGap<'_>>
+fn wide_gaps<'a>(table: &'a Table, places: &[usize; 128]) -> Result<usize, TurnGap<'a>>
+    requires { AreTurned table.now places.now }
     ensures small { IfErr result (λ gap. find verdicts.is_small (gaps table.now) ≡ Some gap) }
     ensures none { IfOk result (λ _. find verdicts.is_small (gaps table.now) ≡ None) }
     ensures wide { IfOk result (λ wide. wide ≡ count_by (has_width table.now.sg) (gaps table.now)) }
 {
     let mut wide = 0;
     for k in 0..table.senders().len() {
-        let gap = gap_at(table, k);
+        let gap = gap_at(table, places, k);
         if gap.is_small() {
             return Err(gap);
         }
@@ -47,12 +50,13 @@ fn lacks_sync(table: &Table, wide: usize, gap: &TurnGap<'_>) -> bool
 }
 
 /// The first gap in turn order whose sender lacks sync.
-fn unsynchronized(table: &Table, wide: usize) -> Option<TurnGap<'_>>
-    requires { wide ≡ count_by (has_width table.now.sg) (gaps table.now) }
+fn unsynchronized<'a>(table: &'a Table, places: &[usize; 128], wide: usize) -> Option<TurnGap<'a>>
+    requires turned { AreTurned table.now places.now }
+    requires wide { wide ≡ count_by (has_width table.now.sg) (gaps table.now) }
     ensures { result ≡ find (verdicts.lacks_sync table.now.sg (gaps table.now)) (gaps table.now) }
 {
     for k in 0..table.senders().len() {
-        let gap = gap_at(table, k);
+        let gap = gap_at(table, places, k);
         if lacks_sync(table, wide, &gap) {
             return Some(gap);
         }
@@ -64,11 +68,12 @@ fn unsynchronized(table: &Table, wide: usize) -> Option<TurnGap<'_>>
 pub(crate) fn by_gaps(table: &Table) -> TableVerdict
     ensures { result ≡ verdicts.by_gaps table.now }
 {
-    let wide = match wide_gaps(table) {
+    let places = turn_places(table);
+    let wide = match wide_gaps(table, &places) {
         Ok(wide) => wide,
         Err(gap) => return gap.small_gap(),
     };
-    match unsynchronized(table, wide) {
+    match unsynchronized(table, &places, wide) {
         Some(gap) => gap.no_sync(table.sg()),
         None => TableVerdict::Accept {
             mode: Mode::Periodic,

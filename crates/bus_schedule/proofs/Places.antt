@@ -9,12 +9,12 @@ use Rattle.bus_strings.specs.Transmissions.{end_of}
 use Rattle.bus_table.specs.Tables.{Sender}
 use Rattle.bus_schedule.specs.Closed.{sends, turns, offset_turns, in_rounds}
 
-get_left : {X : Type 0} → (xs ys : List X) (j : ℕ) → j < length xs → slice_get (xs ++ ys) j ≡ slice_get xs j
+pub get_left : {X : Type 0} → (xs ys : List X) (j : ℕ) → j < length xs → slice_get (xs ++ ys) j ≡ slice_get xs j
 get_left [] ys j h = absurd (omega arith)
 get_left (x ∷ xs) ys zero h = refl
 get_left (x ∷ xs) ys (suc j) h = get_left xs ys j (omega arith)
 
-get_right : {X : Type 0} → (xs ys : List X) (n j : ℕ) → length xs ≡ n → slice_get (xs ++ ys) (n + j) ≡ slice_get ys j
+pub get_right : {X : Type 0} → (xs ys : List X) (n j : ℕ) → length xs ≡ n → slice_get (xs ++ ys) (n + j) ≡ slice_get ys j
 get_right [] ys n j e = ap (slice_get ys) (omega (arith, e))
 get_right (x ∷ xs) ys zero j e = absurd (let k : suc (length xs) ≡ 0 = e in omega arith)
 get_right (x ∷ xs) ys (suc n) j e = ap (slice_get (x ∷ (xs ++ ys))) (let k : suc n + j ≡ suc (n + j) = omega arith in k) ∙ get_right xs ys n j (let k : suc (length xs) ≡ suc n = e in omega arith)

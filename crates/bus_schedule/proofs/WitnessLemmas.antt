@@ -85,7 +85,7 @@ witnesses_are_even give table valid =
     (two_each (witness_of table) table.senders 2 (counts table facts)))
 
 -- how long they are
-filled : (table : Table) → TableFacts table → (sender : Sender) (round : ℕ) → In sender table.senders → round < 2
+pub filled : (table : Table) → TableFacts table → (sender : Sender) (round : ℕ) → In sender table.senders → round < 2
     → bits (get_or (messages_of (witness_hands table) sender.number) round []) ≡ filling_bits table.mode sender
 filled table facts sender zero i less = ap (λ (hand : List Message). bits (get_or hand 0 [])) (witness_messages table sender facts i)
     ∙ filling_length table.mode sender

@@ -9,6 +9,7 @@ pub mod AgainLemmas
 pub mod StepLemmas
 pub mod AnswerLemmas
 pub mod RankLemmas
+pub mod TurnedLemmas
 pub mod FitLemmas
 pub mod NewLemmas
 pub mod HandLemmas

@@ -14,6 +14,7 @@ pub mod Reading
 pub mod Gives
 pub mod Timers
 pub mod Turns
+pub mod Turned
 pub mod Filling
 pub mod Offsets
 pub mod Canonical

@@ -53,5 +53,5 @@ pub use offsets::with_offsets;
 pub use reading::read_table;
 pub use sender::Sender;
 pub use table::Table;
-pub use turns::place;
+pub use turns::{place, turn_at, turn_places};
 pub use writing::write_table;
