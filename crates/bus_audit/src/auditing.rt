@@ -7,10 +7,9 @@ use crate::laws::one_answer;
 use crate::settle::settle_all;
 use crate::walk::walk;
 use bus_strings::laws::neighbours_tell;
-use bus_strings::overlap::Marks;
-use bus_strings::transmission::Transmission;
-use bus_table::table::Table;
-use bus_trace::trace::Trace;
+use bus_strings::{Marks, Transmission};
+use bus_table::Table;
+use bus_trace::Trace;
 use std::alloc::{AllocError, Global};
 
 /// How many transmissions of a list are garbled.

@@ -7,10 +7,8 @@ ghost use Rattle.bus_audit.specs.Watches.{IsLow};
 
 use crate::answer::BreachKind;
 use crate::watch::{Watch, ready};
-use bus_strings::message::Message;
-use bus_strings::wordstring::Wordstring;
-use bus_table::line::SendLine;
-use bus_table::sender::Sender;
+use bus_strings::{Message, Wordstring};
+use bus_table::{SendLine, Sender};
 
 /// Where the sender with this number stands.
 pub fn place_of(senders: &[Sender], number: u8) -> Option<usize>

@@ -13,7 +13,7 @@
 //! are kept of a sender, and `specs/Standing.antt` what they stand for.
 #![tactic(auto)]
 
-pub mod answer;
+mod answer;
 mod auditing;
 mod check;
 mod clock;

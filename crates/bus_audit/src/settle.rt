@@ -5,8 +5,8 @@ ghost use Rattle.bus_audit.specs.Watches as sums;
 
 use crate::watch::Watch;
 use bus_medium::timing;
-use bus_table::table::Table;
-use bus_trace::hold::Hold;
+use bus_table::Table;
+use bus_trace::Hold;
 use std::alloc::{AllocError, Global};
 
 /// How many messages a terminal held.

@@ -12,12 +12,11 @@ use crate::clock::Clock;
 use crate::entry::{judge, place_of};
 use crate::finding::Finding;
 use crate::watch::{Watch, begun, passed};
-use bus_medium::timings::quiet;
-use bus_strings::pulses::bits;
-use bus_strings::transmission::Transmission;
-use bus_table::table::Table;
+use bus_medium::quiet;
+use bus_strings::{Transmission, bits};
+use bus_table::Table;
 use bus_timers::laws::test_decides;
-use bus_trace::trace::Trace;
+use bus_trace::Trace;
 
 /// The watches when the bus was busy from one place to another.
 fn pass_all(watches: &mut [Watch], from: u64, to: u64)

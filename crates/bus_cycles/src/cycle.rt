@@ -3,8 +3,7 @@ ghost use Rattle.std.specs.Prelude.{◌≡◌, ◌<◌, ◌≤◌, ◌+◌};
 ghost use Rattle.bus_cycles.specs.Rows as definition;
 
 use bus_shapes::Sent;
-use bus_table::mode::Mode;
-use bus_table::table::Table;
+use bus_table::{Mode, Table};
 
 /// What of a table tells where rows begin.
 #[derive(Clone, Copy, Debug, PartialEq, Eq)]

@@ -13,7 +13,7 @@ use bus_audit::AuditAnswer;
 use bus_outer::{Sink, TextBuffer, WriteFault};
 use bus_regime::TableVerdict;
 use bus_shapes::{Window, put_frame, put_tail};
-use bus_table::table::Table;
+use bus_table::Table;
 use bus_trace::Trace;
 
 /// Writes the picture of a window of a trace on a table as SVG: a row for each cycle, one below the other from the same left edge, at most

@@ -6,10 +6,7 @@ ghost use Rattle.bus_table.specs.Lengths.{shortest};
 ghost use Rattle.bus_dropout.specs.DropOut as dropout;
 
 use crate::left::most_messages;
-use bus_table::hand::Hand;
-use bus_table::lengths::shortest;
-use bus_table::sender::Sender;
-use bus_table::table::Table;
+use bus_table::{Hand, Sender, Table, shortest};
 
 /// The terminal gap and the shortest message of a sender that has this many messages, in bit times, or 0 where it has another number.
 fn turn_of_count(sender: &Sender, hand: &Hand, count: usize) -> u64

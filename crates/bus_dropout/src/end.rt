@@ -9,12 +9,10 @@ ghost use Rattle.bus_schedule.specs.Live.{live};
 ghost use Rattle.bus_dropout.specs.DropOut.{drop_end};
 
 use crate::left::most_messages;
-use bus_schedule::error::{LONGEST_END, ScheduleError};
+use bus_schedule::{LONGEST_END, ScheduleError};
 use bus_schedule::laws::live_rounds;
-use bus_strings::pulses::bits;
-use bus_table::hand::Hand;
-use bus_table::sender::Sender;
-use bus_table::table::Table;
+use bus_strings::bits;
+use bus_table::{Hand, Sender, Table};
 
 /// The terminal gap and the message of a sender in a round, in bit times, or 0 where its messages are spent.
 fn turn_length(sender: &Sender, hand: &Hand, round: usize) -> u64

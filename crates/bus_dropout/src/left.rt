@@ -2,7 +2,7 @@
 ghost use Rattle.std.specs.Prelude.{◌≡◌};
 ghost use Rattle.bus_dropout.specs.DropOut as dropout;
 
-use bus_table::hand::Hand;
+use bus_table::Hand;
 
 /// The greatest number of messages in a hand: so many rounds there are.
 pub(crate) fn most_messages(hands: &[Hand]) -> usize

@@ -16,11 +16,11 @@
 //! ```
 #![tactic(auto)]
 
-pub mod cycle;
-pub mod end;
+mod cycle;
+mod end;
 pub mod laws;
 mod left;
-pub mod run;
+mod run;
 #[cfg(test)]
 mod tests;
 

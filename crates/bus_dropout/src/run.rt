@@ -7,11 +7,10 @@ ghost use Rattle.bus_dropout.specs.Runs.{IsDropRun};
 
 use crate::end::limited_end;
 use crate::laws::dropout_is_lawful;
-use bus_medium::bus::Bus;
-use bus_schedule::error::{LONGEST_END, ScheduleError};
-use bus_strings::transmission::Transmission;
-use bus_table::hand::Hand;
-use bus_table::table::Table;
+use bus_medium::Bus;
+use bus_schedule::{LONGEST_END, ScheduleError};
+use bus_strings::Transmission;
+use bus_table::{Hand, Table};
 use bus_timers::DeadlineCore;
 use std::alloc::Global;
 

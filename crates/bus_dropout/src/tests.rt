@@ -4,14 +4,8 @@ ghost use Rattle.bus_table.specs.Hands.{are_hands};
 ghost use Rattle.bus_dropout.specs.DropOut.{LastIsLong};
 
 use crate::{drop_end, last_cycle, run_dropout};
-use bus_strings::reading::read_messages;
-use bus_strings::transmission::Transmission;
-use bus_table::fit::fits;
-use bus_table::hand::Hand;
-use bus_table::hands;
-use bus_table::mode::Mode;
-use bus_table::reading::read_table;
-use bus_table::table::Table;
+use bus_strings::{Transmission, read_messages};
+use bus_table::{Hand, Mode, Table, fits, hands, read_table};
 use std::alloc::{AllocError, Global};
 use std::process::Abort;
 use std::test::Fail;

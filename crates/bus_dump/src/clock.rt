@@ -3,7 +3,7 @@ ghost use Rattle.std.specs.Prelude.{◌≡◌, ◌+◌, ◌^◌, ◌<◌, ◌≤
 ghost use Rattle.bus_dump.specs.Clocks as sums;
 ghost use Rattle.bus_dump.specs.Clocks.{IsLow};
 
-use bus_timers::timing::Timing;
+use bus_timers::Timing;
 
 /// Which timers of a sender have elapsed at a bit time, before it decides there whether to start.
 #[derive(Clone, Copy, Debug, Default, PartialEq, Eq)]

@@ -15,7 +15,7 @@ use crate::live::Live;
 use crate::scene::SENDERS;
 use arrayvec::ArrayVec;
 use bus_medium::timing;
-use bus_table::table::Table;
+use bus_table::Table;
 
 // The clock of sender `k` at the settled start.
 fn settled(table: &Table, k: usize) -> Clock

@@ -4,7 +4,7 @@ ghost use Rattle.bus_regime.specs.declared.table_verdict.TableVerdict.TheVariant
 ghost use Rattle.bus_dump.specs.Laws.{HoldsNoFeed};
 
 use bus_regime::TableVerdict;
-use bus_table::mode::Mode;
+use bus_table::Mode;
 
 fn accept(mode: Mode, least: u64, most: u64)
     ensures { HoldsNoFeed (verdict_words (verdicts.Accept mode least most)) }

@@ -6,9 +6,8 @@ ghost use Rattle.bus_dump.specs.Walks.{IsGlance, glance_in, left_of};
 
 use crate::shown::Shown;
 use bus_strings::limits::{INNER_GAP, WORD_BITS};
-use bus_strings::message::Message;
-use bus_strings::wordstring::Wordstring;
-use bus_words::word::label_word;
+use bus_strings::{Message, Wordstring};
+use bus_words::label_word;
 
 // The bit times of a word, and of the sync at its front.
 const WORD: u64 = WORD_BITS as u64;

@@ -18,8 +18,8 @@ use crate::signal::Signal;
 use arrayvec::ArrayVec;
 use bus_regime::turn;
 use bus_strings::limits::MOST_TERMINAL;
-use bus_strings::transmission::Transmission;
-use bus_table::table::Table;
+use bus_strings::Transmission;
+use bus_table::Table;
 
 /// The most lanes, of 128 senders and 128 other terminals.
 pub const MOST_LANES: usize = 256;

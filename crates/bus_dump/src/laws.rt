@@ -8,7 +8,7 @@ ghost use Rattle.bus_dump.specs.Laws.{TimersAreTold, WordIsTold, WrittenDumpsAre
 use crate::comment::holds_no_feed;
 use bus_regime::verdict;
 use bus_strings::laws::neighbours_tell;
-use bus_table::table::Table;
+use bus_table::Table;
 use bus_timers::laws::test_decides;
 
 /// A reader of Value Change Dumps (`specs/Reading.antt`) finds in a dump, by the name of each of its signals, exactly the value that this

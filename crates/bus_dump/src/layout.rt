@@ -21,8 +21,8 @@ use crate::touched::{NUMBERS, touched};
 use crate::value::elapsed;
 use arrayvec::ArrayVec;
 use bus_outer::{Sink, TextBuffer};
-use bus_strings::transmission::Transmission;
-use bus_table::table::Table;
+use bus_strings::Transmission;
+use bus_table::Table;
 
 /// The signals of a dump: those of the bus, then those of each lane.
 #[derive(Drop)]

@@ -8,7 +8,7 @@ use crate::glance::glance_at;
 use crate::live::{Live, TERMINALS};
 use crate::shown::Seen;
 use arrayvec::ArrayVec;
-use bus_strings::transmission::Transmission;
+use bus_strings::Transmission;
 
 // What is seen of a live transmission, and up to which later bit time.
 #[derive(Clone, Copy, Debug)]

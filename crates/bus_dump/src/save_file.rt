@@ -13,9 +13,7 @@ use crate::lane::Lane;
 use crate::lanes::lanes_of;
 use crate::signal::Signal;
 use bus_outer::{Sink, TextBuffer, WriteFault};
-use bus_table::mode::Mode;
-use bus_table::sender::Sender;
-use bus_table::table::Table;
+use bus_table::{Mode, Sender, Table};
 use bus_trace::Trace;
 
 // Which bits a signal has, where they are several, with no space before them.

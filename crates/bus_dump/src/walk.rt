@@ -7,8 +7,7 @@ ghost use Rattle.bus_dump.specs.Walks.{BeginsFrom, IsWalkable, Reaches, Stands, 
 use crate::live::{Live, TERMINALS};
 use arrayvec::ArrayVec;
 use bus_strings::laws::neighbours_tell;
-use bus_strings::overlap::Marks;
-use bus_strings::transmission::Transmission;
+use bus_strings::{Marks, Transmission};
 
 /// The transmissions of a list that are live at a bit time, in list order, and what is needed to go on from there.
 #[derive(Drop)]

@@ -15,9 +15,9 @@ use crate::scene::{SENDERS, Scene, has_carrier};
 use crate::shown::Seen;
 use crate::walk::Walk;
 use arrayvec::ArrayVec;
-use bus_medium::timings::quiet;
-use bus_strings::transmission::Transmission;
-use bus_table::table::Table;
+use bus_medium::quiet;
+use bus_strings::Transmission;
+use bus_table::Table;
 use bus_timers::laws::test_decides;
 
 /// A walk over a list, and the clocks of the senders whose timers the dump has.

@@ -18,8 +18,8 @@ use crate::watch::Watch;
 use bus_outer::{Sink, TextBuffer, WriteFault};
 use bus_regime::TableVerdict;
 use bus_strings::laws::neighbours_tell;
-use bus_strings::transmission::Transmission;
-use bus_table::table::Table;
+use bus_strings::Transmission;
+use bus_table::Table;
 use bus_trace::Trace;
 
 // The values at bit time 0.

@@ -2,8 +2,7 @@
 use bus_dump::{Dump, doubled, write_dump, write_save_file};
 use bus_outer::{MemorySink, MemorySource};
 use bus_regime::verdict;
-use bus_table::reading::read_table;
-use bus_table::table::Table;
+use bus_table::{Table, read_table};
 use bus_trace::{Trace, read_trace};
 use std::alloc::Global;
 use std::test::Fail;

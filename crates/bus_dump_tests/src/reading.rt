@@ -1,7 +1,7 @@
 //! A dump that is read back, bit time for bit time: a reader takes the last value of a signal that stands before a later stamp.
 use crate::calls::{TABLE, Text, written};
 use bus_dump::Dump;
-use bus_text::numbers::plain_decimal;
+use bus_text::plain_decimal;
 use std::alloc::Global;
 use std::test::Fail;
 

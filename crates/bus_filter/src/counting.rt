@@ -9,13 +9,8 @@ ghost use Rattle.bus_filter.specs.ReceivedTexts.{received_count};
 ghost use Rattle.bus_filter.specs.Putting.{string_count, marked_count, taker_count, sender_count, listener_count};
 
 use crate::matching::matches;
-use bus_strings::overlap::Marks;
-use bus_strings::transmission::Transmission;
-use bus_strings::wordstring::Wordstring;
-use bus_table::line::TakeLine;
-use bus_table::listener::Listener;
-use bus_table::sender::Sender;
-use bus_table::table::Table;
+use bus_strings::{Marks, Transmission, Wordstring};
+use bus_table::{Listener, Sender, Table, TakeLine};
 
 // The RX lines of a wordstring.
 fn count_string(takes: &[TakeLine], string: &Wordstring) -> usize

@@ -15,7 +15,7 @@
 mod counting;
 pub mod laws;
 mod matching;
-pub mod receiver;
+mod receiver;
 #[cfg(test)]
 mod tests;
 mod writing;

@@ -2,8 +2,8 @@
 ghost use Rattle.std.specs.Prelude.{◌≡◌};
 ghost use Rattle.bus_filter.specs.Received.{matches as matches_in, selection as selection_in};
 
-use bus_table::line::TakeLine;
-use bus_words::label::{Ext, Label};
+use bus_table::TakeLine;
+use bus_words::{Ext, Label};
 
 /// Whether a receive line matches the wordstrings of a label and an extension.
 pub(crate) fn matches(line: &TakeLine, label: Label, ext: Ext) -> bool

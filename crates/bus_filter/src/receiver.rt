@@ -3,9 +3,8 @@ ghost use Rattle.std.specs.Prelude.{◌≡◌, ◌↔◌, IsTrue, IsSome};
 ghost use Rattle.bus_filter.specs.Hearing.{Hearing, unmatched, answer, after, answer_by, place_by, is_taken, next_place};
 
 use crate::matching::matches;
-use bus_table::line::TakeLine;
-use bus_words::label::{Ext, Label};
-use bus_words::word::{Kind, Word, split_label};
+use bus_table::TakeLine;
+use bus_words::{Ext, Kind, Label, Word, split_label};
 use std::marker::Model;
 
 /// What a word gave.

@@ -3,14 +3,9 @@ ghost use Rattle.bus_strings.specs.Limits.{horizon_limit, most_terminal};
 
 use crate::{Heard, Receiver, count_received, write_received};
 use bus_outer::{MemorySink, WriteFault};
-use bus_strings::message::Message;
-use bus_strings::overlap::is_by_moment;
-use bus_strings::transmission::Transmission;
-use bus_strings::wordstring::Wordstring;
-use bus_table::line::TakeLine;
-use bus_table::reading::read_table;
-use bus_words::label::{Ext, Label};
-use bus_words::word::{Kind, Word, label_word};
+use bus_strings::{Message, Transmission, Wordstring, is_by_moment};
+use bus_table::{TakeLine, read_table};
+use bus_words::{Ext, Kind, Label, Word, label_word};
 use std::alloc::Global;
 use std::test::Fail;
 

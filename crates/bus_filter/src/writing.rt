@@ -10,14 +10,9 @@ ghost use Rattle.bus_filter.specs.Putting.{take_put, string_put, entry_put, mark
 
 use crate::matching::{matches, selection};
 use bus_outer::{Sink, TextBuffer, WriteFault};
-use bus_strings::overlap::Marks;
-use bus_strings::transmission::Transmission;
-use bus_strings::wordstring::Wordstring;
-use bus_table::line::TakeLine;
-use bus_table::listener::Listener;
-use bus_table::sender::Sender;
-use bus_table::table::Table;
-use bus_text::digits::{four_digits, hex_digit, three_digits};
+use bus_strings::{Marks, Transmission, Wordstring};
+use bus_table::{Listener, Sender, Table, TakeLine};
+use bus_text::{four_digits, hex_digit, three_digits};
 
 // A word behind its space.
 fn put_word<K: Sink>(text: &mut TextBuffer, sink: &mut K, word: u16)

@@ -11,8 +11,8 @@ ghost use Rattle.bus_medium.specs.Runs.{RunsTo, Reached};
 
 use crate::deciding::{Roster, decide_all};
 use crate::seat::Seat;
-use bus_strings::transmission::Transmission;
-use bus_timers::cores::Core;
+use bus_strings::Transmission;
+use bus_timers::Core;
 use std::alloc::{AllocError, Global};
 
 /// Whether some terminal has a pulse on the present bit time.

@@ -16,11 +16,9 @@ use crate::seat::Seat;
 use crate::seating::{by_number, numbers, seat_all};
 use crate::stretches::jump_all;
 use crate::timings::quiet;
-use bus_strings::transmission::Transmission;
-use bus_table::hand::Hand;
-use bus_table::table::Table;
-use bus_timers::cores::Core;
-use bus_timers::jumps::JumpCore;
+use bus_strings::Transmission;
+use bus_table::{Hand, Table};
+use bus_timers::{Core, JumpCore};
 use std::alloc::{AllocError, Global};
 use std::marker::Model;
 

@@ -7,9 +7,8 @@ ghost use Rattle.bus_medium.specs.Runs.{RunsTo, Decided};
 
 use crate::note::note;
 use crate::seat::Seat;
-use bus_strings::message::copy_message;
-use bus_strings::transmission::Transmission;
-use bus_timers::cores::Core;
+use bus_strings::{Transmission, copy_message};
+use bus_timers::Core;
 use std::alloc::{AllocError, Global};
 
 /// Who decides when: the places of the senders by rising number. And the quiet before the settled start, in bit times.

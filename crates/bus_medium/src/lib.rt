@@ -20,16 +20,17 @@
 #![tactic(auto)]
 
 mod bit_times;
-pub mod bus;
+mod bus;
 mod deciding;
 pub mod laws;
 mod note;
-pub mod seat;
+mod seat;
 mod seating;
 mod stretches;
 #[cfg(test)]
 mod tests;
-pub mod timings;
+mod timings;
 
-pub use crate::bus::{Bus, OBSERVE_LIMIT};
-pub use crate::timings::timing;
+pub use bus::{OBSERVE_LIMIT, Bus};
+pub use seat::Seat;
+pub use timings::{quiet, timing};

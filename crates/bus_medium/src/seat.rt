@@ -1,8 +1,7 @@
 ghost use Rattle.std.specs.Prelude.{◌≡◌};
 
-use bus_terminal::terminal::Terminal;
-use bus_timers::cores::Core;
-use bus_timers::timing::Timing;
+use bus_terminal::Terminal;
+use bus_timers::{Core, Timing};
 use std::marker::Model;
 
 /// A sender of the bus: its timing, and its terminal.

@@ -13,9 +13,8 @@ ghost use Rattle.bus_medium.specs.Runs.{RunsTo, Stretched};
 use crate::bit_times::any_on;
 use crate::deciding::{Roster, decide_all};
 use crate::seat::Seat;
-use bus_strings::transmission::Transmission;
-use bus_timers::cores::Core;
-use bus_timers::jumps::JumpCore;
+use bus_strings::Transmission;
+use bus_timers::{Core, JumpCore};
 use std::alloc::{AllocError, Global};
 use std::cmp::min;
 

@@ -3,10 +3,8 @@ ghost use Rattle.bus_table.specs.Tables as tables;
 ghost use Rattle.bus_timers.specs.Timings.{IsSound};
 ghost use Rattle.bus_medium.specs.Timings.{greatest_gap, quiet_of, due_for, timing_of};
 
-use bus_table::mode::Mode;
-use bus_table::sender::Sender;
-use bus_table::table::Table;
-use bus_timers::timing::Timing;
+use bus_table::{Mode, Sender, Table};
+use bus_timers::Timing;
 
 /// The greatest terminal gap of these senders, and 0 where there is none.
 fn greatest_gap(senders: &[Sender]) -> u32

@@ -13,7 +13,7 @@ use crate::row::Row;
 use crate::strings::put_strings;
 use bus_outer::{Sink, TextBuffer};
 use bus_shapes::{Area, Class, Scale, Sent, Sents, begin_titled, end_titled, put_box};
-use bus_strings::transmission::Transmission;
+use bus_strings::Transmission;
 
 // Whether a transmission is of the row, is garbled exactly where that is, and meets the moments of the scale.
 fn shows(scale: &Scale, row: &Row, sent: &Sent) -> bool

@@ -9,9 +9,7 @@ use bus_audit::{AuditAnswer, put_answer};
 use bus_dump::Lane;
 use bus_outer::{Sink, TextBuffer};
 use bus_shapes::{Area, Class, Scale, begin_words, end_words, put_box};
-use bus_table::mode::Mode;
-use bus_table::sender::Sender;
-use bus_table::table::Table;
+use bus_table::{Mode, Sender, Table};
 
 /// The upper edge of lane `k`.
 pub(crate) fn lane_top(k: usize) -> u64

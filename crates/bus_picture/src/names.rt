@@ -7,7 +7,7 @@ ghost use Rattle.bus_picture.specs.Strings as definition;
 use bus_outer::{Sink, TextBuffer};
 use bus_shapes::Class;
 use bus_strings::Wordstring;
-use bus_text::digits::hex_digit;
+use bus_text::hex_digit;
 
 // A hexadecimal digit.
 fn put_digit<K: Sink>(text: &mut TextBuffer, sink: &mut K, digit: u8)

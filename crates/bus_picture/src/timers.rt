@@ -11,8 +11,8 @@ use bus_dump::Lane;
 use bus_outer::{Sink, TextBuffer};
 use bus_shapes::{Area, Class, Scale, Sent, Sents, begin_words, end_words, put_box};
 use bus_strings::laws::neighbours_tell;
-use bus_strings::transmission::Transmission;
-use bus_table::table::Table;
+use bus_strings::Transmission;
+use bus_table::Table;
 use bus_trace::Trace;
 
 // Whether timers are drawn.

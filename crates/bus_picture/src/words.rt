@@ -10,7 +10,7 @@ use crate::places::{meets, string_area};
 use bus_outer::{Sink, TextBuffer};
 use bus_shapes::{Area, Class, Scale, begin_words, end_words, put_box, put_words};
 use bus_strings::Wordstring;
-use bus_text::digits::four_digits;
+use bus_text::four_digits;
 
 /// Whether words have room: 34 pixels for each.
 pub(crate) fn has_room(scale: &Scale) -> bool

@@ -1,10 +1,7 @@
 //! The least interval of two and of three senders, against all offsets that leave room for the messages, tried one by one.
 use crate::interval::least_interval;
-use bus_regime::judging::verdict;
-use bus_table::mode::Mode;
-use bus_table::offsets::with_offsets;
-use bus_table::reading::read_table;
-use bus_table::table::Table;
+use bus_regime::verdict;
+use bus_table::{Mode, Table, read_table, with_offsets};
 use std::process::Abort;
 use std::test::Fail;
 

@@ -5,9 +5,7 @@ ghost use Rattle.bus_table.specs.declared.mode.Mode.TheVariants.{Periodic};
 ghost use Rattle.bus_plan.specs.Greatest.{greatest_tg, second_tg};
 ghost use Rattle.bus_plan.specs.Plans as plans;
 
-use bus_table::lengths::longest;
-use bus_table::sender::Sender;
-use bus_table::table::Table;
+use bus_table::{Sender, Table, longest};
 
 /// The greater of two.
 fn greater(a: u32, b: u32) -> u32

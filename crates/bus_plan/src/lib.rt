@@ -10,9 +10,9 @@
 
 #[cfg(test)]
 mod all_offsets_tests;
-pub mod interval;
+mod interval;
 pub mod laws;
-pub mod planning;
+mod planning;
 #[cfg(test)]
 mod tests;
 mod walk;

@@ -5,8 +5,7 @@ ghost use Rattle.bus_plan.specs.Answers.{plan_of, Means};
 
 use crate::interval::least_interval;
 use crate::walk::planned_offsets;
-use bus_table::offsets::with_offsets;
-use bus_table::table::Table;
+use bus_table::{Table, with_offsets};
 use std::alloc::{AllocError, Global};
 
 /// What the planner answers.

@@ -1,7 +1,6 @@
 use crate::planning::{PlanAnswer, plan};
-use bus_regime::judging::verdict;
-use bus_table::mode::Mode;
-use bus_table::reading::read_table;
+use bus_regime::verdict;
+use bus_table::{Mode, read_table};
 use std::process::Abort;
 use std::test::Fail;
 

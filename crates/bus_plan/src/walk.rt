@@ -6,9 +6,7 @@ ghost use Rattle.bus_plan.specs.Plans.{planned_offsets};
 ghost use Rattle.bus_plan.specs.Walks as walks;
 
 use crate::interval::greatest_gaps;
-use bus_table::lengths::longest;
-use bus_table::sender::Sender;
-use bus_table::table::Table;
+use bus_table::{Sender, Table, longest};
 use std::alloc::{AllocError, Global};
 
 /// The longest message of the sender with this terminal gap, or 0.

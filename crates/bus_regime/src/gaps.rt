@@ -6,10 +6,7 @@ ghost use Rattle.bus_table.specs.Lengths.{longest as longest_of};
 ghost use Rattle.bus_regime.specs.Gaps.{gaps};
 
 use crate::table_verdict::TableVerdict;
-use bus_table::lengths::longest;
-use bus_table::sender::Sender;
-use bus_table::table::Table;
-use bus_table::turns::{place, turn_at};
+use bus_table::{Sender, Table, longest, place, turn_at};
 use std::marker::Model;
 
 /// The gap before a sender: from the end of the sender before it to the sender's own start, both one interval later.

@@ -6,9 +6,7 @@ ghost use Rattle.bus_regime.specs.Verdicts.{least_cycle as least_of, most_cycle 
 
 use crate::periodic::by_gaps;
 use crate::table_verdict::TableVerdict;
-use bus_table::lengths::{longest, shortest};
-use bus_table::mode::Mode;
-use bus_table::table::Table;
+use bus_table::{Mode, Table, longest, shortest};
 
 /// The bit times of the shortest cycle.
 fn least_cycle(table: &Table) -> u64

@@ -8,13 +8,13 @@
 #![tactic(auto)]
 
 mod gaps;
-pub mod judging;
-pub mod line;
+mod judging;
+mod line;
 mod periodic;
-pub mod table_verdict;
+mod table_verdict;
 #[cfg(test)]
 mod tests;
-pub mod witnessing;
+mod witnessing;
 
 pub use gaps::{TurnGap, gap_at, turn};
 pub use judging::verdict;

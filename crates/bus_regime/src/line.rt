@@ -6,7 +6,7 @@ ghost use Rattle.bus_regime.specs.Lines.{mode_name, verdict_words, verdict_line}
 
 use crate::table_verdict::TableVerdict;
 use bus_outer::{Sink, TextBuffer, WriteFault};
-use bus_table::mode::Mode;
+use bus_table::Mode;
 
 /// Puts the word of a mode.
 fn put_mode<K: Sink>(text: &mut TextBuffer, sink: &mut K, mode: Mode)

@@ -9,9 +9,7 @@ ghost use Rattle.bus_regime.specs.Verdicts as verdicts;
 
 use crate::gaps::{TurnGap, gap_at};
 use crate::table_verdict::TableVerdict;
-use bus_table::mode::Mode;
-use bus_table::table::Table;
-use bus_table::turns::turn_places;
+use bus_table::{Mode, Table, turn_places};
 
 /// One, where the test is passed, and else none.
 fn one_if(test: bool) -> usize

@@ -1,7 +1,7 @@
 ghost use Rattle.std.specs.Prelude.{◌≡◌};
 ghost use Rattle.bus_regime.specs.Verdicts.{is_accepted};
 
-use bus_table::mode::Mode;
+use bus_table::Mode;
 
 /// The verdict on a table, by the rule of this project's profile, and its numbers. All numbers but a terminal's are bit times.
 #[derive(Clone, Copy, Debug, PartialEq, Eq)]

@@ -8,11 +8,8 @@ ghost use Rattle.bus_table.specs.Hands.{items_of};
 ghost use Rattle.bus_table.specs.Tables as tables;
 ghost use Rattle.bus_regime.specs.Witness.{filling_round, witness_of};
 
-use bus_strings::payload::{Payload, Payloads};
-use bus_table::line::SendLine;
-use bus_table::mode::Mode;
-use bus_table::sender::Sender;
-use bus_table::table::Table;
+use bus_strings::{Payload, Payloads};
+use bus_table::{Mode, SendLine, Sender, Table};
 use std::alloc::{AllocError, Global};
 
 /// How many data words the filling message of a sender has on a line.

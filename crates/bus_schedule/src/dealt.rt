@@ -3,9 +3,8 @@ ghost use Rattle.std.specs.Prelude.{◌≡◌, ◌<◌, Some, length, slice_get,
 ghost use Rattle.bus_table.specs.Tables as tables;
 ghost use Rattle.bus_schedule.specs.Even.{are_even, message_in, rounds};
 
-use bus_strings::message::Message;
-use bus_table::hand::Hand;
-use bus_table::table::Table;
+use bus_strings::Message;
+use bus_table::{Hand, Table};
 
 /// How many rounds even hands have: the number of messages of each.
 pub(crate) fn rounds(hands: &[Hand]) -> usize

@@ -9,10 +9,8 @@ ghost use Rattle.bus_schedule.specs.Limits.{IsLimited};
 
 use crate::dealt::{message_at, rounds};
 use crate::error::{LONGEST_END, ScheduleError};
-use bus_strings::pulses::bits;
-use bus_table::hand::Hand;
-use bus_table::mode::Mode;
-use bus_table::table::Table;
+use bus_strings::bits;
+use bus_table::{Hand, Mode, Table};
 
 /// The terminal gaps and messages of a round, together in bit times.
 fn round_length(table: &Table, hands: &[Hand], round: usize) -> u64

@@ -9,7 +9,7 @@
 //! - [`find_uneven`] tells whether the hands of a table are even. All else asks that they are.
 //! - [`closed_end`] is the moment at which the closed schedule ends, and [`closed`] its list, which is given where it
 //!   ends at [`LONGEST_END`] or before (`specs/Limits.antt`).
-//! - [`run_settled`] observes the bus up to the closed end, over any [`bus_timers::jumps::JumpCore`]. What a run is stands in
+//! - [`run_settled`] observes the bus up to the closed end, over any [`bus_timers::JumpCore`]. What a run is stands in
 //!   `specs/Runs.antt`: the closed schedule in whole, the one lawful list, without overlaps, each sender once a cycle.
 //! - [`laws`] has what holds of closed schedules of any length: with them, the verdict accepts exactly the settled tables
 //!   (`specs/Settled.antt`), and a refused table fails with the hands of its witness.
@@ -22,15 +22,15 @@
 #![tactic(auto)]
 
 mod dealt;
-pub mod end;
-pub mod error;
+mod end;
+mod error;
 pub mod laws;
 mod order;
-pub mod run;
-pub mod schedule;
+mod run;
+mod schedule;
 #[cfg(test)]
 mod tests;
-pub mod uneven;
+mod uneven;
 mod valid;
 
 pub use end::closed_end;

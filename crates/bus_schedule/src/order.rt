@@ -1,8 +1,7 @@
 ghost use Rattle.std.specs.Prelude.{IfOk};
 ghost use Rattle.bus_schedule.specs.Places.{AreInTurn};
 
-use bus_table::table::Table;
-use bus_table::{place_of, turns};
+use bus_table::{Table, place_of};
 use std::alloc::{AllocError, Global};
 
 /// The places of the senders in the table, in turn order.
@@ -12,7 +11,7 @@ pub fn turn_places(alloc: Global, table: &Table) -> Result<Vec<usize>, AllocErro
     let senders = table.senders();
     let mut places = Vec::with_capacity(alloc, senders.len())?;
     for turn in 0..senders.len() {
-        let place = place_of(senders, turns::place(table, turn)).unwrap();
+        let place = place_of(senders, bus_table::place(table, turn)).unwrap();
         places.push(place)?;
     }
     Ok(places)

@@ -12,12 +12,10 @@ use crate::end::limited_end;
 use crate::error::{LONGEST_END, ScheduleError};
 use crate::laws::accepted_is_closed;
 use crate::valid::table_is_valid;
-use bus_medium::bus::Bus;
-use bus_strings::transmission::Transmission;
-use bus_table::hand::Hand;
-use bus_table::table::Table;
-use bus_timers::cores::Core;
-use bus_timers::jumps::JumpCore;
+use bus_medium::Bus;
+use bus_strings::Transmission;
+use bus_table::{Hand, Table};
+use bus_timers::{Core, JumpCore};
 use std::alloc::Global;
 
 /// What a bus did: the list of its transmissions, the bus after them, and how far it went.

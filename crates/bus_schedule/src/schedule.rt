@@ -19,12 +19,8 @@ use crate::error::ScheduleError;
 use crate::laws::{closed_is_orderly, verdicts_are_exact, witnesses_have_schedules};
 use crate::order::turn_places;
 use crate::valid::table_is_valid;
-use bus_strings::message::{Message, copy_message};
-use bus_strings::transmission::Transmission;
-use bus_table::hand::Hand;
-use bus_table::mode::Mode;
-use bus_table::sender::Sender;
-use bus_table::table::Table;
+use bus_strings::{Message, Transmission, copy_message};
+use bus_table::{Hand, Mode, Sender, Table};
 use std::alloc::{AllocError, Global};
 
 /// Adds the turn of a sender, which starts at a moment, and gives the moment at which it has ended.

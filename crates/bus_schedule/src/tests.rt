@@ -3,13 +3,8 @@ ghost use Rattle.bus_schedule.specs.Even.{are_even};
 
 use crate::{ScheduleError, closed, closed_end, find_uneven, run_settled};
 use bus_regime::verdict;
-use bus_strings::reading::read_messages;
-use bus_strings::transmission::Transmission;
-use bus_table::fit::fits;
-use bus_table::hand::Hand;
-use bus_table::hands;
-use bus_table::reading::read_table;
-use bus_table::table::Table;
+use bus_strings::{Transmission, read_messages};
+use bus_table::{Hand, Table, fits, hands, read_table};
 use bus_timers::DeadlineCore;
 use std::alloc::{AllocError, Global};
 use std::process::Abort;

@@ -3,9 +3,7 @@ ghost use Rattle.bus_table.specs.Hands.{are_hands};
 ghost use Rattle.bus_schedule.specs.Even.{are_even};
 ghost use Rattle.bus_schedule.specs.Uneven.{count_of as number_of_messages, uneven_of};
 
-use bus_table::hand::Hand;
-use bus_table::table::Table;
-use bus_table::turns::place;
+use bus_table::{Hand, Table, place};
 
 /// Two senders that have different numbers of messages: the first in turn order, and the first behind it whose number of
 /// messages is another.

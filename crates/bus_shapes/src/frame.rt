@@ -14,8 +14,7 @@ use crate::shapes::{begin_words, end_words, put_box};
 use bus_audit::{AuditAnswer, put_answer};
 use bus_outer::{Sink, TextBuffer};
 use bus_regime::{TableVerdict, put_verdict};
-use bus_table::mode::Mode;
-use bus_table::table::Table;
+use bus_table::{Mode, Table};
 
 // The style of all classes, and the hatching of what is garbled.
 fn put_style<K: Sink>(text: &mut TextBuffer, sink: &mut K)

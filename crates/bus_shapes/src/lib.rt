@@ -10,17 +10,17 @@
 //! `Scales` (places of moments), `Axes`, `Sayings` (the words), `Sending` (what is told of a list) and `Frames`. No call takes memory.
 #![tactic(auto)]
 
-pub mod area;
-pub mod axis;
-pub mod class;
-pub mod counts;
-pub mod frame;
+mod area;
+mod axis;
+mod class;
+mod counts;
+mod frame;
 pub mod laws;
-pub mod scale;
-pub mod sent;
-pub mod sents;
-pub mod shapes;
-pub mod window;
+mod scale;
+mod sent;
+mod sents;
+mod shapes;
+mod window;
 
 pub use area::Area;
 pub use axis::{Axis, Unit, put_axis};

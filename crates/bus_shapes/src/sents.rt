@@ -4,8 +4,7 @@ ghost use Rattle.bus_strings.specs.Transmissions.{IsByMoment};
 ghost use Rattle.bus_shapes.specs.Sending.{sents};
 
 use crate::sent::Sent;
-use bus_strings::overlap::Marks;
-use bus_strings::transmission::Transmission;
+use bus_strings::{Marks, Transmission};
 use std::marker::Model;
 
 // One number for each terminal, and none for 0.

@@ -1,4 +1,4 @@
-pub use bus_text::reason::Reason;
+use bus_text::Reason;
 use std::alloc::{AllocError, AllocFailed};
 use thiserror::Error;
 

@@ -9,10 +9,7 @@ ghost use Rattle.bus_strings.specs.Reading.{are_spelled, strings_of, HasFront, i
 
 use crate::limits::{MOST_STRINGS, MOST_TERMINAL, MOST_WORDS};
 use crate::payload::Payload;
-use bus_text::fault::LineFault;
-use bus_text::fields::Fields;
-use bus_text::numbers::{hexadecimal, plain_decimal};
-use bus_text::reason::Reason;
+use bus_text::{Fields, LineFault, Reason, hexadecimal, plain_decimal};
 use std::alloc::Global;
 
 const COLON: &[u8] = b":";

@@ -1,30 +1,30 @@
 //! Messages and transmissions: what a terminal sends at one start, its pulses on the bus, and which of the
 //! transmissions of a list are garbled. And the messages text, which gives the data words of messages to come.
 //!
-//! - [`message::Message`] is 1 to 31 [`wordstring::Wordstring`]s, [`transmission::Transmission`] one on the bus.
+//! - [`Message`] is 1 to 31 [`Wordstring`]s, [`Transmission`] one on the bus.
 //!   [`pulses`] says how long a message is and when it is on, [`overlap`] which transmissions garble each other.
-//! - [`payload::Payloads`] are the items of a messages text: [`reading::read_messages`] gives them, or the line that is
-//!   refused and why, and [`writing::write_messages`] writes their canonical text.
+//! - [`Payloads`] are the items of a messages text: [`read_messages`] gives them, or the line that is
+//!   refused and why, and [`write_messages`] writes their canonical text.
 //!
 //! The definitions are in `specs/`: `Messages`, `Pulses` and `Transmissions` for what is sent, `Items`, `Grammar` (which
 //! texts stand for which items), `Reading` (what a text reads as, or which line is refused), `Canonical` and `Puts` for
 //! the messages text.
 #![tactic(auto)]
 
-pub mod fault;
+mod fault;
 mod item;
 pub mod laws;
 pub mod limits;
-pub mod message;
-pub mod overlap;
-pub mod payload;
-pub mod pulses;
-pub mod reading;
+mod message;
+mod overlap;
+mod payload;
+mod pulses;
+mod reading;
 #[cfg(test)]
 mod tests;
-pub mod transmission;
-pub mod wordstring;
-pub mod writing;
+mod transmission;
+mod wordstring;
+mod writing;
 
 pub use fault::MessagesError;
 pub use message::{Message, copy_message};
@@ -33,5 +33,5 @@ pub use payload::{Payload, Payloads};
 pub use pulses::{bits, is_on, pulse, pulse_count};
 pub use reading::read_messages;
 pub use transmission::Transmission;
-pub use wordstring::Wordstring;
+pub use wordstring::{SHORT, Wordstring};
 pub use writing::write_messages;

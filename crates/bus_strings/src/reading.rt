@@ -10,11 +10,7 @@ ghost use Rattle.bus_strings.specs.Gives.{Gives};
 use crate::fault::MessagesError;
 use crate::item::item;
 use crate::payload::{Payload, Payloads};
-use bus_text::cursor::{Line, Lines};
-use bus_text::fault::LineFault;
-use bus_text::fields::Fields;
-use bus_text::lines::line_after;
-use bus_text::reason::Reason;
+use bus_text::{Fields, Line, LineFault, Lines, Reason, line_after};
 use std::alloc::Global;
 
 /// Reads the fields of the first line.

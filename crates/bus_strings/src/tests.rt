@@ -3,7 +3,7 @@ use crate::overlap::{Marks, garbled, is_by_moment, overlaps};
 use crate::pulses::{bits, is_on, pulse, pulse_count};
 use crate::transmission::Transmission;
 use crate::wordstring::Wordstring;
-use bus_words::label::{Ext, Label};
+use bus_words::{Ext, Label};
 use std::alloc::{AllocError, Global};
 use std::test::Fail;
 

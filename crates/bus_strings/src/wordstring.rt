@@ -4,7 +4,7 @@ ghost use Rattle.bus_strings.specs.Limits.{most_words};
 ghost use Rattle.bus_strings.specs.Messages.{IsWordstring, word_count};
 
 use crate::limits::MOST_WORDS;
-use bus_words::label::{Ext, Label};
+use bus_words::{Ext, Label};
 use std::alloc::{AllocError, Global};
 use std::marker::Model;
 

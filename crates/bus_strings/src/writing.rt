@@ -9,7 +9,7 @@ ghost use Rattle.bus_strings.specs.Puts.{word_bytes, string_bytes, item_bytes};
 
 use crate::payload::{Payload, Payloads};
 use bus_outer::{Sink, TextBuffer, WriteFault};
-use bus_text::digits::four_digits;
+use bus_text::four_digits;
 
 /// Puts a data word.
 fn put_word<K: Sink>(text: &mut TextBuffer, sink: &mut K, word: u16)

@@ -8,9 +8,7 @@ use crate::hand::Hand;
 use crate::line::SendLine;
 use crate::sender::Sender;
 use crate::table::Table;
-use bus_strings::message::Message;
-use bus_strings::payload::Payloads;
-use bus_strings::wordstring::Wordstring;
+use bus_strings::{Message, Payloads, Wordstring};
 use std::alloc::{AllocError, Global};
 
 /// The message of these strings, with the labels and extensions of the lines.

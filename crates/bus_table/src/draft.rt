@@ -6,9 +6,7 @@ ghost use Rattle.bus_table.specs.Drafts as drafts;
 ghost use Rattle.bus_table.specs.Ranges.{is_send_line, is_take_line, most_takes};
 
 use crate::error::TableError;
-use crate::forms::{
-    listener_line, mode_line, number_line, send_line, sender_line, table_line, take_line,
-};
+use crate::forms::{ listener_line, mode_line, number_line, send_line, sender_line, table_line, take_line, };
 use crate::keyword::{Keyword, keyword_of};
 use crate::line::{SendLine, TakeLine};
 use crate::listener::Listener;
@@ -18,10 +16,7 @@ use crate::sender::Sender;
 use crate::stage::Stage;
 use crate::table::Table;
 use bus_strings::limits::MOST_STRINGS;
-use bus_text::cursor::Line;
-use bus_text::fault::LineFault;
-use bus_text::lines::fields;
-use bus_text::reason::Reason;
+use bus_text::{Line, LineFault, Reason, fields};
 use std::alloc::{AllocError, Global};
 use std::marker::Model;
 

@@ -1,5 +1,5 @@
-use bus_text::reason::Reason;
-use bus_words::label::{Ext, Label};
+use bus_text::Reason;
+use bus_words::{Ext, Label};
 use std::alloc::{AllocError, AllocFailed};
 use thiserror::Error;
 

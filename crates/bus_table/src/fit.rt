@@ -6,7 +6,7 @@ ghost use Rattle.bus_table.specs.Fits as fits;
 use crate::line::SendLine;
 use crate::sender::Sender;
 use crate::table::Table;
-use bus_strings::payload::{Payload, Payloads};
+use bus_strings::{Payload, Payloads};
 
 /// The first item that doesn't fit its sender. Items are counted from 1.
 #[derive(Clone, Copy, Debug, PartialEq, Eq)]

@@ -12,11 +12,8 @@ use crate::head::Head;
 use crate::line::{SendLine, TakeLine};
 use crate::mode::Mode;
 use bus_strings::limits::{MOST_TERMINAL, MOST_WORDS};
-use bus_text::fault::LineFault;
-use bus_text::lines::{field_at, is_at};
-use bus_text::numbers::{hexadecimal, plain_decimal};
-use bus_text::reason::Reason;
-use bus_words::label::{Ext, Label};
+use bus_text::{LineFault, Reason, field_at, hexadecimal, is_at, plain_decimal};
+use bus_words::{Ext, Label};
 
 /// The TABLE line.
 #[tactic(auto, unfolding(crate::specs::Forms::table_reading))]

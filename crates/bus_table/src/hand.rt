@@ -1,7 +1,7 @@
 ghost use Rattle.std.specs.Prelude.{◌≡◌, OnOk};
 ghost use Rattle.bus_table.specs.Hands.{with_message};
 
-use bus_strings::message::Message;
+use bus_strings::Message;
 use std::alloc::AllocError;
 use std::marker::Model;
 

@@ -2,7 +2,7 @@ ghost use Rattle.std.specs.Prelude.{◌≡◌};
 ghost use Rattle.bus_text.specs.Entries.{texts};
 ghost use Rattle.bus_table.specs.Forms as forms;
 
-use bus_text::lines::is_at;
+use bus_text::is_at;
 
 /// What a line says, by its first field.
 #[derive(Clone, Copy, Debug, PartialEq, Eq)]

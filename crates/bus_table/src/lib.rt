@@ -1,11 +1,11 @@
 //! The table of a bus: which terminals stand on it, when each may start, and what each sends and takes.
 //!
-//! - [`table::Table`] with its [`sender::Sender`]s, its [`listener::Listener`]s and their [`line`]s keeps that it is
-//!   valid: every number is in its range, and none of the [`error::WholeReason`]s applies.
-//! - [`reading::read_table`] reads a text, and [`write_table`] writes the canonical one.
-//! - [`lengths`] tells the shortest and the longest message of a sender, [`turns::place`] who speaks after whom.
-//! - [`offsets::with_offsets`] gives the senders of a periodic table other offsets.
-//! - [`fit::fits`] holds the items of a messages text to the lines of their senders, and [`dealing::hands`] deals them out.
+//! - [`Table`] with its [`Sender`]s, its [`Listener`]s and their [`line`]s keeps that it is
+//!   valid: every number is in its range, and none of the [`WholeReason`]s applies.
+//! - [`read_table`] reads a text, and [`write_table`] writes the canonical one.
+//! - [`lengths`] tells the shortest and the longest message of a sender, [`place`] who speaks after whom.
+//! - [`with_offsets`] gives the senders of a periodic table other offsets.
+//! - [`fits`] holds the items of a messages text to the lines of their senders, and [`hands`] deals them out.
 //!
 //! The gaps and intervals of a bus, and that each terminal has a gap of its own which is shorter than the
 //! synchronization gap, are facts of ARINC 629. All ranges, the lines, the text and the order of reasons are this
@@ -18,26 +18,26 @@
 //! names end in `Laws`.
 #![tactic(auto)]
 
-pub mod dealing;
+mod dealing;
 mod draft;
-pub mod error;
-pub mod fit;
+mod error;
+mod fit;
 mod forms;
-pub mod hand;
+mod hand;
 mod head;
 mod keyword;
 pub mod laws;
-pub mod lengths;
-pub mod line;
-pub mod listener;
-pub mod mode;
-pub mod offsets;
+mod lengths;
+mod line;
+mod listener;
+mod mode;
+mod offsets;
 mod ranges;
-pub mod reading;
-pub mod sender;
+mod reading;
+mod sender;
 mod stage;
-pub mod table;
-pub mod turns;
+mod table;
+mod turns;
 mod whole;
 mod writing;
 

@@ -1,4 +1,4 @@
-use bus_words::label::{Ext, Label};
+use bus_words::{Ext, Label};
 
 /// A wordstring that a terminal sends in each of its messages.
 #[derive(Clone, Copy, Debug, PartialEq, Eq)]

@@ -7,9 +7,7 @@ ghost use Rattle.bus_table.specs.Text.{IsTableText};
 use crate::draft::Draft;
 use crate::error::TableError;
 use crate::table::Table;
-use bus_text::cursor::Lines;
-use bus_text::lines::line_after;
-use bus_text::reason::Reason;
+use bus_text::{Lines, Reason, line_after};
 use std::alloc::Global;
 
 /// Reads a text line by line.

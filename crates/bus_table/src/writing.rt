@@ -15,8 +15,8 @@ use crate::mode::Mode;
 use crate::sender::Sender;
 use crate::table::Table;
 use bus_outer::{Sink, TextBuffer, WriteFault};
-use bus_text::digits::{hex_digit, three_digits};
-use bus_words::label::{Ext, Label};
+use bus_text::{hex_digit, three_digits};
+use bus_words::{Ext, Label};
 
 /// Puts a line of a keyword and a number.
 fn put_number_line<K: Sink>(text: &mut TextBuffer, sink: &mut K, keyword: &[u8], number: u32)

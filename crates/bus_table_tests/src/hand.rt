@@ -1,13 +1,6 @@
-use bus_strings::reading::read_messages;
-use bus_table::dealing::hands;
-use bus_table::fit::{FitError, fits};
-use bus_table::line::{SendLine, TakeLine};
-use bus_table::listener::Listener;
-use bus_table::mode::Mode;
-use bus_table::reading::read_table;
-use bus_table::sender::Sender;
-use bus_table::table::Table;
-use bus_words::label::{Ext, Label};
+use bus_strings::read_messages;
+use bus_table::{FitError, Listener, Mode, SendLine, Sender, Table, TakeLine, fits, hands, read_table};
+use bus_words::{Ext, Label};
 use std::test::Fail;
 
 const TABLE: &[u8] =

@@ -1,6 +1,4 @@
-use bus_table::mode::Mode;
-use bus_table::offsets::with_offsets;
-use bus_table::reading::read_table;
+use bus_table::{Mode, read_table, with_offsets};
 use std::test::Fail;
 
 const TABLE: &[u8] =

@@ -1,12 +1,7 @@
 use bus_outer::MemorySink;
-use bus_table::error::{TableError, WholeReason};
-use bus_table::lengths::{longest, shortest};
-use bus_table::mode::Mode;
-use bus_table::reading::read_table;
-use bus_table::table::Table;
-use bus_table::write_table;
-use bus_text::reason::Reason;
-use bus_words::label::{Ext, Label};
+use bus_table::{Mode, Table, TableError, WholeReason, longest, read_table, shortest, write_table};
+use bus_text::Reason;
+use bus_words::{Ext, Label};
 use std::alloc::AllocError;
 use std::test::Fail;
 

@@ -6,7 +6,6 @@ use Rattle.std.specs.Option.{option_and_then}
 use Rattle.std.proofs.lemmas.Bool.{lt-ltb, le-ltb, cases_lt, true≢false}
 use Rattle.bus_strings.specs.Messages.{Message, bits}
 use Rattle.bus_strings.specs.Pulses.{is_on}
-use Rattle.bus_strings.proofs.PulsesAlongLaws.{quiet_behind, last_is_on}
 use Rattle.bus_terminal.specs.Terminals.{next_place}
 use Rattle.bus_terminal.specs.Jumps.{IsSteady, IsStretch, later_place}
 

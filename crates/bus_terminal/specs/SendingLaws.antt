@@ -10,7 +10,6 @@ use Rattle.bus_timers.specs.MayStart.{MayStart, IsSync}
 use Rattle.bus_strings.specs.Messages.{Message, bits}
 use Rattle.bus_strings.specs.Pulses.{is_on}
 use Rattle.bus_strings.specs.PulseLaws.{Pulse}
-use Rattle.bus_strings.proofs.PulsesAlongLaws.{pulse_soon}
 
 -- a terminal whose message began at its last own start, and is at bit time d, may not start, where each pulse so far was carrier
 abbrev pub SendingIsNotReady : Type 0

@@ -8,8 +8,8 @@
 
 pub mod laws;
 mod place;
-pub mod terminal;
+mod terminal;
 #[cfg(test)]
 mod tests;
 
-pub use crate::terminal::Terminal;
+pub use terminal::Terminal;

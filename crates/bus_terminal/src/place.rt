@@ -3,7 +3,7 @@ ghost use Rattle.bus_strings.specs.Messages.{bits as length_of, IsMessage};
 ghost use Rattle.bus_strings.specs.Pulses.{is_on};
 
 use bus_strings::limits::{INNER_GAP, WORD_BITS};
-use bus_strings::message::Message;
+use bus_strings::Message;
 
 /// Where a running message is: at a pulse, or in the quiet behind it, and how many bit times of that are left.
 #[derive(Clone, Copy, Debug)]

@@ -10,10 +10,9 @@ ghost use Rattle.bus_terminal.specs.Jumps.{IsSteady, later_place, with_passed_ma
 ghost use Rattle.bus_terminal.specs.Standing.{place_in, IsStanding};
 
 use crate::place::Place;
-use bus_strings::message::Message;
-use bus_table::hand::Hand;
-use bus_timers::cores::Core;
-use bus_timers::jumps::JumpCore;
+use bus_strings::Message;
+use bus_table::Hand;
+use bus_timers::{Core, JumpCore};
 use std::marker::Model;
 
 /// Where the message begun last is a bit time later, if it is still running.

@@ -1,16 +1,10 @@
 ghost use Rattle.std.specs.Prelude.{◌+◌, ◌≤◌};
 
 use crate::terminal::Terminal;
-use bus_strings::message::Message;
-use bus_strings::pulses::{bits, is_on};
-use bus_strings::wordstring::Wordstring;
-use bus_table::hand::Hand;
-use bus_timers::cores::Core;
-use bus_timers::counter::CounterCore;
-use bus_timers::deadline::DeadlineCore;
-use bus_timers::jumps::JumpCore;
-use bus_timers::timing::Timing;
-use bus_words::label::{Ext, Label};
+use bus_strings::{Message, Wordstring, bits, is_on};
+use bus_table::Hand;
+use bus_timers::{Core, CounterCore, DeadlineCore, JumpCore, Timing};
+use bus_words::{Ext, Label};
 use std::alloc::Global;
 use std::test::Fail;
 

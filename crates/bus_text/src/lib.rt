@@ -4,30 +4,30 @@
 //! first other byte is `#`, are skipped. Every other line is its fields, the longest runs of bytes that aren't
 //! blanks; blanks are space, tab and carriage return.
 //!
-//! - [`cursor::Lines`] goes over the lines of a text that aren't skipped, [`fields::Fields`] over the fields of one;
-//!   [`lines::fields`] collects them where they are asked for by place; [`lines::first_feed`] finds the end of a line.
+//! - [`Lines`] goes over the lines of a text that aren't skipped, [`Fields`] over the fields of one;
+//!   [`fields`] collects them where they are asked for by place; [`first_feed`] finds the end of a line.
 //! - [`numbers`] reads plain decimals and hexadecimal digits, [`digits`] writes hexadecimal digits in capitals.
-//! - [`reason::Reason`] says why a line is refused, [`fault::LineFault`] why it wasn't read.
+//! - [`Reason`] says why a line is refused, [`LineFault`] why it wasn't read.
 //!
 //! The definitions are in `specs/`: `Lines` and `Fields` (what a text is cut into), `Numbers` and `Digits`,
 //! `Refusals` (which line is refused and why), `AllOf` (reading each of a list), `Canonical` (the one spelling that
 //! writers use). What callers may use of them beside the contracts are the files whose names end in `Laws`.
 #![tactic(auto)]
 
-pub mod cursor;
-pub mod digits;
-pub mod fault;
-pub mod fields;
-pub mod lines;
-pub mod numbers;
-pub mod reason;
+mod cursor;
+mod digits;
+mod fault;
+mod lines;
+mod numbers;
+mod reason;
+mod split;
 #[cfg(test)]
 mod tests;
 
 pub use cursor::{Line, Lines};
 pub use digits::{capital_digit, four_digits, hex_digit, three_digits};
 pub use fault::LineFault;
-pub use fields::Fields;
-pub use lines::{field_at, fields_from, first_feed, is_at, is_skipped, line_after};
+pub use lines::{field_at, fields, fields_from, first_feed, is_at, is_skipped, line_after};
 pub use numbers::{hexadecimal, plain_decimal};
 pub use reason::Reason;
+pub use split::Fields;

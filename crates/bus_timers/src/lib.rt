@@ -8,18 +8,19 @@
 //! moves. [`plain`] computes the definition.
 #![tactic(auto)]
 
-pub mod cores;
-pub mod counter;
-pub mod deadline;
-pub mod jumps;
+mod cores;
+mod counter;
+mod deadline;
+mod jumps;
 pub mod laws;
-pub mod plain;
+mod plain;
 #[cfg(test)]
 mod tests;
-pub mod timing;
+mod timing;
 
-pub use crate::cores::Core;
-pub use crate::counter::CounterCore;
-pub use crate::deadline::DeadlineCore;
-pub use crate::jumps::JumpCore;
-pub use crate::timing::Timing;
+pub use cores::Core;
+pub use counter::CounterCore;
+pub use deadline::DeadlineCore;
+pub use jumps::JumpCore;
+pub use plain::may_start;
+pub use timing::Timing;

@@ -24,9 +24,7 @@ use crate::writing::after_writing;
 use bus_dropout::{drop_end, last_cycle, run_dropout};
 use bus_outer::{Sink, Source};
 use bus_regime::verdict;
-use bus_table::hand::Hand;
-use bus_table::mode::Mode;
-use bus_table::table::Table;
+use bus_table::{Hand, Mode, Table};
 use bus_trace::Trace;
 use std::alloc::Global;
 

@@ -11,14 +11,11 @@ ghost use Rattle.std.specs.Prelude.{List, [], ◌∷◌, ◌++◌, decimal};
 use crate::outcome::Outcome;
 use bus_outer::{Sink, TextBuffer, WriteFault};
 use bus_regime::write_verdict;
-use bus_table::error::WholeReason;
-use bus_table::fit::FitError;
-use bus_table::mode::Mode;
-use bus_text::digits::{hex_digit as digit, three_digits};
-use bus_text::reason::Reason;
+use bus_table::{FitError, Mode, WholeReason};
+use bus_text::{Reason, hex_digit as digit, three_digits};
 use bus_trace::TraceReason;
 use bus_wave::{WaveFault, WaveReason};
-use bus_words::label::{Ext, Label};
+use bus_words::{Ext, Label};
 
 /// Puts the word of a reason.
 fn put_reason<K: Sink>(text: &mut TextBuffer, sink: &mut K, reason: Reason)

@@ -6,7 +6,7 @@ ghost use Rattle.bus_vectors.specs.Made.{most_number};
 ghost use Rattle.bus_strings.specs.Limits.{horizon_limit};
 
 use bus_strings::limits::HORIZON_LIMIT;
-use bus_text::numbers::plain_decimal;
+use bus_text::plain_decimal;
 
 /// The greatest number of a drill.
 const MOST_NUMBER: u64 = 9999;

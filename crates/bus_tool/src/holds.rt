@@ -4,8 +4,8 @@ ghost use Rattle.std.specs.Option.{option_copied, option_to_list};
 ghost use Rattle.bus_tool.specs.Readers.{text_limit};
 ghost use Rattle.bus_tool.specs.Texts as texts;
 
-use bus_table::hand::Hand;
-use bus_trace::hold::Hold;
+use bus_table::Hand;
+use bus_trace::Hold;
 use std::alloc::{AllocError, Global};
 
 /// The hand of the terminal with this number.

@@ -4,11 +4,9 @@ ghost use Rattle.bus_tool.specs.Outcomes.{is_written, refused_verdict, short_las
 use crate::status::Status;
 use bus_regime::TableVerdict;
 use bus_schedule::{ScheduleError, Uneven};
-use bus_strings::fault::MessagesError;
-use bus_table::error::{TableError, WholeReason};
-use bus_table::fit::FitError;
-use bus_table::mode::Mode;
-use bus_text::reason::Reason;
+use bus_strings::MessagesError;
+use bus_table::{FitError, Mode, TableError, WholeReason};
+use bus_text::Reason;
 use bus_trace::{TraceError, TraceReason};
 use bus_wave::{WaveError, WaveFault, WaveReason};
 use std::alloc::AllocError;

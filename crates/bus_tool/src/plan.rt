@@ -17,8 +17,7 @@ use crate::outcome::Outcome;
 use crate::writing::after_writing;
 use bus_outer::{Sink, Source, TextBuffer, WriteFault};
 use bus_plan::PlanAnswer;
-use bus_table::mode::Mode;
-use bus_table::write_table;
+use bus_table::{Mode, write_table};
 use std::alloc::Global;
 
 /// What comes of a plan once it is written.

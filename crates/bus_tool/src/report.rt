@@ -22,10 +22,7 @@ use crate::outcome::Outcome;
 use crate::writing::after_writing;
 use bus_outer::{Sink, Source, write_all};
 use bus_regime::{TableVerdict, turn, verdict};
-use bus_table::lengths::{longest, shortest};
-use bus_table::mode::Mode;
-use bus_table::sender::Sender;
-use bus_table::table::Table;
+use bus_table::{Mode, Sender, Table, longest, shortest};
 use serde_json::{Value, json};
 use std::alloc::{AllocError, Global};
 

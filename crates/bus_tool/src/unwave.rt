@@ -12,7 +12,7 @@ use crate::inputs::{Traced, take_table, take_text};
 use crate::outcome::Outcome;
 use crate::writing::after_writing;
 use bus_outer::{Sink, Source};
-use bus_table::table::Table;
+use bus_table::Table;
 use bus_trace::{Trace, write_trace};
 use bus_wave::laws::waves_tell_traces;
 use bus_wave::read_wave;

@@ -13,7 +13,7 @@ use crate::inputs::{Traced, take_table, take_trace};
 use crate::outcome::Outcome;
 use crate::writing::after_writing;
 use bus_outer::{Sink, Source};
-use bus_table::table::Table;
+use bus_table::Table;
 use bus_trace::Trace;
 use bus_trace::laws::traces_read_back;
 use bus_wave::{spaced, write_wave};

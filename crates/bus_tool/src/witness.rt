@@ -12,8 +12,7 @@ use crate::inputs::take_table;
 use crate::outcome::Outcome;
 use crate::writing::after_writing;
 use bus_outer::{Sink, Source};
-use bus_strings::payload::Payloads;
-use bus_strings::writing::write_messages;
+use bus_strings::{Payloads, write_messages};
 use std::alloc::Global;
 
 /// The witness of the table in the first source, or why there is none. All the memory of the command is taken here.

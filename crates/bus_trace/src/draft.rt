@@ -17,9 +17,7 @@ use crate::fields::{below, bounded, fields, is_plain, writes};
 use crate::format::{Format, format_of};
 use crate::hold::Hold;
 use crate::keyword::{Keyword, keyword_of};
-use crate::list::{
-    is_after, last_count, last_end, last_moment, last_sender, last_terminal, take_string,
-};
+use crate::list::{ is_after, last_count, last_end, last_moment, last_sender, last_terminal, take_string, };
 use crate::mark::{is_mark, mark_of, starts_wrong, turns_wrong};
 use crate::position::{Position, is_closed, is_ended, may_follow};
 use crate::quick::{begin_line, behind_end, close_line, string_line};
@@ -27,9 +25,8 @@ use crate::reason::TraceReason;
 use crate::trace::Trace;
 use crate::words::{are_spelled, have_parity, wordstring};
 use bus_strings::limits::{HORIZON_LIMIT, MOST_TERMINAL, MOST_WORDS};
-use bus_strings::transmission::Transmission;
-use bus_strings::wordstring::Wordstring;
-use bus_text::lines::{field_at, fields_from};
+use bus_strings::{Transmission, Wordstring};
+use bus_text::{field_at, fields_from};
 use std::alloc::{AllocError, Global};
 use std::marker::Model;
 

@@ -4,7 +4,7 @@ ghost use Rattle.bus_text.specs.Entries.{texts};
 ghost use Rattle.bus_text.specs.Numbers.{is_plain_decimal as decimal_test, decimal_value};
 ghost use Rattle.bus_trace.specs.States.{spaced_fields};
 
-use bus_text::numbers::plain_decimal;
+use bus_text::plain_decimal;
 use std::alloc::{AllocError, Global};
 
 /// The fields of a line: what stands between single spaces.

@@ -14,10 +14,10 @@
 #![tactic(auto)]
 
 mod draft;
-pub mod fault;
+mod fault;
 mod fields;
 mod format;
-pub mod hold;
+mod hold;
 mod keyword;
 pub mod laws;
 pub mod limits;
@@ -25,15 +25,15 @@ mod list;
 mod mark;
 mod position;
 mod quick;
-pub mod reader;
-pub mod reading;
-pub mod reason;
-pub mod stage;
-pub mod trace;
+mod reader;
+mod reading;
+mod reason;
+mod stage;
+mod trace;
 mod valid;
 mod walk;
 mod words;
-pub mod writing;
+mod writing;
 
 pub use fault::TraceError;
 pub use hold::Hold;

@@ -6,9 +6,7 @@ ghost use Rattle.bus_trace.specs.States.{last_moment as moment_of, last_sender a
 
 use crate::hold::Hold;
 use crate::position::Position;
-use bus_strings::message::Message;
-use bus_strings::transmission::Transmission;
-use bus_strings::wordstring::Wordstring;
+use bus_strings::{Message, Transmission, Wordstring};
 use std::alloc::{AllocError, Global};
 
 /// The terminal of the last hold, or 0.

@@ -12,9 +12,8 @@ ghost use Rattle.bus_trace.specs.Writing.{data_put};
 ghost use Rattle.bus_trace.specs.Quick.{HasData, AreDigits, line_end};
 
 use bus_strings::limits::MOST_WORDS;
-use bus_strings::wordstring::{SHORT, Wordstring};
-use bus_words::label::{Ext, Label};
-use bus_words::word::{Kind, parity, split_label};
+use bus_strings::{SHORT, Wordstring};
+use bus_words::{Ext, Kind, Label, parity, split_label};
 use std::alloc::{AllocError, Global};
 
 // The text of a word, and the space before it.

@@ -5,8 +5,7 @@ use crate::hold::Hold;
 use crate::valid::{are_below, are_holds};
 use bus_strings::laws::neighbours_tell;
 use bus_strings::limits::HORIZON_LIMIT;
-use bus_strings::overlap::garbled;
-use bus_strings::transmission::Transmission;
+use bus_strings::{Transmission, garbled};
 use std::marker::Model;
 
 /// What was seen of a bus up to a horizon: how many messages each terminal held, and what was sent.
@@ -93,7 +92,7 @@ impl Trace {
     }
 
     /// Whether entry `k` of the list, counted from 0, is garbled: another entry overlaps it. This call looks at each earlier entry;
-    /// where each entry of a list is wanted, [`Marks`](bus_strings::overlap::Marks) goes over the list once.
+    /// where each entry of a list is wanted, [`Marks`](bus_strings::Marks) goes over the list once.
     pub fn collided(&self, k: usize) -> bool
         requires { k < length self.now.list }
         ensures { result ≡ garbled_in self.now.list k }

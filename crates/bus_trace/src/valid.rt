@@ -6,7 +6,7 @@ ghost use Rattle.bus_trace.specs.Traces.{IsHold, AscendAbove, IsBelow};
 use crate::hold::Hold;
 use crate::list::{is_after, last_terminal};
 use bus_strings::limits::MOST_TERMINAL;
-use bus_strings::transmission::Transmission;
+use bus_strings::Transmission;
 
 /// Whether holds ascend strictly by terminal, all of 1 to 128.
 pub(crate) fn are_holds(holds: &[Hold]) -> bool

@@ -9,7 +9,7 @@ use crate::fault::LineFault;
 use crate::limits::LINE_LIMIT;
 use crate::reason::TraceReason;
 use crate::trace::Trace;
-use bus_text::lines::first_feed;
+use bus_text::first_feed;
 use std::alloc::{AllocError, Global};
 use std::marker::Model;
 

@@ -7,10 +7,9 @@ ghost use Rattle.bus_words.specs.WordTexts.{written_frame};
 ghost use Rattle.bus_trace.specs.WordFields.{same_kind as same_test, is_spelled as spelled_test, has_parity as parity_test};
 ghost use Rattle.bus_trace.specs.WordFields.{value_of as value_in, are_spelled as all_spelled, have_parity as all_parity, string_of};
 
-use bus_strings::wordstring::Wordstring;
-use bus_text::lines::{field_at, fields_from};
-use bus_words::text::{read_frame, read_word};
-use bus_words::word::{FramedWord, Kind, split_label};
+use bus_strings::Wordstring;
+use bus_text::{field_at, fields_from};
+use bus_words::{FramedWord, Kind, read_frame, read_word, split_label};
 use std::alloc::{AllocError, Global};
 
 /// Whether two kinds are the same.

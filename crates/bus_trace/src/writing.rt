@@ -14,11 +14,8 @@ use crate::mark::mark_text;
 use crate::trace::Trace;
 use bus_outer::{Sink, TextBuffer, WriteFault};
 use bus_strings::laws::neighbours_tell;
-use bus_strings::overlap::Marks;
-use bus_strings::transmission::Transmission;
-use bus_strings::wordstring::Wordstring;
-use bus_words::text::word_text;
-use bus_words::word::{Kind, Word, label_word};
+use bus_strings::{Marks, Transmission, Wordstring};
+use bus_words::{Kind, Word, label_word, word_text};
 
 // A word behind its space.
 fn put_word<K: Sink>(text: &mut TextBuffer, sink: &mut K, word: Word)

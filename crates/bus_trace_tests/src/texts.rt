@@ -2,11 +2,9 @@ ghost use Rattle.std.specs.Prelude.{◌≤◌, ◌<◌};
 ghost use Rattle.bus_strings.specs.Limits.{horizon_limit, most_terminal};
 
 use bus_outer::{MemorySink, MemorySource, read_whole};
-use bus_strings::message::Message;
-use bus_strings::transmission::Transmission;
-use bus_strings::wordstring::Wordstring;
+use bus_strings::{Message, Transmission, Wordstring};
 use bus_trace::{Hold, Trace, TraceError, TraceReason, read_trace, write_trace};
-use bus_words::label::{Ext, Label};
+use bus_words::{Ext, Label};
 use std::alloc::Global;
 use std::test::Fail;
 

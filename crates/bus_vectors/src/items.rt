@@ -4,7 +4,7 @@ ghost use Rattle.bus_vectors.specs.Made as made;
 ghost use Rattle.bus_vectors.specs.Made.{most_number, made_words, made_item, made_round, made_items};
 
 use crate::tables::sender_count;
-use bus_strings::payload::{Payload, Payloads};
+use bus_strings::{Payload, Payloads};
 use std::alloc::{AllocError, Global};
 
 /// How many messages each sender has in the input of a number: 10 to 500.

@@ -7,8 +7,8 @@ ghost use Rattle.bus_vectors.specs.Made.{most_number, round_count, made_table, m
 use crate::items::items;
 use crate::laws::{made_items_are_even, made_items_fit};
 use crate::tables::table;
-use bus_strings::payload::Payloads;
-use bus_table::table::Table;
+use bus_strings::Payloads;
+use bus_table::Table;
 use std::alloc::{AllocError, Global};
 
 /// The table and the messages that a number of at most 9999 makes: 2 to 31 senders in aperiodic mode, whose transmit interval is just

@@ -4,12 +4,8 @@ ghost use Rattle.bus_vectors.specs.Made as made;
 ghost use Rattle.bus_vectors.specs.Made.{made_send, made_sender, made_senders, made_take, made_listener, made_cycle};
 ghost use Rattle.bus_vectors.specs.Made.{made_table};
 
-use bus_table::line::{SendLine, TakeLine};
-use bus_table::listener::Listener;
-use bus_table::mode::Mode;
-use bus_table::sender::Sender;
-use bus_table::table::Table;
-use bus_words::label::{Ext, Label};
+use bus_table::{Listener, Mode, SendLine, Sender, Table, TakeLine};
+use bus_words::{Ext, Label};
 use std::alloc::{AllocError, Global};
 
 /// The synchronization gap of every made table, in bit times.

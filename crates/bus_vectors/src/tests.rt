@@ -1,5 +1,5 @@
 use crate::{make, row};
-use bus_table::fit::fits;
+use bus_table::fits;
 use std::test::Fail;
 
 /// The least number: two senders, and ten rounds.

@@ -4,7 +4,7 @@ ghost use Rattle.bus_view.specs.Forms as forms;
 
 use bus_dump::Dump;
 use bus_shapes::Window;
-use bus_text::numbers::plain_decimal;
+use bus_text::plain_decimal;
 
 /// A picture of a trace.
 #[derive(Clone, Copy, Debug, PartialEq, Eq)]

@@ -16,7 +16,7 @@ use bus_outer::{Sink, Source, WriteFault};
 use bus_picture::write_time_line;
 use bus_regime::{TableVerdict, verdict};
 use bus_shapes::Window;
-use bus_table::table::Table;
+use bus_table::Table;
 use bus_tool::{Outcome, Traced, after_writing, take_traced};
 use bus_trace::Trace;
 use std::alloc::Global;

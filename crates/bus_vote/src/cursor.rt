@@ -6,10 +6,8 @@ ghost use Rattle.bus_strings.specs.Messages.{Entry};
 ghost use Rattle.bus_vote.specs.Walks.{sent_from, IsSent, IsReach, IsPace, TwoAreOver};
 
 use crate::mark::is_garbled;
-use bus_strings::message::Message;
-use bus_strings::transmission::Transmission;
-use bus_strings::wordstring::Wordstring;
-use bus_words::label::{Ext, Label};
+use bus_strings::{Message, Transmission, Wordstring};
+use bus_words::{Ext, Label};
 use std::marker::Model;
 
 /// Whether a wordstring has a label and an extension.

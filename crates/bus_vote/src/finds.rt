@@ -7,9 +7,8 @@ ghost use Rattle.bus_vote.specs.Walks.{IsSent, IsReach};
 use crate::mark::is_garbled;
 use crate::pace::TERMINALS;
 use arrayvec::ArrayVec;
-use bus_strings::transmission::Transmission;
-use bus_strings::wordstring::Wordstring;
-use bus_words::label::Label;
+use bus_strings::{Transmission, Wordstring};
+use bus_words::Label;
 
 /// How many finds there is room for, on the stack.
 pub(crate) const MOST_FINDS: usize = 80_000;

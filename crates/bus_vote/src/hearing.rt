@@ -8,8 +8,8 @@ ghost use Rattle.bus_vote.specs.Rounds.{channel_words};
 use crate::cursor::words_in;
 use crate::finds::Find;
 use crate::label::Channel;
-use bus_strings::transmission::Transmission;
-use bus_words::label::Label;
+use bus_strings::Transmission;
+use bus_words::Label;
 use std::marker::Model;
 
 /// Whether a find is of a label and a terminal.

@@ -8,10 +8,9 @@ use crate::label::VotedLabel;
 use crate::pace::gap_of;
 use crate::scan::voted_label;
 use arrayvec::ArrayVec;
-use bus_strings::transmission::Transmission;
-use bus_strings::wordstring::Wordstring;
-use bus_table::table::Table;
-use bus_words::label::Label;
+use bus_strings::{Transmission, Wordstring};
+use bus_table::Table;
+use bus_words::Label;
 use std::marker::Model;
 
 /// How many labels there are.

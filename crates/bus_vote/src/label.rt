@@ -1,5 +1,5 @@
 // The labels of a table that are voted on.
-use bus_words::label::{Ext, Label};
+use bus_words::{Ext, Label};
 
 /// A SEND line of a label: its sender, and its extension.
 #[derive(Clone, Copy, Debug, PartialEq, Eq)]

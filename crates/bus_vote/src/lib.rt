@@ -25,7 +25,7 @@ mod scan;
 mod seen;
 #[cfg(test)]
 mod tests;
-pub mod voting;
+mod voting;
 mod writing;
 
 pub use voting::{vote, width};

@@ -5,7 +5,7 @@ ghost use Rattle.bus_strings.specs.Transmissions.{garbled};
 ghost use Rattle.bus_vote.specs.Walks.{IsSent, IsReach};
 
 use bus_strings::laws::neighbours_tell;
-use bus_strings::transmission::Transmission;
+use bus_strings::Transmission;
 
 /// Whether the transmission behind a place begins before this one's end.
 fn next_begins(list: &[Transmission], at: usize, end: u64) -> bool

@@ -5,7 +5,7 @@ ghost use Rattle.bus_vote.specs.Walks.{IsSent, IsClear, IsSpaced, gap_in};
 
 use crate::mark::is_garbled;
 use bus_strings::limits::MOST_TERMINAL;
-use bus_strings::transmission::Transmission;
+use bus_strings::Transmission;
 
 /// One more than the greatest terminal number.
 pub(crate) const TERMINALS: usize = MOST_TERMINAL as usize + 1;

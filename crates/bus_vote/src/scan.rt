@@ -5,10 +5,8 @@ ghost use Rattle.bus_vote.specs.Scans.{line_channels, seen};
 
 use crate::label::{Channel, VotedLabel};
 use crate::seen::{Seen, voted, with_channel};
-use bus_table::line::SendLine;
-use bus_table::sender::Sender;
-use bus_table::table::Table;
-use bus_words::label::Label;
+use bus_table::{SendLine, Sender, Table};
+use bus_words::Label;
 
 /// What was seen, and a SEND line of a sender, where it has the label.
 fn with_line(before: Seen, label: Label, terminal: u8, line: &SendLine) -> Seen

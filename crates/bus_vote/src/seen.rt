@@ -5,7 +5,7 @@ ghost use Rattle.bus_vote.specs.Scans.{after, voted_of};
 ghost use Rattle.bus_vote.specs.declared.seen.Seen.TheVariants.{Three};
 
 use crate::label::{Channel, VotedLabel};
-use bus_words::label::Label;
+use bus_words::Label;
 
 /// The channels of a label that were seen so far, in table order.
 #[derive(Clone, Copy, Debug, PartialEq, Eq)]

@@ -1,6 +1,6 @@
 use crate::{vote, width, write_votes};
 use bus_outer::{MemorySink, MemorySource, WriteFault};
-use bus_table::reading::read_table;
+use bus_table::read_table;
 use bus_trace::read_trace;
 use std::alloc::Global;
 use std::test::Fail;

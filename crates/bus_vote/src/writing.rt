@@ -25,11 +25,11 @@ use crate::scan::voted_label;
 use crate::voting::{are_present, vote, width};
 use bus_outer::{Sink, TextBuffer, WriteFault};
 use bus_strings::laws::neighbours_tell;
-use bus_strings::transmission::Transmission;
-use bus_table::table::Table;
-use bus_text::digits::{four_digits, three_digits};
+use bus_strings::Transmission;
+use bus_table::Table;
+use bus_text::{four_digits, three_digits};
 use bus_trace::Trace;
-use bus_words::label::Label;
+use bus_words::Label;
 
 // A place of a vote.
 fn put_place<K: Sink>(text: &mut TextBuffer, sink: &mut K, word: Option<u16>)

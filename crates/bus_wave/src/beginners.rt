@@ -4,8 +4,7 @@ ghost use Rattle.std.specs.Option.{option_copied};
 ghost use Rattle.bus_wave.specs.Beginning.{ArePlaces};
 ghost use Rattle.bus_wave.specs.Judging.{begins, beginner};
 
-use bus_table::sender::Sender;
-use bus_table::table::Table;
+use bus_table::{Sender, Table};
 use std::alloc::{AllocError, Global};
 
 /// How many label words there are.

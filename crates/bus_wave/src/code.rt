@@ -8,8 +8,8 @@ ghost use Rattle.bus_wave.specs.Digits as spec;
 ghost use Rattle.bus_wave.specs.Puts.{word_put};
 ghost use Rattle.bus_wave.specs.Symbols.{are_digits as digits_test};
 
-use bus_text::digits::capital_digit;
-use bus_words::word::{FramedWord, Kind, Word, frame};
+use bus_text::capital_digit;
+use bus_words::{FramedWord, Kind, Word, frame};
 
 /// How many digits a word has: four half bits each.
 const DIGITS: usize = 10;

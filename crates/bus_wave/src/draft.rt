@@ -21,12 +21,9 @@ use crate::phase::Phase;
 use crate::spacing::LEAST_GAP;
 use crate::symbol::Symbol;
 use bus_strings::limits::{HORIZON_LIMIT, INNER_GAP, WORD_BITS};
-use bus_strings::transmission::Transmission;
-use bus_strings::wordstring::Wordstring;
-use bus_table::line::SendLine;
-use bus_table::sender::Sender;
-use bus_words::label::{Ext, Label};
-use bus_words::word::{Kind, Word};
+use bus_strings::{Transmission, Wordstring};
+use bus_table::{SendLine, Sender};
+use bus_words::{Ext, Kind, Label, Word};
 use std::alloc::{AllocError, Global};
 
 const WORD: u64 = WORD_BITS as u64;

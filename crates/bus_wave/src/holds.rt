@@ -6,10 +6,9 @@ ghost use Rattle.bus_wave.specs.Counted as counted;
 ghost use Rattle.bus_wave.specs.Counted.{entries_of};
 
 use crate::spacing::sender_of;
-use bus_strings::transmission::Transmission;
-use bus_table::sender::Sender;
-use bus_table::table::Table;
-use bus_trace::hold::Hold;
+use bus_strings::Transmission;
+use bus_table::{Sender, Table};
+use bus_trace::Hold;
 use std::alloc::{AllocError, Global};
 
 /// Whether there is a sender with this number.

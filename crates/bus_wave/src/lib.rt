@@ -12,19 +12,19 @@
 mod beginners;
 mod code;
 mod draft;
-pub mod fault;
+mod fault;
 mod holds;
 pub mod laws;
 mod making;
 mod phase;
 mod pieces;
 mod quick;
-pub mod reading;
-pub mod spacing;
+mod reading;
+mod spacing;
 mod symbol;
-pub mod writing;
+mod writing;
 
 pub use fault::{WaveError, WaveFault, WaveReason};
 pub use reading::read_wave;
-pub use spacing::spaced;
+pub use spacing::{LEAST_GAP, spaced};
 pub use writing::write_wave;

@@ -3,9 +3,8 @@ ghost use Rattle.std.specs.Prelude.{◌≡◌, ◌<◌, ◌≤◌, ◌++◌, ◌
 ghost use Rattle.bus_strings.specs.Limits.{most_strings};
 ghost use Rattle.bus_wave.specs.Judging.{string_of};
 
-use bus_strings::message::Message;
-use bus_strings::wordstring::{SHORT, Wordstring};
-use bus_table::line::SendLine;
+use bus_strings::{SHORT, Message, Wordstring};
+use bus_table::SendLine;
 use std::alloc::{AllocError, Global};
 use std::mem::replace;
 

@@ -1,4 +1,4 @@
-use bus_table::line::SendLine;
+use bus_table::SendLine;
 
 /// Where the lines so far stand.
 #[derive(Clone, Copy)]

@@ -12,7 +12,7 @@ ghost use Rattle.bus_wave.specs.Puts.{word_put};
 ghost use Rattle.bus_wave.specs.Waves.{word_halves};
 
 use crate::code::{frame_with, head_of};
-use bus_words::word::{Kind, Word, unframe};
+use bus_words::{Kind, Word, unframe};
 
 /// How many bytes a W line has.
 const LINE: usize = 13;

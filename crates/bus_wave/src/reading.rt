@@ -18,10 +18,9 @@ use crate::laws::waves_tell_traces;
 use crate::pieces::cut;
 use crate::spacing::table_is_valid;
 use crate::symbol::{Symbol, first_symbol, head_of};
-use bus_strings::transmission::Transmission;
-use bus_table::sender::Sender;
-use bus_table::table::Table;
-use bus_trace::trace::Trace;
+use bus_strings::Transmission;
+use bus_table::{Sender, Table};
+use bus_trace::Trace;
 use std::alloc::Global;
 
 /// The error of a line that wasn't taken.

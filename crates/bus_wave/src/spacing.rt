@@ -8,13 +8,9 @@ ghost use Rattle.bus_wave.specs.WaveLaws.{PassesRuns};
 
 use crate::fault::WaveFault;
 use crate::laws::runs_are_spaced;
-use bus_strings::message::Message;
-use bus_strings::transmission::Transmission;
-use bus_strings::wordstring::Wordstring;
-use bus_table::line::SendLine;
-use bus_table::sender::Sender;
-use bus_table::table::Table;
-use bus_trace::trace::Trace;
+use bus_strings::{Message, Transmission, Wordstring};
+use bus_table::{SendLine, Sender, Table};
+use bus_trace::Trace;
 
 /// The least quiet between two transmissions of a wave, in bit times: more than within a message.
 pub const LEAST_GAP: u64 = 8;

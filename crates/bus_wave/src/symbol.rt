@@ -11,8 +11,8 @@ use crate::code::{are_digits, heard};
 use crate::fault::WaveReason;
 use crate::pieces::cut;
 use crate::quick::{quiet_line, word_line};
-use bus_text::numbers::plain_decimal;
-use bus_words::word::{Word, unframe};
+use bus_text::plain_decimal;
+use bus_words::{Word, unframe};
 
 const WAVE: &[u8] = b"WAVE";
 

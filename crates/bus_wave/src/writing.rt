@@ -10,10 +10,9 @@ ghost use Rattle.bus_wave.specs.WaveLaws.{HasOneText};
 use crate::code::word_line;
 use bus_outer::{Sink, TextBuffer, WriteFault};
 use bus_strings::limits::INNER_GAP;
-use bus_strings::transmission::Transmission;
-use bus_strings::wordstring::Wordstring;
-use bus_trace::trace::Trace;
-use bus_words::word::{Kind, Word, label_word};
+use bus_strings::{Transmission, Wordstring};
+use bus_trace::Trace;
+use bus_words::{Kind, Word, label_word};
 
 /// Puts a W line.
 fn put_word<K: Sink>(text: &mut TextBuffer, sink: &mut K, word: Word)

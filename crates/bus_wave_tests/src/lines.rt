@@ -1,9 +1,7 @@
 //! What every test uses: a table, a trace of it and the lines of its wave.
 use bus_outer::MemorySource;
-use bus_table::reading::read_table;
-use bus_table::table::Table;
-use bus_trace::read_trace;
-use bus_trace::trace::Trace;
+use bus_table::{Table, read_table};
+use bus_trace::{Trace, read_trace};
 use bus_wave::{WaveError, read_wave};
 use std::alloc::Global;
 use std::test::Fail;

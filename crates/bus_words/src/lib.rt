@@ -1,26 +1,24 @@
 //! The words of the bus: what one is, how it is framed with its parity bit, how a label and an extension make a label
 //! word, and the text that the project writes for a word.
 //!
-//! - [`label::Label`] and [`label::Ext`] keep their ranges, twelve and four bits, in their types.
-//! - [`word::Word`] is a kind and sixteen bits, [`word::FramedWord`] has the parity bit too; [`word::frame`] and
-//!   [`word::unframe`] go between them, [`word::label_word`] and [`word::split_label`] between a label word and its
+//! - [`Label`] and [`Ext`] keep their ranges, twelve and four bits, in their types.
+//! - [`Word`] is a kind and sixteen bits, [`FramedWord`] has the parity bit too; [`frame`] and
+//!   [`unframe`] go between them, [`label_word`] and [`split_label`] between a label word and its
 //!   parts.
-//! - [`text::word_text`] writes a word in six bytes, and [`text::read_word`] reads it back:
-//!   `read_word(&word_text(word))` is `Ok(word)`. [`text::read_frame`] reads it whatever its parity digit, for a reader that
+//! - [`word_text`] writes a word in six bytes, and [`read_word`] reads it back:
+//!   `read_word(&word_text(word))` is `Ok(word)`. [`read_frame`] reads it whatever its parity digit, for a reader that
 //!   judges the form of all words before their parity.
 //!
 //! No call takes memory. The definitions are in `specs/`: `Words`, `WordTexts`, and `WordTextLaws` for what callers may
 //! use of them beside the contracts.
 #![tactic(auto)]
 
-pub mod label;
+mod label;
 #[cfg(test)]
 mod tests;
-pub mod text;
-pub mod word;
+mod text;
+mod word;
 
 pub use label::{Ext, Label};
 pub use text::{read_frame, read_word, word_text};
-pub use word::{
-    FramedWord, Kind, Word, WordError, frame, label_word, parity, split_label, unframe,
-};
+pub use word::{FramedWord, Kind, Word, WordError, frame, label_word, parity, split_label, unframe};

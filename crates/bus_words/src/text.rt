@@ -5,7 +5,7 @@ ghost use Rattle.std.specs.List.{list_all};
 ghost use Rattle.bus_words.specs.WordTexts.{letter as letter_of, bit_digit as digit_of, word_text as text_of, Fails, is_letter, is_bit, form, is_of, kept as kept_of, test_at, written_frame, read_word as reading};
 
 use crate::word::{FramedWord, Kind, Word, WordError, frame, unframe};
-use bus_text::digits::{capital_digit, four_digits};
+use bus_text::{capital_digit, four_digits};
 
 fn letter(kind: Kind) -> u8
     ensures { result ≡ letter_of kind }

@@ -3,7 +3,7 @@ use crate::payload::Payloads;
 use crate::reading::read_messages;
 use crate::writing::write_messages;
 use bus_outer::MemorySink;
-use bus_text::reason::Reason;
+use bus_text::Reason;
 use std::alloc::{AllocError, Global};
 use std::test::Fail;
 

@@ -2,7 +2,7 @@ use Rattle.std.proofs.Common.{◌≡◌, ◌+◌, ◌-◌, ◌∷◌, suc, arith
 use Rattle.std.proofs.lemmas.List.{take_all}
 use Rattle.bus_text.specs.Lines.{fields_of}
 use Rattle.bus_text.proofs.FieldLemmas.{field_at, one_field}
-use Rattle.bus_text.proofs.fields.split_field.Goals as goal
+use Rattle.bus_text.proofs.split.split_field.Goals as goal
 
 pub returns-in-None-clause-fields : goal.returns-in-None-clause-fields
 returns-in-None-clause-fields c = one_field c.args.line.now c.requires.some c.in-None.ensures.none

@@ -3,7 +3,7 @@ use Rattle.std.proofs.Math.ListN.{drop_of_length-le}
 use Rattle.std.proofs.lemmas.List.{take_all}
 use Rattle.bus_text.specs.Lines.{fields_of}
 use Rattle.bus_text.proofs.FieldLemmas.{behind_blanks}
-use Rattle.bus_text.proofs.fields.first_field.Goals as goal
+use Rattle.bus_text.proofs.split.first_field.Goals as goal
 
 pub returns-in_err-at-clause-fields : goal.returns-in_err-at-clause-fields
 returns-in_err-at-clause-fields c =
