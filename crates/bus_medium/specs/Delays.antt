@@ -1,6 +1,6 @@
 -- What terminals hear of a list of transmissions where the cable has length: each hears a transmission later than it is sent, by a number of
 -- bit times that may be another for each terminal and for each transmission, and need not be the same the other way round.
-use Rattle.std.specs.Prelude.{◌≡◌, ℕ, ◌+◌, ◌≤◌, List, map}
+use Rattle.std.specs.Prelude.{◌≡◌, ℕ, ◌+◌, ◌-◌, ◌≤◌, List, map}
 use Rattle.bus_strings.specs.Messages.{Entry}
 use Rattle.bus_strings.specs.Transmissions.{end_of}
 
@@ -28,3 +28,11 @@ heard delay number list = map (λ x. later (delay x number) x) list
 -- The moment at which the terminal with this number has heard a transmission to its end.
 abbrev pub heard_end : Delays → Entry → ℕ → ℕ
 heard_end delay x number = end_of x + delay x number
+
+-- How far two places on a straight cable are apart, each counted in bit times from its beginning.
+abbrev pub distance : ℕ → ℕ → ℕ
+distance a b = a - b + (b - a)
+
+-- The delays of terminals at these places of a straight cable: the distance between two of them.
+abbrev pub cable : (ℕ → ℕ) → Delays
+cable place x number = distance (place x.terminal) (place number)

@@ -1,0 +1,74 @@
+-- What follows of the definitions.
+use Rattle.std.specs.Prelude.{◌≡◌, ◌==◌, ◌||◌, ℕ, suc, ◌<◌, ◌≤◌, ◌⊎◌, false, IsTrue, List, length}
+use Rattle.bus_strings.specs.Marking.{greatest_end}
+use Rattle.bus_strings.specs.Members.{In}
+use Rattle.bus_strings.specs.Messages.{Entry}
+use Rattle.bus_table.specs.declared.mode.Mode.TheVariants.{Aperiodic}
+use Rattle.bus_table.specs.Tables.{Sender, Table, Hand}
+use Rattle.bus_table.specs.Turns.{turn_order}
+use Rattle.bus_table.specs.Valid.{is_valid}
+use Rattle.bus_medium.specs.Timings.{quiet_of, stations_of}
+use Rattle.bus_regime.specs.Verdicts.{verdict_of, is_accepted}
+use Rattle.bus_schedule.specs.Closed.{closed}
+use Rattle.bus_schedule.specs.Even.{are_even, rounds}
+use Rattle.bus_schedule.specs.Live.{shortest_cycle}
+use Rattle.bus_schedule.specs.Runs.{IsClear}
+use Rattle.bus_medium.specs.Delays.{Delays, AreDelays, at_once, heard}
+use Rattle.bus_medium.specs.Wakes.{Wakes, AreWakes, settled}
+use Rattle.bus_medium.specs.CableLawful.{IsLawfulOnCable}
+use Rattle.bus_reach.specs.Schedule.{cable_closed}
+use Rattle.bus_reach.specs.Bearing.{bears}
+use Rattle.bus_reach.specs.Tolerance.{neighbours_leave_room}
+use Rattle.bus_reach.specs.Runs.{IsCableRun}
+use Rattle.bus_reach.specs.Cables.{FailsOnCable}
+use Rattle.bus_reach.specs.Joining.{round_members, founders, growing, IsFirstAwake}
+
+-- Without delays, where all wake at the settled start, the closed schedule is that of `bus_schedule`.
+abbrev pub NoDelayIsClosed : Type 0
+NoDelayIsClosed = (table : Table) (hands : List Hand) → table.mode ≡ Aperiodic → cable_closed at_once settled table hands ≡ closed table hands
+
+-- For an accepted aperiodic table and even hands of any length, with delays up to what the table bears, and wakes that are no later than
+-- that, the closed schedule is the run.
+abbrev pub BorneIsClosed : Type 0
+BorneIsClosed =
+    (table : Table) (hands : List Hand) (most : ℕ) (delay : Delays) (wake : Wakes) → IsTrue (is_valid table) → table.mode ≡ Aperiodic
+    → IsTrue (is_accepted (verdict_of table)) → IsTrue (are_even table hands) → AreDelays most delay → AreWakes most table.senders wake
+    → IsTrue (bears table most) → IsCableRun table hands most delay wake (cable_closed delay wake table hands)
+
+-- Longer delays than those an accepted aperiodic table bears make the closed schedule of all even hands of two rounds or more fail, on some
+-- straight cable.
+abbrev pub ToleranceIsExact : Type 0
+ToleranceIsExact =
+    (table : Table) (hands : List Hand) (d : ℕ) → IsTrue (is_valid table) → table.mode ≡ Aperiodic → IsTrue (is_accepted (verdict_of table))
+    → IsTrue (are_even table hands) → 2 ≤ rounds hands → bears table d ≡ false → FailsOnCable table hands d
+
+-- The growing schedule is what the senders do:
+--   lawful    each sender starts exactly when its three timers allow after what it heard, up to the end of the list
+--   only      no other list is lawful up to there
+--   clear     no terminal hears two transmissions overlap; with one sender alone, where no delay is above the synchronization gap
+pub record IsJoinedRun (table : Table) (hands : List Hand) (most : ℕ) (delay : Delays) (wake : Wakes) (list : List Entry) : Type 0 where
+  pub lawful : IsLawfulOnCable (quiet_of table) delay wake (stations_of table hands) (greatest_end list) list
+  pub only : (other : List Entry) → IsLawfulOnCable (quiet_of table) delay wake (stations_of table hands) (greatest_end list) other → other ≡ list
+  pub clear : (1 < length table.senders) ⊎ (most ≤ table.sg) → (number : ℕ) → IsClear (heard delay number list)
+
+-- For an aperiodic table and even hands, with delays up to what the table bears, where no sender wakes earlier than the first in turn order by
+-- more than that, and a shortest cycle of the senders of the first round takes at least one transmit interval: whenever the others wake, the
+-- growing schedule is the run.
+abbrev pub JoiningIsOrderly : Type 0
+JoiningIsOrderly =
+    (table : Table) (hands : List Hand) (most : ℕ) (delay : Delays) (wake : Wakes) → IsTrue (is_valid table) → table.mode ≡ Aperiodic
+    → IsTrue (are_even table hands) → AreDelays most delay → IsTrue (bears table most) → IsFirstAwake most wake (turn_order table)
+    → table.ti ≤ shortest_cycle table (founders delay wake table hands) → IsJoinedRun table hands most delay wake (growing delay wake table hands)
+
+-- Who takes its turn in a round of the growing schedule takes it in every round behind.
+abbrev pub MembersStay : Type 0
+MembersStay =
+    (table : Table) (hands : List Hand) (most : ℕ) (delay : Delays) (wake : Wakes) (round : ℕ) (sender : Sender) → IsTrue (is_valid table)
+    → table.mode ≡ Aperiodic → AreDelays most delay → IsTrue (bears table most) → In sender (round_members delay wake table hands round)
+    → In sender (round_members delay wake table hands (suc round))
+
+-- What a table bears is told by neighbours in turn order.
+abbrev pub NeighboursTell : Type 0
+NeighboursTell =
+    (table : Table) (d : ℕ) → IsTrue (is_valid table) → table.mode ≡ Aperiodic
+    → bears table d ≡ ((length table.senders == 1) || neighbours_leave_room d table.sg (turn_order table))

@@ -1,0 +1,10 @@
+pub mod Tolerance
+pub mod Slack
+pub mod Bearing
+pub mod Starting
+pub mod Schedule
+pub mod Runs
+pub mod Joining
+pub mod Settling
+pub mod Cables
+pub mod Laws
