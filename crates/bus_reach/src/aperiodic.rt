@@ -3,8 +3,7 @@ ghost use Rattle.std.specs.Prelude.{◌≡◌, ℕ, ◌+◌, ◌*◌, ◌^◌, �
 ghost use Rattle.std.specs.List.{list_all};
 ghost use Rattle.bus_reach.specs.Tolerance as reach;
 
-use bus_table::sender::Sender;
-use bus_table::table::Table;
+use bus_table::{Sender, Table};
 
 /// Whether `b` is greater than `a` by more than twice `d`.
 fn is_apart(d: u64, a: u64, b: u64) -> bool

@@ -5,7 +5,7 @@ ghost use Rattle.bus_regime.specs.Verdicts.{verdict_of, is_accepted};
 ghost use Rattle.bus_reach.specs.Bearing as bearing;
 
 use crate::aperiodic;
-use bus_table::table::Table;
+use bus_table::Table;
 
 /// Whether an accepted table bears delays up to `d` bit times: then the closed schedule is what its senders do on every cable
 /// that delays no transmission longer. A table with one sender bears any delay. It takes no memory.

@@ -11,9 +11,9 @@
 #![tactic(auto)]
 
 mod aperiodic;
-pub mod bearing;
+mod bearing;
 pub mod laws;
-pub mod starting;
+mod starting;
 #[cfg(test)]
 mod tests;
 

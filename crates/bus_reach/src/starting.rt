@@ -4,9 +4,7 @@ ghost use Rattle.bus_table.specs.declared.mode.Mode.TheVariants.{Aperiodic};
 ghost use Rattle.bus_table.specs.Lengths as lengths;
 ghost use Rattle.bus_reach.specs.Starting as starting;
 
-use bus_table::lengths::shortest;
-use bus_table::sender::Sender;
-use bus_table::table::Table;
+use bus_table::{Sender, Table, shortest};
 
 /// Whether a sender waits and sends at least as long from one start to the next as the transmit interval takes.
 fn is_free(table: &Table, sender: &Sender) -> bool
