@@ -9,7 +9,12 @@ pub mod Spacing
 pub mod Growing
 pub mod Turning
 pub mod GapLemmas
-pub mod Spanning
+pub mod GapSplits
+pub mod Slacks
+pub mod FineGaps
+pub mod CableGrowing
+pub mod Swaying
+pub mod CableRuns
 pub mod LiveLemmas
 pub mod RunLemmas
 pub mod MovesLemmas
@@ -19,7 +24,7 @@ pub mod OffsetEnds
 pub mod Leaving
 pub mod PlaceLemmas
 pub mod UnevenLemmas
-pub mod Folding
+pub mod Breaking
 pub mod Refusing
 pub mod Meeting
 pub mod WitnessLemmas

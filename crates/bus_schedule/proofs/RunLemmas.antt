@@ -1,8 +1,9 @@
 -- The closed schedule of even hands is orderly, and of an accepted table it is the run.
-use Rattle.std.proofs.Common.{◌≡◌, ℕ, suc, ◌+◌, ◌*◌, ◌/◌, ◌%◌, ◌<◌, ◌≤◌, List, [], length, get_or, Some, arith, sym, refl, ap, ◌∙◌, subst}
+use Rattle.std.proofs.Common.{◌≡◌, ℕ, suc, ◌+◌, ◌*◌, ◌/◌, ◌%◌, ◌<◌, ◌≤◌, List, [], length, get_or, Some, inr, arith, sym, refl, ap, ◌∙◌, subst}
 use Rattle.std.specs.Prelude.{slice_get, IsTrue}
 use Rattle.std.proofs.lemmas.Bool.{and_parts}
 use Rattle.std.proofs.lemmas.Nat.{div-add-mod'}
+use Rattle.bus_strings.specs.Marking.{greatest_end}
 use Rattle.bus_strings.specs.Members.{In}
 use Rattle.bus_strings.specs.Messages.{Entry}
 use Rattle.bus_strings.specs.Transmissions.{IsAscending}
@@ -16,18 +17,23 @@ use Rattle.bus_table.specs.Hands.{are_hands}
 use Rattle.bus_table.specs.Lengths.{shortest, longest}
 use Rattle.bus_table.specs.Turns.{Rises, turn_key, turn_order}
 use Rattle.bus_table.proofs.TurnLaws.{at_in, from_sort, length-sort, numbers_differ, of_each, order_rises}
+use Rattle.bus_medium.specs.CableLawful.{IsLawfulOnCable}
+use Rattle.bus_medium.specs.Delays.{at_once, heard}
 use Rattle.bus_medium.specs.Lawful.{HaveOwnNumbers, IsLawful}
+use Rattle.bus_medium.specs.Wakes.{settled as awake}
+use Rattle.bus_medium.proofs.CableLists.{cable_once}
+use Rattle.bus_medium.proofs.Hearing.{heard_none, no_delay_is_the_bus}
 use Rattle.bus_medium.specs.LawfulLaws.{OneLawfulList, LawfulToHorizon}
 use Rattle.bus_medium.specs.Timings.{quiet_of, stations_of}
 use Rattle.bus_medium.proofs.StationLaws.{stations_have_own_numbers}
 use Rattle.bus_medium.specs.Chains.{ChainSettled, ChainStep, ChainStarts}
 use Rattle.bus_regime.specs.declared.table_verdict.TableVerdict.TheVariants.{Accept}
 use Rattle.bus_regime.specs.Verdicts.{least_cycle, most_cycle, verdict_of}
-use Rattle.bus_regime.proofs.VerdictLaws.{accepted_cycle, accepted_gaps, aperiodic_numbers, periodic_numbers}
+use Rattle.bus_regime.proofs.VerdictLaws.{accepted_cycle, aperiodic_numbers, periodic_numbers}
 use Rattle.bus_schedule.specs.Even.{messages_of, rounds, are_even}
 use Rattle.bus_schedule.specs.Closed.{sends, turns, turns_end, origin, offset_turns, in_rounds, gap_schedule, offset_schedule, schedule_in, closed, closed_end}
 use Rattle.bus_schedule.specs.Runs.{IsClear, IsInTurns, IsApart, IsSpaced}
-use Rattle.bus_schedule.specs.Laws.{AcceptedIsClosed, ClosedIsOrderly, EvenRoundsAreClosed}
+use Rattle.bus_schedule.specs.Laws.{AcceptedIsClosed, BorneGapsAreClosed, ClosedIsOrderly, EvenRoundsAreClosed}
 use Rattle.bus_schedule.specs.Live.{AreLong}
 use Rattle.bus_schedule.proofs.Ascending.{offset_schedule_ascends}
 use Rattle.bus_schedule.proofs.EndLemmas.{closed_by_gaps}
@@ -35,8 +41,10 @@ use Rattle.bus_schedule.proofs.HandLemmas.{Sendable, stations, own_count}
 use Rattle.bus_schedule.proofs.Laying.{IsLaid, laid_schedule}
 use Rattle.bus_schedule.proofs.Places.{IsRound, turns_are_round, offset_turns_are_round, offset_turn_is, more_turns, length-in_rounds, in_rounds_at, in_rounds_get}
 use Rattle.bus_schedule.proofs.Spacing.{cycle, cycle_sum, cycle_sort, lead, LeadsMore, lead_more, lengths, turns_end_cycle, IsTurn, is_turn}
-use Rattle.bus_schedule.proofs.Growing.{Setting, sendable, sofar_lawful}
-use Rattle.bus_schedule.proofs.Spanning.{at_below, intervals_on}
+use Rattle.bus_schedule.proofs.Growing.{Setting, sendable}
+use Rattle.bus_schedule.proofs.CableRuns.{IsHeard, is_heard}
+use Rattle.bus_schedule.proofs.FineGaps.{no_delays, accepted_bears_none}
+use Rattle.bus_schedule.proofs.Swaying.{at_below}
 use Rattle.bus_schedule.proofs.LiveLemmas.{IsLawfulRounds, dealt_of, stations_of_dealt, even_are_long, even_rounds, live_lawful}
 
 -- even hands are dealt: one for each sender
@@ -246,5 +254,32 @@ accepted_is_closed settled step starting once whole table hands valid accepted e
         subst (IsLawfulRounds table (messages_of hands)) (even_rounds table (messages_of hands) (rounds hands) setting (rounds hands) (omega arith))
         (live_lawful settled step starting whole table (messages_of hands) setting.dealt is long (rounds hands))
     run_in setting Periodic is =
-        let t = intervals_on settled step starting table (messages_of hands) (rounds hands) setting is (accepted_gaps table is accepted) (rounds hands) (omega arith) in
-        record { lawful = sofar_lawful whole table (messages_of hands) (offset_schedule (messages_of hands) table.ti (turn_order table) (rounds hands)) t.e t.due t.gap t.count t.sofar; clear = t.sofar.clear }
+        let h = is_heard table hands 0 at_once setting is accepted no_delays (accepted_bears_none table valid is accepted) in
+        record {
+          lawful = (no_delay_is_the_bus (quiet_of table) at_once awake (stations table (messages_of hands))
+              (greatest_end (offset_schedule (messages_of hands) table.ti (turn_order table) (rounds hands)))
+              (offset_schedule (messages_of hands) table.ti (turn_order table) (rounds hands)) no_delays (λ s i. refl)).0 h.lawful;
+          clear = subst IsClear (heard_none at_once 0 (offset_schedule (messages_of hands) table.ti (turn_order table) (rounds hands)) no_delays)
+              (h.clear (inr (omega arith)) 0);
+        }
+
+-- and so it is on a cable that a periodic table bears
+pub borne_gaps_are_closed : BorneGapsAreClosed
+borne_gaps_are_closed table hands most delay valid mode accepted even delays borne =
+    let setting : Setting table (messages_of hands) (rounds hands) = setting_of table hands valid even in
+    let h : IsHeard table hands most delay = is_heard table hands most delay setting mode accepted delays borne in
+    let is : closed table hands ≡ offset_schedule (messages_of hands) table.ti (turn_order table) (rounds hands) =
+    ap (λ m. schedule_in m table (messages_of hands) (rounds hands)) mode in
+    let lawful : IsLawfulOnCable (quiet_of table) delay awake (stations_of table hands) (closed_end table hands) (closed table hands) =
+    subst (λ l. IsLawfulOnCable (quiet_of table) delay awake (stations_of table hands) (greatest_end l) l) (sym is)
+    (subst (λ ss. IsLawfulOnCable (quiet_of table) delay awake ss (greatest_end (offset_schedule (messages_of hands) table.ti (turn_order table) (rounds hands)))
+    (offset_schedule (messages_of hands) table.ti (turn_order table) (rounds hands))) (sym (stations_of_even table hands valid even)) h.lawful) in
+    let own : HaveOwnNumbers (stations_of table hands) = stations_have_own_numbers table hands valid (dealt table hands even) in
+    record {
+      closed = refl;
+      lawful = lawful;
+      only = λ other law. cable_once (quiet_of table) delay awake (stations_of table hands) (closed_end table hands) other (closed table hands) own law lawful;
+      clear = λ far number. subst (λ l. IsClear (heard delay number l)) (sym is) (h.clear far number);
+      turns = closed_in_turns table hands setting;
+      spaced = closed_spaced table hands setting;
+    }

@@ -25,7 +25,7 @@ use Rattle.bus_schedule.specs.Settled.{witness_hands}
 use Rattle.bus_schedule.proofs.EndLemmas.{ends_at, some_turn}
 use Rattle.bus_schedule.proofs.Greatest.{greatest_cons}
 use Rattle.bus_schedule.proofs.Spacing.{cycle, lengths, turns_end_cycle}
-use Rattle.bus_schedule.proofs.Spanning.{at_below}
+use Rattle.bus_schedule.proofs.Swaying.{at_below}
 use Rattle.bus_schedule.proofs.WitnessLemmas.{witness_messages, two_rounds}
 
 -- no message is longer than this

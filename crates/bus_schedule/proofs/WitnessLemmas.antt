@@ -1,10 +1,12 @@
 -- The hands of the witness: they are even, and end within the limit; and by them the verdict accepts exactly the settled tables.
 use Rattle.std.proofs.Common.{◌≡◌, ℕ, zero, suc, ◌<◌, true, false, List, [], ◌∷◌, length, get_or}
 use Rattle.std.proofs.Common.{map, inl, inr, arith, sym, refl, ap, ◌∙◌, subst}
-use Rattle.std.specs.Prelude.{Bool, ◌==◌, IsTrue, IsOk}
+use Rattle.std.specs.Prelude.{Bool, ◌+◌, ◌==◌, IsTrue, IsOk, slice_get}
 use Rattle.std.specs.List.{list_all}
 use Rattle.std.proofs.lemmas.Bool.{and_from, eq-eqb}
 use Rattle.bus_strings.specs.Items.{Item}
+use Rattle.bus_strings.proofs.MemberLaws.{in_map}
+use Rattle.bus_strings.specs.Transmissions.{IsAscending}
 use Rattle.bus_strings.specs.Members.{In}
 use Rattle.bus_strings.specs.Messages.{Message, bits}
 use Rattle.bus_table.specs.declared.mode.Mode.{Mode}
@@ -15,28 +17,28 @@ use Rattle.bus_table.proofs.FillingLaws.{filling_length}
 use Rattle.bus_table.specs.Fits.{items_fit}
 use Rattle.bus_table.specs.Hands.{hand_of, GiveHands}
 use Rattle.bus_table.specs.Tables.{Sender, Table, Hand}
-use Rattle.bus_table.specs.Turns.{Differ, turn_order}
-use Rattle.bus_table.proofs.TurnLaws.{numbers_differ}
+use Rattle.bus_table.specs.Turns.{Differ, turn_key, turn_order}
+use Rattle.bus_table.proofs.TurnLaws.{from_sort, in_sort, length-sort, numbers_differ}
 use Rattle.bus_table.specs.Valid.{is_valid}
 use Rattle.bus_table.proofs.ValidLaws.{valid_facts}
-use Rattle.bus_medium.specs.Chains.{ChainSettled, ChainStep, ChainDue, ChainStarts}
-use Rattle.bus_medium.specs.Lawful.{IsLawful}
+use Rattle.bus_medium.specs.Lawful.{IsDue, IsLawful}
 use Rattle.bus_medium.specs.Timings.{quiet_of}
 use Rattle.bus_regime.specs.Verdicts.{verdict_of, is_accepted}
 use Rattle.bus_regime.proofs.VerdictLaws.{refused_cycle, refused_gaps}
 use Rattle.bus_regime.specs.Witness.{witness_of}
 use Rattle.bus_regime.proofs.WitnessLaws.{witness_fits, witness_hand}
-use Rattle.bus_schedule.specs.Closed.{closed, closed_end, schedule_in}
+use Rattle.bus_schedule.specs.Closed.{closed, closed_end, gap_schedule, schedule_in, sends, turns, turns_end}
 use Rattle.bus_schedule.specs.Even.{messages_of, rounds}
-use Rattle.bus_schedule.specs.Laws.{AcceptedIsClosed, TheSettledAreAccepted, TheRefusedFail, WitnessesAreEven}
+use Rattle.bus_schedule.specs.Laws.{AcceptedIsClosed, ShortCyclesStartEarly, StartsTooEarly, TheSettledAreAccepted, TheRefusedFail, WitnessesAreEven}
 use Rattle.bus_schedule.specs.Runs.{IsClear}
 use Rattle.bus_schedule.specs.Settled.{Happens, IsKept, IsSettled, witness_hands}
 use Rattle.bus_schedule.proofs.Growing.{Setting}
 use Rattle.bus_schedule.proofs.HandLaws.{hand_here, hand_there}
-use Rattle.bus_schedule.proofs.HandLemmas.{stations}
+use Rattle.bus_schedule.proofs.HandLemmas.{station, stations}
 use Rattle.bus_schedule.proofs.Meeting.{clear_or_overlap}
-use Rattle.bus_schedule.proofs.Refusing.{gaps_hold, cycle_holds}
-use Rattle.bus_schedule.proofs.RunLemmas.{setting_of, stations_of_even}
+use Rattle.bus_schedule.proofs.Places.{get_right, turns_are_round}
+use Rattle.bus_schedule.proofs.Refusing.{gaps_hold, cycle_holds, early}
+use Rattle.bus_schedule.proofs.RunLemmas.{closed_is_orderly, setting_of, stations_of_even}
 
 -- items that fit a valid table give hands
 abbrev pub GivesHands : Type 0
@@ -93,7 +95,7 @@ filled table facts sender (suc zero) i less = ap (λ (hand : List Message). bits
     ∙ filling_length table.mode sender
 filled table facts sender (suc (suc round)) i less = absurd (omega arith)
 
-module _ (settled : ChainSettled) (step : ChainStep) (tells : ChainDue) (starting : ChainStarts) (give : GivesHands) where
+module _ (give : GivesHands) where
   not_lawful : (table : Table) (mode : Mode) → table.mode ≡ mode → IsTrue (is_valid table) → is_accepted (verdict_of table) ≡ false
       → (horizon : ℕ)
       → IsLawful (quiet_of table) (stations table (messages_of (witness_hands table))) horizon
@@ -104,13 +106,12 @@ module _ (settled : ChainSettled) (step : ChainStep) (tells : ChainDue) (startin
       let hands : List Hand = witness_hands table in
       let setting : Setting table (messages_of (witness_hands table)) 2 = subst (Setting table (messages_of (witness_hands table)))
       (two_rounds table facts) (setting_of table (witness_hands table) valid (witnesses_are_even give table valid)) in
-      cycle_holds settled step tells starting table (messages_of (witness_hands table)) setting (filled table facts) (turn_order table)
-      refl horizon is (refused_cycle table is refused) law clear
+      cycle_holds table (messages_of (witness_hands table)) setting (filled table facts) (turn_order table) refl horizon is (refused_cycle table is refused) law
   not_lawful table Periodic is valid refused horizon law clear =
       let facts = valid_facts table valid in
       let setting : Setting table (messages_of (witness_hands table)) 2 = subst (Setting table (messages_of (witness_hands table)))
       (two_rounds table facts) (setting_of table (witness_hands table) valid (witnesses_are_even give table valid)) in
-      gaps_hold settled step tells starting table (messages_of (witness_hands table)) setting (filled table facts) is horizon
+      gaps_hold table (messages_of (witness_hands table)) setting (filled table facts) is horizon
       (refused_gaps table is refused) law clear
 
   -- the closed schedule of a refused table's witness isn't both
@@ -133,6 +134,49 @@ module _ (settled : ChainSettled) (step : ChainStep) (tells : ChainDue) (startin
     | inl clear ↦ inl (λ law. not_both table valid refused law clear)
     | inr overlap ↦ inr overlap
   ]
+
+  -- at the second start of the first sender, where the cycle is too short
+  pub short_cycles_start_early : ShortCyclesStartEarly
+  short_cycles_start_early table valid mode refused = by_order (turn_order table) refl
+    where
+      setting : Setting table (messages_of (witness_hands table)) 2
+      setting = subst (Setting table (messages_of (witness_hands table))) (two_rounds table (valid_facts table valid))
+          (setting_of table (witness_hands table) valid (witnesses_are_even give table valid))
+
+      none : (senders : List Sender) → 0 < length senders → ((a : Sender) → In a senders → ⊥) → ⊥
+      none [] some h = omega arith
+      none (a ∷ senders) some h = h a (inl refl)
+
+      by_order : (order : List Sender) → turn_order table ≡ order → StartsTooEarly table
+      by_order [] e = absurd (none table.senders (valid_facts table valid).some (λ a i. subst (λ o. In a o) e (in_sort (turn_key table.mode) table.senders a i)))
+      by_order (a ∷ order) e =
+          let hands : List Hand = witness_hands table in
+          let from : ℕ = turns_end (messages_of (witness_hands table)) 0 (a ∷ order) 0 + table.sg in
+          let two : closed table (witness_hands table) ≡ gap_schedule (messages_of (witness_hands table)) table.sg (λ _. a ∷ order) 2 =
+          ap (λ m. schedule_in m table (messages_of (witness_hands table)) (rounds (witness_hands table))) mode
+          ∙ ap (gap_schedule (messages_of (witness_hands table)) table.sg (λ _. turn_order table)) (two_rounds table (valid_facts table valid))
+          ∙ ap (λ o. gap_schedule (messages_of (witness_hands table)) table.sg (λ _. o) 2) e in
+          let long : length (turns (messages_of (witness_hands table)) 0 (a ∷ order) 0) ≡ length table.senders =
+          (turns_are_round (messages_of (witness_hands table)) 0 (a ∷ order) 0).whole ∙ ap length (sym e) ∙ length-sort (turn_key table.mode) table.senders in
+          record {
+            first = a;
+            in_turn = ap (λ o. slice_get o 0) e;
+            again = sends (messages_of (witness_hands table)) 1 a (turns_end (messages_of (witness_hands table)) 0 (a ∷ order) 0 + table.sg + a.tg);
+            at = ap (λ l. slice_get l (length table.senders)) two
+                ∙ ap (slice_get (gap_schedule (messages_of (witness_hands table)) table.sg (λ _. a ∷ order) 2)) (let k : length table.senders ≡ length table.senders + 0 = omega arith in k)
+                ∙ get_right (turns (messages_of (witness_hands table)) 0 (a ∷ order) 0)
+                (turns (messages_of (witness_hands table)) 1 (a ∷ order) (turns_end (messages_of (witness_hands table)) 0 (a ∷ order) 0 + table.sg)) (length table.senders) 0 long;
+            terminal = refl;
+            early = λ s there same due.
+                let mine : In s (stations table (messages_of (witness_hands table))) = subst (In s) (stations_of_even table (witness_hands table) valid (witnesses_are_even give table valid)) there in
+                let own : In (station table (messages_of (witness_hands table)) a) (stations table (messages_of (witness_hands table))) =
+                in_map (station table (messages_of (witness_hands table))) table.senders a (from_sort (turn_key table.mode) table.senders a (subst (λ o. In a o) (sym e) (inl refl))) in
+                let is : s ≡ station table (messages_of (witness_hands table)) a = setting.dealt.numbers s (station table (messages_of (witness_hands table)) a) mine own same in
+                early table (messages_of (witness_hands table)) setting (filled table (valid_facts table valid)) a order e mode (refused_cycle table mode refused)
+                (subst IsAscending two (closed_is_orderly table (witness_hands table) valid (witnesses_are_even give table valid)).ascends)
+                (subst (λ l. IsDue (quiet_of table) l (station table (messages_of (witness_hands table)) a) (turns_end (messages_of (witness_hands table)) 0 (a ∷ order) 0 + table.sg + a.tg)) two
+                (subst (λ w. IsDue (quiet_of table) (closed table (witness_hands table)) w (turns_end (messages_of (witness_hands table)) 0 (a ∷ order) 0 + table.sg + a.tg)) is due));
+          }
 
   pub the_settled_are_accepted : AcceptedIsClosed → TheSettledAreAccepted
   the_settled_are_accepted runs table valid = (

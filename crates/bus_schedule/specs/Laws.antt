@@ -5,10 +5,12 @@ use Rattle.bus_strings.specs.Members.{In}
 use Rattle.bus_strings.specs.Messages.{Message, Entry}
 use Rattle.bus_strings.specs.Transmissions.{end_of, IsAscending}
 use Rattle.bus_table.specs.declared.mode.Mode.TheVariants.{Aperiodic, Periodic}
-use Rattle.bus_table.specs.Tables.{Table, Hand}
+use Rattle.bus_table.specs.Tables.{Sender, Table, Hand}
 use Rattle.bus_table.specs.Hands.{are_hands}
+use Rattle.bus_table.specs.Turns.{turn_order}
 use Rattle.bus_table.specs.Valid.{is_valid}
-use Rattle.bus_medium.specs.Lawful.{IsLawful}
+use Rattle.bus_medium.specs.Delays.{Delays, AreDelays}
+use Rattle.bus_medium.specs.Lawful.{Station, IsDue, IsLawful}
 use Rattle.bus_medium.specs.Timings.{quiet_of, stations_of}
 use Rattle.bus_regime.specs.Gaps.{Gap, gaps}
 use Rattle.bus_regime.specs.Verdicts.{most_cycle, verdict_of, is_accepted}
@@ -18,6 +20,8 @@ use Rattle.bus_schedule.specs.Closed.{origin, turns_end, closed, closed_end}
 use Rattle.bus_schedule.specs.Live.{live, live_rounds, AreLong}
 use Rattle.bus_schedule.specs.Limits.{longest_end}
 use Rattle.bus_schedule.specs.Runs.{IsClear, IsInTurns, IsRun}
+use Rattle.bus_schedule.specs.CableRuns.{IsRunOnCable}
+use Rattle.bus_schedule.specs.Slack.{gaps_bear}
 use Rattle.bus_schedule.specs.Settled.{Fails, IsSettled, witness_hands}
 
 -- For an accepted table in either mode and even hands, of any length, the closed schedule is the run.
@@ -100,3 +104,31 @@ WitnessesAreEven = (table : Table) → IsTrue (is_valid table) → IsTrue (are_e
 
 abbrev pub WitnessesAreShort : Type 0
 WitnessesAreShort = (table : Table) → IsTrue (is_valid table) → closed_end table (witness_hands table) ≤ longest_end
+
+-- For an accepted periodic table and even hands of any length, with delays up to what its gaps bear, the closed schedule is the run on the
+-- cable.
+abbrev pub BorneGapsAreClosed : Type 0
+BorneGapsAreClosed =
+    (table : Table) (hands : List Hand) (most : ℕ) (delay : Delays) → IsTrue (is_valid table) → table.mode ≡ Periodic
+    → IsTrue (is_accepted (verdict_of table)) → IsTrue (are_even table hands) → AreDelays most delay → IsTrue (gaps_bear table most)
+    → IsRunOnCable table hands most delay (closed table hands)
+
+-- The gaps of every accepted periodic table bear no delay.
+abbrev pub AcceptedGapsBearNone : Type 0
+AcceptedGapsBearNone =
+    (table : Table) → IsTrue (is_valid table) → table.mode ≡ Periodic → IsTrue (is_accepted (verdict_of table)) → IsTrue (gaps_bear table 0)
+
+-- With the hands of its witness the first sender in turn order starts a second time in the closed schedule where it isn't due.
+pub record StartsTooEarly (table : Table) : Type 0 where
+  pub first : Sender
+  pub in_turn : slice_get (turn_order table) 0 ≡ Some first
+  pub again : Entry
+  pub at : slice_get (closed table (witness_hands table)) (length table.senders) ≡ Some again
+  pub terminal : again.terminal ≡ first.number
+  pub early : (station : Station) → In station (stations_of table (witness_hands table)) → station.number ≡ first.number
+      → IsDue (quiet_of table) (closed table (witness_hands table)) station again.moment → ⊥
+
+-- So it is for every aperiodic table that isn't accepted.
+abbrev pub ShortCyclesStartEarly : Type 0
+ShortCyclesStartEarly =
+    (table : Table) → IsTrue (is_valid table) → table.mode ≡ Aperiodic → is_accepted (verdict_of table) ≡ false → StartsTooEarly table

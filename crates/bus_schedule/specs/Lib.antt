@@ -4,6 +4,8 @@ pub mod Closed
 pub mod Live
 pub mod Places
 pub mod Runs
+pub mod CableRuns
 pub mod Settled
 pub mod Laws
 pub mod Limits
+pub mod Slack

@@ -1,6 +1,7 @@
 //! Laws of the definitions, each the contract of a function that does nothing.
 ghost use Rattle.bus_schedule.specs.Laws.{AcceptedIsClosed, ClosedEndsInCycles, ClosedIsOrderly, EvenHandsAgree, GapsAreLeft};
 ghost use Rattle.bus_schedule.specs.Laws.{EvenRoundsAreClosed, LiveRoundsAreLawful, LiveRoundsEnd};
+ghost use Rattle.bus_schedule.specs.Laws.{BorneGapsAreClosed, AcceptedGapsBearNone, ShortCyclesStartEarly};
 ghost use Rattle.bus_schedule.specs.Laws.{TheSettledAreAccepted, TheRefusedFail, WitnessesAreEven, WitnessesAreShort};
 
 use bus_medium::laws::{chains_tell, one_lawful_list};
@@ -28,6 +29,14 @@ pub fn accepted_is_closed()
     one_lawful_list();
 }
 
+/// For an accepted periodic table and even hands, of any length, on a cable with delays up to what its gaps bear
+/// (`specs/Slack.antt`), the closed schedule is the one lawful list up to the closed end, in turns and one transmit interval
+/// apart, and no terminal hears two of its transmissions overlap. The gaps of every accepted periodic table bear no delay.
+pub fn borne_gaps_are_closed()
+    ensures closed { BorneGapsAreClosed }
+    ensures none { AcceptedGapsBearNone }
+{}
+
 /// The closed schedule of any table and even hands, accepted or not, ascends and holds each sender once a cycle; in aperiodic
 /// mode it has no overlap.
 pub fn closed_is_orderly()
@@ -52,12 +61,13 @@ pub fn even_hands_agree()
 {}
 
 /// The verdict accepts exactly the settled tables (`specs/Settled.antt`): those of which the closed schedule is what the bus does,
-/// without overlaps, whatever even hands the senders have. A table that isn't accepted fails with the hands of its witness.
+/// without overlaps, whatever even hands the senders have. A table that isn't accepted fails with the hands of its witness, an
+/// aperiodic one at the second start of the first sender in turn order.
 pub fn verdicts_are_exact()
     ensures settled { TheSettledAreAccepted }
     ensures refused { TheRefusedFail }
+    ensures early { ShortCyclesStartEarly }
 {
-    chains_tell();
     fitting_items_give_hands();
     accepted_is_closed();
 }
