@@ -6,6 +6,7 @@ pub mod Rounding
 pub mod Clearing
 pub mod JoinLemmas
 pub mod Staying
+pub mod Sooner
 pub mod Wandering
 pub mod RunLemmas
 pub mod RoomLemmas

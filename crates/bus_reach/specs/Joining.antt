@@ -11,6 +11,7 @@ use Rattle.bus_table.specs.Turns.{turn_order}
 use Rattle.bus_schedule.specs.Closed.{sends}
 use Rattle.bus_schedule.specs.Even.{messages_of, rounds}
 use Rattle.bus_medium.specs.Delays.{Delays, heard_end}
+use Rattle.bus_medium.specs.Wakes.{Wakes}
 
 -- the turns of a round: each sends the next message of its hand
 abbrev pub grow_turns : Delays → (ℕ → List Message) → (ℕ → ℕ) → List Sender → (ℕ → ℕ) → List Entry
@@ -26,11 +27,11 @@ grow_heard delay messages count (sender ∷ order) from =
     grow_heard delay messages count order (heard_end delay (sends messages (count sender.number) sender (from sender.number + sender.tg)))
 
 -- whether a sender hears the beginning of this transmission no earlier than it wakes
-abbrev pub hears_awake : Delays → (ℕ → ℕ) → Entry → Sender → Bool
+abbrev pub hears_awake : Delays → Wakes → Entry → Sender → Bool
 hears_awake delay wake x sender = nat_le (wake sender.number) (x.moment + delay x sender.number)
 
 -- the senders of a round: the first in turn order, and those of the others that hear its transmission awake
-abbrev pub members : Delays → (ℕ → ℕ) → (ℕ → List Message) → (ℕ → ℕ) → List Sender → (ℕ → ℕ) → List Sender
+abbrev pub members : Delays → Wakes → (ℕ → List Message) → (ℕ → ℕ) → List Sender → (ℕ → ℕ) → List Sender
 members delay wake messages count [] from = []
 members delay wake messages count (first ∷ others) from =
     first ∷ filter (hears_awake delay wake (sends messages (count first.number) first (from first.number + first.tg))) others
@@ -42,7 +43,7 @@ pub record Growth : Type 0 where
   pub list : List Entry
 
 -- a round more, one synchronization gap later
-abbrev pub grow_on : Delays → (ℕ → ℕ) → (ℕ → List Message) → ℕ → List Sender → Growth → Growth
+abbrev pub grow_on : Delays → Wakes → (ℕ → List Message) → ℕ → List Sender → Growth → Growth
 grow_on delay wake messages sg order growth = record {
   from = λ number. grow_heard delay messages growth.count (members delay wake messages growth.count order growth.from) growth.from number + sg;
   count = λ number. growth.count number
@@ -51,22 +52,33 @@ grow_on delay wake messages sg order growth = record {
 }
 
 -- so many rounds
-abbrev pub grown : Delays → (ℕ → ℕ) → (ℕ → List Message) → ℕ → List Sender → ℕ → Growth
+abbrev pub grown : Delays → Wakes → (ℕ → List Message) → ℕ → List Sender → ℕ → Growth
 grown delay wake messages sg order zero = record { from = wake; count = λ _. 0; list = [] }
 grown delay wake messages sg order (suc n) = grow_on delay wake messages sg order (grown delay wake messages sg order n)
 
 -- the senders of a round, counted from 0
-abbrev pub round_members : Delays → (ℕ → ℕ) → Table → List Hand → ℕ → List Sender
+abbrev pub round_members : Delays → Wakes → Table → List Hand → ℕ → List Sender
 round_members delay wake table hands round =
     members delay wake (messages_of hands) (grown delay wake (messages_of hands) table.sg (turn_order table) round).count (turn_order table)
     (grown delay wake (messages_of hands) table.sg (turn_order table) round).from
 
+-- The turns of a round, counted from 0.
+abbrev pub round_turns : Delays → Wakes → Table → List Hand → ℕ → List Entry
+round_turns delay wake table hands round =
+    grow_turns delay (messages_of hands) (grown delay wake (messages_of hands) table.sg (turn_order table) round).count
+    (round_members delay wake table hands round) (grown delay wake (messages_of hands) table.sg (turn_order table) round).from
+
+-- The sender isn't in the round before this one.
+abbrev pub IsNewIn : (ℕ → List Sender) → ℕ → Sender → Type 0
+IsNewIn members_of zero sender = Unit {0}
+IsNewIn members_of (suc round) sender = In sender (members_of round) → ⊥
+
 -- the senders of the first round
-abbrev pub founders : Delays → (ℕ → ℕ) → Table → List Hand → List Sender
+abbrev pub founders : Delays → Wakes → Table → List Hand → List Sender
 founders delay wake table hands = members delay wake (messages_of hands) (λ _. 0) (turn_order table) wake
 
 -- the growing schedule of a table and even hands: as many rounds as the first sender has messages
-abbrev pub growing : Delays → (ℕ → ℕ) → Table → List Hand → List Entry
+abbrev pub growing : Delays → Wakes → Table → List Hand → List Entry
 growing delay wake table hands = (grown delay wake (messages_of hands) table.sg (turn_order table) (rounds hands)).list
 
 -- none of the other senders wakes earlier than the first in turn order by more than `most`

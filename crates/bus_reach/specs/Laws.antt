@@ -1,5 +1,5 @@
 -- What follows of the definitions.
-use Rattle.std.specs.Prelude.{◌≡◌, ◌==◌, ◌||◌, ℕ, suc, ◌<◌, ◌≤◌, ◌⊎◌, false, IsTrue, List, length}
+use Rattle.std.specs.Prelude.{◌≡◌, ◌==◌, ◌||◌, ℕ, suc, ◌+◌, ◌*◌, ◌<◌, ◌≤◌, ◌⊎◌, false, IsTrue, List, length}
 use Rattle.bus_strings.specs.Marking.{greatest_end}
 use Rattle.bus_strings.specs.Members.{In}
 use Rattle.bus_strings.specs.Messages.{Entry}
@@ -8,7 +8,7 @@ use Rattle.bus_table.specs.Tables.{Sender, Table, Hand}
 use Rattle.bus_table.specs.Turns.{turn_order}
 use Rattle.bus_table.specs.Valid.{is_valid}
 use Rattle.bus_medium.specs.Timings.{quiet_of, stations_of}
-use Rattle.bus_regime.specs.Verdicts.{verdict_of, is_accepted}
+use Rattle.bus_regime.specs.Verdicts.{verdict_of, is_accepted, most_cycle}
 use Rattle.bus_schedule.specs.Closed.{closed}
 use Rattle.bus_schedule.specs.Even.{are_even, rounds}
 use Rattle.bus_schedule.specs.Live.{shortest_cycle}
@@ -19,9 +19,9 @@ use Rattle.bus_medium.specs.CableLawful.{IsLawfulOnCable}
 use Rattle.bus_reach.specs.Schedule.{cable_closed}
 use Rattle.bus_reach.specs.Bearing.{bears}
 use Rattle.bus_reach.specs.Tolerance.{neighbours_leave_room}
-use Rattle.bus_reach.specs.Runs.{IsCableRun}
+use Rattle.bus_reach.specs.Runs.{IsCableRun, cycle_delay}
 use Rattle.bus_reach.specs.Cables.{FailsOnCable}
-use Rattle.bus_reach.specs.Joining.{round_members, founders, growing, IsFirstAwake}
+use Rattle.bus_reach.specs.Joining.{round_members, round_turns, IsNewIn, founders, growing, IsFirstAwake}
 
 -- Without delays, where all wake at the settled start, the closed schedule is that of `bus_schedule`.
 abbrev pub NoDelayIsClosed : Type 0
@@ -66,6 +66,16 @@ MembersStay =
     (table : Table) (hands : List Hand) (most : ℕ) (delay : Delays) (wake : Wakes) (round : ℕ) (sender : Sender) → IsTrue (is_valid table)
     → table.mode ≡ Aperiodic → AreDelays most delay → IsTrue (bears table most) → In sender (round_members delay wake table hands round)
     → In sender (round_members delay wake table hands (suc round))
+
+-- Whoever takes its turn in a round and took none in the one before starts in it less than two longest cycles behind its wake, each with what
+-- the delays add to it.
+abbrev pub JoinersComeSoon : Type 0
+JoinersComeSoon =
+    (table : Table) (hands : List Hand) (most : ℕ) (delay : Delays) (wake : Wakes) (round : ℕ) (sender : Sender) (x : Entry)
+    → IsTrue (is_valid table) → IsTrue (are_even table hands) → round < rounds hands → AreDelays most delay
+    → IsFirstAwake most wake (turn_order table) → In sender table.senders → IsNewIn (round_members delay wake table hands) round sender
+    → In x (round_turns delay wake table hands round) → x.terminal ≡ sender.number
+    → x.moment < wake sender.number + 2 * (most_cycle table + cycle_delay table most)
 
 -- What a table bears is told by neighbours in turn order.
 abbrev pub NeighboursTell : Type 0

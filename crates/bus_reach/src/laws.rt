@@ -1,5 +1,5 @@
 //! Laws of the definitions, each the contract of a function that does nothing.
-ghost use Rattle.bus_reach.specs.Laws.{BorneIsClosed, JoiningIsOrderly, MembersStay, NeighboursTell, NoDelayIsClosed, ToleranceIsExact};
+ghost use Rattle.bus_reach.specs.Laws.{BorneIsClosed, JoinersComeSoon, JoiningIsOrderly, MembersStay, NeighboursTell, NoDelayIsClosed, ToleranceIsExact};
 ghost use Rattle.bus_reach.specs.Settling.{AnyStartSettles, LongHandsLast, StartsItselfIsAccepted};
 
 /// Without delays, and where all wake at the settled start, the closed schedule is that of `bus_schedule`.
@@ -31,6 +31,7 @@ pub fn tolerance_is_exact()
 pub fn joining_is_orderly()
     ensures run { JoiningIsOrderly }
     ensures stay { MembersStay }
+    ensures soon { JoinersComeSoon }
 {}
 
 /// A table that starts itself settles without a master: whenever its senders were powered up, and whatever they sent at once until
