@@ -14,6 +14,7 @@ pub mod ToleranceLemmas
 pub mod Beginnings
 pub mod Failing
 pub mod Exact
+pub mod Keeping
 pub mod Neighbours
 pub mod Plain
 pub mod Minding

@@ -1,10 +1,9 @@
--- What a table bears, by its mode.
+-- What an aperiodic table bears.
 use Rattle.std.proofs.Common.{◌≡◌, ℕ, ap}
-use Rattle.std.specs.Prelude.{◌==◌, ◌||◌, length}
 use Rattle.bus_table.specs.declared.mode.Mode.TheVariants.{Aperiodic}
 use Rattle.bus_table.specs.Tables.{Table}
 use Rattle.bus_reach.specs.Bearing.{bears, bears_in}
-use Rattle.bus_reach.specs.Tolerance.{bears_aperiodic}
+use Rattle.bus_reach.specs.Tolerance.{lengths_bear}
 
-pub in_aperiodic : (table : Table) (d : ℕ) → table.mode ≡ Aperiodic → bears table d ≡ bears_aperiodic table d
-in_aperiodic table d mode = ap (λ m. (length table.senders == 1) || bears_in m table d) mode
+pub in_aperiodic : (table : Table) (d : ℕ) → table.mode ≡ Aperiodic → bears table d ≡ lengths_bear table d
+in_aperiodic table d mode = ap (λ m. bears_in m table d) mode

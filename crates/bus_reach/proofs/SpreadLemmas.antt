@@ -11,7 +11,7 @@ use Rattle.bus_table.specs.Turns.{turn_key, turn_order}
 use Rattle.bus_table.proofs.TurnLaws.{of_each, length-sort}
 use Rattle.bus_medium.specs.Delays.{Delays, AreDelays}
 use Rattle.bus_medium.specs.Wakes.{AreWakes}
-use Rattle.bus_reach.specs.Tolerance.{is_apart, leaves_room, bears_aperiodic}
+use Rattle.bus_reach.specs.Tolerance.{is_apart, leaves_room, lengths_bear}
 use Rattle.bus_reach.specs.Runs.{cycle_delay}
 
 pub all_in : {X : Type 0} (p : X → Bool) (xs : List X) (x : X) → list_all p xs ≡ true → In x xs → p x ≡ true
@@ -25,7 +25,7 @@ pub record LeavesRoom (d sg : ℕ) (senders : List Sender) (a : Sender) : Type 0
   pub short : a.tg + 2 * d < sg
   pub apart : (b : Sender) → In b senders → a.tg < b.tg → a.tg + 2 * d < b.tg
 
-or_true : (a b : Bool) → (a || b) ≡ true → (a ≡ true) ⊎ (b ≡ true)
+pub or_true : (a b : Bool) → (a || b) ≡ true → (a ≡ true) ⊎ (b ≡ true)
 or_true true b h = inl refl
 or_true false b h = inr h
 
@@ -70,7 +70,7 @@ pub record HasTolerance (table : Table) (most : ℕ) (delay : Delays) : Type 0 w
   pub roomy : (1 < length table.senders) ⊎ (most ≤ table.sg) → (most ≤ spread) ⊎ ((length (turn_order table) ≡ 1) × (most ≤ table.sg))
   pub either : (length table.senders ≡ 1) ⊎ (spread ≡ most)
 
-pub tolerance_of : (table : Table) (most : ℕ) (delay : Delays) → TableFacts table → AreDelays most delay → IsTrue (bears_aperiodic table most) → HasTolerance table most delay
+pub tolerance_of : (table : Table) (most : ℕ) (delay : Delays) → TableFacts table → AreDelays most delay → IsTrue (lengths_bear table most) → HasTolerance table most delay
 tolerance_of table most delay facts delays bearing =
     elim (cases_eq (length table.senders) 1) [
       | inl one ↦ record {
@@ -121,7 +121,7 @@ pub record HasSpread (table : Table) (most : ℕ) (delay : Delays) (wake : ℕ �
   pub whole : length (turn_order table) * spread ≡ cycle_delay table most
 
 pub spread_of : (table : Table) (most : ℕ) (delay : Delays) (wake : ℕ → ℕ) → TableFacts table → AreDelays most delay → AreWakes most table.senders wake
-    → IsTrue (bears_aperiodic table most) → HasSpread table most delay wake
+    → IsTrue (lengths_bear table most) → HasSpread table most delay wake
 spread_of table most delay wake facts delays wakes bearing =
     let so = tolerance_of table most delay facts delays bearing in
     elim (cases_eq (length table.senders) 1) [

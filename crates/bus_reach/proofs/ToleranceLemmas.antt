@@ -7,7 +7,7 @@ use Rattle.std.proofs.lemmas.Option.{slice_get_read}
 use Rattle.bus_table.specs.Tables.{Sender, Table}
 use Rattle.bus_table.specs.Facts.{SenderFacts, TableFacts}
 use Rattle.bus_table.proofs.TurnLaws.{of_each, at_in}
-use Rattle.bus_reach.specs.Tolerance.{leaves_room, bears_aperiodic}
+use Rattle.bus_reach.specs.Tolerance.{leaves_room, lengths_bear}
 use Rattle.bus_reach.proofs.RoomLemmas.{IsRoom}
 use Rattle.bus_reach.proofs.SpreadLemmas.{all_in, first_of_some, room_left}
 
@@ -42,12 +42,12 @@ read_facts table senders k sender facts same inside is =
     (at_in table.senders k sender (ap (λ ss. slice_get ss k) (sym same) ∙ slice_get_read senders (length senders) k sender refl inside is))
 
 pub tolerance_whole : (table : Table) (senders : List Sender) (sg room : ℕ) → TableFacts table → senders ≡ table.senders → sg ≡ table.sg → length senders ≢ 1
-    → IsRoom (λ d b. leaves_room d sg senders b) senders 256 room → (d : ℕ) → (d ≤ room) ↔ (bears_aperiodic table d ≡ true)
+    → IsRoom (λ d b. leaves_room d sg senders b) senders 256 room → (d : ℕ) → (d ≤ room) ↔ (lengths_bear table d ≡ true)
 tolerance_whole table senders sg room facts same sg_is several h d =
     let here : IsRoom (λ e b. leaves_room e table.sg table.senders b) table.senders 256 room =
     subst (λ s. IsRoom (λ e b. leaves_room e s table.senders b) table.senders 256 room) sg_is (subst (λ ss. IsRoom (λ e b. leaves_room e sg ss b) ss 256 room) same h) in
     let not_one : length table.senders ≢ 1 = λ e. several (ap length same ∙ e) in
-    let either : bears_aperiodic table d ≡ list_all (leaves_room d table.sg table.senders) table.senders =
+    let either : lengths_bear table d ≡ list_all (leaves_room d table.sg table.senders) table.senders =
     ap (λ b. b || list_all (leaves_room d table.sg table.senders) table.senders) (ne_eqb (length table.senders) 1 not_one) in (
       (λ low. either ∙ ((here d).0 low).1),
       (λ yes'.

@@ -1,5 +1,5 @@
 -- What follows of the definitions.
-use Rattle.std.specs.Prelude.{◌≡◌, ◌==◌, ◌||◌, ℕ, suc, ◌+◌, ◌*◌, ◌<◌, ◌≤◌, ◌⊎◌, false, IsTrue, List, length}
+use Rattle.std.specs.Prelude.{◌≡◌, ◌==◌, ◌||◌, ℕ, suc, ◌+◌, ◌*◌, ◌<◌, ◌≤◌, ◌⊎◌, ◌↔◌, false, IsTrue, List, length}
 use Rattle.bus_strings.specs.Marking.{greatest_end}
 use Rattle.bus_strings.specs.Members.{In}
 use Rattle.bus_strings.specs.Messages.{Entry}
@@ -41,6 +41,27 @@ abbrev pub ToleranceIsExact : Type 0
 ToleranceIsExact =
     (table : Table) (hands : List Hand) (d : ℕ) → IsTrue (is_valid table) → table.mode ≡ Aperiodic → IsTrue (is_accepted (verdict_of table))
     → IsTrue (are_even table hands) → 2 ≤ rounds hands → bears table d ≡ false → FailsOnCable table hands d
+
+-- An accepted aperiodic table keeps its schedule with delays up to d: whatever even hands its senders have, with all delays and wakes up to d,
+-- each starts where the closed schedule says, and nowhere else.
+abbrev pub KeepsSchedule : Table → ℕ → Type 0
+KeepsSchedule table d =
+    (hands : List Hand) (delay : Delays) (wake : Wakes) → IsTrue (are_even table hands) → AreDelays d delay → AreWakes d table.senders wake
+    → IsLawfulOnCable (quiet_of table) delay wake (stations_of table hands) (greatest_end (cable_closed delay wake table hands))
+    (cable_closed delay wake table hands)
+
+-- It bears exactly the delays with which it keeps its schedule.
+abbrev pub BorneIsKept : Type 0
+BorneIsKept =
+    (table : Table) (d : ℕ) → IsTrue (is_valid table) → table.mode ≡ Aperiodic → IsTrue (is_accepted (verdict_of table))
+    → IsTrue (bears table d) ↔ KeepsSchedule table d
+
+-- It bears no delay, and with one each shorter one.
+abbrev pub NoneIsBorne : Type 0
+NoneIsBorne = (table : Table) → IsTrue (is_valid table) → table.mode ≡ Aperiodic → IsTrue (bears table 0)
+
+abbrev pub ShorterIsBorne : Type 0
+ShorterIsBorne = (table : Table) (less most : ℕ) → table.mode ≡ Aperiodic → less ≤ most → IsTrue (bears table most) → IsTrue (bears table less)
 
 -- The growing schedule is what the senders do:
 --   lawful    each sender starts exactly when its three timers allow after what it heard, up to the end of the list

@@ -1,5 +1,4 @@
 pub mod Tolerance
-pub mod Slack
 pub mod Bearing
 pub mod Starting
 pub mod Schedule

@@ -39,7 +39,7 @@ fn leaves_room(d: u64, sg: u64, senders: &[Sender], a: &Sender) -> bool
 
 /// Whether an aperiodic table that the verdict accepts bears delays up to `d` bit times.
 pub(crate) fn bears(table: &Table, d: u64) -> bool
-    ensures { result ≡ reach.bears_aperiodic table.now d }
+    ensures { result ≡ reach.lengths_bear table.now d }
 {
     let senders = table.senders();
     if senders.len() == 1 {
@@ -80,7 +80,7 @@ fn room_above(senders: &[Sender], gap: u64, most: u64) -> u64
 /// there is one sender, which bears every delay. It takes no memory.
 pub(crate) fn tolerance(table: &Table) -> Option<u64>
     ensures alone { IsNone result ↔ (length table.now.senders ≡ 1) }
-    ensures greatest { IfSome result (λ most. (d : ℕ) → (d ≤ most) ↔ IsTrue (reach.bears_aperiodic table.now d)) }
+    ensures greatest { IfSome result (λ most. (d : ℕ) → (d ≤ most) ↔ IsTrue (reach.lengths_bear table.now d)) }
 {
     let senders = table.senders();
     if senders.len() == 1 {

@@ -1,6 +1,8 @@
 //! Laws of the definitions, each the contract of a function that does nothing.
-ghost use Rattle.bus_reach.specs.Laws.{BorneIsClosed, JoinersComeSoon, JoiningIsOrderly, MembersStay, NeighboursTell, NoDelayIsClosed, ToleranceIsExact};
+ghost use Rattle.bus_reach.specs.Laws.{BorneIsClosed, BorneIsKept, JoinersComeSoon, JoiningIsOrderly, MembersStay, NeighboursTell, NoDelayIsClosed, NoneIsBorne, ShorterIsBorne, ToleranceIsExact};
 ghost use Rattle.bus_reach.specs.Settling.{AnyStartSettles, LongHandsLast, StartsItselfIsAccepted};
+
+use bus_schedule::laws::witnesses_have_schedules;
 
 /// Without delays, and where all wake at the settled start, the closed schedule is that of `bus_schedule`.
 pub fn no_delay_is_closed()
@@ -20,9 +22,19 @@ pub fn neighbours_tell()
 {}
 
 /// No greater delays are borne: there are places on a straight cable and wakes with which the closed schedule isn't what the
-/// senders do, whatever even hands of two rounds or more they have.
+/// senders do, whatever even hands of two rounds or more they have. So what a table bears is exactly that with which it keeps
+/// its schedule.
 pub fn tolerance_is_exact()
-    ensures { ToleranceIsExact }
+    ensures fails { ToleranceIsExact }
+    ensures kept { BorneIsKept }
+{
+    witnesses_have_schedules();
+}
+
+/// Every aperiodic table bears delays up to 0, and with a delay each shorter one.
+pub fn shorter_is_borne()
+    ensures none { NoneIsBorne }
+    ensures shorter { ShorterIsBorne }
 {}
 
 /// Where no sender wakes earlier than the first in turn order, but for what the table bears, and a shortest cycle of those of the
