@@ -29,7 +29,8 @@ use Rattle.bus_medium.proofs.Hearing.{cable_looks}
 use Rattle.bus_schedule.proofs.HandLemmas.{stations, quiet_is}
 use Rattle.bus_reach.proofs.Modes.{in_aperiodic}
 use Rattle.bus_reach.proofs.Knowing.{known_none, known_ruled}
-use Rattle.bus_reach.proofs.Rounding.{total, Begin, round_on}
+use Rattle.bus_reach.proofs.RoundTurns.{total, Begin}
+use Rattle.bus_reach.proofs.Rounding.{round_on}
 use Rattle.bus_medium.proofs.Ruled.{ruled_whole}
 use Rattle.bus_medium.proofs.CableLists.{cable_once}
 use Rattle.bus_schedule.proofs.Spacing.{cycle, cycle_sum}

@@ -2,6 +2,7 @@ pub mod Modes
 pub mod Dealing
 pub mod SpreadLemmas
 pub mod Knowing
+pub mod RoundTurns
 pub mod Rounding
 pub mod Clearing
 pub mod JoinLemmas

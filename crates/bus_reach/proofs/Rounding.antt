@@ -1,21 +1,19 @@
--- The rounds of a growing schedule: each sender of a round is due when its turn comes, and no other is, whether it has spoken or isn't awake yet.
---   lo      no sender has heard all before, and none later than this by more than `spread`
---   share   of the cycle that bounds the transmit interval: what each sender's turn takes of it at least
-use Rattle.std.proofs.Common.{◌≡◌, ◌≢◌, ℕ, suc, ◌+◌, ◌*◌, ◌<◌, ◌≤◌, ◌⊎◌, max, Bool, true, false, cond, List, [], ◌∷◌, ◌++◌, length, get_or, inl, inr, arith, sym, refl, ap, ◌∙◌, subst}
+-- The rounds of a growing schedule, one behind the other: the first sender opens a round, who hears that awake takes its turn in it, and the next
+-- begins one synchronization gap later.
+use Rattle.std.proofs.Common.{◌≡◌, ◌≢◌, ℕ, suc, ◌+◌, ◌*◌, ◌<◌, ◌≤◌, max, Bool, true, false, cond, List, [], ◌∷◌, ◌++◌, get_or, inl, inr, arith, sym, refl, ap, ◌∙◌, subst}
 use Rattle.std.specs.Prelude.{◌==◌, if◌then◌else◌, nat_le}
 use Rattle.std.specs.List.{filter, list_any}
 use Rattle.std.proofs.lemmas.Bool.{eq-eqb, ne_eqb, le-leb, leb-true, cases_lt, cases_eq, cases_Bool, true≢false}
-use Rattle.std.proofs.lemmas.List.{append-nil, append_assoc, length-append}
+use Rattle.std.proofs.lemmas.List.{append_assoc}
 use Rattle.bus_strings.specs.Members.{In}
-use Rattle.bus_strings.proofs.MemberLaws.{in_append_cases, in_append_left, in_append_right, in_push_cases, in_filter, from_filter, any_in, none_any, ordered_push}
+use Rattle.bus_strings.proofs.MemberLaws.{in_push_cases, in_filter, from_filter, any_in, none_any, ordered_push}
 use Rattle.bus_strings.specs.Messages.{Message, Entry, bits}
 use Rattle.bus_strings.specs.Marking.{greatest_end}
 use Rattle.bus_strings.specs.Transmissions.{end_of, IsOrdered}
 use Rattle.bus_table.specs.declared.mode.Mode.TheVariants.{Aperiodic}
 use Rattle.bus_table.specs.Tables.{Sender, Table}
 use Rattle.bus_table.specs.Lengths.{shortest}
-use Rattle.bus_table.specs.Turns.{Rises, turn_key, turn_order}
-use Rattle.bus_table.proofs.TurnLaws.{from_sort, in_sort, order_rises, numbers_differ}
+use Rattle.bus_table.specs.Turns.{Rises, turn_order}
 use Rattle.bus_schedule.specs.Closed.{sends}
 use Rattle.bus_medium.specs.Delays.{Delays, heard_end}
 use Rattle.bus_reach.specs.Joining.{grow_turns, grow_heard, hears_awake, members}
@@ -25,402 +23,29 @@ use Rattle.bus_schedule.proofs.Greatest.{ends_within, max_within}
 use Rattle.bus_schedule.proofs.HandLemmas.{Sendable}
 use Rattle.bus_medium.proofs.CableSteps.{put_here, put_other}
 use Rattle.bus_medium.proofs.CableSteps as steps
-use Rattle.bus_reach.proofs.Knowing.{Known, Goes, goes_D, goes_G, goes_C, known_step, woken}
-use Rattle.bus_schedule.proofs.Orders.{rises_before, rises_after, same_sender}
+use Rattle.bus_reach.proofs.Knowing.{Goes, goes_D, goes_G, goes_C, known_step, woken}
+use Rattle.bus_schedule.proofs.Orders.{rises_after}
 use Rattle.bus_reach.proofs.SpreadLemmas.{IsTolerant}
-
--- the shares of all of these, and of those before the one with this number
-abbrev pub total : (Sender → ℕ) → List Sender → ℕ
-total share [] = 0
-total share (a ∷ bs) = share a + total share bs
-
-abbrev pub before : (Sender → ℕ) → List Sender → ℕ → ℕ
-before share [] n = 0
-before share (a ∷ bs) n = if n == a.number then 0 else share a + before share bs n
-
-before_here : (share : Sender → ℕ) (a : Sender) (bs : List Sender) (n : ℕ) → n ≡ a.number → before share (a ∷ bs) n ≡ 0
-before_here share a bs n e = rw (eq-eqb n a.number e) refl
-
-before_there : (share : Sender → ℕ) (a : Sender) (bs : List Sender) (n : ℕ) → n ≢ a.number → before share (a ∷ bs) n ≡ share a + before share bs n
-before_there share a bs n e = rw (ne_eqb n a.number e) refl
-
-before_middle : (share : Sender → ℕ) (prefix : List Sender) (a : Sender) (suffix : List Sender) → ((b : Sender) → In b prefix → a.number ≢ b.number)
-    → before share (prefix ++ a ∷ suffix) a.number ≡ total share prefix
-before_middle share [] a suffix h = before_here share a suffix a.number refl
-before_middle share (c ∷ prefix) a suffix h = before_there share c (prefix ++ a ∷ suffix) a.number (h c (inl refl)) ∙ ap (λ v. share c + v) (before_middle share prefix a suffix (λ b i. h b (inr i)))
-
-total_middle : (share : Sender → ℕ) (prefix : List Sender) (a : Sender) (suffix : List Sender) → total share (prefix ++ a ∷ suffix) ≡ total share prefix + (share a + total share suffix)
-total_middle share [] a suffix = omega arith
-total_middle share (c ∷ prefix) a suffix = omega (arith, total_middle share prefix a suffix)
-
--- whether it has spoken already, or isn't in this round
-abbrev pub IsOut : (Sender → Bool) → List Sender → List Sender → Sender → Type 0
-IsOut p prefix suffix b = In b prefix ⊎ (In b suffix × (p b ≡ false))
-
--- Inside a round, whose senders are those that pass p: those of the prefix have had their turn
-pub record Turn (table : Table) (hands : ℕ → List Message) (delay : Delays) (wake : ℕ → ℕ) (spread room : ℕ) (share : Sender → ℕ) (first : Sender)
-    (p : Sender → Bool) (count : ℕ → ℕ) (prefix suffix : List Sender) (from : ℕ → ℕ) (list : List Entry) : Type 0 where
-  pub lo : ℕ
-  pub t : ℕ
-  pub last : ℕ
-  pub D : ℕ → ℕ
-  pub G : ℕ → ℕ
-  pub C : ℕ → ℕ
-  pub split : turn_order table ≡ prefix ++ suffix
-  pub known : Known table hands delay wake list t last from D G C
-  pub low : (b : Sender) → In b table.senders → lo ≤ from b.number
-  pub high : (b : Sender) → In b table.senders → from b.number ≤ lo + spread
-  pub last_low : last ≤ lo
-  pub spoken : 0 < length prefix
-  pub laid : IsOrdered (λ x y. end_of x + room ≤ y.moment) list
-  pub some : (x : Entry) → In x list → 0 < end_of x
-  pub awake : wake first.number ≤ lo
-  pub settled : (b : Sender) → In b table.senders → (share b ≡ 0) ⊎ (wake b.number ≤ lo + spread)
-  pub absent : (b : Sender) → In b suffix → p b ≡ false → share b ≡ 0
-  pub waiting : (b : Sender) → In b suffix → p b ≡ true → G b.number ≡ table.sg + from b.number
-  pub idle : (b : Sender) → In b table.senders → IsOut p prefix suffix b → G b.number ≡ max (table.sg + from b.number + table.sg) (table.sg + wake b.number)
-  pub due_waiting : (b : Sender) → In b suffix → (D b.number ≤ table.sg + wake b.number) ⊎ (D b.number ≤ table.sg + lo + before share suffix b.number + b.tg)
-  pub due_idle : (b : Sender) → In b table.senders → IsOut p prefix suffix b
-      → (D b.number ≤ table.sg + wake b.number) ⊎ (D b.number ≤ table.sg + lo + total share suffix + table.sg + before share (turn_order table) b.number + b.tg)
-  pub count_waiting : (b : Sender) → In b suffix → C b.number ≡ count b.number
-  pub count_spoken : (b : Sender) → In b prefix → C b.number ≡ count b.number + (if p b then 1 else 0)
-
--- Before a round begins
-pub record Begin (table : Table) (hands : ℕ → List Message) (delay : Delays) (wake : ℕ → ℕ) (spread room : ℕ) (share : Sender → ℕ) (first : Sender)
-    (count : ℕ → ℕ) (round : ℕ) (from : ℕ → ℕ) (list : List Entry) : Type 0 where
-  pub lo : ℕ
-  pub t : ℕ
-  pub last : ℕ
-  pub E : ℕ → ℕ
-  pub D : ℕ → ℕ
-  pub G : ℕ → ℕ
-  pub C : ℕ → ℕ
-  pub known : Known table hands delay wake list t last E D G C
-  pub ended : (b : Sender) → In b table.senders → E b.number ≤ lo + spread
-  pub first_gap : G first.number ≡ table.sg + from first.number
-  pub first_low : lo ≤ from first.number
-  pub first_high : from first.number ≤ lo + spread
-  pub low : (b : Sender) → In b table.senders → table.sg + lo ≤ G b.number
-  pub high : (b : Sender) → In b table.senders → (G b.number ≤ table.sg + wake b.number) ⊎ (G b.number ≤ table.sg + lo + spread)
-  pub last_low : last ≤ lo
-  pub wide : (last ≡ 0) ⊎ (last + table.sg ≤ lo)
-  pub laid : IsOrdered (λ x y. end_of x + room ≤ y.moment) list
-  pub some : (x : Entry) → In x list → 0 < end_of x
-  pub due : (b : Sender) → In b table.senders
-      → (D b.number ≤ table.sg + wake b.number) ⊎ (D b.number ≤ table.sg + lo + before share (turn_order table) b.number + b.tg)
-  pub absent : (b : Sender) → In b table.senders → hears_awake delay wake (sends hands (count first.number) first (from first.number + first.tg)) b ≡ false → share b ≡ 0
-  pub count_is : (b : Sender) → In b table.senders → C b.number ≡ count b.number
-  pub count_most : (b : Sender) → In b table.senders → count b.number ≤ round
-
-max_above : (a b : ℕ) → b ≤ a → a ≡ max a b
-max_above a b h = grind arith
+use Rattle.bus_reach.proofs.RoundTurns as turns
+use Rattle.bus_reach.proofs.RoundTurns.{total, before, before_here, before_there, IsOut, Turn, Begin, max_above}
 
 module _ (table : Table) (hands : ℕ → List Message) (n : ℕ) (setting : Setting table hands n) (mode : table.mode ≡ Aperiodic) (delay : Delays) (wake : ℕ → ℕ) (spread room : ℕ)
     (tolerant : IsTolerant table delay spread room) (share : Sender → ℕ) (share_most : (b : Sender) → share b ≤ b.tg + shortest b)
     (long : table.ti ≤ table.sg + total share (turn_order table)) (first : Sender) (others : List Sender) (order_is : turn_order table ≡ first ∷ others) where
   of_order : (b : Sender) → In b (turn_order table) → In b table.senders
-  of_order b i = from_sort (turn_key table.mode) table.senders b i
+  of_order = turns.of_order table hands n setting mode delay wake spread room tolerant share share_most long first others order_is
 
   in_order : (b : Sender) → In b table.senders → In b (turn_order table)
-  in_order b i = in_sort (turn_key table.mode) table.senders b i
+  in_order = turns.in_order table hands n setting mode delay wake spread room tolerant share share_most long first others order_is
 
   same : (a b : Sender) → In a table.senders → In b table.senders → b.number ≡ a.number → b ≡ a
-  same a b i j e = same_sender (λ c. c.number) table.senders b a (numbers_differ table setting.dealt.facts) j i e
+  same = turns.same table hands n setting mode delay wake spread room tolerant share share_most long first others order_is
 
   rises : Rises (λ b. b.tg) (turn_order table)
-  rises = subst (λ m. Rises (turn_key m) (turn_order table)) mode (order_rises table setting.dealt.facts)
+  rises = turns.rises table hands n setting mode delay wake spread room tolerant share share_most long first others order_is
 
-  -- senders with other terminal gaps have other numbers
   apart : (a b : Sender) → In a table.senders → In b table.senders → a.tg < b.tg → b.number ≢ a.number
-  apart a b i j less e = let s : b.tg ≡ a.tg = ap (λ (c : Sender). c.tg) (same a b i j e) in omega arith
-
-  -- a turn
-  module _ (p : Sender → Bool) (count : ℕ → ℕ) (prefix : List Sender) (a : Sender) (suffix : List Sender) (from : ℕ → ℕ) (list : List Entry)
-      (most : (b : Sender) → In b table.senders → count b.number < n) (member : p a ≡ true)
-      (t : Turn table hands delay wake spread room share first p count prefix (a ∷ suffix) from list) where
-    up : Rises (λ b. b.tg) (prefix ++ a ∷ suffix)
-    up = subst (λ o. Rises (λ b. b.tg) o) t.split rises
-
-    in_prefix : (b : Sender) → In b prefix → In b table.senders
-    in_prefix b i = of_order b (subst (λ o. In b o) (sym t.split) (in_append_left prefix (a ∷ suffix) b i))
-
-    in_suffix : (b : Sender) → In b (a ∷ suffix) → In b table.senders
-    in_suffix b i = of_order b (subst (λ o. In b o) (sym t.split) (in_append_right prefix (a ∷ suffix) b i))
-
-    there : In a table.senders
-    there = in_suffix a (inl refl)
-
-    apart_prefix : (b : Sender) → In b prefix → b.number ≢ a.number
-    apart_prefix b i e = apart b a (in_prefix b i) there (rises_before (λ c. c.tg) prefix a suffix b up i) (sym e)
-
-    apart_suffix : (b : Sender) → In b suffix → b.number ≢ a.number
-    apart_suffix b i = apart a b there (in_suffix b (inr i)) (rises_after (λ c. c.tg) prefix a suffix b up i)
-
-    x : Entry
-    x = sends hands (count a.number) a (from a.number + a.tg)
-
-    message : Sendable a (hands a.number) (count a.number) (get_or (hands a.number) (count a.number) [])
-    message = sendable table hands n setting a (count a.number) there (most a there)
-
-    lag : (b : Sender) → In b table.senders → delay (sends hands (count a.number) a (from a.number + a.tg)) b.number ≤ spread
-    lag b i = tolerant.delays a b (sends hands (count a.number) a (from a.number + a.tg)) there i refl
-
-    no_lag : delay (sends hands (count a.number) a (from a.number + a.tg)) a.number ≡ 0
-    no_lag = tolerant.own (sends hands (count a.number) a (from a.number + a.tg))
-
-    gap_is : t.G a.number ≡ table.sg + from a.number
-    gap_is = t.waiting a (inl refl) member
-
-    -- one that is out waits for a synchronization gap
-    waits : (b : Sender) → In b table.senders → IsOut p prefix suffix b → table.sg + (from a.number + a.tg + delay (sends hands (count a.number) a (from a.number + a.tg)) b.number) < t.G b.number
-    waits b i out =
-        let is : t.G b.number ≡ max (table.sg + from b.number + table.sg) (table.sg + wake b.number) = t.idle b i (elim out [ inl spoken ↦ inl spoken | inr not ↦ inr (inr not.0, not.1) ]) in
-        let low : t.lo ≤ from b.number = t.low b i in
-        let high : from a.number ≤ t.lo + spread = t.high a there in
-        let d : delay (sends hands (count a.number) a (from a.number + a.tg)) b.number ≤ spread = lag b i in
-        let k : a.tg + 2 * spread < table.sg = tolerant.short a there in
-        omega (arith, (max_within (table.sg + from b.number + table.sg) (table.sg + wake b.number)).0)
-
-    cases : (b : Sender) → In b table.senders → b.number ≢ a.number → IsOut p prefix suffix b ⊎ (In b suffix × (p b ≡ true))
-    cases b i other =
-        elim (in_append_cases prefix (a ∷ suffix) b (subst (λ o. In b o) t.split (in_order b i))) [
-          | inl spoken ↦ inl (inl spoken)
-          | inr waits ↦ elim waits [
-            | inl here ↦ absurd (other (ap (λ (c : Sender). c.number) here))
-            | inr later ↦ elim (cases_Bool (p b)) [
-              | inl yes' ↦ inr (later, yes')
-              | inr no' ↦ inl (inr (later, no'))
-            ]
-          ]
-        ]
-
-    goes : Goes table hands delay n t.last from t.D t.G t.C a (count a.number) (from a.number + a.tg)
-    goes =
-        let low : t.lo ≤ from a.number = t.low a there in
-        let last_low : t.last ≤ t.lo = t.last_low in
-        let woken : table.sg + wake a.number ≤ t.G a.number = woken table hands delay wake list t.t t.last from t.D t.G t.C t.known a there in
-        record {
-          behind = omega arith;
-          ready = λ b i.
-              let h : from b.number ≤ t.lo + spread = t.high b i in
-              let k : spread ≤ a.tg = tolerant.least a there in
-              omega arith;
-          interval = elim (t.due_waiting a (inl refl)) [
-            | inl never ↦ omega (arith, gap_is)
-            | inr before_now ↦ omega (arith, before_here share a suffix a.number refl)
-          ];
-          terminal = omega (arith, gap_is);
-          slow = λ b i other. elim (cases b i other) [
-            | inl out ↦ inl (omega (arith, waits b i out))
-            | inr later ↦
-                let g : t.G b.number ≡ table.sg + from b.number = t.waiting b (inr later.0) later.1 in
-                let low_b : t.lo ≤ from b.number = t.low b i in
-                let high : from a.number ≤ t.lo + spread = t.high a there in
-                let d : delay (sends hands (count a.number) a (from a.number + a.tg)) b.number ≤ spread = lag b i in
-                let k : a.tg + 2 * spread < b.tg = tolerant.apart a b there i (rises_after (λ c. c.tg) prefix a suffix b up later.0) in
-                inl (omega arith)
-          ];
-          turn = t.count_waiting a (inl refl);
-          left = most a there;
-        }
-
-    laid_then : IsOrdered (λ y z. end_of y + room ≤ z.moment) (list ++ sends hands (count a.number) a (from a.number + a.tg) ∷ [])
-    laid_then = ordered_push (λ y z. end_of y + room ≤ z.moment) list (sends hands (count a.number) a (from a.number + a.tg)) t.laid (λ y i.
-        let ended : end_of y ≤ greatest_end list = ends_within list y i in
-        let last_is : greatest_end list ≡ t.last = t.known.ends in
-        let last_low : t.last ≤ t.lo = t.last_low in
-        let low : t.lo ≤ from a.number = t.low a there in
-        let k : spread ≤ a.tg = tolerant.least a there in
-        elim tolerant.fits [
-          | inl within ↦ omega arith
-          | inr alone ↦
-              let one : length (turn_order table) ≡ 1 = alone.0 in
-              let spoken : 0 < length prefix = t.spoken in
-              absurd (omega (arith, ap length t.split, length-append prefix (a ∷ suffix)))
-        ])
-
-    -- those that are out stay out, and this one now is
-    idle_then : (b : Sender) → In b table.senders → IsOut p (prefix ++ a ∷ []) suffix b
-        → goes_G table delay wake t.G a (sends hands (count a.number) a (from a.number + a.tg)) b.number
-        ≡ max (table.sg + heard_end delay (sends hands (count a.number) a (from a.number + a.tg)) b.number + table.sg) (table.sg + wake b.number)
-    idle_then b i out =
-        elim (cases_eq b.number a.number) [
-          | inl here ↦
-              let is : b ≡ a = same a b there i here in
-              let woken : table.sg + wake b.number ≤ t.G b.number = woken table hands delay wake list t.t t.last from t.D t.G t.C t.known b i in
-              let g : t.G b.number ≡ table.sg + from a.number = ap (λ (c : Sender). t.G c.number) is ∙ gap_is in
-              steps.goes_here table.sg table.sg delay wake t.G a.number (sends hands (count a.number) a (from a.number + a.tg)) b.number here
-              ∙ max_above (table.sg + heard_end delay (sends hands (count a.number) a (from a.number + a.tg)) b.number + table.sg) (table.sg + wake b.number) (omega arith)
-          | inr other ↦
-              let was : IsOut p prefix suffix b = elim out [
-                | inl spoken ↦ elim (in_push_cases prefix a b spoken) [ inl old ↦ inl old | inr now ↦ absurd (other (ap (λ (c : Sender). c.number) now)) ]
-                | inr not ↦ inr not
-              ] in
-              steps.goes_other table.sg table.sg delay wake t.G a.number (sends hands (count a.number) a (from a.number + a.tg)) b.number other
-              ∙ gap_waiting table.sg table.sg (wake b.number) (t.G b.number) (from a.number + a.tg + delay (sends hands (count a.number) a (from a.number + a.tg)) b.number)
-              (heard_end delay (sends hands (count a.number) a (from a.number + a.tg)) b.number) (waits b i was)
-        ]
-
-    due_idle_then : (b : Sender) → In b table.senders → IsOut p (prefix ++ a ∷ []) suffix b
-        → (goes_D table t.D a (from a.number + a.tg) b.number ≤ table.sg + wake b.number)
-        ⊎ (goes_D table t.D a (from a.number + a.tg) b.number
-        ≤ table.sg + end_of (sends hands (count a.number) a (from a.number + a.tg)) + total share suffix + table.sg + before share (turn_order table) b.number + b.tg)
-    due_idle_then b i out =
-        let low : t.lo ≤ from a.number = t.low a there in
-        let least : shortest a ≤ bits (get_or (hands a.number) (count a.number) []) = message.least in
-        let most_a : share a ≤ a.tg + shortest a = share_most a in
-        elim (cases_eq b.number a.number) [
-          | inl here ↦
-              let is : b ≡ a = same a b there i here in
-              let tg : b.tg ≡ a.tg = ap (λ (c : Sender). c.tg) is in
-              let place : before share (turn_order table) b.number ≡ total share prefix =
-              ap (λ (c : Sender). before share (turn_order table) c.number) is ∙ ap (λ o. before share o a.number) t.split
-              ∙ before_middle share prefix a suffix (λ c j e. apart_prefix c j (sym e)) in
-              let whole : total share (turn_order table) ≡ total share prefix + (share a + total share suffix) = ap (total share) t.split ∙ total_middle share prefix a suffix in
-              inr (omega (arith, put_here t.D a.number (table.sg + (from a.number + a.tg) + table.ti) b.number here, long))
-          | inr other ↦
-              let was : IsOut p prefix (a ∷ suffix) b = elim out [
-                | inl spoken ↦ elim (in_push_cases prefix a b spoken) [ inl old ↦ inl old | inr now ↦ absurd (other (ap (λ (c : Sender). c.number) now)) ]
-                | inr not ↦ inr (inr not.0, not.1)
-              ] in
-              let kept = put_other t.D a.number (table.sg + (from a.number + a.tg) + table.ti) b.number other in
-              elim (t.due_idle b i was) [
-                | inl never ↦ inl (omega (arith, kept))
-                | inr so ↦ inr (omega (arith, kept))
-              ]
-        ]
-
-    turn : Turn table hands delay wake spread room share first p count (prefix ++ a ∷ []) suffix (heard_end delay (sends hands (count a.number) a (from a.number + a.tg)))
-        (list ++ sends hands (count a.number) a (from a.number + a.tg) ∷ [])
-    turn =
-        let bit : 0 < bits (get_or (hands a.number) (count a.number) []) = message.some_bits in
-        let low_a : t.lo ≤ from a.number = t.low a there in
-        record {
-          lo = end_of (sends hands (count a.number) a (from a.number + a.tg));
-          t = from a.number + a.tg + 1;
-          last = end_of (sends hands (count a.number) a (from a.number + a.tg));
-          D = goes_D table t.D a (from a.number + a.tg);
-          G = goes_G table delay wake t.G a (sends hands (count a.number) a (from a.number + a.tg));
-          C = goes_C t.C a;
-          split = t.split ∙ sym (append_assoc prefix (a ∷ []) suffix);
-          known = known_step table hands n setting delay wake tolerant.own list t.t t.last from t.D t.G t.C a (count a.number) (from a.number + a.tg) there t.known goes;
-          low = λ b i. omega arith;
-          high = λ b i. omega (arith, lag b i);
-          last_low = omega arith;
-          spoken = omega (arith, length-append prefix (a ∷ []));
-          laid = laid_then;
-          some = λ y i. elim (in_push_cases list (sends hands (count a.number) a (from a.number + a.tg)) y i) [
-            | inl old ↦ t.some y old
-            | inr is ↦ omega (arith, ap end_of is)
-          ];
-          awake = let w : wake first.number ≤ t.lo = t.awake in omega arith;
-          settled = λ b i. elim (t.settled b i) [ inl none ↦ inl none | inr awake ↦ inr (omega arith) ];
-          absent = λ b i. t.absent b (inr i);
-          waiting = λ b i yes'.
-              let g : t.G b.number ≡ table.sg + from b.number = t.waiting b (inr i) yes' in
-              let h : from b.number ≤ t.lo + spread = t.high b (in_suffix b (inr i)) in
-              let k : spread ≤ a.tg = tolerant.least a there in
-              steps.goes_other table.sg table.sg delay wake t.G a.number (sends hands (count a.number) a (from a.number + a.tg)) b.number (apart_suffix b i)
-              ∙ gap_elapsed table.sg table.sg (wake b.number) (t.G b.number) (from a.number + a.tg + delay (sends hands (count a.number) a (from a.number + a.tg)) b.number)
-              (heard_end delay (sends hands (count a.number) a (from a.number + a.tg)) b.number) (omega arith);
-          idle = idle_then;
-          due_waiting = λ b i.
-              let kept = put_other t.D a.number (table.sg + (from a.number + a.tg) + table.ti) b.number (apart_suffix b i) in
-              let least : shortest a ≤ bits (get_or (hands a.number) (count a.number) []) = message.least in
-              let most_a : share a ≤ a.tg + shortest a = share_most a in
-              elim (t.due_waiting b (inr i)) [
-                | inl never ↦ inl (omega (arith, kept))
-                | inr so ↦ inr (omega (arith, kept, before_there share a suffix b.number (apart_suffix b i)))
-              ];
-          due_idle = due_idle_then;
-          count_waiting = λ b i. put_other t.C a.number (t.C a.number + 1) b.number (apart_suffix b i) ∙ t.count_waiting b (inr i);
-          count_spoken = λ b i. elim (in_push_cases prefix a b i) [
-            | inl old ↦ put_other t.C a.number (t.C a.number + 1) b.number (apart_prefix b old) ∙ t.count_spoken b old
-            | inr now ↦
-                let number : b.number ≡ a.number = ap (λ (c : Sender). c.number) now in
-                let passes : p b ≡ true = ap p now ∙ member in
-                let counted : t.C a.number ≡ count b.number = t.count_waiting a (inl refl) ∙ ap count (sym number) in
-                put_here t.C a.number (t.C a.number + 1) b.number number ∙ ap (λ v. v + 1) counted ∙ ap (λ (v : Bool). count b.number + cond v 1 0) (sym passes)
-          ];
-        }
-
-  -- a sender that isn't in this round is passed over
-  skip : (p : Sender → Bool) (count : ℕ → ℕ) (prefix : List Sender) (a : Sender) (suffix : List Sender) (from : ℕ → ℕ) (list : List Entry) → p a ≡ false
-      → Turn table hands delay wake spread room share first p count prefix (a ∷ suffix) from list
-      → Turn table hands delay wake spread room share first p count (prefix ++ a ∷ []) suffix from list
-  skip p count prefix a suffix from list not t =
-      let nothing : share a ≡ 0 = t.absent a (inl refl) not in
-      let up : Rises (λ b. b.tg) (prefix ++ a ∷ suffix) = subst (λ o. Rises (λ b. b.tg) o) t.split rises in
-      let within : (b : Sender) → In b (a ∷ suffix) → In b table.senders = λ b i. of_order b (subst (λ o. In b o) (sym t.split) (in_append_right prefix (a ∷ suffix) b i)) in
-      let other : (b : Sender) → In b suffix → b.number ≢ a.number = λ b i. apart a b (within a (inl refl)) (within b (inr i)) (rises_after (λ c. c.tg) prefix a suffix b up i) in
-      let was : (b : Sender) → IsOut p (prefix ++ a ∷ []) suffix b → IsOut p prefix (a ∷ suffix) b = λ b out. elim out [
-        | inl spoken ↦ elim (in_push_cases prefix a b spoken) [ inl old ↦ inl old | inr now ↦ inr (inl now, ap p now ∙ not) ]
-        | inr out_there ↦ inr (inr out_there.0, out_there.1)
-      ] in
-      record {
-        lo = t.lo;
-        t = t.t;
-        last = t.last;
-        D = t.D;
-        G = t.G;
-        C = t.C;
-        split = t.split ∙ sym (append_assoc prefix (a ∷ []) suffix);
-        known = t.known;
-        low = t.low;
-        high = t.high;
-        last_low = t.last_low;
-        spoken = omega (arith, length-append prefix (a ∷ []));
-        laid = t.laid;
-        some = t.some;
-        awake = t.awake;
-        settled = t.settled;
-        absent = λ b i. t.absent b (inr i);
-        waiting = λ b i. t.waiting b (inr i);
-        idle = λ b i out. t.idle b i (was b out);
-        due_waiting = λ b i. elim (t.due_waiting b (inr i)) [
-          | inl never ↦ inl never
-          | inr so ↦ inr (omega (arith, before_there share a suffix b.number (other b i)))
-        ];
-        due_idle = λ b i out. elim (t.due_idle b i (was b out)) [
-          | inl never ↦ inl never
-          | inr so ↦ inr (omega arith)
-        ];
-        count_waiting = λ b i. t.count_waiting b (inr i);
-        count_spoken = λ b i. elim (in_push_cases prefix a b i) [
-          | inl old ↦ t.count_spoken b old
-          | inr now ↦
-              let number : b.number ≡ a.number = ap (λ (c : Sender). c.number) now in
-              let counted : t.C b.number ≡ count b.number = ap t.C number ∙ t.count_waiting a (inl refl) ∙ ap count (sym number) in
-              counted ∙ (let e : count b.number ≡ count b.number + 0 = omega arith in e) ∙ ap (λ (v : Bool). count b.number + cond v 1 0) (sym (ap p now ∙ not))
-        ];
-      }
-
-  turns_on : (p : Sender → Bool) (count : ℕ → ℕ) (suffix prefix : List Sender) (from : ℕ → ℕ) (list : List Entry) → ((b : Sender) → In b table.senders → count b.number < n)
-      → Turn table hands delay wake spread room share first p count prefix suffix from list
-      → Turn table hands delay wake spread room share first p count (prefix ++ suffix) [] (grow_heard delay hands count (filter p suffix) from)
-      (list ++ grow_turns delay hands count (filter p suffix) from)
-  turns_on p count [] prefix from list most t =
-      subst (λ d. Turn table hands delay wake spread room share first p count d [] from (list ++ [])) (sym (append-nil prefix))
-      (subst (λ k. Turn table hands delay wake spread room share first p count prefix [] from k) (sym (append-nil list)) t)
-  turns_on p count (a ∷ suffix) prefix from list most t =
-      elim (cases_Bool (p a)) [
-        | inl yes' ↦
-            let x : Entry = sends hands (count a.number) a (from a.number + a.tg) in
-            let so = turns_on p count suffix (prefix ++ a ∷ []) (heard_end delay (sends hands (count a.number) a (from a.number + a.tg))) (list ++ sends hands (count a.number) a (from a.number + a.tg) ∷ []) most
-            (turn p count prefix a suffix from list most yes' t) in
-            subst (λ (v : Bool). Turn table hands delay wake spread room share first p count (prefix ++ a ∷ suffix) [] (grow_heard delay hands count (cond v (a ∷ filter p suffix) (filter p suffix)) from)
-            (list ++ grow_turns delay hands count (cond v (a ∷ filter p suffix) (filter p suffix)) from)) (sym yes')
-            (subst (λ d. Turn table hands delay wake spread room share first p count d [] (grow_heard delay hands count (a ∷ filter p suffix) from) (list ++ grow_turns delay hands count (a ∷ filter p suffix) from))
-            (append_assoc prefix (a ∷ []) suffix)
-            (subst (λ k. Turn table hands delay wake spread room share first p count ((prefix ++ a ∷ []) ++ suffix) [] (grow_heard delay hands count (a ∷ filter p suffix) from) k)
-            (append_assoc list (x ∷ []) (grow_turns delay hands count (filter p suffix) (heard_end delay x))) so))
-        | inr no' ↦
-            let so = turns_on p count suffix (prefix ++ a ∷ []) from list most (skip p count prefix a suffix from list no' t) in
-            subst (λ (v : Bool). Turn table hands delay wake spread room share first p count (prefix ++ a ∷ suffix) [] (grow_heard delay hands count (cond v (a ∷ filter p suffix) (filter p suffix)) from)
-            (list ++ grow_turns delay hands count (cond v (a ∷ filter p suffix) (filter p suffix)) from)) (sym no')
-            (subst (λ d. Turn table hands delay wake spread room share first p count d [] (grow_heard delay hands count (filter p suffix) from) (list ++ grow_turns delay hands count (filter p suffix) from))
-            (append_assoc prefix (a ∷ []) suffix) so)
-      ]
+  apart = turns.apart table hands n setting mode delay wake spread room tolerant share share_most long first others order_is
 
   first_in : In first table.senders
   first_in = of_order first (subst (λ o. In first o) (sym order_is) (inl refl))
@@ -443,8 +68,22 @@ module _ (table : Table) (hands : ℕ → List Message) (n : ℕ) (setting : Set
   -- the first turn of a round
   module _ (count : ℕ → ℕ) (round : ℕ) (from : ℕ → ℕ) (list : List Entry) (more : round < n)
       (t : Begin table hands delay wake spread room share first count round from list) where
-    opens : Entry
+    abbrev opens : Entry
     opens = sends hands (count first.number) first (from first.number + first.tg)
+
+    -- who hears it awake
+    abbrev awake_for : Sender → Bool
+    awake_for = hears_awake delay wake opens
+
+    -- the senders of the round, their turns, and where each terminal heard the end of the last of these
+    abbrev these : List Sender
+    these = members delay wake hands count (turn_order table) from
+
+    abbrev spoken : List Entry
+    spoken = grow_turns delay hands count these from
+
+    abbrev heard_to : ℕ → ℕ
+    heard_to = grow_heard delay hands count these from
 
     opens_left : count first.number < n
     opens_left = let k : count first.number ≤ round = t.count_most first first_in in omega arith
@@ -452,11 +91,11 @@ module _ (table : Table) (hands : ℕ → List Message) (n : ℕ) (setting : Set
     opens_message : Sendable first (hands first.number) (count first.number) (get_or (hands first.number) (count first.number) [])
     opens_message = sendable table hands n setting first (count first.number) first_in opens_left
 
-    opens_lag : (b : Sender) → In b table.senders → delay (sends hands (count first.number) first (from first.number + first.tg)) b.number ≤ spread
-    opens_lag b i = tolerant.delays first b (sends hands (count first.number) first (from first.number + first.tg)) first_in i refl
+    opens_lag : (b : Sender) → In b table.senders → delay opens b.number ≤ spread
+    opens_lag b i = tolerant.delays first b opens first_in i refl
 
-    opens_own : delay (sends hands (count first.number) first (from first.number + first.tg)) first.number ≡ 0
-    opens_own = tolerant.own (sends hands (count first.number) first (from first.number + first.tg))
+    opens_own : delay opens first.number ≡ 0
+    opens_own = tolerant.own opens
 
     first_awake : wake first.number ≤ from first.number
     first_awake =
@@ -481,15 +120,15 @@ module _ (table : Table) (hands : ℕ → List Message) (n : ℕ) (setting : Set
           terminal = omega arith;
           slow = λ b i other.
               let low_b : table.sg + t.lo ≤ t.G b.number = t.low b i in
-              let d : delay (sends hands (count first.number) first (from first.number + first.tg)) b.number ≤ spread = opens_lag b i in
+              let d : delay opens b.number ≤ spread = opens_lag b i in
               let far : first.tg + 2 * spread < b.tg = tolerant.apart first b first_in i (first_least b (one_of b i other)) in
               inl (omega arith);
           turn = t.count_is first first_in;
           left = opens_left;
         }
 
-    opens_laid : IsOrdered (λ y z. end_of y + room ≤ z.moment) (list ++ sends hands (count first.number) first (from first.number + first.tg) ∷ [])
-    opens_laid = ordered_push (λ y z. end_of y + room ≤ z.moment) list (sends hands (count first.number) first (from first.number + first.tg)) t.laid (λ y i.
+    opens_laid : IsOrdered (λ y z. end_of y + room ≤ z.moment) (list ++ opens ∷ [])
+    opens_laid = ordered_push (λ y z. end_of y + room ≤ z.moment) list opens t.laid (λ y i.
         let ended : end_of y ≤ greatest_end list = ends_within list y i in
         let last_is : greatest_end list ≡ t.last = t.known.ends in
         let last_low : t.last ≤ t.lo = t.last_low in
@@ -503,31 +142,31 @@ module _ (table : Table) (hands : ℕ → List Message) (n : ℕ) (setting : Set
               elim t.wide [ inl none ↦ omega arith | inr wide ↦ omega arith ]
         ])
 
-    idle_first : (b : Sender) → In b table.senders → IsOut (hears_awake delay wake (sends hands (count first.number) first (from first.number + first.tg))) (first ∷ []) others b
-        → goes_G table delay wake t.G first (sends hands (count first.number) first (from first.number + first.tg)) b.number
-        ≡ max (table.sg + heard_end delay (sends hands (count first.number) first (from first.number + first.tg)) b.number + table.sg) (table.sg + wake b.number)
+    idle_first : (b : Sender) → In b table.senders → IsOut awake_for (first ∷ []) others b
+        → goes_G table delay wake t.G first opens b.number
+        ≡ max (table.sg + heard_end delay opens b.number + table.sg) (table.sg + wake b.number)
     idle_first b i out =
         elim out [
           | inl spoken ↦
               let is : b ≡ first = elim spoken [ inl now ↦ now | inr nothing ↦ absurd nothing ] in
               let here : b.number ≡ first.number = ap (λ (c : Sender). c.number) is in
               let w : wake b.number ≡ wake first.number = ap wake here in
-              steps.goes_here table.sg table.sg delay wake t.G first.number (sends hands (count first.number) first (from first.number + first.tg)) b.number here
-              ∙ max_above (table.sg + heard_end delay (sends hands (count first.number) first (from first.number + first.tg)) b.number + table.sg) (table.sg + wake b.number) (omega (arith, first_awake))
+              steps.goes_here table.sg table.sg delay wake t.G first.number opens b.number here
+              ∙ max_above (table.sg + heard_end delay opens b.number + table.sg) (table.sg + wake b.number) (omega (arith, first_awake))
           | inr not ↦
-              let asleep : from first.number + first.tg + delay (sends hands (count first.number) first (from first.number + first.tg)) b.number < wake b.number =
-              elim (cases_lt (from first.number + first.tg + delay (sends hands (count first.number) first (from first.number + first.tg)) b.number) (wake b.number)) [
+              let asleep : opens.moment + delay opens b.number < wake b.number =
+              elim (cases_lt (opens.moment + delay opens b.number) (wake b.number)) [
                 | inl less ↦ less
-                | inr more ↦ absurd (true≢false (sym (le-leb (wake b.number) (from first.number + first.tg + delay (sends hands (count first.number) first (from first.number + first.tg)) b.number) more) ∙ not.1))
+                | inr more ↦ absurd (true≢false (sym (le-leb (wake b.number) (opens.moment + delay opens b.number) more) ∙ not.1))
               ] in
               let woken : table.sg + wake b.number ≤ t.G b.number = woken table hands delay wake list t.t t.last t.E t.D t.G t.C t.known b i in
-              steps.goes_other table.sg table.sg delay wake t.G first.number (sends hands (count first.number) first (from first.number + first.tg)) b.number (others_apart b not.0)
-              ∙ gap_waiting table.sg table.sg (wake b.number) (t.G b.number) (from first.number + first.tg + delay (sends hands (count first.number) first (from first.number + first.tg)) b.number)
-              (heard_end delay (sends hands (count first.number) first (from first.number + first.tg)) b.number) (omega arith)
+              steps.goes_other table.sg table.sg delay wake t.G first.number opens b.number (others_apart b not.0)
+              ∙ gap_waiting table.sg table.sg (wake b.number) (t.G b.number) (opens.moment + delay opens b.number)
+              (heard_end delay opens b.number) (omega arith)
         ]
 
-    first_turn : Turn table hands delay wake spread room share first (hears_awake delay wake (sends hands (count first.number) first (from first.number + first.tg))) count (first ∷ []) others
-        (heard_end delay (sends hands (count first.number) first (from first.number + first.tg))) (list ++ sends hands (count first.number) first (from first.number + first.tg) ∷ [])
+    first_turn : Turn table hands delay wake spread room share first awake_for count (first ∷ []) others
+        (heard_end delay opens) (list ++ opens ∷ [])
     first_turn =
         let bit : 0 < bits (get_or (hands first.number) (count first.number) []) = opens_message.some_bits in
         let least : shortest first ≤ bits (get_or (hands first.number) (count first.number) []) = opens_message.least in
@@ -539,11 +178,11 @@ module _ (table : Table) (hands : ℕ → List Message) (n : ℕ) (setting : Set
         let behind : (b : Sender) → In b others → before share (turn_order table) b.number ≡ share first + before share others b.number = λ b i.
         ap (λ o. before share o b.number) order_is ∙ before_there share first others b.number (others_apart b i) in
         record {
-          lo = end_of (sends hands (count first.number) first (from first.number + first.tg));
+          lo = end_of opens;
           t = from first.number + first.tg + 1;
-          last = end_of (sends hands (count first.number) first (from first.number + first.tg));
+          last = end_of opens;
           D = goes_D table t.D first (from first.number + first.tg);
-          G = goes_G table delay wake t.G first (sends hands (count first.number) first (from first.number + first.tg));
+          G = goes_G table delay wake t.G first opens;
           C = goes_C t.C first;
           split = order_is;
           known = known_step table hands n setting delay wake tolerant.own list t.t t.last t.E t.D t.G t.C first (count first.number) (from first.number + first.tg) first_in t.known opens_goes;
@@ -552,26 +191,26 @@ module _ (table : Table) (hands : ℕ → List Message) (n : ℕ) (setting : Set
           last_low = omega arith;
           spoken = omega arith;
           laid = opens_laid;
-          some = λ y i. elim (in_push_cases list (sends hands (count first.number) first (from first.number + first.tg)) y i) [
+          some = λ y i. elim (in_push_cases list opens y i) [
             | inl old ↦ t.some y old
             | inr is ↦ omega (arith, ap end_of is)
           ];
           awake = omega arith;
-          settled = λ b i. elim (cases_lt (from first.number + first.tg + delay (sends hands (count first.number) first (from first.number + first.tg)) b.number) (wake b.number)) [
+          settled = λ b i. elim (cases_lt (opens.moment + delay opens b.number) (wake b.number)) [
             | inl asleep ↦ inl (t.absent b i (asleep_test b asleep))
             | inr hears ↦ inr (omega (arith, opens_lag b i))
           ];
           absent = λ b i not. t.absent b (others_in b i) not;
           waiting = λ b i yes'.
-              let hears : wake b.number ≤ from first.number + first.tg + delay (sends hands (count first.number) first (from first.number + first.tg)) b.number = leb-true (wake b.number) (from first.number + first.tg + delay (sends hands (count first.number) first (from first.number + first.tg)) b.number) yes' in
+              let hears : wake b.number ≤ opens.moment + delay opens b.number = leb-true (wake b.number) (opens.moment + delay opens b.number) yes' in
               let k : spread ≤ first.tg = tolerant.least first first_in in
-              let reached : t.G b.number ≤ table.sg + (from first.number + first.tg + delay (sends hands (count first.number) first (from first.number + first.tg)) b.number) = elim (t.high b (others_in b i)) [
+              let reached : t.G b.number ≤ table.sg + (opens.moment + delay opens b.number) = elim (t.high b (others_in b i)) [
                 | inl just ↦ omega arith
                 | inr near ↦ omega arith
               ] in
-              steps.goes_other table.sg table.sg delay wake t.G first.number (sends hands (count first.number) first (from first.number + first.tg)) b.number (others_apart b i)
-              ∙ gap_elapsed table.sg table.sg (wake b.number) (t.G b.number) (from first.number + first.tg + delay (sends hands (count first.number) first (from first.number + first.tg)) b.number)
-              (heard_end delay (sends hands (count first.number) first (from first.number + first.tg)) b.number) reached;
+              steps.goes_other table.sg table.sg delay wake t.G first.number opens b.number (others_apart b i)
+              ∙ gap_elapsed table.sg table.sg (wake b.number) (t.G b.number) (opens.moment + delay opens b.number)
+              (heard_end delay opens b.number) reached;
           idle = idle_first;
           due_waiting = λ b i. elim (t.due b (others_in b i)) [
             | inl never ↦ inl (omega (arith, put_other t.D first.number (table.sg + (from first.number + first.tg) + table.ti) b.number (others_apart b i)))
@@ -593,57 +232,57 @@ module _ (table : Table) (hands : ℕ → List Message) (n : ℕ) (setting : Set
           count_spoken = λ b i.
               let is : b ≡ first = elim i [ inl now ↦ now | inr nothing ↦ absurd nothing ] in
               let here : b.number ≡ first.number = ap (λ (c : Sender). c.number) is in
-              let passes : hears_awake delay wake (sends hands (count first.number) first (from first.number + first.tg)) b ≡ true =
-              le-leb (wake b.number) (from first.number + first.tg + delay (sends hands (count first.number) first (from first.number + first.tg)) b.number) (omega (arith, ap wake here)) in
+              let passes : awake_for b ≡ true =
+              le-leb (wake b.number) (opens.moment + delay opens b.number) (omega (arith, ap wake here)) in
               put_here t.C first.number (t.C first.number + 1) b.number here ∙ ap (λ v. v + 1) (t.count_is first first_in ∙ ap count (sym here))
               ∙ ap (λ (v : Bool). count b.number + cond v 1 0) (sym passes);
         }
       where
-        asleep_test : (b : Sender) → from first.number + first.tg + delay (sends hands (count first.number) first (from first.number + first.tg)) b.number < wake b.number
-            → hears_awake delay wake (sends hands (count first.number) first (from first.number + first.tg)) b ≡ false
-        asleep_test b asleep = elim (cases_Bool (nat_le (wake b.number) (from first.number + first.tg + delay (sends hands (count first.number) first (from first.number + first.tg)) b.number))) [
-          | inl yes' ↦ let k : wake b.number ≤ from first.number + first.tg + delay (sends hands (count first.number) first (from first.number + first.tg)) b.number =
-              leb-true (wake b.number) (from first.number + first.tg + delay (sends hands (count first.number) first (from first.number + first.tg)) b.number) yes' in absurd (omega arith)
+        asleep_test : (b : Sender) → opens.moment + delay opens b.number < wake b.number
+            → awake_for b ≡ false
+        asleep_test b asleep = elim (cases_Bool (nat_le (wake b.number) (opens.moment + delay opens b.number))) [
+          | inl yes' ↦ let k : wake b.number ≤ opens.moment + delay opens b.number =
+              leb-true (wake b.number) (opens.moment + delay opens b.number) yes' in absurd (omega arith)
           | inr no' ↦ no'
         ]
 
     -- the whole round
-    whole_round : Turn table hands delay wake spread room share first (hears_awake delay wake (sends hands (count first.number) first (from first.number + first.tg))) count (turn_order table) []
-        (grow_heard delay hands count (members delay wake hands count (turn_order table) from) from) (list ++ grow_turns delay hands count (members delay wake hands count (turn_order table) from) from)
+    whole_round : Turn table hands delay wake spread room share first awake_for count (turn_order table) []
+        heard_to (list ++ spoken)
     whole_round =
-        let x : Entry = sends hands (count first.number) first (from first.number + first.tg) in
+        let x : Entry = opens in
         let p : Sender → Bool = hears_awake delay wake x in
         let most : (b : Sender) → In b table.senders → count b.number < n = λ b i. let k : count b.number ≤ round = t.count_most b i in omega arith in
-        let so = turns_on (hears_awake delay wake (sends hands (count first.number) first (from first.number + first.tg))) count others (first ∷ [])
-        (heard_end delay (sends hands (count first.number) first (from first.number + first.tg))) (list ++ sends hands (count first.number) first (from first.number + first.tg) ∷ []) most first_turn in
-        subst (λ o. Turn table hands delay wake spread room share first (hears_awake delay wake (sends hands (count first.number) first (from first.number + first.tg))) count o []
+        let so = turns.turns_on table hands n setting mode delay wake spread room tolerant share share_most long first others order_is awake_for count others (first ∷ [])
+        (heard_end delay opens) (list ++ opens ∷ []) most first_turn in
+        subst (λ o. Turn table hands delay wake spread room share first awake_for count o []
         (grow_heard delay hands count (members delay wake hands count o from) from) (list ++ grow_turns delay hands count (members delay wake hands count o from) from)) (sym order_is)
-        (subst (λ k. Turn table hands delay wake spread room share first (hears_awake delay wake (sends hands (count first.number) first (from first.number + first.tg))) count (first ∷ others) []
+        (subst (λ k. Turn table hands delay wake spread room share first awake_for count (first ∷ others) []
         (grow_heard delay hands count (members delay wake hands count (first ∷ others) from) from) k)
         (append_assoc list (x ∷ []) (grow_turns delay hands count (filter p others) (heard_end delay x))) so)
 
     -- who was in it
     was_in : (b : Sender) → In b table.senders
-        → list_any (λ (s : Sender). s.number == b.number) (members delay wake hands count (turn_order table) from) ≡ hears_awake delay wake (sends hands (count first.number) first (from first.number + first.tg)) b
+        → list_any (λ (s : Sender). s.number == b.number) these ≡ awake_for b
     was_in b i =
         ap (λ o. list_any (λ (s : Sender). s.number == b.number) (members delay wake hands count o from)) order_is
-        ∙ elim (cases_Bool (hears_awake delay wake (sends hands (count first.number) first (from first.number + first.tg)) b)) [
-          | inl yes' ↦ any_in (λ (s : Sender). s.number == b.number) (first ∷ filter (hears_awake delay wake (sends hands (count first.number) first (from first.number + first.tg))) others) b
+        ∙ elim (cases_Bool (awake_for b)) [
+          | inl yes' ↦ any_in (λ (s : Sender). s.number == b.number) (first ∷ filter awake_for others) b
               (elim (cases_eq b.number first.number) [
                 | inl here ↦ inl (same first b first_in i here)
-                | inr other ↦ inr (in_filter (hears_awake delay wake (sends hands (count first.number) first (from first.number + first.tg))) others b (one_of b i other) yes')
+                | inr other ↦ inr (in_filter awake_for others b (one_of b i other) yes')
               ])
               (eq-eqb b.number b.number refl) ∙ sym yes'
-          | inr no' ↦ none_any (λ (s : Sender). s.number == b.number) (first ∷ filter (hears_awake delay wake (sends hands (count first.number) first (from first.number + first.tg))) others)
+          | inr no' ↦ none_any (λ (s : Sender). s.number == b.number) (first ∷ filter awake_for others)
               (λ s j. elim (cases_eq s.number b.number) [
                 | inl equal ↦ absurd (elim j [
                   | inl is ↦
                       let here : b.number ≡ first.number = sym equal ∙ ap (λ (c : Sender). c.number) is in
-                      true≢false (sym (le-leb (wake b.number) (from first.number + first.tg + delay (sends hands (count first.number) first (from first.number + first.tg)) b.number) (omega (arith, ap wake here, first_awake))) ∙ no')
+                      true≢false (sym (le-leb (wake b.number) (opens.moment + delay opens b.number) (omega (arith, ap wake here, first_awake))) ∙ no')
                   | inr later ↦
-                      let f = from_filter (hears_awake delay wake (sends hands (count first.number) first (from first.number + first.tg))) others s later in
+                      let f = from_filter awake_for others s later in
                       let is : s ≡ b = same b s i (others_in s f.0) equal in
-                      true≢false (sym f.1 ∙ ap (hears_awake delay wake (sends hands (count first.number) first (from first.number + first.tg))) is ∙ no')
+                      true≢false (sym f.1 ∙ ap awake_for is ∙ no')
                 ])
                 | inr differ ↦ ne_eqb s.number b.number differ
               ]) ∙ sym no'
@@ -651,39 +290,39 @@ module _ (table : Table) (hands : ℕ → List Message) (n : ℕ) (setting : Set
 
     -- the next one begins one synchronization gap later
     pub round_on : Begin table hands delay wake spread room share first
-        (λ k. count k + (if list_any (λ (s : Sender). s.number == k) (members delay wake hands count (turn_order table) from) then 1 else 0)) (suc round)
-        (λ k. grow_heard delay hands count (members delay wake hands count (turn_order table) from) from k + table.sg)
-        (list ++ grow_turns delay hands count (members delay wake hands count (turn_order table) from) from)
+        (λ k. count k + (if list_any (λ (s : Sender). s.number == k) these then 1 else 0)) (suc round)
+        (λ k. heard_to k + table.sg)
+        (list ++ spoken)
     round_on =
         let w = whole_round in
         let last_low : w.last ≤ w.lo = w.last_low in
         let awake : wake first.number ≤ w.lo = w.awake in
-        let low_first : w.lo ≤ grow_heard delay hands count (members delay wake hands count (turn_order table) from) from first.number = w.low first first_in in
+        let low_first : w.lo ≤ heard_to first.number = w.low first first_in in
         let short : first.tg + 2 * spread < table.sg = tolerant.short first first_in in
-        let out : (b : Sender) → In b table.senders → IsOut (hears_awake delay wake (sends hands (count first.number) first (from first.number + first.tg))) (turn_order table) [] b = λ b i. inl (in_order b i) in
-        let counted : (b : Sender) → In b table.senders → w.C b.number ≡ count b.number + (if list_any (λ (s : Sender). s.number == b.number) (members delay wake hands count (turn_order table) from) then 1 else 0) = λ b i.
+        let out : (b : Sender) → In b table.senders → IsOut awake_for (turn_order table) [] b = λ b i. inl (in_order b i) in
+        let counted : (b : Sender) → In b table.senders → w.C b.number ≡ count b.number + (if list_any (λ (s : Sender). s.number == b.number) these then 1 else 0) = λ b i.
         w.count_spoken b (in_order b i) ∙ ap (λ (v : Bool). count b.number + cond v 1 0) (sym (was_in b i)) in
         record {
           lo = w.lo + table.sg;
           t = w.t;
           last = w.last;
-          E = grow_heard delay hands count (members delay wake hands count (turn_order table) from) from;
+          E = heard_to;
           D = w.D;
           G = w.G;
           C = w.C;
           known = w.known;
           ended = λ b i. omega (arith, w.high b i);
           first_gap = w.idle first first_in (out first first_in)
-              ∙ sym (max_above (table.sg + grow_heard delay hands count (members delay wake hands count (turn_order table) from) from first.number + table.sg) (table.sg + wake first.number) (omega arith)) ∙ omega arith;
+              ∙ sym (max_above (table.sg + heard_to first.number + table.sg) (table.sg + wake first.number) (omega arith)) ∙ omega arith;
           first_low = omega arith;
           first_high = omega (arith, w.high first first_in);
           low = λ b i. omega (
             arith,
             w.low b i,
             w.idle b i (out b i),
-            (max_within (table.sg + grow_heard delay hands count (members delay wake hands count (turn_order table) from) from b.number + table.sg) (table.sg + wake b.number)).0,
+            (max_within (table.sg + heard_to b.number + table.sg) (table.sg + wake b.number)).0,
           );
-          high = λ b i. elim (cases_lt (grow_heard delay hands count (members delay wake hands count (turn_order table) from) from b.number + table.sg) (wake b.number)) [
+          high = λ b i. elim (cases_lt (heard_to b.number + table.sg) (wake b.number)) [
             | inl asleep ↦ inl (omega (arith, w.idle b i (out b i)))
             | inr awake_then ↦ inr (omega (arith, w.idle b i (out b i), w.high b i))
           ];
@@ -699,7 +338,7 @@ module _ (table : Table) (hands : ℕ → List Message) (n : ℕ) (setting : Set
           count_is = counted;
           count_most = λ b i.
               let k : count b.number ≤ round = t.count_most b i in
-              one_more (count b.number) round (list_any (λ (s : Sender). s.number == b.number) (members delay wake hands count (turn_order table) from)) k;
+              one_more (count b.number) round (list_any (λ (s : Sender). s.number == b.number) these) k;
         }
       where
         one_more : (c r : ℕ) (v : Bool) → c ≤ r → c + cond v 1 0 ≤ suc r
