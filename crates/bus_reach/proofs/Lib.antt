@@ -25,3 +25,8 @@ pub mod Streaming
 pub mod SettleLemmas
 pub mod SettleExamples
 pub mod Examples
+pub mod PeriodicExact
+pub mod Lessening
+pub mod ReceivingLemmas
+pub mod Rotating
+pub mod Passes

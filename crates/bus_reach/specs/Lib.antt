@@ -7,3 +7,5 @@ pub mod Joining
 pub mod Settling
 pub mod Cables
 pub mod Laws
+pub mod PeriodicLaws
+pub mod Receiving

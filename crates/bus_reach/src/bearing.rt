@@ -1,29 +1,32 @@
 //! How long a cable a table bears.
 ghost use Rattle.std.specs.Prelude.{◌≡◌, ℕ, ◌≤◌, ◌↔◌, length, IsNone, IsTrue, IfSome};
-ghost use Rattle.bus_table.specs.declared.mode.Mode.TheVariants.{Aperiodic};
 ghost use Rattle.bus_regime.specs.Verdicts.{verdict_of, is_accepted};
 ghost use Rattle.bus_reach.specs.Bearing as bearing;
 
-use crate::aperiodic;
-use bus_table::Table;
+use crate::{aperiodic, periodic};
+use bus_table::{Mode, Table};
 
 /// Whether an accepted table bears delays up to `d` bit times: then the closed schedule is what its senders do on every cable
 /// that delays no transmission longer. A table with one sender bears any delay. It takes no memory.
 pub fn bears(table: &Table, d: u64) -> bool
-    requires mode { table.now.mode ≡ Aperiodic }
-    requires accepted { IsTrue (is_accepted (verdict_of table.now)) }
+    requires { IsTrue (is_accepted (verdict_of table.now)) }
     ensures { result ≡ bearing.bears table.now d }
 {
-    aperiodic::bears(table, d)
+    match table.mode() {
+        Mode::Aperiodic => aperiodic::bears(table, d),
+        Mode::Periodic => periodic::bears(table, d),
+    }
 }
 
 /// The tolerance of an accepted table: the greatest delay that it bears, in bit times. None exactly where there is one sender,
 /// which bears every delay. It takes no memory.
 pub fn tolerance(table: &Table) -> Option<u64>
-    requires mode { table.now.mode ≡ Aperiodic }
-    requires accepted { IsTrue (is_accepted (verdict_of table.now)) }
+    requires { IsTrue (is_accepted (verdict_of table.now)) }
     ensures alone { IsNone result ↔ (length table.now.senders ≡ 1) }
     ensures greatest { IfSome result (λ most. (d : ℕ) → (d ≤ most) ↔ IsTrue (bearing.bears table.now d)) }
 {
-    aperiodic::tolerance(table)
+    match table.mode() {
+        Mode::Aperiodic => aperiodic::tolerance(table),
+        Mode::Periodic => periodic::tolerance(table),
+    }
 }

@@ -1,8 +1,11 @@
 //! Laws of the definitions, each the contract of a function that does nothing.
 ghost use Rattle.bus_reach.specs.Laws.{BorneIsClosed, BorneIsKept, JoinersComeSoon, JoiningIsOrderly, MembersStay, NeighboursTell, NoDelayIsClosed, NoneIsBorne, ShorterIsBorne, ToleranceIsExact};
 ghost use Rattle.bus_reach.specs.Settling.{AnyStartSettles, LongHandsLast, StartsItselfIsAccepted};
+ghost use Rattle.bus_reach.specs.PeriodicLaws.{AcceptedBearNone, BorneForLess, CablesDelay};
+ghost use Rattle.bus_reach.specs.PeriodicLaws.{PeriodicBearingIsExact, PeriodicBorneIsClosed, PeriodicNotBorneBreaks};
+ghost use Rattle.bus_reach.specs.Receiving.{AperiodicBorneIsReceived, MatchesAreReceived, PeriodicBorneIsReceived};
 
-use bus_schedule::laws::witnesses_have_schedules;
+use bus_schedule::laws::{accepted_is_closed, borne_gaps_are_closed, witnesses_have_schedules};
 
 /// Without delays, and where all wake at the settled start, the closed schedule is that of `bus_schedule`.
 pub fn no_delay_is_closed()
@@ -54,3 +57,56 @@ pub fn any_start_settles()
     ensures long { LongHandsLast }
     ensures accepted { StartsItselfIsAccepted }
 {}
+
+/// For an accepted periodic table and even hands, of any length, with delays up to what the table bears, the closed schedule is
+/// the one lawful list up to the closed end, as without delays, in turns and one transmit interval apart; no terminal hears two
+/// transmissions overlap.
+pub fn periodic_borne_is_closed()
+    ensures { PeriodicBorneIsClosed }
+{
+    borne_gaps_are_closed();
+}
+
+/// No greater delays are borne by a periodic table: there are places on a straight cable with which the closed schedule of its
+/// witness isn't what the senders do. So it bears exactly the delays with which it keeps its closed schedule.
+pub fn periodic_bearing_is_exact()
+    ensures breaks { PeriodicNotBorneBreaks }
+    ensures cables { CablesDelay }
+    ensures exact { PeriodicBearingIsExact }
+{
+    witnesses_have_schedules();
+    periodic_borne_is_closed();
+}
+
+/// Every accepted table, of either mode, bears no delay.
+pub fn accepted_bear_none()
+    ensures { AcceptedBearNone }
+{
+    shorter_is_borne();
+}
+
+/// What an accepted table, of either mode, bears it bears for less.
+pub fn borne_for_less()
+    ensures { BorneForLess }
+{
+    shorter_is_borne();
+    periodic_bearing_is_exact();
+}
+
+/// With delays that an accepted table bears every terminal, sender or listener, receives the words that it receives without
+/// delays, line by line. With one sender alone no delay may be above the synchronization gap.
+pub fn borne_is_received()
+    ensures aperiodic { AperiodicBorneIsReceived }
+    ensures periodic { PeriodicBorneIsReceived }
+{
+    accepted_is_closed();
+    borne_is_closed();
+    periodic_borne_is_closed();
+}
+
+/// In a run of an accepted table a terminal receives every wordstring of another that one of its receive lines matches.
+pub fn matches_are_received()
+    ensures { MatchesAreReceived }
+{
+    accepted_is_closed();
+}

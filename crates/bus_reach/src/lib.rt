@@ -13,6 +13,7 @@
 mod aperiodic;
 mod bearing;
 pub mod laws;
+mod periodic;
 mod starting;
 #[cfg(test)]
 mod tests;

@@ -31,11 +31,11 @@ length-gaps table = length-gaps_from table.ti (last_end 0 (turn_order table)) (t
 turn_in : (table : Table) (k : ℕ) (a : Sender) → slice_get (turn_order table) k ≡ Some a → In a table.senders
 turn_in table k a h = from_sort (turn_key table.mode) table.senders a (at_in (turn_order table) k a h)
 
-some_of : {A : Type 0} (P : A → Type 0) (o : Option A) → IsSomeAnd o P → (a : A) × (o ≡ Some a) × P a
+pub some_of : {A : Type 0} (P : A → Type 0) (o : Option A) → IsSomeAnd o P → (a : A) × (o ≡ Some a) × P a
 some_of P None h = absurd h
 some_of P (Some a) h = (a, refl, h)
 
-some_and : {A : Type 0} (P : A → Type 0) (o : Option A) (a : A) → o ≡ Some a → P a → IsSomeAnd o P
+pub some_and : {A : Type 0} (P : A → Type 0) (o : Option A) (a : A) → o ≡ Some a → P a → IsSomeAnd o P
 some_and P o a e h = subst (λ q. IsSomeAnd q P) (sym e) h
 
 -- the sender with the number of the one in this place of turn order is that one

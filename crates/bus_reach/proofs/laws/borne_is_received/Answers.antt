@@ -1,0 +1,8 @@
+use Rattle.bus_reach.proofs.ReceivingLemmas.{aperiodic_is_received, periodic_is_received}
+use Rattle.bus_reach.proofs.laws.borne_is_received.Goals as goal
+
+pub returns-clause-aperiodic : goal.returns-clause-aperiodic
+returns-clause-aperiodic c = aperiodic_is_received c.accepted_is_closed.ensures c.borne_is_closed.ensures
+
+pub returns-clause-periodic : goal.returns-clause-periodic
+returns-clause-periodic c = periodic_is_received c.accepted_is_closed.ensures c.periodic_borne_is_closed.ensures
