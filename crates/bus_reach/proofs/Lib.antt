@@ -30,3 +30,4 @@ pub mod Lessening
 pub mod ReceivingLemmas
 pub mod Rotating
 pub mod Passes
+pub mod PeriodicExamples

@@ -14,6 +14,8 @@ mod aperiodic;
 mod bearing;
 pub mod laws;
 mod periodic;
+#[cfg(test)]
+mod periodic_tests;
 mod starting;
 #[cfg(test)]
 mod tests;
