@@ -35,23 +35,26 @@ abbrev pub bottom_of : Survey → ℕ
 bottom_of survey = top_of (min survey.count most_rows)
 
 -- ---- words above the rows
--- How many rows are drawn of how many, and where the next begins.
+-- Where the next row begins that isn't drawn.
 abbrev pub next_words : Option ℕ → List ℕ
 next_words None = []
 next_words (Some begin) = codes ", the next at " ++ decimal begin
 
+-- How many rows are drawn of how many, and where the next begins.
 abbrev pub row_words : Survey → List ℕ
 row_words survey =
     codes "a row for each cycle, from the moment at which it begins: " ++ decimal (min survey.count most_rows) ++ codes " of "
     ++ decimal survey.count ++ next_words survey.next
 
--- The axes, of which the second has lines over all rows.
+-- The axis of microseconds.
 abbrev pub upper_axis : Axis
 upper_axis = record { unit = Microseconds; words = 830; class = Tick; top = 850; height = 50 }
 
+-- The axis of bit times, with lines over all rows down to a lower edge.
 abbrev pub lower_axis_to : ℕ → Axis
 lower_axis_to bottom = record { unit = BitTimes; words = 1010; class = Grid; top = 1040; height = bottom - 1040 }
 
+-- Both axes.
 abbrev pub axes_text : Survey → List ℕ
 axes_text survey = axis_text (scale_of survey) upper_axis ++ axis_text (scale_of survey) (lower_axis_to (bottom_of survey))
 
@@ -69,35 +72,38 @@ mark_line survey t =
 abbrev pub mark_words : Survey → Class → ℕ → ℕ → List ℕ → ℕ → List ℕ
 mark_words survey class left below name t = words_text class left (bottom_of survey + below) (name ++ decimal t)
 
--- A mark, with its words behind it, unless it lies behind all rows. Those of the least cycle stand before it, and a line lower, since its
--- mark may be near that of the synchronization gap.
+-- A mark, with its words behind it, unless it lies behind all rows.
 abbrev pub mark_text : Survey → List ℕ → ℕ → List ℕ
 mark_text survey name t =
     if nat_le t survey.longest
     then box_text Mark (mark_line survey t) ++ mark_words survey Small (place (scale_of survey) t + 40) 150 name t
     else []
 
+-- The mark of the least cycle. Its words stand before it, and a line lower, since it may be near that of the synchronization gap.
 abbrev pub least_text : Survey → ℕ → List ℕ
 least_text survey t =
     if nat_le t survey.longest
     then box_text Mark (mark_line survey t) ++ mark_words survey Detail (place (scale_of survey) t - 30) 240 (codes "least ") t
     else []
 
--- In aperiodic mode the synchronization gap is marked, the least that a cycle takes, and the most; or the transmit interval, where that
--- is above the least. In periodic mode the transmit interval is.
+-- The mark of the transmit interval.
 abbrev pub interval_mark : Survey → Table → List ℕ
 interval_mark survey table = mark_text survey (codes "TI ") table.ti
 
+-- The marks of the synchronization gap and of the least cycle.
 abbrev pub least_marks : Survey → Table → ℕ → List ℕ
 least_marks survey table least = mark_text survey (codes "SG ") table.sg ++ least_text survey least
 
+-- The marks of an accepted table: in aperiodic mode the synchronization gap, the least cycle and the greatest, else the interval.
 abbrev pub accepted_marks : Survey → Table → Mode → ℕ → ℕ → List ℕ
 accepted_marks survey table Aperiodic least most = least_marks survey table least ++ mark_text survey (codes "most ") most
 accepted_marks survey table Periodic least most = interval_mark survey table
 
+-- The marks of a table whose least cycle is too short: its interval too.
 abbrev pub short_marks : Survey → Table → ℕ → List ℕ
 short_marks survey table least = least_marks survey table least ++ interval_mark survey table
 
+-- The marks of a table with this verdict.
 abbrev pub marks_text : Survey → Table → TableVerdict → List ℕ
 marks_text survey table (Accept mode least most) = accepted_marks survey table mode least most
 marks_text survey table (ShortCycle least ti) = short_marks survey table least
@@ -105,13 +111,15 @@ marks_text survey table (SmallGap terminal gap needed) = interval_mark survey ta
 marks_text survey table (NoSync terminal gap needed) = interval_mark survey table
 
 -- ---- the first breach
--- A line across its row in two parts, above and below the boxes of the row, and a word beside it.
+-- A part of the line of a breach, with this upper edge.
 abbrev pub breach_part : ℕ → ℕ → Area
 breach_part left top = record { left = left; top = top; width = 20; height = 40 }
 
+-- The part above the boxes of a row.
 abbrev pub part_above : ℕ → ℕ → Area
 part_above left row = breach_part left (top_of row - 30)
 
+-- The part below the boxes of a row.
 abbrev pub part_below : ℕ → ℕ → Area
 part_below left row = breach_part left (top_of row + 130)
 
@@ -119,6 +127,7 @@ part_below left row = breach_part left (top_of row + 130)
 abbrev pub beside : ℕ → ℕ
 beside left = if nat_lt left 8000 then left + 270 else left - 250
 
+-- The breach at a place in a row: both parts of its line, and a word beside it.
 abbrev pub breach_at : ℕ → ℕ → List ℕ
 breach_at left row =
     box_text Breach (part_above left row) ++ box_text Breach (part_below left row)
@@ -128,6 +137,7 @@ breach_at left row =
 abbrev pub breach_in_row : Scale → ℕ → Extent → List ℕ
 breach_in_row scale moment row = if is_drawn row.place then breach_at (pixel scale row.begin moment) row.place else []
 
+-- The breach at this moment, if there is one, in the row that is marked, if one is.
 abbrev pub breach_text : Scale → Option ℕ → Option Extent → List ℕ
 breach_text scale None marked = []
 breach_text scale (Some moment) None = []

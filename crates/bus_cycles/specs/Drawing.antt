@@ -26,14 +26,16 @@ pub record Keeps (scale : Scale) (row : Row) (extent : Extent) (edges : List ℕ
 abbrev pub next_row : Cycle → Row → Sent → Row
 next_row cycle row sent = if is_new cycle row.begin sent then row_at cycle (row.place + 1) sent else with_sent row sent
 
--- What the next transmission adds in a walk: where it begins a row, the words of the one before it come first.
+-- What the next transmission adds in a walk where it begins a row: the words of the row before it come first.
 abbrev pub new_text : Cycle → Scale → Bool → Row → Sent → List ℕ
 new_text cycle scale garbled row sent =
     ending_text garbled (extent_of row) ++ box_behind scale garbled (row.place + 1) (row_at cycle (row.place + 1) sent).begin [] sent
 
+-- What it adds where it goes on with its row.
 abbrev pub more_text : Scale → Bool → Row → Sent → List ℕ
 more_text scale garbled row sent = box_behind scale garbled row.place row.begin row.sents sent
 
+-- What the next transmission adds in a walk.
 abbrev pub next_text : Cycle → Scale → Bool → Row → Sent → List ℕ
 next_text cycle scale garbled row sent =
     if is_new cycle row.begin sent then new_text cycle scale garbled row sent else more_text scale garbled row sent

@@ -60,11 +60,12 @@ RowsAreNumbered =
     (table : Table) (window : Window) (list : List Entry) (k : ℕ) (row : Row) → slice_get (rows table window list) k ≡ Some row
     → row.place ≡ k
 
--- Each row begins later than all before it.
+-- Each of these rows begins later than all before it.
 abbrev pub Ascend : List Row → Type 0
 Ascend [] = ⊤
 Ascend (row ∷ rows) = AllByRecursion (λ (next : Row). row.begin < next.begin) rows × Ascend rows
 
+-- The rows of a window of a trace on a valid table do so.
 abbrev pub RowsAscend : Type 0
 RowsAscend =
     (table : Table) (window : Window) (trace : Recording) → IsTrue (is_valid table) → IsTrace trace → Ascend (rows table window trace.list)
@@ -103,10 +104,11 @@ BreachHidesNone =
     → ((part_above left row).top + (part_above left row).height ≤ (area_of scale row begin sent).top)
     × ((area_of scale row begin sent).top + (area_of scale row begin sent).height ≤ (part_below left row).top)
 
--- The counts above the plot are those of the rows: how many transmissions they have, and how many of these are garbled.
+-- How many transmissions of a row are garbled.
 abbrev pub garbled_of : Row → ℕ
 garbled_of row = count_by (λ (sent : Sent). sent.garbled) row.sents
 
+-- The counts above the plot are those of the rows: how many transmissions they have, and how many of these are garbled.
 abbrev pub CountsAreOfRows : Type 0
 CountsAreOfRows =
     (table : Table) (window : Window) (trace : Recording)
@@ -153,13 +155,13 @@ BreachIsAtItsMoment =
     → (survey_with table window list moment).marked ≡ Some extent → IsTrue (is_drawn extent.place)
     → IsAtItsMoment table window list moment extent
 
--- Where rows take the moment of a breach that the window has, one is marked, and none of them begins later; it is drawn where it is one of
--- the first.
+-- A row is marked that doesn't begin before this one.
 pub record IsMarkedBehind (table : Table) (window : Window) (list : List Entry) (moment : ℕ) (row : Row) : Type 0 where
   pub extent : Extent
   pub marked : (survey_with table window list moment).marked ≡ Some extent
   pub last : row.begin ≤ extent.begin
 
+-- Where rows take the moment of a breach that the window has, one is marked, and none of them begins later.
 abbrev pub TheLastRowIsMarked : Type 0
 TheLastRowIsMarked =
     (table : Table) (window : Window) (trace : Recording) (moment : ℕ) (row : Row) → IsTrue (is_valid table) → IsTrace trace

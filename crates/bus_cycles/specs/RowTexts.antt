@@ -22,10 +22,11 @@ top_of row = 1190 + 140 * row
 abbrev pub pixel : Scale → ℕ → ℕ → ℕ
 pixel scale begin t = place scale (t - begin) / 10 * 10
 
--- The left edge of a transmission in a row that began at this moment, and its right edge, at least a pixel behind.
+-- The left edge of a transmission in a row that began at this moment.
 abbrev pub left_of : Scale → ℕ → Sent → ℕ
 left_of scale begin sent = pixel scale begin sent.moment
 
+-- Its right edge, at least a pixel behind the left one.
 abbrev pub right_of : Scale → ℕ → Sent → ℕ
 right_of scale begin sent = max (pixel scale begin sent.end) (left_of scale begin sent + 10)
 
@@ -37,13 +38,15 @@ shade sent = (if sent.garbled then 2 else 0) + sent.terminal % 2
 abbrev pub class_of : ℕ → Class
 class_of shade = if shade == 0 then Other else (if shade == 1 then Wordstring else Garbled)
 
--- How far below the upper edge of its row it begins, and its height: that of odd terminals is the upper half where it is garbled.
+-- How far below the upper edge of its row a transmission of this shade begins.
 abbrev pub below_top : ℕ → ℕ
 below_top shade = if shade == 2 then 76 else (if shade == 3 then 16 else 10)
 
+-- Its height: a garbled one has half a row, that of odd terminals the upper half.
 abbrev pub height_of : ℕ → ℕ
 height_of shade = if nat_lt shade 2 then 120 else 48
 
+-- The area of a transmission in its row.
 abbrev pub area_of : Scale → ℕ → ℕ → Sent → Area
 area_of scale row begin sent = record {
   left = left_of scale begin sent;
@@ -88,6 +91,7 @@ is_left_out scale begin earlier sent = is_reached scale begin earlier (shade sen
 abbrev pub is_due : Bool → Sent → Bool
 is_due garbled sent = if garbled then sent.garbled else not sent.garbled
 
+-- A text of a transmission, which is left out of the walk in which it isn't due.
 abbrev pub where_due : Bool → Sent → List ℕ → List ℕ
 where_due garbled sent text = if is_due garbled sent then text else []
 
@@ -118,6 +122,7 @@ ending_text garbled row = if garbled then [] else where_drawn row.place (words_o
 abbrev pub row_text : Scale → Bool → Row → List ℕ
 row_text scale garbled row = boxes scale garbled row.place row.begin [] row.sents ++ ending_text garbled (extent_of row)
 
+-- What a walk draws of rows.
 abbrev pub walk_text : Scale → Bool → List Row → List ℕ
 walk_text scale garbled rows = flat_map (row_text scale garbled) rows
 

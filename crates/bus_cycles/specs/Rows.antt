@@ -29,6 +29,7 @@ abbrev pub begin_in : Mode → Cycle → Sent → ℕ
 begin_in Periodic cycle sent = interval_of cycle.ti sent.moment
 begin_in Aperiodic cycle sent = min sent.moment (max sent.before (sent.moment - cycle.lead))
 
+-- The same, by the mode of the cycle.
 abbrev pub begin_of : Cycle → Sent → ℕ
 begin_of cycle sent = begin_in cycle.mode cycle sent
 
@@ -38,6 +39,7 @@ abbrev pub is_new_in : Mode → Cycle → ℕ → Sent → Bool
 is_new_in Periodic cycle begin sent = not (interval_of cycle.ti sent.moment == begin)
 is_new_in Aperiodic cycle begin sent = nat_le cycle.sg (sent.moment - sent.before)
 
+-- The same, by the mode of the cycle.
 abbrev pub is_new : Cycle → ℕ → Sent → Bool
 is_new cycle begin sent = is_new_in cycle.mode cycle begin sent
 
@@ -86,5 +88,6 @@ abbrev pub takes_in : Mode → Cycle → Extent → ℕ → Bool
 takes_in Periodic cycle row t = interval_of cycle.ti t == row.begin
 takes_in Aperiodic cycle row t = nat_le row.begin t
 
+-- The same, by the mode of the cycle.
 abbrev pub takes : Cycle → Extent → ℕ → Bool
 takes cycle row t = takes_in cycle.mode cycle row t

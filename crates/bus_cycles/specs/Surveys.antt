@@ -34,17 +34,19 @@ takes_breach cycle (Some moment) row = takes cycle row moment
 abbrev pub nothing : Cycle → Survey
 nothing cycle = record { count = 0; longest = cycle.ti; next = None; marked = None }
 
--- One row more: how many there are, how long the longest is that is drawn, where the first begins that isn't, and which is the last that
--- takes the breach.
+-- With one row more: how long the longest is that is drawn.
 abbrev pub longest_with : ℕ → Extent → ℕ
 longest_with longest row = if is_drawn row.place then max longest (row.end - row.begin) else longest
 
+-- With one row more: where the first begins that isn't drawn.
 abbrev pub next_with : Option ℕ → Extent → Option ℕ
 next_with next row = if row.place == most_rows then Some row.begin else next
 
+-- With one row more: which is the last that takes the breach.
 abbrev pub marked_with : Cycle → Option ℕ → Option Extent → Extent → Option Extent
 marked_with cycle breach marked row = if takes_breach cycle breach row then Some row else marked
 
+-- With one row more: all that is told.
 abbrev pub with_row : Cycle → Option ℕ → Survey → Extent → Survey
 with_row cycle breach survey row = record {
   count = survey.count + 1;
@@ -57,6 +59,7 @@ with_row cycle breach survey row = record {
 abbrev pub reach_in : ℕ → Extent → ℕ
 reach_in moment row = if is_drawn row.place then moment - row.begin else 0
 
+-- How far the breach at this moment, if there is one, is behind the beginning of the row that is marked, if one is.
 abbrev pub reach_of : Option ℕ → Option Extent → ℕ
 reach_of None marked = 0
 reach_of (Some moment) None = 0
@@ -71,10 +74,11 @@ with_breach breach survey = record {
   marked = survey.marked;
 }
 
--- What is told of the rows of transmissions, first of all of them, then with the breach.
+-- What is told of the rows of transmissions.
 abbrev pub told_of : Cycle → Option ℕ → List Sent → Survey
 told_of cycle breach sents = fold (with_row cycle breach) (nothing cycle) (map extent_of (rows_of cycle sents))
 
+-- What is told of them, with the breach.
 abbrev pub survey_of : Cycle → Option ℕ → List Sent → Survey
 survey_of cycle breach sents = with_breach breach (told_of cycle breach sents)
 

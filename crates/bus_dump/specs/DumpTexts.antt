@@ -61,6 +61,7 @@ width_text (Synchronization terminal) = codes "1 "
 width_text (Gap terminal) = codes "1 "
 width_text (May terminal) = codes "1 "
 
+-- The bits of a signal, behind its name, where it has several.
 abbrev pub bits_text : Signal → List ℕ
 bits_text Carrier = []
 bits_text Overlap = []
@@ -122,20 +123,22 @@ changes_text signals before now t = if list_any (changes before now) signals the
 abbrev pub changes_at : List Signal → (ℕ → Scene) → ℕ → List ℕ
 changes_at signals scene t = changes_text signals (scene (t - 1)) (scene t) t
 
--- What changes at the bit times from 1 to below the horizon, and the stamp of the horizon.
+-- What changes at the bit times from 1 to below the horizon.
 abbrev pub changes_to : List Signal → (ℕ → Scene) → ℕ → List ℕ
 changes_to signals scene horizon = flat_map (changes_at signals scene) (range_with_len 1 (horizon - 1))
 
+-- The stamp of the horizon, where that isn't 0.
 abbrev pub last_stamp : ℕ → List ℕ
 last_stamp horizon = if nat_eq horizon 0 then [] else stamp horizon
 
 -- ---- the whole
--- The lines before the declarations, of which one has a comment, and those behind.
+-- The lines before the declarations, of which one has a comment.
 abbrev pub head_text : List ℕ → List ℕ
 head_text comment =
     codes "$version bus629-view 1 $end\n$comment " ++ comment
     ++ codes " $end\n$timescale 100 ns $end\n$scope module bus $end\n"
 
+-- The lines behind the declarations.
 abbrev pub behind_text : List ℕ
 behind_text = codes "$upscope $end\n$enddefinitions $end\n"
 

@@ -23,10 +23,11 @@ is_stranger table list terminal = not (is_sender table terminal) && sends list t
 abbrev pub lane_with : Bool → ℕ → Lane
 lane_with sender terminal = record { terminal = terminal; sender = sender }
 
--- The lane of a sender, and of a stranger.
+-- The lane of a sender.
 abbrev pub sender_lane : Sender → Lane
 sender_lane sender = lane_with true sender.number
 
+-- The lane of a stranger.
 abbrev pub stranger_lane : ℕ → Lane
 stranger_lane terminal = lane_with false terminal
 

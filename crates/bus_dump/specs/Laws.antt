@@ -63,6 +63,7 @@ NamesAreDeclared =
     → HoldsNoFeed comment → In signal (signals dump (lanes table trace.list))
     → identifier (name_text signal) (dump_text dump comment table trace) ≡ Some (id_text signal)
 
+-- No two signals of a dump have the same identifier.
 abbrev pub IdentifiersDiffer : Type 0
 IdentifiersDiffer =
     (dump : Dump) (table : Table) (list : List Entry) (a b : Signal) → IsTrue (is_valid table)
@@ -97,6 +98,7 @@ pub record Changes (signals : List Signal) (scene : ℕ → Scene) (t : ℕ) : T
   pub text : changes_at signals scene t
       ≡ stamp t ++ flat_map (value_line (scene t)) (filter (changes (scene (t - 1)) (scene t)) signals)
 
+-- At each bit time either nothing changes, or a stamp is put and what changes.
 abbrev pub NothingIsIdle : Type 0
 NothingIsIdle = (signals : List Signal) (scene : ℕ → Scene) (t : ℕ) → StaysSame signals scene t ⊎ Changes signals scene t
 
@@ -131,6 +133,7 @@ pub record LanesAgree (table : Table) (list : List Entry) : Type 0 where
   pub some : (lane : Lane) → In lane (lanes table list) → (is_sender table lane.terminal || sends list lane.terminal) ≡ true
   pub kind : (lane : Lane) → In lane (lanes table list) → lane.sender ≡ is_sender table lane.terminal
 
+-- The lanes of a trace on a valid table agree with its terminals.
 abbrev pub LanesAreTerminals : Type 0
 LanesAreTerminals = (table : Table) (trace : Recording) → IsTrue (is_valid table) → IsTrace trace → LanesAgree table trace.list
 
@@ -187,6 +190,7 @@ pub record WordAgrees (dump : Dump) (table : Table) (list : List Entry) (t : ℕ
       → value Word (scene_at dump table list t) ≡ Number (word_at bit.string (bit.at / word_bits))
   pub unknown : (value Word (scene_at dump table list t) ≡ Unknown) ↔ (1 < count_by (pulses t) list)
 
+-- At each bit time the word agrees with the list.
 abbrev pub WordIsTold : Type 0
 WordIsTold = (dump : Dump) (table : Table) (list : List Entry) (t : ℕ) → WordAgrees dump table list t
 
@@ -197,6 +201,7 @@ pub record LabelAgrees (dump : Dump) (table : Table) (list : List Entry) (t n : 
   pub number : (x : Entry) (bit : StringBit) → In x list → x.terminal ≡ n → bit_on t x ≡ Some bit
       → value (Label n) (scene_at dump table list t) ≡ Number (label_value bit.string)
 
+-- At each bit time the label of each terminal agrees with the list, where no transmission is doubled.
 abbrev pub LabelsAreTold : Type 0
 LabelsAreTold =
     (dump : Dump) (table : Table) (list : List Entry) (t n : ℕ) → doubled list ≡ None → LabelAgrees dump table list t n
@@ -208,6 +213,7 @@ pub record MessageAgrees (dump : Dump) (table : Table) (list : List Entry) (t n 
   pub number : (k : ℕ) (x : Entry) → slice_get list k ≡ Some x → x.terminal ≡ n → holds t x ≡ true
       → value (Message n) (scene_at dump table list t) ≡ Number (number_of list k n)
 
+-- At each bit time the message number of each terminal agrees with the list, where no transmission is doubled.
 abbrev pub MessagesAreTold : Type 0
 MessagesAreTold =
     (dump : Dump) (table : Table) (list : List Entry) (t n : ℕ) → doubled list ≡ None → MessageAgrees dump table list t n
@@ -233,6 +239,7 @@ pub record OverlapsAgree (dump : Dump) (table : Table) (trace : Recording) : Typ
   pub shown : OverlapIsShown dump table trace ↔ GarbledIsShown dump table trace
   pub there : OverlapIsShown dump table trace ↔ ((k : ℕ) × (garbled trace.list k ≡ true))
 
+-- The overlaps of a dump of a trace on a valid table agree with the list.
 abbrev pub OverlapsGarble : Type 0
 OverlapsGarble =
     (dump : Dump) (table : Table) (trace : Recording) → IsTrue (is_valid table) → IsTrace trace → OverlapsAgree dump table trace
@@ -278,6 +285,7 @@ pub record TimersAgree (scene : Scene) (number : ℕ) (timing : Timing) (heard :
       ↔ ((value (Interval number) scene ≡ Bit true) × (value (Gap number) scene ≡ Bit true))
   pub behind : value (Gap number) scene ≡ Bit true → value (Synchronization number) scene ≡ Bit true
 
+-- At each bit time the timers of each sender agree with what it has heard.
 abbrev pub TimersAreTold : Type 0
 TimersAreTold =
     (table : Table) (list : List Entry) (t : ℕ) (sender : Sender) → IsTrue (is_valid table) → In sender table.senders

@@ -17,13 +17,15 @@ use Rattle.bus_dump.specs.Walks.{change_put}
 abbrev pub layout_signals : Layout → List Signal
 layout_signals layout = signals layout.dump layout.lanes.items
 
--- What is put of a lane: its declarations, the lines of its values, and of its changes.
+-- What is put of a lane: its declarations.
 abbrev pub lane_declarations : Dump → Lane → List ℕ
 lane_declarations dump lane = flat_map declaration (lane_signals dump lane)
 
+-- The lines of its values.
 abbrev pub lane_lines : Dump → Scene → Lane → List ℕ
 lane_lines dump scene lane = flat_map (value_line scene) (lane_signals dump lane)
 
+-- The lines of its changes.
 abbrev pub lane_put : Dump → Scene → Scene → Lane → List ℕ
 lane_put dump before now lane = flat_map (change_put before now) (lane_signals dump lane)
 

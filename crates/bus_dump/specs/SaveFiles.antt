@@ -17,13 +17,15 @@ use Rattle.bus_dump.specs.Signals.{May}
 abbrev pub heading : List ℕ → List ℕ
 heading name = codes "@200\n-" ++ name ++ codes "\n"
 
--- The signals behind it are shown as wires, in hexadecimal or in decimal digits.
+-- The signals behind it are shown as wires.
 abbrev pub as_wires : List ℕ
 as_wires = codes "@28\n"
 
+-- The signals behind it are shown in hexadecimal digits.
 abbrev pub as_hexadecimal : List ℕ
 as_hexadecimal = codes "@22\n"
 
+-- The signals behind it are shown in decimal digits.
 abbrev pub as_decimal : List ℕ
 as_decimal = codes "@24\n"
 
@@ -57,6 +59,7 @@ abbrev pub messages_shown : ℕ → List ℕ
 messages_shown terminal =
     as_wires ++ shown (Pulse terminal) ++ marked ++ shown (Garbled terminal) ++ as_decimal ++ shown (Message terminal)
 
+-- The signals of a lane: those of its transmissions, and of a sender its timers.
 abbrev pub lane_shown : Table → Lane → List ℕ
 lane_shown table lane =
     heading (lane_title table lane.terminal) ++ messages_shown lane.terminal ++ (if lane.sender then timers_shown lane.terminal else [])

@@ -9,6 +9,7 @@ use Rattle.bus_dump.specs.declared.dump.Dump.TheVariants.{Vcd, Wires, Timers}
 use Rattle.bus_dump.specs.Seen.{Seen, seen_at}
 use Rattle.bus_dump.specs.Timers.{Elapsed, elapsed_of}
 
+-- A scene: what is seen of the list at a bit time, and what the timers of each sender tell there.
 pub record Scene : Type 0 where
   pub seen : List Seen
   pub timers : List Elapsed

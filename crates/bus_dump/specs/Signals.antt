@@ -56,13 +56,15 @@ label terminal seen = option_map_or shown_label (find (λ s. is_of terminal s &&
 abbrev pub message : ℕ → List Seen → Value
 message terminal seen = option_map_or (λ (s : Seen). Number s.number) (find (is_of terminal) seen) Floating
 
--- What the timers of a terminal tell, of these.
+-- What is told where no timers are: that nothing has elapsed.
 abbrev pub no_elapsed : Elapsed
 no_elapsed = record { terminal = 0; interval = false; synchronization = false; gap = false; may = false }
 
+-- Whether this is told of a terminal.
 abbrev pub tells_of : ℕ → Elapsed → Bool
 tells_of terminal elapsed = elapsed.terminal == terminal
 
+-- What the timers of a terminal tell, of these.
 abbrev pub elapsed : ℕ → List Elapsed → Elapsed
 elapsed terminal timers = unwrap_or (find (tells_of terminal) timers) no_elapsed
 
@@ -136,6 +138,7 @@ signals_of terminal =
     Pulse terminal ∷ (Garbled terminal ∷ (Label terminal ∷ (Message terminal
     ∷ (Interval terminal ∷ (Synchronization terminal ∷ (Gap terminal ∷ (May terminal ∷ [])))))))
 
+-- The signals of a lane that a dump has.
 abbrev pub lane_signals : Dump → Lane → List Signal
 lane_signals dump lane = filter (has dump lane.sender) (signals_of lane.terminal)
 

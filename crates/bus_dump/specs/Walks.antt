@@ -28,6 +28,7 @@ one_more value None = value
 one_more Floating (Some word) = Number word
 one_more _ (Some word) = Unknown
 
+-- The word on the bus where this transmission more is seen.
 abbrev pub with_word : Value → Seen → Value
 with_word value seen = one_more value (shown_word seen)
 

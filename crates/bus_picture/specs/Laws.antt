@@ -39,6 +39,7 @@ pub record HoldsIts (box : Box) : Type 0 where
   pub held : In last (members box)
   pub ends : last.end ≡ (pile_of box).end
 
+-- Each box of a row of a list in order does so.
 abbrev pub BoxesHoldTheirs : Type 0
 BoxesHoldTheirs =
     (scale : Scale) (row : Row) (list : List Entry) (box : Box) → IsByMoment list → In box (boxes scale (shown scale row list))
@@ -52,6 +53,7 @@ AreUncovered [] = ⊤
 AreUncovered (row ∷ rows) =
     (row.garbled ≡ true → AllByRecursion (λ (next : Row). row.top + row_height ≤ next.top) rows) × AreUncovered rows
 
+-- All rows of a time line are so.
 abbrev pub GarbledAreUncovered : Type 0
 GarbledAreUncovered = (bottom : ℕ) (lanes : List Lane) → AreUncovered (rows_of bottom lanes)
 
@@ -66,10 +68,11 @@ BoxesLieInRows =
 abbrev pub rows_with : Scale → List Row → Sent → ℕ
 rows_with scale rows x = count_by (λ (row : Row). shows scale row x) rows
 
--- Each transmission that meets the window is shown by exactly one row of the bus, and by exactly one of all lanes.
+-- Each transmission that meets the window is shown by exactly one row of the bus.
 abbrev pub EachIsOnTheBus : Type 0
 EachIsOnTheBus = (scale : Scale) (bottom : ℕ) (x : Sent) → is_shown scale x ≡ true → rows_with scale (bus_rows bottom) x ≡ 1
 
+-- Each transmission of a trace that meets the window is shown by exactly one row of all lanes.
 abbrev pub EachIsInOneLane : Type 0
 EachIsInOneLane =
     (scale : Scale) (bottom : ℕ) (table : Table) (trace : Recording) (x : Sent) → IsTrue (is_valid table) → IsTrace trace
@@ -85,9 +88,11 @@ pub record AreCounted (scale : Scale) (trace : Recording) (rows : List Row) : Ty
   pub all : (counts_of scale trace).shown ≡ in_boxes scale trace.list rows
   pub hurt : (counts_of scale trace).garbled ≡ in_boxes scale trace.list (filter (λ (row : Row). row.garbled) rows)
 
+-- The counts are those of the boxes of the bus.
 abbrev pub BusIsCounted : Type 0
 BusIsCounted = (scale : Scale) (trace : Recording) (bottom : ℕ) → AreCounted scale trace (bus_rows bottom)
 
+-- The counts are those of the boxes of all lanes.
 abbrev pub LanesAreCounted : Type 0
 LanesAreCounted =
     (scale : Scale) (table : Table) (trace : Recording) (bottom : ℕ) → IsTrue (is_valid table) → IsTrace trace

@@ -30,11 +30,12 @@ shows scale row x = is_of row x && beq x.garbled row.garbled && meets scale x.mo
 abbrev pub shown : Scale → Row → List Entry → List Sent
 shown scale row list = filter (shows scale row) (sents list)
 
--- How the boxes of a row look: hatched where it is garbled.
+-- How the boxes of a row look that isn't garbled.
 abbrev pub plain_class : Option ℕ → Class
 plain_class None = Span
 plain_class (Some terminal) = Message
 
+-- How the boxes of a row look: hatched where it is garbled.
 abbrev pub box_class : Row → Class
 box_class row = if row.garbled then Garbled else plain_class row.terminal
 
@@ -57,14 +58,16 @@ abbrev pub inner_text : Scale → Row → List Entry → Pile → List ℕ
 inner_text scale row list pile =
     if nat_eq pile.count 1 && not (is_narrow scale pile.first) then entry_text scale row list pile.first else []
 
+-- What is drawn beside a box: of the bus over all lanes, of a lane within it.
 abbrev pub more_text : Option ℕ → Scale → Row → List Entry → Pile → List ℕ
 more_text None scale row list pile = column_text scale row pile
 more_text (Some terminal) scale row list pile = inner_text scale row list pile
 
--- A box, and its area.
+-- The area of a box.
 abbrev pub box_area : Scale → Row → Pile → Area
 box_area scale row pile = stretch scale pile (row.top + 60) 180
 
+-- A box, with what is drawn beside it.
 abbrev pub pile_text : Scale → Row → List Entry → Pile → List ℕ
 pile_text scale row list pile =
     titled_text (box_class row) (box_area scale row pile) (pile_words pile)

@@ -38,10 +38,11 @@ string_words from to string =
     name_words string ++ codes ": moments " ++ decimal from ++ codes " to " ++ decimal to ++ codes ", "
     ++ counted (length string.words) (codes "data word")
 
--- How a wordstring and its words look, of a garbled transmission or of another.
+-- How a wordstring looks, of a garbled transmission or of another.
 abbrev pub string_class : Bool → Class
 string_class garbled = if garbled then Noise else classes.Wordstring
 
+-- How its words look.
 abbrev pub digits_class : Bool → Class
 digits_class garbled = if garbled then NoiseDigits else Digits
 
@@ -71,18 +72,20 @@ digits_text garbled area width digits =
     if nat_lt area.width width then []
     else words_text (digits_class garbled) (area.left + area.width / 2) (area.top + 100) digits
 
--- A label word: its area, and the label and the extension. Of a garbled transmission the area is but tinted: its wordstring has the
+-- How the area of a label word looks. Of a garbled transmission it is but tinted: its wordstring has the
 -- words under the pointer.
 abbrev pub label_class : Bool → Class
 label_class garbled = if garbled then Overlap else Label
 
+-- A label word: its area, and the label and the extension.
 abbrev pub label_word : Bool → Area → Wordstring → List ℕ
 label_word garbled area string = box_text (label_class garbled) area ++ digits_text garbled area 330 (name_words string)
 
--- A data word: the edge at which it begins, and its digits.
+-- The edge at which a data word begins.
 abbrev pub edge_of : Area → Area
 edge_of area = record { left = area.left; top = area.top; width = 8; height = area.height }
 
+-- A data word: its edge, and its digits.
 abbrev pub data_word : Bool → Area → ℕ → List ℕ
 data_word garbled area word = box_text Edge (edge_of area) ++ digits_text garbled area 264 (hexadecimal 4 word)
 
@@ -90,11 +93,12 @@ data_word garbled area word = box_text Edge (edge_of area) ++ digits_text garble
 abbrev pub word_area : Scale → ℕ → ℕ → Area
 word_area scale top t = string_area scale top t (t + word_bits)
 
--- The label word and a data word that begins at a moment, where it meets the moments of the scale.
+-- The label word that begins at a moment, where it meets the moments of the scale.
 abbrev pub label_at : Scale → ℕ → Bool → ℕ → Wordstring → List ℕ
 label_at scale top garbled t string =
     if meets scale t (t + word_bits) then label_word garbled (word_area scale top t) string else []
 
+-- A data word that begins at a moment, where it meets the moments of the scale.
 abbrev pub data_at : Scale → ℕ → Bool → ℕ → ℕ → List ℕ
 data_at scale top garbled t word =
     if meets scale t (t + word_bits) then data_word garbled (word_area scale top t) word else []

@@ -33,20 +33,23 @@ use Rattle.bus_picture.specs.Strings.{meets}
 use Rattle.bus_picture.specs.Timers.{bus_timer, is_near, sender_timers}
 
 -- ---- where things are
--- The upper edge of the plot, which is that of the bus; the height of a row; the upper edge of lane k; and the lower edge of so many lanes.
+-- The upper edge of the plot, which is that of the bus.
 abbrev pub plot_top : ℕ
 plot_top = 960
 
+-- The height of a row.
 abbrev pub row_height : ℕ
 row_height = 320
 
+-- The upper edge of lane k, which is the lower edge of k lanes.
 abbrev pub lane_top : ℕ → ℕ
 lane_top k = plot_top + row_height * (k + 1)
 
--- The left edge of the plot, and its width, which leaves room for half of a number at its right edge.
+-- The left edge of the plot.
 abbrev pub plot_left : ℕ
 plot_left = 1500
 
+-- The width of the plot, which leaves room for half of a number at its right edge.
 abbrev pub plot_width : ℕ
 plot_width = 13800
 
@@ -55,6 +58,7 @@ abbrev pub scale_of : Window → Scale
 scale_of window = record { from = window.from; to = window.to; left = plot_left; width = plot_width }
 
 -- ---- what is counted
+-- Whether a transmission meets the window.
 abbrev pub is_shown : Scale → Sent → Bool
 is_shown scale x = meets scale x.moment x.end
 
@@ -74,10 +78,11 @@ abbrev pub offset_words : Mode → ℕ → List ℕ
 offset_words Aperiodic at = []
 offset_words Periodic at = codes " AT " ++ decimal at
 
--- The timers of a sender.
+-- The timers of a sender, in words.
 abbrev pub timer_words : Mode → ℕ → ℕ → List ℕ
 timer_words mode tg at = codes "TG " ++ decimal tg ++ offset_words mode at
 
+-- These words, beside the lane with this upper edge.
 abbrev pub sender_text : Mode → ℕ → Sender → List ℕ
 sender_text mode top sender = words_text Detail 1380 (top + 270) (timer_words mode sender.tg sender.at)
 
@@ -106,20 +111,23 @@ each_lane of k [] = []
 each_lane of k (lane ∷ lanes) = of k lane ++ each_lane of (k + 1) lanes
 
 -- ---- the rows
--- The two rows of one place, in the order in which they are drawn: what isn't garbled, and over it what is.
+-- A row of one place: of what is garbled, or of what isn't.
 abbrev pub row_at : Option ℕ → ℕ → ℕ → Bool → Row
 row_at terminal top bottom garbled = record { terminal = terminal; garbled = garbled; top = top; bottom = bottom }
 
+-- The two rows of one place, in the order in which they are drawn: what isn't garbled, and over it what is.
 abbrev pub rows_at : Option ℕ → ℕ → ℕ → List Row
 rows_at terminal top bottom = row_at terminal top bottom false ∷ (row_at terminal top bottom true ∷ [])
 
--- Those of the bus, of lane k, and of all lanes.
+-- The rows of the bus.
 abbrev pub bus_rows : ℕ → List Row
 bus_rows bottom = rows_at None plot_top bottom
 
+-- The rows of lane k.
 abbrev pub lane_rows : ℕ → ℕ → Lane → List Row
 lane_rows bottom k lane = rows_at (Some lane.terminal) (lane_top k) bottom
 
+-- The rows of all lanes.
 abbrev pub rows_of_lanes : ℕ → List Lane → List Row
 rows_of_lanes bottom lanes = each_lane (lane_rows bottom) 0 lanes
 
@@ -153,13 +161,15 @@ unobserved_text scale bottom horizon =
     }) (codes "not observed: the horizon is " ++ decimal horizon)
     else []
 
--- The axes: of microseconds above, of bit times below.
+-- The axis above the plot, of microseconds.
 abbrev pub upper_axis : Axis
 upper_axis = record { unit = Microseconds; words = 840; class = Tick; top = 900; height = 60 }
 
+-- The axis below the plot, of bit times.
 abbrev pub lower_axis : ℕ → Axis
 lower_axis bottom = record { unit = BitTimes; words = bottom + 210; class = Grid; top = plot_top; height = bottom - plot_top }
 
+-- Both axes.
 abbrev pub axes_text : Scale → ℕ → List ℕ
 axes_text scale bottom = axis_text scale upper_axis ++ axis_text scale (lower_axis bottom)
 
@@ -178,6 +188,7 @@ mark_at left top answer =
     mark_part left top 60 ++ mark_part left (top + 240) 80
     ++ words_text BreachWords (words_middle left) (top + 312) (answer_words answer)
 
+-- The mark of a breach at a moment, in the lane with this upper edge.
 abbrev pub mark_text : Scale → ℕ → ℕ → AuditAnswer → List ℕ
 mark_text scale top moment answer = mark_at (place scale moment) top answer
 
@@ -189,29 +200,35 @@ breach_text scale (Breach moment terminal kind) k lane =
     then mark_text scale (lane_top k) moment (Breach moment terminal kind) else []
 
 -- ---- the legend
+-- A box of the legend, of a class.
 abbrev pub legend_box : Class → ℕ → ℕ → ℕ → ℕ → List ℕ
 legend_box class left top width height = box_text class (record { left = left; top = top; width = width; height = height })
 
+-- What the legend says of messages and their wordstrings.
 abbrev pub legend_message : ℕ → List ℕ
 legend_message top =
     legend_box classes.Message 1500 top 700 180 ++ legend_box classes.Wordstring 1540 (top + 30) 260 120
     ++ legend_box classes.Wordstring 1900 (top + 30) 260 120
     ++ words_text Small 2280 (top + 120) (codes "a message and its wordstrings: label, extension, +data words")
 
+-- What it says of garbled messages.
 abbrev pub legend_garbled : ℕ → List ℕ
 legend_garbled top =
     legend_box Garbled 6600 top 500 180 ++ legend_box Noise 6640 (top + 30) 420 120 ++ words_text Small 7180 (top + 120) (codes "garbled")
 
+-- What it says of what lies over all lanes.
 abbrev pub legend_columns : ℕ → List ℕ
 legend_columns top =
     legend_box Overlap 8100 top 300 180 ++ words_text Small 8480 (top + 120) (codes "garbled on the bus")
     ++ legend_box Unobserved 10100 top 300 180 ++ words_text Small 10480 (top + 120) (codes "behind the horizon")
 
+-- What it says of timers.
 abbrev pub legend_timers : ℕ → List ℕ
 legend_timers top =
     legend_box Gap 11700 (top + 83) 300 14 ++ words_text Small 12080 (top + 120) (codes "gap: SG, TG")
     ++ legend_box Interval 13000 (top + 83) 300 14 ++ words_text Small 13380 (top + 120) (codes "transmit interval: TI")
 
+-- The legend, whose boxes have this upper edge.
 abbrev pub legend_text : ℕ → List ℕ
 legend_text top = legend_message top ++ legend_garbled top ++ legend_columns top ++ legend_timers top
 

@@ -10,26 +10,29 @@ use Rattle.bus_shapes.specs.SendingLaws.{IsInOrder}
 use Rattle.bus_picture.specs.Boxes.{Pile, joins}
 use Rattle.bus_picture.specs.Rows.{Row, pile_text, shows}
 
--- A box of one transmission, and a box with one more.
+-- A box of one transmission.
 abbrev pub one : Sent → Pile
 one x = record { first = x; count = 1; end = x.end }
 
+-- A box with one transmission more.
 abbrev pub grown : Pile → Sent → Pile
 grown pile x = record { first = pile.first; count = pile.count + 1; end = max pile.end x.end }
 
--- The last box where x, which is shown, comes next, and what is written then: the box before, where x doesn't share it.
+-- The last box where x, which is shown, comes next.
 abbrev pub with_next : Scale → Option Pile → Sent → Pile
 with_next scale None x = one x
 with_next scale (Some pile) x = if joins scale pile.first x then grown pile x else one x
 
+-- What is written then: the box before, where x doesn't share it.
 abbrev pub written : Scale → Row → List Entry → Option Pile → Sent → List ℕ
 written scale row list None x = []
 written scale row list (Some pile) x = if joins scale pile.first x then [] else pile_text scale row list pile
 
--- The same, where x is shown or not.
+-- The last box where x comes next, shown or not.
 abbrev pub next_pile : Scale → Row → Option Pile → Sent → Option Pile
 next_pile scale row last x = if shows scale row x then Some (with_next scale last x) else last
 
+-- What is written then, whether x is shown or not.
 abbrev pub next_written : Scale → Row → List Entry → Option Pile → Sent → List ℕ
 next_written scale row list last x = if shows scale row x then written scale row list last x else []
 

@@ -14,6 +14,7 @@ abbrev pub unit_bits : Unit → ℕ
 unit_bits Microseconds = 2
 unit_bits BitTimes = 1
 
+-- What a unit is called.
 abbrev pub unit_name : Unit → List ℕ
 unit_name Microseconds = codes "microseconds"
 unit_name BitTimes = codes "bit times"
@@ -38,10 +39,11 @@ most_units = 10000000000000
 abbrev pub step : Scale → Unit → ℕ
 step scale unit = unwrap_or (find (is_wide scale unit) rounds) most_units * unit_bits unit
 
--- The marks are the multiples of the step in the scale: the first of them, as such a multiple, and how many there are.
+-- The marks are the multiples of the step in the scale. The first of them, as such a multiple.
 abbrev pub first_mark : Scale → ℕ → ℕ
 first_mark scale step = (scale.from + step - 1) / step
 
+-- How many marks there are.
 abbrev pub mark_count : Scale → ℕ → ℕ
 mark_count scale step = scale.to / step + 1 - first_mark scale step
 

@@ -8,15 +8,17 @@ use Rattle.bus_shapes.specs.Shapes.{Area, box_text, words_text}
 pub use Rattle.bus_shapes.specs.declared.counts.Counts.{Counts}
 
 -- ---- the head
--- The style of words of every class, and the hatching of what is garbled.
+-- The style of words of every class.
 abbrev pub font_text : List ℕ
 font_text = codes "text{font-family:DejaVu Sans Mono,Menlo,Consolas,monospace;font-size:110px;fill:#222;pointer-events:none}\n"
 
+-- The hatching of what is garbled.
 abbrev pub hatch_text : List ℕ
 hatch_text =
     codes "<defs><pattern id=\"hatch\" width=\"80\" height=\"80\" patternUnits=\"userSpaceOnUse\" patternTransform=\"rotate(45)\">"
     ++ codes "<rect width=\"80\" height=\"80\" fill=\"#ffd2a8\"/><rect width=\"24\" height=\"80\" fill=\"#d55e00\"/></pattern></defs>\n"
 
+-- The style of a picture: its words, its classes and the hatching.
 abbrev pub style_text : List ℕ
 style_text = codes "<style>\n" ++ font_text ++ rules_text ++ codes "</style>\n" ++ hatch_text
 

@@ -6,10 +6,11 @@ use Rattle.bus_table.specs.Tables.{Table}
 use Rattle.bus_regime.specs.Lines.{mode_name}
 pub use Rattle.bus_shapes.specs.declared.sent.Sent.{Sent}
 
--- The ending of the name of so many, and so many of something, which has this name where it is one.
+-- The ending of the name of so many.
 abbrev pub ending : ℕ → List ℕ
 ending count = if nat_eq count 1 then [] else codes "s"
 
+-- So many of something, which has this name where it is one.
 abbrev pub counted : ℕ → List ℕ → List ℕ
 counted count name = decimal count ++ codes " " ++ name ++ ending count
 
@@ -19,6 +20,7 @@ abbrev pub summary_words : Mode → ℕ → ℕ → ℕ → List ℕ
 summary_words mode ti sg senders =
     mode_name mode ++ codes " TI " ++ decimal ti ++ codes " SG " ++ decimal sg ++ codes ", " ++ counted senders (codes "sender")
 
+-- The same of a table.
 abbrev pub table_words : Table → List ℕ
 table_words table = summary_words table.mode table.ti table.sg (length table.senders)
 
@@ -27,6 +29,7 @@ table_words table = summary_words table.mode table.ti table.sg (length table.sen
 abbrev pub microseconds : ℕ → List ℕ
 microseconds t = decimal (t / 2) ++ codes "." ++ decimal (t % 2 * 5)
 
+-- Whether it is garbled, in words.
 abbrev pub garbled_words : Bool → List ℕ
 garbled_words true = codes ", garbled"
 garbled_words false = []
