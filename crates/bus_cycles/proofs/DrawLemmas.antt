@@ -10,7 +10,7 @@ use Rattle.bus_outer.proofs.TextLaws.{◌▸◌}
 use Rattle.bus_outer.specs.declared.text_buffer.TextBuffer.{TextBuffer}
 use Rattle.bus_shapes.specs.declared.sent.Sent.{Sent}
 use Rattle.bus_shapes.specs.declared.scale.Scale.{Scale}
-use Rattle.bus_cycles.specs.Drawing.{Draws, Keeps, Reaches, more_text, new_text, next_row, next_text}
+use Rattle.bus_cycles.specs.inside.Drawing.{Draws, Keeps, Reaches, more_text, new_text, next_row, next_text}
 use Rattle.bus_cycles.specs.Rows.{Cycle, Extent, Row, extent_of, is_new, row_at, rows_from, rows_of, with_sent}
 use Rattle.bus_cycles.specs.RowTexts.{box_behind, boxes, ending_text, is_reached, right_of, row_text, shade, walk_text}
 

@@ -3,7 +3,7 @@ use Rattle.std.proofs.Common.{◌≡◌, ℕ, ◌+◌, ◌-◌, ◌^◌, ◌≤�
 use Rattle.std.proofs.lemmas.List.Sums.{fold-append}
 use Rattle.bus_shapes.specs.declared.sent.Sent.{Sent}
 use Rattle.bus_cycles.specs.Rows.{Cycle, Extent, Row, end_of_all, extent_of, is_new, row_at, rows_from, with_sent}
-use Rattle.bus_cycles.specs.Surveying.{Surveys, rest_of}
+use Rattle.bus_cycles.specs.inside.Surveying.{Surveys, rest_of}
 use Rattle.bus_cycles.specs.Surveys.{Survey, is_drawn, longest_with, nothing, told_of, with_row}
 
 pub longest_most : (longest : ℕ) (row : Extent) (limit : ℕ) → longest ≤ limit → row.end ≤ limit → (longest_with longest row ≤ limit) × (longest ≤ longest_with longest row)

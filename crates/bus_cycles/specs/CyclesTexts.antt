@@ -19,16 +19,19 @@ use Rattle.bus_shapes.specs.declared.scale.Scale.{Scale}
 use Rattle.bus_shapes.specs.Scales.{place}
 use Rattle.bus_shapes.specs.declared.area.Area.{Area}
 use Rattle.bus_shapes.specs.Shapes.{box_text, words_text}
+use Rattle.bus_shapes.specs.Measures.{left_margin, right_margin}
 use Rattle.bus_shapes.specs.Windows.{Window}
 use Rattle.bus_cycles.specs.Rows.{Extent, cycle_of, rows}
 use Rattle.bus_cycles.specs.Sents.{shown}
 use Rattle.bus_cycles.specs.RowTexts.{pixel, rows_text, top_of}
 use Rattle.bus_cycles.specs.Surveys.{Survey, breach_in, counts, is_drawn, most_rows, survey_of}
+use Rattle.bus_cycles.specs.Measures.{before_breach, before_mark, behind_breach, behind_mark, breach_below, breach_height, breach_over, breach_width, foot_height, least_words_below, line_width, lower_top}
+use Rattle.bus_cycles.specs.Measures.{lower_words, mark_words_below, marks_over, marks_top, plot_left, plot_width, right_half, row_line, rows_line, tick_height, upper_ticks, upper_words}
 
 -- ---- the plot
 -- The moments behind the beginning of a row, as far as the longest that is drawn has some, and as the breach needs some.
 abbrev pub scale_of : Survey → Scale
-scale_of survey = record { from = 0; to = survey.longest; left = 1500; width = 12900 }
+scale_of survey = record { from = 0; to = survey.longest; left = plot_left; width = plot_width }
 
 -- The lower edge of the rows.
 abbrev pub bottom_of : Survey → ℕ
@@ -48,11 +51,11 @@ row_words survey =
 
 -- The axis of microseconds.
 abbrev pub upper_axis : Axis
-upper_axis = record { unit = Microseconds; words = 830; class = Tick; top = 850; height = 50 }
+upper_axis = record { unit = Microseconds; words = upper_words; class = Tick; top = upper_ticks; height = tick_height }
 
 -- The axis of bit times, with lines over all rows down to a lower edge.
 abbrev pub lower_axis_to : ℕ → Axis
-lower_axis_to bottom = record { unit = BitTimes; words = 1010; class = Grid; top = 1040; height = bottom - 1040 }
+lower_axis_to bottom = record { unit = BitTimes; words = lower_words; class = Grid; top = lower_top; height = bottom - lower_top }
 
 -- Both axes.
 abbrev pub axes_text : Survey → List ℕ
@@ -60,13 +63,13 @@ axes_text survey = axis_text (scale_of survey) upper_axis ++ axis_text (scale_of
 
 -- What stands above the rows.
 abbrev pub above_text : Survey → List ℕ
-above_text survey = words_text Small 200 620 (row_words survey) ++ axes_text survey ++ words_text Detail 15500 1010 (codes "length")
+above_text survey = words_text Small left_margin rows_line (row_words survey) ++ axes_text survey ++ words_text Detail right_margin lower_words (codes "length")
 
 -- ---- marks
 -- A line over all rows, at a distance from their beginning.
 abbrev pub mark_line : Survey → ℕ → Area
 mark_line survey t =
-    record { left = place (scale_of survey) t; top = 1070; width = 10; height = bottom_of survey - 1000 }
+    record { left = place (scale_of survey) t; top = marks_top; width = line_width; height = bottom_of survey - marks_over }
 
 -- Its words, this far below the rows.
 abbrev pub mark_words : Survey → Class → ℕ → ℕ → List ℕ → ℕ → List ℕ
@@ -76,14 +79,14 @@ mark_words survey class left below name t = words_text class left (bottom_of sur
 abbrev pub mark_text : Survey → List ℕ → ℕ → List ℕ
 mark_text survey name t =
     if nat_le t survey.longest
-    then box_text Mark (mark_line survey t) ++ mark_words survey Small (place (scale_of survey) t + 40) 150 name t
+    then box_text Mark (mark_line survey t) ++ mark_words survey Small (place (scale_of survey) t + behind_mark) mark_words_below name t
     else []
 
 -- The mark of the least cycle. Its words stand before it, and a line lower, since it may be near that of the synchronization gap.
 abbrev pub least_text : Survey → ℕ → List ℕ
 least_text survey t =
     if nat_le t survey.longest
-    then box_text Mark (mark_line survey t) ++ mark_words survey Detail (place (scale_of survey) t - 30) 240 (codes "least ") t
+    then box_text Mark (mark_line survey t) ++ mark_words survey Detail (place (scale_of survey) t - before_mark) least_words_below (codes "least ") t
     else []
 
 -- The mark of the transmit interval.
@@ -113,25 +116,25 @@ marks_text survey table (NoSync terminal gap needed) = interval_mark survey tabl
 -- ---- the first breach
 -- A part of the line of a breach, with this upper edge.
 abbrev pub breach_part : ℕ → ℕ → Area
-breach_part left top = record { left = left; top = top; width = 20; height = 40 }
+breach_part left top = record { left = left; top = top; width = breach_width; height = breach_height }
 
 -- The part above the boxes of a row.
 abbrev pub part_above : ℕ → ℕ → Area
-part_above left row = breach_part left (top_of row - 30)
+part_above left row = breach_part left (top_of row - breach_over)
 
 -- The part below the boxes of a row.
 abbrev pub part_below : ℕ → ℕ → Area
-part_below left row = breach_part left (top_of row + 130)
+part_below left row = breach_part left (top_of row + breach_below)
 
 -- Where the word has its middle: behind the line, or before it in the right half.
 abbrev pub beside : ℕ → ℕ
-beside left = if nat_lt left 8000 then left + 270 else left - 250
+beside left = if nat_lt left right_half then left + behind_breach else left - before_breach
 
 -- The breach at a place in a row: both parts of its line, and a word beside it.
 abbrev pub breach_at : ℕ → ℕ → List ℕ
 breach_at left row =
     box_text Breach (part_above left row) ++ box_text Breach (part_below left row)
-    ++ words_text BreachWords (beside left) (top_of row + 105) (codes "breach")
+    ++ words_text BreachWords (beside left) (top_of row + row_line) (codes "breach")
 
 -- The breach at this moment, in this row where it is drawn, on a whole pixel as the boxes are.
 abbrev pub breach_in_row : Scale → ℕ → Extent → List ℕ
@@ -147,7 +150,7 @@ breach_text scale (Some moment) (Some row) = breach_in_row scale moment row
 -- The picture of a window of a trace on a table, given what is told of its rows.
 abbrev pub text_of : Survey → Window → TableVerdict → AuditAnswer → Table → Recording → List ℕ
 text_of survey window verdict answer table trace =
-    frame_text (bottom_of survey + 250) (verdict_words verdict) (answer_words answer) table (counts window trace)
+    frame_text (bottom_of survey + foot_height) (verdict_words verdict) (answer_words answer) table (counts window trace)
     ++ above_text survey ++ marks_text survey table verdict
     ++ rows_text (scale_of survey) (rows table window trace.list)
     ++ breach_text (scale_of survey) (breach_in window answer) survey.marked ++ tail_text

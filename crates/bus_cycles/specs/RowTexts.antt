@@ -10,17 +10,20 @@ use Rattle.bus_shapes.specs.declared.scale.Scale.{Scale}
 use Rattle.bus_shapes.specs.Scales.{place}
 use Rattle.bus_shapes.specs.declared.area.Area.{Area}
 use Rattle.bus_shapes.specs.Shapes.{titled_text, words_text}
+use Rattle.bus_shapes.specs.Measures as shapes
 use Rattle.bus_cycles.specs.Rows.{Extent, Row, extent_of}
 use Rattle.bus_cycles.specs.Surveys.{is_drawn}
+use Rattle.bus_cycles.specs.Measures.{begins_right, box_below, box_height, even_below, garbled_height, long_number}
+use Rattle.bus_cycles.specs.Measures.{middle_number, number_line, odd_below, row_height, row_line, rows_top, short_number}
 
 -- ---- where a transmission is
 -- The upper edge of a row.
 abbrev pub top_of : ℕ → ℕ
-top_of row = 1190 + 140 * row
+top_of row = rows_top + row_height * row
 
 -- The place of a moment behind another, on a whole pixel.
 abbrev pub pixel : Scale → ℕ → ℕ → ℕ
-pixel scale begin t = place scale (t - begin) / 10 * 10
+pixel scale begin t = place scale (t - begin) / shapes.pixel * shapes.pixel
 
 -- The left edge of a transmission in a row that began at this moment.
 abbrev pub left_of : Scale → ℕ → Sent → ℕ
@@ -28,7 +31,7 @@ left_of scale begin sent = pixel scale begin sent.moment
 
 -- Its right edge, at least a pixel behind the left one.
 abbrev pub right_of : Scale → ℕ → Sent → ℕ
-right_of scale begin sent = max (pixel scale begin sent.end) (left_of scale begin sent + 10)
+right_of scale begin sent = max (pixel scale begin sent.end) (left_of scale begin sent + shapes.pixel)
 
 -- Its shade: by whether it is garbled, and whether its terminal's number is odd.
 abbrev pub shade : Sent → ℕ
@@ -40,11 +43,11 @@ class_of shade = if shade == 0 then Other else (if shade == 1 then Wordstring el
 
 -- How far below the upper edge of its row a transmission of this shade begins.
 abbrev pub below_top : ℕ → ℕ
-below_top shade = if shade == 2 then 76 else (if shade == 3 then 16 else 10)
+below_top shade = if shade == 2 then even_below else (if shade == 3 then odd_below else box_below)
 
 -- Its height: a garbled one has half a row, that of odd terminals the upper half.
 abbrev pub height_of : ℕ → ℕ
-height_of shade = if nat_lt shade 2 then 120 else 48
+height_of shade = if nat_lt shade 2 then box_height else garbled_height
 
 -- The area of a transmission in its row.
 abbrev pub area_of : Scale → ℕ → ℕ → Sent → Area
@@ -58,7 +61,7 @@ area_of scale row begin sent = record {
 -- ---- boxes
 -- How wide the number of a terminal is, with a character around it.
 abbrev pub number_width : ℕ → ℕ
-number_width terminal = if nat_lt terminal 10 then 132 else (if nat_lt terminal 100 then 198 else 264)
+number_width terminal = if nat_lt terminal 10 then short_number else (if nat_lt terminal 100 then middle_number else long_number)
 
 -- Whether a box has room for the number of its terminal: one that is garbled has none.
 abbrev pub has_room : Area → Sent → Bool
@@ -67,7 +70,7 @@ has_room area sent = nat_lt (shade sent) 2 && nat_le (number_width sent.terminal
 -- The number of its terminal, in the middle of its box.
 abbrev pub number_text : Area → Sent → List ℕ
 number_text area sent =
-    if has_room area sent then words_text Digits (area.left + area.width / 2) (area.top + 95) (decimal sent.terminal) else []
+    if has_room area sent then words_text Digits (area.left + area.width / 2) (area.top + number_line) (decimal sent.terminal) else []
 
 -- A transmission in an area: its box, and its number.
 abbrev pub sent_text : Area → Sent → List ℕ
@@ -111,8 +114,8 @@ boxes scale garbled row begin earlier (sent ∷ sents) =
 -- The words of a row: the moment at which it begins at its left, its length at its right.
 abbrev pub words_of : Extent → List ℕ
 words_of row =
-    words_text Detail 1440 (top_of row.place + 105) (decimal row.begin)
-    ++ words_text Detail 15500 (top_of row.place + 105) (decimal (row.end - row.begin))
+    words_text Detail begins_right (top_of row.place + row_line) (decimal row.begin)
+    ++ words_text Detail shapes.right_margin (top_of row.place + row_line) (decimal (row.end - row.begin))
 
 -- They stand in the walk for what is plain.
 abbrev pub ending_text : Bool → Extent → List ℕ

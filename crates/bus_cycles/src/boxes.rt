@@ -4,7 +4,7 @@ ghost use Rattle.std.specs.List.{AllByRecursion};
 ghost use Rattle.bus_outer.specs.Texts.{Adds};
 ghost use Rattle.bus_shapes.specs.declared.sent.Sent as sayings;
 ghost use Rattle.bus_shapes.specs.Scales.{IsScale};
-ghost use Rattle.bus_cycles.specs.Drawing.{Keeps, Reaches, more_text, new_text, next_row, next_text};
+ghost use Rattle.bus_cycles.specs.inside.Drawing.{Keeps, Reaches, more_text, new_text, next_row, next_text};
 ghost use Rattle.bus_cycles.specs.Rows.{Row, row_at, rows_of, with_sent};
 ghost use Rattle.bus_cycles.specs.RowTexts as definition;
 ghost use Rattle.bus_cycles.specs.Sents.{IsSent, shown};

@@ -7,8 +7,8 @@ use Rattle.std.proofs.lemmas.List.Concat.{flat_map-append}
 use Rattle.bus_dump.specs.DumpTexts.{changes, changes_text, changes_at, changes_to, some_changes, value_line}
 use Rattle.bus_dump.specs.Scenes.{Scene}
 use Rattle.bus_dump.specs.Signals.{Signal, Value, Bit, Number, Floating, Unknown, value, is_same}
-use Rattle.bus_dump.specs.Walks.{change_put}
-use Rattle.bus_dump.specs.Watching.{StaysAs}
+use Rattle.bus_dump.specs.inside.Walks.{change_put}
+use Rattle.bus_dump.specs.inside.Watching.{StaysAs}
 use Rattle.bus_dump.proofs.RangeLemmas.{range_join, range_push}
 
 -- ---- nothing changes

@@ -12,7 +12,7 @@ use Rattle.bus_timers.proofs.GapStretchLaws.{gap_quiets, gap_carriers_elapsed, g
 use Rattle.bus_timers.proofs.TimingLaws.{sound_sg, sound_tg}
 use Rattle.bus_dump.specs.declared.clock.Clock.{Clock}
 use Rattle.bus_dump.specs.Timers.{Elapsed, elapsed_of, has_interval, has_synchronization, has_gap}
-use Rattle.bus_dump.specs.Clocks.{Keeps, tells_at, passed, last_behind, next_turn, gap_behind, gap_from, later_or}
+use Rattle.bus_dump.specs.inside.Clocks.{Keeps, tells_at, passed, last_behind, next_turn, gap_behind, gap_from, later_or}
 
 -- ---- tests
 same_test : (a b : Bool) → (a ≡ true → b ≡ true) → (b ≡ true → a ≡ true) → a ≡ b

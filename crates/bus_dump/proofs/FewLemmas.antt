@@ -13,7 +13,7 @@ use Rattle.bus_strings.specs.Messages.{Entry}
 use Rattle.bus_strings.specs.Transmissions.{end_of, IsTransmission}
 use Rattle.bus_dump.specs.Doubled.{doubled, is_doubled, runs_into}
 use Rattle.bus_dump.specs.Seen.{holds}
-use Rattle.bus_dump.specs.Walks.{live_entry, live_of, live_to, IsWalkable}
+use Rattle.bus_dump.specs.inside.Walks.{live_entry, live_of, live_to, IsWalkable}
 use Rattle.bus_dump.proofs.LiveLemmas.{absent, present, at_place, held_from, held_to, live_none, live_some}
 
 -- ---- no entry is doubled

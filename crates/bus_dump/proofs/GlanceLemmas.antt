@@ -7,7 +7,7 @@ use Rattle.std.proofs.lemmas.List.Sums.{sum_by-cons}
 use Rattle.bus_strings.specs.Messages.{Wordstring, Message, word_count, bits}
 use Rattle.bus_dump.specs.declared.glance.Glance.{Glance}
 use Rattle.bus_dump.specs.OnBus.{label_value, word_at, shown_of, shown_at}
-use Rattle.bus_dump.specs.Walks.{IsGlance, glance_in, left_of}
+use Rattle.bus_dump.specs.inside.Walks.{IsGlance, glance_in, left_of}
 use Rattle.bus_dump.specs.declared.shown.Shown.{Shown}
 
 -- how long a word stays as it is

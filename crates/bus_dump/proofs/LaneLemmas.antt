@@ -13,12 +13,12 @@ use Rattle.std.proofs.lemmas.Option.{slice_get_within, get_or_from_slice_get}
 use Rattle.bus_dump.specs.declared.dump.Dump.{Dump}
 use Rattle.bus_dump.specs.declared.lane.Lane.{Lane}
 use Rattle.bus_dump.specs.DumpTexts.{changes, value_line}
-use Rattle.bus_dump.specs.Layouts.{IsStill}
+use Rattle.bus_dump.specs.inside.Layouts.{IsStill}
 use Rattle.bus_dump.specs.Scenes.{Scene}
 use Rattle.bus_dump.specs.Seen.{Seen}
 use Rattle.bus_dump.specs.Signals.{Signal, Pulse, Garbled, Label, Message, Bit, Number, Floating, value, is_same, is_of, is_on, shown_label, has, lane_signals, signals_of}
 use Rattle.bus_dump.specs.Timers.{Elapsed}
-use Rattle.bus_dump.specs.Walks.{change_put}
+use Rattle.bus_dump.specs.inside.Walks.{change_put}
 use Rattle.bus_dump.proofs.ChangeLemmas.{same_value}
 use Rattle.bus_dump.proofs.RangeLemmas.{range_push}
 

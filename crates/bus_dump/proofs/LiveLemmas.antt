@@ -10,7 +10,7 @@ use Rattle.bus_strings.specs.Messages.{Entry}
 use Rattle.bus_strings.specs.Transmissions.{end_of, IsAscending, Precedes}
 use Rattle.bus_dump.specs.declared.live.Live.{Live}
 use Rattle.bus_dump.specs.Seen.{holds, seen_of, seen_entry, seen_at}
-use Rattle.bus_dump.specs.Walks.{live_of, live_entry, live_to, ends_after, see, IsLive, IsSteady}
+use Rattle.bus_dump.specs.inside.Walks.{live_of, live_entry, live_to, ends_after, see, IsLive, IsSteady}
 use Rattle.bus_dump.proofs.RangeLemmas.{same_along, front_is, filter_along, given_along, given_push, given_in, kept_if}
 
 -- ---- spans

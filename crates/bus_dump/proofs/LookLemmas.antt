@@ -11,7 +11,7 @@ use Rattle.bus_dump.specs.declared.glance.Glance.{Glance}
 use Rattle.bus_dump.specs.declared.live.Live.{Live}
 use Rattle.bus_dump.specs.OnBus.{Shown, shown_at}
 use Rattle.bus_dump.specs.Seen.{Seen, holds, seen_of}
-use Rattle.bus_dump.specs.Walks.{IsGlance, IsLive, IsSteady, StaysTo, live_of, see, sight_of}
+use Rattle.bus_dump.specs.inside.Walks.{IsGlance, IsLive, IsSteady, StaysTo, live_of, see, sight_of}
 use Rattle.bus_dump.proofs.LiveLemmas.{LiveFacts, live_facts, held_from, holds_true, seen_some}
 
 -- what a list of live transmissions has where it has nothing

@@ -6,7 +6,7 @@ use Rattle.std.proofs.lemmas.List.{take_more, take_all}
 use Rattle.std.proofs.lemmas.List.Elements.{filter_map-append}
 use Rattle.bus_dump.specs.Seen.{Seen}
 use Rattle.bus_dump.specs.Signals.{shown_word, word_value, words}
-use Rattle.bus_dump.specs.Walks.{one_more, with_word}
+use Rattle.bus_dump.specs.inside.Walks.{one_more, with_word}
 
 more_words : (ws : List ℕ) (o : Option ℕ) → one_more (word_value ws) o ≡ word_value (ws ++ cons_option o [])
 more_words ws None = ap word_value (sym (append-nil ws))

@@ -16,7 +16,7 @@ use Rattle.bus_strings.specs.Transmissions.{end_of, garbled, marks}
 use Rattle.bus_dump.specs.declared.live.Live.{Live}
 use Rattle.bus_dump.specs.declared.walk.Walk.{Walk}
 use Rattle.bus_dump.specs.Seen.{is_sent_by, number_of}
-use Rattle.bus_dump.specs.Walks.{BeginsFrom, IsWalkable, Reaches, Stands, ends_after, live_of, live_to}
+use Rattle.bus_dump.specs.inside.Walks.{BeginsFrom, IsWalkable, Reaches, Stands, ends_after, live_of, live_to}
 use Rattle.bus_dump.proofs.FewLemmas.{few_live}
 use Rattle.bus_dump.proofs.LiveLemmas.{absent, present, at_place, live_begun, live_later, moments_rise}
 

@@ -27,13 +27,13 @@ use Rattle.bus_medium.specs.Timings.{quiet_of, timing_of}
 use Rattle.bus_dump.specs.declared.clock.Clock.{Clock}
 use Rattle.bus_dump.specs.declared.live.Live.{Live}
 use Rattle.bus_dump.specs.declared.walk.Walk.{Walk}
-use Rattle.bus_dump.specs.Clocks.{IsLow, Keeps, last_behind, next_turn, passed, tells_at}
+use Rattle.bus_dump.specs.inside.Clocks.{IsLow, Keeps, last_behind, next_turn, passed, tells_at}
 use Rattle.bus_dump.specs.Scenes.{elapsed_at}
 use Rattle.bus_dump.specs.Timers.{Elapsed, elapsed_of}
 use Rattle.bus_dump.specs.Seen.{Seen, holds, seen_at}
 use Rattle.bus_dump.specs.Signals.{is_on}
-use Rattle.bus_dump.specs.Walks.{BeginsFrom, IsWalkable, Stands, SteadyTo, live_entry, live_of}
-use Rattle.bus_dump.specs.Watching.{AreClocksOf, ElapsedStays, IsClockOf, begins, clock_passed, clock_turn, settled}
+use Rattle.bus_dump.specs.inside.Walks.{BeginsFrom, IsWalkable, Stands, SteadyTo, live_entry, live_of}
+use Rattle.bus_dump.specs.inside.Watching.{AreClocksOf, ElapsedStays, IsClockOf, begins, clock_passed, clock_turn, settled}
 use Rattle.bus_dump.proofs.ClockLemmas.{clock_passed as passed_keeps, clock_steady, clock_tells}
 use Rattle.bus_dump.proofs.LawLemmas.{any_given, any_places, any_same, carrier_seen}
 use Rattle.bus_dump.proofs.LiveLemmas.{absent, present, at_place, holds_ahead, holds_true, live_none, live_some}

@@ -10,13 +10,13 @@ use Rattle.bus_dump.specs.declared.layout.Layout.{Layout}
 use Rattle.bus_dump.specs.Doubled.{doubled}
 use Rattle.bus_dump.specs.DumpTexts.{behind_text, changes_at, changes_text, changes_to, declaration, dump_text, first_values, head_text, last_stamp}
 use Rattle.bus_dump.specs.Lanes.{lanes}
-use Rattle.bus_dump.specs.Layouts.{bit_times_put, layout_signals}
+use Rattle.bus_dump.specs.inside.Layouts.{bit_times_put, layout_signals}
 use Rattle.bus_dump.specs.Scenes.{Scene, elapsed_at, scene_at, timed}
 use Rattle.bus_dump.specs.Seen.{Seen, seen_at}
 use Rattle.bus_dump.specs.Signals.{Signal, signals}
 use Rattle.bus_dump.specs.Timers.{Elapsed}
-use Rattle.bus_dump.specs.Walks.{IsWalkable, SteadyTo}
-use Rattle.bus_dump.specs.Watching.{ElapsedStays, StaysAs}
+use Rattle.bus_dump.specs.inside.Walks.{IsWalkable, SteadyTo}
+use Rattle.bus_dump.specs.inside.Watching.{ElapsedStays, StaysAs}
 use Rattle.bus_dump.proofs.ChangeLemmas.{changes_last, changes_next}
 
 -- a list of a trace in which none is doubled

@@ -7,10 +7,7 @@ pub mod Lanes
 pub mod Doubled
 pub mod DumpTexts
 pub mod SaveFiles
-pub mod Clocks
-pub mod Walks
-pub mod Watching
-pub mod Layouts
 pub mod Reading
 pub mod Stamps
 pub mod Laws
+pub mod inside

@@ -15,14 +15,43 @@ pub data Line : Type 0 where
   gives : List ℕ → Value → Line
   other : Line
 
+-- ---- bytes
+-- The byte of a blank.
+abbrev pub blank : ℕ
+blank = 32
+
+-- The byte of `#`, which begins a stamp.
+abbrev pub hash : ℕ
+hash = 35
+
+-- The byte of `0`.
+abbrev pub digit_zero : ℕ
+digit_zero = 48
+
+-- The byte of `1`.
+abbrev pub digit_one : ℕ
+digit_one = 49
+
+-- The byte of `b`, which begins a vector.
+abbrev pub letter_b : ℕ
+letter_b = 98
+
+-- The byte of `x`, of what is unknown.
+abbrev pub letter_x : ℕ
+letter_x = 120
+
+-- The byte of `z`, of what floats.
+abbrev pub letter_z : ℕ
+letter_z = 122
+
 -- The parts of a line between its blanks.
 abbrev pub parts_of : List ℕ → List (List ℕ)
-parts_of line = slice_split (λ b. b == 32) line
+parts_of line = slice_split (λ b. b == blank) line
 
 -- ---- values
 -- The value of a vector: of `z`, of `x`, or of binary digits.
 abbrev pub vector_value : ℕ → List ℕ → Value
-vector_value first rest = if first == 122 then Floating else (if first == 120 then Unknown else Number (digits_value 2 (first ∷ rest)))
+vector_value first rest = if first == letter_z then Floating else (if first == letter_x then Unknown else Number (digits_value 2 (first ∷ rest)))
 
 -- A vector without digits says nothing.
 abbrev pub vector_line : List ℕ → List ℕ → Line
@@ -40,10 +69,10 @@ vector (digits ∷ (id ∷ (more ∷ parts))) = other
 abbrev pub line_of : List ℕ → Line
 line_of [] = other
 line_of (first ∷ rest) =
-    if first == 35 then time (digits_value 10 rest)
-    else (if first == 48 then gives rest (Bit false)
-    else (if first == 49 then gives rest (Bit true)
-    else (if first == 98 then vector (parts_of rest) else other)))
+    if first == hash then time (digits_value 10 rest)
+    else (if first == digit_zero then gives rest (Bit false)
+    else (if first == digit_one then gives rest (Bit true)
+    else (if first == letter_b then vector (parts_of rest) else other)))
 
 -- Where a reader stands: the time of the last stamp, and the value of the signal at the time that is asked for, so far.
 pub record Place : Type 0 where

@@ -4,8 +4,8 @@ ghost use Rattle.std.specs.List.{flat_map, list_any};
 ghost use Rattle.bus_outer.specs.Texts.{Adds};
 ghost use Rattle.bus_dump.specs.DumpTexts as texts;
 ghost use Rattle.bus_dump.specs.declared.value.Value.TheVariants as values;
-ghost use Rattle.bus_dump.specs.Walks.{change_put};
-ghost use Rattle.bus_dump.specs.Watching.{scene_of};
+ghost use Rattle.bus_dump.specs.inside.Walks.{change_put};
+ghost use Rattle.bus_dump.specs.inside.Watching.{scene_of};
 
 use crate::binary::put_binary;
 use crate::declaration::put_id;

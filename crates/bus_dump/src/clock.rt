@@ -1,7 +1,7 @@
 // The timers of a sender that hears the bus of a trace.
 ghost use Rattle.std.specs.Prelude.{◌≡◌, ◌+◌, ◌^◌, ◌<◌, ◌≤◌, true};
-ghost use Rattle.bus_dump.specs.Clocks as sums;
-ghost use Rattle.bus_dump.specs.Clocks.{IsLow};
+ghost use Rattle.bus_dump.specs.inside.Clocks as sums;
+ghost use Rattle.bus_dump.specs.inside.Clocks.{IsLow};
 
 use bus_timers::Timing;
 

@@ -4,9 +4,9 @@ ghost use Rattle.std.specs.List.{AllByRecursion};
 ghost use Rattle.bus_table.specs.Tables as tables;
 ghost use Rattle.bus_timers.specs.Timings.{IsSound};
 ghost use Rattle.bus_medium.specs.Timings.{timing_of};
-ghost use Rattle.bus_dump.specs.Clocks.{IsLow, tells_at};
+ghost use Rattle.bus_dump.specs.inside.Clocks.{IsLow, tells_at};
 ghost use Rattle.bus_dump.specs.Scenes.{timed};
-ghost use Rattle.bus_dump.specs.Watching as definition;
+ghost use Rattle.bus_dump.specs.inside.Watching as definition;
 
 use crate::clock::{Clock, Elapsed};
 use crate::dump::Dump;

@@ -2,7 +2,7 @@
 ghost use Rattle.std.specs.Prelude.{◌≡◌, ◌+◌, ◌*◌, ◌<◌, Some};
 ghost use Rattle.bus_strings.specs.Messages.{word_count, bits};
 ghost use Rattle.bus_dump.specs.OnBus.{label_value, word_at, string_bits};
-ghost use Rattle.bus_dump.specs.Walks.{IsGlance, glance_in, left_of};
+ghost use Rattle.bus_dump.specs.inside.Walks.{IsGlance, glance_in, left_of};
 
 use crate::shown::Shown;
 use bus_strings::limits::{INNER_GAP, WORD_BITS};

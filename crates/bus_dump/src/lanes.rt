@@ -7,7 +7,7 @@ ghost use Rattle.bus_strings.specs.Messages.{Entry};
 ghost use Rattle.bus_table.specs.Valid.{is_valid};
 ghost use Rattle.bus_table.specs.Turns.{turn_order};
 ghost use Rattle.bus_dump.specs.Lanes as definition;
-ghost use Rattle.bus_dump.specs.Layouts.{AreSending};
+ghost use Rattle.bus_dump.specs.inside.Layouts.{AreSending};
 ghost use Rattle.bus_dump.specs.Signals.{bus_signals, lane_signals};
 ghost use Rattle.bus_dump.specs.Signals.{Label, Message, Interval, Synchronization, Gap, May};
 

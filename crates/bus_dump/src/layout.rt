@@ -4,11 +4,11 @@ ghost use Rattle.std.specs.List.{flat_map, list_any};
 ghost use Rattle.bus_outer.specs.Texts.{Adds};
 ghost use Rattle.bus_dump.specs.DumpTexts as texts;
 ghost use Rattle.bus_dump.specs.Lanes.{lanes};
-ghost use Rattle.bus_dump.specs.Layouts as layouts;
-ghost use Rattle.bus_dump.specs.Layouts.{IsStill, LeavesStill};
+ghost use Rattle.bus_dump.specs.inside.Layouts as layouts;
+ghost use Rattle.bus_dump.specs.inside.Layouts.{IsStill, LeavesStill};
 ghost use Rattle.bus_dump.specs.Signals as signals;
-ghost use Rattle.bus_dump.specs.Walks.{change_put};
-ghost use Rattle.bus_dump.specs.Watching.{scene_of};
+ghost use Rattle.bus_dump.specs.inside.Walks.{change_put};
+ghost use Rattle.bus_dump.specs.inside.Watching.{scene_of};
 
 use crate::change::{any_changed, put_changed, put_lines, put_stamp};
 use crate::declaration::put_declarations;

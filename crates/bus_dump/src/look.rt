@@ -2,7 +2,7 @@
 ghost use Rattle.std.specs.Prelude.{◌≡◌, ◌≤◌, ◌<◌, ◌^◌, length, slice_get, Some};
 ghost use Rattle.std.specs.List.{AllByRecursion, filter_map};
 ghost use Rattle.bus_strings.specs.Transmissions.{end_of};
-ghost use Rattle.bus_dump.specs.Walks.{IsLive, IsSteady, StaysTo, see, sight_of};
+ghost use Rattle.bus_dump.specs.inside.Walks.{IsLive, IsSteady, StaysTo, see, sight_of};
 
 use crate::glance::glance_at;
 use crate::live::{Live, TERMINALS};

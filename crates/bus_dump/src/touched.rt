@@ -1,9 +1,9 @@
 // The terminals of which something may change from one scene to the next.
 ghost use Rattle.std.specs.Prelude.{◌≡◌, ◌<◌, ℕ, false, length, slice_index_or, ◌∷◌, []};
 ghost use Rattle.std.specs.List.{find, list_any};
-ghost use Rattle.bus_dump.specs.Layouts.{LeavesStill};
+ghost use Rattle.bus_dump.specs.inside.Layouts.{LeavesStill};
 ghost use Rattle.bus_dump.specs.Signals as signals;
-ghost use Rattle.bus_dump.specs.Watching.{scene_of};
+ghost use Rattle.bus_dump.specs.inside.Watching.{scene_of};
 
 use crate::clock::Elapsed;
 use crate::scene::Scene;

@@ -1,8 +1,8 @@
 ghost use Rattle.std.specs.Prelude.{◌≡◌, ◌&&◌};
 ghost use Rattle.std.specs.List.{list_any};
 ghost use Rattle.bus_dump.specs.Signals as signals;
-ghost use Rattle.bus_dump.specs.Walks.{with_word};
-ghost use Rattle.bus_dump.specs.Watching.{scene_of};
+ghost use Rattle.bus_dump.specs.inside.Walks.{with_word};
+ghost use Rattle.bus_dump.specs.inside.Watching.{scene_of};
 
 use crate::clock::Elapsed;
 use crate::scene::{Scene, has_carrier};

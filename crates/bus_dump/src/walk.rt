@@ -2,7 +2,7 @@
 ghost use Rattle.std.specs.Prelude.{◌≡◌, ◌==◌, ◌+◌, ◌≤◌, ◌<◌, true, false, filter, length, slice_get, Some};
 ghost use Rattle.std.specs.Option.{option_map_or};
 ghost use Rattle.bus_strings.specs.Messages.{Entry};
-ghost use Rattle.bus_dump.specs.Walks.{BeginsFrom, IsWalkable, Reaches, Stands, ends_after};
+ghost use Rattle.bus_dump.specs.inside.Walks.{BeginsFrom, IsWalkable, Reaches, Stands, ends_after};
 
 use crate::live::{Live, TERMINALS};
 use arrayvec::ArrayVec;

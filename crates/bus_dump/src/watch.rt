@@ -3,8 +3,8 @@ ghost use Rattle.std.specs.Prelude.{◌≡◌, ◌≤◌, ◌<◌, ◌^◌, List
 ghost use Rattle.bus_table.specs.Tables as tables;
 ghost use Rattle.bus_dump.specs.Scenes.{elapsed_at, timed};
 ghost use Rattle.bus_dump.specs.Seen.{seen_at};
-ghost use Rattle.bus_dump.specs.Walks.{BeginsFrom, IsWalkable, Stands, SteadyTo};
-ghost use Rattle.bus_dump.specs.Watching.{ElapsedStays, IsWatch, Keeping};
+ghost use Rattle.bus_dump.specs.inside.Walks.{BeginsFrom, IsWalkable, Stands, SteadyTo};
+ghost use Rattle.bus_dump.specs.inside.Watching.{ElapsedStays, IsWatch, Keeping};
 
 use crate::clock::Clock;
 use crate::clocks::{next_turn, pass_all, settle, tell_all};

@@ -5,9 +5,9 @@ ghost use Rattle.bus_outer.specs.Texts.{Adds};
 ghost use Rattle.bus_regime.specs.Lines.{verdict_words};
 ghost use Rattle.bus_dump.specs.Doubled.{doubled};
 ghost use Rattle.bus_dump.specs.DumpTexts.{dump_text, first_values, last_stamp};
-ghost use Rattle.bus_dump.specs.Layouts.{bit_times_put, layout_signals};
-ghost use Rattle.bus_dump.specs.Walks.{IsWalkable};
-ghost use Rattle.bus_dump.specs.Watching.{scene_of};
+ghost use Rattle.bus_dump.specs.inside.Layouts.{bit_times_put, layout_signals};
+ghost use Rattle.bus_dump.specs.inside.Walks.{IsWalkable};
+ghost use Rattle.bus_dump.specs.inside.Watching.{scene_of};
 
 use crate::change::put_stamp;
 use crate::dump::Dump;

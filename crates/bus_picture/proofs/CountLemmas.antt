@@ -20,7 +20,8 @@ use Rattle.bus_shapes.specs.Sending.{sents}
 use Rattle.bus_shapes.specs.SendingLaws.{IsToldOf}
 use Rattle.bus_picture.specs.Boxes.{boxes, members}
 use Rattle.bus_picture.specs.Rows.{Row, is_of, shown, shows}
-use Rattle.bus_picture.specs.TimeLines.{bus_rows, each_lane, is_shown, lane_rows, lane_top, plot_top, row_height, rows_at, rows_of_lanes}
+use Rattle.bus_picture.specs.TimeLines.{bus_rows, each_lane, is_shown, lane_rows, lane_top, rows_at, rows_of_lanes}
+use Rattle.bus_picture.specs.Measures.{plot_top, row_height}
 use Rattle.bus_picture.specs.Laws.{AreCounted, AreUncovered, BusIsCounted, EachIsInOneLane, EachIsOnTheBus, GarbledAreUncovered, LanesAreCounted, in_boxes, rows_with}
 use Rattle.bus_picture.proofs.LawLemmas.{as_row, boxes_hold_rows}
 

@@ -12,7 +12,7 @@ use Rattle.bus_shapes.specs.SendingLaws.{IsInOrder}
 use Rattle.bus_shapes.proofs.SendingLaws.{all_in_order, as_many}
 use Rattle.bus_picture.specs.Boxes.{Box, Pile, boxes, boxes_from, joins, pile_of}
 use Rattle.bus_picture.specs.Rows.{Row, pile_text, row_text, shows}
-use Rattle.bus_picture.specs.Working.{IsLast, IsPile, Writing, grown, held, last_written, next_pile, next_written, one, to_come, with_next, written}
+use Rattle.bus_picture.specs.inside.Working.{IsLast, IsPile, Writing, grown, held, last_written, next_pile, next_written, one, to_come, with_next, written}
 
 abbrev single : Sent → Box
 single x = record { first = x; others = [] }

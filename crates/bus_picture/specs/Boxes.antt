@@ -7,15 +7,16 @@ use Rattle.bus_shapes.specs.Sayings.{garbled_words, sent_words}
 use Rattle.bus_shapes.specs.declared.scale.Scale.{Scale}
 use Rattle.bus_shapes.specs.Scales.{extent, place}
 pub use Rattle.bus_picture.specs.declared.pile.Pile.{Pile}
+use Rattle.bus_picture.specs.Measures.{narrow}
 
 -- ---- which transmissions share a box
 -- Whether a transmission takes less than six pixels.
 abbrev pub is_narrow : Scale → Sent → Bool
-is_narrow scale x = nat_lt (extent scale x.moment x.end) 60
+is_narrow scale x = nat_lt (extent scale x.moment x.end) narrow
 
 -- The stretch of six pixels in which it begins.
 abbrev pub bucket : Scale → Sent → ℕ
-bucket scale x = place scale x.moment / 60
+bucket scale x = place scale x.moment / narrow
 
 -- Whether y shares the box of x: both are narrow and begin in the same stretch.
 abbrev pub joins : Scale → Sent → Sent → Bool

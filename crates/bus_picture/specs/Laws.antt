@@ -16,7 +16,8 @@ use Rattle.bus_shapes.specs.Sending.{sents}
 use Rattle.bus_shapes.specs.SendingLaws.{IsToldOf}
 use Rattle.bus_picture.specs.Boxes.{Box, Pile, boxes, members, pile_of}
 use Rattle.bus_picture.specs.Rows.{Row, box_area, box_class, shown, shows}
-use Rattle.bus_picture.specs.TimeLines.{bus_rows, counts_of, is_shown, row_height, rows_of, rows_of_lanes}
+use Rattle.bus_picture.specs.TimeLines.{bus_rows, counts_of, is_shown, rows_of, rows_of_lanes}
+use Rattle.bus_picture.specs.Measures.{row_height}
 
 -- ---- boxes
 -- The transmissions of the boxes of a row, one after the other, are those that the row shows, in order: so each of these is in exactly one

@@ -1,7 +1,9 @@
+pub mod Measures
 pub mod Boxes
 pub mod Strings
 pub mod Rows
 pub mod Timers
+pub mod Legends
 pub mod TimeLines
-pub mod Working
 pub mod Laws
+pub mod inside

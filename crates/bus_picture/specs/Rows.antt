@@ -17,6 +17,7 @@ use Rattle.bus_shapes.specs.Shapes.{box_text, titled_text}
 use Rattle.bus_picture.specs.Boxes.{Pile, boxes, is_narrow, pile_of, pile_words}
 use Rattle.bus_picture.specs.Strings.{meets, strings_text}
 pub use Rattle.bus_picture.specs.declared.row.Row.{Row}
+use Rattle.bus_picture.specs.Measures.{box_below, box_height}
 
 -- Whether a transmission is of the terminal of the row, or any where it is that of the bus.
 abbrev pub is_of : Row → Sent → Bool
@@ -65,7 +66,7 @@ more_text (Some terminal) scale row list pile = inner_text scale row list pile
 
 -- The area of a box.
 abbrev pub box_area : Scale → Row → Pile → Area
-box_area scale row pile = stretch scale pile (row.top + 60) 180
+box_area scale row pile = stretch scale pile (row.top + box_below) box_height
 
 -- A box, with what is drawn beside it.
 abbrev pub pile_text : Scale → Row → List Entry → Pile → List ℕ

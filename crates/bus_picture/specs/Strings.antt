@@ -15,6 +15,8 @@ use Rattle.bus_shapes.specs.Sayings.{counted}
 use Rattle.bus_shapes.specs.Scales.{extent, place}
 use Rattle.bus_shapes.specs.declared.area.Area.{Area}
 use Rattle.bus_shapes.specs.Shapes.{box_text, titled_text, words_text}
+use Rattle.bus_picture.specs.Measures.{digits_room, edge_width, label_room, long_room}
+use Rattle.bus_picture.specs.Measures.{name_room, string_below, string_height, string_line, word_room}
 
 -- Whether what goes from one moment to another meets those of a scale.
 abbrev pub meets : Scale → ℕ → ℕ → Bool
@@ -48,29 +50,29 @@ digits_class garbled = if garbled then NoiseDigits else Digits
 
 -- The box of a wordstring, in a row with this upper edge.
 abbrev pub string_area : Scale → ℕ → ℕ → ℕ → Area
-string_area scale top from to = record { left = place scale from; top = top + 90; width = extent scale from to; height = 120 }
+string_area scale top from to = record { left = place scale from; top = top + string_below; width = extent scale from to; height = string_height }
 
 -- ---- a wordstring whose words have no room
 -- The words for a box of this width.
 abbrev pub fitting_words : ℕ → Wordstring → List ℕ
-fitting_words width string = if nat_lt width 730 then name_words string else long_words string
+fitting_words width string = if nat_lt width long_room then name_words string else long_words string
 
 -- The words in a box, where it has room for them.
 abbrev pub label_text : Bool → Area → Wordstring → List ℕ
 label_text garbled area string =
-    if nat_lt area.width 400 then []
-    else words_text (digits_class garbled) (area.left + area.width / 2) (area.top + 100) (fitting_words area.width string)
+    if nat_lt area.width name_room then []
+    else words_text (digits_class garbled) (area.left + area.width / 2) (area.top + string_line) (fitting_words area.width string)
 
 -- ---- a wordstring whose words have room
 -- Whether they have: 34 pixels for each.
 abbrev pub has_room : Scale → Bool
-has_room scale = nat_le (340 * (scale.to - scale.from)) (word_bits * scale.width)
+has_room scale = nat_le (word_room * (scale.to - scale.from)) (word_bits * scale.width)
 
 -- The digits of a word, in the middle of its area, where that has this width.
 abbrev pub digits_text : Bool → Area → ℕ → List ℕ → List ℕ
 digits_text garbled area width digits =
     if nat_lt area.width width then []
-    else words_text (digits_class garbled) (area.left + area.width / 2) (area.top + 100) digits
+    else words_text (digits_class garbled) (area.left + area.width / 2) (area.top + string_line) digits
 
 -- How the area of a label word looks. Of a garbled transmission it is but tinted: its wordstring has the
 -- words under the pointer.
@@ -79,15 +81,15 @@ label_class garbled = if garbled then Overlap else Label
 
 -- A label word: its area, and the label and the extension.
 abbrev pub label_word : Bool → Area → Wordstring → List ℕ
-label_word garbled area string = box_text (label_class garbled) area ++ digits_text garbled area 330 (name_words string)
+label_word garbled area string = box_text (label_class garbled) area ++ digits_text garbled area label_room (name_words string)
 
 -- The edge at which a data word begins.
 abbrev pub edge_of : Area → Area
-edge_of area = record { left = area.left; top = area.top; width = 8; height = area.height }
+edge_of area = record { left = area.left; top = area.top; width = edge_width; height = area.height }
 
 -- A data word: its edge, and its digits.
 abbrev pub data_word : Bool → Area → ℕ → List ℕ
-data_word garbled area word = box_text Edge (edge_of area) ++ digits_text garbled area 264 (hexadecimal 4 word)
+data_word garbled area word = box_text Edge (edge_of area) ++ digits_text garbled area digits_room (hexadecimal 4 word)
 
 -- The area of the word that begins at a moment.
 abbrev pub word_area : Scale → ℕ → ℕ → Area

@@ -28,30 +28,17 @@ use Rattle.bus_shapes.specs.Scales.{extent, place}
 use Rattle.bus_shapes.specs.Sending.{sents}
 use Rattle.bus_shapes.specs.Shapes.{box_text, titled_text, words_text}
 use Rattle.bus_shapes.specs.Windows.{Window}
+use Rattle.bus_picture.specs.Legends.{legend_text}
 use Rattle.bus_picture.specs.Rows.{Row, rows_text}
 use Rattle.bus_picture.specs.Strings.{meets}
 use Rattle.bus_picture.specs.Timers.{bus_timer, is_near, sender_timers}
+use Rattle.bus_picture.specs.Measures.{breach_above, breach_below, breach_line, breach_rest, breach_width, bus_line, foot_height, legend_below, lower_words, names_right}
+use Rattle.bus_picture.specs.Measures.{plot_left, plot_top, plot_width, row_height, terminal_line, tick_height, timers_line, upper_ticks, upper_words, words_least, words_most}
 
 -- ---- where things are
--- The upper edge of the plot, which is that of the bus.
-abbrev pub plot_top : ℕ
-plot_top = 960
-
--- The height of a row.
-abbrev pub row_height : ℕ
-row_height = 320
-
 -- The upper edge of lane k, which is the lower edge of k lanes.
 abbrev pub lane_top : ℕ → ℕ
 lane_top k = plot_top + row_height * (k + 1)
-
--- The left edge of the plot.
-abbrev pub plot_left : ℕ
-plot_left = 1500
-
--- The width of the plot, which leaves room for half of a number at its right edge.
-abbrev pub plot_width : ℕ
-plot_width = 13800
 
 -- The scale of a window.
 abbrev pub scale_of : Window → Scale
@@ -84,11 +71,11 @@ timer_words mode tg at = codes "TG " ++ decimal tg ++ offset_words mode at
 
 -- These words, beside the lane with this upper edge.
 abbrev pub sender_text : Mode → ℕ → Sender → List ℕ
-sender_text mode top sender = words_text Detail 1380 (top + 270) (timer_words mode sender.tg sender.at)
+sender_text mode top sender = words_text Detail names_right (top + timers_line) (timer_words mode sender.tg sender.at)
 
 -- The terminal of a lane.
 abbrev pub terminal_text : ℕ → ℕ → List ℕ
-terminal_text top terminal = words_text classes.Counts 1380 (top + 160) (codes "T" ++ decimal terminal)
+terminal_text top terminal = words_text classes.Counts names_right (top + terminal_line) (codes "T" ++ decimal terminal)
 
 -- The band behind every second lane.
 abbrev pub band_text : ℕ → ℕ → List ℕ
@@ -163,11 +150,11 @@ unobserved_text scale bottom horizon =
 
 -- The axis above the plot, of microseconds.
 abbrev pub upper_axis : Axis
-upper_axis = record { unit = Microseconds; words = 840; class = Tick; top = 900; height = 60 }
+upper_axis = record { unit = Microseconds; words = upper_words; class = Tick; top = upper_ticks; height = tick_height }
 
 -- The axis below the plot, of bit times.
 abbrev pub lower_axis : ℕ → Axis
-lower_axis bottom = record { unit = BitTimes; words = bottom + 210; class = Grid; top = plot_top; height = bottom - plot_top }
+lower_axis bottom = record { unit = BitTimes; words = bottom + lower_words; class = Grid; top = plot_top; height = bottom - plot_top }
 
 -- Both axes.
 abbrev pub axes_text : Scale → ℕ → List ℕ
@@ -176,17 +163,17 @@ axes_text scale bottom = axis_text scale upper_axis ++ axis_text scale (lower_ax
 -- ---- the first breach
 -- The middle of the words of a breach, so far from both edges that they have room.
 abbrev pub words_middle : ℕ → ℕ
-words_middle left = min (max left 2500) 14500
+words_middle left = min (max left words_least) words_most
 
 -- A part of the mark of a breach at a place: a box with this upper edge.
 abbrev pub mark_part : ℕ → ℕ → ℕ → List ℕ
-mark_part left top height = box_text classes.Breach (record { left = left; top = top; width = 24; height = height })
+mark_part left top height = box_text classes.Breach (record { left = left; top = top; width = breach_width; height = height })
 
 -- The mark of a breach at a place, in the lane with this upper edge: above and below the boxes of the lane, so that it hides none.
 abbrev pub mark_at : ℕ → ℕ → AuditAnswer → List ℕ
 mark_at left top answer =
-    mark_part left top 60 ++ mark_part left (top + 240) 80
-    ++ words_text BreachWords (words_middle left) (top + 312) (answer_words answer)
+    mark_part left top breach_above ++ mark_part left (top + breach_below) breach_rest
+    ++ words_text BreachWords (words_middle left) (top + breach_line) (answer_words answer)
 
 -- The mark of a breach at a moment, in the lane with this upper edge.
 abbrev pub mark_text : Scale → ℕ → ℕ → AuditAnswer → List ℕ
@@ -199,44 +186,11 @@ breach_text scale (Breach moment terminal kind) k lane =
     if terminal == lane.terminal && nat_le scale.from moment && nat_lt moment scale.to
     then mark_text scale (lane_top k) moment (Breach moment terminal kind) else []
 
--- ---- the legend
--- A box of the legend, of a class.
-abbrev pub legend_box : Class → ℕ → ℕ → ℕ → ℕ → List ℕ
-legend_box class left top width height = box_text class (record { left = left; top = top; width = width; height = height })
-
--- What the legend says of messages and their wordstrings.
-abbrev pub legend_message : ℕ → List ℕ
-legend_message top =
-    legend_box classes.Message 1500 top 700 180 ++ legend_box classes.Wordstring 1540 (top + 30) 260 120
-    ++ legend_box classes.Wordstring 1900 (top + 30) 260 120
-    ++ words_text Small 2280 (top + 120) (codes "a message and its wordstrings: label, extension, +data words")
-
--- What it says of garbled messages.
-abbrev pub legend_garbled : ℕ → List ℕ
-legend_garbled top =
-    legend_box Garbled 6600 top 500 180 ++ legend_box Noise 6640 (top + 30) 420 120 ++ words_text Small 7180 (top + 120) (codes "garbled")
-
--- What it says of what lies over all lanes.
-abbrev pub legend_columns : ℕ → List ℕ
-legend_columns top =
-    legend_box Overlap 8100 top 300 180 ++ words_text Small 8480 (top + 120) (codes "garbled on the bus")
-    ++ legend_box Unobserved 10100 top 300 180 ++ words_text Small 10480 (top + 120) (codes "behind the horizon")
-
--- What it says of timers.
-abbrev pub legend_timers : ℕ → List ℕ
-legend_timers top =
-    legend_box Gap 11700 (top + 83) 300 14 ++ words_text Small 12080 (top + 120) (codes "gap: SG, TG")
-    ++ legend_box Interval 13000 (top + 83) 300 14 ++ words_text Small 13380 (top + 120) (codes "transmit interval: TI")
-
--- The legend, whose boxes have this upper edge.
-abbrev pub legend_text : ℕ → List ℕ
-legend_text top = legend_message top ++ legend_garbled top ++ legend_columns top ++ legend_timers top
-
 -- ---- the whole
 -- The plot, above a lower edge.
 abbrev pub plot_text : Scale → ℕ → List Lane → AuditAnswer → Table → Recording → List ℕ
 plot_text scale bottom lanes answer table trace =
-    words_text classes.Counts 1380 (plot_top + 200) (codes "bus") ++ each_lane (lane_front table) 0 lanes ++ axes_text scale bottom
+    words_text classes.Counts names_right (plot_top + bus_line) (codes "bus") ++ each_lane (lane_front table) 0 lanes ++ axes_text scale bottom
     ++ unobserved_text scale bottom trace.horizon
     ++ rows_text scale trace.list (rows_of bottom lanes) ++ timers_text scale lanes table trace.list
     ++ each_lane (breach_text scale answer) 0 lanes
@@ -244,8 +198,8 @@ plot_text scale bottom lanes answer table trace =
 -- A picture with these lanes.
 abbrev pub picture_text : Scale → List Lane → List ℕ → AuditAnswer → Table → Recording → List ℕ
 picture_text scale lanes verdict answer table trace =
-    frame_text (lane_top (length lanes) + 800) verdict (answer_words answer) table (counts_of scale trace)
-    ++ plot_text scale (lane_top (length lanes)) lanes answer table trace ++ legend_text (lane_top (length lanes) + 460) ++ tail_text
+    frame_text (lane_top (length lanes) + foot_height) verdict (answer_words answer) table (counts_of scale trace)
+    ++ plot_text scale (lane_top (length lanes)) lanes answer table trace ++ legend_text (lane_top (length lanes) + legend_below) ++ tail_text
 
 -- The time line of a trace in a window, with the words of the verdict on the table and the answer of the audit.
 unfoldable pub time_line_text : Window → List ℕ → AuditAnswer → Table → Recording → List ℕ

@@ -11,14 +11,16 @@ use Rattle.bus_shapes.specs.declared.sent.Sent.{Sent}
 use Rattle.bus_shapes.specs.Scales.{extent, place}
 use Rattle.bus_shapes.specs.Sending.{sents}
 use Rattle.bus_shapes.specs.Shapes.{box_text, words_text}
+use Rattle.bus_picture.specs.Measures.{gap_below, gap_line, interval_below, interval_line}
+use Rattle.bus_picture.specs.Measures.{line_height, near_room, stroke_below, stroke_height}
 
 -- Whether timers are drawn: the transmit interval is at least 200 pixels.
 abbrev pub is_near : Scale → ℕ → Bool
-is_near scale ti = nat_le (2000 * (scale.to - scale.from)) (ti * scale.width)
+is_near scale ti = nat_le (near_room * (scale.to - scale.from)) (ti * scale.width)
 
 -- A thin line from one moment to another.
 abbrev pub line_area : Scale → ℕ → ℕ → ℕ → Area
-line_area scale top from to = record { left = place scale from; top = top; width = extent scale from to; height = 14 }
+line_area scale top from to = record { left = place scale from; top = top; width = extent scale from to; height = line_height }
 
 -- A gap: a line, and its name and its bit times above the middle.
 abbrev pub gap_at : Area → ℕ → List ℕ → ℕ → List ℕ
@@ -27,7 +29,7 @@ gap_at area line name size =
 
 -- The same, of so many bit times from a moment on, in a row with this upper edge.
 abbrev pub gap_text : Scale → ℕ → ℕ → List ℕ → ℕ → List ℕ
-gap_text scale top from name size = gap_at (line_area scale (top + 143) from (from + size)) (top + 54) name size
+gap_text scale top from name size = gap_at (line_area scale (top + gap_below) from (from + size)) (top + gap_line) name size
 
 -- ---- the bus
 -- Whether a transmission comes a synchronization gap or more behind all before it, and the scale has that gap.
@@ -61,18 +63,18 @@ terminal_gap scale top moment tg =
 
 -- The transmit interval from a moment on.
 abbrev pub interval_text : Scale → ℕ → ℕ → ℕ → List ℕ
-interval_text scale top moment ti = box_text Interval (line_area scale (top + 275) moment (moment + ti))
+interval_text scale top moment ti = box_text Interval (line_area scale (top + interval_below) moment (moment + ti))
 
 -- Its end, where the scale has it: so an interval that the window cuts has none.
 abbrev pub interval_end : Scale → ℕ → ℕ → List ℕ
 interval_end scale top to =
     if nat_le to scale.to
-    then box_text Interval (record { left = place scale to - 14; top = top + 258; width = 14; height = 48 }) else []
+    then box_text Interval (record { left = place scale to - line_height; top = top + stroke_below; width = line_height; height = stroke_height }) else []
 
 -- Its words, in the first lane alone, since it is the same in all.
 abbrev pub interval_words : Scale → ℕ → ℕ → ℕ → ℕ → List ℕ
 interval_words scale k top moment ti =
-    if nat_eq k 0 then words_text IntervalWords (place scale (moment + ti)) (top + 266) (codes "TI " ++ decimal ti) else []
+    if nat_eq k 0 then words_text IntervalWords (place scale (moment + ti)) (top + interval_line) (codes "TI " ++ decimal ti) else []
 
 -- The timers of a sender in lane k, at a moment at which it begins to send.
 abbrev pub timers_at : Scale → ℕ → ℕ → ℕ → ℕ → ℕ → List ℕ

@@ -4,8 +4,8 @@ ghost use Rattle.bus_outer.specs.Texts.{Adds};
 ghost use Rattle.bus_strings.specs.Transmissions.{IsByMoment};
 ghost use Rattle.bus_shapes.specs.Scales.{IsScale};
 ghost use Rattle.bus_picture.specs.Rows as definition;
-ghost use Rattle.bus_picture.specs.Working as working;
-ghost use Rattle.bus_picture.specs.Working.{IsLast, IsPile, held};
+ghost use Rattle.bus_picture.specs.inside.Working as working;
+ghost use Rattle.bus_picture.specs.inside.Working.{IsLast, IsPile, held};
 
 use crate::pile::{Pile, is_narrow, joins, put_pile_words};
 use crate::places::meets;

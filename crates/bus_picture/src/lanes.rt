@@ -5,6 +5,7 @@ ghost use Rattle.bus_outer.specs.Texts.{Adds};
 ghost use Rattle.bus_shapes.specs.Scales.{IsScale};
 ghost use Rattle.bus_picture.specs.TimeLines as definition;
 
+use crate::measures::{NAMES_RIGHT, PLOT_LEFT, PLOT_TOP, PLOT_WIDTH, ROW_HEIGHT};
 use bus_audit::{AuditAnswer, put_answer};
 use bus_dump::Lane;
 use bus_outer::{Sink, TextBuffer};
@@ -17,7 +18,7 @@ pub(crate) fn lane_top(k: usize) -> u64
     ensures value { result ≡ definition.lane_top k }
     ensures low { result < 100000 }
 {
-    960 + 320 * (k as u64 + 1)
+    PLOT_TOP + ROW_HEIGHT * (k as u64 + 1)
 }
 
 // The offset of a sender, which it has in periodic mode.
@@ -51,7 +52,7 @@ fn put_sender<K: Sink>(text: &mut TextBuffer, sink: &mut K, mode: Mode, top: u64
     requires { top < 100000 }
     ensures { Adds K.held K.faults sink.old sink.new text.old text.new (definition.sender_text mode top sender.now) }
 {
-    begin_words(text, sink, Class::Detail, 1380, top + 270);
+    begin_words(text, sink, Class::Detail, NAMES_RIGHT, top + 270);
     let (tg, at) = (sender.tg(), sender.at());
     put_timers(text, sink, mode, tg, at);
     end_words(text, sink);
@@ -63,10 +64,10 @@ fn put_band<K: Sink>(text: &mut TextBuffer, sink: &mut K, k: usize, top: u64)
 {
     if k % 2 == 0 {
         let area = Area {
-            left: 1500,
+            left: PLOT_LEFT,
             top,
-            width: 13800,
-            height: 320,
+            width: PLOT_WIDTH,
+            height: ROW_HEIGHT,
         };
         put_box(text, sink, Class::Band, area);
     }
@@ -77,7 +78,7 @@ fn put_terminal<K: Sink>(text: &mut TextBuffer, sink: &mut K, top: u64, terminal
     requires { top < 100000 }
     ensures { Adds K.held K.faults sink.old sink.new text.old text.new (definition.terminal_text top terminal) }
 {
-    begin_words(text, sink, Class::Counts, 1380, top + 160);
+    begin_words(text, sink, Class::Counts, NAMES_RIGHT, top + 160);
     text.put_byte(sink, b'T');
     text.put_number(sink, terminal);
     end_words(text, sink);

@@ -1,7 +1,7 @@
 // The legend.
 ghost use Rattle.std.specs.Prelude.{◌<◌};
 ghost use Rattle.bus_outer.specs.Texts.{Adds};
-ghost use Rattle.bus_picture.specs.TimeLines as definition;
+ghost use Rattle.bus_picture.specs.Legends as definition;
 
 use bus_outer::{Sink, TextBuffer};
 use bus_shapes::{Area, Class, put_box, put_words};

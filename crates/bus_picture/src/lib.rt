@@ -11,6 +11,7 @@ mod counting;
 mod lanes;
 pub mod laws;
 mod legend;
+mod measures;
 mod names;
 mod pile;
 mod places;

@@ -2,7 +2,7 @@ ghost use Rattle.std.specs.Prelude.{◌≡◌, ◌<◌, ◌≤◌, ◌^◌};
 ghost use Rattle.bus_outer.specs.Texts.{Adds};
 ghost use Rattle.bus_shapes.specs.Scales.{IsScale};
 ghost use Rattle.bus_picture.specs.Boxes as definition;
-ghost use Rattle.bus_picture.specs.Working.{grown, one};
+ghost use Rattle.bus_picture.specs.inside.Working.{grown, one};
 
 use bus_outer::{Sink, TextBuffer};
 use bus_shapes::{Scale, Sent, put_garbled, put_sent};

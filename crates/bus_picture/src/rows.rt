@@ -6,6 +6,7 @@ ghost use Rattle.bus_shapes.specs.Scales.{IsScale};
 ghost use Rattle.bus_picture.specs.Rows.{rows_text};
 ghost use Rattle.bus_picture.specs.TimeLines as definition;
 
+use crate::measures::PLOT_TOP;
 use crate::boxes::put_row;
 use crate::lanes::lane_top;
 use crate::row::Row;
@@ -108,6 +109,6 @@ pub(crate) fn put_rows<K: Sink>(
 {
     neighbours_tell();
     let list = trace.list();
-    put_rows_at(text, sink, scale, list, None, 960, bottom);
+    put_rows_at(text, sink, scale, list, None, PLOT_TOP, bottom);
     put_lanes(text, sink, scale, list, bottom, lanes);
 }

@@ -6,6 +6,7 @@ ghost use Rattle.bus_shapes.specs.Scales.{IsScale};
 ghost use Rattle.bus_picture.specs.Timers as definition;
 ghost use Rattle.bus_picture.specs.TimeLines as whole;
 
+use crate::measures::PLOT_TOP;
 use crate::lanes::{lane_top, sender_of};
 use bus_dump::Lane;
 use bus_outer::{Sink, TextBuffer};
@@ -342,7 +343,7 @@ fn put_all<K: Sink>(
     let ti = table.ti();
     if is_near(scale, ti) {
         let sg = table.sg();
-        put_bus_timer(text, sink, scale, 960, sg, list);
+        put_bus_timer(text, sink, scale, PLOT_TOP, sg, list);
         put_each(text, sink, scale, table, list, lanes);
     }
 }

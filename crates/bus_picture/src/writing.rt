@@ -6,6 +6,7 @@ ghost use Rattle.bus_regime.specs.Lines.{verdict_words};
 ghost use Rattle.bus_shapes.specs.Scales.{IsScale};
 ghost use Rattle.bus_picture.specs.TimeLines as definition;
 
+use crate::measures::{NAMES_RIGHT, PLOT_LEFT, PLOT_TOP, PLOT_WIDTH};
 use crate::counting::counts;
 use crate::lanes::{lane_top, put_breaches, put_fronts};
 use crate::legend::put_legend;
@@ -27,8 +28,8 @@ fn scale_of(window: &Window) -> Scale
     Scale {
         from: window.from(),
         to: window.to(),
-        left: 1500,
-        width: 13800,
+        left: PLOT_LEFT,
+        width: PLOT_WIDTH,
     }
 }
 
@@ -48,9 +49,9 @@ fn put_unobserved<K: Sink>(
     if horizon < scale.to {
         let area = Area {
             left: scale.place(horizon),
-            top: 960,
+            top: PLOT_TOP,
             width: scale.extent(horizon, scale.to),
-            height: bottom - 960,
+            height: bottom - PLOT_TOP,
         };
         begin_titled(text, sink, Class::Unobserved, area);
         text.put(sink, b"not observed: the horizon is ");
@@ -78,8 +79,8 @@ fn put_axes<K: Sink>(text: &mut TextBuffer, sink: &mut K, scale: &Scale, bottom:
         unit: Unit::BitTimes,
         words: bottom + 210,
         class: Class::Grid,
-        top: 960,
-        height: bottom - 960,
+        top: PLOT_TOP,
+        height: bottom - PLOT_TOP,
     };
     put_axis(text, sink, scale, &lower);
 }
@@ -101,7 +102,7 @@ fn put_plot<K: Sink>(
     ensures { Adds K.held K.faults sink.old sink.new text.old text.new
         (definition.plot_text scale.now bottom lanes.now answer.now table.now trace.now) }
 {
-    put_words(text, sink, Class::Counts, 1380, 1160, b"bus");
+    put_words(text, sink, Class::Counts, NAMES_RIGHT, PLOT_TOP + 200, b"bus");
     put_fronts(text, sink, table, lanes);
     put_axes(text, sink, scale, bottom);
     let horizon = trace.horizon();

@@ -8,6 +8,7 @@ use Rattle.bus_shapes.specs.Shapes.{box_text, words_text}
 pub use Rattle.bus_shapes.specs.declared.axis.Axis.{Axis}
 pub use Rattle.bus_shapes.specs.declared.axis.Unit.{Unit}
 pub use Rattle.bus_shapes.specs.declared.axis.Unit.TheVariants.{Microseconds, BitTimes}
+use Rattle.bus_shapes.specs.Measures.{left_margin, mark_room, mark_width}
 
 -- How many bit times a unit has: a bit time is half a microsecond.
 abbrev pub unit_bits : Unit → ℕ
@@ -29,7 +30,7 @@ rounds =
 
 -- Whether marks so many units apart are 100 pixels apart, so that the numbers of the longest trace have room.
 abbrev pub is_wide : Scale → Unit → ℕ → Bool
-is_wide scale unit number = nat_le (1000 * (scale.to - scale.from)) (number * unit_bits unit * scale.width)
+is_wide scale unit number = nat_le (mark_room * (scale.to - scale.from)) (number * unit_bits unit * scale.width)
 
 -- The units from mark to mark, where no round number is enough.
 abbrev pub most_units : ℕ
@@ -50,7 +51,7 @@ mark_count scale step = scale.to / step + 1 - first_mark scale step
 -- A mark at a place: its line, and its number.
 abbrev pub mark_at : Axis → ℕ → ℕ → List ℕ
 mark_at axis left number =
-    box_text axis.class (record { left = left; top = axis.top; width = 8; height = axis.height })
+    box_text axis.class (record { left = left; top = axis.top; width = mark_width; height = axis.height })
     ++ words_text Number left axis.words (decimal number)
 
 -- The mark of a moment, with how many units that is.
@@ -64,7 +65,7 @@ marks_text scale axis step =
 
 -- The name of an axis.
 abbrev pub name_text : Axis → List ℕ
-name_text axis = words_text Small 200 axis.words (unit_name axis.unit)
+name_text axis = words_text Small left_margin axis.words (unit_name axis.unit)
 
 -- An axis: its name, and its marks.
 abbrev pub axis_text : Scale → Axis → List ℕ

@@ -6,6 +6,7 @@ use Rattle.bus_shapes.specs.Classes as classes
 use Rattle.bus_shapes.specs.Sayings.{counted, table_words}
 use Rattle.bus_shapes.specs.Shapes.{Area, box_text, words_text}
 pub use Rattle.bus_shapes.specs.declared.counts.Counts.{Counts}
+use Rattle.bus_shapes.specs.Measures.{facts_line, head_line, left_margin, picture_width, pixel, right_margin}
 
 -- ---- the head
 -- The style of words of every class.
@@ -22,10 +23,10 @@ hatch_text =
 abbrev pub style_text : List ℕ
 style_text = codes "<style>\n" ++ font_text ++ rules_text ++ codes "</style>\n" ++ hatch_text
 
--- The size of a picture of this height; 15800 units is its width.
+-- The size of a picture of this height, and of its width, in pixels and in units.
 abbrev pub size_text : ℕ → List ℕ
 size_text height =
-    codes "<svg xmlns=\"http://www.w3.org/2000/svg\" role=\"img\" width=\"1580\" height=\"" ++ decimal (height / 10)
+    codes "<svg xmlns=\"http://www.w3.org/2000/svg\" role=\"img\" width=\"1580\" height=\"" ++ decimal (height / pixel)
     ++ codes "\" viewBox=\"0 0 15800 " ++ decimal height ++ codes "\">\n"
 
 -- The title: the words of the verdict and of the audit.
@@ -41,16 +42,17 @@ counts_words counts =
 
 -- The background of a picture of this height.
 abbrev pub background : ℕ → Area
-background height = record { left = 0; top = 0; width = 15800; height = height }
+background height = record { left = 0; top = 0; width = picture_width; height = height }
 
 -- The words of the verdict and of the audit.
 abbrev pub heads_text : List ℕ → List ℕ → List ℕ
-heads_text verdict answer = words_text Verdict 200 270 verdict ++ words_text Answer 15500 270 answer
+heads_text verdict answer = words_text Verdict left_margin head_line verdict ++ words_text Answer right_margin head_line answer
 
 -- The words of the table, and the counts.
 abbrev pub facts_text : Table → Counts → List ℕ
 facts_text table counts =
-    words_text Note 200 480 (table_words table) ++ words_text classes.Counts 15500 480 (counts_words counts)
+    words_text Note left_margin facts_line (table_words table)
+    ++ words_text classes.Counts right_margin facts_line (counts_words counts)
 
 -- All that stands before the plot of a picture of this height.
 abbrev pub frame_text : ℕ → List ℕ → List ℕ → Table → Counts → List ℕ

@@ -1,3 +1,4 @@
+pub mod Measures
 pub mod Classes
 pub mod Shapes
 pub mod Sayings

@@ -1,14 +1,15 @@
 -- Where moments are drawn. A unit is a tenth of a pixel; division rounds down.
 use Rattle.std.specs.Prelude.{ℕ, ◌+◌, ◌-◌, ◌*◌, ◌/◌, ◌<◌, ◌≤◌, ◌^◌, min, max}
 pub use Rattle.bus_shapes.specs.declared.scale.Scale.{Scale}
+use Rattle.bus_shapes.specs.Measures.{pixel, place_bound, scale_bound}
 
 -- The bounds of a scale.
 pub record IsScale (scale : Scale) : Type 0 where
   pub some : scale.from < scale.to
-  pub short : scale.to ≤ 2 ^ 41
-  pub left : scale.left < 2 ^ 20
+  pub short : scale.to ≤ scale_bound
+  pub left : scale.left < place_bound
   pub room : 0 < scale.width
-  pub narrow : scale.width < 2 ^ 20
+  pub narrow : scale.width < place_bound
 
 -- A moment, or the end of the scale that is nearest to it.
 abbrev pub held : Scale → ℕ → ℕ
@@ -20,4 +21,4 @@ place scale t = scale.left + (held scale t - scale.from) * scale.width / (scale.
 
 -- The width of the box of two moments, at least a pixel.
 abbrev pub extent : Scale → ℕ → ℕ → ℕ
-extent scale from to = max (place scale to - place scale from) 10
+extent scale from to = max (place scale to - place scale from) pixel

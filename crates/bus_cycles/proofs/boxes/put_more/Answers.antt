@@ -1,6 +1,6 @@
 use Rattle.std.proofs.Common.{[], ◌∷◌, ◌++◌, sym, subst}
 use Rattle.bus_outer.specs.Texts.{Adds}
-use Rattle.bus_cycles.specs.Drawing.{Reaches}
+use Rattle.bus_cycles.specs.inside.Drawing.{Reaches}
 use Rattle.bus_cycles.specs.Rows.{Extent}
 use Rattle.bus_cycles.specs.RowTexts.{box_behind}
 use Rattle.bus_cycles.proofs.boxes.put_more.Goals as goal

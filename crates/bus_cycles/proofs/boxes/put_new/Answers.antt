@@ -1,7 +1,7 @@
 use Rattle.std.proofs.Common.{◌+◌, [], ◌∷◌, ◌++◌, ap, subst, ◌∙◌}
 use Rattle.bus_outer.specs.Texts.{Adds}
 use Rattle.bus_outer.proofs.TextLaws.{◌▸◌}
-use Rattle.bus_cycles.specs.Drawing.{Reaches}
+use Rattle.bus_cycles.specs.inside.Drawing.{Reaches}
 use Rattle.bus_cycles.specs.Rows.{Extent, extent_of, row_at}
 use Rattle.bus_cycles.specs.RowTexts.{box_behind, ending_text}
 use Rattle.bus_cycles.proofs.DrawLemmas.{reaches_none}

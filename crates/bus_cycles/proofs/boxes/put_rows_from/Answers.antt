@@ -1,7 +1,7 @@
 use Rattle.std.proofs.Common.{◌≡◌, List, [], ◌∷◌, length, subst, ap, arith}
 use Rattle.std.specs.List.{AllByRecursion}
 use Rattle.bus_shapes.specs.declared.sent.Sent.{Sent}
-use Rattle.bus_cycles.specs.Drawing.{Draws}
+use Rattle.bus_cycles.specs.inside.Drawing.{Draws}
 use Rattle.bus_cycles.specs.Rows.{Extent, rows_of}
 use Rattle.bus_cycles.specs.RowTexts.{walk_text}
 use Rattle.bus_cycles.specs.Sents.{IsSent}

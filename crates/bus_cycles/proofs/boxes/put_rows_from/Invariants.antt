@@ -1,6 +1,6 @@
 use Rattle.std.proofs.Common.{◌<◌, ◌+◌, ◌-◌, ◌^◌, ◌∷◌, length}
 use Rattle.std.specs.List.{AllByRecursion}
-use Rattle.bus_cycles.specs.Drawing.{Draws}
+use Rattle.bus_cycles.specs.inside.Drawing.{Draws}
 use Rattle.bus_cycles.specs.Rows.{rows_of}
 use Rattle.bus_cycles.specs.RowTexts.{walk_text}
 use Rattle.bus_cycles.specs.Sents.{IsSent}

@@ -2,8 +2,8 @@ use Rattle.std.proofs.Common.{◌≡◌, ◌≤◌, get_or, arith, ap, subst, �
 use Rattle.std.proofs.lemmas.List.{take_all}
 use Rattle.std.specs.List.{AllByRecursion}
 use Rattle.bus_dump.specs.declared.clock.Clock.{Clock}
-use Rattle.bus_dump.specs.Clocks.{next_turn}
-use Rattle.bus_dump.specs.Watching.{clock_turn}
+use Rattle.bus_dump.specs.inside.Clocks.{next_turn}
+use Rattle.bus_dump.specs.inside.Watching.{clock_turn}
 use Rattle.bus_dump.proofs.ClockLemmas.{turn_later}
 use Rattle.bus_dump.proofs.WatchLemmas.{no_clock, least_more, low_at}
 use Rattle.bus_dump.proofs.clocks.next_turn.Goals as goal

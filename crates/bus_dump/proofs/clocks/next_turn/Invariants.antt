@@ -1,6 +1,6 @@
 use Rattle.std.proofs.Common.{◌<◌, ◌≤◌, take}
 use Rattle.std.specs.List.{AllByRecursion}
-use Rattle.bus_dump.specs.Watching.{clock_turn}
+use Rattle.bus_dump.specs.inside.Watching.{clock_turn}
 use Rattle.bus_dump.proofs.clocks.next_turn.Given as goal
 
 abbrev pub invariant-loop-clock : goal.invariant-loop-clock

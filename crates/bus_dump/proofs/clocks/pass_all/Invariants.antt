@@ -1,4 +1,4 @@
-use Rattle.bus_dump.specs.Watching.{clock_passed}
+use Rattle.bus_dump.specs.inside.Watching.{clock_passed}
 use Rattle.bus_dump.proofs.PassLemmas.{MappedTo}
 use Rattle.bus_dump.proofs.clocks.pass_all.Given as goal
 

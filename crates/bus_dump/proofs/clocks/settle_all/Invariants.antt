@@ -1,6 +1,6 @@
 use Rattle.std.proofs.Common.{◌≡◌, map, take}
 use Rattle.arrayvec.specs.ArrayVec.{array_vec_len}
-use Rattle.bus_dump.specs.Watching.{settled}
+use Rattle.bus_dump.specs.inside.Watching.{settled}
 use Rattle.bus_dump.proofs.clocks.settle_all.Given as goal
 
 abbrev pub invariant-loop-k : goal.invariant-loop-k

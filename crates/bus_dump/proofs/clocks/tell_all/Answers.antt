@@ -1,6 +1,6 @@
 use Rattle.std.proofs.Common.{◌+◌, map, ap, ◌∙◌}
 use Rattle.std.proofs.lemmas.List.{take_all}
-use Rattle.bus_dump.specs.Clocks.{tells_at}
+use Rattle.bus_dump.specs.inside.Clocks.{tells_at}
 use Rattle.bus_dump.proofs.WatchLemmas.{no_clock, low_at, each_more}
 use Rattle.bus_dump.proofs.clocks.tell_all.Goals as goal
 

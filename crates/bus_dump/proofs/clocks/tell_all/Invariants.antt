@@ -1,6 +1,6 @@
 use Rattle.std.proofs.Common.{◌≡◌, map, take}
 use Rattle.arrayvec.specs.ArrayVec.{array_vec_len}
-use Rattle.bus_dump.specs.Clocks.{tells_at}
+use Rattle.bus_dump.specs.inside.Clocks.{tells_at}
 use Rattle.bus_dump.proofs.clocks.tell_all.Given as goal
 
 abbrev pub invariant-loop-clock : goal.invariant-loop-clock

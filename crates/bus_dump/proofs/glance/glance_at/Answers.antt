@@ -1,7 +1,7 @@
 use Rattle.std.proofs.Common.{◌≡◌, ◌*◌, ◌+◌, ◌-◌, ◌<◌, None, arith, sym, subst}
 use Rattle.bus_strings.specs.Messages.{Message, word_count, bits}
 use Rattle.bus_dump.specs.declared.glance.Glance.{Glance}
-use Rattle.bus_dump.specs.Walks.{IsGlance}
+use Rattle.bus_dump.specs.inside.Walks.{IsGlance}
 use Rattle.bus_dump.proofs.GlanceLemmas.{IsSought, sought_first, sought_next, found_first, found_quiet, not_behind}
 use Rattle.bus_dump.proofs.glance.glance_at.Goals as goal
 

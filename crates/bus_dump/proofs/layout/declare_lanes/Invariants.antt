@@ -1,7 +1,7 @@
 use Rattle.std.proofs.Common.{take}
 use Rattle.std.specs.List.{flat_map}
 use Rattle.bus_outer.specs.Texts.{Adds}
-use Rattle.bus_dump.specs.Layouts.{lane_declarations}
+use Rattle.bus_dump.specs.inside.Layouts.{lane_declarations}
 use Rattle.bus_dump.proofs.layout.declare_lanes.Given as goal
 
 abbrev pub invariant-loop-lane : goal.invariant-loop-lane

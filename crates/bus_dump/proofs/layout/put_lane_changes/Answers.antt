@@ -1,7 +1,7 @@
 use Rattle.std.proofs.Common.{List, ℕ, arith, sym, subst}
 use Rattle.bus_outer.specs.Texts.{Adds}
 use Rattle.bus_outer.proofs.TextLaws.{adds_nothing}
-use Rattle.bus_dump.specs.Watching.{scene_of}
+use Rattle.bus_dump.specs.inside.Watching.{scene_of}
 use Rattle.bus_dump.proofs.LaneLemmas.{still_lane_put}
 use Rattle.bus_dump.proofs.layout.put_lane_changes.Goals as goal
 

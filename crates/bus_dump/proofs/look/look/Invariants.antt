@@ -1,6 +1,6 @@
 use Rattle.std.proofs.Common.{◌≡◌, ◌<◌, ◌≤◌, length, take}
 use Rattle.std.specs.List.{AllByRecursion, filter_map}
-use Rattle.bus_dump.specs.Walks.{IsSteady, see}
+use Rattle.bus_dump.specs.inside.Walks.{IsSteady, see}
 use Rattle.bus_dump.proofs.look.look.Given as goal
 
 -- the live transmissions so far are seen, and stay as they are until then

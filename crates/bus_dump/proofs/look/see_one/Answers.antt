@@ -2,7 +2,7 @@ use Rattle.std.proofs.Common.{◌-◌, Option, subst, ap, ◌∙◌}
 use Rattle.bus_strings.specs.Messages.{Entry}
 use Rattle.bus_dump.specs.OnBus.{Shown}
 use Rattle.bus_dump.specs.Seen.{Seen}
-use Rattle.bus_dump.specs.Walks.{IsGlance, sight_of}
+use Rattle.bus_dump.specs.inside.Walks.{IsGlance, sight_of}
 use Rattle.bus_dump.proofs.LookLemmas.{glance_now, glance_stays}
 use Rattle.bus_dump.proofs.look.see_one.Goals as goal
 

@@ -1,5 +1,5 @@
 use Rattle.std.proofs.Common.{get_or, ap, ◌∙◌}
-use Rattle.bus_dump.specs.Walks.{with_word}
+use Rattle.bus_dump.specs.inside.Walks.{with_word}
 use Rattle.bus_dump.proofs.ValueLemmas.{no_seen, next_word}
 use Rattle.bus_dump.proofs.value.word.Goals as goal
 

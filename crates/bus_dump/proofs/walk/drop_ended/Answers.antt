@@ -1,6 +1,6 @@
 use Rattle.std.proofs.Common.{rules, tests}
 use Rattle.arrayvec.proofs.ArrayVecLemmas.{filter-from_retain}
-use Rattle.bus_dump.specs.Walks.{ends_after}
+use Rattle.bus_dump.specs.inside.Walks.{ends_after}
 use Rattle.bus_dump.proofs.walk.drop_ended.Goals as goal
 
 pub returns : goal.returns

@@ -1,7 +1,7 @@
 use Rattle.std.proofs.Common.{◌≡◌, ◌+◌, ◌≤◌, List, arith, sym, ap, subst, ◌∙◌}
 use Rattle.std.specs.List.{AllByRecursion, filter_map}
 use Rattle.bus_strings.specs.Messages.{Entry}
-use Rattle.bus_dump.specs.Walks.{IsLive, IsSteady, live_to, see}
+use Rattle.bus_dump.specs.inside.Walks.{IsLive, IsSteady, live_to, see}
 use Rattle.bus_dump.proofs.LiveLemmas.{are_live, same_seen, seen_is}
 use Rattle.bus_dump.proofs.watch.look_around.Goals as goal
 

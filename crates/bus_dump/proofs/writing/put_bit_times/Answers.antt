@@ -4,10 +4,10 @@ use Rattle.bus_outer.proofs.TextLaws.{◌▸◌}
 use Rattle.bus_strings.specs.Messages.{Entry}
 use Rattle.bus_table.specs.Tables.{Sender}
 use Rattle.bus_dump.specs.DumpTexts.{first_values}
-use Rattle.bus_dump.specs.Layouts.{layout_signals}
+use Rattle.bus_dump.specs.inside.Layouts.{layout_signals}
 use Rattle.bus_dump.specs.Scenes.{Scene, elapsed_at, scene_at, timed}
 use Rattle.bus_dump.specs.Seen.{seen_at}
-use Rattle.bus_dump.specs.Watching.{StaysAs, scene_of}
+use Rattle.bus_dump.specs.inside.Watching.{StaysAs, scene_of}
 use Rattle.bus_dump.proofs.WriteLemmas.{first_is, last_put, next_put, scene_is, scene_stays}
 use Rattle.bus_dump.proofs.writing.put_bit_times.Goals as goal
 

@@ -2,11 +2,11 @@ use Rattle.std.proofs.Common.{◌≡◌, ◌<◌, ◌≤◌, ◌-◌, ◌++◌}
 use Rattle.std.specs.List.{flat_map, range_with_len}
 use Rattle.bus_outer.specs.Texts.{Adds}
 use Rattle.bus_dump.specs.DumpTexts.{changes_at, first_values}
-use Rattle.bus_dump.specs.Layouts.{layout_signals}
+use Rattle.bus_dump.specs.inside.Layouts.{layout_signals}
 use Rattle.bus_dump.specs.Scenes.{scene_at, timed}
 use Rattle.bus_dump.specs.Seen.{seen_at}
-use Rattle.bus_dump.specs.Walks.{BeginsFrom, SteadyTo}
-use Rattle.bus_dump.specs.Watching.{IsWatch, Keeping, StaysAs, scene_of}
+use Rattle.bus_dump.specs.inside.Walks.{BeginsFrom, SteadyTo}
+use Rattle.bus_dump.specs.inside.Watching.{IsWatch, Keeping, StaysAs, scene_of}
 use Rattle.bus_dump.proofs.writing.put_bit_times.Given as goal
 
 -- the watch stands at bit time t, the scene there is known and stays so until then, and all up to t is put

@@ -1,6 +1,6 @@
 use Rattle.std.proofs.Common.{List, ℕ}
 use Rattle.bus_outer.specs.Texts.{Adds}
-use Rattle.bus_picture.specs.Working.{Writing}
+use Rattle.bus_picture.specs.inside.Working.{Writing}
 use Rattle.bus_picture.proofs.boxes.put_row.Given as goal
 
 abbrev pub invariant-loop-sent : goal.invariant-loop-sent

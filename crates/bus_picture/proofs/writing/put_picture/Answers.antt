@@ -5,7 +5,8 @@ use Rattle.bus_regime.specs.Lines.{verdict_words}
 use Rattle.bus_audit.specs.Lines.{answer_words}
 use Rattle.bus_shapes.specs.declared.counts.Counts.{Counts}
 use Rattle.bus_shapes.specs.Frames.{frame_text, tail_text}
-use Rattle.bus_picture.specs.TimeLines.{counts_of, legend_text, plot_text}
+use Rattle.bus_picture.specs.TimeLines.{counts_of, plot_text}
+use Rattle.bus_picture.specs.Legends.{legend_text}
 use Rattle.bus_picture.proofs.writing.put_picture.Goals as goal
 
 pub returns : goal.returns

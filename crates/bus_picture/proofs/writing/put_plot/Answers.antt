@@ -4,7 +4,8 @@ use Rattle.bus_outer.proofs.TextLaws.{◌▸◌}
 use Rattle.bus_shapes.specs.declared.class.Class.TheVariants.{Counts}
 use Rattle.bus_shapes.specs.Shapes.{words_text}
 use Rattle.bus_picture.specs.Rows.{rows_text}
-use Rattle.bus_picture.specs.TimeLines.{axes_text, breach_text, each_lane, lane_front, plot_top, rows_of, timers_text, unobserved_text}
+use Rattle.bus_picture.specs.TimeLines.{axes_text, breach_text, each_lane, lane_front, rows_of, timers_text, unobserved_text}
+use Rattle.bus_picture.specs.Measures.{plot_top}
 use Rattle.bus_picture.proofs.writing.put_plot.Goals as goal
 
 pub returns : goal.returns

@@ -1,5 +1,5 @@
 use Rattle.std.proofs.Common.{◌≡◌, ◌-◌, length}
-use Rattle.bus_dump.specs.Walks.{IsWalkable, Reaches}
+use Rattle.bus_dump.specs.inside.Walks.{IsWalkable, Reaches}
 use Rattle.bus_dump.proofs.walk.Walk.begin_all.Given as goal
 
 abbrev pub invariant-loop-self : goal.invariant-loop-self

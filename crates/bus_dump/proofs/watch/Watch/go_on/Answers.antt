@@ -3,8 +3,8 @@ use Rattle.std.specs.List.{AllByRecursion}
 use Rattle.arrayvec.specs.ArrayVec.{ArrayVec, with_items}
 use Rattle.bus_strings.specs.Messages.{Entry}
 use Rattle.bus_dump.specs.declared.clock.Clock.{Clock}
-use Rattle.bus_dump.specs.Clocks.{IsLow}
-use Rattle.bus_dump.specs.Watching.{AreClocksOf, clock_passed}
+use Rattle.bus_dump.specs.inside.Clocks.{IsLow}
+use Rattle.bus_dump.specs.inside.Watching.{AreClocksOf, clock_passed}
 use Rattle.bus_dump.proofs.WatchLemmas.{all_low_passed, carrier_stays, passed_is, watch_passes}
 use Rattle.bus_dump.proofs.PassLemmas.{written}
 use Rattle.bus_dump.proofs.watch.Watch.go_on.Goals as goal

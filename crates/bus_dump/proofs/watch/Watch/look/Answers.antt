@@ -1,7 +1,7 @@
 use Rattle.std.proofs.Common.{◌+◌, ◌≤◌, List, arith, sym, subst, ◌∙◌}
 use Rattle.std.specs.List.{AllByRecursion}
 use Rattle.bus_strings.specs.Messages.{Entry}
-use Rattle.bus_dump.specs.Clocks.{IsLow}
+use Rattle.bus_dump.specs.inside.Clocks.{IsLow}
 use Rattle.bus_dump.proofs.WatchLemmas.{carrier_stays, turns_are, watch_stays, watch_tells}
 use Rattle.bus_dump.proofs.watch.Watch.look.Goals as goal
 

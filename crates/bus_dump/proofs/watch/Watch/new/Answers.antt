@@ -1,9 +1,9 @@
 use Rattle.std.proofs.Common.{List, arith, sym, subst}
 use Rattle.std.specs.List.{AllByRecursion}
 use Rattle.bus_table.specs.Tables.{Sender}
-use Rattle.bus_dump.specs.Clocks.{IsLow}
+use Rattle.bus_dump.specs.inside.Clocks.{IsLow}
 use Rattle.bus_dump.specs.Scenes.{timed}
-use Rattle.bus_dump.specs.Watching.{AreClocksOf}
+use Rattle.bus_dump.specs.inside.Watching.{AreClocksOf}
 use Rattle.bus_dump.proofs.WatchLemmas.{all_low, all_settled}
 use Rattle.bus_dump.proofs.watch.Watch.new.Goals as goal
 

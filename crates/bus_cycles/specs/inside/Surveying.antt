@@ -3,6 +3,7 @@ use Rattle.std.specs.Prelude.{◌≡◌, ℕ, ◌≤◌, ◌^◌, List, fold, ma
 use Rattle.bus_shapes.specs.declared.sent.Sent.{Sent}
 use Rattle.bus_cycles.specs.Rows.{Cycle, Extent, Row, extent_of, rows_from}
 use Rattle.bus_cycles.specs.Surveys.{Survey, with_row}
+use Rattle.bus_shapes.specs.Measures.{scale_bound}
 
 -- A survey with the rows that are left.
 abbrev pub rest_of : Cycle → Option ℕ → Survey → List Row → Survey
@@ -14,6 +15,6 @@ pub record Surveys (breach : Option ℕ) (cycle : Cycle) (whole survey : Survey)
   pub extent_is : extent ≡ extent_of row
   pub whole_is : rest_of cycle breach survey (rows_from cycle row left) ≡ whole
   pub some : cycle.ti ≤ survey.longest
-  pub low : survey.longest ≤ 2 ^ 41
-  pub ends : extent.end ≤ 2 ^ 41
+  pub low : survey.longest ≤ scale_bound
+  pub ends : extent.end ≤ scale_bound
   pub count : survey.count ≡ extent.place

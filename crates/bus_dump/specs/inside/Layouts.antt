@@ -11,7 +11,7 @@ use Rattle.bus_dump.specs.Lanes.{sends}
 use Rattle.bus_dump.specs.Scenes.{Scene, scene_at}
 use Rattle.bus_dump.specs.Signals.{Signal, elapsed, is_of, lane_signals, signals}
 use Rattle.bus_dump.specs.DumpTexts.{changes_to, declaration, first_values, value_line}
-use Rattle.bus_dump.specs.Walks.{change_put}
+use Rattle.bus_dump.specs.inside.Walks.{change_put}
 
 -- The signals of a layout, in order.
 abbrev pub layout_signals : Layout → List Signal

@@ -9,9 +9,9 @@ use Rattle.bus_dump.specs.declared.clock.Clock.{Clock}
 use Rattle.bus_dump.specs.declared.live.Live.{Live}
 use Rattle.bus_dump.specs.declared.scene.Scene as kept
 use Rattle.bus_dump.specs.declared.watch.Watch.{Watch}
-use Rattle.bus_dump.specs.Clocks.{Keeps, IsLow, next_turn, passed}
+use Rattle.bus_dump.specs.inside.Clocks.{Keeps, IsLow, next_turn, passed}
 use Rattle.bus_dump.specs.Scenes.{Scene, elapsed_at}
-use Rattle.bus_dump.specs.Walks.{IsWalkable, Stands}
+use Rattle.bus_dump.specs.inside.Walks.{IsWalkable, Stands}
 
 -- The scene that is kept.
 abbrev pub scene_of : kept.Scene → Scene

@@ -1,0 +1,146 @@
+-- The measures of pictures of cycles, in units of a tenth of a pixel.
+use Rattle.std.specs.Prelude.{ℕ}
+
+-- The left edge of the rows.
+abbrev pub plot_left : ℕ
+plot_left = 1500
+
+-- Their width.
+abbrev pub plot_width : ℕ
+plot_width = 12900
+
+-- Where the moments end at which rows begin.
+abbrev pub begins_right : ℕ
+begins_right = 1440
+
+-- The line of the numbers of microseconds.
+abbrev pub upper_words : ℕ
+upper_words = 830
+
+-- Where their marks begin.
+abbrev pub upper_ticks : ℕ
+upper_ticks = 850
+
+-- How high these are.
+abbrev pub tick_height : ℕ
+tick_height = 50
+
+-- The line of the numbers of bit times.
+abbrev pub lower_words : ℕ
+lower_words = 1010
+
+-- Where their lines begin.
+abbrev pub lower_top : ℕ
+lower_top = 1040
+
+-- The line of the words on the rows.
+abbrev pub rows_line : ℕ
+rows_line = 620
+
+-- Where the line of a mark begins.
+abbrev pub marks_top : ℕ
+marks_top = 1070
+
+-- A mark reaches this less than the lower edge of the rows.
+abbrev pub marks_over : ℕ
+marks_over = 1000
+
+-- The width of the line of a mark: a pixel.
+abbrev pub line_width : ℕ
+line_width = 10
+
+-- How far behind its mark the words of a mark stand.
+abbrev pub behind_mark : ℕ
+behind_mark = 40
+
+-- How far before its mark those of the least cycle stand.
+abbrev pub before_mark : ℕ
+before_mark = 30
+
+-- How far below the rows the words of a mark stand.
+abbrev pub mark_words_below : ℕ
+mark_words_below = 150
+
+-- How far below the rows those of the least cycle stand.
+abbrev pub least_words_below : ℕ
+least_words_below = 240
+
+-- How much of a picture lies below its rows.
+abbrev pub foot_height : ℕ
+foot_height = 250
+
+-- The upper edge of the first row.
+abbrev pub rows_top : ℕ
+rows_top = 1190
+
+-- The height of a row.
+abbrev pub row_height : ℕ
+row_height = 140
+
+-- How far below its upper edge the words of a row stand.
+abbrev pub row_line : ℕ
+row_line = 105
+
+-- How far below the upper edge of its row a box begins.
+abbrev pub box_below : ℕ
+box_below = 10
+
+-- The height of a box.
+abbrev pub box_height : ℕ
+box_height = 120
+
+-- How far below that edge the box of a garbled transmission of an odd terminal begins.
+abbrev pub odd_below : ℕ
+odd_below = 16
+
+-- How far below that edge that of an even terminal begins.
+abbrev pub even_below : ℕ
+even_below = 76
+
+-- The height of such a box.
+abbrev pub garbled_height : ℕ
+garbled_height = 48
+
+-- How far below the upper edge of its box the number of a terminal stands.
+abbrev pub number_line : ℕ
+number_line = 95
+
+-- The room of a number of one digit.
+abbrev pub short_number : ℕ
+short_number = 132
+
+-- That of a number of two digits.
+abbrev pub middle_number : ℕ
+middle_number = 198
+
+-- That of a number of three digits.
+abbrev pub long_number : ℕ
+long_number = 264
+
+-- The width of the line of a breach.
+abbrev pub breach_width : ℕ
+breach_width = 20
+
+-- The height of each of its parts.
+abbrev pub breach_height : ℕ
+breach_height = 40
+
+-- How far above the upper edge of its row its first part begins.
+abbrev pub breach_over : ℕ
+breach_over = 30
+
+-- How far below that edge its second part begins.
+abbrev pub breach_below : ℕ
+breach_below = 130
+
+-- From here on the word of a breach stands before its line.
+abbrev pub right_half : ℕ
+right_half = 8000
+
+-- How far behind the line the middle of the word lies.
+abbrev pub behind_breach : ℕ
+behind_breach = 270
+
+-- How far before the line the middle of the word lies.
+abbrev pub before_breach : ℕ
+before_breach = 250

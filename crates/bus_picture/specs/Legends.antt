@@ -1,0 +1,158 @@
+-- The legend of a time line, and its measures in units of a tenth of a pixel.
+use Rattle.std.specs.Prelude.{ℕ, ◌+◌, List, ◌++◌, codes}
+use Rattle.bus_shapes.specs.declared.class.Class.{Class}
+use Rattle.bus_shapes.specs.declared.class.Class.TheVariants.{Gap, Garbled, Interval, Noise, Overlap, Small, Unobserved}
+use Rattle.bus_shapes.specs.declared.class.Class.TheVariants as classes
+use Rattle.bus_shapes.specs.Shapes.{box_text, words_text}
+use Rattle.bus_picture.specs.Measures.{line_height}
+
+-- ---- measures
+-- How far below the upper edge of a box of the legend its words stand.
+abbrev pub legend_words : ℕ
+legend_words = 120
+
+-- The height of a sample of a box.
+abbrev pub sample_height : ℕ
+sample_height = 180
+
+-- How far below the upper edge of a sample the box in it begins.
+abbrev pub inner_below : ℕ
+inner_below = 30
+
+-- The height of the box in a sample.
+abbrev pub inner_height : ℕ
+inner_height = 120
+
+-- How far below the upper edge of a sample a line lies.
+abbrev pub line_below : ℕ
+line_below = 83
+
+-- Where the sample of a message begins.
+abbrev pub message_left : ℕ
+message_left = 1500
+
+-- Its width.
+abbrev pub message_width : ℕ
+message_width = 700
+
+-- Where its first wordstring begins.
+abbrev pub first_left : ℕ
+first_left = 1540
+
+-- Where its second wordstring begins.
+abbrev pub second_left : ℕ
+second_left = 1900
+
+-- The width of a wordstring in it.
+abbrev pub string_width : ℕ
+string_width = 260
+
+-- Where the words on messages begin.
+abbrev pub message_words : ℕ
+message_words = 2280
+
+-- Where the sample of a garbled message begins.
+abbrev pub garbled_left : ℕ
+garbled_left = 6600
+
+-- Its width.
+abbrev pub garbled_width : ℕ
+garbled_width = 500
+
+-- Where its wordstring begins.
+abbrev pub noise_left : ℕ
+noise_left = 6640
+
+-- The width of that.
+abbrev pub noise_width : ℕ
+noise_width = 420
+
+-- Where the words on garbled messages begin.
+abbrev pub garbled_words : ℕ
+garbled_words = 7180
+
+-- The width of the samples behind these.
+abbrev pub column_width : ℕ
+column_width = 300
+
+-- Where the sample of what is garbled on the bus begins.
+abbrev pub overlap_left : ℕ
+overlap_left = 8100
+
+-- Where the words on it begin.
+abbrev pub overlap_words : ℕ
+overlap_words = 8480
+
+-- Where the sample of what lies behind the horizon begins.
+abbrev pub unobserved_left : ℕ
+unobserved_left = 10100
+
+-- Where the words on it begin.
+abbrev pub unobserved_words : ℕ
+unobserved_words = 10480
+
+-- Where the sample of a gap begins.
+abbrev pub gap_left : ℕ
+gap_left = 11700
+
+-- Where the words on gaps begin.
+abbrev pub gap_words : ℕ
+gap_words = 12080
+
+-- Where the sample of a transmit interval begins.
+abbrev pub interval_left : ℕ
+interval_left = 13000
+
+-- Where the words on transmit intervals begin.
+abbrev pub interval_words : ℕ
+interval_words = 13380
+
+-- ---- the legend
+-- A box of the legend, of a class.
+abbrev pub legend_box : Class → ℕ → ℕ → ℕ → ℕ → List ℕ
+legend_box class left top width height = box_text class (record { left = left; top = top; width = width; height = height })
+
+-- A sample of a box of a class.
+abbrev pub sample_box : Class → ℕ → ℕ → ℕ → List ℕ
+sample_box class left top width = legend_box class left top width sample_height
+
+-- The box of a class in a sample.
+abbrev pub inner_box : Class → ℕ → ℕ → ℕ → List ℕ
+inner_box class left top width = legend_box class left (top + inner_below) width inner_height
+
+-- A sample of a line of a class.
+abbrev pub sample_line : Class → ℕ → ℕ → List ℕ
+sample_line class left top = legend_box class left (top + line_below) column_width line_height
+
+-- Words of the legend.
+abbrev pub sample_words : ℕ → ℕ → List ℕ → List ℕ
+sample_words left top words = words_text Small left (top + legend_words) words
+
+-- What the legend says of messages and their wordstrings.
+abbrev pub legend_message : ℕ → List ℕ
+legend_message top =
+    sample_box classes.Message message_left top message_width ++ inner_box classes.Wordstring first_left top string_width
+    ++ inner_box classes.Wordstring second_left top string_width
+    ++ sample_words message_words top (codes "a message and its wordstrings: label, extension, +data words")
+
+-- What it says of garbled messages.
+abbrev pub legend_garbled : ℕ → List ℕ
+legend_garbled top =
+    sample_box Garbled garbled_left top garbled_width ++ inner_box Noise noise_left top noise_width
+    ++ sample_words garbled_words top (codes "garbled")
+
+-- What it says of what lies over all lanes.
+abbrev pub legend_columns : ℕ → List ℕ
+legend_columns top =
+    sample_box Overlap overlap_left top column_width ++ sample_words overlap_words top (codes "garbled on the bus")
+    ++ sample_box Unobserved unobserved_left top column_width ++ sample_words unobserved_words top (codes "behind the horizon")
+
+-- What it says of timers.
+abbrev pub legend_timers : ℕ → List ℕ
+legend_timers top =
+    sample_line Gap gap_left top ++ sample_words gap_words top (codes "gap: SG, TG")
+    ++ sample_line Interval interval_left top ++ sample_words interval_words top (codes "transmit interval: TI")
+
+-- The legend, whose boxes have this upper edge.
+abbrev pub legend_text : ℕ → List ℕ
+legend_text top = legend_message top ++ legend_garbled top ++ legend_columns top ++ legend_timers top

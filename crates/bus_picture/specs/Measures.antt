@@ -1,0 +1,166 @@
+-- The measures of time lines, in units of a tenth of a pixel.
+use Rattle.std.specs.Prelude.{ℕ}
+
+-- The upper edge of the plot, which is that of the bus.
+abbrev pub plot_top : ℕ
+plot_top = 960
+
+-- The height of a row.
+abbrev pub row_height : ℕ
+row_height = 320
+
+-- The left edge of the plot.
+abbrev pub plot_left : ℕ
+plot_left = 1500
+
+-- The width of the plot, which leaves room for half of a number at its right edge.
+abbrev pub plot_width : ℕ
+plot_width = 13800
+
+-- Where the words beside a lane end.
+abbrev pub names_right : ℕ
+names_right = 1380
+
+-- How far below its upper edge the name of the bus stands.
+abbrev pub bus_line : ℕ
+bus_line = 200
+
+-- How far below its upper edge the number of a lane stands.
+abbrev pub terminal_line : ℕ
+terminal_line = 160
+
+-- How far below its upper edge the timers of a lane stand in words.
+abbrev pub timers_line : ℕ
+timers_line = 270
+
+-- The line of the numbers above the plot.
+abbrev pub upper_words : ℕ
+upper_words = 840
+
+-- Where the marks above the plot begin.
+abbrev pub upper_ticks : ℕ
+upper_ticks = 900
+
+-- How high the marks above the plot are.
+abbrev pub tick_height : ℕ
+tick_height = 60
+
+-- How far below the plot the numbers below it stand.
+abbrev pub lower_words : ℕ
+lower_words = 210
+
+-- How far below the plot the legend begins.
+abbrev pub legend_below : ℕ
+legend_below = 460
+
+-- How much of a picture lies below its plot.
+abbrev pub foot_height : ℕ
+foot_height = 800
+
+-- How far below the upper edge of its row a box begins.
+abbrev pub box_below : ℕ
+box_below = 60
+
+-- The height of a box.
+abbrev pub box_height : ℕ
+box_height = 180
+
+-- How far below the upper edge of its row the box of a wordstring begins.
+abbrev pub string_below : ℕ
+string_below = 90
+
+-- The height of the box of a wordstring.
+abbrev pub string_height : ℕ
+string_height = 120
+
+-- How far below the upper edge of its box the words of a wordstring stand.
+abbrev pub string_line : ℕ
+string_line = 100
+
+-- A box that takes less is narrow: six pixels.
+abbrev pub narrow : ℕ
+narrow = 60
+
+-- The room of the label and the extension of a wordstring.
+abbrev pub name_room : ℕ
+name_room = 400
+
+-- The room of these with the number of data words.
+abbrev pub long_room : ℕ
+long_room = 730
+
+-- The room of each word where all words of wordstrings are drawn: 34 pixels.
+abbrev pub word_room : ℕ
+word_room = 340
+
+-- The room of a label and an extension in the area of a label word.
+abbrev pub label_room : ℕ
+label_room = 330
+
+-- The room of four digits in the area of a data word.
+abbrev pub digits_room : ℕ
+digits_room = 264
+
+-- The width of the edge at which a data word begins.
+abbrev pub edge_width : ℕ
+edge_width = 8
+
+-- The room of a transmit interval from which on timers are drawn: 200 pixels.
+abbrev pub near_room : ℕ
+near_room = 2000
+
+-- The height of the line of a timer, and the width of the stroke at its end.
+abbrev pub line_height : ℕ
+line_height = 14
+
+-- How far below the upper edge of its row the line of a gap lies.
+abbrev pub gap_below : ℕ
+gap_below = 143
+
+-- How far below that edge the words of a gap stand.
+abbrev pub gap_line : ℕ
+gap_line = 54
+
+-- How far below that edge the line of a transmit interval lies.
+abbrev pub interval_below : ℕ
+interval_below = 275
+
+-- How far below that edge the words of a transmit interval stand.
+abbrev pub interval_line : ℕ
+interval_line = 266
+
+-- How far below that edge the stroke at the end of a transmit interval begins.
+abbrev pub stroke_below : ℕ
+stroke_below = 258
+
+-- The height of that stroke.
+abbrev pub stroke_height : ℕ
+stroke_height = 48
+
+-- The least middle of the words of a breach, so that they have room.
+abbrev pub words_least : ℕ
+words_least = 2500
+
+-- The greatest middle of the words of a breach, so that they have room.
+abbrev pub words_most : ℕ
+words_most = 14500
+
+-- The width of the line of a breach.
+abbrev pub breach_width : ℕ
+breach_width = 24
+
+-- The height of its part above the boxes of a lane.
+abbrev pub breach_above : ℕ
+breach_above = 60
+
+-- How far below the upper edge of the lane its part below them begins.
+abbrev pub breach_below : ℕ
+breach_below = 240
+
+-- The height of that part.
+abbrev pub breach_rest : ℕ
+breach_rest = 80
+
+-- How far below the upper edge of the lane the words of a breach stand.
+abbrev pub breach_line : ℕ
+breach_line = 312
