@@ -1,4 +1,4 @@
-// The rows of a picture: their boxes and words.
+//! The rows of a picture: their boxes and words.
 ghost use Rattle.std.specs.Prelude.{◌≡◌, ◌<◌, ◌≤◌, ◌+◌, ◌++◌, [], ◌∷◌, ◌-◌, ◌^◌, List, length};
 ghost use Rattle.std.specs.List.{AllByRecursion};
 ghost use Rattle.bus_outer.specs.Texts.{Adds};
@@ -18,10 +18,10 @@ use bus_shapes::{
 };
 use bus_trace::Trace;
 
-// How many shades there are.
+/// How many shades there are.
 const SHADES: usize = 4;
 
-// The upper edge of a row.
+/// The upper edge of a row.
 pub(crate) fn top_of(row: u64) -> u64
     requires { row ≤ 500 }
     ensures value { result ≡ definition.top_of row }
@@ -30,7 +30,7 @@ pub(crate) fn top_of(row: u64) -> u64
     1190 + 140 * row
 }
 
-// The place of a moment behind another, on a whole pixel.
+/// The place of a moment behind another, on a whole pixel.
 pub(crate) fn pixel(scale: &Scale, begin: u64, t: u64) -> u64
     requires { IsScale scale.now }
     ensures value { result ≡ definition.pixel scale.now begin t }
@@ -39,7 +39,7 @@ pub(crate) fn pixel(scale: &Scale, begin: u64, t: u64) -> u64
     scale.place(t.saturating_sub(begin)) / 10 * 10
 }
 
-// The left edge of a transmission in a row that began at this moment, and its right edge, at least a pixel behind.
+/// The left edge of a transmission in a row that began at this moment, and its right edge, at least a pixel behind.
 fn left_of(scale: &Scale, begin: u64, sent: &Sent) -> u64
     requires { IsScale scale.now }
     ensures value { result ≡ definition.left_of scale.now begin sent.now }
@@ -58,7 +58,7 @@ fn right_of(scale: &Scale, begin: u64, sent: &Sent) -> u64
     pixel(scale, begin, sent.end).max(left + 10)
 }
 
-// The shade of a transmission.
+/// The shade of a transmission.
 fn shade_of(sent: &Sent) -> usize
     ensures value { result ≡ definition.shade sent.now }
     ensures low { result < 4 }
@@ -67,7 +67,7 @@ fn shade_of(sent: &Sent) -> usize
     garbled + (sent.terminal % 2) as usize
 }
 
-// What it is drawn as.
+/// What it is drawn as.
 fn class_of(shade: usize) -> Class
     ensures { result ≡ definition.class_of shade }
 {
@@ -78,7 +78,7 @@ fn class_of(shade: usize) -> Class
     }
 }
 
-// How far below the upper edge of its row it begins, and its height.
+/// How far below the upper edge of its row it begins, and its height.
 fn below_top(shade: usize) -> u64
     ensures value { result ≡ definition.below_top shade }
     ensures low { result ≤ 76 }
@@ -96,7 +96,7 @@ fn height_of(shade: usize) -> u64
     if shade < 2 { 120 } else { 48 }
 }
 
-// Where a transmission is.
+/// Where a transmission is.
 fn area_of(scale: &Scale, row: Extent, sent: &Sent) -> Area
     requires scale { IsScale scale.now }
     requires drawn { row.place ≤ 500 }
@@ -115,7 +115,7 @@ fn area_of(scale: &Scale, row: Extent, sent: &Sent) -> Area
     }
 }
 
-// How wide the number of a terminal is, with a character around it.
+/// How wide the number of a terminal is, with a character around it.
 fn number_width(terminal: u8) -> u64
     ensures { result ≡ definition.number_width terminal }
 {
@@ -128,7 +128,7 @@ fn number_width(terminal: u8) -> u64
     }
 }
 
-// The number of its terminal, where its box has room.
+/// The number of its terminal, where its box has room.
 fn put_number<K: Sink>(text: &mut TextBuffer, sink: &mut K, area: Area, sent: &Sent)
     requires left { area.left < 2 ^ 21 }
     requires top { area.top < 2 ^ 20 }
@@ -148,7 +148,7 @@ fn put_number<K: Sink>(text: &mut TextBuffer, sink: &mut K, area: Area, sent: &S
     }
 }
 
-// A transmission in an area: its box, and its number.
+/// A transmission in an area: its box, and its number.
 fn put_in<K: Sink>(text: &mut TextBuffer, sink: &mut K, area: Area, sent: &Sent)
     requires order { sent.now.moment ≤ sent.now.end }
     requires left { area.left < 2 ^ 21 }
@@ -162,7 +162,7 @@ fn put_in<K: Sink>(text: &mut TextBuffer, sink: &mut K, area: Area, sent: &Sent)
     put_number(text, sink, area, sent);
 }
 
-// A transmission of a row, where that is drawn.
+/// A transmission of a row, where that is drawn.
 fn put_where_drawn<K: Sink>(
     text: &mut TextBuffer,
     sink: &mut K,
@@ -180,14 +180,14 @@ fn put_where_drawn<K: Sink>(
     }
 }
 
-// Whether a transmission is drawn in a walk.
+/// Whether a transmission is drawn in a walk.
 fn is_due(garbled: bool, sent: &Sent) -> bool
     ensures { result ≡ definition.is_due garbled sent.now }
 {
     if garbled { sent.garbled } else { !sent.garbled }
 }
 
-// A transmission of a row, in its walk.
+/// A transmission of a row, in its walk.
 fn put_where_due<K: Sink>(
     text: &mut TextBuffer,
     sink: &mut K,
@@ -206,7 +206,7 @@ fn put_where_due<K: Sink>(
     }
 }
 
-// What a transmission adds to a row in a walk.
+/// What a transmission adds to a row in a walk.
 fn put_behind<K: Sink>(
     text: &mut TextBuffer,
     sink: &mut K,
@@ -233,7 +233,7 @@ fn put_behind<K: Sink>(
     put_where_due(text, sink, scale, garbled, row, sent);
 }
 
-// The words of a row.
+/// The words of a row.
 fn put_row_words<K: Sink>(text: &mut TextBuffer, sink: &mut K, row: Extent)
     requires { row.place ≤ 500 }
     ensures { Adds K.held K.faults sink.old sink.new text.old text.new (definition.words_of row) }
@@ -247,7 +247,7 @@ fn put_row_words<K: Sink>(text: &mut TextBuffer, sink: &mut K, row: Extent)
     end_words(text, sink);
 }
 
-// The words of a row, where it is drawn, in the walk for what is plain.
+/// The words of a row, where it is drawn, in the walk for what is plain.
 fn put_ending<K: Sink>(text: &mut TextBuffer, sink: &mut K, garbled: bool, row: Extent)
     ensures { Adds K.held K.faults sink.old sink.new text.old text.new (definition.ending_text garbled row) }
 {
@@ -256,7 +256,7 @@ fn put_ending<K: Sink>(text: &mut TextBuffer, sink: &mut K, garbled: bool, row: 
     }
 }
 
-// The words of a row, and the first transmission of the next.
+/// The words of a row, and the first transmission of the next.
 fn put_new<K: Sink>(
     text: &mut TextBuffer,
     sink: &mut K,
@@ -283,7 +283,7 @@ fn put_new<K: Sink>(
     put_behind(text, sink, scale, garbled, *row, edges, sent);
 }
 
-// One transmission more of a row.
+/// One transmission more of a row.
 fn put_more<K: Sink>(
     text: &mut TextBuffer,
     sink: &mut K,
@@ -305,7 +305,7 @@ fn put_more<K: Sink>(
     put_behind(text, sink, scale, garbled, *row, edges, sent);
 }
 
-// The next transmission, of the row or of the next one.
+/// The next transmission, of the row or of the next one.
 fn put_next<K: Sink>(
     text: &mut TextBuffer,
     sink: &mut K,
@@ -333,7 +333,7 @@ fn put_next<K: Sink>(
     }
 }
 
-// What a walk draws of the rows of a transmission and those behind it.
+/// What a walk draws of the rows of a transmission and those behind it.
 fn put_rows_from<K: Sink>(
     text: &mut TextBuffer,
     sink: &mut K,
@@ -362,7 +362,7 @@ fn put_rows_from<K: Sink>(
     put_ending(text, sink, garbled, row);
 }
 
-// A walk over the rows of a trace in a window.
+/// A walk over the rows of a trace in a window.
 fn put_walk<K: Sink>(
     text: &mut TextBuffer,
     sink: &mut K,

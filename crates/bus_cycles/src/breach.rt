@@ -1,4 +1,4 @@
-// The first breach in a picture.
+//! The first breach in a picture.
 ghost use Rattle.std.specs.Prelude.{◌≡◌, ◌<◌, ◌≤◌};
 ghost use Rattle.bus_outer.specs.Texts.{Adds};
 ghost use Rattle.bus_shapes.specs.declared.class.Class.TheVariants.{Breach};
@@ -12,7 +12,7 @@ use crate::survey::MOST_ROWS;
 use bus_outer::{Sink, TextBuffer};
 use bus_shapes::{Area, Class, Scale, put_box, put_words};
 
-// Where the word has its middle: behind the line, or before it in the right half.
+/// Where the word has its middle: behind the line, or before it in the right half.
 fn beside(left: u64) -> u64
     requires { left < 2097152 }
     ensures { result ≡ definition.beside left }
@@ -20,7 +20,7 @@ fn beside(left: u64) -> u64
     if left < 8000 { left + 270 } else { left - 250 }
 }
 
-// A part of the line.
+/// A part of the line.
 fn put_part<K: Sink>(text: &mut TextBuffer, sink: &mut K, left: u64, top: u64)
     requires left { left < 2097152 }
     requires top { top ≤ 71320 }
@@ -35,7 +35,7 @@ fn put_part<K: Sink>(text: &mut TextBuffer, sink: &mut K, left: u64, top: u64)
     put_box(text, sink, Class::Breach, area);
 }
 
-// The line across its row, above and below the boxes, and the word beside it.
+/// The line across its row, above and below the boxes, and the word beside it.
 fn put_at<K: Sink>(text: &mut TextBuffer, sink: &mut K, left: u64, row: u64)
     requires left { left < 2097152 }
     requires row { row ≤ 500 }
@@ -54,7 +54,7 @@ fn put_at<K: Sink>(text: &mut TextBuffer, sink: &mut K, left: u64, row: u64)
     );
 }
 
-// The breach at this moment, in this row where it is drawn.
+/// The breach at this moment, in this row where it is drawn.
 fn put_in_row<K: Sink>(text: &mut TextBuffer, sink: &mut K, scale: &Scale, moment: u64, row: Extent)
     requires { IsScale scale.now }
     ensures { Adds K.held K.faults sink.old sink.new text.old text.new (definition.breach_in_row scale.now moment row) }

@@ -1,4 +1,4 @@
-// What a picture shows of a trace.
+//! What a picture shows of a trace.
 ghost use Rattle.std.specs.Prelude.{◌≡◌};
 ghost use Rattle.bus_cycles.specs.Surveys as definition;
 

@@ -1,4 +1,4 @@
-// Where the rows of a picture begin.
+//! Where the rows of a picture begin.
 ghost use Rattle.std.specs.Prelude.{◌≡◌, ◌<◌, ◌≤◌, ◌+◌};
 ghost use Rattle.bus_cycles.specs.Rows as definition;
 
@@ -29,7 +29,7 @@ pub(crate) struct Extent {
     pub end: u64,
 }
 
-// The greatest terminal gap of a table.
+/// The greatest terminal gap of a table.
 fn greatest_gap(table: &Table) -> u32
     ensures { result ≡ definition.greatest_gap table.now }
 {
@@ -40,7 +40,7 @@ fn greatest_gap(table: &Table) -> u32
     most
 }
 
-// The moment at which the interval began that holds a moment.
+/// The moment at which the interval began that holds a moment.
 fn interval_of(ti: u32, t: u64) -> u64
     requires { 0 < ti }
     ensures { result ≡ definition.interval_of ti t }
@@ -63,7 +63,7 @@ impl Cycle {
         }
     }
 
-    // The moment at which a row begins of which this is the first transmission.
+    /// The moment at which a row begins of which this is the first transmission.
     fn begin_of(&self, sent: &Sent) -> u64
         requires { 0 < self.now.ti }
         ensures { result ≡ definition.begin_of self.now sent.now }

@@ -1,4 +1,4 @@
-// What stands around the rows of a picture: the axes and the marks.
+//! What stands around the rows of a picture: the axes and the marks.
 ghost use Rattle.std.specs.Prelude.{◌≡◌, ◌<◌, ◌≤◌, ◌++◌, ◌^◌};
 ghost use Rattle.bus_outer.specs.Texts.{Adds};
 ghost use Rattle.bus_shapes.specs.Scales.{IsScale};
@@ -32,7 +32,7 @@ pub(crate) fn bottom_of(survey: &Survey) -> u64
     top_of(survey.count.min(MOST_ROWS))
 }
 
-// Where the next row begins.
+/// Where the next row begins.
 fn put_next<K: Sink>(text: &mut TextBuffer, sink: &mut K, next: Option<u64>)
     ensures { Adds K.held K.faults sink.old sink.new text.old text.new (definition.next_words next) }
 {
@@ -42,7 +42,7 @@ fn put_next<K: Sink>(text: &mut TextBuffer, sink: &mut K, next: Option<u64>)
     }
 }
 
-// How many rows are drawn of how many, and where the next begins.
+/// How many rows are drawn of how many, and where the next begins.
 fn put_row_words<K: Sink>(text: &mut TextBuffer, sink: &mut K, survey: &Survey)
     ensures { Adds K.held K.faults sink.old sink.new text.old text.new (definition.row_words survey.now) }
 {
@@ -56,7 +56,7 @@ fn put_row_words<K: Sink>(text: &mut TextBuffer, sink: &mut K, survey: &Survey)
     put_next(text, sink, survey.next);
 }
 
-// The axes.
+/// The axes.
 fn put_axes<K: Sink>(text: &mut TextBuffer, sink: &mut K, survey: &Survey)
     requires { IsScale (definition.scale_of survey.now) }
     ensures { Adds K.held K.faults sink.old sink.new text.old text.new (definition.axes_text survey.now) }
@@ -92,7 +92,7 @@ pub(crate) fn put_above<K: Sink>(text: &mut TextBuffer, sink: &mut K, survey: &S
     put_words(text, sink, Class::Detail, 15500, 1010, b"length");
 }
 
-// A line over all rows, at a distance from their beginning.
+/// A line over all rows, at a distance from their beginning.
 fn mark_line(survey: &Survey, t: u64) -> Area
     requires { IsScale (definition.scale_of survey.now) }
     ensures { result ≡ definition.mark_line survey.now t }
@@ -105,7 +105,7 @@ fn mark_line(survey: &Survey, t: u64) -> Area
     }
 }
 
-// The words of a mark, this far below the rows.
+/// The words of a mark, this far below the rows.
 fn put_mark_words<K: Sink>(
     text: &mut TextBuffer,
     sink: &mut K,
@@ -125,7 +125,7 @@ fn put_mark_words<K: Sink>(
     end_words(text, sink);
 }
 
-// A mark with its words behind it, unless it lies behind all rows.
+/// A mark with its words behind it, unless it lies behind all rows.
 fn put_mark<K: Sink>(text: &mut TextBuffer, sink: &mut K, survey: &Survey, name: &[u8], t: u64)
     requires { IsScale (definition.scale_of survey.now) }
     ensures { Adds K.held K.faults sink.old sink.new text.old text.new (definition.mark_text survey.now name.now t) }
@@ -137,7 +137,7 @@ fn put_mark<K: Sink>(text: &mut TextBuffer, sink: &mut K, survey: &Survey, name:
     }
 }
 
-// The mark of the least cycle, with its words before it, a line lower.
+/// The mark of the least cycle, with its words before it, a line lower.
 fn put_least<K: Sink>(text: &mut TextBuffer, sink: &mut K, survey: &Survey, t: u64)
     requires { IsScale (definition.scale_of survey.now) }
     ensures { Adds K.held K.faults sink.old sink.new text.old text.new (definition.least_text survey.now t) }
@@ -149,7 +149,7 @@ fn put_least<K: Sink>(text: &mut TextBuffer, sink: &mut K, survey: &Survey, t: u
     }
 }
 
-// The marks of an aperiodic table.
+/// The marks of an aperiodic table.
 fn put_least_marks<K: Sink>(
     text: &mut TextBuffer,
     sink: &mut K,
@@ -164,7 +164,7 @@ fn put_least_marks<K: Sink>(
     put_least(text, sink, survey, least);
 }
 
-// The mark of the transmit interval.
+/// The mark of the transmit interval.
 fn put_interval<K: Sink>(text: &mut TextBuffer, sink: &mut K, survey: &Survey, table: &Table)
     requires { IsScale (definition.scale_of survey.now) }
     ensures { Adds K.held K.faults sink.old sink.new text.old text.new (definition.interval_mark survey.now table.now) }
@@ -172,7 +172,7 @@ fn put_interval<K: Sink>(text: &mut TextBuffer, sink: &mut K, survey: &Survey, t
     put_mark(text, sink, survey, b"TI ", u64::from(table.ti()));
 }
 
-// The marks of an accepted table.
+/// The marks of an accepted table.
 fn put_accepted<K: Sink>(
     text: &mut TextBuffer,
     sink: &mut K,
@@ -195,7 +195,7 @@ fn put_accepted<K: Sink>(
     }
 }
 
-// The marks of an aperiodic table that is refused.
+/// The marks of an aperiodic table that is refused.
 fn put_short<K: Sink>(
     text: &mut TextBuffer,
     sink: &mut K,

@@ -1,4 +1,4 @@
-// The transmissions of a trace that begin in a window.
+//! The transmissions of a trace that begin in a window.
 ghost use Rattle.std.specs.Prelude.{◌≡◌, ◌<◌, ◌^◌, length};
 ghost use Rattle.std.specs.List.{AllByRecursion};
 ghost use Rattle.std.specs.Iterator.{YieldsFirst, item_count};

@@ -1,4 +1,4 @@
-// What is told of the rows of a picture before they are drawn.
+//! What is told of the rows of a picture before they are drawn.
 ghost use Rattle.std.specs.Prelude.{◌≡◌, ◌<◌, ◌≤◌, ◌-◌, ◌^◌, ◌∷◌, IfSome, length};
 ghost use Rattle.std.specs.List.{AllByRecursion};
 ghost use Rattle.bus_cycles.specs.Sents.{IsSent, shown};
@@ -40,7 +40,7 @@ pub(crate) fn breach_in(window: &Window, answer: AuditAnswer) -> Option<u64>
 }
 
 impl Survey {
-    // What is told where no row is looked at.
+    /// What is told where no row is looked at.
     fn nothing(cycle: &Cycle) -> Survey
         ensures value { result ≡ definition.nothing cycle.now }
         ensures low { result.longest < 2 ^ 32 }
@@ -53,7 +53,7 @@ impl Survey {
         }
     }
 
-    // One row more.
+    /// One row more.
     fn with_row(self, cycle: &Cycle, breach: Option<u64>, row: Extent) -> Survey
         requires some { 0 < cycle.now.ti }
         requires few { self.count < 2 ^ 64 - 1 }
@@ -67,7 +67,7 @@ impl Survey {
         }
     }
 
-    // As long as the breach needs.
+    /// As long as the breach needs.
     fn with_breach(self, breach: Option<u64>) -> Survey
         requires low { self.longest ≤ 2 ^ 41 }
         requires moment { IfSome breach (λ moment. moment ≤ 2 ^ 40) }
@@ -84,7 +84,7 @@ impl Survey {
     }
 }
 
-// The length of the longest row that is drawn, with one row more.
+/// The length of the longest row that is drawn, with one row more.
 fn longest_with(longest: u64, row: Extent) -> u64
     ensures { result ≡ definition.longest_with longest row }
 {
@@ -95,7 +95,7 @@ fn longest_with(longest: u64, row: Extent) -> u64
     }
 }
 
-// Where the first row begins that isn't drawn, with one row more.
+/// Where the first row begins that isn't drawn, with one row more.
 fn next_with(next: Option<u64>, row: Extent) -> Option<u64>
     ensures { result ≡ definition.next_with next row }
 {
@@ -106,7 +106,7 @@ fn next_with(next: Option<u64>, row: Extent) -> Option<u64>
     }
 }
 
-// Whether a row takes the breach at this moment.
+/// Whether a row takes the breach at this moment.
 fn takes_breach(cycle: &Cycle, breach: Option<u64>, row: Extent) -> bool
     requires { 0 < cycle.now.ti }
     ensures { result ≡ definition.takes_breach cycle.now breach row }
@@ -117,7 +117,7 @@ fn takes_breach(cycle: &Cycle, breach: Option<u64>, row: Extent) -> bool
     }
 }
 
-// The last row that takes the breach, with one row more.
+/// The last row that takes the breach, with one row more.
 fn marked_with(
     cycle: &Cycle,
     breach: Option<u64>,
@@ -134,7 +134,7 @@ fn marked_with(
     }
 }
 
-// How far the breach is behind the beginning of its row, where that is drawn.
+/// How far the breach is behind the beginning of its row, where that is drawn.
 fn reach_in(moment: u64, row: Extent) -> u64
     ensures value { result ≡ definition.reach_in moment row }
     ensures low { result ≤ moment }
@@ -159,7 +159,7 @@ fn reach_of(breach: Option<u64>, marked: Option<Extent>) -> u64
     0
 }
 
-// What is told of the rows of a transmission and those behind it.
+/// What is told of the rows of a transmission and those behind it.
 fn survey_from(cycle: &Cycle, breach: Option<u64>, first: &Sent, shown: Shown) -> Survey
     requires some { 0 < cycle.now.ti }
     requires sent { IsSent first.now }
@@ -182,7 +182,7 @@ fn survey_from(cycle: &Cycle, breach: Option<u64>, first: &Sent, shown: Shown) -
     survey.with_row(cycle, breach, row)
 }
 
-// What is told of all rows of a trace in a window.
+/// What is told of all rows of a trace in a window.
 fn tell(cycle: &Cycle, breach: Option<u64>, window: &Window, trace: &Trace) -> Survey
     requires { 0 < cycle.now.ti }
     ensures value { result ≡ definition.told_of cycle.now breach (shown window.now trace.now.list) }

@@ -1,4 +1,4 @@
-// Numbers in binary digits.
+//! Numbers in binary digits.
 ghost use Rattle.std.specs.Prelude.{◌≡◌, ◌+◌, ◌%◌, map};
 ghost use Rattle.std.specs.Int.Digits.{digits_of};
 ghost use Rattle.bus_outer.specs.Texts.{Adds};
@@ -6,14 +6,14 @@ ghost use Rattle.bus_dump.specs.DumpTexts.{binary};
 
 use bus_outer::{Sink, TextBuffer};
 
-// The last binary digit of a number.
+/// The last binary digit of a number.
 fn digit(number: u64) -> u8
     ensures { result ≡ 48 + number % 2 }
 {
     b'0' + (number % 2) as u8
 }
 
-// The binary digits of a number from the highest one that is set, one by one; none of 0.
+/// The binary digits of a number from the highest one that is set, one by one; none of 0.
 fn put_each<K: Sink>(text: &mut TextBuffer, sink: &mut K, number: u64)
     ensures { Adds K.held K.faults sink.old sink.new text.old text.new (map (λ digit. 48 + digit) (digits_of 2 number)) }
 {
@@ -24,7 +24,7 @@ fn put_each<K: Sink>(text: &mut TextBuffer, sink: &mut K, number: u64)
     text.put_byte(sink, digit(number));
 }
 
-// The same, but for the first ones four at a time.
+/// The same, but for the first ones four at a time.
 fn put_digits<K: Sink>(text: &mut TextBuffer, sink: &mut K, number: u64)
     ensures { Adds K.held K.faults sink.old sink.new text.old text.new (map (λ digit. 48 + digit) (digits_of 2 number)) }
 {

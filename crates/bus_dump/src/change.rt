@@ -1,4 +1,4 @@
-// The lines of the values of signals, and of what changes.
+//! The lines of the values of signals, and of what changes.
 ghost use Rattle.std.specs.Prelude.{◌≡◌, ◌*◌, ◌<◌, ◌^◌, ◌++◌, codes};
 ghost use Rattle.std.specs.List.{flat_map, list_any};
 ghost use Rattle.bus_outer.specs.Texts.{Adds};
@@ -14,10 +14,10 @@ use crate::signal::Signal;
 use crate::value::{Value, value_of};
 use bus_outer::{Sink, TextBuffer};
 
-// How many units of 100 ns a bit time has.
+/// How many units of 100 ns a bit time has.
 const UNITS: u64 = 5;
 
-// A number, before the identifier of its signal.
+/// A number, before the identifier of its signal.
 fn put_count<K: Sink>(text: &mut TextBuffer, sink: &mut K, number: u64)
     ensures { Adds K.held K.faults sink.old sink.new text.old text.new (texts.value_text (values.Number number)) }
 {
@@ -26,7 +26,7 @@ fn put_count<K: Sink>(text: &mut TextBuffer, sink: &mut K, number: u64)
     text.put_byte(sink, b' ');
 }
 
-// A value, before the identifier of its signal.
+/// A value, before the identifier of its signal.
 fn put_value<K: Sink>(text: &mut TextBuffer, sink: &mut K, value: Value)
     ensures { Adds K.held K.faults sink.old sink.new text.old text.new (texts.value_text value) }
 {
@@ -39,7 +39,7 @@ fn put_value<K: Sink>(text: &mut TextBuffer, sink: &mut K, value: Value)
     }
 }
 
-// The line of a value of a signal.
+/// The line of a value of a signal.
 fn put_line<K: Sink>(text: &mut TextBuffer, sink: &mut K, value: Value, signal: Signal)
     ensures { Adds K.held K.faults sink.old sink.new text.old text.new (texts.value_text value ++ texts.id_text signal ++ codes "\n") }
 {
@@ -62,14 +62,14 @@ pub(crate) fn put_lines<K: Sink>(
     }
 }
 
-// Whether a signal has another value in the scene now than in the one before.
+/// Whether a signal has another value in the scene now than in the one before.
 fn is_changed(before: &Scene, now: &Scene, signal: Signal) -> bool
     ensures { result ≡ texts.changes (scene_of before.now) (scene_of now.now) signal }
 {
     !value_of(signal, before).is_same(value_of(signal, now))
 }
 
-// The line of a signal, where it changes.
+/// The line of a signal, where it changes.
 fn put_change<K: Sink>(
     text: &mut TextBuffer,
     sink: &mut K,

@@ -1,4 +1,4 @@
-// The timers of a sender that hears the bus of a trace.
+//! The timers of a sender that hears the bus of a trace.
 ghost use Rattle.std.specs.Prelude.{◌≡◌, ◌+◌, ◌^◌, ◌<◌, ◌≤◌, true};
 ghost use Rattle.bus_dump.specs.inside.Clocks as sums;
 ghost use Rattle.bus_dump.specs.inside.Clocks.{IsLow};
@@ -81,7 +81,7 @@ impl Clock {
         }
     }
 
-    // The place from which the terminal gap counts behind the start at a place, if it is one.
+    /// The place from which the terminal gap counts behind the start at a place, if it is one.
     fn gap_from(self, place: u64, starts: bool) -> u64
         requires low { IsLow self }
         requires place { place < 2 ^ 42 }
@@ -137,7 +137,7 @@ impl Clock {
     }
 }
 
-// The lesser of a place and a limit, where the place lies behind another; else the limit.
+/// The lesser of a place and a limit, where the place lies behind another; else the limit.
 fn later_or(place: u64, behind: u64, limit: u64) -> u64
     ensures { result ≡ sums.later_or behind limit place }
 {

@@ -1,4 +1,4 @@
-// The clocks of the senders of a table.
+//! The clocks of the senders of a table.
 ghost use Rattle.std.specs.Prelude.{◌≡◌, ◌≤◌, ◌<◌, ◌+◌, ◌^◌, ◌&&◌, ◌==◌, length, map, slice_get, Some};
 ghost use Rattle.std.specs.List.{AllByRecursion};
 ghost use Rattle.bus_table.specs.Tables as tables;
@@ -17,7 +17,7 @@ use arrayvec::ArrayVec;
 use bus_medium::timing;
 use bus_table::Table;
 
-// The clock of sender `k` at the settled start.
+/// The clock of sender `k` at the settled start.
 fn settled(table: &Table, k: usize) -> Clock
     requires { k < length table.now.senders }
     ensures { (sender : tables.Sender) → slice_get table.now.senders k ≡ Some sender → result ≡ definition.settled table.now sender }
@@ -31,7 +31,7 @@ fn settled(table: &Table, k: usize) -> Clock
     }
 }
 
-// The clocks of all senders at the settled start, in the order of the table.
+/// The clocks of all senders at the settled start, in the order of the table.
 fn settle_all(table: &Table) -> ArrayVec<Clock, SENDERS>
     ensures items { result.items ≡ map (definition.settled table.now) table.now.senders }
     ensures sound { AllByRecursion (λ sender. IsSound (timing_of table.now sender)) table.now.senders }
@@ -54,7 +54,7 @@ pub(crate) fn settle(dump: Dump, table: &Table) -> ArrayVec<Clock, SENDERS>
     }
 }
 
-// Whether one of these live transmissions is of a terminal and starts at bit time t.
+/// Whether one of these live transmissions is of a terminal and starts at bit time t.
 fn begins(t: u64, live: &[Live], terminal: u8) -> bool
     ensures { result ≡ definition.begins t live.now terminal }
 {

@@ -1,4 +1,4 @@
-// The comment of a dump: the words of a verdict, which hold no line feed.
+//! The comment of a dump: the words of a verdict, which hold no line feed.
 ghost use Rattle.bus_regime.specs.Lines.{verdict_words};
 ghost use Rattle.bus_regime.specs.declared.table_verdict.TableVerdict.TheVariants as verdicts;
 ghost use Rattle.bus_dump.specs.Laws.{HoldsNoFeed};

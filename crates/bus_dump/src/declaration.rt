@@ -1,4 +1,4 @@
-// Identifiers and declarations of signals.
+//! Identifiers and declarations of signals.
 ghost use Rattle.std.specs.Prelude.{◌≡◌, ◌∷◌, decimal};
 ghost use Rattle.std.specs.List.{flat_map};
 ghost use Rattle.bus_outer.specs.Texts.{Adds};
@@ -7,7 +7,7 @@ ghost use Rattle.bus_dump.specs.DumpTexts as texts;
 use crate::signal::Signal;
 use bus_outer::{Sink, TextBuffer};
 
-// A letter and the number of a terminal.
+/// A letter and the number of a terminal.
 fn put_lane_id<K: Sink>(text: &mut TextBuffer, sink: &mut K, letter: u8, terminal: u8)
     ensures { Adds K.held K.faults sink.old sink.new text.old text.new (letter ∷ decimal terminal) }
 {
@@ -35,7 +35,7 @@ pub(crate) fn put_id<K: Sink>(text: &mut TextBuffer, sink: &mut K, signal: Signa
     }
 }
 
-// The name of a signal of a lane.
+/// The name of a signal of a lane.
 fn put_lane_name<K: Sink>(text: &mut TextBuffer, sink: &mut K, terminal: u8, name: &[u8])
     ensures { Adds K.held K.faults sink.old sink.new text.old text.new (texts.lane_name terminal name.now) }
 {
@@ -64,7 +64,7 @@ pub(crate) fn put_name<K: Sink>(text: &mut TextBuffer, sink: &mut K, signal: Sig
     }
 }
 
-// How many bits a signal has, and a space.
+/// How many bits a signal has, and a space.
 fn width_of(signal: Signal) -> &'static [u8]
     ensures { result.now ≡ texts.width_text signal }
 {
@@ -90,7 +90,7 @@ pub(crate) fn bits_of(signal: Signal) -> &'static [u8]
     }
 }
 
-// The declaration of a signal.
+/// The declaration of a signal.
 fn put_declaration<K: Sink>(text: &mut TextBuffer, sink: &mut K, signal: Signal)
     ensures { Adds K.held K.faults sink.old sink.new text.old text.new (texts.declaration signal) }
 {

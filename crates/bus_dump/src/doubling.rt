@@ -1,3 +1,4 @@
+//! Which transmission of a trace is doubled: it starts before an earlier one of its terminal has ended.
 ghost use Rattle.std.specs.Prelude.{◌≡◌};
 ghost use Rattle.bus_dump.specs.Doubled as definition;
 

@@ -1,3 +1,4 @@
+//! The three dumps of a trace.
 ghost use Rattle.std.specs.Prelude.{◌≡◌};
 ghost use Rattle.bus_dump.specs.Signals as signals;
 

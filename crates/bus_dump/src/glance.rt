@@ -1,4 +1,4 @@
-// What a message has on the bus at one of its bit times, and for how long.
+//! What a message has on the bus at one of its bit times, and for how long.
 ghost use Rattle.std.specs.Prelude.{◌≡◌, ◌+◌, ◌*◌, ◌<◌, Some};
 ghost use Rattle.bus_strings.specs.Messages.{word_count, bits};
 ghost use Rattle.bus_dump.specs.OnBus.{label_value, word_at, string_bits};
@@ -9,12 +9,12 @@ use bus_strings::limits::{INNER_GAP, WORD_BITS};
 use bus_strings::{Message, Wordstring};
 use bus_words::label_word;
 
-// The bit times of a word, and of the sync at its front.
+/// The bit times of a word, and of the sync at its front.
 const WORD: u64 = WORD_BITS as u64;
 
 const SYNC: u64 = 3;
 
-// The quiet bit times between two wordstrings.
+/// The quiet bit times between two wordstrings.
 const GAP: u64 = INNER_GAP as u64;
 
 /// What a message has on the bus at a bit time, None where it is quiet, and for how many bit times from there on.
@@ -24,14 +24,14 @@ pub(crate) struct Glance {
     pub left: u64,
 }
 
-// The value of the label word of a wordstring.
+/// The value of the label word of a wordstring.
 fn label_of(string: &Wordstring) -> u16
     ensures { result ≡ label_value string.now }
 {
     label_word(string.label(), string.ext()).value
 }
 
-// The value of word k of a wordstring, from 0, which is its label word.
+/// The value of word k of a wordstring, from 0, which is its label word.
 fn word_of(string: &Wordstring, k: u64) -> u16
     requires { k < word_count string.now }
     ensures { result ≡ word_at string.now k }
@@ -42,7 +42,7 @@ fn word_of(string: &Wordstring, k: u64) -> u16
     string.words()[k as usize - 1]
 }
 
-// How long a word stays as it is, from a bit time of it on: to the end of its sync, or to its own end.
+/// How long a word stays as it is, from a bit time of it on: to the end of its sync, or to its own end.
 fn left_in_word(at: u64) -> u64
     requires { at < WORD }
     ensures { result ≡ left_of at }
@@ -50,7 +50,7 @@ fn left_in_word(at: u64) -> u64
     if at < SYNC { SYNC - at } else { WORD - at }
 }
 
-// A bit time of a wordstring.
+/// A bit time of a wordstring.
 fn in_string(string: &Wordstring, at: u64) -> Glance
     requires { at < string_bits string.now }
     ensures { result ≡ glance_in string.now at }

@@ -1,4 +1,4 @@
-// The head of a dump.
+//! The head of a dump.
 ghost use Rattle.bus_outer.specs.Texts.{Adds};
 ghost use Rattle.bus_dump.specs.DumpTexts.{head_text};
 ghost use Rattle.bus_regime.specs.Lines.{verdict_words};

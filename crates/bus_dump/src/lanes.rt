@@ -1,4 +1,4 @@
-// The lanes of a dump and their signals.
+//! The lanes of a dump and their signals.
 ghost use Rattle.std.specs.Prelude.{◌≡◌, ◌≤◌, ◌<◌, ◌+◌, ◌++◌, ◌&&◌, not, List, [], ◌∷◌, IsTrue, length, map, filter};
 ghost use Rattle.std.specs.List.{range_with_len};
 ghost use Rattle.arrayvec.specs.ArrayVec.{array_vec_len};
@@ -24,12 +24,12 @@ use bus_table::Table;
 /// The most lanes, of 128 senders and 128 other terminals.
 pub const MOST_LANES: usize = 256;
 
-// The signals of the bus, and of a lane.
+/// The signals of the bus, and of a lane.
 const BUS_SIGNALS: usize = 4;
 
 const LANE_SIGNALS: usize = 8;
 
-// Whether a terminal is a sender of the table.
+/// Whether a terminal is a sender of the table.
 fn is_sender(table: &Table, terminal: u8) -> bool
     ensures { result ≡ definition.is_sender table.now terminal }
 {
@@ -39,7 +39,7 @@ fn is_sender(table: &Table, terminal: u8) -> bool
         .any(|sender| sender.number() == terminal)
 }
 
-// Whether each terminal sends in the list.
+/// Whether each terminal sends in the list.
 fn sending_of(list: &[Transmission]) -> [bool; TERMINALS]
     ensures { AreSending list.now result }
 {
@@ -52,7 +52,7 @@ fn sending_of(list: &[Transmission]) -> [bool; TERMINALS]
     sending
 }
 
-// Whether a terminal, which sends in the list or not, does so without being a sender of the table.
+/// Whether a terminal, which sends in the list or not, does so without being a sender of the table.
 fn is_stranger(table: &Table, sends: bool, terminal: u8) -> bool
     ensures { result ≡ (not (definition.is_sender table.now terminal) && sends) }
 {
@@ -68,7 +68,7 @@ pub(crate) fn sender_count(table: &Table) -> usize
     table.senders().len()
 }
 
-// Adds the senders in turn order, of which there are at most 128.
+/// Adds the senders in turn order, of which there are at most 128.
 fn add_senders(lanes: &mut ArrayVec<Lane, MOST_LANES>, table: &Table)
     requires { lanes.old.items ≡ [] }
     ensures items { lanes.new.items ≡ map definition.sender_lane (turn_order table.now) }
@@ -83,7 +83,7 @@ fn add_senders(lanes: &mut ArrayVec<Lane, MOST_LANES>, table: &Table)
     }
 }
 
-// Adds a terminal, which sends in the list or not, where it is a stranger.
+/// Adds a terminal, which sends in the list or not, where it is a stranger.
 fn add_stranger(lanes: &mut ArrayVec<Lane, MOST_LANES>, table: &Table, sends: bool, terminal: u8)
     requires { array_vec_len lanes.old < MOST_LANES }
     ensures items { (list : List Entry) → sends ≡ definition.sends list terminal → lanes.new.items
@@ -98,7 +98,7 @@ fn add_stranger(lanes: &mut ArrayVec<Lane, MOST_LANES>, table: &Table, sends: bo
     }
 }
 
-// Adds the strangers of the list by number.
+/// Adds the strangers of the list by number.
 fn add_strangers(lanes: &mut ArrayVec<Lane, MOST_LANES>, table: &Table, list: &[Transmission])
     requires { array_vec_len lanes.old ≤ 128 }
     ensures { lanes.new.items
@@ -136,7 +136,7 @@ pub(crate) fn bus_signals(dump: Dump) -> ArrayVec<Signal, BUS_SIGNALS>
     signals
 }
 
-// Adds the signals of a lane that have more than one bit.
+/// Adds the signals of a lane that have more than one bit.
 fn add_numbers(signals: &mut ArrayVec<Signal, LANE_SIGNALS>, terminal: u8)
     requires { array_vec_len signals.old ≤ 2 }
     ensures { signals.new.items ≡ signals.old.items ++ Label terminal ∷ (Message terminal ∷ []) }
@@ -145,7 +145,7 @@ fn add_numbers(signals: &mut ArrayVec<Signal, LANE_SIGNALS>, terminal: u8)
     signals.push(Signal::Message(terminal));
 }
 
-// Adds those of its timers.
+/// Adds those of its timers.
 fn add_timers(signals: &mut ArrayVec<Signal, LANE_SIGNALS>, terminal: u8)
     requires { array_vec_len signals.old ≤ 4 }
     ensures { signals.new.items

@@ -1,4 +1,4 @@
-// The signals of a dump by lanes, so that only what may change is looked at.
+//! The signals of a dump by lanes, so that only what may change is looked at.
 ghost use Rattle.std.specs.Prelude.{◌≡◌, ◌<◌, ◌^◌, ◌||◌, true};
 ghost use Rattle.std.specs.List.{flat_map, list_any};
 ghost use Rattle.bus_outer.specs.Texts.{Adds};
@@ -33,14 +33,14 @@ pub(crate) struct Layout {
     pub lanes: ArrayVec<Lane, MOST_LANES>,
 }
 
-// Whether a transmission of a terminal is seen.
+/// Whether a transmission of a terminal is seen.
 fn is_there(seen: &[Seen], terminal: u8) -> bool
     ensures { result ≡ list_any (signals.is_of terminal) seen.now }
 {
     seen.iter().any(|one| one.terminal == terminal)
 }
 
-// Whether nothing changes in the lane of a terminal, since none of its transmissions is seen and its timers tell the same.
+/// Whether nothing changes in the lane of a terminal, since none of its transmissions is seen and its timers tell the same.
 fn is_still(before: &Scene, now: &Scene, terminal: u8) -> bool
     ensures { result ≡ true → IsStill (scene_of before.now) (scene_of now.now) terminal }
 {
@@ -51,7 +51,7 @@ fn is_still(before: &Scene, now: &Scene, terminal: u8) -> bool
         && was.is_same(is)
 }
 
-// Whether a signal of a lane changes.
+/// Whether a signal of a lane changes.
 fn lane_changes(dump: Dump, lane: Lane, before: &Scene, now: &Scene) -> bool
     ensures { result ≡ list_any (texts.changes (scene_of before.now) (scene_of now.now)) (signals.lane_signals dump lane) }
 {
@@ -61,7 +61,7 @@ fn lane_changes(dump: Dump, lane: Lane, before: &Scene, now: &Scene) -> bool
     any_changed(lane_signals(dump, lane).as_slice(), before, now)
 }
 
-// The lines of the signals of a lane that change.
+/// The lines of the signals of a lane that change.
 fn put_lane_changes<K: Sink>(
     text: &mut TextBuffer,
     sink: &mut K,
@@ -81,7 +81,7 @@ fn put_lane_changes<K: Sink>(
     put_changed(text, sink, lane_signals(dump, lane).as_slice(), before, now);
 }
 
-// Whether a signal of any of these lanes changes.
+/// Whether a signal of any of these lanes changes.
 fn any_lane_changes(dump: Dump, lanes: &[Lane], before: &Scene, now: &Scene) -> bool
     ensures { result
         ≡ list_any (λ lane. list_any (texts.changes (scene_of before.now) (scene_of now.now)) (signals.lane_signals dump lane)) lanes.now }
@@ -91,7 +91,7 @@ fn any_lane_changes(dump: Dump, lanes: &[Lane], before: &Scene, now: &Scene) -> 
         .any(|lane| lane_changes(dump, *lane, before, now))
 }
 
-// The lines of the signals of these lanes that change.
+/// The lines of the signals of these lanes that change.
 fn put_all_changes<K: Sink>(
     text: &mut TextBuffer,
     sink: &mut K,
@@ -109,7 +109,7 @@ fn put_all_changes<K: Sink>(
     }
 }
 
-// The declarations of the signals of these lanes.
+/// The declarations of the signals of these lanes.
 fn declare_lanes<K: Sink>(text: &mut TextBuffer, sink: &mut K, dump: Dump, lanes: &[Lane])
     ensures { Adds K.held K.faults sink.old sink.new text.old text.new (flat_map (layouts.lane_declarations dump) lanes.now) }
 {
@@ -118,7 +118,7 @@ fn declare_lanes<K: Sink>(text: &mut TextBuffer, sink: &mut K, dump: Dump, lanes
     }
 }
 
-// The lines of the values of these lanes.
+/// The lines of the values of these lanes.
 fn put_lane_lines<K: Sink>(
     text: &mut TextBuffer,
     sink: &mut K,
@@ -162,7 +162,7 @@ impl Layout {
         put_lane_lines(text, sink, self.dump, self.lanes.as_slice(), scene);
     }
 
-    // Whether any signal changes.
+    /// Whether any signal changes.
     fn any_changed(&self, before: &Scene, now: &Scene) -> bool
         ensures { result ≡ list_any (texts.changes (scene_of before.now) (scene_of now.now)) (layouts.layout_signals self.now) }
     {
@@ -170,7 +170,7 @@ impl Layout {
             || any_lane_changes(self.dump, self.lanes.as_slice(), before, now)
     }
 
-    // The stamp of bit time t and the lines of the signals that change there.
+    /// The stamp of bit time t and the lines of the signals that change there.
     fn put_some<K: Sink>(
         &self,
         text: &mut TextBuffer,

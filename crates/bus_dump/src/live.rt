@@ -1,4 +1,4 @@
-// The transmissions whose spans hold a bit time.
+//! The transmissions whose spans hold a bit time.
 
 /// One more than the greatest terminal number: no more transmissions are live at once, where none is doubled.
 pub(crate) const TERMINALS: usize = 129;

@@ -1,4 +1,4 @@
-// What is seen at a bit time.
+//! What is seen at a bit time.
 ghost use Rattle.std.specs.Prelude.{◌≡◌, ◌≤◌, ◌<◌, ◌^◌, length, slice_get, Some};
 ghost use Rattle.std.specs.List.{AllByRecursion, filter_map};
 ghost use Rattle.bus_strings.specs.Transmissions.{end_of};
@@ -10,14 +10,14 @@ use crate::shown::Seen;
 use arrayvec::ArrayVec;
 use bus_strings::Transmission;
 
-// What is seen of a live transmission, and up to which later bit time.
+/// What is seen of a live transmission, and up to which later bit time.
 #[derive(Clone, Copy, Debug)]
 struct Sight {
     seen: Seen,
     until: u64,
 }
 
-// A transmission of a list.
+/// A transmission of a list.
 fn entry(list: &[Transmission], at: usize) -> &Transmission
     requires { at < length list.now }
     ensures { slice_get list.now at ≡ Some result.now }
@@ -25,7 +25,7 @@ fn entry(list: &[Transmission], at: usize) -> &Transmission
     &list[at]
 }
 
-// Looks at a live transmission at bit time t.
+/// Looks at a live transmission at bit time t.
 fn see_one(x: &Transmission, one: &Live, t: u64) -> Sight
     requires begun { x.now.moment ≤ t }
     requires held { t < end_of x.now }

@@ -1,4 +1,4 @@
-// The text of a save file.
+//! The text of a save file.
 ghost use Rattle.std.specs.Prelude.{◌≡◌, ◌==◌, [], drop, if◌then◌else◌};
 ghost use Rattle.std.specs.List.{find, flat_map};
 ghost use Rattle.std.specs.Option.{option_copied, option_map_or};
@@ -16,7 +16,7 @@ use bus_outer::{Sink, TextBuffer, WriteFault};
 use bus_table::{Mode, Sender, Table};
 use bus_trace::Trace;
 
-// Which bits a signal has, where they are several, with no space before them.
+/// Which bits a signal has, where they are several, with no space before them.
 fn put_bits<K: Sink>(text: &mut TextBuffer, sink: &mut K, signal: Signal)
     ensures { Adds K.held K.faults sink.old sink.new text.old text.new (drop 1 (bits_text signal)) }
 {
@@ -25,7 +25,7 @@ fn put_bits<K: Sink>(text: &mut TextBuffer, sink: &mut K, signal: Signal)
     }
 }
 
-// A signal is shown.
+/// A signal is shown.
 fn put_shown<K: Sink>(text: &mut TextBuffer, sink: &mut K, signal: Signal)
     ensures { Adds K.held K.faults sink.old sink.new text.old text.new (texts.shown signal) }
 {
@@ -35,7 +35,7 @@ fn put_shown<K: Sink>(text: &mut TextBuffer, sink: &mut K, signal: Signal)
     text.put_byte(sink, b'\n');
 }
 
-// The signals of the bus.
+/// The signals of the bus.
 fn put_bus<K: Sink>(text: &mut TextBuffer, sink: &mut K)
     ensures { Adds K.held K.faults sink.old sink.new text.old text.new texts.bus_shown }
 {
@@ -48,14 +48,14 @@ fn put_bus<K: Sink>(text: &mut TextBuffer, sink: &mut K)
     put_shown(text, sink, Signal::Word);
 }
 
-// The labels of a lane.
+/// The labels of a lane.
 fn put_label<K: Sink>(text: &mut TextBuffer, sink: &mut K, lane: Lane)
     ensures { Adds K.held K.faults sink.old sink.new text.old text.new (texts.label_shown lane) }
 {
     put_shown(text, sink, Signal::Label(lane.terminal));
 }
 
-// The labels of each lane.
+/// The labels of each lane.
 fn put_labels<K: Sink>(text: &mut TextBuffer, sink: &mut K, lanes: &[Lane])
     ensures { Adds K.held K.faults sink.old sink.new text.old text.new (flat_map texts.label_shown lanes.now) }
 {
@@ -64,7 +64,7 @@ fn put_labels<K: Sink>(text: &mut TextBuffer, sink: &mut K, lanes: &[Lane])
     }
 }
 
-// The timers of a sender, of its own in this mode.
+/// The timers of a sender, of its own in this mode.
 fn put_timing<K: Sink>(text: &mut TextBuffer, sink: &mut K, mode: Mode, sender: &Sender)
     ensures { Adds K.held K.faults sink.old sink.new text.old text.new (texts.timing_text mode sender.now) }
 {
@@ -76,14 +76,14 @@ fn put_timing<K: Sink>(text: &mut TextBuffer, sink: &mut K, mode: Mode, sender: 
     }
 }
 
-// The sender with this number.
+/// The sender with this number.
 fn sender_of(senders: &[Sender], number: u8) -> Option<&Sender>
     ensures { option_copied result ≡ find (λ (s : AnySender). s.number == number) senders.now }
 {
     senders.iter().find(|sender| sender.number() == number)
 }
 
-// The timers of a terminal, where it is a sender of the table.
+/// The timers of a terminal, where it is a sender of the table.
 fn put_timing_of<K: Sink>(text: &mut TextBuffer, sink: &mut K, table: &Table, terminal: u8)
     ensures { Adds K.held K.faults sink.old sink.new text.old text.new
         (option_map_or (texts.timing_text table.now.mode) (find (λ (s : AnySender). s.number == terminal) table.now.senders) []) }
@@ -93,7 +93,7 @@ fn put_timing_of<K: Sink>(text: &mut TextBuffer, sink: &mut K, table: &Table, te
     }
 }
 
-// The name of a lane.
+/// The name of a lane.
 fn put_title<K: Sink>(text: &mut TextBuffer, sink: &mut K, table: &Table, terminal: u8)
     ensures { Adds K.held K.faults sink.old sink.new text.old text.new (texts.lane_title table.now terminal) }
 {
@@ -102,7 +102,7 @@ fn put_title<K: Sink>(text: &mut TextBuffer, sink: &mut K, table: &Table, termin
     put_timing_of(text, sink, table, terminal);
 }
 
-// The signals of a terminal's transmissions, but for its labels.
+/// The signals of a terminal's transmissions, but for its labels.
 fn put_messages<K: Sink>(text: &mut TextBuffer, sink: &mut K, terminal: u8)
     ensures { Adds K.held K.faults sink.old sink.new text.old text.new (texts.messages_shown terminal) }
 {
@@ -114,7 +114,7 @@ fn put_messages<K: Sink>(text: &mut TextBuffer, sink: &mut K, terminal: u8)
     put_shown(text, sink, Signal::Message(terminal));
 }
 
-// The signals of the timers of a sender.
+/// The signals of the timers of a sender.
 fn put_timers<K: Sink>(text: &mut TextBuffer, sink: &mut K, terminal: u8)
     ensures { Adds K.held K.faults sink.old sink.new text.old text.new (texts.timers_shown terminal) }
 {
@@ -126,7 +126,7 @@ fn put_timers<K: Sink>(text: &mut TextBuffer, sink: &mut K, terminal: u8)
     put_shown(text, sink, Signal::May(terminal));
 }
 
-// The signals of the timers of a lane, where it is of a sender.
+/// The signals of the timers of a lane, where it is of a sender.
 fn put_timers_of<K: Sink>(text: &mut TextBuffer, sink: &mut K, lane: Lane)
     ensures { Adds K.held K.faults sink.old sink.new text.old text.new
         (if lane.sender then texts.timers_shown lane.terminal else []) }
@@ -136,7 +136,7 @@ fn put_timers_of<K: Sink>(text: &mut TextBuffer, sink: &mut K, lane: Lane)
     }
 }
 
-// The signals of a lane.
+/// The signals of a lane.
 fn show_lane<K: Sink>(text: &mut TextBuffer, sink: &mut K, table: &Table, lane: Lane)
     ensures { Adds K.held K.faults sink.old sink.new text.old text.new (texts.lane_shown table.now lane) }
 {
@@ -147,7 +147,7 @@ fn show_lane<K: Sink>(text: &mut TextBuffer, sink: &mut K, table: &Table, lane: 
     put_timers_of(text, sink, lane);
 }
 
-// The signals of each lane.
+/// The signals of each lane.
 fn show_lanes<K: Sink>(text: &mut TextBuffer, sink: &mut K, table: &Table, lanes: &[Lane])
     ensures { Adds K.held K.faults sink.old sink.new text.old text.new (flat_map (texts.lane_shown table.now) lanes.now) }
 {

@@ -1,4 +1,4 @@
-// What is there at a bit time.
+//! What is there at a bit time.
 ghost use Rattle.std.specs.Prelude.{◌≡◌, []};
 ghost use Rattle.std.specs.List.{list_any};
 ghost use Rattle.bus_dump.specs.Signals as signals;
@@ -42,7 +42,7 @@ impl Scene {
     }
 }
 
-// Takes over what is seen.
+/// Takes over what is seen.
 fn copy_seen(to: &mut ArrayVec<Seen, TERMINALS>, from: &ArrayVec<Seen, TERMINALS>)
     ensures { to.new.items ≡ from.now.items }
 {
@@ -51,7 +51,7 @@ fn copy_seen(to: &mut ArrayVec<Seen, TERMINALS>, from: &ArrayVec<Seen, TERMINALS
     prove!(fits);
 }
 
-// Takes over what the timers tell.
+/// Takes over what the timers tell.
 fn copy_timers(to: &mut ArrayVec<Elapsed, SENDERS>, from: &ArrayVec<Elapsed, SENDERS>)
     ensures { to.new.items ≡ from.now.items }
 {

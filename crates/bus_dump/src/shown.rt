@@ -1,4 +1,4 @@
-// What is seen of a transmission at a bit time.
+//! What is seen of a transmission at a bit time.
 
 /// What a wordstring shows while it is on the bus.
 #[derive(Clone, Copy, Debug, PartialEq, Eq)]

@@ -1,3 +1,4 @@
+//! The signals of a dump.
 ghost use Rattle.std.specs.Prelude.{◌≡◌};
 ghost use Rattle.bus_dump.specs.Signals as signals;
 

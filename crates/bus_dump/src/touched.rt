@@ -1,4 +1,4 @@
-// The terminals of which something may change from one scene to the next.
+//! The terminals of which something may change from one scene to the next.
 ghost use Rattle.std.specs.Prelude.{◌≡◌, ◌<◌, ℕ, false, length, slice_index_or, ◌∷◌, []};
 ghost use Rattle.std.specs.List.{find, list_any};
 ghost use Rattle.bus_dump.specs.inside.Layouts.{LeavesStill};
@@ -12,7 +12,7 @@ use crate::shown::Seen;
 /// One more than the greatest number of a byte.
 pub(crate) const NUMBERS: usize = 256;
 
-// Touches the terminals that are seen.
+/// Touches the terminals that are seen.
 fn touch_seen(touched: &mut [bool; NUMBERS], seen: &[Seen])
     ensures { (n : ℕ) → n < NUMBERS → slice_index_or touched.new n false ≡ false
         → (slice_index_or touched.old n false ≡ false) × (list_any (signals.is_of n) seen.now ≡ false) }
@@ -22,7 +22,7 @@ fn touch_seen(touched: &mut [bool; NUMBERS], seen: &[Seen])
     }
 }
 
-// Touches the terminals of what a timer told and tells, where this differs.
+/// Touches the terminals of what a timer told and tells, where this differs.
 fn touch_timer(touched: &mut [bool; NUMBERS], was: Elapsed, is: Elapsed)
     ensures { (n : ℕ) → n < NUMBERS → slice_index_or touched.new n false ≡ false
         → (slice_index_or touched.old n false ≡ false) × (find (signals.tells_of n) (was ∷ []) ≡ find (signals.tells_of n) (is ∷ [])) }
@@ -34,7 +34,7 @@ fn touch_timer(touched: &mut [bool; NUMBERS], was: Elapsed, is: Elapsed)
     touched[is.terminal as usize] = true;
 }
 
-// Touches the terminals whose timers tell otherwise than before, of as many senders.
+/// Touches the terminals whose timers tell otherwise than before, of as many senders.
 fn touch_timers(touched: &mut [bool; NUMBERS], before: &[Elapsed], now: &[Elapsed])
     requires { length before.now ≡ length now.now }
     ensures { (n : ℕ) → n < NUMBERS → slice_index_or touched.new n false ≡ false

@@ -1,3 +1,4 @@
+//! The values of signals.
 ghost use Rattle.std.specs.Prelude.{◌≡◌, ◌&&◌};
 ghost use Rattle.std.specs.List.{list_any};
 ghost use Rattle.bus_dump.specs.Signals as signals;
@@ -9,7 +10,7 @@ use crate::scene::{Scene, has_carrier};
 use crate::shown::Seen;
 use crate::signal::Signal;
 
-// What is told of a terminal that has no timers here.
+/// What is told of a terminal that has no timers here.
 const NOTHING: Elapsed = Elapsed {
     terminal: 0,
     interval: false,
@@ -45,21 +46,21 @@ impl Value {
     }
 }
 
-// Whether a transmission has a pulse.
+/// Whether a transmission has a pulse.
 fn is_on(seen: &Seen) -> bool
     ensures { result ≡ signals.is_on seen.now }
 {
     seen.shown.is_some()
 }
 
-// Whether a transmission is of a terminal and has a pulse.
+/// Whether a transmission is of a terminal and has a pulse.
 fn is_on_lane(seen: &Seen, terminal: u8) -> bool
     ensures { result ≡ (signals.is_of terminal seen.now && signals.is_on seen.now) }
 {
     seen.terminal == terminal && is_on(seen)
 }
 
-// Whether a transmission has a pulse in the sync of a word.
+/// Whether a transmission has a pulse in the sync of a word.
 fn is_sync(seen: &Seen) -> bool
     ensures { result ≡ signals.is_sync seen.now }
 {
@@ -69,7 +70,7 @@ fn is_sync(seen: &Seen) -> bool
     }
 }
 
-// The word on the bus with one more transmission.
+/// The word on the bus with one more transmission.
 fn with_word(value: Value, seen: &Seen) -> Value
     ensures { result ≡ with_word value seen.now }
 {
@@ -80,7 +81,7 @@ fn with_word(value: Value, seen: &Seen) -> Value
     }
 }
 
-// The word on the bus.
+/// The word on the bus.
 fn word(seen: &[Seen]) -> Value
     ensures { result ≡ signals.word_value (signals.words seen.now) }
 {
@@ -91,7 +92,7 @@ fn word(seen: &[Seen]) -> Value
     value
 }
 
-// The label word that a transmission has on the bus.
+/// The label word that a transmission has on the bus.
 fn shown_label(seen: &Seen) -> Value
     ensures { result ≡ signals.shown_label seen.now }
 {
@@ -101,7 +102,7 @@ fn shown_label(seen: &Seen) -> Value
     }
 }
 
-// The label word that the terminal has on the bus.
+/// The label word that the terminal has on the bus.
 fn label(seen: &[Seen], terminal: u8) -> Value
     ensures { result ≡ signals.label terminal seen.now }
 {
@@ -113,7 +114,7 @@ fn label(seen: &[Seen], terminal: u8) -> Value
     Value::Floating
 }
 
-// The number of the transmission whose span it is.
+/// The number of the transmission whose span it is.
 fn message(seen: &[Seen], terminal: u8) -> Value
     ensures { result ≡ signals.message terminal seen.now }
 {
@@ -125,14 +126,14 @@ fn message(seen: &[Seen], terminal: u8) -> Value
     Value::Floating
 }
 
-// Whether the terminal has a pulse.
+/// Whether the terminal has a pulse.
 fn pulse(seen: &[Seen], terminal: u8) -> bool
     ensures { result ≡ list_any (λ s. signals.is_of terminal s && signals.is_on s) seen.now }
 {
     seen.iter().any(|one| is_on_lane(one, terminal))
 }
 
-// Whether a transmission of the terminal is garbled.
+/// Whether a transmission of the terminal is garbled.
 fn garbled(seen: &[Seen], terminal: u8) -> bool
     ensures { result ≡ list_any (λ s. signals.is_of terminal s && s.garbled) seen.now }
 {
@@ -140,7 +141,7 @@ fn garbled(seen: &[Seen], terminal: u8) -> bool
         .any(|one| one.terminal == terminal && one.garbled)
 }
 
-// Whether some transmission is in the sync of a word.
+/// Whether some transmission is in the sync of a word.
 fn sync(seen: &[Seen]) -> bool
     ensures { result ≡ list_any signals.is_sync seen.now }
 {

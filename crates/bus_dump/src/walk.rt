@@ -1,4 +1,4 @@
-// A walk over a list from bit time to bit time.
+//! A walk over a list from bit time to bit time.
 ghost use Rattle.std.specs.Prelude.{◌≡◌, ◌==◌, ◌+◌, ◌≤◌, ◌<◌, true, false, filter, length, slice_get, Some};
 ghost use Rattle.std.specs.Option.{option_map_or};
 ghost use Rattle.bus_strings.specs.Messages.{Entry};
@@ -24,7 +24,7 @@ pub(crate) struct Walk<'a> {
     pub live: ArrayVec<Live, TERMINALS>,
 }
 
-// Drops those that have ended at bit time t.
+/// Drops those that have ended at bit time t.
 fn drop_ended(live: &mut ArrayVec<Live, TERMINALS>, t: u64)
     ensures { live.new.items ≡ filter (ends_after t) live.old.items }
 {

@@ -1,4 +1,4 @@
-// A walk over a list, with the clocks of the senders.
+//! A walk over a list, with the clocks of the senders.
 ghost use Rattle.std.specs.Prelude.{◌≡◌, ◌≤◌, ◌<◌, ◌^◌, List, map};
 ghost use Rattle.bus_table.specs.Tables as tables;
 ghost use Rattle.bus_dump.specs.Scenes.{elapsed_at, timed};
@@ -94,7 +94,7 @@ impl<'a> Watch<'a> {
     }
 }
 
-// Looks around where a walk stands, and tells the next bit time at which something may change, or the limit.
+/// Looks around where a walk stands, and tells the next bit time at which something may change, or the limit.
 fn look_around(walk: &Walk, t: u64, limit: u64, now: &mut ArrayVec<Seen, TERMINALS>) -> u64
     requires walkable { IsWalkable walk.now.list.now }
     requires stands { Stands walk.now.list.now t walk.now }

@@ -1,4 +1,4 @@
-// The text of a dump.
+//! The text of a dump.
 ghost use Rattle.std.specs.Prelude.{◌≡◌, ◌≤◌, ◌^◌, None};
 ghost use Rattle.bus_outer.specs.Sinks.{WritesText};
 ghost use Rattle.bus_outer.specs.Texts.{Adds};
@@ -22,7 +22,7 @@ use bus_strings::Transmission;
 use bus_table::Table;
 use bus_trace::Trace;
 
-// The values at bit time 0.
+/// The values at bit time 0.
 fn put_first<K: Sink>(text: &mut TextBuffer, sink: &mut K, layout: &Layout, scene: &Scene)
     ensures { Adds K.held K.faults sink.old sink.new text.old text.new (first_values (layout_signals layout.now) (scene_of scene.now)) }
 {
@@ -31,7 +31,7 @@ fn put_first<K: Sink>(text: &mut TextBuffer, sink: &mut K, layout: &Layout, scen
     text.put(sink, b"$end\n");
 }
 
-// The values at bit time 0, and what changes behind it.
+/// The values at bit time 0, and what changes behind it.
 fn put_bit_times<K: Sink>(
     text: &mut TextBuffer,
     sink: &mut K,
@@ -60,7 +60,7 @@ fn put_bit_times<K: Sink>(
     }
 }
 
-// The stamp of the horizon, unless it is 0.
+/// The stamp of the horizon, unless it is 0.
 fn put_last<K: Sink>(text: &mut TextBuffer, sink: &mut K, horizon: u64)
     requires { horizon ≤ 2 ^ 40 }
     ensures { Adds K.held K.faults sink.old sink.new text.old text.new (last_stamp horizon) }

@@ -1,4 +1,4 @@
-// The boxes of a row.
+//! The boxes of a row.
 ghost use Rattle.std.specs.Prelude.{◌≡◌, ◌<◌, ◌≤◌, ◌^◌};
 ghost use Rattle.bus_outer.specs.Texts.{Adds};
 ghost use Rattle.bus_strings.specs.Transmissions.{IsByMoment};
@@ -15,7 +15,7 @@ use bus_outer::{Sink, TextBuffer};
 use bus_shapes::{Area, Class, Scale, Sent, Sents, begin_titled, end_titled, put_box};
 use bus_strings::Transmission;
 
-// Whether a transmission is of the row, is garbled exactly where that is, and meets the moments of the scale.
+/// Whether a transmission is of the row, is garbled exactly where that is, and meets the moments of the scale.
 fn shows(scale: &Scale, row: &Row, sent: &Sent) -> bool
     ensures { result ≡ definition.shows scale.now row.now sent.now }
 {
@@ -26,7 +26,7 @@ fn shows(scale: &Scale, row: &Row, sent: &Sent) -> bool
     is_of && sent.garbled == row.garbled && meets(scale, sent.moment, sent.end)
 }
 
-// How the boxes of a row look.
+/// How the boxes of a row look.
 fn box_class(row: &Row) -> Class
     ensures { result ≡ definition.box_class row.now }
 {
@@ -39,7 +39,7 @@ fn box_class(row: &Row) -> Class
     }
 }
 
-// What a box has of the scale: its left edge and its width, from its upper edge on.
+/// What a box has of the scale: its left edge and its width, from its upper edge on.
 fn stretch(scale: &Scale, pile: &Pile, top: u64, height: u64) -> Area
     requires scale { IsScale scale.now }
     requires pile { IsPile pile.now }
@@ -53,7 +53,7 @@ fn stretch(scale: &Scale, pile: &Pile, top: u64, height: u64) -> Area
     }
 }
 
-// What is drawn over all lanes of a box of the bus.
+/// What is drawn over all lanes of a box of the bus.
 fn put_column<K: Sink>(text: &mut TextBuffer, sink: &mut K, scale: &Scale, row: &Row, pile: &Pile)
     requires scale { IsScale scale.now }
     requires pile { IsPile pile.now }
@@ -66,7 +66,7 @@ fn put_column<K: Sink>(text: &mut TextBuffer, sink: &mut K, scale: &Scale, row: 
     }
 }
 
-// The wordstrings of entry `at` of the list.
+/// The wordstrings of entry `at` of the list.
 fn put_entry<K: Sink>(
     text: &mut TextBuffer,
     sink: &mut K,
@@ -84,7 +84,7 @@ fn put_entry<K: Sink>(
     }
 }
 
-// What is drawn in a box of a lane.
+/// What is drawn in a box of a lane.
 fn put_inner<K: Sink>(
     text: &mut TextBuffer,
     sink: &mut K,
@@ -104,7 +104,7 @@ fn put_inner<K: Sink>(
     }
 }
 
-// What a box has beside itself.
+/// What a box has beside itself.
 fn put_more<K: Sink>(
     text: &mut TextBuffer,
     sink: &mut K,
@@ -126,7 +126,7 @@ fn put_more<K: Sink>(
     }
 }
 
-// A box.
+/// A box.
 fn put_pile<K: Sink>(
     text: &mut TextBuffer,
     sink: &mut K,
@@ -149,7 +149,7 @@ fn put_pile<K: Sink>(
     put_more(text, sink, scale, row, list, pile);
 }
 
-// What is written where a transmission that is shown comes next: the box before, where it doesn't share that.
+/// What is written where a transmission that is shown comes next: the box before, where it doesn't share that.
 fn put_written<K: Sink>(
     text: &mut TextBuffer,
     sink: &mut K,
@@ -174,7 +174,7 @@ fn put_written<K: Sink>(
     }
 }
 
-// The last box, where a transmission that is shown comes next.
+/// The last box, where a transmission that is shown comes next.
 fn with_next(scale: &Scale, last: &Option<Pile>, sent: &Sent) -> Pile
     requires scale { IsScale scale.now }
     requires last { IsLast last.now }
@@ -194,7 +194,7 @@ fn with_next(scale: &Scale, last: &Option<Pile>, sent: &Sent) -> Pile
     }
 }
 
-// Takes the next transmission of the list: what is then the last box.
+/// Takes the next transmission of the list: what is then the last box.
 fn take<K: Sink>(
     text: &mut TextBuffer,
     sink: &mut K,
@@ -221,7 +221,7 @@ fn take<K: Sink>(
     Some(with_next(scale, &last, sent))
 }
 
-// The last box, where there is one.
+/// The last box, where there is one.
 fn put_last<K: Sink>(
     text: &mut TextBuffer,
     sink: &mut K,

@@ -1,4 +1,4 @@
-// What a time line counts.
+//! What a time line counts.
 ghost use Rattle.std.specs.Prelude.{◌≡◌};
 ghost use Rattle.bus_picture.specs.TimeLines as definition;
 

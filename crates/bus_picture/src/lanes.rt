@@ -1,4 +1,4 @@
-// What stands behind, beside and in the lanes.
+//! What stands behind, beside and in the lanes.
 ghost use Rattle.std.specs.Prelude.{◌≡◌, ◌<◌, ◌≤◌, ◌++◌, [], codes, decimal, length};
 ghost use Rattle.std.specs.Option.{option_copied, option_map_or};
 ghost use Rattle.bus_outer.specs.Texts.{Adds};
@@ -21,7 +21,7 @@ pub(crate) fn lane_top(k: usize) -> u64
     PLOT_TOP + ROW_HEIGHT * (k as u64 + 1)
 }
 
-// The offset of a sender, which it has in periodic mode.
+/// The offset of a sender, which it has in periodic mode.
 fn put_offset<K: Sink>(text: &mut TextBuffer, sink: &mut K, mode: Mode, at: u32)
     ensures { Adds K.held K.faults sink.old sink.new text.old text.new (definition.offset_words mode at) }
 {
@@ -38,7 +38,7 @@ fn put_periodic<K: Sink>(text: &mut TextBuffer, sink: &mut K, at: u32)
     text.put_number(sink, at);
 }
 
-// The timers of a sender, from their numbers.
+/// The timers of a sender, from their numbers.
 fn put_timers<K: Sink>(text: &mut TextBuffer, sink: &mut K, mode: Mode, tg: u32, at: u32)
     ensures { Adds K.held K.faults sink.old sink.new text.old text.new (definition.timer_words mode tg at) }
 {
@@ -47,7 +47,7 @@ fn put_timers<K: Sink>(text: &mut TextBuffer, sink: &mut K, mode: Mode, tg: u32,
     put_offset(text, sink, mode, at);
 }
 
-// The timers of a sender, in a lane with this upper edge.
+/// The timers of a sender, in a lane with this upper edge.
 fn put_sender<K: Sink>(text: &mut TextBuffer, sink: &mut K, mode: Mode, top: u64, sender: &Sender)
     requires { top < 100000 }
     ensures { Adds K.held K.faults sink.old sink.new text.old text.new (definition.sender_text mode top sender.now) }
@@ -58,7 +58,7 @@ fn put_sender<K: Sink>(text: &mut TextBuffer, sink: &mut K, mode: Mode, top: u64
     end_words(text, sink);
 }
 
-// The band behind every second lane.
+/// The band behind every second lane.
 fn put_band<K: Sink>(text: &mut TextBuffer, sink: &mut K, k: usize, top: u64)
     ensures { Adds K.held K.faults sink.old sink.new text.old text.new (definition.band_text k top) }
 {
@@ -73,7 +73,7 @@ fn put_band<K: Sink>(text: &mut TextBuffer, sink: &mut K, k: usize, top: u64)
     }
 }
 
-// The terminal of a lane.
+/// The terminal of a lane.
 fn put_terminal<K: Sink>(text: &mut TextBuffer, sink: &mut K, top: u64, terminal: u8)
     requires { top < 100000 }
     ensures { Adds K.held K.faults sink.old sink.new text.old text.new (definition.terminal_text top terminal) }
@@ -84,7 +84,7 @@ fn put_terminal<K: Sink>(text: &mut TextBuffer, sink: &mut K, top: u64, terminal
     end_words(text, sink);
 }
 
-// The sender with this number.
+/// The sender with this number.
 pub(crate) fn sender_of(table: &Table, terminal: u8) -> Option<&Sender>
     ensures { option_copied result ≡ definition.sender_of table.now terminal }
 {
@@ -94,7 +94,7 @@ pub(crate) fn sender_of(table: &Table, terminal: u8) -> Option<&Sender>
         .find(|sender| sender.number() == terminal)
 }
 
-// The timers of the sender with this number, where there is one.
+/// The timers of the sender with this number, where there is one.
 fn put_sender_of<K: Sink>(
     text: &mut TextBuffer,
     sink: &mut K,
@@ -112,7 +112,7 @@ fn put_sender_of<K: Sink>(
     }
 }
 
-// What stands behind and beside lane `k`.
+/// What stands behind and beside lane `k`.
 fn put_front<K: Sink>(text: &mut TextBuffer, sink: &mut K, table: &Table, k: usize, lane: Lane)
     requires { k ≤ 256 }
     ensures { Adds K.held K.faults sink.old sink.new text.old text.new (definition.lane_front table.now k lane) }
@@ -139,7 +139,7 @@ pub(crate) fn put_fronts<K: Sink>(
     }
 }
 
-// The mark of a breach at a moment, in the lane with this upper edge.
+/// The mark of a breach at a moment, in the lane with this upper edge.
 fn put_mark<K: Sink>(
     text: &mut TextBuffer,
     sink: &mut K,
@@ -157,14 +157,14 @@ fn put_mark<K: Sink>(
     put_mark_at(text, sink, left, top, answer);
 }
 
-// The middle of the words of a breach, so far from both edges that they have room.
+/// The middle of the words of a breach, so far from both edges that they have room.
 fn words_middle(left: u64) -> u64
     ensures { result ≡ definition.words_middle left }
 {
     left.max(2500).min(14500)
 }
 
-// A part of the mark of a breach at a place.
+/// A part of the mark of a breach at a place.
 fn put_mark_part<K: Sink>(text: &mut TextBuffer, sink: &mut K, left: u64, top: u64, height: u64)
     ensures { Adds K.held K.faults sink.old sink.new text.old text.new (definition.mark_part left top height) }
 {
@@ -177,7 +177,7 @@ fn put_mark_part<K: Sink>(text: &mut TextBuffer, sink: &mut K, left: u64, top: u
     put_box(text, sink, Class::Breach, area);
 }
 
-// The mark of a breach at a place.
+/// The mark of a breach at a place.
 fn put_mark_at<K: Sink>(
     text: &mut TextBuffer,
     sink: &mut K,
@@ -196,7 +196,7 @@ fn put_mark_at<K: Sink>(
     end_words(text, sink);
 }
 
-// The first breach, in lane `k` where that is of its terminal.
+/// The first breach, in lane `k` where that is of its terminal.
 fn put_breach<K: Sink>(
     text: &mut TextBuffer,
     sink: &mut K,

@@ -1,4 +1,4 @@
-// The legend.
+//! The legend.
 ghost use Rattle.std.specs.Prelude.{◌<◌};
 ghost use Rattle.bus_outer.specs.Texts.{Adds};
 ghost use Rattle.bus_picture.specs.Legends as definition;
@@ -6,7 +6,7 @@ ghost use Rattle.bus_picture.specs.Legends as definition;
 use bus_outer::{Sink, TextBuffer};
 use bus_shapes::{Area, Class, put_box, put_words};
 
-// A box of the legend.
+/// A box of the legend.
 fn put_sample<K: Sink>(
     text: &mut TextBuffer,
     sink: &mut K,
@@ -27,7 +27,7 @@ fn put_sample<K: Sink>(
     put_box(text, sink, class, area);
 }
 
-// What a message is.
+/// What a message is.
 fn put_message<K: Sink>(text: &mut TextBuffer, sink: &mut K, top: u64)
     requires { top < 200000 }
     ensures { Adds K.held K.faults sink.old sink.new text.old text.new (definition.legend_message top) }
@@ -45,7 +45,7 @@ fn put_message<K: Sink>(text: &mut TextBuffer, sink: &mut K, top: u64)
     );
 }
 
-// What is garbled.
+/// What is garbled.
 fn put_garbled<K: Sink>(text: &mut TextBuffer, sink: &mut K, top: u64)
     requires { top < 200000 }
     ensures { Adds K.held K.faults sink.old sink.new text.old text.new (definition.legend_garbled top) }
@@ -55,7 +55,7 @@ fn put_garbled<K: Sink>(text: &mut TextBuffer, sink: &mut K, top: u64)
     put_words(text, sink, Class::Small, 7180, top + 120, b"garbled");
 }
 
-// What goes through all lanes.
+/// What goes through all lanes.
 fn put_columns<K: Sink>(text: &mut TextBuffer, sink: &mut K, top: u64)
     requires { top < 200000 }
     ensures { Adds K.held K.faults sink.old sink.new text.old text.new (definition.legend_columns top) }
@@ -80,7 +80,7 @@ fn put_columns<K: Sink>(text: &mut TextBuffer, sink: &mut K, top: u64)
     );
 }
 
-// The timers.
+/// The timers.
 fn put_lines<K: Sink>(text: &mut TextBuffer, sink: &mut K, top: u64)
     requires { top < 200000 }
     ensures { Adds K.held K.faults sink.old sink.new text.old text.new (definition.legend_timers top) }

@@ -1,4 +1,4 @@
-// What wordstrings are called.
+//! What wordstrings are called.
 ghost use Rattle.std.specs.Prelude.{◌≡◌, ◌<◌, [], ◌∷◌};
 ghost use Rattle.bus_outer.specs.Texts.{Adds};
 ghost use Rattle.bus_text.specs.Digits.{hex_digit as digit_of, hexadecimal};
@@ -9,7 +9,7 @@ use bus_shapes::Class;
 use bus_strings::Wordstring;
 use bus_text::hex_digit;
 
-// A hexadecimal digit.
+/// A hexadecimal digit.
 fn put_digit<K: Sink>(text: &mut TextBuffer, sink: &mut K, digit: u8)
     requires { digit < 16 }
     ensures { Adds K.held K.faults sink.old sink.new text.old text.new (digit_of digit ∷ []) }
@@ -18,7 +18,7 @@ fn put_digit<K: Sink>(text: &mut TextBuffer, sink: &mut K, digit: u8)
     text.put_byte(sink, byte);
 }
 
-// A label, in three digits.
+/// A label, in three digits.
 fn put_label<K: Sink>(text: &mut TextBuffer, sink: &mut K, label: u16)
     ensures { Adds K.held K.faults sink.old sink.new text.old text.new (hexadecimal 3 label) }
 {
@@ -27,7 +27,7 @@ fn put_label<K: Sink>(text: &mut TextBuffer, sink: &mut K, label: u16)
     put_digit(text, sink, (label % 16) as u8);
 }
 
-// A label and an extension.
+/// A label and an extension.
 fn put_both<K: Sink>(text: &mut TextBuffer, sink: &mut K, label: u16, ext: u8)
     ensures { Adds K.held K.faults sink.old sink.new text.old text.new (definition.both_words label ext) }
 {

@@ -1,3 +1,4 @@
+//! What is drawn of a box of a row: of one transmission, or of several narrow neighbours.
 ghost use Rattle.std.specs.Prelude.{◌≡◌, ◌<◌, ◌≤◌, ◌^◌};
 ghost use Rattle.bus_outer.specs.Texts.{Adds};
 ghost use Rattle.bus_shapes.specs.Scales.{IsScale};
@@ -27,7 +28,7 @@ pub(crate) fn is_narrow(scale: &Scale, sent: &Sent) -> bool
     scale.extent(sent.moment, sent.end) < 60
 }
 
-// The stretch of six pixels in which a transmission begins.
+/// The stretch of six pixels in which a transmission begins.
 fn bucket(scale: &Scale, sent: &Sent) -> u64
     requires { IsScale scale.now }
     ensures { result ≡ definition.bucket scale.now sent.now }
@@ -70,7 +71,7 @@ impl Pile {
     }
 }
 
-// How many transmissions a box has, and from when to when.
+/// How many transmissions a box has, and from when to when.
 fn put_many<K: Sink>(text: &mut TextBuffer, sink: &mut K, pile: &Pile)
     ensures { Adds K.held K.faults sink.old sink.new text.old text.new (definition.many_words pile.now) }
 {

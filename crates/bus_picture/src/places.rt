@@ -1,4 +1,4 @@
-// Where wordstrings and their words are.
+//! Where wordstrings and their words are.
 ghost use Rattle.std.specs.Prelude.{◌≡◌, ◌<◌, ◌≤◌, ◌^◌};
 ghost use Rattle.bus_shapes.specs.Scales.{IsScale};
 ghost use Rattle.bus_picture.specs.Strings as definition;

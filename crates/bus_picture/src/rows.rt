@@ -1,4 +1,4 @@
-// The rows of the bus and of the lanes.
+//! The rows of the bus and of the lanes.
 ghost use Rattle.std.specs.Prelude.{◌≡◌, ◌<◌, ◌≤◌, ◌^◌, length};
 ghost use Rattle.bus_outer.specs.Texts.{Adds};
 ghost use Rattle.bus_strings.specs.Transmissions.{IsByMoment};
@@ -6,9 +6,9 @@ ghost use Rattle.bus_shapes.specs.Scales.{IsScale};
 ghost use Rattle.bus_picture.specs.Rows.{rows_text};
 ghost use Rattle.bus_picture.specs.TimeLines as definition;
 
-use crate::measures::PLOT_TOP;
 use crate::boxes::put_row;
 use crate::lanes::lane_top;
+use crate::measures::PLOT_TOP;
 use crate::row::Row;
 use bus_dump::Lane;
 use bus_outer::{Sink, TextBuffer};
@@ -17,7 +17,7 @@ use bus_strings::laws::neighbours_tell;
 use bus_strings::Transmission;
 use bus_trace::Trace;
 
-// The two rows of one place: what isn't garbled, and over it what is.
+/// The two rows of one place: what isn't garbled, and over it what is.
 fn put_rows_at<K: Sink>(
     text: &mut TextBuffer,
     sink: &mut K,
@@ -50,7 +50,7 @@ fn put_rows_at<K: Sink>(
     put_row(text, sink, scale, &hurt, list);
 }
 
-// The rows of lane `k`.
+/// The rows of lane `k`.
 fn put_lane<K: Sink>(
     text: &mut TextBuffer,
     sink: &mut K,
@@ -71,7 +71,7 @@ fn put_lane<K: Sink>(
     put_rows_at(text, sink, scale, list, Some(lane.terminal), top, bottom);
 }
 
-// The rows of each lane. It goes over the list twice for each.
+/// The rows of each lane. It goes over the list twice for each.
 fn put_lanes<K: Sink>(
     text: &mut TextBuffer,
     sink: &mut K,

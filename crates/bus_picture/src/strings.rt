@@ -1,4 +1,4 @@
-// The wordstrings of a message.
+//! The wordstrings of a message.
 ghost use Rattle.std.specs.Prelude.{◌≡◌, ◌<◌, ◌≤◌, ◌^◌, ◌+◌, [], Some, codes, decimal, slice_get, length};
 ghost use Rattle.std.specs.Option.{option_map_or};
 ghost use Rattle.bus_outer.specs.Texts.{Adds};
@@ -14,14 +14,14 @@ use bus_outer::{Sink, TextBuffer};
 use bus_shapes::{Area, Class, Scale, begin_titled, begin_words, end_titled, end_words, put_counted};
 use bus_strings::{Transmission, Wordstring, pulse, pulse_count};
 
-// How many data words a wordstring has.
+/// How many data words a wordstring has.
 fn data_count(string: &Wordstring) -> usize
     ensures { result ≡ length string.now.words }
 {
     string.words().len()
 }
 
-// The number of the data words of a wordstring.
+/// The number of the data words of a wordstring.
 fn put_count<K: Sink>(text: &mut TextBuffer, sink: &mut K, string: &Wordstring)
     ensures { Adds K.held K.faults sink.old sink.new text.old text.new (decimal (length string.now.words)) }
 {
@@ -29,7 +29,7 @@ fn put_count<K: Sink>(text: &mut TextBuffer, sink: &mut K, string: &Wordstring)
     text.put_number(sink, count);
 }
 
-// Its name, and how many data words it has.
+/// Its name, and how many data words it has.
 fn put_long<K: Sink>(text: &mut TextBuffer, sink: &mut K, string: &Wordstring)
     ensures { Adds K.held K.faults sink.old sink.new text.old text.new (definition.long_words string.now) }
 {
@@ -38,7 +38,7 @@ fn put_long<K: Sink>(text: &mut TextBuffer, sink: &mut K, string: &Wordstring)
     put_count(text, sink, string);
 }
 
-// How many data words it has, in words.
+/// How many data words it has, in words.
 fn put_data_words<K: Sink>(text: &mut TextBuffer, sink: &mut K, string: &Wordstring)
     ensures { Adds K.held K.faults sink.old sink.new text.old text.new (counted (length string.now.words) (codes "data word")) }
 {
@@ -46,7 +46,7 @@ fn put_data_words<K: Sink>(text: &mut TextBuffer, sink: &mut K, string: &Wordstr
     put_counted(text, sink, count as u64, b"data word");
 }
 
-// Its name, its moments, and how many data words it has.
+/// Its name, its moments, and how many data words it has.
 fn put_string_words<K: Sink>(
     text: &mut TextBuffer,
     sink: &mut K,
@@ -65,7 +65,7 @@ fn put_string_words<K: Sink>(
     put_data_words(text, sink, string);
 }
 
-// How a wordstring looks.
+/// How a wordstring looks.
 fn string_class(garbled: bool) -> Class
     ensures { result ≡ definition.string_class garbled }
 {
@@ -76,7 +76,7 @@ fn string_class(garbled: bool) -> Class
     }
 }
 
-// The words in the box of a wordstring, where it has room for them.
+/// The words in the box of a wordstring, where it has room for them.
 fn put_words_in<K: Sink>(
     text: &mut TextBuffer,
     sink: &mut K,
@@ -107,7 +107,7 @@ fn put_words_in<K: Sink>(
     end_words(text, sink);
 }
 
-// What stands in the box of a wordstring.
+/// What stands in the box of a wordstring.
 fn put_inside<K: Sink>(
     text: &mut TextBuffer,
     sink: &mut K,
@@ -134,7 +134,7 @@ fn put_inside<K: Sink>(
     }
 }
 
-// A wordstring from one moment to another.
+/// A wordstring from one moment to another.
 fn put_drawn<K: Sink>(
     text: &mut TextBuffer,
     sink: &mut K,
@@ -158,7 +158,7 @@ fn put_drawn<K: Sink>(
     put_inside(text, sink, scale, top, garbled, from, area, string);
 }
 
-// The same, where it meets the moments of the scale.
+/// The same, where it meets the moments of the scale.
 fn put_string<K: Sink>(
     text: &mut TextBuffer,
     sink: &mut K,
@@ -180,7 +180,7 @@ fn put_string<K: Sink>(
     }
 }
 
-// The moments of pulse `k` of a transmission.
+/// The moments of pulse `k` of a transmission.
 fn pulse_moments(x: &Transmission, k: u32) -> (u64, u64)
     requires { k < length x.now.message }
     ensures from { result.0 ≡ x.now.moment + pulse_start x.now.message k }
@@ -193,7 +193,7 @@ fn pulse_moments(x: &Transmission, k: u32) -> (u64, u64)
     (from, from + u64::from(length))
 }
 
-// Wordstring `k` of a transmission.
+/// Wordstring `k` of a transmission.
 fn string_of(x: &Transmission, k: u32) -> &Wordstring
     requires { k < length x.now.message }
     ensures { slice_get x.now.message k ≡ Some result.now }
@@ -201,7 +201,7 @@ fn string_of(x: &Transmission, k: u32) -> &Wordstring
     &x.message.strings()[k as usize]
 }
 
-// What is drawn of wordstring `k` of a transmission.
+/// What is drawn of wordstring `k` of a transmission.
 fn put_pulse<K: Sink>(
     text: &mut TextBuffer,
     sink: &mut K,

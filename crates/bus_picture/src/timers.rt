@@ -1,4 +1,4 @@
-// The timers of a table, each at its first place.
+//! The timers of a table, each at its first place.
 ghost use Rattle.std.specs.Prelude.{◌≡◌, ◌<◌, ◌≤◌, ◌^◌, true, IfSome, codes, length};
 ghost use Rattle.bus_outer.specs.Texts.{Adds};
 ghost use Rattle.bus_strings.specs.Transmissions.{IsByMoment};
@@ -6,8 +6,8 @@ ghost use Rattle.bus_shapes.specs.Scales.{IsScale};
 ghost use Rattle.bus_picture.specs.Timers as definition;
 ghost use Rattle.bus_picture.specs.TimeLines as whole;
 
-use crate::measures::PLOT_TOP;
 use crate::lanes::{lane_top, sender_of};
+use crate::measures::PLOT_TOP;
 use bus_dump::Lane;
 use bus_outer::{Sink, TextBuffer};
 use bus_shapes::{Area, Class, Scale, Sent, Sents, begin_words, end_words, put_box};
@@ -16,7 +16,7 @@ use bus_strings::Transmission;
 use bus_table::Table;
 use bus_trace::Trace;
 
-// Whether timers are drawn.
+/// Whether timers are drawn.
 fn is_near(scale: &Scale, ti: u32) -> bool
     requires { IsScale scale.now }
     ensures { result ≡ definition.is_near scale.now ti }
@@ -24,7 +24,7 @@ fn is_near(scale: &Scale, ti: u32) -> bool
     2000 * (scale.to - scale.from) <= u64::from(ti) * scale.width
 }
 
-// A thin line from one moment to another.
+/// A thin line from one moment to another.
 fn line_area(scale: &Scale, top: u64, from: u64, to: u64) -> Area
     requires scale { IsScale scale.now }
     requires order { from ≤ to }
@@ -40,7 +40,7 @@ fn line_area(scale: &Scale, top: u64, from: u64, to: u64) -> Area
     }
 }
 
-// A gap: a line, and its name and its bit times above the middle.
+/// A gap: a line, and its name and its bit times above the middle.
 fn put_gap_at<K: Sink>(
     text: &mut TextBuffer,
     sink: &mut K,
@@ -66,7 +66,7 @@ fn put_gap_at<K: Sink>(
     end_words(text, sink);
 }
 
-// The same, of so many bit times from a moment on.
+/// The same, of so many bit times from a moment on.
 fn put_gap<K: Sink>(
     text: &mut TextBuffer,
     sink: &mut K,
@@ -86,7 +86,7 @@ fn put_gap<K: Sink>(
     put_gap_at(text, sink, area, top + 54, name, size);
 }
 
-// Whether a transmission comes a synchronization gap or more behind all before it, and the scale has that gap.
+/// Whether a transmission comes a synchronization gap or more behind all before it, and the scale has that gap.
 fn is_behind_gap(scale: &Scale, sg: u32, sent: &Sent) -> bool
     requires { IsScale scale.now }
     ensures value { result ≡ definition.is_behind_gap scale.now sg sent.now }
@@ -99,7 +99,7 @@ fn is_behind_gap(scale: &Scale, sg: u32, sent: &Sent) -> bool
         && sent.before + u64::from(sg) <= sent.moment
 }
 
-// The first transmission that does.
+/// The first transmission that does.
 fn first_behind(scale: &Scale, sg: u32, list: &[Transmission]) -> Option<Sent>
     requires scale { IsScale scale.now }
     requires by_moment { IsByMoment list.now }
@@ -114,7 +114,7 @@ fn first_behind(scale: &Scale, sg: u32, list: &[Transmission]) -> Option<Sent>
     None
 }
 
-// The gap before it.
+/// The gap before it.
 fn put_bus_timer<K: Sink>(
     text: &mut TextBuffer,
     sink: &mut K,
@@ -134,7 +134,7 @@ fn put_bus_timer<K: Sink>(
     }
 }
 
-// Whether a transmission is of a terminal, and begins in the scale.
+/// Whether a transmission is of a terminal, and begins in the scale.
 fn begins(scale: &Scale, terminal: u8, sent: &Sent) -> bool
     ensures value { result ≡ definition.begins scale.now terminal sent.now }
     ensures low { (result ≡ true) → sent.now.moment ≤ scale.now.to }
@@ -142,7 +142,7 @@ fn begins(scale: &Scale, terminal: u8, sent: &Sent) -> bool
     sent.terminal == terminal && scale.from <= sent.moment && sent.moment < scale.to
 }
 
-// The first transmission that does.
+/// The first transmission that does.
 fn first_of(scale: &Scale, terminal: u8, list: &[Transmission]) -> Option<Sent>
     requires { IsByMoment list.now }
     ensures value { result ≡ definition.first_of scale.now terminal list.now }
@@ -156,7 +156,7 @@ fn first_of(scale: &Scale, terminal: u8, list: &[Transmission]) -> Option<Sent>
     None
 }
 
-// The terminal gap before a moment, where the scale has it.
+/// The terminal gap before a moment, where the scale has it.
 fn put_terminal_gap<K: Sink>(
     text: &mut TextBuffer,
     sink: &mut K,
@@ -175,7 +175,7 @@ fn put_terminal_gap<K: Sink>(
     }
 }
 
-// The transmit interval from a moment on.
+/// The transmit interval from a moment on.
 fn put_interval<K: Sink>(
     text: &mut TextBuffer,
     sink: &mut K,
@@ -193,7 +193,7 @@ fn put_interval<K: Sink>(
     put_box(text, sink, Class::Interval, area);
 }
 
-// Its end, where the scale has it.
+/// Its end, where the scale has it.
 fn put_interval_end<K: Sink>(text: &mut TextBuffer, sink: &mut K, scale: &Scale, top: u64, to: u64)
     requires scale { IsScale scale.now }
     requires top { top < 100000 }
@@ -210,7 +210,7 @@ fn put_interval_end<K: Sink>(text: &mut TextBuffer, sink: &mut K, scale: &Scale,
     }
 }
 
-// Its words, in the first lane alone.
+/// Its words, in the first lane alone.
 fn put_interval_words<K: Sink>(
     text: &mut TextBuffer,
     sink: &mut K,
@@ -235,7 +235,7 @@ fn put_interval_words<K: Sink>(
     }
 }
 
-// The timers of a sender in lane `k`, at a moment at which it begins to send.
+/// The timers of a sender in lane `k`, at a moment at which it begins to send.
 fn put_timers_at<K: Sink>(
     text: &mut TextBuffer,
     sink: &mut K,
@@ -258,7 +258,7 @@ fn put_timers_at<K: Sink>(
     put_interval_words(text, sink, scale, k, top, moment, ti);
 }
 
-// The same, at its first transmission that begins in the scale.
+/// The same, at its first transmission that begins in the scale.
 fn put_sender_timers<K: Sink>(
     text: &mut TextBuffer,
     sink: &mut K,
@@ -281,7 +281,7 @@ fn put_sender_timers<K: Sink>(
     }
 }
 
-// The timers of lane `k`, where its terminal is a sender.
+/// The timers of lane `k`, where its terminal is a sender.
 fn put_lane_timers<K: Sink>(
     text: &mut TextBuffer,
     sink: &mut K,
@@ -305,7 +305,7 @@ fn put_lane_timers<K: Sink>(
     }
 }
 
-// The timers of each lane.
+/// The timers of each lane.
 fn put_each<K: Sink>(
     text: &mut TextBuffer,
     sink: &mut K,
@@ -325,7 +325,7 @@ fn put_each<K: Sink>(
     }
 }
 
-// The timers of the bus and of the lanes.
+/// The timers of the bus and of the lanes.
 fn put_all<K: Sink>(
     text: &mut TextBuffer,
     sink: &mut K,

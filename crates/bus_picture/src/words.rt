@@ -1,4 +1,4 @@
-// The words of a wordstring, each in its place.
+//! The words of a wordstring, each in its place.
 ghost use Rattle.std.specs.Prelude.{◌≡◌, ◌<◌, ◌≤◌, ◌+◌, ◌^◌, length};
 ghost use Rattle.bus_outer.specs.Texts.{Adds};
 ghost use Rattle.bus_text.specs.Digits.{hexadecimal};
@@ -20,7 +20,7 @@ pub(crate) fn has_room(scale: &Scale) -> bool
     340 * (scale.to - scale.from) <= 20 * scale.width
 }
 
-// How a label word looks.
+/// How a label word looks.
 fn label_class(garbled: bool) -> Class
     ensures { result ≡ definition.label_class garbled }
 {
@@ -31,7 +31,7 @@ fn label_class(garbled: bool) -> Class
     }
 }
 
-// The label and the extension, in the middle of an area that has room for them.
+/// The label and the extension, in the middle of an area that has room for them.
 fn put_label_digits<K: Sink>(
     text: &mut TextBuffer,
     sink: &mut K,
@@ -59,7 +59,7 @@ fn put_label_digits<K: Sink>(
     end_words(text, sink);
 }
 
-// The digits of a data word, in the middle of an area that has room for them.
+/// The digits of a data word, in the middle of an area that has room for them.
 fn put_data_digits<K: Sink>(
     text: &mut TextBuffer,
     sink: &mut K,
@@ -87,7 +87,7 @@ fn put_data_digits<K: Sink>(
     );
 }
 
-// A label word.
+/// A label word.
 fn put_label_word<K: Sink>(
     text: &mut TextBuffer,
     sink: &mut K,
@@ -104,7 +104,7 @@ fn put_label_word<K: Sink>(
     put_label_digits(text, sink, garbled, area, string);
 }
 
-// A data word.
+/// A data word.
 fn put_data_word<K: Sink>(text: &mut TextBuffer, sink: &mut K, garbled: bool, area: Area, word: u16)
     requires left { area.left < 2 ^ 22 }
     requires width { area.width < 2 ^ 22 }
@@ -121,7 +121,7 @@ fn put_data_word<K: Sink>(text: &mut TextBuffer, sink: &mut K, garbled: bool, ar
     put_data_digits(text, sink, garbled, area, word);
 }
 
-// The label word that begins at a moment, where it meets the moments of the scale.
+/// The label word that begins at a moment, where it meets the moments of the scale.
 fn put_label_at<K: Sink>(
     text: &mut TextBuffer,
     sink: &mut K,
@@ -142,7 +142,7 @@ fn put_label_at<K: Sink>(
     }
 }
 
-// The same of a data word.
+/// The same of a data word.
 fn put_data_at<K: Sink>(
     text: &mut TextBuffer,
     sink: &mut K,
@@ -163,7 +163,7 @@ fn put_data_at<K: Sink>(
     }
 }
 
-// Data words, one behind the other, of which the first begins at a moment.
+/// Data words, one behind the other, of which the first begins at a moment.
 fn put_data<K: Sink>(
     text: &mut TextBuffer,
     sink: &mut K,

@@ -1,4 +1,4 @@
-// The text of a time line.
+//! The text of a time line.
 ghost use Rattle.std.specs.Prelude.{◌≡◌, ◌<◌, ◌≤◌, length};
 ghost use Rattle.bus_outer.specs.Sinks.{WritesText};
 ghost use Rattle.bus_outer.specs.Texts.{Adds};
@@ -6,10 +6,10 @@ ghost use Rattle.bus_regime.specs.Lines.{verdict_words};
 ghost use Rattle.bus_shapes.specs.Scales.{IsScale};
 ghost use Rattle.bus_picture.specs.TimeLines as definition;
 
-use crate::measures::{NAMES_RIGHT, PLOT_LEFT, PLOT_TOP, PLOT_WIDTH};
 use crate::counting::counts;
 use crate::lanes::{lane_top, put_breaches, put_fronts};
 use crate::legend::put_legend;
+use crate::measures::{NAMES_RIGHT, PLOT_LEFT, PLOT_TOP, PLOT_WIDTH};
 use crate::rows::put_rows;
 use crate::timers::put_timers;
 use bus_audit::AuditAnswer;
@@ -20,7 +20,7 @@ use bus_shapes::{Area, Axis, Class, Scale, Unit, Window, begin_titled, end_title
 use bus_table::Table;
 use bus_trace::Trace;
 
-// The scale of a window.
+/// The scale of a window.
 fn scale_of(window: &Window) -> Scale
     ensures value { result ≡ definition.scale_of window.now }
     ensures scale { IsScale result }
@@ -33,7 +33,7 @@ fn scale_of(window: &Window) -> Scale
     }
 }
 
-// What lies behind the horizon.
+/// What lies behind the horizon.
 fn put_unobserved<K: Sink>(
     text: &mut TextBuffer,
     sink: &mut K,
@@ -60,7 +60,7 @@ fn put_unobserved<K: Sink>(
     }
 }
 
-// The axes.
+/// The axes.
 fn put_axes<K: Sink>(text: &mut TextBuffer, sink: &mut K, scale: &Scale, bottom: u64)
     requires scale { IsScale scale.now }
     requires least { 960 ≤ bottom }
@@ -85,7 +85,7 @@ fn put_axes<K: Sink>(text: &mut TextBuffer, sink: &mut K, scale: &Scale, bottom:
     put_axis(text, sink, scale, &lower);
 }
 
-// The plot, above a lower edge.
+/// The plot, above a lower edge.
 fn put_plot<K: Sink>(
     text: &mut TextBuffer,
     sink: &mut K,
@@ -102,7 +102,14 @@ fn put_plot<K: Sink>(
     ensures { Adds K.held K.faults sink.old sink.new text.old text.new
         (definition.plot_text scale.now bottom lanes.now answer.now table.now trace.now) }
 {
-    put_words(text, sink, Class::Counts, NAMES_RIGHT, PLOT_TOP + 200, b"bus");
+    put_words(
+        text,
+        sink,
+        Class::Counts,
+        NAMES_RIGHT,
+        PLOT_TOP + 200,
+        b"bus",
+    );
     put_fronts(text, sink, table, lanes);
     put_axes(text, sink, scale, bottom);
     let horizon = trace.horizon();
@@ -112,7 +119,7 @@ fn put_plot<K: Sink>(
     put_breaches(text, sink, scale, answer, lanes);
 }
 
-// A picture with these lanes.
+/// A picture with these lanes.
 fn put_picture<K: Sink>(
     text: &mut TextBuffer,
     sink: &mut K,

@@ -1,3 +1,4 @@
+//! Axes: marks at round numbers of microseconds or of bit times.
 ghost use Rattle.std.specs.Prelude.{◌≡◌, ◌<◌, ◌≤◌, ◌+◌, ◌*◌, ◌^◌, ◌/◌, ◌-◌};
 ghost use Rattle.std.specs.List.{find};
 ghost use Rattle.bus_outer.specs.Texts.{Adds};
@@ -34,7 +35,7 @@ pub struct Axis {
     pub height: u64,
 }
 
-// The round numbers.
+/// The round numbers.
 const ROUNDS: [u64; 39] = [
     1,
     2,
@@ -77,7 +78,7 @@ const ROUNDS: [u64; 39] = [
     5_000_000_000_000,
 ];
 
-// The units from mark to mark, where no round number is enough.
+/// The units from mark to mark, where no round number is enough.
 const MOST_UNITS: u64 = 10_000_000_000_000;
 
 impl Unit {
@@ -94,7 +95,7 @@ impl Unit {
     }
 }
 
-// Whether marks so many units apart are 100 pixels apart.
+/// Whether marks so many units apart are 100 pixels apart.
 fn is_wide(scale: &Scale, unit: Unit, number: u64) -> bool
     requires { IsScale scale.now }
     ensures { result ≡ definition.is_wide scale.now unit number }
@@ -103,7 +104,7 @@ fn is_wide(scale: &Scale, unit: Unit, number: u64) -> bool
     u128::from(1000 * (scale.to - scale.from)) <= wide
 }
 
-// The least round number of units that is so wide.
+/// The least round number of units that is so wide.
 fn wide_units(scale: &Scale, unit: Unit) -> Option<u64>
     requires { IsScale scale.now }
     ensures { result ≡ find (definition.is_wide scale.now unit) definition.rounds }
@@ -114,7 +115,7 @@ fn wide_units(scale: &Scale, unit: Unit) -> Option<u64>
         .find(|number| is_wide(scale, unit, *number))
 }
 
-// The bit times from mark to mark.
+/// The bit times from mark to mark.
 fn step(scale: &Scale, unit: Unit) -> u64
     requires { IsScale scale.now }
     ensures value { result ≡ definition.step scale.now unit }
@@ -125,7 +126,7 @@ fn step(scale: &Scale, unit: Unit) -> u64
     units * unit.bits()
 }
 
-// A mark at a place: its line, and its number.
+/// A mark at a place: its line, and its number.
 fn put_mark_at<K: Sink>(text: &mut TextBuffer, sink: &mut K, axis: &Axis, left: u64, number: u64)
     ensures { Adds K.held K.faults sink.old sink.new text.old text.new (definition.mark_at axis.now left number) }
 {
@@ -141,7 +142,7 @@ fn put_mark_at<K: Sink>(text: &mut TextBuffer, sink: &mut K, axis: &Axis, left: 
     end_words(text, sink);
 }
 
-// The mark of a moment.
+/// The mark of a moment.
 fn put_mark<K: Sink>(text: &mut TextBuffer, sink: &mut K, scale: &Scale, axis: &Axis, t: u64)
     requires { IsScale scale.now }
     ensures { Adds K.held K.faults sink.old sink.new text.old text.new (definition.mark_text scale.now axis.now t) }
@@ -151,7 +152,7 @@ fn put_mark<K: Sink>(text: &mut TextBuffer, sink: &mut K, scale: &Scale, axis: &
     put_mark_at(text, sink, axis, left, t / bits);
 }
 
-// The marks of an axis, a step apart.
+/// The marks of an axis, a step apart.
 fn put_marks<K: Sink>(text: &mut TextBuffer, sink: &mut K, scale: &Scale, axis: &Axis, step: u64)
     requires scale { IsScale scale.now }
     requires some { 0 < step }
@@ -165,7 +166,7 @@ fn put_marks<K: Sink>(text: &mut TextBuffer, sink: &mut K, scale: &Scale, axis: 
     }
 }
 
-// What a unit is called.
+/// What a unit is called.
 fn put_unit<K: Sink>(text: &mut TextBuffer, sink: &mut K, unit: Unit)
     ensures { Adds K.held K.faults sink.old sink.new text.old text.new (definition.unit_name unit) }
 {
@@ -175,7 +176,7 @@ fn put_unit<K: Sink>(text: &mut TextBuffer, sink: &mut K, unit: Unit)
     }
 }
 
-// The name of an axis.
+/// The name of an axis.
 fn put_name<K: Sink>(text: &mut TextBuffer, sink: &mut K, axis: &Axis)
     ensures { Adds K.held K.faults sink.old sink.new text.old text.new (definition.name_text axis.now) }
 {

@@ -1,3 +1,4 @@
+//! The classes of boxes and words, and the style of each.
 ghost use Rattle.std.specs.Prelude.{◌≡◌};
 ghost use Rattle.std.specs.List.{flat_map};
 ghost use Rattle.bus_outer.specs.Texts.{Adds};
@@ -71,7 +72,7 @@ pub enum Class {
     BreachWords,
 }
 
-// All classes.
+/// All classes.
 const CLASSES: [Class; 30] = [
     Class::Background,
     Class::Band,
@@ -144,7 +145,7 @@ impl Class {
         }
     }
 
-    // How it looks.
+    /// How it looks.
     fn look(self) -> &'static [u8]
         ensures { result.now ≡ definition.look self }
     {
@@ -192,14 +193,14 @@ pub(crate) fn put_name<K: Sink>(text: &mut TextBuffer, sink: &mut K, class: Clas
     text.put(sink, class.name());
 }
 
-// How a class looks.
+/// How a class looks.
 fn put_look<K: Sink>(text: &mut TextBuffer, sink: &mut K, class: Class)
     ensures { Adds K.held K.faults sink.old sink.new text.old text.new (definition.look class) }
 {
     text.put(sink, class.look());
 }
 
-// The rule of a class in the style of a picture.
+/// The rule of a class in the style of a picture.
 fn put_rule<K: Sink>(text: &mut TextBuffer, sink: &mut K, class: Class)
     ensures { Adds K.held K.faults sink.old sink.new text.old text.new (definition.rule_text class) }
 {
@@ -210,7 +211,7 @@ fn put_rule<K: Sink>(text: &mut TextBuffer, sink: &mut K, class: Class)
     text.put(sink, b"}\n");
 }
 
-// The rules of classes.
+/// The rules of classes.
 fn put_each<K: Sink>(text: &mut TextBuffer, sink: &mut K, classes: &[Class])
     ensures { Adds K.held K.faults sink.old sink.new text.old text.new (flat_map definition.rule_text classes.now) }
 {

@@ -1,4 +1,4 @@
-// What stands around each picture.
+//! What stands around each picture.
 ghost use Rattle.std.specs.Prelude.{◌≡◌, length};
 ghost use Rattle.bus_outer.specs.Texts.{Adds};
 ghost use Rattle.bus_regime.specs.Lines.{mode_name, verdict_words};
@@ -16,7 +16,7 @@ use bus_outer::{Sink, TextBuffer};
 use bus_regime::{TableVerdict, put_verdict};
 use bus_table::{Mode, Table};
 
-// The style of all classes, and the hatching of what is garbled.
+/// The style of all classes, and the hatching of what is garbled.
 fn put_style<K: Sink>(text: &mut TextBuffer, sink: &mut K)
     ensures { Adds K.held K.faults sink.old sink.new text.old text.new definition.style_text }
 {
@@ -49,7 +49,7 @@ fn put_hatch<K: Sink>(text: &mut TextBuffer, sink: &mut K)
     );
 }
 
-// The size of a picture of this height.
+/// The size of a picture of this height.
 fn put_size<K: Sink>(text: &mut TextBuffer, sink: &mut K, height: u64)
     ensures { Adds K.held K.faults sink.old sink.new text.old text.new (definition.size_text height) }
 {
@@ -63,7 +63,7 @@ fn put_size<K: Sink>(text: &mut TextBuffer, sink: &mut K, height: u64)
     text.put(sink, b"\">\n");
 }
 
-// The title.
+/// The title.
 fn put_title<K: Sink>(
     text: &mut TextBuffer,
     sink: &mut K,
@@ -80,7 +80,7 @@ fn put_title<K: Sink>(
     text.put(sink, b"</title>\n");
 }
 
-// The word of a mode.
+/// The word of a mode.
 fn put_mode<K: Sink>(text: &mut TextBuffer, sink: &mut K, mode: Mode)
     ensures { Adds K.held K.faults sink.old sink.new text.old text.new (mode_name mode) }
 {
@@ -90,7 +90,7 @@ fn put_mode<K: Sink>(text: &mut TextBuffer, sink: &mut K, mode: Mode)
     }
 }
 
-// The ending of a name of something of which there are so many.
+/// The ending of a name of something of which there are so many.
 fn put_ending<K: Sink>(text: &mut TextBuffer, sink: &mut K, count: u64)
     ensures { Adds K.held K.faults sink.old sink.new text.old text.new (ending count) }
 {
@@ -109,14 +109,14 @@ pub fn put_counted<K: Sink>(text: &mut TextBuffer, sink: &mut K, count: u64, nam
     put_ending(text, sink, count);
 }
 
-// How many senders the table has.
+/// How many senders the table has.
 fn sender_count(table: &Table) -> u64
     ensures { result ≡ length table.now.senders }
 {
     table.senders().len() as u64
 }
 
-// A mode, the transmit interval, the synchronization gap, and how many senders there are.
+/// A mode, the transmit interval, the synchronization gap, and how many senders there are.
 fn put_summary<K: Sink>(
     text: &mut TextBuffer,
     sink: &mut K,
@@ -136,7 +136,7 @@ fn put_summary<K: Sink>(
     put_counted(text, sink, senders, b"sender");
 }
 
-// The words of a table.
+/// The words of a table.
 fn put_table<K: Sink>(text: &mut TextBuffer, sink: &mut K, table: &Table)
     ensures { Adds K.held K.faults sink.old sink.new text.old text.new (table_words table.now) }
 {
@@ -145,7 +145,7 @@ fn put_table<K: Sink>(text: &mut TextBuffer, sink: &mut K, table: &Table)
     put_summary(text, sink, table.mode(), ti, sg, senders);
 }
 
-// The counts.
+/// The counts.
 fn put_counts<K: Sink>(text: &mut TextBuffer, sink: &mut K, counts: &Counts)
     ensures { Adds K.held K.faults sink.old sink.new text.old text.new (definition.counts_words counts.now) }
 {
@@ -162,7 +162,7 @@ fn put_counts<K: Sink>(text: &mut TextBuffer, sink: &mut K, counts: &Counts)
     text.put(sink, b" garbled");
 }
 
-// The words of the verdict and of the audit.
+/// The words of the verdict and of the audit.
 fn put_heads<K: Sink>(
     text: &mut TextBuffer,
     sink: &mut K,
@@ -180,7 +180,7 @@ fn put_heads<K: Sink>(
     end_words(text, sink);
 }
 
-// The words of the table, and the counts.
+/// The words of the table, and the counts.
 fn put_facts<K: Sink>(text: &mut TextBuffer, sink: &mut K, table: &Table, counts: &Counts)
     ensures { Adds K.held K.faults sink.old sink.new text.old text.new (definition.facts_text table.now counts.now) }
 {

@@ -1,3 +1,4 @@
+//! Where moments are drawn.
 ghost use Rattle.std.specs.Prelude.{◌≡◌, ◌≤◌, ◌+◌};
 ghost use Rattle.bus_shapes.specs.Scales as definition;
 ghost use Rattle.bus_shapes.specs.Scales.{IsScale};

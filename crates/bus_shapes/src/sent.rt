@@ -1,3 +1,4 @@
+//! A transmission, as a picture tells of it, and its words.
 ghost use Rattle.std.specs.Prelude.{◌≤◌, ◌++◌, codes, decimal};
 ghost use Rattle.bus_outer.specs.Texts.{Adds};
 ghost use Rattle.bus_shapes.specs.Sayings as definition;

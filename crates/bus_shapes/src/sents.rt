@@ -1,3 +1,4 @@
+//! What pictures tell of each transmission of a list, in one walk over it.
 ghost use Rattle.std.specs.Prelude.{◌≡◌};
 ghost use Rattle.std.specs.Iterator.{YieldsFirst, item_count};
 ghost use Rattle.bus_strings.specs.Transmissions.{IsByMoment};
@@ -7,7 +8,7 @@ use crate::sent::Sent;
 use bus_strings::{Marks, Transmission};
 use std::marker::Model;
 
-// One number for each terminal, and none for 0.
+/// One number for each terminal, and none for 0.
 const TERMINALS: usize = 129;
 
 /// What pictures tell of each transmission of a list, in order. It goes over the list once.

@@ -1,4 +1,4 @@
-// The texts of boxes and words.
+//! The texts of boxes and words.
 ghost use Rattle.bus_outer.specs.Texts.{Adds};
 ghost use Rattle.bus_shapes.specs.Shapes as definition;
 
@@ -6,7 +6,7 @@ use crate::area::Area;
 use crate::class::{Class, put_name};
 use bus_outer::{Sink, TextBuffer};
 
-// A box up to its end.
+/// A box up to its end.
 fn put_front<K: Sink>(text: &mut TextBuffer, sink: &mut K, class: Class, area: Area)
     ensures { Adds K.held K.faults sink.old sink.new text.old text.new (definition.box_front class area) }
 {
