@@ -1,11 +1,8 @@
 -- What holds of all that is told of a list.
-use Rattle.std.specs.Prelude.{◌≡◌, ℕ, ◌+◌, ◌≤◌, List, [], ◌∷◌, length, slice_get, Some}
-use Rattle.std.specs.List.{AllByRecursion}
-use Rattle.std.proofs.Common.{arith, ap, suc, refl, sym, ◌∙◌, inl, inr}
-use Rattle.bus_strings.specs.Members.{In}
+use Rattle.std.specs.Prelude.{◌≡◌, ◌≤◌, List, slice_get, Some}
 use Rattle.bus_strings.specs.Messages.{Entry}
 use Rattle.bus_shapes.specs.Sayings.{Sent}
-use Rattle.bus_shapes.specs.Sending.{sent_of, sents, sents_from}
+use Rattle.bus_shapes.specs.Sending.{sent_of}
 
 -- Each transmission ends no earlier than it begins.
 abbrev pub IsInOrder : Sent → Type 0
