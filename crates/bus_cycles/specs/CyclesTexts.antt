@@ -63,7 +63,9 @@ axes_text survey = axis_text (scale_of survey) upper_axis ++ axis_text (scale_of
 
 -- What stands above the rows.
 abbrev pub above_text : Survey → List ℕ
-above_text survey = words_text Small left_margin rows_line (row_words survey) ++ axes_text survey ++ words_text Detail right_margin lower_words (codes "length")
+above_text survey =
+    words_text Small left_margin rows_line (row_words survey) ++ axes_text survey
+    ++ words_text Detail right_margin lower_words (codes "length")
 
 -- ---- marks
 -- A line over all rows, at a distance from their beginning.
@@ -86,7 +88,8 @@ mark_text survey name t =
 abbrev pub least_text : Survey → ℕ → List ℕ
 least_text survey t =
     if nat_le t survey.longest
-    then box_text Mark (mark_line survey t) ++ mark_words survey Detail (place (scale_of survey) t - before_mark) least_words_below (codes "least ") t
+    then box_text Mark (mark_line survey t)
+    ++ mark_words survey Detail (place (scale_of survey) t - before_mark) least_words_below (codes "least ") t
     else []
 
 -- The mark of the transmit interval.

@@ -190,8 +190,8 @@ breach_text scale (Breach moment terminal kind) k lane =
 -- The plot, above a lower edge.
 abbrev pub plot_text : Scale → ℕ → List Lane → AuditAnswer → Table → Recording → List ℕ
 plot_text scale bottom lanes answer table trace =
-    words_text classes.Counts names_right (plot_top + bus_line) (codes "bus") ++ each_lane (lane_front table) 0 lanes ++ axes_text scale bottom
-    ++ unobserved_text scale bottom trace.horizon
+    words_text classes.Counts names_right (plot_top + bus_line) (codes "bus") ++ each_lane (lane_front table) 0 lanes
+    ++ axes_text scale bottom ++ unobserved_text scale bottom trace.horizon
     ++ rows_text scale trace.list (rows_of bottom lanes) ++ timers_text scale lanes table trace.list
     ++ each_lane (breach_text scale answer) 0 lanes
 
@@ -199,7 +199,8 @@ plot_text scale bottom lanes answer table trace =
 abbrev pub picture_text : Scale → List Lane → List ℕ → AuditAnswer → Table → Recording → List ℕ
 picture_text scale lanes verdict answer table trace =
     frame_text (lane_top (length lanes) + foot_height) verdict (answer_words answer) table (counts_of scale trace)
-    ++ plot_text scale (lane_top (length lanes)) lanes answer table trace ++ legend_text (lane_top (length lanes) + legend_below) ++ tail_text
+    ++ plot_text scale (lane_top (length lanes)) lanes answer table trace
+    ++ legend_text (lane_top (length lanes) + legend_below) ++ tail_text
 
 -- The time line of a trace in a window, with the words of the verdict on the table and the answer of the audit.
 unfoldable pub time_line_text : Window → List ℕ → AuditAnswer → Table → Recording → List ℕ
