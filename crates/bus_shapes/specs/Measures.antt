@@ -1,5 +1,5 @@
 -- The measures of pictures, in units of a tenth of a pixel.
-use Rattle.std.specs.Prelude.{ℕ}
+use Rattle.std.specs.Prelude.{ℕ, ◌^◌}
 
 -- A pixel has ten units.
 abbrev pub pixel : ℕ
