@@ -16,20 +16,22 @@ use Rattle.bus_table.proofs.TurnLaws.{from_sort, numbers_differ}
 use Rattle.bus_table.specs.Valid.{is_valid}
 use Rattle.bus_table.proofs.ValidLaws.{valid_facts}
 use Rattle.bus_medium.specs.Lawful.{HaveOwnNumbers, IsLawful}
-use Rattle.bus_medium.specs.LawfulLaws.{LawfulToHorizon}
 use Rattle.bus_medium.specs.Timings.{quiet_of, stations_of}
 use Rattle.bus_medium.proofs.StationLaws.{timings_are_sound, stations_have_own_numbers}
-use Rattle.bus_medium.specs.Chains.{ChainSettled, ChainStep, ChainStarts}
+use Rattle.bus_medium.specs.Delays.{at_once}
+use Rattle.bus_medium.specs.Wakes.{settled}
+use Rattle.bus_medium.proofs.Hearing.{heard_none, no_delay_is_the_bus}
 use Rattle.bus_schedule.specs.Closed.{turns, turns_end, origin, gap_schedule}
 use Rattle.bus_schedule.specs.Even.{messages_of}
 use Rattle.bus_schedule.specs.Laws.{LiveRoundsAreLawful, LiveRoundsEnd}
 use Rattle.bus_schedule.specs.Live.{live, live_rounds, shortest_cycle, AreLong}
 use Rattle.bus_schedule.specs.Runs.{IsClear}
 use Rattle.bus_schedule.proofs.EndLemmas.{ends_at}
-use Rattle.bus_schedule.proofs.Growing.{Dealt, Setting, has_left, sofar_lawful}
+use Rattle.bus_schedule.proofs.Growing.{Dealt, Setting, has_left}
+use Rattle.bus_schedule.proofs.CableGrowing.{grown_lawful}
 use Rattle.bus_schedule.proofs.HandLemmas.{stations, stations_are, own_fit}
 use Rattle.bus_schedule.proofs.Spacing.{cycle, cycle_sum, cycle_sort}
-use Rattle.bus_schedule.proofs.Turning.{has_more, from_live, rounds_on}
+use Rattle.bus_schedule.proofs.Turning.{has_more, from_live, none_later, rounds_on}
 
 pub stations_of_dealt : (table : Table) (hands : List Hand) → IsTrue (is_valid table) → IsTrue (are_hands table.senders hands)
     → stations_of table hands ≡ stations table (messages_of hands)
@@ -108,16 +110,20 @@ pub record IsLawfulRounds (table : Table) (messages : ℕ → List Message) (lis
   pub lawful : IsLawful (quiet_of table) (stations table messages) (greatest_end list) list
   pub clear : IsClear list
 
-pub live_lawful : ChainSettled → ChainStep → ChainStarts → LawfulToHorizon → (table : Table) (messages : ℕ → List Message)
-    → Dealt table messages → table.mode ≡ Aperiodic → AreLong table messages → (n : ℕ)
+pub live_lawful : (table : Table) (messages : ℕ → List Message) → Dealt table messages → table.mode ≡ Aperiodic → AreLong table messages → (n : ℕ)
     → IsLawfulRounds table messages (live_rounds table messages n)
-live_lawful settled step starting whole table messages dealt mode long n =
-    let t = rounds_on settled step starting table messages dealt mode long n in
-    record { lawful = sofar_lawful whole table messages (live_rounds table messages n) t.e t.due t.gap t.count t.sofar; clear = t.sofar.clear }
+live_lawful table messages dealt mode long n =
+    let t = rounds_on table messages dealt mode long n in
+    let list : List Entry = live_rounds table messages n in
+    record {
+      lawful = (no_delay_is_the_bus (quiet_of table) at_once settled (stations table messages) (greatest_end list) list none_later (λ s i. refl)).0
+          (grown_lawful (Unit {0}) at_once none_later.own table messages dealt list t.e t.end t.due t.gap t.count t.sofar);
+      clear = subst IsClear (heard_none at_once 0 list none_later) (t.sofar.clear tt 0);
+    }
 
-pub live_rounds_are_lawful : ChainSettled → ChainStep → ChainStarts → LawfulToHorizon → LiveRoundsAreLawful
-live_rounds_are_lawful settled step starting whole table hands n valid mode dealt long =
-    let so = live_lawful settled step starting whole table (messages_of hands) (dealt_of table hands valid dealt) mode long n in
+pub live_rounds_are_lawful : LiveRoundsAreLawful
+live_rounds_are_lawful table hands n valid mode dealt long =
+    let so = live_lawful table (messages_of hands) (dealt_of table hands valid dealt) mode long n in
     record {
       lawful = subst (λ ss. IsLawful (quiet_of table) ss (greatest_end (live_rounds table (messages_of hands) n)) (live_rounds table (messages_of hands) n))
           (sym (stations_of_dealt table hands valid dealt)) so.lawful;

@@ -23,10 +23,9 @@ use Rattle.bus_medium.specs.Lawful.{HaveOwnNumbers, IsLawful}
 use Rattle.bus_medium.specs.Wakes.{settled as awake}
 use Rattle.bus_medium.proofs.CableLists.{cable_once}
 use Rattle.bus_medium.proofs.Hearing.{heard_none, no_delay_is_the_bus}
-use Rattle.bus_medium.specs.LawfulLaws.{OneLawfulList, LawfulToHorizon}
+use Rattle.bus_medium.specs.LawfulLaws.{OneLawfulList}
 use Rattle.bus_medium.specs.Timings.{quiet_of, stations_of}
 use Rattle.bus_medium.proofs.StationLaws.{stations_have_own_numbers}
-use Rattle.bus_medium.specs.Chains.{ChainSettled, ChainStep, ChainStarts}
 use Rattle.bus_regime.specs.declared.table_verdict.TableVerdict.TheVariants.{Accept}
 use Rattle.bus_regime.specs.Verdicts.{least_cycle, most_cycle, verdict_of}
 use Rattle.bus_regime.proofs.VerdictLaws.{accepted_cycle, aperiodic_numbers, periodic_numbers}
@@ -231,8 +230,8 @@ even_rounds_are_closed table hands valid mode even =
     even_rounds table (messages_of hands) (rounds hands) (setting_of table hands valid even) (rounds hands) (omega arith)
     ∙ sym (closed_by_gaps table hands mode)
 
-pub accepted_is_closed : ChainSettled → ChainStep → ChainStarts → OneLawfulList → LawfulToHorizon → AcceptedIsClosed
-accepted_is_closed settled step starting once whole table hands valid accepted even =
+pub accepted_is_closed : OneLawfulList → AcceptedIsClosed
+accepted_is_closed once table hands valid accepted even =
     let setting : Setting table (messages_of hands) (rounds hands) = setting_of table hands valid even in
     let run : IsLawfulRounds table (messages_of hands) (closed table hands) = run_in setting table.mode refl in
     let lawful : IsLawful (quiet_of table) (stations_of table hands) (closed_end table hands) (closed table hands) =
@@ -252,7 +251,7 @@ accepted_is_closed settled step starting once whole table hands valid accepted e
     run_in setting Aperiodic is =
         let long : AreLong table (messages_of hands) = even_are_long table (messages_of hands) (rounds hands) setting (accepted_cycle table is accepted) in
         subst (IsLawfulRounds table (messages_of hands)) (even_rounds table (messages_of hands) (rounds hands) setting (rounds hands) (omega arith))
-        (live_lawful settled step starting whole table (messages_of hands) setting.dealt is long (rounds hands))
+        (live_lawful table (messages_of hands) setting.dealt is long (rounds hands))
     run_in setting Periodic is =
         let h = is_heard table hands 0 at_once setting is accepted no_delays (accepted_bears_none table valid is accepted) in
         record {

@@ -1,10 +1,10 @@
 -- The turns of an aperiodic table, in rounds of the senders that have a message left: each sender is due when its turn comes, and none before.
 -- The live senders only grow fewer, so that the cycle of a round's shortest messages bounds from below how far its starts are from those of
 -- the round before.
-use Rattle.std.proofs.Common.{◌≡◌, ◌≢◌, ℕ, zero, suc, ◌+◌, ◌<◌, ◌≤◌, Bool, true, false, cond, List, [], ◌∷◌, ◌++◌, length, get_or, inl, inr, arith, sym, refl, ap, ◌∙◌, subst}
+use Rattle.std.proofs.Common.{◌≡◌, ◌≢◌, ℕ, zero, suc, ◌+◌, ◌<◌, ◌≤◌, Bool, true, false, cond, max, List, [], ◌∷◌, ◌++◌, length, get_or, inl, inr, arith, sym, refl, ap, ◌∙◌, subst}
 use Rattle.std.specs.Prelude.{◌==◌, if◌then◌else◌, nat_lt}
 use Rattle.std.specs.List.{filter}
-use Rattle.std.proofs.lemmas.Bool.{eq-eqb, ne_eqb, le-leb, lt-leb, lt-ltb, ltb-true, cases_lt}
+use Rattle.std.proofs.lemmas.Bool.{eq-eqb, ne_eqb, lt-ltb, ltb-true, cases_lt}
 use Rattle.std.proofs.lemmas.List.{append-nil, append_assoc}
 use Rattle.bus_strings.specs.Members.{In}
 use Rattle.bus_strings.specs.Messages.{Message, Entry, bits}
@@ -16,30 +16,23 @@ use Rattle.bus_table.specs.Lengths.{shortest}
 use Rattle.bus_table.specs.Turns.{Rises, turn_key, turn_order}
 use Rattle.bus_table.proofs.TurnLaws.{of_each, from_sort, in_sort, order_rises, numbers_differ}
 use Rattle.bus_medium.specs.Timings.{quiet_of, due_for}
-use Rattle.bus_medium.specs.Chains.{put, gap_put, ChainSettled, ChainStep, ChainStarts}
+use Rattle.bus_medium.specs.Chains.{HaveEnded}
+use Rattle.bus_medium.specs.Delays.{AreDelays, at_once, heard, heard_end}
+use Rattle.bus_medium.specs.Wakes.{settled}
+use Rattle.bus_medium.proofs.CableClocks.{gap_elapsed, gap_waiting}
+use Rattle.bus_medium.proofs.CableSteps.{put_here, put_other, goes_D, goes_G, goes_C, goes_here, goes_other}
+use Rattle.bus_medium.proofs.Hearing.{heard_ended}
 use Rattle.bus_schedule.specs.Closed.{sends, turns, turns_end, origin}
 use Rattle.bus_schedule.specs.Live.{live, live_rounds, AreLong}
 use Rattle.bus_strings.proofs.MemberLaws.{in_append_cases, in_append_left, in_append_right, in_push_cases, in_filter, from_filter, filter_filter}
 use Rattle.bus_schedule.proofs.Orders.{rises_before, rises_after, rises_filter, same_sender}
-use Rattle.bus_schedule.proofs.HandLemmas.{quiet_is}
+use Rattle.bus_schedule.proofs.HandLemmas.{station, quiet_is}
 use Rattle.bus_schedule.proofs.Spacing.{cycle, cycle_sum, cycle_filter}
-use Rattle.bus_schedule.proofs.Growing.{Dealt, Sofar, Takes, message_left, sofar_step, sofar_settled}
+use Rattle.bus_schedule.proofs.CableGrowing.{Grown, Takes, grown_step, grown_settled}
+use Rattle.bus_schedule.proofs.Growing.{Dealt, message_left}
 
--- the numbers of a terminal that started, and of the others
-pub put_here : (f : ℕ → ℕ) (n v i : ℕ) → i ≡ n → put f n v i ≡ v
-put_here f n v i e = rw (eq-eqb i n e) refl
-
-pub put_other : (f : ℕ → ℕ) (n v i : ℕ) → i ≢ n → put f n v i ≡ f i
-put_other f n v i e = rw (ne_eqb i n e) refl
-
-pub gap_put_here : (gap : ℕ → ℕ) (n p b sg i : ℕ) → i ≡ n → gap_put gap n p b sg i ≡ p + b + sg
-gap_put_here gap n p b sg i e = rw (eq-eqb i n e) refl
-
-pub gap_put_elapsed : (gap : ℕ → ℕ) (n p b sg i : ℕ) → i ≢ n → gap i ≤ p → gap_put gap n p b sg i ≡ p + b
-gap_put_elapsed gap n p b sg i e low = rw (ne_eqb i n e, le-leb (gap i) p low) refl
-
-pub gap_put_waiting : (gap : ℕ → ℕ) (n p b sg i : ℕ) → i ≢ n → p < gap i → gap_put gap n p b sg i ≡ p + b + sg
-gap_put_waiting gap n p b sg i e high = rw (ne_eqb i n e, lt-leb (gap i) p high) refl
+max_first : (a b : ℕ) → b ≤ a → a ≡ max a b
+max_first a b h = grind arith
 
 -- the turns before the terminal with this number, where messages have so many bit times, and its terminal gap
 abbrev pub ahead : (Sender → ℕ) → List Sender → ℕ → ℕ
@@ -77,10 +70,12 @@ has_more hands round sender = nat_lt round (length (hands sender.number))
 -- in a round some senders are done, and the rest count their terminal gaps from moment `from`; all others are silent
 pub record Turn (table : Table) (hands : ℕ → List Message) (done rest : List Sender) (round from : ℕ) (list : List Entry) : Type 0 where
   pub e : ℕ
+  pub end : ℕ → ℕ
   pub due : ℕ → ℕ
   pub gap : ℕ → ℕ
   pub count : ℕ → ℕ
-  pub sofar : Sofar table hands list e due gap count
+  pub sofar : Grown (Unit {0}) table hands at_once list e end due gap count
+  pub ended : (a : Sender) → In a table.senders → end a.number ≤ e
   pub split : live table hands round ≡ done ++ rest
   pub low : e ≤ from
   pub waiting_gap : (a : Sender) → In a rest → gap a.number ≡ table.sg + from
@@ -123,10 +118,12 @@ module _ (table : Table) (hands : ℕ → List Message) where
       → Turn table hands [] (live table hands (suc round)) (suc round) (from + table.sg) list
   round_on round from list t = record {
     e = t.e;
+    end = t.end;
     due = t.due;
     gap = t.gap;
     count = t.count;
     sofar = t.sofar;
+    ended = t.ended;
     split = refl;
     low = let k : t.e ≤ from = t.low in omega arith;
     waiting_gap = λ a i. t.done_gap a (live_before round a i) ∙ omega arith;
@@ -144,7 +141,11 @@ module _ (table : Table) (hands : ℕ → List Message) where
     ];
   }
 
-module _ (settled : ChainSettled) (step : ChainStep) (starting : ChainStarts) (table : Table) (hands : ℕ → List Message)
+-- nobody hears later than it is sent
+pub none_later : AreDelays 0 at_once
+none_later = record { own = λ x. refl; within = λ x number. omega arith }
+
+module _ (table : Table) (hands : ℕ → List Message)
     (dealt : Dealt table hands) (mode : table.mode ≡ Aperiodic) (long : AreLong table hands) where
   rises : (round : ℕ) → Rises (λ a. a.tg) (live table hands round)
   rises round =
@@ -172,7 +173,9 @@ module _ (settled : ChainSettled) (step : ChainStep) (starting : ChainStarts) (t
       let low : t.e ≤ from = t.low in
       let gap_a : t.gap a.number ≡ table.sg + from = t.waiting_gap a (inl refl) in
       let due_a : t.due a.number ≤ table.sg + from + a.tg = let h : t.due a.number ≤ table.sg + from + ahead shortest (a ∷ rest) a.number = t.waiting_due a (inl refl) in omega (arith, ahead_here shortest a rest a.number refl) in
-      let takes : Takes table hands t.due t.gap t.count a round (from + a.tg) = record {
+      let x : Entry = sends hands round a (from + a.tg) in
+      let takes : Takes table hands at_once t.end t.due t.gap t.count a round (from + a.tg) = record {
+        ready = λ b i. let h : t.end b.number ≤ t.e = t.ended b i in omega arith;
         interval = omega arith;
         terminal = omega arith;
         first = inr (omega arith);
@@ -180,10 +183,10 @@ module _ (settled : ChainSettled) (step : ChainStep) (starting : ChainStarts) (t
           | inr none ↦ inr (inr (t.silent b i none))
           | inl left ↦
               elim (in_append_cases done (a ∷ rest) b (subst (λ o. In b o) order (in_live table hands round b i left))) [
-                | inl spoken ↦ let g : t.gap b.number ≡ table.sg + from + table.sg = t.done_gap b spoken in inr (inl (omega arith))
+                | inl spoken ↦ let g : t.gap b.number ≡ table.sg + from + table.sg = t.done_gap b spoken in inl (omega arith)
                 | inr waits ↦ elim waits [
                   | inl here ↦ absurd (apart (ap (λ (c : Sender). c.number) here))
-                  | inr later ↦ let g : t.gap b.number ≡ table.sg + from = t.waiting_gap b (inr later) in let k : a.tg < b.tg = after b later in inr (inl (omega arith))
+                  | inr later ↦ let g : t.gap b.number ≡ table.sg + from = t.waiting_gap b (inr later) in let k : a.tg < b.tg = after b later in inl (omega arith)
                 ]
               ]
         ];
@@ -191,15 +194,19 @@ module _ (settled : ChainSettled) (step : ChainStep) (starting : ChainStarts) (t
       } in
       record {
         e = end_of (sends hands round a (from + a.tg));
-        due = put t.due a.number (quiet_of table + (from + a.tg) + table.ti);
-        gap = gap_put t.gap a.number (quiet_of table + (from + a.tg)) (bits (get_or (hands a.number) round [])) table.sg;
-        count = put t.count a.number (t.count a.number + 1);
-        sofar = sofar_step settled step starting table hands dealt list t.e t.due t.gap t.count a round (from + a.tg) more t.sofar there (omega arith) takes;
+        end = heard_end at_once (sends hands round a (from + a.tg));
+        due = goes_D (quiet_of table) t.due (station table hands a) (sends hands round a (from + a.tg));
+        gap = goes_G (quiet_of table) table.sg at_once settled t.gap a.number (sends hands round a (from + a.tg));
+        count = goes_C t.count a.number;
+        sofar = grown_step (Unit {0}) at_once none_later.own table hands dealt list t.e t.end t.due t.gap t.count a round (from + a.tg) more t.sofar there (omega arith)
+            (λ none k. all_heard list t.e from a.tg k t.sofar.ended low) takes;
+        ended = λ b i. omega arith;
         split = order ∙ sym (append_assoc done (a ∷ []) rest);
         low = omega arith;
         waiting_gap = λ c i.
             let g : t.gap c.number ≡ table.sg + from = t.waiting_gap c (inr i) in
-            gap_put_elapsed t.gap a.number (quiet_of table + (from + a.tg)) (bits (get_or (hands a.number) round [])) table.sg c.number (apart_after c i) (omega arith) ∙ omega arith;
+            goes_other (quiet_of table) table.sg at_once settled t.gap a.number (sends hands round a (from + a.tg)) c.number (apart_after c i)
+            ∙ gap_elapsed (quiet_of table) table.sg 0 (t.gap c.number) (from + a.tg + 0) (end_of (sends hands round a (from + a.tg)) + 0) (omega arith) ∙ omega arith;
         waiting_due = λ c i.
             let g : t.due c.number ≤ table.sg + from + ahead shortest (a ∷ rest) c.number = t.waiting_due c (inr i) in
             omega (arith, put_other t.due a.number (quiet_of table + (from + a.tg) + table.ti) c.number (apart_after c i), ahead_there shortest a rest c.number (apart_after c i));
@@ -207,8 +214,10 @@ module _ (settled : ChainSettled) (step : ChainStep) (starting : ChainStarts) (t
         done_gap = λ c i. elim (in_push_cases done a c i) [
           | inl old ↦
               let g : t.gap c.number ≡ table.sg + from + table.sg = t.done_gap c old in
-              gap_put_waiting t.gap a.number (quiet_of table + (from + a.tg)) (bits (get_or (hands a.number) round [])) table.sg c.number (apart_before c old) (omega arith) ∙ omega arith
-          | inr here ↦ gap_put_here t.gap a.number (quiet_of table + (from + a.tg)) (bits (get_or (hands a.number) round [])) table.sg c.number (ap (λ (z : Sender). z.number) here) ∙ omega arith
+              goes_other (quiet_of table) table.sg at_once settled t.gap a.number (sends hands round a (from + a.tg)) c.number (apart_before c old)
+              ∙ gap_waiting (quiet_of table) table.sg 0 (t.gap c.number) (from + a.tg + 0) (end_of (sends hands round a (from + a.tg)) + 0) (omega arith)
+              ∙ sym (max_first (quiet_of table + (end_of (sends hands round a (from + a.tg)) + 0) + table.sg) (table.sg + 0) (omega arith)) ∙ omega arith
+          | inr here ↦ goes_here (quiet_of table) table.sg at_once settled t.gap a.number (sends hands round a (from + a.tg)) c.number (ap (λ (z : Sender). z.number) here) ∙ omega arith
         ];
         done_due = λ c i next. elim (in_push_cases done a c i) [
           | inl old ↦
@@ -235,6 +244,9 @@ module _ (settled : ChainSettled) (step : ChainStep) (starting : ChainStarts) (t
             omega (arith, put_other t.count a.number (t.count a.number + 1) c.number apart, t.silent c i few);
       }
     where
+      all_heard : (list : List Entry) (e from tg k : ℕ) → HaveEnded list e → e ≤ from → HaveEnded (heard at_once k list) (from + tg)
+      all_heard list e from tg k ended low y i = let h : end_of y ≤ e + 0 = heard_ended at_once k 0 e list (λ x. omega arith) ended y i in omega arith
+
       some_in : (c : Sender) (senders : List Sender) → In c senders → 0 < length senders
       some_in c [] i = absurd i
       some_in c (b ∷ senders) i = omega arith
@@ -250,10 +262,12 @@ module _ (settled : ChainSettled) (step : ChainStep) (starting : ChainStarts) (t
   at_start : Turn table hands [] (live table hands 0) 0 0 []
   at_start = record {
     e = 0;
+    end = λ _. 0;
     due = λ _. table.sg;
-    gap = λ _. table.sg;
+    gap = λ k. table.sg + settled k;
     count = λ _. 0;
-    sofar = sofar_settled settled step starting table hands dealt (λ _. table.sg) (λ a i. let q : quiet_of table ≡ table.sg = quiet_is table mode in let d : due_for table.mode a ≡ 0 = ap (λ m. due_for m a) mode in omega arith);
+    ended = λ a i. omega arith;
+    sofar = grown_settled (Unit {0}) at_once none_later.own table hands dealt (λ _. table.sg) (λ a i. let q : quiet_of table ≡ table.sg = quiet_is table mode in let d : due_for table.mode a ≡ 0 = ap (λ m. due_for m a) mode in omega arith);
     split = refl;
     low = omega arith;
     waiting_gap = λ a i. omega arith;

@@ -4,7 +4,7 @@ ghost use Rattle.bus_schedule.specs.Laws.{EvenRoundsAreClosed, LiveRoundsAreLawf
 ghost use Rattle.bus_schedule.specs.Laws.{BorneGapsAreClosed, AcceptedGapsBearNone, ShortCyclesStartEarly};
 ghost use Rattle.bus_schedule.specs.Laws.{TheSettledAreAccepted, TheRefusedFail, WitnessesAreEven, WitnessesAreShort};
 
-use bus_medium::laws::{chains_tell, one_lawful_list};
+use bus_medium::laws::one_lawful_list;
 use bus_table::laws::fitting_items_give_hands;
 
 /// Rounds of the senders of an aperiodic table that have a message left (`specs/Live.antt`), with hands that need not be even, are
@@ -14,10 +14,7 @@ pub fn live_rounds()
     ensures lawful { LiveRoundsAreLawful }
     ensures end { LiveRoundsEnd }
     ensures even { EvenRoundsAreClosed }
-{
-    chains_tell();
-    one_lawful_list();
-}
+{}
 
 /// For an accepted table in either mode and even hands, of any length, the closed schedule is the one lawful list up to the
 /// closed end; no two of its transmissions overlap, every cycle holds each sender once in turn order, and successive starts of
@@ -25,7 +22,6 @@ pub fn live_rounds()
 pub fn accepted_is_closed()
     ensures { AcceptedIsClosed }
 {
-    chains_tell();
     one_lawful_list();
 }
 

@@ -3,7 +3,7 @@ use Rattle.bus_schedule.proofs.RunLemmas.{even_rounds_are_closed}
 use Rattle.bus_schedule.proofs.laws.live_rounds.Goals as goal
 
 pub returns-clause-lawful : goal.returns-clause-lawful
-returns-clause-lawful c = live_rounds_are_lawful c.chains_tell.ensures.settled c.chains_tell.ensures.step c.chains_tell.ensures.starts c.one_lawful_list.ensures.whole
+returns-clause-lawful c = live_rounds_are_lawful
 
 pub returns-clause-end : goal.returns-clause-end
 returns-clause-end c = live_rounds_end
