@@ -1,20 +1,20 @@
 -- A stretch of the bus that is busy: carrier at its first and its last bit time, and in between at one of five. A message is such a
 -- stretch, and so are messages that begin together. For the timers it is as good as carrier throughout.
 -- The contract of `laws::busy_stretches` says that each law with a name of its own holds; the proofs are for the crates above to cite.
-use Rattle.std.proofs.Common.{◌≡◌, ℕ, zero, suc, ◌+◌, ◌-◌, ◌<◌, ◌≤◌, ◌⊎◌, true, false, List, [], ◌∷◌, ◌++◌, length, Option}
-use Rattle.std.proofs.Common.{inl, inr, arith, sym, refl, ap, ◌∙◌, subst}
-use Rattle.std.proofs.lemmas.Bool.{cases_lt, cases_Bool, true≢false}
+use Rattle.std.proofs.Common.{◌≡◌, ℕ, ◌+◌, ◌-◌, ◌<◌, ◌≤◌, List, Option}
+use Rattle.std.proofs.Common.{arith, ap, ◌∙◌, subst}
 use Rattle.bus_timers.specs.GapPlace.{GapFrom}
 use Rattle.bus_strings.specs.Messages.{Entry, bits}
 use Rattle.bus_strings.specs.Pulses.{is_on}
 use Rattle.bus_strings.specs.PulseLaws.{Pulse}
 use Rattle.bus_strings.proofs.PulsesAlongLaws.{first_is_on, last_is_on, pulse_soon}
 use Rattle.bus_strings.proofs.MessageLaws.{bits_some}
-use Rattle.bus_strings.specs.Transmissions.{carrier, end_of}
+use Rattle.bus_strings.specs.Transmissions.{end_of}
 use Rattle.bus_medium.specs.Past.{past}
 use Rattle.bus_medium.proofs.PastLaws.{some_carrier}
-use Rattle.bus_medium.proofs.Waking.{GapAt, busy_elapsed_at, busy_waiting_whole, woken_nobody}
-use Rattle.bus_medium.specs.BusyLaws.{EntryIsBusy, BusyElapsed, BusyWaiting, BusyNobody, Heard, IsBusy}
+use Rattle.bus_medium.specs.Clocks.{GapAt}
+use Rattle.bus_medium.proofs.Waking.{busy_elapsed_at, busy_waiting_whole, woken_nobody}
+use Rattle.bus_medium.specs.BusyLaws.{EntryIsBusy, BusyElapsed, BusyWaiting, BusyNobody}
 
 pub entry_is_busy : EntryIsBusy
 entry_is_busy l x i some =

@@ -1,11 +1,5 @@
--- A sender's timers as numbers, from the end of what it has heard on, whenever it was powered up: in the middle of a message too. Places are
--- counted as in the past of the bus.
---   E   the moment at which it has heard all
---   D   the place at which its transmit interval elapses
---   G   the place from which its terminal gap counts, or will
---   C   how many messages it has sent
+-- How a sender's numbers go with what it hears, and that they tell when it is due.
 use Rattle.std.proofs.Common.{◌≡◌, ◌≢◌, ℕ, ◌+◌, ◌-◌, ◌<◌, ◌≤◌, ◌⊎◌, max, false, List, [], ◌∷◌, ◌++◌, length, drop, Option, Some, None, inl, inr, arith, sym, refl, ap, ◌∙◌, subst}
-use Rattle.std.specs.Prelude.{nat_le, if◌then◌else◌}
 use Rattle.std.specs.Option.{option_map}
 use Rattle.std.proofs.lemmas.Bool.{cases_lt, le-leb, lt-leb}
 use Rattle.std.proofs.lemmas.List.{length_push}
@@ -27,22 +21,8 @@ use Rattle.bus_medium.specs.CableLawful.{IsDueOnCable}
 use Rattle.bus_medium.proofs.BusyLaws.{entry_is_busy}
 use Rattle.bus_medium.proofs.PastLaws.{past_push, own_later, own_push, own_push_other, last_push, no_carrier}
 use Rattle.bus_medium.proofs.Hearing.{heard_push, not_before, own_none}
-use Rattle.bus_medium.proofs.Waking.{GapAt, length_woken, at_quiets, busy_elapsed_at, busy_waiting_at, busy_waiting_whole, at_power_up, at_settled, at_start}
-
--- the numbers E, D, G and C of a sender
-pub record Ticks (quiet : ℕ) (delay : Delays) (wake : Wakes) (s : Station) (list : List Entry) (E D G C : ℕ) : Type 0 where
-  pub ended : (x : Entry) → In x list → end_of x + delay x s.number ≤ E
-  pub begun : (x : Entry) → In x list → x.terminal ≡ s.number → x.moment < E
-  pub owns : (x : Entry) → In x list → x.terminal ≡ s.number → wake s.number ≤ quiet + x.moment
-  pub woken : s.timing.sg + wake s.number ≤ G
-  pub gap : (m : ℕ) → E ≤ m → wake s.number ≤ quiet + m
-      → GapAt s.timing.sg quiet (wake s.number) (heard delay s.number list) m (woken_place quiet (wake s.number) (own list s.number m)) G
-  pub interval : (m : ℕ) → E ≤ m → due_place s.timing (woken_place quiet (wake s.number) (own list s.number m)) + wake s.number ≡ D
-  pub counts : (m : ℕ) → E ≤ m → length (own list s.number m) ≡ C
-
--- where its terminal gap counts from behind a message of another that it hears from moment m to moment e
-abbrev pub gap_behind : ℕ → ℕ → ℕ → ℕ → ℕ → ℕ → ℕ
-gap_behind quiet sg wake G m e = if nat_le G (quiet + m) then quiet + e else max (quiet + e + sg) (sg + wake)
+use Rattle.bus_medium.specs.Clocks.{GapAt, Ticks, gap_behind, IsLate, ClockTells}
+use Rattle.bus_medium.proofs.Waking.{length_woken, at_quiets, busy_elapsed_at, busy_waiting_at, busy_waiting_whole, at_power_up, at_settled, at_start}
 
 pub gap_elapsed : (quiet sg wake G m e : ℕ) → G ≤ quiet + m → gap_behind quiet sg wake G m e ≡ quiet + e
 gap_elapsed quiet sg wake G m e h = rw (le-leb G (quiet + m) h) refl
@@ -55,10 +35,6 @@ max_first a b h = grind arith
 
 max_second : (a b : ℕ) → a ≤ b → b ≡ max a b
 max_second a b h = grind arith
-
--- its numbers don't let it start up to moment m
-abbrev pub IsLate : ℕ → Station → ℕ → ℕ → ℕ → ℕ → Type 0
-IsLate quiet s D G C m = (quiet + m < G + s.timing.tg) ⊎ ((quiet + m < D) ⊎ (length s.hand ≤ C))
 
 module _ (quiet : ℕ) (delay : Delays) (wake : Wakes) (s : Station) (sound : IsSound s.timing) where
   abbrev n : ℕ
@@ -311,3 +287,16 @@ module _ (quiet : ℕ) (delay : Delays) (wake : Wakes) (s : Station) (sound : Is
 
       gap_within : (len w m g G tg : ℕ) → len + w ≡ m → g + w ≡ G → G + tg ≤ m → g + tg ≤ len
       gap_within len w m g G tg a p h = omega arith
+
+pub clock_tells : ClockTells
+clock_tells quiet delay wake s list E D G C t sound k low = (
+  (λ p. ticks_due quiet delay wake s sound list E D G C t k low p.1 p.0 p.2),
+  (λ d. (
+    at_least D (λ h. ticks_not_due quiet delay wake s sound list E D G C t k low (inr (inl h)) d),
+    at_least (G + s.timing.tg) (λ h. ticks_not_due quiet delay wake s sound list E D G C t k low (inl h) d),
+    elim (cases_lt C (length s.hand)) [ inl left ↦ left | inr none ↦ absurd (ticks_not_due quiet delay wake s sound list E D G C t k low (inr (inr none)) d) ],
+  )),
+)
+  where
+    at_least : (a : ℕ) → (quiet + t < a → ⊥) → a ≤ quiet + t
+    at_least a h = elim (cases_lt (quiet + t) a) [ inl less ↦ absurd (h less) | inr more ↦ more ]

@@ -1,22 +1,22 @@
 -- A schedule so far on a cable, whenever its senders were powered up: lawful up to its last start, with the numbers of each sender. One
 -- transmission more is lawful where its sender's timers allow it, and no other's do before it hears that one.
-use Rattle.std.proofs.Common.{◌≡◌, ◌≢◌, ℕ, ◌+◌, ◌-◌, ◌<◌, ◌≤◌, ◌⊎◌, List, [], ◌∷◌, ◌++◌, length, Some, inl, inr, arith, sym, refl, ap, ◌∙◌, subst}
-use Rattle.std.specs.Prelude.{◌==◌, slice_get, if◌then◌else◌}
+use Rattle.std.proofs.Common.{◌≡◌, ◌≢◌, ℕ, ◌+◌, ◌-◌, ◌<◌, ◌≤◌, ◌⊎◌, List, [], ◌∷◌, ◌++◌, length, inl, inr, arith, sym, refl, ap, ◌∙◌, subst}
+use Rattle.std.specs.Prelude.{slice_get}
 use Rattle.std.proofs.lemmas.Bool.{cases_lt, cases_eq, eq-eqb, ne_eqb}
-use Rattle.bus_timers.specs.Timings.{IsSound}
 use Rattle.bus_strings.specs.Members.{In}
 use Rattle.bus_strings.proofs.MemberLaws.{in_push, in_map}
 use Rattle.bus_strings.proofs.MessageLaws.{bits_some}
 use Rattle.bus_strings.specs.Messages.{Entry, bits}
 use Rattle.bus_strings.specs.Transmissions.{end_of}
 use Rattle.bus_medium.specs.Past.{own}
-use Rattle.bus_medium.specs.Chains.{put}
-use Rattle.bus_medium.specs.Lawful.{Station, HaveOwnNumbers}
+use Rattle.bus_medium.specs.Lawful.{Station}
 use Rattle.bus_medium.specs.Delays.{Delays, later, heard, heard_end}
 use Rattle.bus_medium.specs.Wakes.{Wakes, woken_place}
 use Rattle.bus_medium.specs.CableLawful.{IsDueOnCable, IsLawfulOnCableTo}
+pub use Rattle.bus_medium.specs.Clocks.{put, AreTimed, Known, Goes, goes_D, goes_G, goes_C}
+use Rattle.bus_medium.specs.Clocks.{Ticks, IsLate, gap_behind}
 use Rattle.bus_medium.proofs.BusyLaws.{entry_is_busy}
-use Rattle.bus_medium.proofs.CableClocks.{Ticks, IsLate, gap_behind, ticks_other, ticks_own, ticks_start, ticks_not_due, ticks_due}
+use Rattle.bus_medium.proofs.CableClocks.{ticks_other, ticks_own, ticks_start, ticks_not_due, ticks_due}
 use Rattle.bus_medium.proofs.Hearing.{IsUnheard, cable_looks, due_unheard}
 use Rattle.bus_medium.proofs.Ruled.{ruled_none, idle_stretch, lone_start}
 use Rattle.bus_medium.proofs.Waking.{woken_nobody}
@@ -30,50 +30,6 @@ put_other f n v i e = rw (ne_eqb i n e) refl
 
 split_at : (l u : ℕ) → l ≤ u → l + (u - l) ≡ u
 split_at l u h = omega arith
-
--- senders with numbers of their own and sound timings, all with the same synchronization gap
-pub record AreTimed (sg : ℕ) (stations : List Station) : Type 0 where
-  pub numbers : HaveOwnNumbers stations
-  pub sound : (s : Station) → In s stations → IsSound s.timing
-  pub same_sg : (s : Station) → In s stations → s.timing.sg ≡ sg
-
--- all has been decided up to moment t, and nobody is due from there on before it has heard all. All ends at `last` at the latest
-pub record Known (quiet : ℕ) (delay : Delays) (wake : Wakes) (stations : List Station) (list : List Entry) (t last : ℕ) (E D G C : ℕ → ℕ) : Type 0 where
-  pub law : IsLawfulOnCableTo quiet delay wake stations t 0 list
-  pub ticks : (s : Station) → In s stations → Ticks quiet delay wake s list (E s.number) (D s.number) (G s.number) (C s.number)
-  pub rests : (s : Station) (u : ℕ) → In s stations → t ≤ u → u < E s.number → IsDueOnCable quiet delay wake list s u → ⊥
-  pub decided : t ≤ last
-  pub heard : (s : Station) → In s stations → last ≤ E s.number
-
--- what the numbers must be where a sender starts:
---   interval, terminal   its timers allow it
---   first                they didn't before
---   slow                 those of no other sender do before it hears that start
-pub record Goes (quiet : ℕ) (delay : Delays) (stations : List Station) (last : ℕ) (E D G C : ℕ → ℕ) (a : Station) (x : Entry) : Type 0 where
-  pub there : In a stations
-  pub mine : x.terminal ≡ a.number
-  pub some : 0 < length x.message
-  pub message : slice_get a.hand (C a.number) ≡ Some x.message
-  pub left : C a.number < length a.hand
-  pub behind : last ≤ x.moment
-  pub ready : (s : Station) → In s stations → E s.number ≤ x.moment
-  pub interval : D a.number ≤ quiet + x.moment
-  pub terminal : G a.number + a.timing.tg ≤ quiet + x.moment
-  pub first : (quiet + x.moment ≤ D a.number) ⊎ (quiet + x.moment ≤ G a.number + a.timing.tg)
-  pub slow : (s : Station) → In s stations → s.number ≢ a.number
-      → (quiet + (x.moment + delay x s.number) < G s.number + s.timing.tg)
-      ⊎ ((quiet + (x.moment + delay x s.number) < D s.number) ⊎ (length s.hand ≤ C s.number))
-
--- the numbers behind it
-abbrev pub goes_D : ℕ → (ℕ → ℕ) → Station → Entry → ℕ → ℕ
-goes_D quiet D a x = put D a.number (quiet + x.moment + a.timing.ti)
-
-abbrev pub goes_G : ℕ → ℕ → Delays → Wakes → (ℕ → ℕ) → ℕ → Entry → ℕ → ℕ
-goes_G quiet sg delay wake G number x k =
-    if k == number then quiet + heard_end delay x k + sg else gap_behind quiet sg (wake k) (G k) (x.moment + delay x k) (heard_end delay x k)
-
-abbrev pub goes_C : (ℕ → ℕ) → ℕ → ℕ → ℕ
-goes_C C number = put C number (C number + 1)
 
 pub goes_here : (quiet sg : ℕ) (delay : Delays) (wake : Wakes) (G : ℕ → ℕ) (number : ℕ) (x : Entry) (k : ℕ) → k ≡ number
     → goes_G quiet sg delay wake G number x k ≡ quiet + heard_end delay x k + sg

@@ -9,8 +9,6 @@ pub mod TimingLemmas
 pub mod SeatingLemmas
 pub mod OrderLemmas
 pub mod StretchLemmas
-pub mod ClockLemmas
-pub mod ChainLemmas
 pub mod Existence
 pub mod Sums
 pub mod EdgeLemmas

@@ -15,12 +15,7 @@ use Rattle.bus_medium.specs.Past.{past}
 use Rattle.bus_medium.proofs.PastLaws.{length_past, past_at}
 use Rattle.bus_medium.specs.BusyLaws.{Heard, IsBusy}
 use Rattle.bus_medium.specs.Wakes.{woken_past}
-
--- the terminal gap of a terminal that was powered up at place w counts from place G, at moment v
-pub record GapAt (sg q w : ℕ) (l : List Entry) (v : ℕ) (last : Option ℕ) (G : ℕ) : Type 0 where
-  pub g : ℕ
-  pub is : g + w ≡ G
-  pub from : GapFrom sg (woken_past q w l v) last g
+pub use Rattle.bus_medium.specs.Clocks.{GapAt}
 
 pub length_woken : (q w : ℕ) (l : List Entry) (v : ℕ) → w ≤ q + v → length (woken_past q w l v) + w ≡ q + v
 length_woken q w l v h = omega (arith, length-drop w (past q l v), length_past q l v)

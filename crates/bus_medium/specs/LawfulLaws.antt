@@ -1,5 +1,5 @@
 -- Laws of lawful lists: where no two senders have the same number there is exactly one for each horizon, and it can be computed.
--- Each of these laws is a clause of `laws::one_lawful_list`. The laws of `Stretches` and of `Chains` are clauses of the other functions
+-- Each of these laws is a clause of `laws::one_lawful_list`. The laws of `Stretches` are clauses of the other functions
 -- of that module.
 use Rattle.std.specs.Prelude.{◌≡◌, ℕ, List, IsTrue}
 use Rattle.bus_strings.specs.Messages.{Entry}

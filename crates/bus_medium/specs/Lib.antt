@@ -9,7 +9,7 @@ pub mod BusyLaws
 pub mod LawfulLaws
 pub mod CableLaws
 pub mod Stretches
-pub mod Chains
+pub mod Clocks
 pub mod Timings
 pub mod Buses
 pub mod Following

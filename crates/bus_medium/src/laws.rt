@@ -3,7 +3,7 @@ ghost use Rattle.bus_medium.specs.BusyLaws.{EntryIsBusy, BusyElapsed, BusyWaitin
 ghost use Rattle.bus_medium.specs.LawfulLaws.{OneLawfulList, ThereIsALawfulList, TheComputedList, OneListOfATable, LawfulToHorizon};
 ghost use Rattle.bus_medium.specs.CableLaws.{OneCableList, TheComputedCableList, OneCableListOfATable, NoDelayIsTheBus};
 ghost use Rattle.bus_medium.specs.Stretches.{IdleStretch, LoneStart, MessageIsCarrier, MessageElapsed, MessageWaiting, NoStartDuring};
-ghost use Rattle.bus_medium.specs.Chains.{ChainSettled, ChainStep, ChainDue, ChainStarts};
+ghost use Rattle.bus_medium.specs.Clocks.{ClocksStart, ClockTells, ClocksStep, ClocksAreLawful};
 
 use bus_timers::laws::test_decides;
 
@@ -45,12 +45,13 @@ pub fn messages_are_carrier()
     ensures silent { NoStartDuring }
 {}
 
-/// Where no transmission begins before the one before has ended, three numbers of each sender tell who is due.
-pub fn chains_tell()
-    ensures settled { ChainSettled }
-    ensures step { ChainStep }
-    ensures due { ChainDue }
-    ensures starts { ChainStarts }
+/// Where no transmission begins before all have heard the one before, four numbers of each sender tell who is due next, and that a
+/// schedule which goes by them is lawful: on a cable, whenever the senders wake, and on the bus as the case without delays.
+pub fn clocks_tell()
+    ensures start { ClocksStart }
+    ensures due { ClockTells }
+    ensures step { ClocksStep }
+    ensures lawful { ClocksAreLawful }
 {}
 
 /// What the past that a list makes has where, and how a sender's own transmissions grow with the moment. A law, with no work.

@@ -11,12 +11,13 @@
 //! ([`laws::one_lawful_list`]), which `specs/LawfulList.antt` computes; it grows by stretches in which nobody is due
 //! and by single starts ([`laws::lawful_turns`]); a whole message counts for the timers as its bits of carrier
 //! ([`laws::messages_are_carrier`]), and so does any stretch that transmissions keep busy ([`laws::busy_stretches`]);
-//! what the past of a list has where ([`laws::pasts`]); and as long as no transmission begins before the one before has
-//! ended, three numbers of each sender tell who is due next ([`laws::chains_tell`]).
+//! and what the past of a list has where ([`laws::pasts`]).
 //!
 //! The same bus on a cable with length, whose terminals were powered up when they liked, stands beside it: what each terminal
 //! hears and when (`specs/Delays.antt`), what it has heard since its power-up (`specs/Wakes.antt`), and the lawful list of that
-//! (`specs/CableLawful.antt`), which differs in who is due alone. Here too there is exactly one ([`laws::one_cable_list`]).
+//! (`specs/CableLawful.antt`), which differs in who is due alone. Here too there is exactly one ([`laws::one_cable_list`]). As long as
+//! no transmission begins before all have heard the one before, four numbers of each sender tell who is due next
+//! ([`laws::clocks_tell`]).
 #![tactic(auto)]
 
 mod bit_times;
@@ -31,6 +32,6 @@ mod stretches;
 mod tests;
 mod timings;
 
-pub use bus::{OBSERVE_LIMIT, Bus};
+pub use bus::{Bus, OBSERVE_LIMIT};
 pub use seat::Seat;
 pub use timings::{quiet, timing};

@@ -16,7 +16,8 @@ use Rattle.bus_schedule.specs.Closed.{sends}
 use Rattle.bus_medium.specs.Delays.{Delays, heard_end}
 use Rattle.bus_medium.specs.CableLawful.{IsDueOnCable}
 use Rattle.bus_reach.specs.Schedule.{cable_turns, cable_heard, cable_origin, cable_rounds}
-use Rattle.bus_medium.proofs.CableClocks.{gap_behind, gap_elapsed, gap_waiting, ticks_other, ticks_own, ticks_not_due, ticks_due}
+use Rattle.bus_medium.specs.Clocks.{gap_behind}
+use Rattle.bus_medium.proofs.CableClocks.{gap_elapsed, gap_waiting, ticks_other, ticks_own, ticks_not_due, ticks_due}
 use Rattle.bus_reach.proofs.Knowing.{Ticks, sender_start}
 use Rattle.bus_schedule.proofs.Growing.{Setting, has_left, sendable}
 use Rattle.bus_schedule.proofs.Greatest.{ends_within, max_within}

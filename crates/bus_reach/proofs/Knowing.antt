@@ -15,6 +15,7 @@ use Rattle.bus_medium.specs.Timings.{quiet_of, due_for}
 use Rattle.bus_medium.specs.Delays.{Delays, heard_end}
 use Rattle.bus_medium.specs.Wakes.{Wakes}
 use Rattle.bus_medium.specs.CableLawful.{IsLawfulOnCableTo}
+use Rattle.bus_medium.specs.Clocks as numbers
 use Rattle.bus_medium.proofs.CableClocks as clocks
 use Rattle.bus_medium.proofs.CableSteps as steps
 use Rattle.bus_medium.proofs.CableSteps.{AreTimed, known_start, known_lawful}
@@ -25,7 +26,7 @@ use Rattle.bus_schedule.proofs.HandLemmas.{Sendable, station, stations, quiet_is
 
 -- the numbers of a sender's timers
 abbrev pub Ticks : Table → (ℕ → List Message) → Delays → Wakes → Sender → List Entry → ℕ → ℕ → ℕ → ℕ → Type 0
-Ticks table hands delay wake b list E D G C = clocks.Ticks table.sg delay wake (station table hands b) list E D G C
+Ticks table hands delay wake b list E D G C = numbers.Ticks table.sg delay wake (station table hands b) list E D G C
 
 -- all has been decided up to moment t, and nobody is due from there on before it has heard all. The list ends at `last`
 pub record Known (table : Table) (hands : ℕ → List Message) (delay : Delays) (wake : Wakes) (list : List Entry) (t last : ℕ) (E D G C : ℕ → ℕ) : Type 0 where

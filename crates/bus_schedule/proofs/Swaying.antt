@@ -14,7 +14,8 @@ use Rattle.bus_table.specs.Lengths.{longest}
 use Rattle.bus_table.specs.Turns.{Differ, Rises, turn_key, turn_order}
 use Rattle.bus_table.proofs.TurnLaws.{of_each, from_sort, in_sort, order_rises, numbers_differ}
 use Rattle.bus_medium.specs.Timings.{greatest_gap, quiet_for, quiet_of, due_for}
-use Rattle.bus_medium.specs.Chains.{HaveEnded, put}
+use Rattle.bus_medium.specs.Past.{HaveEnded}
+use Rattle.bus_medium.specs.Clocks.{put}
 use Rattle.bus_regime.specs.Gaps.{Gap, latest_end, last_end, gaps_from, gaps}
 use Rattle.bus_schedule.specs.Closed.{sends, offset_turns, offset_schedule}
 use Rattle.bus_medium.specs.Delays.{Delays, heard, heard_end}
