@@ -1,4 +1,4 @@
--- Rows, computed: two senders with terminal gaps of 20 and 30, a synchronization gap of 300, and two messages each, of 60 and of 620 bit times.
+-- Schedules on a cable, computed: two senders with terminal gaps of 20 and 30, a synchronization gap of 300, and two messages each, of 60 and of 620 bit times.
 use Rattle.std.proofs.Common.{◌≡◌, ℕ, true, false, List, [], ◌∷◌, map, replicate, refl}
 use Rattle.std.specs.Prelude.{◌==◌, if◌then◌else◌}
 use Rattle.bus_strings.specs.Messages.{Message, Entry}
@@ -46,3 +46,22 @@ bears_no_more = refl
 -- the second joins in the second round
 joins : starts (growing (cable (far 0)) (λ k. if k == 2 then 21 else 0) two hands) ≡ 20 ∷ 400 ∷ 490 ∷ []
 joins = refl
+
+-- the same with a synchronization gap of 1000 and a short message of the second, which is powered up at 100: it hears the first start of the
+-- second round, at 1100, just awake
+abbrev near : Table
+near = record { mode = Aperiodic; ti = 1000; sg = 1000; senders = sender 1 20 2 ∷ sender 2 30 1 ∷ []; listeners = [] }
+
+abbrev three : List Hand
+three = record { terminal = 1; messages = message 1 2 ∷ message 1 2 ∷ message 1 2 ∷ [] }
+    ∷ record { terminal = 2; messages = message 2 1 ∷ message 2 1 ∷ message 2 1 ∷ [] } ∷ []
+
+abbrev second_wakes : ℕ → ℕ → ℕ
+second_wakes moment k = if k == 2 then moment else 0
+
+joins_at_once : starts (growing (cable (far 0)) (second_wakes 1100) near three) ≡ 20 ∷ 1100 ∷ 1190 ∷ 2250 ∷ 2340 ∷ []
+joins_at_once = refl
+
+-- powered up a bit time later it waits for the next round
+joins_later : starts (growing (cable (far 0)) (second_wakes 1101) near three) ≡ 20 ∷ 1100 ∷ 2180 ∷ 2270 ∷ []
+joins_later = refl

@@ -31,3 +31,4 @@ pub mod ReceivingLemmas
 pub mod Rotating
 pub mod Passes
 pub mod PeriodicExamples
+pub mod SmallBuses
