@@ -6,7 +6,7 @@ use Rattle.std.proofs.lemmas.Bool.{cases_lt}
 use Rattle.bus_timers.specs.MayStartTest.{TestDecides}
 use Rattle.bus_strings.specs.Limits.{most_terminal}
 use Rattle.bus_table.specs.Tables.{Table}
-use Rattle.bus_table.specs.Facts.{SenderFacts}
+use Rattle.bus_table.specs.inside.Facts.{SenderFacts}
 use Rattle.bus_table.specs.Valid.{is_valid}
 use Rattle.bus_table.proofs.ValidLaws.{valid_facts}
 use Rattle.bus_table.proofs.TurnLaws.{of_each}

@@ -15,7 +15,7 @@ use Rattle.bus_strings.proofs.MessageLaws.{bits_some}
 use Rattle.bus_strings.specs.Transmissions.{end_of, IsAscending, Precedes}
 use Rattle.bus_table.specs.Tables.{Sender, Table}
 use Rattle.bus_table.specs.Fits.{fits, sender_of}
-use Rattle.bus_table.specs.Facts.{SenderFacts, TableFacts}
+use Rattle.bus_table.specs.inside.Facts.{SenderFacts, TableFacts}
 use Rattle.bus_table.specs.Valid.{is_valid}
 use Rattle.bus_table.proofs.ValidLaws.{valid_facts}
 use Rattle.bus_table.proofs.TurnLaws.{of_each, numbers_differ}
@@ -29,8 +29,8 @@ use Rattle.bus_audit.specs.declared.answer.BreachKind.TheVariants.{Stranger, Mis
 use Rattle.bus_audit.specs.declared.watch.Watch.{Watch}
 use Rattle.bus_audit.specs.declared.clock.Clock.{Clock}
 use Rattle.bus_audit.specs.Breaches.{held, flaw, kind_at, IsFirstBreach}
-use Rattle.bus_audit.specs.Watches.{ready, pair, settled, begun, passed, IsLow, AreLow, NoneBefore, Misses}
-use Rattle.bus_audit.specs.Standing.{NotBefore, NoEntries, Keeps, Tells, At, Told, Stands, Group, Near, Arrived, AreFar, Judged, Closed, Behind, JudgedTo}
+use Rattle.bus_audit.specs.inside.Watches.{ready, pair, settled, begun, passed, IsLow, AreLow, NoneBefore, Misses}
+use Rattle.bus_audit.specs.inside.Standing.{NotBefore, NoEntries, Keeps, Tells, At, Told, Stands, Group, Near, Arrived, AreFar, Judged, Closed, Behind, JudgedTo}
 use Rattle.bus_strings.proofs.MemberLaws.{at_in, in_at}
 use Rattle.bus_medium.proofs.PastLaws.{same_bools}
 use Rattle.bus_audit.proofs.Lists.{get_within, get_set_same, get_set_other, same_some}

@@ -12,7 +12,7 @@ use Rattle.bus_medium.specs.Past.{past, own, last_place}
 use Rattle.bus_medium.specs.Timings.{quiet_of, timing_of}
 use Rattle.bus_audit.specs.declared.answer.BreachKind.TheVariants.{Stranger, Missing}
 use Rattle.bus_audit.specs.Breaches.{held, entry_at, has_left, may, flaw, lack, pair_kind, kind_at}
-use Rattle.bus_audit.specs.Standing.{Allowed}
+use Rattle.bus_audit.specs.inside.Standing.{Allowed}
 use Rattle.bus_audit.proofs.Lists.{find_none, find_one, from_find, Found, cases_option}
 use Rattle.bus_medium.proofs.PastLaws.{one_at}
 use Rattle.bus_audit.proofs.Entries.{at_test, from_at_test, not_at_test}

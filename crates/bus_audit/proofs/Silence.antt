@@ -14,8 +14,8 @@ use Rattle.bus_medium.specs.Timings.{quiet_of}
 use Rattle.bus_audit.specs.declared.answer.BreachKind.TheVariants.{Missing}
 use Rattle.bus_audit.specs.declared.watch.Watch.{Watch}
 use Rattle.bus_audit.specs.Breaches.{kind_at, IsCleanTo, IsFirstBreach}
-use Rattle.bus_audit.specs.Watches.{ready, ready_moment, pair, turn, NoneBefore, Misses}
-use Rattle.bus_audit.specs.Standing.{NotBefore, NoEntries, At, Told, Tells}
+use Rattle.bus_audit.specs.inside.Watches.{ready, ready_moment, pair, turn, NoneBefore, Misses}
+use Rattle.bus_audit.specs.inside.Standing.{NotBefore, NoEntries, At, Told, Tells}
 use Rattle.bus_strings.proofs.MemberLaws.{in_at, at_in}
 use Rattle.bus_audit.proofs.Lists.{get_within, find_one}
 use Rattle.bus_audit.proofs.Pairs.{IsSilent, SenderAt, from_sender_of, silent_clean, silent_missing}

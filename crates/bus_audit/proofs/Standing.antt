@@ -16,8 +16,8 @@ use Rattle.bus_trace.specs.Traces.{Recording}
 use Rattle.bus_medium.specs.Timings.{quiet_of, timing_of}
 use Rattle.bus_audit.specs.declared.watch.Watch.{Watch}
 use Rattle.bus_audit.specs.Breaches.{kind_at, IsCleanTo}
-use Rattle.bus_audit.specs.Watches.{ready, ready_moment, pair, turn, begun, passed, NoneBefore}
-use Rattle.bus_audit.specs.Standing.{NotBefore, NoEntries, Keeps, Tells, At, Told, Stands, Near, Arrived}
+use Rattle.bus_audit.specs.inside.Watches.{ready, ready_moment, pair, turn, begun, passed, NoneBefore}
+use Rattle.bus_audit.specs.inside.Standing.{NotBefore, NoEntries, Keeps, Tells, At, Told, Stands, Near, Arrived}
 use Rattle.bus_strings.proofs.MemberLaws.{at_in}
 use Rattle.bus_audit.proofs.Lists.{get_within, get_set_same, get_set_other, same_some}
 use Rattle.bus_medium.specs.PastLaws.{NoneOf}

@@ -7,7 +7,7 @@ use Rattle.bus_strings.proofs.MemberLaws.{in_append_cases, from_map, from_filter
 use Rattle.bus_strings.specs.Messages.{Entry, Message}
 use Rattle.bus_table.specs.declared.mode.Mode.{Mode}
 use Rattle.bus_table.specs.Tables.{Sender, Table, Hand}
-use Rattle.bus_table.specs.Facts.{SenderFacts, TableFacts}
+use Rattle.bus_table.specs.inside.Facts.{SenderFacts, TableFacts}
 use Rattle.bus_table.specs.Filling.{filling_message}
 use Rattle.bus_table.specs.Fits.{fits, sender_of}
 use Rattle.bus_table.specs.Hands.{are_hands}

@@ -15,8 +15,8 @@ use Rattle.bus_medium.specs.Past.{past, own, last_place}
 use Rattle.bus_medium.specs.Timings.{quiet_of, due_for, timing_of}
 use Rattle.bus_audit.specs.Breaches.{held}
 use Rattle.bus_audit.specs.declared.watch.Watch.{Watch}
-use Rattle.bus_audit.specs.Watches.{settled, begun, passed}
-use Rattle.bus_audit.specs.Standing.{Keeps, Tells}
+use Rattle.bus_audit.specs.inside.Watches.{settled, begun, passed}
+use Rattle.bus_audit.specs.inside.Standing.{Keeps, Tells}
 use Rattle.bus_medium.specs.PastLaws.{NoneOf}
 use Rattle.bus_medium.proofs.PastLaws.{length_past, own_later, own_more, last_push}
 use Rattle.bus_audit.proofs.Entries.{own_none}

@@ -1,59 +1,14 @@
-ghost use Rattle.std.specs.Prelude.{◌≡◌, ◌==◌, ◌&&◌, nat_lt, nat_le, length, position};
+//! What is wrong with an entry of a trace.
+ghost use Rattle.std.specs.Prelude.{◌≡◌, nat_lt, nat_le};
 ghost use Rattle.bus_table.specs.Fits as fits;
-ghost use Rattle.bus_table.specs.Fits.{allows, matches};
 ghost use Rattle.bus_audit.specs.Breaches as breaches;
-ghost use Rattle.bus_audit.specs.Watches as sums;
-ghost use Rattle.bus_audit.specs.Watches.{IsLow};
+ghost use Rattle.bus_audit.specs.inside.Watches as sums;
+ghost use Rattle.bus_audit.specs.inside.Watches.{IsLow};
 
 use crate::answer::BreachKind;
 use crate::watch::{Watch, ready};
-use bus_strings::{Message, Wordstring};
-use bus_table::{SendLine, Sender};
-
-/// Where the sender with this number stands.
-pub fn place_of(senders: &[Sender], number: u8) -> Option<usize>
-    ensures { result ≡ position (λ sender. sender.number == number) senders.now }
-{
-    senders.iter().position(|sender| sender.number() == number)
-}
-
-/// Whether a line may have so many data words.
-fn allows(line: &SendLine, words: usize) -> bool
-    ensures { result ≡ allows line.now words }
-{
-    (usize::from(line.least)..=usize::from(line.most)).contains(&words)
-}
-
-/// Whether a wordstring that was sent is one of the line.
-fn string_fits(line: &SendLine, sent: &Wordstring) -> bool
-    ensures { result ≡ (sent.now.label == line.now.label && (sent.now.ext == line.now.ext && allows line.now (length sent.now.words))) }
-{
-    sent.label().value() == line.label.value()
-        && sent.ext().value() == line.ext.value()
-        && allows(line, sent.words().len())
-}
-
-/// Whether wordstrings are of the lines in order.
-fn strings_fit(sends: &[SendLine], strings: &[Wordstring]) -> bool
-    ensures { result ≡ matches allows sends.now strings.now }
-{
-    if sends.len() != strings.len() {
-        return false;
-    }
-    for (k, line) in sends.iter().enumerate() {
-        if !string_fits(line, &strings[k]) {
-            return false;
-        }
-    }
-    true
-}
-
-/// Whether a message fits a sender.
-fn message_fits(sender: &Sender, message: &Message) -> bool
-    ensures { result ≡ fits.fits sender.now message.now }
-{
-    strings_fit(sender.sends(), message.strings())
-}
+use bus_strings::Message;
+use bus_table::{Sender, message_fits};
 
 /// What is wrong with an entry at a place, of a sender with this watch: the first kind that applies, if one does.
 pub fn judge(place: u64, sender: &Sender, watch: Watch, message: &Message) -> Option<BreachKind>

@@ -1,7 +1,7 @@
 ghost use Rattle.std.specs.Prelude.{◌≡◌, ℕ, ◌+◌, ◌<◌, length, map, slice_get, Some, IfOk};
 ghost use Rattle.bus_table.specs.Tables as tables;
 ghost use Rattle.bus_audit.specs.Breaches as breaches;
-ghost use Rattle.bus_audit.specs.Watches as sums;
+ghost use Rattle.bus_audit.specs.inside.Watches as sums;
 
 use crate::watch::Watch;
 use bus_medium::timing;

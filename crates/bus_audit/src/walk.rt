@@ -2,19 +2,19 @@ ghost use Rattle.std.specs.Prelude.{◌≡◌, ℕ, ◌+◌, ◌^◌, ◌<◌, �
 ghost use Rattle.bus_strings.specs.Members.{In};
 ghost use Rattle.bus_medium.specs.Timings.{quiet_of};
 ghost use Rattle.bus_audit.specs.Breaches.{IsFirstBreach, HasNoBreach};
-ghost use Rattle.bus_audit.specs.Watches as sums;
-ghost use Rattle.bus_audit.specs.Watches.{AreLow};
-ghost use Rattle.bus_audit.specs.Standing.{AreFar, Judged, Closed, Behind, Arrived};
+ghost use Rattle.bus_audit.specs.inside.Watches as sums;
+ghost use Rattle.bus_audit.specs.inside.Watches.{AreLow};
+ghost use Rattle.bus_audit.specs.inside.Standing.{AreFar, Judged, Closed, Behind, Arrived};
 
 use crate::answer::BreachKind;
 use crate::check::check;
 use crate::clock::Clock;
-use crate::entry::{judge, place_of};
+use crate::entry::judge;
 use crate::finding::Finding;
 use crate::watch::{Watch, begun, passed};
 use bus_medium::quiet;
 use bus_strings::{Transmission, bits};
-use bus_table::Table;
+use bus_table::{Table, place_of};
 use bus_timers::laws::test_decides;
 use bus_trace::Trace;
 

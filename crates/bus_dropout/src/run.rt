@@ -10,6 +10,7 @@ use crate::laws::dropout_is_lawful;
 use bus_medium::Bus;
 use bus_schedule::{LONGEST_END, ScheduleError};
 use bus_strings::Transmission;
+use bus_table::laws::table_is_valid;
 use bus_table::{Hand, Table};
 use bus_timers::DeadlineCore;
 use std::alloc::Global;
@@ -36,8 +37,7 @@ pub fn run_dropout(
     let end = limited_end(table, &hands)?;
     let mut bus = Bus::<DeadlineCore>::settled(alloc, table, hands)?;
     let list = bus.observe_by_jumps(end)?;
-    // A look at the table makes known that it is valid.
-    table.sg();
+    table_is_valid(table);
     dropout_is_lawful();
     Ok(list)
 }

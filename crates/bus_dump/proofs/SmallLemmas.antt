@@ -8,7 +8,7 @@ use Rattle.bus_table.specs.Tables.{Sender, Table}
 use Rattle.bus_table.proofs.TurnLaws.{from_sort}
 use Rattle.bus_table.specs.Turns.{turn_key, turn_order}
 use Rattle.bus_table.specs.Valid.{is_valid}
-use Rattle.bus_table.specs.Facts.{SenderFacts}
+use Rattle.bus_table.specs.inside.Facts.{SenderFacts}
 use Rattle.bus_table.proofs.ValidLaws.{valid_facts}
 use Rattle.bus_dump.specs.declared.dump.Dump.{Dump}
 use Rattle.bus_dump.specs.DumpTexts.{dump_text, id_text, name_text}

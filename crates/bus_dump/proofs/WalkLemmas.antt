@@ -13,38 +13,13 @@ use Rattle.std.proofs.lemmas.List.Sums.{count_by_more_no, count_by_more_yes}
 use Rattle.std.proofs.lemmas.Option.{slice_get_within, slice_get-get_or, get_or_from_slice_get}
 use Rattle.bus_strings.specs.Messages.{Entry}
 use Rattle.bus_strings.specs.Transmissions.{end_of, garbled, marks}
+use Rattle.bus_strings.proofs.CountLaws.{counted}
 use Rattle.bus_dump.specs.declared.live.Live.{Live}
 use Rattle.bus_dump.specs.declared.walk.Walk.{Walk}
 use Rattle.bus_dump.specs.Seen.{is_sent_by, number_of}
 use Rattle.bus_dump.specs.inside.Walks.{BeginsFrom, IsWalkable, Reaches, Stands, ends_after, live_of, live_to}
 use Rattle.bus_dump.proofs.FewLemmas.{few_live}
 use Rattle.bus_dump.proofs.LiveLemmas.{absent, present, at_place, live_begun, live_later, moments_rise}
-
--- ---- the next mark
-left_mark : (list : List Entry) (i : ℕ) → i < length list → drop i (marks list) ≡ garbled list i ∷ drop (suc i) (marks list)
-left_mark list i h =
-    drop-cons (marks list) i false (omega (arith, length-map-range_with_len (garbled list) 0 (length list)))
-    ∙ ap (λ b. b ∷ drop (suc i) (marks list)) (get_or-map-range_with_len (garbled list) 0 (length list) i i false h (omega arith))
-
-is_true : (b : Bool) → beq b true ≡ b
-is_true true = refl
-is_true false = refl
-
-next_by : (list : List Entry) (i : ℕ) (old new : List Bool) (r : Option Bool) → i < length list → old ≡ drop i (marks list)
-    → YieldsFirst (λ (s : List Bool). s) old r new → (option_eq beq r (Some true) ≡ garbled list i) × (new ≡ drop (suc i) (marks list))
-next_by list i old new None h o y = absurd (let w : [] ≡ garbled list i ∷ drop (suc i) (marks list) = sym y.0 ∙ o ∙ left_mark list i h in cc)
-next_by list i old new (Some m) h o y =
-    let w : m ∷ new ≡ garbled list i ∷ drop (suc i) (marks list) = sym y ∙ o ∙ left_mark list i h in
-    let m_is : m ≡ garbled list i = cc in
-    let new_is : new ≡ drop (suc i) (marks list) = cc in
-    (is_true m ∙ m_is, new_is)
-
-pub next_mark : (list : List Entry) (i : ℕ) (old new : List Bool) (r : Option Bool) (b : Bool) → i < length list → old ≡ drop i (marks list)
-    → YieldsFirst (λ (s : List Bool). s) old r new → b ≡ option_eq beq r (Some true) → (b ≡ garbled list i) × (new ≡ drop (i + 1) (marks list))
-next_mark list i old new r b h o y e =
-    let n = next_by list i old new r h o y in
-    let one : i + 1 ≡ suc i = omega arith in
-    (e ∙ n.0, n.1 ∙ ap (λ k. drop k (marks list)) (sym one))
 
 -- ---- one more begins
 pub room : (list : List Entry) (t : ℕ) (w : Walk) (x : Entry) → IsWalkable list → Reaches list t w → slice_get list w.begun ≡ Some x → x.moment ≡ t
@@ -55,27 +30,6 @@ room list t w x walkable r at now some =
     let more : length (live_to list t (w.begun + 1)) ≡ length (live_to list t w.begun ++ live_of list w.begun x ∷ []) = ap length (live_begun list t w.begun x at low some) in
     let live : length w.live.items ≡ length (live_to list t w.begun) = ap length r.live in
     omega (arith, length-append (live_to list t w.begun) (live_of list w.begun x ∷ []))
-
--- how many of a terminal have begun
-counted : (list : List Entry) (counts : List ℕ) (i terminal : ℕ) (x : Entry) → length counts ≡ 129 → terminal ≤ 128 → slice_get list i ≡ Some x → x.terminal ≡ terminal
-    → ((n : ℕ) → n ≤ 128 → get_or counts n 0 ≡ count_by (is_sent_by n) (take i list))
-    → (n : ℕ) → n ≤ 128 → get_or (set counts terminal (get_or counts terminal 0 + 1)) n 0 ≡ count_by (is_sent_by n) (take (i + 1) list)
-counted list counts i terminal x long low at own old n h =
-    let within : i < length list = slice_get_within list i x at in
-    let is : get_or list i x ≡ x = get_or_from_slice_get list i x x at in
-    elim (cases_eq n terminal) [
-      | inl same ↦
-          let fits : terminal < length counts = omega arith in
-          let yes : is_sent_by n (get_or list i x) ≡ true = ap (is_sent_by n) is ∙ eq-eqb x.terminal n (own ∙ sym same) in
-          ap (λ k. get_or (set counts terminal (get_or counts terminal 0 + 1)) k 0) same
-          ∙ get_or-set_same counts terminal (get_or counts terminal 0 + 1) 0 fits
-          ∙ ap (λ k. get_or counts k 0 + 1) (sym same)
-          ∙ ap (λ k. k + 1) (old n h)
-          ∙ sym (count_by_more_yes (is_sent_by n) list i x within yes)
-      | inr other ↦
-          let no : is_sent_by n (get_or list i x) ≡ false = ap (is_sent_by n) is ∙ ne_eqb x.terminal n (λ e. other (sym e ∙ own)) in
-          get_or-set_other counts terminal n (get_or counts terminal 0 + 1) 0 other ∙ old n h ∙ sym (count_by_more_no (is_sent_by n) list i x within no)
-    ]
 
 abbrev live_with : ℕ → ℕ → ℕ → ℕ → ℕ → Bool → Live
 live_with at terminal moment end number mark =

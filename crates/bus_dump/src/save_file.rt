@@ -1,7 +1,7 @@
 //! The text of a save file.
 ghost use Rattle.std.specs.Prelude.{◌≡◌, ◌==◌, [], drop, if◌then◌else◌};
 ghost use Rattle.std.specs.List.{find, flat_map};
-ghost use Rattle.std.specs.Option.{option_copied, option_map_or};
+ghost use Rattle.std.specs.Option.{option_map_or};
 ghost use Rattle.bus_outer.specs.Sinks.{WritesText};
 ghost use Rattle.bus_outer.specs.Texts.{Adds};
 ghost use Rattle.bus_table.specs.Tables.{Sender as AnySender};
@@ -13,7 +13,7 @@ use crate::lane::Lane;
 use crate::lanes::lanes_of;
 use crate::signal::Signal;
 use bus_outer::{Sink, TextBuffer, WriteFault};
-use bus_table::{Mode, Sender, Table};
+use bus_table::{Mode, Sender, Table, sender_of};
 use bus_trace::Trace;
 
 /// Which bits a signal has, where they are several, with no space before them.
@@ -74,13 +74,6 @@ fn put_timing<K: Sink>(text: &mut TextBuffer, sink: &mut K, mode: Mode, sender: 
         text.put(sink, b" AT ");
         text.put_number(sink, sender.at());
     }
-}
-
-/// The sender with this number.
-fn sender_of(senders: &[Sender], number: u8) -> Option<&Sender>
-    ensures { option_copied result ≡ find (λ (s : AnySender). s.number == number) senders.now }
-{
-    senders.iter().find(|sender| sender.number() == number)
 }
 
 /// The timers of a terminal, where it is a sender of the table.

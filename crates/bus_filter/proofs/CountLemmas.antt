@@ -10,7 +10,7 @@ use Rattle.bus_table.specs.declared.line.TakeLine.{TakeLine}
 use Rattle.bus_table.specs.Tables.{Sender, Listener, Table}
 use Rattle.bus_filter.specs.Received.{Taker, matches, received_line, string_lines, entry_lines, is_heard, sender_taker, listener_taker}
 use Rattle.bus_filter.specs.ReceivedTexts.{received_count}
-use Rattle.bus_filter.specs.Putting.{string_count, marked_count, taker_count, sender_count, listener_count}
+use Rattle.bus_filter.specs.inside.Putting.{string_count, marked_count, taker_count, sender_count, listener_count}
 
 sum_by-same : {X : Type 0} (f g : X → ℕ) (xs : List X) → ((x : X) → f x ≡ g x) → sum_by f xs ≡ sum_by g xs
 sum_by-same f g [] h = refl

@@ -1,15 +1,7 @@
 -- Lists of lists that are put together.
-use Rattle.std.proofs.Common.{◌≡◌, Bool, true, false, cond, List, [], ◌∷◌, ◌++◌, map, refl, ap, sym, ◌∙◌, append-nil}
+use Rattle.std.proofs.Common.{◌≡◌, Bool, true, false, cond, List, [], ◌∷◌, ◌++◌, map, refl, ap, ◌∙◌}
 use Rattle.std.specs.List.{filter, flat_map}
 use Rattle.std.proofs.lemmas.List.Concat.{flat_map-append}
-
-pub flat_map-same : {X A : Type 0} (f g : X → List A) (xs : List X) → ((x : X) → f x ≡ g x) → flat_map f xs ≡ flat_map g xs
-flat_map-same f g [] h = refl
-flat_map-same f g (x ∷ xs) h = ap (λ t. t ++ flat_map f xs) (h x) ∙ ap (λ t. g x ++ t) (flat_map-same f g xs h)
-
-pub flat_map-map : {X Y A : Type 0} (f : Y → List A) (g : X → Y) (xs : List X) → flat_map f (map g xs) ≡ flat_map (λ x. f (g x)) xs
-flat_map-map f g [] = refl
-flat_map-map f g (x ∷ xs) = ap (λ t. f (g x) ++ t) (flat_map-map f g xs)
 
 pub flat_map-flat_map : {X Y A : Type 0} (f : Y → List A) (g : X → List Y) (xs : List X) → flat_map f (flat_map g xs) ≡ flat_map (λ x. flat_map f (g x)) xs
 flat_map-flat_map f g [] = refl
@@ -23,7 +15,3 @@ passing_by false f g x xs rest e = e
 pub flat_map-passing : {X Y A : Type 0} (p : X → Bool) (f : Y → List A) (g : X → Y) (xs : List X) → flat_map (λ x. cond (p x) (f (g x)) []) xs ≡ flat_map f (map g (filter p xs))
 flat_map-passing p f g [] = refl
 flat_map-passing p f g (x ∷ xs) = passing_by (p x) f g x (filter p xs) _ (flat_map-passing p f g xs)
-
--- one more
-pub flat_map-more : {X A : Type 0} (f : X → List A) (xs ys : List X) (x : X) → ys ≡ xs ++ x ∷ [] → flat_map f xs ++ f x ≡ flat_map f ys
-flat_map-more f xs ys x e = sym (ap (flat_map f) e ∙ flat_map-append f xs (x ∷ []) ∙ ap (λ t. flat_map f xs ++ t) (append-nil (f x)))

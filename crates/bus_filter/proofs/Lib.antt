@@ -1,6 +1,5 @@
 mod Folds
 mod PutLemmas
-mod MarkLemmas
 mod HearingLemmas
 mod TakerLemmas
 mod CountLemmas

@@ -1,17 +1,22 @@
 -- What is put is the received text.
-use Rattle.std.proofs.Common.{◌≡◌, ℕ, Bool, cond, List, [], ◌∷◌, ◌++◌, codes, map, ap, sym, ◌∙◌, append_assoc}
+use Rattle.std.proofs.Common.{arith, ◌≡◌, ◌+◌, ◌<◌, ◌≤◌, ◌||◌, ◌==◌, ℕ, Bool, true, false, cond, List, [], ◌∷◌, ◌++◌, codes, length, take, get_or, map, refl, ap, sym, ◌∙◌, append_assoc}
 use Rattle.std.specs.Fmt.{decimal}
-use Rattle.std.specs.List.{filter, flat_map, zip}
+use Rattle.std.specs.List.{filter, flat_map, list_any, zip}
 use Rattle.std.proofs.lemmas.List.Concat.{flat_map-append}
 use Rattle.bus_text.specs.Digits.{hex_digit, hexadecimal}
 use Rattle.bus_strings.specs.Messages.{Wordstring, Entry}
-use Rattle.bus_strings.specs.Transmissions.{marks}
+use Rattle.std.proofs.lemmas.Bool.{eqb-true}
+use Rattle.std.proofs.lemmas.List.Folds.{list_any_more}
+use Rattle.std.proofs.lemmas.List.FromFn.{get_or-map-range_with_len}
+use Rattle.bus_strings.specs.Transmissions.{garbled, marks}
 use Rattle.bus_table.specs.declared.line.TakeLine.{TakeLine}
 use Rattle.bus_table.specs.Tables.{Sender, Listener, Table}
 use Rattle.bus_filter.specs.Received.{Taker, matches, selection, received_line, string_lines, entry_lines, is_heard, received_by, sender_taker, listener_taker}
 use Rattle.bus_filter.specs.ReceivedTexts.{word_text, line_text, taker_text, received_text}
-use Rattle.bus_filter.specs.Putting.{string_put, entry_put, marked_put, sender_put, listener_put}
-use Rattle.bus_filter.proofs.Folds.{flat_map-same, flat_map-map, flat_map-flat_map, flat_map-passing}
+use Rattle.bus_filter.specs.inside.Putting.{string_put, entry_put, marked_put, clear_put, sender_put, listener_put, IsSpotless}
+use Rattle.bus_strings.proofs.ListLaws.{flat_map-same, flat_map-map}
+use Rattle.bus_strings.proofs.MarkLaws.{length-marks}
+use Rattle.bus_filter.proofs.Folds.{flat_map-flat_map, flat_map-passing}
 
 -- an RX line by its parts
 abbrev pub parts : ℕ → List ℕ → ℕ → List ℕ → List ℕ
@@ -40,6 +45,48 @@ list_is list taker =
     flat_map-same (marked_put taker) (λ (m : Entry × Bool). cond (is_heard taker.number m) (flat_map line_text (entry_lines taker.takes m.0)) []) pairs (marked_is taker)
     ∙ flat_map-passing (is_heard taker.number) (λ (x : Entry). flat_map line_text (entry_lines taker.takes x)) (λ (m : Entry × Bool). m.0) pairs
     ∙ sym (flat_map-flat_map line_text (entry_lines taker.takes) (map (λ (m : Entry × Bool). m.0) (filter (is_heard taker.number) pairs)))
+
+-- ---- what needs no walk, and what needs no marks
+no_lines : (moment : ℕ) (strings : List Wordstring) → flat_map (string_put [] moment) strings ≡ []
+no_lines moment [] = refl
+no_lines moment (string ∷ strings) = no_lines moment strings
+
+nothing_if : (b : Bool) (t : List ℕ) → t ≡ [] → cond b t [] ≡ []
+nothing_if true t e = e
+nothing_if false t e = refl
+
+pub takes_nothing : (taker : Taker) (pairs : List (Entry × Bool)) → taker.takes ≡ [] → flat_map (marked_put taker) pairs ≡ []
+takes_nothing taker [] e = refl
+takes_nothing taker (marked ∷ pairs) e =
+    let own : marked_put taker marked ≡ [] = nothing_if (is_heard taker.number marked) (entry_put taker.takes marked.0)
+    (ap (λ takes. entry_put takes marked.0) e ∙ no_lines marked.0.moment marked.0.message) in
+    ap (λ t. t ++ flat_map (marked_put taker) pairs) own ∙ takes_nothing taker pairs e
+
+all_false : (xs : List Entry) (ms : List Bool) → length ms ≡ length xs → list_any (λ garbled. garbled) ms ≡ false → zip xs ms ≡ map (λ x. (x, false)) xs
+all_false [] ms l e = refl
+all_false (x ∷ xs) [] l e = absurd (omega (arith, l))
+all_false (x ∷ xs) (false ∷ ms) l e = ap (λ t. (x, false) ∷ t) (all_false xs ms (omega (arith, l)) e)
+all_false (x ∷ xs) (true ∷ ms) l e = absurd cc
+
+-- one mark more that isn't set
+pub none_more : (list : List Entry) (i : ℕ) → i < length list → list_any (λ garbled. garbled) (take i (marks list)) ≡ false → garbled list i ≡ false
+    → list_any (λ garbled. garbled) (take (i + 1) (marks list)) ≡ false
+none_more list i within none e =
+    list_any_more (λ (b : Bool). b) (marks list) i false (omega (arith, within, length-marks list))
+    ∙ ap (λ b. b || get_or (marks list) i false) none
+    ∙ get_or-map-range_with_len (garbled list) 0 (length list) i i false within (omega arith) ∙ e
+
+pub marks_whole : (list : List Entry) (i : ℕ) → length list ≤ i → length (marks list) ≤ i
+marks_whole list i h = omega (arith, h, length-marks list)
+
+pub empty : {X : Type 0} (xs : List X) (b : Bool) → b ≡ (length xs == 0) → b ≡ true → xs ≡ []
+empty [] b e t = refl
+empty (x ∷ xs) b e t = absurd (let w : length (x ∷ xs) ≡ 0 = eqb-true (length (x ∷ xs)) 0 (sym e ∙ t) in omega (arith, w))
+
+pub spotless_put : (taker : Taker) (list : List Entry) → IsSpotless list → flat_map (clear_put taker) list ≡ flat_map (marked_put taker) (zip list (marks list))
+spotless_put taker list e =
+    sym (flat_map-map (marked_put taker) (λ (x : Entry). (x, false)) list)
+    ∙ ap (flat_map (marked_put taker)) (sym (all_false list (marks list) (length-marks list) e))
 
 -- the terminals are put in two parts
 pub takers_put : (table : Table) (list : List Entry) (senders : List Sender) (listeners : List Listener) → senders ≡ table.senders → listeners ≡ table.listeners

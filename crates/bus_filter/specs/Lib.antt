@@ -1,5 +1,5 @@
 pub mod Received
 pub mod ReceivedTexts
-pub mod Putting
 pub mod Hearing
 pub mod FilterLaws
+pub mod inside

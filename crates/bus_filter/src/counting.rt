@@ -6,7 +6,7 @@ ghost use Rattle.bus_strings.specs.Transmissions.{IsByMoment, marks};
 ghost use Rattle.bus_table.specs.Ranges.{most_takes};
 ghost use Rattle.bus_filter.specs.Received.{Taker};
 ghost use Rattle.bus_filter.specs.ReceivedTexts.{received_count};
-ghost use Rattle.bus_filter.specs.Putting.{string_count, marked_count, taker_count, sender_count, listener_count};
+ghost use Rattle.bus_filter.specs.inside.Putting.{string_count, marked_count, taker_count, sender_count, listener_count};
 
 use crate::matching::matches;
 use bus_strings::{Marks, Transmission, Wordstring};

@@ -12,7 +12,7 @@ use Rattle.bus_table.specs.Tables.{Sender, Table, Hand}
 use Rattle.bus_table.specs.Fits.{fits}
 use Rattle.bus_table.specs.Hands.{are_hands}
 use Rattle.bus_table.specs.Valid.{is_valid}
-use Rattle.bus_table.specs.Facts.{FitsMode, SenderFacts, TableFacts}
+use Rattle.bus_table.specs.inside.Facts.{FitsMode, SenderFacts, TableFacts}
 use Rattle.bus_table.proofs.ValidLaws.{valid_facts}
 use Rattle.bus_medium.specs.Lawful.{Station, HaveOwnNumbers}
 use Rattle.bus_medium.specs.Timings.{greatest_gap, quiet_for, due_for, timing_of, stations_of}

@@ -6,7 +6,7 @@ use Rattle.std.proofs.lemmas.Bool.{true≢false}
 use Rattle.std.proofs.lemmas.List.{length-map}
 use Rattle.bus_table.specs.Tables.{Sender, Table}
 use Rattle.bus_table.specs.Valid.{is_valid}
-use Rattle.bus_table.specs.Facts.{SenderFacts}
+use Rattle.bus_table.specs.inside.Facts.{SenderFacts}
 use Rattle.bus_table.proofs.ValidLaws.{valid_facts}
 use Rattle.bus_medium.specs.Orders.{AreNumbers, AreDistinct}
 

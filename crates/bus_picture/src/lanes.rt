@@ -1,6 +1,6 @@
 //! What stands behind, beside and in the lanes.
 ghost use Rattle.std.specs.Prelude.{◌≡◌, ◌<◌, ◌≤◌, ◌++◌, [], codes, decimal, length};
-ghost use Rattle.std.specs.Option.{option_copied, option_map_or};
+ghost use Rattle.std.specs.Option.{option_map_or};
 ghost use Rattle.bus_outer.specs.Texts.{Adds};
 ghost use Rattle.bus_shapes.specs.Scales.{IsScale};
 ghost use Rattle.bus_picture.specs.TimeLines as definition;
@@ -10,7 +10,7 @@ use bus_audit::{AuditAnswer, put_answer};
 use bus_dump::Lane;
 use bus_outer::{Sink, TextBuffer};
 use bus_shapes::{Area, Class, Scale, begin_words, end_words, put_box};
-use bus_table::{Mode, Sender, Table};
+use bus_table::{Mode, Sender, Table, sender_of};
 
 /// The upper edge of lane `k`.
 pub(crate) fn lane_top(k: usize) -> u64
@@ -84,16 +84,6 @@ fn put_terminal<K: Sink>(text: &mut TextBuffer, sink: &mut K, top: u64, terminal
     end_words(text, sink);
 }
 
-/// The sender with this number.
-pub(crate) fn sender_of(table: &Table, terminal: u8) -> Option<&Sender>
-    ensures { option_copied result ≡ definition.sender_of table.now terminal }
-{
-    table
-        .senders()
-        .iter()
-        .find(|sender| sender.number() == terminal)
-}
-
 /// The timers of the sender with this number, where there is one.
 fn put_sender_of<K: Sink>(
     text: &mut TextBuffer,
@@ -107,7 +97,7 @@ fn put_sender_of<K: Sink>(
         (option_map_or (definition.sender_text table.now.mode top) (definition.sender_of table.now terminal) []) }
 {
     let mode = table.mode();
-    if let Some(sender) = sender_of(table, terminal) {
+    if let Some(sender) = sender_of(table.senders(), terminal) {
         put_sender(text, sink, mode, top, sender);
     }
 }

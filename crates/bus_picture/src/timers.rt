@@ -6,14 +6,14 @@ ghost use Rattle.bus_shapes.specs.Scales.{IsScale};
 ghost use Rattle.bus_picture.specs.Timers as definition;
 ghost use Rattle.bus_picture.specs.TimeLines as whole;
 
-use crate::lanes::{lane_top, sender_of};
+use crate::lanes::lane_top;
 use crate::measures::PLOT_TOP;
 use bus_dump::Lane;
 use bus_outer::{Sink, TextBuffer};
 use bus_shapes::{Area, Class, Scale, Sent, Sents, begin_words, end_words, put_box};
 use bus_strings::laws::neighbours_tell;
 use bus_strings::Transmission;
-use bus_table::Table;
+use bus_table::{Table, sender_of};
 use bus_trace::Trace;
 
 /// Whether timers are drawn.
@@ -299,7 +299,7 @@ fn put_lane_timers<K: Sink>(
 {
     let ti = table.ti();
     let top = lane_top(k);
-    if let Some(sender) = sender_of(table, lane.terminal) {
+    if let Some(sender) = sender_of(table.senders(), lane.terminal) {
         let tg = sender.tg();
         put_sender_timers(text, sink, scale, list, ti, k, top, lane.terminal, tg);
     }

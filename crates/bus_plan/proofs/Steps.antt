@@ -5,11 +5,11 @@ use Rattle.std.proofs.Common.{inl, inr, arith, sym, refl, ap, ◌∙◌, subst}
 use Rattle.std.proofs.lemmas.List.{take_more, take_all}
 use Rattle.bus_strings.specs.Members.{In}
 use Rattle.bus_table.specs.Tables.{Sender, Table}
-use Rattle.bus_table.specs.Facts.{SenderFacts, TableFacts}
+use Rattle.bus_table.specs.inside.Facts.{SenderFacts, TableFacts}
 use Rattle.bus_table.proofs.TurnLaws.{of_each, numbers_differ, gaps_differ}
-use Rattle.bus_plan.specs.Greatest.{greatest_tg, second_tg}
+use Rattle.bus_plan.specs.inside.Greatest.{greatest_tg, second_tg}
 use Rattle.bus_plan.specs.Plans.{planned_offsets}
-use Rattle.bus_plan.specs.Walks.{offset_for, end_after, walk, walk_end, longest_with, gap_between}
+use Rattle.bus_plan.specs.inside.Walks.{offset_for, end_after, walk, walk_end, longest_with, gap_between}
 use Rattle.bus_plan.proofs.Walking.{offsets_walk, walk_push, walk_end_push}
 
 greatest_at_most : (n : ℕ) (senders : List Sender) → ((s : Sender) → In s senders → s.tg ≤ n)

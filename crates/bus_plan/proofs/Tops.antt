@@ -6,11 +6,11 @@ use Rattle.std.proofs.lemmas.Bool.Decides.{nat_tests}
 use Rattle.std.proofs.lemmas.List.{take_more}
 use Rattle.bus_strings.specs.Members.{In}
 use Rattle.bus_table.specs.Tables.{Sender, Table}
-use Rattle.bus_table.specs.Facts.{SenderFacts, TableFacts}
+use Rattle.bus_table.specs.inside.Facts.{SenderFacts, TableFacts}
 use Rattle.bus_table.proofs.TurnLaws.{of_each}
 use Rattle.std.specs.List.{sum_by}
 use Rattle.bus_plan.specs.Plans.{turn_time, lead, greatest_first, second_greatest, planned_order, sync_time, least_interval}
-use Rattle.bus_plan.specs.Greatest.{greatest_tg, second_tg}
+use Rattle.bus_plan.specs.inside.Greatest.{greatest_tg, second_tg}
 
 -- ---- one more sender behind
 greatest_push : (xs : List Sender) (y : Sender) → greatest_tg (xs ++ y ∷ []) ≡ max (greatest_tg xs) y.tg

@@ -6,7 +6,7 @@ use Rattle.bus_strings.specs.Members.{In}
 use Rattle.bus_table.specs.declared.mode.Mode.{Mode}
 use Rattle.bus_table.specs.declared.mode.Mode.TheVariants.{Periodic}
 use Rattle.bus_table.specs.Tables.{Sender, Table}
-use Rattle.bus_table.specs.Facts.{SenderFacts, TableFacts}
+use Rattle.bus_table.specs.inside.Facts.{SenderFacts, TableFacts}
 use Rattle.bus_table.specs.Turns.{sort, turn_key, turn_order, Rises}
 use Rattle.bus_table.proofs.TurnLaws.{of_each, from_sort, in_sort, numbers_differ, order_rises}
 use Rattle.bus_regime.specs.Verdicts.{verdict_of, is_accepted}

@@ -10,8 +10,8 @@ use Rattle.bus_table.specs.Lengths.{longest}
 use Rattle.bus_table.specs.Turns.{Differ}
 use Rattle.bus_table.specs.Offsets.{at_offset}
 use Rattle.bus_plan.specs.Plans.{lead, greatest_first, second_greatest, planned_order, behind, second_gap, planned, offset_in}
-use Rattle.bus_plan.specs.Greatest.{greatest_tg, second_tg}
-use Rattle.bus_plan.specs.Walks.{offset_for, end_after, walk, walk_end, longest_with, gap_between}
+use Rattle.bus_plan.specs.inside.Greatest.{greatest_tg, second_tg}
+use Rattle.bus_plan.specs.inside.Walks.{offset_for, end_after, walk, walk_end, longest_with, gap_between}
 use Rattle.bus_plan.proofs.Orders.{in_greatest, from_greatest}
 use Rattle.bus_plan.proofs.Members.{differ_greatest}
 use Rattle.bus_plan.proofs.Planned.{placed, planned_is}

@@ -1,5 +1,4 @@
 pub mod Plans
 pub mod Answers
 pub mod Laws
-pub mod Greatest
-pub mod Walks
+pub mod inside

@@ -2,7 +2,7 @@
 ghost use Rattle.std.specs.Prelude.{◌≡◌, ◌+◌, ◌-◌, ◌*◌, ◌^◌, ◌≤◌, nat_le, max, min, if◌then◌else◌};
 ghost use Rattle.std.specs.List.{sum_by};
 ghost use Rattle.bus_table.specs.declared.mode.Mode.TheVariants.{Periodic};
-ghost use Rattle.bus_plan.specs.Greatest.{greatest_tg, second_tg};
+ghost use Rattle.bus_plan.specs.inside.Greatest.{greatest_tg, second_tg};
 ghost use Rattle.bus_plan.specs.Plans as plans;
 
 use bus_table::{Sender, Table, longest};

@@ -3,7 +3,7 @@ ghost use Rattle.std.specs.Prelude.{◌≡◌, ◌+◌, ◌<◌, ◌≤◌, ◌^
 ghost use Rattle.bus_table.specs.Lengths as lengths;
 ghost use Rattle.bus_table.specs.declared.mode.Mode.TheVariants.{Periodic};
 ghost use Rattle.bus_plan.specs.Plans.{planned_offsets};
-ghost use Rattle.bus_plan.specs.Walks as walks;
+ghost use Rattle.bus_plan.specs.inside.Walks as walks;
 
 use crate::interval::greatest_gaps;
 use bus_table::{Sender, Table, longest};

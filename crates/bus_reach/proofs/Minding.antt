@@ -16,7 +16,7 @@ use Rattle.bus_strings.specs.Messages.{Message, Entry, bits}
 use Rattle.bus_strings.specs.Transmissions.{carrier, end_of}
 use Rattle.bus_table.specs.declared.mode.Mode.TheVariants.{Aperiodic}
 use Rattle.bus_table.specs.Tables.{Sender, Table}
-use Rattle.bus_table.specs.Facts.{TableFacts}
+use Rattle.bus_table.specs.inside.Facts.{TableFacts}
 use Rattle.bus_table.specs.Fits.{fits}
 use Rattle.bus_table.specs.Lengths.{shortest, longest}
 use Rattle.bus_table.proofs.TurnLaws.{numbers_differ}

@@ -6,7 +6,7 @@ use Rattle.std.proofs.lemmas.Bool.{and_parts, eq-eqb, ne_eqb, leb-true, ltb-true
 use Rattle.bus_strings.specs.Members.{In}
 use Rattle.bus_strings.specs.Messages.{Entry}
 use Rattle.bus_table.specs.Tables.{Sender, Table}
-use Rattle.bus_table.specs.Facts.{SenderFacts, TableFacts}
+use Rattle.bus_table.specs.inside.Facts.{SenderFacts, TableFacts}
 use Rattle.bus_table.specs.Turns.{turn_key, turn_order}
 use Rattle.bus_table.proofs.TurnLaws.{of_each, length-sort}
 use Rattle.bus_medium.specs.Delays.{Delays, AreDelays}

@@ -5,7 +5,7 @@ use Rattle.std.specs.List.{list_all}
 use Rattle.std.proofs.lemmas.Bool.{ne_eqb}
 use Rattle.std.proofs.lemmas.Option.{slice_get_read}
 use Rattle.bus_table.specs.Tables.{Sender, Table}
-use Rattle.bus_table.specs.Facts.{SenderFacts, TableFacts}
+use Rattle.bus_table.specs.inside.Facts.{SenderFacts, TableFacts}
 use Rattle.bus_table.proofs.TurnLaws.{of_each, at_in}
 use Rattle.bus_reach.specs.Tolerance.{leaves_room, lengths_bear}
 use Rattle.bus_reach.proofs.RoomLemmas.{IsRoom}

@@ -11,7 +11,7 @@ use Rattle.bus_strings.specs.Limits.{most_strings}
 use Rattle.bus_strings.proofs.MemberLaws.{of_each, from_map, in_append_cases}
 use Rattle.bus_strings.specs.Members.{In}
 use Rattle.bus_table.specs.declared.mode.Mode.{Mode}
-use Rattle.bus_table.specs.Facts.{SenderFacts, TableFacts}
+use Rattle.bus_table.specs.inside.Facts.{SenderFacts, TableFacts}
 use Rattle.bus_table.specs.Filling.{filling_strings, filling_item, filling_message}
 use Rattle.bus_table.proofs.FillingLaws.{filling_shape, filling_is_item}
 use Rattle.bus_table.specs.Fits.{sender_of, shape_fit, item_fit, fit_from, items_fit}

@@ -1,15 +1,9 @@
 -- The words of a verdict, and its line.
 use Rattle.std.specs.Prelude.{ℕ, List, [], ◌∷◌, ◌++◌, codes}
 use Rattle.std.specs.Fmt.{decimal, signed_decimal}
-use Rattle.bus_table.specs.declared.mode.Mode.{Mode}
-use Rattle.bus_table.specs.declared.mode.Mode.TheVariants.{Aperiodic, Periodic}
+pub use Rattle.bus_table.specs.Text.{mode_word as mode_name}
 use Rattle.bus_regime.specs.declared.table_verdict.TableVerdict.{TableVerdict}
 use Rattle.bus_regime.specs.declared.table_verdict.TableVerdict.TheVariants.{Accept, ShortCycle, SmallGap, NoSync}
-
--- the word of a mode
-abbrev pub mode_name : Mode → List ℕ
-mode_name Aperiodic = codes "aperiodic"
-mode_name Periodic = codes "periodic"
 
 -- a refusal that names a terminal, its gap and what the gap should be
 abbrev pub gap_words : List ℕ → ℕ → List ℕ → ℕ → List ℕ

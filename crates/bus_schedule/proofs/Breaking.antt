@@ -11,7 +11,7 @@ use Rattle.bus_strings.proofs.MemberLaws.{of_each, in_append_cases, in_append_le
 use Rattle.bus_strings.specs.Messages.{Message, Entry, bits}
 use Rattle.bus_strings.specs.Transmissions.{carrier, overlaps}
 use Rattle.bus_table.specs.declared.mode.Mode.TheVariants.{Periodic}
-use Rattle.bus_table.specs.Facts.{SenderFacts}
+use Rattle.bus_table.specs.inside.Facts.{SenderFacts}
 use Rattle.bus_table.specs.Tables.{Sender, Table}
 use Rattle.bus_table.specs.Filling.{filling_bits}
 use Rattle.bus_table.specs.Lengths.{longest}

@@ -5,7 +5,7 @@ use Rattle.bus_timers.specs.Timings.{IsSound}
 use Rattle.bus_strings.specs.Members.{In}
 use Rattle.bus_strings.specs.Messages.{Message}
 use Rattle.bus_table.specs.Tables.{Sender, Table}
-use Rattle.bus_table.specs.Facts.{TableFacts}
+use Rattle.bus_table.specs.inside.Facts.{TableFacts}
 use Rattle.bus_table.specs.Fits.{fits}
 use Rattle.bus_medium.specs.Lawful.{HaveOwnNumbers}
 use Rattle.bus_medium.specs.Timings.{timing_of}

@@ -10,7 +10,7 @@ use Rattle.bus_strings.specs.Messages.{Message, Entry, IsWordstring, IsMessage, 
 use Rattle.bus_strings.specs.Transmissions.{end_of}
 use Rattle.bus_table.specs.declared.mode.Mode.{Mode}
 use Rattle.bus_table.specs.declared.mode.Mode.TheVariants.{Aperiodic, Periodic}
-use Rattle.bus_table.specs.Facts.{SenderFacts, TableFacts}
+use Rattle.bus_table.specs.inside.Facts.{SenderFacts, TableFacts}
 use Rattle.bus_table.specs.Filling.{filling_message}
 use Rattle.bus_table.proofs.FillingLaws.{filling_is_message}
 use Rattle.bus_table.specs.Tables.{Sender, Table}

@@ -9,7 +9,7 @@ use Rattle.bus_strings.specs.Messages.{Message, Entry, bits}
 use Rattle.bus_strings.specs.Transmissions.{end_of}
 use Rattle.bus_table.specs.declared.mode.Mode.TheVariants.{Periodic}
 use Rattle.bus_table.specs.Tables.{Sender, Table}
-use Rattle.bus_table.specs.Facts.{FitsMode, SenderFacts}
+use Rattle.bus_table.specs.inside.Facts.{FitsMode, SenderFacts}
 use Rattle.bus_table.specs.Lengths.{longest}
 use Rattle.bus_table.specs.Turns.{Differ, Rises, turn_key, turn_order}
 use Rattle.bus_table.proofs.TurnLaws.{of_each, from_sort, in_sort, order_rises, numbers_differ}

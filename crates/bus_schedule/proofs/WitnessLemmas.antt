@@ -11,7 +11,7 @@ use Rattle.bus_strings.specs.Members.{In}
 use Rattle.bus_strings.specs.Messages.{Message, bits}
 use Rattle.bus_table.specs.declared.mode.Mode.{Mode}
 use Rattle.bus_table.specs.declared.mode.Mode.TheVariants.{Aperiodic, Periodic}
-use Rattle.bus_table.specs.Facts.{TableFacts}
+use Rattle.bus_table.specs.inside.Facts.{TableFacts}
 use Rattle.bus_table.specs.Filling.{filling_message, filling_bits}
 use Rattle.bus_table.proofs.FillingLaws.{filling_length}
 use Rattle.bus_table.specs.Fits.{items_fit}

@@ -1,7 +1,7 @@
 -- What a run of an accepted table and even hands is.
 use Rattle.std.specs.Prelude.{◌≡◌, ℕ, ◌+◌, ◌*◌, ◌<◌, ◌≤◌, false, List, length, slice_get, Some}
 use Rattle.bus_strings.specs.Messages.{Entry}
-use Rattle.bus_strings.specs.Transmissions.{overlaps, IsOrdered}
+pub use Rattle.bus_strings.specs.Transmissions.{IsClear}
 use Rattle.bus_table.specs.declared.mode.Mode.{Mode}
 use Rattle.bus_table.specs.Tables.{Sender, Table, Hand}
 use Rattle.bus_table.specs.Turns.{turn_order}
@@ -13,10 +13,6 @@ use Rattle.bus_regime.specs.declared.table_verdict.TableVerdict.TheVariants.{Acc
 use Rattle.bus_regime.specs.Verdicts.{verdict_of}
 use Rattle.bus_schedule.specs.Even.{messages_of, rounds}
 use Rattle.bus_schedule.specs.Closed.{closed, closed_end}
-
--- no two transmissions of the list overlap, inner quiet included
-abbrev pub IsClear : List Entry → Type 0
-IsClear list = IsOrdered (λ x y. overlaps x y ≡ false) list
 
 -- the transmission at this place of the list is message `round` of the sender
 pub record HasTurn (hands : List Hand) (list : List Entry) (place round : ℕ) (sender : Sender) : Type 0 where

@@ -31,7 +31,6 @@ mod schedule;
 #[cfg(test)]
 mod tests;
 mod uneven;
-mod valid;
 
 pub use end::closed_end;
 pub use error::{LONGEST_END, ScheduleError};

@@ -18,8 +18,8 @@ use crate::end::limited_end;
 use crate::error::ScheduleError;
 use crate::laws::{closed_is_orderly, verdicts_are_exact, witnesses_have_schedules};
 use crate::order::turn_places;
-use crate::valid::table_is_valid;
 use bus_strings::{Message, Transmission, copy_message};
+use bus_table::laws::table_is_valid;
 use bus_table::{Hand, Mode, Sender, Table};
 use std::alloc::{AllocError, Global};
 

@@ -15,57 +15,12 @@ use Rattle.std.proofs.Math.ListN.{drop_of_length-le}
 use Rattle.bus_strings.specs.Marking.{greatest_end}
 use Rattle.bus_strings.specs.Messages.{Entry}
 use Rattle.bus_strings.specs.Transmissions.{end_of, garbled, marks}
+use Rattle.bus_strings.proofs.CountLaws.{counted}
+use Rattle.bus_strings.proofs.MarkLaws.{next_mark}
 use Rattle.bus_shapes.specs.Sayings.{Sent}
 use Rattle.bus_shapes.specs.Sending.{IsTelling, is_of, sent_of, sents_from}
 
--- ---- the next mark
-left_mark : (list : List Entry) (i : ℕ) → i < length list → drop i (marks list) ≡ garbled list i ∷ drop (suc i) (marks list)
-left_mark list i h =
-    drop-cons (marks list) i false (omega (arith, length-map-range_with_len (garbled list) 0 (length list)))
-    ∙ ap (λ b. b ∷ drop (suc i) (marks list)) (get_or-map-range_with_len (garbled list) 0 (length list) i i false h (omega arith))
-
-is_true : (b : Bool) → beq b true ≡ b
-is_true true = refl
-is_true false = refl
-
-next_by : (list : List Entry) (i : ℕ) (old new : List Bool) (r : Option Bool) → i < length list → old ≡ drop i (marks list)
-    → YieldsFirst (λ (s : List Bool). s) old r new → (option_eq beq r (Some true) ≡ garbled list i) × (new ≡ drop (suc i) (marks list))
-next_by list i old new None h o y = absurd (let w : [] ≡ garbled list i ∷ drop (suc i) (marks list) = sym y.0 ∙ o ∙ left_mark list i h in cc)
-next_by list i old new (Some m) h o y =
-    let w : m ∷ new ≡ garbled list i ∷ drop (suc i) (marks list) = sym y ∙ o ∙ left_mark list i h in
-    let m_is : m ≡ garbled list i = cc in
-    let new_is : new ≡ drop (suc i) (marks list) = cc in
-    (is_true m ∙ m_is, new_is)
-
-next_mark : (list : List Entry) (i : ℕ) (old new : List Bool) (r : Option Bool) (b : Bool) → i < length list → old ≡ drop i (marks list)
-    → YieldsFirst (λ (s : List Bool). s) old r new → b ≡ option_eq beq r (Some true) → (b ≡ garbled list i) × (new ≡ drop (i + 1) (marks list))
-next_mark list i old new r b h o y e =
-    let n = next_by list i old new r h o y in
-    let one : i + 1 ≡ suc i = omega arith in
-    (e ∙ n.0, n.1 ∙ ap (λ k. drop k (marks list)) (sym one))
-
 -- ---- what is kept
--- How many of each terminal there are, with one entry more.
-counted : (list : List Entry) (counts : List ℕ) (i terminal : ℕ) (x : Entry) → length counts ≡ 129 → terminal ≤ 128 → slice_get list i ≡ Some x → x.terminal ≡ terminal
-    → ((n : ℕ) → n ≤ 128 → get_or counts n 0 ≡ count_by (is_of n) (take i list))
-    → (n : ℕ) → n ≤ 128 → get_or (set counts terminal (get_or counts terminal 0 + 1)) n 0 ≡ count_by (is_of n) (take (i + 1) list)
-counted list counts i terminal x long low at own old n h =
-    let within : i < length list = slice_get_within list i x at in
-    let is : get_or list i x ≡ x = get_or_from_slice_get list i x x at in
-    elim (cases_eq n terminal) [
-      | inl same ↦
-          let fits : terminal < length counts = omega arith in
-          let yes : is_of n (get_or list i x) ≡ true = ap (is_of n) is ∙ eq-eqb x.terminal n (own ∙ sym same) in
-          ap (λ k. get_or (set counts terminal (get_or counts terminal 0 + 1)) k 0) same
-          ∙ get_or-set_same counts terminal (get_or counts terminal 0 + 1) 0 fits
-          ∙ ap (λ k. get_or counts k 0 + 1) (sym same)
-          ∙ ap (λ k. k + 1) (old n h)
-          ∙ sym (count_by_more_yes (is_of n) list i x within yes)
-      | inr other ↦
-          let no : is_of n (get_or list i x) ≡ false = ap (is_of n) is ∙ ne_eqb x.terminal n (λ e. other (sym e ∙ own)) in
-          get_or-set_other counts terminal n (get_or counts terminal 0 + 1) 0 other ∙ old n h ∙ sym (count_by_more_no (is_of n) list i x within no)
-    ]
-
 -- The greatest end, with one entry more.
 greatest_more : (list : List Entry) (k : ℕ) (x : Entry) → slice_get list k ≡ Some x → greatest_end (take (k + 1) list) ≡ max (greatest_end (take k list)) (end_of x)
 greatest_more list k x at =

@@ -84,10 +84,7 @@ fn put_title<K: Sink>(
 fn put_mode<K: Sink>(text: &mut TextBuffer, sink: &mut K, mode: Mode)
     ensures { Adds K.held K.faults sink.old sink.new text.old text.new (mode_name mode) }
 {
-    match mode {
-        Mode::Aperiodic => text.put(sink, b"aperiodic"),
-        Mode::Periodic => text.put(sink, b"periodic"),
-    }
+    text.put(sink, mode.word().as_bytes());
 }
 
 /// The ending of a name of something of which there are so many.

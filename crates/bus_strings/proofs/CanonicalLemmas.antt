@@ -16,7 +16,7 @@ use Rattle.bus_text.proofs.NumberLaws.{decimal_is, decimal_field}
 use Rattle.bus_strings.specs.Items.{Item, IsItem}
 use Rattle.bus_strings.specs.Canonical.{string_fields, item_fields, header_fields, messages_text}
 use Rattle.bus_strings.specs.Grammar.{AreWords, AreStrings, IsItemLine, AreItemLines, AreMessageLines, IsMessagesText}
-use Rattle.bus_strings.specs.Puts.{string_bytes, item_bytes, messages_bytes}
+use Rattle.bus_strings.specs.inside.Puts.{string_bytes, item_bytes, messages_bytes}
 
 -- ---- what is put
 strings_put : (strings : List (List ℕ)) → flat_map (λ field. 32 ∷ field) (flat_map string_fields strings) ≡ flat_map string_bytes strings

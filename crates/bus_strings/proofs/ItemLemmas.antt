@@ -6,7 +6,7 @@ use Rattle.std.specs.Int.{is_in_range as is_between}
 use Rattle.std.proofs.lemmas.Bool.{and_parts}
 use Rattle.std.proofs.lemmas.Bool.Decides.{nat_tests}
 use Rattle.bus_text.specs.Fields.{is_at}
-use Rattle.bus_text.specs.Gives.{LineFails}
+use Rattle.bus_text.specs.inside.Gives.{LineFails}
 use Rattle.bus_text.specs.Numbers.{is_plain_decimal, decimal_value, is_hexadecimal}
 use Rattle.bus_text.proofs.NumberLaws.{is_in_range-min, hexadecimal_value-lt}
 use Rattle.bus_text.specs.Refusals.{first_of, unless}
@@ -57,7 +57,7 @@ ok_if false x y r h = absurd cc
 spelled : (fields : List (List ℕ)) (b : Bool) → is_plain_decimal (number_of fields) ≡ true → are_spelled (drop 3 fields) ≡ b → (is_plain_decimal (number_of fields) && are_spelled (drop 3 fields)) ≡ b
 spelled fields b p q = ap (λ x. x && are_spelled (drop 3 fields)) p ∙ q
 
-pub words_refused : (fields : List (List ℕ)) (terminal : ℕ) (e : LineFault) → HasFront fields terminal → LineFails e (cond (are_spelled (drop 3 fields)) (Ok (strings_of (drop 3 fields))) (Err Spelling)) → LineFails e (item_reading fields)
+pub words_refused : (fields : List (List ℕ)) (terminal : ℕ) (e : LineFault Reason) → HasFront fields terminal → LineFails e (cond (are_spelled (drop 3 fields)) (Ok (strings_of (drop 3 fields))) (Err Spelling)) → LineFails e (item_reading fields)
 words_refused fields terminal line.Memory f h = tt
 words_refused fields terminal (line.Refused reason) f h =
     let k = err_if (are_spelled (drop 3 fields)) (strings_of (drop 3 fields)) Spelling reason h in

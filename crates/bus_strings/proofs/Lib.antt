@@ -9,3 +9,6 @@ pub mod PulsesAlongLaws
 pub mod MessageLaws
 pub mod MemberLaws
 pub mod ListLaws
+pub mod MarkLaws
+pub mod CountLaws
+pub mod ClearLaws

@@ -15,6 +15,10 @@ of_each P [] h x i = absurd i
 of_each P (y ∷ ys) h x (inl same) = subst P (sym same) h.0
 of_each P (y ∷ ys) h x (inr i) = of_each P ys h.1 x i
 
+pub all_in : {X : Type 0} (P : X → Type 0) (xs : List X) → ((x : X) → In x xs → P x) → AllByRecursion P xs
+all_in P [] h = tt
+all_in P (x ∷ xs) h = (h x (inl refl), all_in P xs (λ y i. h y (inr i)))
+
 -- the element at a place, and the place of an element
 pub at_in : {X : Type 0} → (xs : List X) (k : ℕ) (x : X) → slice_get xs k ≡ Some x → In x xs
 at_in [] k x h = absurd (let w : None ≡ Some x = h in cc)

@@ -1,4 +1,3 @@
-pub mod Kept
 pub mod Limits
 pub mod Members
 pub mod Messages
@@ -10,6 +9,6 @@ pub mod Grammar
 pub mod Reading
 pub mod Gives
 pub mod Canonical
-pub mod Puts
 pub mod OverlapLaws
 pub mod Marking
+pub mod inside

@@ -53,3 +53,7 @@ IsByMoment list = IsOrdered (λ x y. x.moment ≤ y.moment) list
 -- strictly ordered by moment, then terminal
 abbrev pub IsAscending : List Entry → Type 0
 IsAscending list = IsOrdered Precedes list
+
+-- No two transmissions of the list overlap, inner quiet included.
+abbrev pub IsClear : List Entry → Type 0
+IsClear list = IsOrdered (λ x y. overlaps x y ≡ false) list

@@ -1,6 +1,6 @@
 ghost use Rattle.std.specs.Prelude.{◌≡◌, nat_le, length, drop, Ok, Err, IfOk, IfErr, Some, None, if◌then◌else◌};
 ghost use Rattle.std.specs.List.{list_all};
-ghost use Rattle.bus_text.specs.Gives.{LineGives};
+ghost use Rattle.bus_text.specs.inside.Gives.{LineGives};
 ghost use Rattle.bus_text.specs.Numbers.{is_hexadecimal, hexadecimal_value};
 ghost use Rattle.bus_text.specs.declared.reason.Reason.TheVariants.{Spelling};
 ghost use Rattle.bus_strings.specs.Items.{numbers, is_in_range as range_test, IsItem};

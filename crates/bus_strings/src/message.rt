@@ -1,7 +1,7 @@
 ghost use Rattle.std.specs.Prelude.{◌≡◌, ◌<◌, ◌≤◌, ◌↔◌, IsSome, IsNone, [], ◌∷◌, ◌++◌, IfSome, IfOk, OnOk, OnErr, length, vec_len};
 ghost use Rattle.bus_strings.specs.Limits.{most_strings};
 ghost use Rattle.bus_strings.specs.Messages.{IsMessage, bits as bits_in};
-ghost use Rattle.bus_strings.specs.Kept.{kept_message, AreKept};
+ghost use Rattle.bus_strings.specs.inside.Kept.{kept_message, AreKept};
 
 use crate::limits::{INNER_GAP, MOST_STRINGS, WORD_BITS};
 use crate::pulses::bits_of;
@@ -28,7 +28,7 @@ impl Model for Message {
 
     ghost Value = { messages.Message };
 
-    ghost use Rattle.bus_strings.specs.Kept.{kept_message, AreKept};
+    ghost use Rattle.bus_strings.specs.inside.Kept.{kept_message, AreKept};
 
     ghost view = { λ m. kept_message m.strings };
 

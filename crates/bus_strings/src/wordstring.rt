@@ -39,7 +39,7 @@ impl Model for Wordstring {
 
     ghost Value = { messages.Wordstring };
 
-    ghost use Rattle.bus_strings.specs.Kept.{kept_string, IsKept};
+    ghost use Rattle.bus_strings.specs.inside.Kept.{kept_string, IsKept};
 
     ghost view = { λ s. kept_string s.kept };
 

@@ -5,7 +5,7 @@ ghost use Rattle.bus_outer.specs.Texts.{Adds};
 ghost use Rattle.bus_strings.specs.Items.{numbers};
 ghost use Rattle.bus_strings.specs.Grammar.{IsMessagesText};
 ghost use Rattle.bus_strings.specs.Canonical.{messages_text};
-ghost use Rattle.bus_strings.specs.Puts.{word_bytes, string_bytes, item_bytes};
+ghost use Rattle.bus_strings.specs.inside.Puts.{word_bytes, string_bytes, item_bytes};
 
 use crate::payload::{Payload, Payloads};
 use bus_outer::{Sink, TextBuffer, WriteFault};

@@ -1,6 +1,6 @@
 -- The canonical text of a table is what is put, and stands for the table.
-use Rattle.std.proofs.Common.{arith, ◌≡◌, ℕ, ◌+◌, ◌<◌, ◌^◌, Bool, true, ◌&&◌, List, [], ◌∷◌, ◌++◌, length, map, take, get_or, codes, Option, Some, None, refl, sym, ap, subst}
-use Rattle.std.proofs.Common.{◌∙◌, lit<, append_assoc, append-nil, ◌%◌, ◌/◌}
+use Rattle.std.proofs.Common.{arith, ◌≡◌, ℕ, ◌+◌, ◌<◌, ◌^◌, true, List, [], ◌∷◌, ◌++◌, length, map, take, get_or, codes, Option, Some, None, refl, sym, ap, subst}
+use Rattle.std.proofs.Common.{◌∙◌, lit<, append_assoc, append-nil, ◌%◌}
 use Rattle.std.specs.Prelude.{decimal, IsTrue, Ok}
 use Rattle.std.specs.List.{flat_map, list_all, AllByRecursion}
 use Rattle.std.specs.Int.{is_in_range as is_between}
@@ -19,7 +19,7 @@ use Rattle.bus_text.proofs.NumberLaws.{decimal_is, decimal_field}
 use Rattle.bus_table.specs.declared.mode.Mode.{Mode}
 use Rattle.bus_table.specs.declared.mode.Mode.TheVariants.{Aperiodic, Periodic}
 use Rattle.bus_table.specs.Canonical.{sender_fields, send_fields, ext_field, take_fields, line_fields, table_text}
-use Rattle.bus_table.specs.Puts.{number_bytes, mode_bytes, head_bytes, send_bytes, take_bytes, opening_bytes, offset_bytes, sender_bytes, listener_bytes, table_bytes}
+use Rattle.bus_table.specs.inside.Puts.{number_bytes, mode_bytes, head_bytes, send_bytes, take_bytes, opening_bytes, offset_bytes, sender_bytes, listener_bytes, table_bytes}
 use Rattle.bus_table.specs.Ranges.{is_number, is_ti, is_sg, is_tg, is_offset, is_label, is_ext, is_send_line, is_take_line, are_send_lines, are_take_lines, is_sender, is_listener}
 use Rattle.bus_table.specs.Reading.{answer_of}
 use Rattle.bus_table.specs.Tables.{SendLine, TakeLine, Sender, Listener, Table}

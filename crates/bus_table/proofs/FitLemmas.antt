@@ -1,5 +1,5 @@
 -- Items and the lines of their senders.
-use Rattle.std.proofs.Common.{arith, ◌≡◌, ◌≢◌, ℕ, ◌+◌, ◌<◌, ◌≤◌, Bool, true, false, ◌&&◌, List, [], ◌∷◌, ◌++◌, length, get_or, drop, Option, Some, None, refl, sym, ap, ◌∙◌}
+use Rattle.std.proofs.Common.{arith, ◌≡◌, ◌≢◌, ℕ, ◌+◌, ◌<◌, ◌≤◌, Bool, true, false, ◌&&◌, ◌==◌, List, [], ◌∷◌, ◌++◌, length, get_or, drop, Option, Some, None, refl, sym, ap, ◌∙◌}
 use Rattle.std.proofs.lemmas.List.{drop_all, append-nil}
 use Rattle.std.specs.Prelude.{IfSome, nat_le}
 use Rattle.std.specs.Int.{is_in_range}
@@ -8,7 +8,7 @@ use Rattle.std.proofs.lemmas.Bool.Decides.{nat_tests}
 use Rattle.bus_table.specs.Ranges.{are_send_lines}
 use Rattle.bus_table.specs.Tables.{SendLine}
 use Rattle.bus_strings.specs.Messages.{Message}
-use Rattle.bus_table.specs.Fits.{allows, has_shape}
+use Rattle.bus_table.specs.Fits.{allows, matches, has_shape}
 use Rattle.bus_table.specs.Hands.{message_of}
 use Rattle.bus_table.proofs.WholeLemmas.{drop_at}
 
@@ -53,3 +53,20 @@ line_count sends h =
 pub some_of : {A : Type 0} (o : Option A) (found value : A) → o ≡ Some found → IfSome o (λ x. x ≡ value) → found ≡ value
 some_of None found value e h = absurd cc
 some_of (Some x) found value e h = let same : x ≡ found = cc in sym same ∙ h
+
+-- ---- messages
+-- wordstrings of another number than the lines aren't theirs
+all_false : (a b c : Bool) → (a && (b && (c && false))) ≡ false
+all_false true true true = refl
+all_false true true false = refl
+all_false true false c = refl
+all_false false b c = refl
+
+pub matches_length : (sends : List SendLine) (strings : Message) → length sends ≢ length strings → matches allows sends strings ≡ false
+matches_length [] [] h = absurd (h refl)
+matches_length [] (string ∷ strings) h = refl
+matches_length (line ∷ sends) [] h = refl
+matches_length (line ∷ sends) (string ∷ strings) h =
+    ap (λ b. string.label == line.label && (string.ext == line.ext && (allows line (length string.words) && b)))
+    (matches_length sends strings (λ e. h (omega arith)))
+    ∙ all_false (string.label == line.label) (string.ext == line.ext) (allows line (length string.words))

@@ -11,7 +11,7 @@ use Rattle.bus_table.specs.declared.mode.Mode.TheVariants.{Periodic}
 use Rattle.bus_table.specs.declared.error.WholeReason.{WholeReason}
 use Rattle.bus_table.specs.declared.error.WholeReason.TheVariants.{NumberTwice, GapTwice, GapNotShort, PairTwice, OffsetRange}
 use Rattle.bus_table.specs.Tables.{Sender, Table}
-use Rattle.bus_table.specs.Facts.{FitsMode, SenderFacts}
+use Rattle.bus_table.specs.inside.Facts.{FitsMode, SenderFacts}
 use Rattle.bus_table.proofs.ValidLaws.{or_none, is_none_is, valid_facts}
 use Rattle.bus_table.proofs.TurnLaws.{of_each}
 use Rattle.bus_table.specs.Ranges.{is_ti, is_sg, is_number, is_tg, is_offset, is_sender, is_listener}

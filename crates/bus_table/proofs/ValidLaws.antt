@@ -17,7 +17,7 @@ use Rattle.bus_table.specs.Ranges.{is_number, is_tg, is_sender, is_listener, is_
 use Rattle.bus_table.specs.Whole.{first_again, numbers, number_twice, no_sender, gap_twice, gap_not_short, pair_twice, periodic_refusal}
 use Rattle.bus_table.specs.Whole.{whole_refusal}
 use Rattle.bus_table.specs.Valid.{fits_mode, is_valid, is_in_range as table_in_range}
-use Rattle.bus_table.specs.Facts.{FitsMode, SenderFacts, TableFacts}
+use Rattle.bus_table.specs.inside.Facts.{FitsMode, SenderFacts, TableFacts}
 
 -- neither of two is there
 pub or_none : {A : Type 0} (a b : Option A) → option_or a b ≡ None → (a ≡ None) × (b ≡ None)

@@ -1,8 +1,5 @@
 -- What a call answered: what reading gives, unless memory ran out.
 use Rattle.std.specs.Prelude.{◌≡◌, ℕ, List, Some, Result, Ok, Err}
-use Rattle.bus_text.specs.declared.reason.Reason.{Reason}
-use Rattle.bus_text.specs.declared.fault.LineFault.{LineFault}
-use Rattle.bus_text.specs.Gives.{LineGives}
 use Rattle.bus_text.specs.Refusals.{Refusal}
 use Rattle.bus_table.specs.declared.error.TableError.{TableError}
 use Rattle.bus_table.specs.declared.error.TableError.TheVariants.{Text, Whole, Memory}
@@ -16,10 +13,6 @@ abbrev pub LineFails : TableError → Result Draft Refusal → Type 0
 LineFails Memory reading = Unit {0}
 LineFails (Text line reason) reading = reading ≡ Err (record { line = line; reason = reason })
 LineFails (Whole reason) reading = ⊥
-
--- a call that took the fields of a line and left a draft
-abbrev pub FieldsGive : Draft → Result (Unit {0}) LineFault → Result Draft Reason → Type 0
-FieldsGive new result reading = LineGives (λ _. new) result reading
 
 -- a call that took a line and left a draft
 abbrev pub StepGives : Draft → Result (Unit {0}) TableError → Result Draft Refusal → Type 0

@@ -3,7 +3,6 @@ pub mod Ranges
 pub mod Whole
 pub mod Valid
 pub mod Lengths
-pub mod Facts
 pub mod Fits
 pub mod Hands
 pub mod Heads
@@ -18,4 +17,4 @@ pub mod Turned
 pub mod Filling
 pub mod Offsets
 pub mod Canonical
-pub mod Puts
+pub mod inside

@@ -156,7 +156,8 @@ impl Model for Draft {
 
 impl Draft {
     ghost use Rattle.bus_text.specs.Entries.{entry};
-    ghost use Rattle.bus_table.specs.Gives.{StepGives, FieldsGive};
+    ghost use Rattle.bus_text.specs.inside.Gives.{StepGives as FieldsGive};
+    ghost use Rattle.bus_table.specs.Gives.{StepGives};
     ghost use Rattle.bus_table.specs.Reading.{step, table_of, judged};
     ghost use Rattle.bus_table.specs.Valid.{is_in_range};
 

@@ -2,7 +2,7 @@ ghost use Rattle.std.specs.Prelude.{◌≡◌, ◌<◌, ◌≤◌, ◌^◌, ◌-
 ghost use Rattle.std.specs.Int.{is_in_range};
 ghost use Rattle.std.specs.Option.{option_map_or};
 ghost use Rattle.bus_text.specs.Entries.{texts};
-ghost use Rattle.bus_text.specs.Gives.{LineGives};
+ghost use Rattle.bus_text.specs.inside.Gives.{LineGives};
 ghost use Rattle.bus_text.specs.Numbers.{is_hexadecimal, hexadecimal_value};
 ghost use Rattle.bus_text.specs.declared.reason.Reason.TheVariants.{Spelling};
 ghost use Rattle.bus_table.specs.Forms as forms;

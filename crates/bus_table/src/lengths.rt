@@ -1,3 +1,4 @@
+//! How long a sender's messages are.
 ghost use Rattle.std.specs.Prelude.{◌≡◌, ◌<◌, ◌≤◌, ◌^◌, IsTrue};
 ghost use Rattle.bus_strings.specs.Messages.{Message, bits, most_bits};
 ghost use Rattle.bus_table.specs.Fits.{is_shortest, is_longest};
@@ -5,6 +6,7 @@ ghost use Rattle.bus_table.specs.Lengths as lengths;
 
 use crate::line::SendLine;
 use crate::sender::Sender;
+use bus_strings::limits::{INNER_GAP, WORD_BITS};
 
 /// The words of a message, label words included, with the least data words on each of these lines.
 fn least_words(sends: &[SendLine]) -> u32
@@ -30,7 +32,7 @@ pub fn shortest(sender: &Sender) -> u32
     ensures bound { result ≤ most_bits }
 {
     let sends = sender.sends();
-    20 * least_words(sends) + 4 * (sends.len() as u32 - 1)
+    WORD_BITS * least_words(sends) + INNER_GAP * (sends.len() as u32 - 1)
 }
 
 /// The bit times of the sender's message with the most data words on each of its lines: at most 159,460.
@@ -41,5 +43,5 @@ pub fn longest(sender: &Sender) -> u32
     ensures bound { result ≤ most_bits }
 {
     let sends = sender.sends();
-    20 * most_words(sends) + 4 * (sends.len() as u32 - 1)
+    WORD_BITS * most_words(sends) + INNER_GAP * (sends.len() as u32 - 1)
 }

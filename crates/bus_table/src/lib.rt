@@ -43,7 +43,7 @@ mod writing;
 
 pub use dealing::{hands, place_of};
 pub use error::{TableError, WholeReason};
-pub use fit::{FitError, fits};
+pub use fit::{FitError, fits, message_fits, sender_of};
 pub use hand::Hand;
 pub use lengths::{longest, shortest};
 pub use line::{SendLine, TakeLine};

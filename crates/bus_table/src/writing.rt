@@ -3,9 +3,9 @@ ghost use Rattle.std.specs.List.{flat_map};
 ghost use Rattle.bus_outer.specs.Sinks.{WritesText};
 ghost use Rattle.bus_outer.specs.Texts.{Adds};
 ghost use Rattle.bus_table.specs.Canonical.{table_text};
-ghost use Rattle.bus_table.specs.Puts as puts;
-ghost use Rattle.bus_table.specs.Puts.{number_bytes, mode_bytes, head_bytes, label_bytes, pair_bytes, send_bytes, take_bytes};
-ghost use Rattle.bus_table.specs.Puts.{offset_bytes, opening_bytes, sender_bytes, listener_bytes};
+ghost use Rattle.bus_table.specs.inside.Puts as puts;
+ghost use Rattle.bus_table.specs.inside.Puts.{number_bytes, mode_bytes, head_bytes, label_bytes, pair_bytes, send_bytes, take_bytes};
+ghost use Rattle.bus_table.specs.inside.Puts.{offset_bytes, opening_bytes, sender_bytes, listener_bytes};
 ghost use Rattle.bus_table.specs.Reading.{answer_of};
 ghost use Rattle.bus_table.specs.Text.{IsTableText};
 

@@ -1,27 +1,44 @@
--- The table of the values of digits.
-use Rattle.std.proofs.Common.{arith, zero, suc, ◌≡◌, ℕ, ◌+◌, ◌<◌, Bool, true, ◌&&◌, ◌==◌, cond, List, [], ◌∷◌, length, get_or, ap, ◌∙◌}
+-- Tables of the values of digits.
+use Rattle.std.proofs.Common.{arith, zero, suc, ◌≡◌, ℕ, ◌+◌, ◌<◌, ◌≤◌, Bool, true, false, ◌&&◌, ◌==◌, cond, List, [], ◌∷◌, length, get_or, ap}
+use Rattle.std.proofs.Common.{refl, ◌∙◌}
 use Rattle.std.specs.Char.{is_ascii_hexdigit, digit_value}
 use Rattle.std.proofs.lemmas.Bool.{and_parts, eqb-true}
+use Rattle.bus_text.specs.Digits.{is_capital_digit}
+use Rattle.bus_text.proofs.DigitLaws.{digit_value-lt}
 
-abbrev pub value_of : ℕ → ℕ
-value_of byte = cond (is_ascii_hexdigit byte) (digit_value byte) 16
+-- The values of the two tables.
+abbrev pub hexadecimal_of : ℕ → ℕ
+hexadecimal_of byte = cond (is_ascii_hexdigit byte) (digit_value byte) 16
 
--- whether the entries are the values of the bytes from this one on
-abbrev pub agrees : ℕ → List ℕ → Bool
-agrees byte [] = true
-agrees byte (value ∷ values) = value == value_of byte && agrees (suc byte) values
+abbrev pub capital_of : ℕ → ℕ
+capital_of byte = cond (is_capital_digit byte) (digit_value byte) 61
 
-agrees_at : (byte : ℕ) (values : List ℕ) (k : ℕ) → agrees byte values ≡ true → k < length values → get_or values k 0 ≡ value_of (byte + k)
-agrees_at byte [] k h l = absurd (omega arith)
-agrees_at byte (value ∷ values) zero h l = eqb-true value (value_of byte) (and_parts (value == value_of byte) _ h).0 ∙ ap value_of (plus byte) where
-  plus : (n : ℕ) → n ≡ n + 0
-  plus n = omega arith
-agrees_at byte (value ∷ values) (suc k) h l = agrees_at (suc byte) values k (and_parts (value == value_of byte) _ h).1 (omega arith) ∙ ap value_of (plus byte k) where
-  plus : (n m : ℕ) → suc n + m ≡ n + suc m
-  plus n m = omega arith
+-- Whether the entries are the values of the bytes from this one on.
+abbrev pub agrees : (ℕ → ℕ) → ℕ → List ℕ → Bool
+agrees value_of byte [] = true
+agrees value_of byte (value ∷ values) = value == value_of byte && agrees value_of (suc byte) values
 
--- a table that agrees has each byte's value at its place
-pub values_at : (values : List ℕ) (byte : ℕ) → agrees 0 values ≡ true → length values ≡ 256 → byte < 256 → get_or values byte 0 ≡ value_of byte
-values_at values byte h all l = agrees_at 0 values byte h (omega (arith, all, l)) ∙ ap value_of (plus byte) where
+agrees_at : (value_of : ℕ → ℕ) (byte : ℕ) (values : List ℕ) (k : ℕ) → agrees value_of byte values ≡ true → k < length values
+    → get_or values k 0 ≡ value_of (byte + k)
+agrees_at value_of byte [] k h l = absurd (omega arith)
+agrees_at value_of byte (value ∷ values) zero h l =
+    eqb-true value (value_of byte) (and_parts (value == value_of byte) _ h).0 ∙ ap value_of (plus byte) where
+      plus : (n : ℕ) → n ≡ n + 0
+      plus n = omega arith
+agrees_at value_of byte (value ∷ values) (suc k) h l =
+    agrees_at value_of (suc byte) values k (and_parts (value == value_of byte) _ h).1 (omega arith) ∙ ap value_of (plus byte k) where
+      plus : (n m : ℕ) → suc n + m ≡ n + suc m
+      plus n m = omega arith
+
+-- A table that agrees has each byte's value at its place.
+pub values_at : (value_of : ℕ → ℕ) (values : List ℕ) (byte : ℕ) → agrees value_of 0 values ≡ true → length values ≡ 256 → byte < 256
+    → get_or values byte 0 ≡ value_of byte
+values_at value_of values byte h all l = agrees_at value_of 0 values byte h (omega (arith, all, l)) ∙ ap value_of (plus byte) where
   plus : (n : ℕ) → 0 + n ≡ n
   plus n = omega arith
+
+pub capital_most : (byte v : ℕ) → v ≡ capital_of byte → v ≤ 61
+capital_most byte v e = by (is_capital_digit byte) (digit_value-lt byte) e where
+  by : (t : Bool) → (t ≡ true → digit_value byte < 16) → v ≡ cond t (digit_value byte) 61 → v ≤ 61
+  by true h e = omega (arith, e, h refl)
+  by false h e = omega (arith, e)

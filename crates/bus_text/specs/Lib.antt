@@ -4,6 +4,6 @@ pub mod Entries
 pub mod Numbers
 pub mod Digits
 pub mod Refusals
-pub mod Gives
 pub mod AllOf
 pub mod Canonical
+pub mod inside

@@ -1,4 +1,5 @@
-ghost use Rattle.std.specs.Prelude.{◌≡◌, ◌<◌, IfSome, if◌then◌else◌};
+//! Hexadecimal digits: how they are written, and the value of a byte that is one.
+ghost use Rattle.std.specs.Prelude.{◌≡◌, ◌<◌, ◌≤◌, IfSome, if◌then◌else◌};
 ghost use Rattle.std.specs.Char.{is_ascii_hexdigit, digit_value};
 ghost use Rattle.bus_text.specs.Digits.{hex_digit as digit_of, is_capital_digit, hexadecimal};
 
@@ -33,11 +34,38 @@ const VALUES: [u8; 256] = [
     NO, NO, NO, NO, NO, NO, NO, NO, NO, NO, NO, NO, NO, NO,
 ];
 
+/// What [`capital_value`] has for a byte that is no digit: more than any four digits have together.
+pub const NO_CAPITAL: u8 = 61;
+
+/// The value of each byte as a hexadecimal digit in capitals.
+const CAPITALS: [u8; 256] = [
+    61, 61, 61, 61, 61, 61, 61, 61, 61, 61, 61, 61, 61, 61, 61, 61, 61, 61, 61, 61, 61, 61, 61, 61,
+    61, 61, 61, 61, 61, 61, 61, 61, 61, 61, 61, 61, 61, 61, 61, 61, 61, 61, 61, 61, 61, 61, 61, 61,
+    0, 1, 2, 3, 4, 5, 6, 7, 8, 9, 61, 61, 61, 61, 61, 61, 61, 10, 11, 12, 13, 14, 15, 61, 61, 61,
+    61, 61, 61, 61, 61, 61, 61, 61, 61, 61, 61, 61, 61, 61, 61, 61, 61, 61, 61, 61, 61, 61, 61, 61,
+    61, 61, 61, 61, 61, 61, 61, 61, 61, 61, 61, 61, 61, 61, 61, 61, 61, 61, 61, 61, 61, 61, 61, 61,
+    61, 61, 61, 61, 61, 61, 61, 61, 61, 61, 61, 61, 61, 61, 61, 61, 61, 61, 61, 61, 61, 61, 61, 61,
+    61, 61, 61, 61, 61, 61, 61, 61, 61, 61, 61, 61, 61, 61, 61, 61, 61, 61, 61, 61, 61, 61, 61, 61,
+    61, 61, 61, 61, 61, 61, 61, 61, 61, 61, 61, 61, 61, 61, 61, 61, 61, 61, 61, 61, 61, 61, 61, 61,
+    61, 61, 61, 61, 61, 61, 61, 61, 61, 61, 61, 61, 61, 61, 61, 61, 61, 61, 61, 61, 61, 61, 61, 61,
+    61, 61, 61, 61, 61, 61, 61, 61, 61, 61, 61, 61, 61, 61, 61, 61, 61, 61, 61, 61, 61, 61, 61, 61,
+    61, 61, 61, 61, 61, 61, 61, 61, 61, 61, 61, 61, 61, 61,
+];
+
 /// The value of a hexadecimal digit, in capitals or not, and 16 for any other byte.
 pub(crate) fn hex_value(byte: u8) -> u8
     ensures { result ≡ (if is_ascii_hexdigit byte then digit_value byte else 16) }
 {
     VALUES[byte as usize]
+}
+
+/// The value of a hexadecimal digit in capitals, 0 to 15, and 61 for any other byte: a sum of four is below 61 exactly where all four are
+/// digits.
+pub fn capital_value(byte: u8) -> u8
+    ensures value { result ≡ (if is_capital_digit byte then digit_value byte else 61) }
+    ensures most { result ≤ 61 }
+{
+    CAPITALS[byte as usize]
 }
 
 /// The value of a hexadecimal digit in capitals; None for any other byte.

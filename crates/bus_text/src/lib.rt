@@ -6,7 +6,8 @@
 //!
 //! - [`Lines`] goes over the lines of a text that aren't skipped, [`Fields`] over the fields of one;
 //!   [`fields`] collects them where they are asked for by place; [`first_feed`] finds the end of a line.
-//! - [`numbers`] reads plain decimals and hexadecimal digits, [`digits`] writes hexadecimal digits in capitals.
+//! - [`plain_decimal`], [`hexadecimal`] and [`capital_value`] read numbers, [`leading_digits`] those in front of a text;
+//!   [`hex_digit`], [`three_digits`] and [`four_digits`] write hexadecimal digits in capitals.
 //! - [`Reason`] says why a line is refused, [`LineFault`] why it wasn't read.
 //!
 //! The definitions are in `specs/`: `Lines` and `Fields` (what a text is cut into), `Numbers` and `Digits`,
@@ -17,6 +18,7 @@
 mod cursor;
 mod digits;
 mod fault;
+mod leading;
 mod lines;
 mod numbers;
 mod reason;
@@ -25,8 +27,9 @@ mod split;
 mod tests;
 
 pub use cursor::{Line, Lines};
-pub use digits::{capital_digit, four_digits, hex_digit, three_digits};
+pub use digits::{NO_CAPITAL, capital_digit, capital_value, four_digits, hex_digit, three_digits};
 pub use fault::LineFault;
+pub use leading::leading_digits;
 pub use lines::{field_at, fields, fields_from, first_feed, is_at, is_skipped, line_after};
 pub use numbers::{hexadecimal, plain_decimal};
 pub use reason::Reason;

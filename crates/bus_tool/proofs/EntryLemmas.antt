@@ -15,7 +15,7 @@ use Rattle.bus_strings.specs.Members.{In}
 use Rattle.bus_strings.proofs.MemberLaws.{of_each, at_in, from_filter, from_map}
 use Rattle.bus_strings.specs.Messages.{Entry, Message, IsWordstring}
 use Rattle.bus_strings.specs.Transmissions.{IsTransmission}
-use Rattle.bus_table.specs.Facts.{SenderFacts}
+use Rattle.bus_table.specs.inside.Facts.{SenderFacts}
 use Rattle.bus_table.specs.Fits.{allows, matches, fits}
 use Rattle.bus_table.specs.Hands.{message_of, items_of, hand_of, hands_of, are_hands}
 use Rattle.bus_table.specs.Ranges.{is_label, is_ext, is_send_line, are_send_lines, is_number, is_tg, is_offset, is_sender}

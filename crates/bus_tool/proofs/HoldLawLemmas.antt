@@ -8,7 +8,7 @@ use Rattle.bus_strings.specs.Items.{Item}
 use Rattle.bus_strings.specs.Members.{In}
 use Rattle.bus_table.specs.Tables.{Sender, Table, Hand}
 use Rattle.bus_table.specs.Hands.{hand_of, hands_of}
-use Rattle.bus_table.specs.Facts.{SenderFacts, TableFacts}
+use Rattle.bus_table.specs.inside.Facts.{SenderFacts, TableFacts}
 use Rattle.bus_table.proofs.ValidLaws.{valid_facts}
 use Rattle.bus_table.specs.Turns.{Differ}
 use Rattle.bus_table.proofs.TurnLaws.{of_each, numbers_differ}

@@ -6,7 +6,7 @@ use Rattle.std.proofs.lemmas.List.{length-take, take_all}
 use Rattle.std.proofs.Math.Seq.{take-append-add}
 use Rattle.bus_trace.specs.States.{text_of}
 use Rattle.bus_trace.specs.Runs.{Standing, Progress, Going, Found, Refused, Over, ◌>>-◌, run, begin, due, due_by, stream_of}
-use Rattle.bus_trace.specs.Walking.{WalkGives, GoesOn}
+use Rattle.bus_trace.specs.inside.Walking.{WalkGives, GoesOn}
 use Rattle.bus_trace.specs.Feeding.{fed_of, ReaderIs, FeedGives, LeadsOn}
 use Rattle.bus_trace.specs.declared.walk.Walked.{Walked}
 use Rattle.bus_trace.specs.declared.walk.Walked.TheVariants.{Passed, Ended, Failed}

@@ -3,14 +3,12 @@ pub mod Orders
 pub mod WordLists
 pub mod Told
 pub mod Marks
-pub mod MarkSteps
 pub mod StepRows
 pub mod Steps
 pub mod Runs
 pub mod Walks
 pub mod Feeds
 pub mod AgainLines
-pub mod CapitalTable
 pub mod Again
 pub mod QuickLines
 pub mod WriteTexts

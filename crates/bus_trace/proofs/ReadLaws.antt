@@ -19,7 +19,7 @@ use Rattle.bus_trace.specs.States.{State, step, text_of, is_ended, recorded}
 use Rattle.bus_trace.specs.Runs.{Standing, Progress, Going, Found, Refused, Over, judged, take_byte, ◌>>-◌, run, begin, due, due_by}
 use Rattle.bus_trace.specs.Runs.{ended_by, reading, stream_of}
 use Rattle.bus_trace.specs.Reading.{Gave, Offends, Complete, Overlong, Refuses, ByLine as Decided, CutOff, TakesTrace, ReadGives}
-use Rattle.bus_trace.specs.Looping.{LineRefused, ByLine, ByEnd, Loops}
+use Rattle.bus_trace.specs.inside.Looping.{LineRefused, ByLine, ByEnd, Loops}
 use Rattle.bus_trace.proofs.Runs.{run-append}
 use Rattle.bus_trace.proofs.Walks.{start_sound}
 use Rattle.bus_trace.proofs.Again.{ended, trace_again}

@@ -18,7 +18,7 @@ use Rattle.bus_trace.specs.States.{State, text_of}
 use Rattle.bus_trace.specs.Runs.{Standing, Progress, Going, Found, Refused, Over, HasNoFeed, begin, run, ◌>>-◌, due, stream_of}
 use Rattle.bus_trace.specs.Feeding.{Reader, FeedGives, LeadsOn, FinishGives}
 use Rattle.bus_trace.specs.Reading.{Decides}
-use Rattle.bus_trace.specs.Looping.{ByLine, ByEnd, Loops}
+use Rattle.bus_trace.specs.inside.Looping.{ByLine, ByEnd, Loops}
 use Rattle.bus_trace.proofs.Runs.{run-append, run-line, feedless_take}
 use Rattle.bus_trace.proofs.Feeds.{begin_due, due_within, goes_on}
 

@@ -9,8 +9,8 @@ use Rattle.bus_trace.specs.declared.walk.Judged.TheVariants.{Passes, Ends, Fails
 use Rattle.bus_trace.specs.declared.walk.Walked.TheVariants.{Ended}
 use Rattle.bus_trace.specs.States.{State, IsSound, start, step, text_of, is_ended}
 use Rattle.bus_trace.specs.Runs.{Standing, Progress, Going, Found, Refused, judged, ◌>>-◌, run, stream_of, HasNoFeed}
-use Rattle.bus_trace.specs.Quick.{TakesFront}
-use Rattle.bus_trace.specs.Walking.{WalkIs, KeepGives, JudgedGives, WalkGives, TookFront, GoesOn}
+use Rattle.bus_trace.specs.inside.Quick.{TakesFront}
+use Rattle.bus_trace.specs.inside.Walking.{WalkIs, KeepGives, JudgedGives, WalkGives, TookFront, GoesOn}
 use Rattle.std.proofs.Math.Seq.{take-append_seam}
 use Rattle.bus_trace.proofs.Steps.{step_adds, step_sound}
 use Rattle.bus_trace.proofs.Runs.{run-append, run-line, run-long, run-feed, run-whole_line}

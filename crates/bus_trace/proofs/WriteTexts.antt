@@ -12,8 +12,8 @@ use Rattle.bus_strings.specs.Transmissions.{end_of, marks}
 use Rattle.bus_trace.specs.declared.format.Format.TheVariants.{Two}
 use Rattle.bus_trace.specs.Traces.{Recording, Line, data_word, head_line, horizon_line, hold_line, begin_line, string_line, entry_lines}
 use Rattle.bus_trace.specs.Traces.{mark_text, close_line, marked_lines, list_lines, opening_lines, end_line, trace_text}
-use Rattle.bus_trace.specs.Writing.{word_put, data_put, string_put, pair_put, hold_put, close_put, entry_put, horizon_put, list_put}
-use Rattle.bus_trace.specs.Writing.{trace_put}
+use Rattle.bus_trace.specs.inside.Writing.{word_put, data_put, string_put, pair_put, hold_put, close_put, entry_put, horizon_put, list_put}
+use Rattle.bus_trace.specs.inside.Writing.{trace_put}
 
 flat_map-same : {X : Type 0} (f g : X → List ℕ) (xs : List X) → ((x : X) → f x ≡ g x) → flat_map f xs ≡ flat_map g xs
 flat_map-same f g [] h = refl

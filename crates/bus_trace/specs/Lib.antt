@@ -2,14 +2,9 @@ pub mod Limits
 pub mod Traces
 pub mod WordFields
 pub mod States
-pub mod Reach
-pub mod Quick
 pub mod Runs
-pub mod Gives
-pub mod Walking
 pub mod Feeding
 pub mod Reading
 pub mod Pieces
-pub mod Looping
-pub mod Writing
 pub mod TraceLaws
+pub mod inside

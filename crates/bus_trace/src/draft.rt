@@ -1,18 +1,17 @@
 ghost use Rattle.std.specs.Prelude.{◌≡◌, ◌<◌, ◌≤◌, true, length};
 ghost use Rattle.bus_text.specs.Entries.{texts};
-ghost use Rattle.bus_trace.specs.Gives.{StepGives};
+ghost use Rattle.bus_trace.specs.inside.Gives.{StepGives};
 ghost use Rattle.bus_strings.specs.Limits.{horizon_limit};
 ghost use Rattle.bus_trace.specs.Limits.{line_limit};
 ghost use Rattle.bus_trace.specs.States.{IsSound, TakesString, start, recorded, step, form_step, fields_step};
 ghost use Rattle.bus_trace.specs.States.{head_step, horizon_step, hold_step, begin_step, string_step, close_step, end_step};
 ghost use Rattle.bus_trace.specs.States.{is_hit as hit_test, is_final as final_test, is_refuted as refuted_test, more_list};
-ghost use Rattle.bus_trace.specs.Reach.{IsReach};
-ghost use Rattle.bus_trace.specs.Quick.{string_taken, BeginsRight, ClosesRight, TakesFront};
+ghost use Rattle.bus_trace.specs.inside.Reach.{IsReach};
+ghost use Rattle.bus_trace.specs.inside.Quick.{string_taken, BeginsRight, ClosesRight, TakesFront};
 ghost use Rattle.std.specs.Prelude.{IsTrue, OnOk, OnErr, false, IfOk, MatchOption};
 ghost use Rattle.bus_strings.specs.Messages.{Wordstring as AnyString};
 ghost use Rattle.bus_trace.specs.States.{last_count as count_of, is_ended as ended_test, may_follow as may_stand};
 
-use crate::fault::LineFault;
 use crate::fields::{below, bounded, fields, is_plain, writes};
 use crate::format::{Format, format_of};
 use crate::hold::Hold;
@@ -26,7 +25,7 @@ use crate::trace::Trace;
 use crate::words::{are_spelled, have_parity, wordstring};
 use bus_strings::limits::{HORIZON_LIMIT, MOST_TERMINAL, MOST_WORDS};
 use bus_strings::{Transmission, Wordstring};
-use bus_text::{field_at, fields_from};
+use bus_text::{LineFault, field_at, fields_from};
 use std::alloc::{AllocError, Global};
 use std::marker::Model;
 
@@ -48,7 +47,7 @@ pub(crate) struct Draft {
 }
 
 impl Model for Draft {
-    ghost use Rattle.bus_trace.specs.Reach.{IsReach};
+    ghost use Rattle.bus_trace.specs.inside.Reach.{IsReach};
     ghost use Rattle.bus_trace.specs.States.{State};
 
     ghost Value = { State };
@@ -121,7 +120,7 @@ impl Draft {
 
     // Takes a TRACE line.
     #[tactic(auto, unfolding(crate::specs::States::head_step))]
-    fn take_head(&mut self, fields: &[&[u8]]) -> Result<(), LineFault>
+    fn take_head(&mut self, fields: &[&[u8]]) -> Result<(), LineFault<TraceReason>>
         ensures { StepGives self.old self.new result (head_step self.old (texts fields.now)) }
     {
         if fields.len() != 2 {
@@ -137,7 +136,7 @@ impl Draft {
 
     // Takes a HORIZON line.
     #[tactic(auto, unfolding(crate::specs::States::horizon_step))]
-    fn take_horizon(&mut self, fields: &[&[u8]]) -> Result<(), LineFault>
+    fn take_horizon(&mut self, fields: &[&[u8]]) -> Result<(), LineFault<TraceReason>>
         ensures { StepGives self.old self.new result (horizon_step self.old (texts fields.now)) }
     {
         if fields.len() != 2 {
@@ -156,7 +155,7 @@ impl Draft {
 
     // Takes a HOLD line.
     #[tactic(auto, unfolding(crate::specs::States::hold_step))]
-    fn take_hold(&mut self, fields: &[&[u8]]) -> Result<(), LineFault>
+    fn take_hold(&mut self, fields: &[&[u8]]) -> Result<(), LineFault<TraceReason>>
         ensures { StepGives self.old self.new result (hold_step self.old (texts fields.now)) }
     {
         if fields.len() != 3 {
@@ -184,7 +183,7 @@ impl Draft {
 
     // Takes a TX line.
     #[tactic(auto, unfolding(crate::specs::States::begin_step))]
-    fn take_begin(&mut self, fields: &[&[u8]]) -> Result<(), LineFault>
+    fn take_begin(&mut self, fields: &[&[u8]]) -> Result<(), LineFault<TraceReason>>
         requires { self.old.horizon ≤ horizon_limit }
         ensures { StepGives self.old self.new result (begin_step self.old (texts fields.now)) }
     {
@@ -215,7 +214,7 @@ impl Draft {
 
     // Takes a WS line.
     #[tactic(auto, unfolding(crate::specs::States::string_step))]
-    fn take_string(&mut self, alloc: Global, fields: &[&[u8]]) -> Result<(), LineFault>
+    fn take_string(&mut self, alloc: Global, fields: &[&[u8]]) -> Result<(), LineFault<TraceReason>>
         requires { TakesString self.old.position (count_of self.old.list) }
         ensures { StepGives self.old self.new result (string_step self.old (texts fields.now)) }
     {
@@ -249,7 +248,7 @@ impl Draft {
 
     // Takes a TE line.
     #[tactic(auto, unfolding(crate::specs::States::close_step))]
-    fn take_close(&mut self, fields: &[&[u8]]) -> Result<(), LineFault>
+    fn take_close(&mut self, fields: &[&[u8]]) -> Result<(), LineFault<TraceReason>>
         ensures { StepGives self.old self.new result (close_step self.old (texts fields.now)) }
     {
         if fields.len() != 3 {
@@ -272,7 +271,7 @@ impl Draft {
 
     // Takes an END line.
     #[tactic(auto, unfolding(crate::specs::States::end_step))]
-    fn take_end(&mut self, fields: &[&[u8]]) -> Result<(), LineFault>
+    fn take_end(&mut self, fields: &[&[u8]]) -> Result<(), LineFault<TraceReason>>
         ensures { StepGives self.old self.new result (end_step self.old (texts fields.now)) }
     {
         if fields.len() != 1 {
@@ -291,7 +290,7 @@ impl Draft {
         alloc: Global,
         keyword: Keyword,
         fields: &[&[u8]],
-    ) -> Result<(), LineFault>
+    ) -> Result<(), LineFault<TraceReason>>
         requires sound { IsSound self.old }
         requires stands { may_stand self.old.position self.old.format (count_of self.old.list) keyword ≡ true }
         ensures { StepGives self.old self.new result (form_step keyword self.old (texts fields.now)) }
@@ -308,7 +307,7 @@ impl Draft {
     }
 
     // Takes a line by its fields.
-    fn take_fields(&mut self, alloc: Global, fields: &[&[u8]]) -> Result<(), LineFault>
+    fn take_fields(&mut self, alloc: Global, fields: &[&[u8]]) -> Result<(), LineFault<TraceReason>>
         requires sound { IsSound self.old }
         requires some { 0 < length fields.now }
         ensures { StepGives self.old self.new result (fields_step self.old (texts fields.now)) }
@@ -439,7 +438,7 @@ impl Draft {
 
     // Takes the next line by its fields.
     #[tactic(auto, unfolding(crate::specs::States::step))]
-    fn take_slowly(&mut self, alloc: Global, line: &[u8]) -> Result<(), LineFault>
+    fn take_slowly(&mut self, alloc: Global, line: &[u8]) -> Result<(), LineFault<TraceReason>>
         requires { IsSound self.old }
         ensures { StepGives self.old self.new result (step self.old line.now) }
     {
@@ -448,7 +447,7 @@ impl Draft {
     }
 
     /// Takes the next line, which is given without its line feed.
-    pub(crate) fn take_line(&mut self, alloc: Global, line: &[u8]) -> Result<(), LineFault>
+    pub(crate) fn take_line(&mut self, alloc: Global, line: &[u8]) -> Result<(), LineFault<TraceReason>>
         requires sound { IsSound self.old }
         requires short { length line.now ≤ line_limit }
         ensures { StepGives self.old self.new result (step self.old line.now) }

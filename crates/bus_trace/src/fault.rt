@@ -1,44 +1,17 @@
+//! Why a line, or a trace text, wasn't read.
 use crate::reason::TraceReason;
-use std::alloc::{AllocError, AllocFailed};
+use bus_text::LineFault;
+use std::alloc::AllocError;
 use thiserror::Error;
 
-/// Why a line wasn't taken.
-#[derive(Debug, Drop)]
-pub(crate) enum LineFault {
-    Refused(TraceReason),
-    Memory,
-}
-
-impl From<TraceReason> for LineFault {
+impl From<TraceReason> for LineFault<TraceReason> {
     ghost use Rattle.std.specs.Prelude.{◌≡◌};
-    ghost use Rattle.bus_trace.specs.declared.fault.LineFault.TheVariants.{Refused};
+    ghost use Rattle.bus_text.specs.declared.fault.LineFault.TheVariants.{Refused};
 
     ghost from_gives = { λ reason fault. fault ≡ Refused reason };
 
-    fn from(reason: TraceReason) -> LineFault {
+    fn from(reason: TraceReason) -> LineFault<TraceReason> {
         LineFault::Refused(reason)
-    }
-}
-
-impl From<AllocError> for LineFault {
-    ghost use Rattle.std.specs.Prelude.{◌≡◌};
-    ghost use Rattle.bus_trace.specs.declared.fault.LineFault.TheVariants.{Memory};
-
-    ghost from_gives = { λ _ fault. fault ≡ Memory };
-
-    fn from(_error: AllocError) -> LineFault {
-        LineFault::Memory
-    }
-}
-
-impl<T: Drop> From<AllocFailed<T>> for LineFault {
-    ghost use Rattle.std.specs.Prelude.{◌≡◌};
-    ghost use Rattle.bus_trace.specs.declared.fault.LineFault.TheVariants.{Memory};
-
-    ghost from_gives = { λ _ fault. fault ≡ Memory };
-
-    fn from(_error: AllocFailed<T>) -> LineFault {
-        LineFault::Memory
     }
 }
 

@@ -1,50 +1,25 @@
 //! Lines that are spelled as they are written, recognized in front of a text in one pass: neither their end is looked for first, nor is a
 //! field of them gathered. What isn't recognized here is judged field by field.
-ghost use Rattle.std.specs.Prelude.{◌≡◌, ◌≤◌, ◌<◌, ◌^◌, ◌++◌, ◌∷◌, [], true, length, take, decimal, IfSome, IfOk, if◌then◌else◌};
-ghost use Rattle.std.specs.List.{list_all, join_with_byte};
-ghost use Rattle.std.specs.Char.{is_ascii_digit, digit_value};
-ghost use Rattle.bus_text.specs.Numbers.{decimal_value};
-ghost use Rattle.bus_text.specs.Digits.{hexadecimal, is_capital_digit};
+ghost use Rattle.std.specs.Prelude.{◌≡◌, ◌≤◌, ◌<◌, ◌^◌, ◌++◌, ◌∷◌, [], length, decimal, IfSome, IfOk};
+ghost use Rattle.std.specs.List.{join_with_byte};
+ghost use Rattle.bus_text.specs.Digits.{hexadecimal};
 ghost use Rattle.bus_words.specs.Words.{parity as parity_of};
 ghost use Rattle.bus_words.specs.WordTexts.{word_text, letter as letter_of, bit_digit};
 ghost use Rattle.bus_trace.specs.Traces.{begin_line as begin_fields, ended_line, string_line as string_fields};
-ghost use Rattle.bus_trace.specs.Writing.{data_put};
-ghost use Rattle.bus_trace.specs.Quick.{HasData, AreDigits, line_end};
+ghost use Rattle.bus_trace.specs.inside.Writing.{data_put};
+ghost use Rattle.bus_trace.specs.inside.Quick.{HasData, line_end};
 
 use bus_strings::limits::MOST_WORDS;
 use bus_strings::{SHORT, Wordstring};
+use bus_text::{NO_CAPITAL, capital_value, leading_digits};
 use bus_words::{Ext, Kind, Label, parity, split_label};
 use std::alloc::{AllocError, Global};
 
-// The text of a word, and the space before it.
+/// The bytes of a word's text and of the space before it.
 const PLACES: usize = 7;
 
-// The data words of a line, each with the space before it.
+/// The bytes of the data words of a line, each with the space before it.
 const MOST_DATA: usize = PLACES * MOST_WORDS;
-
-// A number that one digit more can be put behind.
-const MOST_BEFORE: u64 = 100_000_000_000_000_000;
-
-// A number that four digits more can be put behind.
-const MOST_BEFORE_FOUR: u64 = 10_000_000_000_000;
-
-// What the table of values has for a byte that is no digit: more than any four digits have together.
-const NO: u8 = 61;
-
-// The value of each byte as a hexadecimal digit in capitals.
-const VALUES: [u8; 256] = [
-    NO, NO, NO, NO, NO, NO, NO, NO, NO, NO, NO, NO, NO, NO, NO, NO, NO, NO, NO, NO, NO, NO, NO, NO,
-    NO, NO, NO, NO, NO, NO, NO, NO, NO, NO, NO, NO, NO, NO, NO, NO, NO, NO, NO, NO, NO, NO, NO, NO,
-    0, 1, 2, 3, 4, 5, 6, 7, 8, 9, NO, NO, NO, NO, NO, NO, NO, 10, 11, 12, 13, 14, 15, NO, NO, NO,
-    NO, NO, NO, NO, NO, NO, NO, NO, NO, NO, NO, NO, NO, NO, NO, NO, NO, NO, NO, NO, NO, NO, NO, NO,
-    NO, NO, NO, NO, NO, NO, NO, NO, NO, NO, NO, NO, NO, NO, NO, NO, NO, NO, NO, NO, NO, NO, NO, NO,
-    NO, NO, NO, NO, NO, NO, NO, NO, NO, NO, NO, NO, NO, NO, NO, NO, NO, NO, NO, NO, NO, NO, NO, NO,
-    NO, NO, NO, NO, NO, NO, NO, NO, NO, NO, NO, NO, NO, NO, NO, NO, NO, NO, NO, NO, NO, NO, NO, NO,
-    NO, NO, NO, NO, NO, NO, NO, NO, NO, NO, NO, NO, NO, NO, NO, NO, NO, NO, NO, NO, NO, NO, NO, NO,
-    NO, NO, NO, NO, NO, NO, NO, NO, NO, NO, NO, NO, NO, NO, NO, NO, NO, NO, NO, NO, NO, NO, NO, NO,
-    NO, NO, NO, NO, NO, NO, NO, NO, NO, NO, NO, NO, NO, NO, NO, NO, NO, NO, NO, NO, NO, NO, NO, NO,
-    NO, NO, NO, NO, NO, NO, NO, NO, NO, NO, NO, NO, NO, NO,
-];
 
 /// What is behind a word at the front.
 fn behind<'a>(text: &'a [u8], word: &[u8]) -> Option<&'a [u8]>
@@ -54,58 +29,6 @@ fn behind<'a>(text: &'a [u8], word: &[u8]) -> Option<&'a [u8]>
         return None;
     }
     Some(&text[word.len()..])
-}
-
-/// The number that four digits write.
-fn four_digits(a: u8, b: u8, c: u8, d: u8) -> Option<u64>
-    ensures { IfSome result (AreDigits a b c d) }
-{
-    if !a.is_ascii_digit() || !b.is_ascii_digit() || !c.is_ascii_digit() || !d.is_ascii_digit() {
-        return None;
-    }
-    let upper = 10 * u64::from(a - b'0') + u64::from(b - b'0');
-    let lower = 10 * u64::from(c - b'0') + u64::from(d - b'0');
-    Some(100 * upper + lower)
-}
-
-/// How many digits stand in front, counted by fours as far as their number has room, and that number. Fours, since a test of the end
-/// and of the room at each digit would take as long as the digit itself.
-fn leading_fours(text: &[u8]) -> (usize, u64)
-    ensures within { result.0 ≤ length text.now }
-    ensures digits { list_all is_ascii_digit (take result.0 text.now) ≡ true }
-    ensures value { result.1 ≡ decimal_value (take result.0 text.now) }
-    ensures room { result.1 < 10 ^ 18 }
-{
-    let mut value = 0;
-    let mut count = 0;
-    while value < MOST_BEFORE_FOUR && text.len() - count >= 4 {
-        let Some(four) = four_digits(
-            text[count],
-            text[count + 1],
-            text[count + 2],
-            text[count + 3],
-        ) else {
-            break;
-        };
-        value = 10_000 * value + four;
-        count += 4;
-    }
-    (count, value)
-}
-
-/// How many digits stand in front, as far as their number has room, and that number.
-fn leading_digits(text: &[u8]) -> (usize, u64)
-    ensures within { result.0 ≤ length text.now }
-    ensures digits { list_all is_ascii_digit (take result.0 text.now) ≡ true }
-    ensures value { result.1 ≡ decimal_value (take result.0 text.now) }
-    ensures room { result.1 < 10 ^ 18 }
-{
-    let (mut count, mut value) = leading_fours(text);
-    while count < text.len() && value < MOST_BEFORE && text[count].is_ascii_digit() {
-        value = 10 * value + u64::from(text[count] - b'0');
-        count += 1;
-    }
-    (count, value)
 }
 
 /// The plain decimal at the front, and what is behind it.
@@ -162,14 +85,6 @@ fn parity_digit(value: u16) -> u8
     if parity(value) { b'1' } else { b'0' }
 }
 
-/// The value of a hexadecimal digit in capitals, and more than any four of them have together for any other byte.
-fn capital_value(byte: u8) -> u8
-    ensures value { result ≡ (if is_capital_digit byte then digit_value byte else 61) }
-    ensures most { result ≤ 61 }
-{
-    VALUES[byte as usize]
-}
-
 /// The number that four hexadecimal digits in capitals write. One test of all four, since there are more digits than anything else.
 fn four_digit_value(a: u8, b: u8, c: u8, d: u8) -> Option<u16>
     ensures { IfSome result (λ v. hexadecimal 4 v ≡ a ∷ b ∷ c ∷ d ∷ []) }
@@ -180,7 +95,7 @@ fn four_digit_value(a: u8, b: u8, c: u8, d: u8) -> Option<u16>
         capital_value(c),
         capital_value(d),
     );
-    if a + b + c + d >= NO {
+    if a + b + c + d >= NO_CAPITAL {
         return None;
     }
     Some(256 * u16::from(16 * a + b) + u16::from(16 * c + d))

@@ -1,7 +1,7 @@
 ghost use Rattle.std.specs.Prelude.{IfOk, IfSome, Ok};
 ghost use Rattle.bus_trace.specs.Runs.{reading};
 ghost use Rattle.bus_trace.specs.Reading.{TakesTrace, ReadGives, CountsReading};
-ghost use Rattle.bus_trace.specs.Looping.{Loops};
+ghost use Rattle.bus_trace.specs.inside.Looping.{Loops};
 ghost use Rattle.bus_trace.specs.Limits.{text_limit};
 ghost use Rattle.bus_trace.specs.Traces.{Recording, IsTrace, HoldsTrace};
 

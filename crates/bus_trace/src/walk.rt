@@ -2,14 +2,13 @@ ghost use Rattle.std.specs.Prelude.{◌≡◌, ◌<◌, ◌≤◌, if◌then◌e
 ghost use Rattle.bus_trace.specs.Limits.{line_limit};
 ghost use Rattle.bus_trace.specs.States.{step, text_of, recorded};
 ghost use Rattle.bus_trace.specs.Runs.{HasNoFeed, judged, run, begin, stream_of};
-ghost use Rattle.bus_trace.specs.Walking.{KeepGives, JudgedGives, TookFront, WalkGives, GoesOn};
+ghost use Rattle.bus_trace.specs.inside.Walking.{KeepGives, JudgedGives, TookFront, WalkGives, GoesOn};
 
 use crate::draft::Draft;
-use crate::fault::LineFault;
 use crate::limits::LINE_LIMIT;
 use crate::reason::TraceReason;
 use crate::trace::Trace;
-use bus_text::first_feed;
+use bus_text::{LineFault, first_feed};
 use std::alloc::{AllocError, Global};
 use std::marker::Model;
 
@@ -55,7 +54,7 @@ pub(crate) struct Walk {
 impl Model for Walk {
     ghost use Rattle.bus_trace.specs.Runs.{Standing};
     ghost use Rattle.bus_trace.specs.States.{recorded};
-    ghost use Rattle.bus_trace.specs.Walking.{WalkIs};
+    ghost use Rattle.bus_trace.specs.inside.Walking.{WalkIs};
 
     ghost Value = { Standing };
 

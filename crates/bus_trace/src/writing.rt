@@ -4,8 +4,8 @@ ghost use Rattle.bus_strings.specs.Transmissions.{IsByMoment};
 ghost use Rattle.bus_outer.specs.Sinks.{WritesText};
 ghost use Rattle.bus_outer.specs.Texts.{Adds};
 ghost use Rattle.bus_trace.specs.Traces.{trace_text};
-ghost use Rattle.bus_trace.specs.Writing.{word_put, data_put, string_put, pair_put, hold_put, close_put, entry_put};
-ghost use Rattle.bus_trace.specs.Writing.{head_put, horizon_put, list_put};
+ghost use Rattle.bus_trace.specs.inside.Writing.{word_put, data_put, string_put, pair_put, hold_put, close_put, entry_put};
+ghost use Rattle.bus_trace.specs.inside.Writing.{head_put, horizon_put, list_put};
 
 use crate::format::TWO;
 use crate::hold::Hold;

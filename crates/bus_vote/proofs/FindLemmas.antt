@@ -11,8 +11,8 @@ use Rattle.std.proofs.lemmas.Option.{slice_get_within, slice_get-get_or, get_or_
 use Rattle.bus_strings.specs.Messages.{Wordstring, Message, Entry}
 use Rattle.bus_strings.specs.Transmissions.{garbled, marks}
 use Rattle.bus_vote.specs.Rounds.{is_of, sent_by, is_named, words_in, words_of}
-use Rattle.bus_vote.specs.Finds.{Find, IsFound, AreFinds, sent_before, is_wanted, string_finds, entry_finds, place_finds, finds_before, is_own}
-use Rattle.bus_vote.proofs.ListLemmas.{flat_map-range}
+use Rattle.bus_vote.specs.inside.Finds.{Find, IsFound, AreFinds, sent_before, is_wanted, string_finds, entry_finds, place_finds, finds_before, is_own}
+use Rattle.bus_strings.proofs.ListLaws.{flat_map-range}
 
 nowhere : {X : Type 0} {P : Type 0} (k : ℕ) (x : X) → slice_get [] k ≡ Some x → P
 nowhere {X = X} k x e = absurd (let w : k < length {A = X} [] = slice_get_within [] k x e in omega arith)

@@ -5,13 +5,14 @@ use Rattle.std.specs.List.{list_all, find}
 use Rattle.std.specs.Option.{option_map}
 use Rattle.std.proofs.lemmas.Bool.{and_parts, eqb-true}
 use Rattle.bus_strings.specs.Members.{In}
+use Rattle.bus_strings.proofs.ListLaws.{all_pass}
 use Rattle.bus_strings.specs.Messages.{Wordstring, Message}
 use Rattle.bus_table.specs.declared.line.SendLine.{SendLine}
 use Rattle.bus_table.specs.Tables.{Sender, Table, Hand}
 use Rattle.bus_table.specs.Fits.{allows, matches, fits}
 use Rattle.bus_table.specs.Hands.{are_hands}
 use Rattle.bus_table.specs.Turns.{Differ}
-use Rattle.bus_schedule.proofs.HandLaws.{hand_here, hand_of_other}
+use Rattle.bus_schedule.proofs.HandLemmas.{own_fit, own_count}
 use Rattle.bus_schedule.specs.Even.{messages_of, message_in, rounds, are_even}
 use Rattle.bus_vote.specs.Rounds.{is_named, words_in}
 
@@ -53,46 +54,13 @@ named (own ∷ sends) (string ∷ message) line h i =
       | inr j ↦ named_there line.label line.ext string message (named sends message line words.1 j)
     ]
 
--- ---- the hand of a sender
--- the sender has this many messages, and each fits
-record HasHand (hands : List Hand) (n : ℕ) (sender : Sender) : Type 0 where
-  pub count : length (messages_of hands sender.number) ≡ n
-  pub fit : list_all (fits sender) (messages_of hands sender.number) ≡ true
-
-own_hand : (n : ℕ) (senders : List Sender) (hands : List Hand) → are_hands senders hands ≡ true
-    → list_all (λ hand. length hand.messages == n) hands ≡ true → Differ (λ s. s.number) senders → (sender : Sender) → In sender senders → HasHand hands n sender
-own_hand n [] hands h counts d sender i = absurd i
-own_hand n (a ∷ senders) [] h counts d sender i = absurd cc
-own_hand n (a ∷ senders) (hand ∷ hands) h counts d sender (inl same) =
-    let parts = and_parts (hand.terminal == a.number) _ h in
-    let own = and_parts (list_all (fits a) hand.messages) _ parts.1 in
-    let number : hand.terminal ≡ sender.number = eqb-true hand.terminal a.number parts.0 ∙ ap (λ (s : Sender). s.number) (sym same) in
-    let here : messages_of (hand ∷ hands) sender.number ≡ hand.messages = hand_here hand hands sender.number number in
-    record {
-      count = ap length here ∙ eqb-true (length hand.messages) n (and_parts (length hand.messages == n) _ counts).0;
-      fit = ap (list_all (fits sender)) here ∙ ap (λ (s : Sender). list_all (fits s) hand.messages) same ∙ own.0;
-    }
-own_hand n (a ∷ senders) (hand ∷ hands) h counts d sender (inr i) =
-    let parts = and_parts (hand.terminal == a.number) _ h in
-    let own = and_parts (list_all (fits a) hand.messages) _ parts.1 in
-    let there : messages_of (hand ∷ hands) sender.number ≡ messages_of hands sender.number =
-    hand_of_other a senders hand hands sender d (eqb-true hand.terminal a.number parts.0) i in
-    let rest : HasHand hands n sender = own_hand n senders hands own.1 (and_parts (length hand.messages == n) _ counts).1 d.1 sender i in
-    record { count = ap length there ∙ rest.count; fit = ap (list_all (fits sender)) there ∙ rest.fit }
-
--- one of some that all pass a test
-all_pass : {X : Type 0} (p : X → Bool) (xs : List X) (k : ℕ) (d : X) → list_all p xs ≡ true → k < length xs → p (get_or xs k d) ≡ true
-all_pass p [] k d h within = absurd (omega arith)
-all_pass p (x ∷ xs) zero d h within = (and_parts (p x) _ h).0
-all_pass p (x ∷ xs) (suc k) d h within = all_pass p xs k d (and_parts (p x) _ h).1 (omega arith)
-
 -- the message of a round has words for each line of its sender
 pub sent_words : (table : Table) (hands : List Hand) (sender : Sender) (line : SendLine) (round : ℕ) → Differ (λ s. s.number) table.senders
     → IsTrue (are_even table hands) → In sender table.senders → In line sender.sends → round < rounds hands
     → (words : List ℕ) × (words_in line.label line.ext (message_in hands sender.number round) ≡ Some words)
 sent_words table hands sender line round d even i j within =
     let parts = and_parts (are_hands table.senders hands) (list_all (λ hand. length hand.messages == rounds hands) hands) even in
-    let own : HasHand hands (rounds hands) sender = own_hand (rounds hands) table.senders hands parts.0 parts.1 d sender i in
-    let fit = all_pass (fits sender) (messages_of hands sender.number) round [] own.fit (omega (arith, own.count)) in
+    let count = own_count (rounds hands) table.senders hands parts.0 parts.1 d sender i in
+    let fit = all_pass (fits sender) (messages_of hands sender.number) round [] (own_fit table.senders hands parts.0 d sender i) (omega (arith, count)) in
     let n : Named line.label line.ext (message_in hands sender.number round) = named sender.sends (message_in hands sender.number round) line fit j in
     (n.words, n.has)

@@ -8,8 +8,8 @@ use Rattle.std.proofs.lemmas.Option.{slice_get_within}
 use Rattle.bus_strings.specs.Messages.{Entry}
 use Rattle.bus_vote.specs.Labels.{Channel, VotedLabel}
 use Rattle.bus_vote.specs.Rounds.{sent_by, words_in, words_of, channel_words, first_words, second_words, third_words}
-use Rattle.bus_vote.specs.Putting.{words_put, round_put}
-use Rattle.bus_vote.specs.Finds.{Find, IsFound, AreFinds, Hearing, IsHearing, TwoAreSilent, is_own}
+use Rattle.bus_vote.specs.inside.Putting.{words_put, round_put}
+use Rattle.bus_vote.specs.inside.Finds.{Find, IsFound, AreFinds, Hearing, IsHearing, TwoAreSilent, is_own}
 use Rattle.bus_vote.proofs.FindLemmas.{own_terminal}
 use Rattle.bus_vote.proofs.WalkLemmas.{none_first, none_second, none_third, range_over}
 

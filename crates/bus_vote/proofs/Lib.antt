@@ -1,5 +1,4 @@
 pub mod VotingLemmas
-pub mod ListLemmas
 pub mod ScanLemmas
 pub mod RoundLemmas
 pub mod WalkLemmas

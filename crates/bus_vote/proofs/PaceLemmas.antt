@@ -5,7 +5,7 @@ use Rattle.std.proofs.lemmas.Bool.{cases_eq, cases_lt}
 use Rattle.std.proofs.lemmas.List.{get_or-set_same, get_or-set_other, get_or-replicate, length-replicate}
 use Rattle.std.proofs.lemmas.Option.{slice_get_within, get_or_from_slice_get}
 use Rattle.bus_strings.specs.Messages.{Entry}
-use Rattle.bus_vote.specs.Walks.{IsSpaced}
+use Rattle.bus_vote.specs.inside.Walks.{IsSpaced}
 
 -- of the transmissions before a place: by terminal, how many places they stand apart at least, and the place behind the last
 pub record IsSpacing (list : List Entry) (at : ℕ) (gaps behind : List ℕ) : Type 0 where

@@ -9,8 +9,8 @@ use Rattle.bus_vote.specs.Labels.{Channel, VotedLabel, channels, voted, labels, 
 use Rattle.bus_vote.specs.Rounds.{sent_by, words_of, channel_words, first_words, second_words, is_voted, round_votes, voted_rounds}
 use Rattle.bus_vote.specs.VoteTexts.{place_text, round_text, label_text, votes_text}
 use Rattle.bus_vote.specs.Votes.{vote_at, width, votes}
-use Rattle.bus_vote.specs.Putting.{place_put, words_put, round_put, label_put}
-use Rattle.bus_vote.proofs.ListLemmas.{flat_map-map, flat_map-passing, flat_map-given, first_left}
+use Rattle.bus_vote.specs.inside.Putting.{place_put, words_put, round_put, label_put}
+use Rattle.bus_strings.proofs.ListLaws.{flat_map-map, flat_map-passing, flat_map-given, first_left}
 use Rattle.bus_vote.proofs.VotingLemmas.{places_front}
 
 -- the places

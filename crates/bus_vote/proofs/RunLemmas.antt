@@ -7,6 +7,7 @@ use Rattle.std.proofs.Math.Bool.{and_comm}
 use Rattle.std.proofs.lemmas.Bool.{eqb-true}
 use Rattle.std.proofs.lemmas.Option.{slice_get-map}
 use Rattle.bus_strings.specs.Members.{In}
+use Rattle.bus_strings.proofs.ClearLaws.{unmarked}
 use Rattle.bus_strings.proofs.MemberLaws.{of_each, at_in, in_append_cases, from_map, from_filter}
 use Rattle.bus_strings.specs.Messages.{Entry}
 use Rattle.bus_strings.specs.Transmissions.{end_of, overlaps, garbled}
@@ -29,29 +30,6 @@ use Rattle.bus_vote.proofs.TurnLemmas.{is_own, turn_of}
 use Rattle.bus_vote.proofs.VotingLemmas.{votes_of_two}
 
 -- ---- a list without overlaps
-overlap_both : (x y : Entry) → overlaps x y ≡ overlaps y x
-overlap_both x y = and_comm (nat_lt x.moment (end_of y)) (nat_lt y.moment (end_of x))
-
-clear_one : (list : List Entry) (k : ℕ) (x : Entry) → IsClear list → slice_get list k ≡ Some x → list_any (overlaps x) (remove list k) ≡ false
-clear_one [] k x c at = absurd (let w : None ≡ Some x = at in cc)
-clear_one (y ∷ ys) zero x c at = let same : y ≡ x = (let w : Some y ≡ Some x = at in cc) in subst (λ (z : Entry). list_any (overlaps z) ys ≡ false) same (none_of y ys c.0) where
-  none_of : (y : Entry) (ys : List Entry) → AllByRecursion (λ z. overlaps y z ≡ false) ys → list_any (overlaps y) ys ≡ false
-  none_of y [] h = refl
-  none_of y (z ∷ zs) h = rw h.0 (none_of y zs h.1)
-clear_one (y ∷ ys) (suc k) x c at =
-    let apart : overlaps x y ≡ false = overlap_both x y ∙ of_each (λ z. overlaps y z ≡ false) ys c.0 x (at_in ys k x at) in
-    rw apart (clear_one ys k x c.1 at)
-
-clear_at : (list : List Entry) (k : ℕ) → IsClear list → garbled list k ≡ false
-clear_at list k c = by_entry (slice_get list k) refl where
-  by_entry : (o : Option Entry) → slice_get list k ≡ o → option_map_or (λ x. list_any (overlaps x) (remove list k)) o false ≡ false
-  by_entry None e = refl
-  by_entry (Some x) e = clear_one list k x c e
-
-unmarked_by : (f : ℕ → Bool) (i : ℕ) (xs : List Entry) → ((k : ℕ) → f k ≡ false) → zip xs (map f (range_with_len i (length xs))) ≡ map (λ x. (x, false)) xs
-unmarked_by f i [] h = refl
-unmarked_by f i (x ∷ xs) h = ap (λ b. (x, b) ∷ zip xs (map f (range_with_len (i + 1) (length xs)))) (h i) ∙ ap (λ t. (x, false) ∷ t) (unmarked_by f (i + 1) xs h)
-
 own_by : (number : ℕ) (xs : List Entry) → filter (is_of number) (map (λ x. (x, false)) xs) ≡ map (λ x. (x, false)) (filter (is_own number) xs)
 own_by number [] = refl
 own_by number (x ∷ xs) =
@@ -63,7 +41,7 @@ own_by number (x ∷ xs) =
 
 -- the transmissions of a terminal in a list without overlaps are those that it has, none of them garbled
 sent_clear : (number : ℕ) (list : List Entry) → IsClear list → sent_by number list ≡ map (λ x. (x, false)) (filter (is_own number) list)
-sent_clear number list c = ap (filter (is_of number)) (unmarked_by (garbled list) 0 list (λ k. clear_at list k c)) ∙ own_by number list
+sent_clear number list c = ap (filter (is_of number)) (unmarked list c) ∙ own_by number list
 
 -- ---- the channels of a voted label
 voted_parts : (label : ℕ) (cs : List Channel) (v : VotedLabel) → voted label cs ≡ Some v → (v.label ≡ label) × (cs ≡ v.first ∷ (v.second ∷ (v.third ∷ [])))

@@ -4,9 +4,9 @@ use Rattle.std.specs.List.{filter, flat_map}
 use Rattle.bus_table.specs.declared.line.SendLine.{SendLine}
 use Rattle.bus_table.specs.Tables.{Sender}
 use Rattle.bus_vote.specs.Labels.{Channel, channel_of, sender_channels, voted}
-use Rattle.bus_vote.specs.Scans.{seen, after, voted_of, line_channels}
+use Rattle.bus_vote.specs.inside.Scans.{seen, after, voted_of, line_channels}
 use Rattle.bus_vote.specs.declared.seen.Seen.{Seen}
-use Rattle.bus_vote.proofs.ListLemmas.{flat_map-take}
+use Rattle.bus_strings.proofs.ListLaws.{flat_map-take}
 
 -- one more
 pub seen_push : (cs : List Channel) (c : Channel) → seen (cs ++ c ∷ []) ≡ after (seen cs) c

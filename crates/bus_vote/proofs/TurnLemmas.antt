@@ -10,7 +10,7 @@ use Rattle.bus_strings.specs.Transmissions.{end_of}
 use Rattle.bus_table.specs.declared.mode.Mode.{Mode}
 use Rattle.bus_table.specs.declared.mode.Mode.TheVariants.{Aperiodic, Periodic}
 use Rattle.bus_table.specs.Tables.{Sender, Table, Hand}
-use Rattle.bus_table.specs.Facts.{TableFacts}
+use Rattle.bus_table.specs.inside.Facts.{TableFacts}
 use Rattle.bus_table.specs.Turns.{turn_key, turn_order, Rises, Differ}
 use Rattle.bus_table.proofs.TurnLaws.{from_sort, in_sort, behind_rises, numbers_differ, order_rises}
 use Rattle.bus_schedule.specs.Even.{messages_of, rounds}

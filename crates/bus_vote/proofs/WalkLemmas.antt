@@ -14,10 +14,10 @@ use Rattle.bus_strings.specs.Transmissions.{end_of, garbled, marks}
 use Rattle.bus_strings.specs.OverlapLaws.{NeighboursTell, AscendingIsByMoment}
 use Rattle.bus_trace.specs.Traces.{Recording, IsTrace, IsBelow}
 use Rattle.bus_vote.specs.Labels.{VotedLabel}
-use Rattle.bus_vote.specs.Putting.{words_put, round_put}
+use Rattle.bus_vote.specs.inside.Putting.{words_put, round_put}
 use Rattle.bus_vote.specs.Rounds.{sent_by, words_of, first_words, second_words, third_words}
-use Rattle.bus_vote.specs.Walks.{IsSent, IsReach, IsSpaced, TwoAreOver, sent_from}
-use Rattle.bus_vote.proofs.ListLemmas.{flat_map-range}
+use Rattle.bus_vote.specs.inside.Walks.{IsSent, IsReach, IsSpaced, TwoAreOver, sent_from}
+use Rattle.bus_strings.proofs.ListLaws.{flat_map-range}
 use Rattle.bus_vote.proofs.RoundLemmas.{left_own, left_other, left_past}
 
 -- ---- the list of a trace

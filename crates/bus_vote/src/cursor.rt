@@ -3,7 +3,7 @@ ghost use Rattle.std.specs.Prelude.{◌≡◌, ◌≤◌, ℕ, IsTrue, [], ◌�
 ghost use Rattle.std.specs.Option.{option_and_then, option_copied};
 ghost use Rattle.bus_vote.specs.Rounds as rounds;
 ghost use Rattle.bus_strings.specs.Messages.{Entry};
-ghost use Rattle.bus_vote.specs.Walks.{sent_from, IsSent, IsReach, IsPace, TwoAreOver};
+ghost use Rattle.bus_vote.specs.inside.Walks.{sent_from, IsSent, IsReach, IsPace, TwoAreOver};
 
 use crate::mark::is_garbled;
 use bus_strings::{Message, Transmission, Wordstring};
@@ -73,7 +73,7 @@ pub(crate) struct Cursor<'a> {
 impl<'a> Model for Cursor<'a> {
     ghost use Rattle.std.specs.Prelude.{List, Bool};
     ghost use Rattle.bus_strings.specs.Messages.{Entry};
-    ghost use Rattle.bus_vote.specs.Walks.{sent_from, IsWalk};
+    ghost use Rattle.bus_vote.specs.inside.Walks.{sent_from, IsWalk};
 
     ghost Value = { List (Entry × Bool) };
 

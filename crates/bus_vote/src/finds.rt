@@ -1,8 +1,8 @@
 // Where the wordstrings of some labels stand in a list, found by one pass over it.
 ghost use Rattle.std.specs.Prelude.{◌≡◌, ◌<◌, ◌++◌, ◌^◌, [], IsTrue, length, take};
 ghost use Rattle.std.specs.List.{flat_map};
-ghost use Rattle.bus_vote.specs.Finds.{string_finds, finds_before, is_wanted as wanted_in};
-ghost use Rattle.bus_vote.specs.Walks.{IsSent, IsReach};
+ghost use Rattle.bus_vote.specs.inside.Finds.{string_finds, finds_before, is_wanted as wanted_in};
+ghost use Rattle.bus_vote.specs.inside.Walks.{IsSent, IsReach};
 
 use crate::mark::is_garbled;
 use crate::pace::TERMINALS;

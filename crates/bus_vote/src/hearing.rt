@@ -1,8 +1,8 @@
 // The words of a channel, round by round, from finds.
 ghost use Rattle.std.specs.Prelude.{◌≡◌, ℕ, ◌+◌, ◌<◌, ◌≤◌, IsTrue, Some, true, length, slice_get};
 ghost use Rattle.std.specs.Option.{option_copied};
-ghost use Rattle.bus_vote.specs.Finds as definition;
-ghost use Rattle.bus_vote.specs.Finds.{AreFinds, IsSilent, TwoAreSilent, Find as Find_in};
+ghost use Rattle.bus_vote.specs.inside.Finds as definition;
+ghost use Rattle.bus_vote.specs.inside.Finds.{AreFinds, IsSilent, TwoAreSilent, Find as Find_in};
 ghost use Rattle.bus_vote.specs.Rounds.{channel_words};
 
 use crate::cursor::words_in;
@@ -49,7 +49,7 @@ pub(crate) struct Reader<'a> {
 }
 
 impl<'a> Model for Reader<'a> {
-    ghost use Rattle.bus_vote.specs.Finds.{Hearing, IsHearing};
+    ghost use Rattle.bus_vote.specs.inside.Finds.{Hearing, IsHearing};
 
     ghost Value = { Hearing };
 

@@ -1,7 +1,7 @@
 // The finds of as many labels as there is room for, pass by pass.
 ghost use Rattle.std.specs.Prelude.{◌≡◌, IfSome};
-ghost use Rattle.bus_vote.specs.Finds.{AreFinds};
-ghost use Rattle.bus_vote.specs.Walks.{IsSent};
+ghost use Rattle.bus_vote.specs.inside.Finds.{AreFinds};
+ghost use Rattle.bus_vote.specs.inside.Walks.{IsSent};
 
 use crate::finds::{Find, Finds, MOST_FINDS, gather, is_wanted};
 use crate::label::VotedLabel;
@@ -85,8 +85,8 @@ pub(crate) struct Index<'a> {
 impl<'a> Model for Index<'a> {
     ghost use Rattle.std.specs.Prelude.{◌≡◌, ℕ, List, length, true};
     ghost use Rattle.bus_strings.specs.Messages.{Entry};
-    ghost use Rattle.bus_vote.specs.Finds.{finds_before};
-    ghost use Rattle.bus_vote.specs.Walks.{IsSent};
+    ghost use Rattle.bus_vote.specs.inside.Finds.{finds_before};
+    ghost use Rattle.bus_vote.specs.inside.Walks.{IsSent};
 
     ghost Value = { List Entry };
 

@@ -2,7 +2,7 @@
 ghost use Rattle.std.specs.Prelude.{◌≡◌, ◌+◌, ◌<◌, nat_lt, false, length, take, slice_get};
 ghost use Rattle.std.specs.Option.{option_map_or};
 ghost use Rattle.bus_strings.specs.Transmissions.{garbled};
-ghost use Rattle.bus_vote.specs.Walks.{IsSent, IsReach};
+ghost use Rattle.bus_vote.specs.inside.Walks.{IsSent, IsReach};
 
 use bus_strings::laws::neighbours_tell;
 use bus_strings::Transmission;

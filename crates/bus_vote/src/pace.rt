@@ -1,7 +1,7 @@
 // What a look at the whole list tells that makes walks over it short.
 ghost use Rattle.std.specs.Prelude.{◌≡◌, ◌+◌, ◌<◌, ◌≤◌, ℕ, IsTrue, Some, slice_get};
 ghost use Rattle.std.specs.Option.{option_copied};
-ghost use Rattle.bus_vote.specs.Walks.{IsSent, IsClear, IsSpaced, gap_in};
+ghost use Rattle.bus_vote.specs.inside.Walks.{IsSent, IsClear, IsSpaced, gap_in};
 
 use crate::mark::is_garbled;
 use bus_strings::limits::MOST_TERMINAL;

@@ -1,7 +1,7 @@
 // The channels of a label that were seen, up to three.
 ghost use Rattle.std.specs.Prelude.{◌≡◌};
 ghost use Rattle.bus_vote.specs.Labels as labels;
-ghost use Rattle.bus_vote.specs.Scans.{after, voted_of};
+ghost use Rattle.bus_vote.specs.inside.Scans.{after, voted_of};
 ghost use Rattle.bus_vote.specs.declared.seen.Seen.TheVariants.{Three};
 
 use crate::label::{Channel, VotedLabel};

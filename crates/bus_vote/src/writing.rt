@@ -5,14 +5,14 @@ ghost use Rattle.std.specs.Option.{option_copied};
 ghost use Rattle.bus_outer.specs.Sinks.{WritesText};
 ghost use Rattle.bus_outer.specs.Texts.{Adds};
 ghost use Rattle.bus_table.specs.Valid.{is_valid};
-ghost use Rattle.bus_vote.specs.Finds.{AreFinds};
+ghost use Rattle.bus_vote.specs.inside.Finds.{AreFinds};
 ghost use Rattle.bus_vote.specs.Labels.{labels};
-ghost use Rattle.bus_vote.specs.Putting.{words_put, round_put, label_put};
+ghost use Rattle.bus_vote.specs.inside.Putting.{words_put, round_put, label_put};
 ghost use Rattle.bus_vote.specs.Rounds.{sent_by};
 ghost use Rattle.bus_vote.specs.VoteLaws.{IsVotedInRuns};
 ghost use Rattle.bus_vote.specs.VoteTexts.{place_text, round_text, label_line, label_text, votes_text};
 ghost use Rattle.bus_vote.specs.Votes.{two_are_present, votes};
-ghost use Rattle.bus_vote.specs.Walks.{IsSent, IsSpaced, ArePaces};
+ghost use Rattle.bus_vote.specs.inside.Walks.{IsSent, IsSpaced, ArePaces};
 
 use crate::cursor::{Cursor, are_over};
 use crate::finds::Find;
@@ -26,6 +26,7 @@ use crate::voting::{are_present, vote, width};
 use bus_outer::{Sink, TextBuffer, WriteFault};
 use bus_strings::laws::neighbours_tell;
 use bus_strings::Transmission;
+use bus_table::laws::table_is_valid;
 use bus_table::Table;
 use bus_text::{four_digits, three_digits};
 use bus_trace::Trace;
@@ -261,13 +262,6 @@ fn clear_gaps<'a>(list: &[Transmission], gaps: &'a [usize]) -> Option<&'a [usize
     ensures { ArePaces list.now (option_copied result) }
 {
     if is_clear(list) { Some(gaps) } else { None }
-}
-
-// A look at a table, of which nothing is left in the built program, makes known that it is valid.
-fn table_is_valid(table: &Table)
-    ensures { IsTrue (is_valid table.now) }
-{
-    table.mode();
 }
 
 /// Writes the votes of a trace: each label of the table that three senders send on one SEND line each, and of each of its rounds the

@@ -16,7 +16,7 @@ use Rattle.bus_words.specs.declared.word.Kind.TheVariants.{Label, Plain}
 use Rattle.bus_words.specs.declared.word.FramedWord.{FramedWord}
 use Rattle.bus_wave.specs.Code.{sync, pair, bits_of, frame_bits, frame_halves, number_of_bits, digits_of, halves_of, bits_in, frame_from, frame_of}
 use Rattle.bus_wave.specs.Symbols.{are_digits}
-use Rattle.bus_wave.specs.Digits.{two_bits, gathered, head_of, frame_with, code_digit, code_digits, first_digit, second_digit}
+use Rattle.bus_wave.specs.inside.Digits.{two_bits, gathered, head_of, frame_with, code_digit, code_digits, first_digit, second_digit}
 
 -- ---- sixteen cases
 each_digit : (P : ℕ → Type 0) → P 0 → P 1 → P 2 → P 3 → P 4 → P 5 → P 6 → P 7 → P 8 → P 9 → P 10 → P 11 → P 12 → P 13 → P 14 → P 15 → (v : ℕ) → v < 16 → P v

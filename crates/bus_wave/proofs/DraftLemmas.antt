@@ -16,8 +16,8 @@ use Rattle.bus_wave.specs.declared.fault.WaveReason.TheVariants.{Range, Order}
 use Rattle.bus_wave.specs.declared.phase.Phase.{Phase}
 use Rattle.bus_wave.specs.declared.symbol.Symbol.{Symbol}
 use Rattle.bus_wave.specs.declared.symbol.Symbol.TheVariants as symbol
-use Rattle.bus_wave.specs.Drafts.{begun_of, phase_of, state_of, PhaseKeeps, Keeps}
-use Rattle.bus_wave.specs.Capped.{cap}
+use Rattle.bus_wave.specs.inside.Drafts.{begun_of, phase_of, state_of, PhaseKeeps, Keeps}
+use Rattle.bus_wave.specs.inside.Capped.{cap}
 use Rattle.bus_wave.specs.Spacing.{least_gap}
 use Rattle.bus_wave.specs.Judging as judging
 use Rattle.bus_wave.specs.Judging.{quiet_step, Opened, Silent, Saying, Waiting, Closed, State, string_of, with_string, later, least_rest, bounded, quiet_behind, is_label_of}

@@ -9,7 +9,7 @@ use Rattle.std.proofs.lemmas.Grind.{get_or-set_at}
 use Rattle.std.proofs.lemmas.Option.{slice_get_read}
 use Rattle.std.proofs.lemmas.List.{get_or-set_other, get_or-replicate}
 use Rattle.bus_table.specs.Tables.{Sender}
-use Rattle.bus_wave.specs.Beginning.{sender_at}
+use Rattle.bus_wave.specs.inside.Beginning.{sender_at}
 use Rattle.bus_wave.specs.Judging.{begins, beginner}
 
 -- the label word of a SEND line

@@ -17,11 +17,11 @@ use Rattle.bus_words.specs.Words.{frame}
 use Rattle.bus_wave.specs.declared.fault.WaveReason.{WaveReason}
 use Rattle.bus_wave.specs.declared.symbol.Symbol.{Symbol}
 use Rattle.bus_wave.specs.declared.symbol.Symbol.TheVariants as symbol
-use Rattle.bus_wave.specs.Capped.{capped}
+use Rattle.bus_wave.specs.inside.Capped.{capped}
 use Rattle.bus_wave.specs.Code.{digits_of, frame_halves}
-use Rattle.bus_wave.specs.Digits.{code_digit, code_digits, first_digit, second_digit, frame_with}
+use Rattle.bus_wave.specs.inside.Digits.{code_digit, code_digits, first_digit, second_digit, frame_with}
 use Rattle.bus_wave.specs.Gives.{HasLine}
-use Rattle.bus_wave.specs.Puts.{word_put}
+use Rattle.bus_wave.specs.inside.Puts.{word_put}
 use Rattle.bus_wave.specs.Symbols.{fields_of, symbol_reading}
 use Rattle.bus_wave.specs.Waves.{word_halves}
 use Rattle.bus_wave.proofs.DigitLemmas.{word_digits}

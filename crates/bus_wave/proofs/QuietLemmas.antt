@@ -10,42 +10,9 @@ use Rattle.std.proofs.lemmas.Int.Digits.{digits_value_more}
 use Rattle.bus_text.specs.Lines.{is_feed}
 use Rattle.bus_text.specs.Numbers.{is_plain_decimal, decimal_value}
 use Rattle.bus_wave.specs.declared.symbol.Symbol.TheVariants as symbol
-use Rattle.bus_wave.specs.Capped.{capped}
+use Rattle.bus_wave.specs.inside.Capped.{capped}
 use Rattle.bus_wave.specs.Gives.{HasLine}
 use Rattle.bus_wave.proofs.TextLemmas.{plain_reads, plain_feedless, line_split}
-
--- ---- digits
-all_push : (ds : List ℕ) (d : ℕ) → list_all is_ascii_digit ds ≡ true → is_ascii_digit d ≡ true
-    → list_all is_ascii_digit (ds ++ d ∷ []) ≡ true
-all_push [] d h k = ap (λ b. b && true) k
-all_push (x ∷ ds) d h k =
-    let p = and_parts (is_ascii_digit x) (list_all is_ascii_digit ds) h in
-    ap (λ b. b && list_all is_ascii_digit (ds ++ d ∷ [])) p.0 ∙ all_push ds d p.1 k
-
-digit_is : (d : ℕ) → is_ascii_digit d ≡ true → (48 ≤ d) × (digit_value d ≡ d - 48) × (d - 48 < 10)
-digit_is d h = grind (arith, nat_tests)
-
-pub record NextDigit (text : List ℕ) (count number : ℕ) : Type 0 where
-  pub within : count ≤ length text
-  pub digits : list_all is_ascii_digit (take count text) ≡ true
-  pub value : number ≡ decimal_value (take count text)
-  pub room : number < 10 ^ 18
-
--- one digit more
-pub next_digit : (text : List ℕ) (count value b d : ℕ) → count < length text → list_all is_ascii_digit (take count text) ≡ true
-    → value ≡ decimal_value (take count text) → value < 10 ^ 17 → b ≡ get_or text count 0 → is_ascii_digit b ≡ true → d ≡ b - 48
-    → NextDigit text (count + 1) (10 * value + d)
-next_digit text count value b d within digits value_is low here k d_is =
-    let digit = digit_is b k in
-    let more = digits_value_more 10 text count within in
-    let front : take count text ++ b ∷ [] ≡ take (count + 1) text = ap (λ x. take count text ++ x ∷ []) here
-    ∙ sym (take_more text count 0 within) in
-    record {
-      within = omega arith;
-      digits = subst (λ ds. list_all is_ascii_digit ds ≡ true) front (all_push (take count text) b digits k);
-      value = omega (arith, more, value_is, d_is, digit.1, ap digit_value here);
-      room = omega (arith, low, d_is, digit.2);
-    }
 
 -- digits that don't begin with a 0 are a plain decimal
 plain_is : (ds : List ℕ) → list_all is_ascii_digit ds ≡ true → 0 < length ds → get_or ds 0 0 ≢ 48 → is_plain_decimal ds ≡ true

@@ -22,10 +22,11 @@ use Rattle.bus_table.specs.Valid.{is_valid}
 use Rattle.bus_trace.specs.Traces.{Recording, IsTrace, IsBelow}
 use Rattle.bus_wave.specs.declared.fault.WaveReason.{WaveReason}
 use Rattle.bus_wave.specs.declared.fault.WaveReason.TheVariants.{Ended, Keyword}
-use Rattle.bus_wave.specs.declared.fault.LineFault.{LineFault}
-use Rattle.bus_wave.specs.declared.fault.LineFault.TheVariants as fault
+use Rattle.bus_text.specs.declared.fault.LineFault.{LineFault}
+use Rattle.bus_text.specs.declared.fault.LineFault.TheVariants as fault
 use Rattle.bus_wave.specs.declared.fault.WaveError.{WaveError}
-use Rattle.bus_wave.specs.Gives.{Fails, Gives, LineFails, fault_at}
+use Rattle.bus_text.specs.inside.Gives.{LineFails}
+use Rattle.bus_wave.specs.Gives.{Fails, Gives, fault_at}
 use Rattle.bus_wave.specs.declared.symbol.Symbol.{Symbol}
 use Rattle.bus_wave.specs.declared.symbol.Symbol.TheVariants as symbol
 use Rattle.bus_wave.specs.Code.{digits_of}
@@ -35,7 +36,7 @@ use Rattle.bus_wave.specs.Reading.{WaveRefusal, at_line, is_closed, judge_read, 
 use Rattle.bus_wave.specs.WaveLaws.{most_bytes, IsWaveTrace, IsRead}
 use Rattle.bus_wave.specs.Waves.{word_halves, wave}
 use Rattle.bus_wave.specs.WaveTexts.{WaveLine, Quiet, Halves, line_fields, text_of, lines_up_to, last_end, message_lines, laid, quiet_lines, wave_text, IsWaveText}
-use Rattle.bus_wave.specs.Capped.{capped}
+use Rattle.bus_wave.specs.inside.Capped.{capped}
 use Rattle.bus_wave.proofs.CountLemmas.{is_trace}
 use Rattle.bus_wave.proofs.DraftLemmas.{cap_step}
 use Rattle.bus_wave.proofs.LeadLemmas.{Leads}
@@ -469,7 +470,7 @@ done_is table number s rest h =
     ap (λ b. cond b (let r : Result Recording WaveRefusal = Ok (recorded table s) in r) (Err (record { line = number; reason = Ended }))) h
 
 -- a line that isn't taken
-pub line_fails : (table : Table) (number : ℕ) (s : State) (rest line behind : List ℕ) (f : LineFault) → slice_split is_feed rest ≡ line ∷ slice_split is_feed behind
+pub line_fails : (table : Table) (number : ℕ) (s : State) (rest line behind : List ℕ) (f : LineFault WaveReason) → slice_split is_feed rest ≡ line ∷ slice_split is_feed behind
     → LineFails f (judge table.senders s line) → Fails (fault_at number f) (pieces_reading table number s (slice_split is_feed rest))
 line_fails table number s rest line behind (fault.Refused reason) e h = line_error table number s rest line behind reason e h
 line_fails table number s rest line behind fault.Memory e h = tt

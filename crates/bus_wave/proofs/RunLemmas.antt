@@ -7,12 +7,13 @@ use Rattle.std.proofs.lemmas.Bool.{and_parts, eqb-true, eq-eqb, ne_eqb}
 use Rattle.std.proofs.lemmas.List.{append-nil}
 use Rattle.bus_strings.specs.Marking.{greatest_end}
 use Rattle.bus_strings.specs.Members.{In}
-use Rattle.bus_strings.proofs.MemberLaws.{of_each, at_in, in_append_cases, from_map}
+use Rattle.bus_strings.proofs.ListLaws.{all_pass}
+use Rattle.bus_strings.proofs.MemberLaws.{all_in, of_each, at_in, in_append_cases, from_map}
 use Rattle.bus_strings.specs.Messages.{Message, Entry}
 use Rattle.bus_strings.specs.Transmissions.{end_of}
 use Rattle.bus_table.specs.declared.mode.Mode.{Mode}
 use Rattle.bus_table.specs.declared.mode.Mode.TheVariants.{Aperiodic, Periodic}
-use Rattle.bus_table.specs.Facts.{SenderFacts}
+use Rattle.bus_table.specs.inside.Facts.{SenderFacts}
 use Rattle.bus_table.specs.Fits.{fits, sender_of}
 use Rattle.bus_table.specs.Hands.{are_hands}
 use Rattle.bus_table.specs.Tables.{Sender, Table, Hand}
@@ -26,43 +27,10 @@ use Rattle.bus_regime.proofs.VerdictLaws.{accepted_gaps}
 use Rattle.bus_regime.specs.Verdicts.{verdict_of, is_accepted}
 use Rattle.bus_schedule.specs.Closed.{sends, turns, turns_end, origin, offset_turns, in_rounds, gap_schedule, schedule_in, closed, closed_end}
 use Rattle.bus_schedule.specs.Even.{messages_of, rounds, are_even}
-use Rattle.bus_schedule.proofs.HandLaws.{hand_here, hand_of_other}
+use Rattle.bus_schedule.proofs.HandLemmas.{own_fit, own_count}
 use Rattle.bus_schedule.specs.Laws.{GapsAreLeft}
 use Rattle.bus_wave.specs.Spacing.{least_gap, IsOfSender, AreApart}
 use Rattle.bus_wave.specs.WaveLaws.{RunsAreSpaced}
-
--- ---- the hand of a sender
--- the sender has this many messages, and each fits
-pub record HasHand (hands : List Hand) (n : ℕ) (sender : Sender) : Type 0 where
-  pub count : length (messages_of hands sender.number) ≡ n
-  pub fit : list_all (fits sender) (messages_of hands sender.number) ≡ true
-
-own_hand : (n : ℕ) (senders : List Sender) (hands : List Hand) → are_hands senders hands ≡ true
-    → list_all (λ hand. length hand.messages == n) hands ≡ true → Differ (λ s. s.number) senders → (sender : Sender) → In sender senders → HasHand hands n sender
-own_hand n [] hands h counts d sender i = absurd i
-own_hand n (a ∷ senders) [] h counts d sender i = absurd cc
-own_hand n (a ∷ senders) (hand ∷ hands) h counts d sender (inl same) =
-    let parts = and_parts (hand.terminal == a.number) _ h in
-    let own = and_parts (list_all (fits a) hand.messages) _ parts.1 in
-    let number : hand.terminal ≡ sender.number = eqb-true hand.terminal a.number parts.0 ∙ ap (λ (s : Sender). s.number) (sym same) in
-    let here : messages_of (hand ∷ hands) sender.number ≡ hand.messages = hand_here hand hands sender.number number in
-    record {
-      count = ap length here ∙ eqb-true (length hand.messages) n (and_parts (length hand.messages == n) _ counts).0;
-      fit = ap (list_all (fits sender)) here ∙ ap (λ (s : Sender). list_all (fits s) hand.messages) same ∙ own.0;
-    }
-own_hand n (a ∷ senders) (hand ∷ hands) h counts d sender (inr i) =
-    let parts = and_parts (hand.terminal == a.number) _ h in
-    let own = and_parts (list_all (fits a) hand.messages) _ parts.1 in
-    let there : messages_of (hand ∷ hands) sender.number ≡ messages_of hands sender.number =
-    hand_of_other a senders hand hands sender d (eqb-true hand.terminal a.number parts.0) i in
-    let rest : HasHand hands n sender = own_hand n senders hands own.1 (and_parts (length hand.messages == n) _ counts).1 d.1 sender i in
-    record { count = ap length there ∙ rest.count; fit = ap (list_all (fits sender)) there ∙ rest.fit }
-
--- one of some that all pass a test
-all_pass : {X : Type 0} (p : X → Bool) (xs : List X) (k : ℕ) (d : X) → list_all p xs ≡ true → k < length xs → p (get_or xs k d) ≡ true
-all_pass p [] k d h within = absurd (omega arith)
-all_pass p (x ∷ xs) zero d h within = (and_parts (p x) _ h).0
-all_pass p (x ∷ xs) (suc k) d h within = all_pass p xs k d (and_parts (p x) _ h).1 (omega arith)
 
 -- ---- what a closed schedule holds
 -- a transmission is of a sender of an order, with its message of one of so many rounds
@@ -185,10 +153,6 @@ own_gap ti from [] s i = absurd i
 own_gap ti from (a ∷ order) s (inl same) = (record { sender = a; from = from; to = ti + a.at }, inl refl, sym same)
 own_gap ti from (a ∷ order) s (inr i) = let w = own_gap ti (ti + latest_end a) order s i in (w.0, inr w.1, w.2)
 
-all_of : {X : Type 0} (P : X → Type 0) (xs : List X) → ((x : X) → In x xs → P x) → AllByRecursion P xs
-all_of P [] h = tt
-all_of P (x ∷ xs) h = (h x (inl refl), all_of P xs (λ y i. h y (inr i)))
-
 module _ (left : GapsAreLeft) (table : Table) (hands : List Hand) (valid : IsTrue (is_valid table)) (accepted : IsTrue (is_accepted (verdict_of table)))
     (even : IsTrue (are_even table hands)) where
   in_table : (s : Sender) → In s (turn_order table) → In s table.senders
@@ -207,9 +171,10 @@ module _ (left : GapsAreLeft) (table : Table) (hands : List Hand) (valid : IsTru
         let parts = and_parts (are_hands table.senders hands) (list_all (λ hand. length hand.messages == rounds hands) hands) even in
         let differ = numbers_differ table (valid_facts table valid) in
         let there : In t.sender table.senders = in_table t.sender t.there in
-        let own : HasHand hands (rounds hands) t.sender = own_hand (rounds hands) table.senders hands parts.0 parts.1 differ t.sender there in
+        let count = own_count (rounds hands) table.senders hands parts.0 parts.1 differ t.sender there in
+        let own = own_fit table.senders hands parts.0 differ t.sender there in
         let less : t.round < rounds hands = t.within in
-        let fit = all_pass (fits t.sender) (messages_of hands t.sender.number) t.round [] own.fit (omega (arith, own.count)) in
+        let fit = all_pass (fits t.sender) (messages_of hands t.sender.number) t.round [] own (omega (arith, count)) in
         record {
           sender = t.sender;
           found = ap (λ (e : Entry). sender_of table.senders e.terminal) t.is ∙ found table.senders t.sender differ there;
@@ -245,7 +210,7 @@ module _ (left : GapsAreLeft) (table : Table) (hands : List Hand) (valid : IsTru
 pub runs_are_spaced : GapsAreLeft → RunsAreSpaced
 runs_are_spaced left table hands t valid accepted even list horizon = record {
   senders = subst (λ xs. AllByRecursion (IsOfSender table) xs) (sym list)
-      (all_of (IsOfSender table) (closed table hands) (of_sender left table hands valid accepted even));
+      (all_in (IsOfSender table) (closed table hands) (of_sender left table hands valid accepted even));
   apart = subst (λ xs. AreApart 0 t.horizon xs) (sym list)
       (subst (λ end. AreApart 0 end (closed table hands)) (sym horizon) (apart left table hands valid accepted even));
 }

@@ -9,7 +9,7 @@ use Rattle.bus_strings.specs.Members.{In}
 use Rattle.bus_strings.proofs.MemberLaws.{of_each}
 use Rattle.bus_strings.specs.Messages.{Wordstring, Message}
 use Rattle.bus_table.specs.declared.line.SendLine.{SendLine}
-use Rattle.bus_table.specs.Facts.{SenderFacts}
+use Rattle.bus_table.specs.inside.Facts.{SenderFacts}
 use Rattle.bus_table.specs.Fits.{allows, matches, sender_of}
 use Rattle.std.specs.Int.{is_in_range as is_between}
 use Rattle.bus_table.specs.Ranges.{is_send_line, is_number, is_tg, is_offset, are_send_lines, are_take_lines}

@@ -15,22 +15,6 @@ use Rattle.bus_trace.specs.Traces.{Recording}
 use Rattle.bus_wave.specs.declared.fault.WaveFault.{WaveFault}
 use Rattle.bus_wave.specs.Spacing.{least_gap, IsOfSender, AreApart, IsSpaced, fits_some, entry_fault, spaced_from, spaced_of}
 
--- wordstrings of another number than the lines aren't theirs
-all_false : (a b c : Bool) → (a && (b && (c && false))) ≡ false
-all_false true true true = refl
-all_false true true false = refl
-all_false true false c = refl
-all_false false b c = refl
-
-pub matches_length : (sends : List SendLine) (strings : Message) → length sends ≢ length strings → matches allows sends strings ≡ false
-matches_length [] [] h = absurd (h refl)
-matches_length [] (string ∷ strings) h = refl
-matches_length (line ∷ sends) [] h = refl
-matches_length (line ∷ sends) (string ∷ strings) h =
-    ap (λ b. string.label == line.label && (string.ext == line.ext && (allows line (length string.words) && b)))
-    (matches_length sends strings (λ e. h (omega arith)))
-    ∙ all_false (string.label == line.label) (string.ext == line.ext) (allows line (length string.words))
-
 -- one entry
 record IsRight (table : Table) (horizon from : ℕ) (x : Entry) : Type 0 where
   sender : IsOfSender table x

@@ -9,7 +9,7 @@ use Rattle.bus_strings.specs.Limits.{inner_gap}
 use Rattle.bus_strings.specs.Messages.{Wordstring, Message, Entry}
 use Rattle.bus_strings.specs.Transmissions.{end_of}
 use Rattle.bus_trace.specs.Traces.{Recording, data_word}
-use Rattle.bus_wave.specs.Puts.{word_put, data_put, string_put, silence_put, quiet_put, next_put, message_put, entry_put, list_put, text_put}
+use Rattle.bus_wave.specs.inside.Puts.{word_put, data_put, string_put, silence_put, quiet_put, next_put, message_put, entry_put, list_put, text_put}
 use Rattle.bus_wave.specs.Waves.{word_halves, words_of}
 use Rattle.bus_wave.specs.WaveTexts.{WaveLine, Quiet, Halves, line_fields, end_fields, text_of, quiet_lines, string_lines}
 use Rattle.bus_wave.specs.WaveTexts.{message_lines, last_end, laid, lines_up_to, wave_text}

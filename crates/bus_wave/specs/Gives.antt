@@ -2,17 +2,17 @@
 use Rattle.std.specs.Prelude.{◌≡◌, ℕ, List, ◌∷◌, Result, Ok, Err}
 use Rattle.std.specs.List.{slice_split}
 use Rattle.bus_text.specs.Lines.{is_feed}
+use Rattle.bus_text.specs.declared.fault.LineFault.{LineFault}
+use Rattle.bus_text.specs.declared.fault.LineFault.TheVariants as line
 use Rattle.std.specs.Global.{Vec}
 use Rattle.bus_strings.specs.Messages.{Entry}
 use Rattle.bus_table.specs.Tables.{Table}
 use Rattle.bus_trace.specs.Traces.{Recording}
 use Rattle.bus_wave.specs.declared.fault.WaveReason.{WaveReason}
-use Rattle.bus_wave.specs.declared.fault.LineFault.{LineFault}
-use Rattle.bus_wave.specs.declared.fault.LineFault.TheVariants as line
 use Rattle.bus_wave.specs.declared.fault.WaveError.{WaveError}
 use Rattle.bus_wave.specs.declared.fault.WaveError.TheVariants.{Text, Memory}
 use Rattle.bus_wave.specs.declared.symbol.Symbol.{Symbol}
-use Rattle.bus_wave.specs.Capped.{capped}
+use Rattle.bus_wave.specs.inside.Capped.{capped}
 use Rattle.bus_wave.specs.Counted.{holds_of}
 use Rattle.bus_wave.specs.Symbols.{fields_of, symbol_reading}
 use Rattle.bus_wave.specs.Reading.{WaveRefusal}
@@ -27,18 +27,8 @@ abbrev pub Gives : {Y : Type 0} → Result Y WaveError → Result Y WaveRefusal 
 Gives (Ok value) reading = reading ≡ Ok value
 Gives (Err error) reading = Fails error reading
 
--- the same of a line
-abbrev pub LineFails : {Y : Type 0} → LineFault → Result Y WaveReason → Type 0
-LineFails line.Memory reading = Unit {0}
-LineFails (line.Refused reason) reading = reading ≡ Err reason
-
--- a call came to a new state, which is that of the reading; where it failed, nothing is said of the new one
-abbrev pub StepGives : {Y : Type 0} → Y → Result (Unit {0}) LineFault → Result Y WaveReason → Type 0
-StepGives new (Ok u) reading = reading ≡ Ok new
-StepGives new (Err fault) reading = LineFails fault reading
-
 -- the error of a line that wasn't taken
-abbrev pub fault_at : ℕ → LineFault → WaveError
+abbrev pub fault_at : ℕ → LineFault WaveReason → WaveError
 fault_at number (line.Refused reason) = Text number reason
 fault_at number line.Memory = Memory
 

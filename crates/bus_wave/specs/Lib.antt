@@ -1,15 +1,11 @@
-pub mod Beginning
 pub mod Code
 pub mod Waves
 pub mod WaveTexts
 pub mod Spacing
 pub mod Counted
 pub mod Symbols
-pub mod Capped
 pub mod Judging
-pub mod Drafts
 pub mod Reading
 pub mod Gives
-pub mod Puts
-pub mod Digits
 pub mod WaveLaws
+pub mod inside

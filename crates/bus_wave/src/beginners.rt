@@ -1,7 +1,7 @@
 //! The senders of a table by the label words with which their messages begin, so that none is looked for.
 ghost use Rattle.std.specs.Prelude.{◌≡◌, ◌==◌, ℕ, IfOk, replicate};
 ghost use Rattle.std.specs.Option.{option_copied};
-ghost use Rattle.bus_wave.specs.Beginning.{ArePlaces};
+ghost use Rattle.bus_wave.specs.inside.Beginning.{ArePlaces};
 ghost use Rattle.bus_wave.specs.Judging.{begins, beginner};
 
 use bus_table::{Sender, Table};

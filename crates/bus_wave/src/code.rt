@@ -4,8 +4,8 @@ ghost use Rattle.std.specs.Char.{digit_value};
 ghost use Rattle.std.specs.List.{list_all};
 ghost use Rattle.bus_text.specs.Digits.{is_capital_digit};
 ghost use Rattle.bus_wave.specs.Code.{halves_of, frame_of};
-ghost use Rattle.bus_wave.specs.Digits as spec;
-ghost use Rattle.bus_wave.specs.Puts.{word_put};
+ghost use Rattle.bus_wave.specs.inside.Digits as spec;
+ghost use Rattle.bus_wave.specs.inside.Puts.{word_put};
 ghost use Rattle.bus_wave.specs.Symbols.{are_digits as digits_test};
 
 use bus_text::capital_digit;

@@ -6,22 +6,23 @@ ghost use Rattle.bus_words.specs.declared.word.Kind.TheVariants as kind;
 ghost use Rattle.bus_strings.specs.Limits.{horizon_limit, most_strings, most_terminal};
 ghost use Rattle.bus_table.specs.Ranges.{is_send_line};
 ghost use Rattle.bus_wave.specs.declared.symbol.Symbol.TheVariants.{Quiet, Sent, End};
-ghost use Rattle.bus_wave.specs.Capped.{cap};
-ghost use Rattle.bus_wave.specs.Drafts.{Keeps, begun_of, state_of};
-ghost use Rattle.bus_wave.specs.Gives.{StepGives};
+ghost use Rattle.bus_wave.specs.inside.Capped.{cap};
+ghost use Rattle.bus_wave.specs.inside.Drafts.{Keeps, begun_of, state_of};
+ghost use Rattle.bus_text.specs.inside.Gives.{StepGives};
 ghost use Rattle.bus_wave.specs.Reading.{is_closed as closed_test};
 ghost use Rattle.bus_wave.specs.Judging as judging;
 ghost use Rattle.bus_wave.specs.Judging.{string_of, with_string, later as later_of, step, opening};
 ghost use Rattle.bus_wave.specs.Judging.{begin_bounded, next_bounded, quiet_bounded, pause_bounded, last_bounded};
 
 use crate::beginners::Beginners;
-use crate::fault::{LineFault, WaveReason};
+use crate::fault::WaveReason;
 use crate::making::{clear_for, message, wordstring};
 use crate::phase::Phase;
 use crate::spacing::LEAST_GAP;
 use crate::symbol::Symbol;
 use bus_strings::limits::{HORIZON_LIMIT, INNER_GAP, WORD_BITS};
 use bus_strings::{Transmission, Wordstring};
+use bus_text::LineFault;
 use bus_table::{SendLine, Sender};
 use bus_words::{Ext, Kind, Label, Word};
 use std::alloc::{AllocError, Global};
@@ -97,7 +98,7 @@ impl<'t> Draft<'t> {
     }
 
     // Takes a data word.
-    fn take_data(&mut self, beginners: &Beginners<'t>, value: u16) -> Result<(), LineFault>
+    fn take_data(&mut self, beginners: &Beginners<'t>, value: u16) -> Result<(), LineFault<WaveReason>>
         requires { Keeps self.old }
         ensures gives { StepGives (state_of self.new) result
             (step beginners.now.senders.now (state_of self.old) (Sent (record { kind = kind.Plain; value = value }))) }
@@ -133,7 +134,7 @@ impl<'t> Draft<'t> {
     }
 
     // Begins a message of a sender with its first label word.
-    fn begin(&mut self, alloc: Global, sender: &'t Sender) -> Result<(), LineFault>
+    fn begin(&mut self, alloc: Global, sender: &'t Sender) -> Result<(), LineFault<WaveReason>>
         requires { Keeps self.old }
         ensures gives { StepGives (state_of self.new) result (begin_bounded (state_of self.old) (Some sender.now)) }
         ensures keeps { OnOk result (Keeps self.new) }
@@ -159,7 +160,7 @@ impl<'t> Draft<'t> {
         alloc: Global,
         beginners: &Beginners<'t>,
         value: u16,
-    ) -> Result<(), LineFault>
+    ) -> Result<(), LineFault<WaveReason>>
         requires { Keeps self.old }
         ensures gives { StepGives (state_of self.new) result
             (begin_bounded (state_of self.old) (judging.beginner beginners.now.senders.now value)) }
@@ -178,7 +179,7 @@ impl<'t> Draft<'t> {
         next: SendLine,
         left: &'t [SendLine],
         later: u64,
-    ) -> Result<(), LineFault>
+    ) -> Result<(), LineFault<WaveReason>>
         requires keeps { Keeps self.old }
         requires phase { self.old.phase ≡ Phase.Waiting next left later }
         ensures gives { StepGives (state_of self.new) result (next_bounded (state_of self.old) value (begun_of self.old) next left.now) }
@@ -203,7 +204,7 @@ impl<'t> Draft<'t> {
         alloc: Global,
         beginners: &Beginners<'t>,
         value: u16,
-    ) -> Result<(), LineFault>
+    ) -> Result<(), LineFault<WaveReason>>
         requires { Keeps self.old }
         ensures gives { StepGives (state_of self.new) result
             (step beginners.now.senders.now (state_of self.old) (Sent (record { kind = kind.Label; value = value }))) }
@@ -269,7 +270,7 @@ impl<'t> Draft<'t> {
         line: SendLine,
         left: &'t [SendLine],
         later: u64,
-    ) -> Result<(), LineFault>
+    ) -> Result<(), LineFault<WaveReason>>
         requires keeps { Keeps self.old }
         requires phase { self.old.phase ≡ Phase.Saying line left later }
         requires last { left.now ≡ [] }
@@ -296,7 +297,7 @@ impl<'t> Draft<'t> {
         line: SendLine,
         left: &'t [SendLine],
         later: u64,
-    ) -> Result<(), LineFault>
+    ) -> Result<(), LineFault<WaveReason>>
         requires keeps { Keeps self.old }
         requires phase { self.old.phase ≡ Phase.Saying line left later }
         requires some { 0 < length left.now }
@@ -328,7 +329,7 @@ impl<'t> Draft<'t> {
         line: SendLine,
         left: &'t [SendLine],
         later: u64,
-    ) -> Result<(), LineFault>
+    ) -> Result<(), LineFault<WaveReason>>
         requires keeps { Keeps self.old }
         requires phase { self.old.phase ≡ Phase.Saying line left later }
         ensures gives { StepGives (state_of self.new) result
@@ -351,7 +352,7 @@ impl<'t> Draft<'t> {
         alloc: Global,
         beginners: &Beginners<'t>,
         bit_times: u64,
-    ) -> Result<(), LineFault>
+    ) -> Result<(), LineFault<WaveReason>>
         requires { Keeps self.old }
         ensures gives { StepGives (state_of self.new) result (step beginners.now.senders.now (state_of self.old) (Quiet bit_times)) }
         ensures keeps { OnOk result (Keeps self.new) }
@@ -388,7 +389,7 @@ impl<'t> Draft<'t> {
         line: SendLine,
         left: &'t [SendLine],
         later: u64,
-    ) -> Result<(), LineFault>
+    ) -> Result<(), LineFault<WaveReason>>
         requires keeps { Keeps self.old }
         requires phase { self.old.phase ≡ Phase.Saying line left later }
         ensures gives { StepGives (state_of self.new) result
@@ -404,7 +405,7 @@ impl<'t> Draft<'t> {
     }
 
     // Takes the last line.
-    fn take_end(&mut self, alloc: Global, beginners: &Beginners<'t>) -> Result<(), LineFault>
+    fn take_end(&mut self, alloc: Global, beginners: &Beginners<'t>) -> Result<(), LineFault<WaveReason>>
         requires { Keeps self.old }
         ensures gives { StepGives (state_of self.new) result (step beginners.now.senders.now (state_of self.old) End) }
         ensures keeps { OnOk result (Keeps self.new) }
@@ -434,7 +435,7 @@ impl<'t> Draft<'t> {
         alloc: Global,
         beginners: &Beginners<'t>,
         symbol: Symbol,
-    ) -> Result<(), LineFault>
+    ) -> Result<(), LineFault<WaveReason>>
         requires { Keeps self.old }
         ensures gives { StepGives (state_of self.new) result (step beginners.now.senders.now (state_of self.old) symbol) }
         ensures keeps { OnOk result (Keeps self.new) }
@@ -452,7 +453,7 @@ impl<'t> Draft<'t> {
         alloc: Global,
         beginners: &Beginners<'t>,
         word: Word,
-    ) -> Result<(), LineFault>
+    ) -> Result<(), LineFault<WaveReason>>
         requires { Keeps self.old }
         ensures gives { StepGives (state_of self.new) result (step beginners.now.senders.now (state_of self.old) (Sent word)) }
         ensures keeps { OnOk result (Keeps self.new) }

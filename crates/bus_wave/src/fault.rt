@@ -1,3 +1,5 @@
+//! What is wrong with a trace of which no wave is made, and why a wave text isn't read.
+use bus_text::LineFault;
 use std::alloc::{AllocError, AllocFailed};
 use thiserror::Error;
 
@@ -74,42 +76,13 @@ impl<T: Drop> From<AllocFailed<T>> for WaveError {
     }
 }
 
-/// Why a line wasn't taken.
-#[derive(Debug, Drop)]
-pub(crate) enum LineFault {
-    Refused(WaveReason),
-    Memory,
-}
-
-impl From<WaveReason> for LineFault {
+impl From<WaveReason> for LineFault<WaveReason> {
     ghost use Rattle.std.specs.Prelude.{◌≡◌};
-    ghost use Rattle.bus_wave.specs.declared.fault.LineFault.TheVariants.{Refused};
+    ghost use Rattle.bus_text.specs.declared.fault.LineFault.TheVariants.{Refused};
 
     ghost from_gives = { λ reason fault. fault ≡ Refused reason };
 
-    fn from(reason: WaveReason) -> LineFault {
+    fn from(reason: WaveReason) -> LineFault<WaveReason> {
         LineFault::Refused(reason)
-    }
-}
-
-impl From<AllocError> for LineFault {
-    ghost use Rattle.std.specs.Prelude.{◌≡◌};
-    ghost use Rattle.bus_wave.specs.declared.fault.LineFault.TheVariants.{Memory};
-
-    ghost from_gives = { λ _ fault. fault ≡ Memory };
-
-    fn from(_error: AllocError) -> LineFault {
-        LineFault::Memory
-    }
-}
-
-impl<T: Drop> From<AllocFailed<T>> for LineFault {
-    ghost use Rattle.std.specs.Prelude.{◌≡◌};
-    ghost use Rattle.bus_wave.specs.declared.fault.LineFault.TheVariants.{Memory};
-
-    ghost from_gives = { λ _ fault. fault ≡ Memory };
-
-    fn from(_error: AllocFailed<T>) -> LineFault {
-        LineFault::Memory
     }
 }

@@ -5,9 +5,8 @@ ghost use Rattle.bus_trace.specs.Limits.{most_count};
 ghost use Rattle.bus_wave.specs.Counted as counted;
 ghost use Rattle.bus_wave.specs.Counted.{entries_of};
 
-use crate::spacing::sender_of;
 use bus_strings::Transmission;
-use bus_table::{Sender, Table};
+use bus_table::{Sender, Table, sender_of};
 use bus_trace::Hold;
 use std::alloc::{AllocError, Global};
 

@@ -1,24 +1,19 @@
 //! Lines that are spelled as they are written, recognized in one look: no fields are cut out. What isn't recognized here is judged field by
 //! field.
-ghost use Rattle.std.specs.Prelude.{◌≡◌, ◌+◌, ◌*◌, ◌/◌, ◌<◌, ◌≤◌, ◌^◌, ◌++◌, ◌∷◌, IfSome, Ok, true, length, take};
-ghost use Rattle.std.specs.List.{list_all};
-ghost use Rattle.std.specs.Char.{is_ascii_digit};
-ghost use Rattle.bus_text.specs.Numbers.{decimal_value};
+ghost use Rattle.std.specs.Prelude.{◌≡◌, ◌+◌, ◌*◌, ◌/◌, ◌<◌, ◌≤◌, ◌^◌, ◌++◌, ◌∷◌, IfSome, Ok, true, length};
 ghost use Rattle.bus_wave.specs.declared.symbol.Symbol.TheVariants.{Quiet};
 ghost use Rattle.bus_wave.specs.Code.{digits_of};
-ghost use Rattle.bus_wave.specs.Digits as spec;
+ghost use Rattle.bus_wave.specs.inside.Digits as spec;
 ghost use Rattle.bus_wave.specs.Gives.{HasLine};
-ghost use Rattle.bus_wave.specs.Puts.{word_put};
+ghost use Rattle.bus_wave.specs.inside.Puts.{word_put};
 ghost use Rattle.bus_wave.specs.Waves.{word_halves};
 
 use crate::code::{frame_with, head_of};
+use bus_text::leading_digits;
 use bus_words::{Kind, Word, unframe};
 
 /// How many bytes a W line has.
 const LINE: usize = 13;
-
-/// A number that one digit more can be put behind.
-const MOST_BEFORE: u64 = 100_000_000_000_000_000;
 
 /// What the table of bits has for a byte that is no digit of two pairs.
 const NO: u8 = 4;
@@ -92,22 +87,6 @@ pub(crate) fn word_line(text: &[u8]) -> Option<(Word, &[u8])>
     let bits = gathered(front, &text[4..LINE - 1])?;
     let word = word_with(kind, bits)?;
     Some((word, &text[LINE..]))
-}
-
-/// How many digits stand in front, as far as their number has room, and that number.
-fn leading_digits(text: &[u8]) -> (usize, u64)
-    ensures within { result.0 ≤ length text.now }
-    ensures digits { list_all is_ascii_digit (take result.0 text.now) ≡ true }
-    ensures value { result.1 ≡ decimal_value (take result.0 text.now) }
-    ensures room { result.1 < 10 ^ 18 }
-{
-    let mut value = 0;
-    let mut count = 0;
-    while count < text.len() && value < MOST_BEFORE && text[count].is_ascii_digit() {
-        value = 10 * value + u64::from(text[count] - b'0');
-        count += 1;
-    }
-    (count, value)
 }
 
 /// The number of the Q line at the front of a text, and what is behind that line. A 0 and a number of very many digits aren't recognized

@@ -3,8 +3,9 @@ ghost use Rattle.std.specs.List.{slice_split};
 ghost use Rattle.bus_text.specs.Lines.{is_feed};
 ghost use Rattle.bus_table.specs.Valid.{is_valid};
 ghost use Rattle.bus_trace.specs.Traces.{Recording};
-ghost use Rattle.bus_wave.specs.Drafts.{Keeps, state_of};
-ghost use Rattle.bus_wave.specs.Gives.{Gives, StepGives, PartsGive, fault_at};
+ghost use Rattle.bus_wave.specs.inside.Drafts.{Keeps, state_of};
+ghost use Rattle.bus_text.specs.inside.Gives.{StepGives};
+ghost use Rattle.bus_wave.specs.Gives.{Gives, PartsGive, fault_at};
 ghost use Rattle.bus_wave.specs.Judging.{opening};
 ghost use Rattle.bus_wave.specs.Reading.{is_closed as closed_test, judge_read, pieces_reading, wave_reading};
 ghost use Rattle.bus_wave.specs.WaveLaws.{most_bytes, IsRead, IsWaveTrace};
@@ -12,19 +13,20 @@ ghost use Rattle.bus_wave.specs.WaveTexts.{IsWaveText};
 
 use crate::beginners::Beginners;
 use crate::draft::Draft;
-use crate::fault::{LineFault, WaveError, WaveReason};
+use crate::fault::{WaveError, WaveReason};
 use crate::holds::holds;
 use crate::laws::waves_tell_traces;
 use crate::pieces::cut;
-use crate::spacing::table_is_valid;
 use crate::symbol::{Symbol, first_symbol, head_of};
 use bus_strings::Transmission;
+use bus_text::LineFault;
+use bus_table::laws::table_is_valid;
 use bus_table::{Sender, Table};
 use bus_trace::Trace;
 use std::alloc::Global;
 
 /// The error of a line that wasn't taken.
-fn error_at(number: u64, fault: LineFault) -> WaveError
+fn error_at(number: u64, fault: LineFault<WaveReason>) -> WaveError
     ensures { result ≡ fault_at number fault }
 {
     match fault {
@@ -43,7 +45,7 @@ fn take_line<'t>(
     beginners: &Beginners<'t>,
     draft: &mut Draft<'t>,
     line: Result<Symbol, WaveReason>,
-) -> Result<(), LineFault>
+) -> Result<(), LineFault<WaveReason>>
     requires { Keeps draft.old }
     ensures gives { StepGives (state_of draft.new) result (judge_read beginners.now.senders.now (state_of draft.old) line) }
     ensures keeps { OnOk result (Keeps draft.new) }

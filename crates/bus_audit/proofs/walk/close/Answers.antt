@@ -3,8 +3,8 @@ use Rattle.std.proofs.lemmas.Bool.{cases_lt}
 use Rattle.std.proofs.lemmas.Result.{err_from_is_err_and}
 use Rattle.bus_audit.specs.declared.clock.Clock.{Clock}
 use Rattle.bus_audit.specs.declared.watch.Watch.{Watch}
-use Rattle.bus_audit.specs.Watches.{NoneBefore, Misses, pair, passed}
-use Rattle.bus_audit.specs.Standing.{Closed}
+use Rattle.bus_audit.specs.inside.Watches.{NoneBefore, Misses, pair, passed}
+use Rattle.bus_audit.specs.inside.Standing.{Closed}
 use Rattle.bus_audit.proofs.Going.{closed_here, closed_calm, closed_busy, missed_over, have_strings}
 use Rattle.bus_audit.proofs.walk.close.Goals as goal
 

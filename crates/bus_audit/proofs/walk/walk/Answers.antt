@@ -1,5 +1,5 @@
 use Rattle.std.proofs.Common.{arith, ◌≤◌, ℕ, length, refl, sym, ap, subst}
-use Rattle.bus_audit.specs.Standing.{Judged}
+use Rattle.bus_audit.specs.inside.Standing.{Judged}
 use Rattle.bus_strings.proofs.MemberLaws.{at_in}
 use Rattle.bus_audit.proofs.Going.{judged_none, judged_entry, judged_more, judged_all, entry_read}
 use Rattle.bus_audit.proofs.walk.walk.Goals as goal

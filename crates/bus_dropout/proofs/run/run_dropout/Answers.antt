@@ -22,7 +22,7 @@ pub returns-clause-run : goal.returns-clause-run
 returns-clause-run c =
     the_run c.args.table.now c.args.hands.items c.in_ok-list.list.items _ _ c.in_ok-end.end c.in_ok-bus.ensures.quiet c.in_ok-bus.ensures.stations
     (c.in_ok-end.ensures.end ∙ ap (drop_end c.args.table.now) c.deref.ensures.value) c.in_ok-list.ensures.lawful
-    (c.dropout_is_lawful.ensures c.args.table.now c.args.hands.items c.sg.ensures.valid c.requires.aperiodic c.requires.hands c.requires.long)
+    (c.dropout_is_lawful.ensures c.args.table.now c.args.hands.items c.table_is_valid.ensures c.requires.aperiodic c.requires.hands c.requires.long)
 
 pub returns-clause-limit : goal.returns-clause-limit
 returns-clause-limit c =

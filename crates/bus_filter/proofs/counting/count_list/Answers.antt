@@ -3,9 +3,9 @@ use Rattle.std.specs.List.{sum_by, zip}
 use Rattle.bus_strings.specs.Messages.{Entry}
 use Rattle.bus_strings.specs.Transmissions.{marks}
 use Rattle.bus_filter.specs.Received.{Taker}
-use Rattle.bus_filter.specs.Putting.{marked_count}
+use Rattle.bus_filter.specs.inside.Putting.{marked_count}
 use Rattle.bus_filter.proofs.CountLemmas.{counted_more, list_counted}
-use Rattle.bus_filter.proofs.MarkLemmas.{next_marked, all_marked}
+use Rattle.bus_strings.proofs.MarkLaws.{next_marked, all_marked}
 use Rattle.bus_filter.proofs.counting.count_list.Goals as goal
 
 pub loop-x-preserved : goal.loop-x-preserved

@@ -4,7 +4,7 @@ use Rattle.bus_strings.specs.Limits.{most_strings}
 use Rattle.bus_strings.specs.Transmissions.{marks}
 use Rattle.bus_table.specs.Ranges.{most_takes}
 use Rattle.bus_filter.specs.Received.{Taker}
-use Rattle.bus_filter.specs.Putting.{marked_count}
+use Rattle.bus_filter.specs.inside.Putting.{marked_count}
 use Rattle.bus_filter.proofs.counting.count_list.Given as goal
 
 -- the entries so far are counted, and the marks of the others are left

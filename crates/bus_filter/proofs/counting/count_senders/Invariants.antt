@@ -1,6 +1,6 @@
 use Rattle.std.proofs.Common.{◌≡◌, ◌≤◌, ◌*◌, ◌^◌, take}
 use Rattle.std.specs.List.{sum_by}
-use Rattle.bus_filter.specs.Putting.{sender_count}
+use Rattle.bus_filter.specs.inside.Putting.{sender_count}
 use Rattle.bus_filter.proofs.counting.count_senders.Given as goal
 
 -- those so far are counted

@@ -1,7 +1,7 @@
 use Rattle.std.proofs.Common.{◌≡◌, ◌≤◌, ◌*◌, take}
 use Rattle.std.specs.List.{sum_by}
 use Rattle.bus_table.specs.Ranges.{most_takes}
-use Rattle.bus_filter.specs.Putting.{string_count}
+use Rattle.bus_filter.specs.inside.Putting.{string_count}
 use Rattle.bus_filter.proofs.counting.count_strings.Given as goal
 
 -- the wordstrings so far are counted

@@ -5,9 +5,9 @@ use Rattle.bus_outer.proofs.TextLaws.{◌▸◌, adds_nothing}
 use Rattle.bus_strings.specs.Messages.{Entry}
 use Rattle.bus_strings.specs.Transmissions.{marks}
 use Rattle.bus_filter.specs.Received.{Taker}
-use Rattle.bus_filter.specs.Putting.{marked_put}
-use Rattle.bus_filter.proofs.Folds.{flat_map-more}
-use Rattle.bus_filter.proofs.MarkLemmas.{next_marked, all_marked}
+use Rattle.bus_filter.specs.inside.Putting.{marked_put}
+use Rattle.bus_strings.proofs.ListLaws.{flat_map-more}
+use Rattle.bus_strings.proofs.MarkLaws.{next_marked, all_marked}
 use Rattle.bus_filter.proofs.writing.put_list.Goals as goal
 
 pub loop-x-init : goal.loop-x-init

@@ -3,7 +3,7 @@ use Rattle.std.specs.List.{flat_map, zip}
 use Rattle.bus_outer.specs.Texts.{Adds}
 use Rattle.bus_strings.specs.Transmissions.{marks}
 use Rattle.bus_filter.specs.Received.{Taker}
-use Rattle.bus_filter.specs.Putting.{marked_put}
+use Rattle.bus_filter.specs.inside.Putting.{marked_put}
 use Rattle.bus_filter.proofs.writing.put_list.Given as goal
 
 -- the entries so far are put, and the marks of the others are left

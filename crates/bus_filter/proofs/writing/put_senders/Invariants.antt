@@ -1,7 +1,7 @@
 use Rattle.std.proofs.Common.{take}
 use Rattle.std.specs.List.{flat_map}
 use Rattle.bus_outer.specs.Texts.{Adds}
-use Rattle.bus_filter.specs.Putting.{sender_put}
+use Rattle.bus_filter.specs.inside.Putting.{sender_put}
 use Rattle.bus_filter.proofs.writing.put_senders.Given as goal
 
 abbrev pub invariant-loop-sender : goal.invariant-loop-sender

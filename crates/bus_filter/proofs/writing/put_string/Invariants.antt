@@ -1,7 +1,7 @@
 use Rattle.std.proofs.Common.{take}
 use Rattle.std.specs.List.{flat_map}
 use Rattle.bus_outer.specs.Texts.{Adds}
-use Rattle.bus_filter.specs.Putting.{take_put}
+use Rattle.bus_filter.specs.inside.Putting.{take_put}
 use Rattle.bus_filter.proofs.writing.put_string.Given as goal
 
 abbrev pub invariant-loop-line : goal.invariant-loop-line

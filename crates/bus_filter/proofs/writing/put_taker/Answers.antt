@@ -10,5 +10,5 @@ pub returns : goal.returns
 returns g c =
     let taker : Taker = record { number = c.args.number; takes = c.args.takes.now } in
     let e = ap (λ t. codes "TERMINAL " ++ decimal c.args.number ++ codes "\n" ++ t) (list_is c.args.list.now taker) in
-    subst (λ (t : List ℕ). Adds g.K.Sink.held g.K.Sink.faults c.args.sink.now c.put_list.new.sink c.args.text.now c.put_list.new.text t) e
-    (c.put.ensures ▸ c.put_number.ensures ▸ c.put_byte.ensures ▸ c.put_list.ensures)
+    subst (λ (t : List ℕ). Adds g.K.Sink.held g.K.Sink.faults c.args.sink.now c.put_heard.new.sink c.args.text.now c.put_heard.new.text t) e
+    (c.put.ensures ▸ c.put_number.ensures ▸ c.put_byte.ensures ▸ c.put_heard.ensures)

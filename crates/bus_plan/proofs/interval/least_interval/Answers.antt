@@ -1,6 +1,6 @@
 use Rattle.std.proofs.Common.{arith, ap, ◌∙◌, ◌+◌}
 use Rattle.bus_table.proofs.ValidLaws.{valid_facts}
-use Rattle.bus_plan.specs.Greatest.{greatest_tg, second_tg}
+use Rattle.bus_plan.specs.inside.Greatest.{greatest_tg, second_tg}
 use Rattle.bus_plan.proofs.Tops.{least_told}
 use Rattle.bus_plan.proofs.interval.least_interval.Goals as goal
 

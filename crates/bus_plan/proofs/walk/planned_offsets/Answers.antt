@@ -1,7 +1,7 @@
 use Rattle.std.proofs.Common.{arith, ap, ◌≡◌, ◌∙◌, ◌<◌, ◌+◌, ◌∷◌, ◌++◌, [], sym, length, take, List, ℕ}
 use Rattle.bus_table.specs.Tables.{Sender}
 use Rattle.bus_table.proofs.ValidLaws.{valid_facts}
-use Rattle.bus_plan.specs.Walks as walks
+use Rattle.bus_plan.specs.inside.Walks as walks
 use Rattle.bus_plan.proofs.Steps.{tops_small, walk_next, walk_end_next, walk_told}
 use Rattle.bus_plan.proofs.walk.planned_offsets.Goals as goal
 

@@ -1,5 +1,5 @@
 use Rattle.std.proofs.Common.{◌≡◌, ◌≤◌, ◌*◌, ◌+◌, take}
-use Rattle.bus_plan.specs.Walks as walks
+use Rattle.bus_plan.specs.inside.Walks as walks
 use Rattle.bus_plan.proofs.walk.planned_offsets.Given as goal
 
 -- the walk so far, with room for more turns than there can be

@@ -1,7 +1,7 @@
 use Rattle.std.proofs.Common.{ℕ, List, cond, true, false, Ok, Err, subst, ap, sym, ◌∙◌}
 use Rattle.std.proofs.lemmas.Result.{err_from_is_err_and}
 use Rattle.bus_text.specs.declared.reason.Reason.TheVariants.{Spelling}
-use Rattle.bus_text.specs.Gives.{LineFails}
+use Rattle.bus_text.specs.inside.Gives.{LineFails}
 use Rattle.bus_strings.specs.Items.{numbers}
 use Rattle.bus_strings.specs.Reading.{are_spelled, strings_of}
 use Rattle.bus_strings.proofs.ItemLemmas.{words_refused, item_is, is_item}

@@ -1,7 +1,7 @@
 use Rattle.std.proofs.Common.{take}
 use Rattle.std.specs.List.{flat_map}
 use Rattle.bus_outer.specs.Texts.{Adds}
-use Rattle.bus_strings.specs.Puts.{item_bytes}
+use Rattle.bus_strings.specs.inside.Puts.{item_bytes}
 use Rattle.bus_strings.proofs.writing.put_items.Given as goal
 
 abbrev pub invariant-loop-item : goal.invariant-loop-item

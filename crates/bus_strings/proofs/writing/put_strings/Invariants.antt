@@ -2,7 +2,7 @@ use Rattle.std.proofs.Common.{take}
 use Rattle.std.specs.List.{flat_map}
 use Rattle.bus_outer.specs.Texts.{Adds}
 use Rattle.bus_strings.specs.Items.{numbers}
-use Rattle.bus_strings.specs.Puts.{string_bytes}
+use Rattle.bus_strings.specs.inside.Puts.{string_bytes}
 use Rattle.bus_strings.proofs.writing.put_strings.Given as goal
 
 abbrev pub invariant-loop-string : goal.invariant-loop-string

@@ -4,7 +4,7 @@ use Rattle.bus_outer.specs.Sinks.{WritesText}
 use Rattle.bus_outer.proofs.TextLaws.{◌▸◌, ends_text}
 use Rattle.bus_strings.specs.Items.{Item, IsItem}
 use Rattle.bus_strings.specs.Canonical.{messages_text}
-use Rattle.bus_strings.specs.Puts.{messages_bytes}
+use Rattle.bus_strings.specs.inside.Puts.{messages_bytes}
 use Rattle.bus_strings.proofs.CanonicalLemmas.{messages_put, messages_text_is}
 use Rattle.bus_strings.proofs.writing.write_messages.Goals as goal
 

@@ -1,7 +1,7 @@
 use Rattle.std.proofs.Common.{List, ℕ, sym, subst}
 use Rattle.bus_outer.specs.Texts.{Adds}
 use Rattle.bus_outer.proofs.TextLaws.{◌▸◌}
-use Rattle.bus_table.specs.Puts.{send_bytes}
+use Rattle.bus_table.specs.inside.Puts.{send_bytes}
 use Rattle.bus_table.proofs.CanonicalLemmas.{flat_map_next}
 use Rattle.bus_table.proofs.writing.put_sends.Goals as goal
 

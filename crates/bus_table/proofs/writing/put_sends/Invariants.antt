@@ -1,7 +1,7 @@
 use Rattle.std.proofs.Common.{take}
 use Rattle.std.specs.List.{flat_map}
 use Rattle.bus_outer.specs.Texts.{Adds}
-use Rattle.bus_table.specs.Puts.{send_bytes}
+use Rattle.bus_table.specs.inside.Puts.{send_bytes}
 use Rattle.bus_table.proofs.writing.put_sends.Given as goal
 
 abbrev pub invariant-loop-line : goal.invariant-loop-line

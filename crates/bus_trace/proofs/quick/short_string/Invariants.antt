@@ -1,5 +1,5 @@
 use Rattle.std.proofs.Common.{length, take, ◌≡◌, ◌≤◌, ◌++◌}
-use Rattle.bus_trace.specs.Writing.{data_put}
+use Rattle.bus_trace.specs.inside.Writing.{data_put}
 use Rattle.bus_trace.proofs.quick.short_string.Given as goal
 
 -- the words so far stand in front

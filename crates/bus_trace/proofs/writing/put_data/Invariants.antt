@@ -1,6 +1,6 @@
 use Rattle.std.proofs.Common.{take}
 use Rattle.bus_outer.specs.Texts.{Adds}
-use Rattle.bus_trace.specs.Writing.{data_put}
+use Rattle.bus_trace.specs.inside.Writing.{data_put}
 use Rattle.bus_trace.proofs.writing.put_data.Given as goal
 
 abbrev pub invariant-loop-word : goal.invariant-loop-word

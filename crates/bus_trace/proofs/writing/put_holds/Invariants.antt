@@ -1,7 +1,7 @@
 use Rattle.std.proofs.Common.{take}
 use Rattle.std.specs.List.{flat_map}
 use Rattle.bus_outer.specs.Texts.{Adds}
-use Rattle.bus_trace.specs.Writing.{hold_put}
+use Rattle.bus_trace.specs.inside.Writing.{hold_put}
 use Rattle.bus_trace.proofs.writing.put_holds.Given as goal
 
 abbrev pub invariant-loop-hold : goal.invariant-loop-hold

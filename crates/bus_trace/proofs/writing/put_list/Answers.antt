@@ -4,8 +4,9 @@ use Rattle.bus_outer.specs.Texts.{Adds}
 use Rattle.bus_outer.proofs.TextLaws.{◌▸◌, adds_nothing}
 use Rattle.bus_strings.specs.Messages.{Entry}
 use Rattle.bus_strings.specs.Transmissions.{marks}
-use Rattle.bus_trace.specs.Writing.{entry_put}
-use Rattle.bus_trace.proofs.MarkSteps.{flat_map-more, next_marked, all_marked}
+use Rattle.bus_trace.specs.inside.Writing.{entry_put}
+use Rattle.bus_strings.proofs.ListLaws.{flat_map-more}
+use Rattle.bus_strings.proofs.MarkLaws.{next_marked, all_marked}
 use Rattle.bus_trace.proofs.writing.put_list.Goals as goal
 
 pub loop-x-init : goal.loop-x-init

@@ -2,7 +2,7 @@ use Rattle.std.proofs.Common.{◌≡◌, take, drop}
 use Rattle.std.specs.List.{flat_map, zip}
 use Rattle.bus_outer.specs.Texts.{Adds}
 use Rattle.bus_strings.specs.Transmissions.{marks}
-use Rattle.bus_trace.specs.Writing.{entry_put}
+use Rattle.bus_trace.specs.inside.Writing.{entry_put}
 use Rattle.bus_trace.proofs.writing.put_list.Given as goal
 
 -- the transmissions so far are put, and the marks of the others are left

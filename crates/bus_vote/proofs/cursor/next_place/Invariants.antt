@@ -1,5 +1,5 @@
 use Rattle.std.proofs.Common.{◌≡◌}
-use Rattle.bus_vote.specs.Walks.{sent_from}
+use Rattle.bus_vote.specs.inside.Walks.{sent_from}
 use Rattle.bus_vote.proofs.cursor.next_place.Given as goal
 
 -- none of the transmissions so far is the terminal's

@@ -1,5 +1,5 @@
 use Rattle.std.proofs.Common.{take}
-use Rattle.bus_vote.specs.Walks.{IsReach}
+use Rattle.bus_vote.specs.inside.Walks.{IsReach}
 use Rattle.bus_vote.proofs.cursor.reach_to.Given as goal
 
 -- the transmissions so far reach to here

@@ -1,6 +1,6 @@
 use Rattle.std.proofs.Common.{◌≡◌, ◌++◌, take}
 use Rattle.std.specs.List.{flat_map}
-use Rattle.bus_vote.specs.Finds.{string_finds}
+use Rattle.bus_vote.specs.inside.Finds.{string_finds}
 use Rattle.bus_vote.proofs.finds.add_strings.Given as goal
 
 -- the finds of the wordstrings so far are added

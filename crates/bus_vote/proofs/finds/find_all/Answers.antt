@@ -5,7 +5,7 @@ use Rattle.std.proofs.lemmas.List.{get_or-replicate, length-set}
 use Rattle.std.proofs.lemmas.Option.{slice_get_read}
 use Rattle.bus_strings.specs.Messages.{Entry}
 use Rattle.bus_strings.specs.Transmissions.{end_of}
-use Rattle.bus_vote.specs.Finds.{sent_before, string_finds}
+use Rattle.bus_vote.specs.inside.Finds.{sent_before, string_finds}
 use Rattle.bus_vote.proofs.FindLemmas.{none_counted, count_more, found_more, sent_bound}
 use Rattle.bus_vote.proofs.WalkLemmas.{none_reach, reach_more}
 use Rattle.bus_vote.proofs.finds.find_all.Goals as goal

@@ -1,6 +1,6 @@
 use Rattle.std.proofs.Common.{◌≡◌, length, take}
-use Rattle.bus_vote.specs.Finds.{finds_before}
-use Rattle.bus_vote.specs.Walks.{IsReach}
+use Rattle.bus_vote.specs.inside.Finds.{finds_before}
+use Rattle.bus_vote.specs.inside.Walks.{IsReach}
 use Rattle.bus_vote.proofs.FindLemmas.{IsCount}
 use Rattle.bus_vote.proofs.finds.find_all.Given as goal
 

@@ -1,6 +1,6 @@
 use Rattle.std.proofs.Common.{◌≡◌, ℕ, ◌<◌, ◌≤◌, true, Some}
 use Rattle.std.specs.Prelude.{slice_get}
-use Rattle.bus_vote.specs.Finds.{Find, is_own}
+use Rattle.bus_vote.specs.inside.Finds.{Find, is_own}
 use Rattle.bus_vote.proofs.hearing.next_own.Given as goal
 
 -- none of the finds so far is of a round that isn't read

@@ -1,6 +1,6 @@
 use Rattle.std.proofs.Common.{◌≡◌, ℕ, ◌<◌, false, take}
 use Rattle.bus_strings.specs.Transmissions.{garbled}
-use Rattle.bus_vote.specs.Walks.{IsReach}
+use Rattle.bus_vote.specs.inside.Walks.{IsReach}
 use Rattle.bus_vote.proofs.pace.is_clear.Given as goal
 
 -- none of the transmissions so far is garbled

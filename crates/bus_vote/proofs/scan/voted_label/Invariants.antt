@@ -1,7 +1,7 @@
 use Rattle.std.proofs.Common.{◌≡◌, take}
 use Rattle.std.specs.List.{flat_map}
 use Rattle.bus_vote.specs.Labels.{sender_channels}
-use Rattle.bus_vote.specs.Scans.{seen}
+use Rattle.bus_vote.specs.inside.Scans.{seen}
 use Rattle.bus_vote.proofs.scan.voted_label.Given as goal
 
 -- the channels of the senders so far are seen

@@ -2,7 +2,7 @@ use Rattle.std.proofs.Common.{List, ◌++◌, ap, ◌∙◌}
 use Rattle.std.specs.List.{flat_map}
 use Rattle.std.proofs.lemmas.List.{take_all}
 use Rattle.bus_vote.specs.Labels.{Channel}
-use Rattle.bus_vote.specs.Scans.{seen, line_channels}
+use Rattle.bus_vote.specs.inside.Scans.{seen, line_channels}
 use Rattle.bus_vote.proofs.ScanLemmas.{sender_lines}
 use Rattle.bus_vote.proofs.scan.with_sender.Goals as goal
 

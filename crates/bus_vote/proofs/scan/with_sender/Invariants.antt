@@ -1,7 +1,7 @@
 use Rattle.std.proofs.Common.{◌≡◌, ◌++◌, List, take}
 use Rattle.std.specs.List.{flat_map}
 use Rattle.bus_vote.specs.Labels.{Channel}
-use Rattle.bus_vote.specs.Scans.{seen, line_channels}
+use Rattle.bus_vote.specs.inside.Scans.{seen, line_channels}
 use Rattle.bus_vote.proofs.scan.with_sender.Given as goal
 
 -- the lines so far are seen

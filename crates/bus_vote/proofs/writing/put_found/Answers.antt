@@ -3,9 +3,9 @@ use Rattle.std.specs.List.{flat_map, range_with_len}
 use Rattle.std.specs.Option.{option_copied}
 use Rattle.bus_outer.specs.Texts.{Adds}
 use Rattle.bus_outer.proofs.TextLaws.{◌▸◌}
-use Rattle.bus_vote.specs.Putting.{round_put}
+use Rattle.bus_vote.specs.inside.Putting.{round_put}
 use Rattle.bus_vote.proofs.HearingLemmas.{all_silent, one_further, round_heard}
-use Rattle.bus_vote.proofs.ListLemmas.{flat_map-range}
+use Rattle.bus_strings.proofs.ListLaws.{flat_map-range}
 use Rattle.bus_vote.proofs.writing.put_found.Goals as goal
 
 pub loop-round-preserved : goal.loop-round-preserved

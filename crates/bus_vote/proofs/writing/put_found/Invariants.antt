@@ -1,7 +1,7 @@
 use Rattle.std.proofs.Common.{◌≡◌}
 use Rattle.std.specs.List.{flat_map, range_with_len}
 use Rattle.bus_outer.specs.Texts.{Adds}
-use Rattle.bus_vote.specs.Putting.{round_put}
+use Rattle.bus_vote.specs.inside.Putting.{round_put}
 use Rattle.bus_vote.proofs.writing.put_found.Given as goal
 
 -- the rounds so far are put, and each reader has read them

@@ -2,8 +2,8 @@ use Rattle.std.proofs.Common.{arith, List, ℕ, ◌≡◌, ◌++◌, ap, subst, 
 use Rattle.std.specs.List.{flat_map, range_with_len}
 use Rattle.bus_outer.specs.Texts.{Adds}
 use Rattle.bus_outer.proofs.TextLaws.{◌▸◌}
-use Rattle.bus_vote.specs.Putting.{label_put}
-use Rattle.bus_vote.proofs.ListLemmas.{flat_map-range}
+use Rattle.bus_vote.specs.inside.Putting.{label_put}
+use Rattle.bus_strings.proofs.ListLaws.{flat_map-range}
 use Rattle.bus_vote.proofs.PutLemmas.{labels_are}
 use Rattle.bus_vote.proofs.VotingLemmas.{some_is}
 use Rattle.bus_vote.proofs.writing.put_labels.Goals as goal

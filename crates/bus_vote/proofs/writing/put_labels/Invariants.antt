@@ -1,7 +1,7 @@
 use Rattle.std.proofs.Common.{◌≡◌}
 use Rattle.std.specs.List.{flat_map, range_with_len}
 use Rattle.bus_outer.specs.Texts.{Adds}
-use Rattle.bus_vote.specs.Putting.{label_put}
+use Rattle.bus_vote.specs.inside.Putting.{label_put}
 use Rattle.bus_vote.proofs.writing.put_labels.Given as goal
 
 -- the labels so far are put

@@ -3,9 +3,9 @@ use Rattle.std.specs.List.{flat_map, range_with_len}
 use Rattle.std.specs.Option.{option_copied}
 use Rattle.bus_outer.specs.Texts.{Adds}
 use Rattle.bus_outer.proofs.TextLaws.{◌▸◌}
-use Rattle.bus_vote.specs.Putting.{place_put}
+use Rattle.bus_vote.specs.inside.Putting.{place_put}
 use Rattle.bus_vote.specs.VoteTexts.{place_text}
-use Rattle.bus_vote.proofs.ListLemmas.{flat_map-range}
+use Rattle.bus_strings.proofs.ListLaws.{flat_map-range}
 use Rattle.bus_vote.proofs.PutLemmas.{places_put}
 use Rattle.bus_vote.proofs.writing.put_places.Goals as goal
 

@@ -1,7 +1,7 @@
 use Rattle.std.specs.List.{flat_map, range_with_len}
 use Rattle.std.specs.Option.{option_copied}
 use Rattle.bus_outer.specs.Texts.{Adds}
-use Rattle.bus_vote.specs.Putting.{place_put}
+use Rattle.bus_vote.specs.inside.Putting.{place_put}
 use Rattle.bus_vote.proofs.writing.put_places.Given as goal
 
 -- the places so far are put

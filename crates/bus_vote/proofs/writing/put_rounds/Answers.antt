@@ -3,9 +3,9 @@ use Rattle.std.specs.List.{flat_map, range_with_len}
 use Rattle.std.specs.Option.{option_copied}
 use Rattle.bus_outer.specs.Texts.{Adds}
 use Rattle.bus_outer.proofs.TextLaws.{◌▸◌}
-use Rattle.bus_vote.specs.Putting.{round_put}
+use Rattle.bus_vote.specs.inside.Putting.{round_put}
 use Rattle.bus_vote.specs.Rounds.{sent_by}
-use Rattle.bus_vote.proofs.ListLemmas.{flat_map-range, rest_left}
+use Rattle.bus_strings.proofs.ListLaws.{flat_map-range, rest_left}
 use Rattle.bus_vote.proofs.PutLemmas.{round_is}
 use Rattle.bus_vote.proofs.WalkLemmas.{rounds_over}
 use Rattle.bus_vote.proofs.writing.put_rounds.Goals as goal

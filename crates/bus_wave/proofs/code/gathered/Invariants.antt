@@ -1,5 +1,5 @@
 use Rattle.std.proofs.Common.{◌≡◌, ◌*◌, ◌<◌, ◌^◌, drop}
-use Rattle.bus_wave.specs.Digits as spec
+use Rattle.bus_wave.specs.inside.Digits as spec
 use Rattle.bus_wave.proofs.code.gathered.Given as goal
 
 -- the digits so far are gathered, and each gave two bits

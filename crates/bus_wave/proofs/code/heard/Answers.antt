@@ -1,6 +1,6 @@
 use Rattle.std.proofs.Common.{Some, sym, ap, ◌∙◌, drop}
 use Rattle.std.specs.Option.{option_map}
-use Rattle.bus_wave.specs.Digits.{frame_with, gathered}
+use Rattle.bus_wave.specs.inside.Digits.{frame_with, gathered}
 use Rattle.bus_wave.proofs.DigitLemmas.{ten_heard, taken}
 use Rattle.bus_wave.proofs.code.heard.Goals as goal
 

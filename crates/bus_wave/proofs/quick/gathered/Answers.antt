@@ -1,6 +1,6 @@
 use Rattle.std.proofs.Common.{◌≡◌, ◌+◌, ◌*◌, ◌<◌, ◌≤◌, ◌^◌, ◌++◌, ◌∷◌, [], get_or, arith, sym, ap, ◌∙◌}
 use Rattle.std.proofs.lemmas.List.{take_more}
-use Rattle.bus_wave.specs.Digits.{code_digits}
+use Rattle.bus_wave.specs.inside.Digits.{code_digits}
 use Rattle.bus_wave.proofs.DigitLemmas.{few_fours, all_fours}
 use Rattle.bus_wave.proofs.QuickLemmas.{code_push, front_stays, next_power}
 use Rattle.bus_wave.proofs.quick.gathered.Goals as goal

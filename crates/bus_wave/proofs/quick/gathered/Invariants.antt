@@ -1,5 +1,5 @@
 use Rattle.std.proofs.Common.{◌≡◌, ◌*◌, ◌/◌, ◌<◌, ◌^◌, take}
-use Rattle.bus_wave.specs.Digits.{code_digits}
+use Rattle.bus_wave.specs.inside.Digits.{code_digits}
 use Rattle.bus_wave.proofs.quick.gathered.Given as goal
 
 -- the digits so far are those of the bits so far, which stand behind the first bit

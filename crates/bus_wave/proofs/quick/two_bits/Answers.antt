@@ -1,5 +1,5 @@
 use Rattle.std.proofs.Common.{refl, arith, sym, subst, ◌≡◌, ◌<◌, ℕ}
-use Rattle.bus_wave.specs.Digits.{code_digit}
+use Rattle.bus_wave.specs.inside.Digits.{code_digit}
 use Rattle.bus_wave.specs.declared.quick.TheConstants.{BITS}
 use Rattle.bus_wave.proofs.QuickLemmas.{bits_at}
 use Rattle.bus_wave.proofs.quick.two_bits.Goals as goal

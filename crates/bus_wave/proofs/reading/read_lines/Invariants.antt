@@ -1,7 +1,7 @@
 use Rattle.std.proofs.Common.{◌≡◌, ◌≤◌, ◌+◌, length}
 use Rattle.std.specs.List.{slice_split}
 use Rattle.bus_text.specs.Lines.{is_feed}
-use Rattle.bus_wave.specs.Drafts.{Keeps, state_of}
+use Rattle.bus_wave.specs.inside.Drafts.{Keeps, state_of}
 use Rattle.bus_wave.specs.Judging.{opening}
 use Rattle.bus_wave.specs.Reading.{pieces_reading}
 use Rattle.bus_wave.proofs.reading.read_lines.Given as goal

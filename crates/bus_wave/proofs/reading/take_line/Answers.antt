@@ -1,8 +1,8 @@
 use Rattle.std.proofs.Common.{sym, subst, Result}
 use Rattle.std.proofs.lemmas.Result.{err_from_is_err_and}
 use Rattle.bus_wave.specs.declared.fault.WaveReason.{WaveReason}
-use Rattle.bus_wave.specs.Drafts.{state_of}
-use Rattle.bus_wave.specs.Gives.{StepGives}
+use Rattle.bus_wave.specs.inside.Drafts.{state_of}
+use Rattle.bus_text.specs.inside.Gives.{StepGives}
 use Rattle.bus_wave.specs.Judging.{State}
 use Rattle.bus_wave.proofs.ReadLemmas.{read_closed, read_error, read_symbol}
 use Rattle.bus_wave.proofs.reading.take_line.Goals as goal

@@ -1,6 +1,6 @@
 use Rattle.std.proofs.Common.{take}
 use Rattle.bus_outer.specs.Texts.{Adds}
-use Rattle.bus_wave.specs.Puts.{data_put}
+use Rattle.bus_wave.specs.inside.Puts.{data_put}
 use Rattle.bus_wave.proofs.writing.put_data.Given as goal
 
 abbrev pub invariant-loop-word : goal.invariant-loop-word

@@ -3,7 +3,7 @@ use Rattle.std.proofs.lemmas.List.{take_more}
 use Rattle.bus_outer.specs.Texts.{Adds}
 use Rattle.bus_outer.proofs.TextLaws.{◌▸◌}
 use Rattle.bus_strings.specs.Messages.{Entry}
-use Rattle.bus_wave.specs.Puts.{list_put, entry_put}
+use Rattle.bus_wave.specs.inside.Puts.{list_put, entry_put}
 use Rattle.bus_wave.specs.WaveTexts.{last_end}
 use Rattle.bus_wave.proofs.WriteTexts.{list_push, last_end_push}
 use Rattle.bus_wave.proofs.writing.put_list.Goals as goal

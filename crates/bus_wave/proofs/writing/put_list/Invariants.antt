@@ -1,6 +1,6 @@
 use Rattle.std.proofs.Common.{◌≡◌, take}
 use Rattle.bus_outer.specs.Texts.{Adds}
-use Rattle.bus_wave.specs.Puts.{list_put}
+use Rattle.bus_wave.specs.inside.Puts.{list_put}
 use Rattle.bus_wave.specs.WaveTexts.{last_end}
 use Rattle.bus_wave.proofs.writing.put_list.Given as goal
 

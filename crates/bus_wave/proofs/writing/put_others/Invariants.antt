@@ -1,7 +1,7 @@
 use Rattle.std.proofs.Common.{take}
 use Rattle.std.specs.List.{flat_map}
 use Rattle.bus_outer.specs.Texts.{Adds}
-use Rattle.bus_wave.specs.Puts.{next_put}
+use Rattle.bus_wave.specs.inside.Puts.{next_put}
 use Rattle.bus_wave.proofs.writing.put_others.Given as goal
 
 abbrev pub invariant-loop-string : goal.invariant-loop-string

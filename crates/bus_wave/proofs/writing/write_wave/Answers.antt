@@ -1,7 +1,7 @@
 use Rattle.std.proofs.Common.{◌++◌, codes, subst, List, ℕ}
 use Rattle.bus_outer.specs.Texts.{Adds}
 use Rattle.bus_outer.proofs.TextLaws.{◌▸◌, ends_text}
-use Rattle.bus_wave.specs.Puts.{list_put, quiet_put}
+use Rattle.bus_wave.specs.inside.Puts.{list_put, quiet_put}
 use Rattle.bus_wave.proofs.WriteTexts.{put_as_read}
 use Rattle.bus_wave.proofs.WaveLemmas.{has_one_text, some_strings}
 use Rattle.bus_wave.proofs.writing.write_wave.Goals as goal

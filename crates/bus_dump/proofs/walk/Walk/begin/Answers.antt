@@ -4,7 +4,8 @@ use Rattle.std.proofs.lemmas.Option.{slice_get-get_or}
 use Rattle.bus_strings.proofs.MemberLaws.{of_each, at_in}
 use Rattle.bus_strings.specs.Messages.{Entry}
 use Rattle.bus_strings.specs.Transmissions.{IsTransmission, end_of}
-use Rattle.bus_dump.proofs.WalkLemmas.{next_mark, room, walk_begun}
+use Rattle.bus_strings.proofs.MarkLaws.{next_mark}
+use Rattle.bus_dump.proofs.WalkLemmas.{room, walk_begun}
 use Rattle.bus_dump.proofs.walk.Walk.begin.Goals as goal
 
 pub push-requires : goal.push-requires

@@ -1,5 +1,5 @@
 use Rattle.std.proofs.Common.{arith, subst}
-use Rattle.bus_strings.specs.Kept.{AreKept}
+use Rattle.bus_strings.specs.inside.Kept.{AreKept}
 use Rattle.bus_strings.proofs.KeptLemmas.{bits_within}
 use Rattle.bus_strings.proofs.message.Message.push.Goals as goal
 

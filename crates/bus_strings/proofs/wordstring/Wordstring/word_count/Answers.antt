@@ -1,7 +1,7 @@
 use Rattle.std.proofs.Common.{arith, length, ap, subst}
 use Rattle.std.proofs.lemmas.List.{length-take}
 use Rattle.bus_strings.specs.Messages.{Wordstring}
-use Rattle.bus_strings.specs.Kept.{kept_string, IsKept}
+use Rattle.bus_strings.specs.inside.Kept.{kept_string, IsKept}
 use Rattle.bus_strings.proofs.wordstring.Wordstring.word_count.Goals as goal
 
 pub returns-in-Short-clause-value : goal.returns-in-Short-clause-value

@@ -3,7 +3,7 @@ use Rattle.bus_strings.specs.Messages.{Wordstring}
 use Rattle.bus_trace.specs.declared.position.Position.{Position}
 use Rattle.bus_trace.specs.declared.position.Position.TheVariants.{Begun}
 use Rattle.bus_trace.specs.States.{State, last_end, more_list}
-use Rattle.bus_trace.specs.Reach.{IsReach}
+use Rattle.bus_trace.specs.inside.Reach.{IsReach}
 use Rattle.bus_trace.proofs.Marks.{reach_begun, reach_other}
 use Rattle.bus_trace.proofs.draft.Draft.reach_behind.Goals as goal
 

@@ -1,7 +1,7 @@
 use Rattle.std.proofs.Common.{sym, subst}
 use Rattle.bus_trace.specs.declared.position.Position.TheVariants.{Begun}
 use Rattle.bus_trace.specs.States.{State}
-use Rattle.bus_trace.specs.Quick.{TakesFront}
+use Rattle.bus_trace.specs.inside.Quick.{TakesFront}
 use Rattle.bus_trace.proofs.QuickLines.{begin_taken}
 use Rattle.bus_trace.proofs.draft.Draft.take_quick_begin.Goals as goal
 

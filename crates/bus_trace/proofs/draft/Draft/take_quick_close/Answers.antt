@@ -1,7 +1,7 @@
 use Rattle.std.proofs.Common.{sym, subst}
 use Rattle.bus_trace.specs.declared.position.Position.TheVariants.{Closed}
 use Rattle.bus_trace.specs.States.{State}
-use Rattle.bus_trace.specs.Quick.{TakesFront}
+use Rattle.bus_trace.specs.inside.Quick.{TakesFront}
 use Rattle.bus_trace.proofs.QuickLines.{close_taken}
 use Rattle.bus_trace.proofs.draft.Draft.take_quick_close.Goals as goal
 

@@ -1,7 +1,7 @@
 use Rattle.std.proofs.Common.{◌≡◌, true, ap, sym, subst, ◌∙◌}
 use Rattle.bus_trace.specs.declared.keyword.Keyword.TheVariants.{Ws}
 use Rattle.bus_trace.specs.States.{State, may_follow, last_count}
-use Rattle.bus_trace.specs.Quick.{TakesFront}
+use Rattle.bus_trace.specs.inside.Quick.{TakesFront}
 use Rattle.bus_trace.proofs.QuickLines.{some_given, string_front}
 use Rattle.bus_trace.proofs.draft.Draft.take_quick_string.Goals as goal
 

@@ -1,7 +1,7 @@
 use Rattle.std.proofs.Common.{arith, subst, [], ◌∷◌, ap, sym, ◌∙◌, Ok}
 use Rattle.bus_trace.specs.States.{step}
 use Rattle.bus_trace.specs.Runs.{Standing, judged}
-use Rattle.bus_trace.specs.Walking.{JudgedGives}
+use Rattle.bus_trace.specs.inside.Walking.{JudgedGives}
 use Rattle.bus_trace.proofs.Walks.{judge_gives, judge_is}
 use Rattle.bus_trace.proofs.walk.Walk.judge.Goals as goal
 

@@ -1,6 +1,6 @@
 use Rattle.std.proofs.Common.{arith, ◌∙◌, ap, subst}
 use Rattle.bus_trace.specs.Runs.{Standing}
-use Rattle.bus_trace.specs.Walking.{TookFront}
+use Rattle.bus_trace.specs.inside.Walking.{TookFront}
 use Rattle.bus_trace.proofs.QuickLines.{match_given}
 use Rattle.bus_trace.proofs.Walks.{took_front, took_is, took_shorter_by}
 use Rattle.bus_trace.proofs.walk.Walk.take_quickly.Goals as goal

@@ -2,7 +2,7 @@ use Rattle.std.proofs.Common.{arith, ◌∙◌, ◌++◌, ◌∷◌, [], ap, sub
 use Rattle.bus_trace.specs.States.{text_of}
 use Rattle.bus_trace.specs.Runs.{Standing, Refused, run}
 use Rattle.bus_trace.specs.declared.reason.TraceReason.TheVariants.{Long}
-use Rattle.bus_trace.specs.Walking.{JudgedGives}
+use Rattle.bus_trace.specs.inside.Walking.{JudgedGives}
 use Rattle.bus_trace.specs.declared.walk.Judged.{Judged}
 use Rattle.bus_trace.proofs.Walks.{kept, not_kept, walks_begin, walks_on, walks_end, walks_fail, walks_kept, walks_give, behind_shorter}
 use Rattle.bus_trace.proofs.walk.Walk.walk.Goals as goal

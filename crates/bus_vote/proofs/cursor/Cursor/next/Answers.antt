@@ -1,7 +1,7 @@
 use Rattle.std.proofs.Common.{◌≡◌, ℕ, ◌+◌, ◌<◌, ◌∷◌, false, Some, length, refl, ap, sym, ◌∙◌, arith}
 use Rattle.std.specs.Prelude.{slice_get}
 use Rattle.std.proofs.lemmas.Option.{slice_get_read}
-use Rattle.bus_vote.specs.Walks.{sent_from}
+use Rattle.bus_vote.specs.inside.Walks.{sent_from}
 use Rattle.bus_vote.proofs.WalkLemmas.{own_next, leap}
 use Rattle.bus_vote.proofs.cursor.Cursor.next.Goals as goal
 

@@ -2,7 +2,7 @@ use Rattle.std.proofs.Common.{◌≡◌, ◌≤◌, Some, length, refl, sym, ap,
 use Rattle.std.specs.Prelude.{slice_get}
 use Rattle.std.proofs.lemmas.Option.{slice_get_read}
 use Rattle.bus_strings.specs.Messages.{Entry}
-use Rattle.bus_vote.specs.Finds.{Hearing}
+use Rattle.bus_vote.specs.inside.Finds.{Hearing}
 use Rattle.bus_vote.specs.Rounds.{words_in, channel_words}
 use Rattle.bus_vote.proofs.HearingLemmas.{words_found, hearing_next}
 use Rattle.bus_vote.proofs.hearing.Reader.words.Goals as goal

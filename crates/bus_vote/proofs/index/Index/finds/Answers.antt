@@ -1,5 +1,5 @@
 use Rattle.std.proofs.Common.{◌≡◌, length, subst, sym, ◌∙◌}
-use Rattle.bus_vote.specs.Finds.{AreFinds, finds_before}
+use Rattle.bus_vote.specs.inside.Finds.{AreFinds, finds_before}
 use Rattle.bus_vote.proofs.FindLemmas.{finds_are}
 use Rattle.bus_vote.proofs.index.Index.finds.Goals as goal
 

@@ -1,5 +1,5 @@
 use Rattle.std.proofs.Common.{◌≡◌, ℕ, ◌<◌, ◌≤◌, length, get_or, drop}
-use Rattle.bus_wave.specs.Beginning.{sender_at}
+use Rattle.bus_wave.specs.inside.Beginning.{sender_at}
 use Rattle.bus_wave.specs.Judging.{beginner}
 use Rattle.bus_wave.proofs.beginners.Beginners.new.Given as goal
 

@@ -4,7 +4,7 @@ use Rattle.bus_wave.specs.declared.phase.Phase.TheVariants as code
 use Rattle.bus_wave.specs.declared.symbol.Symbol.TheVariants.{Sent}
 use Rattle.bus_wave.specs.declared.fault.WaveReason.{WaveReason}
 use Rattle.bus_wave.specs.Judging.{Saying, State, step, later}
-use Rattle.bus_wave.specs.Drafts.{begun_of, phase_of}
+use Rattle.bus_wave.specs.inside.Drafts.{begun_of, phase_of}
 use Rattle.bus_wave.proofs.DraftLemmas.{stepped, kept, data_full, data_past, data_taken}
 use Rattle.bus_wave.proofs.draft.Draft.take_data.Goals as goal
 

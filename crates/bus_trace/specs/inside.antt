@@ -1,0 +1,7 @@
+-- What only contracts of private functions and proofs name: not to be read for what is promised.
+pub mod Gives
+pub mod Looping
+pub mod Quick
+pub mod Reach
+pub mod Walking
+pub mod Writing

@@ -1,0 +1,6 @@
+-- What only contracts of private functions and proofs name: not to be read for what is promised.
+pub mod Beginning
+pub mod Capped
+pub mod Digits
+pub mod Drafts
+pub mod Puts
