@@ -23,72 +23,72 @@ use Rattle.bus_audit.specs.declared.answer.BreachKind.TheVariants.{Stranger, Unh
 use Rattle.bus_audit.specs.declared.answer.AuditAnswer.{AuditAnswer}
 use Rattle.bus_audit.specs.declared.answer.AuditAnswer.TheVariants.{Lawful, Breach}
 
--- how many messages terminal n held, as the first hold that names it says
+-- How many messages terminal n held, as the first hold that names it says.
 abbrev pub held : List Hold → ℕ → ℕ
 held [] n = 0
 held (hold ∷ holds) n = if hold.terminal == n then hold.count else held holds n
 
--- the entry of terminal n at moment t
+-- The entry of terminal n at moment t.
 abbrev pub entry_at : List Entry → ℕ → ℕ → Option Entry
 entry_at list t n = find (λ x. x.moment == t && x.terminal == n) list
 
--- whether the sender has fewer entries before moment t than it holds
+-- Whether the sender has fewer entries before moment t than it holds.
 abbrev pub has_left : Recording → Sender → ℕ → Bool
 has_left trace sender t = nat_lt (length (own trace.list sender.number t)) (held trace.holds sender.number)
 
--- whether the sender's timers allow a start at moment t, after the past that the entries before make
+-- Whether the sender's timers allow a start at moment t, after the past that the entries before make.
 abbrev pub may : Table → Recording → Sender → ℕ → Bool
 may table trace sender t =
     may_start (timing_of table sender) (past (quiet_of table) trace.list t) (last_place (quiet_of table) (own trace.list sender.number t))
 
--- what is wrong with an entry of a sender that has a message left or not, may start or not, and whose message fits or not
+-- What is wrong with an entry of a sender that has a message left or not, may start or not, and whose message fits or not.
 abbrev pub flaw : Bool → Bool → Bool → Option BreachKind
 flaw false allowed fit = Some Unheld
 flaw true false fit = Some Early
 flaw true true false = Some Misfit
 flaw true true true = None
 
--- what is wrong with the silence of a sender that has a message left or not, and may start or not
+-- What is wrong with the silence of a sender that has a message left or not, and may start or not.
 abbrev pub lack : Bool → Bool → Option BreachKind
 lack true true = Some Missing
 lack true false = None
 lack false allowed = None
 
--- what is wrong at moment t, with an entry or none, of a sender or of a terminal that is none
+-- What is wrong at moment t, with an entry or none, of a sender or of a terminal that is none.
 abbrev pub pair_kind : Table → Recording → ℕ → Option Entry → Option Sender → Option BreachKind
 pair_kind table trace t (Some x) None = Some Stranger
 pair_kind table trace t (Some x) (Some sender) = flaw (has_left trace sender t) (may table trace sender t) (fits sender x.message)
 pair_kind table trace t None None = None
 pair_kind table trace t None (Some sender) = lack (has_left trace sender t) (may table trace sender t)
 
--- what is wrong at the pair of moment t and terminal n: the first kind that applies, if one does
+-- What is wrong at the pair of moment t and terminal n: the first kind that applies, if one does.
 abbrev pub kind_at : Table → Recording → ℕ → ℕ → Option BreachKind
 kind_at table trace t n = pair_kind table trace t (entry_at trace.list t n) (sender_of table.senders n)
 
--- nothing is wrong at any pair before the one of moment t and terminal n
+-- Nothing is wrong at any pair before the one of moment t and terminal n.
 abbrev pub IsCleanTo : Table → Recording → ℕ → ℕ → Type 0
 IsCleanTo table trace t n = (u m : ℕ) → IsBefore u m t n → kind_at table trace u m ≡ None
 
--- at this pair, the first at which something is wrong, this kind applies
+-- At this pair, the first at which something is wrong, this kind applies.
 pub record IsFirstBreach (table : Table) (trace : Recording) (moment terminal : ℕ) (kind : BreachKind) : Type 0 where
   pub below : moment < trace.horizon
   pub here : kind_at table trace moment terminal ≡ Some kind
   pub first : IsCleanTo table trace moment terminal
 
--- nothing is wrong at any pair below the horizon
+-- Nothing is wrong at any pair below the horizon.
 abbrev pub HasNoBreach : Table → Recording → Type 0
 HasNoBreach table trace = IsCleanTo table trace trace.horizon 0
 
--- how many transmissions are garbled
+-- How many transmissions are garbled.
 abbrev pub collided : List Entry → ℕ
 collided list = count_by (λ mark. mark) (marks list)
 
--- the answer names the first breach; or there is none, and it counts the garbled entries
+-- The answer names the first breach; or there is none, and it counts the garbled entries.
 abbrev pub IsAnswer : Table → Recording → AuditAnswer → Type 0
 IsAnswer table trace (Lawful count) = HasNoBreach table trace × (count ≡ collided trace.list)
 IsAnswer table trace (Breach moment terminal kind) = IsFirstBreach table trace moment terminal kind
 
--- there is one answer at most
+-- There is one answer at most.
 abbrev pub OneAnswer : Type 0
 OneAnswer = (table : Table) (trace : Recording) (a b : AuditAnswer) → IsAnswer table trace a → IsAnswer table trace b → a ≡ b
 
@@ -97,20 +97,20 @@ OneAnswer = (table : Table) (trace : Recording) (a b : AuditAnswer) → IsAnswer
 abbrev pub breach_at : Table → Recording → ℕ → ℕ → Option AuditAnswer
 breach_at table trace t n = option_map (Breach t n) (kind_at table trace t n)
 
--- the first breach at moment t, of the terminals 1 to n
+-- The first breach at moment t, of the terminals 1 to n.
 unfoldable pub first_at : Table → Recording → ℕ → ℕ → Option AuditAnswer
 first_at table trace t zero = None
 first_at table trace t (suc n) = option_or (first_at table trace t n) (breach_at table trace t (suc n))
 
--- the first breach before moment t
+-- The first breach before moment t.
 unfoldable pub first_before : Table → Recording → ℕ → Option AuditAnswer
 first_before table trace zero = None
 first_before table trace (suc t) = option_or (first_before table trace t) (first_at table trace t most_terminal)
 
--- the answer for a trace
+-- The answer for a trace.
 unfoldable pub answer_of : Table → Recording → AuditAnswer
 answer_of table trace = unwrap_or (first_before table trace trace.horizon) (Lawful (collided trace.list))
 
--- it is the answer
+-- It is the answer.
 abbrev pub TheAnswer : Type 0
 TheAnswer = (table : Table) (trace : Recording) → IsTrue (is_valid table) → IsTrace trace → IsAnswer table trace (answer_of table trace)

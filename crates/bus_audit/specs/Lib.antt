@@ -1,3 +1,4 @@
+-- What the contracts of this crate cite.
 pub mod Breaches
 pub mod Meaning
 pub mod Lines

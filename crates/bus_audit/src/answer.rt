@@ -1,3 +1,5 @@
+//! What an audit answers.
+
 /// What is wrong at a pair of a moment and a terminal, in the order in which it is told. This project's profile.
 #[derive(Clone, Copy, Debug, PartialEq, Eq)]
 pub enum BreachKind {

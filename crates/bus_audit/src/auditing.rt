@@ -1,3 +1,4 @@
+//! The audit of a trace against a table.
 ghost use Rattle.std.specs.Prelude.{◌≡◌, IfOk};
 ghost use Rattle.bus_strings.specs.Transmissions.{IsAscending};
 ghost use Rattle.bus_audit.specs.Breaches.{IsAnswer, answer_of, collided};

@@ -1,3 +1,5 @@
+//! How far an audit has come.
+
 /// How far an audit has come.
 #[derive(Clone, Copy, Debug, PartialEq, Eq)]
 pub struct Clock {

@@ -1,3 +1,4 @@
+//! A breach that was found.
 use crate::answer::BreachKind;
 
 /// A breach: where it is and what is wrong there.

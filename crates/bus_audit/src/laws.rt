@@ -1,3 +1,4 @@
+//! Laws of audits, each the contract of a function that does nothing.
 ghost use Rattle.bus_audit.specs.Breaches.{OneAnswer, TheAnswer};
 ghost use Rattle.bus_audit.specs.Meaning.{NoBreachIsRight, LawfulIsRight};
 ghost use Rattle.bus_audit.specs.Observed.{ObservedIsRight, ObservedIsClean, LawfulIsObserved};

@@ -1,4 +1,4 @@
-// The words of what an audit finds, and its line.
+//! The words of what an audit finds, and its line.
 ghost use Rattle.bus_outer.specs.Sinks.{WritesText};
 ghost use Rattle.bus_outer.specs.Texts.{Adds};
 ghost use Rattle.bus_audit.specs.declared.answer.AuditAnswer.TheVariants.{Lawful, Breach};
@@ -7,7 +7,7 @@ ghost use Rattle.bus_audit.specs.Lines.{kind_name, answer_words, answer_line};
 use crate::answer::{AuditAnswer, BreachKind};
 use bus_outer::{Sink, TextBuffer, WriteFault};
 
-// Puts the word of a kind of breach.
+/// Puts the word of a kind of breach.
 fn put_kind<K: Sink>(text: &mut TextBuffer, sink: &mut K, kind: BreachKind)
     ensures { Adds K.held K.faults sink.old sink.new text.old text.new (kind_name kind) }
 {
@@ -20,7 +20,7 @@ fn put_kind<K: Sink>(text: &mut TextBuffer, sink: &mut K, kind: BreachKind)
     }
 }
 
-// Puts that nothing is wrong, and how many transmissions are garbled.
+/// Puts that nothing is wrong, and how many transmissions are garbled.
 fn put_lawful<K: Sink>(text: &mut TextBuffer, sink: &mut K, collided: u64)
     ensures { Adds K.held K.faults sink.old sink.new text.old text.new (answer_words (Lawful collided)) }
 {
@@ -28,7 +28,7 @@ fn put_lawful<K: Sink>(text: &mut TextBuffer, sink: &mut K, collided: u64)
     text.put_number(sink, collided);
 }
 
-// Puts where and what the first breach is.
+/// Puts where and what the first breach is.
 fn put_breach<K: Sink>(
     text: &mut TextBuffer,
     sink: &mut K,

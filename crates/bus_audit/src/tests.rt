@@ -1,3 +1,4 @@
+//! Audits of worked traces.
 use crate::BreachKind::{Early, Missing, Stranger, Unheld};
 use crate::{AuditAnswer, BreachKind, audit};
 use bus_outer::MemorySource;

@@ -1,3 +1,4 @@
+//! The walk of an audit over a trace.
 ghost use Rattle.std.specs.Prelude.{◌≡◌, ℕ, ◌+◌, ◌^◌, ◌<◌, ◌≤◌, ◌⊎◌, map, OnOk, IfOk, IfErr};
 ghost use Rattle.bus_strings.specs.Members.{In};
 ghost use Rattle.bus_medium.specs.Timings.{quiet_of};

@@ -1,3 +1,4 @@
+-- What the contracts of this crate cite.
 pub mod Received
 pub mod ReceivedTexts
 pub mod Hearing

@@ -1,4 +1,4 @@
-// How many RX lines the received text has.
+//! How many RX lines the received text has.
 ghost use Rattle.std.specs.Prelude.{◌≡◌, ◌+◌, ◌*◌, ◌≤◌, ◌<◌, ◌^◌, length};
 ghost use Rattle.std.specs.List.{sum_by, zip};
 ghost use Rattle.bus_strings.specs.Limits.{most_strings, most_terminal};
@@ -12,7 +12,7 @@ use crate::matching::matches;
 use bus_strings::{Marks, Transmission, Wordstring};
 use bus_table::{Listener, Sender, Table, TakeLine};
 
-// The RX lines of a wordstring.
+/// The RX lines of a wordstring.
 fn count_string(takes: &[TakeLine], string: &Wordstring) -> usize
     ensures count { result ≡ string_count takes.now string.now }
     ensures bound { result ≤ length takes.now }
@@ -24,7 +24,7 @@ fn count_string(takes: &[TakeLine], string: &Wordstring) -> usize
         .count()
 }
 
-// The RX lines of wordstrings.
+/// The RX lines of wordstrings.
 fn count_strings(takes: &[TakeLine], strings: &[Wordstring]) -> usize
     requires takes { length takes.now ≤ most_takes }
     requires strings { length strings.now ≤ most_strings }
@@ -38,7 +38,7 @@ fn count_strings(takes: &[TakeLine], strings: &[Wordstring]) -> usize
     lines
 }
 
-// The RX lines of a transmission that is marked where it is garbled.
+/// The RX lines of a transmission that is marked where it is garbled.
 fn count_marked(number: u8, takes: &[TakeLine], x: &Transmission, garbled: bool) -> usize
     requires { length takes.now ≤ most_takes }
     ensures count { let taker : Taker = record { number = number; takes = takes.now } in result ≡ marked_count taker (x.now, garbled) }
@@ -50,7 +50,7 @@ fn count_marked(number: u8, takes: &[TakeLine], x: &Transmission, garbled: bool)
     count_strings(takes, x.message.strings())
 }
 
-// The RX lines of a list.
+/// The RX lines of a list.
 fn count_list(number: u8, takes: &[TakeLine], list: &[Transmission]) -> u128
     requires order { IsByMoment list.now }
     requires takes { length takes.now ≤ most_takes }
@@ -66,7 +66,7 @@ fn count_list(number: u8, takes: &[TakeLine], list: &[Transmission]) -> u128
     lines
 }
 
-// The RX lines of the senders of a table.
+/// The RX lines of the senders of a table.
 fn count_senders(senders: &[Sender], list: &[Transmission]) -> u128
     requires order { IsByMoment list.now }
     requires few { length senders.now ≤ most_terminal }
@@ -80,7 +80,7 @@ fn count_senders(senders: &[Sender], list: &[Transmission]) -> u128
     lines
 }
 
-// The RX lines of the listeners of a table.
+/// The RX lines of the listeners of a table.
 fn count_listeners(listeners: &[Listener], list: &[Transmission]) -> u128
     requires order { IsByMoment list.now }
     requires few { length listeners.now ≤ most_terminal }

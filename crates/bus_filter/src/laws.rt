@@ -1,3 +1,4 @@
+//! Laws of what is received, each the contract of a function that does nothing.
 ghost use Rattle.bus_filter.specs.FilterLaws.{KeepsSelection, ReceivesByNumber};
 
 /// Over the words of one wordstring a receiver keeps the selection of its line: a law, with no work.

@@ -1,4 +1,4 @@
-// Whether a receive line matches, and what it takes.
+//! Whether a receive line matches, and what it takes.
 ghost use Rattle.std.specs.Prelude.{◌≡◌};
 ghost use Rattle.bus_filter.specs.Received.{matches as matches_in, selection as selection_in};
 

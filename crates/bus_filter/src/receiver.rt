@@ -1,4 +1,4 @@
-// A receiver of one receive line, word by word.
+//! A receiver of one receive line, word by word.
 ghost use Rattle.std.specs.Prelude.{◌≡◌, ◌↔◌, IsTrue, IsSome};
 ghost use Rattle.bus_filter.specs.Hearing.{Hearing, unmatched, answer, after, answer_by, place_by, is_taken, next_place};
 
@@ -99,7 +99,7 @@ impl Receiver {
         }
     }
 
-    // Takes a label word.
+    /// Takes a label word.
     fn label(&mut self, value: u16) -> Heard
         ensures answer { result ≡ answer_by self.old Kind.Label value }
         ensures after { self.new ≡ record { line = self.old.line; place = place_by self.old Kind.Label value } }
@@ -114,7 +114,7 @@ impl Receiver {
         }
     }
 
-    // Takes a data word.
+    /// Takes a data word.
     fn data(&mut self, value: u16) -> Heard
         ensures answer { result ≡ answer_by self.old Kind.Plain value }
         ensures after { self.new ≡ record { line = self.old.line; place = place_by self.old Kind.Plain value } }

@@ -1,3 +1,4 @@
+//! What terminals receive, by example.
 ghost use Rattle.std.specs.Prelude.{◌≤◌, ◌<◌};
 ghost use Rattle.bus_strings.specs.Limits.{horizon_limit, most_terminal};
 
@@ -36,7 +37,7 @@ TAKE 0B2 * 28 10
 TAKE 0B2 1 40 1
 ";
 
-// A label and an extension of these numbers.
+/// A label and an extension of these numbers.
 fn pair(label: u16, ext: u8) -> Result<(Label, Ext), Fail> {
     match (Label::new(label), Ext::new(ext)) {
         (Some(label), Some(ext)) => Ok((label, ext)),
@@ -44,7 +45,7 @@ fn pair(label: u16, ext: u8) -> Result<(Label, Ext), Fail> {
     }
 }
 
-// A transmission of one wordstring with extension 1.
+/// A transmission of one wordstring with extension 1.
 fn transmission(
     alloc: Global,
     moment: u64,
@@ -72,7 +73,7 @@ fn transmission(
     })
 }
 
-// What the terminals of a table receive of a list, and how many lines that is.
+/// What the terminals of a table receive of a list, and how many lines that is.
 fn received(
     alloc: Global,
     table: &[u8],

@@ -7,14 +7,14 @@
 --
 -- `held` and `faults` are the members of the bound, `K.held` and `K.faults`; k and k' are the sink before and after the call.
 --
--- How a writer is stated. A public writer makes a buffer, puts, and finishes, and its one clause is
+-- How a writer is stated. A public writer makes a buffer, puts, and finishes, and its one clause is.
 --   WritesText K.held K.faults sink.old sink.new result (TEXT)
--- Each form of the format has a spec function that gives its bytes, and a private helper that puts it, with the clause
+-- Each form of the format has a spec function that gives its bytes, and a private helper that puts it, with the clause.
 --   Adds K.held K.faults sink.old sink.new text.old text.new (FORM)
 -- The spec function joins its fields by `++`, grouped to the left, in the order of the puts: `codes "HOLD " ++ decimal n ++ ..`.
--- A choice (`match`, `if`) and a loop each have a helper of their own; the loop's invariant is
+-- A choice (`match`, `if`) and a loop each have a helper of their own; the loop's invariant is.
 --   Adds g.K.Sink.held g.K.Sink.faults l.fn.sink l.sink l.fn.text l.text (flat_map form (take l.x-index l.xs))
--- A helper of up to five puts needs no answer; else, and at the public writer,
+-- A helper of up to five puts needs no answer; else, and at the public writer,.
 --   returns g c = search (adds_then, ends_text) depth 40        (both of `TextLaws`)
 use Rattle.std.specs.Prelude.{◌≡◌, false, ℕ, List, [], ◌++◌}
 use Rattle.std.specs.declared.option.Option.{Option}

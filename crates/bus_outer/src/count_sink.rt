@@ -1,4 +1,4 @@
-// A sink that only counts.
+//! A sink that only counts.
 ghost use Rattle.std.specs.Prelude.{◌≡◌, ◌+◌, ◌<◌, None, length, min};
 ghost use Rattle.bus_outer.specs.Faults.{last_u64};
 ghost use Rattle.bus_outer.specs.Sinks.{Pushes, CountsPush};

@@ -1,4 +1,4 @@
-// A file as a source: the trusted edge, which tells no content.
+//! A file as a source: the trusted edge, which tells no content.
 ghost use Rattle.std.specs.Prelude.{◌≡◌, ◌<◌, ◌≤◌, MatchOption, None, length, take};
 ghost use Rattle.bus_outer.specs.Faults.{one_more};
 ghost use Rattle.bus_outer.specs.Ahead.{left_ahead};
@@ -23,7 +23,7 @@ pub struct FileSource<'a, R: Files> {
     faults: u64,
 }
 
-// How far the file has come.
+/// How far the file has come.
 #[derive(Drop)]
 enum NamedFile<F> {
     None,
@@ -160,7 +160,7 @@ pub(crate) fn pull_line_open<F: Read>(
     }
 }
 
-// Counts a fault.
+/// Counts a fault.
 fn fail(faults: &mut u64) -> Pull
     ensures failed { result ≡ Pull.Failed }
     ensures counts { CountsPull faults.old faults.new Pull.Failed }

@@ -1,4 +1,4 @@
-// Lines among bytes that are at hand.
+//! Lines among bytes that are at hand.
 ghost use Rattle.std.specs.Prelude.{◌≡◌, ◌≢◌, ◌<◌, ◌++◌, ℕ, IfNone, IfSome, slice_index, drop, length, min, take};
 ghost use Rattle.bus_outer.specs.Sources.{line_length, StopsAtFeed};
 ghost use Rattle.bus_outer.specs.declared.source.Pull.TheVariants.{Got};

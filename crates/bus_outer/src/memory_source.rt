@@ -1,4 +1,4 @@
-// A source in memory, which fails at the pulls that it is told.
+//! A source in memory, which fails at the pulls that it is told.
 ghost use Rattle.std.specs.Prelude.{◌≡◌, ◌<◌, ◌≤◌, ◌↔◌, ℕ, Contains, IsTrue, Some, length, min, take, true, false};
 ghost use Rattle.bus_outer.specs.Faults.{one_more, Fails};
 ghost use Rattle.bus_outer.specs.Sources.{Taken, Pulls, StopsAtFeed, CountsPull, line_length as length_of_line};
@@ -38,7 +38,7 @@ impl MemorySource {
         }
     }
 
-    // Whether the next pull is listed, which is counted, as is its fault.
+    /// Whether the next pull is listed, which is counted, as is its fault.
     fn fails(&mut self) -> bool
         ensures listed { IsTrue result ↔ Contains (failing_pulls self.old) (pull_number self.old) }
         ensures counted { result ≡ true → source_faults self.new ≡ one_more (source_faults self.old) }

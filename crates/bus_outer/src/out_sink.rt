@@ -1,4 +1,4 @@
-// A writer of std as a sink: the trusted edge, which tells no content.
+//! A writer of std as a sink: the trusted edge, which tells no content.
 ghost use Rattle.std.specs.Prelude.{◌≡◌, ◌<◌, None, length};
 ghost use Rattle.bus_outer.specs.Faults.{one_more};
 ghost use Rattle.bus_outer.specs.Sinks.{Pushes, CountsPush};

@@ -1,4 +1,4 @@
-// A piece of some bytes, as one call gives it.
+//! A piece of some bytes, as one call gives it.
 ghost use Rattle.std.specs.Prelude.{◌≡◌, ◌++◌, drop, length, min, take};
 
 /// Copies a piece to the front of the buffer: no more than there is, nor than there is room for.

@@ -1,4 +1,4 @@
-// A reader behind a buffer, so that short reads make few calls of the system.
+//! A reader behind a buffer, so that short reads make few calls of the system.
 ghost use Rattle.std.specs.Prelude.{◌≡◌, ◌≤◌, ◌<◌, [], length, min, take, IfOk};
 ghost use Rattle.std.specs.Io.KnownBytes.{Consumes, ReadConsumes};
 ghost use Rattle.bus_outer.specs.Sources.{StopsAtFeed};
@@ -10,7 +10,7 @@ use crate::piece::copy_piece;
 use std::io;
 use std::io::Read;
 
-// How many bytes are read ahead at most.
+/// How many bytes are read ahead at most.
 const AHEAD: usize = 16384;
 
 /// A reader, and the bytes of it that were read ahead: those from `at` up to `end`.
@@ -79,7 +79,7 @@ impl<F: Read> ReadAhead<F> {
         Ok(self.take_line(buf))
     }
 
-    // Reads ahead, where nothing that was read ahead is left.
+    /// Reads ahead, where nothing that was read ahead is left.
     fn fill(&mut self) -> io::Result<()>
         requires { waiting self.old ≡ [] }
         ensures { Fills (left_ahead F.remaining self.old) (left_ahead F.remaining self.new) result (waiting self.new) }
@@ -90,7 +90,7 @@ impl<F: Read> ReadAhead<F> {
         Ok(())
     }
 
-    // Takes of what was read ahead as much as the buffer has room for.
+    /// Takes of what was read ahead as much as the buffer has room for.
     fn take(&mut self, buf: &mut [u8]) -> usize
         ensures count { result ≡ min (length buf.new) (length (waiting self.old)) }
         ensures bytes { Consumes (left_ahead F.remaining self.old) (left_ahead F.remaining self.new) (take result buf.new) }
@@ -101,7 +101,7 @@ impl<F: Read> ReadAhead<F> {
         n
     }
 
-    // Takes of the first line that was read ahead as much as the buffer has room for.
+    /// Takes of the first line that was read ahead as much as the buffer has room for.
     fn take_line(&mut self, buf: &mut [u8]) -> usize
         ensures bound { result ≤ length buf.new }
         ensures some { 0 < length buf.old → 0 < length (waiting self.old) → 0 < result }

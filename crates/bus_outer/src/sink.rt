@@ -1,4 +1,4 @@
-// What takes bytes.
+//! What takes bytes.
 ghost use Rattle.std.specs.Prelude.{◌<◌, List, ℕ, length};
 ghost use Rattle.std.specs.declared.option.Option.{Option};
 ghost use Rattle.bus_outer.specs.Sinks.{Pushes, CountsPush};

@@ -1,4 +1,4 @@
-// What gives bytes.
+//! What gives bytes.
 ghost use Rattle.std.specs.Prelude.{◌≡◌, ◌<◌, ◌≤◌, List, ℕ, length, take};
 ghost use Rattle.std.specs.declared.option.Option.{Option};
 ghost use Rattle.bus_outer.specs.Sources.{Taken, Pulls, StopsAtFeed, CountsPull};

@@ -1,4 +1,4 @@
-// A source in memory that never fails.
+//! A source in memory that never fails.
 ghost use Rattle.std.specs.Prelude.{◌≡◌, ◌≢◌, ◌<◌, ◌≤◌, ℕ, Some, drop, length, min, take, vec_len};
 ghost use Rattle.bus_outer.specs.Sources.{Taken, Pulls, StopsAtFeed, CountsPull, line_length as length_of_line};
 

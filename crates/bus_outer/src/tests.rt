@@ -1,3 +1,4 @@
+//! What sources and sinks do that no clause says.
 use crate::file_source::pull_open;
 use crate::read_ahead::ReadAhead;
 use crate::{
@@ -135,7 +136,7 @@ fn a_steady_source_gives_all_and_a_count_sink_counts_it(rt: HostRuntime) -> Resu
     Ok(())
 }
 
-// A line `HOLD n 2` for each n below 2000, in a buffer before a sink.
+/// A line `HOLD n 2` for each n below 2000, in a buffer before a sink.
 fn write_holds<K: Sink>(sink: &mut K) -> Result<(), WriteFault> {
     let mut text = TextBuffer::new();
     for n in 0..2000u64 {
@@ -190,7 +191,7 @@ fn numbers_are_put_in_digits(rt: HostRuntime) -> Result<(), Fail> {
     Ok(())
 }
 
-// Reads `ab`, fails once, reads `ab` once more, and has ended.
+/// Reads `ab`, fails once, reads `ab` once more, and has ended.
 #[derive(Drop)]
 struct FailingReader(u8);
 
@@ -254,7 +255,7 @@ fn a_file_is_read_and_a_missing_one_is_a_fault(rt: HostRuntime) -> Result<(), Fa
     Ok(())
 }
 
-// A writer whose calls with these numbers, from 0, fail: writes, and flushes.
+/// A writer whose calls with these numbers, from 0, fail: writes, and flushes.
 #[derive(Drop)]
 struct FailingWriter {
     write: u8,

@@ -1,4 +1,4 @@
-// A buffer of fixed size before a sink, so that a text of many fields comes in few pushes.
+//! A buffer of fixed size before a sink, so that a text of many fields comes in few pushes.
 ghost use Rattle.std.specs.Prelude.{◌≡◌, [], ◌∷◌, length, decimal};
 ghost use Rattle.bus_outer.specs.Texts.{IsFresh, Adds, Ends};
 ghost use Rattle.bus_outer.specs.Standing.{Sends};
@@ -7,7 +7,7 @@ use crate::{Sink, WriteFault, write_all};
 use arrayvec::ArrayVec;
 use itoa::{Buffer, Integer};
 
-// How many bytes wait at most: a push per few kilobytes, whatever the fields are.
+/// How many bytes wait at most: a push per few kilobytes, whatever the fields are.
 const SIZE: usize = 4096;
 
 /// A text on its way to a sink, which is passed to each call. It takes no memory.
@@ -65,7 +65,7 @@ impl TextBuffer {
         if self.failed { Err(WriteFault) } else { Ok(()) }
     }
 
-    // Writes the buffer.
+    /// Writes the buffer.
     fn drain<K: Sink>(&mut self, sink: &mut K)
         ensures adds { Adds K.held K.faults sink.old sink.new self.old self.new [] }
         ensures empty { self.new.buffer.items ≡ [] }
@@ -74,7 +74,7 @@ impl TextBuffer {
         self.buffer.clear();
     }
 
-    // Adds bytes where the buffer is empty.
+    /// Adds bytes where the buffer is empty.
     fn pass<K: Sink>(&mut self, sink: &mut K, bytes: &[u8])
         requires { self.old.buffer.items ≡ [] }
         ensures { Adds K.held K.faults sink.old sink.new self.old self.new bytes.now }
@@ -86,7 +86,7 @@ impl TextBuffer {
     }
 }
 
-// Writes bytes, unless a write has failed before, and says whether one has.
+/// Writes bytes, unless a write has failed before, and says whether one has.
 fn send<K: Sink>(sink: &mut K, failed: bool, bytes: &[u8]) -> bool
     ensures { Sends K.held K.faults sink.old sink.new failed result bytes.now }
 {

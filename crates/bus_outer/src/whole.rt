@@ -1,4 +1,4 @@
-// All that a source gives, and all of some bytes to a sink.
+//! All that a source gives, and all of some bytes to a sink.
 ghost use Rattle.std.specs.Prelude.{◌≡◌, ◌≤◌, IfOk, IfSome};
 ghost use Rattle.bus_outer.specs.declared.whole.ReadError.TheVariants.{Memory};
 ghost use Rattle.bus_outer.specs.Sources.{read_limit, ReadsWhole, CountsRead};
@@ -30,7 +30,7 @@ impl From<AllocError> for ReadError {
     }
 }
 
-// How many bytes one pull asks for.
+/// How many bytes one pull asks for.
 const PIECE: usize = 4096;
 
 /// The greatest limit of [`read_whole`], in bytes.

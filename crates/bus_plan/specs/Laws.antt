@@ -20,7 +20,7 @@ ShortIsRefused =
     (table : Table) (offsets : List ℕ) → IsTrue (is_valid table) → table.mode ≡ Periodic → table.ti < least_interval table
     → is_accepted (verdict_of (with_offsets offsets table)) ≡ false
 
--- these are offsets for each sender, each below the transmit interval, and the table with them is accepted
+-- These are offsets for each sender, each below the transmit interval, and the table with them is accepted.
 pub record AreAccepted (table : Table) (offsets : List ℕ) : Type 0 where
   pub count : length offsets ≡ length table.senders
   pub below : All (λ at. at < table.ti) offsets

@@ -1,3 +1,4 @@
+//! Plans of worked tables.
 use crate::planning::{PlanAnswer, plan};
 use bus_regime::verdict;
 use bus_table::{Mode, read_table};

@@ -5,7 +5,7 @@ use Rattle.std.specs.List.{list_all}
 use Rattle.std.proofs.lemmas.Bool.{cases_Bool, cases_lt, le-leb, lt-ltb}
 use Rattle.bus_strings.specs.Members.{In}
 use Rattle.bus_table.specs.Tables.{Sender}
-use Rattle.bus_table.specs.Facts.{SenderFacts}
+use Rattle.bus_table.specs.inside.Facts.{SenderFacts}
 use Rattle.bus_table.proofs.TurnLaws.{of_each}
 use Rattle.bus_table.proofs.ValidLaws.{valid_facts}
 use Rattle.bus_medium.specs.Delays.{AreDelays, cable}

@@ -5,18 +5,18 @@ use Rattle.bus_text.specs.Canonical.{spelled_lines}
 use Rattle.bus_text.specs.Digits.{hexadecimal}
 use Rattle.bus_strings.specs.Items.{Item}
 
--- a colon, and four hexadecimal digits for each data word
+-- A colon, and four hexadecimal digits for each data word.
 abbrev pub string_fields : List ℕ → List (List ℕ)
 string_fields string = codes ":" ∷ map (hexadecimal 4) string
 
--- the fields of an item's line
+-- The fields of an item's line.
 abbrev pub item_fields : Item → List (List ℕ)
 item_fields item = codes "MSG" ∷ decimal item.terminal ∷ flat_map string_fields item.strings
 
--- the fields of the first line
+-- The fields of the first line.
 abbrev pub header_fields : List (List ℕ)
 header_fields = codes "MESSAGES" ∷ codes "1" ∷ []
 
--- the header, and a line for each item
+-- The header, and a line for each item.
 abbrev pub messages_text : List Item → List ℕ
 messages_text items = spelled_lines (header_fields ∷ map item_fields items)

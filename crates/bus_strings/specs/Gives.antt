@@ -4,12 +4,12 @@ use Rattle.bus_text.specs.Refusals.{Refusal}
 use Rattle.bus_strings.specs.declared.fault.MessagesError.{MessagesError}
 use Rattle.bus_strings.specs.declared.fault.MessagesError.TheVariants.{Text, Memory}
 
--- a refusal is that of the reading; want of memory says nothing of it
+-- A refusal is that of the reading; want of memory says nothing of it.
 abbrev pub Fails : {Y : Type 0} → MessagesError → Result Y Refusal → Type 0
 Fails Memory reading = Unit {0}
 Fails (Text line reason) reading = reading ≡ Err (record { line = line; reason = reason })
 
--- a value, as `view` sees it, is that of the reading
+-- A value, as `view` sees it, is that of the reading.
 abbrev pub Gives : {X Y : Type 0} → (X → Y) → Result X MessagesError → Result Y Refusal → Type 0
 Gives view (Ok value) reading = reading ≡ Ok (view value)
 Gives view (Err error) reading = Fails error reading

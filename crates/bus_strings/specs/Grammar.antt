@@ -6,14 +6,14 @@ use Rattle.bus_text.specs.Lines.{Entry, entries_of}
 use Rattle.bus_text.specs.Numbers.{IsDecimal, IsHexadecimal}
 use Rattle.bus_strings.specs.Items.{Item, is_in_range}
 
--- data words of four hexadecimal digits, one a field
+-- Data words of four hexadecimal digits, one a field.
 abbrev pub AreWords : List ℕ → List (List ℕ) → Type 0
 AreWords [] [] = Unit {0}
 AreWords [] (field ∷ fields) = ⊥
 AreWords (word ∷ words) [] = ⊥
 AreWords (word ∷ words) (field ∷ fields) = IsHexadecimal 4 field word × AreWords words fields
 
--- wordstrings, of which there is one, a colon between each two
+-- Wordstrings, of which there is one, a colon between each two.
 abbrev pub AreStrings : List (List ℕ) → List (List ℕ) → Type 0
 AreStrings [] fields = ⊥
 AreStrings (string ∷ []) fields = AreWords string fields
@@ -21,7 +21,7 @@ AreStrings (string ∷ next ∷ strings) fields =
     (front : List (List ℕ)) × (rest : List (List ℕ)) × (fields ≡ front ++ codes ":" ∷ rest)
     × AreWords string front × AreStrings (next ∷ strings) rest
 
--- the fields of an item's line
+-- The fields of an item's line.
 pub record IsItemLine (item : Item) (fields : List (List ℕ)) : Type 0 where
   pub number : List ℕ
   pub words : List (List ℕ)
@@ -30,18 +30,18 @@ pub record IsItemLine (item : Item) (fields : List (List ℕ)) : Type 0 where
   pub strings : AreStrings item.strings words
   pub ranges : is_in_range item ≡ true
 
--- a line for each item, in order
+-- A line for each item, in order.
 abbrev pub AreItemLines : List Item → List Entry → Type 0
 AreItemLines [] [] = Unit {0}
 AreItemLines [] (entry ∷ entries) = ⊥
 AreItemLines (item ∷ items) [] = ⊥
 AreItemLines (item ∷ items) (entry ∷ entries) = IsItemLine item entry.fields × AreItemLines items entries
 
--- a header, and then the lines of the items
+-- A header, and then the lines of the items.
 abbrev pub AreMessageLines : List Item → List Entry → Type 0
 AreMessageLines items [] = ⊥
 AreMessageLines items (first ∷ others) = (first.fields ≡ codes "MESSAGES" ∷ codes "1" ∷ []) × AreItemLines items others
 
--- the text stands for these items
+-- The text stands for these items.
 abbrev pub IsMessagesText : List Item → List ℕ → Type 0
 IsMessagesText items text = AreMessageLines items (entries_of text)

@@ -2,26 +2,26 @@
 -- Each has one home here, and one in `src/limits.rt`.
 use Rattle.std.specs.Prelude.{ℕ, ◌^◌}
 
--- every moment of a transmission is below it, and a trace goes no further than it
+-- Every moment of a transmission is below it, and a trace goes no further than it.
 abbrev pub horizon_limit : ℕ
 horizon_limit = 2 ^ 40
 
--- the greatest terminal number; the least is 1
+-- The greatest terminal number; the least is 1.
 abbrev pub most_terminal : ℕ
 most_terminal = 128
 
--- the most wordstrings of a message; the least is 1
+-- The most wordstrings of a message; the least is 1.
 abbrev pub most_strings : ℕ
 most_strings = 31
 
--- the most data words of a wordstring; the least is 0
+-- The most data words of a wordstring; the least is 0.
 abbrev pub most_words : ℕ
 most_words = 256
 
--- the bit times of a word
+-- The bit times of a word.
 abbrev pub word_bits : ℕ
 word_bits = 20
 
--- the quiet bit times between two wordstrings of a message
+-- The quiet bit times between two wordstrings of a message.
 abbrev pub inner_gap : ℕ
 inner_gap = 4

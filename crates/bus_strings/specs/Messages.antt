@@ -6,47 +6,47 @@ use Rattle.std.specs.Prelude.{ℕ, ◌+◌, ◌-◌, ◌*◌, ◌^◌, ◌<◌, 
 use Rattle.std.specs.List.{sum_by, AllByRecursion}
 use Rattle.bus_strings.specs.Limits.{most_strings, most_words, word_bits, inner_gap}
 
--- a label, an extension and the data words behind them
+-- A label, an extension and the data words behind them.
 pub record Wordstring : Type 0 where
   pub label : ℕ
   pub ext : ℕ
   pub words : List ℕ
 
--- a message: its wordstrings
+-- A message: its wordstrings.
 abbrev pub Message : Type 0
 Message = List Wordstring
 
--- a transmission: the moment of its first bit time, in bit times from the settled start, its terminal and its message
+-- A transmission: the moment of its first bit time, in bit times from the settled start, its terminal and its message.
 pub record Entry : Type 0 where
   pub moment : ℕ
   pub terminal : ℕ
   pub message : Message
 
--- every number of a wordstring lies in its range, and there are no more data words than may be
+-- Every number of a wordstring lies in its range, and there are no more data words than may be.
 pub record IsWordstring (string : Wordstring) : Type 0 where
   pub label : string.label < 4096
   pub ext : string.ext < 16
   pub few : length string.words ≤ most_words
   pub words : AllByRecursion (λ word. word < 2 ^ 16) string.words
 
--- a message has wordstrings, and no more than may be
+-- A message has wordstrings, and no more than may be.
 pub record IsMessage (message : Message) : Type 0 where
   pub some : 0 < length message
   pub few : length message ≤ most_strings
   pub strings : AllByRecursion IsWordstring message
 
--- the words of a wordstring, its label word included
+-- The words of a wordstring, its label word included.
 abbrev pub word_count : Wordstring → ℕ
 word_count string = 1 + length string.words
 
--- the bit times of so many words in so many wordstrings, between which it is quiet
+-- The bit times of so many words in so many wordstrings, between which it is quiet.
 abbrev pub bits_of : ℕ → ℕ → ℕ
 bits_of words strings = word_bits * words + inner_gap * (strings - 1)
 
--- the bit times of the longest message that may be
+-- The bit times of the longest message that may be.
 abbrev pub most_bits : ℕ
 most_bits = bits_of ((1 + most_words) * most_strings) most_strings
 
--- the bit times of a message, from its first to its last
+-- The bit times of a message, from its first to its last.
 abbrev pub bits : Message → ℕ
 bits message = bits_of (sum_by word_count message) (length message)

@@ -5,42 +5,42 @@ use Rattle.bus_strings.specs.Limits.{inner_gap}
 use Rattle.bus_strings.specs.Messages.{Message, bits}
 use Rattle.bus_strings.specs.Pulses.{pulse_start, pulse_length, is_on}
 
--- the first bit time of a message is on
+-- The first bit time of a message is on.
 abbrev pub FirstIsOn : Type 0
 FirstIsOn = (message : Message) → 0 < length message → is_on message 0 ≡ true
 
--- the last bit time of a message is on
+-- The last bit time of a message is on.
 abbrev pub LastIsOn : Type 0
 LastIsOn = (message : Message) → 0 < length message → is_on message (bits message - 1) ≡ true
 
--- behind its last bit time a message is quiet
+-- Behind its last bit time a message is quiet.
 abbrev pub QuietBehind : Type 0
 QuietBehind = (message : Message) (d : ℕ) → bits message ≤ d → is_on message d ≡ false
 
--- from bit time k of a message on, one is on before an inner gap has passed
+-- From bit time k of a message on, one is on before an inner gap has passed.
 pub record Pulse (message : Message) (k : ℕ) : Type 0 where
   pub at : ℕ
   pub low : k ≤ at
   pub high : at ≤ k + inner_gap
   pub is_on : is_on message at ≡ true
 
--- quiet within a message is no longer than the inner gap
+-- Quiet within a message is no longer than the inner gap.
 abbrev pub PulseSoon : Type 0
 PulseSoon = (message : Message) (k : ℕ) → k + inner_gap < bits message → Pulse message k
 
--- from the beginning of a pulse to the beginning of the next one, what is on is the pulse
+-- From the beginning of a pulse to the beginning of the next one, what is on is the pulse.
 abbrev pub OnWithinPulse : Type 0
 OnWithinPulse =
     (message : Message) (k d : ℕ) → k < length message → d < pulse_length message k + inner_gap
     → is_on message (pulse_start message k + d) ≡ nat_lt d (pulse_length message k)
 
--- the last pulse ends with the message
+-- The last pulse ends with the message.
 abbrev pub LastPulseEnds : Type 0
 LastPulseEnds =
     (message : Message) (k : ℕ) → k + 1 ≡ length message
     → pulse_start message k + pulse_length message k ≡ bits message
 
--- the next pulse begins the inner gap behind the end of this one
+-- The next pulse begins the inner gap behind the end of this one.
 abbrev pub NextPulse : Type 0
 NextPulse =
     (message : Message) (k : ℕ) → k < length message

@@ -13,34 +13,34 @@ use Rattle.bus_text.specs.declared.reason.Reason.{Reason}
 use Rattle.bus_text.specs.declared.reason.Reason.TheVariants.{Ended, Keyword, Fields, Spelling, Range}
 use Rattle.bus_strings.specs.Items.{Item, is_in_range}
 
--- the field that a terminal's number stands in
+-- The field that a terminal's number stands in.
 abbrev pub number_of : List (List ℕ) → List ℕ
 number_of fields = slice_index_or fields 1 []
 
--- whether a field is a colon
+-- Whether a field is a colon.
 abbrev pub is_colon : List ℕ → Bool
 is_colon field = bytes_eq field (codes ":")
 
--- the data words of each wordstring, where the fields are data words with a colon between each two wordstrings
+-- The data words of each wordstring, where the fields are data words with a colon between each two wordstrings.
 abbrev pub strings_of : List (List ℕ) → List (List ℕ)
 strings_of fields = map (map hexadecimal_value) (slice_split is_colon fields)
 
--- the item of a line that is right: the first colon is the third field
+-- The item of a line that is right: the first colon is the third field.
 abbrev pub item_of : List (List ℕ) → Item
 item_of fields = record { terminal = decimal_value (number_of fields); strings = strings_of (drop 3 fields) }
 
--- whether each field is a colon or a data word
+-- Whether each field is a colon or a data word.
 abbrev pub are_spelled : List (List ℕ) → Bool
 are_spelled fields = list_all (λ field. is_colon field || is_hexadecimal 4 field) fields
 
--- why the first line is refused
+-- Why the first line is refused.
 abbrev pub header_refusal : List (List ℕ) → Option Reason
 header_refusal fields = first_of
     ((not (is_at fields 0 (codes "MESSAGES")), Keyword)
     ∷ (not (length fields == 2 && is_at fields 1 (codes "1")), Fields)
     ∷ [])
 
--- why a further line is refused
+-- Why a further line is refused.
 abbrev pub item_refusal : List (List ℕ) → Option Reason
 item_refusal fields = first_of
     ((not (is_at fields 0 (codes "MSG")), Keyword)
@@ -49,34 +49,34 @@ item_refusal fields = first_of
     ∷ (not (is_in_range (item_of fields)), Range)
     ∷ [])
 
--- the fields up to the first colon are right, and write this terminal, or the last value of a u64 where it is above that
+-- The fields up to the first colon are right, and write this terminal, or the last value of a u64 where it is above that.
 pub record HasFront (fields : List (List ℕ)) (terminal : ℕ) : Type 0 where
   pub keyword : is_at fields 0 (codes "MSG") ≡ true
   pub colon : is_at fields 2 (codes ":") ≡ true
   pub plain : is_plain_decimal (number_of fields) ≡ true
   pub value : terminal ≡ min (decimal_value (number_of fields)) (2 ^ 64 - 1)
 
--- what the fields of the first line read as
+-- What the fields of the first line read as.
 unfoldable pub header_reading : List (List ℕ) → Result (Unit {0}) Reason
 header_reading fields = unless (header_refusal fields) tt
 
--- what the fields of a further line read as
+-- What the fields of a further line read as.
 unfoldable pub item_reading : List (List ℕ) → Result Item Reason
 item_reading fields = unless (item_refusal fields) (item_of fields)
 
--- what the first line reads as, with its number at a reason against it
+-- What the first line reads as, with its number at a reason against it.
 abbrev pub header_line : Entry → Result (Unit {0}) Refusal
 header_line entry = at_line entry.number (header_reading entry.fields)
 
--- what a further line reads as, with its number at a reason against it
+-- What a further line reads as, with its number at a reason against it.
 abbrev pub item_line : Entry → Result Item Refusal
 item_line entry = at_line entry.number (item_reading entry.fields)
 
--- the header and then the items; lines without a header have ended too early, and `after` is one past the last
+-- The header and then the items; lines without a header have ended too early, and `after` is one past the last.
 unfoldable pub lines_reading : List Entry → ℕ → Result (List Item) Refusal
 lines_reading [] after = Err (record { line = after; reason = Ended })
 lines_reading (first ∷ others) after = header_line first >>= λ _. all_of item_line others
 
--- what a text reads as
+-- What a text reads as.
 abbrev pub messages_reading : List ℕ → Result (List Item) Refusal
 messages_reading text = lines_reading (entries_of text) (line_after_of text)

@@ -1,3 +1,4 @@
+//! Why a messages text wasn't read.
 use bus_text::Reason;
 use std::alloc::{AllocError, AllocFailed};
 use thiserror::Error;

@@ -1,3 +1,4 @@
+//! One item of a messages text.
 ghost use Rattle.std.specs.Prelude.{◌≡◌, nat_le, length, drop, Ok, Err, IfOk, IfErr, Some, None, if◌then◌else◌};
 ghost use Rattle.std.specs.List.{list_all};
 ghost use Rattle.bus_text.specs.inside.Gives.{LineGives};

@@ -1,3 +1,4 @@
+//! Laws of messages, transmissions and texts, each the contract of a function that does nothing.
 ghost use Rattle.std.specs.Prelude.{◌≡◌, ℕ, List, Ok};
 ghost use Rattle.bus_strings.specs.Items.{Item};
 ghost use Rattle.bus_strings.specs.Grammar.{IsMessagesText};

@@ -1,3 +1,4 @@
+//! A message: the wordstrings that a terminal sends at one start.
 ghost use Rattle.std.specs.Prelude.{◌≡◌, ◌<◌, ◌≤◌, ◌↔◌, IsSome, IsNone, [], ◌∷◌, ◌++◌, IfSome, IfOk, OnOk, OnErr, length, vec_len};
 ghost use Rattle.bus_strings.specs.Limits.{most_strings};
 ghost use Rattle.bus_strings.specs.Messages.{IsMessage, bits as bits_in};
@@ -16,7 +17,7 @@ pub struct Message {
     strings: Strings,
 }
 
-// Most messages have one wordstring, which takes no memory of its own. Of more, the bit times are known.
+/// Most messages have one wordstring, which takes no memory of its own. Of more, the bit times are known.
 #[derive(Debug, Drop)]
 enum Strings {
     One { alloc: Global, string: Wordstring },
@@ -112,7 +113,7 @@ impl Message {
     }
 }
 
-// Both wordstrings.
+/// Both wordstrings.
 fn both(alloc: Global, first: &Wordstring, second: Wordstring) -> Result<Strings, AllocError>
     ensures { IfOk result (λ both. (kept_message both ≡ first.now ∷ second ∷ []) × AreKept both) }
 {

@@ -1,3 +1,4 @@
+//! The items of a messages text.
 use std::marker::Model;
 
 /// One item of a messages text: the data words of a message of a terminal, wordstring by wordstring, without its labels.

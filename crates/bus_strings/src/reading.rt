@@ -1,3 +1,4 @@
+//! Reading a messages text.
 ghost use Rattle.std.specs.Prelude.{◌≡◌, ◌≤◌, List, length, IfOk, Ok};
 ghost use Rattle.std.specs.List.{AllByRecursion};
 ghost use Rattle.bus_text.specs.AllOf.{all_of};

@@ -1,3 +1,4 @@
+//! Messages and wordstrings, by example.
 use crate::message::{Message, copy_message};
 use crate::overlap::{Marks, garbled, is_by_moment, overlaps};
 use crate::pulses::{bits, is_on, pulse, pulse_count};

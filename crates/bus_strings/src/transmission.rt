@@ -1,3 +1,4 @@
+//! A message on the bus.
 ghost use Rattle.std.specs.Prelude.{◌≡◌, ◌<◌};
 ghost use Rattle.bus_strings.specs.Messages.{IsMessage};
 ghost use Rattle.bus_strings.specs.Transmissions.{end_of};

@@ -1,3 +1,4 @@
+//! A wordstring: a label word, and the data words behind it.
 ghost use Rattle.std.specs.Prelude.{◌≡◌, ◌+◌, ◌<◌, ◌≤◌, ◌^◌, ◌↔◌, IsSome, IsNone, IfSome, IfOk, vec_len, length, take};
 ghost use Rattle.std.specs.List.{AllByRecursion};
 ghost use Rattle.bus_strings.specs.Limits.{most_words};
@@ -17,7 +18,7 @@ pub struct Wordstring {
     kept: Kept,
 }
 
-// Where the data words are. Each case has its own label and extension, which then take no room beside a `Vec`.
+/// Where the data words are. Each case has its own label and extension, which then take no room beside a `Vec`.
 #[derive(Debug, Drop)]
 enum Kept {
     // The first so many of these.
@@ -46,7 +47,7 @@ impl Model for Wordstring {
     ghost invariant = { λ s. IsKept s.kept };
 }
 
-// Each is a number of sixteen bits. Nothing is left of it in the built program.
+/// Each is a number of sixteen bits. Nothing is left of it in the built program.
 fn are_words(words: &[u16])
     ensures { AllByRecursion (λ word. word < 2 ^ 16) words.now }
 {

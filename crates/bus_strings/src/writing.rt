@@ -1,3 +1,4 @@
+//! Writing the canonical text of messages.
 ghost use Rattle.std.specs.Prelude.{◌≡◌};
 ghost use Rattle.std.specs.List.{flat_map};
 ghost use Rattle.bus_outer.specs.Sinks.{WritesText};

@@ -7,26 +7,26 @@ use Rattle.bus_table.specs.declared.mode.Mode.TheVariants.{Aperiodic, Periodic}
 use Rattle.bus_table.specs.Tables.{SendLine, TakeLine, Table}
 use Rattle.bus_table.specs.Text.{Line, TableLine, ModeLine, TiLine, SgLine, SenderLine, Sends, Takes, ListenerLine, lines_of, mode_word}
 
--- the fields of a SENDER line, which has an offset in periodic mode
+-- The fields of a SENDER line, which has an offset in periodic mode.
 abbrev pub sender_fields : Mode → (n tg at : ℕ) → List (List ℕ)
 sender_fields Aperiodic n tg at = codes "SENDER" ∷ decimal n ∷ codes "TG" ∷ decimal tg ∷ []
 sender_fields Periodic n tg at = codes "SENDER" ∷ decimal n ∷ codes "TG" ∷ decimal tg ∷ codes "AT" ∷ decimal at ∷ []
 
--- the fields of a SEND line, hexadecimal digits in capitals
+-- The fields of a SEND line, hexadecimal digits in capitals.
 abbrev pub send_fields : SendLine → List (List ℕ)
 send_fields line =
     codes "SEND" ∷ hexadecimal 3 line.label ∷ (hex_digit line.ext ∷ []) ∷ decimal line.least ∷ decimal line.most ∷ []
 
--- the digit of an extension, or `*` for every extension
+-- The digit of an extension, or `*` for every extension.
 abbrev pub ext_field : Option ℕ → List ℕ
 ext_field None = codes "*"
 ext_field (Some ext) = hex_digit ext ∷ []
 
--- the fields of a TAKE line, hexadecimal digits in capitals
+-- The fields of a TAKE line, hexadecimal digits in capitals.
 abbrev pub take_fields : TakeLine → List (List ℕ)
 take_fields line = codes "TAKE" ∷ hexadecimal 3 line.label ∷ ext_field line.ext ∷ decimal line.first ∷ decimal line.count ∷ []
 
--- the fields of a line, in a table of this mode
+-- The fields of a line, in a table of this mode.
 abbrev pub line_fields : Mode → Line → List (List ℕ)
 line_fields mode TableLine = codes "TABLE" ∷ codes "1" ∷ []
 line_fields mode (ModeLine m) = codes "MODE" ∷ mode_word m ∷ []
@@ -37,6 +37,6 @@ line_fields mode (Sends line) = send_fields line
 line_fields mode (Takes line) = take_fields line
 line_fields mode (ListenerLine n) = codes "LISTENER" ∷ decimal n ∷ []
 
--- the lines of a table and no other, one space between fields, none at the ends, a line feed behind each line
+-- The lines of a table and no other, one space between fields, none at the ends, a line feed behind each line.
 abbrev pub table_text : Table → List ℕ
 table_text table = spelled_lines (map (line_fields table.mode) (lines_of table))

@@ -16,7 +16,7 @@ use Rattle.bus_table.specs.Forms.{keyword_of, table_reading, mode_reading, numbe
 use Rattle.bus_table.specs.Ranges.{is_number, is_ti, is_sg, most_takes}
 use Rattle.bus_table.specs.Tables.{SendLine, TakeLine, Sender, Listener}
 
--- what is known of a table; the mode is aperiodic before its line, and ti and sg are 0 before theirs
+-- What is known of a table; the mode is aperiodic before its line, and ti and sg are 0 before theirs.
 pub record Draft : Type 0 where
   pub stage : Stage
   pub mode : Mode
@@ -25,31 +25,31 @@ pub record Draft : Type 0 where
   pub senders : List Sender
   pub listeners : List Listener
 
--- a draft of these parts
+-- A draft of these parts.
 abbrev pub draft_of : Stage → Mode → ℕ → ℕ → List Sender → List Listener → Draft
 draft_of stage mode ti sg senders listeners =
     record { stage = stage; mode = mode; ti = ti; sg = sg; senders = senders; listeners = listeners }
 
--- before the first line
+-- Before the first line.
 abbrev pub start : Draft
 start = draft_of stages.Start Aperiodic 0 0 [] []
 
--- a number of the last of these, and 0 where there is none
+-- A number of the last of these, and 0 where there is none.
 abbrev pub of_last : {X : Type 0} → (X → ℕ) → List X → ℕ
 of_last count [] = 0
 of_last count (last ∷ []) = count last
 of_last count (first ∷ next ∷ others) = of_last count (next ∷ others)
 
--- how many SEND lines the last sender has
+-- How many SEND lines the last sender has.
 abbrev pub last_sends : List Sender → ℕ
 last_sends senders = of_last (λ sender. length sender.sends) senders
 
--- how many TAKE lines the terminal has that stands last: the last listener, or before the first listener the last sender
+-- How many TAKE lines the terminal has that stands last: the last listener, or before the first listener the last sender.
 abbrev pub last_takes : Stage → List Sender → List Listener → ℕ
 last_takes stages.Listener senders listeners = of_last (λ listener. length listener.takes) listeners
 last_takes stage senders listeners = of_last (λ sender. length sender.takes) senders
 
--- whether a keyword may come at a stage, where the terminal that stands last has so many SEND lines and TAKE lines
+-- Whether a keyword may come at a stage, where the terminal that stands last has so many SEND lines and TAKE lines.
 abbrev pub may_follow : Stage → ℕ → ℕ → Keyword → Bool
 may_follow stages.Start sends takes keywords.Table = true
 may_follow stages.Table sends takes keywords.Mode = true
@@ -69,11 +69,11 @@ may_follow stages.Listener sends takes keywords.Take = nat_lt takes most_takes
 may_follow stages.Listener sends takes keywords.Listener = true
 may_follow stage sends takes keyword = false
 
--- whether a line of a keyword may come next
+-- Whether a line of a keyword may come next.
 abbrev pub may_come : Draft → Keyword → Bool
 may_come draft keyword = may_follow draft.stage (last_sends draft.senders) (last_takes draft.stage draft.senders draft.listeners) keyword
 
--- whether the text may end at a stage
+-- Whether the text may end at a stage.
 abbrev pub may_end : Stage → Bool
 may_end stages.Sg = true
 may_end stages.Send = true
@@ -81,43 +81,43 @@ may_end stages.Take = true
 may_end stages.Listener = true
 may_end stage = false
 
--- a sender with its first SEND line
+-- A sender with its first SEND line.
 abbrev pub opened : Head → SendLine → Sender
 opened head line = record { number = head.number; tg = head.tg; at = head.at; sends = line ∷ []; takes = [] }
 
--- a listener without lines
+-- A listener without lines.
 abbrev pub hearing : ℕ → Listener
 hearing number = record { number = number; takes = [] }
 
--- a sender with one more SEND line
+-- A sender with one more SEND line.
 abbrev pub with_send : SendLine → Sender → Sender
 with_send line sender = record sender { sends = sender.sends ++ line ∷ [] }
 
--- a sender with one more TAKE line
+-- A sender with one more TAKE line.
 abbrev pub with_take : TakeLine → Sender → Sender
 with_take line sender = record sender { takes = sender.takes ++ line ∷ [] }
 
--- a listener with one more TAKE line
+-- A listener with one more TAKE line.
 abbrev pub with_heard : TakeLine → Listener → Listener
 with_heard line listener = record listener { takes = listener.takes ++ line ∷ [] }
 
--- the last of these is changed
+-- The last of these is changed.
 abbrev pub with_last : {X : Type 0} → (X → X) → List X → List X
 with_last change [] = []
 with_last change (last ∷ []) = change last ∷ []
 with_last change (first ∷ next ∷ others) = first ∷ with_last change (next ∷ others)
 
--- the senders after a SEND line, which behind a SENDER line is the first of a new one
+-- The senders after a SEND line, which behind a SENDER line is the first of a new one.
 abbrev pub senders_after : Stage → SendLine → List Sender → List Sender
 senders_after (stages.Sender head) line senders = senders ++ opened head line ∷ []
 senders_after stage line senders = with_last (with_send line) senders
 
--- the draft after a TAKE line, which is of the terminal that stands last
+-- The draft after a TAKE line, which is of the terminal that stands last.
 abbrev pub taken : Stage → Draft → TakeLine → Draft
 taken stages.Listener draft line = record draft { listeners = with_last (with_heard line) draft.listeners }
 taken stage draft line = record draft { stage = stages.Take; senders = with_last (with_take line) draft.senders }
 
--- the draft after a line of this keyword, which may come next
+-- The draft after a line of this keyword, which may come next.
 abbrev pub form_reading : Draft → Keyword → List (List ℕ) → Result Draft Reason
 form_reading draft keywords.Table fields = table_reading fields >>= λ _. Ok (record draft { stage = stages.Table })
 form_reading draft keywords.Mode fields = mode_reading fields >>= λ mode. Ok (record draft { stage = stages.Mode; mode = mode })
@@ -131,11 +131,11 @@ form_reading draft keywords.Listener fields =
     number_reading is_number fields
     >>= λ number. Ok (record draft { stage = stages.Listener; listeners = draft.listeners ++ hearing number ∷ [] })
 
--- the draft after a line whose keyword is this
+-- The draft after a line whose keyword is this.
 abbrev pub keyword_reading : Draft → Option Keyword → List (List ℕ) → Result Draft Reason
 keyword_reading draft None fields = Err reasons.Keyword
 keyword_reading draft (Some keyword) fields = if may_come draft keyword then form_reading draft keyword fields else Err reasons.Keyword
 
--- the draft after a line, or the first reason against it
+-- The draft after a line, or the first reason against it.
 unfoldable pub line_reading : Draft → List (List ℕ) → Result Draft Reason
 line_reading draft fields = keyword_reading draft (keyword_of fields) fields

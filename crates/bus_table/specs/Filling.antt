@@ -10,28 +10,28 @@ use Rattle.bus_table.specs.Hands.{message_of}
 use Rattle.bus_table.specs.Lengths.{shortest, longest}
 use Rattle.bus_table.specs.Tables.{SendLine, Sender}
 
--- how many data words a line has in it
+-- How many data words a line has in it.
 abbrev pub filling_count : Mode → SendLine → ℕ
 filling_count Aperiodic line = line.least
 filling_count Periodic line = line.most
 
--- so many data words of 0
+-- So many data words of 0.
 abbrev pub zeros : ℕ → List ℕ
 zeros n = replicate n 0
 
--- its data words, wordstring by wordstring
+-- Its data words, wordstring by wordstring.
 abbrev pub filling_strings : Mode → List SendLine → List (List ℕ)
 filling_strings mode sends = map (λ line. zeros (filling_count mode line)) sends
 
--- the item that gives it
+-- The item that gives it.
 abbrev pub filling_item : Mode → Sender → Item
 filling_item mode sender = record { terminal = sender.number; strings = filling_strings mode sender.sends }
 
--- the filling message of a sender of a table of this mode
+-- The filling message of a sender of a table of this mode.
 abbrev pub filling_message : Mode → Sender → Message
 filling_message mode sender = message_of sender.sends (filling_strings mode sender.sends)
 
--- its bit times: those of the shortest message in aperiodic mode, of the longest in periodic mode
+-- Its bit times: those of the shortest message in aperiodic mode, of the longest in periodic mode.
 abbrev pub filling_bits : Mode → Sender → ℕ
 filling_bits Aperiodic sender = shortest sender
 filling_bits Periodic sender = longest sender

@@ -17,11 +17,11 @@ use Rattle.bus_table.specs.Heads.{Head, is_head}
 use Rattle.bus_table.specs.Tables.{SendLine, TakeLine}
 use Rattle.bus_table.specs.Ranges.{is_send_line, is_take_line}
 
--- the field at a place, counted from 0
+-- The field at a place, counted from 0.
 abbrev pub field : List (List ℕ) → ℕ → List ℕ
 field fields place = slice_index_or fields place []
 
--- how a keyword is spelled
+-- How a keyword is spelled.
 abbrev pub word_of : Keyword → List ℕ
 word_of keywords.Table = codes "TABLE"
 word_of keywords.Mode = codes "MODE"
@@ -32,25 +32,25 @@ word_of keywords.Send = codes "SEND"
 word_of keywords.Take = codes "TAKE"
 word_of keywords.Listener = codes "LISTENER"
 
--- every keyword
+-- Every keyword.
 abbrev pub all_keywords : List Keyword
 all_keywords =
     keywords.Table ∷ keywords.Mode ∷ keywords.Ti ∷ keywords.Sg
     ∷ keywords.Sender ∷ keywords.Send ∷ keywords.Take ∷ keywords.Listener ∷ []
 
--- the keyword of a line, which is its first field
+-- The keyword of a line, which is its first field.
 abbrev pub keyword_of : List (List ℕ) → Option Keyword
 keyword_of fields = find (λ keyword. is_at fields 0 (word_of keyword)) all_keywords
 
--- the TABLE line
+-- The TABLE line.
 unfoldable pub table_reading : List (List ℕ) → Result (Unit {0}) Reason
 table_reading fields = unless (first_of ((not (length fields == 2 && is_at fields 1 (codes "1")), Fields) ∷ [])) tt
 
--- the mode of a MODE line, where its word is one of the two
+-- The mode of a MODE line, where its word is one of the two.
 abbrev pub mode_of : List (List ℕ) → Mode
 mode_of fields = if is_at fields 1 (codes "periodic") then Periodic else Aperiodic
 
--- the MODE line
+-- The MODE line.
 unfoldable pub mode_reading : List (List ℕ) → Result Mode Reason
 mode_reading fields = unless (first_of
     ((not (length fields == 2), Fields)
@@ -58,7 +58,7 @@ mode_reading fields = unless (first_of
     ∷ []))
     (mode_of fields)
 
--- a line of a keyword and a number, as the TI line and the SG line
+-- A line of a keyword and a number, as the TI line and the SG line.
 unfoldable pub number_reading : (ℕ → Bool) → List (List ℕ) → Result ℕ Reason
 number_reading in_range fields = unless (first_of
     ((not (length fields == 2), Fields)
@@ -67,11 +67,11 @@ number_reading in_range fields = unless (first_of
     ∷ []))
     (decimal_value (field fields 1))
 
--- the numbers of a SENDER line without an offset
+-- The numbers of a SENDER line without an offset.
 abbrev pub head_of : List (List ℕ) → Head
 head_of fields = record { number = decimal_value (field fields 1); tg = decimal_value (field fields 3); at = 0 }
 
--- a SENDER line of an aperiodic table
+-- A SENDER line of an aperiodic table.
 unfoldable pub sender_reading : List (List ℕ) → Result Head Reason
 sender_reading fields = unless (first_of
     ((not (length fields == 4 && is_at fields 2 (codes "TG")), Fields)
@@ -80,7 +80,7 @@ sender_reading fields = unless (first_of
     ∷ []))
     (head_of fields)
 
--- the numbers of a SENDER line with an offset
+-- The numbers of a SENDER line with an offset.
 abbrev pub offset_head_of : List (List ℕ) → Head
 offset_head_of fields = record {
   number = decimal_value (field fields 1);
@@ -88,7 +88,7 @@ offset_head_of fields = record {
   at = decimal_value (field fields 5);
 }
 
--- a SENDER line of a periodic table
+-- A SENDER line of a periodic table.
 unfoldable pub offset_reading : List (List ℕ) → Result Head Reason
 offset_reading fields = unless (first_of
     ((not (length fields == 6 && (is_at fields 2 (codes "TG") && is_at fields 4 (codes "AT"))), Fields)
@@ -97,12 +97,12 @@ offset_reading fields = unless (first_of
     ∷ []))
     (offset_head_of fields)
 
--- a SENDER line of a table of this mode
+-- A SENDER line of a table of this mode.
 abbrev pub head_reading : Mode → List (List ℕ) → Result Head Reason
 head_reading Aperiodic fields = sender_reading fields
 head_reading Periodic fields = offset_reading fields
 
--- what a SEND line says
+-- What a SEND line says.
 abbrev pub send_line_of : List (List ℕ) → SendLine
 send_line_of fields = record {
   label = hexadecimal_value (field fields 1);
@@ -111,13 +111,13 @@ send_line_of fields = record {
   most = decimal_value (field fields 4);
 }
 
--- whether the fields of a SEND line are spellings of their kinds
+-- Whether the fields of a SEND line are spellings of their kinds.
 abbrev pub is_send_spelled : List (List ℕ) → Bool
 is_send_spelled fields =
     is_hexadecimal 3 (field fields 1)
     && (is_hexadecimal 1 (field fields 2) && (is_plain_decimal (field fields 3) && is_plain_decimal (field fields 4)))
 
--- a SEND line
+-- A SEND line.
 unfoldable pub send_reading : List (List ℕ) → Result SendLine Reason
 send_reading fields = unless (first_of
     ((not (length fields == 5), Fields)
@@ -126,19 +126,19 @@ send_reading fields = unless (first_of
     ∷ []))
     (send_line_of fields)
 
--- whether a field is a `*`
+-- Whether a field is a `*`.
 abbrev pub is_star : List ℕ → Bool
 is_star field = bytes_eq field (codes "*")
 
--- whether a field is an extension, or a `*` for every extension
+-- Whether a field is an extension, or a `*` for every extension.
 abbrev pub is_ext_spelled : List ℕ → Bool
 is_ext_spelled field = is_star field || is_hexadecimal 1 field
 
--- the extension of such a field, or none for every extension
+-- The extension of such a field, or none for every extension.
 abbrev pub ext_of : List ℕ → Option ℕ
 ext_of field = if is_star field then None else Some (hexadecimal_value field)
 
--- what a TAKE line says
+-- What a TAKE line says.
 abbrev pub take_line_of : List (List ℕ) → TakeLine
 take_line_of fields = record {
   label = hexadecimal_value (field fields 1);
@@ -147,13 +147,13 @@ take_line_of fields = record {
   count = decimal_value (field fields 4);
 }
 
--- whether the fields of a TAKE line are spellings of their kinds
+-- Whether the fields of a TAKE line are spellings of their kinds.
 abbrev pub is_take_spelled : List (List ℕ) → Bool
 is_take_spelled fields =
     is_hexadecimal 3 (field fields 1)
     && (is_ext_spelled (field fields 2) && (is_plain_decimal (field fields 3) && is_plain_decimal (field fields 4)))
 
--- a TAKE line
+-- A TAKE line.
 unfoldable pub take_reading : List (List ℕ) → Result TakeLine Reason
 take_reading fields = unless (first_of
     ((not (length fields == 5), Fields)

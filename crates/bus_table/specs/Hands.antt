@@ -6,31 +6,31 @@ use Rattle.bus_strings.specs.Messages.{Message}
 use Rattle.bus_table.specs.Fits.{fits}
 use Rattle.bus_table.specs.Tables.{SendLine, Sender, Table, Hand}
 
--- a message of these strings, with the labels and extensions of the lines
+-- A message of these strings, with the labels and extensions of the lines.
 abbrev pub message_of : List SendLine → List (List ℕ) → Message
 message_of [] strings = []
 message_of (line ∷ sends) [] = []
 message_of (line ∷ sends) (string ∷ strings) =
     record { label = line.label; ext = line.ext; words = string } ∷ message_of sends strings
 
--- the items of a terminal, in order
+-- The items of a terminal, in order.
 abbrev pub items_of : ℕ → List Item → List Item
 items_of number items = filter (λ item. item.terminal == number) items
 
--- the hand of a sender: its items are its messages
+-- The hand of a sender: its items are its messages.
 abbrev pub hand_of : List Item → Sender → Hand
 hand_of items sender =
     record { terminal = sender.number; messages = map (λ item. message_of sender.sends item.strings) (items_of sender.number items) }
 
--- one hand for each sender, in the order of the table
+-- One hand for each sender, in the order of the table.
 abbrev pub hands_of : Table → List Item → List Hand
 hands_of table items = map (hand_of items) table.senders
 
--- a hand with one more message behind the others
+-- A hand with one more message behind the others.
 abbrev pub with_message : Hand → Message → Hand
 with_message hand message = record hand { messages = hand.messages ++ message ∷ [] }
 
--- whether there is one hand for each of these senders in order, with its number, and each message fits
+-- Whether there is one hand for each of these senders in order, with its number, and each message fits.
 abbrev pub are_hands : List Sender → List Hand → Bool
 are_hands [] [] = true
 are_hands [] (hand ∷ hands) = false
@@ -38,6 +38,6 @@ are_hands (sender ∷ senders) [] = false
 are_hands (sender ∷ senders) (hand ∷ hands) =
     hand.terminal == sender.number && (list_all (fits sender) hand.messages && are_hands senders hands)
 
--- the hands that items give are those of the table's senders, and each message fits
+-- The hands that items give are those of the table's senders, and each message fits.
 abbrev pub GiveHands : Table → List Item → Type 0
 GiveHands table items = IsTrue (are_hands table.senders (hands_of table items))

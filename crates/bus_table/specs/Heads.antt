@@ -2,12 +2,12 @@
 use Rattle.std.specs.Prelude.{ℕ, Bool, ◌&&◌}
 use Rattle.bus_table.specs.Ranges.{is_number, is_tg, is_offset}
 
--- the numbers of a SENDER line; the offset is 0 where the line has none
+-- The numbers of a SENDER line; the offset is 0 where the line has none.
 pub record Head : Type 0 where
   pub number : ℕ
   pub tg : ℕ
   pub at : ℕ
 
--- whether each of them is in its range
+-- Whether each of them is in its range.
 abbrev pub is_head : Head → Bool
 is_head head = is_number head.number && (is_tg head.tg && is_offset head.at)

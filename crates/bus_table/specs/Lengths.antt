@@ -4,18 +4,18 @@ use Rattle.std.specs.List.{sum_by}
 use Rattle.bus_strings.specs.Messages.{bits_of}
 use Rattle.bus_table.specs.Tables.{SendLine, Sender}
 
--- the words of a message with the least data words on each of these lines
+-- The words of a message with the least data words on each of these lines.
 abbrev pub least_words : List SendLine → ℕ
 least_words sends = sum_by (λ line. 1 + line.least) sends
 
--- the words of a message with the most data words on each of these lines
+-- The words of a message with the most data words on each of these lines.
 abbrev pub most_words : List SendLine → ℕ
 most_words sends = sum_by (λ line. 1 + line.most) sends
 
--- the bit times of a message with the least data words on each line
+-- The bit times of a message with the least data words on each line.
 abbrev pub shortest : Sender → ℕ
 shortest sender = bits_of (least_words sender.sends) (length sender.sends)
 
--- the bit times of a message with the most data words on each line
+-- The bit times of a message with the most data words on each line.
 abbrev pub longest : Sender → ℕ
 longest sender = bits_of (most_words sender.sends) (length sender.sends)

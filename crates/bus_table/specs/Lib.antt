@@ -1,3 +1,4 @@
+-- What the contracts of this crate cite.
 pub mod Tables
 pub mod Ranges
 pub mod Whole

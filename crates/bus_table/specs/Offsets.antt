@@ -2,17 +2,17 @@
 use Rattle.std.specs.Prelude.{ℕ, List, [], ◌∷◌}
 use Rattle.bus_table.specs.Tables.{Sender, Table}
 
--- a sender at another offset
+-- A sender at another offset.
 abbrev pub at_offset : ℕ → Sender → Sender
 at_offset at sender = record { number = sender.number; tg = sender.tg; at = at; sends = sender.sends; takes = sender.takes }
 
--- the senders at these offsets, in order; where an offset is missing the sender keeps its own
+-- The senders at these offsets, in order; where an offset is missing the sender keeps its own.
 abbrev pub at_offsets : List ℕ → List Sender → List Sender
 at_offsets [] senders = senders
 at_offsets (at ∷ offsets) [] = []
 at_offsets (at ∷ offsets) (sender ∷ senders) = at_offset at sender ∷ at_offsets offsets senders
 
--- the table with these offsets and nothing else changed
+-- The table with these offsets and nothing else changed.
 abbrev pub with_offsets : List ℕ → Table → Table
 with_offsets offsets table =
     record { mode = table.mode; ti = table.ti; sg = table.sg; senders = at_offsets offsets table.senders; listeners = table.listeners }

@@ -6,66 +6,66 @@ use Rattle.std.specs.Option.{option_map_or}
 use Rattle.bus_strings.specs.Limits.{most_terminal, most_strings, most_words}
 use Rattle.bus_table.specs.Tables.{SendLine, TakeLine, Sender, Listener}
 
--- a value, where a test takes it
+-- A value, where a test takes it.
 abbrev pub kept : {X : Type 0} → (X → Bool) → X → Option X
 kept test value = if test value then Some value else None
 
--- a terminal number
+-- A terminal number.
 abbrev pub is_number : ℕ → Bool
 is_number n = is_in_range 1 most_terminal n
 
--- a transmit interval
+-- A transmit interval.
 abbrev pub is_ti : ℕ → Bool
 is_ti n = is_in_range 1000 128000 n
 
--- a synchronization gap
+-- A synchronization gap.
 abbrev pub is_sg : ℕ → Bool
 is_sg n = is_in_range 9 1024 n
 
--- a terminal gap
+-- A terminal gap.
 abbrev pub is_tg : ℕ → Bool
 is_tg n = is_in_range 8 256 n
 
--- an offset, which is below the greatest transmit interval
+-- An offset, which is below the greatest transmit interval.
 abbrev pub is_offset : ℕ → Bool
 is_offset n = nat_lt n 128000
 
--- a label: twelve bits
+-- A label: twelve bits.
 abbrev pub is_label : ℕ → Bool
 is_label n = nat_lt n 4096
 
--- an extension: four bits
+-- An extension: four bits.
 abbrev pub is_ext : ℕ → Bool
 is_ext n = nat_lt n 16
 
--- a SEND line: no more data words than a wordstring may have, and the least not above the most
+-- A SEND line: no more data words than a wordstring may have, and the least not above the most.
 abbrev pub is_send_line : SendLine → Bool
 is_send_line line = is_label line.label && (is_ext line.ext && (nat_le line.least line.most && nat_le line.most most_words))
 
--- a TAKE line: at least one data word, from a place that a wordstring can have
+-- A TAKE line: at least one data word, from a place that a wordstring can have.
 abbrev pub is_take_line : TakeLine → Bool
 is_take_line line =
     is_label line.label
     && (option_map_or is_ext line.ext true && (nat_lt line.first most_words && is_in_range 1 most_words line.count))
 
--- the most TAKE lines of a terminal
+-- The most TAKE lines of a terminal.
 abbrev pub most_takes : ℕ
 most_takes = 64
 
--- the TAKE lines of a terminal
+-- The TAKE lines of a terminal.
 abbrev pub are_take_lines : List TakeLine → Bool
 are_take_lines takes = nat_le (length takes) most_takes && list_all is_take_line takes
 
--- the SEND lines of a terminal
+-- The SEND lines of a terminal.
 abbrev pub are_send_lines : List SendLine → Bool
 are_send_lines sends = is_in_range 1 most_strings (length sends) && list_all is_send_line sends
 
--- a sender of which each number is in its range
+-- A sender of which each number is in its range.
 abbrev pub is_sender : Sender → Bool
 is_sender sender =
     is_number sender.number
     && (is_tg sender.tg && (is_offset sender.at && (are_send_lines sender.sends && are_take_lines sender.takes)))
 
--- a listener of which each number is in its range
+-- A listener of which each number is in its range.
 abbrev pub is_listener : Listener → Bool
 is_listener listener = is_number listener.number && are_take_lines listener.takes

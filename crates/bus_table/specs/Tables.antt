@@ -10,7 +10,7 @@ use Rattle.bus_table.specs.declared.mode.Mode.{Mode}
 pub use Rattle.bus_table.specs.declared.line.SendLine.{SendLine}
 pub use Rattle.bus_table.specs.declared.line.TakeLine.{TakeLine}
 
--- a terminal that sends
+-- A terminal that sends.
 pub record Sender : Type 0 where
   pub number : ℕ
   pub tg : ℕ
@@ -18,12 +18,12 @@ pub record Sender : Type 0 where
   pub sends : List SendLine
   pub takes : List TakeLine
 
--- a terminal that takes and never sends
+-- A terminal that takes and never sends.
 pub record Listener : Type 0 where
   pub number : ℕ
   pub takes : List TakeLine
 
--- a table, valid or not
+-- A table, valid or not.
 pub record Table : Type 0 where
   pub mode : Mode
   pub ti : ℕ
@@ -31,7 +31,7 @@ pub record Table : Type 0 where
   pub senders : List Sender
   pub listeners : List Listener
 
--- what a terminal has to send: its messages, in the order of their starts
+-- What a terminal has to send: its messages, in the order of their starts.
 pub record Hand : Type 0 where
   pub terminal : ℕ
   pub messages : List Message

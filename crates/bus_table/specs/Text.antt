@@ -9,7 +9,7 @@ use Rattle.bus_table.specs.declared.mode.Mode.TheVariants.{Aperiodic, Periodic}
 use Rattle.bus_table.specs.Tables.{SendLine, TakeLine, Sender, Listener, Table}
 use Rattle.bus_table.specs.Valid.{is_in_range}
 
--- what a line says
+-- What a line says.
 pub data Line : Type 0 where
   TableLine : Line
   ModeLine : (mode : Mode) → Line
@@ -20,32 +20,32 @@ pub data Line : Type 0 where
   Takes : (line : TakeLine) → Line
   ListenerLine : (number : ℕ) → Line
 
--- a sender block: the SENDER line, the SEND lines, the TAKE lines
+-- A sender block: the SENDER line, the SEND lines, the TAKE lines.
 abbrev pub sender_lines : Sender → List Line
 sender_lines sender = SenderLine sender.number sender.tg sender.at ∷ map Sends sender.sends ++ map Takes sender.takes
 
--- a listener block: the LISTENER line, the TAKE lines
+-- A listener block: the LISTENER line, the TAKE lines.
 abbrev pub listener_lines : Listener → List Line
 listener_lines listener = ListenerLine listener.number ∷ map Takes listener.takes
 
--- the four lines at the head, the sender blocks, the listener blocks
+-- The four lines at the head, the sender blocks, the listener blocks.
 abbrev pub lines_of : Table → List Line
 lines_of table =
     TableLine ∷ ModeLine table.mode ∷ TiLine table.ti ∷ SgLine table.sg
     ∷ flat_map sender_lines table.senders ++ flat_map listener_lines table.listeners
 
--- how a mode is spelled
+-- How a mode is spelled.
 abbrev pub mode_word : Mode → List ℕ
 mode_word Aperiodic = codes "aperiodic"
 mode_word Periodic = codes "periodic"
 
--- a keyword and a number
+-- A keyword and a number.
 pub record IsNumberLine (keyword : List ℕ) (n : ℕ) (fields : List (List ℕ)) : Type 0 where
   pub number : List ℕ
   pub parts : fields ≡ keyword ∷ number ∷ []
   pub value : IsDecimal number n
 
--- a SENDER line of an aperiodic table
+-- A SENDER line of an aperiodic table.
 pub record IsSenderLine (n tg : ℕ) (fields : List (List ℕ)) : Type 0 where
   pub number : List ℕ
   pub gap : List ℕ
@@ -53,7 +53,7 @@ pub record IsSenderLine (n tg : ℕ) (fields : List (List ℕ)) : Type 0 where
   pub number_is : IsDecimal number n
   pub gap_is : IsDecimal gap tg
 
--- a SENDER line of a periodic table, which has an offset
+-- A SENDER line of a periodic table, which has an offset.
 pub record IsOffsetLine (n tg at : ℕ) (fields : List (List ℕ)) : Type 0 where
   pub number : List ℕ
   pub gap : List ℕ
@@ -63,7 +63,7 @@ pub record IsOffsetLine (n tg at : ℕ) (fields : List (List ℕ)) : Type 0 wher
   pub gap_is : IsDecimal gap tg
   pub offset_is : IsDecimal offset at
 
--- a SEND line
+-- A SEND line.
 pub record IsSendLine (line : SendLine) (fields : List (List ℕ)) : Type 0 where
   pub label : List ℕ
   pub ext : List ℕ
@@ -75,12 +75,12 @@ pub record IsSendLine (line : SendLine) (fields : List (List ℕ)) : Type 0 wher
   pub least_is : IsDecimal least line.least
   pub most_is : IsDecimal most line.most
 
--- an extension, or `*` for every extension
+-- An extension, or `*` for every extension.
 abbrev pub IsExtField : Option ℕ → List ℕ → Type 0
 IsExtField None field = field ≡ codes "*"
 IsExtField (Some ext) field = IsHexadecimal 1 field ext
 
--- a TAKE line
+-- A TAKE line.
 pub record IsTakeLine (line : TakeLine) (fields : List (List ℕ)) : Type 0 where
   pub label : List ℕ
   pub ext : List ℕ
@@ -92,12 +92,12 @@ pub record IsTakeLine (line : TakeLine) (fields : List (List ℕ)) : Type 0 wher
   pub first_is : IsDecimal first line.first
   pub count_is : IsDecimal count line.count
 
--- the fields of a SENDER line, which are those of the mode
+-- The fields of a SENDER line, which are those of the mode.
 abbrev pub IsSenderOf : Mode → (n tg at : ℕ) → List (List ℕ) → Type 0
 IsSenderOf Aperiodic n tg at fields = IsSenderLine n tg fields
 IsSenderOf Periodic n tg at fields = IsOffsetLine n tg at fields
 
--- the fields of a line, in a table of this mode
+-- The fields of a line, in a table of this mode.
 abbrev pub IsLine : Mode → Line → List (List ℕ) → Type 0
 IsLine mode TableLine fields = fields ≡ codes "TABLE" ∷ codes "1" ∷ []
 IsLine mode (ModeLine m) fields = fields ≡ codes "MODE" ∷ mode_word m ∷ []
@@ -108,14 +108,14 @@ IsLine mode (Sends line) fields = IsSendLine line fields
 IsLine mode (Takes line) fields = IsTakeLine line fields
 IsLine mode (ListenerLine n) fields = IsNumberLine (codes "LISTENER") n fields
 
--- one line of the text for each of these lines
+-- One line of the text for each of these lines.
 abbrev pub AreLines : Mode → List Line → List Entry → Type 0
 AreLines mode [] [] = Unit {0}
 AreLines mode [] (entry ∷ entries) = ⊥
 AreLines mode (line ∷ lines) [] = ⊥
 AreLines mode (line ∷ lines) (entry ∷ entries) = IsLine mode line entry.fields × AreLines mode lines entries
 
--- a text stands for a table, valid or not
+-- A text stands for a table, valid or not.
 pub record IsTableText (table : Table) (text : List ℕ) : Type 0 where
   pub ranges : is_in_range table ≡ true
   pub lines : AreLines table.mode (lines_of table) (entries_of text)

@@ -1,3 +1,4 @@
+//! Dealing the items of a messages text out to the senders of a table.
 ghost use Rattle.std.specs.Prelude.{◌≡◌, ◌==◌, [], map, position, IfOk, IsOk, IsTrue};
 ghost use Rattle.bus_strings.specs.Items.{numbers};
 ghost use Rattle.bus_table.specs.Fits as fits;

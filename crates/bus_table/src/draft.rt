@@ -1,3 +1,4 @@
+//! What the lines of a table text have given so far, and what a further line makes of it.
 ghost use Rattle.std.specs.Prelude.{◌≡◌, ◌<◌, length, OnOk, IsTrue};
 ghost use Rattle.bus_text.specs.Entries.{texts};
 ghost use Rattle.bus_strings.specs.Limits.{most_strings};
@@ -6,7 +7,9 @@ ghost use Rattle.bus_table.specs.Drafts as drafts;
 ghost use Rattle.bus_table.specs.Ranges.{is_send_line, is_take_line, most_takes};
 
 use crate::error::TableError;
-use crate::forms::{ listener_line, mode_line, number_line, send_line, sender_line, table_line, take_line, };
+use crate::forms::{
+    listener_line, mode_line, number_line, send_line, sender_line, table_line, take_line,
+};
 use crate::keyword::{Keyword, keyword_of};
 use crate::line::{SendLine, TakeLine};
 use crate::listener::Listener;

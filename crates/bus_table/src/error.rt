@@ -1,3 +1,4 @@
+//! Why a table text wasn't read, and why a table isn't valid.
 use bus_text::Reason;
 use bus_words::{Ext, Label};
 use std::alloc::{AllocError, AllocFailed};

@@ -1,3 +1,4 @@
+//! What a terminal has to send.
 ghost use Rattle.std.specs.Prelude.{◌≡◌, OnOk};
 ghost use Rattle.bus_table.specs.Hands.{with_message};
 

@@ -1,3 +1,4 @@
+//! The numbers of a SENDER line.
 ghost use Rattle.std.specs.Prelude.{◌≡◌, IsTrue};
 ghost use Rattle.bus_table.specs.Heads.{is_head};
 ghost use Rattle.bus_table.specs.Ranges.{kept};

@@ -1,3 +1,4 @@
+//! The keywords of a table text.
 ghost use Rattle.std.specs.Prelude.{◌≡◌};
 ghost use Rattle.bus_text.specs.Entries.{texts};
 ghost use Rattle.bus_table.specs.Forms as forms;

@@ -1,3 +1,4 @@
+//! The SEND and TAKE lines of a terminal.
 use bus_words::{Ext, Label};
 
 /// A wordstring that a terminal sends in each of its messages.

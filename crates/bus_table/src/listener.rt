@@ -1,3 +1,4 @@
+//! A terminal that takes and never sends.
 ghost use Rattle.std.specs.Prelude.{◌≡◌, ◌<◌, length, IsTrue, IfOk, OnOk};
 ghost use Rattle.bus_table.specs.Ranges.{is_listener, is_number as is_terminal, is_take_line, most_takes, kept};
 

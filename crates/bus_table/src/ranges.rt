@@ -1,3 +1,4 @@
+//! The ranges of the numbers of a table.
 ghost use Rattle.std.specs.Prelude.{◌≡◌};
 ghost use Rattle.std.specs.List.{list_all};
 ghost use Rattle.bus_table.specs.Ranges as ranges;

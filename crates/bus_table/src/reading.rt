@@ -1,3 +1,4 @@
+//! Reading a table text.
 ghost use Rattle.std.specs.Prelude.{◌≡◌, IfOk, IfErr};
 ghost use Rattle.bus_table.specs.Gives.{Answers, Refuses};
 ghost use Rattle.bus_table.specs.Reading.{judged, answer_of};

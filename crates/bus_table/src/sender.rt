@@ -1,3 +1,4 @@
+//! A terminal that sends.
 ghost use Rattle.std.specs.Prelude.{◌≡◌, ◌<◌, length, IsTrue, IfOk, OnOk};
 ghost use Rattle.bus_strings.specs.Limits.{most_strings};
 ghost use Rattle.bus_table.specs.Ranges.{is_sender, is_send_line, is_take_line, most_takes, kept};

@@ -1,3 +1,4 @@
+//! What stood last in a table text, which decides what may follow.
 use crate::head::Head;
 
 /// What stood last in a table text: it decides what may follow.

@@ -1,3 +1,4 @@
+//! A valid table.
 ghost use Rattle.std.specs.Prelude.{◌≡◌, ◌==◌, IsTrue};
 ghost use Rattle.std.specs.List.{list_all};
 ghost use Rattle.bus_table.specs.Ranges.{is_sender, is_listener};

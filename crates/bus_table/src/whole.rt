@@ -1,3 +1,4 @@
+//! The reasons against a table whose numbers are in their ranges.
 ghost use Rattle.std.specs.Prelude.{◌≡◌, ◌==◌, [], ◌∷◌, ◌++◌, map, nat_le, Option};
 ghost use Rattle.std.specs.List.{list_any, find};
 ghost use Rattle.std.specs.Option.{option_map};

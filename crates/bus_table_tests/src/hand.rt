@@ -1,5 +1,8 @@
+//! The hands that items give, and items that don't fit.
 use bus_strings::read_messages;
-use bus_table::{FitError, Listener, Mode, SendLine, Sender, Table, TakeLine, fits, hands, read_table};
+use bus_table::{
+    FitError, Listener, Mode, SendLine, Sender, Table, TakeLine, fits, hands, read_table,
+};
 use bus_words::{Ext, Label};
 use std::test::Fail;
 

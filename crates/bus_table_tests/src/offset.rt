@@ -1,3 +1,4 @@
+//! A periodic table with other offsets.
 use bus_table::{Mode, read_table, with_offsets};
 use std::test::Fail;
 

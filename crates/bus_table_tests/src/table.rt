@@ -1,3 +1,4 @@
+//! Table texts that are read, that are refused, and that are written.
 use bus_outer::MemorySink;
 use bus_table::{Mode, Table, TableError, WholeReason, longest, read_table, shortest, write_table};
 use bus_text::Reason;

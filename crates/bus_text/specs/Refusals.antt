@@ -3,22 +3,22 @@
 use Rattle.std.specs.Prelude.{ℕ, Bool, List, [], ◌∷◌, Option, Some, None, Result, Ok, Err, if◌then◌else◌}
 use Rattle.bus_text.specs.declared.reason.Reason.{Reason}
 
--- the number of the offending line, and why it is refused
+-- The number of the offending line, and why it is refused.
 pub record Refusal : Type 0 where
   pub line : ℕ
   pub reason : Reason
 
--- of rows of a test and a reason, the reason of the first row whose test holds
+-- Of rows of a test and a reason, the reason of the first row whose test holds.
 abbrev pub first_of : {R : Type 0} → List (Bool × R) → Option R
 first_of [] = None
 first_of (row ∷ rows) = if row.0 then Some row.1 else first_of rows
 
--- the value, unless there is a reason against it
+-- The value, unless there is a reason against it.
 abbrev pub unless : {A R : Type 0} → Option R → A → Result A R
 unless None value = Ok value
 unless (Some reason) value = Err reason
 
--- what a line reads as, with the line's number at a reason against it
+-- What a line reads as, with the line's number at a reason against it.
 abbrev pub at_line : {A : Type 0} → ℕ → Result A Reason → Result A Refusal
 at_line line (Ok value) = Ok value
 at_line line (Err reason) = Err (record { line = line; reason = reason })

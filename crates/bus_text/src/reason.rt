@@ -1,3 +1,5 @@
+//! Why a line of a table text or of a messages text is refused.
+
 /// Why a line of a table text or of a messages text is refused. Where several of Keyword, Fields, Spelling and Range
 /// apply to a line, the first of them in this order stands.
 #[derive(Clone, Copy, Debug, PartialEq, Eq)]

@@ -1,3 +1,4 @@
+//! Lines, fields and numbers, by example.
 use crate::cursor::Lines;
 use crate::digits::{capital_digit, four_digits, hex_digit, three_digits};
 use crate::lines::{fields, line_after};

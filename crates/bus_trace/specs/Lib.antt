@@ -1,3 +1,4 @@
+-- What the contracts of this crate cite.
 pub mod Limits
 pub mod Traces
 pub mod WordFields

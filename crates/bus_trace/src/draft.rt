@@ -1,3 +1,4 @@
+//! What the lines of a trace text have given so far, and what a further line makes of it.
 ghost use Rattle.std.specs.Prelude.{◌≡◌, ◌<◌, ◌≤◌, true, length};
 ghost use Rattle.bus_text.specs.Entries.{texts};
 ghost use Rattle.bus_trace.specs.inside.Gives.{StepGives};
@@ -16,7 +17,9 @@ use crate::fields::{below, bounded, fields, is_plain, writes};
 use crate::format::{Format, format_of};
 use crate::hold::Hold;
 use crate::keyword::{Keyword, keyword_of};
-use crate::list::{ is_after, last_count, last_end, last_moment, last_sender, last_terminal, take_string, };
+use crate::list::{
+    is_after, last_count, last_end, last_moment, last_sender, last_terminal, take_string,
+};
 use crate::mark::{is_mark, mark_of, starts_wrong, turns_wrong};
 use crate::position::{Position, is_closed, is_ended, may_follow};
 use crate::quick::{begin_line, behind_end, close_line, string_line};
@@ -29,7 +32,7 @@ use bus_text::{LineFault, field_at, fields_from};
 use std::alloc::{AllocError, Global};
 use std::marker::Model;
 
-// The most fields of a WS line: its keyword, a label word and the data words.
+/// The most fields of a WS line: its keyword, a label word and the data words.
 const MOST_FIELDS: usize = 2 + MOST_WORDS;
 
 /// What the lines so far have given.
@@ -87,28 +90,28 @@ impl Draft {
         is_ended(self.position)
     }
 
-    // Whether an earlier transmission ends behind the moment of the last.
+    /// Whether an earlier transmission ends behind the moment of the last.
     fn is_hit(&self) -> bool
         ensures { result ≡ hit_test self.now.list }
     {
         last_moment(&self.list) < self.reach
     }
 
-    // Whether no transmission can come behind the last.
+    /// Whether no transmission can come behind the last.
     fn is_final(&self) -> bool
         ensures { result ≡ final_test self.now.horizon self.now.list }
     {
         last_moment(&self.list) + 1 == self.horizon && last_sender(&self.list) == MOST_TERMINAL
     }
 
-    // Whether the mark of the last transmission shows wrong at a line that meets it or not.
+    /// Whether the mark of the last transmission shows wrong at a line that meets it or not.
     fn is_refuted(&self, met: bool) -> bool
         ensures { result ≡ refuted_test self.now met }
     {
         is_closed(self.position) && turns_wrong(self.mark, self.is_hit(), met)
     }
 
-    // How far the transmissions before the last reach, once a wordstring has come.
+    /// How far the transmissions before the last reach, once a wordstring has come.
     fn reach_behind(&self) -> u64
         ensures { (string : AnyString) → IsReach (more_list self.now.position string self.now.list) result }
     {
@@ -118,7 +121,7 @@ impl Draft {
         }
     }
 
-    // Takes a TRACE line.
+    /// Takes a TRACE line.
     #[tactic(auto, unfolding(crate::specs::States::head_step))]
     fn take_head(&mut self, fields: &[&[u8]]) -> Result<(), LineFault<TraceReason>>
         ensures { StepGives self.old self.new result (head_step self.old (texts fields.now)) }
@@ -134,7 +137,7 @@ impl Draft {
         Ok(())
     }
 
-    // Takes a HORIZON line.
+    /// Takes a HORIZON line.
     #[tactic(auto, unfolding(crate::specs::States::horizon_step))]
     fn take_horizon(&mut self, fields: &[&[u8]]) -> Result<(), LineFault<TraceReason>>
         ensures { StepGives self.old self.new result (horizon_step self.old (texts fields.now)) }
@@ -153,7 +156,7 @@ impl Draft {
         Ok(())
     }
 
-    // Takes a HOLD line.
+    /// Takes a HOLD line.
     #[tactic(auto, unfolding(crate::specs::States::hold_step))]
     fn take_hold(&mut self, fields: &[&[u8]]) -> Result<(), LineFault<TraceReason>>
         ensures { StepGives self.old self.new result (hold_step self.old (texts fields.now)) }
@@ -181,7 +184,7 @@ impl Draft {
         Ok(())
     }
 
-    // Takes a TX line.
+    /// Takes a TX line.
     #[tactic(auto, unfolding(crate::specs::States::begin_step))]
     fn take_begin(&mut self, fields: &[&[u8]]) -> Result<(), LineFault<TraceReason>>
         requires { self.old.horizon ≤ horizon_limit }
@@ -212,7 +215,7 @@ impl Draft {
         Ok(())
     }
 
-    // Takes a WS line.
+    /// Takes a WS line.
     #[tactic(auto, unfolding(crate::specs::States::string_step))]
     fn take_string(&mut self, alloc: Global, fields: &[&[u8]]) -> Result<(), LineFault<TraceReason>>
         requires { TakesString self.old.position (count_of self.old.list) }
@@ -233,7 +236,7 @@ impl Draft {
         Ok(())
     }
 
-    // Takes the wordstring of a WS line.
+    /// Takes the wordstring of a WS line.
     fn add_string(&mut self, alloc: Global, string: Wordstring) -> Result<(), AllocError>
         requires { TakesString self.old.position (count_of self.old.list) }
         ensures ok { OnOk result (self.new ≡ string_taken self.old string) }
@@ -246,7 +249,7 @@ impl Draft {
         Ok(())
     }
 
-    // Takes a TE line.
+    /// Takes a TE line.
     #[tactic(auto, unfolding(crate::specs::States::close_step))]
     fn take_close(&mut self, fields: &[&[u8]]) -> Result<(), LineFault<TraceReason>>
         ensures { StepGives self.old self.new result (close_step self.old (texts fields.now)) }
@@ -269,7 +272,7 @@ impl Draft {
         Ok(())
     }
 
-    // Takes an END line.
+    /// Takes an END line.
     #[tactic(auto, unfolding(crate::specs::States::end_step))]
     fn take_end(&mut self, fields: &[&[u8]]) -> Result<(), LineFault<TraceReason>>
         ensures { StepGives self.old self.new result (end_step self.old (texts fields.now)) }
@@ -284,7 +287,7 @@ impl Draft {
         Ok(())
     }
 
-    // Takes a line of the form that its keyword begins, where that keyword may stand.
+    /// Takes a line of the form that its keyword begins, where that keyword may stand.
     fn take_form(
         &mut self,
         alloc: Global,
@@ -306,7 +309,7 @@ impl Draft {
         }
     }
 
-    // Takes a line by its fields.
+    /// Takes a line by its fields.
     fn take_fields(&mut self, alloc: Global, fields: &[&[u8]]) -> Result<(), LineFault<TraceReason>>
         requires sound { IsSound self.old }
         requires some { 0 < length fields.now }
@@ -321,7 +324,7 @@ impl Draft {
         self.take_form(alloc, keyword, fields)
     }
 
-    // Takes a WS line that is spelled as it is written, where all of it is right.
+    /// Takes a WS line that is spelled as it is written, where all of it is right.
     #[inline(always)]
     fn take_quick_string<'a>(
         &mut self,
@@ -352,7 +355,7 @@ impl Draft {
         Ok(Some(rest))
     }
 
-    // Whether a TX line of these numbers is right.
+    /// Whether a TX line of these numbers is right.
     fn begins_right(&self, moment: u64, terminal: u64) -> bool
         ensures { IsTrue result → BeginsRight self.now moment terminal }
     {
@@ -368,7 +371,7 @@ impl Draft {
             && !self.is_refuted(moment < last_end(&self.list))
     }
 
-    // Takes a TX line that is spelled as it is written, where all of it is right.
+    /// Takes a TX line that is spelled as it is written, where all of it is right.
     #[inline(always)]
     fn take_quick_begin<'a>(&mut self, text: &'a [u8], feed: bool) -> Option<&'a [u8]>
         requires { IsSound self.old }
@@ -386,7 +389,7 @@ impl Draft {
         Some(rest)
     }
 
-    // Whether a TE line of this moment and this mark is right, or not yet wrong.
+    /// Whether a TE line of this moment and this mark is right, or not yet wrong.
     fn closes_right(&self, end: u64, mark: bool) -> bool
         ensures { IsTrue result → ClosesRight self.now end mark }
     {
@@ -399,7 +402,7 @@ impl Draft {
             && !starts_wrong(mark, self.is_hit(), self.is_final())
     }
 
-    // Takes a TE line that is spelled as it is written, where all of it is right.
+    /// Takes a TE line that is spelled as it is written, where all of it is right.
     #[inline(always)]
     fn take_quick_close<'a>(&mut self, text: &'a [u8], feed: bool) -> Option<&'a [u8]>
         requires { IsSound self.old }
@@ -436,7 +439,7 @@ impl Draft {
         }
     }
 
-    // Takes the next line by its fields.
+    /// Takes the next line by its fields.
     #[tactic(auto, unfolding(crate::specs::States::step))]
     fn take_slowly(&mut self, alloc: Global, line: &[u8]) -> Result<(), LineFault<TraceReason>>
         requires { IsSound self.old }
@@ -447,7 +450,11 @@ impl Draft {
     }
 
     /// Takes the next line, which is given without its line feed.
-    pub(crate) fn take_line(&mut self, alloc: Global, line: &[u8]) -> Result<(), LineFault<TraceReason>>
+    pub(crate) fn take_line(
+        &mut self,
+        alloc: Global,
+        line: &[u8],
+    ) -> Result<(), LineFault<TraceReason>>
         requires sound { IsSound self.old }
         requires short { length line.now ≤ line_limit }
         ensures { StepGives self.old self.new result (step self.old line.now) }

@@ -1,3 +1,4 @@
+//! The two formats of a trace text.
 ghost use Rattle.std.specs.Prelude.{◌≡◌};
 ghost use Rattle.bus_trace.specs.States.{format_of as format_in, is_marked as marked_test};
 

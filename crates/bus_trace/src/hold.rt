@@ -1,3 +1,5 @@
+//! How many messages a terminal held.
+
 /// How many messages a terminal held when the bus began to run.
 #[derive(Clone, Copy, Debug, PartialEq, Eq)]
 pub struct Hold {

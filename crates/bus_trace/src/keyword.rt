@@ -1,3 +1,4 @@
+//! The keywords of a trace text.
 ghost use Rattle.std.specs.Prelude.{◌≡◌};
 ghost use Rattle.bus_trace.specs.States.{keyword_of as keyword_in};
 

@@ -1,3 +1,4 @@
+//! Laws of trace texts, each the contract of a function that does nothing.
 ghost use Rattle.bus_trace.specs.TraceLaws.{ReadsBack, ReadsOnlyTraces, StandsAlone};
 
 use bus_strings::laws::neighbours_tell;

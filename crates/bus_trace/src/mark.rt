@@ -1,3 +1,4 @@
+//! The mark of a TE line: whether its transmission is garbled.
 ghost use Rattle.std.specs.Prelude.{◌≡◌};
 ghost use Rattle.bus_trace.specs.States.{is_mark as mark_test, mark_of as mark_in, starts_wrong as starts_test, turns_wrong as turns_test};
 ghost use Rattle.bus_trace.specs.Traces.{mark_text as text_of};

@@ -1,3 +1,4 @@
+//! What stood last in a trace text, which decides what may follow.
 ghost use Rattle.std.specs.Prelude.{◌≡◌};
 ghost use Rattle.bus_trace.specs.States.{may_follow as may_stand, may_follow_string as may_stand_behind, is_ended as ended_test};
 ghost use Rattle.bus_trace.specs.States.{is_closed as closed_test};

@@ -1,3 +1,4 @@
+//! A reader of a trace text that is given piece by piece.
 ghost use Rattle.std.specs.Prelude.{◌≡◌, ◌≢◌, ◌≤◌, ◌-◌, ◌+◌, ◌<◌, ◌++◌, ◌↔◌, [], length, take, IfOk, IsTrue, OnErr};
 ghost use Rattle.bus_trace.specs.Limits.{line_limit, text_limit};
 ghost use Rattle.bus_trace.specs.Runs.{begin, stream_of};
@@ -124,7 +125,7 @@ impl TraceReader {
         self.end()
     }
 
-    // A reader to which nothing came.
+    /// A reader to which nothing came.
     pub(crate) fn at_start(alloc: Global) -> Result<TraceReader, AllocError>
         ensures is_open { IfOk result (λ r. r.stage ≡ Open) }
         ensures begins { IfOk result (λ r. r.at ≡ begin) }
@@ -151,7 +152,7 @@ impl TraceReader {
         line.min(text)
     }
 
-    // Takes the next piece of the stream.
+    /// Takes the next piece of the stream.
     pub(crate) fn take(&mut self, piece: &[u8]) -> Result<Fed, AllocError>
         requires { self.old.stage ≡ Open }
         ensures { FeedGives self.old self.new piece.now result }
@@ -178,7 +179,7 @@ impl TraceReader {
         Ok(count)
     }
 
-    // Ends the stream.
+    /// Ends the stream.
     pub(crate) fn end(self) -> Result<Trace, TraceError>
         requires { self.stage ≢ Shut }
         ensures gives { FinishGives self result }

@@ -1,3 +1,4 @@
+//! Reading a trace text from a source.
 ghost use Rattle.std.specs.Prelude.{IfOk, IfSome, Ok};
 ghost use Rattle.bus_trace.specs.Runs.{reading};
 ghost use Rattle.bus_trace.specs.Reading.{TakesTrace, ReadGives, CountsReading};
@@ -14,7 +15,7 @@ use bus_outer::{Pull, Source};
 use bus_strings::laws::neighbours_tell;
 use std::alloc::Global;
 
-// The longest line that is refused, as far as it is looked at.
+/// The longest line that is refused, as far as it is looked at.
 const ROOM: usize = LINE_LIMIT + 1;
 
 /// Reads a trace text of at most [`crate::limits::TEXT_LIMIT`] bytes, a line at a time, and takes none of the bytes behind its
@@ -41,8 +42,8 @@ pub fn read_trace<S: Source>(alloc: Global, source: &mut S) -> Result<Trace, Tra
     read_text(alloc, source)
 }
 
-// The loop: the lines at hand, as far as they are as they are written; then the next line or a part of it, of which no byte is behind the
-// one that decides, and what the reader says of it.
+/// The loop: the lines at hand, as far as they are as they are written; then the next line or a part of it, of which no byte is behind the
+/// one that decides, and what the reader says of it.
 fn read_text<S: Source>(alloc: Global, source: &mut S) -> Result<Trace, TraceError>
     ensures loops { Loops (S.left source.old) (S.left source.new) result }
     ensures counts { CountsReading (S.faults source.old) (S.faults source.new) result }

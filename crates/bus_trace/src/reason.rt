@@ -1,3 +1,5 @@
+//! Why a line of a trace text is refused.
+
 /// Why a line of a trace text is refused: the first of these that applies to it.
 #[derive(Clone, Copy, Debug, PartialEq, Eq)]
 pub enum TraceReason {

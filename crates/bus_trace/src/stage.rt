@@ -1,3 +1,4 @@
+//! How far a reader of a trace text has come.
 use crate::reason::TraceReason;
 
 /// Whether a reader takes more.

@@ -1,3 +1,4 @@
+//! Whether parts make a trace.
 ghost use Rattle.std.specs.Prelude.{◌↔◌, IsTrue};
 ghost use Rattle.std.specs.List.{AllByRecursion};
 ghost use Rattle.bus_strings.specs.Transmissions.{IsAscending};
@@ -5,8 +6,8 @@ ghost use Rattle.bus_trace.specs.Traces.{IsHold, AscendAbove, IsBelow};
 
 use crate::hold::Hold;
 use crate::list::{is_after, last_terminal};
-use bus_strings::limits::MOST_TERMINAL;
 use bus_strings::Transmission;
+use bus_strings::limits::MOST_TERMINAL;
 
 /// Whether holds ascend strictly by terminal, all of 1 to 128.
 pub(crate) fn are_holds(holds: &[Hold]) -> bool

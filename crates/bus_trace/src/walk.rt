@@ -1,3 +1,4 @@
+//! A walk over the lines of a trace text, piece by piece.
 ghost use Rattle.std.specs.Prelude.{◌≡◌, ◌<◌, ◌≤◌, if◌then◌else◌, ◌+◌, ◌^◌, length, ◌++◌, ◌∷◌, [], MatchOption, IfOk};
 ghost use Rattle.bus_trace.specs.Limits.{line_limit};
 ghost use Rattle.bus_trace.specs.States.{step, text_of, recorded};
@@ -99,7 +100,7 @@ impl Walk {
         &self.line
     }
 
-    // Takes bytes of one line, where there is room for them.
+    /// Takes bytes of one line, where there is room for them.
     fn keep(&mut self, bytes: &[u8]) -> Result<bool, AllocError>
         requires { HasNoFeed bytes.now }
         ensures { KeepGives self.old self.new bytes.now result }
@@ -111,7 +112,7 @@ impl Walk {
         Ok(true)
     }
 
-    // The line is complete.
+    /// The line is complete.
     fn judge(&mut self, alloc: Global) -> Result<Judged, AllocError>
         requires { length (stream_of self.old) < 2 ^ 63 }
         ensures { JudgedGives self.old self.new (10 ∷ []) result (judged self.old.state (step self.old.state self.old.line)) }
@@ -131,7 +132,7 @@ impl Walk {
         Ok(passes(self.draft.is_ended()))
     }
 
-    // The line is complete, and this is all of it.
+    /// The line is complete, and this is all of it.
     fn judge_front(&mut self, alloc: Global, line: &[u8]) -> Result<Judged, AllocError>
         requires room { length (stream_of self.old) + length line.now < 2 ^ 63 }
         requires empty { self.old.line ≡ [] }
@@ -152,7 +153,7 @@ impl Walk {
         Ok(passes(self.draft.is_ended()))
     }
 
-    // Takes the rest of a line, and its line feed.
+    /// Takes the rest of a line, and its line feed.
     fn close(&mut self, alloc: Global, front: &[u8]) -> Result<Judged, AllocError>
         requires room { length (stream_of self.old) + length front.now < 2 ^ 63 }
         requires one { HasNoFeed front.now }
@@ -170,7 +171,7 @@ impl Walk {
         self.judge(alloc)
     }
 
-    // Takes a whole line in front that is recognized as it is written, where none is begun, and gives what is behind its line feed.
+    /// Takes a whole line in front that is recognized as it is written, where none is begun, and gives what is behind its line feed.
     fn take_quickly<'a>(
         &mut self,
         alloc: Global,

@@ -1,3 +1,4 @@
+//! The word texts of a WS line.
 ghost use Rattle.std.specs.Prelude.{◌≡◌, ◌+◌, ◌<◌, ◌≤◌, ◌&&◌, true, length, map, IfOk, Some, None, if◌then◌else◌};
 ghost use Rattle.std.specs.List.{list_all};
 ghost use Rattle.bus_strings.specs.Limits.{most_words};

@@ -1,3 +1,4 @@
+//! Writing the text of a trace, in format 2.
 ghost use Rattle.std.specs.Prelude.{◌≡◌, ◌++◌, codes, length};
 ghost use Rattle.std.specs.List.{flat_map};
 ghost use Rattle.bus_strings.specs.Transmissions.{IsByMoment};
@@ -17,7 +18,7 @@ use bus_strings::laws::neighbours_tell;
 use bus_strings::{Marks, Transmission, Wordstring};
 use bus_words::{Kind, Word, label_word, word_text};
 
-// A word behind its space.
+/// A word behind its space.
 fn put_word<K: Sink>(text: &mut TextBuffer, sink: &mut K, word: Word)
     ensures { Adds K.held K.faults sink.old sink.new text.old text.new (word_put word) }
 {
@@ -25,7 +26,7 @@ fn put_word<K: Sink>(text: &mut TextBuffer, sink: &mut K, word: Word)
     text.put(sink, &word_text(word));
 }
 
-// Data words, each behind its space.
+/// Data words, each behind its space.
 fn put_data<K: Sink>(text: &mut TextBuffer, sink: &mut K, words: &[u16])
     ensures { Adds K.held K.faults sink.old sink.new text.old text.new (data_put words.now) }
 {
@@ -38,7 +39,7 @@ fn put_data<K: Sink>(text: &mut TextBuffer, sink: &mut K, words: &[u16])
     }
 }
 
-// A WS line.
+/// A WS line.
 fn put_string<K: Sink>(text: &mut TextBuffer, sink: &mut K, string: &Wordstring)
     ensures { Adds K.held K.faults sink.old sink.new text.old text.new (string_put string.now) }
 {
@@ -48,7 +49,7 @@ fn put_string<K: Sink>(text: &mut TextBuffer, sink: &mut K, string: &Wordstring)
     text.put_byte(sink, b'\n');
 }
 
-// The WS lines of a transmission.
+/// The WS lines of a transmission.
 fn put_strings<K: Sink>(text: &mut TextBuffer, sink: &mut K, strings: &[Wordstring])
     ensures { Adds K.held K.faults sink.old sink.new text.old text.new (flat_map string_put strings.now) }
 {
@@ -57,7 +58,7 @@ fn put_strings<K: Sink>(text: &mut TextBuffer, sink: &mut K, strings: &[Wordstri
     }
 }
 
-// A line of a keyword and two numbers.
+/// A line of a keyword and two numbers.
 fn put_pair<K: Sink>(text: &mut TextBuffer, sink: &mut K, keyword: &[u8], first: u64, second: u64)
     ensures { Adds K.held K.faults sink.old sink.new text.old text.new (pair_put keyword.now first second) }
 {
@@ -69,7 +70,7 @@ fn put_pair<K: Sink>(text: &mut TextBuffer, sink: &mut K, keyword: &[u8], first:
     text.put_byte(sink, b'\n');
 }
 
-// A HOLD line.
+/// A HOLD line.
 fn put_hold<K: Sink>(text: &mut TextBuffer, sink: &mut K, hold: Hold)
     ensures { Adds K.held K.faults sink.old sink.new text.old text.new (hold_put hold) }
 {
@@ -77,7 +78,7 @@ fn put_hold<K: Sink>(text: &mut TextBuffer, sink: &mut K, hold: Hold)
     put_pair(text, sink, b"HOLD", terminal, count);
 }
 
-// The HOLD lines.
+/// The HOLD lines.
 fn put_holds<K: Sink>(text: &mut TextBuffer, sink: &mut K, holds: &[Hold])
     ensures { Adds K.held K.faults sink.old sink.new text.old text.new (flat_map hold_put holds.now) }
 {
@@ -86,7 +87,7 @@ fn put_holds<K: Sink>(text: &mut TextBuffer, sink: &mut K, holds: &[Hold])
     }
 }
 
-// A TE line.
+/// A TE line.
 fn put_close<K: Sink>(text: &mut TextBuffer, sink: &mut K, x: &Transmission, mark: bool)
     ensures { Adds K.held K.faults sink.old sink.new text.old text.new (close_put x.now mark) }
 {
@@ -98,7 +99,7 @@ fn put_close<K: Sink>(text: &mut TextBuffer, sink: &mut K, x: &Transmission, mar
     text.put_byte(sink, b'\n');
 }
 
-// The lines of a transmission with its mark.
+/// The lines of a transmission with its mark.
 fn put_transmission<K: Sink>(text: &mut TextBuffer, sink: &mut K, x: &Transmission, mark: bool)
     ensures { Adds K.held K.faults sink.old sink.new text.old text.new (entry_put (x.now, mark)) }
 {
@@ -107,7 +108,7 @@ fn put_transmission<K: Sink>(text: &mut TextBuffer, sink: &mut K, x: &Transmissi
     put_close(text, sink, x, mark);
 }
 
-// The lines of all transmissions, of which one pass over the list tells which are garbled.
+/// The lines of all transmissions, of which one pass over the list tells which are garbled.
 fn put_list<K: Sink>(text: &mut TextBuffer, sink: &mut K, list: &[Transmission])
     requires { IsByMoment list.now }
     ensures { Adds K.held K.faults sink.old sink.new text.old text.new (list_put list.now) }
@@ -119,7 +120,7 @@ fn put_list<K: Sink>(text: &mut TextBuffer, sink: &mut K, list: &[Transmission])
     }
 }
 
-// The first line.
+/// The first line.
 fn put_head<K: Sink>(text: &mut TextBuffer, sink: &mut K)
     ensures { Adds K.held K.faults sink.old sink.new text.old text.new head_put }
 {
@@ -129,7 +130,7 @@ fn put_head<K: Sink>(text: &mut TextBuffer, sink: &mut K)
     text.put_byte(sink, b'\n');
 }
 
-// The first two lines.
+/// The first two lines.
 fn put_horizon<K: Sink>(text: &mut TextBuffer, sink: &mut K, horizon: u64)
     ensures { Adds K.held K.faults sink.old sink.new text.old text.new (horizon_put horizon) }
 {

@@ -1,3 +1,4 @@
+//! Trace texts that are read, that are refused, and that are written.
 ghost use Rattle.std.specs.Prelude.{◌≤◌, ◌<◌};
 ghost use Rattle.bus_strings.specs.Limits.{horizon_limit, most_terminal};
 

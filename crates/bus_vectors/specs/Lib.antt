@@ -1,3 +1,4 @@
+-- What the contracts of this crate cite.
 pub mod Made
 pub mod MadeLaws
 pub mod Rows

@@ -7,15 +7,15 @@ use Rattle.bus_table.specs.Hands.{items_of}
 use Rattle.bus_table.specs.Valid.{is_valid}
 use Rattle.bus_vectors.specs.Made.{round_count, made_table, made_items}
 
--- every made table is valid
+-- Every made table is valid.
 abbrev pub MadeTablesAreValid : Type 0
 MadeTablesAreValid = (number : ℕ) → IsTrue (is_valid (made_table number))
 
--- every number of the made items is in its range, and they fit the made table
+-- Every number of the made items is in its range, and they fit the made table.
 abbrev pub MadeItemsFit : Type 0
 MadeItemsFit = (number : ℕ) → AllByRecursion IsItem (made_items number) × IsOk (items_fit (made_table number) (made_items number))
 
--- each sender has as many items as there are rounds
+-- Each sender has as many items as there are rounds.
 abbrev pub MadeItemsAreEven : Type 0
 MadeItemsAreEven =
     (number : ℕ)

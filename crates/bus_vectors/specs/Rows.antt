@@ -3,15 +3,15 @@ use Rattle.std.specs.Prelude.{ℕ, Bool, nat_eq, List, [], ◌∷◌, map, codes
 use Rattle.std.specs.List.{list_any}
 use Rattle.bus_vectors.specs.declared.rows.StoredRow.{StoredRow}
 
--- the numbers of the rows that are stored
+-- The numbers of the rows that are stored.
 abbrev pub row_numbers : List ℕ
 row_numbers = 1 ∷ 4 ∷ 7 ∷ 10 ∷ 11 ∷ 13 ∷ 16 ∷ 28 ∷ []
 
--- whether a row of this number is stored
+-- Whether a row of this number is stored.
 abbrev pub is_row : ℕ → Bool
 is_row k = list_any (nat_eq k) row_numbers
 
--- a row: the words, both files, what stands on standard output and on standard error, and the status
+-- A row: the words, both files, what stands on standard output and on standard error, and the status.
 pub record Row : Type 0 where
   pub words : List (List ℕ)
   pub first : List ℕ
@@ -20,7 +20,7 @@ pub record Row : Type 0 where
   pub err : List ℕ
   pub status : ℕ
 
--- a stored row as such
+-- A stored row as such.
 abbrev pub row_in : StoredRow → Row
 row_in row = record {
   words = map (λ word. word.now) row.words.now;
@@ -32,63 +32,63 @@ row_in row = record {
 }
 
 -- ---- the texts
--- two aperiodic senders whose shortest cycle is longer than the transmit interval
+-- Two aperiodic senders whose shortest cycle is longer than the transmit interval.
 unfoldable pub two_senders : List ℕ
 two_senders =
     codes "TABLE 1\nMODE aperiodic\nTI 1000\nSG 300\nSENDER 1 TG 20\nSEND 0A1 1 2 4\nSENDER 2 TG 30\nSEND 0B2 1 30 40\n"
 
--- the same, but with a synchronization gap as long as the second terminal gap
+-- The same, but with a synchronization gap as long as the second terminal gap.
 unfoldable pub short_gap : List ℕ
 short_gap =
     codes "TABLE 1\nMODE aperiodic\nTI 1000\nSG 30\nSENDER 1 TG 20\nSEND 0A1 1 2 4\nSENDER 2 TG 30\nSEND 0B2 1 30 40\n"
 
--- two periodic senders, whose gaps are 1290 and 30
+-- Two periodic senders, whose gaps are 1290 and 30.
 unfoldable pub two_offsets : List ℕ
 two_offsets =
     codes "TABLE 1\nMODE periodic\nTI 2000\nSG 300\nSENDER 1 TG 20 AT 0\nSEND 0A1 1 2 2\nSENDER 2 TG 30 AT 90\n"
     ++ codes "SEND 0B2 1 30 30\n"
 
--- the same, but the second begins one bit time too early
+-- The same, but the second begins one bit time too early.
 unfoldable pub small_gap : List ℕ
 small_gap =
     codes "TABLE 1\nMODE periodic\nTI 2000\nSG 300\nSENDER 1 TG 20 AT 0\nSEND 0A1 1 2 2\nSENDER 2 TG 30 AT 89\n"
     ++ codes "SEND 0B2 1 30 30\n"
 
--- the same as the two, but with an interval that leaves the first one bit time too few to synchronize
+-- The same as the two, but with an interval that leaves the first one bit time too few to synchronize.
 unfoldable pub no_sync : List ℕ
 no_sync =
     codes "TABLE 1\nMODE periodic\nTI 1029\nSG 300\nSENDER 1 TG 20 AT 0\nSEND 0A1 1 2 2\nSENDER 2 TG 30 AT 90\n"
     ++ codes "SEND 0B2 1 30 30\n"
 
--- two aperiodic senders, of which the second takes from the first, and a listener that takes from the second
+-- Two aperiodic senders, of which the second takes from the first, and a listener that takes from the second.
 unfoldable pub receivers : List ℕ
 receivers =
     codes "TABLE 1\nMODE aperiodic\nTI 1000\nSG 1000\nSENDER 1 TG 20\nSEND 0A1 1 2 2\nSENDER 2 TG 30\nSEND 0B2 1 0 2\n"
     ++ codes "TAKE 0A1 * 1 4\nLISTENER 3\nTAKE 0B2 1 0 2\n"
 
--- no messages
+-- No messages.
 unfoldable pub no_messages : List ℕ
 no_messages =
     codes "MESSAGES 1\n"
 
--- one message of each sender
+-- One message of each sender.
 unfoldable pub one_each : List ℕ
 one_each =
     codes "MESSAGES 1\nMSG 1 : 0000 0001\nMSG 2 : 00FF\n"
 
--- what `run` writes of the receivers without messages
+-- What `run` writes of the receivers without messages.
 unfoldable pub silent_run : List ℕ
 silent_run =
     codes "TRACE 2\nHORIZON 0\nHOLD 1 0\nHOLD 2 0\nEND\nRECEIVED 1\nTERMINAL 1\nTERMINAL 2\nTERMINAL 3\nEND\n"
 
--- what `run` writes of the receivers with one message of each sender
+-- What `run` writes of the receivers with one message of each sender.
 unfoldable pub run : List ℕ
 run =
     codes "TRACE 2\nHORIZON 150\nHOLD 1 1\nHOLD 2 1\nTX 20 1\nWS L0A111 D00001 D00010\nTE 80 -\nTX 110 2\n"
     ++ codes "WS L0B210 D00FF1\nTE 150 -\nEND\nRECEIVED 1\nTERMINAL 1\nTERMINAL 2\nRX 20 0A1 1 0001\nTERMINAL 3\n"
     ++ codes "RX 110 0B2 1 00FF\nEND\n"
 
--- what `report` writes of the two aperiodic senders
+-- What `report` writes of the two aperiodic senders.
 unfoldable pub report : List ℕ
 report =
     codes "{\"line\":\"ACCEPT aperiodic 1030 1270\",\"mode\":\"aperiodic\",\"senders\":["
@@ -96,17 +96,17 @@ report =
     ++ codes "{\"at\":0,\"longest\":820,\"number\":2,\"shortest\":620,\"tg\":30}],\"sg\":300,\"ti\":1000}\n"
 
 -- ---- the rows
--- a row of `check`, which has one line on standard output
+-- A row of `check`, which has one line on standard output.
 abbrev pub checked : List ℕ → List ℕ → ℕ → Row
 checked table line status =
     record { words = codes "check" ∷ codes "T" ∷ []; first = table; second = []; out = line; err = []; status = status }
 
--- a row of `run` of the receivers
+-- A row of `run` of the receivers.
 abbrev pub ran : List ℕ → List ℕ → Row
 ran messages text =
     record { words = codes "run" ∷ codes "T" ∷ codes "M" ∷ []; first = receivers; second = messages; out = text; err = []; status = 0 }
 
--- a table that is wrong as a whole
+-- A table that is wrong as a whole.
 abbrev pub wrong : Row
 wrong = record {
   words = codes "check" ∷ codes "T" ∷ [];
@@ -117,11 +117,11 @@ wrong = record {
   status = 3;
 }
 
--- a report
+-- A report.
 abbrev pub reported : Row
 reported = record { words = codes "report" ∷ codes "T" ∷ []; first = two_senders; second = []; out = report; err = []; status = 0 }
 
--- the row of a number
+-- The row of a number.
 abbrev pub row_of : ℕ → Option Row
 row_of k =
     if nat_eq k 1 then Some (checked two_senders (codes "ACCEPT aperiodic 1030 1270\n") 0)

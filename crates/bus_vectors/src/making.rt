@@ -1,3 +1,4 @@
+//! The table and the messages of a number.
 ghost use Rattle.std.specs.Prelude.{◌≡◌, ◌≤◌, IfOk, IsOk, length};
 ghost use Rattle.std.specs.List.{AllByRecursion};
 ghost use Rattle.bus_table.specs.Fits.{items_fit};

@@ -1,3 +1,4 @@
+//! The stored rows of a drill.
 ghost use Rattle.std.specs.Prelude.{◌≡◌, is_some};
 ghost use Rattle.std.specs.Option.{option_map};
 ghost use Rattle.bus_vectors.specs.Rows as rows;

@@ -1,3 +1,4 @@
+//! What is made is accepted, and the rows are there.
 use crate::{make, row};
 use bus_table::fits;
 use std::test::Fail;

@@ -1,3 +1,4 @@
+-- What the contracts of this crate cite.
 pub mod Votes
 pub mod Labels
 pub mod Rounds

@@ -1,4 +1,4 @@
-// The transmissions of one terminal in a list, one after another.
+//! The transmissions of one terminal in a list, one after another.
 ghost use Rattle.std.specs.Prelude.{◌≡◌, ◌≤◌, ℕ, IsTrue, [], ◌∷◌, IfSome, IfNone, Some, length, slice_get, take, drop};
 ghost use Rattle.std.specs.Option.{option_and_then, option_copied};
 ghost use Rattle.bus_vote.specs.Rounds as rounds;

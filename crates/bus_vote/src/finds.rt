@@ -1,4 +1,4 @@
-// Where the wordstrings of some labels stand in a list, found by one pass over it.
+//! Where the wordstrings of some labels stand in a list, found by one pass over it.
 ghost use Rattle.std.specs.Prelude.{◌≡◌, ◌<◌, ◌++◌, ◌^◌, [], IsTrue, length, take};
 ghost use Rattle.std.specs.List.{flat_map};
 ghost use Rattle.bus_vote.specs.inside.Finds.{string_finds, finds_before, is_wanted as wanted_in};

@@ -1,4 +1,4 @@
-// The words of a channel, round by round, from finds.
+//! The words of a channel, round by round, from finds.
 ghost use Rattle.std.specs.Prelude.{◌≡◌, ℕ, ◌+◌, ◌<◌, ◌≤◌, IsTrue, Some, true, length, slice_get};
 ghost use Rattle.std.specs.Option.{option_copied};
 ghost use Rattle.bus_vote.specs.inside.Finds as definition;

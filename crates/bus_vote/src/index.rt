@@ -1,4 +1,4 @@
-// The finds of as many labels as there is room for, pass by pass.
+//! The finds of as many labels as there is room for, pass by pass.
 ghost use Rattle.std.specs.Prelude.{◌≡◌, IfSome};
 ghost use Rattle.bus_vote.specs.inside.Finds.{AreFinds};
 ghost use Rattle.bus_vote.specs.inside.Walks.{IsSent};
@@ -117,7 +117,7 @@ impl<'a> Index<'a> {
         }
     }
 
-    // How many finds a label of a table has, where it is voted and a pass finds it sooner than walks.
+    /// How many finds a label of a table has, where it is voted and a pass finds it sooner than walks.
     fn load(&self, table: &Table, gaps: Option<&[usize]>, label: Label) -> Option<usize> {
         let voted = voted_label(table, label)?;
         let count = self.counts[usize::from(label.value())] as usize;
@@ -128,7 +128,7 @@ impl<'a> Index<'a> {
         }
     }
 
-    // By label, whether it is looked for together with a first one, as many as there is room for; and the number of the first behind them.
+    /// By label, whether it is looked for together with a first one, as many as there is room for; and the number of the first behind them.
     fn choose(&self, table: &Table, gaps: Option<&[usize]>, from: u16) -> ([bool; LABELS], u16) {
         let mut wanted = [false; LABELS];
         let mut room = MOST_FINDS;

@@ -1,4 +1,4 @@
-// The labels of a table that are voted on.
+//! The labels of a table that are voted on.
 use bus_words::{Ext, Label};
 
 /// A SEND line of a label: its sender, and its extension.

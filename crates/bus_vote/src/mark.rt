@@ -1,11 +1,11 @@
-// Whether a transmission of a list is garbled, by how far those before it reach.
+//! Whether a transmission of a list is garbled, by how far those before it reach.
 ghost use Rattle.std.specs.Prelude.{◌≡◌, ◌+◌, ◌<◌, nat_lt, false, length, take, slice_get};
 ghost use Rattle.std.specs.Option.{option_map_or};
 ghost use Rattle.bus_strings.specs.Transmissions.{garbled};
 ghost use Rattle.bus_vote.specs.inside.Walks.{IsSent, IsReach};
 
-use bus_strings::laws::neighbours_tell;
 use bus_strings::Transmission;
+use bus_strings::laws::neighbours_tell;
 
 /// Whether the transmission behind a place begins before this one's end.
 fn next_begins(list: &[Transmission], at: usize, end: u64) -> bool

@@ -1,11 +1,11 @@
-// What a look at the whole list tells that makes walks over it short.
+//! What a look at the whole list tells that makes walks over it short.
 ghost use Rattle.std.specs.Prelude.{◌≡◌, ◌+◌, ◌<◌, ◌≤◌, ℕ, IsTrue, Some, slice_get};
 ghost use Rattle.std.specs.Option.{option_copied};
 ghost use Rattle.bus_vote.specs.inside.Walks.{IsSent, IsClear, IsSpaced, gap_in};
 
 use crate::mark::is_garbled;
-use bus_strings::limits::MOST_TERMINAL;
 use bus_strings::Transmission;
+use bus_strings::limits::MOST_TERMINAL;
 
 /// One more than the greatest terminal number.
 pub(crate) const TERMINALS: usize = MOST_TERMINAL as usize + 1;

@@ -1,4 +1,4 @@
-// The channels of a label that were seen, up to three.
+//! The channels of a label that were seen, up to three.
 ghost use Rattle.std.specs.Prelude.{◌≡◌};
 ghost use Rattle.bus_vote.specs.Labels as labels;
 ghost use Rattle.bus_vote.specs.inside.Scans.{after, voted_of};

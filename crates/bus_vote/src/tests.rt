@@ -1,3 +1,4 @@
+//! Votes of worked traces.
 use crate::{vote, width, write_votes};
 use bus_outer::{MemorySink, MemorySource, WriteFault};
 use bus_table::read_table;
@@ -27,7 +28,7 @@ SENDER 2 TG 30
 SEND 0B2 1 0 2
 ";
 
-// Labels 0F0 and 00A are voted on. Label 0B0 has four SEND lines, label 0C0 two of one sender, and label 0D0 two.
+/// Labels 0F0 and 00A are voted on. Label 0B0 has four SEND lines, label 0C0 two of one sender, and label 0D0 two.
 const MANY_LABELS: &[u8] = b"TABLE 1
 MODE aperiodic
 TI 1000
@@ -53,7 +54,7 @@ SEND 0B0 4 0 1
 SEND 00A 0 0 1
 ";
 
-// The votes of a table and a trace of what was sent.
+/// The votes of a table and a trace of what was sent.
 fn votes(
     alloc: Global,
     table: &[u8],

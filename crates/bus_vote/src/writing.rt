@@ -1,4 +1,4 @@
-// The text of the votes.
+//! The text of the votes.
 ghost use Rattle.std.specs.Prelude.{◌≡◌, ◌<◌, ◌≤◌, ◌++◌, ℕ, IfSome, IsTrue, Some, length, map, slice_get};
 ghost use Rattle.std.specs.List.{flat_map, range_with_len};
 ghost use Rattle.std.specs.Option.{option_copied};
@@ -24,15 +24,15 @@ use crate::pace::{gap_of, gaps, is_clear};
 use crate::scan::voted_label;
 use crate::voting::{are_present, vote, width};
 use bus_outer::{Sink, TextBuffer, WriteFault};
-use bus_strings::laws::neighbours_tell;
 use bus_strings::Transmission;
-use bus_table::laws::table_is_valid;
+use bus_strings::laws::neighbours_tell;
 use bus_table::Table;
+use bus_table::laws::table_is_valid;
 use bus_text::{four_digits, three_digits};
 use bus_trace::Trace;
 use bus_words::Label;
 
-// A place of a vote.
+/// A place of a vote.
 fn put_place<K: Sink>(text: &mut TextBuffer, sink: &mut K, word: Option<u16>)
     ensures { Adds K.held K.faults sink.old sink.new text.old text.new (place_text word) }
 {
@@ -45,7 +45,7 @@ fn put_place<K: Sink>(text: &mut TextBuffer, sink: &mut K, word: Option<u16>)
     }
 }
 
-// The places of a vote.
+/// The places of a vote.
 fn put_places<K: Sink>(
     text: &mut TextBuffer,
     sink: &mut K,
@@ -62,7 +62,7 @@ fn put_places<K: Sink>(
     }
 }
 
-// The line of a round.
+/// The line of a round.
 fn put_votes<K: Sink>(
     text: &mut TextBuffer,
     sink: &mut K,
@@ -81,7 +81,7 @@ fn put_votes<K: Sink>(
     text.put_byte(sink, b'\n');
 }
 
-// The line of a round, where it is voted.
+/// The line of a round, where it is voted.
 fn put_round<K: Sink>(
     text: &mut TextBuffer,
     sink: &mut K,
@@ -98,7 +98,7 @@ fn put_round<K: Sink>(
     }
 }
 
-// The walk of a channel's sender.
+/// The walk of a channel's sender.
 fn walk<'a>(list: &'a [Transmission], gaps: Option<&[usize]>, terminal: u8) -> Cursor<'a>
     requires sent { IsSent list.now }
     requires paces { ArePaces list.now (option_copied gaps) }
@@ -107,7 +107,7 @@ fn walk<'a>(list: &'a [Transmission], gaps: Option<&[usize]>, terminal: u8) -> C
     Cursor::new(list, terminal, gap_of(gaps, terminal))
 }
 
-// The rounds of a voted label. Three walks go over the list, one for each channel; once two are over, no round is voted.
+/// The rounds of a voted label. Three walks go over the list, one for each channel; once two are over, no round is voted.
 fn put_rounds<K: Sink>(
     text: &mut TextBuffer,
     sink: &mut K,
@@ -134,7 +134,7 @@ fn put_rounds<K: Sink>(
     }
 }
 
-// The same from the finds of the label.
+/// The same from the finds of the label.
 fn put_found<K: Sink>(
     text: &mut TextBuffer,
     sink: &mut K,
@@ -160,7 +160,7 @@ fn put_found<K: Sink>(
     }
 }
 
-// The line of a voted label.
+/// The line of a voted label.
 fn put_label_line<K: Sink>(text: &mut TextBuffer, sink: &mut K, voted: &VotedLabel)
     ensures { Adds K.held K.faults sink.old sink.new text.old text.new (label_line voted.now) }
 {
@@ -175,7 +175,7 @@ fn put_label_line<K: Sink>(text: &mut TextBuffer, sink: &mut K, voted: &VotedLab
     text.put_byte(sink, b'\n');
 }
 
-// The rounds of a voted label, from finds where there are some, and else by walks.
+/// The rounds of a voted label, from finds where there are some, and else by walks.
 fn put_all_rounds<K: Sink>(
     text: &mut TextBuffer,
     sink: &mut K,
@@ -196,7 +196,7 @@ fn put_all_rounds<K: Sink>(
     }
 }
 
-// A voted label.
+/// A voted label.
 fn put_voted<K: Sink>(
     text: &mut TextBuffer,
     sink: &mut K,
@@ -214,7 +214,7 @@ fn put_voted<K: Sink>(
     put_all_rounds(text, sink, voted, list, gaps, index.finds(voted.label));
 }
 
-// A label, where it is voted on.
+/// A label, where it is voted on.
 fn put_label<K: Sink>(
     text: &mut TextBuffer,
     sink: &mut K,
@@ -236,7 +236,7 @@ fn put_label<K: Sink>(
     }
 }
 
-// The labels in ascending order.
+/// The labels in ascending order.
 fn put_labels<K: Sink>(
     text: &mut TextBuffer,
     sink: &mut K,
@@ -255,7 +255,7 @@ fn put_labels<K: Sink>(
     }
 }
 
-// The gaps, where nothing is garbled.
+/// The gaps, where nothing is garbled.
 fn clear_gaps<'a>(list: &[Transmission], gaps: &'a [usize]) -> Option<&'a [usize]>
     requires sent { IsSent list.now }
     requires spaced { (terminal gap : ℕ) → slice_get gaps.now terminal ≡ Some gap → IsSpaced terminal gap list.now }

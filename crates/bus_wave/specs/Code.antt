@@ -15,63 +15,63 @@ use Rattle.bus_words.specs.declared.word.Kind.TheVariants.{Label, Plain}
 use Rattle.bus_words.specs.declared.word.FramedWord.{FramedWord}
 
 -- ---- what is sent
--- the sync of a word: 111000 of a label word, 000111 of a plain one
+-- The sync of a word: 111000 of a label word, 000111 of a plain one.
 abbrev pub sync : Kind → List Bool
 sync Label = true ∷ true ∷ true ∷ false ∷ false ∷ false ∷ []
 sync Plain = false ∷ false ∷ false ∷ true ∷ true ∷ true ∷ []
 
--- the pair of a bit: 10 of a one, 01 of a zero
+-- The pair of a bit: 10 of a one, 01 of a zero.
 abbrev pub pair : Bool → List Bool
 pair bit = bit ∷ not bit ∷ []
 
--- the lowest bits of a number, so many of them, the highest first
+-- The lowest bits of a number, so many of them, the highest first.
 abbrev pub bits_of : ℕ → ℕ → List Bool
 bits_of zero n = []
 bits_of (suc count) n = bits_of count (n / 2) ++ (n % 2 == 1) ∷ []
 
--- the bits of a word in the order in which they are sent: the sixteen of its value, and the parity bit
+-- The bits of a word in the order in which they are sent: the sixteen of its value, and the parity bit.
 abbrev pub frame_bits : FramedWord → List Bool
 frame_bits f = bits_of 16 f.value ++ f.parity ∷ []
 
--- the half bits of a word: its sync, and the pair of each bit
+-- The half bits of a word: its sync, and the pair of each bit.
 unfoldable pub frame_halves : FramedWord → List Bool
 frame_halves f = sync f.kind ++ flat_map pair (frame_bits f)
 
 -- ---- as digits
--- the number of four half bits, the highest first
+-- The number of four half bits, the highest first.
 abbrev pub number_of_bits : List Bool → ℕ
 number_of_bits bits = fold (λ n bit. 2 * n + (if bit then 1 else 0)) 0 bits
 
--- half bits, by fours, as digits
+-- Half bits, by fours, as digits.
 abbrev pub digits_of : List Bool → List ℕ
 digits_of (a ∷ b ∷ c ∷ d ∷ rest) = hex_digit (number_of_bits (a ∷ b ∷ c ∷ d ∷ [])) ∷ digits_of rest
 digits_of rest = []
 
--- the four half bits of a digit
+-- The four half bits of a digit.
 abbrev pub digit_halves : ℕ → List Bool
 digit_halves digit = bits_of 4 (digit_value digit)
 
--- the half bits of digits
+-- The half bits of digits.
 abbrev pub halves_of : List ℕ → List Bool
 halves_of digits = flat_map digit_halves digits
 
 -- ---- what is heard
--- the kind of word that six half bits are the sync of
+-- The kind of word that six half bits are the sync of.
 abbrev pub kind_of : List Bool → Option Kind
 kind_of (true ∷ true ∷ true ∷ false ∷ false ∷ false ∷ []) = Some Label
 kind_of (false ∷ false ∷ false ∷ true ∷ true ∷ true ∷ []) = Some Plain
 kind_of halves = None
 
--- the bits of pairs; none where a pair is 00 or 11
+-- The bits of pairs; none where a pair is 00 or 11.
 abbrev pub bits_in : List Bool → Option (List Bool)
 bits_in [] = Some []
 bits_in (one ∷ []) = None
 bits_in (one ∷ other ∷ rest) = if beq one other then None else option_map (λ bits. one ∷ bits) (bits_in rest)
 
--- the word of a kind and of bits, the last of which is the parity bit
+-- The word of a kind and of bits, the last of which is the parity bit.
 abbrev pub frame_from : Kind → List Bool → FramedWord
 frame_from kind bits = record { kind = kind; value = number_of_bits bits / 2; parity = number_of_bits bits % 2 == 1 }
 
--- the word of half bits, whatever its parity bit; none where the first six are no sync, or a later pair is 00 or 11
+-- The word of half bits, whatever its parity bit; none where the first six are no sync, or a later pair is 00 or 11.
 unfoldable pub frame_of : List Bool → Option FramedWord
 frame_of halves = option_and_then (λ kind. option_map (frame_from kind) (bits_in (drop 6 halves))) (kind_of (take 6 halves))

@@ -7,27 +7,27 @@ use Rattle.bus_table.specs.Tables.{Sender, Table, Hand}
 use Rattle.bus_table.specs.Fits.{sender_of}
 use Rattle.bus_trace.specs.declared.hold.Hold.{Hold}
 
--- how many entries are of a terminal
+-- How many entries are of a terminal.
 abbrev pub entries_of : List Entry → ℕ → ℕ
 entries_of list terminal = count_by (λ x. x.terminal == terminal) list
 
--- the hold of the sender with a number, where there is one, with a count
+-- The hold of the sender with a number, where there is one, with a count.
 abbrev pub hold_of : List Sender → ℕ → ℕ → Option Hold
 hold_of senders number count = if is_some (sender_of senders number) then Some (record { terminal = number; count = count }) else None
 
--- the hold of the sender with a number, where there is one, with the number of its entries
+-- The hold of the sender with a number, where there is one, with the number of its entries.
 abbrev pub hold_at : List Sender → List Entry → ℕ → Option Hold
 hold_at senders list number = hold_of senders number (entries_of list number)
 
--- the holds of the senders of a table, by rising number
+-- The holds of the senders of a table, by rising number.
 unfoldable pub holds_of : Table → List Entry → List Hold
 holds_of table list = filter_map (hold_at table.senders list) (range_with_len 1 128)
 
--- the hold of the hand of the terminal with a number, where there is one: how many messages it has
+-- The hold of the hand of the terminal with a number, where there is one: how many messages it has.
 abbrev pub hand_hold : List Hand → ℕ → Option Hold
 hand_hold hands number =
     option_map (λ hand. record { terminal = hand.terminal; count = length hand.messages }) (find (λ hand. hand.terminal == number) hands)
 
--- the holds of hands, by rising number
+-- The holds of hands, by rising number.
 unfoldable pub hand_holds : List Hand → List Hold
 hand_holds hands = filter_map (hand_hold hands) (range_with_len 1 128)

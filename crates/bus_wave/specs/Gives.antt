@@ -17,27 +17,27 @@ use Rattle.bus_wave.specs.Counted.{holds_of}
 use Rattle.bus_wave.specs.Symbols.{fields_of, symbol_reading}
 use Rattle.bus_wave.specs.Reading.{WaveRefusal}
 
--- a refusal is that of the reading; want of memory says nothing of it
+-- A refusal is that of the reading; want of memory says nothing of it.
 abbrev pub Fails : {Y : Type 0} → WaveError → Result Y WaveRefusal → Type 0
 Fails Memory reading = Unit {0}
 Fails (Text number reason) reading = reading ≡ Err (record { line = number; reason = reason })
 
--- a value is that of the reading
+-- A value is that of the reading.
 abbrev pub Gives : {Y : Type 0} → Result Y WaveError → Result Y WaveRefusal → Type 0
 Gives (Ok value) reading = reading ≡ Ok value
 Gives (Err error) reading = Fails error reading
 
--- the error of a line that wasn't taken
+-- The error of a line that wasn't taken.
 abbrev pub fault_at : ℕ → LineFault WaveReason → WaveError
 fault_at number (line.Refused reason) = Text number reason
 fault_at number line.Memory = Memory
 
--- the bit times and the transmissions of a trace are those of the reading
+-- The bit times and the transmissions of a trace are those of the reading.
 abbrev pub PartsGive : Table → Result (ℕ × Vec Entry) WaveError → Result Recording WaveRefusal → Type 0
 PartsGive table (Ok parts) reading = reading ≡ Ok (record { horizon = parts.0; holds = holds_of table parts.1.items; list = parts.1.items })
 PartsGive table (Err error) reading = Fails error reading
 
--- the first line of a text reads as this, but for numbers past the types' end, and these bytes are behind it
+-- The first line of a text reads as this, but for numbers past the types' end, and these bytes are behind it.
 pub record HasLine (text : List ℕ) (reading : Result Symbol WaveReason) (behind : List ℕ) : Type 0 where
   pub first : List ℕ
   pub pieces : slice_split is_feed text ≡ first ∷ slice_split is_feed behind

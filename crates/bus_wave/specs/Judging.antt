@@ -44,16 +44,16 @@ pub record State : Type 0 where
   pub list : List Entry
   pub phase : Phase
 
--- behind the first line
+-- Behind the first line.
 abbrev pub opening : State
 opening = record { at = 0; list = []; phase = Opened }
 
 -- ---- the least rest of a begun message
--- the bit times of the shortest wordstrings of SEND lines, each behind an inner gap
+-- The bit times of the shortest wordstrings of SEND lines, each behind an inner gap.
 abbrev pub later : List SendLine → ℕ
 later left = sum_by (λ line. inner_gap + word_bits * (1 + line.least)) left
 
--- the least bit times that a begun message still takes
+-- The least bit times that a begun message still takes.
 abbrev pub least_rest : Phase → ℕ
 least_rest Opened = 0
 least_rest (Silent free) = 0
@@ -61,39 +61,39 @@ least_rest (Saying x line words left) = word_bits * (line.least - length words) 
 least_rest (Waiting x next left) = word_bits * (1 + next.least) + later left
 least_rest Closed = 0
 
--- a state, unless its bit times pass the greatest horizon, counted with the least rest of a begun message
+-- A state, unless its bit times pass the greatest horizon, counted with the least rest of a begun message.
 abbrev pub bounded : State → Result State WaveReason
 bounded s = if nat_le (s.at + least_rest s.phase) horizon_limit then Ok s else Err Range
 
 -- ---- a Q line
--- a wordstring of a SEND line
+-- A wordstring of a SEND line.
 abbrev pub string_of : SendLine → List ℕ → Wordstring
 string_of line words = record { label = line.label; ext = line.ext; words = words }
 
--- a transmission with one more wordstring
+-- A transmission with one more wordstring.
 abbrev pub with_string : Entry → Wordstring → Entry
 with_string x string = record x { message = x.message ++ string ∷ [] }
 
--- quiet behind the last data word that a wordstring may end with: the message goes on with these SEND lines, or is whole
+-- Quiet behind the last data word that a wordstring may end with: the message goes on with these SEND lines, or is whole.
 abbrev pub quiet_behind : State → ℕ → Entry → List SendLine → Result State WaveReason
 quiet_behind s n x [] = Ok (record { at = s.at + n; list = s.list ++ x ∷ []; phase = Silent (nat_le least_gap n) })
 quiet_behind s n x (next ∷ left) =
     if n == inner_gap then Ok (record { at = s.at + n; list = s.list; phase = Waiting x next left }) else Err Order
 
--- the same, unless it goes too far
+-- The same, unless it goes too far.
 abbrev pub quiet_bounded : State → ℕ → Entry → List SendLine → Result State WaveReason
 quiet_bounded s n x left = quiet_behind s n x left >>= bounded
 
--- quiet behind these data words of a wordstring of x
+-- Quiet behind these data words of a wordstring of x.
 abbrev pub pause_step : State → ℕ → Entry → SendLine → List ℕ → List SendLine → Result State WaveReason
 pause_step s n x line words left =
     if nat_lt (length words) line.least then Err Order else quiet_behind s n (with_string x (string_of line words)) left
 
--- the same, unless it goes too far
+-- The same, unless it goes too far.
 abbrev pub pause_bounded : State → ℕ → Entry → SendLine → List ℕ → List SendLine → Result State WaveReason
 pause_bounded s n x line words left = pause_step s n x line words left >>= bounded
 
--- so many quiet bit times, of which there is one, behind a phase
+-- So many quiet bit times, of which there is one, behind a phase.
 abbrev pub quiet_step : Phase → State → ℕ → Result State WaveReason
 quiet_step Opened s n = Ok (record { at = s.at + n; list = s.list; phase = Silent true })
 quiet_step (Silent free) s n = Err Order
@@ -102,25 +102,25 @@ quiet_step (Waiting x next left) s n = Err Order
 quiet_step Closed s n = Err Order
 
 -- ---- a label word
--- whether a label word is that of a SEND line: the label in the upper twelve bits, the extension in the lower four
+-- Whether a label word is that of a SEND line: the label in the upper twelve bits, the extension in the lower four.
 abbrev pub is_label_of : ℕ → SendLine → Bool
 is_label_of value line = value / 16 == line.label && value % 16 == line.ext
 
--- whether a label word is that of the first of these SEND lines
+-- Whether a label word is that of the first of these SEND lines.
 abbrev pub begins : ℕ → List SendLine → Bool
 begins value [] = false
 begins value (line ∷ left) = is_label_of value line
 
--- the sender whose messages begin with a label word
+-- The sender whose messages begin with a label word.
 abbrev pub beginner : List Sender → ℕ → Option Sender
 beginner senders value = find (λ sender. begins value sender.sends) senders
 
--- the phase behind the label word of the first SEND line
+-- The phase behind the label word of the first SEND line.
 abbrev pub begun : Entry → List SendLine → Phase
 begun x [] = Opened
 begun x (line ∷ left) = Saying x line [] left
 
--- the label word with which a message of this sender begins
+-- The label word with which a message of this sender begins.
 abbrev pub begin_step : State → Option Sender → Result State WaveReason
 begin_step s None = Err Order
 begin_step s (Some sender) = Ok (record {
@@ -129,20 +129,20 @@ begin_step s (Some sender) = Ok (record {
   phase = begun (record { moment = s.at; terminal = sender.number; message = [] }) sender.sends;
 })
 
--- the same, unless it goes too far
+-- The same, unless it goes too far.
 abbrev pub begin_bounded : State → Option Sender → Result State WaveReason
 begin_bounded s sender = begin_step s sender >>= bounded
 
--- a label word behind the wordstrings of x, where that of `next` has to come
+-- A label word behind the wordstrings of x, where that of `next` has to come.
 abbrev pub next_step : State → ℕ → Entry → SendLine → List SendLine → Result State WaveReason
 next_step s value x next left =
     if is_label_of value next then Ok (record { at = s.at + word_bits; list = s.list; phase = Saying x next [] left }) else Err Order
 
--- the same, unless it goes too far
+-- The same, unless it goes too far.
 abbrev pub next_bounded : State → ℕ → Entry → SendLine → List SendLine → Result State WaveReason
 next_bounded s value x next left = next_step s value x next left >>= bounded
 
--- a label word behind a phase
+-- A label word behind a phase.
 abbrev pub label_step : List Sender → Phase → State → ℕ → Result State WaveReason
 label_step senders Opened s value = begin_step s (beginner senders value)
 label_step senders (Silent free) s value = if free then begin_step s (beginner senders value) else Err Order
@@ -151,7 +151,7 @@ label_step senders (Waiting x next left) s value = next_step s value x next left
 label_step senders Closed s value = Err Order
 
 -- ---- a data word
--- a data word behind a phase
+-- A data word behind a phase.
 abbrev pub data_step : Phase → State → ℕ → Result State WaveReason
 data_step Opened s value = Err Order
 data_step (Silent free) s value = Err Order
@@ -163,21 +163,21 @@ data_step (Waiting x next left) s value = Err Order
 data_step Closed s value = Err Order
 
 -- ---- the end
--- the end behind the last data word that a wordstring may end with, where no SEND line is left
+-- The end behind the last data word that a wordstring may end with, where no SEND line is left.
 abbrev pub end_behind : State → Entry → List SendLine → Result State WaveReason
 end_behind s x [] = Ok (record { at = s.at; list = s.list ++ x ∷ []; phase = Closed })
 end_behind s x (next ∷ left) = Err Order
 
--- the end behind these data words of a wordstring of x
+-- The end behind these data words of a wordstring of x.
 abbrev pub last_step : State → Entry → SendLine → List ℕ → List SendLine → Result State WaveReason
 last_step s x line words left =
     if nat_lt (length words) line.least then Err Order else end_behind s (with_string x (string_of line words)) left
 
--- the same, which goes no further
+-- The same, which goes no further.
 abbrev pub last_bounded : State → Entry → SendLine → List ℕ → List SendLine → Result State WaveReason
 last_bounded s x line words left = last_step s x line words left >>= bounded
 
--- the end behind a phase
+-- The end behind a phase.
 abbrev pub end_step : Phase → State → Result State WaveReason
 end_step Opened s = Ok (record { at = s.at; list = s.list; phase = Closed })
 end_step (Silent free) s = Ok (record { at = s.at; list = s.list; phase = Closed })
@@ -186,23 +186,23 @@ end_step (Waiting x next left) s = Err Order
 end_step Closed s = Err Order
 
 -- ---- one symbol more
--- a word behind a phase
+-- A word behind a phase.
 abbrev pub word_step : List Sender → Kind → State → ℕ → Result State WaveReason
 word_step senders Label s value = label_step senders s.phase s value
 word_step senders Plain s value = data_step s.phase s value
 
--- the state after one symbol more, where it keeps the rules of order
+-- The state after one symbol more, where it keeps the rules of order.
 abbrev pub order_step : List Sender → State → Symbol → Result State WaveReason
 order_step senders s (Quiet n) = quiet_step s.phase s n
 order_step senders s (Sent word) = word_step senders word.kind s word.value
 order_step senders s End = end_step s.phase s
 
--- whether a symbol is no bit time of quiet
+-- Whether a symbol is no bit time of quiet.
 abbrev pub is_nothing : Symbol → Bool
 is_nothing (Quiet n) = n == 0
 is_nothing (Sent word) = false
 is_nothing End = false
 
--- the state after one symbol more, or why there is none
+-- The state after one symbol more, or why there is none.
 unfoldable pub step : List Sender → State → Symbol → Result State WaveReason
 step senders s symbol = if is_nothing symbol then Err Range else order_step senders s symbol >>= bounded

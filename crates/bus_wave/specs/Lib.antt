@@ -1,3 +1,4 @@
+-- What the contracts of this crate cite.
 pub mod Code
 pub mod Waves
 pub mod WaveTexts

@@ -13,17 +13,17 @@ use Rattle.bus_wave.specs.declared.symbol.Symbol.{Symbol}
 use Rattle.bus_wave.specs.Symbols.{fields_of, head_reading, symbol_reading}
 use Rattle.bus_wave.specs.Judging.{Phase, Opened, Silent, Saying, Waiting, Closed, State, opening, step}
 
--- the number of the refused line, from 1, and why it is refused
+-- The number of the refused line, from 1, and why it is refused.
 pub record WaveRefusal : Type 0 where
   pub line : ℕ
   pub reason : WaveReason
 
--- what a line reads as, with its number at a reason against it
+-- What a line reads as, with its number at a reason against it.
 abbrev pub at_line : {A : Type 0} → ℕ → Result A WaveReason → Result A WaveRefusal
 at_line number (Ok value) = Ok value
 at_line number (Err reason) = Err (record { line = number; reason = reason })
 
--- whether the last line was END
+-- Whether the last line was END.
 abbrev pub is_closed : Phase → Bool
 is_closed Opened = false
 is_closed (Silent free) = false
@@ -31,37 +31,37 @@ is_closed (Saying x line words left) = false
 is_closed (Waiting x next left) = false
 is_closed Closed = true
 
--- the state after what one line more reads as; none stands behind END
+-- The state after what one line more reads as; none stands behind END.
 abbrev pub judge_read : List Sender → State → Result Symbol WaveReason → Result State WaveReason
 judge_read senders s reading = if is_closed s.phase then Err Keyword else reading >>= step senders s
 
--- the state after one line more
+-- The state after one line more.
 unfoldable pub judge : List Sender → State → List ℕ → Result State WaveReason
 judge senders s line = judge_read senders s (symbol_reading (fields_of line))
 
--- the trace of complete lines
+-- The trace of complete lines.
 abbrev pub recorded : Table → State → Recording
 recorded table s = record { horizon = s.at; holds = holds_of table s.list; list = s.list }
 
--- the text ends here, with these bytes of an unfinished line
+-- The text ends here, with these bytes of an unfinished line.
 abbrev pub ended : Table → ℕ → State → List ℕ → Result Recording WaveRefusal
 ended table number s rest =
     if is_closed s.phase && length rest == 0 then Ok (recorded table s) else Err (record { line = number; reason = Ended })
 
--- what pieces read as, from line `number` on
+-- What pieces read as, from line `number` on.
 unfoldable pub pieces_reading : Table → ℕ → State → List (List ℕ) → Result Recording WaveRefusal
 pieces_reading table number s [] = ended table number s []
 pieces_reading table number s (rest ∷ []) = ended table number s rest
 pieces_reading table number s (line ∷ next ∷ pieces) =
     at_line number (judge table.senders s line) >>= λ now. pieces_reading table (number + 1) now (next ∷ pieces)
 
--- what the pieces of a text read as
+-- What the pieces of a text read as.
 unfoldable pub text_reading : Table → List (List ℕ) → Result Recording WaveRefusal
 text_reading table [] = Err (record { line = 1; reason = Ended })
 text_reading table (rest ∷ []) = Err (record { line = 1; reason = Ended })
 text_reading table (line ∷ next ∷ pieces) =
     at_line 1 (head_reading (fields_of line)) >>= λ _. pieces_reading table 2 opening (next ∷ pieces)
 
--- what a text reads as
+-- What a text reads as.
 abbrev pub wave_reading : Table → List ℕ → Result Recording WaveRefusal
 wave_reading table text = text_reading table (slice_split is_feed text)

@@ -18,52 +18,52 @@ use Rattle.bus_wave.specs.declared.symbol.Symbol.{Symbol}
 use Rattle.bus_wave.specs.declared.symbol.Symbol.TheVariants.{Quiet, Sent, End}
 use Rattle.bus_wave.specs.Code.{halves_of, frame_of}
 
--- the byte between two fields
+-- The byte between two fields.
 abbrev pub is_space : ℕ → Bool
 is_space byte = byte == 32
 
--- what stands between the single spaces of a line
+-- What stands between the single spaces of a line.
 abbrev pub fields_of : List ℕ → List (List ℕ)
 fields_of line = slice_split is_space line
 
--- why the first line is refused
+-- Why the first line is refused.
 abbrev pub head_refusal : List (List ℕ) → Option WaveReason
 head_refusal fields = first_of
     ((not (is_at fields 0 (codes "WAVE")), Keyword)
     ∷ (not (length fields == 2 && is_at fields 1 (codes "1")), Fields)
     ∷ [])
 
--- what the first line reads as
+-- What the first line reads as.
 unfoldable pub head_reading : List (List ℕ) → Result (Unit {0}) WaveReason
 head_reading fields = unless (head_refusal fields) tt
 
--- ten hexadecimal digits in capitals
+-- Ten hexadecimal digits in capitals.
 abbrev pub are_digits : List ℕ → Bool
 are_digits field = length field == 10 && list_all is_capital_digit field
 
--- the word of a frame, unless its parity bit is another than its value's
+-- The word of a frame, unless its parity bit is another than its value's.
 abbrev pub parity_checked : Result Word WordError → Result Symbol WaveReason
 parity_checked (Ok word) = Ok (Sent word)
 parity_checked (Err error) = Err Parity
 
--- the word that half bits are the code of, if they are
+-- The word that half bits are the code of, if they are.
 abbrev pub coded : Option FramedWord → Result Symbol WaveReason
 coded None = Err Code
 coded (Some frame) = parity_checked (unframe frame)
 
--- what the second field of a W line reads as
+-- What the second field of a W line reads as.
 abbrev pub word_reading : List ℕ → Result Symbol WaveReason
 word_reading field = if are_digits field then coded (frame_of (halves_of field)) else Err Spelling
 
--- what the second field of a Q line reads as
+-- What the second field of a Q line reads as.
 abbrev pub quiet_reading : List ℕ → Result Symbol WaveReason
 quiet_reading field = if is_plain_decimal field then Ok (Quiet (decimal_value field)) else Err Spelling
 
--- what a line reads as that has two fields, and needs that
+-- What a line reads as that has two fields, and needs that.
 abbrev pub second_reading : (List ℕ → Result Symbol WaveReason) → List (List ℕ) → Result Symbol WaveReason
 second_reading read fields = if length fields == 2 then read (slice_index_or fields 1 []) else Err Fields
 
--- what a further line reads as
+-- What a further line reads as.
 unfoldable pub symbol_reading : List (List ℕ) → Result Symbol WaveReason
 symbol_reading fields =
     if is_at fields 0 (codes "W") then second_reading word_reading fields

@@ -11,48 +11,48 @@ use Rattle.bus_trace.specs.Traces.{Recording}
 use Rattle.bus_wave.specs.Code.{digits_of}
 use Rattle.bus_wave.specs.Waves.{Half, quiet, words_of, word_halves, wave}
 
--- a line between the first and the last: quiet bit times, or the half bits of a word
+-- A line between the first and the last: quiet bit times, or the half bits of a word.
 pub data WaveLine : Type 0 where
   Quiet : ℕ → WaveLine
   Halves : List Bool → WaveLine
 
 -- ---- what lines stand for
--- the wave of a line
+-- The wave of a line.
 abbrev pub line_wave : WaveLine → List Half
 line_wave (Quiet n) = quiet n
 line_wave (Halves halves) = map Some halves
 
--- the wave of lines, one behind the other
+-- The wave of lines, one behind the other.
 abbrev pub lines_wave : List WaveLine → List Half
 lines_wave lines = flat_map line_wave lines
 
--- each Q line has at least one bit time and each W line forty half bits; no Q line stands behind a Q line, nor first, where one stands
--- before these lines (`behind`)
+-- Each Q line has at least one bit time and each W line forty half bits; no Q line stands behind a Q line, nor first, where one stands
+-- before these lines (`behind`).
 abbrev pub AreLines : Bool → List WaveLine → Type 0
 AreLines behind [] = Unit {0}
 AreLines behind (Quiet n ∷ lines) = (behind ≡ false) × (1 ≤ n) × AreLines true lines
 AreLines behind (Halves halves ∷ lines) = (length halves ≡ 40) × AreLines false lines
 
 -- ---- how lines are written
--- the fields of a line
+-- The fields of a line.
 abbrev pub line_fields : WaveLine → List (List ℕ)
 line_fields (Quiet n) = codes "Q" ∷ decimal n ∷ []
 line_fields (Halves halves) = codes "W" ∷ digits_of halves ∷ []
 
--- the fields of the first line
+-- The fields of the first line.
 abbrev pub head_fields : List (List ℕ)
 head_fields = codes "WAVE" ∷ codes "1" ∷ []
 
--- the fields of the last line
+-- The fields of the last line.
 abbrev pub end_fields : List (List ℕ)
 end_fields = codes "END" ∷ []
 
--- the text of lines
+-- The text of lines.
 abbrev pub text_of : List WaveLine → List ℕ
 text_of lines = spelled_lines (head_fields ∷ (map line_fields lines ++ end_fields ∷ []))
 
 -- ---- the grammar
--- these bytes are a text of this form, and its lines stand for the wave of this trace
+-- These bytes are a text of this form, and its lines stand for the wave of this trace.
 pub record IsWaveText (t : Recording) (text : List ℕ) : Type 0 where
   pub lines : List WaveLine
   pub right : AreLines false lines
@@ -60,34 +60,34 @@ pub record IsWaveText (t : Recording) (text : List ℕ) : Type 0 where
   pub text_is : text ≡ text_of lines
 
 -- ---- the lines of a trace whose transmissions stand one behind the other
--- so many quiet bit times: one line, or none where there are none
+-- So many quiet bit times: one line, or none where there are none.
 abbrev pub quiet_lines : ℕ → List WaveLine
 quiet_lines zero = []
 quiet_lines (suc n) = Quiet (suc n) ∷ []
 
--- a line for each word of a wordstring
+-- A line for each word of a wordstring.
 abbrev pub string_lines : Wordstring → List WaveLine
 string_lines string = map (λ word. Halves (word_halves word)) (words_of string)
 
--- the lines of a message: those of its wordstrings, and one for the inner gap between two of them
+-- The lines of a message: those of its wordstrings, and one for the inner gap between two of them.
 abbrev pub message_lines : Message → List WaveLine
 message_lines [] = []
 message_lines (string ∷ strings) = string_lines string ++ flat_map (λ next. Quiet inner_gap ∷ string_lines next) strings
 
--- where the last transmission ends, or `from` where there is none
+-- Where the last transmission ends, or `from` where there is none.
 abbrev pub last_end : ℕ → List Entry → ℕ
 last_end from [] = from
 last_end from (x ∷ xs) = last_end (end_of x) xs
 
--- the lines of transmissions, each behind the quiet before it; the first counts from `from`
+-- The lines of transmissions, each behind the quiet before it; the first counts from `from`.
 abbrev pub laid : ℕ → List Entry → List WaveLine
 laid from [] = []
 laid from (x ∷ xs) = (quiet_lines (x.moment - from) ++ message_lines x.message) ++ laid (end_of x) xs
 
--- the lines of transmissions, and the quiet behind the last of them up to a horizon
+-- The lines of transmissions, and the quiet behind the last of them up to a horizon.
 abbrev pub lines_up_to : ℕ → List Entry → List WaveLine
 lines_up_to horizon list = laid 0 list ++ quiet_lines (horizon - last_end 0 list)
 
--- the text that is written of a trace
+-- The text that is written of a trace.
 abbrev pub wave_text : Recording → List ℕ
 wave_text t = text_of (lines_up_to t.horizon t.list)

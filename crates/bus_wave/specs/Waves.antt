@@ -11,40 +11,40 @@ use Rattle.bus_strings.specs.Messages.{Wordstring, Message, Entry}
 use Rattle.bus_trace.specs.Traces.{Recording, data_word}
 use Rattle.bus_wave.specs.Code.{frame_halves}
 
--- quiet, or a half bit
+-- Quiet, or a half bit.
 abbrev pub Half : Type 0
 Half = Option Bool
 
--- so many quiet bit times
+-- So many quiet bit times.
 abbrev pub quiet : ℕ → List Half
 quiet n = replicate (2 * n) None
 
--- the words of a wordstring: its label word, and the data words
+-- The words of a wordstring: its label word, and the data words.
 abbrev pub words_of : Wordstring → List Word
 words_of string = label_word string.label string.ext ∷ map data_word string.words
 
--- the half bits of a word with its parity bit
+-- The half bits of a word with its parity bit.
 abbrev pub word_halves : Word → List Bool
 word_halves word = frame_halves (frame word)
 
--- the wave of a wordstring: that of its words
+-- The wave of a wordstring: that of its words.
 abbrev pub string_wave : Wordstring → List Half
 string_wave string = map Some (flat_map word_halves (words_of string))
 
--- the wave of a message: that of its wordstrings, and quiet for the inner gap between two of them
+-- The wave of a message: that of its wordstrings, and quiet for the inner gap between two of them.
 abbrev pub message_wave : Message → List Half
 message_wave [] = []
 message_wave (string ∷ strings) = string_wave string ++ flat_map (λ next. quiet inner_gap ++ string_wave next) strings
 
--- what a transmission carries at a half bit time of the bus: quiet before its moment and behind its end
+-- What a transmission carries at a half bit time of the bus: quiet before its moment and behind its end.
 abbrev pub half_of : Entry → ℕ → Half
 half_of x time = if nat_lt time (2 * x.moment) then None else get_or (message_wave x.message) (time - 2 * x.moment) None
 
--- what the bus carries at a half bit time: what the first transmission carries that isn't quiet then
+-- What the bus carries at a half bit time: what the first transmission carries that isn't quiet then.
 abbrev pub half_at : List Entry → ℕ → Half
 half_at [] time = None
 half_at (x ∷ xs) time = option_or (half_of x time) (half_at xs time)
 
--- the wave of a trace: a half for each half bit time below twice its horizon
+-- The wave of a trace: a half for each half bit time below twice its horizon.
 unfoldable pub wave : Recording → List Half
 wave t = map (half_at t.list) (range_with_len 0 (2 * t.horizon))

@@ -1,3 +1,4 @@
+//! The half bits of a word as digits: written and read.
 ghost use Rattle.std.specs.Prelude.{◌≡◌, ◌+◌, ◌*◌, ◌/◌, ◌<◌, ◌≤◌, ◌^◌, ◌==◌, ◌∷◌, ◌++◌, []};
 ghost use Rattle.std.specs.Prelude.{IfSome, Some, None, length, true, if◌then◌else◌};
 ghost use Rattle.std.specs.Char.{digit_value};

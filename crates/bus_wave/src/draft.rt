@@ -1,3 +1,4 @@
+//! What the lines of a wave text have given so far, and what a further line makes of it.
 ghost use Rattle.std.specs.Prelude.{◌≡◌, ◌+◌, ◌*◌, ◌-◌, ◌/◌, ◌%◌, ◌<◌, ◌≤◌, ◌&&◌, ◌==◌, ◌++◌, ◌∷◌, [], true, false, length, find, IfOk};
 ghost use Rattle.std.specs.Prelude.{OnOk, vec_len, Some};
 ghost use Rattle.std.specs.List.{list_all, AllByRecursion};
@@ -97,7 +98,7 @@ impl<'t> Draft<'t> {
         (self.at, self.list)
     }
 
-    // Takes a data word.
+    /// Takes a data word.
     fn take_data(&mut self, beginners: &Beginners<'t>, value: u16) -> Result<(), LineFault<WaveReason>>
         requires { Keeps self.old }
         ensures gives { StepGives (state_of self.new) result
@@ -133,7 +134,7 @@ impl<'t> Draft<'t> {
         }
     }
 
-    // Begins a message of a sender with its first label word.
+    /// Begins a message of a sender with its first label word.
     fn begin(&mut self, alloc: Global, sender: &'t Sender) -> Result<(), LineFault<WaveReason>>
         requires { Keeps self.old }
         ensures gives { StepGives (state_of self.new) result (begin_bounded (state_of self.old) (Some sender.now)) }
@@ -154,7 +155,7 @@ impl<'t> Draft<'t> {
         Ok(())
     }
 
-    // Takes a label word with which a message begins.
+    /// Takes a label word with which a message begins.
     fn take_first(
         &mut self,
         alloc: Global,
@@ -172,7 +173,7 @@ impl<'t> Draft<'t> {
         }
     }
 
-    // Takes a label word behind the Q line behind a wordstring: `next` is the SEND line whose label word has to come.
+    /// Takes a label word behind the Q line behind a wordstring: `next` is the SEND line whose label word has to come.
     fn take_next(
         &mut self,
         value: u16,
@@ -198,7 +199,7 @@ impl<'t> Draft<'t> {
         Ok(())
     }
 
-    // Takes a label word.
+    /// Takes a label word.
     fn take_label(
         &mut self,
         alloc: Global,
@@ -229,7 +230,7 @@ impl<'t> Draft<'t> {
         }
     }
 
-    // Completes the wordstring of a SEND line.
+    /// Completes the wordstring of a SEND line.
     fn keep_string(&mut self, alloc: Global, line: SendLine) -> Result<(), AllocError>
         requires { length self.old.words.items ≤ 256 }
         ensures string { OnOk result (begun_of self.new ≡ with_string (begun_of self.old) (string_of line self.old.words.items)) }
@@ -241,7 +242,7 @@ impl<'t> Draft<'t> {
         Ok(())
     }
 
-    // Completes the message with the wordstring of its last SEND line.
+    /// Completes the message with the wordstring of its last SEND line.
     fn close(&mut self, alloc: Global, line: SendLine) -> Result<(), AllocError>
         requires words { length self.old.words.items ≤ 256 }
         requires strings { length self.old.strings.items < most_strings }
@@ -262,7 +263,7 @@ impl<'t> Draft<'t> {
         Ok(())
     }
 
-    // Takes quiet bit times behind the last wordstring of a message, which its words may end.
+    /// Takes quiet bit times behind the last wordstring of a message, which its words may end.
     fn take_silence(
         &mut self,
         alloc: Global,
@@ -289,7 +290,7 @@ impl<'t> Draft<'t> {
         Ok(())
     }
 
-    // Takes quiet bit times behind a wordstring that isn't the last of its message, which its words may end.
+    /// Takes quiet bit times behind a wordstring that isn't the last of its message, which its words may end.
     fn take_gap(
         &mut self,
         alloc: Global,
@@ -321,7 +322,7 @@ impl<'t> Draft<'t> {
         Ok(())
     }
 
-    // Takes quiet bit times within a message.
+    /// Takes quiet bit times within a message.
     fn take_pause(
         &mut self,
         alloc: Global,
@@ -346,7 +347,7 @@ impl<'t> Draft<'t> {
         }
     }
 
-    // Takes a Q line.
+    /// Takes a Q line.
     fn take_quiet(
         &mut self,
         alloc: Global,
@@ -382,7 +383,7 @@ impl<'t> Draft<'t> {
         }
     }
 
-    // Takes the end behind a wordstring, where its message is whole.
+    /// Takes the end behind a wordstring, where its message is whole.
     fn take_last(
         &mut self,
         alloc: Global,
@@ -404,7 +405,7 @@ impl<'t> Draft<'t> {
         Ok(())
     }
 
-    // Takes the last line.
+    /// Takes the last line.
     fn take_end(&mut self, alloc: Global, beginners: &Beginners<'t>) -> Result<(), LineFault<WaveReason>>
         requires { Keeps self.old }
         ensures gives { StepGives (state_of self.new) result (step beginners.now.senders.now (state_of self.old) End) }
@@ -447,7 +448,7 @@ impl<'t> Draft<'t> {
         }
     }
 
-    // Takes a word.
+    /// Takes a word.
     fn take_word(
         &mut self,
         alloc: Global,

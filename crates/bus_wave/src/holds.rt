@@ -1,3 +1,4 @@
+//! The holds of a trace that is read from a wave.
 ghost use Rattle.std.specs.Prelude.{◌≡◌, ◌≤◌, ◌<◌, ◌++◌, ℕ, is_some, length, slice_index, IfOk, OnOk};
 ghost use Rattle.std.specs.Option.{option_to_list};
 ghost use Rattle.bus_table.specs.Fits as fits;

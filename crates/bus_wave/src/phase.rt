@@ -1,3 +1,4 @@
+//! Where a wave text stands between its lines.
 use bus_table::SendLine;
 
 /// Where the lines so far stand.

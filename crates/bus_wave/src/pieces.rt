@@ -1,3 +1,4 @@
+//! The pieces of a text between bytes of one kind.
 ghost use Rattle.std.specs.Prelude.{◌≡◌, ◌≢◌, ◌==◌, ◌∷◌, ◌<◌, ℕ, [], length, slice_index, IfNone, IfSome, MatchOption};
 ghost use Rattle.std.specs.List.{slice_split};
 

@@ -1,3 +1,4 @@
+//! Reading a wave text back into a trace.
 ghost use Rattle.std.specs.Prelude.{◌≡◌, ◌+◌, ◌<◌, ◌≤◌, ◌^◌, ◌-◌, ◌&&◌, ◌==◌, length, IsTrue, IfOk, OnOk, Ok};
 ghost use Rattle.std.specs.List.{slice_split};
 ghost use Rattle.bus_text.specs.Lines.{is_feed};

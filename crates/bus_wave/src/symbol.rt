@@ -1,3 +1,4 @@
+//! What a line of a wave text says by itself.
 ghost use Rattle.std.specs.Prelude.{◌≡◌, ◌==◌, ◌^◌, ◌-◌, ◌<◌, ◌∷◌, []};
 ghost use Rattle.std.specs.Prelude.{MatchOption, IfOk, IfErr, false, true, length, codes, slice_index_or};
 ghost use Rattle.std.specs.Prelude.{Ok, Err, if◌then◌else◌};

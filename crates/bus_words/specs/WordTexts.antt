@@ -13,40 +13,40 @@ use Rattle.bus_words.specs.declared.word.WordError.TheVariants.{Shape, Parity}
 use Rattle.bus_words.specs.Words.{parity, frame, unframe}
 
 -- ---- what is written
--- the letter of a kind: `L` or `D`
+-- The letter of a kind: `L` or `D`.
 abbrev pub letter : Kind → ℕ
 letter Label = 76
 letter Plain = 68
 
--- the digit of a bit: `1` or `0`
+-- The digit of a bit: `1` or `0`.
 abbrev pub bit_digit : Bool → ℕ
 bit_digit true = 49
 bit_digit false = 48
 
--- the text of a frame, whatever its parity bit
+-- The text of a frame, whatever its parity bit.
 abbrev pub frame_text : FramedWord → List ℕ
 frame_text f = letter f.kind ∷ (hexadecimal 4 f.value ++ bit_digit f.parity ∷ [])
 
--- the text of a word
+-- The text of a word.
 abbrev pub word_text : Word → List ℕ
 word_text word = frame_text (frame word)
 
 -- ---- why a text isn't that of a word
--- some frame has this text
+-- Some frame has this text.
 abbrev pub IsFrameText : List ℕ → Type 0
 IsFrameText text = (f : FramedWord) × (f.value < 2 ^ 16) × (text ≡ frame_text f)
 
--- the text of some frame begins with these bytes
+-- The text of some frame begins with these bytes.
 abbrev pub BeginsFrame : List ℕ → Type 0
 BeginsFrame front = (rest : List ℕ) × IsFrameText (front ++ rest)
 
--- the length of the longest front of a text that begins the text of some frame
+-- The length of the longest front of a text that begins the text of some frame.
 pub record IsLongestFront (text : List ℕ) (count : ℕ) : Type 0 where
   pub within : count ≤ length text
   pub begins : BeginsFrame (take count text)
   pub longest : (n : ℕ) → n ≤ length text → BeginsFrame (take n text) → n ≤ count
 
--- the cause of each refusal
+-- The cause of each refusal.
 abbrev pub Fails : List ℕ → WordError → Type 0
 Fails text (Shape count) = (IsFrameText text → ⊥) × IsLongestFront text count
 Fails text Parity = (f : FramedWord) × (f.value < 2 ^ 16) × (text ≡ frame_text f) × (f.parity ≢ parity f.value)
@@ -55,32 +55,32 @@ Fails text Parity = (f : FramedWord) × (f.value < 2 ^ 16) × (text ≡ frame_te
 abbrev pub is_letter : ℕ → Bool
 is_letter byte = byte == 76 || byte == 68
 
--- whether a byte is the digit of a bit
+-- Whether a byte is the digit of a bit.
 abbrev pub is_bit : ℕ → Bool
 is_bit byte = byte == 49 || byte == 48
 
--- the form of a frame's text
+-- The form of a frame's text.
 abbrev pub form : List (ℕ → Bool)
 form = is_letter ∷ is_capital_digit ∷ is_capital_digit ∷ is_capital_digit ∷ is_capital_digit ∷ is_bit ∷ []
 
--- whether a byte may stand at a place of the form, counted from 0
+-- Whether a byte may stand at a place of the form, counted from 0.
 abbrev pub test_at : ℕ → ℕ → Bool
 test_at place = slice_index_or form place (λ _. false)
 
--- whether a text is of a form
+-- Whether a text is of a form.
 abbrev pub is_of : List (ℕ → Bool) → List ℕ → Bool
 is_of [] [] = true
 is_of [] (byte ∷ bytes) = false
 is_of (test ∷ tests) [] = false
 is_of (test ∷ tests) (byte ∷ bytes) = test byte && is_of tests bytes
 
--- how many bytes of a text keep to a form, up to the first that doesn't
+-- How many bytes of a text keep to a form, up to the first that doesn't.
 abbrev pub kept : List (ℕ → Bool) → List ℕ → ℕ
 kept [] bytes = 0
 kept (test ∷ tests) [] = 0
 kept (test ∷ tests) (byte ∷ bytes) = if test byte then suc (kept tests bytes) else 0
 
--- the frame that a text of the form writes
+-- The frame that a text of the form writes.
 abbrev pub written_frame : List ℕ → FramedWord
 written_frame text = record {
   kind = if slice_index text 0 == 76 then Label else Plain;
@@ -88,6 +88,6 @@ written_frame text = record {
   parity = slice_index text 5 == 49;
 }
 
--- what a text reads as
+-- What a text reads as.
 abbrev pub read_word : List ℕ → Result Word WordError
 read_word text = if is_of form text then unframe (written_frame text) else Err (Shape (kept form text))

@@ -8,18 +8,18 @@ use Rattle.bus_words.specs.declared.word.FramedWord.{FramedWord}
 use Rattle.bus_words.specs.declared.word.WordError.{WordError}
 use Rattle.bus_words.specs.declared.word.WordError.TheVariants.{Parity}
 
--- the parity bit of a value: set where the value has an even number of ones
+-- The parity bit of a value: set where the value has an even number of ones.
 abbrev pub parity : ℕ → Bool
 parity value = count_ones value % 2 == 0
 
--- a word with its parity bit
+-- A word with its parity bit.
 abbrev pub frame : Word → FramedWord
 frame word = record { kind = word.kind; value = word.value; parity = parity word.value }
 
--- the word of a frame, where the parity bit is that of the value
+-- The word of a frame, where the parity bit is that of the value.
 abbrev pub unframe : FramedWord → Result Word WordError
 unframe f = if beq f.parity (parity f.value) then Ok (record { kind = f.kind; value = f.value }) else Err Parity
 
--- the label word of a label and an extension
+-- The label word of a label and an extension.
 abbrev pub label_word : ℕ → ℕ → Word
 label_word label ext = record { kind = Label; value = 16 * label + ext }

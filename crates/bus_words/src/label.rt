@@ -1,3 +1,4 @@
+//! Labels and extensions.
 ghost use Rattle.std.specs.Prelude.{◌≡◌, ◌/◌, ◌%◌, ◌<◌, ◌≤◌, ◌↔◌, IsSome, IsNone, IfSome};
 
 use std::marker::Model;

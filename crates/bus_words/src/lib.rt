@@ -21,4 +21,6 @@ mod word;
 
 pub use label::{Ext, Label};
 pub use text::{read_frame, read_word, word_text};
-pub use word::{FramedWord, Kind, Word, WordError, frame, label_word, parity, split_label, unframe};
+pub use word::{
+    FramedWord, Kind, Word, WordError, frame, label_word, parity, split_label, unframe,
+};

@@ -1,3 +1,4 @@
+//! Words and their texts, by example.
 use crate::text::{read_word, word_text};
 use crate::word::{Kind, Word, WordError};
 

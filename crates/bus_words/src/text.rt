@@ -1,3 +1,4 @@
+//! The text of a word, with its parity digit: written and read.
 ghost use Rattle.std.specs.Prelude.{◌≡◌, ◌<◌, ◌^◌, ◌==◌, [], ◌∷◌, IfOk, IfErr, Ok, Some, None, if◌then◌else◌};
 ghost use Rattle.bus_text.specs.Numbers.{hexadecimal_value};
 ghost use Rattle.bus_text.specs.Digits.{is_capital_digit};

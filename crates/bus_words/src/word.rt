@@ -1,3 +1,4 @@
+//! Words: their kind, their value, and their parity bit.
 ghost use Rattle.std.specs.Prelude.{◌≡◌, ◌≢◌, ◌+◌, ◌*◌, ◌%◌, ◌<◌, ◌↔◌, ◌^◌, ℕ, IsTrue, IfOk, IfErr, Ok, count_ones};
 ghost use Rattle.bus_words.specs.Words.{parity as parity_of, frame as frame_of, unframe as unframed, label_word as word_of};
 

@@ -16,20 +16,20 @@ use Rattle.bus_audit.specs.declared.watch.Watch.{Watch}
 use Rattle.bus_audit.specs.Breaches.{held, IsCleanTo}
 use Rattle.bus_audit.specs.inside.Watches.{ready, ready_moment, pair, AreLow, NoneBefore}
 
--- a pair that isn't before another
+-- A pair that isn't before another.
 abbrev pub NotBefore : ℕ → ℕ → ℕ → ℕ → Type 0
 NotBefore u k t n = (t < u) ⊎ ((u ≡ t) × (n ≤ k))
 
--- no entry is at a pair from (a, n) on and before (t, m)
+-- No entry is at a pair from (a, n) on and before (t, m).
 abbrev pub NoEntries : List Entry → ℕ → ℕ → ℕ → ℕ → Type 0
 NoEntries list a n t m = (x : Entry) → In x list → NotBefore x.moment x.terminal a n → IsBefore x.moment x.terminal t m → ⊥
 
--- the sender's timers allow a start at moment t
+-- The sender's timers allow a start at moment t.
 abbrev pub Allowed : Table → Recording → Sender → ℕ → Type 0
 Allowed table trace s t =
     MayStart (timing_of table s) (past (quiet_of table) trace.list t) (last_place (quiet_of table) (own trace.list s.number t))
 
--- the watch keeps the sender's timers as they are at moment c, where its transmissions before moment cut are its own so far
+-- The watch keeps the sender's timers as they are at moment c, where its transmissions before moment cut are its own so far.
 pub record Keeps (table : Table) (trace : Recording) (s : Sender) (w : Watch) (c cut : ℕ) : Type 0 where
   pub number : w.number ≡ s.number
   pub timing : w.timing ≡ timing_of table s
@@ -39,19 +39,19 @@ pub record Keeps (table : Table) (trace : Recording) (s : Sender) (w : Watch) (c
       (last_place (quiet_of table) (own trace.list s.number cut)) w.gap
   pub left : w.left + length (own trace.list s.number cut) ≡ held trace.holds s.number
 
--- the watch tells whether the timers allow a start at moment u, and how many messages are left then
+-- The watch tells whether the timers allow a start at moment u, and how many messages are left then.
 pub record Tells (table : Table) (trace : Recording) (s : Sender) (w : Watch) (u : ℕ) : Type 0 where
   pub number : w.number ≡ s.number
   pub ready_may : ready w ≤ quiet_of table + u → Allowed table trace s u
   pub may_ready : Allowed table trace s u → ready w ≤ quiet_of table + u
   pub left : w.left + length (own trace.list s.number u) ≡ held trace.holds s.number
 
--- a sender with its watch
+-- A sender with its watch.
 pub record At (table : Table) (watches : List Watch) (j : ℕ) (s : Sender) (w : Watch) : Type 0 where
   pub sender : slice_get table.senders j ≡ Some s
   pub watch : slice_get watches j ≡ Some w
 
--- all is judged up to the pair (a, n), and from there on, up to moment top, the watches tell who may start:
+-- All is judged up to the pair (a, n), and from there on, up to moment top, the watches tell who may start:
 --   late    nobody may before moment c
 --   later   nobody with messages left is missed before the pair
 pub record Told (table : Table) (trace : Recording) (watches : List Watch) (c a n top : ℕ) : Type 0 where
@@ -65,7 +65,7 @@ pub record Told (table : Table) (trace : Recording) (watches : List Watch) (c a 
   pub later : (j : ℕ) (s : Sender) (w : Watch) → At table watches j s w → 0 < w.left
       → NotBefore (ready_moment (quiet_of table) c w) s.number a n
 
--- at moment t, all is judged for the terminals below n: their watches count the starts at t, and the others do not yet
+-- At moment t, all is judged for the terminals below n: their watches count the starts at t, and the others do not yet.
 pub record Stands (table : Table) (trace : Recording) (watches : List Watch) (t n : ℕ) : Type 0 where
   pub clean : IsCleanTo table trace t n
   pub same_length : length watches ≡ length table.senders
@@ -73,12 +73,12 @@ pub record Stands (table : Table) (trace : Recording) (watches : List Watch) (t 
   pub ahead : (j : ℕ) (s : Sender) (w : Watch) → At table watches j s w → n ≤ s.number → Keeps table trace s w t t
   pub spoken : (j : ℕ) (s : Sender) (w : Watch) → At table watches j s w → s.number < n → 0 < w.left → quiet_of table + t < ready w
 
--- no transmission begins at moment t, of the terminals below n
+-- No transmission begins at moment t, of the terminals below n.
 pub record Calm (list : List Entry) (t e n : ℕ) : Type 0 where
   pub over : e ≤ t
   pub none : (x : Entry) → In x list → x.moment ≡ t → x.terminal < n → ⊥
 
--- some do, and the last of them ends at moment e
+-- Some do, and the last of them ends at moment e.
 pub record Group (list : List Entry) (t e n : ℕ) : Type 0 where
   pub entry : Entry
   pub there : In entry list
@@ -86,13 +86,13 @@ pub record Group (list : List Entry) (t e n : ℕ) : Type 0 where
   pub end : end_of entry ≡ e
   pub all : (x : Entry) → In x list → x.moment ≡ t → x.terminal < n → end_of x ≤ e
 
--- those that began before moment t have ended
+-- Those that began before moment t have ended.
 pub record Near (list : List Entry) (t e n : ℕ) : Type 0 where
   pub old : (x : Entry) → In x list → x.moment < t → end_of x ≤ t
   pub now : Calm list t e n ⊎ Group list t e n
 
--- all is judged before the pair (t, m), and its sender's watch tells whether it may start; where the watches stand at moment t they
--- keep the timers
+-- All is judged before the pair (t, m), and its sender's watch tells whether it may start; where the watches stand at moment t they
+-- keep the timers.
 pub record Arrived (table : Table) (trace : Recording) (watches : List Watch) (c e t m : ℕ) : Type 0 where
   pub clean : IsCleanTo table trace t m
   pub same_length : length watches ≡ length table.senders
@@ -107,7 +107,7 @@ pub record AreFar (watches : List Watch) (clock : Clock) : Type 0 where
   pub moment : clock.moment < 2 ^ 41
   pub end : clock.end < 2 ^ 41
 
--- all is judged up to a pair, from which on no entry is before the pair (t, m)
+-- All is judged up to a pair, from which on no entry is before the pair (t, m).
 pub record Judged (table : Table) (trace : Recording) (clock : Clock) (watches : List Watch) (t m : ℕ) : Type 0 where
   pub number : ℕ
   pub stands : Stands table trace watches clock.moment number
@@ -116,7 +116,7 @@ pub record Judged (table : Table) (trace : Recording) (clock : Clock) (watches :
   pub upto : NotBefore t m clock.moment number
   pub far : AreFar watches clock
 
--- the watches tell what comes before the pair (t, m); where nobody is missed before it, that pair is reached
+-- The watches tell what comes before the pair (t, m); where nobody is missed before it, that pair is reached.
 pub record Closed (table : Table) (trace : Recording) (clock : Clock) (watches : List Watch) (t m : ℕ) : Type 0 where
   pub moment : ℕ
   pub number : ℕ
@@ -125,14 +125,14 @@ pub record Closed (table : Table) (trace : Recording) (clock : Clock) (watches :
   pub arrived : NoneBefore (quiet_of table) clock.moment watches (pair t m) → Arrived table trace watches clock.moment clock.end t m
   pub far : AreFar watches clock
 
--- all is judged up to the entry of terminal n at the moment of the clock, that entry included
+-- All is judged up to the entry of terminal n at the moment of the clock, that entry included.
 pub record Behind (table : Table) (trace : Recording) (clock : Clock) (watches : List Watch) (t n : ℕ) : Type 0 where
   pub moment : clock.moment ≡ t
   pub stands : Stands table trace watches t (n + 1)
   pub near : Near trace.list t clock.end (n + 1)
   pub far : AreFar watches clock
 
--- all is judged up to entry i of the list, that entry left out
+-- All is judged up to entry i of the list, that entry left out.
 pub record JudgedTo (table : Table) (trace : Recording) (clock : Clock) (watches : List Watch) (i : ℕ) : Type 0 where
   pub number : ℕ
   pub stands : Stands table trace watches clock.moment number

@@ -23,11 +23,11 @@ abbrev pub walk_end : ℕ → ℕ → ℕ → List Sender → ℕ
 walk_end first second end [] = end
 walk_end first second end (sender ∷ senders) = walk_end first second (end_after first second end sender) senders
 
--- the longest message of the sender with this terminal gap, or 0
+-- The longest message of the sender with this terminal gap, or 0.
 abbrev pub longest_with : ℕ → List Sender → ℕ
 longest_with tg [] = 0
 longest_with tg (sender ∷ senders) = if sender.tg == tg then longest sender else longest_with tg senders
 
--- the gap before the second sender, by the two greatest terminal gaps
+-- The gap before the second sender, by the two greatest terminal gaps.
 abbrev pub gap_between : ℕ → ℕ → ℕ → ℕ
 gap_between sg first second = if nat_le (first + second) sg then second else sg

@@ -6,23 +6,23 @@ use Rattle.bus_strings.specs.declared.wordstring.Kept.TheVariants.{Short, Long}
 use Rattle.bus_strings.specs.declared.message.Strings.{Strings}
 use Rattle.bus_strings.specs.declared.message.Strings.TheVariants.{One, Many}
 
--- the wordstring that is kept
+-- The wordstring that is kept.
 abbrev pub kept_string : Kept → Wordstring
 kept_string (Short label ext count words) = record { label = label; ext = ext; words = take count words }
 kept_string (Long label ext words) = record { label = label; ext = ext; words = words.items }
 
--- every number of it lies in its range
+-- Every number of it lies in its range.
 abbrev pub IsKept : Kept → Type 0
 IsKept (Short label ext count words) =
     (length words ≡ 12) × (count ≤ 12) × IsWordstring (record { label = label; ext = ext; words = take count words })
 IsKept (Long label ext words) = IsWordstring (record { label = label; ext = ext; words = words.items })
 
--- the message that is kept
+-- The message that is kept.
 abbrev pub kept_message : Strings → Message
 kept_message (One alloc string) = string ∷ []
 kept_message (Many bit_times strings) = strings.items
 
--- every number of it lies in its range, and the bit times are those of the message
+-- Every number of it lies in its range, and the bit times are those of the message.
 abbrev pub AreKept : Strings → Type 0
 AreKept (One alloc string) = IsMessage (string ∷ [])
 AreKept (Many bit_times strings) = (bit_times ≡ bits strings.items) × IsMessage strings.items

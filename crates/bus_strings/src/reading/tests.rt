@@ -1,3 +1,4 @@
+//! Messages texts that are read, and that are refused.
 use crate::fault::MessagesError;
 use crate::payload::Payloads;
 use crate::reading::read_messages;

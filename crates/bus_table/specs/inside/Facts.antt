@@ -7,12 +7,12 @@ use Rattle.bus_table.specs.declared.mode.Mode.TheVariants.{Aperiodic, Periodic}
 use Rattle.bus_table.specs.Tables.{Sender, Table}
 use Rattle.bus_table.specs.Ranges.{is_sender}
 
--- what governs the offset of a sender: none in aperiodic mode, below the transmit interval in periodic mode
+-- What governs the offset of a sender: none in aperiodic mode, below the transmit interval in periodic mode.
 abbrev pub FitsMode : Mode → ℕ → ℕ → Type 0
 FitsMode Aperiodic ti at = at ≡ 0
 FitsMode Periodic ti at = at < ti
 
--- a sender of a valid table
+-- A sender of a valid table.
 pub record SenderFacts (table : Table) (sender : Sender) : Type 0 where
   pub in_range : is_sender sender ≡ true
   pub number_least : 1 ≤ sender.number
@@ -22,7 +22,7 @@ pub record SenderFacts (table : Table) (sender : Sender) : Type 0 where
   pub tg_short : sender.tg < table.sg
   pub mode : FitsMode table.mode table.ti sender.at
 
--- a valid table
+-- A valid table.
 pub record TableFacts (table : Table) : Type 0 where
   pub ti_least : 1000 ≤ table.ti
   pub ti_most : table.ti ≤ 128000

@@ -4,13 +4,13 @@ use Rattle.bus_wave.specs.declared.fault.WaveReason.{WaveReason}
 use Rattle.bus_wave.specs.declared.symbol.Symbol.{Symbol}
 use Rattle.bus_wave.specs.declared.symbol.Symbol.TheVariants.{Quiet, Sent, End}
 
--- a symbol of the code
+-- A symbol of the code.
 abbrev pub cap : Symbol → Symbol
 cap (Quiet n) = Quiet (min n (2 ^ 64 - 1))
 cap (Sent word) = Sent word
 cap End = End
 
--- what the code reads
+-- What the code reads.
 abbrev pub capped : Result Symbol WaveReason → Result Symbol WaveReason
 capped (Ok symbol) = Ok (cap symbol)
 capped (Err reason) = Err reason

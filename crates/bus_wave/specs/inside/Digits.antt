@@ -7,17 +7,17 @@ use Rattle.bus_words.specs.declared.word.Kind.{Kind}
 use Rattle.bus_words.specs.declared.word.Kind.TheVariants.{Label, Plain}
 use Rattle.bus_words.specs.declared.word.FramedWord.{FramedWord}
 
--- the two bits of a digit's value: 01 01 is 0 0, and so on; none where one of its pairs is 00 or 11
+-- The two bits of a digit's value: 01 01 is 0 0, and so on; none where one of its pairs is 00 or 11.
 abbrev pub two_bits : ℕ → Option ℕ
 two_bits value =
     if value == 5 then Some 0 else if value == 6 then Some 1 else if value == 9 then Some 2 else if value == 10 then Some 3 else None
 
--- a number, and behind it the bits of digits
+-- A number, and behind it the bits of digits.
 abbrev pub gathered : ℕ → List ℕ → Option ℕ
 gathered bits [] = Some bits
 gathered bits (digit ∷ digits) = option_and_then (λ two. gathered (4 * bits + two) digits) (two_bits (digit_value digit))
 
--- the kind of word, and its highest bit, by the first two digits
+-- The kind of word, and its highest bit, by the first two digits.
 abbrev pub head_of : ℕ → ℕ → Option (Kind × ℕ)
 head_of first second =
     if first == 69 && second == 49 then Some (Label, 0)
@@ -26,25 +26,25 @@ head_of first second =
     else if first == 49 && second == 69 then Some (Plain, 1)
     else None
 
--- the word of a kind and of the number of its bits, the lowest of which is the parity bit
+-- The word of a kind and of the number of its bits, the lowest of which is the parity bit.
 abbrev pub frame_with : Kind → ℕ → FramedWord
 frame_with kind bits = record { kind = kind; value = bits / 2; parity = bits % 2 == 1 }
 
--- the digit of two bits
+-- The digit of two bits.
 abbrev pub code_digit : ℕ → ℕ
 code_digit two = if two == 0 then 53 else if two == 1 then 54 else if two == 2 then 57 else 65
 
--- the digits of the lowest bits of a number, so many times two, the highest first
+-- The digits of the lowest bits of a number, so many times two, the highest first.
 abbrev pub code_digits : ℕ → ℕ → List ℕ
 code_digits zero n = []
 code_digits (suc count) n = code_digits count (n / 4) ++ code_digit (n % 4) ∷ []
 
--- the first digit of a kind
+-- The first digit of a kind.
 abbrev pub first_digit : Kind → ℕ
 first_digit Label = 69
 first_digit Plain = 49
 
--- the second digit of a kind and of the highest bit
+-- The second digit of a kind and of the highest bit.
 abbrev pub second_digit : Kind → ℕ → ℕ
 second_digit Label bit = if bit == 0 then 49 else 50
 second_digit Plain bit = if bit == 0 then 68 else 69

@@ -11,45 +11,45 @@ use Rattle.bus_wave.specs.Code.{digits_of}
 use Rattle.bus_wave.specs.Waves.{word_halves}
 use Rattle.bus_wave.specs.WaveTexts.{last_end}
 
--- a W line
+-- A W line.
 abbrev pub word_put : Word → List ℕ
 word_put word = codes "W " ++ digits_of (word_halves word) ++ codes "\n"
 
--- a W line for each data word
+-- A W line for each data word.
 abbrev pub data_put : List ℕ → List ℕ
 data_put words = flat_map (λ value. word_put (data_word value)) words
 
--- the lines of a wordstring
+-- The lines of a wordstring.
 abbrev pub string_put : Wordstring → List ℕ
 string_put string = word_put (label_word string.label string.ext) ++ data_put string.words
 
--- a Q line
+-- A Q line.
 abbrev pub silence_put : ℕ → List ℕ
 silence_put n = codes "Q " ++ decimal n ++ codes "\n"
 
--- a Q line, where there is quiet
+-- A Q line, where there is quiet.
 abbrev pub quiet_put : ℕ → List ℕ
 quiet_put zero = []
 quiet_put (suc n) = silence_put (suc n)
 
--- the lines of a further wordstring, behind the inner gap
+-- The lines of a further wordstring, behind the inner gap.
 abbrev pub next_put : Wordstring → List ℕ
 next_put string = silence_put inner_gap ++ string_put string
 
--- the lines of a message
+-- The lines of a message.
 abbrev pub message_put : Message → List ℕ
 message_put [] = []
 message_put (string ∷ strings) = string_put string ++ flat_map next_put strings
 
--- the lines of a transmission, behind the quiet since a moment
+-- The lines of a transmission, behind the quiet since a moment.
 abbrev pub entry_put : ℕ → Entry → List ℕ
 entry_put from x = quiet_put (x.moment - from) ++ message_put x.message
 
--- the lines of transmissions, the first counting from `from`
+-- The lines of transmissions, the first counting from `from`.
 abbrev pub list_put : ℕ → List Entry → List ℕ
 list_put from [] = []
 list_put from (x ∷ xs) = entry_put from x ++ list_put (end_of x) xs
 
--- the text of transmissions up to a horizon
+-- The text of transmissions up to a horizon.
 abbrev pub text_put : ℕ → List Entry → List ℕ
 text_put horizon list = codes "WAVE 1\n" ++ list_put 0 list ++ quiet_put (horizon - last_end 0 list) ++ codes "END\n"
