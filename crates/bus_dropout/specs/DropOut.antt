@@ -12,27 +12,27 @@ use Rattle.bus_schedule.specs.Even.{messages_of}
 use Rattle.bus_schedule.specs.Live.{live_rounds, shortest_cycle}
 use Rattle.bus_schedule.specs.Uneven.{count_of}
 
--- the greatest number of messages in a hand: so many rounds there are
+-- The greatest number of messages in a hand: so many rounds there are.
 abbrev pub most_messages : List Hand → ℕ
 most_messages [] = 0
 most_messages (hand ∷ hands) = max (length hand.messages) (most_messages hands)
 
--- the drop-out schedule
+-- The drop-out schedule.
 abbrev pub dropout : Table → List Hand → List Entry
 dropout table hands = live_rounds table (messages_of hands) (most_messages hands)
 
--- its end: the greatest moment at which one of its transmissions ends, and 0 where there is none
+-- Its end: the greatest moment at which one of its transmissions ends, and 0 where there is none.
 abbrev pub drop_end : Table → List Hand → ℕ
 drop_end table hands = greatest_end (dropout table hands)
 
--- the senders with the most messages, in the order of the table: they alone are left in the last round
+-- The senders with the most messages, in the order of the table: they alone are left in the last round.
 abbrev pub last_senders : Table → List Hand → List Sender
 last_senders table hands = filter (λ sender. count_of hands sender.number == most_messages hands) table.senders
 
--- the last cycle, of their shortest messages, where some sender has two messages or more
+-- The last cycle, of their shortest messages, where some sender has two messages or more.
 abbrev pub last_cycle : Table → List Hand → Option ℕ
 last_cycle table hands = if nat_lt 1 (most_messages hands) then Some (shortest_cycle table (last_senders table hands)) else None
 
--- the last cycle, where there is one, is at least the transmit interval
+-- The last cycle, where there is one, is at least the transmit interval.
 abbrev pub LastIsLong : Table → List Hand → Type 0
 LastIsLong table hands = IfSome (last_cycle table hands) (λ least. table.ti ≤ least)

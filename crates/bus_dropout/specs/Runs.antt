@@ -10,12 +10,12 @@ use Rattle.bus_schedule.specs.Live.{live}
 use Rattle.bus_schedule.specs.Runs.{IsClear}
 use Rattle.bus_dropout.specs.DropOut.{dropout, drop_end, most_messages}
 
--- the transmissions are one of each of these senders, in their order, with its message of this round
+-- The transmissions are one of each of these senders, in their order, with its message of this round.
 pub record IsRoundOf (hands : List Hand) (round : ℕ) (senders : List Sender) (list : List Entry) : Type 0 where
   pub terminals : map (λ x. x.terminal) list ≡ map (λ sender. sender.number) senders
   pub messages : map (λ x. Some x.message) list ≡ map (λ sender. slice_get (messages_of hands sender.number) round) senders
 
--- the list is rounds, one after the other, as many as a hand has messages at most, each of the senders that have a message left
+-- The list is rounds, one after the other, as many as a hand has messages at most, each of the senders that have a message left.
 pub record IsInLiveRounds (table : Table) (hands : List Hand) (list : List Entry) : Type 0 where
   pub round : ℕ → List Entry
   pub whole : list ≡ in_rounds round (most_messages hands)

@@ -1,3 +1,4 @@
+//! Where the drop-out schedule ends.
 ghost use Rattle.std.specs.Prelude.{◌≡◌, ◌+◌, ◌≤◌, ◌^◌, [], nat_lt, length, get_or, IsTrue, IfOk, if◌then◌else◌};
 ghost use Rattle.std.specs.List.{sum_by};
 ghost use Rattle.bus_strings.specs.Messages.{bits};
@@ -9,8 +10,8 @@ ghost use Rattle.bus_schedule.specs.Live.{live};
 ghost use Rattle.bus_dropout.specs.DropOut.{drop_end};
 
 use crate::left::most_messages;
-use bus_schedule::{LONGEST_END, ScheduleError};
 use bus_schedule::laws::live_rounds;
+use bus_schedule::{LONGEST_END, ScheduleError};
 use bus_strings::bits;
 use bus_table::{Hand, Sender, Table};
 

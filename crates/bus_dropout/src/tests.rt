@@ -1,3 +1,4 @@
+//! Drop-out schedules of small tables.
 ghost use Rattle.std.specs.Prelude.{◌≡◌, IfOk, IsTrue};
 ghost use Rattle.bus_table.specs.declared.mode.Mode.TheVariants.{Aperiodic};
 ghost use Rattle.bus_table.specs.Hands.{are_hands};

@@ -79,7 +79,7 @@ at_place [] k h = absurd (omega arith)
 at_place (x ∷ xs) zero h = (x, refl)
 at_place (x ∷ xs) (suc k) h = at_place xs k (omega arith)
 
-in_order : (table : Table) (k : ℕ) → k < length table.senders → (a : Sender) × (slice_get (turn_order table) k ≡ Some a)
+pub in_order : (table : Table) (k : ℕ) → k < length table.senders → (a : Sender) × (slice_get (turn_order table) k ≡ Some a)
 in_order table k h =
     let same : length (turn_order table) ≡ length table.senders = length-sort (turn_key table.mode) table.senders in
     at_place (turn_order table) k (omega (arith, h, same))

@@ -3,25 +3,25 @@ use Rattle.std.specs.Prelude.{◌≢◌, ℕ, ◌+◌, ◌<◌, ◌≤◌, ◌�
 use Rattle.bus_strings.specs.Members.{In}
 use Rattle.bus_regime.specs.Gaps.{Gap}
 
--- the gap of another sender has at least one synchronization gap
+-- The gap of another sender has at least one synchronization gap.
 pub record IsSynchronized (sg : ℕ) (all : List Gap) (gap : Gap) : Type 0 where
   pub other : Gap
   pub among : In other all
   pub apart : other.sender.number ≢ gap.sender.number
   pub wide : other.from + sg ≤ other.to
 
--- a gap has at least its sender's terminal gap, and either room for a synchronization gap before that, or another sender's gap has
+-- A gap has at least its sender's terminal gap, and either room for a synchronization gap before that, or another sender's gap has.
 pub record IsFine (sg : ℕ) (all : List Gap) (gap : Gap) : Type 0 where
   pub wide : gap.from + gap.sender.tg ≤ gap.to
   pub sync : (gap.from + (sg + gap.sender.tg) ≤ gap.to) ⊎ IsSynchronized sg all gap
 
--- some gap is below its sender's terminal gap
+-- Some gap is below its sender's terminal gap.
 pub record HasSmall (all : List Gap) : Type 0 where
   pub gap : Gap
   pub among : In gap all
   pub small : gap.to < gap.from + gap.sender.tg
 
--- some gap has no room for a synchronization gap and its sender's terminal gap, and no other sender's gap has a synchronization gap
+-- Some gap has no room for a synchronization gap and its sender's terminal gap, and no other sender's gap has a synchronization gap.
 pub record HasUnsynchronized (sg : ℕ) (all : List Gap) : Type 0 where
   pub gap : Gap
   pub among : In gap all

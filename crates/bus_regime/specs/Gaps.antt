@@ -11,35 +11,35 @@ use Rattle.bus_table.specs.Tables.{Sender, Table}
 use Rattle.bus_table.specs.Turns.{turn_order}
 use Rattle.bus_table.specs.Lengths.{longest}
 
--- the gap before a sender: from the end of the sender before it to the sender's own start
+-- The gap before a sender: from the end of the sender before it to the sender's own start.
 pub record Gap : Type 0 where
   pub sender : Sender
   pub from : ℕ
   pub to : ℕ
 
--- the end of a sender's longest message in the first interval
+-- The end of a sender's longest message in the first interval.
 abbrev pub latest_end : Sender → ℕ
 latest_end sender = sender.at + longest sender
 
--- the end of the last of these senders, or `end` where there is none
+-- The end of the last of these senders, or `end` where there is none.
 abbrev pub last_end : ℕ → List Sender → ℕ
 last_end end [] = end
 last_end end (sender ∷ order) = last_end (latest_end sender) order
 
--- the gaps before these senders, one interval later, where the sender before the first of them ends at `from`
+-- The gaps before these senders, one interval later, where the sender before the first of them ends at `from`.
 abbrev pub gaps_from : ℕ → ℕ → List Sender → List Gap
 gaps_from ti from [] = []
 gaps_from ti from (sender ∷ order) =
     record { sender = sender; from = from; to = ti + sender.at } ∷ gaps_from ti (ti + latest_end sender) order
 
--- the gaps of a table, in turn order
+-- The gaps of a table, in turn order.
 abbrev pub gaps : Table → List Gap
 gaps table = gaps_from table.ti (last_end 0 (turn_order table)) (turn_order table)
 
--- whether a gap has at least this many bit times
+-- Whether a gap has at least this many bit times.
 abbrev pub has_width : ℕ → Gap → Bool
 has_width n gap = nat_le (gap.from + n) gap.to
 
--- the bit times of a gap, below 0 where it is an overlap
+-- The bit times of a gap, below 0 where it is an overlap.
 abbrev pub width : Gap → ℤ
 width gap = pos gap.to -ℤ pos gap.from

@@ -5,10 +5,10 @@ use Rattle.bus_strings.specs.Items.{Item}
 use Rattle.bus_table.specs.Filling.{filling_item}
 use Rattle.bus_table.specs.Tables.{Table}
 
--- one filling message of each sender, in the order of the table
+-- One filling message of each sender, in the order of the table.
 abbrev pub filling_round : Table → List Item
 filling_round table = map (filling_item table.mode) table.senders
 
--- two such rounds
+-- Two such rounds.
 abbrev pub witness_of : Table → List Item
 witness_of table = filling_round table ++ filling_round table

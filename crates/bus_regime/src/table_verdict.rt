@@ -1,3 +1,4 @@
+//! What a verdict tells.
 ghost use Rattle.std.specs.Prelude.{◌≡◌};
 ghost use Rattle.bus_regime.specs.Verdicts.{is_accepted};
 

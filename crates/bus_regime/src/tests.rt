@@ -1,3 +1,4 @@
+//! Verdicts on small tables, their lines, and witnesses.
 use crate::judging::verdict;
 use crate::line::write_verdict;
 use crate::table_verdict::TableVerdict;

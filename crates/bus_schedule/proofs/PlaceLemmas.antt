@@ -1,18 +1,15 @@
 -- Turn order by places, and a round of turns one by one.
-use Rattle.std.proofs.Common.{◌≡◌, ℕ, zero, suc, ◌+◌, ◌<◌, ◌≤◌, ◌==◌, List, [], ◌∷◌, ◌++◌, length, map, take, drop, get_or, Option, Some, None, arith, sym, refl, ap, cond, ◌∙◌, append_assoc, append-nil}
-use Rattle.std.specs.Prelude.{slice_get, position, nat_lt, is_some, IsSome, IsSomeAnd, IsTrue}
-use Rattle.std.specs.List.{position_or_len}
-use Rattle.std.proofs.lemmas.Bool.{eq-eqb, ne_eqb, lt-ltb}
+use Rattle.std.proofs.Common.{◌≡◌, ℕ, zero, suc, ◌+◌, ◌<◌, ◌≤◌, List, [], ◌∷◌, ◌++◌, length, map, take, drop, get_or, Option, Some, arith, sym, refl, ap, ◌∙◌, append_assoc, append-nil}
+use Rattle.std.specs.Prelude.{slice_get}
 use Rattle.std.proofs.lemmas.List.{drop_all, take_all, take_more, length-map, map-append}
 use Rattle.std.proofs.lemmas.Option.{slice_get_within, get_or_from_slice_get}
 use Rattle.bus_strings.specs.Messages.{Message, Entry, bits}
 use Rattle.bus_strings.specs.Transmissions.{end_of}
 use Rattle.bus_table.specs.Tables.{Sender, Table}
-use Rattle.bus_table.specs.Turns.{Differ, turn_key, turn_order}
-use Rattle.bus_table.proofs.TurnLaws.{at_in, in_at, from_sort, length-sort, numbers_differ}
-use Rattle.bus_table.specs.Valid.{is_valid}
-use Rattle.bus_table.proofs.ValidLaws.{valid_facts}
-use Rattle.bus_schedule.specs.Places.{AreInTurn}
+use Rattle.bus_table.specs.Turns.{turn_key, turn_order}
+use Rattle.bus_table.proofs.TurnLaws.{length-sort}
+use Rattle.bus_schedule.specs.inside.Places.{AreInTurn}
+use Rattle.bus_regime.proofs.GapPlaces.{in_order}
 use Rattle.bus_schedule.specs.Closed.{sends, turns, turns_end}
 use Rattle.bus_schedule.proofs.EndLemmas.{turns_last}
 use Rattle.bus_schedule.proofs.EvenLemmas.{read_sender}
@@ -95,61 +92,19 @@ none_left hands round i order from last list whole all so =
 pub as_long : (table : Table) (places : List ℕ) → AreInTurn table places → length places ≡ length (turn_order table)
 as_long table places h = sym (length-map places (slice_get table.senders)) ∙ ap length h ∙ length-map (turn_order table) Some
 
--- the first sender with the number of one is this one
-first_place : (senders : List Sender) (k : ℕ) (sender : Sender) → Differ (λ s. s.number) senders → slice_get senders k ≡ Some sender
-    → position_or_len (λ s. s.number == sender.number) senders ≡ k
-first_place [] k sender d at = absurd cc
-first_place (s ∷ senders) zero sender d at =
-    let same : s ≡ sender = cc in
-    rw (eq-eqb s.number sender.number (ap (λ (w : Sender). w.number) same)) refl
-first_place (s ∷ senders) (suc k) sender d at = rw (ne_eqb s.number sender.number (d.0 sender (at_in senders k sender at))) (let rest : position_or_len (λ w. w.number == sender.number) senders ≡ k = first_place senders k sender d.1 at in omega arith)
-
--- the sender of a turn stands at the place that its number is found at
-pub record StandsAt (table : Table) (turn number : ℕ) : Type 0 where
-  pub sender : Sender
-  pub place : ℕ
-  pub at : slice_get (turn_order table) turn ≡ Some sender
-  pub there : slice_get table.senders place ≡ Some sender
-  pub found : position (λ s. s.number == number) table.senders ≡ Some place
-
-pub stands_at : (table : Table) (turn number : ℕ) → IsTrue (is_valid table)
-    → IsSomeAnd (slice_get (turn_order table) turn) (λ sender. number ≡ sender.number) → StandsAt table turn number
-stands_at table turn number valid h =
-    named (slice_get (turn_order table) turn) refl h
-  where
-    named : (o : Option Sender) → slice_get (turn_order table) turn ≡ o → IsSomeAnd o (λ sender. number ≡ sender.number) → StandsAt table turn number
-    named None at none = absurd none
-    named (Some sender) at same =
-        let w = in_at table.senders sender (from_sort (turn_key table.mode) table.senders sender (at_in (turn_order table) turn sender at)) in
-        let p = λ (s : Sender). s.number == sender.number in
-        let first : position_or_len p table.senders ≡ w.0 = first_place table.senders w.0 sender (numbers_differ table (valid_facts table valid)) w.1 in
-        let inside : w.0 < length table.senders = slice_get_within table.senders w.0 sender w.1 in
-        let found : position p table.senders ≡ Some w.0 = ap (λ i. cond (nat_lt i (length table.senders)) (Some i) None) first ∙ rw (lt-ltb w.0 (length table.senders) inside) refl in
-        record { sender = sender; place = w.0; at = at; there = w.1; found = ap (λ n. position (λ (s : Sender). s.number == n) table.senders) same ∙ found }
-
-pub is_found : (table : Table) (senders : List Sender) (turn number : ℕ) (found : Option ℕ) → IsTrue (is_valid table) → senders ≡ table.senders
-    → IsSomeAnd (slice_get (turn_order table) turn) (λ sender. number ≡ sender.number)
-    → found ≡ position (λ s. s.number == number) senders → IsSome found
-is_found table senders turn number found valid same h is =
-    let so : StandsAt table turn number = stands_at table turn number valid h in
-    let e : found ≡ Some so.place = is ∙ ap (position (λ (s : Sender). s.number == number)) same ∙ so.found in
-    ap is_some e
-
 -- one place more
-pub place_more : (table : Table) (senders : List Sender) (turn number place : ℕ) (found : Option ℕ) (places places' : List ℕ)
-    → IsTrue (is_valid table) → senders ≡ table.senders → IsSomeAnd (slice_get (turn_order table) turn) (λ sender. number ≡ sender.number)
-    → found ≡ position (λ s. s.number == number) senders → found ≡ Some place → places' ≡ places ++ place ∷ []
+pub place_more : (table : Table) (turn place : ℕ) (places places' : List ℕ) → turn < length table.senders
+    → slice_get (turn_order table) turn ≡ slice_get table.senders place → places' ≡ places ++ place ∷ []
     → map (slice_get table.senders) places ≡ map Some (take turn (turn_order table))
     → map (slice_get table.senders) places' ≡ map Some (take (turn + 1) (turn_order table))
-place_more table senders turn number place found places places' valid same h found_is place_is places_is so =
-    let w : StandsAt table turn number = stands_at table turn number valid h in
-    let both : Some place ≡ Some w.place = sym place_is ∙ found_is ∙ ap (position (λ (s : Sender). s.number == number)) same ∙ w.found in
-    let e : place ≡ w.place = cc in
-    let read : get_or (turn_order table) turn w.sender ≡ w.sender = get_or_from_slice_get (turn_order table) turn w.sender w.sender w.at in
-    let inside : turn < length (turn_order table) = slice_get_within (turn_order table) turn w.sender w.at in
-    let more : take (turn + 1) (turn_order table) ≡ take turn (turn_order table) ++ w.sender ∷ [] = take_more (turn_order table) turn w.sender inside ∙ ap (λ s. take turn (turn_order table) ++ s ∷ []) read in
-    ap (map (slice_get table.senders)) places_is ∙ map-append (slice_get table.senders) places (place ∷ []) ∙ ap (λ l. l ++ slice_get table.senders place ∷ []) so ∙ ap (λ o. map Some (take turn (turn_order table)) ++ o ∷ []) (ap (slice_get table.senders) e ∙ w.there)
-    ∙ sym (map-append Some (take turn (turn_order table)) (w.sender ∷ [])) ∙ ap (map Some) (sym more)
+place_more table turn place places places' less same places_is so =
+    let w = in_order table turn less in
+    let read : get_or (turn_order table) turn w.0 ≡ w.0 = get_or_from_slice_get (turn_order table) turn w.0 w.0 w.1 in
+    let inside : turn < length (turn_order table) = slice_get_within (turn_order table) turn w.0 w.1 in
+    let more : take (turn + 1) (turn_order table) ≡ take turn (turn_order table) ++ w.0 ∷ [] = take_more (turn_order table) turn w.0 inside ∙ ap (λ s. take turn (turn_order table) ++ s ∷ []) read in
+    ap (map (slice_get table.senders)) places_is ∙ map-append (slice_get table.senders) places (place ∷ []) ∙ ap (λ l. l ++ slice_get table.senders place ∷ []) so
+    ∙ ap (λ o. map Some (take turn (turn_order table)) ++ o ∷ []) (sym same ∙ w.1)
+    ∙ sym (map-append Some (take turn (turn_order table)) (w.0 ∷ [])) ∙ ap (map Some) (sym more)
 
 pub places_whole : (table : Table) (places : List ℕ) (turn : ℕ) → length table.senders ≤ turn
     → map (slice_get table.senders) places ≡ map Some (take turn (turn_order table)) → AreInTurn table places

@@ -7,20 +7,20 @@ use Rattle.bus_strings.specs.Messages.{Message}
 use Rattle.bus_table.specs.Tables.{Table, Hand}
 use Rattle.bus_table.specs.Hands.{are_hands}
 
--- the messages of the terminal with this number
+-- The messages of the terminal with this number.
 abbrev pub messages_of : List Hand → ℕ → List Message
 messages_of [] number = []
 messages_of (hand ∷ hands) number = if hand.terminal == number then hand.messages else messages_of hands number
 
--- the message of this round of the terminal with this number, and none behind the last
+-- The message of this round of the terminal with this number, and none behind the last.
 abbrev pub message_in : List Hand → ℕ → ℕ → Message
 message_in hands number round = get_or (messages_of hands number) round []
 
--- how many messages each of some even hands has
+-- How many messages each of some even hands has.
 abbrev pub rounds : List Hand → ℕ
 rounds [] = 0
 rounds (hand ∷ hands) = length hand.messages
 
--- whether there is one hand for each sender in the order of the table, each message fits, and all hands have the same number of messages
+-- Whether there is one hand for each sender in the order of the table, each message fits, and all hands have the same number of messages.
 abbrev pub are_even : Table → List Hand → Bool
 are_even table hands = are_hands table.senders hands && list_all (λ hand. length hand.messages == rounds hands) hands

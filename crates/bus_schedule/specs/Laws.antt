@@ -49,7 +49,7 @@ ClosedEndsInCycles =
     (table : Table) (hands : List Hand) → IsTrue (is_valid table) → table.mode ≡ Aperiodic → IsTrue (are_even table hands)
     → closed_end table hands ≤ rounds hands * most_cycle table
 
--- lawful up to its end, without overlaps
+-- Lawful up to its end, without overlaps.
 pub record IsLawfulToItsEnd (table : Table) (hands : List Hand) (list : List Entry) : Type 0 where
   pub lawful : IsLawful (quiet_of table) (stations_of table hands) (greatest_end list) list
   pub clear : IsClear list
@@ -98,10 +98,11 @@ TheRefusedFail =
     (table : Table) → IsTrue (is_valid table) → is_accepted (verdict_of table) ≡ false
     → Fails table (witness_hands table) (closed table (witness_hands table))
 
--- The hands of a witness are even, and its closed end is within the limit.
+-- The hands of a witness are even.
 abbrev pub WitnessesAreEven : Type 0
 WitnessesAreEven = (table : Table) → IsTrue (is_valid table) → IsTrue (are_even table (witness_hands table))
 
+-- And its closed end is within the limit.
 abbrev pub WitnessesAreShort : Type 0
 WitnessesAreShort = (table : Table) → IsTrue (is_valid table) → closed_end table (witness_hands table) ≤ longest_end
 

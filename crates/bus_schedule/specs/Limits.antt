@@ -3,11 +3,11 @@ use Rattle.std.specs.Prelude.{◌≡◌, ℕ, ◌^◌, ◌<◌, ◌≤◌, Resul
 use Rattle.bus_schedule.specs.declared.error.ScheduleError.{ScheduleError}
 use Rattle.bus_schedule.specs.declared.error.ScheduleError.TheVariants.{Memory, TooLong}
 
--- the longest closed end for which a schedule is given, in bit times: some nine and a half hours. It is this project's profile
+-- The longest closed end for which a schedule is given, in bit times: some nine and a half hours. It is this project's profile.
 abbrev pub longest_end : ℕ
 longest_end = 2 ^ 36
 
--- why a schedule with this closed end is refused
+-- Why a schedule with this closed end is refused.
 abbrev pub IsRefused : ℕ → ScheduleError → Type 0
 -- memory may be refused whatever the end
 IsRefused end Memory = Unit {0}

@@ -11,19 +11,19 @@ use Rattle.bus_table.specs.Tables.{Sender, Table}
 use Rattle.bus_table.specs.Turns.{turn_order}
 use Rattle.bus_schedule.specs.Closed.{gap_schedule}
 
--- the senders of a round, counted from 0, in turn order: those that have more messages than there were rounds before
+-- The senders of a round, counted from 0, in turn order: those that have more messages than there were rounds before.
 abbrev pub live : Table → (ℕ → List Message) → ℕ → List Sender
 live table messages round = filter (λ sender. nat_lt round (length (messages sender.number))) (turn_order table)
 
--- so many rounds of them, by gaps
+-- So many rounds of them, by gaps.
 abbrev pub live_rounds : Table → (ℕ → List Message) → ℕ → List Entry
 live_rounds table messages n = gap_schedule messages table.sg (live table messages) n
 
--- a cycle of these senders with their shortest messages: one synchronization gap, and each sender's terminal gap and message
+-- A cycle of these senders with their shortest messages: one synchronization gap, and each sender's terminal gap and message.
 abbrev pub shortest_cycle : Table → List Sender → ℕ
 shortest_cycle table senders = table.sg + sum_by (λ sender. sender.tg + shortest sender) senders
 
--- each round behind the first that has a sender takes at least one transmit interval from start to start, also with shortest messages
+-- Each round behind the first that has a sender takes at least one transmit interval from start to start, also with shortest messages.
 abbrev pub AreLong : Table → (ℕ → List Message) → Type 0
 AreLong table messages =
     (round : ℕ) → 0 < length (live table messages (suc round)) → table.ti ≤ shortest_cycle table (live table messages (suc round))

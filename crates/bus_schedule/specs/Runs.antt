@@ -14,33 +14,33 @@ use Rattle.bus_regime.specs.Verdicts.{verdict_of}
 use Rattle.bus_schedule.specs.Even.{messages_of, rounds}
 use Rattle.bus_schedule.specs.Closed.{closed, closed_end}
 
--- the transmission at this place of the list is message `round` of the sender
+-- The transmission at this place of the list is message `round` of the sender.
 pub record HasTurn (hands : List Hand) (list : List Entry) (place round : ℕ) (sender : Sender) : Type 0 where
   pub entry : Entry
   pub at : slice_get list place ≡ Some entry
   pub terminal : entry.terminal ≡ sender.number
   pub message : slice_get (messages_of hands sender.number) round ≡ Some entry.message
 
--- every cycle holds each sender once, in turn order, and nothing else: of K senders, entry `round * K + turn` is message `round` of the
--- sender at place `turn`
+-- Every cycle holds each sender once, in turn order, and nothing else: of K senders, entry `round * K + turn` is message `round` of the
+-- sender at place `turn`.
 pub record IsInTurns (table : Table) (hands : List Hand) (list : List Entry) : Type 0 where
   pub whole : length list ≡ rounds hands * length table.senders
   pub turn : (round turn : ℕ) (sender : Sender) → round < rounds hands → slice_get (turn_order table) turn ≡ Some sender →
       HasTurn hands list (round * length table.senders + turn) round sender
 
--- x and y are of one sender, and y starts at least `least` and at most `most` bit times behind x
+-- X and y are of one sender, and y starts at least `least` and at most `most` bit times behind x.
 pub record IsApart (least most : ℕ) (x y : Entry) : Type 0 where
   pub one_sender : x.terminal ≡ y.terminal
   pub no_sooner : x.moment + least ≤ y.moment
   pub no_later : y.moment ≤ x.moment + most
 
--- two successive starts of one sender are as far apart as the numbers say with which the verdict accepts the table: in periodic mode
--- exactly one transmit interval
+-- Two successive starts of one sender are as far apart as the numbers say with which the verdict accepts the table: in periodic mode
+-- exactly one transmit interval.
 pub record IsSpaced (table : Table) (list : List Entry) : Type 0 where
   pub apart : (mode : Mode) (least most k : ℕ) (x y : Entry) → verdict_of table ≡ Accept mode least most → slice_get list k ≡ Some x
       → slice_get list (k + length table.senders) ≡ Some y → IsApart least most x y
 
--- each core of the bus was moved at most n times since it was settled
+-- Each core of the bus was moved at most n times since it was settled.
 abbrev pub HaveMoved : {C : Type 0} → Ghosts C → ℕ → Bus C → Type 0
 HaveMoved {C} core n bus = (k : ℕ) (seat : Seat C) → slice_get bus.seats k ≡ Some seat → core.moves seat.terminal.core ≤ n
 

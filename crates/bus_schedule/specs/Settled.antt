@@ -13,20 +13,20 @@ use Rattle.bus_schedule.specs.Even.{are_even}
 use Rattle.bus_schedule.specs.Closed.{closed, closed_end}
 use Rattle.bus_schedule.specs.Runs.{IsClear}
 
--- up to the closed end of these hands the list is what happens on the bus
+-- Up to the closed end of these hands the list is what happens on the bus.
 abbrev pub Happens : Table → List Hand → List Entry → Type 0
 Happens table hands list = IsLawful (quiet_of table) (stations_of table hands) (closed_end table hands) list
 
--- with these hands the closed schedule is kept: it is what happens, and no two of its transmissions overlap
+-- With these hands the closed schedule is kept: it is what happens, and no two of its transmissions overlap.
 pub record IsKept (table : Table) (hands : List Hand) : Type 0 where
   pub lawful : Happens table hands (closed table hands)
   pub clear : IsClear (closed table hands)
 
--- a table is settled where that is so with all even hands, of any length
+-- A table is settled where that is so with all even hands, of any length.
 abbrev pub IsSettled : Table → Type 0
 IsSettled table = (hands : List Hand) → IsTrue (are_even table hands) → IsKept table hands
 
--- one transmission of the list overlaps one behind it
+-- One transmission of the list overlaps one behind it.
 pub record HasOverlap (list : List Entry) : Type 0 where
   pub first : ℕ
   pub second : ℕ
@@ -37,10 +37,10 @@ pub record HasOverlap (list : List Entry) : Type 0 where
   pub other_at : slice_get list second ≡ Some other
   pub overlap : overlaps one other ≡ true
 
--- with these hands the list isn't what happens, or two of its transmissions overlap
+-- With these hands the list isn't what happens, or two of its transmissions overlap.
 abbrev pub Fails : Table → List Hand → List Entry → Type 0
 Fails table hands list = (Happens table hands list → ⊥) ⊎ HasOverlap list
 
--- the hands of the witness
+-- The hands of the witness.
 abbrev pub witness_hands : Table → List Hand
 witness_hands table = hands_of table (witness_of table)

@@ -1,3 +1,4 @@
+//! Where the closed schedule ends.
 ghost use Rattle.std.specs.Prelude.{◌≡◌, ◌+◌, ◌^◌, ◌<◌, ◌≤◌, [], get_or, max, IsTrue, IfOk};
 ghost use Rattle.std.specs.List.{sum_by};
 ghost use Rattle.bus_strings.specs.Marking.{greatest_end};

@@ -1,3 +1,4 @@
+//! Why no schedule is given, and the limit on its end.
 ghost use Rattle.bus_schedule.specs.declared.error.ScheduleError.TheVariants.{Memory};
 ghost use Rattle.std.specs.Prelude.{◌≡◌};
 

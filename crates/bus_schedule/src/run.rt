@@ -1,3 +1,4 @@
+//! The run of a bus from the settled start to the closed end.
 ghost use Rattle.std.specs.Prelude.{◌≡◌, ◌+◌, ◌*◌, IsTrue, IfOk};
 ghost use Rattle.bus_medium.specs.Buses.{stations, StandsAt};
 ghost use Rattle.bus_medium.specs.Edges.{strings_sent};

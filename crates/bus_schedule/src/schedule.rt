@@ -1,3 +1,4 @@
+//! The list of the closed schedule.
 ghost use Rattle.std.specs.Prelude.{◌≡◌, ◌+◌, ◌<◌, ◌≤◌, ◌++◌, ◌∷◌, [], false, IsTrue, IfOk, IfErr, OnOk};
 ghost use Rattle.bus_strings.specs.Limits.{horizon_limit};
 ghost use Rattle.bus_strings.specs.Marking.{greatest_end};
@@ -7,7 +8,7 @@ ghost use Rattle.bus_table.specs.declared.mode.Mode.TheVariants.{Aperiodic, Peri
 ghost use Rattle.bus_table.specs.Turns.{turn_order};
 ghost use Rattle.bus_schedule.specs.Even.{are_even, messages_of, rounds};
 ghost use Rattle.bus_schedule.specs.Closed.{sent_at, turns, turns_end, offset_turns, closed, closed_end};
-ghost use Rattle.bus_schedule.specs.Places.{AreInTurn};
+ghost use Rattle.bus_schedule.specs.inside.Places.{AreInTurn};
 ghost use Rattle.bus_schedule.specs.Limits.{longest_end, IsLimited};
 ghost use Rattle.bus_schedule.specs.Settled.{Fails, witness_hands};
 ghost use Rattle.bus_schedule.specs.declared.error.ScheduleError.TheVariants.{Memory};

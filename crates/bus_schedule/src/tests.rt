@@ -1,3 +1,4 @@
+//! Closed schedules of small tables, and the runs that follow them.
 ghost use Rattle.std.specs.Prelude.{IfOk, IsTrue};
 ghost use Rattle.bus_schedule.specs.Even.{are_even};
 

@@ -1,3 +1,4 @@
+//! Whether hands are even.
 ghost use Rattle.std.specs.Prelude.{◌≡◌, ◌↔◌, IsNone, IsTrue};
 ghost use Rattle.bus_table.specs.Hands.{are_hands};
 ghost use Rattle.bus_schedule.specs.Even.{are_even};
