@@ -13,7 +13,7 @@ use Rattle.bus_terminal.specs.Terminals.{Terminal}
 use Rattle.bus_medium.specs.Past.{past, own, last_place}
 use Rattle.bus_medium.specs.Lawful.{Station, HaveOwnNumbers, HasEntry, IsDue, IsLawfulTo}
 use Rattle.bus_medium.specs.Buses.{Seat, station_of, number_of}
-use Rattle.bus_medium.specs.Following.{Follows, FollowsAt, AllFollow, AllHaveRoom, Started, Idle}
+use Rattle.bus_medium.specs.inside.Following.{Follows, FollowsAt, AllFollow, AllHaveRoom, Started, Idle}
 use Rattle.bus_medium.specs.Orders.{IsByNumber, AreNumbers}
 use Rattle.bus_medium.proofs.PastLaws.{length_past, past_push, own_later, own_push, own_push_other}
 use Rattle.bus_medium.proofs.Steps.{not_yet, lawful_idle, lawful_start, lawful_next}

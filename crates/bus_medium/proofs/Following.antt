@@ -21,7 +21,7 @@ use Rattle.bus_terminal.proofs.JumpLaws.{steady_within}
 use Rattle.bus_terminal.proofs.SendingLaws.{sending_is_not_ready}
 use Rattle.bus_medium.specs.Past.{past, own, last_place}
 use Rattle.bus_medium.specs.Buses.{last_of, running_at}
-use Rattle.bus_medium.specs.Following.{Running, Follows}
+use Rattle.bus_medium.specs.inside.Following.{Running, Follows}
 use Rattle.bus_strings.proofs.MemberLaws.{any_in, in_push_cases, in_push}
 use Rattle.bus_medium.proofs.PastLaws.{length_past, past_at, pulses_on, pulses_begun, from_own, last_push}
 

@@ -5,8 +5,8 @@ use Rattle.std.proofs.lemmas.List.{append-nil}
 use Rattle.bus_timers.specs.declared.cores.Core.{Ghosts}
 use Rattle.bus_strings.specs.Messages.{Entry}
 use Rattle.bus_medium.specs.Buses.{Seat}
-use Rattle.bus_medium.specs.Following.{Idle, Started}
-use Rattle.bus_medium.specs.Runs.{Grown}
+use Rattle.bus_medium.specs.inside.Following.{Idle, Started}
+use Rattle.bus_medium.specs.inside.Runs.{Grown}
 use Rattle.bus_strings.proofs.MemberLaws.{in_push_cases}
 
 pub grown_none : (t : ℕ) (l : List Entry) → Grown t l l

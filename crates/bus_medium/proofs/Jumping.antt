@@ -22,10 +22,11 @@ use Rattle.bus_terminal.proofs.JumpLaws.{steady_within}
 use Rattle.bus_medium.specs.Past.{past, own, last_place}
 use Rattle.bus_medium.specs.Lawful.{Station, HasEntry, IsDue, IsBefore, IsLawfulTo}
 use Rattle.bus_medium.specs.Buses.{Seat, station_of, number_of}
-use Rattle.bus_medium.specs.Following.{Running, Follows, FollowsAt, AllFollow}
+use Rattle.bus_medium.specs.inside.Following.{Running, Follows, FollowsAt, AllFollow}
 use Rattle.bus_medium.specs.Edges.{edges_by}
-use Rattle.bus_medium.specs.Jumps.{Each, PassedMany, Lasts, AllStay, AllLast, SomeEnds}
-use Rattle.bus_medium.specs.Runs.{Grown, Counted}
+use Rattle.bus_medium.specs.Jumps.{Each}
+use Rattle.bus_medium.specs.inside.Lasting.{PassedMany, Lasts, AllStay, AllLast, SomeEnds}
+use Rattle.bus_medium.specs.inside.Runs.{Grown, Counted}
 use Rattle.bus_strings.proofs.MemberLaws.{in_append_cases}
 use Rattle.bus_medium.proofs.PastLaws.{own_after, length_past, past_at, past_push, pulses_on, in_own, from_own, own_push_other}
 use Rattle.bus_medium.proofs.Following.{running_not_may, follows_later}

@@ -17,10 +17,11 @@ use Rattle.bus_terminal.specs.Jumps.{IsSteady}
 use Rattle.bus_medium.specs.Past.{past}
 use Rattle.bus_medium.specs.Lawful.{IsLawfulTo}
 use Rattle.bus_medium.specs.Buses.{Seat, station_of, number_of, seat_sounds}
-use Rattle.bus_medium.specs.Following.{AllHaveRoom}
+use Rattle.bus_medium.specs.inside.Following.{AllHaveRoom}
 use Rattle.bus_medium.specs.Edges.{edges_by}
-use Rattle.bus_medium.specs.Jumps.{Each, Moved, PassedMany, AllStay, AllLast, SomeEnds}
-use Rattle.bus_medium.specs.Runs.{RunsTo, Decided, Reached, Counted, Stretched, moves_of}
+use Rattle.bus_medium.specs.Jumps.{Each, Moved}
+use Rattle.bus_medium.specs.inside.Lasting.{PassedMany, AllStay, AllLast, SomeEnds}
+use Rattle.bus_medium.specs.inside.Runs.{RunsTo, Decided, Reached, Counted, Stretched, moves_of}
 use Rattle.bus_medium.proofs.Seats.{get_within, map_at}
 use Rattle.bus_medium.proofs.Carrier.{carrier_is}
 use Rattle.bus_medium.proofs.Jumping.{carrier_steady, past_steady, all_later, lawful_within, stretch_some, counted_decided, counted_later}

@@ -7,10 +7,10 @@ use Rattle.bus_strings.specs.Messages.{Entry}
 use Rattle.bus_medium.specs.Past.{past, own}
 use Rattle.bus_medium.specs.Lawful.{HaveOwnNumbers, IsLawfulTo, IsLawful}
 use Rattle.bus_medium.specs.Buses.{Seat, station_of, number_of, SeatStands, StandsAt}
-use Rattle.bus_medium.specs.Following.{FollowsAt}
+use Rattle.bus_medium.specs.inside.Following.{FollowsAt}
 use Rattle.bus_medium.specs.Edges.{edges_by, strings_sent}
 use Rattle.bus_medium.specs.Jumps.{Moved}
-use Rattle.bus_medium.specs.Runs.{Reached, Counted, Stretched}
+use Rattle.bus_medium.specs.inside.Runs.{Reached, Counted, Stretched}
 use Rattle.bus_medium.proofs.Steps.{lawful_none, lawful_whole}
 use Rattle.bus_medium.proofs.Steps.{lawful_once}
 use Rattle.bus_medium.proofs.Following.{running_is}

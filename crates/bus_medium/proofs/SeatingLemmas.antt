@@ -13,7 +13,7 @@ use Rattle.bus_table.specs.Hands.{are_hands}
 use Rattle.bus_medium.specs.Timings.{quiet_of, timing_of, stations_of}
 use Rattle.bus_medium.specs.Lawful.{Station}
 use Rattle.bus_medium.specs.Buses.{Seat, station_of, number_of, StandsAt}
-use Rattle.bus_medium.specs.Seating.{Seated, IsSeated}
+use Rattle.bus_medium.specs.inside.Seating.{Seated, IsSeated}
 use Rattle.bus_strings.proofs.MemberLaws.{at_in, of_each}
 
 -- the station of a sender with its hand

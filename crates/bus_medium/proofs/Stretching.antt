@@ -9,7 +9,8 @@ use Rattle.bus_timers.specs.declared.cores.Core.{Ghosts}
 use Rattle.bus_terminal.specs.Terminals.{last_begun}
 use Rattle.bus_terminal.specs.Jumps.{IsSteady}
 use Rattle.bus_medium.specs.Buses.{Seat}
-use Rattle.bus_medium.specs.Jumps.{Each, Lasts, Until, AllLast, SomeEnds}
+use Rattle.bus_medium.specs.Jumps.{Each}
+use Rattle.bus_medium.specs.inside.Lasting.{Lasts, Until, AllLast, SomeEnds}
 use Rattle.bus_medium.proofs.Seats.{get_set_same, get_set_other, same_some}
 
 -- R holds of the elements at the first i places, and the others are as before

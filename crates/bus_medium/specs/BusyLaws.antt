@@ -11,35 +11,35 @@ use Rattle.bus_strings.specs.Messages.{Entry}
 use Rattle.bus_strings.specs.Transmissions.{carrier, end_of}
 use Rattle.bus_medium.specs.Past.{past}
 
--- at one of five bit times from k on there is carrier
+-- At one of five bit times from k on there is carrier.
 pub record Heard (l : List Entry) (k : ℕ) : Type 0 where
   pub at : ℕ
   pub low : k ≤ at
   pub high : at ≤ k + 4
   pub on : carrier l at ≡ true
 
--- the bus is busy from moment a to moment b
+-- The bus is busy from moment a to moment b.
 pub record IsBusy (l : List Entry) (a b : ℕ) : Type 0 where
   pub some : a < b
   pub first : carrier l a ≡ true
   pub final : carrier l (b - 1) ≡ true
   pub soon : (k : ℕ) → a ≤ k → k + 4 < b → Heard l k
 
--- it is so while a transmission lasts, whatever else is sent meanwhile
+-- It is so while a transmission lasts, whatever else is sent meanwhile.
 abbrev pub EntryIsBusy : Type 0
 EntryIsBusy = (l : List Entry) (x : Entry) → In x l → 0 < length x.message → IsBusy l x.moment (end_of x)
 
--- the stretch puts the place from which the terminal gap counts right behind it, where the synchronization gap had elapsed
+-- The stretch puts the place from which the terminal gap counts right behind it, where the synchronization gap had elapsed.
 abbrev pub BusyElapsed : Type 0
 BusyElapsed = (q : ℕ) (l : List Entry) (sg : ℕ) (last : Option ℕ) (a b g : ℕ) → 5 ≤ sg → IsBusy l a b → GapFrom sg (past q l a) last g
     → g ≤ q + a → GapFrom sg (past q l b) last (q + b)
 
--- and one synchronization gap behind it, where it had not
+-- And one synchronization gap behind it, where it had not.
 abbrev pub BusyWaiting : Type 0
 BusyWaiting = (q : ℕ) (l : List Entry) (sg : ℕ) (last : Option ℕ) (a b g : ℕ) → 5 ≤ sg → IsBusy l a b → GapFrom sg (past q l a) last g
     → q + a < g → GapFrom sg (past q l b) last (q + b + sg)
 
--- behind its first bit time and before its end nobody may start
+-- Behind its first bit time and before its end nobody may start.
 abbrev pub BusyNobody : Type 0
 BusyNobody = (q : ℕ) (l : List Entry) (timing : Timing) (last : Option ℕ) (a b u : ℕ) → IsSound timing → IsBusy l a b → a < u → u < b
     → MayStart timing (past q l u) last → ⊥

@@ -4,20 +4,20 @@ use Rattle.std.specs.List.{sum_by, range_with_len}
 use Rattle.bus_strings.specs.Messages.{Message, Entry}
 use Rattle.bus_strings.specs.Pulses.{pulse_start, pulse_length}
 
--- the wordstrings sent
+-- The wordstrings sent.
 unfoldable pub strings_sent : List Entry → ℕ
 strings_sent list = sum_by (λ x. length x.message) list
 
--- how many edges of pulse k of the message have come at its bit time d: its beginning, and its end
+-- How many edges of pulse k of the message have come at its bit time d: its beginning, and its end.
 abbrev pub edges_of_pulse : Message → ℕ → ℕ → ℕ
 edges_of_pulse message d k =
     (if nat_le (pulse_start message k) d then 1 else 0)
     + (if nat_le (pulse_start message k + pulse_length message k) d then 1 else 0)
 
--- how many edges of the message have come at its bit time d
+-- How many edges of the message have come at its bit time d.
 unfoldable pub edges_of : Message → ℕ → ℕ
 edges_of message d = sum_by (edges_of_pulse message d) (range_with_len 0 (length message))
 
--- how many edges of the transmissions of a list have come at moment t, where each has begun by then
+-- How many edges of the transmissions of a list have come at moment t, where each has begun by then.
 unfoldable pub edges_by : List Entry → ℕ → ℕ
 edges_by list t = sum_by (λ x. edges_of x.message (t - x.moment)) list

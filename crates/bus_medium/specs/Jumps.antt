@@ -1,72 +1,13 @@
--- Stretches of the bus, in which the carrier stays as it is and nobody begins.
-use Rattle.std.specs.Prelude.{◌≡◌, ℕ, ◌+◌, ◌<◌, ◌≤◌, ◌⊎◌, ◌++◌, Bool, false, not, List, length, replicate, slice_get, Option, Some, None}
-use Rattle.bus_timers.specs.declared.timing.Timing.{Timing}
+-- How often the cores of a bus were moved.
+use Rattle.std.specs.Prelude.{◌≡◌, ℕ, ◌+◌, ◌≤◌, List, length, slice_get, Some}
 use Rattle.bus_timers.specs.declared.cores.Core.{Ghosts}
-use Rattle.bus_timers.specs.MayStart.{MayStart}
-use Rattle.bus_strings.specs.Pulses.{is_on}
-use Rattle.bus_terminal.specs.Terminals.{last_begun}
-use Rattle.bus_terminal.specs.Jumps.{StaysFor, IsFree, with_passed_many}
 use Rattle.bus_medium.specs.Buses.{Seat}
 
--- R holds of the elements at each place of two lists of one length
+-- R holds of the elements at each place of two lists of one length.
 pub record Each {X : Type 0} (R : X → X → Type 0) (xs ys : List X) : Type 0 where
   pub same_length : length ys ≡ length xs
   pub each : (j : ℕ) (x y : X) → slice_get xs j ≡ Some x → slice_get ys j ≡ Some y → R x y
 
--- each core was moved at most n times
+-- Each core was moved at most n times.
 abbrev pub Moved : {C : Type 0} → Ghosts C → ℕ → List (Seat C) → List (Seat C) → Type 0
 Moved core n xs ys = Each (λ x y. core.moves y.terminal.core ≤ core.moves x.terminal.core + n) xs ys
-
--- the sender was passed n bit times, in one move
-pub record PassedMany {C : Type 0} (core : Ghosts C) (carrier : Bool) (n : ℕ) (x y : Seat C) : Type 0 where
-  pub told : (timing : Timing) (past : List Bool) (last : Option ℕ) → core.stands x.terminal.core timing past last
-      → core.stands y.terminal.core timing (past ++ replicate n carrier) last
-  pub timing : y.timing ≡ x.timing
-  pub terminal : y.terminal ≡ with_passed_many x.terminal n y.terminal.core
-  pub room : core.room x.terminal.core ≤ core.room y.terminal.core + n
-  pub moves : core.moves y.terminal.core ≤ core.moves x.terminal.core + 1
-
--- for n bit times with this carrier throughout the sender changes nothing: what runs stays on or quiet, and on a quiet bus it may not start
-pub record Lasts {C : Type 0} (core : Ghosts C) (carrier : Bool) (n : ℕ) (x : Seat C) : Type 0 where
-  pub stays : StaysFor x.terminal n
-  pub waits : carrier ≡ false → IsFree x.terminal
-      → (timing : Timing) (past : List Bool) (last : Option ℕ) → core.stands x.terminal.core timing past last
-      → (k : ℕ) → k < n → MayStart timing (past ++ replicate k false) last → ⊥
-
--- behind n bit times what runs changes
-pub record Changes {C : Type 0} (n : ℕ) (x : Seat C) : Type 0 where
-  pub place : ℕ
-  pub runs : x.terminal.running ≡ Some place
-  pub changes : is_on (last_begun x.terminal.hand x.terminal.sent) (place + n) ≡ not
-      (is_on (last_begun x.terminal.hand x.terminal.sent) place)
-
--- behind n bit times of a quiet bus the sender may start
-pub record Wakes {C : Type 0} (core : Ghosts C) (carrier : Bool) (n : ℕ) (x : Seat C) : Type 0 where
-  pub quiet : carrier ≡ false
-  pub free : IsFree x.terminal
-  pub may : (timing : Timing) (past : List Bool) (last : Option ℕ) → core.stands x.terminal.core timing past last
-      → MayStart timing (past ++ replicate n false) last
-
--- behind n bit times the sender changes something
-abbrev pub Ends : {C : Type 0} → Ghosts C → Bool → ℕ → Seat C → Type 0
-Ends core carrier n x = Changes n x ⊎ Wakes core carrier n x
-
--- how long the sender changes nothing, if it ever does
-abbrev pub Until : {C : Type 0} → Ghosts C → Bool → Seat C → Option ℕ → Type 0
-Until core carrier x None = (n : ℕ) → Lasts core carrier n x
-Until core carrier x (Some n) = Lasts core carrier n x × Ends core carrier n x
-
--- what runs of any sender stays as it is for n bit times
-abbrev pub AllStay : {C : Type 0} → ℕ → List (Seat C) → Type 0
-AllStay {C} n seats = (j : ℕ) (x : Seat C) → slice_get seats j ≡ Some x → StaysFor x.terminal n
-
--- no sender changes anything for n bit times with this carrier
-abbrev pub AllLast : {C : Type 0} → Ghosts C → Bool → ℕ → List (Seat C) → Type 0
-AllLast {C} core carrier n seats = (j : ℕ) (x : Seat C) → slice_get seats j ≡ Some x → Lasts core carrier n x
-
--- some sender changes something behind them
-pub record SomeEnds {C : Type 0} (core : Ghosts C) (carrier : Bool) (n : ℕ) (seats : List (Seat C)) : Type 0 where
-  pub place : ℕ
-  pub seat : Seat C
-  pub at : slice_get seats place ≡ Some seat
-  pub ends : Ends core carrier n seat

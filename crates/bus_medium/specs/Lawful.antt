@@ -10,29 +10,29 @@ use Rattle.bus_strings.specs.Messages.{Message, Entry}
 use Rattle.bus_strings.specs.Transmissions.{IsAscending}
 use Rattle.bus_medium.specs.Past.{past, own, last_place}
 
--- what the rules read of a sender: its number, its timing and the messages of its hand
+-- What the rules read of a sender: its number, its timing and the messages of its hand.
 pub record Station : Type 0 where
   pub number : ℕ
   pub timing : Timing
   pub hand : List Message
 
--- no two senders have the same number
+-- No two senders have the same number.
 abbrev pub HaveOwnNumbers : List Station → Type 0
 HaveOwnNumbers stations = (a b : Station) → In a stations → In b stations → a.number ≡ b.number → a ≡ b
 
--- the list has a transmission of the terminal with this number that starts at moment t
+-- The list has a transmission of the terminal with this number that starts at moment t.
 pub record HasEntry (list : List Entry) (number t : ℕ) : Type 0 where
   pub entry : Entry
   pub there : In entry list
   pub moment : entry.moment ≡ t
   pub terminal : entry.terminal ≡ number
 
--- at moment t, after the past that the list makes, the sender may start and has a message left
+-- At moment t, after the past that the list makes, the sender may start and has a message left.
 pub record IsDue (quiet : ℕ) (list : List Entry) (sender : Station) (t : ℕ) : Type 0 where
   pub may : MayStart sender.timing (past quiet list t) (last_place quiet (own list sender.number t))
   pub left : length (own list sender.number t) < length sender.hand
 
--- the transmission is of a sender, and its message is the next of that sender's hand
+-- The transmission is of a sender, and its message is the next of that sender's hand.
 pub record IsNext (stations : List Station) (list : List Entry) (x : Entry) : Type 0 where
   pub sender : Station
   pub there : In sender stations
@@ -52,7 +52,7 @@ pub record IsRuled (due : List Entry → Station → ℕ → Type 0) (stations :
 abbrev pub IsLawful : ℕ → List Station → ℕ → List Entry → Type 0
 IsLawful quiet = IsRuled (IsDue quiet)
 
--- a moment comes before another, or is it, and then a terminal's number comes before another
+-- A moment comes before another, or is it, and then a terminal's number comes before another.
 abbrev pub IsBefore : ℕ → ℕ → ℕ → ℕ → Type 0
 IsBefore moment number other_moment other_number = (moment < other_moment) ⊎ ((moment ≡ other_moment) × (number < other_number))
 

@@ -10,30 +10,30 @@ use Rattle.bus_medium.specs.Lawful.{Station, HaveOwnNumbers, IsLawful, IsLawfulT
 use Rattle.bus_medium.specs.LawfulList.{lawful_list}
 use Rattle.bus_medium.specs.Timings.{quiet_of, stations_of}
 
--- there is one lawful list at most
+-- There is one lawful list at most.
 abbrev pub OneLawfulList : Type 0
 OneLawfulList =
     (quiet : ℕ) (stations : List Station) (horizon : ℕ) (list other : List Entry) → HaveOwnNumbers stations
     → IsLawful quiet stations horizon list → IsLawful quiet stations horizon other → list ≡ other
 
--- there is one, where no two senders have the same number
+-- There is one, where no two senders have the same number.
 abbrev pub ThereIsALawfulList : Type 0
 ThereIsALawfulList = (quiet : ℕ) (stations : List Station) (horizon : ℕ) → HaveOwnNumbers stations → (list : List Entry)
     × IsLawful quiet stations horizon list
 
--- it is the one that is computed
+-- It is the one that is computed.
 abbrev pub TheComputedList : Type 0
 TheComputedList = (quiet : ℕ) (stations : List Station) (horizon : ℕ) → HaveOwnNumbers stations
     → IsLawful quiet stations horizon (lawful_list quiet stations horizon)
 
--- every valid table, with a hand for each of its senders, has exactly one lawful list for each horizon
+-- Every valid table, with a hand for each of its senders, has exactly one lawful list for each horizon.
 abbrev pub OneListOfATable : Type 0
 OneListOfATable =
     (table : Table) (hands : List Hand) (horizon : ℕ) → IsTrue (is_valid table) → IsTrue (are_hands table.senders hands)
     → (list : List Entry) × IsLawful (quiet_of table) (stations_of table hands) horizon list
     × ((other : List Entry) → IsLawful (quiet_of table) (stations_of table hands) horizon other → other ≡ list)
 
--- a list that is lawful for all moments before the horizon is lawful for it
+-- A list that is lawful for all moments before the horizon is lawful for it.
 abbrev pub LawfulToHorizon : Type 0
 LawfulToHorizon = (quiet : ℕ) (stations : List Station) (horizon : ℕ) (list : List Entry) → IsLawfulTo quiet stations horizon 0 list
     → IsLawful quiet stations horizon list

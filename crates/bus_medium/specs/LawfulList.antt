@@ -9,13 +9,13 @@ use Rattle.bus_medium.specs.Lawful.{Station}
 use Rattle.bus_medium.specs.Delays.{Delays, heard}
 use Rattle.bus_medium.specs.Wakes.{Wakes, woken_past, woken_place}
 
--- whether the sender is due at moment t
+-- Whether the sender is due at moment t.
 abbrev pub is_due : ℕ → List Entry → Station → ℕ → Bool
 is_due quiet list sender t =
     may_start sender.timing (past quiet list t) (last_place quiet (own list sender.number t))
     && nat_lt (length (own list sender.number t)) (length sender.hand)
 
--- the next message of the sender, begun at moment t
+-- The next message of the sender, begun at moment t.
 abbrev pub next_entry : List Entry → Station → ℕ → Entry
 next_entry list sender t = record {
   moment = t;
@@ -24,11 +24,11 @@ next_entry list sender t = record {
       (length (own list sender.number t)) [];
 }
 
--- the sender with this number
+-- The sender with this number.
 abbrev pub with_number : List Station → ℕ → Option Station
 with_number stations number = find (λ sender. sender.number == number) stations
 
--- a number above those of all senders
+-- A number above those of all senders.
 abbrev pub above : List Station → ℕ
 above [] = 0
 above (sender ∷ stations) = max (sender.number + 1) (above stations)

@@ -12,9 +12,7 @@ pub mod Stretches
 pub mod Clocks
 pub mod Timings
 pub mod Buses
-pub mod Following
 pub mod Orders
-pub mod Seating
 pub mod Edges
 pub mod Jumps
-pub mod Runs
+pub mod inside

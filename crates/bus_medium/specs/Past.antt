@@ -8,16 +8,16 @@ use Rattle.bus_strings.specs.Messages.{Entry}
 use Rattle.bus_strings.specs.Members.{In}
 use Rattle.bus_strings.specs.Transmissions.{carrier, end_of}
 
--- the past at moment t: the quiet before the settled start, and then the carrier of each bit time up to t
+-- The past at moment t: the quiet before the settled start, and then the carrier of each bit time up to t.
 abbrev pub past : ℕ → List Entry → ℕ → List Bool
 past quiet list zero = replicate quiet false
 past quiet list (suc t) = past quiet list t ++ carrier list t ∷ []
 
--- the transmissions of the terminal with this number that start before moment t
+-- The transmissions of the terminal with this number that start before moment t.
 abbrev pub own : List Entry → ℕ → ℕ → List Entry
 own list number t = filter (λ x. x.terminal == number && nat_lt x.moment t) list
 
--- the place in the past at which the last of these starts
+-- The place in the past at which the last of these starts.
 abbrev pub last_place : ℕ → List Entry → Option ℕ
 last_place quiet list = fold (λ _ x. Some (quiet + x.moment)) None list
 

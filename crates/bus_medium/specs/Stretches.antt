@@ -12,19 +12,19 @@ use Rattle.bus_strings.specs.Pulses.{is_on}
 use Rattle.bus_medium.specs.Past.{own}
 use Rattle.bus_medium.specs.Lawful.{Station, HaveOwnNumbers, IsDue, IsLawfulTo}
 
--- the past, and then the first d bit times of a message
+-- The past, and then the first d bit times of a message.
 abbrev pub during : List Bool → Message → ℕ → List Bool
 during heard message zero = heard
 during heard message (suc d) = during heard message d ++ is_on message d ∷ []
 
--- a list that is lawful up to moment t stays so over a stretch of n bit times in which nobody is due
+-- A list that is lawful up to moment t stays so over a stretch of n bit times in which nobody is due.
 abbrev pub IdleStretch : Type 0
 IdleStretch =
     (quiet : ℕ) (stations : List Station) (t n : ℕ) (list : List Entry) → IsLawfulTo quiet stations t 0 list
     → ((u : ℕ) (sender : Station) → t ≤ u → u < t + n → In sender stations → IsDue quiet list sender u → ⊥)
     → IsLawfulTo quiet stations (t + n) 0 list
 
--- a list that is lawful up to the moment of one more transmission stays so with it, where its sender alone is due then
+-- A list that is lawful up to the moment of one more transmission stays so with it, where its sender alone is due then.
 abbrev pub LoneStart : Type 0
 LoneStart =
     (quiet : ℕ) (stations : List Station) (list : List Entry) (sender : Station) (x : Entry) → HaveOwnNumbers stations
@@ -33,26 +33,26 @@ LoneStart =
     → x.terminal ≡ sender.number → slice_get sender.hand (length (own list sender.number x.moment)) ≡ Some x.message
     → IsLawfulTo quiet stations (x.moment + 1) 0 (list ++ x ∷ [])
 
--- for the timers a whole message is as good as carrier on each of its bit times: it puts the place from which the terminal gap counts
--- where that carrier would
+-- For the timers a whole message is as good as carrier on each of its bit times: it puts the place from which the terminal gap counts
+-- where that carrier would.
 abbrev pub MessageIsCarrier : Type 0
 MessageIsCarrier =
     (sg : ℕ) (heard : List Bool) (last : Option ℕ) (message : Message) (g h : ℕ) → 5 ≤ sg → 0 < length message → GapFrom sg heard last g
     → GapFrom sg (during heard message (bits message)) last h ↔ GapFrom sg (heard ++ replicate (bits message) true) last h
 
--- once the synchronization gap has elapsed, a message puts the place right behind it
+-- Once the synchronization gap has elapsed, a message puts the place right behind it.
 abbrev pub MessageElapsed : Type 0
 MessageElapsed =
     (sg : ℕ) (heard : List Bool) (last : Option ℕ) (message : Message) (g : ℕ) → 5 ≤ sg → 0 < length message → GapFrom sg heard last g
     → g ≤ length heard → GapFrom sg (during heard message (bits message)) last (length heard + bits message)
 
--- before that, a message puts the place one synchronization gap behind it
+-- Before that, a message puts the place one synchronization gap behind it.
 abbrev pub MessageWaiting : Type 0
 MessageWaiting =
     (sg : ℕ) (heard : List Bool) (last : Option ℕ) (message : Message) (g : ℕ) → 5 ≤ sg → 0 < length message → GapFrom sg heard last g
     → length heard < g → GapFrom sg (during heard message (bits message)) last (length heard + bits message + sg)
 
--- behind the first bit time of a message, and up to its last, nobody may start
+-- Behind the first bit time of a message, and up to its last, nobody may start.
 abbrev pub NoStartDuring : Type 0
 NoStartDuring =
     (timing : Timing) (heard : List Bool) (last : Option ℕ) (message : Message) (d : ℕ) → IsSound timing → 1 ≤ d → d < bits message

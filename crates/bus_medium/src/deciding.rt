@@ -1,9 +1,9 @@
 ghost use Rattle.std.specs.Prelude.{◌≡◌, ◌<◌, ◌≤◌, map, Option, IfOk, OnOk, MatchOption};
 ghost use Rattle.bus_strings.specs.Limits.{horizon_limit, most_terminal};
 ghost use Rattle.bus_medium.specs.Buses.{number_of};
-ghost use Rattle.bus_medium.specs.Following.{Idle, Started};
+ghost use Rattle.bus_medium.specs.inside.Following.{Idle, Started};
 ghost use Rattle.bus_medium.specs.Orders.{IsRoster};
-ghost use Rattle.bus_medium.specs.Runs.{RunsTo, Decided};
+ghost use Rattle.bus_medium.specs.inside.Runs.{RunsTo, Decided};
 
 use crate::note::note;
 use crate::seat::Seat;

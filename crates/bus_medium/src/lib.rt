@@ -3,8 +3,8 @@
 //! [`Bus`] is settled of a table and the hands of its senders, over any [`bus_timers::Core`], and observed up to a
 //! horizon, bit time for bit time; over a [`bus_timers::JumpCore`] also by jumps, from change to change of the carrier.
 //! Both give the lawful list (`specs/Lawful.antt`): a sender starts exactly where its timers allow and it has a message
-//! left, after the past that the list itself makes (`specs/Past.antt`). `specs/Runs.antt` says what a run knows from
-//! moment to moment, `specs/Jumps.antt` what a stretch is, and `specs/Edges.antt` what bounds their number.
+//! left, after the past that the list itself makes (`specs/Past.antt`). `specs/inside/Runs.antt` says what a run knows from
+//! moment to moment, `specs/inside/Lasting.antt` what a stretch is, and `specs/Edges.antt` what bounds their number.
 //! [`timings`] has the timings of a table's senders.
 //!
 //! [`laws`] has what follows of the definitions: every valid table with its hands has exactly one lawful list

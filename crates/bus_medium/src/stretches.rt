@@ -5,10 +5,11 @@ ghost use Rattle.bus_strings.specs.Messages.{Entry};
 ghost use Rattle.bus_medium.specs.Lawful.{IsLawful};
 ghost use Rattle.bus_medium.specs.Buses.{station_of, number_of, seat_sounds, StandsAt};
 ghost use Rattle.bus_medium.specs.Edges.{strings_sent};
-ghost use Rattle.bus_medium.specs.Following.{AllHaveRoom};
-ghost use Rattle.bus_medium.specs.Jumps.{Each, Moved, PassedMany, Lasts, Until, AllLast, SomeEnds};
+ghost use Rattle.bus_medium.specs.inside.Following.{AllHaveRoom};
+ghost use Rattle.bus_medium.specs.Jumps.{Each, Moved};
+ghost use Rattle.bus_medium.specs.inside.Lasting.{PassedMany, Lasts, Until, AllLast, SomeEnds};
 ghost use Rattle.bus_medium.specs.Orders.{IsRoster};
-ghost use Rattle.bus_medium.specs.Runs.{RunsTo, Stretched};
+ghost use Rattle.bus_medium.specs.inside.Runs.{RunsTo, Stretched};
 
 use crate::bit_times::any_on;
 use crate::deciding::{Roster, decide_all};

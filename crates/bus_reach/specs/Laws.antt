@@ -66,7 +66,7 @@ ShorterIsBorne = (table : Table) (less most : ℕ) → table.mode ≡ Aperiodic 
 -- The growing schedule is what the senders do:
 --   lawful    each sender starts exactly when its three timers allow after what it heard, up to the end of the list
 --   only      no other list is lawful up to there
---   clear     no terminal hears two transmissions overlap; with one sender alone, where no delay is above the synchronization gap
+--   clear     no terminal hears two transmissions overlap; with one sender alone, where no delay is above the synchronization gap.
 pub record IsJoinedRun (table : Table) (hands : List Hand) (most : ℕ) (delay : Delays) (wake : Wakes) (list : List Entry) : Type 0 where
   pub lawful : IsLawfulOnCable (quiet_of table) delay wake (stations_of table hands) (greatest_end list) list
   pub only : (other : List Entry) → IsLawfulOnCable (quiet_of table) delay wake (stations_of table hands) (greatest_end list) other → other ≡ list

@@ -11,11 +11,11 @@ use Rattle.bus_schedule.specs.Runs.{IsClear, IsInTurns, IsApart}
 use Rattle.bus_medium.specs.Delays.{Delays, heard}
 use Rattle.bus_medium.specs.CableLawful.{IsLawfulOnCable}
 
--- by how much delays up to `most` lengthen a cycle at most: once for each sender that isn't alone
+-- By how much delays up to `most` lengthen a cycle at most: once for each sender that isn't alone.
 abbrev pub cycle_delay : Table → ℕ → ℕ
 cycle_delay table most = if length table.senders == 1 then 0 else length table.senders * most
 
--- two successive starts of one sender are as far apart as the verdict says, or farther by what the delays add to a cycle
+-- Two successive starts of one sender are as far apart as the verdict says, or farther by what the delays add to a cycle.
 abbrev pub IsSpacedWithin : Table → ℕ → List Entry → Type 0
 IsSpacedWithin table delays list =
     (mode : Mode) (least most k : ℕ) (x y : Entry) → verdict_of table ≡ Accept mode least most → slice_get list k ≡ Some x
@@ -26,7 +26,7 @@ IsSpacedWithin table delays list =
 --   only      no other list is lawful up to there
 --   clear     no terminal hears two transmissions overlap; with one sender alone, where no delay is above the synchronization gap
 --   turns     every cycle holds each sender once, in turn order
---   spaced    successive starts of a sender are as far apart as the verdict and the delays say
+--   spaced    successive starts of a sender are as far apart as the verdict and the delays say.
 pub record IsCableRun (table : Table) (hands : List Hand) (most : ℕ) (delay : Delays) (wake : ℕ → ℕ) (list : List Entry) : Type 0 where
   pub lawful : IsLawfulOnCable (quiet_of table) delay wake (stations_of table hands) (greatest_end list) list
   pub only : (other : List Entry) → IsLawfulOnCable (quiet_of table) delay wake (stations_of table hands) (greatest_end list) other → other ≡ list

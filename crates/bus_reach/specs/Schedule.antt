@@ -12,28 +12,28 @@ use Rattle.bus_schedule.specs.Closed.{sends, in_rounds}
 use Rattle.bus_schedule.specs.Even.{messages_of, rounds}
 use Rattle.bus_medium.specs.Delays.{Delays, heard_end}
 
--- the turns of a round: each sender starts its terminal gap behind where it heard the end of the one before
+-- The turns of a round: each sender starts its terminal gap behind where it heard the end of the one before.
 abbrev pub cable_turns : Delays → (ℕ → List Message) → ℕ → List Sender → (ℕ → ℕ) → List Entry
 cable_turns delay messages round [] from = []
 cable_turns delay messages round (sender ∷ order) from =
     sends messages round sender (from sender.number + sender.tg)
     ∷ cable_turns delay messages round order (heard_end delay (sends messages round sender (from sender.number + sender.tg)))
 
--- where each terminal heard the end of the last of these turns
+-- Where each terminal heard the end of the last of these turns.
 abbrev pub cable_heard : Delays → (ℕ → List Message) → ℕ → List Sender → (ℕ → ℕ) → ℕ → ℕ
 cable_heard delay messages round [] from = from
 cable_heard delay messages round (sender ∷ order) from =
     cable_heard delay messages round order (heard_end delay (sends messages round sender (from sender.number + sender.tg)))
 
--- from where each terminal counts in a round: its wake, or one synchronization gap behind where it heard the end of the round before
+-- From where each terminal counts in a round: its wake, or one synchronization gap behind where it heard the end of the round before.
 abbrev pub cable_origin : Delays → (ℕ → ℕ) → (ℕ → List Message) → ℕ → List Sender → ℕ → ℕ → ℕ
 cable_origin delay wake messages sg order zero = wake
 cable_origin delay wake messages sg order (suc round) = λ number. cable_heard delay messages round order (cable_origin delay wake messages sg order round) number + sg
 
--- so many rounds
+-- So many rounds.
 abbrev pub cable_rounds : Delays → (ℕ → ℕ) → (ℕ → List Message) → ℕ → List Sender → ℕ → List Entry
 cable_rounds delay wake messages sg order n = in_rounds (λ round. cable_turns delay messages round order (cable_origin delay wake messages sg order round)) n
 
--- the closed schedule of a table and even hands: as many rounds as each hand has messages
+-- The closed schedule of a table and even hands: as many rounds as each hand has messages.
 abbrev pub cable_closed : Delays → (ℕ → ℕ) → Table → List Hand → List Entry
 cable_closed delay wake table hands = cable_rounds delay wake (messages_of hands) table.sg (turn_order table) (rounds hands)

@@ -21,7 +21,7 @@ use Rattle.bus_schedule.specs.Runs.{IsClear}
 use Rattle.bus_medium.specs.CableLawful.{IsLawfulOnCable}
 use Rattle.bus_reach.specs.Starting.{starts_itself}
 
--- the transmissions that start at moment t or later
+-- The transmissions that start at moment t or later.
 abbrev pub behind : ℕ → List Entry → List Entry
 behind t list = filter (λ x. nat_le t x.moment) list
 
@@ -36,25 +36,25 @@ InRounds sg first others horizon a [] from (x ∷ list) =
 InRounds sg first others horizon a (b ∷ rest) from (x ∷ list) =
     (x.terminal ≡ a.number) × (x.moment ≡ from + a.tg) × InRounds sg first others horizon b rest (end_of x) list
 
--- up to the horizon these transmissions are whole rounds in this order, from this moment on; the last one may be cut off by the horizon
+-- Up to the horizon these transmissions are whole rounds in this order, from this moment on; the last one may be cut off by the horizon.
 abbrev pub AreRounds : ℕ → List Sender → ℕ → ℕ → List Entry → Type 0
 AreRounds sg [] horizon from list = list ≡ []
 AreRounds sg (first ∷ others) horizon from list = InRounds sg first others horizon first others from list
 
--- the moment from which a round counts, where the first one counts from moment `start`; the closed schedule's is 0
+-- The moment from which a round counts, where the first one counts from moment `start`; the closed schedule's is 0.
 abbrev pub round_from : (ℕ → List Message) → ℕ → List Sender → ℕ → ℕ → ℕ
 round_from messages sg order start zero = start
 round_from messages sg order start (suc round) = turns_end messages round order (round_from messages sg order start round) + sg
 
--- so many rounds of the closed schedule from moment `start` on
+-- So many rounds of the closed schedule from moment `start` on.
 abbrev pub rounds_from : (ℕ → List Message) → ℕ → List Sender → ℕ → ℕ → List Entry
 rounds_from messages sg order start n = in_rounds (λ round. turns messages round order (round_from messages sg order start round)) n
 
--- the messages that each terminal has left at moment t
+-- The messages that each terminal has left at moment t.
 abbrev pub left_at : List Hand → List Entry → ℕ → ℕ → List Message
 left_at hands list t number = drop (length (own list number t)) (messages_of hands number)
 
--- the one list, and then more
+-- The one list, and then more.
 abbrev pub Begins : List Entry → List Entry → Type 0
 Begins list whole = (more : List Entry) × (whole ≡ list ++ more)
 
@@ -64,7 +64,7 @@ Begins list whole = (more : List Entry) × (whole ≡ list ++ more)
 --   closed   of enough rounds of the closed schedule, of the messages that they have left, these transmissions are the beginning
 --   clear    none of them overlaps another
 --   quiet    what started before has ended one synchronization gap before
---   once     and of what started before, but not before `up`, each sender sent one transmission at most
+--   once     and of what started before, but not before `up`, each sender sent one transmission at most.
 pub record IsSettled (table : Table) (hands : List Hand) (up horizon : ℕ) (list : List Entry) : Type 0 where
   pub origin : ℕ
   pub soon : origin ≤ up + most_cycle table + table.sg
@@ -75,11 +75,11 @@ pub record IsSettled (table : Table) (hands : List Hand) (up horizon : ℕ) (lis
   pub quiet : (x : Entry) → In x list → x.moment < origin → end_of x + table.sg ≤ origin
   pub once : (x y : Entry) → In x list → In y list → x.terminal ≡ y.terminal → up ≤ x.moment → x.moment < y.moment → origin ≤ y.moment
 
--- each sender has been powered up at moment `up`: its wake is one synchronization gap behind its power-up
+-- Each sender has been powered up at moment `up`: its wake is one synchronization gap behind its power-up.
 abbrev pub ArePoweredUp : Table → Wakes → ℕ → Type 0
 ArePoweredUp table wake up = (sender : Sender) → In sender table.senders → wake sender.number ≤ up + table.sg
 
--- at each moment before the horizon each sender has sent fewer messages than its hand has
+-- At each moment before the horizon each sender has sent fewer messages than its hand has.
 abbrev pub HaveLeft : Table → List Hand → ℕ → List Entry → Type 0
 HaveLeft table hands horizon list =
     (sender : Sender) (t : ℕ) → In sender table.senders → t < horizon → length (own list sender.number t) < length (messages_of hands sender.number)

@@ -1,14 +1,9 @@
 -- What a message says of the timers of the terminal that sends it.
 -- The contract of `laws::sending_is_not_ready` says that this holds; the proof is for the crates above to cite.
-use Rattle.std.proofs.Common.{◌≡◌, ℕ, ◌+◌, ◌-◌, ◌<◌, ◌≤◌, Bool, true, false, List, length, get_or, Some, arith, sym, ◌∙◌}
-use Rattle.std.specs.Prelude.{slice_index_or}
+use Rattle.std.proofs.Common.{◌≡◌, ℕ, ◌+◌, ◌-◌, ◌<◌, ◌≤◌, true, false, length, get_or, Some, arith, sym, ◌∙◌}
 use Rattle.std.proofs.lemmas.Bool.{true≢false}
 use Rattle.std.proofs.lemmas.List.{get_or_default}
-use Rattle.bus_timers.specs.declared.timing.Timing.{Timing}
-use Rattle.bus_timers.specs.Timings.{IsSound}
-use Rattle.bus_timers.specs.MayStart.{MayStart, IsSync}
-use Rattle.bus_strings.specs.Messages.{Message, bits}
-use Rattle.bus_strings.specs.Pulses.{is_on}
+use Rattle.bus_timers.specs.MayStart.{IsSync}
 use Rattle.bus_strings.specs.PulseLaws.{Pulse}
 use Rattle.bus_strings.proofs.PulsesAlongLaws.{pulse_soon}
 use Rattle.bus_terminal.specs.SendingLaws.{SendingIsNotReady}

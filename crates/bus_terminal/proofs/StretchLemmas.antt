@@ -7,9 +7,9 @@ use Rattle.bus_strings.specs.Pulses.{pulse_start, pulse_length, is_on}
 use Rattle.bus_strings.proofs.PulsesAlongLaws.{next_pulse, length_at, on_within_pulse}
 use Rattle.bus_table.specs.Tables.{Hand}
 use Rattle.bus_terminal.specs.declared.place.Place.{Place}
-use Rattle.bus_terminal.specs.Places.{place_of, IsPlace}
+use Rattle.bus_terminal.specs.inside.Places.{place_of, IsPlace}
 use Rattle.bus_terminal.specs.Terminals.{last_begun}
-use Rattle.bus_terminal.specs.Standing.{place_in, IsStanding}
+use Rattle.bus_terminal.specs.inside.Standing.{place_in, IsStanding}
 use Rattle.bus_terminal.specs.Jumps.{IsSteady, IsStretch, later_place}
 use Rattle.bus_terminal.proofs.JumpLaws.{steady_most}
 use Rattle.bus_terminal.proofs.PlaceLemmas.{InPulse, InQuiet, in_pulse, in_quiet, place_within, no_words}

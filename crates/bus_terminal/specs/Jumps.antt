@@ -9,32 +9,32 @@ use Rattle.bus_strings.specs.Messages.{Message, bits}
 use Rattle.bus_strings.specs.Pulses.{is_on}
 use Rattle.bus_terminal.specs.Terminals.{Terminal, last_begun}
 
--- from its bit time d on, n bit times of the message are all on or all quiet
+-- From its bit time d on, n bit times of the message are all on or all quiet.
 abbrev pub IsSteady : Message → ℕ → ℕ → Type 0
 IsSteady message d n = (k : ℕ) → k < n → is_on message (d + k) ≡ is_on message d
 
--- and no more than n
+-- And no more than n.
 pub record IsStretch (message : Message) (d n : ℕ) : Type 0 where
   pub some : 1 ≤ n
   pub steady : IsSteady message d n
   pub changes : is_on message (d + n) ≡ not (is_on message d)
 
--- what runs of a terminal, if anything does, stays on or quiet for n bit times
+-- What runs of a terminal, if anything does, stays on or quiet for n bit times.
 abbrev pub StaysFor : {C : Type 0} → Terminal C → ℕ → Type 0
 StaysFor terminal n = MatchOption terminal.running (Unit {0}) (λ d. IsSteady (last_begun terminal.hand terminal.sent) d n)
 
--- how long it does: none where nothing runs
+-- How long it does: none where nothing runs.
 abbrev pub StretchOf : {C : Type 0} → Terminal C → Option ℕ → Type 0
 StretchOf terminal stretch =
     MatchOption stretch (terminal.running ≡ None)
     (λ n. (d : ℕ) × (terminal.running ≡ Some d) × IsStretch (last_begun terminal.hand terminal.sent) d n)
 
--- no message of the terminal runs, and one is left
+-- No message of the terminal runs, and one is left.
 pub record IsFree {C : Type 0} (terminal : Terminal C) : Type 0 where
   pub idle : terminal.running ≡ None
   pub unsent : terminal.sent < length terminal.hand.messages
 
--- how long the terminal waits on a quiet bus: none where a message runs or none is left
+-- How long the terminal waits on a quiet bus: none where a message runs or none is left.
 abbrev pub QuietWait : {C : Type 0} → Ghosts C → Terminal C → Option ℕ → Type 0
 QuietWait core terminal None = IsFree terminal → ⊥
 QuietWait core terminal (Some wait) =
@@ -42,11 +42,11 @@ QuietWait core terminal (Some wait) =
     × ((timing : Timing) (past : List Bool) (last : Option ℕ) → core.stands terminal.core timing past last
     → IsWait timing past last wait)
 
--- n bit times later in a message: behind its last bit time nothing runs
+-- N bit times later in a message: behind its last bit time nothing runs.
 abbrev pub later_place : Message → ℕ → ℕ → Option ℕ
 later_place message n d = if nat_lt (d + n) (bits message) then Some (d + n) else None
 
--- the terminal n bit times later, its timers having become these
+-- The terminal n bit times later, its timers having become these.
 abbrev pub with_passed_many : {C : Type 0} → Terminal C → ℕ → C → Terminal C
 with_passed_many terminal n core = record {
   core = core;

@@ -1,6 +1,5 @@
-pub mod Places
 pub mod Terminals
 pub mod SendingLaws
-pub mod Standing
 pub mod Jumps
 pub mod JumpLaws
+pub mod inside

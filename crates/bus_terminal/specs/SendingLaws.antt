@@ -1,17 +1,14 @@
 -- What a message says of the timers of the terminal that sends it.
 -- The contract of `laws::sending_is_not_ready` says that this holds; the proof is for the crates above to cite.
-use Rattle.std.proofs.Common.{◌≡◌, ℕ, ◌+◌, ◌-◌, ◌<◌, ◌≤◌, Bool, true, false, List, length, get_or, Some, arith, sym, ◌∙◌}
+use Rattle.std.proofs.Common.{◌≡◌, ℕ, ◌+◌, ◌<◌, Bool, true, false, List, length, Some}
 use Rattle.std.specs.Prelude.{slice_index_or}
-use Rattle.std.proofs.lemmas.Bool.{true≢false}
-use Rattle.std.proofs.lemmas.List.{get_or_default}
 use Rattle.bus_timers.specs.declared.timing.Timing.{Timing}
 use Rattle.bus_timers.specs.Timings.{IsSound}
-use Rattle.bus_timers.specs.MayStart.{MayStart, IsSync}
+use Rattle.bus_timers.specs.MayStart.{MayStart}
 use Rattle.bus_strings.specs.Messages.{Message, bits}
 use Rattle.bus_strings.specs.Pulses.{is_on}
-use Rattle.bus_strings.specs.PulseLaws.{Pulse}
 
--- a terminal whose message began at its last own start, and is at bit time d, may not start, where each pulse so far was carrier
+-- A terminal whose message began at its last own start, and is at bit time d, may not start, where each pulse so far was carrier.
 abbrev pub SendingIsNotReady : Type 0
 SendingIsNotReady =
     (timing : Timing) (past : List Bool) (start d : ℕ) (message : Message) → IsSound timing → start + d ≡ length past → d < bits message

@@ -7,30 +7,30 @@ use Rattle.bus_strings.specs.Messages.{Message, bits}
 use Rattle.bus_strings.specs.Pulses.{is_on}
 use Rattle.bus_table.specs.Tables.{Hand}
 
--- its timers, its hand, how many of its messages are begun, and the bit time of the one that runs
+-- Its timers, its hand, how many of its messages are begun, and the bit time of the one that runs.
 pub record Terminal (C : Type 0) : Type 0 where
   pub core : C
   pub hand : Hand
   pub sent : ℕ
   pub running : Option ℕ
 
--- the message of a hand that was begun last
+-- The message of a hand that was begun last.
 abbrev pub last_begun : Hand → ℕ → Message
 last_begun hand sent = slice_index_or hand.messages (sent - 1) []
 
--- whether the running message has a pulse on the present bit time
+-- Whether the running message has a pulse on the present bit time.
 abbrev pub sounds : {C : Type 0} → Terminal C → Bool
 sounds terminal = option_map_or (λ d. is_on (last_begun terminal.hand terminal.sent) d) terminal.running false
 
--- the terminal with its next message begun, its timers having become these
+-- The terminal with its next message begun, its timers having become these.
 abbrev pub with_begun : {C : Type 0} → Terminal C → C → Terminal C
 with_begun terminal core = record { core = core; hand = terminal.hand; sent = terminal.sent + 1; running = Some 0 }
 
--- a bit time later in a message: behind its last bit time nothing runs
+-- A bit time later in a message: behind its last bit time nothing runs.
 abbrev pub next_place : Message → ℕ → Option ℕ
 next_place message d = if nat_lt (d + 1) (bits message) then Some (d + 1) else None
 
--- the terminal a bit time later, its timers having become these
+-- The terminal a bit time later, its timers having become these.
 abbrev pub with_passed : {C : Type 0} → Terminal C → C → Terminal C
 with_passed terminal core = record {
   core = core;

@@ -2,8 +2,8 @@ ghost use Rattle.std.specs.Prelude.{◌≡◌, ℕ, ◌+◌, ◌<◌, ◌≤◌,
 ghost use Rattle.bus_strings.specs.Messages.{bits as length_of, IsMessage};
 ghost use Rattle.bus_strings.specs.Pulses.{is_on};
 
-use bus_strings::limits::{INNER_GAP, WORD_BITS};
 use bus_strings::Message;
+use bus_strings::limits::{INNER_GAP, WORD_BITS};
 
 /// Where a running message is: at a pulse, or in the quiet behind it, and how many bit times of that are left.
 #[derive(Clone, Copy, Debug)]
@@ -17,7 +17,7 @@ pub struct Place {
 }
 
 impl Place {
-    ghost use Rattle.bus_terminal.specs.Places.{place_of, IsPlace};
+    ghost use Rattle.bus_terminal.specs.inside.Places.{place_of, IsPlace};
 
     /// The first bit time of a message.
     pub fn first(message: &Message) -> Place

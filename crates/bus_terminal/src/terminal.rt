@@ -7,7 +7,7 @@ ghost use Rattle.std.specs.Option.{option_and_then};
 ghost use Rattle.bus_terminal.specs.Terminals.{last_begun, next_place, sounds, with_begun, with_passed};
 ghost use Rattle.bus_timers.specs.Wait.{longest_pass};
 ghost use Rattle.bus_terminal.specs.Jumps.{IsSteady, later_place, with_passed_many, StaysFor, StretchOf, QuietWait};
-ghost use Rattle.bus_terminal.specs.Standing.{place_in, IsStanding};
+ghost use Rattle.bus_terminal.specs.inside.Standing.{place_in, IsStanding};
 
 use crate::place::Place;
 use bus_strings::Message;
@@ -50,7 +50,7 @@ pub struct Terminal<C: Core> {
 
 impl<C: Core> Model for Terminal<C> {
     ghost use Rattle.bus_terminal.specs.Terminals as terminals;
-    ghost use Rattle.bus_terminal.specs.Standing.{place_in, IsStanding};
+    ghost use Rattle.bus_terminal.specs.inside.Standing.{place_in, IsStanding};
 
     ghost Value = { terminals.Terminal C };
 

@@ -5,7 +5,7 @@ use Rattle.std.proofs.lemmas.Bool.{cases_lt}
 use Rattle.bus_timers.specs.declared.timing.Timing.{Timing}
 use Rattle.bus_timers.specs.Timings.{IsSound, due_place}
 use Rattle.bus_timers.specs.MayStart.{MayStart}
-use Rattle.bus_timers.specs.Counters.{CountersStand}
+use Rattle.bus_timers.specs.inside.Counters.{CountersStand}
 use Rattle.bus_timers.proofs.TimingLaws.{sound_sg, sound_tg}
 use Rattle.bus_timers.proofs.GapStepLaws.{gap_quiet, gap_carrier_elapsed, gap_carrier_waiting, gap_started, gap_settled, gap_ready}
 

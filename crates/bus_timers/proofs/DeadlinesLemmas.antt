@@ -6,7 +6,7 @@ use Rattle.bus_timers.specs.declared.timing.Timing.{Timing}
 use Rattle.bus_timers.specs.Timings.{due_place}
 use Rattle.bus_timers.specs.MayStart.{MayStart}
 use Rattle.bus_timers.specs.GapPlace.{GapFrom}
-use Rattle.bus_timers.specs.Deadlines.{DeadlinesStand}
+use Rattle.bus_timers.specs.inside.Deadlines.{DeadlinesStand}
 use Rattle.bus_timers.specs.Wait.{IsWait}
 use Rattle.bus_timers.proofs.TimingLaws.{sound_sg, sound_tg}
 use Rattle.bus_timers.proofs.GapStepLaws.{gap_started, gap_ready}

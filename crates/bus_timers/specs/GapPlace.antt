@@ -7,14 +7,14 @@
 use Rattle.std.specs.Prelude.{ℕ, ◌+◌, ◌-◌, ◌<◌, ◌≤◌, ◌⊎◌, Bool, List, length, Option, unwrap_or}
 use Rattle.bus_timers.specs.MayStart.{IsQuiet, IsSync}
 
--- the synchronization gap has elapsed, at g or before, and g is the first place from which the terminal gap may count
+-- The synchronization gap has elapsed, at g or before, and g is the first place from which the terminal gap may count.
 pub record Elapsed (sg : ℕ) (past : List Bool) (last : Option ℕ) (g : ℕ) : Type 0 where
   pub reached : g ≤ length past
   pub sync : (e : ℕ) × (e ≤ g) × IsSync sg past last e
   pub quiet : IsQuiet past g (length past)
   pub least : (e m : ℕ) → IsSync sg past last e → e ≤ m → IsQuiet past m (length past) → g ≤ m
 
--- the synchronization gap has not elapsed, and g is the first place at which it does if the bus stays quiet
+-- The synchronization gap has not elapsed, and g is the first place at which it does if the bus stays quiet.
 pub record Waiting (sg : ℕ) (past : List Bool) (last : Option ℕ) (g : ℕ) : Type 0 where
   pub ahead : length past < g
   pub near : g ≤ length past + sg
@@ -23,6 +23,6 @@ pub record Waiting (sg : ℕ) (past : List Bool) (last : Option ℕ) (g : ℕ) :
   pub none : (e : ℕ) → IsSync sg past last e → ⊥
   pub least : (m : ℕ) → unwrap_or last 0 ≤ m → IsQuiet past m (length past) → g ≤ m + sg
 
--- the terminal gap counts from place g, or will
+-- The terminal gap counts from place g, or will.
 abbrev pub GapFrom : ℕ → List Bool → Option ℕ → ℕ → Type 0
 GapFrom sg past last g = Elapsed sg past last g ⊎ Waiting sg past last g

@@ -3,6 +3,5 @@ pub mod MayStart
 pub mod MayStartTest
 pub mod GapPlace
 pub mod GapLaws
-pub mod Counters
 pub mod Wait
-pub mod Deadlines
+pub mod inside

@@ -6,20 +6,20 @@ use Rattle.std.specs.Prelude.{◌≡◌, ℕ, ◌+◌, ◌-◌, ◌<◌, ◌≤�
 use Rattle.bus_timers.specs.declared.timing.Timing.{Timing}
 use Rattle.bus_timers.specs.Timings.{due_place}
 
--- the bit times of the past from place i to place j are all quiet, and none is missing
+-- The bit times of the past from place i to place j are all quiet, and none is missing.
 abbrev pub IsQuiet : List Bool → ℕ → ℕ → Type 0
 IsQuiet past i j = (k : ℕ) → i ≤ k → k < j → slice_index_or past k true ≡ false
 
--- at place e the synchronization gap has elapsed: the sg bit times before it are quiet, and none of them is before the last own start
+-- At place e the synchronization gap has elapsed: the sg bit times before it are quiet, and none of them is before the last own start.
 pub record IsSync (sg : ℕ) (past : List Bool) (last : Option ℕ) (e : ℕ) : Type 0 where
   pub long : sg ≤ e
   pub quiet : IsQuiet past (e - sg) e
   pub own : IfSome last (λ start. start ≤ e - sg)
 
--- at the end of this past the terminal may start:
+-- At the end of this past the terminal may start:
 --   interval: its transmit interval has elapsed;
 --   synchronized: its synchronization gap elapsed somewhere, with room for the terminal gap behind it;
---   gap_fits, gap: the last bit times, as many as the terminal gap has, are all quiet
+--   gap_fits, gap: the last bit times, as many as the terminal gap has, are all quiet.
 pub record MayStart (timing : Timing) (past : List Bool) (last : Option ℕ) : Type 0 where
   pub interval : due_place timing last ≤ length past
   pub synchronized : (e : ℕ) × (e + timing.tg ≤ length past) × IsSync timing.sg past last e

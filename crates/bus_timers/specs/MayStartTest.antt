@@ -5,20 +5,20 @@ use Rattle.bus_timers.specs.declared.timing.Timing.{Timing}
 use Rattle.bus_timers.specs.Timings.{due_place}
 use Rattle.bus_timers.specs.MayStart.{MayStart}
 
--- whether no bit time of the past from place i to place j, which lies in it, has carrier
+-- Whether no bit time of the past from place i to place j, which lies in it, has carrier.
 abbrev pub is_quiet : List Bool → ℕ → ℕ → Bool
 is_quiet past i j = list_all (λ carrier. not carrier) (slice_range past i j)
 
--- whether a place isn't before the last own start
+-- Whether a place isn't before the last own start.
 abbrev pub is_behind : Option ℕ → ℕ → Bool
 is_behind None place = true
 is_behind (Some start) place = nat_le start place
 
--- whether the synchronization gap has elapsed at place e
+-- Whether the synchronization gap has elapsed at place e.
 abbrev pub is_sync : ℕ → List Bool → Option ℕ → ℕ → Bool
 is_sync sg past last e = nat_le sg e && is_quiet past (e - sg) e && is_behind last (e - sg)
 
--- whether the terminal may start at the end of this past
+-- Whether the terminal may start at the end of this past.
 abbrev pub may_start : Timing → List Bool → Option ℕ → Bool
 may_start timing past last =
     nat_le (due_place timing last) (length past)
@@ -26,7 +26,7 @@ may_start timing past last =
     && nat_le timing.tg (length past)
     && is_quiet past (length past - timing.tg) (length past)
 
--- the test is the definition
+-- The test is the definition.
 abbrev pub TestDecides : Type 0
 TestDecides =
     (timing : Timing) (past : List Bool) (last : Option ℕ)

@@ -5,7 +5,7 @@
 use Rattle.std.specs.Prelude.{ℕ, ◌+◌, ◌<◌, ◌≤◌, Option, Some, None}
 use Rattle.bus_timers.specs.declared.timing.Timing.{Timing}
 
--- every number lies in its range
+-- Every number lies in its range.
 pub record IsSound (timing : Timing) : Type 0 where
   pub ti_least : 1000 ≤ timing.ti
   pub ti_most : timing.ti ≤ 128000
@@ -18,8 +18,8 @@ pub record IsSound (timing : Timing) : Type 0 where
   pub quiet_most : timing.quiet ≤ timing.sg + 256
   pub due_most : timing.due < 128000
 
--- the place in a past at which the transmit interval has elapsed: it runs from the last own start, and before the first one it is due at a
--- moment of its own
+-- The place in a past at which the transmit interval has elapsed: it runs from the last own start, and before the first one it is due at a
+-- moment of its own.
 abbrev pub due_place : Timing → Option ℕ → ℕ
 due_place timing None = timing.quiet + timing.due
 due_place timing (Some start) = start + timing.ti

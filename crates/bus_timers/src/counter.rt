@@ -1,5 +1,5 @@
 ghost use Rattle.std.specs.Prelude.{◌≡◌, ℕ, ◌+◌, ◌-◌, ◌^◌, min, ◌<◌, ◌≤◌, Bool, true, false};
-ghost use Rattle.bus_timers.specs.Counters.{CoreStands, core_moves};
+ghost use Rattle.bus_timers.specs.inside.Counters.{CoreStands, core_moves};
 
 use crate::cores::Core;
 use crate::timing::Timing;

@@ -1,5 +1,5 @@
 ghost use Rattle.std.specs.Prelude.{◌≡◌, ◌+◌, ◌^◌, ◌<◌, ◌≤◌, ◌⊎◌, true, false};
-ghost use Rattle.bus_timers.specs.Deadlines.{DeadlinesStand, room_left};
+ghost use Rattle.bus_timers.specs.inside.Deadlines.{DeadlinesStand, room_left};
 
 use crate::cores::Core;
 use crate::jumps::JumpCore;

@@ -1,7 +1,7 @@
 use Rattle.std.proofs.Common.{◌+◌, ℕ, List, arith, sym, ◌∙◌, subst}
 use Rattle.bus_strings.specs.Messages.{Entry}
 use Rattle.bus_medium.specs.Orders.{IsRoster}
-use Rattle.bus_medium.specs.Runs.{Reached}
+use Rattle.bus_medium.specs.inside.Runs.{Reached}
 use Rattle.bus_medium.proofs.Seats.{same_numbers, own_numbers}
 use Rattle.bus_medium.proofs.Running.{reached_none, reached_more, reached_lawful, reached_only, reached_stands}
 use Rattle.bus_medium.proofs.bit_times.observe_all.Goals as goal

@@ -1,4 +1,4 @@
-use Rattle.bus_medium.specs.Runs.{Reached}
+use Rattle.bus_medium.specs.inside.Runs.{Reached}
 use Rattle.bus_medium.proofs.bit_times.observe_all.Given as goal
 
 abbrev pub invariant-loop-moment : goal.invariant-loop-moment

@@ -1,4 +1,4 @@
-use Rattle.bus_medium.specs.Jumps.{PassedMany}
+use Rattle.bus_medium.specs.inside.Lasting.{PassedMany}
 use Rattle.bus_medium.proofs.Stretching.{EachSoFar}
 use Rattle.bus_medium.proofs.bit_times.pass_all.Given as goal
 

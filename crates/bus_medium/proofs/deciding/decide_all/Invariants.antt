@@ -1,5 +1,5 @@
 use Rattle.std.proofs.Common.{◌≡◌, ℕ, ◌<◌, length, get_or}
-use Rattle.bus_medium.specs.Runs.{Grown, moves_of}
+use Rattle.bus_medium.specs.inside.Runs.{Grown, moves_of}
 use Rattle.bus_medium.proofs.DecideLemmas.{DecidedPlaces}
 use Rattle.bus_medium.proofs.deciding.decide_all.Given as goal
 

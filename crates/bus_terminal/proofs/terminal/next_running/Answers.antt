@@ -3,9 +3,9 @@ use Rattle.std.specs.Option.{option_map, option_and_then}
 use Rattle.std.proofs.lemmas.List.{get_or_default}
 use Rattle.bus_table.specs.Tables.{Hand}
 use Rattle.bus_strings.specs.Messages.{Message}
-use Rattle.bus_terminal.specs.Places.{place_of}
+use Rattle.bus_terminal.specs.inside.Places.{place_of}
 use Rattle.bus_terminal.specs.Terminals.{last_begun, next_place}
-use Rattle.bus_terminal.specs.Standing.{place_in}
+use Rattle.bus_terminal.specs.inside.Standing.{place_in}
 use Rattle.bus_terminal.proofs.PlaceLemmas.{next_is, running_begun}
 use Rattle.bus_terminal.proofs.terminal.next_running.Goals as goal
 

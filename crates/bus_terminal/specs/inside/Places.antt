@@ -8,12 +8,12 @@ use Rattle.bus_strings.specs.Messages.{Message}
 use Rattle.bus_strings.specs.Pulses.{pulse_start, pulse_length}
 use Rattle.bus_terminal.specs.declared.place.Place.{Place}
 
--- the bit time of the message at which the place is, counted from its first
+-- The bit time of the message at which the place is, counted from its first.
 abbrev pub place_of : Message → Place → ℕ
 place_of message place =
     pulse_start message place.pulse + pulse_length message place.pulse + (if place.on then 0 else inner_gap) - place.left
 
--- the place is one of the message
+-- The place is one of the message.
 pub record IsPlace (message : Message) (place : Place) : Type 0 where
   pub pulse : place.pulse < length message
   pub some : 1 ≤ place.left

@@ -5,7 +5,7 @@ use Rattle.bus_timers.specs.declared.timing.Timing.{Timing}
 use Rattle.bus_timers.specs.Timings.{IsSound, due_place}
 use Rattle.bus_timers.specs.GapPlace.{GapFrom}
 
--- wait bit times are left of the transmit interval, and quiet and gap are counted of the two gaps
+-- Wait bit times are left of the transmit interval, and quiet and gap are counted of the two gaps.
 pub record CountersStand (timing : Timing) (wait quiet gap : ℕ) (past : List Bool) (last : Option ℕ) : Type 0 where
   pub sound : IsSound timing
   pub place : ℕ
@@ -14,10 +14,10 @@ pub record CountersStand (timing : Timing) (wait quiet gap : ℕ) (past : List B
   pub synchronization : quiet + (place - length past) ≡ timing.sg
   pub terminal : gap ≡ min timing.tg (length past - place)
 
--- a counting core keeps its timing, and its counters stand for the past and the last own start
+-- A counting core keeps its timing, and its counters stand for the past and the last own start.
 abbrev pub CoreStands : CounterCore → Timing → List Bool → Option ℕ → Type 0
 CoreStands core timing past last = (core.timing ≡ timing) × CountersStand core.timing core.wait core.quiet core.gap past last
 
--- the calls of `pass` since it was settled
+-- The calls of `pass` since it was settled.
 abbrev pub core_moves : CounterCore → ℕ
 core_moves core = core.moves

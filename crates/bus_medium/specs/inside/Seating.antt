@@ -7,7 +7,7 @@ use Rattle.bus_table.specs.Tables.{Sender, Table, Hand}
 use Rattle.bus_medium.specs.Timings.{timing_of}
 use Rattle.bus_medium.specs.Buses.{Seat}
 
--- it has the sender's timing and its hand, its core is settled, and it has begun nothing
+-- It has the sender's timing and its hand, its core is settled, and it has begun nothing.
 pub record Seated {C : Type 0} (core : Ghosts C) (table : Table) (sender : Sender) (messages : Hand) (seat : Seat C) : Type 0 where
   pub timing : seat.timing ≡ timing_of table sender
   pub sound : IsSound seat.timing
@@ -18,7 +18,7 @@ pub record Seated {C : Type 0} (core : Ghosts C) (table : Table) (sender : Sende
   pub room : 2 ^ 62 ≤ core.room seat.terminal.core
   pub moves : core.moves seat.terminal.core ≡ 0
 
--- it is one of the table's senders, with the hand of that sender
+-- It is one of the table's senders, with the hand of that sender.
 pub record IsSeated {C : Type 0} (core : Ghosts C) (table : Table) (seat : Seat C) : Type 0 where
   pub sender : Sender
   pub there : In sender table.senders

@@ -5,28 +5,28 @@ use Rattle.bus_strings.specs.Members.{In}
 use Rattle.bus_strings.specs.Messages.{Entry}
 use Rattle.bus_medium.specs.Lawful.{Station, IsDue, IsLawfulTo}
 use Rattle.bus_medium.specs.Buses.{Seat, station_of}
-use Rattle.bus_medium.specs.Following.{AllFollow, AllHaveRoom}
+use Rattle.bus_medium.specs.inside.Following.{AllFollow, AllHaveRoom}
 use Rattle.bus_medium.specs.Edges.{edges_by}
 use Rattle.bus_medium.specs.Jumps.{Moved}
 
--- at moment t, before anybody decides, the list is what was sent, the senders stand where it leaves them, and have room for what may come
+-- At moment t, before anybody decides, the list is what was sent, the senders stand where it leaves them, and have room for what may come.
 pub record RunsTo {C : Type 0} (core : Ghosts C) (quiet : ℕ) (seats : List (Seat C)) (list : List Entry) (t : ℕ) : Type 0 where
   pub lawful : IsLawfulTo quiet (map station_of seats) t 0 list
   pub follow : AllFollow core quiet seats list t t
   pub room : AllHaveRoom core seats (2 ^ 62 - t)
 
--- what has begun at moment t is added to the list
+-- What has begun at moment t is added to the list.
 pub record Grown (t : ℕ) (old new : List Entry) : Type 0 where
   pub more : List Entry
   pub is : new ≡ old ++ more
   pub at : (x : Entry) → In x more → x.moment ≡ t
   pub some : (x : Entry) → In x more → 0 < length x.message
 
--- how often each core was moved
+-- How often each core was moved.
 abbrev pub moves_of : {C : Type 0} → Ghosts C → List (Seat C) → List ℕ
 moves_of core seats = map (λ x. core.moves x.terminal.core) seats
 
--- at moment t the senders xs have decided, and have become ys
+-- At moment t the senders xs have decided, and have become ys.
 pub record Decided {C : Type 0} (core : Ghosts C) (quiet t : ℕ) (xs ys : List (Seat C)) (old new : List Entry) : Type 0 where
   pub stations : map station_of ys ≡ map station_of xs
   pub grown : Grown t old new
@@ -35,23 +35,23 @@ pub record Decided {C : Type 0} (core : Ghosts C) (quiet t : ℕ) (xs ys : List 
   pub room : AllHaveRoom core ys (2 ^ 62 - t)
   pub moves : moves_of core ys ≡ moves_of core xs
 
--- the senders xs have become ys, and the run goes to moment t
+-- The senders xs have become ys, and the run goes to moment t.
 pub record Reached {C : Type 0} (core : Ghosts C) (quiet t : ℕ) (xs ys : List (Seat C)) (list : List Entry) : Type 0 where
   pub stations : map station_of ys ≡ map station_of xs
   pub to : RunsTo core quiet ys list t
 
--- some sender is due
+-- Some sender is due.
 pub record SomeoneIsDue (quiet : ℕ) (stations : List Station) (list : List Entry) (t : ℕ) : Type 0 where
   pub sender : Station
   pub there : In sender stations
   pub due : IsDue quiet list sender t
 
--- n stretches led to moment t: each ended where a pulse begins or ends, the last one maybe at the horizon, or with a start that comes now
+-- N stretches led to moment t: each ended where a pulse begins or ends, the last one maybe at the horizon, or with a start that comes now.
 abbrev pub Counted : ℕ → List Station → List Entry → ℕ → ℕ → ℕ → Type 0
 Counted quiet stations list horizon t n =
     (n ≤ edges_by list t) ⊎ ((n ≤ edges_by list t + 1) × ((t ≡ horizon) ⊎ SomeoneIsDue quiet stations list t))
 
--- a stretch of n bit times led from moment t further, not beyond the horizon, in one move of each core
+-- A stretch of n bit times led from moment t further, not beyond the horizon, in one move of each core.
 pub record Stretched {C : Type 0} (core : Ghosts C) (quiet horizon t n : ℕ) (xs ys : List (Seat C)) (old new : List Entry) : Type 0 where
   pub some : 1 ≤ n
   pub within : t + n ≤ horizon

@@ -3,14 +3,14 @@ use Rattle.std.specs.Prelude.{ℕ, ◌<◌, ◌≤◌, length, Option, MatchOpti
 use Rattle.std.specs.Option.{option_map}
 use Rattle.bus_table.specs.Tables.{Hand}
 use Rattle.bus_terminal.specs.declared.place.Place.{Place}
-use Rattle.bus_terminal.specs.Places.{place_of, IsPlace}
+use Rattle.bus_terminal.specs.inside.Places.{place_of, IsPlace}
 use Rattle.bus_terminal.specs.Terminals.{last_begun}
 
--- the bit time of the message begun last at which it is
+-- The bit time of the message begun last at which it is.
 abbrev pub place_in : Hand → ℕ → Option Place → Option ℕ
 place_in hand sent running = option_map (place_of (last_begun hand sent)) running
 
--- no more messages are begun than there are, and what runs is the one begun last
+-- No more messages are begun than there are, and what runs is the one begun last.
 pub record IsStanding (hand : Hand) (sent : ℕ) (running : Option Place) : Type 0 where
   pub within : sent ≤ length hand.messages
   pub place : MatchOption running (Unit {0}) (λ place. (0 < sent) × IsPlace (last_begun hand sent) place)

@@ -1,0 +1,5 @@
+-- What the code keeps on its way: words that only contracts of private functions and proofs cite.
+pub mod Seating
+pub mod Following
+pub mod Lasting
+pub mod Runs
