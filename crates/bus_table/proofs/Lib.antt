@@ -22,3 +22,5 @@ pub mod OffsetLaws
 pub mod FillingLaws
 pub mod ValidLaws
 pub mod FitLaws
+pub mod TerminalLaws
+pub mod SizeLaws

@@ -24,7 +24,7 @@ pub or_none : {A : Type 0} (a b : Option A) → option_or a b ≡ None → (a �
 or_none None b h = (refl, h)
 or_none (Some x) b h = absurd (cc)
 
-map_none : {A B : Type 0} (f : A → B) (a : Option A) → option_map f a ≡ None → a ≡ None
+pub map_none : {A B : Type 0} (f : A → B) (a : Option A) → option_map f a ≡ None → a ≡ None
 map_none f None h = refl
 map_none f (Some x) h = absurd (cc)
 
@@ -33,7 +33,7 @@ is_none_is None h = refl
 is_none_is (Some x) h = absurd (cc)
 
 -- the first element is not among the earlier ones
-fresh_first : {A : Type 0} (same : A → A → Bool) (earlier : List A) (x : A) (xs : List A) → first_again same earlier (x ∷ xs) ≡ None
+pub fresh_first : {A : Type 0} (same : A → A → Bool) (earlier : List A) (x : A) (xs : List A) → first_again same earlier (x ∷ xs) ≡ None
     → (list_any (λ y. same y x) earlier ≡ false) × (first_again same (earlier ++ x ∷ []) xs ≡ None)
 fresh_first same earlier x xs h =
     elim (list_any (λ y. same y x) earlier) as (λ b. cond b (Some x) (first_again same (earlier ++ x ∷ []) xs) ≡ None → (b ≡ false) ×
@@ -55,7 +55,7 @@ apart_parts same earlier x (z ∷ zs) h =
     ((both.0, rest.0), (last.0, rest.1))
 
 -- where nothing stands again, all are different
-all_distinct : {A : Type 0} (same : A → A → Bool) (earlier xs : List A) → first_again same earlier xs ≡ None
+pub all_distinct : {A : Type 0} (same : A → A → Bool) (earlier xs : List A) → first_again same earlier xs ≡ None
     → IsDistinct same xs × AllByRecursion (λ z. list_any (λ y. same y z) earlier ≡ false) xs
 unfolding IsDistinct
 all_distinct same earlier [] h = (tt, tt)

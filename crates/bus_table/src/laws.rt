@@ -1,5 +1,5 @@
 //! Laws of the definitions, each the contract of a function that does nothing.
-ghost use Rattle.std.specs.Prelude.{◌≡◌, ◌≤◌, ℕ, IsTrue, IsOk, List, Ok, Err};
+ghost use Rattle.std.specs.Prelude.{◌≡◌, ◌≤◌, ℕ, IsTrue, IsOk, List, Ok, Err, length};
 ghost use Rattle.bus_strings.specs.Items.{Item};
 ghost use Rattle.bus_strings.specs.Messages.{Message, bits};
 ghost use Rattle.bus_table.specs.declared.mode.Mode.{Mode};
@@ -61,4 +61,9 @@ pub fn filling_messages_fit()
     ensures fits { (mode : Mode) (sender : tables.Sender) → IsTrue (is_sender sender) → IsTrue (fits sender (filling_message mode sender)) }
     ensures shortest { (sender : tables.Sender) → IsTrue (is_shortest sender (filling_message Aperiodic sender)) }
     ensures longest { (sender : tables.Sender) → IsTrue (is_longest sender (filling_message Periodic sender)) }
+{}
+
+/// The canonical text of a valid table has no more bytes than a table text may have.
+pub fn canonical_text_is_short()
+    ensures { (table : tables.Table) → IsTrue (is_valid table) → length (table_text table) ≤ 8388608 }
 {}
