@@ -1,6 +1,5 @@
 -- Rows of periodic tables, computed: what they bear, and on which places of a cable they fail with one more.
-use Rattle.std.proofs.Common.{◌≡◌, ℕ, true, false, List, [], ◌∷◌, map, refl}
-use Rattle.std.specs.Prelude.{◌==◌, if◌then◌else◌}
+use Rattle.std.proofs.Common.{◌≡◌, ℕ, true, false, List, [], ◌∷◌, refl}
 use Rattle.bus_strings.specs.Messages.{Entry}
 use Rattle.bus_strings.specs.Transmissions.{overlaps}
 use Rattle.bus_table.specs.declared.mode.Mode.TheVariants.{Periodic}

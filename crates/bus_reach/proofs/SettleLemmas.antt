@@ -2,7 +2,7 @@
 use Rattle.std.proofs.Common.{◌≡◌, ℕ, ◌+◌, ◌<◌, ◌≤◌, Bool, true, false, cond, ltb, List, [], ◌∷◌, ◌++◌, zero, suc, ◌⊎◌, ◌*◌, drop, length, inl, inr, arith, sym, refl, ap, ◌∙◌, subst}
 use Rattle.std.specs.Prelude.{IsTrue, nat_le}
 use Rattle.std.specs.List.{list_all, filter, AllByRecursion}
-use Rattle.std.proofs.lemmas.Bool.{cases_lt, cases_eq, and_parts, and_right, le-ltb, leb-true, le-leb}
+use Rattle.std.proofs.lemmas.Bool.{cases_lt, cases_eq, and_parts, and_right, le-ltb, lt-ltb, lt-leb, leb-true, le-leb}
 use Rattle.bus_strings.specs.Members.{In}
 use Rattle.bus_strings.proofs.MemberLaws.{in_filter, from_filter}
 use Rattle.bus_strings.specs.Messages.{Entry}
@@ -22,6 +22,7 @@ use Rattle.bus_regime.proofs.VerdictLaws.{cycle_accepted}
 use Rattle.bus_regime.specs.Verdicts.{least_cycle}
 use Rattle.bus_medium.specs.Lawful.{HasEntry}
 use Rattle.bus_medium.specs.Past.{own}
+use Rattle.bus_medium.proofs.AscendingLaws.{behind_in}
 use Rattle.bus_medium.proofs.PastLaws.{own_later, own_more}
 use Rattle.bus_medium.proofs.Hearing.{own_none}
 use Rattle.bus_medium.specs.Timings.{quiet_of, stations_of}
@@ -30,7 +31,7 @@ use Rattle.bus_schedule.specs.Even.{messages_of}
 use Rattle.bus_schedule.specs.Runs.{IsClear}
 use Rattle.bus_medium.specs.CableLawful.{IsLawfulOnCable}
 use Rattle.bus_reach.specs.Starting.{starts_itself}
-use Rattle.bus_reach.specs.Settling.{behind, InRounds, AreRounds, Begins, rounds_from, IsSettled, HaveLeft, AnyStartSettles, LongHandsLast, StartsItselfIsAccepted}
+use Rattle.bus_reach.specs.Settling.{behind, until, InRounds, AreRounds, Begins, rounds_from, IsSettled, HaveLeft, AnyStartSettles, LongHandsLast, StartsItselfIsAccepted}
 use Rattle.bus_reach.proofs.Calming.{weight, Calm, calm}
 use Rattle.bus_reach.proofs.Cycling.{Left, Turn, in_rounds}
 use Rattle.bus_schedule.proofs.LiveLemmas.{stations_of_dealt}
@@ -54,6 +55,36 @@ ordered_filter R p [] o = tt
 ordered_filter R p (x ∷ xs) o = elim (p x) as (λ b. IsOrdered R (cond b (x ∷ filter p xs) (filter p xs))) [
   | true ↦ (all_filter (R x) p xs o.0, ordered_filter R p xs o.1)
   | false ↦ ordered_filter R p xs o.1
+]
+
+-- a list that ascends is what starts before a moment, and then the rest
+all_later : (t : ℕ) (xs : List Entry) → ((x : Entry) → In x xs → t ≤ x.moment) → xs ≡ until t xs ++ behind t xs
+all_later t [] h = refl
+all_later t (x ∷ xs) h =
+    let here : t ≤ x.moment = h x (inl refl) in
+    ap (λ ys. x ∷ ys) (all_later t xs (λ y i. h y (inr i)))
+    ∙ ap (λ ys. x ∷ (ys ++ behind t xs)) (none_before xs (λ y i. h y (inr i)))
+    ∙ sym (ap (λ b. cond (ltb x.moment t) (x ∷ until t xs) (until t xs) ++ cond b (x ∷ behind t xs) (behind t xs)) (le-leb t x.moment here)
+    ∙ ap (λ b. cond b (x ∷ until t xs) (until t xs) ++ x ∷ behind t xs) (le-ltb x.moment t here) ∙ ap (λ ys. ys ++ x ∷ behind t xs) (none_before xs (λ y i. h y (inr i))))
+  where
+    none_before : (ys : List Entry) → ((y : Entry) → In y ys → t ≤ y.moment) → until t ys ≡ []
+    none_before [] k = refl
+    none_before (y ∷ ys) k = ap (λ b. cond b (y ∷ until t ys) (until t ys)) (le-ltb y.moment t (k y (inl refl))) ∙ none_before ys (λ z i. k z (inr i))
+
+in_parts : (t : ℕ) (xs : List Entry) → IsAscending xs → xs ≡ until t xs ++ behind t xs
+in_parts t [] o = refl
+in_parts t (x ∷ xs) o = elim (cases_lt x.moment t) [
+  | inl early ↦
+      ap (λ ys. x ∷ ys) (in_parts t xs o.1)
+      ∙ sym (ap (λ b. cond b (x ∷ until t xs) (until t xs) ++ behind t (x ∷ xs)) (lt-ltb x.moment t early)
+      ∙ ap (λ b. (x ∷ until t xs) ++ cond b (x ∷ behind t xs) (behind t xs)) (lt-leb t x.moment early))
+  | inr late ↦ all_later t (x ∷ xs) (λ y i. elim i [
+    | inl same ↦ let e : y.moment ≡ x.moment = ap (λ (z : Entry). z.moment) same in omega arith
+    | inr there ↦ elim (behind_in x xs y o.0 there) [
+      | inl less ↦ omega arith
+      | inr now ↦ let e : x.moment ≡ y.moment = now.0 in omega arith
+    ]
+  ])
 ]
 
 all_start : (p : Sender → Bool) (l : List Sender) → list_all p l ≡ true → (b : Sender) → In b l → p b ≡ true
@@ -175,6 +206,7 @@ settled s hands up same wakes room =
     record {
       origin = c.v + s.table.sg;
       soon = omega arith;
+      parts = in_parts (c.v + s.table.sg) s.list s.law.ordered;
       rounds = in_order;
       closed = λ n enough.
           subst (λ m. Begins (behind (c.v + s.table.sg) s.list) (rounds_from (λ number. drop (length (own s.list number (c.v + s.table.sg))) (m number)) s.table.sg (turn_order s.table) (c.v + s.table.sg) n)) same

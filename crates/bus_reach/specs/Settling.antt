@@ -1,6 +1,6 @@
 -- A bus without a master finds its order by itself: what the senders of an aperiodic table do, whenever they were powered up, where no transmit
 -- interval outlasts what a sender waits and sends at least from one start to the next.
-use Rattle.std.specs.Prelude.{◌≡◌, ℕ, zero, suc, ◌+◌, ◌*◌, ◌<◌, ◌≤◌, nat_le, IsTrue, List, [], ◌∷◌, ◌++◌, length, drop}
+use Rattle.std.specs.Prelude.{◌≡◌, ℕ, zero, suc, ◌+◌, ◌*◌, ◌<◌, ◌≤◌, nat_le, nat_lt, IsTrue, List, [], ◌∷◌, ◌++◌, length, drop}
 use Rattle.std.specs.List.{filter}
 use Rattle.bus_strings.specs.Members.{In}
 use Rattle.bus_strings.specs.Messages.{Message, Entry}
@@ -24,6 +24,10 @@ use Rattle.bus_reach.specs.Starting.{starts_itself}
 -- The transmissions that start at moment t or later.
 abbrev pub behind : ℕ → List Entry → List Entry
 behind t list = filter (λ x. nat_le t x.moment) list
+
+-- The transmissions that start before moment t.
+abbrev pub until : ℕ → List Entry → List Entry
+until t list = filter (λ x. nat_lt x.moment t) list
 
 -- Up to the horizon these transmissions are rounds of the senders `first ∷ others`, where sender a is next, `rest` speak behind it in its round,
 -- and they count their terminal gaps from this moment: a starts its terminal gap behind it. Those of the round that have yet to speak count
@@ -60,7 +64,9 @@ Begins list whole = (more : List Entry) × (whole ≡ list ++ more)
 
 -- Where all have been powered up at moment `up`, the list has settled at moment `origin`:
 --   soon     that is no later than a longest cycle and a synchronization gap behind `up`
---   rounds   from there on all senders speak in turn order, round by round. The first counts its terminal gap, the least, from `origin`
+--   parts    the list is what started before, and then what started at `origin` or later
+--   rounds   the latter is rounds: all senders speak in turn order, round by round, up to the horizon, with nothing missing and nothing else.
+--            The first counts its terminal gap, the least, from `origin`
 --   closed   of enough rounds of the closed schedule, of the messages that they have left, these transmissions are the beginning
 --   clear    none of them overlaps another
 --   quiet    what started before has ended one synchronization gap before
@@ -68,6 +74,7 @@ Begins list whole = (more : List Entry) × (whole ≡ list ++ more)
 pub record IsSettled (table : Table) (hands : List Hand) (up horizon : ℕ) (list : List Entry) : Type 0 where
   pub origin : ℕ
   pub soon : origin ≤ up + most_cycle table + table.sg
+  pub parts : list ≡ until origin list ++ behind origin list
   pub rounds : AreRounds table.sg (turn_order table) horizon origin (behind origin list)
   pub closed : (n : ℕ) → length (behind origin list) ≤ n * length table.senders
       → Begins (behind origin list) (rounds_from (left_at hands list origin) table.sg (turn_order table) origin n)

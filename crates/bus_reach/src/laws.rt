@@ -49,9 +49,10 @@ pub fn joining_is_orderly()
     ensures soon { JoinersComeSoon }
 {}
 
-/// A table that starts itself settles without a master: whenever its senders were powered up, and whatever they sent at once until
-/// then, soon behind the last power-up they speak in turn order, round by round, and no two at once; until that each of them has
-/// sent one message at most.
+/// A bus without a master stabilizes itself: whenever the senders of a table that starts itself were powered up, and whatever they
+/// sent at once until then, from a moment on what they send is rounds in turn order, with nothing missing and no two at once
+/// (`specs/Settling.antt`). That moment comes at most a longest cycle and a synchronization gap behind the last power-up, and until
+/// then each of them has sent one message at most. Such a table is accepted.
 pub fn any_start_settles()
     ensures settles { AnyStartSettles }
     ensures long { LongHandsLast }
