@@ -9,8 +9,8 @@
 //! carrier: its time goes with the entries times the senders, its memory with the senders, and neither with the horizon.
 //!
 //! `specs/Breaches.antt` says what is wrong at a pair and what the answer is, `specs/Lines.antt` how it is told, and
-//! `specs/Meaning.antt` what it means that a trace has no breach, which [`laws`] tells. `specs/Watches.antt` has the numbers that
-//! are kept of a sender, and `specs/Standing.antt` what they stand for.
+//! `specs/Meaning.antt` what it means that a trace has no breach, which [`laws`] tells. `specs/inside/Watches.antt` has the numbers that
+//! are kept of a sender, and `specs/inside/Standing.antt` what they stand for.
 #![tactic(auto)]
 
 mod answer;

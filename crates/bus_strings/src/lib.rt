@@ -2,13 +2,13 @@
 //! transmissions of a list are garbled. And the messages text, which gives the data words of messages to come.
 //!
 //! - [`Message`] is 1 to 31 [`Wordstring`]s, [`Transmission`] one on the bus.
-//!   [`pulses`] says how long a message is and when it is on, [`overlap`] which transmissions garble each other.
+//!   [`bits`] says how long a message is, [`is_on`] when it is on, and [`garbled`] and [`Marks`] which transmissions are garbled.
 //! - [`Payloads`] are the items of a messages text: [`read_messages`] gives them, or the line that is
 //!   refused and why, and [`write_messages`] writes their canonical text.
 //!
 //! The definitions are in `specs/`: `Messages`, `Pulses` and `Transmissions` for what is sent, `Items`, `Grammar` (which
-//! texts stand for which items), `Reading` (what a text reads as, or which line is refused), `Canonical` and `Puts` for
-//! the messages text.
+//! texts stand for which items), `Reading` (what a text reads as, or which line is refused) and `Canonical` for the messages
+//! text.
 #![tactic(auto)]
 
 mod fault;

@@ -133,9 +133,15 @@ sender_length mode sender h =
     let sends = sends_length mode sender.sends lines.0 in
     let takes = takes_length mode sender.takes lines.1 in
     let front : List Line = SenderLine sender.number sender.tg sender.at ∷ map Sends sender.sends in
-    omega (arith, first, sends, takes, ap length (flat_map-append (bytes mode) front (map Takes sender.takes)),
-    length-append (flat_map (bytes mode) front) (flat_map (bytes mode) (map Takes sender.takes)),
-    length-append (bytes mode (SenderLine sender.number sender.tg sender.at)) (flat_map (bytes mode) (map Sends sender.sends)))
+    omega (
+      arith,
+      first,
+      sends,
+      takes,
+      ap length (flat_map-append (bytes mode) front (map Takes sender.takes)),
+      length-append (flat_map (bytes mode) front) (flat_map (bytes mode) (map Takes sender.takes)),
+      length-append (bytes mode (SenderLine sender.number sender.tg sender.at)) (flat_map (bytes mode) (map Sends sender.sends)),
+    )
 
 listener_length : (mode : Mode) (listener : Listener) → is_listener listener ≡ true → length (flat_map (bytes mode) (listener_lines listener)) ≤ 148 * 65
 listener_length mode listener h =
@@ -166,11 +172,17 @@ head_length mode m ti sg h k =
     let b = spelled_length (line_fields mode (ModeLine m)) (mode_small mode m) in
     let c : length (bytes mode (TiLine ti)) ≤ 148 = spelled_length (line_fields mode (TiLine ti)) (number_line _ ti (lit< tt) h) in
     let d : length (bytes mode (SgLine sg)) ≤ 148 = spelled_length (line_fields mode (SgLine sg)) (number_line _ sg (lit< tt) k) in
-    omega (arith, a, b, c, d,
-    length-append (bytes mode TableLine) (flat_map (bytes mode) (ModeLine m ∷ TiLine ti ∷ SgLine sg ∷ [])),
-    length-append (bytes mode (ModeLine m)) (flat_map (bytes mode) (TiLine ti ∷ SgLine sg ∷ [])),
-    length-append (bytes mode (TiLine ti)) (flat_map (bytes mode) (SgLine sg ∷ [])),
-    length-append (bytes mode (SgLine sg)) [])
+    omega (
+      arith,
+      a,
+      b,
+      c,
+      d,
+      length-append (bytes mode TableLine) (flat_map (bytes mode) (ModeLine m ∷ TiLine ti ∷ SgLine sg ∷ [])),
+      length-append (bytes mode (ModeLine m)) (flat_map (bytes mode) (TiLine ti ∷ SgLine sg ∷ [])),
+      length-append (bytes mode (TiLine ti)) (flat_map (bytes mode) (SgLine sg ∷ [])),
+      length-append (bytes mode (SgLine sg)) [],
+    )
 
 -- no more than eight mebibytes, and far less
 pub text_length : (table : Table) → IsTrue (is_valid table) → length (table_text table) ≤ 8388608
@@ -192,8 +204,16 @@ text_length table valid =
     let c = blocks_length mode (148 * 65) is_listener listener_lines table.listeners (listener_length mode) listeners.0 in
     let whole : length (table_text table) ≡ length (flat_map (bytes mode) (head ++ blocks ++ others)) =
     ap length (flat_map-map spelled_line (line_fields mode) (lines_of table)) in
-    omega (arith, few.0, few.1, a, b, c, whole,
-    ap length (flat_map-append (bytes mode) (head ++ blocks) others),
-    length-append (flat_map (bytes mode) (head ++ blocks)) (flat_map (bytes mode) others),
-    ap length (flat_map-append (bytes mode) head blocks),
-    length-append (flat_map (bytes mode) head) (flat_map (bytes mode) blocks))
+    omega (
+      arith,
+      few.0,
+      few.1,
+      a,
+      b,
+      c,
+      whole,
+      ap length (flat_map-append (bytes mode) (head ++ blocks) others),
+      length-append (flat_map (bytes mode) (head ++ blocks)) (flat_map (bytes mode) others),
+      ap length (flat_map-append (bytes mode) head blocks),
+      length-append (flat_map (bytes mode) head) (flat_map (bytes mode) blocks),
+    )

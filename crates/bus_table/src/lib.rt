@@ -1,9 +1,9 @@
 //! The table of a bus: which terminals stand on it, when each may start, and what each sends and takes.
 //!
-//! - [`Table`] with its [`Sender`]s, its [`Listener`]s and their [`line`]s keeps that it is
+//! - [`Table`] with its [`Sender`]s, its [`Listener`]s and their [`SendLine`]s and [`TakeLine`]s keeps that it is
 //!   valid: every number is in its range, and none of the [`WholeReason`]s applies.
 //! - [`read_table`] reads a text, and [`write_table`] writes the canonical one.
-//! - [`lengths`] tells the shortest and the longest message of a sender, [`place`] who speaks after whom.
+//! - [`shortest`] and [`longest`] tell the lengths of a sender's messages, [`place`] who speaks after whom.
 //! - [`with_offsets`] gives the senders of a periodic table other offsets.
 //! - [`fits`] holds the items of a messages text to the lines of their senders, and [`hands`] deals them out.
 //!
@@ -14,8 +14,8 @@
 //! The definitions are in `specs/`: `Tables` (a table as plain numbers and lists), `Ranges`, `Whole` and `Valid` (which
 //! tables are valid), `Text` (which texts stand for which tables), `Forms`, `Drafts` and `Reading` (what a text reads as,
 //! line by line, and where and why it is refused), `Canonical` (the text that is written), `Lengths`, `Turns`, `Offsets`,
-//! `Fits` and `Hands`. What callers may use of them beside the contracts are `Facts` and the files whose
-//! names end in `Laws`.
+//! `Fits` and `Hands`. What callers may use of them beside the contracts are the files of `proofs/` whose
+//! names end in `Laws`, and what they state in `specs/inside/Facts`.
 #![tactic(auto)]
 
 mod dealing;

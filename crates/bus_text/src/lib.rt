@@ -12,7 +12,7 @@
 //!
 //! The definitions are in `specs/`: `Lines` and `Fields` (what a text is cut into), `Numbers` and `Digits`,
 //! `Refusals` (which line is refused and why), `AllOf` (reading each of a list), `Canonical` (the one spelling that
-//! writers use). What callers may use of them beside the contracts are the files whose names end in `Laws`.
+//! writers use). What callers may use of them beside the contracts are the files of `proofs/` whose names end in `Laws`.
 #![tactic(auto)]
 
 mod cursor;

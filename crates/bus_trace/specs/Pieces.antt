@@ -46,12 +46,14 @@ pub record IsPending (stream pending : List ℕ) : Type 0 where
   pub feedless : HasNoFeed pending
 
 -- ---- what is due for a stream
+-- The first bytes of a stream, so many, are the text of a trace.
 pub record IsWholeAt (stream : List ℕ) (count : ℕ) : Type 0 where
   pub trace : Recording
   pub within : count ≤ length stream
   pub short : count ≤ text_limit
   pub text : IsTraceText trace (take count stream)
 
+-- A stream is refused for a reason against the line that begins at this byte.
 pub record IsRefusedAt (stream : List ℕ) (byte : ℕ) (reason : TraceReason) : Type 0 where
   pub front : List ℕ
   pub rest : List ℕ

@@ -32,13 +32,15 @@ words_of label ext marked = if marked.1 then None else words_in label ext marked
 abbrev pub channel_words : List Entry → ℕ → Channel → ℕ → Option (List ℕ)
 channel_words list label channel round = option_and_then (words_of label channel.ext) (slice_get (sent_by channel.terminal list) round)
 
--- The same of the channels of a voted label.
+-- The words of the first channel of a voted label in a round.
 abbrev pub first_words : List Entry → VotedLabel → ℕ → Option (List ℕ)
 first_words list voted round = channel_words list voted.label voted.first round
 
+-- The words of its second channel.
 abbrev pub second_words : List Entry → VotedLabel → ℕ → Option (List ℕ)
 second_words list voted round = channel_words list voted.label voted.second round
 
+-- The words of its third channel.
 abbrev pub third_words : List Entry → VotedLabel → ℕ → Option (List ℕ)
 third_words list voted round = channel_words list voted.label voted.third round
 

@@ -26,10 +26,11 @@ string_finds wanted list place terminal round string =
     if is_wanted wanted string.label && not (garbled list place)
     then record { place = place; round = round; label = string.label; terminal = terminal } ∷ [] else []
 
--- The finds of a transmission at a place, and of what stands there.
+-- The finds of a transmission at a place.
 abbrev pub entry_finds : List Bool → List Entry → ℕ → Entry → List Find
 entry_finds wanted list place x = flat_map (string_finds wanted list place x.terminal (sent_before x.terminal list place)) x.message
 
+-- The finds of what stands at a place.
 abbrev pub place_finds : List Bool → List Entry → ℕ → List Find
 place_finds wanted list place = option_map_or (entry_finds wanted list place) (slice_get list place) []
 
