@@ -71,7 +71,7 @@ none_found d sg all k step number slack own own_at number_is whole so =
 
 -- a table of several senders bears no more than its first gap has
 pub first_bound : (table : Table) (d n : ℕ) (gap : Gap) → n ≡ length table.senders → n ≢ 1 → slice_get (gaps table) 0 ≡ Some gap
-    → gap.to < d → gaps_bear table d ≡ false
+    → gap.to < gap.from + d → gaps_bear table d ≡ false
 first_bound table d n gap is apart at over = elim (cases_Bool (list_all (is_wide d) (gaps table))) [
   | inl wide ↦
       let k : gap.from + (gap.sender.tg + d) ≤ gap.to = leb-true (gap.from + (gap.sender.tg + d)) gap.to (all_in (is_wide d) (gaps table) gap wide (at_in (gaps table) 0 gap at)) in

@@ -4,12 +4,13 @@ ghost use Rattle.std.specs.Prelude.{◌≡◌, ◌+◌, ◌++◌, ◌≤◌, ◌
 ghost use Rattle.std.specs.List.{list_all};
 ghost use Rattle.bus_table.specs.Turned.{AreTurned};
 ghost use Rattle.bus_table.specs.declared.mode.Mode.TheVariants.{Periodic};
+ghost use Rattle.bus_regime.specs.Ends.{AreEnds};
 ghost use Rattle.bus_regime.specs.Gaps.{gaps};
 ghost use Rattle.bus_regime.specs.Verdicts.{verdict_of, is_accepted};
 ghost use Rattle.bus_schedule.specs.Slack as slacks;
 
 use crate::laws::{accepted_bear_none, borne_for_less};
-use bus_regime::{TurnGap, gap_at};
+use bus_regime::{TurnGap, gap_at, turn_ends};
 use bus_table::{Table, turn_places};
 
 /// Whether a gap is at least its sender's terminal gap and so many bit times.
@@ -52,13 +53,14 @@ fn is_enough(gap: &TurnGap<'_>, sg: u32, slack: Option<u64>) -> bool
 }
 
 /// Whether each gap is at least its sender's terminal gap and so many bit times.
-fn all_wide(table: &Table, places: &[usize; 128], d: u64) -> bool
-    requires { AreTurned table.now places.now }
+fn all_wide(table: &Table, places: &[usize; 128], ends: &[u64; 128], d: u64) -> bool
+    requires turned { AreTurned table.now places.now }
+    requires ends { AreEnds table.now ends.now }
     ensures value { result ≡ list_all (slacks.is_wide d) (gaps table.now) }
     ensures bound { IsTrue result → d ≤ 2 ^ 40 }
 {
     for k in 0..table.senders().len() {
-        if !is_wide(&gap_at(table, places, k), d) {
+        if !is_wide(&gap_at(table, places, ends, k), d) {
             return false;
         }
     }
@@ -81,8 +83,9 @@ fn behind(n: usize, k: usize, step: usize) -> usize
 }
 
 /// Whether the sender of the `k`-th gap stays in sync from its own message to its next one.
-fn stays(table: &Table, places: &[usize; 128], d: u64, k: usize) -> bool
+fn stays(table: &Table, places: &[usize; 128], ends: &[u64; 128], d: u64, k: usize) -> bool
     requires turned { AreTurned table.now places.now }
+    requires ends { AreEnds table.now ends.now }
     requires place { k < length table.now.senders }
     requires wide { IsTrue (list_all (slacks.is_wide d) (gaps table.now)) }
     requires most { d ≤ 2 ^ 40 }
@@ -90,10 +93,10 @@ fn stays(table: &Table, places: &[usize; 128], d: u64, k: usize) -> bool
         ≡ slacks.stays d table.now.sg own.sender.number (Some 0) (drop (k + 1) (gaps table.now) ++ take (k + 1) (gaps table.now))) }
 {
     let n = table.senders().len();
-    let number = gap_at(table, places, k).sender().number();
+    let number = gap_at(table, places, ends, k).sender().number();
     let mut slack = Some(0);
     for step in 0..n {
-        let gap = gap_at(table, places, behind(n, k, step));
+        let gap = gap_at(table, places, ends, behind(n, k, step));
         if gap.sender().number() == number {
             return is_enough(&gap, table.sg(), slack);
         }
@@ -103,19 +106,20 @@ fn stays(table: &Table, places: &[usize; 128], d: u64, k: usize) -> bool
 }
 
 /// Whether the gaps of a table bear delays up to `d` bit times, where turn order is known.
-fn gaps_bear(table: &Table, places: &[usize; 128], d: u64) -> bool
-    requires { AreTurned table.now places.now }
+fn gaps_bear(table: &Table, places: &[usize; 128], ends: &[u64; 128], d: u64) -> bool
+    requires turned { AreTurned table.now places.now }
+    requires ends { AreEnds table.now ends.now }
     ensures { result ≡ slacks.gaps_bear table.now d }
 {
     let n = table.senders().len();
     if n == 1 {
         return true;
     }
-    if !all_wide(table, places, d) {
+    if !all_wide(table, places, ends, d) {
         return false;
     }
     for k in 0..n {
-        if !stays(table, places, d, k) {
+        if !stays(table, places, ends, d, k) {
             return false;
         }
     }
@@ -126,7 +130,8 @@ fn gaps_bear(table: &Table, places: &[usize; 128], d: u64) -> bool
 pub(crate) fn bears(table: &Table, d: u64) -> bool
     ensures { result ≡ slacks.gaps_bear table.now d }
 {
-    gaps_bear(table, &turn_places(table), d)
+    let places = turn_places(table);
+    gaps_bear(table, &places, &turn_ends(table, &places), d)
 }
 
 /// The tolerance of a periodic table that the verdict accepts: the greatest delay that it bears, in bit times, found by halving.
@@ -143,11 +148,13 @@ pub(crate) fn tolerance(table: &Table) -> Option<u64>
         return None;
     }
     let places = turn_places(table);
+    let ends = turn_ends(table, &places);
     let mut borne = 0;
-    let mut above = gap_at(table, &places, 0).end() + 1;
+    let first = gap_at(table, &places, &ends, 0);
+    let mut above = first.end().saturating_sub(first.begin()) + 1;
     while above - borne > 1 {
         let middle = borne + (above - borne) / 2;
-        if gaps_bear(table, &places, middle) {
+        if gaps_bear(table, &places, &ends, middle) {
             borne = middle;
         } else {
             above = middle;

@@ -1,8 +1,9 @@
 -- The gaps by their places in turn order.
-use Rattle.std.proofs.Common.{◌≡◌, ◌≢◌, ℕ, zero, suc, ◌+◌, ◌<◌, ◌≤◌, ◌⊎◌, List, [], ◌∷◌, ◌++◌, length, get_or, take, drop, inl, inr, arith, sym, refl, ap, ◌∙◌, subst, cond}
+use Rattle.std.proofs.Common.{◌≡◌, ◌≢◌, ℕ, zero, suc, ◌+◌, ◌<◌, ◌≤◌, ◌⊎◌, List, [], ◌∷◌, ◌++◌, length, get_or, take, drop, set, ◌^◌, inl, inr, arith, sym, refl, ap, ◌∙◌, subst, cond}
 use Rattle.std.specs.Prelude.{Bool, true, false, Option, Some, None, slice_get, IsSomeAnd, IsTrue}
 use Rattle.std.specs.List.{find}
-use Rattle.std.proofs.lemmas.List.{take_all, take_more, drop_all}
+use Rattle.std.proofs.lemmas.Bool.{cases_lt}
+use Rattle.std.proofs.lemmas.List.{take_all, take_more, drop_all, get_or-set_same, get_or-set_other}
 use Rattle.std.proofs.lemmas.Option.{slice_get_read}
 use Rattle.bus_strings.specs.Members.{In}
 use Rattle.bus_table.specs.Tables.{Sender, Table}
@@ -11,6 +12,7 @@ use Rattle.bus_table.proofs.TurnLaws.{at_in, from_sort, length-sort, numbers_dif
 use Rattle.bus_table.specs.Valid.{is_valid}
 use Rattle.bus_table.proofs.ValidLaws.{valid_facts}
 use Rattle.bus_regime.proofs.GapLaws.{gap_first, gap_next, last_of, same_by_number}
+use Rattle.bus_regime.specs.Ends.{IsEnd, AreEnds}
 use Rattle.bus_regime.specs.Gaps.{Gap, latest_end, last_end, gaps_from, gaps}
 
 first_gap : (table : Table) (n : ℕ) (p s : Sender) → suc n ≡ length table.senders → slice_get (turn_order table) n ≡ Some p
@@ -98,6 +100,38 @@ next_from table k n end p next h at is =
     let s = in_order table k h in
     some_and (λ (gap : Gap). end ≡ gap.from) (slice_get (gaps table) k) (record { sender = s.0; from = table.ti + latest_end p; to = table.ti + s.0.at })
     (ap (slice_get (gaps table)) (sym next) ∙ gap_next table.ti (last_end 0 (turn_order table)) (turn_order table) n p s.0 at (ap (slice_get (turn_order table)) next ∙ s.1)) is
+
+-- so it is told by the ends of the longest messages
+pub first_end : (table : Table) (ends : List ℕ) (k n : ℕ) → k ≡ 0 → k < length table.senders → suc n ≡ length table.senders → AreEnds table ends
+    → IsSomeAnd (slice_get (gaps table) k) (λ gap. get_or ends n 0 ≡ gap.from)
+first_end table ends k n zero_k h last are =
+    let w = some_of (λ (s : Sender). get_or ends n 0 ≡ latest_end s) (slice_get (turn_order table) n) (are n (omega arith)).value in
+    first_from table k n (get_or ends n 0) w.0 zero_k h last w.1 w.2
+
+pub next_end : (table : Table) (ends : List ℕ) (k n from : ℕ) → suc n ≡ k → k < length table.senders → AreEnds table ends → from ≡ table.ti + get_or ends n 0
+    → IsSomeAnd (slice_get (gaps table) k) (λ gap. from ≡ gap.from)
+next_end table ends k n from next h are is =
+    let w = some_of (λ (s : Sender). get_or ends n 0 ≡ latest_end s) (slice_get (turn_order table) n) (are n (omega arith)).value in
+    next_from table k n from w.0 next h w.1 (is ∙ ap (λ e. table.ti + e) w.2)
+
+-- one end more is told
+pub end_more : (table : Table) (ends : List ℕ) (k v : ℕ) (s : Sender) → k < length ends → slice_get (turn_order table) k ≡ Some s → v ≡ latest_end s → v ≤ 2 ^ 33
+    → ((i : ℕ) → i < k → IsEnd table ends i) → (i : ℕ) → i < k + 1 → IsEnd table (set ends k v) i
+end_more table ends k v s inside at is low so i less = elim (cases_lt i k) [
+  | inl before ↦
+      let kept : get_or (set ends k v) i 0 ≡ get_or ends i 0 = get_or-set_other ends k i v 0 (λ e. omega arith) in
+      record {
+        bound = omega (arith, kept, (so i before).bound);
+        value = subst (λ e. IsSomeAnd (slice_get (turn_order table) i) (λ (w : Sender). e ≡ latest_end w)) (sym kept) (so i before).value;
+      }
+  | inr here ↦
+      let same : i ≡ k = omega arith in
+      let put : get_or (set ends k v) i 0 ≡ v = ap (λ n. get_or (set ends k v) n 0) same ∙ get_or-set_same ends k v 0 inside in
+      record {
+        bound = omega arith;
+        value = some_and (λ (w : Sender). get_or (set ends k v) i 0 ≡ latest_end w) (slice_get (turn_order table) i) s (ap (slice_get (turn_order table)) same ∙ at) (put ∙ is);
+      }
+]
 
 gap_here : (ti from : ℕ) (order : List Sender) (k : ℕ) (s : Sender) → slice_get order k ≡ Some s
     → (f : ℕ) × (slice_get (gaps_from ti from order) k ≡ Some (record { sender = s; from = f; to = ti + s.at }))

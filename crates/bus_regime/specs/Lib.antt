@@ -1,4 +1,5 @@
 pub mod Gaps
+pub mod Ends
 pub mod Verdicts
 pub mod Lines
 pub mod Fine

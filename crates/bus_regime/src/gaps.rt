@@ -3,6 +3,7 @@ ghost use Rattle.std.specs.Prelude.{◌≡◌, ◌≤◌, ◌<◌, ◌^◌, ◌+
 ghost use Rattle.bus_table.specs.Turned.{AreTurned};
 ghost use Rattle.bus_table.specs.Turns.{turn_order};
 ghost use Rattle.bus_table.specs.Lengths.{longest as longest_of};
+ghost use Rattle.bus_regime.specs.Ends.{AreEnds};
 ghost use Rattle.bus_regime.specs.Gaps.{gaps};
 
 use crate::table_verdict::TableVerdict;
@@ -132,31 +133,50 @@ fn latest_end(sender: &Sender) -> u64
     u64::from(sender.at()) + u64::from(longest(sender))
 }
 
+/// The ends of the longest messages of all senders in the first interval, in turn order. Behind the last there is no meaning in
+/// them. It takes no memory.
+pub fn turn_ends(table: &Table, places: &[usize; 128]) -> [u64; 128]
+    requires { AreTurned table.now places.now }
+    ensures { AreEnds table.now result }
+{
+    let mut ends = [0; 128];
+    for k in 0..table.senders().len() {
+        ends[k] = latest_end(turn_at(table, places, k));
+    }
+    ends
+}
+
 /// Where the gap before the `k`-th sender in turn order begins.
-fn gap_from(table: &Table, places: &[usize; 128], k: usize) -> u64
+fn gap_from(table: &Table, ends: &[u64; 128], k: usize) -> u64
     requires place { k < length table.now.senders }
-    requires turned { AreTurned table.now places.now }
+    requires ends { AreEnds table.now ends.now }
     ensures bound { result ≤ 2 ^ 40 }
     ensures value { IsSomeAnd (slice_get (gaps table.now) k) (λ gap. result ≡ gap.from) }
 {
     if k == 0 {
-        latest_end(turn_at(table, places, table.senders().len() - 1))
+        ends[table.senders().len() - 1]
     } else {
-        u64::from(table.ti()) + latest_end(turn_at(table, places, k - 1))
+        u64::from(table.ti()) + ends[k - 1]
     }
 }
 
-/// The gap before the `k`-th sender in turn order, from 0, where the places of turn order are known: by
-/// [`bus_table::turn_places`], once for all gaps.
-pub fn gap_at<'a>(table: &'a Table, places: &[usize; 128], k: usize) -> TurnGap<'a>
+/// The gap before the `k`-th sender in turn order, from 0, where the places of turn order are known, by
+/// [`bus_table::turn_places`], and the ends of messages, by [`turn_ends`]: both are found once for all gaps.
+pub fn gap_at<'a>(
+    table: &'a Table,
+    places: &[usize; 128],
+    ends: &[u64; 128],
+    k: usize,
+) -> TurnGap<'a>
     requires place { k < length table.now.senders }
     requires turned { AreTurned table.now places.now }
+    requires ends { AreEnds table.now ends.now }
     ensures { slice_get (gaps table.now) k ≡ Some result }
 {
     let sender = turn_at(table, places, k);
     TurnGap {
         sender,
-        from: gap_from(table, places, k),
+        from: gap_from(table, ends, k),
         to: u64::from(table.ti()) + u64::from(sender.at()),
     }
 }

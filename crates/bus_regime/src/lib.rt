@@ -16,7 +16,7 @@ mod table_verdict;
 mod tests;
 mod witnessing;
 
-pub use gaps::{TurnGap, gap_at, turn};
+pub use gaps::{TurnGap, gap_at, turn, turn_ends};
 pub use judging::verdict;
 pub use line::{put_verdict, write_verdict};
 pub use table_verdict::TableVerdict;

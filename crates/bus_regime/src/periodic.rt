@@ -4,10 +4,11 @@ ghost use Rattle.std.specs.List.{count_by, find};
 ghost use Rattle.bus_strings.specs.Members.{In};
 ghost use Rattle.bus_table.specs.Turned.{AreTurned};
 ghost use Rattle.bus_table.specs.declared.mode.Mode.TheVariants.{Periodic};
+ghost use Rattle.bus_regime.specs.Ends.{AreEnds};
 ghost use Rattle.bus_regime.specs.Gaps.{gaps, has_width};
 ghost use Rattle.bus_regime.specs.Verdicts as verdicts;
 
-use crate::gaps::{TurnGap, gap_at};
+use crate::gaps::{TurnGap, gap_at, turn_ends};
 use crate::table_verdict::TableVerdict;
 use bus_table::{Mode, Table, turn_places};
 
@@ -19,15 +20,20 @@ fn one_if(test: bool) -> usize
 }
 
 /// How many gaps have at least one synchronization gap, unless one is small: then the first of those.
-fn wide_gaps<'a>(table: &'a Table, places: &[usize; 128]) -> Result<usize, TurnGap<'a>>
-    requires { AreTurned table.now places.now }
+fn wide_gaps<'a>(
+    table: &'a Table,
+    places: &[usize; 128],
+    ends: &[u64; 128],
+) -> Result<usize, TurnGap<'a>>
+    requires turned { AreTurned table.now places.now }
+    requires ends { AreEnds table.now ends.now }
     ensures small { IfErr result (λ gap. find verdicts.is_small (gaps table.now) ≡ Some gap) }
     ensures none { IfOk result (λ _. find verdicts.is_small (gaps table.now) ≡ None) }
     ensures wide { IfOk result (λ wide. wide ≡ count_by (has_width table.now.sg) (gaps table.now)) }
 {
     let mut wide = 0;
     for k in 0..table.senders().len() {
-        let gap = gap_at(table, places, k);
+        let gap = gap_at(table, places, ends, k);
         if gap.is_small() {
             return Err(gap);
         }
@@ -48,13 +54,19 @@ fn lacks_sync(table: &Table, wide: usize, gap: &TurnGap<'_>) -> bool
 }
 
 /// The first gap in turn order whose sender lacks sync.
-fn unsynchronized<'a>(table: &'a Table, places: &[usize; 128], wide: usize) -> Option<TurnGap<'a>>
+fn unsynchronized<'a>(
+    table: &'a Table,
+    places: &[usize; 128],
+    ends: &[u64; 128],
+    wide: usize,
+) -> Option<TurnGap<'a>>
     requires turned { AreTurned table.now places.now }
+    requires ends { AreEnds table.now ends.now }
     requires wide { wide ≡ count_by (has_width table.now.sg) (gaps table.now) }
     ensures { result ≡ find (verdicts.lacks_sync table.now.sg (gaps table.now)) (gaps table.now) }
 {
     for k in 0..table.senders().len() {
-        let gap = gap_at(table, places, k);
+        let gap = gap_at(table, places, ends, k);
         if lacks_sync(table, wide, &gap) {
             return Some(gap);
         }
@@ -67,11 +79,12 @@ pub(crate) fn by_gaps(table: &Table) -> TableVerdict
     ensures { result ≡ verdicts.by_gaps table.now }
 {
     let places = turn_places(table);
-    let wide = match wide_gaps(table, &places) {
+    let ends = turn_ends(table, &places);
+    let wide = match wide_gaps(table, &places, &ends) {
         Ok(wide) => wide,
         Err(gap) => return gap.small_gap(),
     };
-    match unsynchronized(table, &places, wide) {
+    match unsynchronized(table, &places, &ends, wide) {
         Some(gap) => gap.no_sync(table.sg()),
         None => TableVerdict::Accept {
             mode: Mode::Periodic,
