@@ -5,6 +5,7 @@ use Rattle.std.specs.Prelude.{IsSome}
 use Rattle.std.specs.List.{list_all, range_with_len}
 use Rattle.std.proofs.lemmas.Bool.{and_parts}
 use Rattle.std.proofs.lemmas.List.FromFn.{map-range_with_len_more}
+use Rattle.bus_strings.specs.Limits.{most_terminal}
 use Rattle.bus_table.specs.declared.line.TakeLine.{TakeLine}
 use Rattle.bus_table.specs.declared.mode.Mode.TheVariants.{Aperiodic}
 use Rattle.bus_table.specs.Ranges.{is_sender, is_listener, kept}
@@ -71,7 +72,7 @@ mapped_next {X} f i x old new least h value before =
 
 -- the listener
 pub listener_made : (count i : ℕ) (takes : List TakeLine) (result : Option Listener) → count ≤ 31 → i ≡ count + 1
-    → takes ≡ map made_take (range_with_len 1 (i - 1)) → result ≡ kept is_listener (record { number = 128; takes = takes })
+    → takes ≡ map made_take (range_with_len 1 (i - 1)) → result ≡ kept is_listener (record { number = most_terminal; takes = takes })
     → result ≡ Some (made_listener count)
 listener_made count i takes result most end takes_are h =
     let e : i - 1 ≡ count = omega arith in

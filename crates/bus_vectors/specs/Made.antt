@@ -5,6 +5,7 @@
 use Rattle.std.specs.Prelude.{ℕ, ◌+◌, ◌*◌, ◌-◌, ◌%◌, ◌^◌, List, [], ◌∷◌, map, None}
 use Rattle.std.specs.List.{flat_map, range_with_len, sum_by}
 use Rattle.bus_strings.specs.Items.{Item}
+use Rattle.bus_strings.specs.Limits.{most_terminal}
 use Rattle.bus_table.specs.declared.mode.Mode.TheVariants.{Aperiodic}
 use Rattle.bus_table.specs.declared.line.SendLine.{SendLine}
 use Rattle.bus_table.specs.declared.line.TakeLine.{TakeLine}
@@ -41,7 +42,7 @@ made_take i = record { label = 256 + i; ext = None; first = 0; count = 4 }
 
 -- The one listener, which takes from each of so many senders.
 abbrev pub made_listener : ℕ → Listener
-made_listener senders = record { number = 128; takes = map made_take (sender_numbers senders) }
+made_listener senders = record { number = most_terminal; takes = map made_take (sender_numbers senders) }
 
 -- The synchronization gap.
 abbrev pub made_gap : ℕ

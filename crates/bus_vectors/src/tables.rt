@@ -1,9 +1,11 @@
 //! The table of a number.
 ghost use Rattle.std.specs.Prelude.{◌≡◌, ◌+◌, ◌≤◌, IfOk, length};
+ghost use Rattle.bus_strings.specs.Limits.{most_terminal};
 ghost use Rattle.bus_vectors.specs.Made as made;
 ghost use Rattle.bus_vectors.specs.Made.{made_send, made_sender, made_senders, made_take, made_listener, made_cycle};
 ghost use Rattle.bus_vectors.specs.Made.{made_table};
 
+use bus_strings::limits::MOST_TERMINAL;
 use bus_table::{Listener, Mode, SendLine, Sender, Table, TakeLine};
 use bus_words::{Ext, Label};
 use std::alloc::{AllocError, Global};
@@ -88,12 +90,12 @@ fn listener(alloc: Global, count: u8) -> Result<Listener, AllocError>
         let _ext = line.ext;
         takes.push(line)?;
     }
-    Ok(Listener::new(128, takes).unwrap())
+    Ok(Listener::new(MOST_TERMINAL, takes).unwrap())
 }
 
 /// The shortest cycle of these senders.
 fn cycle(senders: &[Sender]) -> u32
-    requires { length senders.now ≤ 128 }
+    requires { length senders.now ≤ most_terminal }
     ensures { result ≡ made_cycle senders.now }
 {
     let mut bits = GAP;
