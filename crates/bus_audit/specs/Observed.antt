@@ -1,14 +1,12 @@
 -- What is observed of the senders of a valid table, with any hands that fit them, has no breach; and what has no breach is observed of
 -- hands that fit them, those that its HOLD lines give.
-use Rattle.std.proofs.Common.{◌≡◌, ℕ, ◌<◌, cond, List, [], ◌∷◌, length, inl, inr, arith, sym, ap, ◌∙◌, subst, eq-eqb}
+use Rattle.std.proofs.Common.{◌≡◌, List, length}
 use Rattle.std.specs.Prelude.{IsTrue}
-use Rattle.std.proofs.lemmas.Bool.{ne_eqb}
 use Rattle.bus_strings.specs.Members.{In}
 use Rattle.bus_table.specs.Tables.{Table, Hand}
 use Rattle.bus_table.specs.Hands.{are_hands}
 use Rattle.bus_table.specs.Valid.{is_valid}
-use Rattle.bus_trace.specs.declared.hold.Hold.{Hold}
-use Rattle.bus_trace.specs.Traces.{Recording, IsTrace, AscendAbove}
+use Rattle.bus_trace.specs.Traces.{Recording, IsTrace}
 use Rattle.bus_medium.specs.Lawful.{IsLawful}
 use Rattle.bus_medium.specs.Timings.{quiet_of, stations_of}
 use Rattle.bus_audit.specs.Breaches.{held, HasNoBreach}

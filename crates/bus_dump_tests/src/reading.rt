@@ -109,7 +109,7 @@ const LETTERS: [(u8, &[u8]); 11] = [
     (b'G', b"b11100010001"),
 ];
 
-// The value that a line has for a signal, if it has one.
+/// The value that a line has for a signal, if it has one.
 fn value_in<'a>(line: &'a [u8], name: &[u8]) -> Option<&'a [u8]> {
     match line {
         [b'0' | b'1', rest @ ..] if rest == name => line.get(..1),
@@ -118,7 +118,7 @@ fn value_in<'a>(line: &'a [u8], name: &[u8]) -> Option<&'a [u8]> {
     }
 }
 
-// The value that a reader has of a signal at a place of the time scale.
+/// The value that a reader has of a signal at a place of the time scale.
 fn value_at<'a>(lines: &[&'a [u8]], name: &[u8], place: u64) -> &'a [u8] {
     let mut value: &[u8] = b"";
     for line in lines {
@@ -132,7 +132,7 @@ fn value_at<'a>(lines: &[&'a [u8]], name: &[u8], place: u64) -> &'a [u8] {
     value
 }
 
-// The value of a letter.
+/// The value of a letter.
 fn value_of(letter: u8) -> &'static [u8] {
     for (own, value) in LETTERS {
         if own == letter {

@@ -15,7 +15,7 @@ WS L0B210 D00FF1
 END
 ";
 
-// The end of the picture, as long as the missing start needs, which has 1170 bit times.
+/// The end of the picture, as long as the missing start needs, which has 1170 bit times.
 const LONG: &str =
     "<rect class=\"wordstring\" x=\"1720\" y=\"1200\" width=\"660\" height=\"120\"><title>T1 message 1: moments 20 to 80, 60 bit times, 10.0 to 40.0 microseconds</title></rect>
 <text class=\"digits\" x=\"2050\" y=\"1295\">1</text>
@@ -41,7 +41,7 @@ WS L0A111 D00001 D00010
 END
 ";
 
-// The end of the picture: the breach at moment 1000 isn't marked.
+/// The end of the picture: the breach at moment 1000 isn't marked.
 const UNMARKED: &str = "<text class=\"detail\" x=\"1440\" y=\"1295\">0</text>
 <text class=\"detail\" x=\"15500\" y=\"1295\">60</text>
 </svg>

@@ -15,7 +15,7 @@ fn the_wires_of_a_trace(rt: HostRuntime) -> Result<(), Fail> {
     Ok(())
 }
 
-// How many bytes each dump and the save file have. That these are theirs is what the contract says.
+/// How many bytes each dump and the save file have. That these are theirs is what the contract says.
 #[test]
 fn each_dump_of_a_trace(rt: HostRuntime) -> Result<(), Fail> {
     for (command, length) in [("vcd", 832), ("timers", 1132), ("gtkw", 405)] {

@@ -19,8 +19,8 @@ WS L0B210 D00FF1
 END
 ";
 
-// The end of the picture: a row of two transmissions, the words of one of two that collide, which are drawn after them, and the first
-// start that is missing, in the first row.
+/// The end of the picture: a row of two transmissions, the words of one of two that collide, which are drawn after them, and the first
+/// start that is missing, in the first row.
 const ROWS: &str =
     "<rect class=\"wordstring\" x=\"12940\" y=\"1200\" width=\"670\" height=\"120\"><title>T1 message 1: moments 1020 to 1080, 60 bit times, 510.0 to 540.0 microseconds</title></rect>
 <text class=\"digits\" x=\"13275\" y=\"1295\">1</text>
@@ -51,7 +51,7 @@ fn a_row_for_each_cycle(rt: HostRuntime) -> Result<(), Fail> {
     Ok(())
 }
 
-// The lanes of a window that begins with the second transmission: the first has ended.
+/// The lanes of a window that begins with the second transmission: the first has ended.
 #[test]
 fn a_time_line_of_a_window(rt: HostRuntime) -> Result<(), Fail> {
     let ran = run_on(&rt, &["svg", "T", "R", "80", "180"], TABLE, TRACE)?;
@@ -65,7 +65,7 @@ fn a_time_line_of_a_window(rt: HostRuntime) -> Result<(), Fail> {
     Ok(())
 }
 
-// The row of a cycle of which only the second transmission begins in the window: it begins where the first has ended.
+/// The row of a cycle of which only the second transmission begins in the window: it begins where the first has ended.
 #[test]
 fn a_row_of_a_window_inside_a_cycle(rt: HostRuntime) -> Result<(), Fail> {
     let ran = run_on(&rt, &["cycles", "T", "R", "100", "140"], TABLE, TRACE)?;
@@ -79,7 +79,7 @@ fn a_row_of_a_window_inside_a_cycle(rt: HostRuntime) -> Result<(), Fail> {
     Ok(())
 }
 
-// The longest window, and one that goes a moment further.
+/// The longest window, and one that goes a moment further.
 #[test]
 fn a_window_goes_as_far_as_a_horizon_may(rt: HostRuntime) -> Result<(), Fail> {
     for command in ["svg", "cycles"] {

@@ -47,7 +47,7 @@ fn a_row_is_a_transmit_interval(rt: HostRuntime) -> Result<(), Fail> {
     Ok(())
 }
 
-// A transmission of the second terminal in each of 504 intervals, of which 500 have a row.
+/// A transmission of the second terminal in each of 504 intervals, of which 500 have a row.
 #[test]
 fn rows_that_are_too_many(rt: HostRuntime) -> Result<(), Fail> {
     let mut text = String::from_str(rt.alloc(), "TRACE 1\nHORIZON 1010000\nHOLD 2 504\n")?;
