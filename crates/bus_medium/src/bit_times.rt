@@ -1,3 +1,4 @@
+//! The bus bit time for bit time: at each moment all decide, and then all hear the bit time that is over.
 ghost use Rattle.std.specs.Prelude.{◌≡◌, ℕ, ◌+◌, ◌<◌, ◌≤◌, [], true, List, map, IfOk, OnOk};
 ghost use Rattle.std.specs.List.{list_any};
 ghost use Rattle.bus_strings.specs.Limits.{horizon_limit};

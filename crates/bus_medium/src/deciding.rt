@@ -1,3 +1,4 @@
+//! Who starts at a moment: the senders decide by rising number.
 ghost use Rattle.std.specs.Prelude.{◌≡◌, ◌<◌, ◌≤◌, map, Option, IfOk, OnOk, MatchOption};
 ghost use Rattle.bus_strings.specs.Limits.{horizon_limit, most_terminal};
 ghost use Rattle.bus_medium.specs.Buses.{number_of};

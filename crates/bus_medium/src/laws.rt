@@ -1,3 +1,4 @@
+//! Laws of the definitions, each the contract of a function that does nothing.
 ghost use Rattle.bus_medium.specs.PastLaws.{PastLength, PastAt, NoCarrier, OwnLater, OwnMore, LastMore, OneAt};
 ghost use Rattle.bus_medium.specs.BusyLaws.{EntryIsBusy, BusyElapsed, BusyWaiting, BusyNobody};
 ghost use Rattle.bus_medium.specs.LawfulLaws.{OneLawfulList, ThereIsALawfulList, TheComputedList, OneListOfATable, LawfulToHorizon};

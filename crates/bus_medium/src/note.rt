@@ -1,3 +1,4 @@
+//! Adds to a list what was found.
 ghost use Rattle.std.specs.Prelude.{◌≡◌, ◌++◌, ◌∷◌, [], MatchOption, OnOk};
 
 use std::alloc::AllocError;

@@ -1,3 +1,4 @@
+//! A sender of the bus.
 ghost use Rattle.std.specs.Prelude.{◌≡◌};
 
 use bus_terminal::Terminal;

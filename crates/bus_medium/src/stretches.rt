@@ -1,3 +1,4 @@
+//! The bus by jumps: over stretches in which the carrier stays as it is and nobody begins.
 ghost use Rattle.std.specs.Prelude.{◌≡◌, ℕ, ◌+◌, ◌*◌, ◌<◌, ◌≤◌, ◌⊎◌, [], true, min, List, map, Option, IfOk, OnOk, MatchOption};
 ghost use Rattle.std.specs.List.{list_any};
 ghost use Rattle.bus_strings.specs.Limits.{horizon_limit};

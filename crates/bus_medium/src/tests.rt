@@ -1,3 +1,4 @@
+//! Tries of the bus on tables with one sender and with several.
 ghost use Rattle.std.specs.Prelude.{IfOk, IsTrue};
 ghost use Rattle.bus_table.specs.Hands.{are_hands};
 

@@ -1,3 +1,4 @@
+//! The timings of the senders of a table.
 ghost use Rattle.std.specs.Prelude.{◌≡◌, ◌+◌, ◌<◌, ◌≤◌, ℕ, length, slice_get, Some};
 ghost use Rattle.bus_table.specs.Tables as tables;
 ghost use Rattle.bus_timers.specs.Timings.{IsSound};

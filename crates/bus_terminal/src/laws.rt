@@ -1,3 +1,4 @@
+//! Laws of the definitions, each the contract of a function that does nothing.
 ghost use Rattle.bus_terminal.specs.SendingLaws.{SendingIsNotReady};
 ghost use Rattle.bus_terminal.specs.JumpLaws.{LaterIsStepByStep, OneStretch, SteadyWithin};
 

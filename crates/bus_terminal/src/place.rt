@@ -1,3 +1,4 @@
+//! Where a running message is.
 ghost use Rattle.std.specs.Prelude.{◌≡◌, ℕ, ◌+◌, ◌<◌, ◌≤◌, MatchOption, length};
 ghost use Rattle.bus_strings.specs.Messages.{bits as length_of, IsMessage};
 ghost use Rattle.bus_strings.specs.Pulses.{is_on};

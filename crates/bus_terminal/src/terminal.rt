@@ -1,3 +1,4 @@
+//! A sending terminal: its timers, its hand and what it is sending.
 ghost use Rattle.std.specs.Prelude.{◌≡◌, ℕ, ◌+◌, ◌<◌, ◌≤◌, ◌↔◌, ◌⊎◌, ◌++◌, ◌∷◌, [], Bool, true, false, List, length, replicate, slice_get};
 ghost use Rattle.std.specs.Prelude.{Option, Some, None, IsTrue, MatchOption};
 ghost use Rattle.bus_timers.specs.declared.timing.Timing.{Timing};

@@ -1,3 +1,4 @@
+//! Tries of a terminal alone and of its stretches.
 ghost use Rattle.std.specs.Prelude.{◌+◌, ◌≤◌};
 
 use crate::terminal::Terminal;

@@ -1,3 +1,4 @@
+//! What the timers of a terminal are, however they are kept.
 ghost use Rattle.std.specs.Prelude.{◌≡◌, ℕ, ◌+◌, ◌^◌, ◌≤◌, ◌⊎◌, ◌↔◌, ◌++◌, ◌∷◌, [], Bool, false, List, length, replicate, Option, IsTrue};
 ghost use Rattle.bus_timers.specs.declared.timing.Timing.{Timing};
 ghost use Rattle.bus_timers.specs.Timings.{IsSound};

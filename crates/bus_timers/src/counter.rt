@@ -1,3 +1,4 @@
+//! Timers kept as counters.
 ghost use Rattle.std.specs.Prelude.{◌≡◌, ℕ, ◌+◌, ◌-◌, ◌^◌, min, ◌<◌, ◌≤◌, Bool, true, false};
 ghost use Rattle.bus_timers.specs.inside.Counters.{CoreStands, core_moves};
 

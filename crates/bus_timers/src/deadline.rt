@@ -1,3 +1,4 @@
+//! Timers kept as places in the past.
 ghost use Rattle.std.specs.Prelude.{◌≡◌, ◌+◌, ◌^◌, ◌<◌, ◌≤◌, ◌⊎◌, true, false};
 ghost use Rattle.bus_timers.specs.inside.Deadlines.{DeadlinesStand, room_left};
 

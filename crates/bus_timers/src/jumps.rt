@@ -1,3 +1,4 @@
+//! Timers that pass a whole stretch at once.
 ghost use Rattle.std.specs.Prelude.{◌≡◌, ℕ, ◌+◌, ◌≤◌, ◌⊎◌, ◌++◌, Bool, List, replicate, Option};
 ghost use Rattle.bus_timers.specs.declared.timing.Timing.{Timing};
 ghost use Rattle.bus_timers.specs.Wait.{IsWait, longest_pass};

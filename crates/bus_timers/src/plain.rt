@@ -1,3 +1,4 @@
+//! When a terminal may start, tested on its whole past.
 ghost use Rattle.std.specs.Prelude.{◌≡◌, ◌+◌, ◌-◌, ◌^◌, ◌≤◌, ◌<◌, ◌↔◌, length, IsTrue, nat_le};
 ghost use Rattle.std.specs.List.{list_any, range_with_len};
 ghost use Rattle.bus_timers.specs.Timings.{due_place};

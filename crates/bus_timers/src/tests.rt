@@ -1,3 +1,4 @@
+//! Tries of both cores beside the definition.
 ghost use Rattle.std.specs.Prelude.{◌+◌, ◌≤◌};
 ghost use Rattle.bus_timers.specs.Timings.{IsSound};
 ghost use Rattle.bus_timers.specs.Wait.{longest_pass};

@@ -1,3 +1,4 @@
+//! The numbers by which timers run.
 /// The numbers by which a terminal's timers run, all in bit times.
 ///
 /// It is sound (`IsSound`) where each number lies in its range and the terminal gap is shorter than the
