@@ -1,6 +1,7 @@
 //! The least interval of a periodic table.
 ghost use Rattle.std.specs.Prelude.{◌≡◌, ◌+◌, ◌-◌, ◌*◌, ◌^◌, ◌≤◌, nat_le, max, min, if◌then◌else◌};
 ghost use Rattle.std.specs.List.{sum_by};
+ghost use Rattle.bus_strings.specs.Limits.{most_terminal};
 ghost use Rattle.bus_table.specs.declared.mode.Mode.TheVariants.{Periodic};
 ghost use Rattle.bus_plan.specs.inside.Greatest.{greatest_tg, second_tg};
 ghost use Rattle.bus_plan.specs.Plans as plans;
@@ -50,7 +51,7 @@ fn sync_time(sg: u64, gaps: u64) -> u64
 /// The turns of the senders: each one's terminal gap and longest message.
 fn turns(table: &Table) -> u64
     ensures value { result ≡ sum_by plans.turn_time table.now.senders }
-    ensures bound { result ≤ 2 ^ 33 * 128 }
+    ensures bound { result ≤ 2 ^ 33 * most_terminal }
 {
     let mut sum = 0;
     for sender in table.senders() {
