@@ -1,5 +1,6 @@
 # Completion of bus629 for fish.
 complete -c bus629 -n 'test (count (commandline -opc)) -eq 1' -f -a check -d 'Judge a table'
+complete -c bus629 -n 'test (count (commandline -opc)) -eq 1' -f -a tolerance -d 'Tell how much delay an accepted table bears'
 complete -c bus629 -n 'test (count (commandline -opc)) -eq 1' -f -a tidy -d 'Write a table without comments, one space between fields'
 complete -c bus629 -n 'test (count (commandline -opc)) -eq 1' -f -a report -d 'Tell the verdict of a table and its figures, as JSON'
 complete -c bus629 -n 'test (count (commandline -opc)) -eq 1' -f -a witness -d 'Write messages with which a refused table fails'

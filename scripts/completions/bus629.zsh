@@ -4,6 +4,7 @@ _bus629() {
   local -a commands
   commands=(
     'check:judge a table'
+    'tolerance:tell how much delay an accepted table bears'
     'tidy:write a table without comments, one space between fields'
     'report:tell the verdict of a table and its figures, as JSON'
     'witness:write messages with which a refused table fails'
