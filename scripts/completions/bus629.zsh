@@ -21,7 +21,7 @@ _bus629() {
   )
   if (( CURRENT == 2 )); then
     _describe command commands
-  elif { (( CURRENT == 3 )) && [[ $words[2] != drill ]] } || { (( CURRENT == 4 )) && [[ $words[2] != (check|tidy|report|witness|plan|drill) ]] }; then
+  elif { (( CURRENT == 3 )) && [[ $words[2] != drill ]] } || { (( CURRENT == 4 )) && [[ $words[2] != (check|tolerance|tidy|report|witness|plan|drill) ]] }; then
     _files
   fi
 }
