@@ -15,5 +15,5 @@ complete -c bus629 -n 'test (count (commandline -opc)) -eq 1' -f -a vote -d 'Tak
 complete -c bus629 -n 'test (count (commandline -opc)) -eq 1' -f -a wave -d 'Write the wave of a trace'
 complete -c bus629 -n 'test (count (commandline -opc)) -eq 1' -f -a unwave -d 'Read the trace of a wave back'
 complete -c bus629 -n '__fish_seen_subcommand_from drill' -f
-complete -c bus629 -n '__fish_seen_subcommand_from check report tidy witness plan; and test (count (commandline -opc)) -ge 3' -f
+complete -c bus629 -n '__fish_seen_subcommand_from check tolerance report tidy witness plan; and test (count (commandline -opc)) -ge 3' -f
 complete -c bus629 -n 'test (count (commandline -opc)) -ge 4' -f
