@@ -10,10 +10,11 @@ use Rattle.bus_strings.specs.Marking.{greatest_end}
 use Rattle.bus_strings.specs.Transmissions.{end_of}
 use Rattle.bus_table.specs.declared.mode.Mode.TheVariants.{Aperiodic}
 use Rattle.bus_table.specs.Tables.{Sender, Table}
-use Rattle.bus_table.specs.inside.Facts.{SenderFacts}
+use Rattle.bus_table.specs.inside.Facts.{SenderFacts, TableFacts}
 use Rattle.bus_table.specs.Lengths.{shortest}
 use Rattle.bus_table.specs.Turns.{Rises, turn_key, turn_order}
 use Rattle.bus_table.proofs.TurnLaws.{of_each, from_sort, in_sort, length-sort, order_rises, behind_rises, numbers_differ}
+use Rattle.bus_table.proofs.ValidLaws.{valid_facts}
 use Rattle.bus_medium.specs.Timings.{quiet_of}
 use Rattle.bus_regime.proofs.VerdictLaws.{accepted_cycle}
 use Rattle.bus_schedule.specs.Closed.{sends}
@@ -122,30 +123,30 @@ le_false a b h = elim (cases_lt b a) [ inl less ↦ less | inr not ↦ absurd (t
 lt_false : (a b : ℕ) → nat_lt a b ≡ false → b ≤ a
 lt_false a b h = elim (cases_lt a b) [ inl less ↦ absurd (true≢false (sym (lt-ltb a b less) ∙ h)) | inr not ↦ not ]
 
-module _ (table : Table) (hands : ℕ → List Message) (n : ℕ) (setting : Setting table hands n)
-    (mode : table.mode ≡ Aperiodic) (long : table.ti ≤ table.sg + cycle shortest (turn_order table)) (more : 1 < n) (d : ℕ) where
-  -- what is left to show: with these places and wakes no list that the rule makes is the schedule
+module _ (table : Table) (facts : TableFacts table) (mode : table.mode ≡ Aperiodic) (long : table.ti ≤ table.sg + cycle shortest (turn_order table)) (d : ℕ) where
+  -- what is left to show: with these places and wakes, whatever the hands are, no list that the rule makes is the schedule
   record Broken : Type 0 where
     place : ℕ → ℕ
     wake : ℕ → ℕ
     places : (k : ℕ) → place k ≤ d
     wakes : (k : ℕ) → wake k ≤ d
-    fails : IsLawfulOnCable table.sg (cable place) wake (stations table hands) (greatest_end (cable_rounds (cable place) wake hands table.sg (turn_order table) n))
+    fails : (hands : ℕ → List Message) (n : ℕ) → Setting table hands n → 1 < n
+        → IsLawfulOnCable table.sg (cable place) wake (stations table hands) (greatest_end (cable_rounds (cable place) wake hands table.sg (turn_order table) n))
         (cable_rounds (cable place) wake hands table.sg (turn_order table) n) → ⊥
 
   rises : Rises (λ b. b.tg) (turn_order table)
-  rises = subst (λ m. Rises (turn_key m) (turn_order table)) mode (order_rises table setting.dealt.facts)
+  rises = subst (λ m. Rises (turn_key m) (turn_order table)) mode (order_rises table facts)
 
   of_order : (b : Sender) → In b (turn_order table) → In b table.senders
   of_order b i = from_sort (turn_key table.mode) table.senders b i
 
   facts_of : (b : Sender) → In b table.senders → SenderFacts table b
-  facts_of b i = of_each (SenderFacts table) table.senders setting.dealt.facts.senders b i
+  facts_of b i = of_each (SenderFacts table) table.senders facts.senders b i
 
   -- senders with other terminal gaps have other numbers
   apart : (a b : Sender) → In a table.senders → In b table.senders → a.tg < b.tg → a.number ≢ b.number
   apart a b i j less e =
-      let same : a ≡ b = same_sender (λ c. c.number) table.senders a b (numbers_differ table setting.dealt.facts) i j e in
+      let same : a ≡ b = same_sender (λ c. c.number) table.senders a b (numbers_differ table facts) i j e in
       let tg : a.tg ≡ b.tg = ap (λ (c : Sender). c.tg) same in
       omega arith
 
@@ -162,19 +163,17 @@ module _ (table : Table) (hands : ℕ → List Message) (n : ℕ) (setting : Set
       let before : (b : Sender) → In b pre → b.tg < a.tg = λ b i. rises_before (λ b. b.tg) pre a (c ∷ post) b up i in
       let pre_a : (b : Sender) → In b pre → b.number ≢ a.number = λ b i. apart b a (pre_in b i) a_in (before b i) in
       let pre_c : (b : Sender) → In b pre → b.number ≢ c.number = λ b i. apart b c (pre_in b i) c_in (let k : b.tg < a.tg = before b i in omega arith) in
-      let delay : Delays = cable (only_at a.number d) in
-      let wake : ℕ → ℕ = only_at a.number d in
-      let far : cable_heard (cable (only_at a.number d)) hands 0 pre (only_at a.number d) a.number ≡ cable_heard (cable (only_at a.number d)) hands 0 pre (only_at a.number d) c.number + d =
-      far_from a.number d hands pre (only_at a.number d) c.number off_a pre_a (omega (arith, at_place a.number d a.number refl, off_place a.number d c.number off_a)) in
-      let x : Entry = sends hands 0 a (cable_heard (cable (only_at a.number d)) hands 0 pre (only_at a.number d) a.number + a.tg) in
-      let lag : cable (only_at a.number d) (sends hands 0 a (cable_heard (cable (only_at a.number d)) hands 0 pre (only_at a.number d) a.number + a.tg)) c.number ≡ d =
-      cable_from a.number d (sends hands 0 a (cable_heard (cable (only_at a.number d)) hands 0 pre (only_at a.number d) a.number + a.tg)) c.number refl off_a in
       record {
         place = only_at a.number d;
         wake = only_at a.number d;
         places = place_most a.number d;
         wakes = place_most a.number d;
-        fails = near_fails table hands n setting mode (cable (only_at a.number d)) (only_at a.number d) (cable_own (only_at a.number d)) pre post a c (omega arith) split a_in c_in
+        fails = λ hands n setting more.
+            let far : cable_heard (cable (only_at a.number d)) hands 0 pre (only_at a.number d) a.number ≡ cable_heard (cable (only_at a.number d)) hands 0 pre (only_at a.number d) c.number + d =
+            far_from a.number d hands pre (only_at a.number d) c.number off_a pre_a (omega (arith, at_place a.number d a.number refl, off_place a.number d c.number off_a)) in
+            let lag : cable (only_at a.number d) (sends hands 0 a (cable_heard (cable (only_at a.number d)) hands 0 pre (only_at a.number d) a.number + a.tg)) c.number ≡ d =
+            cable_from a.number d (sends hands 0 a (cable_heard (cable (only_at a.number d)) hands 0 pre (only_at a.number d) a.number + a.tg)) c.number refl off_a in
+            near_fails table hands n setting mode (cable (only_at a.number d)) (only_at a.number d) (cable_own (only_at a.number d)) pre post a c (omega arith) split a_in c_in
             (λ e. off_a (sym e))
             (record {
               there = pre_in;
@@ -200,7 +199,8 @@ module _ (table : Table) (hands : ℕ → List Message) (n : ℕ) (setting : Set
         wake = only_at g.number (f.tg + 1);
         places = λ k. omega arith;
         wakes = λ k. omega (arith, place_most g.number (f.tg + 1) k);
-        fails = late_fails table hands n setting mode (cable (λ _. 0)) (only_at g.number (f.tg + 1)) (cable_own (λ _. 0)) post f g (omega arith) split f_in g_in off
+        fails = λ hands n setting more.
+            late_fails table hands n setting mode (cable (λ _. 0)) (only_at g.number (f.tg + 1)) (cable_own (λ _. 0)) post f g (omega arith) split f_in g_in off
             (omega (arith, off_place g.number (f.tg + 1) f.number off, at_place g.number (f.tg + 1) g.number refl));
       }
 
@@ -216,24 +216,25 @@ module _ (table : Table) (hands : ℕ → List Message) (n : ℕ) (setting : Set
       let f_mid : (b : Sender) → In b mid → f.number ≢ b.number = λ b i. apart f b f_in (mid_in b i) (behind_rises (λ b. b.tg) f (mid ++ l ∷ []) b up.0 (in_append_left mid (l ∷ []) b i)) in
       let mid_l : (b : Sender) → In b mid → b.number ≢ l.number = λ b i. apart b l (mid_in b i) l_in (rises_before (λ b. b.tg) mid l [] b up.1 i) in
       let short : l.tg < table.sg = (facts_of l l_in).tg_short in
-      let some : 0 < n = omega arith in
-      let x : Entry = sends hands 0 f (0 + f.tg) in
-      let far : heard_behind (cable (only_at l.number d)) hands (λ _. 0) f mid l.number ≡ heard_behind (cable (only_at l.number d)) hands (λ _. 0) f mid f.number + d =
-      far_from l.number d hands mid (heard_end (cable (only_at l.number d)) (sends hands 0 f (0 + f.tg))) f.number f_l mid_l
-      (omega (arith, cable_to l.number d (sends hands 0 f (0 + f.tg)) l.number f_l refl, cable_off l.number d (sends hands 0 f (0 + f.tg)) f.number f_l f_l)) in
-      let lag : cable (only_at l.number d) (sends hands 0 l (heard_behind (cable (only_at l.number d)) hands (λ _. 0) f mid l.number + l.tg)) f.number ≡ d =
-      cable_from l.number d (sends hands 0 l (heard_behind (cable (only_at l.number d)) hands (λ _. 0) f mid l.number + l.tg)) f.number refl f_l in
-      let whole : cycle (lengths hands 0) (turn_order table) ≡ f.tg + lengths hands 0 f + (cycle (lengths hands 0) mid + (l.tg + lengths hands 0 l) + 0) =
-      ap (cycle (lengths hands 0)) split ∙ ap (λ v. f.tg + lengths hands 0 f + v) (cycle_middle (lengths hands 0) mid l []) in
-      let no_less : LeadsMore shortest (lengths hands 0) (turn_order table) 0 = lead_more shortest (lengths hands 0) (turn_order table) 0
-      (λ b i. (sendable table hands n setting b 0 (of_order b i) some).least) in
-      let taken = heard_long (cable (only_at l.number d)) hands mid (heard_end (cable (only_at l.number d)) (sends hands 0 f (0 + f.tg))) (f.tg + lengths hands 0 f) (λ k. omega arith) f.number in
       record {
         place = only_at l.number d;
         wake = λ _. 0;
         places = place_most l.number d;
         wakes = λ k. omega arith;
-        fails = end_fails table hands n setting mode (cable (only_at l.number d)) (λ _. 0) (cable_own (only_at l.number d)) mid f l more split f_in l_in (λ e. f_l (sym e))
+        fails = λ hands n setting more.
+            let some : 0 < n = omega arith in
+            let x : Entry = sends hands 0 f (0 + f.tg) in
+            let far : heard_behind (cable (only_at l.number d)) hands (λ _. 0) f mid l.number ≡ heard_behind (cable (only_at l.number d)) hands (λ _. 0) f mid f.number + d =
+            far_from l.number d hands mid (heard_end (cable (only_at l.number d)) (sends hands 0 f (0 + f.tg))) f.number f_l mid_l
+            (omega (arith, cable_to l.number d (sends hands 0 f (0 + f.tg)) l.number f_l refl, cable_off l.number d (sends hands 0 f (0 + f.tg)) f.number f_l f_l)) in
+            let lag : cable (only_at l.number d) (sends hands 0 l (heard_behind (cable (only_at l.number d)) hands (λ _. 0) f mid l.number + l.tg)) f.number ≡ d =
+            cable_from l.number d (sends hands 0 l (heard_behind (cable (only_at l.number d)) hands (λ _. 0) f mid l.number + l.tg)) f.number refl f_l in
+            let whole : cycle (lengths hands 0) (turn_order table) ≡ f.tg + lengths hands 0 f + (cycle (lengths hands 0) mid + (l.tg + lengths hands 0 l) + 0) =
+            ap (cycle (lengths hands 0)) split ∙ ap (λ v. f.tg + lengths hands 0 f + v) (cycle_middle (lengths hands 0) mid l []) in
+            let no_less : LeadsMore shortest (lengths hands 0) (turn_order table) 0 = lead_more shortest (lengths hands 0) (turn_order table) 0
+            (λ b i. (sendable table hands n setting b 0 (of_order b i) some).least) in
+            let taken = heard_long (cable (only_at l.number d)) hands mid (heard_end (cable (only_at l.number d)) (sends hands 0 f (0 + f.tg))) (f.tg + lengths hands 0 f) (λ k. omega arith) f.number in
+            end_fails table hands n setting mode (cable (only_at l.number d)) (λ _. 0) (cable_own (only_at l.number d)) mid f l more split f_in l_in (λ e. f_l (sym e))
             (record {
               there = mid_in;
               apart = λ b i e. f_mid b i (sym e);
@@ -303,24 +304,23 @@ module _ (table : Table) (hands : ℕ → List Message) (n : ℕ) (setting : Set
           near pre post b z is (omega arith)
 
 pub tolerance_is_exact : ToleranceIsExact
-tolerance_is_exact table hands d valid mode accepted even more not_borne =
-    let setting : Setting table (messages_of hands) (rounds hands) = setting_of table hands valid even in
-    let dealt = dealt_even table hands even in
+tolerance_is_exact table d valid mode accepted not_borne =
+    let facts : TableFacts table = valid_facts table valid in
     let both = or_false (length table.senders == 1) (list_all (leaves_room d table.sg table.senders) table.senders) (sym (in_aperiodic table d mode) ∙ not_borne) in
     let bad = one_fails (leaves_room d table.sg table.senders) table.senders both.1 in
     let long : table.ti ≤ table.sg + cycle shortest (turn_order table) =
     subst (λ c. table.ti ≤ table.sg + c) (cycle_sum shortest table.senders ∙ sym (cycle_sort shortest (turn_key table.mode) table.senders)) (accepted_cycle table mode accepted) in
     let not_one : length table.senders ≢ 1 = λ e. true≢false (sym (eq-eqb (length table.senders) 1 e) ∙ both.0) in
-    let several : 1 < length (turn_order table) = omega (arith, length-sort (turn_key table.mode) table.senders, setting.dealt.facts.some, not_one) in
-    let b = found (turn_order table) several (λ first rest is some. broken table (messages_of hands) (rounds hands) setting mode long (omega arith) d first rest is some bad.0 bad.1 bad.2) in
+    let several : 1 < length (turn_order table) = omega (arith, length-sort (turn_key table.mode) table.senders, facts.some, not_one) in
+    let b = found (turn_order table) several (λ first rest is some. broken table facts mode long d first rest is some bad.0 bad.1 bad.2) in
     record {
       place = b.place;
       wake = b.wake;
       places = b.places;
       wakes = λ a i. b.wakes a.number;
-      fails = λ law. b.fails
+      fails = λ hands even two law. b.fails (messages_of hands) (rounds hands) (setting_of table hands valid even) (omega arith)
           (subst (λ q. IsLawfulOnCable q (cable b.place) b.wake (stations table (messages_of hands)) (greatest_end (cable_closed (cable b.place) b.wake table hands)) (cable_closed (cable b.place) b.wake table hands)) (quiet_is table mode)
-          (subst (λ ss. IsLawfulOnCable (quiet_of table) (cable b.place) b.wake ss (greatest_end (cable_closed (cable b.place) b.wake table hands)) (cable_closed (cable b.place) b.wake table hands)) (stations_of_dealt table hands valid dealt) law));
+          (subst (λ ss. IsLawfulOnCable (quiet_of table) (cable b.place) b.wake ss (greatest_end (cable_closed (cable b.place) b.wake table hands)) (cable_closed (cable b.place) b.wake table hands)) (stations_of_dealt table hands valid (dealt_even table hands even)) law));
     }
   where
     found : {X : Type 0} → (order : List Sender) → 1 < length order → ((first : Sender) (rest : List Sender) → order ≡ first ∷ rest → 0 < length rest → X) → X

@@ -37,8 +37,8 @@ borne_is_kept even table d valid mode accepted = (
     | inl yes' ↦ yes'
     | inr no' ↦
         let two : 2 ≤ rounds (witness_hands table) = omega (arith, two_rounds table (valid_facts table valid)) in
-        let f : FailsOnCable table (witness_hands table) d = tolerance_is_exact table (witness_hands table) d valid mode accepted (even table valid) two no' in
-        absurd (f.fails (keeps (witness_hands table) (cable f.place) f.wake (even table valid) (cables_delay d f.place f.places) f.wakes))
+        let f : FailsOnCable table d = tolerance_is_exact table d valid mode accepted no' in
+        absurd (f.fails (witness_hands table) (even table valid) two (keeps (witness_hands table) (cable f.place) f.wake (even table valid) (cables_delay d f.place f.places) f.wakes))
   ]),
 )
 

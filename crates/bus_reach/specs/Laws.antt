@@ -35,12 +35,12 @@ BorneIsClosed =
     → IsTrue (is_accepted (verdict_of table)) → IsTrue (are_even table hands) → AreDelays most delay → AreWakes most table.senders wake
     → IsTrue (bears table most) → IsCableRun table hands most delay wake (cable_closed delay wake table hands)
 
--- Longer delays than those an accepted aperiodic table bears make the closed schedule of all even hands of two rounds or more fail, on some
--- straight cable.
+-- Where an accepted aperiodic table doesn't bear delays up to d, there are places on a straight cable of that length, and wakes, with which the
+-- closed schedule fails, whatever even hands of two rounds or more its senders have.
 abbrev pub ToleranceIsExact : Type 0
 ToleranceIsExact =
-    (table : Table) (hands : List Hand) (d : ℕ) → IsTrue (is_valid table) → table.mode ≡ Aperiodic → IsTrue (is_accepted (verdict_of table))
-    → IsTrue (are_even table hands) → 2 ≤ rounds hands → bears table d ≡ false → FailsOnCable table hands d
+    (table : Table) (d : ℕ) → IsTrue (is_valid table) → table.mode ≡ Aperiodic → IsTrue (is_accepted (verdict_of table))
+    → bears table d ≡ false → FailsOnCable table d
 
 -- An accepted aperiodic table keeps its schedule with delays up to d: whatever even hands its senders have, with all delays and wakes up to d,
 -- each starts where the closed schedule says, and nowhere else.
