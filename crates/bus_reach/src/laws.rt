@@ -1,11 +1,22 @@
 //! Laws of the definitions, each the contract of a function that does nothing.
+ghost use Rattle.bus_medium.specs.CableLaws.{NoDelayIsTheBus, OneCableListOfATable};
 ghost use Rattle.bus_reach.specs.Laws.{BorneIsClosed, BorneIsKept, JoinersComeSoon, JoiningIsOrderly, MembersStay, NeighboursTell, NoDelayIsClosed, NoneIsBorne, ShorterIsBorne, ToleranceIsExact};
 ghost use Rattle.bus_reach.specs.Settling.{AnyStartSettles, LongHandsLast, StartsItselfIsAccepted};
 ghost use Rattle.bus_reach.specs.PeriodicLaws.{AcceptedBearNone, BorneForLess, CablesDelay};
 ghost use Rattle.bus_reach.specs.PeriodicLaws.{PeriodicBearingIsExact, PeriodicBorneIsClosed, PeriodicNotBorneBreaks};
 ghost use Rattle.bus_reach.specs.Receiving.{AperiodicBorneIsReceived, MatchesAreReceived, PeriodicBorneIsReceived};
 
+use bus_medium::laws::one_cable_list;
 use bus_schedule::laws::{accepted_is_closed, borne_gaps_are_closed, witnesses_have_schedules};
+
+/// Every valid table, with a hand for each of its senders, has exactly one lawful list for all delays, all wakes and each horizon.
+/// Without delays, where all senders wake at the settled start, it is the lawful list of the bus.
+pub fn one_list_on_a_cable()
+    ensures table { OneCableListOfATable }
+    ensures none { NoDelayIsTheBus }
+{
+    one_cable_list();
+}
 
 /// Without delays, and where all wake at the settled start, the closed schedule is that of `bus_schedule`.
 pub fn no_delay_is_closed()
