@@ -13,7 +13,7 @@ use Rattle.bus_strings.specs.Transmissions.{end_of, overlaps, garbled}
 use Rattle.bus_table.specs.declared.line.TakeLine.{TakeLine}
 use Rattle.bus_table.specs.Tables.{Sender}
 use Rattle.bus_table.specs.Turns.{turn_order}
-use Rattle.bus_medium.specs.Delays.{Delays, heard, heard_end}
+use Rattle.bus_medium.specs.Delays.{Delays, later, heard, heard_end}
 use Rattle.bus_schedule.specs.Closed as schedule
 use Rattle.bus_schedule.specs.Closed.{sends, closed, schedule_in}
 use Rattle.bus_schedule.specs.Even.{messages_of, rounds}
@@ -23,7 +23,7 @@ use Rattle.bus_filter.specs.Received as filters
 use Rattle.bus_filter.specs.Received.{ReceivedLine, Taker, received_line, string_lines, entry_lines, is_heard, received_by}
 use Rattle.bus_reach.specs.Laws.{BorneIsClosed}
 use Rattle.bus_reach.specs.PeriodicLaws.{PeriodicBorneIsClosed}
-use Rattle.bus_reach.specs.Receiving.{content, ReceivesAlike, AperiodicBorneIsReceived, PeriodicBorneIsReceived, MatchesAreReceived}
+use Rattle.bus_reach.specs.Receiving.{content, ReceivesAlike, AperiodicBorneIsReceived, PeriodicBorneIsReceived, lines_later, IsReceivedLater, AperiodicIsReceivedLater, PeriodicIsReceivedLater, MatchesAreReceived}
 use Rattle.bus_reach.specs.Schedule.{cable_turns, cable_origin, cable_rounds, cable_closed}
 
 -- ---- a list without overlaps
@@ -162,6 +162,33 @@ periodic_is_received accepts closes table hands most delay taker valid mode acce
     ((closes table hands most delay valid mode accepted even delays borne).clear far taker.number)
     (accepts table hands valid accepted even).clear
     (alike_heard delay taker.number (closed table hands) (closed table hands) (alike_self (closed table hands)))
+
+-- ---- what is received, at which moment
+others_later : (delay : Delays) (taker : Taker) (list : List Entry)
+    → flat_map (entry_lines taker.takes) (of_others taker.number (heard delay taker.number list)) ≡ flat_map (lines_later delay taker) list
+unfolding of_others
+others_later delay taker [] = refl
+others_later delay taker (x ∷ list) =
+    let rest = others_later delay taker list in
+    elim (x.terminal == taker.number) as (λ b. flat_map (entry_lines taker.takes)
+    (cond (not b) (later (delay x taker.number) x ∷ filter (λ z. not (z.terminal == taker.number)) (heard delay taker.number list)) (filter (λ z. not (z.terminal == taker.number)) (heard delay taker.number list)))
+    ≡ cond b [] (entry_lines taker.takes (later (delay x taker.number) x)) ++ flat_map (lines_later delay taker) list) [
+      | true ↦ rest
+      | false ↦ ap (λ t. entry_lines taker.takes (later (delay x taker.number) x) ++ t) rest
+    ]
+
+clear_later : (delay : Delays) (taker : Taker) (list : List Entry) → IsClear (heard delay taker.number list) → IsReceivedLater delay taker list
+clear_later delay taker list clear =
+    ap (flat_map (entry_lines taker.takes)) (taken_of taker.number (heard delay taker.number list) clear) ∙ others_later delay taker list
+
+pub aperiodic_is_later : BorneIsClosed → AperiodicIsReceivedLater
+aperiodic_is_later closes table hands most delay wake taker valid mode accepted even delays wakes borne far =
+    clear_later delay taker (cable_closed delay wake table hands)
+    ((closes table hands most delay wake valid mode accepted even delays wakes borne).clear far taker.number)
+
+pub periodic_is_later : PeriodicBorneIsClosed → PeriodicIsReceivedLater
+periodic_is_later closes table hands most delay taker valid mode accepted even delays borne far =
+    clear_later delay taker (closed table hands) ((closes table hands most delay valid mode accepted even delays borne).clear far taker.number)
 
 -- ---- what is received of one wordstring
 in_flat_map : {X Y : Type 0} (f : X → List Y) → (xs : List X) (x : X) (y : Y) → In x xs → In y (f x) → In y (flat_map f xs)

@@ -4,7 +4,8 @@ ghost use Rattle.bus_reach.specs.Laws.{BorneIsClosed, BorneIsKept, JoinersComeSo
 ghost use Rattle.bus_reach.specs.Settling.{AnyStartSettles, LongHandsLast, StartsItselfIsAccepted};
 ghost use Rattle.bus_reach.specs.PeriodicLaws.{AcceptedBearNone, BorneForLess, CablesDelay};
 ghost use Rattle.bus_reach.specs.PeriodicLaws.{PeriodicBearingIsExact, PeriodicBorneIsClosed, PeriodicNotBorneBreaks};
-ghost use Rattle.bus_reach.specs.Receiving.{AperiodicBorneIsReceived, MatchesAreReceived, PeriodicBorneIsReceived};
+ghost use Rattle.bus_reach.specs.Receiving.{AperiodicBorneIsReceived, AperiodicIsReceivedLater};
+ghost use Rattle.bus_reach.specs.Receiving.{MatchesAreReceived, PeriodicBorneIsReceived, PeriodicIsReceivedLater};
 
 use bus_medium::laws::one_cable_list;
 use bus_schedule::laws::{accepted_is_closed, borne_gaps_are_closed, witnesses_have_schedules};
@@ -106,10 +107,13 @@ pub fn borne_for_less()
 }
 
 /// With delays that an accepted table bears every terminal, sender or listener, receives the words that it receives without
-/// delays, line by line. With one sender alone no delay may be above the synchronization gap.
+/// delays, line by line, each later than it is sent by the delay. With one sender alone no delay may be above the synchronization
+/// gap.
 pub fn borne_is_received()
     ensures aperiodic { AperiodicBorneIsReceived }
     ensures periodic { PeriodicBorneIsReceived }
+    ensures aperiodic_later { AperiodicIsReceivedLater }
+    ensures periodic_later { PeriodicIsReceivedLater }
 {
     accepted_is_closed();
     borne_is_closed();
