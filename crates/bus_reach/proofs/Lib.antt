@@ -27,6 +27,7 @@ pub mod SettleExamples
 pub mod Examples
 pub mod PeriodicExact
 pub mod Lessening
+pub mod Accepting
 pub mod ReceivingLemmas
 pub mod Rotating
 pub mod Passes

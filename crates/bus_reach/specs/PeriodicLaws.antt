@@ -1,5 +1,5 @@
 -- What follows of the definitions for periodic tables, and of what is borne in either mode.
-use Rattle.std.specs.Prelude.{◌≡◌, ◌↔◌, ℕ, ◌≤◌, false, IsTrue, List}
+use Rattle.std.specs.Prelude.{◌≡◌, ◌↔◌, ℕ, ◌<◌, ◌≤◌, false, IsTrue, List, length}
 use Rattle.bus_table.specs.declared.mode.Mode.TheVariants.{Periodic}
 use Rattle.bus_table.specs.Tables.{Table, Hand}
 use Rattle.bus_table.specs.Valid.{is_valid}
@@ -56,6 +56,13 @@ CablesDelay = (most : ℕ) (place : ℕ → ℕ) → ((number : ℕ) → place n
 -- Every accepted table bears no delay.
 abbrev pub AcceptedBearNone : Type 0
 AcceptedBearNone = (table : Table) → IsTrue (is_valid table) → IsTrue (is_accepted (verdict_of table)) → IsTrue (bears table 0)
+
+-- And what bears a delay of 0 in periodic mode is accepted, where there are two senders or more. (A sender alone bears every delay by
+-- definition, also where the verdict refuses it.)
+abbrev pub BearZeroIsAccepted : Type 0
+BearZeroIsAccepted =
+    (table : Table) → IsTrue (is_valid table) → table.mode ≡ Periodic → 1 < length table.senders → IsTrue (bears table 0)
+    → IsTrue (is_accepted (verdict_of table))
 
 -- What an accepted table bears it bears for less.
 abbrev pub BorneForLess : Type 0

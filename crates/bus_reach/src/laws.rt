@@ -2,7 +2,7 @@
 ghost use Rattle.bus_medium.specs.CableLaws.{NoDelayIsTheBus, OneCableListOfATable};
 ghost use Rattle.bus_reach.specs.Laws.{BorneIsClosed, BorneIsKept, JoinersComeSoon, JoiningIsOrderly, MembersStay, NeighboursTell, NoDelayIsClosed, NoneIsBorne, ShorterIsBorne, ToleranceIsExact};
 ghost use Rattle.bus_reach.specs.Settling.{AnyStartSettles, LongHandsLast, StartsItselfIsAccepted};
-ghost use Rattle.bus_reach.specs.PeriodicLaws.{AcceptedBearNone, BorneForLess, CablesDelay};
+ghost use Rattle.bus_reach.specs.PeriodicLaws.{AcceptedBearNone, BearZeroIsAccepted, BorneForLess, CablesDelay};
 ghost use Rattle.bus_reach.specs.PeriodicLaws.{PeriodicBearingIsExact, PeriodicBorneIsClosed, PeriodicNotBorneBreaks};
 ghost use Rattle.bus_reach.specs.Receiving.{AperiodicBorneIsReceived, AperiodicIsReceivedLater};
 ghost use Rattle.bus_reach.specs.Receiving.{MatchesAreReceived, PeriodicBorneIsReceived, PeriodicIsReceivedLater};
@@ -91,9 +91,10 @@ pub fn periodic_bearing_is_exact()
     periodic_borne_is_closed();
 }
 
-/// Every accepted table, of either mode, bears no delay.
+/// Every accepted table, of either mode, bears a delay of 0, and a periodic table of two senders or more that bears it is accepted.
 pub fn accepted_bear_none()
-    ensures { AcceptedBearNone }
+    ensures accepted { AcceptedBearNone }
+    ensures bear { BearZeroIsAccepted }
 {
     shorter_is_borne();
 }
