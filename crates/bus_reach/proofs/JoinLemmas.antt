@@ -131,8 +131,9 @@ joining_is_orderly table hands most delay wake valid mode even delays bearing aw
       only = λ other law. cable_once (quiet_of table) delay wake (stations_of table hands) (greatest_end (growing delay wake table hands)) other (growing delay wake table hands)
           (stations_have_own_numbers table hands valid dealt) law lawful;
       clear = λ roomy number.
-          let spaced = rounds_grow table (messages_of hands) (rounds hands) setting mode delay wake so.spread most (so.tolerant most (so.roomy roomy)) first others order_is early long (rounds hands) (omega arith) in
-          heard_clear delay most number (growing delay wake table hands) (λ x. delays.within x number) spaced.laid;
+          let room = so.roomy roomy in
+          let spaced = rounds_grow table (messages_of hands) (rounds hands) setting mode delay wake so.spread room.0 (so.tolerant room.0 room.2) first others order_is early long (rounds hands) (omega arith) in
+          heard_clear delay room.0 number (growing delay wake table hands) (λ x. room.1 x number) spaced.laid;
     })
   where
     in_order : {X : Type 0} → (order : List Sender) → turn_order table ≡ order → 0 < length order → ((first : Sender) (others : List Sender) → turn_order table ≡ first ∷ others → X) → X

@@ -12,7 +12,7 @@ use Rattle.bus_table.proofs.TurnLaws.{of_each, length-sort}
 use Rattle.bus_medium.specs.Delays.{Delays, AreDelays}
 use Rattle.bus_medium.specs.Wakes.{AreWakes}
 use Rattle.bus_reach.specs.Tolerance.{is_apart, leaves_room, lengths_bear}
-use Rattle.bus_reach.specs.Runs.{cycle_delay}
+use Rattle.bus_reach.specs.Runs.{AreWithin, cycle_delay}
 
 pub all_in : {X : Type 0} (p : X → Bool) (xs : List X) (x : X) → list_all p xs ≡ true → In x xs → p x ≡ true
 all_in p [] x h i = absurd i
@@ -67,7 +67,8 @@ pub record IsTolerant (table : Table) (delay : Delays) (spread room : ℕ) : Typ
 pub record HasTolerance (table : Table) (most : ℕ) (delay : Delays) : Type 0 where
   pub spread : ℕ
   pub tolerant : (room : ℕ) → (room ≤ spread) ⊎ ((length (turn_order table) ≡ 1) × (room ≤ table.sg)) → IsTolerant table delay spread room
-  pub roomy : (1 < length table.senders) ⊎ (most ≤ table.sg) → (most ≤ spread) ⊎ ((length (turn_order table) ≡ 1) × (most ≤ table.sg))
+  pub roomy : (1 < length table.senders) ⊎ AreWithin table.sg delay
+      → (room : ℕ) × AreWithin room delay × ((room ≤ spread) ⊎ ((length (turn_order table) ≡ 1) × (room ≤ table.sg)))
   pub either : (length table.senders ≡ 1) ⊎ (spread ≡ most)
 
 pub tolerance_of : (table : Table) (most : ℕ) (delay : Delays) → TableFacts table → AreDelays most delay → IsTrue (lengths_bear table most) → HasTolerance table most delay
@@ -86,7 +87,7 @@ tolerance_of table most delay facts delays bearing =
           short = λ a i. let k : a.tg < table.sg = (of_each (SenderFacts table) table.senders facts.senders a i).tg_short in omega arith;
           fits = fits;
         };
-        roomy = λ h. elim h [ inl many ↦ absurd (omega arith) | inr low ↦ inr (as_many ∙ one, low) ];
+        roomy = λ h. elim h [ inl many ↦ absurd (omega arith) | inr low ↦ (table.sg, low, inr (as_many ∙ one, omega arith)) ];
         either = inl one;
       }
       | inr many ↦
@@ -102,7 +103,7 @@ tolerance_of table most delay facts delays bearing =
               short = λ a i. (left a i).short;
               fits = fits;
             };
-            roomy = λ h. inl (omega arith);
+            roomy = λ h. (most, delays.within, inl (omega arith));
             either = inr refl;
           }
     ]

@@ -19,7 +19,7 @@ use Rattle.bus_medium.specs.CableLawful.{IsLawfulOnCable}
 use Rattle.bus_reach.specs.Schedule.{cable_closed}
 use Rattle.bus_reach.specs.Bearing.{bears}
 use Rattle.bus_reach.specs.Tolerance.{neighbours_leave_room}
-use Rattle.bus_reach.specs.Runs.{IsCableRun, cycle_delay}
+use Rattle.bus_reach.specs.Runs.{AreWithin, IsCableRun, cycle_delay}
 use Rattle.bus_reach.specs.Cables.{FailsOnCable}
 use Rattle.bus_reach.specs.Joining.{round_members, round_turns, IsNewIn, founders, growing, IsFirstAwake}
 
@@ -70,7 +70,7 @@ ShorterIsBorne = (table : Table) (less most : ℕ) → table.mode ≡ Aperiodic 
 pub record IsJoinedRun (table : Table) (hands : List Hand) (most : ℕ) (delay : Delays) (wake : Wakes) (list : List Entry) : Type 0 where
   pub lawful : IsLawfulOnCable (quiet_of table) delay wake (stations_of table hands) (greatest_end list) list
   pub only : (other : List Entry) → IsLawfulOnCable (quiet_of table) delay wake (stations_of table hands) (greatest_end list) other → other ≡ list
-  pub clear : (1 < length table.senders) ⊎ (most ≤ table.sg) → (number : ℕ) → IsClear (heard delay number list)
+  pub clear : (1 < length table.senders) ⊎ AreWithin table.sg delay → (number : ℕ) → IsClear (heard delay number list)
 
 -- For an aperiodic table and even hands, with delays up to what the table bears, where no sender wakes earlier than the first in turn order by
 -- more than that, and a shortest cycle of the senders of the first round takes at least one transmit interval: whenever the others wake, the

@@ -1,5 +1,5 @@
 -- What terminals receive of runs: with delays that a table bears the same as without.
-use Rattle.std.specs.Prelude.{◌≡◌, ◌≢◌, ℕ, ◌<◌, ◌≤◌, ◌⊎◌, ◌==◌, IsTrue, List, [], length, map, if◌then◌else◌}
+use Rattle.std.specs.Prelude.{◌≡◌, ◌≢◌, ℕ, ◌<◌, ◌⊎◌, ◌==◌, IsTrue, List, [], length, map, if◌then◌else◌}
 use Rattle.std.specs.List.{flat_map}
 use Rattle.bus_strings.specs.Members.{In}
 use Rattle.bus_strings.specs.Messages.{Wordstring, Entry}
@@ -14,6 +14,7 @@ use Rattle.bus_schedule.specs.Closed.{closed}
 use Rattle.bus_schedule.specs.Even.{are_even}
 use Rattle.bus_filter.specs.Received.{ReceivedLine, Taker, matches, received_line, entry_lines, received_by}
 use Rattle.bus_reach.specs.Bearing.{bears}
+use Rattle.bus_reach.specs.Runs.{AreWithin}
 use Rattle.bus_reach.specs.Schedule.{cable_closed}
 
 -- What a received line has beside its moment: the label, the extension and the words.
@@ -30,7 +31,7 @@ abbrev pub AperiodicBorneIsReceived : Type 0
 AperiodicBorneIsReceived =
     (table : Table) (hands : List Hand) (most : ℕ) (delay : Delays) (wake : Wakes) (taker : Taker) → IsTrue (is_valid table)
     → table.mode ≡ Aperiodic → IsTrue (is_accepted (verdict_of table)) → IsTrue (are_even table hands) → AreDelays most delay
-    → AreWakes most table.senders wake → IsTrue (bears table most) → (1 < length table.senders) ⊎ (most ≤ table.sg)
+    → AreWakes most table.senders wake → IsTrue (bears table most) → (1 < length table.senders) ⊎ AreWithin table.sg delay
     → ReceivesAlike taker (heard delay taker.number (cable_closed delay wake table hands)) (closed table hands)
 
 -- So it is of a periodic table, where all wake at the settled start.
@@ -38,7 +39,7 @@ abbrev pub PeriodicBorneIsReceived : Type 0
 PeriodicBorneIsReceived =
     (table : Table) (hands : List Hand) (most : ℕ) (delay : Delays) (taker : Taker) → IsTrue (is_valid table) → table.mode ≡ Periodic
     → IsTrue (is_accepted (verdict_of table)) → IsTrue (are_even table hands) → AreDelays most delay → IsTrue (bears table most)
-    → (1 < length table.senders) ⊎ (most ≤ table.sg) → ReceivesAlike taker (heard delay taker.number (closed table hands)) (closed table hands)
+    → (1 < length table.senders) ⊎ AreWithin table.sg delay → ReceivesAlike taker (heard delay taker.number (closed table hands)) (closed table hands)
 
 -- What a taker takes of a transmission with these delays: of another's, the lines that match, at the moment at which it hears it, which is
 -- later than the transmission's by the delay; of its own, nothing.
@@ -56,7 +57,7 @@ abbrev pub AperiodicIsReceivedLater : Type 0
 AperiodicIsReceivedLater =
     (table : Table) (hands : List Hand) (most : ℕ) (delay : Delays) (wake : Wakes) (taker : Taker) → IsTrue (is_valid table)
     → table.mode ≡ Aperiodic → IsTrue (is_accepted (verdict_of table)) → IsTrue (are_even table hands) → AreDelays most delay
-    → AreWakes most table.senders wake → IsTrue (bears table most) → (1 < length table.senders) ⊎ (most ≤ table.sg)
+    → AreWakes most table.senders wake → IsTrue (bears table most) → (1 < length table.senders) ⊎ AreWithin table.sg delay
     → IsReceivedLater delay taker (cable_closed delay wake table hands)
 
 -- So it is of the closed schedule of a periodic table, where all wake at the settled start.
@@ -64,7 +65,7 @@ abbrev pub PeriodicIsReceivedLater : Type 0
 PeriodicIsReceivedLater =
     (table : Table) (hands : List Hand) (most : ℕ) (delay : Delays) (taker : Taker) → IsTrue (is_valid table) → table.mode ≡ Periodic
     → IsTrue (is_accepted (verdict_of table)) → IsTrue (are_even table hands) → AreDelays most delay → IsTrue (bears table most)
-    → (1 < length table.senders) ⊎ (most ≤ table.sg) → IsReceivedLater delay taker (closed table hands)
+    → (1 < length table.senders) ⊎ AreWithin table.sg delay → IsReceivedLater delay taker (closed table hands)
 
 -- In a run of an accepted table a terminal receives every wordstring of another that one of its receive lines matches.
 abbrev pub MatchesAreReceived : Type 0

@@ -11,6 +11,10 @@ use Rattle.bus_schedule.specs.Runs.{IsClear, IsInTurns, IsApart}
 use Rattle.bus_medium.specs.Delays.{Delays, heard}
 use Rattle.bus_medium.specs.CableLawful.{IsLawfulOnCable}
 
+-- No delay is above this many bit times.
+abbrev pub AreWithin : ℕ → Delays → Type 0
+AreWithin bits delay = (x : Entry) (number : ℕ) → delay x number ≤ bits
+
 -- By how much delays up to `most` lengthen a cycle at most: once for each sender that isn't alone.
 abbrev pub cycle_delay : Table → ℕ → ℕ
 cycle_delay table most = if length table.senders == 1 then 0 else length table.senders * most
@@ -30,6 +34,6 @@ IsSpacedWithin table delays list =
 pub record IsCableRun (table : Table) (hands : List Hand) (most : ℕ) (delay : Delays) (wake : ℕ → ℕ) (list : List Entry) : Type 0 where
   pub lawful : IsLawfulOnCable (quiet_of table) delay wake (stations_of table hands) (greatest_end list) list
   pub only : (other : List Entry) → IsLawfulOnCable (quiet_of table) delay wake (stations_of table hands) (greatest_end list) other → other ≡ list
-  pub clear : (1 < length table.senders) ⊎ (most ≤ table.sg) → (number : ℕ) → IsClear (heard delay number list)
+  pub clear : (1 < length table.senders) ⊎ AreWithin table.sg delay → (number : ℕ) → IsClear (heard delay number list)
   pub turns : IsInTurns table hands list
   pub spaced : IsSpacedWithin table most list
