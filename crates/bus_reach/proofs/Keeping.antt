@@ -1,4 +1,4 @@
--- A table bears exactly the delays with which it keeps its schedule; none is borne, and with one each shorter one.
+-- A table bears exactly the delays with which it keeps its schedule; a delay of 0 is borne, and with a delay each shorter one.
 use Rattle.std.proofs.Common.{◌≡◌, ℕ, ◌+◌, ◌*◌, ◌<◌, ◌≤◌, true, List, [], ◌∷◌, length, inl, inr, arith, sym, refl, ◌∙◌}
 use Rattle.std.specs.Prelude.{◌==◌, ◌||◌, ◌&&◌, nat_le}
 use Rattle.std.specs.List.{list_all}
@@ -15,7 +15,7 @@ use Rattle.bus_schedule.proofs.WitnessLemmas.{two_rounds}
 use Rattle.bus_schedule.specs.Even.{rounds}
 use Rattle.bus_reach.specs.Bearing.{bears}
 use Rattle.bus_reach.specs.Cables.{FailsOnCable}
-use Rattle.bus_reach.specs.Laws.{BorneIsKept, NoneIsBorne, ShorterIsBorne}
+use Rattle.bus_reach.specs.Laws.{BorneIsKept, ZeroIsBorne, ShorterIsBorne}
 use Rattle.bus_reach.specs.Tolerance.{is_apart, leaves_room}
 use Rattle.bus_reach.proofs.Exact.{tolerance_is_exact}
 use Rattle.bus_reach.proofs.Modes.{in_aperiodic}
@@ -59,8 +59,8 @@ all_pass d sg senders (a ∷ these) h = and_true (leaves_room d sg senders a) (l
     leaves r = and_true (nat_le d a.tg) (is_apart d a.tg sg && list_all (λ b. nat_le b.tg a.tg || is_apart d a.tg b.tg) senders) (le-leb d a.tg r.least)
         (and_true (is_apart d a.tg sg) (list_all (λ b. nat_le b.tg a.tg || is_apart d a.tg b.tg) senders) (lt-ltb (a.tg + 2 * d) sg r.short) (beside senders r.apart))
 
-pub none_is_borne : NoneIsBorne
-none_is_borne table valid mode =
+pub zero_is_borne : ZeroIsBorne
+zero_is_borne table valid mode =
     in_aperiodic table 0 mode
     ∙ or_second (length table.senders == 1) (list_all (leaves_room 0 table.sg table.senders) table.senders)
     (all_pass 0 table.sg table.senders table.senders (λ a i. record {

@@ -1,15 +1,15 @@
--- Every accepted table bears no delay, and what is borne is borne for less, in either mode.
+-- Every accepted table bears a delay of 0, and what is borne is borne for less, in either mode.
 use Rattle.std.proofs.Common.{◌≡◌, ◌≤◌, true, arith, refl, ◌∙◌}
 use Rattle.bus_table.specs.declared.mode.Mode.{Mode}
 use Rattle.bus_table.specs.declared.mode.Mode.TheVariants.{Aperiodic, Periodic}
 use Rattle.bus_schedule.proofs.FineGaps.{accepted_bears_none}
 use Rattle.bus_reach.specs.Bearing.{bears}
-use Rattle.bus_reach.specs.Laws.{NoneIsBorne, ShorterIsBorne}
-use Rattle.bus_reach.specs.PeriodicLaws.{AcceptedBearNone, BorneForLess, PeriodicBearingIsExact}
+use Rattle.bus_reach.specs.Laws.{ZeroIsBorne, ShorterIsBorne}
+use Rattle.bus_reach.specs.PeriodicLaws.{AcceptedBearZero, BorneForLess, PeriodicBearingIsExact}
 use Rattle.bus_reach.proofs.Modes.{in_periodic}
 
-pub accepted_bear_none : NoneIsBorne → AcceptedBearNone
-accepted_bear_none aperiodic table valid accepted = by_mode table.mode refl
+pub accepted_bear_zero : ZeroIsBorne → AcceptedBearZero
+accepted_bear_zero aperiodic table valid accepted = by_mode table.mode refl
   where
     by_mode : (mode : Mode) → table.mode ≡ mode → bears table 0 ≡ true
     by_mode Aperiodic is = aperiodic table valid is

@@ -1,4 +1,4 @@
--- Rows of periodic tables, computed: what they bear, and on which places of a cable they fail with one more.
+-- Periodic tables, computed: the greatest delay that they bear, and what a listener may hear of one sender alone.
 use Rattle.std.proofs.Common.{◌≡◌, ℕ, true, false, List, [], ◌∷◌, refl}
 use Rattle.bus_strings.specs.Messages.{Entry}
 use Rattle.bus_strings.specs.Transmissions.{overlaps}

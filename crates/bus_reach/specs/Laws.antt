@@ -23,7 +23,7 @@ use Rattle.bus_reach.specs.Runs.{AreWithin, IsCableRun, cycle_delay}
 use Rattle.bus_reach.specs.Cables.{FailsOnCable}
 use Rattle.bus_reach.specs.Joining.{round_members, round_turns, IsNewIn, founders, growing, IsFirstAwake}
 
--- Without delays, where all wake at the settled start, the closed schedule is that of `bus_schedule`.
+-- Without delays, where all wake at the settled start, the closed schedule of an aperiodic table is that of `bus_schedule`.
 abbrev pub NoDelayIsClosed : Type 0
 NoDelayIsClosed = (table : Table) (hands : List Hand) → table.mode ≡ Aperiodic → cable_closed at_once settled table hands ≡ closed table hands
 
@@ -56,17 +56,19 @@ BorneIsKept =
     (table : Table) (d : ℕ) → IsTrue (is_valid table) → table.mode ≡ Aperiodic → IsTrue (is_accepted (verdict_of table))
     → IsTrue (bears table d) ↔ KeepsSchedule table d
 
--- It bears no delay, and with one each shorter one.
-abbrev pub NoneIsBorne : Type 0
-NoneIsBorne = (table : Table) → IsTrue (is_valid table) → table.mode ≡ Aperiodic → IsTrue (bears table 0)
+-- Every aperiodic table bears a delay of 0.
+abbrev pub ZeroIsBorne : Type 0
+ZeroIsBorne = (table : Table) → IsTrue (is_valid table) → table.mode ≡ Aperiodic → IsTrue (bears table 0)
 
+-- With a delay it bears each shorter one.
 abbrev pub ShorterIsBorne : Type 0
 ShorterIsBorne = (table : Table) (less most : ℕ) → table.mode ≡ Aperiodic → less ≤ most → IsTrue (bears table most) → IsTrue (bears table less)
 
 -- The growing schedule is what the senders do:
 --   lawful    each sender starts exactly when its three timers allow after what it heard, up to the end of the list
 --   only      no other list is lawful up to there
---   clear     no terminal hears two transmissions overlap; with one sender alone, where no delay is above the synchronization gap.
+--   clear     no terminal, sender or listener, hears two transmissions overlap; with one sender alone, where no delay is above the
+--             synchronization gap.
 pub record IsJoinedRun (table : Table) (hands : List Hand) (most : ℕ) (delay : Delays) (wake : Wakes) (list : List Entry) : Type 0 where
   pub lawful : IsLawfulOnCable (quiet_of table) delay wake (stations_of table hands) (greatest_end list) list
   pub only : (other : List Entry) → IsLawfulOnCable (quiet_of table) delay wake (stations_of table hands) (greatest_end list) other → other ≡ list

@@ -53,9 +53,9 @@ PeriodicBearingIsExact =
 abbrev pub CablesDelay : Type 0
 CablesDelay = (most : ℕ) (place : ℕ → ℕ) → ((number : ℕ) → place number ≤ most) → AreDelays most (cable place)
 
--- Every accepted table bears no delay.
-abbrev pub AcceptedBearNone : Type 0
-AcceptedBearNone = (table : Table) → IsTrue (is_valid table) → IsTrue (is_accepted (verdict_of table)) → IsTrue (bears table 0)
+-- Every accepted table bears a delay of 0.
+abbrev pub AcceptedBearZero : Type 0
+AcceptedBearZero = (table : Table) → IsTrue (is_valid table) → IsTrue (is_accepted (verdict_of table)) → IsTrue (bears table 0)
 
 -- And what bears a delay of 0 in periodic mode is accepted, where there are two senders or more. (A sender alone bears every delay by
 -- definition, also where the verdict refuses it.)

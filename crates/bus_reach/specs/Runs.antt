@@ -28,7 +28,8 @@ IsSpacedWithin table delays list =
 -- The list is the run of a table and even hands with these delays and wakes:
 --   lawful    each sender starts exactly when its three timers allow after what it heard, up to the end of the list
 --   only      no other list is lawful up to there
---   clear     no terminal hears two transmissions overlap; with one sender alone, where no delay is above the synchronization gap
+--   clear     no terminal, sender or listener, hears two transmissions overlap; with one sender alone, where no delay is above the
+--             synchronization gap
 --   turns     every cycle holds each sender once, in turn order
 --   spaced    successive starts of a sender are as far apart as the verdict and the delays say.
 pub record IsCableRun (table : Table) (hands : List Hand) (most : ℕ) (delay : Delays) (wake : ℕ → ℕ) (list : List Entry) : Type 0 where

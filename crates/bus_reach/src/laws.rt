@@ -1,8 +1,8 @@
 //! Laws of the definitions, each the contract of a function that does nothing.
 ghost use Rattle.bus_medium.specs.CableLaws.{NoDelayIsTheBus, OneCableListOfATable};
-ghost use Rattle.bus_reach.specs.Laws.{BorneIsClosed, BorneIsKept, JoinersComeSoon, JoiningIsOrderly, MembersStay, NeighboursTell, NoDelayIsClosed, NoneIsBorne, ShorterIsBorne, ToleranceIsExact};
+ghost use Rattle.bus_reach.specs.Laws.{BorneIsClosed, BorneIsKept, JoinersComeSoon, JoiningIsOrderly, MembersStay, NeighboursTell, NoDelayIsClosed, ZeroIsBorne, ShorterIsBorne, ToleranceIsExact};
 ghost use Rattle.bus_reach.specs.Settling.{AnyStartSettles, LongHandsLast, StartsItselfIsAccepted};
-ghost use Rattle.bus_reach.specs.PeriodicLaws.{AcceptedBearNone, BearZeroIsAccepted, BorneForLess, CablesDelay};
+ghost use Rattle.bus_reach.specs.PeriodicLaws.{AcceptedBearZero, BearZeroIsAccepted, BorneForLess, CablesDelay};
 ghost use Rattle.bus_reach.specs.PeriodicLaws.{PeriodicBearingIsExact, PeriodicBorneIsClosed, PeriodicNotBorneBreaks};
 ghost use Rattle.bus_reach.specs.Receiving.{AperiodicBorneIsReceived, AperiodicIsReceivedLater};
 ghost use Rattle.bus_reach.specs.Receiving.{MatchesAreReceived, PeriodicBorneIsReceived, PeriodicIsReceivedLater};
@@ -19,14 +19,15 @@ pub fn one_list_on_a_cable()
     one_cable_list();
 }
 
-/// Without delays, and where all wake at the settled start, the closed schedule is that of `bus_schedule`.
+/// Without delays, and where all wake at the settled start, the closed schedule of an aperiodic table is that of `bus_schedule`.
 pub fn no_delay_is_closed()
     ensures { NoDelayIsClosed }
 {}
 
 /// For an accepted aperiodic table and even hands, of any length, with delays up to what the table bears, and wakes no later
-/// than that, the closed schedule is the one lawful list up to its end; no terminal hears two transmissions overlap, every cycle
-/// holds each sender once in turn order, and successive starts of a sender are as far apart as the verdict and the delays say.
+/// than that, the closed schedule is the one lawful list up to its end; no terminal, sender or listener, hears two transmissions
+/// overlap, every cycle holds each sender once in turn order, and successive starts of a sender are as far apart as the verdict and
+/// the delays say.
 pub fn borne_is_closed()
     ensures { BorneIsClosed }
 {}
@@ -46,15 +47,17 @@ pub fn tolerance_is_exact()
     witnesses_have_schedules();
 }
 
-/// Every aperiodic table bears delays up to 0, and with a delay each shorter one.
+/// Every aperiodic table bears a delay of 0, and with a delay each shorter one.
 pub fn shorter_is_borne()
-    ensures none { NoneIsBorne }
+    ensures zero { ZeroIsBorne }
     ensures shorter { ShorterIsBorne }
 {}
 
-/// Where no sender wakes earlier than the first in turn order, but for what the table bears, and a shortest cycle of those of the
-/// first round takes at least one transmit interval, whoever wakes later takes its turn in the first round whose beginning it hears
-/// awake, and in every round behind; no terminal hears two transmissions overlap.
+/// For an aperiodic table, accepted or not, and even hands, with delays up to what the table bears: where no sender wakes earlier than
+/// the first in turn order, but for what the table bears, and a shortest cycle of those of the first round takes at least one transmit
+/// interval, whoever wakes later takes its turn in the first round whose beginning it hears awake, and in every round behind; no
+/// terminal, sender or listener, hears two transmissions overlap. In that first round it starts less than two longest cycles behind its
+/// wake, each with what the delays add to it.
 pub fn joining_is_orderly()
     ensures run { JoiningIsOrderly }
     ensures stay { MembersStay }
@@ -63,8 +66,8 @@ pub fn joining_is_orderly()
 
 /// A bus without a master stabilizes itself: whenever the senders of a table that starts itself were powered up, and whatever they
 /// sent at once until then, from a moment on what they send is rounds in turn order, with nothing missing and no two at once
-/// (`specs/Settling.antt`). That moment comes at most a longest cycle and a synchronization gap behind the last power-up, and until
-/// then each of them has sent one message at most. Such a table is accepted.
+/// (`specs/Settling.antt`). That moment comes at most a longest cycle and a synchronization gap behind the last power-up, and from the
+/// last power-up until then each of them begins one message at most. Such a table is accepted.
 pub fn any_start_settles()
     ensures settles { AnyStartSettles }
     ensures long { LongHandsLast }
@@ -72,8 +75,8 @@ pub fn any_start_settles()
 {}
 
 /// For an accepted periodic table and even hands, of any length, with delays up to what the table bears, the closed schedule is
-/// the one lawful list up to the closed end, as without delays, in turns and one transmit interval apart; no terminal hears two
-/// transmissions overlap.
+/// the one lawful list up to the closed end, as without delays, in turns and one transmit interval apart; no terminal, sender or
+/// listener, hears two transmissions overlap.
 pub fn periodic_borne_is_closed()
     ensures { PeriodicBorneIsClosed }
 {
@@ -92,9 +95,9 @@ pub fn periodic_bearing_is_exact()
 }
 
 /// Every accepted table, of either mode, bears a delay of 0, and a periodic table of two senders or more that bears it is accepted.
-pub fn accepted_bear_none()
-    ensures accepted { AcceptedBearNone }
-    ensures bear { BearZeroIsAccepted }
+pub fn accepted_bear_zero()
+    ensures zero { AcceptedBearZero }
+    ensures accepted { BearZeroIsAccepted }
 {
     shorter_is_borne();
 }

@@ -9,7 +9,7 @@ ghost use Rattle.bus_regime.specs.Gaps.{gaps};
 ghost use Rattle.bus_regime.specs.Verdicts.{verdict_of, is_accepted};
 ghost use Rattle.bus_schedule.specs.Slack as slacks;
 
-use crate::laws::{accepted_bear_none, borne_for_less};
+use crate::laws::{accepted_bear_zero, borne_for_less};
 use bus_regime::{TurnGap, gap_at, turn_ends};
 use bus_table::{Table, turn_places};
 
@@ -142,7 +142,7 @@ pub(crate) fn tolerance(table: &Table) -> Option<u64>
     ensures alone { IsNone result ↔ (length table.now.senders ≡ 1) }
     ensures greatest { IfSome result (λ most. (d : ℕ) → (d ≤ most) ↔ IsTrue (slacks.gaps_bear table.now d)) }
 {
-    accepted_bear_none();
+    accepted_bear_zero();
     borne_for_less();
     if table.senders().len() == 1 {
         return None;

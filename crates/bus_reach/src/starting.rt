@@ -14,7 +14,8 @@ fn is_free(table: &Table, sender: &Sender) -> bool
         <= u64::from(table.sg()) + u64::from(sender.tg()) + u64::from(shortest(sender))
 }
 
-/// Whether an aperiodic table starts itself: then its order comes about whenever its terminals are powered up.
+/// Whether an aperiodic table starts itself: TI is at most SG, the sender's TG and its shortest message together, for every sender.
+/// Then its order comes about whenever its terminals are powered up. The rule is this project's.
 pub fn starts_itself(table: &Table) -> bool
     requires aperiodic { table.now.mode ≡ Aperiodic }
     ensures { result ≡ starting.starts_itself table.now }

@@ -5,7 +5,7 @@ use Rattle.bus_reach.proofs.periodic.tolerance.Goals as goal
 
 pub loop-above-init : goal.loop-above-init
 loop-above-init c = record {
-  borne = sym (in_periodic c.args.table.now 0 c.requires.mode) ∙ c.accepted_bear_none.ensures.accepted c.args.table.now c.senders.ensures.valid c.requires.accepted;
+  borne = sym (in_periodic c.args.table.now 0 c.requires.mode) ∙ c.accepted_bear_zero.ensures.zero c.args.table.now c.senders.ensures.valid c.requires.accepted;
   above = first_bound c.args.table.now (c.saturating_sub-above.result + 1) (length c.senders.result.now) c.gap_at-first.result (ap length c.senders.ensures.value)
       c.if-senders-eq1.false c.gap_at-first.ensures (omega (arith, c.saturating_sub-above.ensures, c.end.ensures.value, c.begin.ensures.value));
   less = omega arith;
