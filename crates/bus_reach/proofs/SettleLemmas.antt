@@ -31,7 +31,7 @@ use Rattle.bus_schedule.specs.Even.{messages_of}
 use Rattle.bus_schedule.specs.Runs.{IsClear}
 use Rattle.bus_medium.specs.CableLawful.{IsLawfulOnCable}
 use Rattle.bus_reach.specs.Starting.{starts_itself}
-use Rattle.bus_reach.specs.Settling.{behind, until, InRounds, AreRounds, Begins, rounds_from, IsSettled, HaveLeft, AnyStartSettles, LongHandsLast, StartsItselfIsAccepted}
+use Rattle.bus_reach.specs.Settling.{behind, until, InRounds, AreRounds, Begins, rounds_from, HasSettled, HaveLeft, AnyStartSettles, LongHandsLast, StartsItselfIsAccepted}
 use Rattle.bus_reach.proofs.Calming.{weight, Calm, calm}
 use Rattle.bus_reach.proofs.Cycling.{Left, Turn, in_rounds}
 use Rattle.bus_schedule.proofs.LiveLemmas.{stations_of_dealt}
@@ -192,7 +192,7 @@ module _ (s : Bus) (up : ℕ) (wakes : (b : Sender) → In b s.table.senders →
       (turn a others rises of_table in_order) left (counted a others in_order)) enough
 
 settled : (s : Bus) (hands : List Hand) (up : ℕ) → s.hands ≡ messages_of hands → ((b : Sender) → In b s.table.senders → s.wake b.number ≤ up + s.table.sg)
-    → up + (s.table.sg + weight s.table.senders) + s.table.sg ≤ s.end → IsSettled s.table hands up s.end s.list
+    → up + (s.table.sg + weight s.table.senders) + s.table.sg ≤ s.end → HasSettled s.table hands up s.end s.list
 settled s hands up same wakes room =
     let c : Calm s up wakes room = calm s up wakes room in
     let rises : Rises (λ b. b.tg) (turn_order s.table) = subst (λ m. Rises (turn_key m) (turn_order s.table)) s.mode (order_rises s.table s.facts) in

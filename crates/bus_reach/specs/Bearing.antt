@@ -6,8 +6,8 @@ use Rattle.bus_table.specs.Tables.{Table}
 use Rattle.bus_schedule.specs.Slack.{gaps_bear}
 use Rattle.bus_reach.specs.Tolerance.{lengths_bear}
 
--- Whether a table bears delays up to d: in aperiodic mode by its terminal gaps and its synchronization gap, in periodic mode by the gaps that
--- its offsets leave.
+-- Whether a table bears delays up to d: in aperiodic mode by its terminal gaps and its synchronization gap, in periodic mode by the gaps
+-- that its offsets leave.
 abbrev pub bears_in : Mode → Table → ℕ → Bool
 bears_in Aperiodic table d = lengths_bear table d
 bears_in Periodic table d = gaps_bear table d

@@ -1,5 +1,5 @@
--- The growing schedule of an aperiodic table, by this project's profile: senders are powered up whenever they like, and each takes its turn from
--- the first round on whose beginning it hears no earlier than it wakes. It knows rounds and no timers.
+-- The growing schedule of an aperiodic table, by this project's profile: senders are powered up whenever they like, and each takes its turn
+-- from the first round on whose beginning it hears no earlier than it wakes. It knows rounds and no timers.
 --   count   for the number of a terminal: how many messages it has sent
 --   from    for the number of a terminal: the moment from which it counts its terminal gap
 use Rattle.std.specs.Prelude.{ℕ, zero, suc, ◌+◌, ◌≤◌, ◌==◌, Bool, nat_le, List, [], ◌∷◌, ◌++◌, if◌then◌else◌}
@@ -45,7 +45,8 @@ pub record Growth : Type 0 where
 -- A round more, one synchronization gap later.
 abbrev pub grow_on : Delays → Wakes → (ℕ → List Message) → ℕ → List Sender → Growth → Growth
 grow_on delay wake messages sg order growth = record {
-  from = λ number. grow_heard delay messages growth.count (members delay wake messages growth.count order growth.from) growth.from number + sg;
+  from = λ number. grow_heard delay messages growth.count (members delay wake messages growth.count order growth.from) growth.from number
+      + sg;
   count = λ number. growth.count number
       + (if list_any (λ sender. sender.number == number) (members delay wake messages growth.count order growth.from) then 1 else 0);
   list = growth.list ++ grow_turns delay messages growth.count (members delay wake messages growth.count order growth.from) growth.from;

@@ -25,7 +25,8 @@ use Rattle.bus_reach.specs.Joining.{round_members, round_turns, IsNewIn, founder
 
 -- Without delays, where all wake at the settled start, the closed schedule of an aperiodic table is that of `bus_schedule`.
 abbrev pub NoDelayIsClosed : Type 0
-NoDelayIsClosed = (table : Table) (hands : List Hand) → table.mode ≡ Aperiodic → cable_closed at_once settled table hands ≡ closed table hands
+NoDelayIsClosed =
+    (table : Table) (hands : List Hand) → table.mode ≡ Aperiodic → cable_closed at_once settled table hands ≡ closed table hands
 
 -- For an accepted aperiodic table and even hands of any length, with delays up to what the table bears, and wakes that are no later than
 -- that, the closed schedule is the run.
@@ -35,15 +36,15 @@ BorneIsClosed =
     → IsTrue (is_accepted (verdict_of table)) → IsTrue (are_even table hands) → AreDelays most delay → AreWakes most table.senders wake
     → IsTrue (bears table most) → IsCableRun table hands most delay wake (cable_closed delay wake table hands)
 
--- Where an accepted aperiodic table doesn't bear delays up to d, there are places on a straight cable of that length, and wakes, with which the
--- closed schedule fails, whatever even hands of two rounds or more its senders have.
+-- Where an accepted aperiodic table doesn't bear delays up to d, there are places on a straight cable of that length, and wakes, with which
+-- the closed schedule fails, whatever even hands of two rounds or more its senders have.
 abbrev pub ToleranceIsExact : Type 0
 ToleranceIsExact =
     (table : Table) (d : ℕ) → IsTrue (is_valid table) → table.mode ≡ Aperiodic → IsTrue (is_accepted (verdict_of table))
     → bears table d ≡ false → FailsOnCable table d
 
--- An accepted aperiodic table keeps its schedule with delays up to d: whatever even hands its senders have, with all delays and wakes up to d,
--- each starts where the closed schedule says, and nowhere else.
+-- An accepted aperiodic table keeps its schedule with delays up to d: whatever even hands its senders have, with all delays and wakes up to
+-- d, each starts where the closed schedule says, and nowhere else.
 abbrev pub KeepsSchedule : Table → ℕ → Type 0
 KeepsSchedule table d =
     (hands : List Hand) (delay : Delays) (wake : Wakes) → IsTrue (are_even table hands) → AreDelays d delay → AreWakes d table.senders wake
@@ -62,7 +63,8 @@ ZeroIsBorne = (table : Table) → IsTrue (is_valid table) → table.mode ≡ Ape
 
 -- With a delay it bears each shorter one.
 abbrev pub ShorterIsBorne : Type 0
-ShorterIsBorne = (table : Table) (less most : ℕ) → table.mode ≡ Aperiodic → less ≤ most → IsTrue (bears table most) → IsTrue (bears table less)
+ShorterIsBorne =
+    (table : Table) (less most : ℕ) → table.mode ≡ Aperiodic → less ≤ most → IsTrue (bears table most) → IsTrue (bears table less)
 
 -- The growing schedule is what the senders do:
 --   lawful    each sender starts exactly when its three timers allow after what it heard, up to the end of the list
@@ -71,17 +73,19 @@ ShorterIsBorne = (table : Table) (less most : ℕ) → table.mode ≡ Aperiodic 
 --             synchronization gap.
 pub record IsJoinedRun (table : Table) (hands : List Hand) (most : ℕ) (delay : Delays) (wake : Wakes) (list : List Entry) : Type 0 where
   pub lawful : IsLawfulOnCable (quiet_of table) delay wake (stations_of table hands) (greatest_end list) list
-  pub only : (other : List Entry) → IsLawfulOnCable (quiet_of table) delay wake (stations_of table hands) (greatest_end list) other → other ≡ list
+  pub only : (other : List Entry) → IsLawfulOnCable (quiet_of table) delay wake (stations_of table hands) (greatest_end list) other
+      → other ≡ list
   pub clear : (1 < length table.senders) ⊎ AreWithin table.sg delay → (number : ℕ) → IsClear (heard delay number list)
 
--- For an aperiodic table and even hands, with delays up to what the table bears, where no sender wakes earlier than the first in turn order by
--- more than that, and a shortest cycle of the senders of the first round takes at least one transmit interval: whenever the others wake, the
--- growing schedule is the run.
+-- For an aperiodic table and even hands, with delays up to what the table bears, where no sender wakes earlier than the first in turn order
+-- by more than that, and a shortest cycle of the senders of the first round takes at least one transmit interval: whenever the others wake,
+-- the growing schedule is the run.
 abbrev pub JoiningIsOrderly : Type 0
 JoiningIsOrderly =
     (table : Table) (hands : List Hand) (most : ℕ) (delay : Delays) (wake : Wakes) → IsTrue (is_valid table) → table.mode ≡ Aperiodic
     → IsTrue (are_even table hands) → AreDelays most delay → IsTrue (bears table most) → IsFirstAwake most wake (turn_order table)
-    → table.ti ≤ shortest_cycle table (founders delay wake table hands) → IsJoinedRun table hands most delay wake (growing delay wake table hands)
+    → table.ti ≤ shortest_cycle table (founders delay wake table hands)
+    → IsJoinedRun table hands most delay wake (growing delay wake table hands)
 
 -- Who takes its turn in a round of the growing schedule takes it in every round behind.
 abbrev pub MembersStay : Type 0
@@ -90,8 +94,8 @@ MembersStay =
     → table.mode ≡ Aperiodic → AreDelays most delay → IsTrue (bears table most) → In sender (round_members delay wake table hands round)
     → In sender (round_members delay wake table hands (suc round))
 
--- Whoever takes its turn in a round and took none in the one before starts in it less than two longest cycles behind its wake, each with what
--- the delays add to it.
+-- Whoever takes its turn in a round and took none in the one before starts in it less than two longest cycles behind its wake, each with
+-- what the delays add to it.
 abbrev pub JoinersComeSoon : Type 0
 JoinersComeSoon =
     (table : Table) (hands : List Hand) (most : ℕ) (delay : Delays) (wake : Wakes) (round : ℕ) (sender : Sender) (x : Entry)

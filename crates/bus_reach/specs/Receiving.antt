@@ -25,8 +25,8 @@ content line = (line.label, line.ext, line.words)
 abbrev pub ReceivesAlike : Taker → List Entry → List Entry → Type 0
 ReceivesAlike taker list other = map content (received_by list taker) ≡ map content (received_by other taker)
 
--- With delays and wakes up to what an accepted aperiodic table bears each terminal receives the same of the closed schedule as without. With
--- one sender alone that is so where no delay is above the synchronization gap.
+-- With delays and wakes up to what an accepted aperiodic table bears each terminal receives the same of the closed schedule as without.
+-- With one sender alone that is so where no delay is above the synchronization gap.
 abbrev pub AperiodicBorneIsReceived : Type 0
 AperiodicBorneIsReceived =
     (table : Table) (hands : List Hand) (most : ℕ) (delay : Delays) (wake : Wakes) (taker : Taker) → IsTrue (is_valid table)
@@ -39,7 +39,8 @@ abbrev pub PeriodicBorneIsReceived : Type 0
 PeriodicBorneIsReceived =
     (table : Table) (hands : List Hand) (most : ℕ) (delay : Delays) (taker : Taker) → IsTrue (is_valid table) → table.mode ≡ Periodic
     → IsTrue (is_accepted (verdict_of table)) → IsTrue (are_even table hands) → AreDelays most delay → IsTrue (bears table most)
-    → (1 < length table.senders) ⊎ AreWithin table.sg delay → ReceivesAlike taker (heard delay taker.number (closed table hands)) (closed table hands)
+    → (1 < length table.senders) ⊎ AreWithin table.sg delay
+    → ReceivesAlike taker (heard delay taker.number (closed table hands)) (closed table hands)
 
 -- What a taker takes of a transmission with these delays: of another's, the lines that match, at the moment at which it hears it, which is
 -- later than the transmission's by the delay; of its own, nothing.
@@ -51,8 +52,8 @@ lines_later delay taker x =
 abbrev pub IsReceivedLater : Delays → Taker → List Entry → Type 0
 IsReceivedLater delay taker list = received_by (heard delay taker.number list) taker ≡ flat_map (lines_later delay taker) list
 
--- With delays and wakes up to what an accepted aperiodic table bears each terminal receives each line of the closed schedule on the cable later
--- than it is sent by the delay.
+-- With delays and wakes up to what an accepted aperiodic table bears each terminal receives each line of the closed schedule on the cable
+-- later than it is sent by the delay.
 abbrev pub AperiodicIsReceivedLater : Type 0
 AperiodicIsReceivedLater =
     (table : Table) (hands : List Hand) (most : ℕ) (delay : Delays) (wake : Wakes) (taker : Taker) → IsTrue (is_valid table)

@@ -34,7 +34,8 @@ IsSpacedWithin table delays list =
 --   spaced    successive starts of a sender are as far apart as the verdict and the delays say.
 pub record IsCableRun (table : Table) (hands : List Hand) (most : ℕ) (delay : Delays) (wake : ℕ → ℕ) (list : List Entry) : Type 0 where
   pub lawful : IsLawfulOnCable (quiet_of table) delay wake (stations_of table hands) (greatest_end list) list
-  pub only : (other : List Entry) → IsLawfulOnCable (quiet_of table) delay wake (stations_of table hands) (greatest_end list) other → other ≡ list
+  pub only : (other : List Entry) → IsLawfulOnCable (quiet_of table) delay wake (stations_of table hands) (greatest_end list) other
+      → other ≡ list
   pub clear : (1 < length table.senders) ⊎ AreWithin table.sg delay → (number : ℕ) → IsClear (heard delay number list)
   pub turns : IsInTurns table hands list
   pub spaced : IsSpacedWithin table most list

@@ -28,11 +28,13 @@ cable_heard delay messages round (sender ∷ order) from =
 -- From where each terminal counts in a round: its wake, or one synchronization gap behind where it heard the end of the round before.
 abbrev pub cable_origin : Delays → (ℕ → ℕ) → (ℕ → List Message) → ℕ → List Sender → ℕ → ℕ → ℕ
 cable_origin delay wake messages sg order zero = wake
-cable_origin delay wake messages sg order (suc round) = λ number. cable_heard delay messages round order (cable_origin delay wake messages sg order round) number + sg
+cable_origin delay wake messages sg order (suc round) =
+    λ number. cable_heard delay messages round order (cable_origin delay wake messages sg order round) number + sg
 
 -- So many rounds.
 abbrev pub cable_rounds : Delays → (ℕ → ℕ) → (ℕ → List Message) → ℕ → List Sender → ℕ → List Entry
-cable_rounds delay wake messages sg order n = in_rounds (λ round. cable_turns delay messages round order (cable_origin delay wake messages sg order round)) n
+cable_rounds delay wake messages sg order n =
+    in_rounds (λ round. cable_turns delay messages round order (cable_origin delay wake messages sg order round)) n
 
 -- The closed schedule of a table and even hands: as many rounds as each hand has messages.
 abbrev pub cable_closed : Delays → (ℕ → ℕ) → Table → List Hand → List Entry

@@ -1,5 +1,5 @@
--- A bus without a master finds its order by itself: what the senders of an aperiodic table do, whenever they were powered up, where no transmit
--- interval outlasts what a sender waits and sends at least from one start to the next.
+-- A bus without a master finds its order by itself: what the senders of an aperiodic table do, whenever they were powered up, where no
+-- transmit interval outlasts what a sender waits and sends at least from one start to the next.
 use Rattle.std.specs.Prelude.{◌≡◌, ℕ, zero, suc, ◌+◌, ◌*◌, ◌<◌, ◌≤◌, nat_le, nat_lt, IsTrue, List, [], ◌∷◌, ◌++◌, length, drop}
 use Rattle.std.specs.List.{filter}
 use Rattle.bus_strings.specs.Members.{In}
@@ -29,10 +29,10 @@ behind t list = filter (λ x. nat_le t x.moment) list
 abbrev pub until : ℕ → List Entry → List Entry
 until t list = filter (λ x. nat_lt x.moment t) list
 
--- Up to the horizon these transmissions are rounds of the senders `first ∷ others`, where sender a is next, `rest` speak behind it in its round,
--- and they count their terminal gaps from this moment: a starts its terminal gap behind it. Those of the round that have yet to speak count
--- from the end of its transmission, and behind the last one of a round all count from one synchronization gap later. Where no more
--- transmission follows, the next would start no earlier than the horizon.
+-- Up to the horizon these transmissions are rounds of the senders `first ∷ others`, where sender a is next, `rest` speak behind it in its
+-- round, and they count their terminal gaps from this moment: a starts its terminal gap behind it. Those of the round that have yet to
+-- speak count from the end of its transmission, and behind the last one of a round all count from one synchronization gap later. Where no
+-- more transmission follows, the next would start no earlier than the horizon.
 abbrev pub InRounds : ℕ → Sender → List Sender → ℕ → Sender → List Sender → ℕ → List Entry → Type 0
 InRounds sg first others horizon a rest from [] = horizon ≤ from + a.tg
 InRounds sg first others horizon a [] from (x ∷ list) =
@@ -65,13 +65,13 @@ Begins list whole = (more : List Entry) × (whole ≡ list ++ more)
 -- Where all have been powered up at moment `up`, the list has settled at moment `origin`:
 --   soon     that is no later than a longest cycle and a synchronization gap behind `up`
 --   parts    the list is what started before, and then what started at `origin` or later
---   rounds   the latter is rounds: all senders speak in turn order, round by round, up to the horizon, with nothing missing and nothing else.
---            The first counts its terminal gap, the least, from `origin`
+--   rounds   the latter is rounds: all senders speak in turn order, round by round, up to the horizon, with nothing missing and nothing
+--            else. The first counts its terminal gap, the least, from `origin`
 --   closed   of enough rounds of the closed schedule, of the messages that they have left, these transmissions are the beginning
 --   clear    none of them overlaps another
 --   quiet    what started before has ended one synchronization gap before
 --   once     and of what started before, but not before `up`, each sender sent one transmission at most.
-pub record IsSettled (table : Table) (hands : List Hand) (up horizon : ℕ) (list : List Entry) : Type 0 where
+pub record HasSettled (table : Table) (hands : List Hand) (up horizon : ℕ) (list : List Entry) : Type 0 where
   pub origin : ℕ
   pub soon : origin ≤ up + most_cycle table + table.sg
   pub parts : list ≡ until origin list ++ behind origin list
@@ -89,15 +89,17 @@ ArePoweredUp table wake up = (sender : Sender) → In sender table.senders → w
 -- At each moment before the horizon each sender has sent fewer messages than its hand has.
 abbrev pub HaveLeft : Table → List Hand → ℕ → List Entry → Type 0
 HaveLeft table hands horizon list =
-    (sender : Sender) (t : ℕ) → In sender table.senders → t < horizon → length (own list sender.number t) < length (messages_of hands sender.number)
+    (sender : Sender) (t : ℕ) → In sender table.senders → t < horizon
+    → length (own list sender.number t) < length (messages_of hands sender.number)
 
 -- An aperiodic table that starts itself settles, whenever its senders are powered up and whatever they have sent until then.
 abbrev pub AnyStartSettles : Type 0
 AnyStartSettles =
-    (table : Table) (hands : List Hand) (wake : Wakes) (up horizon : ℕ) (list : List Entry) → IsTrue (is_valid table) → table.mode ≡ Aperiodic
-    → IsTrue (starts_itself table) → IsTrue (are_hands table.senders hands) → ArePoweredUp table wake up → HaveLeft table hands horizon list
+    (table : Table) (hands : List Hand) (wake : Wakes) (up horizon : ℕ) (list : List Entry) → IsTrue (is_valid table)
+    → table.mode ≡ Aperiodic → IsTrue (starts_itself table) → IsTrue (are_hands table.senders hands) → ArePoweredUp table wake up
+    → HaveLeft table hands horizon list
     → up + most_cycle table + table.sg ≤ horizon → IsLawfulOnCable (quiet_of table) at_once wake (stations_of table hands) horizon list
-    → IsSettled table hands up horizon list
+    → HasSettled table hands up horizon list
 
 -- Hands with as many messages as there are bit times before the horizon have some left.
 abbrev pub LongHandsLast : Type 0
@@ -109,4 +111,5 @@ LongHandsLast =
 -- A table that starts itself is accepted.
 abbrev pub StartsItselfIsAccepted : Type 0
 StartsItselfIsAccepted =
-    (table : Table) → IsTrue (is_valid table) → table.mode ≡ Aperiodic → IsTrue (starts_itself table) → IsTrue (is_accepted (verdict_of table))
+    (table : Table) → IsTrue (is_valid table) → table.mode ≡ Aperiodic → IsTrue (starts_itself table)
+    → IsTrue (is_accepted (verdict_of table))

@@ -10,8 +10,8 @@ use Rattle.bus_table.specs.Tables.{Sender, Table}
 abbrev pub is_apart : ℕ → ℕ → ℕ → Bool
 is_apart d a b = nat_lt (a + 2 * d) b
 
--- Whether a sender's terminal gap is no less than d, and a synchronization gap and each longer terminal gap are greater than it by more than
--- twice d.
+-- Whether a sender's terminal gap is no less than d, and a synchronization gap and each longer terminal gap are greater than it by more
+-- than twice d.
 abbrev pub leaves_room : ℕ → ℕ → List Sender → Sender → Bool
 leaves_room d sg senders a =
     nat_le d a.tg && (is_apart d a.tg sg && list_all (λ b. nat_le b.tg a.tg || is_apart d a.tg b.tg) senders)

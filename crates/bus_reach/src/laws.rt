@@ -1,6 +1,7 @@
 //! Laws of the definitions, each the contract of a function that does nothing.
 ghost use Rattle.bus_medium.specs.CableLaws.{NoDelayIsTheBus, OneCableListOfATable};
-ghost use Rattle.bus_reach.specs.Laws.{BorneIsClosed, BorneIsKept, JoinersComeSoon, JoiningIsOrderly, MembersStay, NeighboursTell, NoDelayIsClosed, ZeroIsBorne, ShorterIsBorne, ToleranceIsExact};
+ghost use Rattle.bus_reach.specs.Laws.{BorneIsClosed, BorneIsKept, NoDelayIsClosed, ShorterIsBorne, ToleranceIsExact, ZeroIsBorne};
+ghost use Rattle.bus_reach.specs.Laws.{JoinersComeSoon, JoiningIsOrderly, MembersStay, NeighboursTell};
 ghost use Rattle.bus_reach.specs.Settling.{AnyStartSettles, LongHandsLast, StartsItselfIsAccepted};
 ghost use Rattle.bus_reach.specs.PeriodicLaws.{AcceptedBearZero, BearZeroIsAccepted, BorneForLess, CablesDelay};
 ghost use Rattle.bus_reach.specs.PeriodicLaws.{PeriodicBearingIsExact, PeriodicBorneIsClosed, PeriodicNotBorneBreaks};

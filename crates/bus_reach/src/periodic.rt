@@ -1,6 +1,7 @@
 //! The tolerance of a periodic table: its gaps are wide enough, and each sender stays in sync. Turn order is found once, and
 //! there is no other memory than that.
-ghost use Rattle.std.specs.Prelude.{◌≡◌, ◌+◌, ◌++◌, ◌≤◌, ◌<◌, ◌^◌, ◌↔◌, ℕ, Option, Some, IsNone, IsTrue, IfSome, IsSomeAnd, drop, take, length, slice_get};
+ghost use Rattle.std.specs.Prelude.{◌≡◌, ◌+◌, ◌++◌, ◌≤◌, ◌<◌, ◌^◌, ◌↔◌, ℕ, drop, take, length, slice_get};
+ghost use Rattle.std.specs.Prelude.{Option, Some, IsNone, IsTrue, IfSome, IsSomeAnd};
 ghost use Rattle.std.specs.List.{list_all};
 ghost use Rattle.bus_table.specs.Turned.{AreTurned};
 ghost use Rattle.bus_table.specs.declared.mode.Mode.TheVariants.{Periodic};
