@@ -8,7 +8,9 @@ use crate::boxes::top_of;
 use crate::survey::{MOST_ROWS, Survey};
 use bus_outer::{Sink, TextBuffer};
 use bus_regime::TableVerdict;
-use bus_shapes::{Area, Axis, Class, Scale, Unit, begin_words, end_words, put_axis, put_box, put_words};
+use bus_shapes::{
+    Area, Axis, Class, Scale, Unit, begin_words, end_words, put_axis, put_box, put_words,
+};
 use bus_table::{Mode, Table};
 
 /// The moments behind the beginning of a row, as far as the longest that is drawn has some, and as the breach needs some.

@@ -17,8 +17,8 @@ use crate::live::TERMINALS;
 use crate::signal::Signal;
 use arrayvec::ArrayVec;
 use bus_regime::turn;
-use bus_strings::limits::MOST_TERMINAL;
 use bus_strings::Transmission;
+use bus_strings::limits::MOST_TERMINAL;
 use bus_table::Table;
 
 /// The most lanes, of 128 senders and 128 other terminals.

@@ -17,8 +17,8 @@ use crate::scene::Scene;
 use crate::watch::Watch;
 use bus_outer::{Sink, TextBuffer, WriteFault};
 use bus_regime::TableVerdict;
-use bus_strings::laws::neighbours_tell;
 use bus_strings::Transmission;
+use bus_strings::laws::neighbours_tell;
 use bus_table::Table;
 use bus_trace::Trace;
 

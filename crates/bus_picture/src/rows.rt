@@ -13,8 +13,8 @@ use crate::row::Row;
 use bus_dump::Lane;
 use bus_outer::{Sink, TextBuffer};
 use bus_shapes::Scale;
-use bus_strings::laws::neighbours_tell;
 use bus_strings::Transmission;
+use bus_strings::laws::neighbours_tell;
 use bus_trace::Trace;
 
 /// The two rows of one place: what isn't garbled, and over it what is.

@@ -11,7 +11,9 @@ use crate::names::{digits_class, put_name};
 use crate::places::{meets, string_area};
 use crate::words::{has_room, put_each_word};
 use bus_outer::{Sink, TextBuffer};
-use bus_shapes::{Area, Class, Scale, begin_titled, begin_words, end_titled, end_words, put_counted};
+use bus_shapes::{
+    Area, Class, Scale, begin_titled, begin_words, end_titled, end_words, put_counted,
+};
 use bus_strings::{Transmission, Wordstring, pulse, pulse_count};
 
 /// How many data words a wordstring has.

@@ -11,8 +11,8 @@ use crate::measures::PLOT_TOP;
 use bus_dump::Lane;
 use bus_outer::{Sink, TextBuffer};
 use bus_shapes::{Area, Class, Scale, Sent, Sents, begin_words, end_words, put_box};
-use bus_strings::laws::neighbours_tell;
 use bus_strings::Transmission;
+use bus_strings::laws::neighbours_tell;
 use bus_table::{Table, sender_of};
 use bus_trace::Trace;
 

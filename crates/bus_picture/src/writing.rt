@@ -16,7 +16,10 @@ use bus_audit::AuditAnswer;
 use bus_dump::{Lane, lanes_of};
 use bus_outer::{Sink, TextBuffer, WriteFault};
 use bus_regime::TableVerdict;
-use bus_shapes::{Area, Axis, Class, Scale, Unit, Window, begin_titled, end_titled, put_axis, put_frame, put_tail, put_words};
+use bus_shapes::{
+    Area, Axis, Class, Scale, Unit, Window, begin_titled, end_titled, put_axis, put_frame,
+    put_tail, put_words,
+};
 use bus_table::Table;
 use bus_trace::Trace;
 

@@ -23,8 +23,8 @@ use crate::spacing::LEAST_GAP;
 use crate::symbol::Symbol;
 use bus_strings::limits::{HORIZON_LIMIT, INNER_GAP, WORD_BITS};
 use bus_strings::{Transmission, Wordstring};
-use bus_text::LineFault;
 use bus_table::{SendLine, Sender};
+use bus_text::LineFault;
 use bus_words::{Ext, Kind, Label, Word};
 use std::alloc::{AllocError, Global};
 
@@ -99,7 +99,11 @@ impl<'t> Draft<'t> {
     }
 
     /// Takes a data word.
-    fn take_data(&mut self, beginners: &Beginners<'t>, value: u16) -> Result<(), LineFault<WaveReason>>
+    fn take_data(
+        &mut self,
+        beginners: &Beginners<'t>,
+        value: u16,
+    ) -> Result<(), LineFault<WaveReason>>
         requires { Keeps self.old }
         ensures gives { StepGives (state_of self.new) result
             (step beginners.now.senders.now (state_of self.old) (Sent (record { kind = kind.Plain; value = value }))) }
@@ -406,7 +410,11 @@ impl<'t> Draft<'t> {
     }
 
     /// Takes the last line.
-    fn take_end(&mut self, alloc: Global, beginners: &Beginners<'t>) -> Result<(), LineFault<WaveReason>>
+    fn take_end(
+        &mut self,
+        alloc: Global,
+        beginners: &Beginners<'t>,
+    ) -> Result<(), LineFault<WaveReason>>
         requires { Keeps self.old }
         ensures gives { StepGives (state_of self.new) result (step beginners.now.senders.now (state_of self.old) End) }
         ensures keeps { OnOk result (Keeps self.new) }

@@ -3,7 +3,7 @@ ghost use Rattle.std.specs.Prelude.{◌≡◌, ◌<◌, ◌≤◌, ◌++◌, ◌
 ghost use Rattle.bus_strings.specs.Limits.{most_strings};
 ghost use Rattle.bus_wave.specs.Judging.{string_of};
 
-use bus_strings::{SHORT, Message, Wordstring};
+use bus_strings::{Message, SHORT, Wordstring};
 use bus_table::SendLine;
 use std::alloc::{AllocError, Global};
 use std::mem::replace;

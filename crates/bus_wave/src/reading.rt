@@ -20,9 +20,9 @@ use crate::laws::waves_tell_traces;
 use crate::pieces::cut;
 use crate::symbol::{Symbol, first_symbol, head_of};
 use bus_strings::Transmission;
-use bus_text::LineFault;
 use bus_table::laws::table_is_valid;
 use bus_table::{Sender, Table};
+use bus_text::LineFault;
 use bus_trace::Trace;
 use std::alloc::Global;
 
