@@ -3,11 +3,13 @@
 #![tactic(auto)]
 
 ghost use Rattle.std.specs.Prelude.{◌≡◌, ◌↔◌, IsNone, IfOk, IfErr};
-ghost use Rattle.bus_tool.specs.Forms.{words_of, form_of};
+ghost use Rattle.bus_command.specs.Words.{words_of};
+ghost use Rattle.bus_tool.specs.Forms.{form_of};
 
+use bus_command::Status;
 use bus_outer::OutSink;
 use bus_program::{Sources, exit_number, sources_of, words};
-use bus_tool::{Status, tool};
+use bus_tool::tool;
 use std::alloc::Global;
 use std::io::Write;
 use std::process::ExitCode;

@@ -3,12 +3,12 @@
 #![tactic(auto)]
 
 ghost use Rattle.std.specs.Prelude.{◌≡◌, ◌↔◌, IsNone, IfOk, IfErr};
-ghost use Rattle.bus_tool.specs.Forms.{words_of};
+ghost use Rattle.bus_command.specs.Words.{words_of};
 ghost use Rattle.bus_view.specs.Forms.{form_of};
 
+use bus_command::Status;
 use bus_outer::OutSink;
 use bus_program::{Sources, exit_number, sources_of, words};
-use bus_tool::Status;
 use bus_view::view;
 use std::alloc::Global;
 use std::io::Write;

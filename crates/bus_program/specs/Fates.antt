@@ -1,7 +1,7 @@
 -- How the program ends.
 use Rattle.std.specs.Prelude.{ℕ, Result, Ok, Err}
-use Rattle.bus_tool.specs.declared.status.Status.{Status}
-use Rattle.bus_tool.specs.Statuses.{number_of}
+use Rattle.bus_command.specs.declared.status.Status.{Status}
+use Rattle.bus_command.specs.Statuses.{number_of}
 
 -- The number with which the process ends: that of the command's status, or of why no command began.
 abbrev pub exit_number : Result Status Status → ℕ

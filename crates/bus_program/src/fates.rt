@@ -2,7 +2,7 @@ ghost use Rattle.std.specs.Prelude.{◌≡◌, ◌≢◌, ◌⊎◌};
 ghost use Rattle.std.specs.declared.io.ErrorKind.TheVariants.{OutOfMemory};
 ghost use Rattle.bus_program.specs.Fates as fates;
 
-use bus_tool::Status;
+use bus_command::Status;
 use std::io;
 
 /// How the program ends where its words can't be gathered: with `NoMemory` for want of memory, else with `Usage`, since then a word

@@ -1,7 +1,8 @@
+//! The words of the command line.
 ghost use Rattle.std.specs.Prelude.{◌≡◌, ◌⊎◌, IfErr};
 
 use crate::fates::fate_of;
-use bus_tool::Status;
+use bus_command::Status;
 use std::alloc::Global;
 use std::env;
 use std::rt::Runtime;

@@ -1,10 +1,10 @@
 ghost use Rattle.std.specs.Prelude.{◌≡◌, slice_get, IfOk, IfErr};
 ghost use Rattle.bus_program.specs.Words.{IsFileOf};
 ghost use Rattle.bus_outer.specs.Edge.{file_of};
-ghost use Rattle.bus_tool.specs.Forms.{words_of};
+ghost use Rattle.bus_command.specs.Words.{words_of};
 
+use bus_command::Status;
 use bus_outer::FileSource;
-use bus_tool::Status;
 use std::rt::Files;
 
 /// The files of a command.

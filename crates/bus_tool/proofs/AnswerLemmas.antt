@@ -2,21 +2,19 @@
 use Rattle.std.specs.Prelude.{◌≡◌, ◌≢◌, ℕ, List, Option, Some, None, IfSome, IsNone, ◌↔◌}
 use Rattle.std.proofs.Common.{arith, refl, sym, ap, subst, inl, inr}
 use Rattle.bus_outer.specs.Faults.{Fails}
-use Rattle.bus_tool.specs.declared.forms.Form.{Form}
-use Rattle.bus_tool.specs.declared.forms.Form.TheVariants.{Check, Tidy, Report, Witness, Plan, Drill, Observe, Run, Drop, Receive, Audit, Vote, Wave, Unwave}
-use Rattle.bus_tool.specs.declared.outcome.Outcome.{Outcome}
-use Rattle.bus_tool.specs.declared.outcome.Outcome.TheVariants.{Usage, ReadFault, WriteFault, NoMemory}
-use Rattle.bus_tool.specs.declared.status.Status.{Status}
-use Rattle.bus_tool.specs.declared.status.Status.TheVariants as status
-use Rattle.bus_tool.specs.Forms.{form_of, sources_of}
-use Rattle.bus_tool.specs.Kinds.{kind_of, stage_of}
-use Rattle.bus_tool.specs.Stages.{StandsFor}
-use Rattle.bus_tool.specs.Outside.{Seen, Outside, both, around, called}
-use Rattle.bus_tool.specs.Readers.{Named, First, Second, FailsToRead, SourceCounts, OutCounts, OfTexts}
-use Rattle.bus_tool.specs.Outcomes.{status_of}
+use Rattle.bus_command.specs.declared.outcome.Outcome.TheVariants.{Usage, Own, ReadFault, WriteFault, NoMemory}
+use Rattle.bus_command.specs.declared.refusal.Place.TheVariants.{First, Second, Behind}
+use Rattle.bus_command.specs.declared.status.Status.{Status}
+use Rattle.bus_command.specs.declared.status.Status.TheVariants as status
+use Rattle.bus_command.specs.Kinds.{kind_of, stage_of}
+use Rattle.bus_command.specs.Stages.{StandsFor}
+use Rattle.bus_command.specs.Outside.{Seen, Outside, both, around, called}
+use Rattle.bus_command.specs.Readers.{Named, First as AtFirst, Second as AtSecond, FailsToRead, SourceCounts, OutCounts, OfTexts}
+use Rattle.bus_tool.specs.Forms.{Form, OnTable, OnMessages, OnTrace, Unwave, Drill, form_of, sources_of}
+use Rattle.bus_tool.specs.Refusals.{Outcome, ToolRefusal, status_of, ends_of, TableMode, Unspaced, WaveText, Uneven, NotAccepted, ShortLast, TooLong}
 use Rattle.bus_tool.specs.Due.{form_due, outcome_for}
 use Rattle.bus_tool.specs.Acts.{DoesForm, Acts}
-use Rattle.bus_tool.specs.Answers.{IsStatusOf, IsStatusDue}
+use Rattle.bus_tool.specs.InMemory.{IsStatusOf, IsStatusDue}
 
 -- a source in memory with these bytes
 abbrev steady : List ℕ → Seen
@@ -35,25 +33,17 @@ no_fault : Fails 0 0 → ⊥
 no_fault f = elim f.1 [ inl h ↦ omega (arith, h) | inr h ↦ omega (arith, h) ]
 
 no_read : (named : Named) (f s f' s' : List ℕ) (source : ℕ) → FailsToRead named (both (steady f) (steady s)) (both (steady f') (steady s')) source → ⊥
-no_read named f s f' s' source (First is some rises stays) = no_fault rises
-no_read named f s f' s' source (Second is some stays rises) = no_fault rises
+no_read named f s f' s' source (AtFirst is some rises stays) = no_fault rises
+no_read named f s f' s' source (AtSecond is some stays rises) = no_fault rises
 
 -- what is due of a form over texts that are told
-of_form : (form : Form) (first second : List ℕ) (o : Outcome) → OfTexts (sources_of form) (both (steady first) (steady second)) (λ a b. StandsFor (form_due form a b) o) → StandsFor (form_due form first second) o
-of_form Check first second o h = h
-of_form Tidy first second o h = h
-of_form Witness first second o h = h
-of_form Plan first second o h = h
-of_form Report first second o h = h
-of_form (Drill number) first second o h = h
-of_form (Observe horizon) first second o h = h
-of_form Run first second o h = h
-of_form Drop first second o h = h
-of_form Receive first second o h = h
-of_form Audit first second o h = h
-of_form Vote first second o h = h
-of_form Wave first second o h = h
+of_form : (form : Form) (first second : List ℕ) (o : Outcome)
+    → OfTexts (sources_of form) (both (steady first) (steady second)) (λ a b. StandsFor (form_due form a b) o) → StandsFor (form_due form first second) o
+of_form (OnTable command) first second o h = h
+of_form (OnMessages command) first second o h = h
+of_form (OnTrace command) first second o h = h
 of_form Unwave first second o h = h
+of_form (Drill number) first second o h = h
 
 -- an outcome that stands for the one that is due, where nothing failed
 stands_status : (due o : Outcome) (named : Named) (f s f' s' : List ℕ) → StandsFor due o → SourceCounts named (both (steady f) (steady s)) (both (steady f') (steady s')) (kind_of o) → OutCounts counting counting (kind_of o) → o ≢ Usage → IsStatusOf due (status_of o)
@@ -61,6 +51,9 @@ stands_status due (ReadFault source) named f s f' s' h counts out form = absurd 
 stands_status due WriteFault named f s f' s' h counts out form = absurd (no_fault out)
 stands_status due NoMemory named f s f' s' h counts out form = inr (refl, λ e. (let z : stage_of (kind_of due) ≡ 0 = ap (λ o. stage_of (kind_of o)) e in omega arith))
 stands_status due Usage named f s f' s' h counts out form = absurd (form refl)
+stands_status due (Own First why) named f s f' s' h counts out form = inl (ap status_of (sym h))
+stands_status due (Own Second why) named f s f' s' h counts out form = inl (ap status_of (sym h))
+stands_status due (Own Behind why) named f s f' s' h counts out form = inl (ap status_of (sym h))
 stands_status due o named f s f' s' h counts out form = inl (ap status_of (sym h))
 
 status_for : (form : Option Form) (o : Outcome) (f s f' s' : List ℕ) → (o ≡ Usage) ↔ IsNone form → IfSome form (λ form. DoesForm form (in_memory f s) (in_memory f' s') o) → IsStatusOf (outcome_for form f s) (status_of o)
@@ -71,11 +64,21 @@ pub answer_due : (words : List (List ℕ)) (f s f' s' : List ℕ) (o : Outcome) 
 answer_due words f s f' s' o acts = status_for (form_of words) o f s f' s' acts.usage acts.does
 
 -- and no fault is answered
+own_no_fault : (why : ToolRefusal) → (ends_of why ≡ status.ReadFault → ⊥) × (ends_of why ≡ status.WriteFault → ⊥)
+own_no_fault (TableMode needed) = (λ e. cc, λ e. cc)
+own_no_fault (Unspaced fault) = (λ e. cc, λ e. cc)
+own_no_fault (WaveText line reason) = (λ e. cc, λ e. cc)
+own_no_fault (Uneven one one_count other other_count) = (λ e. cc, λ e. cc)
+own_no_fault (NotAccepted verdict) = (λ e. cc, λ e. cc)
+own_no_fault (ShortLast least ti) = (λ e. cc, λ e. cc)
+own_no_fault (TooLong end) = (λ e. cc, λ e. cc)
+
 no_fault_of : (o : Outcome) (form : Option Form) (f s f' s' : List ℕ) → (o ≡ Usage) ↔ IsNone form → IfSome form (λ form. DoesForm form (in_memory f s) (in_memory f' s') o) → (status_of o ≡ status.ReadFault → ⊥) × (status_of o ≡ status.WriteFault → ⊥)
-no_fault_of (ReadFault source) None f s f' s' usage does = absurd (let u : ReadFault source ≡ Usage = usage.1 refl in cc)
+no_fault_of (ReadFault source) None f s f' s' usage does = absurd (let u : (let o : Outcome = ReadFault source in o) ≡ Usage = usage.1 refl in cc)
 no_fault_of (ReadFault source) (Some form) f s f' s' usage does = absurd (no_read (sources_of form) f s f' s' source does.counts)
-no_fault_of WriteFault None f s f' s' usage does = absurd (let u : WriteFault ≡ Usage = usage.1 refl in cc)
+no_fault_of WriteFault None f s f' s' usage does = absurd (let u : (let o : Outcome = WriteFault in o) ≡ Usage = usage.1 refl in cc)
 no_fault_of WriteFault (Some form) f s f' s' usage does = absurd (no_fault does.out_count)
+no_fault_of (Own place why) form f s f' s' usage does = own_no_fault why
 no_fault_of o form f s f' s' usage does = (λ e. cc, λ e. cc)
 
 pub answer_unfailing : (words : List (List ℕ)) (f s f' s' : List ℕ) (o : Outcome) → Acts (called words (in_memory f s) (in_memory f' s')) o → (status_of o ≡ status.ReadFault → ⊥) × (status_of o ≡ status.WriteFault → ⊥)

@@ -25,15 +25,12 @@ use Rattle.bus_schedule.specs.Limits.{IsRefused}
 use Rattle.bus_vectors.specs.Made.{sender_count, round_count, made_sender, table_of, made_table, made_items}
 use Rattle.bus_vectors.specs.MadeLaws.{MadeTablesAreValid, MadeItemsFit, MadeItemsAreEven}
 use Rattle.bus_tool.specs.declared.drill.DrillFigures.{DrillFigures}
-use Rattle.bus_tool.specs.declared.forms.Form.TheVariants.{Drill}
-use Rattle.bus_tool.specs.declared.outcome.Outcome.{Outcome}
-use Rattle.bus_tool.specs.declared.outcome.Outcome.TheVariants.{Done, NoMemory}
-use Rattle.bus_tool.specs.Outside.{Seen, Sources, around, sink_seen}
+use Rattle.bus_tool.specs.Refusals.{Outcome}
+use Rattle.bus_command.specs.declared.outcome.Outcome.TheVariants.{NoMemory}
 use Rattle.bus_tool.specs.Due.{schedule_refusal}
 use Rattle.bus_tool.specs.Drills.{drill_hands, drill_list, garbled_count, IsDrilled, figures, line_of, drill_line}
 use Rattle.bus_tool.specs.DrillLaws.{IsDrillable, DrillsAreAccepted}
-use Rattle.bus_tool.specs.Acts.{written, DoesForm}
-use Rattle.bus_tool.proofs.LawTypes.{FittingItemsGiveHands}
+use Rattle.bus_command.proofs.LawTypes.{FittingItemsGiveHands}
 
 -- ---- what the numbers make
 each_of : (p : ℕ → Bool) (a n k : ℕ) → list_all p (range_with_len a n) ≡ true → k < n → p (a + k) ≡ true
@@ -165,52 +162,3 @@ drill_finds number table items hands list heard drilled t i h run made senders r
       collided = collided ∙ ap garbled_count all;
       received = received ∙ ap (received_count table) heard_is ∙ ap (λ (x : Table). received_count x list) t ∙ ap (λ (l : List Entry). received_count (made_table number) l) all;
     }
-
-pub drill_stopped : (number : ℕ) (sources : Sources) (out : Seen) (o : Outcome) → o ≡ NoMemory
-    → DoesForm (Drill number) (around sources out) (around sources out) o
-drill_stopped number sources out o e = subst (DoesForm (Drill number) (around sources out) (around sources out)) (sym e) (record {
-  due = omega arith;
-  text = refl;
-  first = refl;
-  second = refl;
-  order = tt;
-  alone = tt;
-  counts = record { first = refl; second = refl };
-  out_count = refl;
-  form = λ e. cc;
-})
-
-drill_written : {K : Type 0} (number : ℕ) (sources : Sources) (ghosts : SinkGhosts K) (k k' : K) (result : Result (Unit {0}) Fault)
-    → WritesText ghosts.held ghosts.faults k k' result (drill_line number)
-    → DoesForm (Drill number) (around sources (sink_seen ghosts k)) (around sources (sink_seen ghosts k')) (written result Done)
-drill_written number sources ghosts k k' (Ok u) w = record {
-  due = refl;
-  text = (drill_line number, refl, w.ok);
-  first = refl;
-  second = refl;
-  order = tt;
-  alone = tt;
-  counts = record { first = refl; second = refl };
-  out_count = w.same;
-  form = λ e. cc;
-}
-drill_written number sources ghosts k k' (Err fault) w = record {
-  due = refl;
-  text = (drill_line number, refl, w.prefix.0, w.prefix.1);
-  first = refl;
-  second = refl;
-  order = tt;
-  alone = tt;
-  counts = record { first = refl; second = refl };
-  out_count = (w.later, w.cause);
-  form = λ e. cc;
-}
-
-pub drill_answered : {K : Type 0} (number : ℕ) (sources : Sources) (ghosts : SinkGhosts K) (k k' : K) (drilled : DrillFigures)
-    (result : Result (Unit {0}) Fault) (outcome : Outcome) → IsDrilled drilled number
-    → WritesText ghosts.held ghosts.faults k k' result (line_of drilled) → outcome ≡ written result Done
-    → DoesForm (Drill number) (around sources (sink_seen ghosts k)) (around sources (sink_seen ghosts k')) outcome
-drill_answered number sources ghosts k k' drilled result outcome h w e =
-    subst (DoesForm (Drill number) (around sources (sink_seen ghosts k)) (around sources (sink_seen ghosts k'))) (sym e)
-    (drill_written number sources ghosts k k' result
-    (subst (λ text. WritesText ghosts.held ghosts.faults k k' result text) (line_is drilled number h) w))

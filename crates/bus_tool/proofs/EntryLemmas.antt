@@ -27,9 +27,9 @@ use Rattle.bus_medium.specs.Lawful.{IsLawful}
 use Rattle.bus_medium.proofs.StationLaws.{HasSender, stations_are_of_senders}
 use Rattle.bus_medium.specs.Timings.{quiet_of, stations_of}
 use Rattle.bus_trace.specs.Traces.{Recording, IsTrace}
-use Rattle.bus_tool.specs.Readers.{text_limit}
+use Rattle.bus_command.specs.Readers.{text_limit}
 use Rattle.bus_tool.specs.Texts.{IsObserved}
-use Rattle.bus_tool.proofs.HoldLemmas.{hands_few}
+use Rattle.bus_command.proofs.FewHands.{hands_few}
 use Rattle.bus_tool.proofs.TraceLemmas.{observed_is_trace}
 
 -- ---- a messages text has no more items than bytes

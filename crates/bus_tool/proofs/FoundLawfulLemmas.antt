@@ -8,7 +8,7 @@ use Rattle.bus_audit.specs.Observed.{ObservedIsRight}
 use Rattle.bus_audit.proofs.Observed.{states_hands}
 use Rattle.bus_tool.specs.Texts.{hold_of}
 use Rattle.bus_tool.specs.TextLaws.{SendersHaveHolds, ObservedIsFoundLawful, RunIsFoundLawful, DropIsFoundLawful}
-use Rattle.bus_tool.proofs.LawTypes.{FittingItemsGiveHands}
+use Rattle.bus_command.proofs.LawTypes.{FittingItemsGiveHands}
 
 pub observed_is_found_lawful : ObservedIsRight → FittingItemsGiveHands → SendersHaveHolds → ObservedIsFoundLawful
 observed_is_found_lawful right give have table items horizon trace valid fit is o answer found =

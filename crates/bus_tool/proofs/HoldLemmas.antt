@@ -11,11 +11,9 @@ use Rattle.bus_table.specs.Tables.{Sender, Hand}
 use Rattle.bus_table.specs.Hands.{message_of, items_of, hand_of}
 use Rattle.bus_trace.specs.declared.hold.Hold.{Hold}
 use Rattle.bus_trace.specs.Traces.{AscendAbove, IsHold}
-use Rattle.bus_tool.specs.Readers.{text_limit}
+use Rattle.bus_command.specs.Readers.{text_limit}
+use Rattle.bus_command.proofs.FewHands.{AreFew}
 use Rattle.bus_tool.specs.Texts.{hold_of, hold_at, terminal_numbers, holds_of}
-
-abbrev pub AreFew : List Hand → Type 0
-AreFew hands = AllByRecursion (λ hand. length hand.messages ≤ text_limit) hands
 
 -- one number more
 range_more : (a n : ℕ) → range_with_len a (suc n) ≡ range_with_len a n ++ (a + n) ∷ []
@@ -87,16 +85,3 @@ holds_ascend hands = ascend_from hands 128 0
 pub holds_ranged : (hands : List Hand) → AreFew hands → AllByRecursion IsHold (holds_of hands)
 unfolding terminal_numbers
 holds_ranged hands few = ranged_from hands 128 0 few (omega arith)
-
--- ---- the hands that items give
-length_kept : (p : Item → _) (items : List Item) → length (filter p items) ≤ length items
-length_kept p [] = omega arith
-length_kept p (item ∷ items) =
-    elim (p item) as (λ b. length (cond b (item ∷ filter p items) (filter p items)) ≤ length (item ∷ items)) [ true ↦ omega (arith, length_kept p items) | false ↦ omega (arith, length_kept p items) ]
-
-hand_few : (items : List Item) (sender : Sender) → length (hand_of items sender).messages ≤ length items
-hand_few items sender = omega (arith, length-map (items_of sender.number items) (λ (item : Item). message_of sender.sends item.strings), length_kept (λ item. item.terminal == sender.number) items)
-
-pub hands_few : (items : List Item) (senders : List Sender) → length items ≤ text_limit → AreFew (map (hand_of items) senders)
-hands_few items [] short = tt
-hands_few items (sender ∷ senders) short = (omega (arith, hand_few items sender), hands_few items senders short)

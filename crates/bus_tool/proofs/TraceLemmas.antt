@@ -12,7 +12,8 @@ use Rattle.bus_trace.specs.Traces.{Recording, AscendAbove, IsHold, IsBelow, IsTr
 use Rattle.bus_strings.specs.Limits.{horizon_limit}
 use Rattle.bus_tool.specs.Texts.{holds_of}
 use Rattle.bus_strings.specs.Transmissions.{Precedes, IsByMoment, IsAscending, IsTransmission}
-use Rattle.bus_tool.proofs.HoldLemmas.{AreFew, holds_ascend, holds_ranged}
+use Rattle.bus_command.proofs.FewHands.{AreFew}
+use Rattle.bus_tool.proofs.HoldLemmas.{holds_ascend, holds_ranged}
 
 below : (horizon : ℕ) (list : List Entry) → ((x : Entry) → In x list → x.moment < horizon) → AllByRecursion IsTransmission list → AllByRecursion (IsBelow horizon) list
 below horizon [] early ranged = tt

@@ -1,89 +1,65 @@
--- What a call does to the outside: which outcome it comes to, and what its sources and sinks then hold.
-use Rattle.std.specs.Prelude.{◌≡◌, ◌≢◌, ℕ, List, [], Option, IfSome, IfNone, IsNone, Result, Ok, Err, ◌↔◌}
-use Rattle.bus_outer.specs.Sinks.{Written, WritesText}
-use Rattle.bus_outer.specs.declared.sink.WriteFault.{WriteFault as Fault}
-use Rattle.bus_tool.specs.declared.forms.Form.{Form}
-use Rattle.bus_tool.specs.declared.outcome.Outcome.{Outcome}
-use Rattle.bus_tool.specs.declared.outcome.Outcome.TheVariants.{Usage, WriteFault}
-use Rattle.bus_tool.specs.Forms.{form_of, sources_of}
-use Rattle.bus_tool.specs.Outcomes.{fault_line}
-use Rattle.bus_tool.specs.Kinds.{Kind, NoForm, NotRead, TooMuch, Wrong, Late, NotWritten, NoRoom, Answer, kind_of}
-use Rattle.bus_tool.specs.Stages.{StandsFor}
-use Rattle.bus_tool.specs.Outside.{Outside, Call}
-use Rattle.bus_tool.specs.Readers.{Named, told, OfTexts, Reads, reach, SourceCounts, OutCounts}
-use Rattle.bus_tool.specs.Own.{IsOwn}
-use Rattle.bus_tool.specs.Steps.{IsRefused, IsDueFirst}
-use Rattle.bus_tool.specs.Due.{first_refusal, form_due}
-use Rattle.bus_tool.specs.Texts.{IsFormText}
-use Rattle.bus_tool.specs.Causes.{HasTextCause, HasFirstCause}
+-- What the program bus629 does.
+use Rattle.std.specs.Prelude.{◌≡◌, ℕ, List, Option, Some, None}
+use Rattle.bus_outer.specs.declared.sink.Sink.{Ghosts as SinkGhosts}
+use Rattle.bus_outer.specs.declared.source.Source.{Ghosts as SourceGhosts}
+use Rattle.bus_table.specs.Tables.{Table, Hand}
+use Rattle.bus_table.specs.declared.mode.Mode.{Mode}
+use Rattle.bus_trace.specs.Traces.{Recording}
+use Rattle.bus_command.specs.Acts as command
+use Rattle.bus_command.specs.Acts.{Ends, Program, TellsLine}
+use Rattle.bus_command.specs.declared.status.Status.{Status}
+use Rattle.bus_command.specs.Outside.{Call, Outside, sink_seen}
+use Rattle.bus_command.specs.Readers.{Trace, entire, one_source, two_sources}
+use Rattle.bus_tool.specs.Causes.{Cause}
+use Rattle.bus_tool.specs.Due.{form_due, first_refusal, table_answer, messages_answer, trace_answer}
+use Rattle.bus_tool.specs.Forms.{Form, TableCommand, MessagesCommand, TraceCommand, form_of, sources_of}
+use Rattle.bus_tool.specs.Refusals.{Outcome, ToolRefusal, fault_line, status_of}
+use Rattle.bus_tool.specs.Texts.{IsFormText, IsMessagesText, table_answer_text, trace_answer_text}
 
--- all of a text is written
-abbrev pub Holds : (List ℕ → Type 0) → Option (List ℕ) → Option (List ℕ) → Type 0
-Holds IsTheText old new = (text : List ℕ) × IsTheText text × Written old new [] text
+-- The program: its forms, what is due of each, and what each writes.
+abbrev pub tool_program : Program ToolRefusal Form
+tool_program = record {
+  form_of = form_of;
+  sources = sources_of;
+  refusing = first_refusal;
+  due = form_due;
+  IsText = IsFormText;
+  Cause = Cause;
+}
 
--- a beginning of a text is written
-abbrev pub Begins : (List ℕ → Type 0) → Option (List ℕ) → Option (List ℕ) → Type 0
-Begins IsTheText old new = (text : List ℕ) × IsTheText text × (rest : List ℕ) × Written old new rest text
-
--- What `out` holds: all of a text where the answer is written, a beginning of one after a failed write, else what it held.
-abbrev pub Leaves : Kind → (List ℕ → Type 0) → Option (List ℕ) → Option (List ℕ) → Type 0
-Leaves NoForm IsTheText old new = new ≡ old
-Leaves (NotRead source) IsTheText old new = new ≡ old
-Leaves (TooMuch source) IsTheText old new = new ≡ old
-Leaves (Wrong source) IsTheText old new = new ≡ old
-Leaves Late IsTheText old new = new ≡ old
-Leaves NotWritten IsTheText old new = Begins IsTheText old new
-Leaves NoRoom IsTheText old new = new ≡ old
-Leaves Answer IsTheText old new = Holds IsTheText old new
-
--- what a command comes to whose answer was written so
-abbrev pub written : Result (Unit {0}) Fault → Outcome → Outcome
-written (Ok u) reply = reply
-written (Err fault) reply = WriteFault
-
--- What a command did that names these sources:
---   due             where these tell their bytes, the outcome that is due, or one in its place
---   text            what `out` then holds, and that it is the command's text where the sources tell their bytes
---   first, second   how far each source was read; one that isn't named wasn't pulled
---   order           where the first text is refused, so is the command
---   alone           the first text is refused only where it has to be, also where the second source tells nothing
---   counts          a count of faults of a source rose exactly where this couldn't be read
---   out_count       that of `out`, exactly where it couldn't be written
---   form            the words are a form
-pub record Does (named : Named) (refusing : List ℕ → Option Outcome) (due_of : List ℕ → List ℕ → Outcome)
-    (IsTextOfBoth : List ℕ → List ℕ → List ℕ → Type 0) (before after : Outside) (outcome : Outcome) : Type 0 where
-  pub due : OfTexts named before.sources (λ first second. StandsFor (due_of first second) outcome)
-  pub text : Leaves (kind_of outcome) (λ text. OfTexts named before.sources (λ first second. IsTextOfBoth first second text))
-      before.out.bytes after.out.bytes
-  pub first : Reads named.first (reach 1 (kind_of outcome)) before.sources.first after.sources.first
-  pub second : Reads named.second (reach 2 (kind_of outcome)) before.sources.second after.sources.second
-  pub order : IfSome (told named.first before.sources.first)
-      (λ text. IfSome (refusing text) (λ refusal. IsRefused refusal outcome before.sources after.sources))
-  pub alone : IfSome (told named.first before.sources.first) (λ text. IsDueFirst outcome (refusing text))
-  pub counts : SourceCounts named before.sources after.sources (kind_of outcome)
-  pub out_count : OutCounts before.out after.out (kind_of outcome)
-  pub form : outcome ≢ Usage
-
--- what the command of a form did
+-- What the command of a form did.
 abbrev pub DoesForm : Form → Outside → Outside → Outcome → Type 0
-DoesForm form before after outcome = Does (sources_of form) (first_refusal form) (form_due form) (IsFormText form) before after outcome
+DoesForm form before after outcome = command.DoesForm tool_program form before after outcome
 
--- What a call did:
---   usage      Usage comes exactly where the words are no form
---   nothing    and then nothing outside is touched
---   does       else it did what the form asks for
---   caused     an outcome that refuses a text has its cause
---   first      one that refuses the first text has it also where the second source tells nothing
---   own        it is one of the form's own, also where the sources tell nothing; one that refuses the second text has its cause also where
---              the first source tells nothing
-pub record Acts (call : Call) (outcome : Outcome) : Type 0 where
-  pub usage : (outcome ≡ Usage) ↔ IsNone (form_of call.words)
-  pub nothing : IfNone (form_of call.words) (call.after ≡ call.before)
-  pub does : IfSome (form_of call.words) (λ form. DoesForm form call.before call.after outcome)
-  pub caused : HasTextCause call.words call.before.sources outcome
-  pub first : HasFirstCause call.words call.before.sources outcome
-  pub own : IfSome (form_of call.words) (λ form. IsOwn form call.before.sources.second.bytes outcome)
+-- What a call did.
+abbrev pub Acts : Call → Outcome → Type 0
+Acts call outcome = command.Acts tool_program call outcome
 
--- What `err` holds: the line of the outcome, or a beginning of it where the count of `err` rose.
-abbrev pub TellsFault : {K : Type 0} → (K → Option (List ℕ)) → (K → ℕ) → K → K → Outcome → Type 0
-TellsFault held faults old new outcome = (answer : Result (Unit {0}) Fault) × WritesText held faults old new answer (fault_line outcome)
+-- ---- behind the texts
+-- A table is of the mode that is needed, if one is.
+abbrev pub IsOfMode : Option Mode → Table → Type 0
+IsOfMode None table = Unit {0}
+IsOfMode (Some needed) table = table.mode ≡ needed
+
+-- What a command did that has taken its table.
+abbrev pub EndsOnTable : {K : Type 0} → SinkGhosts K → TableCommand → Table → K → K → Outcome → Type 0
+EndsOnTable ghosts command table old new outcome =
+    Ends (one_source entire) (table_answer command table) (λ text. text ≡ table_answer_text command table) (sink_seen ghosts old)
+    (sink_seen ghosts new) outcome
+
+-- What a command did that has taken its table and hands.
+abbrev pub EndsOnMessages : {K : Type 0} → SinkGhosts K → MessagesCommand → Table → List Hand → K → K → Outcome → Type 0
+EndsOnMessages ghosts command table hands old new outcome =
+    Ends (two_sources entire entire) (messages_answer command table hands) (IsMessagesText command table hands) (sink_seen ghosts old)
+    (sink_seen ghosts new) outcome
+
+-- What a command did that has taken its table and trace.
+abbrev pub EndsOnTrace : {K : Type 0} → SinkGhosts K → TraceCommand → Table → Recording → K → K → Outcome → Type 0
+EndsOnTrace ghosts command table trace old new outcome =
+    Ends (two_sources entire Trace) (trace_answer command table trace) (λ text. text ≡ trace_answer_text command table trace)
+    (sink_seen ghosts old) (sink_seen ghosts new) outcome
+
+-- What a call came to: an outcome that it acts by, the line of that outcome on `err`, and its status.
+abbrev pub Comes : {E : Type 0} → SinkGhosts E → Call → E → E → Status → Type 0
+Comes err call old new status =
+    (outcome : Outcome) × Acts call outcome × TellsLine err.held err.faults old new (fault_line outcome) × (status ≡ status_of outcome)

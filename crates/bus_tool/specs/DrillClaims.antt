@@ -2,11 +2,11 @@
 use Rattle.std.specs.Prelude.{◌≡◌, ℕ, ◌≤◌, List, [], ◌∷◌, codes}
 use Rattle.bus_text.specs.Numbers.{IsDecimal}
 use Rattle.bus_vectors.specs.Made.{most_number}
-use Rattle.bus_tool.specs.declared.status.Status.{Status}
-use Rattle.bus_tool.specs.declared.status.Status.TheVariants.{Done}
-use Rattle.bus_tool.specs.Outside.{Call}
-use Rattle.bus_tool.specs.Readers.{no_source}
-use Rattle.bus_tool.specs.Claims.{NothingFails, Answers}
+use Rattle.bus_command.specs.declared.status.Status.{Status}
+use Rattle.bus_command.specs.declared.status.Status.TheVariants.{Done}
+use Rattle.bus_command.specs.Outside.{Call}
+use Rattle.bus_command.specs.Claims.{NothingFails, Answers}
+use Rattle.bus_command.specs.Readers.{no_source}
 use Rattle.bus_tool.specs.Drills.{drill_line}
 
 -- the words are `drill` and the plain decimal of a number, which is within its limit

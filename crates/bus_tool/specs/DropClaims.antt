@@ -8,30 +8,20 @@ use Rattle.bus_regime.specs.Verdicts.{verdict_of, is_accepted}
 use Rattle.bus_dropout.specs.DropOut.{drop_end, LastIsLong}
 use Rattle.bus_schedule.specs.Limits.{longest_end}
 use Rattle.bus_trace.specs.Traces.{Recording, IsTrace}
-use Rattle.bus_tool.specs.declared.status.Status.{Status}
-use Rattle.bus_tool.specs.declared.status.Status.TheVariants.{Done}
-use Rattle.bus_tool.specs.Outside.{Call}
-use Rattle.bus_tool.specs.Readers.{entire, two_sources}
+use Rattle.bus_command.specs.declared.status.Status.{Status}
+use Rattle.bus_command.specs.declared.status.Status.TheVariants.{Done}
+use Rattle.bus_command.specs.Outside.{Call}
 use Rattle.bus_tool.specs.Texts.{IsDropRecording, run_text}
-use Rattle.bus_tool.specs.Claims.{NothingFails, TellsTable, TellsItems, Answers}
-
--- the words are `drop` and two more
-pub record IsDropForm (words : List (List ℕ)) : Type 0 where
-  pub first : List ℕ
-  pub second : List ℕ
-  pub form : words ≡ codes "drop" ∷ first ∷ second ∷ []
+use Rattle.bus_command.specs.Claims.{Answers, IsOfItems}
 
 -- A call of `drop T M` on texts of a valid aperiodic table that the checker accepts and of items that fit it, in which nothing outside
 -- fails; the last cycle, where there is one, is at least the transmit interval, and the end of the drop-out schedule is within its limit.
 pub record IsDropOf (table : Table) (items : List Item) (call : Call) : Type 0 where
-  pub form : IsDropForm call.words
-  pub table_told : TellsTable table call.before.sources.first
+  pub call_is : IsOfItems (codes "drop") [] table items call
   pub aperiodic : table.mode ≡ Aperiodic
   pub accepted : IsTrue (is_accepted (verdict_of table))
-  pub items_told : TellsItems table items call.before.sources.second
   pub long : LastIsLong table (hands_of table items)
   pub short : drop_end table (hands_of table items) ≤ longest_end
-  pub undisturbed : NothingFails (two_sources entire entire) call.before call.after
 
 -- The text of the one trace of the run, and behind it what each terminal receives of it: its horizon is the end of the drop-out schedule,
 -- its holds are those of the hands, and its list is the run.

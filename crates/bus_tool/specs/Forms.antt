@@ -1,94 +1,105 @@
--- The forms of the command line. A word is its bytes.
-use Rattle.std.specs.Prelude.{ℕ, ◌≤◌, Bool, ◌&&◌, nat_le, List, [], ◌∷◌, map, codes, Option, Some, None, if◌then◌else◌}
-use Rattle.std.specs.Prelude.{String}
-use Rattle.std.specs.declared.alloc.Global.{Global}
-use Rattle.std.specs.String.{string_bytes}
+-- The forms of the command line, in groups by what they take. A word is its bytes.
+use Rattle.std.specs.Prelude.{ℕ, ◌≤◌, Bool, ◌&&◌, nat_le, List, [], ◌∷◌, codes, Option, Some, None, if◌then◌else◌}
 use Rattle.std.specs.Str.{bytes_eq}
 use Rattle.bus_text.specs.Numbers.{is_plain_decimal, decimal_value}
 use Rattle.bus_strings.specs.Limits.{horizon_limit}
+use Rattle.bus_table.specs.declared.mode.Mode.{Mode}
+use Rattle.bus_table.specs.declared.mode.Mode.TheVariants.{Aperiodic, Periodic}
 use Rattle.bus_vectors.specs.Made.{most_number}
-use Rattle.bus_tool.specs.Readers.{Named, Trace, entire, entire_wave, no_source, one_source, two_sources}
-use Rattle.bus_tool.specs.declared.forms.Form.{Form}
-use Rattle.bus_tool.specs.declared.forms.Form.TheVariants.{Check, Tidy, Report, Witness, Plan, Drill, Observe, Run, Drop, Receive, Audit}
-use Rattle.bus_tool.specs.declared.forms.Form.TheVariants.{Vote, Wave, Unwave}
+use Rattle.bus_command.specs.Readers.{Named, Reader, Entire, Trace, entire, no_source, one_source, two_sources}
+pub use Rattle.bus_tool.specs.declared.forms.Form.{Form}
+pub use Rattle.bus_tool.specs.declared.forms.Form.TheVariants.{OnTable, OnMessages, OnTrace, Unwave, Drill}
+pub use Rattle.bus_tool.specs.declared.forms.TableCommand.{TableCommand}
+pub use Rattle.bus_tool.specs.declared.forms.TableCommand.TheVariants.{Check, Tidy, Report, Witness, Plan}
+pub use Rattle.bus_tool.specs.declared.forms.MessagesCommand.{MessagesCommand}
+pub use Rattle.bus_tool.specs.declared.forms.MessagesCommand.TheVariants.{Observe, Run, Drop}
+pub use Rattle.bus_tool.specs.declared.forms.TraceCommand.{TraceCommand}
+pub use Rattle.bus_tool.specs.declared.forms.TraceCommand.TheVariants.{Receive, Audit, Vote, Wave}
 
--- the words of the program, as bytes
-abbrev pub words_of : List (String Global) → List (List ℕ)
-words_of words = map string_bytes words
-
--- whether a word is the plain decimal of a horizon
+-- Whether a word is the plain decimal of a horizon.
 abbrev pub is_horizon : List ℕ → Bool
 is_horizon word = is_plain_decimal word && nat_le (decimal_value word) horizon_limit
 
--- whether a word is the plain decimal of a drill's number
+-- Whether a word is the plain decimal of a drill's number.
 abbrev pub is_drill_number : List ℕ → Bool
 is_drill_number word = is_plain_decimal word && nat_le (decimal_value word) most_number
 
 -- `check T`, `tidy T`, `report T`, `witness T`, `plan T`, `drill N`
 abbrev pub two_words : List ℕ → List ℕ → Option Form
 two_words command second =
-    if bytes_eq command (codes "check") then Some Check
-    else if bytes_eq command (codes "tidy") then Some Tidy
-    else if bytes_eq command (codes "report") then Some Report
-    else if bytes_eq command (codes "witness") then Some Witness
-    else if bytes_eq command (codes "plan") then Some Plan
+    if bytes_eq command (codes "check") then Some (OnTable Check)
+    else if bytes_eq command (codes "tidy") then Some (OnTable Tidy)
+    else if bytes_eq command (codes "report") then Some (OnTable Report)
+    else if bytes_eq command (codes "witness") then Some (OnTable Witness)
+    else if bytes_eq command (codes "plan") then Some (OnTable Plan)
     else if bytes_eq command (codes "drill") && is_drill_number second then Some (Drill (decimal_value second))
     else None
 
 -- `run T M`, `drop T M`, `receive T R`, `audit T R`, `vote T R`, `wave T R`, `unwave T W`
 abbrev pub three_words : List ℕ → Option Form
 three_words command =
-    if bytes_eq command (codes "run") then Some Run
-    else if bytes_eq command (codes "drop") then Some Drop
-    else if bytes_eq command (codes "receive") then Some Receive
-    else if bytes_eq command (codes "audit") then Some Audit
-    else if bytes_eq command (codes "vote") then Some Vote
-    else if bytes_eq command (codes "wave") then Some Wave
+    if bytes_eq command (codes "run") then Some (OnMessages Run)
+    else if bytes_eq command (codes "drop") then Some (OnMessages Drop)
+    else if bytes_eq command (codes "receive") then Some (OnTrace Receive)
+    else if bytes_eq command (codes "audit") then Some (OnTrace Audit)
+    else if bytes_eq command (codes "vote") then Some (OnTrace Vote)
+    else if bytes_eq command (codes "wave") then Some (OnTrace Wave)
     else if bytes_eq command (codes "unwave") then Some Unwave
     else None
 
 -- `observe T M N`
 abbrev pub four_words : List ℕ → List ℕ → Option Form
 four_words command horizon =
-    if bytes_eq command (codes "observe") && is_horizon horizon then Some (Observe (decimal_value horizon)) else None
+    if bytes_eq command (codes "observe") && is_horizon horizon then Some (OnMessages (Observe (decimal_value horizon))) else None
 
--- the form of these words, whatever the words T and M are
+-- The form of these words, whatever the words T and M are.
 abbrev pub form_of : List (List ℕ) → Option Form
 form_of (command ∷ second ∷ []) = two_words command second
 form_of (command ∷ table ∷ other ∷ []) = three_words command
 form_of (command ∷ table ∷ messages ∷ horizon ∷ []) = four_words command horizon
 form_of words = None
 
--- the sources that a form names, and how each is read
-abbrev pub sources_of : Form → Named
-sources_of Check = one_source entire
-sources_of Tidy = one_source entire
-sources_of Report = one_source entire
-sources_of Witness = one_source entire
-sources_of Plan = one_source entire
-sources_of (Drill number) = no_source
-sources_of (Observe horizon) = two_sources entire entire
-sources_of Run = two_sources entire entire
-sources_of Drop = two_sources entire entire
-sources_of Receive = two_sources entire Trace
-sources_of Audit = two_sources entire Trace
-sources_of Vote = two_sources entire Trace
-sources_of Wave = two_sources entire Trace
-sources_of Unwave = two_sources entire entire_wave
+-- ---- what a group takes
+-- The most bytes that a wave text may have.
+abbrev pub wave_limit : ℕ
+wave_limit = 67108864
 
--- the numbers of a form are within their limits
+-- How a wave text is read.
+abbrev pub entire_wave : Reader
+entire_wave = Entire wave_limit
+
+-- The sources that a form names, and how each is read.
+abbrev pub sources_of : Form → Named
+sources_of (OnTable command) = one_source entire
+sources_of (OnMessages command) = two_sources entire entire
+sources_of (OnTrace command) = two_sources entire Trace
+sources_of Unwave = two_sources entire entire_wave
+sources_of (Drill number) = no_source
+
+-- The mode that a command on a table needs of it.
+abbrev pub table_mode : TableCommand → Option Mode
+table_mode Check = None
+table_mode Tidy = None
+table_mode Report = None
+table_mode Witness = None
+table_mode Plan = Some Periodic
+
+-- The mode that a command on messages needs of its table.
+abbrev pub messages_mode : MessagesCommand → Option Mode
+messages_mode (Observe horizon) = None
+messages_mode Run = None
+messages_mode Drop = Some Aperiodic
+
+-- The horizon of a command on messages is within its limit.
+abbrev pub IsWithinHorizon : MessagesCommand → Type 0
+IsWithinHorizon (Observe horizon) = horizon ≤ horizon_limit
+IsWithinHorizon Run = Unit {0}
+IsWithinHorizon Drop = Unit {0}
+
+-- The numbers of a form are within their limits.
 abbrev pub IsWithinLimits : Form → Type 0
-IsWithinLimits Check = Unit {0}
-IsWithinLimits Tidy = Unit {0}
-IsWithinLimits Report = Unit {0}
-IsWithinLimits (Drill number) = number ≤ most_number
-IsWithinLimits Witness = Unit {0}
-IsWithinLimits Plan = Unit {0}
-IsWithinLimits (Observe horizon) = horizon ≤ horizon_limit
-IsWithinLimits Run = Unit {0}
-IsWithinLimits Drop = Unit {0}
-IsWithinLimits Receive = Unit {0}
-IsWithinLimits Audit = Unit {0}
-IsWithinLimits Vote = Unit {0}
-IsWithinLimits Wave = Unit {0}
+IsWithinLimits (OnTable command) = Unit {0}
+IsWithinLimits (OnMessages command) = IsWithinHorizon command
+IsWithinLimits (OnTrace command) = Unit {0}
 IsWithinLimits Unwave = Unit {0}
+IsWithinLimits (Drill number) = number ≤ most_number

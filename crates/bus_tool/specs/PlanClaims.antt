@@ -8,12 +8,11 @@ use Rattle.bus_table.specs.Text.{IsTableText}
 use Rattle.bus_table.specs.Valid.{is_valid}
 use Rattle.bus_regime.specs.Verdicts.{verdict_of, is_accepted}
 use Rattle.bus_plan.specs.Plans.{least_interval, planned_table}
-use Rattle.bus_tool.specs.declared.status.Status.{Status}
-use Rattle.bus_tool.specs.declared.status.Status.TheVariants.{Done, Refused}
-use Rattle.bus_tool.specs.Outside.{Call}
+use Rattle.bus_command.specs.declared.status.Status.{Status}
+use Rattle.bus_command.specs.declared.status.Status.TheVariants.{Done, Refused}
+use Rattle.bus_command.specs.Outside.{Call}
 use Rattle.bus_tool.specs.PlanTexts.{infeasible_line}
-use Rattle.bus_tool.specs.Claims.{Answers}
-use Rattle.bus_tool.specs.TableClaims.{IsOfTable}
+use Rattle.bus_command.specs.Claims.{Answers, IsOfTable}
 
 -- a call of `plan T` on a text of a valid periodic table, in which nothing outside fails
 pub record IsPlanCallOf (table : Table) (call : Call) : Type 0 where

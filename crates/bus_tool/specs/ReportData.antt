@@ -9,9 +9,7 @@ use Rattle.bus_table.specs.Turns.{turn_order}
 use Rattle.bus_regime.specs.Lines.{mode_name, verdict_words}
 use Rattle.bus_regime.specs.Verdicts.{verdict_of}
 use Rattle.bus_regime.specs.declared.table_verdict.TableVerdict.{TableVerdict}
-use Rattle.bus_tool.specs.declared.report.TableReport.{TableReport}
 use Rattle.bus_tool.specs.Escapes.{are_plain}
-use Rattle.bus_tool.specs.Reports.{report_text}
 
 -- a number
 abbrev pub count_data : ℕ → Data
@@ -47,8 +45,3 @@ ArePlainWords verdict = are_plain (verdict_words verdict) ≡ true
 pub record IsLine (verdict : TableVerdict) (line : String Global) : Type 0 where
   pub words : string_bytes line ≡ verdict_words verdict
   pub plain : ArePlainWords verdict
-
--- the text and the verdict of a table
-pub record IsReported (report : TableReport) (table : Table) : Type 0 where
-  pub text : string_bytes report.text ≡ report_text table
-  pub verdict : report.verdict ≡ verdict_of table

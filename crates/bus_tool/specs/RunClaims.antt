@@ -8,18 +8,11 @@ use Rattle.bus_regime.specs.Verdicts.{verdict_of, is_accepted}
 use Rattle.bus_schedule.specs.Closed.{closed_end}
 use Rattle.bus_schedule.specs.Limits.{longest_end}
 use Rattle.bus_trace.specs.Traces.{Recording, IsTrace}
-use Rattle.bus_tool.specs.declared.status.Status.{Status}
-use Rattle.bus_tool.specs.declared.status.Status.TheVariants.{Done}
-use Rattle.bus_tool.specs.Outside.{Call}
-use Rattle.bus_tool.specs.Readers.{entire, two_sources}
+use Rattle.bus_command.specs.declared.status.Status.{Status}
+use Rattle.bus_command.specs.declared.status.Status.TheVariants.{Done}
+use Rattle.bus_command.specs.Outside.{Call}
 use Rattle.bus_tool.specs.Texts.{IsRunRecording, run_text}
-use Rattle.bus_tool.specs.Claims.{NothingFails, TellsTable, TellsItems, Answers}
-
--- the words are `run` and two more
-pub record IsRunForm (words : List (List ℕ)) : Type 0 where
-  pub first : List ℕ
-  pub second : List ℕ
-  pub form : words ≡ codes "run" ∷ first ∷ second ∷ []
+use Rattle.bus_command.specs.Claims.{Answers, IsOfItems}
 
 -- every sender has the same number of items, maybe none
 pub record AreEvenItems (table : Table) (items : List Item) : Type 0 where
@@ -29,13 +22,10 @@ pub record AreEvenItems (table : Table) (items : List Item) : Type 0 where
 -- A call of `run T M` on texts of a valid table that the checker accepts and of items that fit it, as many for each sender, in which
 -- nothing outside fails; the closed end is within its limit.
 pub record IsRunOf (table : Table) (items : List Item) (call : Call) : Type 0 where
-  pub form : IsRunForm call.words
-  pub table_told : TellsTable table call.before.sources.first
+  pub call_is : IsOfItems (codes "run") [] table items call
   pub accepted : IsTrue (is_accepted (verdict_of table))
-  pub items_told : TellsItems table items call.before.sources.second
   pub even : AreEvenItems table items
   pub short : closed_end table (hands_of table items) ≤ longest_end
-  pub undisturbed : NothingFails (two_sources entire entire) call.before call.after
 
 -- The text of the one trace of the run, and behind it what each terminal receives of it: its horizon is the closed end, its holds are those
 -- of the hands, and its list is the run.

@@ -10,7 +10,7 @@ use Rattle.bus_trace.specs.declared.hold.Hold.{Hold}
 use Rattle.bus_trace.specs.Traces.{Recording, IsTrace, AscendAbove}
 use Rattle.bus_audit.specs.declared.answer.AuditAnswer.{AuditAnswer}
 use Rattle.bus_audit.specs.declared.answer.AuditAnswer.TheVariants.{Lawful}
-use Rattle.bus_tool.specs.Outcomes.{is_written}
+use Rattle.bus_command.specs.Outcomes.{is_written}
 use Rattle.bus_tool.specs.Due.{due}
 use Rattle.bus_tool.specs.Texts.{hold_of, holds_of, IsObserved, IsRunRecording, IsDropRecording, IsCommandText}
 use Rattle.bus_tool.specs.TraceClaims.{IsFinding}

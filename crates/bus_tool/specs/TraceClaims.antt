@@ -1,8 +1,7 @@
 -- What is claimed of the commands that read a trace, in the words of their texts.
-use Rattle.std.specs.Prelude.{◌≡◌, ◌↔◌, ℕ, List, [], ◌∷◌, codes, Some}
+use Rattle.std.specs.Prelude.{◌≡◌, ◌↔◌, ℕ}
 use Rattle.bus_table.specs.Tables.{Table}
-use Rattle.bus_trace.specs.Traces.{Recording, HoldsTrace}
-use Rattle.bus_trace.specs.Limits.{text_limit as trace_limit}
+use Rattle.bus_trace.specs.Traces.{Recording}
 use Rattle.bus_audit.specs.declared.answer.AuditAnswer.{AuditAnswer}
 use Rattle.bus_audit.specs.declared.answer.AuditAnswer.TheVariants.{Lawful}
 use Rattle.bus_audit.specs.Breaches.{IsAnswer}
@@ -10,46 +9,13 @@ use Rattle.bus_audit.specs.Meaning.{IsRight}
 use Rattle.bus_filter.specs.ReceivedTexts.{received_text}
 use Rattle.bus_vote.specs.VoteLaws.{IsWrittenWhereVoted, IsFixedByTwo, IsVotedInRuns}
 use Rattle.bus_vote.specs.VoteTexts.{votes_text}
-use Rattle.bus_tool.specs.declared.status.Status.{Status}
-use Rattle.bus_tool.specs.declared.status.Status.TheVariants.{Done}
+use Rattle.bus_command.specs.declared.status.Status.{Status}
+use Rattle.bus_command.specs.declared.status.Status.TheVariants.{Done}
 use Rattle.bus_audit.specs.Lines.{answer_line}
 use Rattle.bus_tool.specs.Due.{audit_outcome}
-use Rattle.bus_tool.specs.Outcomes.{status_of}
-use Rattle.bus_tool.specs.Outside.{Seen, Call}
-use Rattle.bus_tool.specs.Readers.{Trace, entire, two_sources}
-use Rattle.bus_tool.specs.Claims.{NothingFails, TellsTable, Answers}
-
--- a source tells its bytes, and at their front stands the text of a trace, within its limit, whatever follows it
-pub record TellsTrace (trace : Recording) (seen : Seen) : Type 0 where
-  pub stream : List ℕ
-  pub told : seen.bytes ≡ Some stream
-  pub stands : HoldsTrace trace_limit stream trace
-
--- the words are `receive` and two more
-pub record IsReceiveForm (words : List (List ℕ)) : Type 0 where
-  pub first : List ℕ
-  pub second : List ℕ
-  pub form : words ≡ codes "receive" ∷ first ∷ second ∷ []
-
--- a call of `receive T R` on texts of a valid table and of a trace, in which nothing outside fails
-pub record IsReceiveOf (table : Table) (trace : Recording) (call : Call) : Type 0 where
-  pub form : IsReceiveForm call.words
-  pub table_told : TellsTable table call.before.sources.first
-  pub trace_told : TellsTrace trace call.before.sources.second
-  pub undisturbed : NothingFails (two_sources entire Trace) call.before call.after
-
--- the words are `audit` and two more
-pub record IsAuditForm (words : List (List ℕ)) : Type 0 where
-  pub first : List ℕ
-  pub second : List ℕ
-  pub form : words ≡ codes "audit" ∷ first ∷ second ∷ []
-
--- a call of `audit T R` on texts of a valid table and of a trace, in which nothing outside fails
-pub record IsAuditOf (table : Table) (trace : Recording) (call : Call) : Type 0 where
-  pub form : IsAuditForm call.words
-  pub table_told : TellsTable table call.before.sources.first
-  pub trace_told : TellsTrace trace call.before.sources.second
-  pub undisturbed : NothingFails (two_sources entire Trace) call.before call.after
+use Rattle.bus_tool.specs.Refusals.{status_of}
+use Rattle.bus_command.specs.Outside.{Call}
+use Rattle.bus_command.specs.Claims.{Answers}
 
 -- What an audit finds:
 --   first   the first breach, or none, and the number of garbled transmissions
@@ -68,19 +34,6 @@ GivesFinding table trace call status =
 -- what each terminal of the table receives of the trace is written, and the status is Done
 abbrev pub GivesReceived : Table → Recording → Call → Status → Type 0
 GivesReceived table trace call status = Answers Done (λ text. text ≡ received_text table trace.list) call status
-
--- the words are `vote` and two more
-pub record IsVoteForm (words : List (List ℕ)) : Type 0 where
-  pub first : List ℕ
-  pub second : List ℕ
-  pub form : words ≡ codes "vote" ∷ first ∷ second ∷ []
-
--- a call of `vote T R` on texts of a valid table and of a trace, in which nothing outside fails
-pub record IsVoteOf (table : Table) (trace : Recording) (call : Call) : Type 0 where
-  pub form : IsVoteForm call.words
-  pub table_told : TellsTable table call.before.sources.first
-  pub trace_told : TellsTrace trace call.before.sources.second
-  pub undisturbed : NothingFails (two_sources entire Trace) call.before call.after
 
 -- The votes of the trace are written, and the status is Done. Each round in which two channels have words is among them, and two that have
 -- the same words fix its vote. Where the trace's list is the closed schedule of even hands of an accepted table, every round below the

@@ -1,5 +1,5 @@
 -- What is claimed of `wave` and `unwave`, in the words of their texts.
-use Rattle.std.specs.Prelude.{◌≡◌, ℕ, ◌≤◌, IsTrue, List, [], ◌∷◌, length, codes, Some, Ok}
+use Rattle.std.specs.Prelude.{◌≡◌, ℕ, ◌≤◌, IsTrue, List, [], length, codes, Some, Ok}
 use Rattle.bus_table.specs.Tables.{Table, Hand}
 use Rattle.bus_regime.specs.Verdicts.{verdict_of, is_accepted}
 use Rattle.bus_schedule.specs.Closed.{closed, closed_end}
@@ -10,28 +10,15 @@ use Rattle.bus_wave.specs.Spacing.{IsSpaced}
 use Rattle.bus_wave.specs.WaveLaws.{HasOneText, IsWaveTrace}
 use Rattle.bus_wave.specs.Waves.{wave}
 use Rattle.bus_wave.specs.WaveTexts.{IsWaveText, wave_text}
-use Rattle.bus_tool.specs.declared.status.Status.{Status}
-use Rattle.bus_tool.specs.declared.status.Status.TheVariants.{Done}
-use Rattle.bus_tool.specs.Outside.{Seen, Call}
-use Rattle.bus_tool.specs.Readers.{Trace, entire, entire_wave, wave_limit, two_sources}
-use Rattle.bus_tool.specs.Claims.{NothingFails, TellsTable, Answers}
+use Rattle.bus_command.specs.declared.status.Status.{Status}
+use Rattle.bus_command.specs.declared.status.Status.TheVariants.{Done}
+use Rattle.bus_command.specs.Outside.{Seen, Call}
+use Rattle.bus_command.specs.Claims.{NothingFails, TellsTable, Answers, IsFormOfTwo}
+use Rattle.bus_command.specs.Readers.{entire, two_sources}
+use Rattle.bus_tool.specs.Forms.{entire_wave, wave_limit}
 use Rattle.bus_tool.specs.Texts.{IsRunRecording}
-use Rattle.bus_tool.specs.TraceClaims.{TellsTrace}
 
 -- ---- `wave`
--- the words are `wave` and two more
-pub record IsWaveForm (words : List (List ℕ)) : Type 0 where
-  pub first : List ℕ
-  pub second : List ℕ
-  pub form : words ≡ codes "wave" ∷ first ∷ second ∷ []
-
--- a call of `wave T R` on texts of a valid table and of a trace, in which nothing outside fails
-pub record IsWaveOf (table : Table) (trace : Recording) (call : Call) : Type 0 where
-  pub form : IsWaveForm call.words
-  pub table_told : TellsTable table call.before.sources.first
-  pub trace_told : TellsTrace trace call.before.sources.second
-  pub undisturbed : NothingFails (two_sources entire Trace) call.before call.after
-
 -- the trace's list is the closed schedule of these hands of an accepted table, as many messages each, and its horizon is the closed end
 pub record IsClosedTrace (table : Table) (hands : List Hand) (trace : Recording) : Type 0 where
   pub accepted : IsTrue (is_accepted (verdict_of table))
@@ -65,12 +52,6 @@ GivesWave table trace call status =
     × HasAWave table trace
 
 -- ---- `unwave`
--- the words are `unwave` and two more
-pub record IsUnwaveForm (words : List (List ℕ)) : Type 0 where
-  pub first : List ℕ
-  pub second : List ℕ
-  pub form : words ≡ codes "unwave" ∷ first ∷ second ∷ []
-
 -- a source tells its bytes, and they are the wave text, within its limit, of a trace that is read from it for the table
 pub record TellsWave (table : Table) (trace : Recording) (seen : Seen) : Type 0 where
   pub text : List ℕ
@@ -81,7 +62,7 @@ pub record TellsWave (table : Table) (trace : Recording) (seen : Seen) : Type 0 
 
 -- a call of `unwave T W` on texts of a valid table and of a wave, in which nothing outside fails
 pub record IsUnwaveOf (table : Table) (trace : Recording) (call : Call) : Type 0 where
-  pub form : IsUnwaveForm call.words
+  pub form : IsFormOfTwo (codes "unwave") [] call.words
   pub table_told : TellsTable table call.before.sources.first
   pub wave_told : TellsWave table trace call.before.sources.second
   pub undisturbed : NothingFails (two_sources entire entire_wave) call.before call.after

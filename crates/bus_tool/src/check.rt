@@ -1,16 +1,14 @@
+//! `check`.
 ghost use Rattle.std.specs.Prelude.{◌≡◌};
-ghost use Rattle.bus_tool.specs.Acts.{DoesForm};
+ghost use Rattle.bus_tool.specs.Acts.{EndsOnTable};
 ghost use Rattle.bus_tool.specs.Due.{verdict_outcome as outcome_of};
-ghost use Rattle.bus_tool.specs.Outside.{Seen, beside};
-ghost use Rattle.bus_tool.specs.Own.{IsOf};
-ghost use Rattle.bus_tool.specs.declared.forms.Form.TheVariants.{Check};
+ghost use Rattle.bus_tool.specs.Forms.{Check};
 
-use crate::inputs::take_table;
-use crate::outcome::Outcome;
-use crate::writing::after_writing;
-use bus_outer::{Sink, Source};
+use crate::refusal::Outcome;
+use bus_command::after_writing;
+use bus_outer::Sink;
 use bus_regime::{TableVerdict, verdict, write_verdict};
-use std::alloc::Global;
+use bus_table::Table;
 
 /// What comes of a verdict once its line is written.
 pub fn verdict_outcome(verdict: &TableVerdict) -> Outcome
@@ -24,17 +22,10 @@ pub fn verdict_outcome(verdict: &TableVerdict) -> Outcome
     }
 }
 
-/// `check`: writes the verdict line of the table in the first source.
-pub fn check<S: Source, K: Sink>(alloc: Global, first: &mut S, out: &mut K) -> Outcome
-    ensures does { (second : Seen) → DoesForm Check (beside ⟦<S as Source>⟧ ⟦<K as Sink>⟧ first.old second out.old)
-        (beside ⟦<S as Source>⟧ ⟦<K as Sink>⟧ first.new second out.new) result }
-    ensures own { IsOf Check result }
+/// Writes the verdict line of a table.
+pub fn check<K: Sink>(table: &Table, out: &mut K) -> Outcome
+    ensures { EndsOnTable ⟦<K as Sink>⟧ Check table.now out.old out.new result }
 {
-    match take_table(alloc, first) {
-        Ok(table) => {
-            let verdict = verdict(&table);
-            after_writing(write_verdict(&verdict, out), verdict_outcome(&verdict))
-        }
-        Err(outcome) => outcome,
-    }
+    let verdict = verdict(table);
+    after_writing(write_verdict(&verdict, out), verdict_outcome(&verdict))
 }

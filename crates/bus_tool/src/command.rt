@@ -1,23 +1,14 @@
+//! The command of any words.
+ghost use Rattle.bus_command.specs.Outside.{call};
 ghost use Rattle.bus_tool.specs.Acts.{Acts};
-ghost use Rattle.bus_tool.specs.Forms.{words_of};
-ghost use Rattle.bus_tool.specs.Outside.{called, outside};
 
-use crate::audit::audit;
-use crate::check::check;
 use crate::drill::drill;
-use crate::dropout::dropout;
 use crate::forms::{Form, form_of};
-use crate::observe::observe;
-use crate::outcome::Outcome;
-use crate::plan::plan;
-use crate::receive::receive;
-use crate::report::report;
-use crate::run::run;
-use crate::tidy::tidy;
-use crate::unwave::unwave;
-use crate::vote::vote;
-use crate::wave::wave;
-use crate::witness::witness;
+use crate::on_messages::on_messages;
+use crate::on_table::on_table;
+use crate::on_trace::on_trace;
+use crate::on_wave::unwave;
+use crate::refusal::Outcome;
 use bus_outer::{Sink, Source};
 use bus_strings::laws::texts_read_as_their_items;
 use bus_table::laws::readings_have_their_cause;
@@ -36,8 +27,7 @@ pub fn act<S: Source, K: Sink>(
     second: &mut S,
     out: &mut K,
 ) -> Outcome
-    ensures { Acts (called (words_of words.now) (outside ⟦<S as Source>⟧ ⟦<K as Sink>⟧ first.old second.old out.old)
-        (outside ⟦<S as Source>⟧ ⟦<K as Sink>⟧ first.new second.new out.new)) result }
+    ensures { Acts (call ⟦<S as Source>⟧ ⟦<K as Sink>⟧ words.now (first.old, second.old, out.old) (first.new, second.new, out.new)) result }
 {
     readings_have_their_cause();
     texts_read_as_their_items();
@@ -45,19 +35,10 @@ pub fn act<S: Source, K: Sink>(
     waves_tell_traces();
     match form_of(words) {
         None => Outcome::Usage,
-        Some(Form::Check) => check(alloc, first, out),
-        Some(Form::Tidy) => tidy(alloc, first, out),
-        Some(Form::Witness) => witness(alloc, first, out),
-        Some(Form::Plan) => plan(alloc, first, out),
-        Some(Form::Report) => report(alloc, first, out),
-        Some(Form::Drill { number }) => drill(alloc, number, out),
-        Some(Form::Observe { horizon }) => observe(alloc, horizon, first, second, out),
-        Some(Form::Run) => run(alloc, first, second, out),
-        Some(Form::Drop) => dropout(alloc, first, second, out),
-        Some(Form::Receive) => receive(alloc, first, second, out),
-        Some(Form::Audit) => audit(alloc, first, second, out),
-        Some(Form::Vote) => vote(alloc, first, second, out),
-        Some(Form::Wave) => wave(alloc, first, second, out),
+        Some(Form::OnTable(command)) => on_table(alloc, command, first, out),
+        Some(Form::OnMessages(command)) => on_messages(alloc, command, first, second, out),
+        Some(Form::OnTrace(command)) => on_trace(alloc, command, first, second, out),
         Some(Form::Unwave) => unwave(alloc, first, second, out),
+        Some(Form::Drill { number }) => drill(alloc, number, out),
     }
 }

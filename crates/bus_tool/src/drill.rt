@@ -4,16 +4,16 @@ ghost use Rattle.bus_outer.specs.Sinks.{WritesText};
 ghost use Rattle.bus_outer.specs.Texts.{Adds};
 ghost use Rattle.bus_strings.specs.Transmissions.{IsAscending};
 ghost use Rattle.bus_vectors.specs.Made.{most_number};
-ghost use Rattle.bus_tool.specs.Acts.{DoesForm};
-ghost use Rattle.bus_tool.specs.Drills.{garbled_count, IsDrilled, line_of};
-ghost use Rattle.bus_tool.specs.Outside.{Sources, around, sink_seen};
-ghost use Rattle.bus_tool.specs.Own.{IsOf};
-ghost use Rattle.bus_tool.specs.declared.forms.Form.TheVariants.{Drill};
-ghost use Rattle.bus_tool.specs.declared.outcome.Outcome.TheVariants.{NoMemory};
+ghost use Rattle.bus_command.specs.Acts.{Ends};
+ghost use Rattle.bus_command.specs.Outside.{sink_seen};
+ghost use Rattle.bus_command.specs.Readers.{no_source};
+ghost use Rattle.bus_command.specs.declared.outcome.Outcome.TheVariants.{Done, NoMemory};
+ghost use Rattle.bus_tool.specs.Drills.{garbled_count, IsDrilled, drill_line, line_of};
 
 use crate::laws::drills_are_accepted;
-use crate::outcome::Outcome;
-use crate::writing::after_writing;
+use crate::refusal::Outcome;
+use crate::run::refuse_schedule;
+use bus_command::after_writing;
 use bus_filter::count_received;
 use bus_outer::{Sink, TextBuffer, WriteFault};
 use bus_schedule::run_settled;
@@ -62,7 +62,10 @@ fn drilled(alloc: Global, number: u32) -> Result<DrillFigures, Outcome>
     drills_are_accepted();
     let (table, items) = make(alloc, number)?;
     let hands = hands(alloc, &table, items)?;
-    let ran = run_settled::<DeadlineCore>(alloc, &table, hands)?;
+    let ran = match run_settled::<DeadlineCore>(alloc, &table, hands) {
+        Ok(ran) => ran,
+        Err(error) => return Err(refuse_schedule(error)),
+    };
     Ok(DrillFigures {
         number,
         senders: sender_count(number),
@@ -101,9 +104,8 @@ fn write_drill<K: Sink>(drilled: &DrillFigures, sink: &mut K) -> Result<(), Writ
 /// `drill`: runs the input of a number, and writes what was found. It pulls no source.
 pub fn drill<K: Sink>(alloc: Global, number: u32, out: &mut K) -> Outcome
     requires { number ≤ most_number }
-    ensures does { (sources : Sources) → DoesForm (Drill number) (around sources (sink_seen ⟦<K as Sink>⟧ out.old))
-        (around sources (sink_seen ⟦<K as Sink>⟧ out.new)) result }
-    ensures own { IsOf (Drill number) result }
+    ensures { Ends no_source Done (λ text. text ≡ drill_line number)
+        (sink_seen ⟦<K as Sink>⟧ out.old) (sink_seen ⟦<K as Sink>⟧ out.new) result }
 {
     match drilled(alloc, number) {
         Ok(drilled) => after_writing(write_drill(&drilled, out), Outcome::Done),

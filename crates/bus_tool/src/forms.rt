@@ -1,19 +1,22 @@
+//! The words of a command line, and what they ask for.
 ghost use Rattle.std.specs.Prelude.{◌≡◌, ◌≤◌, IfSome, Some, None, if◌then◌else◌};
 ghost use Rattle.bus_text.specs.Numbers.{decimal_value};
 ghost use Rattle.bus_tool.specs.Forms as forms;
-ghost use Rattle.bus_tool.specs.Forms.{words_of, is_horizon, is_drill_number, IsWithinLimits};
+ghost use Rattle.bus_command.specs.Words.{words_of};
+ghost use Rattle.bus_tool.specs.Forms.{is_horizon, is_drill_number, messages_mode, table_mode, IsWithinLimits};
 ghost use Rattle.bus_vectors.specs.Made.{most_number};
 ghost use Rattle.bus_strings.specs.Limits.{horizon_limit};
 
 use bus_strings::limits::HORIZON_LIMIT;
+use bus_table::Mode;
 use bus_text::plain_decimal;
 
 /// The greatest number of a drill.
 const MOST_NUMBER: u64 = 9999;
 
-/// What the words of a command line ask for.
+/// A command on a table.
 #[derive(Clone, Copy, Debug, PartialEq, Eq)]
-pub enum Form {
+pub enum TableCommand {
     /// `check T`: the verdict of the table in the file `T`.
     Check,
     /// `tidy T`: the canonical text of the table in the file `T`.
@@ -24,11 +27,11 @@ pub enum Form {
     Witness,
     /// `plan T`: the periodic table in the file `T` with offsets chosen anew, or that no offsets are accepted.
     Plan,
-    /// `drill N`: what comes of a large input that a number makes.
-    Drill {
-        /// N: at most 9999.
-        number: u32,
-    },
+}
+
+/// A command on a table and messages.
+#[derive(Clone, Copy, Debug, PartialEq, Eq)]
+pub enum MessagesCommand {
     /// `observe T M N`: what the senders of the table in `T` do with the messages in `M`, in the bit times before N.
     Observe {
         /// N: at most 1,099,511,627,776.
@@ -39,6 +42,11 @@ pub enum Form {
     /// `drop T M`: what the senders of the aperiodic table in `T` do with the messages in `M`, of which some may have fewer than others, up
     /// to the end of the drop-out schedule.
     Drop,
+}
+
+/// A command on a table and a trace.
+#[derive(Clone, Copy, Debug, PartialEq, Eq)]
+pub enum TraceCommand {
     /// `receive T R`: what each terminal of the table in `T` receives of the trace in `R`.
     Receive,
     /// `audit T R`: whether each start of the trace in `R` is just where the timers of the table in `T` allow one.
@@ -47,8 +55,51 @@ pub enum Form {
     Vote,
     /// `wave T R`: the wave of the trace in `R`, which has to be spaced for the table in `T`.
     Wave,
+}
+
+/// What the words of a command line ask for, in groups by what they take.
+#[derive(Clone, Copy, Debug, PartialEq, Eq)]
+pub enum Form {
+    /// A command on a table.
+    OnTable(TableCommand),
+    /// A command on a table and messages.
+    OnMessages(MessagesCommand),
+    /// A command on a table and a trace.
+    OnTrace(TraceCommand),
     /// `unwave T W`: the trace whose wave, of the table in `T`, is in `W`.
     Unwave,
+    /// `drill N`: what comes of a large input that a number makes.
+    Drill {
+        /// N: at most 9999.
+        number: u32,
+    },
+}
+
+impl TableCommand {
+    /// The mode that the command needs of its table.
+    pub fn mode(self) -> Option<Mode>
+        ensures { result ≡ table_mode self }
+    {
+        match self {
+            TableCommand::Plan => Some(Mode::Periodic),
+            TableCommand::Check
+            | TableCommand::Tidy
+            | TableCommand::Report
+            | TableCommand::Witness => None,
+        }
+    }
+}
+
+impl MessagesCommand {
+    /// The mode that the command needs of its table.
+    pub fn mode(self) -> Option<Mode>
+        ensures { result ≡ messages_mode self }
+    {
+        match self {
+            MessagesCommand::Drop => Some(Mode::Aperiodic),
+            MessagesCommand::Observe { .. } | MessagesCommand::Run => None,
+        }
+    }
 }
 
 /// The horizon that a word writes; None where the word is no plain decimal, or the number is past its limit.
@@ -87,15 +138,15 @@ fn two_words(command: &str, second: &[u8]) -> Option<Form>
         return Some(Form::Drill { number });
     }
     if command == "check" {
-        Some(Form::Check)
+        Some(Form::OnTable(TableCommand::Check))
     } else if command == "tidy" {
-        Some(Form::Tidy)
+        Some(Form::OnTable(TableCommand::Tidy))
     } else if command == "report" {
-        Some(Form::Report)
+        Some(Form::OnTable(TableCommand::Report))
     } else if command == "witness" {
-        Some(Form::Witness)
+        Some(Form::OnTable(TableCommand::Witness))
     } else if command == "plan" {
-        Some(Form::Plan)
+        Some(Form::OnTable(TableCommand::Plan))
     } else {
         None
     }
@@ -107,17 +158,17 @@ fn three_words(command: &str) -> Option<Form>
     ensures limits { IfSome result IsWithinLimits }
 {
     if command == "run" {
-        Some(Form::Run)
+        Some(Form::OnMessages(MessagesCommand::Run))
     } else if command == "drop" {
-        Some(Form::Drop)
+        Some(Form::OnMessages(MessagesCommand::Drop))
     } else if command == "receive" {
-        Some(Form::Receive)
+        Some(Form::OnTrace(TraceCommand::Receive))
     } else if command == "audit" {
-        Some(Form::Audit)
+        Some(Form::OnTrace(TraceCommand::Audit))
     } else if command == "vote" {
-        Some(Form::Vote)
+        Some(Form::OnTrace(TraceCommand::Vote))
     } else if command == "wave" {
-        Some(Form::Wave)
+        Some(Form::OnTrace(TraceCommand::Wave))
     } else if command == "unwave" {
         Some(Form::Unwave)
     } else {
@@ -134,7 +185,7 @@ fn four_words(command: &str, horizon: &[u8]) -> Option<Form>
         return None;
     }
     let horizon = horizon_of(horizon)?;
-    Some(Form::Observe { horizon })
+    Some(Form::OnMessages(MessagesCommand::Observe { horizon }))
 }
 
 /// The form of these words; None where they are no form, or a number among them is past its limit.

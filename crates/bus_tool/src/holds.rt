@@ -1,7 +1,7 @@
 ghost use Rattle.std.specs.Prelude.{◌≡◌, ◌==◌, ◌≤◌, ◌++◌, find, length, IfSome, IfOk, OnOk};
 ghost use Rattle.std.specs.List.{AllByRecursion};
 ghost use Rattle.std.specs.Option.{option_copied, option_to_list};
-ghost use Rattle.bus_tool.specs.Readers.{text_limit};
+ghost use Rattle.bus_command.specs.Readers.{text_limit};
 ghost use Rattle.bus_tool.specs.Texts as texts;
 
 use bus_table::Hand;

@@ -1,10 +1,11 @@
+//! A call over texts in memory.
 ghost use Rattle.std.specs.Prelude.{◌≢◌};
-ghost use Rattle.bus_tool.specs.Answers.{IsStatusDue};
-ghost use Rattle.bus_tool.specs.Forms.{words_of};
-ghost use Rattle.bus_tool.specs.declared.status.Status.TheVariants as status;
+ghost use Rattle.bus_command.specs.Words.{words_of};
+ghost use Rattle.bus_command.specs.declared.status.Status.TheVariants as status;
+ghost use Rattle.bus_tool.specs.InMemory.{IsStatusDue};
 
-use crate::status::Status;
 use crate::top::tool;
+use bus_command::Status;
 use bus_outer::{CountSink, SteadySource};
 use std::alloc::Global;
 

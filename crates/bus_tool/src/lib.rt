@@ -3,9 +3,9 @@
 //! [`tool`] is the top call: it does the command that the words ask for, writes a fault line on `err`, and says how the program ends.
 //! [`act`] is the command alone, [`Outcome`] what it came to, and [`outcome_text`] the line.
 //!
-//! [`take_table`], [`take_trace`] and [`take_traced`] are the steps by which a command takes a table and a trace from its sources, and
-//! [`after_writing`] is what it comes to once its answer is written: for another program over the same texts, which `specs/PrepareLaws`
-//! and `specs/DoLaws` put together as the commands here are.
+//! The commands are in groups by what they take: a table (`on_table`), a table and messages (`on_messages`), a table and a trace
+//! (`on_trace`), a table and a wave (`on_wave`), or a number (`drill`). `bus_command` has what each of them has in common with the commands
+//! of any program over such texts.
 #![tactic(auto)]
 
 mod audit;
@@ -13,32 +13,26 @@ mod check;
 mod command;
 mod drill;
 mod dropout;
-mod fault_line;
 pub mod forms;
 mod holds;
 mod in_memory;
 mod inputs;
 pub mod laws;
 mod observe;
-mod outcome;
+mod on_messages;
+mod on_table;
+mod on_trace;
+mod on_wave;
 mod plan;
-mod receive;
+mod refusal;
 mod report;
 mod run;
-mod status;
-mod tidy;
 mod top;
-mod unwave;
-mod vote;
 mod wave;
 mod witness;
-mod writing;
 
+pub use bus_command::{Status, outcome_text};
 pub use command::act;
-pub use fault_line::outcome_text;
 pub use in_memory::answer;
-pub use inputs::{Traced, take_table, take_trace, take_traced};
-pub use outcome::Outcome;
-pub use status::Status;
+pub use refusal::{Outcome, ToolRefusal};
 pub use top::tool;
-pub use writing::after_writing;

@@ -1,24 +1,19 @@
+//! `observe`.
 ghost use Rattle.std.specs.Prelude.{◌≡◌, ◌≤◌, ◌<◌, ◌^◌, length, IfErr, IfOk, IsTrue};
 ghost use Rattle.std.specs.List.{AllByRecursion};
 ghost use Rattle.bus_table.specs.Hands.{are_hands};
-ghost use Rattle.bus_tool.specs.Acts.{DoesForm};
-ghost use Rattle.bus_tool.specs.Due.{table_refusal_of, inputs_due};
 ghost use Rattle.bus_strings.specs.Limits.{horizon_limit};
-ghost use Rattle.bus_tool.specs.Outside.{sources_seen, outside};
-ghost use Rattle.bus_tool.specs.Own.{IsOwn, IsOfReader};
-ghost use Rattle.bus_tool.specs.Readers.{entire, two_sources};
-ghost use Rattle.bus_tool.specs.Steps.{Prepares};
-ghost use Rattle.bus_tool.specs.Taken.{AreReady};
-ghost use Rattle.bus_tool.specs.Texts.{IsObserved, IsRecordingOf};
+ghost use Rattle.bus_command.specs.Taken.{AreReady};
+ghost use Rattle.bus_tool.specs.Acts.{EndsOnMessages};
+ghost use Rattle.bus_tool.specs.Forms.{Observe};
+ghost use Rattle.bus_tool.specs.Texts.{IsObserved};
 ghost use Rattle.bus_strings.specs.Transmissions.{IsTransmission};
-ghost use Rattle.bus_tool.specs.declared.forms.Form.TheVariants.{Observe};
 
 use crate::holds::holds;
-use crate::inputs::{Inputs, take_inputs};
-use crate::outcome::Outcome;
-use crate::writing::after_writing;
+use crate::refusal::Outcome;
+use bus_command::after_writing;
 use bus_medium::Bus;
-use bus_outer::{Sink, Source};
+use bus_outer::Sink;
 use bus_strings::Transmission;
 use bus_table::{Hand, Table};
 use bus_timers::DeadlineCore;
@@ -47,38 +42,20 @@ fn record(alloc: Global, table: &Table, hands: Vec<Hand>, horizon: u64) -> Resul
     Ok(Trace::of(horizon, holds, list))
 }
 
-/// The trace that `observe` writes, or why there is none. All the memory of the command is taken here.
-fn observed<S: Source>(
+/// Writes the trace of the senders of a table with hands, up to a horizon.
+pub fn observe<K: Sink>(
     alloc: Global,
     horizon: u64,
-    first: &mut S,
-    second: &mut S,
-) -> Result<Trace, Outcome>
-    requires { horizon ≤ horizon_limit }
-    ensures prepares { Prepares (IsRecordingOf horizon) (two_sources entire entire) table_refusal_of inputs_due
-        (sources_seen ⟦<S as Source>⟧ first.old second.old) (sources_seen ⟦<S as Source>⟧ first.new second.new) result }
-    ensures own { IfErr result (IsOfReader entire (S.left second.old)) }
-{
-    let Inputs { table, hands } = take_inputs(alloc, first, second)?;
-    let trace = record(alloc, &table, hands, horizon)?;
-    Ok(trace)
-}
-
-/// `observe`: writes the trace of the senders of the table in the first source, with the messages in the second, up to a horizon.
-pub fn observe<S: Source, K: Sink>(
-    alloc: Global,
-    horizon: u64,
-    first: &mut S,
-    second: &mut S,
+    table: &Table,
+    hands: Vec<Hand>,
     out: &mut K,
 ) -> Outcome
-    requires { horizon ≤ horizon_limit }
-    ensures does { DoesForm (Observe horizon) (outside ⟦<S as Source>⟧ ⟦<K as Sink>⟧ first.old second.old out.old)
-        (outside ⟦<S as Source>⟧ ⟦<K as Sink>⟧ first.new second.new out.new) result }
-    ensures own { IsOwn (Observe horizon) (S.left second.old) result }
+    requires ready { AreReady table.now hands.items }
+    requires horizon { horizon ≤ horizon_limit }
+    ensures { EndsOnMessages ⟦<K as Sink>⟧ (Observe horizon) table.now hands.items out.old out.new result }
 {
-    match observed(alloc, horizon, first, second) {
+    match record(alloc, table, hands, horizon) {
         Ok(trace) => after_writing(write_trace(&trace, out), Outcome::Done),
-        Err(outcome) => outcome,
+        Err(_) => Outcome::NoMemory,
     }
 }

@@ -1,37 +1,24 @@
 //! The report of a table: its verdict and its figures as JSON.
-ghost use Rattle.std.specs.Prelude.{◌≡◌, ◌++◌, IfErr, IfOk, codes, false, map, string_bytes};
+ghost use Rattle.std.specs.Prelude.{◌≡◌, ◌++◌, IfOk, codes, false, map, string_bytes};
 ghost use Rattle.serde_json.specs.View.{view};
 ghost use Rattle.serde_json.specs.Written.{compact_text, has_float};
 ghost use Rattle.bus_table.specs.Turns.{turn_order};
 ghost use Rattle.bus_regime.specs.Lines as lines;
 ghost use Rattle.bus_regime.specs.Verdicts.{verdict_of};
 ghost use Rattle.bus_regime.specs.declared.table_verdict.TableVerdict.TheVariants as verdicts;
-ghost use Rattle.bus_tool.specs.Acts.{DoesForm};
-ghost use Rattle.bus_tool.specs.Due.{table_due};
-ghost use Rattle.bus_tool.specs.Outside.{Seen, source_seen, beside};
-ghost use Rattle.bus_tool.specs.Own.{IsOf, IsAnyones};
-ghost use Rattle.bus_tool.specs.Readers.{entire};
-ghost use Rattle.bus_tool.specs.ReportData.{sender_data, report_data, IsLine, ArePlainWords, IsReported};
+ghost use Rattle.bus_tool.specs.ReportData.{sender_data, report_data, IsLine, ArePlainWords};
+ghost use Rattle.bus_tool.specs.Acts.{EndsOnTable};
+ghost use Rattle.bus_tool.specs.Forms.{Report};
 ghost use Rattle.bus_tool.specs.Reports as reports;
-ghost use Rattle.bus_tool.specs.Steps.{Takes};
-ghost use Rattle.bus_tool.specs.declared.forms.Form.TheVariants as forms;
 
 use crate::check::verdict_outcome;
-use crate::inputs::take_table;
-use crate::outcome::Outcome;
-use crate::writing::after_writing;
-use bus_outer::{Sink, Source, write_all};
+use crate::refusal::Outcome;
+use bus_command::after_writing;
+use bus_outer::{Sink, write_all};
 use bus_regime::{TableVerdict, turn, verdict};
 use bus_table::{Mode, Sender, Table, longest, shortest};
 use serde_json::{Value, json};
 use std::alloc::{AllocError, Global};
-
-/// A report as its text, and the verdict in it.
-#[derive(Drop)]
-pub struct TableReport {
-    pub text: String,
-    pub verdict: TableVerdict,
-}
 
 /// The word of a mode.
 fn mode_name(mode: Mode) -> &'static str
@@ -150,31 +137,15 @@ fn report_text(alloc: Global, table: &Table) -> Result<String, AllocError>
     line_of(alloc, &value)
 }
 
-/// The report of the table in the first source, or why there is none. All the memory of the command is taken here.
-fn reported<S: Source>(alloc: Global, first: &mut S) -> Result<TableReport, Outcome>
-    ensures takes { Takes IsReported 1 entire table_due
-        (source_seen ⟦<S as Source>⟧ first.old) (source_seen ⟦<S as Source>⟧ first.new) result }
-    ensures own { IfErr result IsAnyones }
+/// Writes the report of a table.
+pub fn report<K: Sink>(alloc: Global, table: &Table, out: &mut K) -> Outcome
+    ensures { EndsOnTable ⟦<K as Sink>⟧ Report table.now out.old out.new result }
 {
-    let table = take_table(alloc, first)?;
-    let text = report_text(alloc, &table)?;
-    Ok(TableReport {
-        text,
-        verdict: verdict(&table),
-    })
-}
-
-/// `report`: writes the report of the table in the first source.
-pub fn report<S: Source, K: Sink>(alloc: Global, first: &mut S, out: &mut K) -> Outcome
-    ensures does { (second : Seen) → DoesForm forms.Report (beside ⟦<S as Source>⟧ ⟦<K as Sink>⟧ first.old second out.old)
-        (beside ⟦<S as Source>⟧ ⟦<K as Sink>⟧ first.new second out.new) result }
-    ensures own { IsOf forms.Report result }
-{
-    match reported(alloc, first) {
-        Ok(report) => after_writing(
-            write_all(out, report.text.as_bytes()),
-            verdict_outcome(&report.verdict),
+    match report_text(alloc, table) {
+        Ok(text) => after_writing(
+            write_all(out, text.as_bytes()),
+            verdict_outcome(&verdict(table)),
         ),
-        Err(outcome) => outcome,
+        Err(_) => Outcome::NoMemory,
     }
 }

@@ -3,7 +3,7 @@ use Rattle.std.specs.Prelude.{◌≡◌, ◌≢◌, List, [], ◌∷◌, length,
 use Rattle.std.specs.declared.alloc.Global.{Global}
 use Rattle.std.specs.String.{string_bytes}
 use Rattle.std.proofs.Common.{arith, refl, sym, ap}
-use Rattle.bus_tool.specs.Forms.{words_of}
+use Rattle.bus_command.specs.Words.{words_of}
 use Rattle.bus_view.specs.Forms.{three_words, five_words, form_of}
 
 pub form_of_three : (words : List (String Global)) (a : String Global) → length words ≡ 3 → a ≡ slice_index_or words 0 a

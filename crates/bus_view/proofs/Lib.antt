@@ -1,9 +1,5 @@
 pub mod FormLemmas
 pub mod WindowLemmas
-pub mod SingleLemmas
-pub mod DrawLemmas
 pub mod PaintLemmas
-pub mod CauseLemmas
-pub mod ActLemmas
-pub mod ClaimLemmas
+pub mod AnswerLaws
 pub mod ViewClaims

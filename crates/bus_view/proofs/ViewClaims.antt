@@ -1,4 +1,4 @@
--- What is claimed of the forms.
+-- What is claimed of the views.
 use Rattle.std.specs.Prelude.{◌≡◌, ℕ, List, ◌∷◌, codes, Option, Some, None, IfSome, Result, Ok}
 use Rattle.std.proofs.Common.{refl, sym, ap, ◌∙◌, subst}
 use Rattle.bus_text.specs.AllOf.{◌>>=◌}
@@ -14,21 +14,23 @@ use Rattle.bus_dump.specs.Laws.{ClearListsShowNone, LawfulIsSingle}
 use Rattle.bus_schedule.specs.Laws.{AcceptedIsClosed}
 use Rattle.bus_schedule.specs.Runs.{IsClear}
 use Rattle.bus_dump.specs.SaveFiles.{save_text}
-use Rattle.bus_tool.specs.declared.outcome.Outcome.{Outcome}
-use Rattle.bus_tool.specs.declared.outcome.Outcome.TheVariants.{Done}
-use Rattle.bus_tool.specs.declared.status.Status.TheVariants as status
-use Rattle.bus_tool.specs.Claims.{Answers}
-use Rattle.bus_tool.specs.Due.{table_due, trace_due, Traced, with_trace, traced_due, outcome_with}
-use Rattle.bus_tool.specs.Outcomes.{status_of}
-use Rattle.bus_tool.specs.Outside.{Call}
-use Rattle.bus_tool.specs.Stages.{StandsFor}
-use Rattle.bus_tool.specs.Texts.{IsTextOf}
-use Rattle.bus_view.specs.Acts.{DoesView, Acts}
-use Rattle.bus_view.specs.Claims.{IsViewForm, IsViewOf, GivesDump}
-use Rattle.bus_view.specs.Due.{single_or_refusal, single_due, drawn_due, drawing, view_text, IsView, painting, taken_due, window_or_whole}
-use Rattle.bus_view.specs.Forms.{View, Dump, SaveFile, Painted, Picture, TimeLine, Cycles, form_of, part_of}
 use Rattle.bus_view.proofs.WindowLemmas.{spelled}
-use Rattle.bus_view.proofs.ClaimLemmas.{TextReadsAsItsTable, table_told, held_trace, of_told, answers, refuses}
+use Rattle.bus_command.specs.Claims.{Answers, Refuses}
+use Rattle.bus_command.specs.Due.{table_refusal_of, with_trace, traced_due, any_trace}
+use Rattle.bus_command.specs.Kinds.{Answer, kind_of}
+use Rattle.bus_command.specs.Outside.{Call}
+use Rattle.bus_command.specs.Readers.{Trace, entire}
+use Rattle.bus_command.specs.declared.inputs.Traced.{Traced}
+use Rattle.bus_command.specs.declared.status.Status.TheVariants as status
+use Rattle.bus_command.proofs.ClaimLemmas.{claimed, refuses, does_of, at_two, stands_told}
+use Rattle.bus_command.proofs.LawTypes.{TextReadsAsItsTable}
+use Rattle.bus_command.proofs.ReadLemmas.{held_trace, traced_told}
+use Rattle.bus_command.proofs.ToldLemmas.{table_told}
+use Rattle.bus_view.specs.Acts.{view_program, Acts}
+use Rattle.bus_view.specs.Claims.{view_word, AreFurther, IsViewOf, GivesDump, Promises}
+use Rattle.bus_view.specs.Due.{single_outcome, traced_answer, view_answer, view_text, drawing, painting, window_or_whole, IsView}
+use Rattle.bus_view.specs.Forms.{View, Dump, SaveFile, Painted, Picture, TimeLine, Cycles, part_of, form_of, sources}
+use Rattle.bus_view.specs.Refusals.{Doubled, Outcome, ends_of, status_of}
 
 -- the window of a view is one
 abbrev IsSound : View → Type 0
@@ -36,39 +38,19 @@ IsSound (Painted picture (Some window)) = IsWindow window
 IsSound view = Unit {0}
 
 -- the words of a view ask for it
-asked : (view : View) (words : List (List ℕ)) → IsViewForm view words → IsSound view → form_of words ≡ Some view
-asked (Dump Vcd) words h s = ap form_of (h.form ∙ ap (λ f. codes "vcd" ∷ h.first ∷ h.second ∷ f) h.window)
-asked (Dump Wires) words h s = ap form_of (h.form ∙ ap (λ f. codes "wires" ∷ h.first ∷ h.second ∷ f) h.window)
-asked (Dump Timers) words h s = ap form_of (h.form ∙ ap (λ f. codes "timers" ∷ h.first ∷ h.second ∷ f) h.window)
-asked SaveFile words h s = ap form_of (h.form ∙ ap (λ f. codes "gtkw" ∷ h.first ∷ h.second ∷ f) h.window)
-asked (Painted TimeLine None) words h s = ap form_of (h.form ∙ ap (λ f. codes "svg" ∷ h.first ∷ h.second ∷ f) h.window)
-asked (Painted Cycles None) words h s = ap form_of (h.form ∙ ap (λ f. codes "cycles" ∷ h.first ∷ h.second ∷ f) h.window)
-asked (Painted TimeLine (Some window)) words h s =
-    ap form_of (h.form ∙ ap (λ f. codes "svg" ∷ h.first ∷ h.second ∷ f) h.window.form)
-    ∙ ap (option_map (part_of TimeLine)) (spelled window h.window.first h.window.second s h.window.from h.window.to)
-asked (Painted Cycles (Some window)) words h s =
-    ap form_of (h.form ∙ ap (λ f. codes "cycles" ∷ h.first ∷ h.second ∷ f) h.window.form)
-    ∙ ap (option_map (part_of Cycles)) (spelled window h.window.first h.window.second s h.window.from h.window.to)
-
--- what the command of these words did
-does_of : (call : Call) (outcome : Outcome) (form : View) → form_of call.words ≡ Some form → Acts call outcome
-    → DoesView form call.before call.after outcome
-does_of call outcome form is acts = subst (λ f. IfSome f (λ form. DoesView form call.before call.after outcome)) is acts.does
-
--- what is due to texts that are told
-drawn_told : (table : Table) (trace : Recording) (entry : Option ℕ) (first second : List ℕ) → table_due first ≡ Ok table
-    → trace_due second ≡ Ok trace → doubled trace.list ≡ entry
-    → drawn_due first second ≡ (single_or_refusal entry trace >>= λ trace. Ok (with_trace table trace))
-drawn_told table trace entry first second h k e =
-    ap (λ r. r >>= λ table. single_due second >>= λ trace. Ok (with_trace table trace)) h
-    ∙ ap (λ r. (r >>= λ (trace : Recording). single_or_refusal (doubled trace.list) trace) >>= λ trace. Ok (with_trace table trace)) k
-    ∙ ap (λ e. single_or_refusal e trace >>= λ trace. Ok (with_trace table trace)) e
-
--- the text of the table and the trace that are due
-found : (view : View) (traced : Traced) (due : Result Traced Outcome) (text : List ℕ) → due ≡ Ok traced → IsTextOf (IsView view) due text
-    → text ≡ view_text view traced.table traced.trace
-found view traced due text is h =
-    (let same : Ok h.0 ≡ due = sym h.1 in let e : h.0 ≡ traced = cc in h.2 ∙ ap (λ (t : Traced). view_text view t.table t.trace) e)
+asked : (view : View) (words : List (List ℕ)) (first second : List ℕ) (further : List (List ℕ)) → words ≡ view_word view ∷ first ∷ second ∷ further → AreFurther view further → IsSound view → form_of words ≡ Some view
+asked (Dump Vcd) words first second further h w s = ap form_of (h ∙ ap (λ f. codes "vcd" ∷ first ∷ second ∷ f) w)
+asked (Dump Wires) words first second further h w s = ap form_of (h ∙ ap (λ f. codes "wires" ∷ first ∷ second ∷ f) w)
+asked (Dump Timers) words first second further h w s = ap form_of (h ∙ ap (λ f. codes "timers" ∷ first ∷ second ∷ f) w)
+asked SaveFile words first second further h w s = ap form_of (h ∙ ap (λ f. codes "gtkw" ∷ first ∷ second ∷ f) w)
+asked (Painted TimeLine None) words first second further h w s = ap form_of (h ∙ ap (λ f. codes "svg" ∷ first ∷ second ∷ f) w)
+asked (Painted Cycles None) words first second further h w s = ap form_of (h ∙ ap (λ f. codes "cycles" ∷ first ∷ second ∷ f) w)
+asked (Painted TimeLine (Some window)) words first second further h w s =
+    ap form_of (h ∙ ap (λ f. codes "svg" ∷ first ∷ second ∷ f) w.form)
+    ∙ ap (option_map (part_of TimeLine)) (spelled window w.first w.second s w.from w.to)
+asked (Painted Cycles (Some window)) words first second further h w s =
+    ap form_of (h ∙ ap (λ f. codes "cycles" ∷ first ∷ second ∷ f) w.form)
+    ∙ ap (option_map (part_of Cycles)) (spelled window w.first w.second s w.from w.to)
 
 -- the laws of the crates below, by which it follows
 pub record DrawLaws : Type 0 where
@@ -78,76 +60,63 @@ pub record DrawLaws : Type 0 where
   pub closed : AcceptedIsClosed
   pub clear : ClearListsShowNone
 
-pub draw_claim : DrawLaws → (call : Call) (outcome : Outcome) (dump : AnyDump) (table : Table) (trace : Recording) → Acts call outcome
+-- what is due of texts that are told
+module _ (laws : DrawLaws) (view : View) (call : Call) (outcome : Outcome) (table : Table) (trace : Recording) (acts : Acts call outcome)
+    (h : IsViewOf view table trace call) (sound : IsSound view) where
+  both_told : traced_due {R = Doubled} h.call_is.table_told.text h.call_is.trace_told.stream ≡ Ok (with_trace table trace)
+  both_told =
+      traced_told {R = Doubled} any_trace table trace h.call_is.table_told.text h.call_is.trace_told.stream
+      (table_told {R = Doubled} laws.table_again table call.before.sources.first h.call_is.table_told)
+      (held_trace {R = Doubled} laws.trace_back h.call_is.trace_told.stream trace h.call_is.trace_told.stands)
+
+  did : Rattle.bus_command.specs.Acts.DoesForm view_program view call.before call.after outcome
+  did = does_of view_program call outcome view
+      (asked view call.words h.call_is.form.first h.call_is.form.second h.further h.call_is.form.form h.window sound) acts
+
+  pub shown : kind_of (view_answer view table trace) ≡ Answer
+      → Answers (status_of (view_answer view table trace)) (λ text. text ≡ view_text view table trace) call (status_of outcome)
+  shown answer_is =
+      claimed ends_of (traced_answer view) (IsView view) sources table_refusal_of traced_due h.call_is.table_told.text h.call_is.trace_told.stream
+      (with_trace table trace) (λ text. text ≡ view_text view table trace) call outcome
+      (at_two entire Trace call.before.sources h.call_is.table_told.text h.call_is.trace_told.stream h.call_is.table_told.told h.call_is.trace_told.told)
+      both_told answer_is (λ text is. is) did h.call_is.undisturbed
+
+  pub stands : Rattle.bus_command.specs.Stages.StandsFor (view_answer view table trace) outcome
+  stands =
+      stands_told (traced_answer view) sources traced_due h.call_is.table_told.text h.call_is.trace_told.stream (with_trace table trace)
+      call.before.sources outcome
+      (at_two entire Trace call.before.sources h.call_is.table_told.text h.call_is.trace_told.stream h.call_is.table_told.told h.call_is.trace_told.told)
+      both_told did.due
+
+  pub does : Rattle.bus_command.specs.Acts.DoesForm view_program view call.before call.after outcome
+  does = did
+
+draw_claim : DrawLaws → (call : Call) (outcome : Outcome) (dump : AnyDump) (table : Table) (trace : Recording) → Acts call outcome
     → IsViewOf (Dump dump) table trace call → GivesDump dump table trace call (status_of outcome)
-draw_claim laws call outcome dump table trace acts h =
-    let first = h.table_told.text in
-    let second = h.trace_told.stream in
-    let before = call.before.sources in
-    let table_due_is : table_due first ≡ Ok table = table_told laws.table_again table before.first h.table_told in
-    let trace_due_is : trace_due second ≡ Ok trace = held_trace laws.trace_back second trace h.trace_told.stands in
-    let form : form_of call.words ≡ Some (Dump dump) = asked (Dump dump) call.words h.form tt in
-    let does = does_of call outcome (Dump dump) form acts in
-    let due : StandsFor (outcome_with (λ traced. Done) (drawn_due first second)) outcome =
-    of_told (λ b. StandsFor (outcome_with (λ traced. Done) (drawn_due first b)) outcome) before.second.bytes second h.trace_told.told
-    (of_told (λ a. IfSome before.second.bytes (λ b. StandsFor (outcome_with (λ traced. Done) (drawn_due a b)) outcome)) before.first.bytes
-    first h.table_told.told does.due) in
-    record {
-      drawn = λ none.
-          let is = drawn_told table trace None first second table_due_is trace_due_is none in
-          answers outcome _ (λ text. text ≡ drawing dump table trace) call
-          (λ text is_text. found (Dump dump) (with_trace table trace) (drawn_due first second) text is
-          (of_told (λ b. IsTextOf (IsView (Dump dump)) (drawn_due first b) text) before.second.bytes second h.trace_told.told
-          (of_told (λ a. IfSome before.second.bytes (λ b. IsTextOf (IsView (Dump dump)) (drawn_due a b) text)) before.first.bytes first
-          h.table_told.told is_text)))
-          (subst (λ d. StandsFor d outcome) (ap (outcome_with (λ traced. Done)) is) due) does.text does.counts does.out_count h.undisturbed;
-      refused = λ entry some.
-          let is = drawn_told table trace (Some entry) first second table_due_is trace_due_is some in
-          refuses entry outcome _ call (subst (λ d. StandsFor d outcome) (ap (outcome_with (λ traced. Done)) is) due) does.text does.counts
-          does.out_count h.undisturbed;
-      lawful = λ hands horizon fit lawful. laws.single table hands horizon trace.list h.table_told.valid fit lawful;
-      clear = λ hands t accepted even is.
-          laws.clear dump table trace.list t (subst IsClear (sym is) (laws.closed table hands h.table_told.valid accepted even).clear);
-    }
+draw_claim laws call outcome dump table trace acts h = record {
+  drawn = λ none.
+      subst (λ e. Answers (status_of (single_outcome e)) (λ text. text ≡ drawing dump table trace) call (status_of outcome)) none
+      (shown laws (Dump dump) call outcome table trace acts h tt (ap (λ e. kind_of (single_outcome e)) none));
+  refused = λ entry some.
+      let did = does laws (Dump dump) call outcome table trace acts h tt in
+      refuses ends_of sources (single_outcome (Some entry)) outcome _ call refl
+      (subst (λ e. Rattle.bus_command.specs.Stages.StandsFor (single_outcome e) outcome) some (stands laws (Dump dump) call outcome table trace acts h tt))
+      did.text did.counts did.out_count h.call_is.undisturbed;
+  lawful = λ hands horizon fit lawful. laws.single table hands horizon trace.list h.call_is.table_told.valid fit lawful;
+  clear = λ hands t accepted even is.
+      laws.clear dump table trace.list t (subst IsClear (sym is) (laws.closed table hands h.call_is.table_told.valid accepted even).clear);
+}
 
--- what is due to texts that are told, whatever is doubled
-traced_told : (table : Table) (trace : Recording) (first second : List ℕ) → table_due first ≡ Ok table → trace_due second ≡ Ok trace
-    → traced_due first second ≡ Ok (with_trace table trace)
-traced_told table trace first second h k =
-    ap (λ r. r >>= λ table. trace_due second >>= λ trace. Ok (with_trace table trace)) h
-    ∙ ap (λ r. r >>= λ trace. Ok (with_trace table trace)) k
-
--- a view for which it doesn't matter whether an entry is doubled
-shown_claim : DrawLaws → (view : View) → taken_due view ≡ traced_due → IsSound view → (call : Call) (outcome : Outcome) (table : Table)
-    (trace : Recording) → Acts call outcome → IsViewOf view table trace call
-    → Answers status.Done (λ text. text ≡ view_text view table trace) call (status_of outcome)
-shown_claim laws view taken sound call outcome table trace acts h =
-    let first = h.table_told.text in
-    let second = h.trace_told.stream in
-    let before = call.before.sources in
-    let table_due_is : table_due first ≡ Ok table = table_told laws.table_again table before.first h.table_told in
-    let trace_due_is : trace_due second ≡ Ok trace = held_trace laws.trace_back second trace h.trace_told.stands in
-    let does = does_of call outcome view (asked view call.words h.form sound) acts in
-    let is : taken_due view first second ≡ Ok (with_trace table trace) =
-    ap (λ due. due first second) taken ∙ traced_told table trace first second table_due_is trace_due_is in
-    let due : StandsFor (outcome_with (λ traced. Done) (taken_due view first second)) outcome =
-    of_told (λ b. StandsFor (outcome_with (λ traced. Done) (taken_due view first b)) outcome) before.second.bytes second h.trace_told.told
-    (of_told (λ a. IfSome before.second.bytes (λ b. StandsFor (outcome_with (λ traced. Done) (taken_due view a b)) outcome))
-    before.first.bytes first h.table_told.told does.due) in
-    answers outcome _ (λ text. text ≡ view_text view table trace) call
-    (λ text is_text. found view (with_trace table trace) (taken_due view first second) text is
-    (of_told (λ b. IsTextOf (IsView view) (taken_due view first b) text) before.second.bytes second h.trace_told.told
-    (of_told (λ a. IfSome before.second.bytes (λ b. IsTextOf (IsView view) (taken_due view a b) text)) before.first.bytes first
-    h.table_told.told is_text)))
-    (subst (λ d. StandsFor d outcome) (ap (outcome_with (λ traced. Done)) is) due) does.text does.counts does.out_count h.undisturbed
-
-pub save_claim : DrawLaws → (call : Call) (outcome : Outcome) (table : Table) (trace : Recording) → Acts call outcome
-    → IsViewOf SaveFile table trace call → Answers status.Done (λ text. text ≡ save_text table trace.list) call (status_of outcome)
-save_claim laws = shown_claim laws SaveFile refl tt
-
-pub paint_claim : DrawLaws → (call : Call) (outcome : Outcome) (picture : Picture) (window : Option Window) (table : Table)
+paint_claim : DrawLaws → (call : Call) (outcome : Outcome) (picture : Picture) (window : Option Window) (table : Table)
     (trace : Recording) → IfSome window IsWindow → Acts call outcome → IsViewOf (Painted picture window) table trace call
     → Answers status.Done (λ text. text ≡ painting picture (window_or_whole window trace) table trace) call (status_of outcome)
-paint_claim laws call outcome picture None table trace s = shown_claim laws (Painted picture None) refl tt call outcome table trace
-paint_claim laws call outcome picture (Some window) table trace s =
-    shown_claim laws (Painted picture (Some window)) refl s call outcome table trace
+paint_claim laws call outcome picture None table trace s acts h = shown laws (Painted picture None) call outcome table trace acts h tt refl
+paint_claim laws call outcome picture (Some window) table trace s acts h =
+    shown laws (Painted picture (Some window)) call outcome table trace acts h s refl
+
+pub keeps : DrawLaws → (call : Call) (outcome : Outcome) → Acts call outcome → Promises call (status_of outcome)
+keeps laws call outcome acts = record {
+  draw = λ dump table trace h. draw_claim laws call outcome dump table trace acts h;
+  save = λ table trace h. shown laws SaveFile call outcome table trace acts h tt refl;
+  paint = λ picture window table trace s h. paint_claim laws call outcome picture window table trace s acts h;
+}

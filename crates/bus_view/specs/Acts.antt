@@ -1,29 +1,49 @@
--- What a call does to the outside: which outcome it comes to, and what its sources and sinks then hold.
-use Rattle.std.specs.Prelude.{◌≡◌, ◌↔◌, IfSome, IfNone, IsNone}
-use Rattle.bus_tool.specs.declared.outcome.Outcome.{Outcome}
-use Rattle.bus_tool.specs.declared.outcome.Outcome.TheVariants.{Usage}
-use Rattle.bus_tool.specs.Acts.{Does}
-use Rattle.bus_tool.specs.Causes.{RefusesText}
-use Rattle.bus_tool.specs.Due.{table_refusal_of}
-use Rattle.bus_tool.specs.Outside.{Outside, Call}
-use Rattle.bus_view.specs.Due.{view_due, IsFormText}
+-- What the program bus629-view does.
+use Rattle.std.specs.Prelude.{◌≡◌, ℕ, List, Option, Some}
+use Rattle.bus_outer.specs.declared.sink.Sink.{Ghosts as SinkGhosts}
+use Rattle.bus_table.specs.Tables.{Table}
+use Rattle.bus_trace.specs.Traces.{Recording}
+use Rattle.bus_dump.specs.Doubled.{doubled}
+use Rattle.bus_command.specs.Acts as command
+use Rattle.bus_command.specs.Acts.{Ends, Program, TellsLine}
+use Rattle.bus_command.specs.Causes.{AreTracedWith}
+use Rattle.bus_command.specs.Due.{table_refusal_of}
+use Rattle.bus_command.specs.Outside.{Call, Outside, sink_seen}
+use Rattle.bus_command.specs.declared.status.Status.{Status}
+use Rattle.bus_view.specs.Due.{view_answer, view_due, view_text, IsFormText}
 use Rattle.bus_view.specs.Forms.{View, form_of, sources}
-use Rattle.bus_view.specs.Own.{IsOwn}
+use Rattle.bus_view.specs.Refusals.{Doubled, Outcome, fault_line, status_of}
 
--- what the command of a view did
+-- The first entry of a trace that is doubled.
+abbrev pub IsDoubledAt : Doubled → Table → Recording → Type 0
+IsDoubledAt refusal table trace = doubled trace.list ≡ Some refusal.entry
+
+-- The program: its views, what is due of each, and what each writes.
+abbrev pub view_program : Program Doubled View
+view_program = record {
+  form_of = form_of;
+  sources = λ view. sources;
+  refusing = λ view. table_refusal_of;
+  due = view_due;
+  IsText = IsFormText;
+  Cause = λ view refusal. AreTracedWith (IsDoubledAt refusal);
+}
+
+-- What the command of a view did.
 abbrev pub DoesView : View → Outside → Outside → Outcome → Type 0
-DoesView view before after outcome = Does sources table_refusal_of (view_due view) (IsFormText view) before after outcome
+DoesView view before after outcome = command.DoesForm view_program view before after outcome
 
--- What a call did:
---   usage      Usage comes exactly where the words are no form
---   nothing    and then nothing outside is touched
---   does       else it did what the words ask for
---   first      an outcome that refuses the first text has its cause, also where the second source tells nothing
---   own        it is one of the program's own, also where the sources tell nothing; one that refuses the second text has its cause also
---              where the first source tells nothing
-pub record Acts (call : Call) (outcome : Outcome) : Type 0 where
-  pub usage : (outcome ≡ Usage) ↔ IsNone (form_of call.words)
-  pub nothing : IfNone (form_of call.words) (call.after ≡ call.before)
-  pub does : IfSome (form_of call.words) (λ view. DoesView view call.before call.after outcome)
-  pub first : IfSome (form_of call.words) (λ view. IfSome call.before.sources.first.bytes (RefusesText outcome))
-  pub own : IfSome (form_of call.words) (λ view. IsOwn view call.before.sources.second.bytes outcome)
+-- What a call did.
+abbrev pub Acts : Call → Outcome → Type 0
+Acts call outcome = command.Acts view_program call outcome
+
+-- What a command did that has taken its table and trace.
+abbrev pub EndsOnView : {K : Type 0} → SinkGhosts K → View → Table → Recording → K → K → Outcome → Type 0
+EndsOnView ghosts view table trace old new outcome =
+    Ends sources (view_answer view table trace) (λ text. text ≡ view_text view table trace) (sink_seen ghosts old) (sink_seen ghosts new)
+    outcome
+
+-- What a call came to: an outcome that it acts by, the line of that outcome on `err`, and its status.
+abbrev pub Comes : {E : Type 0} → SinkGhosts E → Call → E → E → Status → Type 0
+Comes err call old new status =
+    (outcome : Outcome) × Acts call outcome × TellsLine err.held err.faults old new (fault_line outcome) × (status ≡ status_of outcome)

@@ -1,6 +1,6 @@
 -- What is claimed of the forms that draw, in the words of their texts.
-use Rattle.std.specs.Prelude.{◌≡◌, ℕ, IsTrue, List, [], ◌∷◌, codes, Some, None, ◌⊎◌}
-use Rattle.bus_shapes.specs.Windows.{Window}
+use Rattle.std.specs.Prelude.{◌≡◌, ℕ, IsTrue, List, [], ◌∷◌, codes, Option, Some, None, IfSome}
+use Rattle.bus_shapes.specs.Windows.{Window, IsWindow}
 use Rattle.bus_text.specs.Numbers.{IsDecimal}
 use Rattle.bus_table.specs.Hands.{are_hands}
 use Rattle.bus_table.specs.Tables.{Table, Hand}
@@ -14,13 +14,13 @@ use Rattle.bus_dump.specs.declared.dump.Dump.{Dump as AnyDump}
 use Rattle.bus_dump.specs.declared.dump.Dump.TheVariants.{Vcd, Wires, Timers}
 use Rattle.bus_dump.specs.Doubled.{doubled}
 use Rattle.bus_dump.specs.Laws.{ShowsNoOverlap}
-use Rattle.bus_tool.specs.declared.status.Status.{Status}
-use Rattle.bus_tool.specs.declared.status.Status.TheVariants.{Done, InputRefused, NoMemory}
-use Rattle.bus_tool.specs.Claims.{NothingFails, TellsTable, Answers}
-use Rattle.bus_tool.specs.Outside.{Call}
-use Rattle.bus_tool.specs.TraceClaims.{TellsTrace}
-use Rattle.bus_view.specs.Due.{drawing}
-use Rattle.bus_view.specs.Forms.{View, Dump, SaveFile, Painted, Picture, TimeLine, Cycles, sources}
+use Rattle.bus_command.specs.declared.status.Status.{Status}
+use Rattle.bus_command.specs.declared.status.Status.TheVariants.{Done, InputRefused}
+use Rattle.bus_command.specs.Claims.{Answers, IsOfTraced, Refuses}
+use Rattle.bus_command.specs.Outside.{Call}
+use Rattle.bus_dump.specs.SaveFiles.{save_text}
+use Rattle.bus_view.specs.Due.{drawing, painting, window_or_whole}
+use Rattle.bus_view.specs.Forms.{View, Dump, SaveFile, Painted, Picture, TimeLine, Cycles}
 
 -- the command of a view
 abbrev pub picture_word : Picture → List ℕ
@@ -49,25 +49,12 @@ AreFurther SaveFile words = words ≡ []
 AreFurther (Painted picture None) words = words ≡ []
 AreFurther (Painted picture (Some window)) words = AreOfWindow window words
 
--- the words are that command, two more, and those of the window
-pub record IsViewForm (view : View) (words : List (List ℕ)) : Type 0 where
-  pub first : List ℕ
-  pub second : List ℕ
-  pub further : List (List ℕ)
-  pub form : words ≡ view_word view ∷ first ∷ second ∷ further
-  pub window : AreFurther view further
-
--- a call of it on texts of a valid table and of a trace, in which nothing outside fails
+-- A call of a view, with the words of its window behind those of both texts, on texts of a valid table and of a trace, in which nothing
+-- outside fails.
 pub record IsViewOf (view : View) (table : Table) (trace : Recording) (call : Call) : Type 0 where
-  pub form : IsViewForm view call.words
-  pub table_told : TellsTable table call.before.sources.first
-  pub trace_told : TellsTrace trace call.before.sources.second
-  pub undisturbed : NothingFails sources call.before call.after
-
--- nothing is written, and the status is this one, or memory was refused
-pub record Refuses (refusal : Status) (call : Call) (status : Status) : Type 0 where
-  pub ends : (status ≡ refusal) ⊎ (status ≡ NoMemory)
-  pub unwritten : call.after.out.bytes ≡ call.before.out.bytes
+  pub further : List (List ℕ)
+  pub window : AreFurther view further
+  pub call_is : IsOfTraced (view_word view) further table trace call
 
 -- What comes of a dump:
 --   drawn     where no entry is doubled, the dump of the trace is written, with the words of the table's verdict as its comment
@@ -82,3 +69,14 @@ pub record GivesDump (dump : AnyDump) (table : Table) (trace : Recording) (call 
       → IsLawful (quiet_of table) (stations_of table hands) horizon trace.list → doubled trace.list ≡ None
   pub clear : (hands : List Hand) (t : ℕ) → IsTrue (is_accepted (verdict_of table)) → IsTrue (are_even table hands)
       → trace.list ≡ closed table hands → ShowsNoOverlap dump table trace.list t
+
+-- What a call promises whose texts are right and in which nothing outside fails; each view answers so, or memory was refused:
+--   draw    `vcd`, `wires` and `timers`: the dump, or that an entry is doubled
+--   save    `gtkw`: the save file
+--   paint   `svg` and `cycles`, and both with a window: the picture
+pub record Promises (call : Call) (status : Status) : Type 0 where
+  pub draw : (dump : AnyDump) (table : Table) (trace : Recording) → IsViewOf (Dump dump) table trace call → GivesDump dump table trace call status
+  pub save : (table : Table) (trace : Recording) → IsViewOf SaveFile table trace call → Answers Done (λ text. text ≡ save_text table trace.list) call status
+  pub paint : (picture : Picture) (window : Option Window) (table : Table) (trace : Recording) → IfSome window IsWindow
+      → IsViewOf (Painted picture window) table trace call
+      → Answers Done (λ text. text ≡ painting picture (window_or_whole window trace) table trace) call status

@@ -6,7 +6,7 @@ use Rattle.bus_strings.specs.Limits.{horizon_limit}
 use Rattle.bus_text.specs.Numbers.{is_plain_decimal, decimal_value}
 use Rattle.bus_dump.specs.declared.dump.Dump.TheVariants as dump
 use Rattle.bus_shapes.specs.Windows.{Window}
-use Rattle.bus_tool.specs.Readers.{Named, Trace, entire, two_sources}
+use Rattle.bus_command.specs.Readers.{Named, Trace, entire, two_sources}
 pub use Rattle.bus_view.specs.declared.forms.Picture.{Picture}
 pub use Rattle.bus_view.specs.declared.forms.Picture.TheVariants.{TimeLine, Cycles}
 pub use Rattle.bus_view.specs.declared.forms.View.{View}

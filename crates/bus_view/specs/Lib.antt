@@ -1,5 +1,5 @@
 pub mod Forms
+pub mod Refusals
 pub mod Due
-pub mod Own
 pub mod Acts
 pub mod Claims

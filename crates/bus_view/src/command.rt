@@ -1,16 +1,33 @@
-ghost use Rattle.bus_tool.specs.Forms.{words_of};
-ghost use Rattle.bus_tool.specs.Outside.{called, outside};
-ghost use Rattle.bus_view.specs.Acts.{Acts, DoesView};
-ghost use Rattle.bus_view.specs.Own.{IsOwn};
+//! The command of any words.
+ghost use Rattle.bus_command.specs.Outside.{call, outside};
+ghost use Rattle.bus_trace.specs.Traces.{IsTrace};
+ghost use Rattle.bus_view.specs.Acts.{Acts, DoesView, EndsOnView};
 
 use crate::drawing::draw;
 use crate::forms::{View, form_of};
 use crate::painting::paint;
-use crate::saving::save;
+use crate::refusal::{Doubled, Outcome};
+use bus_command::{Traced, after_writing, take_traced};
+use bus_dump::write_save_file;
 use bus_outer::{Sink, Source};
+use bus_strings::laws::texts_read_as_their_items;
+use bus_table::Table;
 use bus_table::laws::readings_have_their_cause;
-use bus_tool::Outcome;
+use bus_trace::Trace;
+use bus_trace::laws::traces_read_back;
 use std::alloc::Global;
+
+/// Writes this view of a trace on a table.
+fn answer<K: Sink>(alloc: Global, view: View, table: &Table, trace: &Trace, out: &mut K) -> Outcome
+    requires { IsTrace trace.now }
+    ensures { EndsOnView ⟦<K as Sink>⟧ view table.now trace.now out.old out.new result }
+{
+    match view {
+        View::Dump(dump) => draw(dump, table, trace, out),
+        View::SaveFile => after_writing(write_save_file(table, trace, out), Outcome::Done),
+        View::Picture(picture, window) => paint(alloc, picture, window, table, trace, out),
+    }
+}
 
 /// Writes this view of the trace in the second source, on the table in the first.
 fn show<S: Source, K: Sink>(
@@ -20,14 +37,12 @@ fn show<S: Source, K: Sink>(
     second: &mut S,
     out: &mut K,
 ) -> Outcome
-    ensures does { DoesView view (outside ⟦<S as Source>⟧ ⟦<K as Sink>⟧ first.old second.old out.old)
+    ensures { DoesView view (outside ⟦<S as Source>⟧ ⟦<K as Sink>⟧ first.old second.old out.old)
         (outside ⟦<S as Source>⟧ ⟦<K as Sink>⟧ first.new second.new out.new) result }
-    ensures own { IsOwn view (S.left second.old) result }
 {
-    match view {
-        View::Dump(dump) => draw(alloc, dump, first, second, out),
-        View::SaveFile => save(alloc, first, second, out),
-        View::Picture(picture, window) => paint(alloc, picture, window, first, second, out),
+    match take_traced::<Doubled, S>(alloc, first, second) {
+        Ok(Traced { table, trace }) => answer(alloc, view, &table, &trace, out),
+        Err(outcome) => outcome,
     }
 }
 
@@ -42,10 +57,11 @@ pub fn act<S: Source, K: Sink>(
     second: &mut S,
     out: &mut K,
 ) -> Outcome
-    ensures { Acts (called (words_of words.now) (outside ⟦<S as Source>⟧ ⟦<K as Sink>⟧ first.old second.old out.old)
-        (outside ⟦<S as Source>⟧ ⟦<K as Sink>⟧ first.new second.new out.new)) result }
+    ensures { Acts (call ⟦<S as Source>⟧ ⟦<K as Sink>⟧ words.now (first.old, second.old, out.old) (first.new, second.new, out.new)) result }
 {
     readings_have_their_cause();
+    texts_read_as_their_items();
+    traces_read_back();
     match form_of(words) {
         None => Outcome::Usage,
         Some(view) => show(alloc, view, first, second, out),

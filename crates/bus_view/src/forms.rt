@@ -1,5 +1,6 @@
+//! The words of a command line, and the view that they ask for.
 ghost use Rattle.std.specs.Prelude.{◌≡◌};
-ghost use Rattle.bus_tool.specs.Forms.{words_of};
+ghost use Rattle.bus_command.specs.Words.{words_of};
 ghost use Rattle.bus_view.specs.Forms as forms;
 
 use bus_dump::Dump;

@@ -1,17 +1,18 @@
 //! The commands of bus629-view, whatever their words, sources and sinks: a trace to look at.
 //!
 //! [`view`] is the top call: it does the command that the words ask for, writes a fault line on `err`, and says how the program ends.
-//! [`act`] is the command alone. Outcomes, lines and statuses are those of `bus_tool`, and what is said of a call is said in its words:
-//! `specs/Due` has what is due of both texts, `specs/Acts` what a call does, and `specs/Claims` what is claimed of texts that are right.
+//! [`act`] is the command alone. What it has in common with every command over such texts is in `bus_command`; `specs/Due` has what is due
+//! of both texts, `specs/Acts` what a call does, and `specs/Claims` what is claimed of texts that are right.
 #![tactic(auto)]
 
 mod command;
 mod drawing;
 mod forms;
 mod painting;
-mod saving;
+mod refusal;
 mod top;
 
 pub use command::act;
 pub use forms::{Picture, View};
+pub use refusal::{Doubled, Outcome};
 pub use top::view;

@@ -1,6 +1,6 @@
 //! Where the first breach is marked in a picture of cycles.
 use crate::calls::{TABLE, contains, run_on};
-use bus_tool::Status;
+use bus_command::Status;
 use std::test::Fail;
 
 /// A message of each, and the next start missing, far behind them.

@@ -1,6 +1,6 @@
 //! What every test uses: a call over sources and sinks in memory, with ample memory.
+use bus_command::Status;
 use bus_outer::{MemorySink, MemorySource};
-use bus_tool::Status;
 use bus_view::view;
 use std::test::Fail;
 

@@ -1,6 +1,6 @@
 //! Dumps of a trace.
 use crate::calls::{TABLE, TRACE, contains, run_on, shows};
-use bus_tool::Status;
+use bus_command::Status;
 use std::test::Fail;
 
 const WIRES: &str =

@@ -1,6 +1,6 @@
 //! Pictures of a trace.
 use crate::calls::{TABLE, TRACE, contains, run_on, shows};
-use bus_tool::Status;
+use bus_command::Status;
 use std::test::Fail;
 
 /// A row of two transmissions, and one of two that collide; the first start that is missing is in the first.

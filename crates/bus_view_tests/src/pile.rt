@@ -1,6 +1,6 @@
 //! Many narrow transmissions of which one is garbled by another: its box is drawn after all others, so that none of them hides it.
 use crate::calls::{TABLE, position, run_on};
-use bus_tool::Status;
+use bus_command::Status;
 use std::test::Fail;
 
 /// Forty messages of a word, and one that meets the eleventh.

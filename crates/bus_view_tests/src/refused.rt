@@ -1,6 +1,6 @@
 //! Refusals, in their order.
 use crate::calls::{TABLE, TRACE, run_on};
-use bus_tool::Status;
+use bus_command::Status;
 use std::test::Fail;
 
 /// The first terminal starts again before its message has ended.

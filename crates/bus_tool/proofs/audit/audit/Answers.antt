@@ -1,19 +1,20 @@
-use Rattle.bus_tool.proofs.AuditLemmas.{audit_answered, audit_stopped}
-use Rattle.bus_tool.specs.declared.forms.Form.TheVariants.{Audit}
-use Rattle.bus_tool.proofs.OwnLemmas.{own_written, audit_own}
-use Rattle.std.proofs.Common.{refl}
+use Rattle.std.proofs.Common.{refl, sym, ap, ◌∙◌, subst}
+use Rattle.bus_command.specs.Acts.{written}
+use Rattle.bus_command.specs.Readers.{Trace, entire, no_source, one_source, two_sources}
+use Rattle.bus_command.proofs.DoLaws.{answered, roomless, failed, refused, stopped, ended, sourceless}
+use Rattle.std.proofs.Common.{arith}
+use Rattle.bus_audit.specs.Breaches.{answer_of}
+use Rattle.bus_audit.specs.Lines.{answer_line}
+use Rattle.bus_tool.specs.Due.{audit_outcome}
+use Rattle.bus_tool.specs.Forms.{Audit}
+use Rattle.bus_tool.proofs.AnswerLaws.{written_audit, trace_late}
 use Rattle.bus_tool.proofs.audit.audit.Goals as goal
 
-pub returns-in-Ok-clause-does : goal.returns-in-Ok-clause-does
-returns-in-Ok-clause-does g c = audit_answered _ _ g.K.Sink c.args.out.now c.write_answer.new.sink c.in-Ok.answer c.audit_outcome.result c.after_writing.result c.write_answer.result c.in-Ok.ensures.prepares c.write_answer.ensures c.audit_outcome.ensures c.after_writing.ensures
+pub returns-in-Ok : goal.returns-in-Ok
+returns-in-Ok g c =
+    answered (two_sources entire Trace) _ _ g.K.Sink c.args.out.now c.write_answer.new.sink (answer_line c.in-Ok.answer) c.write_answer.result
+    c.after_writing.result (written_audit (answer_of c.args.table.now c.args.trace.now)) (ap answer_line c.in-Ok.ensures.value) c.write_answer.ensures
+    (c.after_writing.ensures ∙ ap (written c.write_answer.result) (c.audit_outcome.ensures ∙ ap audit_outcome c.in-Ok.ensures.value))
 
-pub returns-in-Err-clause-does : goal.returns-in-Err-clause-does
-returns-in-Err-clause-does g c = audit_stopped _ _ _ c.in-Err.outcome c.in-Err.ensures.prepares
-
-pub returns-in-Ok-clause-own : goal.returns-in-Ok-clause-own
-returns-in-Ok-clause-own g c =
-    own_written Audit (g.S.Source.left c.args.second.now) c.audit_outcome.result c.after_writing.result _ c.after_writing.ensures
-    (audit_own _ c.in-Ok.answer _ c.audit_outcome.ensures)
-
-pub returns-in-Err-clause-own : goal.returns-in-Err-clause-own
-returns-in-Err-clause-own g c = c.in-Err.ensures.own Audit refl
+pub returns-in-Err : goal.returns-in-Err
+returns-in-Err g c = roomless (two_sources entire Trace) _ _ _ (let late = trace_late Audit c.args.table.now c.args.trace.now in omega (arith, late))

@@ -1,26 +1,23 @@
 use Rattle.std.proofs.Common.{arith, length, refl, sym, ap, ◌∙◌, subst}
 use Rattle.bus_strings.specs.Transmissions.{IsByMoment}
-use Rattle.bus_tool.specs.Due.{schedule_refusal}
 use Rattle.bus_tool.specs.Drills.{garbled_count}
-use Rattle.bus_tool.proofs.DrillLemmas.{fails_so, drill_fails, drill_finds}
+use Rattle.bus_tool.proofs.DrillLemmas.{drill_fails, drill_finds}
 use Rattle.bus_tool.proofs.TraceLemmas.{by_moment}
 use Rattle.bus_tool.proofs.drill.drilled.Goals as goal
 
-pub returns-in_err-ran-clause-only : goal.returns-in_err-ran-clause-only
-returns-in_err-ran-clause-only c =
-    fails_so c.from_residual-in_err-ran.result (schedule_refusal c.in_err-ran.field-0.0) c.from_residual-in_err-ran.ensures.1
-    (drill_fails c.args.number _ _ _ c.in_err-ran.field-0.0 (schedule_refusal c.in_err-ran.field-0.0)
-    (c.drills_are_accepted.ensures c.args.number) c.in_ok-table.ensures.table c.in_ok-table.ensures.items c.in_ok-hands.ensures.hands
-    c.in_err-ran.ensures.limit.refused refl)
+pub returns-in-Err-clause-only : goal.returns-in-Err-clause-only
+returns-in-Err-clause-only c =
+    drill_fails c.args.number _ _ _ c.in-Err.error c.refuse_schedule.result (c.drills_are_accepted.ensures c.args.number) c.in_ok-table.ensures.table
+    c.in_ok-table.ensures.items c.in_ok-hands.ensures.hands c.in-Err.ensures.limit.refused c.refuse_schedule.ensures
 
 pub count_received-requires : goal.count_received-requires
 count_received-requires c =
-    subst IsByMoment (sym c.deref-2.ensures.value) (by_moment c.in_ok-ran.ran.list.items c.in_ok-ran.ensures.run.lawful.ordered)
+    subst IsByMoment (sym c.deref-2.ensures.value) (by_moment c.in-Ok.ran.list.items c.in-Ok.ensures.run.lawful.ordered)
 
 pub returns-clause-found : goal.returns-clause-found
 returns-clause-found c =
-    drill_finds c.args.number _ _ _ c.in_ok-ran.ran.list.items c.deref-2.result.now _ c.in_ok-table.ensures.table c.in_ok-table.ensures.items
-    c.in_ok-hands.ensures.hands c.in_ok-ran.ensures.run refl c.sender_count.ensures.count c.round_count.ensures.count
+    drill_finds c.args.number _ _ _ c.in-Ok.ran.list.items c.deref-2.result.now _ c.in_ok-table.ensures.table c.in_ok-table.ensures.items
+    c.in_ok-hands.ensures.hands c.in-Ok.ensures.run refl c.sender_count.ensures.count c.round_count.ensures.count
     (omega (arith, c.len.ensures, c.deref.ensures.len, ap length c.deref.ensures.value))
-    c.in_ok-ran.ensures.end (c.count_garbled.ensures ∙ ap garbled_count c.deref.ensures.value)
+    c.in-Ok.ensures.end (c.count_garbled.ensures ∙ ap garbled_count c.deref.ensures.value)
     c.deref-2.ensures.value c.count_received.ensures

@@ -1,18 +1,16 @@
-use Rattle.bus_tool.proofs.ObserveLemmas.{observe_answered, observe_stopped}
-use Rattle.bus_tool.specs.declared.forms.Form.TheVariants.{Observe}
-use Rattle.bus_tool.specs.declared.outcome.Outcome.TheVariants.{Done}
-use Rattle.bus_tool.proofs.OwnLemmas.{own_written}
-use Rattle.std.proofs.Common.{refl}
+use Rattle.std.proofs.Common.{refl, sym, ap, ◌∙◌, subst}
+use Rattle.bus_command.specs.Acts.{written}
+use Rattle.bus_command.specs.Readers.{Trace, entire, no_source, one_source, two_sources}
+use Rattle.bus_command.proofs.DoLaws.{answered, roomless, failed, refused, stopped, ended, sourceless}
+use Rattle.std.proofs.Common.{arith}
+use Rattle.bus_trace.specs.Traces.{trace_text}
+use Rattle.bus_command.specs.declared.outcome.Outcome.TheVariants.{Done}
 use Rattle.bus_tool.proofs.observe.observe.Goals as goal
 
-pub returns-in-Ok-clause-does : goal.returns-in-Ok-clause-does
-returns-in-Ok-clause-does g c = observe_answered c.args.horizon _ _ g.K.Sink c.args.out.now c.write_trace.new.sink c.in-Ok.trace c.after_writing.result c.write_trace.result c.in-Ok.ensures.prepares c.write_trace.ensures c.after_writing.ensures
+pub returns-in-Ok : goal.returns-in-Ok
+returns-in-Ok g c =
+    answered (two_sources entire entire) Done _ g.K.Sink c.args.out.now c.write_trace.new.sink (trace_text c.in-Ok.trace) c.write_trace.result
+    c.after_writing.result refl (record { recording = c.in-Ok.trace; observed = c.in-Ok.ensures; text_is = refl }) c.write_trace.ensures c.after_writing.ensures
 
-pub returns-in-Err-clause-does : goal.returns-in-Err-clause-does
-returns-in-Err-clause-does g c = observe_stopped c.args.horizon _ _ _ c.in-Err.outcome c.in-Err.ensures.prepares
-
-pub returns-in-Ok-clause-own : goal.returns-in-Ok-clause-own
-returns-in-Ok-clause-own g c = own_written (Observe c.args.horizon) (g.S.Source.left c.args.second.now) Done c.after_writing.result _ c.after_writing.ensures tt
-
-pub returns-in-Err-clause-own : goal.returns-in-Err-clause-own
-returns-in-Err-clause-own g c = c.in-Err.ensures.own (Observe c.args.horizon) refl
+pub returns-in-Err : goal.returns-in-Err
+returns-in-Err g c = roomless (two_sources entire entire) Done _ _ (omega arith)

@@ -1,17 +1,19 @@
-use Rattle.std.proofs.Common.{refl}
-use Rattle.bus_tool.proofs.ReportLemmas.{report_answered, report_stopped}
-use Rattle.bus_tool.specs.declared.forms.Form.TheVariants.{Report}
-use Rattle.bus_tool.proofs.OwnLemmas.{own_written, verdict_own}
+use Rattle.std.proofs.Common.{refl, sym, ap, ◌∙◌, subst}
+use Rattle.bus_command.specs.Acts.{written}
+use Rattle.bus_command.specs.Readers.{Trace, entire, no_source, one_source, two_sources}
+use Rattle.bus_command.proofs.DoLaws.{answered, roomless, failed, refused, stopped, ended, sourceless}
+use Rattle.std.proofs.Common.{arith}
+use Rattle.bus_regime.specs.Verdicts.{verdict_of}
+use Rattle.bus_tool.specs.Due.{verdict_outcome}
+use Rattle.bus_tool.specs.Forms.{Report}
+use Rattle.bus_tool.proofs.AnswerLaws.{written_verdict, table_late}
 use Rattle.bus_tool.proofs.report.report.Goals as goal
 
-pub returns-in-Ok-clause-does : goal.returns-in-Ok-clause-does
-returns-in-Ok-clause-does g c = λ second. report_answered _ _ second g.K.Sink c.args.out.now c.write_all.new.sink c.in-Ok.report c.as_bytes.result.now c.verdict_outcome.result c.after_writing.result c.write_all.result c.in-Ok.ensures.takes c.as_bytes.ensures.value c.verdict_outcome.ensures c.write_all.ensures c.after_writing.ensures
+pub returns-in-Ok : goal.returns-in-Ok
+returns-in-Ok g c =
+    answered (one_source entire) _ _ g.K.Sink c.args.out.now c.write_all.new.sink c.as_bytes.result.now c.write_all.result c.after_writing.result
+    (written_verdict (verdict_of c.args.table.now)) (c.as_bytes.ensures.value ∙ c.in-Ok.ensures) c.write_all.ensures
+    (c.after_writing.ensures ∙ ap (written c.write_all.result) (c.verdict_outcome.ensures ∙ ap verdict_outcome c.verdict.ensures))
 
-pub returns-in-Err-clause-does : goal.returns-in-Err-clause-does
-returns-in-Err-clause-does g c = λ second. report_stopped _ _ second _ c.in-Err.outcome c.in-Err.ensures.takes
-
-pub returns-in-Ok-clause-own : goal.returns-in-Ok-clause-own
-returns-in-Ok-clause-own g c = λ second. own_written Report second c.verdict_outcome.result c.after_writing.result _ c.after_writing.ensures (verdict_own Report second _ _ refl c.verdict_outcome.ensures)
-
-pub returns-in-Err-clause-own : goal.returns-in-Err-clause-own
-returns-in-Err-clause-own g c = λ second. c.in-Err.ensures.own Report second
+pub returns-in-Err : goal.returns-in-Err
+returns-in-Err g c = roomless (one_source entire) _ _ _ (let late = table_late Report c.args.table.now in omega (arith, late))

@@ -1,17 +1,26 @@
-use Rattle.bus_tool.proofs.RunLemmas.{run_answered, run_stopped}
-use Rattle.bus_tool.specs.declared.forms.Form.TheVariants.{Run}
-use Rattle.bus_tool.specs.declared.outcome.Outcome.TheVariants.{Done}
-use Rattle.bus_tool.proofs.OwnLemmas.{own_written}
+use Rattle.std.proofs.Common.{refl, sym, ap, ◌∙◌, subst}
+use Rattle.bus_command.specs.Acts.{written}
+use Rattle.bus_command.specs.Readers.{Trace, entire, no_source, one_source, two_sources}
+use Rattle.bus_command.proofs.DoLaws.{answered, roomless, failed, refused, stopped, ended, sourceless}
+use Rattle.bus_command.specs.Acts.{Ends}
+use Rattle.bus_command.specs.Due.{outcome_with}
+use Rattle.bus_command.specs.Outside.{sink_seen}
+use Rattle.bus_command.specs.declared.outcome.Outcome.TheVariants.{Done}
+use Rattle.bus_tool.specs.Due.{can_run}
+use Rattle.bus_tool.specs.Forms.{Run}
+use Rattle.bus_tool.specs.Texts.{IsMessagesText, run_text}
+use Rattle.bus_tool.proofs.AnswerLaws.{done_with, done_late}
 use Rattle.bus_tool.proofs.run.run.Goals as goal
 
-pub returns-in-Ok-clause-does : goal.returns-in-Ok-clause-does
-returns-in-Ok-clause-does g c = run_answered _ _ g.K.Sink c.args.out.now c.write_run.new.out c.in-Ok.ran c.after_writing.result c.write_run.result c.in-Ok.ensures.prepares c.write_run.ensures c.after_writing.ensures
+pub returns-in-Ok : goal.returns-in-Ok
+returns-in-Ok g c =
+    subst (λ r. Ends (two_sources entire entire) (outcome_with done_with r) (IsMessagesText Run c.args.table.now c.args.hands.items)
+    (sink_seen g.K.Sink c.args.out.now) (sink_seen g.K.Sink c.write_run.new.out) c.after_writing.result) (sym c.in-Ok.ensures.gives.1)
+    (answered (two_sources entire entire) Done (IsMessagesText Run c.args.table.now c.args.hands.items) g.K.Sink c.args.out.now c.write_run.new.out
+    (run_text c.args.table.now c.in-Ok.trace) c.write_run.result c.after_writing.result refl
+    (record { recording = c.in-Ok.trace; ran = c.in-Ok.ensures.gives.2; text_is = refl }) c.write_run.ensures c.after_writing.ensures)
 
-pub returns-in-Err-clause-does : goal.returns-in-Err-clause-does
-returns-in-Err-clause-does g c = run_stopped _ _ _ c.in-Err.outcome c.in-Err.ensures.prepares
-
-pub returns-in-Ok-clause-own : goal.returns-in-Ok-clause-own
-returns-in-Ok-clause-own g c = own_written Run (g.S.Source.left c.args.second.now) Done c.after_writing.result _ c.after_writing.ensures tt
-
-pub returns-in-Err-clause-own : goal.returns-in-Err-clause-own
-returns-in-Err-clause-own g c = c.in-Err.ensures.own
+pub returns-in-Err : goal.returns-in-Err
+returns-in-Err g c =
+    failed (two_sources entire entire) done_with (can_run c.args.table.now c.args.hands.items) (IsMessagesText Run c.args.table.now c.args.hands.items) _
+    c.in-Err.outcome done_late c.in-Err.ensures.late c.in-Err.ensures.gives

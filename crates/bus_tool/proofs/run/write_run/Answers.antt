@@ -1,14 +1,14 @@
 use Rattle.std.proofs.Common.{sym, subst}
 use Rattle.bus_strings.specs.Transmissions.{IsByMoment}
-use Rattle.bus_tool.proofs.RanLemmas.{run_written, run_cut}
+use Rattle.bus_tool.proofs.RunLemmas.{run_written, run_cut}
 use Rattle.bus_tool.proofs.TraceLemmas.{trace_by_moment}
 use Rattle.bus_tool.proofs.run.write_run.Goals as goal
 
 pub returns : goal.returns
-returns g c = run_written g.K.Sink c.args.out.now c.write_trace.new.sink c.write_received.new.sink c.in_ok-write_trace.field-0 c.write_received.result c.args.ran.now.table c.args.ran.now.trace c.list.result.now c.list.ensures.value c.in_ok-write_trace.ensures c.write_received.ensures
+returns g c = run_written g.K.Sink c.args.out.now c.write_trace.new.sink c.write_received.new.sink c.in_ok-write_trace.field-0 c.write_received.result c.args.table.now c.args.trace.now c.list.result.now c.list.ensures.value c.in_ok-write_trace.ensures c.write_received.ensures
 
 pub write_received-requires : goal.write_received-requires
-write_received-requires g c = subst IsByMoment (sym c.list.ensures.value) (trace_by_moment c.args.ran.now.trace c.requires)
+write_received-requires g c = subst IsByMoment (sym c.list.ensures.value) (trace_by_moment c.args.trace.now c.requires)
 
 pub returns-in_err-write_trace : goal.returns-in_err-write_trace
-returns-in_err-write_trace g c = run_cut g.K.Sink c.args.out.now c.write_trace.new.sink c.in_err-write_trace.field-0.0 c.from_residual.result c.args.ran.now.table c.args.ran.now.trace c.in_err-write_trace.ensures c.from_residual.ensures.1
+returns-in_err-write_trace g c = run_cut g.K.Sink c.args.out.now c.write_trace.new.sink c.in_err-write_trace.field-0.0 c.from_residual.result c.args.table.now c.args.trace.now c.in_err-write_trace.ensures c.from_residual.ensures.1

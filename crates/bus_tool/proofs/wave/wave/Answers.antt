@@ -1,22 +1,26 @@
-use Rattle.bus_tool.specs.declared.forms.Form.TheVariants.{Wave}
-use Rattle.bus_tool.specs.declared.outcome.Outcome.TheVariants.{Done}
-use Rattle.bus_tool.proofs.OwnLemmas.{own_written}
-use Rattle.bus_tool.proofs.WaveLemmas.{wave_answered, wave_stopped}
+use Rattle.std.proofs.Common.{◌≡◌, refl, sym, ap, ◌∙◌, subst}
+use Rattle.bus_command.specs.Acts.{Ends}
+use Rattle.bus_command.specs.Outside.{sink_seen}
+use Rattle.bus_command.specs.Readers.{Trace, entire, two_sources}
+use Rattle.bus_command.specs.declared.outcome.Outcome.TheVariants.{Done}
+use Rattle.bus_command.proofs.DoLaws.{answered, refused}
+use Rattle.bus_tool.specs.Due.{spaced_outcome}
+use Rattle.bus_tool.specs.Refusals.{refuse, Unspaced}
+use Rattle.bus_wave.specs.WaveTexts.{wave_text}
 use Rattle.bus_tool.proofs.wave.wave.Goals as goal
 
-pub write_wave-requires : goal.write_wave-requires
-write_wave-requires g c = c.in-Ok.ensures.spaced.apart
+pub returns-in-Ok : goal.returns-in-Ok
+returns-in-Ok g c =
+    subst (λ r. Ends (two_sources entire Trace) (spaced_outcome r) (λ text. text ≡ wave_text c.args.trace.now) (sink_seen g.K.Sink c.args.out.now)
+    (sink_seen g.K.Sink c.write_wave.new.sink) c.after_writing.result) c.in-Ok.ensures.exact
+    (answered (two_sources entire Trace) Done (λ text. text ≡ wave_text c.args.trace.now) g.K.Sink c.args.out.now c.write_wave.new.sink
+    (wave_text c.args.trace.now) c.write_wave.result c.after_writing.result refl refl c.write_wave.ensures.written c.after_writing.ensures)
 
-pub returns-in-Ok-clause-does : goal.returns-in-Ok-clause-does
-returns-in-Ok-clause-does g c =
-    wave_answered _ _ g.K.Sink c.args.out.now c.write_wave.new.sink c.in-Ok.traced c.after_writing.result c.write_wave.result
-    c.in-Ok.ensures.prepares c.write_wave.ensures.written c.after_writing.ensures
-
-pub returns-in-Err-clause-does : goal.returns-in-Err-clause-does
-returns-in-Err-clause-does g c = wave_stopped _ _ _ c.in-Err.outcome c.in-Err.ensures.prepares
-
-pub returns-in-Ok-clause-own : goal.returns-in-Ok-clause-own
-returns-in-Ok-clause-own g c = own_written Wave (g.S.Source.left c.args.second.now) Done c.after_writing.result _ c.after_writing.ensures tt
-
-pub returns-in-Err-clause-own : goal.returns-in-Err-clause-own
-returns-in-Err-clause-own g c = c.in-Err.ensures.own
+pub returns-in-Err : goal.returns-in-Err
+returns-in-Err g c =
+    let seen = sink_seen g.K.Sink c.args.out.now in
+    subst (λ r. Ends (two_sources entire Trace) (spaced_outcome r) (λ text. text ≡ wave_text c.args.trace.now) seen seen c.refuse.result)
+    c.in-Err.ensures.exact
+    (subst (Ends (two_sources entire Trace) (refuse (Unspaced c.in-Err.fault)) (λ text. text ≡ wave_text c.args.trace.now) seen seen)
+    (sym c.refuse.ensures)
+    (refused (two_sources entire Trace) (λ text. text ≡ wave_text c.args.trace.now) seen (refuse (Unspaced c.in-Err.fault)) refl refl))

@@ -1,17 +1,16 @@
-use Rattle.bus_tool.proofs.WitnessLemmas.{witness_answered, witness_stopped}
-use Rattle.bus_tool.specs.declared.outcome.Outcome.TheVariants.{Done}
-use Rattle.bus_tool.specs.declared.forms.Form.TheVariants.{Witness}
-use Rattle.bus_tool.proofs.OwnLemmas.{own_written}
+use Rattle.std.proofs.Common.{refl, sym, ap, ◌∙◌, subst}
+use Rattle.bus_command.specs.Acts.{written}
+use Rattle.bus_command.specs.Readers.{Trace, entire, no_source, one_source, two_sources}
+use Rattle.bus_command.proofs.DoLaws.{answered, roomless, failed, refused, stopped, ended, sourceless}
+use Rattle.std.proofs.Common.{arith}
+use Rattle.bus_strings.specs.Canonical.{messages_text}
+use Rattle.bus_command.specs.declared.outcome.Outcome.TheVariants.{Done}
 use Rattle.bus_tool.proofs.witness.witness.Goals as goal
 
-pub returns-in-Ok-clause-does : goal.returns-in-Ok-clause-does
-returns-in-Ok-clause-does g c = λ second. witness_answered _ _ second g.K.Sink c.args.out.now c.write_messages.new.sink _ c.after_writing.result c.write_messages.result c.in-Ok.ensures.takes c.write_messages.ensures.written c.after_writing.ensures
+pub returns-in-Ok : goal.returns-in-Ok
+returns-in-Ok g c =
+    answered (one_source entire) Done _ g.K.Sink c.args.out.now c.write_messages.new.sink _ c.write_messages.result c.after_writing.result refl
+    (ap messages_text c.in-Ok.ensures.witness) c.write_messages.ensures.written c.after_writing.ensures
 
-pub returns-in-Err-clause-does : goal.returns-in-Err-clause-does
-returns-in-Err-clause-does g c = λ second. witness_stopped _ _ second _ c.in-Err.outcome c.in-Err.ensures.takes
-
-pub returns-in-Ok-clause-own : goal.returns-in-Ok-clause-own
-returns-in-Ok-clause-own g c = λ second. own_written Witness second Done c.after_writing.result _ c.after_writing.ensures tt
-
-pub returns-in-Err-clause-own : goal.returns-in-Err-clause-own
-returns-in-Err-clause-own g c = λ second. c.in-Err.ensures.own Witness second
+pub returns-in-Err : goal.returns-in-Err
+returns-in-Err g c = roomless (one_source entire) Done _ _ (omega arith)

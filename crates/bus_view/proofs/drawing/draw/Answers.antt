@@ -1,23 +1,20 @@
-use Rattle.bus_view.specs.Forms.{Dump}
-use Rattle.bus_view.specs.Own.{IsDrawn}
-use Rattle.bus_view.proofs.DrawLemmas.{view_answered, view_stopped, dump_is, answer_own}
+use Rattle.std.proofs.Common.{◌≡◌, refl, sym, ap, ◌∙◌, subst}
+use Rattle.bus_command.specs.Acts.{Ends}
+use Rattle.bus_command.specs.Outside.{sink_seen}
+use Rattle.bus_command.specs.declared.outcome.Outcome.TheVariants.{Done}
+use Rattle.bus_command.proofs.DoLaws.{answered}
+use Rattle.bus_dump.specs.DumpTexts.{dump_text}
+use Rattle.bus_regime.specs.Lines.{verdict_words}
+use Rattle.bus_view.specs.Due.{single_outcome, drawing}
+use Rattle.bus_view.specs.Forms.{sources}
 use Rattle.bus_view.proofs.drawing.draw.Goals as goal
 
-pub write_dump-drawn-requires : goal.write_dump-drawn-requires
-write_dump-drawn-requires g c = record { single = c.in-Ok.ensures.single }
-
-pub returns-in-Ok-clause-does : goal.returns-in-Ok-clause-does
-returns-in-Ok-clause-does g c =
-    view_answered (Dump c.args.dump) _ _ g.K.Sink c.args.out.now c.write_dump-drawn.new.sink c.in-Ok.field-0 _ c.after_writing.result
-    c.write_dump-drawn.result c.in-Ok.ensures.prepares (dump_is c.args.dump c.in-Ok.field-0 c.verdict-verdict.result c.verdict-verdict.ensures)
-    c.write_dump-drawn.ensures c.after_writing.ensures
-
-pub returns-in-Err-clause-does : goal.returns-in-Err-clause-does
-returns-in-Err-clause-does g c = view_stopped (Dump c.args.dump) _ _ _ c.in-Err.outcome c.in-Err.ensures.prepares
-
-pub returns-in-Ok-clause-own : goal.returns-in-Ok-clause-own
-returns-in-Ok-clause-own g c =
-    answer_own (IsDrawn (g.S.Source.left c.args.second.now)) c.after_writing.result _ tt tt c.after_writing.ensures
-
-pub returns-in-Err-clause-own : goal.returns-in-Err-clause-own
-returns-in-Err-clause-own g c = c.in-Err.ensures.own
+pub returns-in-None : goal.returns-in-None
+returns-in-None g c =
+    let table = c.args.table.now in
+    let trace = c.args.trace.now in
+    subst (λ e. Ends sources (single_outcome e) (λ text. text ≡ drawing c.args.dump table trace) (sink_seen g.K.Sink c.args.out.now)
+    (sink_seen g.K.Sink c.write_dump-drawn.new.sink) c.after_writing.result) (sym c.in-None.is ∙ c.doubled.ensures)
+    (answered sources Done (λ text. text ≡ drawing c.args.dump table trace) g.K.Sink c.args.out.now c.write_dump-drawn.new.sink
+    (dump_text c.args.dump (verdict_words c.verdict-verdict.result) table trace) c.write_dump-drawn.result c.after_writing.result refl
+    (ap (λ v. dump_text c.args.dump (verdict_words v) table trace) c.verdict-verdict.ensures) c.write_dump-drawn.ensures c.after_writing.ensures)

@@ -1,0 +1,47 @@
+-- A call of its form.
+use Rattle.std.specs.Prelude.{◌≡◌, ℕ, List, Some, IfSome, IfNone, IsNone}
+use Rattle.std.proofs.Common.{refl, sym, subst}
+use Rattle.bus_command.specs.declared.outcome.Outcome.{Outcome}
+use Rattle.bus_command.specs.declared.outcome.Outcome.TheVariants.{Done, Answered, Usage, Own, ReadFault, WriteFault, NoMemory}
+use Rattle.bus_command.specs.declared.refusal.Place.TheVariants.{First, Second, Behind}
+use Rattle.bus_command.specs.Acts.{Program, DoesForm, HasCause, Acts}
+use Rattle.bus_command.specs.Causes.{RefusesTexts}
+use Rattle.bus_command.specs.Outside.{Call, Outside}
+use Rattle.bus_command.specs.Readers.{told}
+use Rattle.bus_command.specs.Stages.{StandsFor}
+use Rattle.bus_command.proofs.PrepareLaws.{both_map}
+
+some_is : {Form : Type 0} (form : Form) → IsNone (Some form) → ⊥
+some_is form h = cc
+
+-- each outcome that is due has its cause
+abbrev pub DueHasCause : {R Form : Type 0} → Program R Form → Type 0
+DueHasCause {R} {Form} program = (form : Form) (first second : List ℕ) (outcome : Outcome R) → program.due form first second ≡ outcome
+    → RefusesTexts (program.Cause form) outcome first second
+
+-- and so has one that stands for it
+stands_cause : {R Form : Type 0} (program : Program R Form) → DueHasCause program → (form : Form) (first second : List ℕ) (o : Outcome R)
+    → StandsFor (program.due form first second) o → RefusesTexts (program.Cause form) o first second
+stands_cause program laws form first second (ReadFault source) h = tt
+stands_cause program laws form first second WriteFault h = tt
+stands_cause program laws form first second NoMemory h = tt
+stands_cause program laws form first second (Own First why) h = laws form first second (Own First why) h
+stands_cause program laws form first second (Own Second why) h = laws form first second (Own Second why) h
+stands_cause program laws form first second (Own Behind why) h = laws form first second (Own Behind why) h
+stands_cause program laws form first second o h = laws form first second o h
+
+pub does_cause : {R Form : Type 0} (program : Program R Form) → DueHasCause program → (form : Form) (before after : Outside) (o : Outcome R)
+    → DoesForm program form before after o → HasCause program form before o
+does_cause program laws form before after o does =
+    both_map (told (program.sources form).first before.sources.first) (told (program.sources form).second before.sources.second)
+    (λ first second. StandsFor (program.due form first second) o) (RefusesTexts (program.Cause form) o)
+    (λ first second h. stands_cause program laws form first second o h) does.due
+
+pub acts_form : {R Form : Type 0} (program : Program R Form) → DueHasCause program → (call : Call) (outcome : Outcome R) (form : Form)
+    → Some form ≡ program.form_of call.words → DoesForm program form call.before call.after outcome → Acts program call outcome
+acts_form program laws call outcome form is does = record {
+  usage = (λ e. absurd (does.form e), λ none. absurd (some_is form (subst IsNone (sym is) none)));
+  nothing = subst (λ f. IfNone f (call.after ≡ call.before)) is tt;
+  does = subst (λ f. IfSome f (λ form. DoesForm program form call.before call.after outcome)) is does;
+  caused = subst (λ f. IfSome f (λ form. HasCause program form call.before outcome)) is (does_cause program laws form call.before call.after outcome does);
+}

@@ -1,0 +1,121 @@
+-- What a call does to the outside: which outcome it comes to, and what its sources and sinks then hold.
+use Rattle.std.specs.Prelude.{◌≡◌, ◌≢◌, ◌↔◌, ℕ, List, [], Option, IfSome, IfNone, IsNone, IsSome, Result, Ok, Err}
+use Rattle.bus_outer.specs.Sinks.{Written, WritesText}
+use Rattle.bus_outer.specs.declared.sink.WriteFault.{WriteFault as Fault}
+use Rattle.bus_command.specs.declared.outcome.Outcome.{Outcome}
+use Rattle.bus_command.specs.declared.outcome.Outcome.TheVariants.{Usage, WriteFault}
+use Rattle.bus_command.specs.Causes.{RefusesTexts}
+use Rattle.bus_command.specs.Kinds.{Kind, NoForm, NotRead, TooMuch, Wrong, Late, NotWritten, NoRoom, Answer, kind_of}
+use Rattle.bus_command.specs.Stages.{StandsFor}
+use Rattle.bus_command.specs.Outside.{Seen, Outside, Call}
+use Rattle.bus_command.specs.Readers.{Named, told, OfTexts, Reads, reach, SourceCounts, OutCounts}
+use Rattle.bus_command.specs.Steps.{IsRefused}
+
+-- All of a text is written.
+abbrev pub Holds : (List ℕ → Type 0) → Option (List ℕ) → Option (List ℕ) → Type 0
+Holds IsTheText old new = (text : List ℕ) × IsTheText text × Written old new [] text
+
+-- A beginning of a text is written.
+abbrev pub Begins : (List ℕ → Type 0) → Option (List ℕ) → Option (List ℕ) → Type 0
+Begins IsTheText old new = (text : List ℕ) × IsTheText text × (rest : List ℕ) × Written old new rest text
+
+-- What `out` holds: all of a text where the answer is written, a beginning of one after a failed write, else what it held.
+abbrev pub Leaves : Kind → (List ℕ → Type 0) → Option (List ℕ) → Option (List ℕ) → Type 0
+Leaves NoForm IsTheText old new = new ≡ old
+Leaves (NotRead source) IsTheText old new = new ≡ old
+Leaves (TooMuch source) IsTheText old new = new ≡ old
+Leaves (Wrong source) IsTheText old new = new ≡ old
+Leaves Late IsTheText old new = new ≡ old
+Leaves NotWritten IsTheText old new = Begins IsTheText old new
+Leaves NoRoom IsTheText old new = new ≡ old
+Leaves Answer IsTheText old new = Holds IsTheText old new
+
+-- What a command comes to whose answer was written so.
+abbrev pub written : {R : Type 0} → Result (Unit {0}) Fault → Outcome R → Outcome R
+written (Ok u) reply = reply
+written (Err fault) reply = WriteFault
+
+-- ---- behind the texts
+-- A kind to which a command may come that has taken its texts.
+abbrev pub IsBehind : Named → Kind → Type 0
+IsBehind named NoForm = ⊥
+IsBehind named (NotRead source) = ⊥
+IsBehind named (TooMuch source) = ⊥
+IsBehind named (Wrong source) = (source ≡ 2) × IsSome named.second
+IsBehind named Late = Unit {0}
+IsBehind named NotWritten = Unit {0}
+IsBehind named NoRoom = Unit {0}
+IsBehind named Answer = Unit {0}
+
+-- What a command did that has taken what it needs of its sources, where this outcome is due of it:
+--   stands   it came to that outcome, or to one in its place
+--   text     what `out` then holds
+--   count    the count of `out` rose exactly where it couldn't be written
+--   behind   nothing that was taken is refused any more, unless by a rule of the command's own for the second text
+pub record Ends {R : Type 0} (named : Named) (due : Outcome R) (IsText : List ℕ → Type 0) (old new : Seen) (outcome : Outcome R) : Type 0 where
+  pub stands : StandsFor due outcome
+  pub text : Leaves (kind_of outcome) IsText old.bytes new.bytes
+  pub count : OutCounts old new (kind_of outcome)
+  pub behind : IsBehind named (kind_of outcome)
+
+-- ---- the whole command
+-- What a command did that names these sources:
+--   due             the outcome that is due of the texts that they tell, or one in its place; where one tells nothing, of some text
+--   text            what `out` then holds: the command's text of these, or a beginning of it
+--   first, second   how far each source was read; one that isn't named wasn't pulled
+--   order           where the first text is refused, so is the command, and the second source wasn't pulled
+--   counts          a count of faults of a source rose exactly where this couldn't be read
+--   out_count       that of `out`, exactly where it couldn't be written
+--   form            the words are a form
+pub record Does {R : Type 0} (named : Named) (refusing : List ℕ → Option (Outcome R)) (due_of : List ℕ → List ℕ → Outcome R)
+    (IsTextOfBoth : List ℕ → List ℕ → List ℕ → Type 0) (before after : Outside) (outcome : Outcome R) : Type 0 where
+  pub due : OfTexts named before.sources (λ first second. StandsFor (due_of first second) outcome)
+  pub text : Leaves (kind_of outcome) (λ text. OfTexts named before.sources (λ first second. IsTextOfBoth first second text))
+      before.out.bytes after.out.bytes
+  pub first : Reads named.first (reach 1 (kind_of outcome)) before.sources.first after.sources.first
+  pub second : Reads named.second (reach 2 (kind_of outcome)) before.sources.second after.sources.second
+  pub order : IfSome (told named.first before.sources.first)
+      (λ text. IfSome (refusing text) (λ refusal. IsRefused refusal outcome before.sources after.sources))
+  pub counts : SourceCounts named before.sources after.sources (kind_of outcome)
+  pub out_count : OutCounts before.out after.out (kind_of outcome)
+  pub form : outcome ≢ Usage
+
+-- What a program is that has forms of its own, and refuses of its own what `R` says:
+--   form_of    the form of these words
+--   sources    the sources that a form names, and how each is read
+--   refusing   why a form refuses the first text, whatever the second is
+--   due        the outcome of a form for both texts
+--   IsText     what a form writes of both texts
+--   Cause      the cause of a refusal of the program's own
+pub record Program (R Form : Type 0) : Type 1 where
+  pub form_of : List (List ℕ) → Option Form
+  pub sources : Form → Named
+  pub refusing : Form → List ℕ → Option (Outcome R)
+  pub due : Form → List ℕ → List ℕ → Outcome R
+  pub IsText : Form → List ℕ → List ℕ → List ℕ → Type 0
+  pub Cause : Form → R → List ℕ → List ℕ → Type 0
+
+-- What the command of a form did.
+abbrev pub DoesForm : {R Form : Type 0} → Program R Form → Form → Outside → Outside → Outcome R → Type 0
+DoesForm program form before after outcome =
+    Does (program.sources form) (program.refusing form) (program.due form) (program.IsText form) before after outcome
+
+-- An outcome that refuses a text has its cause in the texts that the sources tell; where one tells nothing, in some text.
+abbrev pub HasCause : {R Form : Type 0} → Program R Form → Form → Outside → Outcome R → Type 0
+HasCause program form before outcome =
+    OfTexts (program.sources form) before.sources (RefusesTexts (program.Cause form) outcome)
+
+-- What a call of a program did:
+--   usage     Usage comes exactly where the words are no form
+--   nothing   and then nothing outside is touched
+--   does      else it did what the form asks for
+--   caused    an outcome that refuses a text has its cause
+pub record Acts {R Form : Type 0} (program : Program R Form) (call : Call) (outcome : Outcome R) : Type 0 where
+  pub usage : (outcome ≡ Usage) ↔ IsNone (program.form_of call.words)
+  pub nothing : IfNone (program.form_of call.words) (call.after ≡ call.before)
+  pub does : IfSome (program.form_of call.words) (λ form. DoesForm program form call.before call.after outcome)
+  pub caused : IfSome (program.form_of call.words) (λ form. HasCause program form call.before outcome)
+
+-- What `err` holds: this line, or a beginning of it where the count of `err` rose.
+abbrev pub TellsLine : {K : Type 0} → (K → Option (List ℕ)) → (K → ℕ) → K → K → List ℕ → Type 0
+TellsLine held faults old new line = (answer : Result (Unit {0}) Fault) × WritesText held faults old new answer line

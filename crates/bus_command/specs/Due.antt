@@ -1,0 +1,138 @@
+-- What is due for given texts, step by step: a value, or the outcome that refuses it. The order of the steps is the order of refusals.
+use Rattle.std.specs.Prelude.{◌≡◌, ℕ, true, nat_lt, List, length, Option, Result, Ok, Err, if◌then◌else◌}
+use Rattle.bus_text.specs.AllOf.{◌>>=◌}
+use Rattle.bus_text.specs.Refusals.{Refusal}
+use Rattle.bus_strings.specs.Items.{Item}
+use Rattle.bus_strings.specs.Reading.{messages_reading}
+use Rattle.bus_strings.specs.declared.fault.MessagesError.{MessagesError}
+use Rattle.bus_strings.specs.declared.fault.MessagesError.TheVariants.{Text as NotRead, Memory as NoRoom}
+use Rattle.bus_table.specs.declared.error.TableError.{TableError}
+use Rattle.bus_table.specs.declared.error.TableError.TheVariants.{Text, Whole, Memory}
+use Rattle.bus_table.specs.declared.fit.FitError.{FitError}
+use Rattle.bus_table.specs.Tables.{Table, Hand}
+use Rattle.bus_table.specs.Fits.{items_fit}
+use Rattle.bus_table.specs.Hands.{hands_of}
+use Rattle.bus_table.specs.Reading.{answer_of as table_answer}
+use Rattle.bus_trace.specs.declared.fault.TraceError.{TraceError}
+use Rattle.bus_trace.specs.declared.fault.TraceError.TheVariants as trace
+use Rattle.bus_trace.specs.Traces.{Recording}
+use Rattle.bus_trace.specs.Limits.{text_limit as trace_limit}
+use Rattle.bus_trace.specs.Runs.{reading}
+use Rattle.bus_command.specs.declared.inputs.Traced.{Traced}
+use Rattle.bus_command.specs.declared.outcome.Outcome.{Outcome}
+use Rattle.bus_command.specs.declared.outcome.Outcome.TheVariants.{TableText, TableWhole, MessagesText, Unfit, TraceText, ReadFault, NoMemory}
+use Rattle.bus_command.specs.declared.outcome.Outcome.TheVariants.{TooLarge}
+use Rattle.bus_command.specs.Kinds.{kind_of, is_answer}
+use Rattle.bus_command.specs.Readers.{text_limit}
+use Rattle.bus_command.specs.Stages.{refusal_in}
+
+-- The text of a source, which is too large before all that is read from it.
+abbrev pub text_within : {R : Type 0} → ℕ → ℕ → List ℕ → Result (List ℕ) (Outcome R)
+text_within limit number text = if nat_lt limit (length text) then Err (TooLarge number) else Ok text
+
+-- A table text or a messages text.
+abbrev pub text_due : {R : Type 0} → ℕ → List ℕ → Result (List ℕ) (Outcome R)
+text_due number text = text_within text_limit number text
+
+-- ---- the first text
+-- Why a table text is refused.
+abbrev pub table_refusal : {R : Type 0} → TableError → Outcome R
+table_refusal (Text line reason) = TableText line reason
+table_refusal (Whole reason) = TableWhole reason
+table_refusal Memory = NoMemory
+
+-- A table, or the outcome of its refusal.
+abbrev pub table_or_refusal : {R : Type 0} → Result Table TableError → Result Table (Outcome R)
+table_or_refusal (Ok table) = Ok table
+table_or_refusal (Err error) = Err (table_refusal error)
+
+-- The table of the first text.
+abbrev pub table_due : {R : Type 0} → List ℕ → Result Table (Outcome R)
+table_due text = text_due 1 text >>= λ whole. table_or_refusal (table_answer whole)
+
+-- Why the first text is refused.
+abbrev pub table_refusal_of : {R : Type 0} → List ℕ → Option (Outcome R)
+table_refusal_of text = refusal_in (table_due text)
+
+-- ---- the second text, where it is one of messages
+-- Why a messages text is refused.
+abbrev pub messages_refusal : {R : Type 0} → MessagesError → Outcome R
+messages_refusal (NotRead line reason) = MessagesText line reason
+messages_refusal NoRoom = NoMemory
+
+-- Items, or the outcome of their refusal.
+abbrev pub items_or_refusal : {R : Type 0} → Result (List Item) Refusal → Result (List Item) (Outcome R)
+items_or_refusal (Ok items) = Ok items
+items_or_refusal (Err refusal) = Err (MessagesText refusal.line refusal.reason)
+
+-- Items, where each fits its sender.
+abbrev pub fitting_or_refusal : {R : Type 0} → Result (Unit {0}) FitError → List Item → Result (List Item) (Outcome R)
+fitting_or_refusal (Ok fit) items = Ok items
+fitting_or_refusal (Err error) items = Err (Unfit error)
+
+-- The items of the second text, each of which fits its sender.
+abbrev pub items_due : {R : Type 0} → Table → List ℕ → Result (List Item) (Outcome R)
+items_due table text =
+    text_due 2 text >>= λ whole. items_or_refusal (messages_reading whole)
+    >>= λ items. fitting_or_refusal (items_fit table items) items
+
+-- ---- the second text, where it is a trace
+-- What a read of a trace comes to that failed.
+abbrev pub trace_refusal : {R : Type 0} → TraceError → Outcome R
+trace_refusal (trace.Text byte reason) = TraceText byte reason
+trace_refusal trace.ReadFault = ReadFault 2
+trace_refusal trace.TooLarge = TooLarge 2
+trace_refusal trace.Memory = NoMemory
+
+-- What a stream of bytes reads as, or why it is refused.
+abbrev pub trace_or_refusal : {R : Type 0} → Result Recording TraceError → Result Recording (Outcome R)
+trace_or_refusal (Ok recording) = Ok recording
+trace_or_refusal (Err error) = Err (trace_refusal error)
+
+-- The trace at the front of the second text.
+abbrev pub trace_due : {R : Type 0} → List ℕ → Result Recording (Outcome R)
+trace_due text = trace_or_refusal (reading trace_limit text)
+
+-- ---- both texts
+-- A table, and items that fit it.
+pub record Inputs : Type 0 where
+  pub table : Table
+  pub items : List Item
+
+-- The pair of these.
+abbrev pub with_items : Table → List Item → Inputs
+with_items table items = record { table = table; items = items }
+
+-- The hands of a table's senders.
+abbrev pub hands_in : Inputs → List Hand
+hands_in inputs = hands_of inputs.table inputs.items
+
+-- The table that is made of the first text, and the items of the second, which is looked at only where nothing of the first is refused.
+abbrev pub inputs_by : {R : Type 0} → (List ℕ → Result Table (Outcome R)) → List ℕ → List ℕ → Result Inputs (Outcome R)
+inputs_by made first second = made first >>= λ table. items_due table second >>= λ items. Ok (with_items table items)
+
+-- The pair of a table and a trace.
+abbrev pub with_trace : Table → Recording → Traced
+with_trace table trace = record { table = table; trace = trace }
+
+-- A table, and the trace that is made of the second text, which is looked at only where nothing of the first is refused.
+abbrev pub traced_by : {R : Type 0} → (Table → List ℕ → Result Recording (Outcome R)) → List ℕ → List ℕ → Result Traced (Outcome R)
+traced_by made first second = table_due first >>= λ table. made table second >>= λ trace. Ok (with_trace table trace)
+
+-- The trace of a text, whatever the table is.
+abbrev pub any_trace : {R : Type 0} → Table → List ℕ → Result Recording (Outcome R)
+any_trace table text = trace_due text
+
+-- A table and a trace.
+abbrev pub traced_due : {R : Type 0} → List ℕ → List ℕ → Result Traced (Outcome R)
+traced_due first second = traced_by any_trace first second
+
+-- ---- the answer
+-- A refusal, or the answer to a value.
+abbrev pub outcome_with : {R Y : Type 0} → (Y → Outcome R) → Result Y (Outcome R) → Outcome R
+outcome_with answer (Ok y) = answer y
+outcome_with answer (Err refusal) = refusal
+
+-- A text of the value that is due, where it is answered.
+abbrev pub IsTextOf : {R Y : Type 0} → (Y → Outcome R) → (Y → List ℕ → Type 0) → Result Y (Outcome R) → List ℕ → Type 0
+IsTextOf {R} {Y} answer IsText due text = (y : Y) × (due ≡ Ok y) × (is_answer (kind_of (answer y)) ≡ true) × IsText y text

@@ -1,0 +1,13 @@
+pub mod Statuses
+pub mod Words
+pub mod Kinds
+pub mod Outcomes
+pub mod Outside
+pub mod Readers
+pub mod Stages
+pub mod Steps
+pub mod Due
+pub mod Taken
+pub mod Causes
+pub mod Acts
+pub mod Claims

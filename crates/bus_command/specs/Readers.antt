@@ -1,0 +1,148 @@
+-- How the sources are read.
+--   reader   how a source is read, and up to which limit
+--   reach    how far it was read
+use Rattle.std.specs.Prelude.{◌≡◌, ℕ, ◌+◌, ◌≤◌, ◌<◌, nat_lt, List, [], Option, Some, None, IfSome, IsSome, Ok, Err, ◌⊎◌}
+use Rattle.std.specs.Prelude.{if◌then◌else◌}
+use Rattle.bus_outer.specs.Sources.{TakesSome, most_piece}
+use Rattle.bus_trace.specs.declared.fault.TraceError.TheVariants.{Text, ReadFault, TooLarge}
+use Rattle.bus_trace.specs.declared.reason.TraceReason.{TraceReason}
+use Rattle.bus_trace.specs.Traces.{Recording}
+use Rattle.bus_trace.specs.Limits.{text_limit as trace_limit}
+use Rattle.bus_trace.specs.Reading.{TakesTrace}
+use Rattle.bus_command.specs.Kinds.{Kind, NoForm, NotRead, TooMuch, Wrong, Late, NotWritten, NoRoom, Answer}
+use Rattle.bus_command.specs.Outside.{Seen, Sources, Rises, Stays, BothStay}
+
+-- the most bytes that a table text or a messages text may have
+abbrev pub text_limit : ℕ
+text_limit = 8388608
+
+-- Entire: it is read whole, of no more bytes than a limit. Trace: it is read as far as a trace text goes.
+pub data Reader : Type 0 where
+  Entire : (limit : ℕ) → Reader
+  Trace : Reader
+
+-- how a table text and a messages text are read
+abbrev pub entire : Reader
+entire = Entire text_limit
+
+-- the sources that a form names, each with its reader
+pub record Named : Type 0 where
+  pub first : Option Reader
+  pub second : Option Reader
+
+-- a form that names no source
+abbrev pub no_source : Named
+no_source = record { first = None; second = None }
+
+-- a form that names the first source alone
+abbrev pub one_source : Reader → Named
+one_source reader = record { first = Some reader; second = None }
+
+-- a form that names both
+abbrev pub two_sources : Reader → Reader → Named
+two_sources first second = record { first = Some first; second = Some second }
+
+-- the bytes of a source, where it is named; none are asked of one that isn't
+abbrev pub told : Option Reader → Seen → Option (List ℕ)
+told None seen = Some []
+told (Some reader) seen = seen.bytes
+
+-- What holds of the text of a source: of the bytes that it tells, or of some text where it tells nothing.
+abbrev pub OfSome : Option (List ℕ) → (List ℕ → Type 0) → Type 0
+OfSome None P = (text : List ℕ) × P text
+OfSome (Some text) P = P text
+
+-- The same of both texts.
+abbrev pub OfTexts : Named → Sources → (List ℕ → List ℕ → Type 0) → Type 0
+OfTexts named all P = OfSome (told named.first all.first) (λ first. OfSome (told named.second all.second) (λ second. P first second))
+
+-- ---- how far a source was read
+-- Untouched: it wasn't pulled. Broken: a pull failed, before anything was decided. Within: no byte past the limit was taken. Past: one was,
+-- before anything was decided. Judged: it was read as far as its reader goes.
+pub data Reach : Type 0 where
+  Untouched : Reach
+  Broken : Reach
+  Within : Reach
+  Past : Reach
+  Judged : Reach
+
+-- a trace text was taken, or one that is none up to where that is decided
+abbrev pub TakesDecided : Option (List ℕ) → Option (List ℕ) → Type 0
+TakesDecided old new =
+    ((trace : Recording) × TakesTrace old new (Ok trace))
+    ⊎ ((byte : ℕ) × (reason : TraceReason) × TakesTrace old new (Err (Text byte reason)))
+
+-- what was taken of a source that is read whole; past its limit no more than one piece is
+abbrev pub ReadsEntire : ℕ → Reach → Seen → Seen → Type 0
+ReadsEntire limit Untouched old new = new ≡ old
+ReadsEntire limit Broken old new = TakesSome old.bytes new.bytes (λ n. n ≤ limit)
+ReadsEntire limit Within old new = TakesSome old.bytes new.bytes (λ n. n ≤ limit)
+ReadsEntire limit Past old new = TakesSome old.bytes new.bytes (λ n. (limit < n) × (n ≤ limit + most_piece))
+ReadsEntire limit Judged old new = TakesSome old.bytes new.bytes (λ n. n ≤ limit) × IfSome new.bytes (λ xs. xs ≡ [])
+
+-- what was taken of a source that is read as a trace; past its limit one byte is
+abbrev pub ReadsTrace : Reach → Seen → Seen → Type 0
+ReadsTrace Untouched old new = new ≡ old
+ReadsTrace Broken old new = TakesTrace old.bytes new.bytes (Err ReadFault)
+ReadsTrace Within old new = TakesSome old.bytes new.bytes (λ n. n ≤ trace_limit)
+ReadsTrace Past old new = TakesTrace old.bytes new.bytes (Err TooLarge)
+ReadsTrace Judged old new = TakesDecided old.bytes new.bytes
+
+-- what was taken of a source by its reader
+abbrev pub ReadsBy : Reader → Reach → Seen → Seen → Type 0
+ReadsBy (Entire limit) reach old new = ReadsEntire limit reach old new
+ReadsBy Trace reach old new = ReadsTrace reach old new
+
+-- the same; a source that isn't named wasn't pulled
+abbrev pub Reads : Option Reader → Reach → Seen → Seen → Type 0
+Reads None reach old new = new ≡ old
+Reads (Some reader) reach old new = ReadsBy reader reach old new
+
+-- a source, where a command stopped at one: one before was read as far as its reader goes, one behind wasn't pulled
+abbrev pub reach_at : ℕ → ℕ → Reach → Reach
+reach_at number stop here = if nat_lt stop number then Untouched else (if nat_lt number stop then Judged else here)
+
+-- how far a source was read, by what the command came to; want of memory may come anywhere
+abbrev pub reach : ℕ → Kind → Reach
+reach number NoForm = Untouched
+reach number (NotRead source) = reach_at number source Broken
+reach number (TooMuch source) = reach_at number source Past
+reach number (Wrong source) = reach_at number source Judged
+reach number Late = Judged
+reach number NotWritten = Judged
+reach number NoRoom = Within
+reach number Answer = Judged
+
+-- ---- the counts of the sources
+-- a source of this number is named
+abbrev pub IsNamed : Named → ℕ → Type 0
+IsNamed named source = ((source ≡ 1) × IsSome named.first) ⊎ ((source ≡ 2) × IsSome named.second)
+
+-- A read that failed is of a named source. Its count of faults rose, and the other's is as it was.
+pub data FailsToRead (named : Named) (before after : Sources) (source : ℕ) : Type 0 where
+  First : source ≡ 1 → IsSome named.first → Rises before.first after.first → Stays before.second after.second
+      → FailsToRead named before after source
+  Second : source ≡ 2 → IsSome named.second → Stays before.first after.first → Rises before.second after.second
+      → FailsToRead named before after source
+
+-- A count of a source rose exactly where it couldn't be read. What is said of a source is said of a named one.
+abbrev pub SourceCounts : Named → Sources → Sources → Kind → Type 0
+SourceCounts named before after NoForm = BothStay before after
+SourceCounts named before after (NotRead source) = FailsToRead named before after source
+SourceCounts named before after (TooMuch source) = IsNamed named source × BothStay before after
+SourceCounts named before after (Wrong source) = IsNamed named source × BothStay before after
+SourceCounts named before after Late = BothStay before after
+SourceCounts named before after NotWritten = BothStay before after
+SourceCounts named before after NoRoom = BothStay before after
+SourceCounts named before after Answer = BothStay before after
+
+-- The count of `out` rose exactly where it couldn't be written.
+abbrev pub OutCounts : Seen → Seen → Kind → Type 0
+OutCounts old new NoForm = Stays old new
+OutCounts old new (NotRead source) = Stays old new
+OutCounts old new (TooMuch source) = Stays old new
+OutCounts old new (Wrong source) = Stays old new
+OutCounts old new Late = Stays old new
+OutCounts old new NotWritten = Rises old new
+OutCounts old new NoRoom = Stays old new
+OutCounts old new Answer = Stays old new

@@ -1,0 +1,118 @@
+-- What the steps of a command do before its first written byte.
+--   step   it makes a value, or stops at an outcome
+use Rattle.std.specs.Prelude.{◌≡◌, ℕ, List, Vec, Option, Some, IfSome, Result, Ok, Err, IfErr}
+use Rattle.std.specs.declared.alloc.Global.{Global}
+use Rattle.bus_outer.specs.declared.whole.ReadError.{ReadError}
+use Rattle.bus_outer.specs.declared.whole.ReadError.TheVariants.{Fault, TooLarge as Larger, Memory}
+use Rattle.bus_command.specs.declared.outcome.Outcome.{Outcome}
+use Rattle.bus_command.specs.declared.outcome.Outcome.TheVariants.{ReadFault, NoMemory, TooLarge}
+use Rattle.bus_command.specs.Kinds.{Kind, NoForm, NotRead, TooMuch, Wrong, Late, NotWritten, NoRoom, Answer, kind_of}
+use Rattle.bus_command.specs.Stages.{StandsFor, Gives}
+use Rattle.bus_command.specs.Outside.{Seen, Sources, Rises, Stays}
+use Rattle.bus_command.specs.Readers.{Reader, Named, told, OfSome, OfTexts, Reach, Untouched, Broken, Within, Past, Judged, ReadsBy, Reads, reach}
+use Rattle.bus_command.specs.Readers.{SourceCounts}
+
+-- the kind of what a step came to so far, where nothing stops it behind
+abbrev pub came_to : {R X : Type 0} → Result X (Outcome R) → Kind
+came_to (Ok x) = Answer
+came_to (Err outcome) = kind_of outcome
+
+-- ---- a step that reads one source
+-- what a read that failed comes to
+abbrev pub read_refusal : {R : Type 0} → ℕ → ReadError → Outcome R
+read_refusal number Fault = ReadFault number
+read_refusal number Larger = TooLarge number
+read_refusal number Memory = NoMemory
+
+-- how far the step read its source
+abbrev pub stopped_at : Kind → Reach
+stopped_at NoForm = Untouched
+stopped_at (NotRead source) = Broken
+stopped_at (TooMuch source) = Past
+stopped_at (Wrong source) = Judged
+stopped_at Late = Judged
+stopped_at NotWritten = Judged
+stopped_at NoRoom = Within
+stopped_at Answer = Judged
+
+-- a kind at which a step may stop that reads the source of this number
+abbrev pub StopsAt : ℕ → Kind → Type 0
+StopsAt number NoForm = ⊥
+StopsAt number (NotRead source) = source ≡ number
+StopsAt number (TooMuch source) = source ≡ number
+StopsAt number (Wrong source) = source ≡ number
+StopsAt number Late = ⊥
+StopsAt number NotWritten = ⊥
+StopsAt number NoRoom = Unit {0}
+StopsAt number Answer = ⊥
+
+-- the count of its source rose exactly where this couldn't be read
+abbrev pub StepCounts : Seen → Seen → Kind → Type 0
+StepCounts old new NoForm = Stays old new
+StepCounts old new (NotRead source) = Rises old new
+StepCounts old new (TooMuch source) = Stays old new
+StepCounts old new (Wrong source) = Stays old new
+StepCounts old new Late = Stays old new
+StepCounts old new NotWritten = Stays old new
+StepCounts old new NoRoom = Stays old new
+StepCounts old new Answer = Stays old new
+
+-- It reads the source of this number by this reader, and gives what is made of its text; of some text where the source tells nothing.
+pub record Takes {R X Y : Type 0} (IsOf : X → Y → Type 0) (number : ℕ) (reader : Reader) (made : List ℕ → Result Y (Outcome R))
+    (old new : Seen) (result : Result X (Outcome R)) : Type 0 where
+  pub gives : OfSome old.bytes (λ text. Gives IsOf result (made text))
+  pub reads : ReadsBy reader (stopped_at (came_to result)) old new
+  pub stops : IfErr result (λ outcome. StopsAt number (kind_of outcome))
+  pub counts : StepCounts old new (came_to result)
+
+-- the text that was read
+abbrev pub IsText : Vec ℕ Global → List ℕ → Type 0
+IsText text bytes = text.items ≡ bytes
+
+-- the value itself
+abbrev pub Same : {X : Type 0} → X → X → Type 0
+Same x y = x ≡ y
+
+-- ---- the steps before the first written byte
+-- a kind at which a command may stop that has written nothing
+abbrev pub IsEarly : Kind → Type 0
+IsEarly NoForm = ⊥
+IsEarly (NotRead source) = Unit {0}
+IsEarly (TooMuch source) = Unit {0}
+IsEarly (Wrong source) = Unit {0}
+IsEarly Late = Unit {0}
+IsEarly NotWritten = ⊥
+IsEarly NoRoom = Unit {0}
+IsEarly Answer = ⊥
+
+-- a kind at which a command may stop behind both texts, before it has written anything
+abbrev pub IsLate : Kind → Type 0
+IsLate NoForm = ⊥
+IsLate (NotRead source) = ⊥
+IsLate (TooMuch source) = ⊥
+IsLate (Wrong source) = ⊥
+IsLate Late = Unit {0}
+IsLate NotWritten = ⊥
+IsLate NoRoom = Unit {0}
+IsLate Answer = ⊥
+
+-- Where the first text is refused, so is the command, whatever the second source is, which isn't pulled.
+pub record IsRefused {R : Type 0} (refusal outcome : Outcome R) (before after : Sources) : Type 0 where
+  pub stands : StandsFor refusal outcome
+  pub unpulled : after.second ≡ before.second
+
+-- The steps stop at the refusal of the first text.
+abbrev pub StopsFirst : {R X : Type 0} → Sources → Sources → Result X (Outcome R) → Outcome R → Type 0
+StopsFirst before after (Ok x) refusal = ⊥
+StopsFirst before after (Err outcome) refusal = IsRefused refusal outcome before after
+
+-- They read the named sources, and give what is made of both texts.
+--   order   where the first text is refused they stop there
+pub record Prepares {R X Y : Type 0} (IsOf : X → Y → Type 0) (named : Named) (refusing : List ℕ → Option (Outcome R))
+    (made : List ℕ → List ℕ → Result Y (Outcome R)) (before after : Sources) (result : Result X (Outcome R)) : Type 0 where
+  pub gives : OfTexts named before (λ first second. Gives IsOf result (made first second))
+  pub first : Reads named.first (reach 1 (came_to result)) before.first after.first
+  pub second : Reads named.second (reach 2 (came_to result)) before.second after.second
+  pub order : IfSome (told named.first before.first) (λ text. IfSome (refusing text) (StopsFirst before after result))
+  pub early : IfErr result (λ outcome. IsEarly (kind_of outcome))
+  pub counts : SourceCounts named before after (came_to result)

@@ -1,0 +1,261 @@
+//! The line of an outcome, on the error output.
+ghost use Rattle.std.specs.Prelude.{◌++◌, codes, decimal, List, [], ◌∷◌};
+ghost use Rattle.bus_command.specs.Outcomes.{error_head, error_line, fault_line, fault_words, fit_words, line_with, own_of, pair_words};
+ghost use Rattle.bus_command.specs.Outcomes.{plain_line, reason_name, status_of, trace_reason_name, whole_words};
+ghost use Rattle.bus_command.specs.Statuses.{number_of};
+ghost use Rattle.bus_outer.specs.Sinks.{WritesText};
+ghost use Rattle.bus_outer.specs.Texts.{Adds};
+ghost use Rattle.bus_text.specs.Digits.{hex_digit, hexadecimal};
+
+use crate::outcome::Outcome;
+use crate::refusal::Refusal;
+use crate::status::Status;
+use bus_outer::{Sink, TextBuffer, WriteFault};
+use bus_table::{FitError, WholeReason};
+use bus_text::{Reason, hex_digit as digit, three_digits};
+use bus_trace::TraceReason;
+use bus_words::{Ext, Label};
+
+/// Puts the word of a reason.
+pub fn put_reason<K: Sink>(text: &mut TextBuffer, sink: &mut K, reason: Reason)
+    ensures { Adds K.held K.faults sink.old sink.new text.old text.new (reason_name reason) }
+{
+    match reason {
+        Reason::Ended => text.put(sink, b"Ended"),
+        Reason::Keyword => text.put(sink, b"Keyword"),
+        Reason::Fields => text.put(sink, b"Fields"),
+        Reason::Spelling => text.put(sink, b"Spelling"),
+        Reason::Range => text.put(sink, b"Range"),
+    }
+}
+
+/// Puts the word of a reason against a line of a trace.
+fn put_trace_reason<K: Sink>(text: &mut TextBuffer, sink: &mut K, reason: TraceReason)
+    ensures { Adds K.held K.faults sink.old sink.new text.old text.new (trace_reason_name reason) }
+{
+    match reason {
+        TraceReason::Ended => text.put(sink, b"Ended"),
+        TraceReason::Long => text.put(sink, b"Long"),
+        TraceReason::Keyword => text.put(sink, b"Keyword"),
+        TraceReason::Fields => text.put(sink, b"Fields"),
+        TraceReason::Spelling => text.put(sink, b"Spelling"),
+        TraceReason::Parity => text.put(sink, b"Parity"),
+        TraceReason::Range => text.put(sink, b"Range"),
+        TraceReason::Order => text.put(sink, b"Order"),
+        TraceReason::Mark => text.put(sink, b"Mark"),
+    }
+}
+
+/// Puts a word and a number.
+pub fn put_numbered<K: Sink>(text: &mut TextBuffer, sink: &mut K, word: &[u8], number: u64)
+    ensures { Adds K.held K.faults sink.old sink.new text.old text.new (word.now ++ decimal number) }
+{
+    text.put(sink, word);
+    text.put_number(sink, number);
+}
+
+/// Puts a label in three digits.
+fn put_label<K: Sink>(text: &mut TextBuffer, sink: &mut K, label: Label)
+    ensures { Adds K.held K.faults sink.old sink.new text.old text.new (hexadecimal 3 label) }
+{
+    text.put(sink, &three_digits(label.value()))
+}
+
+/// Puts an extension in one digit.
+fn put_ext<K: Sink>(text: &mut TextBuffer, sink: &mut K, ext: Ext)
+    ensures { Adds K.held K.faults sink.old sink.new text.old text.new (hex_digit ext ∷ []) }
+{
+    text.put_byte(sink, digit(ext.value()))
+}
+
+/// Puts the label and the extension that stand twice.
+fn put_pair<K: Sink>(text: &mut TextBuffer, sink: &mut K, label: Label, ext: Ext)
+    ensures { Adds K.held K.faults sink.old sink.new text.old text.new (pair_words label ext) }
+{
+    text.put(sink, b"PairTwice ");
+    put_label(text, sink, label);
+    text.put_byte(sink, b' ');
+    put_ext(text, sink, ext);
+}
+
+/// Puts the words of a whole reason.
+fn put_whole<K: Sink>(text: &mut TextBuffer, sink: &mut K, reason: WholeReason)
+    ensures { Adds K.held K.faults sink.old sink.new text.old text.new (whole_words reason) }
+{
+    match reason {
+        WholeReason::NoSender => text.put(sink, b"NoSender"),
+        WholeReason::NumberTwice(number) => put_numbered(
+            text,
+            sink,
+            b"NumberTwice ",
+            u64::from(number),
+        ),
+        WholeReason::GapTwice(number) => put_numbered(text, sink, b"GapTwice ", u64::from(number)),
+        WholeReason::GapNotShort(number) => put_numbered(
+            text,
+            sink,
+            b"GapNotShort ",
+            u64::from(number),
+        ),
+        WholeReason::PairTwice(label, ext) => put_pair(text, sink, label, ext),
+        WholeReason::OffsetRange(number) => put_numbered(
+            text,
+            sink,
+            b"OffsetRange ",
+            u64::from(number),
+        ),
+    }
+}
+
+/// Puts the place and the reason of a text's refusal, behind the word of the text.
+fn put_place<K: Sink>(text: &mut TextBuffer, sink: &mut K, word: &[u8], line: u64, reason: Reason)
+    ensures { Adds K.held K.faults sink.old sink.new text.old text.new (word.now ++ decimal line ++ 32 ∷ [] ++ reason_name reason) }
+{
+    put_numbered(text, sink, word, line);
+    text.put_byte(sink, b' ');
+    put_reason(text, sink, reason);
+}
+
+/// Puts the refusal of a line of a table text.
+fn put_table_text<K: Sink>(text: &mut TextBuffer, sink: &mut K, line: u64, reason: Reason)
+    ensures { Adds K.held K.faults sink.old sink.new text.old text.new (codes "table line " ++ decimal line ++ 32 ∷ [] ++ reason_name reason) }
+{
+    put_place(text, sink, b"table line ", line, reason)
+}
+
+/// Puts the refusal of a line of a messages text.
+fn put_messages_text<K: Sink>(text: &mut TextBuffer, sink: &mut K, line: u64, reason: Reason)
+    ensures { Adds K.held K.faults sink.old sink.new text.old text.new (codes "messages line " ++ decimal line ++ 32 ∷ [] ++ reason_name reason) }
+{
+    put_place(text, sink, b"messages line ", line, reason)
+}
+
+/// Puts a number and a word.
+pub fn put_number_and_word<K: Sink>(text: &mut TextBuffer, sink: &mut K, number: u64, word: &[u8])
+    ensures { Adds K.held K.faults sink.old sink.new text.old text.new (decimal number ++ word.now) }
+{
+    text.put_number(sink, number);
+    text.put(sink, word);
+}
+
+/// Puts the number of an item that doesn't fit, and why.
+fn put_item<K: Sink>(text: &mut TextBuffer, sink: &mut K, error: FitError)
+    ensures { Adds K.held K.faults sink.old sink.new text.old text.new (fit_words error) }
+{
+    match error {
+        FitError::Stranger(item) => put_number_and_word(text, sink, item, b" Stranger"),
+        FitError::Shape(item) => put_number_and_word(text, sink, item, b" Shape"),
+    }
+}
+
+/// Puts the refusal of an item.
+fn put_unfit<K: Sink>(text: &mut TextBuffer, sink: &mut K, error: FitError)
+    ensures { Adds K.held K.faults sink.old sink.new text.old text.new (codes "messages item " ++ fit_words error) }
+{
+    text.put(sink, b"messages item ");
+    put_item(text, sink, error);
+}
+
+/// Puts the refusal of a line of a trace.
+fn put_trace_text<K: Sink>(text: &mut TextBuffer, sink: &mut K, byte: u64, reason: TraceReason)
+    ensures { Adds K.held K.faults sink.old sink.new text.old text.new (codes "trace byte " ++ decimal byte ++ 32 ∷ [] ++ trace_reason_name reason) }
+{
+    put_numbered(text, sink, b"trace byte ", byte);
+    text.put_byte(sink, b' ');
+    put_trace_reason(text, sink, reason);
+}
+
+/// Puts why a table is refused as a whole.
+fn put_table_whole<K: Sink>(text: &mut TextBuffer, sink: &mut K, reason: WholeReason)
+    ensures { Adds K.held K.faults sink.old sink.new text.old text.new (codes "table " ++ whole_words reason) }
+{
+    text.put(sink, b"table ");
+    put_whole(text, sink, reason);
+}
+
+/// Puts what a fault line says behind the status.
+fn put_words<R: Refusal, K: Sink>(text: &mut TextBuffer, sink: &mut K, outcome: &Outcome<R>)
+    ensures { Adds K.held K.faults sink.old sink.new text.old text.new (fault_words outcome.now) }
+{
+    match *outcome {
+        Outcome::Done | Outcome::Answered | Outcome::Own { .. } => text.put(sink, b""),
+        Outcome::Usage => text.put(sink, b"usage"),
+        Outcome::TableText { line, reason } => put_table_text(text, sink, line, reason),
+        Outcome::TableWhole(reason) => put_table_whole(text, sink, reason),
+        Outcome::MessagesText { line, reason } => put_messages_text(text, sink, line, reason),
+        Outcome::Unfit(error) => put_unfit(text, sink, error),
+        Outcome::TraceText { byte, reason } => put_trace_text(text, sink, byte, reason),
+        Outcome::ReadFault { source } => put_numbered(text, sink, b"read ", u64::from(source)),
+        Outcome::WriteFault => text.put(sink, b"write"),
+        Outcome::NoMemory => text.put(sink, b"memory"),
+        Outcome::TooLarge { source } => put_numbered(text, sink, b"large ", u64::from(source)),
+    }
+}
+
+/// Puts the number with which the process ends.
+fn put_status<K: Sink>(text: &mut TextBuffer, sink: &mut K, status: Status)
+    ensures { Adds K.held K.faults sink.old sink.new text.old text.new (decimal (number_of status)) }
+{
+    text.put_number(sink, status.number())
+}
+
+/// Puts the front of a fault line: the number with which the process ends.
+pub fn put_error<K: Sink>(text: &mut TextBuffer, sink: &mut K, status: Status)
+    ensures { Adds K.held K.faults sink.old sink.new text.old text.new (error_head status) }
+{
+    text.put(sink, b"ERROR ");
+    put_status(text, sink, status);
+    text.put_byte(sink, b' ');
+}
+
+/// Puts the front of the line of an outcome.
+fn put_head<R: Refusal, K: Sink>(text: &mut TextBuffer, sink: &mut K, outcome: &Outcome<R>)
+    ensures { Adds K.held K.faults sink.old sink.new text.old text.new (error_head (status_of R.ends outcome.now)) }
+{
+    put_error(text, sink, outcome.status())
+}
+
+/// Puts the line of an outcome whose answer isn't written.
+fn put_error_line<R: Refusal, K: Sink>(text: &mut TextBuffer, sink: &mut K, outcome: &Outcome<R>)
+    ensures { Adds K.held K.faults sink.old sink.new text.old text.new
+        (error_line (status_of R.ends outcome.now) (fault_words outcome.now)) }
+{
+    put_head(text, sink, outcome);
+    put_words(text, sink, outcome);
+    text.put_byte(sink, b'\n');
+}
+
+/// Puts the line of an outcome that is no refusal of the program's own; nothing where the answer is written.
+fn put_plain_line<R: Refusal, K: Sink>(text: &mut TextBuffer, sink: &mut K, outcome: &Outcome<R>)
+    ensures { Adds K.held K.faults sink.old sink.new text.old text.new (plain_line R.ends outcome.now) }
+{
+    if outcome.is_written() {
+        text.put(sink, b"");
+    } else {
+        put_error_line(text, sink, outcome);
+    }
+}
+
+/// Writes the line of an outcome that is no refusal of the program's own.
+fn plain_text<R: Refusal, K: Sink>(outcome: &Outcome<R>, err: &mut K) -> Result<(), WriteFault>
+    ensures { WritesText K.held K.faults err.old err.new result (plain_line R.ends outcome.now) }
+{
+    let mut text = TextBuffer::new();
+    put_plain_line(&mut text, err, outcome);
+    text.finish(err)
+}
+
+/// Writes the line of an outcome: nothing where the answer is written, its own where the program refuses something of its own, else the
+/// ERROR line. It takes no memory. After a `WriteFault`, which comes only where the sink's count of faults rose, the sink has taken a
+/// beginning of the line.
+pub fn outcome_text<R: Refusal, K: Sink>(
+    outcome: &Outcome<R>,
+    err: &mut K,
+) -> Result<(), WriteFault>
+    ensures { WritesText K.held K.faults err.old err.new result (fault_line R.ends R.line outcome.now) }
+{
+    match outcome.own() {
+        None => plain_text(outcome, err),
+        Some(why) => why.write_line(err),
+    }
+}

@@ -1,0 +1,113 @@
+-- A call that acts as it should keeps what `tool` promises.
+use Rattle.std.specs.Prelude.{◌≡◌, ℕ, ◌≤◌, true, ◌&&◌, nat_le, IsTrue, List, [], ◌∷◌, codes, Some, None}
+use Rattle.std.proofs.Common.{arith, refl, sym, ap, ◌∙◌, subst, cond}
+use Rattle.std.proofs.lemmas.Bool.Decides.{nat_tests}
+use Rattle.bus_text.specs.Numbers.{IsDecimal, is_plain_decimal, decimal_value}
+use Rattle.bus_table.specs.Tables.{Table}
+use Rattle.bus_trace.specs.Traces.{Recording}
+use Rattle.bus_audit.specs.Breaches.{answer_of}
+use Rattle.bus_audit.specs.Breaches.{TheAnswer}
+use Rattle.bus_audit.specs.Meaning.{LawfulIsRight}
+use Rattle.bus_medium.specs.LawfulLaws.{OneListOfATable}
+use Rattle.bus_regime.specs.Lines.{verdict_line}
+use Rattle.bus_regime.specs.Verdicts.{verdict_of}
+use Rattle.bus_schedule.specs.Laws.{TheSettledAreAccepted, TheRefusedFail, WitnessesAreEven, EvenHandsAgree}
+use Rattle.bus_vectors.specs.Made.{most_number}
+use Rattle.bus_vote.specs.VoteLaws.{VotedAreWritten, ListsAreFixedByTwo, RunsAreVoted}
+use Rattle.bus_command.specs.Claims.{IsOfTable, IsOfTraced}
+use Rattle.bus_command.specs.Outside.{Call}
+use Rattle.bus_command.specs.Readers.{no_source}
+use Rattle.bus_command.specs.declared.outcome.Outcome.TheVariants.{Done}
+use Rattle.bus_command.proofs.ClaimLemmas.{answers, does_of}
+use Rattle.bus_command.proofs.LawTypes.{FittingItemsGiveHands}
+use Rattle.bus_tool.specs.Acts.{tool_program, Acts}
+use Rattle.bus_tool.specs.DrillClaims.{IsDrillOf, GivesDrill}
+use Rattle.bus_tool.specs.Drills.{drill_line}
+use Rattle.bus_tool.specs.Forms.{Drill, Check, Witness, Tidy, Report, Receive, Audit, Vote, form_of, two_words}
+use Rattle.bus_tool.specs.Promises.{Promises}
+use Rattle.bus_tool.specs.Refusals.{Outcome, ends_of, status_of}
+use Rattle.bus_tool.specs.TableClaims.{GivesVerdict, TellsSettled}
+use Rattle.bus_tool.specs.TraceClaims.{GivesFinding, GivesVotes}
+use Rattle.bus_tool.proofs.AnswerLaws.{written_audit}
+use Rattle.bus_tool.proofs.CheckClaim.{told_settled}
+use Rattle.bus_tool.proofs.DropClaim.{drop_claim}
+use Rattle.bus_tool.proofs.GroupClaims.{ReadLaws, table_comes, trace_comes}
+use Rattle.bus_tool.proofs.ObserveClaim.{observe_claim}
+use Rattle.bus_tool.proofs.PlanClaim.{PlanLaws, plan_claim}
+use Rattle.bus_tool.proofs.RunClaim.{run_claim}
+use Rattle.bus_tool.proofs.WaveClaim.{WaveLaws, wave_claim, unwave_claim}
+
+-- the laws by which it does
+pub record PromiseLaws : Type 0 where
+  pub plan : PlanLaws
+  pub wave : WaveLaws
+  pub exact : TheSettledAreAccepted
+  pub fails : TheRefusedFail
+  pub even : WitnessesAreEven
+  pub give_hands : FittingItemsGiveHands
+  pub one_list : OneListOfATable
+  pub even_agree : EvenHandsAgree
+  pub answer : TheAnswer
+  pub right : LawfulIsRight
+  pub written : VotedAreWritten
+  pub two : ListsAreFixedByTwo
+  pub voted : RunsAreVoted
+
+-- ---- `drill`
+drill_form : (word : List ℕ) (number : ℕ) → IsDecimal word number → number ≤ most_number → two_words (codes "drill") word ≡ Some (Drill number)
+drill_form word number d within =
+    let plain : is_plain_decimal word ≡ true = d.plain in
+    let low : nat_le (decimal_value word) most_number ≡ true = grind (arith, nat_tests, d.value) in
+    ap (λ b. cond (b && nat_le (decimal_value word) most_number) (Some (Drill (decimal_value word))) None) plain
+    ∙ ap (λ b. cond b (Some (Drill (decimal_value word))) None) low ∙ ap (λ n. Some (Drill n)) d.value
+
+drill_claim : (call : Call) (outcome : Outcome) (number : ℕ) → Acts call outcome → IsDrillOf number call → GivesDrill number call (status_of outcome)
+drill_claim call outcome number acts h =
+    let does = does_of tool_program call outcome (Drill number) (ap form_of h.form.form ∙ drill_form h.form.word number h.form.spelled h.form.within) acts in
+    let due : Outcome = Done in
+    answers ends_of no_source due outcome _ (λ text. text ≡ drill_line number) call refl (λ text is. is) does.due does.text does.counts
+    does.out_count h.undisturbed
+
+-- ---- the commands with laws of their own
+check_claim : PromiseLaws → (call : Call) (outcome : Outcome) (table : Table) → Acts call outcome → IsOfTable (codes "check") table call
+    → GivesVerdict table call (status_of outcome) × TellsSettled table (status_of outcome)
+check_claim laws call outcome table acts h =
+    let gives = table_comes laws.plan.texts Check (codes "check") call outcome table (λ text. text ≡ verdict_line (verdict_of table)) (λ path. refl) tt (λ text is. is) acts h in
+    (gives, told_settled laws.exact laws.fails laws.even table call (status_of outcome) h.table_told.valid gives)
+
+audit_claim : PromiseLaws → (call : Call) (outcome : Outcome) (table : Table) (trace : Recording) → Acts call outcome
+    → IsOfTraced (codes "audit") [] table trace call → GivesFinding table trace call (status_of outcome)
+audit_claim laws call outcome table trace acts h =
+    let is = h.trace_told.stands.text.trace in (
+      answer_of table trace,
+      record { first = laws.answer table trace h.table_told.valid is; right = laws.right table trace h.table_told.valid is },
+      trace_comes laws.plan.texts Audit (codes "audit") call outcome table trace (λ a b. refl) (written_audit (answer_of table trace)) acts h,
+    )
+
+vote_claim : PromiseLaws → (call : Call) (outcome : Outcome) (table : Table) (trace : Recording) → Acts call outcome
+    → IsOfTraced (codes "vote") [] table trace call → GivesVotes table trace call (status_of outcome)
+vote_claim laws call outcome table trace acts h = (
+  trace_comes laws.plan.texts Vote (codes "vote") call outcome table trace (λ a b. refl) refl acts h,
+  laws.written trace.list,
+  laws.two trace.list,
+  laws.voted table trace.list h.table_told.valid,
+)
+
+-- ---- all of them
+pub keeps : PromiseLaws → (call : Call) (outcome : Outcome) → Acts call outcome → Promises call (status_of outcome)
+keeps laws call outcome acts = record {
+  check = λ table h. check_claim laws call outcome table acts h;
+  witness = λ table h. table_comes laws.plan.texts Witness (codes "witness") call outcome table _ (λ path. refl) tt (λ text is. is) acts h;
+  tidy = λ table h. table_comes laws.plan.texts Tidy (codes "tidy") call outcome table _ (λ path. refl) tt (λ text is. is) acts h;
+  plan = λ table h. plan_claim laws.plan call outcome table acts h;
+  report = λ table h. table_comes laws.plan.texts Report (codes "report") call outcome table _ (λ path. refl) tt (λ text is. is) acts h;
+  drill = λ number h. drill_claim call outcome number acts h;
+  observe = λ table items until h. observe_claim laws.plan.texts laws.give_hands laws.one_list call outcome table items until acts h;
+  run = λ table items h. run_claim laws.plan.texts laws.give_hands laws.even_agree call outcome table items acts h;
+  drop = λ table items h. drop_claim laws.plan.texts laws.give_hands call outcome table items acts h;
+  receive = λ table trace h. trace_comes laws.plan.texts Receive (codes "receive") call outcome table trace (λ a b. refl) refl acts h;
+  audit = λ table trace h. audit_claim laws call outcome table trace acts h;
+  vote = λ table trace h. vote_claim laws call outcome table trace acts h;
+  wave = λ table trace h. wave_claim laws.wave call outcome table trace acts h;
+  unwave = λ table trace h. unwave_claim laws.wave call outcome table trace acts h;
+}

@@ -1,5 +1,0 @@
-use Rattle.bus_outer.proofs.TextLaws.{adds_then}
-use Rattle.bus_tool.proofs.fault_line.put_doubled.Goals as goal
-
-pub returns : goal.returns
-returns g c = adds_then c.put.ensures c.put_number_and_word.ensures

@@ -1,0 +1,49 @@
+-- What `tool` promises of texts that are right.
+use Rattle.std.specs.Prelude.{◌≡◌, ℕ, List, [], codes}
+use Rattle.bus_strings.specs.Items.{Item}
+use Rattle.bus_table.specs.Tables.{Table}
+use Rattle.bus_trace.specs.Traces.{Recording}
+use Rattle.bus_filter.specs.ReceivedTexts.{received_text}
+use Rattle.bus_command.specs.Claims.{Answers, IsOfTable, IsOfTraced}
+use Rattle.bus_command.specs.Outside.{Call}
+use Rattle.bus_command.specs.declared.status.Status.{Status}
+use Rattle.bus_command.specs.declared.status.Status.TheVariants.{Done}
+use Rattle.bus_tool.specs.DrillClaims.{IsDrillOf, GivesDrill}
+use Rattle.bus_tool.specs.DropClaims.{IsDropOf, GivesDrop}
+use Rattle.bus_tool.specs.ObserveClaims.{IsObserveOf, GivesTrace}
+use Rattle.bus_tool.specs.PlanClaims.{IsPlanCallOf, GivesPlan}
+use Rattle.bus_tool.specs.RunClaims.{IsRunOf, GivesRun}
+use Rattle.bus_tool.specs.TableClaims.{GivesVerdict, TellsSettled, GivesTidied, GivesReport, GivesWitness}
+use Rattle.bus_tool.specs.TraceClaims.{GivesReceived, GivesFinding, GivesVotes}
+use Rattle.bus_tool.specs.WaveClaims.{GivesWave, IsUnwaveOf, GivesUnwaved}
+
+-- What a call promises whose texts are right and in which nothing outside fails; each command answers so, or memory was refused:
+--   check     the verdict line of a valid table; status 0 comes only for a settled table, status 1 only for one that isn't
+--   witness   the messages of its witness
+--   tidy      its canonical text
+--   plan      of a periodic table: the planned table, which is accepted, or that no offsets are
+--   report    its report, and the status of its verdict
+--   drill     the line of that drill
+--   observe   of items that fit: the one trace
+--   run       of items that fit an accepted table, as many for each sender: the one trace, which is the closed schedule
+--   drop      of items that fit an accepted aperiodic table, whose last cycle is long enough: the one trace, which is the drop-out schedule
+--   receive   of a trace: what each terminal receives
+--   audit     what an audit finds
+--   vote      the votes; two equal channels fix a vote, and of the trace of a run every round is voted, from the words of the hands
+--   wave      of a spaced trace: its wave text; the trace of a run is spaced, and read from it; two with the same wave are equal
+--   unwave    of the wave text of a trace: the text of the trace
+pub record Promises (call : Call) (status : Status) : Type 0 where
+  pub check : (table : Table) → IsOfTable (codes "check") table call → GivesVerdict table call status × TellsSettled table status
+  pub witness : (table : Table) → IsOfTable (codes "witness") table call → GivesWitness table call status
+  pub tidy : (table : Table) → IsOfTable (codes "tidy") table call → GivesTidied table call status
+  pub plan : (table : Table) → IsPlanCallOf table call → GivesPlan table call status
+  pub report : (table : Table) → IsOfTable (codes "report") table call → GivesReport table call status
+  pub drill : (number : ℕ) → IsDrillOf number call → GivesDrill number call status
+  pub observe : (table : Table) (items : List Item) (until : ℕ) → IsObserveOf table items until call → GivesTrace table items until call status
+  pub run : (table : Table) (items : List Item) → IsRunOf table items call → GivesRun table items call status
+  pub drop : (table : Table) (items : List Item) → IsDropOf table items call → GivesDrop table items call status
+  pub receive : (table : Table) (trace : Recording) → IsOfTraced (codes "receive") [] table trace call → GivesReceived table trace call status
+  pub audit : (table : Table) (trace : Recording) → IsOfTraced (codes "audit") [] table trace call → GivesFinding table trace call status
+  pub vote : (table : Table) (trace : Recording) → IsOfTraced (codes "vote") [] table trace call → GivesVotes table trace call status
+  pub wave : (table : Table) (trace : Recording) → IsOfTraced (codes "wave") [] table trace call → GivesWave table trace call status
+  pub unwave : (table : Table) (trace : Recording) → IsUnwaveOf table trace call → GivesUnwaved table trace call status

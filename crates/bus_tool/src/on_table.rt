@@ -1,0 +1,47 @@
+//! The commands on a table.
+ghost use Rattle.std.specs.Prelude.{◌≡◌};
+ghost use Rattle.bus_command.specs.Outside.{Seen, beside};
+ghost use Rattle.bus_tool.specs.Acts.{DoesForm, EndsOnTable, IsOfMode};
+ghost use Rattle.bus_tool.specs.Forms.{OnTable, table_mode};
+
+use crate::check::check;
+use crate::forms::TableCommand;
+use crate::inputs::take_table_for;
+use crate::plan::plan;
+use crate::refusal::Outcome;
+use crate::report::report;
+use crate::witness::witness;
+use bus_command::after_writing;
+use bus_outer::{Sink, Source};
+use bus_table::{Table, write_table};
+use std::alloc::Global;
+
+/// Answers a command to a table. All the memory of the command is taken before its first written byte.
+fn answer<K: Sink>(alloc: Global, command: TableCommand, table: &Table, out: &mut K) -> Outcome
+    requires mode { IsOfMode (table_mode command) table.now }
+    ensures { EndsOnTable ⟦<K as Sink>⟧ command table.now out.old out.new result }
+{
+    match command {
+        TableCommand::Check => check(table, out),
+        TableCommand::Tidy => after_writing(write_table(table, out), Outcome::Done),
+        TableCommand::Report => report(alloc, table, out),
+        TableCommand::Witness => witness(alloc, table, out),
+        TableCommand::Plan => plan(alloc, table, out),
+    }
+}
+
+/// Does a command on the table in the first source, of which it may need one mode.
+pub fn on_table<S: Source, K: Sink>(
+    alloc: Global,
+    command: TableCommand,
+    first: &mut S,
+    out: &mut K,
+) -> Outcome
+    ensures { (second : Seen) → DoesForm (OnTable command) (beside ⟦<S as Source>⟧ ⟦<K as Sink>⟧ first.old second out.old)
+        (beside ⟦<S as Source>⟧ ⟦<K as Sink>⟧ first.new second out.new) result }
+{
+    match take_table_for(alloc, command.mode(), first) {
+        Ok(table) => answer(alloc, command, &table, out),
+        Err(outcome) => outcome,
+    }
+}

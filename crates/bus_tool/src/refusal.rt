@@ -1,0 +1,304 @@
+//! What bus629 refuses beside what every command does.
+ghost use Rattle.std.specs.Prelude.{◌≡◌, ◌++◌, codes, decimal, List, [], ◌∷◌};
+ghost use Rattle.bus_command.specs.Outcomes.{error_line};
+ghost use Rattle.bus_outer.specs.Sinks.{WritesText};
+ghost use Rattle.bus_outer.specs.Texts.{Adds};
+ghost use Rattle.bus_regime.specs.Lines.{mode_name};
+ghost use Rattle.bus_tool.specs.Due.{uneven_refusal};
+ghost use Rattle.bus_tool.specs.Refusals as refusals;
+ghost use Rattle.bus_tool.specs.Refusals.{count_words, ends_of, entry_words, line_of, place_of, short_last_line, uneven_words};
+ghost use Rattle.bus_tool.specs.Refusals.{wave_reason_name};
+
+use bus_command::{Place, Refusal, Status, put_error, put_number_and_word, put_numbered};
+use bus_outer::{Sink, TextBuffer, WriteFault};
+use bus_regime::{TableVerdict, write_verdict};
+use bus_schedule::Uneven;
+use bus_table::Mode;
+use bus_wave::{WaveFault, WaveReason};
+
+/// What bus629 refuses beside what every command does.
+#[derive(Clone, Copy, Debug, PartialEq, Eq)]
+pub enum ToolRefusal {
+    /// The table isn't of the mode that the command needs, which is this one.
+    TableMode {
+        needed: Mode,
+    },
+    /// The trace of the second text isn't spaced for the table: its first entry at fault, counted from 0, and what is wrong with it.
+    Unspaced(WaveFault),
+    /// The second text is no wave text of a trace that is spaced for the table: the offending line, counted from 1, and why.
+    WaveText {
+        line: u64,
+        reason: WaveReason,
+    },
+    /// Two senders have different numbers of messages: the first in turn order, and the first behind it whose number is another.
+    Uneven {
+        one: u8,
+        one_count: u64,
+        other: u8,
+        other_count: u64,
+    },
+    /// The table isn't accepted, so that its senders aren't run: its verdict.
+    NotAccepted(TableVerdict),
+    /// The last cycle, of the senders with the most messages, is shorter than the transmit interval: both, in bit times.
+    ShortLast {
+        least: u64,
+        ti: u64,
+    },
+    /// The schedule ends at this moment, which is above the limit.
+    TooLong {
+        end: u128,
+    },
+}
+
+/// What a command of bus629 came to.
+pub type Outcome = bus_command::Outcome<ToolRefusal>;
+
+impl ToolRefusal {
+    /// Where it stands in the order of refusals.
+    pub fn place(&self) -> Place
+        ensures { result ≡ place_of self.now }
+    {
+        match self {
+            ToolRefusal::TableMode { .. } => Place::First,
+            ToolRefusal::Unspaced(_) | ToolRefusal::WaveText { .. } => Place::Second,
+            ToolRefusal::Uneven { .. }
+            | ToolRefusal::NotAccepted(_)
+            | ToolRefusal::ShortLast { .. }
+            | ToolRefusal::TooLong { .. } => Place::Behind,
+        }
+    }
+}
+
+/// What a command comes to that refuses so.
+pub fn refuse(why: ToolRefusal) -> Outcome
+    ensures { result ≡ refusals.refuse why }
+{
+    Outcome::Own {
+        place: why.place(),
+        why,
+    }
+}
+
+/// What a command comes to whose senders haven't as many messages each.
+pub fn refuse_uneven(uneven: Uneven) -> Outcome
+    ensures { result ≡ uneven_refusal uneven }
+{
+    refuse(ToolRefusal::Uneven {
+        one: uneven.one,
+        one_count: uneven.one_count,
+        other: uneven.other,
+        other_count: uneven.other_count,
+    })
+}
+
+impl Refusal for ToolRefusal {
+    ghost ends = { ends_of };
+
+    ghost line = { line_of };
+
+    fn status(&self) -> Status {
+        match self {
+            ToolRefusal::TableMode { .. } => Status::TableRefused,
+            ToolRefusal::Unspaced(_) | ToolRefusal::WaveText { .. } | ToolRefusal::Uneven { .. } =>
+                Status::InputRefused,
+            ToolRefusal::NotAccepted(_) | ToolRefusal::ShortLast { .. } => Status::Refused,
+            ToolRefusal::TooLong { .. } => Status::TooLong,
+        }
+    }
+
+    fn write_line<K: Sink>(&self, err: &mut K) -> Result<(), WriteFault> {
+        match *self {
+            ToolRefusal::TableMode { needed } => write_table_mode(needed, err),
+            ToolRefusal::Unspaced(fault) => write_unspaced(fault, err),
+            ToolRefusal::WaveText { line, reason } => write_wave_text(line, reason, err),
+            ToolRefusal::Uneven {
+                one,
+                one_count,
+                other,
+                other_count,
+            } => write_uneven(one, one_count, other, other_count, err),
+            ToolRefusal::NotAccepted(verdict) => write_verdict(&verdict, err),
+            ToolRefusal::ShortLast { least, ti } => write_short_last(least, ti, err),
+            ToolRefusal::TooLong { end } => write_too_long(end, err),
+        }
+    }
+}
+
+/// Puts the word of a mode.
+fn put_mode<K: Sink>(text: &mut TextBuffer, sink: &mut K, mode: Mode)
+    ensures { Adds K.held K.faults sink.old sink.new text.old text.new (mode_name mode) }
+{
+    match mode {
+        Mode::Aperiodic => text.put(sink, b"aperiodic"),
+        Mode::Periodic => text.put(sink, b"periodic"),
+    }
+}
+
+/// Puts that a table isn't of the mode that is needed.
+fn put_table_mode<K: Sink>(text: &mut TextBuffer, sink: &mut K, needed: Mode)
+    ensures { Adds K.held K.faults sink.old sink.new text.old text.new (codes "table mode " ++ mode_name needed) }
+{
+    text.put(sink, b"table mode ");
+    put_mode(text, sink, needed);
+}
+
+/// Writes that a table isn't of the mode that is needed.
+fn write_table_mode<K: Sink>(needed: Mode, sink: &mut K) -> Result<(), WriteFault>
+    ensures { WritesText K.held K.faults sink.old sink.new result (line_of (refusals.TableMode needed)) }
+{
+    let mut text = TextBuffer::new();
+    put_error(&mut text, sink, Status::TableRefused);
+    put_table_mode(&mut text, sink, needed);
+    text.put_byte(sink, b'\n');
+    text.finish(sink)
+}
+
+/// Puts an entry of a trace that isn't spaced, and what is wrong with it.
+fn put_entry<K: Sink>(text: &mut TextBuffer, sink: &mut K, fault: WaveFault)
+    ensures { Adds K.held K.faults sink.old sink.new text.old text.new (entry_words fault) }
+{
+    match fault {
+        WaveFault::Stranger(k) => put_number_and_word(text, sink, k, b" Stranger"),
+        WaveFault::Misfit(k) => put_number_and_word(text, sink, k, b" Misfit"),
+        WaveFault::Close(k) => put_number_and_word(text, sink, k, b" Close"),
+        WaveFault::Cut(k) => put_number_and_word(text, sink, k, b" Cut"),
+    }
+}
+
+/// Puts the refusal of a trace that isn't spaced.
+fn put_unspaced<K: Sink>(text: &mut TextBuffer, sink: &mut K, fault: WaveFault)
+    ensures { Adds K.held K.faults sink.old sink.new text.old text.new (codes "wave entry " ++ entry_words fault) }
+{
+    text.put(sink, b"wave entry ");
+    put_entry(text, sink, fault);
+}
+
+/// Writes the refusal of a trace that isn't spaced.
+fn write_unspaced<K: Sink>(fault: WaveFault, sink: &mut K) -> Result<(), WriteFault>
+    ensures { WritesText K.held K.faults sink.old sink.new result (line_of (refusals.Unspaced fault)) }
+{
+    let mut text = TextBuffer::new();
+    put_error(&mut text, sink, Status::InputRefused);
+    put_unspaced(&mut text, sink, fault);
+    text.put_byte(sink, b'\n');
+    text.finish(sink)
+}
+
+/// Puts the word of a reason against a line of a wave.
+fn put_wave_reason<K: Sink>(text: &mut TextBuffer, sink: &mut K, reason: WaveReason)
+    ensures { Adds K.held K.faults sink.old sink.new text.old text.new (wave_reason_name reason) }
+{
+    match reason {
+        WaveReason::Ended => text.put(sink, b"Ended"),
+        WaveReason::Keyword => text.put(sink, b"Keyword"),
+        WaveReason::Fields => text.put(sink, b"Fields"),
+        WaveReason::Spelling => text.put(sink, b"Spelling"),
+        WaveReason::Code => text.put(sink, b"Code"),
+        WaveReason::Parity => text.put(sink, b"Parity"),
+        WaveReason::Range => text.put(sink, b"Range"),
+        WaveReason::Order => text.put(sink, b"Order"),
+    }
+}
+
+/// Puts the refusal of a line of a wave.
+fn put_wave_text<K: Sink>(text: &mut TextBuffer, sink: &mut K, line: u64, reason: WaveReason)
+    ensures { Adds K.held K.faults sink.old sink.new text.old text.new
+        (codes "wave line " ++ decimal line ++ 32 ∷ [] ++ wave_reason_name reason) }
+{
+    put_numbered(text, sink, b"wave line ", line);
+    text.put_byte(sink, b' ');
+    put_wave_reason(text, sink, reason);
+}
+
+/// Writes the refusal of a line of a wave.
+fn write_wave_text<K: Sink>(line: u64, reason: WaveReason, sink: &mut K) -> Result<(), WriteFault>
+    ensures { WritesText K.held K.faults sink.old sink.new result (line_of (refusals.WaveText line reason)) }
+{
+    let mut text = TextBuffer::new();
+    put_error(&mut text, sink, Status::InputRefused);
+    put_wave_text(&mut text, sink, line, reason);
+    text.put_byte(sink, b'\n');
+    text.finish(sink)
+}
+
+/// Puts a terminal and how many messages it has.
+fn put_count<K: Sink>(text: &mut TextBuffer, sink: &mut K, terminal: u8, count: u64)
+    ensures { Adds K.held K.faults sink.old sink.new text.old text.new (count_words terminal count) }
+{
+    text.put_number(sink, terminal);
+    text.put_byte(sink, b' ');
+    text.put_number(sink, count);
+}
+
+/// Puts two senders that have different numbers of messages.
+fn put_uneven<K: Sink>(
+    text: &mut TextBuffer,
+    sink: &mut K,
+    one: u8,
+    one_count: u64,
+    other: u8,
+    other_count: u64,
+)
+    ensures { Adds K.held K.faults sink.old sink.new text.old text.new (uneven_words one one_count other other_count) }
+{
+    text.put(sink, b"messages uneven ");
+    put_count(text, sink, one, one_count);
+    text.put_byte(sink, b' ');
+    put_count(text, sink, other, other_count);
+}
+
+/// Writes two senders that have different numbers of messages.
+fn write_uneven<K: Sink>(
+    one: u8,
+    one_count: u64,
+    other: u8,
+    other_count: u64,
+    sink: &mut K,
+) -> Result<(), WriteFault>
+    ensures { WritesText K.held K.faults sink.old sink.new result (line_of (refusals.Uneven one one_count other other_count)) }
+{
+    let mut text = TextBuffer::new();
+    put_error(&mut text, sink, Status::InputRefused);
+    put_uneven(&mut text, sink, one, one_count, other, other_count);
+    text.put_byte(sink, b'\n');
+    text.finish(sink)
+}
+
+/// Puts the line of a last cycle that is shorter than the transmit interval.
+fn put_short_last<K: Sink>(text: &mut TextBuffer, sink: &mut K, least: u64, ti: u64)
+    ensures { Adds K.held K.faults sink.old sink.new text.old text.new (short_last_line least ti) }
+{
+    text.put(sink, b"REFUSE short-last ");
+    text.put_number(sink, least);
+    text.put_byte(sink, b' ');
+    text.put_number(sink, ti);
+    text.put_byte(sink, b'\n');
+}
+
+/// Writes the line of a last cycle that is shorter than the transmit interval.
+fn write_short_last<K: Sink>(least: u64, ti: u64, sink: &mut K) -> Result<(), WriteFault>
+    ensures { WritesText K.held K.faults sink.old sink.new result (line_of (refusals.ShortLast least ti)) }
+{
+    let mut text = TextBuffer::new();
+    put_short_last(&mut text, sink, least, ti);
+    text.finish(sink)
+}
+
+/// Puts the end of a schedule that is too long.
+fn put_too_long<K: Sink>(text: &mut TextBuffer, sink: &mut K, end: u128)
+    ensures { Adds K.held K.faults sink.old sink.new text.old text.new (codes "long " ++ decimal end) }
+{
+    text.put(sink, b"long ");
+    text.put_number(sink, end);
+}
+
+/// Writes the end of a schedule that is too long.
+fn write_too_long<K: Sink>(end: u128, sink: &mut K) -> Result<(), WriteFault>
+    ensures { WritesText K.held K.faults sink.old sink.new result (line_of (refusals.TooLong end)) }
+{
+    let mut text = TextBuffer::new();
+    put_error(&mut text, sink, Status::TooLong);
+    put_too_long(&mut text, sink, end);
+    text.put_byte(sink, b'\n');
+    text.finish(sink)
+}
