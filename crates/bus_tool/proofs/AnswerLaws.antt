@@ -27,7 +27,7 @@ use Rattle.bus_command.specs.Stages.{stage_in}
 use Rattle.bus_command.proofs.StageLaws.{stage_with, then_stage}
 use Rattle.bus_tool.specs.Due.{verdict_outcome, plan_outcome, audit_outcome, spaced_outcome, table_answer, messages_answer, trace_answer}
 use Rattle.bus_tool.specs.Due.{even_due, accepted_due, short_due, last_due, may_run, can_run, may_drop, can_drop}
-use Rattle.bus_tool.specs.Forms.{TableCommand, Check, Tidy, Report, Witness, Plan, MessagesCommand, Observe, Run, Drop}
+use Rattle.bus_tool.specs.Forms.{TableCommand, Check, Tolerance, Tidy, Report, Witness, Plan, MessagesCommand, Observe, Run, Drop}
 use Rattle.bus_tool.specs.Forms.{TraceCommand, Receive, Audit, Vote, Wave}
 use Rattle.bus_tool.specs.Refusals.{Outcome, refuse, NotAccepted, ShortLast, TooLong}
 
@@ -48,6 +48,7 @@ written_audit (Breach moment terminal kind) = refl
 
 pub table_answered : (command : TableCommand) (table : Table) → kind_of (table_answer command table) ≡ Answer
 table_answered Check table = written_verdict (verdict_of table)
+table_answered Tolerance table = written_verdict (verdict_of table)
 table_answered Tidy table = refl
 table_answered Report table = written_verdict (verdict_of table)
 table_answered Witness table = refl

@@ -29,7 +29,7 @@ use Rattle.bus_tool.specs.Acts.{tool_program}
 use Rattle.bus_tool.specs.Causes.{Cause, DifferAs, IsRefusal, IsShortLast, IsLongEnd}
 use Rattle.bus_tool.specs.Due.{table_for, verdict_outcome, plan_outcome, audit_outcome, spaced_outcome, can_run, can_drop, unwave_due, wave_trace_due}
 use Rattle.bus_tool.specs.Due.{table_answer, messages_answer, inputs_answer, trace_answer, traced_answer, unwave_answer, form_due}
-use Rattle.bus_tool.specs.Forms.{Form, OnTable, OnMessages, OnTrace, Unwave, Drill, TableCommand, Check, Tidy, Report, Witness, Plan}
+use Rattle.bus_tool.specs.Forms.{Form, OnTable, OnMessages, OnTrace, Unwave, Drill, TableCommand, Check, Tolerance, Tidy, Report, Witness, Plan}
 use Rattle.bus_tool.specs.Forms.{MessagesCommand, Observe, Run, Drop, TraceCommand, Receive, Audit, Vote, Wave, table_mode, messages_mode}
 use Rattle.bus_tool.specs.Refusals.{Outcome, ToolRefusal, refuse, Unspaced}
 use Rattle.bus_tool.proofs.AnswerLaws.{done_with}
@@ -60,6 +60,7 @@ audit_cause form first second (Breach moment terminal kind) = tt
 
 table_answer_cause : (form : Form) (command : TableCommand) (first second : List ℕ) (table : Table) → RefusesTexts (Cause form) (table_answer command table) first second
 table_answer_cause form Check first second table = verdict_cause form first second (verdict_of table)
+table_answer_cause form Tolerance first second table = verdict_cause form first second (verdict_of table)
 table_answer_cause form Tidy first second table = tt
 table_answer_cause form Report first second table = verdict_cause form first second (verdict_of table)
 table_answer_cause form Witness first second table = tt

@@ -23,7 +23,7 @@ use Rattle.bus_command.proofs.LawTypes.{FittingItemsGiveHands}
 use Rattle.bus_tool.specs.Acts.{tool_program, Acts}
 use Rattle.bus_tool.specs.DrillClaims.{IsDrillOf, GivesDrill}
 use Rattle.bus_tool.specs.Drills.{drill_line}
-use Rattle.bus_tool.specs.Forms.{Drill, Check, Witness, Tidy, Report, Receive, Audit, Vote, form_of, two_words}
+use Rattle.bus_tool.specs.Forms.{Drill, Check, Tolerance, Witness, Tidy, Report, Receive, Audit, Vote, form_of, two_words}
 use Rattle.bus_tool.specs.Promises.{Promises}
 use Rattle.bus_tool.specs.Refusals.{Outcome, ends_of, status_of}
 use Rattle.bus_tool.specs.TableClaims.{GivesVerdict, TellsSettled}
@@ -35,6 +35,8 @@ use Rattle.bus_tool.proofs.GroupClaims.{ReadLaws, table_comes, trace_comes}
 use Rattle.bus_tool.proofs.ObserveClaim.{observe_claim}
 use Rattle.bus_tool.proofs.PlanClaim.{PlanLaws, plan_claim}
 use Rattle.bus_tool.proofs.RunClaim.{run_claim}
+use Rattle.bus_tool.proofs.ToleranceClaim.{ToleranceLaws, tells}
+use Rattle.bus_tool.specs.ToleranceClaims.{GivesTolerance}
 use Rattle.bus_tool.proofs.WaveClaim.{WaveLaws, wave_claim, unwave_claim}
 
 -- the laws by which it does
@@ -52,6 +54,7 @@ pub record PromiseLaws : Type 0 where
   pub written : VotedAreWritten
   pub two : ListsAreFixedByTwo
   pub voted : RunsAreVoted
+  pub reach : ToleranceLaws
 
 -- ---- `drill`
 drill_form : (word : List ℕ) (number : ℕ) → IsDecimal word number → number ≤ most_number → two_words (codes "drill") word ≡ Some (Drill number)
@@ -75,6 +78,13 @@ check_claim laws call outcome table acts h =
     let gives = table_comes laws.plan.texts Check (codes "check") call outcome table (λ text. text ≡ verdict_line (verdict_of table)) (λ path. refl) tt (λ text is. is) acts h in
     (gives, told_settled laws.exact laws.fails laws.even table call (status_of outcome) h.table_told.valid gives)
 
+tolerance_claim : PromiseLaws → (call : Call) (outcome : Outcome) (table : Table) → Acts call outcome → IsOfTable (codes "tolerance") table call
+    → GivesTolerance table call (status_of outcome)
+tolerance_claim laws call outcome table acts h = record {
+  gives = table_comes laws.plan.texts Tolerance (codes "tolerance") call outcome table _ (λ path. refl) tt (λ text is. is) acts h;
+  tells = λ accepted. tells laws.reach table h.table_told.valid accepted;
+}
+
 audit_claim : PromiseLaws → (call : Call) (outcome : Outcome) (table : Table) (trace : Recording) → Acts call outcome
     → IsOfTraced (codes "audit") [] table trace call → GivesFinding table trace call (status_of outcome)
 audit_claim laws call outcome table trace acts h =
@@ -97,6 +107,7 @@ vote_claim laws call outcome table trace acts h = (
 pub keeps : PromiseLaws → (call : Call) (outcome : Outcome) → Acts call outcome → Promises call (status_of outcome)
 keeps laws call outcome acts = record {
   check = λ table h. check_claim laws call outcome table acts h;
+  tolerance = λ table h. tolerance_claim laws call outcome table acts h;
   witness = λ table h. table_comes laws.plan.texts Witness (codes "witness") call outcome table _ (λ path. refl) tt (λ text is. is) acts h;
   tidy = λ table h. table_comes laws.plan.texts Tidy (codes "tidy") call outcome table _ (λ path. refl) tt (λ text is. is) acts h;
   plan = λ table h. plan_claim laws.plan call outcome table acts h;

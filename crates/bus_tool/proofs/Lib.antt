@@ -20,6 +20,8 @@ pub mod TextLawLemmas
 pub mod GroupClaims
 pub mod CheckClaim
 pub mod PlanClaim
+pub mod ToleranceLemmas
+pub mod ToleranceClaim
 pub mod ObserveClaim
 pub mod RunClaim
 pub mod DropClaim

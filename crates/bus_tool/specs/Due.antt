@@ -31,7 +31,7 @@ use Rattle.bus_command.specs.declared.inputs.Traced.{Traced}
 use Rattle.bus_command.specs.declared.outcome.Outcome.TheVariants.{Done, Answered, Usage, NoMemory}
 use Rattle.bus_command.specs.Due.{text_within, table_due, table_refusal_of, Inputs, hands_in, inputs_by, traced_by, traced_due, outcome_with}
 use Rattle.bus_command.specs.Stages.{refusal_in}
-use Rattle.bus_tool.specs.Forms.{Form, OnTable, OnMessages, OnTrace, Unwave, Drill, TableCommand, Check, Tidy, Report, Witness, Plan}
+use Rattle.bus_tool.specs.Forms.{Form, OnTable, OnMessages, OnTrace, Unwave, Drill, TableCommand, Check, Tolerance, Tidy, Report, Witness, Plan}
 use Rattle.bus_tool.specs.Forms.{MessagesCommand, Observe, Run, Drop, TraceCommand, Receive, Audit, Vote, Wave}
 use Rattle.bus_tool.specs.Forms.{form_of, wave_limit, table_mode, messages_mode}
 use Rattle.bus_tool.specs.Refusals.{Outcome, refuse, TableMode, Unspaced, WaveText, Uneven, NotAccepted, ShortLast, TooLong}
@@ -150,6 +150,7 @@ spaced_outcome (Err fault) = refuse (Unspaced fault)
 -- What is answered to a table.
 abbrev pub table_answer : TableCommand → Table → Outcome
 table_answer Check table = verdict_outcome (verdict_of table)
+table_answer Tolerance table = verdict_outcome (verdict_of table)
 table_answer Tidy table = Done
 table_answer Report table = verdict_outcome (verdict_of table)
 table_answer Witness table = Done

@@ -10,7 +10,7 @@ use Rattle.bus_command.specs.Readers.{Named, Reader, Entire, Trace, entire, no_s
 pub use Rattle.bus_tool.specs.declared.forms.Form.{Form}
 pub use Rattle.bus_tool.specs.declared.forms.Form.TheVariants.{OnTable, OnMessages, OnTrace, Unwave, Drill}
 pub use Rattle.bus_tool.specs.declared.forms.TableCommand.{TableCommand}
-pub use Rattle.bus_tool.specs.declared.forms.TableCommand.TheVariants.{Check, Tidy, Report, Witness, Plan}
+pub use Rattle.bus_tool.specs.declared.forms.TableCommand.TheVariants.{Check, Tolerance, Tidy, Report, Witness, Plan}
 pub use Rattle.bus_tool.specs.declared.forms.MessagesCommand.{MessagesCommand}
 pub use Rattle.bus_tool.specs.declared.forms.MessagesCommand.TheVariants.{Observe, Run, Drop}
 pub use Rattle.bus_tool.specs.declared.forms.TraceCommand.{TraceCommand}
@@ -24,10 +24,11 @@ is_horizon word = is_plain_decimal word && nat_le (decimal_value word) horizon_l
 abbrev pub is_drill_number : List ℕ → Bool
 is_drill_number word = is_plain_decimal word && nat_le (decimal_value word) most_number
 
--- `check T`, `tidy T`, `report T`, `witness T`, `plan T`, `drill N`
+-- `check T`, `tolerance T`, `tidy T`, `report T`, `witness T`, `plan T`, `drill N`
 abbrev pub two_words : List ℕ → List ℕ → Option Form
 two_words command second =
     if bytes_eq command (codes "check") then Some (OnTable Check)
+    else if bytes_eq command (codes "tolerance") then Some (OnTable Tolerance)
     else if bytes_eq command (codes "tidy") then Some (OnTable Tidy)
     else if bytes_eq command (codes "report") then Some (OnTable Report)
     else if bytes_eq command (codes "witness") then Some (OnTable Witness)
@@ -79,6 +80,7 @@ sources_of (Drill number) = no_source
 -- The mode that a command on a table needs of it.
 abbrev pub table_mode : TableCommand → Option Mode
 table_mode Check = None
+table_mode Tolerance = None
 table_mode Tidy = None
 table_mode Report = None
 table_mode Witness = None

@@ -7,11 +7,13 @@ pub mod PlanTexts
 pub mod Drills
 pub mod DrillLaws
 pub mod Escapes
+pub mod Tolerances
 pub mod Texts
 pub mod Causes
 pub mod Acts
 pub mod InMemory
 pub mod TableClaims
+pub mod ToleranceClaims
 pub mod PlanClaims
 pub mod DrillClaims
 pub mod ObserveClaims

@@ -14,11 +14,13 @@ use Rattle.bus_tool.specs.ObserveClaims.{IsObserveOf, GivesTrace}
 use Rattle.bus_tool.specs.PlanClaims.{IsPlanCallOf, GivesPlan}
 use Rattle.bus_tool.specs.RunClaims.{IsRunOf, GivesRun}
 use Rattle.bus_tool.specs.TableClaims.{GivesVerdict, TellsSettled, GivesTidied, GivesReport, GivesWitness}
+use Rattle.bus_tool.specs.ToleranceClaims.{GivesTolerance}
 use Rattle.bus_tool.specs.TraceClaims.{GivesReceived, GivesFinding, GivesVotes}
 use Rattle.bus_tool.specs.WaveClaims.{GivesWave, IsUnwaveOf, GivesUnwaved}
 
 -- What a call promises whose texts are right and in which nothing outside fails; each command answers so, or memory was refused:
 --   check     the verdict line of a valid table; status 0 comes only for a settled table, status 1 only for one that isn't
+--   tolerance its tolerance line, which tells how much delay it bears, exactly, and whether order comes from any start; or its verdict line
 --   witness   the messages of its witness
 --   tidy      its canonical text
 --   plan      of a periodic table: the planned table, which is accepted, or that no offsets are
@@ -34,6 +36,7 @@ use Rattle.bus_tool.specs.WaveClaims.{GivesWave, IsUnwaveOf, GivesUnwaved}
 --   unwave    of the wave text of a trace: the text of the trace
 pub record Promises (call : Call) (status : Status) : Type 0 where
   pub check : (table : Table) → IsOfTable (codes "check") table call → GivesVerdict table call status × TellsSettled table status
+  pub tolerance : (table : Table) → IsOfTable (codes "tolerance") table call → GivesTolerance table call status
   pub witness : (table : Table) → IsOfTable (codes "witness") table call → GivesWitness table call status
   pub tidy : (table : Table) → IsOfTable (codes "tidy") table call → GivesTidied table call status
   pub plan : (table : Table) → IsPlanCallOf table call → GivesPlan table call status

@@ -25,13 +25,14 @@ use Rattle.bus_vote.specs.VoteTexts.{votes_text}
 use Rattle.bus_wave.specs.WaveTexts.{wave_text}
 use Rattle.bus_command.specs.declared.inputs.Traced.{Traced}
 use Rattle.bus_command.specs.Due.{Inputs, hands_in, inputs_by, traced_due, IsTextOf}
-use Rattle.bus_tool.specs.Forms.{Form, OnTable, OnMessages, OnTrace, Unwave, Drill, TableCommand, Check, Tidy, Report, Witness, Plan}
+use Rattle.bus_tool.specs.Forms.{Form, OnTable, OnMessages, OnTrace, Unwave, Drill, TableCommand, Check, Tolerance, Tidy, Report, Witness, Plan}
 use Rattle.bus_tool.specs.Forms.{MessagesCommand, Observe, Run, Drop, TraceCommand, Receive, Audit, Vote, Wave}
 use Rattle.bus_tool.specs.Forms.{form_of, table_mode, messages_mode}
 use Rattle.bus_tool.specs.Due.{table_for, unwave_due, table_answer, inputs_answer, traced_answer, unwave_answer}
 use Rattle.bus_tool.specs.Drills.{drill_line}
 use Rattle.bus_tool.specs.Reports.{report_text}
 use Rattle.bus_tool.specs.PlanTexts.{plan_text}
+use Rattle.bus_tool.specs.Tolerances.{tolerance_text}
 
 -- the number of a hand's terminal and how many messages it has
 abbrev pub hold_of : Hand → Hold
@@ -71,6 +72,7 @@ pub record IsDropRecording (table : Table) (hands : List Hand) (recording : Reco
 -- What is written of a table.
 abbrev pub table_answer_text : TableCommand → Table → List ℕ
 table_answer_text Check table = verdict_line (verdict_of table)
+table_answer_text Tolerance table = tolerance_text (verdict_of table) table
 table_answer_text Tidy table = table_text table
 table_answer_text Report table = report_text table
 table_answer_text Witness table = messages_text (witness_of table)

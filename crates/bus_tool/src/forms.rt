@@ -19,6 +19,8 @@ const MOST_NUMBER: u64 = 9999;
 pub enum TableCommand {
     /// `check T`: the verdict of the table in the file `T`.
     Check,
+    /// `tolerance T`: how much delay the table in the file `T` bears, where it is accepted.
+    Tolerance,
     /// `tidy T`: the canonical text of the table in the file `T`.
     Tidy,
     /// `report T`: the verdict of the table in the file `T` and its figures, as JSON.
@@ -83,6 +85,7 @@ impl TableCommand {
         match self {
             TableCommand::Plan => Some(Mode::Periodic),
             TableCommand::Check
+            | TableCommand::Tolerance
             | TableCommand::Tidy
             | TableCommand::Report
             | TableCommand::Witness => None,
@@ -139,6 +142,8 @@ fn two_words(command: &str, second: &[u8]) -> Option<Form>
     }
     if command == "check" {
         Some(Form::OnTable(TableCommand::Check))
+    } else if command == "tolerance" {
+        Some(Form::OnTable(TableCommand::Tolerance))
     } else if command == "tidy" {
         Some(Form::OnTable(TableCommand::Tidy))
     } else if command == "report" {

@@ -27,6 +27,7 @@ mod plan;
 mod refusal;
 mod report;
 mod run;
+mod tolerance;
 mod top;
 mod wave;
 mod witness;

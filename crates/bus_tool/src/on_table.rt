@@ -10,6 +10,7 @@ use crate::inputs::take_table_for;
 use crate::plan::plan;
 use crate::refusal::Outcome;
 use crate::report::report;
+use crate::tolerance::tolerance;
 use crate::witness::witness;
 use bus_command::after_writing;
 use bus_outer::{Sink, Source};
@@ -23,6 +24,7 @@ fn answer<K: Sink>(alloc: Global, command: TableCommand, table: &Table, out: &mu
 {
     match command {
         TableCommand::Check => check(table, out),
+        TableCommand::Tolerance => tolerance(table, out),
         TableCommand::Tidy => after_writing(write_table(table, out), Outcome::Done),
         TableCommand::Report => report(alloc, table, out),
         TableCommand::Witness => witness(alloc, table, out),

@@ -9,6 +9,10 @@ use bus_command::{Status, outcome_text};
 use bus_medium::laws::one_lawful_list;
 use bus_outer::{Sink, Source};
 use bus_plan::laws::{planned_is_accepted, short_is_refused};
+use bus_reach::laws::{
+    accepted_bear_zero, any_start_settles, borne_is_closed, periodic_bearing_is_exact,
+    periodic_borne_is_closed, tolerance_is_exact,
+};
 use bus_schedule::laws::{even_hands_agree, verdicts_are_exact, witnesses_have_schedules};
 use bus_strings::laws::texts_read_as_their_items;
 use bus_table::laws::{
@@ -30,7 +34,8 @@ pub fn tool<S: Source, K: Sink, E: Sink>(
     err: &mut E,
 ) -> Status
     // Of texts that are right, where nothing outside fails: what each command promises.
-    ensures keeps { Promises (call ⟦<S as Source>⟧ ⟦<K as Sink>⟧ words.now (first.old, second.old, out.old) (first.new, second.new, out.new)) result }
+    ensures keeps { Promises (call ⟦<S as Source>⟧ ⟦<K as Sink>⟧ words.now (first.old, second.old, out.old)
+        (first.new, second.new, out.new)) result }
 
     // Of any words and bytes: the outcome that is due or a fault in its place, what was taken and written, what `err` holds, and the
     // status.
@@ -54,6 +59,12 @@ pub fn tool<S: Source, K: Sink, E: Sink>(
     two_fix_the_vote();
     runs_are_spaced();
     waves_tell_traces();
+    borne_is_closed();
+    periodic_borne_is_closed();
+    tolerance_is_exact();
+    periodic_bearing_is_exact();
+    accepted_bear_zero();
+    any_start_settles();
     let outcome = act(alloc, words, first, second, out);
     let _ = outcome_text(&outcome, err);
     outcome.status()

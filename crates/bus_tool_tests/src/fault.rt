@@ -13,8 +13,9 @@ use std::test::Fail;
 type Call<'a> = (&'a [&'a str], &'a str, &'a str);
 
 /// Calls of each command that read and write without a refusal.
-const CALLS: [Call<'static>; 14] = [
+const CALLS: [Call<'static>; 15] = [
     (&["check", "T"], TWO_SENDERS, ""),
+    (&["tolerance", "T"], TWO_SENDERS, ""),
     (&["report", "T"], TWO_SENDERS, ""),
     (&["plan", "T"], TWO_PERIODIC_SENDERS, ""),
     (&["drill", "0"], "", ""),

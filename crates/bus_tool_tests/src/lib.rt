@@ -22,6 +22,8 @@ mod run;
 #[cfg(test)]
 mod table;
 #[cfg(test)]
+mod tolerance;
+#[cfg(test)]
 mod vote;
 #[cfg(test)]
 mod wave;

@@ -38,4 +38,12 @@ returns-clause-keeps g c =
       written = c.two_fix_the_vote.ensures.written;
       two = c.two_fix_the_vote.ensures.rounds;
       voted = c.runs_are_voted.ensures;
+      reach = record {
+        closed = c.borne_is_closed.ensures;
+        offsets = c.periodic_borne_is_closed.ensures;
+        exact = c.tolerance_is_exact.ensures.fails;
+        breaks = c.periodic_bearing_is_exact.ensures.breaks;
+        zero_borne = c.accepted_bear_zero.ensures.zero;
+        settles = c.any_start_settles.ensures.settles;
+      };
     }) _ c.act-outcome.result c.act-outcome.ensures)
