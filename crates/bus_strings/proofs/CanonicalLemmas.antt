@@ -31,7 +31,7 @@ item_put item =
     spelled_line-cons (codes "MSG") (decimal item.terminal ∷ flat_map string_fields item.strings)
     ∙ ap (λ bytes. codes "MSG " ++ decimal item.terminal ++ bytes ++ codes "\n") (strings_put item.strings)
 
-items_put : (items : List Item) → spelled_lines (map item_fields items) ≡ flat_map item_bytes items
+pub items_put : (items : List Item) → spelled_lines (map item_fields items) ≡ flat_map item_bytes items
 items_put [] = refl
 items_put (item ∷ items) = ap (λ bytes. bytes ++ spelled_lines (map item_fields items)) (item_put item) ∙ ap (λ bytes. item_bytes item ++ bytes) (items_put items)
 
@@ -80,7 +80,7 @@ line_is terminal (string ∷ strings) h =
       (λ e. absurd (omega (arith, e)), (constant_field (codes "MSG") (lit< tt) refl, (decimal_field terminal room, strings_fields (string ∷ strings)))),
     )
 
-lines_are : (n : ℕ) (items : List Item) → AllByRecursion IsItem items → AreItemLines items (numbered n (map item_fields items)) × AllByRecursion AreFields (map item_fields items)
+pub lines_are : (n : ℕ) (items : List Item) → AllByRecursion IsItem items → AreItemLines items (numbered n (map item_fields items)) × AllByRecursion AreFields (map item_fields items)
 lines_are n [] h = (tt, tt)
 lines_are n (item ∷ items) h =
     let first = line_is item.terminal item.strings h.0 in

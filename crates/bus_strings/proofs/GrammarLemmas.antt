@@ -24,7 +24,7 @@ use Rattle.bus_strings.proofs.StringLemmas.{Begins, some_piece, values}
 use Rattle.bus_strings.proofs.ItemLemmas.{reads, item_parts}
 use Rattle.bus_strings.proofs.TextLemmas.{staged}
 
-word_is : (field word : List ℕ) → bytes_eq field word ≡ true → field ≡ word
+pub word_is : (field word : List ℕ) → bytes_eq field word ≡ true → field ≡ word
 word_is field word h = (bytes_eq-Decides field word).0 h
 
 -- ---- found
@@ -63,11 +63,11 @@ line_found (keyword ∷ number ∷ colon ∷ words) p q r s =
 item_found : (fields : List (List ℕ)) (item : Item) → item_reading fields ≡ Ok item → IsItemLine item fields
 item_found fields item h = let k = item_parts fields item h in subst (λ (i : Item). IsItemLine i fields) k.4 (line_found fields k.0 k.1 k.2 k.3)
 
-line_ok : {A : Type 0} (line : ℕ) (r : Result A Reason) (x : A) → at_line line r ≡ Ok x → r ≡ Ok x
+pub line_ok : {A : Type 0} (line : ℕ) (r : Result A Reason) (x : A) → at_line line r ≡ Ok x → r ≡ Ok x
 line_ok line (Ok y) x h = ap Ok cc
 line_ok line (Err e) x h = absurd cc
 
-items_found : (entries : List Entry) (items : List Item) → all_of item_line entries ≡ Ok items → AreItemLines items entries
+pub items_found : (entries : List Entry) (items : List Item) → all_of item_line entries ≡ Ok items → AreItemLines items entries
 items_found [] items h = let none : List Item = [] in let e : none ≡ items = cc in subst (λ (is : List Item). AreItemLines is []) e tt
 items_found (entry ∷ entries) items h =
     let a = bind_ok (item_line entry) (λ y. all_of item_line entries >>= λ ys. Ok (y ∷ ys)) items h in
@@ -159,7 +159,7 @@ item_again item fields line =
     let spelled : (is_plain_decimal (number_of whole) && are_spelled (drop 3 whole)) ≡ true = ap (λ b. b && are_spelled line.words) line.terminal.plain ∙ k.0 in
     ap item_reading line.parts ∙ reads whole true true true true refl refl spelled (ap is_in_range same ∙ line.ranges) ∙ ap Ok same
 
-items_again : (items : List Item) (entries : List Entry) → AreItemLines items entries → all_of item_line entries ≡ Ok items
+pub items_again : (items : List Item) (entries : List Entry) → AreItemLines items entries → all_of item_line entries ≡ Ok items
 items_again [] [] h = refl
 items_again [] (entry ∷ entries) h = absurd h
 items_again (item ∷ items) [] h = absurd h

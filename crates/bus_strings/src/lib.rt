@@ -4,7 +4,8 @@
 //! - [`Message`] is 1 to 31 [`Wordstring`]s, [`Transmission`] one on the bus.
 //!   [`bits`] says how long a message is, [`is_on`] when it is on, and [`garbled`] and [`Marks`] which transmissions are garbled.
 //! - [`Payloads`] are the items of a messages text: [`read_messages`] gives them, or the line that is
-//!   refused and why, and [`write_messages`] writes their canonical text.
+//!   refused and why, and [`write_messages`] writes their canonical text. [`read_item`] and [`put_payloads`] do so with their lines in a
+//!   text of another grammar.
 //!
 //! The definitions are in `specs/`: `Messages`, `Pulses` and `Transmissions` for what is sent, `Items`, `Grammar` (which
 //! texts stand for which items), `Reading` (what a text reads as, or which line is refused) and `Canonical` for the messages
@@ -31,7 +32,7 @@ pub use message::{Message, copy_message};
 pub use overlap::{Marks, garbled, is_by_moment, overlaps};
 pub use payload::{Payload, Payloads};
 pub use pulses::{bits, is_on, pulse, pulse_count};
-pub use reading::read_messages;
+pub use reading::{read_item, read_messages};
 pub use transmission::Transmission;
 pub use wordstring::{SHORT, Wordstring};
-pub use writing::write_messages;
+pub use writing::{put_payloads, write_messages};

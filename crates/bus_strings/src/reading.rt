@@ -44,8 +44,15 @@ fn header_at(line: Line<'_>) -> Result<(), MessagesError>
     }
 }
 
-/// Reads a further line.
-fn item_at(alloc: Global, words: &mut Vec<u16>, line: Line<'_>) -> Result<Payload, MessagesError>
+/// Reads the line of an item, as a messages text has behind its first line, or refuses it as such a text does.
+///
+/// `words` is room that is used again from item to item; it holds nothing of use. [`MessagesError::Memory`] comes only where memory ran
+/// out. A grammar that has items behind lines of its own reads them by this call.
+pub fn read_item(
+    alloc: Global,
+    words: &mut Vec<u16>,
+    line: Line<'_>,
+) -> Result<Payload, MessagesError>
     ensures exact { Gives (λ p. p) result (item_line (entry line.entry)) }
     ensures ranges { IfOk result IsItem }
 {
@@ -67,7 +74,7 @@ fn items(alloc: Global, lines: Lines<'_>) -> Result<Vec<Payload>, MessagesError>
     let mut items = Vec::new(alloc);
     let mut words = Vec::new(alloc);
     for line in lines {
-        items.push(item_at(alloc, &mut words, line)?)?;
+        items.push(read_item(alloc, &mut words, line)?)?;
     }
     Ok(items)
 }

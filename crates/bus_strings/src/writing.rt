@@ -1,11 +1,12 @@
 //! Writing the canonical text of messages.
-ghost use Rattle.std.specs.Prelude.{◌≡◌};
+ghost use Rattle.std.specs.Prelude.{◌≡◌, map};
 ghost use Rattle.std.specs.List.{flat_map};
 ghost use Rattle.bus_outer.specs.Sinks.{WritesText};
 ghost use Rattle.bus_outer.specs.Texts.{Adds};
 ghost use Rattle.bus_strings.specs.Items.{numbers};
 ghost use Rattle.bus_strings.specs.Grammar.{IsMessagesText};
-ghost use Rattle.bus_strings.specs.Canonical.{messages_text};
+ghost use Rattle.bus_text.specs.Canonical.{spelled_lines};
+ghost use Rattle.bus_strings.specs.Canonical.{item_fields, messages_text};
 ghost use Rattle.bus_strings.specs.inside.Puts.{word_bytes, string_bytes, item_bytes};
 
 use crate::payload::{Payload, Payloads};
@@ -63,6 +64,13 @@ fn put_items<K: Sink>(text: &mut TextBuffer, sink: &mut K, items: &[Payload])
     for item in items {
         put_item(text, sink, item);
     }
+}
+
+/// Puts the canonical lines of items, as they stand behind the first line of a messages text. It takes no memory.
+pub fn put_payloads<K: Sink>(text: &mut TextBuffer, sink: &mut K, payloads: &Payloads)
+    ensures { Adds K.held K.faults sink.old sink.new text.old text.new (spelled_lines (map item_fields payloads.now)) }
+{
+    put_items(text, sink, &payloads.items)
 }
 
 /// Writes the canonical messages text of items: one line an item, one space between fields, hexadecimal digits in
