@@ -8,6 +8,7 @@ pub mod ReadingLemmas
 pub mod TextLemmas
 pub mod AgainLemmas
 pub mod StepLemmas
+pub mod StopLemmas
 pub mod AnswerLemmas
 pub mod RankLemmas
 pub mod TurnedLemmas

@@ -1,6 +1,6 @@
 -- How long the canonical text of a valid table is, at most.
-use Rattle.std.proofs.Common.{arith, ◌≡◌, ℕ, ◌+◌, ◌*◌, ◌<◌, ◌≤◌, ◌^◌, Bool, true, ◌&&◌, nat_le, nat_lt, IsTrue, List, [], ◌∷◌, ◌++◌, length, map, Option, Some, None}
-use Rattle.std.proofs.Common.{refl, ap, ◌∙◌, length-append, lit<}
+use Rattle.std.proofs.Common.{arith, ◌≡◌, ℕ, ◌*◌, ◌<◌, ◌≤◌, ◌^◌, Bool, true, nat_le, nat_lt, IsTrue, List, [], ◌∷◌, ◌++◌, length, map, Option, Some, None}
+use Rattle.std.proofs.Common.{ap, length-append, lit<}
 use Rattle.std.specs.Fmt.{decimal}
 use Rattle.std.specs.Int.{is_in_range}
 use Rattle.std.specs.List.{list_all, flat_map, join_with_byte, AllByRecursion}
@@ -10,14 +10,13 @@ use Rattle.std.proofs.lemmas.Bool.Decides.{nat_tests}
 use Rattle.std.proofs.lemmas.Fmt.{length-decimal-le}
 use Rattle.std.proofs.lemmas.List.Concat.{flat_map-append}
 use Rattle.bus_text.specs.Canonical.{spelled_line}
-use Rattle.bus_text.specs.Digits.{hexadecimal}
 use Rattle.bus_strings.proofs.ListLaws.{flat_map-map}
 use Rattle.bus_table.specs.declared.mode.Mode.{Mode}
 use Rattle.bus_table.specs.declared.mode.Mode.TheVariants.{Aperiodic, Periodic}
 use Rattle.bus_table.specs.Canonical.{ext_field, line_fields, table_text}
 use Rattle.bus_table.specs.Ranges.{is_number, is_ti, is_sg, is_tg, is_offset, is_label, is_ext, is_send_line, is_take_line, are_send_lines, are_take_lines, is_sender, is_listener}
 use Rattle.bus_table.specs.Tables.{SendLine, TakeLine, Sender, Listener, Table}
-use Rattle.bus_table.specs.Text.{Line, TableLine, ModeLine, TiLine, SgLine, SenderLine, Sends, Takes, ListenerLine, sender_lines, listener_lines, lines_of, mode_word}
+use Rattle.bus_table.specs.Text.{Line, TableLine, ModeLine, TiLine, SgLine, SenderLine, Sends, Takes, ListenerLine, sender_lines, listener_lines, lines_of}
 use Rattle.bus_table.specs.Valid.{is_valid, is_in_range as table_in_range}
 use Rattle.bus_table.proofs.TerminalLaws.{few_terminals}
 

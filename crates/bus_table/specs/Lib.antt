@@ -11,6 +11,7 @@ pub mod Forms
 pub mod Text
 pub mod Drafts
 pub mod Reading
+pub mod Stops
 pub mod Gives
 pub mod Timers
 pub mod Turns

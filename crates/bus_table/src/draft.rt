@@ -17,6 +17,7 @@ use crate::mode::Mode;
 use crate::ranges::{LEAST_SG, LEAST_TI, MOST_SG, MOST_TAKES, MOST_TI};
 use crate::sender::Sender;
 use crate::stage::Stage;
+use crate::stop::Stop;
 use crate::table::Table;
 use bus_strings::limits::MOST_STRINGS;
 use bus_text::{Line, LineFault, Reason, fields};
@@ -120,7 +121,7 @@ fn add_send(
 }
 
 /// Whether a keyword may come at a stage, where the terminal that stands last has so many SEND lines and TAKE lines.
-fn may_follow(stage: Stage, sends: usize, takes: usize, keyword: Keyword) -> bool
+pub(crate) fn may_follow(stage: Stage, sends: usize, takes: usize, keyword: Keyword) -> bool
     ensures { result ≡ drafts.may_follow stage sends takes keyword }
 {
     match (stage, keyword) {
@@ -162,7 +163,9 @@ impl Draft {
     ghost use Rattle.bus_text.specs.inside.Gives.{StepGives as FieldsGive};
     ghost use Rattle.bus_table.specs.Gives.{StepGives};
     ghost use Rattle.bus_table.specs.Reading.{step, table_of, judged};
+    ghost use Rattle.bus_table.specs.Stops.{coming, stop_at, stop_in};
     ghost use Rattle.bus_table.specs.Valid.{is_in_range};
+    ghost use Rattle.std.specs.Prelude.{IfOk};
 
     /// What is known before the first line.
     pub fn new(alloc: Global) -> Draft
@@ -279,14 +282,45 @@ impl Draft {
         }
     }
 
+    /// A keyword, where a line of it may come next.
+    fn coming(&self, keyword: Option<Keyword>) -> Option<Keyword>
+        ensures { result ≡ coming self.now keyword }
+    {
+        let keyword = keyword?;
+        if self.may_come(keyword) {
+            Some(keyword)
+        } else {
+            None
+        }
+    }
+
+    /// Where the reading stops, at a line of this keyword.
+    pub fn stop(&self, keyword: Option<Keyword>) -> Stop
+        ensures { result ≡ stop_in self.now keyword }
+    {
+        let takes = last_takes(self.stage, &self.senders, &self.listeners);
+        Stop::new(
+            self.stage,
+            last_sends(&self.senders),
+            takes,
+            self.mode,
+            keyword,
+        )
+    }
+
+    /// Where the reading stops, if this line is refused.
+    pub fn stop_before(&self, alloc: Global, line: Line<'_>) -> Result<Stop, AllocError>
+        ensures { IfOk result (λ stop. stop ≡ stop_at self.now (entry line.entry)) }
+    {
+        let fields = fields(alloc, line.bytes)?;
+        Ok(self.stop(self.coming(keyword_of(&fields))))
+    }
+
     /// Whether the text may end here.
     pub fn may_end(&self) -> bool
         ensures { result ≡ drafts.may_end self.now.stage }
     {
-        matches!(
-            self.stage,
-            Stage::Sg | Stage::Send | Stage::Take | Stage::Listener
-        )
+        self.stage.may_end()
     }
 
     /// The table, unless a whole reason applies.

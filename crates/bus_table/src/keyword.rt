@@ -8,13 +8,21 @@ use bus_text::is_at;
 /// What a line says, by its first field.
 #[derive(Clone, Copy, Debug, PartialEq, Eq)]
 pub enum Keyword {
+    /// TABLE: the format.
     Table,
+    /// MODE: what governs the starts.
     Mode,
+    /// TI: the transmit interval.
     Ti,
+    /// SG: the synchronization gap.
     Sg,
+    /// SENDER: a terminal that sends.
     Sender,
+    /// SEND: a wordstring of its messages.
     Send,
+    /// TAKE: data words that a terminal takes.
     Take,
+    /// LISTENER: a terminal that only receives.
     Listener,
 }
 

@@ -2,7 +2,7 @@
 //!
 //! - [`Table`] with its [`Sender`]s, its [`Listener`]s and their [`SendLine`]s and [`TakeLine`]s keeps that it is
 //!   valid: every number is in its range, and none of the [`WholeReason`]s applies.
-//! - [`read_table`] reads a text, and [`write_table`] writes the canonical one.
+//! - [`read_table`] reads a text, and [`write_table`] writes the canonical one. [`find_stop`] tells where a reading stops, and what may stand there.
 //! - [`shortest`] and [`longest`] tell the lengths of a sender's messages, [`place`] who speaks after whom.
 //! - [`with_offsets`] gives the senders of a periodic table other offsets.
 //! - [`fits`] holds the items of a messages text to the lines of their senders, and [`hands`] deals them out.
@@ -36,6 +36,7 @@ mod ranges;
 mod reading;
 mod sender;
 mod stage;
+mod stop;
 mod table;
 mod turns;
 mod whole;
@@ -45,6 +46,7 @@ pub use dealing::{hands, place_of};
 pub use error::{TableError, WholeReason};
 pub use fit::{FitError, fits, message_fits, sender_of};
 pub use hand::Hand;
+pub use keyword::Keyword;
 pub use lengths::{longest, shortest};
 pub use line::{SendLine, TakeLine};
 pub use listener::Listener;
@@ -52,6 +54,7 @@ pub use mode::Mode;
 pub use offsets::with_offsets;
 pub use reading::read_table;
 pub use sender::Sender;
+pub use stop::{Stop, find_stop};
 pub use table::Table;
 pub use turns::{place, turn_at, turn_places};
 pub use writing::write_table;

@@ -1,4 +1,7 @@
 //! What stood last in a table text, which decides what may follow.
+ghost use Rattle.std.specs.Prelude.{◌≡◌};
+ghost use Rattle.bus_table.specs.Drafts as drafts;
+
 use crate::head::Head;
 
 /// What stood last in a table text: it decides what may follow.
@@ -22,4 +25,16 @@ pub enum Stage {
     Take,
     /// A LISTENER line, or a TAKE line of the last listener.
     Listener,
+}
+
+impl Stage {
+    /// Whether the text may end here.
+    pub fn may_end(self) -> bool
+        ensures { result ≡ drafts.may_end self }
+    {
+        matches!(
+            self,
+            Stage::Sg | Stage::Send | Stage::Take | Stage::Listener
+        )
+    }
 }

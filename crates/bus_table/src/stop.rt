@@ -1,0 +1,113 @@
+//! Where the reading of a table text stops, and what may stand there.
+ghost use Rattle.std.specs.Prelude.{◌≡◌, ◌≢◌, IfOk};
+ghost use Rattle.bus_table.specs.declared.error.TableError.TheVariants.{Memory};
+ghost use Rattle.bus_table.specs.Stops.{stop_of};
+
+use crate::draft::{Draft, may_follow};
+use crate::error::TableError;
+use crate::keyword::Keyword;
+use crate::mode::Mode;
+use crate::stage::Stage;
+use bus_text::Lines;
+use std::alloc::{AllocError, Global};
+use std::marker::Model;
+
+/// Where the reading of a table text stopped: before the first line that is refused, or at the end of the text.
+#[derive(Drop)]
+pub struct Stop {
+    stage: Stage,
+    sends: usize,
+    takes: usize,
+    mode: Mode,
+    keyword: Option<Keyword>,
+}
+
+impl Model for Stop {
+    ghost use Rattle.bus_table.specs.Stops as stops;
+
+    ghost Value = { stops.Stop };
+
+    ghost view = { λ s. record { stage = s.stage; sends = s.sends; takes = s.takes; mode = s.mode; keyword = s.keyword } };
+}
+
+impl Stop {
+    ghost use Rattle.bus_table.specs.Drafts as drafts;
+    ghost use Rattle.bus_table.specs.Stops as stops;
+
+    /// Behind what stood last, where the terminal that stands last has so many SEND lines and TAKE lines.
+    pub(crate) fn new(
+        stage: Stage,
+        sends: usize,
+        takes: usize,
+        mode: Mode,
+        keyword: Option<Keyword>,
+    ) -> Stop
+        ensures { result ≡ (record { stage = stage; sends = sends; takes = takes; mode = mode; keyword = keyword }) }
+    {
+        Stop {
+            stage,
+            sends,
+            takes,
+            mode,
+            keyword,
+        }
+    }
+
+    /// The mode of the table; aperiodic before its line.
+    pub fn mode(&self) -> Mode
+        ensures { result ≡ self.now.mode }
+    {
+        self.mode
+    }
+
+    /// The keyword of the line that is refused, where a line of this keyword may stand there; None at the end of the text.
+    pub fn keyword(&self) -> Option<Keyword>
+        ensures { result ≡ self.now.keyword }
+    {
+        self.keyword
+    }
+
+    /// Whether a line of a keyword may stand there.
+    pub fn may_stand(&self, keyword: Keyword) -> bool
+        ensures { result ≡ stops.may_stand self.now keyword }
+    {
+        may_follow(self.stage, self.sends, self.takes, keyword)
+    }
+
+    /// Whether the text may end there.
+    pub fn may_end(&self) -> bool
+        ensures { result ≡ drafts.may_end self.now.stage }
+    {
+        self.stage.may_end()
+    }
+}
+
+/// The stop at a line that wasn't taken.
+fn at_refusal(error: TableError, here: Stop) -> Result<Stop, AllocError>
+    ensures at { IfOk result (λ stop. stop ≡ here) }
+    ensures refused { IfOk result (λ stop. error ≢ Memory) }
+{
+    match error {
+        TableError::Memory => Err(AllocError),
+        TableError::Text { .. } | TableError::Whole(_) => Ok(here),
+    }
+}
+
+/// Where the reading of a text stops, whatever the text is.
+///
+/// # Errors
+///
+/// Want of memory.
+pub fn find_stop(alloc: Global, text: &[u8]) -> Result<Stop, AllocError>
+    ensures { IfOk result (λ stop. stop ≡ stop_of text.now) }
+{
+    let mut draft = Draft::new(alloc);
+    for line in Lines::new(text) {
+        let here = draft.stop_before(alloc, line)?;
+        match draft.take_line(alloc, line) {
+            Ok(()) => {}
+            Err(error) => return at_refusal(error, here),
+        }
+    }
+    Ok(draft.stop(None))
+}
