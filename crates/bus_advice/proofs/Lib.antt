@@ -1,0 +1,14 @@
+-- The lemmas of this crate; those that a crate above may cite are public.
+mod Searches
+mod Parts
+mod Members
+mod CycleChange
+mod Changing
+mod GapChange
+mod LineChange
+mod GapCounts
+mod FirstGap
+mod Widening
+mod TurnSteps
+mod Planning
+mod Working

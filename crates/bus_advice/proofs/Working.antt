@@ -1,0 +1,164 @@
+-- Every advice works.
+use Rattle.std.specs.Prelude.{◌≡◌, ℕ, suc, ◌+◌, ◌<◌, true, false, IsTrue, List, [], ◌∷◌, ◌++◌, Option, Some, None, slice_get}
+use Rattle.std.specs.List.{flat_map}
+use Rattle.std.specs.Option.{option_map, option_to_list}
+use Rattle.std.proofs.Common.{inl, inr, arith, sym, refl, ◌∙◌, cond, subst}
+use Rattle.std.proofs.lemmas.Bool.{cases_lt, true≢false}
+use Rattle.bus_strings.specs.Members.{In}
+use Rattle.bus_strings.proofs.MemberLaws.{in_append_cases}
+use Rattle.bus_table.specs.declared.mode.Mode.{Mode}
+use Rattle.bus_table.specs.declared.mode.Mode.TheVariants.{Aperiodic, Periodic}
+use Rattle.bus_table.specs.declared.line.SendLine.{SendLine}
+use Rattle.bus_table.specs.Tables.{Sender, Table}
+use Rattle.bus_table.specs.Turns.{turn_key, turn_order}
+use Rattle.bus_table.specs.Valid.{is_valid}
+use Rattle.bus_table.proofs.ValidLaws.{valid_facts}
+use Rattle.bus_table.proofs.TurnLaws.{from_sort}
+use Rattle.bus_regime.specs.Verdicts.{verdict_of, is_accepted}
+use Rattle.bus_plan.specs.Plans.{planned_table, least_interval}
+use Rattle.bus_plan.proofs.Moved.{short_refused}
+use Rattle.bus_advice.specs.declared.advice.Advice.{Advice}
+use Rattle.bus_advice.specs.declared.advice.Advice.TheVariants.{Interval, Synchronization, Gap, Least, Plan}
+use Rattle.bus_advice.specs.Changes.{with_interval, with_synchronization, with_gap, with_least}
+use Rattle.bus_advice.specs.Search.{least_above, greatest_below}
+use Rattle.bus_advice.specs.Advices.{works, lesser_interval, greater_interval, greater_synchronization, greater_gap, greater_least, planned_interval}
+use Rattle.bus_advice.specs.Advices.{gap_advice, line_advice, line_advices, least_advices, advices_in, advices_of}
+use Rattle.bus_advice.specs.Laws.{IsNearest, GapWorks, LeastWorks, PlanWorks, AdviceWorks}
+use Rattle.bus_advice.proofs.Searches.{found_least, found_below}
+use Rattle.bus_advice.proofs.CycleChange.{working_valid}
+use Rattle.bus_advice.proofs.Planning.{plan_works}
+
+-- ---- members
+in_option : (make : ℕ → Advice) (o : Option ℕ) (a : Advice) → In a (option_to_list (option_map make o)) → (n : ℕ) × (o ≡ Some n) × (a ≡ make n)
+in_option make None a i = absurd i
+in_option make (Some n) a (inl e) = (n, refl, e)
+in_option make (Some n) a (inr i) = absurd i
+
+in_flat : {X : Type 0} (f : X → List Advice) (xs : List X) (a : Advice) → In a (flat_map f xs) → (x : X) × In x xs × In a (f x)
+in_flat f [] a i = absurd i
+in_flat f (x ∷ xs) a i = elim (in_append_cases (f x) (flat_map f xs) a i) [
+  | inl j ↦ (x, inl refl, j)
+  | inr j ↦ (let w = in_flat f xs a j in (w.0, inr w.1, w.2))
+]
+
+in_lines : (table : Table) (terminal place : ℕ) (lines : List SendLine) (a : Advice) → In a (line_advices table terminal place lines)
+    → (k : ℕ) × (line : SendLine) × (slice_get lines k ≡ Some line) × In a (line_advice table terminal (place + k) line)
+in_lines table terminal place [] a i = absurd i
+in_lines table terminal place (line ∷ lines) a i =
+    elim (in_append_cases (line_advice table terminal place line) (line_advices table terminal (suc place) lines) a i) [
+      | inl j ↦
+          (let same : place ≡ place + 0 = omega arith in
+          (0, line, refl, subst (λ p. In a (line_advice table terminal p line)) same j))
+      | inr j ↦
+          (let w = in_lines table terminal (suc place) lines a j in
+          let same : suc place + w.0 ≡ place + suc w.0 = omega arith in
+          (suc w.0, w.1, w.2, subst (λ p. In a (line_advice table terminal p w.1)) same w.3))
+    ]
+
+-- ---- what is found is nearest
+above_nearest : (change : ℕ → Table) (own n : ℕ) → least_above (λ k. works (change k)) own ≡ Some n → IsNearest change own n
+above_nearest change own n h =
+    let f = found_least (λ k. works (change k)) (own + 1) n h in
+    let low = f.low in
+    record {
+      helps = f.passes;
+      nearest = λ m between. elim between [
+        | inl up ↦ (let a : own < m = up.0 in f.before m (omega arith) up.1)
+        | inr down ↦ (let a : n < m = down.0 in let b : m < own = down.1 in absurd (omega arith))
+      ];
+    }
+
+below_nearest : (change : ℕ → Table) (own n : ℕ) → greatest_below (λ k. works (change k)) own ≡ Some n → IsNearest change own n
+below_nearest change own n h =
+    let f = found_below (λ k. works (change k)) own n h in
+    let low = f.low in
+    record {
+      helps = f.passes;
+      nearest = λ m between. elim between [
+        | inl up ↦ (let a : own < m = up.0 in let b : m < n = up.1 in absurd (omega arith))
+        | inr down ↦ f.behind m down.0 down.1
+      ];
+    }
+
+plan_nearest : (table : Table) (n : ℕ) → IsTrue (is_valid table) → table.mode ≡ Periodic → planned_interval table ≡ Some n → PlanWorks table n
+plan_nearest table n valid periodic h =
+    let f = found_least (λ k. works (planned_table (with_interval k table))) table.ti n h in
+    let most = (valid_facts (planned_table (with_interval n table)) (working_valid (planned_table (with_interval n table)) f.passes)).ti_most in
+    record {
+      helps = f.passes;
+      nearest = λ m offsets low high. elim (cases_lt m (least_interval table)) [
+        | inl short ↦ short_refused (with_interval m table) offsets periodic (valid_facts table valid).some short
+        | inr long ↦
+            absurd (true≢false (sym (plan_works table m valid periodic low (omega (arith, most, high)) long) ∙ f.before m low high))
+      ];
+    }
+
+-- ---- by kinds
+gap_works : (table : Table) (s : Sender) (a : Advice) → In s table.senders → In a (gap_advice table s) → AdviceWorks table a
+gap_works table s a among i =
+    let w = in_option (Gap s.number) (greater_gap table s) a i in
+    subst (λ x. AdviceWorks table x) (sym w.2)
+    (let made : GapWorks table s.number w.0 =
+    record { sender = s; among = among; named = refl; nearest = above_nearest (λ n. with_gap s.number n table) s.tg w.0 w.1 } in made)
+
+line_works : (table : Table) (s : Sender) (a : Advice) → In s table.senders → In a (least_advices table s) → AdviceWorks table a
+line_works table s a among i =
+    let l = in_lines table s.number 0 s.sends a i in
+    let same : 0 + l.0 ≡ l.0 = omega arith in
+    let here : In a (line_advice table s.number l.0 l.1) = subst (λ p. In a (line_advice table s.number p l.1)) same l.3 in
+    let w = in_option (Least s.number (l.0 + 1)) (greater_least table s.number l.0 l.1) a here in
+    subst (λ x. AdviceWorks table x) (sym w.2)
+    (let made : LeastWorks table s.number (l.0 + 1) w.0 =
+    record {
+      sender = s;
+      among = among;
+      named = refl;
+      place = l.0;
+      counted = omega arith;
+      sends = l.1;
+      stands = l.2;
+      nearest = above_nearest (λ n. with_least s.number l.0 n table) l.1.least w.0 w.1;
+    } in made)
+
+mode_works : (table : Table) (mode : Mode) (a : Advice) → IsTrue (is_valid table) → table.mode ≡ mode → In a (advices_in mode table)
+    → AdviceWorks table a
+mode_works table Aperiodic a valid m i =
+    let sync : List Advice = option_to_list (option_map Synchronization (greater_synchronization table)) in
+    let gaps : List Advice = flat_map (gap_advice table) (turn_order table) in
+    let lines : List Advice = flat_map (least_advices table) (turn_order table) in
+    let interval : List Advice = option_to_list (option_map Interval (lesser_interval table)) in
+    elim (in_append_cases ((interval ++ sync) ++ gaps) lines a i) [
+      | inr l ↦
+          (let w = in_flat (least_advices table) (turn_order table) a l in
+          line_works table w.0 a (from_sort (turn_key table.mode) table.senders w.0 w.1) w.2)
+      | inl j ↦ elim (in_append_cases (interval ++ sync) gaps a j) [
+        | inr l ↦
+            (let w = in_flat (gap_advice table) (turn_order table) a l in
+            gap_works table w.0 a (from_sort (turn_key table.mode) table.senders w.0 w.1) w.2)
+        | inl k ↦ elim (in_append_cases interval sync a k) [
+          | inl l ↦
+              (let w = in_option Interval (lesser_interval table) a l in
+              subst (λ x. AdviceWorks table x) (sym w.2) (below_nearest (λ n. with_interval n table) table.ti w.0 w.1))
+          | inr l ↦
+              (let w = in_option Synchronization (greater_synchronization table) a l in
+              subst (λ x. AdviceWorks table x) (sym w.2) (above_nearest (λ n. with_synchronization n table) table.sg w.0 w.1))
+        ]
+      ]
+    ]
+mode_works table Periodic a valid m i =
+    let plan : List Advice = option_to_list (option_map Plan (planned_interval table)) in
+    elim (in_append_cases (option_to_list (option_map Interval (greater_interval table))) plan a i) [
+      | inl j ↦
+          (let w = in_option Interval (greater_interval table) a j in
+          subst (λ x. AdviceWorks table x) (sym w.2) (above_nearest (λ n. with_interval n table) table.ti w.0 w.1))
+      | inr j ↦
+          (let w = in_option Plan (planned_interval table) a j in
+          subst (λ x. AdviceWorks table x) (sym w.2) (plan_nearest table w.0 valid m w.1))
+    ]
+
+pub all_work : (table : Table) (a : Advice) → IsTrue (is_valid table) → In a (advices_of table) → AdviceWorks table a
+all_work table a valid i =
+    (elim (is_accepted (verdict_of table)) as (λ b. In a (cond b [] (advices_in table.mode table)) → AdviceWorks table a) [
+      | true ↦ λ j. absurd j
+      | false ↦ λ j. mode_works table table.mode a valid refl j
+    ]) i

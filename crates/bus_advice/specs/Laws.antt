@@ -1,0 +1,58 @@
+-- What advices are good for: each works, and none nearer to the number that stands does.
+use Rattle.std.specs.Prelude.{◌≡◌, ℕ, suc, ◌<◌, ◌≤◌, ◌⊎◌, false, List, Some, IsTrue, slice_get}
+use Rattle.bus_strings.specs.Members.{In}
+use Rattle.bus_table.specs.Offsets.{with_offsets}
+use Rattle.bus_table.specs.declared.line.SendLine.{SendLine}
+use Rattle.bus_table.specs.Tables.{Sender, Table}
+use Rattle.bus_table.specs.Valid.{is_valid}
+use Rattle.bus_regime.specs.Verdicts.{verdict_of, is_accepted}
+use Rattle.bus_plan.specs.Plans.{planned_table}
+use Rattle.bus_advice.specs.declared.advice.Advice.{Advice}
+use Rattle.bus_advice.specs.declared.advice.Advice.TheVariants.{Interval, Synchronization, Gap, Least, Plan}
+use Rattle.bus_advice.specs.Changes.{with_interval, with_synchronization, with_gap, with_least}
+use Rattle.bus_advice.specs.Advices.{works, advices_of}
+
+-- This number lies between the table's own and the advised one, whichever is greater.
+abbrev pub IsBetween : ℕ → ℕ → ℕ → Type 0
+IsBetween own advised n = ((own < n) × (n < advised)) ⊎ ((advised < n) × (n < own))
+
+-- The table works with the advised number in place of its own, and with no number between.
+pub record IsNearest (change : ℕ → Table) (own advised : ℕ) : Type 0 where
+  pub helps : IsTrue (works (change advised))
+  pub nearest : (n : ℕ) → IsBetween own advised n → works (change n) ≡ false
+
+-- The sender whose terminal gap is advised, and that the advised gap works.
+pub record GapWorks (table : Table) (terminal tg : ℕ) : Type 0 where
+  pub sender : Sender
+  pub among : In sender table.senders
+  pub named : sender.number ≡ terminal
+  pub nearest : IsNearest (λ n. with_gap terminal n table) sender.tg tg
+
+-- The SEND line that the advice names, from 1, and that the advised number of data words works.
+pub record LeastWorks (table : Table) (terminal line least : ℕ) : Type 0 where
+  pub sender : Sender
+  pub among : In sender table.senders
+  pub named : sender.number ≡ terminal
+  pub place : ℕ
+  pub counted : line ≡ suc place
+  pub sends : SendLine
+  pub stands : slice_get sender.sends place ≡ Some sends
+  pub nearest : IsNearest (λ n. with_least terminal place n table) sends.least least
+
+-- The table works with the offsets of its plan at the advised interval, and at no interval from its own up to that does any choice of
+-- offsets.
+pub record PlanWorks (table : Table) (ti : ℕ) : Type 0 where
+  pub helps : IsTrue (works (planned_table (with_interval ti table)))
+  pub nearest : (n : ℕ) (offsets : List ℕ) → table.ti ≤ n → n < ti → is_accepted (verdict_of (with_offsets offsets (with_interval n table))) ≡ false
+
+-- What an advice means.
+abbrev pub AdviceWorks : Table → Advice → Type 0
+AdviceWorks table (Interval ti) = IsNearest (λ n. with_interval n table) table.ti ti
+AdviceWorks table (Synchronization sg) = IsNearest (λ n. with_synchronization n table) table.sg sg
+AdviceWorks table (Gap terminal tg) = GapWorks table terminal tg
+AdviceWorks table (Least terminal line least) = LeastWorks table terminal line least
+AdviceWorks table (Plan ti) = PlanWorks table ti
+
+-- Every advice on a valid table works.
+abbrev pub AdvicesWork : Type 0
+AdvicesWork = (table : Table) (advice : Advice) → IsTrue (is_valid table) → In advice (advices_of table) → AdviceWorks table advice

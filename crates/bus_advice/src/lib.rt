@@ -1,0 +1,20 @@
+//! Advices on a refused table: what single number to change so that it is accepted, by the least such change.
+//!
+//! - [`advices`] finds all of them by closed forms, in one pass over the senders for each kind.
+//! - [`laws`] says what they are good for: the table with one of them is valid and accepted, and with no number nearer to its own is it.
+//!
+//! `specs/Changes.antt` says what a changed table is, `specs/Advices.antt` which advices there are, and in which order, by a search over
+//! all numbers of a kind. All of this is this project's profile.
+#![tactic(auto)]
+
+mod advice;
+mod advising;
+mod cycles;
+mod gaps;
+pub mod laws;
+mod limits;
+#[cfg(test)]
+mod tests;
+
+pub use advice::Advice;
+pub use advising::advices;
