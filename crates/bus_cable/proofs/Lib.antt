@@ -1,0 +1,6 @@
+-- The lemmas of this crate; those that a crate above may cite are public.
+mod NamedLemmas
+mod FieldLemmas
+mod BlockLemmas
+mod BodyLemmas
+mod CanonicalLemmas

@@ -1,0 +1,15 @@
+-- What a call answered for a text: what the text reads as, unless memory ran out.
+use Rattle.std.specs.Prelude.{◌≡◌, Result, Ok, Err}
+use Rattle.bus_text.specs.Refusals.{Refusal}
+use Rattle.bus_cable.specs.declared.error.CableError.{CableError}
+use Rattle.bus_cable.specs.declared.error.CableError.TheVariants.{Text, Memory}
+
+-- A refusal is that of the reading; want of memory says nothing of it.
+abbrev pub Fails : {Y : Type 0} → CableError → Result Y Refusal → Type 0
+Fails Memory reading = Unit {0}
+Fails (Text line reason) reading = reading ≡ Err (record { line = line; reason = reason })
+
+-- A value, as `view` sees it, is that of the reading.
+abbrev pub Gives : {X Y : Type 0} → (X → Y) → Result X CableError → Result Y Refusal → Type 0
+Gives view (Ok value) reading = reading ≡ Ok (view value)
+Gives view (Err error) reading = Fails error reading

@@ -1,0 +1,7 @@
+-- What the contracts of this crate cite.
+pub mod Cables
+pub mod Grammar
+pub mod Reading
+pub mod Gives
+pub mod Canonical
+pub mod inside

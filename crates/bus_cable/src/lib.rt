@@ -1,0 +1,19 @@
+//! A bus on a cable: where its terminals are and when they wake, the cable text, and what each terminal hears of a list.
+//!
+//! - [`Cable`] has the places and the wakes that a cable text names.
+//! - [`read_cable`] gives a cable and the items of a text, or the line that is refused and why, and [`write_cable`] writes their canonical
+//!   text.
+//!
+//! The definitions are in `specs/`: `Cables`, and for the cable text `Grammar` (which texts stand for which cables and items), `Reading`
+//! (what a text reads as, or which line is refused) and `Canonical`.
+#![tactic(auto)]
+
+mod cable;
+mod error;
+mod reading;
+mod writing;
+
+pub use cable::{Cable, MOST_PLACE, MOST_WAKE, Named};
+pub use error::CableError;
+pub use reading::read_cable;
+pub use writing::write_cable;
