@@ -1,5 +1,5 @@
 -- What is read is in the grammar, and what is in the grammar is read.
-use Rattle.std.proofs.Common.{arith, ◌≡◌, ℕ, ◌+◌, ◌≤◌, Bool, true, false, not, cond, ◌&&◌, ◌==◌, List, [], ◌∷◌, ◌++◌, length, Option, Some, None, Result, Ok, Err, refl, sym, ap, subst, ◌∙◌, codes}
+use Rattle.std.proofs.Common.{arith, ◌≡◌, ℕ, ◌≤◌, Bool, true, false, not, cond, ◌&&◌, ◌==◌, List, [], ◌∷◌, ◌++◌, length, Option, Some, None, Result, Ok, Err, refl, sym, ap, subst, ◌∙◌, codes}
 use Rattle.std.specs.Prelude.{IfOk}
 use Rattle.std.specs.Iterator.{YieldsFirstBy}
 use Rattle.std.specs.Str.{bytes_eq}
@@ -10,7 +10,7 @@ use Rattle.bus_text.specs.Entries.{entry as line_entry}
 use Rattle.bus_text.specs.Lines.{Entry, entries_of, line_after_of}
 use Rattle.bus_text.proofs.LineLaws.{length-entries_of-le}
 use Rattle.bus_text.specs.Fields.{is_at}
-use Rattle.bus_text.specs.Numbers.{is_plain_decimal, decimal_value, IsDecimal}
+use Rattle.bus_text.specs.Numbers.{is_plain_decimal, decimal_value}
 use Rattle.bus_text.specs.Refusals.{Refusal, first_of, unless, at_line}
 use Rattle.bus_text.specs.declared.cursor.Line.{Line}
 use Rattle.bus_text.specs.declared.reason.Reason.{Reason}

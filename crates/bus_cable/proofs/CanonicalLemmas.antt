@@ -1,7 +1,7 @@
 -- The canonical text is what is put, and stands for its cable and items.
-use Rattle.std.proofs.Common.{arith, ◌≡◌, ℕ, ◌+◌, ◌<◌, ◌≤◌, ◌^◌, Bool, true, ◌&&◌, List, [], ◌∷◌, ◌++◌, length, map, refl, sym, ap, subst, ◌∙◌, codes, lit<, append_assoc, append-nil}
+use Rattle.std.proofs.Common.{arith, ◌≡◌, ℕ, ◌+◌, ◌<◌, ◌≤◌, ◌^◌, true, List, [], ◌∷◌, ◌++◌, length, map, refl, sym, ap, subst, ◌∙◌, codes, lit<, append_assoc, append-nil}
 use Rattle.std.specs.Prelude.{decimal, nat_le}
-use Rattle.std.specs.List.{flat_map, list_all, AllByRecursion}
+use Rattle.std.specs.List.{flat_map, AllByRecursion}
 use Rattle.std.specs.Int.{is_in_range as is_between}
 use Rattle.std.proofs.lemmas.Bool.{and_parts}
 use Rattle.std.proofs.lemmas.Bool.Decides.{nat_tests}
@@ -12,11 +12,10 @@ use Rattle.bus_text.specs.Lines.{Entry}
 use Rattle.bus_text.proofs.NumberLaws.{decimal_is, decimal_field}
 use Rattle.bus_strings.specs.Items.{Item, IsItem}
 use Rattle.bus_strings.specs.Canonical.{item_fields}
-use Rattle.bus_strings.specs.Grammar.{AreItemLines}
 use Rattle.bus_strings.proofs.CanonicalLemmas.{lines_are}
 use Rattle.bus_cable.specs.declared.cable.Named.{Named}
 use Rattle.bus_cable.specs.Cables.{Cable, most_place, most_wake, may_name, may_name_all, is_cable}
-use Rattle.bus_cable.specs.Grammar.{IsNamedLine, AreNamedLines, AreCableLines, IsCableText}
+use Rattle.bus_cable.specs.Grammar.{AreNamedLines, AreCableLines, IsCableText}
 use Rattle.bus_cable.specs.Canonical.{header_fields, named_fields, cable_text}
 use Rattle.bus_cable.specs.inside.Puts.{named_bytes}
 

@@ -4,3 +4,5 @@ mod FieldLemmas
 mod BlockLemmas
 mod BodyLemmas
 mod CanonicalLemmas
+mod HearingLemmas
+pub mod HearingLaws

@@ -2,7 +2,7 @@
 --   place   of a terminal on a straight cable, in bit times from the cable's beginning
 --   wake    of a sender: the moment at which it has been powered up for as long as the bus is quiet before the settled start
 -- A cable text names places and wakes terminal by terminal. One that it doesn't name is 0; a 0 that is named is kept.
-use Rattle.std.specs.Prelude.{◌≡◌, ℕ, ◌+◌, ◌-◌, ◌^◌, Bool, true, ◌&&◌, ◌==◌, nat_le, List, [], ◌∷◌}
+use Rattle.std.specs.Prelude.{ℕ, ◌+◌, ◌-◌, ◌^◌, Bool, true, ◌&&◌, ◌==◌, nat_le, List, [], ◌∷◌}
 use Rattle.std.specs.List.{find}
 use Rattle.std.specs.Option.{option_map_or}
 use Rattle.std.specs.Int.{is_in_range as is_between}

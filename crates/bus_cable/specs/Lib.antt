@@ -4,4 +4,7 @@ pub mod Grammar
 pub mod Reading
 pub mod Gives
 pub mod Canonical
+pub mod Hearing
+pub mod HearingLaws
+pub mod HeardTexts
 pub mod inside

@@ -3,17 +3,24 @@
 //! - [`Cable`] has the places and the wakes that a cable text names.
 //! - [`read_cable`] gives a cable and the items of a text, or the line that is refused and why, and [`write_cable`] writes their canonical
 //!   text.
+//! - [`write_heard`] writes what each terminal of a table hears of a list, when, and what is garbled there.
 //!
 //! The definitions are in `specs/`: `Cables`, and for the cable text `Grammar` (which texts stand for which cables and items), `Reading`
-//! (what a text reads as, or which line is refused) and `Canonical`.
+//! (what a text reads as, or which line is refused) and `Canonical`; `Hearing`,
+//! `HearingLaws` and `HeardTexts` for the heard text.
 #![tactic(auto)]
 
 mod cable;
 mod error;
+mod heard;
+mod hearing;
+pub mod laws;
 mod reading;
+mod spots;
 mod writing;
 
 pub use cable::{Cable, MOST_PLACE, MOST_WAKE, Named};
 pub use error::CableError;
+pub use heard::write_heard;
 pub use reading::read_cable;
 pub use writing::write_cable;

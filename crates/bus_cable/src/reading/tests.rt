@@ -8,7 +8,8 @@ use bus_strings::Payloads;
 use bus_text::Reason;
 use std::test::Fail;
 
-const WHOLE: &[u8] = b"CABLE 1\nPLACE 1 0\nPLACE 2 1024\nWAKE 1 4\nWAKE 128 1099511627775\nMSG 1 : 0000 0001\nMSG 2 : 00FF\n";
+const WHOLE: &[u8] =
+    b"CABLE 1\nPLACE 1 0\nPLACE 2 1024\nWAKE 1 4\nWAKE 128 1099511627775\nMSG 1 : 0000 0001\nMSG 2 : 00FF\n";
 
 /// Where a text is refused, and why.
 fn refusal(outcome: &Result<(Cable, Payloads), CableError>) -> Option<(u64, Reason)> {
@@ -21,9 +22,28 @@ fn refusal(outcome: &Result<(Cable, Payloads), CableError>) -> Option<(u64, Reas
 #[test]
 fn places_wakes_and_items_are_read_and_written_back(rt: HostRuntime) -> Result<(), Fail> {
     let (cable, payloads) = read_cable(rt.alloc(), WHOLE)?;
-    assert_eq!(rt; cable.places(), [Named { terminal: 1, bits: 0 }, Named { terminal: 2, bits: 1024 }].as_slice());
-    assert_eq!(rt; (cable.place(1), cable.place(2), cable.place(3)), (0, 1024, 0));
-    assert_eq!(rt; (cable.wake(1), cable.wake(2), cable.wake(128)), (4, 0, 1_099_511_627_775));
+    assert_eq!(rt;
+        cable.places(),
+        [
+            Named {
+                terminal: 1,
+                bits: 0
+            },
+            Named {
+                terminal: 2,
+                bits: 1024
+            }
+        ]
+        .as_slice()
+    );
+    assert_eq!(rt;
+        (cable.place(1), cable.place(2), cable.place(3)),
+        (0, 1024, 0)
+    );
+    assert_eq!(rt;
+        (cable.wake(1), cable.wake(2), cable.wake(128)),
+        (4, 0, 1_099_511_627_775)
+    );
     assert_eq!(rt; payloads.items.len(), 2);
 
     let mut sink = MemorySink::new(rt.alloc(), 200, 7, Vec::new(rt.alloc()))?;
@@ -38,7 +58,10 @@ fn blanks_and_comments_are_skipped(rt: HostRuntime) -> Result<(), Fail> {
     let (cable, payloads) = read_cable(rt.alloc(), text)?;
     let mut sink = MemorySink::new(rt.alloc(), 99, 99, Vec::new(rt.alloc()))?;
     assert!(rt; write_cable(&cable, &payloads, &mut sink).is_ok());
-    assert_eq!(rt; sink.bytes(), b"CABLE 1\nPLACE 2 5\nMSG 9 : : BEEF :\n".as_slice());
+    assert_eq!(rt;
+        sink.bytes(),
+        b"CABLE 1\nPLACE 2 5\nMSG 9 : : BEEF :\n".as_slice()
+    );
     Ok(())
 }
 
@@ -57,8 +80,14 @@ fn a_text_may_end_behind_each_line_and_not_before_the_first(rt: HostRuntime) {
     // with up to thirteen digits and its feed (14), MSG 1 : with a colon, and with each whole word, a blank or feed behind it (6), and
     // MSG 2 : with a colon, a blank, one word and its feed (4).
     assert_eq!(rt; ends, 2 + 2 + 5 + 2 + 14 + 6 + 4);
-    assert_eq!(rt; refusal(&read_cable(rt.alloc(), b"")), Some((1, Reason::Ended)));
-    assert_eq!(rt; refusal(&read_cable(rt.alloc(), b"\n# a\n \t\r")), Some((4, Reason::Ended)));
+    assert_eq!(rt;
+        refusal(&read_cable(rt.alloc(), b"")),
+        Some((1, Reason::Ended))
+    );
+    assert_eq!(rt;
+        refusal(&read_cable(rt.alloc(), b"\n# a\n \t\r")),
+        Some((4, Reason::Ended))
+    );
 }
 
 #[test]
@@ -83,12 +112,20 @@ fn the_first_reason_of_the_first_wrong_line_is_told(rt: HostRuntime) {
         (b"CABLE 1\nWAKE 1\n", 2, Reason::Fields),
         (b"CABLE 1\nWAKE 1 -1\n", 2, Reason::Spelling),
         (b"CABLE 1\nWAKE 1 1099511627776\n", 2, Reason::Range),
-        (b"CABLE 1\nPLACE 9 1\nWAKE 2 1\nWAKE 2 1\n", 4, Reason::Range),
+        (
+            b"CABLE 1\nPLACE 9 1\nWAKE 2 1\nWAKE 2 1\n",
+            4,
+            Reason::Range,
+        ),
         (b"CABLE 1\nMSG 1 : 0000\nWAKE 1 1\n", 3, Reason::Keyword),
         (b"CABLE 1\nMSG 1 : 0000\nPLACE 1 1\n", 3, Reason::Keyword),
         (b"CABLE 1\nMSG 1 0000\n", 2, Reason::Fields),
         (b"CABLE 1\nPLACE 1 1\nMSG 1 : 000\n", 3, Reason::Spelling),
-        (b"CABLE 1\nWAKE 1 1\nMSG 129 :\nPLACE 1 1\n", 3, Reason::Range),
+        (
+            b"CABLE 1\nWAKE 1 1\nMSG 129 :\nPLACE 1 1\n",
+            3,
+            Reason::Range,
+        ),
     ];
     for (text, line, reason) in cases {
         let outcome = read_cable(rt.alloc(), text);

@@ -1,4 +1,4 @@
-use Rattle.std.proofs.Common.{ap, ◌∙◌, refl}
+use Rattle.std.proofs.Common.{ap}
 use Rattle.std.specs.Option.{option_map_or}
 use Rattle.bus_cable.specs.declared.cable.Named.{Named}
 use Rattle.bus_cable.proofs.cable.bits_for.Goals as goal

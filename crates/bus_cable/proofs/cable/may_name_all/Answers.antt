@@ -1,4 +1,4 @@
-use Rattle.std.proofs.Common.{◌≡◌, ◌∙◌, sym, ap, refl, get_or}
+use Rattle.std.proofs.Common.{◌∙◌, sym, ap, refl, get_or}
 use Rattle.bus_cable.specs.declared.cable.Named.{Named}
 use Rattle.bus_cable.specs.Cables.{may_name}
 use Rattle.bus_cable.proofs.NamedLemmas.{named_step, named_wrong}

@@ -1,4 +1,4 @@
-use Rattle.std.proofs.Common.{◌≡◌, ℕ, length}
+use Rattle.std.proofs.Common.{◌≡◌, length}
 use Rattle.std.specs.List.{AllByRecursion}
 use Rattle.bus_text.specs.AllOf.{all_of}
 use Rattle.bus_text.proofs.AllOfLaws.{with_front}

@@ -1,4 +1,4 @@
-use Rattle.std.proofs.Common.{◌≡◌, ℕ, length}
+use Rattle.std.proofs.Common.{◌≡◌, length}
 use Rattle.bus_text.proofs.AllOfLaws.{with_front}
 use Rattle.bus_cable.specs.Reading.{front_of, behind, named_lines}
 use Rattle.bus_cable.specs.inside.Ahead.{ahead}

@@ -17,9 +17,9 @@ returns-clause-written g c =
     let items = c.args.payloads.now in
     let lines = spelled_lines (map item_fields items) in
     let e =
-        ap (λ (ns : List Named). codes "CABLE 1\n" ++ flat_map (named_bytes (codes "PLACE")) ns ++ flat_map (named_bytes (codes "WAKE")) c.wakes.result.now ++ lines) c.places.ensures.value
-        ∙ ap (λ (ns : List Named). codes "CABLE 1\n" ++ flat_map (named_bytes (codes "PLACE")) cable.places ++ flat_map (named_bytes (codes "WAKE")) ns ++ lines) c.wakes.ensures.value
-        ∙ cable_put cable items in
+    ap (λ (ns : List Named). codes "CABLE 1\n" ++ flat_map (named_bytes (codes "PLACE")) ns ++ flat_map (named_bytes (codes "WAKE")) c.wakes.result.now ++ lines) c.places.ensures.value
+    ∙ ap (λ (ns : List Named). codes "CABLE 1\n" ++ flat_map (named_bytes (codes "PLACE")) cable.places ++ flat_map (named_bytes (codes "WAKE")) ns ++ lines) c.wakes.ensures.value
+    ∙ cable_put cable items in
     subst (λ (text : List ℕ). WritesText g.K.Sink.held g.K.Sink.faults c.args.sink.now c.finish.new.sink c.finish.result text) e
     (ends_text g.K.Sink.held g.K.Sink.faults c.args.sink.now c.put_payloads.new.sink c.finish.new.sink c.new-text.result c.put_payloads.new.text c.finish.result _ c.finish.ensures
     (c.put.ensures ▸ c.put_all.ensures ▸ c.put_all-2.ensures ▸ c.put_payloads.ensures) c.new-text.ensures)
