@@ -11,6 +11,7 @@ use bus_outer::OutSink;
 use bus_program::{Sources, exit_number, sources_of, words};
 use bus_tool::tool;
 use std::alloc::Global;
+use std::env;
 use std::io::Write;
 use std::process::ExitCode;
 use std::rt::Runtime;
@@ -46,7 +47,7 @@ fn run<R: Runtime<A = Global>, O: Write + Drop, E: Write + Drop>(
 }
 
 fn main(rt: HostRuntime) -> ExitCode {
-    let end = match words(&rt) {
+    let end = match words(rt.alloc(), env::args(&rt)) {
         Ok(words) => run(&rt, &words, rt.stdout(), rt.stderr()),
         Err(status) => Err(status),
     };

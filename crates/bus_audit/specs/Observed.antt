@@ -1,6 +1,6 @@
 -- What is observed of the senders of a valid table, with any hands that fit them, has no breach; and what has no breach is observed of
 -- hands that fit them, those that its HOLD lines give.
-use Rattle.std.proofs.Common.{◌≡◌, List, length}
+use Rattle.std.specs.Prelude.{◌≡◌, List, length}
 use Rattle.std.specs.Prelude.{IsTrue}
 use Rattle.bus_strings.specs.Members.{In}
 use Rattle.bus_table.specs.Tables.{Table, Hand}

@@ -52,7 +52,8 @@ IsBehind named Answer = Unit {0}
 --   text     what `out` then holds
 --   count    the count of `out` rose exactly where it couldn't be written
 --   behind   nothing that was taken is refused any more, unless by a rule of the command's own for the second text
-pub record Ends {R : Type 0} (named : Named) (due : Outcome R) (IsText : List ℕ → Type 0) (old new : Seen) (outcome : Outcome R) : Type 0 where
+pub record Ends {R : Type 0} (named : Named) (due : Outcome R) (IsText : List ℕ → Type 0) (old new : Seen) (outcome : Outcome R)
+    : Type 0 where
   pub stands : StandsFor due outcome
   pub text : Leaves (kind_of outcome) IsText old.bytes new.bytes
   pub count : OutCounts old new (kind_of outcome)

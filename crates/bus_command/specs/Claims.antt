@@ -13,7 +13,7 @@ use Rattle.bus_trace.specs.Limits.{text_limit as trace_limit}
 use Rattle.bus_command.specs.declared.status.Status.{Status}
 use Rattle.bus_command.specs.declared.status.Status.TheVariants.{NoMemory}
 use Rattle.bus_command.specs.Outside.{Seen, Outside, Call}
-use Rattle.bus_command.specs.Readers.{Named, Reader, Trace, entire, one_source, two_sources, text_limit}
+use Rattle.bus_command.specs.Readers.{Named, Reader, entire, one_source, by_trace, two_sources, text_limit}
 
 -- No count of faults of a source rises that is named.
 abbrev pub IsUndisturbed : Option Reader → Seen → Seen → Type 0
@@ -89,4 +89,4 @@ pub record IsOfTraced (command : List ℕ) (further : List (List ℕ)) (table : 
   pub form : IsFormOfTwo command further call.words
   pub table_told : TellsTable table call.before.sources.first
   pub trace_told : TellsTrace trace call.before.sources.second
-  pub undisturbed : NothingFails (two_sources entire Trace) call.before call.after
+  pub undisturbed : NothingFails by_trace call.before call.after

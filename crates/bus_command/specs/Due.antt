@@ -20,7 +20,8 @@ use Rattle.bus_trace.specs.Limits.{text_limit as trace_limit}
 use Rattle.bus_trace.specs.Runs.{reading}
 use Rattle.bus_command.specs.declared.inputs.Traced.{Traced}
 use Rattle.bus_command.specs.declared.outcome.Outcome.{Outcome}
-use Rattle.bus_command.specs.declared.outcome.Outcome.TheVariants.{TableText, TableWhole, MessagesText, Unfit, TraceText, ReadFault, NoMemory}
+use Rattle.bus_command.specs.declared.outcome.Outcome.TheVariants.{TableText, TableWhole, MessagesText, Unfit, TraceText}
+use Rattle.bus_command.specs.declared.outcome.Outcome.TheVariants.{ReadFault, NoMemory}
 use Rattle.bus_command.specs.declared.outcome.Outcome.TheVariants.{TooLarge}
 use Rattle.bus_command.specs.Kinds.{kind_of, is_answer}
 use Rattle.bus_command.specs.Readers.{text_limit}

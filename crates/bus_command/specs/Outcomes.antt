@@ -13,7 +13,8 @@ use Rattle.bus_trace.specs.declared.reason.TraceReason.TheVariants as trace
 use Rattle.bus_command.specs.declared.status.Status.{Status}
 use Rattle.bus_command.specs.declared.status.Status.TheVariants as status
 use Rattle.bus_command.specs.declared.outcome.Outcome.{Outcome}
-use Rattle.bus_command.specs.declared.outcome.Outcome.TheVariants.{Done, Answered, Usage, TableText, TableWhole, MessagesText, Unfit, TraceText}
+use Rattle.bus_command.specs.declared.outcome.Outcome.TheVariants.{Done, Answered, Usage, TableText, TableWhole, MessagesText}
+use Rattle.bus_command.specs.declared.outcome.Outcome.TheVariants.{Unfit, TraceText}
 use Rattle.bus_command.specs.declared.outcome.Outcome.TheVariants.{Own, ReadFault, WriteFault, NoMemory, TooLarge}
 use Rattle.bus_command.specs.Kinds.{kind_of, is_answer}
 use Rattle.bus_command.specs.Statuses.{number_of}

@@ -8,73 +8,74 @@ use Rattle.bus_outer.specs.declared.sink.Sink.{Ghosts as SinkGhosts}
 use Rattle.bus_outer.specs.Faults.{Fails}
 use Rattle.bus_command.specs.Words.{words_of}
 
--- one source or sink
+-- One source or sink.
 pub record Seen : Type 0 where
   pub bytes : Option (List ℕ)
   pub faults : ℕ
 
--- a source, as its calls show it
+-- A source, as its calls show it.
 abbrev pub source_seen : {S : Type 0} → SourceGhosts S → S → Seen
 source_seen ghosts s = record { bytes = ghosts.left s; faults = ghosts.faults s }
 
--- a sink, as its calls show it
+-- A sink, as its calls show it.
 abbrev pub sink_seen : {K : Type 0} → SinkGhosts K → K → Seen
 sink_seen ghosts k = record { bytes = ghosts.held k; faults = ghosts.faults k }
 
--- both sources
+-- Both sources.
 pub record Sources : Type 0 where
   pub first : Seen
   pub second : Seen
 
--- both sources, of these two
+-- Both sources, of these two.
 abbrev pub both : Seen → Seen → Sources
 both first second = record { first = first; second = second }
 
--- both sources, as their calls show them
+-- Both sources, as their calls show them.
 abbrev pub sources_seen : {S : Type 0} → SourceGhosts S → S → S → Sources
 sources_seen ghosts first second = both (source_seen ghosts first) (source_seen ghosts second)
 
--- all that a command reads and writes: both sources, and the sink of the answer
+-- All that a command reads and writes: both sources, and the sink of the answer.
 pub record Outside : Type 0 where
   pub sources : Sources
   pub out : Seen
 
--- the outside of these
+-- The outside of these.
 abbrev pub around : Sources → Seen → Outside
 around sources out = record { sources = sources; out = out }
 
--- the outside, as its calls show it
+-- The outside, as its calls show it.
 abbrev pub outside : {S K : Type 0} → SourceGhosts S → SinkGhosts K → S → S → K → Outside
 outside source sink first second out = around (sources_seen source first second) (sink_seen sink out)
 
--- the outside of a command that names the first source alone, whatever the second is
+-- The outside of a command that names the first source alone, whatever the second is.
 abbrev pub beside : {S K : Type 0} → SourceGhosts S → SinkGhosts K → S → Seen → K → Outside
 beside source sink first second out = around (both (source_seen source first) second) (sink_seen sink out)
 
--- a call of a command: its words, and the outside before and after
+-- A call of a command: its words, and the outside before and after.
 pub record Call : Type 0 where
   pub words : List (List ℕ)
   pub before : Outside
   pub after : Outside
 
--- the call of these words between these two
+-- The call of these words between these two.
 abbrev pub called : List (List ℕ) → Outside → Outside → Call
 called words before after = record { words = words; before = before; after = after }
 
 -- The same, as the calls of two sources and a sink show it before and after.
-abbrev pub call : {S K : Type 0} → SourceGhosts S → SinkGhosts K → List (String Global) → S × S × K → S × S × K → Call
-call source sink words old new = called (words_of words) (outside source sink old.0 old.1 old.2) (outside source sink new.0 new.1 new.2)
+abbrev pub call : {S K : Type 0} → SourceGhosts S → SinkGhosts K → List (String Global) → S → S → K → S → S → K → Call
+call source sink words first second out later_first later_second later_out =
+    called (words_of words) (outside source sink first second out) (outside source sink later_first later_second later_out)
 
 -- ---- the counts of faults
--- its count rose in a call, and no count falls
+-- Its count rose in a call, and no count falls.
 abbrev pub Rises : Seen → Seen → Type 0
 Rises old new = Fails old.faults new.faults
 
--- its count is as it was
+-- Its count is as it was.
 abbrev pub Stays : Seen → Seen → Type 0
 Stays old new = new.faults ≡ old.faults
 
--- the counts of both sources are as they were
+-- The counts of both sources are as they were.
 pub record BothStay (before after : Sources) : Type 0 where
   pub first : Stays before.first after.first
   pub second : Stays before.second after.second

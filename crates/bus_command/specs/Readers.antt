@@ -12,7 +12,7 @@ use Rattle.bus_trace.specs.Reading.{TakesTrace}
 use Rattle.bus_command.specs.Kinds.{Kind, NoForm, NotRead, TooMuch, Wrong, Late, NotWritten, NoRoom, Answer}
 use Rattle.bus_command.specs.Outside.{Seen, Sources, Rises, Stays, BothStay}
 
--- the most bytes that a table text or a messages text may have
+-- The most bytes that a table text or a messages text may have.
 abbrev pub text_limit : ℕ
 text_limit = 8388608
 
@@ -21,28 +21,32 @@ pub data Reader : Type 0 where
   Entire : (limit : ℕ) → Reader
   Trace : Reader
 
--- how a table text and a messages text are read
+-- How a table text and a messages text are read.
 abbrev pub entire : Reader
 entire = Entire text_limit
 
--- the sources that a form names, each with its reader
+-- The sources that a form names, each with its reader.
 pub record Named : Type 0 where
   pub first : Option Reader
   pub second : Option Reader
 
--- a form that names no source
+-- A form that names no source.
 abbrev pub no_source : Named
 no_source = record { first = None; second = None }
 
--- a form that names the first source alone
+-- A form that names the first source alone.
 abbrev pub one_source : Reader → Named
 one_source reader = record { first = Some reader; second = None }
 
--- a form that names both
+-- A form that names both.
 abbrev pub two_sources : Reader → Reader → Named
 two_sources first second = record { first = Some first; second = Some second }
 
--- the bytes of a source, where it is named; none are asked of one that isn't
+-- A form that names a table and a trace.
+abbrev pub by_trace : Named
+by_trace = two_sources entire Trace
+
+-- The bytes of a source, where it is named; none are asked of one that isn't.
 abbrev pub told : Option Reader → Seen → Option (List ℕ)
 told None seen = Some []
 told (Some reader) seen = seen.bytes
@@ -66,13 +70,13 @@ pub data Reach : Type 0 where
   Past : Reach
   Judged : Reach
 
--- a trace text was taken, or one that is none up to where that is decided
+-- A trace text was taken, or one that is none up to where that is decided.
 abbrev pub TakesDecided : Option (List ℕ) → Option (List ℕ) → Type 0
 TakesDecided old new =
     ((trace : Recording) × TakesTrace old new (Ok trace))
     ⊎ ((byte : ℕ) × (reason : TraceReason) × TakesTrace old new (Err (Text byte reason)))
 
--- what was taken of a source that is read whole; past its limit no more than one piece is
+-- What was taken of a source that is read whole; past its limit no more than one piece is.
 abbrev pub ReadsEntire : ℕ → Reach → Seen → Seen → Type 0
 ReadsEntire limit Untouched old new = new ≡ old
 ReadsEntire limit Broken old new = TakesSome old.bytes new.bytes (λ n. n ≤ limit)
@@ -80,7 +84,7 @@ ReadsEntire limit Within old new = TakesSome old.bytes new.bytes (λ n. n ≤ li
 ReadsEntire limit Past old new = TakesSome old.bytes new.bytes (λ n. (limit < n) × (n ≤ limit + most_piece))
 ReadsEntire limit Judged old new = TakesSome old.bytes new.bytes (λ n. n ≤ limit) × IfSome new.bytes (λ xs. xs ≡ [])
 
--- what was taken of a source that is read as a trace; past its limit one byte is
+-- What was taken of a source that is read as a trace; past its limit one byte is.
 abbrev pub ReadsTrace : Reach → Seen → Seen → Type 0
 ReadsTrace Untouched old new = new ≡ old
 ReadsTrace Broken old new = TakesTrace old.bytes new.bytes (Err ReadFault)
@@ -88,21 +92,21 @@ ReadsTrace Within old new = TakesSome old.bytes new.bytes (λ n. n ≤ trace_lim
 ReadsTrace Past old new = TakesTrace old.bytes new.bytes (Err TooLarge)
 ReadsTrace Judged old new = TakesDecided old.bytes new.bytes
 
--- what was taken of a source by its reader
+-- What was taken of a source by its reader.
 abbrev pub ReadsBy : Reader → Reach → Seen → Seen → Type 0
 ReadsBy (Entire limit) reach old new = ReadsEntire limit reach old new
 ReadsBy Trace reach old new = ReadsTrace reach old new
 
--- the same; a source that isn't named wasn't pulled
+-- The same; a source that isn't named wasn't pulled.
 abbrev pub Reads : Option Reader → Reach → Seen → Seen → Type 0
 Reads None reach old new = new ≡ old
 Reads (Some reader) reach old new = ReadsBy reader reach old new
 
--- a source, where a command stopped at one: one before was read as far as its reader goes, one behind wasn't pulled
+-- A source, where a command stopped at one: one before was read as far as its reader goes, one behind wasn't pulled.
 abbrev pub reach_at : ℕ → ℕ → Reach → Reach
 reach_at number stop here = if nat_lt stop number then Untouched else (if nat_lt number stop then Judged else here)
 
--- how far a source was read, by what the command came to; want of memory may come anywhere
+-- How far a source was read, by what the command came to; want of memory may come anywhere.
 abbrev pub reach : ℕ → Kind → Reach
 reach number NoForm = Untouched
 reach number (NotRead source) = reach_at number source Broken
@@ -114,7 +118,7 @@ reach number NoRoom = Within
 reach number Answer = Judged
 
 -- ---- the counts of the sources
--- a source of this number is named
+-- A source of this number is named.
 abbrev pub IsNamed : Named → ℕ → Type 0
 IsNamed named source = ((source ≡ 1) × IsSome named.first) ⊎ ((source ≡ 2) × IsSome named.second)
 

@@ -15,11 +15,11 @@ StandsAs NotWritten due outcome = kind_of due ≡ Answer
 StandsAs NoRoom due outcome = 1 ≤ stage_of (kind_of due)
 StandsAs Answer due outcome = due ≡ outcome
 
--- the same, by the kind of the outcome
+-- The same, by the kind of the outcome.
 abbrev pub StandsFor : {R : Type 0} → Outcome R → Outcome R → Type 0
 StandsFor due outcome = StandsAs (kind_of outcome) due outcome
 
--- the stage of what is due to a step: a refusal, or what comes behind it
+-- The stage of what is due to a step: a refusal, or what comes behind it.
 abbrev pub stage_in : {R Y : Type 0} → Result Y (Outcome R) → ℕ
 stage_in (Ok y) = 3
 stage_in (Err refusal) = stage_of (kind_of refusal)
@@ -40,7 +40,7 @@ abbrev pub Gives : {R X Y : Type 0} → (X → Y → Type 0) → Result X (Outco
 Gives {R} {X} {Y} IsOf (Ok x) due = (y : Y) × (due ≡ Ok y) × IsOf x y
 Gives IsOf (Err outcome) due = GivesStop (kind_of outcome) outcome due
 
--- the refusal that a step gives
+-- The refusal that a step gives.
 abbrev pub refusal_in : {R Y : Type 0} → Result Y (Outcome R) → Option (Outcome R)
 refusal_in (Ok y) = None
 refusal_in (Err refusal) = Some refusal

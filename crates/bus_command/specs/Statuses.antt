@@ -4,7 +4,7 @@ use Rattle.bus_command.specs.declared.status.Status.{Status}
 use Rattle.bus_command.specs.declared.status.Status.TheVariants.{Done, Refused, Usage, TableRefused, InputRefused, ReadFault, WriteFault}
 use Rattle.bus_command.specs.declared.status.Status.TheVariants.{NoMemory, TooLarge, TooLong}
 
--- the number of a status
+-- The number of a status.
 abbrev pub number_of : Status → ℕ
 number_of Done = 0
 number_of Refused = 1

@@ -8,23 +8,25 @@ use Rattle.bus_command.specs.declared.outcome.Outcome.{Outcome}
 use Rattle.bus_command.specs.declared.outcome.Outcome.TheVariants.{ReadFault, NoMemory, TooLarge}
 use Rattle.bus_command.specs.Kinds.{Kind, NoForm, NotRead, TooMuch, Wrong, Late, NotWritten, NoRoom, Answer, kind_of}
 use Rattle.bus_command.specs.Stages.{StandsFor, Gives}
-use Rattle.bus_command.specs.Outside.{Seen, Sources, Rises, Stays}
-use Rattle.bus_command.specs.Readers.{Reader, Named, told, OfSome, OfTexts, Reach, Untouched, Broken, Within, Past, Judged, ReadsBy, Reads, reach}
+use Rattle.bus_outer.specs.declared.source.Source.{Ghosts as SourceGhosts}
+use Rattle.bus_command.specs.Outside.{Seen, Sources, Rises, Stays, source_seen, sources_seen}
+use Rattle.bus_command.specs.Readers.{Reader, Named, told, OfSome, OfTexts, Reach, Untouched, Broken, Within, Past, Judged}
+use Rattle.bus_command.specs.Readers.{ReadsBy, Reads, reach}
 use Rattle.bus_command.specs.Readers.{SourceCounts}
 
--- the kind of what a step came to so far, where nothing stops it behind
+-- The kind of what a step came to so far, where nothing stops it behind.
 abbrev pub came_to : {R X : Type 0} → Result X (Outcome R) → Kind
 came_to (Ok x) = Answer
 came_to (Err outcome) = kind_of outcome
 
 -- ---- a step that reads one source
--- what a read that failed comes to
+-- What a read that failed comes to.
 abbrev pub read_refusal : {R : Type 0} → ℕ → ReadError → Outcome R
 read_refusal number Fault = ReadFault number
 read_refusal number Larger = TooLarge number
 read_refusal number Memory = NoMemory
 
--- how far the step read its source
+-- How far the step read its source.
 abbrev pub stopped_at : Kind → Reach
 stopped_at NoForm = Untouched
 stopped_at (NotRead source) = Broken
@@ -35,7 +37,7 @@ stopped_at NotWritten = Judged
 stopped_at NoRoom = Within
 stopped_at Answer = Judged
 
--- a kind at which a step may stop that reads the source of this number
+-- A kind at which a step may stop that reads the source of this number.
 abbrev pub StopsAt : ℕ → Kind → Type 0
 StopsAt number NoForm = ⊥
 StopsAt number (NotRead source) = source ≡ number
@@ -46,7 +48,7 @@ StopsAt number NotWritten = ⊥
 StopsAt number NoRoom = Unit {0}
 StopsAt number Answer = ⊥
 
--- the count of its source rose exactly where this couldn't be read
+-- The count of its source rose exactly where this couldn't be read.
 abbrev pub StepCounts : Seen → Seen → Kind → Type 0
 StepCounts old new NoForm = Stays old new
 StepCounts old new (NotRead source) = Rises old new
@@ -65,16 +67,22 @@ pub record Takes {R X Y : Type 0} (IsOf : X → Y → Type 0) (number : ℕ) (re
   pub stops : IfErr result (λ outcome. StopsAt number (kind_of outcome))
   pub counts : StepCounts old new (came_to result)
 
--- the text that was read
+-- The same, of a source as its calls show it.
+abbrev pub TakesFrom : {S R X Y : Type 0} → SourceGhosts S → (X → Y → Type 0) → ℕ → Reader → (List ℕ → Result Y (Outcome R)) → S → S
+    → Result X (Outcome R) → Type 0
+TakesFrom ghosts IsOf number reader made old new result =
+    Takes IsOf number reader made (source_seen ghosts old) (source_seen ghosts new) result
+
+-- The text that was read.
 abbrev pub IsText : Vec ℕ Global → List ℕ → Type 0
 IsText text bytes = text.items ≡ bytes
 
--- the value itself
+-- The value itself.
 abbrev pub Same : {X : Type 0} → X → X → Type 0
 Same x y = x ≡ y
 
 -- ---- the steps before the first written byte
--- a kind at which a command may stop that has written nothing
+-- A kind at which a command may stop that has written nothing.
 abbrev pub IsEarly : Kind → Type 0
 IsEarly NoForm = ⊥
 IsEarly (NotRead source) = Unit {0}
@@ -85,7 +93,7 @@ IsEarly NotWritten = ⊥
 IsEarly NoRoom = Unit {0}
 IsEarly Answer = ⊥
 
--- a kind at which a command may stop behind both texts, before it has written anything
+-- A kind at which a command may stop behind both texts, before it has written anything.
 abbrev pub IsLate : Kind → Type 0
 IsLate NoForm = ⊥
 IsLate (NotRead source) = ⊥
@@ -116,3 +124,9 @@ pub record Prepares {R X Y : Type 0} (IsOf : X → Y → Type 0) (named : Named)
   pub order : IfSome (told named.first before.first) (λ text. IfSome (refusing text) (StopsFirst before after result))
   pub early : IfErr result (λ outcome. IsEarly (kind_of outcome))
   pub counts : SourceCounts named before after (came_to result)
+
+-- The same, of two sources as their calls show them.
+abbrev pub PreparesFrom : {S R X Y : Type 0} → SourceGhosts S → (X → Y → Type 0) → Named → (List ℕ → Option (Outcome R))
+    → (List ℕ → List ℕ → Result Y (Outcome R)) → S → S → S → S → Result X (Outcome R) → Type 0
+PreparesFrom ghosts IsOf named refusing made first second later_first later_second result =
+    Prepares IsOf named refusing made (sources_seen ghosts first second) (sources_seen ghosts later_first later_second) result

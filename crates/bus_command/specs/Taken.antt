@@ -9,11 +9,11 @@ use Rattle.bus_command.specs.declared.inputs.Dealt.{Dealt}
 use Rattle.bus_command.specs.Readers.{text_limit}
 use Rattle.bus_command.specs.Due.{Inputs, hands_in}
 
--- the hands that items give the senders of a table
+-- The hands that items give the senders of a table.
 abbrev pub AreHandsOf : Table → Vec Hand Global → List Item → Type 0
 AreHandsOf table hands items = hands.items ≡ hands_of table items
 
--- one hand for each sender, whose messages fit, and no more messages than a text has bytes
+-- One hand for each sender, whose messages fit, and no more messages than a text has bytes.
 pub record AreReady (table : Table) (hands : List Hand) : Type 0 where
   pub fit : IsTrue (are_hands table.senders hands)
   pub few : AllByRecursion (λ hand. length hand.messages ≤ text_limit) hands

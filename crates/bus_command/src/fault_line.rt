@@ -118,14 +118,16 @@ fn put_place<K: Sink>(text: &mut TextBuffer, sink: &mut K, word: &[u8], line: u6
 
 /// Puts the refusal of a line of a table text.
 fn put_table_text<K: Sink>(text: &mut TextBuffer, sink: &mut K, line: u64, reason: Reason)
-    ensures { Adds K.held K.faults sink.old sink.new text.old text.new (codes "table line " ++ decimal line ++ 32 ∷ [] ++ reason_name reason) }
+    ensures { Adds K.held K.faults sink.old sink.new text.old text.new
+        (codes "table line " ++ decimal line ++ 32 ∷ [] ++ reason_name reason) }
 {
     put_place(text, sink, b"table line ", line, reason)
 }
 
 /// Puts the refusal of a line of a messages text.
 fn put_messages_text<K: Sink>(text: &mut TextBuffer, sink: &mut K, line: u64, reason: Reason)
-    ensures { Adds K.held K.faults sink.old sink.new text.old text.new (codes "messages line " ++ decimal line ++ 32 ∷ [] ++ reason_name reason) }
+    ensures { Adds K.held K.faults sink.old sink.new text.old text.new
+        (codes "messages line " ++ decimal line ++ 32 ∷ [] ++ reason_name reason) }
 {
     put_place(text, sink, b"messages line ", line, reason)
 }
@@ -158,7 +160,8 @@ fn put_unfit<K: Sink>(text: &mut TextBuffer, sink: &mut K, error: FitError)
 
 /// Puts the refusal of a line of a trace.
 fn put_trace_text<K: Sink>(text: &mut TextBuffer, sink: &mut K, byte: u64, reason: TraceReason)
-    ensures { Adds K.held K.faults sink.old sink.new text.old text.new (codes "trace byte " ++ decimal byte ++ 32 ∷ [] ++ trace_reason_name reason) }
+    ensures { Adds K.held K.faults sink.old sink.new text.old text.new
+        (codes "trace byte " ++ decimal byte ++ 32 ∷ [] ++ trace_reason_name reason) }
 {
     put_numbered(text, sink, b"trace byte ", byte);
     text.put_byte(sink, b' ');

@@ -2,9 +2,8 @@
 ghost use Rattle.std.specs.Prelude.{◌≡◌, ◌≤◌, length, IfOk};
 ghost use Rattle.bus_outer.specs.Sources.{read_limit};
 ghost use Rattle.bus_command.specs.Due.{text_within, table_due, table_refusal_of, items_due, trace_due, traced_due};
-ghost use Rattle.bus_command.specs.Outside.{source_seen, sources_seen};
-ghost use Rattle.bus_command.specs.Readers.{Entire, Trace as ByTrace, entire, two_sources};
-ghost use Rattle.bus_command.specs.Steps.{read_refusal, Same, IsText, Takes, Prepares};
+ghost use Rattle.bus_command.specs.Readers.{Entire, Trace as ByTrace, entire, by_trace};
+ghost use Rattle.bus_command.specs.Steps.{read_refusal, Same, IsText, TakesFrom, PreparesFrom};
 ghost use Rattle.bus_command.specs.Taken.{AreHandsOf, AreReady};
 ghost use Rattle.bus_trace.specs.Traces.{IsTrace};
 
@@ -58,8 +57,7 @@ pub fn take_text<R: Refusal, S: Source>(
 ) -> Result<Vec<u8>, Outcome<R>>
     requires limit { limit ≤ read_limit }
     requires number { (1 ≤ number) × (number ≤ 2) }
-    ensures takes { Takes IsText number (Entire limit) (text_within limit number)
-        (source_seen ⟦<S as Source>⟧ source.old) (source_seen ⟦<S as Source>⟧ source.new) result }
+    ensures takes { TakesFrom ⟦<S as Source>⟧ IsText number (Entire limit) (text_within limit number) source.old source.new result }
     ensures short { IfOk result (λ text. length text.items ≤ limit) }
 {
     match read_whole(alloc, source, limit) {
@@ -70,7 +68,7 @@ pub fn take_text<R: Refusal, S: Source>(
 
 /// The table in the first source, or why there is none.
 pub fn take_table<R: Refusal, S: Source>(alloc: Global, first: &mut S) -> Result<Table, Outcome<R>>
-    ensures { Takes Same 1 entire table_due (source_seen ⟦<S as Source>⟧ first.old) (source_seen ⟦<S as Source>⟧ first.new) result }
+    ensures { TakesFrom ⟦<S as Source>⟧ Same 1 entire table_due first.old first.new result }
 {
     let text = take_text::<R, S>(alloc, TEXT_LIMIT, 1, first)?;
     let table = read_table(alloc, &text)?;
@@ -83,8 +81,7 @@ pub fn take_hands<R: Refusal, S: Source>(
     table: &Table,
     second: &mut S,
 ) -> Result<Vec<Hand>, Outcome<R>>
-    ensures takes { Takes (AreHandsOf table.now) 2 entire (items_due table.now)
-        (source_seen ⟦<S as Source>⟧ second.old) (source_seen ⟦<S as Source>⟧ second.new) result }
+    ensures takes { TakesFrom ⟦<S as Source>⟧ (AreHandsOf table.now) 2 entire (items_due table.now) second.old second.new result }
     ensures ready { IfOk result (λ hands. AreReady table.now hands.items) }
 {
     let text = take_text::<R, S>(alloc, TEXT_LIMIT, 2, second)?;
@@ -96,8 +93,7 @@ pub fn take_hands<R: Refusal, S: Source>(
 
 /// The trace in the second source, or why there is none. Of the source exactly the bytes are taken that decide.
 pub fn take_trace<R: Refusal, S: Source>(alloc: Global, second: &mut S) -> Result<Trace, Outcome<R>>
-    ensures takes { Takes Same 2 ByTrace trace_due
-        (source_seen ⟦<S as Source>⟧ second.old) (source_seen ⟦<S as Source>⟧ second.new) result }
+    ensures takes { TakesFrom ⟦<S as Source>⟧ Same 2 ByTrace trace_due second.old second.new result }
     ensures ranges { IfOk result IsTrace }
 {
     traces_read_back();
@@ -112,8 +108,8 @@ pub fn take_traced<R: Refusal, S: Source>(
     first: &mut S,
     second: &mut S,
 ) -> Result<Traced, Outcome<R>>
-    ensures prepares { Prepares Same (two_sources entire ByTrace) table_refusal_of traced_due
-        (sources_seen ⟦<S as Source>⟧ first.old second.old) (sources_seen ⟦<S as Source>⟧ first.new second.new) result }
+    ensures prepares { PreparesFrom ⟦<S as Source>⟧ Same by_trace table_refusal_of traced_due first.old second.old
+        first.new second.new result }
     ensures ranges { IfOk result (λ traced. IsTrace traced.trace) }
 {
     let table = take_table::<R, S>(alloc, first)?;

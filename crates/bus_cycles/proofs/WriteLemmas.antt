@@ -1,9 +1,7 @@
 -- What is put is the text of the picture.
 use Rattle.std.proofs.Common.{◌≡◌, ℕ, ◌+◌, List, ◌++◌, Option, ap, ◌∙◌}
 use Rattle.bus_audit.specs.declared.answer.AuditAnswer.{AuditAnswer}
-use Rattle.bus_audit.specs.Lines.{answer_words}
 use Rattle.bus_regime.specs.declared.table_verdict.TableVerdict.{TableVerdict}
-use Rattle.bus_regime.specs.Lines.{verdict_words}
 use Rattle.bus_table.specs.Tables.{Table}
 use Rattle.bus_trace.specs.Traces.{Recording}
 use Rattle.bus_shapes.specs.declared.counts.Counts.{Counts}
@@ -18,7 +16,7 @@ use Rattle.bus_cycles.specs.Surveys.{Survey, breach_in, counts, survey_of}
 
 abbrev pub text_with : Window → TableVerdict → AuditAnswer → Table → Recording → ℕ → Counts → Survey → Cycle → Scale → Option ℕ → List ℕ
 text_with window verdict answer table trace bottom told survey cycle scale breach =
-    frame_text (bottom + 250) (verdict_words verdict) (answer_words answer) table told
+    frame_text (bottom + 250) verdict answer table told
     ++ above_text survey ++ marks_text survey table verdict ++ rows_text scale (rows_of cycle (shown window trace.list))
     ++ breach_text scale breach survey.marked ++ tail_text
 

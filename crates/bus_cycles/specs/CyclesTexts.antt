@@ -25,8 +25,10 @@ use Rattle.bus_cycles.specs.Rows.{Extent, cycle_of, rows}
 use Rattle.bus_cycles.specs.Sents.{shown}
 use Rattle.bus_cycles.specs.RowTexts.{pixel, rows_text, top_of}
 use Rattle.bus_cycles.specs.Surveys.{Survey, breach_in, counts, is_drawn, most_rows, survey_of}
-use Rattle.bus_cycles.specs.Measures.{before_breach, before_mark, behind_breach, behind_mark, breach_below, breach_height, breach_over, breach_width, foot_height, least_words_below, line_width, lower_top}
-use Rattle.bus_cycles.specs.Measures.{lower_words, mark_words_below, marks_over, marks_top, plot_left, plot_width, right_half, row_line, rows_line, tick_height, upper_ticks, upper_words}
+use Rattle.bus_cycles.specs.Measures.{before_breach, before_mark, behind_breach, behind_mark, breach_below, breach_height}
+use Rattle.bus_cycles.specs.Measures.{breach_over, breach_width, foot_height, least_words_below, line_width, lower_top}
+use Rattle.bus_cycles.specs.Measures.{lower_words, mark_words_below, marks_over, marks_top, plot_left, plot_width, right_half}
+use Rattle.bus_cycles.specs.Measures.{row_line, rows_line, tick_height, upper_ticks, upper_words}
 
 -- ---- the plot
 -- The moments behind the beginning of a row, as far as the longest that is drawn has some, and as the breach needs some.
@@ -153,7 +155,7 @@ breach_text scale (Some moment) (Some row) = breach_in_row scale moment row
 -- The picture of a window of a trace on a table, given what is told of its rows.
 abbrev pub text_of : Survey → Window → TableVerdict → AuditAnswer → Table → Recording → List ℕ
 text_of survey window verdict answer table trace =
-    frame_text (bottom_of survey + foot_height) (verdict_words verdict) (answer_words answer) table (counts window trace)
+    frame_text (bottom_of survey + foot_height) verdict answer table (counts window trace)
     ++ above_text survey ++ marks_text survey table verdict
     ++ rows_text (scale_of survey) (rows table window trace.list)
     ++ breach_text (scale_of survey) (breach_in window answer) survey.marked ++ tail_text

@@ -51,7 +51,8 @@ parts_of line = slice_split (λ b. b == blank) line
 -- ---- values
 -- The value of a vector: of `z`, of `x`, or of binary digits.
 abbrev pub vector_value : ℕ → List ℕ → Value
-vector_value first rest = if first == letter_z then Floating else (if first == letter_x then Unknown else Number (digits_value 2 (first ∷ rest)))
+vector_value first rest =
+    if first == letter_z then Floating else (if first == letter_x then Unknown else Number (digits_value 2 (first ∷ rest)))
 
 -- A vector without digits says nothing.
 abbrev pub vector_line : List ℕ → List ℕ → Line

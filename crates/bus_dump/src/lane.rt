@@ -1,3 +1,4 @@
+//! A lane of a dump: a terminal that has signals.
 /// A terminal that has signals.
 #[derive(Clone, Copy, Debug, Default, PartialEq, Eq)]
 pub struct Lane {

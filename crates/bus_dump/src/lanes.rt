@@ -16,10 +16,9 @@ use crate::lane::Lane;
 use crate::live::TERMINALS;
 use crate::signal::Signal;
 use arrayvec::ArrayVec;
-use bus_regime::turn;
 use bus_strings::Transmission;
 use bus_strings::limits::MOST_TERMINAL;
-use bus_table::Table;
+use bus_table::{Table, turn_at, turn_places};
 
 /// The most lanes, of 128 senders and 128 other terminals.
 pub const MOST_LANES: usize = 256;
@@ -74,8 +73,9 @@ fn add_senders(lanes: &mut ArrayVec<Lane, MOST_LANES>, table: &Table)
     ensures items { lanes.new.items ≡ map definition.sender_lane (turn_order table.now) }
     ensures few { array_vec_len lanes.new ≤ 128 }
 {
+    let places = turn_places(table);
     for k in 0..sender_count(table) {
-        let terminal = turn(table, k).number();
+        let terminal = turn_at(table, &places, k).number();
         lanes.push(Lane {
             terminal,
             sender: true,

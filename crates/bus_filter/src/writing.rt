@@ -6,7 +6,8 @@ ghost use Rattle.bus_outer.specs.Texts.{Adds};
 ghost use Rattle.bus_strings.specs.Transmissions.{IsByMoment, marks};
 ghost use Rattle.bus_filter.specs.Received.{Taker, received_line};
 ghost use Rattle.bus_filter.specs.ReceivedTexts.{word_text, line_text, taker_text, received_text};
-ghost use Rattle.bus_filter.specs.inside.Putting.{take_put, string_put, entry_put, marked_put, clear_put, sender_put, listener_put, IsSpotless};
+ghost use Rattle.bus_filter.specs.inside.Putting.{take_put, string_put, entry_put, marked_put, clear_put, sender_put};
+ghost use Rattle.bus_filter.specs.inside.Putting.{listener_put, IsSpotless};
 
 use crate::matching::{matches, selection};
 use bus_outer::{Sink, TextBuffer, WriteFault};

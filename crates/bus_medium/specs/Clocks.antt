@@ -1,5 +1,5 @@
--- A sender's timers as four numbers, from the moment on at which it has heard all, whenever it was powered up: in the middle of a message too.
--- They tell by arithmetic who is due next, and so how a schedule grows on a cable. Places are counted as in the past of the bus.
+-- A sender's timers as four numbers, from the moment on at which it has heard all, whenever it was powered up: in the middle of a message
+-- too. They tell by arithmetic who is due next, and so how a schedule grows on a cable. Places are counted as in the past of the bus.
 --   E   the moment at which it has heard all
 --   D   the place at which its transmit interval elapses
 --   G   the place from which its terminal gap counts, or will
@@ -50,7 +50,8 @@ pub record AreTimed (sg : ℕ) (stations : List Station) : Type 0 where
 
 -- A schedule so far: all has been decided up to moment t, and nobody is due from there on before it has heard all. It ends at `last` at the
 -- latest.
-pub record Known (quiet : ℕ) (delay : Delays) (wake : Wakes) (stations : List Station) (list : List Entry) (t last : ℕ) (E D G C : ℕ → ℕ) : Type 0 where
+pub record Known (quiet : ℕ) (delay : Delays) (wake : Wakes) (stations : List Station) (list : List Entry) (t last : ℕ) (E D G C : ℕ → ℕ)
+    : Type 0 where
   pub law : IsLawfulOnCableTo quiet delay wake stations t 0 list
   pub ticks : (s : Station) → In s stations → Ticks quiet delay wake s list (E s.number) (D s.number) (G s.number) (C s.number)
   pub rests : (s : Station) (u : ℕ) → In s stations → t ≤ u → u < E s.number → IsDueOnCable quiet delay wake list s u → ⊥
@@ -80,14 +81,18 @@ pub record Goes (quiet : ℕ) (delay : Delays) (stations : List Station) (last :
 abbrev pub put : (ℕ → ℕ) → ℕ → ℕ → ℕ → ℕ
 put f n v i = if i == n then v else f i
 
--- The numbers behind that start: where the interval of its sender elapses, where the terminal gaps count from, and how many messages were sent.
+-- ---- the numbers behind that start
+-- Where the interval of its sender elapses.
 abbrev pub goes_D : ℕ → (ℕ → ℕ) → Station → Entry → ℕ → ℕ
 goes_D quiet D a x = put D a.number (quiet + x.moment + a.timing.ti)
 
+-- Where each terminal's gap counts from.
 abbrev pub goes_G : ℕ → ℕ → Delays → Wakes → (ℕ → ℕ) → ℕ → Entry → ℕ → ℕ
 goes_G quiet sg delay wake G number x k =
-    if k == number then quiet + heard_end delay x k + sg else gap_behind quiet sg (wake k) (G k) (x.moment + delay x k) (heard_end delay x k)
+    if k == number then quiet + heard_end delay x k + sg
+    else gap_behind quiet sg (wake k) (G k) (x.moment + delay x k) (heard_end delay x k)
 
+-- How many messages each has sent.
 abbrev pub goes_C : (ℕ → ℕ) → ℕ → ℕ → ℕ
 goes_C C number = put C number (C number + 1)
 

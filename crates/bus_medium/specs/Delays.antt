@@ -1,5 +1,5 @@
--- What terminals hear of a list of transmissions where the cable has length: each hears a transmission later than it is sent, by a number of
--- bit times that may be another for each terminal and for each transmission, and need not be the same the other way round.
+-- What terminals hear of a list of transmissions where the cable has length: each hears a transmission later than it is sent, by a number
+-- of bit times that may be another for each terminal and for each transmission, and need not be the same the other way round.
 use Rattle.std.specs.Prelude.{◌≡◌, ℕ, ◌+◌, ◌-◌, ◌≤◌, List, map}
 use Rattle.bus_strings.specs.Messages.{Entry}
 use Rattle.bus_strings.specs.Transmissions.{end_of}

@@ -1,6 +1,7 @@
 -- What the sources and the sinks in memory show.
-use Rattle.std.specs.Prelude.{◌≡◌, ℕ, List, [], drop, take}
+use Rattle.std.specs.Prelude.{◌≡◌, ◌-◌, ◌≤◌, ◌⊎◌, ℕ, Contains, List, [], drop, length, min, take}
 use Rattle.bus_outer.specs.Faults.{one_more}
+use Rattle.bus_outer.specs.Sources.{line_length}
 use Rattle.bus_outer.specs.declared.steady_source.SteadySource.{SteadySource}
 use Rattle.bus_outer.specs.declared.memory_source.MemorySource.{MemorySource}
 use Rattle.bus_outer.specs.declared.memory_sink.MemorySink.{MemorySink}
@@ -13,6 +14,10 @@ steady_left s = drop s.at s.bytes.items
 -- The most that one pull of it gives.
 abbrev pub steady_piece : SteadySource → ℕ
 steady_piece s = s.piece
+
+-- How many of these bytes a pull of a line gives into so much room: the least of a piece, the room and the line.
+abbrev pub line_piece : ℕ → List ℕ → ℕ → ℕ
+line_piece piece bytes room = min (min piece room) (line_length bytes)
 
 -- The bytes that it has at hand: the next piece.
 abbrev pub steady_lent : SteadySource → List ℕ
@@ -75,6 +80,14 @@ failing_pushes s = s.failing.items
 -- How often a push has failed.
 abbrev pub sink_faults : MemorySink → ℕ
 sink_faults s = s.faults
+
+-- The next push fails: it is listed, or no room is left.
+abbrev pub PushFails : MemorySink → Type 0
+PushFails s = Contains (failing_pushes s) (push_number s) ⊎ (sink_room s ≤ length (sink_bytes s))
+
+-- How many of these bytes a push takes that doesn't fail: the least of a piece, the bytes and the room left.
+abbrev pub push_size : MemorySink → List ℕ → ℕ
+push_size s bytes = min (min (sink_piece s) (length bytes)) (sink_room s - length (sink_bytes s))
 
 -- One push has passed: the next one has a number one more, up to the last value of a u64, and the room, the piece and the list stay.
 pub record PassesPush (old new : MemorySink) : Type 0 where

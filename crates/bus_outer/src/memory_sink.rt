@@ -63,7 +63,8 @@ impl MemorySink {
 }
 
 impl Sink for MemorySink {
-    ghost use Rattle.bus_outer.specs.Memory.{sink_bytes, sink_room, sink_piece, push_number, failing_pushes, sink_faults, PassesPush};
+    ghost use Rattle.bus_outer.specs.Memory.{sink_bytes, sink_room, sink_piece, push_number, failing_pushes, sink_faults};
+    ghost use Rattle.bus_outer.specs.Memory.{PassesPush, PushFails, push_size};
 
     ghost held = { λ s. Some (sink_bytes s) };
 
@@ -76,10 +77,8 @@ impl Sink for MemorySink {
         ensures bytes { Pushes (Some (sink_bytes self.old)) (Some (sink_bytes self.new)) result bytes.now }
         ensures counts { CountsPush (sink_faults self.old) (sink_faults self.new) result }
         ensures once { result ≡ Push.Failed → sink_faults self.new ≡ one_more (sink_faults self.old) }
-        ensures listed { (result ≡ Push.Failed) ↔ (Contains (failing_pushes self.old) (push_number self.old)
-            ⊎ (sink_room self.old ≤ length (sink_bytes self.old))) }
-        ensures amount { (n : ℕ) → result ≡ Push.Took n →
-            n ≡ min (min (sink_piece self.old) (length bytes.now)) (sink_room self.old - length (sink_bytes self.old)) }
+        ensures listed { (result ≡ Push.Failed) ↔ PushFails self.old }
+        ensures amount { (n : ℕ) → result ≡ Push.Took n → n ≡ push_size self.old bytes.now }
         ensures passes { PassesPush self.old self.new }
     {
         let fails = self.failing.contains(&self.number);

@@ -1,7 +1,7 @@
 //! A source in memory, which fails at the pulls that it is told.
 ghost use Rattle.std.specs.Prelude.{◌≡◌, ◌<◌, ◌≤◌, ◌↔◌, ℕ, Contains, IsTrue, Some, length, min, take, true, false};
 ghost use Rattle.bus_outer.specs.Faults.{one_more, Fails};
-ghost use Rattle.bus_outer.specs.Sources.{Taken, Pulls, StopsAtFeed, CountsPull, line_length as length_of_line};
+ghost use Rattle.bus_outer.specs.Sources.{Taken, Pulls, StopsAtFeed, CountsPull};
 
 use crate::{Pull, Source, SteadySource};
 
@@ -57,7 +57,8 @@ impl MemorySource {
 }
 
 impl Source for MemorySource {
-    ghost use Rattle.bus_outer.specs.Memory.{source_left, source_lent, source_piece, pull_number, failing_pulls, source_faults, PassesPull};
+    ghost use Rattle.bus_outer.specs.Memory.{source_left, source_lent, source_piece, pull_number, failing_pulls, source_faults};
+    ghost use Rattle.bus_outer.specs.Memory.{PassesPull, line_piece};
 
     ghost left = { λ s. Some (source_left s) };
 
@@ -90,8 +91,7 @@ impl Source for MemorySource {
         ensures counts { CountsPull (source_faults self.old) (source_faults self.new) result }
         ensures once { result ≡ Pull.Failed → source_faults self.new ≡ one_more (source_faults self.old) }
         ensures listed { (result ≡ Pull.Failed) ↔ Contains (failing_pulls self.old) (pull_number self.old) }
-        ensures amount { (n : ℕ) → result ≡ Pull.Got n →
-            n ≡ min (min (source_piece self.old) (length buf.old)) (length_of_line (source_left self.old)) }
+        ensures amount { (n : ℕ) → result ≡ Pull.Got n → n ≡ line_piece (source_piece self.old) (source_left self.old) (length buf.old) }
         ensures passes { PassesPull self.old self.new }
     {
         if self.fails() {

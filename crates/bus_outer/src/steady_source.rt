@@ -1,6 +1,6 @@
 //! A source in memory that never fails.
 ghost use Rattle.std.specs.Prelude.{◌≡◌, ◌≢◌, ◌<◌, ◌≤◌, ℕ, Some, drop, length, min, take, vec_len};
-ghost use Rattle.bus_outer.specs.Sources.{Taken, Pulls, StopsAtFeed, CountsPull, line_length as length_of_line};
+ghost use Rattle.bus_outer.specs.Sources.{Taken, Pulls, StopsAtFeed, CountsPull};
 
 use crate::line::copy_line;
 use crate::piece::copy_piece;
@@ -34,7 +34,7 @@ impl SteadySource {
 }
 
 impl Source for SteadySource {
-    ghost use Rattle.bus_outer.specs.Memory.{steady_left, steady_piece, steady_lent, steady_faults};
+    ghost use Rattle.bus_outer.specs.Memory.{steady_left, steady_piece, steady_lent, steady_faults, line_piece};
 
     ghost left = { λ s. Some (steady_left s) };
 
@@ -67,8 +67,7 @@ impl Source for SteadySource {
         ensures line { StopsAtFeed result buf.new }
         ensures counts { CountsPull 0 0 result }
         ensures steady { result ≢ Pull.Failed }
-        ensures amount { (n : ℕ) → result ≡ Pull.Got n →
-            n ≡ min (min (steady_piece self.old) (length buf.old)) (length_of_line (steady_left self.old)) }
+        ensures amount { (n : ℕ) → result ≡ Pull.Got n → n ≡ line_piece (steady_piece self.old) (steady_left self.old) (length buf.old) }
         ensures piece { steady_piece self.new ≡ steady_piece self.old }
     {
         if self.at == self.bytes.len() {

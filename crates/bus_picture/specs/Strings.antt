@@ -50,7 +50,8 @@ digits_class garbled = if garbled then NoiseDigits else Digits
 
 -- The box of a wordstring, in a row with this upper edge.
 abbrev pub string_area : Scale → ℕ → ℕ → ℕ → Area
-string_area scale top from to = record { left = place scale from; top = top + string_below; width = extent scale from to; height = string_height }
+string_area scale top from to =
+    record { left = place scale from; top = top + string_below; width = extent scale from to; height = string_height }
 
 -- ---- a wordstring whose words have no room
 -- The words for a box of this width.

@@ -3,6 +3,7 @@ use Rattle.std.specs.Prelude.{ℕ, ◌+◌, ◌-◌, ◌*◌, ◌%◌, max, min,
 use Rattle.std.specs.Prelude.{◌++◌, length, codes, decimal, Option, Some, None, if◌then◌else◌}
 use Rattle.std.specs.List.{count_by, find}
 use Rattle.std.specs.Option.{option_map_or}
+use Rattle.bus_regime.specs.declared.table_verdict.TableVerdict.{TableVerdict}
 use Rattle.bus_table.specs.Tables.{Sender, Table}
 use Rattle.bus_table.specs.declared.mode.Mode.{Mode}
 use Rattle.bus_table.specs.declared.mode.Mode.TheVariants.{Aperiodic, Periodic}
@@ -32,8 +33,10 @@ use Rattle.bus_picture.specs.Legends.{legend_text}
 use Rattle.bus_picture.specs.Rows.{Row, rows_text}
 use Rattle.bus_picture.specs.Strings.{meets}
 use Rattle.bus_picture.specs.Timers.{bus_timer, is_near, sender_timers}
-use Rattle.bus_picture.specs.Measures.{breach_above, breach_below, breach_line, breach_rest, breach_width, bus_line, foot_height, legend_below, lower_words, names_right}
-use Rattle.bus_picture.specs.Measures.{plot_left, plot_top, plot_width, row_height, terminal_line, tick_height, timers_line, upper_ticks, upper_words, words_least, words_most}
+use Rattle.bus_picture.specs.Measures.{breach_above, breach_below, breach_line, breach_rest, breach_width, bus_line, foot_height}
+use Rattle.bus_picture.specs.Measures.{legend_below, lower_words, names_right}
+use Rattle.bus_picture.specs.Measures.{plot_left, plot_top, plot_width, row_height, terminal_line, tick_height, timers_line}
+use Rattle.bus_picture.specs.Measures.{upper_ticks, upper_words, words_least, words_most}
 
 -- ---- where things are
 -- The upper edge of lane k, which is the lower edge of k lanes.
@@ -196,13 +199,13 @@ plot_text scale bottom lanes answer table trace =
     ++ each_lane (breach_text scale answer) 0 lanes
 
 -- A picture with these lanes.
-abbrev pub picture_text : Scale → List Lane → List ℕ → AuditAnswer → Table → Recording → List ℕ
+abbrev pub picture_text : Scale → List Lane → TableVerdict → AuditAnswer → Table → Recording → List ℕ
 picture_text scale lanes verdict answer table trace =
-    frame_text (lane_top (length lanes) + foot_height) verdict (answer_words answer) table (counts_of scale trace)
+    frame_text (lane_top (length lanes) + foot_height) verdict answer table (counts_of scale trace)
     ++ plot_text scale (lane_top (length lanes)) lanes answer table trace
     ++ legend_text (lane_top (length lanes) + legend_below) ++ tail_text
 
 -- The time line of a trace in a window, with the words of the verdict on the table and the answer of the audit.
-unfoldable pub time_line_text : Window → List ℕ → AuditAnswer → Table → Recording → List ℕ
+unfoldable pub time_line_text : Window → TableVerdict → AuditAnswer → Table → Recording → List ℕ
 time_line_text window verdict answer table trace =
     picture_text (scale_of window) (lanes table trace.list) verdict answer table trace

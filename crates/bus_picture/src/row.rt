@@ -1,3 +1,4 @@
+//! A row of a time line.
 /// A row of a time line: what is garbled of the bus or of a lane, or what isn't.
 #[derive(Clone, Copy, Debug, PartialEq, Eq)]
 pub struct Row {

@@ -2,8 +2,8 @@
 ghost use Rattle.std.specs.Prelude.{◌≡◌, ◌<◌, ◌≤◌, length};
 ghost use Rattle.bus_outer.specs.Sinks.{WritesText};
 ghost use Rattle.bus_outer.specs.Texts.{Adds};
-ghost use Rattle.bus_regime.specs.Lines.{verdict_words};
 ghost use Rattle.bus_shapes.specs.Scales.{IsScale};
+ghost use Rattle.bus_picture.specs.TimeLines.{time_line_text};
 ghost use Rattle.bus_picture.specs.TimeLines as definition;
 
 use crate::counting::counts;
@@ -136,7 +136,7 @@ fn put_picture<K: Sink>(
     requires scale { IsScale scale.now }
     requires few { length lanes.now ≤ 256 }
     ensures { Adds K.held K.faults sink.old sink.new text.old text.new
-        (definition.picture_text scale.now lanes.now (verdict_words verdict.now) answer.now table.now trace.now) }
+        (definition.picture_text scale.now lanes.now verdict.now answer.now table.now trace.now) }
 {
     let bottom = lane_top(lanes.len());
     let counts = counts(scale, trace);
@@ -159,7 +159,7 @@ pub fn write_time_line<K: Sink>(
     sink: &mut K,
 ) -> Result<(), WriteFault>
     ensures { WritesText K.held K.faults sink.old sink.new result
-        (definition.time_line_text window.now (verdict_words verdict.now) answer.now table.now trace.now) }
+        (time_line_text window.now verdict.now answer.now table.now trace.now) }
 {
     let lanes = lanes_of(table, trace.list());
     let scale = scale_of(window);

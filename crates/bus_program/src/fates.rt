@@ -1,3 +1,4 @@
+//! How a program ends: where its words can't be gathered, and with which number.
 ghost use Rattle.std.specs.Prelude.{◌≡◌, ◌≢◌, ◌⊎◌};
 ghost use Rattle.std.specs.declared.io.ErrorKind.TheVariants.{OutOfMemory};
 ghost use Rattle.bus_program.specs.Fates as fates;

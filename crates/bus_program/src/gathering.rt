@@ -1,25 +1,32 @@
 //! The words of the command line.
-ghost use Rattle.std.specs.Prelude.{◌≡◌, ◌⊎◌, IfErr};
+ghost use Rattle.std.specs.Prelude.{◌≡◌, ◌⊎◌, drop, IfOk, IfErr};
+ghost use Rattle.std.specs.Vec.Iter.{into_iter_items};
 
 use crate::fates::fate_of;
 use bus_command::Status;
-use std::alloc::Global;
-use std::env;
-use std::rt::Runtime;
+use std::alloc::{AllocError, Global};
+use std::env::Args;
+use std::io;
 
-/// The words behind the program's name.
+/// The words behind the first, which is the program's name.
+fn behind_name(alloc: Global, mut args: Args<Global>) -> Result<Vec<String>, AllocError>
+    ensures { IfOk result (λ words. words.items ≡ drop 1 (into_iter_items args)) }
+{
+    let _name = args.next();
+    args.collect(alloc)
+}
+
+/// The words behind the program's name, in their order, of all the words that the process was given.
 ///
 /// # Errors
 ///
 /// `Usage` where one isn't UTF-8, and `NoMemory` for want of memory.
-pub fn words<R: Runtime<A = Global>>(rt: &R) -> Result<Vec<String>, Status>
-    ensures { IfErr result (λ status. (status ≡ Status.NoMemory) ⊎ (status ≡ Status.Usage)) }
+pub fn words(alloc: Global, args: io::Result<Args<Global>>) -> Result<Vec<String>, Status>
+    ensures given { IfOk args (λ args. IfOk result (λ words. words.items ≡ drop 1 (into_iter_items args))) }
+    ensures refused { IfErr result (λ status. (status ≡ Status.NoMemory) ⊎ (status ≡ Status.Usage)) }
 {
-    match env::args(rt) {
-        Ok(args) => args
-            .skip(1)
-            .collect(rt.alloc())
-            .map_err(|_| Status::NoMemory),
+    match args {
+        Ok(args) => behind_name(alloc, args).map_err(|_| Status::NoMemory),
         Err(error) => Err(fate_of(error.kind())),
     }
 }

@@ -1,3 +1,4 @@
+//! The files that the words of a command name, as sources.
 ghost use Rattle.std.specs.Prelude.{◌≡◌, slice_get, IfOk, IfErr};
 ghost use Rattle.bus_program.specs.Words.{IsFileOf};
 ghost use Rattle.bus_outer.specs.Edge.{file_of};

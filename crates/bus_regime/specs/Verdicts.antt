@@ -1,7 +1,7 @@
 -- The verdict on a table, by this project's profile: in aperiodic mode by the length of its shortest cycle, in periodic mode by the
 -- gaps between its longest messages.
 --   least, most   how far apart, in bit times, successive starts of one sender are at least and at most
-use Rattle.std.specs.Prelude.{ℕ, ◌+◌, ◌-◌, Bool, true, false, not, ◌&&◌, ◌||◌, ◌==◌, nat_lt, List, Option, Some, None, if◌then◌else◌}
+use Rattle.std.specs.Prelude.{◌≡◌, ℕ, ◌+◌, ◌-◌, Bool, true, false, not, ◌&&◌, ◌||◌, ◌==◌, nat_lt, List, Option, Some, None, if◌then◌else◌}
 use Rattle.std.specs.List.{sum_by, list_any, find}
 use Rattle.std.specs.Option.{option_map, option_or}
 use Rattle.bus_table.specs.declared.mode.Mode.{Mode}
@@ -75,3 +75,7 @@ is_accepted (Accept mode least most) = true
 is_accepted (ShortCycle least ti) = false
 is_accepted (SmallGap terminal gap needed) = false
 is_accepted (NoSync terminal gap needed) = false
+
+-- The verdict refuses the table.
+abbrev pub IsRefused : Table → Type 0
+IsRefused table = is_accepted (verdict_of table) ≡ false

@@ -7,7 +7,7 @@ ghost use Rattle.bus_regime.specs.Ends.{AreEnds};
 ghost use Rattle.bus_regime.specs.Gaps.{gaps};
 
 use crate::table_verdict::TableVerdict;
-use bus_table::{Sender, Table, longest, place, turn_at};
+use bus_table::{Sender, Table, longest, turn_at};
 use std::marker::Model;
 
 /// The gap before a sender: from the end of the sender before it to the sender's own start, both one interval later.
@@ -107,22 +107,6 @@ impl<'a> TurnGap<'a> {
             needed: u64::from(sg) + u64::from(self.sender.tg()),
         }
     }
-}
-
-/// The `k`-th sender in turn order, from 0. It takes no memory. For all of
-/// them [`bus_table::turn_places`] finds turn order once.
-pub fn turn(table: &Table, k: usize) -> &Sender
-    requires { k < length table.now.senders }
-    ensures { slice_get (turn_order table.now) k ≡ Some result.now }
-{
-    let number = place(table, k);
-    let senders = table.senders();
-    for sender in senders {
-        if sender.number() == number {
-            return sender;
-        }
-    }
-    &senders[0]
 }
 
 /// The end of a sender's longest message in the first interval.

@@ -3,8 +3,8 @@
 //! [`verdict`] gives it, by the lengths of cycles in aperiodic mode and by the gaps between messages in periodic mode,
 //! [`put_verdict`] puts its words into a text, and [`write_verdict`] writes them as a line. `specs/Verdicts.antt` says what the
 //! verdict on a table is, `specs/Gaps.antt` what the gaps of a periodic table are, and `specs/VerdictLaws.antt` has what callers
-//! may use of it: a periodic table is accepted exactly where each of its gaps is fine (`specs/Fine.antt`). [`turn`] gives the
-//! senders in turn order, and [`witness`] the messages with which a refused table fails (`specs/Witness.antt`).
+//! may use of it: a periodic table is accepted exactly where each of its gaps is fine (`specs/Fine.antt`). [`witness`] gives the
+//! messages with which a refused table fails (`specs/Witness.antt`).
 #![tactic(auto)]
 
 mod gaps;
@@ -16,7 +16,7 @@ mod table_verdict;
 mod tests;
 mod witnessing;
 
-pub use gaps::{TurnGap, gap_at, turn, turn_ends};
+pub use gaps::{TurnGap, gap_at, turn_ends};
 pub use judging::verdict;
 pub use line::{put_verdict, write_verdict};
 pub use table_verdict::TableVerdict;

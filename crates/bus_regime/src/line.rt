@@ -3,18 +3,11 @@ ghost use Rattle.std.specs.Fmt.{signed_decimal};
 ghost use Rattle.bus_outer.specs.Sinks.{WritesText};
 ghost use Rattle.bus_outer.specs.Texts.{Adds};
 ghost use Rattle.bus_regime.specs.declared.table_verdict.TableVerdict.TheVariants.{Accept, ShortCycle, SmallGap, NoSync};
-ghost use Rattle.bus_regime.specs.Lines.{mode_name, verdict_words, verdict_line};
+ghost use Rattle.bus_regime.specs.Lines.{verdict_words, verdict_line};
 
 use crate::table_verdict::TableVerdict;
 use bus_outer::{Sink, TextBuffer, WriteFault};
-use bus_table::Mode;
-
-/// Puts the word of a mode.
-fn put_mode<K: Sink>(text: &mut TextBuffer, sink: &mut K, mode: Mode)
-    ensures { Adds K.held K.faults sink.old sink.new text.old text.new (mode_name mode) }
-{
-    text.put(sink, mode.word().as_bytes());
-}
+use bus_table::{Mode, put_mode};
 
 /// Puts an acceptance.
 fn put_accept<K: Sink>(text: &mut TextBuffer, sink: &mut K, mode: Mode, least: u64, most: u64)

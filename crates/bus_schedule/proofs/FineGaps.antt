@@ -94,7 +94,7 @@ all_from : (d : ℕ) (xs : List Gap) → ((g : Gap) → In g xs → g.from + (g.
 all_from d [] h = refl
 all_from d (g ∷ xs) h = and_from _ _ (le-leb (g.from + (g.sender.tg + d)) g.to (h g (inl refl))) (all_from d xs (λ k i. h k (inr i)))
 
--- an accepted table bears no delay
+-- an accepted table bears a delay of 0
 pub accepted_bears_none : (table : Table) → IsTrue (is_valid table) → table.mode ≡ Periodic → IsTrue (is_accepted (verdict_of table)) → IsTrue (gaps_bear table 0)
 accepted_bears_none table valid mode accepted =
     let facts = valid_facts table valid in

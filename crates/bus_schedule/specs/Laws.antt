@@ -13,7 +13,7 @@ use Rattle.bus_medium.specs.Delays.{Delays, AreDelays}
 use Rattle.bus_medium.specs.Lawful.{Station, IsDue, IsLawful}
 use Rattle.bus_medium.specs.Timings.{quiet_of, stations_of}
 use Rattle.bus_regime.specs.Gaps.{Gap, gaps}
-use Rattle.bus_regime.specs.Verdicts.{most_cycle, verdict_of, is_accepted}
+use Rattle.bus_regime.specs.Verdicts.{IsRefused, most_cycle, verdict_of, is_accepted}
 use Rattle.bus_schedule.specs.Even.{are_even, messages_of, rounds}
 use Rattle.bus_schedule.specs.Uneven.{uneven_of}
 use Rattle.bus_schedule.specs.Closed.{origin, turns_end, closed, closed_end}
@@ -95,7 +95,7 @@ TheSettledAreAccepted = (table : Table) → IsTrue (is_valid table) → IsTrue (
 -- A table that isn't accepted fails with the hands of its witness.
 abbrev pub TheRefusedFail : Type 0
 TheRefusedFail =
-    (table : Table) → IsTrue (is_valid table) → is_accepted (verdict_of table) ≡ false
+    (table : Table) → IsTrue (is_valid table) → IsRefused table
     → Fails table (witness_hands table) (closed table (witness_hands table))
 
 -- The hands of a witness are even.
@@ -114,7 +114,7 @@ BorneGapsAreClosed =
     → IsTrue (is_accepted (verdict_of table)) → IsTrue (are_even table hands) → AreDelays most delay → IsTrue (gaps_bear table most)
     → IsRunOnCable table hands most delay (closed table hands)
 
--- The gaps of every accepted periodic table bear no delay.
+-- The gaps of every accepted periodic table bear a delay of 0.
 abbrev pub AcceptedGapsBearNone : Type 0
 AcceptedGapsBearNone =
     (table : Table) → IsTrue (is_valid table) → table.mode ≡ Periodic → IsTrue (is_accepted (verdict_of table)) → IsTrue (gaps_bear table 0)
@@ -132,4 +132,4 @@ pub record StartsTooEarly (table : Table) : Type 0 where
 -- So it is for every aperiodic table that isn't accepted.
 abbrev pub ShortCyclesStartEarly : Type 0
 ShortCyclesStartEarly =
-    (table : Table) → IsTrue (is_valid table) → table.mode ≡ Aperiodic → is_accepted (verdict_of table) ≡ false → StartsTooEarly table
+    (table : Table) → IsTrue (is_valid table) → table.mode ≡ Aperiodic → IsRefused table → StartsTooEarly table

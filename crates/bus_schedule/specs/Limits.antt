@@ -9,9 +9,9 @@ longest_end = 2 ^ 36
 
 -- Why a schedule with this closed end is refused.
 abbrev pub IsRefused : ℕ → ScheduleError → Type 0
--- memory may be refused whatever the end
+-- Memory may be refused whatever the end.
 IsRefused end Memory = Unit {0}
--- it is too long only above the limit, and its end is told
+-- It is too long only above the limit, and its end is told.
 IsRefused end (TooLong told) = (longest_end < end) × (told ≡ end)
 
 -- The result for a schedule with this closed end:

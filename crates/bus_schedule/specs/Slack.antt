@@ -3,9 +3,9 @@
 --   slack   of a sender that has not yet heard a synchronization gap since its own start: by how many bit times later at most it hears the
 --           last message. It is none where the sender has heard such a gap, whatever the delays
 --
--- A sender hears itself at once, so its slack is 0 behind its own message. It hears the gap of another sender longer by that sender's delay,
--- and shorter by the delay of the message before. Where it hears no synchronization gap there, that sender's delay is at most
--- `slack + sg - 1 - gap`; and it is at most d. Where that is below 0, it has heard one.
+-- A sender hears itself at once, so its slack is 0 behind its own message. It hears the gap of another sender longer by that sender's
+-- delay, and shorter by the delay of the message before. Where it hears no synchronization gap there, that sender's delay is at most `slack
+-- + sg - 1 - gap`; and it is at most d. Where that is below 0, it has heard one.
 use Rattle.std.specs.Prelude.{ℕ, ◌+◌, ◌-◌, min, Bool, true, false, ◌&&◌, ◌||◌, ◌==◌, List, [], ◌∷◌, ◌++◌, length, Option, Some, None}
 use Rattle.std.specs.Prelude.{if◌then◌else◌}
 use Rattle.std.specs.List.{list_all}
@@ -39,7 +39,7 @@ all_stay d sg before (own ∷ behind) =
 abbrev pub is_wide : ℕ → Gap → Bool
 is_wide d gap = has_width (gap.sender.tg + d) gap
 
--- The gaps of an accepted periodic table bear delays up to d: a sender alone bears any. Of several, each gap is wide enough, and each sender
--- stays in sync.
+-- The gaps of an accepted periodic table bear delays up to d: a sender alone bears any. Of several, each gap is wide enough, and each
+-- sender stays in sync.
 abbrev pub gaps_bear : Table → ℕ → Bool
 gaps_bear table d = length table.senders == 1 || (list_all (is_wide d) (gaps table) && all_stay d table.sg [] (gaps table))

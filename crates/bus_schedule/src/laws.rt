@@ -27,7 +27,7 @@ pub fn accepted_is_closed()
 
 /// For an accepted periodic table and even hands, of any length, on a cable with delays up to what its gaps bear
 /// (`specs/Slack.antt`), the closed schedule is the one lawful list up to the closed end, in turns and one transmit interval
-/// apart, and no terminal hears two of its transmissions overlap. The gaps of every accepted periodic table bear no delay.
+/// apart, and no terminal hears two of its transmissions overlap. The gaps of every accepted periodic table bear a delay of 0.
 pub fn borne_gaps_are_closed()
     ensures closed { BorneGapsAreClosed }
     ensures none { AcceptedGapsBearNone }

@@ -12,7 +12,7 @@ ghost use Rattle.bus_schedule.specs.inside.Places.{AreInTurn};
 ghost use Rattle.bus_schedule.specs.Limits.{longest_end, IsLimited};
 ghost use Rattle.bus_schedule.specs.Settled.{Fails, witness_hands};
 ghost use Rattle.bus_schedule.specs.declared.error.ScheduleError.TheVariants.{Memory};
-ghost use Rattle.bus_regime.specs.Verdicts.{verdict_of, is_accepted};
+ghost use Rattle.bus_regime.specs.Verdicts.{IsRefused};
 
 use crate::dealt::{message_at, rounds};
 use crate::end::limited_end;
@@ -162,7 +162,7 @@ pub fn closed(
     ensures closed { IfOk result (λ list. list.items ≡ closed table.now hands.now) }
     ensures ordered { IfOk result (λ list. IsAscending list.items) }
     ensures limit { IsLimited (closed_end table.now hands.now) result }
-    ensures refused { is_accepted (verdict_of table.now) ≡ false → hands.now ≡ witness_hands table.now
+    ensures refused { IsRefused table.now → hands.now ≡ witness_hands table.now
         → IfOk result (λ list. Fails table.now hands.now list.items) }
     ensures witness { hands.now ≡ witness_hands table.now → IfErr result (λ error. error ≡ Memory) }
 {

@@ -1,5 +1,9 @@
 -- What stands around each picture: its head with the title and the style, the words above the plot, and its end.
 use Rattle.std.specs.Prelude.{ℕ, ◌/◌, List, ◌++◌, codes, decimal}
+use Rattle.bus_audit.specs.declared.answer.AuditAnswer.{AuditAnswer}
+use Rattle.bus_audit.specs.Lines.{answer_words}
+use Rattle.bus_regime.specs.declared.table_verdict.TableVerdict.{TableVerdict}
+use Rattle.bus_regime.specs.Lines.{verdict_words}
 use Rattle.bus_table.specs.Tables.{Table}
 use Rattle.bus_shapes.specs.Classes.{Answer, Background, Note, Verdict, rules_text}
 use Rattle.bus_shapes.specs.Classes as classes
@@ -55,10 +59,10 @@ facts_text table counts =
     ++ words_text classes.Counts right_margin facts_line (counts_words counts)
 
 -- All that stands before the plot of a picture of this height.
-abbrev pub frame_text : ℕ → List ℕ → List ℕ → Table → Counts → List ℕ
+abbrev pub frame_text : ℕ → TableVerdict → AuditAnswer → Table → Counts → List ℕ
 frame_text height verdict answer table counts =
-    size_text height ++ title_text verdict answer ++ style_text ++ box_text Background (background height)
-    ++ heads_text verdict answer ++ facts_text table counts
+    size_text height ++ title_text (verdict_words verdict) (answer_words answer) ++ style_text ++ box_text Background (background height)
+    ++ heads_text (verdict_words verdict) (answer_words answer) ++ facts_text table counts
 
 -- The end of a picture.
 abbrev pub tail_text : List ℕ

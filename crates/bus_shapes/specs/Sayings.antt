@@ -3,7 +3,7 @@ use Rattle.std.specs.Prelude.{ℕ, ◌-◌, ◌*◌, ◌/◌, ◌%◌, Bool, tru
 use Rattle.std.specs.Prelude.{if◌then◌else◌}
 use Rattle.bus_table.specs.declared.mode.Mode.{Mode}
 use Rattle.bus_table.specs.Tables.{Table}
-use Rattle.bus_regime.specs.Lines.{mode_name}
+use Rattle.bus_table.specs.Text.{mode_word}
 pub use Rattle.bus_shapes.specs.declared.sent.Sent.{Sent}
 
 -- The ending of the name of so many.
@@ -18,7 +18,7 @@ counted count name = decimal count ++ codes " " ++ name ++ ending count
 -- A mode, the transmit interval, the synchronization gap, and how many senders there are.
 abbrev pub summary_words : Mode → ℕ → ℕ → ℕ → List ℕ
 summary_words mode ti sg senders =
-    mode_name mode ++ codes " TI " ++ decimal ti ++ codes " SG " ++ decimal sg ++ codes ", " ++ counted senders (codes "sender")
+    mode_word mode ++ codes " TI " ++ decimal ti ++ codes " SG " ++ decimal sg ++ codes ", " ++ counted senders (codes "sender")
 
 -- The same of a table.
 abbrev pub table_words : Table → List ℕ

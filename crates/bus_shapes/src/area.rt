@@ -1,3 +1,4 @@
+//! Where a box of a picture is.
 /// Where a box is. A unit is a tenth of a pixel.
 #[derive(Clone, Copy, Debug, PartialEq, Eq)]
 pub struct Area {

@@ -1,3 +1,4 @@
+//! How much of a trace a picture shows.
 /// What a picture shows of a trace. All moments are bit times from the settled start.
 #[derive(Clone, Copy, Debug, PartialEq, Eq)]
 pub struct Counts {

@@ -1,7 +1,8 @@
 //! What stands around each picture.
 ghost use Rattle.std.specs.Prelude.{◌≡◌, length};
 ghost use Rattle.bus_outer.specs.Texts.{Adds};
-ghost use Rattle.bus_regime.specs.Lines.{mode_name, verdict_words};
+ghost use Rattle.bus_regime.specs.Lines.{verdict_words};
+ghost use Rattle.bus_shapes.specs.Frames.{frame_text};
 ghost use Rattle.bus_shapes.specs.Frames as definition;
 ghost use Rattle.bus_audit.specs.Lines.{answer_words};
 ghost use Rattle.bus_shapes.specs.Sayings.{counted, ending, summary_words, table_words};
@@ -14,7 +15,7 @@ use crate::shapes::{begin_words, end_words, put_box};
 use bus_audit::{AuditAnswer, put_answer};
 use bus_outer::{Sink, TextBuffer};
 use bus_regime::{TableVerdict, put_verdict};
-use bus_table::{Mode, Table};
+use bus_table::{Mode, Table, put_mode};
 
 /// The style of all classes, and the hatching of what is garbled.
 fn put_style<K: Sink>(text: &mut TextBuffer, sink: &mut K)
@@ -78,13 +79,6 @@ fn put_title<K: Sink>(
     text.put(sink, b"; ");
     put_answer(text, sink, answer);
     text.put(sink, b"</title>\n");
-}
-
-/// The word of a mode.
-fn put_mode<K: Sink>(text: &mut TextBuffer, sink: &mut K, mode: Mode)
-    ensures { Adds K.held K.faults sink.old sink.new text.old text.new (mode_name mode) }
-{
-    text.put(sink, mode.word().as_bytes());
 }
 
 /// The ending of a name of something of which there are so many.
@@ -201,7 +195,7 @@ pub fn put_frame<K: Sink>(
     counts: &Counts,
 )
     ensures { Adds K.held K.faults sink.old sink.new text.old text.new
-        (definition.frame_text height (verdict_words verdict.now) (answer_words answer.now) table.now counts.now) }
+        (frame_text height verdict.now answer.now table.now counts.now) }
 {
     put_size(text, sink, height);
     put_title(text, sink, verdict, answer);

@@ -57,4 +57,4 @@ pub use sender::Sender;
 pub use stop::{Stop, find_stop};
 pub use table::Table;
 pub use turns::{place, turn_at, turn_places};
-pub use writing::write_table;
+pub use writing::{put_mode, write_table};

@@ -8,7 +8,7 @@ ghost use Rattle.bus_table.specs.inside.Puts as puts;
 ghost use Rattle.bus_table.specs.inside.Puts.{number_bytes, mode_bytes, head_bytes, label_bytes, pair_bytes, send_bytes, take_bytes};
 ghost use Rattle.bus_table.specs.inside.Puts.{offset_bytes, opening_bytes, sender_bytes, listener_bytes};
 ghost use Rattle.bus_table.specs.Reading.{answer_of};
-ghost use Rattle.bus_table.specs.Text.{IsTableText};
+ghost use Rattle.bus_table.specs.Text.{IsTableText, mode_word};
 
 use crate::line::{SendLine, TakeLine};
 use crate::listener::Listener;
@@ -29,14 +29,20 @@ fn put_number_line<K: Sink>(text: &mut TextBuffer, sink: &mut K, keyword: &[u8],
     text.put_byte(sink, b'\n');
 }
 
+/// Puts the word that stands for a mode in texts.
+pub fn put_mode<K: Sink>(text: &mut TextBuffer, sink: &mut K, mode: Mode)
+    ensures { Adds K.held K.faults sink.old sink.new text.old text.new (mode_word mode) }
+{
+    text.put(sink, mode.word().as_bytes());
+}
+
 /// Puts the MODE line.
-fn put_mode<K: Sink>(text: &mut TextBuffer, sink: &mut K, mode: Mode)
+fn put_mode_line<K: Sink>(text: &mut TextBuffer, sink: &mut K, mode: Mode)
     ensures { Adds K.held K.faults sink.old sink.new text.old text.new (mode_bytes mode) }
 {
-    match mode {
-        Mode::Aperiodic => text.put(sink, b"MODE aperiodic\n"),
-        Mode::Periodic => text.put(sink, b"MODE periodic\n"),
-    }
+    text.put(sink, b"MODE ");
+    put_mode(text, sink, mode);
+    text.put_byte(sink, b'\n');
 }
 
 /// Puts the four lines at the head.
@@ -44,7 +50,7 @@ fn put_head<K: Sink>(text: &mut TextBuffer, sink: &mut K, mode: Mode, ti: u32, s
     ensures { Adds K.held K.faults sink.old sink.new text.old text.new (head_bytes mode ti sg) }
 {
     text.put(sink, b"TABLE 1\n");
-    put_mode(text, sink, mode);
+    put_mode_line(text, sink, mode);
     put_number_line(text, sink, b"TI", ti);
     put_number_line(text, sink, b"SG", sg);
 }

@@ -1,6 +1,6 @@
 -- What follows of the stretches of a message, whatever its words.
 -- The contract of `laws::stretches_are_bit_times` says that each of these holds; the proofs are for the crates above to cite.
-use Rattle.std.proofs.Common.{◌≡◌, ℕ, ◌+◌, ◌<◌, ◌≤◌}
+use Rattle.std.specs.Prelude.{◌≡◌, ℕ, ◌+◌, ◌<◌, ◌≤◌}
 use Rattle.std.specs.Option.{option_and_then}
 use Rattle.bus_strings.specs.Messages.{Message, bits}
 use Rattle.bus_terminal.specs.Terminals.{next_place}

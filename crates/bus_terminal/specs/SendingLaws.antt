@@ -1,6 +1,6 @@
 -- What a message says of the timers of the terminal that sends it.
 -- The contract of `laws::sending_is_not_ready` says that this holds; the proof is for the crates above to cite.
-use Rattle.std.proofs.Common.{◌≡◌, ℕ, ◌+◌, ◌<◌, Bool, true, false, List, length, Some}
+use Rattle.std.specs.Prelude.{◌≡◌, ℕ, ◌+◌, ◌<◌, Bool, true, false, List, length, Some}
 use Rattle.std.specs.Prelude.{slice_index_or}
 use Rattle.bus_timers.specs.declared.timing.Timing.{Timing}
 use Rattle.bus_timers.specs.Timings.{IsSound}

@@ -1,5 +1,6 @@
 //! The fields of a line.
-ghost use Rattle.std.specs.Prelude.{◌≡◌, ◌<◌, ℕ, length, true, false, MatchOption, IfSome, IfNone, slice_index, slice_index_or, [], ◌∷◌, drop};
+ghost use Rattle.std.specs.Prelude.{◌≡◌, ◌<◌, ℕ, length, true, false, MatchOption, IfSome, IfNone, slice_index, slice_index_or};
+ghost use Rattle.std.specs.Prelude.{[], ◌∷◌, drop};
 ghost use Rattle.std.specs.Iterator.{YieldsFirstRef, item_count};
 ghost use Rattle.bus_text.specs.Fields.{is_at};
 ghost use Rattle.bus_text.specs.Lines.{is_blank as blank_test, fields_of};

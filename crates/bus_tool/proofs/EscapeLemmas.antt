@@ -13,7 +13,7 @@ use Rattle.std.proofs.lemmas.Str.Parse.{digit_from_value}
 use Rattle.json.specs.Print.{escape_letter, escape_byte, escape}
 use Rattle.bus_table.specs.declared.mode.Mode.{Mode}
 use Rattle.bus_table.specs.declared.mode.Mode.TheVariants.{Aperiodic, Periodic}
-use Rattle.bus_regime.specs.Lines.{mode_name}
+use Rattle.bus_table.specs.Text.{mode_word}
 use Rattle.bus_tool.specs.Escapes.{is_plain, are_plain}
 
 both : (a b : Bool) → a ≡ true → b ≡ true → (a && b) ≡ true
@@ -73,7 +73,7 @@ three_plain name first second third a b c d =
     plain_append (((name ++ first) ++ 32 ∷ []) ++ second ++ 32 ∷ []) third
     (plain_append (((name ++ first) ++ 32 ∷ []) ++ second) (32 ∷ []) (two_plain name first second a b c) refl) d
 
-pub mode_plain : (mode : Mode) → are_plain (mode_name mode) ≡ true
+pub mode_plain : (mode : Mode) → are_plain (mode_word mode) ≡ true
 mode_plain Aperiodic = refl
 mode_plain Periodic = refl
 

@@ -12,7 +12,8 @@ use Rattle.bus_table.specs.Lengths.{shortest, longest}
 use Rattle.bus_table.specs.Tables.{Sender, Table}
 use Rattle.bus_table.specs.Turns.{turn_key, turn_order}
 use Rattle.bus_table.proofs.TurnLaws.{length-sort}
-use Rattle.bus_regime.specs.Lines.{mode_name, verdict_words}
+use Rattle.bus_regime.specs.Lines.{verdict_words}
+use Rattle.bus_table.specs.Text.{mode_word}
 use Rattle.bus_regime.specs.Verdicts.{verdict_of}
 use Rattle.bus_tool.specs.Escapes.{are_plain}
 use Rattle.bus_tool.specs.Reports.{sender_text, senders_text, report_text}
@@ -100,12 +101,12 @@ pub report_json : (table : Table) → are_plain (verdict_words (verdict_of table
 unfolding escape_byte
 report_json table plain =
     let json : List ℕ = items_text false (items_of (map sender_data (turn_order table))) in
-    ap (λ (l : List ℕ). value_line l (escape (mode_name table.mode)) (items_text false (items_of (map sender_data (turn_order table))))
+    ap (λ (l : List ℕ). value_line l (escape (mode_word table.mode)) (items_text false (items_of (map sender_data (turn_order table))))
     (decimal table.sg) (decimal table.ti)) (stays (verdict_words (verdict_of table)) plain)
     ∙ ap (λ (m : List ℕ). value_line (verdict_words (verdict_of table)) m (items_text false (items_of (map sender_data (turn_order table))))
-    (decimal table.sg) (decimal table.ti)) (stays (mode_name table.mode) (mode_plain table.mode))
-    ∙ ap (λ (j : List ℕ). value_line (verdict_words (verdict_of table)) (mode_name table.mode) j (decimal table.sg) (decimal table.ti))
+    (decimal table.sg) (decimal table.ti)) (stays (mode_word table.mode) (mode_plain table.mode))
+    ∙ ap (λ (j : List ℕ). value_line (verdict_words (verdict_of table)) (mode_word table.mode) j (decimal table.sg) (decimal table.ti))
     (senders_json (turn_order table))
-    ∙ pieces (codes "{\"line\":\"") (verdict_words (verdict_of table)) (codes "\"") (codes ",\"mode\":\"") (mode_name table.mode)
+    ∙ pieces (codes "{\"line\":\"") (verdict_words (verdict_of table)) (codes "\"") (codes ",\"mode\":\"") (mode_word table.mode)
     (codes ",\"senders\":[") (senders_text (turn_order table)) (codes "]") (codes ",\"sg\":") (decimal table.sg) (codes ",\"ti\":")
     (decimal table.ti) (codes "}") (codes "\n")

@@ -9,7 +9,7 @@ use Rattle.bus_command.specs.Acts as command
 use Rattle.bus_command.specs.Acts.{Ends, Program, TellsLine}
 use Rattle.bus_command.specs.declared.status.Status.{Status}
 use Rattle.bus_command.specs.Outside.{Call, Outside, sink_seen}
-use Rattle.bus_command.specs.Readers.{Trace, entire, one_source, two_sources}
+use Rattle.bus_command.specs.Readers.{entire, one_source, by_trace, two_sources}
 use Rattle.bus_tool.specs.Causes.{Cause}
 use Rattle.bus_tool.specs.Due.{form_due, first_refusal, table_answer, messages_answer, trace_answer}
 use Rattle.bus_tool.specs.Forms.{Form, TableCommand, MessagesCommand, TraceCommand, form_of, sources_of}
@@ -56,7 +56,7 @@ EndsOnMessages ghosts command table hands old new outcome =
 -- What a command did that has taken its table and trace.
 abbrev pub EndsOnTrace : {K : Type 0} → SinkGhosts K → TraceCommand → Table → Recording → K → K → Outcome → Type 0
 EndsOnTrace ghosts command table trace old new outcome =
-    Ends (two_sources entire Trace) (trace_answer command table trace) (λ text. text ≡ trace_answer_text command table trace)
+    Ends by_trace (trace_answer command table trace) (λ text. text ≡ trace_answer_text command table trace)
     (sink_seen ghosts old) (sink_seen ghosts new) outcome
 
 -- What a call came to: an outcome that it acts by, the line of that outcome on `err`, and its status.

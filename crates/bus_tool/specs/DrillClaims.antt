@@ -9,18 +9,18 @@ use Rattle.bus_command.specs.Claims.{NothingFails, Answers}
 use Rattle.bus_command.specs.Readers.{no_source}
 use Rattle.bus_tool.specs.Drills.{drill_line}
 
--- the words are `drill` and the plain decimal of a number, which is within its limit
+-- The words are `drill` and the plain decimal of a number, which is within its limit.
 pub record IsDrillForm (words : List (List ℕ)) (number : ℕ) : Type 0 where
   pub word : List ℕ
   pub form : words ≡ codes "drill" ∷ word ∷ []
   pub spelled : IsDecimal word number
   pub within : number ≤ most_number
 
--- a call of `drill N`, in which nothing outside fails
+-- A call of `drill N`, in which nothing outside fails.
 pub record IsDrillOf (number : ℕ) (call : Call) : Type 0 where
   pub form : IsDrillForm call.words number
   pub undisturbed : NothingFails no_source call.before call.after
 
--- the line of the drill is written, and the status is Done
+-- The line of the drill is written, and the status is Done.
 abbrev pub GivesDrill : ℕ → Call → Status → Type 0
 GivesDrill number call status = Answers Done (λ text. text ≡ drill_line number) call status

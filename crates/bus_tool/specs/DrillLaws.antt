@@ -7,7 +7,7 @@ use Rattle.bus_schedule.specs.Even.{are_even}
 use Rattle.bus_vectors.specs.Made.{made_table}
 use Rattle.bus_tool.specs.Drills.{drill_hands}
 
--- the greatest moment at which a drill can end: 500 rounds of the longest cycle of 31 senders
+-- The greatest moment at which a drill can end: 500 rounds of the longest cycle of 31 senders.
 abbrev pub longest_drill : ℕ
 longest_drill = 13914000
 
@@ -18,6 +18,6 @@ pub record IsDrillable (number : ℕ) : Type 0 where
   pub even : IsTrue (are_even (made_table number) (drill_hands number))
   pub short : closed_end (made_table number) (drill_hands number) ≤ longest_drill
 
--- the same of every number
+-- The same of every number.
 abbrev pub DrillsAreAccepted : Type 0
 DrillsAreAccepted = (number : ℕ) → IsDrillable number

@@ -9,19 +9,19 @@ use Rattle.bus_filter.specs.ReceivedTexts.{received_count}
 use Rattle.bus_vectors.specs.Made.{sender_count, round_count, made_table, made_items}
 use Rattle.bus_tool.specs.declared.drill.DrillFigures.{DrillFigures}
 
--- the hands of a number's senders
+-- The hands of a number's senders.
 abbrev pub drill_hands : ℕ → List Hand
 drill_hands number = hands_of (made_table number) (made_items number)
 
--- what they do, which is the closed schedule
+-- What they do, which is the closed schedule.
 abbrev pub drill_list : ℕ → List Entry
 drill_list number = closed (made_table number) (drill_hands number)
 
--- how many transmissions of a list are garbled
+-- How many transmissions of a list are garbled.
 abbrev pub garbled_count : List Entry → ℕ
 garbled_count list = count_by (λ mark. mark) (marks list)
 
--- the figures of a drill
+-- The figures of a drill.
 pub record IsDrilled (drilled : DrillFigures) (number : ℕ) : Type 0 where
   pub made : drilled.number ≡ number
   pub senders : drilled.senders ≡ sender_count number
@@ -38,12 +38,12 @@ figures number senders rounds messages end collided received =
     ++ (codes " messages " ++ decimal messages) ++ (codes " end " ++ decimal end) ++ (codes " collided " ++ decimal collided)
     ++ (codes " received " ++ decimal received) ++ codes "\n"
 
--- the line of what a drill found
+-- The line of what a drill found.
 abbrev pub line_of : DrillFigures → List ℕ
 line_of drilled =
     figures drilled.number drilled.senders drilled.rounds drilled.messages drilled.end drilled.collided drilled.received
 
--- the line of the drill of a number
+-- The line of the drill of a number.
 abbrev pub drill_line : ℕ → List ℕ
 drill_line number =
     figures number (sender_count number) (round_count number) (length (drill_list number))

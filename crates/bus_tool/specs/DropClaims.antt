@@ -31,6 +31,6 @@ pub record IsTheDrop (table : Table) (hands : List Hand) (text : List ℕ) : Typ
   pub ran : IsDropRecording table hands recording
   pub text_is : text ≡ run_text table recording
 
--- that text is written, and the status is Done
+-- That text is written, and the status is Done.
 abbrev pub GivesDrop : Table → List Item → Call → Status → Type 0
 GivesDrop table items call status = Answers Done (IsTheDrop table (hands_of table items)) call status

@@ -29,9 +29,11 @@ use Rattle.bus_audit.specs.declared.answer.AuditAnswer.TheVariants.{Lawful, Brea
 use Rattle.bus_audit.specs.Breaches.{answer_of}
 use Rattle.bus_command.specs.declared.inputs.Traced.{Traced}
 use Rattle.bus_command.specs.declared.outcome.Outcome.TheVariants.{Done, Answered, Usage, NoMemory}
-use Rattle.bus_command.specs.Due.{text_within, table_due, table_refusal_of, Inputs, hands_in, inputs_by, traced_by, traced_due, outcome_with}
+use Rattle.bus_command.specs.Due.{text_within, table_due, table_refusal_of, Inputs, hands_in, inputs_by, traced_by, traced_due}
+use Rattle.bus_command.specs.Due.{outcome_with}
 use Rattle.bus_command.specs.Stages.{refusal_in}
-use Rattle.bus_tool.specs.Forms.{Form, OnTable, OnMessages, OnTrace, Unwave, Drill, TableCommand, Check, Tolerance, Tidy, Report, Witness, Plan}
+use Rattle.bus_tool.specs.Forms.{Form, OnTable, OnMessages, OnTrace, Unwave, Drill, TableCommand, Check, Tolerance, Tidy, Report}
+use Rattle.bus_tool.specs.Forms.{Witness, Plan}
 use Rattle.bus_tool.specs.Forms.{MessagesCommand, Observe, Run, Drop, TraceCommand, Receive, Audit, Vote, Wave}
 use Rattle.bus_tool.specs.Forms.{form_of, wave_limit, table_mode, messages_mode}
 use Rattle.bus_tool.specs.Refusals.{Outcome, refuse, TableMode, Unspaced, WaveText, Uneven, NotAccepted, ShortLast, TooLong}

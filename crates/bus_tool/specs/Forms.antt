@@ -6,7 +6,7 @@ use Rattle.bus_strings.specs.Limits.{horizon_limit}
 use Rattle.bus_table.specs.declared.mode.Mode.{Mode}
 use Rattle.bus_table.specs.declared.mode.Mode.TheVariants.{Aperiodic, Periodic}
 use Rattle.bus_vectors.specs.Made.{most_number}
-use Rattle.bus_command.specs.Readers.{Named, Reader, Entire, Trace, entire, no_source, one_source, two_sources}
+use Rattle.bus_command.specs.Readers.{Named, Reader, Entire, entire, no_source, one_source, by_trace, two_sources}
 pub use Rattle.bus_tool.specs.declared.forms.Form.{Form}
 pub use Rattle.bus_tool.specs.declared.forms.Form.TheVariants.{OnTable, OnMessages, OnTrace, Unwave, Drill}
 pub use Rattle.bus_tool.specs.declared.forms.TableCommand.{TableCommand}
@@ -73,7 +73,7 @@ entire_wave = Entire wave_limit
 abbrev pub sources_of : Form → Named
 sources_of (OnTable command) = one_source entire
 sources_of (OnMessages command) = two_sources entire entire
-sources_of (OnTrace command) = two_sources entire Trace
+sources_of (OnTrace command) = by_trace
 sources_of Unwave = two_sources entire entire_wave
 sources_of (Drill number) = no_source
 

@@ -14,13 +14,13 @@ use Rattle.bus_command.specs.Outside.{Call}
 use Rattle.bus_tool.specs.PlanTexts.{infeasible_line}
 use Rattle.bus_command.specs.Claims.{Answers, IsOfTable}
 
--- a call of `plan T` on a text of a valid periodic table, in which nothing outside fails
+-- A call of `plan T` on a text of a valid periodic table, in which nothing outside fails.
 pub record IsPlanCallOf (table : Table) (call : Call) : Type 0 where
   pub call_is : IsOfTable (codes "plan") table call
   pub periodic : table.mode ≡ Periodic
 
--- the canonical text of the planned table, which is the given one but for its offsets, and accepted: so `run` is claimed of that text,
--- where it is within its limit
+-- The canonical text of the planned table, which is the given one but for its offsets, and accepted: so what `run` promises holds of
+-- that text.
 pub record IsPlannedText (table : Table) (text : List ℕ) : Type 0 where
   pub text_is : text ≡ table_text (planned_table table)
   pub stands : IsTableText (planned_table table) text

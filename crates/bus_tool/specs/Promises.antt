@@ -42,10 +42,12 @@ pub record Promises (call : Call) (status : Status) : Type 0 where
   pub plan : (table : Table) → IsPlanCallOf table call → GivesPlan table call status
   pub report : (table : Table) → IsOfTable (codes "report") table call → GivesReport table call status
   pub drill : (number : ℕ) → IsDrillOf number call → GivesDrill number call status
-  pub observe : (table : Table) (items : List Item) (until : ℕ) → IsObserveOf table items until call → GivesTrace table items until call status
+  pub observe : (table : Table) (items : List Item) (until : ℕ) → IsObserveOf table items until call
+      → GivesTrace table items until call status
   pub run : (table : Table) (items : List Item) → IsRunOf table items call → GivesRun table items call status
   pub drop : (table : Table) (items : List Item) → IsDropOf table items call → GivesDrop table items call status
-  pub receive : (table : Table) (trace : Recording) → IsOfTraced (codes "receive") [] table trace call → GivesReceived table trace call status
+  pub receive : (table : Table) (trace : Recording) → IsOfTraced (codes "receive") [] table trace call
+      → GivesReceived table trace call status
   pub audit : (table : Table) (trace : Recording) → IsOfTraced (codes "audit") [] table trace call → GivesFinding table trace call status
   pub vote : (table : Table) (trace : Recording) → IsOfTraced (codes "vote") [] table trace call → GivesVotes table trace call status
   pub wave : (table : Table) (trace : Recording) → IsOfTraced (codes "wave") [] table trace call → GivesWave table trace call status

@@ -1,7 +1,8 @@
 -- What bus629 refuses beside what every command does: where, with which status, and by which line.
 use Rattle.std.specs.Prelude.{ℕ, List, [], ◌∷◌, ◌++◌, codes}
 use Rattle.std.specs.Fmt.{decimal}
-use Rattle.bus_regime.specs.Lines.{mode_name, verdict_line}
+use Rattle.bus_regime.specs.Lines.{verdict_line}
+use Rattle.bus_table.specs.Text.{mode_word}
 use Rattle.bus_wave.specs.declared.fault.WaveFault.{WaveFault}
 use Rattle.bus_wave.specs.declared.fault.WaveFault.TheVariants as entry
 use Rattle.bus_wave.specs.declared.fault.WaveReason.{WaveReason}
@@ -15,7 +16,8 @@ use Rattle.bus_command.specs.declared.status.Status.TheVariants as status
 use Rattle.bus_command.specs.Outcomes as common
 use Rattle.bus_command.specs.Outcomes.{error_line}
 pub use Rattle.bus_tool.specs.declared.refusal.ToolRefusal.{ToolRefusal}
-pub use Rattle.bus_tool.specs.declared.refusal.ToolRefusal.TheVariants.{TableMode, Unspaced, WaveText, Uneven, NotAccepted, ShortLast, TooLong}
+pub use Rattle.bus_tool.specs.declared.refusal.ToolRefusal.TheVariants.{TableMode, Unspaced, WaveText, Uneven, NotAccepted}
+pub use Rattle.bus_tool.specs.declared.refusal.ToolRefusal.TheVariants.{ShortLast, TooLong}
 
 -- What a command came to.
 abbrev pub Outcome : Type 0
@@ -78,7 +80,7 @@ short_last_line least ti = codes "REFUSE short-last " ++ decimal least ++ 32 ∷
 
 -- The line of each refusal: the verdict or the last cycle for which senders aren't run, else the ERROR line.
 abbrev pub line_of : ToolRefusal → List ℕ
-line_of (TableMode needed) = error_line status.TableRefused (codes "table mode " ++ mode_name needed)
+line_of (TableMode needed) = error_line status.TableRefused (codes "table mode " ++ mode_word needed)
 line_of (Unspaced fault) = error_line status.InputRefused (codes "wave entry " ++ entry_words fault)
 line_of (WaveText line reason) = error_line status.InputRefused (codes "wave line " ++ decimal line ++ 32 ∷ [] ++ wave_reason_name reason)
 line_of (Uneven one one_count other other_count) = error_line status.InputRefused (uneven_words one one_count other other_count)

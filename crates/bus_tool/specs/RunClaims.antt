@@ -14,7 +14,7 @@ use Rattle.bus_command.specs.Outside.{Call}
 use Rattle.bus_tool.specs.Texts.{IsRunRecording, run_text}
 use Rattle.bus_command.specs.Claims.{Answers, IsOfItems}
 
--- every sender has the same number of items, maybe none
+-- Every sender has the same number of items, maybe none.
 pub record AreEvenItems (table : Table) (items : List Item) : Type 0 where
   pub rounds : ℕ
   pub each : AllByRecursion (λ sender. length (items_of sender.number items) ≡ rounds) table.senders
@@ -35,6 +35,6 @@ pub record IsTheRun (table : Table) (hands : List Hand) (text : List ℕ) : Type
   pub ran : IsRunRecording table hands recording
   pub text_is : text ≡ run_text table recording
 
--- that text is written, and the status is Done
+-- That text is written, and the status is Done.
 abbrev pub GivesRun : Table → List Item → Call → Status → Type 0
 GivesRun table items call status = Answers Done (IsTheRun table (hands_of table items)) call status

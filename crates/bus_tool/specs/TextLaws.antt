@@ -15,41 +15,41 @@ use Rattle.bus_tool.specs.Due.{due}
 use Rattle.bus_tool.specs.Texts.{hold_of, holds_of, IsObserved, IsRunRecording, IsDropRecording, IsCommandText}
 use Rattle.bus_tool.specs.TraceClaims.{IsFinding}
 
--- a command writes one text at most
+-- A command writes one text at most.
 abbrev pub OneCommandText : Type 0
 OneCommandText = (words : List (List ℕ)) (first second text other : List ℕ)
     → IsCommandText words first second text → IsCommandText words first second other → other ≡ text
 
--- it has a text, where an answer is due
+-- It has a text, where an answer is due.
 abbrev pub AnswersHaveTexts : Type 0
 AnswersHaveTexts = (words : List (List ℕ)) (first second : List ℕ)
     → is_written (due words first second) ≡ true → (text : List ℕ) × IsCommandText words first second text
 
--- one hold for each hand, by rising number
+-- One hold for each hand, by rising number.
 pub record HoldEachHand (hands : List Hand) : Type 0 where
   pub each : (hand : Hand) → In hand hands → In (hold_of hand) (holds_of hands)
   pub only : (hold : Hold) → In hold (holds_of hands) → (hand : Hand) × In hand hands × (hold ≡ hold_of hand)
   pub rising : AscendAbove 0 (holds_of hands)
 
--- each sender of a valid table has one hold
+-- Each sender of a valid table has one hold.
 abbrev pub SendersHaveHolds : Type 0
 SendersHaveHolds = (table : Table) (items : List Item) → IsTrue (is_valid table) → HoldEachHand (hands_of table items)
 
--- an audit finds nothing against a trace
+-- An audit finds nothing against a trace.
 abbrev pub IsFoundLawful : Table → Recording → Type 0
 IsFoundLawful table trace = (answer : AuditAnswer) → IsFinding table trace answer → (collided : ℕ) × (answer ≡ Lawful collided)
 
--- nor against what is observed of a valid table and of items that fit it, whatever collides
+-- Nor against what is observed of a valid table and of items that fit it, whatever collides.
 abbrev pub ObservedIsFoundLawful : Type 0
 ObservedIsFoundLawful = (table : Table) (items : List Item) (horizon : ℕ) (trace : Recording) → IsTrue (is_valid table)
     → IsOk (items_fit table items) → IsTrace trace → IsObserved table (hands_of table items) horizon trace → IsFoundLawful table trace
 
--- nor against a run
+-- Nor against a run.
 abbrev pub RunIsFoundLawful : Type 0
 RunIsFoundLawful = (table : Table) (items : List Item) (trace : Recording) → IsTrue (is_valid table) → IsOk (items_fit table items)
     → IsTrace trace → IsRunRecording table (hands_of table items) trace → IsFoundLawful table trace
 
--- nor against a run whose senders fall silent
+-- Nor against a run whose senders fall silent.
 abbrev pub DropIsFoundLawful : Type 0
 DropIsFoundLawful = (table : Table) (items : List Item) (trace : Recording) → IsTrue (is_valid table) → IsOk (items_fit table items)
     → IsTrace trace → IsDropRecording table (hands_of table items) trace → IsFoundLawful table trace

@@ -25,7 +25,8 @@ use Rattle.bus_vote.specs.VoteTexts.{votes_text}
 use Rattle.bus_wave.specs.WaveTexts.{wave_text}
 use Rattle.bus_command.specs.declared.inputs.Traced.{Traced}
 use Rattle.bus_command.specs.Due.{Inputs, hands_in, inputs_by, traced_due, IsTextOf}
-use Rattle.bus_tool.specs.Forms.{Form, OnTable, OnMessages, OnTrace, Unwave, Drill, TableCommand, Check, Tolerance, Tidy, Report, Witness, Plan}
+use Rattle.bus_tool.specs.Forms.{Form, OnTable, OnMessages, OnTrace, Unwave, Drill, TableCommand, Check, Tolerance, Tidy, Report}
+use Rattle.bus_tool.specs.Forms.{Witness, Plan}
 use Rattle.bus_tool.specs.Forms.{MessagesCommand, Observe, Run, Drop, TraceCommand, Receive, Audit, Vote, Wave}
 use Rattle.bus_tool.specs.Forms.{form_of, table_mode, messages_mode}
 use Rattle.bus_tool.specs.Due.{table_for, unwave_due, table_answer, inputs_answer, traced_answer, unwave_answer}
@@ -34,35 +35,35 @@ use Rattle.bus_tool.specs.Reports.{report_text}
 use Rattle.bus_tool.specs.PlanTexts.{plan_text}
 use Rattle.bus_tool.specs.Tolerances.{tolerance_text}
 
--- the number of a hand's terminal and how many messages it has
+-- The number of a hand's terminal and how many messages it has.
 abbrev pub hold_of : Hand → Hold
 hold_of hand = record { terminal = hand.terminal; count = length hand.messages }
 
--- the hold of the terminal with this number
+-- The hold of the terminal with this number.
 abbrev pub hold_at : List Hand → ℕ → Option Hold
 hold_at hands number = option_map hold_of (find (λ hand. hand.terminal == number) hands)
 
--- the numbers that a terminal may have
+-- The numbers that a terminal may have.
 unfoldable pub terminal_numbers : List ℕ
 terminal_numbers = range_with_len 1 128
 
--- the holds of the hands, by rising number
+-- The holds of the hands, by rising number.
 abbrev pub holds_of : List Hand → List Hold
 holds_of hands = filter_map (hold_at hands) terminal_numbers
 
--- the recording of the senders of a table up to a horizon: what each of them held, and the lawful list
+-- The recording of the senders of a table up to a horizon: what each of them held, and the lawful list.
 pub record IsObserved (table : Table) (hands : List Hand) (until : ℕ) (recording : Recording) : Type 0 where
   pub horizon : recording.horizon ≡ until
   pub holds : recording.holds ≡ holds_of hands
   pub lawful : IsLawful (quiet_of table) (stations_of table hands) until recording.list
 
--- the recording of a run: its horizon is the closed end, what each sender held, and the run
+-- The recording of a run: its horizon is the closed end, what each sender held, and the run.
 pub record IsRunRecording (table : Table) (hands : List Hand) (recording : Recording) : Type 0 where
   pub horizon : recording.horizon ≡ closed_end table hands
   pub holds : recording.holds ≡ holds_of hands
   pub run : IsRun table hands recording.list
 
--- the recording of a run whose senders fall silent: its horizon is the end of the drop-out schedule
+-- The recording of a run whose senders fall silent: its horizon is the end of the drop-out schedule.
 pub record IsDropRecording (table : Table) (hands : List Hand) (recording : Recording) : Type 0 where
   pub horizon : recording.horizon ≡ drop_end table hands
   pub holds : recording.holds ≡ holds_of hands
@@ -89,7 +90,8 @@ abbrev pub run_text : Table → Recording → List ℕ
 run_text table recording = trace_text recording ++ received_text table recording.list
 
 -- The text of a recording of this kind.
-pub record IsRanText (IsRecording : Table → List Hand → Recording → Type 0) (table : Table) (hands : List Hand) (text : List ℕ) : Type 0 where
+pub record IsRanText (IsRecording : Table → List Hand → Recording → Type 0) (table : Table) (hands : List Hand) (text : List ℕ)
+    : Type 0 where
   pub recording : Recording
   pub ran : IsRecording table hands recording
   pub text_is : text ≡ run_text table recording
@@ -125,7 +127,8 @@ IsUnwavedText traced text = text ≡ trace_text traced.trace
 
 -- What a form writes of both texts.
 abbrev pub IsFormText : Form → List ℕ → List ℕ → List ℕ → Type 0
-IsFormText (OnTable command) first second text = IsTextOf (table_answer command) (IsTableText command) (table_for (table_mode command) first) text
+IsFormText (OnTable command) first second text =
+    IsTextOf (table_answer command) (IsTableText command) (table_for (table_mode command) first) text
 IsFormText (OnMessages command) first second text =
     IsTextOf (inputs_answer command) (IsInputsText command) (inputs_by (table_for (messages_mode command)) first second) text
 IsFormText (OnTrace command) first second text = IsTextOf (traced_answer command) (IsTracedText command) (traced_due first second) text

@@ -26,14 +26,15 @@ use Rattle.bus_tool.specs.Due.{verdict_outcome}
 use Rattle.bus_tool.specs.Refusals.{status_of}
 use Rattle.bus_tool.specs.Tolerances.{tolerance_of, tolerance_text, starts_in}
 
--- A table of this mode keeps its order with all delays up to d: whatever even hands its senders have, the closed schedule on the cable is what
--- they do. In aperiodic mode they may wake up to d later too.
+-- A table of this mode keeps its order with all delays up to d: whatever even hands its senders have, the closed schedule on the cable is
+-- what they do. In aperiodic mode they may wake up to d later too.
 abbrev pub KeepsOrderIn : Mode → Table → ℕ → Type 0
 KeepsOrderIn Aperiodic table d =
     (hands : List Hand) (delay : Delays) (wake : Wakes) → IsTrue (are_even table hands) → AreDelays d delay → AreWakes d table.senders wake
     → IsCableRun table hands d delay wake (cable_closed delay wake table hands)
 KeepsOrderIn Periodic table d =
-    (hands : List Hand) (delay : Delays) → IsTrue (are_even table hands) → AreDelays d delay → IsRunOnCable table hands d delay (closed table hands)
+    (hands : List Hand) (delay : Delays) → IsTrue (are_even table hands) → AreDelays d delay
+    → IsRunOnCable table hands d delay (closed table hands)
 
 -- There is a straight cable of length d on which a table of this mode doesn't.
 abbrev pub LosesOrderIn : Mode → Table → ℕ → Type 0
@@ -43,7 +44,8 @@ LosesOrderIn Periodic table d = BreaksOnCable table d
 -- Without delays the order of the table comes about whenever its senders are powered up.
 abbrev pub SettlesFromAnyStart : Table → Type 0
 SettlesFromAnyStart table =
-    (hands : List Hand) (wake : Wakes) (up horizon : ℕ) (list : List Entry) → IsTrue (are_hands table.senders hands) → ArePoweredUp table wake up
+    (hands : List Hand) (wake : Wakes) (up horizon : ℕ) (list : List Entry) → IsTrue (are_hands table.senders hands)
+    → ArePoweredUp table wake up
     → HaveLeft table hands horizon list → up + most_cycle table + table.sg ≤ horizon
     → IsLawfulOnCable (quiet_of table) at_once wake (stations_of table hands) horizon list → HasSettled table hands up horizon list
 
@@ -56,8 +58,8 @@ pub record TellsTolerance (table : Table) : Type 0 where
   pub alone : tolerance_of table ≡ None → (d : ℕ) → KeepsOrderIn table.mode table d
   pub start : IsTrue (starts_in table.mode table) → SettlesFromAnyStart table
 
--- The tolerance line is written of an accepted table, which tells what it says, and else the verdict line. The status is Done where the verdict
--- accepts, else Refused.
+-- The tolerance line is written of an accepted table, which tells what it says, and else the verdict line. The status is Done where the
+-- verdict accepts, else Refused.
 pub record GivesTolerance (table : Table) (call : Call) (status : Status) : Type 0 where
   pub gives : Answers (status_of (verdict_outcome (verdict_of table))) (λ text. text ≡ tolerance_text (verdict_of table) table) call status
   pub tells : IsTrue (is_accepted (verdict_of table)) → TellsTolerance table

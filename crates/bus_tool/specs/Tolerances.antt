@@ -28,8 +28,8 @@ abbrev pub tolerance_word : Option ℕ → List ℕ
 tolerance_word None = codes "any"
 tolerance_word (Some d) = decimal d
 
--- How far apart two starts of one of so many senders are at most, with delays up to the tolerance: in aperiodic mode farther by that for each
--- sender, where there are several.
+-- How far apart two starts of one of so many senders are at most, with delays up to the tolerance: in aperiodic mode farther by that for
+-- each sender, where there are several.
 abbrev pub most_apart : Mode → ℕ → Option ℕ → ℕ → ℕ
 most_apart Aperiodic senders (Some d) most = most + senders * d
 most_apart Aperiodic senders None most = most

@@ -25,13 +25,13 @@ pub record IsFinding (table : Table) (trace : Recording) (answer : AuditAnswer) 
   pub first : IsAnswer table trace answer
   pub right : ((collided : ℕ) × (answer ≡ Lawful collided)) ↔ IsRight table trace
 
--- the line of what an audit finds is written, and the status is Done where it is that the trace is lawful, else Refused
+-- The line of what an audit finds is written, and the status is Done where it is that the trace is lawful, else Refused.
 abbrev pub GivesFinding : Table → Recording → Call → Status → Type 0
 GivesFinding table trace call status =
     (answer : AuditAnswer) × IsFinding table trace answer
     × Answers (status_of (audit_outcome answer)) (λ text. text ≡ answer_line answer) call status
 
--- what each terminal of the table receives of the trace is written, and the status is Done
+-- What each terminal of the table receives of the trace is written, and the status is Done.
 abbrev pub GivesReceived : Table → Recording → Call → Status → Type 0
 GivesReceived table trace call status = Answers Done (λ text. text ≡ received_text table trace.list) call status
 

@@ -19,14 +19,14 @@ use Rattle.bus_tool.specs.Forms.{entire_wave, wave_limit}
 use Rattle.bus_tool.specs.Texts.{IsRunRecording}
 
 -- ---- `wave`
--- the trace's list is the closed schedule of these hands of an accepted table, as many messages each, and its horizon is the closed end
+-- The trace's list is the closed schedule of these hands of an accepted table, as many messages each, and its horizon is the closed end.
 pub record IsClosedTrace (table : Table) (hands : List Hand) (trace : Recording) : Type 0 where
   pub accepted : IsTrue (is_accepted (verdict_of table))
   pub even : IsTrue (are_even table hands)
   pub list : trace.list ≡ closed table hands
   pub horizon : trace.horizon ≡ closed_end table hands
 
--- the trace is the one that `run` writes of these hands of an accepted table, as many messages each
+-- The trace is the one that `run` writes of these hands of an accepted table, as many messages each.
 pub record IsTraceOfRun (table : Table) (hands : List Hand) (trace : Recording) : Type 0 where
   pub accepted : IsTrue (is_accepted (verdict_of table))
   pub even : IsTrue (are_even table hands)
@@ -52,7 +52,7 @@ GivesWave table trace call status =
     × HasAWave table trace
 
 -- ---- `unwave`
--- a source tells its bytes, and they are the wave text, within its limit, of a trace that is read from it for the table
+-- A source tells its bytes, and they are the wave text, within its limit, of a trace that is read from it for the table.
 pub record TellsWave (table : Table) (trace : Recording) (seen : Seen) : Type 0 where
   pub text : List ℕ
   pub told : seen.bytes ≡ Some text
@@ -60,13 +60,13 @@ pub record TellsWave (table : Table) (trace : Recording) (seen : Seen) : Type 0 
   pub stands : IsWaveText trace text
   pub trace_is : IsWaveTrace table trace
 
--- a call of `unwave T W` on texts of a valid table and of a wave, in which nothing outside fails
+-- A call of `unwave T W` on texts of a valid table and of a wave, in which nothing outside fails.
 pub record IsUnwaveOf (table : Table) (trace : Recording) (call : Call) : Type 0 where
   pub form : IsFormOfTwo (codes "unwave") [] call.words
   pub table_told : TellsTable table call.before.sources.first
   pub wave_told : TellsWave table trace call.before.sources.second
   pub undisturbed : NothingFails (two_sources entire entire_wave) call.before call.after
 
--- the text of the trace is written, and the status is Done
+-- The text of the trace is written, and the status is Done.
 abbrev pub GivesUnwaved : Table → Recording → Call → Status → Type 0
 GivesUnwaved table trace call status = Answers Done (λ text. text ≡ trace_text trace) call status

@@ -3,7 +3,7 @@ ghost use Rattle.std.specs.Prelude.{◌≡◌, ◌++◌, codes, decimal, List, [
 ghost use Rattle.bus_command.specs.Outcomes.{error_line};
 ghost use Rattle.bus_outer.specs.Sinks.{WritesText};
 ghost use Rattle.bus_outer.specs.Texts.{Adds};
-ghost use Rattle.bus_regime.specs.Lines.{mode_name};
+ghost use Rattle.bus_table.specs.Text.{mode_word};
 ghost use Rattle.bus_tool.specs.Due.{uneven_refusal};
 ghost use Rattle.bus_tool.specs.Refusals as refusals;
 ghost use Rattle.bus_tool.specs.Refusals.{count_words, ends_of, entry_words, line_of, place_of, short_last_line, uneven_words};
@@ -13,7 +13,7 @@ use bus_command::{Place, Refusal, Status, put_error, put_number_and_word, put_nu
 use bus_outer::{Sink, TextBuffer, WriteFault};
 use bus_regime::{TableVerdict, write_verdict};
 use bus_schedule::Uneven;
-use bus_table::Mode;
+use bus_table::{Mode, put_mode};
 use bus_wave::{WaveFault, WaveReason};
 
 /// What bus629 refuses beside what every command does.
@@ -124,19 +124,9 @@ impl Refusal for ToolRefusal {
     }
 }
 
-/// Puts the word of a mode.
-fn put_mode<K: Sink>(text: &mut TextBuffer, sink: &mut K, mode: Mode)
-    ensures { Adds K.held K.faults sink.old sink.new text.old text.new (mode_name mode) }
-{
-    match mode {
-        Mode::Aperiodic => text.put(sink, b"aperiodic"),
-        Mode::Periodic => text.put(sink, b"periodic"),
-    }
-}
-
 /// Puts that a table isn't of the mode that is needed.
 fn put_table_mode<K: Sink>(text: &mut TextBuffer, sink: &mut K, needed: Mode)
-    ensures { Adds K.held K.faults sink.old sink.new text.old text.new (codes "table mode " ++ mode_name needed) }
+    ensures { Adds K.held K.faults sink.old sink.new text.old text.new (codes "table mode " ++ mode_word needed) }
 {
     text.put(sink, b"table mode ");
     put_mode(text, sink, needed);

@@ -15,26 +15,16 @@ use crate::check::verdict_outcome;
 use crate::refusal::Outcome;
 use bus_command::after_writing;
 use bus_outer::{Sink, write_all};
-use bus_regime::{TableVerdict, turn, verdict};
-use bus_table::{Mode, Sender, Table, longest, shortest};
+use bus_regime::{TableVerdict, verdict};
+use bus_table::{Mode, Sender, Table, longest, shortest, turn_at, turn_places};
 use serde_json::{Value, json};
 use std::alloc::{AllocError, Global};
-
-/// The word of a mode.
-fn mode_name(mode: Mode) -> &'static str
-    ensures { result.now ≡ lines.mode_name mode }
-{
-    match mode {
-        Mode::Aperiodic => "aperiodic",
-        Mode::Periodic => "periodic",
-    }
-}
 
 /// The words of a table that is accepted, as `write_verdict` writes them.
 fn accepted(alloc: Global, mode: Mode, least: u64, most: u64) -> Result<String, AllocError>
     ensures { IfOk result (IsLine (verdicts.Accept mode least most)) }
 {
-    let mode = mode_name(mode);
+    let mode = mode.word();
     format!(in alloc; "ACCEPT {mode} {least} {most}")
 }
 
@@ -98,8 +88,9 @@ fn sender_values(alloc: Global, table: &Table) -> Result<Vec<Value>, AllocError>
 {
     let count = table.senders().len();
     let mut values = Vec::with_capacity(alloc, count)?;
+    let places = turn_places(table);
     for k in 0..count {
-        values.push(sender_value(alloc, turn(table, k))?)?;
+        values.push(sender_value(alloc, turn_at(table, &places, k))?)?;
     }
     Ok(values)
 }
@@ -113,7 +104,7 @@ fn report_value(alloc: Global, table: &Table) -> Result<Value, AllocError>
     let senders = sender_values(alloc, table)?;
     json!(in alloc; {
         "line": line,
-        "mode": mode_name(table.mode()),
+        "mode": table.mode().word(),
         "senders": senders,
         "sg": table.sg(),
         "ti": table.ti()

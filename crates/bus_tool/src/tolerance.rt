@@ -3,7 +3,6 @@ ghost use Rattle.std.specs.Prelude.{◌≡◌, IsTrue};
 ghost use Rattle.bus_outer.specs.Sinks.{WritesText};
 ghost use Rattle.bus_outer.specs.Texts.{Adds};
 ghost use Rattle.bus_regime.specs.Verdicts.{verdict_of, is_accepted};
-ghost use Rattle.bus_table.specs.Text.{mode_word};
 ghost use Rattle.bus_tool.specs.Acts.{EndsOnTable};
 ghost use Rattle.bus_tool.specs.Forms.{Tolerance};
 ghost use Rattle.bus_tool.specs.Tolerances as tolerances;
@@ -15,7 +14,7 @@ use bus_outer::{Sink, TextBuffer, WriteFault};
 use bus_reach::starts_itself;
 use bus_regime::{TableVerdict, verdict, write_verdict};
 use bus_table::laws::table_is_valid;
-use bus_table::{Mode, Table};
+use bus_table::{Mode, Table, put_mode};
 
 /// The tolerance of an accepted table, in bit times; None where it has one sender.
 fn tolerance_of(table: &Table) -> Option<u64>
@@ -65,13 +64,6 @@ fn put_start<K: Sink>(text: &mut TextBuffer, sink: &mut K, anyhow: bool)
     } else {
         text.put(sink, b"settled");
     }
-}
-
-/// Puts the word of a mode.
-fn put_mode<K: Sink>(text: &mut TextBuffer, sink: &mut K, mode: Mode)
-    ensures { Adds K.held K.faults sink.old sink.new text.old text.new (mode_word mode) }
-{
-    text.put(sink, mode.word().as_bytes());
 }
 
 /// Puts a tolerance line of these fields.

@@ -16,7 +16,10 @@ abbrev pub MadeItemsFit : Type 0
 MadeItemsFit = (number : ℕ) → AllByRecursion IsItem (made_items number) × IsOk (items_fit (made_table number) (made_items number))
 
 -- Each sender has as many items as there are rounds.
+abbrev pub AreEvenItems : ℕ → Type 0
+AreEvenItems number =
+    AllByRecursion (λ sender. length (items_of sender.number (made_items number)) ≡ round_count number) (made_table number).senders
+
+-- So it is for every number.
 abbrev pub MadeItemsAreEven : Type 0
-MadeItemsAreEven =
-    (number : ℕ)
-    → AllByRecursion (λ sender. length (items_of sender.number (made_items number)) ≡ round_count number) (made_table number).senders
+MadeItemsAreEven = (number : ℕ) → AreEvenItems number

@@ -1,9 +1,8 @@
 //! The table and the messages of a number.
-ghost use Rattle.std.specs.Prelude.{◌≡◌, ◌≤◌, IfOk, IsOk, length};
-ghost use Rattle.std.specs.List.{AllByRecursion};
+ghost use Rattle.std.specs.Prelude.{◌≡◌, ◌≤◌, IfOk, IsOk};
 ghost use Rattle.bus_table.specs.Fits.{items_fit};
-ghost use Rattle.bus_table.specs.Hands.{items_of};
-ghost use Rattle.bus_vectors.specs.Made.{most_number, round_count, made_table, made_items};
+ghost use Rattle.bus_vectors.specs.Made.{most_number, made_table, made_items};
+ghost use Rattle.bus_vectors.specs.MadeLaws.{AreEvenItems};
 
 use crate::items::items;
 use crate::laws::{made_items_are_even, made_items_fit};
@@ -21,8 +20,7 @@ pub fn make(alloc: Global, number: u32) -> Result<(Table, Payloads), AllocError>
     ensures items { IfOk result (λ made. made.1 ≡ made_items number) }
     ensures fit { IsOk (items_fit (made_table number) (made_items number)) }
     // Each sender has as many items.
-    ensures even { AllByRecursion (λ sender. length (items_of sender.number (made_items number)) ≡ round_count number)
-        (made_table number).senders }
+    ensures even { AreEvenItems number }
 {
     made_items_fit();
     made_items_are_even();

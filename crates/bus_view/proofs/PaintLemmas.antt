@@ -3,7 +3,6 @@ use Rattle.std.specs.Prelude.{◌≡◌}
 use Rattle.std.proofs.Common.{sym, ap, ◌∙◌}
 use Rattle.bus_audit.specs.Breaches.{answer_of}
 use Rattle.bus_regime.specs.declared.table_verdict.TableVerdict.{TableVerdict}
-use Rattle.bus_regime.specs.Lines.{verdict_words}
 use Rattle.bus_regime.specs.Verdicts.{verdict_of}
 use Rattle.bus_audit.specs.declared.answer.AuditAnswer.{AuditAnswer}
 use Rattle.bus_table.specs.Tables.{Table}
@@ -17,7 +16,7 @@ use Rattle.bus_view.specs.Forms.{Picture, TimeLine, Cycles}
 -- each picture is what its writer writes
 pub time_line_is : (picture : Picture) → picture ≡ TimeLine → (window : Window) (verdict : TableVerdict) (answer : AuditAnswer) (table : Table)
     (trace : Recording)
-    → time_line_text window (verdict_words verdict) answer table trace ≡ painted picture window verdict answer table trace
+    → time_line_text window verdict answer table trace ≡ painted picture window verdict answer table trace
 unfolding painted
 time_line_is picture e window verdict answer table trace = ap (λ p. painted p window verdict answer table trace) (sym e)
 

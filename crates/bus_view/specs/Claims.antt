@@ -22,11 +22,12 @@ use Rattle.bus_dump.specs.SaveFiles.{save_text}
 use Rattle.bus_view.specs.Due.{drawing, painting, window_or_whole}
 use Rattle.bus_view.specs.Forms.{View, Dump, SaveFile, Painted, Picture, TimeLine, Cycles}
 
--- the command of a view
+-- The command of a picture.
 abbrev pub picture_word : Picture → List ℕ
 picture_word TimeLine = codes "svg"
 picture_word Cycles = codes "cycles"
 
+-- The command of a view.
 abbrev pub view_word : View → List ℕ
 view_word (Dump Vcd) = codes "vcd"
 view_word (Dump Wires) = codes "wires"
@@ -34,7 +35,7 @@ view_word (Dump Timers) = codes "timers"
 view_word SaveFile = codes "gtkw"
 view_word (Painted picture window) = picture_word picture
 
--- two words are the plain decimals of both moments of a window
+-- Two words are the plain decimals of both moments of a window.
 pub record AreOfWindow (window : Window) (words : List (List ℕ)) : Type 0 where
   pub first : List ℕ
   pub second : List ℕ
@@ -42,7 +43,7 @@ pub record AreOfWindow (window : Window) (words : List (List ℕ)) : Type 0 wher
   pub from : IsDecimal first window.from
   pub to : IsDecimal second window.to
 
--- the words behind those of both texts: those of the window, where one is asked for
+-- The words behind those of both texts: those of the window, where one is asked for.
 abbrev pub AreFurther : View → List (List ℕ) → Type 0
 AreFurther (Dump dump) words = words ≡ []
 AreFurther SaveFile words = words ≡ []
@@ -75,8 +76,10 @@ pub record GivesDump (dump : AnyDump) (table : Table) (trace : Recording) (call 
 --   save    `gtkw`: the save file
 --   paint   `svg` and `cycles`, and both with a window: the picture
 pub record Promises (call : Call) (status : Status) : Type 0 where
-  pub draw : (dump : AnyDump) (table : Table) (trace : Recording) → IsViewOf (Dump dump) table trace call → GivesDump dump table trace call status
-  pub save : (table : Table) (trace : Recording) → IsViewOf SaveFile table trace call → Answers Done (λ text. text ≡ save_text table trace.list) call status
+  pub draw : (dump : AnyDump) (table : Table) (trace : Recording) → IsViewOf (Dump dump) table trace call
+      → GivesDump dump table trace call status
+  pub save : (table : Table) (trace : Recording) → IsViewOf SaveFile table trace call
+      → Answers Done (λ text. text ≡ save_text table trace.list) call status
   pub paint : (picture : Picture) (window : Option Window) (table : Table) (trace : Recording) → IfSome window IsWindow
       → IsViewOf (Painted picture window) table trace call
       → Answers Done (λ text. text ≡ painting picture (window_or_whole window trace) table trace) call status

@@ -39,24 +39,24 @@ traced_answer view traced = view_answer view traced.table traced.trace
 abbrev pub view_due : View → List ℕ → List ℕ → Outcome
 view_due view first second = outcome_with (traced_answer view) (traced_due first second)
 
--- the dump of a trace on a table, with the words of the table's verdict as its comment
+-- The dump of a trace on a table, with the words of the table's verdict as its comment.
 abbrev pub drawing : AnyDump → Table → Recording → List ℕ
 drawing dump table trace = dump_text dump (verdict_words (verdict_of table)) table trace
 
--- a picture of a window of a trace on a table, with a verdict and what an audit found
+-- A picture of a window of a trace on a table, with a verdict and what an audit found.
 unfoldable pub painted : Picture → Window → TableVerdict → AuditAnswer → Table → Recording → List ℕ
-painted TimeLine window verdict answer table trace = time_line_text window (verdict_words verdict) answer table trace
+painted TimeLine window verdict answer table trace = time_line_text window verdict answer table trace
 painted Cycles window verdict answer table trace = cycles_text window verdict answer table trace
 
--- with the table's own verdict, and what an audit finds of the trace
+-- With the table's own verdict, and what an audit finds of the trace.
 abbrev pub painting : Picture → Window → Table → Recording → List ℕ
 painting picture window table trace = painted picture window (verdict_of table) (answer_of table trace) table trace
 
--- the window that is asked for, or all of the trace
+-- The window that is asked for, or all of the trace.
 abbrev pub window_or_whole : Option Window → Recording → Window
 window_or_whole window trace = unwrap_or window (whole trace.horizon)
 
--- the text of a view of a trace on a table
+-- The text of a view of a trace on a table.
 abbrev pub view_text : View → Table → Recording → List ℕ
 view_text (Dump dump) table trace = drawing dump table trace
 view_text SaveFile table trace = save_text table trace.list

@@ -13,29 +13,30 @@ pub use Rattle.bus_view.specs.declared.forms.View.{View}
 pub use Rattle.bus_view.specs.declared.forms.View.TheVariants.{Dump, SaveFile, Picture as Painted}
 
 -- ---- windows
--- whether two words are the plain decimals of a window: a moment and a later one, at most the limit of a horizon
+-- Whether two words are the plain decimals of a window: a moment and a later one, at most the limit of a horizon.
 abbrev pub is_window : List ℕ → List ℕ → Bool
 is_window from to =
     is_plain_decimal from && is_plain_decimal to && nat_lt (decimal_value from) (decimal_value to)
     && nat_le (decimal_value to) horizon_limit
 
--- the window that they write
+-- The window that they write.
 abbrev pub window_of : List ℕ → List ℕ → Option Window
 window_of from to =
     if is_window from to then Some (record { from = decimal_value from; to = decimal_value to }) else None
 
 -- ---- forms
--- the picture of a command
+-- The picture of a command.
 abbrev pub picture_of : List ℕ → Option Picture
 picture_of command =
     if bytes_eq command (codes "svg") then Some TimeLine
     else if bytes_eq command (codes "cycles") then Some Cycles
     else None
 
--- a picture of all of a trace, or of a window of it
+-- A picture of all of a trace.
 abbrev pub all_of : Picture → View
 all_of picture = Painted picture None
 
+-- A picture of a window of a trace.
 abbrev pub part_of : Picture → Window → View
 part_of picture window = Painted picture (Some window)
 
@@ -52,12 +53,12 @@ three_words command =
 abbrev pub five_words : List ℕ → List ℕ → List ℕ → Option View
 five_words command from to = option_and_then (λ picture. option_map (part_of picture) (window_of from to)) (picture_of command)
 
--- the view that these words ask for, whatever the words T and R are
+-- The view that these words ask for, whatever the words T and R are.
 abbrev pub form_of : List (List ℕ) → Option View
 form_of (command ∷ table ∷ trace ∷ []) = three_words command
 form_of (command ∷ table ∷ trace ∷ from ∷ to ∷ []) = five_words command from to
 form_of words = None
 
--- the sources that each form names: a table, which is read whole, and a trace
+-- The sources that each form names: a table, which is read whole, and a trace.
 abbrev pub sources : Named
 sources = two_sources entire Trace

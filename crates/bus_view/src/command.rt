@@ -57,7 +57,7 @@ pub fn act<S: Source, K: Sink>(
     second: &mut S,
     out: &mut K,
 ) -> Outcome
-    ensures { Acts (call ⟦<S as Source>⟧ ⟦<K as Sink>⟧ words.now (first.old, second.old, out.old) (first.new, second.new, out.new)) result }
+    ensures { Acts (call ⟦<S as Source>⟧ ⟦<K as Sink>⟧ words.now first.old second.old out.old first.new second.new out.new) result }
 {
     readings_have_their_cause();
     texts_read_as_their_items();

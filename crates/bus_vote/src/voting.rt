@@ -1,7 +1,7 @@
 //! The vote of three lists of words.
-ghost use Rattle.std.specs.Prelude.{◌≡◌, ◌<◌, ◌↔◌, ℕ, IsTrue, List, Some, length, slice_index};
+ghost use Rattle.std.specs.Prelude.{◌≡◌, ◌<◌, IsTrue};
 ghost use Rattle.std.specs.Option.{option_copied};
-ghost use Rattle.bus_vote.specs.Votes.{TwoAre, two_are_present, is_place};
+ghost use Rattle.bus_vote.specs.Votes.{HasPlaces, IsFixedVote, IsFixedWidth, IsVoteOfTwo, two_are_present};
 ghost use Rattle.bus_vote.specs.Votes as votes;
 
 /// The number of words of a list; an absent one has none.
@@ -46,11 +46,9 @@ pub fn width(a: Option<&[u16]>, b: Option<&[u16]>, c: Option<&[u16]>) -> usize
     ensures value { result ≡ votes.width (option_copied a.entry) (option_copied b.entry) (option_copied c.entry) }
 
     // The places are those at which two have a word, and no others.
-    ensures places { (place : ℕ) → (place < result)
-        ↔ IsTrue (is_place (option_copied a.entry) (option_copied b.entry) (option_copied c.entry) place) }
+    ensures places { HasPlaces result (option_copied a.entry) (option_copied b.entry) (option_copied c.entry) }
 
-    ensures fixed { (words : List ℕ) → TwoAre words (option_copied a.entry) (option_copied b.entry) (option_copied c.entry)
-        → result ≡ length words }
+    ensures fixed { IsFixedWidth result (option_copied a.entry) (option_copied b.entry) (option_copied c.entry) }
 {
     let (a, b, c) = (word_count(a), word_count(b), word_count(c));
     a.min(b).max(a.min(c)).max(b.min(c))
@@ -64,12 +62,10 @@ pub fn vote(a: Option<&[u16]>, b: Option<&[u16]>, c: Option<&[u16]>, place: usiz
     requires within { place < votes.width (option_copied a) (option_copied b) (option_copied c) }
     ensures value { result ≡ votes.vote_at (option_copied a.entry) (option_copied b.entry) (option_copied c.entry) place }
 
-    ensures two { (word : ℕ) → (result ≡ Some word)
-        ↔ TwoAre word (votes.word_at (option_copied a.entry) place) (votes.word_at (option_copied b.entry) place)
-        (votes.word_at (option_copied c.entry) place) }
+    // A word exactly where two have it there.
+    ensures two { IsVoteOfTwo place result (option_copied a.entry) (option_copied b.entry) (option_copied c.entry) }
 
-    ensures fixed { (words : List ℕ) → TwoAre words (option_copied a.entry) (option_copied b.entry) (option_copied c.entry)
-        → result ≡ Some (slice_index words place) }
+    ensures fixed { IsFixedVote place result (option_copied a.entry) (option_copied b.entry) (option_copied c.entry) }
 {
     let (a, b, c) = (word_at(a, place), word_at(b, place), word_at(c, place));
     majority(a, b, c)

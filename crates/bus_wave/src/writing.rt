@@ -3,7 +3,8 @@ ghost use Rattle.std.specs.Prelude.{◌≡◌, ◌-◌, ◌++◌, codes, [], len
 ghost use Rattle.std.specs.List.{flat_map};
 ghost use Rattle.bus_outer.specs.Sinks.{WritesText};
 ghost use Rattle.bus_outer.specs.Texts.{Adds};
-ghost use Rattle.bus_wave.specs.inside.Puts.{word_put, data_put, string_put, silence_put, quiet_put, next_put, message_put, entry_put, list_put};
+ghost use Rattle.bus_wave.specs.inside.Puts.{word_put, data_put, string_put, silence_put, quiet_put, next_put, message_put};
+ghost use Rattle.bus_wave.specs.inside.Puts.{entry_put, list_put};
 ghost use Rattle.bus_wave.specs.Spacing.{AreApart};
 ghost use Rattle.bus_wave.specs.WaveTexts.{last_end, wave_text};
 ghost use Rattle.bus_wave.specs.WaveLaws.{HasOneText};

@@ -17,7 +17,8 @@ pub record PassedMany {C : Type 0} (core : Ghosts C) (carrier : Bool) (n : ℕ) 
   pub room : core.room x.terminal.core ≤ core.room y.terminal.core + n
   pub moves : core.moves y.terminal.core ≤ core.moves x.terminal.core + 1
 
--- For n bit times with this carrier throughout the sender changes nothing: what runs stays on or quiet, and on a quiet bus it may not start.
+-- For n bit times with this carrier throughout the sender changes nothing: what runs stays on or quiet, and on a quiet bus it may not
+-- start.
 pub record Lasts {C : Type 0} (core : Ghosts C) (carrier : Bool) (n : ℕ) (x : Seat C) : Type 0 where
   pub stays : StaysFor x.terminal n
   pub waits : carrier ≡ false → IsFree x.terminal

@@ -4,6 +4,7 @@ use Rattle.std.specs.List.{flat_map}
 use Rattle.bus_text.specs.Digits.{hex_digit, hexadecimal}
 use Rattle.bus_table.specs.declared.mode.Mode.{Mode}
 use Rattle.bus_table.specs.declared.mode.Mode.TheVariants.{Aperiodic, Periodic}
+use Rattle.bus_table.specs.Text.{mode_word}
 use Rattle.bus_table.specs.Tables.{SendLine, TakeLine, Sender, Listener, Table}
 
 -- A keyword and a number.
@@ -12,8 +13,7 @@ number_bytes keyword n = keyword ++ codes " " ++ decimal n ++ codes "\n"
 
 -- The MODE line.
 abbrev pub mode_bytes : Mode → List ℕ
-mode_bytes Aperiodic = codes "MODE aperiodic\n"
-mode_bytes Periodic = codes "MODE periodic\n"
+mode_bytes mode = codes "MODE " ++ mode_word mode ++ 10 ∷ []
 
 -- The four lines at the head.
 abbrev pub head_bytes : Mode → (ti sg : ℕ) → List ℕ

@@ -11,8 +11,8 @@ pub loop-k-preserved : goal.loop-k-preserved
 loop-k-preserved c =
     let i = c.loop-k.invariant in
     record {
-      items = mapped_more sender_lane (turn_order c.args.table.now) c.loop-k.k c.turn.result.now _ c.loop-k.lanes.items c.push.new.self.items
-          c.turn.ensures (ap (lane_with true) c.number-terminal.ensures.value) i.items c.push.ensures.items;
+      items = mapped_more sender_lane (turn_order c.args.table.now) c.loop-k.k c.turn_at.result.now _ c.loop-k.lanes.items c.push.new.self.items
+          c.turn_at.ensures (ap (lane_with true) c.number-terminal.ensures.value) i.items c.push.ensures.items;
       count = c.push.ensures.len ∙ ap (λ n. n + 1) i.count;
     }
 

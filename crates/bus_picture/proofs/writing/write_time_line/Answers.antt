@@ -1,7 +1,6 @@
 use Rattle.std.proofs.Common.{List, ap, subst, ◌∙◌}
 use Rattle.bus_outer.specs.Texts.{Adds}
 use Rattle.bus_outer.proofs.TextLaws.{ends_text}
-use Rattle.bus_regime.specs.Lines.{verdict_words}
 use Rattle.bus_dump.specs.declared.lane.Lane.{Lane}
 use Rattle.bus_dump.specs.Lanes.{lanes}
 use Rattle.bus_shapes.specs.declared.scale.Scale.{Scale}
@@ -15,8 +14,8 @@ returns g c =
     ends_text g.K.Sink.held g.K.Sink.faults c.args.sink.now c.put_picture.new.sink c.finish.new.sink c.new-text.result c.put_picture.new.text c.finish.result _
     c.finish.ensures
     (subst (λ (l : List Lane). Adds g.K.Sink.held g.K.Sink.faults c.args.sink.now c.put_picture.new.sink c.new-text.result c.put_picture.new.text
-    (picture_text (scale_of c.args.window.now) l (verdict_words c.args.verdict.now) c.args.answer.now c.args.table.now c.args.trace.now)) all
+    (picture_text (scale_of c.args.window.now) l c.args.verdict.now c.args.answer.now c.args.table.now c.args.trace.now)) all
     (subst (λ (scale : Scale). Adds g.K.Sink.held g.K.Sink.faults c.args.sink.now c.put_picture.new.sink c.new-text.result c.put_picture.new.text
-    (picture_text scale c.as_slice.result.now (verdict_words c.args.verdict.now) c.args.answer.now c.args.table.now c.args.trace.now))
+    (picture_text scale c.as_slice.result.now c.args.verdict.now c.args.answer.now c.args.table.now c.args.trace.now))
     c.scale_of-scale.ensures.value c.put_picture.ensures))
     c.new-text.ensures
