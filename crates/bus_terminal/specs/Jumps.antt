@@ -1,9 +1,10 @@
 -- Whole stretches of bit times of a terminal.
-use Rattle.std.specs.Prelude.{◌≡◌, ℕ, ◌+◌, ◌<◌, ◌≤◌, Bool, not, nat_lt, List, length, Option, Some, None}
+use Rattle.std.specs.Prelude.{◌≡◌, ◌↔◌, ℕ, ◌+◌, ◌<◌, ◌≤◌, Bool, IsTrue, not, nat_lt, List, length, Option, Some, None}
 use Rattle.std.specs.Prelude.{MatchOption, if◌then◌else◌}
 use Rattle.std.specs.Option.{option_and_then}
 use Rattle.bus_timers.specs.declared.timing.Timing.{Timing}
 use Rattle.bus_timers.specs.declared.cores.Core.{Ghosts}
+use Rattle.bus_timers.specs.MayStart.{MayStart}
 use Rattle.bus_timers.specs.Wait.{IsWait}
 use Rattle.bus_strings.specs.Messages.{Message, bits}
 use Rattle.bus_strings.specs.Pulses.{is_on}
@@ -33,6 +34,12 @@ StretchOf terminal stretch =
 pub record IsFree {C : Type 0} (terminal : Terminal C) : Type 0 where
   pub idle : terminal.running ≡ None
   pub unsent : terminal.sent < length terminal.hand.messages
+
+-- It tells whether the terminal begins its next message: whether its core may start, none of its messages runs, and one is left.
+abbrev pub TellsStart : {C : Type 0} → Ghosts C → Terminal C → Bool → Type 0
+TellsStart core terminal begins =
+    (timing : Timing) (past : List Bool) (last : Option ℕ) → core.stands terminal.core timing past last
+    → (IsTrue begins ↔ (MayStart timing past last × (terminal.running ≡ None) × (terminal.sent < length terminal.hand.messages)))
 
 -- How long the terminal waits on a quiet bus: none where a message runs or none is left.
 abbrev pub QuietWait : {C : Type 0} → Ghosts C → Terminal C → Option ℕ → Type 0

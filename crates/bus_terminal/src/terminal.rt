@@ -1,13 +1,12 @@
 //! A sending terminal: its timers, its hand and what it is sending.
 ghost use Rattle.std.specs.Prelude.{◌≡◌, ℕ, ◌+◌, ◌<◌, ◌≤◌, ◌↔◌, ◌⊎◌, ◌++◌, ◌∷◌, [], Bool, true, false, List, length, replicate, slice_get};
 ghost use Rattle.std.specs.Prelude.{Option, Some, None, IsTrue, MatchOption};
-ghost use Rattle.bus_timers.specs.declared.timing.Timing.{Timing};
-ghost use Rattle.bus_timers.specs.MayStart.{MayStart};
+ghost use Rattle.bus_timers.specs.Told.{CountsOne, HasHeard, HasStarted};
 ghost use Rattle.bus_strings.specs.Messages.{IsMessage};
 ghost use Rattle.std.specs.Option.{option_and_then};
 ghost use Rattle.bus_terminal.specs.Terminals.{last_begun, next_place, sounds, with_begun, with_passed};
 ghost use Rattle.bus_timers.specs.Wait.{longest_pass};
-ghost use Rattle.bus_terminal.specs.Jumps.{IsSteady, later_place, with_passed_many, StaysFor, StretchOf, QuietWait};
+ghost use Rattle.bus_terminal.specs.Jumps.{IsSteady, later_place, with_passed_many, StaysFor, StretchOf, QuietWait, TellsStart};
 ghost use Rattle.bus_terminal.specs.inside.Standing.{place_in, IsStanding};
 
 use crate::place::Place;
@@ -76,10 +75,8 @@ impl<C: Core> Terminal<C> {
     /// Begins the next message, if the core is ready, none runs and one is left: then it is true, and the core is
     /// told that it started. Else nothing changes.
     pub fn decide(&mut self) -> bool
-        ensures starts { (timing : Timing) (past : List Bool) (last : Option ℕ) → C.stands self.old.core timing past last
-            → (IsTrue result ↔ (MayStart timing past last × (self.old.running ≡ None) × (self.old.sent < length self.old.hand.messages))) }
-        ensures told { result ≡ true → (timing : Timing) (past : List Bool) (last : Option ℕ) → C.stands self.old.core timing past last
-            → C.stands self.new.core timing past (Some (length past)) }
+        ensures starts { TellsStart ⟦<C as Core>⟧ self.old result }
+        ensures told { result ≡ true → HasStarted (C.stands self.old.core) (C.stands self.new.core) }
         // Also of a core that stands for nothing.
         ensures free { result ≡ true → (self.old.running ≡ None) × (self.old.sent < length self.old.hand.messages) }
         ensures begins { result ≡ true → self.new ≡ with_begun self.old self.new.core }
@@ -112,11 +109,9 @@ impl<C: Core> Terminal<C> {
         requires own { sounds self.old ≡ true → carrier ≡ true }
         requires room { 1 ≤ C.room self.old.core }
         ensures passed { self.new ≡ with_passed self.old self.new.core }
-        ensures told { (timing : Timing) (past : List Bool) (last : Option ℕ) → C.stands self.old.core timing past last
-            → C.stands self.new.core timing (past ++ carrier ∷ []) last }
+        ensures told { HasHeard (C.stands self.old.core) (C.stands self.new.core) (carrier ∷ []) }
         ensures room { C.room self.old.core ≤ C.room self.new.core + 1 }
-        ensures moves { (C.moves self.new.core ≡ C.moves self.old.core + 1)
-            ⊎ ((C.moves self.new.core ≡ C.moves self.old.core) × (C.moves self.old.core ≡ u64.MAX)) }
+        ensures moves { CountsOne (C.moves self.old.core) (C.moves self.new.core) }
     {
         self.running = next_running(&self.hand, self.sent, self.running);
         self.core.pass(carrier);
@@ -181,11 +176,9 @@ impl<C: JumpCore> Terminal<C> {
         requires steady { StaysFor self.old bits }
         requires own { sounds self.old ≡ true → carrier ≡ true }
         ensures passed { self.new ≡ with_passed_many self.old bits self.new.core }
-        ensures told { (timing : Timing) (past : List Bool) (last : Option ℕ) → C.stands self.old.core timing past last
-            → C.stands self.new.core timing (past ++ replicate bits carrier) last }
+        ensures told { HasHeard (C.stands self.old.core) (C.stands self.new.core) (replicate bits carrier) }
         ensures room { C.room self.old.core ≤ C.room self.new.core + bits }
-        ensures moves { (C.moves self.new.core ≡ C.moves self.old.core + 1)
-            ⊎ ((C.moves self.new.core ≡ C.moves self.old.core) × (C.moves self.old.core ≡ u64.MAX)) }
+        ensures moves { CountsOne (C.moves self.old.core) (C.moves self.new.core) }
     {
         self.running = later_running(&self.hand, self.sent, self.running, bits);
         self.core.pass_many(carrier, bits);

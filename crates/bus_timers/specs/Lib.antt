@@ -3,5 +3,6 @@ pub mod MayStart
 pub mod MayStartTest
 pub mod GapPlace
 pub mod GapLaws
+pub mod Told
 pub mod Wait
 pub mod inside

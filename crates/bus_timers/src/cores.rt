@@ -1,8 +1,8 @@
 //! What the timers of a terminal are, however they are kept.
-ghost use Rattle.std.specs.Prelude.{◌≡◌, ℕ, ◌+◌, ◌^◌, ◌≤◌, ◌⊎◌, ◌↔◌, ◌++◌, ◌∷◌, [], Bool, false, List, length, replicate, Option, IsTrue};
+ghost use Rattle.std.specs.Prelude.{◌≡◌, ℕ, ◌+◌, ◌^◌, ◌≤◌, ◌∷◌, [], Bool, false, List, replicate, Option};
 ghost use Rattle.bus_timers.specs.declared.timing.Timing.{Timing};
 ghost use Rattle.bus_timers.specs.Timings.{IsSound};
-ghost use Rattle.bus_timers.specs.MayStart.{MayStart};
+ghost use Rattle.bus_timers.specs.Told.{CountsOne, HasHeard, HasStarted, TellsReady};
 
 use crate::timing::Timing;
 
@@ -29,24 +29,20 @@ pub trait Core: Drop {
 
     /// Whether the terminal may start now, after every past for which the core stands.
     fn ready(&self) -> bool
-        ensures { (timing : Timing) (past : List Bool) (last : Option ℕ) → stands self.now timing past last
-            → (IsTrue result ↔ MayStart timing past last) };
+        ensures { TellsReady (stands self.now) result };
 
     /// The terminal starts now: the last own start is at the end of the past.
     fn started(&mut self)
-        ensures stands { (timing : Timing) (past : List Bool) (last : Option ℕ) → stands self.old timing past last
-            → stands self.new timing past (Some (length past)) }
+        ensures stands { HasStarted (stands self.old) (stands self.new) }
         ensures room { room self.new ≡ room self.old }
         ensures moves { moves self.new ≡ moves self.old };
 
     /// A bit time has passed, with carrier or without. A terminal's own pulses are carrier too.
     fn pass(&mut self, carrier: bool)
         requires { 1 ≤ room self.old }
-        ensures stands { (timing : Timing) (past : List Bool) (last : Option ℕ) → stands self.old timing past last
-            → stands self.new timing (past ++ carrier ∷ []) last }
+        ensures stands { HasHeard (stands self.old) (stands self.new) (carrier ∷ []) }
         ensures room { room self.old ≤ room self.new + 1 }
-        // The count stops at the last value of its type.
-        ensures moves { (moves self.new ≡ moves self.old + 1) ⊎ ((moves self.new ≡ moves self.old) × (moves self.old ≡ u64.MAX)) };
+        ensures moves { CountsOne (moves self.old) (moves self.new) };
 
     /// How often the core was moved since it was settled.
     fn moves(&self) -> u64

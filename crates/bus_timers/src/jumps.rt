@@ -1,6 +1,7 @@
 //! Timers that pass a whole stretch at once.
-ghost use Rattle.std.specs.Prelude.{◌≡◌, ℕ, ◌+◌, ◌≤◌, ◌⊎◌, ◌++◌, Bool, List, replicate, Option};
+ghost use Rattle.std.specs.Prelude.{ℕ, ◌+◌, ◌≤◌, Bool, List, replicate, Option};
 ghost use Rattle.bus_timers.specs.declared.timing.Timing.{Timing};
+ghost use Rattle.bus_timers.specs.Told.{CountsOne, HasHeard};
 ghost use Rattle.bus_timers.specs.Wait.{IsWait, longest_pass};
 
 use crate::cores::Core;
@@ -19,10 +20,7 @@ pub trait JumpCore: Core {
     fn pass_many(&mut self, carrier: bool, bits: u64)
         requires few { bits ≤ longest_pass }
         requires room { bits ≤ Self.room self.old }
-        ensures stands { (timing : Timing) (past : List Bool) (last : Option ℕ) → Self.stands self.old timing past last
-            → Self.stands self.new timing (past ++ replicate bits carrier) last }
+        ensures stands { HasHeard (Self.stands self.old) (Self.stands self.new) (replicate bits carrier) }
         ensures room { Self.room self.old ≤ Self.room self.new + bits }
-        // The count stops at the last value of its type.
-        ensures moves { (Self.moves self.new ≡ Self.moves self.old + 1)
-            ⊎ ((Self.moves self.new ≡ Self.moves self.old) × (Self.moves self.old ≡ u64.MAX)) };
+        ensures moves { CountsOne (Self.moves self.old) (Self.moves self.new) };
 }
