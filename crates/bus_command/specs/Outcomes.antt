@@ -1,15 +1,9 @@
 -- How the program ends with an outcome, and the line that says why.
 use Rattle.std.specs.Prelude.{ℕ, Bool, List, [], ◌∷◌, ◌++◌, codes, Option, Some, None, if◌then◌else◌}
 use Rattle.std.specs.Fmt.{decimal}
-use Rattle.bus_text.specs.Digits.{hex_digit, hexadecimal}
-use Rattle.bus_text.specs.declared.reason.Reason.{Reason}
-use Rattle.bus_text.specs.declared.reason.Reason.TheVariants.{Ended, Keyword, Fields, Spelling, Range}
-use Rattle.bus_table.specs.declared.fit.FitError.{FitError}
-use Rattle.bus_table.specs.declared.fit.FitError.TheVariants.{Stranger, Shape}
-use Rattle.bus_table.specs.declared.error.WholeReason.{WholeReason}
-use Rattle.bus_table.specs.declared.error.WholeReason.TheVariants.{NoSender, NumberTwice, GapTwice, GapNotShort, PairTwice, OffsetRange}
-use Rattle.bus_trace.specs.declared.reason.TraceReason.{TraceReason}
-use Rattle.bus_trace.specs.declared.reason.TraceReason.TheVariants as trace
+use Rattle.bus_text.specs.Reasons.{reason_word}
+use Rattle.bus_table.specs.Reasons.{fit_words, whole_words}
+use Rattle.bus_trace.specs.Reasons.{trace_reason_word}
 use Rattle.bus_command.specs.declared.status.Status.{Status}
 use Rattle.bus_command.specs.declared.status.Status.TheVariants as status
 use Rattle.bus_command.specs.declared.outcome.Outcome.{Outcome}
@@ -35,54 +29,16 @@ status_of own WriteFault = status.WriteFault
 status_of own NoMemory = status.NoMemory
 status_of own (TooLarge source) = status.TooLarge
 
--- The word of a reason.
-abbrev pub reason_name : Reason → List ℕ
-reason_name Ended = codes "Ended"
-reason_name Keyword = codes "Keyword"
-reason_name Fields = codes "Fields"
-reason_name Spelling = codes "Spelling"
-reason_name Range = codes "Range"
-
--- The word of a reason against a line of a trace.
-abbrev pub trace_reason_name : TraceReason → List ℕ
-trace_reason_name trace.Ended = codes "Ended"
-trace_reason_name trace.Long = codes "Long"
-trace_reason_name trace.Keyword = codes "Keyword"
-trace_reason_name trace.Fields = codes "Fields"
-trace_reason_name trace.Spelling = codes "Spelling"
-trace_reason_name trace.Parity = codes "Parity"
-trace_reason_name trace.Range = codes "Range"
-trace_reason_name trace.Order = codes "Order"
-trace_reason_name trace.Mark = codes "Mark"
-
--- The label and the extension that stand on two SEND lines.
-abbrev pub pair_words : ℕ → ℕ → List ℕ
-pair_words label ext = codes "PairTwice " ++ hexadecimal 3 label ++ 32 ∷ [] ++ hex_digit ext ∷ []
-
--- The words of a whole reason: its name, and the number or the label and extension that it carries.
-abbrev pub whole_words : WholeReason → List ℕ
-whole_words NoSender = codes "NoSender"
-whole_words (NumberTwice number) = codes "NumberTwice " ++ decimal number
-whole_words (GapTwice number) = codes "GapTwice " ++ decimal number
-whole_words (GapNotShort number) = codes "GapNotShort " ++ decimal number
-whole_words (PairTwice label ext) = pair_words label ext
-whole_words (OffsetRange number) = codes "OffsetRange " ++ decimal number
-
--- The item that doesn't fit, and why.
-abbrev pub fit_words : FitError → List ℕ
-fit_words (Stranger item) = decimal item ++ codes " Stranger"
-fit_words (Shape item) = decimal item ++ codes " Shape"
-
 -- What a fault line says behind the status; an answer has none, and a refusal of the program's own has a line of its own.
 abbrev pub fault_words : {R : Type 0} → Outcome R → List ℕ
 fault_words Done = []
 fault_words Answered = []
 fault_words Usage = codes "usage"
-fault_words (TableText line reason) = codes "table line " ++ decimal line ++ 32 ∷ [] ++ reason_name reason
+fault_words (TableText line reason) = codes "table line " ++ decimal line ++ 32 ∷ [] ++ reason_word reason
 fault_words (TableWhole reason) = codes "table " ++ whole_words reason
-fault_words (MessagesText line reason) = codes "messages line " ++ decimal line ++ 32 ∷ [] ++ reason_name reason
+fault_words (MessagesText line reason) = codes "messages line " ++ decimal line ++ 32 ∷ [] ++ reason_word reason
 fault_words (Unfit error) = codes "messages item " ++ fit_words error
-fault_words (TraceText byte reason) = codes "trace byte " ++ decimal byte ++ 32 ∷ [] ++ trace_reason_name reason
+fault_words (TraceText byte reason) = codes "trace byte " ++ decimal byte ++ 32 ∷ [] ++ trace_reason_word reason
 fault_words (Own place why) = []
 fault_words (ReadFault source) = codes "read " ++ decimal source
 fault_words WriteFault = codes "write"

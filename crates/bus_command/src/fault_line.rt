@@ -1,50 +1,20 @@
 //! The line of an outcome, on the error output.
 ghost use Rattle.std.specs.Prelude.{◌++◌, codes, decimal, List, [], ◌∷◌};
-ghost use Rattle.bus_command.specs.Outcomes.{error_head, error_line, fault_line, fault_words, fit_words, line_with, own_of, pair_words};
-ghost use Rattle.bus_command.specs.Outcomes.{plain_line, reason_name, status_of, trace_reason_name, whole_words};
+ghost use Rattle.bus_command.specs.Outcomes.{error_head, error_line, fault_line, fault_words, line_with, own_of, plain_line, status_of};
 ghost use Rattle.bus_command.specs.Statuses.{number_of};
 ghost use Rattle.bus_outer.specs.Sinks.{WritesText};
 ghost use Rattle.bus_outer.specs.Texts.{Adds};
-ghost use Rattle.bus_text.specs.Digits.{hex_digit, hexadecimal};
+ghost use Rattle.bus_table.specs.Reasons.{fit_words, whole_words};
+ghost use Rattle.bus_text.specs.Reasons.{reason_word};
+ghost use Rattle.bus_trace.specs.Reasons.{trace_reason_word};
 
 use crate::outcome::Outcome;
 use crate::refusal::Refusal;
 use crate::status::Status;
 use bus_outer::{Sink, TextBuffer, WriteFault};
-use bus_table::{FitError, WholeReason};
-use bus_text::{Reason, hex_digit as digit, three_digits};
+use bus_table::{FitError, WholeReason, put_fit_error, put_whole};
+use bus_text::Reason;
 use bus_trace::TraceReason;
-use bus_words::{Ext, Label};
-
-/// Puts the word of a reason.
-pub fn put_reason<K: Sink>(text: &mut TextBuffer, sink: &mut K, reason: Reason)
-    ensures { Adds K.held K.faults sink.old sink.new text.old text.new (reason_name reason) }
-{
-    match reason {
-        Reason::Ended => text.put(sink, b"Ended"),
-        Reason::Keyword => text.put(sink, b"Keyword"),
-        Reason::Fields => text.put(sink, b"Fields"),
-        Reason::Spelling => text.put(sink, b"Spelling"),
-        Reason::Range => text.put(sink, b"Range"),
-    }
-}
-
-/// Puts the word of a reason against a line of a trace.
-fn put_trace_reason<K: Sink>(text: &mut TextBuffer, sink: &mut K, reason: TraceReason)
-    ensures { Adds K.held K.faults sink.old sink.new text.old text.new (trace_reason_name reason) }
-{
-    match reason {
-        TraceReason::Ended => text.put(sink, b"Ended"),
-        TraceReason::Long => text.put(sink, b"Long"),
-        TraceReason::Keyword => text.put(sink, b"Keyword"),
-        TraceReason::Fields => text.put(sink, b"Fields"),
-        TraceReason::Spelling => text.put(sink, b"Spelling"),
-        TraceReason::Parity => text.put(sink, b"Parity"),
-        TraceReason::Range => text.put(sink, b"Range"),
-        TraceReason::Order => text.put(sink, b"Order"),
-        TraceReason::Mark => text.put(sink, b"Mark"),
-    }
-}
 
 /// Puts a word and a number.
 pub fn put_numbered<K: Sink>(text: &mut TextBuffer, sink: &mut K, word: &[u8], number: u64)
@@ -54,72 +24,19 @@ pub fn put_numbered<K: Sink>(text: &mut TextBuffer, sink: &mut K, word: &[u8], n
     text.put_number(sink, number);
 }
 
-/// Puts a label in three digits.
-fn put_label<K: Sink>(text: &mut TextBuffer, sink: &mut K, label: Label)
-    ensures { Adds K.held K.faults sink.old sink.new text.old text.new (hexadecimal 3 label) }
-{
-    text.put(sink, &three_digits(label.value()))
-}
-
-/// Puts an extension in one digit.
-fn put_ext<K: Sink>(text: &mut TextBuffer, sink: &mut K, ext: Ext)
-    ensures { Adds K.held K.faults sink.old sink.new text.old text.new (hex_digit ext ∷ []) }
-{
-    text.put_byte(sink, digit(ext.value()))
-}
-
-/// Puts the label and the extension that stand twice.
-fn put_pair<K: Sink>(text: &mut TextBuffer, sink: &mut K, label: Label, ext: Ext)
-    ensures { Adds K.held K.faults sink.old sink.new text.old text.new (pair_words label ext) }
-{
-    text.put(sink, b"PairTwice ");
-    put_label(text, sink, label);
-    text.put_byte(sink, b' ');
-    put_ext(text, sink, ext);
-}
-
-/// Puts the words of a whole reason.
-fn put_whole<K: Sink>(text: &mut TextBuffer, sink: &mut K, reason: WholeReason)
-    ensures { Adds K.held K.faults sink.old sink.new text.old text.new (whole_words reason) }
-{
-    match reason {
-        WholeReason::NoSender => text.put(sink, b"NoSender"),
-        WholeReason::NumberTwice(number) => put_numbered(
-            text,
-            sink,
-            b"NumberTwice ",
-            u64::from(number),
-        ),
-        WholeReason::GapTwice(number) => put_numbered(text, sink, b"GapTwice ", u64::from(number)),
-        WholeReason::GapNotShort(number) => put_numbered(
-            text,
-            sink,
-            b"GapNotShort ",
-            u64::from(number),
-        ),
-        WholeReason::PairTwice(label, ext) => put_pair(text, sink, label, ext),
-        WholeReason::OffsetRange(number) => put_numbered(
-            text,
-            sink,
-            b"OffsetRange ",
-            u64::from(number),
-        ),
-    }
-}
-
 /// Puts the place and the reason of a text's refusal, behind the word of the text.
 fn put_place<K: Sink>(text: &mut TextBuffer, sink: &mut K, word: &[u8], line: u64, reason: Reason)
-    ensures { Adds K.held K.faults sink.old sink.new text.old text.new (word.now ++ decimal line ++ 32 ∷ [] ++ reason_name reason) }
+    ensures { Adds K.held K.faults sink.old sink.new text.old text.new (word.now ++ decimal line ++ 32 ∷ [] ++ reason_word reason) }
 {
     put_numbered(text, sink, word, line);
     text.put_byte(sink, b' ');
-    put_reason(text, sink, reason);
+    text.put(sink, reason.word().as_bytes());
 }
 
 /// Puts the refusal of a line of a table text.
 fn put_table_text<K: Sink>(text: &mut TextBuffer, sink: &mut K, line: u64, reason: Reason)
     ensures { Adds K.held K.faults sink.old sink.new text.old text.new
-        (codes "table line " ++ decimal line ++ 32 ∷ [] ++ reason_name reason) }
+        (codes "table line " ++ decimal line ++ 32 ∷ [] ++ reason_word reason) }
 {
     put_place(text, sink, b"table line ", line, reason)
 }
@@ -127,27 +44,9 @@ fn put_table_text<K: Sink>(text: &mut TextBuffer, sink: &mut K, line: u64, reaso
 /// Puts the refusal of a line of a messages text.
 fn put_messages_text<K: Sink>(text: &mut TextBuffer, sink: &mut K, line: u64, reason: Reason)
     ensures { Adds K.held K.faults sink.old sink.new text.old text.new
-        (codes "messages line " ++ decimal line ++ 32 ∷ [] ++ reason_name reason) }
+        (codes "messages line " ++ decimal line ++ 32 ∷ [] ++ reason_word reason) }
 {
     put_place(text, sink, b"messages line ", line, reason)
-}
-
-/// Puts a number and a word.
-pub fn put_number_and_word<K: Sink>(text: &mut TextBuffer, sink: &mut K, number: u64, word: &[u8])
-    ensures { Adds K.held K.faults sink.old sink.new text.old text.new (decimal number ++ word.now) }
-{
-    text.put_number(sink, number);
-    text.put(sink, word);
-}
-
-/// Puts the number of an item that doesn't fit, and why.
-fn put_item<K: Sink>(text: &mut TextBuffer, sink: &mut K, error: FitError)
-    ensures { Adds K.held K.faults sink.old sink.new text.old text.new (fit_words error) }
-{
-    match error {
-        FitError::Stranger(item) => put_number_and_word(text, sink, item, b" Stranger"),
-        FitError::Shape(item) => put_number_and_word(text, sink, item, b" Shape"),
-    }
 }
 
 /// Puts the refusal of an item.
@@ -155,17 +54,17 @@ fn put_unfit<K: Sink>(text: &mut TextBuffer, sink: &mut K, error: FitError)
     ensures { Adds K.held K.faults sink.old sink.new text.old text.new (codes "messages item " ++ fit_words error) }
 {
     text.put(sink, b"messages item ");
-    put_item(text, sink, error);
+    put_fit_error(text, sink, error);
 }
 
 /// Puts the refusal of a line of a trace.
 fn put_trace_text<K: Sink>(text: &mut TextBuffer, sink: &mut K, byte: u64, reason: TraceReason)
     ensures { Adds K.held K.faults sink.old sink.new text.old text.new
-        (codes "trace byte " ++ decimal byte ++ 32 ∷ [] ++ trace_reason_name reason) }
+        (codes "trace byte " ++ decimal byte ++ 32 ∷ [] ++ trace_reason_word reason) }
 {
     put_numbered(text, sink, b"trace byte ", byte);
     text.put_byte(sink, b' ');
-    put_trace_reason(text, sink, reason);
+    text.put(sink, reason.word().as_bytes());
 }
 
 /// Puts why a table is refused as a whole.

@@ -2,6 +2,7 @@
 pub mod Tables
 pub mod Ranges
 pub mod Whole
+pub mod Reasons
 pub mod Valid
 pub mod Lengths
 pub mod Fits

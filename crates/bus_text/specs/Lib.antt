@@ -5,6 +5,7 @@ pub mod Entries
 pub mod Numbers
 pub mod Digits
 pub mod Refusals
+pub mod Reasons
 pub mod AllOf
 pub mod Canonical
 pub mod inside

@@ -1,4 +1,6 @@
 //! Why a line of a table text or of a messages text is refused.
+ghost use Rattle.std.specs.Prelude.{◌≡◌};
+ghost use Rattle.bus_text.specs.Reasons.{reason_word};
 
 /// Why a line of a table text or of a messages text is refused. Where several of Keyword, Fields, Spelling and Range
 /// apply to a line, the first of them in this order stands.
@@ -14,4 +16,19 @@ pub enum Reason {
     Spelling,
     /// A number is out of its range.
     Range,
+}
+
+impl Reason {
+    /// The word of the reason in lines that say why a text is refused.
+    pub fn word(self) -> &'static str
+        ensures { result.now ≡ reason_word self }
+    {
+        match self {
+            Reason::Ended => "Ended",
+            Reason::Keyword => "Keyword",
+            Reason::Fields => "Fields",
+            Reason::Spelling => "Spelling",
+            Reason::Range => "Range",
+        }
+    }
 }

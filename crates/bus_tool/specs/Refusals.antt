@@ -4,9 +4,8 @@ use Rattle.std.specs.Fmt.{decimal}
 use Rattle.bus_regime.specs.Lines.{verdict_line}
 use Rattle.bus_table.specs.Text.{mode_word}
 use Rattle.bus_wave.specs.declared.fault.WaveFault.{WaveFault}
-use Rattle.bus_wave.specs.declared.fault.WaveFault.TheVariants as entry
 use Rattle.bus_wave.specs.declared.fault.WaveReason.{WaveReason}
-use Rattle.bus_wave.specs.declared.fault.WaveReason.TheVariants as wave
+use Rattle.bus_wave.specs.Reasons.{entry_words, wave_reason_word}
 use Rattle.bus_command.specs.declared.outcome.Outcome.{Outcome as OutcomeWith}
 use Rattle.bus_command.specs.declared.outcome.Outcome.TheVariants.{Own}
 use Rattle.bus_command.specs.declared.refusal.Place.{Place}
@@ -47,24 +46,6 @@ ends_of (NotAccepted verdict) = status.Refused
 ends_of (ShortLast least ti) = status.Refused
 ends_of (TooLong end) = status.TooLong
 
--- The word of a reason against a line of a wave.
-abbrev pub wave_reason_name : WaveReason → List ℕ
-wave_reason_name wave.Ended = codes "Ended"
-wave_reason_name wave.Keyword = codes "Keyword"
-wave_reason_name wave.Fields = codes "Fields"
-wave_reason_name wave.Spelling = codes "Spelling"
-wave_reason_name wave.Code = codes "Code"
-wave_reason_name wave.Parity = codes "Parity"
-wave_reason_name wave.Range = codes "Range"
-wave_reason_name wave.Order = codes "Order"
-
--- The entry of a trace that isn't spaced, and what is wrong with it.
-abbrev pub entry_words : WaveFault → List ℕ
-entry_words (entry.Stranger k) = decimal k ++ codes " Stranger"
-entry_words (entry.Misfit k) = decimal k ++ codes " Misfit"
-entry_words (entry.Close k) = decimal k ++ codes " Close"
-entry_words (entry.Cut k) = decimal k ++ codes " Cut"
-
 -- A terminal and how many messages it has.
 abbrev pub count_words : ℕ → ℕ → List ℕ
 count_words terminal count = decimal terminal ++ 32 ∷ [] ++ decimal count
@@ -82,7 +63,7 @@ short_last_line least ti = codes "REFUSE short-last " ++ decimal least ++ 32 ∷
 abbrev pub line_of : ToolRefusal → List ℕ
 line_of (TableMode needed) = error_line status.TableRefused (codes "table mode " ++ mode_word needed)
 line_of (Unspaced fault) = error_line status.InputRefused (codes "wave entry " ++ entry_words fault)
-line_of (WaveText line reason) = error_line status.InputRefused (codes "wave line " ++ decimal line ++ 32 ∷ [] ++ wave_reason_name reason)
+line_of (WaveText line reason) = error_line status.InputRefused (codes "wave line " ++ decimal line ++ 32 ∷ [] ++ wave_reason_word reason)
 line_of (Uneven one one_count other other_count) = error_line status.InputRefused (uneven_words one one_count other other_count)
 line_of (NotAccepted verdict) = verdict_line verdict
 line_of (ShortLast least ti) = short_last_line least ti

@@ -6,15 +6,15 @@ ghost use Rattle.bus_outer.specs.Texts.{Adds};
 ghost use Rattle.bus_table.specs.Text.{mode_word};
 ghost use Rattle.bus_tool.specs.Due.{uneven_refusal};
 ghost use Rattle.bus_tool.specs.Refusals as refusals;
-ghost use Rattle.bus_tool.specs.Refusals.{count_words, ends_of, entry_words, line_of, place_of, short_last_line, uneven_words};
-ghost use Rattle.bus_tool.specs.Refusals.{wave_reason_name};
+ghost use Rattle.bus_tool.specs.Refusals.{count_words, ends_of, line_of, place_of, short_last_line, uneven_words};
+ghost use Rattle.bus_wave.specs.Reasons.{entry_words, wave_reason_word};
 
-use bus_command::{Place, Refusal, Status, put_error, put_number_and_word, put_numbered};
+use bus_command::{Place, Refusal, Status, put_error, put_numbered};
 use bus_outer::{Sink, TextBuffer, WriteFault};
 use bus_regime::{TableVerdict, write_verdict};
 use bus_schedule::Uneven;
 use bus_table::{Mode, put_mode};
-use bus_wave::{WaveFault, WaveReason};
+use bus_wave::{WaveFault, WaveReason, put_fault};
 
 /// What bus629 refuses beside what every command does.
 #[derive(Clone, Copy, Debug, PartialEq, Eq)]
@@ -143,24 +143,12 @@ fn write_table_mode<K: Sink>(needed: Mode, sink: &mut K) -> Result<(), WriteFaul
     text.finish(sink)
 }
 
-/// Puts an entry of a trace that isn't spaced, and what is wrong with it.
-fn put_entry<K: Sink>(text: &mut TextBuffer, sink: &mut K, fault: WaveFault)
-    ensures { Adds K.held K.faults sink.old sink.new text.old text.new (entry_words fault) }
-{
-    match fault {
-        WaveFault::Stranger(k) => put_number_and_word(text, sink, k, b" Stranger"),
-        WaveFault::Misfit(k) => put_number_and_word(text, sink, k, b" Misfit"),
-        WaveFault::Close(k) => put_number_and_word(text, sink, k, b" Close"),
-        WaveFault::Cut(k) => put_number_and_word(text, sink, k, b" Cut"),
-    }
-}
-
 /// Puts the refusal of a trace that isn't spaced.
 fn put_unspaced<K: Sink>(text: &mut TextBuffer, sink: &mut K, fault: WaveFault)
     ensures { Adds K.held K.faults sink.old sink.new text.old text.new (codes "wave entry " ++ entry_words fault) }
 {
     text.put(sink, b"wave entry ");
-    put_entry(text, sink, fault);
+    put_fault(text, sink, fault);
 }
 
 /// Writes the refusal of a trace that isn't spaced.
@@ -174,30 +162,14 @@ fn write_unspaced<K: Sink>(fault: WaveFault, sink: &mut K) -> Result<(), WriteFa
     text.finish(sink)
 }
 
-/// Puts the word of a reason against a line of a wave.
-fn put_wave_reason<K: Sink>(text: &mut TextBuffer, sink: &mut K, reason: WaveReason)
-    ensures { Adds K.held K.faults sink.old sink.new text.old text.new (wave_reason_name reason) }
-{
-    match reason {
-        WaveReason::Ended => text.put(sink, b"Ended"),
-        WaveReason::Keyword => text.put(sink, b"Keyword"),
-        WaveReason::Fields => text.put(sink, b"Fields"),
-        WaveReason::Spelling => text.put(sink, b"Spelling"),
-        WaveReason::Code => text.put(sink, b"Code"),
-        WaveReason::Parity => text.put(sink, b"Parity"),
-        WaveReason::Range => text.put(sink, b"Range"),
-        WaveReason::Order => text.put(sink, b"Order"),
-    }
-}
-
 /// Puts the refusal of a line of a wave.
 fn put_wave_text<K: Sink>(text: &mut TextBuffer, sink: &mut K, line: u64, reason: WaveReason)
     ensures { Adds K.held K.faults sink.old sink.new text.old text.new
-        (codes "wave line " ++ decimal line ++ 32 ∷ [] ++ wave_reason_name reason) }
+        (codes "wave line " ++ decimal line ++ 32 ∷ [] ++ wave_reason_word reason) }
 {
     put_numbered(text, sink, b"wave line ", line);
     text.put_byte(sink, b' ');
-    put_wave_reason(text, sink, reason);
+    text.put(sink, reason.word().as_bytes());
 }
 
 /// Writes the refusal of a line of a wave.

@@ -1,5 +1,6 @@
 -- What the contracts of this crate cite.
 pub mod Limits
+pub mod Reasons
 pub mod Traces
 pub mod WordFields
 pub mod States

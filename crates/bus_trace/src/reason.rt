@@ -1,4 +1,6 @@
 //! Why a line of a trace text is refused.
+ghost use Rattle.std.specs.Prelude.{◌≡◌};
+ghost use Rattle.bus_trace.specs.Reasons.{trace_reason_word};
 
 /// Why a line of a trace text is refused: the first of these that applies to it.
 #[derive(Clone, Copy, Debug, PartialEq, Eq)]
@@ -21,4 +23,23 @@ pub enum TraceReason {
     Order,
     /// The moment of a TE line isn't the end of its transmission, or a mark is wrong, which shows at its own line or at the next.
     Mark,
+}
+
+impl TraceReason {
+    /// The word of the reason in lines that say why a trace is refused.
+    pub fn word(self) -> &'static str
+        ensures { result.now ≡ trace_reason_word self }
+    {
+        match self {
+            TraceReason::Ended => "Ended",
+            TraceReason::Long => "Long",
+            TraceReason::Keyword => "Keyword",
+            TraceReason::Fields => "Fields",
+            TraceReason::Spelling => "Spelling",
+            TraceReason::Parity => "Parity",
+            TraceReason::Range => "Range",
+            TraceReason::Order => "Order",
+            TraceReason::Mark => "Mark",
+        }
+    }
 }

@@ -1,5 +1,6 @@
 -- What the contracts of this crate cite.
 pub mod Code
+pub mod Reasons
 pub mod Waves
 pub mod WaveTexts
 pub mod Spacing

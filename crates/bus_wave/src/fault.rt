@@ -1,4 +1,7 @@
 //! What is wrong with a trace of which no wave is made, and why a wave text isn't read.
+ghost use Rattle.std.specs.Prelude.{◌≡◌};
+ghost use Rattle.bus_wave.specs.Reasons.{wave_reason_word};
+
 use bus_text::LineFault;
 use std::alloc::{AllocError, AllocFailed};
 use thiserror::Error;
@@ -36,6 +39,24 @@ pub enum WaveReason {
     Range,
     /// The line breaks a rule of order (`specs/Judging.antt`).
     Order,
+}
+
+impl WaveReason {
+    /// The word of the reason in lines that say why a wave is refused.
+    pub fn word(self) -> &'static str
+        ensures { result.now ≡ wave_reason_word self }
+    {
+        match self {
+            WaveReason::Ended => "Ended",
+            WaveReason::Keyword => "Keyword",
+            WaveReason::Fields => "Fields",
+            WaveReason::Spelling => "Spelling",
+            WaveReason::Code => "Code",
+            WaveReason::Parity => "Parity",
+            WaveReason::Range => "Range",
+            WaveReason::Order => "Order",
+        }
+    }
 }
 
 /// Why a wave text wasn't read.

@@ -20,11 +20,13 @@ mod phase;
 mod pieces;
 mod quick;
 mod reading;
+mod saying;
 mod spacing;
 mod symbol;
 mod writing;
 
 pub use fault::{WaveError, WaveFault, WaveReason};
 pub use reading::read_wave;
+pub use saying::put_fault;
 pub use spacing::{LEAST_GAP, spaced};
 pub use writing::write_wave;

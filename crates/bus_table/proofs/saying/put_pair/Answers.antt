@@ -1,5 +1,5 @@
 use Rattle.bus_outer.proofs.TextLaws.{adds_then}
-use Rattle.bus_command.proofs.fault_line.put_pair.Goals as goal
+use Rattle.bus_table.proofs.saying.put_pair.Goals as goal
 
 pub returns : goal.returns
 returns g c = search adds_then depth 40
