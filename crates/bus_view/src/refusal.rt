@@ -5,7 +5,7 @@ ghost use Rattle.bus_outer.specs.Texts.{Adds};
 ghost use Rattle.bus_view.specs.Refusals as refusals;
 ghost use Rattle.bus_view.specs.Refusals.{ends_of, line_of};
 
-use bus_command::{Place, Refusal, Status, put_error, put_number_and_word};
+use bus_command::{Place, Refusal, Status, put_error};
 use bus_outer::{Sink, TextBuffer, WriteFault};
 
 /// An entry of the trace in the second text, counted from 0, is the first that starts before an earlier one of its terminal has ended.
@@ -47,7 +47,8 @@ fn put_doubled<K: Sink>(text: &mut TextBuffer, sink: &mut K, entry: u64)
     ensures { Adds K.held K.faults sink.old sink.new text.old text.new (codes "trace entry " ++ (decimal entry ++ codes " Doubled")) }
 {
     text.put(sink, b"trace entry ");
-    put_number_and_word(text, sink, entry, b" Doubled");
+    text.put_number(sink, entry);
+    text.put(sink, b" Doubled");
 }
 
 /// Writes the refusal of a trace in which a terminal starts before an earlier message of its own has ended.
