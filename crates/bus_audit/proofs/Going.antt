@@ -33,7 +33,8 @@ use Rattle.bus_audit.specs.inside.Watches.{ready, pair, settled, begun, passed, 
 use Rattle.bus_audit.specs.inside.Standing.{NotBefore, NoEntries, Keeps, Tells, At, Told, Stands, Group, Near, Arrived, AreFar, Judged, Closed, Behind, JudgedTo}
 use Rattle.bus_strings.proofs.MemberLaws.{at_in, in_at}
 use Rattle.bus_medium.proofs.PastLaws.{same_bools}
-use Rattle.bus_audit.proofs.Lists.{get_within, get_set_same, get_set_other, same_some}
+use Rattle.bus_audit.proofs.Lists.{get_within}
+use Rattle.bus_medium.proofs.Seats.{get_set_same, get_set_other, same_some}
 use Rattle.bus_medium.proofs.AscendingLaws.{behind_in}
 use Rattle.bus_medium.specs.BusyLaws.{IsBusy}
 use Rattle.bus_medium.proofs.BusyLaws.{entry_is_busy}

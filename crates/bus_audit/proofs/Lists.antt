@@ -4,26 +4,12 @@ use Rattle.std.specs.Prelude.{slice_get}
 use Rattle.std.specs.List.{filter, find}
 use Rattle.std.proofs.lemmas.Bool.{true≢false}
 use Rattle.bus_strings.specs.Members.{In}
-
-pub same_some : {X : Type 0} (x y : X) → Some x ≡ Some y → x ≡ y
-same_some x y h = cc
+use Rattle.bus_medium.proofs.Seats.{same_some}
 
 pub get_within : {X : Type 0} → (xs : List X) (j : ℕ) → j < length xs → (x : X) × (slice_get xs j ≡ Some x)
 get_within [] j h = absurd (omega arith)
 get_within (x ∷ xs) zero h = (x, refl)
 get_within (x ∷ xs) (suc j) h = get_within xs j (omega arith)
-
-pub get_set_same : {X : Type 0} → (xs : List X) (i : ℕ) (y : X) → i < length xs → slice_get (set xs i y) i ≡ Some y
-get_set_same [] i y h = absurd (omega arith)
-get_set_same (x ∷ xs) zero y h = refl
-get_set_same (x ∷ xs) (suc i) y h = get_set_same xs i y (omega arith)
-
-pub get_set_other : {X : Type 0} → (xs : List X) (i j : ℕ) (y : X) → i ≢ j → slice_get (set xs i y) j ≡ slice_get xs j
-get_set_other [] i j y h = refl
-get_set_other (x ∷ xs) zero zero y h = absurd (h refl)
-get_set_other (x ∷ xs) zero (suc j) y h = refl
-get_set_other (x ∷ xs) (suc i) zero y h = refl
-get_set_other (x ∷ xs) (suc i) (suc j) y h = get_set_other xs i j y (λ e. h (ap suc e))
 
 pub filter_none : {X : Type 0} (p : X → Bool) → (xs : List X) → ((x : X) → In x xs → p x ≡ false) → filter p xs ≡ []
 filter_none p [] h = refl

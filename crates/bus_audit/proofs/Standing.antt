@@ -19,7 +19,8 @@ use Rattle.bus_audit.specs.Breaches.{kind_at, IsCleanTo}
 use Rattle.bus_audit.specs.inside.Watches.{ready, ready_moment, pair, turn, begun, passed, NoneBefore}
 use Rattle.bus_audit.specs.inside.Standing.{NotBefore, NoEntries, Keeps, Tells, At, Told, Stands, Near, Arrived}
 use Rattle.bus_strings.proofs.MemberLaws.{at_in}
-use Rattle.bus_audit.proofs.Lists.{get_within, get_set_same, get_set_other, same_some}
+use Rattle.bus_audit.proofs.Lists.{get_within}
+use Rattle.bus_medium.proofs.Seats.{get_set_same, get_set_other, same_some}
 use Rattle.bus_medium.specs.PastLaws.{NoneOf}
 use Rattle.bus_medium.proofs.PastLaws.{own_later, no_carrier, one_at}
 use Rattle.bus_medium.specs.BusyLaws.{IsBusy}

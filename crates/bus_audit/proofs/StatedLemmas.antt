@@ -18,7 +18,7 @@ use Rattle.bus_trace.specs.Traces.{Recording}
 use Rattle.bus_audit.specs.Breaches.{held}
 use Rattle.bus_audit.specs.Meaning.{messages_of, filled, hand_of, hands_of, IsFitting, IsRight, NoBreachIsRight}
 use Rattle.bus_audit.specs.Observed.{StatesHands, LawfulIsObserved}
-use Rattle.bus_audit.proofs.Lists.{same_some}
+use Rattle.bus_medium.proofs.Seats.{same_some}
 use Rattle.bus_audit.proofs.Silence.{Seated, sender_is_of}
 use Rattle.bus_audit.proofs.Going.{seated}
 use Rattle.bus_audit.proofs.Meanings.{filled_length}

@@ -12,10 +12,9 @@ use crate::clock::{Clock, Elapsed};
 use crate::dump::Dump;
 use crate::lanes::sender_count;
 use crate::live::Live;
-use crate::scene::SENDERS;
 use arrayvec::ArrayVec;
 use bus_medium::timing;
-use bus_table::Table;
+use bus_table::{MOST_SENDERS, Table};
 
 /// The clock of sender `k` at the settled start.
 fn settled(table: &Table, k: usize) -> Clock
@@ -32,7 +31,7 @@ fn settled(table: &Table, k: usize) -> Clock
 }
 
 /// The clocks of all senders at the settled start, in the order of the table.
-fn settle_all(table: &Table) -> ArrayVec<Clock, SENDERS>
+fn settle_all(table: &Table) -> ArrayVec<Clock, MOST_SENDERS>
     ensures items { result.items ≡ map (definition.settled table.now) table.now.senders }
     ensures sound { AllByRecursion (λ sender. IsSound (timing_of table.now sender)) table.now.senders }
 {
@@ -44,7 +43,7 @@ fn settle_all(table: &Table) -> ArrayVec<Clock, SENDERS>
 }
 
 /// The clocks that a dump needs, at the settled start.
-pub(crate) fn settle(dump: Dump, table: &Table) -> ArrayVec<Clock, SENDERS>
+pub(crate) fn settle(dump: Dump, table: &Table) -> ArrayVec<Clock, MOST_SENDERS>
     ensures items { result.items ≡ map (definition.settled table.now) (timed dump table.now) }
     ensures sound { AllByRecursion (λ sender. IsSound (timing_of table.now sender)) (timed dump table.now) }
 {
@@ -83,9 +82,9 @@ pub(crate) fn pass_all(
 }
 
 /// What the clocks tell at a place.
-pub(crate) fn tell_all(clocks: &[Clock], place: u64, timers: &mut ArrayVec<Elapsed, SENDERS>)
+pub(crate) fn tell_all(clocks: &[Clock], place: u64, timers: &mut ArrayVec<Elapsed, MOST_SENDERS>)
     requires low { AllByRecursion IsLow clocks.now }
-    requires few { length clocks.now ≤ SENDERS }
+    requires few { length clocks.now ≤ MOST_SENDERS }
     ensures { timers.new.items ≡ map (tells_at place) clocks.now }
 {
     timers.clear();

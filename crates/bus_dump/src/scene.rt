@@ -8,9 +8,7 @@ use crate::clock::Elapsed;
 use crate::live::TERMINALS;
 use crate::shown::Seen;
 use arrayvec::ArrayVec;
-
-/// The most senders of a table.
-pub(crate) const SENDERS: usize = 128;
+use bus_table::MOST_SENDERS;
 
 /// What is seen of the transmissions of a list at a bit time, and what the timers of the senders tell, where the dump has them.
 #[derive(Drop)]
@@ -18,7 +16,7 @@ pub(crate) struct Scene {
     /// What is seen of each transmission whose span holds the bit time, in list order.
     pub seen: ArrayVec<Seen, TERMINALS>,
     /// What the timers of each sender tell, in the order of the table.
-    pub timers: ArrayVec<Elapsed, SENDERS>,
+    pub timers: ArrayVec<Elapsed, MOST_SENDERS>,
 }
 
 impl Scene {
@@ -52,7 +50,7 @@ fn copy_seen(to: &mut ArrayVec<Seen, TERMINALS>, from: &ArrayVec<Seen, TERMINALS
 }
 
 /// Takes over what the timers tell.
-fn copy_timers(to: &mut ArrayVec<Elapsed, SENDERS>, from: &ArrayVec<Elapsed, SENDERS>)
+fn copy_timers(to: &mut ArrayVec<Elapsed, MOST_SENDERS>, from: &ArrayVec<Elapsed, MOST_SENDERS>)
     ensures { to.new.items ≡ from.now.items }
 {
     to.clear();

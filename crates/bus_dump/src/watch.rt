@@ -11,13 +11,13 @@ use crate::clocks::{next_turn, pass_all, settle, tell_all};
 use crate::dump::Dump;
 use crate::live::TERMINALS;
 use crate::look::look;
-use crate::scene::{SENDERS, Scene, has_carrier};
+use crate::scene::{Scene, has_carrier};
 use crate::shown::Seen;
 use crate::walk::Walk;
 use arrayvec::ArrayVec;
 use bus_medium::quiet;
 use bus_strings::Transmission;
-use bus_table::Table;
+use bus_table::{MOST_SENDERS, Table};
 use bus_timers::laws::test_decides;
 
 /// A walk over a list, and the clocks of the senders whose timers the dump has.
@@ -28,7 +28,7 @@ pub(crate) struct Watch<'a> {
     /// How long the bus was quiet before the settled start.
     pub quiet: u64,
     /// The clocks, in the order of the table.
-    pub clocks: ArrayVec<Clock, SENDERS>,
+    pub clocks: ArrayVec<Clock, MOST_SENDERS>,
 }
 
 impl<'a> Watch<'a> {

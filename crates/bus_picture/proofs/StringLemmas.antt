@@ -11,16 +11,6 @@ use Rattle.bus_strings.specs.Pulses.{pulse_length, pulse_start}
 use Rattle.bus_shapes.specs.declared.scale.Scale.{Scale}
 use Rattle.bus_picture.specs.Strings.{pulse_text, string_text}
 
-range_more : (n : ℕ) → range_with_len 0 (n + 1) ≡ range_with_len 0 n ++ n ∷ []
-range_more n =
-    sym (map-id (range_with_len 0 (n + 1))) ∙ map-range_with_len_more (λ (k : ℕ). k) 0 n n (omega arith)
-    ∙ ap (λ (l : List ℕ). l ++ n ∷ []) (map-id (range_with_len 0 n))
-
-pub one_more : (f : ℕ → List ℕ) (n : ℕ) → flat_map f (range_with_len 0 (n + 1)) ≡ flat_map f (range_with_len 0 n) ++ f n
-one_more f n =
-    ap (flat_map f) (range_more n) ∙ flat_map-append f (range_with_len 0 n) (n ∷ [])
-    ∙ ap (λ (l : List ℕ). flat_map f (range_with_len 0 n) ++ l) (append-nil (f n))
-
 pub at_pulse : (scale : Scale) (top : ℕ) (garbled : Bool) (x : Entry) (k from to : ℕ) (string : Wordstring)
     → from ≡ x.moment + pulse_start x.message k → to ≡ x.moment + pulse_start x.message k + pulse_length x.message k
     → slice_get x.message k ≡ Some string

@@ -70,7 +70,7 @@ abbrev pub interval_end : Scale → ℕ → ℕ → List ℕ
 interval_end scale top to =
     if nat_le to scale.to
     then box_text Interval
-        (record { left = place scale to - line_height; top = top + stroke_below; width = line_height; height = stroke_height })
+    (record { left = place scale to - line_height; top = top + stroke_below; width = line_height; height = stroke_height })
     else []
 
 -- Its words, in the first lane alone, since it is the same in all.

@@ -12,7 +12,7 @@ ghost use Rattle.bus_schedule.specs.Slack as slacks;
 
 use crate::laws::{accepted_bear_zero, borne_for_less};
 use bus_regime::{TurnGap, gap_at, turn_ends};
-use bus_table::{Table, turn_places};
+use bus_table::{MOST_SENDERS, Table, turn_places};
 
 /// Whether a gap is at least its sender's terminal gap and so many bit times.
 fn is_wide(gap: &TurnGap<'_>, d: u64) -> bool
@@ -54,7 +54,12 @@ fn is_enough(gap: &TurnGap<'_>, sg: u32, slack: Option<u64>) -> bool
 }
 
 /// Whether each gap is at least its sender's terminal gap and so many bit times.
-fn all_wide(table: &Table, places: &[usize; 128], ends: &[u64; 128], d: u64) -> bool
+fn all_wide(
+    table: &Table,
+    places: &[usize; MOST_SENDERS],
+    ends: &[u64; MOST_SENDERS],
+    d: u64,
+) -> bool
     requires turned { AreTurned table.now places.now }
     requires ends { AreEnds table.now ends.now }
     ensures value { result ≡ list_all (slacks.is_wide d) (gaps table.now) }
@@ -84,7 +89,13 @@ fn behind(n: usize, k: usize, step: usize) -> usize
 }
 
 /// Whether the sender of the `k`-th gap stays in sync from its own message to its next one.
-fn stays(table: &Table, places: &[usize; 128], ends: &[u64; 128], d: u64, k: usize) -> bool
+fn stays(
+    table: &Table,
+    places: &[usize; MOST_SENDERS],
+    ends: &[u64; MOST_SENDERS],
+    d: u64,
+    k: usize,
+) -> bool
     requires turned { AreTurned table.now places.now }
     requires ends { AreEnds table.now ends.now }
     requires place { k < length table.now.senders }
@@ -107,7 +118,12 @@ fn stays(table: &Table, places: &[usize; 128], ends: &[u64; 128], d: u64, k: usi
 }
 
 /// Whether the gaps of a table bear delays up to `d` bit times, where turn order is known.
-fn gaps_bear(table: &Table, places: &[usize; 128], ends: &[u64; 128], d: u64) -> bool
+fn gaps_bear(
+    table: &Table,
+    places: &[usize; MOST_SENDERS],
+    ends: &[u64; MOST_SENDERS],
+    d: u64,
+) -> bool
     requires turned { AreTurned table.now places.now }
     requires ends { AreEnds table.now ends.now }
     ensures { result ≡ slacks.gaps_bear table.now d }

@@ -7,7 +7,7 @@ ghost use Rattle.bus_regime.specs.Ends.{AreEnds};
 ghost use Rattle.bus_regime.specs.Gaps.{gaps};
 
 use crate::table_verdict::TableVerdict;
-use bus_table::{Sender, Table, longest, turn_at};
+use bus_table::{MOST_SENDERS, Sender, Table, longest, turn_at};
 use std::marker::Model;
 
 /// The gap before a sender: from the end of the sender before it to the sender's own start, both one interval later.
@@ -119,11 +119,11 @@ fn latest_end(sender: &Sender) -> u64
 
 /// The ends of the longest messages of all senders in the first interval, in turn order. Behind the last there is no meaning in
 /// them. It takes no memory.
-pub fn turn_ends(table: &Table, places: &[usize; 128]) -> [u64; 128]
+pub fn turn_ends(table: &Table, places: &[usize; MOST_SENDERS]) -> [u64; MOST_SENDERS]
     requires { AreTurned table.now places.now }
     ensures { AreEnds table.now result }
 {
-    let mut ends = [0; 128];
+    let mut ends = [0; MOST_SENDERS];
     for k in 0..table.senders().len() {
         ends[k] = latest_end(turn_at(table, places, k));
     }
@@ -131,7 +131,7 @@ pub fn turn_ends(table: &Table, places: &[usize; 128]) -> [u64; 128]
 }
 
 /// Where the gap before the `k`-th sender in turn order begins.
-fn gap_from(table: &Table, ends: &[u64; 128], k: usize) -> u64
+fn gap_from(table: &Table, ends: &[u64; MOST_SENDERS], k: usize) -> u64
     requires place { k < length table.now.senders }
     requires ends { AreEnds table.now ends.now }
     ensures bound { result ≤ 2 ^ 40 }
@@ -148,8 +148,8 @@ fn gap_from(table: &Table, ends: &[u64; 128], k: usize) -> u64
 /// [`bus_table::turn_places`], and the ends of messages, by [`turn_ends`]: both are found once for all gaps.
 pub fn gap_at<'a>(
     table: &'a Table,
-    places: &[usize; 128],
-    ends: &[u64; 128],
+    places: &[usize; MOST_SENDERS],
+    ends: &[u64; MOST_SENDERS],
     k: usize,
 ) -> TurnGap<'a>
     requires place { k < length table.now.senders }

@@ -10,7 +10,7 @@ ghost use Rattle.bus_regime.specs.Verdicts as verdicts;
 
 use crate::gaps::{TurnGap, gap_at, turn_ends};
 use crate::table_verdict::TableVerdict;
-use bus_table::{Mode, Table, turn_places};
+use bus_table::{MOST_SENDERS, Mode, Table, turn_places};
 
 /// One, where the test is passed, and else none.
 fn one_if(test: bool) -> usize
@@ -22,8 +22,8 @@ fn one_if(test: bool) -> usize
 /// How many gaps have at least one synchronization gap, unless one is small: then the first of those.
 fn wide_gaps<'a>(
     table: &'a Table,
-    places: &[usize; 128],
-    ends: &[u64; 128],
+    places: &[usize; MOST_SENDERS],
+    ends: &[u64; MOST_SENDERS],
 ) -> Result<usize, TurnGap<'a>>
     requires turned { AreTurned table.now places.now }
     requires ends { AreEnds table.now ends.now }
@@ -56,8 +56,8 @@ fn lacks_sync(table: &Table, wide: usize, gap: &TurnGap<'_>) -> bool
 /// The first gap in turn order whose sender lacks sync.
 fn unsynchronized<'a>(
     table: &'a Table,
-    places: &[usize; 128],
-    ends: &[u64; 128],
+    places: &[usize; MOST_SENDERS],
+    ends: &[u64; MOST_SENDERS],
     wide: usize,
 ) -> Option<TurnGap<'a>>
     requires turned { AreTurned table.now places.now }

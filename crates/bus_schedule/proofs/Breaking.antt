@@ -35,77 +35,10 @@ use Rattle.bus_schedule.proofs.GapLemmas.{final, final_last}
 use Rattle.bus_schedule.proofs.GapSplits.{GapAt, gap_split, gap_of, last_sender, final_append}
 use Rattle.bus_schedule.proofs.Growing.{Setting, sendable}
 use Rattle.bus_schedule.proofs.HandLemmas.{station, stations}
-use Rattle.bus_schedule.proofs.Orders.{rises_before, rises_after, same_sender}
+use Rattle.bus_schedule.proofs.Orders.{differ_append, differ_rises, rises_after, rises_before, rises_first, rises_second, same_sender}
+use Rattle.bus_schedule.proofs.SecondStarts.{busy_before, clear_apart, may_settled}
 use Rattle.bus_schedule.proofs.Slacks.{never_stays, stays_here, stays_later, none_stays, places, places_here, places_later, places_within}
 use Rattle.bus_schedule.proofs.Swaying.{at_below}
-
--- numbers that differ along two orders, one behind the other
-differ_append : (xs ys : List Sender) → Differ (λ c. c.number) xs → Differ (λ c. c.number) ys → ((x y : Sender) → In x xs → In y ys → x.number ≢ y.number)
-    → Differ (λ c. c.number) (xs ++ ys)
-differ_append [] ys d e h = e
-differ_append (x ∷ xs) ys d e h = (
-  (λ b i. elim (in_append_cases xs ys b i) [ inl l ↦ d.0 b l | inr r ↦ h x b (inl refl) r ]),
-  differ_append xs ys d.1 e (λ y z i j. h y z (inr i) j),
-)
-
-differ_rises : (key : Sender → ℕ) (order : List Sender) → Rises key order → ((b c : Sender) → In b order → In c order → b.number ≡ c.number → b ≡ c)
-    → Differ (λ c. c.number) order
-differ_rises key [] r one = tt
-differ_rises key (a ∷ order) r one = (
-  (λ b i e. let k : key a < key b = behind_rises key a order b r.0 i in
-      let l : key a ≡ key b = ap key (one a b (inl refl) (inr i) e) in omega arith),
-  differ_rises key order r.1 (λ b c i j. one b c (inr i) (inr j)),
-)
-
-rises_first : (key : Sender → ℕ) (xs ys : List Sender) → Rises key (xs ++ ys) → Rises key xs
-rises_first key [] ys r = tt
-rises_first key (x ∷ xs) ys r = (firsts xs r.0, rises_first key xs ys r.1)
-  where
-    firsts : (zs : List Sender) → RisesBehind key x (zs ++ ys) → RisesBehind key x zs
-    firsts [] h = tt
-    firsts (z ∷ zs) h = (h.0, firsts zs h.1)
-
-rises_second : (key : Sender → ℕ) (xs ys : List Sender) → Rises key (xs ++ ys) → Rises key ys
-rises_second key [] ys r = r
-rises_second key (x ∷ xs) ys r = rises_second key xs ys r.1
-
--- ---- a stretch of quiet behind a busy one
-pub busy_before : (l : List Entry) (a b f n : ℕ) → IsBusy l a b → 5 ≤ n → a < f + n → ((u : ℕ) → f ≤ u → u < f + n → carrier l u ≡ false) → b ≤ f
-busy_before l a b f n busy long near quiet =
-    let some : a < b = busy.some in
-    elim (cases_lt f b) [
-      | inr behind ↦ omega arith
-      | inl inside ↦ absurd (elim (cases_lt a f) [
-        | inr first ↦ true≢false (sym busy.first ∙ quiet a (omega arith) near)
-        | inl begun ↦ elim (cases_lt (f + 4) b) [
-          | inl further ↦
-              let p : Heard l f = busy.soon f (omega arith) further in
-              let low : f ≤ p.at = p.low in let high : p.at ≤ f + 4 = p.high in
-              true≢false (sym p.on ∙ quiet p.at low (omega arith))
-          | inr over ↦ true≢false (sym busy.final ∙ quiet (b - 1) (omega arith) (omega arith))
-        ]
-      ])
-    ]
-
-place_settled : (o : Option ℕ) → option_map (λ p. p - 0) o ≡ o
-place_settled None = refl
-place_settled (Some p) = ap (λ n. Some n) (let e : p - 0 ≡ p = omega arith in e)
-
--- who wakes at the settled start may start after the past as a whole
-may_settled : (q : ℕ) (delay : Delays) (list : List Entry) (s : Station) (t : ℕ) → IsDueOnCable q delay settled list s t
-    → MayStart s.timing (past q (heard delay s.number list) t) (last_place q (own list s.number t))
-may_settled q delay list s t d =
-    subst (λ o. MayStart s.timing (past q (heard delay s.number list) t) o) (place_settled (last_place q (own list s.number t))) d.may
-
--- two different transmissions of a list without overlaps
-clear_apart : (list : List Entry) (x y : Entry) → IsClear list → In x list → In y list → x ≢ y → overlaps x y ≡ true → overlaps y x ≡ true → ⊥
-clear_apart [] x y h i j apart a b = i
-clear_apart (z ∷ list) x y h (inl p) (inl q) apart a b = apart (p ∙ sym q)
-clear_apart (z ∷ list) x y h (inl p) (inr j) apart a b =
-    true≢false (sym a ∙ subst (λ w. overlaps w y ≡ false) (sym p) (of_each (λ w. overlaps z w ≡ false) list h.0 y j))
-clear_apart (z ∷ list) x y h (inr i) (inl q) apart a b =
-    true≢false (sym b ∙ subst (λ w. overlaps w x ≡ false) (sym q) (of_each (λ w. overlaps z w ≡ false) list h.0 x i))
-clear_apart (z ∷ list) x y h (inr i) (inr j) apart a b = clear_apart list x y h.1 i j apart a b
 
 zero_times : (n : ℕ) → 0 * n ≡ 0
 zero_times n = omega arith

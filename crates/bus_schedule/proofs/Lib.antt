@@ -24,6 +24,7 @@ pub mod OffsetEnds
 pub mod Leaving
 pub mod PlaceLemmas
 pub mod UnevenLemmas
+pub mod SecondStarts
 pub mod Breaking
 pub mod Refusing
 pub mod Meeting

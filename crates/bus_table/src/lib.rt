@@ -58,5 +58,5 @@ pub use saying::{put_fit_error, put_whole};
 pub use sender::Sender;
 pub use stop::{Stop, find_stop};
 pub use table::Table;
-pub use turns::{place, turn_at, turn_places};
+pub use turns::{MOST_SENDERS, place, turn_at, turn_places};
 pub use writing::{put_mode, write_table};

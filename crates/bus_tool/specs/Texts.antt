@@ -4,6 +4,7 @@ use Rattle.std.specs.Prelude.{◌≡◌, ℕ, ◌==◌, List, ◌++◌, length, 
 use Rattle.std.specs.List.{find, filter_map, range_with_len}
 use Rattle.std.specs.Option.{option_map}
 use Rattle.bus_strings.specs.Canonical.{messages_text}
+use Rattle.bus_strings.specs.Limits.{most_terminal}
 use Rattle.bus_table.specs.Tables.{Table, Hand}
 use Rattle.bus_table.specs.Canonical.{table_text}
 use Rattle.bus_plan.specs.Answers.{plan_of}
@@ -45,7 +46,7 @@ hold_at hands number = option_map hold_of (find (λ hand. hand.terminal == numbe
 
 -- The numbers that a terminal may have.
 unfoldable pub terminal_numbers : List ℕ
-terminal_numbers = range_with_len 1 128
+terminal_numbers = range_with_len 1 most_terminal
 
 -- The holds of the hands, by rising number.
 abbrev pub holds_of : List Hand → List Hold

@@ -5,6 +5,7 @@ ghost use Rattle.std.specs.Option.{option_copied, option_to_list};
 ghost use Rattle.bus_command.specs.Readers.{text_limit};
 ghost use Rattle.bus_tool.specs.Texts as texts;
 
+use bus_strings::limits::MOST_TERMINAL;
 use bus_table::Hand;
 use bus_trace::Hold;
 use std::alloc::{AllocError, Global};
@@ -54,7 +55,7 @@ pub fn holds(alloc: Global, hands: &[Hand]) -> Result<Vec<Hold>, AllocError>
     ensures { IfOk result (λ holds. holds.items ≡ texts.holds_of hands.now) }
 {
     let mut holds = Vec::with_capacity(alloc, hands.len())?;
-    for number in 1..129u8 {
+    for number in 1..MOST_TERMINAL + 1 {
         note(&mut holds, hold_at(hands, number))?;
     }
     Ok(holds)

@@ -2,6 +2,7 @@
 use Rattle.std.specs.Prelude.{ℕ, ◌==◌, is_some, List, length, count_by, Option, Some, None, if◌then◌else◌}
 use Rattle.std.specs.List.{find, filter_map, range_with_len}
 use Rattle.std.specs.Option.{option_map}
+use Rattle.bus_strings.specs.Limits.{most_terminal}
 use Rattle.bus_strings.specs.Messages.{Entry}
 use Rattle.bus_table.specs.Tables.{Sender, Table, Hand}
 use Rattle.bus_table.specs.Fits.{sender_of}
@@ -21,7 +22,7 @@ hold_at senders list number = hold_of senders number (entries_of list number)
 
 -- The holds of the senders of a table, by rising number.
 unfoldable pub holds_of : Table → List Entry → List Hold
-holds_of table list = filter_map (hold_at table.senders list) (range_with_len 1 128)
+holds_of table list = filter_map (hold_at table.senders list) (range_with_len 1 most_terminal)
 
 -- The hold of the hand of the terminal with a number, where there is one: how many messages it has.
 abbrev pub hand_hold : List Hand → ℕ → Option Hold
@@ -30,4 +31,4 @@ hand_hold hands number =
 
 -- The holds of hands, by rising number.
 unfoldable pub hand_holds : List Hand → List Hold
-hand_holds hands = filter_map (hand_hold hands) (range_with_len 1 128)
+hand_holds hands = filter_map (hand_hold hands) (range_with_len 1 most_terminal)

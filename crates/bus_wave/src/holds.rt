@@ -7,6 +7,7 @@ ghost use Rattle.bus_wave.specs.Counted as counted;
 ghost use Rattle.bus_wave.specs.Counted.{entries_of};
 
 use bus_strings::Transmission;
+use bus_strings::limits::MOST_TERMINAL;
 use bus_table::{Sender, Table, sender_of};
 use bus_trace::Hold;
 use std::alloc::{AllocError, Global};
@@ -68,7 +69,7 @@ pub(crate) fn holds(
     let senders = table.senders();
     let counts = counts(list);
     let mut holds = Vec::with_capacity(alloc, senders.len())?;
-    for number in 1..129u8 {
+    for number in 1..MOST_TERMINAL + 1 {
         note(&mut holds, hold_at(senders, &counts, number))?;
     }
     Ok(holds)

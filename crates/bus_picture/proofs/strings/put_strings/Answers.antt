@@ -6,7 +6,7 @@ use Rattle.bus_outer.specs.Texts.{Adds}
 use Rattle.bus_outer.proofs.TextLaws.{◌▸◌}
 use Rattle.bus_strings.specs.Messages.{Entry}
 use Rattle.bus_picture.specs.Strings.{pulse_text}
-use Rattle.bus_picture.proofs.StringLemmas.{one_more}
+use Rattle.bus_shapes.proofs.AxisLemmas.{one_more}
 use Rattle.bus_picture.proofs.strings.put_strings.Goals as goal
 
 pub loop-k-preserved : goal.loop-k-preserved
