@@ -57,6 +57,13 @@ fn put_unfit<K: Sink>(text: &mut TextBuffer, sink: &mut K, error: FitError)
     put_fit_error(text, sink, error);
 }
 
+/// Puts the word of a reason against a line of a trace.
+fn put_trace_reason<K: Sink>(text: &mut TextBuffer, sink: &mut K, reason: TraceReason)
+    ensures { Adds K.held K.faults sink.old sink.new text.old text.new (trace_reason_word reason) }
+{
+    text.put(sink, reason.word().as_bytes());
+}
+
 /// Puts the refusal of a line of a trace.
 fn put_trace_text<K: Sink>(text: &mut TextBuffer, sink: &mut K, byte: u64, reason: TraceReason)
     ensures { Adds K.held K.faults sink.old sink.new text.old text.new
@@ -64,7 +71,7 @@ fn put_trace_text<K: Sink>(text: &mut TextBuffer, sink: &mut K, byte: u64, reaso
 {
     put_numbered(text, sink, b"trace byte ", byte);
     text.put_byte(sink, b' ');
-    text.put(sink, reason.word().as_bytes());
+    put_trace_reason(text, sink, reason);
 }
 
 /// Puts why a table is refused as a whole.

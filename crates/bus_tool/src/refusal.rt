@@ -162,6 +162,13 @@ fn write_unspaced<K: Sink>(fault: WaveFault, sink: &mut K) -> Result<(), WriteFa
     text.finish(sink)
 }
 
+/// Puts the word of a reason against a line of a wave.
+fn put_wave_reason<K: Sink>(text: &mut TextBuffer, sink: &mut K, reason: WaveReason)
+    ensures { Adds K.held K.faults sink.old sink.new text.old text.new (wave_reason_word reason) }
+{
+    text.put(sink, reason.word().as_bytes());
+}
+
 /// Puts the refusal of a line of a wave.
 fn put_wave_text<K: Sink>(text: &mut TextBuffer, sink: &mut K, line: u64, reason: WaveReason)
     ensures { Adds K.held K.faults sink.old sink.new text.old text.new
@@ -169,7 +176,7 @@ fn put_wave_text<K: Sink>(text: &mut TextBuffer, sink: &mut K, line: u64, reason
 {
     put_numbered(text, sink, b"wave line ", line);
     text.put_byte(sink, b' ');
-    text.put(sink, reason.word().as_bytes());
+    put_wave_reason(text, sink, reason);
 }
 
 /// Writes the refusal of a line of a wave.
