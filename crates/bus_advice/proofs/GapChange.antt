@@ -186,3 +186,8 @@ gap_too_much table s deficit n valid lacks i low high = false_from_ne_true _ (λ
     let most = only.most in
     let short = only.short in
     elim high [ inl k ↦ absurd (omega arith) | inr k ↦ absurd (omega arith) ])
+
+-- it is in its range
+pub gap_most : (table : Table) (s : Sender) (n : ℕ) → IsTrue (is_valid table) → table.mode ≡ Aperiodic → In s table.senders → s.tg < n
+    → works (with_gap s.number n table) ≡ true → n ≤ 256
+gap_most table s n valid aperiodic i low h = (gap_only table s n valid aperiodic i low h).most

@@ -12,3 +12,4 @@ mod Widening
 mod TurnSteps
 mod Planning
 mod Working
+mod Missing

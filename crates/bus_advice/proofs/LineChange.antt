@@ -244,3 +244,12 @@ least_none table s place deficit n line valid lacks i at nearest high =
     let fits = only.1 in
     let other = least_grows table s place m line facts i at (omega arith) in
     absurd (omega arith)))
+
+-- it is in its range
+pub least_most : (table : Table) (s : Sender) (place n : ℕ) (line : SendLine) → IsTrue (is_valid table) → table.mode ≡ Aperiodic
+    → In s table.senders → slice_get s.sends place ≡ Some line → works (with_least s.number place n table) ≡ true → n ≤ 256
+least_most table s place n line valid aperiodic i at h =
+    let only = least_only table s place n line aperiodic i at h in
+    let fits : n ≤ line.most = only.0 in
+    let small = line_small table s place line valid i at in
+    omega arith

@@ -119,3 +119,31 @@ found_below test (suc n) x h =
             ];
           })
     ]) refl h
+
+-- where one passes, there is one that is found
+first_there : (test : ℕ → Bool) (n count x : ℕ) → n ≤ x → x < n + count → test x ≡ true → (y : ℕ) × (first_from test n count ≡ Some y)
+unfolding first_from
+first_there test n zero x low high good = absurd (omega arith)
+first_there test n (suc count) x low high good =
+    (elim (test n) as (λ b. test n ≡ b → (y : ℕ) × (cond b (Some n) (first_from test (n + 1) count) ≡ Some y)) [
+      | true ↦ λ e. (n, refl)
+      | false ↦ λ e. elim (cases_lt n x) [
+        | inl less ↦ first_there test (n + 1) count x (omega arith) (omega arith) good
+        | inr rest ↦ (let same : n ≡ x = omega arith in absurd (true≢false (sym good ∙ ap test (sym same) ∙ e)))
+      ]
+    ]) refl
+
+pub least_there : (test : ℕ → Bool) (n x : ℕ) → n ≤ x → x ≤ 128000 → test x ≡ true → (y : ℕ) × (least_from test n ≡ Some y)
+least_there test n x low high good = first_there test n (128001 - n) x low (omega arith) good
+
+pub below_there : (test : ℕ → Bool) (n x : ℕ) → x < n → test x ≡ true → (y : ℕ) × (greatest_below test n ≡ Some y)
+unfolding greatest_below
+below_there test zero x low good = absurd (omega arith)
+below_there test (suc n) x low good =
+    (elim (test n) as (λ b. test n ≡ b → (y : ℕ) × (cond b (Some n) (greatest_below test n) ≡ Some y)) [
+      | true ↦ λ e. (n, refl)
+      | false ↦ λ e. elim (cases_lt x n) [
+        | inl less ↦ below_there test n x less good
+        | inr rest ↦ (let same : n ≡ x = omega arith in absurd (true≢false (sym good ∙ ap test (sym same) ∙ e)))
+      ]
+    ]) refl

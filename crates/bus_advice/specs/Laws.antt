@@ -1,5 +1,6 @@
 -- What advices are good for: each works, and none nearer to the number that stands does.
-use Rattle.std.specs.Prelude.{◌≡◌, ℕ, suc, ◌<◌, ◌≤◌, ◌⊎◌, false, List, Some, IsTrue, slice_get}
+use Rattle.bus_table.specs.declared.mode.Mode.TheVariants.{Aperiodic, Periodic}
+use Rattle.std.specs.Prelude.{◌≡◌, ℕ, suc, ◌<◌, ◌≤◌, ◌⊎◌, false, List, Some, IsTrue, slice_get, ◌+◌}
 use Rattle.bus_strings.specs.Members.{In}
 use Rattle.bus_table.specs.Offsets.{with_offsets}
 use Rattle.bus_table.specs.declared.line.SendLine.{SendLine}
@@ -56,3 +57,25 @@ AdviceWorks table (Plan ti) = PlanWorks table ti
 -- Every advice on a valid table works.
 abbrev pub AdvicesWork : Type 0
 AdvicesWork = (table : Table) (advice : Advice) → IsTrue (is_valid table) → In advice (advices_of table) → AdviceWorks table advice
+
+-- Where a change of one number in the direction of an advice works, there is an advice of that kind.
+--   interval    a lesser one in aperiodic mode, a greater one in periodic mode
+--   offsets     any, at a transmit interval from the table's own on
+pub record AreComplete (table : Table) (advices : List Advice) : Type 0 where
+  pub lesser_interval : table.mode ≡ Aperiodic → (n : ℕ) → n < table.ti → IsTrue (works (with_interval n table))
+      → (best : ℕ) × In (Interval best) advices
+  pub synchronization : table.mode ≡ Aperiodic → (n : ℕ) → table.sg < n → IsTrue (works (with_synchronization n table))
+      → (best : ℕ) × In (Synchronization best) advices
+  pub gap : table.mode ≡ Aperiodic → (sender : Sender) (n : ℕ) → In sender table.senders → sender.tg < n
+      → IsTrue (works (with_gap sender.number n table)) → (best : ℕ) × In (Gap sender.number best) advices
+  pub least : table.mode ≡ Aperiodic → (sender : Sender) (place : ℕ) (line : SendLine) (n : ℕ) → In sender table.senders
+      → slice_get sender.sends place ≡ Some line → line.least < n → IsTrue (works (with_least sender.number place n table))
+      → (best : ℕ) × In (Least sender.number (place + 1) best) advices
+  pub greater_interval : table.mode ≡ Periodic → (n : ℕ) → table.ti < n → IsTrue (works (with_interval n table))
+      → (best : ℕ) × In (Interval best) advices
+  pub offsets : table.mode ≡ Periodic → (n : ℕ) (offsets : List ℕ) → table.ti ≤ n → IsTrue (works (with_offsets offsets (with_interval n table)))
+      → (best : ℕ) × In (Plan best) advices
+
+-- No advice on a refused table is missing.
+abbrev pub NoneMissing : Type 0
+NoneMissing = (table : Table) → IsTrue (is_valid table) → is_accepted (verdict_of table) ≡ false → AreComplete table (advices_of table)
