@@ -11,3 +11,4 @@ pub mod Taken
 pub mod Causes
 pub mod Acts
 pub mod Claims
+pub mod About

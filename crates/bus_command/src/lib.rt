@@ -3,12 +3,14 @@
 //!
 //! An [`Outcome`] is what a command came to; what only one program refuses is its parameter, a [`Refusal`]. [`outcome_text`] writes its
 //! line, and [`Status`] is how the program ends. [`take_table`], [`take_hands`], [`take_trace`] and [`take_traced`] are the steps by which
-//! a command takes its texts, and [`after_writing`] is what it comes to once its answer is written.
+//! a command takes its texts, and [`after_writing`] is what it comes to once its answer is written. [`About`] is what a program tells of
+//! itself.
 //!
 //! `specs/Acts` says what a command does to the outside, `specs/Due` what is due of both texts, and `specs/Claims` how texts that are right
 //! are told. `proofs/PrepareLaws` and `proofs/DoLaws` put the steps of a command together.
 #![tactic(auto)]
 
+mod about;
 mod fault_line;
 mod inputs;
 mod outcome;
@@ -16,7 +18,8 @@ mod refusal;
 mod status;
 mod writing;
 
-pub use fault_line::{outcome_text, put_error, put_numbered};
+pub use about::{About, about_of, tell};
+pub use fault_line::{outcome_text, put_error, put_number_and_word, put_numbered, put_reason};
 pub use inputs::{Dealt, Traced, take_hands, take_table, take_text, take_trace, take_traced};
 pub use outcome::Outcome;
 pub use refusal::{Place, Refusal};
