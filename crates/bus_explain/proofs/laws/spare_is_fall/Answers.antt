@@ -1,0 +1,5 @@
+use Rattle.bus_explain.proofs.FigureLaws as laws
+use Rattle.bus_explain.proofs.laws.spare_is_fall.Goals as goal
+
+pub returns : goal.returns
+returns c = laws.spare_is_fall c.feasible_exactly.ensures c.short_is_refused.ensures

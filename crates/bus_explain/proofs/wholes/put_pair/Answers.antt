@@ -1,0 +1,5 @@
+use Rattle.bus_outer.proofs.TextLaws.{◌▸◌}
+use Rattle.bus_explain.proofs.wholes.put_pair.Goals as goal
+
+pub returns : goal.returns
+returns g c = c.put.ensures ▸ c.put_label.ensures ▸ c.put-2.ensures ▸ c.put_ext.ensures ▸ c.put-3.ensures

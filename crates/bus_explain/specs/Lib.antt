@@ -1,0 +1,9 @@
+pub mod Times
+pub mod Figures
+pub mod Accepted
+pub mod Refused
+pub mod Advised
+pub mod Wholes
+pub mod Forms
+pub mod Unread
+pub mod Laws

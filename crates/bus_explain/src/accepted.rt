@@ -1,0 +1,221 @@
+//! An accepted table, a sentence a line.
+ghost use Rattle.std.specs.List.{flat_map};
+ghost use Rattle.bus_outer.specs.Sinks.{WritesText};
+ghost use Rattle.bus_outer.specs.Texts.{Adds};
+ghost use Rattle.bus_table.specs.declared.mode.Mode.TheVariants.{Aperiodic, Periodic};
+ghost use Rattle.bus_table.specs.Turns.{turn_order};
+ghost use Rattle.bus_explain.specs.Accepted as accepted;
+
+use crate::figures::{load, spare};
+use crate::times::{put_share, put_time};
+use bus_outer::{Sink, TextBuffer, WriteFault};
+use bus_table::laws::table_is_valid;
+use bus_table::{Mode, Sender, Table, longest, shortest, turn_at, turn_places};
+
+/// Puts how long the cycles of a table are.
+fn put_cycles<K: Sink>(text: &mut TextBuffer, sink: &mut K, mode: Mode, least: u64, most: u64)
+    ensures { Adds K.held K.faults sink.old sink.new text.old text.new (accepted.cycles_line mode least most) }
+{
+    match mode {
+        Mode::Aperiodic => put_both_cycles(text, sink, least, most),
+        Mode::Periodic => put_one_cycle(text, sink, least, most),
+    }
+}
+
+/// Puts the shortest and the longest cycle of an aperiodic table.
+fn put_both_cycles<K: Sink>(text: &mut TextBuffer, sink: &mut K, least: u64, most: u64)
+    ensures { Adds K.held K.faults sink.old sink.new text.old text.new (accepted.cycles_line Aperiodic least most) }
+{
+    text.put(
+        sink,
+        b"The shortest cycle, of the shortest messages, takes ",
+    );
+    put_time(text, sink, least as u128);
+    text.put(sink, b", and the longest takes ");
+    put_time(text, sink, most as u128);
+    text.put(sink, b".\n");
+}
+
+/// Puts the one cycle of a periodic table.
+fn put_one_cycle<K: Sink>(text: &mut TextBuffer, sink: &mut K, least: u64, most: u64)
+    ensures { Adds K.held K.faults sink.old sink.new text.old text.new (accepted.cycles_line Periodic least most) }
+{
+    let _least = least;
+    text.put(sink, b"Each cycle takes ");
+    put_time(text, sink, most as u128);
+    text.put(
+        sink,
+        b", the transmit interval, whether messages are short or long.\n",
+    );
+}
+
+/// Puts how much the transmit interval could change.
+fn put_spare<K: Sink>(text: &mut TextBuffer, sink: &mut K, mode: Mode, spare: u64)
+    ensures { Adds K.held K.faults sink.old sink.new text.old text.new (accepted.spare_line mode spare) }
+{
+    text.put(sink, b"The spare is ");
+    put_time(text, sink, spare as u128);
+    put_spare_meaning(text, sink, mode);
+}
+
+/// Puts what a spare means.
+fn put_spare_meaning<K: Sink>(text: &mut TextBuffer, sink: &mut K, mode: Mode)
+    ensures { Adds K.held K.faults sink.old sink.new text.old text.new (accepted.spare_meaning mode) }
+{
+    match mode {
+        Mode::Aperiodic => text.put(
+            sink,
+            b": by so much the transmit interval, TI, could rise, though never above 128000, and the table would still be accepted.\n",
+        ),
+        Mode::Periodic => text.put(
+            sink,
+            b": by so much the transmit interval, TI, could fall, though never below 1000, if the offsets were planned anew.\n",
+        ),
+    }
+}
+
+/// Puts how much of the bus is used.
+fn put_load<K: Sink>(text: &mut TextBuffer, sink: &mut K, load: u128)
+    ensures { Adds K.held K.faults sink.old sink.new text.old text.new (accepted.load_line load) }
+{
+    text.put(sink, b"The load is ");
+    put_share(text, sink, load);
+    text.put(
+        sink,
+        b": so much of the longest cycle is messages, each as long as it may be; the rest is gaps.\n",
+    );
+}
+
+/// Puts how a line on a sender begins.
+fn put_opening<K: Sink>(text: &mut TextBuffer, sink: &mut K, mode: Mode, number: u8, at: u32)
+    ensures { Adds K.held K.faults sink.old sink.new text.old text.new (accepted.sender_opening mode number at) }
+{
+    text.put(sink, b"Terminal ");
+    text.put_number(sink, number);
+    put_start(text, sink, mode, at);
+}
+
+/// Puts where in a cycle a sender starts, where that is fixed.
+fn put_start<K: Sink>(text: &mut TextBuffer, sink: &mut K, mode: Mode, at: u32)
+    ensures { Adds K.held K.faults sink.old sink.new text.old text.new (accepted.start_text mode at) }
+{
+    match mode {
+        Mode::Aperiodic => text.put(sink, b""),
+        Mode::Periodic => put_offset(text, sink, at),
+    }
+}
+
+/// Puts where in a cycle a sender of a periodic table starts.
+fn put_offset<K: Sink>(text: &mut TextBuffer, sink: &mut K, at: u32)
+    ensures { Adds K.held K.faults sink.old sink.new text.old text.new (accepted.start_text Periodic at) }
+{
+    text.put(sink, b" starts ");
+    put_time(text, sink, at as u128);
+    text.put(sink, b" into each cycle,");
+}
+
+/// Puts the gap of a sender, its messages, and how long it waits.
+fn put_figures<K: Sink>(
+    text: &mut TextBuffer,
+    sink: &mut K,
+    tg: u32,
+    short: u32,
+    long: u32,
+    most: u64,
+)
+    ensures { Adds K.held K.faults sink.old sink.new text.old text.new (accepted.sender_figures tg short long most) }
+{
+    text.put(sink, b" has a terminal gap of ");
+    put_time(text, sink, tg as u128);
+    text.put(sink, b" and sends messages of ");
+    put_time(text, sink, short as u128);
+    text.put(sink, b" to ");
+    put_time(text, sink, long as u128);
+    text.put(sink, b"; from one start to its next it waits at most ");
+    put_time(text, sink, most as u128);
+    text.put(sink, b".\n");
+}
+
+/// Puts the line on a sender.
+fn put_sender<K: Sink>(text: &mut TextBuffer, sink: &mut K, mode: Mode, sender: &Sender, most: u64)
+    ensures { Adds K.held K.faults sink.old sink.new text.old text.new (accepted.line_of mode most sender.now) }
+{
+    put_opening(text, sink, mode, sender.number(), sender.at());
+    put_figures(
+        text,
+        sink,
+        sender.tg(),
+        shortest(sender),
+        longest(sender),
+        most,
+    );
+}
+
+/// Puts the lines on the senders, in turn order.
+fn put_senders<K: Sink>(text: &mut TextBuffer, sink: &mut K, mode: Mode, table: &Table, most: u64)
+    ensures { Adds K.held K.faults sink.old sink.new text.old text.new (flat_map (accepted.line_of mode most) (turn_order table.now)) }
+{
+    let places = turn_places(table);
+    for k in 0..table.senders().len() {
+        put_sender(text, sink, mode, turn_at(table, &places, k), most);
+    }
+}
+
+/// Puts how much delay the table bears.
+fn put_tolerance<K: Sink>(text: &mut TextBuffer, sink: &mut K, tolerance: Option<u64>)
+    ensures { Adds K.held K.faults sink.old sink.new text.old text.new (accepted.tolerance_line tolerance) }
+{
+    match tolerance {
+        None => text.put(
+            sink,
+            b"The tolerance has no end: one sender alone keeps its times, however long the cable is.\n",
+        ),
+        Some(delay) => put_delay(text, sink, delay),
+    }
+}
+
+/// Puts the greatest delay that the table bears.
+fn put_delay<K: Sink>(text: &mut TextBuffer, sink: &mut K, delay: u64)
+    ensures { Adds K.held K.faults sink.old sink.new text.old text.new (accepted.delay_line delay) }
+{
+    text.put(sink, b"The tolerance is ");
+    put_time(text, sink, delay as u128);
+    text.put(
+        sink,
+        b": where no terminal hears another later than that, the order holds; ",
+    );
+    text.put(
+        sink,
+        b"with one bit time more, two could talk over each other, or a turn be lost.\n",
+    );
+}
+
+/// Writes what is said of an accepted table: `least` and `most` are its verdict's, and `tolerance` is the greatest delay that it bears, in
+/// bit times, or None where it bears every delay. It takes no memory.
+pub fn write_accepted<K: Sink>(
+    table: &Table,
+    least: u64,
+    most: u64,
+    tolerance: Option<u64>,
+    sink: &mut K,
+) -> Result<(), WriteFault>
+    requires { accepted.IsAcceptedWith table.now least most }
+    ensures { WritesText K.held K.faults sink.old sink.new result (accepted.accepted_text table.now least most tolerance) }
+{
+    table_is_valid(table);
+    let mode = table.mode();
+    let spare = spare(table, least);
+    let load = load(table, most);
+    let mut text = TextBuffer::new();
+    text.put(
+        sink,
+        b"The table is accepted: its senders take turns, and no two of them ever talk over each other.\n",
+    );
+    put_cycles(&mut text, sink, mode, least, most);
+    put_spare(&mut text, sink, mode, spare);
+    put_load(&mut text, sink, load);
+    text.put(sink, b"The senders speak in this order:\n");
+    put_senders(&mut text, sink, mode, table, most);
+    put_tolerance(&mut text, sink, tolerance);
+    text.finish(sink)
+}

@@ -1,0 +1,47 @@
+//! The figures of a table that its verdict doesn't tell.
+ghost use Rattle.std.specs.Prelude.{◌≡◌, ◌<◌, ◌^◌};
+ghost use Rattle.bus_explain.specs.Figures as figures;
+ghost use Rattle.bus_explain.specs.Times.{tenths};
+
+use bus_plan::least_interval;
+use bus_table::{Mode, Table, longest};
+
+/// The bits of one message of each sender, each as long as it may be: at most 128 times 159,460.
+fn longest_bits(table: &Table) -> u64
+    ensures value { result ≡ figures.longest_bits table.now }
+    ensures bound { result < 2 ^ 32 }
+{
+    let mut bits = 0;
+    for sender in table.senders() {
+        bits += u64::from(longest(sender));
+    }
+    bits
+}
+
+/// A share in tenths of a percent, rounded to the nearest, a half up.
+fn share(part: u64, whole: u64) -> u128
+    requires part { part < 2 ^ 32 }
+    requires some { 0 < whole }
+    ensures { result ≡ tenths part whole }
+{
+    (2000 * u128::from(part) + u128::from(whole)) / (2 * u128::from(whole))
+}
+
+/// The load of a table whose longest cycle takes `most` bit times: the bits of all longest messages as a share of it, in tenths of a percent.
+pub fn load(table: &Table, most: u64) -> u128
+    requires { 0 < most }
+    ensures { result ≡ figures.load table.now most }
+{
+    share(longest_bits(table), most)
+}
+
+/// The spare of an accepted table whose shortest cycle takes `least` bit times: by so many bit times its transmit interval could rise, or
+/// in periodic mode fall, were its offsets planned anew.
+pub fn spare(table: &Table, least: u64) -> u64
+    ensures { result ≡ figures.spare table.now least }
+{
+    match table.mode() {
+        Mode::Aperiodic => least.saturating_sub(u64::from(table.ti())),
+        Mode::Periodic => u64::from(table.ti()).saturating_sub(least_interval(table)),
+    }
+}

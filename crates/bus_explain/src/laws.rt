@@ -1,0 +1,22 @@
+//! What the figures are good for.
+ghost use Rattle.bus_explain.specs.Laws.{SharesAreNearest, SpareIsFall, SpareIsRise};
+
+use bus_plan::laws::{feasible_exactly, short_is_refused};
+
+/// An accepted aperiodic table with its transmit interval changed alone is accepted exactly up to its own and the spare.
+pub fn spare_is_rise()
+    ensures { SpareIsRise }
+{}
+
+/// With its transmit interval changed, some offsets of an accepted periodic table are accepted exactly down to its own less the spare.
+pub fn spare_is_fall()
+    ensures { SpareIsFall }
+{
+    feasible_exactly();
+    short_is_refused();
+}
+
+/// A share is the nearest number of tenths of a percent, a half up.
+pub fn shares_are_nearest()
+    ensures { SharesAreNearest }
+{}
