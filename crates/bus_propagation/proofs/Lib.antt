@@ -1,0 +1,8 @@
+pub mod HearingLemmas
+pub mod ArrivalLemmas
+pub mod LookingLemmas
+pub mod NextLemmas
+pub mod SeatingLemmas
+pub mod TurnLemmas
+pub mod RunLemmas
+pub mod NumberedLemmas

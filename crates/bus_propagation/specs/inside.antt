@@ -1,0 +1,5 @@
+-- What the code keeps on its way: words that only contracts of private functions and proofs cite.
+pub mod Arrivals
+pub mod Hearing
+pub mod Seats
+pub mod Turns
