@@ -19,7 +19,7 @@ mod status;
 mod writing;
 
 pub use about::{About, about_of, tell};
-pub use fault_line::{outcome_text, put_error, put_number_and_word, put_numbered, put_reason};
+pub use fault_line::{outcome_text, put_error, put_numbered};
 pub use inputs::{Dealt, Traced, take_hands, take_table, take_text, take_trace, take_traced};
 pub use outcome::Outcome;
 pub use refusal::{Place, Refusal};
