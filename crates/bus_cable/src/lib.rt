@@ -3,6 +3,7 @@
 //! - [`Cable`] has the places and the wakes that a cable text names.
 //! - [`read_cable`] gives a cable and the items of a text, or the line that is refused and why, and [`write_cable`] writes their canonical
 //!   text.
+//! - [`observe_on`] is what the senders of a table do on a cable.
 //! - [`write_heard`] writes what each terminal of a table hears of a list, when, and what is garbled there.
 //!
 //! The definitions are in `specs/`: `Cables`, and for the cable text `Grammar` (which texts stand for which cables and items), `Reading`
@@ -15,6 +16,7 @@ mod error;
 mod heard;
 mod hearing;
 pub mod laws;
+mod observing;
 mod reading;
 mod spots;
 mod writing;
@@ -22,5 +24,6 @@ mod writing;
 pub use cable::{Cable, MOST_PLACE, MOST_WAKE, Named};
 pub use error::CableError;
 pub use heard::write_heard;
+pub use observing::observe_on;
 pub use reading::read_cable;
 pub use writing::write_cable;
