@@ -97,48 +97,14 @@ pub(crate) fn add(advices: &mut Vec<Advice>, advice: Option<Advice>) -> Result<(
     }
 }
 
-/// An advice on the transmit interval.
-pub(crate) fn on_interval(ti: Option<u32>) -> Option<Advice>
-    ensures { result ≡ option_map Interval ti }
+/// The advice on the terminal gap of a sender.
+fn gap_advice(table: &Table, deficit: u32, sender: &Sender) -> Option<Advice>
+    requires short { IsShort table.now deficit }
+    requires among { In sender.now table.now.senders }
+    ensures { result ≡ option_map (Gap sender.now.number) (advised.greater_gap table.now sender.now) }
 {
-    match ti {
-        Some(ti) => Some(Advice::Interval { ti }),
-        None => None,
-    }
-}
-
-/// An advice on the synchronization gap.
-fn on_synchronization(sg: Option<u32>) -> Option<Advice>
-    ensures { result ≡ option_map Synchronization sg }
-{
-    match sg {
-        Some(sg) => Some(Advice::Synchronization { sg }),
-        None => None,
-    }
-}
-
-/// An advice on a terminal gap.
-fn on_gap(terminal: u8, tg: Option<u32>) -> Option<Advice>
-    ensures { result ≡ option_map (Gap terminal) tg }
-{
-    match tg {
-        Some(tg) => Some(Advice::Gap { terminal, tg }),
-        None => None,
-    }
-}
-
-/// An advice on a SEND line, counted from 1.
-fn on_least(terminal: u8, line: usize, least: Option<u16>) -> Option<Advice>
-    ensures { result ≡ option_map (Least terminal line) least }
-{
-    match least {
-        Some(least) => Some(Advice::Least {
-            terminal,
-            line,
-            least,
-        }),
-        None => None,
-    }
+    let terminal = sender.number();
+    greater_gap(table, deficit, sender).map(|tg| Advice::Gap { terminal, tg })
 }
 
 /// Adds the advices on terminal gaps, in turn order.
@@ -154,10 +120,7 @@ fn add_gaps(
 {
     for k in 0..table.senders().len() {
         let sender = turn_at(table, places, k);
-        add(
-            advices,
-            on_gap(sender.number(), greater_gap(table, deficit, sender)),
-        )?;
+        add(advices, gap_advice(table, deficit, sender))?;
     }
     Ok(())
 }
@@ -173,10 +136,19 @@ fn add_lines(
     requires among { In sender.now table.now.senders }
     ensures { OnOk result (advices.new.items ≡ advices.old.items ++ advised.least_advices table.now sender.now) }
 {
+    let terminal = sender.number();
     let sends = sender.sends();
     for place in 0..sends.len() {
         let least = greater_least(table, deficit, sender, place, &sends[place]);
-        add(advices, on_least(sender.number(), place + 1, least))?;
+        let line = place + 1;
+        add(
+            advices,
+            least.map(|least| Advice::Least {
+                terminal,
+                line,
+                least,
+            }),
+        )?;
     }
     Ok(())
 }
@@ -210,10 +182,13 @@ pub(crate) fn cycle_advices(
 {
     let places = turn_places(table);
     let mut advices = Vec::new(alloc);
-    add(&mut advices, on_interval(lesser_interval(table, deficit)))?;
     add(
         &mut advices,
-        on_synchronization(greater_synchronization(table, deficit)),
+        lesser_interval(table, deficit).map(|ti| Advice::Interval { ti }),
+    )?;
+    add(
+        &mut advices,
+        greater_synchronization(table, deficit).map(|sg| Advice::Synchronization { sg }),
     )?;
     add_gaps(&mut advices, table, &places, deficit)?;
     add_least(&mut advices, table, &places, deficit)?;

@@ -10,7 +10,7 @@ ghost use Rattle.bus_advice.specs.Advices as advised;
 ghost use Rattle.bus_advice.specs.inside.InnerGaps as inside;
 
 use crate::advice::Advice;
-use crate::cycles::{add, on_interval};
+use crate::cycles::add;
 use crate::limits::MOST_TI;
 use bus_plan::least_interval;
 use bus_regime::{gap_at, turn_ends};
@@ -89,16 +89,6 @@ fn planned_interval(table: &Table) -> Option<u32>
     }
 }
 
-/// An advice on the offsets.
-fn on_plan(ti: Option<u32>) -> Option<Advice>
-    ensures { result ≡ option_map Plan ti }
-{
-    match ti {
-        Some(ti) => Some(Advice::Plan { ti }),
-        None => None,
-    }
-}
-
 /// The advices on a periodic table that is refused. Fails only where memory runs out.
 pub(crate) fn gap_advices(alloc: Global, table: &Table) -> Result<Vec<Advice>, AllocError>
     requires periodic { table.now.mode ≡ Periodic }
@@ -106,7 +96,13 @@ pub(crate) fn gap_advices(alloc: Global, table: &Table) -> Result<Vec<Advice>, A
     ensures { IfOk result (λ advices. advices.items ≡ advised.advices_in Periodic table.now) }
 {
     let mut advices = Vec::new(alloc);
-    add(&mut advices, on_interval(greater_interval(table)))?;
-    add(&mut advices, on_plan(planned_interval(table)))?;
+    add(
+        &mut advices,
+        greater_interval(table).map(|ti| Advice::Interval { ti }),
+    )?;
+    add(
+        &mut advices,
+        planned_interval(table).map(|ti| Advice::Plan { ti }),
+    )?;
     Ok(advices)
 }
