@@ -157,3 +157,6 @@ pub fn write_heard<K: Sink>(
     text.put(sink, b"END\n");
     text.finish(sink)
 }
+
+#[cfg(test)]
+mod tests;

@@ -67,11 +67,11 @@ fn blanks_and_comments_are_skipped(rt: HostRuntime) -> Result<(), Fail> {
 
 #[test]
 fn a_text_may_end_behind_each_line_and_not_before_the_first(rt: HostRuntime) {
-    let mut ends = 0;
+    let mut ends = 0u32;
     for end in 0..=WHOLE.len() {
         let outcome = read_cable(rt.alloc(), &WHOLE[..end]);
         if outcome.is_ok() {
-            ends += 1;
+            ends = ends.saturating_add(1);
         } else {
             assert!(rt; refusal(&outcome).is_some());
         }
