@@ -15,6 +15,8 @@ mod observing;
 mod seat;
 mod seating;
 mod starting;
+#[cfg(test)]
+mod tests;
 mod turns;
 
 pub use observing::observe_delayed;
