@@ -21,8 +21,8 @@ use std::alloc::{AllocError, Global};
 ///
 /// Places, 0 to 1024, and wakes, below 1,099,511,627,776, are found by the number of the terminal: the element at 0 is
 /// nobody's, and what stands behind the end of a list is 0. The horizon is at most 1,099,511,627,776. All are in bit
-/// times. Ok is the lawful list on the cable, and the only one. It goes from start to start, and looks at a transmission
-/// once or twice for each sender, however long it is. Fails only where memory runs out.
+/// times. Ok is the lawful list on the cable, and the only one. It goes from start to start: to hear a transmission takes
+/// the same work however long it is. Fails only where memory runs out.
 pub fn observe_delayed(
     alloc: Global,
     table: &Table,
