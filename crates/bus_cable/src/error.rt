@@ -1,5 +1,4 @@
 //! Why a cable text wasn't read.
-use bus_strings::MessagesError;
 use bus_text::Reason;
 use std::alloc::{AllocError, AllocFailed};
 use thiserror::Error;

@@ -15,8 +15,8 @@ use bus_table::{Hand, Table};
 use std::alloc::{AllocError, Global};
 
 /// What the senders of a table do on a cable with these hands, in the bit times before a horizon of at most 1,099,511,627,776: the lawful
-/// list with the delays and wakes of the cable, and there is no other. It goes from start to start. A terminal of which the cable names no
-/// place is at 0, and so is its wake. Fails only where memory runs out.
+/// list with the delays and wakes of the cable, and there is no other. It goes from start to start. A place or a wake that the cable doesn't
+/// name is 0. Fails only where memory runs out.
 pub fn observe_on(
     alloc: Global,
     table: &Table,
