@@ -29,7 +29,8 @@ least_line terminal line least =
 -- `PLAN n`
 abbrev pub plan_line : ℕ → List ℕ
 plan_line ti =
-    codes "PLAN " ++ decimal ti ++ codes ": plan the offsets anew, at a transmit interval of " ++ time_text ti ++ codes "; no lesser one will do.\n"
+    codes "PLAN " ++ decimal ti ++ codes ": plan the offsets anew, with a transmit interval of " ++ time_text ti
+    ++ codes ", the least from the present one on for which there are offsets.\n"
 
 -- The line of an advice.
 abbrev pub advice_line : Advice → List ℕ

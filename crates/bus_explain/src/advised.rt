@@ -75,9 +75,15 @@ fn put_plan<K: Sink>(text: &mut TextBuffer, sink: &mut K, ti: u32)
 {
     text.put(sink, b"PLAN ");
     text.put_number(sink, ti);
-    text.put(sink, b": plan the offsets anew, at a transmit interval of ");
+    text.put(
+        sink,
+        b": plan the offsets anew, with a transmit interval of ",
+    );
     put_time(text, sink, ti as u128);
-    text.put(sink, b"; no lesser one will do.\n");
+    text.put(
+        sink,
+        b", the least from the present one on for which there are offsets.\n",
+    );
 }
 
 /// Puts the line of an advice.
