@@ -13,7 +13,11 @@ fn behind_name(alloc: Global, mut args: Args<Global>) -> Result<Vec<String>, All
     ensures { IfOk result (λ words. words.items ≡ drop 1 (into_iter_items args)) }
 {
     let _name = args.next();
-    args.collect(alloc)
+    let mut words = Vec::new(alloc);
+    for word in args {
+        words.push(word)?;
+    }
+    Ok(words)
 }
 
 /// The words behind the program's name, in their order, of all the words that the process was given.
