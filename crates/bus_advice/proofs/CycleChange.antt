@@ -1,7 +1,7 @@
 -- An aperiodic table with another transmit interval, or another synchronization gap.
-use Rattle.std.specs.Prelude.{◌≡◌, ℕ, ◌+◌, ◌-◌, ◌<◌, ◌≤◌, true, IsTrue, Some, None}
-use Rattle.std.proofs.Common.{arith, sym, ap}
-use Rattle.std.proofs.lemmas.Bool.{and_parts, and_from, false_from_ne_true}
+use Rattle.std.specs.Prelude.{◌≡◌, ℕ, ◌+◌, ◌-◌, ◌<◌, ◌≤◌, true, false, IsTrue, Some, None}
+use Rattle.std.proofs.Common.{inl, inr, arith, sym, ap, ◌∙◌}
+use Rattle.std.proofs.lemmas.Bool.{cases_lt, true≢false, and_parts, and_from, false_from_ne_true}
 use Rattle.bus_table.specs.declared.mode.Mode.{Mode}
 use Rattle.bus_table.specs.declared.mode.Mode.TheVariants.{Aperiodic}
 use Rattle.bus_table.specs.Tables.{Table}
@@ -27,6 +27,13 @@ working_valid table h = (and_parts (is_valid table) _ h).0
 
 pub working_accepted : (table : Table) → works table ≡ true → IsTrue (is_accepted (verdict_of table))
 working_accepted table h = (and_parts (is_valid table) _ h).1
+
+-- a refused table has too short a cycle
+pub refused_short : (table : Table) → table.mode ≡ Aperiodic → is_accepted (verdict_of table) ≡ false → least_cycle table < table.ti
+refused_short table aperiodic refused = elim (cases_lt (least_cycle table) table.ti) [
+  | inl less ↦ less
+  | inr more ↦ absurd (true≢false (sym (cycle_accepted table aperiodic more) ∙ refused))
+]
 
 -- ---- the transmit interval
 no_late : (mode : Mode) (table : Table) (n : ℕ) → mode ≡ Aperiodic → periodic_refusal mode n table.senders ≡ None
@@ -83,6 +90,15 @@ lesser_none table deficit n short e low =
     let least : 1000 ≤ m = only.0 in
     let cycle : m ≤ least_cycle table = only.1 in absurd (omega arith))))
 
+-- a greater one doesn't help
+pub interval_refused : (table : Table) (n : ℕ) → table.mode ≡ Aperiodic → is_accepted (verdict_of table) ≡ false → table.ti ≤ n
+    → works (with_interval n table) ≡ false
+interval_refused table n aperiodic refused low = false_from_ne_true _ (λ h.
+    let less = refused_short table aperiodic refused in
+    let only = interval_only table n aperiodic h in
+    let cycle : n ≤ least_cycle table = only.1 in
+    absurd (omega arith))
+
 -- ---- the synchronization gap
 sync_valid : (table : Table) (n : ℕ) → IsTrue (is_valid table) → table.sg < n → n ≤ 1024 → IsTrue (is_valid (with_synchronization n table))
 sync_valid table n valid low high =
@@ -135,3 +151,13 @@ sync_none table deficit n short e high =
     let most : m ≤ 1024 = only.0 in
     let fits = only.1 in
     let other = sync_cycle table m in absurd (omega arith)))
+
+-- a lesser one doesn't help
+pub sync_refused : (table : Table) (n : ℕ) → table.mode ≡ Aperiodic → is_accepted (verdict_of table) ≡ false → n ≤ table.sg
+    → works (with_synchronization n table) ≡ false
+sync_refused table n aperiodic refused high = false_from_ne_true _ (λ h.
+    let less = refused_short table aperiodic refused in
+    let only = sync_only table n aperiodic h in
+    let fits : table.ti ≤ least_cycle (with_synchronization n table) = only.1 in
+    let cycle = sync_cycle table n in
+    absurd (omega arith))

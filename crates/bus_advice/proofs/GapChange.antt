@@ -1,5 +1,5 @@
 -- An aperiodic table with another terminal gap of one sender.
-use Rattle.std.specs.Prelude.{◌≡◌, ◌≢◌, ℕ, ◌+◌, ◌-◌, ◌<◌, ◌≤◌, ◌⊎◌, true, false, ◌==◌, nat_le, IsTrue, List, [], ◌∷◌, ◌++◌, map, None}
+use Rattle.std.specs.Prelude.{◌≡◌, ◌≢◌, ℕ, ◌+◌, ◌<◌, ◌≤◌, ◌⊎◌, true, false, ◌==◌, nat_le, IsTrue, List, [], ◌∷◌, ◌++◌, map, None}
 use Rattle.std.specs.List.{list_any}
 use Rattle.std.specs.Option.{option_map}
 use Rattle.std.proofs.Common.{inl, inr, arith, sym, refl, ap, ◌∙◌}
@@ -18,7 +18,7 @@ use Rattle.bus_table.specs.Whole.{first_again, same_pair, send_lines}
 use Rattle.bus_table.specs.inside.Facts.{SenderFacts, TableFacts}
 use Rattle.bus_table.proofs.ValidLaws.{valid_facts, map_none}
 use Rattle.bus_table.proofs.TurnLaws.{of_each, numbers_differ, gaps_differ}
-use Rattle.bus_regime.specs.Verdicts.{least_cycle}
+use Rattle.bus_regime.specs.Verdicts.{verdict_of, is_accepted, least_cycle}
 use Rattle.bus_regime.proofs.VerdictLaws.{accepted_cycle, cycle_accepted}
 use Rattle.bus_advice.specs.Changes.{change_sender, at_gap, with_gap}
 use Rattle.bus_advice.specs.Advices.{works}
@@ -26,7 +26,7 @@ use Rattle.bus_advice.specs.inside.InnerGaps.{IsShort}
 use Rattle.bus_advice.proofs.Parts.{parts_of, none_long}
 use Rattle.bus_advice.proofs.Members.{same_by, any_where, changed_here, changed_there, kept_by, sum_changed, all_changed, again_map}
 use Rattle.bus_advice.proofs.Changing.{stays_valid}
-use Rattle.bus_advice.proofs.CycleChange.{is_working, working_valid, working_accepted}
+use Rattle.bus_advice.proofs.CycleChange.{is_working, working_valid, working_accepted, refused_short}
 
 abbrev changed : Sender → ℕ → Sender → Sender
 changed s n = change_sender s.number (at_gap n)
@@ -111,10 +111,10 @@ gap_valid table s n valid aperiodic i low high short free =
     })
 
 -- the cycle
-gap_cycle : (table : Table) (s : Sender) (n : ℕ) → TableFacts table → In s table.senders → s.tg ≤ n
+gap_cycle : (table : Table) (s : Sender) (n : ℕ) → TableFacts table → In s table.senders
     → least_cycle (with_gap s.number n table) + s.tg ≡ least_cycle table + n
-gap_cycle table s n facts i low =
-    let sums = sum_changed (λ x. x.tg + shortest x) (at_gap n) table.senders s (n - s.tg) i (numbers_differ table facts) (omega arith) in
+gap_cycle table s n facts i =
+    let sums = sum_changed (λ x. x.tg + shortest x) (at_gap n) table.senders s i (numbers_differ table facts) in
     omega (arith, sums)
 
 -- what a table that works with another gap tells
@@ -160,7 +160,7 @@ pub gap_works : (table : Table) (s : Sender) (deficit n : ℕ) → IsTrue (is_va
 gap_works table s deficit n valid lacks i low high short free =
     let some = lacks.some in
     let less = lacks.short in
-    let cycle = gap_cycle table s n (valid_facts table valid) i (omega arith) in
+    let cycle = gap_cycle table s n (valid_facts table valid) i in
     is_working (with_gap s.number n table) (gap_valid table s n valid lacks.aperiodic i (omega arith) high short free)
     (cycle_accepted (with_gap s.number n table) lacks.aperiodic (omega arith))
 
@@ -171,7 +171,7 @@ gap_too_little table s deficit n valid lacks i low high = false_from_ne_true _ (
     let less = lacks.short in
     let only = gap_only table s n valid lacks.aperiodic i low h in
     let fits = only.fits in
-    let cycle = gap_cycle table s n (valid_facts table valid) i (omega arith) in
+    let cycle = gap_cycle table s n (valid_facts table valid) i in
     absurd (omega arith))
 
 pub gap_taken : (table : Table) (s : Sender) (deficit n : ℕ) → IsTrue (is_valid table) → IsShort table deficit → In s table.senders
@@ -191,3 +191,13 @@ gap_too_much table s deficit n valid lacks i low high = false_from_ne_true _ (λ
 pub gap_most : (table : Table) (s : Sender) (n : ℕ) → IsTrue (is_valid table) → table.mode ≡ Aperiodic → In s table.senders → s.tg < n
     → works (with_gap s.number n table) ≡ true → n ≤ 256
 gap_most table s n valid aperiodic i low h = (gap_only table s n valid aperiodic i low h).most
+
+-- a lesser one doesn't help
+pub gap_refused : (table : Table) (s : Sender) (n : ℕ) → IsTrue (is_valid table) → table.mode ≡ Aperiodic
+    → is_accepted (verdict_of table) ≡ false → In s table.senders → n ≤ s.tg → works (with_gap s.number n table) ≡ false
+gap_refused table s n valid aperiodic refused i high = false_from_ne_true _ (λ h.
+    let made : Table = with_gap s.number n table in
+    let less = refused_short table aperiodic refused in
+    let fits : table.ti ≤ least_cycle made = accepted_cycle made aperiodic (working_accepted made h) in
+    let cycle = gap_cycle table s n (valid_facts table valid) i in
+    absurd (omega (arith, less, fits, cycle, high)))

@@ -1,5 +1,5 @@
 -- An aperiodic table with more data words to send at least on one SEND line.
-use Rattle.std.specs.Prelude.{◌≡◌, ℕ, zero, suc, ◌+◌, ◌-◌, ◌*◌, ◌<◌, ◌≤◌, Bool, true, ◌&&◌, ◌==◌, nat_le, IsTrue, List, [], ◌∷◌, ◌++◌, map, Some, None, length, slice_get}
+use Rattle.std.specs.Prelude.{◌≡◌, ℕ, zero, suc, ◌+◌, ◌-◌, ◌*◌, ◌<◌, ◌≤◌, Bool, true, false, ◌&&◌, ◌==◌, nat_le, IsTrue, List, [], ◌∷◌, ◌++◌, map, Some, None, length, slice_get}
 use Rattle.std.specs.List.{list_all}
 use Rattle.std.specs.Option.{option_map}
 use Rattle.std.proofs.Common.{inl, inr, arith, sym, refl, ap, ◌∙◌}
@@ -21,7 +21,7 @@ use Rattle.bus_table.specs.Whole.{first_again, same_pair, send_lines}
 use Rattle.bus_table.specs.inside.Facts.{SenderFacts, TableFacts}
 use Rattle.bus_table.proofs.ValidLaws.{valid_facts, map_none}
 use Rattle.bus_table.proofs.TurnLaws.{of_each, numbers_differ}
-use Rattle.bus_regime.specs.Verdicts.{least_cycle}
+use Rattle.bus_regime.specs.Verdicts.{verdict_of, is_accepted, least_cycle}
 use Rattle.bus_regime.proofs.VerdictLaws.{accepted_cycle, cycle_accepted}
 use Rattle.bus_advice.specs.Changes.{change_sender, at_least, at_least_in, with_line, with_least}
 use Rattle.bus_advice.specs.Advices.{works, greater_least}
@@ -30,7 +30,7 @@ use Rattle.bus_advice.proofs.Parts.{parts_of, none_long}
 use Rattle.bus_advice.proofs.Searches.{above_some, above_none}
 use Rattle.bus_advice.proofs.Members.{same_by, changed_here, changed_there, kept_by, sum_changed, all_changed, again_map, again_unmap}
 use Rattle.bus_advice.proofs.Changing.{stays_valid}
-use Rattle.bus_advice.proofs.CycleChange.{is_working, working_valid, working_accepted}
+use Rattle.bus_advice.proofs.CycleChange.{is_working, working_valid, working_accepted, refused_short}
 
 abbrev changed : Sender → ℕ → ℕ → Sender → Sender
 changed s place n = change_sender s.number (with_line place n)
@@ -56,9 +56,9 @@ words_changed (suc place) n (l ∷ lines) line h =
     let rest = words_changed place n lines line h in
     omega (arith, one, two, rest)
 
-shortest_changed : (s : Sender) (place n : ℕ) (line : SendLine) → slice_get s.sends place ≡ Some line → line.least ≤ n
-    → shortest (with_line place n s) ≡ shortest s + 20 * (n - line.least)
-shortest_changed s place n line h low =
+shortest_changed : (s : Sender) (place n : ℕ) (line : SendLine) → slice_get s.sends place ≡ Some line
+    → shortest (with_line place n s) + 20 * line.least ≡ shortest s + 20 * n
+shortest_changed s place n line h =
     let words = words_changed place n s.sends line h in
     let long = length-changed place n s.sends in
     let same : inner_gap * (length (at_least_in place n s.sends) - 1) ≡ inner_gap * (length s.sends - 1) = ap (λ k. inner_gap * (k - 1)) long in
@@ -173,13 +173,13 @@ least_valid table s place n line valid aperiodic i at high =
       pairs = ap (option_map (λ (l : SendLine). PairTwice l.label l.ext)) (pairs_again s place n table.senders pairs);
     })
 
-least_grows : (table : Table) (s : Sender) (place n : ℕ) (line : SendLine) → TableFacts table → In s table.senders
-    → slice_get s.sends place ≡ Some line → line.least ≤ n
-    → least_cycle (with_least s.number place n table) ≡ least_cycle table + 20 * (n - line.least)
-least_grows table s place n line facts i at low =
-    let more = shortest_changed s place n line at low in
-    let sums = sum_changed (λ x. x.tg + shortest x) (with_line place n) table.senders s (20 * (n - line.least)) i (numbers_differ table facts) (omega (arith, more)) in
-    omega (arith, sums)
+line_cycle : (table : Table) (s : Sender) (place n : ℕ) (line : SendLine) → TableFacts table → In s table.senders
+    → slice_get s.sends place ≡ Some line
+    → least_cycle (with_least s.number place n table) + 20 * line.least ≡ least_cycle table + 20 * n
+line_cycle table s place n line facts i at =
+    let words = shortest_changed s place n line at in
+    let sums = sum_changed (λ x. x.tg + shortest x) (with_line place n) table.senders s i (numbers_differ table facts) in
+    omega (arith, sums, words)
 
 least_only : (table : Table) (s : Sender) (place n : ℕ) (line : SendLine) → table.mode ≡ Aperiodic → In s table.senders
     → slice_get s.sends place ≡ Some line → works (with_least s.number place n table) ≡ true
@@ -221,14 +221,14 @@ least_some table s place deficit n line valid lacks i at enough nearest high =
     let less = lacks.short in
     let facts = valid_facts table valid in
     let low : line.least < n = omega arith in
-    let cycle = least_grows table s place n line facts i at (omega arith) in
+    let cycle = line_cycle table s place n line facts i at in
     above_some (λ least. works (with_least s.number place least table)) line.least n low (omega arith)
     (is_working (with_least s.number place n table) (least_valid table s place n line valid lacks.aperiodic i at high)
     (cycle_accepted (with_least s.number place n table) lacks.aperiodic (omega arith)))
     (λ m a b. false_from_ne_true _ (λ h.
     let only = least_only table s place m line lacks.aperiodic i at h in
     let fits = only.1 in
-    let other = least_grows table s place m line facts i at (omega arith) in
+    let other = line_cycle table s place m line facts i at in
     absurd (omega arith)))
 
 pub least_none : (table : Table) (s : Sender) (place deficit n : ℕ) (line : SendLine) → IsTrue (is_valid table) → IsShort table deficit
@@ -242,7 +242,7 @@ least_none table s place deficit n line valid lacks i at nearest high =
     let only = least_only table s place m line lacks.aperiodic i at h in
     let most : m ≤ line.most = only.0 in
     let fits = only.1 in
-    let other = least_grows table s place m line facts i at (omega arith) in
+    let other = line_cycle table s place m line facts i at in
     absurd (omega arith)))
 
 -- it is in its range
@@ -253,3 +253,14 @@ least_most table s place n line valid aperiodic i at h =
     let fits : n ≤ line.most = only.0 in
     let small = line_small table s place line valid i at in
     omega arith
+
+-- fewer don't help
+pub least_refused : (table : Table) (s : Sender) (place n : ℕ) (line : SendLine) → IsTrue (is_valid table) → table.mode ≡ Aperiodic
+    → is_accepted (verdict_of table) ≡ false → In s table.senders → slice_get s.sends place ≡ Some line → n ≤ line.least
+    → works (with_least s.number place n table) ≡ false
+least_refused table s place n line valid aperiodic refused i at high = false_from_ne_true _ (λ h.
+    let less = refused_short table aperiodic refused in
+    let only = least_only table s place n line aperiodic i at h in
+    let fits : table.ti ≤ least_cycle (with_least s.number place n table) = only.1 in
+    let cycle = line_cycle table s place n line (valid_facts table valid) i at in
+    absurd (omega (arith, less, fits, cycle, high)))

@@ -52,23 +52,23 @@ none_changed terminal change (x ∷ xs) apart =
     ∙ ap (λ ys. x ∷ ys) (none_changed terminal change xs (λ y i. apart y (inr i)))
 
 -- a sum over senders of which one is changed
-pub sum_changed : (h : Sender → ℕ) (change : Sender → Sender) (senders : List Sender) (s : Sender) (d : ℕ) → In s senders
-    → Differ (λ x. x.number) senders → h (change s) ≡ h s + d
-    → sum_by h (map (change_sender s.number change) senders) ≡ sum_by h senders + d
-sum_changed h change [] s d i differ e = absurd i
-sum_changed h change (x ∷ xs) s d (inl same) differ e =
+pub sum_changed : (h : Sender → ℕ) (change : Sender → Sender) (senders : List Sender) (s : Sender) → In s senders
+    → Differ (λ x. x.number) senders → sum_by h (map (change_sender s.number change) senders) + h s ≡ sum_by h senders + h (change s)
+sum_changed h change [] s i differ = absurd i
+sum_changed h change (x ∷ xs) s (inl same) differ =
     let f : Sender → Sender = change_sender s.number change in
     let n : x.number ≡ s.number = ap (λ (y : Sender). y.number) (sym same) in
     let here : f x ≡ change x = changed_here s.number change x n in
     let rest : map f xs ≡ xs = none_changed s.number change xs (λ y i k. differ.0 y i (n ∙ sym k)) in
-    let value : h (f x) ≡ h x + d = ap h here ∙ ap (λ y. h (change y)) (sym same) ∙ e ∙ ap (λ y. h y + d) same in
+    let value : h (f x) ≡ h (change s) = ap h here ∙ ap (λ y. h (change y)) (sym same) in
+    let own : h x ≡ h s = ap h (sym same) in
     let sums : sum_by h (map f xs) ≡ sum_by h xs = ap (sum_by h) rest in
-    omega (arith, sum_by-cons h (f x) (map f xs), sum_by-cons h x xs, value, sums)
-sum_changed h change (x ∷ xs) s d (inr i) differ e =
+    omega (arith, sum_by-cons h (f x) (map f xs), sum_by-cons h x xs, value, own, sums)
+sum_changed h change (x ∷ xs) s (inr i) differ =
     let f : Sender → Sender = change_sender s.number change in
     let here : f x ≡ x = changed_there s.number change x (differ.0 s i) in
     let value : h (f x) ≡ h x = ap h here in
-    let rest = sum_changed h change xs s d i differ.1 e in
+    let rest = sum_changed h change xs s i differ.1 in
     omega (arith, sum_by-cons h (f x) (map f xs), sum_by-cons h x xs, value, rest)
 
 -- a test that each passes, of which one is changed

@@ -2,7 +2,7 @@
 use Rattle.std.specs.Prelude.{◌≡◌, ℕ, zero, suc, ◌+◌, ◌<◌, ◌≤◌, true, false, IsTrue, List, [], ◌∷◌, ◌++◌, Option, Some, None, slice_get}
 use Rattle.std.specs.List.{flat_map}
 use Rattle.std.specs.Option.{option_map, option_to_list}
-use Rattle.std.proofs.Common.{inl, inr, arith, sym, ap, ◌∙◌, cond, subst}
+use Rattle.std.proofs.Common.{inl, inr, arith, sym, refl, ap, ◌∙◌, cond, subst}
 use Rattle.bus_strings.specs.Members.{In}
 use Rattle.bus_strings.proofs.MemberLaws.{in_append_left, in_append_right}
 use Rattle.bus_table.specs.declared.mode.Mode.{Mode}
@@ -24,10 +24,11 @@ use Rattle.bus_advice.specs.Search.{least_above, greatest_below}
 use Rattle.bus_advice.specs.Advices.{works, lesser_interval, greater_interval, greater_synchronization, planned_interval}
 use Rattle.bus_advice.specs.Advices.{gap_advice, line_advice, line_advices, least_advices, advices_in, advices_of}
 use Rattle.bus_advice.specs.Laws.{AreComplete}
-use Rattle.bus_advice.proofs.Searches.{least_there, below_there}
-use Rattle.bus_advice.proofs.CycleChange.{working_valid, working_accepted}
-use Rattle.bus_advice.proofs.GapChange.{gap_most}
-use Rattle.bus_advice.proofs.LineChange.{least_most}
+use Rattle.bus_advice.proofs.Searches.{least_there, below_there, beyond, short_of}
+use Rattle.bus_advice.proofs.CycleChange.{working_valid, working_accepted, interval_refused, sync_refused}
+use Rattle.bus_advice.proofs.GapChange.{gap_most, gap_refused}
+use Rattle.bus_advice.proofs.LineChange.{least_most, least_refused}
+use Rattle.bus_advice.proofs.Widening.{shorter_refused}
 use Rattle.bus_advice.proofs.Planning.{plan_works}
 
 -- ---- members
@@ -90,22 +91,37 @@ module _ (table : Table) (valid : IsTrue (is_valid table)) (refused : is_accepte
   in_turn : (s : Sender) → In s table.senders → In s (turn_order table)
   in_turn s i = in_sort (turn_key table.mode) table.senders s i
 
+  interval_there : (mode : Mode) → table.mode ≡ mode → (n : ℕ) → works (with_interval n table) ≡ true
+      → (best : ℕ) × In (Interval best) (advices_of table)
+  interval_there Aperiodic m n helps =
+      let low = short_of (λ k. works (with_interval k table)) table.ti n helps (λ k least. interval_refused table k m refused least) in
+      let b = below_in Interval (λ k. with_interval k table) table.ti n low helps in (
+        b.0,
+        in_all (Interval b.0) Aperiodic m
+            (in_append_left ((interval ++ sync) ++ gaps) lines _ (in_append_left (interval ++ sync) gaps _ (in_append_left interval sync _ b.1))),
+      )
+  interval_there Periodic m n helps =
+      let low = beyond (λ k. works (with_interval k table)) table.ti n helps (λ k high. shorter_refused table k m refused high) in
+      let most = (valid_facts (with_interval n table) (working_valid (with_interval n table) helps)).ti_most in
+      let b = above_in Interval (λ k. with_interval k table) table.ti n low most helps in (
+        b.0,
+        in_all (Interval b.0) Periodic m
+            (in_append_left (option_to_list (option_map Interval (greater_interval table))) (option_to_list (option_map Plan (planned_interval table))) _ b.1),
+      )
+
   pub none_missing : AreComplete table (advices_of table)
   none_missing = record {
-    lesser_interval = λ m n low helps.
-        let b = below_in Interval (λ k. with_interval k table) table.ti n low helps in (
-          b.0,
-          in_all (Interval b.0) Aperiodic m
-              (in_append_left ((interval ++ sync) ++ gaps) lines _ (in_append_left (interval ++ sync) gaps _ (in_append_left interval sync _ b.1))),
-        );
-    synchronization = λ m n low helps.
+    interval = λ n helps. interval_there table.mode refl n helps;
+    synchronization = λ m n helps.
+        let low = beyond (λ k. works (with_synchronization k table)) table.sg n helps (λ k high. sync_refused table k m refused high) in
         let most = (valid_facts (with_synchronization n table) (working_valid (with_synchronization n table) helps)).sg_most in
         let b = above_in Synchronization (λ k. with_synchronization k table) table.sg n low (omega (arith, most)) helps in (
           b.0,
           in_all (Synchronization b.0) Aperiodic m
               (in_append_left ((interval ++ sync) ++ gaps) lines _ (in_append_left (interval ++ sync) gaps _ (in_append_right interval sync _ b.1))),
         );
-    gap = λ m s n i low helps.
+    gap = λ m s n i helps.
+        let low = beyond (λ k. works (with_gap s.number k table)) s.tg n helps (λ k high. gap_refused table s k valid m refused i high) in
         let most = gap_most table s n valid m i low helps in
         let b = above_in (Gap s.number) (λ k. with_gap s.number k table) s.tg n low (omega (arith, most)) helps in (
           b.0,
@@ -113,7 +129,9 @@ module _ (table : Table) (valid : IsTrue (is_valid table)) (refused : is_accepte
               (in_append_left ((interval ++ sync) ++ gaps) lines _
               (in_append_right (interval ++ sync) gaps _ (flat_in (gap_advice table) (turn_order table) s _ (in_turn s i) b.1))),
         );
-    least = λ m s place line n i at low helps.
+    least = λ m s place line n i at helps.
+        let low = beyond (λ k. works (with_least s.number place k table)) line.least n helps
+        (λ k high. least_refused table s place k line valid m refused i at high) in
         let most = least_most table s place n line valid m i at helps in
         let b = above_in (Least s.number (place + 1)) (λ k. with_least s.number place k table) line.least n low (omega (arith, most)) helps in
         let same : place ≡ 0 + place = omega arith in (
@@ -123,13 +141,6 @@ module _ (table : Table) (valid : IsTrue (is_valid table)) (refused : is_accepte
               (flat_in (least_advices table) (turn_order table) s _ (in_turn s i)
               (line_in table s.number 0 place s.sends line _ at
               (subst (λ p. In (Least s.number (place + 1) b.0) (line_advice table s.number p line)) same b.1)))),
-        );
-    greater_interval = λ m n low helps.
-        let most = (valid_facts (with_interval n table) (working_valid (with_interval n table) helps)).ti_most in
-        let b = above_in Interval (λ k. with_interval k table) table.ti n low most helps in (
-          b.0,
-          in_all (Interval b.0) Periodic m
-              (in_append_left (option_to_list (option_map Interval (greater_interval table))) (option_to_list (option_map Plan (planned_interval table))) _ b.1),
         );
     offsets = λ m n offsets low helps.
         let made : Table = with_offsets offsets (with_interval n table) in

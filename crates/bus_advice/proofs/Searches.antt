@@ -147,3 +147,10 @@ below_there test (suc n) x low good =
         | inr rest ↦ (let same : n ≡ x = omega arith in absurd (true≢false (sym good ∙ ap test (sym same) ∙ e)))
       ]
     ]) refl
+
+-- what passes is beyond a number up to which none passes, and before one from which on none does
+pub beyond : (test : ℕ → Bool) (own x : ℕ) → test x ≡ true → ((m : ℕ) → m ≤ own → test m ≡ false) → own < x
+beyond test own x good bad = elim (cases_lt own x) [ inl more ↦ more | inr rest ↦ absurd (true≢false (sym good ∙ bad x rest)) ]
+
+pub short_of : (test : ℕ → Bool) (own x : ℕ) → test x ≡ true → ((m : ℕ) → own ≤ m → test m ≡ false) → x < own
+short_of test own x good bad = elim (cases_lt x own) [ inl less ↦ less | inr rest ↦ absurd (true≢false (sym good ∙ bad x rest)) ]

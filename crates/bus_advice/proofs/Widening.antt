@@ -25,7 +25,7 @@ use Rattle.bus_advice.specs.Advices.{works, greater_interval}
 use Rattle.bus_advice.specs.inside.InnerGaps.{inner_gaps, has_room, width_for, needed_width}
 use Rattle.bus_advice.proofs.Parts.{parts_of, valid_of, none_late, ti_range}
 use Rattle.bus_advice.proofs.Searches.{above_some, above_none}
-use Rattle.bus_advice.proofs.CycleChange.{is_working, working_accepted}
+use Rattle.bus_advice.proofs.CycleChange.{is_working, working_valid, working_accepted}
 use Rattle.bus_advice.proofs.GapCounts.{HaveOwnSenders, one_if}
 use Rattle.bus_advice.proofs.FirstGap.{fine_small, fine_width, width_fine}
 
@@ -189,6 +189,13 @@ module _ (table : Table) (facts : TableFacts table) (periodic : table.mode ≡ P
       (width_fine table.sg (first_at n) (inner_at n) short (own_at n) (same_small n low ∙ small) (omega (arith, enough, same)) g
       (subst (λ all. In g all) (gaps_are n) i)))
 
+  longer_accepted : (n m : ℕ) → table.ti ≤ n → n ≤ m → IsTrue (is_accepted (verdict_of (with_interval n table)))
+      → IsTrue (is_accepted (verdict_of (with_interval m table)))
+  longer_accepted n m low more h =
+      let only = accepted_only n low h in
+      let enough : end + needs ≤ n + s.at = only.1 in
+      is_accepted_at m (omega arith) only.0 (omega arith)
+
   told_some : (n width : ℕ) → IsTrue (is_valid table) → is_accepted (verdict_of table) ≡ false → Some width ≡ needed_width table.sg s.tg (inner_at table.ti)
       → n ≡ end + width - s.at → n ≤ 128000 → Some n ≡ greater_interval table
   told_some n width valid refused told is high =
@@ -232,6 +239,17 @@ module _ (table : Table) (facts : TableFacts table) (periodic : table.mode ≡ P
             absurd (true≢false (sym small ∙ only.0))))
         | false ↦ λ small k. absurd (let w : None ≡ Some needs = k in cc)
       ]) refl told
+
+-- a lesser interval doesn't help
+pub shorter_refused : (table : Table) (n : ℕ) → table.mode ≡ Periodic → is_accepted (verdict_of table) ≡ false → n ≤ table.ti
+    → works (with_interval n table) ≡ false
+shorter_refused table n periodic refused less = false_from_ne_true _ (λ h.
+    let made : Table = with_interval n table in
+    let facts = valid_facts made (working_valid made h) in
+    let f = first_of made facts in
+    let own : IsTrue (is_accepted (verdict_of table)) =
+    longer_accepted made facts periodic f.0 f.1 f.2 n table.ti (omega arith) less (working_accepted made h) in
+    absurd (true≢false (sym own ∙ refused)))
 
 -- ---- told by the first gap
 module _ (table : Table) (first : Gap) (valid : IsTrue (is_valid table)) (periodic : table.mode ≡ Periodic) (at : slice_get (gaps table) 0 ≡ Some first) where

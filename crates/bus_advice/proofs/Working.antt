@@ -1,5 +1,5 @@
 -- Every advice works.
-use Rattle.std.specs.Prelude.{◌≡◌, ℕ, suc, ◌+◌, ◌<◌, true, false, IsTrue, List, [], ◌∷◌, ◌++◌, Option, Some, None, slice_get}
+use Rattle.std.specs.Prelude.{◌≡◌, ℕ, suc, ◌+◌, ◌≤◌, true, false, IsTrue, List, [], ◌∷◌, ◌++◌, Option, Some, None, slice_get}
 use Rattle.std.specs.List.{flat_map}
 use Rattle.std.specs.Option.{option_map, option_to_list}
 use Rattle.std.proofs.Common.{inl, inr, arith, sym, refl, ◌∙◌, cond, subst}
@@ -25,7 +25,10 @@ use Rattle.bus_advice.specs.Advices.{works, lesser_interval, greater_interval, g
 use Rattle.bus_advice.specs.Advices.{gap_advice, line_advice, line_advices, least_advices, advices_in, advices_of}
 use Rattle.bus_advice.specs.Laws.{IsNearest, GapWorks, LeastWorks, PlanWorks, AdviceWorks}
 use Rattle.bus_advice.proofs.Searches.{found_least, found_below}
-use Rattle.bus_advice.proofs.CycleChange.{working_valid}
+use Rattle.bus_advice.proofs.CycleChange.{working_valid, interval_refused, sync_refused}
+use Rattle.bus_advice.proofs.GapChange.{gap_refused}
+use Rattle.bus_advice.proofs.LineChange.{least_refused}
+use Rattle.bus_advice.proofs.Widening.{shorter_refused}
 use Rattle.bus_advice.proofs.Planning.{plan_works}
 
 -- ---- members
@@ -56,27 +59,29 @@ in_lines table terminal place (line ∷ lines) a i =
     ]
 
 -- ---- what is found is nearest
-above_nearest : (change : ℕ → Table) (own n : ℕ) → least_above (λ k. works (change k)) own ≡ Some n → IsNearest change own n
-above_nearest change own n h =
+above_nearest : (change : ℕ → Table) (own n : ℕ) → ((m : ℕ) → m ≤ own → works (change m) ≡ false)
+    → least_above (λ k. works (change k)) own ≡ Some n → IsNearest change own n
+above_nearest change own n lesser h =
     let f = found_least (λ k. works (change k)) (own + 1) n h in
     let low = f.low in
     record {
       helps = f.passes;
-      nearest = λ m between. elim between [
-        | inl up ↦ (let a : own < m = up.0 in f.before m (omega arith) up.1)
-        | inr down ↦ (let a : n < m = down.0 in let b : m < own = down.1 in absurd (omega arith))
+      nearest = λ m near. elim (cases_lt own m) [
+        | inl up ↦ f.before m (omega arith) (omega arith)
+        | inr down ↦ lesser m down
       ];
     }
 
-below_nearest : (change : ℕ → Table) (own n : ℕ) → greatest_below (λ k. works (change k)) own ≡ Some n → IsNearest change own n
-below_nearest change own n h =
+below_nearest : (change : ℕ → Table) (own n : ℕ) → ((m : ℕ) → own ≤ m → works (change m) ≡ false)
+    → greatest_below (λ k. works (change k)) own ≡ Some n → IsNearest change own n
+below_nearest change own n greater h =
     let f = found_below (λ k. works (change k)) own n h in
     let low = f.low in
     record {
       helps = f.passes;
-      nearest = λ m between. elim between [
-        | inl up ↦ (let a : own < m = up.0 in let b : m < n = up.1 in absurd (omega arith))
-        | inr down ↦ f.behind m down.0 down.1
+      nearest = λ m near. elim (cases_lt m own) [
+        | inl down ↦ f.behind m (omega arith) down
+        | inr up ↦ greater m up
       ];
     }
 
@@ -94,19 +99,24 @@ plan_nearest table n valid periodic h =
     }
 
 -- ---- by kinds
-gap_works : (table : Table) (s : Sender) (a : Advice) → In s table.senders → In a (gap_advice table s) → AdviceWorks table a
-gap_works table s a among i =
+gap_works : (table : Table) (s : Sender) (a : Advice) → IsTrue (is_valid table) → table.mode ≡ Aperiodic
+    → is_accepted (verdict_of table) ≡ false → In s table.senders → In a (gap_advice table s) → AdviceWorks table a
+gap_works table s a valid aperiodic refused among i =
+    let lesser : (n : ℕ) → n ≤ s.tg → works (with_gap s.number n table) ≡ false = λ n low. gap_refused table s n valid aperiodic refused among low in
     let w = in_option (Gap s.number) (greater_gap table s) a i in
     subst (λ x. AdviceWorks table x) (sym w.2)
     (let made : GapWorks table s.number w.0 =
-    record { sender = s; among = among; named = refl; nearest = above_nearest (λ n. with_gap s.number n table) s.tg w.0 w.1 } in made)
+    record { sender = s; among = among; named = refl; nearest = above_nearest (λ n. with_gap s.number n table) s.tg w.0 lesser w.1 } in made)
 
-line_works : (table : Table) (s : Sender) (a : Advice) → In s table.senders → In a (least_advices table s) → AdviceWorks table a
-line_works table s a among i =
+line_works : (table : Table) (s : Sender) (a : Advice) → IsTrue (is_valid table) → table.mode ≡ Aperiodic
+    → is_accepted (verdict_of table) ≡ false → In s table.senders → In a (least_advices table s) → AdviceWorks table a
+line_works table s a valid aperiodic refused among i =
     let l = in_lines table s.number 0 s.sends a i in
     let same : 0 + l.0 ≡ l.0 = omega arith in
     let here : In a (line_advice table s.number l.0 l.1) = subst (λ p. In a (line_advice table s.number p l.1)) same l.3 in
     let w = in_option (Least s.number (l.0 + 1)) (greater_least table s.number l.0 l.1) a here in
+    let lesser : (n : ℕ) → n ≤ l.1.least → works (with_least s.number l.0 n table) ≡ false =
+    λ n low. least_refused table s l.0 n l.1 valid aperiodic refused among l.2 low in
     subst (λ x. AdviceWorks table x) (sym w.2)
     (let made : LeastWorks table s.number (l.0 + 1) w.0 =
     record {
@@ -117,12 +127,12 @@ line_works table s a among i =
       counted = omega arith;
       sends = l.1;
       stands = l.2;
-      nearest = above_nearest (λ n. with_least s.number l.0 n table) l.1.least w.0 w.1;
+      nearest = above_nearest (λ n. with_least s.number l.0 n table) l.1.least w.0 lesser w.1;
     } in made)
 
-mode_works : (table : Table) (mode : Mode) (a : Advice) → IsTrue (is_valid table) → table.mode ≡ mode → In a (advices_in mode table)
-    → AdviceWorks table a
-mode_works table Aperiodic a valid m i =
+mode_works : (table : Table) (mode : Mode) (a : Advice) → IsTrue (is_valid table) → is_accepted (verdict_of table) ≡ false → table.mode ≡ mode
+    → In a (advices_in mode table) → AdviceWorks table a
+mode_works table Aperiodic a valid refused m i =
     let sync : List Advice = option_to_list (option_map Synchronization (greater_synchronization table)) in
     let gaps : List Advice = flat_map (gap_advice table) (turn_order table) in
     let lines : List Advice = flat_map (least_advices table) (turn_order table) in
@@ -130,27 +140,30 @@ mode_works table Aperiodic a valid m i =
     elim (in_append_cases ((interval ++ sync) ++ gaps) lines a i) [
       | inr l ↦
           (let w = in_flat (least_advices table) (turn_order table) a l in
-          line_works table w.0 a (from_sort (turn_key table.mode) table.senders w.0 w.1) w.2)
+          line_works table w.0 a valid m refused (from_sort (turn_key table.mode) table.senders w.0 w.1) w.2)
       | inl j ↦ elim (in_append_cases (interval ++ sync) gaps a j) [
         | inr l ↦
             (let w = in_flat (gap_advice table) (turn_order table) a l in
-            gap_works table w.0 a (from_sort (turn_key table.mode) table.senders w.0 w.1) w.2)
+            gap_works table w.0 a valid m refused (from_sort (turn_key table.mode) table.senders w.0 w.1) w.2)
         | inl k ↦ elim (in_append_cases interval sync a k) [
           | inl l ↦
               (let w = in_option Interval (lesser_interval table) a l in
-              subst (λ x. AdviceWorks table x) (sym w.2) (below_nearest (λ n. with_interval n table) table.ti w.0 w.1))
+              subst (λ x. AdviceWorks table x) (sym w.2)
+              (below_nearest (λ n. with_interval n table) table.ti w.0 (λ n low. interval_refused table n m refused low) w.1))
           | inr l ↦
               (let w = in_option Synchronization (greater_synchronization table) a l in
-              subst (λ x. AdviceWorks table x) (sym w.2) (above_nearest (λ n. with_synchronization n table) table.sg w.0 w.1))
+              subst (λ x. AdviceWorks table x) (sym w.2)
+              (above_nearest (λ n. with_synchronization n table) table.sg w.0 (λ n high. sync_refused table n m refused high) w.1))
         ]
       ]
     ]
-mode_works table Periodic a valid m i =
+mode_works table Periodic a valid refused m i =
     let plan : List Advice = option_to_list (option_map Plan (planned_interval table)) in
     elim (in_append_cases (option_to_list (option_map Interval (greater_interval table))) plan a i) [
       | inl j ↦
           (let w = in_option Interval (greater_interval table) a j in
-          subst (λ x. AdviceWorks table x) (sym w.2) (above_nearest (λ n. with_interval n table) table.ti w.0 w.1))
+          subst (λ x. AdviceWorks table x) (sym w.2)
+          (above_nearest (λ n. with_interval n table) table.ti w.0 (λ n high. shorter_refused table n m refused high) w.1))
       | inr j ↦
           (let w = in_option Plan (planned_interval table) a j in
           subst (λ x. AdviceWorks table x) (sym w.2) (plan_nearest table w.0 valid m w.1))
@@ -158,7 +171,7 @@ mode_works table Periodic a valid m i =
 
 pub all_work : (table : Table) (a : Advice) → IsTrue (is_valid table) → In a (advices_of table) → AdviceWorks table a
 all_work table a valid i =
-    (elim (is_accepted (verdict_of table)) as (λ b. In a (cond b [] (advices_in table.mode table)) → AdviceWorks table a) [
-      | true ↦ λ j. absurd j
-      | false ↦ λ j. mode_works table table.mode a valid refl j
-    ]) i
+    (elim (is_accepted (verdict_of table)) as (λ b. is_accepted (verdict_of table) ≡ b → In a (cond b [] (advices_in table.mode table)) → AdviceWorks table a) [
+      | true ↦ λ e j. absurd j
+      | false ↦ λ e j. mode_works table table.mode a valid e refl j
+    ]) refl i

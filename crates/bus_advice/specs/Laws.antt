@@ -1,6 +1,6 @@
--- What advices are good for: each works, and none nearer to the number that stands does.
+-- What advices are good for: each works, no number nearer to the one that stands does, and where any number does there is an advice.
 use Rattle.bus_table.specs.declared.mode.Mode.TheVariants.{Aperiodic, Periodic}
-use Rattle.std.specs.Prelude.{◌≡◌, ℕ, suc, ◌<◌, ◌≤◌, ◌⊎◌, false, List, Some, IsTrue, slice_get, ◌+◌}
+use Rattle.std.specs.Prelude.{◌≡◌, ℕ, suc, ◌+◌, ◌-◌, ◌<◌, ◌≤◌, false, List, Some, IsTrue, slice_get}
 use Rattle.bus_strings.specs.Members.{In}
 use Rattle.bus_table.specs.Offsets.{with_offsets}
 use Rattle.bus_table.specs.declared.line.SendLine.{SendLine}
@@ -13,14 +13,18 @@ use Rattle.bus_advice.specs.declared.advice.Advice.TheVariants.{Interval, Synchr
 use Rattle.bus_advice.specs.Changes.{with_interval, with_synchronization, with_gap, with_least}
 use Rattle.bus_advice.specs.Advices.{works, advices_of}
 
--- This number lies between the table's own and the advised one, whichever is greater.
-abbrev pub IsBetween : ℕ → ℕ → ℕ → Type 0
-IsBetween own advised n = ((own < n) × (n < advised)) ⊎ ((advised < n) × (n < own))
+-- By how much two numbers differ, whichever is greater.
+abbrev pub difference : ℕ → ℕ → ℕ
+difference a b = a - b + (b - a)
 
--- The table works with the advised number in place of its own, and with no number between.
+-- A number is a smaller change of the table's own than the advised one, in either direction; the table's own is no change at all.
+abbrev pub IsNearer : ℕ → ℕ → ℕ → Type 0
+IsNearer own advised n = difference n own < difference advised own
+
+-- The table works with the advised number in place of its own, and with no nearer number, greater or lesser.
 pub record IsNearest (change : ℕ → Table) (own advised : ℕ) : Type 0 where
   pub helps : IsTrue (works (change advised))
-  pub nearest : (n : ℕ) → IsBetween own advised n → works (change n) ≡ false
+  pub nearest : (n : ℕ) → IsNearer own advised n → works (change n) ≡ false
 
 -- The sender whose terminal gap is advised, and that the advised gap works.
 pub record GapWorks (table : Table) (terminal tg : ℕ) : Type 0 where
@@ -58,21 +62,18 @@ AdviceWorks table (Plan ti) = PlanWorks table ti
 abbrev pub AdvicesWork : Type 0
 AdvicesWork = (table : Table) (advice : Advice) → IsTrue (is_valid table) → In advice (advices_of table) → AdviceWorks table advice
 
--- Where a change of one number in the direction of an advice works, there is an advice of that kind.
---   interval    a lesser one in aperiodic mode, a greater one in periodic mode
+-- Where a change of one number works, greater or lesser, there is an advice of that kind. In periodic mode advices are of the transmit
+-- interval and of offsets alone.
 --   offsets     any, at a transmit interval from the table's own on
 pub record AreComplete (table : Table) (advices : List Advice) : Type 0 where
-  pub lesser_interval : table.mode ≡ Aperiodic → (n : ℕ) → n < table.ti → IsTrue (works (with_interval n table))
-      → (best : ℕ) × In (Interval best) advices
-  pub synchronization : table.mode ≡ Aperiodic → (n : ℕ) → table.sg < n → IsTrue (works (with_synchronization n table))
+  pub interval : (n : ℕ) → IsTrue (works (with_interval n table)) → (best : ℕ) × In (Interval best) advices
+  pub synchronization : table.mode ≡ Aperiodic → (n : ℕ) → IsTrue (works (with_synchronization n table))
       → (best : ℕ) × In (Synchronization best) advices
-  pub gap : table.mode ≡ Aperiodic → (sender : Sender) (n : ℕ) → In sender table.senders → sender.tg < n
+  pub gap : table.mode ≡ Aperiodic → (sender : Sender) (n : ℕ) → In sender table.senders
       → IsTrue (works (with_gap sender.number n table)) → (best : ℕ) × In (Gap sender.number best) advices
   pub least : table.mode ≡ Aperiodic → (sender : Sender) (place : ℕ) (line : SendLine) (n : ℕ) → In sender table.senders
-      → slice_get sender.sends place ≡ Some line → line.least < n → IsTrue (works (with_least sender.number place n table))
+      → slice_get sender.sends place ≡ Some line → IsTrue (works (with_least sender.number place n table))
       → (best : ℕ) × In (Least sender.number (place + 1) best) advices
-  pub greater_interval : table.mode ≡ Periodic → (n : ℕ) → table.ti < n → IsTrue (works (with_interval n table))
-      → (best : ℕ) × In (Interval best) advices
   pub offsets : table.mode ≡ Periodic → (n : ℕ) (offsets : List ℕ) → table.ti ≤ n → IsTrue (works (with_offsets offsets (with_interval n table)))
       → (best : ℕ) × In (Plan best) advices
 
