@@ -75,8 +75,8 @@ BorneIsOrderly =
     → AreNear most table place → AreWakes most table.senders wake → greatest_end (cable_closed (cable place) wake table hands) ≤ horizon
     → IsRunOnPlaces table hands place wake horizon (cable_closed (cable place) wake table hands)
 
--- For an accepted periodic table and even hands, on such a cable, where all its senders wake at the settled start, the closed schedule without
--- delays is that run.
+-- For an accepted periodic table and even hands, on such a cable, where all its senders wake at the settled start, that run is the closed
+-- schedule without delays.
 abbrev pub PeriodicBorneIsOrderly : Type 0
 PeriodicBorneIsOrderly =
     (table : Table) (hands : List Hand) (most : ℕ) (place : ℕ → ℕ) (wake : Wakes) (horizon : ℕ) → IsTrue (is_valid table)
