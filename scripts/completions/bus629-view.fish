@@ -5,4 +5,6 @@ complete -c bus629-view -n 'test (count (commandline -opc)) -eq 1' -f -a timers 
 complete -c bus629-view -n 'test (count (commandline -opc)) -eq 1' -f -a gtkw -d 'Write the save file with which GTKWave shows these'
 complete -c bus629-view -n 'test (count (commandline -opc)) -eq 1' -f -a svg -d 'Write the trace as a time line'
 complete -c bus629-view -n 'test (count (commandline -opc)) -eq 1' -f -a cycles -d 'Write a picture with a row for each cycle'
+complete -c bus629-view -n 'test (count (commandline -opc)) -eq 1' -f -a --help -d 'Tell the views'
+complete -c bus629-view -n 'test (count (commandline -opc)) -eq 1' -f -a --version -d 'Tell the version'
 complete -c bus629-view -n 'test (count (commandline -opc)) -ge 4' -f

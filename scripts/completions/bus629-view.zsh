@@ -9,6 +9,8 @@ _bus629_view() {
     'gtkw:write the save file with which GTKWave shows these'
     'svg:write the trace as a time line'
     'cycles:write a picture with a row for each cycle'
+    '--help:tell the views'
+    '--version:tell the version'
   )
   if (( CURRENT == 2 )); then
     _describe command commands

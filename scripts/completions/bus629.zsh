@@ -4,6 +4,7 @@ _bus629() {
   local -a commands
   commands=(
     'check:judge a table'
+    'explain:tell in sentences what the verdict of a table means, and what to change'
     'tolerance:tell how much delay an accepted table bears'
     'tidy:write a table without comments, one space between fields'
     'report:tell the verdict of a table and its figures, as JSON'
@@ -18,10 +19,12 @@ _bus629() {
     'wave:write the wave of a trace'
     'unwave:read the trace of a wave back'
     'drill:run a large input that a number makes'
+    '--help:tell the commands'
+    '--version:tell the version'
   )
   if (( CURRENT == 2 )); then
     _describe command commands
-  elif { (( CURRENT == 3 )) && [[ $words[2] != drill ]] } || { (( CURRENT == 4 )) && [[ $words[2] != (check|tolerance|tidy|report|witness|plan|drill) ]] }; then
+  elif { (( CURRENT == 3 )) && [[ $words[2] != drill ]] } || { (( CURRENT == 4 )) && [[ $words[2] != (check|explain|tolerance|tidy|report|witness|plan|drill) ]] }; then
     _files
   fi
 }

@@ -10,7 +10,7 @@ use Rattle.bus_command.specs.Kinds.{kind_of, stage_of}
 use Rattle.bus_command.specs.Stages.{StandsFor}
 use Rattle.bus_command.specs.Outside.{Seen, Outside, both, around, called}
 use Rattle.bus_command.specs.Readers.{Named, First as AtFirst, Second as AtSecond, FailsToRead, SourceCounts, OutCounts, OfTexts}
-use Rattle.bus_tool.specs.Forms.{Form, OnTable, OnMessages, OnTrace, Unwave, Drill, form_of, sources_of}
+use Rattle.bus_tool.specs.Forms.{Form, OnTable, OnMessages, OnTrace, Unwave, Drill, OnItself, Explain, form_of, sources_of}
 use Rattle.bus_tool.specs.Refusals.{Outcome, ToolRefusal, status_of, ends_of, TableMode, Unspaced, WaveText, Uneven, NotAccepted, ShortLast, TooLong}
 use Rattle.bus_tool.specs.Due.{form_due, outcome_for}
 use Rattle.bus_tool.specs.Acts.{DoesForm, Acts}
@@ -44,6 +44,8 @@ of_form (OnMessages command) first second o h = h
 of_form (OnTrace command) first second o h = h
 of_form Unwave first second o h = h
 of_form (Drill number) first second o h = h
+of_form (OnItself about) first second o h = h
+of_form Explain first second o h = h
 
 -- an outcome that stands for the one that is due, where nothing failed
 stands_status : (due o : Outcome) (named : Named) (f s f' s' : List ℕ) → StandsFor due o → SourceCounts named (both (steady f) (steady s)) (both (steady f') (steady s')) (kind_of o) → OutCounts counting counting (kind_of o) → o ≢ Usage → IsStatusOf due (status_of o)

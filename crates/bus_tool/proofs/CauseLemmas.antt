@@ -29,7 +29,8 @@ use Rattle.bus_tool.specs.Acts.{tool_program}
 use Rattle.bus_tool.specs.Causes.{Cause, DifferAs, IsRefusal, IsShortLast, IsLongEnd}
 use Rattle.bus_tool.specs.Due.{table_for, verdict_outcome, plan_outcome, audit_outcome, spaced_outcome, can_run, can_drop, unwave_due, wave_trace_due}
 use Rattle.bus_tool.specs.Due.{table_answer, messages_answer, inputs_answer, trace_answer, traced_answer, unwave_answer, form_due}
-use Rattle.bus_tool.specs.Forms.{Form, OnTable, OnMessages, OnTrace, Unwave, Drill, TableCommand, Check, Tolerance, Tidy, Report, Witness, Plan}
+use Rattle.bus_tool.proofs.ExplainLemmas.{explain_cause}
+use Rattle.bus_tool.specs.Forms.{Form, OnTable, OnMessages, OnTrace, Unwave, Drill, OnItself, Explain, TableCommand, Check, Tolerance, Tidy, Report, Witness, Plan}
 use Rattle.bus_tool.specs.Forms.{MessagesCommand, Observe, Run, Drop, TraceCommand, Receive, Audit, Vote, Wave, table_mode, messages_mode}
 use Rattle.bus_tool.specs.Refusals.{Outcome, ToolRefusal, refuse, Unspaced}
 use Rattle.bus_tool.proofs.AnswerLaws.{done_with}
@@ -183,3 +184,5 @@ due_has_cause laws back Unwave first second o h =
     due_or (λ o. RefusesTexts (Cause Unwave) o first second) unwave_answer (unwave_due first second) o (λ traced e. tt)
     (λ e. unwave_cause laws back first second o e) h
 due_has_cause laws back (Drill number) first second o h = subst (λ o. RefusesTexts (Cause (Drill number)) o first second) h tt
+due_has_cause laws back Explain first second o h = explain_cause first second o h
+due_has_cause laws back (OnItself about) first second o h = subst (λ o. RefusesTexts (Cause (OnItself about)) o first second) h tt

@@ -4,7 +4,12 @@ use Rattle.std.specs.declared.alloc.Global.{Global}
 use Rattle.std.specs.String.{string_bytes}
 use Rattle.std.proofs.Common.{arith, sym, ap}
 use Rattle.bus_command.specs.Words.{words_of}
-use Rattle.bus_tool.specs.Forms.{two_words, three_words, four_words, form_of}
+use Rattle.bus_tool.specs.Forms.{one_word, two_words, three_words, four_words, form_of}
+
+pub form_of_one : (words : List (String Global)) (a : String Global) → length words ≡ 1 → a ≡ slice_index_or words 0 a → form_of (words_of words) ≡ one_word (string_bytes a)
+form_of_one [] a h i = absurd (omega arith)
+form_of_one (p ∷ []) a h i = ap (λ word. one_word (string_bytes word)) (sym i)
+form_of_one (p ∷ q ∷ rest) a h i = absurd (omega arith)
 
 pub form_of_two : (words : List (String Global)) (a b : String Global) → length words ≡ 2 → a ≡ slice_index_or words 0 a → b ≡ slice_index_or words 1 b → form_of (words_of words) ≡ two_words (string_bytes a) (string_bytes b)
 form_of_two [] a b h i j = absurd (omega arith)

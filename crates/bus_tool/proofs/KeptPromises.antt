@@ -5,6 +5,7 @@ use Rattle.std.proofs.lemmas.Bool.Decides.{nat_tests}
 use Rattle.bus_text.specs.Numbers.{IsDecimal, is_plain_decimal, decimal_value}
 use Rattle.bus_table.specs.Tables.{Table}
 use Rattle.bus_trace.specs.Traces.{Recording}
+use Rattle.bus_advice.specs.Laws.{AdvicesWork}
 use Rattle.bus_audit.specs.Breaches.{answer_of}
 use Rattle.bus_audit.specs.Breaches.{TheAnswer}
 use Rattle.bus_audit.specs.Meaning.{LawfulIsRight}
@@ -14,7 +15,10 @@ use Rattle.bus_regime.specs.Verdicts.{verdict_of}
 use Rattle.bus_schedule.specs.Laws.{TheSettledAreAccepted, TheRefusedFail, WitnessesAreEven, EvenHandsAgree}
 use Rattle.bus_vectors.specs.Made.{most_number}
 use Rattle.bus_vote.specs.VoteLaws.{VotedAreWritten, ListsAreFixedByTwo, RunsAreVoted}
-use Rattle.bus_command.specs.Claims.{IsOfTable, IsOfTraced}
+use Rattle.bus_command.specs.declared.about.About.{About}
+use Rattle.bus_command.specs.declared.about.About.TheVariants.{Help, Version}
+use Rattle.bus_command.specs.About.{IsAbout, about_word}
+use Rattle.bus_command.specs.Claims.{Answers, IsOfTable, IsOfTraced}
 use Rattle.bus_command.specs.Outside.{Call}
 use Rattle.bus_command.specs.Readers.{no_source}
 use Rattle.bus_command.specs.declared.outcome.Outcome.TheVariants.{Done}
@@ -23,13 +27,16 @@ use Rattle.bus_command.proofs.LawTypes.{FittingItemsGiveHands}
 use Rattle.bus_tool.specs.Acts.{tool_program, Acts}
 use Rattle.bus_tool.specs.DrillClaims.{IsDrillOf, GivesDrill}
 use Rattle.bus_tool.specs.Drills.{drill_line}
-use Rattle.bus_tool.specs.Forms.{Drill, Check, Tolerance, Witness, Tidy, Report, Receive, Audit, Vote, form_of, two_words}
+use Rattle.bus_command.specs.declared.status.Status.TheVariants as status
+use Rattle.bus_tool.specs.Itself.{itself_text}
+use Rattle.bus_tool.specs.Forms.{Drill, OnItself, Check, Tolerance, Witness, Tidy, Report, Receive, Audit, Vote, form_of, two_words}
 use Rattle.bus_tool.specs.Promises.{Promises}
 use Rattle.bus_tool.specs.Refusals.{Outcome, ends_of, status_of}
 use Rattle.bus_tool.specs.TableClaims.{GivesVerdict, TellsSettled}
 use Rattle.bus_tool.specs.TraceClaims.{GivesFinding, GivesVotes}
 use Rattle.bus_tool.proofs.AnswerLaws.{written_audit}
 use Rattle.bus_tool.proofs.CheckClaim.{told_settled}
+use Rattle.bus_tool.proofs.ExplainLemmas.{explain_claim}
 use Rattle.bus_tool.proofs.DropClaim.{drop_claim}
 use Rattle.bus_tool.proofs.GroupClaims.{ReadLaws, table_comes, trace_comes}
 use Rattle.bus_tool.proofs.ObserveClaim.{observe_claim}
@@ -55,6 +62,7 @@ pub record PromiseLaws : Type 0 where
   pub two : ListsAreFixedByTwo
   pub voted : RunsAreVoted
   pub reach : ToleranceLaws
+  pub works : AdvicesWork
 
 -- ---- `drill`
 drill_form : (word : List ℕ) (number : ℕ) → IsDecimal word number → number ≤ most_number → two_words (codes "drill") word ≡ Some (Drill number)
@@ -69,6 +77,19 @@ drill_claim call outcome number acts h =
     let does = does_of tool_program call outcome (Drill number) (ap form_of h.form.form ∙ drill_form h.form.word number h.form.spelled h.form.within) acts in
     let due : Outcome = Done in
     answers ends_of no_source due outcome _ (λ text. text ≡ drill_line number) call refl (λ text is. is) does.due does.text does.counts
+    does.out_count h.undisturbed
+
+-- ---- `--help` and `--version`
+itself_form : (about : About) (words : List (List ℕ)) → words ≡ about_word about ∷ [] → form_of words ≡ Some (OnItself about)
+itself_form Help words h = ap form_of h
+itself_form Version words h = ap form_of h
+
+itself_claim : (call : Call) (outcome : Outcome) (about : About) → Acts call outcome → IsAbout about call
+    → Answers status.Done (λ text. text ≡ itself_text about) call (status_of outcome)
+itself_claim call outcome about acts h =
+    let does = does_of tool_program call outcome (OnItself about) (itself_form about call.words h.form) acts in
+    let due : Outcome = Done in
+    answers ends_of no_source due outcome _ (λ text. text ≡ itself_text about) call refl (λ text is. is) does.due does.text does.counts
     does.out_count h.undisturbed
 
 -- ---- the commands with laws of their own
@@ -121,4 +142,6 @@ keeps laws call outcome acts = record {
   vote = λ table trace h. vote_claim laws call outcome table trace acts h;
   wave = λ table trace h. wave_claim laws.wave call outcome table trace acts h;
   unwave = λ table trace h. unwave_claim laws.wave call outcome table trace acts h;
+  explain = λ text h. explain_claim laws.works call outcome text acts h;
+  itself = λ about h. itself_claim call outcome about acts h;
 }

@@ -21,6 +21,7 @@ pub mod GroupClaims
 pub mod CheckClaim
 pub mod PlanClaim
 pub mod ToleranceLemmas
+pub mod ExplainLemmas
 pub mod ToleranceClaim
 pub mod ObserveClaim
 pub mod RunClaim

@@ -16,7 +16,7 @@ use Rattle.bus_schedule.specs.Even.{are_even}
 use Rattle.bus_schedule.specs.Laws.{AcceptedIsClosed, EvenHandsAgree}
 use Rattle.bus_trace.specs.declared.hold.Hold.{Hold}
 use Rattle.bus_trace.specs.Traces.{Recording, trace_text}
-use Rattle.bus_command.specs.Due.{table_due, Inputs, hands_in, inputs_by, traced_by, traced_due, any_trace, outcome_with, IsTextOf}
+use Rattle.bus_command.specs.Due.{table_due, text_due, Inputs, hands_in, inputs_by, traced_by, traced_due, any_trace, outcome_with, IsTextOf}
 use Rattle.bus_command.specs.Kinds.{Answer, kind_of, is_answer}
 use Rattle.bus_command.specs.Outcomes.{is_written}
 use Rattle.bus_command.specs.Steps.{StopsAt}
@@ -24,11 +24,14 @@ use Rattle.bus_command.specs.declared.inputs.Traced.{Traced}
 use Rattle.bus_command.proofs.LawTypes.{ReadsATable, FittingItemsGiveHands}
 use Rattle.bus_command.proofs.ReadLemmas.{bind_err, table_read, table_stops, items_read, items_stop, inputs_read, inputs_stop, trace_stops, traced_stop, stop_unwritten}
 use Rattle.bus_tool.specs.Acts.{IsOfMode}
-use Rattle.bus_tool.specs.Due.{table_for, needed_or_refusal, can_run, can_drop, unwave_due, wave_trace_due, table_answer, inputs_answer, traced_answer, unwave_answer, form_due, outcome_for}
+use Rattle.bus_tool.specs.Due.{table_for, needed_or_refusal, can_run, can_drop, unwave_due, wave_trace_due, table_answer, inputs_answer, traced_answer, unwave_answer, explain_answer, form_due, outcome_for}
 use Rattle.bus_tool.specs.Drills.{drill_line}
-use Rattle.bus_tool.specs.Forms.{Form, OnTable, OnMessages, OnTrace, Unwave, Drill, MessagesCommand, Observe, Run, Drop, form_of, table_mode, messages_mode}
+use Rattle.bus_tool.specs.Explanations.{explanation}
+use Rattle.bus_tool.specs.Itself.{itself_text}
+use Rattle.bus_tool.proofs.ExplainLemmas.{size_unwritten}
+use Rattle.bus_tool.specs.Forms.{Form, OnTable, OnMessages, OnTrace, Unwave, Drill, OnItself, Explain, MessagesCommand, Observe, Run, Drop, form_of, table_mode, messages_mode}
 use Rattle.bus_tool.specs.Refusals.{Outcome, ToolRefusal, refuse, TableMode}
-use Rattle.bus_tool.specs.Texts.{holds_of, IsObserved, IsObserveText, IsRunRecording, IsDropRecording, IsRanText, IsMessagesText, IsInputsText, IsTableText, IsTracedText, IsUnwavedText}
+use Rattle.bus_tool.specs.Texts.{holds_of, IsObserved, IsObserveText, IsRunRecording, IsDropRecording, IsRanText, IsMessagesText, IsInputsText, IsTableText, IsTracedText, IsUnwavedText, IsExplanation}
 use Rattle.bus_tool.specs.Texts.{table_answer_text, trace_answer_text, run_text, IsFormText, IsTextFor}
 use Rattle.bus_tool.specs.TextLaws.{OneCommandText, AnswersHaveTexts}
 use Rattle.bus_tool.proofs.AnswerLaws.{done_with}
@@ -120,6 +123,8 @@ form_once laws (OnTrace command) first second text other h k =
 form_once laws Unwave first second text other h k =
     k.3 ∙ ap (λ (traced : Traced). trace_text traced.trace) (same_value (unwave_due first second) h.0 k.0 h.1 k.1) ∙ sym h.3
 form_once laws (Drill number) first second text other h k = k ∙ sym h
+form_once laws (OnItself about) first second text other h k = k ∙ sym h
+form_once laws Explain first second text other h k = k.3 ∙ ap explanation (same_value (text_due 1 first) h.0 k.0 h.1 k.1) ∙ sym h.3
 
 once_for : TextLaws → (form : Option Form) (first second text other : List ℕ) → IsTextFor form first second text → IsTextFor form first second other → other ≡ text
 once_for laws None first second text other h k = absurd h
@@ -196,6 +201,9 @@ form_has laws Unwave first second h =
     text_with unwave_answer IsUnwavedText (unwave_due first second) (λ o e. traced_unwritten wave_trace_due wave_stops first second o e)
     (λ traced e k. (trace_text traced.trace, refl)) h
 form_has laws (Drill number) first second h = (drill_line number, refl)
+form_has laws (OnItself about) first second h = (itself_text about, refl)
+form_has laws Explain first second h =
+    text_with explain_answer IsExplanation (text_due 1 first) (λ o e. size_unwritten first o e) (λ text e k. (explanation text, refl)) h
 
 has_for : TextLaws → (form : Option Form) (first second : List ℕ) → is_written (outcome_for form first second) ≡ true → (text : List ℕ) × IsTextFor form first second text
 has_for laws None first second h = absurd cc

@@ -18,7 +18,7 @@ use Rattle.bus_wave.specs.Spacing.{spaced_of}
 use Rattle.bus_wave.specs.WaveLaws.{IsWaveTrace}
 use Rattle.bus_wave.specs.WaveTexts.{IsWaveText}
 use Rattle.bus_command.specs.Causes.{IsValidText, AreTextsWith, AreTracedWith}
-use Rattle.bus_tool.specs.Forms.{Form, OnTable, OnMessages, OnTrace, Unwave, Drill, MessagesCommand, Observe, Run, Drop}
+use Rattle.bus_tool.specs.Forms.{Form, OnTable, OnMessages, OnTrace, Unwave, Drill, OnItself, Explain, MessagesCommand, Observe, Run, Drop}
 use Rattle.bus_tool.specs.Refusals.{ToolRefusal, TableMode, Unspaced, WaveText, Uneven, NotAccepted, ShortLast, TooLong}
 
 -- A valid table has the text, whose mode isn't the one that is needed.
@@ -67,6 +67,8 @@ IsFormEnd (OnMessages command) end table hands = IsEndOf command end table hands
 IsFormEnd (OnTrace command) end table hands = ⊥
 IsFormEnd Unwave end table hands = ⊥
 IsFormEnd (Drill number) end table hands = ⊥
+IsFormEnd (OnItself about) end table hands = ⊥
+IsFormEnd Explain end table hands = ⊥
 
 -- That end, of an accepted table, which is above its limit.
 pub record IsLongEnd (form : Form) (end : ℕ) (table : Table) (items : List Item) : Type 0 where

@@ -4,6 +4,8 @@ use Rattle.std.specs.Prelude.{ℕ, Bool, true, false, nat_lt, List, Option, Some
 use Rattle.bus_text.specs.AllOf.{◌>>=◌}
 use Rattle.bus_table.specs.declared.mode.Mode.{Mode}
 use Rattle.bus_table.specs.declared.mode.Mode.TheVariants.{Aperiodic, Periodic}
+use Rattle.bus_table.specs.declared.error.TableError.{TableError}
+use Rattle.bus_table.specs.Reading.{answer_of as table_answer_of}
 use Rattle.bus_table.specs.Tables.{Table, Hand}
 use Rattle.bus_regime.specs.declared.table_verdict.TableVerdict.{TableVerdict}
 use Rattle.bus_regime.specs.declared.table_verdict.TableVerdict.TheVariants.{Accept, ShortCycle, SmallGap, NoSync}
@@ -29,11 +31,11 @@ use Rattle.bus_audit.specs.declared.answer.AuditAnswer.TheVariants.{Lawful, Brea
 use Rattle.bus_audit.specs.Breaches.{answer_of}
 use Rattle.bus_command.specs.declared.inputs.Traced.{Traced}
 use Rattle.bus_command.specs.declared.outcome.Outcome.TheVariants.{Done, Answered, Usage, NoMemory}
-use Rattle.bus_command.specs.Due.{text_within, table_due, table_refusal_of, Inputs, hands_in, inputs_by, traced_by, traced_due}
+use Rattle.bus_command.specs.Due.{text_within, text_due, table_due, table_refusal_of, Inputs, hands_in, inputs_by, traced_by, traced_due}
 use Rattle.bus_command.specs.Due.{outcome_with}
 use Rattle.bus_command.specs.Stages.{refusal_in}
-use Rattle.bus_tool.specs.Forms.{Form, OnTable, OnMessages, OnTrace, Unwave, Drill, TableCommand, Check, Tolerance, Tidy, Report}
-use Rattle.bus_tool.specs.Forms.{Witness, Plan}
+use Rattle.bus_tool.specs.Forms.{Form, OnTable, OnMessages, OnTrace, Unwave, Drill, OnItself, Explain}
+use Rattle.bus_tool.specs.Forms.{TableCommand, Check, Tolerance, Tidy, Report, Witness, Plan}
 use Rattle.bus_tool.specs.Forms.{MessagesCommand, Observe, Run, Drop, TraceCommand, Receive, Audit, Vote, Wave}
 use Rattle.bus_tool.specs.Forms.{form_of, wave_limit, table_mode, messages_mode}
 use Rattle.bus_tool.specs.Refusals.{Outcome, refuse, TableMode, Unspaced, WaveText, Uneven, NotAccepted, ShortLast, TooLong}
@@ -183,6 +185,15 @@ traced_answer command traced = trace_answer command traced.table traced.trace
 abbrev pub unwave_answer : Traced → Outcome
 unwave_answer traced = Done
 
+-- Yes where a text gives a table that is accepted, else no.
+abbrev pub text_outcome : Result Table TableError → Outcome
+text_outcome (Ok table) = verdict_outcome (verdict_of table)
+text_outcome (Err error) = Answered
+
+-- What `explain` answers to a text, whether it is one of a table or not.
+abbrev pub explain_answer : List ℕ → Outcome
+explain_answer text = text_outcome (table_answer_of text)
+
 -- ---- the outcome
 -- The outcome of a form.
 abbrev pub form_due : Form → List ℕ → List ℕ → Outcome
@@ -192,6 +203,8 @@ form_due (OnMessages command) first second =
 form_due (OnTrace command) first second = outcome_with (traced_answer command) (traced_due first second)
 form_due Unwave first second = outcome_with unwave_answer (unwave_due first second)
 form_due (Drill number) first second = Done
+form_due (OnItself about) first second = Done
+form_due Explain first second = outcome_with explain_answer (text_due 1 first)
 
 -- Why a form refuses the first text, whatever the second is.
 abbrev pub first_refusal : Form → List ℕ → Option Outcome
@@ -200,6 +213,8 @@ first_refusal (OnMessages command) first = refusal_for (messages_mode command) f
 first_refusal (OnTrace command) first = table_refusal_of first
 first_refusal Unwave first = table_refusal_of first
 first_refusal (Drill number) first = None
+first_refusal (OnItself about) first = None
+first_refusal Explain first = refusal_in (text_due 1 first)
 
 -- The outcome where the words ask for a form, or for none.
 abbrev pub outcome_for : Option Form → List ℕ → List ℕ → Outcome

@@ -1,14 +1,17 @@
 -- The forms of the command line, in groups by what they take. A word is its bytes.
 use Rattle.std.specs.Prelude.{ℕ, ◌≤◌, Bool, ◌&&◌, nat_le, List, [], ◌∷◌, codes, Option, Some, None, if◌then◌else◌}
+use Rattle.std.specs.Option.{option_map}
 use Rattle.std.specs.Str.{bytes_eq}
 use Rattle.bus_text.specs.Numbers.{is_plain_decimal, decimal_value}
 use Rattle.bus_strings.specs.Limits.{horizon_limit}
 use Rattle.bus_table.specs.declared.mode.Mode.{Mode}
 use Rattle.bus_table.specs.declared.mode.Mode.TheVariants.{Aperiodic, Periodic}
 use Rattle.bus_vectors.specs.Made.{most_number}
+use Rattle.bus_command.specs.declared.about.About.{About}
+use Rattle.bus_command.specs.About.{about_of}
 use Rattle.bus_command.specs.Readers.{Named, Reader, Entire, entire, no_source, one_source, by_trace, two_sources}
 pub use Rattle.bus_tool.specs.declared.forms.Form.{Form}
-pub use Rattle.bus_tool.specs.declared.forms.Form.TheVariants.{OnTable, OnMessages, OnTrace, Unwave, Drill}
+pub use Rattle.bus_tool.specs.declared.forms.Form.TheVariants.{OnTable, OnMessages, OnTrace, Unwave, Drill, OnItself, Explain}
 pub use Rattle.bus_tool.specs.declared.forms.TableCommand.{TableCommand}
 pub use Rattle.bus_tool.specs.declared.forms.TableCommand.TheVariants.{Check, Tolerance, Tidy, Report, Witness, Plan}
 pub use Rattle.bus_tool.specs.declared.forms.MessagesCommand.{MessagesCommand}
@@ -24,7 +27,11 @@ is_horizon word = is_plain_decimal word && nat_le (decimal_value word) horizon_l
 abbrev pub is_drill_number : List ℕ → Bool
 is_drill_number word = is_plain_decimal word && nat_le (decimal_value word) most_number
 
--- `check T`, `tolerance T`, `tidy T`, `report T`, `witness T`, `plan T`, `drill N`
+-- `--help`, `--version`
+abbrev pub one_word : List ℕ → Option Form
+one_word word = option_map OnItself (about_of word)
+
+-- `check T`, `tolerance T`, `tidy T`, `report T`, `witness T`, `plan T`, `explain T`, `drill N`
 abbrev pub two_words : List ℕ → List ℕ → Option Form
 two_words command second =
     if bytes_eq command (codes "check") then Some (OnTable Check)
@@ -33,6 +40,7 @@ two_words command second =
     else if bytes_eq command (codes "report") then Some (OnTable Report)
     else if bytes_eq command (codes "witness") then Some (OnTable Witness)
     else if bytes_eq command (codes "plan") then Some (OnTable Plan)
+    else if bytes_eq command (codes "explain") then Some Explain
     else if bytes_eq command (codes "drill") && is_drill_number second then Some (Drill (decimal_value second))
     else None
 
@@ -55,6 +63,7 @@ four_words command horizon =
 
 -- The form of these words, whatever the words T and M are.
 abbrev pub form_of : List (List ℕ) → Option Form
+form_of (word ∷ []) = one_word word
 form_of (command ∷ second ∷ []) = two_words command second
 form_of (command ∷ table ∷ other ∷ []) = three_words command
 form_of (command ∷ table ∷ messages ∷ horizon ∷ []) = four_words command horizon
@@ -76,6 +85,8 @@ sources_of (OnMessages command) = two_sources entire entire
 sources_of (OnTrace command) = by_trace
 sources_of Unwave = two_sources entire entire_wave
 sources_of (Drill number) = no_source
+sources_of (OnItself about) = no_source
+sources_of Explain = one_source entire
 
 -- The mode that a command on a table needs of it.
 abbrev pub table_mode : TableCommand → Option Mode
@@ -105,3 +116,5 @@ IsWithinLimits (OnMessages command) = IsWithinHorizon command
 IsWithinLimits (OnTrace command) = Unit {0}
 IsWithinLimits Unwave = Unit {0}
 IsWithinLimits (Drill number) = number ≤ most_number
+IsWithinLimits (OnItself about) = Unit {0}
+IsWithinLimits Explain = Unit {0}

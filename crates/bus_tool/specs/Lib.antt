@@ -1,3 +1,4 @@
+pub mod Itself
 pub mod Forms
 pub mod Refusals
 pub mod Due
@@ -14,6 +15,8 @@ pub mod Acts
 pub mod InMemory
 pub mod TableClaims
 pub mod ToleranceClaims
+pub mod Explanations
+pub mod ExplainClaims
 pub mod PlanClaims
 pub mod DrillClaims
 pub mod ObserveClaims

@@ -4,12 +4,16 @@ use Rattle.bus_strings.specs.Items.{Item}
 use Rattle.bus_table.specs.Tables.{Table}
 use Rattle.bus_trace.specs.Traces.{Recording}
 use Rattle.bus_filter.specs.ReceivedTexts.{received_text}
+use Rattle.bus_command.specs.declared.about.About.{About}
+use Rattle.bus_command.specs.About.{IsAbout}
 use Rattle.bus_command.specs.Claims.{Answers, IsOfTable, IsOfTraced}
 use Rattle.bus_command.specs.Outside.{Call}
 use Rattle.bus_command.specs.declared.status.Status.{Status}
 use Rattle.bus_command.specs.declared.status.Status.TheVariants.{Done}
 use Rattle.bus_tool.specs.DrillClaims.{IsDrillOf, GivesDrill}
 use Rattle.bus_tool.specs.DropClaims.{IsDropOf, GivesDrop}
+use Rattle.bus_tool.specs.ExplainClaims.{IsExplainOf, GivesExplanation}
+use Rattle.bus_tool.specs.Itself.{itself_text}
 use Rattle.bus_tool.specs.ObserveClaims.{IsObserveOf, GivesTrace}
 use Rattle.bus_tool.specs.PlanClaims.{IsPlanCallOf, GivesPlan}
 use Rattle.bus_tool.specs.RunClaims.{IsRunOf, GivesRun}
@@ -34,6 +38,8 @@ use Rattle.bus_tool.specs.WaveClaims.{GivesWave, IsUnwaveOf, GivesUnwaved}
 --   vote      the votes; two equal channels fix a vote, and of the trace of a run every round is voted, from the words of the hands
 --   wave      of a spaced trace: its wave text; the trace of a run is spaced, and read from it; two with the same wave are equal
 --   unwave    of the wave text of a trace: the text of the trace
+--   explain   of any text: its explanation; each of its advices works
+--   itself    `--help` and `--version`: the help and the version line
 pub record Promises (call : Call) (status : Status) : Type 0 where
   pub check : (table : Table) → IsOfTable (codes "check") table call → GivesVerdict table call status × TellsSettled table status
   pub tolerance : (table : Table) → IsOfTable (codes "tolerance") table call → GivesTolerance table call status
@@ -52,3 +58,5 @@ pub record Promises (call : Call) (status : Status) : Type 0 where
   pub vote : (table : Table) (trace : Recording) → IsOfTraced (codes "vote") [] table trace call → GivesVotes table trace call status
   pub wave : (table : Table) (trace : Recording) → IsOfTraced (codes "wave") [] table trace call → GivesWave table trace call status
   pub unwave : (table : Table) (trace : Recording) → IsUnwaveOf table trace call → GivesUnwaved table trace call status
+  pub explain : (text : List ℕ) → IsExplainOf text call → GivesExplanation text call status
+  pub itself : (about : About) → IsAbout about call → Answers Done (λ text. text ≡ itself_text about) call status

@@ -25,13 +25,15 @@ use Rattle.bus_trace.specs.Traces.{Recording, trace_text}
 use Rattle.bus_vote.specs.VoteTexts.{votes_text}
 use Rattle.bus_wave.specs.WaveTexts.{wave_text}
 use Rattle.bus_command.specs.declared.inputs.Traced.{Traced}
-use Rattle.bus_command.specs.Due.{Inputs, hands_in, inputs_by, traced_due, IsTextOf}
-use Rattle.bus_tool.specs.Forms.{Form, OnTable, OnMessages, OnTrace, Unwave, Drill, TableCommand, Check, Tolerance, Tidy, Report}
-use Rattle.bus_tool.specs.Forms.{Witness, Plan}
+use Rattle.bus_command.specs.Due.{Inputs, hands_in, inputs_by, text_due, traced_due, IsTextOf}
+use Rattle.bus_tool.specs.Forms.{Form, OnTable, OnMessages, OnTrace, Unwave, Drill, OnItself, Explain}
+use Rattle.bus_tool.specs.Forms.{TableCommand, Check, Tolerance, Tidy, Report, Witness, Plan}
 use Rattle.bus_tool.specs.Forms.{MessagesCommand, Observe, Run, Drop, TraceCommand, Receive, Audit, Vote, Wave}
 use Rattle.bus_tool.specs.Forms.{form_of, table_mode, messages_mode}
-use Rattle.bus_tool.specs.Due.{table_for, unwave_due, table_answer, inputs_answer, traced_answer, unwave_answer}
+use Rattle.bus_tool.specs.Due.{table_for, unwave_due, table_answer, inputs_answer, traced_answer, unwave_answer, explain_answer}
 use Rattle.bus_tool.specs.Drills.{drill_line}
+use Rattle.bus_tool.specs.Explanations.{explanation}
+use Rattle.bus_tool.specs.Itself.{itself_text}
 use Rattle.bus_tool.specs.Reports.{report_text}
 use Rattle.bus_tool.specs.PlanTexts.{plan_text}
 use Rattle.bus_tool.specs.Tolerances.{tolerance_text}
@@ -126,6 +128,10 @@ IsTracedText command traced text = text ≡ trace_answer_text command traced.tab
 abbrev pub IsUnwavedText : Traced → List ℕ → Type 0
 IsUnwavedText traced text = text ≡ trace_text traced.trace
 
+-- The explanation of a text.
+abbrev pub IsExplanation : List ℕ → List ℕ → Type 0
+IsExplanation first text = text ≡ explanation first
+
 -- What a form writes of both texts.
 abbrev pub IsFormText : Form → List ℕ → List ℕ → List ℕ → Type 0
 IsFormText (OnTable command) first second text =
@@ -135,6 +141,8 @@ IsFormText (OnMessages command) first second text =
 IsFormText (OnTrace command) first second text = IsTextOf (traced_answer command) (IsTracedText command) (traced_due first second) text
 IsFormText Unwave first second text = IsTextOf unwave_answer IsUnwavedText (unwave_due first second) text
 IsFormText (Drill number) first second text = text ≡ drill_line number
+IsFormText (OnItself about) first second text = text ≡ itself_text about
+IsFormText Explain first second text = IsTextOf explain_answer IsExplanation (text_due 1 first) text
 
 -- What is written where the words ask for a form, or for none.
 abbrev pub IsTextFor : Option Form → List ℕ → List ℕ → List ℕ → Type 0

@@ -3,7 +3,9 @@ ghost use Rattle.bus_command.specs.Outside.{call};
 ghost use Rattle.bus_tool.specs.Acts.{Acts};
 
 use crate::drill::drill;
+use crate::explain::explain;
 use crate::forms::{Form, form_of};
+use crate::itself::tell_itself;
 use crate::on_messages::on_messages;
 use crate::on_table::on_table;
 use crate::on_trace::on_trace;
@@ -40,5 +42,7 @@ pub fn act<S: Source, K: Sink>(
         Some(Form::OnTrace(command)) => on_trace(alloc, command, first, second, out),
         Some(Form::Unwave) => unwave(alloc, first, second, out),
         Some(Form::Drill { number }) => drill(alloc, number, out),
+        Some(Form::OnItself(about)) => tell_itself(about, out),
+        Some(Form::Explain) => explain(alloc, first, out),
     }
 }

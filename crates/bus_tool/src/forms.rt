@@ -7,6 +7,7 @@ ghost use Rattle.bus_tool.specs.Forms.{is_horizon, is_drill_number, messages_mod
 ghost use Rattle.bus_vectors.specs.Made.{most_number};
 ghost use Rattle.bus_strings.specs.Limits.{horizon_limit};
 
+use bus_command::{About, about_of};
 use bus_strings::limits::HORIZON_LIMIT;
 use bus_table::Mode;
 use bus_text::plain_decimal;
@@ -75,6 +76,10 @@ pub enum Form {
         /// N: at most 9999.
         number: u32,
     },
+    /// `--help`, `--version`: what the program tells of itself.
+    OnItself(About),
+    /// `explain T`: what the verdict on the table in the file `T` means, or why there is no valid table in it, and what to change.
+    Explain,
 }
 
 impl TableCommand {
@@ -131,6 +136,15 @@ fn drill_number_of(word: &[u8]) -> Option<u32>
     }
 }
 
+/// The form of this word, where it is the only one.
+fn one_word(word: &str) -> Option<Form>
+    ensures form { result ≡ forms.one_word word.now }
+    ensures limits { IfSome result IsWithinLimits }
+{
+    let about = about_of(word)?;
+    Some(Form::OnItself(about))
+}
+
 /// The form of these two words.
 fn two_words(command: &str, second: &[u8]) -> Option<Form>
     ensures form { result ≡ forms.two_words command.now second.now }
@@ -152,6 +166,8 @@ fn two_words(command: &str, second: &[u8]) -> Option<Form>
         Some(Form::OnTable(TableCommand::Witness))
     } else if command == "plan" {
         Some(Form::OnTable(TableCommand::Plan))
+    } else if command == "explain" {
+        Some(Form::Explain)
     } else {
         None
     }
@@ -202,6 +218,7 @@ pub fn form_of(words: &[String]) -> Option<Form>
         2 => two_words(words[0].as_str(), words[1].as_bytes()),
         3 => three_words(words[0].as_str()),
         4 => four_words(words[0].as_str(), words[3].as_bytes()),
+        1 => one_word(words[0].as_str()),
         _ => None,
     }
 }

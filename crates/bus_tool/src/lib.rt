@@ -4,7 +4,7 @@
 //! [`act`] is the command alone, [`Outcome`] what it came to, and [`outcome_text`] the line.
 //!
 //! The commands are in groups by what they take: a table (`on_table`), a table and messages (`on_messages`), a table and a trace
-//! (`on_trace`), a table and a wave (`on_wave`), or a number (`drill`). `bus_command` has what each of them has in common with the commands
+//! (`on_trace`), a table and a wave (`on_wave`), a number (`drill`), a text that may be one of a table (`explain`), or nothing (`itself`). `bus_command` has what each of them has in common with the commands
 //! of any program over such texts.
 #![tactic(auto)]
 
@@ -13,10 +13,12 @@ mod check;
 mod command;
 mod drill;
 mod dropout;
+mod explain;
 pub mod forms;
 mod holds;
 mod in_memory;
 mod inputs;
+mod itself;
 pub mod laws;
 mod observe;
 mod on_messages;

@@ -17,7 +17,7 @@ use bus_table::laws::table_is_valid;
 use bus_table::{Mode, Table, put_mode};
 
 /// The tolerance of an accepted table, in bit times; None where it has one sender.
-fn tolerance_of(table: &Table) -> Option<u64>
+pub fn tolerance_of(table: &Table) -> Option<u64>
     requires { IsTrue (is_accepted (verdict_of table.now)) }
     ensures { result ≡ tolerances.tolerance_of table.now }
 {

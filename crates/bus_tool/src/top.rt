@@ -4,6 +4,7 @@ ghost use Rattle.bus_tool.specs.Acts.{Comes};
 ghost use Rattle.bus_tool.specs.Promises.{Promises};
 
 use crate::command::act;
+use bus_advice::laws::advices_work;
 use bus_audit::laws::{no_breach_is_right, one_answer};
 use bus_command::{Status, outcome_text};
 use bus_medium::laws::one_lawful_list;
@@ -65,6 +66,7 @@ pub fn tool<S: Source, K: Sink, E: Sink>(
     periodic_bearing_is_exact();
     accepted_bear_zero();
     any_start_settles();
+    advices_work();
     let outcome = act(alloc, words, first, second, out);
     let _ = outcome_text(&outcome, err);
     outcome.status()

@@ -13,12 +13,14 @@ use std::test::Fail;
 type Call<'a> = (&'a [&'a str], &'a str, &'a str);
 
 /// Calls of each command that read and write without a refusal.
-const CALLS: [Call<'static>; 15] = [
+const CALLS: [Call<'static>; 17] = [
     (&["check", "T"], TWO_SENDERS, ""),
     (&["tolerance", "T"], TWO_SENDERS, ""),
+    (&["explain", "T"], TWO_SENDERS, ""),
     (&["report", "T"], TWO_SENDERS, ""),
     (&["plan", "T"], TWO_PERIODIC_SENDERS, ""),
     (&["drill", "0"], "", ""),
+    (&["--version"], "", ""),
     (&["witness", "T"], LONG_GAP, ""),
     (&["tidy", "T"], LONG_GAP, ""),
     (&["run", "T", "M"], LONG_GAP, ONE_EACH),

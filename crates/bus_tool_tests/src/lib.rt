@@ -6,6 +6,8 @@ mod calls;
 #[cfg(test)]
 mod drill;
 #[cfg(test)]
+mod explain;
+#[cfg(test)]
 mod fault;
 #[cfg(test)]
 mod hostile;

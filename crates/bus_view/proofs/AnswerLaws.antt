@@ -15,7 +15,7 @@ use Rattle.bus_command.proofs.ReadLemmas.{CauseLaws, table_cause, table_valid, t
 use Rattle.bus_view.specs.Acts.{view_program, IsDoubledAt}
 use Rattle.bus_command.specs.Causes.{AreTracedWith}
 use Rattle.bus_view.specs.Due.{single_outcome, view_answer, traced_answer, view_text, IsView}
-use Rattle.bus_view.specs.Forms.{View, Dump, SaveFile, Painted}
+use Rattle.bus_view.specs.Forms.{Form, OnTrace, OnItself, View, Dump, SaveFile, Painted}
 use Rattle.bus_view.specs.Refusals.{Doubled, Outcome}
 
 single_late : (entry : Option ℕ) → 2 ≤ stage_of (kind_of (single_outcome entry))
@@ -69,4 +69,5 @@ due_cause laws view first second o (Ok traced) e h = subst (λ o. RefusesTexts C
 due_cause laws view first second o (Err r) e h = subst (λ o. RefusesTexts Causes o first second) h (taken_cause laws first second r e)
 
 pub due_has_cause : CauseLaws → DueHasCause view_program
-due_has_cause laws view first second o h = due_cause laws view first second o (traced_due first second) refl h
+due_has_cause laws (OnTrace view) first second o h = due_cause laws view first second o (traced_due first second) refl h
+due_has_cause laws (OnItself about) first second o h = subst (λ o. RefusesTexts Causes o first second) h tt

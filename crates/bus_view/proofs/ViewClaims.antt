@@ -1,5 +1,5 @@
 -- What is claimed of the views.
-use Rattle.std.specs.Prelude.{◌≡◌, ℕ, List, ◌∷◌, codes, Option, Some, None, IfSome, Result, Ok}
+use Rattle.std.specs.Prelude.{◌≡◌, ℕ, List, [], ◌∷◌, codes, Option, Some, None, IfSome, Result, Ok}
 use Rattle.std.proofs.Common.{refl, sym, ap, ◌∙◌, subst}
 use Rattle.bus_text.specs.AllOf.{◌>>=◌}
 use Rattle.bus_table.specs.Tables.{Table}
@@ -15,21 +15,26 @@ use Rattle.bus_schedule.specs.Laws.{AcceptedIsClosed}
 use Rattle.bus_schedule.specs.Runs.{IsClear}
 use Rattle.bus_dump.specs.SaveFiles.{save_text}
 use Rattle.bus_view.proofs.WindowLemmas.{spelled}
+use Rattle.bus_command.specs.declared.about.About.{About}
+use Rattle.bus_command.specs.declared.about.About.TheVariants.{Help, Version}
+use Rattle.bus_command.specs.About.{IsAbout, about_word}
 use Rattle.bus_command.specs.Claims.{Answers, Refuses}
 use Rattle.bus_command.specs.Due.{table_refusal_of, with_trace, traced_due, any_trace}
 use Rattle.bus_command.specs.Kinds.{Answer, kind_of}
 use Rattle.bus_command.specs.Outside.{Call}
-use Rattle.bus_command.specs.Readers.{Trace, entire}
 use Rattle.bus_command.specs.declared.inputs.Traced.{Traced}
 use Rattle.bus_command.specs.declared.status.Status.TheVariants as status
-use Rattle.bus_command.proofs.ClaimLemmas.{claimed, refuses, does_of, at_two, stands_told}
+use Rattle.bus_command.specs.declared.outcome.Outcome.TheVariants.{Done}
+use Rattle.bus_command.specs.Readers.{Trace, entire, no_source}
+use Rattle.bus_command.proofs.ClaimLemmas.{answers, claimed, refuses, does_of, at_two, stands_told}
 use Rattle.bus_command.proofs.LawTypes.{TextReadsAsItsTable}
 use Rattle.bus_command.proofs.ReadLemmas.{held_trace, traced_told}
 use Rattle.bus_command.proofs.ToldLemmas.{table_told}
 use Rattle.bus_view.specs.Acts.{view_program, Acts}
 use Rattle.bus_view.specs.Claims.{view_word, AreFurther, IsViewOf, GivesDump, Promises}
 use Rattle.bus_view.specs.Due.{single_outcome, traced_answer, view_answer, view_text, drawing, painting, window_or_whole, IsView}
-use Rattle.bus_view.specs.Forms.{View, Dump, SaveFile, Painted, Picture, TimeLine, Cycles, part_of, form_of, sources}
+use Rattle.bus_view.specs.Forms.{OnTrace, OnItself, on_trace, View, Dump, SaveFile, Painted, Picture, TimeLine, Cycles, part_of, form_of, sources}
+use Rattle.bus_view.specs.Itself.{itself_text}
 use Rattle.bus_view.specs.Refusals.{Doubled, Outcome, ends_of, status_of}
 
 -- the window of a view is one
@@ -38,7 +43,7 @@ IsSound (Painted picture (Some window)) = IsWindow window
 IsSound view = Unit {0}
 
 -- the words of a view ask for it
-asked : (view : View) (words : List (List ℕ)) (first second : List ℕ) (further : List (List ℕ)) → words ≡ view_word view ∷ first ∷ second ∷ further → AreFurther view further → IsSound view → form_of words ≡ Some view
+asked : (view : View) (words : List (List ℕ)) (first second : List ℕ) (further : List (List ℕ)) → words ≡ view_word view ∷ first ∷ second ∷ further → AreFurther view further → IsSound view → form_of words ≡ Some (OnTrace view)
 asked (Dump Vcd) words first second further h w s = ap form_of (h ∙ ap (λ f. codes "vcd" ∷ first ∷ second ∷ f) w)
 asked (Dump Wires) words first second further h w s = ap form_of (h ∙ ap (λ f. codes "wires" ∷ first ∷ second ∷ f) w)
 asked (Dump Timers) words first second further h w s = ap form_of (h ∙ ap (λ f. codes "timers" ∷ first ∷ second ∷ f) w)
@@ -47,10 +52,10 @@ asked (Painted TimeLine None) words first second further h w s = ap form_of (h �
 asked (Painted Cycles None) words first second further h w s = ap form_of (h ∙ ap (λ f. codes "cycles" ∷ first ∷ second ∷ f) w)
 asked (Painted TimeLine (Some window)) words first second further h w s =
     ap form_of (h ∙ ap (λ f. codes "svg" ∷ first ∷ second ∷ f) w.form)
-    ∙ ap (option_map (part_of TimeLine)) (spelled window w.first w.second s w.from w.to)
+    ∙ ap (λ window. on_trace (option_map (part_of TimeLine) window)) (spelled window w.first w.second s w.from w.to)
 asked (Painted Cycles (Some window)) words first second further h w s =
     ap form_of (h ∙ ap (λ f. codes "cycles" ∷ first ∷ second ∷ f) w.form)
-    ∙ ap (option_map (part_of Cycles)) (spelled window w.first w.second s w.from w.to)
+    ∙ ap (λ window. on_trace (option_map (part_of Cycles) window)) (spelled window w.first w.second s w.from w.to)
 
 -- the laws of the crates below, by which it follows
 pub record DrawLaws : Type 0 where
@@ -69,8 +74,8 @@ module _ (laws : DrawLaws) (view : View) (call : Call) (outcome : Outcome) (tabl
       (table_told {R = Doubled} laws.table_again table call.before.sources.first h.call_is.table_told)
       (held_trace {R = Doubled} laws.trace_back h.call_is.trace_told.stream trace h.call_is.trace_told.stands)
 
-  did : Rattle.bus_command.specs.Acts.DoesForm view_program view call.before call.after outcome
-  did = does_of view_program call outcome view
+  did : Rattle.bus_command.specs.Acts.DoesForm view_program (OnTrace view) call.before call.after outcome
+  did = does_of view_program call outcome (OnTrace view)
       (asked view call.words h.call_is.form.first h.call_is.form.second h.further h.call_is.form.form h.window sound) acts
 
   pub shown : kind_of (view_answer view table trace) ≡ Answer
@@ -88,7 +93,7 @@ module _ (laws : DrawLaws) (view : View) (call : Call) (outcome : Outcome) (tabl
       (at_two entire Trace call.before.sources h.call_is.table_told.text h.call_is.trace_told.stream h.call_is.table_told.told h.call_is.trace_told.told)
       both_told did.due
 
-  pub does : Rattle.bus_command.specs.Acts.DoesForm view_program view call.before call.after outcome
+  pub does : Rattle.bus_command.specs.Acts.DoesForm view_program (OnTrace view) call.before call.after outcome
   does = did
 
 draw_claim : DrawLaws → (call : Call) (outcome : Outcome) (dump : AnyDump) (table : Table) (trace : Recording) → Acts call outcome
@@ -114,9 +119,22 @@ paint_claim laws call outcome picture None table trace s acts h = shown laws (Pa
 paint_claim laws call outcome picture (Some window) table trace s acts h =
     shown laws (Painted picture (Some window)) call outcome table trace acts h s refl
 
+itself_form : (about : About) (words : List (List ℕ)) → words ≡ about_word about ∷ [] → form_of words ≡ Some (OnItself about)
+itself_form Help words h = ap form_of h
+itself_form Version words h = ap form_of h
+
+itself_claim : (call : Call) (outcome : Outcome) (about : About) → Acts call outcome → IsAbout about call
+    → Answers status.Done (λ text. text ≡ itself_text about) call (status_of outcome)
+itself_claim call outcome about acts h =
+    let did = does_of view_program call outcome (OnItself about) (itself_form about call.words h.form) acts in
+    let due : Outcome = Done in
+    answers ends_of no_source due outcome _ (λ text. text ≡ itself_text about) call refl (λ text is. is) did.due did.text did.counts
+    did.out_count h.undisturbed
+
 pub keeps : DrawLaws → (call : Call) (outcome : Outcome) → Acts call outcome → Promises call (status_of outcome)
 keeps laws call outcome acts = record {
   draw = λ dump table trace h. draw_claim laws call outcome dump table trace acts h;
   save = λ table trace h. shown laws SaveFile call outcome table trace acts h tt refl;
   paint = λ picture window table trace s h. paint_claim laws call outcome picture window table trace s acts h;
+  itself = λ about h. itself_claim call outcome about acts h;
 }

@@ -7,31 +7,30 @@ use Rattle.bus_dump.specs.Doubled.{doubled}
 use Rattle.bus_command.specs.Acts as command
 use Rattle.bus_command.specs.Acts.{Ends, Program, TellsLine}
 use Rattle.bus_command.specs.Causes.{AreTracedWith}
-use Rattle.bus_command.specs.Due.{table_refusal_of}
 use Rattle.bus_command.specs.Outside.{Call, Outside, sink_seen}
 use Rattle.bus_command.specs.declared.status.Status.{Status}
-use Rattle.bus_view.specs.Due.{view_answer, view_due, view_text, IsFormText}
-use Rattle.bus_view.specs.Forms.{View, form_of, sources}
+use Rattle.bus_view.specs.Due.{form_due, first_refusal, view_answer, view_text, IsFormText}
+use Rattle.bus_view.specs.Forms.{Form, View, form_of, sources, sources_of}
 use Rattle.bus_view.specs.Refusals.{Doubled, Outcome, fault_line, status_of}
 
 -- The first entry of a trace that is doubled.
 abbrev pub IsDoubledAt : Doubled → Table → Recording → Type 0
 IsDoubledAt refusal table trace = doubled trace.list ≡ Some refusal.entry
 
--- The program: its views, what is due of each, and what each writes.
-abbrev pub view_program : Program Doubled View
+-- The program: its forms, what is due of each, and what each writes.
+abbrev pub view_program : Program Doubled Form
 view_program = record {
   form_of = form_of;
-  sources = λ view. sources;
-  refusing = λ view. table_refusal_of;
-  due = view_due;
+  sources = sources_of;
+  refusing = first_refusal;
+  due = form_due;
   IsText = IsFormText;
-  Cause = λ view refusal. AreTracedWith (IsDoubledAt refusal);
+  Cause = λ form refusal. AreTracedWith (IsDoubledAt refusal);
 }
 
--- What the command of a view did.
-abbrev pub DoesView : View → Outside → Outside → Outcome → Type 0
-DoesView view before after outcome = command.DoesForm view_program view before after outcome
+-- What the command of a form did.
+abbrev pub DoesForm : Form → Outside → Outside → Outcome → Type 0
+DoesForm form before after outcome = command.DoesForm view_program form before after outcome
 
 -- What a call did.
 abbrev pub Acts : Call → Outcome → Type 0

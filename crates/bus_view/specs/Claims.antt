@@ -16,9 +16,12 @@ use Rattle.bus_dump.specs.Doubled.{doubled}
 use Rattle.bus_dump.specs.Laws.{ShowsNoOverlap}
 use Rattle.bus_command.specs.declared.status.Status.{Status}
 use Rattle.bus_command.specs.declared.status.Status.TheVariants.{Done, InputRefused}
+use Rattle.bus_command.specs.declared.about.About.{About}
+use Rattle.bus_command.specs.About.{IsAbout}
 use Rattle.bus_command.specs.Claims.{Answers, IsOfTraced, Refuses}
 use Rattle.bus_command.specs.Outside.{Call}
 use Rattle.bus_dump.specs.SaveFiles.{save_text}
+use Rattle.bus_view.specs.Itself.{itself_text}
 use Rattle.bus_view.specs.Due.{drawing, painting, window_or_whole}
 use Rattle.bus_view.specs.Forms.{View, Dump, SaveFile, Painted, Picture, TimeLine, Cycles}
 
@@ -75,6 +78,7 @@ pub record GivesDump (dump : AnyDump) (table : Table) (trace : Recording) (call 
 --   draw    `vcd`, `wires` and `timers`: the dump, or that an entry is doubled
 --   save    `gtkw`: the save file
 --   paint   `svg` and `cycles`, and both with a window: the picture
+--   itself  `--help` and `--version`: the help and the version line
 pub record Promises (call : Call) (status : Status) : Type 0 where
   pub draw : (dump : AnyDump) (table : Table) (trace : Recording) → IsViewOf (Dump dump) table trace call
       → GivesDump dump table trace call status
@@ -83,3 +87,4 @@ pub record Promises (call : Call) (status : Status) : Type 0 where
   pub paint : (picture : Picture) (window : Option Window) (table : Table) (trace : Recording) → IfSome window IsWindow
       → IsViewOf (Painted picture window) table trace call
       → Answers Done (λ text. text ≡ painting picture (window_or_whole window trace) table trace) call status
+  pub itself : (about : About) → IsAbout about call → Answers Done (λ text. text ≡ itself_text about) call status

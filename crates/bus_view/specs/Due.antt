@@ -16,8 +16,9 @@ use Rattle.bus_picture.specs.TimeLines.{time_line_text}
 use Rattle.bus_cycles.specs.CyclesTexts.{cycles_text}
 use Rattle.bus_command.specs.declared.inputs.Traced.{Traced}
 use Rattle.bus_command.specs.declared.outcome.Outcome.TheVariants.{Done}
-use Rattle.bus_command.specs.Due.{traced_due, outcome_with, IsTextOf}
-use Rattle.bus_view.specs.Forms.{View, Dump, SaveFile, Painted, Picture, TimeLine, Cycles}
+use Rattle.bus_command.specs.Due.{table_refusal_of, traced_due, outcome_with, IsTextOf}
+use Rattle.bus_view.specs.Itself.{itself_text}
+use Rattle.bus_view.specs.Forms.{Form, OnTrace, OnItself, View, Dump, SaveFile, Painted, Picture, TimeLine, Cycles}
 use Rattle.bus_view.specs.Refusals.{Outcome, refuse}
 
 -- A trace of which no entry is doubled is answered, another refused.
@@ -67,5 +68,20 @@ abbrev pub IsView : View → Traced → List ℕ → Type 0
 IsView view traced text = text ≡ view_text view traced.table traced.trace
 
 -- What a view writes of both texts.
-abbrev pub IsFormText : View → List ℕ → List ℕ → List ℕ → Type 0
-IsFormText view first second text = IsTextOf (traced_answer view) (IsView view) (traced_due first second) text
+abbrev pub IsViewText : View → List ℕ → List ℕ → List ℕ → Type 0
+IsViewText view first second text = IsTextOf (traced_answer view) (IsView view) (traced_due first second) text
+
+-- The outcome of a form.
+abbrev pub form_due : Form → List ℕ → List ℕ → Outcome
+form_due (OnTrace view) first second = view_due view first second
+form_due (OnItself about) first second = Done
+
+-- Why a form refuses the first text, whatever the second is.
+abbrev pub first_refusal : Form → List ℕ → Option Outcome
+first_refusal (OnTrace view) first = table_refusal_of first
+first_refusal (OnItself about) first = None
+
+-- What a form writes of both texts.
+abbrev pub IsFormText : Form → List ℕ → List ℕ → List ℕ → Type 0
+IsFormText (OnTrace view) first second text = IsViewText view first second text
+IsFormText (OnItself about) first second text = text ≡ itself_text about

@@ -1,4 +1,4 @@
--- The forms of the command line: each asks for a view of a trace. A word is its bytes.
+-- The forms of the command line: each asks for a view of a trace, or for what the program tells of itself. A word is its bytes.
 use Rattle.std.specs.Prelude.{ℕ, List, [], ◌∷◌, Bool, ◌&&◌, nat_lt, nat_le, codes, Option, Some, None, if◌then◌else◌}
 use Rattle.std.specs.Option.{option_and_then, option_map}
 use Rattle.std.specs.Str.{bytes_eq}
@@ -6,7 +6,11 @@ use Rattle.bus_strings.specs.Limits.{horizon_limit}
 use Rattle.bus_text.specs.Numbers.{is_plain_decimal, decimal_value}
 use Rattle.bus_dump.specs.declared.dump.Dump.TheVariants as dump
 use Rattle.bus_shapes.specs.Windows.{Window}
-use Rattle.bus_command.specs.Readers.{Named, Trace, entire, two_sources}
+use Rattle.bus_command.specs.declared.about.About.{About}
+use Rattle.bus_command.specs.About.{about_of}
+use Rattle.bus_command.specs.Readers.{Named, Trace, entire, no_source, two_sources}
+pub use Rattle.bus_view.specs.declared.forms.Form.{Form}
+pub use Rattle.bus_view.specs.declared.forms.Form.TheVariants.{OnTrace, OnItself}
 pub use Rattle.bus_view.specs.declared.forms.Picture.{Picture}
 pub use Rattle.bus_view.specs.declared.forms.Picture.TheVariants.{TimeLine, Cycles}
 pub use Rattle.bus_view.specs.declared.forms.View.{View}
@@ -53,12 +57,26 @@ three_words command =
 abbrev pub five_words : List ℕ → List ℕ → List ℕ → Option View
 five_words command from to = option_and_then (λ picture. option_map (part_of picture) (window_of from to)) (picture_of command)
 
--- The view that these words ask for, whatever the words T and R are.
-abbrev pub form_of : List (List ℕ) → Option View
-form_of (command ∷ table ∷ trace ∷ []) = three_words command
-form_of (command ∷ table ∷ trace ∷ from ∷ to ∷ []) = five_words command from to
+-- `--help`, `--version`.
+abbrev pub one_word : List ℕ → Option Form
+one_word word = option_map OnItself (about_of word)
+
+-- A view, as a form.
+abbrev pub on_trace : Option View → Option Form
+on_trace view = option_map OnTrace view
+
+-- What these words ask for, whatever the words T and R are.
+abbrev pub form_of : List (List ℕ) → Option Form
+form_of (word ∷ []) = one_word word
+form_of (command ∷ table ∷ trace ∷ []) = on_trace (three_words command)
+form_of (command ∷ table ∷ trace ∷ from ∷ to ∷ []) = on_trace (five_words command from to)
 form_of words = None
 
--- The sources that each form names: a table, which is read whole, and a trace.
+-- The sources that each view names: a table, which is read whole, and a trace.
 abbrev pub sources : Named
 sources = two_sources entire Trace
+
+-- The sources that a form names.
+abbrev pub sources_of : Form → Named
+sources_of (OnTrace view) = sources
+sources_of (OnItself about) = no_source

@@ -1,3 +1,4 @@
+pub mod Itself
 pub mod Forms
 pub mod Refusals
 pub mod Due

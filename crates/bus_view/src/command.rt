@@ -1,10 +1,12 @@
 //! The command of any words.
 ghost use Rattle.bus_command.specs.Outside.{call, outside};
 ghost use Rattle.bus_trace.specs.Traces.{IsTrace};
-ghost use Rattle.bus_view.specs.Acts.{Acts, DoesView, EndsOnView};
+ghost use Rattle.bus_view.specs.Acts.{Acts, DoesForm, EndsOnView};
+ghost use Rattle.bus_view.specs.Forms.{OnTrace};
 
 use crate::drawing::draw;
-use crate::forms::{View, form_of};
+use crate::forms::{Form, View, form_of};
+use crate::itself::tell_itself;
 use crate::painting::paint;
 use crate::refusal::{Doubled, Outcome};
 use bus_command::{Traced, after_writing, take_traced};
@@ -37,7 +39,7 @@ fn show<S: Source, K: Sink>(
     second: &mut S,
     out: &mut K,
 ) -> Outcome
-    ensures { DoesView view (outside ⟦<S as Source>⟧ ⟦<K as Sink>⟧ first.old second.old out.old)
+    ensures { DoesForm (OnTrace view) (outside ⟦<S as Source>⟧ ⟦<K as Sink>⟧ first.old second.old out.old)
         (outside ⟦<S as Source>⟧ ⟦<K as Sink>⟧ first.new second.new out.new) result }
 {
     match take_traced::<Doubled, S>(alloc, first, second) {
@@ -64,6 +66,7 @@ pub fn act<S: Source, K: Sink>(
     traces_read_back();
     match form_of(words) {
         None => Outcome::Usage,
-        Some(view) => show(alloc, view, first, second, out),
+        Some(Form::OnTrace(view)) => show(alloc, view, first, second, out),
+        Some(Form::OnItself(about)) => tell_itself(about, out),
     }
 }

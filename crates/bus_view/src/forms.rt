@@ -3,6 +3,7 @@ ghost use Rattle.std.specs.Prelude.{◌≡◌};
 ghost use Rattle.bus_command.specs.Words.{words_of};
 ghost use Rattle.bus_view.specs.Forms as forms;
 
+use bus_command::{About, about_of};
 use bus_dump::Dump;
 use bus_shapes::Window;
 use bus_text::plain_decimal;
@@ -16,7 +17,7 @@ pub enum Picture {
     Cycles,
 }
 
-/// What the words ask for: a view of the trace in the second source, on the table in the first.
+/// A view of the trace in the second source, on the table in the first.
 #[derive(Debug, Drop)]
 pub enum View {
     /// `vcd T R`, `wires T R`, `timers T R`: this dump of it.
@@ -25,6 +26,15 @@ pub enum View {
     SaveFile,
     /// `svg T R`, `cycles T R`: this picture of it; `svg T R FROM TO`, `cycles T R FROM TO`: of a window of it.
     Picture(Picture, Option<Window>),
+}
+
+/// What the words of a command line ask for.
+#[derive(Debug, Drop)]
+pub enum Form {
+    /// A view of a trace.
+    OnTrace(View),
+    /// `--help`, `--version`: what the program tells of itself.
+    OnItself(About),
 }
 
 /// The window that two words write, in bit times: plain decimals of which the first is less, and the second at most the limit of a horizon.
@@ -74,14 +84,39 @@ fn five_words(command: &str, from: &[u8], to: &[u8]) -> Option<View>
     Some(View::Picture(picture, Some(window)))
 }
 
-/// The view that these words ask for: `vcd T R`, `wires T R`, `timers T R`, `gtkw T R`, `svg T R`, `cycles T R`, and the last two with a
-/// window, `FROM TO`; None where they are no form.
-pub fn form_of(words: &[String]) -> Option<View>
+/// What a word asks for, where it is the only one.
+fn one_word(word: &str) -> Option<Form>
+    ensures { result ≡ forms.one_word word.now }
+{
+    let about = about_of(word)?;
+    Some(Form::OnItself(about))
+}
+
+/// The view that three words ask for, as a form.
+fn view_of_three(command: &str) -> Option<Form>
+    ensures { result ≡ forms.on_trace (forms.three_words command.now) }
+{
+    let view = three_words(command)?;
+    Some(Form::OnTrace(view))
+}
+
+/// The view that five words ask for, as a form.
+fn view_of_five(command: &str, from: &[u8], to: &[u8]) -> Option<Form>
+    ensures { result ≡ forms.on_trace (forms.five_words command.now from.now to.now) }
+{
+    let view = five_words(command, from, to)?;
+    Some(Form::OnTrace(view))
+}
+
+/// What these words ask for: `vcd T R`, `wires T R`, `timers T R`, `gtkw T R`, `svg T R`, `cycles T R`, and the last two with a
+/// window, `FROM TO`; `--help` and `--version`; None where they are no form.
+pub fn form_of(words: &[String]) -> Option<Form>
     ensures { result ≡ forms.form_of (words_of words.now) }
 {
     match words.len() {
-        3 => three_words(words[0].as_str()),
-        5 => five_words(words[0].as_str(), words[3].as_bytes(), words[4].as_bytes()),
+        3 => view_of_three(words[0].as_str()),
+        5 => view_of_five(words[0].as_str(), words[3].as_bytes(), words[4].as_bytes()),
+        1 => one_word(words[0].as_str()),
         _ => None,
     }
 }

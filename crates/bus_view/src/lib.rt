@@ -8,11 +8,12 @@
 mod command;
 mod drawing;
 mod forms;
+mod itself;
 mod painting;
 mod refusal;
 mod top;
 
 pub use command::act;
-pub use forms::{Picture, View};
+pub use forms::{Form, Picture, View};
 pub use refusal::{Doubled, Outcome};
 pub use top::view;

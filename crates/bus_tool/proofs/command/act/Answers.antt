@@ -3,7 +3,7 @@ use Rattle.std.specs.Prelude.{Some}
 use Rattle.bus_command.proofs.ActLaws.{acts_form}
 use Rattle.bus_command.proofs.DoLaws.{sourceless}
 use Rattle.bus_tool.specs.Acts.{tool_program}
-use Rattle.bus_tool.specs.Forms.{OnTable, OnMessages, OnTrace, Unwave, Drill}
+use Rattle.bus_tool.specs.Forms.{OnTable, OnMessages, OnTrace, Unwave, Drill, OnItself, Explain}
 use Rattle.bus_tool.proofs.CauseLemmas.{due_has_cause}
 use Rattle.bus_tool.proofs.command.act.Goals as goal
 
@@ -56,3 +56,23 @@ returns-in-Some-Drill g c = acts_form tool_program (due_has_cause (record {
   trace_back = c.traces_read_back.ensures.back;
   trace_only = c.traces_read_back.ensures.only;
 }) c.waves_tell_traces.ensures.back) _ c.drill.result (Drill c.in-Some-Drill.number) (ap Some (sym c.in-Some-Drill.field-0-is) ∙ c.in-Some-Drill.ensures.form) (sourceless _ _ _ _ _ _ c.drill.ensures)
+
+pub returns-in-Some-OnItself : goal.returns-in-Some-OnItself
+returns-in-Some-OnItself g c = acts_form tool_program (due_has_cause (record {
+  reads_table = c.readings_have_their_cause.ensures.found;
+  refuses_table = c.readings_have_their_cause.ensures.refused;
+  items_again = c.texts_read_as_their_items.ensures.again;
+  reads_items = c.texts_read_as_their_items.ensures.found;
+  trace_back = c.traces_read_back.ensures.back;
+  trace_only = c.traces_read_back.ensures.only;
+}) c.waves_tell_traces.ensures.back) _ c.tell_itself.result (OnItself c.in-Some-OnItself.about) (ap Some (sym c.in-Some-OnItself.field-0-is) ∙ c.in-Some-OnItself.ensures.form) (sourceless _ _ _ _ _ _ c.tell_itself.ensures)
+
+pub returns-in-Some-Explain : goal.returns-in-Some-Explain
+returns-in-Some-Explain g c = acts_form tool_program (due_has_cause (record {
+  reads_table = c.readings_have_their_cause.ensures.found;
+  refuses_table = c.readings_have_their_cause.ensures.refused;
+  items_again = c.texts_read_as_their_items.ensures.again;
+  reads_items = c.texts_read_as_their_items.ensures.found;
+  trace_back = c.traces_read_back.ensures.back;
+  trace_only = c.traces_read_back.ensures.only;
+}) c.waves_tell_traces.ensures.back) _ c.explain.result Explain (ap Some (sym c.in-Some-Explain.field-0-is) ∙ c.in-Some-Explain.ensures.form) (c.explain.ensures _)

@@ -1,8 +1,11 @@
 use Rattle.std.proofs.Common.{sym, ap, ◌∙◌}
 use Rattle.std.specs.String.{string_bytes}
-use Rattle.bus_tool.specs.Forms.{two_words, three_words, four_words}
-use Rattle.bus_tool.proofs.FormLemmas.{form_of_two, form_of_three, form_of_four}
+use Rattle.bus_tool.specs.Forms.{one_word, two_words, three_words, four_words}
+use Rattle.bus_tool.proofs.FormLemmas.{form_of_one, form_of_two, form_of_three, form_of_four}
 use Rattle.bus_tool.proofs.forms.form_of.Goals as goal
+
+pub returns-in-1-clause-form : goal.returns-in-1-clause-form
+returns-in-1-clause-form c = c.one_word.ensures.form ∙ ap one_word c.as_str-in-1.ensures.value ∙ sym (form_of_one c.args.words.now c.index-words-0-in-1.result c.in-1.is c.index-words-0-in-1.is)
 
 pub returns-in-4-clause-form : goal.returns-in-4-clause-form
 returns-in-4-clause-form c =

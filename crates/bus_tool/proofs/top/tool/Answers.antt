@@ -33,6 +33,7 @@ returns-clause-keeps g c =
       give_hands = c.fitting_items_give_hands.ensures;
       one_list = c.one_lawful_list.ensures.table;
       even_agree = c.even_hands_agree.ensures;
+      works = c.advices_work.ensures;
       answer = c.one_answer.ensures.computed;
       right = c.no_breach_is_right.ensures.answer;
       written = c.two_fix_the_vote.ensures.written;

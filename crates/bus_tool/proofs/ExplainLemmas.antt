@@ -1,0 +1,118 @@
+-- What is due of a text that is explained, and that nothing of it is refused but its size.
+use Rattle.std.specs.Prelude.{◌≡◌, ℕ, ◌≤◌, Bool, true, false, nat_lt, List, length, Result, Ok, Err, Vec, codes, ◌∷◌, []}
+use Rattle.std.specs.declared.alloc.Global.{Global}
+use Rattle.std.proofs.Common.{arith, cond, refl, sym, ap, ◌∙◌, subst}
+use Rattle.bus_table.specs.declared.error.TableError.{TableError}
+use Rattle.bus_table.specs.Reading.{answer_of}
+use Rattle.bus_table.specs.Tables.{Table}
+use Rattle.bus_regime.specs.Verdicts.{verdict_of, is_accepted}
+use Rattle.bus_regime.specs.declared.table_verdict.TableVerdict.{TableVerdict}
+use Rattle.bus_regime.specs.declared.table_verdict.TableVerdict.TheVariants.{Accept, ShortCycle, SmallGap, NoSync}
+use Rattle.bus_advice.specs.Advices.{advices_of}
+use Rattle.bus_advice.specs.Laws.{AdvicesWork}
+use Rattle.bus_explain.specs.Refused.{refused_text}
+use Rattle.bus_outer.specs.declared.sink.Sink.{Ghosts as SinkGhosts}
+use Rattle.bus_command.specs.declared.outcome.Outcome.TheVariants.{Answered, TooLarge}
+use Rattle.bus_command.specs.Acts.{Ends}
+use Rattle.bus_command.specs.Causes.{RefusesTexts}
+use Rattle.bus_command.specs.Due.{outcome_with, text_due, text_within}
+use Rattle.bus_command.specs.Kinds.{Answer, kind_of, stage_of, is_answer}
+use Rattle.bus_command.specs.Outside.{Call, sink_seen}
+use Rattle.bus_command.specs.Readers.{entire, one_source, text_limit}
+use Rattle.bus_command.specs.Stages.{refusal_in}
+use Rattle.bus_command.specs.Steps.{IsText}
+use Rattle.bus_command.proofs.ClaimLemmas.{claimed, does_of, at_one}
+use Rattle.bus_command.proofs.DoLaws.{Agrees}
+use Rattle.bus_command.proofs.TextLemmas.{short_text}
+use Rattle.bus_tool.specs.Acts.{tool_program, Acts}
+use Rattle.bus_tool.specs.Causes.{Cause}
+use Rattle.bus_tool.specs.Due.{text_outcome, verdict_outcome, explain_answer}
+use Rattle.bus_tool.specs.ExplainClaims.{IsExplainOf, GivesExplanation}
+use Rattle.bus_tool.specs.Explanations.{answer_explained, explanation, table_explained, verdict_explained}
+use Rattle.bus_tool.specs.Forms.{Explain, form_of}
+use Rattle.bus_tool.specs.Refusals.{Outcome, ToolRefusal, ends_of, status_of}
+use Rattle.bus_tool.specs.Texts.{IsExplanation}
+use Rattle.bus_tool.proofs.AnswerLaws.{written_verdict}
+
+-- an answer is written of each text
+written_text : (answer : Result Table TableError) → kind_of (text_outcome answer) ≡ Answer
+written_text (Ok table) = written_verdict (verdict_of table)
+written_text (Err error) = refl
+
+pub explained : (text : List ℕ) → kind_of (explain_answer text) ≡ Answer
+explained text = written_text (answer_of text)
+
+pub explain_late : (text : List ℕ) → 2 ≤ stage_of (kind_of (explain_answer text))
+explain_late text = subst (λ k. 2 ≤ stage_of k) (sym (explained text)) (omega arith)
+
+-- what was read is the text
+pub text_agrees : (read : Vec ℕ Global) (text : List ℕ) → read.items ≡ text
+    → Agrees IsText explain_answer IsExplanation read (explain_answer text) (λ written. written ≡ explanation text)
+text_agrees read text same = record {
+  answers = λ y is. ap explain_answer (sym is ∙ same);
+  texts = λ y is written shown. shown ∙ ap explanation (sym same ∙ is);
+}
+
+-- what is done of a verdict is done of the table that has it
+pub table_ends : {K : Type 0} (ghosts : SinkGhosts K) (table : Table) (verdict : TableVerdict) (old new : K) (o : Outcome) → verdict ≡ verdict_of table
+    → Ends (one_source entire) (verdict_outcome verdict) (λ text. text ≡ verdict_explained verdict table) (sink_seen ghosts old) (sink_seen ghosts new) o
+    → Ends (one_source entire) (verdict_outcome (verdict_of table)) (λ text. text ≡ table_explained table) (sink_seen ghosts old) (sink_seen ghosts new) o
+table_ends ghosts table verdict old new o is ends =
+    subst (λ (v : TableVerdict). Ends (one_source entire) (verdict_outcome v) (λ text. text ≡ verdict_explained v table) (sink_seen ghosts old) (sink_seen ghosts new) o)
+    is ends
+
+-- and of a refusing one
+pub refused_ends : {K : Type 0} (ghosts : SinkGhosts K) (table : Table) (verdict : TableVerdict) (old new : K) (o : Outcome) → verdict ≡ verdict_of table
+    → is_accepted verdict ≡ false
+    → Ends (one_source entire) Answered (λ text. text ≡ refused_text verdict (advices_of table)) (sink_seen ghosts old) (sink_seen ghosts new) o
+    → Ends (one_source entire) (verdict_outcome (verdict_of table)) (λ text. text ≡ table_explained table) (sink_seen ghosts old) (sink_seen ghosts new) o
+refused_ends ghosts table (Accept mode least most) old new o is no' ends = absurd cc
+refused_ends ghosts table (ShortCycle least ti) old new o is no' ends = table_ends ghosts table (ShortCycle least ti) old new o is ends
+refused_ends ghosts table (SmallGap terminal gap needed) old new o is no' ends = table_ends ghosts table (SmallGap terminal gap needed) old new o is ends
+refused_ends ghosts table (NoSync terminal gap needed) old new o is no' ends = table_ends ghosts table (NoSync terminal gap needed) old new o is ends
+
+-- what is done of what a text gives is done of the text
+pub answer_ends : {K : Type 0} (ghosts : SinkGhosts K) (text : List ℕ) (answer : Result Table TableError) (old new : K) (o : Outcome) → answer_of text ≡ answer
+    → Ends (one_source entire) (text_outcome answer) (λ written. written ≡ answer_explained answer text) (sink_seen ghosts old) (sink_seen ghosts new) o
+    → Ends (one_source entire) (explain_answer text) (λ written. written ≡ explanation text) (sink_seen ghosts old) (sink_seen ghosts new) o
+answer_ends ghosts text answer old new o is ends =
+    subst (λ (a : Result Table TableError). Ends (one_source entire) (text_outcome a) (λ written. written ≡ answer_explained a text) (sink_seen ghosts old) (sink_seen ghosts new) o)
+    (sym is) ends
+
+-- ---- its cause
+verdict_cause : (verdict : TableVerdict) (first second : List ℕ) → RefusesTexts (Cause Explain) (verdict_outcome verdict) first second
+verdict_cause (Accept mode least most) first second = tt
+verdict_cause (ShortCycle least ti) first second = tt
+verdict_cause (SmallGap terminal gap needed) first second = tt
+verdict_cause (NoSync terminal gap needed) first second = tt
+
+answer_cause : (answer : Result Table TableError) (first second : List ℕ) → RefusesTexts (Cause Explain) (text_outcome answer) first second
+answer_cause (Ok table) first second = verdict_cause (verdict_of table) first second
+answer_cause (Err error) first second = tt
+
+pub explain_cause : (first second : List ℕ) (o : Outcome) → outcome_with explain_answer (text_due 1 first) ≡ o → RefusesTexts (Cause Explain) o first second
+explain_cause first second o h =
+    subst (λ o. RefusesTexts (Cause Explain) o first second) h
+    (elim (nat_lt text_limit (length first)) as (λ b. RefusesTexts (Cause Explain) (outcome_with explain_answer (cond b (Err (TooLarge 1)) (Ok first))) first second) [
+      | true ↦ tt
+      | false ↦ answer_cause (answer_of first) first second
+    ])
+
+-- only its size is refused
+large_only : (b : Bool) (first : List ℕ) (o : Outcome) → cond b (Err (TooLarge 1)) (Ok first) ≡ Err o → is_answer (kind_of o) ≡ false
+large_only true first o h = (let same : TooLarge 1 ≡ o = cc in ap (λ o. is_answer (kind_of o)) (sym same))
+large_only false first o h = absurd cc
+
+pub size_unwritten : (first : List ℕ) (o : Outcome) → text_due 1 first ≡ Err o → is_answer (kind_of o) ≡ false
+size_unwritten first o h = large_only (nat_lt text_limit (length first)) first o h
+
+-- ---- what is claimed of it
+pub explain_claim : AdvicesWork → (call : Call) (outcome : Outcome) (text : List ℕ) → Acts call outcome → IsExplainOf text call
+    → GivesExplanation text call (status_of outcome)
+explain_claim works call outcome text acts h = record {
+  gives = claimed ends_of explain_answer IsExplanation (one_source entire) (λ first. refusal_in (text_due 1 first)) (λ a b. text_due 1 a)
+      text [] text (λ written. written ≡ explanation text) call outcome (at_one entire call.before.sources text h.told)
+      (short_text {R = ToolRefusal} text_limit 1 text h.short) (explained text) (λ written is. is)
+      (does_of tool_program call outcome Explain (ap form_of h.form.form) acts) h.undisturbed;
+  work = works;
+}

@@ -1,0 +1,19 @@
+use Rattle.std.proofs.Common.{◌≡◌, refl, ap, sym, subst}
+use Rattle.bus_command.specs.declared.outcome.Outcome.TheVariants.{Done}
+use Rattle.bus_command.specs.Readers.{entire, one_source}
+use Rattle.bus_command.proofs.DoLaws.{answered}
+use Rattle.bus_explain.specs.Accepted.{accepted_text}
+use Rattle.bus_regime.specs.declared.table_verdict.TableVerdict.{TableVerdict}
+use Rattle.bus_regime.specs.Verdicts.{is_accepted}
+use Rattle.bus_tool.specs.Tolerances.{tolerance_of}
+use Rattle.bus_tool.proofs.explain.explain_accepted.Goals as goal
+
+pub tolerance_of-tolerance-requires : goal.tolerance_of-tolerance-requires
+tolerance_of-tolerance-requires g c = ap is_accepted c.requires.1
+
+pub returns : goal.returns
+returns g c =
+    answered (one_source entire) Done (λ text. text ≡ accepted_text c.args.table.now c.args.least c.args.most (tolerance_of c.args.table.now)) g.K.Sink
+    c.args.out.now c.write_accepted.new.sink
+    (accepted_text c.args.table.now c.args.least c.args.most c.tolerance_of-tolerance.result) c.write_accepted.result c.after_writing.result refl
+    (ap (accepted_text c.args.table.now c.args.least c.args.most) c.tolerance_of-tolerance.ensures) c.write_accepted.ensures c.after_writing.ensures

@@ -1,0 +1,17 @@
+use Rattle.std.proofs.Common.{◌≡◌, List, arith, refl, ap, ◌∙◌}
+use Rattle.bus_advice.specs.Advices.{advices_of}
+use Rattle.bus_advice.specs.declared.advice.Advice.{Advice}
+use Rattle.bus_command.specs.declared.outcome.Outcome.TheVariants.{Answered}
+use Rattle.bus_command.specs.Readers.{entire, one_source}
+use Rattle.bus_command.proofs.DoLaws.{answered, roomless}
+use Rattle.bus_explain.specs.Refused.{refused_text}
+use Rattle.bus_tool.proofs.explain.explain_refused.Goals as goal
+
+pub returns-in-Ok : goal.returns-in-Ok
+returns-in-Ok g c =
+    answered (one_source entire) Answered (λ text. text ≡ refused_text c.args.verdict.now (advices_of c.args.table.now)) g.K.Sink
+    c.args.out.now c.write_refused.new.sink (refused_text c.args.verdict.now c.deref.result.now) c.write_refused.result c.after_writing.result refl
+    (ap (refused_text c.args.verdict.now) (c.deref.ensures.value ∙ c.in-Ok.ensures)) c.write_refused.ensures c.after_writing.ensures
+
+pub returns-in-Err : goal.returns-in-Err
+returns-in-Err g c = roomless (one_source entire) Answered _ _ (omega arith)

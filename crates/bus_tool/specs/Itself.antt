@@ -1,0 +1,45 @@
+-- What bus629 tells of itself: its help, which is the text of docs/bus629.help, and its version.
+use Rattle.std.specs.Prelude.{ℕ, List, ◌++◌, codes}
+use Rattle.bus_command.specs.declared.about.About.{About}
+use Rattle.bus_command.specs.declared.about.About.TheVariants.{Help, Version}
+
+-- The help.
+unfoldable pub help_text : List ℕ
+help_text =
+    codes "bus629 checks tables for buses after ARINC 629 (Basic Protocol), runs and observes such buses, tells what each terminal receives, and\n"
+    ++ codes "audits recorded traces. What it says is proved.\n"
+    ++ codes "\n"
+    ++ codes "  bus629 check T          judge the table in the file T\n"
+    ++ codes "  bus629 explain T        tell in sentences what the verdict of the table in T means, or what is wrong with its text, and what to change\n"
+    ++ codes "  bus629 tolerance T      tell how much delay an accepted table bears until two terminals could talk over each other or a turn be lost\n"
+    ++ codes "  bus629 tidy T           write the table in T as a text without comments, one space between fields\n"
+    ++ codes "  bus629 witness T        messages with which the table in the file T fails, where it is refused: try them with observe\n"
+    ++ codes "  bus629 plan T           choose the offsets of the periodic table in T: the planned table, or that the interval is too short\n"
+    ++ codes "  bus629 report T         tell the verdict of the table in T and its figures, as JSON\n"
+    ++ codes "  bus629 run T M          run the senders of an accepted table with the messages in M: the trace, and what each terminal receives\n"
+    ++ codes "  bus629 drop T M         the same of an aperiodic table whose senders fall silent when their messages are spent\n"
+    ++ codes "  bus629 observe T M N    look at the senders of any table up to moment N, in bit times of half a microsecond: the trace\n"
+    ++ codes "  bus629 receive T R      what each terminal of the table receives of the trace in R\n"
+    ++ codes "  bus629 audit T R        hold the trace in R to the table: does each sender start exactly where its timers allow it?\n"
+    ++ codes "  bus629 vote T R         what two of three channels agree on, in each round of the trace in R\n"
+    ++ codes "  bus629 wave T R         the wave of the trace in R, half bit time for half bit time\n"
+    ++ codes "  bus629 unwave T W       the trace whose wave is in W\n"
+    ++ codes "  bus629 drill N          make a large input from the number N, at most 9999, run it, and tell what came of it\n"
+    ++ codes "  bus629 --help           this text\n"
+    ++ codes "  bus629 --version        the version of the program, and of each text that it reads and writes\n"
+    ++ codes "\n"
+    ++ codes "The status is 0 for a yes or an answer, 1 for a no, 2 where the words are no command, 3 where the table is refused, 4 where the\n"
+    ++ codes "messages, the trace or the wave are, 5 for a failed read, 6 for a failed write, 7 where memory is refused, 8 for a file past its limit, and\n"
+    ++ codes "9 for a schedule past its limit. A line on standard error says why.\n"
+    ++ codes "\n"
+    ++ codes "docs/BUS.md has the rules of the bus, docs/FORMATS.md the texts, lines and statuses, docs/CLAIMS.md what is proved; examples/ has tables\n"
+    ++ codes "to try.\n"
+
+-- The version of the program, and those of the texts that it reads and writes.
+unfoldable pub version_text : List ℕ
+version_text = codes "bus629 1.0.0 (TABLE 1, MESSAGES 1, TRACE 1 and 2, WAVE 1, CABLE 1)\n"
+
+-- What is told.
+abbrev pub itself_text : About → List ℕ
+itself_text Help = help_text
+itself_text Version = version_text
