@@ -18,21 +18,24 @@ IsAcceptedWith table least most = (mode : Mode) × (verdict_of table ≡ Accept 
 
 -- That it is accepted.
 abbrev pub accepted_line : List ℕ
-accepted_line = codes "The table is accepted: its senders take turns, and no two of them ever talk over each other.\n"
+accepted_line = codes "The table is accepted: from a settled start, with no delay on the way, its senders take turns and no two of them talk over each other.\n"
 
 -- How long its cycles are.
 abbrev pub cycles_line : Mode → ℕ → ℕ → List ℕ
 cycles_line Aperiodic least most =
-    codes "The shortest cycle, of the shortest messages, takes " ++ time_text least ++ codes ", and the longest takes " ++ time_text most ++ codes ".\n"
+    codes "The shortest cycle, of the shortest messages, takes " ++ time_text least
+    ++ codes ", and the longest takes " ++ time_text most ++ codes ".\n"
 cycles_line Periodic least most =
     codes "Each cycle takes " ++ time_text most ++ codes ", the transmit interval, whether messages are short or long.\n"
 
 -- What a spare means.
 abbrev pub spare_meaning : Mode → List ℕ
 spare_meaning Aperiodic =
-    codes ": by so much the transmit interval, TI, could rise, though never above 128000, and the table would still be accepted.\n"
+    codes ": by so much the transmit interval, TI, could rise, though never above " ++ time_text 128000
+    ++ codes ", and the table would still be accepted.\n"
 spare_meaning Periodic =
-    codes ": by so much the transmit interval, TI, could fall, though never below 1000, if the offsets were planned anew.\n"
+    codes ": by so much the transmit interval, TI, could fall, though never below " ++ time_text 1000
+    ++ codes ", if the offsets were planned anew.\n"
 
 -- How much the transmit interval could change.
 abbrev pub spare_line : Mode → ℕ → List ℕ
@@ -41,7 +44,8 @@ spare_line mode spare = codes "The spare is " ++ time_text spare ++ spare_meanin
 -- How much of the bus is used.
 abbrev pub load_line : ℕ → List ℕ
 load_line load =
-    codes "The load is " ++ share_text load ++ codes ": so much of the longest cycle is messages, each as long as it may be; the rest is gaps.\n"
+    codes "The load is " ++ share_text load
+    ++ codes ": so much of the longest cycle is messages, each as long as it may be; the rest is gaps.\n"
 
 -- Where in each cycle a sender starts, where that is fixed.
 abbrev pub start_text : Mode → ℕ → List ℕ
@@ -56,7 +60,7 @@ sender_opening mode number at = codes "Terminal " ++ decimal number ++ start_tex
 abbrev pub sender_figures : (tg short long most : ℕ) → List ℕ
 sender_figures tg short long most =
     codes " has a terminal gap of " ++ time_text tg ++ codes " and sends messages of " ++ time_text short ++ codes " to " ++ time_text long
-    ++ codes "; from one start to its next it waits at most " ++ time_text most ++ codes ".\n"
+    ++ codes "; from one start to its next it waits, without delays, at most " ++ time_text most ++ codes ".\n"
 
 -- The line on a sender of a table.
 abbrev pub line_of : Mode → ℕ → Sender → List ℕ
@@ -66,8 +70,9 @@ line_of mode most sender =
 -- How much delay the table bears.
 abbrev pub delay_line : ℕ → List ℕ
 delay_line delay =
-    codes "The tolerance is " ++ time_text delay ++ codes ": where no terminal hears another later than that, the order holds; "
-    ++ codes "with one bit time more, two could talk over each other, or a turn be lost.\n"
+    codes "The tolerance is " ++ time_text delay
+    ++ codes ": from a common start, where no terminal hears another later than that, the order holds; "
+    ++ codes "with one bit time more, a sender could start late, two could talk over each other, or a turn be lost.\n"
 
 -- The same where there may be no greatest delay.
 abbrev pub tolerance_line : Option ℕ → List ℕ

@@ -7,11 +7,13 @@ use Rattle.bus_explain.specs.Times.{time_text}
 
 -- `TI n`
 abbrev pub interval_line : ℕ → List ℕ
-interval_line ti = codes "TI " ++ decimal ti ++ codes ": change the transmit interval to " ++ time_text ti ++ codes ", the nearest that is accepted.\n"
+interval_line ti = codes "TI " ++ decimal ti ++ codes ": change the transmit interval to " ++ time_text ti
+    ++ codes ", the nearest that is accepted.\n"
 
 -- `SG n`
 abbrev pub synchronization_line : ℕ → List ℕ
-synchronization_line sg = codes "SG " ++ decimal sg ++ codes ": raise the synchronization gap to " ++ time_text sg ++ codes ", the least that is accepted.\n"
+synchronization_line sg = codes "SG " ++ decimal sg ++ codes ": raise the synchronization gap to " ++ time_text sg
+    ++ codes ", the least that is accepted.\n"
 
 -- `TG terminal n`
 abbrev pub gap_line : (terminal tg : ℕ) → List ℕ
@@ -42,7 +44,7 @@ advice_line (Plan ti) = plan_line ti
 
 -- What stands before advices, of which there may be none.
 abbrev pub advices_head : Bool → List ℕ
-advices_head true = codes "No change of one number makes the table accepted.\n"
+advices_head true = codes "There is no advice: none of the changes that explain looks for makes the table accepted.\n"
 advices_head false = codes "Each of these changes alone makes the table accepted:\n"
 
 -- All that is said of advices.

@@ -14,24 +14,24 @@ range_text before least most = before ++ time_text least ++ codes " to " ++ time
 abbrev pub sender_text : Mode → List ℕ
 sender_text Aperiodic = range_text (codes "SENDER n TG g: n is the number of a terminal that sends, 1 to 128, and g its terminal gap, ") 8 256
 sender_text Periodic =
-    range_text
-    (codes "SENDER n TG g AT a: n is the number of a terminal that sends, 1 to 128, a its offset, 0 to 127999, and g its terminal gap, ") 8 256
+    codes "SENDER n TG g AT a: n is the number of a terminal that sends, 1 to 128, g its terminal gap, " ++ time_text 8 ++ codes " to "
+    ++ time_text 256 ++ codes ", and a its offset, " ++ time_text 0 ++ codes " to " ++ time_text 127999 ++ codes "\n"
 
 -- A SEND line.
 abbrev pub send_text : List ℕ
 send_text =
     codes "SEND l e least most: a wordstring that it sends, with the label l, three hexadecimal digits, the extension e, one digit, "
-    ++ codes "and at least and at most so many data words, 0 to 256\n"
+    ++ codes "and at least and at most so many data words, 0 to 256, least not above most\n"
 
 -- A TAKE line.
 abbrev pub take_text : List ℕ
 take_text =
     codes "TAKE l e first count: data words that it takes, of the label l, three hexadecimal digits, and the extension e, one digit, or * for any, "
-    ++ codes "from the word first on, 0 to 255, and count words, 1 to 256\n"
+    ++ codes "from the word first on, counted from 0 to 255, and count words, 1 to 256\n"
 
 -- The form of a line of a keyword, in a table of this mode.
 abbrev pub form_text : Mode → Keyword → List ℕ
-form_text mode keywords.Table = codes "TABLE 1: the format\n"
+form_text mode keywords.Table = codes "TABLE 1: the first line of every table text\n"
 form_text mode keywords.Mode = codes "MODE m: m is aperiodic, where gaps tell who may start, or periodic, where offsets do\n"
 form_text mode keywords.Ti = range_text (codes "TI n: n is the transmit interval, ") 1000 128000
 form_text mode keywords.Sg = range_text (codes "SG n: n is the synchronization gap, ") 9 1024

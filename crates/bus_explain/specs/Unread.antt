@@ -14,8 +14,8 @@ abbrev pub reason_text : Reason → List ℕ
 reason_text Ended = codes "the text ends before the table is whole.\n"
 reason_text NoKeyword = codes "a line that begins so can't stand here.\n"
 reason_text Fields = codes "it hasn't the fields of its form.\n"
-reason_text Spelling = codes "a field isn't written as its form asks.\n"
-reason_text Range = codes "a number is out of its range, or the least number of data words is above the most.\n"
+reason_text Spelling = codes "a field isn't written as its form asks; numbers are decimal digits, without a sign or a leading zero.\n"
+reason_text Range = codes "a number isn't within what its form allows.\n"
 
 -- The form of a line of a keyword, where it may stand.
 abbrev pub form_where : Stop → Keyword → List ℕ

@@ -22,7 +22,7 @@ whole_text (NumberTwice terminal) =
     terminal_text (codes "two terminals have the number ") terminal (codes ".\nGive one of them another number, from 1 to 128.\n")
 whole_text (GapTwice terminal) =
     terminal_text (codes "an earlier sender has the terminal gap, TG, of terminal ") terminal
-    (codes ".\nGive one of them another terminal gap, from 8 to 256 bit times, which no other sender has.\n")
+    (codes ".\nGive one of them a terminal gap that no other sender has.\n")
 whole_text (GapNotShort terminal) =
     terminal_text (codes "the synchronization gap, SG, isn't above the terminal gap, TG, of terminal ") terminal
     (codes ".\nLower this terminal gap, or raise the synchronization gap.\n")

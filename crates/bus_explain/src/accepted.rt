@@ -63,15 +63,33 @@ fn put_spare_meaning<K: Sink>(text: &mut TextBuffer, sink: &mut K, mode: Mode)
     ensures { Adds K.held K.faults sink.old sink.new text.old text.new (accepted.spare_meaning mode) }
 {
     match mode {
-        Mode::Aperiodic => text.put(
-            sink,
-            b": by so much the transmit interval, TI, could rise, though never above 128000, and the table would still be accepted.\n",
-        ),
-        Mode::Periodic => text.put(
-            sink,
-            b": by so much the transmit interval, TI, could fall, though never below 1000, if the offsets were planned anew.\n",
-        ),
+        Mode::Aperiodic => put_rise(text, sink),
+        Mode::Periodic => put_fall(text, sink),
     }
+}
+
+/// Puts how far the transmit interval could rise.
+fn put_rise<K: Sink>(text: &mut TextBuffer, sink: &mut K)
+    ensures { Adds K.held K.faults sink.old sink.new text.old text.new (accepted.spare_meaning Aperiodic) }
+{
+    text.put(
+        sink,
+        b": by so much the transmit interval, TI, could rise, though never above ",
+    );
+    put_time(text, sink, 128_000);
+    text.put(sink, b", and the table would still be accepted.\n");
+}
+
+/// Puts how far the transmit interval could fall.
+fn put_fall<K: Sink>(text: &mut TextBuffer, sink: &mut K)
+    ensures { Adds K.held K.faults sink.old sink.new text.old text.new (accepted.spare_meaning Periodic) }
+{
+    text.put(
+        sink,
+        b": by so much the transmit interval, TI, could fall, though never below ",
+    );
+    put_time(text, sink, 1000);
+    text.put(sink, b", if the offsets were planned anew.\n");
 }
 
 /// Puts how much of the bus is used.
@@ -131,7 +149,10 @@ fn put_figures<K: Sink>(
     put_time(text, sink, short as u128);
     text.put(sink, b" to ");
     put_time(text, sink, long as u128);
-    text.put(sink, b"; from one start to its next it waits at most ");
+    text.put(
+        sink,
+        b"; from one start to its next it waits, without delays, at most ",
+    );
     put_time(text, sink, most as u128);
     text.put(sink, b".\n");
 }
@@ -182,11 +203,11 @@ fn put_delay<K: Sink>(text: &mut TextBuffer, sink: &mut K, delay: u64)
     put_time(text, sink, delay as u128);
     text.put(
         sink,
-        b": where no terminal hears another later than that, the order holds; ",
+        b": from a common start, where no terminal hears another later than that, the order holds; ",
     );
     text.put(
         sink,
-        b"with one bit time more, two could talk over each other, or a turn be lost.\n",
+        b"with one bit time more, a sender could start late, two could talk over each other, or a turn be lost.\n",
     );
 }
 
@@ -209,7 +230,7 @@ pub fn write_accepted<K: Sink>(
     let mut text = TextBuffer::new();
     text.put(
         sink,
-        b"The table is accepted: its senders take turns, and no two of them ever talk over each other.\n",
+        b"The table is accepted: from a settled start, with no delay on the way, its senders take turns and no two of them talk over each other.\n",
     );
     put_cycles(&mut text, sink, mode, least, most);
     put_spare(&mut text, sink, mode, spare);

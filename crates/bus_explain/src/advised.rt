@@ -117,7 +117,10 @@ fn put_head<K: Sink>(text: &mut TextBuffer, sink: &mut K, none: bool)
     ensures { Adds K.held K.faults sink.old sink.new text.old text.new (advised.advices_head none) }
 {
     if none {
-        text.put(sink, b"No change of one number makes the table accepted.\n");
+        text.put(
+            sink,
+            b"There is no advice: none of the changes that explain looks for makes the table accepted.\n",
+        );
     } else {
         text.put(
             sink,

@@ -1,5 +1,6 @@
 //! The forms of the lines of a table text, with their kinds and ranges.
 ghost use Rattle.bus_outer.specs.Texts.{Adds};
+ghost use Rattle.bus_table.specs.declared.mode.Mode.TheVariants.{Periodic};
 ghost use Rattle.bus_explain.specs.Forms as forms;
 
 use crate::times::put_time;
@@ -29,14 +30,26 @@ fn put_sender<K: Sink>(text: &mut TextBuffer, sink: &mut K, mode: Mode)
             8,
             256,
         ),
-        Mode::Periodic => put_range(
-            text,
-            sink,
-            b"SENDER n TG g AT a: n is the number of a terminal that sends, 1 to 128, a its offset, 0 to 127999, and g its terminal gap, ",
-            8,
-            256,
-        ),
+        Mode::Periodic => put_offset_sender(text, sink),
     }
+}
+
+/// Puts the form of a SENDER line of a periodic table.
+fn put_offset_sender<K: Sink>(text: &mut TextBuffer, sink: &mut K)
+    ensures { Adds K.held K.faults sink.old sink.new text.old text.new (forms.sender_text Periodic) }
+{
+    text.put(
+        sink,
+        b"SENDER n TG g AT a: n is the number of a terminal that sends, 1 to 128, g its terminal gap, ",
+    );
+    put_time(text, sink, 8);
+    text.put(sink, b" to ");
+    put_time(text, sink, 256);
+    text.put(sink, b", and a its offset, ");
+    put_time(text, sink, 0);
+    text.put(sink, b" to ");
+    put_time(text, sink, 127_999);
+    text.put(sink, b"\n");
 }
 
 /// Puts the form of a SEND line.
@@ -49,7 +62,7 @@ fn put_send<K: Sink>(text: &mut TextBuffer, sink: &mut K)
     );
     text.put(
         sink,
-        b"and at least and at most so many data words, 0 to 256\n",
+        b"and at least and at most so many data words, 0 to 256, least not above most\n",
     );
 }
 
@@ -63,7 +76,7 @@ fn put_take<K: Sink>(text: &mut TextBuffer, sink: &mut K)
     );
     text.put(
         sink,
-        b"from the word first on, 0 to 255, and count words, 1 to 256\n",
+        b"from the word first on, counted from 0 to 255, and count words, 1 to 256\n",
     );
 }
 
@@ -72,7 +85,7 @@ pub fn put_form<K: Sink>(text: &mut TextBuffer, sink: &mut K, mode: Mode, keywor
     ensures { Adds K.held K.faults sink.old sink.new text.old text.new (forms.form_text mode keyword) }
 {
     match keyword {
-        Keyword::Table => text.put(sink, b"TABLE 1: the format\n"),
+        Keyword::Table => text.put(sink, b"TABLE 1: the first line of every table text\n"),
         Keyword::Mode => text.put(
             sink,
             b"MODE m: m is aperiodic, where gaps tell who may start, or periodic, where offsets do\n",

@@ -34,7 +34,7 @@ fn put_short_cycle<K: Sink>(text: &mut TextBuffer, sink: &mut K, least: u64, mis
     text.put(sink, b".\n");
     text.put(
         sink,
-        b"In such a cycle a sender's turn comes before its interval is over, and another goes first: two could talk over each other.\n",
+        b"In such a cycle a sender's turn comes before its interval is over: it starts late, or another goes first, and two may talk over each other.\n",
     );
 }
 
@@ -57,7 +57,7 @@ fn put_small_gap<K: Sink>(
     text.put(sink, b".\n");
     text.put(
         sink,
-        b"The gap lasts from the end of the longest message of the sender before it to its own offset, AT; an overlap counts below zero.\n",
+        b"The gap lasts from the end of the longest message of the sender before it to its own next start; an overlap counts below zero.\n",
     );
 }
 
@@ -83,7 +83,7 @@ fn put_no_sync<K: Sink>(
     text.put(sink, b".\n");
     text.put(
         sink,
-        b"No gap before another sender has a synchronization gap either, so that this terminal never learns that it may start.\n",
+        b"Nor is there a gap of SG before another sender, so this terminal can start late, or miss its turn.\n",
     );
 }
 

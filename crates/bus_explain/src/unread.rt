@@ -19,11 +19,11 @@ fn put_reason<K: Sink>(text: &mut TextBuffer, sink: &mut K, reason: Reason)
         Reason::Ended => text.put(sink, b"the text ends before the table is whole.\n"),
         Reason::Keyword => text.put(sink, b"a line that begins so can't stand here.\n"),
         Reason::Fields => text.put(sink, b"it hasn't the fields of its form.\n"),
-        Reason::Spelling => text.put(sink, b"a field isn't written as its form asks.\n"),
-        Reason::Range => text.put(
+        Reason::Spelling => text.put(
             sink,
-            b"a number is out of its range, or the least number of data words is above the most.\n",
+            b"a field isn't written as its form asks; numbers are decimal digits, without a sign or a leading zero.\n",
         ),
+        Reason::Range => text.put(sink, b"a number isn't within what its form allows.\n"),
     }
 }
 

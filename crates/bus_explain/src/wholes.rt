@@ -78,7 +78,7 @@ fn put_whole<K: Sink>(text: &mut TextBuffer, sink: &mut K, reason: WholeReason)
             sink,
             b"an earlier sender has the terminal gap, TG, of terminal ",
             terminal,
-            b".\nGive one of them another terminal gap, from 8 to 256 bit times, which no other sender has.\n",
+            b".\nGive one of them a terminal gap that no other sender has.\n",
         ),
         WholeReason::GapNotShort(terminal) => put_terminal(
             text,

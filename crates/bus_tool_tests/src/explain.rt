@@ -4,30 +4,30 @@ use bus_tool::Status;
 use std::test::Fail;
 
 const ACCEPTED: &str =
-    "The table is accepted: its senders take turns, and no two of them ever talk over each other.
+    "The table is accepted: from a settled start, with no delay on the way, its senders take turns and no two of them talk over each other.
 The shortest cycle, of the shortest messages, takes 1030 bit times (515 µs), and the longest takes 1270 bit times (635 µs).
-The spare is 30 bit times (15 µs): by so much the transmit interval, TI, could rise, though never above 128000, and the table would still be accepted.
+The spare is 30 bit times (15 µs): by so much the transmit interval, TI, could rise, though never above 128000 bit times (64000 µs), and the table would still be accepted.
 The load is 72.4 %: so much of the longest cycle is messages, each as long as it may be; the rest is gaps.
 The senders speak in this order:
-Terminal 1 has a terminal gap of 20 bit times (10 µs) and sends messages of 60 bit times (30 µs) to 100 bit times (50 µs); from one start to its next it waits at most 1270 bit times (635 µs).
-Terminal 2 has a terminal gap of 30 bit times (15 µs) and sends messages of 620 bit times (310 µs) to 820 bit times (410 µs); from one start to its next it waits at most 1270 bit times (635 µs).
-The tolerance is 4 bit times (2 µs): where no terminal hears another later than that, the order holds; with one bit time more, two could talk over each other, or a turn be lost.
+Terminal 1 has a terminal gap of 20 bit times (10 µs) and sends messages of 60 bit times (30 µs) to 100 bit times (50 µs); from one start to its next it waits, without delays, at most 1270 bit times (635 µs).
+Terminal 2 has a terminal gap of 30 bit times (15 µs) and sends messages of 620 bit times (310 µs) to 820 bit times (410 µs); from one start to its next it waits, without delays, at most 1270 bit times (635 µs).
+The tolerance is 4 bit times (2 µs): from a common start, where no terminal hears another later than that, the order holds; with one bit time more, a sender could start late, two could talk over each other, or a turn be lost.
 ";
 
 const SAME_OFFSETS: &str =
     "The table is refused: the gap before terminal 2 is 90 bit times (45 µs) shorter than its terminal gap, TG, of 30 bit times (15 µs).
-The gap lasts from the end of the longest message of the sender before it to its own offset, AT; an overlap counts below zero.
+The gap lasts from the end of the longest message of the sender before it to its own next start; an overlap counts below zero.
 Each of these changes alone makes the table accepted:
 PLAN 2000: plan the offsets anew, with a transmit interval of 2000 bit times (1000 µs), the least from the present one on for which there are offsets.
 ";
 
 const GAP_TWICE: &str =
     "The table is wrong as a whole: an earlier sender has the terminal gap, TG, of terminal 2.
-Give one of them another terminal gap, from 8 to 256 bit times, which no other sender has.
+Give one of them a terminal gap that no other sender has.
 ";
 
 const OUT_OF_RANGE: &str =
-    "Line 3 of the table text is refused: a number is out of its range, or the least number of data words is above the most.
+    "Line 3 of the table text is refused: a number isn't within what its form allows.
 The line has to be:
 TI n: n is the transmit interval, 1000 bit times (500 µs) to 128000 bit times (64000 µs)
 ";
