@@ -9,6 +9,7 @@ complete -c bus629 -n 'test (count (commandline -opc)) -eq 1' -f -a plan -d 'Cho
 complete -c bus629 -n 'test (count (commandline -opc)) -eq 1' -f -a run -d 'Run the senders of an accepted table, and write the trace'
 complete -c bus629 -n 'test (count (commandline -opc)) -eq 1' -f -a drop -d 'Run senders that fall silent when their messages are spent'
 complete -c bus629 -n 'test (count (commandline -opc)) -eq 1' -f -a observe -d 'Look at the senders of any table up to a moment'
+complete -c bus629 -n 'test (count (commandline -opc)) -eq 1' -f -a cable -d 'Look at them on a cable, and tell what each terminal hears'
 complete -c bus629 -n 'test (count (commandline -opc)) -eq 1' -f -a drill -d 'Run a large input that a number makes'
 complete -c bus629 -n 'test (count (commandline -opc)) -eq 1' -f -a receive -d 'Tell what each terminal receives of a trace'
 complete -c bus629 -n 'test (count (commandline -opc)) -eq 1' -f -a audit -d 'Hold a trace to a table'

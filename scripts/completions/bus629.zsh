@@ -13,6 +13,7 @@ _bus629() {
     'run:run the senders of an accepted table, and write the trace'
     'drop:run senders that fall silent when their messages are spent'
     'observe:look at the senders of any table up to a moment'
+    'cable:look at them on a cable, and tell what each terminal hears'
     'receive:tell what each terminal receives of a trace'
     'audit:hold a trace to a table'
     'vote:take what two of three channels of a trace agree on'

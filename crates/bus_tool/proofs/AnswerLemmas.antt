@@ -10,8 +10,8 @@ use Rattle.bus_command.specs.Kinds.{kind_of, stage_of}
 use Rattle.bus_command.specs.Stages.{StandsFor}
 use Rattle.bus_command.specs.Outside.{Seen, Outside, both, around, called}
 use Rattle.bus_command.specs.Readers.{Named, First as AtFirst, Second as AtSecond, FailsToRead, SourceCounts, OutCounts, OfTexts}
-use Rattle.bus_tool.specs.Forms.{Form, OnTable, OnMessages, OnTrace, Unwave, Drill, OnItself, Explain, form_of, sources_of}
-use Rattle.bus_tool.specs.Refusals.{Outcome, ToolRefusal, status_of, ends_of, TableMode, Unspaced, WaveText, Uneven, NotAccepted, ShortLast, TooLong}
+use Rattle.bus_tool.specs.Forms.{Form, OnTable, OnMessages, OnTrace, Unwave, Drill, OnItself, Explain, Cable, form_of, sources_of}
+use Rattle.bus_tool.specs.Refusals.{Outcome, ToolRefusal, status_of, ends_of, TableMode, Unspaced, WaveText, Uneven, NotAccepted, ShortLast, TooLong, CableText, CableUnfit}
 use Rattle.bus_tool.specs.Due.{form_due, outcome_for}
 use Rattle.bus_tool.specs.Acts.{DoesForm, Acts}
 use Rattle.bus_tool.specs.InMemory.{IsStatusOf, IsStatusDue}
@@ -46,6 +46,7 @@ of_form Unwave first second o h = h
 of_form (Drill number) first second o h = h
 of_form (OnItself about) first second o h = h
 of_form Explain first second o h = h
+of_form (Cable horizon) first second o h = h
 
 -- an outcome that stands for the one that is due, where nothing failed
 stands_status : (due o : Outcome) (named : Named) (f s f' s' : List ℕ) → StandsFor due o → SourceCounts named (both (steady f) (steady s)) (both (steady f') (steady s')) (kind_of o) → OutCounts counting counting (kind_of o) → o ≢ Usage → IsStatusOf due (status_of o)
@@ -74,6 +75,8 @@ own_no_fault (Uneven one one_count other other_count) = (λ e. cc, λ e. cc)
 own_no_fault (NotAccepted verdict) = (λ e. cc, λ e. cc)
 own_no_fault (ShortLast least ti) = (λ e. cc, λ e. cc)
 own_no_fault (TooLong end) = (λ e. cc, λ e. cc)
+own_no_fault (CableText line reason) = (λ e. cc, λ e. cc)
+own_no_fault (CableUnfit error) = (λ e. cc, λ e. cc)
 
 no_fault_of : (o : Outcome) (form : Option Form) (f s f' s' : List ℕ) → (o ≡ Usage) ↔ IsNone form → IfSome form (λ form. DoesForm form (in_memory f s) (in_memory f' s') o) → (status_of o ≡ status.ReadFault → ⊥) × (status_of o ≡ status.WriteFault → ⊥)
 no_fault_of (ReadFault source) None f s f' s' usage does = absurd (let u : (let o : Outcome = ReadFault source in o) ≡ Usage = usage.1 refl in cc)

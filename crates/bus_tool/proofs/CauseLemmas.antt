@@ -30,13 +30,15 @@ use Rattle.bus_tool.specs.Causes.{Cause, DifferAs, IsRefusal, IsShortLast, IsLon
 use Rattle.bus_tool.specs.Due.{table_for, verdict_outcome, plan_outcome, audit_outcome, spaced_outcome, can_run, can_drop, unwave_due, wave_trace_due}
 use Rattle.bus_tool.specs.Due.{table_answer, messages_answer, inputs_answer, trace_answer, traced_answer, unwave_answer, form_due}
 use Rattle.bus_tool.proofs.ExplainLemmas.{explain_cause}
-use Rattle.bus_tool.specs.Forms.{Form, OnTable, OnMessages, OnTrace, Unwave, Drill, OnItself, Explain, TableCommand, Check, Tolerance, Tidy, Report, Witness, Plan}
+use Rattle.bus_tool.specs.Forms.{Form, OnTable, OnMessages, OnTrace, Unwave, Drill, OnItself, Explain, Cable, TableCommand, Check, Tolerance, Tidy, Report, Witness, Plan}
 use Rattle.bus_tool.specs.Forms.{MessagesCommand, Observe, Run, Drop, TraceCommand, Receive, Audit, Vote, Wave, table_mode, messages_mode}
 use Rattle.bus_tool.specs.Refusals.{Outcome, ToolRefusal, refuse, Unspaced}
 use Rattle.bus_tool.proofs.AnswerLaws.{done_with}
 use Rattle.bus_tool.proofs.ModeLemmas.{mode_read, mode_cause}
 use Rattle.bus_tool.proofs.RunCauses.{NotRun, Differ, Refused, Longer, run_err, NotDropped, Undropped, Shorter, Overlong, drop_err}
 use Rattle.bus_tool.proofs.WaveLemmas.{wave_cause}
+use Rattle.bus_tool.specs.Due.{cable_answer, cable_due}
+use Rattle.bus_tool.proofs.CableLemmas.{CableLaws, cable_cause}
 
 -- a refusal that is due, or the answer to a value
 module _ {Y : Type 0} (P : Outcome → Type 0) (answer : Y → Outcome) where
@@ -167,22 +169,25 @@ unwave_cause laws back first second o h = elim (traced_stop wave_trace_due first
   | inr w ↦ wave_cause back Unwave first second w.0 o (table_valid {R = ToolRefusal} laws first w.0 w.1) w.2
 ]
 
-pub due_has_cause : CauseLaws → WavesReadBack → DueHasCause tool_program
-due_has_cause laws back (OnTable command) first second o h =
+pub due_has_cause : CauseLaws → WavesReadBack → CableLaws → DueHasCause tool_program
+due_has_cause laws back cables (OnTable command) first second o h =
     due_or (λ o. RefusesTexts (Cause (OnTable command)) o first second) (table_answer command) (table_for (table_mode command) first) o
     (λ table e. table_answer_cause (OnTable command) command first second table)
     (λ e. mode_cause laws (OnTable command) (table_mode command) first second o e) h
-due_has_cause laws back (OnMessages command) first second o h =
+due_has_cause laws back cables (OnMessages command) first second o h =
     due_or (λ o. RefusesTexts (Cause (OnMessages command)) o first second) (inputs_answer command) (inputs_by (table_for (messages_mode command)) first second) o
     (λ inputs e. messages_answer_cause laws command first second inputs e)
     (λ e. inputs_cause laws command first second o e) h
-due_has_cause laws back (OnTrace command) first second o h =
+due_has_cause laws back cables (OnTrace command) first second o h =
     due_or (λ o. RefusesTexts (Cause (OnTrace command)) o first second) (traced_answer command) (traced_due first second) o
     (λ traced e. trace_answer_cause laws command first second traced e)
     (λ e. traced_cause laws (OnTrace command) first second o e) h
-due_has_cause laws back Unwave first second o h =
+due_has_cause laws back cables Unwave first second o h =
     due_or (λ o. RefusesTexts (Cause Unwave) o first second) unwave_answer (unwave_due first second) o (λ traced e. tt)
     (λ e. unwave_cause laws back first second o e) h
-due_has_cause laws back (Drill number) first second o h = subst (λ o. RefusesTexts (Cause (Drill number)) o first second) h tt
-due_has_cause laws back Explain first second o h = explain_cause first second o h
-due_has_cause laws back (OnItself about) first second o h = subst (λ o. RefusesTexts (Cause (OnItself about)) o first second) h tt
+due_has_cause laws back cables Explain first second o h = explain_cause first second o h
+due_has_cause laws back cables (OnItself about) first second o h = subst (λ o. RefusesTexts (Cause (OnItself about)) o first second) h tt
+due_has_cause laws back cables (Drill number) first second o h = subst (λ o. RefusesTexts (Cause (Drill number)) o first second) h tt
+due_has_cause laws back cables (Cable horizon) first second o h =
+    due_or (λ o. RefusesTexts (Cause (Cable horizon)) o first second) cable_answer (cable_due first second) o (λ inputs e. tt)
+    (λ e. cable_cause laws cables (Cable horizon) first second o e) h

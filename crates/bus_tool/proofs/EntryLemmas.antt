@@ -23,7 +23,7 @@ use Rattle.bus_table.specs.declared.line.SendLine.{SendLine}
 use Rattle.bus_table.specs.Tables.{Sender, Table, Hand}
 use Rattle.bus_table.specs.Valid.{is_valid}
 use Rattle.bus_table.proofs.ValidLaws.{valid_facts}
-use Rattle.bus_medium.specs.Lawful.{IsLawful}
+use Rattle.bus_medium.specs.Lawful.{Station, IsRuled, IsDue}
 use Rattle.bus_medium.proofs.StationLaws.{HasSender, stations_are_of_senders}
 use Rattle.bus_medium.specs.Timings.{quiet_of, stations_of}
 use Rattle.bus_trace.specs.Traces.{Recording, IsTrace}
@@ -33,7 +33,7 @@ use Rattle.bus_command.proofs.FewHands.{hands_few}
 use Rattle.bus_tool.proofs.TraceLemmas.{observed_is_trace}
 
 -- ---- a messages text has no more items than bytes
-item_lines : (items : List Item) (lines : List Line) → AreItemLines items lines → length items ≡ length lines
+pub item_lines : (items : List Item) (lines : List Line) → AreItemLines items lines → length items ≡ length lines
 item_lines [] [] h = refl
 item_lines [] (line ∷ lines) h = absurd h
 item_lines (item ∷ items) [] h = absurd h
@@ -70,9 +70,10 @@ item_line (other ∷ items) [] item h i = absurd h
 item_line (other ∷ items) (line ∷ lines) item h (inl same) = (line, subst (λ o. IsItemLine o line.fields) (sym same) h.0)
 item_line (other ∷ items) (line ∷ lines) item h (inr i) = item_line items lines item h.1 i
 
-text_line : (items : List Item) (lines : List Line) (item : Item) → AreMessageLines items lines → In item items → (line : Line) × IsItemLine item line.fields
-text_line items [] item h i = absurd h
-text_line items (line ∷ lines) item h i = item_line items lines item h.1 i
+-- the lines of the items of a messages text
+message_items : (items : List Item) (lines : List Line) → AreMessageLines items lines → (own : List Line) × AreItemLines items own
+message_items items [] h = absurd h
+message_items items (line ∷ lines) h = (lines, h.1)
 
 -- each has few words
 abbrev AreShort : List (List ℕ) → Type 0
@@ -151,10 +152,10 @@ made_of table items hand message i k =
 in_range : (table : Table) (valid : IsTrue (is_valid table)) (sender : Sender) → In sender table.senders → SenderFacts table sender
 in_range table valid sender there = of_each (SenderFacts table) table.senders (valid_facts table valid).senders sender there
 
-wordstrings : (table : Table) (items : List Item) (text : List ℕ) (message : Message) → IsTrue (is_valid table) → IsMessagesText items text → IsMade table items message → AllByRecursion IsWordstring message
-wordstrings table items text message valid stands made =
+wordstrings : (table : Table) (items : List Item) (lines : List Line) (message : Message) → IsTrue (is_valid table) → AreItemLines items lines → IsMade table items message → AllByRecursion IsWordstring message
+wordstrings table items lines message valid stands made =
     let facts = in_range table valid made.sender made.there in
-    let line = text_line items (entries_of text) made.item stands made.given in
+    let line = item_line items lines made.item stands made.given in
     let sends = and_parts (is_between 1 most_strings (length made.sender.sends)) _ (lines_of made.sender facts.in_range) in
     subst (AllByRecursion IsWordstring) (sym made.same)
     (each_string made.sender.sends made.item.strings sends.1 (item_short made.item line.1.ranges) (strings_low made.item.strings line.1.words line.1.strings))
@@ -164,23 +165,23 @@ message_fits s [] m h i = absurd i
 message_fits s (n ∷ ms) m h (inl same) = ap (fits s) same ∙ (and_parts (fits s n) _ h).0
 message_fits s (n ∷ ms) m h (inr i) = message_fits s ms m (and_parts (fits s n) _ h).1 i
 
-is_transmission : (table : Table) (items : List Item) (text : List ℕ) (until : ℕ) (list : List Entry) → IsTrue (is_valid table) → IsTrue (are_hands table.senders (hands_of table items)) → IsMessagesText items text
-    → IsLawful (quiet_of table) (stations_of table (hands_of table items)) until list → (x : Entry) → In x list → IsTransmission x
-is_transmission table items text until list valid dealt stands lawful x i =
+is_transmission : (due : List Entry → Station → ℕ → Type 0) (table : Table) (items : List Item) (lines : List Line) (until : ℕ) (list : List Entry) → IsTrue (is_valid table) → IsTrue (are_hands table.senders (hands_of table items)) → AreItemLines items lines
+    → IsRuled due (stations_of table (hands_of table items)) until list → (x : Entry) → In x list → IsTransmission x
+is_transmission due table items lines until list valid dealt stands lawful x i =
     let next = (lawful.sent x i).1 in
     let seat : HasSender table (hands_of table items) next.sender = stations_are_of_senders table (hands_of table items) next.sender valid dealt next.there in
     let facts = in_range table valid seat.sender seat.there in
     let there : In x.message seat.is.hand.messages = subst (In x.message) seat.is.messages (at_in next.sender.hand _ x.message next.message) in
-    let lines = counted seat.sender.sends (lines_of seat.sender facts.in_range) in
+    let count = counted seat.sender.sends (lines_of seat.sender facts.in_range) in
     let same = matched allows seat.sender.sends x.message (message_fits seat.sender seat.is.hand.messages x.message seat.is.fit there) in
     let number : x.terminal ≡ seat.sender.number = sym next.number ∙ seat.is.number in
     record {
       positive = omega (arith, number, facts.number_least);
       low = omega (arith, number, facts.number_most);
       message = record {
-        some = omega (arith, same, lines.least);
-        few = omega (arith, same, lines.most);
-        strings = wordstrings table items text x.message valid stands (made_of table items seat.is.hand x.message seat.is.dealt there);
+        some = omega (arith, same, count.least);
+        few = omega (arith, same, count.most);
+        strings = wordstrings table items lines x.message valid stands (made_of table items seat.is.hand x.message seat.is.dealt there);
       };
     }
 
@@ -189,11 +190,16 @@ each P [] h = tt
 each P (x ∷ list) h = (h x (inl refl), each P list (λ y i. h y (inr i)))
 
 -- ---- the recording of what is observed is a trace
+pub all_transmissions : (due : List Entry → Station → ℕ → Type 0) (table : Table) (items : List Item) (lines : List Line) (until : ℕ) (list : List Entry) → IsTrue (is_valid table)
+    → IsTrue (are_hands table.senders (hands_of table items)) → AreItemLines items lines → IsRuled due (stations_of table (hands_of table items)) until list → AllByRecursion IsTransmission list
+all_transmissions due table items lines until list valid dealt stands ruled = each IsTransmission list (is_transmission due table items lines until list valid dealt stands ruled)
+
 pub observed_recording : (table : Table) (items : List Item) (text : List ℕ) (until : ℕ) (trace : Recording) → IsTrue (is_valid table) → IsTrue (are_hands table.senders (hands_of table items)) → IsMessagesText items text → length text ≤ text_limit → until ≤ horizon_limit
     → IsObserved table (hands_of table items) until trace → IsTrace trace
 observed_recording table items text until trace valid dealt stands short within o =
     let items_few = few_items items text stands in
     let few = hands_few items table.senders (omega (arith, items_few, short)) in
-    let ranged = each IsTransmission trace.list (is_transmission table items text until trace.list valid dealt stands o.lawful) in
+    let own = message_items items (entries_of text) stands in
+    let ranged = all_transmissions (IsDue (quiet_of table)) table items own.0 until trace.list valid dealt own.1 o.lawful in
     let is = observed_is_trace table (hands_of table items) until trace.holds trace.list within few o.holds o.lawful ranged in
     subst (λ (n : ℕ). IsTrace (record { horizon = n; holds = trace.holds; list = trace.list })) (sym o.horizon) is

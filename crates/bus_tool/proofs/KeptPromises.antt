@@ -35,6 +35,7 @@ use Rattle.bus_tool.specs.Refusals.{Outcome, ends_of, status_of}
 use Rattle.bus_tool.specs.TableClaims.{GivesVerdict, TellsSettled}
 use Rattle.bus_tool.specs.TraceClaims.{GivesFinding, GivesVotes}
 use Rattle.bus_tool.proofs.AnswerLaws.{written_audit}
+use Rattle.bus_tool.proofs.CableClaim.{CableClaimLaws, cable_claim}
 use Rattle.bus_tool.proofs.CheckClaim.{told_settled}
 use Rattle.bus_tool.proofs.ExplainLemmas.{explain_claim}
 use Rattle.bus_tool.proofs.DropClaim.{drop_claim}
@@ -63,6 +64,7 @@ pub record PromiseLaws : Type 0 where
   pub voted : RunsAreVoted
   pub reach : ToleranceLaws
   pub works : AdvicesWork
+  pub cables : CableClaimLaws
 
 -- ---- `drill`
 drill_form : (word : List ℕ) (number : ℕ) → IsDecimal word number → number ≤ most_number → two_words (codes "drill") word ≡ Some (Drill number)
@@ -143,5 +145,6 @@ keeps laws call outcome acts = record {
   wave = λ table trace h. wave_claim laws.wave call outcome table trace acts h;
   unwave = λ table trace h. unwave_claim laws.wave call outcome table trace acts h;
   explain = λ text h. explain_claim laws.works call outcome text acts h;
+  cable = λ table cable items until h. cable_claim laws.cables call outcome table cable items until acts h;
   itself = λ about h. itself_claim call outcome about acts h;
 }

@@ -27,4 +27,6 @@ pub mod ObserveClaim
 pub mod RunClaim
 pub mod DropClaim
 pub mod WaveClaim
+pub mod CableLemmas
+pub mod CableClaim
 pub mod KeptPromises

@@ -8,6 +8,12 @@ use Rattle.bus_table.specs.Tables.{Table, Hand}
 use Rattle.bus_table.specs.Valid.{is_valid}
 use Rattle.bus_medium.specs.Lawful.{IsLawful}
 use Rattle.bus_medium.specs.LawfulLaws.{OneListOfATable}
+use Rattle.bus_medium.specs.CableLaws.{OneCableListOfATable}
+use Rattle.bus_medium.specs.CableLawful.{IsLawfulOnCable}
+use Rattle.bus_cable.specs.Cables.{delays_on, wakes_on}
+use Rattle.bus_tool.specs.Due.{CableInputs, cable_hands, cable_answer, cable_due}
+use Rattle.bus_tool.specs.Texts.{IsOnCable, IsCableAnswerText, on_cable_text}
+use Rattle.bus_tool.proofs.CableLemmas.{both_read, cable_unwritten}
 use Rattle.bus_medium.specs.Timings.{quiet_of, stations_of}
 use Rattle.bus_schedule.specs.Closed.{closed, closed_end}
 use Rattle.bus_dropout.specs.DropOut.{dropout, drop_end}
@@ -29,7 +35,7 @@ use Rattle.bus_tool.specs.Drills.{drill_line}
 use Rattle.bus_tool.specs.Explanations.{explanation}
 use Rattle.bus_tool.specs.Itself.{itself_text}
 use Rattle.bus_tool.proofs.ExplainLemmas.{size_unwritten}
-use Rattle.bus_tool.specs.Forms.{Form, OnTable, OnMessages, OnTrace, Unwave, Drill, OnItself, Explain, MessagesCommand, Observe, Run, Drop, form_of, table_mode, messages_mode}
+use Rattle.bus_tool.specs.Forms.{Form, OnTable, OnMessages, OnTrace, Unwave, Drill, OnItself, Explain, Cable, MessagesCommand, Observe, Run, Drop, form_of, table_mode, messages_mode}
 use Rattle.bus_tool.specs.Refusals.{Outcome, ToolRefusal, refuse, TableMode}
 use Rattle.bus_tool.specs.Texts.{holds_of, IsObserved, IsObserveText, IsRunRecording, IsDropRecording, IsRanText, IsMessagesText, IsInputsText, IsTableText, IsTracedText, IsUnwavedText, IsExplanation}
 use Rattle.bus_tool.specs.Texts.{table_answer_text, trace_answer_text, run_text, IsFormText, IsTextFor}
@@ -43,6 +49,7 @@ pub record TextLaws : Type 0 where
   pub reads_table : ReadsATable
   pub give_hands : FittingItemsGiveHands
   pub one_list : OneListOfATable
+  pub one_cable : OneCableListOfATable
   pub runs : AcceptedIsClosed
   pub drops : DropOutIsLawful
   pub even_agree : EvenHandsAgree
@@ -108,6 +115,38 @@ messages_once laws Run inputs d text other h k =
 messages_once laws Drop inputs d text other h k =
     k.text_is ∙ ap (run_text inputs.table) (dropped_is inputs k.recording k.ran ∙ sym (dropped_is inputs h.recording h.ran)) ∙ sym h.text_is
 
+-- ---- a table and a cable
+record CableDealt (inputs : CableInputs) : Type 0 where
+  valid : IsTrue (is_valid inputs.table)
+  dealt : IsTrue (are_hands inputs.table.senders (cable_hands inputs))
+
+cable_dealt : TextLaws → (first second : List ℕ) (inputs : CableInputs) → cable_due first second ≡ Ok inputs → CableDealt inputs
+cable_dealt laws first second inputs h =
+    let read = both_read first second inputs h in
+    let valid = (laws.reads_table first inputs.table (table_read {R = ToolRefusal} first inputs.table read.table_is)).1 in
+    let fits : IsOk (items_fit inputs.table inputs.items) = subst IsOk (sym read.cable_is.fits) refl in
+    record { valid = valid; dealt = laws.give_hands inputs.table inputs.items valid fits }
+
+on_cable_is : (horizon : ℕ) (inputs : CableInputs) (list : List Entry) (recording : Recording)
+    → ((other : List Entry) → IsLawfulOnCable (quiet_of inputs.table) (delays_on inputs.cable) (wakes_on inputs.cable) (stations_of inputs.table (cable_hands inputs)) horizon other → other ≡ list)
+    → IsOnCable inputs.table inputs.cable (cable_hands inputs) horizon recording → recording ≡ recorded horizon (holds_of (cable_hands inputs)) list
+on_cable_is horizon inputs list recording only h =
+    ap (λ (n : ℕ). recorded n recording.holds recording.list) h.horizon ∙ ap (λ (l : List Hold). recorded horizon l recording.list) h.holds
+    ∙ ap (recorded horizon (holds_of (cable_hands inputs))) (only recording.list h.lawful)
+
+cable_once : TextLaws → (horizon : ℕ) (inputs : CableInputs) → CableDealt inputs → (text other : List ℕ) → IsCableAnswerText horizon inputs text → IsCableAnswerText horizon inputs other → other ≡ text
+cable_once laws horizon inputs d text other h k =
+    let one = laws.one_cable inputs.table (cable_hands inputs) (delays_on inputs.cable) (wakes_on inputs.cable) horizon d.valid d.dealt in
+    k.text_is
+    ∙ ap (on_cable_text inputs.table inputs.cable) (on_cable_is horizon inputs one.0 k.recording one.2 k.observed ∙ sym (on_cable_is horizon inputs one.0 h.recording one.2 h.observed))
+    ∙ sym h.text_is
+
+cable_has : TextLaws → (horizon : ℕ) (inputs : CableInputs) → CableDealt inputs → (text : List ℕ) × IsCableAnswerText horizon inputs text
+cable_has laws horizon inputs d =
+    let one = laws.one_cable inputs.table (cable_hands inputs) (delays_on inputs.cable) (wakes_on inputs.cable) horizon d.valid d.dealt in
+    let recording : Recording = recorded horizon (holds_of (cable_hands inputs)) one.0 in
+    (on_cable_text inputs.table inputs.cable recording, record { recording = recording; observed = record { horizon = refl; holds = refl; lawful = one.1 }; text_is = refl })
+
 -- ---- the forms
 same_value : {Y : Type 0} (due : Result Y Outcome) (x y : Y) → due ≡ Ok x → due ≡ Ok y → y ≡ x
 same_value due x y h k = cc
@@ -125,6 +164,9 @@ form_once laws Unwave first second text other h k =
 form_once laws (Drill number) first second text other h k = k ∙ sym h
 form_once laws (OnItself about) first second text other h k = k ∙ sym h
 form_once laws Explain first second text other h k = k.3 ∙ ap explanation (same_value (text_due 1 first) h.0 k.0 h.1 k.1) ∙ sym h.3
+form_once laws (Cable horizon) first second text other h k =
+    cable_once laws horizon h.0 (cable_dealt laws first second h.0 h.1) text other h.3
+    (subst (λ inputs. IsCableAnswerText horizon inputs other) (same_value (cable_due first second) h.0 k.0 h.1 k.1) k.3)
 
 once_for : TextLaws → (form : Option Form) (first second text other : List ℕ) → IsTextFor form first second text → IsTextFor form first second other → other ≡ text
 once_for laws None first second text other h k = absurd h
@@ -204,6 +246,9 @@ form_has laws (Drill number) first second h = (drill_line number, refl)
 form_has laws (OnItself about) first second h = (itself_text about, refl)
 form_has laws Explain first second h =
     text_with explain_answer IsExplanation (text_due 1 first) (λ o e. size_unwritten first o e) (λ text e k. (explanation text, refl)) h
+form_has laws (Cable horizon) first second h =
+    text_with cable_answer (IsCableAnswerText horizon) (cable_due first second) (λ o e. cable_unwritten first second o e)
+    (λ inputs e k. cable_has laws horizon inputs (cable_dealt laws first second inputs e)) h
 
 has_for : TextLaws → (form : Option Form) (first second : List ℕ) → is_written (outcome_for form first second) ≡ true → (text : List ℕ) × IsTextFor form first second text
 has_for laws None first second h = absurd cc

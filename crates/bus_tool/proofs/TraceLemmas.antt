@@ -15,7 +15,7 @@ use Rattle.bus_strings.specs.Transmissions.{Precedes, IsByMoment, IsAscending, I
 use Rattle.bus_command.proofs.FewHands.{AreFew}
 use Rattle.bus_tool.proofs.HoldLemmas.{holds_ascend, holds_ranged}
 
-below : (horizon : ℕ) (list : List Entry) → ((x : Entry) → In x list → x.moment < horizon) → AllByRecursion IsTransmission list → AllByRecursion (IsBelow horizon) list
+pub below : (horizon : ℕ) (list : List Entry) → ((x : Entry) → In x list → x.moment < horizon) → AllByRecursion IsTransmission list → AllByRecursion (IsBelow horizon) list
 below horizon [] early ranged = tt
 below horizon (x ∷ list) early ranged =
     (record { moment = early x (inl refl); positive = ranged.0.positive; low = ranged.0.low; message = ranged.0.message }, below horizon list (λ y i. early y (inr i)) ranged.1)

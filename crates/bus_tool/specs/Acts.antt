@@ -7,14 +7,16 @@ use Rattle.bus_table.specs.declared.mode.Mode.{Mode}
 use Rattle.bus_trace.specs.Traces.{Recording}
 use Rattle.bus_command.specs.Acts as command
 use Rattle.bus_command.specs.Acts.{Ends, Program, TellsLine}
+use Rattle.bus_command.specs.declared.outcome.Outcome.TheVariants.{Done}
 use Rattle.bus_command.specs.declared.status.Status.{Status}
+use Rattle.bus_cable.specs.Cables.{Cable}
 use Rattle.bus_command.specs.Outside.{Call, Outside, sink_seen}
 use Rattle.bus_command.specs.Readers.{entire, one_source, by_trace, two_sources}
 use Rattle.bus_tool.specs.Causes.{Cause}
 use Rattle.bus_tool.specs.Due.{form_due, first_refusal, table_answer, messages_answer, trace_answer}
 use Rattle.bus_tool.specs.Forms.{Form, TableCommand, MessagesCommand, TraceCommand, form_of, sources_of}
 use Rattle.bus_tool.specs.Refusals.{Outcome, ToolRefusal, fault_line, status_of}
-use Rattle.bus_tool.specs.Texts.{IsFormText, IsMessagesText, table_answer_text, trace_answer_text}
+use Rattle.bus_tool.specs.Texts.{IsFormText, IsMessagesText, IsOnCableText, table_answer_text, trace_answer_text}
 
 -- The program: its forms, what is due of each, and what each writes.
 abbrev pub tool_program : Program ToolRefusal Form
@@ -58,6 +60,11 @@ abbrev pub EndsOnTrace : {K : Type 0} → SinkGhosts K → TraceCommand → Tabl
 EndsOnTrace ghosts command table trace old new outcome =
     Ends by_trace (trace_answer command table trace) (λ text. text ≡ trace_answer_text command table trace)
     (sink_seen ghosts old) (sink_seen ghosts new) outcome
+
+-- What a command did that has taken its table, cable and hands.
+abbrev pub EndsOnCable : {K : Type 0} → SinkGhosts K → ℕ → Table → Cable → List Hand → K → K → Outcome → Type 0
+EndsOnCable ghosts horizon table cable hands old new outcome =
+    Ends (two_sources entire entire) Done (IsOnCableText horizon table cable hands) (sink_seen ghosts old) (sink_seen ghosts new) outcome
 
 -- What a call came to: an outcome that it acts by, the line of that outcome on `err`, and its status.
 abbrev pub Comes : {E : Type 0} → SinkGhosts E → Call → E → E → Status → Type 0

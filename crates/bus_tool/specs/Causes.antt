@@ -1,6 +1,8 @@
 -- The cause of each refusal of bus629's own, by the relation between a value and its texts and not by how they are read.
 use Rattle.std.specs.Prelude.{◌≡◌, ◌≢◌, ℕ, ◌<◌, false, IsTrue, List, Some, None, Err}
 use Rattle.bus_strings.specs.Items.{Item}
+use Rattle.bus_table.specs.declared.fit.FitError.{FitError}
+use Rattle.bus_table.specs.Fits.{items_fit}
 use Rattle.bus_table.specs.declared.mode.Mode.{Mode}
 use Rattle.bus_table.specs.declared.mode.Mode.TheVariants.{Aperiodic}
 use Rattle.bus_table.specs.Tables.{Table, Hand}
@@ -17,9 +19,11 @@ use Rattle.bus_wave.specs.declared.fault.WaveFault.{WaveFault}
 use Rattle.bus_wave.specs.Spacing.{spaced_of}
 use Rattle.bus_wave.specs.WaveLaws.{IsWaveTrace}
 use Rattle.bus_wave.specs.WaveTexts.{IsWaveText}
+use Rattle.bus_cable.specs.Cables as cables
+use Rattle.bus_cable.specs.Grammar.{IsCableText}
 use Rattle.bus_command.specs.Causes.{IsValidText, AreTextsWith, AreTracedWith}
-use Rattle.bus_tool.specs.Forms.{Form, OnTable, OnMessages, OnTrace, Unwave, Drill, OnItself, Explain, MessagesCommand, Observe, Run, Drop}
-use Rattle.bus_tool.specs.Refusals.{ToolRefusal, TableMode, Unspaced, WaveText, Uneven, NotAccepted, ShortLast, TooLong}
+use Rattle.bus_tool.specs.Forms.{Form, OnTable, OnMessages, OnTrace, Unwave, Drill, OnItself, Explain, Cable, MessagesCommand, Observe, Run, Drop}
+use Rattle.bus_tool.specs.Refusals.{ToolRefusal, TableMode, Unspaced, WaveText, Uneven, NotAccepted, ShortLast, TooLong, CableText, CableUnfit}
 
 -- A valid table has the text, whose mode isn't the one that is needed.
 pub record IsOtherModeText (needed : Mode) (text : List ℕ) : Type 0 where
@@ -32,6 +36,19 @@ pub record IsNoWaveOf (first second : List ℕ) : Type 0 where
   pub table : Table
   pub table_is : IsValidText table first
   pub none : (trace : Recording) → IsWaveTrace table trace → IsWaveText trace second → ⊥
+
+-- No cable and items have the text.
+abbrev pub IsNoCableText : List ℕ → Type 0
+IsNoCableText text = (cable : cables.Cable) (items : List Item) → IsCableText cable items text → ⊥
+
+-- A valid table has the first text, and a cable and items have the second, of which this is the first item that doesn't fit the table.
+pub record IsUnfitOnCable (error : FitError) (first second : List ℕ) : Type 0 where
+  pub table : Table
+  pub cable : cables.Cable
+  pub items : List Item
+  pub table_is : IsValidText table first
+  pub cable_stands : IsCableText cable items second
+  pub why : items_fit table items ≡ Err error
 
 -- The first entry of the trace that is at fault for the table.
 abbrev pub IsUnspacedAt : WaveFault → Table → Recording → Type 0
@@ -69,6 +86,7 @@ IsFormEnd Unwave end table hands = ⊥
 IsFormEnd (Drill number) end table hands = ⊥
 IsFormEnd (OnItself about) end table hands = ⊥
 IsFormEnd Explain end table hands = ⊥
+IsFormEnd (Cable horizon) end table hands = ⊥
 
 -- That end, of an accepted table, which is above its limit.
 pub record IsLongEnd (form : Form) (end : ℕ) (table : Table) (items : List Item) : Type 0 where
@@ -86,3 +104,5 @@ Cause form (Uneven one one_count other other_count) first second =
 Cause form (NotAccepted verdict) first second = AreTextsWith (IsRefusal verdict) first second
 Cause form (ShortLast least ti) first second = AreTextsWith (IsShortLast least ti) first second
 Cause form (TooLong end) first second = AreTextsWith (IsLongEnd form end) first second
+Cause form (CableText line reason) first second = IsNoCableText second
+Cause form (CableUnfit error) first second = IsUnfitOnCable error first second

@@ -29,16 +29,26 @@ use Rattle.bus_wave.specs.Spacing.{spaced_of}
 use Rattle.bus_audit.specs.declared.answer.AuditAnswer.{AuditAnswer}
 use Rattle.bus_audit.specs.declared.answer.AuditAnswer.TheVariants.{Lawful, Breach}
 use Rattle.bus_audit.specs.Breaches.{answer_of}
+use Rattle.bus_text.specs.Refusals.{Refusal}
+use Rattle.bus_strings.specs.Items.{Item}
+use Rattle.bus_table.specs.declared.fit.FitError.{FitError}
+use Rattle.bus_table.specs.Fits.{items_fit}
+use Rattle.bus_table.specs.Hands.{hands_of}
+use Rattle.bus_cable.specs.Cables as cables
+use Rattle.bus_cable.specs.Reading.{cable_reading}
+use Rattle.bus_cable.specs.declared.error.CableError.{CableError}
+use Rattle.bus_cable.specs.declared.error.CableError.TheVariants as cable
 use Rattle.bus_command.specs.declared.inputs.Traced.{Traced}
 use Rattle.bus_command.specs.declared.outcome.Outcome.TheVariants.{Done, Answered, Usage, NoMemory}
 use Rattle.bus_command.specs.Due.{text_within, text_due, table_due, table_refusal_of, Inputs, hands_in, inputs_by, traced_by, traced_due}
 use Rattle.bus_command.specs.Due.{outcome_with}
 use Rattle.bus_command.specs.Stages.{refusal_in}
-use Rattle.bus_tool.specs.Forms.{Form, OnTable, OnMessages, OnTrace, Unwave, Drill, OnItself, Explain}
+use Rattle.bus_tool.specs.Forms.{Form, OnTable, OnMessages, OnTrace, Unwave, Drill, OnItself, Explain, Cable}
 use Rattle.bus_tool.specs.Forms.{TableCommand, Check, Tolerance, Tidy, Report, Witness, Plan}
+use Rattle.bus_command.specs.Readers.{text_limit}
 use Rattle.bus_tool.specs.Forms.{MessagesCommand, Observe, Run, Drop, TraceCommand, Receive, Audit, Vote, Wave}
 use Rattle.bus_tool.specs.Forms.{form_of, wave_limit, table_mode, messages_mode}
-use Rattle.bus_tool.specs.Refusals.{Outcome, refuse, TableMode, Unspaced, WaveText, Uneven, NotAccepted, ShortLast, TooLong}
+use Rattle.bus_tool.specs.Refusals.{Outcome, refuse, TableMode, Unspaced, WaveText, Uneven, NotAccepted, ShortLast, TooLong, CableText, CableUnfit}
 
 -- ---- a table, maybe of one mode
 -- Whether a mode is the one that is needed.
@@ -83,6 +93,52 @@ wave_trace_due table text = text_within wave_limit 2 text >>= λ whole. wave_or_
 -- A table and the trace of a wave.
 abbrev pub unwave_due : List ℕ → List ℕ → Result Traced Outcome
 unwave_due first second = traced_by wave_trace_due first second
+
+-- ---- a table and a cable
+-- What a cable text gives: where the terminals are and when they wake, and the items.
+abbrev pub CableRead : Type 0
+CableRead = cables.Cable × List Item
+
+-- Why a cable text is refused.
+abbrev pub cable_refusal : CableError → Outcome
+cable_refusal (cable.Text line reason) = refuse (CableText line reason)
+cable_refusal cable.Memory = NoMemory
+
+-- What a cable text reads as, or the outcome of its refusal.
+abbrev pub cable_or_refusal : Result CableRead Refusal → Result CableRead Outcome
+cable_or_refusal (Ok read) = Ok read
+cable_or_refusal (Err refusal) = Err (refuse (CableText refusal.line refusal.reason))
+
+-- The cable and the items of the second text.
+abbrev pub cable_text_due : List ℕ → Result CableRead Outcome
+cable_text_due text = text_within text_limit 2 text >>= λ whole. cable_or_refusal (cable_reading whole)
+
+-- They, where each item fits its sender.
+abbrev pub fitting_on_cable : Result (Unit {0}) FitError → CableRead → Result CableRead Outcome
+fitting_on_cable (Ok fit) read = Ok read
+fitting_on_cable (Err error) read = Err (refuse (CableUnfit error))
+
+-- The cable and the items of the second text, each of which fits its sender.
+abbrev pub cable_read_due : Table → List ℕ → Result CableRead Outcome
+cable_read_due table text = cable_text_due text >>= λ read. fitting_on_cable (items_fit table read.1) read
+
+-- A table, a cable, and items that fit the table.
+pub record CableInputs : Type 0 where
+  pub table : Table
+  pub cable : cables.Cable
+  pub items : List Item
+
+-- These together.
+abbrev pub with_cable : Table → CableRead → CableInputs
+with_cable table read = record { table = table; cable = read.0; items = read.1 }
+
+-- The hands of the table's senders.
+abbrev pub cable_hands : CableInputs → List Hand
+cable_hands inputs = hands_of inputs.table inputs.items
+
+-- The table of the first text, and the cable and items of the second, which is looked at only where nothing of the first is refused.
+abbrev pub cable_due : List ℕ → List ℕ → Result CableInputs Outcome
+cable_due first second = table_due first >>= λ table. cable_read_due table second >>= λ read. Ok (with_cable table read)
 
 -- ---- what `run` and `drop` ask of a table and hands
 -- Why hands aren't even.
@@ -194,6 +250,10 @@ text_outcome (Err error) = Answered
 abbrev pub explain_answer : List ℕ → Outcome
 explain_answer text = text_outcome (table_answer_of text)
 
+-- What `cable` answers to a table, a cable and items.
+abbrev pub cable_answer : CableInputs → Outcome
+cable_answer inputs = Done
+
 -- ---- the outcome
 -- The outcome of a form.
 abbrev pub form_due : Form → List ℕ → List ℕ → Outcome
@@ -205,6 +265,7 @@ form_due Unwave first second = outcome_with unwave_answer (unwave_due first seco
 form_due (Drill number) first second = Done
 form_due (OnItself about) first second = Done
 form_due Explain first second = outcome_with explain_answer (text_due 1 first)
+form_due (Cable horizon) first second = outcome_with cable_answer (cable_due first second)
 
 -- Why a form refuses the first text, whatever the second is.
 abbrev pub first_refusal : Form → List ℕ → Option Outcome
@@ -215,6 +276,7 @@ first_refusal Unwave first = table_refusal_of first
 first_refusal (Drill number) first = None
 first_refusal (OnItself about) first = None
 first_refusal Explain first = refusal_in (text_due 1 first)
+first_refusal (Cable horizon) first = table_refusal_of first
 
 -- The outcome where the words ask for a form, or for none.
 abbrev pub outcome_for : Option Form → List ℕ → List ℕ → Outcome

@@ -11,7 +11,7 @@ use Rattle.bus_command.specs.declared.about.About.{About}
 use Rattle.bus_command.specs.About.{about_of}
 use Rattle.bus_command.specs.Readers.{Named, Reader, Entire, entire, no_source, one_source, by_trace, two_sources}
 pub use Rattle.bus_tool.specs.declared.forms.Form.{Form}
-pub use Rattle.bus_tool.specs.declared.forms.Form.TheVariants.{OnTable, OnMessages, OnTrace, Unwave, Drill, OnItself, Explain}
+pub use Rattle.bus_tool.specs.declared.forms.Form.TheVariants.{OnTable, OnMessages, OnTrace, Unwave, Drill, OnItself, Explain, Cable}
 pub use Rattle.bus_tool.specs.declared.forms.TableCommand.{TableCommand}
 pub use Rattle.bus_tool.specs.declared.forms.TableCommand.TheVariants.{Check, Tolerance, Tidy, Report, Witness, Plan}
 pub use Rattle.bus_tool.specs.declared.forms.MessagesCommand.{MessagesCommand}
@@ -56,10 +56,12 @@ three_words command =
     else if bytes_eq command (codes "unwave") then Some Unwave
     else None
 
--- `observe T M N`
+-- `observe T M N`, `cable T C N`
 abbrev pub four_words : List ℕ → List ℕ → Option Form
 four_words command horizon =
-    if bytes_eq command (codes "observe") && is_horizon horizon then Some (OnMessages (Observe (decimal_value horizon))) else None
+    if bytes_eq command (codes "observe") && is_horizon horizon then Some (OnMessages (Observe (decimal_value horizon)))
+    else if bytes_eq command (codes "cable") && is_horizon horizon then Some (Cable (decimal_value horizon))
+    else None
 
 -- The form of these words, whatever the words T and M are.
 abbrev pub form_of : List (List ℕ) → Option Form
@@ -87,6 +89,7 @@ sources_of Unwave = two_sources entire entire_wave
 sources_of (Drill number) = no_source
 sources_of (OnItself about) = no_source
 sources_of Explain = one_source entire
+sources_of (Cable horizon) = two_sources entire entire
 
 -- The mode that a command on a table needs of it.
 abbrev pub table_mode : TableCommand → Option Mode
@@ -118,3 +121,4 @@ IsWithinLimits Unwave = Unit {0}
 IsWithinLimits (Drill number) = number ≤ most_number
 IsWithinLimits (OnItself about) = Unit {0}
 IsWithinLimits Explain = Unit {0}
+IsWithinLimits (Cable horizon) = horizon ≤ horizon_limit

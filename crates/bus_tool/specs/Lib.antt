@@ -24,5 +24,7 @@ pub mod RunClaims
 pub mod DropClaims
 pub mod TraceClaims
 pub mod WaveClaims
+pub mod CableClaims
 pub mod Promises
 pub mod TextLaws
+pub mod inside

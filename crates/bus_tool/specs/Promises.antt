@@ -10,6 +10,8 @@ use Rattle.bus_command.specs.Claims.{Answers, IsOfTable, IsOfTraced}
 use Rattle.bus_command.specs.Outside.{Call}
 use Rattle.bus_command.specs.declared.status.Status.{Status}
 use Rattle.bus_command.specs.declared.status.Status.TheVariants.{Done}
+use Rattle.bus_cable.specs.Cables.{Cable}
+use Rattle.bus_tool.specs.CableClaims.{IsCableOf, GivesOnCable}
 use Rattle.bus_tool.specs.DrillClaims.{IsDrillOf, GivesDrill}
 use Rattle.bus_tool.specs.DropClaims.{IsDropOf, GivesDrop}
 use Rattle.bus_tool.specs.ExplainClaims.{IsExplainOf, GivesExplanation}
@@ -39,6 +41,8 @@ use Rattle.bus_tool.specs.WaveClaims.{GivesWave, IsUnwaveOf, GivesUnwaved}
 --   wave      of a spaced trace: its wave text; the trace of a run is spaced, and read from it; two with the same wave are equal
 --   unwave    of the wave text of a trace: the text of the trace
 --   explain   of any text: its explanation; each of its advices works
+--   cable     of a cable and items that fit: the one trace on that cable, and what each terminal hears of it; on a plain cable it is the trace
+--             of `observe`, and where the table bears the cable, with even hands, the closed schedule, of which nothing is garbled
 --   itself    `--help` and `--version`: the help and the version line
 pub record Promises (call : Call) (status : Status) : Type 0 where
   pub check : (table : Table) → IsOfTable (codes "check") table call → GivesVerdict table call status × TellsSettled table status
@@ -59,4 +63,6 @@ pub record Promises (call : Call) (status : Status) : Type 0 where
   pub wave : (table : Table) (trace : Recording) → IsOfTraced (codes "wave") [] table trace call → GivesWave table trace call status
   pub unwave : (table : Table) (trace : Recording) → IsUnwaveOf table trace call → GivesUnwaved table trace call status
   pub explain : (text : List ℕ) → IsExplainOf text call → GivesExplanation text call status
+  pub cable : (table : Table) (cable : Cable) (items : List Item) (until : ℕ) → IsCableOf table cable items until call
+      → GivesOnCable table cable items until call status
   pub itself : (about : About) → IsAbout about call → Answers Done (λ text. text ≡ itself_text about) call status

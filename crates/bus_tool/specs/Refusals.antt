@@ -13,10 +13,13 @@ use Rattle.bus_command.specs.declared.refusal.Place.TheVariants as place
 use Rattle.bus_command.specs.declared.status.Status.{Status}
 use Rattle.bus_command.specs.declared.status.Status.TheVariants as status
 use Rattle.bus_command.specs.Outcomes as common
+use Rattle.bus_text.specs.Reasons.{reason_word}
+use Rattle.bus_table.specs.Reasons.{fit_words}
 use Rattle.bus_command.specs.Outcomes.{error_line}
 pub use Rattle.bus_tool.specs.declared.refusal.ToolRefusal.{ToolRefusal}
 pub use Rattle.bus_tool.specs.declared.refusal.ToolRefusal.TheVariants.{TableMode, Unspaced, WaveText, Uneven, NotAccepted}
 pub use Rattle.bus_tool.specs.declared.refusal.ToolRefusal.TheVariants.{ShortLast, TooLong}
+pub use Rattle.bus_tool.specs.declared.refusal.ToolRefusal.TheVariants.{CableText, CableUnfit}
 
 -- What a command came to.
 abbrev pub Outcome : Type 0
@@ -31,6 +34,8 @@ place_of (Uneven one one_count other other_count) = place.Behind
 place_of (NotAccepted verdict) = place.Behind
 place_of (ShortLast least ti) = place.Behind
 place_of (TooLong end) = place.Behind
+place_of (CableText line reason) = place.Second
+place_of (CableUnfit error) = place.Second
 
 -- What a command comes to that refuses so.
 abbrev pub refuse : ToolRefusal → Outcome
@@ -45,6 +50,8 @@ ends_of (Uneven one one_count other other_count) = status.InputRefused
 ends_of (NotAccepted verdict) = status.Refused
 ends_of (ShortLast least ti) = status.Refused
 ends_of (TooLong end) = status.TooLong
+ends_of (CableText line reason) = status.InputRefused
+ends_of (CableUnfit error) = status.InputRefused
 
 -- A terminal and how many messages it has.
 abbrev pub count_words : ℕ → ℕ → List ℕ
@@ -68,6 +75,8 @@ line_of (Uneven one one_count other other_count) = error_line status.InputRefuse
 line_of (NotAccepted verdict) = verdict_line verdict
 line_of (ShortLast least ti) = short_last_line least ti
 line_of (TooLong end) = error_line status.TooLong (codes "long " ++ decimal end)
+line_of (CableText line reason) = error_line status.InputRefused (codes "cable line " ++ decimal line ++ 32 ∷ [] ++ reason_word reason)
+line_of (CableUnfit error) = error_line status.InputRefused (codes "cable item " ++ fit_words error)
 
 -- How the program ends with an outcome.
 abbrev pub status_of : Outcome → Status

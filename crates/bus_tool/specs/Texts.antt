@@ -12,7 +12,11 @@ use Rattle.bus_regime.specs.Verdicts.{verdict_of}
 use Rattle.bus_regime.specs.Lines.{verdict_line}
 use Rattle.bus_regime.specs.Witness.{witness_of}
 use Rattle.bus_medium.specs.Lawful.{IsLawful}
+use Rattle.bus_medium.specs.CableLawful.{IsLawfulOnCable}
 use Rattle.bus_medium.specs.Timings.{quiet_of, stations_of}
+use Rattle.bus_cable.specs.Cables as cables
+use Rattle.bus_cable.specs.Cables.{delays_on, wakes_on}
+use Rattle.bus_cable.specs.HeardTexts.{heard_text}
 use Rattle.bus_schedule.specs.Closed.{closed_end}
 use Rattle.bus_dropout.specs.DropOut.{drop_end}
 use Rattle.bus_dropout.specs.Runs.{IsDropRun}
@@ -26,11 +30,12 @@ use Rattle.bus_vote.specs.VoteTexts.{votes_text}
 use Rattle.bus_wave.specs.WaveTexts.{wave_text}
 use Rattle.bus_command.specs.declared.inputs.Traced.{Traced}
 use Rattle.bus_command.specs.Due.{Inputs, hands_in, inputs_by, text_due, traced_due, IsTextOf}
-use Rattle.bus_tool.specs.Forms.{Form, OnTable, OnMessages, OnTrace, Unwave, Drill, OnItself, Explain}
+use Rattle.bus_tool.specs.Forms.{Form, OnTable, OnMessages, OnTrace, Unwave, Drill, OnItself, Explain, Cable}
 use Rattle.bus_tool.specs.Forms.{TableCommand, Check, Tolerance, Tidy, Report, Witness, Plan}
 use Rattle.bus_tool.specs.Forms.{MessagesCommand, Observe, Run, Drop, TraceCommand, Receive, Audit, Vote, Wave}
 use Rattle.bus_tool.specs.Forms.{form_of, table_mode, messages_mode}
 use Rattle.bus_tool.specs.Due.{table_for, unwave_due, table_answer, inputs_answer, traced_answer, unwave_answer, explain_answer}
+use Rattle.bus_tool.specs.Due.{CableInputs, cable_hands, cable_answer, cable_due}
 use Rattle.bus_tool.specs.Drills.{drill_line}
 use Rattle.bus_tool.specs.Explanations.{explanation}
 use Rattle.bus_tool.specs.Itself.{itself_text}
@@ -72,6 +77,12 @@ pub record IsDropRecording (table : Table) (hands : List Hand) (recording : Reco
   pub holds : recording.holds ≡ holds_of hands
   pub run : IsDropRun table hands recording.list
 
+-- The recording of the senders of a table on a cable up to a horizon: what each of them held, and the lawful list with its delays and wakes
+pub record IsOnCable (table : Table) (cable : cables.Cable) (hands : List Hand) (until : ℕ) (recording : Recording) : Type 0 where
+  pub horizon : recording.horizon ≡ until
+  pub holds : recording.holds ≡ holds_of hands
+  pub lawful : IsLawfulOnCable (quiet_of table) (delays_on cable) (wakes_on cable) (stations_of table hands) until recording.list
+
 -- ---- the texts
 -- What is written of a table.
 abbrev pub table_answer_text : TableCommand → Table → List ℕ
@@ -105,6 +116,16 @@ IsMessagesText (Observe horizon) table hands text = IsObserveText horizon table 
 IsMessagesText Run table hands text = IsRanText IsRunRecording table hands text
 IsMessagesText Drop table hands text = IsRanText IsDropRecording table hands text
 
+-- The text of a trace, and behind it what each terminal of the table hears of its list on a cable.
+abbrev pub on_cable_text : Table → cables.Cable → Recording → List ℕ
+on_cable_text table cable recording = trace_text recording ++ heard_text table (delays_on cable) recording.list
+
+-- That text of the senders of a table with hands on a cable up to a horizon.
+pub record IsOnCableText (horizon : ℕ) (table : Table) (cable : cables.Cable) (hands : List Hand) (text : List ℕ) : Type 0 where
+  pub recording : Recording
+  pub observed : IsOnCable table cable hands horizon recording
+  pub text_is : text ≡ on_cable_text table cable recording
+
 -- What is written of a table and a trace.
 abbrev pub trace_answer_text : TraceCommand → Table → Recording → List ℕ
 trace_answer_text Receive table trace = received_text table trace.list
@@ -132,6 +153,10 @@ IsUnwavedText traced text = text ≡ trace_text traced.trace
 abbrev pub IsExplanation : List ℕ → List ℕ → Type 0
 IsExplanation first text = text ≡ explanation first
 
+-- What is written of a table, a cable and items.
+abbrev pub IsCableAnswerText : ℕ → CableInputs → List ℕ → Type 0
+IsCableAnswerText horizon inputs text = IsOnCableText horizon inputs.table inputs.cable (cable_hands inputs) text
+
 -- What a form writes of both texts.
 abbrev pub IsFormText : Form → List ℕ → List ℕ → List ℕ → Type 0
 IsFormText (OnTable command) first second text =
@@ -143,6 +168,7 @@ IsFormText Unwave first second text = IsTextOf unwave_answer IsUnwavedText (unwa
 IsFormText (Drill number) first second text = text ≡ drill_line number
 IsFormText (OnItself about) first second text = text ≡ itself_text about
 IsFormText Explain first second text = IsTextOf explain_answer IsExplanation (text_due 1 first) text
+IsFormText (Cable horizon) first second text = IsTextOf cable_answer (IsCableAnswerText horizon) (cable_due first second) text
 
 -- What is written where the words ask for a form, or for none.
 abbrev pub IsTextFor : Option Form → List ℕ → List ℕ → List ℕ → Type 0

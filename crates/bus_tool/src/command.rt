@@ -6,11 +6,13 @@ use crate::drill::drill;
 use crate::explain::explain;
 use crate::forms::{Form, form_of};
 use crate::itself::tell_itself;
+use crate::on_cable::cable;
 use crate::on_messages::on_messages;
 use crate::on_table::on_table;
 use crate::on_trace::on_trace;
 use crate::on_wave::unwave;
 use crate::refusal::Outcome;
+use bus_cable::laws::texts_read_as_their_cables;
 use bus_outer::{Sink, Source};
 use bus_strings::laws::texts_read_as_their_items;
 use bus_table::laws::readings_have_their_cause;
@@ -35,6 +37,7 @@ pub fn act<S: Source, K: Sink>(
     texts_read_as_their_items();
     traces_read_back();
     waves_tell_traces();
+    texts_read_as_their_cables();
     match form_of(words) {
         None => Outcome::Usage,
         Some(Form::OnTable(command)) => on_table(alloc, command, first, out),
@@ -44,5 +47,6 @@ pub fn act<S: Source, K: Sink>(
         Some(Form::Drill { number }) => drill(alloc, number, out),
         Some(Form::OnItself(about)) => tell_itself(about, out),
         Some(Form::Explain) => explain(alloc, first, out),
+        Some(Form::Cable { horizon }) => cable(alloc, horizon, first, second, out),
     }
 }

@@ -80,6 +80,11 @@ pub enum Form {
     OnItself(About),
     /// `explain T`: what the verdict on the table in the file `T` means, or why there is no valid table in it, and what to change.
     Explain,
+    /// `cable T C N`: what the senders of the table in `T` do on the cable in `C` in the bit times before N, and what each terminal hears.
+    Cable {
+        /// N: at most 1,099,511,627,776.
+        horizon: u64,
+    },
 }
 
 impl TableCommand {
@@ -202,11 +207,15 @@ fn four_words(command: &str, horizon: &[u8]) -> Option<Form>
     ensures form { result ≡ forms.four_words command.now horizon.now }
     ensures limits { IfSome result IsWithinLimits }
 {
-    if command != "observe" {
-        return None;
+    if command == "observe" {
+        let horizon = horizon_of(horizon)?;
+        return Some(Form::OnMessages(MessagesCommand::Observe { horizon }));
     }
-    let horizon = horizon_of(horizon)?;
-    Some(Form::OnMessages(MessagesCommand::Observe { horizon }))
+    if command == "cable" {
+        let horizon = horizon_of(horizon)?;
+        return Some(Form::Cable { horizon });
+    }
+    None
 }
 
 /// The form of these words; None where they are no form, or a number among them is past its limit.

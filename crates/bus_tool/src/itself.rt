@@ -27,6 +27,7 @@ audits recorded traces. What it says is proved.
   bus629 run T M          run the senders of an accepted table with the messages in M: the trace, and what each terminal receives
   bus629 drop T M         the same of an aperiodic table whose senders fall silent when their messages are spent
   bus629 observe T M N    look at the senders of any table up to moment N, in bit times of half a microsecond: the trace
+  bus629 cable T C N      the same on the cable in C, which has the messages too: the trace, and what each terminal hears of it
   bus629 receive T R      what each terminal of the table receives of the trace in R
   bus629 audit T R        hold the trace in R to the table: does each sender start exactly where its timers allow it?
   bus629 vote T R         what two of three channels agree on, in each round of the trace in R
@@ -37,8 +38,8 @@ audits recorded traces. What it says is proved.
   bus629 --version        the version of the program, and of each text that it reads and writes
 
 The status is 0 for a yes or an answer, 1 for a no, 2 where the words are no command, 3 where the table is refused, 4 where the
-messages, the trace or the wave are, 5 for a failed read, 6 for a failed write, 7 where memory is refused, 8 for a file past its limit, and
-9 for a schedule past its limit. A line on standard error says why.
+messages, the cable, the trace or the wave are, 5 for a failed read, 6 for a failed write, 7 where memory is refused, 8 for a file past its
+limit, and 9 for a schedule past its limit. A line on standard error says why.
 
 docs/BUS.md has the rules of the bus, docs/FORMATS.md the texts, lines and statuses, docs/CLAIMS.md what is proved; examples/ has tables
 to try.

@@ -5,7 +5,7 @@ ghost use Rattle.bus_tool.specs.TextLaws.{ObservedIsFoundLawful, RunIsFoundLawfu
 
 use bus_audit::laws::observed_is_lawful;
 use bus_dropout::laws::dropout_is_lawful;
-use bus_medium::laws::one_lawful_list;
+use bus_medium::laws::{one_cable_list, one_lawful_list};
 use bus_schedule::laws::{accepted_is_closed, closed_ends_in_cycles, even_hands_agree};
 use bus_table::laws::{fitting_items_give_hands, readings_have_their_cause};
 use bus_vectors::laws::{made_items_are_even, made_items_fit, made_tables_are_valid};
@@ -16,6 +16,7 @@ pub fn one_text_of_a_command()
     ensures exists { AnswersHaveTexts }
 {
     one_lawful_list();
+    one_cable_list();
     readings_have_their_cause();
     fitting_items_give_hands();
     accepted_is_closed();

@@ -4,8 +4,8 @@
 //! [`act`] is the command alone, [`Outcome`] what it came to, and [`outcome_text`] the line.
 //!
 //! The commands are in groups by what they take: a table (`on_table`), a table and messages (`on_messages`), a table and a trace
-//! (`on_trace`), a table and a wave (`on_wave`), a number (`drill`), a text that may be one of a table (`explain`), or nothing (`itself`). `bus_command` has what each of them has in common with the commands
-//! of any program over such texts.
+//! (`on_trace`), a table and a wave (`on_wave`), a table and a cable (`on_cable`), a number (`drill`), a text that may be one of a table
+//! (`explain`), or nothing (`itself`). `bus_command` has what each of them has in common with the commands of any program over such texts.
 #![tactic(auto)]
 
 mod audit;
@@ -21,6 +21,7 @@ mod inputs;
 mod itself;
 pub mod laws;
 mod observe;
+mod on_cable;
 mod on_messages;
 mod on_table;
 mod on_trace;

@@ -1,6 +1,8 @@
 //! What bus629 refuses beside what every command does.
 ghost use Rattle.std.specs.Prelude.{◌≡◌, ◌++◌, codes, decimal, List, [], ◌∷◌};
 ghost use Rattle.bus_command.specs.Outcomes.{error_line};
+ghost use Rattle.bus_text.specs.Reasons.{reason_word};
+ghost use Rattle.bus_table.specs.Reasons.{fit_words};
 ghost use Rattle.bus_outer.specs.Sinks.{WritesText};
 ghost use Rattle.bus_outer.specs.Texts.{Adds};
 ghost use Rattle.bus_table.specs.Text.{mode_word};
@@ -13,7 +15,8 @@ use bus_command::{Place, Refusal, Status, put_error, put_numbered};
 use bus_outer::{Sink, TextBuffer, WriteFault};
 use bus_regime::{TableVerdict, write_verdict};
 use bus_schedule::Uneven;
-use bus_table::{Mode, put_mode};
+use bus_table::{FitError, Mode, put_fit_error, put_mode};
+use bus_text::Reason;
 use bus_wave::{WaveFault, WaveReason, put_fault};
 
 /// What bus629 refuses beside what every command does.
@@ -48,6 +51,13 @@ pub enum ToolRefusal {
     TooLong {
         end: u128,
     },
+    /// The second text is no cable text: the offending line, counted from 1, and why.
+    CableText {
+        line: u64,
+        reason: Reason,
+    },
+    /// An item of the cable text doesn't fit its sender: the first such, counted from 1 among the items.
+    CableUnfit(FitError),
 }
 
 /// What a command of bus629 came to.
@@ -60,7 +70,10 @@ impl ToolRefusal {
     {
         match self {
             ToolRefusal::TableMode { .. } => Place::First,
-            ToolRefusal::Unspaced(_) | ToolRefusal::WaveText { .. } => Place::Second,
+            ToolRefusal::Unspaced(_)
+            | ToolRefusal::WaveText { .. }
+            | ToolRefusal::CableText { .. }
+            | ToolRefusal::CableUnfit(_) => Place::Second,
             ToolRefusal::Uneven { .. }
             | ToolRefusal::NotAccepted(_)
             | ToolRefusal::ShortLast { .. }
@@ -99,8 +112,11 @@ impl Refusal for ToolRefusal {
     fn status(&self) -> Status {
         match self {
             ToolRefusal::TableMode { .. } => Status::TableRefused,
-            ToolRefusal::Unspaced(_) | ToolRefusal::WaveText { .. } | ToolRefusal::Uneven { .. } =>
-                Status::InputRefused,
+            ToolRefusal::Unspaced(_)
+            | ToolRefusal::WaveText { .. }
+            | ToolRefusal::Uneven { .. }
+            | ToolRefusal::CableText { .. }
+            | ToolRefusal::CableUnfit(_) => Status::InputRefused,
             ToolRefusal::NotAccepted(_) | ToolRefusal::ShortLast { .. } => Status::Refused,
             ToolRefusal::TooLong { .. } => Status::TooLong,
         }
@@ -120,6 +136,8 @@ impl Refusal for ToolRefusal {
             ToolRefusal::NotAccepted(verdict) => write_verdict(&verdict, err),
             ToolRefusal::ShortLast { least, ti } => write_short_last(least, ti, err),
             ToolRefusal::TooLong { end } => write_too_long(end, err),
+            ToolRefusal::CableText { line, reason } => write_cable_text(line, reason, err),
+            ToolRefusal::CableUnfit(error) => write_cable_unfit(error, err),
         }
     }
 }
@@ -268,6 +286,53 @@ fn write_too_long<K: Sink>(end: u128, sink: &mut K) -> Result<(), WriteFault>
     let mut text = TextBuffer::new();
     put_error(&mut text, sink, Status::TooLong);
     put_too_long(&mut text, sink, end);
+    text.put_byte(sink, b'\n');
+    text.finish(sink)
+}
+
+/// Puts the word of a reason against a line of a cable text.
+fn put_reason<K: Sink>(text: &mut TextBuffer, sink: &mut K, reason: Reason)
+    ensures { Adds K.held K.faults sink.old sink.new text.old text.new (reason_word reason) }
+{
+    text.put(sink, reason.word().as_bytes())
+}
+
+/// Puts the refusal of a line of a cable text.
+fn put_cable_text<K: Sink>(text: &mut TextBuffer, sink: &mut K, line: u64, reason: Reason)
+    ensures { Adds K.held K.faults sink.old sink.new text.old text.new
+        (codes "cable line " ++ decimal line ++ 32 ∷ [] ++ reason_word reason) }
+{
+    put_numbered(text, sink, b"cable line ", line);
+    text.put_byte(sink, b' ');
+    put_reason(text, sink, reason);
+}
+
+/// Writes the refusal of a line of a cable text.
+fn write_cable_text<K: Sink>(line: u64, reason: Reason, sink: &mut K) -> Result<(), WriteFault>
+    ensures { WritesText K.held K.faults sink.old sink.new result (line_of (refusals.CableText line reason)) }
+{
+    let mut text = TextBuffer::new();
+    put_error(&mut text, sink, Status::InputRefused);
+    put_cable_text(&mut text, sink, line, reason);
+    text.put_byte(sink, b'\n');
+    text.finish(sink)
+}
+
+/// Puts the item of a cable text that doesn't fit, and why.
+fn put_cable_unfit<K: Sink>(text: &mut TextBuffer, sink: &mut K, error: FitError)
+    ensures { Adds K.held K.faults sink.old sink.new text.old text.new (codes "cable item " ++ fit_words error) }
+{
+    text.put(sink, b"cable item ");
+    put_fit_error(text, sink, error);
+}
+
+/// Writes the item of a cable text that doesn't fit.
+fn write_cable_unfit<K: Sink>(error: FitError, sink: &mut K) -> Result<(), WriteFault>
+    ensures { WritesText K.held K.faults sink.old sink.new result (line_of (refusals.CableUnfit error)) }
+{
+    let mut text = TextBuffer::new();
+    put_error(&mut text, sink, Status::InputRefused);
+    put_cable_unfit(&mut text, sink, error);
     text.put_byte(sink, b'\n');
     text.finish(sink)
 }

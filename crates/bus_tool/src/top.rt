@@ -6,8 +6,10 @@ ghost use Rattle.bus_tool.specs.Promises.{Promises};
 use crate::command::act;
 use bus_advice::laws::advices_work;
 use bus_audit::laws::{no_breach_is_right, one_answer};
+use bus_cable::laws::texts_read_as_their_cables;
 use bus_command::{Status, outcome_text};
-use bus_medium::laws::one_lawful_list;
+use bus_medium::laws::{one_cable_list, one_lawful_list};
+use bus_orderly::laws::borne_is_orderly;
 use bus_outer::{Sink, Source};
 use bus_plan::laws::{planned_is_accepted, short_is_refused};
 use bus_reach::laws::{
@@ -67,6 +69,9 @@ pub fn tool<S: Source, K: Sink, E: Sink>(
     accepted_bear_zero();
     any_start_settles();
     advices_work();
+    texts_read_as_their_cables();
+    one_cable_list();
+    borne_is_orderly();
     let outcome = act(alloc, words, first, second, out);
     let _ = outcome_text(&outcome, err);
     outcome.status()

@@ -1,4 +1,5 @@
 //! Each pull and each push that fails in turn, and texts that are cut at each byte, over sources and sinks in memory.
+use crate::cable::FOUR_APART;
 use crate::calls::{
     Ran, TWO_PERIODIC_SENDERS, TWO_SENDERS, is_refused, run_on, run_over, sink_of, words_of,
 };
@@ -13,7 +14,7 @@ use std::test::Fail;
 type Call<'a> = (&'a [&'a str], &'a str, &'a str);
 
 /// Calls of each command that read and write without a refusal.
-const CALLS: [Call<'static>; 17] = [
+const CALLS: [Call<'static>; 18] = [
     (&["check", "T"], TWO_SENDERS, ""),
     (&["tolerance", "T"], TWO_SENDERS, ""),
     (&["explain", "T"], TWO_SENDERS, ""),
@@ -26,6 +27,7 @@ const CALLS: [Call<'static>; 17] = [
     (&["run", "T", "M"], LONG_GAP, ONE_EACH),
     (&["drop", "T", "M"], LONG_GAP, ONE_EACH),
     (&["observe", "T", "M", "150"], LONG_GAP, ONE_EACH),
+    (&["cable", "T", "C", "150"], LONG_GAP, FOUR_APART),
     (&["receive", "T", "R"], LONG_GAP, ONE_EACH_SEEN),
     (&["audit", "T", "R"], LONG_GAP, ONE_EACH_SEEN),
     (&["vote", "T", "R"], LONG_GAP, ONE_EACH_SEEN),

@@ -2,6 +2,8 @@
 #![tactic(auto)]
 
 #[cfg(test)]
+mod cable;
+#[cfg(test)]
 mod calls;
 #[cfg(test)]
 mod drill;

@@ -3,7 +3,7 @@ use Rattle.std.specs.Prelude.{Some}
 use Rattle.bus_command.proofs.ActLaws.{acts_form}
 use Rattle.bus_command.proofs.DoLaws.{sourceless}
 use Rattle.bus_tool.specs.Acts.{tool_program}
-use Rattle.bus_tool.specs.Forms.{OnTable, OnMessages, OnTrace, Unwave, Drill, OnItself, Explain}
+use Rattle.bus_tool.specs.Forms.{OnTable, OnMessages, OnTrace, Unwave, Drill, OnItself, Explain, Cable}
 use Rattle.bus_tool.proofs.CauseLemmas.{due_has_cause}
 use Rattle.bus_tool.proofs.command.act.Goals as goal
 
@@ -15,7 +15,10 @@ returns-in-Some-OnTable g c = acts_form tool_program (due_has_cause (record {
   reads_items = c.texts_read_as_their_items.ensures.found;
   trace_back = c.traces_read_back.ensures.back;
   trace_only = c.traces_read_back.ensures.only;
-}) c.waves_tell_traces.ensures.back) _ c.on_table.result (OnTable c.in-Some-OnTable.command) (ap Some (sym c.in-Some-OnTable.field-0-is) ∙ c.in-Some-OnTable.ensures.form) (c.on_table.ensures _)
+}) c.waves_tell_traces.ensures.back (record {
+  again = c.texts_read_as_their_cables.ensures.again;
+  found = c.texts_read_as_their_cables.ensures.found;
+})) _ c.on_table.result (OnTable c.in-Some-OnTable.command) (ap Some (sym c.in-Some-OnTable.field-0-is) ∙ c.in-Some-OnTable.ensures.form) (c.on_table.ensures _)
 
 pub returns-in-Some-OnMessages : goal.returns-in-Some-OnMessages
 returns-in-Some-OnMessages g c = acts_form tool_program (due_has_cause (record {
@@ -25,7 +28,10 @@ returns-in-Some-OnMessages g c = acts_form tool_program (due_has_cause (record {
   reads_items = c.texts_read_as_their_items.ensures.found;
   trace_back = c.traces_read_back.ensures.back;
   trace_only = c.traces_read_back.ensures.only;
-}) c.waves_tell_traces.ensures.back) _ c.on_messages.result (OnMessages c.in-Some-OnMessages.command) (ap Some (sym c.in-Some-OnMessages.field-0-is) ∙ c.in-Some-OnMessages.ensures.form) c.on_messages.ensures
+}) c.waves_tell_traces.ensures.back (record {
+  again = c.texts_read_as_their_cables.ensures.again;
+  found = c.texts_read_as_their_cables.ensures.found;
+})) _ c.on_messages.result (OnMessages c.in-Some-OnMessages.command) (ap Some (sym c.in-Some-OnMessages.field-0-is) ∙ c.in-Some-OnMessages.ensures.form) c.on_messages.ensures
 
 pub returns-in-Some-OnTrace : goal.returns-in-Some-OnTrace
 returns-in-Some-OnTrace g c = acts_form tool_program (due_has_cause (record {
@@ -35,7 +41,10 @@ returns-in-Some-OnTrace g c = acts_form tool_program (due_has_cause (record {
   reads_items = c.texts_read_as_their_items.ensures.found;
   trace_back = c.traces_read_back.ensures.back;
   trace_only = c.traces_read_back.ensures.only;
-}) c.waves_tell_traces.ensures.back) _ c.on_trace.result (OnTrace c.in-Some-OnTrace.command) (ap Some (sym c.in-Some-OnTrace.field-0-is) ∙ c.in-Some-OnTrace.ensures.form) c.on_trace.ensures
+}) c.waves_tell_traces.ensures.back (record {
+  again = c.texts_read_as_their_cables.ensures.again;
+  found = c.texts_read_as_their_cables.ensures.found;
+})) _ c.on_trace.result (OnTrace c.in-Some-OnTrace.command) (ap Some (sym c.in-Some-OnTrace.field-0-is) ∙ c.in-Some-OnTrace.ensures.form) c.on_trace.ensures
 
 pub returns-in-Some-Unwave : goal.returns-in-Some-Unwave
 returns-in-Some-Unwave g c = acts_form tool_program (due_has_cause (record {
@@ -45,7 +54,10 @@ returns-in-Some-Unwave g c = acts_form tool_program (due_has_cause (record {
   reads_items = c.texts_read_as_their_items.ensures.found;
   trace_back = c.traces_read_back.ensures.back;
   trace_only = c.traces_read_back.ensures.only;
-}) c.waves_tell_traces.ensures.back) _ c.unwave.result Unwave (ap Some (sym c.in-Some-Unwave.field-0-is) ∙ c.in-Some-Unwave.ensures.form) c.unwave.ensures
+}) c.waves_tell_traces.ensures.back (record {
+  again = c.texts_read_as_their_cables.ensures.again;
+  found = c.texts_read_as_their_cables.ensures.found;
+})) _ c.unwave.result Unwave (ap Some (sym c.in-Some-Unwave.field-0-is) ∙ c.in-Some-Unwave.ensures.form) c.unwave.ensures
 
 pub returns-in-Some-Drill : goal.returns-in-Some-Drill
 returns-in-Some-Drill g c = acts_form tool_program (due_has_cause (record {
@@ -55,7 +67,10 @@ returns-in-Some-Drill g c = acts_form tool_program (due_has_cause (record {
   reads_items = c.texts_read_as_their_items.ensures.found;
   trace_back = c.traces_read_back.ensures.back;
   trace_only = c.traces_read_back.ensures.only;
-}) c.waves_tell_traces.ensures.back) _ c.drill.result (Drill c.in-Some-Drill.number) (ap Some (sym c.in-Some-Drill.field-0-is) ∙ c.in-Some-Drill.ensures.form) (sourceless _ _ _ _ _ _ c.drill.ensures)
+}) c.waves_tell_traces.ensures.back (record {
+  again = c.texts_read_as_their_cables.ensures.again;
+  found = c.texts_read_as_their_cables.ensures.found;
+})) _ c.drill.result (Drill c.in-Some-Drill.number) (ap Some (sym c.in-Some-Drill.field-0-is) ∙ c.in-Some-Drill.ensures.form) (sourceless _ _ _ _ _ _ c.drill.ensures)
 
 pub returns-in-Some-OnItself : goal.returns-in-Some-OnItself
 returns-in-Some-OnItself g c = acts_form tool_program (due_has_cause (record {
@@ -65,7 +80,10 @@ returns-in-Some-OnItself g c = acts_form tool_program (due_has_cause (record {
   reads_items = c.texts_read_as_their_items.ensures.found;
   trace_back = c.traces_read_back.ensures.back;
   trace_only = c.traces_read_back.ensures.only;
-}) c.waves_tell_traces.ensures.back) _ c.tell_itself.result (OnItself c.in-Some-OnItself.about) (ap Some (sym c.in-Some-OnItself.field-0-is) ∙ c.in-Some-OnItself.ensures.form) (sourceless _ _ _ _ _ _ c.tell_itself.ensures)
+}) c.waves_tell_traces.ensures.back (record {
+  again = c.texts_read_as_their_cables.ensures.again;
+  found = c.texts_read_as_their_cables.ensures.found;
+})) _ c.tell_itself.result (OnItself c.in-Some-OnItself.about) (ap Some (sym c.in-Some-OnItself.field-0-is) ∙ c.in-Some-OnItself.ensures.form) (sourceless _ _ _ _ _ _ c.tell_itself.ensures)
 
 pub returns-in-Some-Explain : goal.returns-in-Some-Explain
 returns-in-Some-Explain g c = acts_form tool_program (due_has_cause (record {
@@ -75,4 +93,21 @@ returns-in-Some-Explain g c = acts_form tool_program (due_has_cause (record {
   reads_items = c.texts_read_as_their_items.ensures.found;
   trace_back = c.traces_read_back.ensures.back;
   trace_only = c.traces_read_back.ensures.only;
-}) c.waves_tell_traces.ensures.back) _ c.explain.result Explain (ap Some (sym c.in-Some-Explain.field-0-is) ∙ c.in-Some-Explain.ensures.form) (c.explain.ensures _)
+}) c.waves_tell_traces.ensures.back (record {
+  again = c.texts_read_as_their_cables.ensures.again;
+  found = c.texts_read_as_their_cables.ensures.found;
+})) _ c.explain.result Explain (ap Some (sym c.in-Some-Explain.field-0-is) ∙ c.in-Some-Explain.ensures.form) (c.explain.ensures _)
+
+pub returns-in-Some-Cable : goal.returns-in-Some-Cable
+returns-in-Some-Cable g c = acts_form tool_program (due_has_cause (record {
+  reads_table = c.readings_have_their_cause.ensures.found;
+  refuses_table = c.readings_have_their_cause.ensures.refused;
+  items_again = c.texts_read_as_their_items.ensures.again;
+  reads_items = c.texts_read_as_their_items.ensures.found;
+  trace_back = c.traces_read_back.ensures.back;
+  trace_only = c.traces_read_back.ensures.only;
+}) c.waves_tell_traces.ensures.back (record {
+  again = c.texts_read_as_their_cables.ensures.again;
+  found = c.texts_read_as_their_cables.ensures.found;
+})) _ c.cable.result (Cable c.in-Some-Cable.horizon)
+    (ap Some (sym c.in-Some-Cable.field-0-is) ∙ c.in-Some-Cable.ensures.form) c.cable.ensures

@@ -34,6 +34,18 @@ returns-clause-keeps g c =
       one_list = c.one_lawful_list.ensures.table;
       even_agree = c.even_hands_agree.ensures;
       works = c.advices_work.ensures;
+      cables = record {
+        table_again = c.text_reads_as_its_table.ensures;
+        texts = record {
+          again = c.texts_read_as_their_cables.ensures.again;
+          found = c.texts_read_as_their_cables.ensures.found;
+        };
+        give_hands = c.fitting_items_give_hands.ensures;
+        one = c.one_cable_list.ensures.table;
+        none = c.one_cable_list.ensures.none;
+        orderly = c.borne_is_orderly.ensures.aperiodic;
+        periodic_orderly = c.borne_is_orderly.ensures.periodic;
+      };
       answer = c.one_answer.ensures.computed;
       right = c.no_breach_is_right.ensures.answer;
       written = c.two_fix_the_vote.ensures.written;
