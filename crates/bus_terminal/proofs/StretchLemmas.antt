@@ -124,3 +124,11 @@ later_is m d n (Some r) h =
     let inside : place_of m r < bits m = place_within m r h.0 in
     let at : place_of m r ≡ d + n = h.1 in
     rw (lt-ltb (d + n) (bits m) (let k : d + n < bits m = omega arith in k)) (ap (λ w. Some w) at)
+
+-- however far
+pub far_is : (m : Message) (d n : ℕ) (o : Option Place) → MatchOption o (bits m ≤ d + n) (λ r. IsPlace m r × (place_of m r ≡ d + n)) → option_map (place_of m) o ≡ later_place m n d
+far_is m d n None h = rw (le-ltb (d + n) (bits m) h) refl
+far_is m d n (Some r) h =
+    let inside : place_of m r < bits m = place_within m r h.0 in
+    let at : place_of m r ≡ d + n = h.1 in
+    rw (lt-ltb (d + n) (bits m) (let k : d + n < bits m = omega arith in k)) (ap (λ w. Some w) at)

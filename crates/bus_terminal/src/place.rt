@@ -5,6 +5,7 @@ ghost use Rattle.bus_strings.specs.Pulses.{is_on};
 
 use bus_strings::Message;
 use bus_strings::limits::{INNER_GAP, WORD_BITS};
+use std::cmp::min;
 
 /// Where a running message is: at a pulse, or in the quiet behind it, and how many bit times of that are left.
 #[derive(Clone, Copy, Debug)]
@@ -76,5 +77,21 @@ impl Place {
             ..self
         };
         last.next(message)
+    }
+
+    /// So many bit times later in the message, unless it has ended then: whatever pulses lie in between.
+    pub fn far(self, message: &Message, bits: u64) -> Option<Place>
+        requires { IsPlace message.now self }
+        ensures { MatchOption result (length_of message.now ≤ place_of message.now self + bits)
+            (λ next. IsPlace message.now next × (place_of message.now next ≡ place_of message.now self + bits)) }
+    {
+        let mut place = self;
+        let mut rest = bits;
+        while rest > 0 {
+            let steady = min(rest, place.left as u64);
+            place = place.later(message, steady)?;
+            rest -= steady;
+        }
+        Some(place)
     }
 }

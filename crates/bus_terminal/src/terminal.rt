@@ -1,7 +1,8 @@
 //! A sending terminal: its timers, its hand and what it is sending.
 ghost use Rattle.std.specs.Prelude.{◌≡◌, ℕ, ◌+◌, ◌<◌, ◌≤◌, ◌↔◌, ◌⊎◌, ◌++◌, ◌∷◌, [], Bool, true, false, List, length, replicate, slice_get};
-ghost use Rattle.std.specs.Prelude.{Option, Some, None, IsTrue, MatchOption};
+ghost use Rattle.std.specs.Prelude.{Option, Some, None, IsTrue, MatchOption, nat_lt};
 ghost use Rattle.bus_timers.specs.Told.{CountsOne, HasHeard, HasStarted};
+ghost use Rattle.bus_timers.specs.Histories.{HasHeardAll};
 ghost use Rattle.bus_strings.specs.Messages.{IsMessage};
 ghost use Rattle.std.specs.Option.{option_and_then};
 ghost use Rattle.bus_terminal.specs.Terminals.{last_begun, next_place, sounds, with_begun, with_passed};
@@ -12,7 +13,7 @@ ghost use Rattle.bus_terminal.specs.inside.Standing.{place_in, IsStanding};
 use crate::place::Place;
 use bus_strings::Message;
 use bus_table::Hand;
-use bus_timers::{Core, JumpCore};
+use bus_timers::{Core, History, JumpCore};
 use std::marker::Model;
 
 /// Where the message begun last is a bit time later, if it is still running.
@@ -37,6 +38,17 @@ fn later_running(hand: &Hand, sent: usize, running: Option<Place>, bits: u64) ->
 {
     let place = running?;
     place.later(&hand.messages[sent - 1], bits)
+}
+
+/// Where the message begun last is any number of bit times later, if it is still running then.
+fn far_running(hand: &Hand, sent: usize, running: Option<Place>, bits: u64) -> Option<Place>
+    requires { IsStanding hand.now sent running }
+    ensures standing { IsStanding hand.now sent result }
+    ensures place { place_in hand.now sent result ≡ option_and_then (later_place (last_begun hand.now sent) bits)
+        (place_in hand.now sent running) }
+{
+    let place = running?;
+    place.far(&hand.messages[sent - 1], bits)
 }
 
 /// One terminal: its timers, its messages, how many of them it has begun, and where the running one is.
@@ -136,6 +148,13 @@ impl<C: Core> Terminal<C> {
         self.sent
     }
 
+    /// Whether a message is left that it has not begun.
+    pub fn has_left(&self) -> bool
+        ensures { result ≡ nat_lt self.now.sent (length self.now.hand.messages) }
+    {
+        self.sent < self.hand.messages.len()
+    }
+
     /// The terminal's number.
     pub fn number(&self) -> u8
         ensures { result ≡ self.now.hand.terminal }
@@ -182,6 +201,20 @@ impl<C: JumpCore> Terminal<C> {
     {
         self.running = later_running(&self.hand, self.sent, self.running, bits);
         self.core.pass_many(carrier, bits);
+    }
+
+    /// A whole history has passed, of up to 1,099,511,627,776 bit times: it stands where as many calls of `pass` leave
+    /// it, whichever bit times the history tells of, and its core makes one move. What runs goes on, or ends.
+    pub fn hear(&mut self, history: History)
+        requires few { history.bits ≤ longest_pass }
+        requires room { history.bits ≤ C.room self.old.core }
+        ensures passed { self.new ≡ with_passed_many self.old history.bits self.new.core }
+        ensures told { HasHeardAll (C.stands self.old.core) (C.stands self.new.core) history }
+        ensures room { C.room self.old.core ≤ C.room self.new.core + history.bits }
+        ensures moves { CountsOne (C.moves self.old.core) (C.moves self.new.core) }
+    {
+        self.running = far_running(&self.hand, self.sent, self.running, history.bits);
+        self.core.hear(history);
     }
 
     /// How often its core was moved since it was settled.

@@ -4,5 +4,6 @@ pub mod MayStartTest
 pub mod GapPlace
 pub mod GapLaws
 pub mod Told
+pub mod Histories
 pub mod Wait
 pub mod inside

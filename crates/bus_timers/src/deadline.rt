@@ -1,8 +1,9 @@
 //! Timers kept as places in the past.
-ghost use Rattle.std.specs.Prelude.{◌≡◌, ◌+◌, ◌^◌, ◌<◌, ◌≤◌, ◌⊎◌, true, false};
+ghost use Rattle.std.specs.Prelude.{◌≡◌, ◌+◌, ◌^◌, ◌<◌, ◌≤◌, ◌⊎◌, true, false, if◌then◌else◌};
 ghost use Rattle.bus_timers.specs.inside.Deadlines.{DeadlinesStand, room_left};
 
 use crate::cores::Core;
+use crate::history::History;
 use crate::jumps::JumpCore;
 use crate::timing::Timing;
 use std::cmp::max;
@@ -23,6 +24,18 @@ fn next_gap_from(gap_from: u64, now: u64, sg: u32, carrier: bool, bits: u64) -> 
         now + bits
     } else {
         now + bits + sg as u64
+    }
+}
+
+/// The place from which the terminal gap counts behind a history, or will, whose quiet begins at this place.
+fn gap_behind(quiet_from: u64, sg: u32, synchronized: bool) -> u64
+    requires { quiet_from + sg < 2 ^ 64 }
+    ensures { result ≡ quiet_from + (if synchronized then 0 else sg) }
+{
+    if synchronized {
+        quiet_from
+    } else {
+        quiet_from + sg as u64
     }
 }
 
@@ -92,6 +105,13 @@ impl JumpCore for DeadlineCore {
     fn pass_many(&mut self, carrier: bool, bits: u64) {
         self.gap_from = next_gap_from(self.gap_from, self.now, self.timing.sg, carrier, bits);
         self.now += bits;
+        self.moves = self.moves.saturating_add(1);
+    }
+
+    fn hear(&mut self, history: History) {
+        self.now += history.bits;
+        let quiet_from = self.now.saturating_sub(history.quiet);
+        self.gap_from = gap_behind(quiet_from, self.timing.sg, history.synchronized);
         self.moves = self.moves.saturating_add(1);
     }
 }

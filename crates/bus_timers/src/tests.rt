@@ -6,6 +6,7 @@ ghost use Rattle.bus_timers.specs.Wait.{longest_pass};
 use crate::cores::Core;
 use crate::counter::CounterCore;
 use crate::deadline::DeadlineCore;
+use crate::history::History;
 use crate::jumps::JumpCore;
 use crate::plain::may_start;
 use crate::timing::Timing;
@@ -124,5 +125,32 @@ fn stretches_are_passed_at_once(rt: HostRuntime) -> Result<(), Fail> {
     waits_behind(&rt, &mut core, false, 9, 8);
     waits_behind(&rt, &mut core, false, 1_099_511_627_776, 0);
     assert_eq!(rt; core.moves(), 12);
+    Ok(())
+}
+
+/// A message of its own and five quiet bit times, and then a message of another and three.
+#[test]
+fn a_history_is_heard_at_once(rt: HostRuntime) -> Result<(), Fail> {
+    let mut core = DeadlineCore::settled(Timing {
+        ti: 1000,
+        sg: 9,
+        tg: 8,
+        quiet: 9,
+        due: 0,
+    });
+    core.started();
+    core.hear(History {
+        bits: 990,
+        quiet: 5,
+        synchronized: false,
+    });
+    assert_eq!(rt; core.wait(), 12);
+    core.hear(History {
+        bits: 40,
+        quiet: 3,
+        synchronized: true,
+    });
+    assert_eq!(rt; core.wait(), 5);
+    assert_eq!(rt; core.moves(), 2);
     Ok(())
 }
