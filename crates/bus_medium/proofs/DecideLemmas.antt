@@ -181,7 +181,7 @@ no_places core quiet t xs l places law f = record {
 }
 
 -- the number of the sender at a place doesn't change
-number_kept : {C : Type 0} (xs ys : List (Seat C)) (j : ℕ) (y : Seat C) → map station_of ys ≡ map station_of xs → slice_get ys j ≡ Some y → get_or (map number_of xs) j 0 ≡ number_of y
+pub number_kept : {C : Type 0} (xs ys : List (Seat C)) (j : ℕ) (y : Seat C) → map station_of ys ≡ map station_of xs → slice_get ys j ≡ Some y → get_or (map number_of xs) j 0 ≡ number_of y
 number_kept xs ys j y e at = ap (λ ns. get_or ns j 0) (sym (same_numbers xs ys e)) ∙ number_at ys j y at
 
 pub one_place : {C : Type 0} (core : Ghosts C) (quiet t : ℕ) (xs ys : List (Seat C)) (l : List Entry) (places : List ℕ) (i p : ℕ) (x y : Seat C) → IsByNumber (map number_of xs) places → DecidedPlaces core quiet t xs ys l places i

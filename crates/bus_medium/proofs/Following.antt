@@ -1,7 +1,7 @@
 -- How a sender goes with the list, and that one whose message runs may not start.
 use Rattle.std.proofs.Common.{◌≡◌, ℕ, ◌+◌, ◌-◌, ◌<◌, ◌≤◌, ◌⊎◌, Bool, true, false, List, [], ◌∷◌, ◌++◌, length, replicate, get_or, Option, Some, None, inl, inr, arith, sym, refl, ap, ◌∙◌, subst}
 use Rattle.std.specs.Prelude.{fold}
-use Rattle.std.specs.Option.{MatchOption, option_and_then, option_map, option_map_or}
+use Rattle.std.specs.Option.{option_and_then, option_map, option_map_or}
 use Rattle.std.proofs.lemmas.Bool.{cases_lt, true≢false, lt-ltb, le-ltb}
 use Rattle.std.proofs.lemmas.List.{length_push, get_or_default}
 use Rattle.std.proofs.lemmas.List.Sums.{fold-append}
@@ -16,8 +16,7 @@ use Rattle.bus_strings.proofs.PulsesAlongLaws.{quiet_behind}
 use Rattle.bus_strings.proofs.MessageLaws.{bits_some}
 use Rattle.bus_table.specs.Tables.{Hand}
 use Rattle.bus_terminal.specs.Terminals.{last_begun}
-use Rattle.bus_terminal.specs.Jumps.{IsSteady, later_place}
-use Rattle.bus_terminal.proofs.JumpLaws.{steady_within}
+use Rattle.bus_terminal.specs.Jumps.{later_place}
 use Rattle.bus_terminal.proofs.SendingLaws.{sending_is_not_ready}
 use Rattle.bus_medium.specs.Past.{past, own, last_place}
 use Rattle.bus_medium.specs.Buses.{last_of, running_at}
@@ -64,28 +63,26 @@ pub due_is_free : {stands : Timing → List Bool → Option ℕ → Type 0} (q :
 due_is_free q timing hand sent None n t l f may = refl
 due_is_free q timing hand sent (Some d) n t l f may = absurd (running_not_may q timing hand sent d n t l f.sound (f.running d refl) may)
 
--- a stretch later
-pub follows_later : {stands stands' : Timing → List Bool → Option ℕ → Type 0} (q : ℕ) (timing : Timing) (hand : Hand) (sent : ℕ) (now : Option ℕ) (p : List Bool) (mine : List Entry) (t n : ℕ) (c : Bool)
-    → Follows stands q timing hand sent now p mine t → MatchOption now (Unit {0}) (λ d. IsSteady (last_begun hand sent) d n)
-    → ((timing : Timing) (p : List Bool) (last : Option ℕ) → stands timing p last → stands' timing (p ++ replicate n c) last)
-    → Follows stands' q timing hand sent (option_and_then (later_place (last_begun hand sent) n) now) (p ++ replicate n c) mine (t + n)
-follows_later q timing hand sent None p mine t n c f steady steps = record {
+-- n bit times later, whatever was heard
+pub follows_on : {stands stands' : Timing → List Bool → Option ℕ → Type 0} (q : ℕ) (timing : Timing) (hand : Hand) (sent : ℕ) (now : Option ℕ) (p p' : List Bool) (mine : List Entry) (t n : ℕ)
+    → Follows stands q timing hand sent now p mine t → stands' timing p' (last_place q mine)
+    → Follows stands' q timing hand sent (option_and_then (later_place (last_begun hand sent) n) now) p' mine (t + n)
+follows_on q timing hand sent None p p' mine t n f core = record {
   sound = f.sound;
-  core = steps timing p (last_place q mine) f.core;
+  core = core;
   count = f.count;
   idle = λ e x i. let ended : end_of x ≤ t = f.idle refl x i in omega arith;
   running = λ d e. absurd (cc);
 }
-follows_later {stands} {stands'} q timing hand sent (Some d) p mine t n c f steady steps =
+follows_on {stands} {stands'} q timing hand sent (Some d) p p' mine t n f core =
     let r : Running hand sent d mine t = f.running d refl in
     let place : r.entry.moment + d ≡ t = r.place in
     let inside : d < bits r.entry.message = r.within in
     let long : bits (last_begun hand sent) ≡ bits r.entry.message = ap bits r.message in
-    let most : d + n ≤ bits (last_begun hand sent) = steady_within (last_begun hand sent) d n (omega arith) steady in
     elim (cases_lt (d + n) (bits (last_begun hand sent))) [
-      | inl more ↦ subst (λ o. Follows stands' q timing hand sent o (p ++ replicate n c) mine (t + n)) (sym (let e : later_place (last_begun hand sent) n d ≡ Some (d + n) = rw (lt-ltb (d + n) (bits (last_begun hand sent)) more) refl in e)) (record {
+      | inl more ↦ subst (λ o. Follows stands' q timing hand sent o p' mine (t + n)) (sym (let e : later_place (last_begun hand sent) n d ≡ Some (d + n) = rw (lt-ltb (d + n) (bits (last_begun hand sent)) more) refl in e)) (record {
         sound = f.sound;
-        core = steps timing p (last_place q mine) f.core;
+        core = core;
         count = f.count;
         idle = λ e. absurd (cc);
         running = λ k e. subst (λ w. Running hand sent w mine (t + n)) (let same : d + n ≡ k = cc in same) (record {
@@ -98,14 +95,22 @@ follows_later {stands} {stands'} q timing hand sent (Some d) p mine t n c f stea
           others = λ x i. elim (r.others x i) [ inl same ↦ inl same | inr ended ↦ inr (omega arith) ];
         });
       })
-      | inr over ↦ subst (λ o. Follows stands' q timing hand sent o (p ++ replicate n c) mine (t + n)) (sym (let e : later_place (last_begun hand sent) n d ≡ None = rw (le-ltb (d + n) (bits (last_begun hand sent)) over) refl in e)) (record {
+      | inr over ↦ subst (λ o. Follows stands' q timing hand sent o p' mine (t + n)) (sym (let e : later_place (last_begun hand sent) n d ≡ None = rw (le-ltb (d + n) (bits (last_begun hand sent)) over) refl in e)) (record {
         sound = f.sound;
-        core = steps timing p (last_place q mine) f.core;
+        core = core;
         count = f.count;
         idle = λ e x i. elim (r.others x i) [ inl same ↦ let h : end_of x ≡ end_of r.entry = ap end_of same in omega arith | inr ended ↦ omega arith ];
         running = λ k e. absurd (cc);
       })
     ]
+
+-- a stretch later
+pub follows_later : {stands stands' : Timing → List Bool → Option ℕ → Type 0} (q : ℕ) (timing : Timing) (hand : Hand) (sent : ℕ) (now : Option ℕ) (p : List Bool) (mine : List Entry) (t n : ℕ) (c : Bool)
+    → Follows stands q timing hand sent now p mine t
+    → ((timing : Timing) (p : List Bool) (last : Option ℕ) → stands timing p last → stands' timing (p ++ replicate n c) last)
+    → Follows stands' q timing hand sent (option_and_then (later_place (last_begun hand sent) n) now) (p ++ replicate n c) mine (t + n)
+follows_later q timing hand sent now p mine t n c f steps =
+    follows_on q timing hand sent now p (p ++ replicate n c) mine t n f (steps timing p (last_place q mine) f.core)
 
 -- a message begins
 pub follows_started : {stands stands' : Timing → List Bool → Option ℕ → Type 0} (q : ℕ) (timing : Timing) (hand : Hand) (sent : ℕ) (p : List Bool) (mine : List Entry) (t : ℕ) (x : Entry)

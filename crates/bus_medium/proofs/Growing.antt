@@ -1,4 +1,4 @@
--- What deciding adds to the list, and that it moves no core.
+-- What deciding adds to the list.
 use Rattle.std.proofs.Common.{◌≡◌, ℕ, ◌<◌, List, [], ◌∷◌, ◌++◌, length, Option, Some, None, inl, inr, arith, sym, ap, ◌∙◌, subst, append_assoc}
 use Rattle.std.specs.Option.{MatchOption}
 use Rattle.std.proofs.lemmas.List.{append-nil}
@@ -20,7 +20,3 @@ grown_one core t l m n x y (Some b) so st e = record {
   at = λ z i. elim (in_push_cases so.more b z i) [ inl old ↦ so.at z old | inr same ↦ ap (λ w. w.moment) same ∙ st.moment ];
   some = λ z i. elim (in_push_cases so.more b z i) [ inl old ↦ so.some z old | inr same ↦ let k : length z.message ≡ length b.message = ap (λ w. length w.message) same in let h : 0 < length b.message = st.some in omega arith ];
 }
-
-pub moves_kept : {C : Type 0} (core : Ghosts C) (t : ℕ) (x y : Seat C) (o : Option Entry) → MatchOption o (Idle core x y) (λ e. Started core x y t e) → core.moves y.terminal.core ≡ core.moves x.terminal.core
-moves_kept core t x y None idle = ap (λ w. core.moves w.terminal.core) idle.same
-moves_kept core t x y (Some b) st = st.moves

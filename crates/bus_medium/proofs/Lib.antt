@@ -11,7 +11,6 @@ pub mod OrderLemmas
 pub mod StretchLemmas
 pub mod Existence
 pub mod Sums
-pub mod EdgeLemmas
 pub mod Growing
 pub mod Jumping
 pub mod Stretching
@@ -26,3 +25,10 @@ pub mod CableLists
 pub mod Waking
 pub mod CableClocks
 pub mod CableSteps
+pub mod LazySeats
+pub mod LazyLaws
+pub mod LazyStarts
+pub mod LazyLoops
+pub mod LazySteps
+pub mod LazyDecide
+pub mod LazyRuns

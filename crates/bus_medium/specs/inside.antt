@@ -3,3 +3,4 @@ pub mod Seating
 pub mod Following
 pub mod Lasting
 pub mod Runs
+pub mod Lazy

@@ -15,8 +15,8 @@ use crate::bit_times::observe_all;
 use crate::deciding::Roster;
 use crate::seat::Seat;
 use crate::seating::{by_number, numbers, seat_all};
-use crate::stretches::jump_all;
 use crate::timings::quiet;
+use crate::turns::jump_all;
 use bus_strings::Transmission;
 use bus_table::{Hand, Table};
 use bus_timers::{Core, JumpCore};
@@ -96,13 +96,13 @@ impl<C: Core> Bus<C> {
 }
 
 impl<C: JumpCore> Bus<C> {
-    /// What `observe` does, by jumps, and up to a horizon of 1,099,511,627,776. A stretch ends at the least of the
-    /// horizon, the next change of a running message, and, while the bus is quiet, the moment at which the next sender
-    /// may start.
+    /// What `observe` does, by jumps, and up to a horizon of 1,099,511,627,776. A jump goes to the moment at which the
+    /// next senders may start while the bus is quiet, and from there to the end of all that they send: while the bus is
+    /// busy nobody starts.
     ///
-    /// Each stretch is one move of each core: there is at most one for the beginning and one for the end of each
-    /// wordstring sent, and one more. The bus has to stand at moment 0, and stands at the horizon after Ok. After an
-    /// error for want of memory it stands at no moment, and can only be dropped.
+    /// A core moves once for each message of its own, and once more at the horizon: no more often than there are
+    /// beginnings and ends of the wordstrings sent, and once. The bus has to stand at moment 0, and stands at the horizon
+    /// after Ok. After an error for want of memory it stands at no moment, and can only be dropped.
     pub fn observe_by_jumps(&mut self, horizon: u64) -> Result<Vec<Transmission>, AllocError>
         requires stands { StandsAt ⟦<C as Core>⟧ self.old [] 0 }
         requires horizon { horizon ≤ horizon_limit }

@@ -20,7 +20,7 @@ pub struct Roster {
 }
 
 /// One sender decides, and gives the transmission that it begins.
-fn decide_one<C: Core>(
+pub fn decide_one<C: Core>(
     alloc: Global,
     moment: u64,
     seat: &mut Seat<C>,

@@ -1,10 +1,11 @@
 //! The shared bus: at each moment every terminal decides, and then all hear the carrier that any of them has.
 //!
 //! [`Bus`] is settled of a table and the hands of its senders, over any [`bus_timers::Core`], and observed up to a
-//! horizon, bit time for bit time; over a [`bus_timers::JumpCore`] also by jumps, from change to change of the carrier.
-//! Both give the lawful list (`specs/Lawful.antt`): a sender starts exactly where its timers allow and it has a message
-//! left, after the past that the list itself makes (`specs/Past.antt`). `specs/inside/Runs.antt` says what a run knows from
-//! moment to moment, `specs/inside/Lasting.antt` what a stretch is, and `specs/Edges.antt` what bounds their number.
+//! horizon, bit time for bit time; over a [`bus_timers::JumpCore`] also by jumps, from start to start. Both give the
+//! lawful list (`specs/Lawful.antt`): a sender starts exactly where its timers allow and it has a message left, after
+//! the past that the list itself makes (`specs/Past.antt`). `specs/inside/Runs.antt` says what a run knows from moment to
+//! moment, and `specs/inside/Lazy.antt` how a run by jumps keeps the timers of all senders in plain numbers beside their
+//! cores, which are told what was heard only where they start, and at the horizon.
 //! [`timings`] has the timings of a table's senders.
 //!
 //! [`laws`] has what follows of the definitions: every valid table with its hands has exactly one lawful list
@@ -22,15 +23,18 @@
 
 mod bit_times;
 mod bus;
+mod clock;
 mod deciding;
+mod ending;
 pub mod laws;
 mod note;
 mod seat;
 mod seating;
-mod stretches;
+mod starting;
 #[cfg(test)]
 mod tests;
 mod timings;
+mod turns;
 
 pub use bus::{Bus, OBSERVE_LIMIT};
 pub use seat::Seat;

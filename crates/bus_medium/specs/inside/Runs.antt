@@ -1,13 +1,11 @@
 -- What a run of the bus knows of its senders and its list, from moment to moment.
-use Rattle.std.specs.Prelude.{◌≡◌, ℕ, ◌+◌, ◌-◌, ◌^◌, ◌<◌, ◌≤◌, ◌⊎◌, ◌++◌, List, length, map}
+use Rattle.std.specs.Prelude.{◌≡◌, ℕ, ◌+◌, ◌-◌, ◌^◌, ◌<◌, ◌++◌, List, length, map}
 use Rattle.bus_timers.specs.declared.cores.Core.{Ghosts}
 use Rattle.bus_strings.specs.Members.{In}
 use Rattle.bus_strings.specs.Messages.{Entry}
-use Rattle.bus_medium.specs.Lawful.{Station, IsDue, IsLawfulTo}
+use Rattle.bus_medium.specs.Lawful.{IsLawfulTo}
 use Rattle.bus_medium.specs.Buses.{Seat, station_of}
 use Rattle.bus_medium.specs.inside.Following.{AllFollow, AllHaveRoom}
-use Rattle.bus_medium.specs.Edges.{edges_by}
-use Rattle.bus_medium.specs.Jumps.{Moved}
 
 -- At moment t, before anybody decides, the list is what was sent, the senders stand where it leaves them, and have room for what may come.
 pub record RunsTo {C : Type 0} (core : Ghosts C) (quiet : ℕ) (seats : List (Seat C)) (list : List Entry) (t : ℕ) : Type 0 where
@@ -22,10 +20,6 @@ pub record Grown (t : ℕ) (old new : List Entry) : Type 0 where
   pub at : (x : Entry) → In x more → x.moment ≡ t
   pub some : (x : Entry) → In x more → 0 < length x.message
 
--- How often each core was moved.
-abbrev pub moves_of : {C : Type 0} → Ghosts C → List (Seat C) → List ℕ
-moves_of core seats = map (λ x. core.moves x.terminal.core) seats
-
 -- At moment t the senders xs have decided, and have become ys.
 pub record Decided {C : Type 0} (core : Ghosts C) (quiet t : ℕ) (xs ys : List (Seat C)) (old new : List Entry) : Type 0 where
   pub stations : map station_of ys ≡ map station_of xs
@@ -33,29 +27,8 @@ pub record Decided {C : Type 0} (core : Ghosts C) (quiet t : ℕ) (xs ys : List 
   pub lawful : IsLawfulTo quiet (map station_of ys) (t + 1) 0 new
   pub follow : AllFollow core quiet ys new t (t + 1)
   pub room : AllHaveRoom core ys (2 ^ 62 - t)
-  pub moves : moves_of core ys ≡ moves_of core xs
 
 -- The senders xs have become ys, and the run goes to moment t.
 pub record Reached {C : Type 0} (core : Ghosts C) (quiet t : ℕ) (xs ys : List (Seat C)) (list : List Entry) : Type 0 where
   pub stations : map station_of ys ≡ map station_of xs
   pub to : RunsTo core quiet ys list t
-
--- Some sender is due.
-pub record SomeoneIsDue (quiet : ℕ) (stations : List Station) (list : List Entry) (t : ℕ) : Type 0 where
-  pub sender : Station
-  pub there : In sender stations
-  pub due : IsDue quiet list sender t
-
--- N stretches led to moment t: each ended where a pulse begins or ends, the last one maybe at the horizon, or with a start that comes now.
-abbrev pub Counted : ℕ → List Station → List Entry → ℕ → ℕ → ℕ → Type 0
-Counted quiet stations list horizon t n =
-    (n ≤ edges_by list t) ⊎ ((n ≤ edges_by list t + 1) × ((t ≡ horizon) ⊎ SomeoneIsDue quiet stations list t))
-
--- A stretch of n bit times led from moment t further, not beyond the horizon, in one move of each core.
-pub record Stretched {C : Type 0} (core : Ghosts C) (quiet horizon t n : ℕ) (xs ys : List (Seat C)) (old new : List Entry) : Type 0 where
-  pub some : 1 ≤ n
-  pub within : t + n ≤ horizon
-  pub reached : Reached core quiet (t + n) xs ys new
-  pub moved : Moved core 1 xs ys
-  pub counted : (count : ℕ) → Counted quiet (map station_of xs) old horizon t count
-      → Counted quiet (map station_of xs) new horizon (t + n) (count + 1)

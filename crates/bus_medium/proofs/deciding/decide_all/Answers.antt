@@ -1,4 +1,4 @@
-use Rattle.std.proofs.Common.{◌<◌, ◌+◌, ◌-◌, ◌^◌, length, map, get_or, arith, sym, refl, ◌∙◌, subst}
+use Rattle.std.proofs.Common.{◌<◌, ◌+◌, ◌-◌, ◌^◌, length, map, get_or, arith, sym, ◌∙◌, subst}
 use Rattle.std.proofs.lemmas.List.{length-set}
 use Rattle.std.proofs.lemmas.Option.{slice_get-get_or}
 use Rattle.bus_medium.specs.Lawful.{IsLawfulTo}
@@ -6,7 +6,7 @@ use Rattle.bus_medium.specs.Buses.{number_of}
 use Rattle.bus_medium.specs.Orders.{IsByNumber}
 use Rattle.bus_medium.proofs.Seats.{map_set_same, same_numbers}
 use Rattle.bus_medium.proofs.DecideLemmas.{no_places, one_place, all_places, places_within, number_in}
-use Rattle.bus_medium.proofs.Growing.{grown_none, grown_one, moves_kept}
+use Rattle.bus_medium.proofs.Growing.{grown_none, grown_one}
 use Rattle.bus_medium.proofs.deciding.decide_all.Goals as goal
 
 pub loop-place-init : goal.loop-place-init
@@ -16,7 +16,6 @@ loop-place-init g c =
       decided = no_places g.C.Core c.args.roster.now.quiet c.args.moment c.args.seats.now c.args.list.now.items places.result.now c.requires.at.lawful c.requires.at.follow;
       within = places_within c.args.seats.now places.result.now (subst (IsByNumber (map number_of c.args.seats.now)) (sym places.ensures.value) c.requires.roster.order);
       grown = grown_none c.args.moment c.args.list.now.items;
-      moves = refl;
     }
 
 pub decide_one-requires-clause-number : goal.decide_one-requires-clause-number
@@ -44,7 +43,6 @@ loop-place-preserved g c =
           (slice_get-get_or places i 0 (omega arith)) (slice_get-get_or ys p c.index-seats-place.result within) c.in_ok-begun.begun c.in_ok-begun.ensures.begun c.note.new.list.items c.in_ok-note.ensures;
       within = λ k h. let w = c.loop-place.invariant.within k h in omega (arith, length-set ys p y, w);
       grown = grown_one g.C.Core c.args.moment c.args.list.now.items c.loop-place.list.items c.note.new.list.items x y c.in_ok-begun.begun c.loop-place.invariant.grown c.in_ok-begun.ensures.begun c.in_ok-note.ensures;
-      moves = map_set_same (λ s. g.C.Core.moves s.terminal.core) ys p x y (slice_get-get_or ys p c.index-seats-place.result within) (moves_kept g.C.Core c.args.moment x y c.in_ok-begun.begun c.in_ok-begun.ensures.begun) ∙ c.loop-place.invariant.moves;
     }
 
 pub returns-clause-decided : goal.returns-clause-decided
@@ -61,7 +59,6 @@ returns-clause-decided g c =
       lawful = subst (λ ss. IsLawfulTo c.args.roster.now.quiet ss (c.args.moment + 1) 0 c.loop-place.list.items) (sym so.decided.so.stations) all.0;
       follow = all.1;
       room = so.decided.so.room (2 ^ 62 - c.args.moment) c.requires.at.room;
-      moves = so.moves;
     }
 
 -- a sender that decided keeps its number

@@ -1,0 +1,189 @@
+-- A run that tells a core what was heard only where its sender starts, and at the horizon. Beside each sender stand numbers that tell when
+-- that is: its clock. Their places are those of the past.
+use Rattle.std.specs.Prelude.{◌≡◌, ℕ, ◌+◌, ◌-◌, ◌^◌, ◌<◌, ◌≤◌, ◌⊎◌, Bool, nat_lt, nat_le, max, [], ◌∷◌, List, length, take, slice_get}
+use Rattle.std.specs.Prelude.{Option, Some, None, if◌then◌else◌}
+use Rattle.std.specs.Option.{MatchOption, option_and_then}
+use Rattle.bus_timers.specs.declared.timing.Timing.{Timing}
+use Rattle.bus_timers.specs.declared.cores.Core.{Ghosts}
+use Rattle.bus_timers.specs.Timings.{IsSound, due_place}
+use Rattle.bus_timers.specs.MayStart.{MayStart}
+use Rattle.bus_timers.specs.GapPlace.{GapFrom}
+use Rattle.bus_terminal.specs.Terminals.{last_begun}
+use Rattle.bus_terminal.specs.Jumps.{later_place, with_passed_many}
+use Rattle.bus_strings.specs.Members.{In}
+use Rattle.bus_strings.specs.Messages.{Entry}
+use Rattle.bus_strings.specs.Transmissions.{end_of}
+use Rattle.bus_medium.specs.Past.{HaveEnded}
+use Rattle.bus_medium.specs.Jumps.{Each}
+use Rattle.bus_medium.specs.inside.Following.{Idle, Started}
+use Rattle.bus_medium.specs.inside.Runs.{RunsTo, Decided}
+use Rattle.bus_medium.specs.Buses.{Seat}
+use Rattle.bus_medium.specs.declared.clock.Clock.{Clock}
+
+-- The place of a moment that never comes.
+abbrev pub never : ℕ
+never = 18446744073709551615
+
+-- A place at which something of the sender is due: never, where no message is left.
+abbrev pub due_at : {C : Type 0} → Seat C → ℕ → ℕ
+due_at seat place = if nat_lt seat.terminal.sent (length seat.terminal.hand.messages) then place else never
+
+-- When it may start on a quiet bus: its interval has elapsed, and its terminal gap.
+abbrev pub IsReady : Clock → Type 0
+IsReady clock = clock.ready ≡ max clock.due (clock.gap_from + clock.tg)
+
+-- Where the terminal gap counts from behind a stretch that is busy from one place to another.
+abbrev pub gap_after : ℕ → ℕ → ℕ → ℕ → ℕ
+gap_after sg gap_from from to = if nat_le gap_from from then to else to + sg
+
+-- The clock behind such a stretch.
+abbrev pub clock_after : ℕ → ℕ → Clock → Clock
+clock_after from to clock = record {
+  sg = clock.sg;
+  tg = clock.tg;
+  told = clock.told;
+  due = clock.due;
+  gap_from = gap_after clock.sg clock.gap_from from to;
+  ready = max clock.due (gap_after clock.sg clock.gap_from from to + clock.tg);
+}
+
+-- A sender, and its clock.
+pub record Clocked (C : Type 0) : Type 0 where
+  pub seat : Seat C
+  pub clock : Clock
+
+-- The past p ends at the place now. The clock goes with all of it, and the core stands for what it has been told, from the place quiet on.
+pub record StandsLazily {C : Type 0} (core : Ghosts C) (quiet now : ℕ) (x : Clocked C) (timing : Timing) (p : List Bool) (last : Option ℕ)
+    : Type 0 where
+  pub sound : IsSound timing
+  pub same : x.seat.timing ≡ timing
+  pub at : length p ≡ now
+  pub sg : x.clock.sg ≡ timing.sg
+  pub tg : x.clock.tg ≡ timing.tg
+  pub gap : GapFrom timing.sg p last x.clock.gap_from
+  pub due : x.clock.due ≡ due_at x.seat (due_place timing last)
+  pub ready : IsReady x.clock
+  pub from : quiet ≤ x.clock.told
+  pub told : x.clock.told ≤ now
+  pub stands : core.stands x.seat.terminal.core timing (take x.clock.told p) last
+  pub room : 2 ^ 62 + quiet ≤ core.room x.seat.terminal.core + x.clock.told
+
+-- A sender with its clock in the place of a core.
+abbrev pub lazy : {C : Type 0} → Ghosts C → ℕ → ℕ → Ghosts (Clocked C)
+lazy core quiet now = record { stands = StandsLazily core quiet now; room = λ _. 2 ^ 62; moves = λ _. 0 }
+
+-- The sender at the place now: what ran when its core was told has gone on since.
+abbrev pub lazy_seat : {C : Type 0} → ℕ → Seat C → Clock → Seat (Clocked C)
+lazy_seat now seat clock = record {
+  timing = seat.timing;
+  terminal = record {
+    core = record { seat = seat; clock = clock };
+    hand = seat.terminal.hand;
+    sent = seat.terminal.sent;
+    running = option_and_then
+        (later_place (last_begun seat.terminal.hand seat.terminal.sent) (now - clock.told)) seat.terminal.running;
+  };
+}
+
+-- All senders.
+abbrev pub lazy_seats : {C : Type 0} → ℕ → List (Seat C) → List Clock → List (Seat (Clocked C))
+lazy_seats now [] clocks = []
+lazy_seats now (x ∷ xs) [] = []
+lazy_seats now (x ∷ xs) (k ∷ ks) = lazy_seat now x k ∷ lazy_seats now xs ks
+
+-- At moment t nobody has decided, and the list is what was sent.
+abbrev pub RunsLazily : {C : Type 0} → Ghosts C → ℕ → List (Seat C) → List Clock → List Entry → ℕ → Type 0
+RunsLazily core quiet seats clocks list t = RunsTo (lazy core quiet (quiet + t)) quiet (lazy_seats (quiet + t) seats clocks) list t
+
+-- At moment t the senders xs have decided, and have become ys.
+abbrev pub DecidedLazily : {C : Type 0} → Ghosts C → ℕ → ℕ → List (Seat C) → List Clock → List (Seat C) → List Clock → List Entry
+    → List Entry → Type 0
+DecidedLazily core quiet t xs ks ys cs old new =
+    Decided (lazy core quiet (quiet + t)) quiet t (lazy_seats (quiet + t) xs ks) (lazy_seats (quiet + t) ys cs) old new
+
+-- At moment t the sender x has decided, and has become y: it began this message, or none.
+abbrev pub BegunLazily : {C : Type 0} → Ghosts C → ℕ → ℕ → Seat C → Clock → Seat C → Clock → Option Entry → Type 0
+BegunLazily core quiet t x k y c begun =
+    MatchOption begun (Idle (lazy core quiet (quiet + t)) (lazy_seat (quiet + t) x k) (lazy_seat (quiet + t) y c))
+    (λ entry. Started (lazy core quiet (quiet + t)) (lazy_seat (quiet + t) x k) (lazy_seat (quiet + t) y c) t entry)
+
+-- The sender stands lazily for some past, and if it may start then nothing of it runs.
+pub record Sits {C : Type 0} (core : Ghosts C) (quiet now : ℕ) (seat : Seat C) (clock : Clock) : Type 0 where
+  pub past : List Bool
+  pub last : Option ℕ
+  pub stands : StandsLazily core quiet now (record { seat = seat; clock = clock }) seat.timing past last
+  pub free : MayStart seat.timing past last → (lazy_seat now seat clock).terminal.running ≡ None
+
+-- Every sender does.
+abbrev pub AllSit : {C : Type 0} → Ghosts C → ℕ → ℕ → List (Seat C) → List Clock → Type 0
+AllSit {C} core quiet now seats clocks =
+    (j : ℕ) (x : Seat C) (k : Clock) → slice_get seats j ≡ Some x → slice_get clocks j ≡ Some k → Sits core quiet now x k
+
+-- The core of a sender made a move for each message that was begun.
+abbrev pub MovesOnce : {C : Type 0} → Ghosts C → Seat C → Seat C → Type 0
+MovesOnce core x y = core.moves y.terminal.core + x.terminal.sent ≤ core.moves x.terminal.core + y.terminal.sent
+
+-- Every core did.
+abbrev pub MovedBySent : {C : Type 0} → Ghosts C → List (Seat C) → List (Seat C) → Type 0
+MovedBySent core xs ys = Each (MovesOnce core) xs ys
+
+-- What the list has gained at moment t has ended at moment `end`, where the longest of it does.
+pub record EndsAt (t : ℕ) (old new : List Entry) (end : ℕ) : Type 0 where
+  pub from : t ≤ end
+  pub ended : HaveEnded old t → HaveEnded new end
+  pub last : (end ≡ t) ⊎ ((x : Entry) × In x new × (x.moment ≡ t) × (end_of x ≡ end))
+
+-- The first place, up to the most, at which the clock of some sender is ready.
+pub record FirstReady (most : ℕ) (clocks : List Clock) (first : ℕ) : Type 0 where
+  pub high : first ≤ most
+  pub before : (j : ℕ) (k : Clock) → slice_get clocks j ≡ Some k → first ≤ k.ready
+  pub found : (first ≡ most) ⊎ ((j : ℕ) × (k : Clock) × (slice_get clocks j ≡ Some k) × (k.ready ≤ first))
+
+-- The first place from now on, and up to the most, at which the clock of some sender is ready.
+pub record NextPlace (now most : ℕ) (clocks : List Clock) (place : ℕ) : Type 0 where
+  pub low : now ≤ place
+  pub high : place ≤ most
+  pub before : (j : ℕ) (k : Clock) → slice_get clocks j ≡ Some k → (place ≤ k.ready) ⊎ (place ≡ now)
+  pub found : (place ≡ most) ⊎ ((j : ℕ) × (k : Clock) × (slice_get clocks j ≡ Some k) × (k.ready ≤ place))
+
+-- The clock of a sender at the settled start.
+pub record IsSettled {C : Type 0} (quiet : ℕ) (seat : Seat C) (clock : Clock) : Type 0 where
+  pub sg : clock.sg ≡ seat.timing.sg
+  pub tg : clock.tg ≡ seat.timing.tg
+  pub told : clock.told ≡ quiet
+  pub due : clock.due ≡ due_at seat (due_place seat.timing None)
+  pub gap : clock.gap_from ≡ seat.timing.sg
+  pub ready : IsReady clock
+
+-- The clocks of all senders.
+pub record AreSettled {C : Type 0} (quiet : ℕ) (seats : List (Seat C)) (clocks : List Clock) : Type 0 where
+  pub same_length : length clocks ≡ length seats
+  pub each : (j : ℕ) (x : Seat C) (k : Clock) → slice_get seats j ≡ Some x → slice_get clocks j ≡ Some k → IsSettled quiet x k
+
+-- At moment t nobody has decided, and all that was sent has ended, or the horizon has come.
+pub record RestsAt {C : Type 0} (core : Ghosts C) (quiet horizon : ℕ) (seats : List (Seat C)) (clocks : List Clock) (list : List Entry)
+    (t : ℕ) : Type 0 where
+  pub same_length : length clocks ≡ length seats
+  pub to : RunsLazily core quiet seats clocks list t
+  pub ended : HaveEnded list t ⊎ (t ≡ horizon)
+  pub some : (x : Entry) → In x list → 0 < length x.message
+  pub within : t ≤ horizon
+
+-- The clocks of a bus that was busy from one place to another.
+abbrev pub AreAfter : ℕ → ℕ → List Clock → List Clock → Type 0
+AreAfter from to clocks after = Each (λ k c. c ≡ clock_after from to k) clocks after
+
+-- A sender whose core was told all up to the place now.
+pub record IsTold {C : Type 0} (core : Ghosts C) (quiet now : ℕ) (clock : Clock) (x y : Seat C) : Type 0 where
+  pub timing : y.timing ≡ x.timing
+  pub terminal : y.terminal ≡ with_passed_many x.terminal (now - clock.told) y.terminal.core
+  pub stands : (timing : Timing) (past : List Bool) (last : Option ℕ)
+      → StandsLazily core quiet now (record { seat = x; clock = clock }) timing past last → core.stands y.terminal.core timing past last
+  pub room : 2 ^ 62 + quiet ≤ core.room y.terminal.core + now
+  pub moves : core.moves y.terminal.core ≤ core.moves x.terminal.core + 1
+
+-- Every sender was.
+pub record AreTold {C : Type 0} (core : Ghosts C) (quiet now : ℕ) (clocks : List Clock) (xs ys : List (Seat C)) : Type 0 where
+  pub same_length : length ys ≡ length xs
+  pub each : (j : ℕ) (x y : Seat C) (k : Clock) → slice_get xs j ≡ Some x → slice_get ys j ≡ Some y → slice_get clocks j ≡ Some k
+      → IsTold core quiet now k x y
