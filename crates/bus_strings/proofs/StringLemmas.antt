@@ -1,10 +1,10 @@
 -- Reading the wordstrings of a line, field by field.
-use Rattle.std.proofs.Common.{◌≡◌, ℕ, Bool, true, false, cond, ◌&&◌, ◌||◌, List, [], ◌∷◌, ◌++◌, map, Result, Ok, Err, refl, sym, ap, ◌∙◌, append_assoc, append-nil}
+use Rattle.std.proofs.Common.{◌≡◌, ℕ, Bool, true, false, cond, ◌&&◌, ◌||◌, List, [], ◌∷◌, ◌++◌, map, Ok, Err, refl, sym, ap, ◌∙◌, append_assoc, append-nil}
 use Rattle.std.specs.List.{slice_split, onto_first}
 use Rattle.bus_text.specs.Numbers.{is_hexadecimal, hexadecimal_value}
-use Rattle.bus_text.specs.declared.reason.Reason.{Reason}
 use Rattle.bus_text.specs.declared.reason.Reason.TheVariants.{Spelling}
 use Rattle.bus_strings.specs.Reading.{is_colon, are_spelled, strings_of}
+use Rattle.bus_strings.specs.inside.Building.{onto, with_strings}
 
 -- some piece comes first
 abbrev pub Begins : List (List (List ℕ)) → Type 0
@@ -20,15 +20,6 @@ some_piece (x ∷ xs) = piece_step (is_colon x) x (slice_split is_colon xs) (som
 
 abbrev pub values : List (List (List ℕ)) → List (List ℕ)
 values pieces = map (map hexadecimal_value) pieces
-
--- words in front of those of the first wordstring
-abbrev pub onto : List ℕ → List (List ℕ) → List (List ℕ)
-onto words [] = words ∷ []
-onto words (string ∷ strings) = (words ++ string) ∷ strings
-
--- what is read where these wordstrings are whole, these words were read since, and these fields are left
-abbrev pub with_strings : List (List ℕ) → List ℕ → List (List ℕ) → Result (List (List ℕ)) Reason
-with_strings whole words fields = cond (are_spelled fields) (Ok (whole ++ onto words (strings_of fields))) (Err Spelling)
 
 onto-nil : (pieces : List (List (List ℕ))) → Begins pieces → onto [] (values pieces) ≡ values pieces
 onto-nil pieces h = ap (λ ps. onto [] (values ps)) h.2 ∙ ap values (sym h.2)

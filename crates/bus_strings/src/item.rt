@@ -1,17 +1,18 @@
 //! One item of a messages text.
-ghost use Rattle.std.specs.Prelude.{◌≡◌, nat_le, length, drop, Ok, Err, IfOk, IfErr, Some, None, if◌then◌else◌};
+ghost use Rattle.std.specs.Prelude.{◌≡◌, ◌≤◌, nat_le, length, drop, Ok, Err, IfOk, IfErr, OnOk, Some, None, if◌then◌else◌};
 ghost use Rattle.std.specs.List.{list_all};
 ghost use Rattle.bus_text.specs.inside.Gives.{LineGives};
 ghost use Rattle.bus_text.specs.Numbers.{is_hexadecimal, hexadecimal_value};
 ghost use Rattle.bus_text.specs.declared.reason.Reason.TheVariants.{Spelling};
 ghost use Rattle.bus_strings.specs.Items.{numbers, is_in_range as range_test, IsItem};
 ghost use Rattle.bus_strings.specs.Limits.{most_words};
+ghost use Rattle.bus_strings.specs.inside.Building.{ReadsAlike, Takes, Refuses};
 ghost use Rattle.bus_strings.specs.Reading.{are_spelled, strings_of, HasFront, item_reading};
 
 use crate::limits::{MOST_STRINGS, MOST_TERMINAL, MOST_WORDS};
 use crate::payload::Payload;
 use bus_text::{Fields, LineFault, Reason, hexadecimal, plain_decimal};
-use std::alloc::Global;
+use std::alloc::{AllocError, Global};
 
 const COLON: &[u8] = b":";
 
@@ -22,28 +23,54 @@ fn word(field: &[u8]) -> Option<u16>
     Some(hexadecimal(field, 4)? as u16)
 }
 
+/// Takes data words in front of the fields, as far as they are found without a look for their ends, and puts them behind the others.
+fn take_words(words: &mut Vec<u16>, fields: &mut Fields<'_>) -> Result<(), AllocError>
+    ensures taken { OnOk result (ReadsAlike words.old.items fields.old words.new.items fields.new) }
+    ensures fewer { OnOk result (length fields.new ≤ length fields.old) }
+{
+    while let Some(word) = fields.next_four() {
+        words.push(word)?;
+    }
+    Ok(())
+}
+
+/// Takes a field, which is a data word more or the colon behind a wordstring.
+fn take_field(
+    alloc: Global,
+    strings: &mut Vec<Vec<u16>>,
+    words: &mut Vec<u16>,
+    field: &[u8],
+) -> Result<(), LineFault>
+    ensures taken { OnOk result (Takes field.now (numbers strings.old.items) words.old.items (numbers strings.new.items) words.new.items) }
+    ensures refused { IfErr result (λ fault. Refuses fault field.now (numbers strings.old.items) words.old.items) }
+{
+    if field == COLON {
+        strings.push(Vec::from_slice(alloc, words)?)?;
+        words.clear();
+        return Ok(());
+    }
+    let Some(word) = word(field) else {
+        return Err(LineFault::Refused(Reason::Spelling));
+    };
+    words.push(word)?;
+    Ok(())
+}
+
 /// The data words of the wordstrings, between which colons stand. A wordstring is gathered in `words` first, so that each
 /// takes only the memory that it needs.
 fn strings(
     alloc: Global,
     words: &mut Vec<u16>,
-    fields: Fields<'_>,
+    mut fields: Fields<'_>,
 ) -> Result<Vec<Vec<u16>>, LineFault>
     ensures { LineGives (λ v. numbers v.items) result (if are_spelled fields.entry then Ok (strings_of fields.entry) else Err Spelling) }
 {
     // Most items have one wordstring.
     let mut strings = Vec::with_capacity(alloc, 1)?;
     words.clear();
-    for field in fields {
-        if field == COLON {
-            strings.push(Vec::from_slice(alloc, words)?)?;
-            words.clear();
-            continue;
-        }
-        let Some(word) = word(field) else {
-            return Err(LineFault::Refused(Reason::Spelling));
-        };
-        words.push(word)?;
+    while let Some(field) = fields.next() {
+        take_field(alloc, &mut strings, words, field)?;
+        take_words(words, &mut fields)?;
     }
     strings.push(Vec::from_slice(alloc, words)?)?;
     Ok(strings)

@@ -56,8 +56,19 @@ fn are_words(words: &[u16])
     }
 }
 
+/// At most [`SHORT`] words, in front of an array.
+fn in_front(words: &[u16]) -> [u16; SHORT]
+    requires { length words.now ≤ 12 }
+    ensures { take (length words.now) result ≡ words.now }
+{
+    let mut front = [0; SHORT];
+    front[..words.len()].copy_from_slice(words);
+    front
+}
+
 impl Wordstring {
-    /// None where there are more than 256 data words.
+    /// None where there are more than 256 data words. Few words are kept in the wordstring itself, and the memory that they took is given
+    /// back.
     pub fn new(label: Label, ext: Ext, words: Vec<u16>) -> Option<Wordstring>
         ensures some { IsSome result ↔ (vec_len words ≤ most_words) }
         ensures none { IsNone result ↔ (most_words < vec_len words) }
@@ -68,6 +79,10 @@ impl Wordstring {
         }
         // The types of both keep their ranges, which are known from here on.
         let _ranges = (label.value(), ext.value());
+        if words.len() <= SHORT {
+            let count = words.len() as u8;
+            return Some(Wordstring::short(label, ext, count, in_front(&words)));
+        }
         Some(Wordstring {
             kept: Kept::Long { label, ext, words },
         })

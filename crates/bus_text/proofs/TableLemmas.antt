@@ -5,10 +5,11 @@ use Rattle.std.specs.Char.{is_ascii_hexdigit, digit_value}
 use Rattle.std.proofs.lemmas.Bool.{and_parts, eqb-true}
 use Rattle.bus_text.specs.Digits.{is_capital_digit}
 use Rattle.bus_text.proofs.DigitLaws.{digit_value-lt}
+use Rattle.bus_text.proofs.NumberLaws.{hex_value-lt}
 
 -- The values of the two tables.
 abbrev pub hexadecimal_of : ℕ → ℕ
-hexadecimal_of byte = cond (is_ascii_hexdigit byte) (digit_value byte) 16
+hexadecimal_of byte = cond (is_ascii_hexdigit byte) (digit_value byte) 61
 
 abbrev pub capital_of : ℕ → ℕ
 capital_of byte = cond (is_capital_digit byte) (digit_value byte) 61
@@ -39,6 +40,12 @@ values_at value_of values byte h all l = agrees_at value_of 0 values byte h (ome
 
 pub capital_most : (byte v : ℕ) → v ≡ capital_of byte → v ≤ 61
 capital_most byte v e = by (is_capital_digit byte) (digit_value-lt byte) e where
+  by : (t : Bool) → (t ≡ true → digit_value byte < 16) → v ≡ cond t (digit_value byte) 61 → v ≤ 61
+  by true h e = omega (arith, e, h refl)
+  by false h e = omega (arith, e)
+
+pub hexadecimal_most : (byte v : ℕ) → v ≡ hexadecimal_of byte → v ≤ 61
+hexadecimal_most byte v e = by (is_ascii_hexdigit byte) (hex_value-lt byte) e where
   by : (t : Bool) → (t ≡ true → digit_value byte < 16) → v ≡ cond t (digit_value byte) 61 → v ≤ 61
   by true h e = omega (arith, e, h refl)
   by false h e = omega (arith, e)

@@ -15,8 +15,8 @@ pub fn hex_digit(value: u8) -> u8
     }
 }
 
-/// What the table of values has for a byte that is no hexadecimal digit.
-const NO: u8 = 16;
+/// What [`hex_value`] has for a byte that is no digit: more than any four digits have together.
+pub(crate) const NO: u8 = 61;
 
 /// The value of each byte as a hexadecimal digit. A table, since digits and letters come in no order that a branch could
 /// learn.
@@ -52,9 +52,10 @@ const CAPITALS: [u8; 256] = [
     61, 61, 61, 61, 61, 61, 61, 61, 61, 61, 61, 61, 61, 61,
 ];
 
-/// The value of a hexadecimal digit, in capitals or not, and 16 for any other byte.
+/// The value of a hexadecimal digit, in capitals or not, and 61 for any other byte.
 pub(crate) fn hex_value(byte: u8) -> u8
-    ensures { result ≡ (if is_ascii_hexdigit byte then digit_value byte else 16) }
+    ensures value { result ≡ (if is_ascii_hexdigit byte then digit_value byte else 61) }
+    ensures most { result ≤ 61 }
 {
     VALUES[byte as usize]
 }

@@ -1,11 +1,12 @@
 //! The fields of a line.
 ghost use Rattle.std.specs.Prelude.{◌≡◌, ◌<◌, ℕ, length, true, false, MatchOption, IfSome, IfNone, slice_index, slice_index_or};
-ghost use Rattle.std.specs.Prelude.{[], ◌∷◌, drop};
+ghost use Rattle.std.specs.Prelude.{[], ◌∷◌, drop, List};
 ghost use Rattle.std.specs.Iterator.{YieldsFirstRef, item_count};
 ghost use Rattle.bus_text.specs.Fields.{is_at};
 ghost use Rattle.bus_text.specs.Lines.{is_blank as blank_test, fields_of};
 
 use crate::lines::is_blank;
+use crate::numbers::four_digit_number;
 use std::marker::Model;
 
 /// Where the first blank of a line stands.
@@ -92,6 +93,28 @@ impl<'a> Fields<'a> {
             None => &[],
             Some(field) => field,
         }
+    }
+}
+
+impl<'a> Fields<'a> {
+    ghost use Rattle.bus_text.specs.Numbers.{IsHexadecimal};
+
+    /// Takes the next field where no blank stands before it, it is four hexadecimal digits and a space stands behind it, and gives the
+    /// number that they write: a line of many such fields is read without a look for their ends. None where one of this isn't so;
+    /// then nothing is taken, and the next field can still be four digits.
+    pub fn next_four(&mut self) -> Option<u16>
+        ensures some { IfSome result (λ n. (field : List ℕ) × (self.old ≡ field ∷ self.new) × IsHexadecimal 4 field n) }
+        ensures none { IfNone result (self.new ≡ self.old) }
+    {
+        let [a, b, c, d, behind, rest @ ..] = self.rest else {
+            return None;
+        };
+        if *behind != b' ' {
+            return None;
+        }
+        let number = four_digit_number(*a, *b, *c, *d)?;
+        self.rest = rest;
+        Some(number)
     }
 }
 
