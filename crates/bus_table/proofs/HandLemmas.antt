@@ -139,3 +139,14 @@ shape_at senders item sender h e = sym (ap (λ (o : Option Sender). option_map_o
 pub fit_now : (senders : List Sender) (items others : List Item) (item next : Item) → list_all (is_fit senders) items ≡ true → items ≡ next ∷ others → item ≡ next → (is_fit senders item ≡ true) × (list_all (is_fit senders) others ≡ true)
 fit_now senders items others item next h e same =
     and_parts (is_fit senders item) _ (ap (λ (x : Item). is_fit senders x && list_all (is_fit senders) others) same ∙ sym (ap (list_all (is_fit senders)) e) ∙ h)
+
+-- where no sender stands, none is found
+pub none_found : (p : Sender → Bool) (senders : List Sender) → position p senders ≡ None → find p senders ≡ None
+none_found p senders h = by (find p senders) refl where
+  by : (o : Option Sender) → find p senders ≡ o → find p senders ≡ None
+  by None e = e
+  by (Some s) e =
+      let at : slice_get senders (position_or_len p senders) ≡ Some s = sym (find_at p senders) ∙ e in
+      let some : position p senders ≡ Some (position_or_len p senders) = ap (λ t. cond t (Some (position_or_len p senders)) None) (within (position_or_len p senders) (length senders) (slice_get_within senders (position_or_len p senders) s at)) in
+      let wrong : None ≡ Some (position_or_len p senders) = sym h ∙ some in
+      absurd cc

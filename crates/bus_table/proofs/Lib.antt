@@ -11,6 +11,8 @@ pub mod StepLemmas
 pub mod StopLemmas
 pub mod AnswerLemmas
 pub mod RankLemmas
+pub mod KeyLemmas
+pub mod SeenLemmas
 pub mod TurnedLemmas
 pub mod FitLemmas
 pub mod NewLemmas

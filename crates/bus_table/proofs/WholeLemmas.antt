@@ -86,16 +86,16 @@ pub taken_numbers : (before : List ℕ) (listeners : List Listener) (k number : 
 taken_numbers before listeners k number = ap (λ ns. list_any (λ n. n == number) (before ++ ns)) (take-map (λ l. l.number) k listeners)
 
 -- ---- sender by sender
+pub one_more : (senders : List Sender) (k : ℕ) (x : Sender) → k < length senders → x ≡ get_or senders k x → send_lines (take (k + 1) senders) ≡ send_lines (take k senders) ++ x.sends
+one_more senders k x h e =
+    ap send_lines (take_at senders k x h e) ∙ flat_map-append (λ s. s.sends) (take k senders) (x ∷ []) ∙ ap (λ ls. send_lines (take k senders) ++ ls) (append-nil x.sends)
+
 sender_split : (senders : List Sender) (k : ℕ) (x : Sender) → k < length senders → x ≡ get_or senders k x
     → first_again same_pair (send_lines (take k senders)) (send_lines (drop k senders)) ≡ option_or (first_again same_pair (send_lines (take k senders)) x.sends) (first_again same_pair (send_lines (take (k + 1) senders)) (send_lines (drop (k + 1) senders)))
 sender_split senders k x h e =
     ap (λ ss. first_again same_pair (send_lines (take k senders)) (send_lines ss)) (drop_at senders k x h e)
     ∙ first_again-append same_pair (send_lines (take k senders)) x.sends (send_lines (drop (k + 1) senders))
     ∙ ap (λ ls. option_or (first_again same_pair (send_lines (take k senders)) x.sends) (first_again same_pair ls (send_lines (drop (k + 1) senders)))) (sym (one_more senders k x h e))
-  where
-    one_more : (senders : List Sender) (k : ℕ) (x : Sender) → k < length senders → x ≡ get_or senders k x → send_lines (take (k + 1) senders) ≡ send_lines (take k senders) ++ x.sends
-    one_more senders k x h e =
-        ap send_lines (take_at senders k x h e) ∙ flat_map-append (λ s. s.sends) (take k senders) (x ∷ []) ∙ ap (λ ls. send_lines (take k senders) ++ ls) (append-nil x.sends)
 
 -- a line of the sender is the first
 pub sender_stops : (senders : List Sender) (k : ℕ) (x : Sender) (line : SendLine) (total : Option SendLine) → k < length senders → x ≡ get_or senders k x → Some line ≡ first_again same_pair (send_lines (take k senders)) x.sends

@@ -1,3 +1,6 @@
 -- What only contracts of private functions and proofs name: not to be read for what is promised.
 pub mod Facts
+pub mod Keys
+pub mod Placed
 pub mod Puts
+pub mod Seen

@@ -7,13 +7,18 @@ ghost use Rattle.bus_table.specs.Ranges.{are_send_lines};
 
 use crate::hand::Hand;
 use crate::line::SendLine;
+use crate::places::Places;
 use crate::sender::Sender;
 use crate::table::Table;
 use bus_strings::{Message, Payloads, Wordstring};
 use std::alloc::{AllocError, Global};
 
-/// The message of these strings, with the labels and extensions of the lines.
-fn message(alloc: Global, sends: &[SendLine], strings: Vec<Vec<u16>>) -> Result<Message, AllocError>
+/// The message of these strings, with the labels and extensions of the lines, in memory for any number of them.
+fn long_message(
+    alloc: Global,
+    sends: &[SendLine],
+    strings: Vec<Vec<u16>>,
+) -> Result<Message, AllocError>
     requires lines { IsTrue (are_send_lines sends.now) }
     requires shape { IsTrue (fits.has_shape sends.now (numbers strings.items)) }
     ensures { IfOk result (λ message. message ≡ message_of sends.now (numbers strings.items)) }
@@ -26,6 +31,24 @@ fn message(alloc: Global, sends: &[SendLine], strings: Vec<Vec<u16>>) -> Result<
         k += 1;
     }
     Ok(Message::new(wordstrings).unwrap())
+}
+
+/// The message of these strings, with the labels and extensions of the lines. One of a single wordstring, as most are, takes no memory.
+fn message(
+    alloc: Global,
+    sends: &[SendLine],
+    mut strings: Vec<Vec<u16>>,
+) -> Result<Message, AllocError>
+    requires lines { IsTrue (are_send_lines sends.now) }
+    requires shape { IsTrue (fits.has_shape sends.now (numbers strings.items)) }
+    ensures { IfOk result (λ message. message ≡ message_of sends.now (numbers strings.items)) }
+{
+    let [line] = sends else {
+        return long_message(alloc, sends, strings);
+    };
+    let words = strings.pop().unwrap();
+    let string = Wordstring::new(line.label, line.ext, words).unwrap();
+    Ok(Message::one(alloc, string))
 }
 
 /// One hand without messages for each sender, in order.
@@ -58,9 +81,10 @@ pub fn hands(alloc: Global, table: &Table, payloads: Payloads) -> Result<Vec<Han
     ensures fit { IfOk result (λ made. IsTrue (are_hands table.now.senders made.items)) }
 {
     let senders = table.senders();
+    let places = Places::new(senders);
     let mut hands = empty_hands(alloc, senders)?;
     for item in payloads.items {
-        let place = place_of(senders, item.terminal).unwrap();
+        let place = places.of(senders, item.terminal).unwrap();
         hands[place].push(message(alloc, senders[place].sends(), item.strings)?)?;
     }
     Ok(hands)

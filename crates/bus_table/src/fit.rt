@@ -3,8 +3,10 @@ ghost use Rattle.std.specs.Prelude.{◌≡◌, ◌==◌, ◌&&◌, length};
 ghost use Rattle.std.specs.Option.{option_copied};
 ghost use Rattle.bus_strings.specs.Items.{numbers};
 ghost use Rattle.bus_table.specs.Fits as fits;
+ghost use Rattle.bus_table.specs.inside.Placed.{ArePlaces};
 
 use crate::line::SendLine;
+use crate::places::Places;
 use crate::sender::Sender;
 use crate::table::Table;
 use bus_strings::{Message, Payload, Payloads, Wordstring};
@@ -24,6 +26,15 @@ pub fn sender_of(senders: &[Sender], number: u8) -> Option<&Sender>
     ensures { option_copied result ≡ fits.sender_of senders.now number }
 {
     senders.iter().find(|sender| sender.number() == number)
+}
+
+/// The sender with this number, found by its place; None where there is none.
+fn sender_in<'a>(senders: &'a [Sender], places: &Places, number: u8) -> Option<&'a Sender>
+    requires { ArePlaces senders.now places.now.by_number }
+    ensures { option_copied result ≡ fits.sender_of senders.now number }
+{
+    let place = places.of(senders, number)?;
+    Some(&senders[place])
 }
 
 /// Whether a line may have so many data words.
@@ -82,10 +93,11 @@ fn has_shape(sends: &[SendLine], strings: &[Vec<u16>]) -> bool
 }
 
 /// Whether item `k` fits the sender of its terminal.
-fn item_fits(k: u64, senders: &[Sender], item: &Payload) -> Result<(), FitError>
+fn item_fits(k: u64, senders: &[Sender], places: &Places, item: &Payload) -> Result<(), FitError>
+    requires { ArePlaces senders.now places.now.by_number }
     ensures { result ≡ fits.item_fit k senders.now item.now }
 {
-    let Some(sender) = sender_of(senders, item.terminal) else {
+    let Some(sender) = sender_in(senders, places, item.terminal) else {
         return Err(FitError::Stranger(k));
     };
     if has_shape(sender.sends(), &item.strings) {
@@ -99,9 +111,10 @@ fn item_fits(k: u64, senders: &[Sender], item: &Payload) -> Result<(), FitError>
 fn items_fit(senders: &[Sender], items: &[Payload]) -> Result<(), FitError>
     ensures { result ≡ fits.fit_from 1 senders.now items.now }
 {
+    let places = Places::new(senders);
     let mut k = 1;
     for item in items {
-        item_fits(k, senders, item)?;
+        item_fits(k, senders, &places, item)?;
         k += 1;
     }
     Ok(())

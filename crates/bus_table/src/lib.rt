@@ -32,6 +32,7 @@ mod line;
 mod listener;
 mod mode;
 mod offsets;
+mod places;
 mod ranges;
 mod reading;
 mod saying;

@@ -1,9 +1,10 @@
 //! The reasons against a table whose numbers are in their ranges.
-ghost use Rattle.std.specs.Prelude.{◌≡◌, ◌==◌, [], ◌∷◌, ◌++◌, map, nat_le, Option};
+ghost use Rattle.std.specs.Prelude.{◌≡◌, ◌<◌, ◌==◌, false, [], ◌∷◌, ◌++◌, map, nat_le, Option, IfNone};
 ghost use Rattle.std.specs.List.{list_any, find};
 ghost use Rattle.std.specs.Option.{option_map};
 ghost use Rattle.bus_table.specs.declared.error.WholeReason.TheVariants.{NumberTwice};
 ghost use Rattle.bus_table.specs.Whole as whole;
+ghost use Rattle.bus_table.specs.inside.Seen.{AreSeen, pair_place};
 
 use crate::error::WholeReason;
 use crate::line::SendLine;
@@ -115,14 +116,38 @@ fn gap_not_short(sg: u32, senders: &[Sender]) -> Option<WholeReason>
     Some(WholeReason::GapNotShort(sender.number()))
 }
 
-/// The first of these lines whose pair an earlier one of them, or a line of these senders, has.
-fn line_again(senders: &[Sender], lines: &[SendLine]) -> Option<SendLine>
-    ensures { result ≡ whole.first_again whole.same_pair (whole.send_lines senders.now) lines.now }
+/// As many places as pairs of a label and an extension are seen by: more than a table has lines, and few enough to be cleared for each.
+const PAIRS: usize = 4096;
+
+/// The place of the pair of a line. Pairs of labels that lie 256 apart share one.
+fn pair_place(line: &SendLine) -> usize
+    ensures place { result ≡ pair_place line.now }
+    ensures within { result < 4096 }
+{
+    (16 * usize::from(line.label.value()) + usize::from(line.ext.value())) % PAIRS
+}
+
+/// Whether some line of these senders, or one of these lines, has the label and extension of this one. Where the pair isn't seen, none has.
+fn is_again(senders: &[Sender], lines: &[SendLine], line: &SendLine, seen: bool) -> bool
+    requires { seen ≡ false → list_any (λ other. whole.same_pair other line.now) (whole.send_lines senders.now ++ lines.now) ≡ false }
+    ensures { result ≡ list_any (λ other. whole.same_pair other line.now) (whole.send_lines senders.now ++ lines.now) }
+{
+    seen && has_send_line(senders, lines, line)
+}
+
+/// The first of these lines whose pair an earlier one of them, or a line of these senders, has. Each pair is seen from then on, so that
+/// only lines of a pair that is seen are compared.
+fn line_again(senders: &[Sender], lines: &[SendLine], seen: &mut [bool; PAIRS]) -> Option<SendLine>
+    requires { AreSeen seen.old (whole.send_lines senders.now) }
+    ensures first { result ≡ whole.first_again whole.same_pair (whole.send_lines senders.now) lines.now }
+    ensures seen { IfNone result (AreSeen seen.new (whole.send_lines senders.now ++ lines.now)) }
 {
     for (k, line) in lines.iter().enumerate() {
-        if has_send_line(senders, &lines[..k], line) {
+        let place = pair_place(line);
+        if is_again(senders, &lines[..k], line, seen[place]) {
             return Some(*line);
         }
+        seen[place] = true;
     }
     None
 }
@@ -131,8 +156,9 @@ fn line_again(senders: &[Sender], lines: &[SendLine]) -> Option<SendLine>
 fn pair_twice(senders: &[Sender]) -> Option<WholeReason>
     ensures { result ≡ whole.pair_twice senders.now }
 {
+    let mut seen = [false; PAIRS];
     for (k, sender) in senders.iter().enumerate() {
-        if let Some(line) = line_again(&senders[..k], sender.sends()) {
+        if let Some(line) = line_again(&senders[..k], sender.sends(), &mut seen) {
             return Some(WholeReason::PairTwice(line.label, line.ext));
         }
     }

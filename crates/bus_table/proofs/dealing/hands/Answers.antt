@@ -27,14 +27,14 @@ unwrap-place-requires c =
     let item : Item = record { terminal = c.item.inside.terminal; strings = numbers c.item.inside.strings.items } in
     let senders = c.senders-senders.result.now in
     let fit = fit_now senders (into_iter_items c.loop-item.item-iterator) (into_iter_items c.next.new.self) item c.in-Some.item c.loop-item.invariant.2 c.in-Some.ensures.steps.0 c.item.view_is in
-    rw c.place_of.ensures (stands (λ s. s.number == item.terminal) senders item fit.0)
+    rw c.of.ensures (stands (λ s. s.number == item.terminal) senders item fit.0)
 
 pub message-requires-clause-shape : goal.message-requires-clause-shape
 message-requires-clause-shape c =
     let item : Item = record { terminal = c.item.inside.terminal; strings = numbers c.item.inside.strings.items } in
     let senders = c.senders-senders.result.now in
     let fit = fit_now senders (into_iter_items c.loop-item.item-iterator) (into_iter_items c.next.new.self) item c.in-Some.item c.loop-item.invariant.2 c.in-Some.ensures.steps.0 c.item.view_is in
-    let at = stands_at senders item.terminal c.unwrap-place.result c.index-senders-place.result (sym c.place_of.ensures ∙ c.unwrap-place.ensures) c.index-senders-place.is in
+    let at = stands_at senders item.terminal c.unwrap-place.result c.index-senders-place.result (sym c.of.ensures ∙ c.unwrap-place.ensures) c.index-senders-place.is in
     ap (λ (ls : List SendLine). has_shape ls item.strings) c.sends.ensures.value ∙ shape_at senders item c.index-senders-place.result fit.0 at.found
 
 pub loop-item-preserved : goal.loop-item-preserved
@@ -45,7 +45,7 @@ loop-item-preserved c =
     let sender = c.index-senders-place.result in
     let inv = c.loop-item.invariant in
     let fit = fit_now senders (into_iter_items c.loop-item.item-iterator) (into_iter_items c.next.new.self) item c.in-Some.item inv.2 c.in-Some.ensures.steps.0 c.item.view_is in
-    let at = stands_at senders item.terminal k sender (sym c.place_of.ensures ∙ c.unwrap-place.ensures) c.index-senders-place.is in
+    let at = stands_at senders item.terminal k sender (sym c.of.ensures ∙ c.unwrap-place.ensures) c.index-senders-place.is in
     let distinct = subst (λ (ss : List Sender). IsDistinct nat_eq (map (λ s. s.number) ss)) (sym c.senders-senders.ensures.value) (valid_facts c.args.table.now c.senders-senders.ensures.valid).numbers in
     let old = c.index_mut.result.now in
     let there = c.index_mut.ensures.value ∙ ap (λ (hs : List Hand). get_or hs k old) inv.3 in

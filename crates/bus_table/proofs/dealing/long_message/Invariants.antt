@@ -3,7 +3,7 @@ use Rattle.std.specs.Vec.Iter.{into_iter_items}
 use Rattle.bus_strings.specs.Items.{numbers}
 use Rattle.bus_table.specs.Fits.{has_shape}
 use Rattle.bus_table.specs.Hands.{message_of}
-use Rattle.bus_table.proofs.dealing.message.Given as goal
+use Rattle.bus_table.proofs.dealing.long_message.Given as goal
 
 abbrev pub invariant-loop-words : goal.invariant-loop-words
 invariant-loop-words l = record {

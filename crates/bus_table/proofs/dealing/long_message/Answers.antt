@@ -3,7 +3,7 @@ use Rattle.std.proofs.lemmas.List.{nil_from_length, length-drop}
 use Rattle.std.specs.Vec.Iter.{into_iter_items}
 use Rattle.bus_strings.specs.Items.{numbers}
 use Rattle.bus_table.proofs.FitLemmas.{shape_over, all_made, line_count, some_of}
-use Rattle.bus_table.proofs.dealing.message.Goals as goal
+use Rattle.bus_table.proofs.dealing.long_message.Goals as goal
 
 pub unwrap-requires-2 : goal.unwrap-requires-2
 unwrap-requires-2 c =
