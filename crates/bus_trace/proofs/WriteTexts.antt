@@ -12,7 +12,7 @@ use Rattle.bus_strings.specs.Transmissions.{end_of, marks}
 use Rattle.bus_trace.specs.declared.format.Format.TheVariants.{Two}
 use Rattle.bus_trace.specs.Traces.{Recording, Line, data_word, head_line, horizon_line, hold_line, begin_line, string_line, entry_lines}
 use Rattle.bus_trace.specs.Traces.{mark_text, close_line, marked_lines, list_lines, opening_lines, end_line, trace_text}
-use Rattle.bus_trace.specs.inside.Writing.{word_put, data_put, string_put, pair_put, hold_put, close_put, entry_put, horizon_put, list_put}
+use Rattle.bus_trace.specs.inside.Writing.{data_put, label_put, string_put, pair_put, hold_put, close_put, entry_put, horizon_put, list_put}
 use Rattle.bus_trace.specs.inside.Writing.{trace_put}
 
 flat_map-same : {X : Type 0} (f g : X → List ℕ) (xs : List X) → ((x : X) → f x ≡ g x) → flat_map f xs ≡ flat_map g xs
@@ -29,7 +29,7 @@ spelled_flat_map f [] = refl
 spelled_flat_map f (x ∷ xs) = flat_map-append spelled_line (f x) (flat_map f xs)
     ∙ ap (λ t. spelled_lines (f x) ++ t) (spelled_flat_map f xs)
 
-pair_is : (keyword : List ℕ) (m n : ℕ) → pair_put keyword m n ≡ spelled_line (keyword ∷ decimal m ∷ decimal n ∷ [])
+pair_is : (keyword : List ℕ) (m n : ℕ) → pair_put (keyword ++ codes " ") m n ≡ spelled_line (keyword ∷ decimal m ∷ decimal n ∷ [])
 pair_is keyword m n = simp append_assoc
 
 -- a space before each field
@@ -40,13 +40,13 @@ joined f (w ∷ ws) = ap (λ t. f ++ 32 ∷ t) (joined (word_text (data_word w))
 string_is : (s : Wordstring) → string_put s ≡ spelled_line (string_line s)
 string_is s =
     let label : List ℕ = word_text (label_word s.label s.ext) in
-    append_assoc (codes "WS" ++ word_put (label_word s.label s.ext)) (data_put s.words) (codes "\n")
+    append_assoc (label_put (label_word s.label s.ext)) (data_put s.words) (codes "\n")
     ∙ ap (λ (t : List ℕ). 87 ∷ 83 ∷ 32 ∷ t) (sym (append_assoc label (data_put s.words) (10 ∷ []))
     ∙ ap (λ t. t ++ 10 ∷ []) (sym (joined label s.words)))
 
 close_is : (x : Entry) (mark : Bool) → close_put x mark ≡ spelled_line (close_line x mark)
 close_is x mark = by_mark (decimal (end_of x)) mark where
-  by_mark : (e : List ℕ) (mark : Bool) → codes "TE" ++ codes " " ++ e ++ codes " " ++ mark_text mark ++ codes "\n" ≡ spelled_line
+  by_mark : (e : List ℕ) (mark : Bool) → codes "TE " ++ e ++ (codes " " ++ mark_text mark ++ codes "\n") ≡ spelled_line
       (codes "TE" ∷ e ∷ mark_text mark ∷ [])
   by_mark e mark = simp append_assoc
 

@@ -1,7 +1,7 @@
 //! The mark of a TE line: whether its transmission is garbled.
 ghost use Rattle.std.specs.Prelude.{◌≡◌};
 ghost use Rattle.bus_trace.specs.States.{is_mark as mark_test, mark_of as mark_in, starts_wrong as starts_test, turns_wrong as turns_test};
-ghost use Rattle.bus_trace.specs.Traces.{mark_text as text_of};
+ghost use Rattle.bus_trace.specs.inside.Writing.{mark_put};
 
 const GARBLED: &[u8] = b"C";
 
@@ -21,11 +21,11 @@ pub(crate) fn mark_of(field: &[u8]) -> bool
     field == GARBLED
 }
 
-/// How a mark is written.
-pub(crate) fn mark_text(mark: bool) -> &'static [u8]
-    ensures { result.now ≡ text_of mark }
+/// The end of a TE line: its mark behind a space, and the line feed.
+pub(crate) fn marked_end(mark: bool) -> &'static [u8]
+    ensures { result.now ≡ mark_put mark }
 {
-    if mark { GARBLED } else { CLEAR }
+    if mark { b" C\n" } else { b" -\n" }
 }
 
 /// Whether a mark is wrong at its own TE line. The transmission is hit where an earlier one ends behind its moment, and final where none

@@ -5,13 +5,13 @@ ghost use Rattle.bus_strings.specs.Transmissions.{IsByMoment};
 ghost use Rattle.bus_outer.specs.Sinks.{WritesText};
 ghost use Rattle.bus_outer.specs.Texts.{Adds};
 ghost use Rattle.bus_trace.specs.Traces.{trace_text};
-ghost use Rattle.bus_trace.specs.inside.Writing.{word_put, data_put, string_put, pair_put, hold_put, close_put, entry_put};
+ghost use Rattle.bus_trace.specs.inside.Writing.{word_put, data_put, label_put, string_put, pair_put, hold_put, close_put, entry_put};
 ghost use Rattle.bus_trace.specs.inside.Writing.{head_put, horizon_put, list_put};
 
 use crate::format::TWO;
 use crate::hold::Hold;
 use crate::keyword::TRACE;
-use crate::mark::mark_text;
+use crate::mark::marked_end;
 use crate::trace::Trace;
 use bus_outer::{Sink, TextBuffer, WriteFault};
 use bus_strings::laws::neighbours_tell;
@@ -22,8 +22,16 @@ use bus_words::{Kind, Word, label_word, word_text};
 fn put_word<K: Sink>(text: &mut TextBuffer, sink: &mut K, word: Word)
     ensures { Adds K.held K.faults sink.old sink.new text.old text.new (word_put word) }
 {
-    text.put_byte(sink, b' ');
-    text.put(sink, &word_text(word));
+    let [letter, a, b, c, d, parity] = word_text(word);
+    text.put(sink, &[b' ', letter, a, b, c, d, parity]);
+}
+
+/// A label word behind its keyword.
+fn put_label<K: Sink>(text: &mut TextBuffer, sink: &mut K, word: Word)
+    ensures { Adds K.held K.faults sink.old sink.new text.old text.new (label_put word) }
+{
+    let [letter, a, b, c, d, parity] = word_text(word);
+    text.put(sink, &[b'W', b'S', b' ', letter, a, b, c, d, parity]);
 }
 
 /// Data words, each behind its space.
@@ -43,8 +51,7 @@ fn put_data<K: Sink>(text: &mut TextBuffer, sink: &mut K, words: &[u16])
 fn put_string<K: Sink>(text: &mut TextBuffer, sink: &mut K, string: &Wordstring)
     ensures { Adds K.held K.faults sink.old sink.new text.old text.new (string_put string.now) }
 {
-    text.put(sink, b"WS");
-    put_word(text, sink, label_word(string.label(), string.ext()));
+    put_label(text, sink, label_word(string.label(), string.ext()));
     put_data(text, sink, string.words());
     text.put_byte(sink, b'\n');
 }
@@ -58,12 +65,11 @@ fn put_strings<K: Sink>(text: &mut TextBuffer, sink: &mut K, strings: &[Wordstri
     }
 }
 
-/// A line of a keyword and two numbers.
+/// A line of a keyword, its space included, and two numbers.
 fn put_pair<K: Sink>(text: &mut TextBuffer, sink: &mut K, keyword: &[u8], first: u64, second: u64)
     ensures { Adds K.held K.faults sink.old sink.new text.old text.new (pair_put keyword.now first second) }
 {
     text.put(sink, keyword);
-    text.put_byte(sink, b' ');
     text.put_number(sink, first);
     text.put_byte(sink, b' ');
     text.put_number(sink, second);
@@ -75,7 +81,7 @@ fn put_hold<K: Sink>(text: &mut TextBuffer, sink: &mut K, hold: Hold)
     ensures { Adds K.held K.faults sink.old sink.new text.old text.new (hold_put hold) }
 {
     let (terminal, count) = (u64::from(hold.terminal), u64::from(hold.count));
-    put_pair(text, sink, b"HOLD", terminal, count);
+    put_pair(text, sink, b"HOLD ", terminal, count);
 }
 
 /// The HOLD lines.
@@ -91,19 +97,16 @@ fn put_holds<K: Sink>(text: &mut TextBuffer, sink: &mut K, holds: &[Hold])
 fn put_close<K: Sink>(text: &mut TextBuffer, sink: &mut K, x: &Transmission, mark: bool)
     ensures { Adds K.held K.faults sink.old sink.new text.old text.new (close_put x.now mark) }
 {
-    text.put(sink, b"TE");
-    text.put_byte(sink, b' ');
+    text.put(sink, b"TE ");
     text.put_number(sink, x.end());
-    text.put_byte(sink, b' ');
-    text.put(sink, mark_text(mark));
-    text.put_byte(sink, b'\n');
+    text.put(sink, marked_end(mark));
 }
 
 /// The lines of a transmission with its mark.
 fn put_transmission<K: Sink>(text: &mut TextBuffer, sink: &mut K, x: &Transmission, mark: bool)
     ensures { Adds K.held K.faults sink.old sink.new text.old text.new (entry_put (x.now, mark)) }
 {
-    put_pair(text, sink, b"TX", x.moment, u64::from(x.terminal));
+    put_pair(text, sink, b"TX ", x.moment, u64::from(x.terminal));
     put_strings(text, sink, x.message.strings());
     put_close(text, sink, x, mark);
 }

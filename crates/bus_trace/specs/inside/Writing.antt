@@ -18,26 +18,34 @@ word_put word = codes " " ++ word_text word
 abbrev pub data_put : List ℕ → List ℕ
 data_put words = flat_map (λ value. word_put (data_word value)) words
 
+-- A label word behind its keyword.
+abbrev pub label_put : Word → List ℕ
+label_put word = codes "WS " ++ word_text word
+
 -- A WS line.
 abbrev pub string_put : Wordstring → List ℕ
-string_put string = codes "WS" ++ word_put (label_word string.label string.ext) ++ data_put string.words ++ codes "\n"
+string_put string = label_put (label_word string.label string.ext) ++ data_put string.words ++ codes "\n"
 
--- A line of a keyword and two numbers.
+-- A line of a keyword, its space included, and two numbers.
 abbrev pub pair_put : List ℕ → ℕ → ℕ → List ℕ
-pair_put keyword first second = keyword ++ codes " " ++ decimal first ++ codes " " ++ decimal second ++ codes "\n"
+pair_put keyword first second = keyword ++ decimal first ++ codes " " ++ decimal second ++ codes "\n"
 
 -- A HOLD line.
 abbrev pub hold_put : Hold → List ℕ
-hold_put hold = pair_put (codes "HOLD") hold.terminal hold.count
+hold_put hold = pair_put (codes "HOLD ") hold.terminal hold.count
+
+-- The end of a TE line: its mark behind a space, and the line feed.
+abbrev pub mark_put : Bool → List ℕ
+mark_put mark = codes " " ++ mark_text mark ++ codes "\n"
 
 -- A TE line.
 abbrev pub close_put : Entry → Bool → List ℕ
-close_put x mark = codes "TE" ++ codes " " ++ decimal (end_of x) ++ codes " " ++ mark_text mark ++ codes "\n"
+close_put x mark = codes "TE " ++ decimal (end_of x) ++ mark_put mark
 
 -- The lines of a transmission with its mark.
 abbrev pub entry_put : Entry × Bool → List ℕ
 entry_put marked = pair_put
-    (codes "TX") marked.0.moment marked.0.terminal ++ flat_map string_put marked.0.message ++ close_put marked.0 marked.1
+    (codes "TX ") marked.0.moment marked.0.terminal ++ flat_map string_put marked.0.message ++ close_put marked.0 marked.1
 
 -- The first line.
 abbrev pub head_put : List ℕ
