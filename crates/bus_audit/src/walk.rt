@@ -12,7 +12,7 @@ use crate::check::check;
 use crate::clock::Clock;
 use crate::entry::judge;
 use crate::finding::Finding;
-use crate::watch::{Watch, begun, passed};
+use crate::watch::{Watch, begun, passed_gap};
 use bus_medium::quiet;
 use bus_strings::{Transmission, bits};
 use bus_table::{Table, place_of};
@@ -26,7 +26,7 @@ fn pass_all(watches: &mut [Watch], from: u64, to: u64)
     ensures { watches.new ≡ map (sums.passed from to) watches.old }
 {
     for watch in watches.iter_mut() {
-        *watch = passed(from, to, *watch);
+        watch.gap = passed_gap(from, to, *watch);
     }
 }
 

@@ -28,15 +28,15 @@ sum_by-passing : {X : Type 0} (p : X → Bool) (f : X → ℕ) (xs : List X) →
 sum_by-passing p f [] = refl
 sum_by-passing p f (x ∷ xs) = sum_by-cons (λ y. cond (p y) (f y) 0) x xs ∙ passing_by (p x) f x (filter p xs) _ (sum_by-passing p f xs)
 
-string_counted : (takes : List TakeLine) (moment : ℕ) (string : Wordstring) → string_count takes string ≡ length (string_lines takes moment string)
+pub string_counted : (takes : List TakeLine) (moment : ℕ) (string : Wordstring) → string_count takes string ≡ length (string_lines takes moment string)
 string_counted takes moment string =
     sym (length-map (filter (λ (line : TakeLine). matches line string.label string.ext) takes) (received_line moment string) ∙ length-filter (λ (line : TakeLine). matches line string.label string.ext) takes)
 
-entry_counted : (takes : List TakeLine) (x : Entry) → sum_by (string_count takes) x.message ≡ length (entry_lines takes x)
+pub entry_counted : (takes : List TakeLine) (x : Entry) → sum_by (string_count takes) x.message ≡ length (entry_lines takes x)
 entry_counted takes x =
     sum_by-same (string_count takes) (λ s. length (string_lines takes x.moment s)) x.message (string_counted takes x.moment) ∙ sym (length-flat_map (string_lines takes x.moment) x.message)
 
-marked_counted : (taker : Taker) (m : Entry × Bool) → marked_count taker m ≡ cond (is_heard taker.number m) (length (entry_lines taker.takes m.0)) 0
+pub marked_counted : (taker : Taker) (m : Entry × Bool) → marked_count taker m ≡ cond (is_heard taker.number m) (length (entry_lines taker.takes m.0)) 0
 marked_counted taker m = ap (λ n. cond (is_heard taker.number m) n 0) (entry_counted taker.takes m.0)
 
 -- what is counted of a list is what the taker receives

@@ -4,3 +4,6 @@ mod PutLemmas
 mod HearingLemmas
 mod TakerLemmas
 mod CountLemmas
+mod SpanLemmas
+mod KeyLemmas
+mod WordLemmas

@@ -1,41 +1,45 @@
 -- What is put is the received text.
-use Rattle.std.proofs.Common.{arith, ◌≡◌, ◌+◌, ◌<◌, ◌≤◌, ◌||◌, ◌==◌, ℕ, Bool, true, false, cond, List, [], ◌∷◌, ◌++◌, codes, length, take, get_or, map, refl, ap, sym, ◌∙◌, append_assoc}
+use Rattle.std.proofs.Common.{arith, ◌≡◌, ◌==◌, ℕ, Bool, true, false, cond, List, [], ◌∷◌, ◌++◌, codes, length, map, refl, ap, sym, ◌∙◌, append_assoc}
 use Rattle.std.specs.Fmt.{decimal}
-use Rattle.std.specs.List.{filter, flat_map, list_any, zip}
+use Rattle.std.specs.List.{filter, flat_map, zip}
 use Rattle.std.proofs.lemmas.List.Concat.{flat_map-append}
 use Rattle.bus_text.specs.Digits.{hex_digit, hexadecimal}
 use Rattle.bus_strings.specs.Messages.{Wordstring, Entry}
 use Rattle.std.proofs.lemmas.Bool.{eqb-true}
-use Rattle.std.proofs.lemmas.List.Folds.{list_any_more}
-use Rattle.std.proofs.lemmas.List.FromFn.{get_or-map-range_with_len}
-use Rattle.bus_strings.specs.Transmissions.{garbled, marks}
+use Rattle.bus_strings.specs.Transmissions.{marks}
 use Rattle.bus_table.specs.declared.line.TakeLine.{TakeLine}
 use Rattle.bus_table.specs.Tables.{Sender, Listener, Table}
 use Rattle.bus_filter.specs.Received.{Taker, matches, selection, received_line, string_lines, entry_lines, is_heard, received_by, sender_taker, listener_taker}
 use Rattle.bus_filter.specs.ReceivedTexts.{word_text, line_text, taker_text, received_text}
-use Rattle.bus_filter.specs.inside.Putting.{string_put, entry_put, marked_put, clear_put, sender_put, listener_put, IsSpotless}
+use Rattle.bus_filter.specs.inside.Putting.{string_put, entry_put, marked_put, sender_put, listener_put}
 use Rattle.bus_strings.proofs.ListLaws.{flat_map-same, flat_map-map}
-use Rattle.bus_strings.proofs.MarkLaws.{length-marks}
 use Rattle.bus_filter.proofs.Folds.{flat_map-flat_map, flat_map-passing}
 
--- an RX line by its parts
-abbrev pub parts : ℕ → List ℕ → ℕ → List ℕ → List ℕ
-parts moment label ext words = codes "RX " ++ decimal moment ++ codes " " ++ label ++ codes " " ++ ext ∷ [] ++ flat_map word_text words ++ codes "\n"
+-- an RX line, of which the label and the extension are put in one step
+pub line_is : (moment : ℕ) (string : Wordstring) (line : TakeLine) (label ext : ℕ) (head words : List ℕ) → head ≡ codes " " ++ hexadecimal 3 label ++ codes " " ++ hex_digit ext ∷ []
+    → label ≡ string.label → ext ≡ string.ext → words ≡ selection line string.words
+    → codes "RX " ++ decimal moment ++ head ++ flat_map word_text words ++ codes "\n" ≡ line_text (received_line moment string line)
+line_is moment string line label ext head words h l e w =
+    let begin : List ℕ = codes "RX " ++ decimal moment in
+    let whole : List ℕ → List ℕ → List ℕ = λ x ws. begin ++ x ++ flat_map word_text ws ++ codes "\n" in
+    ap (λ x. whole x words) h
+    ∙ ap (λ n. whole (codes " " ++ hexadecimal 3 n ++ codes " " ++ hex_digit ext ∷ []) words) l
+    ∙ ap (λ n. whole (codes " " ++ hexadecimal 3 string.label ++ codes " " ++ hex_digit n ∷ []) words) e
+    ∙ ap (λ ws. whole (codes " " ++ hexadecimal 3 string.label ++ codes " " ++ hex_digit string.ext ∷ []) ws) w
+    ∙ ap (λ t. t ++ flat_map word_text (selection line string.words) ++ codes "\n")
+    (sym (append_assoc begin (codes " " ++ hexadecimal 3 string.label ++ codes " ") (hex_digit string.ext ∷ []))
+    ∙ ap (λ t. t ++ hex_digit string.ext ∷ []) (sym (append_assoc begin (codes " " ++ hexadecimal 3 string.label) (codes " "))
+    ∙ ap (λ t. t ++ codes " ") (sym (append_assoc begin (codes " ") (hexadecimal 3 string.label)))))
 
-pub line_is : (moment : ℕ) (string : Wordstring) (line : TakeLine) (label : List ℕ) (ext : ℕ) (words : List ℕ) → label ≡ hexadecimal 3 string.label → ext ≡ hex_digit string.ext → words ≡ selection line string.words
-    → parts moment label ext words ≡ line_text (received_line moment string line)
-line_is moment string line label ext words l e w =
-    ap (λ x. parts moment x ext words) l ∙ ap (λ x. parts moment (hexadecimal 3 string.label) x words) e ∙ ap (λ x. parts moment (hexadecimal 3 string.label) (hex_digit string.ext) x) w
-
-string_is : (takes : List TakeLine) (moment : ℕ) (string : Wordstring) → string_put takes moment string ≡ flat_map line_text (string_lines takes moment string)
+pub string_is : (takes : List TakeLine) (moment : ℕ) (string : Wordstring) → string_put takes moment string ≡ flat_map line_text (string_lines takes moment string)
 string_is takes moment string = flat_map-passing (λ (line : TakeLine). matches line string.label string.ext) line_text (received_line moment string) takes
 
-entry_is : (takes : List TakeLine) (x : Entry) → entry_put takes x ≡ flat_map line_text (entry_lines takes x)
+pub entry_is : (takes : List TakeLine) (x : Entry) → entry_put takes x ≡ flat_map line_text (entry_lines takes x)
 entry_is takes x =
     flat_map-same (string_put takes x.moment) (λ s. flat_map line_text (string_lines takes x.moment s)) x.message (string_is takes x.moment)
     ∙ sym (flat_map-flat_map line_text (string_lines takes x.moment) x.message)
 
-marked_is : (taker : Taker) (marked : Entry × Bool) → marked_put taker marked ≡ cond (is_heard taker.number marked) (flat_map line_text (entry_lines taker.takes marked.0)) []
+pub marked_is : (taker : Taker) (marked : Entry × Bool) → marked_put taker marked ≡ cond (is_heard taker.number marked) (flat_map line_text (entry_lines taker.takes marked.0)) []
 marked_is taker marked = ap (λ t. cond (is_heard taker.number marked) t []) (entry_is taker.takes marked.0)
 
 -- what is put of a list is what the taker receives
@@ -46,7 +50,7 @@ list_is list taker =
     ∙ flat_map-passing (is_heard taker.number) (λ (x : Entry). flat_map line_text (entry_lines taker.takes x)) (λ (m : Entry × Bool). m.0) pairs
     ∙ sym (flat_map-flat_map line_text (entry_lines taker.takes) (map (λ (m : Entry × Bool). m.0) (filter (is_heard taker.number) pairs)))
 
--- ---- what needs no walk, and what needs no marks
+-- ---- what needs no walk
 no_lines : (moment : ℕ) (strings : List Wordstring) → flat_map (string_put [] moment) strings ≡ []
 no_lines moment [] = refl
 no_lines moment (string ∷ strings) = no_lines moment strings
@@ -62,31 +66,9 @@ takes_nothing taker (marked ∷ pairs) e =
     (ap (λ takes. entry_put takes marked.0) e ∙ no_lines marked.0.moment marked.0.message) in
     ap (λ t. t ++ flat_map (marked_put taker) pairs) own ∙ takes_nothing taker pairs e
 
-all_false : (xs : List Entry) (ms : List Bool) → length ms ≡ length xs → list_any (λ garbled. garbled) ms ≡ false → zip xs ms ≡ map (λ x. (x, false)) xs
-all_false [] ms l e = refl
-all_false (x ∷ xs) [] l e = absurd (omega (arith, l))
-all_false (x ∷ xs) (false ∷ ms) l e = ap (λ t. (x, false) ∷ t) (all_false xs ms (omega (arith, l)) e)
-all_false (x ∷ xs) (true ∷ ms) l e = absurd cc
-
--- one mark more that isn't set
-pub none_more : (list : List Entry) (i : ℕ) → i < length list → list_any (λ garbled. garbled) (take i (marks list)) ≡ false → garbled list i ≡ false
-    → list_any (λ garbled. garbled) (take (i + 1) (marks list)) ≡ false
-none_more list i within none e =
-    list_any_more (λ (b : Bool). b) (marks list) i false (omega (arith, within, length-marks list))
-    ∙ ap (λ b. b || get_or (marks list) i false) none
-    ∙ get_or-map-range_with_len (garbled list) 0 (length list) i i false within (omega arith) ∙ e
-
-pub marks_whole : (list : List Entry) (i : ℕ) → length list ≤ i → length (marks list) ≤ i
-marks_whole list i h = omega (arith, h, length-marks list)
-
 pub empty : {X : Type 0} (xs : List X) (b : Bool) → b ≡ (length xs == 0) → b ≡ true → xs ≡ []
 empty [] b e t = refl
 empty (x ∷ xs) b e t = absurd (let w : length (x ∷ xs) ≡ 0 = eqb-true (length (x ∷ xs)) 0 (sym e ∙ t) in omega (arith, w))
-
-pub spotless_put : (taker : Taker) (list : List Entry) → IsSpotless list → flat_map (clear_put taker) list ≡ flat_map (marked_put taker) (zip list (marks list))
-spotless_put taker list e =
-    sym (flat_map-map (marked_put taker) (λ (x : Entry). (x, false)) list)
-    ∙ ap (flat_map (marked_put taker)) (sym (all_false list (marks list) (length-marks list) e))
 
 -- the terminals are put in two parts
 pub takers_put : (table : Table) (list : List Entry) (senders : List Sender) (listeners : List Listener) → senders ≡ table.senders → listeners ≡ table.listeners

@@ -1,18 +1,13 @@
 -- The terminals of a valid table by number: one taker stands for each.
-use Rattle.std.proofs.Common.{arith, zero, suc, ◌≡◌, ℕ, ◌<◌, ◌≤◌, Bool, true, false, cond, ◌&&◌, ◌||◌, ◌==◌, nat_le, nat_eq, is_none, IsTrue, List, [], ◌∷◌, ◌++◌, length, map, get_or, Option, Some, None, refl, ap, sym, subst, ◌∙◌, length-append, append-nil}
-use Rattle.std.specs.List.{list_all, list_any, filter, flat_map, Contains, IsDistinct, AllByRecursion}
-use Rattle.std.specs.Option.{option_map, option_or}
-use Rattle.std.proofs.lemmas.Bool.{and_parts, or_parts}
+use Rattle.std.proofs.Common.{arith, zero, suc, ◌≡◌, ℕ, ◌<◌, Bool, true, false, cond, ◌||◌, ◌==◌, IsTrue, List, [], ◌∷◌, ◌++◌, length, map, get_or, None, refl, ap, sym, subst, ◌∙◌, append-nil}
+use Rattle.std.specs.List.{list_any, filter, flat_map, Contains}
 use Rattle.std.proofs.lemmas.Bool.Decides.{nat_tests}
-use Rattle.std.proofs.lemmas.List.{length-map, map-append}
+use Rattle.std.proofs.lemmas.List.{map-append}
 use Rattle.std.proofs.lemmas.List.Folds.{list_any-append}
-use Rattle.std.proofs.lemmas.Map.Steps.{length-le_from_distinct_below}
 use Rattle.bus_strings.specs.Messages.{Entry}
-use Rattle.bus_table.specs.declared.error.WholeReason.TheVariants.{NumberTwice}
 use Rattle.bus_table.specs.Tables.{Sender, Listener, Table}
-use Rattle.bus_table.specs.Ranges.{is_number, is_ti, is_sg, is_sender, is_listener}
-use Rattle.bus_table.specs.Whole.{first_again, numbers, sender_numbers, listener_numbers, number_twice, no_sender, whole_refusal}
-use Rattle.bus_table.specs.Valid.{is_valid, is_in_range}
+use Rattle.bus_table.specs.Whole.{first_again, numbers, sender_numbers, listener_numbers}
+use Rattle.bus_table.specs.Valid.{is_valid}
 use Rattle.bus_table.proofs.TerminalLaws.{once}
 use Rattle.bus_table.proofs.ValidLaws.{fresh_first}
 use Rattle.bus_filter.specs.Received.{Taker, received_by, received, sender_taker, listener_taker, takers}

@@ -8,14 +8,19 @@
 //!   lines.
 //! - [`Receiver`] does the same for one receive line, word by word.
 //!
-//! No call takes memory. The definitions are in `specs/`: `Received` (which words are received), `ReceivedTexts` (their text), `Hearing`
-//! (a receiver, word by word), and `FilterLaws`.
+//! No call takes memory: what each transmission is looked up by stands on the stack, in half a megabyte.
+//!
+//! The definitions are in `specs/`: `Received` (which words are received), `ReceivedTexts` (their text), `Hearing` (a receiver, word by
+//! word), and `FilterLaws`.
 #![tactic(auto)]
 
 mod counting;
+mod digits;
+mod keys;
 pub mod laws;
 mod matching;
 mod receiver;
+mod spans;
 #[cfg(test)]
 mod tests;
 mod writing;

@@ -37,6 +37,26 @@ TAKE 0B2 * 28 10
 TAKE 0B2 1 40 1
 ";
 
+const LABELS_AT_BOTH_ENDS: &[u8] = b"TABLE 1
+MODE aperiodic
+TI 1000
+SG 300
+SENDER 1 TG 20
+SEND 000 0 0 9
+SEND FFF F 0 9
+SENDER 2 TG 30
+SEND 0A1 1 0 9
+TAKE FFF * 1 2
+TAKE 000 0 0 256
+TAKE FFF F 0 256
+TAKE FFF 0 0 256
+LISTENER 3
+TAKE 0A1 2 0 1
+TAKE 000 1 0 1
+LISTENER 4
+TAKE 0A1 * 4 5
+";
+
 /// A label and an extension of these numbers.
 fn pair(label: u16, ext: u8) -> Result<(Label, Ext), Fail> {
     match (Label::new(label), Ext::new(ext)) {
@@ -57,20 +77,21 @@ fn transmission(
     requires positive { 1 ≤ terminal }
     requires low { terminal ≤ most_terminal }
 {
-    let (label, ext) = pair(label, 1)?;
-    let Some(string) = Wordstring::new(label, ext, words) else {
-        return Err(Fail::new("no wordstring"));
-    };
-    let mut strings = Vec::new(alloc);
-    strings.push(string)?;
-    let Some(message) = Message::new(strings) else {
-        return Err(Fail::new("no message"));
-    };
+    let message = Message::one(alloc, wordstring(label, 1, words)?);
     Ok(Transmission {
         moment,
         terminal,
         message,
     })
+}
+
+/// A wordstring of these words.
+fn wordstring(label: u16, ext: u8, words: Vec<u16>) -> Result<Wordstring, Fail> {
+    let (label, ext) = pair(label, ext)?;
+    match Wordstring::new(label, ext, words) {
+        Some(string) => Ok(string),
+        None => Err(Fail::new("no wordstring")),
+    }
 }
 
 /// What the terminals of a table receive of a list, and how many lines that is.
@@ -167,6 +188,43 @@ fn garbled_words_are_not_received(rt: HostRuntime) -> Result<(), Fail> {
     let (failed, empty, _) = received(alloc, TWO_SENDERS_AND_A_LISTENER, &list, failing)?;
     assert_eq!(rt; failed, Err(WriteFault));
     assert!(rt; empty.bytes().is_empty());
+    Ok(())
+}
+
+/// A message of two wordstrings whose labels are the least and the greatest; a garbled one of each terminal; and one in the clear.
+#[test]
+fn lines_are_looked_up_by_label(rt: HostRuntime) -> Result<(), Fail> {
+    let alloc = rt.alloc();
+    let mut words = Vec::new(alloc);
+    for word in 1..10u16 {
+        words.push(word)?;
+    }
+    let mut two = Message::one(alloc, wordstring(0, 0, Vec::from_slice(alloc, &words)?)?);
+    two.push(wordstring(0xFFF, 15, Vec::from_slice(alloc, &[0xABCD, 0xEF, 7])?)?)?;
+    let mut list = Vec::new(alloc);
+    list.push(Transmission {
+        moment: 20,
+        terminal: 1,
+        message: two,
+    })?;
+    list.push(transmission(alloc, 1000, 1, 0xFFF, Vec::from_slice(alloc, &[1, 2])?)?)?;
+    list.push(transmission(alloc, 1010, 2, 0x0A1, Vec::from_slice(alloc, &[1])?)?)?;
+    list.push(transmission(alloc, 2000, 2, 0x0A1, words)?)?;
+    let (answer, sink, lines) = received(alloc, LABELS_AT_BOTH_ENDS, &list, Vec::new(alloc))?;
+    assert_eq!(rt; answer, Ok(()));
+    assert_eq!(rt; lines, 4);
+    let want = b"RECEIVED 1
+TERMINAL 1
+TERMINAL 2
+RX 20 000 0 0001 0002 0003 0004 0005 0006 0007 0008 0009
+RX 20 FFF F 00EF 0007
+RX 20 FFF F ABCD 00EF 0007
+TERMINAL 3
+TERMINAL 4
+RX 2000 0A1 1 0005 0006 0007 0008 0009
+END
+";
+    assert_eq!(rt; sink.bytes(), want.as_slice());
     Ok(())
 }
 

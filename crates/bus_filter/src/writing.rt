@@ -1,35 +1,78 @@
 //! The received text.
-ghost use Rattle.std.specs.Prelude.{IsTrue};
+ghost use Rattle.std.specs.Prelude.{◌≡◌, ◌*◌, ◌<◌, ◌≤◌, ◌++◌, Bool, IfSome, length, take};
 ghost use Rattle.std.specs.List.{flat_map, zip};
 ghost use Rattle.bus_outer.specs.Sinks.{WritesText};
 ghost use Rattle.bus_outer.specs.Texts.{Adds};
 ghost use Rattle.bus_strings.specs.Transmissions.{IsByMoment, marks};
+ghost use Rattle.bus_table.specs.Ranges.{most_takes};
 ghost use Rattle.bus_filter.specs.Received.{Taker, received_line};
 ghost use Rattle.bus_filter.specs.ReceivedTexts.{word_text, line_text, taker_text, received_text};
-ghost use Rattle.bus_filter.specs.inside.Putting.{take_put, string_put, entry_put, marked_put, clear_put, sender_put};
-ghost use Rattle.bus_filter.specs.inside.Putting.{listener_put, IsSpotless};
+ghost use Rattle.bus_filter.specs.inside.Putting.{take_put, string_put, marked_put, sender_put, listener_put};
+ghost use Rattle.bus_filter.specs.inside.Keys.{key as key_in, key_count, AreKeys, AreSpans};
 
+use crate::digits::{four_bytes, head_bytes, word_bytes};
+use crate::keys::{Keys, gathered, key};
 use crate::matching::{matches, selection};
+use crate::spans::{Spans, is_taken, lines_of, spans_of};
 use bus_outer::{Sink, TextBuffer, WriteFault};
 use bus_strings::{Marks, Transmission, Wordstring};
 use bus_table::{Listener, Sender, Table, TakeLine};
-use bus_text::{four_digits, hex_digit, three_digits};
 
 /// A word behind its space.
 fn put_word<K: Sink>(text: &mut TextBuffer, sink: &mut K, word: u16)
     ensures { Adds K.held K.faults sink.old sink.new text.old text.new (word_text word) }
 {
-    text.put_byte(sink, b' ');
-    text.put(sink, &four_digits(word));
+    text.put(sink, &word_bytes(word));
 }
 
-/// Words, each behind its space.
-fn put_words<K: Sink>(text: &mut TextBuffer, sink: &mut K, words: &[u16])
+/// Four words, each behind its space, in one step.
+fn put_four<K: Sink>(text: &mut TextBuffer, sink: &mut K, a: u16, b: u16, c: u16, d: u16)
+    ensures { Adds K.held K.faults sink.old sink.new text.old text.new (word_text a ++ word_text b ++ word_text c ++ word_text d) }
+{
+    text.put(sink, &four_bytes(a, b, c, d));
+}
+
+/// The first words, four at a time, each behind its space.
+fn put_fours<K: Sink>(text: &mut TextBuffer, sink: &mut K, words: &[u16], fours: usize)
+    requires { 4 * fours ≤ length words.now }
+    ensures { Adds K.held K.faults sink.old sink.new text.old text.new (flat_map word_text (take (4 * fours) words.now)) }
+{
+    for k in 0..fours {
+        let at = 4 * k;
+        put_four(
+            text,
+            sink,
+            words[at],
+            words[at + 1],
+            words[at + 2],
+            words[at + 3],
+        );
+    }
+}
+
+/// Words, one after another, each behind its space.
+fn put_each<K: Sink>(text: &mut TextBuffer, sink: &mut K, words: &[u16])
     ensures { Adds K.held K.faults sink.old sink.new text.old text.new (flat_map word_text words.now) }
 {
     for word in words {
         put_word(text, sink, *word);
     }
+}
+
+/// How often there are four words.
+fn count_fours(words: &[u16]) -> usize
+    ensures { 4 * result ≤ length words.now }
+{
+    words.len() / 4
+}
+
+/// Words, each behind its space, most of them in steps of four.
+fn put_words<K: Sink>(text: &mut TextBuffer, sink: &mut K, words: &[u16])
+    ensures { Adds K.held K.faults sink.old sink.new text.old text.new (flat_map word_text words.now) }
+{
+    let fours = count_fours(words);
+    put_fours(text, sink, words, fours);
+    put_each(text, sink, &words[4 * fours..]);
 }
 
 /// The RX line of a receive line that matches.
@@ -44,10 +87,7 @@ fn put_line<K: Sink>(
 {
     text.put(sink, b"RX ");
     text.put_number(sink, moment);
-    text.put_byte(sink, b' ');
-    text.put(sink, &three_digits(string.label().value()));
-    text.put_byte(sink, b' ');
-    text.put_byte(sink, hex_digit(string.ext().value()));
+    text.put(sink, &head_bytes(string.label(), string.ext()));
     put_words(text, sink, selection(line, string.words()));
     text.put_byte(sink, b'\n');
 }
@@ -67,8 +107,8 @@ fn put_take<K: Sink>(
     }
 }
 
-/// The RX lines of a wordstring.
-fn put_string<K: Sink>(
+/// The RX lines of a wordstring for some receive lines.
+fn put_takes<K: Sink>(
     text: &mut TextBuffer,
     sink: &mut K,
     takes: &[TakeLine],
@@ -82,72 +122,84 @@ fn put_string<K: Sink>(
     }
 }
 
+/// The RX lines of a wordstring, for which only the receive lines of its label are looked at.
+fn put_string<K: Sink>(
+    text: &mut TextBuffer,
+    sink: &mut K,
+    takes: &[TakeLine],
+    spans: &Spans,
+    moment: u64,
+    string: &Wordstring,
+)
+    requires { AreSpans takes.now (length takes.now) spans.now.first spans.now.behind }
+    ensures { Adds K.held K.faults sink.old sink.new text.old text.new (string_put takes.now moment string.now) }
+{
+    put_takes(
+        text,
+        sink,
+        lines_of(spans, takes, string.label()),
+        moment,
+        string,
+    );
+}
+
 /// The RX lines of wordstrings.
+#[inline(never)]
 fn put_strings<K: Sink>(
     text: &mut TextBuffer,
     sink: &mut K,
     takes: &[TakeLine],
+    spans: &Spans,
     moment: u64,
     strings: &[Wordstring],
 )
+    requires { AreSpans takes.now (length takes.now) spans.now.first spans.now.behind }
     ensures { Adds K.held K.faults sink.old sink.new text.old text.new (flat_map (string_put takes.now moment) strings.now) }
 {
     for string in strings {
-        put_string(text, sink, takes, moment, string);
+        put_string(text, sink, takes, spans, moment, string);
     }
 }
 
-/// The RX lines of a transmission.
-fn put_entry<K: Sink>(text: &mut TextBuffer, sink: &mut K, takes: &[TakeLine], x: &Transmission)
-    ensures { Adds K.held K.faults sink.old sink.new text.old text.new (entry_put takes.now x.now) }
-{
-    put_strings(text, sink, takes, x.moment, x.message.strings());
-}
-
-/// The RX lines of a transmission that is marked where it is garbled.
-fn put_marked<K: Sink>(
+/// The RX lines of a transmission that has this key, as it has where it is garbled or where it isn't. Most have none, so that only the look
+/// at the key stands in a walk.
+#[inline(always)]
+fn put_keyed<K: Sink>(
     text: &mut TextBuffer,
     sink: &mut K,
     number: u8,
     takes: &[TakeLine],
+    spans: &Spans,
+    key: u16,
     x: &Transmission,
-    garbled: bool,
 )
-    ensures { let taker : Taker = record { number = number; takes = takes.now } in
-        Adds K.held K.faults sink.old sink.new text.old text.new (marked_put taker (x.now, garbled)) }
+    requires spans { AreSpans takes.now (length takes.now) spans.now.first spans.now.behind }
+    requires range { key < key_count }
+    ensures { let taker : Taker = record { number = number; takes = takes.now } in (garbled : Bool) → key ≡ key_in (x.now, garbled)
+        → Adds K.held K.faults sink.old sink.new text.old text.new (marked_put taker (x.now, garbled)) }
 {
-    if !garbled && x.terminal != number {
-        put_entry(text, sink, takes, x);
+    if is_taken(spans, key) && x.terminal != number {
+        put_strings(text, sink, takes, spans, x.moment, x.message.strings());
     }
 }
 
-/// Whether nothing of a list is garbled.
-fn is_clear(list: &[Transmission]) -> bool
-    requires { IsByMoment list.now }
-    ensures { IsTrue result → IsSpotless list.now }
-{
-    let mut marks = Marks::new(list);
-    for _ in 0..list.len() {
-        if marks.next() == Some(true) {
-            return false;
-        }
-    }
-    true
-}
-
-/// The RX lines of a list of which nothing is garbled.
-fn put_clear<K: Sink>(
+/// The RX lines of a list of which the keys are gathered.
+fn put_gathered<K: Sink>(
     text: &mut TextBuffer,
     sink: &mut K,
     number: u8,
     takes: &[TakeLine],
+    spans: &Spans,
+    keys: &[u16],
     list: &[Transmission],
 )
+    requires spans { AreSpans takes.now (length takes.now) spans.now.first spans.now.behind }
+    requires keys { AreKeys keys.now list.now }
     ensures { let taker : Taker = record { number = number; takes = takes.now } in
-        Adds K.held K.faults sink.old sink.new text.old text.new (flat_map (clear_put taker) list.now) }
+        Adds K.held K.faults sink.old sink.new text.old text.new (flat_map (marked_put taker) (zip list.now (marks list.now))) }
 {
-    for x in list {
-        put_marked(text, sink, number, takes, x, false);
+    for at in 0..list.len() {
+        put_keyed(text, sink, number, takes, spans, keys[at], &list[at]);
     }
 }
 
@@ -157,40 +209,43 @@ fn put_list<K: Sink>(
     sink: &mut K,
     number: u8,
     takes: &[TakeLine],
+    spans: &Spans,
     list: &[Transmission],
 )
-    requires { IsByMoment list.now }
+    requires spans { AreSpans takes.now (length takes.now) spans.now.first spans.now.behind }
+    requires order { IsByMoment list.now }
     ensures { let taker : Taker = record { number = number; takes = takes.now } in
         Adds K.held K.faults sink.old sink.new text.old text.new (flat_map (marked_put taker) (zip list.now (marks list.now))) }
 {
     let mut marks = Marks::new(list);
     for x in list {
         let garbled = marks.next() == Some(true);
-        put_marked(text, sink, number, takes, x, garbled);
+        put_keyed(text, sink, number, takes, spans, key(x, garbled), x);
     }
 }
 
-/// The RX lines of a terminal. One without receive lines needs no walk, and a walk over a list of which nothing is garbled needs no marks.
+/// The RX lines of a terminal. One without receive lines needs no walk.
 fn put_heard<K: Sink>(
     text: &mut TextBuffer,
     sink: &mut K,
     number: u8,
     takes: &[TakeLine],
+    keys: Option<&[u16]>,
     list: &[Transmission],
-    clear: bool,
 )
     requires order { IsByMoment list.now }
-    requires clear { IsTrue clear → IsSpotless list.now }
+    requires few { length takes.now ≤ most_takes }
+    requires keys { IfSome keys (λ keys. AreKeys keys.now list.now) }
     ensures { let taker : Taker = record { number = number; takes = takes.now } in
         Adds K.held K.faults sink.old sink.new text.old text.new (flat_map (marked_put taker) (zip list.now (marks list.now))) }
 {
     if takes.is_empty() {
         return;
     }
-    if clear {
-        put_clear(text, sink, number, takes, list);
-    } else {
-        put_list(text, sink, number, takes, list);
+    let spans = spans_of(takes);
+    match keys {
+        Some(keys) => put_gathered(text, sink, number, takes, &spans, keys, list),
+        None => put_list(text, sink, number, takes, &spans, list),
     }
 }
 
@@ -200,18 +255,19 @@ fn put_taker<K: Sink>(
     sink: &mut K,
     number: u8,
     takes: &[TakeLine],
+    keys: Option<&[u16]>,
     list: &[Transmission],
-    clear: bool,
 )
     requires order { IsByMoment list.now }
-    requires clear { IsTrue clear → IsSpotless list.now }
+    requires few { length takes.now ≤ most_takes }
+    requires keys { IfSome keys (λ keys. AreKeys keys.now list.now) }
     ensures { let taker : Taker = record { number = number; takes = takes.now } in
         Adds K.held K.faults sink.old sink.new text.old text.new (taker_text list.now taker) }
 {
     text.put(sink, b"TERMINAL ");
     text.put_number(sink, number);
     text.put_byte(sink, b'\n');
-    put_heard(text, sink, number, takes, list, clear);
+    put_heard(text, sink, number, takes, keys, list);
 }
 
 /// The senders of a table, and what they receive.
@@ -219,16 +275,16 @@ fn put_senders<K: Sink>(
     text: &mut TextBuffer,
     sink: &mut K,
     senders: &[Sender],
+    keys: Option<&[u16]>,
     list: &[Transmission],
-    clear: bool,
 )
     requires order { IsByMoment list.now }
-    requires clear { IsTrue clear → IsSpotless list.now }
+    requires keys { IfSome keys (λ keys. AreKeys keys.now list.now) }
     ensures { Adds K.held K.faults sink.old sink.new text.old text.new
         (flat_map (sender_put list.now) senders.now) }
 {
     for sender in senders {
-        put_taker(text, sink, sender.number(), sender.takes(), list, clear);
+        put_taker(text, sink, sender.number(), sender.takes(), keys, list);
     }
 }
 
@@ -237,16 +293,16 @@ fn put_listeners<K: Sink>(
     text: &mut TextBuffer,
     sink: &mut K,
     listeners: &[Listener],
+    keys: Option<&[u16]>,
     list: &[Transmission],
-    clear: bool,
 )
     requires order { IsByMoment list.now }
-    requires clear { IsTrue clear → IsSpotless list.now }
+    requires keys { IfSome keys (λ keys. AreKeys keys.now list.now) }
     ensures { Adds K.held K.faults sink.old sink.new text.old text.new
         (flat_map (listener_put list.now) listeners.now) }
 {
     for listener in listeners {
-        put_taker(text, sink, listener.number(), listener.takes(), list, clear);
+        put_taker(text, sink, listener.number(), listener.takes(), keys, list);
     }
 }
 
@@ -261,11 +317,12 @@ pub fn write_received<K: Sink>(
     requires { IsByMoment list.now }
     ensures { WritesText K.held K.faults sink.old sink.new result (received_text table.now list.now) }
 {
-    let clear = is_clear(list);
+    let mut room = Keys::new();
+    let keys = gathered(&mut room, list);
     let mut text = TextBuffer::new();
     text.put(sink, b"RECEIVED 1\n");
-    put_senders(&mut text, sink, table.senders(), list, clear);
-    put_listeners(&mut text, sink, table.listeners(), list, clear);
+    put_senders(&mut text, sink, table.senders(), keys, list);
+    put_listeners(&mut text, sink, table.listeners(), keys, list);
     text.put(sink, b"END\n");
     text.finish(sink)
 }

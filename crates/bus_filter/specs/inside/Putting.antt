@@ -1,8 +1,7 @@
 -- The received text as it is put, and its lines as they are counted. That these are the text and its count is proved in `proofs/`.
-use Rattle.std.specs.Prelude.{◌≡◌, ℕ, Bool, false, List, [], length, count_by, if◌then◌else◌}
-use Rattle.std.specs.List.{flat_map, list_any, sum_by}
+use Rattle.std.specs.Prelude.{ℕ, Bool, List, [], length, count_by, if◌then◌else◌}
+use Rattle.std.specs.List.{flat_map, sum_by}
 use Rattle.bus_strings.specs.Messages.{Wordstring, Entry}
-use Rattle.bus_strings.specs.Transmissions.{marks}
 use Rattle.bus_table.specs.declared.line.TakeLine.{TakeLine}
 use Rattle.bus_table.specs.Tables.{Sender, Listener}
 use Rattle.bus_filter.specs.Received.{Taker, matches, received_line, is_heard, received_by, sender_taker, listener_taker}
@@ -23,14 +22,6 @@ entry_put takes x = flat_map (string_put takes x.moment) x.message
 -- The RX lines of a transmission that is marked where it is garbled.
 abbrev pub marked_put : Taker → Entry × Bool → List ℕ
 marked_put taker marked = if is_heard taker.number marked then entry_put taker.takes marked.0 else []
-
--- The RX lines of a transmission that isn't garbled.
-abbrev pub clear_put : Taker → Entry → List ℕ
-clear_put taker x = marked_put taker (x, false)
-
--- Nothing of a list is garbled.
-abbrev pub IsSpotless : List Entry → Type 0
-IsSpotless list = list_any (λ garbled. garbled) (marks list) ≡ false
 
 -- A sender, and what it receives.
 abbrev pub sender_put : List Entry → Sender → List ℕ

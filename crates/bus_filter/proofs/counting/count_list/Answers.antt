@@ -17,8 +17,8 @@ loop-x-preserved c =
     let m = counted_more (marked_count taker) (take c.loop-x.x-index (zip list (marks list))) _ (c.x-item.result, c.eq-garbled.result) n.0 in
     record {
       left = n.1;
-      counted = omega (arith, m, c.loop-x.invariant.counted, c.count_marked.ensures.count);
-      bound = omega (arith, c.loop-x.invariant.bound, c.count_marked.ensures.bound);
+      counted = omega (arith, m, c.loop-x.invariant.counted, c.count_keyed.ensures.count c.eq-garbled.result c.key.ensures.value);
+      bound = omega (arith, c.loop-x.invariant.bound, c.count_keyed.ensures.bound);
     }
 
 pub returns-clause-count : goal.returns-clause-count

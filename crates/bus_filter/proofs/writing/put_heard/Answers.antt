@@ -1,10 +1,10 @@
 use Rattle.std.proofs.Common.{List, ℕ, subst, sym}
-use Rattle.std.specs.List.{flat_map, zip}
+use Rattle.std.specs.List.{zip}
 use Rattle.bus_outer.specs.Texts.{Adds}
 use Rattle.bus_outer.proofs.TextLaws.{adds_nothing}
 use Rattle.bus_strings.specs.Transmissions.{marks}
 use Rattle.bus_filter.specs.Received.{Taker}
-use Rattle.bus_filter.proofs.PutLemmas.{empty, takes_nothing, spotless_put}
+use Rattle.bus_filter.proofs.PutLemmas.{empty, takes_nothing}
 use Rattle.bus_filter.proofs.writing.put_heard.Goals as goal
 
 pub returns-then-is_empty : goal.returns-then-is_empty
@@ -13,9 +13,3 @@ returns-then-is_empty g c =
     subst (λ (t : List ℕ). Adds g.K.Sink.held g.K.Sink.faults c.args.sink.now c.args.sink.now c.args.text.now c.args.text.now t)
     (sym (takes_nothing taker (zip c.args.list.now (marks c.args.list.now)) (empty c.args.takes.now c.is_empty.result c.is_empty.ensures c.if-is_empty.true)))
     (adds_nothing g.K.Sink.held g.K.Sink.faults c.args.sink.now c.args.text.now)
-
-pub returns-then-clear : goal.returns-then-clear
-returns-then-clear g c =
-    let taker : Taker = record { number = c.args.number; takes = c.args.takes.now } in
-    subst (λ (t : List ℕ). Adds g.K.Sink.held g.K.Sink.faults c.args.sink.now c.put_clear.new.sink c.args.text.now c.put_clear.new.text t)
-    (spotless_put taker c.args.list.now (c.requires.clear c.if-clear.true)) c.put_clear.ensures

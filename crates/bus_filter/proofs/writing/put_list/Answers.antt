@@ -21,9 +21,9 @@ loop-x-preserved g c =
     c.x-item.is c.loop-x-test.true c.loop-x.invariant.left c.next.ensures.steps c.eq-garbled.ensures in
     record {
       left = n.1;
-      adds = subst (λ (t : List ℕ). Adds g.K.Sink.held g.K.Sink.faults c.args.sink.now c.put_marked.new.sink c.args.text.now c.put_marked.new.text t)
+      adds = subst (λ (t : List ℕ). Adds g.K.Sink.held g.K.Sink.faults c.args.sink.now c.put_keyed.new.sink c.args.text.now c.put_keyed.new.text t)
           (flat_map-more (marked_put taker) (take c.loop-x.x-index (zip list (marks list))) _ (c.x-item.result, c.eq-garbled.result) n.0)
-          (c.loop-x.invariant.adds ▸ c.put_marked.ensures);
+          (c.loop-x.invariant.adds ▸ c.put_keyed.ensures c.eq-garbled.result c.key.ensures.value);
     }
 
 pub returns : goal.returns
