@@ -22,7 +22,8 @@ use Rattle.bus_strings.proofs.GrammarLemmas.{word_is, line_ok, items_found, item
 use Rattle.bus_cable.specs.declared.cable.Named.{Named}
 use Rattle.bus_cable.specs.declared.error.CableError.{CableError}
 use Rattle.bus_cable.specs.declared.error.CableError.TheVariants.{Text, Memory}
-use Rattle.bus_cable.specs.Cables.{Cable, most_place, most_wake, may_name, may_name_all, is_cable}
+use Rattle.bus_cable.specs.Cables.{Cable, most_wake, may_name, may_name_all, is_cable}
+use Rattle.bus_propagation.specs.Numbered.{most_place}
 use Rattle.bus_cable.specs.Grammar.{IsNamedLine, AreNamedLines, AreCableLines, IsCableText}
 use Rattle.bus_cable.specs.Reading.{header_reading, number_field, bits_field, named_of, named_reading, begins_with, front_of, behind, named_lines, body_reading, lines_reading, cable_reading}
 use Rattle.bus_cable.specs.Gives.{Fails, Gives}

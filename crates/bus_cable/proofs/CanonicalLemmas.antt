@@ -14,7 +14,8 @@ use Rattle.bus_strings.specs.Items.{Item, IsItem}
 use Rattle.bus_strings.specs.Canonical.{item_fields}
 use Rattle.bus_strings.proofs.CanonicalLemmas.{lines_are}
 use Rattle.bus_cable.specs.declared.cable.Named.{Named}
-use Rattle.bus_cable.specs.Cables.{Cable, most_place, most_wake, may_name, may_name_all, is_cable}
+use Rattle.bus_cable.specs.Cables.{Cable, most_wake, may_name, may_name_all, is_cable}
+use Rattle.bus_propagation.specs.Numbered.{most_place}
 use Rattle.bus_cable.specs.Grammar.{AreNamedLines, AreCableLines, IsCableText}
 use Rattle.bus_cable.specs.Canonical.{header_fields, named_fields, cable_text}
 use Rattle.bus_cable.specs.inside.Puts.{named_bytes}

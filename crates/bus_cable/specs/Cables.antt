@@ -9,11 +9,8 @@ use Rattle.std.specs.Int.{is_in_range as is_between}
 use Rattle.bus_strings.specs.Limits.{most_terminal}
 use Rattle.bus_medium.specs.Delays.{Delays, cable}
 use Rattle.bus_medium.specs.Wakes.{Wakes}
+use Rattle.bus_propagation.specs.Numbered.{most_place}
 use Rattle.bus_cable.specs.declared.cable.Named.{Named}
-
--- The greatest place.
-abbrev pub most_place : ℕ
-most_place = 1024
 
 -- The greatest wake.
 abbrev pub most_wake : ℕ

@@ -3,6 +3,7 @@ pub mod Cables
 pub mod Grammar
 pub mod Reading
 pub mod Gives
+pub mod TextLaws
 pub mod Canonical
 pub mod Hearing
 pub mod HearingLaws

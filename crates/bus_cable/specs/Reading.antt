@@ -12,7 +12,8 @@ use Rattle.bus_text.specs.declared.reason.Reason.TheVariants.{Ended, Keyword, Fi
 use Rattle.bus_strings.specs.Items.{Item}
 use Rattle.bus_strings.specs.Reading.{item_line}
 use Rattle.bus_cable.specs.declared.cable.Named.{Named}
-use Rattle.bus_cable.specs.Cables.{Cable, most_place, most_wake, may_name}
+use Rattle.bus_propagation.specs.Numbered.{most_place}
+use Rattle.bus_cable.specs.Cables.{Cable, most_wake, may_name}
 
 -- Why the first line is refused.
 abbrev pub header_refusal : List (List ℕ) → Option Reason

@@ -3,13 +3,12 @@ ghost use Rattle.std.specs.Prelude.{◌≡◌, ◌≤◌, ◌==◌, IsTrue};
 ghost use Rattle.std.specs.List.{find};
 ghost use Rattle.std.specs.Option.{option_copied};
 ghost use Rattle.bus_cable.specs.Cables as cables;
-ghost use Rattle.bus_cable.specs.Cables.{may_name, may_name_all, is_cable, most_place, most_wake, bits_for, place_on, wakes_on};
+ghost use Rattle.bus_cable.specs.Cables.{may_name, may_name_all, is_cable, most_wake, bits_for, place_on, wakes_on};
+ghost use Rattle.bus_propagation.specs.Numbered.{most_place};
 
+use bus_propagation::MOST_PLACE;
 use bus_strings::limits::MOST_TERMINAL;
 use std::marker::Model;
-
-/// The greatest place of a terminal on the cable, in bit times from the cable's beginning.
-pub const MOST_PLACE: u64 = 1024;
 
 /// The greatest wake of a sender, in bit times from the settled start.
 pub const MOST_WAKE: u64 = 1_099_511_627_775;

@@ -5,10 +5,12 @@ ghost use Rattle.bus_outer.specs.Sinks.{WritesText};
 ghost use Rattle.bus_outer.specs.Texts.{Adds};
 ghost use Rattle.bus_strings.specs.Transmissions.{IsAscending, IsTransmission, marks};
 ghost use Rattle.bus_medium.specs.Delays.{cable};
-ghost use Rattle.bus_cable.specs.Cables.{most_place, delays_on};
+ghost use Rattle.bus_cable.specs.Cables.{delays_on};
+ghost use Rattle.bus_propagation.specs.Numbered.{most_place};
 ghost use Rattle.bus_cable.specs.Hearing.{hearing};
 ghost use Rattle.bus_cable.specs.HeardTexts.{mark_text, terminal_text, heard_text};
-ghost use Rattle.bus_cable.specs.inside.Ranks.{numbered, marked_put, heard_put, sender_heard, listener_heard};
+ghost use Rattle.bus_cable.specs.inside.Ranks.{marked_put, heard_put, sender_heard, listener_heard};
+ghost use Rattle.bus_propagation.specs.Numbered.{numbered};
 
 use crate::cable::Cable;
 use crate::hearing::{Heard, begins_before, first_heard, hear, look_at, passed};

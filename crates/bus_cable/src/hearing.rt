@@ -5,11 +5,12 @@ ghost use Rattle.std.specs.List.{AllByRecursion};
 ghost use Rattle.std.specs.Option.{option_map_or};
 ghost use Rattle.bus_strings.specs.Limits.{horizon_limit};
 ghost use Rattle.bus_strings.specs.Transmissions.{IsTransmission, IsByMoment};
-ghost use Rattle.bus_medium.specs.Delays.{distance, cable, later, heard};
-ghost use Rattle.bus_cable.specs.Cables.{most_place};
-ghost use Rattle.bus_cable.specs.inside.Ranks.{numbered, heard_as, rank, rank_in, IsFirst};
+ghost use Rattle.bus_medium.specs.Delays.{cable, later, heard};
+ghost use Rattle.bus_propagation.specs.Numbered.{most_place};
+ghost use Rattle.bus_cable.specs.inside.Ranks.{heard_as, rank, rank_in, IsFirst};
+ghost use Rattle.bus_propagation.specs.Numbered.{numbered};
 
-use crate::spots::spot;
+use bus_propagation::{distance, number_of};
 use bus_strings::Transmission;
 
 /// What is kept of a transmission as a terminal hears it.
@@ -23,13 +24,6 @@ pub(crate) struct Heard {
     pub end: u64,
 }
 
-/// How far two places are apart.
-fn distance(a: u64, b: u64) -> u64
-    ensures { result ≡ distance a b }
-{
-    if a < b { b - a } else { a - b }
-}
-
 /// A transmission as the terminal `number` hears it.
 pub(crate) fn hear(places: &[u64], number: u8, x: &Transmission) -> Heard
     requires { (n : ℕ) → numbered places.now n ≤ most_place }
@@ -38,7 +32,7 @@ pub(crate) fn hear(places: &[u64], number: u8, x: &Transmission) -> Heard
     ensures from { x.now.moment ≤ result.moment }
     ensures ranges { IsTransmission x.now }
 {
-    let delay = distance(spot(places, x.terminal), spot(places, number));
+    let delay = distance(number_of(places, x.terminal), number_of(places, number));
     Heard {
         moment: x.moment + delay,
         terminal: x.terminal,

@@ -21,7 +21,8 @@ mod reading;
 mod spots;
 mod writing;
 
-pub use cable::{Cable, MOST_PLACE, MOST_WAKE, Named};
+pub use bus_propagation::MOST_PLACE;
+pub use cable::{Cable, MOST_WAKE, Named};
 pub use error::CableError;
 pub use heard::write_heard;
 pub use observing::observe_on;

@@ -9,12 +9,14 @@ ghost use Rattle.bus_strings.specs.Reading.{item_line};
 ghost use Rattle.bus_cable.specs.Cables as cables;
 ghost use Rattle.bus_cable.specs.Cables.{most_wake};
 ghost use Rattle.bus_cable.specs.Grammar.{IsCableText};
-ghost use Rattle.bus_cable.specs.Reading.{header_reading, named_reading, front_of, behind, begins_with, named_lines, body_reading, cable_reading};
+ghost use Rattle.bus_cable.specs.Reading.{header_reading, named_reading, front_of, behind, begins_with, named_lines};
+ghost use Rattle.bus_cable.specs.Reading.{body_reading, cable_reading};
 ghost use Rattle.bus_cable.specs.Gives.{Gives};
 ghost use Rattle.bus_cable.specs.inside.Ahead.{ahead, HasThree};
 
-use crate::cable::{Cable, MOST_PLACE, MOST_WAKE, Named, may_name};
+use crate::cable::{Cable, MOST_WAKE, Named, may_name};
 use crate::error::CableError;
+use bus_propagation::MOST_PLACE;
 use bus_strings::{MessagesError, Payload, Payloads, read_item};
 use bus_text::{Fields, Line, Lines, Reason, line_after, plain_decimal};
 use std::alloc::Global;
@@ -195,7 +197,8 @@ pub fn read_cable(alloc: Global, text: &[u8]) -> Result<(Cable, Payloads), Cable
     // What is read is what the text stands for.
     ensures found { IfOk result (λ read. IsCableText read.0 read.1 text.now) }
     // What a text stands for is read, unless memory runs out.
-    ensures only { (cable : cables.Cable) (items : List Item) → IsCableText cable items text.now → Gives (λ v. v) result (Ok (cable, items)) }
+    ensures only { (cable : cables.Cable) (items : List Item) → IsCableText cable items text.now
+        → Gives (λ v. v) result (Ok (cable, items)) }
     // Which line is refused, and why.
     ensures exact { Gives (λ v. v) result (cable_reading text.now) }
     ensures few { IfOk result (λ read. length read.1 ≤ length text.now) }

@@ -1,12 +1,13 @@
 //! Bit times by terminal number, for a look-up in one step.
 ghost use Rattle.std.specs.Prelude.{◌≡◌, ◌≤◌, ℕ, IsTrue, length};
 ghost use Rattle.bus_cable.specs.Cables.{may_name_all, most_wake, bits_for};
-ghost use Rattle.bus_cable.specs.inside.Ranks.{numbered};
+ghost use Rattle.bus_propagation.specs.Numbered.{numbered};
 
 use crate::cable::Named;
+use bus_strings::limits::MOST_TERMINAL;
 
 /// As many as there are numbers up to the greatest of a terminal.
-pub(crate) const SPOTS: usize = 129;
+pub(crate) const SPOTS: usize = MOST_TERMINAL as usize + 1;
 
 /// The bit times that are named, by terminal number: 0 where none are.
 pub(crate) fn spots(named: &[Named]) -> [u64; SPOTS]
@@ -18,14 +19,4 @@ pub(crate) fn spots(named: &[Named]) -> [u64; SPOTS]
         spots[usize::from(one.terminal)] = one.bits;
     }
     spots
-}
-
-/// The bit times of a terminal.
-pub(crate) fn spot(spots: &[u64], terminal: u8) -> u64
-    ensures { result ≡ numbered spots.now terminal }
-{
-    match spots.get(usize::from(terminal)) {
-        Some(bits) => *bits,
-        None => 0,
-    }
 }

@@ -30,7 +30,8 @@ use Rattle.bus_cable.specs.Hearing.{hearings}
 use Rattle.bus_cable.specs.HearingLaws.{ClearIsUngarbled}
 use Rattle.bus_cable.specs.HeardTexts.{terminals}
 use Rattle.bus_orderly.specs.Layouts.{AreNear}
-use Rattle.bus_orderly.specs.Laws.{IsListOnCable, BorneIsOrderly, PeriodicBorneIsOrderly}
+use Rattle.bus_propagation.specs.Lists.{IsListOnCable}
+use Rattle.bus_orderly.specs.Laws.{BorneIsOrderly, PeriodicBorneIsOrderly}
 use Rattle.bus_orderly.proofs.Spent.{spent_hands_are_silent}
 use Rattle.bus_orderly.proofs.Strangers.{Agree, AreOf, are_of, heard_alike, lawful_alike}
 use Rattle.bus_orderly.proofs.ClosedAlike.{closed_alike}

@@ -12,6 +12,7 @@ use Rattle.bus_medium.specs.CableLawful.{IsLawfulOnCable}
 use Rattle.bus_medium.specs.Delays.{Delays, cable}
 use Rattle.bus_medium.specs.Timings.{quiet_of, stations_of}
 use Rattle.bus_medium.specs.Wakes.{Wakes, AreWakes}
+use Rattle.bus_propagation.specs.Lists.{IsListOnCable, IsOnlyListOnCable}
 use Rattle.bus_regime.specs.Verdicts.{verdict_of, is_accepted}
 use Rattle.bus_schedule.specs.Closed.{closed, closed_end}
 use Rattle.bus_schedule.specs.Even.{are_even}
@@ -21,10 +22,6 @@ use Rattle.bus_reach.specs.Schedule.{cable_closed}
 use Rattle.bus_cable.specs.HeardTexts.{terminals, heard_text}
 use Rattle.bus_cable.specs.Hearing.{hearings}
 use Rattle.bus_orderly.specs.Layouts.{AreAlike, AreNear}
-
--- The list is what the senders of the table do on a cable with these places and wakes, up to the horizon.
-abbrev pub IsListOnCable : Table → List Hand → (ℕ → ℕ) → Wakes → ℕ → List Entry → Type 0
-IsListOnCable table hands place wake horizon = IsLawfulOnCable (quiet_of table) (cable place) wake (stations_of table hands) horizon
 
 -- Strangers count for nothing: with layouts that are alike the senders do the same.
 abbrev pub StrangersSendNothing : Type 0
@@ -62,7 +59,7 @@ SpentHandsAreSilent =
 --            than the synchronization gap
 pub record IsRunOnPlaces (table : Table) (hands : List Hand) (place : ℕ → ℕ) (wake : Wakes) (horizon : ℕ) (list : List Entry) : Type 0 where
   pub lawful : IsListOnCable table hands place wake horizon list
-  pub only : (other : List Entry) → IsListOnCable table hands place wake horizon other → other ≡ list
+  pub only : IsOnlyListOnCable table hands place wake horizon list
   pub clear : (1 < length table.senders) ⊎ AreNear table.sg table place → (number : ℕ) → In number (terminals table)
       → AllByRecursion (λ (marked : Entry × Bool). marked.1 ≡ false) (hearings (cable place) list number)
 

@@ -1,9 +1,10 @@
 //! What comes to a terminal of the transmissions of a list.
 ghost use Rattle.std.specs.Prelude.{◌≡◌, ℕ, ◌+◌, ◌<◌, ◌≤◌, ◌^◌, ◌⊎◌, length, Some, IfSome, MatchOption};
-ghost use Rattle.bus_medium.specs.Delays.{cable, distance, heard_end};
-ghost use Rattle.bus_propagation.specs.Numbered.{numbered};
+ghost use Rattle.bus_medium.specs.Delays.{cable, heard_end};
+ghost use Rattle.bus_propagation.specs.Numbered.{numbered, ArePlaces};
 ghost use Rattle.bus_propagation.specs.inside.Arrivals.{heard_begin, ComesFirst, NoneComes, ArePassed};
 
+use crate::places::{distance, number_of};
 use bus_strings::Transmission;
 
 /// A transmission as a terminal hears it, in bit times from the settled start.
@@ -17,27 +18,13 @@ pub struct Arrival {
     ghost end_in_range: { end ≤ 2 ^ 41 },
 }
 
-/// What a list of numbers has for a terminal, and 0 behind its end.
-pub fn number_of(numbers: &[u64], terminal: u8) -> u64
-    ensures { result ≡ numbered numbers.now terminal }
-{
-    numbers.get(usize::from(terminal)).copied().unwrap_or(0)
-}
-
-/// How far two places are apart.
-fn apart(a: u64, b: u64) -> u64
-    ensures { result ≡ distance a b }
-{
-    if a < b { b - a } else { a - b }
-}
-
 /// A transmission as the terminal with this number hears it, where terminals stand at these places of the cable.
 pub fn heard(transmission: &Transmission, places: &[u64], terminal: u8) -> Arrival
-    requires places { (n : ℕ) → numbered places.now n ≤ 1024 }
+    requires places { ArePlaces places.now }
     ensures begin { result.begin ≡ heard_begin (cable (numbered places.now)) transmission.now terminal }
     ensures end { result.end ≡ heard_end (cable (numbered places.now)) transmission.now terminal }
 {
-    let delay = apart(
+    let delay = distance(
         number_of(places, transmission.terminal),
         number_of(places, terminal),
     );
@@ -72,7 +59,7 @@ pub fn next_arrival(
     cursor: usize,
     moment: u64,
 ) -> Option<Arrival>
-    requires places { (n : ℕ) → numbered places.now n ≤ 1024 }
+    requires places { ArePlaces places.now }
     requires passed { ArePassed (cable (numbered places.now)) terminal list.now cursor moment }
     ensures { MatchOption result (NoneComes (cable (numbered places.now)) terminal list.now moment)
         (λ a. ComesFirst (cable (numbered places.now)) terminal list.now moment a.begin a.end) }
@@ -95,7 +82,7 @@ pub fn pass_over(
     cursor: usize,
     moment: u64,
 ) -> usize
-    requires places { (n : ℕ) → numbered places.now n ≤ 1024 }
+    requires places { ArePlaces places.now }
     requires within { cursor ≤ length list.now }
     requires passed { ArePassed (cable (numbered places.now)) terminal list.now cursor moment }
     ensures within { result ≤ length list.now }

@@ -3,7 +3,7 @@ ghost use Rattle.std.specs.Prelude.{◌≡◌, ℕ, ◌≤◌, slice_get, Some};
 ghost use Rattle.bus_medium.specs.Delays.{cable};
 ghost use Rattle.bus_medium.specs.Jumps.{Each};
 ghost use Rattle.bus_propagation.specs.declared.seat.Seat as declared;
-ghost use Rattle.bus_propagation.specs.Numbered.{numbered};
+ghost use Rattle.bus_propagation.specs.Numbered.{numbered, ArePlaces};
 ghost use Rattle.bus_propagation.specs.inside.Hearing.{HaveWords};
 ghost use Rattle.bus_propagation.specs.inside.Turns.{IsSender, KeepsPlace, Attended};
 
@@ -14,7 +14,7 @@ use bus_strings::Transmission;
 
 /// A sender hears of the list, of which what it hears up to the moment is certain, and finds its next start.
 fn attend(seat: &mut Seat, list: &[Transmission], places: &[u64], moment: u64)
-    requires places { (n : ℕ) → numbered places.now n ≤ 1024 }
+    requires places { ArePlaces places.now }
     requires sender { IsSender seat.old }
     requires words { HaveWords list.now }
     requires place { KeepsPlace (cable (numbered places.now)) list.now seat.old }
@@ -32,7 +32,7 @@ fn attend(seat: &mut Seat, list: &[Transmission], places: &[u64], moment: u64)
 
 /// Every sender does.
 pub fn attend_all(seats: &mut [Seat], list: &[Transmission], places: &[u64], moment: u64)
-    requires places { (n : ℕ) → numbered places.now n ≤ 1024 }
+    requires places { ArePlaces places.now }
     requires senders { (j : ℕ) (x : declared.Seat) → slice_get seats.old j ≡ Some x → IsSender x }
     requires words { HaveWords list.now }
     requires place { (j : ℕ) (x : declared.Seat) → slice_get seats.old j ≡ Some x → KeepsPlace (cable (numbered places.now)) list.now x }

@@ -12,6 +12,7 @@ mod attending;
 mod ear;
 mod looking;
 mod observing;
+mod places;
 mod seat;
 mod seating;
 mod starting;
@@ -20,3 +21,4 @@ mod tests;
 mod turns;
 
 pub use observing::observe_delayed;
+pub use places::{MOST_PLACE, distance, number_of};

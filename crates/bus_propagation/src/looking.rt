@@ -3,7 +3,7 @@ ghost use Rattle.std.specs.Prelude.{◌≡◌, ℕ, ◌<◌, ◌≤◌, ◌⊎�
 ghost use Rattle.bus_timers.specs.Timings.{IsSound};
 ghost use Rattle.bus_medium.specs.Delays.{cable};
 ghost use Rattle.bus_medium.specs.Wakes.{Wakes};
-ghost use Rattle.bus_propagation.specs.Numbered.{numbered};
+ghost use Rattle.bus_propagation.specs.Numbered.{numbered, ArePlaces};
 ghost use Rattle.bus_propagation.specs.inside.Arrivals.{ArePassed};
 ghost use Rattle.bus_propagation.specs.inside.Hearing.{Hears, IsNextStart, HaveWords};
 ghost use Rattle.bus_propagation.specs.inside.Seats.{station_of};
@@ -25,7 +25,7 @@ pub struct Outlook {
 /// Goes on from what a sender has heard over all that is sent already, up to its next start. What it has heard at `moment`
 /// is certain; what comes later may be changed by what is sent until then.
 pub fn look_ahead(seat: &Seat, list: &[Transmission], places: &[u64], moment: u64) -> Outlook
-    requires places { (n : ℕ) → numbered places.now n ≤ 1024 }
+    requires places { ArePlaces places.now }
     requires sound { IsSound seat.now.timing }
     requires words { HaveWords list.now }
     requires passed { ArePassed (cable (numbered places.now)) seat.now.terminal list.now seat.now.cursor seat.now.ear.moment }

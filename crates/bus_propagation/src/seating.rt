@@ -10,8 +10,8 @@ ghost use Rattle.bus_propagation.specs.Numbered.{numbered};
 ghost use Rattle.bus_propagation.specs.inside.Seats.{station_of};
 ghost use Rattle.bus_propagation.specs.inside.Turns.{IsSeated, IsSeatOf};
 
-use crate::arrival::number_of;
 use crate::ear::powered_up;
+use crate::places::number_of;
 use crate::seat::Seat;
 use bus_medium::timing;
 use bus_table::{Hand, Table};

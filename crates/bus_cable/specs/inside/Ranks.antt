@@ -1,5 +1,5 @@
 -- How the transmission that is heard next is found. A rank is one number for the moment and, at the same moment, the terminal.
-use Rattle.std.specs.Prelude.{◌≡◌, ◌==◌, ℕ, ◌+◌, ◌*◌, ◌<◌, ◌≤◌, Bool, List, [], ◌++◌, codes, decimal, slice_get, slice_index_or, if◌then◌else◌}
+use Rattle.std.specs.Prelude.{◌≡◌, ◌==◌, ℕ, ◌+◌, ◌*◌, ◌<◌, ◌≤◌, Bool, List, [], ◌++◌, codes, decimal, slice_get, if◌then◌else◌}
 use Rattle.std.specs.Option.{option_map_or}
 use Rattle.bus_strings.specs.Messages.{Entry}
 use Rattle.bus_strings.specs.Transmissions.{end_of}
@@ -8,10 +8,6 @@ use Rattle.bus_cable.specs.declared.hearing.Heard.{Heard}
 use Rattle.bus_cable.specs.HeardTexts.{hearing_line, mark_text, terminal_text}
 use Rattle.bus_table.specs.Tables.{Sender, Listener}
 use Rattle.bus_cable.specs.Hearing.{is_of_another}
-
--- The number at a place, 0 behind the end.
-abbrev pub numbered : List ℕ → ℕ → ℕ
-numbered numbers n = slice_index_or numbers n 0
 
 -- What is kept of a transmission as it is heard.
 abbrev pub heard_as : Entry → Heard

@@ -76,8 +76,8 @@ fn a_text_may_end_behind_each_line_and_not_before_the_first(rt: HostRuntime) {
             assert!(rt; refusal(&outcome).is_some());
         }
     }
-    // Behind the header with its line feed and without; PLACE 1 0 (2), PLACE 2 with one to four digits and its feed (5), WAKE 1 4 (2), WAKE 128
-    // with up to thirteen digits and its feed (14), MSG 1 : with a colon, and with each whole word, a blank or feed behind it (6), and
+    // Behind the header with its line feed and without; PLACE 1 0 (2), PLACE 2 with one to four digits and its feed (5), WAKE 1 4 (2),
+    // WAKE 128 with up to thirteen digits and its feed (14), MSG 1 : with a colon, and with each whole word, a blank or feed behind it (6), and
     // MSG 2 : with a colon, a blank, one word and its feed (4).
     assert_eq!(rt; ends, 2 + 2 + 5 + 2 + 14 + 6 + 4);
     assert_eq!(rt;
@@ -92,7 +92,7 @@ fn a_text_may_end_behind_each_line_and_not_before_the_first(rt: HostRuntime) {
 
 #[test]
 fn the_first_reason_of_the_first_wrong_line_is_told(rt: HostRuntime) {
-    let cases: [(&[u8], u64, Reason); 25] = [
+    let cases: [(&[u8], u64, Reason); 30] = [
         (b"MESSAGES 1\n", 1, Reason::Keyword),
         (b"\n\nCABLE 2\n", 3, Reason::Fields),
         (b"CABLE 1 1\n", 1, Reason::Fields),
@@ -102,6 +102,7 @@ fn the_first_reason_of_the_first_wrong_line_is_told(rt: HostRuntime) {
         (b"CABLE 1\nPLACE 01 x y\n", 2, Reason::Fields),
         (b"CABLE 1\nPLACE 01 1\n", 2, Reason::Spelling),
         (b"CABLE 1\nPLACE 999 x\n", 2, Reason::Spelling),
+        (b"CABLE 1\nPLACE 1 x\n", 2, Reason::Spelling),
         (b"CABLE 1\nPLACE 0 1\n", 2, Reason::Range),
         (b"CABLE 1\nPLACE 129 1\n", 2, Reason::Range),
         (b"CABLE 1\nPLACE 1 1025\n", 2, Reason::Range),
@@ -110,7 +111,11 @@ fn the_first_reason_of_the_first_wrong_line_is_told(rt: HostRuntime) {
         (b"CABLE 1\nPLACE 2 1\nPLACE 1 1\n", 3, Reason::Range),
         (b"CABLE 1\nWAKE 1 1\nPLACE 1 1\n", 3, Reason::Keyword),
         (b"CABLE 1\nWAKE 1\n", 2, Reason::Fields),
+        (b"CABLE 1\nWAKE 1 1 1\n", 2, Reason::Fields),
         (b"CABLE 1\nWAKE 1 -1\n", 2, Reason::Spelling),
+        (b"CABLE 1\nWAKE 0 1\n", 2, Reason::Range),
+        (b"CABLE 1\nWAKE 129 1\n", 2, Reason::Range),
+        (b"CABLE 1\nWAKE 2 1\nWAKE 1 1\n", 3, Reason::Range),
         (b"CABLE 1\nWAKE 1 1099511627776\n", 2, Reason::Range),
         (
             b"CABLE 1\nPLACE 9 1\nWAKE 2 1\nWAKE 2 1\n",

@@ -48,7 +48,8 @@ pub record Attended (delay : Delays) (list : List Entry) (t : ℕ) (x y : Seat) 
   pub on : (wake : Wakes) → Listens delay wake list t x → Listens delay wake list t y × Awaits delay wake list y
 
 -- The list is lawful on the cable before moment t, and at it for numbers below n, and each sender goes with it.
-pub record GoesTo (quiet : ℕ) (delay : Delays) (wake : Wakes) (stations : List Station) (list : List Entry) (seats : List Seat) (t n : ℕ) : Type 0 where
+pub record GoesTo (quiet : ℕ) (delay : Delays) (wake : Wakes) (stations : List Station) (list : List Entry) (seats : List Seat)
+    (t n : ℕ) : Type 0 where
   pub same : map station_of seats ≡ stations
   pub lawful : IsLawfulOnCableTo quiet delay wake stations t n list
   pub words : HaveWords list

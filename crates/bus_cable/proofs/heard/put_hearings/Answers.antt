@@ -14,7 +14,8 @@ use Rattle.bus_strings.proofs.OverlapLemmas.{ascending_is_by_moment, greatest_mo
 use Rattle.bus_medium.specs.Delays.{Delays, cable, later, heard}
 use Rattle.bus_cable.specs.declared.hearing.Heard.{Heard}
 use Rattle.bus_cable.specs.Hearing.{hearing}
-use Rattle.bus_cable.specs.inside.Ranks.{numbered, rank, rank_in, heard_as, heard_put, marked_put, IsFirst}
+use Rattle.bus_cable.specs.inside.Ranks.{rank, rank_in, heard_as, heard_put, marked_put, IsFirst}
+use Rattle.bus_propagation.specs.Numbered.{numbered}
 use Rattle.bus_cable.proofs.HearingLemmas.{IsRanked, selected_first, selected_next, ranked_at, hearing_ranked, hearing_by_moment, hearing_words, to_hearing, from_hearing, length-heard, length-hearing, place_within, heard_at, put_same, before_both, garbled_is, marked_more}
 use Rattle.bus_cable.proofs.heard.put_hearings.Goals as goal
 

@@ -7,7 +7,8 @@ use Rattle.bus_strings.specs.Marking.{greatest_end}
 use Rattle.bus_strings.specs.Transmissions.{marks}
 use Rattle.bus_medium.specs.Delays.{cable, heard}
 use Rattle.bus_cable.specs.Hearing.{hearing}
-use Rattle.bus_cable.specs.inside.Ranks.{numbered, rank, rank_in, marked_put}
+use Rattle.bus_cable.specs.inside.Ranks.{rank, rank_in, marked_put}
+use Rattle.bus_propagation.specs.Numbered.{numbered}
 use Rattle.bus_cable.proofs.heard.put_hearings.Given as goal
 
 -- as many as there were turns are put, the next is at hand, and those before `from` were heard before it

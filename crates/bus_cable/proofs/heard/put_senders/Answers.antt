@@ -5,7 +5,8 @@ use Rattle.bus_outer.proofs.TextLaws.{◌▸◌}
 use Rattle.bus_strings.proofs.ListLaws.{flat_map-take}
 use Rattle.bus_medium.specs.Delays.{cable}
 use Rattle.bus_cable.specs.HeardTexts.{terminal_text}
-use Rattle.bus_cable.specs.inside.Ranks.{numbered, sender_heard}
+use Rattle.bus_cable.specs.inside.Ranks.{sender_heard}
+use Rattle.bus_propagation.specs.Numbered.{numbered}
 use Rattle.bus_cable.proofs.heard.put_senders.Goals as goal
 
 pub loop-sender-preserved : goal.loop-sender-preserved

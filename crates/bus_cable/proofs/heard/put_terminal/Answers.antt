@@ -3,7 +3,7 @@ use Rattle.std.specs.Prelude.{decimal}
 use Rattle.bus_outer.specs.Texts.{Adds}
 use Rattle.bus_outer.proofs.TextLaws.{◌▸◌}
 use Rattle.bus_medium.specs.Delays.{cable}
-use Rattle.bus_cable.specs.inside.Ranks.{numbered}
+use Rattle.bus_propagation.specs.Numbered.{numbered}
 use Rattle.bus_cable.proofs.HearingLemmas.{put_is}
 use Rattle.bus_cable.proofs.heard.put_terminal.Goals as goal
 

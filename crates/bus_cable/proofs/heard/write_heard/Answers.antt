@@ -7,8 +7,10 @@ use Rattle.bus_strings.specs.Messages.{Entry}
 use Rattle.bus_table.specs.Tables.{Sender, Listener}
 use Rattle.bus_medium.specs.Delays.{Delays, cable}
 use Rattle.bus_cable.specs.declared.cable.Named.{Named}
-use Rattle.bus_cable.specs.Cables.{most_place, most_wake, bits_for, place_on}
-use Rattle.bus_cable.specs.inside.Ranks.{numbered, sender_heard, listener_heard}
+use Rattle.bus_cable.specs.Cables.{most_wake, bits_for, place_on}
+use Rattle.bus_propagation.specs.Numbered.{most_place}
+use Rattle.bus_cable.specs.inside.Ranks.{sender_heard, listener_heard}
+use Rattle.bus_propagation.specs.Numbered.{numbered}
 use Rattle.bus_cable.proofs.NamedLemmas.{bits_small, less_named}
 use Rattle.bus_cable.proofs.HearingLemmas.{terminals_put}
 use Rattle.bus_cable.proofs.heard.write_heard.Goals as goal

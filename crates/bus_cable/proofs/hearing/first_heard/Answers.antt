@@ -2,7 +2,8 @@ use Rattle.std.proofs.Common.{arith, ◌≡◌, ◌<◌, ◌≤◌, ◌^◌, ◌
 use Rattle.std.proofs.lemmas.Option.{slice_get_read}
 use Rattle.bus_strings.specs.Messages.{Entry}
 use Rattle.bus_medium.specs.Delays.{cable, later, heard}
-use Rattle.bus_cable.specs.inside.Ranks.{numbered, rank, rank_in, IsFirstSoFar}
+use Rattle.bus_cable.specs.inside.Ranks.{rank, rank_in, IsFirstSoFar}
+use Rattle.bus_propagation.specs.Numbered.{numbered}
 use Rattle.bus_cable.proofs.HearingLemmas.{rank_heard, so_far_better, so_far_same, so_far_enough, rest_late}
 use Rattle.bus_cable.proofs.hearing.first_heard.Goals as goal
 use Rattle.bus_cable.proofs.hearing.first_heard.Goals.{then-bound-rank+then-rank-least, else-bound-rank}

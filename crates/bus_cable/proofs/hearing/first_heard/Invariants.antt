@@ -1,6 +1,7 @@
 use Rattle.std.proofs.Common.{length, ◌≤◌}
 use Rattle.bus_medium.specs.Delays.{cable, heard}
-use Rattle.bus_cable.specs.inside.Ranks.{numbered, rank_in, IsFirstSoFar}
+use Rattle.bus_cable.specs.inside.Ranks.{rank_in, IsFirstSoFar}
+use Rattle.bus_propagation.specs.Numbered.{numbered}
 use Rattle.bus_cable.proofs.hearing.first_heard.Given as goal
 
 abbrev pub invariant-loop-at : goal.invariant-loop-at

@@ -1,7 +1,8 @@
 use Rattle.std.proofs.Common.{arith, ◌≡◌, length, refl}
 use Rattle.std.proofs.lemmas.Option.{slice_get_read}
 use Rattle.bus_medium.specs.Delays.{cable, later, heard}
-use Rattle.bus_cable.specs.inside.Ranks.{numbered, rank, rank_in}
+use Rattle.bus_cable.specs.inside.Ranks.{rank, rank_in}
+use Rattle.bus_propagation.specs.Numbered.{numbered}
 use Rattle.bus_cable.proofs.HearingLemmas.{rank_heard, passed_more}
 use Rattle.bus_cable.proofs.hearing.passed.Goals as goal
 

@@ -8,7 +8,8 @@ use Rattle.bus_medium.specs.Delays.{cable}
 use Rattle.bus_medium.specs.Timings.{quiet_of, stations_of}
 use Rattle.bus_propagation.specs.Numbered.{numbered}
 use Rattle.bus_cable.specs.declared.cable.Named.{Named}
-use Rattle.bus_cable.specs.Cables.{most_place, most_wake, bits_for, place_on, wakes_on}
+use Rattle.bus_cable.specs.Cables.{most_wake, bits_for, place_on, wakes_on}
+use Rattle.bus_propagation.specs.Numbered.{most_place}
 use Rattle.bus_cable.proofs.NamedLemmas.{bits_small, less_named}
 use Rattle.bus_cable.proofs.observing.observe_on.Goals as goal
 

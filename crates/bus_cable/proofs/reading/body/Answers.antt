@@ -3,7 +3,8 @@ use Rattle.std.proofs.lemmas.Result.{err_from_is_err_and}
 use Rattle.bus_text.specs.AllOf.{all_of}
 use Rattle.bus_text.specs.Lines.{Entry}
 use Rattle.bus_strings.specs.Reading.{item_line}
-use Rattle.bus_cable.specs.Cables.{most_place, most_wake}
+use Rattle.bus_cable.specs.Cables.{most_wake}
+use Rattle.bus_propagation.specs.Numbered.{most_place}
 use Rattle.bus_cable.specs.Reading.{front_of, behind, named_lines}
 use Rattle.bus_cable.specs.Gives.{Fails}
 use Rattle.bus_cable.proofs.BodyLemmas.{ahead_is, places_fail, wakes_fail, items_fail, body_read, cable_ranges}

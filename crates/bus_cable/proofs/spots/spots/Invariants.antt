@@ -1,6 +1,6 @@
 use Rattle.std.proofs.Common.{◌≡◌, ℕ, length, take}
 use Rattle.bus_cable.specs.Cables.{bits_for}
-use Rattle.bus_cable.specs.inside.Ranks.{numbered}
+use Rattle.bus_propagation.specs.Numbered.{numbered}
 use Rattle.bus_cable.proofs.spots.spots.Given as goal
 
 abbrev pub invariant-loop-one : goal.invariant-loop-one

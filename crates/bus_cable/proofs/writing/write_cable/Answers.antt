@@ -6,7 +6,8 @@ use Rattle.bus_strings.specs.Items.{Item, IsItem}
 use Rattle.bus_text.specs.Canonical.{spelled_lines}
 use Rattle.bus_strings.specs.Canonical.{item_fields}
 use Rattle.bus_cable.specs.declared.cable.Named.{Named}
-use Rattle.bus_cable.specs.Cables.{most_place, most_wake, may_name_all}
+use Rattle.bus_cable.specs.Cables.{most_wake, may_name_all}
+use Rattle.bus_propagation.specs.Numbered.{most_place}
 use Rattle.bus_cable.specs.inside.Puts.{named_bytes}
 use Rattle.bus_cable.proofs.CanonicalLemmas.{cable_put, cable_text_is}
 use Rattle.bus_cable.proofs.writing.write_cable.Goals as goal

@@ -1,7 +1,8 @@
 use Rattle.std.proofs.Common.{List, subst, sym, ◌≤◌, ◌&&◌, ℕ, true, ◌≡◌, ap, ◌∙◌}
 use Rattle.std.proofs.lemmas.Bool.{and_parts}
 use Rattle.bus_cable.specs.declared.cable.Named.{Named}
-use Rattle.bus_cable.specs.Cables.{may_name_all, most_place, most_wake, bits_for}
+use Rattle.bus_cable.specs.Cables.{may_name_all, most_wake, bits_for}
+use Rattle.bus_propagation.specs.Numbered.{most_place}
 use Rattle.bus_cable.proofs.NamedLemmas.{bits_small}
 use Rattle.bus_cable.proofs.cable.Cable.wake.Goals as goal
 
