@@ -1,6 +1,6 @@
 -- The lemmas of this crate; those that a crate above may cite are public.
 mod Searches
-mod Parts
+pub mod Parts
 mod Members
 mod CycleChange
 mod Changing

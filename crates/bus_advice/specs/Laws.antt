@@ -48,7 +48,8 @@ pub record LeastWorks (table : Table) (terminal line least : ℕ) : Type 0 where
 -- offsets.
 pub record PlanWorks (table : Table) (ti : ℕ) : Type 0 where
   pub helps : IsTrue (works (planned_table (with_interval ti table)))
-  pub nearest : (n : ℕ) (offsets : List ℕ) → table.ti ≤ n → n < ti → is_accepted (verdict_of (with_offsets offsets (with_interval n table))) ≡ false
+  pub nearest : (n : ℕ) (offsets : List ℕ) → table.ti ≤ n → n < ti
+      → is_accepted (verdict_of (with_offsets offsets (with_interval n table))) ≡ false
 
 -- What an advice means.
 abbrev pub AdviceWorks : Table → Advice → Type 0
@@ -74,7 +75,8 @@ pub record AreComplete (table : Table) (advices : List Advice) : Type 0 where
   pub least : table.mode ≡ Aperiodic → (sender : Sender) (place : ℕ) (line : SendLine) (n : ℕ) → In sender table.senders
       → slice_get sender.sends place ≡ Some line → IsTrue (works (with_least sender.number place n table))
       → (best : ℕ) × In (Least sender.number (place + 1) best) advices
-  pub offsets : table.mode ≡ Periodic → (n : ℕ) (offsets : List ℕ) → table.ti ≤ n → IsTrue (works (with_offsets offsets (with_interval n table)))
+  pub offsets : table.mode ≡ Periodic → (n : ℕ) (offsets : List ℕ) → table.ti ≤ n
+      → IsTrue (works (with_offsets offsets (with_interval n table)))
       → (best : ℕ) × In (Plan best) advices
 
 -- No advice on a refused table is missing.

@@ -1,6 +1,7 @@
 //! Advices on worked tables.
 use crate::advice::Advice;
 use crate::advising::advices;
+use bus_regime::verdict;
 use bus_table::read_table;
 use std::process::Abort;
 use std::test::Fail;
@@ -12,7 +13,7 @@ fn has_advices(
     wanted: &[Advice],
 ) -> Result<(), Fail> {
     let table = read_table(rt.alloc(), text)?;
-    let found = advices(rt.alloc(), &table)?;
+    let found = advices(rt.alloc(), &table, &verdict(&table))?;
     assert_eq!(rt; found.as_slice(), wanted);
     Ok(())
 }
@@ -117,8 +118,37 @@ fn an_inner_gap_is_helped_by_other_offsets_alone(rt: HostRuntime) -> Result<(), 
 /// Twenty-five wordstrings of 256 data words take more than the greatest transmit interval.
 #[test]
 fn messages_longer_than_every_interval_have_no_advice(rt: HostRuntime) -> Result<(), Fail> {
-    let text =
-        b"TABLE 1\nMODE periodic\nTI 128000\nSG 300\nSENDER 1 TG 20 AT 0\nSEND 001 0 256 256\nSEND 002 0 256 256\nSEND 003 0 256 256\nSEND 004 0 256 256\nSEND 005 0 256 256\nSEND 006 0 256 256\nSEND 007 0 256 256\nSEND 008 0 256 256\nSEND 009 0 256 256\nSEND 00A 0 256 256\nSEND 00B 0 256 256\nSEND 00C 0 256 256\nSEND 00D 0 256 256\nSEND 00E 0 256 256\nSEND 00F 0 256 256\nSEND 010 0 256 256\nSEND 011 0 256 256\nSEND 012 0 256 256\nSEND 013 0 256 256\nSEND 014 0 256 256\nSEND 015 0 256 256\nSEND 016 0 256 256\nSEND 017 0 256 256\nSEND 018 0 256 256\nSEND 019 0 256 256\n";
+    let text = b"TABLE 1
+MODE periodic
+TI 128000
+SG 300
+SENDER 1 TG 20 AT 0
+SEND 001 0 256 256
+SEND 002 0 256 256
+SEND 003 0 256 256
+SEND 004 0 256 256
+SEND 005 0 256 256
+SEND 006 0 256 256
+SEND 007 0 256 256
+SEND 008 0 256 256
+SEND 009 0 256 256
+SEND 00A 0 256 256
+SEND 00B 0 256 256
+SEND 00C 0 256 256
+SEND 00D 0 256 256
+SEND 00E 0 256 256
+SEND 00F 0 256 256
+SEND 010 0 256 256
+SEND 011 0 256 256
+SEND 012 0 256 256
+SEND 013 0 256 256
+SEND 014 0 256 256
+SEND 015 0 256 256
+SEND 016 0 256 256
+SEND 017 0 256 256
+SEND 018 0 256 256
+SEND 019 0 256 256
+";
     has_advices(&rt, text, &[])
 }
 

@@ -1,10 +1,10 @@
 -- A call of its form.
 use Rattle.std.specs.Prelude.{◌≡◌, ℕ, List, Some, IfSome, IfNone, IsNone}
-use Rattle.std.proofs.Common.{refl, sym, subst}
+use Rattle.std.proofs.Common.{sym, subst}
 use Rattle.bus_command.specs.declared.outcome.Outcome.{Outcome}
-use Rattle.bus_command.specs.declared.outcome.Outcome.TheVariants.{Done, Answered, Usage, Own, ReadFault, WriteFault, NoMemory}
+use Rattle.bus_command.specs.declared.outcome.Outcome.TheVariants.{Own, ReadFault, WriteFault, NoMemory}
 use Rattle.bus_command.specs.declared.refusal.Place.TheVariants.{First, Second, Behind}
-use Rattle.bus_command.specs.Acts.{Program, DoesForm, HasCause, Acts}
+use Rattle.bus_command.specs.Acts.{Program, DoesForm, HasCause, HasRoom, Acts}
 use Rattle.bus_command.specs.Causes.{RefusesTexts}
 use Rattle.bus_command.specs.Outside.{Call, Outside}
 use Rattle.bus_command.specs.Readers.{told}
@@ -38,10 +38,12 @@ does_cause program laws form before after o does =
     (λ first second h. stands_cause program laws form first second o h) does.due
 
 pub acts_form : {R Form : Type 0} (program : Program R Form) → DueHasCause program → (call : Call) (outcome : Outcome R) (form : Form)
-    → Some form ≡ program.form_of call.words → DoesForm program form call.before call.after outcome → Acts program call outcome
-acts_form program laws call outcome form is does = record {
+    → Some form ≡ program.form_of call.words → DoesForm program form call.before call.after outcome
+    → HasRoom program form outcome → Acts program call outcome
+acts_form program laws call outcome form is does room = record {
   usage = (λ e. absurd (does.form e), λ none. absurd (some_is form (subst IsNone (sym is) none)));
   nothing = subst (λ f. IfNone f (call.after ≡ call.before)) is tt;
   does = subst (λ f. IfSome f (λ form. DoesForm program form call.before call.after outcome)) is does;
   caused = subst (λ f. IfSome f (λ form. HasCause program form call.before outcome)) is (does_cause program laws form call.before call.after outcome does);
+  room = subst (λ f. IfSome f (λ form. HasRoom program form outcome)) is room;
 }

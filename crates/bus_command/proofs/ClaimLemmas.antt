@@ -1,5 +1,5 @@
 -- A call that acts as it should keeps what is claimed of texts that are right.
-use Rattle.std.specs.Prelude.{◌≡◌, ℕ, false, List, [], Option, Some, None, IfSome, IsSome, Result, Ok}
+use Rattle.std.specs.Prelude.{◌≡◌, ◌≢◌, ℕ, false, List, [], Option, Some, None, IfSome, IsSome, Result, Ok}
 use Rattle.std.specs.Io.KnownBytes.{append_known}
 use Rattle.std.proofs.Common.{refl, sym, ap, ◌∙◌, subst, inl, inr, append-nil}
 use Rattle.bus_outer.specs.Sinks.{Written}
@@ -7,13 +7,15 @@ use Rattle.bus_command.specs.declared.outcome.Outcome.{Outcome}
 use Rattle.bus_command.specs.declared.outcome.Outcome.TheVariants.{Done, Answered, Own, ReadFault, WriteFault, NoMemory}
 use Rattle.bus_command.specs.declared.refusal.Place.TheVariants.{First as AtFirst, Second as AtSecond, Behind}
 use Rattle.bus_command.specs.declared.status.Status.{Status}
+use Rattle.bus_command.specs.declared.status.Status.TheVariants.{Done as Told, NoMemory as Wanting}
 use Rattle.bus_command.specs.Outcomes.{status_of}
 use Rattle.bus_command.specs.Kinds.{Answer, kind_of, is_answer}
 use Rattle.bus_command.specs.Stages.{StandsFor}
 use Rattle.bus_command.specs.Outside.{Seen, Sources, Rises, Call, Outside}
 use Rattle.bus_command.specs.Readers.{Reader, Named, one_source, two_sources, OfTexts, FailsToRead, First, Second, SourceCounts, OutCounts}
 use Rattle.bus_command.specs.Due.{outcome_with, IsTextOf}
-use Rattle.bus_command.specs.Acts.{Leaves, Does, Program, DoesForm, Acts}
+use Rattle.bus_command.specs.About.{TellsItself}
+use Rattle.bus_command.specs.Acts.{Leaves, Does, Program, DoesForm, HasRoom, Acts}
 use Rattle.bus_command.specs.Claims.{IsUndisturbed, NothingFails, Answers, Refuses}
 
 -- all of a text has gone
@@ -47,11 +49,33 @@ answers own named reply (Own AtSecond why) IsIt IsText call w f s l c d u = (let
 answers own named reply (Own Behind why) IsIt IsText call w f s l c d u = (let no : kind_of (Own Behind why) ≡ Answer = ap kind_of (sym s) ∙ w in absurd cc)
 answers own named reply o IsIt IsText call w f s l c d u = (let no : kind_of o ≡ Answer = ap kind_of (sym s) ∙ w in absurd cc)
 
+-- an outcome that stands for Done and is no want of memory has another status than that
+not_wanting : {R : Type 0} (own : R → Status) (o : Outcome R) → StandsFor Done o → o ≢ NoMemory → status_of own o ≢ Wanting
+not_wanting own NoMemory s room = absurd (room refl)
+not_wanting own (Own AtFirst why) s room = absurd cc
+not_wanting own (Own AtSecond why) s room = absurd cc
+not_wanting own (Own Behind why) s room = absurd cc
+not_wanting own o s room = λ e. cc
+
+-- so the text is told
+pub told_itself : {R : Type 0} (own : R → Status) (o : Outcome R) (text : List ℕ) (call : Call) → StandsFor Done o → o ≢ NoMemory
+    → Answers Told (λ written. written ≡ text) call (status_of own o) → TellsItself text call (status_of own o)
+told_itself own o text call s room (inl told) = record {
+  done = told.0;
+  written = told.1.2 ∙ ap (append_known call.before.out.bytes) told.1.1;
+}
+told_itself own o text call s room (inr none) = absurd (not_wanting own o s room none.0)
+
 -- ---- the texts that are told
 -- what the command of these words did
 pub does_of : {R Form : Type 0} (program : Program R Form) (call : Call) (outcome : Outcome R) (form : Form) → program.form_of call.words ≡ Some form
     → Acts program call outcome → DoesForm program form call.before call.after outcome
 does_of program call outcome form is acts = subst (λ f. IfSome f (λ form. DoesForm program form call.before call.after outcome)) is acts.does
+
+-- and that they took no memory, where their form takes none
+pub room_of : {R Form : Type 0} (program : Program R Form) (call : Call) (outcome : Outcome R) (form : Form) → program.form_of call.words ≡ Some form
+    → Acts program call outcome → HasRoom program form outcome
+room_of program call outcome form is acts = subst (λ f. IfSome f (λ form. HasRoom program form outcome)) is acts.room
 
 pub at_one : (reader : Reader) (before : Sources) (first : List ℕ) → before.first.bytes ≡ Some first → (P : List ℕ → List ℕ → Type 0)
     → OfTexts (one_source reader) before P → P first []

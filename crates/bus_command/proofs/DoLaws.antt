@@ -1,11 +1,11 @@
 -- A command of its steps, and of what it did behind them.
-use Rattle.std.specs.Prelude.{◌≡◌, ◌≢◌, ℕ, ◌≤◌, ◌⊎◌, true, List, Option, Some, None, IsSome, Result, Ok, Err}
+use Rattle.std.specs.Prelude.{◌≡◌, ℕ, ◌≤◌, true, List, Option, None, IsSome, Result, Ok, Err}
 use Rattle.std.proofs.Common.{refl, sym, ap, ◌∙◌, subst, inl, inr, arith}
 use Rattle.bus_outer.specs.Sinks.{WritesText}
 use Rattle.bus_outer.specs.declared.sink.Sink.{Ghosts as SinkGhosts}
 use Rattle.bus_outer.specs.declared.sink.WriteFault.{WriteFault as Fault}
 use Rattle.bus_command.specs.declared.outcome.Outcome.{Outcome}
-use Rattle.bus_command.specs.declared.outcome.Outcome.TheVariants.{Usage, NoMemory}
+use Rattle.bus_command.specs.declared.outcome.Outcome.TheVariants.{NoMemory}
 use Rattle.bus_command.specs.Acts.{Leaves, written, IsBehind, Ends, Does}
 use Rattle.bus_command.specs.Due.{outcome_with, IsTextOf}
 use Rattle.bus_command.specs.Kinds.{Kind, NoForm, NotRead, TooMuch, Wrong, Late, NotWritten, NoRoom, Answer, kind_of, stage_of, is_answer}

@@ -1,5 +1,5 @@
 -- The hands that items give have no more messages each than there are items.
-use Rattle.std.specs.Prelude.{ℕ, ◌≤◌, true, false, ◌==◌, List, [], ◌∷◌, length, map, filter}
+use Rattle.std.specs.Prelude.{◌≤◌, true, false, ◌==◌, List, [], ◌∷◌, length, map, filter}
 use Rattle.std.specs.List.{AllByRecursion}
 use Rattle.std.proofs.Common.{arith, cond}
 use Rattle.std.proofs.lemmas.List.{length-map}

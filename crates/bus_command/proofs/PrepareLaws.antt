@@ -1,14 +1,12 @@
 -- The steps before the first written byte.
-use Rattle.std.specs.Prelude.{◌≡◌, ℕ, ◌≤◌, List, Option, Some, None, IfSome, Result, Ok, Err, IfErr, IsErrAnd}
-use Rattle.std.proofs.Common.{arith, refl, sym, ap, ◌∙◌, subst}
-use Rattle.std.proofs.lemmas.Result.{err_from_is_err_and}
+use Rattle.std.specs.Prelude.{◌≡◌, ℕ, ◌≤◌, List, Option, Some, Result, Ok, Err}
+use Rattle.std.proofs.Common.{refl, sym, subst}
 use Rattle.bus_text.specs.AllOf.{◌>>=◌}
 use Rattle.bus_command.specs.declared.outcome.Outcome.{Outcome}
-use Rattle.bus_command.specs.declared.outcome.Outcome.TheVariants.{NoMemory}
 use Rattle.bus_command.specs.Kinds.{Kind, NoForm, NotRead, TooMuch, Wrong, Late, NotWritten, NoRoom, Answer, kind_of}
 use Rattle.bus_command.specs.Stages.{stage_in, GivesStop, Gives, refusal_in}
-use Rattle.bus_command.specs.Outside.{Seen, Sources, both}
-use Rattle.bus_command.specs.Readers.{Reader, Named, OfSome, one_source, two_sources, told, Broken, Past, Judged, ReadsBy, Reads, reach_at, reach}
+use Rattle.bus_command.specs.Outside.{Seen, both}
+use Rattle.bus_command.specs.Readers.{Reader, OfSome, one_source, two_sources, Broken, Past, Judged, ReadsBy, Reads, reach_at, reach}
 use Rattle.bus_command.specs.Steps.{StopsAt, Takes, StopsFirst, Prepares}
 use Rattle.bus_command.proofs.StageLaws.{if_map, some_map, some_all, where_told, stop_early, gives_first, no_refusal, refused_first}
 use Rattle.bus_command.proofs.ReachLaws.{untouched, nothing_within, reads_own, reads_before, first_counts, second_counts}

@@ -18,7 +18,7 @@ use Rattle.bus_trace.specs.Limits.{text_limit as trace_limit}
 use Rattle.bus_trace.specs.Runs.{reading}
 use Rattle.bus_trace.specs.TraceLaws.{ReadsBack, ReadsOnlyTraces}
 use Rattle.bus_trace.specs.Traces.{Recording, HoldsTrace}
-use Rattle.bus_command.specs.Causes.{IsValidText, IsNoTraceText, RefusesTexts}
+use Rattle.bus_command.specs.Causes.{IsValidText, RefusesTexts}
 use Rattle.bus_command.specs.declared.inputs.Traced.{Traced}
 use Rattle.bus_command.specs.declared.outcome.Outcome.{Outcome}
 use Rattle.bus_command.specs.declared.outcome.Outcome.TheVariants.{MessagesText, Unfit, TooLarge}

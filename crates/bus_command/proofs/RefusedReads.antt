@@ -1,13 +1,13 @@
 -- What bytes read as that were taken of a trace text which is refused.
 use Rattle.std.specs.Prelude.{◌≡◌, ℕ, ◌≤◌, ◌+◌, List, [], ◌∷◌, ◌++◌, length, Option, Err}
-use Rattle.std.proofs.Common.{arith, refl, sym, ap, ◌∙◌, subst, append-nil}
+use Rattle.std.proofs.Common.{arith, sym, ap, ◌∙◌}
 use Rattle.bus_trace.specs.declared.fault.TraceError.TheVariants.{Text}
 use Rattle.bus_trace.specs.declared.reason.TraceReason.{TraceReason}
 use Rattle.bus_trace.specs.declared.reason.TraceReason.TheVariants.{Long, Ended}
-use Rattle.bus_trace.specs.Limits.{text_limit, line_limit}
+use Rattle.bus_trace.specs.Limits.{text_limit}
 use Rattle.bus_trace.specs.Reading.{Gave, Offends, Complete, Overlong, Refuses, ByLine, CutOff}
-use Rattle.bus_trace.specs.Runs.{Standing, Progress, Going, Refused, begin, run, judged, ended_by, reading, ◌>>-◌}
-use Rattle.bus_trace.specs.States.{State, step, text_of}
+use Rattle.bus_trace.specs.Runs.{Going, Refused, begin, run, judged, ended_by, reading, ◌>>-◌}
+use Rattle.bus_trace.specs.States.{State}
 use Rattle.bus_trace.proofs.Feeds.{due_within}
 use Rattle.bus_trace.proofs.Runs.{run-append, run-line, run-long, run-whole_line}
 

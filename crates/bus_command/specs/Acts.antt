@@ -1,9 +1,9 @@
 -- What a call does to the outside: which outcome it comes to, and what its sources and sinks then hold.
-use Rattle.std.specs.Prelude.{◌≡◌, ◌≢◌, ◌↔◌, ℕ, List, [], Option, IfSome, IfNone, IsNone, IsSome, Result, Ok, Err}
+use Rattle.std.specs.Prelude.{◌≡◌, ◌≢◌, ◌↔◌, ℕ, Bool, false, List, [], Option, IfSome, IfNone, IsNone, IsSome, Result, Ok, Err}
 use Rattle.bus_outer.specs.Sinks.{Written, WritesText}
 use Rattle.bus_outer.specs.declared.sink.WriteFault.{WriteFault as Fault}
 use Rattle.bus_command.specs.declared.outcome.Outcome.{Outcome}
-use Rattle.bus_command.specs.declared.outcome.Outcome.TheVariants.{Usage, WriteFault}
+use Rattle.bus_command.specs.declared.outcome.Outcome.TheVariants.{NoMemory, Usage, WriteFault}
 use Rattle.bus_command.specs.Causes.{RefusesTexts}
 use Rattle.bus_command.specs.Kinds.{Kind, NoForm, NotRead, TooMuch, Wrong, Late, NotWritten, NoRoom, Answer, kind_of}
 use Rattle.bus_command.specs.Stages.{StandsFor}
@@ -85,6 +85,7 @@ pub record Does {R : Type 0} (named : Named) (refusing : List ℕ → Option (Ou
 --   form_of    the form of these words
 --   sources    the sources that a form names, and how each is read
 --   refusing   why a form refuses the first text, whatever the second is
+--   memory     whether a form takes any memory
 --   due        the outcome of a form for both texts
 --   IsText     what a form writes of both texts
 --   Cause      the cause of a refusal of the program's own
@@ -92,6 +93,7 @@ pub record Program (R Form : Type 0) : Type 1 where
   pub form_of : List (List ℕ) → Option Form
   pub sources : Form → Named
   pub refusing : Form → List ℕ → Option (Outcome R)
+  pub memory : Form → Bool
   pub due : Form → List ℕ → List ℕ → Outcome R
   pub IsText : Form → List ℕ → List ℕ → List ℕ → Type 0
   pub Cause : Form → R → List ℕ → List ℕ → Type 0
@@ -106,16 +108,22 @@ abbrev pub HasCause : {R Form : Type 0} → Program R Form → Form → Outside 
 HasCause program form before outcome =
     OfTexts (program.sources form) before.sources (RefusesTexts (program.Cause form) outcome)
 
+-- A form that takes no memory doesn't come to want of it.
+abbrev pub HasRoom : {R Form : Type 0} → Program R Form → Form → Outcome R → Type 0
+HasRoom program form outcome = program.memory form ≡ false → outcome ≢ NoMemory
+
 -- What a call of a program did:
 --   usage     Usage comes exactly where the words are no form
 --   nothing   and then nothing outside is touched
 --   does      else it did what the form asks for
 --   caused    an outcome that refuses a text has its cause
+--   room      it came to want of memory only where the form may
 pub record Acts {R Form : Type 0} (program : Program R Form) (call : Call) (outcome : Outcome R) : Type 0 where
   pub usage : (outcome ≡ Usage) ↔ IsNone (program.form_of call.words)
   pub nothing : IfNone (program.form_of call.words) (call.after ≡ call.before)
   pub does : IfSome (program.form_of call.words) (λ form. DoesForm program form call.before call.after outcome)
   pub caused : IfSome (program.form_of call.words) (λ form. HasCause program form call.before outcome)
+  pub room : IfSome (program.form_of call.words) (λ form. HasRoom program form outcome)
 
 -- What `err` holds: this line, or a beginning of it where the count of `err` rose.
 abbrev pub TellsLine : {K : Type 0} → (K → Option (List ℕ)) → (K → ℕ) → K → K → List ℕ → Type 0

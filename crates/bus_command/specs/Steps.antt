@@ -1,6 +1,6 @@
 -- What the steps of a command do before its first written byte.
 --   step   it makes a value, or stops at an outcome
-use Rattle.std.specs.Prelude.{◌≡◌, ℕ, List, Vec, Option, Some, IfSome, Result, Ok, Err, IfErr}
+use Rattle.std.specs.Prelude.{◌≡◌, ℕ, List, Vec, Option, IfSome, Result, Ok, Err, IfErr}
 use Rattle.std.specs.declared.alloc.Global.{Global}
 use Rattle.bus_outer.specs.declared.whole.ReadError.{ReadError}
 use Rattle.bus_outer.specs.declared.whole.ReadError.TheVariants.{Fault, TooLarge as Larger, Memory}

@@ -1,10 +1,8 @@
 //! What a program tells of itself: `--help` and `--version`, each alone as the only word.
-ghost use Rattle.std.specs.Prelude.{◌≡◌};
+ghost use Rattle.std.specs.Prelude.{◌≡◌, ◌≢◌};
 ghost use Rattle.bus_command.specs.About as about;
-ghost use Rattle.bus_command.specs.Acts.{Ends};
-ghost use Rattle.bus_command.specs.Outside.{sink_seen};
-ghost use Rattle.bus_command.specs.Readers.{no_source};
-ghost use Rattle.bus_command.specs.declared.outcome.Outcome.TheVariants.{Done};
+ghost use Rattle.bus_command.specs.About.{EndsTelling};
+ghost use Rattle.bus_command.specs.declared.outcome.Outcome.TheVariants.{NoMemory};
 
 use crate::outcome::Outcome;
 use crate::refusal::Refusal;
@@ -35,7 +33,8 @@ pub fn about_of(word: &str) -> Option<About>
 
 /// Writes what a program tells of itself. It pulls no source and takes no memory.
 pub fn tell<R: Refusal, K: Sink>(told: &[u8], out: &mut K) -> Outcome<R>
-    ensures { Ends no_source Done (λ text. text ≡ told.now) (sink_seen ⟦<K as Sink>⟧ out.old) (sink_seen ⟦<K as Sink>⟧ out.new) result }
+    ensures ends { EndsTelling ⟦<K as Sink>⟧ told.now out.old out.new result }
+    ensures room { result ≢ NoMemory }
 {
     after_writing(write_all(out, told), Outcome::Done)
 }

@@ -13,18 +13,19 @@ use Rattle.bus_plan.specs.Laws.{FeasibleExactly, ShortIsRefused}
 use Rattle.bus_plan.specs.Plans.{least_interval}
 use Rattle.bus_advice.specs.Changes.{with_interval}
 use Rattle.bus_explain.specs.Figures.{spare, spare_in}
+use Rattle.bus_explain.proofs.FallLemmas.{feasible_at}
 use Rattle.bus_explain.specs.Laws.{SpareIsRise, SpareIsFall, SharesAreNearest}
 
 -- ---- up
-by_test : (test : Bool) (short ti long least most : ℕ) → cond test (ShortCycle short ti) (Accept Aperiodic short long) ≡ Accept Aperiodic least most
+by_test : (test : Bool) (mode : Mode) (short ti long least most : ℕ) → cond test (ShortCycle short ti) (Accept Aperiodic short long) ≡ Accept mode least most
     → (test ≡ false) × (short ≡ least)
-by_test true short ti long least most h = absurd cc
-by_test false short ti long least most h = (refl, cc)
+by_test true mode short ti long least most h = absurd cc
+by_test false mode short ti long least most h = (refl, cc)
 
-pub rise : (short ti least long most n : ℕ) → cond (nat_lt short ti) (ShortCycle short ti) (Accept Aperiodic short long) ≡ Accept Aperiodic least most
+rise : (mode : Mode) (short ti least long most n : ℕ) → cond (nat_lt short ti) (ShortCycle short ti) (Accept Aperiodic short long) ≡ Accept mode least most
     → (n ≤ ti + (least - ti)) ↔ IsTrue (is_accepted (cond (nat_lt short n) (ShortCycle short n) (Accept Aperiodic short long)))
-rise short ti least long most n h =
-    let own = by_test (nat_lt short ti) short ti long least most h in
+rise mode short ti least long most n h =
+    let own = by_test (nat_lt short ti) mode short ti long least most h in
     let enough : ti ≤ short = grind (arith, nat_tests, own.0) in
     let same : short ≡ least = own.1 in
     elim (cases_lt short n) [
@@ -42,9 +43,9 @@ in_mode : (mode : Mode) (table : Table) → table.mode ≡ mode → verdict_of t
 in_mode mode table h = ap (λ m. verdict_in m table) h
 
 pub spare_is_rise : SpareIsRise
-spare_is_rise table least most n aperiodic h =
-    let own = sym (in_mode Aperiodic table aperiodic) ∙ h in
-    let law = rise (least_cycle table) table.ti least (most_cycle table) most n own in
+spare_is_rise table least most aperiodic h n =
+    let own = sym (in_mode Aperiodic table aperiodic) ∙ h.1 in
+    let law = rise h.0 (least_cycle table) table.ti least (most_cycle table) most n own in
     let there = ap (λ m. spare_in m table least) aperiodic in
     let changed = in_mode Aperiodic (with_interval n table) aperiodic in (
       (λ within. subst (λ v. IsTrue (is_accepted v)) (sym changed) (law.0 (omega (arith, within, there)))),
@@ -61,7 +62,8 @@ itself : (table : Table) → with_offsets (map (λ sender. sender.at) table.send
 itself table = ap (λ senders. record { mode = table.mode; ti = table.ti; sg = table.sg; senders = senders; listeners = table.listeners }) (own_offsets table.senders)
 
 pub spare_is_fall : FeasibleExactly → ShortIsRefused → SpareIsFall
-spare_is_fall feasible short table least n valid periodic accepted changed =
+spare_is_fall feasible short table least most valid periodic h n range =
+    let accepted : IsTrue (is_accepted (verdict_of table)) = ap is_accepted h.1 in
     let enough : least_interval table ≤ table.ti = elim (cases_lt table.ti (least_interval table)) [
       | inl less ↦ absurd (
           let no' = short table (map (λ sender. sender.at) table.senders) valid periodic less in
@@ -70,7 +72,7 @@ spare_is_fall feasible short table least n valid periodic accepted changed =
       | inr more ↦ more
     ] in
     let there : spare table least ≡ table.ti - least_interval table = ap (λ m. spare_in m table least) periodic in
-    let law = feasible (with_interval n table) changed periodic in
+    let law = feasible_at feasible table n valid periodic range in
     ((λ within. law.0 (omega (arith, within, there, enough))), (λ some. let down = law.1 some in omega (arith, down, there, enough)))
 
 -- ---- shares

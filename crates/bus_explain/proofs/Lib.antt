@@ -1,4 +1,6 @@
 -- The lemmas of this crate.
-pub mod OrderLemmas
-pub mod AcceptLemmas
-pub mod FigureLaws
+mod OrderLemmas
+mod AcceptLemmas
+mod FallLemmas
+mod FigureTexts
+mod FigureLaws

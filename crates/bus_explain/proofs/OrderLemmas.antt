@@ -1,30 +1,29 @@
--- The lines on senders, one after another.
+-- The lines on items, one after another.
 use Rattle.std.specs.Prelude.{◌≡◌, ℕ, ◌+◌, ◌<◌, List, [], ◌∷◌, ◌++◌, length, slice_get, Some}
 use Rattle.std.specs.List.{flat_map}
-use Rattle.std.proofs.Common.{arith, sym, ap, ◌∙◌, take, get_or}
+use Rattle.std.proofs.Common.{arith, ap, ◌∙◌, take, get_or}
 use Rattle.std.proofs.lemmas.List.{append-nil, take_all, take_more}
 use Rattle.std.proofs.lemmas.Grind.{flat_map-append}
 use Rattle.std.proofs.lemmas.Option.{get_or_from_slice_get}
-use Rattle.bus_table.proofs.CanonicalLemmas.{flat_map_next}
 use Rattle.bus_table.proofs.TurnLaws.{length-sort}
-use Rattle.bus_table.specs.Tables.{Sender, Table}
+use Rattle.bus_table.specs.Tables.{Table}
 use Rattle.bus_table.specs.Turns.{turn_key, turn_order}
 
 -- one more
-pub next_line : (f : Sender → List ℕ) (order : List Sender) (k : ℕ) (sender : Sender) → k < length order → slice_get order k ≡ Some sender
-    → flat_map f (take (k + 1) order) ≡ flat_map f (take k order) ++ f sender
-next_line f order k sender below at = flat_map_next f order k sender (sym (get_or_from_slice_get order k sender sender at)) below
-
--- one more of any items
 pub next_item : {X : Type 0} (f : X → List ℕ) (xs : List X) (i : ℕ) (otherwise : X) → i < length xs
     → flat_map f (take (i + 1) xs) ≡ flat_map f (take i xs) ++ f (get_or xs i otherwise)
 next_item f xs i otherwise below =
     ap (flat_map f) (take_more xs i otherwise below) ∙ flat_map-append f (take i xs) (get_or xs i otherwise ∷ [])
     ∙ ap (λ t. flat_map f (take i xs) ++ t) (append-nil (f (get_or xs i otherwise)))
 
+-- the same of one that stands there
+pub next_line : {X : Type 0} (f : X → List ℕ) (xs : List X) (i : ℕ) (x : X) → i < length xs → slice_get xs i ≡ Some x
+    → flat_map f (take (i + 1) xs) ≡ flat_map f (take i xs) ++ f x
+next_line f xs i x below at = next_item f xs i x below ∙ ap (λ y. flat_map f (take i xs) ++ f y) (get_or_from_slice_get xs i x x at)
+
 -- all of them
-pub all_lines : (f : Sender → List ℕ) (order : List Sender) (k : ℕ) → k ≡ length order → flat_map f (take k order) ≡ flat_map f order
-all_lines f order k whole = ap (λ n. flat_map f (take n order)) whole ∙ ap (flat_map f) (take_all (length order) order (omega arith))
+pub all_lines : {X : Type 0} (f : X → List ℕ) (xs : List X) (i : ℕ) → i ≡ length xs → flat_map f (take i xs) ≡ flat_map f xs
+all_lines f xs i whole = ap (λ n. flat_map f (take n xs)) whole ∙ ap (flat_map f) (take_all (length xs) xs (omega arith))
 
 pub order_length : (table : Table) → length (turn_order table) ≡ length table.senders
 order_length table = length-sort (turn_key table.mode) table.senders

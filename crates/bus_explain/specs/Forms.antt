@@ -12,7 +12,8 @@ range_text before least most = before ++ time_text least ++ codes " to " ++ time
 
 -- A SENDER line of a table of this mode.
 abbrev pub sender_text : Mode → List ℕ
-sender_text Aperiodic = range_text (codes "SENDER n TG g: n is the number of a terminal that sends, 1 to 128, and g its terminal gap, ") 8 256
+sender_text Aperiodic =
+    range_text (codes "SENDER n TG g: n is the number of a terminal that sends, 1 to 128, and g its terminal gap, ") 8 256
 sender_text Periodic =
     codes "SENDER n TG g AT a: n is the number of a terminal that sends, 1 to 128, g its terminal gap, " ++ time_text 8 ++ codes " to "
     ++ time_text 256 ++ codes ", and a its offset, " ++ time_text 0 ++ codes " to " ++ time_text 127999 ++ codes "\n"
@@ -26,8 +27,8 @@ send_text =
 -- A TAKE line.
 abbrev pub take_text : List ℕ
 take_text =
-    codes "TAKE l e first count: data words that it takes, of the label l, three hexadecimal digits, and the extension e, one digit, or * for any, "
-    ++ codes "from the word first on, counted from 0 to 255, and count words, 1 to 256\n"
+    codes "TAKE l e first count: data words that it takes, of the label l, three hexadecimal digits, "
+    ++ codes "and the extension e, one digit, or * for any, from the word first on, counted from 0 to 255, and count words, 1 to 256\n"
 
 -- The form of a line of a keyword, in a table of this mode.
 abbrev pub form_text : Mode → Keyword → List ℕ

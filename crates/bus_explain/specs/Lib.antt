@@ -1,5 +1,6 @@
 pub mod Times
 pub mod Figures
+pub mod Senders
 pub mod Accepted
 pub mod Refused
 pub mod Advised

@@ -15,14 +15,16 @@ abbrev pub short_cycle_text : (least missing ti : ℕ) → List ℕ
 short_cycle_text least missing ti =
     codes "The table is refused: the shortest cycle takes " ++ time_text least ++ codes ", which is " ++ time_text missing
     ++ codes " less than the transmit interval, TI, of " ++ time_text ti ++ codes ".\n"
-    ++ codes "In such a cycle a sender's turn comes before its interval is over: it starts late, or another goes first, and two may talk over each other.\n"
+    ++ codes "In such a cycle a sender's turn comes before its interval is over: it starts late, "
+    ++ codes "or another goes first, and two may talk over each other.\n"
 
 -- A gap is below its sender's terminal gap.
 abbrev pub small_gap_text : (terminal missing needed : ℕ) → List ℕ
 small_gap_text terminal missing needed =
     codes "The table is refused: the gap before terminal " ++ decimal terminal ++ codes " is " ++ time_text missing
     ++ codes " shorter than its terminal gap, TG, of " ++ time_text needed ++ codes ".\n"
-    ++ codes "The gap lasts from the end of the longest message of the sender before it to its own next start; an overlap counts below zero.\n"
+    ++ codes "The gap lasts from the end of the longest message of the sender before it to its own next start; "
+    ++ codes "an overlap counts below zero.\n"
 
 -- A sender lacks sync.
 abbrev pub no_sync_text : (terminal missing needed : ℕ) → List ℕ

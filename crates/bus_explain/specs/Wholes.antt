@@ -14,10 +14,15 @@ pair_text label ext =
     codes "The table is wrong as a whole: two SEND lines have the label " ++ hexadecimal 3 label ++ codes " with the extension "
     ++ hex_digit ext ∷ [] ++ codes ".\nGive one of them another label or another extension.\n"
 
+-- That no terminal sends.
+abbrev pub no_sender_text : List ℕ
+no_sender_text =
+    codes "The table is wrong as a whole: no terminal sends.\n"
+    ++ codes "Add a SENDER line, and behind it a SEND line for each wordstring of its messages.\n"
+
 -- What is said of a reason.
 abbrev pub whole_text : WholeReason → List ℕ
-whole_text NoSender =
-    codes "The table is wrong as a whole: no terminal sends.\nAdd a SENDER line, and behind it a SEND line for each wordstring of its messages.\n"
+whole_text NoSender = no_sender_text
 whole_text (NumberTwice terminal) =
     terminal_text (codes "two terminals have the number ") terminal (codes ".\nGive one of them another number, from 1 to 128.\n")
 whole_text (GapTwice terminal) =

@@ -1,16 +1,15 @@
 //! An accepted table, a sentence a line.
-ghost use Rattle.std.specs.List.{flat_map};
 ghost use Rattle.bus_outer.specs.Sinks.{WritesText};
 ghost use Rattle.bus_outer.specs.Texts.{Adds};
 ghost use Rattle.bus_table.specs.declared.mode.Mode.TheVariants.{Aperiodic, Periodic};
-ghost use Rattle.bus_table.specs.Turns.{turn_order};
 ghost use Rattle.bus_explain.specs.Accepted as accepted;
 
 use crate::figures::{load, spare};
+use crate::senders::put_senders;
 use crate::times::{put_share, put_time};
 use bus_outer::{Sink, TextBuffer, WriteFault};
 use bus_table::laws::table_is_valid;
-use bus_table::{Mode, Sender, Table, longest, shortest, turn_at, turn_places};
+use bus_table::{Mode, Table};
 
 /// Puts how long the cycles of a table are.
 fn put_cycles<K: Sink>(text: &mut TextBuffer, sink: &mut K, mode: Mode, least: u64, most: u64)
@@ -18,13 +17,13 @@ fn put_cycles<K: Sink>(text: &mut TextBuffer, sink: &mut K, mode: Mode, least: u
 {
     match mode {
         Mode::Aperiodic => put_both_cycles(text, sink, least, most),
-        Mode::Periodic => put_one_cycle(text, sink, least, most),
+        Mode::Periodic => put_one_cycle(text, sink, most),
     }
 }
 
 /// Puts the shortest and the longest cycle of an aperiodic table.
 fn put_both_cycles<K: Sink>(text: &mut TextBuffer, sink: &mut K, least: u64, most: u64)
-    ensures { Adds K.held K.faults sink.old sink.new text.old text.new (accepted.cycles_line Aperiodic least most) }
+    ensures { Adds K.held K.faults sink.old sink.new text.old text.new (accepted.both_cycles_line least most) }
 {
     text.put(
         sink,
@@ -37,10 +36,9 @@ fn put_both_cycles<K: Sink>(text: &mut TextBuffer, sink: &mut K, least: u64, mos
 }
 
 /// Puts the one cycle of a periodic table.
-fn put_one_cycle<K: Sink>(text: &mut TextBuffer, sink: &mut K, least: u64, most: u64)
-    ensures { Adds K.held K.faults sink.old sink.new text.old text.new (accepted.cycles_line Periodic least most) }
+fn put_one_cycle<K: Sink>(text: &mut TextBuffer, sink: &mut K, most: u64)
+    ensures { Adds K.held K.faults sink.old sink.new text.old text.new (accepted.one_cycle_line most) }
 {
-    let _least = least;
     text.put(sink, b"Each cycle takes ");
     put_time(text, sink, most as u128);
     text.put(
@@ -104,84 +102,6 @@ fn put_load<K: Sink>(text: &mut TextBuffer, sink: &mut K, load: u128)
     );
 }
 
-/// Puts how a line on a sender begins.
-fn put_opening<K: Sink>(text: &mut TextBuffer, sink: &mut K, mode: Mode, number: u8, at: u32)
-    ensures { Adds K.held K.faults sink.old sink.new text.old text.new (accepted.sender_opening mode number at) }
-{
-    text.put(sink, b"Terminal ");
-    text.put_number(sink, number);
-    put_start(text, sink, mode, at);
-}
-
-/// Puts where in a cycle a sender starts, where that is fixed.
-fn put_start<K: Sink>(text: &mut TextBuffer, sink: &mut K, mode: Mode, at: u32)
-    ensures { Adds K.held K.faults sink.old sink.new text.old text.new (accepted.start_text mode at) }
-{
-    match mode {
-        Mode::Aperiodic => text.put(sink, b""),
-        Mode::Periodic => put_offset(text, sink, at),
-    }
-}
-
-/// Puts where in a cycle a sender of a periodic table starts.
-fn put_offset<K: Sink>(text: &mut TextBuffer, sink: &mut K, at: u32)
-    ensures { Adds K.held K.faults sink.old sink.new text.old text.new (accepted.start_text Periodic at) }
-{
-    text.put(sink, b" starts ");
-    put_time(text, sink, at as u128);
-    text.put(sink, b" into each cycle,");
-}
-
-/// Puts the gap of a sender, its messages, and how long it waits.
-fn put_figures<K: Sink>(
-    text: &mut TextBuffer,
-    sink: &mut K,
-    tg: u32,
-    short: u32,
-    long: u32,
-    most: u64,
-)
-    ensures { Adds K.held K.faults sink.old sink.new text.old text.new (accepted.sender_figures tg short long most) }
-{
-    text.put(sink, b" has a terminal gap of ");
-    put_time(text, sink, tg as u128);
-    text.put(sink, b" and sends messages of ");
-    put_time(text, sink, short as u128);
-    text.put(sink, b" to ");
-    put_time(text, sink, long as u128);
-    text.put(
-        sink,
-        b"; from one start to its next it waits, without delays, at most ",
-    );
-    put_time(text, sink, most as u128);
-    text.put(sink, b".\n");
-}
-
-/// Puts the line on a sender.
-fn put_sender<K: Sink>(text: &mut TextBuffer, sink: &mut K, mode: Mode, sender: &Sender, most: u64)
-    ensures { Adds K.held K.faults sink.old sink.new text.old text.new (accepted.line_of mode most sender.now) }
-{
-    put_opening(text, sink, mode, sender.number(), sender.at());
-    put_figures(
-        text,
-        sink,
-        sender.tg(),
-        shortest(sender),
-        longest(sender),
-        most,
-    );
-}
-
-/// Puts the lines on the senders, in turn order.
-fn put_senders<K: Sink>(text: &mut TextBuffer, sink: &mut K, mode: Mode, table: &Table, most: u64)
-    ensures { Adds K.held K.faults sink.old sink.new text.old text.new (flat_map (accepted.line_of mode most) (turn_order table.now)) }
-{
-    let places = turn_places(table);
-    for k in 0..table.senders().len() {
-        put_sender(text, sink, mode, turn_at(table, &places, k), most);
-    }
-}
-
 /// Puts how much delay the table bears.
 fn put_tolerance<K: Sink>(text: &mut TextBuffer, sink: &mut K, tolerance: Option<u64>)
     ensures { Adds K.held K.faults sink.old sink.new text.old text.new (accepted.tolerance_line tolerance) }
@@ -230,7 +150,11 @@ pub fn write_accepted<K: Sink>(
     let mut text = TextBuffer::new();
     text.put(
         sink,
-        b"The table is accepted: from a settled start, with no delay on the way, its senders take turns and no two of them talk over each other.\n",
+        b"The table is accepted: from a settled start, with no delay on the way, ",
+    );
+    text.put(
+        sink,
+        b"its senders take turns and no two of them talk over each other.\n",
     );
     put_cycles(&mut text, sink, mode, least, most);
     put_spare(&mut text, sink, mode, spare);

@@ -1,5 +1,6 @@
 //! The figures of a table that its verdict doesn't tell.
 ghost use Rattle.std.specs.Prelude.{◌≡◌, ◌<◌, ◌^◌};
+ghost use Rattle.bus_explain.specs.Accepted.{HasLeast};
 ghost use Rattle.bus_explain.specs.Figures as figures;
 ghost use Rattle.bus_explain.specs.Times.{tenths};
 
@@ -27,7 +28,8 @@ fn share(part: u64, whole: u64) -> u128
     (2000 * u128::from(part) + u128::from(whole)) / (2 * u128::from(whole))
 }
 
-/// The load of a table whose longest cycle takes `most` bit times: the bits of all longest messages as a share of it, in tenths of a percent.
+/// The load of a table whose longest cycle takes `most` bit times: the bits of all longest messages as a share of it, in tenths of a
+/// percent.
 pub fn load(table: &Table, most: u64) -> u128
     requires { 0 < most }
     ensures { result ≡ figures.load table.now most }
@@ -38,6 +40,7 @@ pub fn load(table: &Table, most: u64) -> u128
 /// The spare of an accepted table whose shortest cycle takes `least` bit times: by so many bit times its transmit interval could rise, or
 /// in periodic mode fall, were its offsets planned anew.
 pub fn spare(table: &Table, least: u64) -> u64
+    requires { HasLeast table.now least }
     ensures { result ≡ figures.spare table.now least }
 {
     match table.mode() {

@@ -72,11 +72,11 @@ fn put_take<K: Sink>(text: &mut TextBuffer, sink: &mut K)
 {
     text.put(
         sink,
-        b"TAKE l e first count: data words that it takes, of the label l, three hexadecimal digits, and the extension e, one digit, or * for any, ",
+        b"TAKE l e first count: data words that it takes, of the label l, three hexadecimal digits, ",
     );
     text.put(
         sink,
-        b"from the word first on, counted from 0 to 255, and count words, 1 to 256\n",
+        b"and the extension e, one digit, or * for any, from the word first on, counted from 0 to 255, and count words, 1 to 256\n",
     );
 }
 

@@ -8,7 +8,8 @@ pub fn spare_is_rise()
     ensures { SpareIsRise }
 {}
 
-/// With its transmit interval changed, some offsets of an accepted periodic table are accepted exactly down to its own less the spare.
+/// With its transmit interval changed to any in its range, some offsets of an accepted periodic table, each below it, are accepted
+/// exactly down to its own less the spare, whatever offsets it has.
 pub fn spare_is_fall()
     ensures { SpareIsFall }
 {

@@ -15,6 +15,7 @@ mod figures;
 mod forms;
 pub mod laws;
 mod refused;
+mod senders;
 mod times;
 mod unread;
 mod wholes;

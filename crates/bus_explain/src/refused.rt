@@ -1,7 +1,8 @@
 //! A table that the verdict refuses: which sum or gap fails, by how many bit times, and what to change.
-ghost use Rattle.std.specs.Prelude.{◌≡◌};
+ghost use Rattle.std.specs.Prelude.{◌≡◌, false};
 ghost use Rattle.bus_outer.specs.Sinks.{WritesText};
 ghost use Rattle.bus_outer.specs.Texts.{Adds};
+ghost use Rattle.bus_regime.specs.Verdicts.{is_accepted};
 ghost use Rattle.bus_explain.specs.Refused as refused;
 
 use crate::advised::put_advices;
@@ -34,7 +35,11 @@ fn put_short_cycle<K: Sink>(text: &mut TextBuffer, sink: &mut K, least: u64, mis
     text.put(sink, b".\n");
     text.put(
         sink,
-        b"In such a cycle a sender's turn comes before its interval is over: it starts late, or another goes first, and two may talk over each other.\n",
+        b"In such a cycle a sender's turn comes before its interval is over: it starts late, ",
+    );
+    text.put(
+        sink,
+        b"or another goes first, and two may talk over each other.\n",
     );
 }
 
@@ -57,8 +62,9 @@ fn put_small_gap<K: Sink>(
     text.put(sink, b".\n");
     text.put(
         sink,
-        b"The gap lasts from the end of the longest message of the sender before it to its own next start; an overlap counts below zero.\n",
+        b"The gap lasts from the end of the longest message of the sender before it to its own next start; ",
     );
+    text.put(sink, b"an overlap counts below zero.\n");
 }
 
 /// Puts that a sender lacks sync.
@@ -119,6 +125,7 @@ pub fn write_refused<K: Sink>(
     advices: &[Advice],
     sink: &mut K,
 ) -> Result<(), WriteFault>
+    requires { is_accepted verdict.now ≡ false }
     ensures { WritesText K.held K.faults sink.old sink.new result (refused.refused_text verdict.now advices.now) }
 {
     let mut text = TextBuffer::new();

@@ -57,15 +57,23 @@ fn put_pair<K: Sink>(text: &mut TextBuffer, sink: &mut K, label: Label, ext: Ext
     );
 }
 
+/// Puts that no terminal sends.
+fn put_no_sender<K: Sink>(text: &mut TextBuffer, sink: &mut K)
+    ensures { Adds K.held K.faults sink.old sink.new text.old text.new wholes.no_sender_text }
+{
+    text.put(sink, b"The table is wrong as a whole: no terminal sends.\n");
+    text.put(
+        sink,
+        b"Add a SENDER line, and behind it a SEND line for each wordstring of its messages.\n",
+    );
+}
+
 /// Puts what is said of a reason.
 fn put_whole<K: Sink>(text: &mut TextBuffer, sink: &mut K, reason: WholeReason)
     ensures { Adds K.held K.faults sink.old sink.new text.old text.new (wholes.whole_text reason) }
 {
     match reason {
-        WholeReason::NoSender => text.put(
-            sink,
-            b"The table is wrong as a whole: no terminal sends.\nAdd a SENDER line, and behind it a SEND line for each wordstring of its messages.\n",
-        ),
+        WholeReason::NoSender => put_no_sender(text, sink),
         WholeReason::NumberTwice(terminal) => put_terminal(
             text,
             sink,

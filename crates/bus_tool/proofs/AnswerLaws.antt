@@ -1,8 +1,7 @@
 -- At which stage the answers come, and which of them are answers.
 use Rattle.std.specs.Prelude.{◌≡◌, ℕ, ◌≤◌, nat_lt, true, false, Bool, List, Option, Some, None, IfSome, Result, Ok, Err}
-use Rattle.std.proofs.Common.{arith, refl, sym, ap, ◌∙◌, subst, cond}
+use Rattle.std.proofs.Common.{arith, refl, sym, ap, subst, cond}
 use Rattle.std.proofs.lemmas.Bool.Decides.{nat_tests}
-use Rattle.bus_text.specs.AllOf.{◌>>=◌}
 use Rattle.bus_table.specs.Tables.{Table, Hand}
 use Rattle.bus_audit.specs.Breaches.{answer_of}
 use Rattle.bus_audit.specs.declared.answer.AuditAnswer.{AuditAnswer}

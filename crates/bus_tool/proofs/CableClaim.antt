@@ -4,7 +4,6 @@ use Rattle.std.specs.List.{AllByRecursion}
 use Rattle.std.proofs.Common.{arith, refl, sym, ap, ◌∙◌, subst, cond, inl, inr}
 use Rattle.std.proofs.lemmas.Bool.Decides.{nat_tests}
 use Rattle.std.proofs.lemmas.List.{length-append}
-use Rattle.bus_text.specs.Lines.{entries_of}
 use Rattle.bus_text.specs.Numbers.{IsDecimal, is_plain_decimal, decimal_value}
 use Rattle.bus_text.proofs.LineLaws.{length-entries_of-le}
 use Rattle.bus_timers.specs.MayStart.{MayStart}
@@ -41,7 +40,7 @@ use Rattle.bus_tool.specs.CableClaims.{IsCableOf, IsPlain, IsInOrder, IsTheCable
 use Rattle.bus_tool.specs.Due.{CableInputs, cable_answer, cable_due}
 use Rattle.bus_tool.specs.Forms.{Cable as OnCable, form_of, four_words}
 use Rattle.bus_tool.specs.Refusals.{Outcome, ToolRefusal, ends_of, status_of}
-use Rattle.bus_tool.specs.Texts.{IsObserved, IsOnCable, IsOnCableText, IsCableAnswerText}
+use Rattle.bus_tool.specs.Texts.{IsOnCable, IsOnCableText, IsCableAnswerText}
 use Rattle.bus_tool.proofs.CableLemmas.{CableLaws, read_told, both_told, on_cable_is_trace}
 use Rattle.bus_tool.proofs.EntryLemmas.{item_lines, all_transmissions}
 

@@ -1,5 +1,5 @@
 -- A table and a cable that are taken, what is due of them, and the cause where they are refused.
-use Rattle.std.specs.Prelude.{◌≡◌, ◌⊎◌, ℕ, ◌≤◌, IsTrue, false, List, length, Vec, Result, Ok, Err, IsErrAnd, IfErr}
+use Rattle.std.specs.Prelude.{◌≡◌, ◌⊎◌, ℕ, ◌≤◌, false, List, length, Vec, Result, Ok, Err, IsErrAnd, IfErr}
 use Rattle.std.specs.declared.alloc.Global.{Global}
 use Rattle.std.proofs.Common.{arith, refl, sym, ap, ◌∙◌, subst, inl, inr}
 use Rattle.std.proofs.lemmas.Result.{err_from_is_err_and}
@@ -8,7 +8,6 @@ use Rattle.bus_text.specs.Refusals.{Refusal}
 use Rattle.bus_strings.specs.Items.{Item}
 use Rattle.bus_table.specs.Tables.{Table}
 use Rattle.bus_table.specs.Fits.{items_fit}
-use Rattle.bus_table.specs.Valid.{is_valid}
 use Rattle.bus_table.specs.declared.fit.FitError.{FitError}
 use Rattle.bus_cable.specs.Cables.{Cable}
 use Rattle.bus_cable.specs.Gives.{Fails}
@@ -25,7 +24,7 @@ use Rattle.bus_command.specs.Stages.{stage_in, Gives}
 use Rattle.bus_command.specs.Steps.{IsText, Same, StopsAt, Takes, Prepares}
 use Rattle.bus_command.specs.declared.outcome.Outcome.TheVariants.{NoMemory}
 use Rattle.bus_command.proofs.PrepareLaws.{prepares_none, prepares_both}
-use Rattle.bus_command.proofs.ReadLemmas.{CauseLaws, bind_err, read_text, refuse_text, stage_at, table_read, table_stops, table_cause, table_valid, stop_unwritten}
+use Rattle.bus_command.proofs.ReadLemmas.{CauseLaws, bind_err, read_text, refuse_text, stage_at, table_stops, table_cause, table_valid, stop_unwritten}
 use Rattle.bus_command.proofs.StageLaws.{some_map, then_stage, stop_early, stop_low, gives_on}
 use Rattle.bus_command.proofs.TakeLemmas.{RefusesAt, takes_then, takes_none}
 use Rattle.bus_command.proofs.TextLemmas.{short_text}
@@ -49,7 +48,8 @@ use Rattle.bus_command.specs.declared.outcome.Outcome.TheVariants.{Done}
 use Rattle.bus_command.proofs.DoLaws.{Agrees}
 use Rattle.bus_command.proofs.FewHands.{AreFew}
 use Rattle.bus_tool.specs.Due.{cable_answer}
-use Rattle.bus_tool.specs.Texts.{holds_of, IsCableAnswerText, IsOnCableText, on_cable_text}
+use Rattle.bus_wave.specs.Counted.{hand_holds}
+use Rattle.bus_tool.specs.Texts.{IsCableAnswerText, IsOnCableText, on_cable_text}
 use Rattle.bus_tool.proofs.HoldLemmas.{holds_ascend, holds_ranged}
 use Rattle.bus_tool.proofs.TraceLemmas.{below}
 use Rattle.bus_tool.specs.Causes.{Cause}
@@ -301,7 +301,7 @@ cable_agrees horizon on = record {
       (subst (λ (h : List Hand). IsOnCableText horizon on.table on.cable h text) are.hands is));
 }
 
-pub on_cable_is_trace : (table : Table) (cable : Cable) (hands : List Hand) (horizon : ℕ) (holds : List Hold) (list : List Entry) → horizon ≤ horizon_limit → AreFew hands → holds ≡ holds_of hands
+pub on_cable_is_trace : (table : Table) (cable : Cable) (hands : List Hand) (horizon : ℕ) (holds : List Hold) (list : List Entry) → horizon ≤ horizon_limit → AreFew hands → holds ≡ hand_holds hands
     → IsLawfulOnCable (quiet_of table) (delays_on cable) (wakes_on cable) (stations_of table hands) horizon list → AllByRecursion IsTransmission list
     → IsTrace (record { horizon = horizon; holds = holds; list = list })
 on_cable_is_trace table cable hands horizon holds list within few same lawful ranged = record {

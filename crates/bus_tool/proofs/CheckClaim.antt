@@ -1,7 +1,6 @@
 -- What the status of `check` tells of a table.
-use Rattle.std.specs.Prelude.{◌≡◌, true, false, ◌&&◌, ◌==◌, IsTrue, length, List}
-use Rattle.std.specs.List.{list_all}
-use Rattle.std.proofs.Common.{refl, sym, ap, ◌∙◌, true≢false, inl, inr}
+use Rattle.std.specs.Prelude.{◌≡◌, true, false, IsTrue}
+use Rattle.std.proofs.Common.{refl, sym, ◌∙◌, true≢false, inl, inr}
 use Rattle.bus_table.specs.Hands.{are_hands}
 use Rattle.bus_table.specs.Tables.{Table}
 use Rattle.bus_table.specs.Valid.{is_valid}
@@ -9,7 +8,6 @@ use Rattle.std.proofs.lemmas.Bool.{and_parts}
 use Rattle.bus_regime.specs.Verdicts.{verdict_of, is_accepted}
 use Rattle.bus_regime.specs.declared.table_verdict.TableVerdict.{TableVerdict}
 use Rattle.bus_regime.specs.declared.table_verdict.TableVerdict.TheVariants.{Accept, ShortCycle, SmallGap, NoSync}
-use Rattle.bus_schedule.specs.Even.{rounds, are_even}
 use Rattle.bus_schedule.specs.Laws.{TheSettledAreAccepted, TheRefusedFail, WitnessesAreEven}
 use Rattle.bus_schedule.specs.Settled.{witness_hands}
 use Rattle.bus_command.specs.Outside.{Call}

@@ -6,9 +6,6 @@ use Rattle.std.proofs.Math.Nat.{mul-le-mul_left, mul-le-mul_right}
 use Rattle.std.proofs.lemmas.Bool.{and_parts, eq-eqb, leb-true}
 use Rattle.std.proofs.lemmas.List.{length-map}
 use Rattle.std.proofs.lemmas.List.FromFn.{length-range_with_len}
-use Rattle.bus_outer.specs.Sinks.{WritesText}
-use Rattle.bus_outer.specs.declared.sink.Sink.{Ghosts as SinkGhosts}
-use Rattle.bus_outer.specs.declared.sink.WriteFault.{WriteFault as Fault}
 use Rattle.bus_strings.specs.Items.{Item}
 use Rattle.bus_table.specs.Hands.{message_of, items_of, hand_of, hands_of, are_hands}
 use Rattle.bus_table.specs.Tables.{Sender, Table, Hand}

@@ -1,21 +1,27 @@
 -- What is due of a text that is explained, and that nothing of it is refused but its size.
-use Rattle.std.specs.Prelude.{◌≡◌, ℕ, ◌≤◌, Bool, true, false, nat_lt, List, length, Result, Ok, Err, Vec, codes, ◌∷◌, []}
+use Rattle.std.specs.Prelude.{◌≡◌, ℕ, ◌≤◌, Bool, true, false, nat_lt, IsTrue, List, length, Result, Ok, Err, Vec, []}
 use Rattle.std.specs.declared.alloc.Global.{Global}
 use Rattle.std.proofs.Common.{arith, cond, refl, sym, ap, ◌∙◌, subst}
 use Rattle.bus_table.specs.declared.error.TableError.{TableError}
 use Rattle.bus_table.specs.Reading.{answer_of}
 use Rattle.bus_table.specs.Tables.{Table}
+use Rattle.bus_table.specs.Valid.{is_valid}
+use Rattle.bus_table.specs.declared.mode.Mode.{Mode}
+use Rattle.bus_table.specs.declared.mode.Mode.TheVariants.{Aperiodic, Periodic}
 use Rattle.bus_regime.specs.Verdicts.{verdict_of, is_accepted}
 use Rattle.bus_regime.specs.declared.table_verdict.TableVerdict.{TableVerdict}
 use Rattle.bus_regime.specs.declared.table_verdict.TableVerdict.TheVariants.{Accept, ShortCycle, SmallGap, NoSync}
 use Rattle.bus_advice.specs.Advices.{advices_of}
-use Rattle.bus_advice.specs.Laws.{AdvicesWork}
+use Rattle.bus_advice.specs.Laws.{AdvicesWork, NoneMissing}
+use Rattle.bus_explain.specs.Accepted.{IsAcceptedWith}
+use Rattle.bus_explain.specs.Figures.{spare}
+use Rattle.bus_explain.specs.Laws.{IsSpare, SpareIsFall, SpareIsRise}
 use Rattle.bus_explain.specs.Refused.{refused_text}
 use Rattle.bus_outer.specs.declared.sink.Sink.{Ghosts as SinkGhosts}
 use Rattle.bus_command.specs.declared.outcome.Outcome.TheVariants.{Answered, TooLarge}
 use Rattle.bus_command.specs.Acts.{Ends}
 use Rattle.bus_command.specs.Causes.{RefusesTexts}
-use Rattle.bus_command.specs.Due.{outcome_with, text_due, text_within}
+use Rattle.bus_command.specs.Due.{outcome_with, text_due}
 use Rattle.bus_command.specs.Kinds.{Answer, kind_of, stage_of, is_answer}
 use Rattle.bus_command.specs.Outside.{Call, sink_seen}
 use Rattle.bus_command.specs.Readers.{entire, one_source, text_limit}
@@ -33,6 +39,7 @@ use Rattle.bus_tool.specs.Forms.{Explain, form_of}
 use Rattle.bus_tool.specs.Refusals.{Outcome, ToolRefusal, ends_of, status_of}
 use Rattle.bus_tool.specs.Texts.{IsExplanation}
 use Rattle.bus_tool.proofs.AnswerLaws.{written_verdict}
+use Rattle.bus_tool.proofs.ToleranceClaim.{ToleranceLaws, tells}
 
 -- an answer is written of each text
 written_text : (answer : Result Table TableError) → kind_of (text_outcome answer) ≡ Answer
@@ -107,12 +114,31 @@ pub size_unwritten : (first : List ℕ) (o : Outcome) → text_due 1 first ≡ E
 size_unwritten first o h = large_only (nat_lt text_limit (length first)) first o h
 
 -- ---- what is claimed of it
-pub explain_claim : AdvicesWork → (call : Call) (outcome : Outcome) (text : List ℕ) → Acts call outcome → IsExplainOf text call
+pub record ExplainLaws : Type 0 where
+  pub works : AdvicesWork
+  pub whole : NoneMissing
+  pub rise : SpareIsRise
+  pub fall : SpareIsFall
+  pub reach : ToleranceLaws
+
+spare_in : ExplainLaws → (mode : Mode) (table : Table) (least most : ℕ) → table.mode ≡ mode → IsTrue (is_valid table) → IsAcceptedWith table least most
+    → IsSpare mode table (spare table least)
+spare_in laws Aperiodic table least most is valid accepted = laws.rise table least most is accepted
+spare_in laws Periodic table least most is valid accepted = laws.fall table least most valid is accepted
+
+pub explain_claim : ExplainLaws → (call : Call) (outcome : Outcome) (text : List ℕ) → Acts call outcome → IsExplainOf text call
     → GivesExplanation text call (status_of outcome)
-explain_claim works call outcome text acts h = record {
+explain_claim laws call outcome text acts h = record {
   gives = claimed ends_of explain_answer IsExplanation (one_source entire) (λ first. refusal_in (text_due 1 first)) (λ a b. text_due 1 a)
       text [] text (λ written. written ≡ explanation text) call outcome (at_one entire call.before.sources text h.told)
       (short_text {R = ToolRefusal} text_limit 1 text h.short) (explained text) (λ written is. is)
       (does_of tool_program call outcome Explain (ap form_of h.form.form) acts) h.undisturbed;
-  work = works;
+  accepted = λ table valid accepted. record {
+    spare = λ least most is. spare_in laws table.mode table least most refl valid is;
+    tolerance = tells laws.reach table valid accepted;
+  };
+  refused = λ table valid refused. record {
+    work = λ advice is. laws.works table advice valid is;
+    whole = laws.whole table valid refused;
+  };
 }

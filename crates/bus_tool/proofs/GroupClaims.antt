@@ -1,6 +1,6 @@
 -- What a call of each group answers whose texts are right.
 use Rattle.std.specs.Prelude.{◌≡◌, ℕ, List, [], ◌∷◌, Some, Ok}
-use Rattle.std.proofs.Common.{refl, sym, ap, ◌∙◌, subst}
+use Rattle.std.proofs.Common.{ap, ◌∙◌}
 use Rattle.bus_strings.specs.Items.{Item}
 use Rattle.bus_table.specs.Tables.{Table}
 use Rattle.bus_table.specs.Hands.{hands_of}
@@ -18,7 +18,7 @@ use Rattle.bus_command.proofs.ToldLemmas.{table_told, items_told}
 use Rattle.bus_command.specs.Stages.{StandsFor}
 use Rattle.bus_tool.specs.Acts.{tool_program, Acts, IsOfMode}
 use Rattle.bus_tool.specs.Due.{table_for, refusal_for, table_answer, messages_answer, inputs_answer, trace_answer, traced_answer}
-use Rattle.bus_tool.specs.Forms.{Form, OnTable, OnMessages, OnTrace, TableCommand, MessagesCommand, TraceCommand, form_of, table_mode, messages_mode}
+use Rattle.bus_tool.specs.Forms.{OnTable, OnMessages, OnTrace, TableCommand, MessagesCommand, TraceCommand, form_of, table_mode, messages_mode}
 use Rattle.bus_tool.specs.Refusals.{Outcome, ToolRefusal, ends_of, status_of}
 use Rattle.bus_tool.specs.Texts.{table_answer_text, IsTableText, IsMessagesText, IsInputsText, trace_answer_text, IsTracedText}
 use Rattle.bus_tool.proofs.AnswerLaws.{table_answered}

@@ -1,7 +1,7 @@
 -- What is due of what a group takes, and its text, are those of what was taken.
-use Rattle.std.specs.Prelude.{◌≡◌, ℕ, ◌≤◌, List, Option, Result}
-use Rattle.std.proofs.Common.{arith, refl, sym, ap, ◌∙◌, subst}
-use Rattle.bus_table.specs.Tables.{Table, Hand}
+use Rattle.std.specs.Prelude.{◌≡◌, ◌≤◌, Option, Result}
+use Rattle.std.proofs.Common.{refl, sym, ap, ◌∙◌, subst}
+use Rattle.bus_table.specs.Tables.{Table}
 use Rattle.bus_table.specs.declared.mode.Mode.{Mode}
 use Rattle.bus_trace.specs.Traces.{trace_text}
 use Rattle.bus_command.specs.declared.inputs.Dealt.{Dealt}

@@ -1,11 +1,10 @@
 -- A call that acts as it should keeps what `tool` promises.
-use Rattle.std.specs.Prelude.{◌≡◌, ℕ, ◌≤◌, true, ◌&&◌, nat_le, IsTrue, List, [], ◌∷◌, codes, Some, None}
-use Rattle.std.proofs.Common.{arith, refl, sym, ap, ◌∙◌, subst, cond}
+use Rattle.std.specs.Prelude.{◌≡◌, ℕ, ◌≤◌, true, ◌&&◌, nat_le, List, [], ◌∷◌, codes, Some, None}
+use Rattle.std.proofs.Common.{arith, refl, ap, ◌∙◌, cond}
 use Rattle.std.proofs.lemmas.Bool.Decides.{nat_tests}
 use Rattle.bus_text.specs.Numbers.{IsDecimal, is_plain_decimal, decimal_value}
 use Rattle.bus_table.specs.Tables.{Table}
 use Rattle.bus_trace.specs.Traces.{Recording}
-use Rattle.bus_advice.specs.Laws.{AdvicesWork}
 use Rattle.bus_audit.specs.Breaches.{answer_of}
 use Rattle.bus_audit.specs.Breaches.{TheAnswer}
 use Rattle.bus_audit.specs.Meaning.{LawfulIsRight}
@@ -17,17 +16,16 @@ use Rattle.bus_vectors.specs.Made.{most_number}
 use Rattle.bus_vote.specs.VoteLaws.{VotedAreWritten, ListsAreFixedByTwo, RunsAreVoted}
 use Rattle.bus_command.specs.declared.about.About.{About}
 use Rattle.bus_command.specs.declared.about.About.TheVariants.{Help, Version}
-use Rattle.bus_command.specs.About.{IsAbout, about_word}
-use Rattle.bus_command.specs.Claims.{Answers, IsOfTable, IsOfTraced}
+use Rattle.bus_command.specs.About.{IsAbout, TellsItself, about_word}
+use Rattle.bus_command.specs.Claims.{IsOfTable, IsOfTraced}
 use Rattle.bus_command.specs.Outside.{Call}
 use Rattle.bus_command.specs.Readers.{no_source}
 use Rattle.bus_command.specs.declared.outcome.Outcome.TheVariants.{Done}
-use Rattle.bus_command.proofs.ClaimLemmas.{answers, does_of}
+use Rattle.bus_command.proofs.ClaimLemmas.{answers, does_of, room_of, told_itself}
 use Rattle.bus_command.proofs.LawTypes.{FittingItemsGiveHands}
 use Rattle.bus_tool.specs.Acts.{tool_program, Acts}
 use Rattle.bus_tool.specs.DrillClaims.{IsDrillOf, GivesDrill}
 use Rattle.bus_tool.specs.Drills.{drill_line}
-use Rattle.bus_command.specs.declared.status.Status.TheVariants as status
 use Rattle.bus_tool.specs.Itself.{itself_text}
 use Rattle.bus_tool.specs.Forms.{Drill, OnItself, Check, Tolerance, Witness, Tidy, Report, Receive, Audit, Vote, form_of, two_words}
 use Rattle.bus_tool.specs.Promises.{Promises}
@@ -37,13 +35,13 @@ use Rattle.bus_tool.specs.TraceClaims.{GivesFinding, GivesVotes}
 use Rattle.bus_tool.proofs.AnswerLaws.{written_audit}
 use Rattle.bus_tool.proofs.CableClaim.{CableClaimLaws, cable_claim}
 use Rattle.bus_tool.proofs.CheckClaim.{told_settled}
-use Rattle.bus_tool.proofs.ExplainLemmas.{explain_claim}
+use Rattle.bus_tool.proofs.ExplainLemmas.{ExplainLaws, explain_claim}
 use Rattle.bus_tool.proofs.DropClaim.{drop_claim}
-use Rattle.bus_tool.proofs.GroupClaims.{ReadLaws, table_comes, trace_comes}
+use Rattle.bus_tool.proofs.GroupClaims.{table_comes, trace_comes}
 use Rattle.bus_tool.proofs.ObserveClaim.{observe_claim}
 use Rattle.bus_tool.proofs.PlanClaim.{PlanLaws, plan_claim}
 use Rattle.bus_tool.proofs.RunClaim.{run_claim}
-use Rattle.bus_tool.proofs.ToleranceClaim.{ToleranceLaws, tells}
+use Rattle.bus_tool.proofs.ToleranceClaim.{tells}
 use Rattle.bus_tool.specs.ToleranceClaims.{GivesTolerance}
 use Rattle.bus_tool.proofs.WaveClaim.{WaveLaws, wave_claim, unwave_claim}
 
@@ -62,8 +60,7 @@ pub record PromiseLaws : Type 0 where
   pub written : VotedAreWritten
   pub two : ListsAreFixedByTwo
   pub voted : RunsAreVoted
-  pub reach : ToleranceLaws
-  pub works : AdvicesWork
+  pub explained : ExplainLaws
   pub cables : CableClaimLaws
 
 -- ---- `drill`
@@ -87,12 +84,14 @@ itself_form Help words h = ap form_of h
 itself_form Version words h = ap form_of h
 
 itself_claim : (call : Call) (outcome : Outcome) (about : About) → Acts call outcome → IsAbout about call
-    → Answers status.Done (λ text. text ≡ itself_text about) call (status_of outcome)
+    → TellsItself (itself_text about) call (status_of outcome)
 itself_claim call outcome about acts h =
-    let does = does_of tool_program call outcome (OnItself about) (itself_form about call.words h.form) acts in
+    let form = itself_form about call.words h.form in
+    let does = does_of tool_program call outcome (OnItself about) form acts in
     let due : Outcome = Done in
-    answers ends_of no_source due outcome _ (λ text. text ≡ itself_text about) call refl (λ text is. is) does.due does.text does.counts
-    does.out_count h.undisturbed
+    told_itself ends_of outcome (itself_text about) call does.due (room_of tool_program call outcome (OnItself about) form acts refl)
+    (answers ends_of no_source due outcome _ (λ text. text ≡ itself_text about) call refl (λ text is. is) does.due does.text does.counts
+    does.out_count h.undisturbed)
 
 -- ---- the commands with laws of their own
 check_claim : PromiseLaws → (call : Call) (outcome : Outcome) (table : Table) → Acts call outcome → IsOfTable (codes "check") table call
@@ -105,7 +104,7 @@ tolerance_claim : PromiseLaws → (call : Call) (outcome : Outcome) (table : Tab
     → GivesTolerance table call (status_of outcome)
 tolerance_claim laws call outcome table acts h = record {
   gives = table_comes laws.plan.texts Tolerance (codes "tolerance") call outcome table _ (λ path. refl) tt (λ text is. is) acts h;
-  tells = λ accepted. tells laws.reach table h.table_told.valid accepted;
+  tells = λ accepted. tells laws.explained.reach table h.table_told.valid accepted;
 }
 
 audit_claim : PromiseLaws → (call : Call) (outcome : Outcome) (table : Table) (trace : Recording) → Acts call outcome
@@ -144,7 +143,7 @@ keeps laws call outcome acts = record {
   vote = λ table trace h. vote_claim laws call outcome table trace acts h;
   wave = λ table trace h. wave_claim laws.wave call outcome table trace acts h;
   unwave = λ table trace h. unwave_claim laws.wave call outcome table trace acts h;
-  explain = λ text h. explain_claim laws.works call outcome text acts h;
+  explain = λ text h. explain_claim laws.explained call outcome text acts h;
   cable = λ table cable items until h. cable_claim laws.cables call outcome table cable items until acts h;
   itself = λ about h. itself_claim call outcome about acts h;
 }

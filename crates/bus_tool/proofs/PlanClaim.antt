@@ -1,5 +1,5 @@
 -- What is claimed of `plan`.
-use Rattle.std.specs.Prelude.{◌≡◌, ℕ, ◌<◌, ◌≤◌, nat_lt, true, false, IsTrue, List, Result, Ok}
+use Rattle.std.specs.Prelude.{◌≡◌, ℕ, ◌<◌, ◌≤◌, nat_lt, true, false, IsTrue, List}
 use Rattle.std.proofs.Common.{arith, refl, sym, ap, ◌∙◌, subst, cond}
 use Rattle.std.proofs.lemmas.Bool.Decides.{nat_tests}
 use Rattle.bus_table.specs.declared.mode.Mode.TheVariants.{Periodic}
@@ -11,7 +11,7 @@ use Rattle.bus_plan.specs.declared.planning.PlanAnswer.TheVariants.{Planned, Inf
 use Rattle.bus_plan.specs.Answers.{plan_of}
 use Rattle.bus_plan.specs.Laws.{PlannedIsAccepted, ShortIsRefused}
 use Rattle.bus_plan.specs.Plans.{least_interval, planned_table}
-use Rattle.std.specs.Prelude.{codes, []}
+use Rattle.std.specs.Prelude.{codes}
 use Rattle.bus_command.specs.Claims.{Answers}
 use Rattle.bus_command.specs.Outside.{Call}
 use Rattle.bus_tool.specs.Acts.{Acts}

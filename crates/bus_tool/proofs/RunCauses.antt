@@ -1,8 +1,7 @@
 -- Why senders aren't run, by what is due.
-use Rattle.std.specs.Prelude.{◌≡◌, ℕ, ◌<◌, ◌≤◌, nat_lt, true, false, Bool, ◌⊎◌, IsTrue, List, Option, Some, None, Result, Ok, Err}
-use Rattle.std.proofs.Common.{arith, refl, sym, ap, ◌∙◌, subst, cond, inl, inr}
+use Rattle.std.specs.Prelude.{◌≡◌, ℕ, ◌<◌, ◌≤◌, nat_lt, true, false, Bool, List, Option, Some, None, Result, Ok, Err}
+use Rattle.std.proofs.Common.{arith, refl, ap, cond, inl, inr}
 use Rattle.std.proofs.lemmas.Bool.Decides.{nat_tests}
-use Rattle.bus_text.specs.AllOf.{◌>>=◌}
 use Rattle.bus_text.proofs.AllOfLaws.{bind_ok}
 use Rattle.bus_table.specs.Tables.{Table, Hand}
 use Rattle.bus_dropout.specs.DropOut.{last_cycle, drop_end, LastIsLong}

@@ -1,9 +1,8 @@
 -- What is claimed of `run`.
-use Rattle.std.specs.Prelude.{◌≡◌, ℕ, ◌≤◌, true, false, Bool, ◌&&◌, ◌==◌, IsTrue, IsOk, IsNone, List, [], ◌∷◌, length, map, codes, Option, Some, None, Result, Ok, Err}
+use Rattle.std.specs.Prelude.{◌≡◌, ℕ, ◌≤◌, true, false, Bool, ◌&&◌, ◌==◌, IsTrue, IsOk, IsNone, List, [], ◌∷◌, length, map, codes, Option, Some, None, Ok, Err}
 use Rattle.std.specs.List.{list_all, AllByRecursion}
 use Rattle.std.proofs.Common.{arith, refl, sym, ap, ◌∙◌, subst, cond}
 use Rattle.std.proofs.lemmas.Bool.{eq-eqb}
-use Rattle.std.proofs.lemmas.List.{length-map}
 use Rattle.bus_text.specs.AllOf.{◌>>=◌}
 use Rattle.bus_strings.specs.Items.{Item}
 use Rattle.bus_strings.specs.Limits.{horizon_limit}
@@ -16,12 +15,12 @@ use Rattle.bus_schedule.specs.Closed.{closed_end}
 use Rattle.bus_schedule.specs.Even.{rounds, are_even}
 use Rattle.bus_schedule.specs.Laws.{EvenHandsAgree}
 use Rattle.bus_schedule.specs.Uneven.{uneven_of}
-use Rattle.bus_command.specs.Kinds.{Answer, kind_of}
+use Rattle.bus_command.specs.Kinds.{kind_of}
 use Rattle.bus_command.specs.Due.{outcome_with}
 use Rattle.bus_command.specs.Outside.{Call}
 use Rattle.bus_command.proofs.LawTypes.{FittingItemsGiveHands}
 use Rattle.bus_tool.specs.Acts.{Acts}
-use Rattle.bus_tool.specs.Due.{even_due, accepted_due, may_run, can_run, messages_answer}
+use Rattle.bus_tool.specs.Due.{even_due, accepted_due, may_run, can_run}
 use Rattle.bus_tool.specs.Forms.{Run}
 use Rattle.bus_tool.specs.Refusals.{Outcome, status_of, refuse, NotAccepted}
 use Rattle.bus_tool.specs.RunClaims.{AreEvenItems, IsRunOf, IsTheRun, GivesRun}

@@ -1,5 +1,5 @@
 -- The trace of a run.
-use Rattle.std.specs.Prelude.{◌≡◌, ℕ, ◌≤◌, List, Vec, Result, Ok, Err, IsErrAnd}
+use Rattle.std.specs.Prelude.{◌≡◌, ℕ, ◌≤◌, List, Result, Ok, Err, IsErrAnd}
 use Rattle.std.specs.List.{AllByRecursion}
 use Rattle.std.proofs.Common.{arith, refl, sym, ap, ◌∙◌, subst}
 use Rattle.std.proofs.lemmas.Result.{err_from_is_err_and}
@@ -22,18 +22,19 @@ use Rattle.bus_trace.specs.declared.hold.Hold.{Hold}
 use Rattle.bus_command.specs.Stages.{Gives}
 use Rattle.bus_command.proofs.FewHands.{AreFew}
 use Rattle.bus_tool.specs.Due.{short_due, may_run, can_run}
-use Rattle.bus_tool.specs.Texts.{holds_of, IsRunRecording, run_text}
+use Rattle.bus_wave.specs.Counted.{hand_holds}
+use Rattle.bus_tool.specs.Texts.{IsRunRecording, run_text}
 use Rattle.bus_tool.proofs.AnswerLaws.{short_end}
 use Rattle.bus_tool.proofs.TraceLemmas.{observed_is_trace}
 
 pub can_be_run : (table : Table) (hands : List Hand) → may_run table hands ≡ Ok tt → closed_end table hands ≤ longest_end → can_run table hands ≡ Ok tt
 can_be_run table hands may short = ap (λ d. d >>= λ _. short_due (closed_end table hands)) may ∙ short_end (closed_end table hands) short
 
-pub run_is_trace : (table : Table) (hands : List Hand) (end : ℕ) (holds : List Hold) (list : List Entry) → end ≡ closed_end table hands → closed_end table hands ≤ longest_end → AreFew hands → holds ≡ holds_of hands → IsRun table hands list → AllByRecursion IsTransmission list → IsTrace (record { horizon = end; holds = holds; list = list })
+pub run_is_trace : (table : Table) (hands : List Hand) (end : ℕ) (holds : List Hold) (list : List Entry) → end ≡ closed_end table hands → closed_end table hands ≤ longest_end → AreFew hands → holds ≡ hand_holds hands → IsRun table hands list → AllByRecursion IsTransmission list → IsTrace (record { horizon = end; holds = holds; list = list })
 run_is_trace table hands end holds list e short few same run ranged =
     observed_is_trace table hands end holds list (omega arith) few same (subst (λ n. IsLawful (quiet_of table) (stations_of table hands) n list) (sym e) run.lawful) ranged
 
-pub run_gives : (table : Table) (hands : List Hand) (end : ℕ) (holds : List Hold) (list : List Entry) (recording : Recording) → may_run table hands ≡ Ok tt → closed_end table hands ≤ longest_end → end ≡ closed_end table hands → holds ≡ holds_of hands → IsRun table hands list
+pub run_gives : (table : Table) (hands : List Hand) (end : ℕ) (holds : List Hold) (list : List Entry) (recording : Recording) → may_run table hands ≡ Ok tt → closed_end table hands ≤ longest_end → end ≡ closed_end table hands → holds ≡ hand_holds hands → IsRun table hands list
     → recording ≡ record { horizon = end; holds = holds; list = list } → Gives (λ trace _. IsRunRecording table hands trace) (Ok recording) (can_run table hands)
 run_gives table hands end holds list recording may short e same run is =
     (tt, can_be_run table hands may short, subst (IsRunRecording table hands) (sym is) (record { horizon = e; holds = same; run = run }))

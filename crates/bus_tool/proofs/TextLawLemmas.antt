@@ -4,7 +4,7 @@ use Rattle.std.proofs.Common.{refl, sym, ap, ◌∙◌, subst, inl, inr}
 use Rattle.bus_strings.specs.Messages.{Entry}
 use Rattle.bus_table.specs.Fits.{items_fit}
 use Rattle.bus_table.specs.Hands.{are_hands}
-use Rattle.bus_table.specs.Tables.{Table, Hand}
+use Rattle.bus_table.specs.Tables.{Table}
 use Rattle.bus_table.specs.Valid.{is_valid}
 use Rattle.bus_medium.specs.Lawful.{IsLawful}
 use Rattle.bus_medium.specs.LawfulLaws.{OneListOfATable}
@@ -22,27 +22,28 @@ use Rattle.bus_schedule.specs.Even.{are_even}
 use Rattle.bus_schedule.specs.Laws.{AcceptedIsClosed, EvenHandsAgree}
 use Rattle.bus_trace.specs.declared.hold.Hold.{Hold}
 use Rattle.bus_trace.specs.Traces.{Recording, trace_text}
-use Rattle.bus_command.specs.Due.{table_due, text_due, Inputs, hands_in, inputs_by, traced_by, traced_due, any_trace, outcome_with, IsTextOf}
-use Rattle.bus_command.specs.Kinds.{Answer, kind_of, is_answer}
+use Rattle.bus_command.specs.Due.{text_due, Inputs, hands_in, inputs_by, traced_by, traced_due, any_trace, outcome_with, IsTextOf}
+use Rattle.bus_command.specs.Kinds.{kind_of, is_answer}
 use Rattle.bus_command.specs.Outcomes.{is_written}
 use Rattle.bus_command.specs.Steps.{StopsAt}
 use Rattle.bus_command.specs.declared.inputs.Traced.{Traced}
 use Rattle.bus_command.proofs.LawTypes.{ReadsATable, FittingItemsGiveHands}
-use Rattle.bus_command.proofs.ReadLemmas.{bind_err, table_read, table_stops, items_read, items_stop, inputs_read, inputs_stop, trace_stops, traced_stop, stop_unwritten}
+use Rattle.bus_command.proofs.ReadLemmas.{table_read, table_stops, items_read, items_stop, inputs_read, inputs_stop, trace_stops, traced_stop, stop_unwritten}
 use Rattle.bus_tool.specs.Acts.{IsOfMode}
-use Rattle.bus_tool.specs.Due.{table_for, needed_or_refusal, can_run, can_drop, unwave_due, wave_trace_due, table_answer, inputs_answer, traced_answer, unwave_answer, explain_answer, form_due, outcome_for}
+use Rattle.bus_tool.specs.Due.{table_for, can_run, can_drop, unwave_due, wave_trace_due, table_answer, inputs_answer, traced_answer, unwave_answer, explain_answer, form_due, outcome_for}
 use Rattle.bus_tool.specs.Drills.{drill_line}
 use Rattle.bus_tool.specs.Explanations.{explanation}
 use Rattle.bus_tool.specs.Itself.{itself_text}
 use Rattle.bus_tool.proofs.ExplainLemmas.{size_unwritten}
 use Rattle.bus_tool.specs.Forms.{Form, OnTable, OnMessages, OnTrace, Unwave, Drill, OnItself, Explain, Cable, MessagesCommand, Observe, Run, Drop, form_of, table_mode, messages_mode}
-use Rattle.bus_tool.specs.Refusals.{Outcome, ToolRefusal, refuse, TableMode}
-use Rattle.bus_tool.specs.Texts.{holds_of, IsObserved, IsObserveText, IsRunRecording, IsDropRecording, IsRanText, IsMessagesText, IsInputsText, IsTableText, IsTracedText, IsUnwavedText, IsExplanation}
+use Rattle.bus_tool.specs.Refusals.{Outcome, ToolRefusal}
+use Rattle.bus_wave.specs.Counted.{hand_holds}
+use Rattle.bus_tool.specs.Texts.{IsObserved, IsRunRecording, IsDropRecording, IsInputsText, IsTableText, IsTracedText, IsUnwavedText, IsExplanation}
 use Rattle.bus_tool.specs.Texts.{table_answer_text, trace_answer_text, run_text, IsFormText, IsTextFor}
 use Rattle.bus_tool.specs.TextLaws.{OneCommandText, AnswersHaveTexts}
 use Rattle.bus_tool.proofs.AnswerLaws.{done_with}
 use Rattle.bus_tool.proofs.ModeLemmas.{mode_read, mode_unwritten}
-use Rattle.bus_tool.proofs.RunCauses.{run_ok, run_err, drop_ok, drop_err, run_unwritten, drop_unwritten}
+use Rattle.bus_tool.proofs.RunCauses.{run_ok, drop_ok, run_unwritten, drop_unwritten}
 use Rattle.bus_tool.proofs.WaveLemmas.{wave_stops}
 
 pub record TextLaws : Type 0 where
@@ -86,24 +87,24 @@ list_of laws command inputs horizon d =
     record { list = one.0; lawful = one.1; only = one.2 }
 
 recording_is : (inputs : Inputs) (horizon : ℕ) (one : OneList inputs horizon) (recording : Recording) → IsObserved inputs.table (hands_in inputs) horizon recording
-    → recording ≡ record { horizon = horizon; holds = holds_of (hands_in inputs); list = one.list }
+    → recording ≡ record { horizon = horizon; holds = hand_holds (hands_in inputs); list = one.list }
 recording_is inputs horizon one recording h =
     ap (λ (n : ℕ). recorded n recording.holds recording.list) h.horizon ∙ ap (λ (l : List Hold). recorded horizon l recording.list) h.holds
-    ∙ ap (recorded horizon (holds_of (hands_in inputs))) (one.only recording.list h.lawful)
+    ∙ ap (recorded horizon (hand_holds (hands_in inputs))) (one.only recording.list h.lawful)
 
 ran_is : (inputs : Inputs) (recording : Recording) → IsRunRecording inputs.table (hands_in inputs) recording
-    → recording ≡ record { horizon = closed_end inputs.table (hands_in inputs); holds = holds_of (hands_in inputs); list = closed inputs.table (hands_in inputs) }
+    → recording ≡ record { horizon = closed_end inputs.table (hands_in inputs); holds = hand_holds (hands_in inputs); list = closed inputs.table (hands_in inputs) }
 ran_is inputs recording h =
     ap (λ (n : ℕ). recorded n recording.holds recording.list) h.horizon
     ∙ ap (λ (l : List Hold). recorded (closed_end inputs.table (hands_in inputs)) l recording.list) h.holds
-    ∙ ap (recorded (closed_end inputs.table (hands_in inputs)) (holds_of (hands_in inputs))) h.run.closed
+    ∙ ap (recorded (closed_end inputs.table (hands_in inputs)) (hand_holds (hands_in inputs))) h.run.closed
 
 dropped_is : (inputs : Inputs) (recording : Recording) → IsDropRecording inputs.table (hands_in inputs) recording
-    → recording ≡ record { horizon = drop_end inputs.table (hands_in inputs); holds = holds_of (hands_in inputs); list = dropout inputs.table (hands_in inputs) }
+    → recording ≡ record { horizon = drop_end inputs.table (hands_in inputs); holds = hand_holds (hands_in inputs); list = dropout inputs.table (hands_in inputs) }
 dropped_is inputs recording h =
     ap (λ (n : ℕ). recorded n recording.holds recording.list) h.horizon
     ∙ ap (λ (l : List Hold). recorded (drop_end inputs.table (hands_in inputs)) l recording.list) h.holds
-    ∙ ap (recorded (drop_end inputs.table (hands_in inputs)) (holds_of (hands_in inputs))) h.run.dropout
+    ∙ ap (recorded (drop_end inputs.table (hands_in inputs)) (hand_holds (hands_in inputs))) h.run.dropout
 
 messages_once : TextLaws → (command : MessagesCommand) (inputs : Inputs) → Dealt command inputs → (text other : List ℕ) → IsInputsText command inputs text
     → IsInputsText command inputs other → other ≡ text
@@ -129,10 +130,10 @@ cable_dealt laws first second inputs h =
 
 on_cable_is : (horizon : ℕ) (inputs : CableInputs) (list : List Entry) (recording : Recording)
     → ((other : List Entry) → IsLawfulOnCable (quiet_of inputs.table) (delays_on inputs.cable) (wakes_on inputs.cable) (stations_of inputs.table (cable_hands inputs)) horizon other → other ≡ list)
-    → IsOnCable inputs.table inputs.cable (cable_hands inputs) horizon recording → recording ≡ recorded horizon (holds_of (cable_hands inputs)) list
+    → IsOnCable inputs.table inputs.cable (cable_hands inputs) horizon recording → recording ≡ recorded horizon (hand_holds (cable_hands inputs)) list
 on_cable_is horizon inputs list recording only h =
     ap (λ (n : ℕ). recorded n recording.holds recording.list) h.horizon ∙ ap (λ (l : List Hold). recorded horizon l recording.list) h.holds
-    ∙ ap (recorded horizon (holds_of (cable_hands inputs))) (only recording.list h.lawful)
+    ∙ ap (recorded horizon (hand_holds (cable_hands inputs))) (only recording.list h.lawful)
 
 cable_once : TextLaws → (horizon : ℕ) (inputs : CableInputs) → CableDealt inputs → (text other : List ℕ) → IsCableAnswerText horizon inputs text → IsCableAnswerText horizon inputs other → other ≡ text
 cable_once laws horizon inputs d text other h k =
@@ -144,7 +145,7 @@ cable_once laws horizon inputs d text other h k =
 cable_has : TextLaws → (horizon : ℕ) (inputs : CableInputs) → CableDealt inputs → (text : List ℕ) × IsCableAnswerText horizon inputs text
 cable_has laws horizon inputs d =
     let one = laws.one_cable inputs.table (cable_hands inputs) (delays_on inputs.cable) (wakes_on inputs.cable) horizon d.valid d.dealt in
-    let recording : Recording = recorded horizon (holds_of (cable_hands inputs)) one.0 in
+    let recording : Recording = recorded horizon (hand_holds (cable_hands inputs)) one.0 in
     (on_cable_text inputs.table inputs.cable recording, record { recording = recording; observed = record { horizon = refl; holds = refl; lawful = one.1 }; text_is = refl })
 
 -- ---- the forms
@@ -190,7 +191,7 @@ run_has laws inputs d (Err o) e k = absurd (let n = run_unwritten inputs.table (
 run_has laws inputs d (Ok u) e k =
     let can = run_ok inputs.table (hands_in inputs) u e in
     let even : IsTrue (are_even inputs.table (hands_in inputs)) = (laws.even_agree inputs.table (hands_in inputs) d.valid d.dealt).0 (ap is_some can.even) in
-    let recording : Recording = record { horizon = closed_end inputs.table (hands_in inputs); holds = holds_of (hands_in inputs); list = closed inputs.table (hands_in inputs) } in (
+    let recording : Recording = record { horizon = closed_end inputs.table (hands_in inputs); holds = hand_holds (hands_in inputs); list = closed inputs.table (hands_in inputs) } in (
       run_text inputs.table recording,
       record { recording = recording; ran = record { horizon = refl; holds = refl; run = laws.runs inputs.table (hands_in inputs) d.valid can.accepted even }; text_is = refl },
     )
@@ -200,7 +201,7 @@ drop_has : TextLaws → (inputs : Inputs) → Dealt Drop inputs → (r : Result 
 drop_has laws inputs d (Err o) e k = absurd (let n = drop_unwritten inputs.table (hands_in inputs) o e in cc)
 drop_has laws inputs d (Ok u) e k =
     let can = drop_ok inputs.table (hands_in inputs) u e in
-    let recording : Recording = record { horizon = drop_end inputs.table (hands_in inputs); holds = holds_of (hands_in inputs); list = dropout inputs.table (hands_in inputs) } in (
+    let recording : Recording = record { horizon = drop_end inputs.table (hands_in inputs); holds = hand_holds (hands_in inputs); list = dropout inputs.table (hands_in inputs) } in (
       run_text inputs.table recording,
       record { recording = recording; ran = record { horizon = refl; holds = refl; run = laws.drops inputs.table (hands_in inputs) d.valid d.mode d.dealt can.long }; text_is = refl },
     )
@@ -209,7 +210,7 @@ messages_has : TextLaws → (command : MessagesCommand) (inputs : Inputs) → De
     → (text : List ℕ) × IsInputsText command inputs text
 messages_has laws (Observe horizon) inputs d h =
     let one = list_of laws (Observe horizon) inputs horizon d in
-    let recording : Recording = record { horizon = horizon; holds = holds_of (hands_in inputs); list = one.list } in
+    let recording : Recording = record { horizon = horizon; holds = hand_holds (hands_in inputs); list = one.list } in
     (trace_text recording, record { recording = recording; observed = record { horizon = refl; holds = refl; lawful = one.lawful }; text_is = refl })
 messages_has laws Run inputs d h = run_has laws inputs d (can_run inputs.table (hands_in inputs)) refl h
 messages_has laws Drop inputs d h = drop_has laws inputs d (can_drop inputs.table (hands_in inputs)) refl h

@@ -1,8 +1,8 @@
 -- What the tolerance line of an accepted table tells.
-use Rattle.std.proofs.Common.{◌≡◌, ◌≢◌, ℕ, ◌+◌, ◌*◌, ◌<◌, ◌≤◌, Bool, true, false, cond, length, Some, None, inl, inr, arith, sym, refl, ap, ◌∙◌, subst}
+use Rattle.std.proofs.Common.{◌≡◌, ◌≢◌, ℕ, ◌+◌, ◌*◌, ◌<◌, Bool, true, false, cond, length, Some, None, inl, inr, arith, sym, refl, ap, ◌∙◌, subst}
 use Rattle.std.specs.Prelude.{◌&&◌, ◌||◌, ◌==◌, IsTrue, [], Option}
 use Rattle.std.specs.List.{list_all}
-use Rattle.std.proofs.lemmas.Bool.{cases_Bool, cases_lt, eq-eqb, true≢false}
+use Rattle.std.proofs.lemmas.Bool.{cases_Bool, eq-eqb, true≢false}
 use Rattle.bus_table.specs.declared.mode.Mode.{Mode}
 use Rattle.bus_table.specs.declared.mode.Mode.TheVariants.{Aperiodic, Periodic}
 use Rattle.bus_table.specs.Tables.{Table}
@@ -16,7 +16,7 @@ use Rattle.bus_reach.specs.Laws.{BorneIsClosed, ToleranceIsExact}
 use Rattle.bus_reach.specs.PeriodicLaws.{AcceptedBearZero, PeriodicBorneIsClosed, PeriodicNotBorneBreaks}
 use Rattle.bus_reach.specs.Settling.{AnyStartSettles}
 use Rattle.bus_tool.specs.ToleranceClaims.{KeepsOrderIn, LosesOrderIn, SettlesFromAnyStart, TellsTolerance}
-use Rattle.bus_tool.specs.Tolerances.{greatest_to, starts_in, tolerance_of}
+use Rattle.bus_tool.specs.Tolerances.{greatest_to, starts_in}
 use Rattle.bus_tool.proofs.ToleranceLemmas.{borne_below, greatest_beyond, greatest_takes}
 
 -- the laws by which it does

@@ -10,7 +10,7 @@ use Rattle.bus_medium.specs.Timings.{quiet_of, stations_of}
 use Rattle.bus_trace.specs.declared.hold.Hold.{Hold}
 use Rattle.bus_trace.specs.Traces.{Recording, AscendAbove, IsHold, IsBelow, IsTrace}
 use Rattle.bus_strings.specs.Limits.{horizon_limit}
-use Rattle.bus_tool.specs.Texts.{holds_of}
+use Rattle.bus_wave.specs.Counted.{hand_holds}
 use Rattle.bus_strings.specs.Transmissions.{Precedes, IsByMoment, IsAscending, IsTransmission}
 use Rattle.bus_command.proofs.FewHands.{AreFew}
 use Rattle.bus_tool.proofs.HoldLemmas.{holds_ascend, holds_ranged}
@@ -24,7 +24,7 @@ below horizon (x ∷ list) early ranged =
 pub lawful_of : (table : Table) (hands : List Hand) (quiet : ℕ) (stations : List Station) (horizon : ℕ) (list : List Entry) → quiet ≡ quiet_of table → stations ≡ stations_of table hands → IsLawful quiet stations horizon list → IsLawful (quiet_of table) (stations_of table hands) horizon list
 lawful_of table hands quiet stations horizon list q s h = subst (λ n. IsLawful n (stations_of table hands) horizon list) q (subst (λ all. IsLawful quiet all horizon list) s h)
 
-pub observed_is_trace : (table : Table) (hands : List Hand) (horizon : ℕ) (holds : List Hold) (list : List Entry) → horizon ≤ horizon_limit → AreFew hands → holds ≡ holds_of hands → IsLawful (quiet_of table) (stations_of table hands) horizon list → AllByRecursion IsTransmission list → IsTrace (record { horizon = horizon; holds = holds; list = list })
+pub observed_is_trace : (table : Table) (hands : List Hand) (horizon : ℕ) (holds : List Hold) (list : List Entry) → horizon ≤ horizon_limit → AreFew hands → holds ≡ hand_holds hands → IsLawful (quiet_of table) (stations_of table hands) horizon list → AllByRecursion IsTransmission list → IsTrace (record { horizon = horizon; holds = holds; list = list })
 observed_is_trace table hands horizon holds list within few same lawful ranged = record {
   horizon = within;
   holds = subst (AllByRecursion IsHold) (sym same) (holds_ranged hands few);

@@ -1,17 +1,15 @@
 -- What is claimed of `wave` and `unwave`.
-use Rattle.std.specs.Prelude.{◌≡◌, ℕ, List, Result, Ok, Err}
-use Rattle.std.proofs.Common.{refl, sym, ap, ◌∙◌, subst}
-use Rattle.bus_text.specs.AllOf.{◌>>=◌}
+use Rattle.std.specs.Prelude.{◌≡◌, List, Result, Ok, Err}
+use Rattle.std.proofs.Common.{refl, ap, ◌∙◌, subst}
 use Rattle.bus_table.specs.Tables.{Table, Hand}
 use Rattle.bus_trace.specs.Traces.{Recording, trace_text}
-use Rattle.bus_wave.specs.Counted.{hand_holds}
 use Rattle.bus_wave.specs.WaveLaws.{IsWaveTrace, SpacedPasses, SpacedHaveTexts, WavesReadBack, WavesTell, RunsAreSpaced, RunsAreWaveTraces}
 use Rattle.bus_wave.specs.declared.fault.WaveFault.{WaveFault}
 use Rattle.bus_wave.specs.Spacing.{IsSpaced, spaced_of}
 use Rattle.bus_wave.specs.WaveTexts.{wave_text}
 use Rattle.std.specs.Prelude.{codes, []}
 use Rattle.bus_command.specs.Claims.{Answers, IsOfTraced}
-use Rattle.bus_command.specs.Due.{table_refusal_of, with_trace, traced_by}
+use Rattle.bus_command.specs.Due.{table_refusal_of, with_trace}
 use Rattle.bus_command.specs.Kinds.{kind_of}
 use Rattle.bus_command.specs.Outside.{Call}
 use Rattle.bus_command.specs.Readers.{entire, two_sources}
@@ -23,10 +21,10 @@ use Rattle.bus_command.proofs.ClaimLemmas.{claimed, does_of, at_two}
 use Rattle.bus_command.proofs.ReadLemmas.{traced_told}
 use Rattle.bus_command.proofs.ToldLemmas.{table_told}
 use Rattle.bus_tool.specs.Acts.{tool_program, Acts}
-use Rattle.bus_tool.specs.Due.{spaced_outcome, trace_answer, unwave_answer, unwave_due, wave_trace_due}
+use Rattle.bus_tool.specs.Due.{spaced_outcome, unwave_answer, unwave_due, wave_trace_due}
 use Rattle.bus_tool.specs.Forms.{Unwave, Wave, entire_wave, form_of}
 use Rattle.bus_tool.specs.Refusals.{Outcome, ToolRefusal, ends_of, status_of, refuse, Unspaced}
-use Rattle.bus_tool.specs.Texts.{holds_of, terminal_numbers, IsUnwavedText}
+use Rattle.bus_tool.specs.Texts.{IsUnwavedText}
 use Rattle.bus_tool.specs.WaveClaims.{IsTraceOfRun, HasAWave, GivesWave, IsUnwaveOf, GivesUnwaved}
 use Rattle.bus_tool.proofs.GroupClaims.{ReadLaws, trace_comes, trace_stands}
 use Rattle.bus_tool.proofs.WaveLemmas.{wave_told}
@@ -41,17 +39,12 @@ pub record WaveLaws : Type 0 where
   pub runs : RunsAreSpaced
   pub read : RunsAreWaveTraces
 
--- the holds of a run are those of its hands, which bus_wave counts too
-same_holds : (hands : List Hand) → holds_of hands ≡ hand_holds hands
-unfolding terminal_numbers hand_holds
-same_holds hands = refl
-
 -- what the laws say of the trace of a run
 run_is_read : WaveLaws → (call : Call) (table : Table) (trace : Recording) → IsOfTraced (codes "wave") [] table trace call → (hands : List Hand)
     → IsTraceOfRun table hands trace → IsWaveTrace table trace
 run_is_read laws call table trace h hands run =
     laws.read table hands trace h.table_told.valid run.accepted run.even h.trace_told.stands.text.trace
-    (record { list = run.ran.run.closed; horizon = run.ran.horizon; holds = run.ran.holds ∙ same_holds hands })
+    (record { list = run.ran.run.closed; horizon = run.ran.horizon; holds = run.ran.holds })
 
 has_a_wave : WaveLaws → (call : Call) (table : Table) (trace : Recording) → IsOfTraced (codes "wave") [] table trace call → HasAWave table trace
 has_a_wave laws call table trace h = record {

@@ -10,11 +10,11 @@ use Rattle.bus_command.specs.Acts.{Ends, Program, TellsLine}
 use Rattle.bus_command.specs.declared.outcome.Outcome.TheVariants.{Done}
 use Rattle.bus_command.specs.declared.status.Status.{Status}
 use Rattle.bus_cable.specs.Cables.{Cable}
-use Rattle.bus_command.specs.Outside.{Call, Outside, sink_seen}
+use Rattle.bus_command.specs.Outside.{Call, Outside, Seen, beside, outside, sink_seen}
 use Rattle.bus_command.specs.Readers.{entire, one_source, by_trace, two_sources}
 use Rattle.bus_tool.specs.Causes.{Cause}
 use Rattle.bus_tool.specs.Due.{form_due, first_refusal, table_answer, messages_answer, trace_answer}
-use Rattle.bus_tool.specs.Forms.{Form, TableCommand, MessagesCommand, TraceCommand, form_of, sources_of}
+use Rattle.bus_tool.specs.Forms.{Form, TableCommand, MessagesCommand, TraceCommand, form_of, sources_of, takes_memory}
 use Rattle.bus_tool.specs.Refusals.{Outcome, ToolRefusal, fault_line, status_of}
 use Rattle.bus_tool.specs.Texts.{IsFormText, IsMessagesText, IsOnCableText, table_answer_text, trace_answer_text}
 
@@ -24,6 +24,7 @@ tool_program = record {
   form_of = form_of;
   sources = sources_of;
   refusing = first_refusal;
+  memory = takes_memory;
   due = form_due;
   IsText = IsFormText;
   Cause = Cause;
@@ -32,6 +33,16 @@ tool_program = record {
 -- What the command of a form did.
 abbrev pub DoesForm : Form → Outside → Outside → Outcome → Type 0
 DoesForm form before after outcome = command.DoesForm tool_program form before after outcome
+
+-- What the command of a form did whose first source was this before and after, whatever the second is.
+abbrev pub DoesFirst : {S K : Type 0} → SourceGhosts S → SinkGhosts K → Form → S → K → S → K → Outcome → Type 0
+DoesFirst source sink form first out later_first later_out outcome =
+    (second : Seen) → DoesForm form (beside source sink first second out) (beside source sink later_first second later_out) outcome
+
+-- What the command of a form did whose sources were these before and after.
+abbrev pub DoesBoth : {S K : Type 0} → SourceGhosts S → SinkGhosts K → Form → S → S → K → S → S → K → Outcome → Type 0
+DoesBoth source sink form first second out later_first later_second later_out outcome =
+    DoesForm form (outside source sink first second out) (outside source sink later_first later_second later_out) outcome
 
 -- What a call did.
 abbrev pub Acts : Call → Outcome → Type 0
@@ -48,6 +59,11 @@ abbrev pub EndsOnTable : {K : Type 0} → SinkGhosts K → TableCommand → Tabl
 EndsOnTable ghosts command table old new outcome =
     Ends (one_source entire) (table_answer command table) (λ text. text ≡ table_answer_text command table) (sink_seen ghosts old)
     (sink_seen ghosts new) outcome
+
+-- What `explain` did that has read its text, of which this is to be answered and written.
+abbrev pub EndsExplaining : {K : Type 0} → SinkGhosts K → Outcome → List ℕ → K → K → Outcome → Type 0
+EndsExplaining ghosts answer explained old new outcome =
+    Ends (one_source entire) answer (λ text. text ≡ explained) (sink_seen ghosts old) (sink_seen ghosts new) outcome
 
 -- What a command did that has taken its table and hands.
 abbrev pub EndsOnMessages : {K : Type 0} → SinkGhosts K → MessagesCommand → Table → List Hand → K → K → Outcome → Type 0

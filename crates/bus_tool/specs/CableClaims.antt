@@ -83,7 +83,8 @@ pub record IsTheCableText (table : Table) (cable : Cable) (hands : List Hand) (h
   pub recording : Recording
   pub trace : IsTrace recording
   pub observed : IsOnCable table cable hands horizon recording
-  pub only : (other : List Entry) → IsLawfulOnCable (quiet_of table) (delays_on cable) (wakes_on cable) (stations_of table hands) horizon other
+  pub only : (other : List Entry)
+      → IsLawfulOnCable (quiet_of table) (delays_on cable) (wakes_on cable) (stations_of table hands) horizon other
       → other ≡ recording.list
   pub plain : IsPlain table cable → IsObserved table hands horizon recording
   pub aperiodic : (most : ℕ) → IsBorne Aperiodic most table cable hands → AreWakes most table.senders (wakes_on cable)

@@ -22,8 +22,10 @@ use Rattle.bus_wave.specs.WaveTexts.{IsWaveText}
 use Rattle.bus_cable.specs.Cables as cables
 use Rattle.bus_cable.specs.Grammar.{IsCableText}
 use Rattle.bus_command.specs.Causes.{IsValidText, AreTextsWith, AreTracedWith}
-use Rattle.bus_tool.specs.Forms.{Form, OnTable, OnMessages, OnTrace, Unwave, Drill, OnItself, Explain, Cable, MessagesCommand, Observe, Run, Drop}
-use Rattle.bus_tool.specs.Refusals.{ToolRefusal, TableMode, Unspaced, WaveText, Uneven, NotAccepted, ShortLast, TooLong, CableText, CableUnfit}
+use Rattle.bus_tool.specs.Forms.{Form, OnTable, OnMessages, OnTrace, Unwave, Drill, OnItself, Explain, Cable}
+use Rattle.bus_tool.specs.Forms.{MessagesCommand, Observe, Run, Drop}
+use Rattle.bus_tool.specs.Refusals.{ToolRefusal, TableMode, Unspaced, WaveText, Uneven, NotAccepted, ShortLast, TooLong}
+use Rattle.bus_tool.specs.Refusals.{CableText, CableUnfit}
 
 -- A valid table has the text, whose mode isn't the one that is needed.
 pub record IsOtherModeText (needed : Mode) (text : List ℕ) : Type 0 where

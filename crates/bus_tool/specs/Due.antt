@@ -48,7 +48,8 @@ use Rattle.bus_tool.specs.Forms.{TableCommand, Check, Tolerance, Tidy, Report, W
 use Rattle.bus_command.specs.Readers.{text_limit}
 use Rattle.bus_tool.specs.Forms.{MessagesCommand, Observe, Run, Drop, TraceCommand, Receive, Audit, Vote, Wave}
 use Rattle.bus_tool.specs.Forms.{form_of, wave_limit, table_mode, messages_mode}
-use Rattle.bus_tool.specs.Refusals.{Outcome, refuse, TableMode, Unspaced, WaveText, Uneven, NotAccepted, ShortLast, TooLong, CableText, CableUnfit}
+use Rattle.bus_tool.specs.Refusals.{Outcome, refuse, TableMode, Unspaced, WaveText, Uneven, NotAccepted, ShortLast, TooLong}
+use Rattle.bus_tool.specs.Refusals.{CableText, CableUnfit}
 
 -- ---- a table, maybe of one mode
 -- Whether a mode is the one that is needed.

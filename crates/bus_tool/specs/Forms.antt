@@ -1,5 +1,5 @@
 -- The forms of the command line, in groups by what they take. A word is its bytes.
-use Rattle.std.specs.Prelude.{ℕ, ◌≤◌, Bool, ◌&&◌, nat_le, List, [], ◌∷◌, codes, Option, Some, None, if◌then◌else◌}
+use Rattle.std.specs.Prelude.{ℕ, ◌≤◌, Bool, true, false, ◌&&◌, nat_le, List, [], ◌∷◌, codes, Option, Some, None, if◌then◌else◌}
 use Rattle.std.specs.Option.{option_map}
 use Rattle.std.specs.Str.{bytes_eq}
 use Rattle.bus_text.specs.Numbers.{is_plain_decimal, decimal_value}
@@ -7,7 +7,6 @@ use Rattle.bus_strings.specs.Limits.{horizon_limit}
 use Rattle.bus_table.specs.declared.mode.Mode.{Mode}
 use Rattle.bus_table.specs.declared.mode.Mode.TheVariants.{Aperiodic, Periodic}
 use Rattle.bus_vectors.specs.Made.{most_number}
-use Rattle.bus_command.specs.declared.about.About.{About}
 use Rattle.bus_command.specs.About.{about_of}
 use Rattle.bus_command.specs.Readers.{Named, Reader, Entire, entire, no_source, one_source, by_trace, two_sources}
 pub use Rattle.bus_tool.specs.declared.forms.Form.{Form}
@@ -90,6 +89,17 @@ sources_of (Drill number) = no_source
 sources_of (OnItself about) = no_source
 sources_of Explain = one_source entire
 sources_of (Cable horizon) = two_sources entire entire
+
+-- Whether a form takes any memory.
+abbrev pub takes_memory : Form → Bool
+takes_memory (OnTable command) = true
+takes_memory (OnMessages command) = true
+takes_memory (OnTrace command) = true
+takes_memory Unwave = true
+takes_memory (Drill number) = true
+takes_memory (OnItself about) = false
+takes_memory Explain = true
+takes_memory (Cable horizon) = true
 
 -- The mode that a command on a table needs of it.
 abbrev pub table_mode : TableCommand → Option Mode

@@ -1,15 +1,13 @@
 -- What `tool` promises of texts that are right.
-use Rattle.std.specs.Prelude.{◌≡◌, ℕ, List, [], codes}
+use Rattle.std.specs.Prelude.{ℕ, List, [], codes}
 use Rattle.bus_strings.specs.Items.{Item}
 use Rattle.bus_table.specs.Tables.{Table}
 use Rattle.bus_trace.specs.Traces.{Recording}
-use Rattle.bus_filter.specs.ReceivedTexts.{received_text}
 use Rattle.bus_command.specs.declared.about.About.{About}
-use Rattle.bus_command.specs.About.{IsAbout}
-use Rattle.bus_command.specs.Claims.{Answers, IsOfTable, IsOfTraced}
+use Rattle.bus_command.specs.About.{IsAbout, TellsItself}
+use Rattle.bus_command.specs.Claims.{IsOfTable, IsOfTraced}
 use Rattle.bus_command.specs.Outside.{Call}
 use Rattle.bus_command.specs.declared.status.Status.{Status}
-use Rattle.bus_command.specs.declared.status.Status.TheVariants.{Done}
 use Rattle.bus_cable.specs.Cables.{Cable}
 use Rattle.bus_tool.specs.CableClaims.{IsCableOf, GivesOnCable}
 use Rattle.bus_tool.specs.DrillClaims.{IsDrillOf, GivesDrill}
@@ -24,7 +22,8 @@ use Rattle.bus_tool.specs.ToleranceClaims.{GivesTolerance}
 use Rattle.bus_tool.specs.TraceClaims.{GivesReceived, GivesFinding, GivesVotes}
 use Rattle.bus_tool.specs.WaveClaims.{GivesWave, IsUnwaveOf, GivesUnwaved}
 
--- What a call promises whose texts are right and in which nothing outside fails; each command answers so, or memory was refused:
+-- What a call promises whose texts are right and in which nothing outside fails; each command answers so, or memory was refused, of which
+-- `itself` takes none:
 --   check     the verdict line of a valid table; status 0 comes only for a settled table, status 1 only for one that isn't
 --   tolerance its tolerance line, which tells how much delay it bears, exactly, and whether order comes from any start; or its verdict line
 --   witness   the messages of its witness
@@ -40,9 +39,10 @@ use Rattle.bus_tool.specs.WaveClaims.{GivesWave, IsUnwaveOf, GivesUnwaved}
 --   vote      the votes; two equal channels fix a vote, and of the trace of a run every round is voted, from the words of the hands
 --   wave      of a spaced trace: its wave text; the trace of a run is spaced, and read from it; two with the same wave are equal
 --   unwave    of the wave text of a trace: the text of the trace
---   explain   of any text: its explanation; each of its advices works
---   cable     of a cable and items that fit: the one trace on that cable, and what each terminal hears of it; on a plain cable it is the trace
---             of `observe`, and where the table bears the cable, with even hands, the closed schedule, of which nothing is garbled
+--   explain   of any text: its explanation; the spare and the tolerance are what they are said to be, each advice works, and none is
+--             missing
+--   cable     of a cable and items that fit: the one trace on that cable, and what each terminal hears of it; on a plain cable it is the
+--             trace of `observe`, and where the table bears the cable, with even hands, the closed schedule, of which nothing is garbled
 --   itself    `--help` and `--version`: the help and the version line
 pub record Promises (call : Call) (status : Status) : Type 0 where
   pub check : (table : Table) → IsOfTable (codes "check") table call → GivesVerdict table call status × TellsSettled table status
@@ -65,4 +65,4 @@ pub record Promises (call : Call) (status : Status) : Type 0 where
   pub explain : (text : List ℕ) → IsExplainOf text call → GivesExplanation text call status
   pub cable : (table : Table) (cable : Cable) (items : List Item) (until : ℕ) → IsCableOf table cable items until call
       → GivesOnCable table cable items until call status
-  pub itself : (about : About) → IsAbout about call → Answers Done (λ text. text ≡ itself_text about) call status
+  pub itself : (about : About) → IsAbout about call → TellsItself (itself_text about) call status

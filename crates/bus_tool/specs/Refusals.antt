@@ -3,8 +3,6 @@ use Rattle.std.specs.Prelude.{ℕ, List, [], ◌∷◌, ◌++◌, codes}
 use Rattle.std.specs.Fmt.{decimal}
 use Rattle.bus_regime.specs.Lines.{verdict_line}
 use Rattle.bus_table.specs.Text.{mode_word}
-use Rattle.bus_wave.specs.declared.fault.WaveFault.{WaveFault}
-use Rattle.bus_wave.specs.declared.fault.WaveReason.{WaveReason}
 use Rattle.bus_wave.specs.Reasons.{entry_words, wave_reason_word}
 use Rattle.bus_command.specs.declared.outcome.Outcome.{Outcome as OutcomeWith}
 use Rattle.bus_command.specs.declared.outcome.Outcome.TheVariants.{Own}

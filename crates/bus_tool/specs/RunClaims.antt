@@ -1,5 +1,5 @@
 -- What is claimed of `run`, in the words of its texts.
-use Rattle.std.specs.Prelude.{◌≡◌, ◌≤◌, ℕ, IsTrue, List, [], ◌∷◌, length, codes}
+use Rattle.std.specs.Prelude.{◌≡◌, ◌≤◌, ℕ, IsTrue, List, [], length, codes}
 use Rattle.std.specs.List.{AllByRecursion}
 use Rattle.bus_strings.specs.Items.{Item}
 use Rattle.bus_table.specs.Tables.{Table, Hand}

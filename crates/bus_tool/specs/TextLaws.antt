@@ -12,7 +12,8 @@ use Rattle.bus_audit.specs.declared.answer.AuditAnswer.{AuditAnswer}
 use Rattle.bus_audit.specs.declared.answer.AuditAnswer.TheVariants.{Lawful}
 use Rattle.bus_command.specs.Outcomes.{is_written}
 use Rattle.bus_tool.specs.Due.{due}
-use Rattle.bus_tool.specs.Texts.{hold_of, holds_of, IsObserved, IsRunRecording, IsDropRecording, IsCommandText}
+use Rattle.bus_wave.specs.Counted.{hand_holds}
+use Rattle.bus_tool.specs.Texts.{hold_of, IsObserved, IsRunRecording, IsDropRecording, IsCommandText}
 use Rattle.bus_tool.specs.TraceClaims.{IsFinding}
 
 -- A command writes one text at most.
@@ -27,9 +28,9 @@ AnswersHaveTexts = (words : List (List ℕ)) (first second : List ℕ)
 
 -- One hold for each hand, by rising number.
 pub record HoldEachHand (hands : List Hand) : Type 0 where
-  pub each : (hand : Hand) → In hand hands → In (hold_of hand) (holds_of hands)
-  pub only : (hold : Hold) → In hold (holds_of hands) → (hand : Hand) × In hand hands × (hold ≡ hold_of hand)
-  pub rising : AscendAbove 0 (holds_of hands)
+  pub each : (hand : Hand) → In hand hands → In (hold_of hand) (hand_holds hands)
+  pub only : (hold : Hold) → In hold (hand_holds hands) → (hand : Hand) × In hand hands × (hold ≡ hold_of hand)
+  pub rising : AscendAbove 0 (hand_holds hands)
 
 -- Each sender of a valid table has one hold.
 abbrev pub SendersHaveHolds : Type 0

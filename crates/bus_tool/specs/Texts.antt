@@ -1,10 +1,7 @@
 -- What the commands write on `out`, where their outcome is an answer.
 --   hold   how many messages a terminal held when the bus began to run: a line of a trace
-use Rattle.std.specs.Prelude.{◌≡◌, ℕ, ◌==◌, List, ◌++◌, length, Option, Some, None}
-use Rattle.std.specs.List.{find, filter_map, range_with_len}
-use Rattle.std.specs.Option.{option_map}
+use Rattle.std.specs.Prelude.{◌≡◌, ℕ, List, ◌++◌, length, Option, Some, None}
 use Rattle.bus_strings.specs.Canonical.{messages_text}
-use Rattle.bus_strings.specs.Limits.{most_terminal}
 use Rattle.bus_table.specs.Tables.{Table, Hand}
 use Rattle.bus_table.specs.Canonical.{table_text}
 use Rattle.bus_plan.specs.Answers.{plan_of}
@@ -27,6 +24,7 @@ use Rattle.bus_filter.specs.ReceivedTexts.{received_text}
 use Rattle.bus_trace.specs.declared.hold.Hold.{Hold}
 use Rattle.bus_trace.specs.Traces.{Recording, trace_text}
 use Rattle.bus_vote.specs.VoteTexts.{votes_text}
+use Rattle.bus_wave.specs.Counted.{hand_holds}
 use Rattle.bus_wave.specs.WaveTexts.{wave_text}
 use Rattle.bus_command.specs.declared.inputs.Traced.{Traced}
 use Rattle.bus_command.specs.Due.{Inputs, hands_in, inputs_by, text_due, traced_due, IsTextOf}
@@ -47,40 +45,28 @@ use Rattle.bus_tool.specs.Tolerances.{tolerance_text}
 abbrev pub hold_of : Hand → Hold
 hold_of hand = record { terminal = hand.terminal; count = length hand.messages }
 
--- The hold of the terminal with this number.
-abbrev pub hold_at : List Hand → ℕ → Option Hold
-hold_at hands number = option_map hold_of (find (λ hand. hand.terminal == number) hands)
-
--- The numbers that a terminal may have.
-unfoldable pub terminal_numbers : List ℕ
-terminal_numbers = range_with_len 1 most_terminal
-
--- The holds of the hands, by rising number.
-abbrev pub holds_of : List Hand → List Hold
-holds_of hands = filter_map (hold_at hands) terminal_numbers
-
 -- The recording of the senders of a table up to a horizon: what each of them held, and the lawful list.
 pub record IsObserved (table : Table) (hands : List Hand) (until : ℕ) (recording : Recording) : Type 0 where
   pub horizon : recording.horizon ≡ until
-  pub holds : recording.holds ≡ holds_of hands
+  pub holds : recording.holds ≡ hand_holds hands
   pub lawful : IsLawful (quiet_of table) (stations_of table hands) until recording.list
 
 -- The recording of a run: its horizon is the closed end, what each sender held, and the run.
 pub record IsRunRecording (table : Table) (hands : List Hand) (recording : Recording) : Type 0 where
   pub horizon : recording.horizon ≡ closed_end table hands
-  pub holds : recording.holds ≡ holds_of hands
+  pub holds : recording.holds ≡ hand_holds hands
   pub run : IsRun table hands recording.list
 
 -- The recording of a run whose senders fall silent: its horizon is the end of the drop-out schedule.
 pub record IsDropRecording (table : Table) (hands : List Hand) (recording : Recording) : Type 0 where
   pub horizon : recording.horizon ≡ drop_end table hands
-  pub holds : recording.holds ≡ holds_of hands
+  pub holds : recording.holds ≡ hand_holds hands
   pub run : IsDropRun table hands recording.list
 
 -- The recording of the senders of a table on a cable up to a horizon: what each of them held, and the lawful list with its delays and wakes
 pub record IsOnCable (table : Table) (cable : cables.Cable) (hands : List Hand) (until : ℕ) (recording : Recording) : Type 0 where
   pub horizon : recording.horizon ≡ until
-  pub holds : recording.holds ≡ holds_of hands
+  pub holds : recording.holds ≡ hand_holds hands
   pub lawful : IsLawfulOnCable (quiet_of table) (delays_on cable) (wakes_on cable) (stations_of table hands) until recording.list
 
 -- ---- the texts

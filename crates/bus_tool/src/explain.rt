@@ -1,22 +1,19 @@
 //! `explain`: what the verdict on a table means, or why a text gives no valid table, and what to change.
-ghost use Rattle.std.specs.Prelude.{◌≡◌};
+ghost use Rattle.std.specs.Prelude.{◌≡◌, false};
 ghost use Rattle.bus_table.specs.Gives.{Fails};
 ghost use Rattle.bus_table.specs.Reading.{answer_of};
 ghost use Rattle.bus_table.specs.Stops.{stop_of};
-ghost use Rattle.bus_regime.specs.Verdicts.{verdict_of};
+ghost use Rattle.bus_regime.specs.Verdicts.{is_accepted, verdict_of};
 ghost use Rattle.bus_advice.specs.Advices.{advices_of};
-ghost use Rattle.bus_command.specs.Acts.{Ends};
-ghost use Rattle.bus_command.specs.Outside.{Seen, beside, sink_seen};
-ghost use Rattle.bus_command.specs.Readers.{entire, one_source};
 ghost use Rattle.bus_command.specs.declared.outcome.Outcome.TheVariants.{Answered, Done};
 ghost use Rattle.bus_explain.specs.Accepted.{IsAcceptedWith, accepted_text};
 ghost use Rattle.bus_explain.specs.Refused.{refused_text};
 ghost use Rattle.bus_explain.specs.Unread.{unread_text};
-ghost use Rattle.bus_tool.specs.Acts.{DoesForm};
+ghost use Rattle.bus_tool.specs.Acts.{DoesFirst, EndsExplaining};
 ghost use Rattle.bus_tool.specs.Due.{explain_answer, verdict_outcome};
 ghost use Rattle.bus_tool.specs.Explanations.{explanation, table_explained};
 ghost use Rattle.bus_tool.specs.Forms.{Explain};
-ghost use Rattle.bus_tool.specs.Tolerances as tolerances;
+ghost use Rattle.bus_tool.specs.Tolerances as told;
 
 use crate::refusal::{Outcome, ToolRefusal};
 use crate::tolerance::tolerance_of;
@@ -35,8 +32,7 @@ const TEXT_LIMIT: usize = 8_388_608;
 /// Writes what is said of an accepted table with the numbers of its verdict.
 fn explain_accepted<K: Sink>(table: &Table, least: u64, most: u64, out: &mut K) -> Outcome
     requires { IsAcceptedWith table.now least most }
-    ensures { Ends (one_source entire) Done (λ text. text ≡ accepted_text table.now least most (tolerances.tolerance_of table.now))
-        (sink_seen ⟦<K as Sink>⟧ out.old) (sink_seen ⟦<K as Sink>⟧ out.new) result }
+    ensures { EndsExplaining ⟦<K as Sink>⟧ Done (accepted_text table.now least most (told.tolerance_of table.now)) out.old out.new result }
 {
     let tolerance = tolerance_of(table);
     after_writing(
@@ -52,10 +48,11 @@ fn explain_refused<K: Sink>(
     verdict: &TableVerdict,
     out: &mut K,
 ) -> Outcome
-    ensures { Ends (one_source entire) Answered (λ text. text ≡ refused_text verdict.now (advices_of table.now))
-        (sink_seen ⟦<K as Sink>⟧ out.old) (sink_seen ⟦<K as Sink>⟧ out.new) result }
+    requires own { verdict.now ≡ verdict_of table.now }
+    requires refused { is_accepted verdict.now ≡ false }
+    ensures { EndsExplaining ⟦<K as Sink>⟧ Answered (refused_text verdict.now (advices_of table.now)) out.old out.new result }
 {
-    match advices(alloc, table) {
+    match advices(alloc, table, verdict) {
         Ok(advices) => after_writing(write_refused(verdict, &advices, out), Outcome::Answered),
         Err(_) => Outcome::NoMemory,
     }
@@ -63,8 +60,7 @@ fn explain_refused<K: Sink>(
 
 /// Writes what is said of a table.
 fn explain_table<K: Sink>(alloc: Global, table: &Table, out: &mut K) -> Outcome
-    ensures { Ends (one_source entire) (verdict_outcome (verdict_of table.now)) (λ text. text ≡ table_explained table.now)
-        (sink_seen ⟦<K as Sink>⟧ out.old) (sink_seen ⟦<K as Sink>⟧ out.new) result }
+    ensures { EndsExplaining ⟦<K as Sink>⟧ (verdict_outcome (verdict_of table.now)) (table_explained table.now) out.old out.new result }
 {
     let verdict = verdict(table);
     match verdict {
@@ -83,8 +79,7 @@ fn explain_unread<K: Sink>(
     reason: Reason,
     out: &mut K,
 ) -> Outcome
-    ensures { Ends (one_source entire) Answered (λ written. written ≡ unread_text line reason (stop_of text.now))
-        (sink_seen ⟦<K as Sink>⟧ out.old) (sink_seen ⟦<K as Sink>⟧ out.new) result }
+    ensures { EndsExplaining ⟦<K as Sink>⟧ Answered (unread_text line reason (stop_of text.now)) out.old out.new result }
 {
     match find_stop(alloc, text) {
         Ok(stop) => after_writing(write_unread(line, reason, &stop, out), Outcome::Answered),
@@ -95,8 +90,7 @@ fn explain_unread<K: Sink>(
 /// Writes what is said of a text that gives no table for this reason.
 fn explain_error<K: Sink>(alloc: Global, text: &[u8], error: TableError, out: &mut K) -> Outcome
     requires { Fails error (answer_of text.now) }
-    ensures { Ends (one_source entire) (explain_answer text.now) (λ written. written ≡ explanation text.now)
-        (sink_seen ⟦<K as Sink>⟧ out.old) (sink_seen ⟦<K as Sink>⟧ out.new) result }
+    ensures { EndsExplaining ⟦<K as Sink>⟧ (explain_answer text.now) (explanation text.now) out.old out.new result }
 {
     match error {
         TableError::Text { line, reason } => explain_unread(alloc, text, line, reason, out),
@@ -107,8 +101,7 @@ fn explain_error<K: Sink>(alloc: Global, text: &[u8], error: TableError, out: &m
 
 /// Writes what is said of a text.
 fn explain_text<K: Sink>(alloc: Global, text: &[u8], out: &mut K) -> Outcome
-    ensures { Ends (one_source entire) (explain_answer text.now) (λ written. written ≡ explanation text.now)
-        (sink_seen ⟦<K as Sink>⟧ out.old) (sink_seen ⟦<K as Sink>⟧ out.new) result }
+    ensures { EndsExplaining ⟦<K as Sink>⟧ (explain_answer text.now) (explanation text.now) out.old out.new result }
 {
     match read_table(alloc, text) {
         Ok(table) => explain_table(alloc, &table, out),
@@ -118,8 +111,7 @@ fn explain_text<K: Sink>(alloc: Global, text: &[u8], out: &mut K) -> Outcome
 
 /// Writes what is said of the text in the first source. Only its size is refused; all memory is taken before the first written byte.
 pub fn explain<S: Source, K: Sink>(alloc: Global, first: &mut S, out: &mut K) -> Outcome
-    ensures { (second : Seen) → DoesForm Explain (beside ⟦<S as Source>⟧ ⟦<K as Sink>⟧ first.old second out.old)
-        (beside ⟦<S as Source>⟧ ⟦<K as Sink>⟧ first.new second out.new) result }
+    ensures { DoesFirst ⟦<S as Source>⟧ ⟦<K as Sink>⟧ Explain first.old out.old first.new out.new result }
 {
     match take_text::<ToolRefusal, S>(alloc, TEXT_LIMIT, 1, first) {
         Ok(text) => explain_text(alloc, &text, out),

@@ -3,6 +3,7 @@ ghost use Rattle.std.specs.Prelude.{◌≡◌, ◌==◌, ◌≤◌, ◌++◌, fi
 ghost use Rattle.std.specs.List.{AllByRecursion};
 ghost use Rattle.std.specs.Option.{option_copied, option_to_list};
 ghost use Rattle.bus_command.specs.Readers.{text_limit};
+ghost use Rattle.bus_wave.specs.Counted.{hand_hold, hand_holds};
 ghost use Rattle.bus_tool.specs.Texts as texts;
 
 use bus_strings::limits::MOST_TERMINAL;
@@ -33,7 +34,7 @@ fn hold_of(hand: &Hand) -> Hold
 /// How many messages the terminal with this number holds, where it has a hand.
 fn hold_at(hands: &[Hand], number: u8) -> Option<Hold>
     requires { AllByRecursion (λ hand. length hand.messages ≤ text_limit) hands.now }
-    ensures { result ≡ texts.hold_at hands.now number }
+    ensures { result ≡ hand_hold hands.now number }
 {
     let hand = hand_at(hands, number)?;
     Some(hold_of(hand))
@@ -52,7 +53,7 @@ fn note(holds: &mut Vec<Hold>, hold: Option<Hold>) -> Result<(), AllocError>
 /// How many messages each terminal holds, by rising number.
 pub fn holds(alloc: Global, hands: &[Hand]) -> Result<Vec<Hold>, AllocError>
     requires { AllByRecursion (λ hand. length hand.messages ≤ text_limit) hands.now }
-    ensures { IfOk result (λ holds. holds.items ≡ texts.holds_of hands.now) }
+    ensures { IfOk result (λ holds. holds.items ≡ hand_holds hands.now) }
 {
     let mut holds = Vec::with_capacity(alloc, hands.len())?;
     for number in 1..MOST_TERMINAL + 1 {

@@ -192,8 +192,8 @@ fn take_wired<S: Source>(alloc: Global, table: &Table, second: &mut S) -> Result
     deal(alloc, table, cable, items)
 }
 
-/// The table in the first source, the cable in the second, and the hands that its items give the table's senders; or why there are none. The
-/// second source is pulled only where the first gave a table.
+/// The table in the first source, the cable in the second, and the hands that its items give the table's senders; or why there are none.
+/// The second source is pulled only where the first gave a table.
 pub fn take_on_cable<S: Source>(
     alloc: Global,
     first: &mut S,

@@ -1,9 +1,7 @@
 //! What the program tells of itself.
-ghost use Rattle.std.specs.Prelude.{◌≡◌};
-ghost use Rattle.bus_command.specs.Acts.{Ends};
-ghost use Rattle.bus_command.specs.Outside.{sink_seen};
-ghost use Rattle.bus_command.specs.Readers.{no_source};
-ghost use Rattle.bus_command.specs.declared.outcome.Outcome.TheVariants.{Done};
+ghost use Rattle.std.specs.Prelude.{◌≡◌, ◌≢◌};
+ghost use Rattle.bus_command.specs.About.{EndsTelling};
+ghost use Rattle.bus_command.specs.declared.outcome.Outcome.TheVariants.{NoMemory};
 ghost use Rattle.bus_tool.specs.Itself.{help_text, itself_text, version_text};
 
 use crate::refusal::Outcome;
@@ -14,35 +12,47 @@ use bus_outer::Sink;
 fn help() -> &'static [u8]
     ensures { result.now ≡ help_text }
 {
-    b"bus629 checks tables for buses after ARINC 629 (Basic Protocol), runs and observes such buses, tells what each terminal receives, and
-audits recorded traces. What it says is proved.
+    b"bus629 checks tables for buses after ARINC 629 (Basic Protocol), runs and observes such buses, tells
+what each terminal receives, and audits recorded traces. What it says is proved.
 
   bus629 check T          judge the table in the file T
-  bus629 explain T        tell in sentences what the verdict of the table in T means, or what is wrong with its text, and what to change
-  bus629 tolerance T      tell how much delay an accepted table bears until two terminals could talk over each other or a turn be lost
+  bus629 explain T        tell in sentences what the verdict of the table in T means, or what is
+                          wrong with its text, and what to change
+  bus629 tolerance T      tell how much delay an accepted table bears until two terminals could
+                          talk over each other or a turn be lost
   bus629 tidy T           write the table in T as a text without comments, one space between fields
-  bus629 witness T        messages with which the table in the file T fails, where it is refused: try them with observe
-  bus629 plan T           choose the offsets of the periodic table in T: the planned table, or that the interval is too short
+  bus629 witness T        messages with which the table in the file T fails, where it is refused:
+                          try them with observe
+  bus629 plan T           choose the offsets of the periodic table in T: the planned table, or that
+                          the interval is too short
   bus629 report T         tell the verdict of the table in T and its figures, as JSON
-  bus629 run T M          run the senders of an accepted table with the messages in M: the trace, and what each terminal receives
-  bus629 drop T M         the same of an aperiodic table whose senders fall silent when their messages are spent
-  bus629 observe T M N    look at the senders of any table up to moment N, in bit times of half a microsecond: the trace
-  bus629 cable T C N      the same on the cable in C, which has the messages too: the trace, and what each terminal hears of it
+  bus629 run T M          run the senders of an accepted table with the messages in M: the trace,
+                          and what each terminal receives
+  bus629 drop T M         the same of an aperiodic table whose senders fall silent when their
+                          messages are spent
+  bus629 observe T M N    look at the senders of any table up to moment N, in bit times of half a
+                          microsecond: the trace
+  bus629 cable T C N      the same on the cable in C, which has the messages too: the trace, and
+                          what each terminal hears of it
   bus629 receive T R      what each terminal of the table receives of the trace in R
-  bus629 audit T R        hold the trace in R to the table: does each sender start exactly where its timers allow it?
+  bus629 audit T R        hold the trace in R to the table: does each sender start exactly where its
+                          timers allow it?
   bus629 vote T R         what two of three channels agree on, in each round of the trace in R
   bus629 wave T R         the wave of the trace in R, half bit time for half bit time
   bus629 unwave T W       the trace whose wave is in W
-  bus629 drill N          make a large input from the number N, at most 9999, run it, and tell what came of it
+  bus629 drill N          make a large input from the number N, at most 9999, run it, and tell what
+                          came of it
   bus629 --help           this text
   bus629 --version        the version of the program, and of each text that it reads and writes
 
-The status is 0 for a yes or an answer, 1 for a no, 2 where the words are no command, 3 where the table is refused, 4 where the
-messages, the cable, the trace or the wave are, 5 for a failed read, 6 for a failed write, 7 where memory is refused, 8 for a file past its
-limit, and 9 for a schedule past its limit. A line on standard error says why.
+The status is 0 for a yes or an answer, 1 for a no, 2 where the words are no command, 3 where the
+text of the table, the table as a whole or its mode is refused, 4 where the messages, the cable, the
+trace or the wave are, 5 for a failed read, 6 for a failed write, 7 where memory is refused, 8 for a
+file past its limit, and 9 for a schedule past its limit. A line on standard error says why from 2
+on, and for a no of run and drop. What explain finds wrong with a text is its answer, and a no.
 
-docs/BUS.md has the rules of the bus, docs/FORMATS.md the texts, lines and statuses, docs/CLAIMS.md what is proved; examples/ has tables
-to try.
+docs/BUS.md has the rules of the bus, docs/FORMATS.md the texts, lines and statuses, docs/CLAIMS.md
+what is proved; examples/ has tables to try.
 "
 }
 
@@ -53,12 +63,20 @@ fn version() -> &'static [u8]
     b"bus629 1.0.0 (TABLE 1, MESSAGES 1, TRACE 1 and 2, WAVE 1, CABLE 1)\n"
 }
 
-/// Writes what is asked of the program itself.
-pub fn tell_itself<K: Sink>(about: About, out: &mut K) -> Outcome
-    ensures { Ends no_source Done (λ text. text ≡ itself_text about) (sink_seen ⟦<K as Sink>⟧ out.old) (sink_seen ⟦<K as Sink>⟧ out.new) result }
+/// What is asked of the program itself.
+fn text_of(about: About) -> &'static [u8]
+    ensures { result.now ≡ itself_text about }
 {
     match about {
-        About::Help => tell(help(), out),
-        About::Version => tell(version(), out),
+        About::Help => help(),
+        About::Version => version(),
     }
+}
+
+/// Writes what is asked of the program itself. It takes no memory.
+pub fn tell_itself<K: Sink>(about: About, out: &mut K) -> Outcome
+    ensures ends { EndsTelling ⟦<K as Sink>⟧ (itself_text about) out.old out.new result }
+    ensures room { result ≢ NoMemory }
+{
+    tell(text_of(about), out)
 }

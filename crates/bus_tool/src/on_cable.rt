@@ -3,10 +3,9 @@ ghost use Rattle.std.specs.Prelude.{◌≤◌, IfOk};
 ghost use Rattle.bus_outer.specs.Sinks.{WritesText};
 ghost use Rattle.bus_strings.specs.Limits.{horizon_limit};
 ghost use Rattle.bus_trace.specs.Traces.{IsTrace};
-ghost use Rattle.bus_command.specs.Outside.{outside};
 ghost use Rattle.bus_command.specs.Taken.{AreReady};
-ghost use Rattle.bus_tool.specs.Acts.{DoesForm, EndsOnCable};
-ghost use Rattle.bus_tool.specs.Forms as forms;
+ghost use Rattle.bus_tool.specs.Acts.{DoesBoth, EndsOnCable};
+ghost use Rattle.bus_tool.specs.Forms as form;
 ghost use Rattle.bus_tool.specs.Texts.{IsOnCable, on_cable_text};
 
 use crate::holds::holds;
@@ -69,8 +68,8 @@ fn observe_cable<K: Sink>(alloc: Global, horizon: u64, on: OnCable, out: &mut K)
     }
 }
 
-/// `cable`: writes what the senders of the table in the first source do on the cable in the second, up to a horizon, and behind it what each
-/// terminal hears.
+/// `cable`: writes what the senders of the table in the first source do on the cable in the second, up to a horizon, and behind it what
+/// each terminal hears.
 pub fn cable<S: Source, K: Sink>(
     alloc: Global,
     horizon: u64,
@@ -79,8 +78,7 @@ pub fn cable<S: Source, K: Sink>(
     out: &mut K,
 ) -> Outcome
     requires { horizon ≤ horizon_limit }
-    ensures { DoesForm (forms.Cable horizon) (outside ⟦<S as Source>⟧ ⟦<K as Sink>⟧ first.old second.old out.old)
-        (outside ⟦<S as Source>⟧ ⟦<K as Sink>⟧ first.new second.new out.new) result }
+    ensures { DoesBoth ⟦<S as Source>⟧ ⟦<K as Sink>⟧ (form.Cable horizon) first.old second.old out.old first.new second.new out.new result }
 {
     match take_on_cable(alloc, first, second) {
         Ok(on) => observe_cable(alloc, horizon, on, out),

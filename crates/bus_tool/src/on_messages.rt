@@ -1,8 +1,7 @@
 //! The commands on a table and messages.
 ghost use Rattle.std.specs.Prelude.{◌≡◌};
-ghost use Rattle.bus_command.specs.Outside.{outside};
 ghost use Rattle.bus_command.specs.Taken.{AreReady};
-ghost use Rattle.bus_tool.specs.Acts.{DoesForm, EndsOnMessages, IsOfMode};
+ghost use Rattle.bus_tool.specs.Acts.{DoesBoth, EndsOnMessages, IsOfMode};
 ghost use Rattle.bus_tool.specs.Forms.{OnMessages, messages_mode, IsWithinHorizon};
 
 use crate::dropout::dropout;
@@ -39,8 +38,7 @@ pub fn on_messages<S: Source, K: Sink>(
     out: &mut K,
 ) -> Outcome
     requires horizon { IsWithinHorizon command }
-    ensures { DoesForm (OnMessages command) (outside ⟦<S as Source>⟧ ⟦<K as Sink>⟧ first.old second.old out.old)
-        (outside ⟦<S as Source>⟧ ⟦<K as Sink>⟧ first.new second.new out.new) result }
+    ensures { DoesBoth ⟦<S as Source>⟧ ⟦<K as Sink>⟧ (OnMessages command) first.old second.old out.old first.new second.new out.new result }
 {
     match take_dealt(alloc, command.mode(), first, second) {
         Ok(dealt) => answer(alloc, command, dealt, out),

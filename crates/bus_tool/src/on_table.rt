@@ -1,7 +1,6 @@
 //! The commands on a table.
 ghost use Rattle.std.specs.Prelude.{◌≡◌};
-ghost use Rattle.bus_command.specs.Outside.{Seen, beside};
-ghost use Rattle.bus_tool.specs.Acts.{DoesForm, EndsOnTable, IsOfMode};
+ghost use Rattle.bus_tool.specs.Acts.{DoesFirst, EndsOnTable, IsOfMode};
 ghost use Rattle.bus_tool.specs.Forms.{OnTable, table_mode};
 
 use crate::check::check;
@@ -39,8 +38,7 @@ pub fn on_table<S: Source, K: Sink>(
     first: &mut S,
     out: &mut K,
 ) -> Outcome
-    ensures { (second : Seen) → DoesForm (OnTable command) (beside ⟦<S as Source>⟧ ⟦<K as Sink>⟧ first.old second out.old)
-        (beside ⟦<S as Source>⟧ ⟦<K as Sink>⟧ first.new second out.new) result }
+    ensures { DoesFirst ⟦<S as Source>⟧ ⟦<K as Sink>⟧ (OnTable command) first.old out.old first.new out.new result }
 {
     match take_table_for(alloc, command.mode(), first) {
         Ok(table) => answer(alloc, command, &table, out),

@@ -1,7 +1,6 @@
 //! The commands on a table and a trace.
 ghost use Rattle.std.specs.Prelude.{◌≡◌};
-ghost use Rattle.bus_command.specs.Outside.{outside};
-ghost use Rattle.bus_tool.specs.Acts.{DoesForm, EndsOnTrace};
+ghost use Rattle.bus_tool.specs.Acts.{DoesBoth, EndsOnTrace};
 ghost use Rattle.bus_tool.specs.Forms.{OnTrace};
 ghost use Rattle.bus_trace.specs.Traces.{IsTrace};
 
@@ -47,8 +46,7 @@ pub fn on_trace<S: Source, K: Sink>(
     second: &mut S,
     out: &mut K,
 ) -> Outcome
-    ensures { DoesForm (OnTrace command) (outside ⟦<S as Source>⟧ ⟦<K as Sink>⟧ first.old second.old out.old)
-        (outside ⟦<S as Source>⟧ ⟦<K as Sink>⟧ first.new second.new out.new) result }
+    ensures { DoesBoth ⟦<S as Source>⟧ ⟦<K as Sink>⟧ (OnTrace command) first.old second.old out.old first.new second.new out.new result }
 {
     match take_traced::<ToolRefusal, S>(alloc, first, second) {
         Ok(Traced { table, trace }) => answer(alloc, command, &table, &trace, out),

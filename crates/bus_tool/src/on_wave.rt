@@ -1,6 +1,5 @@
 //! The command on a table and a wave.
-ghost use Rattle.bus_command.specs.Outside.{outside};
-ghost use Rattle.bus_tool.specs.Acts.{DoesForm};
+ghost use Rattle.bus_tool.specs.Acts.{DoesBoth};
 ghost use Rattle.bus_tool.specs.Forms.{Unwave};
 
 use crate::inputs::take_unwaved;
@@ -17,8 +16,7 @@ pub fn unwave<S: Source, K: Sink>(
     second: &mut S,
     out: &mut K,
 ) -> Outcome
-    ensures { DoesForm Unwave (outside ⟦<S as Source>⟧ ⟦<K as Sink>⟧ first.old second.old out.old)
-        (outside ⟦<S as Source>⟧ ⟦<K as Sink>⟧ first.new second.new out.new) result }
+    ensures { DoesBoth ⟦<S as Source>⟧ ⟦<K as Sink>⟧ Unwave first.old second.old out.old first.new second.new out.new result }
 {
     match take_unwaved(alloc, first, second) {
         Ok(traced) => after_writing(write_trace(&traced.trace, out), Outcome::Done),

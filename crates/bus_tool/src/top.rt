@@ -4,10 +4,11 @@ ghost use Rattle.bus_tool.specs.Acts.{Comes};
 ghost use Rattle.bus_tool.specs.Promises.{Promises};
 
 use crate::command::act;
-use bus_advice::laws::advices_work;
+use bus_advice::laws::{advices_work, none_missing};
 use bus_audit::laws::{no_breach_is_right, one_answer};
 use bus_cable::laws::texts_read_as_their_cables;
 use bus_command::{Status, outcome_text};
+use bus_explain::laws::{spare_is_fall, spare_is_rise};
 use bus_medium::laws::{one_cable_list, one_lawful_list};
 use bus_orderly::laws::borne_is_orderly;
 use bus_outer::{Sink, Source};
@@ -69,6 +70,9 @@ pub fn tool<S: Source, K: Sink, E: Sink>(
     accepted_bear_zero();
     any_start_settles();
     advices_work();
+    none_missing();
+    spare_is_rise();
+    spare_is_fall();
     texts_read_as_their_cables();
     one_cable_list();
     borne_is_orderly();

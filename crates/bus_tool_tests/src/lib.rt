@@ -16,6 +16,8 @@ mod hostile;
 #[cfg(test)]
 mod in_memory;
 #[cfg(test)]
+mod itself;
+#[cfg(test)]
 mod observe;
 #[cfg(test)]
 mod plan;

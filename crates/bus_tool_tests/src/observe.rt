@@ -5,8 +5,18 @@ use bus_tool::Status;
 use std::test::Fail;
 
 /// Two senders with a long synchronization gap and short messages, and a listener.
-pub(crate) const LONG_GAP: &str =
-    "TABLE 1\nMODE aperiodic\nTI 1000\nSG 1000\nSENDER 1 TG 20\nSEND 0A1 1 2 2\nSENDER 2 TG 30\nSEND 0B2 1 0 2\nTAKE 0A1 * 1 4\nLISTENER 3\nTAKE 0B2 1 0 2\n";
+pub(crate) const LONG_GAP: &str = "TABLE 1
+MODE aperiodic
+TI 1000
+SG 1000
+SENDER 1 TG 20
+SEND 0A1 1 2 2
+SENDER 2 TG 30
+SEND 0B2 1 0 2
+TAKE 0A1 * 1 4
+LISTENER 3
+TAKE 0B2 1 0 2
+";
 
 pub(crate) const ONE_EACH: &str = "MESSAGES 1\nMSG 1 : 0000 0001\nMSG 2 : 00FF\n";
 

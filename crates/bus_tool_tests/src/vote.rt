@@ -3,8 +3,17 @@ use crate::calls::{run_on, run_over, sink_of, source, writes};
 use bus_tool::Status;
 use std::test::Fail;
 
-const THREE_CHANNELS: &str =
-    "TABLE 1\nMODE aperiodic\nTI 1000\nSG 1000\nSENDER 1 TG 10\nSEND 0E1 1 1 3\nSENDER 2 TG 20\nSEND 0E1 2 1 3\nSENDER 3 TG 30\nSEND 0E1 3 1 3\n";
+const THREE_CHANNELS: &str = "TABLE 1
+MODE aperiodic
+TI 1000
+SG 1000
+SENDER 1 TG 10
+SEND 0E1 1 1 3
+SENDER 2 TG 20
+SEND 0E1 2 1 3
+SENDER 3 TG 30
+SEND 0E1 3 1 3
+";
 
 const TWO_ROUNDS: &str =
     "MESSAGES 1\nMSG 1 : 0001 0002\nMSG 2 : 0001 0002\nMSG 3 : 0001 0009 0003\nMSG 1 : 0005\nMSG 2 : 0006\nMSG 3 : 0007\n";

@@ -1,7 +1,6 @@
-use Rattle.std.proofs.Common.{refl, sym, ap, ◌∙◌, subst}
-use Rattle.bus_command.specs.Acts.{written}
-use Rattle.bus_command.specs.Readers.{Trace, entire, no_source, one_source, two_sources}
-use Rattle.bus_command.proofs.DoLaws.{answered, roomless, failed, refused, stopped, ended, sourceless}
+use Rattle.std.proofs.Common.{refl, sym, subst}
+use Rattle.bus_command.specs.Readers.{entire, two_sources}
+use Rattle.bus_command.proofs.DoLaws.{answered, failed}
 use Rattle.bus_command.specs.Acts.{Ends}
 use Rattle.bus_command.specs.Due.{outcome_with}
 use Rattle.bus_command.specs.Outside.{sink_seen}

@@ -3,7 +3,7 @@ use Rattle.std.specs.List.{AllByRecursion}
 use Rattle.bus_dropout.specs.DropOut.{drop_end}
 use Rattle.bus_strings.specs.Transmissions.{IsTransmission}
 use Rattle.bus_tool.specs.Due.{may_drop}
-use Rattle.bus_tool.specs.Texts.{holds_of}
+use Rattle.bus_wave.specs.Counted.{hand_holds}
 use Rattle.bus_tool.proofs.DropLemmas.{drop_is_trace, drop_gives}
 use Rattle.bus_tool.proofs.dropout.record.Goals as goal
 
@@ -15,7 +15,7 @@ of-requires c = (drop_is_trace c.args.table.now c.args.hands.items c.drop_end-en
     (c.drop_end-end.ensures.value ∙ ap (drop_end c.args.table.now) c.deref-2.ensures.value)
     c.in-Ok.ensures.limit.within
     c.requires.ready.few
-    (c.in_ok-holds.ensures ∙ ap holds_of c.deref-3.ensures.value)
+    (c.in_ok-holds.ensures ∙ ap hand_holds c.deref-3.ensures.value)
     c.in-Ok.ensures.run
     (subst (AllByRecursion IsTransmission) c.deref-in-Ok.ensures.value c.look_at.ensures))
 
@@ -24,6 +24,6 @@ returns-in-Ok-clause-gives c = drop_gives c.args.table.now c.args.hands.items c.
     (sym (ap (may_drop c.args.table.now) c.deref.ensures.value) ∙ sym c.in_ok-may_drop.ensures.value)
     c.in-Ok.ensures.limit.within
     (c.drop_end-end.ensures.value ∙ ap (drop_end c.args.table.now) c.deref-2.ensures.value)
-    (c.in_ok-holds.ensures ∙ ap holds_of c.deref-3.ensures.value)
+    (c.in_ok-holds.ensures ∙ ap hand_holds c.deref-3.ensures.value)
     c.in-Ok.ensures.run
     c.of.ensures

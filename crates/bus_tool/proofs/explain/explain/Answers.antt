@@ -1,4 +1,4 @@
-use Rattle.std.proofs.Common.{refl, sym, subst}
+use Rattle.std.proofs.Common.{sym}
 use Rattle.bus_command.proofs.DoLaws.{stopped, ended}
 use Rattle.bus_command.proofs.PrepareLaws.{prepares_one}
 use Rattle.bus_command.specs.Due.{text_due}

@@ -1,9 +1,8 @@
-use Rattle.std.proofs.Common.{◌≡◌, refl, ap, sym, subst}
+use Rattle.std.proofs.Common.{◌≡◌, refl, ap}
 use Rattle.bus_command.specs.declared.outcome.Outcome.TheVariants.{Done}
 use Rattle.bus_command.specs.Readers.{entire, one_source}
 use Rattle.bus_command.proofs.DoLaws.{answered}
 use Rattle.bus_explain.specs.Accepted.{accepted_text}
-use Rattle.bus_regime.specs.declared.table_verdict.TableVerdict.{TableVerdict}
 use Rattle.bus_regime.specs.Verdicts.{is_accepted}
 use Rattle.bus_tool.specs.Tolerances.{tolerance_of}
 use Rattle.bus_tool.proofs.explain.explain_accepted.Goals as goal

@@ -1,4 +1,4 @@
-use Rattle.std.proofs.Common.{◌≡◌, arith, refl, sym, ap, ◌∙◌, subst}
+use Rattle.std.proofs.Common.{◌≡◌, arith, refl, subst}
 use Rattle.std.specs.Prelude.{Err}
 use Rattle.bus_command.specs.declared.outcome.Outcome.TheVariants.{Answered}
 use Rattle.bus_command.specs.Readers.{entire, one_source}
@@ -7,7 +7,7 @@ use Rattle.bus_explain.specs.Wholes.{whole_text}
 use Rattle.bus_table.specs.Gives.{Fails}
 use Rattle.bus_table.specs.Reading.{answer_of}
 use Rattle.bus_table.specs.declared.error.TableError.{TableError}
-use Rattle.bus_table.specs.declared.error.TableError.TheVariants.{Text, Whole, Memory}
+use Rattle.bus_table.specs.declared.error.TableError.TheVariants.{Text, Whole}
 use Rattle.bus_tool.specs.Due.{explain_answer}
 use Rattle.bus_tool.proofs.ExplainLemmas.{answer_ends, explain_late}
 use Rattle.bus_tool.proofs.explain.explain_error.Goals as goal

@@ -1,6 +1,5 @@
-use Rattle.std.proofs.Common.{◌≡◌, List, arith, refl, ap, ◌∙◌}
+use Rattle.std.proofs.Common.{◌≡◌, arith, refl, ap, ◌∙◌}
 use Rattle.bus_advice.specs.Advices.{advices_of}
-use Rattle.bus_advice.specs.declared.advice.Advice.{Advice}
 use Rattle.bus_command.specs.declared.outcome.Outcome.TheVariants.{Answered}
 use Rattle.bus_command.specs.Readers.{entire, one_source}
 use Rattle.bus_command.proofs.DoLaws.{answered, roomless}

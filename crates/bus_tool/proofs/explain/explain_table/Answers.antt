@@ -6,6 +6,12 @@ use Rattle.bus_tool.proofs.explain.explain_table.Goals as goal
 pub explain_accepted-requires : goal.explain_accepted-requires
 explain_accepted-requires g c = (_, sym c.verdict-verdict.ensures ∙ c.in-Accept.is)
 
+pub explain_refused-requires-clause-own : goal.explain_refused-requires-clause-own
+explain_refused-requires-clause-own g c = c.verdict-verdict.ensures
+
+pub explain_refused-requires-clause-refused : goal.explain_refused-requires-clause-refused
+explain_refused-requires-clause-refused g c = ap is_accepted c.in-ShortCycle.is
+
 pub returns-in-Accept : goal.returns-in-Accept
 returns-in-Accept g c =
     table_ends g.K.Sink c.args.table.now _ c.args.out.now c.explain_accepted.new.out c.explain_accepted.result (sym c.in-Accept.is ∙ c.verdict-verdict.ensures)

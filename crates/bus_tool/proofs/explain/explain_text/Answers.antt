@@ -1,6 +1,4 @@
-use Rattle.std.proofs.Common.{sym, subst, ◌≡◌}
 use Rattle.std.specs.Prelude.{Ok}
-use Rattle.bus_table.specs.Gives.{Fails}
 use Rattle.bus_tool.proofs.ExplainLemmas.{answer_ends}
 use Rattle.bus_tool.proofs.explain.explain_text.Goals as goal
 

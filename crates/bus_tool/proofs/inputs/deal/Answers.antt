@@ -1,6 +1,6 @@
 use Rattle.std.proofs.Common.{sym, subst, refl}
 use Rattle.bus_command.proofs.FewHands.{AreFew, hands_few}
-use Rattle.bus_tool.proofs.CableLemmas.{dealt_gives, unfit_gives}
+use Rattle.bus_tool.proofs.CableLemmas.{dealt_gives}
 use Rattle.bus_tool.proofs.inputs.deal.Goals as goal
 
 pub returns-in_ok-hands-in-Ok-clause-gives : goal.returns-in_ok-hands-in-Ok-clause-gives

@@ -1,9 +1,4 @@
-use Rattle.std.proofs.Common.{Err, refl, sym, ap, subst}
-use Rattle.std.proofs.lemmas.Result.{err_from_is_err_and}
-use Rattle.bus_command.specs.Steps.{Same, Takes}
-use Rattle.bus_tool.specs.Due.{wave_trace_due}
-use Rattle.bus_tool.specs.Forms.{entire_wave}
-use Rattle.bus_tool.proofs.WaveLemmas.{wave_none, wave_taken, wave_refused}
+use Rattle.bus_tool.proofs.WaveLemmas.{wave_none, wave_taken}
 use Rattle.bus_tool.proofs.inputs.take_wave.Goals as goal
 
 pub returns-in_err-text : goal.returns-in_err-text

@@ -1,7 +1,6 @@
-use Rattle.std.proofs.Common.{refl, sym, ap, ◌∙◌, subst}
-use Rattle.bus_command.specs.Acts.{written}
-use Rattle.bus_command.specs.Readers.{Trace, entire, no_source, one_source, two_sources}
-use Rattle.bus_command.proofs.DoLaws.{answered, roomless, failed, refused, stopped, ended, sourceless}
+use Rattle.std.proofs.Common.{refl}
+use Rattle.bus_command.specs.Readers.{entire, two_sources}
+use Rattle.bus_command.proofs.DoLaws.{answered, roomless}
 use Rattle.std.proofs.Common.{arith}
 use Rattle.bus_trace.specs.Traces.{trace_text}
 use Rattle.bus_command.specs.declared.outcome.Outcome.TheVariants.{Done}

@@ -1,4 +1,4 @@
-use Rattle.std.proofs.Common.{refl, sym, subst}
+use Rattle.std.proofs.Common.{subst}
 use Rattle.bus_command.proofs.DoLaws.{stopped, ended}
 use Rattle.bus_command.specs.Readers.{entire, two_sources}
 use Rattle.bus_command.specs.Taken.{AreInputs}

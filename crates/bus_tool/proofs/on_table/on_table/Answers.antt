@@ -1,7 +1,5 @@
-use Rattle.std.proofs.Common.{refl, sym, subst}
 use Rattle.bus_command.proofs.DoLaws.{stopped, ended}
 use Rattle.bus_command.proofs.PrepareLaws.{prepares_one}
-use Rattle.bus_command.specs.Outside.{sink_seen}
 use Rattle.bus_command.specs.Readers.{entire, one_source}
 use Rattle.bus_command.specs.Steps.{Same}
 use Rattle.bus_tool.specs.Due.{refusal_for, table_for, table_answer}

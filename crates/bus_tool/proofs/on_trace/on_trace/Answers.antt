@@ -1,4 +1,3 @@
-use Rattle.std.proofs.Common.{refl, sym, subst}
 use Rattle.bus_command.proofs.DoLaws.{stopped, ended}
 use Rattle.bus_command.specs.Readers.{Trace, entire, two_sources}
 use Rattle.bus_command.specs.Steps.{Same}

@@ -1,4 +1,4 @@
-use Rattle.std.proofs.Common.{arith, refl, sym, ap, subst}
+use Rattle.std.proofs.Common.{arith, refl}
 use Rattle.bus_command.proofs.DoLaws.{stopped, ended, answered}
 use Rattle.bus_command.specs.Readers.{entire, two_sources}
 use Rattle.bus_command.specs.Steps.{Same}

@@ -1,7 +1,7 @@
-use Rattle.std.proofs.Common.{refl, sym, ap, ◌∙◌, subst}
+use Rattle.std.proofs.Common.{ap, ◌∙◌}
 use Rattle.bus_command.specs.Acts.{written}
-use Rattle.bus_command.specs.Readers.{Trace, entire, no_source, one_source, two_sources}
-use Rattle.bus_command.proofs.DoLaws.{answered, roomless, failed, refused, stopped, ended, sourceless}
+use Rattle.bus_command.specs.Readers.{entire, one_source}
+use Rattle.bus_command.proofs.DoLaws.{answered, roomless}
 use Rattle.std.proofs.Common.{arith}
 use Rattle.bus_regime.specs.Verdicts.{verdict_of}
 use Rattle.bus_tool.specs.Due.{verdict_outcome}

@@ -1,7 +1,7 @@
 use Rattle.std.proofs.Common.{sym, ap, ◌∙◌, subst}
 use Rattle.std.specs.List.{AllByRecursion}
 use Rattle.bus_tool.specs.Due.{may_run}
-use Rattle.bus_tool.specs.Texts.{holds_of}
+use Rattle.bus_wave.specs.Counted.{hand_holds}
 use Rattle.bus_strings.specs.Transmissions.{IsTransmission}
 use Rattle.bus_tool.proofs.RunLemmas.{run_is_trace, run_gives}
 use Rattle.bus_tool.proofs.run.record.Goals as goal
@@ -11,7 +11,7 @@ of-requires c = (run_is_trace c.args.table.now c.args.hands.items c.in-Ok.field-
     c.in-Ok.ensures.end
     c.in-Ok.ensures.limit.within
     c.requires.ready.few
-    (c.in_ok-holds.ensures ∙ ap holds_of c.deref-2.ensures.value)
+    (c.in_ok-holds.ensures ∙ ap hand_holds c.deref-2.ensures.value)
     c.in-Ok.ensures.run
     (subst (AllByRecursion IsTransmission) c.deref-in-Ok.ensures.value c.look_at.ensures))
 
@@ -20,6 +20,6 @@ returns-in-Ok-clause-gives c = run_gives c.args.table.now c.args.hands.items c.i
     (sym (ap (may_run c.args.table.now) c.deref.ensures.value) ∙ sym c.in_ok-may_run.ensures.value)
     c.in-Ok.ensures.limit.within
     c.in-Ok.ensures.end
-    (c.in_ok-holds.ensures ∙ ap holds_of c.deref-2.ensures.value)
+    (c.in_ok-holds.ensures ∙ ap hand_holds c.deref-2.ensures.value)
     c.in-Ok.ensures.run
     c.of.ensures

@@ -1,7 +1,5 @@
 use Rattle.bus_tool.proofs.KeptPromises.{keeps}
 use Rattle.bus_tool.proofs.GroupClaims.{ReadLaws}
-use Rattle.bus_tool.specs.Promises.{Promises}
-use Rattle.std.proofs.Common.{sym, subst}
 use Rattle.bus_tool.proofs.top.tool.Goals as goal
 
 pub returns-clause-keeps : goal.returns-clause-keeps
@@ -33,7 +31,6 @@ returns-clause-keeps g c =
       give_hands = c.fitting_items_give_hands.ensures;
       one_list = c.one_lawful_list.ensures.table;
       even_agree = c.even_hands_agree.ensures;
-      works = c.advices_work.ensures;
       cables = record {
         table_again = c.text_reads_as_its_table.ensures;
         texts = record {
@@ -51,12 +48,18 @@ returns-clause-keeps g c =
       written = c.two_fix_the_vote.ensures.written;
       two = c.two_fix_the_vote.ensures.rounds;
       voted = c.runs_are_voted.ensures;
-      reach = record {
-        closed = c.borne_is_closed.ensures;
-        offsets = c.periodic_borne_is_closed.ensures;
-        exact = c.tolerance_is_exact.ensures.fails;
-        breaks = c.periodic_bearing_is_exact.ensures.breaks;
-        zero_borne = c.accepted_bear_zero.ensures.zero;
-        settles = c.any_start_settles.ensures.settles;
+      explained = record {
+        works = c.advices_work.ensures;
+        whole = c.none_missing.ensures;
+        rise = c.spare_is_rise.ensures;
+        fall = c.spare_is_fall.ensures;
+        reach = record {
+          closed = c.borne_is_closed.ensures;
+          offsets = c.periodic_borne_is_closed.ensures;
+          exact = c.tolerance_is_exact.ensures.fails;
+          breaks = c.periodic_bearing_is_exact.ensures.breaks;
+          zero_borne = c.accepted_bear_zero.ensures.zero;
+          settles = c.any_start_settles.ensures.settles;
+        };
       };
     }) _ c.act-outcome.result c.act-outcome.ensures)

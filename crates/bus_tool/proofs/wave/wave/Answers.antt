@@ -1,4 +1,4 @@
-use Rattle.std.proofs.Common.{◌≡◌, refl, sym, ap, ◌∙◌, subst}
+use Rattle.std.proofs.Common.{◌≡◌, refl, sym, subst}
 use Rattle.bus_command.specs.Acts.{Ends}
 use Rattle.bus_command.specs.Outside.{sink_seen}
 use Rattle.bus_command.specs.Readers.{Trace, entire, two_sources}

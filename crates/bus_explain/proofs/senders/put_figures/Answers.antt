@@ -1,5 +1,5 @@
 use Rattle.bus_outer.proofs.TextLaws.{◌▸◌}
-use Rattle.bus_explain.proofs.accepted.put_figures.Goals as goal
+use Rattle.bus_explain.proofs.senders.put_figures.Goals as goal
 
 pub returns : goal.returns
 returns g c =
