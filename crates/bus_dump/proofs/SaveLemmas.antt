@@ -1,8 +1,10 @@
 -- Each signal of each dump is shown by the save file.
-use Rattle.std.proofs.Common.{◌≡◌, ◌⊎◌, ℕ, codes, ◌+◌, ◌<◌, length, take, drop, get_or, Bool, true, false, not, ◌&&◌, cond, List, [], ◌∷◌, ◌++◌, inl, inr, sym, refl, ap, ◌∙◌, subst, append_assoc, append-nil}
+use Rattle.std.proofs.Common.{◌≡◌, ◌⊎◌, ℕ, codes, decimal, Option, ◌+◌, ◌-◌, ◌*◌, ◌^◌, ◌<◌, ◌≤◌, arith, length, take, drop, get_or, Bool, true, false, not, ◌&&◌, cond, List, [], ◌∷◌, ◌++◌, inl, inr, sym, refl, ap, ◌∙◌, subst, append_assoc, append-nil}
 use Rattle.std.specs.List.{flat_map}
 use Rattle.std.proofs.lemmas.List.{take_more}
 use Rattle.std.proofs.lemmas.List.Concat.{flat_map-append}
+use Rattle.std.specs.Int.Count.{count_leading_zeros}
+use Rattle.std.proofs.lemmas.Nat.{leading_length}
 use Rattle.bus_strings.specs.Members.{In}
 use Rattle.bus_strings.proofs.MemberLaws.{from_filter, in_append_cases}
 use Rattle.bus_strings.specs.Messages.{Entry}
@@ -12,8 +14,8 @@ use Rattle.bus_dump.specs.declared.dump.Dump.TheVariants.{Vcd, Wires, Timers}
 use Rattle.bus_dump.specs.declared.lane.Lane.{Lane}
 use Rattle.bus_dump.specs.DumpTexts.{bits_text, name_text}
 use Rattle.bus_dump.specs.Lanes.{lanes}
-use Rattle.bus_dump.specs.Laws.{AllAreShown, EndsLine, Shows}
-use Rattle.bus_dump.specs.SaveFiles.{as_decimal, as_hexadecimal, as_wires, bus_shown, heading, lane_title, marked, label_shown, lane_shown, messages_shown, save_text, shown, timers_shown}
+use Rattle.bus_dump.specs.Laws.{AllAreShown, EndsLine, OpensOnAll, Shows}
+use Rattle.bus_dump.specs.SaveFiles.{all_shown, are_folded, as_decimal, as_hexadecimal, as_wires, bus_shown, group_begin, group_end, group_mark, heading, label_shown, labels_shown, lane_shown, lane_title, marked, marker_text, messages_shown, nanoseconds, opening, save_text, shown, timers_shown, zoom}
 use Rattle.bus_dump.specs.Signals.{Signal, Carrier, Overlap, Sync, Word, Pulse, Garbled, Label, Message, Interval, Synchronization, Gap, May}
 use Rattle.bus_dump.specs.Signals.{bus_signals, has, is_timer, is_wire, lane_signals, signals_of}
 
@@ -31,6 +33,16 @@ shown_ends s = inr (codes "bus." ++ name_text s ++ drop 1 (bits_text s), refl)
 
 heading_ends : (name : List ℕ) → EndsLine (heading name)
 heading_ends name = inr (codes "@200\n-" ++ name, refl)
+
+group_begin_ends : (folded : Bool) (name : List ℕ) → EndsLine (group_begin folded name)
+group_begin_ends folded name = inr (group_mark folded ++ name, refl)
+
+group_end_ends : (folded : Bool) → EndsLine (group_end folded)
+group_end_ends true = inr (codes "@1401200\n-group_end", refl)
+group_end_ends false = inr (codes "@1000200\n-group_end", refl)
+
+opening_ends : (horizon : ℕ) (breach : Option ℕ) → EndsLine (opening horizon breach)
+opening_ends horizon breach = inr (codes "*-" ++ decimal (zoom horizon) ++ codes " " ++ marker_text breach, refl)
 
 wires_ends : EndsLine as_wires
 wires_ends = inr (codes "@28", refl)
@@ -165,19 +177,25 @@ timers2_ends t = and_shown (timers1 t) (Synchronization t) (timers1_ends t)
 timers3_ends : (t : ℕ) → EndsLine (timers3 t)
 timers3_ends t = and_marked (timers2 t ++ shown (Gap t)) (and_shown (timers2 t) (Gap t) (timers2_ends t))
 
-front_ends : (table : Table) (lane : Lane) → EndsLine (heading (lane_title table lane.terminal) ++ messages_shown lane.terminal)
-front_ends table lane =
-    ends_join (heading (lane_title table lane.terminal)) (messages_shown lane.terminal) (heading_ends (lane_title table lane.terminal))
+-- what stands before the timers of a lane
+abbrev lane_front : Bool → Table → Lane → List ℕ
+lane_front folded table lane = group_begin folded (lane_title table lane.terminal) ++ messages_shown lane.terminal
+
+front_ends : (folded : Bool) (table : Table) (lane : Lane) → EndsLine (lane_front folded table lane)
+front_ends folded table lane =
+    ends_join (group_begin folded (lane_title table lane.terminal)) (messages_shown lane.terminal)
+    (group_begin_ends folded (lane_title table lane.terminal))
     (and_shown (messages2 lane.terminal) (Message lane.terminal) (messages2_ends lane.terminal))
 
-lane_ends : (table : Table) (lane : Lane) → EndsLine (lane_shown table lane)
-lane_ends table lane =
-    let front : List ℕ = heading (lane_title table lane.terminal) ++ messages_shown lane.terminal in
-    elim (lane.sender) as (λ b. EndsLine (front ++ cond b (timers_shown lane.terminal) [])) [
-      | true ↦ ends_join front (timers_shown lane.terminal) (front_ends table lane)
+lane_ends : (folded : Bool) (table : Table) (lane : Lane) → EndsLine (lane_shown folded table lane)
+lane_ends folded table lane =
+    let front : List ℕ = lane_front folded table lane in
+    ends_join (front ++ cond lane.sender (timers_shown lane.terminal) []) (group_end folded)
+    (elim (lane.sender) as (λ b. EndsLine (front ++ cond b (timers_shown lane.terminal) [])) [
+      | true ↦ ends_join front (timers_shown lane.terminal) (front_ends folded table lane)
           (and_shown (timers3 lane.terminal) (May lane.terminal) (timers3_ends lane.terminal))
-      | false ↦ ends_join front [] (front_ends table lane) (inl refl)
-    ]
+      | false ↦ ends_join front [] (front_ends folded table lane) (inl refl)
+    ]) (group_end_ends folded)
 
 -- only a sender has timers
 sends : (dump : Dump) (sender : Bool) (s : Signal) → is_timer s ≡ true → has dump sender s ≡ true → sender ≡ true
@@ -189,32 +207,34 @@ sends Wires sender s timer h = absurd (let e : false ≡ true = sym (no_wire (is
 sends Timers true s timer h = refl
 sends Timers false s timer h = absurd (let e : false ≡ true = ap not (sym timer) ∙ h in cc)
 
-timers_of : (table : Table) (lane : Lane) (s : Signal) → lane.sender ≡ true → Shows s (timers_shown lane.terminal) → Shows s (lane_shown table lane)
-timers_of table lane s sender h =
-    behind (heading (lane_title table lane.terminal) ++ messages_shown lane.terminal) (front_ends table lane)
-    (subst (λ b. Shows s (cond b (timers_shown lane.terminal) [])) (sym sender) h)
+timers_of : (folded : Bool) (table : Table) (lane : Lane) (s : Signal) → lane.sender ≡ true → Shows s (timers_shown lane.terminal)
+    → Shows s (lane_shown folded table lane)
+timers_of folded table lane s sender h =
+    before (group_end folded) (behind (lane_front folded table lane) (front_ends folded table lane)
+    (subst (λ b. Shows s (cond b (timers_shown lane.terminal) [])) (sym sender) h))
 
 -- a text of both parts
-abbrev Parts : Table → List Entry → Signal → Lane → Type 0
-Parts table list s lane = Shows s (label_shown lane) ⊎ Shows s (lane_shown table lane)
+abbrev Parts : Bool → Table → Signal → Lane → Type 0
+Parts folded table s lane = Shows s (label_shown lane) ⊎ Shows s (lane_shown folded table lane)
 
-of_lane : (dump : Dump) (table : Table) (list : List Entry) (s : Signal) (lane : Lane) → In s (lane_signals dump lane) → Parts table list s lane
-of_lane dump table list s lane i =
+of_lane : (dump : Dump) (folded : Bool) (table : Table) (s : Signal) (lane : Lane) → In s (lane_signals dump lane) → Parts folded table s lane
+of_lane dump folded table s lane i =
     (let found = from_filter (has dump lane.sender) (signals_of lane.terminal) s i in by found.0 found.1) where
       t : ℕ
       t = lane.terminal
 
-      timer : (z : Signal) → s ≡ z → is_timer z ≡ true → has dump lane.sender s ≡ true → Shows z (timers_shown t) → Parts table list s lane
+      timer : (z : Signal) → s ≡ z → is_timer z ≡ true → has dump lane.sender s ≡ true → Shows z (timers_shown t) → Parts folded table s lane
       timer z is one h shows =
-          inr (subst (λ y. Shows y (lane_shown table lane)) (sym is)
-          (timers_of table lane z (sends dump lane.sender z one (subst (λ y. has dump lane.sender y ≡ true) is h)) shows))
+          inr (subst (λ y. Shows y (lane_shown folded table lane)) (sym is)
+          (timers_of folded table lane z (sends dump lane.sender z one (subst (λ y. has dump lane.sender y ≡ true) is h)) shows))
 
-      message : (z : Signal) → s ≡ z → Shows z (messages_shown t) → Parts table list s lane
+      message : (z : Signal) → s ≡ z → Shows z (messages_shown t) → Parts folded table s lane
       message z is shows =
-          inr (subst (λ y. Shows y (lane_shown table lane)) (sym is)
-          (before (cond lane.sender (timers_shown t) []) (behind (heading (lane_title table t)) (heading_ends (lane_title table t)) shows)))
+          inr (subst (λ y. Shows y (lane_shown folded table lane)) (sym is)
+          (before (group_end folded) (before (cond lane.sender (timers_shown t) [])
+          (behind (group_begin folded (lane_title table t)) (group_begin_ends folded (lane_title table t)) shows))))
 
-      by : In s (signals_of t) → has dump lane.sender s ≡ true → Parts table list s lane
+      by : In s (signals_of t) → has dump lane.sender s ≡ true → Parts folded table s lane
       by (inl is) h = message (Pulse t) is
           (before (shown (Message t)) (before as_decimal (before (shown (Garbled t)) (before marked (behind as_wires wires_ends (itself (Pulse t)))))))
       by (inr (inl is)) h = message (Garbled t) is (before (shown (Message t)) (before as_decimal (behind (messages1 t) (messages1_ends t) (itself (Garbled t)))))
@@ -230,54 +250,71 @@ of_lane dump table list s lane i =
       by (inr (inr (inr (inr (inr (inr (inr (inr none)))))))) h = absurd none
 
 -- a lane more, of which the first or a later one shows the signal
-shown_first : (table : Table) (s : Signal) (l : Lane) (ls : List Lane) → Shows s (label_shown l) ⊎ Shows s (lane_shown table l)
-    → Shows s (flat_map label_shown (l ∷ ls)) ⊎ Shows s (flat_map (lane_shown table) (l ∷ ls))
-shown_first table s l ls (inl h) = inl (before (flat_map label_shown ls) h)
-shown_first table s l ls (inr h) = inr (before (flat_map (lane_shown table) ls) h)
+shown_first : (folded : Bool) (table : Table) (s : Signal) (l : Lane) (ls : List Lane)
+    → Shows s (label_shown l) ⊎ Shows s (lane_shown folded table l)
+    → Shows s (flat_map label_shown (l ∷ ls)) ⊎ Shows s (flat_map (lane_shown folded table) (l ∷ ls))
+shown_first folded table s l ls (inl h) = inl (before (flat_map label_shown ls) h)
+shown_first folded table s l ls (inr h) = inr (before (flat_map (lane_shown folded table) ls) h)
 
-shown_later : (table : Table) (s : Signal) (l : Lane) (ls : List Lane)
-    → Shows s (flat_map label_shown ls) ⊎ Shows s (flat_map (lane_shown table) ls)
-    → Shows s (flat_map label_shown (l ∷ ls)) ⊎ Shows s (flat_map (lane_shown table) (l ∷ ls))
-shown_later table s l ls (inl h) = inl (behind (label_shown l) (shown_ends (Label l.terminal)) h)
-shown_later table s l ls (inr h) = inr (behind (lane_shown table l) (lane_ends table l) h)
+shown_later : (folded : Bool) (table : Table) (s : Signal) (l : Lane) (ls : List Lane)
+    → Shows s (flat_map label_shown ls) ⊎ Shows s (flat_map (lane_shown folded table) ls)
+    → Shows s (flat_map label_shown (l ∷ ls)) ⊎ Shows s (flat_map (lane_shown folded table) (l ∷ ls))
+shown_later folded table s l ls (inl h) = inl (behind (label_shown l) (shown_ends (Label l.terminal)) h)
+shown_later folded table s l ls (inr h) = inr (behind (lane_shown folded table l) (lane_ends folded table l) h)
 
-of_lanes : (dump : Dump) (table : Table) (list : List Entry) (s : Signal) (ls : List Lane) → In s (flat_map (lane_signals dump) ls)
-    → Shows s (flat_map label_shown ls) ⊎ Shows s (flat_map (lane_shown table) ls)
-of_lanes dump table list s [] i = absurd i
-of_lanes dump table list s (l ∷ ls) i = elim (in_append_cases (lane_signals dump l) (flat_map (lane_signals dump) ls) s i) [
-  | inl here ↦ shown_first table s l ls (of_lane dump table list s l here)
-  | inr later ↦ shown_later table s l ls (of_lanes dump table list s ls later)
+of_lanes : (dump : Dump) (folded : Bool) (table : Table) (s : Signal) (ls : List Lane) → In s (flat_map (lane_signals dump) ls)
+    → Shows s (flat_map label_shown ls) ⊎ Shows s (flat_map (lane_shown folded table) ls)
+of_lanes dump folded table s [] i = absurd i
+of_lanes dump folded table s (l ∷ ls) i = elim (in_append_cases (lane_signals dump l) (flat_map (lane_signals dump) ls) s i) [
+  | inl here ↦ shown_first folded table s l ls (of_lane dump folded table s l here)
+  | inr later ↦ shown_later folded table s l ls (of_lanes dump folded table s ls later)
 ]
 
 -- ---- the whole
-abbrev labels : List ℕ
-labels = heading (codes "labels") ++ as_hexadecimal
+bus_ends : EndsLine bus_shown
+bus_ends = and_shown bus4 Word bus4_ends
 
-labels_end : EndsLine (bus_shown ++ labels)
-labels_end =
-    ends_join bus_shown labels (and_shown bus4 Word bus4_ends)
-    (ends_join (heading (codes "labels")) as_hexadecimal (heading_ends (codes "labels")) hexadecimal_ends)
+-- what stands before the labels of the lanes, in their group
+abbrev labels_front : Bool → List ℕ
+labels_front folded = group_begin folded (codes "labels") ++ as_hexadecimal
 
-shown_of_bus : (table : Table) (list : List Entry) (s : Signal) → Shows s bus_shown → Shows s (save_text table list)
-shown_of_bus table list s h =
-    let ls = lanes table list in
-    before (flat_map (lane_shown table) ls) (before (flat_map label_shown ls) (before labels h))
+labels_front_ends : (folded : Bool) → EndsLine (labels_front folded)
+labels_front_ends folded =
+    ends_join (group_begin folded (codes "labels")) as_hexadecimal (group_begin_ends folded (codes "labels")) hexadecimal_ends
 
-shown_of_lanes : (table : Table) (list : List Entry) (s : Signal)
-    → Shows s (flat_map label_shown (lanes table list)) ⊎ Shows s (flat_map (lane_shown table) (lanes table list))
-    → Shows s (save_text table list)
-shown_of_lanes table list s (inl h) = before (flat_map (lane_shown table) (lanes table list)) (behind (bus_shown ++ labels) labels_end h)
-shown_of_lanes table list s (inr h) =
-    behind (bus_shown ++ labels ++ flat_map label_shown (lanes table list))
-    (ends_join (bus_shown ++ labels) (flat_map label_shown (lanes table list)) labels_end
-    (flat_map_ends label_shown (λ lane. shown_ends (Label lane.terminal)) (lanes table list)))
-    h
+labels_end : (folded : Bool) (ls : List Lane) → EndsLine (labels_shown folded ls)
+labels_end folded ls =
+    ends_join (labels_front folded ++ flat_map label_shown ls) (group_end folded)
+    (ends_join (labels_front folded) (flat_map label_shown ls) (labels_front_ends folded)
+    (flat_map_ends label_shown (λ lane. shown_ends (Label lane.terminal)) ls)) (group_end_ends folded)
+
+shown_of_bus : (table : Table) (ls : List Lane) (s : Signal) → Shows s bus_shown → Shows s (all_shown table ls)
+shown_of_bus table ls s h =
+    let folded = are_folded ls in
+    before (flat_map (lane_shown folded table) ls) (before (labels_shown folded ls) h)
+
+shown_of_lanes : (table : Table) (ls : List Lane) (s : Signal)
+    → Shows s (flat_map label_shown ls) ⊎ Shows s (flat_map (lane_shown (are_folded ls) table) ls) → Shows s (all_shown table ls)
+shown_of_lanes table ls s (inl h) =
+    let folded = are_folded ls in
+    before (flat_map (lane_shown folded table) ls) (behind bus_shown bus_ends
+    (before (group_end folded) (behind (labels_front folded) (labels_front_ends folded) h)))
+shown_of_lanes table ls s (inr h) =
+    let folded = are_folded ls in
+    behind (bus_shown ++ labels_shown folded ls) (ends_join bus_shown (labels_shown folded ls) bus_ends (labels_end folded ls)) h
 
 pub all_are_shown : AllAreShown
-all_are_shown dump table list s i =
-    let ls = lanes table list in
-    elim (in_append_cases (bus_signals dump) (flat_map (lane_signals dump) ls) s i) [
-      | inl bus ↦ shown_of_bus table list s
+all_are_shown dump table trace breach s i =
+    let ls = lanes table trace.list in
+    behind (opening trace.horizon breach) (opening_ends trace.horizon breach)
+    (elim (in_append_cases (bus_signals dump) (flat_map (lane_signals dump) ls) s i) [
+      | inl bus ↦ shown_of_bus table ls s
           (of_bus s (from_filter (has dump false) (Carrier ∷ (Overlap ∷ (Sync ∷ (Word ∷ [])))) s bus).0)
-      | inr lane ↦ shown_of_lanes table list s (of_lanes dump table list s ls lane)
-    ]
+      | inr lane ↦ shown_of_lanes table ls s (of_lanes dump (are_folded ls) table s ls lane)
+    ])
+
+pub opens_on_all : OpensOnAll
+opens_on_all horizon few =
+    let least = leading_length 64 (200 * horizon) (omega (arith, few)) in
+    let same : least.0 ≡ 64 - count_leading_zeros 64 (200 * horizon) = omega (arith, least.1) in
+    subst (λ z. 2 * nanoseconds horizon ≤ 5 * 2 ^ z) same (omega (arith, least.2))

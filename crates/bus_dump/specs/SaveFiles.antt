@@ -1,21 +1,57 @@
 -- The text of a save file of GTKWave: what the viewer shows of the dumps of a trace, in which order, and how.
-use Rattle.std.specs.Prelude.{ℕ, ◌==◌, List, [], ◌++◌, codes, decimal, drop, if◌then◌else◌}
+use Rattle.std.specs.Prelude.{ℕ, ◌-◌, ◌*◌, ◌==◌, Bool, nat_lt, List, [], ◌++◌, length, codes, decimal, drop, Option, if◌then◌else◌}
+use Rattle.std.specs.Int.{leading_zeros, w64}
 use Rattle.std.specs.List.{find, flat_map}
 use Rattle.std.specs.Option.{option_map_or}
 use Rattle.bus_strings.specs.Messages.{Entry}
 use Rattle.bus_table.specs.Tables.{Sender, Table}
 use Rattle.bus_table.specs.declared.mode.Mode.{Mode}
 use Rattle.bus_table.specs.declared.mode.Mode.TheVariants.{Aperiodic, Periodic}
+use Rattle.bus_trace.specs.Traces.{Recording}
 use Rattle.bus_dump.specs.declared.lane.Lane.{Lane}
 use Rattle.bus_dump.specs.DumpTexts.{bits_text, name_text}
 use Rattle.bus_dump.specs.Lanes.{lanes}
 use Rattle.bus_dump.specs.Signals.{Signal, Carrier, Overlap, Sync, Word, Pulse, Garbled, Label, Message, Interval, Synchronization, Gap}
 use Rattle.bus_dump.specs.Signals.{May}
 
+-- ---- how it opens
+-- The viewer's unit is the nanosecond.
+abbrev pub nanoseconds : ℕ → ℕ
+nanoseconds t = 500 * t
+
+-- How far it zooms out, as a power of two: a frame of the viewer, 200 pixels wide, has so many nanoseconds. It is the number of binary
+-- digits of two fifths of the horizon: 500 pixels show all of it.
+abbrev pub zoom : ℕ → ℕ
+zoom horizon = 64 - leading_zeros w64 (200 * horizon)
+
+-- The marker: at the moment of the first breach, and nowhere where there is none.
+abbrev pub marker_text : Option ℕ → List ℕ
+marker_text breach = option_map_or (λ t. decimal (nanoseconds t)) breach (codes "-1")
+
+-- The first line.
+abbrev pub opening : ℕ → Option ℕ → List ℕ
+opening horizon breach = codes "*-" ++ decimal (zoom horizon) ++ codes " " ++ marker_text breach ++ codes "\n"
+
 -- ---- lines
 -- A heading between signals.
 abbrev pub heading : List ℕ → List ℕ
 heading name = codes "@200\n-" ++ name ++ codes "\n"
+
+-- A group of signals begins, which the viewer folds and unfolds: at first it is folded, or it is open.
+abbrev pub group_mark : Bool → List ℕ
+group_mark folded = if folded then codes "@c00200\n-" else codes "@800200\n-"
+
+-- It has this name.
+abbrev pub group_begin : Bool → List ℕ → List ℕ
+group_begin folded name = group_mark folded ++ name ++ codes "\n"
+
+-- The group ends.
+abbrev pub group_end : Bool → List ℕ
+group_end folded = if folded then codes "@1401200\n-group_end\n" else codes "@1000200\n-group_end\n"
+
+-- The groups of so many lanes are folded at first where a window doesn't show them all open.
+abbrev pub are_folded : List Lane → Bool
+are_folded lanes = nat_lt 2 (length lanes)
 
 -- The signals behind it are shown as wires.
 abbrev pub as_wires : List ℕ
@@ -59,14 +95,20 @@ abbrev pub messages_shown : ℕ → List ℕ
 messages_shown terminal =
     as_wires ++ shown (Pulse terminal) ++ marked ++ shown (Garbled terminal) ++ as_decimal ++ shown (Message terminal)
 
--- The signals of a lane: those of its transmissions, and of a sender its timers.
-abbrev pub lane_shown : Table → Lane → List ℕ
-lane_shown table lane =
-    heading (lane_title table lane.terminal) ++ messages_shown lane.terminal ++ (if lane.sender then timers_shown lane.terminal else [])
+-- The signals of a lane, as a group: those of its transmissions, and of a sender its timers.
+abbrev pub lane_shown : Bool → Table → Lane → List ℕ
+lane_shown folded table lane =
+    group_begin folded (lane_title table lane.terminal) ++ messages_shown lane.terminal
+    ++ (if lane.sender then timers_shown lane.terminal else []) ++ group_end folded
 
 -- The labels of a lane.
 abbrev pub label_shown : Lane → List ℕ
 label_shown lane = shown (Label lane.terminal)
+
+-- The labels of all lanes, as a group.
+abbrev pub labels_shown : Bool → List Lane → List ℕ
+labels_shown folded lanes =
+    group_begin folded (codes "labels") ++ as_hexadecimal ++ flat_map label_shown lanes ++ group_end folded
 
 -- ---- the whole
 -- The signals of the bus.
@@ -74,8 +116,11 @@ abbrev pub bus_shown : List ℕ
 bus_shown =
     heading (codes "bus") ++ as_wires ++ shown Carrier ++ marked ++ shown Overlap ++ shown Sync ++ as_hexadecimal ++ shown Word
 
--- The save file of the dumps of a list on a table: the bus, the labels of all lanes, then each lane.
-abbrev pub save_text : Table → List Entry → List ℕ
-save_text table list =
-    bus_shown ++ (heading (codes "labels") ++ as_hexadecimal) ++ flat_map label_shown (lanes table list)
-    ++ flat_map (lane_shown table) (lanes table list)
+-- The bus, the labels of all lanes, then each lane.
+abbrev pub all_shown : Table → List Lane → List ℕ
+all_shown table lanes =
+    bus_shown ++ labels_shown (are_folded lanes) lanes ++ flat_map (lane_shown (are_folded lanes) table) lanes
+
+-- The save file of the dumps of a trace on a table, of which the first breach is at a moment, where there is one.
+abbrev pub save_text : Table → Recording → Option ℕ → List ℕ
+save_text table trace breach = opening trace.horizon breach ++ all_shown table (lanes table trace.list)

@@ -1,7 +1,7 @@
 //! Laws of the definitions, each the contract of a function that does nothing.
 ghost use Rattle.bus_dump.specs.Laws.{AllAreShown, BitsArePulses, CarrierIsTold, ClearListsShowNone, DumpsAreRead, GarbledAreTold};
 ghost use Rattle.bus_dump.specs.Laws.{IdentifiersDiffer, LabelsAreTold, LanesAreTerminals, LawfulIsSingle, MessagesAreTold};
-ghost use Rattle.bus_dump.specs.Laws.{NamesAreDeclared, NothingIsIdle, NothingIsLost, NothingWrittenIsLost, OverlapsAreTold};
+ghost use Rattle.bus_dump.specs.Laws.{NamesAreDeclared, NothingIsIdle, NothingIsLost, NothingWrittenIsLost, OpensOnAll, OverlapsAreTold};
 ghost use Rattle.bus_dump.specs.Laws.{OverlapsGarble, PulsesAreTold, StampsAreTold, StartsAreSeen, StartsAreTold, SyncIsTold};
 ghost use Rattle.bus_dump.specs.Laws.{TimersAreTold, WordIsTold, WrittenDumpsAreRead, WrittenStampsAreTold};
 
@@ -113,6 +113,11 @@ pub fn lawful_is_single()
 /// The save file has a line that shows each signal of each dump.
 pub fn all_are_shown()
     ensures { AllAreShown }
+{}
+
+/// The viewer that opens a save file shows the whole trace at first.
+pub fn save_files_open_on_all()
+    ensures { OpensOnAll }
 {}
 
 /// Two traces on a table, of which no two transmissions overlap and all have ended by the horizon, have the same dump with words only where

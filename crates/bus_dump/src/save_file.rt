@@ -1,9 +1,10 @@
 //! The text of a save file.
-ghost use Rattle.std.specs.Prelude.{◌≡◌, ◌==◌, [], drop, if◌then◌else◌};
+ghost use Rattle.std.specs.Prelude.{◌≡◌, ◌==◌, ◌<◌, ◌≤◌, [], drop, IfSome, if◌then◌else◌};
 ghost use Rattle.std.specs.List.{find, flat_map};
 ghost use Rattle.std.specs.Option.{option_map_or};
 ghost use Rattle.bus_outer.specs.Sinks.{WritesText};
 ghost use Rattle.bus_outer.specs.Texts.{Adds};
+ghost use Rattle.bus_strings.specs.Limits.{horizon_limit};
 ghost use Rattle.bus_table.specs.Tables.{Sender as AnySender};
 ghost use Rattle.bus_dump.specs.DumpTexts.{bits_text};
 ghost use Rattle.bus_dump.specs.SaveFiles as texts;
@@ -15,6 +16,12 @@ use crate::signal::Signal;
 use bus_outer::{Sink, TextBuffer, WriteFault};
 use bus_table::{Mode, Sender, Table, sender_of};
 use bus_trace::Trace;
+
+/// The most lanes of which all signals are shown at first.
+const OPEN_LANES: usize = 2;
+
+/// The nanoseconds of a bit time.
+const NANOSECONDS: u64 = 500;
 
 /// Which bits a signal has, where they are several, with no space before them.
 fn put_bits<K: Sink>(text: &mut TextBuffer, sink: &mut K, signal: Signal)
@@ -48,6 +55,37 @@ fn put_bus<K: Sink>(text: &mut TextBuffer, sink: &mut K)
     put_shown(text, sink, Signal::Word);
 }
 
+/// The beginning of a group, before its name.
+fn put_group_mark<K: Sink>(text: &mut TextBuffer, sink: &mut K, folded: bool)
+    ensures { Adds K.held K.faults sink.old sink.new text.old text.new (texts.group_mark folded) }
+{
+    if folded {
+        text.put(sink, b"@c00200\n-");
+    } else {
+        text.put(sink, b"@800200\n-");
+    }
+}
+
+/// The beginning of a group of this name.
+fn begin_group<K: Sink>(text: &mut TextBuffer, sink: &mut K, folded: bool, name: &[u8])
+    ensures { Adds K.held K.faults sink.old sink.new text.old text.new (texts.group_begin folded name.now) }
+{
+    put_group_mark(text, sink, folded);
+    text.put(sink, name);
+    text.put_byte(sink, b'\n');
+}
+
+/// The end of a group.
+fn end_group<K: Sink>(text: &mut TextBuffer, sink: &mut K, folded: bool)
+    ensures { Adds K.held K.faults sink.old sink.new text.old text.new (texts.group_end folded) }
+{
+    if folded {
+        text.put(sink, b"@1401200\n-group_end\n");
+    } else {
+        text.put(sink, b"@1000200\n-group_end\n");
+    }
+}
+
 /// The labels of a lane.
 fn put_label<K: Sink>(text: &mut TextBuffer, sink: &mut K, lane: Lane)
     ensures { Adds K.held K.faults sink.old sink.new text.old text.new (texts.label_shown lane) }
@@ -62,6 +100,16 @@ fn put_labels<K: Sink>(text: &mut TextBuffer, sink: &mut K, lanes: &[Lane])
     for lane in lanes {
         put_label(text, sink, *lane);
     }
+}
+
+/// The labels of all lanes, as a group.
+fn put_label_group<K: Sink>(text: &mut TextBuffer, sink: &mut K, folded: bool, lanes: &[Lane])
+    ensures { Adds K.held K.faults sink.old sink.new text.old text.new (texts.labels_shown folded lanes.now) }
+{
+    begin_group(text, sink, folded, b"labels");
+    text.put(sink, b"@22\n");
+    put_labels(text, sink, lanes);
+    end_group(text, sink, folded);
 }
 
 /// The timers of a sender, of its own in this mode.
@@ -129,43 +177,93 @@ fn put_timers_of<K: Sink>(text: &mut TextBuffer, sink: &mut K, lane: Lane)
     }
 }
 
-/// The signals of a lane.
-fn show_lane<K: Sink>(text: &mut TextBuffer, sink: &mut K, table: &Table, lane: Lane)
-    ensures { Adds K.held K.faults sink.old sink.new text.old text.new (texts.lane_shown table.now lane) }
+/// The signals of a lane, as a group.
+fn show_lane<K: Sink>(text: &mut TextBuffer, sink: &mut K, folded: bool, table: &Table, lane: Lane)
+    ensures { Adds K.held K.faults sink.old sink.new text.old text.new (texts.lane_shown folded table.now lane) }
 {
-    text.put(sink, b"@200\n-");
+    put_group_mark(text, sink, folded);
     put_title(text, sink, table, lane.terminal);
     text.put_byte(sink, b'\n');
     put_messages(text, sink, lane.terminal);
     put_timers_of(text, sink, lane);
+    end_group(text, sink, folded);
 }
 
 /// The signals of each lane.
-fn show_lanes<K: Sink>(text: &mut TextBuffer, sink: &mut K, table: &Table, lanes: &[Lane])
-    ensures { Adds K.held K.faults sink.old sink.new text.old text.new (flat_map (texts.lane_shown table.now) lanes.now) }
+fn show_lanes<K: Sink>(
+    text: &mut TextBuffer,
+    sink: &mut K,
+    folded: bool,
+    table: &Table,
+    lanes: &[Lane],
+)
+    ensures { Adds K.held K.faults sink.old sink.new text.old text.new (flat_map (texts.lane_shown folded table.now) lanes.now) }
 {
     for lane in lanes {
-        show_lane(text, sink, table, *lane);
+        show_lane(text, sink, folded, table, *lane);
     }
+}
+
+/// All signals.
+fn show_all<K: Sink>(text: &mut TextBuffer, sink: &mut K, table: &Table, lanes: &[Lane])
+    ensures { Adds K.held K.faults sink.old sink.new text.old text.new (texts.all_shown table.now lanes.now) }
+{
+    let folded = lanes.len() > OPEN_LANES;
+    put_bus(text, sink);
+    put_label_group(text, sink, folded, lanes);
+    show_lanes(text, sink, folded, table, lanes);
+}
+
+/// The marker of the viewer.
+fn put_marker<K: Sink>(text: &mut TextBuffer, sink: &mut K, breach: Option<u64>)
+    requires { IfSome breach (λ t. t < horizon_limit) }
+    ensures { Adds K.held K.faults sink.old sink.new text.old text.new (texts.marker_text breach) }
+{
+    match breach {
+        Some(t) => text.put_number(sink, NANOSECONDS * t),
+        None => text.put(sink, b"-1"),
+    }
+}
+
+/// How far the viewer zooms out.
+fn zoom(horizon: u64) -> u32
+    requires { horizon ≤ horizon_limit }
+    ensures { result ≡ texts.zoom horizon }
+{
+    u64::BITS - (200 * horizon).leading_zeros()
+}
+
+/// The first line.
+fn put_opening<K: Sink>(text: &mut TextBuffer, sink: &mut K, horizon: u64, breach: Option<u64>)
+    requires horizon { horizon ≤ horizon_limit }
+    requires breach { IfSome breach (λ t. t < horizon_limit) }
+    ensures { Adds K.held K.faults sink.old sink.new text.old text.new (texts.opening horizon breach) }
+{
+    text.put(sink, b"*-");
+    text.put_number(sink, zoom(horizon));
+    text.put_byte(sink, b' ');
+    put_marker(text, sink, breach);
+    text.put_byte(sink, b'\n');
 }
 
 /// Writes the save file of GTKWave that shows each signal of the dumps of a trace on a table: the bus, the labels of all lanes, then each
 /// lane, with what is garbled and where a sender may start in a colour of its own. The viewer leaves out those that a dump doesn't have.
-/// It takes no memory.
+/// It opens zoomed out to the whole trace, with its marker at the moment of the first breach, where there is one; labels and lanes are
+/// groups, which are folded where there are more than two lanes. It takes no memory.
 ///
-/// At `WriteFault` the sink has taken a front of the text, and its count of faults rose.
+/// A breach is below 1,099,511,627,776. At `WriteFault` the sink has taken a front of the text, and its count of faults rose.
 pub fn write_save_file<K: Sink>(
     table: &Table,
     trace: &Trace,
+    breach: Option<u64>,
     sink: &mut K,
 ) -> Result<(), WriteFault>
-    ensures { WritesText K.held K.faults sink.old sink.new result (texts.save_text table.now trace.now.list) }
+    requires { IfSome breach (λ t. t < horizon_limit) }
+    ensures { WritesText K.held K.faults sink.old sink.new result (texts.save_text table.now trace.now breach) }
 {
     let lanes = lanes_of(table, trace.list());
     let mut text = TextBuffer::new();
-    put_bus(&mut text, sink);
-    text.put(sink, b"@200\n-labels\n@22\n");
-    put_labels(&mut text, sink, lanes.as_slice());
-    show_lanes(&mut text, sink, table, lanes.as_slice());
+    put_opening(&mut text, sink, trace.horizon(), breach);
+    show_all(&mut text, sink, table, lanes.as_slice());
     text.finish(sink)
 }

@@ -2,6 +2,7 @@
 use bus_dump::{Dump, doubled, write_dump, write_save_file};
 use bus_outer::{MemorySink, MemorySource};
 use bus_regime::verdict;
+use bus_strings::limits::HORIZON_LIMIT;
 use bus_table::{Table, read_table};
 use bus_trace::{Trace, read_trace};
 use std::alloc::Global;
@@ -24,7 +25,8 @@ LISTENER 3
 #[derive(Clone, Copy)]
 pub(crate) enum Text {
     Dump(Dump),
-    SaveFile,
+    /// The save file of one whose first breach is at this moment.
+    SaveFile(Option<u64>),
 }
 
 /// A trace of its text.
@@ -48,7 +50,10 @@ pub(crate) fn written(
     }
     let answer = match text {
         Text::Dump(dump) => write_dump(dump, &verdict(&table), &table, &trace, &mut sink),
-        Text::SaveFile => write_save_file(&table, &trace, &mut sink),
+        Text::SaveFile(breach) => {
+            let breach = breach.filter(|moment| *moment < HORIZON_LIMIT);
+            write_save_file(&table, &trace, breach, &mut sink)
+        }
     };
     if answer.is_err() {
         return Err(Fail::new("the text isn't written"));

@@ -1,11 +1,9 @@
 -- What is due of a table and a trace, and its cause where it refuses them.
 use Rattle.std.specs.Prelude.{◌≡◌, ℕ, ◌≤◌, List, Option, Some, None, Result, Ok, Err}
 use Rattle.std.proofs.Common.{arith, refl, sym, ap, ◌∙◌, subst, inl, inr}
-use Rattle.bus_table.specs.Tables.{Table}
-use Rattle.bus_trace.specs.Traces.{Recording}
 use Rattle.bus_dump.specs.Doubled.{doubled}
 use Rattle.bus_command.specs.Causes.{RefusesTexts}
-use Rattle.bus_command.specs.Due.{table_due, traced_due, any_trace, outcome_with}
+use Rattle.bus_command.specs.Due.{traced_due, any_trace, outcome_with}
 use Rattle.bus_command.specs.Kinds.{kind_of, stage_of}
 use Rattle.bus_command.specs.Steps.{Same}
 use Rattle.bus_command.specs.declared.inputs.Traced.{Traced}
@@ -15,7 +13,7 @@ use Rattle.bus_command.proofs.ReadLemmas.{CauseLaws, table_cause, table_valid, t
 use Rattle.bus_view.specs.Acts.{view_program, IsDoubledAt}
 use Rattle.bus_command.specs.Causes.{AreTracedWith}
 use Rattle.bus_view.specs.Due.{single_outcome, view_answer, traced_answer, view_text, IsView}
-use Rattle.bus_view.specs.Forms.{Form, OnTrace, OnItself, View, Dump, SaveFile, Painted}
+use Rattle.bus_view.specs.Forms.{OnTrace, OnItself, View, Dump, SaveFile, Painted}
 use Rattle.bus_view.specs.Refusals.{Doubled, Outcome}
 
 single_late : (entry : Option ℕ) → 2 ≤ stage_of (kind_of (single_outcome entry))

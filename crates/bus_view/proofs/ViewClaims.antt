@@ -1,7 +1,6 @@
 -- What is claimed of the views.
-use Rattle.std.specs.Prelude.{◌≡◌, ℕ, List, [], ◌∷◌, codes, Option, Some, None, IfSome, Result, Ok}
+use Rattle.std.specs.Prelude.{◌≡◌, ℕ, List, [], ◌∷◌, codes, Option, Some, None, IfSome, Ok}
 use Rattle.std.proofs.Common.{refl, sym, ap, ◌∙◌, subst}
-use Rattle.bus_text.specs.AllOf.{◌>>=◌}
 use Rattle.bus_table.specs.Tables.{Table}
 use Rattle.bus_trace.specs.TraceLaws.{ReadsBack}
 use Rattle.bus_trace.specs.Traces.{Recording}
@@ -9,24 +8,21 @@ use Rattle.std.specs.Option.{option_map}
 use Rattle.bus_shapes.specs.Windows.{Window, IsWindow}
 use Rattle.bus_dump.specs.declared.dump.Dump.{Dump as AnyDump}
 use Rattle.bus_dump.specs.declared.dump.Dump.TheVariants.{Vcd, Wires, Timers}
-use Rattle.bus_dump.specs.Doubled.{doubled}
 use Rattle.bus_dump.specs.Laws.{ClearListsShowNone, LawfulIsSingle}
 use Rattle.bus_schedule.specs.Laws.{AcceptedIsClosed}
 use Rattle.bus_schedule.specs.Runs.{IsClear}
-use Rattle.bus_dump.specs.SaveFiles.{save_text}
 use Rattle.bus_view.proofs.WindowLemmas.{spelled}
 use Rattle.bus_command.specs.declared.about.About.{About}
 use Rattle.bus_command.specs.declared.about.About.TheVariants.{Help, Version}
-use Rattle.bus_command.specs.About.{IsAbout, about_word}
-use Rattle.bus_command.specs.Claims.{Answers, Refuses}
+use Rattle.bus_command.specs.About.{TellsItself, IsAbout, about_word}
+use Rattle.bus_command.specs.Claims.{Answers}
 use Rattle.bus_command.specs.Due.{table_refusal_of, with_trace, traced_due, any_trace}
 use Rattle.bus_command.specs.Kinds.{Answer, kind_of}
 use Rattle.bus_command.specs.Outside.{Call}
-use Rattle.bus_command.specs.declared.inputs.Traced.{Traced}
 use Rattle.bus_command.specs.declared.status.Status.TheVariants as status
 use Rattle.bus_command.specs.declared.outcome.Outcome.TheVariants.{Done}
 use Rattle.bus_command.specs.Readers.{Trace, entire, no_source}
-use Rattle.bus_command.proofs.ClaimLemmas.{answers, claimed, refuses, does_of, at_two, stands_told}
+use Rattle.bus_command.proofs.ClaimLemmas.{answers, claimed, refuses, does_of, room_of, told_itself, at_two, stands_told}
 use Rattle.bus_command.proofs.LawTypes.{TextReadsAsItsTable}
 use Rattle.bus_command.proofs.ReadLemmas.{held_trace, traced_told}
 use Rattle.bus_command.proofs.ToldLemmas.{table_told}
@@ -124,12 +120,14 @@ itself_form Help words h = ap form_of h
 itself_form Version words h = ap form_of h
 
 itself_claim : (call : Call) (outcome : Outcome) (about : About) → Acts call outcome → IsAbout about call
-    → Answers status.Done (λ text. text ≡ itself_text about) call (status_of outcome)
+    → TellsItself (itself_text about) call (status_of outcome)
 itself_claim call outcome about acts h =
-    let did = does_of view_program call outcome (OnItself about) (itself_form about call.words h.form) acts in
+    let form = itself_form about call.words h.form in
+    let did = does_of view_program call outcome (OnItself about) form acts in
     let due : Outcome = Done in
-    answers ends_of no_source due outcome _ (λ text. text ≡ itself_text about) call refl (λ text is. is) did.due did.text did.counts
-    did.out_count h.undisturbed
+    told_itself ends_of outcome (itself_text about) call did.due (room_of view_program call outcome (OnItself about) form acts refl)
+    (answers ends_of no_source due outcome _ (λ text. text ≡ itself_text about) call refl (λ text is. is) did.due did.text did.counts
+    did.out_count h.undisturbed)
 
 pub keeps : DrawLaws → (call : Call) (outcome : Outcome) → Acts call outcome → Promises call (status_of outcome)
 keeps laws call outcome acts = record {

@@ -1,16 +1,17 @@
 -- What the program bus629-view does.
-use Rattle.std.specs.Prelude.{◌≡◌, ℕ, List, Option, Some}
+use Rattle.std.specs.Prelude.{◌≡◌, Some}
 use Rattle.bus_outer.specs.declared.sink.Sink.{Ghosts as SinkGhosts}
+use Rattle.bus_outer.specs.declared.source.Source.{Ghosts as SourceGhosts}
 use Rattle.bus_table.specs.Tables.{Table}
 use Rattle.bus_trace.specs.Traces.{Recording}
 use Rattle.bus_dump.specs.Doubled.{doubled}
 use Rattle.bus_command.specs.Acts as command
 use Rattle.bus_command.specs.Acts.{Ends, Program, TellsLine}
 use Rattle.bus_command.specs.Causes.{AreTracedWith}
-use Rattle.bus_command.specs.Outside.{Call, Outside, sink_seen}
+use Rattle.bus_command.specs.Outside.{Call, Outside, outside, sink_seen}
 use Rattle.bus_command.specs.declared.status.Status.{Status}
 use Rattle.bus_view.specs.Due.{form_due, first_refusal, view_answer, view_text, IsFormText}
-use Rattle.bus_view.specs.Forms.{Form, View, form_of, sources, sources_of}
+use Rattle.bus_view.specs.Forms.{Form, View, form_of, sources, sources_of, takes_memory}
 use Rattle.bus_view.specs.Refusals.{Doubled, Outcome, fault_line, status_of}
 
 -- The first entry of a trace that is doubled.
@@ -23,6 +24,7 @@ view_program = record {
   form_of = form_of;
   sources = sources_of;
   refusing = first_refusal;
+  memory = takes_memory;
   due = form_due;
   IsText = IsFormText;
   Cause = λ form refusal. AreTracedWith (IsDoubledAt refusal);
@@ -31,6 +33,11 @@ view_program = record {
 -- What the command of a form did.
 abbrev pub DoesForm : Form → Outside → Outside → Outcome → Type 0
 DoesForm form before after outcome = command.DoesForm view_program form before after outcome
+
+-- What the command of a form did whose sources were these before and after.
+abbrev pub DoesBoth : {S K : Type 0} → SourceGhosts S → SinkGhosts K → Form → S → S → K → S → S → K → Outcome → Type 0
+DoesBoth source sink form first second out later_first later_second later_out outcome =
+    DoesForm form (outside source sink first second out) (outside source sink later_first later_second later_out) outcome
 
 -- What a call did.
 abbrev pub Acts : Call → Outcome → Type 0

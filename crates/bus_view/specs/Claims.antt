@@ -17,12 +17,11 @@ use Rattle.bus_dump.specs.Laws.{ShowsNoOverlap}
 use Rattle.bus_command.specs.declared.status.Status.{Status}
 use Rattle.bus_command.specs.declared.status.Status.TheVariants.{Done, InputRefused}
 use Rattle.bus_command.specs.declared.about.About.{About}
-use Rattle.bus_command.specs.About.{IsAbout}
+use Rattle.bus_command.specs.About.{IsAbout, TellsItself}
 use Rattle.bus_command.specs.Claims.{Answers, IsOfTraced, Refuses}
 use Rattle.bus_command.specs.Outside.{Call}
-use Rattle.bus_dump.specs.SaveFiles.{save_text}
 use Rattle.bus_view.specs.Itself.{itself_text}
-use Rattle.bus_view.specs.Due.{drawing, painting, window_or_whole}
+use Rattle.bus_view.specs.Due.{drawing, painting, saved, window_or_whole}
 use Rattle.bus_view.specs.Forms.{View, Dump, SaveFile, Painted, Picture, TimeLine, Cycles}
 
 -- The command of a picture.
@@ -74,17 +73,18 @@ pub record GivesDump (dump : AnyDump) (table : Table) (trace : Recording) (call 
   pub clear : (hands : List Hand) (t : ℕ) → IsTrue (is_accepted (verdict_of table)) → IsTrue (are_even table hands)
       → trace.list ≡ closed table hands → ShowsNoOverlap dump table trace.list t
 
--- What a call promises whose texts are right and in which nothing outside fails; each view answers so, or memory was refused:
+-- What a call promises whose texts are right and in which nothing outside fails; each view answers so, or memory was refused,
+-- of which `itself` takes none:
 --   draw    `vcd`, `wires` and `timers`: the dump, or that an entry is doubled
---   save    `gtkw`: the save file
+--   save    `gtkw`: the save file, with its marker at the first breach
 --   paint   `svg` and `cycles`, and both with a window: the picture
 --   itself  `--help` and `--version`: the help and the version line
 pub record Promises (call : Call) (status : Status) : Type 0 where
   pub draw : (dump : AnyDump) (table : Table) (trace : Recording) → IsViewOf (Dump dump) table trace call
       → GivesDump dump table trace call status
   pub save : (table : Table) (trace : Recording) → IsViewOf SaveFile table trace call
-      → Answers Done (λ text. text ≡ save_text table trace.list) call status
+      → Answers Done (λ text. text ≡ saved table trace) call status
   pub paint : (picture : Picture) (window : Option Window) (table : Table) (trace : Recording) → IfSome window IsWindow
       → IsViewOf (Painted picture window) table trace call
       → Answers Done (λ text. text ≡ painting picture (window_or_whole window trace) table trace) call status
-  pub itself : (about : About) → IsAbout about call → Answers Done (λ text. text ≡ itself_text about) call status
+  pub itself : (about : About) → IsAbout about call → TellsItself (itself_text about) call status

@@ -7,6 +7,7 @@ use Rattle.bus_regime.specs.declared.table_verdict.TableVerdict.{TableVerdict}
 use Rattle.bus_trace.specs.Traces.{Recording}
 use Rattle.bus_audit.specs.Breaches.{answer_of}
 use Rattle.bus_audit.specs.declared.answer.AuditAnswer.{AuditAnswer}
+use Rattle.bus_audit.specs.declared.answer.AuditAnswer.TheVariants.{Lawful, Breach}
 use Rattle.bus_dump.specs.declared.dump.Dump.{Dump as AnyDump}
 use Rattle.bus_dump.specs.Doubled.{doubled}
 use Rattle.bus_dump.specs.DumpTexts.{dump_text}
@@ -53,6 +54,15 @@ painted Cycles window verdict answer table trace = cycles_text window verdict an
 abbrev pub painting : Picture → Window → Table → Recording → List ℕ
 painting picture window table trace = painted picture window (verdict_of table) (answer_of table trace) table trace
 
+-- The moment of a breach, where an audit found one.
+abbrev pub breach_moment : AuditAnswer → Option ℕ
+breach_moment (Lawful collided) = None
+breach_moment (Breach moment terminal kind) = Some moment
+
+-- The save file of a trace on a table, with its marker at the first breach.
+abbrev pub saved : Table → Recording → List ℕ
+saved table trace = save_text table trace (breach_moment (answer_of table trace))
+
 -- The window that is asked for, or all of the trace.
 abbrev pub window_or_whole : Option Window → Recording → Window
 window_or_whole window trace = unwrap_or window (whole trace.horizon)
@@ -60,7 +70,7 @@ window_or_whole window trace = unwrap_or window (whole trace.horizon)
 -- The text of a view of a trace on a table.
 abbrev pub view_text : View → Table → Recording → List ℕ
 view_text (Dump dump) table trace = drawing dump table trace
-view_text SaveFile table trace = save_text table trace.list
+view_text SaveFile table trace = saved table trace
 view_text (Painted picture window) table trace = painting picture (window_or_whole window trace) table trace
 
 -- The text of a view of what was taken of both texts.

@@ -1,12 +1,11 @@
 -- The forms of the command line: each asks for a view of a trace, or for what the program tells of itself. A word is its bytes.
-use Rattle.std.specs.Prelude.{ℕ, List, [], ◌∷◌, Bool, ◌&&◌, nat_lt, nat_le, codes, Option, Some, None, if◌then◌else◌}
+use Rattle.std.specs.Prelude.{ℕ, List, [], ◌∷◌, Bool, true, false, ◌&&◌, nat_lt, nat_le, codes, Option, Some, None, if◌then◌else◌}
 use Rattle.std.specs.Option.{option_and_then, option_map}
 use Rattle.std.specs.Str.{bytes_eq}
 use Rattle.bus_strings.specs.Limits.{horizon_limit}
 use Rattle.bus_text.specs.Numbers.{is_plain_decimal, decimal_value}
 use Rattle.bus_dump.specs.declared.dump.Dump.TheVariants as dump
 use Rattle.bus_shapes.specs.Windows.{Window}
-use Rattle.bus_command.specs.declared.about.About.{About}
 use Rattle.bus_command.specs.About.{about_of}
 use Rattle.bus_command.specs.Readers.{Named, Trace, entire, no_source, two_sources}
 pub use Rattle.bus_view.specs.declared.forms.Form.{Form}
@@ -80,3 +79,8 @@ sources = two_sources entire Trace
 abbrev pub sources_of : Form → Named
 sources_of (OnTrace view) = sources
 sources_of (OnItself about) = no_source
+
+-- Whether a form takes any memory.
+abbrev pub takes_memory : Form → Bool
+takes_memory (OnTrace view) = true
+takes_memory (OnItself about) = false

@@ -1,7 +1,7 @@
 //! The command of any words.
-ghost use Rattle.bus_command.specs.Outside.{call, outside};
+ghost use Rattle.bus_command.specs.Outside.{call};
 ghost use Rattle.bus_trace.specs.Traces.{IsTrace};
-ghost use Rattle.bus_view.specs.Acts.{Acts, DoesForm, EndsOnView};
+ghost use Rattle.bus_view.specs.Acts.{Acts, DoesBoth, EndsOnView};
 ghost use Rattle.bus_view.specs.Forms.{OnTrace};
 
 use crate::drawing::draw;
@@ -9,8 +9,8 @@ use crate::forms::{Form, View, form_of};
 use crate::itself::tell_itself;
 use crate::painting::paint;
 use crate::refusal::{Doubled, Outcome};
-use bus_command::{Traced, after_writing, take_traced};
-use bus_dump::write_save_file;
+use crate::saving::save;
+use bus_command::{Traced, take_traced};
 use bus_outer::{Sink, Source};
 use bus_strings::laws::texts_read_as_their_items;
 use bus_table::Table;
@@ -26,7 +26,7 @@ fn answer<K: Sink>(alloc: Global, view: View, table: &Table, trace: &Trace, out:
 {
     match view {
         View::Dump(dump) => draw(dump, table, trace, out),
-        View::SaveFile => after_writing(write_save_file(table, trace, out), Outcome::Done),
+        View::SaveFile => save(alloc, table, trace, out),
         View::Picture(picture, window) => paint(alloc, picture, window, table, trace, out),
     }
 }
@@ -39,8 +39,7 @@ fn show<S: Source, K: Sink>(
     second: &mut S,
     out: &mut K,
 ) -> Outcome
-    ensures { DoesForm (OnTrace view) (outside ⟦<S as Source>⟧ ⟦<K as Sink>⟧ first.old second.old out.old)
-        (outside ⟦<S as Source>⟧ ⟦<K as Sink>⟧ first.new second.new out.new) result }
+    ensures { DoesBoth ⟦<S as Source>⟧ ⟦<K as Sink>⟧ (OnTrace view) first.old second.old out.old first.new second.new out.new result }
 {
     match take_traced::<Doubled, S>(alloc, first, second) {
         Ok(Traced { table, trace }) => answer(alloc, view, &table, &trace, out),

@@ -1,9 +1,7 @@
 //! What the program tells of itself.
-ghost use Rattle.std.specs.Prelude.{◌≡◌};
-ghost use Rattle.bus_command.specs.Acts.{Ends};
-ghost use Rattle.bus_command.specs.Outside.{sink_seen};
-ghost use Rattle.bus_command.specs.Readers.{no_source};
-ghost use Rattle.bus_command.specs.declared.outcome.Outcome.TheVariants.{Done};
+ghost use Rattle.std.specs.Prelude.{◌≡◌, ◌≢◌};
+ghost use Rattle.bus_command.specs.About.{EndsTelling};
+ghost use Rattle.bus_command.specs.declared.outcome.Outcome.TheVariants.{NoMemory};
 ghost use Rattle.bus_view.specs.Itself.{help_text, itself_text, version_text};
 
 use crate::refusal::Outcome;
@@ -14,23 +12,29 @@ use bus_outer::Sink;
 fn help() -> &'static [u8]
     ensures { result.now ≡ help_text }
 {
-    b"bus629-view shows recorded traces of buses after ARINC 629 (Basic Protocol). It writes them as Value Change Dumps (IEEE 1364), which wave
-viewers such as GTKWave read (sigrok and PulseView read wires), and as SVG pictures, which browsers show. What it writes is proved.
+    b"bus629-view shows recorded traces of buses after ARINC 629 (Basic Protocol). It writes them as Value
+Change Dumps (IEEE 1364), which wave viewers such as GTKWave read (sigrok and PulseView read wires),
+and as SVG pictures, which browsers show. What it writes is proved.
 
-  bus629-view vcd T R     the dump of the trace in the file R, on the table in the file T: the bus, and each sender or other terminal that sends
+  bus629-view vcd T R     the dump of the trace in the file R, on the table in the file T: the bus,
+                          and each sender or other terminal that sends
   bus629-view wires T R   its signals of one bit alone
   bus629-view timers T R  the dump with the timers of each sender, and where it may start
   bus629-view gtkw T R    the save file with which GTKWave shows all signals of any of these dumps
-  bus629-view svg T R     the trace as a time line, with a lane for each terminal; svg T R FROM TO: from a bit time to below another
-  bus629-view cycles T R  a row for each cycle, for long traces; cycles T R FROM TO: of what begins there
+  bus629-view svg T R     the trace as a time line, with a lane for each terminal; svg T R FROM TO:
+                          from a bit time to below another
+  bus629-view cycles T R  a row for each cycle, for long traces; cycles T R FROM TO: of what begins
+                          there
   bus629-view --help      this text
   bus629-view --version   the version of the program, and of each text that it reads
 
-What run, drop and observe of bus629 write is a trace. The status is 0 where the text is written, 2 where the words are no command, 3 where
-the table is refused, 4 where the trace is, 5 for a failed read, 6 for a failed write, 7 where memory is refused, and 8 for a file past its
-limit. A line on standard error says why.
+What run, drop and observe of bus629 write is a trace. The status is 0 where the text is written, 2
+where the words are no command, 3 where the text of the table or the table as a whole is refused, 4
+where the trace is, 5 for a failed read, 6 for a failed write, 7 where memory is refused, and 8 for
+a file past its limit. A line on standard error says why from 2 on.
 
-docs/FORMATS.md has the signals, the texts, lines and statuses, docs/CLAIMS.md what is proved; examples/ has a table and a trace to try.
+docs/FORMATS.md has the signals, the texts, lines and statuses, docs/CLAIMS.md what is proved;
+examples/ has a table and a trace to try.
 "
 }
 
@@ -41,12 +45,20 @@ fn version() -> &'static [u8]
     b"bus629-view 1.0.0 (TABLE 1, TRACE 1 and 2)\n"
 }
 
-/// Writes what is asked of the program itself.
-pub fn tell_itself<K: Sink>(about: About, out: &mut K) -> Outcome
-    ensures { Ends no_source Done (λ text. text ≡ itself_text about) (sink_seen ⟦<K as Sink>⟧ out.old) (sink_seen ⟦<K as Sink>⟧ out.new) result }
+/// What is asked of the program itself.
+fn text_of(about: About) -> &'static [u8]
+    ensures { result.now ≡ itself_text about }
 {
     match about {
-        About::Help => tell(help(), out),
-        About::Version => tell(version(), out),
+        About::Help => help(),
+        About::Version => version(),
     }
+}
+
+/// Writes what is asked of the program itself. It takes no memory.
+pub fn tell_itself<K: Sink>(about: About, out: &mut K) -> Outcome
+    ensures ends { EndsTelling ⟦<K as Sink>⟧ (itself_text about) out.old out.new result }
+    ensures room { result ≢ NoMemory }
+{
+    tell(text_of(about), out)
 }

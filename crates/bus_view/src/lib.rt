@@ -11,6 +11,7 @@ mod forms;
 mod itself;
 mod painting;
 mod refusal;
+mod saving;
 mod top;
 
 pub use command::act;

@@ -1,10 +1,7 @@
-use Rattle.std.proofs.Common.{arith, refl, sym, ap, ◌∙◌, subst}
-use Rattle.bus_command.specs.Acts.{written, Ends}
-use Rattle.bus_command.specs.Outside.{sink_seen}
+use Rattle.std.proofs.Common.{arith, refl, ap, ◌∙◌}
 use Rattle.bus_command.specs.declared.outcome.Outcome.TheVariants.{Done}
-use Rattle.bus_command.proofs.DoLaws.{answered, refused, roomless}
+use Rattle.bus_command.proofs.DoLaws.{answered, roomless}
 use Rattle.bus_view.specs.Forms.{sources}
-use Rattle.bus_outer.specs.Sinks.{WritesText}
 use Rattle.bus_view.specs.Due.{painting}
 use Rattle.bus_view.proofs.PaintLemmas.{painted_is}
 use Rattle.bus_view.proofs.painting.paint.Goals as goal
