@@ -119,7 +119,7 @@ gap_below = 143
 
 -- How far below that edge the words of a gap stand.
 abbrev pub gap_line : ℕ
-gap_line = 54
+gap_line = 118
 
 -- How far below that edge the line of a transmit interval lies.
 abbrev pub interval_below : ℕ

@@ -83,7 +83,7 @@ fn put_gap<K: Sink>(
         (definition.gap_text scale.now top from name.now size) }
 {
     let area = line_area(scale, top + 143, from, from + u64::from(size));
-    put_gap_at(text, sink, area, top + 54, name, size);
+    put_gap_at(text, sink, area, top + 118, name, size);
 }
 
 /// Whether a transmission comes a synchronization gap or more behind all before it, and the scale has that gap.

@@ -6,7 +6,7 @@ pub use Rattle.bus_shapes.specs.declared.class.Class.{Class}
 pub use Rattle.bus_shapes.specs.declared.class.Class.TheVariants.{Background, Band, Unobserved, Grid}
 pub use Rattle.bus_shapes.specs.declared.class.Class.TheVariants.{Tick, Span, Message, Garbled, Wordstring}
 pub use Rattle.bus_shapes.specs.declared.class.Class.TheVariants.{Other, Label, Noise, Edge, Overlap, Gap, Interval, Mark, Breach}
-pub use Rattle.bus_shapes.specs.declared.class.Class.TheVariants.{Verdict, Answer, Note, Counts, Small, Detail, Number, Digits, NoiseDigits}
+pub use Rattle.bus_shapes.specs.declared.class.Class.TheVariants.{Verdict, Refusal, Answer, Note, Counts, Small, Detail, Number, Digits, NoiseDigits}
 pub use Rattle.bus_shapes.specs.declared.class.Class.TheVariants.{GapWords, IntervalWords, BreachWords}
 
 -- What a class is called.
@@ -30,6 +30,7 @@ class_name Interval = codes "interval"
 class_name Mark = codes "mark"
 class_name Breach = codes "breach"
 class_name Verdict = codes "verdict"
+class_name Refusal = codes "refusal"
 class_name Answer = codes "answer"
 class_name Note = codes "note"
 class_name Counts = codes "counts"
@@ -52,9 +53,9 @@ look Tick = codes "fill:#666"
 look Span = codes "fill:#555"
 look Message = codes "fill:#cfe3f3;stroke:#0072b2;stroke-width:10"
 look Garbled = codes "fill:url(#hatch);stroke:#a63a00;stroke-width:14"
-look Wordstring = codes "fill:#0072b2"
-look Other = codes "fill:#4f9fce"
-look Label = codes "fill:#004c7a;pointer-events:none"
+look Wordstring = codes "fill:#00588f"
+look Other = codes "fill:#37799f"
+look Label = codes "fill:#00385c;pointer-events:none"
 look Noise = codes "fill:#d55e00;fill-opacity:.4"
 look Edge = codes "fill:#fff;pointer-events:none"
 look Overlap = codes "fill:#d55e00;fill-opacity:.2;pointer-events:none"
@@ -63,6 +64,7 @@ look Interval = codes "fill:#009e73;pointer-events:none"
 look Mark = codes "fill:#000;fill-opacity:.6;pointer-events:none"
 look Breach = codes "fill:#000;pointer-events:none"
 look Verdict = codes "font-size:150px;font-weight:bold"
+look Refusal = codes "font-size:150px;font-weight:bold;fill:#a63a00"
 look Answer = codes "font-size:150px;font-weight:bold;text-anchor:end"
 look Note = codes "fill:#222"
 look Counts = codes "text-anchor:end"
@@ -80,8 +82,8 @@ look BreachWords =
 abbrev pub classes : List Class
 classes =
     Background ∷ (Band ∷ (Unobserved ∷ (Grid ∷ (Tick ∷ (Span ∷ (Message ∷ (Garbled ∷ (Wordstring ∷ (Other ∷ (
-    Label ∷ (Noise ∷ (Edge ∷ (Overlap ∷ (Gap ∷ (Interval ∷ (Mark ∷ (Breach ∷ (Verdict ∷ (Answer ∷ (Note ∷ (Counts ∷ (
-    Small ∷ (Detail ∷ (Number ∷ (Digits ∷ (NoiseDigits ∷ (GapWords ∷ (IntervalWords ∷ (BreachWords ∷ [])))))))))))))))))))))))))))))
+    Label ∷ (Noise ∷ (Edge ∷ (Overlap ∷ (Gap ∷ (Interval ∷ (Mark ∷ (Breach ∷ (Verdict ∷ (Refusal ∷ (Answer ∷ (Note ∷ (Counts ∷ (
+    Small ∷ (Detail ∷ (Number ∷ (Digits ∷ (NoiseDigits ∷ (GapWords ∷ (IntervalWords ∷ (BreachWords ∷ []))))))))))))))))))))))))))))))
 
 -- The rule of a class in the style of a picture.
 abbrev pub rule_text : Class → List ℕ

@@ -5,8 +5,9 @@ use Rattle.bus_audit.specs.Lines.{answer_words}
 use Rattle.bus_regime.specs.declared.table_verdict.TableVerdict.{TableVerdict}
 use Rattle.bus_regime.specs.Lines.{verdict_words}
 use Rattle.bus_table.specs.Tables.{Table}
-use Rattle.bus_shapes.specs.Classes.{Answer, Background, Note, Verdict, rules_text}
+use Rattle.bus_shapes.specs.Classes.{Answer, Background, Note, rules_text}
 use Rattle.bus_shapes.specs.Classes as classes
+use Rattle.bus_shapes.specs.Headings.{answer_heading, verdict_class, verdict_heading}
 use Rattle.bus_shapes.specs.Sayings.{counted, table_words}
 use Rattle.bus_shapes.specs.Shapes.{Area, box_text, words_text}
 pub use Rattle.bus_shapes.specs.declared.counts.Counts.{Counts}
@@ -23,15 +24,26 @@ hatch_text =
     codes "<defs><pattern id=\"hatch\" width=\"80\" height=\"80\" patternUnits=\"userSpaceOnUse\" patternTransform=\"rotate(45)\">"
     ++ codes "<rect width=\"80\" height=\"80\" fill=\"#ffd2a8\"/><rect width=\"24\" height=\"80\" fill=\"#d55e00\"/></pattern></defs>\n"
 
--- The style of a picture: its words, its classes and the hatching.
-abbrev pub style_text : List ℕ
-style_text = codes "<style>\n" ++ font_text ++ rules_text ++ codes "</style>\n" ++ hatch_text
+-- What is drawn in another colour in a dark scheme, where the viewer asks for one, with contrasts as great.
+abbrev pub dark_text : List ℕ
+dark_text =
+    codes "@media(prefers-color-scheme:dark){\n"
+    ++ codes "text,.note{fill:#e6e8eb}.small,.detail{fill:#aab2bd}.gap-words{fill:#e8b75a}.interval-words{fill:#5fd6b0}\n"
+    ++ codes ".refusal{fill:#ff9a4d}.digits{fill:#fff}.noise-digits,.breach-words{fill:#fff;stroke:#14171b}\n"
+    ++ codes ".background,.edge{fill:#14171b}.band{fill:#1b1f25}.unobserved{fill:#2c3138}.grid{fill:#333a43}.tick,.span{fill:#9aa2ad}\n"
+    ++ codes ".message{fill:#17344a;stroke:#56b4e9}.garbled{stroke:#ff9a4d}#hatch rect{fill:#5a2b00}#hatch rect+rect{fill:#e8741e}\n"
+    ++ codes ".wordstring{fill:#1f6fa5}.other{fill:#3d7690}.label{fill:#0a4a73}\n"
+    ++ codes ".gap{fill:#e0a030}.interval{fill:#2fc79a}.mark,.breach{fill:#fff}}\n"
 
--- The size of a picture of this height, and of its width, in pixels and in units.
+-- The style of a picture: its words, its classes, those of a dark scheme, and the hatching.
+abbrev pub style_text : List ℕ
+style_text = codes "<style>\n" ++ font_text ++ rules_text ++ dark_text ++ codes "</style>\n" ++ hatch_text
+
+-- The size of a picture of this height, and of its width, in pixels and in units. Browsers scale it to the width that they have for it.
 abbrev pub size_text : ℕ → List ℕ
 size_text height =
     codes "<svg xmlns=\"http://www.w3.org/2000/svg\" role=\"img\" width=\"1580\" height=\"" ++ decimal (height / pixel)
-    ++ codes "\" viewBox=\"0 0 15800 " ++ decimal height ++ codes "\">\n"
+    ++ codes "\" style=\"width:100%;height:auto\" viewBox=\"0 0 15800 " ++ decimal height ++ codes "\">\n"
 
 -- The title: the words of the verdict and of the audit.
 abbrev pub title_text : List ℕ → List ℕ → List ℕ
@@ -48,9 +60,11 @@ counts_words counts =
 abbrev pub background : ℕ → Area
 background height = record { left = 0; top = 0; width = picture_width; height = height }
 
--- The words of the verdict and of the audit.
-abbrev pub heads_text : List ℕ → List ℕ → List ℕ
-heads_text verdict answer = words_text Verdict left_margin head_line verdict ++ words_text Answer right_margin head_line answer
+-- The headings of the verdict and of the audit.
+abbrev pub heads_text : TableVerdict → AuditAnswer → List ℕ
+heads_text verdict answer =
+    words_text (verdict_class verdict) left_margin head_line (verdict_heading verdict)
+    ++ words_text Answer right_margin head_line (answer_heading answer)
 
 -- The words of the table, and the counts.
 abbrev pub facts_text : Table → Counts → List ℕ
@@ -62,7 +76,7 @@ facts_text table counts =
 abbrev pub frame_text : ℕ → TableVerdict → AuditAnswer → Table → Counts → List ℕ
 frame_text height verdict answer table counts =
     size_text height ++ title_text (verdict_words verdict) (answer_words answer) ++ style_text ++ box_text Background (background height)
-    ++ heads_text (verdict_words verdict) (answer_words answer) ++ facts_text table counts
+    ++ heads_text verdict answer ++ facts_text table counts
 
 -- The end of a picture.
 abbrev pub tail_text : List ℕ

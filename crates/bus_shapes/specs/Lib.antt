@@ -8,4 +8,5 @@ pub mod Windows
 pub mod Scales
 pub mod Axes
 pub mod Frames
+pub mod Headings
 pub mod Laws

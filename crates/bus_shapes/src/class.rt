@@ -48,6 +48,8 @@ pub enum Class {
     Breach,
     /// The words of the verdict.
     Verdict,
+    /// The words of the verdict on a refused table.
+    Refusal,
     /// The words of the audit, which end at their place.
     Answer,
     /// Words that begin at their place.
@@ -73,7 +75,7 @@ pub enum Class {
 }
 
 /// All classes.
-const CLASSES: [Class; 30] = [
+const CLASSES: [Class; 31] = [
     Class::Background,
     Class::Band,
     Class::Unobserved,
@@ -93,6 +95,7 @@ const CLASSES: [Class; 30] = [
     Class::Mark,
     Class::Breach,
     Class::Verdict,
+    Class::Refusal,
     Class::Answer,
     Class::Note,
     Class::Counts,
@@ -131,6 +134,7 @@ impl Class {
             Class::Mark => b"mark",
             Class::Breach => b"breach",
             Class::Verdict => b"verdict",
+            Class::Refusal => b"refusal",
             Class::Answer => b"answer",
             Class::Note => b"note",
             Class::Counts => b"counts",
@@ -158,9 +162,9 @@ impl Class {
             Class::Span => b"fill:#555",
             Class::Message => b"fill:#cfe3f3;stroke:#0072b2;stroke-width:10",
             Class::Garbled => b"fill:url(#hatch);stroke:#a63a00;stroke-width:14",
-            Class::Wordstring => b"fill:#0072b2",
-            Class::Other => b"fill:#4f9fce",
-            Class::Label => b"fill:#004c7a;pointer-events:none",
+            Class::Wordstring => b"fill:#00588f",
+            Class::Other => b"fill:#37799f",
+            Class::Label => b"fill:#00385c;pointer-events:none",
             Class::Noise => b"fill:#d55e00;fill-opacity:.4",
             Class::Edge => b"fill:#fff;pointer-events:none",
             Class::Overlap => b"fill:#d55e00;fill-opacity:.2;pointer-events:none",
@@ -169,6 +173,7 @@ impl Class {
             Class::Mark => b"fill:#000;fill-opacity:.6;pointer-events:none",
             Class::Breach => b"fill:#000;pointer-events:none",
             Class::Verdict => b"font-size:150px;font-weight:bold",
+            Class::Refusal => b"font-size:150px;font-weight:bold;fill:#a63a00",
             Class::Answer => b"font-size:150px;font-weight:bold;text-anchor:end",
             Class::Note => b"fill:#222",
             Class::Counts => b"text-anchor:end",

@@ -11,23 +11,26 @@ ghost use Rattle.bus_shapes.specs.Shapes.{words_text};
 use crate::area::Area;
 use crate::class::{Class, put_rules};
 use crate::counts::Counts;
+use crate::heading::{put_answer_heading, put_verdict_heading, verdict_class};
 use crate::shapes::{begin_words, end_words, put_box};
 use bus_audit::{AuditAnswer, put_answer};
 use bus_outer::{Sink, TextBuffer};
 use bus_regime::{TableVerdict, put_verdict};
 use bus_table::{Mode, Table, put_mode};
 
-/// The style of all classes, and the hatching of what is garbled.
+/// The style of all classes, in a light and in a dark scheme, and the hatching of what is garbled.
 fn put_style<K: Sink>(text: &mut TextBuffer, sink: &mut K)
     ensures { Adds K.held K.faults sink.old sink.new text.old text.new definition.style_text }
 {
     text.put(sink, b"<style>\n");
     put_font(text, sink);
     put_rules(text, sink);
+    put_dark(text, sink);
     text.put(sink, b"</style>\n");
     put_hatch(text, sink);
 }
 
+/// The style of words.
 fn put_font<K: Sink>(text: &mut TextBuffer, sink: &mut K)
     ensures { Adds K.held K.faults sink.old sink.new text.old text.new definition.font_text }
 {
@@ -37,6 +40,38 @@ fn put_font<K: Sink>(text: &mut TextBuffer, sink: &mut K)
     );
 }
 
+/// The colours of a dark scheme.
+fn put_dark<K: Sink>(text: &mut TextBuffer, sink: &mut K)
+    ensures { Adds K.held K.faults sink.old sink.new text.old text.new definition.dark_text }
+{
+    text.put(sink, b"@media(prefers-color-scheme:dark){\n");
+    text.put(
+        sink,
+        b"text,.note{fill:#e6e8eb}.small,.detail{fill:#aab2bd}.gap-words{fill:#e8b75a}.interval-words{fill:#5fd6b0}\n",
+    );
+    text.put(
+        sink,
+        b".refusal{fill:#ff9a4d}.digits{fill:#fff}.noise-digits,.breach-words{fill:#fff;stroke:#14171b}\n",
+    );
+    text.put(
+        sink,
+        b".background,.edge{fill:#14171b}.band{fill:#1b1f25}.unobserved{fill:#2c3138}.grid{fill:#333a43}.tick,.span{fill:#9aa2ad}\n",
+    );
+    text.put(
+        sink,
+        b".message{fill:#17344a;stroke:#56b4e9}.garbled{stroke:#ff9a4d}#hatch rect{fill:#5a2b00}#hatch rect+rect{fill:#e8741e}\n",
+    );
+    text.put(
+        sink,
+        b".wordstring{fill:#1f6fa5}.other{fill:#3d7690}.label{fill:#0a4a73}\n",
+    );
+    text.put(
+        sink,
+        b".gap{fill:#e0a030}.interval{fill:#2fc79a}.mark,.breach{fill:#fff}}\n",
+    );
+}
+
+/// The hatching of what is garbled.
 fn put_hatch<K: Sink>(text: &mut TextBuffer, sink: &mut K)
     ensures { Adds K.held K.faults sink.old sink.new text.old text.new definition.hatch_text }
 {
@@ -59,7 +94,10 @@ fn put_size<K: Sink>(text: &mut TextBuffer, sink: &mut K, height: u64)
         b"<svg xmlns=\"http://www.w3.org/2000/svg\" role=\"img\" width=\"1580\" height=\"",
     );
     text.put_number(sink, height / 10);
-    text.put(sink, b"\" viewBox=\"0 0 15800 ");
+    text.put(
+        sink,
+        b"\" style=\"width:100%;height:auto\" viewBox=\"0 0 15800 ",
+    );
     text.put_number(sink, height);
     text.put(sink, b"\">\n");
 }
@@ -161,13 +199,13 @@ fn put_heads<K: Sink>(
     answer: &AuditAnswer,
 )
     ensures { Adds K.held K.faults sink.old sink.new text.old text.new
-        (definition.heads_text (verdict_words verdict.now) (answer_words answer.now)) }
+        (definition.heads_text verdict.now answer.now) }
 {
-    begin_words(text, sink, Class::Verdict, 200, 270);
-    put_verdict(text, sink, verdict);
+    begin_words(text, sink, verdict_class(verdict), 200, 270);
+    put_verdict_heading(text, sink, verdict);
     end_words(text, sink);
     begin_words(text, sink, Class::Answer, 15500, 270);
-    put_answer(text, sink, answer);
+    put_answer_heading(text, sink, answer);
     end_words(text, sink);
 }
 
@@ -184,7 +222,7 @@ fn put_facts<K: Sink>(text: &mut TextBuffer, sink: &mut K, table: &Table, counts
 }
 
 /// Puts all that stands before the plot of a picture of this height, in units of a tenth of a pixel: its head, whose title has the words
-/// of the verdict and of the audit, its background, these words again, those of the table, and the counts.
+/// of the verdict and of the audit, its background, the headings of both, the words of the table, and the counts.
 pub fn put_frame<K: Sink>(
     text: &mut TextBuffer,
     sink: &mut K,

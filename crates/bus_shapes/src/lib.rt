@@ -15,6 +15,7 @@ mod axis;
 mod class;
 mod counts;
 mod frame;
+mod heading;
 pub mod laws;
 mod scale;
 mod sent;

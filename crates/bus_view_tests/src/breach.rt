@@ -16,10 +16,11 @@ END
 ";
 
 /// The end of the picture, as long as the missing start needs, which has 1170 bit times.
-const LONG: &str =
-    "<rect class=\"wordstring\" x=\"1720\" y=\"1200\" width=\"660\" height=\"120\"><title>T1 message 1: moments 20 to 80, 60 bit times, 10.0 to 40.0 microseconds</title></rect>
+const LONG: &str = "<rect class=\"wordstring\" x=\"1720\" y=\"1200\" width=\"660\" height=\"120\">\
+<title>T1 message 1: moments 20 to 80, 60 bit times, 10.0 to 40.0 microseconds</title></rect>
 <text class=\"digits\" x=\"2050\" y=\"1295\">1</text>
-<rect class=\"other\" x=\"2710\" y=\"1200\" width=\"440\" height=\"120\"><title>T2 message 1: moments 110 to 150, 40 bit times, 55.0 to 75.0 microseconds</title></rect>
+<rect class=\"other\" x=\"2710\" y=\"1200\" width=\"440\" height=\"120\">\
+<title>T2 message 1: moments 110 to 150, 40 bit times, 55.0 to 75.0 microseconds</title></rect>
 <text class=\"digits\" x=\"2930\" y=\"1295\">2</text>
 <text class=\"detail\" x=\"1440\" y=\"1295\">0</text>
 <text class=\"detail\" x=\"15500\" y=\"1295\">150</text>

@@ -5,8 +5,17 @@ use bus_view::view;
 use std::test::Fail;
 
 /// Two senders and a listener.
-pub(crate) const TABLE: &str =
-    "TABLE 1\nMODE aperiodic\nTI 1000\nSG 1000\nSENDER 1 TG 20\nSEND 0A1 1 2 2\nSENDER 2 TG 30\nSEND 0B2 1 0 2\nTAKE 0A1 * 1 4\nLISTENER 3\n";
+pub(crate) const TABLE: &str = "TABLE 1
+MODE aperiodic
+TI 1000
+SG 1000
+SENDER 1 TG 20
+SEND 0A1 1 2 2
+SENDER 2 TG 30
+SEND 0B2 1 0 2
+TAKE 0A1 * 1 4
+LISTENER 3
+";
 
 /// A message of each.
 pub(crate) const TRACE: &str =

@@ -3,8 +3,58 @@ use crate::calls::{TABLE, TRACE, contains, run_on, shows};
 use bus_command::Status;
 use std::test::Fail;
 
-const WIRES: &str =
-    "$version bus629-view 1 $end\n$comment ACCEPT aperiodic 1130 1170 $end\n$timescale 100 ns $end\n$scope module bus $end\n$var wire 1 c carrier $end\n$var wire 1 o overlap $end\n$var wire 1 s sync $end\n$var wire 1 p1 t1_pulse $end\n$var wire 1 g1 t1_garbled $end\n$var wire 1 p2 t2_pulse $end\n$var wire 1 g2 t2_garbled $end\n$upscope $end\n$enddefinitions $end\n#0\n$dumpvars\n0c\n0o\n0s\n0p1\n0g1\n0p2\n0g2\n$end\n#100\n1c\n1s\n1p1\n#115\n0s\n#200\n1s\n#215\n0s\n#300\n1s\n#315\n0s\n#400\n0c\n0p1\n#550\n1c\n1s\n1p2\n#565\n0s\n#650\n1s\n#665\n0s\n#750\n";
+const WIRES: &str = "$version bus629-view 1 $end
+$comment ACCEPT aperiodic 1130 1170 $end
+$timescale 100 ns $end
+$scope module bus $end
+$var wire 1 c carrier $end
+$var wire 1 o overlap $end
+$var wire 1 s sync $end
+$var wire 1 p1 t1_pulse $end
+$var wire 1 g1 t1_garbled $end
+$var wire 1 p2 t2_pulse $end
+$var wire 1 g2 t2_garbled $end
+$upscope $end
+$enddefinitions $end
+#0
+$dumpvars
+0c
+0o
+0s
+0p1
+0g1
+0p2
+0g2
+$end
+#100
+1c
+1s
+1p1
+#115
+0s
+#200
+1s
+#215
+0s
+#300
+1s
+#315
+0s
+#400
+0c
+0p1
+#550
+1c
+1s
+1p2
+#565
+0s
+#650
+1s
+#665
+0s
+#750
+";
 
 #[test]
 fn the_wires_of_a_trace(rt: HostRuntime) -> Result<(), Fail> {
@@ -18,7 +68,7 @@ fn the_wires_of_a_trace(rt: HostRuntime) -> Result<(), Fail> {
 /// How many bytes each dump and the save file have. That these are theirs is what the contract says.
 #[test]
 fn each_dump_of_a_trace(rt: HostRuntime) -> Result<(), Fail> {
-    for (command, length) in [("vcd", 832), ("timers", 1132), ("gtkw", 405)] {
+    for (command, length) in [("vcd", 832), ("timers", 1132), ("gtkw", 482)] {
         let ran = run_on(&rt, &[command, "T", "R"], TABLE, TRACE)?;
         assert!(rt; ran.status == Status::Done);
         assert!(rt; ran.out.bytes().len() == length, "{command}");
@@ -37,8 +87,9 @@ const TURNING: &str =
 fn a_save_file_shows_the_timers_of_senders(rt: HostRuntime) -> Result<(), Fail> {
     let ran = run_on(&rt, &["gtkw", "T", "R"], SHORT_GAPS, TURNING)?;
     let parts = [
-        "@200\n-T1 TG 8\n@28\nbus.t1_pulse\n",
-        "bus.t1_tg\n[color] 2\nbus.t1_may\n@200\n-T7\n",
+        "*-18 20000\n@200\n-bus\n",
+        "@800200\n-T1 TG 8\n@28\nbus.t1_pulse\n",
+        "bus.t1_tg\n[color] 2\nbus.t1_may\n@1000200\n-group_end\n@800200\n-T7\n",
     ];
     assert!(rt; shows(&ran, &parts));
     assert!(rt; !contains(ran.out.bytes(), "t7_may"));

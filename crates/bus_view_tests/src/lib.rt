@@ -8,6 +8,10 @@ mod calls;
 #[cfg(test)]
 mod draw;
 #[cfg(test)]
+mod headings;
+#[cfg(test)]
+mod itself;
+#[cfg(test)]
 mod paint;
 #[cfg(test)]
 mod periodic;

@@ -21,17 +21,20 @@ END
 
 /// The end of the picture: a row of two transmissions, the words of one of two that collide, which are drawn after them, and the first
 /// start that is missing, in the first row.
-const ROWS: &str =
-    "<rect class=\"wordstring\" x=\"12940\" y=\"1200\" width=\"670\" height=\"120\"><title>T1 message 1: moments 1020 to 1080, 60 bit times, 510.0 to 540.0 microseconds</title></rect>
+const ROWS: &str = "<rect class=\"wordstring\" x=\"12940\" y=\"1200\" width=\"670\" height=\"120\">\
+<title>T1 message 1: moments 1020 to 1080, 60 bit times, 510.0 to 540.0 microseconds</title></rect>
 <text class=\"digits\" x=\"13275\" y=\"1295\">1</text>
-<rect class=\"other\" x=\"13950\" y=\"1200\" width=\"450\" height=\"120\"><title>T2 message 1: moments 1110 to 1150, 40 bit times, 555.0 to 575.0 microseconds</title></rect>
+<rect class=\"other\" x=\"13950\" y=\"1200\" width=\"450\" height=\"120\">\
+<title>T2 message 1: moments 1110 to 1150, 40 bit times, 555.0 to 575.0 microseconds</title></rect>
 <text class=\"digits\" x=\"14175\" y=\"1295\">2</text>
 <text class=\"detail\" x=\"1440\" y=\"1295\">0</text>
 <text class=\"detail\" x=\"15500\" y=\"1295\">1150</text>
 <text class=\"detail\" x=\"1440\" y=\"1435\">1370</text>
 <text class=\"detail\" x=\"15500\" y=\"1435\">1100</text>
-<rect class=\"garbled\" x=\"13050\" y=\"1346\" width=\"670\" height=\"48\"><title>T1 message 2: moments 2400 to 2460, 60 bit times, 1200.0 to 1230.0 microseconds, garbled</title></rect>
-<rect class=\"garbled\" x=\"13390\" y=\"1406\" width=\"440\" height=\"48\"><title>T2 message 2: moments 2430 to 2470, 40 bit times, 1215.0 to 1235.0 microseconds, garbled</title></rect>
+<rect class=\"garbled\" x=\"13050\" y=\"1346\" width=\"670\" height=\"48\">\
+<title>T1 message 2: moments 2400 to 2460, 60 bit times, 1200.0 to 1230.0 microseconds, garbled</title></rect>
+<rect class=\"garbled\" x=\"13390\" y=\"1406\" width=\"440\" height=\"48\">\
+<title>T2 message 2: moments 2430 to 2470, 40 bit times, 1215.0 to 1235.0 microseconds, garbled</title></rect>
 <rect class=\"breach\" x=\"1720\" y=\"1160\" width=\"20\" height=\"40\"/>
 <rect class=\"breach\" x=\"1720\" y=\"1320\" width=\"20\" height=\"40\"/>
 <text class=\"breach-words\" x=\"1990\" y=\"1295\">breach</text>

@@ -3,8 +3,20 @@ use crate::calls::{PERIODIC, contains, run_on, shows};
 use std::test::Fail;
 
 /// Two rounds.
-const ROUNDS: &str =
-    "TRACE 1\nHORIZON 2200\nHOLD 1 2\nHOLD 2 2\nTX 0 2\nWS L0B210\nTX 90 1\nWS L0A111 D00001 D00010\nTX 2000 2\nWS L0B210\nTX 2090 1\nWS L0A111 D00001 D00010\nEND\n";
+const ROUNDS: &str = "TRACE 1
+HORIZON 2200
+HOLD 1 2
+HOLD 2 2
+TX 0 2
+WS L0B210
+TX 90 1
+WS L0A111 D00001 D00010
+TX 2000 2
+WS L0B210
+TX 2090 1
+WS L0A111 D00001 D00010
+END
+";
 
 #[test]
 fn a_dump_has_its_lanes_in_turn_order(rt: HostRuntime) -> Result<(), Fail> {

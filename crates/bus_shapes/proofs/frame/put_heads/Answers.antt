@@ -1,7 +1,10 @@
+use Rattle.std.proofs.Common.{List, ℕ, ◌++◌, ap, subst}
+use Rattle.bus_outer.specs.Texts.{Adds}
 use Rattle.bus_outer.proofs.TextLaws.{◌▸◌}
 use Rattle.bus_shapes.proofs.frame.put_heads.Goals as goal
 
 pub returns : goal.returns
 returns g c =
-    (c.begin_words.ensures ▸ c.put_verdict.ensures ▸ c.end_words.ensures)
-    ▸ (c.begin_words-2.ensures ▸ c.put_answer.ensures ▸ c.end_words-2.ensures)
+    rw c.verdict_class.ensures at
+    ((c.begin_words.ensures ▸ c.put_verdict_heading.ensures ▸ c.end_words.ensures)
+    ▸ (c.begin_words-2.ensures ▸ c.put_answer_heading.ensures ▸ c.end_words-2.ensures))

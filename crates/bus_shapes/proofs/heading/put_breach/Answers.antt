@@ -1,0 +1,7 @@
+use Rattle.bus_outer.proofs.TextLaws.{◌▸◌}
+use Rattle.bus_shapes.proofs.heading.put_breach.Goals as goal
+
+pub returns : goal.returns
+returns g c =
+    c.put.ensures ▸ c.put_number.ensures ▸ c.put-2.ensures ▸ c.put_micro_number.ensures ▸ c.put_micro_unit.ensures ▸ c.put-3.ensures
+    ▸ c.put_number-2.ensures ▸ c.put_breach_words.ensures

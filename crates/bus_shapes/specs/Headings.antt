@@ -1,0 +1,71 @@
+-- The heading of a picture: what the verdict on the table and the audit of the trace come to, in words. Times are in bit times, and in
+-- microseconds, of which a bit time is a half.
+use Rattle.std.specs.Prelude.{ℕ, ◌/◌, ◌%◌, ◌==◌, List, [], ◌∷◌, ◌++◌, codes, if◌then◌else◌}
+use Rattle.std.specs.Fmt.{decimal, signed_decimal}
+use Rattle.bus_audit.specs.declared.answer.AuditAnswer.{AuditAnswer}
+use Rattle.bus_audit.specs.declared.answer.AuditAnswer.TheVariants.{Lawful, Breach}
+use Rattle.bus_audit.specs.declared.answer.BreachKind.{BreachKind}
+use Rattle.bus_audit.specs.declared.answer.BreachKind.TheVariants.{Stranger, Unheld, Early, Misfit, Missing}
+use Rattle.bus_regime.specs.declared.table_verdict.TableVerdict.{TableVerdict}
+use Rattle.bus_regime.specs.declared.table_verdict.TableVerdict.TheVariants.{Accept, ShortCycle, SmallGap, NoSync}
+use Rattle.bus_table.specs.declared.mode.Mode.{Mode}
+use Rattle.bus_table.specs.declared.mode.Mode.TheVariants.{Aperiodic, Periodic}
+use Rattle.bus_shapes.specs.Classes.{Class, Verdict, Refusal}
+use Rattle.bus_shapes.specs.Sayings.{counted}
+
+-- ---- times
+-- What an odd number of bit times is beyond whole microseconds.
+abbrev pub half_text : ℕ → List ℕ
+half_text t = if t % 2 == 1 then codes ".5" else []
+
+-- A time in microseconds, as a number.
+abbrev pub micro_number : ℕ → List ℕ
+micro_number t = decimal (t / 2) ++ half_text t
+
+-- Its unit: a space, the two bytes of the letter mu, and `s)`.
+abbrev pub micro_unit : List ℕ
+micro_unit = 32 ∷ 194 ∷ 181 ∷ 115 ∷ 41 ∷ []
+
+-- ---- the verdict
+-- An acceptance: the shortest and the longest cycle, which in periodic mode are one.
+abbrev pub accept_heading : Mode → ℕ → ℕ → List ℕ
+accept_heading Aperiodic least most =
+    codes "ACCEPT aperiodic, cycle " ++ decimal least ++ codes " to " ++ decimal most ++ codes " bit times (" ++ micro_number least
+    ++ codes " to " ++ micro_number most ++ micro_unit
+accept_heading Periodic least most =
+    codes "ACCEPT periodic, cycle " ++ decimal least ++ codes " bit times (" ++ micro_number least ++ micro_unit
+
+-- A verdict.
+abbrev pub verdict_heading : TableVerdict → List ℕ
+verdict_heading (Accept mode least most) = accept_heading mode least most
+verdict_heading (ShortCycle least ti) =
+    codes "REFUSE: shortest cycle " ++ decimal least ++ codes " bit times, below TI " ++ decimal ti
+verdict_heading (SmallGap terminal gap needed) =
+    codes "REFUSE: gap before terminal " ++ decimal terminal ++ codes " " ++ signed_decimal gap ++ codes " bit times, below TG "
+    ++ decimal needed
+verdict_heading (NoSync terminal gap needed) =
+    codes "REFUSE: no gap for SG, gap before terminal " ++ decimal terminal ++ codes " " ++ decimal gap
+    ++ codes " bit times, below SG + TG " ++ decimal needed
+
+-- How it looks: a refusal isn't to be taken for an acceptance.
+abbrev pub verdict_class : TableVerdict → Class
+verdict_class (Accept mode least most) = Verdict
+verdict_class (ShortCycle least ti) = Refusal
+verdict_class (SmallGap terminal gap needed) = Refusal
+verdict_class (NoSync terminal gap needed) = Refusal
+
+-- ---- the audit
+-- What a terminal does that breaches.
+abbrev pub breach_words : BreachKind → List ℕ
+breach_words Stranger = codes " starts and is no sender"
+breach_words Unheld = codes " starts and has no message left"
+breach_words Early = codes " starts before its timers allow it"
+breach_words Misfit = codes " sends what its lines don't allow"
+breach_words Missing = codes " should start and doesn't"
+
+-- What an audit found.
+abbrev pub answer_heading : AuditAnswer → List ℕ
+answer_heading (Lawful collided) = codes "LAWFUL, " ++ counted collided (codes "transmission") ++ codes " collided"
+answer_heading (Breach moment terminal kind) =
+    codes "BREACH at " ++ decimal moment ++ codes " (" ++ micro_number moment ++ micro_unit ++ codes ": terminal " ++ decimal terminal
+    ++ breach_words kind

@@ -1,0 +1,209 @@
+//! The heading of a picture, in words.
+ghost use Rattle.std.specs.Prelude.{◌≡◌};
+ghost use Rattle.std.specs.Fmt.{signed_decimal};
+ghost use Rattle.bus_outer.specs.Texts.{Adds};
+ghost use Rattle.bus_audit.specs.declared.answer.AuditAnswer.TheVariants.{Lawful, Breach};
+ghost use Rattle.bus_regime.specs.declared.table_verdict.TableVerdict.TheVariants.{ShortCycle, SmallGap, NoSync};
+ghost use Rattle.bus_table.specs.declared.mode.Mode.TheVariants.{Aperiodic, Periodic};
+ghost use Rattle.bus_shapes.specs.Headings as definition;
+
+use crate::class::Class;
+use crate::frame::put_counted;
+use bus_audit::{AuditAnswer, BreachKind};
+use bus_outer::{Sink, TextBuffer};
+use bus_regime::TableVerdict;
+use bus_table::Mode;
+
+/// What an odd number of bit times is beyond whole microseconds.
+fn put_half<K: Sink>(text: &mut TextBuffer, sink: &mut K, t: u64)
+    ensures { Adds K.held K.faults sink.old sink.new text.old text.new (definition.half_text t) }
+{
+    if t % 2 == 1 {
+        text.put(sink, b".5");
+    }
+}
+
+/// A time in microseconds, as a number.
+fn put_micro_number<K: Sink>(text: &mut TextBuffer, sink: &mut K, t: u64)
+    ensures { Adds K.held K.faults sink.old sink.new text.old text.new (definition.micro_number t) }
+{
+    text.put_number(sink, t / 2);
+    put_half(text, sink, t);
+}
+
+/// Its unit.
+fn put_micro_unit<K: Sink>(text: &mut TextBuffer, sink: &mut K)
+    ensures { Adds K.held K.faults sink.old sink.new text.old text.new definition.micro_unit }
+{
+    text.put(sink, &[b' ', 194, 181, b's', b')']);
+}
+
+/// An acceptance in aperiodic mode.
+fn put_aperiodic<K: Sink>(text: &mut TextBuffer, sink: &mut K, least: u64, most: u64)
+    ensures { Adds K.held K.faults sink.old sink.new text.old text.new (definition.accept_heading Aperiodic least most) }
+{
+    text.put(sink, b"ACCEPT aperiodic, cycle ");
+    text.put_number(sink, least);
+    text.put(sink, b" to ");
+    text.put_number(sink, most);
+    text.put(sink, b" bit times (");
+    put_micro_number(text, sink, least);
+    text.put(sink, b" to ");
+    put_micro_number(text, sink, most);
+    put_micro_unit(text, sink);
+}
+
+/// An acceptance in periodic mode.
+fn put_periodic<K: Sink>(text: &mut TextBuffer, sink: &mut K, least: u64, most: u64)
+    ensures { Adds K.held K.faults sink.old sink.new text.old text.new (definition.accept_heading Periodic least most) }
+{
+    let _interval = most;
+    text.put(sink, b"ACCEPT periodic, cycle ");
+    text.put_number(sink, least);
+    text.put(sink, b" bit times (");
+    put_micro_number(text, sink, least);
+    put_micro_unit(text, sink);
+}
+
+/// An acceptance.
+fn put_accept<K: Sink>(text: &mut TextBuffer, sink: &mut K, mode: Mode, least: u64, most: u64)
+    ensures { Adds K.held K.faults sink.old sink.new text.old text.new (definition.accept_heading mode least most) }
+{
+    match mode {
+        Mode::Aperiodic => put_aperiodic(text, sink, least, most),
+        Mode::Periodic => put_periodic(text, sink, least, most),
+    }
+}
+
+/// A refusal for a short cycle.
+fn put_short_cycle<K: Sink>(text: &mut TextBuffer, sink: &mut K, least: u64, ti: u64)
+    ensures { Adds K.held K.faults sink.old sink.new text.old text.new (definition.verdict_heading (ShortCycle least ti)) }
+{
+    text.put(sink, b"REFUSE: shortest cycle ");
+    text.put_number(sink, least);
+    text.put(sink, b" bit times, below TI ");
+    text.put_number(sink, ti);
+}
+
+/// A number that may be negative.
+fn put_signed<K: Sink>(text: &mut TextBuffer, sink: &mut K, number: i64)
+    ensures { Adds K.held K.faults sink.old sink.new text.old text.new (signed_decimal number) }
+{
+    text.put_number(sink, number)
+}
+
+/// A refusal for a small gap.
+fn put_small_gap<K: Sink>(text: &mut TextBuffer, sink: &mut K, terminal: u8, gap: i64, needed: u64)
+    ensures { Adds K.held K.faults sink.old sink.new text.old text.new (definition.verdict_heading (SmallGap terminal gap needed)) }
+{
+    text.put(sink, b"REFUSE: gap before terminal ");
+    text.put_number(sink, terminal);
+    text.put(sink, b" ");
+    put_signed(text, sink, gap);
+    text.put(sink, b" bit times, below TG ");
+    text.put_number(sink, needed);
+}
+
+/// A refusal for want of a synchronization gap.
+fn put_no_sync<K: Sink>(text: &mut TextBuffer, sink: &mut K, terminal: u8, gap: u64, needed: u64)
+    ensures { Adds K.held K.faults sink.old sink.new text.old text.new (definition.verdict_heading (NoSync terminal gap needed)) }
+{
+    text.put(sink, b"REFUSE: no gap for SG, gap before terminal ");
+    text.put_number(sink, terminal);
+    text.put(sink, b" ");
+    text.put_number(sink, gap);
+    text.put(sink, b" bit times, below SG + TG ");
+    text.put_number(sink, needed);
+}
+
+/// Puts a verdict.
+pub(crate) fn put_verdict_heading<K: Sink>(
+    text: &mut TextBuffer,
+    sink: &mut K,
+    verdict: &TableVerdict,
+)
+    ensures { Adds K.held K.faults sink.old sink.new text.old text.new (definition.verdict_heading verdict.now) }
+{
+    match *verdict {
+        TableVerdict::Accept { mode, least, most } => put_accept(text, sink, mode, least, most),
+        TableVerdict::ShortCycle { least, ti } => put_short_cycle(text, sink, least, ti),
+        TableVerdict::SmallGap {
+            terminal,
+            gap,
+            needed,
+        } => put_small_gap(text, sink, terminal, gap, needed),
+        TableVerdict::NoSync {
+            terminal,
+            gap,
+            needed,
+        } => put_no_sync(text, sink, terminal, gap, needed),
+    }
+}
+
+/// How a verdict looks.
+pub(crate) fn verdict_class(verdict: &TableVerdict) -> Class
+    ensures { result ≡ definition.verdict_class verdict.now }
+{
+    match *verdict {
+        TableVerdict::Accept { .. } => Class::Verdict,
+        TableVerdict::ShortCycle { .. } => Class::Refusal,
+        TableVerdict::SmallGap { .. } => Class::Refusal,
+        TableVerdict::NoSync { .. } => Class::Refusal,
+    }
+}
+
+/// What a terminal does that breaches.
+fn put_breach_words<K: Sink>(text: &mut TextBuffer, sink: &mut K, kind: BreachKind)
+    ensures { Adds K.held K.faults sink.old sink.new text.old text.new (definition.breach_words kind) }
+{
+    match kind {
+        BreachKind::Stranger => text.put(sink, b" starts and is no sender"),
+        BreachKind::Unheld => text.put(sink, b" starts and has no message left"),
+        BreachKind::Early => text.put(sink, b" starts before its timers allow it"),
+        BreachKind::Misfit => text.put(sink, b" sends what its lines don't allow"),
+        BreachKind::Missing => text.put(sink, b" should start and doesn't"),
+    }
+}
+
+/// That nothing is wrong.
+fn put_lawful<K: Sink>(text: &mut TextBuffer, sink: &mut K, collided: u64)
+    ensures { Adds K.held K.faults sink.old sink.new text.old text.new (definition.answer_heading (Lawful collided)) }
+{
+    text.put(sink, b"LAWFUL, ");
+    put_counted(text, sink, collided, b"transmission");
+    text.put(sink, b" collided");
+}
+
+/// The first breach.
+fn put_breach<K: Sink>(
+    text: &mut TextBuffer,
+    sink: &mut K,
+    moment: u64,
+    terminal: u8,
+    kind: BreachKind,
+)
+    ensures { Adds K.held K.faults sink.old sink.new text.old text.new (definition.answer_heading (Breach moment terminal kind)) }
+{
+    text.put(sink, b"BREACH at ");
+    text.put_number(sink, moment);
+    text.put(sink, b" (");
+    put_micro_number(text, sink, moment);
+    put_micro_unit(text, sink);
+    text.put(sink, b": terminal ");
+    text.put_number(sink, terminal);
+    put_breach_words(text, sink, kind);
+}
+
+/// Puts what an audit found.
+pub(crate) fn put_answer_heading<K: Sink>(text: &mut TextBuffer, sink: &mut K, answer: &AuditAnswer)
+    ensures { Adds K.held K.faults sink.old sink.new text.old text.new (definition.answer_heading answer.now) }
+{
+    match *answer {
+        AuditAnswer::Lawful { collided } => put_lawful(text, sink, collided),
+        AuditAnswer::Breach {
+            moment,
+            terminal,
+            kind,
+        } => put_breach(text, sink, moment, terminal, kind),
+    }
+}
