@@ -17,7 +17,8 @@ fn help_of_the_program(rt: HostRuntime) -> Result<(), Fail> {
 fn version_of_the_program(rt: HostRuntime) -> Result<(), Fail> {
     let ran = run_on(&rt, &["--version"], "", "")?;
     assert!(rt; ran.status == Status::Done && ran.err.bytes().is_empty());
-    assert!(rt; ran.out.bytes() == b"bus629-view 1.0.0 (TABLE 1, TRACE 1 and 2)\n");
+    let line = b"bus629-view 1.0.0 (TABLE 1, TRACE 1 and 2)\n";
+    assert_eq!(rt; ran.out.bytes(), line.as_slice());
     Ok(())
 }
 
@@ -27,7 +28,7 @@ fn words_that_ask_for_neither(rt: HostRuntime) -> Result<(), Fail> {
     for words in forms {
         let ran = run_on(&rt, words, TABLE, "")?;
         assert!(rt; ran.status == Status::Usage && ran.out.bytes().is_empty());
-        assert!(rt; ran.err.bytes() == b"ERROR 2 usage\n");
+        assert_eq!(rt; ran.err.bytes(), b"ERROR 2 usage\n".as_slice());
     }
     Ok(())
 }
