@@ -1,5 +1,6 @@
 //! A buffer of fixed size before a sink, so that a text of many fields comes in few pushes.
 ghost use Rattle.std.specs.Prelude.{◌≡◌, [], ◌∷◌, length, decimal};
+ghost use Rattle.std.specs.Fmt.{signed_decimal};
 ghost use Rattle.bus_outer.specs.Texts.{IsFresh, Adds, Ends};
 ghost use Rattle.bus_outer.specs.Standing.{Sends};
 
@@ -55,6 +56,13 @@ impl TextBuffer {
     {
         let mut buffer = Buffer::new();
         self.put(sink, buffer.format(number).as_bytes())
+    }
+
+    /// Adds a number that may be negative, in the same digits.
+    pub fn put_signed<K: Sink>(&mut self, sink: &mut K, number: i64)
+        ensures { Adds K.held K.faults sink.old sink.new self.old self.new (signed_decimal number) }
+    {
+        self.put_number(sink, number)
     }
 
     /// Writes what still waits, and says whether the whole text has been written.

@@ -12,8 +12,6 @@ mod judging;
 mod line;
 mod periodic;
 mod table_verdict;
-#[cfg(test)]
-mod tests;
 mod witnessing;
 
 pub use gaps::{TurnGap, gap_at, turn_ends};

@@ -1,5 +1,4 @@
 //! The words of a verdict, and its line.
-ghost use Rattle.std.specs.Fmt.{signed_decimal};
 ghost use Rattle.bus_outer.specs.Sinks.{WritesText};
 ghost use Rattle.bus_outer.specs.Texts.{Adds};
 ghost use Rattle.bus_regime.specs.declared.table_verdict.TableVerdict.TheVariants.{Accept, ShortCycle, SmallGap, NoSync};
@@ -31,13 +30,6 @@ fn put_short_cycle<K: Sink>(text: &mut TextBuffer, sink: &mut K, least: u64, ti:
     text.put_number(sink, ti);
 }
 
-/// Puts a number that may be negative.
-fn put_signed<K: Sink>(text: &mut TextBuffer, sink: &mut K, number: i64)
-    ensures { Adds K.held K.faults sink.old sink.new text.old text.new (signed_decimal number) }
-{
-    text.put_number(sink, number)
-}
-
 /// Puts a refusal for a small gap.
 fn put_small_gap<K: Sink>(text: &mut TextBuffer, sink: &mut K, terminal: u8, gap: i64, needed: u64)
     ensures { Adds K.held K.faults sink.old sink.new text.old text.new (verdict_words (SmallGap terminal gap needed)) }
@@ -45,7 +37,7 @@ fn put_small_gap<K: Sink>(text: &mut TextBuffer, sink: &mut K, terminal: u8, gap
     text.put(sink, b"REFUSE small-gap ");
     text.put_number(sink, terminal);
     text.put_byte(sink, b' ');
-    put_signed(text, sink, gap);
+    text.put_signed(sink, gap);
     text.put_byte(sink, b' ');
     text.put_number(sink, needed);
 }

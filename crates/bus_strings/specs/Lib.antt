@@ -2,6 +2,7 @@
 pub mod Limits
 pub mod Members
 pub mod Messages
+pub mod Microseconds
 pub mod Pulses
 pub mod PulseLaws
 pub mod Transmissions

@@ -6,8 +6,9 @@
 //! - [`Payloads`] are the items of a messages text: [`read_messages`] gives them, or the line that is
 //!   refused and why, and [`write_messages`] writes their canonical text. [`read_item`] and [`put_payloads`] do so with their lines in a
 //!   text of another grammar.
+//! - [`put_microseconds`] puts a number of bit times in microseconds.
 //!
-//! The definitions are in `specs/`: `Messages`, `Pulses` and `Transmissions` for what is sent, `Items`, `Grammar` (which
+//! The definitions are in `specs/`: `Messages`, `Pulses` and `Transmissions` for what is sent, `Microseconds`, `Items`, `Grammar` (which
 //! texts stand for which items), `Reading` (what a text reads as, or which line is refused) and `Canonical` for the messages
 //! text.
 #![tactic(auto)]
@@ -17,18 +18,18 @@ mod item;
 pub mod laws;
 pub mod limits;
 mod message;
+mod microseconds;
 mod overlap;
 mod payload;
 mod pulses;
 mod reading;
-#[cfg(test)]
-mod tests;
 mod transmission;
 mod wordstring;
 mod writing;
 
 pub use fault::MessagesError;
 pub use message::{Message, copy_message};
+pub use microseconds::{put_micro_unit, put_microseconds};
 pub use overlap::{Marks, garbled, is_by_moment, overlaps};
 pub use payload::{Payload, Payloads};
 pub use pulses::{bits, is_on, pulse, pulse_count};

@@ -110,6 +110,3 @@ pub fn read_messages(alloc: Global, text: &[u8]) -> Result<Payloads, MessagesErr
 {
     read(alloc, text)
 }
-
-#[cfg(test)]
-mod tests;

@@ -9,7 +9,5 @@
 pub mod laws;
 mod place;
 mod terminal;
-#[cfg(test)]
-mod tests;
 
 pub use terminal::Terminal;

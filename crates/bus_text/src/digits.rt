@@ -3,16 +3,17 @@ ghost use Rattle.std.specs.Prelude.{◌≡◌, ◌<◌, ◌≤◌, IfSome, if◌
 ghost use Rattle.std.specs.Char.{is_ascii_hexdigit, digit_value};
 ghost use Rattle.bus_text.specs.Digits.{hex_digit as digit_of, is_capital_digit, hexadecimal};
 
-/// The hexadecimal digit of a number below 16, in capitals.
+/// The digits in capitals, in order.
+const DIGITS: [u8; 16] = [
+    48, 49, 50, 51, 52, 53, 54, 55, 56, 57, 65, 66, 67, 68, 69, 70,
+];
+
+/// The hexadecimal digit of a number below 16, in capitals. From a table, since a text has many.
 pub fn hex_digit(value: u8) -> u8
     requires { value < 16 }
     ensures { result ≡ digit_of value }
 {
-    if value < 10 {
-        b'0' + value
-    } else {
-        b'A' + (value - 10)
-    }
+    DIGITS[usize::from(value)]
 }
 
 /// What [`hex_value`] has for a byte that is no digit: more than any four digits have together.

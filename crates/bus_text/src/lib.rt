@@ -23,8 +23,6 @@ mod lines;
 mod numbers;
 mod reason;
 mod split;
-#[cfg(test)]
-mod tests;
 
 pub use cursor::{Line, Lines};
 pub use digits::{NO_CAPITAL, capital_digit, capital_value, four_digits, hex_digit, three_digits};

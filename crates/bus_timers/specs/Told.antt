@@ -10,7 +10,8 @@ Stands = Timing → List Bool → Option ℕ → Type 0
 
 -- It tells whether the terminal may start, after every past for which it stands.
 abbrev pub TellsReady : Stands → Bool → Type 0
-TellsReady stands ready = (timing : Timing) (past : List Bool) (last : Option ℕ) → stands timing past last → (IsTrue ready ↔ MayStart timing past last)
+TellsReady stands ready =
+    (timing : Timing) (past : List Bool) (last : Option ℕ) → stands timing past last → (IsTrue ready ↔ MayStart timing past last)
 
 -- The terminal has started: the last own start is at the end of each past for which it stood.
 abbrev pub HasStarted : Stands → Stands → Type 0

@@ -16,8 +16,6 @@ mod history;
 mod jumps;
 pub mod laws;
 mod plain;
-#[cfg(test)]
-mod tests;
 mod timing;
 
 pub use cores::Core;

@@ -14,8 +14,6 @@
 #![tactic(auto)]
 
 mod label;
-#[cfg(test)]
-mod tests;
 mod text;
 mod word;
 
