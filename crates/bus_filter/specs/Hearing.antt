@@ -1,5 +1,5 @@
 -- What a receiver of one receive line makes of the words that it answers.
---   place   how many data words of the present wordstring have come, where it matches; it stops behind the line's last place
+--   position   how many data words of the present wordstring have come, where it matches; it stops behind the line's last position
 use Rattle.std.specs.Prelude.{ℕ, ◌+◌, ◌/◌, ◌%◌, min, Bool, ◌&&◌, nat_le, nat_lt, List, [], ◌∷◌, map, Option, Some, None, if◌then◌else◌}
 use Rattle.std.specs.List.{filter_map}
 use Rattle.std.specs.Option.{option_map}
@@ -13,38 +13,38 @@ use Rattle.bus_filter.specs.declared.receiver.Heard.{Heard}
 use Rattle.bus_filter.specs.declared.receiver.Heard.TheVariants.{Skipped, Begins, Kept}
 use Rattle.bus_filter.specs.Received.{matches}
 
--- A receiver: its line, and its place in a wordstring that matches.
+-- A receiver: its line, and its position in a wordstring that matches.
 pub record Hearing : Type 0 where
   pub line : TakeLine
-  pub place : Option ℕ
+  pub position : Option ℕ
 
 -- A receiver that stands in no wordstring that matches.
 abbrev pub unmatched : TakeLine → Hearing
-unmatched line = record { line = line; place = None }
+unmatched line = record { line = line; position = None }
 
--- Whether a place is one of the line's.
+-- Whether a position is one of the line's.
 abbrev pub is_taken : TakeLine → ℕ → Bool
-is_taken line place = nat_le line.first place && nat_lt place (line.first + line.count)
+is_taken line position = nat_le line.first position && nat_lt position (line.first + line.count)
 
--- The place behind a place.
-abbrev pub next_place : TakeLine → ℕ → ℕ
-next_place line place = min (place + 1) (line.first + line.count)
+-- The position behind a position.
+abbrev pub next_position : TakeLine → ℕ → ℕ
+next_position line position = min (position + 1) (line.first + line.count)
 
--- A data word at a place of a wordstring that matches, or of one that doesn't.
+-- A data word at a position of a wordstring that matches, or of one that doesn't.
 abbrev pub data_answer : TakeLine → Option ℕ → ℕ → Heard
 data_answer line None value = Skipped
-data_answer line (Some place) value = if is_taken line place then Kept value else Skipped
+data_answer line (Some position) value = if is_taken line position then Kept value else Skipped
 
 -- What a word gives: a label word begins a wordstring that matches, and a data word is kept where the wordstring matches and its
--- place is one of the line's.
+-- position is one of the line's.
 abbrev pub answer_by : Hearing → Kind → ℕ → Heard
 answer_by h Label value = if matches h.line (value / 16) (value % 16) then Begins (value / 16) (value % 16) else Skipped
-answer_by h Plain value = data_answer h.line h.place value
+answer_by h Plain value = data_answer h.line h.position value
 
--- The place behind a word: a label word begins the count of places, or ends the match.
-abbrev pub place_by : Hearing → Kind → ℕ → Option ℕ
-place_by h Label value = if matches h.line (value / 16) (value % 16) then Some 0 else None
-place_by h Plain value = option_map (next_place h.line) h.place
+-- The position behind a word: a label word begins the count of positions, or ends the match.
+abbrev pub position_by : Hearing → Kind → ℕ → Option ℕ
+position_by h Label value = if matches h.line (value / 16) (value % 16) then Some 0 else None
+position_by h Plain value = option_map (next_position h.line) h.position
 
 -- What a word gives.
 abbrev pub answer : Hearing → Word → Heard
@@ -52,7 +52,7 @@ answer h word = answer_by h word.kind word.value
 
 -- The receiver behind a word.
 abbrev pub after : Hearing → Word → Hearing
-after h word = record { line = h.line; place = place_by h word.kind word.value }
+after h word = record { line = h.line; position = position_by h word.kind word.value }
 
 -- What words give, one after another.
 abbrev pub answers : Hearing → List Word → List Heard

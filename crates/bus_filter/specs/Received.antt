@@ -28,7 +28,7 @@ pub record Taker : Type 0 where
 abbrev pub matches : TakeLine → ℕ → ℕ → Bool
 matches line label ext = line.label == label && option_map_or (λ e. e == ext) line.ext true
 
--- The selection of a receive line: the words with places `first` to `first + count - 1`, counted from 0, as far as they exist.
+-- The selection of a receive line: the words with positions `first` to `first + count - 1`, counted from 0, as far as they exist.
 abbrev pub selection : TakeLine → List ℕ → List ℕ
 selection line words = take line.count (drop line.first words)
 

@@ -1,7 +1,7 @@
 //! Received words: what each terminal of a table takes from the messages of others, by its receive lines.
 //!
 //! A terminal takes nothing from its own messages, nor from garbled ones. A receive line matches a wordstring of its label and of its
-//! extension, or of any, and takes the data words with places `first` to `first + count - 1`, as far as they exist. The
+//! extension, or of any, and takes the data words with positions `first` to `first + count - 1`, as far as they exist. The
 //! receive lines, their ranges and the text are this project's profile.
 //!
 //! - [`write_received`] writes what each terminal of a table receives of a list of transmissions, and [`count_received`] counts its
@@ -21,8 +21,6 @@ pub mod laws;
 mod matching;
 mod receiver;
 mod spans;
-#[cfg(test)]
-mod tests;
 mod writing;
 
 pub use counting::count_received;

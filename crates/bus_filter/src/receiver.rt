@@ -1,6 +1,6 @@
 //! A receiver of one receive line, word by word.
 ghost use Rattle.std.specs.Prelude.{◌≡◌, ◌↔◌, IsTrue, IsSome};
-ghost use Rattle.bus_filter.specs.Hearing.{Hearing, unmatched, answer, after, answer_by, place_by, is_taken, next_place};
+ghost use Rattle.bus_filter.specs.Hearing.{Hearing, unmatched, answer, after, answer_by, position_by, is_taken, next_position};
 
 use crate::matching::matches;
 use bus_table::TakeLine;
@@ -10,7 +10,7 @@ use std::marker::Model;
 /// What a word gave.
 #[derive(Clone, Copy, Debug, PartialEq, Eq)]
 pub enum Heard {
-    /// Nothing: the wordstring doesn't match, or the place isn't one of the line's.
+    /// Nothing: the wordstring doesn't match, or the position isn't one of the line's.
     Skipped,
     /// A label word began a wordstring that matches.
     Begins {
@@ -27,7 +27,7 @@ pub enum Heard {
 #[derive(Debug, Drop)]
 pub struct Receiver {
     line: TakeLine,
-    place: Option<u32>,
+    position: Option<u32>,
 }
 
 impl Model for Receiver {
@@ -35,22 +35,22 @@ impl Model for Receiver {
 
     ghost Value = { Hearing };
 
-    ghost view = { λ r. record { line = r.line; place = r.place } };
+    ghost view = { λ r. record { line = r.line; position = r.position } };
 }
 
-/// Whether a place is one of the line's.
-fn takes_place(line: &TakeLine, place: u32) -> bool
-    ensures { result ≡ is_taken line.now place }
+/// Whether a position is one of the line's.
+fn takes_position(line: &TakeLine, position: u32) -> bool
+    ensures { result ≡ is_taken line.now position }
 {
     let first = u32::from(line.first);
-    first <= place && place < first + u32::from(line.count)
+    first <= position && position < first + u32::from(line.count)
 }
 
-/// The place behind a place, which stops behind the line's last one.
-fn place_behind(line: &TakeLine, place: u32) -> u32
-    ensures { result ≡ next_place line.now place }
+/// The position behind a position, which stops behind the line's last one.
+fn position_behind(line: &TakeLine, position: u32) -> u32
+    ensures { result ≡ next_position line.now position }
 {
-    place
+    position
         .saturating_add(1)
         .min(u32::from(line.first) + u32::from(line.count))
 }
@@ -60,34 +60,37 @@ impl Receiver {
     pub fn new(line: TakeLine) -> Receiver
         ensures { result ≡ unmatched line }
     {
-        Receiver { line, place: None }
+        Receiver {
+            line,
+            position: None,
+        }
     }
 
     /// Forgets all but the line.
     pub fn begin(&mut self)
         ensures { self.new ≡ unmatched self.old.line }
     {
-        self.place = None;
+        self.position = None;
     }
 
     /// Ends a wordstring that matches: the data words behind it are skipped.
     pub fn end(&mut self)
         ensures { self.new ≡ unmatched self.old.line }
     {
-        self.place = None;
+        self.position = None;
     }
 
     /// Whether the present wordstring matches the line.
     pub fn matching(&self) -> bool
-        ensures { IsTrue result ↔ IsSome self.now.place }
+        ensures { IsTrue result ↔ IsSome self.now.position }
     {
-        self.place.is_some()
+        self.position.is_some()
     }
 
     /// Takes the next word.
     ///
-    /// A label word gives `Begins` exactly where it matches the line, and then the places count from 0. A data word gives `Kept`
-    /// exactly where the present wordstring matches and its place is from `first` to `first + count - 1`. Else `Skipped`; a label
+    /// A label word gives `Begins` exactly where it matches the line, and then the positions count from 0. A data word gives `Kept`
+    /// exactly where the present wordstring matches and its position is from `first` to `first + count - 1`. Else `Skipped`; a label
     /// word that doesn't match ends the match.
     pub fn word(&mut self, word: Word) -> Heard
         ensures answer { result ≡ answer self.old word }
@@ -102,14 +105,14 @@ impl Receiver {
     /// Takes a label word.
     fn label(&mut self, value: u16) -> Heard
         ensures answer { result ≡ answer_by self.old Kind.Label value }
-        ensures after { self.new ≡ record { line = self.old.line; place = place_by self.old Kind.Label value } }
+        ensures after { self.new ≡ record { line = self.old.line; position = position_by self.old Kind.Label value } }
     {
         let (label, ext) = split_label(value);
         if matches(&self.line, label, ext) {
-            self.place = Some(0);
+            self.position = Some(0);
             Heard::Begins { label, ext }
         } else {
-            self.place = None;
+            self.position = None;
             Heard::Skipped
         }
     }
@@ -117,13 +120,13 @@ impl Receiver {
     /// Takes a data word.
     fn data(&mut self, value: u16) -> Heard
         ensures answer { result ≡ answer_by self.old Kind.Plain value }
-        ensures after { self.new ≡ record { line = self.old.line; place = place_by self.old Kind.Plain value } }
+        ensures after { self.new ≡ record { line = self.old.line; position = position_by self.old Kind.Plain value } }
     {
-        let Some(place) = self.place else {
+        let Some(position) = self.position else {
             return Heard::Skipped;
         };
-        self.place = Some(place_behind(&self.line, place));
-        if takes_place(&self.line, place) {
+        self.position = Some(position_behind(&self.line, position));
+        if takes_position(&self.line, position) {
             Heard::Kept(value)
         } else {
             Heard::Skipped

@@ -1,4 +1,4 @@
-//! Between which places the receive lines of each label stand.
+//! Between which indices the receive lines of each label stand.
 ghost use Rattle.std.specs.Prelude.{◌≡◌, ℕ, ◌+◌, ◌<◌, ◌≤◌, IsTrue, IsFalse, length, get_or};
 ghost use Rattle.bus_table.specs.Ranges.{most_takes};
 ghost use Rattle.bus_filter.specs.inside.Keys.{AreSpans, of_label, key_count};
@@ -7,7 +7,7 @@ use crate::keys::{KEYS, SEVERAL};
 use bus_table::TakeLine;
 use bus_words::Label;
 
-/// By label, between which places the receive lines of a terminal stand that have it. A table, so that one look tells that no line
+/// By label, between which indices the receive lines of a terminal stand that have it. A table, so that one look tells that no line
 /// takes a label.
 #[derive(Drop)]
 pub(crate) struct Spans {
@@ -17,24 +17,24 @@ pub(crate) struct Spans {
     behind: [u8; KEYS],
 }
 
-/// The first place of a label that stands at one more, the last.
-fn first_place(first: u8, behind: u8, place: u8) -> u8
-    ensures none { behind ≡ 0 → result ≡ place }
+/// The first index of a label that stands at one more, the last.
+fn first_index(first: u8, behind: u8, index: u8) -> u8
+    ensures none { behind ≡ 0 → result ≡ index }
     ensures some { 0 < behind → result ≡ first }
 {
-    if behind == 0 { place } else { first }
+    if behind == 0 { index } else { first }
 }
 
-/// Notes the receive line at a place.
-fn note(spans: &mut Spans, takes: &[TakeLine], place: usize)
-    requires within { place < length takes.now }
+/// Notes the receive line at a index.
+fn note(spans: &mut Spans, takes: &[TakeLine], index: usize)
+    requires within { index < length takes.now }
     requires few { length takes.now ≤ most_takes }
-    requires before { AreSpans takes.now place spans.old.first spans.old.behind }
-    ensures { AreSpans takes.now (place + 1) spans.new.first spans.new.behind }
+    requires before { AreSpans takes.now index spans.old.first spans.old.behind }
+    ensures { AreSpans takes.now (index + 1) spans.new.first spans.new.behind }
 {
-    let label = usize::from(takes[place].label.value());
-    spans.first[label] = first_place(spans.first[label], spans.behind[label], place as u8);
-    spans.behind[label] = place as u8 + 1;
+    let label = usize::from(takes[index].label.value());
+    spans.first[label] = first_index(spans.first[label], spans.behind[label], index as u8);
+    spans.behind[label] = index as u8 + 1;
 }
 
 /// The spans of no lines, where nothing is taken yet.
@@ -57,8 +57,8 @@ pub(crate) fn spans_of(takes: &[TakeLine]) -> Spans
 {
     let mut spans = blank();
     spans.behind[usize::from(SEVERAL)] = 1;
-    for place in 0..takes.len() {
-        note(&mut spans, takes, place);
+    for index in 0..takes.len() {
+        note(&mut spans, takes, index);
     }
     spans
 }

@@ -1,6 +1,6 @@
 -- By what a transmission of a list is looked up in the receive lines of a terminal.
 --   key    the label of its one wordstring, or a number that no label has
---   span   between which places the receive lines of a label stand
+--   span   between which indices the receive lines of a label stand
 use Rattle.std.specs.Prelude.{◌≡◌, ℕ, ◌<◌, ◌≤◌, Bool, ◌==◌, List, [], ◌∷◌, map, get_or, Some, length, slice_get, if◌then◌else◌}
 use Rattle.std.specs.List.{filter, zip}
 use Rattle.bus_strings.specs.Messages.{Wordstring, Entry}
@@ -43,9 +43,9 @@ abbrev pub of_label : ℕ → List TakeLine → List TakeLine
 of_label label takes = filter (λ line. line.label == label) takes
 
 -- By key, the spans of the first n receive lines.
---   from      a line stands from the first place of its label on
---   within    and before the place behind the last
---   ordered   of no label is the first place behind the last, nor is there one behind the lines
+--   from      a line stands from the first index of its label on
+--   within    and before the index behind the last
+--   ordered   of no label is the first index behind the last, nor is there one behind the lines
 --   bound
 --   several   where there are several wordstrings, any line may take of them
 --   silent    none takes of what is garbled

@@ -3,8 +3,8 @@ use Rattle.bus_filter.specs.inside.Keys.{AreSpans}
 use Rattle.bus_filter.proofs.SpanLemmas.{none_spanned}
 use Rattle.bus_filter.proofs.spans.spans_of.Goals as goal
 
-pub loop-place-init : goal.loop-place-init
-loop-place-init c =
+pub loop-index-init : goal.loop-index-init
+loop-index-init c =
     let first = c.blank-spans.result.first in
     let behind = c.blank-spans.result.behind in
     subst (λ (n : ℕ). AreSpans c.args.takes.now 0 first (set behind n 1)) (sym c.from.ensures)

@@ -2,5 +2,5 @@ use Rattle.bus_filter.specs.inside.Keys.{AreSpans}
 use Rattle.bus_filter.proofs.spans.spans_of.Given as goal
 
 -- the lines so far are noted
-abbrev pub invariant-loop-place : goal.invariant-loop-place
-invariant-loop-place l = AreSpans l.takes l.place l.spans.first l.spans.behind
+abbrev pub invariant-loop-index : goal.invariant-loop-index
+invariant-loop-index l = AreSpans l.takes l.index l.spans.first l.spans.behind
