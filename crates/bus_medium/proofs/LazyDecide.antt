@@ -12,8 +12,7 @@ use Rattle.bus_strings.proofs.MemberLaws.{in_append_left, in_push, in_push_cases
 use Rattle.bus_medium.specs.Past.{past, own, last_place}
 use Rattle.bus_medium.specs.Buses.{Seat, station_of, number_of}
 use Rattle.bus_medium.specs.inside.Following.{FollowsAt, Idle, Started}
-use Rattle.bus_medium.specs.declared.clock.Clock.{Clock}
-use Rattle.bus_medium.specs.inside.Lazy.{Clocked, lazy, lazy_seat, lazy_seats, Sits, AllSit, MovesOnce, MovedBySent, EndsAt, RestsAt}
+use Rattle.bus_medium.specs.inside.Lazy.{Clock, Clocked, lazy, lazy_seat, lazy_seats, Sits, AllSit, MovesOnce, MovedBySent, EndsAt, RestsAt}
 use Rattle.bus_medium.proofs.Following.{due_is_free}
 use Rattle.bus_medium.proofs.DecideLemmas.{DecidedPlaces, number_kept}
 use Rattle.bus_medium.proofs.Seats.{get_set_same, get_set_other, get_within, same_some}

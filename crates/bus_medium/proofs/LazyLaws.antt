@@ -12,8 +12,7 @@ use Rattle.bus_timers.specs.Histories.{Tells, HasHeardAll}
 use Rattle.bus_timers.proofs.TimingLaws.{sound_sg, sound_tg}
 use Rattle.bus_timers.proofs.GapStepLaws.{gap_ready}
 use Rattle.bus_medium.specs.Buses.{Seat}
-use Rattle.bus_medium.specs.declared.clock.Clock.{Clock}
-use Rattle.bus_medium.specs.inside.Lazy.{Clocked, StandsLazily, due_at, never}
+use Rattle.bus_medium.specs.inside.Lazy.{Clock, Clocked, StandsLazily, due_at, never}
 
 pub due_left : {C : Type 0} (x : Seat C) (p : ℕ) → x.terminal.sent < length x.terminal.hand.messages → due_at x p ≡ p
 due_left x p h = rw (lt-ltb x.terminal.sent (length x.terminal.hand.messages) h) refl

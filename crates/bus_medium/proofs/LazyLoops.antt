@@ -1,51 +1,13 @@
 -- Clocks, one after another.
-use Rattle.std.proofs.Common.{◌≡◌, ℕ, zero, suc, ◌+◌, ◌<◌, ◌≤◌, ◌⊎◌, ◌++◌, ◌∷◌, [], min, List, length, set, Some, None, inl, inr, arith, sym, refl, ap, ◌∙◌, subst}
+use Rattle.std.proofs.Common.{◌≡◌, ℕ, zero, suc, ◌+◌, ◌<◌, ◌≤◌, ◌++◌, ◌∷◌, [], List, length, set, Some, None, inl, inr, arith, sym, refl, ap, ◌∙◌, subst}
 use Rattle.std.specs.Prelude.{slice_get}
 use Rattle.std.proofs.lemmas.Bool.{cases_lt, cases_eq}
 use Rattle.std.proofs.lemmas.List.{length-set, length_push}
 use Rattle.std.proofs.lemmas.Option.{slice_get_within}
 use Rattle.bus_timers.specs.declared.cores.Core.{Ghosts}
 use Rattle.bus_medium.specs.Buses.{Seat}
-use Rattle.bus_medium.specs.declared.clock.Clock.{Clock}
-use Rattle.bus_medium.specs.inside.Lazy.{FirstReady, IsSettled, AreSettled, IsTold, AreTold, AllSit, Sits}
+use Rattle.bus_medium.specs.inside.Lazy.{Clock, IsSettled, AreSettled, IsTold, AreTold, AllSit, Sits}
 use Rattle.bus_medium.proofs.Seats.{get_set_same, get_set_other, same_some}
-
--- of the first i clocks
-pub record FirstSoFar (most : ℕ) (clocks : List Clock) (first i : ℕ) : Type 0 where
-  pub high : first ≤ most
-  pub before : (j : ℕ) (k : Clock) → j < i → slice_get clocks j ≡ Some k → first ≤ k.ready
-  pub found : (first ≡ most) ⊎ ((j : ℕ) × (k : Clock) × (slice_get clocks j ≡ Some k) × (k.ready ≤ first))
-
-pub first_none : (most : ℕ) (clocks : List Clock) → FirstSoFar most clocks most 0
-first_none most clocks = record { high = omega arith; before = λ j k below at. absurd (omega arith); found = inl refl }
-
-ready_same : (clocks : List Clock) (i : ℕ) (k z : Clock) → slice_get clocks i ≡ Some k → slice_get clocks i ≡ Some z → k.ready ≡ z.ready
-ready_same clocks i k z a b = ap (λ (w : Clock). w.ready) (same_some k z (sym a ∙ b))
-
-pub first_more : (most : ℕ) (clocks : List Clock) (first i next : ℕ) (k : Clock) → FirstSoFar most clocks first i → slice_get clocks i ≡ Some k → next ≡ min first k.ready → FirstSoFar most clocks next (i + 1)
-first_more most clocks first i next k so at e =
-    let high : first ≤ most = so.high in
-    record {
-      high = omega arith;
-      before = λ j z below z_at. elim (cases_eq i j) [
-        | inl here ↦ let same : k.ready ≡ z.ready = ready_same clocks i k z at (ap (slice_get clocks) here ∙ z_at) in omega arith
-        | inr other ↦ let old : first ≤ z.ready = so.before j z (omega arith) z_at in omega arith
-      ];
-      found = elim (cases_lt k.ready first) [
-        | inl less ↦ inr (i, k, at, omega arith)
-        | inr more ↦ elim so.found [
-          | inl none ↦ inl (let e : next ≡ most = omega arith in e)
-          | inr some ↦ let old : some.1.ready ≤ first = some.3 in inr (some.0, some.1, some.2, let e : some.1.ready ≤ next = omega arith in e)
-        ]
-      ];
-    }
-
-pub first_all : (most : ℕ) (clocks : List Clock) (first i : ℕ) → FirstSoFar most clocks first i → length clocks ≤ i → FirstReady most clocks first
-first_all most clocks first i so h = record {
-  high = so.high;
-  before = λ j k at. so.before j k (let w : j < length clocks = slice_get_within clocks j k at in omega arith) at;
-  found = so.found;
-}
 
 -- the clocks of the first senders
 pub record SettledSoFar {C : Type 0} (quiet : ℕ) (seats : List (Seat C)) (clocks : List Clock) (i : ℕ) : Type 0 where

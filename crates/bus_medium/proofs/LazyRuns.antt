@@ -25,8 +25,7 @@ use Rattle.bus_medium.specs.Edges.{strings_sent}
 use Rattle.bus_medium.specs.Jumps.{Each, Moved}
 use Rattle.bus_medium.specs.inside.Following.{FollowsAt}
 use Rattle.bus_medium.specs.inside.Runs.{Decided}
-use Rattle.bus_medium.specs.declared.clock.Clock.{Clock}
-use Rattle.bus_medium.specs.inside.Lazy.{Clocked, StandsLazily, lazy, lazy_seat, lazy_seats, IsSettled, AreSettled, RestsAt, NextPlace, EndsAt, IsTold, AreTold, MovedBySent, clock_after}
+use Rattle.bus_medium.specs.inside.Lazy.{Clock, Clocked, StandsLazily, lazy, lazy_seat, lazy_seats, IsSettled, AreSettled, RestsAt, NextPlace, EndsAt, IsTold, AreTold, MovedBySent, clock_after}
 use Rattle.bus_medium.proofs.Steps.{lawful_none, lawful_whole, lawful_once}
 use Rattle.bus_medium.proofs.Following.{running_is}
 use Rattle.bus_medium.proofs.Seats.{get_within}
@@ -145,7 +144,7 @@ pub run_only : {C : Type 0} (core : Ghosts C) (q h : ℕ) (xs ys : List (Seat C)
 run_only core q h xs ys ks l t own_n so e other law = lawful_once q (map station_of xs) h other l own_n law (run_lawful core q h xs ys ks l t so e)
 
 -- the senders that were told stay the same
-map_each : {X Y : Type 0} (f : X → Y) (xs ys : List X) → length ys ≡ length xs → ((j : ℕ) (x y : X) → slice_get xs j ≡ Some x → slice_get ys j ≡ Some y → f y ≡ f x) → map f ys ≡ map f xs
+pub map_each : {X Y : Type 0} (f : X → Y) (xs ys : List X) → length ys ≡ length xs → ((j : ℕ) (x y : X) → slice_get xs j ≡ Some x → slice_get ys j ≡ Some y → f y ≡ f x) → map f ys ≡ map f xs
 map_each f [] [] e h = refl
 map_each f [] (y ∷ ys) e h = let k : suc (length ys) ≡ 0 = e in absurd (omega arith)
 map_each f (x ∷ xs) [] e h = let k : 0 ≡ suc (length xs) = e in absurd (omega arith)

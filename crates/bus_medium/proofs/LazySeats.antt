@@ -3,8 +3,7 @@ use Rattle.std.proofs.Common.{◌≡◌, ℕ, zero, suc, ◌<◌, List, [], ◌�
 use Rattle.std.specs.Prelude.{slice_get}
 use Rattle.std.proofs.lemmas.Option.{slice_get_within}
 use Rattle.bus_medium.specs.Buses.{Seat, station_of, number_of}
-use Rattle.bus_medium.specs.declared.clock.Clock.{Clock}
-use Rattle.bus_medium.specs.inside.Lazy.{Clocked, lazy_seat, lazy_seats}
+use Rattle.bus_medium.specs.inside.Lazy.{Clock, Clocked, lazy_seat, lazy_seats}
 use Rattle.bus_medium.proofs.Seats.{get_within, same_some}
 
 pub lazy_length : {C : Type 0} (now : ℕ) (xs : List (Seat C)) (ks : List Clock) → length ks ≡ length xs → length (lazy_seats now xs ks) ≡ length xs

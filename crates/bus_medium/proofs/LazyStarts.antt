@@ -18,9 +18,8 @@ use Rattle.bus_table.specs.Tables.{Hand}
 use Rattle.bus_terminal.specs.Terminals.{Terminal, last_begun, with_begun}
 use Rattle.bus_terminal.specs.Jumps.{later_place, with_passed_many}
 use Rattle.bus_medium.specs.Buses.{Seat}
-use Rattle.bus_medium.specs.declared.clock.Clock.{Clock}
 use Rattle.bus_medium.specs.inside.Following.{Idle, Started}
-use Rattle.bus_medium.specs.inside.Lazy.{StandsLazily, lazy, lazy_seat, Sits, MovesOnce, IsReady, IsTold, due_at}
+use Rattle.bus_medium.specs.inside.Lazy.{Clock, StandsLazily, lazy, lazy_seat, Sits, MovesOnce, IsReady, IsTold, due_at}
 use Rattle.bus_medium.proofs.LazyLaws.{is_ready, not_ready, Says, told_all}
 
 -- a sender whose clock is not ready is as before, and wasn't due

@@ -26,8 +26,7 @@ use Rattle.bus_medium.specs.Buses.{Seat, station_of, number_of}
 use Rattle.bus_medium.specs.Jumps.{Each}
 use Rattle.bus_medium.specs.inside.Following.{Follows, FollowsAt}
 use Rattle.bus_medium.specs.inside.Runs.{RunsTo, Grown, Decided}
-use Rattle.bus_medium.specs.declared.clock.Clock.{Clock}
-use Rattle.bus_medium.specs.inside.Lazy.{Clocked, StandsLazily, lazy, lazy_seat, lazy_seats, RestsAt, NextPlace, EndsAt, IsReady, clock_after, gap_after}
+use Rattle.bus_medium.specs.inside.Lazy.{Clock, Clocked, StandsLazily, lazy, lazy_seat, lazy_seats, RestsAt, NextPlace, EndsAt, IsReady, clock_after, gap_after}
 use Rattle.bus_medium.proofs.PastLaws.{length_past, no_carrier, own_after}
 use Rattle.bus_medium.proofs.BusyLaws.{entry_is_busy, busy_elapsed, busy_waiting, busy_nobody}
 use Rattle.bus_medium.proofs.Steps.{idle_stretch}

@@ -28,7 +28,9 @@ pub mod CableSteps
 pub mod LazySeats
 pub mod LazyLaws
 pub mod LazyStarts
+pub mod Watches
 pub mod LazyLoops
 pub mod LazySteps
+pub mod LazyAlone
 pub mod LazyDecide
 pub mod LazyRuns

@@ -1,7 +1,7 @@
 //! The timers of a sender in plain numbers.
-ghost use Rattle.std.specs.Prelude.{◌≡◌, ◌+◌, ◌-◌, ◌^◌, ◌<◌, ◌≤◌, true, false, max, None};
+ghost use Rattle.std.specs.Prelude.{◌≡◌, ◌+◌, ◌-◌, ◌^◌, ◌<◌, ◌≤◌, ◌⊎◌, true, false, max, None};
 ghost use Rattle.bus_timers.specs.Timings.{due_place};
-ghost use Rattle.bus_medium.specs.inside.Lazy.{due_at, IsReady, clock_after};
+ghost use Rattle.bus_medium.specs.inside.Lazy.{due_at, clock_of, clock_after};
 
 use crate::seat::Seat;
 use bus_timers::{Core, History};
@@ -10,11 +10,20 @@ use std::cmp::max;
 /// The place of a moment that never comes.
 pub const NEVER: u64 = u64::MAX;
 
-/// A sender's timers in plain numbers, kept beside its core. The core is told what was heard only where the sender
-/// starts, and at the horizon; these numbers tell when that is. A place is a moment counted from the beginning of the
-/// past.
+/// What all senders of a bus have heard alike.
 #[derive(Clone, Copy, Debug)]
-pub struct Clock {
+pub struct Heard {
+    /// The place at which the bus became quiet for the last time: 0 before anything was sent.
+    pub ended: u64,
+    /// No sender's synchronization gap is shorter, in bit times.
+    pub least: u32,
+}
+
+/// A sender's timers in plain numbers, kept beside its core. The core is told what was heard only where the sender
+/// starts, and at the horizon; these numbers, and what all have heard, tell when that is. A place is a moment counted
+/// from the beginning of the past.
+#[derive(Clone, Copy, Debug)]
+pub struct Watch {
     /// The synchronization gap, in bit times.
     pub sg: u32,
     /// The terminal gap, in bit times.
@@ -23,9 +32,10 @@ pub struct Clock {
     pub told: u64,
     /// The place at which the transmit interval elapses, or `NEVER` where no message is left.
     pub due: u64,
-    /// The place from which the terminal gap counts, or will.
-    pub gap_from: u64,
-    /// The first place at which the sender may start, if the bus stays quiet.
+    /// How far behind the place at which the bus became quiet the terminal gap counts, or will: nothing where the
+    /// synchronization gap elapsed before that.
+    pub behind: u64,
+    /// A place before which the sender doesn't start. It may be too early, so that it need not be told of each message.
     pub ready: u64,
 }
 
@@ -40,88 +50,114 @@ fn due_at<C: Core>(seat: &Seat<C>, place: u64) -> u64
     }
 }
 
-/// The clock of a sender at the settled start, behind so many quiet bit times.
-pub fn settled_clock<C: Core>(seat: &Seat<C>, quiet: u32) -> Clock
+/// The watch of a sender at the settled start, behind so many quiet bit times.
+pub fn settled_watch<C: Core>(seat: &Seat<C>, quiet: u32) -> Watch
     ensures sg { result.sg ≡ seat.now.timing.sg }
     ensures tg { result.tg ≡ seat.now.timing.tg }
     ensures told { result.told ≡ quiet }
     ensures due { result.due ≡ due_at seat.now (due_place seat.now.timing None) }
-    ensures gap { result.gap_from ≡ seat.now.timing.sg }
-    ensures ready { IsReady result }
+    ensures behind { result.behind ≡ seat.now.timing.sg }
+    ensures small { result.behind < 2 ^ 32 }
+    ensures ready { result.ready ≡ (clock_of 0 result).ready }
 {
     let timing = seat.timing;
     let due = due_at(seat, timing.quiet as u64 + timing.due as u64);
-    let gap_from = timing.sg as u64;
-    Clock {
+    let behind = timing.sg as u64;
+    Watch {
         sg: timing.sg,
         tg: timing.tg,
         told: quiet as u64,
         due,
-        gap_from,
-        ready: max(due, gap_from + timing.tg as u64),
+        behind,
+        ready: max(due, behind + timing.tg as u64),
     }
 }
 
-/// The clock of a sender that starts at the place `now`, where its core has been told all.
-pub fn begun_clock<C: Core>(seat: &Seat<C>, now: u64) -> Clock
-    requires { now < 2 ^ 62 }
+/// The watch of a sender that starts at the place `now`, where its core has been told all.
+pub fn begun_watch<C: Core>(seat: &Seat<C>, now: u64, ended: u64) -> Watch
+    requires small { now < 2 ^ 62 }
+    requires ended { ended ≤ now }
     ensures sg { result.sg ≡ seat.now.timing.sg }
     ensures tg { result.tg ≡ seat.now.timing.tg }
     ensures told { result.told ≡ now }
     ensures due { result.due ≡ due_at seat.now (now + seat.now.timing.ti) }
-    ensures gap { result.gap_from ≡ now + seat.now.timing.sg }
-    ensures ready { IsReady result }
+    ensures gap { (clock_of ended result).gap_from ≡ now + seat.now.timing.sg }
 {
     let timing = seat.timing;
     let due = due_at(seat, now + timing.ti as u64);
     let gap_from = now + timing.sg as u64;
-    Clock {
+    Watch {
         sg: timing.sg,
         tg: timing.tg,
         told: now,
         due,
-        gap_from,
+        behind: gap_from - ended,
         ready: max(due, gap_from + timing.tg as u64),
     }
 }
 
-impl Clock {
+impl Watch {
     /// What was heard since the core was told, up to the place `now`.
-    pub fn history(&self, now: u64) -> History
+    pub fn history(&self, ended: u64, now: u64) -> History
         requires told { self.now.told ≤ now }
-        requires near { self.now.gap_from ≤ now + self.now.sg }
+        requires near { (clock_of ended self.now).gap_from ≤ now + self.now.sg }
         requires small { now < 2 ^ 62 }
         ensures bits { result.bits ≡ now - self.now.told }
-        ensures elapsed { self.now.gap_from ≤ now → (result.synchronized ≡ true) × (result.quiet ≡ now - self.now.gap_from) }
-        ensures waiting { now < self.now.gap_from
-            → (result.synchronized ≡ false) × (result.quiet ≡ now + self.now.sg - self.now.gap_from) }
+        ensures elapsed { (clock_of ended self.now).gap_from ≤ now
+            → (result.synchronized ≡ true) × (result.quiet ≡ now - (clock_of ended self.now).gap_from) }
+        ensures waiting { now < (clock_of ended self.now).gap_from
+            → (result.synchronized ≡ false) × (result.quiet ≡ now + self.now.sg - (clock_of ended self.now).gap_from) }
     {
         let bits = now - self.told;
-        if self.gap_from <= now {
+        let gap_from = ended + self.behind;
+        if gap_from <= now {
             History {
                 bits,
-                quiet: now - self.gap_from,
+                quiet: now - gap_from,
                 synchronized: true,
             }
         } else {
             History {
                 bits,
-                quiet: now + self.sg as u64 - self.gap_from,
+                quiet: now + self.sg as u64 - gap_from,
                 synchronized: false,
             }
         }
     }
 
-    /// The bus was busy from one place to another.
-    pub fn pass_busy(&mut self, from: u64, to: u64)
-        requires { to < 2 ^ 62 }
-        ensures { self.new ≡ clock_after from to self.old }
+    /// The first place at which the sender may start, if the bus stays quiet.
+    pub fn ready_at(&self, ended: u64) -> u64
+        requires { ended + self.now.behind < 2 ^ 63 }
+        ensures { result ≡ (clock_of ended self.now).ready }
     {
-        self.gap_from = if self.gap_from <= from {
-            to
+        max(self.due, ended + self.behind + self.tg as u64)
+    }
+
+    /// From here on the first place at which the sender may start is kept.
+    pub fn find_ready(&mut self, ended: u64)
+        requires { ended + self.old.behind < 2 ^ 63 }
+        ensures same { clock_of ended self.new ≡ clock_of ended self.old }
+        ensures behind { self.new.behind ≡ self.old.behind }
+        ensures ready { self.new.ready ≡ (clock_of ended self.new).ready }
+    {
+        self.ready = self.ready_at(ended);
+    }
+
+    /// The bus was busy from one place to another.
+    pub fn hear_busy(&mut self, ended: u64, from: u64, to: u64)
+        requires ended { ended ≤ from }
+        requires small { to < 2 ^ 62 }
+        ensures clock { clock_of to self.new ≡ clock_after from to (clock_of ended self.old) }
+        ensures sg { self.new.sg ≡ self.old.sg }
+        ensures counted { (self.new.behind ≡ 0) ⊎ (self.new.behind ≡ self.new.sg) }
+        ensures near { self.new.behind < 2 ^ 32 }
+        ensures ready { self.new.ready ≡ (clock_of to self.new).ready }
+    {
+        self.behind = if self.behind <= from - ended {
+            0
         } else {
-            to + self.sg as u64
+            self.sg as u64
         };
-        self.ready = max(self.due, self.gap_from + self.tg as u64);
+        self.ready = max(self.due, to + self.behind + self.tg as u64);
     }
 }

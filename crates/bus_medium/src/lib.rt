@@ -5,7 +5,7 @@
 //! lawful list (`specs/Lawful.antt`): a sender starts exactly where its timers allow and it has a message left, after
 //! the past that the list itself makes (`specs/Past.antt`). `specs/inside/Runs.antt` says what a run knows from moment to
 //! moment, and `specs/inside/Lazy.antt` how a run by jumps keeps the timers of all senders in plain numbers beside their
-//! cores, which are told what was heard only where they start, and at the horizon.
+//! cores, which are told what was heard only where they start, and at the horizon; nor are the numbers of a sender told of each message.
 //! [`timings`] has the timings of a table's senders.
 //!
 //! [`laws`] has what follows of the definitions: every valid table with its hands has exactly one lawful list
@@ -26,13 +26,13 @@ mod bus;
 mod clock;
 mod deciding;
 mod ending;
+mod first;
 pub mod laws;
 mod note;
+mod passing;
 mod seat;
 mod seating;
 mod starting;
-#[cfg(test)]
-mod tests;
 mod timings;
 mod turns;
 

@@ -1,12 +1,13 @@
-//! Who starts at a moment, told by the clocks alone.
-ghost use Rattle.std.specs.Prelude.{◌≡◌, ◌+◌, ◌<◌, ◌≤◌, max, length, map, IfOk, OnOk, MatchOption};
+//! Who starts at a moment, told by the watches alone.
+ghost use Rattle.std.specs.Prelude.{◌≡◌, ◌+◌, ◌<◌, ◌≤◌, max, length, map, Some, IfOk, OnOk, IfSome, MatchOption};
 ghost use Rattle.bus_strings.specs.Limits.{horizon_limit, most_terminal};
 ghost use Rattle.bus_strings.specs.Transmissions.{end_of};
 ghost use Rattle.bus_medium.specs.Buses.{number_of};
 ghost use Rattle.bus_medium.specs.inside.Lazy.{Sits, RunsLazily, BegunLazily, DecidedLazily, MovesOnce, MovedBySent, EndsAt};
+ghost use Rattle.bus_medium.specs.inside.Lazy.{clock_of, clocks_of, IsAlone, AreNoShorter, AreKept, OthersKept};
 ghost use Rattle.bus_medium.specs.Orders.{IsRoster};
 
-use crate::clock::{Clock, begun_clock};
+use crate::clock::{Heard, Watch, begun_watch};
 use crate::deciding::{Roster, decide_one};
 use crate::note::note;
 use crate::seat::Seat;
@@ -15,28 +16,32 @@ use bus_timers::{Core, JumpCore};
 use std::alloc::{AllocError, Global};
 use std::cmp::max;
 
-/// A sender starts where its clock says so: its core is told what was heard, and decides.
+/// A sender starts where its watch says so: its core is told what was heard, and decides.
 fn begin<C: JumpCore>(
     alloc: Global,
     quiet: u32,
     moment: u64,
+    ended: u64,
     seat: &mut Seat<C>,
-    clock: &mut Clock,
+    watch: &mut Watch,
 ) -> Result<Option<Transmission>, AllocError>
     requires moment { moment < horizon_limit }
+    requires ended { ended ≤ quiet + moment }
     requires number { (1 ≤ number_of seat.old) × (number_of seat.old ≤ most_terminal) }
-    requires sits { Sits ⟦<C as Core>⟧ quiet (quiet + moment) seat.old clock.old }
+    requires sits { Sits ⟦<C as Core>⟧ quiet (quiet + moment) seat.old (clock_of ended watch.old) }
     ensures number { number_of seat.new ≡ number_of seat.old }
-    ensures begun { IfOk result (λ begun. BegunLazily ⟦<C as Core>⟧ quiet moment seat.old clock.old seat.new clock.new begun) }
+    ensures begun { IfOk result (λ begun. BegunLazily ⟦<C as Core>⟧ quiet moment seat.old (clock_of ended watch.old) seat.new
+        (clock_of ended watch.new) begun) }
     ensures moves { OnOk result (MovesOnce ⟦<C as Core>⟧ seat.old seat.new) }
+    ensures sg { OnOk result (watch.new.sg ≡ watch.old.sg) }
 {
     let now = quiet as u64 + moment;
-    if clock.ready > now {
+    if watch.ready_at(ended) > now {
         return Ok(None);
     }
-    seat.terminal.hear(clock.history(now));
+    seat.terminal.hear(watch.history(ended, now));
     let begun = decide_one(alloc, moment, seat)?;
-    *clock = begun_clock(seat, now);
+    *watch = begun_watch(seat, now, ended);
     Ok(begun)
 }
 
@@ -50,24 +55,27 @@ fn later_end(end: u64, begun: &Option<Transmission>) -> u64
     }
 }
 
-/// The senders whose clocks say so start at the moment, by rising number, and what they begin is added to the list.
+/// The senders whose watches say so start at the moment, by rising number, and what they begin is added to the list.
 /// The answer is the moment at which the last of it ends, or the present one.
-pub fn begin_all<C: JumpCore>(
+fn begin_all<C: JumpCore>(
     alloc: Global,
     roster: &Roster,
     moment: u64,
+    heard: &Heard,
     seats: &mut [Seat<C>],
-    clocks: &mut [Clock],
+    watches: &mut [Watch],
     list: &mut Vec<Transmission>,
 ) -> Result<u64, AllocError>
     requires moment { moment < horizon_limit }
     requires roster { IsRoster (map number_of seats.old) roster.now.places.items }
-    requires clocks { length clocks.old ≡ length seats.old }
-    requires at { RunsLazily ⟦<C as Core>⟧ roster.now.quiet seats.old clocks.old list.old.items moment }
+    requires long { length watches.old ≡ length seats.old }
+    requires kept { AreKept heard.now (roster.now.quiet + moment) watches.old }
+    requires at { RunsLazily ⟦<C as Core>⟧ roster.now.quiet seats.old (clocks_of heard.now.ended watches.old) list.old.items moment }
     ensures numbers { map number_of seats.new ≡ map number_of seats.old }
-    ensures clocks { length clocks.new ≡ length clocks.old }
-    ensures decided { OnOk result (DecidedLazily ⟦<C as Core>⟧ roster.now.quiet moment seats.old clocks.old seats.new clocks.new
-        list.old.items list.new.items) }
+    ensures long { length watches.new ≡ length watches.old }
+    ensures least { OnOk result (AreNoShorter heard.now.least (clocks_of heard.now.ended watches.new)) }
+    ensures decided { OnOk result (DecidedLazily ⟦<C as Core>⟧ roster.now.quiet moment seats.old (clocks_of heard.now.ended watches.old)
+        seats.new (clocks_of heard.now.ended watches.new) list.old.items list.new.items) }
     ensures moved { OnOk result (MovedBySent ⟦<C as Core>⟧ seats.old seats.new) }
     ensures end { IfOk result (λ end. EndsAt moment list.old.items list.new.items end) }
 {
@@ -77,11 +85,83 @@ pub fn begin_all<C: JumpCore>(
             alloc,
             roster.quiet,
             moment,
+            heard.ended,
             &mut seats[*place],
-            &mut clocks[*place],
+            &mut watches[*place],
         )?;
         end = later_end(end, &begun);
         note(list, begun)?;
     }
     Ok(end)
+}
+
+/// What `begin_all` does where the sender at one place alone is ready.
+fn begin_alone<C: JumpCore>(
+    alloc: Global,
+    roster: &Roster,
+    moment: u64,
+    heard: &Heard,
+    place: usize,
+    seats: &mut [Seat<C>],
+    watches: &mut [Watch],
+    list: &mut Vec<Transmission>,
+) -> Result<u64, AllocError>
+    requires moment { moment < horizon_limit }
+    requires roster { IsRoster (map number_of seats.old) roster.now.places.items }
+    requires long { length watches.old ≡ length seats.old }
+    requires kept { AreKept heard.now (roster.now.quiet + moment) watches.old }
+    requires alone { IsAlone (roster.now.quiet + moment) (clocks_of heard.now.ended watches.old) place }
+    requires at { RunsLazily ⟦<C as Core>⟧ roster.now.quiet seats.old (clocks_of heard.now.ended watches.old) list.old.items moment }
+    ensures numbers { map number_of seats.new ≡ map number_of seats.old }
+    ensures long { length watches.new ≡ length watches.old }
+    ensures least { OnOk result (AreNoShorter heard.now.least (clocks_of heard.now.ended watches.new)) }
+    ensures others { OnOk result (OthersKept heard.now.ended (Some place) watches.new) }
+    ensures decided { OnOk result (DecidedLazily ⟦<C as Core>⟧ roster.now.quiet moment seats.old (clocks_of heard.now.ended watches.old)
+        seats.new (clocks_of heard.now.ended watches.new) list.old.items list.new.items) }
+    ensures moved { OnOk result (MovedBySent ⟦<C as Core>⟧ seats.old seats.new) }
+    ensures end { IfOk result (λ end. EndsAt moment list.old.items list.new.items end) }
+{
+    let begun = begin(
+        alloc,
+        roster.quiet,
+        moment,
+        heard.ended,
+        &mut seats[place],
+        &mut watches[place],
+    )?;
+    let end = later_end(moment, &begun);
+    note(list, begun)?;
+    Ok(end)
+}
+
+/// Who is ready starts at the moment: the sender at one place alone, where it is given, and else all whose watches say so.
+pub fn begin_ready<C: JumpCore>(
+    alloc: Global,
+    roster: &Roster,
+    moment: u64,
+    heard: &Heard,
+    alone: Option<usize>,
+    seats: &mut [Seat<C>],
+    watches: &mut [Watch],
+    list: &mut Vec<Transmission>,
+) -> Result<u64, AllocError>
+    requires moment { moment < horizon_limit }
+    requires roster { IsRoster (map number_of seats.old) roster.now.places.items }
+    requires long { length watches.old ≡ length seats.old }
+    requires kept { AreKept heard.now (roster.now.quiet + moment) watches.old }
+    requires alone { IfSome alone (IsAlone (roster.now.quiet + moment) (clocks_of heard.now.ended watches.old)) }
+    requires at { RunsLazily ⟦<C as Core>⟧ roster.now.quiet seats.old (clocks_of heard.now.ended watches.old) list.old.items moment }
+    ensures numbers { map number_of seats.new ≡ map number_of seats.old }
+    ensures long { length watches.new ≡ length watches.old }
+    ensures least { OnOk result (AreNoShorter heard.now.least (clocks_of heard.now.ended watches.new)) }
+    ensures others { OnOk result (OthersKept heard.now.ended alone watches.new) }
+    ensures decided { OnOk result (DecidedLazily ⟦<C as Core>⟧ roster.now.quiet moment seats.old (clocks_of heard.now.ended watches.old)
+        seats.new (clocks_of heard.now.ended watches.new) list.old.items list.new.items) }
+    ensures moved { OnOk result (MovedBySent ⟦<C as Core>⟧ seats.old seats.new) }
+    ensures end { IfOk result (λ end. EndsAt moment list.old.items list.new.items end) }
+{
+    match alone {
+        Some(place) => begin_alone(alloc, roster, moment, heard, place, seats, watches, list),
+        None => begin_all(alloc, roster, moment, heard, seats, watches, list),
+    }
 }

@@ -10,31 +10,46 @@ ghost use Rattle.bus_medium.specs.Buses.{station_of, number_of, StandsAt};
 ghost use Rattle.bus_medium.specs.Edges.{strings_sent};
 ghost use Rattle.bus_medium.specs.Jumps.{Moved};
 ghost use Rattle.bus_medium.specs.Orders.{IsRoster};
-ghost use Rattle.bus_medium.specs.inside.Lazy.{Sits, AllSit, RestsAt, AreTold, IsTold, AreSettled, FirstReady, NextPlace};
-ghost use Rattle.bus_medium.specs.inside.Lazy.{AreAfter, MovedBySent};
+ghost use Rattle.bus_medium.specs.inside.Lazy.{Sits, AllSit, RestsAt, AreTold, IsTold, AreSettled};
+ghost use Rattle.bus_medium.specs.inside.Lazy.{AreAfter, MovedBySent, clock_of, clocks_of, EachKept, AreKept, AreNoShorter};
 
-use crate::clock::{Clock, settled_clock};
+use crate::clock::{Heard, Watch, settled_watch};
 use crate::deciding::Roster;
 use crate::ending::carrier_end;
+use crate::first::next_start;
+use crate::passing::pass_busy;
 use crate::seat::Seat;
-use crate::starting::begin_all;
+use crate::starting::begin_ready;
 use bus_strings::Transmission;
 use bus_timers::{Core, JumpCore};
 use std::alloc::{AllocError, Global};
 
-/// The clocks of the senders at the settled start.
-fn settled_clocks<C: JumpCore>(
+/// The watches of the senders at the settled start.
+fn settled_watches<C: JumpCore>(
     alloc: Global,
     quiet: u32,
     seats: &[Seat<C>],
-) -> Result<Vec<Clock>, AllocError>
-    ensures { IfOk result (λ clocks. AreSettled quiet seats.now clocks.items) }
+) -> Result<Vec<Watch>, AllocError>
+    ensures settled { IfOk result (λ watches. AreSettled quiet seats.now (clocks_of 0 watches.items)) }
+    ensures kept { IfOk result (λ watches. EachKept 0 watches.items) }
 {
-    let mut clocks = Vec::with_capacity(alloc, seats.len())?;
+    let mut watches = Vec::with_capacity(alloc, seats.len())?;
     for seat in seats {
-        clocks.push(settled_clock(seat, quiet))?;
+        watches.push(settled_watch(seat, quiet))?;
     }
-    Ok(clocks)
+    Ok(watches)
+}
+
+/// What all have heard at the settled start.
+fn settled_heard(watches: &[Watch]) -> Heard
+    ensures ended { result.ended ≡ 0 }
+    ensures least { AreNoShorter result.least (clocks_of 0 watches.now) }
+{
+    let mut least = u32::MAX;
+    for watch in watches {
+        least = least.min(watch.sg);
+    }
+    Heard { ended: 0, least }
 }
 
 /// The earlier of two places.
@@ -42,42 +57,6 @@ fn earlier(a: u64, b: u64) -> u64
     ensures { result ≡ min a b }
 {
     if b < a { b } else { a }
-}
-
-/// The first place, up to `most`, at which the clock of some sender is ready.
-fn first_ready(clocks: &[Clock], most: u64) -> u64
-    ensures { FirstReady most clocks.now result }
-{
-    let mut first = most;
-    for clock in clocks {
-        first = earlier(first, clock.ready);
-    }
-    first
-}
-
-/// The first moment, from the present one up to the horizon, at which some sender may start if the bus stays quiet.
-fn next_start(quiet: u32, moment: u64, horizon: u64, clocks: &[Clock]) -> u64
-    requires order { moment ≤ horizon }
-    requires horizon { horizon ≤ horizon_limit }
-    ensures { NextPlace (quiet + moment) (quiet + horizon) clocks.now (quiet + result) }
-{
-    let now = quiet as u64 + moment;
-    let first = first_ready(clocks, quiet as u64 + horizon);
-    if first < now {
-        moment
-    } else {
-        first - quiet as u64
-    }
-}
-
-/// The bus was busy from one place to another.
-fn pass_all_busy(clocks: &mut [Clock], from: u64, to: u64)
-    requires { to < 2 ^ 62 }
-    ensures { AreAfter from to clocks.old clocks.new }
-{
-    for clock in clocks.iter_mut() {
-        clock.pass_busy(from, to);
-    }
 }
 
 /// The moment at which carrier ends for now: where all of it ends, or before the horizon.
@@ -102,61 +81,69 @@ fn turn<C: JumpCore>(
     roster: &Roster,
     moment: u64,
     horizon: u64,
+    heard: &mut Heard,
     seats: &mut [Seat<C>],
-    clocks: &mut [Clock],
+    watches: &mut [Watch],
     list: &mut Vec<Transmission>,
 ) -> Result<u64, AllocError>
     requires horizon { horizon ≤ horizon_limit }
     requires moment { moment < horizon }
     requires roster { IsRoster (map number_of seats.old) roster.now.places.items }
-    requires at { RestsAt ⟦<C as Core>⟧ roster.now.quiet horizon seats.old clocks.old list.old.items moment }
+    requires kept { AreKept heard.old (roster.now.quiet + moment) watches.old }
+    requires at { RestsAt ⟦<C as Core>⟧ roster.now.quiet horizon seats.old (clocks_of heard.old.ended watches.old) list.old.items moment }
     ensures numbers { map number_of seats.new ≡ map number_of seats.old }
     ensures stations { OnOk result (map station_of seats.new ≡ map station_of seats.old) }
     ensures later { IfOk result (λ reached. moment < reached) }
-    ensures reached { IfOk result (λ moment. RestsAt ⟦<C as Core>⟧ roster.now.quiet horizon seats.new clocks.new list.new.items moment) }
+    ensures kept { IfOk result (λ reached. AreKept heard.new (roster.now.quiet + reached) watches.new) }
+    ensures reached { IfOk result (λ reached. RestsAt ⟦<C as Core>⟧ roster.now.quiet horizon seats.new
+        (clocks_of heard.new.ended watches.new) list.new.items reached) }
     ensures moved { OnOk result (MovedBySent ⟦<C as Core>⟧ seats.old seats.new) }
 {
-    let start = next_start(roster.quiet, moment, horizon, clocks);
+    let next = next_start(roster.quiet, moment, horizon, heard, watches);
+    let start = next.moment;
     if start == horizon {
         return Ok(horizon);
     }
-    let end = begin_all(alloc, roster, start, seats, clocks, list)?;
+    let end = begin_ready(
+        alloc, roster, start, heard, next.alone, seats, watches, list,
+    )?;
     let behind = busy_end(list, start, end, horizon);
     let quiet = roster.quiet as u64;
-    pass_all_busy(clocks, quiet + start, quiet + behind);
+    pass_busy(heard, next.alone, watches, quiet + start, quiet + behind);
     Ok(earlier(end, horizon))
 }
 
 /// The core of a sender is told what was heard.
-fn tell<C: JumpCore>(quiet: u32, now: u64, seat: &mut Seat<C>, clock: &Clock)
+fn tell<C: JumpCore>(quiet: u32, ended: u64, now: u64, seat: &mut Seat<C>, watch: &Watch)
     requires now { now ≤ quiet + horizon_limit }
-    requires sits { Sits ⟦<C as Core>⟧ quiet now seat.old clock.now }
-    ensures { IsTold ⟦<C as Core>⟧ quiet now clock.now seat.old seat.new }
+    requires sits { Sits ⟦<C as Core>⟧ quiet now seat.old (clock_of ended watch.now) }
+    ensures { IsTold ⟦<C as Core>⟧ quiet now (clock_of ended watch.now) seat.old seat.new }
 {
-    seat.terminal.hear(clock.history(now));
+    seat.terminal.hear(watch.history(ended, now));
 }
 
 /// The core of every sender is told what was heard.
-fn tell_all<C: JumpCore>(quiet: u32, now: u64, seats: &mut [Seat<C>], clocks: &[Clock])
+fn tell_all<C: JumpCore>(quiet: u32, ended: u64, now: u64, seats: &mut [Seat<C>], watches: &[Watch])
     requires now { now ≤ quiet + horizon_limit }
-    requires clocks { length clocks.now ≡ length seats.old }
-    requires sit { AllSit ⟦<C as Core>⟧ quiet now seats.old clocks.now }
-    ensures { AreTold ⟦<C as Core>⟧ quiet now clocks.now seats.old seats.new }
+    requires long { length watches.now ≡ length seats.old }
+    requires sit { AllSit ⟦<C as Core>⟧ quiet now seats.old (clocks_of ended watches.now) }
+    ensures { AreTold ⟦<C as Core>⟧ quiet now (clocks_of ended watches.now) seats.old seats.new }
 {
     for k in 0..seats.len() {
-        tell(quiet, now, &mut seats[k], &clocks[k]);
+        tell(quiet, ended, now, &mut seats[k], &watches[k]);
     }
 }
 
-/// The lawful list up to the horizon, start by start, of senders whose clocks stand at the settled start.
+/// The lawful list up to the horizon, start by start, of senders whose watches stand at the settled start.
 fn run_all<C: JumpCore>(
     alloc: Global,
     roster: &Roster,
     seats: &mut [Seat<C>],
-    clocks: &mut [Clock],
+    watches: &mut [Watch],
     horizon: u64,
 ) -> Result<Vec<Transmission>, AllocError>
-    requires clocks { AreSettled roster.now.quiet seats.old clocks.old }
+    requires settled { AreSettled roster.now.quiet seats.old (clocks_of 0 watches.old) }
+    requires kept { EachKept 0 watches.old }
     requires horizon { horizon ≤ horizon_limit }
     requires roster { IsRoster (map number_of seats.old) roster.now.places.items }
     requires stands { StandsAt ⟦<C as Core>⟧ (record { quiet = roster.now.quiet; seats = seats.old }) [] 0 }
@@ -170,12 +157,16 @@ fn run_all<C: JumpCore>(
     ensures moved { IfOk result (λ list. Moved ⟦<C as Core>⟧ (2 * strings_sent list.items + 1) seats.old seats.new) }
 {
     let mut list = Vec::new(alloc);
+    let mut heard = settled_heard(watches);
     let mut moment = 0;
     while moment < horizon {
-        let reached = turn(alloc, roster, moment, horizon, seats, clocks, &mut list)?;
+        let reached = turn(
+            alloc, roster, moment, horizon, &mut heard, seats, watches, &mut list,
+        )?;
         moment = reached;
     }
-    tell_all(roster.quiet, roster.quiet as u64 + horizon, seats, clocks);
+    let quiet = roster.quiet;
+    tell_all(quiet, heard.ended, quiet as u64 + horizon, seats, watches);
     Ok(list)
 }
 
@@ -198,6 +189,6 @@ pub fn jump_all<C: JumpCore>(
     ensures keeps { OnOk result (map station_of seats.new ≡ map station_of seats.old) }
     ensures moved { IfOk result (λ list. Moved ⟦<C as Core>⟧ (2 * strings_sent list.items + 1) seats.old seats.new) }
 {
-    let mut clocks = settled_clocks(alloc, roster.quiet, seats)?;
-    run_all(alloc, roster, seats, &mut clocks, horizon)
+    let mut watches = settled_watches(alloc, roster.quiet, seats)?;
+    run_all(alloc, roster, seats, &mut watches, horizon)
 }

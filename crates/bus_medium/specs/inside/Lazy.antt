@@ -1,7 +1,7 @@
 -- A run that tells a core what was heard only where its sender starts, and at the horizon. Beside each sender stand numbers that tell when
--- that is: its clock. Their places are those of the past.
-use Rattle.std.specs.Prelude.{◌≡◌, ℕ, ◌+◌, ◌-◌, ◌^◌, ◌<◌, ◌≤◌, ◌⊎◌, Bool, nat_lt, nat_le, max, [], ◌∷◌, List, length, take, slice_get}
-use Rattle.std.specs.Prelude.{Option, Some, None, if◌then◌else◌}
+-- that is: its clock. Their places are those of the past. A watch is how the code keeps a clock: by the end of what all have heard.
+use Rattle.std.specs.Prelude.{◌≡◌, ◌≢◌, ℕ, ◌+◌, ◌-◌, ◌^◌, ◌<◌, ◌≤◌, ◌⊎◌, Bool, true, nat_lt, nat_le, max, [], ◌∷◌, List, length}
+use Rattle.std.specs.Prelude.{map, take, slice_get, Option, Some, None, IfSome, if◌then◌else◌}
 use Rattle.std.specs.Option.{MatchOption, option_and_then}
 use Rattle.bus_timers.specs.declared.timing.Timing.{Timing}
 use Rattle.bus_timers.specs.declared.cores.Core.{Ghosts}
@@ -18,7 +18,37 @@ use Rattle.bus_medium.specs.Jumps.{Each}
 use Rattle.bus_medium.specs.inside.Following.{Idle, Started}
 use Rattle.bus_medium.specs.inside.Runs.{RunsTo, Decided}
 use Rattle.bus_medium.specs.Buses.{Seat}
-use Rattle.bus_medium.specs.declared.clock.Clock.{Clock}
+use Rattle.bus_medium.specs.declared.clock.Watch.{Watch}
+use Rattle.bus_medium.specs.declared.clock.Heard.{Heard}
+
+-- A sender's clock:
+--   sg, tg     its gaps
+--   told       the place up to which its core has been told
+--   due        the place at which its transmit interval elapses, or `never` where no message is left
+--   gap_from   the place from which its terminal gap counts, or will
+--   ready      the first place at which it may start, if the bus stays quiet
+pub record Clock : Type 0 where
+  pub sg : ℕ
+  pub tg : ℕ
+  pub told : ℕ
+  pub due : ℕ
+  pub gap_from : ℕ
+  pub ready : ℕ
+
+-- The clock that a watch keeps, where the bus became quiet at the place `ended`.
+abbrev pub clock_of : ℕ → Watch → Clock
+clock_of ended watch = record {
+  sg = watch.sg;
+  tg = watch.tg;
+  told = watch.told;
+  due = watch.due;
+  gap_from = ended + watch.behind;
+  ready = max watch.due (ended + watch.behind + watch.tg);
+}
+
+-- The clocks of all.
+abbrev pub clocks_of : ℕ → List Watch → List Clock
+clocks_of ended watches = map (clock_of ended) watches
 
 -- The place of a moment that never comes.
 abbrev pub never : ℕ
@@ -145,6 +175,52 @@ pub record NextPlace (now most : ℕ) (clocks : List Clock) (place : ℕ) : Type
   pub high : place ≤ most
   pub before : (j : ℕ) (k : Clock) → slice_get clocks j ≡ Some k → (place ≤ k.ready) ⊎ (place ≡ now)
   pub found : (place ≡ most) ⊎ ((j : ℕ) × (k : Clock) × (slice_get clocks j ≡ Some k) × (k.ready ≤ place))
+
+-- None but the clock at place p is ready at this place, or before.
+pub record IsAlone (place : ℕ) (clocks : List Clock) (p : ℕ) : Type 0 where
+  pub within : p < length clocks
+  pub others : (j : ℕ) (k : Clock) → j ≢ p → slice_get clocks j ≡ Some k → place < k.ready
+
+-- A watch between two messages: its synchronization gap elapsed before the bus became quiet, or counts from there, and it is never read
+-- too late.
+pub record IsKept (ended : ℕ) (watch : Watch) : Type 0 where
+  pub counted : (watch.behind ≡ 0) ⊎ (watch.behind ≡ watch.sg)
+  pub small : watch.behind < 2 ^ 32
+  pub early : watch.ready ≤ (clock_of ended watch).ready
+
+-- No sender has a shorter synchronization gap.
+abbrev pub AreNoShorter : ℕ → List Clock → Type 0
+AreNoShorter least clocks = (j : ℕ) (k : Clock) → slice_get clocks j ≡ Some k → least ≤ k.sg
+
+-- Every watch is kept.
+abbrev pub EachKept : ℕ → List Watch → Type 0
+EachKept ended watches = (j : ℕ) (w : Watch) → slice_get watches j ≡ Some w → IsKept ended w
+
+-- Every watch reads the first place at which its sender may start.
+abbrev pub EachExact : ℕ → List Watch → Type 0
+EachExact ended watches = (j : ℕ) (w : Watch) → slice_get watches j ≡ Some w → w.ready ≡ (clock_of ended w).ready
+
+-- All watches between two messages, at the place now.
+pub record AreKept (heard : Heard) (now : ℕ) (watches : List Watch) : Type 0 where
+  pub ended : heard.ended ≤ now
+  pub least : AreNoShorter heard.least (clocks_of heard.ended watches)
+  pub each : EachKept heard.ended watches
+
+-- All but the one of the sender that started alone.
+abbrev pub OthersKept : ℕ → Option ℕ → List Watch → Type 0
+OthersKept ended alone watches =
+    IfSome alone (λ p. (p < length watches) × ((j : ℕ) (w : Watch) → j ≢ p → slice_get watches j ≡ Some w → IsKept ended w))
+
+-- The watches from one place of the list up to another read ready later than this.
+abbrev pub AreLater : ℕ → List Watch → ℕ → ℕ → Type 0
+AreLater most watches from to = (j : ℕ) (w : Watch) → from ≤ j → j < to → slice_get watches j ≡ Some w → most < w.ready
+
+-- Of watches: the first place, up to the most, at which one reads ready, and where; and whether that is one alone.
+pub record ReadsFirst (most : ℕ) (watches : List Watch) (ready place : ℕ) (alone : Bool) : Type 0 where
+  pub high : ready ≤ most
+  pub before : (j : ℕ) (w : Watch) → slice_get watches j ≡ Some w → ready ≤ w.ready
+  pub found : (ready ≡ most) ⊎ ((w : Watch) × (slice_get watches place ≡ Some w) × (w.ready ≡ ready))
+  pub others : alone ≡ true → (place < length watches) × ((j : ℕ) (w : Watch) → j ≢ place → slice_get watches j ≡ Some w → ready < w.ready)
 
 -- The clock of a sender at the settled start.
 pub record IsSettled {C : Type 0} (quiet : ℕ) (seat : Seat C) (clock : Clock) : Type 0 where

@@ -1,16 +1,17 @@
 use Rattle.std.proofs.Common.{◌≡◌, ℕ, ◌+◌, ◌<◌, length, get_or}
 use Rattle.bus_medium.specs.inside.Runs.{Grown}
-use Rattle.bus_medium.specs.inside.Lazy.{lazy, lazy_seats, MovedBySent, EndsAt}
+use Rattle.bus_medium.specs.inside.Lazy.{lazy, lazy_seats, clocks_of, AreNoShorter, MovedBySent, EndsAt}
 use Rattle.bus_medium.proofs.DecideLemmas.{DecidedPlaces}
 use Rattle.bus_medium.proofs.starting.begin_all.Given as goal
 
 abbrev pub invariant-loop-place : goal.invariant-loop-place
 invariant-loop-place g l = record {
   same_length : length l.seats ≡ length l.initial.seats;
-  same_clocks : length l.clocks ≡ length l.seats;
-  decided : DecidedPlaces (lazy g.C.Core l.roster.quiet (l.roster.quiet + l.moment)) l.roster.quiet l.moment (lazy_seats (l.roster.quiet + l.moment) l.initial.seats l.initial.clocks)
-      (lazy_seats (l.roster.quiet + l.moment) l.seats l.clocks) l.list.items l.place-items l.place-index;
+  same_clocks : length l.watches ≡ length l.seats;
+  decided : DecidedPlaces (lazy g.C.Core l.roster.quiet (l.roster.quiet + l.moment)) l.roster.quiet l.moment (lazy_seats (l.roster.quiet + l.moment) l.initial.seats (clocks_of l.heard.ended l.initial.watches))
+      (lazy_seats (l.roster.quiet + l.moment) l.seats (clocks_of l.heard.ended l.watches)) l.list.items l.place-items l.place-index;
   within : (k : ℕ) → k < length l.place-items → get_or l.place-items k 0 < length l.seats;
+  least : AreNoShorter l.heard.least (clocks_of l.heard.ended l.watches);
   grown : Grown l.moment l.initial.list.items l.list.items;
   moved : MovedBySent g.C.Core l.initial.seats l.seats;
   ends : EndsAt l.moment l.initial.list.items l.list.items l.end;
