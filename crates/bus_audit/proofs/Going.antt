@@ -238,6 +238,17 @@ flaw_left false b c h = absurd (cc)
 flaw_left true false c h = absurd (cc)
 flaw_left true true c h = (refl, refl)
 
+-- where nothing is wrong with an entry the watches stand at its moment
+pub begun_by : (table : Table) (trace : Recording) (watches : List Watch) (c e k : ℕ) (s : Sender) (w : Watch) (x : Entry) → Arrived table trace watches c e x.moment x.terminal → position (λ s. s.number == x.terminal) table.senders ≡ Some k → At table watches k s w
+    → None ≡ flaw (nat_lt 0 w.left) (nat_le (ready w) (quiet_of table + x.moment)) (fits s x.message) → c ≤ x.moment
+begun_by table trace watches c e k s w x a place at fine =
+    let is : sender_of table.senders x.terminal ≡ Some s = (at_place table.senders x.terminal k place).1 ∙ at.sender in
+    let parts = flaw_left (nat_lt 0 w.left) (nat_le (ready w) (quiet_of table + x.moment)) (fits s x.message) fine in
+    a.late k s w at (number_is table.senders x.terminal s is) (leb-true (ready w) (quiet_of table + x.moment) parts.1)
+
+pub some_bits : (trace : Recording) (x : Entry) → IsTrace trace → In x trace.list → 0 < bits x.message
+some_bits trace x t i = bits_some x.message (below_in trace.horizon trace.list t.list x i).message.some
+
 begun_low : (p : ℕ) (w : Watch) → p < 2 ^ 41 → IsLow w → IsLow (begun p w)
 begun_low p w h low =
     let ti : w.timing.ti ≤ 128000 = low.sound.ti_most in
@@ -265,15 +276,14 @@ behind_entry table trace watches clock now k q s w x d valid t i quiet few low s
     let number : s.number ≡ x.terminal = number_is table.senders x.terminal s is in
     let parts = flaw_left (nat_lt 0 w.left) (nat_le (ready w) (quiet_of table + x.moment)) (fits s x.message) fine in
     let left : 0 < w.left = ltb-true 0 w.left parts.0 in
-    let is_ready : ready w ≤ quiet_of table + x.moment = leb-true (ready w) (quiet_of table + x.moment) parts.1 in
-    let begun_by : clock.moment ≤ x.moment = a.late k s w at number is_ready in
+    let late : clock.moment ≤ x.moment = begun_by table trace watches clock.moment clock.end k s w x a place at fine in
     let kind : kind_at table trace x.moment x.terminal ≡ None = entry_kind table trace watches clock.moment clock.end k s w x d t i a at is number ∙ sym fine in
     record {
       moment = m;
       stands = subst (λ p. Stands table trace (set watches k (begun (p + x.moment) w)) x.moment (x.terminal + 1)) (sym quiet)
-          (begun_stands table trace watches k s w x (seated table valid) t.order i at number left kind (a.stands begun_by));
+          (begun_stands table trace watches k s w x (seated table valid) t.order i at number left kind (a.stands late));
       near = subst (λ p. Near trace.list x.moment p (x.terminal + 1)) (sym e)
-          (begun_near trace.list x clock.end t.order i (below_in trace.horizon trace.list t.list x i).message.some (a.near begun_by));
+          (begun_near trace.list x clock.end t.order i (below_in trace.horizon trace.list t.list x i).message.some (a.near late));
       far = far_begun watches clock now q k w x few low short at.watch far m e;
     }
 

@@ -7,6 +7,8 @@ pub mod Silence
 pub mod Standing
 pub mod Going
 pub mod Watching
+pub mod Keeping
+pub mod Starting
 pub mod Meanings
 pub mod ObservedLemmas
 pub mod StatedLemmas

@@ -4,6 +4,7 @@ ghost use Rattle.bus_strings.specs.Transmissions.{IsAscending};
 ghost use Rattle.bus_audit.specs.Breaches.{IsAnswer, answer_of, collided};
 
 use crate::answer::AuditAnswer;
+use crate::keep::keep_all;
 use crate::laws::one_answer;
 use crate::settle::settle_all;
 use crate::walk::walk;
@@ -27,7 +28,7 @@ fn count_garbled(list: &[Transmission]) -> u64
 ///
 /// Pairs of a moment and a terminal are looked at by moment and then by number, up to the horizon of the trace; at a
 /// pair the first [`BreachKind`](crate::BreachKind) that applies is told. The order is this project's profile. Time goes
-/// with the entries times the senders and memory with the senders, whatever the horizon. The error is that of a list of
+/// with the entries times the senders and memory with the senders, whatever the horizon. The error is that of lists of
 /// one record a sender for which there is no memory.
 pub fn audit(alloc: Global, table: &Table, trace: &Trace) -> Result<AuditAnswer, AllocError>
     ensures is { IfOk result (λ answer. IsAnswer table.now trace.now answer) }
@@ -37,8 +38,9 @@ pub fn audit(alloc: Global, table: &Table, trace: &Trace) -> Result<AuditAnswer,
     one_answer();
     let _valid = table.senders();
     let _ranges = trace.list();
-    let mut watches = settle_all(alloc, table, trace.holds())?;
-    match walk(table, trace, &mut watches) {
+    let watches = settle_all(alloc, table, trace.holds())?;
+    let mut keeps = keep_all(alloc, &watches)?;
+    match walk(table, trace, &mut keeps) {
         Err(found) => Ok(AuditAnswer::Breach {
             moment: found.moment,
             terminal: found.terminal,
