@@ -6,3 +6,8 @@ mod BodyLemmas
 mod CanonicalLemmas
 mod HearingLemmas
 pub mod HearingLaws
+pub mod Spent
+pub mod Strangers
+pub mod ClosedAlike
+pub mod Orderly
+pub mod Layouts

@@ -8,4 +8,6 @@ pub mod Canonical
 pub mod Hearing
 pub mod HearingLaws
 pub mod HeardTexts
+pub mod Layouts
+pub mod OrderLaws
 pub mod inside

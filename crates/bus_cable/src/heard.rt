@@ -159,6 +159,3 @@ pub fn write_heard<K: Sink>(
     text.put(sink, b"END\n");
     text.finish(sink)
 }
-
-#[cfg(test)]
-mod tests;

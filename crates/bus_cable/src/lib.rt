@@ -6,6 +6,9 @@
 //! - [`observe_on`] is what the senders of a table do on a cable.
 //! - [`write_heard`] writes what each terminal of a table hears of a list, when, and what is garbled there.
 //!
+//! [`laws`] has the order on a cable whose layout a text gives: what the senders of a table do where its terminals are at these places and
+//! wake at these moments, and what each terminal of the table hears of it (`specs/OrderLaws.antt`, `Layouts.antt`).
+//!
 //! The definitions are in `specs/`: `Cables`, and for the cable text `Grammar` (which texts stand for which cables and items), `Reading`
 //! (what a text reads as, or which line is refused) and `Canonical`; `Hearing`,
 //! `HearingLaws` and `HeardTexts` for the heard text.

@@ -205,6 +205,3 @@ pub fn read_cable(alloc: Global, text: &[u8]) -> Result<(Cable, Payloads), Cable
 {
     read(alloc, text)
 }
-
-#[cfg(test)]
-mod tests;

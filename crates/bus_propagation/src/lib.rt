@@ -16,8 +16,6 @@ mod places;
 mod seat;
 mod seating;
 mod starting;
-#[cfg(test)]
-mod tests;
 mod turns;
 
 pub use observing::observe_delayed;

@@ -26,7 +26,7 @@ use Rattle.bus_medium.proofs.StationLaws.{HasSender, stations_are_of_senders}
 use Rattle.bus_cable.specs.Cables.{Cable, place_on, delays_on, wakes_on}
 use Rattle.bus_cable.specs.Grammar.{IsCableText}
 use Rattle.bus_cable.specs.Hearing.{hearings}
-use Rattle.bus_orderly.specs.Laws.{IsRunOnPlaces, BorneIsOrderly, PeriodicBorneIsOrderly}
+use Rattle.bus_cable.specs.OrderLaws.{IsRunOnPlaces, BorneIsOrderly, PeriodicBorneIsOrderly}
 use Rattle.bus_trace.specs.Traces.{Recording, IsTrace}
 use Rattle.bus_command.specs.Due.{table_refusal_of}
 use Rattle.bus_command.specs.Outside.{Call}

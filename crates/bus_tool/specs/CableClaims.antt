@@ -12,9 +12,8 @@ use Rattle.bus_table.specs.declared.mode.Mode.TheVariants.{Aperiodic, Periodic}
 use Rattle.bus_table.specs.Tables.{Sender, Table, Hand}
 use Rattle.bus_table.specs.Fits.{items_fit}
 use Rattle.bus_table.specs.Hands.{hands_of}
-use Rattle.bus_medium.specs.CableLawful.{IsLawfulOnCable}
-use Rattle.bus_medium.specs.Timings.{quiet_of, stations_of}
 use Rattle.bus_medium.specs.Wakes.{AreWakes}
+use Rattle.bus_propagation.specs.Lists.{IsOnlyListOnCable}
 use Rattle.bus_regime.specs.Verdicts.{verdict_of, is_accepted}
 use Rattle.bus_schedule.specs.Closed.{closed, closed_end}
 use Rattle.bus_schedule.specs.Even.{are_even}
@@ -24,7 +23,7 @@ use Rattle.bus_cable.specs.Cables.{Cable, place_on, delays_on, wakes_on}
 use Rattle.bus_cable.specs.Grammar.{IsCableText}
 use Rattle.bus_cable.specs.Hearing.{hearings}
 use Rattle.bus_cable.specs.HeardTexts.{terminals}
-use Rattle.bus_orderly.specs.Layouts.{AreNear}
+use Rattle.bus_cable.specs.Layouts.{AreNear}
 use Rattle.bus_trace.specs.Traces.{Recording, IsTrace}
 use Rattle.bus_command.specs.Claims.{Answers, IsFormOfTwo, TellsTable, NothingFails}
 use Rattle.bus_command.specs.Outside.{Seen, Call}
@@ -83,9 +82,7 @@ pub record IsTheCableText (table : Table) (cable : Cable) (hands : List Hand) (h
   pub recording : Recording
   pub trace : IsTrace recording
   pub observed : IsOnCable table cable hands horizon recording
-  pub only : (other : List Entry)
-      → IsLawfulOnCable (quiet_of table) (delays_on cable) (wakes_on cable) (stations_of table hands) horizon other
-      → other ≡ recording.list
+  pub only : IsOnlyListOnCable table hands (place_on cable) (wakes_on cable) horizon recording.list
   pub plain : IsPlain table cable → IsObserved table hands horizon recording
   pub aperiodic : (most : ℕ) → IsBorne Aperiodic most table cable hands → AreWakes most table.senders (wakes_on cable)
       → greatest_end (cable_closed (delays_on cable) (wakes_on cable) table hands) ≤ horizon

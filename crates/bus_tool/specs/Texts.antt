@@ -9,10 +9,10 @@ use Rattle.bus_regime.specs.Verdicts.{verdict_of}
 use Rattle.bus_regime.specs.Lines.{verdict_line}
 use Rattle.bus_regime.specs.Witness.{witness_of}
 use Rattle.bus_medium.specs.Lawful.{IsLawful}
-use Rattle.bus_medium.specs.CableLawful.{IsLawfulOnCable}
 use Rattle.bus_medium.specs.Timings.{quiet_of, stations_of}
 use Rattle.bus_cable.specs.Cables as cables
-use Rattle.bus_cable.specs.Cables.{delays_on, wakes_on}
+use Rattle.bus_cable.specs.Cables.{delays_on, place_on, wakes_on}
+use Rattle.bus_propagation.specs.Lists.{IsListOnCable}
 use Rattle.bus_cable.specs.HeardTexts.{heard_text}
 use Rattle.bus_schedule.specs.Closed.{closed_end}
 use Rattle.bus_dropout.specs.DropOut.{drop_end}
@@ -67,7 +67,7 @@ pub record IsDropRecording (table : Table) (hands : List Hand) (recording : Reco
 pub record IsOnCable (table : Table) (cable : cables.Cable) (hands : List Hand) (until : ℕ) (recording : Recording) : Type 0 where
   pub horizon : recording.horizon ≡ until
   pub holds : recording.holds ≡ hand_holds hands
-  pub lawful : IsLawfulOnCable (quiet_of table) (delays_on cable) (wakes_on cable) (stations_of table hands) until recording.list
+  pub lawful : IsListOnCable table hands (place_on cable) (wakes_on cable) until recording.list
 
 -- ---- the texts
 -- What is written of a table.

@@ -6,11 +6,10 @@ ghost use Rattle.bus_tool.specs.Promises.{Promises};
 use crate::command::act;
 use bus_advice::laws::{advices_work, none_missing};
 use bus_audit::laws::{no_breach_is_right, one_answer};
-use bus_cable::laws::texts_read_as_their_cables;
+use bus_cable::laws::{borne_is_orderly, texts_read_as_their_cables};
 use bus_command::{Status, outcome_text};
 use bus_explain::laws::{spare_is_fall, spare_is_rise};
 use bus_medium::laws::{one_cable_list, one_lawful_list};
-use bus_orderly::laws::borne_is_orderly;
 use bus_outer::{Sink, Source};
 use bus_plan::laws::{planned_is_accepted, short_is_refused};
 use bus_reach::laws::{

@@ -21,7 +21,7 @@ use Rattle.bus_reach.specs.Bearing.{bears}
 use Rattle.bus_reach.specs.Schedule.{cable_closed}
 use Rattle.bus_cable.specs.HeardTexts.{terminals, heard_text}
 use Rattle.bus_cable.specs.Hearing.{hearings}
-use Rattle.bus_orderly.specs.Layouts.{AreAlike, AreNear}
+use Rattle.bus_cable.specs.Layouts.{AreAlike, AreNear}
 
 -- Strangers count for nothing: with layouts that are alike the senders do the same.
 abbrev pub StrangersSendNothing : Type 0

@@ -18,7 +18,7 @@ use Rattle.bus_schedule.specs.Even.{are_even, rounds}
 use Rattle.bus_schedule.specs.Runs.{IsInTurns, HasTurn}
 use Rattle.bus_schedule.proofs.CableRuns.{all_in}
 use Rattle.bus_schedule.proofs.Places.{more_turns}
-use Rattle.bus_orderly.specs.Laws.{SpentHandsAreSilent}
+use Rattle.bus_cable.specs.OrderLaws.{SpentHandsAreSilent}
 
 -- an entry at this place of the list that passes the test
 record PassesAt (p : Entry → Bool) (list : List Entry) (place : ℕ) : Type 0 where

@@ -29,12 +29,12 @@ use Rattle.bus_reach.specs.Schedule.{cable_closed}
 use Rattle.bus_cable.specs.Hearing.{hearings}
 use Rattle.bus_cable.specs.HearingLaws.{ClearIsUngarbled}
 use Rattle.bus_cable.specs.HeardTexts.{terminals}
-use Rattle.bus_orderly.specs.Layouts.{AreNear}
+use Rattle.bus_cable.specs.Layouts.{AreNear}
 use Rattle.bus_propagation.specs.Lists.{IsListOnCable}
-use Rattle.bus_orderly.specs.Laws.{BorneIsOrderly, PeriodicBorneIsOrderly}
-use Rattle.bus_orderly.proofs.Spent.{spent_hands_are_silent}
-use Rattle.bus_orderly.proofs.Strangers.{Agree, AreOf, are_of, heard_alike, lawful_alike}
-use Rattle.bus_orderly.proofs.ClosedAlike.{closed_alike}
+use Rattle.bus_cable.specs.OrderLaws.{BorneIsOrderly, PeriodicBorneIsOrderly}
+use Rattle.bus_cable.proofs.Spent.{spent_hands_are_silent}
+use Rattle.bus_cable.proofs.Strangers.{Agree, AreOf, are_of, heard_alike, lawful_alike}
+use Rattle.bus_cable.proofs.ClosedAlike.{closed_alike}
 
 -- the delays between the places, but none above `most`, between strangers neither
 abbrev capped : ℕ → (ℕ → ℕ) → Delays

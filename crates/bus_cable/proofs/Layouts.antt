@@ -10,8 +10,8 @@ use Rattle.bus_medium.specs.Delays.{cable, distance}
 use Rattle.bus_medium.specs.Wakes.{Wakes, AreWakes}
 use Rattle.bus_reach.specs.Schedule.{cable_closed}
 use Rattle.bus_cable.specs.Hearing.{hearing, hearings}
-use Rattle.bus_orderly.specs.Layouts.{AreAlike, AreNear}
-use Rattle.bus_orderly.specs.Laws.{IsRunOnPlaces, BorneIsOrderly}
+use Rattle.bus_cable.specs.Layouts.{AreAlike, AreNear}
+use Rattle.bus_cable.specs.OrderLaws.{IsRunOnPlaces, BorneIsOrderly}
 
 abbrev sender : ℕ → ℕ → ℕ → Sender
 sender number tg words = record { number = number; tg = tg; at = 0; sends = record { label = number; ext = 1; least = words; most = words } ∷ []; takes = [] }

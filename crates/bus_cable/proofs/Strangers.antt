@@ -19,7 +19,7 @@ use Rattle.bus_medium.specs.Wakes.{Wakes, woken_past, woken_place}
 use Rattle.bus_medium.proofs.StationLaws.{HasSender, stations_are_of_senders}
 use Rattle.bus_cable.specs.Hearing.{in_order, hearing, hearings, is_of_another}
 use Rattle.bus_cable.specs.HeardTexts.{terminals, terminal_text, hearing_line}
-use Rattle.bus_orderly.specs.Laws.{StrangersSendNothing, StrangersHearNothing, StrangersAreUnwritten}
+use Rattle.bus_cable.specs.OrderLaws.{StrangersSendNothing, StrangersHearNothing, StrangersAreUnwritten}
 
 -- the numbers of the senders of a table
 abbrev pub numbers : Table → List ℕ

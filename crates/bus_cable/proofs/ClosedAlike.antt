@@ -12,7 +12,7 @@ use Rattle.bus_schedule.specs.Closed.{sends}
 use Rattle.bus_schedule.specs.Even.{messages_of, rounds}
 use Rattle.bus_reach.specs.Schedule.{cable_turns, cable_heard, cable_origin, cable_rounds, cable_closed}
 use Rattle.bus_cable.specs.HeardTexts.{terminals}
-use Rattle.bus_orderly.proofs.Strangers.{Agree, sender_sends, sender_there}
+use Rattle.bus_cable.proofs.Strangers.{Agree, sender_sends, sender_there}
 
 -- two moments of each terminal agree on the table
 abbrev AreSame : Table → (ℕ → ℕ) → (ℕ → ℕ) → Type 0

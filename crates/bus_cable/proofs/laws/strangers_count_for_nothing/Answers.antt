@@ -1,5 +1,5 @@
-use Rattle.bus_orderly.proofs.Strangers.{strangers_send_nothing, strangers_hear_nothing, strangers_are_unwritten}
-use Rattle.bus_orderly.proofs.laws.strangers_count_for_nothing.Goals as goal
+use Rattle.bus_cable.proofs.Strangers.{strangers_send_nothing, strangers_hear_nothing, strangers_are_unwritten}
+use Rattle.bus_cable.proofs.laws.strangers_count_for_nothing.Goals as goal
 
 pub returns-clause-sent : goal.returns-clause-sent
 returns-clause-sent c = strangers_send_nothing

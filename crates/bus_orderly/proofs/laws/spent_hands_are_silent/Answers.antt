@@ -1,5 +1,0 @@
-use Rattle.bus_orderly.proofs.Spent.{spent_hands_are_silent}
-use Rattle.bus_orderly.proofs.laws.spent_hands_are_silent.Goals as goal
-
-pub returns : goal.returns
-returns c = spent_hands_are_silent
