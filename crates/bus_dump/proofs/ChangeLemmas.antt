@@ -1,5 +1,5 @@
 -- What changes where: nothing where the same is seen.
-use Rattle.std.proofs.Common.{◌≡◌, ℕ, zero, suc, ◌+◌, ◌-◌, ◌<◌, ◌≤◌, Bool, true, false, cond, List, [], ◌∷◌, ◌++◌, append-nil}
+use Rattle.std.proofs.Common.{◌≡◌, ℕ, zero, suc, ◌+◌, ◌-◌, ◌<◌, ◌≤◌, ◌⊎◌, inl, inr, Bool, true, false, cond, List, [], ◌∷◌, ◌++◌, append-nil}
 use Rattle.std.proofs.Common.{arith, sym, refl, ap, ◌∙◌}
 use Rattle.std.specs.List.{filter, flat_map, list_any, range_with_len}
 use Rattle.std.proofs.lemmas.Bool.{eq-eqb}
@@ -47,11 +47,12 @@ steady_along signals scene t until n steady h =
     quiet_along signals scene (scene t) (1 + t) n (λ v l u. (steady (v - 1) (omega arith) (omega arith), steady v (omega arith) (omega arith)))
 
 -- from bit time t to the next one at which something may change
-pub changes_next : (signals : List Signal) (scene : ℕ → Scene) (t u : ℕ) → t < u → StaysAs scene t u
-    → flat_map (changes_at signals scene) (range_with_len 1 t) ++ changes_text signals (scene t) (scene u) u
-    ≡ flat_map (changes_at signals scene) (range_with_len 1 u)
-changes_next signals scene t u h steady =
+pub changes_next : (signals : List Signal) (scene : ℕ → Scene) (from t u : ℕ) → from ≤ t → t < u → StaysAs scene t u
+    → flat_map (changes_at signals scene) (range_with_len (from + 1) (t - from)) ++ changes_text signals (scene t) (scene u) u
+    ≡ flat_map (changes_at signals scene) (range_with_len (from + 1) (u - from))
+changes_next signals scene from t u low h steady =
     let n : ℕ = u - 1 - t in
+    let d : ℕ = t - from in
     let f = changes_at signals scene in
     let last : 1 + t + n ≡ u = omega arith in
     let before : scene (u - 1) ≡ scene t = steady (u - 1) (omega arith) (omega arith) in
@@ -62,22 +63,27 @@ changes_next signals scene t u h steady =
     ∙ append-nil (f (1 + t + n))
     ∙ ap f last
     ∙ text_of signals (scene (u - 1)) (scene u) (scene t) (scene u) u before refl in
-    sym (ap (λ m. flat_map f (range_with_len 1 m)) (let e : u ≡ t + suc n = omega arith in e)
-    ∙ ap (flat_map f) (range_join 1 t (suc n))
-    ∙ flat_map-append f (range_with_len 1 t) (range_with_len (1 + t) (suc n))
-    ∙ ap (λ x. flat_map f (range_with_len 1 t) ++ x) end)
+    sym (ap (λ m. flat_map f (range_with_len (from + 1) m)) (let e : u - from ≡ d + suc n = omega arith in e)
+    ∙ ap (flat_map f) (range_join (from + 1) d (suc n))
+    ∙ flat_map-append f (range_with_len (from + 1) d) (range_with_len (from + 1 + d) (suc n))
+    ∙ ap (λ k. flat_map f (range_with_len (from + 1) d) ++ flat_map f (range_with_len k (suc n))) (let e : from + 1 + d ≡ 1 + t = omega arith in e)
+    ∙ ap (λ x. flat_map f (range_with_len (from + 1) d) ++ x) end)
 
--- from the last bit time at which something changes to the horizon
-pub changes_last : (signals : List Signal) (scene : ℕ → Scene) (t until horizon : ℕ) → t ≤ horizon - 1 → t < until → horizon ≤ until → StaysAs scene t until
-    → flat_map (changes_at signals scene) (range_with_len 1 t) ≡ changes_to signals scene horizon
-changes_last signals scene t until horizon low some h steady =
-    let n : ℕ = horizon - 1 - t in
+-- from the last bit time at which something changes to the end
+pub changes_last : (signals : List Signal) (scene : ℕ → Scene) (from t until end : ℕ) → from ≤ t → t < until → end ≤ until
+    → t ≤ from ⊎ t < end → StaysAs scene t until
+    → flat_map (changes_at signals scene) (range_with_len (from + 1) (t - from)) ≡ changes_to signals scene from end
+changes_last signals scene from t until end low some h reached steady =
+    let n : ℕ = end - 1 - t in
+    let d : ℕ = t - from in
     let f = changes_at signals scene in
-    sym (ap (λ m. flat_map f (range_with_len 1 m)) (let e : horizon - 1 ≡ t + n = omega arith in e)
-    ∙ ap (flat_map f) (range_join 1 t n)
-    ∙ flat_map-append f (range_with_len 1 t) (range_with_len (1 + t) n)
-    ∙ ap (λ x. flat_map f (range_with_len 1 t) ++ x) (steady_along signals scene t until n steady (omega arith))
-    ∙ append-nil (flat_map f (range_with_len 1 t)))
+    let all : end - (from + 1) ≡ d + n = elim reached [ inl at ↦ omega arith | inr below ↦ omega arith ] in
+    sym (ap (λ m. flat_map f (range_with_len (from + 1) m)) all
+    ∙ ap (flat_map f) (range_join (from + 1) d n)
+    ∙ flat_map-append f (range_with_len (from + 1) d) (range_with_len (from + 1 + d) n)
+    ∙ ap (λ k. flat_map f (range_with_len (from + 1) d) ++ flat_map f (range_with_len k n)) (let e : from + 1 + d ≡ 1 + t = omega arith in e)
+    ∙ ap (λ x. flat_map f (range_with_len (from + 1) d) ++ x) (steady_along signals scene t until n steady (omega arith))
+    ∙ append-nil (flat_map f (range_with_len (from + 1) d)))
 
 -- ---- puts
 passing_by : (b : Bool) (line rest : List ℕ) (s : Signal) (f : Signal → List ℕ) (ss : List Signal) → line ≡ f s → rest ≡ flat_map f ss

@@ -1,5 +1,5 @@
 -- Of a list in which no two transmissions overlap a dump shows none.
-use Rattle.std.proofs.Common.{◌≡◌, ℕ, zero, suc, ◌+◌, ◌<◌, ◌≤◌, Bool, true, false, cond, ◌&&◌, ◌||◌, eqb, ltb, List, [], ◌∷◌, length, take, drop, Some, None}
+use Rattle.std.proofs.Common.{◌≡◌, ℕ, zero, suc, ◌+◌, ◌<◌, ◌≤◌, Bool, true, false, cond, ◌&&◌, ◌||◌, eqb, ltb, List, [], ◌∷◌, length, take, drop, Option, Some, None}
 use Rattle.std.proofs.Common.{inl, inr, arith, sym, refl, ap, ◌∙◌}
 use Rattle.std.specs.Prelude.{slice_get, remove}
 use Rattle.std.specs.List.{AllByRecursion, filter, list_any, range_with_len}
@@ -107,8 +107,9 @@ clear_garbled list t n apart =
     ])
 
 -- ---- the whole
-pub clear_shows_none : (dump : Dump) (table : Table) (list : List Entry) (t : ℕ) → IsOrdered AreApart list → ShowsNoOverlap dump table list t
-clear_shows_none dump table list t apart =
+pub clear_shows_none : (dump : Dump) (breach : Option ℕ) (table : Table) (list : List Entry) (t : ℕ) → IsOrdered AreApart list
+    → ShowsNoOverlap dump breach table list t
+clear_shows_none dump breach table list t apart =
     let few : length (seen_at list t) ≤ 1 = few_seen list t apart in
     record {
       overlap = ap Bit (le-ltb 1 (length (seen_at list t)) few);

@@ -1,5 +1,5 @@
 -- There is an overlap somewhere exactly where a terminal is garbled somewhere.
-use Rattle.std.proofs.Common.{◌≡◌, ℕ, zero, suc, ◌+◌, ◌<◌, ◌≤◌, Bool, true, false, cond, ◌&&◌, ◌||◌, eqb, ltb, max, List, [], ◌∷◌, length, take, drop, Some, None}
+use Rattle.std.proofs.Common.{◌≡◌, ℕ, zero, suc, ◌+◌, ◌<◌, ◌≤◌, Bool, true, false, cond, ◌&&◌, ◌||◌, eqb, ltb, max, List, [], ◌∷◌, length, take, drop, Option, Some, None}
 use Rattle.std.proofs.Common.{inl, inr, arith, sym, refl, ap, ◌∙◌}
 use Rattle.std.specs.Prelude.{slice_get, remove, IsTrue}
 use Rattle.std.specs.List.{AllByRecursion, count_by, filter, list_any, range_with_len}
@@ -234,9 +234,9 @@ garbled_there meet horizon list t n k all bad = elim (at_place list k) [
 same_bit : (a b : Bool) → Bit a ≡ Bit b → a ≡ b
 same_bit a b h = cc
 
-shown_garbled : (dump : Dump) (table : Table) (trace : Recording) → IsTrue (is_valid table) → IsTrace trace
-    → OverlapIsShown dump table trace → GarbledIsShown dump table trace
-shown_garbled dump table trace valid is h =
+shown_garbled : (dump : Dump) (breach : Option ℕ) (table : Table) (trace : Recording) → IsTrue (is_valid table) → IsTrace trace
+    → OverlapIsShown dump breach table trace → GarbledIsShown dump breach table trace
+shown_garbled dump breach table trace valid is h =
     let list : List Entry = trace.list in
     let t : ℕ = h.time in
     let many : ltb 1 (length (seen_at list t)) ≡ true = same_bit (ltb 1 (length (seen_at list t))) true h.overlap in
@@ -249,43 +249,43 @@ shown_garbled dump table trace valid is h =
       below = h.below;
       lane = own.0;
       there = own.1;
-      garbled = ap (λ n. value (Garbled n) (scene_at dump table list t)) own.2 ∙ ap Bit (garbled_seen list t x.terminal ∙ bad.2);
+      garbled = ap (λ n. value (Garbled n) (scene_at dump breach table list t)) own.2 ∙ ap Bit (garbled_seen list t x.terminal ∙ bad.2);
     }
 
-overlap_shown : (dump : Dump) (table : Table) (trace : Recording) → OverlapsThere trace.horizon trace.list → OverlapIsShown dump table trace
-overlap_shown dump table trace over = record {
+overlap_shown : (dump : Dump) (breach : Option ℕ) (table : Table) (trace : Recording) → OverlapsThere trace.horizon trace.list → OverlapIsShown dump breach table trace
+overlap_shown dump breach table trace over = record {
   time = over.time;
   below = over.below;
   overlap = ap Bit (lt-ltb 1 (length (seen_at trace.list over.time)) (omega (arith, over.two, held_seen trace.list over.time)));
 }
 
-shown_overlap : OverlapsMeet → (dump : Dump) (table : Table) (trace : Recording) → IsTrace trace
-    → GarbledIsShown dump table trace → OverlapIsShown dump table trace
-shown_overlap meet dump table trace is h =
+shown_overlap : OverlapsMeet → (dump : Dump) (breach : Option ℕ) (table : Table) (trace : Recording) → IsTrace trace
+    → GarbledIsShown dump breach table trace → OverlapIsShown dump breach table trace
+shown_overlap meet dump breach table trace is h =
     let list : List Entry = trace.list in
     let n : ℕ = h.lane.terminal in
     let bad = any_of (is_garbled list h.time n) (range_with_len 0 (length list))
     (sym (garbled_seen list h.time n) ∙ same_bit (list_any (λ (s : Seen). is_of n s && s.garbled) (seen_at list h.time)) true h.garbled) in
-    overlap_shown dump table trace (garbled_there meet trace.horizon list h.time n bad.0 is.list bad.2)
+    overlap_shown dump breach table trace (garbled_there meet trace.horizon list h.time n bad.0 is.list bad.2)
 
 -- ---- the list
-shown_place : (dump : Dump) (table : Table) (trace : Recording) → OverlapIsShown dump table trace → (k : ℕ) × (garbled trace.list k ≡ true)
-shown_place dump table trace h =
+shown_place : (dump : Dump) (breach : Option ℕ) (table : Table) (trace : Recording) → OverlapIsShown dump breach table trace → (k : ℕ) × (garbled trace.list k ≡ true)
+shown_place dump breach table trace h =
     let list : List Entry = trace.list in
     let many : ltb 1 (length (seen_at list h.time)) ≡ true = same_bit (ltb 1 (length (seen_at list h.time))) true h.overlap in
     let two : 1 < length (seen_at list h.time) = ltb-true 1 (length (seen_at list h.time)) many in
     overlap_place list h.time (omega (arith, two, held_seen list h.time))
 
-place_shown : OverlapsMeet → (dump : Dump) (table : Table) (trace : Recording) → IsTrace trace → (k : ℕ) → garbled trace.list k ≡ true
-    → OverlapIsShown dump table trace
-place_shown meet dump table trace is k bad = elim (at_place trace.list k) [
+place_shown : OverlapsMeet → (dump : Dump) (breach : Option ℕ) (table : Table) (trace : Recording) → IsTrace trace → (k : ℕ) → garbled trace.list k ≡ true
+    → OverlapIsShown dump breach table trace
+place_shown meet dump breach table trace is k bad = elim (at_place trace.list k) [
   | absent e ↦
       absurd (true≢false (sym bad ∙ ap (λ o. option_map_or (λ (z : Entry). list_any (overlaps z) (remove trace.list k)) o false) e))
-  | present x e ↦ overlap_shown dump table trace (garbled_overlaps meet trace.horizon trace.list k x is.list e bad)
+  | present x e ↦ overlap_shown dump breach table trace (garbled_overlaps meet trace.horizon trace.list k x is.list e bad)
 ]
 
 pub overlaps_garble : OverlapsMeet → OverlapsGarble
-overlaps_garble meet dump table trace valid is = record {
-  shown = (shown_garbled dump table trace valid is, shown_overlap meet dump table trace is);
-  there = (shown_place dump table trace, λ some. place_shown meet dump table trace is some.0 some.1);
+overlaps_garble meet dump breach table trace valid is = record {
+  shown = (shown_garbled dump breach table trace valid is, shown_overlap meet dump breach table trace is);
+  there = (shown_place dump breach table trace, λ some. place_shown meet dump breach table trace is some.0 some.1);
 }

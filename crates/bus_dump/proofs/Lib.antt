@@ -10,6 +10,7 @@ pub mod ValueLemmas
 pub mod LaneLemmas
 pub mod DoubleLemmas
 pub mod BinaryLemmas
+mod BreachLemmas
 pub mod PassLemmas
 pub mod SendingLemmas
 pub mod TouchLemmas

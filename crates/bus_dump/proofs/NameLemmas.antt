@@ -18,7 +18,7 @@ use Rattle.bus_strings.specs.Members.{In}
 use Rattle.bus_dump.specs.DumpTexts.{behind_text, bits_text, changes_to, declaration, first_values, head_text, id_text, last_stamp, name_text, text_of, width_text}
 use Rattle.bus_dump.specs.Reading.{declared, first_declared, identifier, parts_of, read, read_named}
 use Rattle.bus_dump.specs.Scenes.{Scene}
-use Rattle.bus_dump.specs.Signals.{Signal, Carrier, Overlap, Sync, Word, Pulse, Garbled, Label, Message, Interval, Synchronization, Gap, May}
+use Rattle.bus_dump.specs.Signals.{Signal, Carrier, Overlap, Sync, Breach, Word, Pulse, Garbled, Label, Message, Interval, Synchronization, Gap, May}
 use Rattle.bus_dump.proofs.ReadLemmas.{Feedless, IsSmall, NotOf, feedless_join, feedless_test, field_spaceless, good_id, line_first, not_join, own_bytes, same_bytes, same_id}
 use Rattle.bus_dump.proofs.ReadThroughLemmas.{declaration_feedless}
 
@@ -40,6 +40,7 @@ abbrev width_of : Signal → List ℕ
 width_of Carrier = codes "1"
 width_of Overlap = codes "1"
 width_of Sync = codes "1"
+width_of Breach = codes "1"
 width_of Word = codes "16"
 width_of (Pulse n) = codes "1"
 width_of (Garbled n) = codes "1"
@@ -55,6 +56,7 @@ abbrev tail_of : Signal → List ℕ
 tail_of Carrier = codes "$end"
 tail_of Overlap = codes "$end"
 tail_of Sync = codes "$end"
+tail_of Breach = codes "$end"
 tail_of Word = codes "[15:0] $end"
 tail_of (Pulse n) = codes "$end"
 tail_of (Garbled n) = codes "$end"
@@ -69,6 +71,7 @@ width_spaceless : (s : Signal) → list_any (λ x. eqb x 32) (width_of s) ≡ fa
 width_spaceless Carrier = refl
 width_spaceless Overlap = refl
 width_spaceless Sync = refl
+width_spaceless Breach = refl
 width_spaceless Word = refl
 width_spaceless (Pulse n) = refl
 width_spaceless (Garbled n) = refl
@@ -84,6 +87,7 @@ front_is : (s : Signal) (rest : List ℕ)
 front_is Carrier rest = refl
 front_is Overlap rest = refl
 front_is Sync rest = refl
+front_is Breach rest = refl
 front_is Word rest = refl
 front_is (Pulse n) rest = refl
 front_is (Garbled n) rest = refl
@@ -98,6 +102,7 @@ tail_is : (s : Signal) → bits_text s ++ codes " $end" ≡ 32 ∷ tail_of s
 tail_is Carrier = refl
 tail_is Overlap = refl
 tail_is Sync = refl
+tail_is Breach = refl
 tail_is Word = refl
 tail_is (Pulse n) = refl
 tail_is (Garbled n) = refl
@@ -116,6 +121,7 @@ name_spaceless : (s : Signal) → IsSmall s → NotOf 32 (name_text s)
 name_spaceless Carrier h = not_test 32 (codes "carrier") refl
 name_spaceless Overlap h = not_test 32 (codes "overlap") refl
 name_spaceless Sync h = not_test 32 (codes "sync") refl
+name_spaceless Breach h = not_test 32 (codes "breach") refl
 name_spaceless Word h = not_test 32 (codes "word") refl
 name_spaceless (Pulse n) h = lane_spaceless n (codes "_pulse") h refl
 name_spaceless (Garbled n) h = lane_spaceless n (codes "_garbled") h refl
@@ -179,8 +185,8 @@ lane_named (digits ∷ (kind ∷ more)) =
 abbrev signal_named : List ℕ → Signal
 signal_named [] = Carrier
 signal_named (letter ∷ rest) =
-    cond (eqb letter 99) Carrier (cond (eqb letter 111) Overlap (cond (eqb letter 115) Sync (cond (eqb letter 119) Word
-    (lane_named (slice_split (λ b. eqb b 95) rest)))))
+    cond (eqb letter 99) Carrier (cond (eqb letter 111) Overlap (cond (eqb letter 115) Sync (cond (eqb letter 98) Breach (cond (eqb letter 119) Word
+    (lane_named (slice_split (λ b. eqb b 95) rest))))))
 
 lane_parts : (n : ℕ) (kind : List ℕ) → n < 2 ^ 64 → list_any (λ x. eqb x 95) kind ≡ false
     → slice_split (λ b. eqb b 95) (decimal n ++ 95 ∷ kind) ≡ decimal n ∷ (kind ∷ [])
@@ -192,6 +198,7 @@ named_is : (s : Signal) → IsSmall s → signal_named (name_text s) ≡ s
 named_is Carrier h = refl
 named_is Overlap h = refl
 named_is Sync h = refl
+named_is Breach h = refl
 named_is Word h = refl
 named_is (Pulse n) h = ap lane_named (lane_parts n (codes "pulse") h refl) ∙ ap Pulse (decimal_is n h).value
 named_is (Garbled n) h = ap lane_named (lane_parts n (codes "garbled") h refl) ∙ ap Garbled (decimal_is n h).value
@@ -262,14 +269,14 @@ all_declared s (x ∷ ss) rest small own i =
           ]
     ]
 
-pub name_declared : (comment : List ℕ) (ss : List Signal) (scene : ℕ → Scene) (horizon : ℕ) (s : Signal) → Feedless comment
-    → AllByRecursion IsSmall ss → IsSmall s → In s ss → identifier (name_text s) (text_of comment ss scene horizon) ≡ Some (id_text s)
-name_declared comment ss scene horizon s plain small own i =
+pub name_declared : (comment : List ℕ) (ss : List Signal) (scene : ℕ → Scene) (from end : ℕ) (s : Signal) → Feedless comment
+    → AllByRecursion IsSmall ss → IsSmall s → In s ss → identifier (name_text s) (text_of comment ss scene from end) ≡ Some (id_text s)
+name_declared comment ss scene from end s plain small own i =
     let declarations : List ℕ = flat_map declaration ss in
-    let first : List ℕ = first_values ss (scene 0) in
-    let later : List ℕ = changes_to ss scene horizon in
-    let rest : List ℕ = behind_text ++ (first ++ (later ++ last_stamp horizon)) in
-    ap (identifier (name_text s)) (six_parts (head_text comment) declarations behind_text first later (last_stamp horizon))
+    let first : List ℕ = first_values ss (scene from) from in
+    let later : List ℕ = changes_to ss scene from end in
+    let rest : List ℕ = behind_text ++ (first ++ (later ++ last_stamp from end)) in
+    ap (identifier (name_text s)) (six_parts (head_text comment) declarations behind_text first later (last_stamp from end))
     ∙ head_declares (name_text s) comment (declarations ++ rest) plain
     ∙ all_declared s ss rest small own i
 
@@ -343,12 +350,14 @@ same_behind [] xs ys h = h
 same_behind (b ∷ front) xs ys h = same_behind front xs ys (let w : b ∷ (front ++ xs) ≡ b ∷ (front ++ ys) = h in cc)
 
 -- the same texts have the same signals
-pub same_signals : (comment : List ℕ) (ss ts : List Signal) (scene other : ℕ → Scene) (horizon until : ℕ) → AllByRecursion IsSmall ss
-    → AllByRecursion IsSmall ts → text_of comment ss scene horizon ≡ text_of comment ts other until → ss ≡ ts
-same_signals comment ss ts scene other horizon until h k e =
+pub same_signals : (comment : List ℕ) (ss ts : List Signal) (scene other : ℕ → Scene) (from end start until : ℕ) → AllByRecursion IsSmall ss
+    → AllByRecursion IsSmall ts → text_of comment ss scene from end ≡ text_of comment ts other start until → ss ≡ ts
+same_signals comment ss ts scene other from end start until h k e =
     let head : List ℕ = head_text comment in
-    let x : List ℕ = first_values ss (scene 0) ++ (changes_to ss scene horizon ++ last_stamp horizon) in
-    let y : List ℕ = first_values ts (other 0) ++ (changes_to ts other until ++ last_stamp until) in
+    let first : List ℕ = first_values ss (scene from) from in
+    let second : List ℕ = first_values ts (other start) start in
+    let x : List ℕ = first ++ (changes_to ss scene from end ++ last_stamp from end) in
+    let y : List ℕ = second ++ (changes_to ts other start until ++ last_stamp start until) in
     same_declared ss ts x y h k (ap physical_lines (same_behind head (flat_map declaration ss ++ (behind_text ++ x)) (flat_map declaration ts ++ (behind_text ++ y))
-    (sym (six_parts head (flat_map declaration ss) behind_text (first_values ss (scene 0)) (changes_to ss scene horizon) (last_stamp horizon))
-    ∙ e ∙ six_parts head (flat_map declaration ts) behind_text (first_values ts (other 0)) (changes_to ts other until) (last_stamp until))))
+    (sym (six_parts head (flat_map declaration ss) behind_text first (changes_to ss scene from end) (last_stamp from end))
+    ∙ e ∙ six_parts head (flat_map declaration ts) behind_text second (changes_to ts other start until) (last_stamp start until))))

@@ -19,7 +19,7 @@ use Rattle.bus_strings.specs.Members.{In}
 use Rattle.bus_dump.specs.DumpTexts.{binary, id_text, stamp, value_line, value_text}
 use Rattle.bus_dump.specs.Reading.{gives, other, Place, line_of, parts_of, read_on, step, vector, vector_line}
 use Rattle.bus_dump.specs.Scenes.{Scene}
-use Rattle.bus_dump.specs.Signals.{Signal, Carrier, Overlap, Sync, Word, Pulse, Garbled, Label, Message, Interval, Synchronization, Gap, May, Value, Bit, Number, Floating, Unknown, value, is_same}
+use Rattle.bus_dump.specs.Signals.{Signal, Carrier, Overlap, Sync, Breach, Word, Pulse, Garbled, Label, Message, Interval, Synchronization, Gap, May, Value, Bit, Number, Floating, Unknown, value, is_same}
 
 -- ---- lines
 abbrev pub Feedless : List ℕ → Type 0
@@ -134,6 +134,7 @@ abbrev pub terminal_of : Signal → ℕ
 terminal_of Carrier = 0
 terminal_of Overlap = 0
 terminal_of Sync = 0
+terminal_of Breach = 0
 terminal_of Word = 0
 terminal_of (Pulse n) = n
 terminal_of (Garbled n) = n
@@ -177,6 +178,7 @@ pub good_id : (s : Signal) → IsSmall s → GoodId (id_text s)
 good_id Carrier h = record { feedless = (refl, tt); spaceless = (refl, tt) }
 good_id Overlap h = record { feedless = (refl, tt); spaceless = (refl, tt) }
 good_id Sync h = record { feedless = (refl, tt); spaceless = (refl, tt) }
+good_id Breach h = record { feedless = (refl, tt); spaceless = (refl, tt) }
 good_id Word h = record { feedless = (refl, tt); spaceless = (refl, tt) }
 good_id (Pulse n) h = lane_id 112 n refl refl h
 good_id (Garbled n) h = lane_id 103 n refl refl h
@@ -226,14 +228,15 @@ abbrev signal_of : List ℕ → Signal
 signal_of [] = Carrier
 signal_of (letter ∷ digits) =
     let n : ℕ = digits_value 10 digits in
-    cond (eqb letter 99) Carrier (cond (eqb letter 111) Overlap (cond (eqb letter 115) Sync (cond (eqb letter 119) Word
+    cond (eqb letter 99) Carrier (cond (eqb letter 111) Overlap (cond (eqb letter 115) Sync (cond (eqb letter 98) Breach (cond (eqb letter 119) Word
     (cond (eqb letter 112) (Pulse n) (cond (eqb letter 103) (Garbled n) (cond (eqb letter 108) (Label n) (cond (eqb letter 109) (Message n)
-    (cond (eqb letter 105) (Interval n) (cond (eqb letter 121) (Synchronization n) (cond (eqb letter 104) (Gap n) (May n)))))))))))
+    (cond (eqb letter 105) (Interval n) (cond (eqb letter 121) (Synchronization n) (cond (eqb letter 104) (Gap n) (May n))))))))))))
 
 signal_is : (s : Signal) → IsSmall s → signal_of (id_text s) ≡ s
 signal_is Carrier h = refl
 signal_is Overlap h = refl
 signal_is Sync h = refl
+signal_is Breach h = refl
 signal_is Word h = refl
 signal_is (Pulse n) h = ap Pulse (decimal_is n h).value
 signal_is (Garbled n) h = ap Garbled (decimal_is n h).value

@@ -1,5 +1,5 @@
 -- What a reader makes of a whole dump, change for change.
-use Rattle.std.proofs.Common.{◌≡◌, ℕ, zero, suc, ◌+◌, ◌-◌, ◌*◌, ◌^◌, ◌<◌, ◌≤◌, Bool, true, false, not, ◌||◌, cond, eqb, leb, List, [], ◌∷◌, ◌++◌, codes, min, Some, None}
+use Rattle.std.proofs.Common.{◌≡◌, ℕ, zero, suc, ◌+◌, ◌-◌, ◌*◌, ◌^◌, ◌<◌, ◌≤◌, Bool, true, false, not, ◌||◌, cond, eqb, leb, ltb, List, [], ◌∷◌, ◌++◌, codes, min, Some, None}
 use Rattle.std.proofs.Common.{inl, inr, arith, sym, refl, ap, subst, ◌∙◌, append_assoc, append-nil}
 use Rattle.std.specs.List.{AllByRecursion, filter, flat_map, list_any, range_with_len}
 use Rattle.std.proofs.lemmas.Bool.{cases_lt, cases_Bool, true≢false, le-leb, lt-leb}
@@ -9,7 +9,7 @@ use Rattle.bus_strings.proofs.MemberLaws.{in_filter}
 use Rattle.bus_dump.specs.DumpTexts.{changes, changes_at, changes_text, changes_to, declaration, first_values, head_text, behind_text, bits_text, id_text, last_stamp, name_text, width_text, some_changes, stamp, text_of, value_line}
 use Rattle.bus_dump.specs.Reading.{other, Place, line_of, read, read_on}
 use Rattle.bus_dump.specs.Scenes.{Scene}
-use Rattle.bus_dump.specs.Signals.{Signal, Carrier, Overlap, Sync, Word, Pulse, Garbled, Label, Message, Interval, Synchronization, Gap, May, value, is_same}
+use Rattle.bus_dump.specs.Signals.{Signal, Carrier, Overlap, Sync, Breach, Word, Pulse, Garbled, Label, Message, Interval, Synchronization, Gap, May, value, is_same}
 use Rattle.bus_dump.proofs.ReadLemmas.{Moves, then, stays_at, with_value, late, kept, taken, stamp_moves, Feedless, feedless_join, feedless_test, line_read, line_skipped, is_same_equal, IsSmall, good_id, lane_feedless}
 
 -- ---- changes
@@ -140,6 +140,7 @@ name_feedless : (s : Signal) → IsSmall s → Feedless (name_text s)
 name_feedless Carrier h = feedless_test (codes "carrier") refl
 name_feedless Overlap h = feedless_test (codes "overlap") refl
 name_feedless Sync h = feedless_test (codes "sync") refl
+name_feedless Breach h = feedless_test (codes "breach") refl
 name_feedless Word h = feedless_test (codes "word") refl
 name_feedless (Pulse n) h = lane_feedless n (codes "_pulse") h (feedless_test (codes "_pulse") refl)
 name_feedless (Garbled n) h = lane_feedless n (codes "_garbled") h (feedless_test (codes "_garbled") refl)
@@ -154,6 +155,7 @@ width_feedless : (s : Signal) → list_any is_feed (width_text s) ≡ false
 width_feedless Carrier = refl
 width_feedless Overlap = refl
 width_feedless Sync = refl
+width_feedless Breach = refl
 width_feedless Word = refl
 width_feedless (Pulse n) = refl
 width_feedless (Garbled n) = refl
@@ -168,6 +170,7 @@ bits_feedless : (s : Signal) → list_any is_feed (bits_text s) ≡ false
 bits_feedless Carrier = refl
 bits_feedless Overlap = refl
 bits_feedless Sync = refl
+bits_feedless Breach = refl
 bits_feedless Word = refl
 bits_feedless (Pulse n) = refl
 bits_feedless (Garbled n) = refl
@@ -223,45 +226,51 @@ behind_skipped id at p rest =
     line_skipped id at p (codes "$upscope $end") (codes "$enddefinitions $end" ++ 10 ∷ rest) (feedless_test (codes "$upscope $end") refl) refl
     ∙ line_skipped id at p (codes "$enddefinitions $end") rest (feedless_test (codes "$enddefinitions $end") refl) refl
 
--- ---- the values at bit time 0
-first_moves : (s : Signal) (ss : List Signal) (at : ℕ) (scene : Scene) → AllByRecursion IsSmall ss → In s ss → IsSmall s
-    → Moves (id_text s) at (record { now = 0; value = None }) (first_values ss scene) (record { now = 0; value = Some (value s scene) })
-first_moves s ss at scene small i own =
+-- ---- the values at the first bit time
+first_moves : (s : Signal) (ss : List Signal) (from at : ℕ) (scene : Scene) → 5 * from ≤ at → 5 * from < 2 ^ 64 → AllByRecursion IsSmall ss → In s ss → IsSmall s
+    → Moves (id_text s) at (record { now = 0; value = None }) (first_values ss scene from) (record { now = 5 * from; value = Some (value s scene) })
+first_moves s ss from at scene early low small i own =
     let id : List ℕ = id_text s in
     let p : Place = record { now = 0; value = None } in
-    let q : Place = record { now = 0; value = Some (value s scene) } in
+    let r : Place = record { now = 5 * from; value = None } in
+    let q : Place = record { now = 5 * from; value = Some (value s scene) } in
     let lines : List ℕ = flat_map (value_line scene) ss in
-    then id at p q q (codes "#0\n$dumpvars\n" ++ lines) (codes "$end\n")
-    (then id at p p q (codes "#0\n$dumpvars\n") lines
-    (λ rest. line_read id at p (codes "#0") (codes "$dumpvars" ++ 10 ∷ rest) (feedless_test (codes "#0") refl)
-    ∙ line_skipped id at p (codes "$dumpvars") rest (feedless_test (codes "$dumpvars") refl) refl)
-    (taken s at p scene ss small own (le-leb 0 at (omega arith)) i))
+    then id at p q q (stamp from ++ codes "$dumpvars\n" ++ lines) (codes "$end\n")
+    (then id at p r q (stamp from ++ codes "$dumpvars\n") lines
+    (then id at p r r (stamp from) (codes "$dumpvars\n") (stamp_moves id at p from low) (skips id at r (codes "$dumpvars") (feedless_test (codes "$dumpvars") refl) refl))
+    (taken s at r scene ss small own (le-leb (5 * from) at early) i))
     (skips id at q (codes "$end") (feedless_test (codes "$end") refl) refl)
 
-last_moves : (id : List ℕ) (at : ℕ) (p : Place) (horizon : ℕ) → 5 * horizon < 2 ^ 64 → (q : Place) × (q.value ≡ p.value) × Moves id at p (last_stamp horizon) q
-last_moves id at p horizon low =
-    elim (eqb horizon 0) as (λ b. (q : Place) × (q.value ≡ p.value) × Moves id at p (cond b [] (stamp horizon)) q) [
-      | true ↦ (p, refl, stays_at id at p)
-      | false ↦ (record { now = 5 * horizon; value = p.value }, refl, stamp_moves id at p horizon low)
+last_moves : (id : List ℕ) (at : ℕ) (p : Place) (from end : ℕ) → 5 * end < 2 ^ 64 → (q : Place) × (q.value ≡ p.value) × Moves id at p (last_stamp from end) q
+last_moves id at p from end low =
+    elim (ltb from end) as (λ b. (q : Place) × (q.value ≡ p.value) × Moves id at p (cond b (stamp end) []) q) [
+      | true ↦ (record { now = 5 * end; value = p.value }, refl, stamp_moves id at p end low)
+      | false ↦ (p, refl, stays_at id at p)
     ]
 
 -- ---- the whole
-pub text_read : (comment : List ℕ) (ss : List Signal) (scene : ℕ → Scene) (horizon t : ℕ) (s : Signal) → Feedless comment → AllByRecursion IsSmall ss → In s ss
-    → IsSmall s → t < horizon → 5 * horizon < 2 ^ 64 → read (id_text s) (5 * t) (text_of comment ss scene horizon) ≡ Some (value s (scene t))
-text_read comment ss scene horizon t s plain small i own below low =
+pub text_read : (comment : List ℕ) (ss : List Signal) (scene : ℕ → Scene) (from end t : ℕ) (s : Signal) → Feedless comment → AllByRecursion IsSmall ss → In s ss
+    → IsSmall s → from ≤ t → t < end → 5 * end < 2 ^ 64 → read (id_text s) (5 * t) (text_of comment ss scene from end) ≡ Some (value s (scene t))
+text_read comment ss scene from end t s plain small i own early below low =
     let id : List ℕ = id_text s in
     let at : ℕ = 5 * t in
     let p : Place = record { now = 0; value = None } in
-    let q : Place = record { now = 0; value = Some (value s (scene 0)) } in
-    let n : ℕ = horizon - 1 in
-    let begun : Reached s scene t 0 q = record { now = omega arith; value = ap (λ k. Some (value s (scene k))) (let e : 0 ≡ min 0 t = omega arith in e) } in
-    let all = all_moves s ss scene t 0 n q small i own (omega arith) begun in
-    let last = last_moves id at all.place horizon low in
+    let q : Place = record { now = 5 * from; value = Some (value s (scene from)) } in
+    let n : ℕ = end - suc from in
+    let first : List ℕ = first_values ss (scene from) from in
+    let begun : Reached s scene t from q =
+    record { now = omega arith; value = ap (λ k. Some (value s (scene k))) (let e : from ≡ min from t = omega arith in e) } in
+    let all = all_moves s ss scene t from n q small i own (omega arith) begun in
+    let last = last_moves id at all.place from end low in
     let head : List ℕ = head_text comment in
     let a = then id at p p p head (flat_map declaration ss) (head_skipped id at p comment plain) (declarations_skipped id at p ss small) in
     let b = then id at p p p (head ++ flat_map declaration ss) behind_text a (behind_skipped id at p) in
-    let c = then id at p p q (head ++ flat_map declaration ss ++ behind_text) (first_values ss (scene 0)) b (first_moves s ss at (scene 0) small i own) in
-    let d = then id at p q all.place (head ++ flat_map declaration ss ++ behind_text ++ first_values ss (scene 0)) (changes_to ss scene horizon) c all.moves in
-    let e = then id at p all.place last.0 (head ++ flat_map declaration ss ++ behind_text ++ first_values ss (scene 0) ++ changes_to ss scene horizon) (last_stamp horizon) d last.2 in
-    ap (λ (r : Place). r.value) (ap (read_on id at p) (sym (append-nil (text_of comment ss scene horizon))) ∙ e [])
-    ∙ last.1 ∙ all.reached.value ∙ ap (λ k. Some (value s (scene k))) (let w : min (0 + n) t ≡ t = omega arith in w)
+    let c = then id at p p q (head ++ flat_map declaration ss ++ behind_text) first b
+    (first_moves s ss from at (scene from) (omega arith) (omega arith) small i own) in
+    let one : suc from ≡ from + 1 = omega arith in
+    let moves : Moves id at q (changes_to ss scene from end) all.place =
+    subst (λ k. Moves id at q (flat_map (changes_at ss scene) (range_with_len k (end - k))) all.place) one all.moves in
+    let d = then id at p q all.place (head ++ flat_map declaration ss ++ behind_text ++ first) (changes_to ss scene from end) c moves in
+    let e = then id at p all.place last.0 (head ++ flat_map declaration ss ++ behind_text ++ first ++ changes_to ss scene from end) (last_stamp from end) d last.2 in
+    ap (λ (r : Place). r.value) (ap (read_on id at p) (sym (append-nil (text_of comment ss scene from end))) ∙ e [])
+    ∙ last.1 ∙ all.reached.value ∙ ap (λ k. Some (value s (scene k))) (let w : min (from + n) t ≡ t = omega arith in w)

@@ -16,7 +16,7 @@ use Rattle.bus_dump.specs.DumpTexts.{bits_text, name_text}
 use Rattle.bus_dump.specs.Lanes.{lanes}
 use Rattle.bus_dump.specs.Laws.{AllAreShown, EndsLine, OpensOnAll, Shows}
 use Rattle.bus_dump.specs.SaveFiles.{all_shown, are_folded, as_decimal, as_hexadecimal, as_wires, bus_shown, group_begin, group_end, group_mark, heading, label_shown, labels_shown, lane_shown, lane_title, marked, marker_text, messages_shown, nanoseconds, opening, save_text, shown, timers_shown, zoom}
-use Rattle.bus_dump.specs.Signals.{Signal, Carrier, Overlap, Sync, Word, Pulse, Garbled, Label, Message, Interval, Synchronization, Gap, May}
+use Rattle.bus_dump.specs.Signals.{Signal, Carrier, Overlap, Sync, Breach, Word, Pulse, Garbled, Label, Message, Interval, Synchronization, Gap, May}
 use Rattle.bus_dump.specs.Signals.{bus_signals, has, is_timer, is_wire, lane_signals, signals_of}
 
 -- ---- texts that end with a line feed
@@ -103,7 +103,10 @@ abbrev bus3 : List ℕ
 bus3 = bus2 ++ shown Overlap
 
 abbrev bus4 : List ℕ
-bus4 = bus3 ++ shown Sync ++ as_hexadecimal
+bus4 = bus3 ++ shown Sync ++ marked
+
+abbrev bus5 : List ℕ
+bus5 = bus4 ++ shown Breach ++ as_hexadecimal
 
 bus1_ends : EndsLine bus1
 bus1_ends = ends_join (heading (codes "bus")) as_wires (heading_ends (codes "bus")) wires_ends
@@ -115,34 +118,43 @@ bus3_ends : EndsLine bus3
 bus3_ends = and_shown bus2 Overlap bus2_ends
 
 bus4_ends : EndsLine bus4
-bus4_ends = ends_join (bus3 ++ shown Sync) as_hexadecimal (and_shown bus3 Sync bus3_ends) hexadecimal_ends
+bus4_ends = and_marked (bus3 ++ shown Sync) (and_shown bus3 Sync bus3_ends)
 
-of_bus : (s : Signal) → In s (Carrier ∷ (Overlap ∷ (Sync ∷ (Word ∷ [])))) → Shows s bus_shown
+bus5_ends : EndsLine bus5
+bus5_ends = ends_join (bus4 ++ shown Breach) as_hexadecimal (and_shown bus4 Breach bus4_ends) hexadecimal_ends
+
+of_bus : (s : Signal) → In s (Carrier ∷ (Overlap ∷ (Sync ∷ (Breach ∷ (Word ∷ []))))) → Shows s bus_shown
 of_bus s (inl is) = subst (λ z. Shows z bus_shown) (sym is) (record {
   front = bus1;
-  behind = marked ++ shown Overlap ++ shown Sync ++ as_hexadecimal ++ shown Word;
+  behind = marked ++ shown Overlap ++ shown Sync ++ marked ++ shown Breach ++ as_hexadecimal ++ shown Word;
   parts = refl;
   line = bus1_ends;
 })
 of_bus s (inr (inl is)) = subst (λ z. Shows z bus_shown) (sym is) (record {
   front = bus2;
-  behind = shown Sync ++ as_hexadecimal ++ shown Word;
+  behind = shown Sync ++ marked ++ shown Breach ++ as_hexadecimal ++ shown Word;
   parts = refl;
   line = bus2_ends;
 })
 of_bus s (inr (inr (inl is))) = subst (λ z. Shows z bus_shown) (sym is) (record {
   front = bus3;
-  behind = as_hexadecimal ++ shown Word;
+  behind = marked ++ shown Breach ++ as_hexadecimal ++ shown Word;
   parts = refl;
   line = bus3_ends;
 })
 of_bus s (inr (inr (inr (inl is)))) = subst (λ z. Shows z bus_shown) (sym is) (record {
   front = bus4;
-  behind = [];
+  behind = as_hexadecimal ++ shown Word;
   parts = refl;
   line = bus4_ends;
 })
-of_bus s (inr (inr (inr (inr none)))) = absurd none
+of_bus s (inr (inr (inr (inr (inl is))))) = subst (λ z. Shows z bus_shown) (sym is) (record {
+  front = bus5;
+  behind = [];
+  parts = refl;
+  line = bus5_ends;
+})
+of_bus s (inr (inr (inr (inr (inr none))))) = absurd none
 
 -- ---- a lane
 -- the texts before its signals
@@ -272,7 +284,7 @@ of_lanes dump folded table s (l ∷ ls) i = elim (in_append_cases (lane_signals 
 
 -- ---- the whole
 bus_ends : EndsLine bus_shown
-bus_ends = and_shown bus4 Word bus4_ends
+bus_ends = and_shown bus5 Word bus5_ends
 
 -- what stands before the labels of the lanes, in their group
 abbrev labels_front : Bool → List ℕ
@@ -309,7 +321,7 @@ all_are_shown dump table trace breach s i =
     behind (opening trace.horizon breach) (opening_ends trace.horizon breach)
     (elim (in_append_cases (bus_signals dump) (flat_map (lane_signals dump) ls) s i) [
       | inl bus ↦ shown_of_bus table ls s
-          (of_bus s (from_filter (has dump false) (Carrier ∷ (Overlap ∷ (Sync ∷ (Word ∷ [])))) s bus).0)
+          (of_bus s (from_filter (has dump false) (Carrier ∷ (Overlap ∷ (Sync ∷ (Breach ∷ (Word ∷ []))))) s bus).0)
       | inr lane ↦ shown_of_lanes table ls s (of_lanes dump (are_folded ls) table s ls lane)
     ])
 

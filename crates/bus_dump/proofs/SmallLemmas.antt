@@ -1,5 +1,5 @@
 -- The terminals of a dump's signals are small, and so its dump is read.
-use Rattle.std.proofs.Common.{ℕ, zero, suc, ◌+◌, ◌*◌, ◌^◌, ◌<◌, ◌≤◌, Bool, true, false, cond, List, [], ◌∷◌, ◌++◌, map, inl, inr, arith, refl, ◌∙◌}
+use Rattle.std.proofs.Common.{ℕ, zero, suc, ◌+◌, ◌*◌, ◌^◌, ◌<◌, ◌≤◌, Bool, true, false, cond, leb, ltb, List, [], ◌∷◌, ◌++◌, map, min, max, inl, inr, arith, refl, ◌∙◌}
 use Rattle.std.specs.Prelude.{IsTrue}
 use Rattle.std.specs.List.{AllByRecursion, filter, flat_map, range_with_len}
 use Rattle.bus_strings.specs.Members.{In}
@@ -11,11 +11,12 @@ use Rattle.bus_table.specs.Valid.{is_valid}
 use Rattle.bus_table.specs.inside.Facts.{SenderFacts}
 use Rattle.bus_table.proofs.ValidLaws.{valid_facts}
 use Rattle.bus_dump.specs.declared.dump.Dump.{Dump}
-use Rattle.bus_dump.specs.DumpTexts.{dump_text, id_text, name_text}
+use Rattle.bus_dump.specs.DumpTexts.{dump_text, end_of_dump, id_text, name_text}
 use Rattle.bus_dump.specs.Lanes.{Lane, is_stranger, lanes, sender_lane, stranger_lane}
 use Rattle.bus_dump.specs.Laws.{DumpsAreRead, IdentifiersDiffer, NamesAreDeclared}
 use Rattle.bus_dump.specs.Scenes.{scene_at}
-use Rattle.bus_dump.specs.Signals.{Signal, Carrier, Overlap, Sync, Word, bus_signals, has, lane_signals, signals, signals_of}
+use Rattle.bus_dump.specs.Signals.{Signal, Carrier, Overlap, Sync, Breach, Word, bus_signals, has, lane_signals, signals, signals_of}
+use Rattle.std.proofs.lemmas.Bool.{and_parts, leb-true, ltb-true}
 use Rattle.bus_dump.proofs.NameLemmas.{name_declared, read_by_name}
 use Rattle.bus_dump.proofs.ReadLemmas.{IsSmall, same_id}
 use Rattle.bus_dump.proofs.ReadThroughLemmas.{small_filter, text_read}
@@ -37,7 +38,7 @@ lanes_small dump (l ∷ ls) h = all_join IsSmall (lane_signals dump l) (flat_map
 bus_small : (dump : Dump) → AllByRecursion IsSmall (bus_signals dump)
 bus_small dump =
     let z : 0 < 2 ^ 64 = omega arith in
-    small_filter (has dump false) (Carrier ∷ (Overlap ∷ (Sync ∷ (Word ∷ [])))) (z, (z, (z, (z, tt))))
+    small_filter (has dump false) (Carrier ∷ (Overlap ∷ (Sync ∷ (Breach ∷ (Word ∷ []))))) (z, (z, (z, (z, (z, tt)))))
 
 strangers_small : (p : ℕ → Bool) (a n : ℕ) → a + n < 2 ^ 64 → AllByRecursion IsSmallLane (map stranger_lane (filter p (range_with_len a n)))
 strangers_small p a zero h = tt
@@ -74,10 +75,11 @@ small_in (x ∷ ss) s (inl same) h = rw same h.0
 small_in (x ∷ ss) s (inr i) h = small_in ss s i h.1
 
 pub names_declared : NamesAreDeclared
-names_declared dump comment table trace signal valid is plain i =
+names_declared dump window breach comment table trace signal valid is plain i =
     let ss : List Signal = signals dump (lanes table trace.list) in
     let small = signals_small dump table trace.list valid in
-    name_declared comment ss (scene_at dump table trace.list) trace.horizon signal plain small (small_in ss signal i small) i
+    name_declared comment ss (scene_at dump breach table trace.list) window.from (end_of_dump window trace.horizon) signal plain small
+    (small_in ss signal i small) i
 
 pub ids_differ : IdentifiersDiffer
 ids_differ dump table list a b valid i j e =
@@ -86,10 +88,18 @@ ids_differ dump table list a b valid i j e =
     same_id a b (small_in ss a i small) (small_in ss b j small) e
 
 pub dump_read : DumpsAreRead
-dump_read dump comment table trace t signal valid is plain below i =
+dump_read dump window breach comment table trace t signal valid is sound plain held i =
     let ss : List Signal = signals dump (lanes table trace.list) in
     let small = signals_small dump table trace.list valid in
     let limit : trace.horizon ≤ 2 ^ 40 = is.horizon in
-    read_by_name (name_text signal) (id_text signal) (dump_text dump comment table trace) (5 * t)
-    (names_declared dump comment table trace signal valid is plain i)
-    ∙ text_read comment ss (scene_at dump table trace.list) trace.horizon t signal plain small i (small_in ss signal i small) below (omega arith)
+    let rises : window.from < window.to = sound.some in
+    let within : window.to ≤ 2 ^ 40 = sound.within in
+    let parts = and_parts (leb window.from t) (ltb t window.to) held.held in
+    let early : window.from ≤ t = leb-true window.from t parts.0 in
+    let late : t < window.to = ltb-true t window.to parts.1 in
+    let below : t < trace.horizon = held.below in
+    let end : ℕ = end_of_dump window trace.horizon in
+    read_by_name (name_text signal) (id_text signal) (dump_text dump window breach comment table trace) (5 * t)
+    (names_declared dump window breach comment table trace signal valid is plain i)
+    ∙ text_read comment ss (scene_at dump breach table trace.list) window.from end t signal plain small i (small_in ss signal i small) early (omega arith)
+    (omega arith)

@@ -1,11 +1,11 @@
 -- The stamps of a dump, line for line.
-use Rattle.std.proofs.Common.{◌≡◌, ℕ, zero, suc, ◌+◌, ◌-◌, ◌*◌, ◌^◌, ◌<◌, ◌≤◌, Bool, true, false, cond, eqb, List, [], ◌∷◌, ◌++◌, map, codes, decimal, None}
+use Rattle.std.proofs.Common.{◌≡◌, ℕ, zero, suc, ◌+◌, ◌-◌, ◌*◌, ◌^◌, ◌<◌, ◌≤◌, Bool, true, false, cond, ltb, List, [], ◌∷◌, ◌++◌, map, max, min, codes, decimal, None}
 use Rattle.std.proofs.Common.{inl, inr, arith, sym, refl, ap, subst, ◌∙◌, append_assoc, append-nil}
 use Rattle.std.specs.List.{AllByRecursion, cons_option, filter, filter_map, flat_map, range_with_len}
-use Rattle.std.proofs.lemmas.Bool.{cases_lt, ne_eqb}
+use Rattle.std.proofs.lemmas.Bool.{cases_lt, le-ltb, lt-ltb}
 use Rattle.std.proofs.lemmas.List.{map-append}
 use Rattle.bus_text.proofs.NumberLaws.{decimal_field, decimal_is}
-use Rattle.bus_dump.specs.DumpTexts.{behind_text, bits_text, changes, changes_at, changes_to, declaration, first_values, head_text, id_text, last_stamp, name_text, some_changes, stamp, text_of, value_line, value_text, width_text}
+use Rattle.bus_dump.specs.DumpTexts.{behind_text, bits_text, changes, changes_at, changes_to, declaration, end_of_dump, first_values, head_text, id_text, last_stamp, name_text, some_changes, stamp, text_of, value_line, value_text, width_text}
 use Rattle.bus_dump.specs.Lanes.{lanes}
 use Rattle.bus_dump.specs.Laws.{StampsAreTold}
 use Rattle.bus_dump.specs.Reading.{line_of}
@@ -90,15 +90,12 @@ behind_has rest =
     ∙ line_skipped (codes "$enddefinitions $end") rest (feedless_test (codes "$enddefinitions $end") refl) refl
 
 -- ---- bit times
-zero_stamp : Has (codes "#0\n$dumpvars\n") (0 ∷ [])
-zero_stamp rest =
-    line_read (codes "#0") (codes "$dumpvars" ++ 10 ∷ rest) (feedless_test (codes "#0") refl)
-    ∙ ap (λ l. 0 ∷ l) (line_skipped (codes "$dumpvars") rest (feedless_test (codes "$dumpvars") refl) refl)
-
-first_has : (ss : List Signal) (scene : Scene) → AllByRecursion IsSmall ss → Has (first_values ss scene) (0 ∷ [])
-first_has ss scene small =
-    both (codes "#0\n$dumpvars\n" ++ flat_map (value_line scene) ss) (codes "$end\n") (0 ∷ []) none
-    (both (codes "#0\n$dumpvars\n") (flat_map (value_line scene) ss) (0 ∷ []) none zero_stamp (values_have scene ss small))
+first_has : (ss : List Signal) (scene : Scene) (t : ℕ) → AllByRecursion IsSmall ss → 5 * t < 2 ^ 64 → Has (first_values ss scene t) ((5 * t) ∷ [])
+first_has ss scene t small low =
+    both (stamp t ++ codes "$dumpvars\n" ++ flat_map (value_line scene) ss) (codes "$end\n") ((5 * t) ∷ []) none
+    (both (stamp t ++ codes "$dumpvars\n") (flat_map (value_line scene) ss) ((5 * t) ∷ []) none
+    (both (stamp t) (codes "$dumpvars\n") ((5 * t) ∷ []) none (stamp_has t low) (skips (codes "$dumpvars") (feedless_test (codes "$dumpvars") refl) refl))
+    (values_have scene ss small))
     (skips (codes "$end") (feedless_test (codes "$end") refl) refl)
 
 some_have : (ss : List Signal) (before now : Scene) (t : ℕ) → AllByRecursion IsSmall ss → 5 * t < 2 ^ 64
@@ -130,33 +127,38 @@ along_has ss scene a (suc n) small low =
     (map (λ u. 5 * u) (filter (is_change ss scene) (range_with_len (a + 1) n))) (at_has ss scene a small (omega arith))
     (along_has ss scene (a + 1) n small (omega arith)))
 
--- the stamp of the horizon
-abbrev last_of : ℕ → List ℕ
-last_of horizon = cond (eqb horizon 0) [] (horizon ∷ [])
+-- the stamp of the end
+abbrev last_of : ℕ → ℕ → List ℕ
+last_of from end = cond (ltb from end) (end ∷ []) []
 
-last_has : (horizon : ℕ) → 5 * horizon < 2 ^ 64 → Has (last_stamp horizon) (map (λ u. 5 * u) (last_of horizon))
-last_has horizon low =
-    elim (eqb horizon 0) as (λ b. Has (cond b [] (stamp horizon)) (map (λ u. 5 * u) (cond b [] (horizon ∷ [])))) [
-      | true ↦ λ rest. refl
-      | false ↦ stamp_has horizon low
+last_has : (from end : ℕ) → 5 * end < 2 ^ 64 → Has (last_stamp from end) (map (λ u. 5 * u) (last_of from end))
+last_has from end low =
+    elim (ltb from end) as (λ b. Has (cond b (stamp end) []) (map (λ u. 5 * u) (cond b (end ∷ []) []))) [
+      | true ↦ stamp_has end low
+      | false ↦ λ rest. refl
     ]
 
+-- the bit times behind the first at which something changes
+abbrev inside : List Signal → (ℕ → Scene) → ℕ → ℕ → List ℕ
+inside ss scene from end = filter (is_change ss scene) (range_with_len (from + 1) (end - (from + 1)))
+
 -- ---- the whole
-pub stamps_of : (comment : List ℕ) (ss : List Signal) (scene : ℕ → Scene) (horizon : ℕ) → Feedless comment → AllByRecursion IsSmall ss
-    → 5 * (horizon + 1) < 2 ^ 64 → stamps (text_of comment ss scene horizon) ≡ map (λ u. 5 * u) (stamped ss scene horizon)
-stamps_of comment ss scene horizon plain small low =
+pub stamps_of : (comment : List ℕ) (ss : List Signal) (scene : ℕ → Scene) (from end : ℕ) → Feedless comment → AllByRecursion IsSmall ss
+    → 5 * (from + 1) < 2 ^ 64 → 5 * (end + 1) < 2 ^ 64 → stamps (text_of comment ss scene from end) ≡ map (λ u. 5 * u) (stamped ss scene from end)
+stamps_of comment ss scene from end plain small begins low =
     let five : List ℕ → List ℕ = map (λ u. 5 * u) in
-    let inner : List ℕ = filter (is_change ss scene) (range_with_len 1 (horizon - 1)) in
+    let inner : List ℕ = inside ss scene from end in
     let head : List ℕ = head_text comment in
+    let first : List ℕ = first_values ss (scene from) from in
     let a = both head (flat_map declaration ss) none none (head_has comment plain) (declarations_have ss small) in
     let b = both (head ++ flat_map declaration ss) behind_text none none a behind_has in
-    let c = both (head ++ flat_map declaration ss ++ behind_text) (first_values ss (scene 0)) none (0 ∷ []) b (first_has ss (scene 0) small) in
-    let d = both (head ++ flat_map declaration ss ++ behind_text ++ first_values ss (scene 0)) (changes_to ss scene horizon) (0 ∷ []) (five inner) c
-    (along_has ss scene 1 (horizon - 1) small (omega arith)) in
-    let e = both (head ++ flat_map declaration ss ++ behind_text ++ first_values ss (scene 0) ++ changes_to ss scene horizon) (last_stamp horizon)
-    (0 ∷ five inner) (five (last_of horizon)) d (last_has horizon (omega arith)) in
-    ap stamps (sym (append-nil (text_of comment ss scene horizon))) ∙ e [] ∙ append-nil (0 ∷ (five inner ++ five (last_of horizon)))
-    ∙ ap (λ l. 0 ∷ l) (sym (map-append (λ u. 5 * u) inner (last_of horizon)))
+    let c = both (head ++ flat_map declaration ss ++ behind_text) first none ((5 * from) ∷ []) b (first_has ss (scene from) from small (omega arith)) in
+    let d = both (head ++ flat_map declaration ss ++ behind_text ++ first) (changes_to ss scene from end) ((5 * from) ∷ []) (five inner) c
+    (along_has ss scene (from + 1) (end - (from + 1)) small (omega arith)) in
+    let e = both (head ++ flat_map declaration ss ++ behind_text ++ first ++ changes_to ss scene from end) (last_stamp from end)
+    ((5 * from) ∷ five inner) (five (last_of from end)) d (last_has from end (omega arith)) in
+    ap stamps (sym (append-nil (text_of comment ss scene from end))) ∙ e [] ∙ append-nil ((5 * from) ∷ (five inner ++ five (last_of from end)))
+    ∙ ap (λ l. (5 * from) ∷ l) (sym (map-append (λ u. 5 * u) inner (last_of from end)))
 
 -- ---- they rise
 all_weaker : (P Q : ℕ → Type 0) (ns : List ℕ) → ((n : ℕ) → P n → Q n) → AllByRecursion P ns → AllByRecursion Q ns
@@ -198,43 +200,53 @@ rises_range p a (suc n) =
       | false ↦ rises_range p (a + 1) n
     ]
 
-ends : (ss : List Signal) (scene : ℕ → Scene) (horizon : ℕ) → 0 < horizon
-    → stamped ss scene horizon ≡ (0 ∷ filter (is_change ss scene) (range_with_len 1 (horizon - 1))) ++ horizon ∷ []
-ends ss scene horizon some =
-    ap (λ b. 0 ∷ (filter (is_change ss scene) (range_with_len 1 (horizon - 1)) ++ cond b [] (horizon ∷ []))) (ne_eqb horizon 0 (λ e. omega arith))
+ends : (ss : List Signal) (scene : ℕ → Scene) (from end : ℕ) → from < end
+    → stamped ss scene from end ≡ (from ∷ inside ss scene from end) ++ end ∷ []
+ends ss scene from end some = ap (λ b. from ∷ (inside ss scene from end ++ cond b (end ∷ []) [])) (lt-ltb from end some)
 
-rises_stamped : (ss : List Signal) (scene : ℕ → Scene) (horizon : ℕ) → Rises (stamped ss scene horizon)
-rises_stamped ss scene horizon = elim (cases_lt 0 horizon) [
-  | inr none' ↦ (let zero' : 0 ≡ horizon = omega arith in subst (λ h. Rises (stamped ss scene h)) zero' (tt, tt))
+-- nothing is inside where the end isn't behind the first
+none_inside : (p : ℕ → Bool) (from n : ℕ) → n ≡ 0 → Rises (from ∷ (filter p (range_with_len (from + 1) n) ++ []))
+none_inside p from n e = subst (λ k. Rises (from ∷ (filter p (range_with_len (from + 1) k) ++ []))) (sym e) (tt, tt)
+
+rises_stamped : (ss : List Signal) (scene : ℕ → Scene) (from end : ℕ) → Rises (stamped ss scene from end)
+rises_stamped ss scene from end = elim (cases_lt from end) [
+  | inr none' ↦
+      subst Rises (ap (λ b. from ∷ (inside ss scene from end ++ cond b (end ∷ []) [])) (sym (le-ltb from end none')))
+      (none_inside (is_change ss scene) from (end - (from + 1)) (omega arith))
   | inl some ↦
       let p = is_change ss scene in
-      let inner : List ℕ = filter p (range_with_len 1 (horizon - 1)) in
-      let inside = within p 1 (horizon - 1) in
-      let above : AllByRecursion (λ t. 0 < t) inner =
-      all_weaker (λ t. (1 ≤ t) × (t < 1 + (horizon - 1))) (λ t. 0 < t) inner (λ t k. let l : 1 ≤ t = k.0 in omega arith) inside in
-      let below : AllByRecursion (λ t. t < horizon) inner =
-      all_weaker (λ t. (1 ≤ t) × (t < 1 + (horizon - 1))) (λ t. t < horizon) inner (λ t k. let u : t < 1 + (horizon - 1) = k.1 in omega arith) inside in
-      subst Rises (sym (ends ss scene horizon some)) (rises_push (0 ∷ inner) horizon (above, rises_range p 1 (horizon - 1)) (some, below))
+      let a : ℕ = from + 1 in
+      let n : ℕ = end - (from + 1) in
+      let inner : List ℕ = inside ss scene from end in
+      let within' = within p a n in
+      let above : AllByRecursion (λ t. from < t) inner =
+      all_weaker (λ t. (a ≤ t) × (t < a + n)) (λ t. from < t) inner (λ t k. let l : a ≤ t = k.0 in omega arith) within' in
+      let below : AllByRecursion (λ t. t < end) inner =
+      all_weaker (λ t. (a ≤ t) × (t < a + n)) (λ t. t < end) inner (λ t k. let u : t < a + n = k.1 in omega arith) within' in
+      subst Rises (sym (ends ss scene from end some)) (rises_push (from ∷ inner) end (above, rises_range p a n) (some, below))
 ]
 
-pub stamps_are : (comment : List ℕ) (ss : List Signal) (scene : ℕ → Scene) (horizon : ℕ) → Feedless comment → AllByRecursion IsSmall ss
-    → 5 * (horizon + 1) < 2 ^ 64 → StampsAre (stamped ss scene horizon) horizon (text_of comment ss scene horizon)
-stamps_are comment ss scene horizon plain small low =
+pub stamps_are : (comment : List ℕ) (ss : List Signal) (scene : ℕ → Scene) (from end : ℕ) → Feedless comment → AllByRecursion IsSmall ss
+    → 5 * (from + 1) < 2 ^ 64 → 5 * (end + 1) < 2 ^ 64 → StampsAre (stamped ss scene from end) from end (text_of comment ss scene from end)
+stamps_are comment ss scene from end plain small begins low =
     let five : List ℕ → List ℕ = map (λ u. 5 * u) in
-    let inner : List ℕ = filter (is_change ss scene) (range_with_len 1 (horizon - 1)) in
-    let are = stamps_of comment ss scene horizon plain small low in
+    let inner : List ℕ = inside ss scene from end in
+    let are = stamps_of comment ss scene from end plain small begins low in
     record {
       are = are;
-      rise = subst Rises (sym are) (rises_fives (stamped ss scene horizon) (rises_stamped ss scene horizon));
-      behind = five (inner ++ last_of horizon);
+      rise = subst Rises (sym are) (rises_fives (stamped ss scene from end) (rises_stamped ss scene from end));
+      behind = five (inner ++ last_of from end);
       first = are;
-      front = five (0 ∷ inner);
-      last = λ some. are ∙ ap five (ends ss scene horizon some) ∙ map-append (λ u. 5 * u) (0 ∷ inner) (horizon ∷ []);
+      front = five (from ∷ inner);
+      last = λ some. are ∙ ap five (ends ss scene from end some) ∙ map-append (λ u. 5 * u) (from ∷ inner) (end ∷ []);
     }
 
 -- ---- the law
 pub stamps_told : StampsAreTold
-stamps_told dump comment table trace valid is plain =
+stamps_told dump window breach comment table trace valid is sound plain =
     let limit : trace.horizon ≤ 2 ^ 40 = is.horizon in
-    stamps_are comment (signals dump (lanes table trace.list)) (scene_at dump table trace.list) trace.horizon plain
-    (signals_small dump table trace.list valid) (omega arith)
+    let rises : window.from < window.to = sound.some in
+    let within' : window.to ≤ 2 ^ 40 = sound.within in
+    let end : ℕ = end_of_dump window trace.horizon in
+    stamps_are comment (signals dump (lanes table trace.list)) (scene_at dump breach table trace.list) window.from end plain
+    (signals_small dump table trace.list valid) (omega arith) (let e : 5 * (end + 1) < 2 ^ 64 = omega arith in e)

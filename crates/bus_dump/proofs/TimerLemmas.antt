@@ -136,9 +136,9 @@ wire_is : {P : Type 0} (a : Bool) (v : Value) → v ≡ Bit a → ((a ≡ true) 
 wire_is a v e w = (λ h. w.0 (bit_is a true v e h), λ p. e ∙ ap Bit (w.1 p))
 
 pub timers_agree : TestDecides → TimersAreTold
-timers_agree decides table list t s valid i =
+timers_agree decides breach table list t s valid i =
     let n : ℕ = s.number in
-    let scene : Scene = scene_at Timers table list t in
+    let scene : Scene = scene_at Timers breach table list t in
     let timing : Timing = timing_of table s in
     let heard : List Bool = past (quiet_of table) list t in
     let last : Option ℕ = last_place (quiet_of table) (own list n t) in

@@ -1,12 +1,14 @@
--- The text of a dump: its head, the values at 0, the changes, and the last stamp.
-use Rattle.std.specs.Prelude.{ℕ, ◌+◌, ◌-◌, ◌*◌, Bool, true, false, not, nat_eq, List, [], ◌++◌, codes, decimal, map, filter, if◌then◌else◌}
+-- The text of a dump: its head, the values at its first bit time, the changes, and the last stamp.
+use Rattle.std.specs.Prelude.{ℕ, ◌+◌, ◌-◌, ◌*◌, max, min, Bool, true, false, not, nat_eq, nat_lt, List, [], ◌++◌, codes}
+use Rattle.std.specs.Prelude.{decimal, map, filter, Option, if◌then◌else◌}
 use Rattle.std.specs.List.{list_any, flat_map, range_with_len}
 use Rattle.std.specs.Int.Digits.{digits_of}
 use Rattle.bus_table.specs.Tables.{Table}
 use Rattle.bus_trace.specs.Traces.{Recording}
+use Rattle.bus_shapes.specs.Windows.{Window}
 use Rattle.bus_dump.specs.declared.dump.Dump.{Dump}
 use Rattle.bus_dump.specs.Scenes.{Scene, scene_at}
-use Rattle.bus_dump.specs.Signals.{Signal, Carrier, Overlap, Sync, Word, Pulse, Garbled, Label, Message}
+use Rattle.bus_dump.specs.Signals.{Signal, Carrier, Overlap, Sync, Breach, Word, Pulse, Garbled, Label, Message}
 use Rattle.bus_dump.specs.Signals.{Interval, Synchronization, Gap, May}
 use Rattle.bus_dump.specs.Signals.{Value, Bit, Number, Floating, Unknown, value, is_same, signals}
 use Rattle.bus_dump.specs.Lanes.{lanes}
@@ -17,6 +19,7 @@ abbrev pub id_text : Signal → List ℕ
 id_text Carrier = codes "c"
 id_text Overlap = codes "o"
 id_text Sync = codes "s"
+id_text Breach = codes "b"
 id_text Word = codes "w"
 id_text (Pulse terminal) = codes "p" ++ decimal terminal
 id_text (Garbled terminal) = codes "g" ++ decimal terminal
@@ -36,6 +39,7 @@ abbrev pub name_text : Signal → List ℕ
 name_text Carrier = codes "carrier"
 name_text Overlap = codes "overlap"
 name_text Sync = codes "sync"
+name_text Breach = codes "breach"
 name_text Word = codes "word"
 name_text (Pulse terminal) = lane_name terminal (codes "_pulse")
 name_text (Garbled terminal) = lane_name terminal (codes "_garbled")
@@ -51,6 +55,7 @@ abbrev pub width_text : Signal → List ℕ
 width_text Carrier = codes "1 "
 width_text Overlap = codes "1 "
 width_text Sync = codes "1 "
+width_text Breach = codes "1 "
 width_text Word = codes "16 "
 width_text (Pulse terminal) = codes "1 "
 width_text (Garbled terminal) = codes "1 "
@@ -66,6 +71,7 @@ abbrev pub bits_text : Signal → List ℕ
 bits_text Carrier = []
 bits_text Overlap = []
 bits_text Sync = []
+bits_text Breach = []
 bits_text Word = codes " [15:0]"
 bits_text (Pulse terminal) = []
 bits_text (Garbled terminal) = []
@@ -123,13 +129,13 @@ changes_text signals before now t = if list_any (changes before now) signals the
 abbrev pub changes_at : List Signal → (ℕ → Scene) → ℕ → List ℕ
 changes_at signals scene t = changes_text signals (scene (t - 1)) (scene t) t
 
--- What changes at the bit times from 1 to below the horizon.
-abbrev pub changes_to : List Signal → (ℕ → Scene) → ℕ → List ℕ
-changes_to signals scene horizon = flat_map (changes_at signals scene) (range_with_len 1 (horizon - 1))
+-- What changes at the bit times behind the first to below the end.
+abbrev pub changes_to : List Signal → (ℕ → Scene) → ℕ → ℕ → List ℕ
+changes_to signals scene from end = flat_map (changes_at signals scene) (range_with_len (from + 1) (end - (from + 1)))
 
--- The stamp of the horizon, where that isn't 0.
-abbrev pub last_stamp : ℕ → List ℕ
-last_stamp horizon = if nat_eq horizon 0 then [] else stamp horizon
+-- The stamp of the end, where that isn't the first.
+abbrev pub last_stamp : ℕ → ℕ → List ℕ
+last_stamp from end = if nat_lt from end then stamp end else []
 
 -- ---- the whole
 -- The lines before the declarations, of which one has a comment.
@@ -142,17 +148,22 @@ head_text comment =
 abbrev pub behind_text : List ℕ
 behind_text = codes "$upscope $end\n$enddefinitions $end\n"
 
--- The values at bit time 0.
-abbrev pub first_values : List Signal → Scene → List ℕ
-first_values signals scene = codes "#0\n$dumpvars\n" ++ flat_map (value_line scene) signals ++ codes "$end\n"
+-- The values at bit time t, in this scene.
+abbrev pub first_values : List Signal → Scene → ℕ → List ℕ
+first_values signals scene t = stamp t ++ codes "$dumpvars\n" ++ flat_map (value_line scene) signals ++ codes "$end\n"
 
--- The dump of these signals with this comment, given the scene of each bit time.
-abbrev pub text_of : List ℕ → List Signal → (ℕ → Scene) → ℕ → List ℕ
-text_of comment signals scene horizon =
-    head_text comment ++ flat_map declaration signals ++ behind_text ++ first_values signals (scene 0) ++ changes_to signals scene horizon
-    ++ last_stamp horizon
+-- The dump of these signals with this comment, given the scene of each bit time, from one to below an end.
+abbrev pub text_of : List ℕ → List Signal → (ℕ → Scene) → ℕ → ℕ → List ℕ
+text_of comment signals scene from end =
+    head_text comment ++ flat_map declaration signals ++ behind_text ++ first_values signals (scene from) from
+    ++ changes_to signals scene from end ++ last_stamp from end
 
--- The dump of a trace on a table, with this comment.
-abbrev pub dump_text : Dump → List ℕ → Table → Recording → List ℕ
-dump_text dump comment table trace =
-    text_of comment (signals dump (lanes table trace.list)) (scene_at dump table trace.list) trace.horizon
+-- The end of the dump of a window: that of the window or of the trace, whichever is first, but no earlier than it begins.
+abbrev pub end_of_dump : Window → ℕ → ℕ
+end_of_dump window horizon = max window.from (min window.to horizon)
+
+-- The dump of a window of a trace on a table, with the moment of its breach, where it has one, and with this comment.
+abbrev pub dump_text : Dump → Window → Option ℕ → List ℕ → Table → Recording → List ℕ
+dump_text dump window breach comment table trace =
+    text_of comment (signals dump (lanes table trace.list)) (scene_at dump breach table trace.list) window.from
+    (end_of_dump window trace.horizon)

@@ -3,7 +3,6 @@ use Rattle.std.specs.Prelude.{ℕ, ◌-◌, ◌*◌, ◌==◌, Bool, nat_lt, Lis
 use Rattle.std.specs.Int.{leading_zeros, w64}
 use Rattle.std.specs.List.{find, flat_map}
 use Rattle.std.specs.Option.{option_map_or}
-use Rattle.bus_strings.specs.Messages.{Entry}
 use Rattle.bus_table.specs.Tables.{Sender, Table}
 use Rattle.bus_table.specs.declared.mode.Mode.{Mode}
 use Rattle.bus_table.specs.declared.mode.Mode.TheVariants.{Aperiodic, Periodic}
@@ -11,8 +10,8 @@ use Rattle.bus_trace.specs.Traces.{Recording}
 use Rattle.bus_dump.specs.declared.lane.Lane.{Lane}
 use Rattle.bus_dump.specs.DumpTexts.{bits_text, name_text}
 use Rattle.bus_dump.specs.Lanes.{lanes}
-use Rattle.bus_dump.specs.Signals.{Signal, Carrier, Overlap, Sync, Word, Pulse, Garbled, Label, Message, Interval, Synchronization, Gap}
-use Rattle.bus_dump.specs.Signals.{May}
+use Rattle.bus_dump.specs.Signals.{Signal, Carrier, Overlap, Sync, Breach, Word, Pulse, Garbled, Label, Message, Interval, Synchronization}
+use Rattle.bus_dump.specs.Signals.{Gap, May}
 
 -- ---- how it opens
 -- The viewer's unit is the nanosecond.
@@ -114,7 +113,8 @@ labels_shown folded lanes =
 -- The signals of the bus.
 abbrev pub bus_shown : List ℕ
 bus_shown =
-    heading (codes "bus") ++ as_wires ++ shown Carrier ++ marked ++ shown Overlap ++ shown Sync ++ as_hexadecimal ++ shown Word
+    heading (codes "bus") ++ as_wires ++ shown Carrier ++ marked ++ shown Overlap ++ shown Sync ++ marked ++ shown Breach
+    ++ as_hexadecimal ++ shown Word
 
 -- The bus, the labels of all lanes, then each lane.
 abbrev pub all_shown : Table → List Lane → List ℕ

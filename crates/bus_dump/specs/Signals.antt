@@ -11,7 +11,7 @@ use Rattle.bus_dump.specs.declared.shown.Seen.{Seen}
 use Rattle.bus_dump.specs.declared.shown.Shown.{Shown}
 use Rattle.bus_dump.specs.Scenes.{Scene}
 pub use Rattle.bus_dump.specs.declared.signal.Signal.{Signal}
-pub use Rattle.bus_dump.specs.declared.signal.Signal.TheVariants.{Carrier, Overlap, Sync, Word, Pulse, Garbled, Label, Message}
+pub use Rattle.bus_dump.specs.declared.signal.Signal.TheVariants.{Carrier, Overlap, Sync, Breach, Word, Pulse, Garbled, Label, Message}
 pub use Rattle.bus_dump.specs.declared.signal.Signal.TheVariants.{Interval, Synchronization, Gap, May}
 pub use Rattle.bus_dump.specs.declared.value.Value.{Value}
 pub use Rattle.bus_dump.specs.declared.value.Value.TheVariants.{Bit, Number, Floating, Unknown}
@@ -73,6 +73,7 @@ abbrev pub value : Signal → Scene → Value
 value Carrier scene = Bit (list_any is_on scene.seen)
 value Overlap scene = Bit (nat_lt 1 (length scene.seen))
 value Sync scene = Bit (list_any is_sync scene.seen)
+value Breach scene = Bit scene.breach
 value Word scene = word_value (words scene.seen)
 value (Pulse terminal) scene = Bit (list_any (λ s. is_of terminal s && is_on s) scene.seen)
 value (Garbled terminal) scene = Bit (list_any (λ s. is_of terminal s && s.garbled) scene.seen)
@@ -97,6 +98,7 @@ abbrev pub is_wire : Signal → Bool
 is_wire Carrier = true
 is_wire Overlap = true
 is_wire Sync = true
+is_wire Breach = true
 is_wire Word = false
 is_wire (Pulse terminal) = true
 is_wire (Garbled terminal) = true
@@ -112,6 +114,7 @@ abbrev pub is_timer : Signal → Bool
 is_timer Carrier = false
 is_timer Overlap = false
 is_timer Sync = false
+is_timer Breach = false
 is_timer Word = false
 is_timer (Pulse terminal) = false
 is_timer (Garbled terminal) = false
@@ -130,7 +133,7 @@ has Timers sender signal = sender || not (is_timer signal)
 
 -- The signals of the bus.
 abbrev pub bus_signals : Dump → List Signal
-bus_signals dump = filter (has dump false) (Carrier ∷ (Overlap ∷ (Sync ∷ (Word ∷ []))))
+bus_signals dump = filter (has dump false) (Carrier ∷ (Overlap ∷ (Sync ∷ (Breach ∷ (Word ∷ [])))))
 
 -- The signals of a lane: of its transmissions, then of its timers.
 abbrev pub signals_of : ℕ → List Signal

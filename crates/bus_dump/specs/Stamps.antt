@@ -1,5 +1,6 @@
 -- The stamps of a dump: the times of its lines that begin with `#`, in units of 100 ns.
-use Rattle.std.specs.Prelude.{◌≡◌, ℕ, ◌-◌, ◌*◌, ◌<◌, Bool, nat_eq, List, [], ◌∷◌, ◌++◌, map, filter, Option, Some, None, ⊤, if◌then◌else◌}
+use Rattle.std.specs.Prelude.{◌≡◌, ℕ, ◌+◌, ◌-◌, ◌*◌, ◌<◌, Bool, nat_lt, List, [], ◌∷◌, ◌++◌, map, filter, Option, Some, None, ⊤}
+use Rattle.std.specs.Prelude.{if◌then◌else◌}
 use Rattle.std.specs.List.{AllByRecursion, filter_map, list_any, range_with_len}
 use Rattle.bus_text.specs.Lines.{physical_lines}
 use Rattle.bus_dump.specs.DumpTexts.{changes, units}
@@ -21,21 +22,21 @@ stamps text = filter_map (λ line. time_of (line_of line)) (physical_lines text)
 abbrev pub is_change : List Signal → (ℕ → Scene) → ℕ → Bool
 is_change signals scene t = list_any (changes (scene (t - 1)) (scene t)) signals
 
--- The bit times that have a stamp: 0, those at which something changes, and the horizon, unless it is 0.
-abbrev pub stamped : List Signal → (ℕ → Scene) → ℕ → List ℕ
-stamped signals scene horizon =
-    0 ∷ filter (is_change signals scene) (range_with_len 1 (horizon - 1)) ++ (if nat_eq horizon 0 then [] else horizon ∷ [])
+-- The bit times that have a stamp: the first, those at which something changes, and the end, unless it is the first.
+abbrev pub stamped : List Signal → (ℕ → Scene) → ℕ → ℕ → List ℕ
+stamped signals scene from end =
+    from ∷ filter (is_change signals scene) (range_with_len (from + 1) (end - (from + 1))) ++ (if nat_lt from end then end ∷ [] else [])
 
 -- Each number is less than those behind it.
 abbrev pub Rises : List ℕ → Type 0
 Rises [] = ⊤
 Rises (a ∷ numbers) = AllByRecursion (λ b. a < b) numbers × Rises numbers
 
--- The stamps of a text are those of these bit times, and rise strictly, from 0 to the horizon.
-pub record StampsAre (times : List ℕ) (horizon : ℕ) (text : List ℕ) : Type 0 where
+-- The stamps of a text are those of these bit times, and rise strictly, from the first bit time to the end.
+pub record StampsAre (times : List ℕ) (from end : ℕ) (text : List ℕ) : Type 0 where
   pub are : stamps text ≡ map (λ t. units * t) times
   pub rise : Rises (stamps text)
   pub behind : List ℕ
-  pub first : stamps text ≡ 0 ∷ behind
+  pub first : stamps text ≡ (units * from) ∷ behind
   pub front : List ℕ
-  pub last : 0 < horizon → stamps text ≡ front ++ (units * horizon) ∷ []
+  pub last : from < end → stamps text ≡ front ++ (units * end) ∷ []

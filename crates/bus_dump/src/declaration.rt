@@ -23,6 +23,7 @@ pub(crate) fn put_id<K: Sink>(text: &mut TextBuffer, sink: &mut K, signal: Signa
         Signal::Carrier => text.put_byte(sink, b'c'),
         Signal::Overlap => text.put_byte(sink, b'o'),
         Signal::Sync => text.put_byte(sink, b's'),
+        Signal::Breach => text.put_byte(sink, b'b'),
         Signal::Word => text.put_byte(sink, b'w'),
         Signal::Pulse(terminal) => put_lane_id(text, sink, b'p', terminal),
         Signal::Garbled(terminal) => put_lane_id(text, sink, b'g', terminal),
@@ -52,6 +53,7 @@ pub(crate) fn put_name<K: Sink>(text: &mut TextBuffer, sink: &mut K, signal: Sig
         Signal::Carrier => text.put(sink, b"carrier"),
         Signal::Overlap => text.put(sink, b"overlap"),
         Signal::Sync => text.put(sink, b"sync"),
+        Signal::Breach => text.put(sink, b"breach"),
         Signal::Word => text.put(sink, b"word"),
         Signal::Pulse(terminal) => put_lane_name(text, sink, terminal, b"_pulse"),
         Signal::Garbled(terminal) => put_lane_name(text, sink, terminal, b"_garbled"),
@@ -69,7 +71,7 @@ fn width_of(signal: Signal) -> &'static [u8]
     ensures { result.now ≡ texts.width_text signal }
 {
     match signal {
-        Signal::Carrier | Signal::Overlap | Signal::Sync => b"1 ",
+        Signal::Carrier | Signal::Overlap | Signal::Sync | Signal::Breach => b"1 ",
         Signal::Pulse(_) | Signal::Garbled(_) => b"1 ",
         Signal::Interval(_) | Signal::Synchronization(_) | Signal::Gap(_) | Signal::May(_) => b"1 ",
         Signal::Word | Signal::Label(_) => b"16 ",
@@ -82,7 +84,7 @@ pub(crate) fn bits_of(signal: Signal) -> &'static [u8]
     ensures { result.now ≡ texts.bits_text signal }
 {
     match signal {
-        Signal::Carrier | Signal::Overlap | Signal::Sync => b"",
+        Signal::Carrier | Signal::Overlap | Signal::Sync | Signal::Breach => b"",
         Signal::Pulse(_) | Signal::Garbled(_) => b"",
         Signal::Interval(_) | Signal::Synchronization(_) | Signal::Gap(_) | Signal::May(_) => b"",
         Signal::Word | Signal::Label(_) => b" [15:0]",

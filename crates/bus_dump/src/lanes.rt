@@ -24,7 +24,7 @@ use bus_table::{Table, turn_at, turn_places};
 pub const MOST_LANES: usize = 256;
 
 /// The signals of the bus, and of a lane.
-const BUS_SIGNALS: usize = 4;
+const BUS_SIGNALS: usize = 5;
 
 const LANE_SIGNALS: usize = 8;
 
@@ -130,6 +130,7 @@ pub(crate) fn bus_signals(dump: Dump) -> ArrayVec<Signal, BUS_SIGNALS>
     signals.push(Signal::Carrier);
     signals.push(Signal::Overlap);
     signals.push(Signal::Sync);
+    signals.push(Signal::Breach);
     if dump.has(false, Signal::Word) {
         signals.push(Signal::Word);
     }

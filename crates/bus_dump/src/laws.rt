@@ -1,5 +1,6 @@
 //! Laws of the definitions, each the contract of a function that does nothing.
-ghost use Rattle.bus_dump.specs.Laws.{AllAreShown, BitsArePulses, CarrierIsTold, ClearListsShowNone, DumpsAreRead, GarbledAreTold};
+ghost use Rattle.bus_dump.specs.Laws.{AllAreShown, BitsArePulses, BreachIsTold, CarrierIsTold, ClearListsShowNone, DumpsAreRead};
+ghost use Rattle.bus_dump.specs.Laws.{GarbledAreTold};
 ghost use Rattle.bus_dump.specs.Laws.{IdentifiersDiffer, LabelsAreTold, LanesAreTerminals, LawfulIsSingle, MessagesAreTold};
 ghost use Rattle.bus_dump.specs.Laws.{NamesAreDeclared, NothingIsIdle, NothingIsLost, NothingWrittenIsLost, OpensOnAll, OverlapsAreTold};
 ghost use Rattle.bus_dump.specs.Laws.{OverlapsGarble, PulsesAreTold, StampsAreTold, StartsAreSeen, StartsAreTold, SyncIsTold};
@@ -12,7 +13,7 @@ use bus_table::Table;
 use bus_timers::laws::test_decides;
 
 /// A reader of Value Change Dumps (`specs/Reading.antt`) finds in a dump, by the name of each of its signals, exactly the value that this
-/// signal has at each bit time below the horizon.
+/// signal has at each bit time of its window below the horizon.
 pub fn dumps_are_read()
     ensures { DumpsAreRead }
 {}
@@ -30,7 +31,7 @@ pub fn names_are_declared()
     ensures differ { IdentifiersDiffer }
 {}
 
-/// The stamps of a dump rise strictly: 0, five times each bit time at which something changes, and last five times the horizon.
+/// The stamps of a dump rise strictly: five times its first bit time, each at which something changes, and last its end.
 pub fn stamps_are_told()
     ensures { StampsAreTold }
 {}
@@ -53,13 +54,14 @@ pub fn lanes_are_terminals()
     ensures { LanesAreTerminals }
 {}
 
-/// The wires of the bus and of a lane in the words of pulses and spans.
+/// The wires of the bus and of a lane in the words of pulses and spans, and that of the breach, which is 1 at its moment alone.
 pub fn wires_are_told()
     ensures carrier { CarrierIsTold }
     ensures pulses { PulsesAreTold }
     ensures overlaps { OverlapsAreTold }
     ensures garbled { GarbledAreTold }
     ensures sync { SyncIsTold }
+    ensures breach { BreachIsTold }
 {}
 
 /// The word on the bus: nothing where no transmission has a pulse, the word of the one that has, and no one can tell where two or more
@@ -120,8 +122,8 @@ pub fn save_files_open_on_all()
     ensures { OpensOnAll }
 {}
 
-/// Two traces on a table, of which no two transmissions overlap and all have ended by the horizon, have the same dump with words only where
-/// they have the same horizon and the same list.
+/// Two traces on a table, of which no two transmissions overlap and all have ended by the horizon, have the same dump of all of them with
+/// words only where they have the same horizon and the same list.
 pub fn nothing_is_lost()
     ensures { NothingIsLost }
 {}

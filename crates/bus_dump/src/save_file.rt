@@ -51,6 +51,8 @@ fn put_bus<K: Sink>(text: &mut TextBuffer, sink: &mut K)
     text.put(sink, b"[color] 2\n");
     put_shown(text, sink, Signal::Overlap);
     put_shown(text, sink, Signal::Sync);
+    text.put(sink, b"[color] 2\n");
+    put_shown(text, sink, Signal::Breach);
     text.put(sink, b"@22\n");
     put_shown(text, sink, Signal::Word);
 }

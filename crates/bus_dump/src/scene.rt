@@ -10,13 +10,16 @@ use crate::shown::Seen;
 use arrayvec::ArrayVec;
 use bus_table::MOST_SENDERS;
 
-/// What is seen of the transmissions of a list at a bit time, and what the timers of the senders tell, where the dump has them.
+/// What is seen of the transmissions of a list at a bit time, what the timers of the senders tell, where the dump has them, and whether
+/// a breach is there.
 #[derive(Drop)]
 pub(crate) struct Scene {
     /// What is seen of each transmission whose span holds the bit time, in list order.
     pub seen: ArrayVec<Seen, TERMINALS>,
     /// What the timers of each sender tell, in the order of the table.
     pub timers: ArrayVec<Elapsed, MOST_SENDERS>,
+    /// Whether the first breach of the trace is there.
+    pub breach: bool,
 }
 
 impl Scene {
@@ -28,6 +31,7 @@ impl Scene {
         Scene {
             seen: ArrayVec::new(),
             timers: ArrayVec::new(),
+            breach: false,
         }
     }
 
@@ -37,6 +41,7 @@ impl Scene {
     {
         copy_seen(&mut self.seen, &other.seen);
         copy_timers(&mut self.timers, &other.timers);
+        self.breach = other.breach;
     }
 }
 

@@ -12,6 +12,8 @@ pub(crate) enum Signal {
     Overlap,
     /// Whether a word on the bus is in its sync.
     Sync,
+    /// Whether the first breach of the trace is here.
+    Breach,
     /// The word on the bus.
     Word,
     /// Whether the terminal has a pulse.
@@ -41,6 +43,7 @@ impl Signal {
             Signal::Carrier
             | Signal::Overlap
             | Signal::Sync
+            | Signal::Breach
             | Signal::Pulse(_)
             | Signal::Garbled(_) => true,
             Signal::Interval(_) | Signal::Synchronization(_) | Signal::Gap(_) | Signal::May(_) =>
@@ -56,7 +59,8 @@ impl Signal {
         match self {
             Signal::Interval(_) | Signal::Synchronization(_) | Signal::Gap(_) | Signal::May(_) =>
                 true,
-            Signal::Carrier | Signal::Overlap | Signal::Sync | Signal::Word => false,
+            Signal::Carrier | Signal::Overlap | Signal::Sync | Signal::Breach | Signal::Word =>
+                false,
             Signal::Pulse(_) | Signal::Garbled(_) | Signal::Label(_) | Signal::Message(_) => false,
         }
     }

@@ -169,6 +169,7 @@ pub(crate) fn value_of(signal: Signal, scene: &Scene) -> Value
         Signal::Carrier => Value::Bit(has_carrier(seen)),
         Signal::Overlap => Value::Bit(seen.len() > 1),
         Signal::Sync => Value::Bit(sync(seen)),
+        Signal::Breach => Value::Bit(scene.breach),
         Signal::Word => word(seen),
         Signal::Pulse(terminal) => Value::Bit(pulse(seen, terminal)),
         Signal::Garbled(terminal) => Value::Bit(garbled(seen, terminal)),

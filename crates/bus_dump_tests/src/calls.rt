@@ -2,6 +2,7 @@
 use bus_dump::{Dump, doubled, write_dump, write_save_file};
 use bus_outer::{MemorySink, MemorySource};
 use bus_regime::verdict;
+use bus_shapes::Window;
 use bus_strings::limits::HORIZON_LIMIT;
 use bus_table::{Table, read_table};
 use bus_trace::{Trace, read_trace};
@@ -25,6 +26,8 @@ LISTENER 3
 #[derive(Clone, Copy)]
 pub(crate) enum Text {
     Dump(Dump),
+    /// That of a window from a moment to below another, of a trace whose first breach is at the last moment.
+    Window(Dump, u64, u64, u64),
     /// The save file of one whose first breach is at this moment.
     SaveFile(Option<u64>),
 }
@@ -48,8 +51,19 @@ pub(crate) fn written(
     if doubled(&trace).is_some() {
         return Err(Fail::new("an entry is doubled"));
     }
+    let verdict = verdict(&table);
     let answer = match text {
-        Text::Dump(dump) => write_dump(dump, &verdict(&table), &table, &trace, &mut sink),
+        Text::Dump(dump) => {
+            let window = Window::whole(trace.horizon());
+            write_dump(dump, &window, None, &verdict, &table, &trace, &mut sink)
+        }
+        Text::Window(dump, from, to, breach) => {
+            let Some(window) = Window::new(from, to) else {
+                return Err(Fail::new("no window"));
+            };
+            let breach = Some(breach);
+            write_dump(dump, &window, breach, &verdict, &table, &trace, &mut sink)
+        }
         Text::SaveFile(breach) => {
             let breach = breach.filter(|moment| *moment < HORIZON_LIMIT);
             write_save_file(&table, &trace, breach, &mut sink)

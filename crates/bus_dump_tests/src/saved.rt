@@ -14,6 +14,8 @@ bus.carrier
 [color] 2
 bus.overlap
 bus.sync
+[color] 2
+bus.breach
 @22
 bus.word[15:0]
 @c00200

@@ -18,6 +18,7 @@ $scope module bus $end
 $var wire 1 c carrier $end
 $var wire 1 o overlap $end
 $var wire 1 s sync $end
+$var wire 1 b breach $end
 $var wire 16 w word [15:0] $end
 $var wire 1 p1 t1_pulse $end
 $var wire 1 g1 t1_garbled $end
@@ -42,6 +43,7 @@ $dumpvars
 1c
 0o
 1s
+0b
 b101000010001 w
 1p1
 0g1
@@ -93,6 +95,7 @@ $scope module bus $end
 $var wire 1 c carrier $end
 $var wire 1 o overlap $end
 $var wire 1 s sync $end
+$var wire 1 b breach $end
 $var wire 16 w word [15:0] $end
 $var wire 1 p1 t1_pulse $end
 $var wire 1 g1 t1_garbled $end
@@ -113,6 +116,7 @@ $dumpvars
 0c
 0o
 0s
+0b
 bz w
 0p1
 0g1

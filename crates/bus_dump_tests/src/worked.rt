@@ -21,6 +21,7 @@ $scope module bus $end
 $var wire 1 c carrier $end
 $var wire 1 o overlap $end
 $var wire 1 s sync $end
+$var wire 1 b breach $end
 $var wire 1 p1 t1_pulse $end
 $var wire 1 g1 t1_garbled $end
 $var wire 1 p2 t2_pulse $end
@@ -32,6 +33,7 @@ $dumpvars
 0c
 0o
 0s
+0b
 0p1
 0g1
 0p2
@@ -89,6 +91,7 @@ $scope module bus $end
 $var wire 1 c carrier $end
 $var wire 1 o overlap $end
 $var wire 1 s sync $end
+$var wire 1 b breach $end
 $var wire 16 w word [15:0] $end
 $var wire 1 p1 t1_pulse $end
 $var wire 1 g1 t1_garbled $end
@@ -109,6 +112,7 @@ $dumpvars
 0c
 0o
 0s
+0b
 bz w
 0p1
 0g1
@@ -185,6 +189,7 @@ $scope module bus $end
 $var wire 1 c carrier $end
 $var wire 1 o overlap $end
 $var wire 1 s sync $end
+$var wire 1 b breach $end
 $var wire 1 p1 t1_pulse $end
 $var wire 1 g1 t1_garbled $end
 $var wire 1 p2 t2_pulse $end
@@ -196,6 +201,7 @@ $dumpvars
 0c
 0o
 0s
+0b
 0p1
 0g1
 0p2
@@ -221,5 +227,75 @@ fn overlaps_a_stranger_and_a_horizon_in_a_message(rt: HostRuntime) -> Result<(),
 fn a_horizon_of_no_bit_time(rt: HostRuntime) -> Result<(), Fail> {
     let text = written(rt.alloc(), Text::Dump(Dump::Wires), TABLE, NOTHING)?;
     assert_eq!(rt; text.as_slice(), NOTHING_WIRES);
+    Ok(())
+}
+
+/// The bit times from 45 to below 70, where the first breach is at 60: in a word of terminal 1, and in the next one.
+const CUT: &[u8] = b"$version bus629-view 1 $end
+$comment ACCEPT aperiodic 1130 1170 $end
+$timescale 100 ns $end
+$scope module bus $end
+$var wire 1 c carrier $end
+$var wire 1 o overlap $end
+$var wire 1 s sync $end
+$var wire 1 b breach $end
+$var wire 1 p1 t1_pulse $end
+$var wire 1 g1 t1_garbled $end
+$var wire 1 p2 t2_pulse $end
+$var wire 1 g2 t2_garbled $end
+$upscope $end
+$enddefinitions $end
+#225
+$dumpvars
+1c
+0o
+0s
+0b
+1p1
+0g1
+0p2
+0g2
+$end
+#300
+1s
+1b
+#305
+0b
+#315
+0s
+#350
+";
+
+#[test]
+fn the_wires_of_a_window_with_a_breach(rt: HostRuntime) -> Result<(), Fail> {
+    let text = written(
+        rt.alloc(),
+        Text::Window(Dump::Wires, 45, 70, 60),
+        TABLE,
+        SENT,
+    )?;
+    assert_eq!(rt; text.as_slice(), CUT);
+    Ok(())
+}
+
+/// A window goes no further than the trace: of one that begins behind its horizon there is one bit time.
+#[test]
+fn a_window_behind_the_horizon(rt: HostRuntime) -> Result<(), Fail> {
+    let text = written(
+        rt.alloc(),
+        Text::Window(Dump::Wires, 140, 9000, 9000),
+        TABLE,
+        SENT,
+    )?;
+    assert!(rt;
+        text.ends_with(b"#700\n$dumpvars\n1c\n0o\n0s\n0b\n0p1\n0g1\n1p2\n0g2\n$end\n#750\n")
+    );
+    let text = written(
+        rt.alloc(),
+        Text::Window(Dump::Wires, 150, 9000, 9000),
+        TABLE,
+        SENT,
+    )?;
+    assert!(rt; text.ends_with(b"#750\n$dumpvars\n0c\n0o\n0s\n0b\n0p1\n0g1\n0p2\n0g2\n$end\n"));
     Ok(())
 }

@@ -4,11 +4,11 @@ use Rattle.std.proofs.Common.{refl, sym, ap, ◌∙◌, subst}
 use Rattle.bus_table.specs.Tables.{Table}
 use Rattle.bus_trace.specs.TraceLaws.{ReadsBack}
 use Rattle.bus_trace.specs.Traces.{Recording}
-use Rattle.std.specs.Option.{option_map}
+use Rattle.std.specs.Option.{option_and_then}
 use Rattle.bus_shapes.specs.Windows.{Window, IsWindow}
 use Rattle.bus_dump.specs.declared.dump.Dump.{Dump as AnyDump}
 use Rattle.bus_dump.specs.declared.dump.Dump.TheVariants.{Vcd, Wires, Timers}
-use Rattle.bus_dump.specs.Laws.{ClearListsShowNone, LawfulIsSingle}
+use Rattle.bus_dump.specs.Laws.{BreachIsTold, ClearListsShowNone, LawfulIsSingle}
 use Rattle.bus_schedule.specs.Laws.{AcceptedIsClosed}
 use Rattle.bus_schedule.specs.Runs.{IsClear}
 use Rattle.bus_view.proofs.WindowLemmas.{spelled}
@@ -27,31 +27,55 @@ use Rattle.bus_command.proofs.LawTypes.{TextReadsAsItsTable}
 use Rattle.bus_command.proofs.ReadLemmas.{held_trace, traced_told}
 use Rattle.bus_command.proofs.ToldLemmas.{table_told}
 use Rattle.bus_view.specs.Acts.{view_program, Acts}
-use Rattle.bus_view.specs.Claims.{view_word, AreFurther, IsViewOf, GivesDump, Promises}
-use Rattle.bus_view.specs.Due.{single_outcome, traced_answer, view_answer, view_text, drawing, painting, window_or_whole, IsView}
-use Rattle.bus_view.specs.Forms.{OnTrace, OnItself, on_trace, View, Dump, SaveFile, Painted, Picture, TimeLine, Cycles, part_of, form_of, sources}
+use Rattle.bus_view.specs.Claims.{view_word, AreFurther, AreForWindow, IsViewOf, GivesDump, Promises}
+use Rattle.bus_view.specs.Due.{first_breach, single_outcome, traced_answer, view_answer, view_text, drawing, painting, window_or_whole, IsView}
+use Rattle.bus_view.specs.Forms.{OnTrace, OnItself, on_trace, View, Dump, SaveFile, Painted, Picture, TimeLine, Cycles, drawn, three_words, five_words, form_of, sources}
 use Rattle.bus_view.specs.Itself.{itself_text}
 use Rattle.bus_view.specs.Refusals.{Doubled, Outcome, ends_of, status_of}
 
 -- the window of a view is one
 abbrev IsSound : View → Type 0
-IsSound (Painted picture (Some window)) = IsWindow window
-IsSound view = Unit {0}
+IsSound (Dump dump window) = IfSome window IsWindow
+IsSound (Painted picture window) = IfSome window IsWindow
+IsSound SaveFile = Unit {0}
+
+-- the view of a command, with these words behind the two texts
+view_of_words : List ℕ → List (List ℕ) → Option View
+view_of_words command [] = three_words command
+view_of_words command (from ∷ []) = None
+view_of_words command (from ∷ (to ∷ [])) = five_words command from to
+view_of_words command (from ∷ (to ∷ (more ∷ words))) = None
+
+words_asked : (command first second : List ℕ) (further : List (List ℕ)) (view : View) → view_of_words command further ≡ Some view
+    → form_of (command ∷ first ∷ second ∷ further) ≡ Some (OnTrace view)
+unfolding view_of_words
+words_asked command first second [] view h = ap on_trace h
+words_asked command first second (from ∷ []) view h = absurd cc
+words_asked command first second (from ∷ (to ∷ [])) view h = ap on_trace h
+words_asked command first second (from ∷ (to ∷ (more ∷ words))) view h = absurd cc
+
+-- a command that draws, with the words of its window
+window_asked : (command : List ℕ) (window : Option Window) (further : List (List ℕ)) → three_words command ≡ drawn command None
+    → AreForWindow window further → IfSome window IsWindow → view_of_words command further ≡ drawn command window
+unfolding view_of_words
+window_asked command None further plain w s = ap (view_of_words command) w ∙ plain
+window_asked command (Some window) further plain w s =
+    ap (view_of_words command) w.form
+    ∙ ap (λ o. option_and_then (λ x. drawn command (Some x)) o) (spelled window w.first w.second s w.from w.to)
+
+view_asked : (view : View) (further : List (List ℕ)) → AreFurther view further → IsSound view → view_of_words (view_word view) further ≡ Some view
+unfolding view_of_words
+view_asked (Dump Vcd window) further w s = window_asked (codes "vcd") window further refl w s
+view_asked (Dump Wires window) further w s = window_asked (codes "wires") window further refl w s
+view_asked (Dump Timers window) further w s = window_asked (codes "timers") window further refl w s
+view_asked SaveFile further w s = ap (view_of_words (codes "gtkw")) w
+view_asked (Painted TimeLine window) further w s = window_asked (codes "svg") window further refl w s
+view_asked (Painted Cycles window) further w s = window_asked (codes "cycles") window further refl w s
 
 -- the words of a view ask for it
 asked : (view : View) (words : List (List ℕ)) (first second : List ℕ) (further : List (List ℕ)) → words ≡ view_word view ∷ first ∷ second ∷ further → AreFurther view further → IsSound view → form_of words ≡ Some (OnTrace view)
-asked (Dump Vcd) words first second further h w s = ap form_of (h ∙ ap (λ f. codes "vcd" ∷ first ∷ second ∷ f) w)
-asked (Dump Wires) words first second further h w s = ap form_of (h ∙ ap (λ f. codes "wires" ∷ first ∷ second ∷ f) w)
-asked (Dump Timers) words first second further h w s = ap form_of (h ∙ ap (λ f. codes "timers" ∷ first ∷ second ∷ f) w)
-asked SaveFile words first second further h w s = ap form_of (h ∙ ap (λ f. codes "gtkw" ∷ first ∷ second ∷ f) w)
-asked (Painted TimeLine None) words first second further h w s = ap form_of (h ∙ ap (λ f. codes "svg" ∷ first ∷ second ∷ f) w)
-asked (Painted Cycles None) words first second further h w s = ap form_of (h ∙ ap (λ f. codes "cycles" ∷ first ∷ second ∷ f) w)
-asked (Painted TimeLine (Some window)) words first second further h w s =
-    ap form_of (h ∙ ap (λ f. codes "svg" ∷ first ∷ second ∷ f) w.form)
-    ∙ ap (λ window. on_trace (option_map (part_of TimeLine) window)) (spelled window w.first w.second s w.from w.to)
-asked (Painted Cycles (Some window)) words first second further h w s =
-    ap form_of (h ∙ ap (λ f. codes "cycles" ∷ first ∷ second ∷ f) w.form)
-    ∙ ap (λ window. on_trace (option_map (part_of Cycles) window)) (spelled window w.first w.second s w.from w.to)
+asked view words first second further h w s =
+    ap form_of h ∙ words_asked (view_word view) first second further view (view_asked view further w s)
 
 -- the laws of the crates below, by which it follows
 pub record DrawLaws : Type 0 where
@@ -60,6 +84,7 @@ pub record DrawLaws : Type 0 where
   pub single : LawfulIsSingle
   pub closed : AcceptedIsClosed
   pub clear : ClearListsShowNone
+  pub breach : BreachIsTold
 
 -- what is due of texts that are told
 module _ (laws : DrawLaws) (view : View) (call : Call) (outcome : Outcome) (table : Table) (trace : Recording) (acts : Acts call outcome)
@@ -92,28 +117,32 @@ module _ (laws : DrawLaws) (view : View) (call : Call) (outcome : Outcome) (tabl
   pub does : Rattle.bus_command.specs.Acts.DoesForm view_program (OnTrace view) call.before call.after outcome
   does = did
 
-draw_claim : DrawLaws → (call : Call) (outcome : Outcome) (dump : AnyDump) (table : Table) (trace : Recording) → Acts call outcome
-    → IsViewOf (Dump dump) table trace call → GivesDump dump table trace call (status_of outcome)
-draw_claim laws call outcome dump table trace acts h = record {
-  drawn = λ none.
-      subst (λ e. Answers (status_of (single_outcome e)) (λ text. text ≡ drawing dump table trace) call (status_of outcome)) none
-      (shown laws (Dump dump) call outcome table trace acts h tt (ap (λ e. kind_of (single_outcome e)) none));
-  refused = λ entry some.
-      let did = does laws (Dump dump) call outcome table trace acts h tt in
-      refuses ends_of sources (single_outcome (Some entry)) outcome _ call refl
-      (subst (λ e. Rattle.bus_command.specs.Stages.StandsFor (single_outcome e) outcome) some (stands laws (Dump dump) call outcome table trace acts h tt))
-      did.text did.counts did.out_count h.call_is.undisturbed;
-  lawful = λ hands horizon fit lawful. laws.single table hands horizon trace.list h.call_is.table_told.valid fit lawful;
-  clear = λ hands t accepted even is.
-      laws.clear dump table trace.list t (subst IsClear (sym is) (laws.closed table hands h.call_is.table_told.valid accepted even).clear);
-}
+draw_claim : DrawLaws → (call : Call) (outcome : Outcome) (dump : AnyDump) (window : Option Window) (table : Table) (trace : Recording)
+    → IfSome window IsWindow → Acts call outcome
+    → IsViewOf (Dump dump window) table trace call → GivesDump dump (window_or_whole window trace) table trace call (status_of outcome)
+draw_claim laws call outcome dump window table trace s acts h =
+    let shape : Window = window_or_whole window trace in
+    record {
+      drawn = λ none.
+          subst (λ e. Answers (status_of (single_outcome e)) (λ text. text ≡ drawing dump shape table trace) call (status_of outcome)) none
+          (shown laws (Dump dump window) call outcome table trace acts h s (ap (λ e. kind_of (single_outcome e)) none));
+      breach = λ t. laws.breach dump (first_breach table trace) table trace.list t;
+      refused = λ entry some.
+          let did = does laws (Dump dump window) call outcome table trace acts h s in
+          refuses ends_of sources (single_outcome (Some entry)) outcome _ call refl
+          (subst (λ e. Rattle.bus_command.specs.Stages.StandsFor (single_outcome e) outcome) some
+          (stands laws (Dump dump window) call outcome table trace acts h s))
+          did.text did.counts did.out_count h.call_is.undisturbed;
+      lawful = λ hands horizon fit lawful. laws.single table hands horizon trace.list h.call_is.table_told.valid fit lawful;
+      clear = λ hands t accepted even is.
+          laws.clear dump (first_breach table trace) table trace.list t
+          (subst IsClear (sym is) (laws.closed table hands h.call_is.table_told.valid accepted even).clear);
+    }
 
 paint_claim : DrawLaws → (call : Call) (outcome : Outcome) (picture : Picture) (window : Option Window) (table : Table)
     (trace : Recording) → IfSome window IsWindow → Acts call outcome → IsViewOf (Painted picture window) table trace call
     → Answers status.Done (λ text. text ≡ painting picture (window_or_whole window trace) table trace) call (status_of outcome)
-paint_claim laws call outcome picture None table trace s acts h = shown laws (Painted picture None) call outcome table trace acts h tt refl
-paint_claim laws call outcome picture (Some window) table trace s acts h =
-    shown laws (Painted picture (Some window)) call outcome table trace acts h s refl
+paint_claim laws call outcome picture window table trace s acts h = shown laws (Painted picture window) call outcome table trace acts h s refl
 
 itself_form : (about : About) (words : List (List ℕ)) → words ≡ about_word about ∷ [] → form_of words ≡ Some (OnItself about)
 itself_form Help words h = ap form_of h
@@ -131,7 +160,7 @@ itself_claim call outcome about acts h =
 
 pub keeps : DrawLaws → (call : Call) (outcome : Outcome) → Acts call outcome → Promises call (status_of outcome)
 keeps laws call outcome acts = record {
-  draw = λ dump table trace h. draw_claim laws call outcome dump table trace acts h;
+  draw = λ dump window table trace s h. draw_claim laws call outcome dump window table trace s acts h;
   save = λ table trace h. shown laws SaveFile call outcome table trace acts h tt refl;
   paint = λ picture window table trace s h. paint_claim laws call outcome picture window table trace s acts h;
   itself = λ about h. itself_claim call outcome about acts h;

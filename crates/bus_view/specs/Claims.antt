@@ -13,7 +13,7 @@ use Rattle.bus_trace.specs.Traces.{Recording}
 use Rattle.bus_dump.specs.declared.dump.Dump.{Dump as AnyDump}
 use Rattle.bus_dump.specs.declared.dump.Dump.TheVariants.{Vcd, Wires, Timers}
 use Rattle.bus_dump.specs.Doubled.{doubled}
-use Rattle.bus_dump.specs.Laws.{ShowsNoOverlap}
+use Rattle.bus_dump.specs.Laws.{BreachAgrees, ShowsNoOverlap}
 use Rattle.bus_command.specs.declared.status.Status.{Status}
 use Rattle.bus_command.specs.declared.status.Status.TheVariants.{Done, InputRefused}
 use Rattle.bus_command.specs.declared.about.About.{About}
@@ -21,7 +21,7 @@ use Rattle.bus_command.specs.About.{IsAbout, TellsItself}
 use Rattle.bus_command.specs.Claims.{Answers, IsOfTraced, Refuses}
 use Rattle.bus_command.specs.Outside.{Call}
 use Rattle.bus_view.specs.Itself.{itself_text}
-use Rattle.bus_view.specs.Due.{drawing, painting, saved, window_or_whole}
+use Rattle.bus_view.specs.Due.{drawing, first_breach, painting, saved, window_or_whole}
 use Rattle.bus_view.specs.Forms.{View, Dump, SaveFile, Painted, Picture, TimeLine, Cycles}
 
 -- The command of a picture.
@@ -31,9 +31,9 @@ picture_word Cycles = codes "cycles"
 
 -- The command of a view.
 abbrev pub view_word : View → List ℕ
-view_word (Dump Vcd) = codes "vcd"
-view_word (Dump Wires) = codes "wires"
-view_word (Dump Timers) = codes "timers"
+view_word (Dump Vcd window) = codes "vcd"
+view_word (Dump Wires window) = codes "wires"
+view_word (Dump Timers window) = codes "timers"
 view_word SaveFile = codes "gtkw"
 view_word (Painted picture window) = picture_word picture
 
@@ -45,12 +45,16 @@ pub record AreOfWindow (window : Window) (words : List (List ℕ)) : Type 0 wher
   pub from : IsDecimal first window.from
   pub to : IsDecimal second window.to
 
--- The words behind those of both texts: those of the window, where one is asked for.
+-- The words of a window, where one is asked for.
+abbrev pub AreForWindow : Option Window → List (List ℕ) → Type 0
+AreForWindow None words = words ≡ []
+AreForWindow (Some window) words = AreOfWindow window words
+
+-- The words behind those of both texts.
 abbrev pub AreFurther : View → List (List ℕ) → Type 0
-AreFurther (Dump dump) words = words ≡ []
+AreFurther (Dump dump window) words = AreForWindow window words
 AreFurther SaveFile words = words ≡ []
-AreFurther (Painted picture None) words = words ≡ []
-AreFurther (Painted picture (Some window)) words = AreOfWindow window words
+AreFurther (Painted picture window) words = AreForWindow window words
 
 -- A call of a view, with the words of its window behind those of both texts, on texts of a valid table and of a trace, in which nothing
 -- outside fails.
@@ -60,28 +64,32 @@ pub record IsViewOf (view : View) (table : Table) (trace : Recording) (call : Ca
   pub call_is : IsOfTraced (view_word view) further table trace call
 
 -- What comes of a dump:
---   drawn     where no entry is doubled, the dump of the trace is written, with the words of the table's verdict as its comment
+--   drawn     where no entry is doubled, the dump of the trace is written, of all of it or of the window that is asked for, with the words
+--             of the table's verdict as its comment
+--   breach    its wire of the breach is 1 at the moment of the first breach that an audit finds, and nowhere else
 --   refused   where one is, the trace is refused
 --   lawful    none is where the list is lawful, of any hands that fit the table's senders: as in what `observe`, `run` and `drop` write
 --   clear     where the list is what `run` writes of an accepted table, the dump shows no overlap, no garbled transmission, and no word
 --             that can't be told
-pub record GivesDump (dump : AnyDump) (table : Table) (trace : Recording) (call : Call) (status : Status) : Type 0 where
-  pub drawn : doubled trace.list ≡ None → Answers Done (λ text. text ≡ drawing dump table trace) call status
+pub record GivesDump (dump : AnyDump) (window : Window) (table : Table) (trace : Recording) (call : Call) (status : Status) : Type 0 where
+  pub drawn : doubled trace.list ≡ None → Answers Done (λ text. text ≡ drawing dump window table trace) call status
+  pub breach : (t : ℕ) → BreachAgrees dump (first_breach table trace) table trace.list t
   pub refused : (entry : ℕ) → doubled trace.list ≡ Some entry → Refuses InputRefused call status
   pub lawful : (hands : List Hand) (horizon : ℕ) → IsTrue (are_hands table.senders hands)
       → IsLawful (quiet_of table) (stations_of table hands) horizon trace.list → doubled trace.list ≡ None
   pub clear : (hands : List Hand) (t : ℕ) → IsTrue (is_accepted (verdict_of table)) → IsTrue (are_even table hands)
-      → trace.list ≡ closed table hands → ShowsNoOverlap dump table trace.list t
+      → trace.list ≡ closed table hands → ShowsNoOverlap dump (first_breach table trace) table trace.list t
 
 -- What a call promises whose texts are right and in which nothing outside fails; each view answers so, or memory was refused,
 -- of which `itself` takes none:
---   draw    `vcd`, `wires` and `timers`: the dump, or that an entry is doubled
+--   draw    `vcd`, `wires` and `timers`, and all three with a window: the dump, or that an entry is doubled
 --   save    `gtkw`: the save file, with its marker at the first breach
 --   paint   `svg` and `cycles`, and both with a window: the picture
 --   itself  `--help` and `--version`: the help and the version line
 pub record Promises (call : Call) (status : Status) : Type 0 where
-  pub draw : (dump : AnyDump) (table : Table) (trace : Recording) → IsViewOf (Dump dump) table trace call
-      → GivesDump dump table trace call status
+  pub draw : (dump : AnyDump) (window : Option Window) (table : Table) (trace : Recording) → IfSome window IsWindow
+      → IsViewOf (Dump dump window) table trace call
+      → GivesDump dump (window_or_whole window trace) table trace call status
   pub save : (table : Table) (trace : Recording) → IsViewOf SaveFile table trace call
       → Answers Done (λ text. text ≡ saved table trace) call status
   pub paint : (picture : Picture) (window : Option Window) (table : Table) (trace : Recording) → IfSome window IsWindow

@@ -29,7 +29,7 @@ single_outcome (Some entry) = refuse entry
 
 -- What is answered to a table and a trace, or why nothing is: only of a dump it matters whether an entry is doubled.
 abbrev pub view_answer : View → Table → Recording → Outcome
-view_answer (Dump dump) table trace = single_outcome (doubled trace.list)
+view_answer (Dump dump window) table trace = single_outcome (doubled trace.list)
 view_answer SaveFile table trace = Done
 view_answer (Painted picture window) table trace = Done
 
@@ -41,9 +41,18 @@ traced_answer view traced = view_answer view traced.table traced.trace
 abbrev pub view_due : View → List ℕ → List ℕ → Outcome
 view_due view first second = outcome_with (traced_answer view) (traced_due first second)
 
--- The dump of a trace on a table, with the words of the table's verdict as its comment.
-abbrev pub drawing : AnyDump → Table → Recording → List ℕ
-drawing dump table trace = dump_text dump (verdict_words (verdict_of table)) table trace
+-- The moment of a breach, where an audit found one.
+abbrev pub breach_moment : AuditAnswer → Option ℕ
+breach_moment (Lawful collided) = None
+breach_moment (Breach moment terminal kind) = Some moment
+
+-- The moment of the first breach that an audit finds in a trace, where it finds one.
+abbrev pub first_breach : Table → Recording → Option ℕ
+first_breach table trace = breach_moment (answer_of table trace)
+
+-- The dump of a window of a trace on a table, with the wire of its first breach, and with the words of the table's verdict as its comment.
+abbrev pub drawing : AnyDump → Window → Table → Recording → List ℕ
+drawing dump window table trace = dump_text dump window (first_breach table trace) (verdict_words (verdict_of table)) table trace
 
 -- A picture of a window of a trace on a table, with a verdict and what an audit found.
 unfoldable pub painted : Picture → Window → TableVerdict → AuditAnswer → Table → Recording → List ℕ
@@ -54,14 +63,9 @@ painted Cycles window verdict answer table trace = cycles_text window verdict an
 abbrev pub painting : Picture → Window → Table → Recording → List ℕ
 painting picture window table trace = painted picture window (verdict_of table) (answer_of table trace) table trace
 
--- The moment of a breach, where an audit found one.
-abbrev pub breach_moment : AuditAnswer → Option ℕ
-breach_moment (Lawful collided) = None
-breach_moment (Breach moment terminal kind) = Some moment
-
 -- The save file of a trace on a table, with its marker at the first breach.
 abbrev pub saved : Table → Recording → List ℕ
-saved table trace = save_text table trace (breach_moment (answer_of table trace))
+saved table trace = save_text table trace (first_breach table trace)
 
 -- The window that is asked for, or all of the trace.
 abbrev pub window_or_whole : Option Window → Recording → Window
@@ -69,7 +73,7 @@ window_or_whole window trace = unwrap_or window (whole trace.horizon)
 
 -- The text of a view of a trace on a table.
 abbrev pub view_text : View → Table → Recording → List ℕ
-view_text (Dump dump) table trace = drawing dump table trace
+view_text (Dump dump window) table trace = drawing dump (window_or_whole window trace) table trace
 view_text SaveFile table trace = saved table trace
 view_text (Painted picture window) table trace = painting picture (window_or_whole window trace) table trace
 

@@ -1,9 +1,10 @@
 -- The forms of the command line: each asks for a view of a trace, or for what the program tells of itself. A word is its bytes.
 use Rattle.std.specs.Prelude.{ℕ, List, [], ◌∷◌, Bool, true, false, ◌&&◌, nat_lt, nat_le, codes, Option, Some, None, if◌then◌else◌}
-use Rattle.std.specs.Option.{option_and_then, option_map}
+use Rattle.std.specs.Option.{option_and_then, option_map, option_map_or}
 use Rattle.std.specs.Str.{bytes_eq}
 use Rattle.bus_strings.specs.Limits.{horizon_limit}
 use Rattle.bus_text.specs.Numbers.{is_plain_decimal, decimal_value}
+use Rattle.bus_dump.specs.declared.dump.Dump.{Dump as AnyDump}
 use Rattle.bus_dump.specs.declared.dump.Dump.TheVariants as dump
 use Rattle.bus_shapes.specs.Windows.{Window}
 use Rattle.bus_command.specs.About.{about_of}
@@ -28,6 +29,14 @@ window_of from to =
     if is_window from to then Some (record { from = decimal_value from; to = decimal_value to }) else None
 
 -- ---- forms
+-- The dump of a command.
+abbrev pub dump_of : List ℕ → Option AnyDump
+dump_of command =
+    if bytes_eq command (codes "vcd") then Some dump.Vcd
+    else if bytes_eq command (codes "wires") then Some dump.Wires
+    else if bytes_eq command (codes "timers") then Some dump.Timers
+    else None
+
 -- The picture of a command.
 abbrev pub picture_of : List ℕ → Option Picture
 picture_of command =
@@ -35,26 +44,21 @@ picture_of command =
     else if bytes_eq command (codes "cycles") then Some Cycles
     else None
 
--- A picture of all of a trace.
-abbrev pub all_of : Picture → View
-all_of picture = Painted picture None
+-- The picture of a command as a view, of all of a trace or of a window of it.
+abbrev pub picture_view : List ℕ → Option Window → Option View
+picture_view command window = option_map (λ picture. Painted picture window) (picture_of command)
 
--- A picture of a window of a trace.
-abbrev pub part_of : Picture → Window → View
-part_of picture window = Painted picture (Some window)
+-- The dump or the picture of a command, of all of a trace or of a window of it.
+abbrev pub drawn : List ℕ → Option Window → Option View
+drawn command window = option_map_or (λ dump. Some (Dump dump window)) (dump_of command) (picture_view command window)
 
 -- `vcd T R`, `wires T R`, `timers T R`, `gtkw T R`, `svg T R`, `cycles T R`
 abbrev pub three_words : List ℕ → Option View
-three_words command =
-    if bytes_eq command (codes "vcd") then Some (Dump dump.Vcd)
-    else if bytes_eq command (codes "wires") then Some (Dump dump.Wires)
-    else if bytes_eq command (codes "timers") then Some (Dump dump.Timers)
-    else if bytes_eq command (codes "gtkw") then Some SaveFile
-    else option_map all_of (picture_of command)
+three_words command = if bytes_eq command (codes "gtkw") then Some SaveFile else drawn command None
 
--- `svg T R FROM TO`, `cycles T R FROM TO`
+-- `vcd T R FROM TO`, `wires T R FROM TO`, `timers T R FROM TO`, `svg T R FROM TO`, `cycles T R FROM TO`
 abbrev pub five_words : List ℕ → List ℕ → List ℕ → Option View
-five_words command from to = option_and_then (λ picture. option_map (part_of picture) (window_of from to)) (picture_of command)
+five_words command from to = option_and_then (λ window. drawn command (Some window)) (window_of from to)
 
 -- `--help`, `--version`.
 abbrev pub one_word : List ℕ → Option Form

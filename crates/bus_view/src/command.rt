@@ -25,7 +25,7 @@ fn answer<K: Sink>(alloc: Global, view: View, table: &Table, trace: &Trace, out:
     ensures { EndsOnView ⟦<K as Sink>⟧ view table.now trace.now out.old out.new result }
 {
     match view {
-        View::Dump(dump) => draw(dump, table, trace, out),
+        View::Dump(dump, window) => draw(alloc, dump, window, table, trace, out),
         View::SaveFile => save(alloc, table, trace, out),
         View::Picture(picture, window) => paint(alloc, picture, window, table, trace, out),
     }

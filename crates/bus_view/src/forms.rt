@@ -20,8 +20,8 @@ pub enum Picture {
 /// A view of the trace in the second source, on the table in the first.
 #[derive(Debug, Drop)]
 pub enum View {
-    /// `vcd T R`, `wires T R`, `timers T R`: this dump of it.
-    Dump(Dump),
+    /// `vcd T R`, `wires T R`, `timers T R`: this dump of it; with `FROM TO` behind them: of a window of it.
+    Dump(Dump, Option<Window>),
     /// `gtkw T R`: the save file with which GTKWave shows all signals of its dumps.
     SaveFile,
     /// `svg T R`, `cycles T R`: this picture of it; `svg T R FROM TO`, `cycles T R FROM TO`: of a window of it.
@@ -44,6 +44,21 @@ fn window_of(from: &[u8], to: &[u8]) -> Option<Window>
     Window::new(plain_decimal(from)?, plain_decimal(to)?)
 }
 
+/// The dump of a command.
+fn dump_of(command: &str) -> Option<Dump>
+    ensures { result ≡ forms.dump_of command.now }
+{
+    if command == "vcd" {
+        Some(Dump::Vcd)
+    } else if command == "wires" {
+        Some(Dump::Wires)
+    } else if command == "timers" {
+        Some(Dump::Timers)
+    } else {
+        None
+    }
+}
+
 /// The picture of a command.
 fn picture_of(command: &str) -> Option<Picture>
     ensures { result ≡ forms.picture_of command.now }
@@ -57,21 +72,27 @@ fn picture_of(command: &str) -> Option<Picture>
     }
 }
 
+/// The dump or the picture of a command, of all of a trace or of a window of it.
+fn drawn(command: &str, window: Option<Window>) -> Option<View>
+    ensures { result ≡ forms.drawn command.now window }
+{
+    match dump_of(command) {
+        Some(dump) => Some(View::Dump(dump, window)),
+        None => {
+            let picture = picture_of(command)?;
+            Some(View::Picture(picture, window))
+        }
+    }
+}
+
 /// The view that three words ask for of which this is the first.
 fn three_words(command: &str) -> Option<View>
     ensures { result ≡ forms.three_words command.now }
 {
-    if command == "vcd" {
-        Some(View::Dump(Dump::Vcd))
-    } else if command == "wires" {
-        Some(View::Dump(Dump::Wires))
-    } else if command == "timers" {
-        Some(View::Dump(Dump::Timers))
-    } else if command == "gtkw" {
+    if command == "gtkw" {
         Some(View::SaveFile)
     } else {
-        let picture = picture_of(command)?;
-        Some(View::Picture(picture, None))
+        drawn(command, None)
     }
 }
 
@@ -79,9 +100,8 @@ fn three_words(command: &str) -> Option<View>
 fn five_words(command: &str, from: &[u8], to: &[u8]) -> Option<View>
     ensures { result ≡ forms.five_words command.now from.now to.now }
 {
-    let picture = picture_of(command)?;
     let window = window_of(from, to)?;
-    Some(View::Picture(picture, Some(window)))
+    drawn(command, Some(window))
 }
 
 /// What a word asks for, where it is the only one.
@@ -108,8 +128,8 @@ fn view_of_five(command: &str, from: &[u8], to: &[u8]) -> Option<Form>
     Some(Form::OnTrace(view))
 }
 
-/// What these words ask for: `vcd T R`, `wires T R`, `timers T R`, `gtkw T R`, `svg T R`, `cycles T R`, and the last two with a
-/// window, `FROM TO`; `--help` and `--version`; None where they are no form.
+/// What these words ask for: `vcd T R`, `wires T R`, `timers T R`, `gtkw T R`, `svg T R`, `cycles T R`, and all of these but `gtkw` with
+/// a window, `FROM TO`; `--help` and `--version`; None where they are no form.
 pub fn form_of(words: &[String]) -> Option<Form>
     ensures { result ≡ forms.form_of (words_of words.now) }
 {

@@ -17,9 +17,10 @@ Change Dumps (IEEE 1364), which wave viewers such as GTKWave read (sigrok and Pu
 and as SVG pictures, which browsers show. What it writes is proved.
 
   bus629-view vcd T R     the dump of the trace in the file R, on the table in the file T: the bus,
-                          and each sender or other terminal that sends
+                          with the first breach, and each sender or other terminal that sends
   bus629-view wires T R   its signals of one bit alone
-  bus629-view timers T R  the dump with the timers of each sender, and where it may start
+  bus629-view timers T R  the dump with the timers of each sender, and where it may start; each of
+                          these three with FROM TO: from a bit time to below another
   bus629-view gtkw T R    the save file with which GTKWave shows all signals of any of these dumps
   bus629-view svg T R     the trace as a time line, with a lane for each terminal; svg T R FROM TO:
                           from a bit time to below another

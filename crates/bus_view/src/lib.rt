@@ -5,6 +5,7 @@
 //! of both texts, `specs/Acts` what a call does, and `specs/Claims` what is claimed of texts that are right.
 #![tactic(auto)]
 
+mod breach;
 mod command;
 mod drawing;
 mod forms;
@@ -13,6 +14,7 @@ mod painting;
 mod refusal;
 mod saving;
 mod top;
+mod windowing;
 
 pub use command::act;
 pub use forms::{Form, Picture, View};

@@ -1,13 +1,13 @@
 //! The pictures.
-ghost use Rattle.std.specs.Prelude.{◌≡◌};
 ghost use Rattle.bus_outer.specs.Sinks.{WritesText};
 ghost use Rattle.bus_trace.specs.Traces.{IsTrace};
 ghost use Rattle.bus_view.specs.Acts.{EndsOnView};
-ghost use Rattle.bus_view.specs.Due.{painted, window_or_whole};
+ghost use Rattle.bus_view.specs.Due.{painted};
 ghost use Rattle.bus_view.specs.Forms.{Painted};
 
 use crate::forms::Picture;
 use crate::refusal::Outcome;
+use crate::windowing::window_or_whole;
 use bus_audit::{AuditAnswer, audit};
 use bus_command::after_writing;
 use bus_cycles::write_cycles;
@@ -18,16 +18,6 @@ use bus_shapes::Window;
 use bus_table::Table;
 use bus_trace::Trace;
 use std::alloc::Global;
-
-/// The window that is asked for, or all of a trace.
-fn window_of(window: Option<Window>, trace: &Trace) -> Window
-    ensures { result ≡ window_or_whole window trace.now }
-{
-    match window {
-        Some(window) => window,
-        None => Window::whole(trace.horizon()),
-    }
-}
 
 /// Writes a picture of a window of a trace.
 fn write_picture<K: Sink>(
@@ -62,7 +52,7 @@ pub fn paint<K: Sink>(
 {
     match audit(alloc, table, trace) {
         Ok(answer) => {
-            let window = window_of(window, trace);
+            let window = window_or_whole(window, trace);
             let verdict = verdict(table);
             let painted = write_picture(picture, &window, &verdict, &answer, table, trace, out);
             after_writing(painted, Outcome::Done)

@@ -1,12 +1,10 @@
 //! The save file of a wave viewer.
-ghost use Rattle.std.specs.Prelude.{◌≡◌};
 ghost use Rattle.bus_trace.specs.Traces.{IsTrace};
 ghost use Rattle.bus_view.specs.Acts.{EndsOnView};
-ghost use Rattle.bus_view.specs.Due as due;
 ghost use Rattle.bus_view.specs.Forms.{SaveFile};
 
+use crate::breach::first_breach;
 use crate::refusal::Outcome;
-use bus_audit::{AuditAnswer, audit};
 use bus_command::after_writing;
 use bus_dump::write_save_file;
 use bus_outer::Sink;
@@ -14,24 +12,14 @@ use bus_table::Table;
 use bus_trace::Trace;
 use std::alloc::Global;
 
-/// The moment of a breach, where an audit found one.
-fn breach_moment(answer: &AuditAnswer) -> Option<u64>
-    ensures { result ≡ due.breach_moment answer.now }
-{
-    match *answer {
-        AuditAnswer::Lawful { .. } => None,
-        AuditAnswer::Breach { moment, .. } => Some(moment),
-    }
-}
-
 /// Writes the save file of a trace on a table, with its marker at the first breach.
 pub fn save<K: Sink>(alloc: Global, table: &Table, trace: &Trace, out: &mut K) -> Outcome
     requires { IsTrace trace.now }
     ensures { EndsOnView ⟦<K as Sink>⟧ SaveFile table.now trace.now out.old out.new result }
 {
-    match audit(alloc, table, trace) {
-        Ok(answer) => {
-            let saved = write_save_file(table, trace, breach_moment(&answer), out);
+    match first_breach(alloc, table, trace) {
+        Ok(breach) => {
+            let saved = write_save_file(table, trace, breach, out);
             after_writing(saved, Outcome::Done)
         }
         Err(_) => Outcome::NoMemory,

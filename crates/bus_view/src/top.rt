@@ -5,7 +5,7 @@ ghost use Rattle.bus_view.specs.Claims.{Promises};
 
 use crate::command::act;
 use bus_command::{Status, outcome_text};
-use bus_dump::laws::{clear_lists_show_none, lawful_is_single};
+use bus_dump::laws::{clear_lists_show_none, lawful_is_single, wires_are_told};
 use bus_outer::{Sink, Source};
 use bus_schedule::laws::accepted_is_closed;
 use bus_table::laws::text_reads_as_its_table;
@@ -36,6 +36,7 @@ pub fn view<S: Source, K: Sink, E: Sink>(
     lawful_is_single();
     accepted_is_closed();
     clear_lists_show_none();
+    wires_are_told();
     let outcome = act(alloc, words, first, second, out);
     let _ = outcome_text(&outcome, err);
     outcome.status()

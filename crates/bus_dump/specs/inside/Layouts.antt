@@ -1,5 +1,5 @@
 -- The signals of a dump by lanes.
-use Rattle.std.specs.Prelude.{◌≡◌, ℕ, ◌≤◌, ◌<◌, Bool, false, List, ◌++◌, slice_index_or}
+use Rattle.std.specs.Prelude.{◌≡◌, ℕ, ◌≤◌, ◌<◌, Bool, false, List, ◌++◌, slice_index_or, Option}
 use Rattle.std.specs.List.{flat_map, list_any}
 use Rattle.bus_strings.specs.Limits.{most_terminal}
 use Rattle.bus_strings.specs.Messages.{Entry}
@@ -29,11 +29,11 @@ lane_lines dump scene lane = flat_map (value_line scene) (lane_signals dump lane
 abbrev pub lane_put : Dump → Scene → Scene → Lane → List ℕ
 lane_put dump before now lane = flat_map (change_put before now) (lane_signals dump lane)
 
--- The values at bit time 0, and what changes behind it, where a layout is that of a list on a table.
-abbrev pub bit_times_put : Table → List Entry → ℕ → Layout → List ℕ
-bit_times_put table list horizon layout =
-    first_values (layout_signals layout) (scene_at layout.dump table list 0)
-    ++ changes_to (layout_signals layout) (scene_at layout.dump table list) horizon
+-- The values at a bit time, and what changes behind it to below an end, where a layout is that of a list on a table.
+abbrev pub bit_times_put : Option ℕ → Table → List Entry → ℕ → ℕ → Layout → List ℕ
+bit_times_put breach table list from end layout =
+    first_values (layout_signals layout) (scene_at layout.dump breach table list from) from
+    ++ changes_to (layout_signals layout) (scene_at layout.dump breach table list) from end
 
 -- For each terminal is kept whether it sends in the list.
 abbrev pub AreSending : List Entry → List Bool → Type 0

@@ -1,7 +1,10 @@
 -- How a writer keeps the timers of the senders, and what that stands for.
-use Rattle.std.specs.Prelude.{◌≡◌, ℕ, ◌+◌, ◌^◌, ◌≤◌, ◌<◌, Bool, ◌&&◌, ◌==◌, List, [], ◌∷◌, map, ⊤}
+use Rattle.std.specs.Prelude.{◌≡◌, ℕ, ◌+◌, ◌^◌, ◌≤◌, ◌<◌, ◌⊎◌, Bool, false, ◌&&◌, ◌==◌, List, [], ◌∷◌, map, Option, ⊤}
 use Rattle.std.specs.List.{AllByRecursion, list_any}
+use Rattle.bus_strings.specs.Members.{In}
 use Rattle.bus_strings.specs.Messages.{Entry}
+use Rattle.bus_strings.specs.Transmissions.{carrier}
+use Rattle.bus_dump.specs.declared.clock.Elapsed.{Elapsed}
 use Rattle.bus_table.specs.Tables.{Sender, Table}
 use Rattle.bus_medium.specs.Past.{past, own, last_place}
 use Rattle.bus_medium.specs.Timings.{quiet_of, due_of, timing_of}
@@ -10,16 +13,20 @@ use Rattle.bus_dump.specs.declared.live.Live.{Live}
 use Rattle.bus_dump.specs.declared.scene.Scene as kept
 use Rattle.bus_dump.specs.declared.watch.Watch.{Watch}
 use Rattle.bus_dump.specs.inside.Clocks.{Keeps, IsLow, next_turn, passed}
-use Rattle.bus_dump.specs.Scenes.{Scene, elapsed_at}
+use Rattle.bus_dump.specs.Scenes.{Scene, elapsed_at, is_breach}
 use Rattle.bus_dump.specs.inside.Walks.{IsWalkable, Stands}
 
 -- The scene that is kept.
 abbrev pub scene_of : kept.Scene → Scene
-scene_of scene = record { seen = scene.seen.items; timers = scene.timers.items }
+scene_of scene = record { seen = scene.seen.items; timers = scene.timers.items; breach = scene.breach }
 
 -- From bit time t to below `until` the scene stays.
 abbrev pub StaysAs : (ℕ → Scene) → ℕ → ℕ → Type 0
 StaysAs scene t until = (later : ℕ) → t ≤ later → later < until → scene later ≡ scene t
+
+-- From bit time t to below `until` the breach is there or not, as at t.
+abbrev pub BreachStays : Option ℕ → ℕ → ℕ → Type 0
+BreachStays breach t until = (later : ℕ) → t ≤ later → later < until → is_breach breach later ≡ is_breach breach t
 
 -- Whether one of these live transmissions is of a terminal and starts at bit time t.
 abbrev pub begins : ℕ → List Live → ℕ → Bool
@@ -68,7 +75,43 @@ pub record IsWatch (t : ℕ) (watch : Watch) : Type 0 where
   pub quiet : watch.quiet < 2 ^ 32
   pub low : AllByRecursion IsLow watch.clocks.items
 
--- Its clocks are those of these senders of a table.
-abbrev pub Keeping : Table → List Sender → ℕ → Watch → Type 0
-Keeping table senders t watch =
-    (watch.quiet ≡ quiet_of table) × AreClocksOf table watch.walk.list.now t senders watch.clocks.items
+-- Its clocks are those of these senders of a table, at the bit time at which they were asked last.
+abbrev pub Keeping : Table → List Sender → Watch → Type 0
+Keeping table senders watch =
+    (watch.quiet ≡ quiet_of table) × AreClocksOf table watch.walk.list.now watch.since senders watch.clocks.items
+
+-- The timers tell what they told there.
+abbrev pub IsTold : Table → List Sender → Watch → List Elapsed → Type 0
+IsTold table senders watch timers = timers ≡ map (elapsed_at table watch.walk.list.now watch.since) senders
+
+-- Whether a transmission of a terminal starts at moment t.
+abbrev pub starts_at : ℕ → ℕ → Entry → Bool
+starts_at t n x = x.moment == t && x.terminal == n
+
+abbrev pub starts : List Entry → ℕ → ℕ → Bool
+starts list t n = list_any (starts_at t n) list
+
+-- No transmission starts behind one moment and before another.
+abbrev pub NoneBetween : List Entry → ℕ → ℕ → Type 0
+NoneBetween list t u = (x : Entry) → In x list → (x.moment ≤ t) ⊎ (u ≤ x.moment)
+
+-- Since the clocks were asked and up to below bit time t carrier has stayed, nobody has begun, and none of their timers has turned.
+pub record Lasts (t : ℕ) (watch : Watch) : Type 0 where
+  pub begin : (n : ℕ) → begins watch.since watch.starting.items n ≡ starts watch.walk.list.now watch.since n
+  pub carrier : (v : ℕ) → watch.since ≤ v → v < t → carrier watch.walk.list.now v ≡ watch.carrier
+  pub none : NoneBetween watch.walk.list.now watch.since t
+  pub still : t ≤ watch.still
+  pub limit : ℕ
+  pub later : watch.quiet + watch.since < limit
+  pub turns : AllByRecursion (λ clock. watch.quiet + watch.still
+      ≤ clock_turn watch.since watch.starting.items (watch.quiet + watch.since) limit watch.carrier clock) watch.clocks.items
+
+-- A watch that comes to bit time t: so it has lasted, or its clocks stand there and are to be asked.
+abbrev pub IsReady : ℕ → Watch → Type 0
+IsReady t watch = ((watch.since < t) × Lasts t watch) ⊎ ((watch.since ≡ t) × (watch.still ≤ t))
+
+-- So it lasts at bit time t, where there is carrier or not.
+pub record IsLasting (t : ℕ) (now : Bool) (watch : Watch) : Type 0 where
+  pub still : t < watch.still
+  pub same : now ≡ watch.carrier
+  pub none : list_any (λ (one : Live). one.moment == t) watch.walk.live.items ≡ false

@@ -7,6 +7,6 @@ use Rattle.bus_dump.proofs.NothingLostLemmas.{nothing_lost}
 use Rattle.bus_dump.proofs.laws.nothing_written_is_lost.Goals as goal
 
 pub returns : goal.returns
-returns c dump a b words valid left right whole other texts =
-    nothing_lost dump (verdict_words (verdict_of c.args.table.now)) c.args.table.now a b words valid left right
+returns c dump first second a b words valid left right whole other texts =
+    nothing_lost dump first second (verdict_words (verdict_of c.args.table.now)) c.args.table.now a b words valid left right
     (subst (λ (v : TableVerdict). HoldsNoFeed (verdict_words v)) c.verdict.ensures c.holds_no_feed.ensures) whole other texts

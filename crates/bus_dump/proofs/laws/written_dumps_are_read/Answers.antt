@@ -7,6 +7,6 @@ use Rattle.bus_dump.proofs.SmallLemmas.{dump_read}
 use Rattle.bus_dump.proofs.laws.written_dumps_are_read.Goals as goal
 
 pub returns : goal.returns
-returns c dump trace t signal valid is below i =
-    dump_read dump (verdict_words (verdict_of c.args.table.now)) c.args.table.now trace t signal valid is
-    (subst (λ (v : TableVerdict). HoldsNoFeed (verdict_words v)) c.verdict.ensures c.holds_no_feed.ensures) below i
+returns c dump window breach trace t signal valid is sound held i =
+    dump_read dump window breach (verdict_words (verdict_of c.args.table.now)) c.args.table.now trace t signal valid is sound
+    (subst (λ (v : TableVerdict). HoldsNoFeed (verdict_words v)) c.verdict.ensures c.holds_no_feed.ensures) held i

@@ -7,6 +7,6 @@ use Rattle.bus_dump.proofs.StampLemmas.{stamps_told}
 use Rattle.bus_dump.proofs.laws.written_stamps_are_told.Goals as goal
 
 pub returns : goal.returns
-returns c dump trace valid is =
-    stamps_told dump (verdict_words (verdict_of c.args.table.now)) c.args.table.now trace valid is
+returns c dump window breach trace valid is sound =
+    stamps_told dump window breach (verdict_words (verdict_of c.args.table.now)) c.args.table.now trace valid is sound
     (subst (λ (v : TableVerdict). HoldsNoFeed (verdict_words v)) c.verdict.ensures c.holds_no_feed.ensures)

@@ -1,41 +1,57 @@
-use Rattle.std.proofs.Common.{List, ℕ, ◌≡◌, ◌≤◌, ◌-◌, map, subst, arith, ap, ◌∙◌}
+use Rattle.std.proofs.Common.{List, ℕ, ◌≡◌, ◌≤◌, map, subst, arith, ap, sym, inl, inr, ◌∙◌}
 use Rattle.bus_outer.specs.Texts.{Adds}
 use Rattle.bus_outer.proofs.TextLaws.{◌▸◌}
 use Rattle.bus_strings.specs.Messages.{Entry}
 use Rattle.bus_table.specs.Tables.{Sender}
 use Rattle.bus_dump.specs.DumpTexts.{first_values}
 use Rattle.bus_dump.specs.inside.Layouts.{layout_signals}
-use Rattle.bus_dump.specs.Scenes.{Scene, elapsed_at, scene_at, timed}
+use Rattle.bus_dump.specs.Scenes.{Scene, elapsed_at, is_breach, scene_at, timed}
 use Rattle.bus_dump.specs.Seen.{seen_at}
-use Rattle.bus_dump.specs.inside.Watching.{StaysAs, scene_of}
+use Rattle.bus_dump.specs.inside.Watching.{BreachStays, ElapsedStays, IsTold, StaysAs, scene_of}
+use Rattle.bus_dump.proofs.WatchLemmas.{told_now}
 use Rattle.bus_dump.proofs.WriteLemmas.{first_is, last_put, next_put, scene_is, scene_stays}
 use Rattle.bus_dump.proofs.writing.put_bit_times.Goals as goal
 
 pub loop-until-init : goal.loop-until-init
 loop-until-init g c =
     let dump = c.args.layout.now.dump in
+    let breach = c.args.breach in
     let table = c.args.table.now in
+    let from = c.args.from in
     let senders : List Sender = timed dump table in
-    let own : List Entry = c.new-watch.result.walk.list.now in
-    let same : own ≡ c.args.list.now = c.new-watch.ensures.list in
-    let keeping = c.new-watch.ensures.keeping in
-    let now : scene_of c.look-until.new.now ≡ scene_at dump table c.args.list.now 0 =
-    scene_is c.look-until.new.now.seen.items (seen_at own 0) c.look-until.new.now.timers.items (map (elapsed_at table own 0) senders)
-    c.look-until.ensures.seen (c.look-until.ensures.timers table senders keeping) ∙ ap (λ (l : List Entry). scene_at dump table l 0) same in
+    let watch = c.watch_from-watch in
+    let look = c.look-until in
+    let own : List Entry = watch.result.walk.list.now in
+    let same : own ≡ c.args.list.now = watch.ensures.list in
+    let after : look.new.self.walk.list.now ≡ own = look.ensures.list in
+    let kept = look.ensures.told table senders watch.ensures.keeping watch.ensures.timers in
+    let told = told_now c.test_decides.ensures table from look.result senders look.new.self look.new.now.timers.items look.ensures.watch.walkable
+    look.ensures.lasts look.ensures.since look.ensures.later kept.0 kept.1 in
+    let now : scene_of look.new.now ≡ scene_at dump breach table c.args.list.now from =
+    scene_is look.new.now.seen.items (seen_at own from) look.new.now.timers.items (map (elapsed_at table own from) senders) look.new.now.breach
+    (is_breach breach from) look.ensures.seen (told.0 ∙ ap (λ (l : List Entry). map (elapsed_at table l from) senders) after)
+    (look.ensures.broken ∙ ap (λ b. is_breach b from) watch.ensures.breach)
+    ∙ ap (λ (l : List Entry). scene_at dump breach table l from) same in
     record {
-      list = same;
-      watch = c.new-watch.ensures.watch;
-      keeping = keeping;
-      seen = c.look-until.ensures.seen;
+      list = after ∙ same;
+      breach = look.ensures.breach ∙ watch.ensures.breach;
+      watch = look.ensures.watch;
+      since = look.ensures.since;
+      lasts = look.ensures.lasts;
+      keeping = kept.0;
+      told = kept.1;
       now = now;
-      later = c.look-until.ensures.later;
-      most = c.look-until.ensures.most;
-      ahead = c.look-until.ensures.ahead;
-      steady = c.look-until.ensures.steady;
-      stays = subst (λ (l : List Entry). StaysAs (scene_at dump table l) 0 c.look-until.result) same
-          (scene_stays dump table own 0 c.look-until.result c.look-until.ensures.steady (c.look-until.ensures.still table senders keeping));
+      begun = omega arith;
+      reached = inl (omega arith);
+      later = look.ensures.later;
+      most = look.ensures.most;
+      ahead = look.ensures.ahead;
+      stays = subst (λ (l : List Entry). StaysAs (scene_at dump breach table l) from look.result) same
+          (scene_stays dump breach table own from look.result look.ensures.steady
+          (subst (λ (l : List Entry). ElapsedStays table l senders from look.result) after told.1)
+          (subst (λ b. BreachStays b from look.result) watch.ensures.breach look.ensures.same));
       adds = subst (λ (t : List ℕ). Adds g.K.Sink.held g.K.Sink.faults c.args.sink.now c.put_first.new.sink c.args.text.now c.put_first.new.text t)
-          (first_is (layout_signals c.args.layout.now) (scene_at dump table c.args.list.now) (scene_of c.look-until.new.now) now)
+          (first_is (layout_signals c.args.layout.now) (scene_at dump breach table c.args.list.now) (scene_of look.new.now) from now)
           c.put_first.ensures;
     }
 
@@ -43,44 +59,58 @@ pub loop-until-preserved : goal.loop-until-preserved
 loop-until-preserved g c =
     let i = c.loop-until.invariant in
     let dump = c.args.layout.now.dump in
+    let breach = c.args.breach in
     let table = c.args.table.now in
     let senders : List Sender = timed dump table in
     let own : List Entry = c.go_on.new.self.walk.list.now in
     let same : own ≡ c.args.list.now = c.go_on.ensures.list ∙ i.list in
+    let broken : c.go_on.new.self.breach ≡ breach = c.go_on.ensures.breach ∙ i.breach in
     let keeping = c.go_on.ensures.keeping table senders i.keeping in
-    let was : scene_of c.take_over.new.self ≡ scene_at dump table c.args.list.now c.loop-until.t = c.take_over.ensures ∙ i.now in
+    let was : scene_of c.take_over.new.self ≡ scene_at dump breach table c.args.list.now c.loop-until.t = c.take_over.ensures ∙ i.now in
     let look = c.look-until-in-loop-until in
-    let now : scene_of look.new.now ≡ scene_at dump table c.args.list.now c.loop-until.until =
-    scene_is look.new.now.seen.items (seen_at own c.loop-until.until) look.new.now.timers.items (map (elapsed_at table own c.loop-until.until) senders)
-    look.ensures.seen (look.ensures.timers table senders keeping) ∙ ap (λ (l : List Entry). scene_at dump table l c.loop-until.until) same in
+    let u = c.loop-until.until in
+    let after : look.new.self.walk.list.now ≡ own = look.ensures.list in
+    let before : IsTold table senders c.go_on.new.self c.loop-until.now.timers.items =
+    i.told ∙ sym (ap (λ (l : List Entry). map (elapsed_at table l c.go_on.new.self.since) senders) c.go_on.ensures.list
+    ∙ ap (λ x. map (elapsed_at table c.loop-until.watch.walk.list.now x) senders) c.go_on.ensures.since) in
+    let kept = look.ensures.told table senders keeping (λ h. before) in
+    let told = told_now c.test_decides.ensures table u look.result senders look.new.self look.new.now.timers.items look.ensures.watch.walkable
+    look.ensures.lasts look.ensures.since look.ensures.later kept.0 kept.1 in
+    let now : scene_of look.new.now ≡ scene_at dump breach table c.args.list.now u =
+    scene_is look.new.now.seen.items (seen_at own u) look.new.now.timers.items (map (elapsed_at table own u) senders) look.new.now.breach
+    (is_breach breach u) look.ensures.seen (told.0 ∙ ap (λ (l : List Entry). map (elapsed_at table l u) senders) after)
+    (look.ensures.broken ∙ ap (λ b. is_breach b u) broken)
+    ∙ ap (λ (l : List Entry). scene_at dump breach table l u) same in
     record {
-      list = same;
-      watch = c.go_on.ensures.watch;
-      keeping = keeping;
-      seen = look.ensures.seen;
+      list = after ∙ same;
+      breach = look.ensures.breach ∙ broken;
+      watch = look.ensures.watch;
+      since = look.ensures.since;
+      lasts = look.ensures.lasts;
+      keeping = kept.0;
+      told = kept.1;
       now = now;
+      begun = omega (arith, i.begun, i.later);
+      reached = inr c.loop-until-test.true;
       later = look.ensures.later;
       most = look.ensures.most;
       ahead = look.ensures.ahead;
-      steady = look.ensures.steady;
-      stays = subst (λ (l : List Entry). StaysAs (scene_at dump table l) c.loop-until.until look.result) same
-          (scene_stays dump table own c.loop-until.until look.result look.ensures.steady (look.ensures.still table senders keeping));
+      stays = subst (λ (l : List Entry). StaysAs (scene_at dump breach table l) u look.result) same
+          (scene_stays dump breach table own u look.result look.ensures.steady
+          (subst (λ (l : List Entry). ElapsedStays table l senders u look.result) after told.1)
+          (subst (λ b. BreachStays b u look.result) broken look.ensures.same));
       adds = subst (λ (t : List ℕ). Adds g.K.Sink.held g.K.Sink.faults c.args.sink.now c.put_changes.new.sink c.args.text.now c.put_changes.new.text t)
-          (next_put (layout_signals c.args.layout.now) (scene_at dump table c.args.list.now)
-          (first_values (layout_signals c.args.layout.now) (scene_at dump table c.args.list.now 0)) c.loop-until.t c.loop-until.until
-          (scene_of c.take_over.new.self) (scene_of look.new.now) i.later i.stays was now)
+          (next_put (layout_signals c.args.layout.now) (scene_at dump breach table c.args.list.now)
+          (first_values (layout_signals c.args.layout.now) (scene_at dump breach table c.args.list.now c.args.from) c.args.from) c.args.from
+          c.loop-until.t u (scene_of c.take_over.new.self) (scene_of look.new.now) i.begun i.later i.stays was now)
           (i.adds ▸ c.put_changes.ensures);
     }
-
-pub go_on-requires-clause-seen : goal.go_on-requires-clause-seen
-go_on-requires-clause-seen g c = ap (λ (s : Scene). s.seen) c.take_over.ensures ∙ c.loop-until.invariant.seen
 
 pub returns : goal.returns
 returns g c =
     let i = c.loop-until.invariant in
-    let low : c.loop-until.t ≤ c.args.horizon - 1 = omega (arith, i.later, i.most, c.max-limit.ensures) in
-    let at = scene_at c.args.layout.now.dump c.args.table.now c.args.list.now in
+    let at = scene_at c.args.layout.now.dump c.args.breach c.args.table.now c.args.list.now in
     subst (λ (t : List ℕ). Adds g.K.Sink.held g.K.Sink.faults c.args.sink.now c.loop-until.sink c.args.text.now c.loop-until.text t)
-    (last_put (layout_signals c.args.layout.now) at (first_values (layout_signals c.args.layout.now) (at 0)) c.loop-until.t c.loop-until.until
-    c.args.horizon low i.later c.loop-until-test.false i.stays)
+    (last_put (layout_signals c.args.layout.now) at (first_values (layout_signals c.args.layout.now) (at c.args.from) c.args.from) c.args.from
+    c.loop-until.t c.loop-until.until c.args.end i.begun i.later c.loop-until-test.false i.reached i.stays)
     i.adds

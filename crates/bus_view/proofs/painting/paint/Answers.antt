@@ -9,8 +9,8 @@ use Rattle.bus_view.proofs.painting.paint.Goals as goal
 pub returns-in-Ok : goal.returns-in-Ok
 returns-in-Ok g c =
     answered sources Done _ g.K.Sink c.args.out.now c.write_picture-painted.new.out _ c.write_picture-painted.result c.after_writing.result refl
-    (painted_is c.args.picture c.window_of-window.result c.args.table.now c.args.trace.now c.verdict-verdict.result c.in-Ok.answer
-    c.verdict-verdict.ensures c.in-Ok.ensures.value ∙ ap (λ w. painting c.args.picture w c.args.table.now c.args.trace.now) c.window_of-window.ensures)
+    (painted_is c.args.picture c.window_or_whole-window.result c.args.table.now c.args.trace.now c.verdict-verdict.result c.in-Ok.answer
+    c.verdict-verdict.ensures c.in-Ok.ensures.value ∙ ap (λ w. painting c.args.picture w c.args.table.now c.args.trace.now) c.window_or_whole-window.ensures)
     c.write_picture-painted.ensures c.after_writing.ensures
 
 pub returns-in-Err : goal.returns-in-Err

@@ -1,20 +1,14 @@
-use Rattle.std.proofs.Common.{arith, refl, sym, ap, ◌∙◌}
+use Rattle.std.proofs.Common.{arith, refl, ap}
 use Rattle.bus_command.specs.declared.outcome.Outcome.TheVariants.{Done}
 use Rattle.bus_command.proofs.DoLaws.{answered, roomless}
 use Rattle.bus_dump.specs.SaveFiles.{save_text}
-use Rattle.bus_view.specs.Due.{breach_moment}
 use Rattle.bus_view.specs.Forms.{sources}
-use Rattle.bus_view.proofs.SaveLemmas.{breach_below}
 use Rattle.bus_view.proofs.saving.save.Goals as goal
-
-pub write_save_file-saved-requires : goal.write_save_file-saved-requires
-write_save_file-saved-requires g c =
-    rw (sym c.breach_moment.ensures) at (breach_below c.args.table.now c.args.trace.now c.in-Ok.answer c.requires c.in-Ok.ensures.is)
 
 pub returns-in-Ok : goal.returns-in-Ok
 returns-in-Ok g c =
     answered sources Done _ g.K.Sink c.args.out.now c.write_save_file-saved.new.sink _ c.write_save_file-saved.result c.after_writing.result refl
-    (ap (save_text c.args.table.now c.args.trace.now) (c.breach_moment.ensures ∙ ap breach_moment c.in-Ok.ensures.value))
+    (ap (save_text c.args.table.now c.args.trace.now) c.in-Ok.ensures.value)
     c.write_save_file-saved.ensures c.after_writing.ensures
 
 pub returns-in-Err : goal.returns-in-Err

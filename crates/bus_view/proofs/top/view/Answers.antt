@@ -8,4 +8,5 @@ returns-clause-keeps g c = rw c.status.ensures (keeps (record {
   single = c.lawful_is_single.ensures;
   closed = c.accepted_is_closed.ensures;
   clear = c.clear_lists_show_none.ensures;
+  breach = c.wires_are_told.ensures.breach;
 }) _ c.act-outcome.result c.act-outcome.ensures)
