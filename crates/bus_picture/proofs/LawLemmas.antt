@@ -1,6 +1,6 @@
 -- The boxes of a row.
 use Rattle.std.proofs.Common.{◌≡◌, ◌↔◌, ℕ, ◌+◌, ◌<◌, ◌≤◌, Bool, true, false, cond, max, List, [], ◌∷◌, ◌++◌, filter, Option, Some, None, inl, inr, arith, refl, sym, ap, subst, ◌∙◌}
-use Rattle.std.specs.Prelude.{◌&&◌, ◌⊎◌, fold, nat_lt, ⊤}
+use Rattle.std.specs.Prelude.{◌&&◌, ◌⊎◌, fold, length, nat_eq, nat_lt, ⊤}
 use Rattle.std.specs.Bool.{beq}
 use Rattle.std.specs.List.{AllByRecursion, flat_map}
 use Rattle.std.proofs.lemmas.Bool.{and_parts, cases_Bool, ltb-false, ltb-true, true≢false}
@@ -16,10 +16,12 @@ use Rattle.bus_shapes.specs.declared.sent.Sent.{Sent}
 use Rattle.bus_shapes.specs.Laws.{SentsAreTold}
 use Rattle.bus_shapes.specs.Sending.{sents, sents_from}
 use Rattle.bus_shapes.specs.SendingLaws.{IsToldOf}
-use Rattle.bus_picture.specs.Boxes.{Box, boxes, boxes_from, joins, members, pile_of}
+use Rattle.bus_shapes.specs.Measures.{pixel}
+use Rattle.bus_shapes.specs.Scales.{place}
+use Rattle.bus_picture.specs.Boxes.{Box, Pile, boxes, boxes_from, bucket, grown, is_close, is_narrow, is_thin, joins, members, one, pile_of}
 use Rattle.bus_picture.specs.Rows.{Row, box_class, is_of, plain_class, shown, shows}
 use Rattle.bus_picture.specs.Strings.{meets}
-use Rattle.bus_picture.specs.Laws.{BoxesHoldRows, BoxesHoldTheirs, HatchedAreGarbled, HoldsIts}
+use Rattle.bus_picture.specs.Laws.{AreClose, BoxesCoverNoQuiet, BoxesHoldRows, BoxesHoldTheirs, HatchedAreGarbled, HoldsIts}
 
 abbrev single : Sent → Box
 single x = record { first = x; others = [] }
@@ -36,7 +38,7 @@ by_joins scale box y ys false more new = ap (λ (l : List Sent). members box ++ 
 
 held : (scale : Scale) (box : Box) (ys : List Sent) → flat_map members (boxes_from scale box ys) ≡ members box ++ ys
 held scale box [] = refl
-held scale box (y ∷ ys) = by_joins scale box y ys (joins scale box.first y) (held scale (longer box y) ys) (held scale (single y) ys)
+held scale box (y ∷ ys) = by_joins scale box y ys (joins scale (pile_of box) y) (held scale (longer box y) ys) (held scale (single y) ys)
 
 all_held : (scale : Scale) (xs : List Sent) → flat_map members (boxes scale xs) ≡ xs
 all_held scale [] = refl
@@ -63,13 +65,14 @@ as_row scale row x h =
     same x.garbled row.garbled
     (and_parts (is_of row x) (beq x.garbled row.garbled) (and_parts (is_of row x && beq x.garbled row.garbled) (meets scale x.moment x.end) h).0).1
 
-plain : (terminal : Option ℕ) → plain_class terminal ≡ Garbled → ⊥
-plain None h = cc
-plain (Some n) h = cc
+plain : (terminal : Option ℕ) (narrow : Bool) → plain_class terminal narrow ≡ Garbled → ⊥
+plain None narrow h = cc
+plain (Some n) true h = cc
+plain (Some n) false h = cc
 
-hatched_by : (g : Bool) (terminal : Option ℕ) → (cond g Garbled (plain_class terminal) ≡ Garbled) ↔ (g ≡ true)
-hatched_by true terminal = (λ h. refl, λ h. refl)
-hatched_by false terminal = (λ h. absurd (plain terminal h), λ h. absurd (true≢false (sym h)))
+hatched_by : (g : Bool) (terminal : Option ℕ) (narrow : Bool) → (cond g Garbled (plain_class terminal narrow) ≡ Garbled) ↔ (g ≡ true)
+hatched_by true terminal narrow = (λ h. refl, λ h. refl)
+hatched_by false terminal narrow = (λ h. absurd (plain terminal narrow h), λ h. absurd (true≢false (sym h)))
 
 pub hatched_are_garbled : SentsAreTold → HatchedAreGarbled
 hatched_are_garbled told scale row list box x i j =
@@ -77,7 +80,7 @@ hatched_are_garbled told scale row list box x i j =
     let kept = from_filter (shows scale row) (sents list) x all in
     let t : IsToldOf list x = told list x kept.0 in
     let mark : row.garbled ≡ garbled list x.at = as_row scale row x kept.1 ∙ ap (λ (s : Sent). s.garbled) t.told in
-    (t, subst (λ b. (box_class row ≡ Garbled) ↔ (b ≡ true)) mark (hatched_by row.garbled row.terminal))
+    (t, subst (λ b. (box_class scale row (pile_of box) ≡ Garbled) ↔ (b ≡ true)) mark (hatched_by row.garbled row.terminal (is_narrow scale (pile_of box).first)))
 
 -- ---- from the first to the last
 abbrev IsBehind : ℕ → Sent → Type 0
@@ -124,7 +127,7 @@ led : (scale : Scale) (box : Box) (ys : List Sent) → IsFirst box → AllByRecu
     → AllByRecursion IsFirst (boxes_from scale box ys)
 led scale box [] h later order = (h, tt)
 led scale box (y ∷ ys) h later order =
-    first_by scale box y ys (joins scale box.first y) h
+    first_by scale box y ys (joins scale (pile_of box) y) h
     (led scale (longer box y) ys (all_push (IsBehind box.first.moment) box.others y h later.0) later.1 order.1)
     (led scale (single y) ys tt order.0 order.1)
 
@@ -161,17 +164,60 @@ ends_one end (x ∷ xs) =
       | inr one ↦ inr (one.0, inr one.1, one.2)
     ]
 
+grown_end : (pile : Pile) (xs : List Sent) → (fold grown pile xs).end ≡ end_from pile.end xs
+grown_end pile [] = refl
+grown_end pile (x ∷ xs) = grown_end (grown pile x) xs
+
+grown_count : (pile : Pile) (xs : List Sent) → (fold grown pile xs).count ≡ pile.count + length xs
+grown_count pile [] = omega arith
+grown_count pile (x ∷ xs) = omega (arith, grown_count (grown pile x) xs)
+
 holds_its : (box : Box) → IsFirst box → HoldsIts box
 holds_its box h =
+    let is : (pile_of box).end ≡ end_from box.first.end box.others = grown_end (one box.first) box.others in
     let end = ends_one box.first.end box.others in
-    let one : EndsOne (pile_of box).end (members box) =
+    let last : EndsOne (end_from box.first.end box.others) (members box) =
     elim end [ inl same ↦ (box.first, inl refl, sym same) | inr one ↦ (one.0, inr one.1, one.2) ] in
     record {
-      within = ((omega arith, no_less box.first.end box.others), each_within box.first.moment box.first.end box.others h);
-      last = one.0;
-      held = one.1;
-      ends = one.2;
+      within = subst (λ (t : ℕ). AllByRecursion (λ (x : Sent). (box.first.moment ≤ x.moment) × (x.end ≤ t)) (members box)) (sym is)
+          ((omega arith, no_less box.first.end box.others), each_within box.first.moment box.first.end box.others h);
+      last = last.0;
+      held = last.1;
+      ends = last.2 ∙ sym is;
+      count = omega (arith, grown_count (one box.first) box.others);
     }
+
+-- ---- no quiet in a box
+close_push : (scale : Scale) (pile : Pile) (xs : List Sent) (y : Sent) → AreClose scale pile xs
+    → place scale y.moment < place scale (fold grown pile xs).end + pixel → AreClose scale pile (xs ++ y ∷ [])
+close_push scale pile [] y h close = (close, tt)
+close_push scale pile (x ∷ xs) y h close = (h.0, close_push scale (grown pile x) xs y h.1 close)
+
+abbrev IsClose : Scale → Box → Type 0
+IsClose scale box = AreClose scale (one box.first) box.others
+
+close_by : (scale : Scale) (box : Box) (y : Sent) (ys : List Sent) (j : Bool) → joins scale (pile_of box) y ≡ j → IsClose scale box
+    → (IsClose scale (longer box y) → AllByRecursion (IsClose scale) (boxes_from scale (longer box y) ys)) → AllByRecursion (IsClose scale) (boxes_from scale (single y) ys)
+    → AllByRecursion (IsClose scale) (cond j (boxes_from scale (longer box y) ys) (box ∷ boxes_from scale (single y) ys))
+close_by scale box y ys true is h more new =
+    let p : Pile = pile_of box in
+    let close : is_close scale p.end y ≡ true =
+    (and_parts (is_thin scale p.first && is_thin scale y && nat_eq (bucket scale p.first) (bucket scale y)) (is_close scale p.end y) is).1 in
+    more (close_push scale (one box.first) box.others y h (ltb-true (place scale y.moment) (place scale p.end + pixel) close))
+close_by scale box y ys false is h more new = (h, new)
+
+all_close : (scale : Scale) (box : Box) (ys : List Sent) → IsClose scale box → AllByRecursion (IsClose scale) (boxes_from scale box ys)
+all_close scale box [] h = (h, tt)
+all_close scale box (y ∷ ys) h =
+    close_by scale box y ys (joins scale (pile_of box) y) refl h (all_close scale (longer box y) ys) (all_close scale (single y) ys tt)
+
+close_boxes : (scale : Scale) (xs : List Sent) → AllByRecursion (IsClose scale) (boxes scale xs)
+close_boxes scale [] = tt
+close_boxes scale (x ∷ xs) = all_close scale (single x) xs tt
+
+pub boxes_cover_no_quiet : BoxesCoverNoQuiet
+boxes_cover_no_quiet scale row list box i =
+    of_each (IsClose scale) (boxes scale (shown scale row list)) (close_boxes scale (shown scale row list)) box i
 
 pub boxes_hold_theirs : BoxesHoldTheirs
 boxes_hold_theirs scale row list box order i =

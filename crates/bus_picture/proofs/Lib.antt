@@ -4,3 +4,9 @@ pub mod RowLemmas
 pub mod LaneLemmas
 pub mod LawLemmas
 pub mod CountLemmas
+pub mod AreaLemmas
+pub mod PaceLemmas
+pub mod LoadLemmas
+pub mod FindLemmas
+pub mod HeardLemmas
+pub mod GapLemmas

@@ -1,8 +1,7 @@
 -- The boxes of a row, one behind the other.
-use Rattle.std.proofs.Common.{◌≡◌, ℕ, suc, ◌+◌, ◌≤◌, max, Bool, true, false, cond, List, [], ◌∷◌, ◌++◌, length, filter, Option, Some, None, append-nil, arith, refl, sym, ap, subst, ◌∙◌}
-use Rattle.std.specs.Prelude.{fold}
+use Rattle.std.proofs.Common.{◌≡◌, ℕ, suc, ◌+◌, ◌≤◌, Bool, true, false, cond, List, [], ◌∷◌, ◌++◌, length, filter, Option, Some, None, append-nil, arith, refl, sym, ap, subst, ◌∙◌}
 use Rattle.std.specs.List.{AllByRecursion, flat_map}
-use Rattle.std.proofs.lemmas.List.{length-append, append_assoc}
+use Rattle.std.proofs.lemmas.List.{append_assoc}
 use Rattle.std.proofs.lemmas.List.Sums.{fold-append}
 use Rattle.bus_strings.specs.Messages.{Entry}
 use Rattle.bus_shapes.specs.declared.sent.Sent.{Sent}
@@ -10,9 +9,9 @@ use Rattle.bus_shapes.specs.declared.scale.Scale.{Scale}
 use Rattle.bus_shapes.specs.Sending.{sents}
 use Rattle.bus_shapes.specs.SendingLaws.{IsInOrder}
 use Rattle.bus_shapes.proofs.SendingLaws.{all_in_order, as_many}
-use Rattle.bus_picture.specs.Boxes.{Box, Pile, boxes, boxes_from, joins, pile_of}
+use Rattle.bus_picture.specs.Boxes.{Box, Pile, boxes, boxes_from, grown, joins, one, pile_of}
 use Rattle.bus_picture.specs.Rows.{Row, pile_text, row_text, shows}
-use Rattle.bus_picture.specs.inside.Working.{IsLast, IsPile, Writing, grown, held, last_written, next_pile, next_written, one, to_come, with_next, written}
+use Rattle.bus_picture.specs.inside.Working.{IsLast, IsPile, Writing, held, last_written, next_pile, next_written, to_come, with_next, written}
 
 abbrev single : Sent → Box
 single x = record { first = x; others = [] }
@@ -23,15 +22,9 @@ longer box y = record { first = box.first; others = box.others ++ y ∷ [] }
 abbrev texts : Scale → Row → List Entry → List Box → List ℕ
 texts scale row list bs = flat_map (λ box. pile_text scale row list (pile_of box)) bs
 
-abbrev pile_with : Sent → ℕ → ℕ → Pile
-pile_with first count end = record { first = first; count = count; end = end }
-
 -- A box with one more.
 grows : (box : Box) (y : Sent) → grown (pile_of box) y ≡ pile_of (longer box y)
-grows box y =
-    let count : 1 + length box.others + 1 ≡ 1 + length (box.others ++ y ∷ []) = omega (arith, length-append box.others (y ∷ [])) in
-    ap (λ n. pile_with box.first n (max (fold (λ end x. max end x.end) box.first.end box.others) y.end)) count
-    ∙ ap (pile_with box.first (1 + length (box.others ++ y ∷ []))) (sym (fold-append (λ end (x : Sent). max end x.end) box.first.end box.others (y ∷ [])))
+grows box y = sym (fold-append grown (one box.first) box.others (y ∷ []))
 
 -- Where x is shown, it shares the last box or not.
 by_joins : (scale : Scale) (row : Row) (list : List Entry) (box : Box) (x : Sent) (xs ys : List Sent) (j : Bool)
@@ -57,7 +50,7 @@ behind : (scale : Scale) (row : Row) (list : List Entry) (box : Box) (xs : List 
 behind scale row list box [] = sym (append-nil (pile_text scale row list (pile_of box)))
 behind scale row list box (x ∷ xs) =
     by_shown scale row list box x xs (filter (shows scale row) xs) (shows scale row x)
-    (by_joins scale row list box x xs (filter (shows scale row) xs) (joins scale box.first x) (behind scale row list (longer box x) xs)
+    (by_joins scale row list box x xs (filter (shows scale row) xs) (joins scale (pile_of box) x) (behind scale row list (longer box x) xs)
     (behind scale row list (single x) xs))
     (behind scale row list box xs)
 
@@ -88,10 +81,10 @@ choose_one true p q h k = h
 choose_one false p q h k = k
 
 next_is_pile : (scale : Scale) (last : Option Pile) (x : Sent) → IsLast last → IsInOrder x → IsPile (with_next scale last x)
-next_is_pile scale None x h order = record { first = order; later = order }
+next_is_pile scale None x h order = record { first = order; later = omega arith }
 next_is_pile scale (Some p) x h order =
-    choose_one (joins scale p.first x) (grown p x) (one x)
-    (let later : p.first.moment ≤ p.end = h.later in record { first = h.first; later = omega arith }) (record { first = order; later = order })
+    choose_one (joins scale p x) (grown p x) (one x)
+    (let later : p.first.moment + p.busy ≤ p.end = h.later in record { first = h.first; later = omega arith }) (record { first = order; later = omega arith })
 
 next_is_last : (scale : Scale) (row : Row) (last : Option Pile) (x : Sent) → IsLast last → IsInOrder x → IsLast (next_pile scale row last x)
 next_is_last scale row last x h order =
@@ -103,7 +96,7 @@ choose_count false p q n h k = k
 
 next_count : (scale : Scale) (last : Option Pile) (x : Sent) → (with_next scale last x).count ≤ held last + 1
 next_count scale None x = omega arith
-next_count scale (Some p) x = choose_count (joins scale p.first x) (grown p x) (one x) (p.count + 1) (omega arith) (omega arith)
+next_count scale (Some p) x = choose_count (joins scale p x) (grown p x) (one x) (p.count + 1) (omega arith) (omega arith)
 
 choose_held : (b : Bool) (p : Pile) (o : Option Pile) (n : ℕ) → p.count ≤ n → held o ≤ n → held (cond b (Some p) o) ≤ n
 choose_held true p o n h k = h

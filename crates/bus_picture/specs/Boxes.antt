@@ -1,16 +1,21 @@
--- The boxes of a row of transmissions. Narrow neighbours share a box: of two neighbouring boxes that begin in the same six pixels, one
--- takes at least six, so that a row has no more boxes than it has room for.
-use Rattle.std.specs.Prelude.{ℕ, ◌+◌, ◌/◌, max, Bool, ◌&&◌, nat_lt, nat_eq, List, [], ◌∷◌, ◌++◌, length, codes, decimal, fold}
+-- The boxes of a row of transmissions. Neighbours that take less than a pixel each share a box, where less than a pixel lies between them
+-- and they begin in the same six pixels: so no box covers quiet between two of them that takes a pixel.
+use Rattle.std.specs.Prelude.{ℕ, ◌+◌, ◌-◌, ◌*◌, ◌/◌, max, min, Bool, ◌&&◌, nat_lt, nat_eq, List, [], ◌∷◌, ◌++◌, codes, decimal, fold}
 use Rattle.std.specs.Prelude.{if◌then◌else◌}
 use Rattle.bus_shapes.specs.declared.sent.Sent.{Sent}
 use Rattle.bus_shapes.specs.Sayings.{garbled_words, sent_words}
 use Rattle.bus_shapes.specs.declared.scale.Scale.{Scale}
 use Rattle.bus_shapes.specs.Scales.{extent, place}
 pub use Rattle.bus_picture.specs.declared.pile.Pile.{Pile}
-use Rattle.bus_picture.specs.Measures.{narrow}
+use Rattle.bus_shapes.specs.Measures.{pixel}
+use Rattle.bus_picture.specs.Measures.{box_height, least_height, narrow}
 
 -- ---- which transmissions share a box
--- Whether a transmission takes less than six pixels.
+-- Whether a transmission takes less than a pixel.
+abbrev pub is_thin : Scale → Sent → Bool
+is_thin scale x = nat_lt (place scale x.end) (place scale x.moment + pixel)
+
+-- Whether it takes less than six.
 abbrev pub is_narrow : Scale → Sent → Bool
 is_narrow scale x = nat_lt (extent scale x.moment x.end) narrow
 
@@ -18,9 +23,28 @@ is_narrow scale x = nat_lt (extent scale x.moment x.end) narrow
 abbrev pub bucket : Scale → Sent → ℕ
 bucket scale x = place scale x.moment / narrow
 
--- Whether y shares the box of x: both are narrow and begin in the same stretch.
-abbrev pub joins : Scale → Sent → Sent → Bool
-joins scale x y = is_narrow scale x && is_narrow scale y && nat_eq (bucket scale x) (bucket scale y)
+-- Whether it begins less than a pixel behind a moment, or before that.
+abbrev pub is_close : Scale → ℕ → Sent → Bool
+is_close scale end x = nat_lt (place scale x.moment) (place scale end + pixel)
+
+-- A box of one transmission, of which all that is drawn is busy.
+abbrev pub one : Sent → Pile
+one x = record { first = x; count = 1; end = x.end; busy = x.end - x.moment }
+
+-- A box with one transmission more, which is busy from its begin on, or from the end of the others on.
+abbrev pub grown : Pile → Sent → Pile
+grown pile x = record {
+  first = pile.first;
+  count = pile.count + 1;
+  end = max pile.end x.end;
+  busy = pile.busy + (x.end - max pile.end x.moment);
+}
+
+-- Whether the next transmission shares a box: it and the first of the box take less than a pixel and begin in the same six pixels, and less
+-- than a pixel lies between it and all of the box.
+abbrev pub joins : Scale → Pile → Sent → Bool
+joins scale pile y =
+    is_thin scale pile.first && is_thin scale y && nat_eq (bucket scale pile.first) (bucket scale y) && is_close scale pile.end y
 
 -- A box: a transmission, and those after it that share it.
 pub record Box : Type 0 where
@@ -31,11 +55,15 @@ pub record Box : Type 0 where
 abbrev pub members : Box → List Sent
 members box = box.first ∷ box.others
 
+-- What is drawn of a box: its first transmission, how many it has, when all have ended, and for how many bit times one of them is sent.
+abbrev pub pile_of : Box → Pile
+pile_of box = fold grown (one box.first) box.others
+
 -- The boxes where this one is the last so far, and these transmissions are yet to come: it takes those that share it.
 abbrev pub boxes_from : Scale → Box → List Sent → List Box
 boxes_from scale box [] = box ∷ []
 boxes_from scale box (y ∷ ys) =
-    if joins scale box.first y then boxes_from scale (record { first = box.first; others = box.others ++ y ∷ [] }) ys
+    if joins scale (pile_of box) y then boxes_from scale (record { first = box.first; others = box.others ++ y ∷ [] }) ys
     else box ∷ boxes_from scale (record { first = y; others = [] }) ys
 
 -- The boxes of a row of transmissions.
@@ -44,20 +72,40 @@ boxes scale [] = []
 boxes scale (x ∷ xs) = boxes_from scale (record { first = x; others = [] }) xs
 
 -- ---- what is drawn of a box
--- What is drawn of a box: its first transmission, how many it has, and when all have ended.
-abbrev pub pile_of : Box → Pile
-pile_of box = record {
-  first = box.first;
-  count = 1 + length box.others;
-  end = fold (λ end x. max end x.end) box.first.end box.others;
-}
-
 -- How many transmissions it has, and from when to when.
 abbrev pub many_words : Pile → List ℕ
 many_words pile =
     decimal pile.count ++ codes " transmissions, moments " ++ decimal pile.first.moment ++ codes " to " ++ decimal pile.end
     ++ garbled_words pile.first.garbled
 
--- The words of a box: of its one transmission, or of all.
-abbrev pub pile_words : Pile → List ℕ
-pile_words pile = if nat_eq pile.count 1 then sent_words pile.first else many_words pile
+-- The bit times that take more than a pixel.
+abbrev pub pixel_bits : Scale → ℕ
+pixel_bits scale = pixel * (scale.to - scale.from) / scale.width + 1
+
+-- How many bit times a box is drawn for: from the begin of its first transmission to the end of all, and no less than a pixel.
+abbrev pub drawn_bits : Scale → Pile → ℕ
+drawn_bits scale pile = max (pile.end - pile.first.moment) (pixel_bits scale)
+
+-- How many of so many are busy, in words.
+abbrev pub busy_words : ℕ → ℕ → List ℕ
+busy_words busy bits = codes ", busy " ++ decimal busy ++ codes " of " ++ decimal bits ++ codes " bit times"
+
+-- The same of a box of what takes less than a pixel.
+abbrev pub share_words : Scale → Pile → List ℕ
+share_words scale pile = if is_thin scale pile.first then busy_words pile.busy (drawn_bits scale pile) else []
+
+-- The words of its transmissions: of one, or of all.
+abbrev pub members_words : Pile → List ℕ
+members_words pile = if nat_eq pile.count 1 then sent_words pile.first else many_words pile
+
+-- The words of a box; of one that takes less than a pixel, or has several that do, with how much of it is busy.
+abbrev pub pile_words : Scale → Pile → List ℕ
+pile_words scale pile = members_words pile ++ share_words scale pile
+
+-- The height of a box of transmissions that take less than a pixel: the share of what is drawn that is busy.
+abbrev pub share_height : Scale → Pile → ℕ
+share_height scale pile = min (max (box_height * pile.busy / drawn_bits scale pile) least_height) box_height
+
+-- The height of a box.
+abbrev pub pile_height : Scale → Pile → ℕ
+pile_height scale pile = if is_thin scale pile.first then share_height scale pile else box_height

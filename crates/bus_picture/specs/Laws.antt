@@ -1,5 +1,5 @@
 -- What follows of the definitions. The contracts of `laws` say that each of these holds.
-use Rattle.std.specs.Prelude.{◌≡◌, ◌↔◌, ℕ, ◌+◌, ◌≤◌, true, IsTrue, List, [], ◌∷◌, length, filter, ⊤}
+use Rattle.std.specs.Prelude.{◌≡◌, ◌↔◌, ℕ, ◌+◌, ◌*◌, ◌<◌, ◌≤◌, ◌⊎◌, true, IsTrue, List, [], ◌∷◌, length, filter, ⊤}
 use Rattle.std.specs.List.{AllByRecursion, count_by, flat_map, sum_by}
 use Rattle.bus_strings.specs.Members.{In}
 use Rattle.bus_strings.specs.Messages.{Entry}
@@ -9,15 +9,19 @@ use Rattle.bus_table.specs.Valid.{is_valid}
 use Rattle.bus_trace.specs.Traces.{Recording, IsTrace}
 use Rattle.bus_dump.specs.declared.lane.Lane.{Lane}
 use Rattle.bus_dump.specs.Lanes.{lanes}
+use Rattle.bus_shapes.specs.declared.area.Area.{Area}
 use Rattle.bus_shapes.specs.declared.class.Class.TheVariants.{Garbled}
 use Rattle.bus_shapes.specs.declared.scale.Scale.{Scale}
 use Rattle.bus_shapes.specs.declared.sent.Sent.{Sent}
+use Rattle.bus_shapes.specs.Measures.{pixel}
+use Rattle.bus_shapes.specs.Scales.{place}
 use Rattle.bus_shapes.specs.Sending.{sents}
 use Rattle.bus_shapes.specs.SendingLaws.{IsToldOf}
-use Rattle.bus_picture.specs.Boxes.{Box, Pile, boxes, members, pile_of}
+use Rattle.bus_picture.specs.Boxes.{Box, Pile, boxes, grown, members, one, pile_of}
 use Rattle.bus_picture.specs.Rows.{Row, box_area, box_class, shown, shows}
 use Rattle.bus_picture.specs.TimeLines.{bus_rows, counts_of, is_shown, rows_of, rows_of_lanes}
-use Rattle.bus_picture.specs.Measures.{row_height}
+use Rattle.bus_picture.specs.Marks.{head_dash, lower_dash, upper_dash}
+use Rattle.bus_picture.specs.Measures.{breach_line, plot_top, row_height, words_depth}
 
 -- ---- boxes
 -- The transmissions of the boxes of a row, one after the other, are those that the row shows, in order: so each of these is in exactly one
@@ -30,15 +34,16 @@ BoxesHoldRows =
 abbrev pub HatchedAreGarbled : Type 0
 HatchedAreGarbled =
     (scale : Scale) (row : Row) (list : List Entry) (box : Box) (x : Sent) → In box (boxes scale (shown scale row list))
-    → In x (members box) → IsToldOf list x × ((box_class row ≡ Garbled) ↔ (garbled list x.at ≡ true))
+    → In x (members box) → IsToldOf list x × ((box_class scale row (pile_of box) ≡ Garbled) ↔ (garbled list x.at ≡ true))
 
 -- A box goes from the begin of its first transmission, before which none of it begins, to the end of one of them, behind which none of it
--- ends.
+-- ends; and it counts them.
 pub record HoldsIts (box : Box) : Type 0 where
   pub within : AllByRecursion (λ (x : Sent). (box.first.moment ≤ x.moment) × (x.end ≤ (pile_of box).end)) (members box)
   pub last : Sent
   pub held : In last (members box)
   pub ends : last.end ≡ (pile_of box).end
+  pub count : (pile_of box).count ≡ length (members box)
 
 -- Each box of a row of a list in order does so.
 abbrev pub BoxesHoldTheirs : Type 0
@@ -46,9 +51,19 @@ BoxesHoldTheirs =
     (scale : Scale) (row : Row) (list : List Entry) (box : Box) → IsByMoment list → In box (boxes scale (shown scale row list))
     → HoldsIts box
 
+-- Less than a pixel lies between the end of what a box has so far and the begin of its next transmission.
+abbrev pub AreClose : Scale → Pile → List Sent → Type 0
+AreClose scale pile [] = ⊤
+AreClose scale pile (x ∷ xs) = (place scale x.moment < place scale pile.end + pixel) × AreClose scale (grown pile x) xs
+
+-- No box of a row covers quiet between two transmissions that takes a pixel.
+abbrev pub BoxesCoverNoQuiet : Type 0
+BoxesCoverNoQuiet =
+    (scale : Scale) (row : Row) (list : List Entry) (box : Box) → In box (boxes scale (shown scale row list))
+    → AreClose scale (one box.first) box.others
+
 -- ---- rows
--- All rows that are drawn after one of what is garbled lie below it. Boxes of the same row, timers and the words
--- at the breach may lie over a box.
+-- All rows that are drawn after one of what is garbled lie below it. Boxes of the same row and timers may lie over a box.
 abbrev pub AreUncovered : List Row → Type 0
 AreUncovered [] = ⊤
 AreUncovered (row ∷ rows) =
@@ -64,6 +79,23 @@ BoxesLieInRows =
     (scale : Scale) (row : Row) (pile : Pile)
     → (row.top ≤ (box_area scale row pile).top)
     × ((box_area scale row pile).top + (box_area scale row pile).height ≤ row.top + row_height)
+
+-- Of two areas one lies above the other.
+abbrev pub AreApart : Area → Area → Type 0
+AreApart a b = (a.top + a.height ≤ b.top) ⊎ (b.top + b.height ≤ a.top)
+
+-- No dash of the line at a breach lies over a box: not that above the plot, nor those of the bus, whose upper edge is that of the plot, and
+-- of lane k, whose upper edge lies k + 1 rows below that.
+pub record HidesNone (box : Area) (left width : ℕ) : Type 0 where
+  pub head : AreApart (head_dash left) box
+  pub upper : (k : ℕ) → AreApart (upper_dash left width (plot_top + row_height * k)) box
+  pub lower : (k : ℕ) → AreApart (lower_dash left width (plot_top + row_height * k)) box
+
+-- Neither the line at a breach nor its words hide a box, in no time line: the words stand above all boxes.
+abbrev pub BreachesHideNoBox : Type 0
+BreachesHideNoBox =
+    (scale : Scale) (bottom : ℕ) (lanes : List Lane) (row : Row) (pile : Pile) (left width : ℕ) → In row (rows_of bottom lanes)
+    → HidesNone (box_area scale row pile) left width × (breach_line + words_depth ≤ (box_area scale row pile).top)
 
 -- How many of these rows show a transmission.
 abbrev pub rows_with : Scale → List Row → Sent → ℕ

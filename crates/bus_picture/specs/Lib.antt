@@ -2,8 +2,14 @@ pub mod Measures
 pub mod Boxes
 pub mod Strings
 pub mod Rows
+pub mod Gaps
 pub mod Timers
 pub mod Legends
+pub mod Lanes
+pub mod Marks
+pub mod Paces
+pub mod Loads
 pub mod TimeLines
 pub mod Laws
+pub mod GapLaws
 pub mod inside

@@ -21,6 +21,14 @@ plot_width = 13800
 abbrev pub names_right : ℕ
 names_right = 1380
 
+-- Where the words on loads begin.
+abbrev pub load_left : ℕ
+load_left = 15340
+
+-- Where the words on how far starts lie apart begin.
+abbrev pub pace_left : ℕ
+pace_left = 200
+
 -- How far below its upper edge the name of the bus stands.
 abbrev pub bus_line : ℕ
 bus_line = 200
@@ -64,6 +72,10 @@ box_below = 60
 -- The height of a box.
 abbrev pub box_height : ℕ
 box_height = 180
+
+-- The least height of a box.
+abbrev pub least_height : ℕ
+least_height = 20
 
 -- How far below the upper edge of its row the box of a wordstring begins.
 abbrev pub string_below : ℕ
@@ -146,21 +158,25 @@ abbrev pub words_most : ℕ
 words_most = 14500
 
 -- The width of the line of a breach.
+abbrev pub line_width : ℕ
+line_width = 10
+
+-- The width of the line of a breach in the lane of its terminal.
 abbrev pub breach_width : ℕ
-breach_width = 24
+breach_width = 30
 
--- The height of its part above the boxes of a lane.
-abbrev pub breach_above : ℕ
-breach_above = 60
+-- Where the line of a breach begins, above the plot.
+abbrev pub head_top : ℕ
+head_top = 870
 
--- How far below the upper edge of the lane its part below them begins.
-abbrev pub breach_below : ℕ
-breach_below = 240
+-- The height of its part above the plot.
+abbrev pub head_height : ℕ
+head_height = 90
 
--- The height of that part.
-abbrev pub breach_rest : ℕ
-breach_rest = 80
-
--- How far below the upper edge of the lane the words of a breach stand.
+-- The line of the words of a breach.
 abbrev pub breach_line : ℕ
-breach_line = 312
+breach_line = 660
+
+-- How far words reach below their line, at most.
+abbrev pub words_depth : ℕ
+words_depth = 60

@@ -7,14 +7,14 @@ use Rattle.std.specs.List.{flat_map}
 use Rattle.std.specs.Option.{option_map_or}
 use Rattle.bus_strings.specs.Messages.{Entry}
 use Rattle.bus_shapes.specs.declared.class.Class.{Class}
-use Rattle.bus_shapes.specs.declared.class.Class.TheVariants.{Garbled, Message, Overlap, Span}
+use Rattle.bus_shapes.specs.declared.class.Class.TheVariants.{Garbled, Message, Overlap, Span, Wordstring}
 use Rattle.bus_shapes.specs.declared.sent.Sent.{Sent}
 use Rattle.bus_shapes.specs.declared.scale.Scale.{Scale}
 use Rattle.bus_shapes.specs.Scales.{extent, place}
 use Rattle.bus_shapes.specs.Sending.{sents}
 use Rattle.bus_shapes.specs.declared.area.Area.{Area}
 use Rattle.bus_shapes.specs.Shapes.{box_text, titled_text}
-use Rattle.bus_picture.specs.Boxes.{Pile, boxes, is_narrow, pile_of, pile_words}
+use Rattle.bus_picture.specs.Boxes.{Pile, boxes, is_narrow, pile_height, pile_of, pile_words}
 use Rattle.bus_picture.specs.Strings.{meets, strings_text}
 pub use Rattle.bus_picture.specs.declared.row.Row.{Row}
 use Rattle.bus_picture.specs.Measures.{box_below, box_height}
@@ -31,14 +31,18 @@ shows scale row x = is_of row x && beq x.garbled row.garbled && meets scale x.mo
 abbrev pub shown : Scale → Row → List Entry → List Sent
 shown scale row list = filter (shows scale row) (sents list)
 
--- How the boxes of a row look that isn't garbled.
-abbrev pub plain_class : Option ℕ → Class
-plain_class None = Span
-plain_class (Some terminal) = Message
+-- How a box of a lane looks that isn't garbled: filled as its wordstrings are, where it takes less than six pixels.
+abbrev pub message_class : Bool → Class
+message_class narrow = if narrow then Wordstring else Message
 
--- How the boxes of a row look: hatched where it is garbled.
-abbrev pub box_class : Row → Class
-box_class row = if row.garbled then Garbled else plain_class row.terminal
+-- How a box of a row looks that isn't garbled.
+abbrev pub plain_class : Option ℕ → Bool → Class
+plain_class None narrow = Span
+plain_class (Some terminal) narrow = message_class narrow
+
+-- How a box of a row looks: hatched where the row is garbled.
+abbrev pub box_class : Scale → Row → Pile → Class
+box_class scale row pile = if row.garbled then Garbled else plain_class row.terminal (is_narrow scale pile.first)
 
 -- What a box has of the scale: its left edge and its width, from its upper edge on.
 abbrev pub stretch : Scale → Pile → ℕ → ℕ → Area
@@ -64,14 +68,14 @@ abbrev pub more_text : Option ℕ → Scale → Row → List Entry → Pile → 
 more_text None scale row list pile = column_text scale row pile
 more_text (Some terminal) scale row list pile = inner_text scale row list pile
 
--- The area of a box.
+-- The area of a box, whose lower edge is that of all boxes of its row.
 abbrev pub box_area : Scale → Row → Pile → Area
-box_area scale row pile = stretch scale pile (row.top + box_below) box_height
+box_area scale row pile = stretch scale pile (row.top + box_below + (box_height - pile_height scale pile)) (pile_height scale pile)
 
 -- A box, with what is drawn beside it.
 abbrev pub pile_text : Scale → Row → List Entry → Pile → List ℕ
 pile_text scale row list pile =
-    titled_text (box_class row) (box_area scale row pile) (pile_words pile)
+    titled_text (box_class scale row pile) (box_area scale row pile) (pile_words scale pile)
     ++ more_text row.terminal scale row list pile
 
 -- A row: its boxes.

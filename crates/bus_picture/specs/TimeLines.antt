@@ -1,5 +1,5 @@
 -- The text of a time line.
-use Rattle.std.specs.Prelude.{ℕ, ◌+◌, ◌-◌, ◌*◌, ◌%◌, max, min, Bool, true, false, ◌&&◌, ◌==◌, nat_eq, nat_le, nat_lt, List, [], ◌∷◌}
+use Rattle.std.specs.Prelude.{ℕ, ◌+◌, ◌-◌, ◌%◌, Bool, true, false, ◌&&◌, ◌==◌, nat_eq, nat_lt, List, [], ◌∷◌}
 use Rattle.std.specs.Prelude.{◌++◌, length, codes, decimal, Option, Some, None, if◌then◌else◌}
 use Rattle.std.specs.List.{count_by, find}
 use Rattle.std.specs.Option.{option_map_or}
@@ -9,17 +9,14 @@ use Rattle.bus_table.specs.declared.mode.Mode.{Mode}
 use Rattle.bus_table.specs.declared.mode.Mode.TheVariants.{Aperiodic, Periodic}
 use Rattle.bus_trace.specs.Traces.{Recording}
 use Rattle.bus_strings.specs.Messages.{Entry}
-use Rattle.bus_audit.specs.Lines.{answer_words}
 use Rattle.bus_audit.specs.declared.answer.AuditAnswer.{AuditAnswer}
-use Rattle.bus_audit.specs.declared.answer.AuditAnswer.TheVariants.{Lawful, Breach}
 use Rattle.bus_dump.specs.declared.lane.Lane.{Lane}
 use Rattle.bus_dump.specs.Lanes.{lanes}
 use Rattle.bus_shapes.specs.declared.axis.Axis.{Axis}
 use Rattle.bus_shapes.specs.declared.axis.Unit.TheVariants.{BitTimes, Microseconds}
 use Rattle.bus_shapes.specs.Axes.{axis_text}
-use Rattle.bus_shapes.specs.declared.class.Class.{Class}
-use Rattle.bus_shapes.specs.declared.class.Class.TheVariants.{Band, BreachWords, Detail, Gap, Garbled, Grid, Interval, Noise}
-use Rattle.bus_shapes.specs.declared.class.Class.TheVariants.{Overlap, Small, Tick, Unobserved}
+use Rattle.bus_shapes.specs.declared.class.Class.TheVariants.{Band, Detail, Grid}
+use Rattle.bus_shapes.specs.declared.class.Class.TheVariants.{Tick, Unobserved}
 use Rattle.bus_shapes.specs.declared.class.Class.TheVariants as classes
 use Rattle.bus_shapes.specs.Frames.{frame_text, tail_text}
 use Rattle.bus_shapes.specs.declared.counts.Counts.{Counts}
@@ -29,20 +26,20 @@ use Rattle.bus_shapes.specs.Scales.{extent, place}
 use Rattle.bus_shapes.specs.Sending.{sents}
 use Rattle.bus_shapes.specs.Shapes.{box_text, titled_text, words_text}
 use Rattle.bus_shapes.specs.Windows.{Window}
+pub use Rattle.bus_picture.specs.Lanes.{each_lane, lane_top}
 use Rattle.bus_picture.specs.Legends.{legend_text}
+use Rattle.bus_picture.specs.Loads.{loads_text}
+use Rattle.bus_picture.specs.Marks.{breach_text}
+use Rattle.bus_picture.specs.Paces.{paces_text}
 use Rattle.bus_picture.specs.Rows.{Row, rows_text}
 use Rattle.bus_picture.specs.Strings.{meets}
 use Rattle.bus_picture.specs.Timers.{bus_timer, is_near, sender_timers}
-use Rattle.bus_picture.specs.Measures.{breach_above, breach_below, breach_line, breach_rest, breach_width, bus_line, foot_height}
+use Rattle.bus_picture.specs.Measures.{bus_line, foot_height}
 use Rattle.bus_picture.specs.Measures.{legend_below, lower_words, names_right}
 use Rattle.bus_picture.specs.Measures.{plot_left, plot_top, plot_width, row_height, terminal_line, tick_height, timers_line}
-use Rattle.bus_picture.specs.Measures.{upper_ticks, upper_words, words_least, words_most}
+use Rattle.bus_picture.specs.Measures.{upper_ticks, upper_words}
 
 -- ---- where things are
--- The upper edge of lane k, which is the lower edge of k lanes.
-abbrev pub lane_top : ℕ → ℕ
-lane_top k = plot_top + row_height * (k + 1)
-
 -- The scale of a window.
 abbrev pub scale_of : Window → Scale
 scale_of window = record { from = window.from; to = window.to; left = plot_left; width = plot_width }
@@ -95,11 +92,6 @@ lane_front table k lane =
     band_text k (lane_top k) ++ terminal_text (lane_top k) lane.terminal
     ++ option_map_or (sender_text table.mode (lane_top k)) (sender_of table lane.terminal) []
 
--- Something of each lane, in order, of which the first is lane k.
-abbrev pub each_lane : {X : Type 0} → (ℕ → Lane → List X) → ℕ → List Lane → List X
-each_lane of k [] = []
-each_lane of k (lane ∷ lanes) = of k lane ++ each_lane of (k + 1) lanes
-
 -- ---- the rows
 -- A row of one place: of what is garbled, or of what isn't.
 abbrev pub row_at : Option ℕ → ℕ → ℕ → Bool → Row
@@ -129,7 +121,7 @@ rows_of bottom lanes = bus_rows bottom ++ rows_of_lanes bottom lanes
 -- The timers of lane k, where its terminal is a sender.
 abbrev pub lane_timers : Scale → Table → List Entry → ℕ → Lane → List ℕ
 lane_timers scale table list k lane =
-    option_map_or (λ (sender : Sender). sender_timers scale list table.ti k (lane_top k) lane.terminal sender.tg)
+    option_map_or (λ (sender : Sender). sender_timers scale table list k (lane_top k) lane.terminal sender.tg)
     (sender_of table lane.terminal) []
 
 -- Those of the bus and of the lanes, where the scale is near enough.
@@ -163,40 +155,16 @@ lower_axis bottom = record { unit = BitTimes; words = bottom + lower_words; clas
 abbrev pub axes_text : Scale → ℕ → List ℕ
 axes_text scale bottom = axis_text scale upper_axis ++ axis_text scale (lower_axis bottom)
 
--- ---- the first breach
--- The middle of the words of a breach, so far from both edges that they have room.
-abbrev pub words_middle : ℕ → ℕ
-words_middle left = min (max left words_least) words_most
-
--- A part of the mark of a breach at a place: a box with this upper edge.
-abbrev pub mark_part : ℕ → ℕ → ℕ → List ℕ
-mark_part left top height = box_text classes.Breach (record { left = left; top = top; width = breach_width; height = height })
-
--- The mark of a breach at a place, in the lane with this upper edge: above and below the boxes of the lane, so that it hides none.
-abbrev pub mark_at : ℕ → ℕ → AuditAnswer → List ℕ
-mark_at left top answer =
-    mark_part left top breach_above ++ mark_part left (top + breach_below) breach_rest
-    ++ words_text BreachWords (words_middle left) (top + breach_line) (answer_words answer)
-
--- The mark of a breach at a moment, in the lane with this upper edge.
-abbrev pub mark_text : Scale → ℕ → ℕ → AuditAnswer → List ℕ
-mark_text scale top moment answer = mark_at (place scale moment) top answer
-
--- The first breach, in the lane of its terminal and where the scale has its moment.
-abbrev pub breach_text : Scale → AuditAnswer → ℕ → Lane → List ℕ
-breach_text scale (Lawful collided) k lane = []
-breach_text scale (Breach moment terminal kind) k lane =
-    if terminal == lane.terminal && nat_le scale.from moment && nat_lt moment scale.to
-    then mark_text scale (lane_top k) moment (Breach moment terminal kind) else []
-
 -- ---- the whole
 -- The plot, above a lower edge.
 abbrev pub plot_text : Scale → ℕ → List Lane → AuditAnswer → Table → Recording → List ℕ
 plot_text scale bottom lanes answer table trace =
-    words_text classes.Counts names_right (plot_top + bus_line) (codes "bus") ++ each_lane (lane_front table) 0 lanes
+    words_text classes.Counts names_right (plot_top + bus_line) (codes "bus") ++ paces_text scale lanes trace.list
+    ++ loads_text scale lanes trace.list
+    ++ each_lane (lane_front table) 0 lanes
     ++ axes_text scale bottom ++ unobserved_text scale bottom trace.horizon
     ++ rows_text scale trace.list (rows_of bottom lanes) ++ timers_text scale lanes table trace.list
-    ++ each_lane (breach_text scale answer) 0 lanes
+    ++ breach_text scale lanes answer
 
 -- A picture with these lanes.
 abbrev pub picture_text : Scale → List Lane → TableVerdict → AuditAnswer → Table → Recording → List ℕ

@@ -10,7 +10,11 @@ use Rattle.bus_shapes.specs.declared.scale.Scale.{Scale}
 use Rattle.bus_shapes.specs.declared.sent.Sent.{Sent}
 use Rattle.bus_shapes.specs.Scales.{extent, place}
 use Rattle.bus_shapes.specs.Sending.{sents}
-use Rattle.bus_shapes.specs.Shapes.{box_text, words_text}
+use Rattle.bus_shapes.specs.Shapes.{box_text, words_end, words_front, words_text}
+use Rattle.bus_table.specs.Tables.{Table}
+use Rattle.bus_table.specs.Timers.{quiet_of}
+use Rattle.bus_picture.specs.Gaps.{gap_before}
+use Rattle.bus_picture.specs.Gaps as gaps
 use Rattle.bus_picture.specs.Measures.{gap_below, gap_line, interval_below, interval_line}
 use Rattle.bus_picture.specs.Measures.{line_height, near_room, stroke_below, stroke_height}
 
@@ -22,14 +26,13 @@ is_near scale ti = nat_le (near_room * (scale.to - scale.from)) (ti * scale.widt
 abbrev pub line_area : Scale → ℕ → ℕ → ℕ → Area
 line_area scale top from to = record { left = place scale from; top = top; width = extent scale from to; height = line_height }
 
--- A gap: a line, and its name and its bit times above the middle.
-abbrev pub gap_at : Area → ℕ → List ℕ → ℕ → List ℕ
-gap_at area line name size =
-    box_text Gap area ++ words_text GapWords (area.left + area.width / 2) line (name ++ decimal size)
+-- The line of a gap, and the beginning of words above its middle.
+abbrev pub gap_front : Area → ℕ → List ℕ
+gap_front area line = box_text Gap area ++ words_front GapWords (area.left + area.width / 2) line
 
--- The same, of so many bit times from a moment on, in a row with this upper edge.
-abbrev pub gap_text : Scale → ℕ → ℕ → List ℕ → ℕ → List ℕ
-gap_text scale top from name size = gap_at (line_area scale (top + gap_below) from (from + size)) (top + gap_line) name size
+-- The same from one moment to another, in a row with this upper edge.
+abbrev pub gap_at : Scale → ℕ → ℕ → ℕ → List ℕ
+gap_at scale top from to = gap_front (line_area scale (top + gap_below) from to) (top + gap_line)
 
 -- ---- the bus
 -- Whether a transmission comes a synchronization gap or more behind all before it, and the scale has that gap.
@@ -42,10 +45,13 @@ is_behind_gap scale sg x =
 abbrev pub first_behind : Scale → ℕ → List Entry → Option Sent
 first_behind scale sg list = find (is_behind_gap scale sg) (sents list)
 
+-- A synchronization gap from a moment on.
+abbrev pub sync_gap : Scale → ℕ → ℕ → ℕ → List ℕ
+sync_gap scale top sg from = gap_at scale top from (from + sg) ++ codes "SG " ++ decimal sg ++ words_end
+
 -- The gap before it.
 abbrev pub bus_timer : Scale → ℕ → ℕ → List Entry → List ℕ
-bus_timer scale top sg list =
-    option_map_or (λ (x : Sent). gap_text scale top x.before (codes "SG ") sg) (first_behind scale sg list) []
+bus_timer scale top sg list = option_map_or (λ (x : Sent). sync_gap scale top sg x.before) (first_behind scale sg list) []
 
 -- ---- a lane
 -- Whether a transmission is of a terminal, and begins in the scale.
@@ -56,10 +62,18 @@ begins scale terminal x = x.terminal == terminal && nat_le scale.from x.moment &
 abbrev pub first_of : Scale → ℕ → List Entry → Option Sent
 first_of scale terminal list = find (begins scale terminal) (sents list)
 
--- The terminal gap before a moment, where the scale has it.
-abbrev pub terminal_gap : Scale → ℕ → ℕ → ℕ → List ℕ
-terminal_gap scale top moment tg =
-    if nat_le (scale.from + tg) moment then gap_text scale top (moment - tg) (codes "TG ") tg else []
+-- How much of a terminal gap there is, and of how much, where it isn't whole.
+abbrev pub gap_size : ℕ → gaps.Gap → List ℕ
+gap_size tg gap = (if nat_eq (gap.to - gap.from) tg then [] else decimal (gap.to - gap.from) ++ codes " of ") ++ decimal tg
+
+-- Whether there is one, of which some lies in the scale.
+abbrev pub has_gap : Scale → gaps.Gap → Bool
+has_gap scale gap = nat_lt gap.from gap.to && nat_lt scale.from gap.to
+
+-- A terminal gap.
+abbrev pub terminal_gap : Scale → ℕ → ℕ → gaps.Gap → List ℕ
+terminal_gap scale top tg gap =
+    if has_gap scale gap then gap_at scale top gap.from gap.to ++ codes "TG " ++ gap_size tg gap ++ words_end else []
 
 -- The transmit interval from a moment on.
 abbrev pub interval_text : Scale → ℕ → ℕ → ℕ → List ℕ
@@ -78,13 +92,17 @@ abbrev pub interval_words : Scale → ℕ → ℕ → ℕ → ℕ → List ℕ
 interval_words scale k top moment ti =
     if nat_eq k 0 then words_text IntervalWords (place scale (moment + ti)) (top + interval_line) (codes "TI " ++ decimal ti) else []
 
--- The timers of a sender in lane k, at a moment at which it begins to send.
-abbrev pub timers_at : Scale → ℕ → ℕ → ℕ → ℕ → ℕ → List ℕ
-timers_at scale k top ti tg moment =
-    terminal_gap scale top moment tg ++ interval_text scale top moment ti ++ interval_end scale top (moment + ti)
-    ++ interval_words scale k top moment ti
+-- The transmit interval of a sender in lane k, from a moment on at which it begins to send.
+abbrev pub interval_at : Scale → ℕ → ℕ → ℕ → ℕ → List ℕ
+interval_at scale k top ti moment =
+    interval_text scale top moment ti ++ interval_end scale top (moment + ti) ++ interval_words scale k top moment ti
 
--- The same, at its first transmission that begins in the scale.
-abbrev pub sender_timers : Scale → List Entry → ℕ → ℕ → ℕ → ℕ → ℕ → List ℕ
-sender_timers scale list ti k top terminal tg =
-    option_map_or (λ (x : Sent). timers_at scale k top ti tg x.moment) (first_of scale terminal list) []
+-- The timers of a sender in lane k, with its terminal gap, at a transmission: the terminal gap before that, and the transmit interval from
+-- there on.
+abbrev pub timers_at : Scale → Table → List Entry → ℕ → ℕ → ℕ → Sent → List ℕ
+timers_at scale table list k top tg x =
+    terminal_gap scale top tg (gap_before (quiet_of table) table.sg tg list x) ++ interval_at scale k top table.ti x.moment
+
+-- The same of a sender with this terminal, at its first transmission that begins in the scale.
+abbrev pub sender_timers : Scale → Table → List Entry → ℕ → ℕ → ℕ → ℕ → List ℕ
+sender_timers scale table list k top terminal tg = option_map_or (timers_at scale table list k top tg) (first_of scale terminal list) []

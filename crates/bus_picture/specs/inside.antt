@@ -1,2 +1,3 @@
 -- What the code keeps on its way: words that only contracts of private functions and proofs cite.
 pub mod Working
+pub mod Pacing

@@ -7,7 +7,7 @@ ghost use Rattle.bus_picture.specs.Rows as definition;
 ghost use Rattle.bus_picture.specs.inside.Working as working;
 ghost use Rattle.bus_picture.specs.inside.Working.{IsLast, IsPile, held};
 
-use crate::pile::{Pile, is_narrow, joins, put_pile_words};
+use crate::pile::{Pile, is_narrow, joins, pile_height, put_pile_words};
 use crate::places::meets;
 use crate::row::Row;
 use crate::strings::put_strings;
@@ -26,16 +26,23 @@ fn shows(scale: &Scale, row: &Row, sent: &Sent) -> bool
     is_of && sent.garbled == row.garbled && meets(scale, sent.moment, sent.end)
 }
 
-/// How the boxes of a row look.
-fn box_class(row: &Row) -> Class
-    ensures { result ≡ definition.box_class row.now }
+/// How a box of a row looks.
+fn box_class(scale: &Scale, row: &Row, pile: &Pile) -> Class
+    requires scale { IsScale scale.now }
+    requires pile { IsPile pile.now }
+    ensures { result ≡ definition.box_class scale.now row.now pile.now }
 {
     if row.garbled {
         return Class::Garbled;
     }
+    let narrow = is_narrow(scale, &pile.first);
     match row.terminal {
         None => Class::Span,
-        Some(_) => Class::Message,
+        Some(_) => if narrow {
+            Class::Wordstring
+        } else {
+            Class::Message
+        },
     }
 }
 
@@ -142,11 +149,35 @@ fn put_pile<K: Sink>(
     ensures { Adds K.held K.faults sink.old sink.new text.old text.new
         (definition.pile_text scale.now row.now list.now pile.now) }
 {
-    let area = stretch(scale, pile, row.top + 60, 180);
-    begin_titled(text, sink, box_class(row), area);
-    put_pile_words(text, sink, pile);
+    let height = pile_height(scale, pile);
+    let area = stretch(scale, pile, row.top + 60 + (180 - height), height);
+    begin_titled(text, sink, box_class(scale, row, pile), area);
+    put_pile_words(text, sink, scale, pile);
     end_titled(text, sink);
     put_more(text, sink, scale, row, list, pile);
+}
+
+/// A box, where the next transmission doesn't share it.
+fn put_unshared<K: Sink>(
+    text: &mut TextBuffer,
+    sink: &mut K,
+    scale: &Scale,
+    row: &Row,
+    list: &[Transmission],
+    pile: &Pile,
+    sent: &Sent,
+)
+    requires scale { IsScale scale.now }
+    requires pile { IsPile pile.now }
+    requires top { row.now.top < 2 ^ 40 }
+    requires order { row.now.top ≤ row.now.bottom }
+    ensures { Adds K.held K.faults sink.old sink.new text.old text.new
+        (working.unshared scale.now row.now list.now pile.now sent.now) }
+{
+    let shared = joins(scale, pile, sent);
+    if !shared {
+        put_pile(text, sink, scale, row, list, pile);
+    }
 }
 
 /// What is written where a transmission that is shown comes next: the box before, where it doesn't share that.
@@ -168,9 +199,7 @@ fn put_written<K: Sink>(
         (working.written scale.now row.now list.now last.now sent.now) }
 {
     if let Some(pile) = last {
-        if !joins(scale, &pile.first, sent) {
-            put_pile(text, sink, scale, row, list, pile);
-        }
+        put_unshared(text, sink, scale, row, list, pile, sent);
     }
 }
 
@@ -185,7 +214,7 @@ fn with_next(scale: &Scale, last: &Option<Pile>, sent: &Sent) -> Pile
     match last {
         None => Pile::one(*sent),
         Some(pile) => {
-            if joins(scale, &pile.first, sent) {
+            if joins(scale, pile, sent) {
                 pile.grown(sent)
             } else {
                 Pile::one(*sent)

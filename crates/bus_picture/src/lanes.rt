@@ -2,14 +2,12 @@
 ghost use Rattle.std.specs.Prelude.{◌≡◌, ◌<◌, ◌≤◌, ◌++◌, [], codes, decimal, length};
 ghost use Rattle.std.specs.Option.{option_map_or};
 ghost use Rattle.bus_outer.specs.Texts.{Adds};
-ghost use Rattle.bus_shapes.specs.Scales.{IsScale};
 ghost use Rattle.bus_picture.specs.TimeLines as definition;
 
 use crate::measures::{NAMES_RIGHT, PLOT_LEFT, PLOT_TOP, PLOT_WIDTH, ROW_HEIGHT};
-use bus_audit::{AuditAnswer, put_answer};
 use bus_dump::Lane;
 use bus_outer::{Sink, TextBuffer};
-use bus_shapes::{Area, Class, Scale, begin_words, end_words, put_box};
+use bus_shapes::{Area, Class, begin_words, end_words, put_box};
 use bus_table::{Mode, Sender, Table, sender_of};
 
 /// The upper edge of lane `k`.
@@ -126,106 +124,5 @@ pub(crate) fn put_fronts<K: Sink>(
 {
     for k in 0..lanes.len() {
         put_front(text, sink, table, k, lanes[k]);
-    }
-}
-
-/// The mark of a breach at a moment, in the lane with this upper edge.
-fn put_mark<K: Sink>(
-    text: &mut TextBuffer,
-    sink: &mut K,
-    scale: &Scale,
-    top: u64,
-    moment: u64,
-    answer: &AuditAnswer,
-)
-    requires scale { IsScale scale.now }
-    requires top { top < 100000 }
-    ensures { Adds K.held K.faults sink.old sink.new text.old text.new
-        (definition.mark_text scale.now top moment answer.now) }
-{
-    let left = scale.place(moment);
-    put_mark_at(text, sink, left, top, answer);
-}
-
-/// The middle of the words of a breach, so far from both edges that they have room.
-fn words_middle(left: u64) -> u64
-    ensures { result ≡ definition.words_middle left }
-{
-    left.max(2500).min(14500)
-}
-
-/// A part of the mark of a breach at a place.
-fn put_mark_part<K: Sink>(text: &mut TextBuffer, sink: &mut K, left: u64, top: u64, height: u64)
-    ensures { Adds K.held K.faults sink.old sink.new text.old text.new (definition.mark_part left top height) }
-{
-    let area = Area {
-        left,
-        top,
-        width: 24,
-        height,
-    };
-    put_box(text, sink, Class::Breach, area);
-}
-
-/// The mark of a breach at a place.
-fn put_mark_at<K: Sink>(
-    text: &mut TextBuffer,
-    sink: &mut K,
-    left: u64,
-    top: u64,
-    answer: &AuditAnswer,
-)
-    requires { top < 100000 }
-    ensures { Adds K.held K.faults sink.old sink.new text.old text.new (definition.mark_at left top answer.now) }
-{
-    put_mark_part(text, sink, left, top, 60);
-    put_mark_part(text, sink, left, top + 240, 80);
-    let middle = words_middle(left);
-    begin_words(text, sink, Class::BreachWords, middle, top + 312);
-    put_answer(text, sink, answer);
-    end_words(text, sink);
-}
-
-/// The first breach, in lane `k` where that is of its terminal.
-fn put_breach<K: Sink>(
-    text: &mut TextBuffer,
-    sink: &mut K,
-    scale: &Scale,
-    answer: &AuditAnswer,
-    k: usize,
-    lane: Lane,
-)
-    requires scale { IsScale scale.now }
-    requires few { k ≤ 256 }
-    ensures { Adds K.held K.faults sink.old sink.new text.old text.new
-        (definition.breach_text scale.now answer.now k lane) }
-{
-    if let AuditAnswer::Breach {
-        moment,
-        terminal,
-        ..
-    } = *answer
-    {
-        if terminal == lane.terminal && scale.from <= moment && moment < scale.to {
-            put_mark(text, sink, scale, lane_top(k), moment, answer);
-        }
-    }
-}
-
-/// The first breach, in its lane.
-pub(crate) fn put_breaches<K: Sink>(
-    text: &mut TextBuffer,
-    sink: &mut K,
-    scale: &Scale,
-    answer: &AuditAnswer,
-    lanes: &[Lane],
-)
-    requires scale { IsScale scale.now }
-    requires few { length lanes.now ≤ 256 }
-    ensures { Adds K.held K.faults sink.old sink.new text.old text.new
-        (definition.each_lane (definition.breach_text scale.now answer.now) 0 lanes.now) }
-{
-    for k in 0..lanes.len() {
-        put_breach(text, sink, scale, answer, k, lanes[k]);
     }
 }

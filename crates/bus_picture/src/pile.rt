@@ -3,7 +3,8 @@ ghost use Rattle.std.specs.Prelude.{◌≡◌, ◌<◌, ◌≤◌, ◌^◌};
 ghost use Rattle.bus_outer.specs.Texts.{Adds};
 ghost use Rattle.bus_shapes.specs.Scales.{IsScale};
 ghost use Rattle.bus_picture.specs.Boxes as definition;
-ghost use Rattle.bus_picture.specs.inside.Working.{grown, one};
+ghost use Rattle.bus_picture.specs.Boxes.{grown, one};
+ghost use Rattle.bus_picture.specs.inside.Working.{IsPile};
 
 use bus_outer::{Sink, TextBuffer};
 use bus_shapes::{Scale, Sent, put_garbled, put_sent};
@@ -17,6 +18,16 @@ pub struct Pile {
     pub count: u64,
     /// The moment at which all have ended.
     pub end: u64,
+    /// For how many bit times one of them is sent.
+    pub busy: u64,
+}
+
+/// Whether a transmission takes less than a pixel.
+pub(crate) fn is_thin(scale: &Scale, sent: &Sent) -> bool
+    requires { IsScale scale.now }
+    ensures { result ≡ definition.is_thin scale.now sent.now }
+{
+    scale.place(sent.end) < scale.place(sent.moment) + 10
 }
 
 /// Whether a transmission takes less than six pixels.
@@ -36,14 +47,23 @@ fn bucket(scale: &Scale, sent: &Sent) -> u64
     scale.place(sent.moment) / 60
 }
 
-/// Whether the second transmission shares the box of the first.
-pub(crate) fn joins(scale: &Scale, first: &Sent, next: &Sent) -> bool
-    requires scale { IsScale scale.now }
-    requires first { first.now.moment ≤ first.now.end }
-    requires next { next.now.moment ≤ next.now.end }
-    ensures { result ≡ definition.joins scale.now first.now next.now }
+/// Whether a transmission begins less than a pixel behind a moment.
+fn is_close(scale: &Scale, end: u64, sent: &Sent) -> bool
+    requires { IsScale scale.now }
+    ensures { result ≡ definition.is_close scale.now end sent.now }
 {
-    is_narrow(scale, first) && is_narrow(scale, next) && bucket(scale, first) == bucket(scale, next)
+    scale.place(sent.moment) < scale.place(end) + 10
+}
+
+/// Whether the next transmission shares a box.
+pub(crate) fn joins(scale: &Scale, pile: &Pile, next: &Sent) -> bool
+    requires { IsScale scale.now }
+    ensures { result ≡ definition.joins scale.now pile.now next.now }
+{
+    is_thin(scale, &pile.first)
+        && is_thin(scale, next)
+        && bucket(scale, &pile.first) == bucket(scale, next)
+        && is_close(scale, pile.end, next)
 }
 
 impl Pile {
@@ -55,18 +75,21 @@ impl Pile {
             first: sent,
             count: 1,
             end: sent.end,
+            busy: sent.end.saturating_sub(sent.moment),
         }
     }
 
     /// A box with one more.
     pub fn grown(self, sent: &Sent) -> Pile
-        requires { self.count < 2 ^ 63 }
+        requires few { self.count < 2 ^ 63 }
+        requires pile { IsPile self }
         ensures { result ≡ grown self sent.now }
     {
         Pile {
             first: self.first,
             count: self.count + 1,
             end: self.end.max(sent.end),
+            busy: self.busy + sent.end.saturating_sub(self.end.max(sent.moment)),
         }
     }
 }
@@ -83,14 +106,88 @@ fn put_many<K: Sink>(text: &mut TextBuffer, sink: &mut K, pile: &Pile)
     put_garbled(text, sink, pile.first.garbled);
 }
 
-/// The words of a box.
-pub(crate) fn put_pile_words<K: Sink>(text: &mut TextBuffer, sink: &mut K, pile: &Pile)
+/// How many bit times a box is drawn for.
+fn drawn_bits(scale: &Scale, pile: &Pile) -> u64
+    requires scale { IsScale scale.now }
+    requires pile { IsPile pile.now }
+    ensures value { result ≡ definition.drawn_bits scale.now pile.now }
+    ensures some { 0 < result }
+{
+    let pixel = 10 * (scale.to - scale.from) / scale.width + 1;
+    (pile.end - pile.first.moment).max(pixel)
+}
+
+/// The words of the transmissions of a box.
+fn put_members<K: Sink>(text: &mut TextBuffer, sink: &mut K, pile: &Pile)
     requires { pile.now.first.moment ≤ pile.now.first.end }
-    ensures { Adds K.held K.faults sink.old sink.new text.old text.new (definition.pile_words pile.now) }
+    ensures { Adds K.held K.faults sink.old sink.new text.old text.new (definition.members_words pile.now) }
 {
     if pile.count == 1 {
         put_sent(text, sink, &pile.first);
     } else {
         put_many(text, sink, pile);
+    }
+}
+
+/// How many of so many bit times are busy.
+fn put_busy<K: Sink>(text: &mut TextBuffer, sink: &mut K, busy: u64, bits: u64)
+    ensures { Adds K.held K.faults sink.old sink.new text.old text.new (definition.busy_words busy bits) }
+{
+    text.put(sink, b", busy ");
+    text.put_number(sink, busy);
+    text.put(sink, b" of ");
+    text.put_number(sink, bits);
+    text.put(sink, b" bit times");
+}
+
+/// The same of a box of what takes less than a pixel.
+fn put_share<K: Sink>(text: &mut TextBuffer, sink: &mut K, scale: &Scale, pile: &Pile)
+    requires scale { IsScale scale.now }
+    requires pile { IsPile pile.now }
+    ensures { Adds K.held K.faults sink.old sink.new text.old text.new (definition.share_words scale.now pile.now) }
+{
+    let bits = drawn_bits(scale, pile);
+    if is_thin(scale, &pile.first) {
+        put_busy(text, sink, pile.busy, bits);
+    }
+}
+
+/// The words of a box.
+pub(crate) fn put_pile_words<K: Sink>(
+    text: &mut TextBuffer,
+    sink: &mut K,
+    scale: &Scale,
+    pile: &Pile,
+)
+    requires scale { IsScale scale.now }
+    requires pile { IsPile pile.now }
+    ensures { Adds K.held K.faults sink.old sink.new text.old text.new (definition.pile_words scale.now pile.now) }
+{
+    put_members(text, sink, pile);
+    put_share(text, sink, scale, pile);
+}
+
+/// The height of a box of transmissions that take less than a pixel.
+fn share_height(scale: &Scale, pile: &Pile) -> u64
+    requires scale { IsScale scale.now }
+    requires pile { IsPile pile.now }
+    ensures value { result ≡ definition.share_height scale.now pile.now }
+    ensures most { result ≤ 180 }
+{
+    let share = 180 * u128::from(pile.busy) / u128::from(drawn_bits(scale, pile));
+    share.max(20).min(180) as u64
+}
+
+/// The height of a box.
+pub(crate) fn pile_height(scale: &Scale, pile: &Pile) -> u64
+    requires scale { IsScale scale.now }
+    requires pile { IsPile pile.now }
+    ensures value { result ≡ definition.pile_height scale.now pile.now }
+    ensures most { result ≤ 180 }
+{
+    if is_thin(scale, &pile.first) {
+        share_height(scale, pile)
+    } else {
+        180
     }
 }

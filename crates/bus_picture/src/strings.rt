@@ -196,7 +196,7 @@ fn pulse_moments(x: &Transmission, k: u32) -> (u64, u64)
 }
 
 /// Wordstring `k` of a transmission.
-fn string_of(x: &Transmission, k: u32) -> &Wordstring
+pub(crate) fn string_of(x: &Transmission, k: u32) -> &Wordstring
     requires { k < length x.now.message }
     ensures { slice_get x.now.message k ≡ Some result.now }
 {

@@ -6,10 +6,12 @@ ghost use Rattle.bus_shapes.specs.Scales.{IsScale};
 ghost use Rattle.bus_picture.specs.Timers as definition;
 ghost use Rattle.bus_picture.specs.TimeLines as whole;
 
+use crate::heard::{Gap, gap_before};
 use crate::lanes::lane_top;
 use crate::measures::PLOT_TOP;
 use bus_dump::Lane;
 use bus_outer::{Sink, TextBuffer};
+use bus_shapes::laws::sents_are_told;
 use bus_shapes::{Area, Class, Scale, Sent, Sents, begin_words, end_words, put_box};
 use bus_strings::Transmission;
 use bus_strings::laws::neighbours_tell;
@@ -40,18 +42,11 @@ fn line_area(scale: &Scale, top: u64, from: u64, to: u64) -> Area
     }
 }
 
-/// A gap: a line, and its name and its bit times above the middle.
-fn put_gap_at<K: Sink>(
-    text: &mut TextBuffer,
-    sink: &mut K,
-    area: Area,
-    line: u64,
-    name: &[u8],
-    size: u32,
-)
+/// The line of a gap, and the beginning of words above its middle.
+fn begin_gap_at<K: Sink>(text: &mut TextBuffer, sink: &mut K, area: Area, line: u64)
     requires left { area.left < 2 ^ 22 }
     requires width { area.width < 2 ^ 22 }
-    ensures { Adds K.held K.faults sink.old sink.new text.old text.new (definition.gap_at area line name.now size) }
+    ensures { Adds K.held K.faults sink.old sink.new text.old text.new (definition.gap_front area line) }
 {
     put_box(text, sink, Class::Gap, area);
     begin_words(
@@ -61,29 +56,25 @@ fn put_gap_at<K: Sink>(
         area.left + area.width / 2,
         line,
     );
-    text.put(sink, name);
-    text.put_number(sink, size);
-    end_words(text, sink);
 }
 
-/// The same, of so many bit times from a moment on.
-fn put_gap<K: Sink>(
+/// The same from one moment to another.
+fn begin_gap<K: Sink>(
     text: &mut TextBuffer,
     sink: &mut K,
     scale: &Scale,
     top: u64,
     from: u64,
-    name: &[u8],
-    size: u32,
+    to: u64,
 )
     requires scale { IsScale scale.now }
     requires top { top < 100000 }
-    requires from { from ≤ 2 ^ 41 }
+    requires order { from ≤ to }
     ensures { Adds K.held K.faults sink.old sink.new text.old text.new
-        (definition.gap_text scale.now top from name.now size) }
+        (definition.gap_at scale.now top from to) }
 {
-    let area = line_area(scale, top + 143, from, from + u64::from(size));
-    put_gap_at(text, sink, area, top + 118, name, size);
+    let area = line_area(scale, top + 143, from, to);
+    begin_gap_at(text, sink, area, top + 118);
 }
 
 /// Whether a transmission comes a synchronization gap or more behind all before it, and the scale has that gap.
@@ -114,6 +105,26 @@ fn first_behind(scale: &Scale, sg: u32, list: &[Transmission]) -> Option<Sent>
     None
 }
 
+/// A synchronization gap from a moment on.
+fn put_sync_gap<K: Sink>(
+    text: &mut TextBuffer,
+    sink: &mut K,
+    scale: &Scale,
+    top: u64,
+    sg: u32,
+    from: u64,
+)
+    requires scale { IsScale scale.now }
+    requires top { top < 100000 }
+    requires low { from ≤ 2 ^ 41 }
+    ensures { Adds K.held K.faults sink.old sink.new text.old text.new (definition.sync_gap scale.now top sg from) }
+{
+    begin_gap(text, sink, scale, top, from, from + u64::from(sg));
+    text.put(sink, b"SG ");
+    text.put_number(sink, sg);
+    end_words(text, sink);
+}
+
 /// The gap before it.
 fn put_bus_timer<K: Sink>(
     text: &mut TextBuffer,
@@ -130,7 +141,7 @@ fn put_bus_timer<K: Sink>(
         (definition.bus_timer scale.now top sg list.now) }
 {
     if let Some(sent) = first_behind(scale, sg, list) {
-        put_gap(text, sink, scale, top, sent.before, b"SG ", sg);
+        put_sync_gap(text, sink, scale, top, sg, sent.before);
     }
 }
 
@@ -147,7 +158,9 @@ fn first_of(scale: &Scale, terminal: u8, list: &[Transmission]) -> Option<Sent>
     requires { IsByMoment list.now }
     ensures value { result ≡ definition.first_of scale.now terminal list.now }
     ensures low { IfSome result (λ x. x.moment ≤ scale.now.to) }
+    ensures within { IfSome result (λ x. x.at ≤ length list.now) }
 {
+    sents_are_told();
     for sent in Sents::new(list) {
         if begins(scale, terminal, &sent) {
             return Some(sent);
@@ -156,22 +169,37 @@ fn first_of(scale: &Scale, terminal: u8, list: &[Transmission]) -> Option<Sent>
     None
 }
 
-/// The terminal gap before a moment, where the scale has it.
+/// How much of a terminal gap there is, and of how much, where it isn't whole.
+fn put_gap_size<K: Sink>(text: &mut TextBuffer, sink: &mut K, tg: u32, gap: Gap)
+    requires { gap.from ≤ gap.to }
+    ensures { Adds K.held K.faults sink.old sink.new text.old text.new (definition.gap_size tg gap) }
+{
+    let size = gap.to - gap.from;
+    if size != u64::from(tg) {
+        text.put_number(sink, size);
+        text.put(sink, b" of ");
+    }
+    text.put_number(sink, tg);
+}
+
+/// A terminal gap, where some of it lies in the scale.
 fn put_terminal_gap<K: Sink>(
     text: &mut TextBuffer,
     sink: &mut K,
     scale: &Scale,
     top: u64,
-    moment: u64,
     tg: u32,
+    gap: Gap,
 )
     requires scale { IsScale scale.now }
     requires top { top < 100000 }
-    requires low { moment ≤ 2 ^ 41 }
-    ensures { Adds K.held K.faults sink.old sink.new text.old text.new (definition.terminal_gap scale.now top moment tg) }
+    ensures { Adds K.held K.faults sink.old sink.new text.old text.new (definition.terminal_gap scale.now top tg gap) }
 {
-    if scale.from + u64::from(tg) <= moment {
-        put_gap(text, sink, scale, top, moment - u64::from(tg), b"TG ", tg);
+    if gap.from < gap.to && scale.from < gap.to {
+        begin_gap(text, sink, scale, top, gap.from, gap.to);
+        text.put(sink, b"TG ");
+        put_gap_size(text, sink, tg, gap);
+        end_words(text, sink);
     }
 }
 
@@ -235,36 +263,59 @@ fn put_interval_words<K: Sink>(
     }
 }
 
-/// The timers of a sender in lane `k`, at a moment at which it begins to send.
-fn put_timers_at<K: Sink>(
+/// The transmit interval of a sender in lane `k`, from a moment on at which it begins to send.
+fn put_interval_at<K: Sink>(
     text: &mut TextBuffer,
     sink: &mut K,
     scale: &Scale,
     k: usize,
     top: u64,
     ti: u32,
-    tg: u32,
     moment: u64,
 )
     requires scale { IsScale scale.now }
     requires top { top < 100000 }
     requires low { moment ≤ 2 ^ 41 }
     ensures { Adds K.held K.faults sink.old sink.new text.old text.new
-        (definition.timers_at scale.now k top ti tg moment) }
+        (definition.interval_at scale.now k top ti moment) }
 {
-    put_terminal_gap(text, sink, scale, top, moment, tg);
     put_interval(text, sink, scale, top, moment, ti);
     put_interval_end(text, sink, scale, top, moment + u64::from(ti));
     put_interval_words(text, sink, scale, k, top, moment, ti);
 }
 
-/// The same, at its first transmission that begins in the scale.
+/// The timers of a sender in lane `k`, at one of its transmissions.
+fn put_timers_at<K: Sink>(
+    text: &mut TextBuffer,
+    sink: &mut K,
+    scale: &Scale,
+    table: &Table,
+    list: &[Transmission],
+    k: usize,
+    top: u64,
+    tg: u32,
+    sent: &Sent,
+)
+    requires scale { IsScale scale.now }
+    requires top { top < 100000 }
+    requires low { sent.now.moment ≤ 2 ^ 41 }
+    requires within { sent.now.at ≤ length list.now }
+    ensures { Adds K.held K.faults sink.old sink.new text.old text.new
+        (definition.timers_at scale.now table.now list.now k top tg sent.now) }
+{
+    let gap = gap_before(table, tg, list, sent);
+    let ti = table.ti();
+    put_terminal_gap(text, sink, scale, top, tg, gap);
+    put_interval_at(text, sink, scale, k, top, ti, sent.moment);
+}
+
+/// The timers of a sender in lane `k`, at its first transmission that begins in the scale.
 fn put_sender_timers<K: Sink>(
     text: &mut TextBuffer,
     sink: &mut K,
     scale: &Scale,
+    table: &Table,
     list: &[Transmission],
-    ti: u32,
     k: usize,
     top: u64,
     terminal: u8,
@@ -274,10 +325,10 @@ fn put_sender_timers<K: Sink>(
     requires by_moment { IsByMoment list.now }
     requires top { top < 100000 }
     ensures { Adds K.held K.faults sink.old sink.new text.old text.new
-        (definition.sender_timers scale.now list.now ti k top terminal tg) }
+        (definition.sender_timers scale.now table.now list.now k top terminal tg) }
 {
     if let Some(sent) = first_of(scale, terminal, list) {
-        put_timers_at(text, sink, scale, k, top, ti, tg, sent.moment);
+        put_timers_at(text, sink, scale, table, list, k, top, tg, &sent);
     }
 }
 
@@ -297,11 +348,10 @@ fn put_lane_timers<K: Sink>(
     ensures { Adds K.held K.faults sink.old sink.new text.old text.new
         (whole.lane_timers scale.now table.now list.now k lane) }
 {
-    let ti = table.ti();
     let top = lane_top(k);
     if let Some(sender) = sender_of(table.senders(), lane.terminal) {
         let tg = sender.tg();
-        put_sender_timers(text, sink, scale, list, ti, k, top, lane.terminal, tg);
+        put_sender_timers(text, sink, scale, table, list, k, top, lane.terminal, tg);
     }
 }
 

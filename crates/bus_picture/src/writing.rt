@@ -7,9 +7,12 @@ ghost use Rattle.bus_picture.specs.TimeLines.{time_line_text};
 ghost use Rattle.bus_picture.specs.TimeLines as definition;
 
 use crate::counting::counts;
-use crate::lanes::{lane_top, put_breaches, put_fronts};
+use crate::lanes::{lane_top, put_fronts};
 use crate::legend::put_legend;
+use crate::load::put_loads;
+use crate::marks::put_breach;
 use crate::measures::{NAMES_RIGHT, PLOT_LEFT, PLOT_TOP, PLOT_WIDTH};
+use crate::pace::put_paces;
 use crate::rows::put_rows;
 use crate::timers::put_timers;
 use bus_audit::AuditAnswer;
@@ -113,13 +116,16 @@ fn put_plot<K: Sink>(
         PLOT_TOP + 200,
         b"bus",
     );
+    let list = trace.list();
+    put_paces(text, sink, scale, lanes, list);
+    put_loads(text, sink, scale, lanes, list);
     put_fronts(text, sink, table, lanes);
     put_axes(text, sink, scale, bottom);
     let horizon = trace.horizon();
     put_unobserved(text, sink, scale, bottom, horizon);
     put_rows(text, sink, scale, bottom, lanes, trace);
     put_timers(text, sink, scale, lanes, table, trace);
-    put_breaches(text, sink, scale, answer, lanes);
+    put_breach(text, sink, scale, lanes, answer);
 }
 
 /// A picture with these lanes.
@@ -147,7 +153,7 @@ fn put_picture<K: Sink>(
 }
 
 /// Writes the time line of a trace in a window, with the words of the verdict on the table and of the answer of the audit. It goes over the
-/// trace two or three times for each lane, and takes no memory.
+/// trace up to six times for each lane, and takes no memory.
 ///
 /// At `WriteFault` the sink has taken a front of the text, and its count of faults rose.
 pub fn write_time_line<K: Sink>(

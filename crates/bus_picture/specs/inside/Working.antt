@@ -1,5 +1,5 @@
 -- What a writer of a row keeps: the last box so far, which may still grow.
-use Rattle.std.specs.Prelude.{◌≡◌, ℕ, ◌+◌, ◌≤◌, max, List, [], ◌∷◌, ◌++◌, length, ⊤, Option, Some, None, if◌then◌else◌}
+use Rattle.std.specs.Prelude.{◌≡◌, ℕ, ◌+◌, ◌≤◌, List, [], ◌∷◌, ◌++◌, length, ⊤, Option, Some, None, if◌then◌else◌}
 use Rattle.std.specs.List.{AllByRecursion}
 use Rattle.std.specs.Option.{option_map_or}
 use Rattle.bus_strings.specs.Messages.{Entry}
@@ -7,26 +7,22 @@ use Rattle.bus_shapes.specs.declared.sent.Sent.{Sent}
 use Rattle.bus_shapes.specs.declared.scale.Scale.{Scale}
 use Rattle.bus_shapes.specs.Sending.{sents}
 use Rattle.bus_shapes.specs.SendingLaws.{IsInOrder}
-use Rattle.bus_picture.specs.Boxes.{Pile, joins}
+use Rattle.bus_picture.specs.Boxes.{Pile, grown, joins, one}
 use Rattle.bus_picture.specs.Rows.{Row, pile_text, shows}
-
--- A box of one transmission.
-abbrev pub one : Sent → Pile
-one x = record { first = x; count = 1; end = x.end }
-
--- A box with one transmission more.
-abbrev pub grown : Pile → Sent → Pile
-grown pile x = record { first = pile.first; count = pile.count + 1; end = max pile.end x.end }
 
 -- The last box where x, which is shown, comes next.
 abbrev pub with_next : Scale → Option Pile → Sent → Pile
 with_next scale None x = one x
-with_next scale (Some pile) x = if joins scale pile.first x then grown pile x else one x
+with_next scale (Some pile) x = if joins scale pile x then grown pile x else one x
+
+-- A box, where x doesn't share it.
+abbrev pub unshared : Scale → Row → List Entry → Pile → Sent → List ℕ
+unshared scale row list pile x = if joins scale pile x then [] else pile_text scale row list pile
 
 -- What is written then: the box before, where x doesn't share it.
 abbrev pub written : Scale → Row → List Entry → Option Pile → Sent → List ℕ
 written scale row list None x = []
-written scale row list (Some pile) x = if joins scale pile.first x then [] else pile_text scale row list pile
+written scale row list (Some pile) x = unshared scale row list pile x
 
 -- The last box where x comes next, shown or not.
 abbrev pub next_pile : Scale → Row → Option Pile → Sent → Option Pile
@@ -51,10 +47,10 @@ abbrev pub held : Option Pile → ℕ
 held None = 0
 held (Some pile) = pile.count
 
--- A box ends no earlier than it begins, and so does its first transmission.
+-- A box ends no earlier than it begins, and so does its first transmission; and it is busy for no longer than it takes.
 pub record IsPile (pile : Pile) : Type 0 where
   pub first : pile.first.moment ≤ pile.first.end
-  pub later : pile.first.moment ≤ pile.end
+  pub later : pile.first.moment + pile.busy ≤ pile.end
 
 -- The last box, where there is one.
 abbrev pub IsLast : Option Pile → Type 0

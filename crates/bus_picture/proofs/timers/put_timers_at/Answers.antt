@@ -1,13 +1,17 @@
-use Rattle.std.proofs.Common.{ℕ, ◌+◌, subst}
+use Rattle.std.proofs.Common.{ℕ, ◌++◌, subst}
 use Rattle.bus_outer.specs.Texts.{Adds}
 use Rattle.bus_outer.proofs.TextLaws.{◌▸◌}
-use Rattle.bus_picture.specs.Timers.{interval_end}
+use Rattle.bus_picture.specs.Gaps.{Gap, gap_before}
+use Rattle.bus_table.specs.Timers.{quiet_of}
+use Rattle.bus_picture.specs.Timers.{interval_at, terminal_gap}
 use Rattle.bus_picture.proofs.timers.put_timers_at.Goals as goal
 
 pub returns : goal.returns
 returns g c =
-    c.put_terminal_gap.ensures ▸ c.put_interval.ensures
-    ▸ (subst (λ (n : ℕ). Adds g.K.Sink.held g.K.Sink.faults c.put_interval.new.sink c.put_interval_end.new.sink
-    c.put_interval.new.text c.put_interval_end.new.text (interval_end c.args.scale.now c.args.top (c.args.moment + n)))
-    c.from.ensures c.put_interval_end.ensures)
-    ▸ c.put_interval_words.ensures
+    subst (λ (gap : Gap). Adds g.K.Sink.held g.K.Sink.faults c.args.sink.now c.put_interval_at.new.sink c.args.text.now c.put_interval_at.new.text
+    (terminal_gap c.args.scale.now c.args.top c.args.tg gap
+    ++ interval_at c.args.scale.now c.args.k c.args.top c.args.table.now.ti c.args.sent.now.moment)) c.gap_before-gap.ensures.value
+    (subst (λ (ti : ℕ). Adds g.K.Sink.held g.K.Sink.faults c.args.sink.now c.put_interval_at.new.sink c.args.text.now c.put_interval_at.new.text
+    (terminal_gap c.args.scale.now c.args.top c.args.tg c.gap_before-gap.result
+    ++ interval_at c.args.scale.now c.args.k c.args.top ti c.args.sent.now.moment)) c.ti-ti.ensures.value
+    (c.put_terminal_gap.ensures ▸ c.put_interval_at.ensures))

@@ -1,20 +1,34 @@
-use Rattle.std.proofs.Common.{ℕ, ◌+◌, ◌++◌, codes, subst}
+use Rattle.std.proofs.Common.{◌≡◌, ℕ, ◌+◌, List, ◌++◌, codes, subst}
+use Rattle.bus_strings.specs.Messages.{Entry}
+use Rattle.bus_picture.specs.Loads.{loads_text}
+use Rattle.bus_picture.specs.Paces.{paces_text}
 use Rattle.bus_outer.specs.Texts.{Adds}
 use Rattle.bus_outer.proofs.TextLaws.{◌▸◌}
 use Rattle.bus_shapes.specs.declared.class.Class.TheVariants.{Counts}
 use Rattle.bus_shapes.specs.Shapes.{words_text}
 use Rattle.bus_picture.specs.Rows.{rows_text}
-use Rattle.bus_picture.specs.TimeLines.{axes_text, breach_text, each_lane, lane_front, rows_of, timers_text, unobserved_text}
+use Rattle.bus_picture.specs.TimeLines.{axes_text, each_lane, lane_front, rows_of, timers_text, unobserved_text}
+use Rattle.bus_picture.specs.Marks.{breach_text}
 use Rattle.bus_picture.specs.Measures.{plot_top}
 use Rattle.bus_picture.proofs.writing.put_plot.Goals as goal
 
 pub returns : goal.returns
 returns g c =
-    subst (λ (horizon : ℕ). Adds g.K.Sink.held g.K.Sink.faults c.args.sink.now c.put_breaches.new.sink c.args.text.now c.put_breaches.new.text
-    (words_text Counts 1380 (plot_top + 200) (codes "bus") ++ each_lane (lane_front c.args.table.now) 0 c.args.lanes.now
+    let same : c.list-list.result.now ≡ c.args.trace.now.list = c.list-list.ensures.value in
+    let paces : Adds g.K.Sink.held g.K.Sink.faults c.put_words.new.sink c.put_paces.new.sink c.put_words.new.text c.put_paces.new.text
+    (paces_text c.args.scale.now c.args.lanes.now c.args.trace.now.list) =
+    subst (λ (l : List Entry). Adds g.K.Sink.held g.K.Sink.faults c.put_words.new.sink c.put_paces.new.sink c.put_words.new.text c.put_paces.new.text
+    (paces_text c.args.scale.now c.args.lanes.now l)) same c.put_paces.ensures in
+    let loads : Adds g.K.Sink.held g.K.Sink.faults c.put_paces.new.sink c.put_loads.new.sink c.put_paces.new.text c.put_loads.new.text
+    (loads_text c.args.scale.now c.args.lanes.now c.args.trace.now.list) =
+    subst (λ (l : List Entry). Adds g.K.Sink.held g.K.Sink.faults c.put_paces.new.sink c.put_loads.new.sink c.put_paces.new.text c.put_loads.new.text
+    (loads_text c.args.scale.now c.args.lanes.now l)) same c.put_loads.ensures in
+    subst (λ (horizon : ℕ). Adds g.K.Sink.held g.K.Sink.faults c.args.sink.now c.put_breach.new.sink c.args.text.now c.put_breach.new.text
+    (words_text Counts 1380 (plot_top + 200) (codes "bus") ++ paces_text c.args.scale.now c.args.lanes.now c.args.trace.now.list
+    ++ loads_text c.args.scale.now c.args.lanes.now c.args.trace.now.list ++ each_lane (lane_front c.args.table.now) 0 c.args.lanes.now
     ++ axes_text c.args.scale.now c.args.bottom ++ unobserved_text c.args.scale.now c.args.bottom horizon
     ++ rows_text c.args.scale.now c.args.trace.now.list (rows_of c.args.bottom c.args.lanes.now)
     ++ timers_text c.args.scale.now c.args.lanes.now c.args.table.now c.args.trace.now.list
-    ++ each_lane (breach_text c.args.scale.now c.args.answer.now) 0 c.args.lanes.now)) c.horizon-horizon.ensures.value
-    (c.put_words.ensures ▸ c.put_fronts.ensures ▸ c.put_axes.ensures ▸ c.put_unobserved.ensures ▸ c.put_rows.ensures
-    ▸ c.put_timers.ensures ▸ c.put_breaches.ensures)
+    ++ breach_text c.args.scale.now c.args.lanes.now c.args.answer.now)) c.horizon-horizon.ensures.value
+    (c.put_words.ensures ▸ paces ▸ loads ▸ c.put_fronts.ensures ▸ c.put_axes.ensures ▸ c.put_unobserved.ensures ▸ c.put_rows.ensures
+    ▸ c.put_timers.ensures ▸ c.put_breach.ensures)

@@ -1,0 +1,73 @@
+-- Where boxes and the line at a breach are.
+use Rattle.std.proofs.Common.{◌≡◌, ℕ, zero, suc, ◌+◌, ◌*◌, ◌-◌, ◌<◌, ◌≤◌, Bool, true, false, cond, max, min, List, [], ◌∷◌, ◌++◌, inl, inr, arith, ap}
+use Rattle.std.specs.Prelude.{◌⊎◌}
+use Rattle.std.proofs.lemmas.Bool.{cases_lt}
+use Rattle.bus_dump.specs.declared.lane.Lane.{Lane}
+use Rattle.bus_shapes.specs.declared.area.Area.{Area}
+use Rattle.bus_shapes.specs.declared.scale.Scale.{Scale}
+use Rattle.bus_strings.specs.Members.{In}
+use Rattle.bus_picture.specs.Boxes.{Pile, is_thin, pile_height, share_height}
+use Rattle.bus_picture.specs.Laws.{AreApart, BoxesLieInRows, BreachesHideNoBox}
+use Rattle.bus_picture.specs.Marks.{lower_dash, upper_dash}
+use Rattle.bus_picture.specs.Measures.{plot_top, row_height}
+use Rattle.bus_picture.specs.Rows.{Row, box_area}
+use Rattle.bus_picture.specs.TimeLines.{each_lane, lane_rows, lane_top, rows_of, rows_of_lanes}
+
+by_share : (share : ℕ) (thin : Bool) → share ≤ 180 → cond thin share 180 ≤ 180
+by_share share true h = h
+by_share share false h = omega arith
+
+-- A box is no higher than it may be.
+height_within : (scale : Scale) (pile : Pile) → pile_height scale pile ≤ 180
+height_within scale pile = by_share (share_height scale pile) (is_thin scale pile.first) (omega arith)
+
+pub boxes_lie_in_rows : BoxesLieInRows
+boxes_lie_in_rows scale row pile = let high : pile_height scale pile ≤ 180 = height_within scale pile in (omega arith, omega arith)
+
+-- A row begins a whole number of rows below the plot's upper edge.
+record IsPlace (row : Row) : Type 0 where
+  number : ℕ
+  top : row.top ≡ plot_top + row_height * number
+
+lanes_placed : (bottom k : ℕ) (lanes : List Lane) (row : Row) → In row (each_lane (lane_rows bottom) k lanes) → IsPlace row
+lanes_placed bottom k [] row i = absurd i
+lanes_placed bottom k (lane ∷ lanes) row (inl e) = record { number = k + 1; top = ap (λ (r : Row). r.top) e }
+lanes_placed bottom k (lane ∷ lanes) row (inr (inl e)) = record { number = k + 1; top = ap (λ (r : Row). r.top) e }
+lanes_placed bottom k (lane ∷ lanes) row (inr (inr i)) = lanes_placed bottom (k + 1) lanes row i
+
+placed : (bottom : ℕ) (lanes : List Lane) (row : Row) → In row (rows_of bottom lanes) → IsPlace row
+placed bottom lanes row (inl e) = record { number = 0; top = ap (λ (r : Row). r.top) e }
+placed bottom lanes row (inr (inl e)) = record { number = 0; top = ap (λ (r : Row). r.top) e }
+placed bottom lanes row (inr (inr i)) = lanes_placed bottom 0 lanes row i
+
+-- A dash that lies above or below the boxes of its row lies so of all boxes.
+apart : (from high below tall n k : ℕ) → below + tall ≤ 60 ⊎ (240 ≤ below × (below + tall ≤ 320)) → 60 ≤ from → from + high ≤ 240
+    → (960 + 320 * k + below + tall ≤ 960 + 320 * n + from) ⊎ (960 + 320 * n + from + high ≤ 960 + 320 * k + below)
+apart from high below tall n k where' low most =
+    elim (cases_lt k n) [
+      | inl before ↦ inl (elim where' [ inl above ↦ omega arith | inr under ↦ (let u : below + tall ≤ 320 = under.1 in omega arith) ])
+      | inr later ↦ elim (cases_lt n k) [
+        | inl behind ↦ inr (omega arith)
+        | inr here ↦ elim where' [ inl above ↦ inl (omega arith) | inr under ↦ inr (let u : 240 ≤ below = under.0 in omega arith) ]
+      ]
+    ]
+
+pub breaches_hide_no_box : BreachesHideNoBox
+breaches_hide_no_box scale bottom lanes row pile left width i =
+    let p : IsPlace row = placed bottom lanes row i in
+    let top : row.top ≡ 960 + 320 * p.number = p.top in
+    let high : pile_height scale pile ≤ 180 = height_within scale pile in
+    let from : ℕ = 60 + (180 - pile_height scale pile) in (
+      record {
+        head = inl (omega arith);
+        upper = λ k. elim (apart from (pile_height scale pile) 0 60 p.number k (inl (omega arith)) (omega arith) (omega arith)) [
+          | inl above ↦ inl (omega arith)
+          | inr under ↦ inr (omega arith)
+        ];
+        lower = λ k. elim (apart from (pile_height scale pile) 240 80 p.number k (inr (omega arith, omega arith)) (omega arith) (omega arith)) [
+          | inl above ↦ inl (omega arith)
+          | inr under ↦ inr (omega arith)
+        ];
+      },
+      omega arith,
+    )

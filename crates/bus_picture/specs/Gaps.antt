@@ -1,0 +1,45 @@
+-- From where a terminal's gap counts: what it has heard of the transmissions before, each a stretch of carrier from its begin to its end.
+-- Places are moments counted from the beginning of the quiet before the settled start, as in the past of the bus.
+use Rattle.std.specs.Prelude.{ℕ, ◌+◌, ◌-◌, max, min, false, ◌||◌, ◌==◌, nat_le, nat_lt, true, List, fold, take, if◌then◌else◌}
+use Rattle.bus_strings.specs.Messages.{Entry}
+use Rattle.bus_strings.specs.Transmissions.{end_of}
+use Rattle.bus_shapes.specs.declared.sent.Sent.{Sent}
+pub use Rattle.bus_picture.specs.declared.heard.Gap.{Gap}
+pub use Rattle.bus_picture.specs.declared.heard.Heard.{Heard}
+
+-- Before anything is sent: it counts from one synchronization gap behind the beginning of the quiet.
+abbrev pub settled : ℕ → Heard
+settled sg = record { quiet_from = sg; synchronized = true }
+
+-- What this terminal has heard where one more transmission begins: quiet begins behind all of them, and the synchronization gap has
+-- elapsed where it had, or where the quiet before was that long. An own transmission has it elapse anew.
+abbrev pub heard_more : ℕ → ℕ → ℕ → Heard → Entry → Heard
+heard_more quiet sg terminal heard x = record {
+  quiet_from = max heard.quiet_from (quiet + end_of x);
+  synchronized = if x.terminal == terminal then false else heard.synchronized || nat_le (heard.quiet_from + sg) (quiet + x.moment);
+}
+
+-- The same, where that transmission begins before a moment.
+abbrev pub heard_next : ℕ → ℕ → ℕ → ℕ → Heard → Entry → Heard
+heard_next quiet sg terminal moment heard x = if nat_lt x.moment moment then heard_more quiet sg terminal heard x else heard
+
+-- What it has heard of those of a list that begin before a moment.
+abbrev pub heard_of : ℕ → ℕ → ℕ → ℕ → List Entry → Heard
+heard_of quiet sg terminal moment list = fold (heard_next quiet sg terminal moment) (settled sg) list
+
+-- What the terminal of a transmission has heard of those that begin before it.
+abbrev pub heard_before : ℕ → ℕ → List Entry → Sent → Heard
+heard_before quiet sg list x = heard_of quiet sg x.terminal x.moment (take x.at list)
+
+-- The place from which its terminal gap counts: where the quiet begins, or one synchronization gap behind that.
+abbrev pub gap_place : ℕ → Heard → ℕ
+gap_place sg heard = heard.quiet_from + (if heard.synchronized then 0 else sg)
+
+-- The terminal gap that counts from a place: from there to where it is over, or to a start at a moment where that comes first. Where these
+-- aren't two moments in order, as in a message that still runs, it hasn't begun to count.
+abbrev pub gap_from : ℕ → ℕ → ℕ → ℕ → Gap
+gap_from quiet tg place moment = record { from = place - quiet; to = min (place + tg - quiet) moment }
+
+-- The terminal gap before a transmission.
+abbrev pub gap_before : ℕ → ℕ → ℕ → List Entry → Sent → Gap
+gap_before quiet sg tg list x = gap_from quiet tg (gap_place sg (heard_before quiet sg list x)) x.moment

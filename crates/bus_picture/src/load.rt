@@ -1,0 +1,173 @@
+//! The load of a window.
+ghost use Rattle.std.specs.Prelude.{◌≡◌, ◌<◌, ◌≤◌, ◌^◌, length};
+ghost use Rattle.bus_outer.specs.Texts.{Adds};
+ghost use Rattle.bus_strings.specs.Pulses.{pulse_length};
+ghost use Rattle.bus_shapes.specs.Scales.{IsScale};
+ghost use Rattle.bus_picture.specs.Lanes.{each_lane};
+ghost use Rattle.bus_picture.specs.Loads as definition;
+
+use crate::lanes::lane_top;
+use crate::measures::PLOT_TOP;
+use crate::strings::string_of;
+use bus_dump::Lane;
+use bus_outer::{Sink, TextBuffer};
+use bus_shapes::{Class, Scale, begin_words, end_words};
+use bus_strings::laws::pulses_cover;
+use bus_strings::{Transmission, pulse_count};
+
+/// How many bit times a stretch has in common with the scale.
+fn common(scale: &Scale, begin: u64, end: u64) -> u64
+    requires { IsScale scale.now }
+    ensures value { result ≡ definition.common scale.now begin end }
+    ensures few { result ≤ 2 ^ 41 }
+{
+    scale.to.min(end).saturating_sub(scale.from.max(begin))
+}
+
+/// How many bit times pulse `k` of a transmission lasts.
+fn pulse_length(x: &Transmission, k: u32) -> u64
+    requires { k < length x.now.message }
+    ensures value { result ≡ pulse_length x.now.message k }
+    ensures few { result < 2 ^ 13 }
+{
+    u64::from(20 * string_of(x, k).word_count())
+}
+
+/// For how many bit times of the scale a transmission sends, the quiet between its pulses left out.
+fn sent_bits(scale: &Scale, x: &Transmission) -> u64
+    requires { IsScale scale.now }
+    ensures value { result ≡ definition.sent_bits scale.now x.now }
+    ensures few { result ≤ 2 ^ 46 }
+{
+    pulses_cover();
+    let mut bits = 0;
+    let mut begin = x.moment;
+    for k in 0..pulse_count(&x.message) {
+        let end = begin + pulse_length(x, k);
+        bits += common(scale, begin, end);
+        begin = end + 4;
+    }
+    bits
+}
+
+/// Whether a transmission is of this terminal, or any.
+fn is_by(terminal: Option<u8>, x: &Transmission) -> bool
+    ensures { result ≡ definition.is_by terminal x.now }
+{
+    match terminal {
+        None => true,
+        Some(terminal) => x.terminal == terminal,
+    }
+}
+
+/// For how many bit times of the scale a terminal sends, or all do. It goes over the list once.
+fn load_bits(scale: &Scale, terminal: Option<u8>, list: &[Transmission]) -> u128
+    requires { IsScale scale.now }
+    ensures value { result ≡ definition.load_bits scale.now terminal list.now }
+    ensures few { result < 2 ^ 111 }
+{
+    let mut bits = 0;
+    for k in 0..list.len() {
+        if is_by(terminal, &list[k]) {
+            bits += u128::from(sent_bits(scale, &list[k]));
+        }
+    }
+    bits
+}
+
+/// A share in tenths of a percent.
+fn tenths(part: u128, whole: u64) -> u128
+    requires part { part < 2 ^ 111 }
+    requires whole { 0 < whole }
+    ensures { result ≡ definition.tenths part whole }
+{
+    (2000 * part + u128::from(whole)) / (2 * u128::from(whole))
+}
+
+/// Tenths of a percent in words.
+fn put_tenths<K: Sink>(text: &mut TextBuffer, sink: &mut K, n: u128)
+    ensures { Adds K.held K.faults sink.old sink.new text.old text.new (definition.tenths_words n) }
+{
+    text.put_number(sink, n / 10);
+    text.put_byte(sink, b'.');
+    text.put_number(sink, n % 10);
+    text.put(sink, b" %");
+}
+
+/// The load of a terminal, or of all, right of a row.
+fn put_load<K: Sink>(
+    text: &mut TextBuffer,
+    sink: &mut K,
+    scale: &Scale,
+    list: &[Transmission],
+    line: u64,
+    terminal: Option<u8>,
+)
+    requires { IsScale scale.now }
+    ensures { Adds K.held K.faults sink.old sink.new text.old text.new
+        (definition.load_text scale.now list.now line terminal) }
+{
+    let bits = load_bits(scale, terminal, list);
+    begin_words(text, sink, Class::Small, 15340, line);
+    put_tenths(text, sink, tenths(bits, scale.to - scale.from));
+    end_words(text, sink);
+}
+
+/// The load of lane `k`.
+fn put_lane_load<K: Sink>(
+    text: &mut TextBuffer,
+    sink: &mut K,
+    scale: &Scale,
+    list: &[Transmission],
+    k: usize,
+    lane: Lane,
+)
+    requires scale { IsScale scale.now }
+    requires few { k ≤ 256 }
+    ensures { Adds K.held K.faults sink.old sink.new text.old text.new
+        (definition.lane_load scale.now list.now k lane) }
+{
+    put_load(
+        text,
+        sink,
+        scale,
+        list,
+        lane_top(k) + 160,
+        Some(lane.terminal),
+    );
+}
+
+/// The load of each lane.
+fn put_lane_loads<K: Sink>(
+    text: &mut TextBuffer,
+    sink: &mut K,
+    scale: &Scale,
+    list: &[Transmission],
+    lanes: &[Lane],
+)
+    requires scale { IsScale scale.now }
+    requires few { length lanes.now ≤ 256 }
+    ensures { Adds K.held K.faults sink.old sink.new text.old text.new
+        (each_lane (definition.lane_load scale.now list.now) 0 lanes.now) }
+{
+    for k in 0..lanes.len() {
+        put_lane_load(text, sink, scale, list, k, lanes[k]);
+    }
+}
+
+/// The load of the bus and of each lane. It goes over the list once for each.
+pub(crate) fn put_loads<K: Sink>(
+    text: &mut TextBuffer,
+    sink: &mut K,
+    scale: &Scale,
+    lanes: &[Lane],
+    list: &[Transmission],
+)
+    requires scale { IsScale scale.now }
+    requires few { length lanes.now ≤ 256 }
+    ensures { Adds K.held K.faults sink.old sink.new text.old text.new
+        (definition.loads_text scale.now lanes.now list.now) }
+{
+    put_load(text, sink, scale, list, PLOT_TOP + 200, None);
+    put_lane_loads(text, sink, scale, list, lanes);
+}
