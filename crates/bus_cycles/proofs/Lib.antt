@@ -8,3 +8,5 @@ pub mod CycleLemmas
 pub mod CoverLemmas
 pub mod BreachLemmas
 pub mod DrawnLemmas
+pub mod WordLemmas
+pub mod LengthLemmas

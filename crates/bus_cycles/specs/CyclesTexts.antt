@@ -1,9 +1,9 @@
 -- The text of a picture that has a row for each cycle.
-use Rattle.std.specs.Prelude.{ℕ, ◌+◌, ◌-◌, nat_le, nat_lt, min, List, [], ◌++◌, codes, decimal, Option, Some, None, if◌then◌else◌}
+use Rattle.std.specs.Prelude.{ℕ, ◌+◌, ◌-◌, Bool, ◌==◌, nat_le, nat_lt, min, List, [], ◌++◌, codes, decimal}
+use Rattle.std.specs.Prelude.{Option, Some, None, if◌then◌else◌}
 use Rattle.bus_audit.specs.declared.answer.AuditAnswer.{AuditAnswer}
 use Rattle.bus_regime.specs.declared.table_verdict.TableVerdict.{TableVerdict}
 use Rattle.bus_regime.specs.declared.table_verdict.TableVerdict.TheVariants.{Accept, ShortCycle, SmallGap, NoSync}
-use Rattle.bus_regime.specs.Lines.{verdict_words}
 use Rattle.bus_table.specs.declared.mode.Mode.{Mode}
 use Rattle.bus_table.specs.declared.mode.Mode.TheVariants.{Aperiodic, Periodic}
 use Rattle.bus_table.specs.Tables.{Table}
@@ -12,9 +12,8 @@ use Rattle.bus_shapes.specs.declared.axis.Axis.{Axis}
 use Rattle.bus_shapes.specs.declared.axis.Unit.TheVariants.{BitTimes, Microseconds}
 use Rattle.bus_shapes.specs.Axes.{axis_text}
 use Rattle.bus_shapes.specs.declared.class.Class.{Class}
-use Rattle.bus_shapes.specs.declared.class.Class.TheVariants.{Breach, BreachWords, Detail, Grid, Mark, Small, Tick}
+use Rattle.bus_shapes.specs.declared.class.Class.TheVariants.{Breach, Detail, Garbled, Grid, Mark, Note, Other, Small, Tick, Wordstring}
 use Rattle.bus_shapes.specs.Frames.{frame_text, tail_text}
-use Rattle.bus_audit.specs.Lines.{answer_words}
 use Rattle.bus_shapes.specs.declared.scale.Scale.{Scale}
 use Rattle.bus_shapes.specs.Scales.{place}
 use Rattle.bus_shapes.specs.declared.area.Area.{Area}
@@ -25,10 +24,11 @@ use Rattle.bus_cycles.specs.Rows.{Extent, cycle_of, rows}
 use Rattle.bus_cycles.specs.Sents.{shown}
 use Rattle.bus_cycles.specs.RowTexts.{pixel, rows_text, top_of}
 use Rattle.bus_cycles.specs.Surveys.{Survey, breach_in, counts, is_drawn, most_rows, survey_of}
-use Rattle.bus_cycles.specs.Measures.{before_breach, before_mark, behind_breach, behind_mark, breach_below, breach_height}
-use Rattle.bus_cycles.specs.Measures.{breach_over, breach_width, foot_height, least_words_below, line_width, lower_top}
-use Rattle.bus_cycles.specs.Measures.{lower_words, mark_words_below, marks_over, marks_top, plot_left, plot_width, right_half}
-use Rattle.bus_cycles.specs.Measures.{row_line, rows_line, tick_height, upper_ticks, upper_words}
+use Rattle.bus_cycles.specs.Measures.{before_mark, behind_mark, breach_below, breach_box_left, breach_height, breach_left, breach_over}
+use Rattle.bus_cycles.specs.Measures.{breach_width, breach_words_left, even_left, foot_height, garbled_left, garbled_words_left}
+use Rattle.bus_cycles.specs.Measures.{least_words_line, legend_height, legend_top, legend_width, line_width, long_foot, long_picture}
+use Rattle.bus_cycles.specs.Measures.{lower_foot, lower_top, lower_words, mark_words_line, marks_top, odd_left, plot_left, plot_width}
+use Rattle.bus_cycles.specs.Measures.{row_line, rows_line, sent_words_left, tick_height, ticks_foot, upper_foot, upper_ticks, upper_words}
 
 -- ---- the plot
 -- The moments behind the beginning of a row, as far as the longest that is drawn has some, and as the breach needs some.
@@ -39,17 +39,31 @@ scale_of survey = record { from = 0; to = survey.longest; left = plot_left; widt
 abbrev pub bottom_of : Survey → ℕ
 bottom_of survey = top_of (min survey.count most_rows)
 
+-- Whether the rows reach so far down that axes stand below them too.
+abbrev pub is_long : Survey → Bool
+is_long survey = nat_lt long_picture (bottom_of survey)
+
+-- The height of the picture.
+abbrev pub height_of : Survey → ℕ
+height_of survey = bottom_of survey + (if is_long survey then long_foot else foot_height)
+
 -- ---- words above the rows
 -- Where the next row begins that isn't drawn.
 abbrev pub next_words : Option ℕ → List ℕ
 next_words None = []
 next_words (Some begin) = codes ", the next at " ++ decimal begin
 
--- How many rows are drawn of how many, and where the next begins.
+-- How long the rows are, drawn or not: the least length and the greatest.
+abbrev pub lengths_words : Survey → List ℕ
+lengths_words survey =
+    if survey.count == 0 then []
+    else codes ", " ++ decimal survey.least ++ codes " to " ++ decimal survey.most ++ codes " bit times long"
+
+-- How many rows are drawn of how many, how long they are, and where the next begins.
 abbrev pub row_words : Survey → List ℕ
 row_words survey =
-    codes "a row for each cycle, from the moment at which it begins: " ++ decimal (min survey.count most_rows) ++ codes " of "
-    ++ decimal survey.count ++ next_words survey.next
+    codes "a row for each cycle, from where it begins: " ++ decimal (min survey.count most_rows) ++ codes " of "
+    ++ decimal survey.count ++ lengths_words survey ++ next_words survey.next
 
 -- The axis of microseconds.
 abbrev pub upper_axis : Axis
@@ -59,31 +73,64 @@ upper_axis = record { unit = Microseconds; words = upper_words; class = Tick; to
 abbrev pub lower_axis_to : ℕ → Axis
 lower_axis_to bottom = record { unit = BitTimes; words = lower_words; class = Grid; top = lower_top; height = bottom - lower_top }
 
--- Both axes.
+-- The axis of bit times below the rows.
+abbrev pub lower_axis_below : ℕ → Axis
+lower_axis_below bottom = record { unit = BitTimes; words = bottom + lower_foot; class = Tick; top = bottom; height = tick_height }
+
+-- The axis of microseconds below the rows.
+abbrev pub upper_axis_below : ℕ → Axis
+upper_axis_below bottom =
+    record { unit = Microseconds; words = bottom + upper_foot; class = Tick; top = bottom + ticks_foot; height = tick_height }
+
+-- Both axes below the rows.
+abbrev pub axes_below : Scale → ℕ → List ℕ
+axes_below scale bottom = axis_text scale (lower_axis_below bottom) ++ axis_text scale (upper_axis_below bottom)
+
+-- They stand there where the rows reach far down.
+abbrev pub below_text : Survey → List ℕ
+below_text survey = if is_long survey then axes_below (scale_of survey) (bottom_of survey) else []
+
+-- Both axes above the rows.
 abbrev pub axes_text : Survey → List ℕ
 axes_text survey = axis_text (scale_of survey) upper_axis ++ axis_text (scale_of survey) (lower_axis_to (bottom_of survey))
+
+-- ---- the legend
+-- A box of the legend, this wide.
+abbrev pub legend_box : Class → ℕ → ℕ → List ℕ
+legend_box class left width = box_text class (record { left = left; top = legend_top; width = width; height = legend_height })
+
+-- What boxes mean.
+abbrev pub legend_text : List ℕ
+legend_text =
+    legend_box Other even_left legend_width ++ legend_box Wordstring odd_left legend_width
+    ++ words_text Small sent_words_left rows_line (codes "sent by the terminal of this number")
+    ++ legend_box Garbled garbled_left legend_width
+    ++ words_text Small garbled_words_left rows_line (codes "garbled: another overlaps it")
+    ++ legend_box Breach breach_box_left breach_width
+    ++ words_text Small breach_words_left rows_line (codes "first breach")
 
 -- What stands above the rows.
 abbrev pub above_text : Survey → List ℕ
 above_text survey =
-    words_text Small left_margin rows_line (row_words survey) ++ axes_text survey
+    words_text Small left_margin rows_line (row_words survey) ++ legend_text ++ axes_text survey
+    ++ words_text Small left_margin mark_words_line (codes "cycle, its begin")
     ++ words_text Detail right_margin lower_words (codes "length")
 
 -- ---- marks
 -- A line over all rows, at a distance from their beginning.
 abbrev pub mark_line : Survey → ℕ → Area
 mark_line survey t =
-    record { left = place (scale_of survey) t; top = marks_top; width = line_width; height = bottom_of survey - marks_over }
+    record { left = place (scale_of survey) t; top = marks_top; width = line_width; height = bottom_of survey - marks_top }
 
--- Its words, this far below the rows.
-abbrev pub mark_words : Survey → Class → ℕ → ℕ → List ℕ → ℕ → List ℕ
-mark_words survey class left below name t = words_text class left (bottom_of survey + below) (name ++ decimal t)
+-- Its words, on this line above the rows.
+abbrev pub mark_words : Class → ℕ → ℕ → List ℕ → ℕ → List ℕ
+mark_words class left line name t = words_text class left line (name ++ decimal t)
 
 -- A mark, with its words behind it, unless it lies behind all rows.
 abbrev pub mark_text : Survey → List ℕ → ℕ → List ℕ
 mark_text survey name t =
     if nat_le t survey.longest
-    then box_text Mark (mark_line survey t) ++ mark_words survey Small (place (scale_of survey) t + behind_mark) mark_words_below name t
+    then box_text Mark (mark_line survey t) ++ mark_words Small (place (scale_of survey) t + behind_mark) mark_words_line name t
     else []
 
 -- The mark of the least cycle. Its words stand before it, and a line lower, since it may be near that of the synchronization gap.
@@ -91,7 +138,7 @@ abbrev pub least_text : Survey → ℕ → List ℕ
 least_text survey t =
     if nat_le t survey.longest
     then box_text Mark (mark_line survey t)
-    ++ mark_words survey Detail (place (scale_of survey) t - before_mark) least_words_below (codes "least ") t
+    ++ mark_words Detail (place (scale_of survey) t - before_mark) least_words_line (codes "least ") t
     else []
 
 -- The mark of the transmit interval.
@@ -131,15 +178,11 @@ part_above left row = breach_part left (top_of row - breach_over)
 abbrev pub part_below : ℕ → ℕ → Area
 part_below left row = breach_part left (top_of row + breach_below)
 
--- Where the word has its middle: behind the line, or before it in the right half.
-abbrev pub beside : ℕ → ℕ
-beside left = if nat_lt left right_half then left + behind_breach else left - before_breach
-
--- The breach at a place in a row: both parts of its line, and a word beside it.
+-- The breach at a place in a row: both parts of its line, and a word behind all boxes.
 abbrev pub breach_at : ℕ → ℕ → List ℕ
 breach_at left row =
     box_text Breach (part_above left row) ++ box_text Breach (part_below left row)
-    ++ words_text BreachWords (beside left) (top_of row + row_line) (codes "breach")
+    ++ words_text Note breach_left (top_of row + row_line) (codes "breach")
 
 -- The breach at this moment, in this row where it is drawn, on a whole pixel as the boxes are.
 abbrev pub breach_in_row : Scale → ℕ → Extent → List ℕ
@@ -155,9 +198,10 @@ breach_text scale (Some moment) (Some row) = breach_in_row scale moment row
 -- The picture of a window of a trace on a table, given what is told of its rows.
 abbrev pub text_of : Survey → Window → TableVerdict → AuditAnswer → Table → Recording → List ℕ
 text_of survey window verdict answer table trace =
-    frame_text (bottom_of survey + foot_height) verdict answer table (counts window trace)
-    ++ above_text survey ++ marks_text survey table verdict
+    frame_text (height_of survey) verdict answer table (counts window trace)
+    ++ above_text survey
     ++ rows_text (scale_of survey) (rows table window trace.list)
+    ++ marks_text survey table verdict ++ below_text survey
     ++ breach_text (scale_of survey) (breach_in window answer) survey.marked ++ tail_text
 
 -- The picture of a window of a trace on a table.

@@ -1,6 +1,6 @@
 -- What follows of the definitions. The contracts of `laws` say that each of these holds.
 use Rattle.std.specs.Prelude.{◌≡◌, ◌↔◌, ℕ, ◌+◌, ◌-◌, ◌<◌, ◌≤◌, Bool, true, false, not, IsTrue, List, [], ◌∷◌, ◌++◌, length}
-use Rattle.std.specs.Prelude.{slice_get, filter, Some, if◌then◌else◌, ⊤}
+use Rattle.std.specs.Prelude.{slice_get, filter, Option, Some, if◌then◌else◌, ⊤}
 use Rattle.std.specs.List.{AllByRecursion, count_by, flat_map, sum_by}
 use Rattle.bus_strings.specs.Members.{In}
 use Rattle.bus_strings.specs.Messages.{Entry}
@@ -16,10 +16,11 @@ use Rattle.bus_shapes.specs.Scales.{IsScale}
 use Rattle.bus_shapes.specs.SendingLaws.{IsToldOf}
 use Rattle.bus_shapes.specs.Windows.{Window}
 use Rattle.bus_cycles.specs.CyclesTexts.{part_above, part_below, scale_of}
+use Rattle.bus_cycles.specs.Measures.{breach_left}
 use Rattle.bus_cycles.specs.Rows.{Extent, Row, cycle_of, extent_of, interval_of, rows, takes}
 use Rattle.bus_cycles.specs.RowTexts.{area_of, boxes, class_of, is_due, is_left_out, left_of, right_of, sent_text, shade, where_drawn}
 use Rattle.bus_cycles.specs.Sents.{shown}
-use Rattle.bus_cycles.specs.Surveys.{Survey, counts, is_drawn, survey_of}
+use Rattle.bus_cycles.specs.Surveys.{Survey, counts, is_drawn, length_of, survey_of}
 
 -- The rows of a window are a partition: their transmissions, one behind the other, are exactly those that begin in it, in order.
 abbrev pub RowsAreAPartition : Type 0
@@ -103,6 +104,19 @@ BreachHidesNone =
     (scale : Scale) (row begin left : ℕ) (sent : Sent)
     → ((part_above left row).top + (part_above left row).height ≤ (area_of scale row begin sent).top)
     × ((area_of scale row begin sent).top + (area_of scale row begin sent).height ≤ (part_below left row).top)
+
+-- The word of a breach begins behind the box of each transmission of each row.
+abbrev pub BreachWordHidesNone : Type 0
+BreachWordHidesNone =
+    (survey : Survey) (row begin : ℕ) (sent : Sent) → IsScale (scale_of survey)
+    → (area_of (scale_of survey) row begin sent).left + (area_of (scale_of survey) row begin sent).width ≤ breach_left
+
+-- No row is shorter than the least length that is told, or longer than the greatest.
+abbrev pub LengthsAreOfRows : Type 0
+LengthsAreOfRows =
+    (table : Table) (window : Window) (list : List Entry) (breach : Option ℕ) (row : Row) → In row (rows table window list)
+    → ((survey_of (cycle_of table) breach (shown window list)).least ≤ length_of (extent_of row))
+    × (length_of (extent_of row) ≤ (survey_of (cycle_of table) breach (shown window list)).most)
 
 -- How many transmissions of a row are garbled.
 abbrev pub garbled_of : Row → ℕ

@@ -7,7 +7,7 @@ plot_left = 1500
 
 -- Their width.
 abbrev pub plot_width : ℕ
-plot_width = 12900
+plot_width = 12000
 
 -- Where the moments end at which rows begin.
 abbrev pub begins_right : ℕ
@@ -41,10 +41,6 @@ rows_line = 620
 abbrev pub marks_top : ℕ
 marks_top = 1070
 
--- A mark reaches this less than the lower edge of the rows.
-abbrev pub marks_over : ℕ
-marks_over = 1000
-
 -- The width of the line of a mark: a pixel.
 abbrev pub line_width : ℕ
 line_width = 10
@@ -57,21 +53,41 @@ behind_mark = 40
 abbrev pub before_mark : ℕ
 before_mark = 30
 
--- How far below the rows the words of a mark stand.
-abbrev pub mark_words_below : ℕ
-mark_words_below = 150
+-- The line of the words of marks.
+abbrev pub mark_words_line : ℕ
+mark_words_line = 1150
 
--- How far below the rows those of the least cycle stand.
-abbrev pub least_words_below : ℕ
-least_words_below = 240
+-- The line of those of the least cycle.
+abbrev pub least_words_line : ℕ
+least_words_line = 1250
+
+-- Rows that reach further down have axes below them too: 800 pixels.
+abbrev pub long_picture : ℕ
+long_picture = 8000
+
+-- How far below the rows the numbers of bit times stand there.
+abbrev pub lower_foot : ℕ
+lower_foot = 150
+
+-- How far below them those of time stand.
+abbrev pub upper_foot : ℕ
+upper_foot = 320
+
+-- How far below them the ticks of that axis begin.
+abbrev pub ticks_foot : ℕ
+ticks_foot = 170
 
 -- How much of a picture lies below its rows.
 abbrev pub foot_height : ℕ
-foot_height = 250
+foot_height = 100
+
+-- The same, where axes stand there.
+abbrev pub long_foot : ℕ
+long_foot = 420
 
 -- The upper edge of the first row.
 abbrev pub rows_top : ℕ
-rows_top = 1190
+rows_top = 1310
 
 -- The height of a row.
 abbrev pub row_height : ℕ
@@ -133,14 +149,43 @@ breach_over = 30
 abbrev pub breach_below : ℕ
 breach_below = 130
 
--- From here on the word of a breach stands before its line.
-abbrev pub right_half : ℕ
-right_half = 8000
+-- Where the word of a breach begins: behind all rows.
+abbrev pub breach_left : ℕ
+breach_left = 13560
 
--- How far behind the line the middle of the word lies.
-abbrev pub behind_breach : ℕ
-behind_breach = 270
+-- ---- the legend
+-- The upper edge of its boxes.
+abbrev pub legend_top : ℕ
+legend_top = 540
 
--- How far before the line the middle of the word lies.
-abbrev pub before_breach : ℕ
-before_breach = 250
+-- Their height.
+abbrev pub legend_height : ℕ
+legend_height = 90
+
+-- Their width.
+abbrev pub legend_width : ℕ
+legend_width = 120
+
+-- Where both boxes of what is sent begin, and the words on it.
+abbrev pub even_left : ℕ
+even_left = 7800
+
+abbrev pub odd_left : ℕ
+odd_left = 7940
+
+abbrev pub sent_words_left : ℕ
+sent_words_left = 8100
+
+-- Where the box of what is garbled begins, and the words on it.
+abbrev pub garbled_left : ℕ
+garbled_left = 10400
+
+abbrev pub garbled_words_left : ℕ
+garbled_words_left = 10560
+
+-- Where the box of the breach begins, and the words on it.
+abbrev pub breach_box_left : ℕ
+breach_box_left = 14400
+
+abbrev pub breach_words_left : ℕ
+breach_words_left = 14460

@@ -3,7 +3,7 @@ use Rattle.std.specs.Prelude.{ℕ, ◌+◌, ◌-◌, ◌*◌, ◌/◌, ◌%◌, 
 use Rattle.std.specs.Prelude.{nat_le, nat_lt, max, List, [], ◌∷◌, ◌++◌, decimal, if◌then◌else◌}
 use Rattle.std.specs.List.{flat_map, list_any}
 use Rattle.bus_shapes.specs.declared.class.Class.{Class}
-use Rattle.bus_shapes.specs.declared.class.Class.TheVariants.{Detail, Digits, Garbled, Other, Wordstring}
+use Rattle.bus_shapes.specs.declared.class.Class.TheVariants.{Detail, Digits, Garbled, Other, Small, Wordstring}
 use Rattle.bus_shapes.specs.declared.sent.Sent.{Sent}
 use Rattle.bus_shapes.specs.Sayings.{sent_words}
 use Rattle.bus_shapes.specs.declared.scale.Scale.{Scale}
@@ -111,10 +111,11 @@ boxes scale garbled row begin earlier (sent ∷ sents) =
     box_behind scale garbled row begin earlier sent ++ boxes scale garbled row begin (earlier ++ sent ∷ []) sents
 
 -- ---- rows
--- The words of a row: the moment at which it begins at its left, its length at its right.
+-- The words of a row: its number, from 1, and the moment at which it begins at its left, its length at its right.
 abbrev pub words_of : Extent → List ℕ
 words_of row =
-    words_text Detail begins_right (top_of row.place + row_line) (decimal row.begin)
+    words_text Small shapes.left_margin (top_of row.place + row_line) (decimal (row.place + 1))
+    ++ words_text Detail begins_right (top_of row.place + row_line) (decimal row.begin)
     ++ words_text Detail shapes.right_margin (top_of row.place + row_line) (decimal (row.end - row.begin))
 
 -- They stand in the walk for what is plain.

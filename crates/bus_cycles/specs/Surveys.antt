@@ -1,6 +1,6 @@
 -- What is told of the rows of a picture before they are drawn.
 use Rattle.std.specs.Prelude.{ℕ, ◌+◌, ◌-◌, Bool, false, ◌==◌, nat_lt}
-use Rattle.std.specs.Prelude.{max, fold, List, length, map, Option, Some, None, if◌then◌else◌}
+use Rattle.std.specs.Prelude.{max, min, fold, List, length, map, Option, Some, None, if◌then◌else◌}
 use Rattle.std.specs.List.{count_by}
 use Rattle.bus_audit.specs.declared.answer.AuditAnswer.{AuditAnswer}
 use Rattle.bus_audit.specs.declared.answer.AuditAnswer.TheVariants.{Lawful, Breach}
@@ -32,7 +32,7 @@ takes_breach cycle (Some moment) row = takes cycle row moment
 
 -- What is told where no row is looked at: a picture is at least as long as a transmit interval.
 abbrev pub nothing : Cycle → Survey
-nothing cycle = record { count = 0; longest = cycle.ti; next = None; marked = None }
+nothing cycle = record { count = 0; longest = cycle.ti; next = None; marked = None; least = 0; most = 0 }
 
 -- With one row more: how long the longest is that is drawn.
 abbrev pub longest_with : ℕ → Extent → ℕ
@@ -46,6 +46,14 @@ next_with next row = if row.place == most_rows then Some row.begin else next
 abbrev pub marked_with : Cycle → Option ℕ → Option Extent → Extent → Option Extent
 marked_with cycle breach marked row = if takes_breach cycle breach row then Some row else marked
 
+-- The length of a row, from the moment at which it begins until the last of its transmissions has ended.
+abbrev pub length_of : Extent → ℕ
+length_of row = row.end - row.begin
+
+-- With one row more, where these are before it: the least length.
+abbrev pub least_with : ℕ → ℕ → Extent → ℕ
+least_with count least row = if count == 0 then length_of row else min least (length_of row)
+
 -- With one row more: all that is told.
 abbrev pub with_row : Cycle → Option ℕ → Survey → Extent → Survey
 with_row cycle breach survey row = record {
@@ -53,6 +61,8 @@ with_row cycle breach survey row = record {
   longest = longest_with survey.longest row;
   next = next_with survey.next row;
   marked = marked_with cycle breach survey.marked row;
+  least = least_with survey.count survey.least row;
+  most = max survey.most (length_of row);
 }
 
 -- How far the breach is behind the beginning of its row, where that is drawn.
@@ -72,6 +82,8 @@ with_breach breach survey = record {
   longest = max survey.longest (reach_of breach survey.marked);
   next = survey.next;
   marked = survey.marked;
+  least = survey.least;
+  most = survey.most;
 }
 
 -- What is told of the rows of transmissions.

@@ -25,9 +25,9 @@ const SHADES: usize = 4;
 pub(crate) fn top_of(row: u64) -> u64
     requires { row ≤ 500 }
     ensures value { result ≡ definition.top_of row }
-    ensures low { result ≤ 71190 }
+    ensures low { result ≤ 71310 }
 {
-    1190 + 140 * row
+    1310 + 140 * row
 }
 
 /// The place of a moment behind another, on a whole pixel.
@@ -239,6 +239,9 @@ fn put_row_words<K: Sink>(text: &mut TextBuffer, sink: &mut K, row: Extent)
     ensures { Adds K.held K.faults sink.old sink.new text.old text.new (definition.words_of row) }
 {
     let line = top_of(row.place) + 105;
+    begin_words(text, sink, Class::Small, 200, line);
+    text.put_number(sink, row.place + 1);
+    end_words(text, sink);
     begin_words(text, sink, Class::Detail, 1440, line);
     text.put_number(sink, row.begin);
     end_words(text, sink);

@@ -12,18 +12,10 @@ use crate::survey::MOST_ROWS;
 use bus_outer::{Sink, TextBuffer};
 use bus_shapes::{Area, Class, Scale, put_box, put_words};
 
-/// Where the word has its middle: behind the line, or before it in the right half.
-fn beside(left: u64) -> u64
-    requires { left < 2097152 }
-    ensures { result ≡ definition.beside left }
-{
-    if left < 8000 { left + 270 } else { left - 250 }
-}
-
 /// A part of the line.
 fn put_part<K: Sink>(text: &mut TextBuffer, sink: &mut K, left: u64, top: u64)
     requires left { left < 2097152 }
-    requires top { top ≤ 71320 }
+    requires top { top ≤ 71440 }
     ensures { Adds K.held K.faults sink.old sink.new text.old text.new (box_text Breach (definition.breach_part left top)) }
 {
     let area = Area {
@@ -35,7 +27,7 @@ fn put_part<K: Sink>(text: &mut TextBuffer, sink: &mut K, left: u64, top: u64)
     put_box(text, sink, Class::Breach, area);
 }
 
-/// The line across its row, above and below the boxes, and the word beside it.
+/// The line across its row, above and below the boxes, and the word behind them.
 fn put_at<K: Sink>(text: &mut TextBuffer, sink: &mut K, left: u64, row: u64)
     requires left { left < 2097152 }
     requires row { row ≤ 500 }
@@ -44,14 +36,7 @@ fn put_at<K: Sink>(text: &mut TextBuffer, sink: &mut K, left: u64, row: u64)
     let top = top_of(row);
     put_part(text, sink, left, top - 30);
     put_part(text, sink, left, top + 130);
-    put_words(
-        text,
-        sink,
-        Class::BreachWords,
-        beside(left),
-        top + 105,
-        b"breach",
-    );
+    put_words(text, sink, Class::Note, 13560, top + 105, b"breach");
 }
 
 /// The breach at this moment, in this row where it is drawn.

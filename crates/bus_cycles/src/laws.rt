@@ -1,7 +1,8 @@
 //! Laws of the definitions, each the contract of a function that does nothing.
-ghost use Rattle.bus_cycles.specs.Laws.{BreachHidesNone, BreachIsAtItsMoment, CountsAreOfRows, EachIsDueOnce, HatchedAreDrawnLast};
-ghost use Rattle.bus_cycles.specs.Laws.{HatchedAreGarbled, KeptAreDrawn, LeftOutAreCovered, RowsAreAPartition, RowsAreCycles};
-ghost use Rattle.bus_cycles.specs.Laws.{RowsAreIntervals, RowsAreNumbered, RowsAscend, TheLastRowIsMarked};
+ghost use Rattle.bus_cycles.specs.Laws.{BreachHidesNone, BreachIsAtItsMoment, BreachWordHidesNone, CountsAreOfRows, EachIsDueOnce};
+ghost use Rattle.bus_cycles.specs.Laws.{HatchedAreDrawnLast, HatchedAreGarbled, KeptAreDrawn, LeftOutAreCovered, LengthsAreOfRows};
+ghost use Rattle.bus_cycles.specs.Laws.{RowsAreAPartition, RowsAreCycles, RowsAreIntervals, RowsAreNumbered, RowsAscend};
+ghost use Rattle.bus_cycles.specs.Laws.{TheLastRowIsMarked};
 
 use bus_shapes::laws::places_keep_order;
 
@@ -70,6 +71,18 @@ pub fn breach_is_at_its_moment()
 /// The line of a first breach hides no box of its row.
 pub fn breach_hides_none()
     ensures { BreachHidesNone }
+{}
+
+/// The word of a first breach hides no box of any row.
+pub fn breach_word_hides_none()
+    ensures { BreachWordHidesNone }
+{
+    places_keep_order();
+}
+
+/// No row is shorter than the least length that the words above the rows tell, or longer than the greatest.
+pub fn lengths_are_of_rows()
+    ensures { LengthsAreOfRows }
 {}
 
 /// Where rows take the moment of the first breach, which the window has, one is marked, and none of them begins later.

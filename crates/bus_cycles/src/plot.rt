@@ -21,17 +21,33 @@ pub(crate) fn scale_of(survey: &Survey) -> Scale
         from: 0,
         to: survey.longest,
         left: 1500,
-        width: 12900,
+        width: 12000,
     }
 }
 
 /// The lower edge of the rows.
 pub(crate) fn bottom_of(survey: &Survey) -> u64
     ensures value { result ≡ definition.bottom_of survey.now }
-    ensures least { 1190 ≤ result }
-    ensures most { result ≤ 71190 }
+    ensures least { 1310 ≤ result }
+    ensures most { result ≤ 71310 }
 {
     top_of(survey.count.min(MOST_ROWS))
+}
+
+/// Whether the rows reach so far down that axes stand below them too.
+fn is_long(survey: &Survey) -> bool
+    ensures { result ≡ definition.is_long survey.now }
+{
+    bottom_of(survey) > 8000
+}
+
+/// The height of the picture.
+pub(crate) fn height_of(survey: &Survey) -> u64
+    ensures value { result ≡ definition.height_of survey.now }
+    ensures low { result ≤ 71730 }
+{
+    let foot = if is_long(survey) { 420 } else { 100 };
+    bottom_of(survey) + foot
 }
 
 /// Where the next row begins.
@@ -44,17 +60,28 @@ fn put_next<K: Sink>(text: &mut TextBuffer, sink: &mut K, next: Option<u64>)
     }
 }
 
-/// How many rows are drawn of how many, and where the next begins.
+/// How long the rows are.
+fn put_lengths<K: Sink>(text: &mut TextBuffer, sink: &mut K, survey: &Survey)
+    ensures { Adds K.held K.faults sink.old sink.new text.old text.new (definition.lengths_words survey.now) }
+{
+    if survey.count != 0 {
+        text.put(sink, b", ");
+        text.put_number(sink, survey.least);
+        text.put(sink, b" to ");
+        text.put_number(sink, survey.most);
+        text.put(sink, b" bit times long");
+    }
+}
+
+/// How many rows are drawn of how many, how long they are, and where the next begins.
 fn put_row_words<K: Sink>(text: &mut TextBuffer, sink: &mut K, survey: &Survey)
     ensures { Adds K.held K.faults sink.old sink.new text.old text.new (definition.row_words survey.now) }
 {
-    text.put(
-        sink,
-        b"a row for each cycle, from the moment at which it begins: ",
-    );
+    text.put(sink, b"a row for each cycle, from where it begins: ");
     text.put_number(sink, survey.count.min(MOST_ROWS));
     text.put(sink, b" of ");
     text.put_number(sink, survey.count);
+    put_lengths(text, sink, survey);
     put_next(text, sink, survey.next);
 }
 
@@ -82,7 +109,81 @@ fn put_axes<K: Sink>(text: &mut TextBuffer, sink: &mut K, survey: &Survey)
     put_axis(text, sink, &scale, &lower);
 }
 
-/// What stands above the rows: how many there are, and the axes.
+/// Both axes below the rows.
+fn put_axes_below<K: Sink>(text: &mut TextBuffer, sink: &mut K, scale: &Scale, bottom: u64)
+    requires scale { IsScale scale.now }
+    requires low { bottom ≤ 71310 }
+    ensures { Adds K.held K.faults sink.old sink.new text.old text.new (definition.axes_below scale.now bottom) }
+{
+    let lower = Axis {
+        unit: Unit::BitTimes,
+        words: bottom + 150,
+        class: Class::Tick,
+        top: bottom,
+        height: 50,
+    };
+    let upper = Axis {
+        unit: Unit::Microseconds,
+        words: bottom + 320,
+        class: Class::Tick,
+        top: bottom + 170,
+        height: 50,
+    };
+    put_axis(text, sink, scale, &lower);
+    put_axis(text, sink, scale, &upper);
+}
+
+/// The axes below the rows, where these reach far down.
+pub(crate) fn put_below<K: Sink>(text: &mut TextBuffer, sink: &mut K, survey: &Survey)
+    requires { IsScale (definition.scale_of survey.now) }
+    ensures { Adds K.held K.faults sink.old sink.new text.old text.new (definition.below_text survey.now) }
+{
+    if is_long(survey) {
+        put_axes_below(text, sink, &scale_of(survey), bottom_of(survey));
+    }
+}
+
+/// A box of the legend.
+fn put_legend_box<K: Sink>(text: &mut TextBuffer, sink: &mut K, class: Class, left: u64, width: u64)
+    ensures { Adds K.held K.faults sink.old sink.new text.old text.new (definition.legend_box class left width) }
+{
+    let area = Area {
+        left,
+        top: 540,
+        width,
+        height: 90,
+    };
+    put_box(text, sink, class, area);
+}
+
+/// What boxes mean.
+fn put_legend<K: Sink>(text: &mut TextBuffer, sink: &mut K)
+    ensures { Adds K.held K.faults sink.old sink.new text.old text.new definition.legend_text }
+{
+    put_legend_box(text, sink, Class::Other, 7800, 120);
+    put_legend_box(text, sink, Class::Wordstring, 7940, 120);
+    put_words(
+        text,
+        sink,
+        Class::Small,
+        8100,
+        620,
+        b"sent by the terminal of this number",
+    );
+    put_legend_box(text, sink, Class::Garbled, 10400, 120);
+    put_words(
+        text,
+        sink,
+        Class::Small,
+        10560,
+        620,
+        b"garbled: another overlaps it",
+    );
+    put_legend_box(text, sink, Class::Breach, 14400, 20);
+    put_words(text, sink, Class::Small, 14460, 620, b"first breach");
+}
+
+/// What stands above the rows: how many there are, the legend, and the axes.
 pub(crate) fn put_above<K: Sink>(text: &mut TextBuffer, sink: &mut K, survey: &Survey)
     requires { IsScale (definition.scale_of survey.now) }
     ensures { Adds K.held K.faults sink.old sink.new text.old text.new (definition.above_text survey.now) }
@@ -90,7 +191,9 @@ pub(crate) fn put_above<K: Sink>(text: &mut TextBuffer, sink: &mut K, survey: &S
     begin_words(text, sink, Class::Small, 200, 620);
     put_row_words(text, sink, survey);
     end_words(text, sink);
+    put_legend(text, sink);
     put_axes(text, sink, survey);
+    put_words(text, sink, Class::Small, 200, 1150, b"cycle, its begin");
     put_words(text, sink, Class::Detail, 15500, 1010, b"length");
 }
 
@@ -103,25 +206,23 @@ fn mark_line(survey: &Survey, t: u64) -> Area
         left: scale_of(survey).place(t),
         top: 1070,
         width: 10,
-        height: bottom_of(survey) - 1000,
+        height: bottom_of(survey) - 1070,
     }
 }
 
-/// The words of a mark, this far below the rows.
+/// The words of a mark, on this line above the rows.
 fn put_mark_words<K: Sink>(
     text: &mut TextBuffer,
     sink: &mut K,
-    survey: &Survey,
     class: Class,
     left: u64,
-    below: u64,
+    line: u64,
     name: &[u8],
     t: u64,
 )
-    requires { below ≤ 240 }
-    ensures { Adds K.held K.faults sink.old sink.new text.old text.new (definition.mark_words survey.now class left below name.now t) }
+    ensures { Adds K.held K.faults sink.old sink.new text.old text.new (definition.mark_words class left line name.now t) }
 {
-    begin_words(text, sink, class, left, bottom_of(survey) + below);
+    begin_words(text, sink, class, left, line);
     text.put(sink, name);
     text.put_number(sink, t);
     end_words(text, sink);
@@ -135,7 +236,7 @@ fn put_mark<K: Sink>(text: &mut TextBuffer, sink: &mut K, survey: &Survey, name:
     if t <= survey.longest {
         put_box(text, sink, Class::Mark, mark_line(survey, t));
         let left = scale_of(survey).place(t) + 40;
-        put_mark_words(text, sink, survey, Class::Small, left, 150, name, t);
+        put_mark_words(text, sink, Class::Small, left, 1150, name, t);
     }
 }
 
@@ -147,7 +248,7 @@ fn put_least<K: Sink>(text: &mut TextBuffer, sink: &mut K, survey: &Survey, t: u
     if t <= survey.longest {
         put_box(text, sink, Class::Mark, mark_line(survey, t));
         let left = scale_of(survey).place(t) - 30;
-        put_mark_words(text, sink, survey, Class::Detail, left, 240, b"least ", t);
+        put_mark_words(text, sink, Class::Detail, left, 1250, b"least ", t);
     }
 }
 

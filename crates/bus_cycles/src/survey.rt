@@ -24,6 +24,9 @@ pub(crate) struct Survey {
     pub next: Option<u64>,
     /// The last that takes the moment of the first breach.
     pub marked: Option<Extent>,
+    /// The least length of all, and the greatest; 0 where there is none.
+    pub least: u64,
+    pub most: u64,
 }
 
 /// The moment of the first breach, where there is one that the window holds.
@@ -50,6 +53,8 @@ impl Survey {
             longest: u64::from(cycle.ti),
             next: None,
             marked: None,
+            least: 0,
+            most: 0,
         }
     }
 
@@ -64,6 +69,8 @@ impl Survey {
             longest: longest_with(self.longest, row),
             next: next_with(self.next, row),
             marked: marked_with(cycle, breach, self.marked, row),
+            least: least_with(self.count, self.least, row),
+            most: self.most.max(length_of(row)),
         }
     }
 
@@ -80,7 +87,27 @@ impl Survey {
             longest: self.longest.max(reach_of(breach, self.marked)),
             next: self.next,
             marked: self.marked,
+            least: self.least,
+            most: self.most,
         }
+    }
+}
+
+/// The length of a row.
+fn length_of(row: Extent) -> u64
+    ensures { result ≡ definition.length_of row }
+{
+    row.end.saturating_sub(row.begin)
+}
+
+/// The least length, with one row more than so many.
+fn least_with(count: u64, least: u64, row: Extent) -> u64
+    ensures { result ≡ definition.least_with count least row }
+{
+    if count == 0 {
+        length_of(row)
+    } else {
+        least.min(length_of(row))
     }
 }
 

@@ -7,7 +7,7 @@ use crate::boxes::put_rows;
 use crate::breach::put_breach;
 use crate::counting::counts;
 use crate::cycle::Cycle;
-use crate::plot::{bottom_of, put_above, put_marks, scale_of};
+use crate::plot::{height_of, put_above, put_below, put_marks, scale_of};
 use crate::survey::{breach_in, take_survey};
 use bus_audit::AuditAnswer;
 use bus_outer::{Sink, TextBuffer, WriteFault};
@@ -17,8 +17,8 @@ use bus_table::Table;
 use bus_trace::Trace;
 
 /// Writes the picture of a window of a trace on a table as SVG: a row for each cycle, one below the other from the same left edge, at most
-/// 500, and above them the words of the verdict and of the audit. What is garbled is drawn over all that is plain. It goes over the trace
-/// four times, and takes no memory.
+/// 500, and above them the words of the verdict and of the audit. What is garbled is drawn over all that is plain, and the marks over both.
+/// It goes over the trace four times, and takes no memory.
 ///
 /// At `WriteFault` the sink has taken a front of the text, and its count of faults rose.
 pub fn write_cycles<K: Sink>(
@@ -36,12 +36,13 @@ pub fn write_cycles<K: Sink>(
     let survey = take_survey(&cycle, breach, window, trace);
     let counts = counts(window, trace);
     let scale = scale_of(&survey);
-    let height = bottom_of(&survey) + 250;
+    let height = height_of(&survey);
     let mut text = TextBuffer::new();
     put_frame(&mut text, sink, height, verdict, answer, table, &counts);
     put_above(&mut text, sink, &survey);
-    put_marks(&mut text, sink, &survey, table, verdict);
     put_rows(&mut text, sink, &cycle, &scale, window, trace);
+    put_marks(&mut text, sink, &survey, table, verdict);
+    put_below(&mut text, sink, &survey);
     put_breach(&mut text, sink, &scale, breach, survey.marked);
     put_tail(&mut text, sink);
     text.finish(sink)

@@ -1,4 +1,6 @@
 pub mod AxisLemmas
+pub mod ExactLemmas
+pub mod PartedLemmas
 pub mod ScaleLemmas
 pub mod SayingLemmas
 pub mod SendingLemmas

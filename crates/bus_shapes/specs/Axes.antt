@@ -1,5 +1,6 @@
--- The axes of a picture: marks at round numbers of microseconds or of bit times.
-use Rattle.std.specs.Prelude.{ℕ, ◌+◌, ◌-◌, ◌*◌, ◌/◌, Bool, nat_le, List, [], ◌∷◌, ◌++◌, codes, decimal}
+-- The axes of a picture: marks at round numbers of microseconds, numbered in units of time or in bit times.
+use Rattle.std.specs.Prelude.{ℕ, ◌+◌, ◌-◌, ◌*◌, ◌/◌, ◌%◌, Bool, ◌&&◌, ◌==◌, nat_le, nat_lt, List, [], ◌∷◌, ◌++◌, length, codes}
+use Rattle.std.specs.Prelude.{decimal, if◌then◌else◌}
 use Rattle.std.specs.List.{find, flat_map, range_with_len}
 use Rattle.std.specs.Option.{unwrap_or}
 use Rattle.bus_shapes.specs.Classes.{Number, Small}
@@ -10,16 +11,37 @@ pub use Rattle.bus_shapes.specs.declared.axis.Unit.{Unit}
 pub use Rattle.bus_shapes.specs.declared.axis.Unit.TheVariants.{Microseconds, BitTimes}
 use Rattle.bus_shapes.specs.Measures.{left_margin, mark_room, mark_width}
 
--- How many bit times a unit has: a bit time is half a microsecond.
-abbrev pub unit_bits : Unit → ℕ
-unit_bits Microseconds = 2
-unit_bits BitTimes = 1
+-- ---- numbers
+-- The bytes of a thin space.
+abbrev pub thin_space : List ℕ
+thin_space = 226 ∷ (128 ∷ (137 ∷ []))
 
--- What a unit is called.
-abbrev pub unit_name : Unit → List ℕ
-unit_name Microseconds = codes "microseconds"
-unit_name BitTimes = codes "bit times"
+-- Whether thousands end before these digits: they are some, and a multiple of three.
+abbrev pub are_thousands : List ℕ → Bool
+are_thousands digits = nat_lt 0 (length digits) && length digits % 3 == 0
 
+-- Digits, with a thin space wherever thousands end.
+abbrev pub parted : List ℕ → List ℕ
+parted [] = []
+parted (digit ∷ digits) = if are_thousands digits then digit ∷ (thin_space ++ parted digits) else digit ∷ parted digits
+
+-- ---- units
+-- By how many microseconds an axis of time counts whose marks are so many microseconds apart: by seconds, milliseconds or microseconds.
+abbrev pub time_unit : ℕ → ℕ
+time_unit apart = if nat_le 1000000 apart then 1000000 else (if nat_le 1000 apart then 1000 else 1)
+
+-- How many bit times a unit has, where the marks are so many bit times apart: a bit time is half a microsecond.
+abbrev pub unit_bits : Unit → ℕ → ℕ
+unit_bits Microseconds step = 2 * time_unit (step / 2)
+unit_bits BitTimes step = 1
+
+-- What it is called.
+abbrev pub unit_name : Unit → ℕ → List ℕ
+unit_name Microseconds step =
+    if nat_le 2000000 step then codes "seconds" else (if nat_le 2000 step then codes "milliseconds" else codes "microseconds")
+unit_name BitTimes step = codes "bit times"
+
+-- ---- marks
 -- The round numbers.
 abbrev pub rounds : List ℕ
 rounds =
@@ -28,17 +50,17 @@ rounds =
     500000000 ∷ (1000000000 ∷ (2000000000 ∷ (5000000000 ∷ (10000000000 ∷ (20000000000 ∷ (50000000000 ∷ (100000000000 ∷ (
     200000000000 ∷ (500000000000 ∷ (1000000000000 ∷ (2000000000000 ∷ (5000000000000 ∷ []))))))))))))))))))))))))))))))))))))))
 
--- Whether marks so many units apart are 100 pixels apart, so that the numbers of the longest trace have room.
-abbrev pub is_wide : Scale → Unit → ℕ → Bool
-is_wide scale unit number = nat_le (mark_room * (scale.to - scale.from)) (number * unit_bits unit * scale.width)
+-- Whether marks so many microseconds apart are 120 pixels apart, so that the numbers of the longest trace have room.
+abbrev pub is_wide : Scale → ℕ → Bool
+is_wide scale number = nat_le (mark_room * (scale.to - scale.from)) (number * 2 * scale.width)
 
--- The units from mark to mark, where no round number is enough.
-abbrev pub most_units : ℕ
-most_units = 10000000000000
+-- The microseconds from mark to mark, where no round number is enough.
+abbrev pub most_apart : ℕ
+most_apart = 10000000000000
 
--- The bit times from mark to mark: the least round number of units that is so wide.
-abbrev pub step : Scale → Unit → ℕ
-step scale unit = unwrap_or (find (is_wide scale unit) rounds) most_units * unit_bits unit
+-- The bit times from mark to mark: the least round number of microseconds that is so wide. The marks of both axes are at the same moments.
+abbrev pub step : Scale → ℕ
+step scale = unwrap_or (find (is_wide scale) rounds) most_apart * 2
 
 -- The marks are the multiples of the step in the scale. The first of them, as such a multiple.
 abbrev pub first_mark : Scale → ℕ → ℕ
@@ -52,21 +74,21 @@ mark_count scale step = scale.to / step + 1 - first_mark scale step
 abbrev pub mark_at : Axis → ℕ → ℕ → List ℕ
 mark_at axis left number =
     box_text axis.class (record { left = left; top = axis.top; width = mark_width; height = axis.height })
-    ++ words_text Number left axis.words (decimal number)
+    ++ words_text Number left axis.words (parted (decimal number))
 
 -- The mark of a moment, with how many units that is.
-abbrev pub mark_text : Scale → Axis → ℕ → List ℕ
-mark_text scale axis t = mark_at axis (place scale t) (t / unit_bits axis.unit)
+abbrev pub mark_text : Scale → Axis → ℕ → ℕ → List ℕ
+mark_text scale axis step t = mark_at axis (place scale t) (t / unit_bits axis.unit step)
 
 -- The marks of an axis, a step apart.
 abbrev pub marks_text : Scale → Axis → ℕ → List ℕ
 marks_text scale axis step =
-    flat_map (λ k. mark_text scale axis ((first_mark scale step + k) * step)) (range_with_len 0 (mark_count scale step))
+    flat_map (λ k. mark_text scale axis step ((first_mark scale step + k) * step)) (range_with_len 0 (mark_count scale step))
 
 -- The name of an axis.
-abbrev pub name_text : Axis → List ℕ
-name_text axis = words_text Small left_margin axis.words (unit_name axis.unit)
+abbrev pub name_text : Axis → ℕ → List ℕ
+name_text axis step = words_text Small left_margin axis.words (unit_name axis.unit step)
 
 -- An axis: its name, and its marks.
 abbrev pub axis_text : Scale → Axis → List ℕ
-axis_text scale axis = name_text axis ++ marks_text scale axis (step scale axis.unit)
+axis_text scale axis = name_text axis (step scale) ++ marks_text scale axis (step scale)

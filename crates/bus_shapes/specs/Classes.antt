@@ -6,7 +6,8 @@ pub use Rattle.bus_shapes.specs.declared.class.Class.{Class}
 pub use Rattle.bus_shapes.specs.declared.class.Class.TheVariants.{Background, Band, Unobserved, Grid}
 pub use Rattle.bus_shapes.specs.declared.class.Class.TheVariants.{Tick, Span, Message, Garbled, Wordstring}
 pub use Rattle.bus_shapes.specs.declared.class.Class.TheVariants.{Other, Label, Noise, Edge, Overlap, Gap, Interval, Mark, Breach}
-pub use Rattle.bus_shapes.specs.declared.class.Class.TheVariants.{Verdict, Refusal, Answer, Note, Counts, Small, Detail, Number, Digits, NoiseDigits}
+pub use Rattle.bus_shapes.specs.declared.class.Class.TheVariants.{Verdict, Refusal, Answer, Note, Counts}
+pub use Rattle.bus_shapes.specs.declared.class.Class.TheVariants.{Small, Detail, Number, Digits, NoiseDigits}
 pub use Rattle.bus_shapes.specs.declared.class.Class.TheVariants.{GapWords, IntervalWords, BreachWords}
 
 -- What a class is called.

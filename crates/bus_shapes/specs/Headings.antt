@@ -1,7 +1,8 @@
--- The heading of a picture: what the verdict on the table and the audit of the trace come to, in words. Times are in bit times, and in
--- microseconds, of which a bit time is a half.
-use Rattle.std.specs.Prelude.{ℕ, ◌/◌, ◌%◌, ◌==◌, List, [], ◌∷◌, ◌++◌, codes, if◌then◌else◌}
+-- The heading of a picture: what the verdict on the table and the audit of the trace come to, in words. Times are in bit times, and those
+-- of a cycle and of a breach in microseconds too.
+use Rattle.std.specs.Prelude.{ℕ, List, ◌++◌, codes}
 use Rattle.std.specs.Fmt.{decimal, signed_decimal}
+use Rattle.bus_strings.specs.Microseconds.{microseconds, micro_unit}
 use Rattle.bus_audit.specs.declared.answer.AuditAnswer.{AuditAnswer}
 use Rattle.bus_audit.specs.declared.answer.AuditAnswer.TheVariants.{Lawful, Breach}
 use Rattle.bus_audit.specs.declared.answer.BreachKind.{BreachKind}
@@ -13,27 +14,14 @@ use Rattle.bus_table.specs.declared.mode.Mode.TheVariants.{Aperiodic, Periodic}
 use Rattle.bus_shapes.specs.Classes.{Class, Verdict, Refusal}
 use Rattle.bus_shapes.specs.Sayings.{counted}
 
--- ---- times
--- What an odd number of bit times is beyond whole microseconds.
-abbrev pub half_text : ℕ → List ℕ
-half_text t = if t % 2 == 1 then codes ".5" else []
-
--- A time in microseconds, as a number.
-abbrev pub micro_number : ℕ → List ℕ
-micro_number t = decimal (t / 2) ++ half_text t
-
--- Its unit: a space, the two bytes of the letter mu, and `s)`.
-abbrev pub micro_unit : List ℕ
-micro_unit = 32 ∷ 194 ∷ 181 ∷ 115 ∷ 41 ∷ []
-
 -- ---- the verdict
 -- An acceptance: the shortest and the longest cycle, which in periodic mode are one.
 abbrev pub accept_heading : Mode → ℕ → ℕ → List ℕ
 accept_heading Aperiodic least most =
-    codes "ACCEPT aperiodic, cycle " ++ decimal least ++ codes " to " ++ decimal most ++ codes " bit times (" ++ micro_number least
-    ++ codes " to " ++ micro_number most ++ micro_unit
+    codes "ACCEPT aperiodic, cycle " ++ decimal least ++ codes " to " ++ decimal most ++ codes " bit times (" ++ microseconds least
+    ++ codes " to " ++ microseconds most ++ micro_unit ++ codes ")"
 accept_heading Periodic least most =
-    codes "ACCEPT periodic, cycle " ++ decimal least ++ codes " bit times (" ++ micro_number least ++ micro_unit
+    codes "ACCEPT periodic, cycle " ++ decimal least ++ codes " bit times (" ++ microseconds least ++ micro_unit ++ codes ")"
 
 -- A verdict.
 abbrev pub verdict_heading : TableVerdict → List ℕ
@@ -67,5 +55,5 @@ breach_words Missing = codes " should start and doesn't"
 abbrev pub answer_heading : AuditAnswer → List ℕ
 answer_heading (Lawful collided) = codes "LAWFUL, " ++ counted collided (codes "transmission") ++ codes " collided"
 answer_heading (Breach moment terminal kind) =
-    codes "BREACH at " ++ decimal moment ++ codes " (" ++ micro_number moment ++ micro_unit ++ codes ": terminal " ++ decimal terminal
+    codes "BREACH at " ++ decimal moment ++ codes " (" ++ microseconds moment ++ micro_unit ++ codes "): terminal " ++ decimal terminal
     ++ breach_words kind

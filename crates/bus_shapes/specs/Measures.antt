@@ -25,9 +25,9 @@ head_line = 270
 abbrev pub facts_line : ℕ
 facts_line = 480
 
--- The least room from mark to mark on an axis, so that the numbers of the longest trace fit: 100 pixels.
+-- The least room from mark to mark on an axis, so that the numbers of the longest trace fit: 120 pixels.
 abbrev pub mark_room : ℕ
-mark_room = 1000
+mark_room = 1200
 
 -- The width of the line of a mark.
 abbrev pub mark_width : ℕ

@@ -25,9 +25,9 @@ abbrev pub table_words : Table → List ℕ
 table_words table = summary_words table.mode table.ti table.sg (length table.senders)
 
 -- ---- a transmission
--- A moment in microseconds: a bit time is half of one.
-abbrev pub microseconds : ℕ → List ℕ
-microseconds t = decimal (t / 2) ++ codes "." ++ decimal (t % 2 * 5)
+-- A moment in microseconds, with one decimal: a bit time is half of one.
+abbrev pub decimal_microseconds : ℕ → List ℕ
+decimal_microseconds t = decimal (t / 2) ++ codes "." ++ decimal (t % 2 * 5)
 
 -- Whether it is garbled, in words.
 abbrev pub garbled_words : Bool → List ℕ
@@ -39,4 +39,5 @@ abbrev pub sent_words : Sent → List ℕ
 sent_words sent =
     codes "T" ++ decimal sent.terminal ++ codes " message " ++ decimal sent.number ++ codes ": moments " ++ decimal sent.moment
     ++ codes " to " ++ decimal sent.end ++ codes ", " ++ decimal (sent.end - sent.moment) ++ codes " bit times, "
-    ++ microseconds sent.moment ++ codes " to " ++ microseconds sent.end ++ codes " microseconds" ++ garbled_words sent.garbled
+    ++ decimal_microseconds sent.moment ++ codes " to " ++ decimal_microseconds sent.end ++ codes " microseconds"
+    ++ garbled_words sent.garbled

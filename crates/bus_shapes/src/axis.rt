@@ -1,5 +1,5 @@
-//! Axes: marks at round numbers of microseconds or of bit times.
-ghost use Rattle.std.specs.Prelude.{◌≡◌, ◌<◌, ◌≤◌, ◌+◌, ◌*◌, ◌^◌, ◌/◌, ◌-◌};
+//! Axes: marks at round numbers of microseconds, numbered in units of time or in bit times.
+ghost use Rattle.std.specs.Prelude.{◌≡◌, ◌<◌, ◌≤◌, ◌+◌, ◌*◌, ◌^◌, ◌/◌, ◌-◌, ◌%◌, ◌∷◌, [], decimal};
 ghost use Rattle.std.specs.List.{find};
 ghost use Rattle.bus_outer.specs.Texts.{Adds};
 ghost use Rattle.bus_shapes.specs.Axes as definition;
@@ -14,7 +14,7 @@ use bus_outer::{Sink, TextBuffer};
 /// What an axis counts.
 #[derive(Clone, Copy, Debug, PartialEq, Eq)]
 pub enum Unit {
-    /// Microseconds, of two bit times each.
+    /// Microseconds, of two bit times each; milliseconds or seconds, where the marks are so far apart.
     Microseconds,
     /// Bit times.
     BitTimes,
@@ -78,52 +78,93 @@ const ROUNDS: [u64; 39] = [
     5_000_000_000_000,
 ];
 
-/// The units from mark to mark, where no round number is enough.
-const MOST_UNITS: u64 = 10_000_000_000_000;
+/// The microseconds from mark to mark, where no round number is enough.
+const MOST_APART: u64 = 10_000_000_000_000;
+
+/// By how many microseconds an axis of time counts whose marks are so many microseconds apart.
+fn time_unit(apart: u64) -> u64
+    ensures value { result ≡ definition.time_unit apart }
+    ensures some { 0 < result }
+    ensures few { result ≤ 1000000 }
+{
+    if apart >= 1_000_000 {
+        1_000_000
+    } else if apart >= 1000 {
+        1000
+    } else {
+        1
+    }
+}
 
 impl Unit {
-    /// How many bit times it has.
-    pub fn bits(self) -> u64
-        ensures value { result ≡ definition.unit_bits self }
+    /// How many bit times it has, where the marks are so many bit times apart.
+    pub fn bits(self, step: u64) -> u64
+        ensures value { result ≡ definition.unit_bits self step }
         ensures some { 0 < result }
-        ensures few { result ≤ 2 }
+        ensures few { result ≤ 2000000 }
     {
         match self {
-            Unit::Microseconds => 2,
+            Unit::Microseconds => 2 * time_unit(step / 2),
             Unit::BitTimes => 1,
         }
     }
 }
 
-/// Whether marks so many units apart are 100 pixels apart.
-fn is_wide(scale: &Scale, unit: Unit, number: u64) -> bool
+/// Whether marks so many microseconds apart are 120 pixels apart.
+fn is_wide(scale: &Scale, number: u64) -> bool
     requires { IsScale scale.now }
-    ensures { result ≡ definition.is_wide scale.now unit number }
+    ensures { result ≡ definition.is_wide scale.now number }
 {
-    let wide = u128::from(number) * u128::from(unit.bits()) * u128::from(scale.width);
-    u128::from(1000 * (scale.to - scale.from)) <= wide
+    let wide = u128::from(number) * 2 * u128::from(scale.width);
+    u128::from(1200 * (scale.to - scale.from)) <= wide
 }
 
-/// The least round number of units that is so wide.
-fn wide_units(scale: &Scale, unit: Unit) -> Option<u64>
+/// The least round number of microseconds that is so wide.
+fn wide_apart(scale: &Scale) -> Option<u64>
     requires { IsScale scale.now }
-    ensures { result ≡ find (definition.is_wide scale.now unit) definition.rounds }
+    ensures { result ≡ find (definition.is_wide scale.now) definition.rounds }
 {
     ROUNDS
         .iter()
         .copied()
-        .find(|number| is_wide(scale, unit, *number))
+        .find(|number| is_wide(scale, *number))
 }
 
 /// The bit times from mark to mark.
-fn step(scale: &Scale, unit: Unit) -> u64
+fn step(scale: &Scale) -> u64
     requires { IsScale scale.now }
-    ensures value { result ≡ definition.step scale.now unit }
+    ensures value { result ≡ definition.step scale.now }
     ensures some { 0 < result }
     ensures low { result ≤ 2 ^ 45 }
 {
-    let units = wide_units(scale, unit).unwrap_or(MOST_UNITS);
-    units * unit.bits()
+    wide_apart(scale).unwrap_or(MOST_APART) * 2
+}
+
+/// The three digits of a number below 1000.
+fn put_three<K: Sink>(text: &mut TextBuffer, sink: &mut K, number: u64)
+    requires { number < 1000 }
+    ensures { Adds K.held K.faults sink.old sink.new text.old text.new
+        ((48 + number / 100) ∷ ((48 + number / 10 % 10) ∷ ((48 + number % 10) ∷ []))) }
+{
+    let digits = [
+        b'0' + (number / 100) as u8,
+        b'0' + (number / 10 % 10) as u8,
+        b'0' + (number % 10) as u8,
+    ];
+    text.put(sink, &digits);
+}
+
+/// Puts a number, with a thin space between its thousands.
+pub fn put_parted<K: Sink>(text: &mut TextBuffer, sink: &mut K, number: u64)
+    ensures { Adds K.held K.faults sink.old sink.new text.old text.new (definition.parted (decimal number)) }
+{
+    if number < 1000 {
+        text.put_number(sink, number);
+        return;
+    }
+    put_parted(text, sink, number / 1000);
+    text.put(sink, b"\xe2\x80\x89");
+    put_three(text, sink, number % 1000);
 }
 
 /// A mark at a place: its line, and its number.
@@ -138,17 +179,24 @@ fn put_mark_at<K: Sink>(text: &mut TextBuffer, sink: &mut K, axis: &Axis, left: 
     };
     put_box(text, sink, axis.class, area);
     begin_words(text, sink, Class::Number, left, axis.words);
-    text.put_number(sink, number);
+    put_parted(text, sink, number);
     end_words(text, sink);
 }
 
-/// The mark of a moment.
-fn put_mark<K: Sink>(text: &mut TextBuffer, sink: &mut K, scale: &Scale, axis: &Axis, t: u64)
+/// The mark of a moment, where the marks are a step apart.
+fn put_mark<K: Sink>(
+    text: &mut TextBuffer,
+    sink: &mut K,
+    scale: &Scale,
+    axis: &Axis,
+    step: u64,
+    t: u64,
+)
     requires { IsScale scale.now }
-    ensures { Adds K.held K.faults sink.old sink.new text.old text.new (definition.mark_text scale.now axis.now t) }
+    ensures { Adds K.held K.faults sink.old sink.new text.old text.new (definition.mark_text scale.now axis.now step t) }
 {
     let left = scale.place(t);
-    let bits = axis.unit.bits();
+    let bits = axis.unit.bits(step);
     put_mark_at(text, sink, axis, left, t / bits);
 }
 
@@ -162,35 +210,38 @@ fn put_marks<K: Sink>(text: &mut TextBuffer, sink: &mut K, scale: &Scale, axis: 
     let first = (scale.from + step - 1) / step;
     let count = scale.to / step + 1 - first;
     for k in 0..count {
-        put_mark(text, sink, scale, axis, (first + k) * step);
+        put_mark(text, sink, scale, axis, step, (first + k) * step);
     }
 }
 
-/// What a unit is called.
-fn put_unit<K: Sink>(text: &mut TextBuffer, sink: &mut K, unit: Unit)
-    ensures { Adds K.held K.faults sink.old sink.new text.old text.new (definition.unit_name unit) }
+/// What a unit is called, where the marks are a step apart.
+fn put_unit<K: Sink>(text: &mut TextBuffer, sink: &mut K, unit: Unit, step: u64)
+    ensures { Adds K.held K.faults sink.old sink.new text.old text.new (definition.unit_name unit step) }
 {
     match unit {
+        Unit::Microseconds if step >= 2_000_000 => text.put(sink, b"seconds"),
+        Unit::Microseconds if step >= 2000 => text.put(sink, b"milliseconds"),
         Unit::Microseconds => text.put(sink, b"microseconds"),
         Unit::BitTimes => text.put(sink, b"bit times"),
     }
 }
 
-/// The name of an axis.
-fn put_name<K: Sink>(text: &mut TextBuffer, sink: &mut K, axis: &Axis)
-    ensures { Adds K.held K.faults sink.old sink.new text.old text.new (definition.name_text axis.now) }
+/// The name of an axis whose marks are a step apart.
+fn put_name<K: Sink>(text: &mut TextBuffer, sink: &mut K, axis: &Axis, step: u64)
+    ensures { Adds K.held K.faults sink.old sink.new text.old text.new (definition.name_text axis.now step) }
 {
     begin_words(text, sink, Class::Small, 200, axis.words);
-    put_unit(text, sink, axis.unit);
+    put_unit(text, sink, axis.unit, step);
     end_words(text, sink);
 }
 
-/// Puts an axis: its name at the left, and its marks, at least 100 pixels apart, where `scale` has their moments.
+/// Puts an axis: its name at the left, and its marks, at least 120 pixels apart, where `scale` has their moments. Those of both units are
+/// at the same moments.
 pub fn put_axis<K: Sink>(text: &mut TextBuffer, sink: &mut K, scale: &Scale, axis: &Axis)
     requires { IsScale scale.now }
     ensures { Adds K.held K.faults sink.old sink.new text.old text.new (definition.axis_text scale.now axis.now) }
 {
-    put_name(text, sink, axis);
-    let step = step(scale, axis.unit);
+    let step = step(scale);
+    put_name(text, sink, axis, step);
     put_marks(text, sink, scale, axis, step);
 }

@@ -1,6 +1,5 @@
 //! The heading of a picture, in words.
 ghost use Rattle.std.specs.Prelude.{◌≡◌};
-ghost use Rattle.std.specs.Fmt.{signed_decimal};
 ghost use Rattle.bus_outer.specs.Texts.{Adds};
 ghost use Rattle.bus_audit.specs.declared.answer.AuditAnswer.TheVariants.{Lawful, Breach};
 ghost use Rattle.bus_regime.specs.declared.table_verdict.TableVerdict.TheVariants.{ShortCycle, SmallGap, NoSync};
@@ -12,31 +11,8 @@ use crate::frame::put_counted;
 use bus_audit::{AuditAnswer, BreachKind};
 use bus_outer::{Sink, TextBuffer};
 use bus_regime::TableVerdict;
+use bus_strings::{put_micro_unit, put_microseconds};
 use bus_table::Mode;
-
-/// What an odd number of bit times is beyond whole microseconds.
-fn put_half<K: Sink>(text: &mut TextBuffer, sink: &mut K, t: u64)
-    ensures { Adds K.held K.faults sink.old sink.new text.old text.new (definition.half_text t) }
-{
-    if t % 2 == 1 {
-        text.put(sink, b".5");
-    }
-}
-
-/// A time in microseconds, as a number.
-fn put_micro_number<K: Sink>(text: &mut TextBuffer, sink: &mut K, t: u64)
-    ensures { Adds K.held K.faults sink.old sink.new text.old text.new (definition.micro_number t) }
-{
-    text.put_number(sink, t / 2);
-    put_half(text, sink, t);
-}
-
-/// Its unit.
-fn put_micro_unit<K: Sink>(text: &mut TextBuffer, sink: &mut K)
-    ensures { Adds K.held K.faults sink.old sink.new text.old text.new definition.micro_unit }
-{
-    text.put(sink, &[b' ', 194, 181, b's', b')']);
-}
 
 /// An acceptance in aperiodic mode.
 fn put_aperiodic<K: Sink>(text: &mut TextBuffer, sink: &mut K, least: u64, most: u64)
@@ -47,10 +23,11 @@ fn put_aperiodic<K: Sink>(text: &mut TextBuffer, sink: &mut K, least: u64, most:
     text.put(sink, b" to ");
     text.put_number(sink, most);
     text.put(sink, b" bit times (");
-    put_micro_number(text, sink, least);
+    put_microseconds(text, sink, u128::from(least));
     text.put(sink, b" to ");
-    put_micro_number(text, sink, most);
+    put_microseconds(text, sink, u128::from(most));
     put_micro_unit(text, sink);
+    text.put(sink, b")");
 }
 
 /// An acceptance in periodic mode.
@@ -61,8 +38,9 @@ fn put_periodic<K: Sink>(text: &mut TextBuffer, sink: &mut K, least: u64, most: 
     text.put(sink, b"ACCEPT periodic, cycle ");
     text.put_number(sink, least);
     text.put(sink, b" bit times (");
-    put_micro_number(text, sink, least);
+    put_microseconds(text, sink, u128::from(least));
     put_micro_unit(text, sink);
+    text.put(sink, b")");
 }
 
 /// An acceptance.
@@ -85,13 +63,6 @@ fn put_short_cycle<K: Sink>(text: &mut TextBuffer, sink: &mut K, least: u64, ti:
     text.put_number(sink, ti);
 }
 
-/// A number that may be negative.
-fn put_signed<K: Sink>(text: &mut TextBuffer, sink: &mut K, number: i64)
-    ensures { Adds K.held K.faults sink.old sink.new text.old text.new (signed_decimal number) }
-{
-    text.put_number(sink, number)
-}
-
 /// A refusal for a small gap.
 fn put_small_gap<K: Sink>(text: &mut TextBuffer, sink: &mut K, terminal: u8, gap: i64, needed: u64)
     ensures { Adds K.held K.faults sink.old sink.new text.old text.new (definition.verdict_heading (SmallGap terminal gap needed)) }
@@ -99,7 +70,7 @@ fn put_small_gap<K: Sink>(text: &mut TextBuffer, sink: &mut K, terminal: u8, gap
     text.put(sink, b"REFUSE: gap before terminal ");
     text.put_number(sink, terminal);
     text.put(sink, b" ");
-    put_signed(text, sink, gap);
+    text.put_signed(sink, gap);
     text.put(sink, b" bit times, below TG ");
     text.put_number(sink, needed);
 }
@@ -187,9 +158,9 @@ fn put_breach<K: Sink>(
     text.put(sink, b"BREACH at ");
     text.put_number(sink, moment);
     text.put(sink, b" (");
-    put_micro_number(text, sink, moment);
+    put_microseconds(text, sink, u128::from(moment));
     put_micro_unit(text, sink);
-    text.put(sink, b": terminal ");
+    text.put(sink, b"): terminal ");
     text.put_number(sink, terminal);
     put_breach_words(text, sink, kind);
 }

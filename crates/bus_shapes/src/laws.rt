@@ -1,10 +1,15 @@
 //! Laws of the definitions, each the contract of a function that does nothing.
-ghost use Rattle.bus_shapes.specs.Laws.{PlacesLieWithin, PlacesRise, SentsAreTold};
+ghost use Rattle.bus_shapes.specs.Laws.{MarksAreExact, PlacesLieWithin, PlacesRise, SentsAreTold};
 
 /// Places of moments: they don't fall as moments rise, and lie between the edges of the scale.
 pub fn places_keep_order()
     ensures rise { PlacesRise }
     ensures within { PlacesLieWithin }
+{}
+
+/// The number at each mark of an axis is exact: the mark is at so many of the units that the axis counts.
+pub fn marks_are_exact()
+    ensures { MarksAreExact }
 {}
 
 /// All that [`Sents`](crate::Sents) tell of a list is told of entries of it: each has the terminal, the moments and the mark of one.

@@ -4,10 +4,11 @@
 //! - [`Window`] is the stretch of a trace that is shown, and [`Scale`] says where moments are drawn.
 //! - [`put_frame`] and [`put_tail`] put what stands around a picture, [`put_axis`] an axis.
 //! - [`Sents`] goes over a list and tells of each transmission what a picture says of it, a [`Sent`]; [`put_sent`] puts its words.
-//! - [`laws`] has what follows of the definitions of places.
+//! - [`laws`] has what follows of the definitions of places, marks and what is told of a list.
 //!
 //! All numbers are whole; a unit is a tenth of a pixel. The definitions are in `specs/`: `Classes`, `Shapes` (boxes and words), `Windows`,
-//! `Scales` (places of moments), `Axes`, `Sayings` (the words), `Sending` (what is told of a list) and `Frames`. No call takes memory.
+//! `Scales` (places of moments), `Axes`, `Sayings` (the words), `Sending` (what is told of a list), `Headings` and `Frames`. No call takes
+//! memory.
 #![tactic(auto)]
 
 mod area;
@@ -29,7 +30,7 @@ pub use class::Class;
 pub use counts::Counts;
 pub use frame::{put_counted, put_frame, put_tail};
 pub use scale::Scale;
-pub use sent::{Sent, put_garbled, put_microseconds, put_sent};
+pub use sent::{Sent, put_garbled, put_sent};
 pub use sents::Sents;
 pub use shapes::{begin_titled, begin_words, end_titled, end_words, put_box, put_words};
 pub use window::Window;

@@ -24,9 +24,9 @@ pub struct Sent {
     pub garbled: bool,
 }
 
-/// Puts a moment in microseconds.
-pub fn put_microseconds<K: Sink>(text: &mut TextBuffer, sink: &mut K, t: u64)
-    ensures { Adds K.held K.faults sink.old sink.new text.old text.new (definition.microseconds t) }
+/// Puts a moment in microseconds, with one decimal.
+fn put_decimal_microseconds<K: Sink>(text: &mut TextBuffer, sink: &mut K, t: u64)
+    ensures { Adds K.held K.faults sink.old sink.new text.old text.new (definition.decimal_microseconds t) }
 {
     text.put_number(sink, t / 2);
     text.put_byte(sink, b'.');
@@ -58,9 +58,9 @@ pub fn put_sent<K: Sink>(text: &mut TextBuffer, sink: &mut K, sent: &Sent)
     text.put(sink, b", ");
     text.put_number(sink, sent.end - sent.moment);
     text.put(sink, b" bit times, ");
-    put_microseconds(text, sink, sent.moment);
+    put_decimal_microseconds(text, sink, sent.moment);
     text.put(sink, b" to ");
-    put_microseconds(text, sink, sent.end);
+    put_decimal_microseconds(text, sink, sent.end);
     text.put(sink, b" microseconds");
     put_garbled(text, sink, sent.garbled);
 }

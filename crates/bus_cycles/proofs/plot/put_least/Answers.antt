@@ -14,7 +14,7 @@ pub returns-then-t-survey : goal.returns-then-t-survey
 returns-then-t-survey g c =
     let survey = c.args.survey.now in
     let t = c.args.t in
-    let text : Area → ℕ → List ℕ = λ area left. box_text Mark area ++ mark_words survey Detail (left - 30) 240 (codes "least ") t in
+    let text : Area → ℕ → List ℕ = λ area left. box_text Mark area ++ mark_words Detail (left - 30) 1250 (codes "least ") t in
     let left = c.place-left.ensures.value ∙ ap (λ (s : Scale). place s t) c.scale_of.ensures in
     subst (λ (x : List ℕ). Adds g.K.Sink.held g.K.Sink.faults c.args.sink.now c.put_mark_words.new.sink c.args.text.now c.put_mark_words.new.text x)
     (ap (λ (area : Area). text area c.place-left.result) c.mark_line.ensures

@@ -7,5 +7,5 @@ use Rattle.bus_shapes.proofs.axis.put_axis.Goals as goal
 pub returns : goal.returns
 returns g c =
     subst (λ (step : ℕ). Adds g.K.Sink.held g.K.Sink.faults c.args.sink.now c.put_marks.new.sink c.args.text.now c.put_marks.new.text
-    (name_text c.args.axis.now ++ marks_text c.args.scale.now c.args.axis.now step)) c.step-step.ensures.value
+    (name_text c.args.axis.now step ++ marks_text c.args.scale.now c.args.axis.now step)) c.step-step.ensures.value
     (c.put_name.ensures ▸ c.put_marks.ensures)

@@ -8,5 +8,5 @@ use Rattle.bus_shapes.proofs.axis.put_marks.Goals as goal
 pub loop-k-preserved : goal.loop-k-preserved
 loop-k-preserved g c =
     subst (λ (t : List ℕ). Adds g.K.Sink.held g.K.Sink.faults c.args.sink.now c.put_mark.new.sink c.args.text.now c.put_mark.new.text t)
-    (sym (one_more (λ k. mark_text c.args.scale.now c.args.axis.now ((first_mark c.args.scale.now c.args.step + k) * c.args.step)) c.loop-k.k))
+    (sym (one_more (λ k. mark_text c.args.scale.now c.args.axis.now c.args.step ((first_mark c.args.scale.now c.args.step + k) * c.args.step)) c.loop-k.k))
     (c.loop-k.invariant ▸ c.put_mark.ensures)

@@ -7,4 +7,4 @@ use Rattle.bus_shapes.proofs.axis.put_marks.Given as goal
 abbrev pub invariant-loop-k : goal.invariant-loop-k
 invariant-loop-k g l =
     Adds g.K.Sink.held g.K.Sink.faults l.fn.sink l.sink l.fn.text l.text
-    (flat_map (λ k. mark_text l.scale l.axis ((first_mark l.scale l.step + k) * l.step)) (range_with_len 0 l.k))
+    (flat_map (λ k. mark_text l.scale l.axis l.step ((first_mark l.scale l.step + k) * l.step)) (range_with_len 0 l.k))
