@@ -13,8 +13,6 @@ mod cycles;
 mod gaps;
 pub mod laws;
 mod limits;
-#[cfg(test)]
-mod tests;
 
 pub use advice::Advice;
 pub use advising::advices;

@@ -21,8 +21,6 @@ mod end;
 pub mod laws;
 mod left;
 mod run;
-#[cfg(test)]
-mod tests;
 
 pub use cycle::last_cycle;
 pub use end::drop_end;

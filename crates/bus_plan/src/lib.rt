@@ -8,13 +8,9 @@
 //! isn't looked at. All of this is this project's profile.
 #![tactic(auto)]
 
-#[cfg(test)]
-mod all_offsets_tests;
 mod interval;
 pub mod laws;
 mod planning;
-#[cfg(test)]
-mod tests;
 mod walk;
 
 pub use interval::least_interval;

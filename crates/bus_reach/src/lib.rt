@@ -14,11 +14,7 @@ mod aperiodic;
 mod bearing;
 pub mod laws;
 mod periodic;
-#[cfg(test)]
-mod periodic_tests;
 mod starting;
-#[cfg(test)]
-mod tests;
 
 pub use bearing::{bears, tolerance};
 pub use starting::starts_itself;

@@ -28,8 +28,6 @@ pub mod laws;
 mod order;
 mod run;
 mod schedule;
-#[cfg(test)]
-mod tests;
 mod uneven;
 
 pub use end::closed_end;

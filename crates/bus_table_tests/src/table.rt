@@ -81,7 +81,8 @@ fn gaps_and_offsets_are_below_their_bounds(rt: HostRuntime) -> Result<(), Fail> 
 #[test]
 fn reads_periodic_tables_with_listeners(rt: HostRuntime) -> Result<(), Fail> {
     let text =
-        b"TABLE 1\nMODE periodic\nTI 2000\nSG 300\nSENDER 1 TG 20 AT 0\nSEND 0a1 1 2 2\nTAKE 0B2 * 255 256\nSENDER 2 TG 30 AT 1999\nSEND 0B2 f 30 40\nLISTENER 3\nLISTENER 4\nTAKE 0A1 f 0 1\n";
+        b"TABLE 1\nMODE periodic\nTI 2000\nSG 300\nSENDER 1 TG 20 AT 0\nSEND 0a1 1 2 2\nTAKE 0B2 * 255 256\n\
+          SENDER 2 TG 30 AT 1999\nSEND 0B2 f 30 40\nLISTENER 3\nLISTENER 4\nTAKE 0A1 f 0 1\n";
     let table = read_table(rt.alloc(), text)?;
     assert_eq!(rt; table.mode(), Mode::Periodic);
     let senders = table.senders();

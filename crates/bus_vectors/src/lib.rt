@@ -14,8 +14,6 @@ pub mod laws;
 mod making;
 mod rows;
 mod tables;
-#[cfg(test)]
-mod tests;
 mod texts;
 
 pub use items::round_count;

@@ -10,6 +10,7 @@ $scope module bus $end
 $var wire 1 c carrier $end
 $var wire 1 o overlap $end
 $var wire 1 s sync $end
+$var wire 1 b breach $end
 $var wire 1 p1 t1_pulse $end
 $var wire 1 g1 t1_garbled $end
 $var wire 1 p2 t2_pulse $end
@@ -21,6 +22,7 @@ $dumpvars
 0c
 0o
 0s
+0b
 0p1
 0g1
 0p2
@@ -68,7 +70,7 @@ fn the_wires_of_a_trace(rt: HostRuntime) -> Result<(), Fail> {
 /// How many bytes each dump and the save file have. That these are theirs is what the contract says.
 #[test]
 fn each_dump_of_a_trace(rt: HostRuntime) -> Result<(), Fail> {
-    for (command, length) in [("vcd", 832), ("timers", 1132), ("gtkw", 482)] {
+    for (command, length) in [("vcd", 861), ("timers", 1161), ("gtkw", 503)] {
         let ran = run_on(&rt, &[command, "T", "R"], TABLE, TRACE)?;
         assert!(rt; ran.status == Status::Done);
         assert!(rt; ran.out.bytes().len() == length, "{command}");

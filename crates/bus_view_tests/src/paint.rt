@@ -19,25 +19,31 @@ WS L0B210 D00FF1
 END
 ";
 
-/// The end of the picture: a row of two transmissions, the words of one of two that collide, which are drawn after them, and the first
-/// start that is missing, in the first row.
-const ROWS: &str = "<rect class=\"wordstring\" x=\"12940\" y=\"1200\" width=\"670\" height=\"120\">\
+/// The end of the picture: a row of two transmissions, the words of one of two that collide, which are drawn after them, the marks, and the
+/// first start that is missing, in the first row.
+const ROWS: &str = "<rect class=\"wordstring\" x=\"12140\" y=\"1320\" width=\"620\" height=\"120\">\
 <title>T1 message 1: moments 1020 to 1080, 60 bit times, 510.0 to 540.0 microseconds</title></rect>
-<text class=\"digits\" x=\"13275\" y=\"1295\">1</text>
-<rect class=\"other\" x=\"13950\" y=\"1200\" width=\"450\" height=\"120\">\
+<text class=\"digits\" x=\"12450\" y=\"1415\">1</text>
+<rect class=\"other\" x=\"13080\" y=\"1320\" width=\"420\" height=\"120\">\
 <title>T2 message 1: moments 1110 to 1150, 40 bit times, 555.0 to 575.0 microseconds</title></rect>
-<text class=\"digits\" x=\"14175\" y=\"1295\">2</text>
-<text class=\"detail\" x=\"1440\" y=\"1295\">0</text>
-<text class=\"detail\" x=\"15500\" y=\"1295\">1150</text>
-<text class=\"detail\" x=\"1440\" y=\"1435\">1370</text>
-<text class=\"detail\" x=\"15500\" y=\"1435\">1100</text>
-<rect class=\"garbled\" x=\"13050\" y=\"1346\" width=\"670\" height=\"48\">\
+<text class=\"digits\" x=\"13290\" y=\"1415\">2</text>
+<text class=\"small\" x=\"200\" y=\"1415\">1</text>
+<text class=\"detail\" x=\"1440\" y=\"1415\">0</text>
+<text class=\"detail\" x=\"15500\" y=\"1415\">1150</text>
+<text class=\"small\" x=\"200\" y=\"1555\">2</text>
+<text class=\"detail\" x=\"1440\" y=\"1555\">1370</text>
+<text class=\"detail\" x=\"15500\" y=\"1555\">1100</text>
+<rect class=\"garbled\" x=\"12240\" y=\"1466\" width=\"630\" height=\"48\">\
 <title>T1 message 2: moments 2400 to 2460, 60 bit times, 1200.0 to 1230.0 microseconds, garbled</title></rect>
-<rect class=\"garbled\" x=\"13390\" y=\"1406\" width=\"440\" height=\"48\">\
+<rect class=\"garbled\" x=\"12560\" y=\"1526\" width=\"410\" height=\"48\">\
 <title>T2 message 2: moments 2430 to 2470, 40 bit times, 1215.0 to 1235.0 microseconds, garbled</title></rect>
-<rect class=\"breach\" x=\"1720\" y=\"1160\" width=\"20\" height=\"40\"/>
-<rect class=\"breach\" x=\"1720\" y=\"1320\" width=\"20\" height=\"40\"/>
-<text class=\"breach-words\" x=\"1990\" y=\"1295\">breach</text>
+<rect class=\"mark\" x=\"11934\" y=\"1070\" width=\"10\" height=\"520\"/>
+<text class=\"small\" x=\"11974\" y=\"1150\">SG 1000</text>
+<rect class=\"mark\" x=\"13291\" y=\"1070\" width=\"10\" height=\"520\"/>
+<text class=\"detail\" x=\"13261\" y=\"1250\">least 1130</text>
+<rect class=\"breach\" x=\"1700\" y=\"1280\" width=\"20\" height=\"40\"/>
+<rect class=\"breach\" x=\"1700\" y=\"1440\" width=\"20\" height=\"40\"/>
+<text class=\"note\" x=\"13560\" y=\"1415\">breach</text>
 </svg>
 ";
 
@@ -74,9 +80,9 @@ fn a_row_of_a_window_inside_a_cycle(rt: HostRuntime) -> Result<(), Fail> {
     let ran = run_on(&rt, &["cycles", "T", "R", "100", "140"], TABLE, TRACE)?;
     let parts = [
         "moments 100 to 140 of 150: 1 transmission, 0 garbled",
-        "from the moment at which it begins: 1 of 1</text>\n",
-        "<rect class=\"other\" x=\"1880\" y=\"1200\" width=\"520\" height=\"120\"><title>T2 message 1: moments 110 to 150, ",
-        "<text class=\"detail\" x=\"1440\" y=\"1295\">80</text>\n<text class=\"detail\" x=\"15500\" y=\"1295\">70</text>\n",
+        "from where it begins: 1 of 1, 70 to 70 bit times long</text>\n",
+        "<rect class=\"other\" x=\"1860\" y=\"1320\" width=\"480\" height=\"120\"><title>T2 message 1: moments 110 to 150, ",
+        "<text class=\"detail\" x=\"1440\" y=\"1415\">80</text>\n<text class=\"detail\" x=\"15500\" y=\"1415\">70</text>\n",
     ];
     assert!(rt; shows(&ran, &parts));
     Ok(())

@@ -39,6 +39,8 @@ fn a_time_line_has_offsets_and_the_transmit_interval(rt: HostRuntime) -> Result<
         "<text class=\"detail\" x=\"1380\" y=\"1550\">TG 30 AT 0</text>\n",
         "<text class=\"detail\" x=\"1380\" y=\"1870\">TG 20 AT 90</text>\n",
         "<text class=\"interval-words\" x=\"14045\" y=\"1546\">TI 2000</text>\n",
+        "<rect class=\"gap\" x=\"1625\" y=\"1743\" width=\"125\" height=\"14\"/>\n\
+         <text class=\"gap-words\" x=\"1687\" y=\"1718\">TG 20</text>\n",
     ];
     assert!(rt; shows(&ran, &parts));
     Ok(())
@@ -48,12 +50,12 @@ fn a_time_line_has_offsets_and_the_transmit_interval(rt: HostRuntime) -> Result<
 fn a_row_is_a_transmit_interval(rt: HostRuntime) -> Result<(), Fail> {
     let ran = run_on(&rt, &["cycles", "T", "R"], PERIODIC, ROUNDS)?;
     let parts = [
-        "from the moment at which it begins: 2 of 2</text>\n",
-        "<rect class=\"wordstring\" x=\"2080\" y=\"1200\" width=\"380\" height=\"120\"><title>T1 message 1: moments 90 to 150, ",
-        "<text class=\"detail\" x=\"1440\" y=\"1295\">0</text>\n<text class=\"detail\" x=\"15500\" y=\"1295\">150</text>\n",
-        "<rect class=\"wordstring\" x=\"2080\" y=\"1340\" width=\"380\" height=\"120\"><title>T1 message 2: moments 2090 to 2150, ",
-        "<text class=\"detail\" x=\"1440\" y=\"1435\">2000</text>\n<text class=\"detail\" x=\"15500\" y=\"1435\">150</text>\n",
-        "<text class=\"small\" x=\"14440\" y=\"1620\">TI 2000</text>\n",
+        "from where it begins: 2 of 2, 150 to 150 bit times long</text>\n",
+        "<rect class=\"wordstring\" x=\"2040\" y=\"1320\" width=\"360\" height=\"120\"><title>T1 message 1: moments 90 to 150, ",
+        "<text class=\"detail\" x=\"1440\" y=\"1415\">0</text>\n<text class=\"detail\" x=\"15500\" y=\"1415\">150</text>\n",
+        "<rect class=\"wordstring\" x=\"2040\" y=\"1460\" width=\"360\" height=\"120\"><title>T1 message 2: moments 2090 to 2150, ",
+        "<text class=\"detail\" x=\"1440\" y=\"1555\">2000</text>\n<text class=\"detail\" x=\"15500\" y=\"1555\">150</text>\n",
+        "<text class=\"small\" x=\"13540\" y=\"1150\">TI 2000</text>\n",
     ];
     assert!(rt; shows(&ran, &parts));
     Ok(())
@@ -71,8 +73,8 @@ fn rows_that_are_too_many(rt: HostRuntime) -> Result<(), Fail> {
     let ran = run_on(&rt, &["cycles", "T", "R"], PERIODIC, text.as_str())?;
     let parts = [
         "moments 0 to 1010000 of 1010000: 504 transmissions, 0 garbled",
-        "from the moment at which it begins: 500 of 504, the next at 1000000</text>\n",
-        "<text class=\"detail\" x=\"1440\" y=\"71155\">998000</text>\n",
+        "from where it begins: 500 of 504, 20 to 20 bit times long, the next at 1000000</text>\n",
+        "<text class=\"detail\" x=\"1440\" y=\"71275\">998000</text>\n",
     ];
     assert!(rt; shows(&ran, &parts));
     assert!(rt; !contains(ran.out.bytes(), "T2 message 501:"));

@@ -32,6 +32,20 @@ fn each_refusal(rt: HostRuntime) -> Result<(), Fail> {
             "ERROR 2 usage\n",
         ),
         (
+            &["vcd", "T", "R", "5", "x"][..],
+            TABLE,
+            TRACE,
+            Status::Usage,
+            "ERROR 2 usage\n",
+        ),
+        (
+            &["gtkw", "T", "R", "0", "9"][..],
+            TABLE,
+            TRACE,
+            Status::Usage,
+            "ERROR 2 usage\n",
+        ),
+        (
             &["cycles", "T", "R", "0", "09"][..],
             TABLE,
             TRACE,

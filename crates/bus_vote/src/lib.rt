@@ -23,8 +23,6 @@ mod mark;
 mod pace;
 mod scan;
 mod seen;
-#[cfg(test)]
-mod tests;
 mod voting;
 mod writing;
 

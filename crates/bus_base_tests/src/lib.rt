@@ -1,0 +1,14 @@
+//! Tests of bus_text, bus_words, bus_strings and bus_timers by their public calls: in a crate of their own, so that each of these is proved
+//! once and not a second time with its tests.
+#![tactic(auto)]
+
+#[cfg(test)]
+mod messages_text;
+#[cfg(test)]
+mod strings;
+#[cfg(test)]
+mod text;
+#[cfg(test)]
+mod timers;
+#[cfg(test)]
+mod words;

@@ -1,0 +1,149 @@
+//! Cable texts that are read, and that are refused.
+use bus_cable::{Cable, CableError, Named, read_cable, write_cable};
+use bus_outer::MemorySink;
+use bus_strings::Payloads;
+use bus_text::Reason;
+use std::test::Fail;
+
+const WHOLE: &[u8] =
+    b"CABLE 1\nPLACE 1 0\nPLACE 2 1024\nWAKE 1 4\nWAKE 128 1099511627775\nMSG 1 : 0000 0001\nMSG 2 : 00FF\n";
+
+/// Where a text is refused, and why.
+fn refusal(outcome: &Result<(Cable, Payloads), CableError>) -> Option<(u64, Reason)> {
+    match outcome {
+        Err(CableError::Text { line, reason }) => Some((*line, *reason)),
+        _ => None,
+    }
+}
+
+#[test]
+fn places_wakes_and_items_are_read_and_written_back(rt: HostRuntime) -> Result<(), Fail> {
+    let (cable, payloads) = read_cable(rt.alloc(), WHOLE)?;
+    assert_eq!(rt;
+        cable.places(),
+        [
+            Named {
+                terminal: 1,
+                bits: 0
+            },
+            Named {
+                terminal: 2,
+                bits: 1024
+            }
+        ]
+        .as_slice()
+    );
+    assert_eq!(rt;
+        (cable.place(1), cable.place(2), cable.place(3)),
+        (0, 1024, 0)
+    );
+    assert_eq!(rt;
+        (cable.wake(1), cable.wake(2), cable.wake(128)),
+        (4, 0, 1_099_511_627_775)
+    );
+    assert_eq!(rt; payloads.items.len(), 2);
+
+    let mut sink = MemorySink::new(rt.alloc(), 200, 7, Vec::new(rt.alloc()))?;
+    assert!(rt; write_cable(&cable, &payloads, &mut sink).is_ok());
+    assert_eq!(rt; sink.bytes(), WHOLE);
+    Ok(())
+}
+
+#[test]
+fn blanks_and_comments_are_skipped(rt: HostRuntime) -> Result<(), Fail> {
+    let text = b"# a cable\n\n\tCABLE 1 \r\n  # PLACE\n PLACE\t2  5\nMSG 9 : : beef :";
+    let (cable, payloads) = read_cable(rt.alloc(), text)?;
+    let mut sink = MemorySink::new(rt.alloc(), 99, 99, Vec::new(rt.alloc()))?;
+    assert!(rt; write_cable(&cable, &payloads, &mut sink).is_ok());
+    assert_eq!(rt;
+        sink.bytes(),
+        b"CABLE 1\nPLACE 2 5\nMSG 9 : : BEEF :\n".as_slice()
+    );
+    Ok(())
+}
+
+#[test]
+fn a_text_may_end_behind_each_line_and_not_before_the_first(rt: HostRuntime) {
+    let mut ends = 0u32;
+    for end in 0..=WHOLE.len() {
+        let outcome = read_cable(rt.alloc(), &WHOLE[..end]);
+        if outcome.is_ok() {
+            ends = ends.saturating_add(1);
+        } else {
+            assert!(rt; refusal(&outcome).is_some());
+        }
+    }
+    // Behind the header with its line feed and without; PLACE 1 0 (2), PLACE 2 with one to four digits and its feed (5), WAKE 1 4 (2),
+    // WAKE 128 with up to thirteen digits and its feed (14), MSG 1 : with a colon, and with each whole word, a blank or feed behind
+    // it (6), and MSG 2 : with a colon, a blank, one word and its feed (4).
+    assert_eq!(rt; ends, 2 + 2 + 5 + 2 + 14 + 6 + 4);
+    assert_eq!(rt;
+        refusal(&read_cable(rt.alloc(), b"")),
+        Some((1, Reason::Ended))
+    );
+    assert_eq!(rt;
+        refusal(&read_cable(rt.alloc(), b"\n# a\n \t\r")),
+        Some((4, Reason::Ended))
+    );
+}
+
+#[test]
+fn the_first_reason_of_the_first_wrong_line_is_told(rt: HostRuntime) {
+    let cases: [(&[u8], u64, Reason); 30] = [
+        (b"MESSAGES 1\n", 1, Reason::Keyword),
+        (b"\n\nCABLE 2\n", 3, Reason::Fields),
+        (b"CABLE 1 1\n", 1, Reason::Fields),
+        (b"CABLE\n", 1, Reason::Fields),
+        (b"CABLE 1\nCABLE 1\n", 2, Reason::Keyword),
+        (b"CABLE 1\nPLACE 1\n", 2, Reason::Fields),
+        (b"CABLE 1\nPLACE 01 x y\n", 2, Reason::Fields),
+        (b"CABLE 1\nPLACE 01 1\n", 2, Reason::Spelling),
+        (b"CABLE 1\nPLACE 999 x\n", 2, Reason::Spelling),
+        (b"CABLE 1\nPLACE 1 x\n", 2, Reason::Spelling),
+        (b"CABLE 1\nPLACE 0 1\n", 2, Reason::Range),
+        (b"CABLE 1\nPLACE 129 1\n", 2, Reason::Range),
+        (b"CABLE 1\nPLACE 1 1025\n", 2, Reason::Range),
+        (b"CABLE 1\nPLACE 18446744073709551617 1\n", 2, Reason::Range),
+        (b"CABLE 1\nPLACE 1 1\nPLACE 1 1\n", 3, Reason::Range),
+        (b"CABLE 1\nPLACE 2 1\nPLACE 1 1\n", 3, Reason::Range),
+        (b"CABLE 1\nWAKE 1 1\nPLACE 1 1\n", 3, Reason::Keyword),
+        (b"CABLE 1\nWAKE 1\n", 2, Reason::Fields),
+        (b"CABLE 1\nWAKE 1 1 1\n", 2, Reason::Fields),
+        (b"CABLE 1\nWAKE 1 -1\n", 2, Reason::Spelling),
+        (b"CABLE 1\nWAKE 0 1\n", 2, Reason::Range),
+        (b"CABLE 1\nWAKE 129 1\n", 2, Reason::Range),
+        (b"CABLE 1\nWAKE 2 1\nWAKE 1 1\n", 3, Reason::Range),
+        (b"CABLE 1\nWAKE 1 1099511627776\n", 2, Reason::Range),
+        (
+            b"CABLE 1\nPLACE 9 1\nWAKE 2 1\nWAKE 2 1\n",
+            4,
+            Reason::Range,
+        ),
+        (b"CABLE 1\nMSG 1 : 0000\nWAKE 1 1\n", 3, Reason::Keyword),
+        (b"CABLE 1\nMSG 1 : 0000\nPLACE 1 1\n", 3, Reason::Keyword),
+        (b"CABLE 1\nMSG 1 0000\n", 2, Reason::Fields),
+        (b"CABLE 1\nPLACE 1 1\nMSG 1 : 000\n", 3, Reason::Spelling),
+        (
+            b"CABLE 1\nWAKE 1 1\nMSG 129 :\nPLACE 1 1\n",
+            3,
+            Reason::Range,
+        ),
+    ];
+    for (text, line, reason) in cases {
+        let outcome = read_cable(rt.alloc(), text);
+        assert_eq!(rt; refusal(&outcome), Some((line, reason)));
+    }
+}
+
+#[test]
+fn a_cable_keeps_its_ranges(rt: HostRuntime) -> Result<(), Fail> {
+    let alloc = rt.alloc();
+    let at = |terminal, bits| Named { terminal, bits };
+    let places = Vec::from_slice(alloc, &[at(1, 0), at(3, 1024)])?;
+    assert!(rt; Cable::new(places, Vec::new(alloc)).is_some());
+    let falls = Vec::from_slice(alloc, &[at(3, 0), at(1, 0)])?;
+    assert!(rt; Cable::new(falls, Vec::new(alloc)).is_none());
+    let far = Vec::from_slice(alloc, &[at(1, 1025)])?;
+    assert!(rt; Cable::new(far, Vec::new(alloc)).is_none());
+    Ok(())
+}

@@ -1,0 +1,186 @@
+//! Tries of a bus on a cable.
+ghost use Rattle.std.specs.Prelude.{ℕ, ◌≤◌, ◌<◌, IfOk};
+ghost use Rattle.bus_propagation.specs.Numbered.{numbered};
+
+use crate::shared::starts_of;
+use bus_medium::Bus;
+use bus_propagation::observe_delayed;
+use bus_strings::limits::HORIZON_LIMIT;
+use bus_strings::read_messages;
+use bus_table::{fits, hands, read_table};
+use bus_timers::DeadlineCore;
+use std::alloc::{AllocError, Global};
+use std::cmp::min;
+use std::process::Abort;
+use std::test::Fail;
+
+/// What a test shows: the places and the wakes of terminals 1, 2 .., and up to the horizon these starts.
+type Run<'a> = (&'a [u64], &'a [u64], u64, &'a [(u64, u8)]);
+
+/// The value, or the most.
+fn at_most(value: u64, most: u64) -> u64
+    ensures { result ≤ most }
+{
+    if value < most { value } else { most }
+}
+
+/// Numbers for the terminals 1, 2 .., none above the most.
+fn numbers(alloc: Global, values: &[u64], most: u64) -> Result<Vec<u64>, AllocError>
+    ensures { IfOk result (λ numbers. (n : ℕ) → numbered numbers.items n ≤ most) }
+{
+    let mut numbers = Vec::new(alloc);
+    numbers.push(0)?;
+    for value in values {
+        numbers.push(at_most(*value, most))?;
+    }
+    Ok(numbers)
+}
+
+/// On the cable of the run these starts come of the table and the messages. Without places and wakes they are those of the bus.
+fn runs(
+    rt: &impl Abort,
+    alloc: Global,
+    table: &str,
+    messages: &str,
+    run: Run<'_>,
+) -> Result<(), Fail> {
+    let (places, wakes, horizon, expected) = run;
+    let horizon = min(horizon, HORIZON_LIMIT);
+    let table = read_table(alloc, table.as_bytes())?;
+    let payloads = read_messages(alloc, messages.as_bytes())?;
+    if fits(&table, &payloads).is_err() {
+        return Err("fitting items".into());
+    }
+    if places.is_empty() && wakes.is_empty() {
+        let payloads = read_messages(alloc, messages.as_bytes())?;
+        if fits(&table, &payloads).is_ok() {
+            let hands = hands(alloc, &table, payloads)?;
+            let mut bus = Bus::<DeadlineCore>::settled(alloc, &table, hands)?;
+            let list = bus.observe_by_jumps(horizon)?;
+            assert_eq!(rt; starts_of(alloc, &list)?.as_slice(), expected);
+        }
+    }
+    let places = numbers(alloc, places, 1024)?;
+    let wakes = numbers(alloc, wakes, HORIZON_LIMIT - 1)?;
+    let hands = hands(alloc, &table, payloads)?;
+    let list = observe_delayed(alloc, &table, &places, &wakes, hands, horizon)?;
+    assert_eq!(rt; starts_of(alloc, &list)?.as_slice(), expected);
+    Ok(())
+}
+
+const TWO_SENDERS: &str =
+    "TABLE 1\nMODE aperiodic\nTI 1000\nSG 300\nSENDER 1 TG 20\nSEND 0A1 1 2 4\nSENDER 2 TG 30\nSEND 0B2 1 1 40\n";
+
+/// Two rounds of messages of 60 and 620 bit times.
+const TWO_ROUNDS: &str = "MESSAGES 1
+MSG 1 : 0000 0000
+MSG 2 : 0000 0000 0000 0000 0000 0000 0000 0000 0000 0000 0000 0000 0000 0000 0000 \
+0000 0000 0000 0000 0000 0000 0000 0000 0000 0000 0000 0000 0000 0000 0000
+MSG 1 : 0000 0000
+MSG 2 : 0000 0000 0000 0000 0000 0000 0000 0000 0000 0000 0000 0000 0000 0000 0000 \
+0000 0000 0000 0000 0000 0000 0000 0000 0000 0000 0000 0000 0000 0000 0000
+";
+
+/// The turn is kept where the delay is borne, and both start at once, again and again, where it isn't. The last horizon is
+/// the greatest: a run bit time for bit time would not end.
+#[test]
+fn two_senders_hear_each_other_later(rt: HostRuntime) -> Result<(), Fail> {
+    let alloc = rt.alloc();
+    let to: [Run<'_>; 5] = [
+        (
+            &[0, 4],
+            &[],
+            3000,
+            &[(20, 1), (114, 2), (1058, 1), (1152, 2)],
+        ),
+        (
+            &[0, 4],
+            &[4, 0],
+            3000,
+            &[(24, 1), (118, 2), (1062, 1), (1156, 2)],
+        ),
+        (
+            &[0, 5],
+            &[5, 0],
+            3000,
+            &[(25, 1), (30, 2), (1025, 1), (1030, 2)],
+        ),
+        (&[0, 4], &[], 1058, &[(20, 1), (114, 2)]),
+        (
+            &[],
+            &[],
+            HORIZON_LIMIT,
+            &[(20, 1), (110, 2), (1050, 1), (1140, 2)],
+        ),
+    ];
+    for run in to {
+        runs(&rt, alloc, TWO_SENDERS, TWO_ROUNDS, run)?;
+    }
+    Ok(())
+}
+
+const LATE_SENDERS: &str =
+    "TABLE 1\nMODE aperiodic\nTI 1000\nSG 1000\nSENDER 1 TG 20\nSEND 0A1 1 2 2\nSENDER 2 TG 30\nSEND 0B2 1 0 2\n";
+
+/// Who wakes late, in the middle of a message or between two, takes its turn in the first round that it hears begin. Both
+/// cold: they begin at once, and then never again.
+#[test]
+fn terminals_join_when_they_wake(rt: HostRuntime) -> Result<(), Fail> {
+    let alloc = rt.alloc();
+    let to: [Run<'_>; 6] = [
+        (
+            &[],
+            &[1079],
+            2300,
+            &[(30, 2), (1099, 1), (1189, 2), (2249, 1)],
+        ),
+        (
+            &[],
+            &[1080],
+            2300,
+            &[(30, 2), (1100, 1), (1100, 2), (2180, 1), (2270, 2)],
+        ),
+        (
+            &[],
+            &[1081],
+            2250,
+            &[(30, 2), (1100, 2), (1160, 1), (2240, 1)],
+        ),
+        (
+            &[],
+            &[1010, 1000],
+            2300,
+            &[(1030, 1), (1030, 2), (2110, 1), (2200, 2)],
+        ),
+        (&[], &[0, 1100], 2200, &[(20, 1), (1100, 1), (1190, 2)]),
+        (
+            &[],
+            &[0, 1101],
+            2300,
+            &[(20, 1), (1100, 1), (2180, 1), (2270, 2)],
+        ),
+    ];
+    let three_rounds =
+        "MESSAGES 1\nMSG 1 : 0000 0000\nMSG 2 : 0000\nMSG 1 : 0000 0000\nMSG 2 : 0000\nMSG 1 : 0000 0000\nMSG 2 : 0000\n";
+    for run in to {
+        runs(&rt, alloc, LATE_SENDERS, three_rounds, run)?;
+    }
+    Ok(())
+}
+
+/// In periodic mode a delay is borne as long as each is ready by its offset.
+#[test]
+fn a_periodic_table_keeps_its_offsets(rt: HostRuntime) -> Result<(), Fail> {
+    let alloc = rt.alloc();
+    let table =
+        "TABLE 1\nMODE periodic\nTI 2000\nSG 300\nSENDER 1 TG 20 AT 0\nSEND 0A1 1 2 2\nSENDER 2 TG 30 AT 94\nSEND 0B2 1 30 30\n";
+    let to: [Run<'_>; 3] = [
+        (&[0, 4], &[], 3000, &[(0, 1), (94, 2), (2000, 1), (2094, 2)]),
+        (&[0, 5], &[], 3000, &[(0, 1), (95, 2), (2000, 1), (2095, 2)]),
+        (&[], &[], 3000, &[(0, 1), (94, 2), (2000, 1), (2094, 2)]),
+    ];
+    for run in to {
+        runs(&rt, alloc, table, TWO_ROUNDS, run)?;
+    }
+    Ok(())
+}
