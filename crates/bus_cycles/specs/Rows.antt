@@ -4,6 +4,7 @@ use Rattle.bus_strings.specs.Messages.{Entry}
 use Rattle.bus_table.specs.declared.mode.Mode.{Mode}
 use Rattle.bus_table.specs.declared.mode.Mode.TheVariants.{Aperiodic, Periodic}
 use Rattle.bus_table.specs.Tables.{Table}
+use Rattle.bus_table.specs.Timers.{greatest_gap}
 use Rattle.bus_shapes.specs.declared.sent.Sent.{Sent}
 use Rattle.bus_shapes.specs.Windows.{Window}
 use Rattle.bus_cycles.specs.Sents.{shown}
@@ -11,13 +12,9 @@ pub use Rattle.bus_cycles.specs.declared.cycle.Cycle.{Cycle}
 pub use Rattle.bus_cycles.specs.declared.cycle.Extent.{Extent}
 
 -- ---- where rows begin
--- The greatest terminal gap of a table.
-abbrev pub greatest_gap : Table → ℕ
-greatest_gap table = fold (λ most sender. max most sender.tg) 0 table.senders
-
 -- What of a table tells where rows begin: `lead` is how long before its first transmission a cycle begins, at most.
 abbrev pub cycle_of : Table → Cycle
-cycle_of table = record { mode = table.mode; ti = table.ti; sg = table.sg; lead = table.sg + greatest_gap table }
+cycle_of table = record { mode = table.mode; ti = table.ti; sg = table.sg; lead = table.sg + greatest_gap table.senders }
 
 -- The moment at which the interval began that holds a moment.
 abbrev pub interval_of : ℕ → ℕ → ℕ

@@ -1,5 +1,6 @@
 //! Where the rows of a picture begin.
 ghost use Rattle.std.specs.Prelude.{◌≡◌, ◌<◌, ◌≤◌, ◌+◌};
+ghost use Rattle.bus_table.specs.Timers.{greatest_gap};
 ghost use Rattle.bus_cycles.specs.Rows as definition;
 
 use bus_shapes::Sent;
@@ -31,7 +32,7 @@ pub(crate) struct Extent {
 
 /// The greatest terminal gap of a table.
 fn greatest_gap(table: &Table) -> u32
-    ensures { result ≡ definition.greatest_gap table.now }
+    ensures { result ≡ greatest_gap table.now.senders }
 {
     let mut most = 0;
     for sender in table.senders() {

@@ -19,6 +19,7 @@ pub mod LawLemmas
 pub mod WordLemmas
 pub mod ClearLemmas
 pub mod GarbleLemmas
+pub mod SenderClocks
 pub mod WatchLemmas
 pub mod TimerLemmas
 pub mod StartLemmas

@@ -1,6 +1,6 @@
 -- The mark of the first breach: a dashed line over the full height, whose dashes lie between the boxes of the rows, and words above the
 -- plot.
-use Rattle.std.specs.Prelude.{ℕ, ◌+◌, ◌-◌, max, min, Bool, ◌&&◌, ◌==◌, nat_le, nat_lt, List, [], ◌∷◌, ◌++◌, if◌then◌else◌}
+use Rattle.std.specs.Prelude.{ℕ, ◌+◌, ◌-◌, max, min, Bool, ◌==◌, nat_lt, List, [], ◌∷◌, ◌++◌, if◌then◌else◌}
 use Rattle.bus_audit.specs.Lines.{answer_words}
 use Rattle.bus_audit.specs.declared.answer.AuditAnswer.{AuditAnswer}
 use Rattle.bus_audit.specs.declared.answer.AuditAnswer.TheVariants.{Lawful, Breach}
@@ -14,6 +14,7 @@ use Rattle.bus_shapes.specs.Shapes.{box_text, words_text}
 use Rattle.bus_picture.specs.Lanes.{each_lane, lane_top}
 use Rattle.bus_picture.specs.Measures.{box_below, box_height, breach_line, breach_width, head_height, head_top, line_width, plot_top}
 use Rattle.bus_picture.specs.Measures.{row_height, words_least, words_most}
+use Rattle.bus_picture.specs.Strings.{has_moment}
 
 -- ---- where it is
 -- The dash above the boxes of a row with this upper edge.
@@ -77,10 +78,6 @@ mark_text left terminal lanes answer = line_text left terminal lanes ++ above_te
 abbrev pub arrow_text : Bool → AuditAnswer → List ℕ
 arrow_text earlier answer =
     if earlier then above_text words_least (to_left ++ answer_words answer) else above_text words_most (answer_words answer ++ to_right)
-
--- Whether the scale has a moment.
-abbrev pub has_moment : Scale → ℕ → Bool
-has_moment scale moment = nat_le scale.from moment && nat_lt moment scale.to
 
 -- A breach of this terminal at a moment.
 abbrev pub breach_at : Scale → List Lane → ℕ → ℕ → AuditAnswer → List ℕ

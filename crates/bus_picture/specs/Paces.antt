@@ -1,5 +1,5 @@
 -- How far the starts of a terminal lie apart: the least and the greatest time between two of them, one after the other, in the scale.
-use Rattle.std.specs.Prelude.{ℕ, ◌+◌, ◌-◌, max, min, Bool, ◌&&◌, ◌==◌, nat_le, nat_lt, List, [], ◌∷◌, ◌++◌, codes, decimal}
+use Rattle.std.specs.Prelude.{ℕ, ◌+◌, ◌-◌, max, min, Bool, ◌&&◌, ◌==◌, List, [], ◌∷◌, ◌++◌, codes, decimal}
 use Rattle.std.specs.Prelude.{filter, fold, map, Option, Some, None}
 use Rattle.std.specs.Option.{option_map_or}
 use Rattle.bus_strings.specs.Messages.{Entry}
@@ -9,11 +9,12 @@ use Rattle.bus_shapes.specs.Shapes.{words_text}
 use Rattle.bus_dump.specs.declared.lane.Lane.{Lane}
 use Rattle.bus_picture.specs.Lanes.{each_lane, lane_top}
 use Rattle.bus_picture.specs.Measures.{bus_line, pace_left, plot_top, terminal_line}
+use Rattle.bus_picture.specs.Strings.{has_moment}
 pub use Rattle.bus_picture.specs.declared.pace.Pace.{Pace}
 
 -- Whether a transmission is of this terminal and begins in the scale.
 abbrev pub starts : Scale → ℕ → Entry → Bool
-starts scale terminal x = x.terminal == terminal && nat_le scale.from x.moment && nat_lt x.moment scale.to
+starts scale terminal x = x.terminal == terminal && has_moment scale x.moment
 
 -- The moments at which this terminal starts in the scale.
 abbrev pub start_moments : Scale → ℕ → List Entry → List ℕ

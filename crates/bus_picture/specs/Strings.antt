@@ -22,6 +22,10 @@ use Rattle.bus_picture.specs.Measures.{name_room, string_below, string_height, s
 abbrev pub meets : Scale → ℕ → ℕ → Bool
 meets scale from to = nat_lt from scale.to && nat_lt scale.from to
 
+-- Whether a scale has a moment.
+abbrev pub has_moment : Scale → ℕ → Bool
+has_moment scale moment = nat_le scale.from moment && nat_lt moment scale.to
+
 -- A label and an extension.
 abbrev pub both_words : ℕ → ℕ → List ℕ
 both_words label ext = hexadecimal 3 label ++ codes " " ++ hexadecimal 1 ext

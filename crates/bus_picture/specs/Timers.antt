@@ -17,6 +17,7 @@ use Rattle.bus_picture.specs.Gaps.{gap_before}
 use Rattle.bus_picture.specs.Gaps as gaps
 use Rattle.bus_picture.specs.Measures.{gap_below, gap_line, interval_below, interval_line}
 use Rattle.bus_picture.specs.Measures.{line_height, near_room, stroke_below, stroke_height}
+use Rattle.bus_picture.specs.Strings.{has_moment}
 
 -- Whether timers are drawn: the transmit interval is at least 200 pixels.
 abbrev pub is_near : Scale → ℕ → Bool
@@ -56,7 +57,7 @@ bus_timer scale top sg list = option_map_or (λ (x : Sent). sync_gap scale top s
 -- ---- a lane
 -- Whether a transmission is of a terminal, and begins in the scale.
 abbrev pub begins : Scale → ℕ → Sent → Bool
-begins scale terminal x = x.terminal == terminal && nat_le scale.from x.moment && nat_lt x.moment scale.to
+begins scale terminal x = x.terminal == terminal && has_moment scale x.moment
 
 -- The first that does.
 abbrev pub first_of : Scale → ℕ → List Entry → Option Sent

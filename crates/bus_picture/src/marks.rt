@@ -9,6 +9,7 @@ ghost use Rattle.bus_picture.specs.Marks as definition;
 
 use crate::lanes::lane_top;
 use crate::measures::PLOT_TOP;
+use crate::places::has_moment;
 use bus_audit::{AuditAnswer, put_answer};
 use bus_dump::Lane;
 use bus_outer::{Sink, TextBuffer};
@@ -145,13 +146,6 @@ fn put_arrow<K: Sink>(text: &mut TextBuffer, sink: &mut K, earlier: bool, answer
         text.put(sink, &[32, 226, 134, 146]);
     }
     end_words(text, sink);
-}
-
-/// Whether the scale has a moment.
-fn has_moment(scale: &Scale, moment: u64) -> bool
-    ensures { result ≡ definition.has_moment scale.now moment }
-{
-    scale.from <= moment && moment < scale.to
 }
 
 /// A breach of this terminal at a moment.

@@ -7,6 +7,7 @@ ghost use Rattle.bus_picture.specs.inside.Pacing as working;
 
 use crate::lanes::lane_top;
 use crate::measures::PLOT_TOP;
+use crate::places::has_moment;
 use bus_dump::Lane;
 use bus_outer::{Sink, TextBuffer};
 use bus_shapes::{Class, Scale, begin_words, end_words, put_words};
@@ -34,7 +35,7 @@ pub struct Pacing {
 fn starts(scale: &Scale, terminal: u8, x: &Transmission) -> bool
     ensures { result ≡ definition.starts scale.now terminal x.now }
 {
-    x.terminal == terminal && scale.from <= x.moment && x.moment < scale.to
+    x.terminal == terminal && has_moment(scale, x.moment)
 }
 
 /// The pace with one time more.

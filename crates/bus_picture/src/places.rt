@@ -12,6 +12,13 @@ pub(crate) fn meets(scale: &Scale, from: u64, to: u64) -> bool
     from < scale.to && scale.from < to
 }
 
+/// Whether a scale has a moment.
+pub(crate) fn has_moment(scale: &Scale, moment: u64) -> bool
+    ensures { result ≡ definition.has_moment scale.now moment }
+{
+    scale.from <= moment && moment < scale.to
+}
+
 /// The area of a wordstring or of a word, from its first moment to its end, in a row with this upper edge.
 pub(crate) fn string_area(scale: &Scale, top: u64, from: u64, to: u64) -> Area
     requires scale { IsScale scale.now }

@@ -9,6 +9,7 @@ ghost use Rattle.bus_picture.specs.TimeLines as whole;
 use crate::heard::{Gap, gap_before};
 use crate::lanes::lane_top;
 use crate::measures::PLOT_TOP;
+use crate::places::has_moment;
 use bus_dump::Lane;
 use bus_outer::{Sink, TextBuffer};
 use bus_shapes::laws::sents_are_told;
@@ -150,7 +151,7 @@ fn begins(scale: &Scale, terminal: u8, sent: &Sent) -> bool
     ensures value { result ≡ definition.begins scale.now terminal sent.now }
     ensures low { (result ≡ true) → sent.now.moment ≤ scale.now.to }
 {
-    sent.terminal == terminal && scale.from <= sent.moment && sent.moment < scale.to
+    sent.terminal == terminal && has_moment(scale, sent.moment)
 }
 
 /// The first transmission that does.

@@ -5,7 +5,7 @@ use Rattle.bus_dump.specs.declared.clock.Clock.{Clock}
 use Rattle.bus_dump.specs.inside.Clocks.{next_turn}
 use Rattle.bus_dump.specs.inside.Watching.{clock_turn}
 use Rattle.bus_dump.proofs.ClockLemmas.{turn_later}
-use Rattle.bus_dump.proofs.WatchLemmas.{no_clock, least_more, low_at}
+use Rattle.bus_dump.proofs.SenderClocks.{no_clock, least_more, low_at}
 use Rattle.bus_dump.proofs.clocks.next_turn.Goals as goal
 
 pub next_turn-requires-clause-low : goal.next_turn-requires-clause-low

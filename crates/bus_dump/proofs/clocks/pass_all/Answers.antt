@@ -2,7 +2,7 @@ use Rattle.std.proofs.Common.{◌<◌, length, get_or, arith, sym, subst, ap, �
 use Rattle.bus_dump.specs.inside.Clocks.{IsLow, passed}
 use Rattle.bus_dump.specs.inside.Watching.{clock_passed}
 use Rattle.bus_dump.proofs.PassLemmas.{mapped_all, mapped_more, same_next}
-use Rattle.bus_dump.proofs.WatchLemmas.{no_clock, low_at}
+use Rattle.bus_dump.proofs.SenderClocks.{no_clock, low_at}
 use Rattle.bus_dump.proofs.clocks.pass_all.Goals as goal
 
 pub passed-requires-clause-low : goal.passed-requires-clause-low

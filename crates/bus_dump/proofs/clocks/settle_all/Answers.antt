@@ -1,7 +1,7 @@
 use Rattle.std.proofs.Common.{◌<◌, ◌≤◌, ◌+◌, length, map, arith, ap, ◌∙◌}
 use Rattle.std.proofs.lemmas.List.{take_all}
 use Rattle.bus_dump.specs.inside.Watching.{settled}
-use Rattle.bus_dump.proofs.WatchLemmas.{all_sound, settled_more}
+use Rattle.bus_dump.proofs.SenderClocks.{all_sound, settled_more}
 use Rattle.bus_dump.proofs.clocks.settle_all.Goals as goal
 
 pub loop-k-preserved : goal.loop-k-preserved

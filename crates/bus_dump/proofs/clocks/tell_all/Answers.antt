@@ -1,7 +1,7 @@
 use Rattle.std.proofs.Common.{◌+◌, map, ap, ◌∙◌}
 use Rattle.std.proofs.lemmas.List.{take_all}
 use Rattle.bus_dump.specs.inside.Clocks.{tells_at}
-use Rattle.bus_dump.proofs.WatchLemmas.{no_clock, low_at, each_more}
+use Rattle.bus_dump.proofs.SenderClocks.{no_clock, low_at, each_more}
 use Rattle.bus_dump.proofs.clocks.tell_all.Goals as goal
 
 pub tells-requires : goal.tells-requires

@@ -4,7 +4,7 @@ use Rattle.bus_table.specs.Tables.{Sender}
 use Rattle.bus_dump.specs.inside.Clocks.{IsLow}
 use Rattle.bus_dump.specs.Scenes.{timed}
 use Rattle.bus_dump.specs.inside.Watching.{AreClocksOf}
-use Rattle.bus_dump.proofs.WatchLemmas.{all_low, all_settled}
+use Rattle.bus_dump.proofs.SenderClocks.{all_low, all_settled}
 use Rattle.bus_dump.proofs.watch.Watch.new.Goals as goal
 
 pub returns-clause-watch : goal.returns-clause-watch

@@ -4,7 +4,8 @@ use Rattle.arrayvec.specs.ArrayVec.{ArrayVec, with_items}
 use Rattle.bus_dump.specs.declared.clock.Clock.{Clock}
 use Rattle.bus_dump.specs.inside.Clocks.{IsLow}
 use Rattle.bus_dump.specs.inside.Watching.{AreClocksOf, clock_passed}
-use Rattle.bus_dump.proofs.WatchLemmas.{all_low_passed, passed_is, watch_passes}
+use Rattle.bus_dump.proofs.SenderClocks.{all_low_passed}
+use Rattle.bus_dump.proofs.WatchLemmas.{passed_is, watch_passes}
 use Rattle.bus_dump.proofs.PassLemmas.{written}
 use Rattle.bus_dump.proofs.watch.Watch.pass.Goals as goal
 
