@@ -11,7 +11,7 @@
 //! `specs/Breaches.antt` says what is wrong at a pair and what the answer is, `specs/Lines.antt` how it is told, and
 //! `specs/Meaning.antt` what it means that a trace has no breach, which [`laws`] tells. `specs/inside/Watches.antt` has the numbers that
 //! are kept of a sender, `specs/inside/Standing.antt` what they stand for, and `specs/inside/Keeping.antt` how they follow from what all
-//! have heard, so that at most messages nothing is written but for the one sender.
+//! have heard, so that a message changes the numbers of its own sender alone.
 #![tactic(auto)]
 
 mod answer;

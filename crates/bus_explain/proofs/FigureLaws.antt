@@ -14,7 +14,7 @@ use Rattle.bus_plan.specs.Plans.{least_interval}
 use Rattle.bus_advice.specs.Changes.{with_interval}
 use Rattle.bus_explain.specs.Figures.{spare, spare_in}
 use Rattle.bus_explain.proofs.FallLemmas.{feasible_at}
-use Rattle.bus_explain.specs.Laws.{SpareIsRise, SpareIsFall, SharesAreNearest}
+use Rattle.bus_explain.specs.Laws.{SpareIsRise, SpareIsFall}
 
 -- ---- up
 by_test : (test : Bool) (mode : Mode) (short ti long least most : ℕ) → cond test (ShortCycle short ti) (Accept Aperiodic short long) ≡ Accept mode least most
@@ -74,10 +74,3 @@ spare_is_fall feasible short table least most valid periodic h n range =
     let there : spare table least ≡ table.ti - least_interval table = ap (λ m. spare_in m table least) periodic in
     let law = feasible_at feasible table n valid periodic range in
     ((λ within. law.0 (omega (arith, within, there, enough))), (λ some. let down = law.1 some in omega (arith, down, there, enough)))
-
--- ---- shares
-pub shares_are_nearest : SharesAreNearest
-shares_are_nearest part whole some =
-    let divided : 0 < 2 * whole = omega arith in
-    let x = 2000 * part + whole in
-    (omega (arith, divided), omega (arith, divided))

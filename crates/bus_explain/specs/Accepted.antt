@@ -6,9 +6,10 @@ use Rattle.bus_table.specs.declared.mode.Mode.TheVariants.{Aperiodic, Periodic}
 use Rattle.bus_table.specs.Tables.{Table}
 use Rattle.bus_regime.specs.Verdicts.{verdict_of}
 use Rattle.bus_regime.specs.declared.table_verdict.TableVerdict.TheVariants.{Accept}
+use Rattle.bus_strings.specs.Shares.{share_text}
 use Rattle.bus_explain.specs.Figures.{load, spare}
 use Rattle.bus_explain.specs.Senders.{sender_lines}
-use Rattle.bus_explain.specs.Times.{share_text, time_text}
+use Rattle.bus_explain.specs.Times.{time_text}
 
 -- The verdict accepts a table with these numbers.
 abbrev pub IsAcceptedWith : Table → (least most : ℕ) → Type 0

@@ -6,8 +6,8 @@ use Rattle.bus_table.specs.declared.mode.Mode.{Mode}
 use Rattle.bus_table.specs.declared.mode.Mode.TheVariants.{Aperiodic, Periodic}
 use Rattle.bus_table.specs.Lengths.{longest}
 use Rattle.bus_table.specs.Tables.{Table}
+use Rattle.bus_strings.specs.Shares.{tenths}
 use Rattle.bus_plan.specs.Plans.{least_interval}
-use Rattle.bus_explain.specs.Times.{tenths}
 
 -- The bits of one message of each sender, each as long as it may be.
 abbrev pub longest_bits : Table → ℕ

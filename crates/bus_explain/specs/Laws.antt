@@ -1,5 +1,5 @@
 -- What the figures are good for.
-use Rattle.std.specs.Prelude.{◌≡◌, ℕ, ◌+◌, ◌*◌, ◌<◌, ◌≤◌, ◌↔◌, List, IsTrue}
+use Rattle.std.specs.Prelude.{◌≡◌, ℕ, ◌+◌, ◌≤◌, ◌↔◌, List, IsTrue}
 use Rattle.bus_table.specs.declared.mode.Mode.{Mode}
 use Rattle.bus_table.specs.declared.mode.Mode.TheVariants.{Aperiodic, Periodic}
 use Rattle.bus_table.specs.Tables.{Table}
@@ -10,7 +10,6 @@ use Rattle.bus_plan.specs.Laws.{AreAccepted}
 use Rattle.bus_advice.specs.Changes.{with_interval}
 use Rattle.bus_explain.specs.Accepted.{IsAcceptedWith}
 use Rattle.bus_explain.specs.Figures.{spare}
-use Rattle.bus_explain.specs.Times.{tenths}
 
 -- With its transmit interval changed alone a table is accepted exactly up to its own and so much.
 abbrev pub CanRise : Table → ℕ → Type 0
@@ -38,10 +37,3 @@ abbrev pub SpareIsFall : Type 0
 SpareIsFall =
     (table : Table) (least most : ℕ) → IsTrue (is_valid table) → table.mode ≡ Periodic → IsAcceptedWith table least most
     → CanFall table (spare table least)
-
--- A share of something is the nearest number of tenths of a percent, where two are as near the greater: twice the whole times it is at most
--- two thousand times the part and the whole, and with one more it is greater.
-abbrev pub SharesAreNearest : Type 0
-SharesAreNearest =
-    (part whole : ℕ) → 0 < whole
-    → (2 * whole * tenths part whole ≤ 2000 * part + whole) × (2000 * part + whole < 2 * whole * (tenths part whole + 1))

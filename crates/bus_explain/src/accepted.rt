@@ -6,8 +6,9 @@ ghost use Rattle.bus_explain.specs.Accepted as accepted;
 
 use crate::figures::{load, spare};
 use crate::senders::put_senders;
-use crate::times::{put_share, put_time};
+use crate::times::put_time;
 use bus_outer::{Sink, TextBuffer, WriteFault};
+use bus_strings::put_share;
 use bus_table::laws::table_is_valid;
 use bus_table::{Mode, Table};
 

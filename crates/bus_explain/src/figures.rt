@@ -2,9 +2,9 @@
 ghost use Rattle.std.specs.Prelude.{◌≡◌, ◌<◌, ◌^◌};
 ghost use Rattle.bus_explain.specs.Accepted.{HasLeast};
 ghost use Rattle.bus_explain.specs.Figures as figures;
-ghost use Rattle.bus_explain.specs.Times.{tenths};
 
 use bus_plan::least_interval;
+use bus_strings::tenths;
 use bus_table::{Mode, Table, longest};
 
 /// The bits of one message of each sender, each as long as it may be: at most 128 times 159,460.
@@ -19,22 +19,13 @@ fn longest_bits(table: &Table) -> u64
     bits
 }
 
-/// A share in tenths of a percent, rounded to the nearest, a half up.
-fn share(part: u64, whole: u64) -> u128
-    requires part { part < 2 ^ 32 }
-    requires some { 0 < whole }
-    ensures { result ≡ tenths part whole }
-{
-    (2000 * u128::from(part) + u128::from(whole)) / (2 * u128::from(whole))
-}
-
 /// The load of a table whose longest cycle takes `most` bit times: the bits of all longest messages as a share of it, in tenths of a
 /// percent.
 pub fn load(table: &Table, most: u64) -> u128
     requires { 0 < most }
     ensures { result ≡ figures.load table.now most }
 {
-    share(longest_bits(table), most)
+    tenths(u128::from(longest_bits(table)), most)
 }
 
 /// The spare of an accepted table whose shortest cycle takes `least` bit times: by so many bit times its transmit interval could rise, or

@@ -1,5 +1,5 @@
 //! What the figures are good for.
-ghost use Rattle.bus_explain.specs.Laws.{SharesAreNearest, SpareIsFall, SpareIsRise};
+ghost use Rattle.bus_explain.specs.Laws.{SpareIsFall, SpareIsRise};
 
 use bus_plan::laws::{feasible_exactly, short_is_refused};
 
@@ -16,8 +16,3 @@ pub fn spare_is_fall()
     feasible_exactly();
     short_is_refused();
 }
-
-/// A share is the nearest number of tenths of a percent, a half up.
-pub fn shares_are_nearest()
-    ensures { SharesAreNearest }
-{}

@@ -3,12 +3,13 @@
 --   adds_then, p ▸ q   one put after another adds the bytes of both
 --   ends_text          a buffer that was made, put and finished has written its text
 --   adds_nothing       no put adds nothing
-use Rattle.std.specs.Prelude.{ℕ, List, [], ◌++◌, refl}
-use Rattle.std.proofs.Common.{sym, subst, append_assoc, append-nil, arith}
+--   failed_adds        behind a failed write no put adds anything
+use Rattle.std.specs.Prelude.{◌≡◌, ℕ, true, List, [], ◌++◌, refl}
+use Rattle.std.proofs.Common.{sym, subst, ap, ◌∙◌, append_assoc, append-nil, arith}
 use Rattle.std.specs.declared.option.Option.{Option}
 use Rattle.std.specs.declared.result.Result.{Result}
 use Rattle.bus_outer.specs.Sinks.{WritesText}
-use Rattle.bus_outer.specs.Texts.{IsFresh, TextIs, Adds, Ends}
+use Rattle.bus_outer.specs.Texts.{IsFresh, TextIs, Adds, Ends, has_failed}
 use Rattle.bus_outer.proofs.WriteLaws.{written_none}
 use Rattle.bus_outer.specs.declared.text_buffer.TextBuffer.{TextBuffer}
 
@@ -48,4 +49,22 @@ p ▸ q = adds_then p q
 pub adds_nothing : {K : Type 0} (held : K → Option (List ℕ)) (faults : K → ℕ) (k : K) (a : TextBuffer) → Adds held faults k k a a []
 adds_nothing held faults k a = record {
   goes = λ start text h. subst (TextIs held faults start k a) (sym (append-nil text)) h;
+}
+
+-- Behind a failed write nothing more is taken, so that no put adds anything.
+pub failed_adds : {K : Type 0} (held : K → Option (List ℕ)) (faults : K → ℕ) (k : K) (a : TextBuffer) (bytes : List ℕ)
+    → has_failed a ≡ true → Adds held faults k k a a bytes
+failed_adds held faults k a bytes failed = record {
+  goes = λ start text h. record {
+    rest = h.rest ++ bytes;
+    written = record {
+      gone = h.written.gone;
+      held_is = h.written.held_is;
+      text_is = ap (λ t. t ++ bytes) h.written.text_is ∙ append_assoc h.written.gone h.rest bytes;
+    };
+    waits = λ e. cc (e, failed);
+    same = λ e. cc (e, failed);
+    later = h.later;
+    cause = h.cause;
+  };
 }

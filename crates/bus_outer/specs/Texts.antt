@@ -14,9 +14,10 @@
 -- The spec function joins its fields by `++`, grouped to the left, in the order of the puts: `codes "HOLD " ++ decimal n ++ ..`.
 -- A choice (`match`, `if`) and a loop each have a helper of their own; the loop's invariant is.
 --   Adds g.K.Sink.held g.K.Sink.faults l.fn.sink l.sink l.fn.text l.text (flat_map form (take l.x-index l.xs))
+-- A long loop may end early where `has_failed` says so: a text that takes no more is one to which anything was added (`failed_adds`).
 -- A helper of up to five puts needs no answer; else, and at the public writer,.
 --   returns g c = search (adds_then, ends_text) depth 40        (both of `TextLaws`)
-use Rattle.std.specs.Prelude.{◌≡◌, false, ℕ, List, [], ◌++◌}
+use Rattle.std.specs.Prelude.{◌≡◌, Bool, false, ℕ, List, [], ◌++◌}
 use Rattle.std.specs.declared.option.Option.{Option}
 use Rattle.std.specs.declared.result.Result.{Result}
 use Rattle.bus_outer.specs.Sinks.{WritesText}
@@ -31,6 +32,10 @@ pub record IsFresh (t : TextBuffer) : Type 0 where
 -- Since the sink was `start`, this text was put.
 abbrev pub TextIs : {K : Type 0} → (K → Option (List ℕ)) → (K → ℕ) → K → K → TextBuffer → List ℕ → Type 0
 TextIs held faults start now t text = Stands held faults start now t.buffer.items t.failed text
+
+-- Whether a write has failed, so that no more of the text is taken.
+abbrev pub has_failed : TextBuffer → Bool
+has_failed t = t.failed
 
 -- A call adds these bytes to the text, whatever it was.
 pub record Adds {K : Type 0} (held : K → Option (List ℕ)) (faults : K → ℕ) (k k' : K) (old new : TextBuffer) (bytes : List ℕ)

@@ -1,7 +1,7 @@
 //! A buffer of fixed size before a sink, so that a text of many fields comes in few pushes.
 ghost use Rattle.std.specs.Prelude.{◌≡◌, [], ◌∷◌, length, decimal};
 ghost use Rattle.std.specs.Fmt.{signed_decimal};
-ghost use Rattle.bus_outer.specs.Texts.{IsFresh, Adds, Ends};
+ghost use Rattle.bus_outer.specs.Texts.{IsFresh, Adds, Ends, has_failed};
 ghost use Rattle.bus_outer.specs.Standing.{Sends};
 
 use crate::{Sink, WriteFault, write_all};
@@ -63,6 +63,13 @@ impl TextBuffer {
         ensures { Adds K.held K.faults sink.old sink.new self.old self.new (signed_decimal number) }
     {
         self.put_number(sink, number)
+    }
+
+    /// Whether a write has failed: then no more of the text is taken, and nothing is lost where no more is put.
+    pub fn has_failed(&self) -> bool
+        ensures { result ≡ has_failed self.now }
+    {
+        self.failed
     }
 
     /// Writes what still waits, and says whether the whole text has been written.

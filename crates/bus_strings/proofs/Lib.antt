@@ -13,3 +13,4 @@ pub mod ListLaws
 pub mod MarkLaws
 pub mod CountLaws
 pub mod ClearLaws
+pub mod ShareLaws

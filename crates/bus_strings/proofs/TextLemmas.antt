@@ -1,16 +1,11 @@
 -- Texts of a header and items.
 use Rattle.std.proofs.Common.{arith, ◌≡◌, ℕ, Bool, true, false, not, ◌&&◌, List, [], ◌∷◌, length, drop, codes, Result, Ok, Err, refl, sym, ap, ◌∙◌, ◌==◌}
 use Rattle.std.proofs.lemmas.Bool.{ne_eqb}
-use Rattle.bus_text.specs.AllOf.{◌>>=◌, all_of}
 use Rattle.bus_text.specs.Fields.{is_at}
-use Rattle.bus_text.specs.Lines.{Entry}
 use Rattle.bus_text.specs.Refusals.{first_of, unless}
 use Rattle.bus_text.specs.declared.reason.Reason.{Reason}
-use Rattle.bus_text.specs.declared.reason.Reason.TheVariants.{Ended, Keyword, Fields}
-use Rattle.bus_strings.specs.declared.fault.MessagesError.{MessagesError}
-use Rattle.bus_strings.specs.declared.fault.MessagesError.TheVariants.{Text, Memory}
-use Rattle.bus_strings.specs.Reading.{header_reading, header_line, item_line, lines_reading}
-use Rattle.bus_strings.specs.Gives.{Fails}
+use Rattle.bus_text.specs.declared.reason.Reason.TheVariants.{Keyword, Fields}
+use Rattle.bus_strings.specs.Reading.{header_reading}
 
 -- ---- the header
 abbrev pub staged : Bool → Bool → Result (Unit {0}) Reason
@@ -47,19 +42,3 @@ header_right [] p q r = absurd cc
 header_right (a ∷ []) p q r = absurd cc
 header_right (a ∷ b ∷ []) p q r = header_is (a ∷ b ∷ []) true true p q
 header_right (a ∷ b ∷ c ∷ others) p q r = absurd cc
-
--- ---- the text
-pub ended : (entries : List Entry) (after : ℕ) → entries ≡ [] → lines_reading entries after ≡ Err (record { line = after; reason = Ended })
-unfolding lines_reading
-ended entries after e = ap (λ es. lines_reading es after) e
-
-begun : (entries : List Entry) (first : Entry) (others : List Entry) (after : ℕ) → entries ≡ first ∷ others → lines_reading entries after ≡ (header_line first >>= λ _. all_of item_line others)
-unfolding lines_reading
-begun entries first others after e = ap (λ es. lines_reading es after) e
-
-pub header_fails : (error : MessagesError) (entries : List Entry) (first : Entry) (others : List Entry) (after : ℕ) → entries ≡ first ∷ others → Fails error (header_line first) → Fails error (lines_reading entries after)
-header_fails Memory entries first others after e h = tt
-header_fails (Text line reason) entries first others after e h = begun entries first others after e ∙ ap (λ r. r >>= λ _. all_of item_line others) h
-
-pub items_are : (entries : List Entry) (first : Entry) (others : List Entry) (after : ℕ) (u : Unit {0}) → entries ≡ first ∷ others → header_line first ≡ Ok u → lines_reading entries after ≡ all_of item_line others
-items_are entries first others after u e h = begun entries first others after e ∙ ap (λ r. r >>= λ _. all_of item_line others) h

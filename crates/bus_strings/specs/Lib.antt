@@ -3,6 +3,7 @@ pub mod Limits
 pub mod Members
 pub mod Messages
 pub mod Microseconds
+pub mod Shares
 pub mod Pulses
 pub mod PulseLaws
 pub mod Transmissions

@@ -11,5 +11,5 @@ abbrev pub microseconds : ℕ → List ℕ
 microseconds t = decimal (t / 2) ++ half_text t
 
 -- Their unit: a space, the two bytes of the letter mu, and `s`.
-abbrev pub micro_unit : List ℕ
-micro_unit = 32 ∷ 194 ∷ 181 ∷ 115 ∷ []
+abbrev pub microseconds_unit : List ℕ
+microseconds_unit = 32 ∷ 194 ∷ 181 ∷ 115 ∷ []

@@ -1,15 +1,18 @@
 //! Laws of messages, transmissions and texts, each the contract of a function that does nothing.
-ghost use Rattle.std.specs.Prelude.{◌≡◌, ℕ, List, Ok};
+ghost use Rattle.std.specs.Prelude.{◌≡◌, ◌≤◌, ℕ, List, Ok, length};
 ghost use Rattle.bus_strings.specs.Items.{Item};
 ghost use Rattle.bus_strings.specs.Grammar.{IsMessagesText};
 ghost use Rattle.bus_strings.specs.Reading.{messages_reading};
 ghost use Rattle.bus_strings.specs.PulseLaws.{FirstIsOn, LastIsOn, QuietBehind, PulseSoon, OnWithinPulse, NextPulse, LastPulseEnds};
+ghost use Rattle.bus_strings.specs.Shares.{SharesAreNearest};
 ghost use Rattle.bus_strings.specs.OverlapLaws.{OverlapsMeet, NeighboursTell, AscendingIsByMoment};
 
-/// A messages text reads as its items, and what reads as items is a messages text of them. Laws, with no work.
+/// A messages text reads as its items, of which it has no more than bytes, and what reads as items is a messages text of them. Laws, with
+/// no work.
 pub fn texts_read_as_their_items()
     ensures again { (text : List ℕ) (items : List Item) → IsMessagesText items text → messages_reading text ≡ Ok items }
     ensures found { (text : List ℕ) (items : List Item) → messages_reading text ≡ Ok items → IsMessagesText items text }
+    ensures few { (text : List ℕ) (items : List Item) → messages_reading text ≡ Ok items → length items ≤ length text }
 {}
 
 /// What follows of the pulses of a message, whatever its words: laws, with no work.
@@ -29,4 +32,9 @@ pub fn neighbours_tell()
     ensures meet { OverlapsMeet }
     ensures neighbours { NeighboursTell }
     ensures ascending { AscendingIsByMoment }
+{}
+
+/// A share is the nearest number of tenths of a percent, a half up. A law, with no work.
+pub fn shares_are_nearest()
+    ensures { SharesAreNearest }
 {}

@@ -22,8 +22,8 @@ pub fn put_microseconds<K: Sink>(text: &mut TextBuffer, sink: &mut K, bit_times:
 }
 
 /// Puts the unit of microseconds behind their number, with its space.
-pub fn put_micro_unit<K: Sink>(text: &mut TextBuffer, sink: &mut K)
-    ensures { Adds K.held K.faults sink.old sink.new text.old text.new definition.micro_unit }
+pub fn put_microseconds_unit<K: Sink>(text: &mut TextBuffer, sink: &mut K)
+    ensures { Adds K.held K.faults sink.old sink.new text.old text.new definition.microseconds_unit }
 {
     text.put(sink, &[b' ', 194, 181, b's']);
 }

@@ -1,12 +1,14 @@
 //! Reading a messages text.
-ghost use Rattle.std.specs.Prelude.{◌≡◌, ◌≤◌, List, length, IfOk, Ok};
+ghost use Rattle.std.specs.Prelude.{◌≡◌, ◌≤◌, List, length, IfOk, IfErr, Ok, Err};
 ghost use Rattle.std.specs.List.{AllByRecursion};
 ghost use Rattle.bus_text.specs.AllOf.{all_of};
 ghost use Rattle.bus_text.specs.Entries.{entry};
+ghost use Rattle.bus_text.specs.Refusals.{Refusal};
 ghost use Rattle.bus_strings.specs.Items.{Item, IsItem};
 ghost use Rattle.bus_strings.specs.Grammar.{IsMessagesText};
-ghost use Rattle.bus_strings.specs.Reading.{header_reading, header_line, item_line, messages_reading};
+ghost use Rattle.bus_strings.specs.Reading.{header_reading, item_line, messages_reading};
 ghost use Rattle.bus_strings.specs.Gives.{Gives};
+ghost use Rattle.bus_strings.specs.declared.fault.MessagesError.TheVariants.{Text};
 
 use crate::fault::MessagesError;
 use crate::item::item;
@@ -28,19 +30,6 @@ fn header(mut fields: Fields<'_>) -> Result<(), Reason>
     match fields.next() {
         None => Ok(()),
         Some(_) => Err(Reason::Fields),
-    }
-}
-
-/// Reads the first line.
-fn header_at(line: Line<'_>) -> Result<(), MessagesError>
-    ensures { Gives (λ u. u) result (header_line (entry line.entry)) }
-{
-    match header(Fields::new(line.bytes)) {
-        Ok(()) => Ok(()),
-        Err(reason) => Err(MessagesError::Text {
-            line: line.number,
-            reason,
-        }),
     }
 }
 
@@ -79,9 +68,14 @@ fn items(alloc: Global, lines: Lines<'_>) -> Result<Vec<Payload>, MessagesError>
     Ok(items)
 }
 
-/// Reads the header and the items.
-fn read(alloc: Global, text: &[u8]) -> Result<Payloads, MessagesError>
-    ensures { Gives (λ v. v) result (messages_reading text.now) }
+/// The lines of the items of a messages text, behind its first line; [`read_item`] reads each.
+///
+/// [`MessagesError::Text`] comes exactly where the first line isn't that of a messages text, or there is none.
+pub fn item_lines(text: &[u8]) -> Result<Lines<'_>, MessagesError>
+    ensures items { IfOk result (λ lines. messages_reading text.now ≡ all_of item_line lines) }
+    ensures refused { IfErr result (λ error. (refusal : Refusal) × (messages_reading text.now ≡ Err refusal)
+        × (error ≡ Text refusal.line refusal.reason)) }
+    ensures few { IfOk result (λ lines. length lines ≤ length text.now) }
 {
     let mut lines = Lines::new(text);
     let Some(first) = lines.next() else {
@@ -90,9 +84,26 @@ fn read(alloc: Global, text: &[u8]) -> Result<Payloads, MessagesError>
             reason: Reason::Ended,
         });
     };
-    header_at(first)?;
-    let items = items(alloc, lines)?;
-    Ok(Payloads { items })
+    match header(Fields::new(first.bytes)) {
+        Ok(()) => Ok(lines),
+        Err(reason) => Err(MessagesError::Text {
+            line: first.number,
+            reason,
+        }),
+    }
+}
+
+/// Reads the header and the items.
+fn read(alloc: Global, text: &[u8]) -> Result<Payloads, MessagesError>
+    ensures { Gives (λ v. v) result (messages_reading text.now) }
+{
+    match item_lines(text) {
+        Ok(lines) => {
+            let items = items(alloc, lines)?;
+            Ok(Payloads { items })
+        }
+        Err(error) => Err(error),
+    }
 }
 
 /// Reads a messages text: the items that it stands for, or the first line that is refused and why.

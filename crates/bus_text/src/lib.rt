@@ -28,7 +28,9 @@ pub use cursor::{Line, Lines};
 pub use digits::{NO_CAPITAL, capital_digit, capital_value, four_digits, hex_digit, three_digits};
 pub use fault::LineFault;
 pub use leading::leading_digits;
-pub use lines::{field_at, fields, fields_from, first_feed, is_at, is_skipped, line_after};
+pub use lines::{
+    field_at, fields, fields_from, first_feed, is_at, is_skipped, line_after, take_fields,
+};
 pub use numbers::{hexadecimal, plain_decimal};
 pub use reason::Reason;
 pub use split::Fields;

@@ -3,4 +3,4 @@ use Rattle.bus_explain.proofs.times.put_time.Goals as goal
 
 pub returns : goal.returns
 returns g c =
-    c.put_number.ensures ▸ c.put_unit.ensures ▸ c.put_microseconds.ensures ▸ c.put_micro_unit.ensures ▸ c.put.ensures
+    c.put_number.ensures ▸ c.put_unit.ensures ▸ c.put_microseconds.ensures ▸ c.put_microseconds_unit.ensures ▸ c.put.ensures

@@ -1,5 +1,5 @@
 use Rattle.bus_outer.proofs.TextLaws.{◌▸◌}
-use Rattle.bus_explain.proofs.times.put_share.Goals as goal
+use Rattle.bus_strings.proofs.shares.put_share.Goals as goal
 
 pub returns : goal.returns
 returns g c =

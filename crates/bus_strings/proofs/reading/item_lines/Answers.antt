@@ -1,0 +1,28 @@
+use Rattle.std.proofs.Common.{rules, arith, refl, ap, ◌≡◌, ◌∷◌, length, Err}
+use Rattle.bus_text.specs.Entries.{entry}
+use Rattle.bus_text.specs.Lines.{entries_of}
+use Rattle.bus_text.specs.declared.reason.Reason.TheVariants.{Ended}
+use Rattle.bus_text.proofs.LineLaws.{length-entries_of-le}
+use Rattle.bus_strings.specs.Reading.{lines_reading, messages_reading}
+use Rattle.bus_strings.proofs.reading.item_lines.Goals as goal
+
+pub returns-in_default-clause-refused : goal.returns-in_default-clause-refused
+unfolding lines_reading
+returns-in_default-clause-refused c =
+    let read : messages_reading c.args.text.now ≡ Err (record { line = c.line_after.result; reason = Ended }) = search rules in
+    (record { line = c.line_after.result; reason = Ended }, read, refl)
+
+pub returns-in-Ok-clause-items : goal.returns-in-Ok-clause-items
+unfolding lines_reading
+returns-in-Ok-clause-items c = search rules
+
+pub returns-in-Ok-clause-few : goal.returns-in-Ok-clause-few
+returns-in-Ok-clause-few c =
+    let all : entries_of c.args.text.now ≡ entry c.in-Some.first ∷ c.next.new.self = search rules in
+    omega (arith, ap length all, length-entries_of-le c.args.text.now)
+
+pub returns-in-Err-clause-refused : goal.returns-in-Err-clause-refused
+unfolding lines_reading
+returns-in-Err-clause-refused c =
+    let read : messages_reading c.args.text.now ≡ Err (record { line = c.in-Some.first.number; reason = c.in-Err.reason }) = search rules in
+    (record { line = c.in-Some.first.number; reason = c.in-Err.reason }, read, refl)
