@@ -4,11 +4,11 @@ use Rattle.bus_text.specs.AllOf.{◌>>=◌}
 use Rattle.bus_text.specs.Refusals.{Refusal}
 use Rattle.bus_strings.specs.Items.{Item}
 use Rattle.bus_strings.specs.Reading.{messages_reading}
-use Rattle.bus_strings.specs.declared.fault.MessagesError.{MessagesError}
-use Rattle.bus_strings.specs.declared.fault.MessagesError.TheVariants.{Text as NotRead, Memory as NoRoom}
 use Rattle.bus_table.specs.declared.error.TableError.{TableError}
 use Rattle.bus_table.specs.declared.error.TableError.TheVariants.{Text, Whole, Memory}
 use Rattle.bus_table.specs.declared.fit.FitError.{FitError}
+use Rattle.bus_table.specs.declared.hands_error.HandsError.{HandsError}
+use Rattle.bus_table.specs.declared.hands_error.HandsError.TheVariants.{Text as NotRead, Unfit as NotFit, Memory as NoRoom}
 use Rattle.bus_table.specs.Tables.{Table, Hand}
 use Rattle.bus_table.specs.Fits.{items_fit}
 use Rattle.bus_table.specs.Hands.{hands_of}
@@ -56,10 +56,11 @@ abbrev pub table_refusal_of : {R : Type 0} → List ℕ → Option (Outcome R)
 table_refusal_of text = refusal_in (table_due text)
 
 -- ---- the second text, where it is one of messages
--- Why a messages text is refused.
-abbrev pub messages_refusal : {R : Type 0} → MessagesError → Outcome R
-messages_refusal (NotRead line reason) = MessagesText line reason
-messages_refusal NoRoom = NoMemory
+-- Why a messages text gives the senders of a table no hands.
+abbrev pub hands_refusal : {R : Type 0} → HandsError → Outcome R
+hands_refusal (NotRead line reason) = MessagesText line reason
+hands_refusal (NotFit error) = Unfit error
+hands_refusal NoRoom = NoMemory
 
 -- Items, or the outcome of their refusal.
 abbrev pub items_or_refusal : {R : Type 0} → Result (List Item) Refusal → Result (List Item) (Outcome R)

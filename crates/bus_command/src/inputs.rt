@@ -10,8 +10,8 @@ ghost use Rattle.bus_trace.specs.Traces.{IsTrace};
 use crate::outcome::Outcome;
 use crate::refusal::Refusal;
 use bus_outer::{ReadError, Source, read_whole};
-use bus_strings::read_messages;
-use bus_table::{Hand, Table, fits, hands, read_table};
+use bus_strings::laws::texts_read_as_their_items;
+use bus_table::{Hand, Table, read_hands, read_table};
 use bus_trace::laws::traces_read_back;
 use bus_trace::{Trace, read_trace};
 use std::alloc::Global;
@@ -84,10 +84,9 @@ pub fn take_hands<R: Refusal, S: Source>(
     ensures takes { TakesFrom ⟦<S as Source>⟧ (AreHandsOf table.now) 2 entire (items_due table.now) second.old second.new result }
     ensures ready { IfOk result (λ hands. AreReady table.now hands.items) }
 {
+    texts_read_as_their_items();
     let text = take_text::<R, S>(alloc, TEXT_LIMIT, 2, second)?;
-    let items = read_messages(alloc, &text)?;
-    fits(table, &items)?;
-    let hands = hands(alloc, table, items)?;
+    let hands = read_hands(alloc, table, &text)?;
     Ok(hands)
 }
 

@@ -4,8 +4,7 @@ ghost use Rattle.bus_command.specs.Outcomes.{is_written, own_of, status_of};
 
 use crate::refusal::{Place, Refusal};
 use crate::status::Status;
-use bus_strings::MessagesError;
-use bus_table::{FitError, TableError, WholeReason};
+use bus_table::{FitError, HandsError, TableError, WholeReason};
 use bus_text::Reason;
 use bus_trace::{TraceError, TraceReason};
 use std::alloc::AllocError;
@@ -104,26 +103,17 @@ impl<R> From<TableError> for Outcome<R> {
     }
 }
 
-impl<R> From<MessagesError> for Outcome<R> {
-    ghost use Rattle.bus_command.specs.Due.{messages_refusal};
+impl<R> From<HandsError> for Outcome<R> {
+    ghost use Rattle.bus_command.specs.Due.{hands_refusal};
 
-    ghost from_gives = { λ error outcome. outcome ≡ messages_refusal error };
+    ghost from_gives = { λ error outcome. outcome ≡ hands_refusal error };
 
-    fn from(error: MessagesError) -> Outcome<R> {
+    fn from(error: HandsError) -> Outcome<R> {
         match error {
-            MessagesError::Text { line, reason } => Outcome::MessagesText { line, reason },
-            MessagesError::Memory => Outcome::NoMemory,
+            HandsError::Text { line, reason } => Outcome::MessagesText { line, reason },
+            HandsError::Unfit(error) => Outcome::Unfit(error),
+            HandsError::Memory => Outcome::NoMemory,
         }
-    }
-}
-
-impl<R> From<FitError> for Outcome<R> {
-    ghost use Rattle.bus_command.specs.declared.outcome.Outcome.TheVariants.{Unfit};
-
-    ghost from_gives = { λ error outcome. outcome ≡ Unfit error };
-
-    fn from(error: FitError) -> Outcome<R> {
-        Outcome::Unfit(error)
     }
 }
 

@@ -11,7 +11,8 @@ use Rattle.bus_table.specs.Hands.{message_of, items_of, hand_of, hands_of, are_h
 use Rattle.bus_table.specs.Tables.{SendLine, Sender, Table}
 use Rattle.bus_table.specs.Valid.{is_valid}
 use Rattle.bus_table.proofs.ValidLaws.{valid_facts}
-use Rattle.bus_table.proofs.HandLemmas.{is_fit, each_fits}
+use Rattle.bus_table.specs.inside.Dealing.{is_fit}
+use Rattle.bus_table.proofs.HandLemmas.{each_fits}
 
 both : (a b : Bool) → a ≡ true → b ≡ true → (a && b) ≡ true
 both true true h k = refl

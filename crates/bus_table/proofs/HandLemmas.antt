@@ -19,10 +19,7 @@ use Rattle.bus_table.specs.declared.fit.FitError.TheVariants as FitErrors
 use Rattle.bus_table.specs.Fits.{has_shape, sender_of, shape_fit, fit_from}
 use Rattle.bus_table.specs.Hands.{message_of, items_of, hand_of, with_message}
 use Rattle.bus_table.specs.Tables.{Sender, Hand}
-
--- whether an item has a sender, whose lines ask for its shape
-abbrev pub is_fit : List Sender → Item → Bool
-is_fit senders item = option_map_or (λ sender. has_shape sender.sends item.strings) (sender_of senders item.terminal) false
+use Rattle.bus_table.specs.inside.Dealing.{is_fit}
 
 both : (a b : Bool) → a ≡ true → b ≡ true → (a && b) ≡ true
 both true true h k = refl

@@ -1,4 +1,5 @@
 -- What only contracts of private functions and proofs name: not to be read for what is promised.
+pub mod Dealing
 pub mod Facts
 pub mod Keys
 pub mod Placed

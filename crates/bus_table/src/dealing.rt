@@ -1,16 +1,19 @@
 //! Dealing the items of a messages text out to the senders of a table.
-ghost use Rattle.std.specs.Prelude.{◌≡◌, ◌==◌, [], map, position, IfOk, IsOk, IsTrue};
+ghost use Rattle.std.specs.Prelude.{◌≡◌, ◌==◌, [], length, map, nat_eq, position, IfOk, OnOk, IsOk, IsTrue};
+ghost use Rattle.std.specs.List.{IsDistinct};
 ghost use Rattle.bus_strings.specs.Items.{numbers};
 ghost use Rattle.bus_table.specs.Fits as fits;
 ghost use Rattle.bus_table.specs.Hands.{message_of, hand_of, hands_of, are_hands};
 ghost use Rattle.bus_table.specs.Ranges.{are_send_lines};
+ghost use Rattle.bus_table.specs.inside.Dealing.{IsDealt, is_fit};
+ghost use Rattle.bus_table.specs.inside.Placed.{ArePlaces};
 
 use crate::hand::Hand;
 use crate::line::SendLine;
 use crate::places::Places;
 use crate::sender::Sender;
 use crate::table::Table;
-use bus_strings::{Message, Payloads, Wordstring};
+use bus_strings::{Message, Payload, Payloads, Wordstring};
 use std::alloc::{AllocError, Global};
 
 /// The message of these strings, with the labels and extensions of the lines, in memory for any number of them.
@@ -52,7 +55,7 @@ fn message(
 }
 
 /// One hand without messages for each sender, in order.
-fn empty_hands(alloc: Global, senders: &[Sender]) -> Result<Vec<Hand>, AllocError>
+pub(crate) fn empty_hands(alloc: Global, senders: &[Sender]) -> Result<Vec<Hand>, AllocError>
     ensures { IfOk result (λ made. made.items ≡ map (hand_of []) senders.now) }
 {
     let mut hands = Vec::with_capacity(alloc, senders.len())?;
@@ -72,6 +75,26 @@ pub fn place_of(senders: &[Sender], number: u8) -> Option<usize>
     senders.iter().position(|sender| sender.number() == number)
 }
 
+/// Deals an item out that fits its sender: the sender's hand has one more message.
+pub(crate) fn deal(
+    alloc: Global,
+    senders: &[Sender],
+    places: &Places,
+    item: Payload,
+    hands: &mut Vec<Hand>,
+) -> Result<(), AllocError>
+    requires places { ArePlaces senders.now places.now.by_number }
+    requires fit { IsTrue (is_fit senders.now item) }
+    requires distinct { IsDistinct nat_eq (map (λ s. s.number) senders.now) }
+    requires long { length hands.old.items ≡ length senders.now }
+    ensures dealt { OnOk result (IsDealt senders.now item hands.old.items hands.new.items) }
+    ensures long { OnOk result (length hands.new.items ≡ length senders.now) }
+{
+    let place = places.of(senders, item.terminal).unwrap();
+    hands[place].push(message(alloc, senders[place].sends(), item.strings)?)?;
+    Ok(())
+}
+
 /// The hands that the items give, under the condition that each item fits: one for each sender in the order of the
 /// table. A sender's messages are its items in their order, with the labels and extensions of its SEND lines. Fails
 /// only where memory runs out.
@@ -84,8 +107,7 @@ pub fn hands(alloc: Global, table: &Table, payloads: Payloads) -> Result<Vec<Han
     let places = Places::new(senders);
     let mut hands = empty_hands(alloc, senders)?;
     for item in payloads.items {
-        let place = places.of(senders, item.terminal).unwrap();
-        hands[place].push(message(alloc, senders[place].sends(), item.strings)?)?;
+        deal(alloc, senders, &places, item, &mut hands)?;
     }
     Ok(hands)
 }

@@ -20,7 +20,7 @@ use crate::stage::Stage;
 use crate::stop::Stop;
 use crate::table::Table;
 use bus_strings::limits::MOST_STRINGS;
-use bus_text::{Line, LineFault, Reason, fields};
+use bus_text::{Line, LineFault, Reason, fields, take_fields};
 use std::alloc::{AllocError, Global};
 use std::marker::Model;
 
@@ -267,12 +267,17 @@ impl Draft {
         self.take_form(alloc, keyword, fields)
     }
 
-    /// Takes a line.
-    pub fn take_line(&mut self, alloc: Global, line: Line<'_>) -> Result<(), TableError>
+    /// Takes a line. `fields` is room that is used again from line to line; it holds nothing of use.
+    pub fn take_line<'a>(
+        &mut self,
+        alloc: Global,
+        fields: &mut Vec<&'a [u8]>,
+        line: Line<'a>,
+    ) -> Result<(), TableError>
         ensures { StepGives self.new result (step self.old (entry line.entry)) }
     {
-        let fields = fields(alloc, line.bytes)?;
-        match self.take_fields(alloc, &fields) {
+        take_fields(fields, line.bytes)?;
+        match self.take_fields(alloc, fields) {
             Ok(()) => Ok(()),
             Err(LineFault::Memory) => Err(TableError::Memory),
             Err(LineFault::Refused(reason)) => Err(TableError::Text {

@@ -93,7 +93,12 @@ fn has_shape(sends: &[SendLine], strings: &[Vec<u16>]) -> bool
 }
 
 /// Whether item `k` fits the sender of its terminal.
-fn item_fits(k: u64, senders: &[Sender], places: &Places, item: &Payload) -> Result<(), FitError>
+pub(crate) fn item_fits(
+    k: u64,
+    senders: &[Sender],
+    places: &Places,
+    item: &Payload,
+) -> Result<(), FitError>
     requires { ArePlaces senders.now places.now.by_number }
     ensures { result ≡ fits.item_fit k senders.now item.now }
 {

@@ -7,6 +7,7 @@
 //! - [`shortest`] and [`longest`] tell the lengths of a sender's messages, [`place`] who speaks after whom.
 //! - [`with_offsets`] gives the senders of a periodic table other offsets.
 //! - [`fits`] holds the items of a messages text to the lines of their senders, and [`hands`] deals them out.
+//!   [`read_hands`] does both as it reads such a text.
 //!
 //! The gaps and intervals of a bus, and that each terminal has a gap of its own which is shorter than the
 //! synchronization gap, are facts of ARINC 629. All ranges, the lines, the text and the order of reasons are this
@@ -15,7 +16,7 @@
 //! The definitions are in `specs/`: `Tables` (a table as plain numbers and lists), `Ranges`, `Whole` and `Valid` (which
 //! tables are valid), `Text` (which texts stand for which tables), `Forms`, `Drafts` and `Reading` (what a text reads as,
 //! line by line, and where and why it is refused), `Canonical` (the text that is written), `Lengths`, `Turns`, `Offsets`,
-//! `Fits` and `Hands`. What callers may use of them beside the contracts are the files of `proofs/` whose
+//! `Fits`, `Hands` and `Dealt`. What callers may use of them beside the contracts are the files of `proofs/` whose
 //! names end in `Laws`, and what they state in `specs/inside/Facts`.
 #![tactic(auto)]
 
@@ -25,6 +26,8 @@ mod error;
 mod fit;
 mod forms;
 mod hand;
+mod hand_reading;
+mod hands_error;
 mod head;
 mod keyword;
 pub mod laws;
@@ -49,6 +52,8 @@ pub use dealing::{hands, place_of};
 pub use error::{TableError, WholeReason};
 pub use fit::{FitError, fits, message_fits, sender_of};
 pub use hand::Hand;
+pub use hand_reading::read_hands;
+pub use hands_error::HandsError;
 pub use keyword::Keyword;
 pub use lengths::{longest, shortest};
 pub use line::{SendLine, TakeLine};

@@ -16,8 +16,9 @@ fn read(alloc: Global, text: &[u8]) -> Result<Table, TableError>
     ensures { Answers result (answer_of text.now) }
 {
     let mut draft = Draft::new(alloc);
+    let mut fields = Vec::new(alloc);
     for line in Lines::new(text) {
-        draft.take_line(alloc, line)?;
+        draft.take_line(alloc, &mut fields, line)?;
     }
     if !draft.may_end() {
         return Err(TableError::Text {

@@ -102,9 +102,10 @@ pub fn find_stop(alloc: Global, text: &[u8]) -> Result<Stop, AllocError>
     ensures { IfOk result (λ stop. stop ≡ stop_of text.now) }
 {
     let mut draft = Draft::new(alloc);
+    let mut fields = Vec::new(alloc);
     for line in Lines::new(text) {
         let here = draft.stop_before(alloc, line)?;
-        match draft.take_line(alloc, line) {
+        match draft.take_line(alloc, &mut fields, line) {
             Ok(()) => {}
             Err(error) => return at_refusal(error, here),
         }

@@ -1,8 +1,10 @@
 //! The hands that items give, and items that don't fit.
 use bus_strings::read_messages;
 use bus_table::{
-    FitError, Listener, Mode, SendLine, Sender, Table, TakeLine, fits, hands, read_table,
+    FitError, HandsError, Listener, Mode, SendLine, Sender, Table, TakeLine, fits, hands,
+    read_hands, read_table,
 };
+use bus_text::Reason;
 use bus_words::{Ext, Label};
 use std::test::Fail;
 
@@ -45,6 +47,36 @@ fn items_are_dealt_to_their_senders(rt: HostRuntime) -> Result<(), Fail> {
         return Ok(());
     }
     Err("the items fit")?
+}
+
+#[test]
+fn hands_are_read_or_refused(rt: HostRuntime) -> Result<(), Fail> {
+    let table = read_table(rt.alloc(), TABLE)?;
+    let hands = read_hands(
+        rt.alloc(),
+        &table,
+        b"MESSAGES 1\nMSG 2 : 00FF\nMSG 1 : 0000 0001\nMSG 2 :\n",
+    )?;
+    assert_eq!(rt; hands.len(), 2);
+    assert_eq!(rt; hands[0].messages.len(), 1);
+    assert_eq!(rt; hands[1].messages.len(), 2);
+    let rows: [(&[u8], HandsError); 2] = [
+        (
+            b"MESSAGES 1\nMSG 2 :\nMSG 3 :\nMSG 1 :\n",
+            HandsError::Unfit(FitError::Stranger(2)),
+        ),
+        (
+            b"MESSAGES 1\nMSG 3 :\nMSG 1\n",
+            HandsError::Text {
+                line: 3,
+                reason: Reason::Fields,
+            },
+        ),
+    ];
+    for (text, error) in rows {
+        assert_eq!(rt; read_hands(rt.alloc(), &table, text).err(), Some(error));
+    }
+    Ok(())
 }
 
 #[test]

@@ -3,7 +3,7 @@ use Rattle.std.specs.List.{list_all}
 use Rattle.std.specs.Vec.Iter.{into_iter_items}
 use Rattle.bus_strings.specs.Items.{Item}
 use Rattle.bus_table.specs.Hands.{hand_of}
-use Rattle.bus_table.proofs.HandLemmas.{is_fit}
+use Rattle.bus_table.specs.inside.Dealing.{is_fit}
 use Rattle.bus_table.proofs.dealing.hands.Given as goal
 
 abbrev pub invariant-loop-item : goal.invariant-loop-item
