@@ -1,6 +1,6 @@
 -- What is counted is the number of received lines.
-use Rattle.std.proofs.Common.{arith, ◌≡◌, ℕ, ◌+◌, Bool, true, false, cond, List, [], ◌∷◌, ◌++◌, length, map, refl, ap, sym, ◌∙◌}
-use Rattle.std.specs.List.{filter, sum_by, zip}
+use Rattle.std.proofs.Common.{arith, ◌≡◌, ℕ, ◌+◌, Bool, true, false, cond, List, [], ◌∷◌, ◌++◌, length, map, refl, ap, sym, subst, ◌∙◌}
+use Rattle.std.specs.List.{filter, flat_map, sum_by, zip}
 use Rattle.std.proofs.lemmas.List.{length-map}
 use Rattle.std.proofs.lemmas.List.Concat.{length-flat_map}
 use Rattle.std.proofs.lemmas.List.Sums.{sum_by-cons, sum_by-append, sum_by_push, length-filter}
@@ -8,7 +8,7 @@ use Rattle.bus_strings.specs.Messages.{Wordstring, Entry}
 use Rattle.bus_strings.specs.Transmissions.{marks}
 use Rattle.bus_table.specs.declared.line.TakeLine.{TakeLine}
 use Rattle.bus_table.specs.Tables.{Sender, Listener, Table}
-use Rattle.bus_filter.specs.Received.{Taker, matches, received_line, string_lines, entry_lines, is_heard, sender_taker, listener_taker}
+use Rattle.bus_filter.specs.Received.{ReceivedLine, Taker, matches, received_line, string_lines, entry_lines, is_heard, heard, sender_taker, listener_taker}
 use Rattle.bus_filter.specs.ReceivedTexts.{received_count}
 use Rattle.bus_filter.specs.inside.Putting.{string_count, marked_count, taker_count, sender_count, listener_count}
 
@@ -61,3 +61,13 @@ takers_counted table list senders listeners s l =
     ∙ ap (λ n. n + sum_by (listener_count list) table.listeners) (sym (sum_by-map (taker_count list) sender_taker table.senders))
     ∙ ap (λ n. sum_by (taker_count list) (map sender_taker table.senders) + n) (sym (sum_by-map (taker_count list) listener_taker table.listeners))
     ∙ sym (sum_by-append (taker_count list) (map sender_taker table.senders) (map listener_taker table.listeners))
+
+-- where there are no receive lines nothing is received
+none_flat : {X A : Type 0} (f : X → List A) (xs : List X) → ((x : X) → f x ≡ []) → flat_map f xs ≡ []
+none_flat {X} {A} f [] h = refl
+none_flat {X} {A} f (x ∷ xs) h = ap (λ (l : List A). l ++ flat_map f xs) (h x) ∙ none_flat f xs h
+
+pub none_counted : (list : List Entry) (number : ℕ) (takes : List TakeLine) → takes ≡ [] → let taker : Taker = record { number = number; takes = takes } in 0 ≡ taker_count list taker
+none_counted list number takes h =
+    subst (λ (ts : List TakeLine). let taker : Taker = record { number = number; takes = ts } in 0 ≡ taker_count list taker) (sym h)
+    (ap (λ (l : List ReceivedLine). length l) (sym (none_flat (entry_lines []) (heard number list) (λ x. none_flat (string_lines [] x.moment) x.message (λ s. refl)))))

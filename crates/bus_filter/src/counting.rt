@@ -107,7 +107,7 @@ fn count_list(number: u8, takes: &[TakeLine], spans: &Spans, list: &[Transmissio
     lines
 }
 
-/// The RX lines of a terminal.
+/// The RX lines of a terminal. Of one without receive lines the list isn't looked at.
 fn count_heard(number: u8, takes: &[TakeLine], keys: Option<&[u16]>, list: &[Transmission]) -> u128
     requires takes { length takes.now ≤ most_takes }
     requires order { IsByMoment list.now }
@@ -115,6 +115,9 @@ fn count_heard(number: u8, takes: &[TakeLine], keys: Option<&[u16]>, list: &[Tra
     ensures count { let taker : Taker = record { number = number; takes = takes.now } in result ≡ taker_count list.now taker }
     ensures bound { result ≤ 2 ^ 75 }
 {
+    if takes.is_empty() {
+        return 0;
+    }
     let spans = spans_of(takes);
     match keys {
         Some(keys) => count_gathered(number, takes, &spans, keys, list),

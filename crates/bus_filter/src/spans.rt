@@ -25,7 +25,7 @@ fn first_index(first: u8, behind: u8, index: u8) -> u8
     if behind == 0 { index } else { first }
 }
 
-/// Notes the receive line at a index.
+/// Notes the receive line at an index.
 fn note(spans: &mut Spans, takes: &[TakeLine], index: usize)
     requires within { index < length takes.now }
     requires few { length takes.now ≤ most_takes }

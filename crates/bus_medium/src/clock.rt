@@ -1,7 +1,7 @@
 //! The timers of a sender in plain numbers.
 ghost use Rattle.std.specs.Prelude.{◌≡◌, ◌+◌, ◌-◌, ◌^◌, ◌<◌, ◌≤◌, ◌⊎◌, true, false, max, None};
 ghost use Rattle.bus_timers.specs.Timings.{due_place};
-ghost use Rattle.bus_medium.specs.inside.Lazy.{due_at, clock_of, clock_after};
+ghost use Rattle.bus_medium.specs.inside.Lazy.{due_at, clock_of, clock_after, IsLater, IsSoon};
 
 use crate::seat::Seat;
 use bus_timers::{Core, History};
@@ -35,8 +35,8 @@ pub struct Watch {
     /// How far behind the place at which the bus became quiet the terminal gap counts, or will: nothing where the
     /// synchronization gap elapsed before that.
     pub behind: u64,
-    /// A place before which the sender doesn't start. It may be too early, so that it need not be told of each message.
-    pub ready: u64,
+    /// How far behind that place the terminal gap will be over, if the bus stays quiet.
+    pub over: u64,
 }
 
 /// A place at which something of the sender is due: never, where no message is left.
@@ -58,7 +58,7 @@ pub fn settled_watch<C: Core>(seat: &Seat<C>, quiet: u32) -> Watch
     ensures due { result.due ≡ due_at seat.now (due_place seat.now.timing None) }
     ensures behind { result.behind ≡ seat.now.timing.sg }
     ensures small { result.behind < 2 ^ 32 }
-    ensures ready { result.ready ≡ (clock_of 0 result).ready }
+    ensures over { result.over ≡ result.behind + result.tg }
 {
     let timing = seat.timing;
     let due = due_at(seat, timing.quiet as u64 + timing.due as u64);
@@ -69,7 +69,7 @@ pub fn settled_watch<C: Core>(seat: &Seat<C>, quiet: u32) -> Watch
         told: quiet as u64,
         due,
         behind,
-        ready: max(due, behind + timing.tg as u64),
+        over: behind + timing.tg as u64,
     }
 }
 
@@ -85,14 +85,14 @@ pub fn begun_watch<C: Core>(seat: &Seat<C>, now: u64, ended: u64) -> Watch
 {
     let timing = seat.timing;
     let due = due_at(seat, now + timing.ti as u64);
-    let gap_from = now + timing.sg as u64;
+    let behind = now + timing.sg as u64 - ended;
     Watch {
         sg: timing.sg,
         tg: timing.tg,
         told: now,
         due,
-        behind: gap_from - ended,
-        ready: max(due, gap_from + timing.tg as u64),
+        behind,
+        over: behind + timing.tg as u64,
     }
 }
 
@@ -133,14 +133,13 @@ impl Watch {
         max(self.due, ended + self.behind + self.tg as u64)
     }
 
-    /// From here on the first place at which the sender may start is kept.
-    pub fn find_ready(&mut self, ended: u64)
-        requires { ended + self.old.behind < 2 ^ 63 }
-        ensures same { clock_of ended self.new ≡ clock_of ended self.old }
-        ensures behind { self.new.behind ≡ self.old.behind }
-        ensures ready { self.new.ready ≡ (clock_of ended self.new).ready }
+    /// Whether its sender is ready later than `most`, which is so far behind the place at which the bus became quiet, if the
+    /// bus stays quiet.
+    pub fn is_later(&self, most: u64, behind: u64) -> bool
+        ensures later { result ≡ true → IsLater most behind self.now }
+        ensures soon { result ≡ false → IsSoon most behind self.now }
     {
-        self.ready = self.ready_at(ended);
+        self.due > most || self.over > behind
     }
 
     /// The bus was busy from one place to another.
@@ -151,13 +150,13 @@ impl Watch {
         ensures sg { self.new.sg ≡ self.old.sg }
         ensures counted { (self.new.behind ≡ 0) ⊎ (self.new.behind ≡ self.new.sg) }
         ensures near { self.new.behind < 2 ^ 32 }
-        ensures ready { self.new.ready ≡ (clock_of to self.new).ready }
+        ensures over { self.new.over ≡ self.new.behind + self.new.tg }
     {
         self.behind = if self.behind <= from - ended {
             0
         } else {
             self.sg as u64
         };
-        self.ready = max(self.due, to + self.behind + self.tg as u64);
+        self.over = self.behind + self.tg as u64;
     }
 }

@@ -12,10 +12,12 @@ use bus_strings::{Transmission, copy_message};
 use bus_timers::Core;
 use std::alloc::{AllocError, Global};
 
-/// Who decides when: the places of the senders by rising number. And the quiet before the settled start, in bit times.
+/// Who decides when, and how long the bus was quiet before.
 #[derive(Drop)]
 pub struct Roster {
+    /// The quiet before the settled start, in bit times.
     pub quiet: u32,
+    /// Where the senders stand in the table, by rising number.
     pub places: Vec<usize>,
 }
 

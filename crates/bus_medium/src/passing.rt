@@ -9,7 +9,7 @@ fn pass_all(watches: &mut [Watch], ended: u64, from: u64, to: u64)
     requires ended { ended ≤ from }
     requires small { to < 2 ^ 62 }
     ensures after { AreAfter from to (clocks_of ended watches.old) (clocks_of to watches.new) }
-    ensures kept { EachKept to watches.new }
+    ensures kept { EachKept watches.new }
 {
     for watch in watches.iter_mut() {
         watch.hear_busy(ended, from, to);
@@ -24,9 +24,9 @@ fn pass_one(watches: &mut [Watch], place: usize, heard: &Heard, from: u64, to: u
     requires order { from ≤ to }
     requires small { to < 2 ^ 62 }
     requires least { AreNoShorter heard.now.least (clocks_of heard.now.ended watches.old) }
-    requires others { OthersKept heard.now.ended (Some place) watches.old }
+    requires others { OthersKept (Some place) watches.old }
     ensures after { AreAfter from to (clocks_of heard.now.ended watches.old) (clocks_of to watches.new) }
-    ensures kept { EachKept to watches.new }
+    ensures kept { EachKept watches.new }
 {
     watches[place].hear_busy(heard.ended, from, to);
 }
@@ -37,9 +37,9 @@ fn pass_some(watches: &mut [Watch], alone: Option<usize>, heard: &Heard, from: u
     requires order { from ≤ to }
     requires small { to < 2 ^ 62 }
     requires least { AreNoShorter heard.now.least (clocks_of heard.now.ended watches.old) }
-    requires others { OthersKept heard.now.ended alone watches.old }
+    requires others { OthersKept alone watches.old }
     ensures after { AreAfter from to (clocks_of heard.now.ended watches.old) (clocks_of to watches.new) }
-    ensures kept { EachKept to watches.new }
+    ensures kept { EachKept watches.new }
 {
     match alone {
         Some(place) if from - heard.ended < heard.least as u64 => {
@@ -55,7 +55,7 @@ pub fn pass_busy(heard: &mut Heard, alone: Option<usize>, watches: &mut [Watch],
     requires order { from ≤ to }
     requires small { to < 2 ^ 62 }
     requires least { AreNoShorter heard.old.least (clocks_of heard.old.ended watches.old) }
-    requires others { OthersKept heard.old.ended alone watches.old }
+    requires others { OthersKept alone watches.old }
     ensures after { AreAfter from to (clocks_of heard.old.ended watches.old) (clocks_of heard.new.ended watches.new) }
     ensures ended { heard.new.ended ≡ to }
     ensures kept { AreKept heard.new to watches.new }

@@ -8,7 +8,9 @@ use std::marker::Model;
 /// A sender of the bus: its timing, and its terminal.
 #[derive(Drop)]
 pub struct Seat<C: Core> {
+    /// The numbers by which its timers run, in bit times.
     pub timing: Timing,
+    /// Its core, its hand, and what it is sending.
     pub terminal: Terminal<C>,
 }
 

@@ -115,7 +115,7 @@ fn begin_alone<C: JumpCore>(
     ensures numbers { map number_of seats.new ≡ map number_of seats.old }
     ensures long { length watches.new ≡ length watches.old }
     ensures least { OnOk result (AreNoShorter heard.now.least (clocks_of heard.now.ended watches.new)) }
-    ensures others { OnOk result (OthersKept heard.now.ended (Some place) watches.new) }
+    ensures others { OnOk result (OthersKept (Some place) watches.new) }
     ensures decided { OnOk result (DecidedLazily ⟦<C as Core>⟧ roster.now.quiet moment seats.old (clocks_of heard.now.ended watches.old)
         seats.new (clocks_of heard.now.ended watches.new) list.old.items list.new.items) }
     ensures moved { OnOk result (MovedBySent ⟦<C as Core>⟧ seats.old seats.new) }
@@ -154,7 +154,7 @@ pub fn begin_ready<C: JumpCore>(
     ensures numbers { map number_of seats.new ≡ map number_of seats.old }
     ensures long { length watches.new ≡ length watches.old }
     ensures least { OnOk result (AreNoShorter heard.now.least (clocks_of heard.now.ended watches.new)) }
-    ensures others { OnOk result (OthersKept heard.now.ended alone watches.new) }
+    ensures others { OnOk result (OthersKept alone watches.new) }
     ensures decided { OnOk result (DecidedLazily ⟦<C as Core>⟧ roster.now.quiet moment seats.old (clocks_of heard.now.ended watches.old)
         seats.new (clocks_of heard.now.ended watches.new) list.old.items list.new.items) }
     ensures moved { OnOk result (MovedBySent ⟦<C as Core>⟧ seats.old seats.new) }

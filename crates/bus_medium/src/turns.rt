@@ -31,7 +31,7 @@ fn settled_watches<C: JumpCore>(
     seats: &[Seat<C>],
 ) -> Result<Vec<Watch>, AllocError>
     ensures settled { IfOk result (λ watches. AreSettled quiet seats.now (clocks_of 0 watches.items)) }
-    ensures kept { IfOk result (λ watches. EachKept 0 watches.items) }
+    ensures kept { IfOk result (λ watches. EachKept watches.items) }
 {
     let mut watches = Vec::with_capacity(alloc, seats.len())?;
     for seat in seats {
@@ -143,7 +143,7 @@ fn run_all<C: JumpCore>(
     horizon: u64,
 ) -> Result<Vec<Transmission>, AllocError>
     requires settled { AreSettled roster.now.quiet seats.old (clocks_of 0 watches.old) }
-    requires kept { EachKept 0 watches.old }
+    requires kept { EachKept watches.old }
     requires horizon { horizon ≤ horizon_limit }
     requires roster { IsRoster (map number_of seats.old) roster.now.places.items }
     requires stands { StandsAt ⟦<C as Core>⟧ (record { quiet = roster.now.quiet; seats = seats.old }) [] 0 }

@@ -7,7 +7,7 @@ use Rattle.std.proofs.lemmas.Bool.{and_parts, eq-eqb, leb-true}
 use Rattle.std.proofs.lemmas.List.{length-map}
 use Rattle.std.proofs.lemmas.List.FromFn.{length-range_with_len}
 use Rattle.bus_strings.specs.Items.{Item}
-use Rattle.bus_table.specs.Hands.{message_of, items_of, hand_of, hands_of, are_hands}
+use Rattle.bus_table.specs.Hands.{message_of, items_of, hand_of, are_hands}
 use Rattle.bus_table.specs.Tables.{Sender, Table, Hand}
 use Rattle.bus_regime.specs.Verdicts.{most_cycle, verdict_of, is_accepted}
 use Rattle.bus_schedule.specs.declared.error.ScheduleError.{ScheduleError}
@@ -119,21 +119,14 @@ line_is drilled number h =
     drilled.collided (garbled_count (drill_list number)) drilled.received (received_count (made_table number) (drill_list number))
     h.made h.senders h.rounds h.messages h.end h.collided h.received
 
--- the input of a number, as it was made and dealt
-pub dealt_is : (number : ℕ) (table : Table) (items : List Item) (hands : List Hand) → table ≡ made_table number → items ≡ made_items number
-    → hands ≡ hands_of table items → (table ≡ made_table number) × (hands ≡ drill_hands number)
-dealt_is number table items hands t i h =
-    (t, h ∙ ap (λ (x : Table). hands_of x items) t ∙ ap (λ (x : List Item). hands_of (made_table number) x) i)
-
 -- a run of it that fails wants memory
-pub drill_fails : (number : ℕ) (table : Table) (items : List Item) (hands : List Hand) (error : ScheduleError) (outcome : Outcome)
-    → IsDrillable number → table ≡ made_table number → items ≡ made_items number → hands ≡ hands_of table items
+pub drill_fails : (number : ℕ) (table : Table) (hands : List Hand) (error : ScheduleError) (outcome : Outcome)
+    → IsDrillable number → table ≡ made_table number → hands ≡ drill_hands number
     → IsRefused (closed_end table hands) error → outcome ≡ schedule_refusal error → outcome ≡ NoMemory
-drill_fails number table items hands error outcome drillable t i h r e =
-    let same = dealt_is number table items hands t i h in
+drill_fails number table hands error outcome drillable t h r e =
     never_long number error outcome drillable
-    (subst (λ (hs : List Hand). IsRefused (closed_end (made_table number) hs) error) same.1
-    (subst (λ (x : Table). IsRefused (closed_end x hands) error) same.0 r)) e
+    (subst (λ (hs : List Hand). IsRefused (closed_end (made_table number) hs) error) h
+    (subst (λ (x : Table). IsRefused (closed_end x hands) error) t r)) e
 
 pub fails_so : {X : Type 0} (result : Result X Outcome) (o : Outcome) → IsErrAnd result (λ came. came ≡ o) → o ≡ NoMemory
     → IfErr result (λ outcome. outcome ≡ NoMemory)
@@ -141,21 +134,20 @@ fails_so (Ok x) o h e = tt
 fails_so (Err came) o h e = h ∙ e
 
 -- a run of it that doesn't fail finds the figures
-pub drill_finds : (number : ℕ) (table : Table) (items : List Item) (hands : List Hand) (list heard : List Entry) (drilled : DrillFigures)
-    → table ≡ made_table number → items ≡ made_items number → hands ≡ hands_of table items → IsRun table hands list
+pub drill_finds : (number : ℕ) (table : Table) (hands : List Hand) (list heard : List Entry) (drilled : DrillFigures)
+    → table ≡ made_table number → hands ≡ drill_hands number → IsRun table hands list
     → drilled.number ≡ number → drilled.senders ≡ sender_count number → drilled.rounds ≡ round_count number
     → drilled.messages ≡ length list → drilled.end ≡ closed_end table hands → drilled.collided ≡ garbled_count list
     → heard ≡ list → drilled.received ≡ received_count table heard → IsDrilled drilled number
-drill_finds number table items hands list heard drilled t i h run made senders rounds messages end collided heard_is received =
-    let same = dealt_is number table items hands t i h in
+drill_finds number table hands list heard drilled t h run made senders rounds messages end collided heard_is received =
     let all : list ≡ drill_list number =
-    run.closed ∙ ap (λ (x : Table). closed x hands) t ∙ ap (λ (hs : List Hand). closed (made_table number) hs) same.1 in
+    run.closed ∙ ap (λ (x : Table). closed x hands) t ∙ ap (λ (hs : List Hand). closed (made_table number) hs) h in
     record {
       made = made;
       senders = senders;
       rounds = rounds;
       messages = messages ∙ ap length all;
-      end = end ∙ ap (λ (x : Table). closed_end x hands) t ∙ ap (λ (hs : List Hand). closed_end (made_table number) hs) same.1;
+      end = end ∙ ap (λ (x : Table). closed_end x hands) t ∙ ap (λ (hs : List Hand). closed_end (made_table number) hs) h;
       collided = collided ∙ ap garbled_count all;
       received = received ∙ ap (received_count table) heard_is ∙ ap (λ (x : Table). received_count x list) t ∙ ap (λ (l : List Entry). received_count (made_table number) l) all;
     }

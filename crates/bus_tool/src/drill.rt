@@ -19,9 +19,8 @@ use bus_outer::{Sink, TextBuffer, WriteFault};
 use bus_schedule::run_settled;
 use bus_strings::laws::neighbours_tell;
 use bus_strings::{Marks, Transmission};
-use bus_table::hands;
 use bus_timers::DeadlineCore;
-use bus_vectors::{make, round_count, sender_count};
+use bus_vectors::{make_hands, round_count, sender_count};
 use std::alloc::Global;
 
 /// What a drill found.
@@ -60,8 +59,7 @@ fn drilled(alloc: Global, number: u32) -> Result<DrillFigures, Outcome>
     ensures only { IfErr result (λ outcome. outcome ≡ NoMemory) }
 {
     drills_are_accepted();
-    let (table, items) = make(alloc, number)?;
-    let hands = hands(alloc, &table, items)?;
+    let (table, hands) = make_hands(alloc, number)?;
     let ran = match run_settled::<DeadlineCore>(alloc, &table, hands) {
         Ok(ran) => ran,
         Err(error) => return Err(refuse_schedule(error)),

@@ -1,29 +1,43 @@
 -- The made items, round by round: they are in their ranges, fit the made table, and each sender has one in each round.
-use Rattle.std.proofs.Common.{arith, ◌≡◌, ℕ, zero, suc, ◌+◌, ◌*◌, ◌-◌, ◌%◌, ◌<◌, ◌≤◌, ◌^◌, Bool, true, false, cond, ◌&&◌, ◌==◌, nat_le, List}
-use Rattle.std.proofs.Common.{[], ◌∷◌, ◌++◌, length, map, Some, Ok, refl, sym, ap, subst, ◌∙◌, append-nil, append_assoc}
+use Rattle.std.proofs.Common.{arith, ◌≡◌, ℕ, zero, suc, ◌+◌, ◌-◌, ◌<◌, ◌≤◌, ◌^◌, Bool, true, false, cond, ◌&&◌, ◌==◌, nat_le, List}
+use Rattle.std.proofs.Common.{[], ◌∷◌, ◌++◌, length, map, take, set, Some, Ok, refl, sym, ap, subst, ◌∙◌, append-nil, append_assoc}
 use Rattle.std.specs.Prelude.{IsOk, Result}
 use Rattle.std.specs.Int.{is_in_range as is_between}
-use Rattle.std.specs.List.{filter, find, flat_map, list_all, range_with_len, AllByRecursion}
-use Rattle.std.proofs.lemmas.Bool.{eq-eqb, ne_eqb}
+use Rattle.std.specs.List.{filter, find, flat_map, range_with_len, AllByRecursion}
+use Rattle.std.proofs.lemmas.List.{take_more_set, take_all}
+use Rattle.std.proofs.lemmas.Bool.{ne_eqb}
 use Rattle.std.proofs.lemmas.Bool.Decides.{nat_tests}
 use Rattle.std.proofs.lemmas.List.Concat.{flat_map-append}
 use Rattle.std.proofs.lemmas.List.FromFn.{length-map-range_with_len, map-range_with_len_more}
 use Rattle.bus_strings.specs.Items.{Item, IsItem, is_in_range}
 use Rattle.bus_table.specs.declared.fit.FitError.{FitError}
-use Rattle.bus_table.specs.Fits.{allows, has_shape, sender_of, shape_fit, item_fit, fit_from, items_fit}
-use Rattle.bus_table.specs.Hands.{items_of}
-use Rattle.bus_table.specs.Tables.{Sender}
-use Rattle.bus_vectors.specs.Made.{sender_count, round_count, sender_numbers, made_send, made_sender, made_senders, made_table, word_count, made_word, made_words, made_item, made_round, made_items}
+use Rattle.bus_table.specs.Fits.{allows, has_shape, shape_fit, item_fit, fit_from, items_fit}
+use Rattle.bus_strings.specs.Messages.{Message}
+use Rattle.bus_table.specs.Hands.{items_of, message_of, hand_of, hands_of}
+use Rattle.bus_table.specs.declared.line.SendLine.{SendLine}
+use Rattle.bus_table.specs.Tables.{Sender, Hand}
+use Rattle.bus_vectors.specs.Made.{sender_count, round_count, made_send, made_sender, made_table, word_count, made_word, made_words, made_item, made_round, made_items}
 use Rattle.bus_vectors.specs.MadeLaws.{MadeItemsFit, MadeItemsAreEven}
 
 -- ---- what is made
--- one data word more
-pub words_next : (f : ℕ → ℕ) (place word : ℕ) (old new : List ℕ) → new ≡ old ++ word ∷ [] → word ≡ f place
+-- one more
+pub next_made : {X : Type 0} (f : ℕ → X) (place : ℕ) (one : X) (old new : List X) → new ≡ old ++ one ∷ [] → one ≡ f place
     → old ≡ map f (range_with_len 0 place) → new ≡ map f (range_with_len 0 (place + 1))
-words_next f place word old new h value before =
+next_made {X} f place one old new h value before =
     let at : 0 + place ≡ place = omega arith in
-    h ∙ ap (λ (l : List ℕ). l ++ word ∷ []) before ∙ ap (λ w. map f (range_with_len 0 place) ++ w ∷ []) value
+    h ∙ ap (λ (l : List X). l ++ one ∷ []) before ∙ ap (λ x. map f (range_with_len 0 place) ++ x ∷ []) value
     ∙ sym (map-range_with_len_more f 0 place place at)
+
+-- one data word more in front of an array
+pub front_next : (f : ℕ → ℕ) (words : List ℕ) (place word : ℕ) → place < length words → word ≡ f place
+    → take place words ≡ map f (range_with_len 0 place) → take (place + 1) (set words place word) ≡ map f (range_with_len 0 (place + 1))
+front_next f words place word within value before =
+    next_made f place word (take place words) (take (place + 1) (set words place word)) (take_more_set words place word within) value before
+
+-- all of the array
+pub front_whole : (f : ℕ → ℕ) (words : List ℕ) (place : ℕ) → length words ≤ place → place ≡ 40 → take place words ≡ map f (range_with_len 0 place)
+    → words ≡ map f (range_with_len 0 40)
+front_whole f words place long end h = sym (take_all place words long) ∙ h ∙ ap (λ n. map f (range_with_len 0 n)) end
 
 -- one item more behind those that were there
 pub items_next : (f : ℕ → Item) (i : ℕ) (item : Item) (there old new : List Item) → 1 ≤ i → new ≡ old ++ item ∷ [] → item ≡ f i
@@ -87,7 +101,7 @@ both true false h k = absurd cc
 few : (number : ℕ) → sender_count number ≤ 31
 few number = omega arith
 
-words_length : (number round i : ℕ) → length (made_words number round i) ≡ word_count number round i
+pub words_length : (number round i : ℕ) → length (made_words number round i) ≡ word_count number round i
 words_length number round i = length-map-range_with_len (made_word number round i) 0 (word_count number round i)
 
 in_ranges : (number round i : ℕ) → 1 ≤ i → i ≤ 31 → is_in_range (made_item number round i) ≡ true
@@ -198,7 +212,45 @@ own_count number i a (suc n) least less =
     ∙ ap (λ (l : List Item). length (l ++ items_of i (flat_map (made_round number) (range_with_len (a + 1) n)))) (one_of number a i 1 (sender_count number) least less)
     ∙ ap suc (own_count number i (a + 1) n least less)
 
+own_items : (number i a n : ℕ) → 1 ≤ i → i < 1 + sender_count number
+    → items_of i (flat_map (made_round number) (range_with_len a n)) ≡ map (λ round. made_item number round i) (range_with_len a n)
+own_items number i a zero least less = refl
+own_items number i a (suc n) least less =
+    filter_append (λ (item : Item). item.terminal == i) (made_round number a) (flat_map (made_round number) (range_with_len (a + 1) n))
+    ∙ ap (λ (l : List Item). l ++ items_of i (flat_map (made_round number) (range_with_len (a + 1) n))) (one_of number a i 1 (sender_count number) least less)
+    ∙ ap (λ (l : List Item). made_item number a i ∷ l) (own_items number i (a + 1) n least less)
+
 pub made_items_are_even : MadeItemsAreEven
 made_items_are_even number =
     all_mapped (λ sender. length (items_of sender.number (made_items number)) ≡ round_count number) made_sender 1 (sender_count number)
     (λ i least less. own_count number i 0 (round_count number) least less)
+
+-- ---- the hands that they give
+map_twice : {X Y Z : Type 0} (g : Y → Z) (f : X → Y) (xs : List X) → map g (map f xs) ≡ map (λ x. g (f x)) xs
+map_twice g f [] = refl
+map_twice g f (x ∷ xs) = ap (λ l. g (f x) ∷ l) (map_twice g f xs)
+
+-- the message of a sender in a round
+abbrev pub made_message : (number i round : ℕ) → Message
+made_message number i round = message_of (made_sender i).sends (made_item number round i).strings
+
+-- all messages of a sender
+pub hand_whole : (number i count round : ℕ) (messages : List Message) → 1 ≤ i → i ≤ sender_count number → count ≡ round_count number → round ≡ count
+    → messages ≡ map (made_message number i) (range_with_len 0 round)
+    → let hand : Hand = record { terminal = i; messages = messages } in hand ≡ hand_of (made_items number) (made_sender i)
+hand_whole number i count round messages least most count_is end h =
+    let sends : List SendLine = (made_sender i).sends in
+    let own = own_items number i 0 (round_count number) least (omega arith) in
+    let e : messages ≡ map (λ (item : Item). message_of sends item.strings) (items_of i (made_items number)) =
+    h ∙ ap (λ n. map (made_message number i) (range_with_len 0 n)) (end ∙ count_is)
+    ∙ sym (map_twice (λ (item : Item). message_of sends item.strings) (λ round. made_item number round i) (range_with_len 0 (round_count number)))
+    ∙ ap (map (λ (item : Item). message_of sends item.strings)) (sym own) in
+    ap (λ ms. let hand : Hand = record { terminal = i; messages = ms } in hand) e
+
+-- the hands of all senders
+pub hands_whole : (number i count : ℕ) (hands : List Hand) → count ≡ sender_count number → i ≡ count + 1
+    → hands ≡ map (λ k. hand_of (made_items number) (made_sender k)) (range_with_len 1 (i - 1)) → hands ≡ hands_of (made_table number) (made_items number)
+hands_whole number i count hands count_is end h =
+    let e : i - 1 ≡ sender_count number = omega arith in
+    h ∙ ap (λ n. map (λ k. hand_of (made_items number) (made_sender k)) (range_with_len 1 n)) e
+    ∙ sym (map_twice (hand_of (made_items number)) made_sender (range_with_len 1 (sender_count number)))

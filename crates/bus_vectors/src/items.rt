@@ -1,11 +1,15 @@
 //! The messages of a number.
-ghost use Rattle.std.specs.Prelude.{◌≡◌, ◌≤◌, ◌++◌, IfOk, OnOk};
+ghost use Rattle.std.specs.Prelude.{◌≡◌, ◌≤◌, ◌++◌, map, IfOk, OnOk};
+ghost use Rattle.std.specs.List.{range_with_len};
 ghost use Rattle.bus_vectors.specs.Made as made;
-ghost use Rattle.bus_vectors.specs.Made.{most_number, made_words, made_item, made_round, made_items};
+ghost use Rattle.bus_vectors.specs.Made.{most_number, made_word, made_words, made_item, made_round, made_items};
 
 use crate::tables::sender_count;
 use bus_strings::{Payload, Payloads};
 use std::alloc::{AllocError, Global};
+
+/// How many data words a message has at most.
+const LONGEST: usize = 40;
 
 /// How many messages each sender has in the input of a number: 10 to 500.
 pub fn round_count(number: u32) -> u32
@@ -15,19 +19,30 @@ pub fn round_count(number: u32) -> u32
     10 + 10 * (number % 50)
 }
 
-/// The data words of sender `i` in a round.
-fn words(alloc: Global, number: u32, round: u32, i: u8) -> Result<Vec<u16>, AllocError>
+/// As many data words as a message of sender `i` has at most in a round: those that it has, and more behind them.
+fn longest(number: u32, round: u32, i: u8) -> [u16; LONGEST]
+    requires number { number ≤ most_number }
+    requires round { round ≤ 500 }
+    ensures { result ≡ map (made_word number round i) (range_with_len 0 40) }
+{
+    let i = u32::from(i);
+    let mut words = [0; LONGEST];
+    for place in 0..LONGEST as u32 {
+        words[place as usize] = ((number + 7 * round + 13 * i + place) % 65536) as u16;
+    }
+    words
+}
+
+/// The data words of sender `i` in a round. Their number is known before they are made, so that they are copied at once.
+pub(crate) fn words(alloc: Global, number: u32, round: u32, i: u8) -> Result<Vec<u16>, AllocError>
     requires number { number ≤ most_number }
     requires round { round ≤ 500 }
     ensures { IfOk result (λ words. words.items ≡ made_words number round i) }
 {
-    let i = u32::from(i);
-    let count = 30 + (number + round + i) % 11;
-    let mut words = Vec::with_capacity(alloc, count as usize)?;
-    for place in 0..count {
-        words.push(((number + 7 * round + 13 * i + place) % 65536) as u16)?;
-    }
-    Ok(words)
+    let count = 30 + (number + round + u32::from(i)) % 11;
+    let longest = longest(number, round, i);
+    let words = &longest[..count as usize];
+    Ok(Vec::from_slice(alloc, words)?)
 }
 
 /// The item of sender `i` in a round.

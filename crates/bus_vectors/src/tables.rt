@@ -32,7 +32,7 @@ fn label(i: u8) -> Label
 }
 
 /// The wordstring of sender `i`.
-fn send_line(i: u8) -> SendLine
+pub(crate) fn send_line(i: u8) -> SendLine
     ensures { result ≡ made_send i }
 {
     SendLine {

@@ -1,6 +1,6 @@
 -- A run that tells a core what was heard only where its sender starts, and at the horizon. Beside each sender stand numbers that tell when
 -- that is: its clock. Their places are those of the past. A watch is how the code keeps a clock: by the end of what all have heard.
-use Rattle.std.specs.Prelude.{◌≡◌, ◌≢◌, ℕ, ◌+◌, ◌-◌, ◌^◌, ◌<◌, ◌≤◌, ◌⊎◌, Bool, true, nat_lt, nat_le, max, [], ◌∷◌, List, length}
+use Rattle.std.specs.Prelude.{◌≡◌, ◌≢◌, ℕ, ◌+◌, ◌-◌, ◌^◌, ◌<◌, ◌≤◌, ◌⊎◌, Bool, nat_lt, nat_le, max, [], ◌∷◌, List, length}
 use Rattle.std.specs.Prelude.{map, take, slice_get, Option, Some, None, IfSome, if◌then◌else◌}
 use Rattle.std.specs.Option.{MatchOption, option_and_then}
 use Rattle.bus_timers.specs.declared.timing.Timing.{Timing}
@@ -181,46 +181,44 @@ pub record IsAlone (place : ℕ) (clocks : List Clock) (p : ℕ) : Type 0 where
   pub within : p < length clocks
   pub others : (j : ℕ) (k : Clock) → j ≢ p → slice_get clocks j ≡ Some k → place < k.ready
 
--- A watch between two messages: its synchronization gap elapsed before the bus became quiet, or counts from there, and it is never read
--- too late.
-pub record IsKept (ended : ℕ) (watch : Watch) : Type 0 where
+-- A watch between two messages: its synchronization gap elapsed before the bus became quiet, or counts from there, and its terminal gap
+-- counts behind that.
+pub record IsKept (watch : Watch) : Type 0 where
   pub counted : (watch.behind ≡ 0) ⊎ (watch.behind ≡ watch.sg)
   pub small : watch.behind < 2 ^ 32
-  pub early : watch.ready ≤ (clock_of ended watch).ready
+  pub over : watch.over ≡ watch.behind + watch.tg
 
 -- No sender has a shorter synchronization gap.
 abbrev pub AreNoShorter : ℕ → List Clock → Type 0
 AreNoShorter least clocks = (j : ℕ) (k : Clock) → slice_get clocks j ≡ Some k → least ≤ k.sg
 
 -- Every watch is kept.
-abbrev pub EachKept : ℕ → List Watch → Type 0
-EachKept ended watches = (j : ℕ) (w : Watch) → slice_get watches j ≡ Some w → IsKept ended w
-
--- Every watch reads the first place at which its sender may start.
-abbrev pub EachExact : ℕ → List Watch → Type 0
-EachExact ended watches = (j : ℕ) (w : Watch) → slice_get watches j ≡ Some w → w.ready ≡ (clock_of ended w).ready
+abbrev pub EachKept : List Watch → Type 0
+EachKept watches = (j : ℕ) (w : Watch) → slice_get watches j ≡ Some w → IsKept w
 
 -- All watches between two messages, at the place now.
 pub record AreKept (heard : Heard) (now : ℕ) (watches : List Watch) : Type 0 where
   pub ended : heard.ended ≤ now
   pub least : AreNoShorter heard.least (clocks_of heard.ended watches)
-  pub each : EachKept heard.ended watches
+  pub each : EachKept watches
 
 -- All but the one of the sender that started alone.
-abbrev pub OthersKept : ℕ → Option ℕ → List Watch → Type 0
-OthersKept ended alone watches =
-    IfSome alone (λ p. (p < length watches) × ((j : ℕ) (w : Watch) → j ≢ p → slice_get watches j ≡ Some w → IsKept ended w))
+abbrev pub OthersKept : Option ℕ → List Watch → Type 0
+OthersKept alone watches =
+    IfSome alone (λ p. (p < length watches) × ((j : ℕ) (w : Watch) → j ≢ p → slice_get watches j ≡ Some w → IsKept w))
 
--- The watches from one place of the list up to another read ready later than this.
-abbrev pub AreLater : ℕ → List Watch → ℕ → ℕ → Type 0
-AreLater most watches from to = (j : ℕ) (w : Watch) → from ≤ j → j < to → slice_get watches j ≡ Some w → most < w.ready
+-- A watch tells that its sender is ready later than the most, a place so far behind the one at which the bus became quiet: its interval
+-- elapses later, or its terminal gap is over later.
+abbrev pub IsLater : ℕ → ℕ → Watch → Type 0
+IsLater most behind watch = (most < watch.due) ⊎ (behind < watch.over)
 
--- Of watches: the first place, up to the most, at which one reads ready, and where; and whether that is one alone.
-pub record ReadsFirst (most : ℕ) (watches : List Watch) (ready place : ℕ) (alone : Bool) : Type 0 where
-  pub high : ready ≤ most
-  pub before : (j : ℕ) (w : Watch) → slice_get watches j ≡ Some w → ready ≤ w.ready
-  pub found : (ready ≡ most) ⊎ ((w : Watch) × (slice_get watches place ≡ Some w) × (w.ready ≡ ready))
-  pub others : alone ≡ true → (place < length watches) × ((j : ℕ) (w : Watch) → j ≢ place → slice_get watches j ≡ Some w → ready < w.ready)
+-- It tells that its sender is ready by then.
+abbrev pub IsSoon : ℕ → ℕ → Watch → Type 0
+IsSoon most behind watch = (watch.due ≤ most) × (watch.over ≤ behind)
+
+-- The watches from one place of the list up to another tell that their senders are ready later.
+abbrev pub AreLater : ℕ → ℕ → List Watch → ℕ → ℕ → Type 0
+AreLater most behind watches from to = (j : ℕ) (w : Watch) → from ≤ j → j < to → slice_get watches j ≡ Some w → IsLater most behind w
 
 -- The clock of a sender at the settled start.
 pub record IsSettled {C : Type 0} (quiet : ℕ) (seat : Seat C) (clock : Clock) : Type 0 where

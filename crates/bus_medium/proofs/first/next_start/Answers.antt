@@ -1,13 +1,12 @@
 use Rattle.std.proofs.Common.{◌≡◌, ◌+◌, ◌-◌, ◌≤◌, arith, subst}
 use Rattle.bus_medium.specs.inside.Lazy.{clocks_of, IsAlone}
-use Rattle.bus_medium.proofs.Watches.{reads_alone}
 use Rattle.bus_medium.proofs.first.next_start.Goals as goal
 
 pub returns-then-first-clause-alone : goal.returns-then-first-clause-alone
 returns-then-first-clause-alone c =
     let f = c.first_ready-first in
     let r = c.first_ready-first.result in
-    let e = c.args.heard.now.ended in
     let low : c.args.quiet + c.args.moment ≤ c.first_ready-first.result.ready = c.if-first-start.false in
-    subst (λ v. IsAlone v (clocks_of e f.new.watches) r.place) (let h : c.first_ready-first.result.ready ≡ c.args.quiet + (c.first_ready-first.result.ready - c.args.quiet) = omega arith in h)
-    (reads_alone (c.args.quiet + c.args.horizon) e f.new.watches r.ready r.place r.alone f.ensures.reads f.ensures.kept c.if-first.true)
+    subst (λ v. IsAlone v (clocks_of c.args.heard.now.ended c.args.watches.now) r.place)
+    (let h : c.first_ready-first.result.ready ≡ c.args.quiet + (c.first_ready-first.result.ready - c.args.quiet) = omega arith in h)
+    (f.ensures.alone c.if-first.true)

@@ -46,7 +46,7 @@ pub begin-requires-clause-sits : goal.begin-requires-clause-sits
 begin-requires-clause-sits g c =
     let so = c.loop-place.invariant in
     let now = c.args.roster.now.quiet + c.args.moment in
-    let none : Watch = record { sg = 0; tg = 0; told = 0; due = 0; behind = 0; ready = 0 } in
+    let none : Watch = record { sg = 0; tg = 0; told = 0; due = 0; behind = 0; over = 0 } in
     let places = c.deref-place-items.result.now in
     let i = c.loop-place.place-index in
     let p = get_or places i 0 in
@@ -64,7 +64,7 @@ loop-place-preserved g c =
     let q = c.args.roster.now.quiet in
     let t = c.args.moment in
     let now = c.args.roster.now.quiet + c.args.moment in
-    let none : Watch = record { sg = 0; tg = 0; told = 0; due = 0; behind = 0; ready = 0 } in
+    let none : Watch = record { sg = 0; tg = 0; told = 0; due = 0; behind = 0; over = 0 } in
     let places = c.deref-place-items.result.now in
     let i = c.loop-place.place-index in
     let p = get_or places i 0 in

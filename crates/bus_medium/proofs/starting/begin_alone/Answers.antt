@@ -30,7 +30,7 @@ begin-requires-clause-sits g c =
     let p = c.args.place in
     let seats = c.args.seats.now in
     let ws = c.args.watches.now in
-    let none : Watch = record { sg = 0; tg = 0; told = 0; due = 0; behind = 0; ready = 0 } in
+    let none : Watch = record { sg = 0; tg = 0; told = 0; due = 0; behind = 0; over = 0 } in
     let inside : p < length ws = alone_within e (q + t) ws p c.requires.alone in
     let within : p < length seats = omega (arith, c.requires.long) in
     let x = get_or seats p c.index-seats-place.result in
@@ -64,7 +64,7 @@ returns-clause-least g c =
     let e = c.args.heard.now.ended in
     let p = c.args.place in
     let ws = c.args.watches.now in
-    let none : Watch = record { sg = 0; tg = 0; told = 0; due = 0; behind = 0; ready = 0 } in
+    let none : Watch = record { sg = 0; tg = 0; told = 0; due = 0; behind = 0; over = 0 } in
     let inside : p < length ws = alone_within e (c.args.roster.now.quiet + c.args.moment) ws p c.requires.alone in
     shorter_set e c.args.heard.now.least ws p (get_or ws p none) c.begin.new.watch c.requires.kept.least (slice_get-get_or ws p none inside) c.in_ok-begun.ensures.sg
 
@@ -88,7 +88,7 @@ returns-clause-decided g c =
     let p = c.args.place in
     let seats = c.args.seats.now in
     let ws = c.args.watches.now in
-    let none : Watch = record { sg = 0; tg = 0; told = 0; due = 0; behind = 0; ready = 0 } in
+    let none : Watch = record { sg = 0; tg = 0; told = 0; due = 0; behind = 0; over = 0 } in
     let inside : p < length ws = alone_within e (q + t) ws p c.requires.alone in
     let within : p < length seats = omega (arith, c.requires.long) in
     let x = get_or seats p c.index-seats-place.result in
@@ -132,7 +132,7 @@ returns-clause-end g c =
     let now = c.args.roster.now.quiet + c.args.moment in
     let e = c.args.heard.now.ended in
     let p = c.args.place in
-    let none : Watch = record { sg = 0; tg = 0; told = 0; due = 0; behind = 0; ready = 0 } in
+    let none : Watch = record { sg = 0; tg = 0; told = 0; due = 0; behind = 0; over = 0 } in
     let x = get_or c.args.seats.now p c.index-seats-place.result in
     let k = clock_of e (get_or c.args.watches.now p none) in
     let y = c.begin.new.seat in

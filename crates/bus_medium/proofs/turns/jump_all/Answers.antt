@@ -4,4 +4,4 @@ use Rattle.bus_medium.specs.inside.Lazy.{EachKept}
 use Rattle.bus_medium.proofs.turns.jump_all.Goals as goal
 
 pub run_all-requires-clause-kept : goal.run_all-requires-clause-kept
-run_all-requires-clause-kept g c = subst (λ (ws : List Watch). EachKept 0 ws) (sym c.deref_mut.ensures.value) c.in_ok-watches.ensures.kept
+run_all-requires-clause-kept g c = subst (λ (ws : List Watch). EachKept ws) (sym c.deref_mut.ensures.value) c.in_ok-watches.ensures.kept

@@ -1,7 +1,7 @@
 use Rattle.std.proofs.Common.{[], ◌≡◌, ◌≤◌, ◌+◌, ℕ, List, arith, sym, ◌∙◌, subst}
 use Rattle.bus_strings.specs.Messages.{Entry}
 use Rattle.bus_medium.specs.Orders.{IsRoster}
-use Rattle.bus_medium.specs.inside.Lazy.{AllSit, clocks_of, AreNoShorter, EachKept}
+use Rattle.bus_medium.specs.inside.Lazy.{AllSit, clocks_of, AreNoShorter}
 use Rattle.bus_medium.proofs.Seats.{same_numbers, own_numbers}
 use Rattle.bus_medium.proofs.LazyDecide.{all_sit}
 use Rattle.bus_medium.proofs.LazyRuns.{RunSoFar, run_none, run_more, run_lawful, run_only, run_stands, run_keeps, run_moved}
@@ -20,7 +20,7 @@ loop-moment-init g c =
       kept = record {
         ended = (let e : c.settled_heard-heard.result.ended ≤ c.args.roster.now.quiet + 0 = omega arith in e);
         least = subst (λ e. AreNoShorter h.least (clocks_of e ws)) ended c.settled_heard-heard.ensures.least;
-        each = subst (λ e. EachKept e ws) ended c.requires.kept;
+        each = c.requires.kept;
       };
     }
 

@@ -5,5 +5,5 @@ use Rattle.bus_medium.proofs.turns.settled_watches.Given as goal
 abbrev pub invariant-loop-seat : goal.invariant-loop-seat
 invariant-loop-seat g l = record {
   settled : SettledSoFar l.quiet l.seats (clocks_of 0 l.watches.items) l.seat-index;
-  kept : EachKept 0 l.watches.items;
+  kept : EachKept l.watches.items;
 }

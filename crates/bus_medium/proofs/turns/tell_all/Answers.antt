@@ -12,7 +12,7 @@ loop-k-init g c = told_none g.C.Core c.args.quiet c.args.now (clocks_of c.args.e
 pub tell-requires-clause-sits : goal.tell-requires-clause-sits
 tell-requires-clause-sits g c =
     let i = c.loop-k.k in
-    let none : Watch = record { sg = 0; tg = 0; told = 0; due = 0; behind = 0; ready = 0 } in
+    let none : Watch = record { sg = 0; tg = 0; told = 0; due = 0; behind = 0; over = 0 } in
     let within : i < length c.loop-k.seats = omega (arith, c.loop-k.auto.seats) in
     let inside : i < length c.args.watches.now = omega (arith, c.loop-k.auto.seats, c.requires.long) in
     told_sits g.C.Core c.args.quiet c.args.now (clocks_of c.args.ended c.args.watches.now) c.args.seats.now c.loop-k.seats i (get_or c.loop-k.seats i c.index-seats-k.result) (clock_of c.args.ended (get_or c.args.watches.now i none)) c.loop-k.invariant c.requires.sit
@@ -21,7 +21,7 @@ tell-requires-clause-sits g c =
 pub loop-k-preserved : goal.loop-k-preserved
 loop-k-preserved g c =
     let i = c.loop-k.k in
-    let none : Watch = record { sg = 0; tg = 0; told = 0; due = 0; behind = 0; ready = 0 } in
+    let none : Watch = record { sg = 0; tg = 0; told = 0; due = 0; behind = 0; over = 0 } in
     let within : i < length c.loop-k.seats = omega (arith, c.loop-k.auto.seats) in
     let inside : i < length c.args.watches.now = omega (arith, c.loop-k.auto.seats, c.requires.long) in
     told_more g.C.Core c.args.quiet c.args.now (clocks_of c.args.ended c.args.watches.now) c.args.seats.now c.loop-k.seats i (get_or c.loop-k.seats i c.index-seats-k.result) c.tell.new.seat (clock_of c.args.ended (get_or c.args.watches.now i none)) c.loop-k.invariant within

@@ -7,8 +7,8 @@ use Rattle.bus_tool.proofs.drill.drilled.Goals as goal
 
 pub returns-in-Err-clause-only : goal.returns-in-Err-clause-only
 returns-in-Err-clause-only c =
-    drill_fails c.args.number _ _ _ c.in-Err.error c.refuse_schedule.result (c.drills_are_accepted.ensures c.args.number) c.in_ok-table.ensures.table
-    c.in_ok-table.ensures.items c.in_ok-hands.ensures.hands c.in-Err.ensures.limit.refused c.refuse_schedule.ensures
+    drill_fails c.args.number _ _ c.in-Err.error c.refuse_schedule.result (c.drills_are_accepted.ensures c.args.number) c.in_ok-table.ensures.table
+    c.in_ok-table.ensures.hands c.in-Err.ensures.limit.refused c.refuse_schedule.ensures
 
 pub count_received-requires : goal.count_received-requires
 count_received-requires c =
@@ -16,8 +16,8 @@ count_received-requires c =
 
 pub returns-clause-found : goal.returns-clause-found
 returns-clause-found c =
-    drill_finds c.args.number _ _ _ c.in-Ok.ran.list.items c.deref-2.result.now _ c.in_ok-table.ensures.table c.in_ok-table.ensures.items
-    c.in_ok-hands.ensures.hands c.in-Ok.ensures.run refl c.sender_count.ensures.count c.round_count.ensures.count
+    drill_finds c.args.number _ _ c.in-Ok.ran.list.items c.deref-2.result.now _ c.in_ok-table.ensures.table c.in_ok-table.ensures.hands
+    c.in-Ok.ensures.run refl c.sender_count.ensures.count c.round_count.ensures.count
     (omega (arith, c.len.ensures, c.deref.ensures.len, ap length c.deref.ensures.value))
     c.in-Ok.ensures.end (c.count_garbled.ensures ∙ ap garbled_count c.deref.ensures.value)
     c.deref-2.ensures.value c.count_received.ensures

@@ -1,12 +1,12 @@
 use Rattle.std.proofs.Common.{◌≤◌, ◌-◌, length}
 use Rattle.bus_medium.specs.inside.Lazy.{AreLater}
-use Rattle.bus_medium.proofs.first.next_reading.Given as goal
+use Rattle.bus_medium.proofs.first.skip_fours.Given as goal
 
 abbrev pub invariant-loop-place : goal.invariant-loop-place
 invariant-loop-place l = record {
   low : l.from ≤ l.place;
   high : l.place ≤ length l.watches;
-  skipped : AreLater l.most l.watches l.from l.place;
+  skipped : AreLater l.most l.behind l.watches l.from l.place;
 }
 
 abbrev pub decreases-loop-place : goal.decreases-loop-place
