@@ -85,6 +85,19 @@ changes_last signals scene from t until end low some h reached steady =
     ∙ ap (λ x. flat_map f (range_with_len (from + 1) d) ++ x) (steady_along signals scene t until n steady (omega arith))
     ∙ append-nil (flat_map f (range_with_len (from + 1) d)))
 
+-- from a bit time on: what has changed by then, and what is left
+pub changes_left : (signals : List Signal) (scene : ℕ → Scene) (from t end : ℕ) → from ≤ t → t < end
+    → flat_map (changes_at signals scene) (range_with_len (from + 1) (t - from)) ++ flat_map (changes_at signals scene) (range_with_len (1 + t) (end - 1 - t))
+    ≡ changes_to signals scene from end
+changes_left signals scene from t end low below =
+    let n : ℕ = end - 1 - t in
+    let d : ℕ = t - from in
+    let f = changes_at signals scene in
+    sym (ap (λ m. flat_map f (range_with_len (from + 1) m)) (let e : end - (from + 1) ≡ d + n = omega arith in e)
+    ∙ ap (flat_map f) (range_join (from + 1) d n)
+    ∙ flat_map-append f (range_with_len (from + 1) d) (range_with_len (from + 1 + d) n)
+    ∙ ap (λ k. flat_map f (range_with_len (from + 1) d) ++ flat_map f (range_with_len k n)) (let e : from + 1 + d ≡ 1 + t = omega arith in e))
+
 -- ---- puts
 passing_by : (b : Bool) (line rest : List ℕ) (s : Signal) (f : Signal → List ℕ) (ss : List Signal) → line ≡ f s → rest ≡ flat_map f ss
     → cond b line [] ++ rest ≡ flat_map f (cond b (s ∷ ss) ss)

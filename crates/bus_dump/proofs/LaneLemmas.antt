@@ -11,12 +11,13 @@ use Rattle.std.proofs.lemmas.List.Elements.{filter-append}
 use Rattle.std.proofs.lemmas.List.Folds.{list_any-append}
 use Rattle.std.proofs.lemmas.Option.{slice_get_within, get_or_from_slice_get}
 use Rattle.bus_dump.specs.declared.dump.Dump.{Dump}
+use Rattle.bus_dump.specs.declared.dump.Dump.TheVariants.{Timers, Vcd, Wires}
 use Rattle.bus_dump.specs.declared.lane.Lane.{Lane}
 use Rattle.bus_dump.specs.DumpTexts.{changes, value_line}
-use Rattle.bus_dump.specs.inside.Layouts.{IsStill}
+use Rattle.bus_dump.specs.inside.Layouts.{IsStill, asked_dump}
 use Rattle.bus_dump.specs.Scenes.{Scene}
 use Rattle.bus_dump.specs.Seen.{Seen}
-use Rattle.bus_dump.specs.Signals.{Signal, Pulse, Garbled, Label, Message, Bit, Number, Floating, value, is_same, is_of, is_on, shown_label, has, lane_signals, signals_of}
+use Rattle.bus_dump.specs.Signals.{Signal, Pulse, Garbled, Label, Message, Interval, Synchronization, Gap, May, Bit, Number, Floating, value, is_same, is_of, is_on, elapsed, shown_label, has, lane_signals, signals_of}
 use Rattle.bus_dump.specs.Timers.{Elapsed}
 use Rattle.bus_dump.specs.inside.Walks.{change_put}
 use Rattle.bus_dump.proofs.ChangeLemmas.{same_value}
@@ -153,6 +154,26 @@ still_none before now p (s ∷ ss) all =
           ∙ still_none before now p ss all.1
       | false ↦ still_none before now p ss all.1
     ]
+
+-- no signal of a timer changes
+unasked : (sender : Bool) (n : ℕ) (before now : Scene) → elapsed n before.timers ≡ elapsed n now.timers
+    → flat_map (change_put before now) (filter (has Vcd sender) (signals_of n)) ≡ flat_map (change_put before now) (filter (has Timers sender) (signals_of n))
+unasked false n before now same = refl
+unasked true n before now same =
+    let f = change_put before now in
+    let timers : List Signal = Interval n ∷ (Synchronization n ∷ (Gap n ∷ (May n ∷ []))) in
+    let none : flat_map f timers ≡ [] = still_none before now (λ s. true) timers (
+      ap (λ (e : Elapsed). Bit e.interval) same,
+      (ap (λ (e : Elapsed). Bit e.synchronization) same, (ap (λ (e : Elapsed). Bit e.gap) same, (ap (λ (e : Elapsed). Bit e.may) same, tt))),
+    ) in
+    ap (λ x. f (Pulse n) ++ (f (Garbled n) ++ (f (Label n) ++ (f (Message n) ++ x)))) (sym none)
+
+pub asked_put : (dump : Dump) (told : Bool) (lane : Lane) (before now : Scene) → (told ≡ false → before.timers ≡ now.timers)
+    → flat_map (change_put before now) (lane_signals (asked_dump dump told) lane) ≡ flat_map (change_put before now) (lane_signals dump lane)
+asked_put Vcd told lane before now tells = refl
+asked_put Wires told lane before now tells = refl
+asked_put Timers true lane before now tells = refl
+asked_put Timers false lane before now tells = unasked lane.sender lane.terminal before now (ap (elapsed lane.terminal) (tells refl))
 
 pub still_lane : (dump : Dump) (lane : Lane) (before now : Scene) → IsStill before now lane.terminal
     → list_any (changes before now) (lane_signals dump lane) ≡ false

@@ -1,5 +1,5 @@
 -- What a reader makes of a whole dump, change for change.
-use Rattle.std.proofs.Common.{◌≡◌, ℕ, zero, suc, ◌+◌, ◌-◌, ◌*◌, ◌^◌, ◌<◌, ◌≤◌, Bool, true, false, not, ◌||◌, cond, eqb, leb, ltb, List, [], ◌∷◌, ◌++◌, codes, min, Some, None}
+use Rattle.std.proofs.Common.{◌≡◌, ℕ, zero, suc, ◌+◌, ◌-◌, ◌*◌, ◌^◌, ◌<◌, ◌≤◌, Bool, true, false, not, ◌||◌, cond, leb, ltb, List, [], ◌∷◌, ◌++◌, codes, min, Some, None}
 use Rattle.std.proofs.Common.{inl, inr, arith, sym, refl, ap, subst, ◌∙◌, append_assoc, append-nil}
 use Rattle.std.specs.List.{AllByRecursion, filter, flat_map, list_any, range_with_len}
 use Rattle.std.proofs.lemmas.Bool.{cases_lt, cases_Bool, true≢false, le-leb, lt-leb}
@@ -10,7 +10,7 @@ use Rattle.bus_dump.specs.DumpTexts.{changes, changes_at, changes_text, changes_
 use Rattle.bus_dump.specs.Reading.{other, Place, line_of, read, read_on}
 use Rattle.bus_dump.specs.Scenes.{Scene}
 use Rattle.bus_dump.specs.Signals.{Signal, Carrier, Overlap, Sync, Breach, Word, Pulse, Garbled, Label, Message, Interval, Synchronization, Gap, May, value, is_same}
-use Rattle.bus_dump.proofs.ReadLemmas.{Moves, then, stays_at, with_value, late, kept, taken, stamp_moves, Feedless, feedless_join, feedless_test, line_read, line_skipped, is_same_equal, IsSmall, good_id, lane_feedless}
+use Rattle.bus_dump.proofs.ReadLemmas.{Moves, then, stays_at, with_value, late, kept, taken, stamp_moves, Feedless, feedless_join, feedless_test, line_skipped, is_same_equal, IsSmall, good_id, lane_feedless}
 
 -- ---- changes
 -- all up to bit time u is read, where the value at bit time t is asked for

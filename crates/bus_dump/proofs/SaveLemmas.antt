@@ -7,7 +7,6 @@ use Rattle.std.specs.Int.Count.{count_leading_zeros}
 use Rattle.std.proofs.lemmas.Nat.{leading_length}
 use Rattle.bus_strings.specs.Members.{In}
 use Rattle.bus_strings.proofs.MemberLaws.{from_filter, in_append_cases}
-use Rattle.bus_strings.specs.Messages.{Entry}
 use Rattle.bus_table.specs.Tables.{Table}
 use Rattle.bus_dump.specs.declared.dump.Dump.{Dump}
 use Rattle.bus_dump.specs.declared.dump.Dump.TheVariants.{Vcd, Wires, Timers}
@@ -15,7 +14,7 @@ use Rattle.bus_dump.specs.declared.lane.Lane.{Lane}
 use Rattle.bus_dump.specs.DumpTexts.{bits_text, name_text}
 use Rattle.bus_dump.specs.Lanes.{lanes}
 use Rattle.bus_dump.specs.Laws.{AllAreShown, EndsLine, OpensOnAll, Shows}
-use Rattle.bus_dump.specs.SaveFiles.{all_shown, are_folded, as_decimal, as_hexadecimal, as_wires, bus_shown, group_begin, group_end, group_mark, heading, label_shown, labels_shown, lane_shown, lane_title, marked, marker_text, messages_shown, nanoseconds, opening, save_text, shown, timers_shown, zoom}
+use Rattle.bus_dump.specs.SaveFiles.{all_shown, are_folded, as_decimal, as_hexadecimal, as_wires, bus_shown, group_begin, group_end, group_mark, heading, label_shown, labels_shown, lane_shown, lane_title, marked, marker_text, messages_shown, nanoseconds, opening, shown, timers_shown, zoom}
 use Rattle.bus_dump.specs.Signals.{Signal, Carrier, Overlap, Sync, Breach, Word, Pulse, Garbled, Label, Message, Interval, Synchronization, Gap, May}
 use Rattle.bus_dump.specs.Signals.{bus_signals, has, is_timer, is_wire, lane_signals, signals_of}
 

@@ -9,12 +9,11 @@ use Rattle.bus_strings.specs.Messages.{Entry}
 use Rattle.bus_strings.specs.Transmissions.{carrier}
 use Rattle.bus_table.specs.Tables.{Sender, Table}
 use Rattle.bus_timers.specs.MayStartTest.{TestDecides}
-use Rattle.bus_medium.specs.Past.{own}
 use Rattle.bus_medium.specs.Timings.{quiet_of}
 use Rattle.bus_dump.specs.declared.clock.Clock.{Clock}
 use Rattle.bus_dump.specs.declared.live.Live.{Live}
 use Rattle.bus_dump.specs.declared.walk.Walk.{Walk}
-use Rattle.bus_dump.specs.inside.Clocks.{passed, tells_at}
+use Rattle.bus_dump.specs.inside.Clocks.{tells_at}
 use Rattle.bus_dump.specs.Scenes.{elapsed_at}
 use Rattle.bus_dump.specs.Timers.{Elapsed}
 use Rattle.bus_dump.specs.Seen.{Seen, seen_at}

@@ -18,7 +18,7 @@ use Rattle.bus_dump.specs.Signals.{Signal, signals}
 use Rattle.bus_dump.specs.Timers.{Elapsed}
 use Rattle.bus_dump.specs.inside.Walks.{IsWalkable, SteadyTo}
 use Rattle.bus_dump.specs.inside.Watching.{BreachStays, ElapsedStays, StaysAs}
-use Rattle.bus_dump.proofs.ChangeLemmas.{changes_last, changes_next}
+use Rattle.bus_dump.proofs.ChangeLemmas.{changes_last, changes_left, changes_next}
 
 -- a list of a trace in which none is doubled
 transmissions : (horizon : ℕ) (list : List Entry) → AllByRecursion (IsBelow horizon) list → AllByRecursion IsTransmission list
@@ -70,6 +70,14 @@ pub last_put : (ss : List Signal) (at : ℕ → Scene) (first : List ℕ) (from 
     → first ++ flat_map (changes_at ss at) (range_with_len (from + 1) (t - from)) ≡ first ++ changes_to ss at from end
 last_put ss at first from t until end low later past reached steady =
     ap (λ x. first ++ x) (changes_last ss at from t until end low later past reached steady)
+
+-- what is put and what is left
+pub left_put : (ss : List Signal) (at : ℕ → Scene) (first : List ℕ) (from t end : ℕ) → from ≤ t → t < end
+    → (first ++ flat_map (changes_at ss at) (range_with_len (from + 1) (t - from))) ++ flat_map (changes_at ss at) (range_with_len (1 + t) (end - 1 - t))
+    ≡ first ++ changes_to ss at from end
+left_put ss at first from t end low below =
+    append_assoc first (flat_map (changes_at ss at) (range_with_len (from + 1) (t - from))) (flat_map (changes_at ss at) (range_with_len (1 + t) (end - 1 - t)))
+    ∙ ap (λ x. first ++ x) (changes_left ss at from t end low below)
 
 -- the whole
 pub whole_put : (dump : Dump) (window : Window) (breach : Option ℕ) (comment : List ℕ) (table : Table) (t : Recording) (layout : Layout)

@@ -8,7 +8,7 @@ ghost use Rattle.bus_dump.specs.inside.Layouts as layouts;
 ghost use Rattle.bus_dump.specs.inside.Layouts.{IsStill, LeavesStill};
 ghost use Rattle.bus_dump.specs.Signals as signals;
 ghost use Rattle.bus_dump.specs.inside.Walks.{change_put};
-ghost use Rattle.bus_dump.specs.inside.Watching.{scene_of};
+ghost use Rattle.bus_dump.specs.inside.Watching.{TellsAs, scene_of};
 
 use crate::change::{any_changed, put_changed, put_lines, put_stamp};
 use crate::declaration::put_declarations;
@@ -61,6 +61,18 @@ fn lane_changes(dump: Dump, lane: Lane, before: &Scene, now: &Scene) -> bool
     any_changed(lane_signals(dump, lane).as_slice(), before, now)
 }
 
+/// The dump of which the signals of a lane are looked at: no timer's where the timers weren't asked.
+fn asked_dump(dump: Dump, told: bool) -> Dump
+    ensures { result ≡ layouts.asked_dump dump told }
+{
+    match dump {
+        Dump::Vcd => Dump::Vcd,
+        Dump::Wires => Dump::Wires,
+        Dump::Timers if told => Dump::Timers,
+        Dump::Timers => Dump::Vcd,
+    }
+}
+
 /// The lines of the signals of a lane that change.
 fn put_lane_changes<K: Sink>(
     text: &mut TextBuffer,
@@ -71,13 +83,15 @@ fn put_lane_changes<K: Sink>(
     before: &Scene,
     now: &Scene,
 )
-    requires { LeavesStill (scene_of before.now) (scene_of now.now) touched.now }
+    requires touched { LeavesStill (scene_of before.now) (scene_of now.now) touched.now }
+    requires tells { TellsAs before.now now.now }
     ensures { Adds K.held K.faults sink.old sink.new text.old text.new
         (flat_map (change_put (scene_of before.now) (scene_of now.now)) (signals.lane_signals dump lane)) }
 {
     if !touched[lane.terminal as usize] {
         return;
     }
+    let dump = asked_dump(dump, now.told);
     put_changed(text, sink, lane_signals(dump, lane).as_slice(), before, now);
 }
 
@@ -100,6 +114,7 @@ fn put_all_changes<K: Sink>(
     before: &Scene,
     now: &Scene,
 )
+    requires { TellsAs before.now now.now }
     ensures { Adds K.held K.faults sink.old sink.new text.old text.new
         (flat_map (layouts.lane_put dump (scene_of before.now) (scene_of now.now)) lanes.now) }
 {
@@ -179,7 +194,8 @@ impl Layout {
         now: &Scene,
         t: u64,
     )
-        requires { t < 2 ^ 60 }
+        requires low { t < 2 ^ 60 }
+        requires tells { TellsAs before.now now.now }
         ensures { Adds K.held K.faults sink.old sink.new text.old text.new
             (texts.some_changes (layouts.layout_signals self.now) (scene_of before.now) (scene_of now.now) t) }
     {
@@ -197,7 +213,8 @@ impl Layout {
         now: &Scene,
         t: u64,
     )
-        requires { t < 2 ^ 60 }
+        requires low { t < 2 ^ 60 }
+        requires tells { TellsAs before.now now.now }
         ensures { Adds K.held K.faults sink.old sink.new text.old text.new
             (texts.changes_text (layouts.layout_signals self.now) (scene_of before.now) (scene_of now.now) t) }
     {

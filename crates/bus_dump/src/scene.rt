@@ -2,7 +2,7 @@
 ghost use Rattle.std.specs.Prelude.{◌≡◌, []};
 ghost use Rattle.std.specs.List.{list_any};
 ghost use Rattle.bus_dump.specs.Signals as signals;
-ghost use Rattle.bus_dump.specs.inside.Watching.{scene_of};
+ghost use Rattle.bus_dump.specs.inside.Watching.{TellsAs, scene_of};
 
 use crate::clock::Elapsed;
 use crate::live::TERMINALS;
@@ -20,6 +20,8 @@ pub(crate) struct Scene {
     pub timers: ArrayVec<Elapsed, MOST_SENDERS>,
     /// Whether the first breach of the trace is there.
     pub breach: bool,
+    /// Whether the timers have been asked for this scene; else they tell what they told in the one before.
+    pub told: bool,
 }
 
 impl Scene {
@@ -32,15 +34,20 @@ impl Scene {
             seen: ArrayVec::new(),
             timers: ArrayVec::new(),
             breach: false,
+            told: true,
         }
     }
 
-    /// Takes over what is there in another scene. Only that is copied: the room of both is much larger.
+    /// Takes over what is there in another scene. Only that is copied: the room of both is much larger. The timers aren't where they
+    /// weren't asked for the other scene, since then they are there already.
     pub fn take_over(&mut self, other: &Scene)
+        requires { TellsAs self.old other.now }
         ensures { scene_of self.new ≡ scene_of other.now }
     {
         copy_seen(&mut self.seen, &other.seen);
-        copy_timers(&mut self.timers, &other.timers);
+        if other.told {
+            copy_timers(&mut self.timers, &other.timers);
+        }
         self.breach = other.breach;
     }
 }

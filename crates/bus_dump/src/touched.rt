@@ -3,7 +3,7 @@ ghost use Rattle.std.specs.Prelude.{◌≡◌, ◌<◌, ℕ, false, length, slic
 ghost use Rattle.std.specs.List.{find, list_any};
 ghost use Rattle.bus_dump.specs.inside.Layouts.{LeavesStill};
 ghost use Rattle.bus_dump.specs.Signals as signals;
-ghost use Rattle.bus_dump.specs.inside.Watching.{scene_of};
+ghost use Rattle.bus_dump.specs.inside.Watching.{TellsAs, scene_of};
 
 use crate::clock::Elapsed;
 use crate::scene::Scene;
@@ -45,18 +45,39 @@ fn touch_timers(touched: &mut [bool; NUMBERS], before: &[Elapsed], now: &[Elapse
     }
 }
 
+/// Touches the terminals whose timers tell otherwise than before: all of them where there are timers of more or fewer senders.
+fn touch_told(touched: &mut [bool; NUMBERS], before: &[Elapsed], now: &[Elapsed])
+    ensures { (n : ℕ) → n < NUMBERS → slice_index_or touched.new n false ≡ false
+        → (slice_index_or touched.old n false ≡ false) × (find (signals.tells_of n) before.now ≡ find (signals.tells_of n) now.now) }
+{
+    if before.len() != now.len() {
+        *touched = [true; NUMBERS];
+        return;
+    }
+    touch_timers(touched, before, now);
+}
+
+/// Touches the terminals whose timers tell otherwise than in the scene before, if they were asked.
+fn touch_asked(touched: &mut [bool; NUMBERS], before: &Scene, now: &Scene)
+    requires { TellsAs before.now now.now }
+    ensures { (n : ℕ) → n < NUMBERS → slice_index_or touched.new n false ≡ false
+        → (slice_index_or touched.old n false ≡ false)
+        × (find (signals.tells_of n) before.now.timers.items ≡ find (signals.tells_of n) now.now.timers.items) }
+{
+    if now.told {
+        touch_told(touched, before.timers.as_slice(), now.timers.as_slice());
+    }
+}
+
 /// For each terminal whether something of it may change: it is seen in either scene, or its timers tell otherwise than before. All may
 /// where the scenes have timers of more or fewer senders.
 pub(crate) fn touched(before: &Scene, now: &Scene) -> [bool; NUMBERS]
+    requires { TellsAs before.now now.now }
     ensures { LeavesStill (scene_of before.now) (scene_of now.now) result }
 {
-    let (was, is) = (before.timers.as_slice(), now.timers.as_slice());
-    if was.len() != is.len() {
-        return [true; NUMBERS];
-    }
     let mut touched = [false; NUMBERS];
     touch_seen(&mut touched, before.seen.as_slice());
     touch_seen(&mut touched, now.seen.as_slice());
-    touch_timers(&mut touched, was, is);
+    touch_asked(&mut touched, before, now);
     touched
 }

@@ -7,7 +7,7 @@ ghost use Rattle.std.specs.List.{AllByRecursion, list_any};
 ghost use Rattle.bus_dump.specs.Seen.{seen_at};
 ghost use Rattle.bus_dump.specs.inside.Walks.{BeginsFrom, IsWalkable, Stands, SteadyTo};
 ghost use Rattle.bus_dump.specs.inside.Clocks.{tells_at};
-ghost use Rattle.bus_dump.specs.inside.Watching.{BreachStays, IsLasting, IsReady, IsTold, IsWatch, Keeping, Lasts, clock_turn};
+ghost use Rattle.bus_dump.specs.inside.Watching.{BreachStays, IsLasting, IsReady, IsTold, IsWatch, Keeping, Lasts, TellsAs, clock_turn};
 ghost use Rattle.bus_dump.specs.declared.live.Live as lives;
 ghost use Rattle.bus_strings.specs.Transmissions as bus;
 
@@ -161,14 +161,14 @@ impl<'a> Watch<'a> {
         any_begins(self.walk.live.as_slice(), t)
     }
 
-    /// Asks the clocks at bit time t, where there is carrier or not, if they have to be asked.
+    /// Asks the clocks at bit time t, where there is carrier or not, if they have to be asked, and tells whether they were.
     fn attend(
         &mut self,
         t: u64,
         limit: u64,
         carrier: bool,
         timers: &mut ArrayVec<Elapsed, MOST_SENDERS>,
-    )
+    ) -> bool
         requires watch { IsWatch t self.old }
         requires ready { IsReady t self.old }
         requires later { t < limit }
@@ -182,12 +182,15 @@ impl<'a> Watch<'a> {
         ensures told { (table : tables.Table) (senders : List tables.Sender) → Keeping table senders self.old
             → (self.old.since < t → IsTold table senders self.old timers.old.items)
             → Keeping table senders self.new × IsTold table senders self.new timers.new.items }
+        ensures same { result ≡ false → timers.new.items ≡ timers.old.items }
     {
         test_decides();
-        if self.is_due(t, carrier) {
+        let due = self.is_due(t, carrier);
+        if due {
             self.bring(t);
             self.ask(t, limit, carrier, timers);
         }
+        due
     }
 
     /// Looks around at bit time t, and tells the next one at which something may change, or the limit. What the timers tell is left as it
@@ -212,12 +215,13 @@ impl<'a> Watch<'a> {
         ensures ahead { BeginsFrom self.new.walk.list.now self.new.walk.begun result }
         ensures steady { SteadyTo self.old.walk.list.now t result }
         ensures same { BreachStays self.old.breach t result }
+        ensures tells { TellsAs now.old now.new }
     {
         now.breach = is_breach(self.breach, t);
         let limit = next_breach(self.breach, t, limit);
         let next = look_around(&self.walk, t, limit, &mut now.seen);
         let carrier = has_carrier(now.seen.as_slice());
-        self.attend(t, limit, carrier, &mut now.timers);
+        now.told = self.attend(t, limit, carrier, &mut now.timers);
         next.min(self.still)
     }
 

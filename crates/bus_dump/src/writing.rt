@@ -90,7 +90,11 @@ fn put_bit_times<K: Sink>(
     let mut t = from;
     let mut until = watch.look(t, limit, &mut now);
     put_first(text, sink, layout, &now, t);
+    now.told = true;
     while until < end {
+        if text.has_failed() {
+            return;
+        }
         before.take_over(&now);
         watch.go_on(t, until);
         t = until;

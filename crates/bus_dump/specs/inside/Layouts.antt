@@ -1,10 +1,11 @@
 -- The signals of a dump by lanes.
-use Rattle.std.specs.Prelude.{◌≡◌, ℕ, ◌≤◌, ◌<◌, Bool, false, List, ◌++◌, slice_index_or, Option}
+use Rattle.std.specs.Prelude.{◌≡◌, ℕ, ◌≤◌, ◌<◌, Bool, false, List, ◌++◌, slice_index_or, Option, if◌then◌else◌}
 use Rattle.std.specs.List.{flat_map, list_any}
 use Rattle.bus_strings.specs.Limits.{most_terminal}
 use Rattle.bus_strings.specs.Messages.{Entry}
 use Rattle.bus_table.specs.Tables.{Table}
 use Rattle.bus_dump.specs.declared.dump.Dump.{Dump}
+use Rattle.bus_dump.specs.declared.dump.Dump.TheVariants.{Timers, Vcd, Wires}
 use Rattle.bus_dump.specs.declared.lane.Lane.{Lane}
 use Rattle.bus_dump.specs.declared.layout.Layout.{Layout}
 use Rattle.bus_dump.specs.Lanes.{sends}
@@ -44,6 +45,13 @@ pub record IsStill (before now : Scene) (terminal : ℕ) : Type 0 where
   pub was : list_any (is_of terminal) before.seen ≡ false
   pub is : list_any (is_of terminal) now.seen ≡ false
   pub same : elapsed terminal before.timers ≡ elapsed terminal now.timers
+
+-- The dump of which the signals of a lane are looked at, where the timers were asked or not: where they weren't, no signal of theirs
+-- changes.
+abbrev pub asked_dump : Dump → Bool → Dump
+asked_dump Vcd told = Vcd
+asked_dump Wires told = Wires
+asked_dump Timers told = if told then Timers else Vcd
 
 -- A terminal that isn't touched is still.
 abbrev pub LeavesStill : Scene → Scene → List Bool → Type 0

@@ -20,6 +20,10 @@ use Rattle.bus_dump.specs.inside.Walks.{IsWalkable, Stands}
 abbrev pub scene_of : kept.Scene → Scene
 scene_of scene = record { seen = scene.seen.items; timers = scene.timers.items; breach = scene.breach }
 
+-- Where the timers weren't asked for a scene, they tell what they told in the one before.
+abbrev pub TellsAs : kept.Scene → kept.Scene → Type 0
+TellsAs before now = now.told ≡ false → before.timers.items ≡ now.timers.items
+
 -- From bit time t to below `until` the scene stays.
 abbrev pub StaysAs : (ℕ → Scene) → ℕ → ℕ → Type 0
 StaysAs scene t until = (later : ℕ) → t ≤ later → later < until → scene later ≡ scene t

@@ -1,16 +1,27 @@
-use Rattle.std.proofs.Common.{List, ℕ, ◌≡◌, ◌≤◌, map, subst, arith, ap, sym, inl, inr, ◌∙◌}
+use Rattle.std.proofs.Common.{List, ℕ, ◌≡◌, ◌+◌, ◌-◌, map, subst, arith, ap, sym, inl, inr, ◌∙◌}
+use Rattle.std.specs.List.{flat_map, range_with_len}
+use Rattle.std.proofs.lemmas.Bool.{true≢false}
 use Rattle.bus_outer.specs.Texts.{Adds}
-use Rattle.bus_outer.proofs.TextLaws.{◌▸◌}
+use Rattle.bus_outer.proofs.TextLaws.{failed_adds, ◌▸◌}
 use Rattle.bus_strings.specs.Messages.{Entry}
 use Rattle.bus_table.specs.Tables.{Sender}
-use Rattle.bus_dump.specs.DumpTexts.{first_values}
+use Rattle.bus_dump.specs.DumpTexts.{changes_at, first_values}
+use Rattle.bus_dump.specs.declared.scene.Scene as kept
 use Rattle.bus_dump.specs.inside.Layouts.{layout_signals}
 use Rattle.bus_dump.specs.Scenes.{Scene, elapsed_at, is_breach, scene_at, timed}
 use Rattle.bus_dump.specs.Seen.{seen_at}
-use Rattle.bus_dump.specs.inside.Watching.{BreachStays, ElapsedStays, IsTold, StaysAs, scene_of}
+use Rattle.bus_dump.specs.inside.Watching.{BreachStays, ElapsedStays, IsTold, StaysAs, TellsAs, scene_of}
 use Rattle.bus_dump.proofs.WatchLemmas.{told_now}
-use Rattle.bus_dump.proofs.WriteLemmas.{first_is, last_put, next_put, scene_is, scene_stays}
+use Rattle.bus_dump.proofs.WriteLemmas.{first_is, last_put, left_put, next_put, scene_is, scene_stays}
 use Rattle.bus_dump.proofs.writing.put_bit_times.Goals as goal
+
+-- the timers of a scene that was taken over, and of the next one
+tells_on : (was before now : kept.Scene) → scene_of before ≡ scene_of was → TellsAs was now → TellsAs before now
+tells_on was before now same tells e = ap (λ (s : Scene). s.timers) same ∙ tells e
+
+pub put_changes-requires-clause-tells : goal.put_changes-requires-clause-tells
+put_changes-requires-clause-tells g c =
+    tells_on c.loop-until.now c.take_over.new.self c.look-until-in-loop-until.new.now c.take_over.ensures c.look-until-in-loop-until.ensures.tells
 
 pub loop-until-init : goal.loop-until-init
 loop-until-init g c =
@@ -40,6 +51,7 @@ loop-until-init g c =
       lasts = look.ensures.lasts;
       keeping = kept.0;
       told = kept.1;
+      tells = λ e. absurd (true≢false e);
       now = now;
       begun = omega arith;
       reached = inl (omega arith);
@@ -89,6 +101,7 @@ loop-until-preserved g c =
       lasts = look.ensures.lasts;
       keeping = kept.0;
       told = kept.1;
+      tells = tells_on c.loop-until.now c.take_over.new.self look.new.now c.take_over.ensures look.ensures.tells;
       now = now;
       begun = omega (arith, i.begun, i.later);
       reached = inr c.loop-until-test.true;
@@ -105,6 +118,18 @@ loop-until-preserved g c =
           c.loop-until.t u (scene_of c.take_over.new.self) (scene_of look.new.now) i.begun i.later i.stays was now)
           (i.adds ▸ c.put_changes.ensures);
     }
+
+-- behind a failed write
+pub returns-then-has_failed : goal.returns-then-has_failed
+returns-then-has_failed g c =
+    let i = c.loop-until.invariant in
+    let signals = layout_signals c.args.layout.now in
+    let at = scene_at c.args.layout.now.dump c.args.breach c.args.table.now c.args.list.now in
+    let left : List ℕ = flat_map (changes_at signals at) (range_with_len (1 + c.loop-until.t) (c.args.end - 1 - c.loop-until.t)) in
+    subst (λ (t : List ℕ). Adds g.K.Sink.held g.K.Sink.faults c.args.sink.now c.loop-until.sink c.args.text.now c.loop-until.text t)
+    (left_put signals at (first_values signals (at c.args.from) c.args.from) c.args.from c.loop-until.t c.args.end i.begun
+    (omega (arith, i.later, c.loop-until-test.true)))
+    (i.adds ▸ failed_adds g.K.Sink.held g.K.Sink.faults c.loop-until.sink c.loop-until.text left (sym c.has_failed.ensures ∙ c.if-has_failed.true))
 
 pub returns : goal.returns
 returns g c =

@@ -5,7 +5,7 @@ use Rattle.bus_dump.specs.DumpTexts.{changes_at, first_values}
 use Rattle.bus_dump.specs.inside.Layouts.{layout_signals}
 use Rattle.bus_dump.specs.Scenes.{scene_at, timed}
 use Rattle.bus_dump.specs.inside.Walks.{BeginsFrom}
-use Rattle.bus_dump.specs.inside.Watching.{IsTold, IsWatch, Keeping, Lasts, StaysAs, scene_of}
+use Rattle.bus_dump.specs.inside.Watching.{IsTold, IsWatch, Keeping, Lasts, StaysAs, TellsAs, scene_of}
 use Rattle.bus_dump.proofs.writing.put_bit_times.Given as goal
 
 -- the watch stands at bit time t, the scene there is known and stays so until then, and all up to t is put
@@ -18,6 +18,7 @@ invariant-loop-until g l = record {
   lasts : Lasts l.until l.watch;
   keeping : Keeping l.table (timed l.layout.dump l.table) l.watch;
   told : IsTold l.table (timed l.layout.dump l.table) l.watch l.now.timers.items;
+  tells : TellsAs l.before l.now;
   now : scene_of l.now ≡ scene_at l.layout.dump l.fn.breach l.table l.list l.t;
   begun : l.from ≤ l.t;
   reached : l.t ≤ l.from ⊎ l.t < l.end;

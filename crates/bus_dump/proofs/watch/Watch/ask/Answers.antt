@@ -1,7 +1,6 @@
-use Rattle.std.proofs.Common.{◌+◌, ◌≤◌, List, arith, sym, subst, ap, ◌∙◌}
+use Rattle.std.proofs.Common.{sym, subst}
 use Rattle.std.specs.List.{AllByRecursion}
-use Rattle.bus_dump.specs.inside.Clocks.{IsLow, tells_at}
-use Rattle.bus_dump.proofs.WatchLemmas.{turns_are}
+use Rattle.bus_dump.specs.inside.Clocks.{IsLow}
 use Rattle.bus_dump.proofs.watch.Watch.ask.Goals as goal
 
 pub tell_all-requires-clause-low : goal.tell_all-requires-clause-low

@@ -1,4 +1,4 @@
-use Rattle.std.proofs.Common.{◌≡◌, ap, ◌∙◌}
+use Rattle.std.proofs.Common.{ap, ◌∙◌}
 use Rattle.arrayvec.specs.ArrayVec.{ArrayVec}
 use Rattle.bus_strings.specs.Transmissions.{carrier}
 use Rattle.bus_dump.specs.declared.clock.Clock.{Clock}
@@ -6,26 +6,26 @@ use Rattle.bus_dump.specs.declared.walk.Walk.{Walk}
 use Rattle.bus_dump.proofs.WatchLemmas.{asked, asked_told, lasts_on}
 use Rattle.bus_dump.proofs.watch.Watch.attend.Goals as goal
 
-pub returns-then-is_due-clause-lasts : goal.returns-then-is_due-clause-lasts
-returns-then-is_due-clause-lasts c =
+pub returns-then-due-clause-lasts : goal.returns-then-due-clause-lasts
+returns-then-due-clause-lasts c =
     let brought = c.bring.new.self in
     asked c.args.t c.args.limit brought.quiet c.args.carrier c.ask.new.self brought.walk brought.clocks.items c.ask.ensures.walk
     c.bring.ensures.watch.walkable c.bring.ensures.watch.stands c.ask.ensures.since c.ask.ensures.starting c.ask.ensures.carrier
     (ap (λ (w : Walk). carrier w.list.now c.args.t) c.bring.ensures.walk ∙ c.requires.carrier) c.ask.ensures.quiet
     (ap (λ (v : ArrayVec Clock). v.items) c.ask.ensures.clocks) c.ask.ensures.later c.requires.later c.ask.ensures.turns
 
-pub returns-then-is_due-clause-told : goal.returns-then-is_due-clause-told
-returns-then-is_due-clause-told c table senders keeping before =
+pub returns-then-due-clause-told : goal.returns-then-due-clause-told
+returns-then-due-clause-told c table senders keeping before =
     asked_told c.test_decides.ensures table c.args.t senders c.bring.new.self c.ask.new.self c.ask.new.timers.items c.ask.ensures.walk
     c.ask.ensures.quiet (ap (λ (v : ArrayVec Clock). v.items) c.ask.ensures.clocks) c.bring.ensures.since c.ask.ensures.since c.ask.ensures.told
     (c.bring.ensures.keeping table senders keeping)
 
-pub returns-else-is_due-clause-lasts : goal.returns-else-is_due-clause-lasts
-returns-else-is_due-clause-lasts c =
-    (lasts_on c.args.t c.args.carrier c.args.self.now c.requires.watch c.requires.ready c.requires.carrier (c.is_due.ensures c.if-is_due.false)).1
+pub returns-else-due-clause-lasts : goal.returns-else-due-clause-lasts
+returns-else-due-clause-lasts c =
+    (lasts_on c.args.t c.args.carrier c.args.self.now c.requires.watch c.requires.ready c.requires.carrier (c.is_due-due.ensures c.if-due.false)).1
 
-pub returns-else-is_due-clause-told : goal.returns-else-is_due-clause-told
-returns-else-is_due-clause-told c table senders keeping before =
+pub returns-else-due-clause-told : goal.returns-else-due-clause-told
+returns-else-due-clause-told c table senders keeping before =
     let past =
-    (lasts_on c.args.t c.args.carrier c.args.self.now c.requires.watch c.requires.ready c.requires.carrier (c.is_due.ensures c.if-is_due.false)).0 in
+    (lasts_on c.args.t c.args.carrier c.args.self.now c.requires.watch c.requires.ready c.requires.carrier (c.is_due-due.ensures c.if-due.false)).0 in
     (keeping, before past)

@@ -1,4 +1,4 @@
-use Rattle.std.proofs.Common.{◌<◌, inl, inr, arith}
+use Rattle.std.proofs.Common.{inl, inr, arith}
 use Rattle.bus_dump.proofs.watch.Watch.bring.Goals as goal
 
 pub pass-requires-clause-lasts : goal.pass-requires-clause-lasts

@@ -1,4 +1,4 @@
-use Rattle.std.proofs.Common.{◌≡◌, ◌<◌, ◌≤◌, List, arith, inl, sym, subst, ap, ◌∙◌}
+use Rattle.std.proofs.Common.{◌≡◌, List, arith, inl, sym, subst, ap, ◌∙◌}
 use Rattle.bus_strings.specs.Members.{In}
 use Rattle.bus_strings.specs.Messages.{Entry}
 use Rattle.bus_strings.specs.Transmissions.{carrier}

@@ -1,9 +1,9 @@
-use Rattle.std.proofs.Common.{◌≡◌, ◌+◌, List, map, arith, sym, subst, ◌∙◌}
+use Rattle.std.proofs.Common.{◌≡◌, ◌+◌, List, map, arith, sym, subst}
 use Rattle.std.specs.List.{AllByRecursion}
 use Rattle.arrayvec.specs.ArrayVec.{ArrayVec, with_items}
 use Rattle.bus_dump.specs.declared.clock.Clock.{Clock}
 use Rattle.bus_dump.specs.inside.Clocks.{IsLow}
-use Rattle.bus_dump.specs.inside.Watching.{AreClocksOf, clock_passed}
+use Rattle.bus_dump.specs.inside.Watching.{clock_passed}
 use Rattle.bus_dump.proofs.SenderClocks.{all_low_passed}
 use Rattle.bus_dump.proofs.WatchLemmas.{passed_is, watch_passes}
 use Rattle.bus_dump.proofs.PassLemmas.{written}
