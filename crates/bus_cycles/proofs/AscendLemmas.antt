@@ -1,8 +1,8 @@
 -- Rows begin in ascending order.
-use Rattle.std.proofs.Common.{◌≡◌, ◌≢◌, ℕ, ◌+◌, ◌*◌, ◌/◌, ◌-◌, ◌<◌, ◌≤◌, Bool, true, false, cond, max, List, [], ◌∷◌, ◌++◌, length, take, inl, inr, arith, sym, refl, ap, subst, ◌∙◌, append_assoc}
+use Rattle.std.proofs.Common.{◌≡◌, ◌≢◌, ℕ, ◌+◌, ◌*◌, ◌/◌, ◌-◌, ◌<◌, ◌≤◌, Bool, true, false, cond, max, min, List, [], ◌∷◌, ◌++◌, length, take, inl, inr, arith, sym, refl, ap, subst, ◌∙◌, append_assoc}
 use Rattle.std.specs.Prelude.{not}
 use Rattle.std.specs.List.{AllByRecursion, filter}
-use Rattle.std.proofs.lemmas.Bool.{eq-eqb, leb-true, true≢false}
+use Rattle.std.proofs.lemmas.Bool.{eq-eqb, leb-true, ne_eqb, true≢false}
 use Rattle.std.proofs.lemmas.List.{length-append}
 use Rattle.std.proofs.lemmas.List.Sums.{fold-append}
 use Rattle.std.proofs.Math.Nat.{div-mul-le_self, le-div_iff_mul-le, mul-le-mul_right}
@@ -17,7 +17,7 @@ use Rattle.bus_trace.specs.Traces.{IsBelow}
 use Rattle.bus_shapes.specs.declared.sent.Sent.{Sent}
 use Rattle.bus_shapes.specs.Sending.{sents, sents_from}
 use Rattle.bus_cycles.specs.Laws.{Ascend, RowsAscend}
-use Rattle.bus_cycles.specs.Rows.{Cycle, Row, begin_in, begin_of, cycle_of, interval_of, is_new, is_new_in, row_at, rows_from, rows_of, with_sent}
+use Rattle.bus_cycles.specs.Rows.{Cycle, Row, begin_in, begin_of, cycle_of, ended_from, interval_of, is_new, is_new_in, row_at, rows_from, rows_of, with_sent}
 use Rattle.bus_cycles.specs.Sents.{is_shown, shown}
 use Rattle.bus_cycles.proofs.SentLemmas.{filtered}
 
@@ -86,37 +86,64 @@ whole_below ti m b q some is low =
     mul-le-mul_right' : (a b c : ℕ) → a ≤ b → a * c ≤ b * c
     mul-le-mul_right' a b c h = mul-le-mul_right c h
 
--- a moment at which a row may begin: in periodic mode the beginning of an interval
-abbrev IsStart : Mode → ℕ → ℕ → Type 0
-IsStart Periodic ti b = (q : ℕ) × (b ≡ q * ti)
-IsStart Aperiodic ti b = Unit {0}
+-- the same, of a moment that is counted from before the settled start
+record IsAfter (lift b : ℕ) (sent : Sent) : Type 0 where
+  moment : b ≤ sent.moment + lift
+  before : b < sent.before + lift
+  some : 0 < sent.before
 
-starts : (mode : Mode) (cycle : Cycle) (sent : Sent) → IsStart mode cycle.ti (begin_in mode cycle sent)
+-- a moment at which a row may begin: in periodic mode the beginning of an interval
+abbrev IsStart : Mode → Cycle → ℕ → Type 0
+IsStart Periodic cycle b = (q : ℕ) × (b ≡ q * cycle.ti + cycle.lift)
+IsStart Aperiodic cycle b = Unit {0}
+
+starts : (mode : Mode) (cycle : Cycle) (sent : Sent) → IsStart mode cycle (begin_in mode cycle sent)
 starts Periodic cycle sent = (sent.moment / cycle.ti, refl)
 starts Aperiodic cycle sent = tt
 
-begins_below : (mode : Mode) (cycle : Cycle) (sent : Sent) → begin_in mode cycle sent ≤ sent.moment
-begins_below Periodic cycle sent = div-mul-le_self sent.moment cycle.ti
-begins_below Aperiodic cycle sent = omega arith
+begins_below : (mode : Mode) (cycle : Cycle) (sent : Sent) → begin_in mode cycle sent ≤ sent.moment + cycle.lift
+begins_below Periodic cycle sent = (let low : interval_of cycle.ti sent.moment ≤ sent.moment = div-mul-le_self sent.moment cycle.ti in omega arith)
+begins_below Aperiodic cycle sent = within (sent.moment + cycle.lift) (max (ended_from cycle sent) (sent.moment + cycle.lift - cycle.lead)) where
+  within : (m n : ℕ) → min m n ≤ m
+  within m n = omega arith
 
-new_later : (mode : Mode) (cycle : Cycle) (b : ℕ) (sent : Sent) → 0 < cycle.ti → 0 < cycle.sg → IsStart mode cycle.ti b → IsBehind b sent
+between : (b m e n : ℕ) → b < m → b < e → b < min m (max e n)
+between b m e n h k = omega arith
+
+ended_is : (cycle : Cycle) (sent : Sent) → 0 < sent.before → ended_from cycle sent ≡ sent.before + cycle.lift
+ended_is cycle sent some = ap (λ b. cond b 0 (sent.before + cycle.lift)) (ne_eqb sent.before 0 (λ e. omega arith))
+
+new_later : (mode : Mode) (cycle : Cycle) (b : ℕ) (sent : Sent) → 0 < cycle.ti → 0 < cycle.sg → IsStart mode cycle b → IsAfter cycle.lift b sent
     → is_new_in mode cycle b sent ≡ true → b < begin_in mode cycle sent
-new_later Periodic cycle b sent some gap start behind new =
-    let from : b ≤ interval_of cycle.ti sent.moment = whole_below cycle.ti sent.moment b start.0 some start.1 behind.moment in
-    let other : interval_of cycle.ti sent.moment ≢ b = λ e. true≢false (sym new ∙ ap not (eq-eqb (interval_of cycle.ti sent.moment) b e)) in
-    omega (arith, from, other)
-new_later Aperiodic cycle b sent some gap start behind new =
+new_later Periodic cycle b sent some gap start after new =
+    let q : ℕ = start.0 in
+    let is : b ≡ q * cycle.ti + cycle.lift = start.1 in
+    let late : b ≤ sent.moment + cycle.lift = after.moment in
+    let from : q * cycle.ti ≤ interval_of cycle.ti sent.moment =
+    whole_below cycle.ti sent.moment (q * cycle.ti) q some refl (drop_lift b (q * cycle.ti) cycle.lift sent.moment is late) in
+    let other : interval_of cycle.ti sent.moment + cycle.lift ≢ b =
+    λ e. true≢false (sym new ∙ ap not (eq-eqb (interval_of cycle.ti sent.moment + cycle.lift) b e)) in
+    further b (q * cycle.ti) cycle.lift (interval_of cycle.ti sent.moment) is from other
+  where
+    drop_lift : (b n lift m : ℕ) → b ≡ n + lift → b ≤ m + lift → n ≤ m
+    drop_lift b n lift m h k = omega arith
+
+    further : (b n lift m : ℕ) → b ≡ n + lift → n ≤ m → m + lift ≢ b → b < m + lift
+    further b n lift m h k l = omega (arith, l)
+new_later Aperiodic cycle b sent some gap start after new =
     let wide : cycle.sg ≤ sent.moment - sent.before = leb-true cycle.sg (sent.moment - sent.before) new in
-    let before : b < sent.before = behind.before in
-    omega (arith, wide, before)
+    let before : b < sent.before + cycle.lift = after.before in
+    let moment : b < sent.moment + cycle.lift = omega arith in
+    between b (sent.moment + cycle.lift) (ended_from cycle sent) (sent.moment + cycle.lift - cycle.lead) moment
+    (subst (λ n. b < n) (sym (ended_is cycle sent after.some)) before)
 
 -- ---- rows
-weaker : (xs : List Sent) (m b : ℕ) → b ≤ m → AllByRecursion (IsBehind m) xs → AllByRecursion (IsBehind b) xs
-weaker [] m b low all = tt
-weaker (x ∷ xs) m b low all =
+weaker : (lift : ℕ) (xs : List Sent) (m b : ℕ) → b ≤ m + lift → AllByRecursion (IsBehind m) xs → AllByRecursion (IsAfter lift b) xs
+weaker lift [] m b low all = tt
+weaker lift (x ∷ xs) m b low all =
     let late : m ≤ x.moment = all.0.moment in
     let behind : m < x.before = all.0.before in
-    (record { moment = omega arith; before = omega arith }, weaker xs m b low all.1)
+    (record { moment = omega arith; before = omega arith; some = omega arith }, weaker lift xs m b low all.1)
 
 later_step : (cycle : Cycle) (row : Row) (x : Sent) (xs : List Sent) (b : ℕ) (t : Bool) → b < row.begin → is_new cycle row.begin x ≡ t
     → (is_new cycle row.begin x ≡ true → row.begin < begin_of cycle x)
@@ -126,13 +153,13 @@ later_step : (cycle : Cycle) (row : Row) (x : Sent) (xs : List Sent) (b : ℕ) (
 later_step cycle row x xs b true low new later next more = let further : row.begin < begin_of cycle x = later new in (low, next (omega arith))
 later_step cycle row x xs b false low new later next more = more
 
-later_rows : (cycle : Cycle) (row : Row) (xs : List Sent) (b : ℕ) → 0 < cycle.ti → 0 < cycle.sg → IsStart cycle.mode cycle.ti row.begin → b < row.begin
-    → AllByRecursion (IsBehind row.begin) xs → Chain xs → AllByRecursion (λ (r : Row). b < r.begin) (rows_from cycle row xs)
+later_rows : (cycle : Cycle) (row : Row) (xs : List Sent) (b : ℕ) → 0 < cycle.ti → 0 < cycle.sg → IsStart cycle.mode cycle row.begin → b < row.begin
+    → AllByRecursion (IsAfter cycle.lift row.begin) xs → Chain xs → AllByRecursion (λ (r : Row). b < r.begin) (rows_from cycle row xs)
 later_rows cycle row [] b some gap start low behind h = (low, tt)
 later_rows cycle row (x ∷ xs) b some gap start low behind h =
     later_step cycle row x xs b (is_new cycle row.begin x) low refl (new_later cycle.mode cycle row.begin x some gap start behind.0)
     (λ l. later_rows cycle (row_at cycle (row.place + 1) x) xs b some gap (starts cycle.mode cycle x) l
-    (weaker xs x.moment (begin_of cycle x) (begins_below cycle.mode cycle x) h.0) h.1)
+    (weaker cycle.lift xs x.moment (begin_of cycle x) (begins_below cycle.mode cycle x) h.0) h.1)
     (later_rows cycle (with_sent row x) xs b some gap start low behind.1 h.1)
 
 ascend_step : (cycle : Cycle) (row : Row) (x : Sent) (xs : List Sent) (t : Bool) → is_new cycle row.begin x ≡ t
@@ -142,11 +169,11 @@ ascend_step : (cycle : Cycle) (row : Row) (x : Sent) (xs : List Sent) (t : Bool)
 ascend_step cycle row x xs true new later next more = (later new, next)
 ascend_step cycle row x xs false new later next more = more
 
-ascend_from : (cycle : Cycle) (row : Row) (xs : List Sent) → 0 < cycle.ti → 0 < cycle.sg → IsStart cycle.mode cycle.ti row.begin
-    → AllByRecursion (IsBehind row.begin) xs → Chain xs → Ascend (rows_from cycle row xs)
+ascend_from : (cycle : Cycle) (row : Row) (xs : List Sent) → 0 < cycle.ti → 0 < cycle.sg → IsStart cycle.mode cycle row.begin
+    → AllByRecursion (IsAfter cycle.lift row.begin) xs → Chain xs → Ascend (rows_from cycle row xs)
 ascend_from cycle row [] some gap start behind h = (tt, tt)
 ascend_from cycle row (x ∷ xs) some gap start behind h =
-    let next = weaker xs x.moment (begin_of cycle x) (begins_below cycle.mode cycle x) h.0 in
+    let next = weaker cycle.lift xs x.moment (begin_of cycle x) (begins_below cycle.mode cycle x) h.0 in
     ascend_step cycle row x xs (is_new cycle row.begin x) refl
     (λ new. later_rows cycle (row_at cycle (row.place + 1) x) xs row.begin some gap (starts cycle.mode cycle x)
     (new_later cycle.mode cycle row.begin x some gap start behind.0 new) next h.1)
@@ -157,7 +184,7 @@ ascend_of : (cycle : Cycle) (xs : List Sent) → 0 < cycle.ti → 0 < cycle.sg �
 ascend_of cycle [] some gap h = tt
 ascend_of cycle (x ∷ xs) some gap h =
     ascend_from cycle (row_at cycle 0 x) xs some gap (starts cycle.mode cycle x)
-    (weaker xs x.moment (begin_of cycle x) (begins_below cycle.mode cycle x) h.0) h.1
+    (weaker cycle.lift xs x.moment (begin_of cycle x) (begins_below cycle.mode cycle x) h.0) h.1
 
 pub rows_ascend : RowsAscend
 rows_ascend table window trace valid is =

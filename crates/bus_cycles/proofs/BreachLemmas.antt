@@ -12,7 +12,7 @@ use Rattle.bus_cycles.specs.Rows.{Cycle, Extent, Row, cycle_of, extent_of, inter
 use Rattle.bus_cycles.specs.Sents.{shown}
 use Rattle.bus_cycles.specs.Surveys.{Survey, is_drawn, nothing, reach_of, told_of, with_row}
 use Rattle.bus_cycles.proofs.AscendLemmas.{rows_ascend}
-use Rattle.bus_cycles.proofs.RowLemmas.{within_interval}
+use Rattle.bus_cycles.proofs.RowLemmas.{no_lift, within_interval}
 
 -- ---- the row that is marked is one of the rows, and takes the breach
 pub record IsTaken (cycle : Cycle) (moment : ℕ) (list : List Row) (extent : Extent) : Type 0 where
@@ -39,23 +39,32 @@ taken_from cycle moment (r ∷ rs) survey extent e =
 
 -- ---- what a row takes
 pub record IsTaking (mode : Mode) (cycle : Cycle) (extent : Extent) (moment : ℕ) : Type 0 where
-  pub begun : extent.begin ≤ moment
-  pub within : mode ≡ Periodic → moment < extent.begin + cycle.ti
+  pub begun : extent.begin ≤ moment + cycle.lift
+  pub within : mode ≡ Periodic → moment + cycle.lift < extent.begin + cycle.ti
 
 taking : (mode : Mode) (cycle : Cycle) (extent : Extent) (moment : ℕ) → 0 < cycle.ti → takes_in mode cycle extent moment ≡ true
     → IsTaking mode cycle extent moment
 taking Periodic cycle extent moment some e =
-    let at : interval_of cycle.ti moment ≡ extent.begin = eqb-true (interval_of cycle.ti moment) extent.begin e in
+    let at : interval_of cycle.ti moment + cycle.lift ≡ extent.begin = eqb-true (interval_of cycle.ti moment + cycle.lift) extent.begin e in
     let parts = within_interval cycle.ti moment some in
-    record { begun = subst (λ b. b ≤ moment) at parts.0; within = λ h. subst (λ b. moment < b + cycle.ti) at parts.1 }
-taking Aperiodic cycle extent moment some e = record { begun = leb-true extent.begin moment e; within = λ h. absurd (cc) }
+    let low : interval_of cycle.ti moment ≤ moment = parts.0 in
+    let high : moment < interval_of cycle.ti moment + cycle.ti = parts.1 in
+    record { begun = begins (interval_of cycle.ti moment) cycle.lift extent.begin moment at low; within = λ h. ends (interval_of cycle.ti moment) cycle.lift extent.begin moment cycle.ti at high }
+  where
+    begins : (a lift b m : ℕ) → a + lift ≡ b → a ≤ m → b ≤ m + lift
+    begins a lift b m h k = omega arith
+
+    ends : (a lift b m ti : ℕ) → a + lift ≡ b → m < a + ti → m + lift < b + ti
+    ends a lift b m ti h k = omega arith
+taking Aperiodic cycle extent moment some e =
+    record { begun = leb-true extent.begin (moment + cycle.lift) e; within = λ h. absurd (cc) }
 
 -- ---- the scale holds it
-held_by : (survey : Survey) (moment : ℕ) (extent : Extent) → survey.marked ≡ Some extent → is_drawn extent.place ≡ true
-    → moment - extent.begin ≤ max survey.longest (reach_of (Some moment) survey.marked)
-held_by survey moment extent marked drawn =
-    let reach : reach_of (Some moment) survey.marked ≡ moment - extent.begin =
-    ap (reach_of (Some moment)) marked ∙ ap (λ b. cond b (moment - extent.begin) 0) drawn in
+held_by : (lift : ℕ) (survey : Survey) (moment : ℕ) (extent : Extent) → survey.marked ≡ Some extent → is_drawn extent.place ≡ true
+    → moment + lift - extent.begin ≤ max survey.longest (reach_of lift (Some moment) survey.marked)
+held_by lift survey moment extent marked drawn =
+    let reach : reach_of lift (Some moment) survey.marked ≡ moment + lift - extent.begin =
+    ap (reach_of lift (Some moment)) marked ∙ ap (λ b. cond b (moment + lift - extent.begin) 0) drawn in
     omega arith
 
 pub at_its_moment : BreachIsAtItsMoment
@@ -74,8 +83,8 @@ at_its_moment table window list moment extent valid marked drawn =
             one = taken.one;
             extent_is = taken.extent_is;
             begun = is.begun;
-            held = held_by told moment extent marked drawn;
-            within = is.within;
+            held = held_by cycle.lift told moment extent marked drawn;
+            within = λ h. (let none : cycle.lift ≡ 0 = no_lift table h in let high : moment + cycle.lift < extent.begin + cycle.ti = is.within h in omega arith);
           }
     ]
 

@@ -1,15 +1,15 @@
 -- What is left out of a row is covered.
-use Rattle.std.proofs.Common.{◌≡◌, ℕ, ◌-◌, ◌*◌, ◌/◌, ◌<◌, ◌≤◌, Bool, true, false, ◌&&◌, ◌||◌, eqb, leb, List, [], ◌∷◌, ◌++◌, inl, inr, arith, sym, refl, ap, subst, ◌∙◌, append_assoc}
+use Rattle.std.proofs.Common.{◌≡◌, ℕ, ◌+◌, ◌-◌, ◌*◌, ◌/◌, ◌<◌, ◌≤◌, Bool, true, false, ◌&&◌, ◌||◌, eqb, leb, List, [], ◌∷◌, ◌++◌, inl, inr, arith, sym, refl, ap, subst, ◌∙◌, append_assoc}
 use Rattle.std.specs.List.{AllByRecursion, flat_map}
 use Rattle.std.proofs.lemmas.Bool.{and_parts, eqb-true, leb-true, leb-false, lt-leb, true≢false}
 use Rattle.bus_strings.proofs.MemberLaws.{in_append_right, of_each}
 use Rattle.bus_strings.specs.Members.{In}
 use Rattle.bus_shapes.specs.Laws.{PlacesRise}
-use Rattle.bus_shapes.specs.declared.scale.Scale.{Scale}
 use Rattle.bus_shapes.specs.Scales.{IsScale, place}
 use Rattle.bus_shapes.specs.declared.sent.Sent.{Sent}
 use Rattle.bus_shapes.specs.Sending.{sents}
 use Rattle.bus_cycles.specs.Laws.{LeftOutAreCovered}
+use Rattle.bus_cycles.specs.Pages.{Page}
 use Rattle.bus_cycles.specs.Rows.{Row, rows}
 use Rattle.bus_cycles.specs.RowTexts.{is_reached, left_of, right_of, shade}
 use Rattle.bus_cycles.specs.Sents.{is_shown, shown}
@@ -43,33 +43,34 @@ in_order front back later other sent h =
     of_each (IsBehind other.moment) (back ++ sent ∷ later) behind.0 sent (in_append_right back (sent ∷ later) sent (inl refl)) in
     one.moment
 
-left_rises : (scale : Scale) (begin : ℕ) (other sent : Sent) → PlacesRise → IsScale scale → other.moment ≤ sent.moment
-    → left_of scale begin other ≤ left_of scale begin sent
-left_rises scale begin other sent rise is order =
-    let places : place scale (other.moment - begin) ≤ place scale (sent.moment - begin) =
-    rise scale (other.moment - begin) (sent.moment - begin) is (omega arith) in
-    tens (place scale (other.moment - begin)) (place scale (sent.moment - begin)) places
+left_rises : (page : Page) (begin : ℕ) (other sent : Sent) → PlacesRise → IsScale page.scale → other.moment ≤ sent.moment
+    → left_of page begin other ≤ left_of page begin sent
+left_rises page begin other sent rise is order =
+    let lift : ℕ = page.cycle.lift in
+    let places : place page.scale (other.moment + lift - begin) ≤ place page.scale (sent.moment + lift - begin) =
+    rise page.scale (other.moment + lift - begin) (sent.moment + lift - begin) is (omega arith) in
+    tens (place page.scale (other.moment + lift - begin)) (place page.scale (sent.moment + lift - begin)) places
   where
     tens : (a b : ℕ) → a ≤ b → a / 10 * 10 ≤ b / 10 * 10
     tens a b h = omega arith
 
 -- ---- the first that has a shade and reaches as far
-pub record IsFirst (scale : Scale) (begin : ℕ) (whole : List Sent) (tone right : ℕ) : Type 0 where
+pub record IsFirst (page : Page) (begin : ℕ) (whole : List Sent) (tone right : ℕ) : Type 0 where
   pub front : List Sent
   pub other : Sent
   pub back : List Sent
   pub whole_is : whole ≡ front ++ other ∷ back
-  pub stays : is_reached scale begin front tone (right_of scale begin other) ≡ false
-  pub same : shade other ≡ tone
-  pub reaches : right ≤ right_of scale begin other
+  pub stays : is_reached page begin front tone (right_of page begin other) ≡ false
+  pub same : shade page other ≡ tone
+  pub reaches : right ≤ right_of page begin other
 
-further : (scale : Scale) (begin : ℕ) (xs : List Sent) (tone near far : ℕ) → near ≤ far → is_reached scale begin xs tone near ≡ false
-    → is_reached scale begin xs tone far ≡ false
-further scale begin [] tone near far h e = refl
-further scale begin (x ∷ xs) tone near far h e =
-    let parts = or_none (eqb (shade x) tone && leb near (right_of scale begin x)) (is_reached scale begin xs tone near) e in
-    both_none (eqb (shade x) tone && leb far (right_of scale begin x)) (is_reached scale begin xs tone far)
-    (one (eqb (shade x) tone) (right_of scale begin x) parts.0) (further scale begin xs tone near far h parts.1)
+further : (page : Page) (begin : ℕ) (xs : List Sent) (tone near far : ℕ) → near ≤ far → is_reached page begin xs tone near ≡ false
+    → is_reached page begin xs tone far ≡ false
+further page begin [] tone near far h e = refl
+further page begin (x ∷ xs) tone near far h e =
+    let parts = or_none (eqb (shade page x) tone && leb near (right_of page begin x)) (is_reached page begin xs tone near) e in
+    both_none (eqb (shade page x) tone && leb far (right_of page begin x)) (is_reached page begin xs tone far)
+    (one (eqb (shade page x) tone) (right_of page begin x) parts.0) (further page begin xs tone near far h parts.1)
   where
     or_none : (a b : Bool) → (a || b) ≡ false → (a ≡ false) × (b ≡ false)
     or_none true b e = absurd (true≢false e)
@@ -82,45 +83,45 @@ further scale begin (x ∷ xs) tone near far h e =
     one true right e = let short : right < near = leb-false near right e in lt-leb far right (omega arith)
     one false right e = refl
 
-first_step : (scale : Scale) (begin : ℕ) (front : List Sent) (x : Sent) (xs : List Sent) (tone right : ℕ) (b : Bool)
-    → is_reached scale begin front tone right ≡ false → (eqb (shade x) tone && leb right (right_of scale begin x)) ≡ b
-    → (b || is_reached scale begin xs tone right) ≡ true
-    → (is_reached scale begin (front ++ x ∷ []) tone right ≡ false → is_reached scale begin xs tone right ≡ true
-    → IsFirst scale begin ((front ++ x ∷ []) ++ xs) tone right)
-    → IsFirst scale begin (front ++ x ∷ xs) tone right
-first_step scale begin front x xs tone right true none here h next =
-    let parts = and_parts (eqb (shade x) tone) (leb right (right_of scale begin x)) here in
-    let reach : right ≤ right_of scale begin x = leb-true right (right_of scale begin x) parts.1 in
+first_step : (page : Page) (begin : ℕ) (front : List Sent) (x : Sent) (xs : List Sent) (tone right : ℕ) (b : Bool)
+    → is_reached page begin front tone right ≡ false → (eqb (shade page x) tone && leb right (right_of page begin x)) ≡ b
+    → (b || is_reached page begin xs tone right) ≡ true
+    → (is_reached page begin (front ++ x ∷ []) tone right ≡ false → is_reached page begin xs tone right ≡ true
+    → IsFirst page begin ((front ++ x ∷ []) ++ xs) tone right)
+    → IsFirst page begin (front ++ x ∷ xs) tone right
+first_step page begin front x xs tone right true none here h next =
+    let parts = and_parts (eqb (shade page x) tone) (leb right (right_of page begin x)) here in
+    let reach : right ≤ right_of page begin x = leb-true right (right_of page begin x) parts.1 in
     record {
       front = front;
       other = x;
       back = xs;
       whole_is = refl;
-      stays = further scale begin front tone right (right_of scale begin x) reach none;
-      same = eqb-true (shade x) tone parts.0;
+      stays = further page begin front tone right (right_of page begin x) reach none;
+      same = eqb-true (shade page x) tone parts.0;
       reaches = reach;
     }
-first_step scale begin front x xs tone right false none here h next =
-    subst (λ l. IsFirst scale begin l tone right) (append_assoc front (x ∷ []) xs)
-    (next (reached_more scale begin front x tone right
-    ∙ ap (λ b. is_reached scale begin front tone right || b) here
+first_step page begin front x xs tone right false none here h next =
+    subst (λ l. IsFirst page begin l tone right) (append_assoc front (x ∷ []) xs)
+    (next (reached_more page begin front x tone right
+    ∙ ap (λ b. is_reached page begin front tone right || b) here
     ∙ ap (λ b. b || false) none) h)
 
-first_from : (scale : Scale) (begin : ℕ) (front xs : List Sent) (tone right : ℕ) → is_reached scale begin front tone right ≡ false
-    → is_reached scale begin xs tone right ≡ true → IsFirst scale begin (front ++ xs) tone right
-first_from scale begin front [] tone right none e = absurd (true≢false (sym e))
-first_from scale begin front (x ∷ xs) tone right none e =
-    first_step scale begin front x xs tone right (eqb (shade x) tone && leb right (right_of scale begin x)) none refl e
-    (λ h r. first_from scale begin (front ++ x ∷ []) xs tone right h r)
+first_from : (page : Page) (begin : ℕ) (front xs : List Sent) (tone right : ℕ) → is_reached page begin front tone right ≡ false
+    → is_reached page begin xs tone right ≡ true → IsFirst page begin (front ++ xs) tone right
+first_from page begin front [] tone right none e = absurd (true≢false (sym e))
+first_from page begin front (x ∷ xs) tone right none e =
+    first_step page begin front x xs tone right (eqb (shade page x) tone && leb right (right_of page begin x)) none refl e
+    (λ h r. first_from page begin (front ++ x ∷ []) xs tone right h r)
 
 -- ---- covered
 pub left_out_covered : PlacesRise → LeftOutAreCovered
-left_out_covered rise table window trace scale row earlier later sent is fits i parts out =
+left_out_covered rise table window trace page row earlier later sent is fits i parts out =
     let shown_chain : Chain (shown window trace.list) =
     chain_filtered (is_shown window) (sents trace.list) (chain trace.list trace.horizon is.order is.list) in
     let all : Chain row.sents = chain_row (rows table window trace.list) row (subst Chain (sym (partition table window trace.list)) shown_chain) i in
-    let first : IsFirst scale row.begin earlier (shade sent) (right_of scale row.begin sent) =
-    first_from scale row.begin [] earlier (shade sent) (right_of scale row.begin sent) refl out in
+    let first : IsFirst page row.begin earlier (shade page sent) (right_of page row.begin sent) =
+    first_from page row.begin [] earlier (shade page sent) (right_of page row.begin sent) refl out in
     let whole : row.sents ≡ (first.front ++ first.other ∷ first.back) ++ sent ∷ later = parts ∙ ap (λ l. l ++ sent ∷ later) first.whole_is in
     let order = in_order first.front first.back later first.other sent (subst Chain whole all) in
     record {
@@ -128,8 +129,8 @@ left_out_covered rise table window trace scale row earlier later sent is fits i 
       other = first.other;
       back = first.back;
       earlier_are = first.whole_is;
-      stays = ap (λ tone. is_reached scale row.begin first.front tone (right_of scale row.begin first.other)) first.same ∙ first.stays;
+      stays = ap (λ tone. is_reached page row.begin first.front tone (right_of page row.begin first.other)) first.same ∙ first.stays;
       same = first.same;
-      left = left_rises scale row.begin first.other sent rise fits order;
+      left = left_rises page row.begin first.other sent rise fits order;
       right = first.reaches;
     }

@@ -8,5 +8,8 @@ pub mod CycleLemmas
 pub mod CoverLemmas
 pub mod BreachLemmas
 pub mod DrawnLemmas
+pub mod LoadLemmas
+pub mod ApartLemmas
+pub mod LaneLemmas
 pub mod WordLemmas
 pub mod LengthLemmas

@@ -1,8 +1,8 @@
 -- What follows of rows.
-use Rattle.std.proofs.Common.{◌≡◌, ◌↔◌, ℕ, zero, suc, ◌+◌, ◌*◌, ◌/◌, ◌%◌, ◌<◌, ◌≤◌, Bool, true, false, cond, eqb, List, [], ◌∷◌, ◌++◌, Some, inl, inr, arith, sym, refl, ap, subst, ◌∙◌, append_assoc}
+use Rattle.std.proofs.Common.{◌≡◌, ◌↔◌, ℕ, zero, suc, ◌+◌, ◌*◌, ◌/◌, ◌%◌, ◌<◌, ◌≤◌, Bool, true, false, cond, eqb, List, [], ◌∷◌, ◌++◌, get_or, Some, inl, inr, arith, sym, refl, ap, subst, ◌∙◌, append_assoc}
 use Rattle.std.specs.Prelude.{not, slice_get}
 use Rattle.std.specs.List.{AllByRecursion, flat_map}
-use Rattle.std.proofs.lemmas.Bool.{eqb-true, true≢false}
+use Rattle.std.proofs.lemmas.Bool.{eqb-true, ne_eqb, true≢false}
 use Rattle.std.proofs.lemmas.Nat.{div-add-mod'}
 use Rattle.std.proofs.Math.Nat.{mod-lt}
 use Rattle.bus_strings.proofs.ListLaws.{all_push}
@@ -13,11 +13,12 @@ use Rattle.bus_strings.specs.Transmissions.{garbled}
 use Rattle.bus_table.specs.declared.mode.Mode.TheVariants.{Periodic}
 use Rattle.bus_table.specs.Tables.{Table}
 use Rattle.bus_table.proofs.ValidLaws.{valid_facts}
-use Rattle.bus_shapes.specs.declared.class.Class.TheVariants.{Garbled}
+use Rattle.bus_shapes.specs.declared.class.Class.TheVariants.{Garbled, Other, Wordstring}
 use Rattle.bus_shapes.specs.declared.sent.Sent.{Sent}
 use Rattle.bus_shapes.specs.Windows.{Window}
 use Rattle.bus_cycles.specs.Laws.{HatchedAreDrawnLast, HatchedAreGarbled, RowsAreAPartition, RowsAreIntervals}
-use Rattle.bus_cycles.specs.Rows.{Cycle, Row, begin_in, cycle_of, interval_of, is_new, is_new_in, row_at, rows, rows_from, rows_of, with_sent}
+use Rattle.bus_cycles.specs.Rows.{Cycle, Row, begin_in, cycle_of, interval_of, is_new, is_new_in, lift_of, row_at, rows, rows_from, rows_of, with_sent}
+use Rattle.bus_cycles.specs.Pages.{Page}
 use Rattle.bus_cycles.specs.RowTexts.{class_of, shade}
 use Rattle.bus_shapes.specs.Sending.{sent_of, sents, sents_from}
 use Rattle.bus_shapes.specs.SendingLaws.{IsToldOf}
@@ -67,28 +68,33 @@ told table window list row sent i j =
       told = same ∙ ap (λ m. sent_of list m r.1) (sym at);
     }
 
-hatched_at : (garbled : Bool) (odd : ℕ) → odd < 2 → (class_of (cond garbled 2 0 + odd) ≡ Garbled) ↔ (garbled ≡ true)
-hatched_at true zero h = (λ e. refl, λ e. refl)
-hatched_at true (suc zero) h = (λ e. refl, λ e. refl)
-hatched_at true (suc (suc n)) h = absurd (omega arith)
-hatched_at false zero h = (λ e. cc, λ e. cc)
-hatched_at false (suc zero) h = (λ e. cc, λ e. cc)
-hatched_at false (suc (suc n)) h = absurd (omega arith)
+slot_class : (slot : ℕ) → class_of (2 + slot) ≡ Garbled
+slot_class slot =
+    let none : eqb (2 + slot) 0 ≡ false = ne_eqb (2 + slot) 0 (λ e. omega arith) in
+    let other : eqb (2 + slot) 1 ≡ false = ne_eqb (2 + slot) 1 (λ e. omega arith) in
+    ap (λ b. cond b Other (cond (eqb (2 + slot) 1) Wordstring Garbled)) none ∙ ap (λ b. cond b Wordstring Garbled) other
+
+hatched_at : (garbled : Bool) (slot lane : ℕ) → lane < 2 → (class_of (cond garbled (2 + slot) lane) ≡ Garbled) ↔ (garbled ≡ true)
+hatched_at true slot lane h = (λ e. refl, λ e. slot_class slot)
+hatched_at false slot zero h = (λ e. cc, λ e. cc)
+hatched_at false slot (suc zero) h = (λ e. cc, λ e. cc)
+hatched_at false slot (suc (suc n)) h = absurd (omega arith)
+
+hatched_of : (page : Page) (sent : Sent) → (class_of (shade page sent) ≡ Garbled) ↔ (sent.garbled ≡ true)
+hatched_of page sent =
+    let lane : get_or page.lanes sent.terminal 0 % 2 < 2 = omega arith in
+    hatched_at sent.garbled (sent.at % 3) (get_or page.lanes sent.terminal 0 % 2) lane
 
 pub hatched : HatchedAreGarbled
-hatched table window list row sent i j =
+hatched page table window list row sent i j =
     let t = told table window list row sent i j in
     let mark : sent.garbled ≡ garbled list sent.at = ap (λ (s : Sent). s.garbled) t.told in
-    let odd : sent.terminal % 2 < 2 = omega arith in
-    (t, subst (λ b. (class_of (shade sent) ≡ Garbled) ↔ (b ≡ true)) mark (hatched_at sent.garbled (sent.terminal % 2) odd))
+    (t, subst (λ b. (class_of (shade page sent) ≡ Garbled) ↔ (b ≡ true)) mark (hatched_of page sent))
 
 pub drawn_last : HatchedAreDrawnLast
-drawn_last true sent due =
-    let odd : sent.terminal % 2 < 2 = omega arith in
-    (λ e. refl, λ e. (hatched_at sent.garbled (sent.terminal % 2) odd).1 due)
-drawn_last false sent due =
-    let odd : sent.terminal % 2 < 2 = omega arith in
-    let plain = (hatched_at sent.garbled (sent.terminal % 2) odd).0 in
+drawn_last page true sent due = (λ e. refl, λ e. (hatched_of page sent).1 due)
+drawn_last page false sent due =
+    let plain = (hatched_of page sent).0 in
     (λ e. absurd (true≢false (sym due ∙ ap not (plain e))), λ e. absurd (true≢false (sym e)))
 
 -- ---- intervals
@@ -98,40 +104,49 @@ within_interval ti t some =
     let short : t % ti < ti = mod-lt t some in
     (omega arith, omega arith)
 
-abbrev IsWhole : ℕ → Row → Type 0
-IsWhole ti row = AllByRecursion (λ (sent : Sent). interval_of ti sent.moment ≡ row.begin) row.sents
+abbrev IsWhole : Cycle → Row → Type 0
+IsWhole cycle row = AllByRecursion (λ (sent : Sent). interval_of cycle.ti sent.moment + cycle.lift ≡ row.begin) row.sents
 
-whole_row : (cycle : Cycle) (place : ℕ) (sent : Sent) → cycle.mode ≡ Periodic → IsWhole cycle.ti (row_at cycle place sent)
+whole_row : (cycle : Cycle) (place : ℕ) (sent : Sent) → cycle.mode ≡ Periodic → IsWhole cycle (row_at cycle place sent)
 whole_row cycle place sent e = (sym (ap (λ m. begin_in m cycle sent) e), tt)
 
 not_false : (b : Bool) → not b ≡ false → b ≡ true
 not_false true h = refl
 not_false false h = absurd (true≢false h)
 
-whole_step : (cycle : Cycle) (row : Row) (x : Sent) (xs : List Sent) (b : Bool) → cycle.mode ≡ Periodic → IsWhole cycle.ti row → is_new cycle row.begin x ≡ b
-    → AllByRecursion (IsWhole cycle.ti) (rows_from cycle (row_at cycle (row.place + 1) x) xs)
-    → (IsWhole cycle.ti (with_sent row x) → AllByRecursion (IsWhole cycle.ti) (rows_from cycle (with_sent row x) xs))
-    → AllByRecursion (IsWhole cycle.ti) (cond b (row ∷ rows_from cycle (row_at cycle (row.place + 1) x) xs) (rows_from cycle (with_sent row x) xs))
+whole_step : (cycle : Cycle) (row : Row) (x : Sent) (xs : List Sent) (b : Bool) → cycle.mode ≡ Periodic → IsWhole cycle row → is_new cycle row.begin x ≡ b
+    → AllByRecursion (IsWhole cycle) (rows_from cycle (row_at cycle (row.place + 1) x) xs)
+    → (IsWhole cycle (with_sent row x) → AllByRecursion (IsWhole cycle) (rows_from cycle (with_sent row x) xs))
+    → AllByRecursion (IsWhole cycle) (cond b (row ∷ rows_from cycle (row_at cycle (row.place + 1) x) xs) (rows_from cycle (with_sent row x) xs))
 whole_step cycle row x xs true e w n new more = (w, new)
 whole_step cycle row x xs false e w n new more =
-    let same : is_new cycle row.begin x ≡ not (eqb (interval_of cycle.ti x.moment) row.begin) = ap (λ m. is_new_in m cycle row.begin x) e in
-    let here : interval_of cycle.ti x.moment ≡ row.begin = eqb-true (interval_of cycle.ti x.moment) row.begin (not_false (eqb (interval_of cycle.ti x.moment) row.begin) (sym same ∙ n)) in
-    more (all_push (λ (sent : Sent). interval_of cycle.ti sent.moment ≡ row.begin) row.sents x w here)
+    let same : is_new cycle row.begin x ≡ not (eqb (interval_of cycle.ti x.moment + cycle.lift) row.begin) = ap (λ m. is_new_in m cycle row.begin x) e in
+    let here : interval_of cycle.ti x.moment + cycle.lift ≡ row.begin = eqb-true (interval_of cycle.ti x.moment + cycle.lift) row.begin (not_false (eqb (interval_of cycle.ti x.moment + cycle.lift) row.begin) (sym same ∙ n)) in
+    more (all_push (λ (sent : Sent). interval_of cycle.ti sent.moment + cycle.lift ≡ row.begin) row.sents x w here)
 
-whole_from : (cycle : Cycle) (row : Row) (xs : List Sent) → cycle.mode ≡ Periodic → IsWhole cycle.ti row → AllByRecursion (IsWhole cycle.ti) (rows_from cycle row xs)
+whole_from : (cycle : Cycle) (row : Row) (xs : List Sent) → cycle.mode ≡ Periodic → IsWhole cycle row → AllByRecursion (IsWhole cycle) (rows_from cycle row xs)
 whole_from cycle row [] e w = (w, tt)
 whole_from cycle row (x ∷ xs) e w =
     whole_step cycle row x xs (is_new cycle row.begin x) e w refl (whole_from cycle (row_at cycle (row.place + 1) x) xs e (whole_row cycle (row.place + 1) x e))
     (λ h. whole_from cycle (with_sent row x) xs e h)
 
-whole_rows : (cycle : Cycle) (xs : List Sent) → cycle.mode ≡ Periodic → AllByRecursion (IsWhole cycle.ti) (rows_of cycle xs)
+whole_rows : (cycle : Cycle) (xs : List Sent) → cycle.mode ≡ Periodic → AllByRecursion (IsWhole cycle) (rows_of cycle xs)
 whole_rows cycle [] e = tt
 whole_rows cycle (x ∷ xs) e = whole_from cycle (row_at cycle 0 x) xs e (whole_row cycle 0 x e)
 
+pub no_lift : (table : Table) → table.mode ≡ Periodic → (cycle_of table).lift ≡ 0
+no_lift table mode = ap (λ m. lift_of m table.sg) mode
+
 pub intervals : RowsAreIntervals
 intervals table window list row sent valid mode i j =
-    let whole : IsWhole table.ti row = of_each (IsWhole table.ti) (rows table window list) (whole_rows (cycle_of table) (shown window list) mode) row i in
-    let at : interval_of table.ti sent.moment ≡ row.begin = of_each (λ (s : Sent). interval_of table.ti s.moment ≡ row.begin) row.sents whole sent j in
+    let cycle : Cycle = cycle_of table in
+    let whole : IsWhole cycle row = of_each (IsWhole cycle) (rows table window list) (whole_rows cycle (shown window list) mode) row i in
+    let lifted : interval_of table.ti sent.moment + cycle.lift ≡ row.begin = of_each (λ (s : Sent). interval_of cycle.ti s.moment + cycle.lift ≡ row.begin) row.sents whole sent j in
+    let none : cycle.lift ≡ 0 = no_lift table mode in
+    let at : interval_of table.ti sent.moment ≡ row.begin = plain (interval_of table.ti sent.moment) cycle.lift row.begin none lifted in
     let some : 0 < table.ti = (let f = valid_facts table valid in omega (arith, f.ti_least)) in
     let parts = within_interval table.ti sent.moment some in
     (sym at, subst (λ b. b ≤ sent.moment) at parts.0, subst (λ b. sent.moment < b + table.ti) at parts.1)
+  where
+    plain : (a lift b : ℕ) → lift ≡ 0 → a + lift ≡ b → a ≡ b
+    plain a lift b e f = omega arith

@@ -1,19 +1,16 @@
 -- The word of a breach stands behind all boxes.
-use Rattle.std.proofs.Common.{◌≡◌, ℕ, ◌+◌, ◌-◌, ◌*◌, ◌/◌, ◌≤◌, max, arith}
+use Rattle.std.proofs.Common.{ℕ, ◌+◌, ◌-◌, ◌*◌, ◌/◌, ◌≤◌, max, arith}
 use Rattle.bus_shapes.specs.Laws.{PlacesLieWithin, PlacesRise}
-use Rattle.bus_shapes.specs.declared.scale.Scale.{Scale}
-use Rattle.bus_shapes.specs.declared.sent.Sent.{Sent}
 use Rattle.bus_shapes.specs.Scales.{IsScale, place}
-use Rattle.bus_cycles.specs.CyclesTexts.{scale_of}
 use Rattle.bus_cycles.specs.Laws.{BreachWordHidesNone}
-use Rattle.bus_cycles.specs.RowTexts.{area_of, left_of, pixel, right_of}
-use Rattle.bus_cycles.specs.Surveys.{Survey}
+use Rattle.bus_cycles.specs.Pages.{Page, page_of}
+use Rattle.bus_cycles.specs.RowTexts.{left_of, pixel, right_of}
 
 -- an edge on a whole pixel, which is no more than the right edge of the rows
-on_pixel : (scale : Scale) (begin t : ℕ) → PlacesLieWithin → IsScale scale → pixel scale begin t ≤ scale.left + scale.width
-on_pixel scale begin t within is =
-    let most = (within scale (t - begin) is).1 in
-    tens (place scale (t - begin)) (scale.left + scale.width) most
+on_pixel : (page : Page) (begin t : ℕ) → PlacesLieWithin → IsScale page.scale → pixel page begin t ≤ page.scale.left + page.scale.width
+on_pixel page begin t within is =
+    let most = (within page.scale (t + page.cycle.lift - begin) is).1 in
+    tens (place page.scale (t + page.cycle.lift - begin)) (page.scale.left + page.scale.width) most
   where
     tens : (a b : ℕ) → a ≤ b → a / 10 * 10 ≤ b
     tens a b h = omega arith
@@ -22,10 +19,10 @@ all_of : (left right edge : ℕ) → left ≤ edge → right ≤ edge → left +
 all_of left right edge h k = omega arith
 
 pub word_hides_none : PlacesRise → PlacesLieWithin → BreachWordHidesNone
-word_hides_none rise within survey row begin sent is =
-    let scale : Scale = scale_of survey in
-    let a : left_of scale begin sent ≤ 13500 = on_pixel scale begin sent.moment within is in
-    let b : pixel scale begin sent.end ≤ 13500 = on_pixel scale begin sent.end within is in
-    let c : left_of scale begin sent + (right_of scale begin sent - left_of scale begin sent) ≤ 13510 =
-    all_of (left_of scale begin sent) (pixel scale begin sent.end) 13500 a b in
+word_hides_none rise within table survey counts row begin sent is =
+    let page : Page = page_of table survey counts in
+    let a : left_of page begin sent ≤ 13500 = on_pixel page begin sent.moment within is in
+    let b : pixel page begin sent.end ≤ 13500 = on_pixel page begin sent.end within is in
+    let c : left_of page begin sent + (right_of page begin sent - left_of page begin sent) ≤ 13510 =
+    all_of (left_of page begin sent) (pixel page begin sent.end) 13500 a b in
     omega (arith, c)

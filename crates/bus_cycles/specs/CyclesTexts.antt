@@ -22,30 +22,25 @@ use Rattle.bus_shapes.specs.Measures.{left_margin, right_margin}
 use Rattle.bus_shapes.specs.Windows.{Window}
 use Rattle.bus_cycles.specs.Rows.{Extent, cycle_of, rows}
 use Rattle.bus_cycles.specs.Sents.{shown}
-use Rattle.bus_cycles.specs.RowTexts.{pixel, rows_text, top_of}
+use Rattle.bus_cycles.specs.Pages.{Page, bottom_of, page_of, top_of}
+use Rattle.bus_cycles.specs.Loads.{loads_text}
+use Rattle.bus_cycles.specs.RowTexts.{line_of, pixel, rows_text}
 use Rattle.bus_cycles.specs.Surveys.{Survey, breach_in, counts, is_drawn, most_rows, survey_of}
 use Rattle.bus_cycles.specs.Measures.{before_mark, behind_mark, breach_below, breach_box_left, breach_height, breach_left, breach_over}
 use Rattle.bus_cycles.specs.Measures.{breach_width, breach_words_left, even_left, foot_height, garbled_left, garbled_words_left}
-use Rattle.bus_cycles.specs.Measures.{least_words_line, legend_height, legend_top, legend_width, line_width, long_foot, long_picture}
-use Rattle.bus_cycles.specs.Measures.{lower_foot, lower_top, lower_words, mark_words_line, marks_top, odd_left, plot_left, plot_width}
-use Rattle.bus_cycles.specs.Measures.{row_line, rows_line, sent_words_left, tick_height, ticks_foot, upper_foot, upper_ticks, upper_words}
+use Rattle.bus_cycles.specs.Measures.{least_words_line, legend_height, legend_top, legend_width}
+use Rattle.bus_cycles.specs.Measures.{line_width, load_right, long_foot, long_picture}
+use Rattle.bus_cycles.specs.Measures.{lower_foot, lower_top, lower_words, mark_words_line, marks_top, odd_left}
+use Rattle.bus_cycles.specs.Measures.{rows_line, sent_words_left, tick_height, ticks_foot, upper_foot, upper_ticks, upper_words}
 
 -- ---- the plot
--- The moments behind the beginning of a row, as far as the longest that is drawn has some, and as the breach needs some.
-abbrev pub scale_of : Survey → Scale
-scale_of survey = record { from = 0; to = survey.longest; left = plot_left; width = plot_width }
-
--- The lower edge of the rows.
-abbrev pub bottom_of : Survey → ℕ
-bottom_of survey = top_of (min survey.count most_rows)
-
 -- Whether the rows reach so far down that axes stand below them too.
-abbrev pub is_long : Survey → Bool
-is_long survey = nat_lt long_picture (bottom_of survey)
+abbrev pub is_long : Page → Bool
+is_long page = nat_lt long_picture (bottom_of page)
 
 -- The height of the picture.
-abbrev pub height_of : Survey → ℕ
-height_of survey = bottom_of survey + (if is_long survey then long_foot else foot_height)
+abbrev pub height_of : Page → ℕ
+height_of page = bottom_of page + (if is_long page then long_foot else foot_height)
 
 -- ---- words above the rows
 -- Where the next row begins that isn't drawn.
@@ -87,12 +82,12 @@ abbrev pub axes_below : Scale → ℕ → List ℕ
 axes_below scale bottom = axis_text scale (lower_axis_below bottom) ++ axis_text scale (upper_axis_below bottom)
 
 -- They stand there where the rows reach far down.
-abbrev pub below_text : Survey → List ℕ
-below_text survey = if is_long survey then axes_below (scale_of survey) (bottom_of survey) else []
+abbrev pub below_text : Page → List ℕ
+below_text page = if is_long page then axes_below page.scale (bottom_of page) else []
 
 -- Both axes above the rows.
-abbrev pub axes_text : Survey → List ℕ
-axes_text survey = axis_text (scale_of survey) upper_axis ++ axis_text (scale_of survey) (lower_axis_to (bottom_of survey))
+abbrev pub axes_text : Page → List ℕ
+axes_text page = axis_text page.scale upper_axis ++ axis_text page.scale (lower_axis_to (bottom_of page))
 
 -- ---- the legend
 -- A box of the legend, this wide.
@@ -110,60 +105,60 @@ legend_text =
     ++ words_text Small breach_words_left rows_line (codes "first breach")
 
 -- What stands above the rows.
-abbrev pub above_text : Survey → List ℕ
-above_text survey =
-    words_text Small left_margin rows_line (row_words survey) ++ legend_text ++ axes_text survey
+abbrev pub above_text : Page → Survey → List ℕ
+above_text page survey =
+    words_text Small left_margin rows_line (row_words survey) ++ legend_text ++ axes_text page
     ++ words_text Small left_margin mark_words_line (codes "cycle, its begin")
-    ++ words_text Detail right_margin lower_words (codes "length")
+    ++ words_text Detail right_margin lower_words (codes "length") ++ words_text Detail load_right lower_words (codes "load")
 
 -- ---- marks
 -- A line over all rows, at a distance from their beginning.
-abbrev pub mark_line : Survey → ℕ → Area
-mark_line survey t =
-    record { left = place (scale_of survey) t; top = marks_top; width = line_width; height = bottom_of survey - marks_top }
+abbrev pub mark_line : Page → ℕ → Area
+mark_line page t =
+    record { left = place page.scale t; top = marks_top; width = line_width; height = bottom_of page - marks_top }
 
 -- Its words, on this line above the rows.
 abbrev pub mark_words : Class → ℕ → ℕ → List ℕ → ℕ → List ℕ
 mark_words class left line name t = words_text class left line (name ++ decimal t)
 
 -- A mark, with its words behind it, unless it lies behind all rows.
-abbrev pub mark_text : Survey → List ℕ → ℕ → List ℕ
-mark_text survey name t =
-    if nat_le t survey.longest
-    then box_text Mark (mark_line survey t) ++ mark_words Small (place (scale_of survey) t + behind_mark) mark_words_line name t
+abbrev pub mark_text : Page → List ℕ → ℕ → List ℕ
+mark_text page name t =
+    if nat_le t page.scale.to
+    then box_text Mark (mark_line page t) ++ mark_words Small (place page.scale t + behind_mark) mark_words_line name t
     else []
 
 -- The mark of the least cycle. Its words stand before it, and a line lower, since it may be near that of the synchronization gap.
-abbrev pub least_text : Survey → ℕ → List ℕ
-least_text survey t =
-    if nat_le t survey.longest
-    then box_text Mark (mark_line survey t)
-    ++ mark_words Detail (place (scale_of survey) t - before_mark) least_words_line (codes "least ") t
+abbrev pub least_text : Page → ℕ → List ℕ
+least_text page t =
+    if nat_le t page.scale.to
+    then box_text Mark (mark_line page t)
+    ++ mark_words Detail (place page.scale t - before_mark) least_words_line (codes "least ") t
     else []
 
 -- The mark of the transmit interval.
-abbrev pub interval_mark : Survey → Table → List ℕ
-interval_mark survey table = mark_text survey (codes "TI ") table.ti
+abbrev pub interval_mark : Page → Table → List ℕ
+interval_mark page table = mark_text page (codes "TI ") table.ti
 
 -- The marks of the synchronization gap and of the least cycle.
-abbrev pub least_marks : Survey → Table → ℕ → List ℕ
-least_marks survey table least = mark_text survey (codes "SG ") table.sg ++ least_text survey least
+abbrev pub least_marks : Page → Table → ℕ → List ℕ
+least_marks page table least = mark_text page (codes "SG ") table.sg ++ least_text page least
 
 -- The marks of an accepted table: in aperiodic mode the synchronization gap, the least cycle and the greatest, else the interval.
-abbrev pub accepted_marks : Survey → Table → Mode → ℕ → ℕ → List ℕ
-accepted_marks survey table Aperiodic least most = least_marks survey table least ++ mark_text survey (codes "most ") most
-accepted_marks survey table Periodic least most = interval_mark survey table
+abbrev pub accepted_marks : Page → Table → Mode → ℕ → ℕ → List ℕ
+accepted_marks page table Aperiodic least most = least_marks page table least ++ mark_text page (codes "most ") most
+accepted_marks page table Periodic least most = interval_mark page table
 
 -- The marks of a table whose least cycle is too short: its interval too.
-abbrev pub short_marks : Survey → Table → ℕ → List ℕ
-short_marks survey table least = least_marks survey table least ++ interval_mark survey table
+abbrev pub short_marks : Page → Table → ℕ → List ℕ
+short_marks page table least = least_marks page table least ++ interval_mark page table
 
 -- The marks of a table with this verdict.
-abbrev pub marks_text : Survey → Table → TableVerdict → List ℕ
-marks_text survey table (Accept mode least most) = accepted_marks survey table mode least most
-marks_text survey table (ShortCycle least ti) = short_marks survey table least
-marks_text survey table (SmallGap terminal gap needed) = interval_mark survey table
-marks_text survey table (NoSync terminal gap needed) = interval_mark survey table
+abbrev pub marks_text : Page → Table → TableVerdict → List ℕ
+marks_text page table (Accept mode least most) = accepted_marks page table mode least most
+marks_text page table (ShortCycle least ti) = short_marks page table least
+marks_text page table (SmallGap terminal gap needed) = interval_mark page table
+marks_text page table (NoSync terminal gap needed) = interval_mark page table
 
 -- ---- the first breach
 -- A part of the line of a breach, with this upper edge.
@@ -171,40 +166,45 @@ abbrev pub breach_part : ℕ → ℕ → Area
 breach_part left top = record { left = left; top = top; width = breach_width; height = breach_height }
 
 -- The part above the boxes of a row.
-abbrev pub part_above : ℕ → ℕ → Area
-part_above left row = breach_part left (top_of row - breach_over)
+abbrev pub part_above : Page → ℕ → ℕ → Area
+part_above page left row = breach_part left (top_of page row - breach_over)
 
 -- The part below the boxes of a row.
-abbrev pub part_below : ℕ → ℕ → Area
-part_below left row = breach_part left (top_of row + breach_below)
+abbrev pub part_below : Page → ℕ → ℕ → Area
+part_below page left row = breach_part left (top_of page row + page.row_height - breach_below)
 
 -- The breach at a place in a row: both parts of its line, and a word behind all boxes.
-abbrev pub breach_at : ℕ → ℕ → List ℕ
-breach_at left row =
-    box_text Breach (part_above left row) ++ box_text Breach (part_below left row)
-    ++ words_text Note breach_left (top_of row + row_line) (codes "breach")
+abbrev pub breach_at : Page → ℕ → ℕ → List ℕ
+breach_at page left row =
+    box_text Breach (part_above page left row) ++ box_text Breach (part_below page left row)
+    ++ words_text Note breach_left (line_of page row) (codes "breach")
 
 -- The breach at this moment, in this row where it is drawn, on a whole pixel as the boxes are.
-abbrev pub breach_in_row : Scale → ℕ → Extent → List ℕ
-breach_in_row scale moment row = if is_drawn row.place then breach_at (pixel scale row.begin moment) row.place else []
+abbrev pub breach_in_row : Page → ℕ → Extent → List ℕ
+breach_in_row page moment row = if is_drawn row.place then breach_at page (pixel page row.begin moment) row.place else []
 
 -- The breach at this moment, if there is one, in the row that is marked, if one is.
-abbrev pub breach_text : Scale → Option ℕ → Option Extent → List ℕ
-breach_text scale None marked = []
-breach_text scale (Some moment) None = []
-breach_text scale (Some moment) (Some row) = breach_in_row scale moment row
+abbrev pub breach_text : Page → Option ℕ → Option Extent → List ℕ
+breach_text page None marked = []
+breach_text page (Some moment) None = []
+breach_text page (Some moment) (Some row) = breach_in_row page moment row
 
 -- ---- the whole
--- The picture of a window of a trace on a table, given what is told of its rows.
-abbrev pub text_of : Survey → Window → TableVerdict → AuditAnswer → Table → Recording → List ℕ
-text_of survey window verdict answer table trace =
-    frame_text (height_of survey) verdict answer table (counts window trace)
-    ++ above_text survey
-    ++ rows_text (scale_of survey) (rows table window trace.list)
-    ++ marks_text survey table verdict ++ below_text survey
-    ++ breach_text (scale_of survey) (breach_in window answer) survey.marked ++ tail_text
+-- The picture of a window of a trace on a table, given what is told of its rows, and what these go by.
+abbrev pub text_of : Page → Survey → Window → TableVerdict → AuditAnswer → Table → Recording → List ℕ
+text_of page survey window verdict answer table trace =
+    frame_text (height_of page) verdict answer table (counts window trace)
+    ++ above_text page survey
+    ++ rows_text page (rows table window trace.list) ++ loads_text page trace.list (rows table window trace.list)
+    ++ marks_text page table verdict ++ below_text page
+    ++ breach_text page (breach_in window answer) survey.marked ++ tail_text
+
+-- What is told of the rows of a window of a trace.
+abbrev pub survey_in : Window → AuditAnswer → Table → Recording → Survey
+survey_in window answer table trace = survey_of (cycle_of table) (breach_in window answer) (shown window trace.list)
 
 -- The picture of a window of a trace on a table.
 unfoldable pub cycles_text : Window → TableVerdict → AuditAnswer → Table → Recording → List ℕ
 cycles_text window verdict answer table trace =
-    text_of (survey_of (cycle_of table) (breach_in window answer) (shown window trace.list)) window verdict answer table trace
+    text_of (page_of table (survey_in window answer table trace) (counts window trace)) (survey_in window answer table trace) window verdict
+    answer table trace

@@ -1,22 +1,25 @@
 -- What follows of the definitions. The contracts of `laws` say that each of these holds.
-use Rattle.std.specs.Prelude.{◌≡◌, ◌↔◌, ℕ, ◌+◌, ◌-◌, ◌<◌, ◌≤◌, Bool, true, false, not, IsTrue, List, [], ◌∷◌, ◌++◌, length}
+use Rattle.std.specs.Prelude.{◌≡◌, ◌≢◌, ◌⊎◌, ◌↔◌, ℕ, ◌+◌, ◌-◌, ◌<◌, ◌≤◌, Bool, true, false, not, IsTrue, List, [], ◌∷◌, ◌++◌, length}
 use Rattle.std.specs.Prelude.{slice_get, filter, Option, Some, if◌then◌else◌, ⊤}
 use Rattle.std.specs.List.{AllByRecursion, count_by, flat_map, sum_by}
 use Rattle.bus_strings.specs.Members.{In}
 use Rattle.bus_strings.specs.Messages.{Entry}
 use Rattle.bus_strings.specs.Transmissions.{garbled}
 use Rattle.bus_table.specs.declared.mode.Mode.TheVariants.{Aperiodic, Periodic}
-use Rattle.bus_table.specs.Tables.{Table}
+use Rattle.bus_table.specs.Tables.{Sender, Table}
+use Rattle.bus_table.specs.Turns.{turn_order}
 use Rattle.bus_table.specs.Valid.{is_valid}
 use Rattle.bus_trace.specs.Traces.{Recording, IsTrace}
 use Rattle.bus_shapes.specs.declared.class.Class.TheVariants.{Garbled}
 use Rattle.bus_shapes.specs.declared.sent.Sent.{Sent}
-use Rattle.bus_shapes.specs.declared.scale.Scale.{Scale}
+use Rattle.bus_shapes.specs.declared.area.Area.{Area}
+use Rattle.bus_shapes.specs.declared.counts.Counts.{Counts}
 use Rattle.bus_shapes.specs.Scales.{IsScale}
 use Rattle.bus_shapes.specs.SendingLaws.{IsToldOf}
 use Rattle.bus_shapes.specs.Windows.{Window}
-use Rattle.bus_cycles.specs.CyclesTexts.{part_above, part_below, scale_of}
+use Rattle.bus_cycles.specs.CyclesTexts.{part_above, part_below}
 use Rattle.bus_cycles.specs.Measures.{breach_left}
+use Rattle.bus_cycles.specs.Pages.{Page, page_of, scale_of}
 use Rattle.bus_cycles.specs.Rows.{Extent, Row, cycle_of, extent_of, interval_of, rows, takes}
 use Rattle.bus_cycles.specs.RowTexts.{area_of, boxes, class_of, is_due, is_left_out, left_of, right_of, sent_text, shade, where_drawn}
 use Rattle.bus_cycles.specs.Sents.{shown}
@@ -30,8 +33,8 @@ RowsAreAPartition =
 -- Each transmission of a row is an entry of the list, and is hatched exactly where that is garbled.
 abbrev pub HatchedAreGarbled : Type 0
 HatchedAreGarbled =
-    (table : Table) (window : Window) (list : List Entry) (row : Row) (sent : Sent) → In row (rows table window list) → In sent row.sents
-    → IsToldOf list sent × ((class_of (shade sent) ≡ Garbled) ↔ (garbled list sent.at ≡ true))
+    (page : Page) (table : Table) (window : Window) (list : List Entry) (row : Row) (sent : Sent) → In row (rows table window list)
+    → In sent row.sents → IsToldOf list sent × ((class_of (shade page sent) ≡ Garbled) ↔ (garbled list sent.at ≡ true))
 
 -- In periodic mode each transmission of a row begins in the interval that begins with the row.
 abbrev pub RowsAreIntervals : Type 0
@@ -74,49 +77,84 @@ RowsAscend =
 -- A walk draws hatched boxes exactly where it is that for what is garbled, so that all of these are drawn after all others.
 abbrev pub HatchedAreDrawnLast : Type 0
 HatchedAreDrawnLast =
-    (garbled : Bool) (sent : Sent) → IsTrue (is_due garbled sent) → (class_of (shade sent) ≡ Garbled) ↔ (garbled ≡ true)
+    (page : Page) (garbled : Bool) (sent : Sent) → IsTrue (is_due garbled sent) → (class_of (shade page sent) ≡ Garbled) ↔ (garbled ≡ true)
 
 -- Each transmission is due in exactly one of the two walks.
 abbrev pub EachIsDueOnce : Type 0
 EachIsDueOnce = (sent : Sent) → is_due true sent ≡ not (is_due false sent)
 
 -- The transmissions that aren't left out of a row that has these.
-abbrev pub kept : Scale → ℕ → List Sent → List Sent → List Sent
-kept scale begin earlier [] = []
-kept scale begin earlier (sent ∷ sents) =
-    if is_left_out scale begin earlier sent
-    then kept scale begin (earlier ++ sent ∷ []) sents
-    else sent ∷ kept scale begin (earlier ++ sent ∷ []) sents
+abbrev pub kept : Page → ℕ → List Sent → List Sent → List Sent
+kept page begin earlier [] = []
+kept page begin earlier (sent ∷ sents) =
+    if is_left_out page begin earlier sent
+    then kept page begin (earlier ++ sent ∷ []) sents
+    else sent ∷ kept page begin (earlier ++ sent ∷ []) sents
 
 -- What is drawn of a transmission.
-abbrev pub drawing_of : Scale → ℕ → ℕ → Sent → List ℕ
-drawing_of scale row begin sent = where_drawn row (sent_text (area_of scale row begin sent) sent)
+abbrev pub drawing_of : Page → ℕ → ℕ → Sent → List ℕ
+drawing_of page row begin sent = where_drawn row (sent_text page (area_of page row begin sent) sent)
 
 -- A walk draws of a row exactly those that aren't left out and are due in it, one behind the other.
 abbrev pub KeptAreDrawn : Type 0
 KeptAreDrawn =
-    (scale : Scale) (garbled : Bool) (row begin : ℕ) (sents : List Sent)
-    → boxes scale garbled row begin [] sents ≡ flat_map (drawing_of scale row begin) (filter (is_due garbled) (kept scale begin [] sents))
+    (page : Page) (garbled : Bool) (row begin : ℕ) (sents : List Sent)
+    → boxes page garbled row begin [] sents ≡ flat_map (drawing_of page row begin) (filter (is_due garbled) (kept page begin [] sents))
+
+-- Two senders that follow one another in turn order have different shades.
+abbrev pub NeighboursDiffer : Type 0
+NeighboursDiffer =
+    (table : Table) (survey : Survey) (counts : Counts) (k : ℕ) (a b : Sender) (one other : Sent) → IsTrue (is_valid table)
+    → slice_get (turn_order table) k ≡ Some a → slice_get (turn_order table) (k + 1) ≡ Some b
+    → one.terminal ≡ a.number → other.terminal ≡ b.number → one.garbled ≡ false → other.garbled ≡ false
+    → shade (page_of table survey counts) one ≢ shade (page_of table survey counts) other
+
+-- One area lies above another.
+abbrev pub LiesAbove : Area → Area → Type 0
+LiesAbove one other = one.top + one.height ≤ other.top
+
+-- Of any three transmissions of a list, one behind the other, that are garbled, no box meets another one of the same row.
+abbrev pub ThreeLieApart : Type 0
+ThreeLieApart =
+    (table : Table) (survey : Survey) (counts : Counts) (row begin : ℕ) (one other : Sent) → one.garbled ≡ true → other.garbled ≡ true
+    → one.at < other.at → other.at < one.at + 3
+    → LiesAbove (area_of (page_of table survey counts) row begin one) (area_of (page_of table survey counts) row begin other)
+    ⊎ LiesAbove (area_of (page_of table survey counts) row begin other) (area_of (page_of table survey counts) row begin one)
 
 -- The two parts of the line of a breach in a row lie above and below the box of each transmission of the row.
 abbrev pub BreachHidesNone : Type 0
 BreachHidesNone =
-    (scale : Scale) (row begin left : ℕ) (sent : Sent)
-    → ((part_above left row).top + (part_above left row).height ≤ (area_of scale row begin sent).top)
-    × ((area_of scale row begin sent).top + (area_of scale row begin sent).height ≤ (part_below left row).top)
+    (table : Table) (survey : Survey) (counts : Counts) (row begin left : ℕ) (sent : Sent)
+    → LiesAbove (part_above (page_of table survey counts) left row) (area_of (page_of table survey counts) row begin sent)
+    × LiesAbove (area_of (page_of table survey counts) row begin sent) (part_below (page_of table survey counts) left row)
 
 -- The word of a breach begins behind the box of each transmission of each row.
 abbrev pub BreachWordHidesNone : Type 0
 BreachWordHidesNone =
-    (survey : Survey) (row begin : ℕ) (sent : Sent) → IsScale (scale_of survey)
-    → (area_of (scale_of survey) row begin sent).left + (area_of (scale_of survey) row begin sent).width ≤ breach_left
+    (table : Table) (survey : Survey) (counts : Counts) (row begin : ℕ) (sent : Sent) → IsScale (scale_of survey)
+    → (area_of (page_of table survey counts) row begin sent).left + (area_of (page_of table survey counts) row begin sent).width
+    ≤ breach_left
 
 -- No row is shorter than the least length that is told, or longer than the greatest.
 abbrev pub LengthsAreOfRows : Type 0
 LengthsAreOfRows =
     (table : Table) (window : Window) (list : List Entry) (breach : Option ℕ) (row : Row) → In row (rows table window list)
-    → ((survey_of (cycle_of table) breach (shown window list)).least ≤ length_of (extent_of row))
-    × (length_of (extent_of row) ≤ (survey_of (cycle_of table) breach (shown window list)).most)
+    → ((survey_of (cycle_of table) breach (shown window list)).least ≤ length_of (cycle_of table).lift (extent_of row))
+    × (length_of (cycle_of table).lift (extent_of row) ≤ (survey_of (cycle_of table) breach (shown window list)).most)
+
+-- A row of a window has this length.
+pub record IsLengthOfRow (table : Table) (window : Window) (list : List Entry) (length : ℕ) : Type 0 where
+  pub row : Row
+  pub one : In row (rows table window list)
+  pub long : length_of (cycle_of table).lift (extent_of row) ≡ length
+
+-- Where there are rows, one has the least length that is told, and one has the greatest.
+abbrev pub RowsHaveLengths : Type 0
+RowsHaveLengths =
+    (table : Table) (window : Window) (list : List Entry) (breach : Option ℕ)
+    → 0 < (survey_of (cycle_of table) breach (shown window list)).count
+    → IsLengthOfRow table window list (survey_of (cycle_of table) breach (shown window list)).least
+    × IsLengthOfRow table window list (survey_of (cycle_of table) breach (shown window list)).most
 
 -- How many transmissions of a row are garbled.
 abbrev pub garbled_of : Row → ℕ
@@ -131,22 +169,22 @@ CountsAreOfRows =
 
 -- A transmission is covered by an earlier one of its row, which isn't left out and has its shade: its box begins no later, and reaches as
 -- far.
-pub record IsCovered (scale : Scale) (begin : ℕ) (earlier : List Sent) (sent : Sent) : Type 0 where
+pub record IsCovered (page : Page) (begin : ℕ) (earlier : List Sent) (sent : Sent) : Type 0 where
   pub front : List Sent
   pub other : Sent
   pub back : List Sent
   pub earlier_are : earlier ≡ front ++ other ∷ back
-  pub stays : is_left_out scale begin front other ≡ false
-  pub same : shade other ≡ shade sent
-  pub left : left_of scale begin other ≤ left_of scale begin sent
-  pub right : right_of scale begin sent ≤ right_of scale begin other
+  pub stays : is_left_out page begin front other ≡ false
+  pub same : shade page other ≡ shade page sent
+  pub left : left_of page begin other ≤ left_of page begin sent
+  pub right : right_of page begin sent ≤ right_of page begin other
 
 -- Each transmission of a row that is left out is covered.
 abbrev pub LeftOutAreCovered : Type 0
 LeftOutAreCovered =
-    (table : Table) (window : Window) (trace : Recording) (scale : Scale) (row : Row) (earlier later : List Sent) (sent : Sent)
-    → IsTrace trace → IsScale scale → In row (rows table window trace.list) → row.sents ≡ earlier ++ sent ∷ later
-    → is_left_out scale row.begin earlier sent ≡ true → IsCovered scale row.begin earlier sent
+    (table : Table) (window : Window) (trace : Recording) (page : Page) (row : Row) (earlier later : List Sent) (sent : Sent)
+    → IsTrace trace → IsScale page.scale → In row (rows table window trace.list) → row.sents ≡ earlier ++ sent ∷ later
+    → is_left_out page row.begin earlier sent ≡ true → IsCovered page row.begin earlier sent
 
 -- What is told of the rows of a window with a breach at this moment.
 abbrev pub survey_with : Table → Window → List Entry → ℕ → Survey
@@ -158,8 +196,8 @@ pub record IsAtItsMoment (table : Table) (window : Window) (list : List Entry) (
   pub row : Row
   pub one : In row (rows table window list)
   pub extent_is : extent ≡ extent_of row
-  pub begun : extent.begin ≤ moment
-  pub held : moment - extent.begin ≤ (scale_of (survey_with table window list moment)).to
+  pub begun : extent.begin ≤ moment + (cycle_of table).lift
+  pub held : moment + (cycle_of table).lift - extent.begin ≤ (scale_of (survey_with table window list moment)).to
   pub within : table.mode ≡ Periodic → moment < extent.begin + table.ti
 
 -- A breach that is drawn stands at its moment.

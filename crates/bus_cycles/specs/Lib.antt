@@ -2,7 +2,10 @@ pub mod Measures
 pub mod Sents
 pub mod Rows
 pub mod Surveys
+pub mod Lanes
+pub mod Pages
 pub mod RowTexts
+pub mod Loads
 pub mod CyclesTexts
 pub mod Laws
 pub mod inside

@@ -13,6 +13,10 @@ plot_width = 12000
 abbrev pub begins_right : ℕ
 begins_right = 1440
 
+-- Where the loads of rows end.
+abbrev pub load_right : ℕ
+load_right = 14700
+
 -- The line of the numbers of microseconds.
 abbrev pub upper_words : ℕ
 upper_words = 830
@@ -89,37 +93,29 @@ long_foot = 420
 abbrev pub rows_top : ℕ
 rows_top = 1310
 
--- The height of a row.
-abbrev pub row_height : ℕ
-row_height = 140
+-- The height of a row in a picture without garbled transmissions.
+abbrev pub plain_row : ℕ
+plain_row = 140
 
--- How far below its upper edge the words of a row stand.
-abbrev pub row_line : ℕ
-row_line = 105
+-- The height of a row in a picture with some, in which three of them have room for their numbers one below the other.
+abbrev pub split_row : ℕ
+split_row = 320
 
--- How far below the upper edge of its row a box begins.
+-- How far from the upper and from the lower edge of its row a box stays.
 abbrev pub box_below : ℕ
 box_below = 10
 
--- The height of a box.
-abbrev pub box_height : ℕ
-box_height = 120
+-- How many slots a row has for garbled transmissions, one below the other.
+abbrev pub slots : ℕ
+slots = 3
 
--- How far below that edge the box of a garbled transmission of an odd terminal begins.
-abbrev pub odd_below : ℕ
-odd_below = 16
+-- How far from the upper and from the lower edge of its slot a box stays.
+abbrev pub slot_below : ℕ
+slot_below = 6
 
--- How far below that edge that of an even terminal begins.
-abbrev pub even_below : ℕ
-even_below = 76
-
--- The height of such a box.
-abbrev pub garbled_height : ℕ
-garbled_height = 48
-
--- How far below the upper edge of its box the number of a terminal stands.
-abbrev pub number_line : ℕ
-number_line = 95
+-- How far below its middle the line of words in the middle of a row or of a box stands.
+abbrev pub middle_line : ℕ
+middle_line = 35
 
 -- The room of a number of one digit.
 abbrev pub short_number : ℕ
@@ -145,9 +141,9 @@ breach_height = 40
 abbrev pub breach_over : ℕ
 breach_over = 30
 
--- How far below that edge its second part begins.
+-- How far above the lower edge of its row its second part begins.
 abbrev pub breach_below : ℕ
-breach_below = 130
+breach_below = 10
 
 -- Where the word of a breach begins: behind all rows.
 abbrev pub breach_left : ℕ

@@ -12,19 +12,36 @@ pub use Rattle.bus_cycles.specs.declared.cycle.Cycle.{Cycle}
 pub use Rattle.bus_cycles.specs.declared.cycle.Extent.{Extent}
 
 -- ---- where rows begin
+-- How long before the settled start the first row may begin: in aperiodic mode the bus is quiet then for a synchronization gap, which
+-- belongs to the first cycle. The moments at which rows begin are counted from there.
+abbrev pub lift_of : Mode → ℕ → ℕ
+lift_of Aperiodic sg = sg
+lift_of Periodic sg = 0
+
 -- What of a table tells where rows begin: `lead` is how long before its first transmission a cycle begins, at most.
 abbrev pub cycle_of : Table → Cycle
-cycle_of table = record { mode = table.mode; ti = table.ti; sg = table.sg; lead = table.sg + greatest_gap table.senders }
+cycle_of table = record {
+  mode = table.mode;
+  ti = table.ti;
+  sg = table.sg;
+  lead = table.sg + greatest_gap table.senders;
+  lift = lift_of table.mode table.sg;
+}
 
 -- The moment at which the interval began that holds a moment.
 abbrev pub interval_of : ℕ → ℕ → ℕ
 interval_of ti t = t / ti * ti
 
+-- From where on the earlier transmissions have ended, counted as rows are: where there is none, from before the settled start.
+abbrev pub ended_from : Cycle → Sent → ℕ
+ended_from cycle sent = if sent.before == 0 then 0 else sent.before + cycle.lift
+
 -- The moment at which a row begins of which this is the first transmission: with its interval in periodic mode, and else as soon as the
 -- earlier transmissions have ended, but no more than the lead before it.
 abbrev pub begin_in : Mode → Cycle → Sent → ℕ
-begin_in Periodic cycle sent = interval_of cycle.ti sent.moment
-begin_in Aperiodic cycle sent = min sent.moment (max sent.before (sent.moment - cycle.lead))
+begin_in Periodic cycle sent = interval_of cycle.ti sent.moment + cycle.lift
+begin_in Aperiodic cycle sent =
+    min (sent.moment + cycle.lift) (max (ended_from cycle sent) (sent.moment + cycle.lift - cycle.lead))
 
 -- The same, by the mode of the cycle.
 abbrev pub begin_of : Cycle → Sent → ℕ
@@ -33,7 +50,7 @@ begin_of cycle sent = begin_in cycle.mode cycle sent
 -- Whether a transmission begins a new row behind one that began at this moment: where it is in another interval in periodic mode, and else
 -- where it comes a synchronization gap or more behind the end of all earlier ones.
 abbrev pub is_new_in : Mode → Cycle → ℕ → Sent → Bool
-is_new_in Periodic cycle begin sent = not (interval_of cycle.ti sent.moment == begin)
+is_new_in Periodic cycle begin sent = not (interval_of cycle.ti sent.moment + cycle.lift == begin)
 is_new_in Aperiodic cycle begin sent = nat_le cycle.sg (sent.moment - sent.before)
 
 -- The same, by the mode of the cycle.
@@ -41,7 +58,7 @@ abbrev pub is_new : Cycle → ℕ → Sent → Bool
 is_new cycle begin sent = is_new_in cycle.mode cycle begin sent
 
 -- ---- rows
--- A row: which one it is, from 0, the moment at which it begins, and its transmissions in order.
+-- A row: which one it is, from 0, the moment at which it begins, counted from before the settled start, and its transmissions in order.
 pub record Row : Type 0 where
   pub place : ℕ
   pub begin : ℕ
@@ -82,8 +99,8 @@ extent_of row = record { place = row.place; begin = row.begin; end = end_of_all 
 
 -- Whether a row takes a moment: in periodic mode one of the interval that begins with it, and else one that isn't before its beginning.
 abbrev pub takes_in : Mode → Cycle → Extent → ℕ → Bool
-takes_in Periodic cycle row t = interval_of cycle.ti t == row.begin
-takes_in Aperiodic cycle row t = nat_le row.begin t
+takes_in Periodic cycle row t = interval_of cycle.ti t + cycle.lift == row.begin
+takes_in Aperiodic cycle row t = nat_le row.begin (t + cycle.lift)
 
 -- The same, by the mode of the cycle.
 abbrev pub takes : Cycle → Extent → ℕ → Bool

@@ -34,52 +34,53 @@ takes_breach cycle (Some moment) row = takes cycle row moment
 abbrev pub nothing : Cycle → Survey
 nothing cycle = record { count = 0; longest = cycle.ti; next = None; marked = None; least = 0; most = 0 }
 
--- With one row more: how long the longest is that is drawn.
-abbrev pub longest_with : ℕ → Extent → ℕ
-longest_with longest row = if is_drawn row.place then max longest (row.end - row.begin) else longest
+-- The length of a row, from the moment at which it begins until the last of its transmissions has ended, given from how long before the
+-- settled start the former is counted.
+abbrev pub length_of : ℕ → Extent → ℕ
+length_of lift row = row.end + lift - row.begin
 
--- With one row more: where the first begins that isn't drawn.
-abbrev pub next_with : Option ℕ → Extent → Option ℕ
-next_with next row = if row.place == most_rows then Some row.begin else next
+-- With one row more: how long the longest is that is drawn.
+abbrev pub longest_with : ℕ → ℕ → Extent → ℕ
+longest_with lift longest row = if is_drawn row.place then max longest (length_of lift row) else longest
+
+-- With one row more: where the first begins that isn't drawn, as a moment.
+abbrev pub next_with : ℕ → Option ℕ → Extent → Option ℕ
+next_with lift next row = if row.place == most_rows then Some (row.begin - lift) else next
 
 -- With one row more: which is the last that takes the breach.
 abbrev pub marked_with : Cycle → Option ℕ → Option Extent → Extent → Option Extent
 marked_with cycle breach marked row = if takes_breach cycle breach row then Some row else marked
 
--- The length of a row, from the moment at which it begins until the last of its transmissions has ended.
-abbrev pub length_of : Extent → ℕ
-length_of row = row.end - row.begin
-
 -- With one row more, where these are before it: the least length.
-abbrev pub least_with : ℕ → ℕ → Extent → ℕ
-least_with count least row = if count == 0 then length_of row else min least (length_of row)
+abbrev pub least_with : ℕ → ℕ → ℕ → Extent → ℕ
+least_with lift count least row = if count == 0 then length_of lift row else min least (length_of lift row)
 
 -- With one row more: all that is told.
 abbrev pub with_row : Cycle → Option ℕ → Survey → Extent → Survey
 with_row cycle breach survey row = record {
   count = survey.count + 1;
-  longest = longest_with survey.longest row;
-  next = next_with survey.next row;
+  longest = longest_with cycle.lift survey.longest row;
+  next = next_with cycle.lift survey.next row;
   marked = marked_with cycle breach survey.marked row;
-  least = least_with survey.count survey.least row;
-  most = max survey.most (length_of row);
+  least = least_with cycle.lift survey.count survey.least row;
+  most = max survey.most (length_of cycle.lift row);
 }
 
 -- How far the breach is behind the beginning of its row, where that is drawn.
-abbrev pub reach_in : ℕ → Extent → ℕ
-reach_in moment row = if is_drawn row.place then moment - row.begin else 0
+abbrev pub reach_in : ℕ → ℕ → Extent → ℕ
+reach_in lift moment row = if is_drawn row.place then moment + lift - row.begin else 0
 
 -- How far the breach at this moment, if there is one, is behind the beginning of the row that is marked, if one is.
-abbrev pub reach_of : Option ℕ → Option Extent → ℕ
-reach_of None marked = 0
-reach_of (Some moment) None = 0
-reach_of (Some moment) (Some row) = reach_in moment row
+abbrev pub reach_of : ℕ → Option ℕ → Option Extent → ℕ
+reach_of lift None marked = 0
+reach_of lift (Some moment) None = 0
+reach_of lift (Some moment) (Some row) = reach_in lift moment row
 
 -- A picture is also as long as the breach needs, of which the row is known when all rows are told of.
-abbrev pub with_breach : Option ℕ → Survey → Survey
-with_breach breach survey = record {
+abbrev pub with_breach : ℕ → Option ℕ → Survey → Survey
+with_breach lift breach survey = record {
   count = survey.count;
-  longest = max survey.longest (reach_of breach survey.marked);
+  longest = max survey.longest (reach_of lift breach survey.marked);
   next = survey.next;
   marked = survey.marked;
   least = survey.least;
@@ -92,7 +93,7 @@ told_of cycle breach sents = fold (with_row cycle breach) (nothing cycle) (map e
 
 -- What is told of them, with the breach.
 abbrev pub survey_of : Cycle → Option ℕ → List Sent → Survey
-survey_of cycle breach sents = with_breach breach (told_of cycle breach sents)
+survey_of cycle breach sents = with_breach cycle.lift breach (told_of cycle breach sents)
 
 -- What is shown: the transmissions that begin in the window.
 abbrev pub counts : Window → Recording → Counts

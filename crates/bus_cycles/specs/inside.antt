@@ -1,3 +1,4 @@
 -- What the code keeps on its way: words that only contracts of private functions and proofs cite.
 pub mod Drawing
 pub mod Surveying
+pub mod Loading

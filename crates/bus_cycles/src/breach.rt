@@ -1,21 +1,21 @@
 //! The first breach in a picture.
-ghost use Rattle.std.specs.Prelude.{◌≡◌, ◌<◌, ◌≤◌};
+ghost use Rattle.std.specs.Prelude.{◌≡◌, ◌<◌, ◌≤◌, ◌^◌, IfSome};
 ghost use Rattle.bus_outer.specs.Texts.{Adds};
 ghost use Rattle.bus_shapes.specs.declared.class.Class.TheVariants.{Breach};
-ghost use Rattle.bus_shapes.specs.Scales.{IsScale};
 ghost use Rattle.bus_shapes.specs.Shapes.{box_text};
 ghost use Rattle.bus_cycles.specs.CyclesTexts as definition;
+ghost use Rattle.bus_cycles.specs.Pages.{IsPage};
 
-use crate::boxes::{pixel, top_of};
 use crate::cycle::Extent;
+use crate::page::Page;
 use crate::survey::MOST_ROWS;
 use bus_outer::{Sink, TextBuffer};
-use bus_shapes::{Area, Class, Scale, put_box, put_words};
+use bus_shapes::{Area, Class, put_box, put_words};
 
 /// A part of the line.
 fn put_part<K: Sink>(text: &mut TextBuffer, sink: &mut K, left: u64, top: u64)
     requires left { left < 2097152 }
-    requires top { top ≤ 71440 }
+    requires top { top ≤ 161620 }
     ensures { Adds K.held K.faults sink.old sink.new text.old text.new (box_text Breach (definition.breach_part left top)) }
 {
     let area = Area {
@@ -28,25 +28,27 @@ fn put_part<K: Sink>(text: &mut TextBuffer, sink: &mut K, left: u64, top: u64)
 }
 
 /// The line across its row, above and below the boxes, and the word behind them.
-fn put_at<K: Sink>(text: &mut TextBuffer, sink: &mut K, left: u64, row: u64)
+fn put_at<K: Sink>(text: &mut TextBuffer, sink: &mut K, page: &Page, left: u64, row: u64)
+    requires page { IsPage page.now }
     requires left { left < 2097152 }
     requires row { row ≤ 500 }
-    ensures { Adds K.held K.faults sink.old sink.new text.old text.new (definition.breach_at left row) }
+    ensures { Adds K.held K.faults sink.old sink.new text.old text.new (definition.breach_at page.now left row) }
 {
-    let top = top_of(row);
+    let top = page.top_of(row);
     put_part(text, sink, left, top - 30);
-    put_part(text, sink, left, top + 130);
-    put_words(text, sink, Class::Note, 13560, top + 105, b"breach");
+    put_part(text, sink, left, top + page.row_height - 10);
+    put_words(text, sink, Class::Note, 13560, page.line_of(row), b"breach");
 }
 
 /// The breach at this moment, in this row where it is drawn.
-fn put_in_row<K: Sink>(text: &mut TextBuffer, sink: &mut K, scale: &Scale, moment: u64, row: Extent)
-    requires { IsScale scale.now }
-    ensures { Adds K.held K.faults sink.old sink.new text.old text.new (definition.breach_in_row scale.now moment row) }
+fn put_in_row<K: Sink>(text: &mut TextBuffer, sink: &mut K, page: &Page, moment: u64, row: Extent)
+    requires page { IsPage page.now }
+    requires moment { moment ≤ 2 ^ 40 }
+    ensures { Adds K.held K.faults sink.old sink.new text.old text.new (definition.breach_in_row page.now moment row) }
 {
     if row.place < MOST_ROWS {
-        let left = pixel(scale, row.begin, moment);
-        put_at(text, sink, left, row.place);
+        let left = page.pixel(row.begin, moment);
+        put_at(text, sink, page, left, row.place);
     }
 }
 
@@ -54,16 +56,17 @@ fn put_in_row<K: Sink>(text: &mut TextBuffer, sink: &mut K, scale: &Scale, momen
 pub(crate) fn put_breach<K: Sink>(
     text: &mut TextBuffer,
     sink: &mut K,
-    scale: &Scale,
+    page: &Page,
     breach: Option<u64>,
     marked: Option<Extent>,
 )
-    requires { IsScale scale.now }
-    ensures { Adds K.held K.faults sink.old sink.new text.old text.new (definition.breach_text scale.now breach marked) }
+    requires page { IsPage page.now }
+    requires moment { IfSome breach (λ moment. moment ≤ 2 ^ 40) }
+    ensures { Adds K.held K.faults sink.old sink.new text.old text.new (definition.breach_text page.now breach marked) }
 {
     if let Some(moment) = breach {
         if let Some(row) = marked {
-            put_in_row(text, sink, scale, moment, row);
+            put_in_row(text, sink, page, moment, row);
         }
     }
 }

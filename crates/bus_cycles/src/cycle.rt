@@ -1,7 +1,8 @@
 //! Where the rows of a picture begin.
-ghost use Rattle.std.specs.Prelude.{◌≡◌, ◌<◌, ◌≤◌, ◌+◌};
+ghost use Rattle.std.specs.Prelude.{◌≡◌, ◌<◌, ◌≤◌, ◌+◌, ◌^◌};
 ghost use Rattle.bus_table.specs.Timers.{greatest_gap};
 ghost use Rattle.bus_cycles.specs.Rows as definition;
+ghost use Rattle.bus_cycles.specs.Sents.{IsSent};
 
 use bus_shapes::Sent;
 use bus_table::{Mode, Table};
@@ -17,6 +18,8 @@ pub(crate) struct Cycle {
     pub sg: u32,
     /// How long before its first transmission a cycle begins at most, in aperiodic mode.
     pub lead: u64,
+    /// How long before the settled start the first row may begin. The moments at which rows begin are counted from there.
+    pub lift: u32,
 }
 
 /// Where a row is.
@@ -24,7 +27,7 @@ pub(crate) struct Cycle {
 pub(crate) struct Extent {
     /// Which row it is, from 0.
     pub place: u64,
-    /// The moment at which it begins.
+    /// The moment at which it begins, counted from before the settled start.
     pub begin: u64,
     /// The moment at which all its transmissions have ended.
     pub end: u64,
@@ -44,10 +47,21 @@ fn greatest_gap(table: &Table) -> u32
 /// The moment at which the interval began that holds a moment.
 fn interval_of(ti: u32, t: u64) -> u64
     requires { 0 < ti }
-    ensures { result ≡ definition.interval_of ti t }
+    ensures value { result ≡ definition.interval_of ti t }
+    ensures within { result ≤ t }
 {
     let ti = u64::from(ti);
     t / ti * ti
+}
+
+/// How long before the settled start the first row may begin.
+fn lift_of(mode: Mode, sg: u32) -> u32
+    ensures { result ≡ definition.lift_of mode sg }
+{
+    match mode {
+        Mode::Aperiodic => sg,
+        Mode::Periodic => 0,
+    }
 }
 
 impl Cycle {
@@ -61,37 +75,63 @@ impl Cycle {
             ti: table.ti(),
             sg: table.sg(),
             lead: u64::from(table.sg()) + u64::from(greatest_gap(table)),
+            lift: lift_of(table.mode(), table.sg()),
+        }
+    }
+
+    /// A moment, counted as those are at which rows begin.
+    fn lifted(&self, t: u64) -> u64
+        requires { t ≤ 2 ^ 41 }
+        ensures { result ≡ t + self.now.lift }
+    {
+        t + u64::from(self.lift)
+    }
+
+    /// From where on the earlier transmissions have ended.
+    fn ended_from(&self, sent: &Sent) -> u64
+        requires { IsSent sent.now }
+        ensures { result ≡ definition.ended_from self.now sent.now }
+    {
+        if sent.before == 0 {
+            0
+        } else {
+            self.lifted(sent.before)
         }
     }
 
     /// The moment at which a row begins of which this is the first transmission.
     fn begin_of(&self, sent: &Sent) -> u64
-        requires { 0 < self.now.ti }
+        requires some { 0 < self.now.ti }
+        requires sent { IsSent sent.now }
         ensures { result ≡ definition.begin_of self.now sent.now }
     {
         match self.mode {
-            Mode::Periodic => interval_of(self.ti, sent.moment),
-            Mode::Aperiodic => sent
-                .moment
-                .min(sent.before.max(sent.moment.saturating_sub(self.lead))),
+            Mode::Periodic => interval_of(self.ti, sent.moment) + u64::from(self.lift),
+            Mode::Aperiodic => {
+                let moment = self.lifted(sent.moment);
+                moment.min(self.ended_from(sent).max(moment.saturating_sub(self.lead)))
+            }
         }
     }
 
     /// Whether a transmission begins a new row behind one that began at this moment.
     pub fn is_new(&self, begin: u64, sent: &Sent) -> bool
-        requires { 0 < self.now.ti }
+        requires some { 0 < self.now.ti }
+        requires sent { IsSent sent.now }
         ensures { result ≡ definition.is_new self.now begin sent.now }
     {
         match self.mode {
-            Mode::Periodic => interval_of(self.ti, sent.moment) != begin,
+            Mode::Periodic => interval_of(self.ti, sent.moment) + u64::from(self.lift) != begin,
             Mode::Aperiodic => sent.moment.saturating_sub(sent.before) >= u64::from(self.sg),
         }
     }
 
     /// The row that begins with a transmission.
     pub fn row_at(&self, place: u64, sent: &Sent) -> Extent
-        requires { 0 < self.now.ti }
-        ensures { result ≡ definition.extent_of (definition.row_at self.now place sent.now) }
+        requires some { 0 < self.now.ti }
+        requires sent { IsSent sent.now }
+        ensures value { result ≡ definition.extent_of (definition.row_at self.now place sent.now) }
+        ensures low { result.end ≤ 2 ^ 41 }
     {
         Extent {
             place,
@@ -102,12 +142,13 @@ impl Cycle {
 
     /// Whether a row takes a moment.
     pub fn takes(&self, row: Extent, t: u64) -> bool
-        requires { 0 < self.now.ti }
+        requires some { 0 < self.now.ti }
+        requires low { t ≤ 2 ^ 40 }
         ensures { result ≡ definition.takes self.now row t }
     {
         match self.mode {
-            Mode::Periodic => interval_of(self.ti, t) == row.begin,
-            Mode::Aperiodic => row.begin <= t,
+            Mode::Periodic => interval_of(self.ti, t) + u64::from(self.lift) == row.begin,
+            Mode::Aperiodic => row.begin <= self.lifted(t),
         }
     }
 }
@@ -115,6 +156,8 @@ impl Cycle {
 impl Extent {
     /// The row with one transmission more behind the others.
     pub fn with(self, sent: &Sent) -> Extent
+        requires sent { IsSent sent.now }
+        ensures low { self.end ≤ 2 ^ 41 → result.end ≤ 2 ^ 41 }
         ensures value { (row : definition.Row) → self ≡ definition.extent_of row
             → result ≡ definition.extent_of (definition.with_sent row sent.now) }
         ensures place { result.place ≡ self.place }

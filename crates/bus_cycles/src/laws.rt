@@ -1,8 +1,8 @@
 //! Laws of the definitions, each the contract of a function that does nothing.
 ghost use Rattle.bus_cycles.specs.Laws.{BreachHidesNone, BreachIsAtItsMoment, BreachWordHidesNone, CountsAreOfRows, EachIsDueOnce};
 ghost use Rattle.bus_cycles.specs.Laws.{HatchedAreDrawnLast, HatchedAreGarbled, KeptAreDrawn, LeftOutAreCovered, LengthsAreOfRows};
-ghost use Rattle.bus_cycles.specs.Laws.{RowsAreAPartition, RowsAreCycles, RowsAreIntervals, RowsAreNumbered, RowsAscend};
-ghost use Rattle.bus_cycles.specs.Laws.{TheLastRowIsMarked};
+ghost use Rattle.bus_cycles.specs.Laws.{NeighboursDiffer, RowsAreAPartition, RowsAreCycles, RowsAreIntervals, RowsAreNumbered};
+ghost use Rattle.bus_cycles.specs.Laws.{RowsAscend, RowsHaveLengths, TheLastRowIsMarked, ThreeLieApart};
 
 use bus_shapes::laws::places_keep_order;
 
@@ -83,6 +83,21 @@ pub fn breach_word_hides_none()
 /// No row is shorter than the least length that the words above the rows tell, or longer than the greatest.
 pub fn lengths_are_of_rows()
     ensures { LengthsAreOfRows }
+{}
+
+/// Where there are rows, one has the least length that the words above the rows tell, and one has the greatest.
+pub fn rows_have_lengths()
+    ensures { RowsHaveLengths }
+{}
+
+/// The boxes of two senders that follow one another in turn order have different shades.
+pub fn neighbours_differ()
+    ensures { NeighboursDiffer }
+{}
+
+/// Of any three transmissions of a list, one behind the other, that are garbled, no box meets another one of the same row.
+pub fn three_lie_apart()
+    ensures { ThreeLieApart }
 {}
 
 /// Where rows take the moment of the first breach, which the window has, one is marked, and none of them begins later.

@@ -4,15 +4,19 @@
 //! - [`laws`] has what follows of the definitions.
 //!
 //! The definitions are in `specs/`: `Sents` (the transmissions that begin in a window), `Rows` (where the rows begin, and which
-//! transmissions each has), `Surveys` (what is told of all rows before they are drawn), `RowTexts` (the text of a row) and
-//! `CyclesTexts` (the text of the picture). No call takes memory.
+//! transmissions each has), `Surveys` (what is told of all rows before they are drawn), `Lanes` (by which shades go), `Pages` (what all
+//! rows go by), `RowTexts` (the text of a row), `Loads` (how busy a row is) and `CyclesTexts` (the text of the picture). No call takes
+//! memory.
 #![tactic(auto)]
 
+mod areas;
 mod boxes;
 mod breach;
 mod counting;
 mod cycle;
 pub mod laws;
+mod load;
+mod page;
 mod plot;
 mod shown;
 mod survey;

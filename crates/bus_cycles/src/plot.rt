@@ -3,8 +3,9 @@ ghost use Rattle.std.specs.Prelude.{◌≡◌, ◌<◌, ◌≤◌, ◌++◌, ◌
 ghost use Rattle.bus_outer.specs.Texts.{Adds};
 ghost use Rattle.bus_shapes.specs.Scales.{IsScale};
 ghost use Rattle.bus_cycles.specs.CyclesTexts as definition;
+ghost use Rattle.bus_cycles.specs.Pages.{IsPage};
 
-use crate::boxes::top_of;
+use crate::page::Page;
 use crate::survey::{MOST_ROWS, Survey};
 use bus_outer::{Sink, TextBuffer};
 use bus_regime::TableVerdict;
@@ -13,41 +14,21 @@ use bus_shapes::{
 };
 use bus_table::{Mode, Table};
 
-/// The moments behind the beginning of a row, as far as the longest that is drawn has some, and as the breach needs some.
-pub(crate) fn scale_of(survey: &Survey) -> Scale
-    ensures { result ≡ definition.scale_of survey.now }
-{
-    Scale {
-        from: 0,
-        to: survey.longest,
-        left: 1500,
-        width: 12000,
-    }
-}
-
-/// The lower edge of the rows.
-pub(crate) fn bottom_of(survey: &Survey) -> u64
-    ensures value { result ≡ definition.bottom_of survey.now }
-    ensures least { 1310 ≤ result }
-    ensures most { result ≤ 71310 }
-{
-    top_of(survey.count.min(MOST_ROWS))
-}
-
 /// Whether the rows reach so far down that axes stand below them too.
-fn is_long(survey: &Survey) -> bool
-    ensures { result ≡ definition.is_long survey.now }
+fn is_long(page: &Page) -> bool
+    requires { IsPage page.now }
+    ensures { result ≡ definition.is_long page.now }
 {
-    bottom_of(survey) > 8000
+    page.bottom() > 8000
 }
 
 /// The height of the picture.
-pub(crate) fn height_of(survey: &Survey) -> u64
-    ensures value { result ≡ definition.height_of survey.now }
-    ensures low { result ≤ 71730 }
+pub(crate) fn height_of(page: &Page) -> u64
+    requires { IsPage page.now }
+    ensures { result ≡ definition.height_of page.now }
 {
-    let foot = if is_long(survey) { 420 } else { 100 };
-    bottom_of(survey) + foot
+    let foot = if is_long(page) { 420 } else { 100 };
+    page.bottom() + foot
 }
 
 /// Where the next row begins.
@@ -86,11 +67,10 @@ fn put_row_words<K: Sink>(text: &mut TextBuffer, sink: &mut K, survey: &Survey)
 }
 
 /// The axes.
-fn put_axes<K: Sink>(text: &mut TextBuffer, sink: &mut K, survey: &Survey)
-    requires { IsScale (definition.scale_of survey.now) }
-    ensures { Adds K.held K.faults sink.old sink.new text.old text.new (definition.axes_text survey.now) }
+fn put_axes<K: Sink>(text: &mut TextBuffer, sink: &mut K, page: &Page)
+    requires { IsPage page.now }
+    ensures { Adds K.held K.faults sink.old sink.new text.old text.new (definition.axes_text page.now) }
 {
-    let scale = scale_of(survey);
     let upper = Axis {
         unit: Unit::Microseconds,
         words: 830,
@@ -103,16 +83,16 @@ fn put_axes<K: Sink>(text: &mut TextBuffer, sink: &mut K, survey: &Survey)
         words: 1010,
         class: Class::Grid,
         top: 1040,
-        height: bottom_of(survey) - 1040,
+        height: page.bottom() - 1040,
     };
-    put_axis(text, sink, &scale, &upper);
-    put_axis(text, sink, &scale, &lower);
+    put_axis(text, sink, &page.scale, &upper);
+    put_axis(text, sink, &page.scale, &lower);
 }
 
 /// Both axes below the rows.
 fn put_axes_below<K: Sink>(text: &mut TextBuffer, sink: &mut K, scale: &Scale, bottom: u64)
     requires scale { IsScale scale.now }
-    requires low { bottom ≤ 71310 }
+    requires low { bottom ≤ 161310 }
     ensures { Adds K.held K.faults sink.old sink.new text.old text.new (definition.axes_below scale.now bottom) }
 {
     let lower = Axis {
@@ -134,12 +114,12 @@ fn put_axes_below<K: Sink>(text: &mut TextBuffer, sink: &mut K, scale: &Scale, b
 }
 
 /// The axes below the rows, where these reach far down.
-pub(crate) fn put_below<K: Sink>(text: &mut TextBuffer, sink: &mut K, survey: &Survey)
-    requires { IsScale (definition.scale_of survey.now) }
-    ensures { Adds K.held K.faults sink.old sink.new text.old text.new (definition.below_text survey.now) }
+pub(crate) fn put_below<K: Sink>(text: &mut TextBuffer, sink: &mut K, page: &Page)
+    requires { IsPage page.now }
+    ensures { Adds K.held K.faults sink.old sink.new text.old text.new (definition.below_text page.now) }
 {
-    if is_long(survey) {
-        put_axes_below(text, sink, &scale_of(survey), bottom_of(survey));
+    if is_long(page) {
+        put_axes_below(text, sink, &page.scale, page.bottom());
     }
 }
 
@@ -184,29 +164,30 @@ fn put_legend<K: Sink>(text: &mut TextBuffer, sink: &mut K)
 }
 
 /// What stands above the rows: how many there are, the legend, and the axes.
-pub(crate) fn put_above<K: Sink>(text: &mut TextBuffer, sink: &mut K, survey: &Survey)
-    requires { IsScale (definition.scale_of survey.now) }
-    ensures { Adds K.held K.faults sink.old sink.new text.old text.new (definition.above_text survey.now) }
+pub(crate) fn put_above<K: Sink>(text: &mut TextBuffer, sink: &mut K, page: &Page, survey: &Survey)
+    requires { IsPage page.now }
+    ensures { Adds K.held K.faults sink.old sink.new text.old text.new (definition.above_text page.now survey.now) }
 {
     begin_words(text, sink, Class::Small, 200, 620);
     put_row_words(text, sink, survey);
     end_words(text, sink);
     put_legend(text, sink);
-    put_axes(text, sink, survey);
+    put_axes(text, sink, page);
     put_words(text, sink, Class::Small, 200, 1150, b"cycle, its begin");
     put_words(text, sink, Class::Detail, 15500, 1010, b"length");
+    put_words(text, sink, Class::Detail, 14700, 1010, b"load");
 }
 
 /// A line over all rows, at a distance from their beginning.
-fn mark_line(survey: &Survey, t: u64) -> Area
-    requires { IsScale (definition.scale_of survey.now) }
-    ensures { result ≡ definition.mark_line survey.now t }
+fn mark_line(page: &Page, t: u64) -> Area
+    requires { IsPage page.now }
+    ensures { result ≡ definition.mark_line page.now t }
 {
     Area {
-        left: scale_of(survey).place(t),
+        left: page.scale.place(t),
         top: 1070,
         width: 10,
-        height: bottom_of(survey) - 1070,
+        height: page.bottom() - 1070,
     }
 }
 
@@ -229,25 +210,25 @@ fn put_mark_words<K: Sink>(
 }
 
 /// A mark with its words behind it, unless it lies behind all rows.
-fn put_mark<K: Sink>(text: &mut TextBuffer, sink: &mut K, survey: &Survey, name: &[u8], t: u64)
-    requires { IsScale (definition.scale_of survey.now) }
-    ensures { Adds K.held K.faults sink.old sink.new text.old text.new (definition.mark_text survey.now name.now t) }
+fn put_mark<K: Sink>(text: &mut TextBuffer, sink: &mut K, page: &Page, name: &[u8], t: u64)
+    requires { IsPage page.now }
+    ensures { Adds K.held K.faults sink.old sink.new text.old text.new (definition.mark_text page.now name.now t) }
 {
-    if t <= survey.longest {
-        put_box(text, sink, Class::Mark, mark_line(survey, t));
-        let left = scale_of(survey).place(t) + 40;
+    if t <= page.scale.to {
+        put_box(text, sink, Class::Mark, mark_line(page, t));
+        let left = page.scale.place(t) + 40;
         put_mark_words(text, sink, Class::Small, left, 1150, name, t);
     }
 }
 
 /// The mark of the least cycle, with its words before it, a line lower.
-fn put_least<K: Sink>(text: &mut TextBuffer, sink: &mut K, survey: &Survey, t: u64)
-    requires { IsScale (definition.scale_of survey.now) }
-    ensures { Adds K.held K.faults sink.old sink.new text.old text.new (definition.least_text survey.now t) }
+fn put_least<K: Sink>(text: &mut TextBuffer, sink: &mut K, page: &Page, t: u64)
+    requires { IsPage page.now }
+    ensures { Adds K.held K.faults sink.old sink.new text.old text.new (definition.least_text page.now t) }
 {
-    if t <= survey.longest {
-        put_box(text, sink, Class::Mark, mark_line(survey, t));
-        let left = scale_of(survey).place(t) - 30;
+    if t <= page.scale.to {
+        put_box(text, sink, Class::Mark, mark_line(page, t));
+        let left = page.scale.place(t) - 30;
         put_mark_words(text, sink, Class::Detail, left, 1250, b"least ", t);
     }
 }
@@ -256,81 +237,75 @@ fn put_least<K: Sink>(text: &mut TextBuffer, sink: &mut K, survey: &Survey, t: u
 fn put_least_marks<K: Sink>(
     text: &mut TextBuffer,
     sink: &mut K,
-    survey: &Survey,
+    page: &Page,
     table: &Table,
     least: u64,
 )
-    requires { IsScale (definition.scale_of survey.now) }
-    ensures { Adds K.held K.faults sink.old sink.new text.old text.new (definition.least_marks survey.now table.now least) }
+    requires { IsPage page.now }
+    ensures { Adds K.held K.faults sink.old sink.new text.old text.new (definition.least_marks page.now table.now least) }
 {
-    put_mark(text, sink, survey, b"SG ", u64::from(table.sg()));
-    put_least(text, sink, survey, least);
+    put_mark(text, sink, page, b"SG ", u64::from(table.sg()));
+    put_least(text, sink, page, least);
 }
 
 /// The mark of the transmit interval.
-fn put_interval<K: Sink>(text: &mut TextBuffer, sink: &mut K, survey: &Survey, table: &Table)
-    requires { IsScale (definition.scale_of survey.now) }
-    ensures { Adds K.held K.faults sink.old sink.new text.old text.new (definition.interval_mark survey.now table.now) }
+fn put_interval<K: Sink>(text: &mut TextBuffer, sink: &mut K, page: &Page, table: &Table)
+    requires { IsPage page.now }
+    ensures { Adds K.held K.faults sink.old sink.new text.old text.new (definition.interval_mark page.now table.now) }
 {
-    put_mark(text, sink, survey, b"TI ", u64::from(table.ti()));
+    put_mark(text, sink, page, b"TI ", u64::from(table.ti()));
 }
 
 /// The marks of an accepted table.
 fn put_accepted<K: Sink>(
     text: &mut TextBuffer,
     sink: &mut K,
-    survey: &Survey,
+    page: &Page,
     table: &Table,
     mode: Mode,
     least: u64,
     most: u64,
 )
-    requires { IsScale (definition.scale_of survey.now) }
+    requires { IsPage page.now }
     ensures { Adds K.held K.faults sink.old sink.new text.old text.new
-        (definition.accepted_marks survey.now table.now mode least most) }
+        (definition.accepted_marks page.now table.now mode least most) }
 {
     match mode {
         Mode::Aperiodic => {
-            put_least_marks(text, sink, survey, table, least);
-            put_mark(text, sink, survey, b"most ", most);
+            put_least_marks(text, sink, page, table, least);
+            put_mark(text, sink, page, b"most ", most);
         }
-        Mode::Periodic => put_interval(text, sink, survey, table),
+        Mode::Periodic => put_interval(text, sink, page, table),
     }
 }
 
 /// The marks of an aperiodic table that is refused.
-fn put_short<K: Sink>(
-    text: &mut TextBuffer,
-    sink: &mut K,
-    survey: &Survey,
-    table: &Table,
-    least: u64,
-)
-    requires { IsScale (definition.scale_of survey.now) }
-    ensures { Adds K.held K.faults sink.old sink.new text.old text.new (definition.short_marks survey.now table.now least) }
+fn put_short<K: Sink>(text: &mut TextBuffer, sink: &mut K, page: &Page, table: &Table, least: u64)
+    requires { IsPage page.now }
+    ensures { Adds K.held K.faults sink.old sink.new text.old text.new (definition.short_marks page.now table.now least) }
 {
-    put_least_marks(text, sink, survey, table, least);
-    put_interval(text, sink, survey, table);
+    put_least_marks(text, sink, page, table, least);
+    put_interval(text, sink, page, table);
 }
 
 /// The marks of a table.
 pub(crate) fn put_marks<K: Sink>(
     text: &mut TextBuffer,
     sink: &mut K,
-    survey: &Survey,
+    page: &Page,
     table: &Table,
     verdict: &TableVerdict,
 )
-    requires { IsScale (definition.scale_of survey.now) }
-    ensures { Adds K.held K.faults sink.old sink.new text.old text.new (definition.marks_text survey.now table.now verdict.now) }
+    requires { IsPage page.now }
+    ensures { Adds K.held K.faults sink.old sink.new text.old text.new (definition.marks_text page.now table.now verdict.now) }
 {
     match *verdict {
         TableVerdict::Accept { mode, least, most } => {
-            put_accepted(text, sink, survey, table, mode, least, most)
+            put_accepted(text, sink, page, table, mode, least, most)
         }
-        TableVerdict::ShortCycle { least, .. } => put_short(text, sink, survey, table, least),
+        TableVerdict::ShortCycle { least, .. } => put_short(text, sink, page, table, least),
         TableVerdict::SmallGap { .. } | TableVerdict::NoSync { .. } => {
-            put_interval(text, sink, survey, table)
+            put_interval(text, sink, page, table)
         }
     }
 }

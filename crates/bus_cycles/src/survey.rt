@@ -16,16 +16,17 @@ pub(crate) const MOST_ROWS: u64 = 500;
 /// What is told of the rows of a list in a window.
 #[derive(Clone, Copy, Debug, PartialEq, Eq)]
 pub(crate) struct Survey {
-    /// How many there are.
+    /// How many rows there are.
     pub count: u64,
-    /// How long the longest is that is drawn, at least a transmit interval, and as long as the first breach needs.
+    /// How many bit times the longest row has that is drawn, at least a transmit interval, and as many as the first breach needs.
     pub longest: u64,
-    /// Where the first begins that isn't drawn.
+    /// The moment at which the first row begins that isn't drawn.
     pub next: Option<u64>,
-    /// The last that takes the moment of the first breach.
+    /// The last row that takes the moment of the first breach.
     pub marked: Option<Extent>,
-    /// The least length of all, and the greatest; 0 where there is none.
+    /// The length of the shortest row in bit times; 0 where there is none.
     pub least: u64,
+    /// The length of the longest row in bit times, drawn or not; 0 where there is none.
     pub most: u64,
 }
 
@@ -62,29 +63,31 @@ impl Survey {
     fn with_row(self, cycle: &Cycle, breach: Option<u64>, row: Extent) -> Survey
         requires some { 0 < cycle.now.ti }
         requires few { self.count < 2 ^ 64 - 1 }
+        requires low { row.end ≤ 2 ^ 41 }
+        requires moment { IfSome breach (λ moment. moment ≤ 2 ^ 40) }
         ensures { result ≡ definition.with_row cycle.now breach self row }
     {
         Survey {
             count: self.count + 1,
-            longest: longest_with(self.longest, row),
-            next: next_with(self.next, row),
+            longest: longest_with(cycle.lift, self.longest, row),
+            next: next_with(cycle.lift, self.next, row),
             marked: marked_with(cycle, breach, self.marked, row),
-            least: least_with(self.count, self.least, row),
-            most: self.most.max(length_of(row)),
+            least: least_with(cycle.lift, self.count, self.least, row),
+            most: self.most.max(length_of(cycle.lift, row)),
         }
     }
 
     /// As long as the breach needs.
-    fn with_breach(self, breach: Option<u64>) -> Survey
+    fn with_breach(self, lift: u32, breach: Option<u64>) -> Survey
         requires low { self.longest ≤ 2 ^ 41 }
         requires moment { IfSome breach (λ moment. moment ≤ 2 ^ 40) }
-        ensures value { result ≡ definition.with_breach breach self }
+        ensures value { result ≡ definition.with_breach lift breach self }
         ensures more { self.longest ≤ result.longest }
         ensures low { result.longest ≤ 2 ^ 41 }
     {
         Survey {
             count: self.count,
-            longest: self.longest.max(reach_of(breach, self.marked)),
+            longest: self.longest.max(reach_of(lift, breach, self.marked)),
             next: self.next,
             marked: self.marked,
             least: self.least,
@@ -93,41 +96,44 @@ impl Survey {
     }
 }
 
-/// The length of a row.
-fn length_of(row: Extent) -> u64
-    ensures { result ≡ definition.length_of row }
+/// The length of a row in bit times, given from how long before the settled start its beginning is counted.
+pub(crate) fn length_of(lift: u32, row: Extent) -> u64
+    requires { row.end ≤ 2 ^ 41 }
+    ensures { result ≡ definition.length_of lift row }
 {
-    row.end.saturating_sub(row.begin)
+    (row.end + u64::from(lift)).saturating_sub(row.begin)
 }
 
 /// The least length, with one row more than so many.
-fn least_with(count: u64, least: u64, row: Extent) -> u64
-    ensures { result ≡ definition.least_with count least row }
+fn least_with(lift: u32, count: u64, least: u64, row: Extent) -> u64
+    requires { row.end ≤ 2 ^ 41 }
+    ensures { result ≡ definition.least_with lift count least row }
 {
     if count == 0 {
-        length_of(row)
+        length_of(lift, row)
     } else {
-        least.min(length_of(row))
+        least.min(length_of(lift, row))
     }
 }
 
 /// The length of the longest row that is drawn, with one row more.
-fn longest_with(longest: u64, row: Extent) -> u64
-    ensures { result ≡ definition.longest_with longest row }
+fn longest_with(lift: u32, longest: u64, row: Extent) -> u64
+    requires { row.end ≤ 2 ^ 41 }
+    ensures { result ≡ definition.longest_with lift longest row }
 {
     if row.place < MOST_ROWS {
-        longest.max(row.end.saturating_sub(row.begin))
+        longest.max(length_of(lift, row))
     } else {
         longest
     }
 }
 
-/// Where the first row begins that isn't drawn, with one row more.
-fn next_with(next: Option<u64>, row: Extent) -> Option<u64>
-    ensures { result ≡ definition.next_with next row }
+/// The moment at which the first row begins that isn't drawn, with one row more.
+fn next_with(lift: u32, next: Option<u64>, row: Extent) -> Option<u64>
+    ensures { result ≡ definition.next_with lift next row }
 {
     if row.place == MOST_ROWS {
-        Some(row.begin)
+        Some(row.begin.saturating_sub(u64::from(lift)))
     } else {
         next
     }
@@ -135,7 +141,8 @@ fn next_with(next: Option<u64>, row: Extent) -> Option<u64>
 
 /// Whether a row takes the breach at this moment.
 fn takes_breach(cycle: &Cycle, breach: Option<u64>, row: Extent) -> bool
-    requires { 0 < cycle.now.ti }
+    requires some { 0 < cycle.now.ti }
+    requires moment { IfSome breach (λ moment. moment ≤ 2 ^ 40) }
     ensures { result ≡ definition.takes_breach cycle.now breach row }
 {
     match breach {
@@ -151,7 +158,8 @@ fn marked_with(
     marked: Option<Extent>,
     row: Extent,
 ) -> Option<Extent>
-    requires { 0 < cycle.now.ti }
+    requires some { 0 < cycle.now.ti }
+    requires moment { IfSome breach (λ moment. moment ≤ 2 ^ 40) }
     ensures { result ≡ definition.marked_with cycle.now breach marked row }
 {
     if takes_breach(cycle, breach, row) {
@@ -162,25 +170,27 @@ fn marked_with(
 }
 
 /// How far the breach is behind the beginning of its row, where that is drawn.
-fn reach_in(moment: u64, row: Extent) -> u64
-    ensures value { result ≡ definition.reach_in moment row }
-    ensures low { result ≤ moment }
+fn reach_in(lift: u32, moment: u64, row: Extent) -> u64
+    requires { moment ≤ 2 ^ 40 }
+    ensures value { result ≡ definition.reach_in lift moment row }
+    ensures low { result ≤ 2 ^ 41 }
 {
     if row.place < MOST_ROWS {
-        moment.saturating_sub(row.begin)
+        (moment + u64::from(lift)).saturating_sub(row.begin)
     } else {
         0
     }
 }
 
-fn reach_of(breach: Option<u64>, marked: Option<Extent>) -> u64
+/// How far the breach at this moment is behind the beginning of the row that is marked, where there are both.
+fn reach_of(lift: u32, breach: Option<u64>, marked: Option<Extent>) -> u64
     requires { IfSome breach (λ moment. moment ≤ 2 ^ 40) }
-    ensures value { result ≡ definition.reach_of breach marked }
-    ensures low { result ≤ 2 ^ 40 }
+    ensures value { result ≡ definition.reach_of lift breach marked }
+    ensures low { result ≤ 2 ^ 41 }
 {
     if let Some(moment) = breach {
         if let Some(row) = marked {
-            return reach_in(moment, row);
+            return reach_in(lift, moment, row);
         }
     }
     0
@@ -192,6 +202,7 @@ fn survey_from(cycle: &Cycle, breach: Option<u64>, first: &Sent, shown: Shown) -
     requires sent { IsSent first.now }
     requires each { AllByRecursion IsSent shown }
     requires few { length shown < 2 ^ 64 - 1 }
+    requires low { IfSome breach (λ moment. moment ≤ 2 ^ 40) }
     ensures value { result ≡ definition.told_of cycle.now breach (first.now ∷ shown.entry) }
     ensures some { cycle.now.ti ≤ result.longest }
     ensures low { result.longest ≤ 2 ^ 41 }
@@ -211,7 +222,8 @@ fn survey_from(cycle: &Cycle, breach: Option<u64>, first: &Sent, shown: Shown) -
 
 /// What is told of all rows of a trace in a window.
 fn tell(cycle: &Cycle, breach: Option<u64>, window: &Window, trace: &Trace) -> Survey
-    requires { 0 < cycle.now.ti }
+    requires some { 0 < cycle.now.ti }
+    requires low { IfSome breach (λ moment. moment ≤ 2 ^ 40) }
     ensures value { result ≡ definition.told_of cycle.now breach (shown window.now trace.now.list) }
     ensures some { cycle.now.ti ≤ result.longest }
     ensures low { result.longest ≤ 2 ^ 41 }
@@ -236,5 +248,5 @@ pub(crate) fn take_survey(
     ensures some { cycle.now.ti ≤ result.longest }
     ensures low { result.longest ≤ 2 ^ 41 }
 {
-    tell(cycle, breach, window, trace).with_breach(breach)
+    tell(cycle, breach, window, trace).with_breach(cycle.lift, breach)
 }

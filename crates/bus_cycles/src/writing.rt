@@ -7,7 +7,9 @@ use crate::boxes::put_rows;
 use crate::breach::put_breach;
 use crate::counting::counts;
 use crate::cycle::Cycle;
-use crate::plot::{height_of, put_above, put_below, put_marks, scale_of};
+use crate::load::put_loads;
+use crate::page::Page;
+use crate::plot::{height_of, put_above, put_below, put_marks};
 use crate::survey::{breach_in, take_survey};
 use bus_audit::AuditAnswer;
 use bus_outer::{Sink, TextBuffer, WriteFault};
@@ -18,7 +20,7 @@ use bus_trace::Trace;
 
 /// Writes the picture of a window of a trace on a table as SVG: a row for each cycle, one below the other from the same left edge, at most
 /// 500, and above them the words of the verdict and of the audit. What is garbled is drawn over all that is plain, and the marks over both.
-/// It goes over the trace four times, and takes no memory.
+/// It goes over the trace five times, and takes no memory.
 ///
 /// At `WriteFault` the sink has taken a front of the text, and its count of faults rose.
 pub fn write_cycles<K: Sink>(
@@ -35,15 +37,16 @@ pub fn write_cycles<K: Sink>(
     let breach = breach_in(window, *answer);
     let survey = take_survey(&cycle, breach, window, trace);
     let counts = counts(window, trace);
-    let scale = scale_of(&survey);
-    let height = height_of(&survey);
+    let page = Page::new(table, &survey, &counts);
+    let height = height_of(&page);
     let mut text = TextBuffer::new();
     put_frame(&mut text, sink, height, verdict, answer, table, &counts);
-    put_above(&mut text, sink, &survey);
-    put_rows(&mut text, sink, &cycle, &scale, window, trace);
-    put_marks(&mut text, sink, &survey, table, verdict);
-    put_below(&mut text, sink, &survey);
-    put_breach(&mut text, sink, &scale, breach, survey.marked);
+    put_above(&mut text, sink, &page, &survey);
+    put_rows(&mut text, sink, &page, window, trace);
+    put_loads(&mut text, sink, &page, window, trace);
+    put_marks(&mut text, sink, &page, table, verdict);
+    put_below(&mut text, sink, &page);
+    put_breach(&mut text, sink, &page, breach, survey.marked);
     put_tail(&mut text, sink);
     text.finish(sink)
 }

@@ -2,7 +2,7 @@
 -- of a cycle and of a breach in microseconds too.
 use Rattle.std.specs.Prelude.{ℕ, List, ◌++◌, codes}
 use Rattle.std.specs.Fmt.{decimal, signed_decimal}
-use Rattle.bus_strings.specs.Microseconds.{microseconds, micro_unit}
+use Rattle.bus_strings.specs.Microseconds.{microseconds, microseconds_unit}
 use Rattle.bus_audit.specs.declared.answer.AuditAnswer.{AuditAnswer}
 use Rattle.bus_audit.specs.declared.answer.AuditAnswer.TheVariants.{Lawful, Breach}
 use Rattle.bus_audit.specs.declared.answer.BreachKind.{BreachKind}
@@ -19,9 +19,9 @@ use Rattle.bus_shapes.specs.Sayings.{counted}
 abbrev pub accept_heading : Mode → ℕ → ℕ → List ℕ
 accept_heading Aperiodic least most =
     codes "ACCEPT aperiodic, cycle " ++ decimal least ++ codes " to " ++ decimal most ++ codes " bit times (" ++ microseconds least
-    ++ codes " to " ++ microseconds most ++ micro_unit ++ codes ")"
+    ++ codes " to " ++ microseconds most ++ microseconds_unit ++ codes ")"
 accept_heading Periodic least most =
-    codes "ACCEPT periodic, cycle " ++ decimal least ++ codes " bit times (" ++ microseconds least ++ micro_unit ++ codes ")"
+    codes "ACCEPT periodic, cycle " ++ decimal least ++ codes " bit times (" ++ microseconds least ++ microseconds_unit ++ codes ")"
 
 -- A verdict.
 abbrev pub verdict_heading : TableVerdict → List ℕ
@@ -29,10 +29,10 @@ verdict_heading (Accept mode least most) = accept_heading mode least most
 verdict_heading (ShortCycle least ti) =
     codes "REFUSE: shortest cycle " ++ decimal least ++ codes " bit times, below TI " ++ decimal ti
 verdict_heading (SmallGap terminal gap needed) =
-    codes "REFUSE: gap before terminal " ++ decimal terminal ++ codes " " ++ signed_decimal gap ++ codes " bit times, below TG "
+    codes "REFUSE: gap before terminal " ++ decimal terminal ++ codes " is " ++ signed_decimal gap ++ codes " bit times, below TG "
     ++ decimal needed
 verdict_heading (NoSync terminal gap needed) =
-    codes "REFUSE: no gap for SG, gap before terminal " ++ decimal terminal ++ codes " " ++ decimal gap
+    codes "REFUSE: no gap for SG, gap before terminal " ++ decimal terminal ++ codes " is " ++ decimal gap
     ++ codes " bit times, below SG + TG " ++ decimal needed
 
 -- How it looks: a refusal isn't to be taken for an acceptance.
@@ -55,5 +55,5 @@ breach_words Missing = codes " should start and doesn't"
 abbrev pub answer_heading : AuditAnswer → List ℕ
 answer_heading (Lawful collided) = codes "LAWFUL, " ++ counted collided (codes "transmission") ++ codes " collided"
 answer_heading (Breach moment terminal kind) =
-    codes "BREACH at " ++ decimal moment ++ codes " (" ++ microseconds moment ++ micro_unit ++ codes "): terminal " ++ decimal terminal
-    ++ breach_words kind
+    codes "BREACH at " ++ decimal moment ++ codes " (" ++ microseconds moment ++ microseconds_unit ++ codes "): terminal "
+    ++ decimal terminal ++ breach_words kind

@@ -11,7 +11,7 @@ use crate::frame::put_counted;
 use bus_audit::{AuditAnswer, BreachKind};
 use bus_outer::{Sink, TextBuffer};
 use bus_regime::TableVerdict;
-use bus_strings::{put_micro_unit, put_microseconds};
+use bus_strings::{put_microseconds, put_microseconds_unit};
 use bus_table::Mode;
 
 /// An acceptance in aperiodic mode.
@@ -26,7 +26,7 @@ fn put_aperiodic<K: Sink>(text: &mut TextBuffer, sink: &mut K, least: u64, most:
     put_microseconds(text, sink, u128::from(least));
     text.put(sink, b" to ");
     put_microseconds(text, sink, u128::from(most));
-    put_micro_unit(text, sink);
+    put_microseconds_unit(text, sink);
     text.put(sink, b")");
 }
 
@@ -39,7 +39,7 @@ fn put_periodic<K: Sink>(text: &mut TextBuffer, sink: &mut K, least: u64, most: 
     text.put_number(sink, least);
     text.put(sink, b" bit times (");
     put_microseconds(text, sink, u128::from(least));
-    put_micro_unit(text, sink);
+    put_microseconds_unit(text, sink);
     text.put(sink, b")");
 }
 
@@ -69,7 +69,7 @@ fn put_small_gap<K: Sink>(text: &mut TextBuffer, sink: &mut K, terminal: u8, gap
 {
     text.put(sink, b"REFUSE: gap before terminal ");
     text.put_number(sink, terminal);
-    text.put(sink, b" ");
+    text.put(sink, b" is ");
     text.put_signed(sink, gap);
     text.put(sink, b" bit times, below TG ");
     text.put_number(sink, needed);
@@ -81,7 +81,7 @@ fn put_no_sync<K: Sink>(text: &mut TextBuffer, sink: &mut K, terminal: u8, gap: 
 {
     text.put(sink, b"REFUSE: no gap for SG, gap before terminal ");
     text.put_number(sink, terminal);
-    text.put(sink, b" ");
+    text.put(sink, b" is ");
     text.put_number(sink, gap);
     text.put(sink, b" bit times, below SG + TG ");
     text.put_number(sink, needed);
@@ -159,7 +159,7 @@ fn put_breach<K: Sink>(
     text.put_number(sink, moment);
     text.put(sink, b" (");
     put_microseconds(text, sink, u128::from(moment));
-    put_micro_unit(text, sink);
+    put_microseconds_unit(text, sink);
     text.put(sink, b"): terminal ");
     text.put_number(sink, terminal);
     put_breach_words(text, sink, kind);

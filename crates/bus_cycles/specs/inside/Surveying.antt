@@ -1,5 +1,5 @@
 -- How far a survey has come.
-use Rattle.std.specs.Prelude.{◌≡◌, ℕ, ◌≤◌, ◌^◌, List, fold, map, Option}
+use Rattle.std.specs.Prelude.{◌≡◌, ℕ, ◌+◌, ◌≤◌, List, fold, map, Option}
 use Rattle.bus_shapes.specs.declared.sent.Sent.{Sent}
 use Rattle.bus_cycles.specs.Rows.{Cycle, Extent, Row, extent_of, rows_from}
 use Rattle.bus_cycles.specs.Surveys.{Survey, with_row}
@@ -16,5 +16,5 @@ pub record Surveys (breach : Option ℕ) (cycle : Cycle) (whole survey : Survey)
   pub whole_is : rest_of cycle breach survey (rows_from cycle row left) ≡ whole
   pub some : cycle.ti ≤ survey.longest
   pub low : survey.longest ≤ scale_bound
-  pub ends : extent.end ≤ scale_bound
+  pub ends : extent.end + cycle.lift ≤ scale_bound
   pub count : survey.count ≡ extent.place

@@ -1,4 +1,4 @@
-use Rattle.bus_cycles.proofs.DrawnLemmas.{hides_none}
+use Rattle.bus_cycles.proofs.ApartLemmas.{hides_none}
 use Rattle.bus_cycles.proofs.laws.breach_hides_none.Goals as goal
 
 pub returns : goal.returns

@@ -6,4 +6,4 @@ returns g c =
     let one = rw c.from.ensures at c.put_microseconds.ensures in
     let other = rw c.from-2.ensures at c.put_microseconds-2.ensures in
     c.put.ensures ▸ c.put_number.ensures ▸ c.put-2.ensures ▸ c.put_number-2.ensures ▸ c.put-3.ensures ▸ one
-    ▸ c.put-4.ensures ▸ other ▸ c.put_micro_unit.ensures ▸ c.put-5.ensures
+    ▸ c.put-4.ensures ▸ other ▸ c.put_microseconds_unit.ensures ▸ c.put-5.ensures
