@@ -29,16 +29,16 @@ record IsPlace (row : Row) : Type 0 where
   number : ℕ
   top : row.top ≡ plot_top + row_height * number
 
-lanes_placed : (bottom k : ℕ) (lanes : List Lane) (row : Row) → In row (each_lane (lane_rows bottom) k lanes) → IsPlace row
-lanes_placed bottom k [] row i = absurd i
-lanes_placed bottom k (lane ∷ lanes) row (inl e) = record { number = k + 1; top = ap (λ (r : Row). r.top) e }
-lanes_placed bottom k (lane ∷ lanes) row (inr (inl e)) = record { number = k + 1; top = ap (λ (r : Row). r.top) e }
-lanes_placed bottom k (lane ∷ lanes) row (inr (inr i)) = lanes_placed bottom (k + 1) lanes row i
+lanes_placed : (k : ℕ) (lanes : List Lane) (row : Row) → In row (each_lane lane_rows k lanes) → IsPlace row
+lanes_placed k [] row i = absurd i
+lanes_placed k (lane ∷ lanes) row (inl e) = record { number = k + 1; top = ap (λ (r : Row). r.top) e }
+lanes_placed k (lane ∷ lanes) row (inr (inl e)) = record { number = k + 1; top = ap (λ (r : Row). r.top) e }
+lanes_placed k (lane ∷ lanes) row (inr (inr i)) = lanes_placed (k + 1) lanes row i
 
-placed : (bottom : ℕ) (lanes : List Lane) (row : Row) → In row (rows_of bottom lanes) → IsPlace row
-placed bottom lanes row (inl e) = record { number = 0; top = ap (λ (r : Row). r.top) e }
-placed bottom lanes row (inr (inl e)) = record { number = 0; top = ap (λ (r : Row). r.top) e }
-placed bottom lanes row (inr (inr i)) = lanes_placed bottom 0 lanes row i
+placed : (lanes : List Lane) (row : Row) → In row (rows_of lanes) → IsPlace row
+placed lanes row (inl e) = record { number = 0; top = ap (λ (r : Row). r.top) e }
+placed lanes row (inr (inl e)) = record { number = 0; top = ap (λ (r : Row). r.top) e }
+placed lanes row (inr (inr i)) = lanes_placed 0 lanes row i
 
 -- A dash that lies above or below the boxes of its row lies so of all boxes.
 apart : (from high below tall n k : ℕ) → below + tall ≤ 60 ⊎ (240 ≤ below × (below + tall ≤ 320)) → 60 ≤ from → from + high ≤ 240
@@ -53,8 +53,8 @@ apart from high below tall n k where' low most =
     ]
 
 pub breaches_hide_no_box : BreachesHideNoBox
-breaches_hide_no_box scale bottom lanes row pile left width i =
-    let p : IsPlace row = placed bottom lanes row i in
+breaches_hide_no_box scale lanes row pile left width i =
+    let p : IsPlace row = placed lanes row i in
     let top : row.top ≡ 960 + 320 * p.number = p.top in
     let high : pile_height scale pile ≤ 180 = height_within scale pile in
     let from : ℕ = 60 + (180 - pile_height scale pile) in (

@@ -1,14 +1,16 @@
 -- Which rows show a transmission, and how many they show.
 use Rattle.std.proofs.Common.{◌≡◌, ℕ, ◌+◌, ◌≤◌, Bool, true, false, cond, List, [], ◌∷◌, length, filter, Option, Some, None, inl, inr, arith, refl, sym, ap, ◌∙◌}
-use Rattle.std.specs.Prelude.{◌&&◌, ◌==◌}
+use Rattle.std.specs.Prelude.{◌-◌, ◌&&◌, ◌||◌, ◌==◌, ◌⊎◌, nat_lt}
 use Rattle.std.specs.Bool.{beq}
-use Rattle.std.specs.List.{AllByRecursion, count_by, flat_map, sum_by}
+use Rattle.std.specs.List.{AllByRecursion, count_by, flat_map, list_any, sum_by}
 use Rattle.std.specs.Option.{option_map_or}
 use Rattle.std.proofs.lemmas.Bool.{cases_eq, eq-eqb, ne_eqb, true≢false}
 use Rattle.std.proofs.lemmas.List.Sums.{length-filter, sum_by-append, sum_by-cons}
-use Rattle.bus_strings.proofs.MemberLaws.{at_in}
+use Rattle.bus_strings.proofs.MemberLaws.{any_in, at_in, in_filter}
 use Rattle.bus_strings.specs.Members.{In}
 use Rattle.bus_strings.specs.Messages.{Entry}
+use Rattle.bus_strings.specs.Transmissions.{end_of}
+use Rattle.bus_audit.specs.declared.answer.AuditAnswer.{AuditAnswer}
 use Rattle.bus_trace.specs.Traces.{Recording}
 use Rattle.bus_dump.specs.declared.lane.Lane.{Lane}
 use Rattle.bus_dump.specs.Lanes.{lanes}
@@ -20,24 +22,30 @@ use Rattle.bus_shapes.specs.Sending.{sents}
 use Rattle.bus_shapes.specs.SendingLaws.{IsToldOf}
 use Rattle.bus_picture.specs.Boxes.{boxes, members}
 use Rattle.bus_picture.specs.Rows.{Row, is_of, shown, shows}
-use Rattle.bus_picture.specs.TimeLines.{bus_rows, each_lane, is_shown, lane_rows, lane_top, rows_at, rows_of_lanes}
+use Rattle.bus_picture.specs.Lanes.{drawn_lanes, has_some, is_in, is_named, lanes_with_some, most_empty}
+use Rattle.bus_picture.specs.Strings.{meets}
+use Rattle.bus_picture.specs.TimeLines.{bus_rows, each_lane, is_shown, lane_rows, lane_top, lanes_in, rows_at, rows_of_lanes}
 use Rattle.bus_picture.specs.Measures.{plot_top, row_height}
-use Rattle.bus_picture.specs.Laws.{AreCounted, AreUncovered, BusIsCounted, EachIsInOneLane, EachIsOnTheBus, GarbledAreUncovered, LanesAreCounted, in_boxes, rows_with}
+use Rattle.bus_picture.specs.Laws.{AreCounted, AreUncovered, BusIsCounted, EachIsInOneLane, EachIsOnTheBus, GarbledAreUncovered, IsSilent, LanesAreCounted, LeftOutAreSilent, in_boxes, rows_with}
 use Rattle.bus_picture.proofs.LawLemmas.{as_row, boxes_hold_rows}
 
 -- ---- what is drawn behind a garbled row
-lower : (bottom k t : ℕ) (lanes : List Lane) → t ≤ lane_top k → AllByRecursion (λ (next : Row). t ≤ next.top) (each_lane (lane_rows bottom) k lanes)
-lower bottom k t [] h = tt
-lower bottom k t (lane ∷ lanes) h = (h, (h, lower bottom (k + 1) t lanes (omega arith)))
+lower : (k t : ℕ) (lanes : List Lane) → t ≤ lane_top k → AllByRecursion (λ (next : Row). t ≤ next.top) (each_lane lane_rows k lanes)
+lower k t [] h = tt
+lower k t (lane ∷ lanes) h = (h, (h, lower (k + 1) t lanes (omega arith)))
 
-uncovered : (bottom k : ℕ) (lanes : List Lane) → AreUncovered (each_lane (lane_rows bottom) k lanes)
-uncovered bottom k [] = tt
-uncovered bottom k (lane ∷ lanes) =
-    (λ h. absurd (true≢false (sym h)), (λ h. lower bottom (k + 1) (lane_top k + row_height) lanes (omega arith), uncovered bottom (k + 1) lanes))
+uncovered : (k : ℕ) (lanes : List Lane) → AreUncovered (each_lane lane_rows k lanes)
+uncovered k [] = tt
+uncovered k (lane ∷ lanes) =
+    (λ h. absurd (true≢false (sym h)), (λ h. lower (k + 1) (lane_top k + row_height) lanes (omega arith), uncovered (k + 1) lanes))
 
 pub garbled_are_uncovered : GarbledAreUncovered
-garbled_are_uncovered bottom lanes =
-    (λ h. absurd (true≢false (sym h)), (λ h. lower bottom 0 (plot_top + row_height) lanes (omega arith), uncovered bottom 0 lanes))
+garbled_are_uncovered lanes =
+    (λ h. absurd (true≢false (sym h)), (λ h. lower 0 (plot_top + row_height) lanes (omega arith), uncovered 0 lanes))
+
+or_parts : (a b : Bool) → (a || b) ≡ false → (a ≡ false) × (b ≡ false)
+or_parts true b h = absurd (true≢false h)
+or_parts false b h = (refl, h)
 
 -- ---- the rows that show a transmission
 abbrev one_if : Bool → ℕ
@@ -54,9 +62,9 @@ two false true false = refl
 two false false true = refl
 two false false false = refl
 
-at_place : (scale : Scale) (x : Sent) (terminal : Option ℕ) (top bottom : ℕ)
-    → rows_with scale (rows_at terminal top bottom) x ≡ cond (option_map_or (λ n. x.terminal == n) terminal true && is_shown scale x) 1 0
-at_place scale x terminal top bottom = two (option_map_or (λ n. x.terminal == n) terminal true) x.garbled (is_shown scale x)
+at_place : (scale : Scale) (x : Sent) (terminal : Option ℕ) (top : ℕ)
+    → rows_with scale (rows_at terminal top) x ≡ cond (option_map_or (λ n. x.terminal == n) terminal true && is_shown scale x) 1 0
+at_place scale x terminal top = two (option_map_or (λ n. x.terminal == n) terminal true) x.garbled (is_shown scale x)
 
 both_true : (own : Bool) → one_if (own && true) ≡ one_if own
 both_true true = refl
@@ -67,7 +75,7 @@ both_false true = refl
 both_false false = refl
 
 pub each_is_on_the_bus : EachIsOnTheBus
-each_is_on_the_bus scale bottom x h = at_place scale x None plot_top bottom ∙ ap (λ b. one_if (true && b)) h
+each_is_on_the_bus scale x h = at_place scale x None plot_top ∙ ap (λ b. one_if (true && b)) h
 
 -- As many rows of lanes as lanes of its terminal.
 abbrev is_lane : Sent → Lane → Bool
@@ -76,21 +84,21 @@ is_lane x lane = lane.terminal == x.terminal
 turned : (a b : ℕ) → (a == b) ≡ (b == a)
 turned a b = elim (cases_eq a b) [ inl same ↦ eq-eqb a b same ∙ sym (eq-eqb b a (sym same)) | inr other ↦ ne_eqb a b other ∙ sym (ne_eqb b a (λ same. other (sym same))) ]
 
-by_lanes : (scale : Scale) (bottom k : ℕ) (x : Sent) (lanes : List Lane) → is_shown scale x ≡ true
-    → rows_with scale (each_lane (lane_rows bottom) k lanes) x ≡ count_by (is_lane x) lanes
-by_lanes scale bottom k x [] h = refl
-by_lanes scale bottom k x (lane ∷ lanes) h =
-    let here : rows_with scale (lane_rows bottom k lane) x ≡ cond (is_lane x lane) 1 0 =
-    at_place scale x (Some lane.terminal) (lane_top k) bottom ∙ ap (λ b. one_if ((x.terminal == lane.terminal) && b)) h
+by_lanes : (scale : Scale) (k : ℕ) (x : Sent) (lanes : List Lane) → is_shown scale x ≡ true
+    → rows_with scale (each_lane lane_rows k lanes) x ≡ count_by (is_lane x) lanes
+by_lanes scale k x [] h = refl
+by_lanes scale k x (lane ∷ lanes) h =
+    let here : rows_with scale (lane_rows k lane) x ≡ cond (is_lane x lane) 1 0 =
+    at_place scale x (Some lane.terminal) (lane_top k) ∙ ap (λ b. one_if ((x.terminal == lane.terminal) && b)) h
     ∙ both_true (x.terminal == lane.terminal) ∙ ap one_if (turned x.terminal lane.terminal) in
-    sum_by-append (λ (row : Row). cond (shows scale row x) 1 0) (lane_rows bottom k lane) (each_lane (lane_rows bottom) (k + 1) lanes)
-    ∙ ap (λ n. n + rows_with scale (each_lane (lane_rows bottom) (k + 1) lanes) x) here
-    ∙ ap (λ n. cond (is_lane x lane) 1 0 + n) (by_lanes scale bottom (k + 1) x lanes h)
+    sum_by-append (λ (row : Row). cond (shows scale row x) 1 0) (lane_rows k lane) (each_lane lane_rows (k + 1) lanes)
+    ∙ ap (λ n. n + rows_with scale (each_lane lane_rows (k + 1) lanes) x) here
+    ∙ ap (λ n. cond (is_lane x lane) 1 0 + n) (by_lanes scale (k + 1) x lanes h)
     ∙ sym (sum_by-cons (λ (l : Lane). cond (is_lane x l) 1 0) lane lanes)
 
-pub in_lanes : (scale : Scale) (bottom : ℕ) (x : Sent) (lanes : List Lane) → is_shown scale x ≡ true
-    → rows_with scale (rows_of_lanes bottom lanes) x ≡ count_by (is_lane x) lanes
-in_lanes scale bottom x lanes h = by_lanes scale bottom 0 x lanes h
+pub in_lanes : (scale : Scale) (x : Sent) (lanes : List Lane) → is_shown scale x ≡ true
+    → rows_with scale (rows_of_lanes lanes) x ≡ count_by (is_lane x) lanes
+in_lanes scale x lanes h = by_lanes scale 0 x lanes h
 
 -- No row shows what doesn't meet the window.
 none_with : (scale : Scale) (x : Sent) (rows : List Row) → is_shown scale x ≡ false → rows_with scale rows x ≡ 0
@@ -181,16 +189,80 @@ counted scale trace rows h =
     }
 
 pub bus_is_counted : BusIsCounted
-bus_is_counted scale trace bottom = counted scale trace (bus_rows bottom) (λ x i h. each_is_on_the_bus scale bottom x h)
+bus_is_counted scale trace = counted scale trace bus_rows (λ x i h. each_is_on_the_bus scale x h)
 
 -- ---- lanes
+-- As many of what is kept pass a test, where all that passes it is kept.
+kept_count : (p q : Lane → Bool) (xs : List Lane) → ((lane : Lane) → p lane ≡ true → q lane ≡ true) → count_by p (filter q xs) ≡ count_by p xs
+kept_count p q [] h = refl
+kept_count p q (x ∷ xs) h =
+    (elim (q x) as (λ b. q x ≡ b → count_by p (cond b (x ∷ filter q xs) (filter q xs)) ≡ count_by p (x ∷ xs)) [
+      | true ↦ λ e.
+          omega (arith, sum_by-cons (λ (l : Lane). cond (p l) 1 0) x (filter q xs), sum_by-cons (λ (l : Lane). cond (p l) 1 0) x xs, kept_count p q xs h)
+      | false ↦ λ e.
+          let out : p x ≡ false = elim (p x) as (λ b. p x ≡ b → b ≡ false) [ true ↦ λ k. absurd (true≢false (sym (h x k) ∙ e)) | false ↦ λ k. refl ] refl in
+          omega (arith, sum_by-cons (λ (l : Lane). cond (p l) 1 0) x xs, ap one_if out, kept_count p q xs h)
+    ]) refl
+
+drawn_count : (b : Bool) (p : Lane → Bool) (some lanes : List Lane) → count_by p some ≡ count_by p lanes → count_by p (cond b some lanes) ≡ count_by p lanes
+drawn_count true p some lanes h = h
+drawn_count false p some lanes h = refl
+
+-- The lane of what meets the window has something to show.
+has_its : (scale : Scale) (answer : AuditAnswer) (list : List Entry) (x : Sent) (t : IsToldOf list x) → is_shown scale x ≡ true → (lane : Lane)
+    → is_lane x lane ≡ true → has_some scale answer list lane ≡ true
+has_its scale answer list x t h lane own =
+    let terminal : x.terminal ≡ t.entry.terminal = ap (λ (s : Sent). s.terminal) t.told in
+    let meets_it : meets scale t.entry.moment (end_of t.entry) ≡ true = sym (ap (λ (s : Sent). meets scale s.moment s.end) t.told) ∙ h in
+    let same : (t.entry.terminal == lane.terminal) ≡ true =
+    ap (λ n. n == lane.terminal) (sym terminal) ∙ turned x.terminal lane.terminal ∙ own in
+    let here : is_in scale lane t.entry ≡ true = ap (λ b. b && meets scale t.entry.moment (end_of t.entry)) same ∙ meets_it in
+    ap (λ b. b || is_named answer lane.terminal) (any_in (is_in scale lane) list t.entry (at_in list x.at t.entry t.at) here)
+
+all_drawn : (scale : Scale) (answer : AuditAnswer) (list : List Entry) (x : Sent) → IsToldOf list x → is_shown scale x ≡ true → (lanes : List Lane)
+    → count_by (is_lane x) (drawn_lanes scale answer list lanes) ≡ count_by (is_lane x) lanes
+all_drawn scale answer list x t h lanes =
+    drawn_count (nat_lt most_empty (length lanes - length (lanes_with_some scale answer list lanes))) (is_lane x) (lanes_with_some scale answer list lanes) lanes
+    (kept_count (is_lane x) (has_some scale answer list) lanes (has_its scale answer list x t h))
+
+-- A lane is kept, or it is silent.
+silent_by : (scale : Scale) (answer : AuditAnswer) (list : List Entry) (lane : Lane) → has_some scale answer list lane ≡ false → IsSilent scale answer list lane
+silent_by scale answer list lane none =
+    let parts = or_parts (list_any (is_in scale lane) list) (is_named answer lane.terminal) none in
+    record {
+      sends = λ x i own. elim (meets scale x.moment (end_of x)) as (λ b. meets scale x.moment (end_of x) ≡ b → b ≡ false) [
+        | true ↦ λ e.
+            let here : is_in scale lane x ≡ true =
+            ap (λ b. b && meets scale x.moment (end_of x)) (eq-eqb x.terminal lane.terminal own) ∙ e in
+            absurd (true≢false (sym (any_in (is_in scale lane) list x i here) ∙ parts.0))
+        | false ↦ λ e. refl
+      ] refl;
+      unnamed = parts.1;
+    }
+
+kept_or_silent : (b : Bool) (scale : Scale) (answer : AuditAnswer) (list : List Entry) (lanes : List Lane) (lane : Lane) → In lane lanes
+    → In lane (cond b (lanes_with_some scale answer list lanes) lanes) ⊎ IsSilent scale answer list lane
+kept_or_silent true scale answer list lanes lane i =
+    elim (has_some scale answer list lane) as (λ b. has_some scale answer list lane ≡ b
+    → In lane (lanes_with_some scale answer list lanes) ⊎ IsSilent scale answer list lane) [
+      | true ↦ λ e. inl (in_filter (has_some scale answer list) lanes lane i e)
+      | false ↦ λ e. inr (silent_by scale answer list lane e)
+    ] refl
+kept_or_silent false scale answer list lanes lane i = inl i
+
+pub left_out_are_silent : LeftOutAreSilent
+left_out_are_silent scale answer table list lane i =
+    kept_or_silent (nat_lt most_empty (length (lanes table list) - length (lanes_with_some scale answer list (lanes table list)))) scale answer list
+    (lanes table list) lane i
+
 pub each_is_in_one_lane : LanesAreTerminals → SentsAreTold → EachIsInOneLane
-each_is_in_one_lane agree told scale bottom table trace x valid is i h =
+each_is_in_one_lane agree told scale answer table trace x valid is i h =
     let t : IsToldOf trace.list x = told trace.list x i in
     let terminal : x.terminal ≡ t.entry.terminal = ap (λ (s : Sent). s.terminal) t.told in
     let one : lane_count table trace.list t.entry.terminal ≡ 1 = (agree table trace valid is).sending t.entry (at_in trace.list x.at t.entry t.at) in
-    in_lanes scale bottom x (lanes table trace.list) h ∙ ap (λ n. lane_count table trace.list n) terminal ∙ one
+    in_lanes scale x (lanes_in scale answer table trace.list) h ∙ all_drawn scale answer trace.list x t h (lanes table trace.list)
+    ∙ ap (λ n. lane_count table trace.list n) terminal ∙ one
 
 pub lanes_are_counted : EachIsInOneLane → LanesAreCounted
-lanes_are_counted each scale table trace bottom valid is =
-    counted scale trace (rows_of_lanes bottom (lanes table trace.list)) (λ x i h. each scale bottom table trace x valid is i h)
+lanes_are_counted each scale answer table trace valid is =
+    counted scale trace (rows_of_lanes (lanes_in scale answer table trace.list)) (λ x i h. each scale answer table trace x valid is i h)

@@ -1,4 +1,4 @@
--- The terminal gaps and the transmit intervals that are drawn are those of the timers.
+-- The terminal gaps that are drawn are those of the timers.
 use Rattle.std.proofs.Common.{◌≡◌, ℕ, zero, suc, ◌+◌, ◌-◌, ◌<◌, ◌≤◌, Bool, true, false, cond, max, min, eqb, ltb, List, [], ◌∷◌, ◌++◌, length, take, Option, Some, None, get_or, replicate, filter, inl, inr, arith, refl, sym, ap, subst, ◌∙◌}
 use Rattle.std.specs.Prelude.{◌&&◌, ◌⊎◌, IfSome, IsTrue, fold, slice_get}
 use Rattle.std.specs.List.{AllByRecursion}
@@ -305,18 +305,3 @@ gaps_are_true told table trace sender x valid recorded there shown own less =
       silent = λ u a b. silent_at q sg n t l rises h early_words quiet k over u (omega arith) (omega arith);
       ends = let e : min (place + sender.tg - q) t ≡ min (place - q + sender.tg) t = omega arith in e;
     }
-
-pub intervals_are_true : SentsAreTold → IntervalsAreTrue
-intervals_are_true told table trace sender x recorded shown own =
-    let l : List Entry = trace.list in
-    let q : ℕ = quiet_of table in
-    let is : IsToldOf l x = told l x shown in
-    let e : Entry = is.entry in
-    let moment : e.moment ≡ x.moment = sym (ap (λ (s : Sent). s.moment) is.told) in
-    let terminal : e.terminal ≡ sender.number = sym (ap (λ (s : Sent). s.terminal) is.told) ∙ own in
-    let last : last_place q (own_of l e.terminal (e.moment + 1)) ≡ Some (q + e.moment) =
-    ap (last_place q) (own_more l e recorded.order (at_in l x.at e is.at)) ∙ last_push q (own_of l e.terminal e.moment) e in
-    let here : last_place q (own_of l sender.number (x.moment + 1)) ≡ Some (q + x.moment) =
-    subst (λ (m : ℕ). last_place q (own_of l sender.number (m + 1)) ≡ Some (q + m)) moment
-    (subst (λ (n : ℕ). last_place q (own_of l n (e.moment + 1)) ≡ Some (q + e.moment)) terminal last) in
-    ap (due_place (timing_of table sender)) here ∙ (let s : q + x.moment + table.ti ≡ q + (x.moment + table.ti) = omega arith in s)

@@ -83,10 +83,10 @@ hatched_are_garbled told scale row list box x i j =
     (t, subst (λ b. (box_class scale row (pile_of box) ≡ Garbled) ↔ (b ≡ true)) mark (hatched_by row.garbled row.terminal (is_narrow scale (pile_of box).first)))
 
 -- ---- from the first to the last
-abbrev IsBehind : ℕ → Sent → Type 0
+abbrev pub IsBehind : ℕ → Sent → Type 0
 IsBehind t x = t ≤ x.moment
 
-abbrev Rise : List Sent → Type 0
+abbrev pub Rise : List Sent → Type 0
 Rise [] = ⊤
 Rise (x ∷ xs) = AllByRecursion (IsBehind x.moment) xs × Rise xs
 
@@ -94,7 +94,7 @@ all_behind : (list : List Entry) (k t : ℕ) (xs : List Entry) → AllByRecursio
 all_behind list k t [] h = tt
 all_behind list k t (x ∷ xs) h = (h.0, all_behind list (k + 1) t xs h.1)
 
-rise : (list : List Entry) (k : ℕ) (xs : List Entry) → IsByMoment xs → Rise (sents_from list k xs)
+pub rise : (list : List Entry) (k : ℕ) (xs : List Entry) → IsByMoment xs → Rise (sents_from list k xs)
 rise list k [] order = tt
 rise list k (x ∷ xs) order = (all_behind list (k + 1) x.moment xs order.0, rise list (k + 1) xs order.1)
 
@@ -106,7 +106,7 @@ kept_behind t p (x ∷ xs) h =
       | false ↦ kept_behind t p xs h.1
     ]
 
-kept_rise : (p : Sent → Bool) (xs : List Sent) → Rise xs → Rise (filter p xs)
+pub kept_rise : (p : Sent → Bool) (xs : List Sent) → Rise xs → Rise (filter p xs)
 kept_rise p [] h = tt
 kept_rise p (x ∷ xs) h =
     elim (p x) as (λ b. Rise (cond b (x ∷ filter p xs) (filter p xs))) [

@@ -7,6 +7,12 @@ pub mod CountLemmas
 pub mod AreaLemmas
 pub mod PaceLemmas
 pub mod LoadLemmas
-pub mod FindLemmas
 pub mod HeardLemmas
 pub mod GapLemmas
+pub mod TintLemmas
+pub mod TintLawLemmas
+pub mod TakingLemmas
+pub mod TakingLawLemmas
+pub mod IntervalLemmas
+pub mod StartLemmas
+pub mod OffsetLemmas

@@ -1,5 +1,5 @@
--- Loads, one transmission after the other, and how they are rounded.
-use Rattle.std.proofs.Common.{◌≡◌, ℕ, ◌+◌, ◌*◌, ◌<◌, ◌≤◌, Bool, true, false, cond, List, [], ◌∷◌, ◌++◌, filter, length, take, get_or, Option, arith, refl, sym, ap, ◌∙◌}
+-- Loads, one transmission after the other.
+use Rattle.std.proofs.Common.{◌≡◌, ℕ, ◌+◌, ◌<◌, Bool, true, false, cond, List, [], ◌∷◌, ◌++◌, filter, length, take, get_or, Option, arith, refl, sym, ap, ◌∙◌}
 use Rattle.std.specs.List.{range_with_len, sum_by}
 use Rattle.std.proofs.lemmas.List.{map-id, take_more}
 use Rattle.std.proofs.lemmas.List.Elements.{filter-append}
@@ -7,7 +7,7 @@ use Rattle.std.proofs.lemmas.List.FromFn.{map-range_with_len_more}
 use Rattle.std.proofs.lemmas.List.Sums.{sum_by-append}
 use Rattle.bus_strings.specs.Messages.{Entry}
 use Rattle.bus_shapes.specs.declared.scale.Scale.{Scale}
-use Rattle.bus_picture.specs.Loads.{LoadsAreNearest, is_by, load_bits, pulse_bits, sent_bits}
+use Rattle.bus_picture.specs.Loads.{is_by, load_bits, pulse_bits, sent_bits}
 
 range_more : (n : ℕ) → range_with_len 0 (n + 1) ≡ range_with_len 0 n ++ n ∷ []
 range_more n = sym (map-id (range_with_len 0 (n + 1))) ∙ map-range_with_len_more (λ (k : ℕ). k) 0 n n (omega arith) ∙ ap (λ (l : List ℕ). l ++ n ∷ []) (map-id (range_with_len 0 n))
@@ -33,10 +33,3 @@ sent_more scale terminal list k d h =
     ∙ ap (sum_by (sent_bits scale)) (filter-append (is_by terminal) (take k list) (get_or list k d ∷ []))
     ∙ sum_by-append (sent_bits scale) (filter (is_by terminal) (take k list)) (filter (is_by terminal) (get_or list k d ∷ []))
     ∙ ap (λ n. sum_by (sent_bits scale) (filter (is_by terminal) (take k list)) + n) (kept_by (sent_bits scale) (get_or list k d) (is_by terminal (get_or list k d)))
-
--- ---- rounding
-pub loads_are_nearest : LoadsAreNearest
-loads_are_nearest part whole some =
-    let divided : 0 < 2 * whole = omega arith in
-    let x = 2000 * part + whole in
-    (omega (arith, divided), omega (arith, divided))

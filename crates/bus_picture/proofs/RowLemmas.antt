@@ -4,6 +4,7 @@ use Rattle.std.specs.List.{AllByRecursion, flat_map}
 use Rattle.std.proofs.lemmas.List.{append_assoc}
 use Rattle.std.proofs.lemmas.List.Sums.{fold-append}
 use Rattle.bus_strings.specs.Messages.{Entry}
+use Rattle.bus_table.specs.Tables.{Table}
 use Rattle.bus_shapes.specs.declared.sent.Sent.{Sent}
 use Rattle.bus_shapes.specs.declared.scale.Scale.{Scale}
 use Rattle.bus_shapes.specs.Sending.{sents}
@@ -19,57 +20,57 @@ single x = record { first = x; others = [] }
 abbrev longer : Box → Sent → Box
 longer box y = record { first = box.first; others = box.others ++ y ∷ [] }
 
-abbrev texts : Scale → Row → List Entry → List Box → List ℕ
-texts scale row list bs = flat_map (λ box. pile_text scale row list (pile_of box)) bs
+abbrev texts : Scale → Table → Row → List Entry → List Box → List ℕ
+texts scale table row list bs = flat_map (λ box. pile_text scale table row list (pile_of box)) bs
 
 -- A box with one more.
 grows : (box : Box) (y : Sent) → grown (pile_of box) y ≡ pile_of (longer box y)
 grows box y = sym (fold-append grown (one box.first) box.others (y ∷ []))
 
 -- Where x is shown, it shares the last box or not.
-by_joins : (scale : Scale) (row : Row) (list : List Entry) (box : Box) (x : Sent) (xs ys : List Sent) (j : Bool)
-    → to_come scale row list (Some (pile_of (longer box x))) xs ≡ texts scale row list (boxes_from scale (longer box x) ys)
-    → to_come scale row list (Some (pile_of (single x))) xs ≡ texts scale row list (boxes_from scale (single x) ys)
-    → (cond j [] (pile_text scale row list (pile_of box)) ++ to_come scale row list (Some (cond j (grown (pile_of box) x) (one x))) xs)
-    ≡ texts scale row list (cond j (boxes_from scale (longer box x) ys) (box ∷ boxes_from scale (single x) ys))
-by_joins scale row list box x xs ys true more new = ap (λ (pile : Pile). to_come scale row list (Some pile) xs) (grows box x) ∙ more
-by_joins scale row list box x xs ys false more new = ap (λ (t : List ℕ). pile_text scale row list (pile_of box) ++ t) new
+by_joins : (scale : Scale) (table : Table) (row : Row) (list : List Entry) (box : Box) (x : Sent) (xs ys : List Sent) (j : Bool)
+    → to_come scale table row list (Some (pile_of (longer box x))) xs ≡ texts scale table row list (boxes_from scale (longer box x) ys)
+    → to_come scale table row list (Some (pile_of (single x))) xs ≡ texts scale table row list (boxes_from scale (single x) ys)
+    → (cond j [] (pile_text scale table row list (pile_of box)) ++ to_come scale table row list (Some (cond j (grown (pile_of box) x) (one x))) xs)
+    ≡ texts scale table row list (cond j (boxes_from scale (longer box x) ys) (box ∷ boxes_from scale (single x) ys))
+by_joins scale table row list box x xs ys true more new = ap (λ (pile : Pile). to_come scale table row list (Some pile) xs) (grows box x) ∙ more
+by_joins scale table row list box x xs ys false more new = ap (λ (t : List ℕ). pile_text scale table row list (pile_of box) ++ t) new
 
-by_shown : (scale : Scale) (row : Row) (list : List Entry) (box : Box) (x : Sent) (xs ys : List Sent) (b : Bool)
-    → (written scale row list (Some (pile_of box)) x ++ to_come scale row list (Some (with_next scale (Some (pile_of box)) x)) xs)
-    ≡ texts scale row list (boxes_from scale box (x ∷ ys))
-    → to_come scale row list (Some (pile_of box)) xs ≡ texts scale row list (boxes_from scale box ys)
-    → (cond b (written scale row list (Some (pile_of box)) x) [] ++ to_come scale row list (cond b (Some (with_next scale (Some (pile_of box)) x)) (Some (pile_of box))) xs)
-    ≡ texts scale row list (boxes_from scale box (cond b (x ∷ ys) ys))
-by_shown scale row list box x xs ys true shared other = shared
-by_shown scale row list box x xs ys false shared other = other
+by_shown : (scale : Scale) (table : Table) (row : Row) (list : List Entry) (box : Box) (x : Sent) (xs ys : List Sent) (b : Bool)
+    → (written scale table row list (Some (pile_of box)) x ++ to_come scale table row list (Some (with_next scale (Some (pile_of box)) x)) xs)
+    ≡ texts scale table row list (boxes_from scale box (x ∷ ys))
+    → to_come scale table row list (Some (pile_of box)) xs ≡ texts scale table row list (boxes_from scale box ys)
+    → (cond b (written scale table row list (Some (pile_of box)) x) [] ++ to_come scale table row list (cond b (Some (with_next scale (Some (pile_of box)) x)) (Some (pile_of box))) xs)
+    ≡ texts scale table row list (boxes_from scale box (cond b (x ∷ ys) ys))
+by_shown scale table row list box x xs ys true shared other = shared
+by_shown scale table row list box x xs ys false shared other = other
 
 -- What is to come behind a box is that box and the others.
-behind : (scale : Scale) (row : Row) (list : List Entry) (box : Box) (xs : List Sent)
-    → to_come scale row list (Some (pile_of box)) xs ≡ texts scale row list (boxes_from scale box (filter (shows scale row) xs))
-behind scale row list box [] = sym (append-nil (pile_text scale row list (pile_of box)))
-behind scale row list box (x ∷ xs) =
-    by_shown scale row list box x xs (filter (shows scale row) xs) (shows scale row x)
-    (by_joins scale row list box x xs (filter (shows scale row) xs) (joins scale (pile_of box) x) (behind scale row list (longer box x) xs)
-    (behind scale row list (single x) xs))
-    (behind scale row list box xs)
+behind : (scale : Scale) (table : Table) (row : Row) (list : List Entry) (box : Box) (xs : List Sent)
+    → to_come scale table row list (Some (pile_of box)) xs ≡ texts scale table row list (boxes_from scale box (filter (shows scale row) xs))
+behind scale table row list box [] = sym (append-nil (pile_text scale table row list (pile_of box)))
+behind scale table row list box (x ∷ xs) =
+    by_shown scale table row list box x xs (filter (shows scale row) xs) (shows scale row x)
+    (by_joins scale table row list box x xs (filter (shows scale row) xs) (joins scale (pile_of box) x) (behind scale table row list (longer box x) xs)
+    (behind scale table row list (single x) xs))
+    (behind scale table row list box xs)
 
-first_shown : (scale : Scale) (row : Row) (list : List Entry) (x : Sent) (xs ys : List Sent) (b : Bool)
-    → to_come scale row list (Some (one x)) xs ≡ texts scale row list (boxes_from scale (single x) ys)
-    → to_come scale row list None xs ≡ texts scale row list (boxes scale ys)
-    → (cond b [] [] ++ to_come scale row list (cond b (Some (one x)) None) xs) ≡ texts scale row list (boxes scale (cond b (x ∷ ys) ys))
-first_shown scale row list x xs ys true shared other = shared
-first_shown scale row list x xs ys false shared other = other
+first_shown : (scale : Scale) (table : Table) (row : Row) (list : List Entry) (x : Sent) (xs ys : List Sent) (b : Bool)
+    → to_come scale table row list (Some (one x)) xs ≡ texts scale table row list (boxes_from scale (single x) ys)
+    → to_come scale table row list None xs ≡ texts scale table row list (boxes scale ys)
+    → (cond b [] [] ++ to_come scale table row list (cond b (Some (one x)) None) xs) ≡ texts scale table row list (boxes scale (cond b (x ∷ ys) ys))
+first_shown scale table row list x xs ys true shared other = shared
+first_shown scale table row list x xs ys false shared other = other
 
-all_come : (scale : Scale) (row : Row) (list : List Entry) (xs : List Sent)
-    → to_come scale row list None xs ≡ texts scale row list (boxes scale (filter (shows scale row) xs))
-all_come scale row list [] = refl
-all_come scale row list (x ∷ xs) =
-    first_shown scale row list x xs (filter (shows scale row) xs) (shows scale row x) (behind scale row list (single x) xs) (all_come scale row list xs)
+all_come : (scale : Scale) (table : Table) (row : Row) (list : List Entry) (xs : List Sent)
+    → to_come scale table row list None xs ≡ texts scale table row list (boxes scale (filter (shows scale row) xs))
+all_come scale table row list [] = refl
+all_come scale table row list (x ∷ xs) =
+    first_shown scale table row list x xs (filter (shows scale row) xs) (shows scale row x) (behind scale table row list (single x) xs) (all_come scale table row list xs)
 
 -- All that is to come is the row.
-pub whole_row : (scale : Scale) (row : Row) (list : List Entry) → to_come scale row list None (sents list) ≡ row_text scale row list
-whole_row scale row list = all_come scale row list (sents list)
+pub whole_row : (scale : Scale) (table : Table) (row : Row) (list : List Entry) → to_come scale table row list None (sents list) ≡ row_text scale table row list
+whole_row scale table row list = all_come scale table row list (sents list)
 
 -- ---- what a writer keeps
 choose_pile : (b : Bool) (p : Pile) (o : Option Pile) → IsPile p → IsLast o → IsLast (cond b (Some p) o)
@@ -107,38 +108,38 @@ next_held scale row last x =
     choose_held (shows scale row x) (with_next scale last x) last (held last + 1) (next_count scale last x) (omega arith)
 
 -- Nothing is written yet.
-pub begun : (text : List ℕ → Type 0) (scale : Scale) (row : Row) (list : List Entry) (left : List Sent) → left ≡ sents list → text []
-    → Writing text scale row list None left
-begun text scale row list left is nothing = record {
+pub begun : (text : List ℕ → Type 0) (scale : Scale) (table : Table) (row : Row) (list : List Entry) (left : List Sent) → left ≡ sents list → text []
+    → Writing text scale table row list None left
+begun text scale table row list left is nothing = record {
   done = [];
   adds = nothing;
-  rest = ap (to_come scale row list None) is;
+  rest = ap (to_come scale table row list None) is;
   order = subst (AllByRecursion IsInOrder) (sym is) (all_in_order list);
   pile = tt;
   few = omega (arith, ap length is, as_many list);
 }
 
 -- The next transmission is taken.
-pub took : (text text' : List ℕ → Type 0) (scale : Scale) (row : Row) (list : List Entry) (last last' : Option Pile) (x : Sent) (left xs : List Sent)
-    → (w : Writing text scale row list last left) → left ≡ x ∷ xs → last' ≡ next_pile scale row last x
-    → text' (w.done ++ next_written scale row list last x) → Writing text' scale row list last' xs
-took text text' scale row list last last' x left xs w is next adds =
+pub took : (text text' : List ℕ → Type 0) (scale : Scale) (table : Table) (row : Row) (list : List Entry) (last last' : Option Pile) (x : Sent) (left xs : List Sent)
+    → (w : Writing text scale table row list last left) → left ≡ x ∷ xs → last' ≡ next_pile scale row last x
+    → text' (w.done ++ next_written scale table row list last x) → Writing text' scale table row list last' xs
+took text text' scale table row list last last' x left xs w is next adds =
     let order : AllByRecursion IsInOrder (x ∷ xs) = subst (AllByRecursion IsInOrder) is w.order in
     let long : length left ≡ suc (length xs) = ap length is in
     let count = next_held scale row last x in
     record {
-      done = w.done ++ next_written scale row list last x;
+      done = w.done ++ next_written scale table row list last x;
       adds = adds;
-      rest = ap (λ (o : Option Pile). (w.done ++ next_written scale row list last x) ++ to_come scale row list o xs) next
-          ∙ append_assoc w.done (next_written scale row list last x) (to_come scale row list (next_pile scale row last x) xs)
-          ∙ ap (λ (ys : List Sent). w.done ++ to_come scale row list last ys) (sym is) ∙ w.rest;
+      rest = ap (λ (o : Option Pile). (w.done ++ next_written scale table row list last x) ++ to_come scale table row list o xs) next
+          ∙ append_assoc w.done (next_written scale table row list last x) (to_come scale table row list (next_pile scale row last x) xs)
+          ∙ ap (λ (ys : List Sent). w.done ++ to_come scale table row list last ys) (sym is) ∙ w.rest;
       order = order.1;
       pile = subst IsLast (sym next) (next_is_last scale row last x w.pile order.0);
       few = omega (arith, ap held next, w.few);
     }
 
 -- All are taken.
-pub ended : (text : List ℕ → Type 0) (scale : Scale) (row : Row) (list : List Entry) (last : Option Pile) (left : List Sent)
-    → (w : Writing text scale row list last left) → left ≡ [] → w.done ++ last_written scale row list last ≡ row_text scale row list
-ended text scale row list last left w is =
-    ap (λ (xs : List Sent). w.done ++ to_come scale row list last xs) (sym is) ∙ w.rest ∙ whole_row scale row list
+pub ended : (text : List ℕ → Type 0) (scale : Scale) (table : Table) (row : Row) (list : List Entry) (last : Option Pile) (left : List Sent)
+    → (w : Writing text scale table row list last left) → left ≡ [] → w.done ++ last_written scale table row list last ≡ row_text scale table row list
+ended text scale table row list last left w is =
+    ap (λ (xs : List Sent). w.done ++ to_come scale table row list last xs) (sym is) ∙ w.rest ∙ whole_row scale table row list

@@ -1,12 +1,13 @@
 -- What follows of the definitions. The contracts of `laws` say that each of these holds.
-use Rattle.std.specs.Prelude.{◌≡◌, ◌↔◌, ℕ, ◌+◌, ◌*◌, ◌<◌, ◌≤◌, ◌⊎◌, true, IsTrue, List, [], ◌∷◌, length, filter, ⊤}
+use Rattle.std.specs.Prelude.{◌≡◌, ◌↔◌, ℕ, ◌+◌, ◌*◌, ◌<◌, ◌≤◌, ◌⊎◌, false, true, IsTrue, List, [], ◌∷◌, length, filter, ⊤}
 use Rattle.std.specs.List.{AllByRecursion, count_by, flat_map, sum_by}
 use Rattle.bus_strings.specs.Members.{In}
 use Rattle.bus_strings.specs.Messages.{Entry}
-use Rattle.bus_strings.specs.Transmissions.{IsByMoment, garbled}
+use Rattle.bus_strings.specs.Transmissions.{IsByMoment, end_of, garbled}
 use Rattle.bus_table.specs.Tables.{Table}
 use Rattle.bus_table.specs.Valid.{is_valid}
 use Rattle.bus_trace.specs.Traces.{Recording, IsTrace}
+use Rattle.bus_audit.specs.declared.answer.AuditAnswer.{AuditAnswer}
 use Rattle.bus_dump.specs.declared.lane.Lane.{Lane}
 use Rattle.bus_dump.specs.Lanes.{lanes}
 use Rattle.bus_shapes.specs.declared.area.Area.{Area}
@@ -19,7 +20,9 @@ use Rattle.bus_shapes.specs.Sending.{sents}
 use Rattle.bus_shapes.specs.SendingLaws.{IsToldOf}
 use Rattle.bus_picture.specs.Boxes.{Box, Pile, boxes, grown, members, one, pile_of}
 use Rattle.bus_picture.specs.Rows.{Row, box_area, box_class, shown, shows}
-use Rattle.bus_picture.specs.TimeLines.{bus_rows, counts_of, is_shown, rows_of, rows_of_lanes}
+use Rattle.bus_picture.specs.Lanes.{is_named}
+use Rattle.bus_picture.specs.Strings.{meets}
+use Rattle.bus_picture.specs.TimeLines.{bus_rows, counts_of, is_shown, lanes_in, rows_of, rows_of_lanes}
 use Rattle.bus_picture.specs.Marks.{head_dash, lower_dash, upper_dash}
 use Rattle.bus_picture.specs.Measures.{breach_line, plot_top, row_height, words_depth}
 
@@ -71,7 +74,7 @@ AreUncovered (row ∷ rows) =
 
 -- All rows of a time line are so.
 abbrev pub GarbledAreUncovered : Type 0
-GarbledAreUncovered = (bottom : ℕ) (lanes : List Lane) → AreUncovered (rows_of bottom lanes)
+GarbledAreUncovered = (lanes : List Lane) → AreUncovered (rows_of lanes)
 
 -- A box lies within its row.
 abbrev pub BoxesLieInRows : Type 0
@@ -94,7 +97,7 @@ pub record HidesNone (box : Area) (left width : ℕ) : Type 0 where
 -- Neither the line at a breach nor its words hide a box, in no time line: the words stand above all boxes.
 abbrev pub BreachesHideNoBox : Type 0
 BreachesHideNoBox =
-    (scale : Scale) (bottom : ℕ) (lanes : List Lane) (row : Row) (pile : Pile) (left width : ℕ) → In row (rows_of bottom lanes)
+    (scale : Scale) (lanes : List Lane) (row : Row) (pile : Pile) (left width : ℕ) → In row (rows_of lanes)
     → HidesNone (box_area scale row pile) left width × (breach_line + words_depth ≤ (box_area scale row pile).top)
 
 -- How many of these rows show a transmission.
@@ -103,13 +106,25 @@ rows_with scale rows x = count_by (λ (row : Row). shows scale row x) rows
 
 -- Each transmission that meets the window is shown by exactly one row of the bus.
 abbrev pub EachIsOnTheBus : Type 0
-EachIsOnTheBus = (scale : Scale) (bottom : ℕ) (x : Sent) → is_shown scale x ≡ true → rows_with scale (bus_rows bottom) x ≡ 1
+EachIsOnTheBus = (scale : Scale) (x : Sent) → is_shown scale x ≡ true → rows_with scale bus_rows x ≡ 1
 
--- Each transmission of a trace that meets the window is shown by exactly one row of all lanes.
+-- Each transmission of a trace that meets the window is shown by exactly one row of all lanes that are drawn.
 abbrev pub EachIsInOneLane : Type 0
 EachIsInOneLane =
-    (scale : Scale) (bottom : ℕ) (table : Table) (trace : Recording) (x : Sent) → IsTrue (is_valid table) → IsTrace trace
-    → In x (sents trace.list) → is_shown scale x ≡ true → rows_with scale (rows_of_lanes bottom (lanes table trace.list)) x ≡ 1
+    (scale : Scale) (answer : AuditAnswer) (table : Table) (trace : Recording) (x : Sent) → IsTrue (is_valid table) → IsTrace trace
+    → In x (sents trace.list) → is_shown scale x ≡ true → rows_with scale (rows_of_lanes (lanes_in scale answer table trace.list)) x ≡ 1
+
+-- ---- lanes
+-- The terminal of a lane sends nothing in the window, and the first breach doesn't name it.
+pub record IsSilent (scale : Scale) (answer : AuditAnswer) (list : List Entry) (lane : Lane) : Type 0 where
+  pub sends : (x : Entry) → In x list → x.terminal ≡ lane.terminal → meets scale x.moment (end_of x) ≡ false
+  pub unnamed : is_named answer lane.terminal ≡ false
+
+-- Each lane that isn't drawn is such a one.
+abbrev pub LeftOutAreSilent : Type 0
+LeftOutAreSilent =
+    (scale : Scale) (answer : AuditAnswer) (table : Table) (list : List Entry) (lane : Lane) → In lane (lanes table list)
+    → In lane (lanes_in scale answer table list) ⊎ IsSilent scale answer list lane
 
 -- ---- counts
 -- How many transmissions the boxes of rows have.
@@ -123,10 +138,10 @@ pub record AreCounted (scale : Scale) (trace : Recording) (rows : List Row) : Ty
 
 -- The counts are those of the boxes of the bus.
 abbrev pub BusIsCounted : Type 0
-BusIsCounted = (scale : Scale) (trace : Recording) (bottom : ℕ) → AreCounted scale trace (bus_rows bottom)
+BusIsCounted = (scale : Scale) (trace : Recording) → AreCounted scale trace bus_rows
 
--- The counts are those of the boxes of all lanes.
+-- The counts are those of the boxes of all lanes that are drawn.
 abbrev pub LanesAreCounted : Type 0
 LanesAreCounted =
-    (scale : Scale) (table : Table) (trace : Recording) (bottom : ℕ) → IsTrue (is_valid table) → IsTrace trace
-    → AreCounted scale trace (rows_of_lanes bottom (lanes table trace.list))
+    (scale : Scale) (answer : AuditAnswer) (table : Table) (trace : Recording) → IsTrue (is_valid table) → IsTrace trace
+    → AreCounted scale trace (rows_of_lanes (lanes_in scale answer table trace.list))

@@ -1,10 +1,10 @@
 -- The legend of a time line, and its measures in units of a tenth of a pixel.
-use Rattle.std.specs.Prelude.{ℕ, ◌+◌, List, ◌++◌, codes}
+use Rattle.std.specs.Prelude.{ℕ, ◌+◌, Bool, List, [], ◌++◌, codes, if◌then◌else◌}
 use Rattle.bus_shapes.specs.declared.class.Class.{Class}
-use Rattle.bus_shapes.specs.declared.class.Class.TheVariants.{Gap, Garbled, Interval, Noise, Overlap, Small, Unobserved}
+use Rattle.bus_shapes.specs.declared.class.Class.TheVariants.{Gap, Garbled, Interval, Mark, Noise, Overlap, Small, Unobserved}
 use Rattle.bus_shapes.specs.declared.class.Class.TheVariants as classes
 use Rattle.bus_shapes.specs.Shapes.{box_text, words_text}
-use Rattle.bus_picture.specs.Measures.{line_height}
+use Rattle.bus_picture.specs.Measures.{line_height, offset_height, offset_width}
 
 -- ---- measures
 -- How far below the upper edge of a box of the legend its words stand.
@@ -75,7 +75,7 @@ garbled_words = 7180
 abbrev pub column_width : ℕ
 column_width = 300
 
--- Where the sample of what is garbled on the bus begins.
+-- Where the sample of a tint begins.
 abbrev pub overlap_left : ℕ
 overlap_left = 8100
 
@@ -106,6 +106,18 @@ interval_left = 13000
 -- Where the words on transmit intervals begin.
 abbrev pub interval_words : ℕ
 interval_words = 13380
+
+-- Where the sample of the tick of an offset begins.
+abbrev pub tick_left : ℕ
+tick_left = 14680
+
+-- How far below the upper edge of a sample it begins.
+abbrev pub sample_tick_below : ℕ
+sample_tick_below = 67
+
+-- Where the words on offsets begin.
+abbrev pub offset_words : ℕ
+offset_words = 14760
 
 -- ---- the legend
 -- A box of the legend, of a class.
@@ -141,11 +153,16 @@ legend_garbled top =
     sample_box Garbled garbled_left top garbled_width ++ inner_box Noise noise_left top noise_width
     ++ sample_words garbled_words top (codes "garbled")
 
--- What it says of what lies over all lanes.
-abbrev pub legend_columns : ℕ → List ℕ
-legend_columns top =
-    sample_box Overlap overlap_left top column_width ++ sample_words overlap_words top (codes "garbled on the bus")
-    ++ sample_box Unobserved unobserved_left top column_width ++ sample_words unobserved_words top (codes "behind the horizon")
+-- What it says of tints, where there is one.
+abbrev pub legend_tint : Bool → ℕ → List ℕ
+legend_tint tinted top =
+    if tinted then sample_box Overlap overlap_left top column_width ++ sample_words overlap_words top (codes "two or more at once")
+    else []
+
+-- What it says of what lies behind the horizon.
+abbrev pub legend_horizon : ℕ → List ℕ
+legend_horizon top =
+    sample_box Unobserved unobserved_left top column_width ++ sample_words unobserved_words top (codes "behind the horizon")
 
 -- What it says of timers.
 abbrev pub legend_timers : ℕ → List ℕ
@@ -153,6 +170,14 @@ legend_timers top =
     sample_line Gap gap_left top ++ sample_words gap_words top (codes "gap: SG, TG")
     ++ sample_line Interval interval_left top ++ sample_words interval_words top (codes "transmit interval: TI")
 
--- The legend, whose boxes have this upper edge.
-abbrev pub legend_text : ℕ → List ℕ
-legend_text top = legend_message top ++ legend_garbled top ++ legend_columns top ++ legend_timers top
+-- What it says of where senders should start.
+abbrev pub legend_offsets : ℕ → List ℕ
+legend_offsets top =
+    legend_box Mark tick_left (top + sample_tick_below) offset_width offset_height
+    ++ sample_words offset_words top (codes "offset: AT")
+
+-- The legend of a picture with tints or without, whose boxes have this upper edge.
+abbrev pub legend_text : Bool → ℕ → List ℕ
+legend_text tinted top =
+    legend_message top ++ legend_garbled top ++ legend_tint tinted top ++ legend_horizon top ++ legend_timers top
+    ++ legend_offsets top

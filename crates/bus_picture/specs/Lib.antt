@@ -1,8 +1,12 @@
 pub mod Measures
 pub mod Boxes
+pub mod Takings
 pub mod Strings
 pub mod Rows
+pub mod Tints
 pub mod Gaps
+pub mod Intervals
+pub mod Offsets
 pub mod Timers
 pub mod Legends
 pub mod Lanes
@@ -12,4 +16,7 @@ pub mod Loads
 pub mod TimeLines
 pub mod Laws
 pub mod GapLaws
+pub mod TintLaws
+pub mod TakingLaws
+pub mod OffsetLaws
 pub mod inside

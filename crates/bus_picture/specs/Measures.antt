@@ -25,6 +25,10 @@ names_right = 1380
 abbrev pub load_left : ℕ
 load_left = 15340
 
+-- The middle of the words on the load of the bus in the heading: that of the plot.
+abbrev pub load_middle : ℕ
+load_middle = 8400
+
 -- Where the words on how far starts lie apart begin.
 abbrev pub pace_left : ℕ
 pace_left = 200
@@ -56,6 +60,10 @@ tick_height = 60
 -- How far below the plot the numbers below it stand.
 abbrev pub lower_words : ℕ
 lower_words = 210
+
+-- How far below the plot it stands how many lanes are left out.
+abbrev pub left_out_line : ℕ
+left_out_line = 370
 
 -- How far below the plot the legend begins.
 abbrev pub legend_below : ℕ
@@ -121,6 +129,14 @@ edge_width = 8
 abbrev pub near_room : ℕ
 near_room = 2000
 
+-- The room of the words of a gap, and of a synchronization gap, above its line: 30 pixels.
+abbrev pub gap_room : ℕ
+gap_room = 300
+
+-- The room of the words of a transmit interval: 50 pixels.
+abbrev pub interval_room : ℕ
+interval_room = 500
+
 -- The height of the line of a timer, and the width of the stroke at its end.
 abbrev pub line_height : ℕ
 line_height = 14
@@ -148,6 +164,18 @@ stroke_below = 258
 -- The height of that stroke.
 abbrev pub stroke_height : ℕ
 stroke_height = 48
+
+-- How far below the upper edge of its row the tick of an offset begins.
+abbrev pub tick_below : ℕ
+tick_below = 8
+
+-- The height of that tick, which ends above the boxes of the row.
+abbrev pub offset_height : ℕ
+offset_height = 46
+
+-- The width of that tick.
+abbrev pub offset_width : ℕ
+offset_width = 20
 
 -- The least middle of the words of a breach, so that they have room.
 abbrev pub words_least : ℕ

@@ -6,14 +6,15 @@ use Rattle.std.specs.Bool.{beq}
 use Rattle.std.specs.List.{flat_map}
 use Rattle.std.specs.Option.{option_map_or}
 use Rattle.bus_strings.specs.Messages.{Entry}
+use Rattle.bus_table.specs.Tables.{Table}
 use Rattle.bus_shapes.specs.declared.class.Class.{Class}
-use Rattle.bus_shapes.specs.declared.class.Class.TheVariants.{Garbled, Message, Overlap, Span, Wordstring}
+use Rattle.bus_shapes.specs.declared.class.Class.TheVariants.{Garbled, Message, Span, Wordstring}
 use Rattle.bus_shapes.specs.declared.sent.Sent.{Sent}
 use Rattle.bus_shapes.specs.declared.scale.Scale.{Scale}
 use Rattle.bus_shapes.specs.Scales.{extent, place}
 use Rattle.bus_shapes.specs.Sending.{sents}
 use Rattle.bus_shapes.specs.declared.area.Area.{Area}
-use Rattle.bus_shapes.specs.Shapes.{box_text, titled_text}
+use Rattle.bus_shapes.specs.Shapes.{titled_text}
 use Rattle.bus_picture.specs.Boxes.{Pile, boxes, is_narrow, pile_height, pile_of, pile_words}
 use Rattle.bus_picture.specs.Strings.{meets, strings_text}
 pub use Rattle.bus_picture.specs.declared.row.Row.{Row}
@@ -49,39 +50,34 @@ abbrev pub stretch : Scale → Pile → ℕ → ℕ → Area
 stretch scale pile top height =
     record { left = place scale pile.first.moment; top = top; width = extent scale pile.first.moment pile.end; height = height }
 
--- What is drawn over all lanes of a box of the bus: what is garbled, down to the end of the plot.
-abbrev pub column_text : Scale → Row → Pile → List ℕ
-column_text scale row pile =
-    if row.garbled then box_text Overlap (stretch scale pile row.top (row.bottom - row.top)) else []
-
 -- The wordstrings of a transmission.
-abbrev pub entry_text : Scale → Row → List Entry → Sent → List ℕ
-entry_text scale row list sent = option_map_or (strings_text scale row.top sent.garbled) (slice_get list sent.at) []
+abbrev pub entry_text : Scale → Table → Row → List Entry → Sent → List ℕ
+entry_text scale table row list sent = option_map_or (strings_text scale table row.top sent) (slice_get list sent.at) []
 
 -- What is drawn in a box of a lane: the wordstrings of its one transmission, where that is not narrow.
-abbrev pub inner_text : Scale → Row → List Entry → Pile → List ℕ
-inner_text scale row list pile =
-    if nat_eq pile.count 1 && not (is_narrow scale pile.first) then entry_text scale row list pile.first else []
+abbrev pub inner_text : Scale → Table → Row → List Entry → Pile → List ℕ
+inner_text scale table row list pile =
+    if nat_eq pile.count 1 && not (is_narrow scale pile.first) then entry_text scale table row list pile.first else []
 
--- What is drawn beside a box: of the bus over all lanes, of a lane within it.
-abbrev pub more_text : Option ℕ → Scale → Row → List Entry → Pile → List ℕ
-more_text None scale row list pile = column_text scale row pile
-more_text (Some terminal) scale row list pile = inner_text scale row list pile
+-- What is drawn in a box: of the bus nothing, of a lane wordstrings.
+abbrev pub more_text : Option ℕ → Scale → Table → Row → List Entry → Pile → List ℕ
+more_text None scale table row list pile = []
+more_text (Some terminal) scale table row list pile = inner_text scale table row list pile
 
 -- The area of a box, whose lower edge is that of all boxes of its row.
 abbrev pub box_area : Scale → Row → Pile → Area
 box_area scale row pile = stretch scale pile (row.top + box_below + (box_height - pile_height scale pile)) (pile_height scale pile)
 
--- A box, with what is drawn beside it.
-abbrev pub pile_text : Scale → Row → List Entry → Pile → List ℕ
-pile_text scale row list pile =
+-- A box, with what is drawn in it.
+abbrev pub pile_text : Scale → Table → Row → List Entry → Pile → List ℕ
+pile_text scale table row list pile =
     titled_text (box_class scale row pile) (box_area scale row pile) (pile_words scale pile)
-    ++ more_text row.terminal scale row list pile
+    ++ more_text row.terminal scale table row list pile
 
 -- A row: its boxes.
-abbrev pub row_text : Scale → Row → List Entry → List ℕ
-row_text scale row list = flat_map (λ box. pile_text scale row list (pile_of box)) (boxes scale (shown scale row list))
+abbrev pub row_text : Scale → Table → Row → List Entry → List ℕ
+row_text scale table row list = flat_map (λ box. pile_text scale table row list (pile_of box)) (boxes scale (shown scale row list))
 
 -- Rows, one drawn after the other.
-abbrev pub rows_text : Scale → List Entry → List Row → List ℕ
-rows_text scale list rows = flat_map (λ row. row_text scale row list) rows
+abbrev pub rows_text : Scale → Table → List Entry → List Row → List ℕ
+rows_text scale table list rows = flat_map (λ row. row_text scale table row list) rows

@@ -11,12 +11,15 @@ use Rattle.bus_shapes.specs.declared.class.Class.{Class}
 use Rattle.bus_shapes.specs.declared.class.Class.TheVariants.{Digits, Edge, Label, Noise, NoiseDigits, Overlap}
 use Rattle.bus_shapes.specs.declared.class.Class.TheVariants as classes
 use Rattle.bus_shapes.specs.declared.scale.Scale.{Scale}
+use Rattle.bus_shapes.specs.declared.sent.Sent.{Sent}
+use Rattle.bus_table.specs.Tables.{Table}
 use Rattle.bus_shapes.specs.Sayings.{counted}
 use Rattle.bus_shapes.specs.Scales.{extent, place}
 use Rattle.bus_shapes.specs.declared.area.Area.{Area}
 use Rattle.bus_shapes.specs.Shapes.{box_text, titled_text, words_text}
 use Rattle.bus_picture.specs.Measures.{digits_room, edge_width, label_room, long_room}
 use Rattle.bus_picture.specs.Measures.{name_room, string_below, string_height, string_line, word_room}
+use Rattle.bus_picture.specs.Takings.{taken_words}
 
 -- Whether what goes from one moment to another meets those of a scale.
 abbrev pub meets : Scale → ℕ → ℕ → Bool
@@ -43,6 +46,10 @@ abbrev pub string_words : ℕ → ℕ → Wordstring → List ℕ
 string_words from to string =
     name_words string ++ codes ": moments " ++ decimal from ++ codes " to " ++ decimal to ++ codes ", "
     ++ counted (length string.words) (codes "data word")
+
+-- These words, and which terminals of the table take words of it.
+abbrev pub titled_words : Table → Sent → ℕ → ℕ → Wordstring → List ℕ
+titled_words table sent from to string = string_words from to string ++ taken_words table sent string
 
 -- How a wordstring looks, of a garbled transmission or of another.
 abbrev pub string_class : Bool → Class
@@ -128,23 +135,23 @@ inside_text scale top garbled t area string =
     if has_room scale then each_word scale top garbled t string else label_text garbled area string
 
 -- A wordstring from one moment to another.
-abbrev pub drawn_text : Scale → ℕ → Bool → ℕ → ℕ → Wordstring → List ℕ
-drawn_text scale top garbled from to string =
-    titled_text (string_class garbled) (string_area scale top from to) (string_words from to string)
-    ++ inside_text scale top garbled from (string_area scale top from to) string
+abbrev pub drawn_text : Scale → Table → ℕ → Sent → ℕ → ℕ → Wordstring → List ℕ
+drawn_text scale table top sent from to string =
+    titled_text (string_class sent.garbled) (string_area scale top from to) (titled_words table sent from to string)
+    ++ inside_text scale top sent.garbled from (string_area scale top from to) string
 
 -- The same, where it meets the moments of the scale.
-abbrev pub string_text : Scale → ℕ → Bool → ℕ → ℕ → Wordstring → List ℕ
-string_text scale top garbled from to string =
-    if meets scale from to then drawn_text scale top garbled from to string else []
+abbrev pub string_text : Scale → Table → ℕ → Sent → ℕ → ℕ → Wordstring → List ℕ
+string_text scale table top sent from to string =
+    if meets scale from to then drawn_text scale table top sent from to string else []
 
 -- Wordstring k of a transmission, given the wordstring: its pulse.
-abbrev pub pulse_text : Scale → ℕ → Bool → Entry → ℕ → Wordstring → List ℕ
-pulse_text scale top garbled x k string =
-    string_text scale top garbled (x.moment + pulse_start x.message k)
+abbrev pub pulse_text : Scale → Table → ℕ → Sent → Entry → ℕ → Wordstring → List ℕ
+pulse_text scale table top sent x k string =
+    string_text scale table top sent (x.moment + pulse_start x.message k)
     (x.moment + pulse_start x.message k + pulse_length x.message k) string
 
--- The wordstrings of a transmission.
-abbrev pub strings_text : Scale → ℕ → Bool → Entry → List ℕ
-strings_text scale top garbled x =
-    flat_map (λ k. option_map_or (pulse_text scale top garbled x k) (slice_get x.message k) []) (range_with_len 0 (length x.message))
+-- The wordstrings of a transmission, with what is told of it.
+abbrev pub strings_text : Scale → Table → ℕ → Sent → Entry → List ℕ
+strings_text scale table top sent x =
+    flat_map (λ k. option_map_or (pulse_text scale table top sent x k) (slice_get x.message k) []) (range_with_len 0 (length x.message))

@@ -15,7 +15,7 @@ use Rattle.bus_dump.specs.Lanes.{lanes}
 use Rattle.bus_shapes.specs.declared.axis.Axis.{Axis}
 use Rattle.bus_shapes.specs.declared.axis.Unit.TheVariants.{BitTimes, Microseconds}
 use Rattle.bus_shapes.specs.Axes.{axis_text}
-use Rattle.bus_shapes.specs.declared.class.Class.TheVariants.{Band, Detail, Grid}
+use Rattle.bus_shapes.specs.declared.class.Class.TheVariants.{Band, Detail, Grid, Small}
 use Rattle.bus_shapes.specs.declared.class.Class.TheVariants.{Tick, Unobserved}
 use Rattle.bus_shapes.specs.declared.class.Class.TheVariants as classes
 use Rattle.bus_shapes.specs.Frames.{frame_text, tail_text}
@@ -26,16 +26,18 @@ use Rattle.bus_shapes.specs.Scales.{extent, place}
 use Rattle.bus_shapes.specs.Sending.{sents}
 use Rattle.bus_shapes.specs.Shapes.{box_text, titled_text, words_text}
 use Rattle.bus_shapes.specs.Windows.{Window}
-pub use Rattle.bus_picture.specs.Lanes.{each_lane, lane_top}
+pub use Rattle.bus_picture.specs.Lanes.{drawn_lanes, each_lane, lane_top}
 use Rattle.bus_picture.specs.Legends.{legend_text}
 use Rattle.bus_picture.specs.Loads.{loads_text}
 use Rattle.bus_picture.specs.Marks.{breach_text}
+use Rattle.bus_picture.specs.Offsets.{offsets_text}
 use Rattle.bus_picture.specs.Paces.{paces_text}
 use Rattle.bus_picture.specs.Rows.{Row, rows_text}
 use Rattle.bus_picture.specs.Strings.{meets}
-use Rattle.bus_picture.specs.Timers.{bus_timer, is_near, sender_timers}
+use Rattle.bus_picture.specs.Tints.{has_tints, tints_text}
+use Rattle.bus_picture.specs.Timers.{bus_timer, is_near, sender_timers, track_of}
 use Rattle.bus_picture.specs.Measures.{bus_line, foot_height}
-use Rattle.bus_picture.specs.Measures.{legend_below, lower_words, names_right}
+use Rattle.bus_picture.specs.Measures.{left_out_line, legend_below, lower_words, names_right}
 use Rattle.bus_picture.specs.Measures.{plot_left, plot_top, plot_width, row_height, terminal_line, tick_height, timers_line}
 use Rattle.bus_picture.specs.Measures.{upper_ticks, upper_words}
 
@@ -60,6 +62,16 @@ counts_of scale trace = record {
 }
 
 -- ---- the lanes
+-- The lanes of a scale: those of a table and a list that are drawn there.
+abbrev pub lanes_in : Scale → AuditAnswer → Table → List Entry → List Lane
+lanes_in scale answer table list = drawn_lanes scale answer list (lanes table list)
+
+-- How many lanes are left out, below the plot, where some are.
+abbrev pub left_out_text : ℕ → ℕ → List ℕ
+left_out_text bottom count =
+    if nat_eq count 0 then []
+    else words_text Small plot_left (bottom + left_out_line) (decimal count ++ codes " more terminals send nothing in this window")
+
 -- The offset of a sender, which it has in periodic mode.
 abbrev pub offset_words : Mode → ℕ → List ℕ
 offset_words Aperiodic at = []
@@ -94,35 +106,40 @@ lane_front table k lane =
 
 -- ---- the rows
 -- A row of one place: of what is garbled, or of what isn't.
-abbrev pub row_at : Option ℕ → ℕ → ℕ → Bool → Row
-row_at terminal top bottom garbled = record { terminal = terminal; garbled = garbled; top = top; bottom = bottom }
+abbrev pub row_at : Option ℕ → ℕ → Bool → Row
+row_at terminal top garbled = record { terminal = terminal; garbled = garbled; top = top }
 
 -- The two rows of one place, in the order in which they are drawn: what isn't garbled, and over it what is.
-abbrev pub rows_at : Option ℕ → ℕ → ℕ → List Row
-rows_at terminal top bottom = row_at terminal top bottom false ∷ (row_at terminal top bottom true ∷ [])
+abbrev pub rows_at : Option ℕ → ℕ → List Row
+rows_at terminal top = row_at terminal top false ∷ (row_at terminal top true ∷ [])
 
 -- The rows of the bus.
-abbrev pub bus_rows : ℕ → List Row
-bus_rows bottom = rows_at None plot_top bottom
+abbrev pub bus_rows : List Row
+bus_rows = rows_at None plot_top
 
 -- The rows of lane k.
-abbrev pub lane_rows : ℕ → ℕ → Lane → List Row
-lane_rows bottom k lane = rows_at (Some lane.terminal) (lane_top k) bottom
+abbrev pub lane_rows : ℕ → Lane → List Row
+lane_rows k lane = rows_at (Some lane.terminal) (lane_top k)
 
 -- The rows of all lanes.
-abbrev pub rows_of_lanes : ℕ → List Lane → List Row
-rows_of_lanes bottom lanes = each_lane (lane_rows bottom) 0 lanes
+abbrev pub rows_of_lanes : List Lane → List Row
+rows_of_lanes lanes = each_lane lane_rows 0 lanes
 
 -- All rows, in the order in which they are drawn.
-abbrev pub rows_of : ℕ → List Lane → List Row
-rows_of bottom lanes = bus_rows bottom ++ rows_of_lanes bottom lanes
+abbrev pub rows_of : List Lane → List Row
+rows_of lanes = bus_rows ++ rows_of_lanes lanes
 
 -- ---- the timers
--- The timers of lane k, where its terminal is a sender.
+-- The timers of a sender in lane k, and where it should start.
+abbrev pub lane_sender : Scale → Table → List Entry → ℕ → Lane → Sender → List ℕ
+lane_sender scale table list k lane sender =
+    sender_timers scale list (track_of table k lane.terminal sender.tg)
+    ++ offsets_text table.mode scale (lane_top k) table.ti sender.at
+
+-- The same of lane k, where its terminal is a sender.
 abbrev pub lane_timers : Scale → Table → List Entry → ℕ → Lane → List ℕ
 lane_timers scale table list k lane =
-    option_map_or (λ (sender : Sender). sender_timers scale table list k (lane_top k) lane.terminal sender.tg)
-    (sender_of table lane.terminal) []
+    option_map_or (lane_sender scale table list k lane) (sender_of table lane.terminal) []
 
 -- Those of the bus and of the lanes, where the scale is near enough.
 abbrev pub timers_text : Scale → List Lane → Table → List Entry → List ℕ
@@ -163,17 +180,28 @@ plot_text scale bottom lanes answer table trace =
     ++ loads_text scale lanes trace.list
     ++ each_lane (lane_front table) 0 lanes
     ++ axes_text scale bottom ++ unobserved_text scale bottom trace.horizon
-    ++ rows_text scale trace.list (rows_of bottom lanes) ++ timers_text scale lanes table trace.list
+    ++ tints_text scale bottom trace.list ++ rows_text scale table trace.list (rows_of lanes) ++ timers_text scale lanes table trace.list
     ++ breach_text scale lanes answer
 
--- A picture with these lanes.
-abbrev pub picture_text : Scale → List Lane → TableVerdict → AuditAnswer → Table → Recording → List ℕ
-picture_text scale lanes verdict answer table trace =
+-- What stands below the plot: how many lanes are left out, and the legend.
+abbrev pub foot_text : Scale → ℕ → ℕ → Recording → List ℕ
+foot_text scale bottom left_out trace =
+    left_out_text bottom left_out ++ legend_text (has_tints scale trace.list) (bottom + legend_below)
+
+-- A picture with these lanes, and with so many left out.
+abbrev pub picture_text : Scale → List Lane → ℕ → TableVerdict → AuditAnswer → Table → Recording → List ℕ
+picture_text scale lanes left_out verdict answer table trace =
     frame_text (lane_top (length lanes) + foot_height) verdict answer table (counts_of scale trace)
     ++ plot_text scale (lane_top (length lanes)) lanes answer table trace
-    ++ legend_text (lane_top (length lanes) + legend_below) ++ tail_text
+    ++ foot_text scale (lane_top (length lanes)) left_out trace ++ tail_text
+
+-- A picture with those of these lanes that are drawn.
+abbrev pub drawn_text : Scale → List Lane → TableVerdict → AuditAnswer → Table → Recording → List ℕ
+drawn_text scale lanes verdict answer table trace =
+    picture_text scale (drawn_lanes scale answer trace.list lanes) (length lanes - length (drawn_lanes scale answer trace.list lanes))
+    verdict answer table trace
 
 -- The time line of a trace in a window, with the words of the verdict on the table and the answer of the audit.
 unfoldable pub time_line_text : Window → TableVerdict → AuditAnswer → Table → Recording → List ℕ
 time_line_text window verdict answer table trace =
-    picture_text (scale_of window) (lanes table trace.list) verdict answer table trace
+    drawn_text (scale_of window) (lanes table trace.list) verdict answer table trace

@@ -1,3 +1,6 @@
 -- What the code keeps on its way: words that only contracts of private functions and proofs cite.
 pub mod Working
 pub mod Pacing
+pub mod Tinting
+pub mod Noting
+pub mod Starting

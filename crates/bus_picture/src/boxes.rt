@@ -11,8 +11,9 @@ use crate::pile::{Pile, is_narrow, joins, pile_height, put_pile_words};
 use crate::places::meets;
 use crate::row::Row;
 use crate::strings::put_strings;
+use crate::takers::Takers;
 use bus_outer::{Sink, TextBuffer};
-use bus_shapes::{Area, Class, Scale, Sent, Sents, begin_titled, end_titled, put_box};
+use bus_shapes::{Area, Class, Scale, Sent, Sents, begin_titled, end_titled};
 use bus_strings::Transmission;
 
 /// Whether a transmission is of the row, is garbled exactly where that is, and meets the moments of the scale.
@@ -60,34 +61,23 @@ fn stretch(scale: &Scale, pile: &Pile, top: u64, height: u64) -> Area
     }
 }
 
-/// What is drawn over all lanes of a box of the bus.
-fn put_column<K: Sink>(text: &mut TextBuffer, sink: &mut K, scale: &Scale, row: &Row, pile: &Pile)
-    requires scale { IsScale scale.now }
-    requires pile { IsPile pile.now }
-    requires order { row.now.top ≤ row.now.bottom }
-    ensures { Adds K.held K.faults sink.old sink.new text.old text.new (definition.column_text scale.now row.now pile.now) }
-{
-    if row.garbled {
-        let area = stretch(scale, pile, row.top, row.bottom - row.top);
-        put_box(text, sink, Class::Overlap, area);
-    }
-}
-
 /// The wordstrings of entry `at` of the list.
 fn put_entry<K: Sink>(
     text: &mut TextBuffer,
     sink: &mut K,
     scale: &Scale,
+    takers: &Takers<'_>,
     row: &Row,
     list: &[Transmission],
     sent: &Sent,
 )
     requires scale { IsScale scale.now }
     requires top { row.now.top < 2 ^ 40 }
-    ensures { Adds K.held K.faults sink.old sink.new text.old text.new (definition.entry_text scale.now row.now list.now sent.now) }
+    ensures { Adds K.held K.faults sink.old sink.new text.old text.new
+        (definition.entry_text scale.now takers.now row.now list.now sent.now) }
 {
     if let Some(x) = list.get(sent.at) {
-        put_strings(text, sink, scale, row.top, sent.garbled, x);
+        put_strings(text, sink, scale, takers, row.top, sent, x);
     }
 }
 
@@ -96,6 +86,7 @@ fn put_inner<K: Sink>(
     text: &mut TextBuffer,
     sink: &mut K,
     scale: &Scale,
+    takers: &Takers<'_>,
     row: &Row,
     list: &[Transmission],
     pile: &Pile,
@@ -104,18 +95,19 @@ fn put_inner<K: Sink>(
     requires pile { IsPile pile.now }
     requires top { row.now.top < 2 ^ 40 }
     ensures { Adds K.held K.faults sink.old sink.new text.old text.new
-        (definition.inner_text scale.now row.now list.now pile.now) }
+        (definition.inner_text scale.now takers.now row.now list.now pile.now) }
 {
     if pile.count == 1 && !is_narrow(scale, &pile.first) {
-        put_entry(text, sink, scale, row, list, &pile.first);
+        put_entry(text, sink, scale, takers, row, list, &pile.first);
     }
 }
 
-/// What a box has beside itself.
+/// What is drawn in a box.
 fn put_more<K: Sink>(
     text: &mut TextBuffer,
     sink: &mut K,
     scale: &Scale,
+    takers: &Takers<'_>,
     row: &Row,
     list: &[Transmission],
     pile: &Pile,
@@ -123,13 +115,12 @@ fn put_more<K: Sink>(
     requires scale { IsScale scale.now }
     requires pile { IsPile pile.now }
     requires top { row.now.top < 2 ^ 40 }
-    requires order { row.now.top ≤ row.now.bottom }
     ensures { Adds K.held K.faults sink.old sink.new text.old text.new
-        (definition.more_text row.now.terminal scale.now row.now list.now pile.now) }
+        (definition.more_text row.now.terminal scale.now takers.now row.now list.now pile.now) }
 {
     match row.terminal {
-        None => put_column(text, sink, scale, row, pile),
-        Some(_) => put_inner(text, sink, scale, row, list, pile),
+        None => {}
+        Some(_) => put_inner(text, sink, scale, takers, row, list, pile),
     }
 }
 
@@ -138,6 +129,7 @@ fn put_pile<K: Sink>(
     text: &mut TextBuffer,
     sink: &mut K,
     scale: &Scale,
+    takers: &Takers<'_>,
     row: &Row,
     list: &[Transmission],
     pile: &Pile,
@@ -145,16 +137,15 @@ fn put_pile<K: Sink>(
     requires scale { IsScale scale.now }
     requires pile { IsPile pile.now }
     requires top { row.now.top < 2 ^ 40 }
-    requires order { row.now.top ≤ row.now.bottom }
     ensures { Adds K.held K.faults sink.old sink.new text.old text.new
-        (definition.pile_text scale.now row.now list.now pile.now) }
+        (definition.pile_text scale.now takers.now row.now list.now pile.now) }
 {
     let height = pile_height(scale, pile);
     let area = stretch(scale, pile, row.top + 60 + (180 - height), height);
     begin_titled(text, sink, box_class(scale, row, pile), area);
     put_pile_words(text, sink, scale, pile);
     end_titled(text, sink);
-    put_more(text, sink, scale, row, list, pile);
+    put_more(text, sink, scale, takers, row, list, pile);
 }
 
 /// A box, where the next transmission doesn't share it.
@@ -162,6 +153,7 @@ fn put_unshared<K: Sink>(
     text: &mut TextBuffer,
     sink: &mut K,
     scale: &Scale,
+    takers: &Takers<'_>,
     row: &Row,
     list: &[Transmission],
     pile: &Pile,
@@ -170,13 +162,12 @@ fn put_unshared<K: Sink>(
     requires scale { IsScale scale.now }
     requires pile { IsPile pile.now }
     requires top { row.now.top < 2 ^ 40 }
-    requires order { row.now.top ≤ row.now.bottom }
     ensures { Adds K.held K.faults sink.old sink.new text.old text.new
-        (working.unshared scale.now row.now list.now pile.now sent.now) }
+        (working.unshared scale.now takers.now row.now list.now pile.now sent.now) }
 {
     let shared = joins(scale, pile, sent);
     if !shared {
-        put_pile(text, sink, scale, row, list, pile);
+        put_pile(text, sink, scale, takers, row, list, pile);
     }
 }
 
@@ -185,6 +176,7 @@ fn put_written<K: Sink>(
     text: &mut TextBuffer,
     sink: &mut K,
     scale: &Scale,
+    takers: &Takers<'_>,
     row: &Row,
     list: &[Transmission],
     last: &Option<Pile>,
@@ -194,12 +186,11 @@ fn put_written<K: Sink>(
     requires last { IsLast last.now }
     requires sent { sent.now.moment ≤ sent.now.end }
     requires top { row.now.top < 2 ^ 40 }
-    requires order { row.now.top ≤ row.now.bottom }
     ensures { Adds K.held K.faults sink.old sink.new text.old text.new
-        (working.written scale.now row.now list.now last.now sent.now) }
+        (working.written scale.now takers.now row.now list.now last.now sent.now) }
 {
     if let Some(pile) = last {
-        put_unshared(text, sink, scale, row, list, pile, sent);
+        put_unshared(text, sink, scale, takers, row, list, pile, sent);
     }
 }
 
@@ -228,6 +219,7 @@ fn take<K: Sink>(
     text: &mut TextBuffer,
     sink: &mut K,
     scale: &Scale,
+    takers: &Takers<'_>,
     row: &Row,
     list: &[Transmission],
     last: Option<Pile>,
@@ -238,15 +230,14 @@ fn take<K: Sink>(
     requires sent { sent.now.moment ≤ sent.now.end }
     requires few { held last < 2 ^ 63 }
     requires top { row.now.top < 2 ^ 40 }
-    requires order { row.now.top ≤ row.now.bottom }
     ensures adds { Adds K.held K.faults sink.old sink.new text.old text.new
-        (working.next_written scale.now row.now list.now last sent.now) }
+        (working.next_written scale.now takers.now row.now list.now last sent.now) }
     ensures last { result ≡ working.next_pile scale.now row.now last sent.now }
 {
     if !shows(scale, row, sent) {
         return last;
     }
-    put_written(text, sink, scale, row, list, &last, sent);
+    put_written(text, sink, scale, takers, row, list, &last, sent);
     Some(with_next(scale, &last, sent))
 }
 
@@ -255,6 +246,7 @@ fn put_last<K: Sink>(
     text: &mut TextBuffer,
     sink: &mut K,
     scale: &Scale,
+    takers: &Takers<'_>,
     row: &Row,
     list: &[Transmission],
     last: &Option<Pile>,
@@ -262,12 +254,11 @@ fn put_last<K: Sink>(
     requires scale { IsScale scale.now }
     requires last { IsLast last.now }
     requires top { row.now.top < 2 ^ 40 }
-    requires order { row.now.top ≤ row.now.bottom }
     ensures { Adds K.held K.faults sink.old sink.new text.old text.new
-        (working.last_written scale.now row.now list.now last.now) }
+        (working.last_written scale.now takers.now row.now list.now last.now) }
 {
     if let Some(pile) = last {
-        put_pile(text, sink, scale, row, list, pile);
+        put_pile(text, sink, scale, takers, row, list, pile);
     }
 }
 
@@ -276,18 +267,18 @@ pub(crate) fn put_row<K: Sink>(
     text: &mut TextBuffer,
     sink: &mut K,
     scale: &Scale,
+    takers: &Takers<'_>,
     row: &Row,
     list: &[Transmission],
 )
     requires scale { IsScale scale.now }
     requires by_moment { IsByMoment list.now }
     requires top { row.now.top < 2 ^ 40 }
-    requires order { row.now.top ≤ row.now.bottom }
-    ensures { Adds K.held K.faults sink.old sink.new text.old text.new (definition.row_text scale.now row.now list.now) }
+    ensures { Adds K.held K.faults sink.old sink.new text.old text.new (definition.row_text scale.now takers.now row.now list.now) }
 {
     let mut last = None;
     for sent in Sents::new(list) {
-        last = take(text, sink, scale, row, list, last, &sent);
+        last = take(text, sink, scale, takers, row, list, last, &sent);
     }
-    put_last(text, sink, scale, row, list, &last);
+    put_last(text, sink, scale, takers, row, list, &last);
 }

@@ -1,13 +1,11 @@
 //! From where a terminal's gap counts.
-ghost use Rattle.std.specs.Prelude.{◌≡◌, ◌<◌, ◌≤◌, ◌+◌, ◌^◌, max, length};
+ghost use Rattle.std.specs.Prelude.{◌≡◌, ◌≤◌, ◌+◌, ◌^◌, max};
 ghost use Rattle.bus_strings.specs.Transmissions.{end_of};
-ghost use Rattle.bus_table.specs.Timers.{quiet_of};
 ghost use Rattle.bus_picture.specs.Gaps as definition;
+ghost use Rattle.bus_picture.specs.inside.Starting as working;
 
-use bus_medium::quiet;
-use bus_shapes::Sent;
+use crate::track::Track;
 use bus_strings::Transmission;
-use bus_table::Table;
 
 /// What a terminal has heard of transmissions. A place is a moment that is counted from the beginning of the quiet before the settled
 /// start, in bit times.
@@ -17,6 +15,17 @@ pub struct Heard {
     pub quiet_from: u64,
     /// Whether the synchronization gap has elapsed since the terminal's own last start.
     pub synchronized: bool,
+}
+
+/// What a terminal has heard of transmissions, where the next one may begin at the moment of the last.
+#[derive(Clone, Copy, Debug, PartialEq, Eq)]
+pub struct Hearing {
+    /// What it has heard of those that begin before the moment of the last.
+    pub before: Heard,
+    /// What it has heard of all.
+    pub all: Heard,
+    /// The moment of the last, and 0 where there is none.
+    pub moment: u64,
 }
 
 /// A terminal gap as it runs before a start, in moments. There is none where `to` isn't behind `from`.
@@ -52,57 +61,55 @@ fn heard_more(quiet: u32, sg: u32, terminal: u8, heard: Heard, x: &Transmission)
     }
 }
 
-/// The same, where the transmission begins before a moment.
-fn heard_next(
-    quiet: u32,
-    sg: u32,
-    terminal: u8,
-    moment: u64,
-    heard: Heard,
-    x: &Transmission,
-) -> Heard
-    requires heard { heard.quiet_from ≤ 2 ^ 42 }
-    ensures value { result ≡ definition.heard_next quiet sg terminal moment heard x.now }
-    ensures far { result.quiet_from ≤ 2 ^ 42 }
+/// What a terminal has heard before anything is sent.
+pub(crate) fn deaf(sg: u32) -> Hearing
+    ensures value { result ≡ working.deaf sg }
+    ensures before { result.before.quiet_from ≤ 2 ^ 42 }
+    ensures all { result.all.quiet_from ≤ 2 ^ 42 }
 {
-    if x.moment < moment {
-        heard_more(quiet, sg, terminal, heard, x)
-    } else {
-        heard
-    }
-}
-
-/// What the terminal of a transmission has heard of those that begin before it.
-fn heard_before(quiet: u32, sg: u32, list: &[Transmission], sent: &Sent) -> Heard
-    requires within { sent.now.at ≤ length list.now }
-    ensures value { result ≡ definition.heard_before quiet sg list.now sent.now }
-    ensures far { result.quiet_from ≤ 2 ^ 42 }
-{
-    let mut heard = Heard {
+    let settled = Heard {
         quiet_from: u64::from(sg),
         synchronized: true,
     };
-    for k in 0..sent.at {
-        heard = heard_next(quiet, sg, sent.terminal, sent.moment, heard, &list[k]);
+    Hearing {
+        before: settled,
+        all: settled,
+        moment: 0,
     }
-    heard
 }
 
-/// The terminal gap before a transmission of a sender.
-pub(crate) fn gap_before(table: &Table, tg: u32, list: &[Transmission], sent: &Sent) -> Gap
-    requires within { sent.now.at ≤ length list.now }
-    ensures value { result ≡ definition.gap_before (quiet_of table.now) table.now.sg tg list.now sent.now }
-    ensures far { result.from ≤ 2 ^ 43 }
+/// What a terminal has heard with one transmission more.
+pub(crate) fn hear(track: Track, hearing: Hearing, x: &Transmission) -> Hearing
+    requires before { hearing.before.quiet_from ≤ 2 ^ 42 }
+    requires all { hearing.all.quiet_from ≤ 2 ^ 42 }
+    ensures value { result ≡ working.hear track.quiet track.sg track.terminal hearing x.now }
+    ensures before { result.before.quiet_from ≤ 2 ^ 42 }
+    ensures all { result.all.quiet_from ≤ 2 ^ 42 }
 {
-    let quiet = quiet(table);
-    let sg = table.sg();
-    let heard = heard_before(quiet, sg, list, sent);
-    let waits = if heard.synchronized { 0 } else { sg };
+    let all = heard_more(track.quiet, track.sg, track.terminal, hearing.all, x);
+    let before = if hearing.moment < x.moment {
+        hearing.all
+    } else {
+        hearing.before
+    };
+    Hearing {
+        before,
+        all,
+        moment: x.moment,
+    }
+}
+
+/// The terminal gap before a start of a sender, which has heard this.
+pub(crate) fn gap_from(track: Track, heard: Heard, moment: u64) -> Gap
+    requires { heard.quiet_from ≤ 2 ^ 42 }
+    ensures { result ≡ definition.gap_from track.quiet track.tg (definition.gap_place track.sg heard) moment }
+{
+    let waits = if heard.synchronized { 0 } else { track.sg };
     let place = heard.quiet_from + u64::from(waits);
     Gap {
-        from: place.saturating_sub(u64::from(quiet)),
-        to: (place + u64::from(tg))
-            .saturating_sub(u64::from(quiet))
-            .min(sent.moment),
+        from: place.saturating_sub(u64::from(track.quiet)),
+        to: (place + u64::from(track.tg))
+            .saturating_sub(u64::from(track.quiet))
+            .min(moment),
     }
 }

@@ -1,12 +1,14 @@
 //! Laws of the definitions, each the contract of a function that does nothing.
-ghost use Rattle.bus_picture.specs.GapLaws.{GapsAreTrue, IntervalsAreTrue};
-ghost use Rattle.bus_picture.specs.Loads.{LoadsAreNearest};
+ghost use Rattle.bus_picture.specs.GapLaws.{GapsAreTrue, IntervalsAreTrue, SyncGapsAreTrue};
+ghost use Rattle.bus_picture.specs.OffsetLaws.{OffsetsAreMarked};
 ghost use Rattle.bus_picture.specs.Laws.{BoxesCoverNoQuiet, BoxesHoldRows, BoxesHoldTheirs, BoxesLieInRows, BreachesHideNoBox};
 ghost use Rattle.bus_picture.specs.Laws.{BusIsCounted, EachIsOnTheBus};
-ghost use Rattle.bus_picture.specs.Laws.{EachIsInOneLane, GarbledAreUncovered, HatchedAreGarbled, LanesAreCounted};
+ghost use Rattle.bus_picture.specs.Laws.{EachIsInOneLane, GarbledAreUncovered, HatchedAreGarbled, LanesAreCounted, LeftOutAreSilent};
+ghost use Rattle.bus_picture.specs.TakingLaws.{NamedReceive, ReceivesStrings};
+ghost use Rattle.bus_picture.specs.TintLaws.{OverlapsAreTinted, TintsAreOverlaps};
 
 use bus_dump::laws::lanes_are_terminals;
-use bus_shapes::laws::sents_are_told;
+use bus_shapes::laws::{places_keep_order, sents_are_told};
 
 /// Each transmission that a row shows is in exactly one box of it.
 pub fn boxes_hold_rows()
@@ -43,8 +45,8 @@ pub fn breaches_hide_no_box()
     ensures { BreachesHideNoBox }
 {}
 
-/// Each transmission that meets the window is shown by exactly one row of the bus, and by exactly one of all lanes: so it is in exactly one
-/// box of the bus, and in exactly one of its lane.
+/// Each transmission that meets the window is shown by exactly one row of the bus, and by exactly one of all lanes that are drawn: so it is
+/// in exactly one box of the bus, and in exactly one of its lane.
 pub fn each_is_in_one_row()
     ensures bus { EachIsOnTheBus }
     ensures lanes { EachIsInOneLane }
@@ -53,7 +55,7 @@ pub fn each_is_in_one_row()
     sents_are_told();
 }
 
-/// The counts above the plot are those of the boxes of the bus, and those of the boxes of all lanes.
+/// The counts above the plot are those of the boxes of the bus, and those of the boxes of all lanes that are drawn.
 pub fn counts_are_shown()
     ensures bus { BusIsCounted }
     ensures lanes { LanesAreCounted }
@@ -61,16 +63,42 @@ pub fn counts_are_shown()
     each_is_in_one_row();
 }
 
-/// A load is rounded once, to the nearest tenth of a percent.
-pub fn loads_are_nearest()
-    ensures { LoadsAreNearest }
-{}
-
 /// Each terminal gap that is drawn is that of the timers: it counts from there, after all that its sender has heard, it has no carrier, and
-/// it is over or ends with a start. Each transmit interval that is drawn elapses where that of the timers does.
+/// it is over or ends with a start. Each transmit interval that is drawn is that of the timers at each of its moments, and it is over or
+/// ends with the next start. Each synchronization gap on the bus begins where carrier ends, and is quiet.
 pub fn timers_are_true()
     ensures gaps { GapsAreTrue }
     ensures intervals { IntervalsAreTrue }
+    ensures sync_gaps { SyncGapsAreTrue }
 {
     sents_are_told();
 }
+
+/// In periodic mode the ticks of a sender whose timers are drawn are those of each moment of the window at which it should start, and of no
+/// other.
+pub fn offsets_are_marked()
+    ensures { OffsetsAreMarked }
+{}
+
+/// Each bit time of the window at which two transmissions are sent is tinted; and at each bit time that is tinted two are sent, or at one
+/// behind it that is less than a pixel away.
+pub fn tints_are_overlaps()
+    ensures tinted { OverlapsAreTinted }
+    ensures overlaps { TintsAreOverlaps }
+{
+    sents_are_told();
+    places_keep_order();
+}
+
+/// Each lane of the table and the trace that isn't drawn is that of a terminal that sends nothing in the window, and that the first breach
+/// doesn't name.
+pub fn left_out_are_silent()
+    ensures { LeftOutAreSilent }
+{}
+
+/// The terminals that the title of a wordstring names are those that receive words of it, and what a terminal receives of a list is what it
+/// receives of each wordstring.
+pub fn takers_receive()
+    ensures named { NamedReceive }
+    ensures strings { ReceivesStrings }
+{}

@@ -55,20 +55,29 @@ fn put_garbled<K: Sink>(text: &mut TextBuffer, sink: &mut K, top: u64)
     put_words(text, sink, Class::Small, 7180, top + 120, b"garbled");
 }
 
-/// What goes through all lanes.
-fn put_columns<K: Sink>(text: &mut TextBuffer, sink: &mut K, top: u64)
+/// Tints, where there is one.
+fn put_tint<K: Sink>(text: &mut TextBuffer, sink: &mut K, tinted: bool, top: u64)
     requires { top < 200000 }
-    ensures { Adds K.held K.faults sink.old sink.new text.old text.new (definition.legend_columns top) }
+    ensures { Adds K.held K.faults sink.old sink.new text.old text.new (definition.legend_tint tinted top) }
 {
-    put_sample(text, sink, Class::Overlap, 8100, top, 300, 180);
-    put_words(
-        text,
-        sink,
-        Class::Small,
-        8480,
-        top + 120,
-        b"garbled on the bus",
-    );
+    if tinted {
+        put_sample(text, sink, Class::Overlap, 8100, top, 300, 180);
+        put_words(
+            text,
+            sink,
+            Class::Small,
+            8480,
+            top + 120,
+            b"two or more at once",
+        );
+    }
+}
+
+/// What lies behind the horizon.
+fn put_horizon<K: Sink>(text: &mut TextBuffer, sink: &mut K, top: u64)
+    requires { top < 200000 }
+    ensures { Adds K.held K.faults sink.old sink.new text.old text.new (definition.legend_horizon top) }
+{
     put_sample(text, sink, Class::Unobserved, 10100, top, 300, 180);
     put_words(
         text,
@@ -98,13 +107,24 @@ fn put_lines<K: Sink>(text: &mut TextBuffer, sink: &mut K, top: u64)
     );
 }
 
-/// The legend, with this upper edge.
-pub(crate) fn put_legend<K: Sink>(text: &mut TextBuffer, sink: &mut K, top: u64)
+/// The ticks of offsets.
+fn put_tick<K: Sink>(text: &mut TextBuffer, sink: &mut K, top: u64)
     requires { top < 200000 }
-    ensures { Adds K.held K.faults sink.old sink.new text.old text.new (definition.legend_text top) }
+    ensures { Adds K.held K.faults sink.old sink.new text.old text.new (definition.legend_offsets top) }
+{
+    put_sample(text, sink, Class::Mark, 14680, top + 67, 20, 46);
+    put_words(text, sink, Class::Small, 14760, top + 120, b"offset: AT");
+}
+
+/// The legend of a picture with tints or without, with this upper edge.
+pub(crate) fn put_legend<K: Sink>(text: &mut TextBuffer, sink: &mut K, tinted: bool, top: u64)
+    requires { top < 200000 }
+    ensures { Adds K.held K.faults sink.old sink.new text.old text.new (definition.legend_text tinted top) }
 {
     put_message(text, sink, top);
     put_garbled(text, sink, top);
-    put_columns(text, sink, top);
+    put_tint(text, sink, tinted, top);
+    put_horizon(text, sink, top);
     put_lines(text, sink, top);
+    put_tick(text, sink, top);
 }

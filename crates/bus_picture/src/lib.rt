@@ -1,29 +1,37 @@
 //! The time line of a trace as an SVG picture: what is on the bus, and a lane for each terminal that sends.
 //!
 //! [`write_time_line`] writes it, and [`laws`] has what follows of its definitions. These are in `specs/`: `Boxes` (which transmissions
-//! share a box), `Strings` (the wordstrings of a message, and their words where these have room), `Rows` (what is drawn of the
-//! transmissions of a row), `Gaps` and `Timers` (the gaps and the transmit interval, each at its first place), `Marks` (the first breach),
-//! `Paces` (how far starts lie apart), `Loads`, and `TimeLines` (which rows there are, and the whole text). What all pictures share is in
-//! `bus_shapes`. No call takes memory.
+//! share a box), `Strings` (the wordstrings of a message, and their words where these have room), `Takings` (who takes words of them),
+//! `Rows` (what is drawn of the transmissions of a row), `Tints` (where several are sent at once), `Lanes` (which lanes are drawn), `Gaps`,
+//! `Intervals` and `Timers` (the gaps and the transmit intervals, at each start), `Offsets` (where senders should start), `Marks` (the
+//! first breach), `Paces` (how far starts lie apart), `Loads`, and `TimeLines` (which rows there are, and the whole text). What all
+//! pictures share is in `bus_shapes`. No call takes memory.
 #![tactic(auto)]
 
 mod boxes;
+mod choosing;
 mod counting;
 mod heard;
 mod lanes;
 pub mod laws;
 mod legend;
+mod lines;
 mod load;
 mod marks;
 mod measures;
 mod names;
+mod offsets;
 mod pace;
 mod pile;
 mod places;
 mod row;
 mod rows;
+mod starts;
 mod strings;
+mod takers;
 mod timers;
+mod tints;
+mod track;
 mod words;
 mod writing;
 

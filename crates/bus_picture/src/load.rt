@@ -13,7 +13,7 @@ use bus_dump::Lane;
 use bus_outer::{Sink, TextBuffer};
 use bus_shapes::{Class, Scale, begin_words, end_words};
 use bus_strings::laws::pulses_cover;
-use bus_strings::{Transmission, pulse_count};
+use bus_strings::{Transmission, pulse_count, put_share, tenths};
 
 /// How many bit times a stretch has in common with the scale.
 fn common(scale: &Scale, begin: u64, end: u64) -> u64
@@ -75,23 +75,35 @@ fn load_bits(scale: &Scale, terminal: Option<u8>, list: &[Transmission]) -> u128
     bits
 }
 
-/// A share in tenths of a percent.
-fn tenths(part: u128, whole: u64) -> u128
-    requires part { part < 2 ^ 111 }
-    requires whole { 0 < whole }
-    ensures { result ≡ definition.tenths part whole }
+/// The load of a terminal, or of all, in words. It goes over the list once.
+fn put_load_words<K: Sink>(
+    text: &mut TextBuffer,
+    sink: &mut K,
+    scale: &Scale,
+    list: &[Transmission],
+    terminal: Option<u8>,
+)
+    requires { IsScale scale.now }
+    ensures { Adds K.held K.faults sink.old sink.new text.old text.new (definition.load_words scale.now list.now terminal) }
 {
-    (2000 * part + u128::from(whole)) / (2 * u128::from(whole))
+    let bits = load_bits(scale, terminal, list);
+    put_share(text, sink, tenths(bits, scale.to - scale.from));
 }
 
-/// Tenths of a percent in words.
-fn put_tenths<K: Sink>(text: &mut TextBuffer, sink: &mut K, n: u128)
-    ensures { Adds K.held K.faults sink.old sink.new text.old text.new (definition.tenths_words n) }
+/// The load of the bus, in the heading.
+fn put_load_heading<K: Sink>(
+    text: &mut TextBuffer,
+    sink: &mut K,
+    scale: &Scale,
+    list: &[Transmission],
+)
+    requires { IsScale scale.now }
+    ensures { Adds K.held K.faults sink.old sink.new text.old text.new (definition.load_heading scale.now list.now) }
 {
-    text.put_number(sink, n / 10);
-    text.put_byte(sink, b'.');
-    text.put_number(sink, n % 10);
-    text.put(sink, b" %");
+    begin_words(text, sink, Class::Number, 8400, 480);
+    text.put(sink, b"offered load ");
+    put_load_words(text, sink, scale, list, None);
+    end_words(text, sink);
 }
 
 /// The load of a terminal, or of all, right of a row.
@@ -107,9 +119,8 @@ fn put_load<K: Sink>(
     ensures { Adds K.held K.faults sink.old sink.new text.old text.new
         (definition.load_text scale.now list.now line terminal) }
 {
-    let bits = load_bits(scale, terminal, list);
     begin_words(text, sink, Class::Small, 15340, line);
-    put_tenths(text, sink, tenths(bits, scale.to - scale.from));
+    put_load_words(text, sink, scale, list, terminal);
     end_words(text, sink);
 }
 
@@ -155,7 +166,7 @@ fn put_lane_loads<K: Sink>(
     }
 }
 
-/// The load of the bus and of each lane. It goes over the list once for each.
+/// The load of the bus, in the heading and beside its row, and of each lane. It goes over the list once for each.
 pub(crate) fn put_loads<K: Sink>(
     text: &mut TextBuffer,
     sink: &mut K,
@@ -168,6 +179,7 @@ pub(crate) fn put_loads<K: Sink>(
     ensures { Adds K.held K.faults sink.old sink.new text.old text.new
         (definition.loads_text scale.now lanes.now list.now) }
 {
+    put_load_heading(text, sink, scale, list);
     put_load(text, sink, scale, list, PLOT_TOP + 200, None);
     put_lane_loads(text, sink, scale, list, lanes);
 }

@@ -8,6 +8,4 @@ pub struct Row {
     pub garbled: bool,
     /// Its upper edge.
     pub top: u64,
-    /// The lower edge of the last row, not above `top`.
-    pub bottom: u64,
 }

@@ -10,11 +10,13 @@ use crate::boxes::put_row;
 use crate::lanes::lane_top;
 use crate::measures::PLOT_TOP;
 use crate::row::Row;
+use crate::takers::Takers;
 use bus_dump::Lane;
 use bus_outer::{Sink, TextBuffer};
 use bus_shapes::Scale;
 use bus_strings::Transmission;
 use bus_strings::laws::neighbours_tell;
+use bus_table::Table;
 use bus_trace::Trace;
 
 /// The two rows of one place: what isn't garbled, and over it what is.
@@ -22,32 +24,29 @@ fn put_rows_at<K: Sink>(
     text: &mut TextBuffer,
     sink: &mut K,
     scale: &Scale,
+    takers: &Takers<'_>,
     list: &[Transmission],
     terminal: Option<u8>,
     top: u64,
-    bottom: u64,
 )
     requires scale { IsScale scale.now }
     requires by_moment { IsByMoment list.now }
     requires low { top < 2 ^ 40 }
-    requires order { top ≤ bottom }
     ensures { Adds K.held K.faults sink.old sink.new text.old text.new
-        (rows_text scale.now list.now (definition.rows_at terminal top bottom)) }
+        (rows_text scale.now takers.now list.now (definition.rows_at terminal top)) }
 {
     let plain = Row {
         terminal,
         garbled: false,
         top,
-        bottom,
     };
     let hurt = Row {
         terminal,
         garbled: true,
         top,
-        bottom,
     };
-    put_row(text, sink, scale, &plain, list);
-    put_row(text, sink, scale, &hurt, list);
+    put_row(text, sink, scale, takers, &plain, list);
+    put_row(text, sink, scale, takers, &hurt, list);
 }
 
 /// The rows of lane `k`.
@@ -55,20 +54,19 @@ fn put_lane<K: Sink>(
     text: &mut TextBuffer,
     sink: &mut K,
     scale: &Scale,
+    takers: &Takers<'_>,
     list: &[Transmission],
-    bottom: u64,
     k: usize,
     lane: Lane,
 )
     requires scale { IsScale scale.now }
     requires by_moment { IsByMoment list.now }
     requires few { k ≤ 256 }
-    requires below { definition.lane_top k ≤ bottom }
     ensures { Adds K.held K.faults sink.old sink.new text.old text.new
-        (rows_text scale.now list.now (definition.lane_rows bottom k lane)) }
+        (rows_text scale.now takers.now list.now (definition.lane_rows k lane)) }
 {
     let top = lane_top(k);
-    put_rows_at(text, sink, scale, list, Some(lane.terminal), top, bottom);
+    put_rows_at(text, sink, scale, takers, list, Some(lane.terminal), top);
 }
 
 /// The rows of each lane. It goes over the list twice for each.
@@ -76,19 +74,18 @@ fn put_lanes<K: Sink>(
     text: &mut TextBuffer,
     sink: &mut K,
     scale: &Scale,
+    takers: &Takers<'_>,
     list: &[Transmission],
-    bottom: u64,
     lanes: &[Lane],
 )
     requires scale { IsScale scale.now }
     requires by_moment { IsByMoment list.now }
     requires few { length lanes.now ≤ 256 }
-    requires bottom { definition.lane_top (length lanes.now) ≤ bottom }
     ensures { Adds K.held K.faults sink.old sink.new text.old text.new
-        (rows_text scale.now list.now (definition.rows_of_lanes bottom lanes.now)) }
+        (rows_text scale.now takers.now list.now (definition.rows_of_lanes lanes.now)) }
 {
     for k in 0..lanes.len() {
-        put_lane(text, sink, scale, list, bottom, k, lanes[k]);
+        put_lane(text, sink, scale, takers, list, k, lanes[k]);
     }
 }
 
@@ -97,18 +94,18 @@ pub(crate) fn put_rows<K: Sink>(
     text: &mut TextBuffer,
     sink: &mut K,
     scale: &Scale,
-    bottom: u64,
     lanes: &[Lane],
+    table: &Table,
     trace: &Trace,
 )
     requires scale { IsScale scale.now }
     requires few { length lanes.now ≤ 256 }
-    requires bottom { bottom ≡ definition.lane_top (length lanes.now) }
     ensures { Adds K.held K.faults sink.old sink.new text.old text.new
-        (rows_text scale.now trace.now.list (definition.rows_of bottom lanes.now)) }
+        (rows_text scale.now table.now trace.now.list (definition.rows_of lanes.now)) }
 {
     neighbours_tell();
     let list = trace.list();
-    put_rows_at(text, sink, scale, list, None, PLOT_TOP, bottom);
-    put_lanes(text, sink, scale, list, bottom, lanes);
+    let takers = Takers::new(table);
+    put_rows_at(text, sink, scale, &takers, list, None, PLOT_TOP);
+    put_lanes(text, sink, scale, &takers, list, lanes);
 }

@@ -9,10 +9,11 @@ ghost use Rattle.bus_picture.specs.Strings as definition;
 
 use crate::names::{digits_class, put_name};
 use crate::places::{meets, string_area};
+use crate::takers::Takers;
 use crate::words::{has_room, put_each_word};
 use bus_outer::{Sink, TextBuffer};
 use bus_shapes::{
-    Area, Class, Scale, begin_titled, begin_words, end_titled, end_words, put_counted,
+    Area, Class, Scale, Sent, begin_titled, begin_words, end_titled, end_words, put_counted,
 };
 use bus_strings::{Transmission, Wordstring, pulse, pulse_count};
 
@@ -65,6 +66,23 @@ fn put_string_words<K: Sink>(
     text.put_number(sink, to);
     text.put(sink, b", ");
     put_data_words(text, sink, string);
+}
+
+/// These words, and which terminals take words of it.
+fn put_titled_words<K: Sink>(
+    text: &mut TextBuffer,
+    sink: &mut K,
+    takers: &Takers<'_>,
+    sent: &Sent,
+    from: u64,
+    to: u64,
+    string: &Wordstring,
+)
+    ensures { Adds K.held K.faults sink.old sink.new text.old text.new
+        (definition.titled_words takers.now sent.now from to string.now) }
+{
+    put_string_words(text, sink, from, to, string);
+    takers.put_words(text, sink, sent, string);
 }
 
 /// How a wordstring looks.
@@ -141,8 +159,9 @@ fn put_drawn<K: Sink>(
     text: &mut TextBuffer,
     sink: &mut K,
     scale: &Scale,
+    takers: &Takers<'_>,
     top: u64,
-    garbled: bool,
+    sent: &Sent,
     from: u64,
     to: u64,
     string: &Wordstring,
@@ -151,13 +170,14 @@ fn put_drawn<K: Sink>(
     requires order { from ≤ to }
     requires low { from < 2 ^ 42 }
     requires top { top < 2 ^ 40 }
-    ensures { Adds K.held K.faults sink.old sink.new text.old text.new (definition.drawn_text scale.now top garbled from to string.now) }
+    ensures { Adds K.held K.faults sink.old sink.new text.old text.new
+        (definition.drawn_text scale.now takers.now top sent.now from to string.now) }
 {
     let area = string_area(scale, top, from, to);
-    begin_titled(text, sink, string_class(garbled), area);
-    put_string_words(text, sink, from, to, string);
+    begin_titled(text, sink, string_class(sent.garbled), area);
+    put_titled_words(text, sink, takers, sent, from, to, string);
     end_titled(text, sink);
-    put_inside(text, sink, scale, top, garbled, from, area, string);
+    put_inside(text, sink, scale, top, sent.garbled, from, area, string);
 }
 
 /// The same, where it meets the moments of the scale.
@@ -165,8 +185,9 @@ fn put_string<K: Sink>(
     text: &mut TextBuffer,
     sink: &mut K,
     scale: &Scale,
+    takers: &Takers<'_>,
     top: u64,
-    garbled: bool,
+    sent: &Sent,
     from: u64,
     to: u64,
     string: &Wordstring,
@@ -175,10 +196,11 @@ fn put_string<K: Sink>(
     requires order { from ≤ to }
     requires low { from < 2 ^ 42 }
     requires top { top < 2 ^ 40 }
-    ensures { Adds K.held K.faults sink.old sink.new text.old text.new (definition.string_text scale.now top garbled from to string.now) }
+    ensures { Adds K.held K.faults sink.old sink.new text.old text.new
+        (definition.string_text scale.now takers.now top sent.now from to string.now) }
 {
     if meets(scale, from, to) {
-        put_drawn(text, sink, scale, top, garbled, from, to, string);
+        put_drawn(text, sink, scale, takers, top, sent, from, to, string);
     }
 }
 
@@ -208,8 +230,9 @@ fn put_pulse<K: Sink>(
     text: &mut TextBuffer,
     sink: &mut K,
     scale: &Scale,
+    takers: &Takers<'_>,
     top: u64,
-    garbled: bool,
+    sent: &Sent,
     x: &Transmission,
     k: u32,
 )
@@ -217,29 +240,30 @@ fn put_pulse<K: Sink>(
     requires top { top < 2 ^ 40 }
     requires within { k < length x.now.message }
     ensures { Adds K.held K.faults sink.old sink.new text.old text.new
-        (option_map_or (definition.pulse_text scale.now top garbled x.now k) (slice_get x.now.message k) []) }
+        (option_map_or (definition.pulse_text scale.now takers.now top sent.now x.now k) (slice_get x.now.message k) []) }
 {
     let moments = pulse_moments(x, k);
     let string = string_of(x, k);
     put_string(
-        text, sink, scale, top, garbled, moments.0, moments.1, string,
+        text, sink, scale, takers, top, sent, moments.0, moments.1, string,
     );
 }
 
-/// The wordstrings of a transmission, garbled or not, in a row with this upper edge.
+/// The wordstrings of a transmission, with what is told of it, in a row with this upper edge.
 pub(crate) fn put_strings<K: Sink>(
     text: &mut TextBuffer,
     sink: &mut K,
     scale: &Scale,
+    takers: &Takers<'_>,
     top: u64,
-    garbled: bool,
+    sent: &Sent,
     x: &Transmission,
 )
     requires scale { IsScale scale.now }
     requires top { top < 2 ^ 40 }
-    ensures { Adds K.held K.faults sink.old sink.new text.old text.new (definition.strings_text scale.now top garbled x.now) }
+    ensures { Adds K.held K.faults sink.old sink.new text.old text.new (definition.strings_text scale.now takers.now top sent.now x.now) }
 {
     for k in 0..pulse_count(&x.message) {
-        put_pulse(text, sink, scale, top, garbled, x, k);
+        put_pulse(text, sink, scale, takers, top, sent, x, k);
     }
 }

@@ -6,6 +6,7 @@ ghost use Rattle.bus_shapes.specs.Scales.{IsScale};
 ghost use Rattle.bus_picture.specs.TimeLines.{time_line_text};
 ghost use Rattle.bus_picture.specs.TimeLines as definition;
 
+use crate::choosing::drawn_lanes;
 use crate::counting::counts;
 use crate::lanes::{lane_top, put_fronts};
 use crate::legend::put_legend;
@@ -15,13 +16,15 @@ use crate::measures::{NAMES_RIGHT, PLOT_LEFT, PLOT_TOP, PLOT_WIDTH};
 use crate::pace::put_paces;
 use crate::rows::put_rows;
 use crate::timers::put_timers;
+use crate::tints::{has_tints, put_tints};
+use arrayvec::ArrayVec;
 use bus_audit::AuditAnswer;
-use bus_dump::{Lane, lanes_of};
+use bus_dump::{Lane, MOST_LANES, lanes_of};
 use bus_outer::{Sink, TextBuffer, WriteFault};
 use bus_regime::TableVerdict;
 use bus_shapes::{
-    Area, Axis, Class, Scale, Unit, Window, begin_titled, end_titled, put_axis, put_frame,
-    put_tail, put_words,
+    Area, Axis, Class, Scale, Unit, Window, begin_titled, begin_words, end_titled, end_words,
+    put_axis, put_frame, put_tail, put_words,
 };
 use bus_table::Table;
 use bus_trace::Trace;
@@ -123,17 +126,50 @@ fn put_plot<K: Sink>(
     put_axes(text, sink, scale, bottom);
     let horizon = trace.horizon();
     put_unobserved(text, sink, scale, bottom, horizon);
-    put_rows(text, sink, scale, bottom, lanes, trace);
+    put_tints(text, sink, scale, bottom, trace);
+    put_rows(text, sink, scale, lanes, table, trace);
     put_timers(text, sink, scale, lanes, table, trace);
     put_breach(text, sink, scale, lanes, answer);
 }
 
-/// A picture with these lanes.
+/// How many lanes are left out.
+fn put_left_out<K: Sink>(text: &mut TextBuffer, sink: &mut K, bottom: u64, count: usize)
+    requires { bottom < 100000 }
+    ensures { Adds K.held K.faults sink.old sink.new text.old text.new (definition.left_out_text bottom count) }
+{
+    if count != 0 {
+        begin_words(text, sink, Class::Small, PLOT_LEFT, bottom + 370);
+        text.put_number(sink, count);
+        text.put(sink, b" more terminals send nothing in this window");
+        end_words(text, sink);
+    }
+}
+
+/// What stands below the plot.
+fn put_foot<K: Sink>(
+    text: &mut TextBuffer,
+    sink: &mut K,
+    scale: &Scale,
+    bottom: u64,
+    left_out: usize,
+    trace: &Trace,
+)
+    requires { bottom < 100000 }
+    ensures { Adds K.held K.faults sink.old sink.new text.old text.new
+        (definition.foot_text scale.now bottom left_out trace.now) }
+{
+    put_left_out(text, sink, bottom, left_out);
+    let tinted = has_tints(scale, trace);
+    put_legend(text, sink, tinted, bottom + 460);
+}
+
+/// A picture with these lanes, and with so many left out.
 fn put_picture<K: Sink>(
     text: &mut TextBuffer,
     sink: &mut K,
     scale: &Scale,
     lanes: &[Lane],
+    left_out: usize,
     verdict: &TableVerdict,
     answer: &AuditAnswer,
     table: &Table,
@@ -142,18 +178,50 @@ fn put_picture<K: Sink>(
     requires scale { IsScale scale.now }
     requires few { length lanes.now ≤ 256 }
     ensures { Adds K.held K.faults sink.old sink.new text.old text.new
-        (definition.picture_text scale.now lanes.now verdict.now answer.now table.now trace.now) }
+        (definition.picture_text scale.now lanes.now left_out verdict.now answer.now table.now trace.now) }
 {
     let bottom = lane_top(lanes.len());
     let counts = counts(scale, trace);
     put_frame(text, sink, bottom + 800, verdict, answer, table, &counts);
     put_plot(text, sink, scale, bottom, lanes, answer, table, trace);
-    put_legend(text, sink, bottom + 460);
+    put_foot(text, sink, scale, bottom, left_out, trace);
     put_tail(text, sink);
 }
 
+/// A picture with those of these lanes that are drawn.
+fn put_drawn<K: Sink>(
+    text: &mut TextBuffer,
+    sink: &mut K,
+    scale: &Scale,
+    all: ArrayVec<Lane, MOST_LANES>,
+    verdict: &TableVerdict,
+    answer: &AuditAnswer,
+    table: &Table,
+    trace: &Trace,
+)
+    requires { IsScale scale.now }
+    ensures { Adds K.held K.faults sink.old sink.new text.old text.new
+        (definition.drawn_text scale.now all.items verdict.now answer.now table.now trace.now) }
+{
+    let count = all.len();
+    let list = trace.list();
+    let lanes = drawn_lanes(scale, answer, list, all);
+    let left_out = count.saturating_sub(lanes.len());
+    put_picture(
+        text,
+        sink,
+        scale,
+        lanes.as_slice(),
+        left_out,
+        verdict,
+        answer,
+        table,
+        trace,
+    );
+}
+
 /// Writes the time line of a trace in a window, with the words of the verdict on the table and of the answer of the audit. It goes over the
-/// trace up to six times for each lane, and takes no memory.
+/// trace some six times for each lane, and takes no memory but half a megabyte of the stack.
 ///
 /// At `WriteFault` the sink has taken a front of the text, and its count of faults rose.
 pub fn write_time_line<K: Sink>(
@@ -167,18 +235,11 @@ pub fn write_time_line<K: Sink>(
     ensures { WritesText K.held K.faults sink.old sink.new result
         (time_line_text window.now verdict.now answer.now table.now trace.now) }
 {
-    let lanes = lanes_of(table, trace.list());
     let scale = scale_of(window);
+    let lanes = lanes_of(table, trace.list());
     let mut text = TextBuffer::new();
-    put_picture(
-        &mut text,
-        sink,
-        &scale,
-        lanes.as_slice(),
-        verdict,
-        answer,
-        table,
-        trace,
+    put_drawn(
+        &mut text, sink, &scale, lanes, verdict, answer, table, trace,
     );
     text.finish(sink)
 }

@@ -15,22 +15,24 @@ WS L0B210 D00FF1
 END
 ";
 
-/// The end of the picture, as long as the missing start needs, which has 1170 bit times.
-const LONG: &str = "<rect class=\"wordstring\" x=\"1700\" y=\"1320\" width=\"620\" height=\"120\">\
+/// The end of the picture, as long as the missing start needs: its row begins a synchronization gap before moment 0, and so 2170 bit times
+/// before it.
+const LONG: &str = "<rect class=\"other\" x=\"7140\" y=\"1320\" width=\"330\" height=\"120\">\
 <title>T1 message 1: moments 20 to 80, 60 bit times, 10.0 to 40.0 microseconds</title></rect>
-<text class=\"digits\" x=\"2010\" y=\"1415\">1</text>
-<rect class=\"other\" x=\"2620\" y=\"1320\" width=\"410\" height=\"120\">\
+<text class=\"digits\" x=\"7305\" y=\"1415\">1</text>
+<rect class=\"wordstring\" x=\"7630\" y=\"1320\" width=\"220\" height=\"120\">\
 <title>T2 message 1: moments 110 to 150, 40 bit times, 55.0 to 75.0 microseconds</title></rect>
-<text class=\"digits\" x=\"2825\" y=\"1415\">2</text>
+<text class=\"digits\" x=\"7740\" y=\"1415\">2</text>
 <text class=\"small\" x=\"200\" y=\"1415\">1</text>
-<text class=\"detail\" x=\"1440\" y=\"1415\">0</text>
-<text class=\"detail\" x=\"15500\" y=\"1415\">150</text>
-<rect class=\"mark\" x=\"11756\" y=\"1070\" width=\"10\" height=\"380\"/>
-<text class=\"small\" x=\"11796\" y=\"1150\">SG 1000</text>
-<rect class=\"mark\" x=\"13089\" y=\"1070\" width=\"10\" height=\"380\"/>
-<text class=\"detail\" x=\"13059\" y=\"1250\">least 1130</text>
-<rect class=\"mark\" x=\"13500\" y=\"1070\" width=\"10\" height=\"380\"/>
-<text class=\"small\" x=\"13540\" y=\"1150\">most 1170</text>
+<text class=\"detail\" x=\"1440\" y=\"1415\">-1000</text>
+<text class=\"detail\" x=\"15500\" y=\"1415\">1150</text>
+<text class=\"detail\" x=\"14700\" y=\"1415\">8.7 %</text>
+<rect class=\"mark\" x=\"7029\" y=\"1070\" width=\"10\" height=\"380\"/>
+<text class=\"small\" x=\"7069\" y=\"1150\">SG 1000</text>
+<rect class=\"mark\" x=\"7748\" y=\"1070\" width=\"10\" height=\"380\"/>
+<text class=\"detail\" x=\"7718\" y=\"1250\">least 1130</text>
+<rect class=\"mark\" x=\"7970\" y=\"1070\" width=\"10\" height=\"380\"/>
+<text class=\"small\" x=\"8010\" y=\"1150\">most 1170</text>
 <rect class=\"breach\" x=\"13500\" y=\"1280\" width=\"20\" height=\"40\"/>
 <rect class=\"breach\" x=\"13500\" y=\"1440\" width=\"20\" height=\"40\"/>
 <text class=\"note\" x=\"13560\" y=\"1415\">breach</text>
@@ -52,6 +54,7 @@ END
 /// The end of the picture: the breach at moment 1000 isn't marked.
 const UNMARKED: &str = "<text class=\"detail\" x=\"1440\" y=\"1415\">0</text>
 <text class=\"detail\" x=\"15500\" y=\"1415\">60</text>
+<text class=\"detail\" x=\"14700\" y=\"1415\">6.0 %</text>
 <rect class=\"mark\" x=\"13500\" y=\"1070\" width=\"10\" height=\"380\"/>
 <text class=\"small\" x=\"13540\" y=\"1150\">TI 1000</text>
 </svg>

@@ -46,7 +46,7 @@ fn headings_tell_the_verdict_and_the_audit(rt: HostRuntime) -> Result<(), Fail> 
             PERIODIC,
             STARTED,
             [
-                "<text class=\"refusal\" x=\"200\" y=\"270\">REFUSE: gap before terminal 2 20 bit times, below TG 30</text>",
+                "<text class=\"refusal\" x=\"200\" y=\"270\">REFUSE: gap before terminal 2 is 20 bit times, below TG 30</text>",
                 "BREACH at 90 (45 \u{b5}s): terminal 2 should start and doesn't</text>",
             ],
         ),

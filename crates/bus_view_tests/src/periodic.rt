@@ -40,7 +40,9 @@ fn a_time_line_has_offsets_and_the_transmit_interval(rt: HostRuntime) -> Result<
         "<text class=\"detail\" x=\"1380\" y=\"1870\">TG 20 AT 90</text>\n",
         "<text class=\"interval-words\" x=\"14045\" y=\"1546\">TI 2000</text>\n",
         "<rect class=\"gap\" x=\"1625\" y=\"1743\" width=\"125\" height=\"14\"/>\n\
-         <text class=\"gap-words\" x=\"1687\" y=\"1718\">TG 20</text>\n",
+         <rect class=\"interval\" x=\"2064\" y=\"1875\" width=\"12546\" height=\"14\"/>\n",
+        "<rect class=\"mark\" x=\"2064\" y=\"1608\" width=\"20\" height=\"46\"/>\n\
+         <rect class=\"mark\" x=\"14610\" y=\"1608\" width=\"20\" height=\"46\"/>\n",
     ];
     assert!(rt; shows(&ran, &parts));
     Ok(())

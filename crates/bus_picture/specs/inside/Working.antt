@@ -3,6 +3,7 @@ use Rattle.std.specs.Prelude.{◌≡◌, ℕ, ◌+◌, ◌≤◌, List, [], ◌�
 use Rattle.std.specs.List.{AllByRecursion}
 use Rattle.std.specs.Option.{option_map_or}
 use Rattle.bus_strings.specs.Messages.{Entry}
+use Rattle.bus_table.specs.Tables.{Table}
 use Rattle.bus_shapes.specs.declared.sent.Sent.{Sent}
 use Rattle.bus_shapes.specs.declared.scale.Scale.{Scale}
 use Rattle.bus_shapes.specs.Sending.{sents}
@@ -16,31 +17,31 @@ with_next scale None x = one x
 with_next scale (Some pile) x = if joins scale pile x then grown pile x else one x
 
 -- A box, where x doesn't share it.
-abbrev pub unshared : Scale → Row → List Entry → Pile → Sent → List ℕ
-unshared scale row list pile x = if joins scale pile x then [] else pile_text scale row list pile
+abbrev pub unshared : Scale → Table → Row → List Entry → Pile → Sent → List ℕ
+unshared scale table row list pile x = if joins scale pile x then [] else pile_text scale table row list pile
 
 -- What is written then: the box before, where x doesn't share it.
-abbrev pub written : Scale → Row → List Entry → Option Pile → Sent → List ℕ
-written scale row list None x = []
-written scale row list (Some pile) x = unshared scale row list pile x
+abbrev pub written : Scale → Table → Row → List Entry → Option Pile → Sent → List ℕ
+written scale table row list None x = []
+written scale table row list (Some pile) x = unshared scale table row list pile x
 
 -- The last box where x comes next, shown or not.
 abbrev pub next_pile : Scale → Row → Option Pile → Sent → Option Pile
 next_pile scale row last x = if shows scale row x then Some (with_next scale last x) else last
 
 -- What is written then, whether x is shown or not.
-abbrev pub next_written : Scale → Row → List Entry → Option Pile → Sent → List ℕ
-next_written scale row list last x = if shows scale row x then written scale row list last x else []
+abbrev pub next_written : Scale → Table → Row → List Entry → Option Pile → Sent → List ℕ
+next_written scale table row list last x = if shows scale row x then written scale table row list last x else []
 
 -- The last box, where there is one.
-abbrev pub last_written : Scale → Row → List Entry → Option Pile → List ℕ
-last_written scale row list last = option_map_or (pile_text scale row list) last []
+abbrev pub last_written : Scale → Table → Row → List Entry → Option Pile → List ℕ
+last_written scale table row list last = option_map_or (pile_text scale table row list) last []
 
 -- What is still to be written, where these transmissions are yet to come.
-abbrev pub to_come : Scale → Row → List Entry → Option Pile → List Sent → List ℕ
-to_come scale row list last [] = last_written scale row list last
-to_come scale row list last (x ∷ xs) =
-    next_written scale row list last x ++ to_come scale row list (next_pile scale row last x) xs
+abbrev pub to_come : Scale → Table → Row → List Entry → Option Pile → List Sent → List ℕ
+to_come scale table row list last [] = last_written scale table row list last
+to_come scale table row list last (x ∷ xs) =
+    next_written scale table row list last x ++ to_come scale table row list (next_pile scale row last x) xs
 
 -- How many transmissions the last box has.
 abbrev pub held : Option Pile → ℕ
@@ -58,11 +59,11 @@ IsLast None = ⊤
 IsLast (Some pile) = IsPile pile
 
 -- A writer of a row has these transmissions yet to come. `text done` is that it has written this.
-pub record Writing (text : List ℕ → Type 0) (scale : Scale) (row : Row) (list : List Entry) (last : Option Pile) (left : List Sent)
-    : Type 0 where
+pub record Writing (text : List ℕ → Type 0) (scale : Scale) (table : Table) (row : Row) (list : List Entry) (last : Option Pile)
+    (left : List Sent) : Type 0 where
   pub done : List ℕ
   pub adds : text done
-  pub rest : done ++ to_come scale row list last left ≡ to_come scale row list None (sents list)
+  pub rest : done ++ to_come scale table row list last left ≡ to_come scale table row list None (sents list)
   pub order : AllByRecursion IsInOrder left
   pub pile : IsLast last
   pub few : held last + length left ≤ length list

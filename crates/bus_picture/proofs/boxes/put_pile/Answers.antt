@@ -13,11 +13,11 @@ returns g c =
     subst (λ (height : ℕ). Adds g.K.Sink.held g.K.Sink.faults c.args.sink.now c.put_more.new.sink c.args.text.now c.put_more.new.text
     (titled_text (box_class c.args.scale.now c.args.row.now c.args.pile.now)
     (stretch c.args.scale.now c.args.pile.now (c.args.row.now.top + 60 + (180 - height)) height) (pile_words c.args.scale.now c.args.pile.now)
-    ++ more_text c.args.row.now.terminal c.args.scale.now c.args.row.now c.args.list.now c.args.pile.now)) c.pile_height-height.ensures.value
+    ++ more_text c.args.row.now.terminal c.args.scale.now c.args.takers.now c.args.row.now c.args.list.now c.args.pile.now)) c.pile_height-height.ensures.value
     (subst (λ (area : Area). Adds g.K.Sink.held g.K.Sink.faults c.args.sink.now c.put_more.new.sink c.args.text.now c.put_more.new.text
     (titled_text (box_class c.args.scale.now c.args.row.now c.args.pile.now) area (pile_words c.args.scale.now c.args.pile.now)
-    ++ more_text c.args.row.now.terminal c.args.scale.now c.args.row.now c.args.list.now c.args.pile.now)) c.stretch-area.ensures
+    ++ more_text c.args.row.now.terminal c.args.scale.now c.args.takers.now c.args.row.now c.args.list.now c.args.pile.now)) c.stretch-area.ensures
     (subst (λ (class : Class). Adds g.K.Sink.held g.K.Sink.faults c.args.sink.now c.put_more.new.sink c.args.text.now c.put_more.new.text
     (titled_text class c.stretch-area.result (pile_words c.args.scale.now c.args.pile.now)
-    ++ more_text c.args.row.now.terminal c.args.scale.now c.args.row.now c.args.list.now c.args.pile.now)) c.box_class.ensures
+    ++ more_text c.args.row.now.terminal c.args.scale.now c.args.takers.now c.args.row.now c.args.list.now c.args.pile.now)) c.box_class.ensures
     ((c.begin_titled.ensures ▸ c.put_pile_words.ensures ▸ c.end_titled.ensures) ▸ c.put_more.ensures)))

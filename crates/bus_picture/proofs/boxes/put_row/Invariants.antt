@@ -5,4 +5,4 @@ use Rattle.bus_picture.proofs.boxes.put_row.Given as goal
 
 abbrev pub invariant-loop-sent : goal.invariant-loop-sent
 invariant-loop-sent g l =
-    Writing (λ (t : List ℕ). Adds g.K.Sink.held g.K.Sink.faults l.fn.sink l.sink l.fn.text l.text t) l.scale l.row l.list l.last l.sent-iterator
+    Writing (λ (t : List ℕ). Adds g.K.Sink.held g.K.Sink.faults l.fn.sink l.sink l.fn.text l.text t) l.scale l.takers l.row l.list l.last l.sent-iterator

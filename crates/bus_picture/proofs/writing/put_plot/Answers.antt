@@ -7,6 +7,7 @@ use Rattle.bus_outer.proofs.TextLaws.{◌▸◌}
 use Rattle.bus_shapes.specs.declared.class.Class.TheVariants.{Counts}
 use Rattle.bus_shapes.specs.Shapes.{words_text}
 use Rattle.bus_picture.specs.Rows.{rows_text}
+use Rattle.bus_picture.specs.Tints.{tints_text}
 use Rattle.bus_picture.specs.TimeLines.{axes_text, each_lane, lane_front, rows_of, timers_text, unobserved_text}
 use Rattle.bus_picture.specs.Marks.{breach_text}
 use Rattle.bus_picture.specs.Measures.{plot_top}
@@ -27,8 +28,8 @@ returns g c =
     (words_text Counts 1380 (plot_top + 200) (codes "bus") ++ paces_text c.args.scale.now c.args.lanes.now c.args.trace.now.list
     ++ loads_text c.args.scale.now c.args.lanes.now c.args.trace.now.list ++ each_lane (lane_front c.args.table.now) 0 c.args.lanes.now
     ++ axes_text c.args.scale.now c.args.bottom ++ unobserved_text c.args.scale.now c.args.bottom horizon
-    ++ rows_text c.args.scale.now c.args.trace.now.list (rows_of c.args.bottom c.args.lanes.now)
+    ++ tints_text c.args.scale.now c.args.bottom c.args.trace.now.list ++ rows_text c.args.scale.now c.args.table.now c.args.trace.now.list (rows_of c.args.lanes.now)
     ++ timers_text c.args.scale.now c.args.lanes.now c.args.table.now c.args.trace.now.list
     ++ breach_text c.args.scale.now c.args.lanes.now c.args.answer.now)) c.horizon-horizon.ensures.value
-    (c.put_words.ensures ▸ paces ▸ loads ▸ c.put_fronts.ensures ▸ c.put_axes.ensures ▸ c.put_unobserved.ensures ▸ c.put_rows.ensures
+    (c.put_words.ensures ▸ paces ▸ loads ▸ c.put_fronts.ensures ▸ c.put_axes.ensures ▸ c.put_unobserved.ensures ▸ c.put_tints.ensures ▸ c.put_rows.ensures
     ▸ c.put_timers.ensures ▸ c.put_breach.ensures)

@@ -1,0 +1,28 @@
+use Rattle.std.proofs.Common.{ℕ, ◌<◌, ◌≤◌, arith, ap, sym, subst, ◌∙◌}
+use Rattle.bus_outer.specs.Texts.{Adds}
+use Rattle.bus_outer.proofs.TextLaws.{◌▸◌}
+use Rattle.bus_table.specs.declared.mode.Mode.{Mode}
+use Rattle.bus_table.proofs.ValidLaws.{valid_facts}
+use Rattle.bus_picture.specs.Lanes.{lane_top}
+use Rattle.bus_picture.specs.Offsets.{offsets_text}
+use Rattle.bus_picture.specs.Timers.{Track, sender_timers, track_of}
+use Rattle.bus_picture.proofs.timers.put_lane_sender.Goals as goal
+
+pub put_offsets-requires-clause-some : goal.put_offsets-requires-clause-some
+put_offsets-requires-clause-some g c =
+    let least : 1000 ≤ c.args.table.now.ti = (valid_facts c.args.table.now c.ti-ti.ensures.valid).ti_least in
+    omega (arith, c.ti-ti.ensures.value)
+
+pub returns : goal.returns
+returns g c =
+    subst (λ (track : Track). Adds g.K.Sink.held g.K.Sink.faults c.args.sink.now c.put_starts.new.sink c.args.text.now c.put_starts.new.text
+    (sender_timers c.args.scale.now c.args.list.now track))
+    (c.track_of-track.ensures.value ∙ ap (track_of c.args.table.now c.args.k c.args.lane.terminal) c.tg-tg.ensures.value) c.put_starts.ensures
+    ▸ subst (λ (mode : Mode). Adds g.K.Sink.held g.K.Sink.faults c.put_starts.new.sink c.put_offsets.new.sink c.put_starts.new.text c.put_offsets.new.text
+    (offsets_text mode c.args.scale.now (lane_top c.args.k) c.args.table.now.ti c.args.sender.now.at)) c.mode-mode.ensures.value
+    (subst (λ (top : ℕ). Adds g.K.Sink.held g.K.Sink.faults c.put_starts.new.sink c.put_offsets.new.sink c.put_starts.new.text c.put_offsets.new.text
+    (offsets_text c.mode-mode.result c.args.scale.now top c.args.table.now.ti c.args.sender.now.at)) c.lane_top-top.ensures.value
+    (subst (λ (ti : ℕ). Adds g.K.Sink.held g.K.Sink.faults c.put_starts.new.sink c.put_offsets.new.sink c.put_starts.new.text c.put_offsets.new.text
+    (offsets_text c.mode-mode.result c.args.scale.now c.lane_top-top.result ti c.args.sender.now.at)) c.ti-ti.ensures.value
+    (subst (λ (at : ℕ). Adds g.K.Sink.held g.K.Sink.faults c.put_starts.new.sink c.put_offsets.new.sink c.put_starts.new.text c.put_offsets.new.text
+    (offsets_text c.mode-mode.result c.args.scale.now c.lane_top-top.result c.ti-ti.result at)) c.at-at.ensures.value c.put_offsets.ensures)))

@@ -1,0 +1,31 @@
+//! The lines of timers, and the words of gaps.
+ghost use Rattle.std.specs.Prelude.{◌≡◌, ◌<◌, ◌≤◌, ◌^◌, true};
+ghost use Rattle.bus_shapes.specs.Scales.{IsScale};
+ghost use Rattle.bus_picture.specs.Timers as definition;
+
+use bus_shapes::{Area, Scale};
+
+/// Whether what goes from one moment to a later one is drawn: it takes a pixel.
+pub(crate) fn is_drawn(scale: &Scale, from: u64, to: u64) -> bool
+    requires { IsScale scale.now }
+    ensures value { result ≡ definition.is_drawn scale.now from to }
+    ensures order { (result ≡ true) → from < to }
+{
+    from < to && scale.place(from) + 10 <= scale.place(to)
+}
+
+/// A thin line from one moment to another.
+pub(crate) fn line_area(scale: &Scale, top: u64, from: u64, to: u64) -> Area
+    requires scale { IsScale scale.now }
+    requires order { from ≤ to }
+    ensures value { result ≡ definition.line_area scale.now top from to }
+    ensures left { result.left < 2 ^ 22 }
+    ensures width { result.width < 2 ^ 22 }
+{
+    Area {
+        left: scale.place(from),
+        top,
+        width: scale.extent(from, to),
+        height: 14,
+    }
+}

@@ -1,0 +1,120 @@
+//! Where senders should start in periodic mode.
+ghost use Rattle.std.specs.Prelude.{◌≡◌, ◌+◌, ◌*◌, ◌<◌, ◌≤◌, ◌^◌};
+ghost use Rattle.bus_outer.specs.Texts.{Adds};
+ghost use Rattle.bus_shapes.specs.Scales.{IsScale};
+ghost use Rattle.bus_picture.specs.Offsets as definition;
+
+use bus_outer::{Sink, TextBuffer};
+use bus_shapes::{Area, Class, Scale, put_box};
+use bus_table::Mode;
+
+/// How many starts of a sender should lie before a moment.
+fn rounds_before(ti: u64, at: u64, t: u64) -> u64
+    requires some { 0 < ti }
+    requires low { t ≤ 2 ^ 41 }
+    requires short { ti < 2 ^ 32 }
+    ensures { result ≡ definition.rounds_before ti at t }
+{
+    (t.saturating_sub(at) + (ti - 1)) / ti
+}
+
+/// The tick of a moment.
+fn put_tick<K: Sink>(text: &mut TextBuffer, sink: &mut K, scale: &Scale, top: u64, t: u64)
+    requires scale { IsScale scale.now }
+    requires top { top < 100000 }
+    ensures { Adds K.held K.faults sink.old sink.new text.old text.new
+        (definition.tick_text scale.now top t) }
+{
+    let area = Area {
+        left: scale.place(t),
+        top: top + 8,
+        width: 20,
+        height: 46,
+    };
+    put_box(text, sink, Class::Mark, area);
+}
+
+/// The tick of a round.
+fn put_round<K: Sink>(
+    text: &mut TextBuffer,
+    sink: &mut K,
+    scale: &Scale,
+    top: u64,
+    ti: u64,
+    at: u64,
+    round: u64,
+)
+    requires scale { IsScale scale.now }
+    requires top { top < 100000 }
+    requires low { at + round * ti < 2 ^ 42 }
+    ensures { Adds K.held K.faults sink.old sink.new text.old text.new
+        (definition.tick_text scale.now top (definition.offset_moment ti at round)) }
+{
+    put_tick(text, sink, scale, top, at + round * ti);
+}
+
+/// The ticks of the starts in the scale.
+fn put_ticks<K: Sink>(
+    text: &mut TextBuffer,
+    sink: &mut K,
+    scale: &Scale,
+    top: u64,
+    ti: u64,
+    at: u64,
+)
+    requires scale { IsScale scale.now }
+    requires top { top < 100000 }
+    requires some { 0 < ti }
+    requires short { ti < 2 ^ 32 }
+    ensures { Adds K.held K.faults sink.old sink.new text.old text.new
+        (definition.ticks_text scale.now top ti at) }
+{
+    let first = rounds_before(ti, at, scale.from);
+    let end = rounds_before(ti, at, scale.to);
+    let count = end.saturating_sub(first);
+    for k in 0..count {
+        put_round(text, sink, scale, top, ti, at, first + k);
+    }
+}
+
+/// The ticks of a sender with this offset.
+fn put_periodic<K: Sink>(
+    text: &mut TextBuffer,
+    sink: &mut K,
+    scale: &Scale,
+    top: u64,
+    ti: u32,
+    at: u32,
+)
+    requires scale { IsScale scale.now }
+    requires top { top < 100000 }
+    requires some { 0 < ti }
+    ensures { Adds K.held K.faults sink.old sink.new text.old text.new
+        (definition.ticks_text scale.now top ti at) }
+{
+    let interval = u64::from(ti);
+    let offset = u64::from(at);
+    put_ticks(text, sink, scale, top, interval, offset);
+}
+
+/// The same where the table is periodic. Their number is that of the transmit intervals in the scale.
+pub(crate) fn put_offsets<K: Sink>(
+    text: &mut TextBuffer,
+    sink: &mut K,
+    mode: Mode,
+    scale: &Scale,
+    top: u64,
+    ti: u32,
+    at: u32,
+)
+    requires scale { IsScale scale.now }
+    requires top { top < 100000 }
+    requires some { 0 < ti }
+    ensures { Adds K.held K.faults sink.old sink.new text.old text.new
+        (definition.offsets_text mode scale.now top ti at) }
+{
+    match mode {
+        Mode::Aperiodic => {}
+        Mode::Periodic => put_periodic(text, sink, scale, top, ti, at),
+    }
+}

@@ -1,0 +1,291 @@
+//! The timers of a sender, at each of its starts.
+ghost use Rattle.std.specs.Prelude.{◌≡◌, ◌<◌, ◌≤◌, ◌^◌};
+ghost use Rattle.bus_outer.specs.Texts.{Adds};
+ghost use Rattle.bus_strings.specs.Transmissions.{IsByMoment};
+ghost use Rattle.bus_shapes.specs.Scales.{IsScale};
+ghost use Rattle.bus_picture.specs.Intervals as intervals;
+ghost use Rattle.bus_picture.specs.Timers as definition;
+ghost use Rattle.bus_picture.specs.inside.Starting as working;
+
+use crate::heard::{Gap, Heard, deaf, gap_from, hear};
+use crate::lines::{is_drawn, line_area};
+use crate::track::Track;
+use bus_outer::{Sink, TextBuffer};
+use bus_shapes::{Area, Class, Scale, begin_words, end_words, put_box};
+use bus_strings::Transmission;
+
+/// How much of a terminal gap there is, and of how much, where it isn't whole.
+fn put_gap_size<K: Sink>(text: &mut TextBuffer, sink: &mut K, tg: u32, gap: Gap)
+    requires { gap.from ≤ gap.to }
+    ensures { Adds K.held K.faults sink.old sink.new text.old text.new (definition.gap_size tg gap) }
+{
+    let size = gap.to - gap.from;
+    if size != u64::from(tg) {
+        text.put_number(sink, size);
+        text.put(sink, b" of ");
+    }
+    text.put_number(sink, tg);
+}
+
+/// The room that is asked for its words.
+fn size_room(tg: u32, gap: Gap) -> u64
+    requires { gap.from ≤ gap.to }
+    ensures { result ≡ definition.size_room tg gap }
+{
+    if gap.to - gap.from == u64::from(tg) {
+        300
+    } else {
+        60
+    }
+}
+
+/// Its words above its line, where they have room.
+fn put_gap_words<K: Sink>(
+    text: &mut TextBuffer,
+    sink: &mut K,
+    area: Area,
+    top: u64,
+    tg: u32,
+    gap: Gap,
+)
+    requires order { gap.from ≤ gap.to }
+    requires left { area.left < 2 ^ 22 }
+    requires width { area.width < 2 ^ 22 }
+    requires top { top < 100000 }
+    ensures { Adds K.held K.faults sink.old sink.new text.old text.new
+        (working.gap_words area top tg gap) }
+{
+    if size_room(tg, gap) <= area.width {
+        begin_words(
+            text,
+            sink,
+            Class::GapWords,
+            area.left + area.width / 2,
+            top + 118,
+        );
+        text.put(sink, b"TG ");
+        put_gap_size(text, sink, tg, gap);
+        end_words(text, sink);
+    }
+}
+
+/// A terminal gap, where it takes a pixel.
+fn put_terminal_gap<K: Sink>(
+    text: &mut TextBuffer,
+    sink: &mut K,
+    scale: &Scale,
+    top: u64,
+    tg: u32,
+    gap: Gap,
+)
+    requires scale { IsScale scale.now }
+    requires top { top < 100000 }
+    ensures { Adds K.held K.faults sink.old sink.new text.old text.new (definition.terminal_gap scale.now top tg gap) }
+{
+    if is_drawn(scale, gap.from, gap.to) {
+        let area = line_area(scale, top + 143, gap.from, gap.to);
+        put_box(text, sink, Class::Gap, area);
+        put_gap_words(text, sink, area, top, tg, gap);
+    }
+}
+
+/// Where the transmit interval from a start ends, given the next start.
+fn interval_to(ti: u32, moment: u64, next: Option<u64>) -> u64
+    requires { moment ≤ 2 ^ 41 }
+    ensures { result ≡ intervals.interval_to ti moment next }
+{
+    let over = moment + u64::from(ti);
+    match next {
+        None => over,
+        Some(next) => over.min(next),
+    }
+}
+
+/// The line of a transmit interval from one moment to another.
+fn put_interval<K: Sink>(
+    text: &mut TextBuffer,
+    sink: &mut K,
+    scale: &Scale,
+    top: u64,
+    from: u64,
+    to: u64,
+)
+    requires scale { IsScale scale.now }
+    requires top { top < 100000 }
+    requires order { from ≤ to }
+    ensures { Adds K.held K.faults sink.old sink.new text.old text.new (definition.interval_text scale.now top from to) }
+{
+    let area = line_area(scale, top + 275, from, to);
+    put_box(text, sink, Class::Interval, area);
+}
+
+/// The stroke at its end, where it is over there and the scale has that.
+fn put_interval_end<K: Sink>(
+    text: &mut TextBuffer,
+    sink: &mut K,
+    scale: &Scale,
+    top: u64,
+    ti: u32,
+    from: u64,
+    to: u64,
+)
+    requires scale { IsScale scale.now }
+    requires top { top < 100000 }
+    requires low { from ≤ 2 ^ 41 }
+    ensures { Adds K.held K.faults sink.old sink.new text.old text.new
+        (definition.interval_end scale.now top ti from to) }
+{
+    if to == from + u64::from(ti) && to <= scale.to {
+        let area = Area {
+            left: scale.place(to).saturating_sub(14),
+            top: top + 258,
+            width: 14,
+            height: 48,
+        };
+        put_box(text, sink, Class::Interval, area);
+    }
+}
+
+/// Its words, in the first lane alone, where they have room.
+fn put_interval_words<K: Sink>(
+    text: &mut TextBuffer,
+    sink: &mut K,
+    scale: &Scale,
+    track: Track,
+    from: u64,
+    to: u64,
+)
+    requires scale { IsScale scale.now }
+    requires top { track.top < 100000 }
+    requires order { from ≤ to }
+    ensures { Adds K.held K.faults sink.old sink.new text.old text.new
+        (definition.interval_words scale.now track.k track.top track.ti from to) }
+{
+    if track.k == 0 && 500 <= scale.extent(from, to) {
+        begin_words(
+            text,
+            sink,
+            Class::IntervalWords,
+            scale.place(to),
+            track.top + 266,
+        );
+        text.put(sink, b"TI ");
+        text.put_number(sink, track.ti);
+        end_words(text, sink);
+    }
+}
+
+/// A transmit interval from a start to its end, where it takes a pixel.
+fn put_interval_at<K: Sink>(
+    text: &mut TextBuffer,
+    sink: &mut K,
+    scale: &Scale,
+    track: Track,
+    from: u64,
+    to: u64,
+)
+    requires scale { IsScale scale.now }
+    requires top { track.top < 100000 }
+    requires low { from ≤ 2 ^ 41 }
+    ensures { Adds K.held K.faults sink.old sink.new text.old text.new
+        (definition.interval_at scale.now track from to) }
+{
+    if is_drawn(scale, from, to) {
+        put_interval(text, sink, scale, track.top, from, to);
+        put_interval_end(text, sink, scale, track.top, track.ti, from, to);
+        put_interval_words(text, sink, scale, track, from, to);
+    }
+}
+
+/// The transmit interval behind the last start, where there is one, given the next.
+fn put_last<K: Sink>(
+    text: &mut TextBuffer,
+    sink: &mut K,
+    scale: &Scale,
+    track: Track,
+    last: Option<u64>,
+    next: Option<u64>,
+)
+    requires scale { IsScale scale.now }
+    requires top { track.top < 100000 }
+    requires early { working.IsEarly last }
+    ensures { Adds K.held K.faults sink.old sink.new text.old text.new
+        (working.last_interval scale.now track last next) }
+{
+    if let Some(moment) = last {
+        let to = interval_to(track.ti, moment, next);
+        put_interval_at(text, sink, scale, track, moment, to);
+    }
+}
+
+/// At a start the transmit interval behind the last one, and the terminal gap before this one.
+fn put_start<K: Sink>(
+    text: &mut TextBuffer,
+    sink: &mut K,
+    scale: &Scale,
+    track: Track,
+    last: Option<u64>,
+    heard: Heard,
+    moment: u64,
+)
+    requires scale { IsScale scale.now }
+    requires top { track.top < 100000 }
+    requires early { working.IsEarly last }
+    requires heard { heard.quiet_from ≤ 2 ^ 42 }
+    ensures { Adds K.held K.faults sink.old sink.new text.old text.new
+        (working.start_text scale.now track last heard moment) }
+{
+    put_last(text, sink, scale, track, last, Some(moment));
+    let gap = gap_from(track, heard, moment);
+    put_terminal_gap(text, sink, scale, track.top, track.tg, gap);
+}
+
+/// Takes the next transmission of the list: what is then the last start.
+fn take<K: Sink>(
+    text: &mut TextBuffer,
+    sink: &mut K,
+    scale: &Scale,
+    track: Track,
+    last: Option<u64>,
+    heard: Heard,
+    x: &Transmission,
+) -> Option<u64>
+    requires scale { IsScale scale.now }
+    requires top { track.top < 100000 }
+    requires early { working.IsEarly last }
+    requires heard { heard.quiet_from ≤ 2 ^ 42 }
+    ensures adds { Adds K.held K.faults sink.old sink.new text.old text.new
+        (working.next_text scale.now track last heard x.now) }
+    ensures last { result ≡ working.next_last track last x.now }
+    ensures early { working.IsEarly result }
+{
+    if x.terminal != track.terminal {
+        return last;
+    }
+    put_start(text, sink, scale, track, last, heard, x.moment);
+    Some(x.moment)
+}
+
+/// The timers of a sender, at each of its starts. It goes over the list once.
+pub(crate) fn put_starts<K: Sink>(
+    text: &mut TextBuffer,
+    sink: &mut K,
+    scale: &Scale,
+    list: &[Transmission],
+    track: Track,
+)
+    requires scale { IsScale scale.now }
+    requires by_moment { IsByMoment list.now }
+    requires top { track.top < 100000 }
+    ensures { Adds K.held K.faults sink.old sink.new text.old text.new
+        (definition.sender_timers scale.now list.now track) }
+{
+    let mut last = None;
+    let mut hearing = deaf(track.sg);
+    for k in 0..list.len() {
+        let x = &list[k];
+        hearing = hear(track, hearing, x);
+        last = take(text, sink, scale, track, last, hearing.before, x);
+    }
+    put_last(text, sink, scale, track, last, None);
+}
