@@ -13,3 +13,8 @@ Fails (Text line reason) reading = reading ≡ Err (record { line = line; reason
 abbrev pub Gives : {X Y : Type 0} → (X → Y) → Result X MessagesError → Result Y Refusal → Type 0
 Gives view (Ok value) reading = reading ≡ Ok (view value)
 Gives view (Err error) reading = Fails error reading
+
+-- An error is the refusal of the reading, and no want of memory.
+abbrev pub Refuses : {Y : Type 0} → MessagesError → Result Y Refusal → Type 0
+Refuses Memory reading = ⊥
+Refuses (Text line reason) reading = reading ≡ Err (record { line = line; reason = reason })

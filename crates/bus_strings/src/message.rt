@@ -73,19 +73,20 @@ impl Message {
         ensures err { OnErr result (self.new ≡ self.old) }
     {
         let _ranges = string.words();
-        match &mut self.strings {
-            Strings::One {
-                alloc,
-                string: first,
-            } => {
-                let both = both(*alloc, first, string)?;
-                self.strings = both;
-            }
-            Strings::Many { bits, strings } => {
-                let words = string.word_count();
-                strings.push(string)?;
-                *bits += INNER_GAP + WORD_BITS * words;
-            }
+        if let Strings::One {
+            alloc,
+            string: first,
+        } = &self.strings
+        {
+            self.strings = both(*alloc, first, string)?;
+            return Ok(());
+        }
+        let all = self.bits() + INNER_GAP + WORD_BITS * string.word_count();
+        if let Strings::Many { strings, .. } = &mut self.strings {
+            strings.push(string)?;
+        }
+        if let Strings::Many { bits, .. } = &mut self.strings {
+            *bits = all;
         }
         Ok(())
     }

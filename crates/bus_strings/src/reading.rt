@@ -1,14 +1,12 @@
 //! Reading a messages text.
-ghost use Rattle.std.specs.Prelude.{◌≡◌, ◌≤◌, List, length, IfOk, IfErr, Ok, Err};
+ghost use Rattle.std.specs.Prelude.{◌≡◌, ◌≤◌, List, length, IfOk, IfErr};
 ghost use Rattle.std.specs.List.{AllByRecursion};
 ghost use Rattle.bus_text.specs.AllOf.{all_of};
 ghost use Rattle.bus_text.specs.Entries.{entry};
-ghost use Rattle.bus_text.specs.Refusals.{Refusal};
 ghost use Rattle.bus_strings.specs.Items.{Item, IsItem};
 ghost use Rattle.bus_strings.specs.Grammar.{IsMessagesText};
 ghost use Rattle.bus_strings.specs.Reading.{header_reading, item_line, messages_reading};
-ghost use Rattle.bus_strings.specs.Gives.{Gives};
-ghost use Rattle.bus_strings.specs.declared.fault.MessagesError.TheVariants.{Text};
+ghost use Rattle.bus_strings.specs.Gives.{Gives, Refuses};
 
 use crate::fault::MessagesError;
 use crate::item::item;
@@ -73,8 +71,7 @@ fn items(alloc: Global, lines: Lines<'_>) -> Result<Vec<Payload>, MessagesError>
 /// [`MessagesError::Text`] comes exactly where the first line isn't that of a messages text, or there is none.
 pub fn item_lines(text: &[u8]) -> Result<Lines<'_>, MessagesError>
     ensures items { IfOk result (λ lines. messages_reading text.now ≡ all_of item_line lines) }
-    ensures refused { IfErr result (λ error. (refusal : Refusal) × (messages_reading text.now ≡ Err refusal)
-        × (error ≡ Text refusal.line refusal.reason)) }
+    ensures refused { IfErr result (λ error. Refuses error (messages_reading text.now)) }
     ensures few { IfOk result (λ lines. length lines ≤ length text.now) }
 {
     let mut lines = Lines::new(text);

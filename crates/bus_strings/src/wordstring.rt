@@ -1,7 +1,8 @@
 //! A wordstring: a label word, and the data words behind it.
 ghost use Rattle.std.specs.Prelude.{◌≡◌, ◌+◌, ◌<◌, ◌≤◌, ◌^◌, ◌↔◌, IsSome, IsNone, IfSome, IfOk, vec_len, length, take};
 ghost use Rattle.std.specs.List.{AllByRecursion};
-ghost use Rattle.bus_strings.specs.Limits.{most_words};
+ghost use Rattle.bus_strings.specs.Limits.{most_middle, most_short, most_words};
+ghost use Rattle.bus_strings.specs.inside.Kept.{kept_string, IsKept};
 ghost use Rattle.bus_strings.specs.Messages.{IsWordstring, word_count};
 
 use crate::limits::MOST_WORDS;
@@ -10,7 +11,10 @@ use std::alloc::{AllocError, Global};
 use std::marker::Model;
 
 /// As many data words as a wordstring keeps in itself, in no memory of their own.
-pub const SHORT: usize = 12;
+pub const SHORT: usize = 9;
+
+/// As many as one keeps in a block of one size.
+const MIDDLE: usize = 48;
 
 /// One label word, and 0 to 256 data words behind it. How many there may be is this project's profile.
 #[derive(Debug, Drop)]
@@ -18,7 +22,8 @@ pub struct Wordstring {
     kept: Kept,
 }
 
-/// Where the data words are. Each case has its own label and extension, which then take no room beside a `Vec`.
+/// Where the data words are. Lists of short messages are what takes most memory, so each case has at most 24 bytes: its own label and
+/// extension, which then take no room beside the words, and no more than two words of the machine.
 #[derive(Debug, Drop)]
 enum Kept {
     // The first so many of these.
@@ -28,10 +33,23 @@ enum Kept {
         count: u8,
         words: [u16; SHORT],
     },
+    // The first so many of these.
+    Middle {
+        label: Label,
+        ext: Ext,
+        count: u8,
+        words: Box<[u16; MIDDLE]>,
+    },
     Long {
         label: Label,
         ext: Ext,
-        words: Vec<u16>,
+        words: Box<Vec<u16>>,
+    },
+    // Where there was no memory for the place of a `Vec`. These are never given back: that a wordstring is made may not fail.
+    Left {
+        label: Label,
+        ext: Ext,
+        words: &'static [u16],
     },
 }
 
@@ -58,12 +76,49 @@ fn are_words(words: &[u16])
 
 /// At most [`SHORT`] words, in front of an array.
 fn in_front(words: &[u16]) -> [u16; SHORT]
-    requires { length words.now ≤ 12 }
+    requires { length words.now ≤ most_short }
     ensures { take (length words.now) result ≡ words.now }
 {
     let mut front = [0; SHORT];
     front[..words.len()].copy_from_slice(words);
     front
+}
+
+/// At most [`MIDDLE`] data words, as a wordstring keeps them: one block of memory for them all.
+fn middle(alloc: Global, label: Label, ext: Ext, words: &[u16]) -> Result<Kept, AllocError>
+    requires { length words.now ≤ most_middle }
+    ensures value { IfOk result (λ kept. kept_string kept ≡ record { label = label; ext = ext; words = words.now }) }
+    ensures kept { IfOk result IsKept }
+{
+    // The types of both keep their ranges, which are known from here on.
+    let _ranges = (label.value(), ext.value());
+    are_words(words);
+    let mut room = [0; MIDDLE];
+    room[..words.len()].copy_from_slice(words);
+    Ok(Kept::Middle {
+        label,
+        ext,
+        count: words.len() as u8,
+        words: Box::new(alloc, room)?,
+    })
+}
+
+/// These data words, as a wordstring keeps them that has many.
+fn long(alloc: Global, label: Label, ext: Ext, words: Vec<u16>) -> Kept
+    requires { vec_len words ≤ most_words }
+    ensures value { kept_string result ≡ record { label = label; ext = ext; words = words.items } }
+    ensures kept { IsKept result }
+{
+    // The types of both keep their ranges, which are known from here on.
+    let _ranges = (label.value(), ext.value());
+    match Box::new(alloc, words) {
+        Ok(words) => Kept::Long { label, ext, words },
+        Err(failed) => Kept::Left {
+            label,
+            ext,
+            words: failed.value.leak(),
+        },
+    }
 }
 
 impl Wordstring {
@@ -83,9 +138,29 @@ impl Wordstring {
             let count = words.len() as u8;
             return Some(Wordstring::short(label, ext, count, in_front(&words)));
         }
-        Some(Wordstring {
-            kept: Kept::Long { label, ext, words },
-        })
+        let kept = long(*words.allocator(), label, ext, words);
+        Some(Wordstring { kept })
+    }
+
+    /// Of at most 256 data words. It takes at most as much memory as these need, and where they are few none.
+    pub fn of(
+        alloc: Global,
+        label: Label,
+        ext: Ext,
+        words: &[u16],
+    ) -> Result<Wordstring, AllocError>
+        requires { length words.now ≤ most_words }
+        ensures { IfOk result (λ s. s ≡ record { label = label; ext = ext; words = words.now }) }
+    {
+        if words.len() <= SHORT {
+            return Ok(Wordstring::short(label, ext, words.len() as u8, in_front(words)));
+        }
+        let kept = if words.len() <= MIDDLE {
+            middle(alloc, label, ext, words)?
+        } else {
+            long(alloc, label, ext, Vec::from_slice(alloc, words)?)
+        };
+        Ok(Wordstring { kept })
     }
 
     /// The first `count` of these data words, at most [`SHORT`]. It takes no memory.
@@ -113,7 +188,9 @@ impl Wordstring {
     {
         match &self.kept {
             Kept::Short { label, .. } => *label,
+            Kept::Middle { label, .. } => *label,
             Kept::Long { label, .. } => *label,
+            Kept::Left { label, .. } => *label,
         }
     }
 
@@ -124,7 +201,9 @@ impl Wordstring {
     {
         match &self.kept {
             Kept::Short { ext, .. } => *ext,
+            Kept::Middle { ext, .. } => *ext,
             Kept::Long { ext, .. } => *ext,
+            Kept::Left { ext, .. } => *ext,
         }
     }
 
@@ -135,7 +214,9 @@ impl Wordstring {
     {
         match &self.kept {
             Kept::Short { count, words, .. } => &words[..*count as usize],
+            Kept::Middle { count, words, .. } => &words[..*count as usize],
             Kept::Long { words, .. } => words,
+            Kept::Left { words, .. } => words,
         }
     }
 
@@ -146,7 +227,9 @@ impl Wordstring {
     {
         match &self.kept {
             Kept::Short { count, .. } => 1 + u32::from(*count),
+            Kept::Middle { count, .. } => 1 + u32::from(*count),
             Kept::Long { words, .. } => 1 + words.len() as u32,
+            Kept::Left { words, .. } => 1 + words.len() as u32,
         }
     }
 
@@ -166,10 +249,26 @@ impl Wordstring {
                 count: *count,
                 words: *words,
             },
+            Kept::Middle {
+                label,
+                ext,
+                count,
+                words,
+            } => Kept::Middle {
+                label: *label,
+                ext: *ext,
+                count: *count,
+                words: Box::new(alloc, **words)?,
+            },
             Kept::Long { label, ext, words } => Kept::Long {
                 label: *label,
                 ext: *ext,
-                words: Vec::from_slice(alloc, words)?,
+                words: Box::new(alloc, Vec::from_slice(alloc, words)?)?,
+            },
+            Kept::Left { label, ext, words } => Kept::Left {
+                label: *label,
+                ext: *ext,
+                words,
             },
         };
         Ok(Wordstring { kept })

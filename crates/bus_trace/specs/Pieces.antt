@@ -19,6 +19,7 @@ use Rattle.bus_trace.specs.declared.stage.Fed.{Fed}
 use Rattle.bus_trace.specs.declared.stage.Fed.TheVariants as fed
 
 -- ---- the reader
+-- What a reader was given so far.
 abbrev pub stream : Reader → List ℕ
 stream r = stream_of r.at
 

@@ -470,6 +470,12 @@ impl Draft {
         requires { IsSound self }
         ensures { result ≡ recorded self }
     {
-        Trace::of(self.horizon, self.holds, self.list)
+        let Draft {
+            horizon,
+            holds,
+            list,
+            ..
+        } = self;
+        Trace::of(horizon, holds, list)
     }
 }

@@ -1,6 +1,6 @@
 //! Lines that are spelled as they are written, recognized in front of a text in one pass: neither their end is looked for first, nor is a
 //! field of them gathered. What isn't recognized here is judged field by field.
-ghost use Rattle.std.specs.Prelude.{◌≡◌, ◌≤◌, ◌<◌, ◌^◌, ◌++◌, ◌∷◌, [], length, decimal, IfSome, IfOk};
+ghost use Rattle.std.specs.Prelude.{◌≡◌, ◌≤◌, ◌<◌, ◌^◌, ◌++◌, ◌∷◌, [], length, take, decimal, IfSome, IfOk};
 ghost use Rattle.std.specs.List.{join_with_byte};
 ghost use Rattle.bus_text.specs.Digits.{hexadecimal};
 ghost use Rattle.bus_words.specs.Words.{parity as parity_of};
@@ -127,21 +127,20 @@ fn spaced_word(text: &[u8], kind: Kind) -> Option<u16>
     Some(value)
 }
 
-/// The values of data words, each behind a space.
-fn spaced_words(alloc: Global, text: &[u8]) -> Result<Option<Vec<u16>>, AllocError>
-    requires { length text.now ≤ 2000 }
-    ensures { IfOk result (λ o. IfSome o (λ v. text.now ≡ data_put v.items)) }
+/// The values of data words, each behind a space, in front of this room; and how many they are.
+fn spaced_words(text: &[u8], room: &mut [u16]) -> Option<usize>
+    ensures long { length room.new ≡ length room.old }
+    ensures few { IfSome result (λ count. count ≤ length room.new) }
+    ensures words { IfSome result (λ count. text.now ≡ data_put (take count room.new)) }
 {
-    let mut words = Vec::with_capacity(alloc, text.len() / PLACES)?;
+    let mut count = 0;
     let mut rest = text;
-    while rest.len() >= PLACES {
-        let Some(word) = spaced_word(&rest[..PLACES], Kind::Plain) else {
-            return Ok(None);
-        };
-        words.push(word)?;
+    while count < room.len() && rest.len() >= PLACES {
+        room[count] = spaced_word(&rest[..PLACES], Kind::Plain)?;
+        count += 1;
         rest = &rest[PLACES..];
     }
-    Ok(if rest.is_empty() { Some(words) } else { None })
+    if rest.is_empty() { Some(count) } else { None }
 }
 
 /// The wordstring of a label and a few data words, each behind a space: no more than it keeps in itself.
@@ -149,34 +148,25 @@ fn short_string(label: Label, ext: Ext, text: &[u8]) -> Option<Wordstring>
     ensures { IfSome result (λ s. HasData label ext text.now s) }
 {
     let mut words = [0; SHORT];
-    let mut count = 0;
-    let mut rest = text;
-    while count < SHORT && rest.len() >= PLACES {
-        words[count] = spaced_word(&rest[..PLACES], Kind::Plain)?;
-        count += 1;
-        rest = &rest[PLACES..];
-    }
-    if rest.is_empty() {
-        Some(Wordstring::short(label, ext, count as u8, words))
-    } else {
-        None
-    }
+    let count = spaced_words(text, &mut words)?;
+    Some(Wordstring::short(label, ext, count as u8, words))
 }
 
-/// The wordstring of a label and data words, each behind a space.
+/// The wordstring of a label and data words, each behind a space. Their room is on the stack, so that the wordstring takes no more than
+/// it needs.
 fn long_string(
     alloc: Global,
     label: Label,
     ext: Ext,
     text: &[u8],
 ) -> Result<Option<Wordstring>, AllocError>
-    requires { length text.now ≤ 2000 }
     ensures { IfOk result (λ o. IfSome o (λ s. HasData label ext text.now s)) }
 {
-    let Some(words) = spaced_words(alloc, text)? else {
+    let mut words = [0; MOST_WORDS];
+    let Some(count) = spaced_words(text, &mut words) else {
         return Ok(None);
     };
-    Ok(Wordstring::new(label, ext, words))
+    Ok(Some(Wordstring::of(alloc, label, ext, &words[..count])?))
 }
 
 /// The wordstring of a label and data words, each behind a space.
@@ -186,7 +176,6 @@ fn data_string(
     ext: Ext,
     text: &[u8],
 ) -> Result<Option<Wordstring>, AllocError>
-    requires { length text.now ≤ 2000 }
     ensures { IfOk result (λ o. IfSome o (λ s. HasData label ext text.now s)) }
 {
     if text.len() > SHORT * PLACES {
@@ -198,7 +187,6 @@ fn data_string(
 /// How many bytes of the text in front may be data words of one line, each behind a space.
 fn data_length(text: &[u8]) -> usize
     ensures within { result ≤ length text.now }
-    ensures short { result ≤ 2000 }
 {
     let mut at = 0;
     while at < MOST_DATA && at + PLACES <= text.len() && text[at] == b' ' {

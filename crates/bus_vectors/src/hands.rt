@@ -18,7 +18,7 @@ fn message(alloc: Global, number: u32, round: u32, i: u8) -> Result<Message, All
 {
     let line = send_line(i);
     let words = words(alloc, number, round, i)?;
-    let string = Wordstring::new(line.label, line.ext, words).unwrap();
+    let string = Wordstring::of(alloc, line.label, line.ext, &words)?;
     Ok(Message::one(alloc, string))
 }
 

@@ -52,6 +52,7 @@ Fails text (Shape count) = (IsFrameText text → ⊥) × IsLongestFront text cou
 Fails text Parity = (f : FramedWord) × (f.value < 2 ^ 16) × (text ≡ frame_text f) × (f.parity ≢ parity f.value)
 
 -- ---- what is read
+-- Whether a byte is the letter of a word: L for a label word, D for a data word.
 abbrev pub is_letter : ℕ → Bool
 is_letter byte = byte == 76 || byte == 68
 

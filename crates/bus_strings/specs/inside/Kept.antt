@@ -1,21 +1,28 @@
 -- Where a wordstring keeps its data words, and a message its wordstrings. No public clause cites this module.
 use Rattle.std.specs.Prelude.{◌≡◌, ◌≤◌, [], ◌∷◌, length, take}
+use Rattle.bus_strings.specs.Limits.{most_middle, most_short}
 use Rattle.bus_strings.specs.Messages.{Wordstring, IsWordstring, Message, IsMessage, bits}
 use Rattle.bus_strings.specs.declared.wordstring.Kept.{Kept}
-use Rattle.bus_strings.specs.declared.wordstring.Kept.TheVariants.{Short, Long}
+use Rattle.bus_strings.specs.declared.wordstring.Kept.TheVariants.{Short, Middle, Long, Left}
 use Rattle.bus_strings.specs.declared.message.Strings.{Strings}
 use Rattle.bus_strings.specs.declared.message.Strings.TheVariants.{One, Many}
 
 -- The wordstring that is kept.
 abbrev pub kept_string : Kept → Wordstring
 kept_string (Short label ext count words) = record { label = label; ext = ext; words = take count words }
-kept_string (Long label ext words) = record { label = label; ext = ext; words = words.items }
+kept_string (Middle label ext count words) = record { label = label; ext = ext; words = take count words.value }
+kept_string (Long label ext words) = record { label = label; ext = ext; words = words.value.items }
+kept_string (Left label ext words) = record { label = label; ext = ext; words = words.now }
 
 -- Every number of it lies in its range.
 abbrev pub IsKept : Kept → Type 0
 IsKept (Short label ext count words) =
-    (length words ≡ 12) × (count ≤ 12) × IsWordstring (record { label = label; ext = ext; words = take count words })
-IsKept (Long label ext words) = IsWordstring (record { label = label; ext = ext; words = words.items })
+    (length words ≡ most_short) × (count ≤ most_short) × IsWordstring (record { label = label; ext = ext; words = take count words })
+IsKept (Middle label ext count words) =
+    (length words.value ≡ most_middle) × (count ≤ most_middle)
+    × IsWordstring (record { label = label; ext = ext; words = take count words.value })
+IsKept (Long label ext words) = IsWordstring (record { label = label; ext = ext; words = words.value.items })
+IsKept (Left label ext words) = IsWordstring (record { label = label; ext = ext; words = words.now })
 
 -- The message that is kept.
 abbrev pub kept_message : Strings → Message

@@ -1,16 +1,14 @@
-use Rattle.std.proofs.Common.{rules, arith, refl, ap, ◌≡◌, ◌∷◌, length, Err}
+use Rattle.std.proofs.Common.{rules, arith, ap, ◌≡◌, ◌∷◌, length}
 use Rattle.bus_text.specs.Entries.{entry}
 use Rattle.bus_text.specs.Lines.{entries_of}
-use Rattle.bus_text.specs.declared.reason.Reason.TheVariants.{Ended}
 use Rattle.bus_text.proofs.LineLaws.{length-entries_of-le}
-use Rattle.bus_strings.specs.Reading.{lines_reading, messages_reading}
+use Rattle.bus_strings.specs.Reading.{lines_reading}
 use Rattle.bus_strings.proofs.reading.item_lines.Goals as goal
 
 pub returns-in_default-clause-refused : goal.returns-in_default-clause-refused
 unfolding lines_reading
 returns-in_default-clause-refused c =
-    let read : messages_reading c.args.text.now ≡ Err (record { line = c.line_after.result; reason = Ended }) = search rules in
-    (record { line = c.line_after.result; reason = Ended }, read, refl)
+    search rules
 
 pub returns-in-Ok-clause-items : goal.returns-in-Ok-clause-items
 unfolding lines_reading
@@ -24,5 +22,4 @@ returns-in-Ok-clause-few c =
 pub returns-in-Err-clause-refused : goal.returns-in-Err-clause-refused
 unfolding lines_reading
 returns-in-Err-clause-refused c =
-    let read : messages_reading c.args.text.now ≡ Err (record { line = c.in-Some.first.number; reason = c.in-Err.reason }) = search rules in
-    (record { line = c.in-Some.first.number; reason = c.in-Err.reason }, read, refl)
+    search rules

@@ -1,9 +1,9 @@
-use Rattle.std.proofs.Common.{arith, subst}
-use Rattle.bus_strings.specs.inside.Kept.{AreKept}
+use Rattle.std.proofs.Common.{arith}
 use Rattle.bus_strings.proofs.KeptLemmas.{bits_within}
 use Rattle.bus_strings.proofs.message.Message.push.Goals as goal
 
-pub overflow_add-bits-in-Many : goal.overflow_add-bits-in-Many
-overflow_add-bits-in-Many c =
-    let kept = subst AreKept c.in-Many.is c.self.invariant in
-    omega (arith, kept.0, (bits_within c.in-Many.strings.items kept.1).1, c.word_count-words.ensures.most)
+pub overflow_add-all : goal.overflow_add-all
+overflow_add-all c = omega (arith, c.bits.ensures.value, (bits_within c.args.self.now c.bits.ensures.ranges).1)
+
+pub overflow_add-all-2 : goal.overflow_add-all-2
+overflow_add-all-2 c = omega (arith, c.bits.ensures.value, (bits_within c.args.self.now c.bits.ensures.ranges).1, c.word_count.ensures.most)

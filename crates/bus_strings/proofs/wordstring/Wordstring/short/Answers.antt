@@ -1,12 +1,13 @@
 use Rattle.std.proofs.Common.{arith, rules, ◌≡◌, ◌≤◌, ◌<◌, ◌^◌, length}
 use Rattle.std.proofs.lemmas.List.{length-take}
 use Rattle.bus_strings.proofs.KeptLemmas.{all_take}
+use Rattle.bus_strings.specs.Limits.{most_short}
 use Rattle.bus_strings.proofs.wordstring.Wordstring.short.Goals as goal
 
 pub invariant_of-result : goal.invariant_of-result
 invariant_of-result c = (
-  (let long : length c.args.words ≡ 12 = search rules in long),
-  (let few : c.args.count ≤ 12 = search rules in few),
+  (let long : length c.args.words ≡ most_short = search rules in long),
+  (let few : c.args.count ≤ most_short = search rules in few),
   record {
     label = omega (arith, c.value.ensures);
     ext = omega (arith, c.value-2.ensures);
