@@ -41,10 +41,10 @@ hides_none table survey counts row begin left sent =
     let within = within_row page tone high (shade_low page sent) in
     let below : 10 ≤ below_top page tone = within.0 in
     let whole : below_top page tone + height_of page tone + 10 ≤ page.row_height = within.1 in
-    let top : 1310 ≤ top_of page row = omega arith in
+    let top : 1690 ≤ top_of page row = omega arith in
     (above (top_of page row) (below_top page tone) top below, under (top_of page row) (below_top page tone) (height_of page tone) page.row_height whole)
   where
-    above : (top below : ℕ) → 1310 ≤ top → 10 ≤ below → top - 30 + 40 ≤ top + below
+    above : (top below : ℕ) → 1690 ≤ top → 10 ≤ below → top - 30 + 40 ≤ top + below
     above top below h k = omega arith
 
     under : (top below height row : ℕ) → below + height + 10 ≤ row → top + below + height ≤ top + row - 10

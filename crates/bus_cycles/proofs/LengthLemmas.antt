@@ -1,8 +1,8 @@
 -- The least and the greatest length of rows.
-use Rattle.std.proofs.Common.{◌≡◌, ◌⊎◌, ℕ, ◌<◌, ◌≤◌, Bool, true, false, cond, eqb, max, min, List, [], ◌∷◌, map, fold, Option, inl, inr, arith, sym, refl, ap, subst}
+use Rattle.std.proofs.Common.{◌≡◌, ◌⊎◌, ℕ, ◌+◌, ◌<◌, ◌≤◌, Bool, true, false, cond, eqb, max, min, List, [], ◌∷◌, length, map, fold, Option, inl, inr, arith, sym, refl, ap, subst, ◌∙◌}
 use Rattle.std.proofs.lemmas.Bool.{cases_lt, ne_eqb}
 use Rattle.bus_strings.specs.Members.{In}
-use Rattle.bus_cycles.specs.Laws.{LengthsAreOfRows, RowsHaveLengths}
+use Rattle.bus_cycles.specs.Laws.{LengthsAreOfRows, RowsAreCounted, RowsHaveLengths}
 use Rattle.bus_cycles.specs.Rows.{Cycle, Extent, Row, cycle_of, extent_of, rows}
 use Rattle.bus_cycles.specs.Surveys.{Survey, least_with, length_of, nothing, with_row}
 
@@ -101,7 +101,7 @@ reached_from cycle breach all (r ∷ rs) survey among some least most =
     reached_from cycle breach all rs (with_row cycle breach survey (extent_of r)) (λ row i. among row (inr i)) (omega arith)
     (least_reached cycle all survey r (among r (inl refl)) some least) (most_reached cycle all survey r (among r (inl refl)) most)
 
-reached : (cycle : Cycle) (breach : Option ℕ) (list : List Row) → 0 < (fold (with_row cycle breach) (nothing cycle) (map extent_of list)).count
+reached : (cycle : Cycle) (breach : Option ℕ) (list : List Row) → 0 < length list
     → HasLength cycle list (fold (with_row cycle breach) (nothing cycle) (map extent_of list)).least
     × HasLength cycle list (fold (with_row cycle breach) (nothing cycle) (map extent_of list)).most
 reached cycle breach [] some = absurd (omega arith)
@@ -110,6 +110,20 @@ reached cycle breach (r ∷ rs) some =
     let long : ℕ = length_of cycle.lift (extent_of r) in
     reached_from cycle breach (r ∷ rs) rs first (λ row i. inr i) (omega arith)
     (is_length cycle (r ∷ rs) r long (inl refl) refl) (is_length cycle (r ∷ rs) r (max 0 long) (inl refl) (omega arith))
+
+-- each is counted
+counted : (cycle : Cycle) (breach : Option ℕ) (list : List Row) (survey : Survey)
+    → (fold (with_row cycle breach) survey (map extent_of list)).count ≡ survey.count + length list
+counted cycle breach [] survey = let same : survey.count ≡ survey.count + 0 = omega arith in same
+counted cycle breach (r ∷ rs) survey =
+    let rest : (fold (with_row cycle breach) (with_row cycle breach survey (extent_of r)) (map extent_of rs)).count ≡ survey.count + 1 + length rs
+    = counted cycle breach rs (with_row cycle breach survey (extent_of r)) in
+    rest ∙ (let e : survey.count + 1 + length rs ≡ survey.count + length (r ∷ rs) = omega arith in e)
+
+pub rows_are_counted : RowsAreCounted
+rows_are_counted table window list breach =
+    counted (cycle_of table) breach (rows table window list) (nothing (cycle_of table))
+    ∙ (let e : 0 + length (rows table window list) ≡ length (rows table window list) = omega arith in e)
 
 pub rows_have_lengths : RowsHaveLengths
 rows_have_lengths table window list breach some =

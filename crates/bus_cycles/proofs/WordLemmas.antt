@@ -21,8 +21,8 @@ all_of left right edge h k = omega arith
 pub word_hides_none : PlacesRise → PlacesLieWithin → BreachWordHidesNone
 word_hides_none rise within table survey counts row begin sent is =
     let page : Page = page_of table survey counts in
-    let a : left_of page begin sent ≤ 13500 = on_pixel page begin sent.moment within is in
-    let b : pixel page begin sent.end ≤ 13500 = on_pixel page begin sent.end within is in
-    let c : left_of page begin sent + (right_of page begin sent - left_of page begin sent) ≤ 13510 =
-    all_of (left_of page begin sent) (pixel page begin sent.end) 13500 a b in
+    let a : left_of page begin sent ≤ 8500 = on_pixel page begin sent.moment within is in
+    let b : pixel page begin sent.end ≤ 8500 = on_pixel page begin sent.end within is in
+    let c : left_of page begin sent + (right_of page begin sent - left_of page begin sent) ≤ 8510 =
+    all_of (left_of page begin sent) (pixel page begin sent.end) 8500 a b in
     omega (arith, c)

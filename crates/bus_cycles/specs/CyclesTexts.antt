@@ -28,7 +28,7 @@ use Rattle.bus_cycles.specs.RowTexts.{line_of, pixel, rows_text}
 use Rattle.bus_cycles.specs.Surveys.{Survey, breach_in, counts, is_drawn, most_rows, survey_of}
 use Rattle.bus_cycles.specs.Measures.{before_mark, behind_mark, breach_below, breach_box_left, breach_height, breach_left, breach_over}
 use Rattle.bus_cycles.specs.Measures.{breach_width, breach_words_left, even_left, foot_height, garbled_left, garbled_words_left}
-use Rattle.bus_cycles.specs.Measures.{least_words_line, legend_height, legend_top, legend_width}
+use Rattle.bus_cycles.specs.Measures.{least_words_line, legend_height, legend_line, legend_top, legend_width}
 use Rattle.bus_cycles.specs.Measures.{line_width, load_right, long_foot, long_picture}
 use Rattle.bus_cycles.specs.Measures.{lower_foot, lower_top, lower_words, mark_words_line, marks_top, odd_left}
 use Rattle.bus_cycles.specs.Measures.{rows_line, sent_words_left, tick_height, ticks_foot, upper_foot, upper_ticks, upper_words}
@@ -98,11 +98,11 @@ legend_box class left width = box_text class (record { left = left; top = legend
 abbrev pub legend_text : List ℕ
 legend_text =
     legend_box Other even_left legend_width ++ legend_box Wordstring odd_left legend_width
-    ++ words_text Small sent_words_left rows_line (codes "sent by the terminal of this number")
+    ++ words_text Small sent_words_left legend_line (codes "sent by the terminal of this number")
     ++ legend_box Garbled garbled_left legend_width
-    ++ words_text Small garbled_words_left rows_line (codes "garbled: another overlaps it")
+    ++ words_text Small garbled_words_left legend_line (codes "garbled: another overlaps it")
     ++ legend_box Breach breach_box_left breach_width
-    ++ words_text Small breach_words_left rows_line (codes "first breach")
+    ++ words_text Small breach_words_left legend_line (codes "first breach")
 
 -- What stands above the rows.
 abbrev pub above_text : Page → Survey → List ℕ

@@ -18,9 +18,10 @@ use Rattle.bus_shapes.specs.Scales.{IsScale}
 use Rattle.bus_shapes.specs.SendingLaws.{IsToldOf}
 use Rattle.bus_shapes.specs.Windows.{Window}
 use Rattle.bus_cycles.specs.CyclesTexts.{part_above, part_below}
+use Rattle.bus_cycles.specs.Loads.{busy_of, whole_of}
 use Rattle.bus_cycles.specs.Measures.{breach_left}
 use Rattle.bus_cycles.specs.Pages.{Page, page_of, scale_of}
-use Rattle.bus_cycles.specs.Rows.{Extent, Row, cycle_of, extent_of, interval_of, rows, takes}
+use Rattle.bus_cycles.specs.Rows.{Cycle, Extent, Row, cycle_of, extent_of, interval_of, rows, takes}
 use Rattle.bus_cycles.specs.RowTexts.{area_of, boxes, class_of, is_due, is_left_out, left_of, right_of, sent_text, shade, where_drawn}
 use Rattle.bus_cycles.specs.Sents.{shown}
 use Rattle.bus_cycles.specs.Surveys.{Survey, counts, is_drawn, length_of, survey_of}
@@ -152,9 +153,19 @@ pub record IsLengthOfRow (table : Table) (window : Window) (list : List Entry) (
 abbrev pub RowsHaveLengths : Type 0
 RowsHaveLengths =
     (table : Table) (window : Window) (list : List Entry) (breach : Option ℕ)
-    → 0 < (survey_of (cycle_of table) breach (shown window list)).count
+    → 0 < length (rows table window list)
     → IsLengthOfRow table window list (survey_of (cycle_of table) breach (shown window list)).least
     × IsLengthOfRow table window list (survey_of (cycle_of table) breach (shown window list)).most
+
+-- The rows are counted.
+abbrev pub RowsAreCounted : Type 0
+RowsAreCounted =
+    (table : Table) (window : Window) (list : List Entry) (breach : Option ℕ)
+    → (survey_of (cycle_of table) breach (shown window list)).count ≡ length (rows table window list)
+
+-- No row is busy for more bit times than it has, so that no load passes 100 %.
+abbrev pub LoadsAreShares : Type 0
+LoadsAreShares = (cycle : Cycle) (list : List Entry) (row : Extent) → busy_of cycle list row ≤ whole_of cycle row
 
 -- How many transmissions of a row are garbled.
 abbrev pub garbled_of : Row → ℕ

@@ -7,7 +7,7 @@ plot_left = 1500
 
 -- Their width.
 abbrev pub plot_width : ℕ
-plot_width = 12000
+plot_width = 7000
 
 -- Where the moments end at which rows begin.
 abbrev pub begins_right : ℕ
@@ -15,15 +15,15 @@ begins_right = 1440
 
 -- Where the loads of rows end.
 abbrev pub load_right : ℕ
-load_right = 14700
+load_right = 9400
 
 -- The line of the numbers of microseconds.
 abbrev pub upper_words : ℕ
-upper_words = 830
+upper_words = 1210
 
 -- Where their marks begin.
 abbrev pub upper_ticks : ℕ
-upper_ticks = 850
+upper_ticks = 1230
 
 -- How high these are.
 abbrev pub tick_height : ℕ
@@ -31,19 +31,19 @@ tick_height = 50
 
 -- The line of the numbers of bit times.
 abbrev pub lower_words : ℕ
-lower_words = 1010
+lower_words = 1390
 
 -- Where their lines begin.
 abbrev pub lower_top : ℕ
-lower_top = 1040
+lower_top = 1420
 
 -- The line of the words on the rows.
 abbrev pub rows_line : ℕ
-rows_line = 620
+rows_line = 830
 
 -- Where the line of a mark begins.
 abbrev pub marks_top : ℕ
-marks_top = 1070
+marks_top = 1450
 
 -- The width of the line of a mark: a pixel.
 abbrev pub line_width : ℕ
@@ -59,11 +59,11 @@ before_mark = 30
 
 -- The line of the words of marks.
 abbrev pub mark_words_line : ℕ
-mark_words_line = 1150
+mark_words_line = 1530
 
 -- The line of those of the least cycle.
 abbrev pub least_words_line : ℕ
-least_words_line = 1250
+least_words_line = 1630
 
 -- Rows that reach further down have axes below them too: 800 pixels.
 abbrev pub long_picture : ℕ
@@ -91,7 +91,7 @@ long_foot = 420
 
 -- The upper edge of the first row.
 abbrev pub rows_top : ℕ
-rows_top = 1310
+rows_top = 1690
 
 -- The height of a row in a picture without garbled transmissions.
 abbrev pub plain_row : ℕ
@@ -137,22 +137,26 @@ breach_width = 20
 abbrev pub breach_height : ℕ
 breach_height = 40
 
--- How far above the upper edge of its row its first part begins.
+-- How far above the upper edge of its row its first part begins, which ends where the boxes begin.
 abbrev pub breach_over : ℕ
 breach_over = 30
 
--- How far above the lower edge of its row its second part begins.
+-- How far above the lower edge of its row its second part begins: where the boxes end.
 abbrev pub breach_below : ℕ
 breach_below = 10
 
--- Where the word of a breach begins: behind all rows.
+-- Where the word of a breach begins: behind the boxes of all rows.
 abbrev pub breach_left : ℕ
-breach_left = 13560
+breach_left = 8540
 
 -- ---- the legend
 -- The upper edge of its boxes.
 abbrev pub legend_top : ℕ
-legend_top = 540
+legend_top = 920
+
+-- The line of their words.
+abbrev pub legend_line : ℕ
+legend_line = 1000
 
 -- Their height.
 abbrev pub legend_height : ℕ
@@ -162,26 +166,30 @@ legend_height = 90
 abbrev pub legend_width : ℕ
 legend_width = 120
 
--- Where both boxes of what is sent begin, and the words on it.
+-- Where the box of what a terminal of an even lane sends begins.
 abbrev pub even_left : ℕ
-even_left = 7800
+even_left = 200
 
+-- Where that of one of an odd lane begins.
 abbrev pub odd_left : ℕ
-odd_left = 7940
+odd_left = 340
 
+-- Where the words on both begin.
 abbrev pub sent_words_left : ℕ
-sent_words_left = 8100
+sent_words_left = 500
 
--- Where the box of what is garbled begins, and the words on it.
+-- Where the box of what is garbled begins.
 abbrev pub garbled_left : ℕ
-garbled_left = 10400
+garbled_left = 2900
 
+-- Where its words begin.
 abbrev pub garbled_words_left : ℕ
-garbled_words_left = 10560
+garbled_words_left = 3060
 
--- Where the box of the breach begins, and the words on it.
+-- Where the box of the breach begins.
 abbrev pub breach_box_left : ℕ
-breach_box_left = 14400
+breach_box_left = 5040
 
+-- Where its words begin.
 abbrev pub breach_words_left : ℕ
-breach_words_left = 14460
+breach_words_left = 5100

@@ -182,7 +182,7 @@ fn put_row_words<K: Sink>(text: &mut TextBuffer, sink: &mut K, page: &Page, row:
     begin_words(text, sink, Class::Detail, 1440, line);
     put_begin(text, sink, page.cycle.lift, row.begin);
     end_words(text, sink);
-    begin_words(text, sink, Class::Detail, 15500, line);
+    begin_words(text, sink, Class::Detail, 10200, line);
     text.put_number(sink, length_of(page.cycle.lift, row));
     end_words(text, sink);
 }

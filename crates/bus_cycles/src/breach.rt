@@ -15,7 +15,7 @@ use bus_shapes::{Area, Class, put_box, put_words};
 /// A part of the line.
 fn put_part<K: Sink>(text: &mut TextBuffer, sink: &mut K, left: u64, top: u64)
     requires left { left < 2097152 }
-    requires top { top ≤ 161620 }
+    requires top { top ≤ 162000 }
     ensures { Adds K.held K.faults sink.old sink.new text.old text.new (box_text Breach (definition.breach_part left top)) }
 {
     let area = Area {
@@ -37,7 +37,7 @@ fn put_at<K: Sink>(text: &mut TextBuffer, sink: &mut K, page: &Page, left: u64, 
     let top = page.top_of(row);
     put_part(text, sink, left, top - 30);
     put_part(text, sink, left, top + page.row_height - 10);
-    put_words(text, sink, Class::Note, 13560, page.line_of(row), b"breach");
+    put_words(text, sink, Class::Note, 8540, page.line_of(row), b"breach");
 }
 
 /// The breach at this moment, in this row where it is drawn.

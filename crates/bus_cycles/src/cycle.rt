@@ -103,7 +103,8 @@ impl Cycle {
     fn begin_of(&self, sent: &Sent) -> u64
         requires some { 0 < self.now.ti }
         requires sent { IsSent sent.now }
-        ensures { result ≡ definition.begin_of self.now sent.now }
+        ensures value { result ≡ definition.begin_of self.now sent.now }
+        ensures low { result ≤ 2 ^ 42 }
     {
         match self.mode {
             Mode::Periodic => interval_of(self.ti, sent.moment) + u64::from(self.lift),
@@ -132,6 +133,7 @@ impl Cycle {
         requires sent { IsSent sent.now }
         ensures value { result ≡ definition.extent_of (definition.row_at self.now place sent.now) }
         ensures low { result.end ≤ 2 ^ 41 }
+        ensures begin { result.begin ≤ 2 ^ 42 }
     {
         Extent {
             place,
@@ -161,6 +163,7 @@ impl Extent {
         ensures value { (row : definition.Row) → self ≡ definition.extent_of row
             → result ≡ definition.extent_of (definition.with_sent row sent.now) }
         ensures place { result.place ≡ self.place }
+        ensures begin { result.begin ≡ self.begin }
     {
         Extent {
             place: self.place,

@@ -1,8 +1,9 @@
 //! Laws of the definitions, each the contract of a function that does nothing.
 ghost use Rattle.bus_cycles.specs.Laws.{BreachHidesNone, BreachIsAtItsMoment, BreachWordHidesNone, CountsAreOfRows, EachIsDueOnce};
 ghost use Rattle.bus_cycles.specs.Laws.{HatchedAreDrawnLast, HatchedAreGarbled, KeptAreDrawn, LeftOutAreCovered, LengthsAreOfRows};
-ghost use Rattle.bus_cycles.specs.Laws.{NeighboursDiffer, RowsAreAPartition, RowsAreCycles, RowsAreIntervals, RowsAreNumbered};
-ghost use Rattle.bus_cycles.specs.Laws.{RowsAscend, RowsHaveLengths, TheLastRowIsMarked, ThreeLieApart};
+ghost use Rattle.bus_cycles.specs.Laws.{LoadsAreShares, NeighboursDiffer, RowsAreAPartition, RowsAreCounted, RowsAreCycles};
+ghost use Rattle.bus_cycles.specs.Laws.{RowsAreIntervals, RowsAreNumbered, RowsAscend, RowsHaveLengths, TheLastRowIsMarked};
+ghost use Rattle.bus_cycles.specs.Laws.{ThreeLieApart};
 
 use bus_shapes::laws::places_keep_order;
 
@@ -85,9 +86,16 @@ pub fn lengths_are_of_rows()
     ensures { LengthsAreOfRows }
 {}
 
-/// Where there are rows, one has the least length that the words above the rows tell, and one has the greatest.
+/// Where there are rows, one has the least length that the words above the rows tell, and one has the greatest. And these words tell how
+/// many there are.
 pub fn rows_have_lengths()
-    ensures { RowsHaveLengths }
+    ensures lengths { RowsHaveLengths }
+    ensures count { RowsAreCounted }
+{}
+
+/// No row is busy for more bit times than it has.
+pub fn loads_are_shares()
+    ensures { LoadsAreShares }
 {}
 
 /// The boxes of two senders that follow one another in turn order have different shades.

@@ -64,7 +64,7 @@ fn scale_of(survey: &Survey) -> Scale
         from: 0,
         to: survey.longest,
         left: 1500,
-        width: 12000,
+        width: 7000,
     }
 }
 
@@ -98,10 +98,10 @@ impl Page {
         requires page { IsPage self.now }
         requires row { row ≤ 500 }
         ensures value { result ≡ definition.top_of self.now row }
-        ensures least { 1310 ≤ result }
-        ensures most { result ≤ 161310 }
+        ensures least { 1690 ≤ result }
+        ensures most { result ≤ 161690 }
     {
-        1310 + self.row_height * row
+        1690 + self.row_height * row
     }
 
     /// The line of the words of a row.
@@ -117,8 +117,8 @@ impl Page {
     pub fn bottom(&self) -> u64
         requires { IsPage self.now }
         ensures value { result ≡ definition.bottom_of self.now }
-        ensures least { 1310 ≤ result }
-        ensures most { result ≤ 161310 }
+        ensures least { 1690 ≤ result }
+        ensures most { result ≤ 161690 }
     {
         self.top_of(self.rows)
     }

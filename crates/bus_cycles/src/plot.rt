@@ -73,17 +73,17 @@ fn put_axes<K: Sink>(text: &mut TextBuffer, sink: &mut K, page: &Page)
 {
     let upper = Axis {
         unit: Unit::Microseconds,
-        words: 830,
+        words: 1210,
         class: Class::Tick,
-        top: 850,
+        top: 1230,
         height: 50,
     };
     let lower = Axis {
         unit: Unit::BitTimes,
-        words: 1010,
+        words: 1390,
         class: Class::Grid,
-        top: 1040,
-        height: page.bottom() - 1040,
+        top: 1420,
+        height: page.bottom() - 1420,
     };
     put_axis(text, sink, &page.scale, &upper);
     put_axis(text, sink, &page.scale, &lower);
@@ -92,7 +92,7 @@ fn put_axes<K: Sink>(text: &mut TextBuffer, sink: &mut K, page: &Page)
 /// Both axes below the rows.
 fn put_axes_below<K: Sink>(text: &mut TextBuffer, sink: &mut K, scale: &Scale, bottom: u64)
     requires scale { IsScale scale.now }
-    requires low { bottom ≤ 161310 }
+    requires low { bottom ≤ 161690 }
     ensures { Adds K.held K.faults sink.old sink.new text.old text.new (definition.axes_below scale.now bottom) }
 {
     let lower = Axis {
@@ -129,7 +129,7 @@ fn put_legend_box<K: Sink>(text: &mut TextBuffer, sink: &mut K, class: Class, le
 {
     let area = Area {
         left,
-        top: 540,
+        top: 920,
         width,
         height: 90,
     };
@@ -140,27 +140,27 @@ fn put_legend_box<K: Sink>(text: &mut TextBuffer, sink: &mut K, class: Class, le
 fn put_legend<K: Sink>(text: &mut TextBuffer, sink: &mut K)
     ensures { Adds K.held K.faults sink.old sink.new text.old text.new definition.legend_text }
 {
-    put_legend_box(text, sink, Class::Other, 7800, 120);
-    put_legend_box(text, sink, Class::Wordstring, 7940, 120);
+    put_legend_box(text, sink, Class::Other, 200, 120);
+    put_legend_box(text, sink, Class::Wordstring, 340, 120);
     put_words(
         text,
         sink,
         Class::Small,
-        8100,
-        620,
+        500,
+        1000,
         b"sent by the terminal of this number",
     );
-    put_legend_box(text, sink, Class::Garbled, 10400, 120);
+    put_legend_box(text, sink, Class::Garbled, 2900, 120);
     put_words(
         text,
         sink,
         Class::Small,
-        10560,
-        620,
+        3060,
+        1000,
         b"garbled: another overlaps it",
     );
-    put_legend_box(text, sink, Class::Breach, 14400, 20);
-    put_words(text, sink, Class::Small, 14460, 620, b"first breach");
+    put_legend_box(text, sink, Class::Breach, 5040, 20);
+    put_words(text, sink, Class::Small, 5100, 1000, b"first breach");
 }
 
 /// What stands above the rows: how many there are, the legend, and the axes.
@@ -168,14 +168,14 @@ pub(crate) fn put_above<K: Sink>(text: &mut TextBuffer, sink: &mut K, page: &Pag
     requires { IsPage page.now }
     ensures { Adds K.held K.faults sink.old sink.new text.old text.new (definition.above_text page.now survey.now) }
 {
-    begin_words(text, sink, Class::Small, 200, 620);
+    begin_words(text, sink, Class::Small, 200, 830);
     put_row_words(text, sink, survey);
     end_words(text, sink);
     put_legend(text, sink);
     put_axes(text, sink, page);
-    put_words(text, sink, Class::Small, 200, 1150, b"cycle, its begin");
-    put_words(text, sink, Class::Detail, 15500, 1010, b"length");
-    put_words(text, sink, Class::Detail, 14700, 1010, b"load");
+    put_words(text, sink, Class::Small, 200, 1530, b"cycle, its begin");
+    put_words(text, sink, Class::Detail, 10200, 1390, b"length");
+    put_words(text, sink, Class::Detail, 9400, 1390, b"load");
 }
 
 /// A line over all rows, at a distance from their beginning.
@@ -185,9 +185,9 @@ fn mark_line(page: &Page, t: u64) -> Area
 {
     Area {
         left: page.scale.place(t),
-        top: 1070,
+        top: 1450,
         width: 10,
-        height: page.bottom() - 1070,
+        height: page.bottom() - 1450,
     }
 }
 
@@ -217,7 +217,7 @@ fn put_mark<K: Sink>(text: &mut TextBuffer, sink: &mut K, page: &Page, name: &[u
     if t <= page.scale.to {
         put_box(text, sink, Class::Mark, mark_line(page, t));
         let left = page.scale.place(t) + 40;
-        put_mark_words(text, sink, Class::Small, left, 1150, name, t);
+        put_mark_words(text, sink, Class::Small, left, 1530, name, t);
     }
 }
 
@@ -229,7 +229,7 @@ fn put_least<K: Sink>(text: &mut TextBuffer, sink: &mut K, page: &Page, t: u64)
     if t <= page.scale.to {
         put_box(text, sink, Class::Mark, mark_line(page, t));
         let left = page.scale.place(t) - 30;
-        put_mark_words(text, sink, Class::Detail, left, 1250, b"least ", t);
+        put_mark_words(text, sink, Class::Detail, left, 1630, b"least ", t);
     }
 }
 

@@ -1,6 +1,7 @@
 //! The text of a picture that has a row for each cycle.
 ghost use Rattle.std.specs.Prelude.{◌≡◌, ◌<◌, ◌≤◌};
 ghost use Rattle.bus_outer.specs.Sinks.{WritesText};
+ghost use Rattle.bus_load.specs.Loads.{IsCarrierOf};
 ghost use Rattle.bus_cycles.specs.CyclesTexts.{cycles_text};
 
 use crate::boxes::put_rows;
@@ -12,6 +13,7 @@ use crate::page::Page;
 use crate::plot::{height_of, put_above, put_below, put_marks};
 use crate::survey::{breach_in, take_survey};
 use bus_audit::AuditAnswer;
+use bus_load::Stretch;
 use bus_outer::{Sink, TextBuffer, WriteFault};
 use bus_regime::TableVerdict;
 use bus_shapes::{Window, put_frame, put_tail};
@@ -20,7 +22,7 @@ use bus_trace::Trace;
 
 /// Writes the picture of a window of a trace on a table as SVG: a row for each cycle, one below the other from the same left edge, at most
 /// 500, and above them the words of the verdict and of the audit. What is garbled is drawn over all that is plain, and the marks over both.
-/// It goes over the trace five times, and takes no memory.
+/// It goes over the trace five times, and takes no memory. The carrier of the trace's list is given, since that takes memory to tell.
 ///
 /// At `WriteFault` the sink has taken a front of the text, and its count of faults rose.
 pub fn write_cycles<K: Sink>(
@@ -29,8 +31,10 @@ pub fn write_cycles<K: Sink>(
     answer: &AuditAnswer,
     table: &Table,
     trace: &Trace,
+    carrier: &[Stretch],
     sink: &mut K,
 ) -> Result<(), WriteFault>
+    requires carrier { IsCarrierOf carrier.now trace.now.list }
     ensures { WritesText K.held K.faults sink.old sink.new result (cycles_text window.now verdict.now answer.now table.now trace.now) }
 {
     let cycle = Cycle::new(table);
@@ -43,7 +47,7 @@ pub fn write_cycles<K: Sink>(
     put_frame(&mut text, sink, height, verdict, answer, table, &counts);
     put_above(&mut text, sink, &page, &survey);
     put_rows(&mut text, sink, &page, window, trace);
-    put_loads(&mut text, sink, &page, window, trace);
+    put_loads(&mut text, sink, &page, window, trace, carrier);
     put_marks(&mut text, sink, &page, table, verdict);
     put_below(&mut text, sink, &page);
     put_breach(&mut text, sink, &page, breach, survey.marked);

@@ -3,6 +3,8 @@ use Rattle.std.specs.Prelude.{ℕ, ◌+◌, ◌-◌, ◌*◌, max, min, Bool, tr
 use Rattle.std.specs.Prelude.{decimal, map, filter, Option, if◌then◌else◌}
 use Rattle.std.specs.List.{list_any, flat_map, range_with_len}
 use Rattle.std.specs.Int.Digits.{digits_of}
+use Rattle.bus_regime.specs.declared.table_verdict.TableVerdict.{TableVerdict}
+use Rattle.bus_regime.specs.Lines.{verdict_words}
 use Rattle.bus_table.specs.Tables.{Table}
 use Rattle.bus_trace.specs.Traces.{Recording}
 use Rattle.bus_shapes.specs.Windows.{Window}
@@ -167,3 +169,7 @@ abbrev pub dump_text : Dump → Window → Option ℕ → List ℕ → Table →
 dump_text dump window breach comment table trace =
     text_of comment (signals dump (lanes table trace.list)) (scene_at dump breach table trace.list) window.from
     (end_of_dump window trace.horizon)
+
+-- The dump whose comment is the words of this verdict.
+abbrev pub verdict_dump : Dump → Window → Option ℕ → TableVerdict → Table → Recording → List ℕ
+verdict_dump dump window breach verdict table trace = dump_text dump window breach (verdict_words verdict) table trace

@@ -1,3 +1,4 @@
+-- What the contracts of this crate cite.
 pub mod OnBus
 pub mod Seen
 pub mod Timers

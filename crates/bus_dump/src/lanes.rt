@@ -62,7 +62,7 @@ fn is_stranger(table: &Table, sends: bool, terminal: u8) -> bool
 pub(crate) fn sender_count(table: &Table) -> usize
     ensures valid { IsTrue (is_valid table.now) }
     ensures value { result ≡ length table.now.senders }
-    ensures most { result ≤ 128 }
+    ensures most { result ≤ most_terminal }
 {
     table.senders().len()
 }
@@ -71,7 +71,7 @@ pub(crate) fn sender_count(table: &Table) -> usize
 fn add_senders(lanes: &mut ArrayVec<Lane, MOST_LANES>, table: &Table)
     requires { lanes.old.items ≡ [] }
     ensures items { lanes.new.items ≡ map definition.sender_lane (turn_order table.now) }
-    ensures few { array_vec_len lanes.new ≤ 128 }
+    ensures few { array_vec_len lanes.new ≤ most_terminal }
 {
     let places = turn_places(table);
     for k in 0..sender_count(table) {
@@ -100,7 +100,7 @@ fn add_stranger(lanes: &mut ArrayVec<Lane, MOST_LANES>, table: &Table, sends: bo
 
 /// Adds the strangers of the list by number.
 fn add_strangers(lanes: &mut ArrayVec<Lane, MOST_LANES>, table: &Table, list: &[Transmission])
-    requires { array_vec_len lanes.old ≤ 128 }
+    requires { array_vec_len lanes.old ≤ most_terminal }
     ensures { lanes.new.items
         ≡ lanes.old.items
         ++ map definition.stranger_lane (filter (definition.is_stranger table.now list.now) (range_with_len 1 most_terminal)) }

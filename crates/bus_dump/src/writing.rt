@@ -2,9 +2,8 @@
 ghost use Rattle.std.specs.Prelude.{◌≡◌, ◌≤◌, ◌<◌, ◌^◌, None};
 ghost use Rattle.bus_outer.specs.Sinks.{WritesText};
 ghost use Rattle.bus_outer.specs.Texts.{Adds};
-ghost use Rattle.bus_regime.specs.Lines.{verdict_words};
 ghost use Rattle.bus_dump.specs.Doubled.{doubled};
-ghost use Rattle.bus_dump.specs.DumpTexts.{dump_text, end_of_dump, first_values, last_stamp};
+ghost use Rattle.bus_dump.specs.DumpTexts.{end_of_dump, first_values, last_stamp, verdict_dump};
 ghost use Rattle.bus_dump.specs.inside.Layouts.{bit_times_put, layout_signals};
 ghost use Rattle.bus_dump.specs.inside.Walks.{IsWalkable};
 ghost use Rattle.bus_dump.specs.inside.Watching.{IsReady, IsTold, IsWatch, Keeping, scene_of};
@@ -136,7 +135,7 @@ pub fn write_dump<K: Sink>(
 ) -> Result<(), WriteFault>
     requires single { doubled trace.now.list ≡ None }
     ensures { WritesText K.held K.faults sink.old sink.new result
-        (dump_text dump window.now breach (verdict_words verdict.now) table.now trace.now) }
+        (verdict_dump dump window.now breach verdict.now table.now trace.now) }
 {
     neighbours_tell();
     let list = trace.list();

@@ -7,6 +7,7 @@
 //! - [`write_received`] writes what each terminal of a table receives of a list of transmissions, and [`count_received`] counts its
 //!   lines.
 //! - [`Receiver`] does the same for one receive line, word by word.
+//! - [`matches`] says whether a receive line matches.
 //!
 //! No call takes memory: what each transmission is looked up by stands on the stack, in half a megabyte.
 //!
@@ -24,5 +25,6 @@ mod spans;
 mod writing;
 
 pub use counting::count_received;
+pub use matching::matches;
 pub use receiver::{Heard, Receiver};
 pub use writing::write_received;

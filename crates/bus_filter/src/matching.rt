@@ -6,7 +6,7 @@ use bus_table::TakeLine;
 use bus_words::{Ext, Label};
 
 /// Whether a receive line matches the wordstrings of a label and an extension.
-pub(crate) fn matches(line: &TakeLine, label: Label, ext: Ext) -> bool
+pub fn matches(line: &TakeLine, label: Label, ext: Ext) -> bool
     ensures { result ≡ matches_in line.now label ext }
 {
     line.label == label

@@ -42,7 +42,7 @@ placed lanes row (inr (inr i)) = lanes_placed 0 lanes row i
 
 -- A dash that lies above or below the boxes of its row lies so of all boxes.
 apart : (from high below tall n k : ℕ) → below + tall ≤ 60 ⊎ (240 ≤ below × (below + tall ≤ 320)) → 60 ≤ from → from + high ≤ 240
-    → (960 + 320 * k + below + tall ≤ 960 + 320 * n + from) ⊎ (960 + 320 * n + from + high ≤ 960 + 320 * k + below)
+    → (1170 + 320 * k + below + tall ≤ 1170 + 320 * n + from) ⊎ (1170 + 320 * n + from + high ≤ 1170 + 320 * k + below)
 apart from high below tall n k where' low most =
     elim (cases_lt k n) [
       | inl before ↦ inl (elim where' [ inl above ↦ omega arith | inr under ↦ (let u : below + tall ≤ 320 = under.1 in omega arith) ])
@@ -55,7 +55,7 @@ apart from high below tall n k where' low most =
 pub breaches_hide_no_box : BreachesHideNoBox
 breaches_hide_no_box scale lanes row pile left width i =
     let p : IsPlace row = placed lanes row i in
-    let top : row.top ≡ 960 + 320 * p.number = p.top in
+    let top : row.top ≡ 1170 + 320 * p.number = p.top in
     let high : pile_height scale pile ≤ 180 = height_within scale pile in
     let from : ℕ = 60 + (180 - pile_height scale pile) in (
       record {

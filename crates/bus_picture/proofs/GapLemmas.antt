@@ -1,8 +1,8 @@
 -- The terminal gaps that are drawn are those of the timers.
-use Rattle.std.proofs.Common.{◌≡◌, ℕ, zero, suc, ◌+◌, ◌-◌, ◌<◌, ◌≤◌, Bool, true, false, cond, max, min, eqb, ltb, List, [], ◌∷◌, ◌++◌, length, take, Option, Some, None, get_or, replicate, filter, inl, inr, arith, refl, sym, ap, subst, ◌∙◌}
+use Rattle.std.proofs.Common.{◌≡◌, ℕ, zero, suc, ◌+◌, ◌-◌, ◌<◌, ◌≤◌, Bool, true, false, cond, max, min, eqb, ltb, List, [], ◌∷◌, length, take, Option, Some, None, get_or, filter, inl, inr, arith, refl, sym, ap, subst, ◌∙◌}
 use Rattle.std.specs.Prelude.{◌&&◌, ◌⊎◌, IfSome, IsTrue, fold, slice_get}
 use Rattle.std.specs.List.{AllByRecursion}
-use Rattle.std.proofs.lemmas.Bool.{cases_Bool, cases_lt, le-ltb, lt-ltb, ltb-true, true≢false}
+use Rattle.std.proofs.lemmas.Bool.{cases_lt, le-ltb, lt-ltb, ltb-true, true≢false}
 use Rattle.std.proofs.lemmas.List.{get_or-replicate, get_or_append_left, get_or_past}
 use Rattle.bus_strings.proofs.MemberLaws.{at_in, from_filter, in_filter, of_each}
 use Rattle.bus_strings.proofs.OverlapLemmas.{ascending_is_by_moment}
@@ -11,8 +11,9 @@ use Rattle.bus_strings.specs.Messages.{Entry}
 use Rattle.bus_strings.specs.Transmissions.{IsByMoment, carrier, end_of}
 use Rattle.bus_timers.specs.GapPlace.{Elapsed, GapFrom}
 use Rattle.bus_timers.specs.MayStart.{IsQuiet, IsSync}
-use Rattle.bus_timers.specs.Timings.{IsSound, due_place}
+use Rattle.bus_timers.specs.Timings.{IsSound}
 use Rattle.bus_table.specs.Tables.{Sender, Table}
+use Rattle.bus_table.specs.Valid.{is_valid}
 use Rattle.bus_table.specs.Timers.{greatest_gap, quiet_for, quiet_of}
 use Rattle.bus_table.specs.declared.mode.Mode.{Mode}
 use Rattle.bus_table.specs.declared.mode.Mode.TheVariants.{Aperiodic, Periodic}
@@ -22,15 +23,16 @@ use Rattle.bus_medium.specs.Past.{past, own, last_place}
 use Rattle.bus_medium.specs.Past.{own as own_of}
 use Rattle.bus_medium.specs.Timings.{timing_of}
 use Rattle.bus_medium.proofs.BusyLaws.{entry_is_busy}
-use Rattle.bus_medium.proofs.PastLaws.{before, carrier_before, from_own, in_own, last_push, length_past, no_carrier, own_before, own_more, past_at, past_before}
+use Rattle.bus_medium.proofs.PastLaws.{before, carrier_before, from_own, in_own, length_past, no_carrier, past_at}
 use Rattle.bus_medium.proofs.Seats.{same_some}
 use Rattle.bus_medium.proofs.StationLaws.{timings_are_sound}
 use Rattle.bus_shapes.specs.Laws.{SentsAreTold}
+use Rattle.bus_shapes.specs.Sending.{sents}
 use Rattle.bus_shapes.specs.SendingLaws.{IsToldOf}
 use Rattle.bus_shapes.specs.declared.sent.Sent.{Sent}
-use Rattle.bus_picture.specs.Gaps.{Gap, Heard, gap_before, gap_place, heard_before, heard_of}
-use Rattle.bus_picture.specs.GapLaws.{GapsAreTrue, IntervalsAreTrue, IsGapOf, drawn_gap}
-use Rattle.bus_picture.proofs.HeardLemmas.{Elapses, Final, HaveWords, IsEarly, Knows, Nothing, Synced, knows_all, last_sounds}
+use Rattle.bus_picture.specs.Gaps.{Heard, gap_from, gap_place, heard_all, heard_before, settled}
+use Rattle.bus_picture.specs.GapLaws.{GapsAreTrue, IsGapOf, LastGapsAreTrue}
+use Rattle.bus_picture.proofs.HeardLemmas.{all_heard, Elapses, Final, HaveWords, Knows, Synced, knows_all, last_sounds}
 
 -- ---- the past
 past_low : (q : ℕ) (l : List Entry) (t k : ℕ) → k < q → get_or (past q l t) k true ≡ false
@@ -114,7 +116,7 @@ module _ (q sg n t : ℕ) (l : List Entry) (rises : IsByMoment l) where
       omega arith
 
   -- a synchronization gap of the timers is one of the list
-  from_sync : (e : ℕ) → IsSync sg heard last e → Synced q sg n (before l t) e
+  pub from_sync : (e : ℕ) → IsSync sg heard last e → Synced q sg n (before l t) e
   from_sync e s =
       let long : sg ≤ e = s.long in
       record {
@@ -231,7 +233,7 @@ same_before (x ∷ xs) zero e rises at =
 same_before (x ∷ xs) (suc k) e rises at =
     ap (λ (l : List Entry). cond (ltb x.moment e.moment) (x ∷ l) l) (same_before xs k e rises.1 at)
 
-taken : (k : ℕ) (xs : List Entry) (y : Entry) → In y (take k xs) → In y xs
+pub taken : (k : ℕ) (xs : List Entry) (y : Entry) → In y (take k xs) → In y xs
 taken zero xs y i = absurd i
 taken (suc k) [] y i = absurd i
 taken (suc k) (x ∷ xs) y (inl e) = inl e
@@ -242,7 +244,7 @@ all_taken P zero xs h = tt
 all_taken P (suc k) [] h = tt
 all_taken P (suc k) (x ∷ xs) h = (h.0, all_taken P k xs h.1)
 
-rise_taken : (k : ℕ) (xs : List Entry) → IsByMoment xs → IsByMoment (take k xs)
+pub rise_taken : (k : ℕ) (xs : List Entry) → IsByMoment xs → IsByMoment (take k xs)
 rise_taken zero xs h = tt
 rise_taken (suc k) [] h = tt
 rise_taken (suc k) (x ∷ xs) h = (all_taken (λ (y : Entry). x.moment ≤ y.moment) k xs h.0, rise_taken k xs h.1)
@@ -265,27 +267,27 @@ settles_by Aperiodic sg ss s i = inl refl
 settles_by Periodic sg ss s i = inr (let low : s.tg ≤ greatest_gap ss = gap_in_fold 0 ss s i in omega arith)
 
 -- ---- the laws
-have_words : (horizon : ℕ) (l : List Entry) → AllByRecursion (IsBelow horizon) l → HaveWords l
+pub have_words : (horizon : ℕ) (l : List Entry) → AllByRecursion (IsBelow horizon) l → HaveWords l
 have_words horizon l h y i = (of_each (IsBelow horizon) l h y i).message.some
 
-pub gaps_are_true : SentsAreTold → GapsAreTrue
-gaps_are_true told table trace sender x valid recorded there shown own less =
+all_below : (horizon : ℕ) (l : List Entry) → AllByRecursion (IsBelow horizon) l → AllByRecursion (λ (y : Entry). y.moment < horizon) l
+all_below horizon [] h = tt
+all_below horizon (x ∷ l) h = (h.0.moment, all_below horizon l h.1)
+
+-- The terminal gap of a sender that has heard all that begins before a moment.
+gap_of : (table : Table) (trace : Recording) (sender : Sender) (t : ℕ) (h : Heard) → IsTrue (is_valid table) → IsTrace trace → In sender table.senders
+    → Knows (quiet_of table) table.sg sender.number (before trace.list t) h
+    → (gap_from (quiet_of table) sender.tg (gap_place table.sg h) t).from < (gap_from (quiet_of table) sender.tg (gap_place table.sg h) t).to
+    → IsGapOf table trace sender t (gap_from (quiet_of table) sender.tg (gap_place table.sg h) t)
+gap_of table trace sender t h valid recorded there k less =
     let l : List Entry = trace.list in
     let q : ℕ = quiet_of table in
     let sg : ℕ = table.sg in
-    let n : ℕ = x.terminal in
-    let t : ℕ = x.moment in
-    let is : IsToldOf l x = told l x shown in
-    let moment : is.entry.moment ≡ t = sym (ap (λ (s : Sent). s.moment) is.told) in
+    let n : ℕ = sender.number in
     let sound : IsSound (timing_of table sender) = timings_are_sound table sender valid there in
-    let long : 9 ≤ sg = sound.sg_least in
     let quiet : sg ≤ q = sound.quiet_least in
     let rises : IsByMoment l = ascending_is_by_moment l recorded.order in
     let words : HaveWords l = have_words trace.horizon l recorded.list in
-    let h : Heard = heard_before q sg l x in
-    let k : Knows q sg n (before l t) h =
-    subst (λ (p : List Entry). Knows q sg n p h) (subst (λ (m : ℕ). before (take x.at l) m ≡ before l m) moment (same_before l x.at is.entry rises is.at))
-    (knows_all q sg n t (take x.at l) (omega arith) quiet (λ y i. words y (taken x.at l y i)) (rise_taken x.at l rises)) in
     let early_words : HaveWords (before l t) = λ y i. words y (from_filter (λ (z : Entry). ltb z.moment t) l y i).0 in
     let place : ℕ = gap_place sg h in
     let low : h.quiet_from ≤ place = omega arith in
@@ -299,9 +301,61 @@ gaps_are_true told table trace sender x valid recorded there shown own less =
       | inr f ↦ let e : q + end_of f.entry ≡ h.quiet_from = f.ends in omega arith
     ] in
     record {
-      counts = subst (λ (m : ℕ). GapFrom sg (past q l t) (last_place q (own_of l m t)) (q + (place - q))) own
-          (subst (GapFrom sg (past q l t) (last_place q (own_of l n t))) (let e : place ≡ q + (place - q) = omega arith in e)
-          (counts_at q sg n t l rises h early_words quiet k over (omega arith)));
+      counts = subst (GapFrom sg (past q l t) (last_place q (own_of l n t))) (let e : place ≡ q + (place - q) = omega arith in e)
+          (counts_at q sg n t l rises h early_words quiet k over (omega arith));
       silent = λ u a b. silent_at q sg n t l rises h early_words quiet k over u (omega arith) (omega arith);
       ends = let e : min (place + sender.tg - q) t ≡ min (place - q + sender.tg) t = omega arith in e;
     }
+
+-- What a sender has heard of those that begin before a transmission.
+pub before_known : SentsAreTold → (table : Table) (trace : Recording) (sender : Sender) (x : Sent) → IsTrue (is_valid table) → IsTrace trace
+    → In sender table.senders → In x (sents trace.list)
+    → Knows (quiet_of table) table.sg sender.number (before trace.list x.moment) (heard_before (quiet_of table) table.sg sender.number trace.list x)
+before_known told table trace sender x valid recorded there shown =
+    let l : List Entry = trace.list in
+    let q : ℕ = quiet_of table in
+    let sg : ℕ = table.sg in
+    let n : ℕ = sender.number in
+    let is : IsToldOf l x = told l x shown in
+    let moment : is.entry.moment ≡ x.moment = sym (ap (λ (s : Sent). s.moment) is.told) in
+    let sound : IsSound (timing_of table sender) = timings_are_sound table sender valid there in
+    let long : 9 ≤ sg = sound.sg_least in
+    let quiet : sg ≤ q = sound.quiet_least in
+    let rises : IsByMoment l = ascending_is_by_moment l recorded.order in
+    let words : HaveWords l = have_words trace.horizon l recorded.list in
+    subst (λ (p : List Entry). Knows q sg n p (heard_before q sg n l x)) (subst (λ (m : ℕ). before (take x.at l) m ≡ before l m) moment (same_before l x.at is.entry rises is.at))
+    (knows_all q sg n x.moment (take x.at l) (omega arith) quiet (λ y i. words y (taken x.at l y i)) (rise_taken x.at l rises))
+
+-- And of all.
+pub all_known : (table : Table) (trace : Recording) (sender : Sender) → IsTrue (is_valid table) → IsTrace trace → In sender table.senders
+    → Knows (quiet_of table) table.sg sender.number (before trace.list trace.horizon) (heard_all (quiet_of table) table.sg sender.number trace.list)
+all_known table trace sender valid recorded there =
+    let l : List Entry = trace.list in
+    let q : ℕ = quiet_of table in
+    let sg : ℕ = table.sg in
+    let n : ℕ = sender.number in
+    let t : ℕ = trace.horizon in
+    let sound : IsSound (timing_of table sender) = timings_are_sound table sender valid there in
+    let long : 9 ≤ sg = sound.sg_least in
+    let quiet : sg ≤ q = sound.quiet_least in
+    let rises : IsByMoment l = ascending_is_by_moment l recorded.order in
+    subst (Knows q sg n (before l t)) (sym (all_heard q sg n t (settled sg) l (all_below t l recorded.list)))
+    (knows_all q sg n t l (omega arith) quiet (have_words t l recorded.list) rises)
+
+pub gaps_are_true : SentsAreTold → GapsAreTrue
+gaps_are_true told table trace sender x valid recorded there shown less =
+    let l : List Entry = trace.list in
+    let is : IsToldOf l x = told l x shown in
+    let moment : is.entry.moment ≡ x.moment = sym (ap (λ (s : Sent). s.moment) is.told) in
+    let at : In is.entry l = at_in l x.at is.entry is.at in
+    let busy : IsBusy l is.entry.moment (end_of is.entry) = entry_is_busy l is.entry at (have_words trace.horizon l recorded.list is.entry at) in
+    record {
+      gap_of = gap_of table trace sender x.moment (heard_before (quiet_of table) table.sg sender.number l x) valid recorded there
+          (before_known told table trace sender x valid recorded there shown) less;
+      carrier_begins = ap (carrier l) (sym moment) ∙ busy.first;
+    }
+
+pub last_gaps_are_true : LastGapsAreTrue
+last_gaps_are_true table trace sender valid recorded there less =
+    gap_of table trace sender trace.horizon (heard_all (quiet_of table) table.sg sender.number trace.list) valid recorded there
+    (all_known table trace sender valid recorded there) less

@@ -1,8 +1,8 @@
 -- What is heard of a list tells when all are over, and whether the synchronization gap has elapsed since the last own start.
-use Rattle.std.proofs.Common.{◌≡◌, ℕ, zero, suc, ◌+◌, ◌-◌, ◌<◌, ◌≤◌, Bool, true, false, ◌&&◌, ◌||◌, cond, max, eqb, leb, ltb, List, [], ◌∷◌, ◌++◌, length, take, inl, inr, arith, refl, sym, ap, subst, ◌∙◌}
+use Rattle.std.proofs.Common.{◌≡◌, ℕ, ◌+◌, ◌-◌, ◌<◌, ◌≤◌, true, false, ◌||◌, cond, eqb, leb, ltb, List, [], ◌∷◌, ◌++◌, length, inl, inr, arith, refl, sym, ap, subst, ◌∙◌}
 use Rattle.std.specs.Prelude.{◌⊎◌, fold}
-use Rattle.std.specs.List.{list_any}
-use Rattle.std.proofs.lemmas.Bool.{cases_Bool, cases_lt, eq-eqb, eqb-true, lt-ltb, leb-true, leb-false, ltb-true, ltb-false, true≢false}
+use Rattle.std.specs.List.{AllByRecursion, list_any}
+use Rattle.std.proofs.lemmas.Bool.{cases_Bool, cases_lt, eq-eqb, eqb-true, lt-ltb, leb-true, leb-false, true≢false}
 use Rattle.std.proofs.lemmas.List.{append_assoc, append-nil}
 use Rattle.std.proofs.lemmas.List.Folds.{list_any-append}
 use Rattle.std.proofs.lemmas.List.Elements.{filter-append}
@@ -283,3 +283,11 @@ pub knows_all : (q sg n t : ℕ) (xs : List Entry) → 5 ≤ sg → sg ≤ q →
     → Knows q sg n (before xs t) (heard_of q sg n t xs)
 knows_all q sg n t xs long settles words rises =
     all_after q sg n t [] xs (settled sg) long settles words (λ y x i. absurd i) rises (knows_none q sg n)
+
+-- Where all begin before a moment, all are heard.
+pub all_heard : (q sg n t : ℕ) (h : Heard) (p : List Entry) → AllByRecursion (λ (y : Entry). y.moment < t) p
+    → fold (heard_more q sg n) h p ≡ fold (heard_next q sg n t) h p
+all_heard q sg n t h [] low = refl
+all_heard q sg n t h (y ∷ p) low =
+    all_heard q sg n t (heard_more q sg n h y) p low.1
+    ∙ ap (λ b. fold (heard_next q sg n t) (cond b (heard_more q sg n h y) h) p) (sym (lt-ltb y.moment t low.0))

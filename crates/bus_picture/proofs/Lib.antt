@@ -1,3 +1,4 @@
+-- The lemmas of this crate; those that a crate above may cite are public.
 pub mod StringLemmas
 pub mod WordLemmas
 pub mod RowLemmas
@@ -14,5 +15,6 @@ pub mod TintLawLemmas
 pub mod TakingLemmas
 pub mod TakingLawLemmas
 pub mod IntervalLemmas
+pub mod AllGapLemmas
 pub mod StartLemmas
 pub mod OffsetLemmas

@@ -1,6 +1,6 @@
 -- From where a terminal's gap counts: what it has heard of the transmissions before, each a stretch of carrier from its begin to its end.
 -- Places are moments counted from the beginning of the quiet before the settled start, as in the past of the bus.
-use Rattle.std.specs.Prelude.{ℕ, ◌+◌, ◌-◌, max, min, false, ◌||◌, ◌==◌, nat_le, nat_lt, true, List, fold, take, if◌then◌else◌}
+use Rattle.std.specs.Prelude.{ℕ, ◌+◌, ◌-◌, max, min, Bool, false, ◌||◌, ◌==◌, nat_le, nat_lt, true, List, fold, take, if◌then◌else◌}
 use Rattle.bus_strings.specs.Messages.{Entry}
 use Rattle.bus_strings.specs.Transmissions.{end_of}
 use Rattle.bus_shapes.specs.declared.sent.Sent.{Sent}
@@ -27,19 +27,35 @@ heard_next quiet sg terminal moment heard x = if nat_lt x.moment moment then hea
 abbrev pub heard_of : ℕ → ℕ → ℕ → ℕ → List Entry → Heard
 heard_of quiet sg terminal moment list = fold (heard_next quiet sg terminal moment) (settled sg) list
 
--- What the terminal of a transmission has heard of those that begin before it.
-abbrev pub heard_before : ℕ → ℕ → List Entry → Sent → Heard
-heard_before quiet sg list x = heard_of quiet sg x.terminal x.moment (take x.at list)
+-- What it has heard of those that begin before a transmission, its own or another's.
+abbrev pub heard_before : ℕ → ℕ → ℕ → List Entry → Sent → Heard
+heard_before quiet sg terminal list x = heard_of quiet sg terminal x.moment (take x.at list)
+
+-- What it has heard of a whole list.
+abbrev pub heard_all : ℕ → ℕ → ℕ → List Entry → Heard
+heard_all quiet sg terminal list = fold (heard_more quiet sg terminal) (settled sg) list
 
 -- The place from which its terminal gap counts: where the quiet begins, or one synchronization gap behind that.
 abbrev pub gap_place : ℕ → Heard → ℕ
 gap_place sg heard = heard.quiet_from + (if heard.synchronized then 0 else sg)
 
--- The terminal gap that counts from a place: from there to where it is over, or to a start at a moment where that comes first. Where these
--- aren't two moments in order, as in a message that still runs, it hasn't begun to count.
+-- The terminal gap that counts from a place: from there to where it is over, or to a moment where that comes first. Where these aren't two
+-- moments in order, as in a message that still runs, it hasn't begun to count.
 abbrev pub gap_from : ℕ → ℕ → ℕ → ℕ → Gap
 gap_from quiet tg place moment = record { from = place - quiet; to = min (place + tg - quiet) moment }
 
--- The terminal gap before a transmission.
-abbrev pub gap_before : ℕ → ℕ → ℕ → List Entry → Sent → Gap
-gap_before quiet sg tg list x = gap_from quiet tg (gap_place sg (heard_before quiet sg list x)) x.moment
+-- The terminal gap of a terminal before a transmission: to where it is over, or to where this begins, which sets it back.
+abbrev pub gap_before : ℕ → ℕ → ℕ → ℕ → List Entry → Sent → Gap
+gap_before quiet sg tg terminal list x = gap_from quiet tg (gap_place sg (heard_before quiet sg terminal list x)) x.moment
+
+-- That behind a whole list, as far as the horizon.
+abbrev pub gap_behind : ℕ → ℕ → ℕ → ℕ → List Entry → ℕ → Gap
+gap_behind quiet sg tg terminal list horizon = gap_from quiet tg (gap_place sg (heard_all quiet sg terminal list)) horizon
+
+-- The moment of the last of these transmissions, and 0 where there is none.
+abbrev pub last_moment : List Entry → ℕ
+last_moment list = fold (λ moment (x : Entry). x.moment) 0 list
+
+-- Whether a transmission is the first that begins at its moment. At moment 0, before which no gap is drawn, none is.
+abbrev pub is_first : List Entry → Sent → Bool
+is_first list x = nat_lt (last_moment (take x.at list)) x.moment

@@ -1,5 +1,5 @@
 -- What follows of the definitions. The contracts of `laws` say that each of these holds.
-use Rattle.std.specs.Prelude.{◌≡◌, ◌↔◌, ℕ, ◌+◌, ◌*◌, ◌<◌, ◌≤◌, ◌⊎◌, false, true, IsTrue, List, [], ◌∷◌, length, filter, ⊤}
+use Rattle.std.specs.Prelude.{◌≡◌, ◌↔◌, ℕ, ◌+◌, ◌-◌, ◌*◌, ◌<◌, ◌≤◌, ◌⊎◌, false, true, IsTrue, List, [], ◌∷◌, length, filter, ⊤}
 use Rattle.std.specs.List.{AllByRecursion, count_by, flat_map, sum_by}
 use Rattle.bus_strings.specs.Members.{In}
 use Rattle.bus_strings.specs.Messages.{Entry}
@@ -21,6 +21,7 @@ use Rattle.bus_shapes.specs.SendingLaws.{IsToldOf}
 use Rattle.bus_picture.specs.Boxes.{Box, Pile, boxes, grown, members, one, pile_of}
 use Rattle.bus_picture.specs.Rows.{Row, box_area, box_class, shown, shows}
 use Rattle.bus_picture.specs.Lanes.{is_named}
+use Rattle.bus_picture.specs.Loads.{bus_bits}
 use Rattle.bus_picture.specs.Strings.{meets}
 use Rattle.bus_picture.specs.TimeLines.{bus_rows, counts_of, is_shown, lanes_in, rows_of, rows_of_lanes}
 use Rattle.bus_picture.specs.Marks.{head_dash, lower_dash, upper_dash}
@@ -145,3 +146,7 @@ abbrev pub LanesAreCounted : Type 0
 LanesAreCounted =
     (scale : Scale) (answer : AuditAnswer) (table : Table) (trace : Recording) → IsTrue (is_valid table) → IsTrace trace
     → AreCounted scale trace (rows_of_lanes (lanes_in scale answer table trace.list))
+
+-- Of a scale no more bit times have carrier than it has, so that the load of the bus doesn't pass 100 %.
+abbrev pub LoadIsAShare : Type 0
+LoadIsAShare = (scale : Scale) (list : List Entry) → bus_bits scale list ≤ scale.to - scale.from

@@ -4,9 +4,15 @@ use Rattle.bus_shapes.specs.declared.class.Class.{Class}
 use Rattle.bus_shapes.specs.declared.class.Class.TheVariants.{Gap, Garbled, Interval, Mark, Noise, Overlap, Small, Unobserved}
 use Rattle.bus_shapes.specs.declared.class.Class.TheVariants as classes
 use Rattle.bus_shapes.specs.Shapes.{box_text, words_text}
+use Rattle.bus_table.specs.declared.mode.Mode.{Mode}
+use Rattle.bus_table.specs.declared.mode.Mode.TheVariants.{Aperiodic, Periodic}
 use Rattle.bus_picture.specs.Measures.{line_height, offset_height, offset_width}
 
 -- ---- measures
+-- How far below the first row of the legend the second lies.
+abbrev pub legend_row : ℕ
+legend_row = 260
+
 -- How far below the upper edge of a box of the legend its words stand.
 abbrev pub legend_words : ℕ
 legend_words = 120
@@ -53,7 +59,7 @@ message_words = 2280
 
 -- Where the sample of a garbled message begins.
 abbrev pub garbled_left : ℕ
-garbled_left = 6600
+garbled_left = 6400
 
 -- Its width.
 abbrev pub garbled_width : ℕ
@@ -61,7 +67,7 @@ garbled_width = 500
 
 -- Where its wordstring begins.
 abbrev pub noise_left : ℕ
-noise_left = 6640
+noise_left = 6440
 
 -- The width of that.
 abbrev pub noise_width : ℕ
@@ -69,7 +75,7 @@ noise_width = 420
 
 -- Where the words on garbled messages begin.
 abbrev pub garbled_words : ℕ
-garbled_words = 7180
+garbled_words = 6980
 
 -- The width of the samples behind these.
 abbrev pub column_width : ℕ
@@ -77,39 +83,39 @@ column_width = 300
 
 -- Where the sample of a tint begins.
 abbrev pub overlap_left : ℕ
-overlap_left = 8100
+overlap_left = 7700
 
 -- Where the words on it begin.
 abbrev pub overlap_words : ℕ
-overlap_words = 8480
+overlap_words = 8080
 
 -- Where the sample of what lies behind the horizon begins.
 abbrev pub unobserved_left : ℕ
-unobserved_left = 10100
+unobserved_left = 1500
 
 -- Where the words on it begin.
 abbrev pub unobserved_words : ℕ
-unobserved_words = 10480
+unobserved_words = 1880
 
 -- Where the sample of a gap begins.
 abbrev pub gap_left : ℕ
-gap_left = 11700
+gap_left = 3200
 
 -- Where the words on gaps begin.
 abbrev pub gap_words : ℕ
-gap_words = 12080
+gap_words = 3580
 
 -- Where the sample of a transmit interval begins.
 abbrev pub interval_left : ℕ
-interval_left = 13000
+interval_left = 4550
 
 -- Where the words on transmit intervals begin.
 abbrev pub interval_words : ℕ
-interval_words = 13380
+interval_words = 4930
 
 -- Where the sample of the tick of an offset begins.
 abbrev pub tick_left : ℕ
-tick_left = 14680
+tick_left = 6400
 
 -- How far below the upper edge of a sample it begins.
 abbrev pub sample_tick_below : ℕ
@@ -117,7 +123,7 @@ sample_tick_below = 67
 
 -- Where the words on offsets begin.
 abbrev pub offset_words : ℕ
-offset_words = 14760
+offset_words = 6480
 
 -- ---- the legend
 -- A box of the legend, of a class.
@@ -170,14 +176,21 @@ legend_timers top =
     sample_line Gap gap_left top ++ sample_words gap_words top (codes "gap: SG, TG")
     ++ sample_line Interval interval_left top ++ sample_words interval_words top (codes "transmit interval: TI")
 
--- What it says of where senders should start.
-abbrev pub legend_offsets : ℕ → List ℕ
-legend_offsets top =
+-- What it says of where senders should start, which a table tells in periodic mode alone.
+abbrev pub legend_offsets : Mode → ℕ → List ℕ
+legend_offsets Aperiodic top = []
+legend_offsets Periodic top =
     legend_box Mark tick_left (top + sample_tick_below) offset_width offset_height
     ++ sample_words offset_words top (codes "offset: AT")
 
--- The legend of a picture with tints or without, whose boxes have this upper edge.
-abbrev pub legend_text : Bool → ℕ → List ℕ
-legend_text tinted top =
-    legend_message top ++ legend_garbled top ++ legend_tint tinted top ++ legend_horizon top ++ legend_timers top
-    ++ legend_offsets top
+-- Its first row: what boxes mean, of a picture with tints or without.
+abbrev pub legend_boxes : Bool → ℕ → List ℕ
+legend_boxes tinted top = legend_message top ++ legend_garbled top ++ legend_tint tinted top
+
+-- Its second row: what is drawn behind and between boxes.
+abbrev pub legend_between : Mode → ℕ → List ℕ
+legend_between mode top = legend_horizon top ++ legend_timers top ++ legend_offsets mode top
+
+-- The legend of a picture of a table in this mode, whose first row has this upper edge.
+abbrev pub legend_text : Mode → Bool → ℕ → List ℕ
+legend_text mode tinted top = legend_boxes tinted top ++ legend_between mode (top + legend_row)

@@ -1,3 +1,4 @@
+-- What the contracts of this crate cite.
 pub mod Measures
 pub mod Boxes
 pub mod Takings

@@ -1,20 +1,22 @@
--- The load of a window: for how many of its bit times something is sent, as a share of all of them. The quiet between two wordstrings of a
--- message is no load.
-use Rattle.std.specs.Prelude.{ℕ, ◌+◌, ◌-◌, max, min, Bool, true, ◌==◌, List, ◌++◌, codes}
-use Rattle.std.specs.Prelude.{filter, length, Option, Some, None}
+-- The loads of a window, as shares of its bit times: of a terminal, for how many of them its pulses last, and of the bus, how many of them
+-- have carrier. The quiet between two wordstrings of a message is no load, and what two send at once counts once for the bus. What a
+-- terminal sends twice at once, which no bus does, counts twice for the terminal.
+use Rattle.std.specs.Prelude.{ℕ, ◌+◌, ◌-◌, max, min, List, ◌++◌, codes, filter, length}
 use Rattle.std.specs.List.{range_with_len, sum_by}
-use Rattle.std.specs.Option.{option_map_or}
+use Rattle.bus_load.specs.Loads.{carrier_bits}
 use Rattle.bus_strings.specs.Messages.{Entry}
 use Rattle.bus_strings.specs.Pulses.{pulse_length, pulse_start}
 use Rattle.bus_strings.specs.Shares.{share_text, tenths}
 use Rattle.bus_dump.specs.declared.lane.Lane.{Lane}
-use Rattle.bus_shapes.specs.declared.class.Class.TheVariants.{Number, Small}
+use Rattle.bus_shapes.specs.declared.class.Class.TheVariants.{Counts, Small}
 use Rattle.bus_shapes.specs.declared.scale.Scale.{Scale}
-use Rattle.bus_shapes.specs.Measures.{facts_line}
+use Rattle.bus_shapes.specs.Measures.{answer_line, right_margin}
+use Rattle.bus_shapes.specs.Sending.{is_of}
 use Rattle.bus_shapes.specs.Shapes.{words_text}
 use Rattle.bus_picture.specs.Lanes.{each_lane, lane_top}
-use Rattle.bus_picture.specs.Measures.{bus_line, load_left, load_middle, plot_top, terminal_line}
+use Rattle.bus_picture.specs.Measures.{bus_line, load_left, plot_top, terminal_line}
 
+-- ---- how many bit times
 -- How many bit times a stretch has in common with the scale.
 abbrev pub common : Scale → ℕ → ℕ → ℕ
 common scale begin end = min scale.to end - max scale.from begin
@@ -28,31 +30,35 @@ pulse_bits scale x k =
 abbrev pub sent_bits : Scale → Entry → ℕ
 sent_bits scale x = sum_by (pulse_bits scale x) (range_with_len 0 (length x.message))
 
--- Whether a transmission is of this terminal, or any where none is named.
-abbrev pub is_by : Option ℕ → Entry → Bool
-is_by terminal x = option_map_or (λ n. x.terminal == n) terminal true
+-- For how many bit times of the scale this terminal sends.
+abbrev pub terminal_bits : Scale → ℕ → List Entry → ℕ
+terminal_bits scale terminal list = sum_by (sent_bits scale) (filter (is_of terminal) list)
 
--- For how many bit times of the scale this terminal sends, or all do, one after the other; what two send at once is counted for both.
-abbrev pub load_bits : Scale → Option ℕ → List Entry → ℕ
-load_bits scale terminal list = sum_by (sent_bits scale) (filter (is_by terminal) list)
+-- How many bit times of the scale have carrier.
+abbrev pub bus_bits : Scale → List Entry → ℕ
+bus_bits scale list = carrier_bits list scale.from scale.to
 
--- The load of this terminal, or of all, in words.
-abbrev pub load_words : Scale → List Entry → Option ℕ → List ℕ
-load_words scale list terminal = share_text (tenths (load_bits scale terminal list) (scale.to - scale.from))
+-- ---- in words
+-- So many bit times of the scale, as a share of all of them.
+abbrev pub load_words : Scale → ℕ → List ℕ
+load_words scale bits = share_text (tenths bits (scale.to - scale.from))
 
--- The load of the bus, in the heading of a time line.
-abbrev pub load_heading : Scale → List Entry → List ℕ
-load_heading scale list = words_text Number load_middle facts_line (codes "offered load " ++ load_words scale list None)
+-- This load in the heading, at the right end of the line of the audit.
+abbrev pub load_heading : Scale → ℕ → List ℕ
+load_heading scale bits = words_text Counts right_margin answer_line (codes "load " ++ load_words scale bits)
 
--- The load of this terminal, or of all, right of a row on this line.
-abbrev pub load_text : Scale → List Entry → ℕ → Option ℕ → List ℕ
-load_text scale list line terminal = words_text Small load_left line (load_words scale list terminal)
+-- This load right of a row, on this line.
+abbrev pub load_text : Scale → ℕ → ℕ → List ℕ
+load_text scale line bits = words_text Small load_left line (load_words scale bits)
 
--- That of lane k.
+-- The load of lane k.
 abbrev pub lane_load : Scale → List Entry → ℕ → Lane → List ℕ
-lane_load scale list k lane = load_text scale list (lane_top k + terminal_line) (Some lane.terminal)
+lane_load scale list k lane = load_text scale (lane_top k + terminal_line) (terminal_bits scale lane.terminal list)
 
--- That of the bus, in the heading and beside its row, and that of each lane.
+-- The load of the bus, in the heading and right of its row.
+abbrev pub bus_load : Scale → ℕ → List ℕ
+bus_load scale bits = load_heading scale bits ++ load_text scale (plot_top + bus_line) bits
+
+-- The load of the bus and that of each lane.
 abbrev pub loads_text : Scale → List Lane → List Entry → List ℕ
-loads_text scale lanes list =
-    load_heading scale list ++ load_text scale list (plot_top + bus_line) None ++ each_lane (lane_load scale list) 0 lanes
+loads_text scale lanes list = bus_load scale (bus_bits scale list) ++ each_lane (lane_load scale list) 0 lanes

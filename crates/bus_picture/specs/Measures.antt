@@ -3,7 +3,7 @@ use Rattle.std.specs.Prelude.{ℕ}
 
 -- The upper edge of the plot, which is that of the bus.
 abbrev pub plot_top : ℕ
-plot_top = 960
+plot_top = 1170
 
 -- The height of a row.
 abbrev pub row_height : ℕ
@@ -15,23 +15,19 @@ plot_left = 1500
 
 -- The width of the plot, which leaves room for half of a number at its right edge.
 abbrev pub plot_width : ℕ
-plot_width = 13800
+plot_width = 8400
 
 -- Where the words beside a lane end.
 abbrev pub names_right : ℕ
 names_right = 1380
 
--- Where the words on loads begin.
+-- Where the words on loads begin, so that `100.0 %` ends before the right edge of the picture.
 abbrev pub load_left : ℕ
-load_left = 15340
+load_left = 9940
 
--- The middle of the words on the load of the bus in the heading: that of the plot.
-abbrev pub load_middle : ℕ
-load_middle = 8400
-
--- Where the words on how far starts lie apart begin.
+-- Where the words on how far starts lie apart begin, so that two numbers of six digits end before a terminal's number of three.
 abbrev pub pace_left : ℕ
-pace_left = 200
+pace_left = 80
 
 -- How far below its upper edge the name of the bus stands.
 abbrev pub bus_line : ℕ
@@ -47,11 +43,11 @@ timers_line = 270
 
 -- The line of the numbers above the plot.
 abbrev pub upper_words : ℕ
-upper_words = 840
+upper_words = 1050
 
 -- Where the marks above the plot begin.
 abbrev pub upper_ticks : ℕ
-upper_ticks = 900
+upper_ticks = 1110
 
 -- How high the marks above the plot are.
 abbrev pub tick_height : ℕ
@@ -71,7 +67,7 @@ legend_below = 460
 
 -- How much of a picture lies below its plot.
 abbrev pub foot_height : ℕ
-foot_height = 800
+foot_height = 1060
 
 -- How far below the upper edge of its row a box begins.
 abbrev pub box_below : ℕ
@@ -129,13 +125,17 @@ edge_width = 8
 abbrev pub near_room : ℕ
 near_room = 2000
 
--- The room of the words of a gap, and of a synchronization gap, above its line: 30 pixels.
+-- The room of the words of a gap that is whole above its line, of seven letters at most: 43 pixels.
 abbrev pub gap_room : ℕ
-gap_room = 300
+gap_room = 430
 
--- The room of the words of a transmit interval: 50 pixels.
+-- How far the words of a gap reach to the left of where they end, at most, of thirteen letters: 79 pixels.
+abbrev pub gap_reach : ℕ
+gap_reach = 790
+
+-- The room of the words of a transmit interval, of nine letters at most: 55 pixels.
 abbrev pub interval_room : ℕ
-interval_room = 500
+interval_room = 550
 
 -- The height of the line of a timer, and the width of the stroke at its end.
 abbrev pub line_height : ℕ
@@ -183,7 +183,7 @@ words_least = 2500
 
 -- The greatest middle of the words of a breach, so that they have room.
 abbrev pub words_most : ℕ
-words_most = 14500
+words_most = 9100
 
 -- The width of the line of a breach.
 abbrev pub line_width : ℕ
@@ -195,7 +195,7 @@ breach_width = 30
 
 -- Where the line of a breach begins, above the plot.
 abbrev pub head_top : ℕ
-head_top = 870
+head_top = 1080
 
 -- The height of its part above the plot.
 abbrev pub head_height : ℕ
@@ -203,7 +203,7 @@ head_height = 90
 
 -- The line of the words of a breach.
 abbrev pub breach_line : ℕ
-breach_line = 660
+breach_line = 870
 
 -- How far words reach below their line, at most.
 abbrev pub words_depth : ℕ

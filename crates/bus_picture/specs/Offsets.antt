@@ -6,7 +6,6 @@ use Rattle.bus_shapes.specs.declared.class.Class.TheVariants.{Mark}
 use Rattle.bus_shapes.specs.declared.scale.Scale.{Scale}
 use Rattle.bus_shapes.specs.Scales.{place}
 use Rattle.bus_shapes.specs.Shapes.{box_text}
-use Rattle.bus_table.specs.Tables.{Table}
 use Rattle.bus_table.specs.declared.mode.Mode.{Mode}
 use Rattle.bus_table.specs.declared.mode.Mode.TheVariants.{Aperiodic, Periodic}
 use Rattle.bus_picture.specs.Measures.{offset_height, offset_width, tick_below}

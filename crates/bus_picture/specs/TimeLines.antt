@@ -131,21 +131,21 @@ rows_of lanes = bus_rows ++ rows_of_lanes lanes
 
 -- ---- the timers
 -- The timers of a sender in lane k, and where it should start.
-abbrev pub lane_sender : Scale → Table → List Entry → ℕ → Lane → Sender → List ℕ
-lane_sender scale table list k lane sender =
-    sender_timers scale list (track_of table k lane.terminal sender.tg)
+abbrev pub lane_sender : Scale → Table → Recording → ℕ → Lane → Sender → List ℕ
+lane_sender scale table trace k lane sender =
+    sender_timers scale trace.list (track_of table trace.horizon k lane.terminal sender.tg)
     ++ offsets_text table.mode scale (lane_top k) table.ti sender.at
 
 -- The same of lane k, where its terminal is a sender.
-abbrev pub lane_timers : Scale → Table → List Entry → ℕ → Lane → List ℕ
-lane_timers scale table list k lane =
-    option_map_or (lane_sender scale table list k lane) (sender_of table lane.terminal) []
+abbrev pub lane_timers : Scale → Table → Recording → ℕ → Lane → List ℕ
+lane_timers scale table trace k lane =
+    option_map_or (lane_sender scale table trace k lane) (sender_of table lane.terminal) []
 
 -- Those of the bus and of the lanes, where the scale is near enough.
-abbrev pub timers_text : Scale → List Lane → Table → List Entry → List ℕ
-timers_text scale lanes table list =
+abbrev pub timers_text : Scale → List Lane → Table → Recording → List ℕ
+timers_text scale lanes table trace =
     if is_near scale table.ti
-    then bus_timer scale plot_top table.sg list ++ each_lane (lane_timers scale table list) 0 lanes else []
+    then bus_timer scale plot_top table.sg trace.list ++ each_lane (lane_timers scale table trace) 0 lanes else []
 
 -- ---- around the lanes
 -- What lies behind the horizon.
@@ -180,20 +180,20 @@ plot_text scale bottom lanes answer table trace =
     ++ loads_text scale lanes trace.list
     ++ each_lane (lane_front table) 0 lanes
     ++ axes_text scale bottom ++ unobserved_text scale bottom trace.horizon
-    ++ tints_text scale bottom trace.list ++ rows_text scale table trace.list (rows_of lanes) ++ timers_text scale lanes table trace.list
+    ++ tints_text scale bottom trace.list ++ rows_text scale table trace.list (rows_of lanes) ++ timers_text scale lanes table trace
     ++ breach_text scale lanes answer
 
 -- What stands below the plot: how many lanes are left out, and the legend.
-abbrev pub foot_text : Scale → ℕ → ℕ → Recording → List ℕ
-foot_text scale bottom left_out trace =
-    left_out_text bottom left_out ++ legend_text (has_tints scale trace.list) (bottom + legend_below)
+abbrev pub foot_text : Scale → ℕ → ℕ → Mode → Recording → List ℕ
+foot_text scale bottom left_out mode trace =
+    left_out_text bottom left_out ++ legend_text mode (has_tints scale trace.list) (bottom + legend_below)
 
 -- A picture with these lanes, and with so many left out.
 abbrev pub picture_text : Scale → List Lane → ℕ → TableVerdict → AuditAnswer → Table → Recording → List ℕ
 picture_text scale lanes left_out verdict answer table trace =
     frame_text (lane_top (length lanes) + foot_height) verdict answer table (counts_of scale trace)
     ++ plot_text scale (lane_top (length lanes)) lanes answer table trace
-    ++ foot_text scale (lane_top (length lanes)) left_out trace ++ tail_text
+    ++ foot_text scale (lane_top (length lanes)) left_out table.mode trace ++ tail_text
 
 -- A picture with those of these lanes that are drawn.
 abbrev pub drawn_text : Scale → List Lane → TableVerdict → AuditAnswer → Table → Recording → List ℕ

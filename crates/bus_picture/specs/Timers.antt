@@ -1,6 +1,6 @@
 -- The timers of a table, each wherever it takes a pixel of a scale.
-use Rattle.std.specs.Prelude.{ℕ, ◌+◌, ◌-◌, ◌*◌, ◌/◌, Bool, ◌&&◌, ◌==◌, nat_eq, nat_le, nat_lt, List}
-use Rattle.std.specs.Prelude.{[], ◌++◌, codes, decimal, filter, if◌then◌else◌}
+use Rattle.std.specs.Prelude.{ℕ, ◌+◌, ◌-◌, ◌*◌, Bool, ◌&&◌, ◌==◌, nat_eq, nat_le, nat_lt, List}
+use Rattle.std.specs.Prelude.{[], ◌++◌, codes, decimal, take, Option, Some, None, if◌then◌else◌}
 use Rattle.std.specs.List.{flat_map}
 use Rattle.bus_strings.specs.Messages.{Entry}
 use Rattle.bus_shapes.specs.declared.class.Class.TheVariants.{Gap, GapWords, Interval, IntervalWords}
@@ -13,12 +13,12 @@ use Rattle.bus_shapes.specs.Sending.{sents}
 use Rattle.bus_shapes.specs.Shapes.{box_text, words_text}
 use Rattle.bus_table.specs.Tables.{Table}
 use Rattle.bus_table.specs.Timers.{quiet_of}
-use Rattle.bus_picture.specs.Gaps.{gap_before}
+use Rattle.bus_picture.specs.Gaps.{gap_before, gap_behind, is_first}
 use Rattle.bus_picture.specs.Gaps as gaps
-use Rattle.bus_picture.specs.Intervals.{interval_of}
+use Rattle.bus_picture.specs.Intervals.{interval_to, last_start}
 use Rattle.bus_picture.specs.Lanes.{lane_top}
-use Rattle.bus_picture.specs.Measures.{gap_below, gap_line, gap_room, interval_below, interval_line, interval_room}
-use Rattle.bus_picture.specs.Measures.{line_height, narrow, near_room, stroke_below, stroke_height}
+use Rattle.bus_picture.specs.Measures.{gap_below, gap_line, gap_reach, gap_room, interval_below, interval_line, interval_room}
+use Rattle.bus_picture.specs.Measures.{line_height, narrow, near_room, plot_left, stroke_below, stroke_height}
 pub use Rattle.bus_picture.specs.declared.track.Track.{Track}
 
 -- Whether timers are drawn: the transmit interval is at least 200 pixels.
@@ -34,10 +34,14 @@ abbrev pub line_area : Scale → ℕ → ℕ → ℕ → Area
 line_area scale top from to = record { left = place scale from; top = top; width = extent scale from to; height = line_height }
 
 -- ---- gaps
--- Words above the middle of a line, where that has this room for them.
+-- Whether a line has words: it takes the room that is asked for them, and ends so far behind the left edge of the plot that they begin
+-- behind that, and not over the names beside the lane.
+abbrev pub has_words : ℕ → Area → Bool
+has_words room area = nat_le room area.width && nat_le (plot_left + gap_reach) (area.left + area.width)
+
+-- Words above the end of a line, where they end too.
 abbrev pub words_above : ℕ → Area → ℕ → List ℕ → List ℕ
-words_above room area line words =
-    if nat_le room area.width then words_text GapWords (area.left + area.width / 2) line words else []
+words_above room area line words = if has_words room area then words_text GapWords (area.left + area.width) line words else []
 
 -- A gap from one moment to another, in a row with this upper edge, and its words, which take this room.
 abbrev pub gap_at : Scale → ℕ → ℕ → ℕ → ℕ → List ℕ → List ℕ
@@ -66,9 +70,9 @@ abbrev pub bus_timer : Scale → ℕ → ℕ → List Entry → List ℕ
 bus_timer scale top sg list = flat_map (sync_before scale top sg) (sents list)
 
 -- ---- a lane
--- What is the same all along lane k, of a sender with this terminal and this terminal gap.
-abbrev pub track_of : Table → ℕ → ℕ → ℕ → Track
-track_of table k terminal tg = record {
+-- What is the same all along lane k of a trace with this horizon, of a sender with this terminal and this terminal gap.
+abbrev pub track_of : Table → ℕ → ℕ → ℕ → ℕ → Track
+track_of table horizon k terminal tg = record {
   k = k;
   top = lane_top k;
   terminal = terminal;
@@ -76,6 +80,7 @@ track_of table k terminal tg = record {
   sg = table.sg;
   ti = table.ti;
   quiet = quiet_of table;
+  horizon = horizon;
 }
 
 -- How much of a terminal gap there is, and of how much, where it isn't whole.
@@ -86,11 +91,18 @@ gap_size tg gap = (if nat_eq (gap.to - gap.from) tg then [] else decimal (gap.to
 abbrev pub size_room : ℕ → gaps.Gap → ℕ
 size_room tg gap = if nat_eq (gap.to - gap.from) tg then gap_room else narrow
 
--- A terminal gap.
-abbrev pub terminal_gap : Scale → ℕ → ℕ → gaps.Gap → List ℕ
-terminal_gap scale top tg gap =
+-- The line of a terminal gap.
+abbrev pub terminal_gap : Scale → ℕ → gaps.Gap → List ℕ
+terminal_gap scale top gap =
+    if is_drawn scale gap.from gap.to then box_text Gap (line_area scale (top + gap_below) gap.from gap.to) else []
+
+-- Its words.
+abbrev pub gap_words : Scale → ℕ → ℕ → gaps.Gap → List ℕ
+gap_words scale top tg gap =
     if is_drawn scale gap.from gap.to
-    then gap_at scale top (size_room tg gap) gap.from gap.to (codes "TG " ++ gap_size tg gap) else []
+    then words_above (size_room tg gap) (line_area scale (top + gap_below) gap.from gap.to) (top + gap_line)
+    (codes "TG " ++ gap_size tg gap)
+    else []
 
 -- The line of a transmit interval from one moment to another.
 abbrev pub interval_text : Scale → ℕ → ℕ → ℕ → List ℕ
@@ -118,16 +130,39 @@ interval_at scale track from to =
     ++ interval_words scale track.k track.top track.ti from to
     else []
 
--- The timers of a sender at a transmission: the terminal gap before that, and the transmit interval from there on.
+-- The one from the last start of the sender, where there is one, to its next, where there is one.
+abbrev pub interval_behind : Scale → Track → Option ℕ → Option ℕ → List ℕ
+interval_behind scale track None next = []
+interval_behind scale track (Some moment) next = interval_at scale track moment (interval_to track.ti moment next)
+
+-- The terminal gap of the sender before a transmission, its own or another's.
+abbrev pub lane_gap : List Entry → Track → Sent → gaps.Gap
+lane_gap list track x = gap_before track.quiet track.sg track.tg track.terminal list x
+
+-- The one behind all transmissions, as far as the horizon.
+abbrev pub last_lane_gap : List Entry → Track → gaps.Gap
+last_lane_gap list track = gap_behind track.quiet track.sg track.tg track.terminal list track.horizon
+
+-- Its line before a transmission, once for all that begin at a moment.
+abbrev pub line_before : Scale → List Entry → Track → Sent → List ℕ
+line_before scale list track x = if is_first list x then terminal_gap scale track.top (lane_gap list track x) else []
+
+-- At a start of the sender: the transmit interval from its last start to this one, and the words of the terminal gap before this one.
+abbrev pub start_at : Scale → List Entry → Track → Sent → List ℕ
+start_at scale list track x =
+    interval_behind scale track (last_start track.terminal (take x.at list)) (Some x.moment)
+    ++ gap_words scale track.top track.tg (lane_gap list track x)
+
+-- The timers of a sender at a transmission: the terminal gap that ends by then, and, where that is a start of the sender, what ends there.
 abbrev pub timers_at : Scale → List Entry → Track → Sent → List ℕ
-timers_at scale list track x =
-    terminal_gap scale track.top track.tg (gap_before track.quiet track.sg track.tg list x)
-    ++ interval_at scale track x.moment (interval_of track.ti list x)
+timers_at scale list track x = line_before scale list track x ++ (if x.terminal == track.terminal then start_at scale list track x else [])
 
--- Whether a transmission is of the sender.
-abbrev pub is_on : Track → Sent → Bool
-is_on track x = x.terminal == track.terminal
+-- Those behind all transmissions: the terminal gap, as far as the horizon, and the transmit interval from the last start of the sender.
+abbrev pub timers_behind : Scale → List Entry → Track → List ℕ
+timers_behind scale list track =
+    terminal_gap scale track.top (last_lane_gap list track)
+    ++ interval_behind scale track (last_start track.terminal list) None
 
--- The timers of a sender, at each of its transmissions.
+-- The timers of a sender: at each transmission, and behind all.
 abbrev pub sender_timers : Scale → List Entry → Track → List ℕ
-sender_timers scale list track = flat_map (timers_at scale list track) (filter (is_on track) (sents list))
+sender_timers scale list track = flat_map (timers_at scale list track) (sents list) ++ timers_behind scale list track

@@ -26,14 +26,16 @@ pub struct Hearing {
     pub all: Heard,
     /// The moment of the last, and 0 where there is none.
     pub moment: u64,
+    /// Whether the last is the first that begins at its moment: at moment 0, before which nothing is drawn, none is.
+    pub first: bool,
 }
 
-/// A terminal gap as it runs before a start, in moments. There is none where `to` isn't behind `from`.
+/// A terminal gap as it runs, in moments. There is none where `to` isn't behind `from`.
 #[derive(Clone, Copy, Debug, PartialEq, Eq)]
 pub struct Gap {
     /// The moment from which it counts.
     pub from: u64,
-    /// The moment at which it is over, or that of the start where that comes first.
+    /// The moment at which it is over, or that of the next transmission, or the horizon, where this comes first.
     pub to: u64,
 }
 
@@ -75,6 +77,7 @@ pub(crate) fn deaf(sg: u32) -> Hearing
         before: settled,
         all: settled,
         moment: 0,
+        first: false,
     }
 }
 
@@ -87,22 +90,20 @@ pub(crate) fn hear(track: Track, hearing: Hearing, x: &Transmission) -> Hearing
     ensures all { result.all.quiet_from ≤ 2 ^ 42 }
 {
     let all = heard_more(track.quiet, track.sg, track.terminal, hearing.all, x);
-    let before = if hearing.moment < x.moment {
-        hearing.all
-    } else {
-        hearing.before
-    };
+    let first = hearing.moment < x.moment;
+    let before = if first { hearing.all } else { hearing.before };
     Hearing {
         before,
         all,
         moment: x.moment,
+        first,
     }
 }
 
-/// The terminal gap before a start of a sender, which has heard this.
+/// The terminal gap of a sender that has heard this, up to a moment.
 pub(crate) fn gap_from(track: Track, heard: Heard, moment: u64) -> Gap
     requires { heard.quiet_from ≤ 2 ^ 42 }
-    ensures { result ≡ definition.gap_from track.quiet track.tg (definition.gap_place track.sg heard) moment }
+    ensures { result ≡ working.heard_gap track heard moment }
 {
     let waits = if heard.synchronized { 0 } else { track.sg };
     let place = heard.quiet_from + u64::from(waits);

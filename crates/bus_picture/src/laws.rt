@@ -1,8 +1,9 @@
 //! Laws of the definitions, each the contract of a function that does nothing.
-ghost use Rattle.bus_picture.specs.GapLaws.{GapsAreTrue, IntervalsAreTrue, SyncGapsAreTrue};
+ghost use Rattle.bus_picture.specs.GapLaws.{GapsAreAll, GapsAreTrue, LastGapsAreTrue, SyncGapsAreTrue};
+ghost use Rattle.bus_picture.specs.GapLaws.{IntervalsAreAll, IntervalsAreTrue, LastIntervalsAreTrue};
 ghost use Rattle.bus_picture.specs.OffsetLaws.{OffsetsAreMarked};
 ghost use Rattle.bus_picture.specs.Laws.{BoxesCoverNoQuiet, BoxesHoldRows, BoxesHoldTheirs, BoxesLieInRows, BreachesHideNoBox};
-ghost use Rattle.bus_picture.specs.Laws.{BusIsCounted, EachIsOnTheBus};
+ghost use Rattle.bus_picture.specs.Laws.{BusIsCounted, EachIsOnTheBus, LoadIsAShare};
 ghost use Rattle.bus_picture.specs.Laws.{EachIsInOneLane, GarbledAreUncovered, HatchedAreGarbled, LanesAreCounted, LeftOutAreSilent};
 ghost use Rattle.bus_picture.specs.TakingLaws.{NamedReceive, ReceivesStrings};
 ghost use Rattle.bus_picture.specs.TintLaws.{OverlapsAreTinted, TintsAreOverlaps};
@@ -55,6 +56,11 @@ pub fn each_is_in_one_row()
     sents_are_told();
 }
 
+/// The load of the bus counts no more bit times than the window has.
+pub fn load_is_a_share()
+    ensures { LoadIsAShare }
+{}
+
 /// The counts above the plot are those of the boxes of the bus, and those of the boxes of all lanes that are drawn.
 pub fn counts_are_shown()
     ensures bus { BusIsCounted }
@@ -64,11 +70,16 @@ pub fn counts_are_shown()
 }
 
 /// Each terminal gap that is drawn is that of the timers: it counts from there, after all that its sender has heard, it has no carrier, and
-/// it is over or ends with a start. Each transmit interval that is drawn is that of the timers at each of its moments, and it is over or
-/// ends with the next start. Each synchronization gap on the bus begins where carrier ends, and is quiet.
+/// it is over or ends where carrier begins, or at the horizon. Each bit time at which one counts, while no transmission runs, is in one of
+/// those. Each transmit interval that is drawn is that of the timers at each of its moments, and it is over or ends with the next start;
+/// and one is drawn from each start. Each synchronization gap on the bus begins where carrier ends, and is quiet.
 pub fn timers_are_true()
     ensures gaps { GapsAreTrue }
+    ensures last_gaps { LastGapsAreTrue }
+    ensures all_gaps { GapsAreAll }
     ensures intervals { IntervalsAreTrue }
+    ensures last_intervals { LastIntervalsAreTrue }
+    ensures all_intervals { IntervalsAreAll }
     ensures sync_gaps { SyncGapsAreTrue }
 {
     sents_are_told();

@@ -3,7 +3,7 @@
 //! [`write_time_line`] writes it, and [`laws`] has what follows of its definitions. These are in `specs/`: `Boxes` (which transmissions
 //! share a box), `Strings` (the wordstrings of a message, and their words where these have room), `Takings` (who takes words of them),
 //! `Rows` (what is drawn of the transmissions of a row), `Tints` (where several are sent at once), `Lanes` (which lanes are drawn), `Gaps`,
-//! `Intervals` and `Timers` (the gaps and the transmit intervals, at each start), `Offsets` (where senders should start), `Marks` (the
+//! `Intervals` and `Timers` (the gaps in each quiet, and the transmit intervals), `Offsets` (where senders should start), `Marks` (the
 //! first breach), `Paces` (how far starts lie apart), `Loads`, and `TimeLines` (which rows there are, and the whole text). What all
 //! pictures share is in `bus_shapes`. No call takes memory.
 #![tactic(auto)]

@@ -3,6 +3,7 @@ ghost use Rattle.std.specs.Prelude.{◌≡◌, ◌<◌, ◌≤◌, ◌^◌, true
 ghost use Rattle.bus_shapes.specs.Scales.{IsScale};
 ghost use Rattle.bus_picture.specs.Timers as definition;
 
+use crate::measures::PLOT_LEFT;
 use bus_shapes::{Area, Scale};
 
 /// Whether what goes from one moment to a later one is drawn: it takes a pixel.
@@ -28,4 +29,13 @@ pub(crate) fn line_area(scale: &Scale, top: u64, from: u64, to: u64) -> Area
         width: scale.extent(from, to),
         height: 14,
     }
+}
+
+/// Whether a line has words: it takes the room that is asked for them, and they begin behind the left edge of the plot.
+pub(crate) fn has_words(room: u64, area: Area) -> bool
+    requires left { area.left < 2 ^ 22 }
+    requires width { area.width < 2 ^ 22 }
+    ensures { result ≡ definition.has_words room area }
+{
+    room <= area.width && PLOT_LEFT + 790 <= area.left + area.width
 }

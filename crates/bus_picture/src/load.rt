@@ -1,8 +1,10 @@
-//! The load of a window.
+//! The loads of a window.
 ghost use Rattle.std.specs.Prelude.{◌≡◌, ◌<◌, ◌≤◌, ◌^◌, length};
+ghost use Rattle.bus_load.specs.Loads.{IsCarrierOf};
 ghost use Rattle.bus_outer.specs.Texts.{Adds};
 ghost use Rattle.bus_strings.specs.Pulses.{pulse_length};
 ghost use Rattle.bus_shapes.specs.Scales.{IsScale};
+ghost use Rattle.bus_shapes.specs.Sending as sending;
 ghost use Rattle.bus_picture.specs.Lanes.{each_lane};
 ghost use Rattle.bus_picture.specs.Loads as definition;
 
@@ -10,6 +12,7 @@ use crate::lanes::lane_top;
 use crate::measures::PLOT_TOP;
 use crate::strings::string_of;
 use bus_dump::Lane;
+use bus_load::{Stretch, bits_within};
 use bus_outer::{Sink, TextBuffer};
 use bus_shapes::{Class, Scale, begin_words, end_words};
 use bus_strings::laws::pulses_cover;
@@ -50,77 +53,57 @@ fn sent_bits(scale: &Scale, x: &Transmission) -> u64
     bits
 }
 
-/// Whether a transmission is of this terminal, or any.
-fn is_by(terminal: Option<u8>, x: &Transmission) -> bool
-    ensures { result ≡ definition.is_by terminal x.now }
+/// Whether a transmission is of this terminal.
+fn is_of(terminal: u8, x: &Transmission) -> bool
+    ensures { result ≡ sending.is_of terminal x.now }
 {
-    match terminal {
-        None => true,
-        Some(terminal) => x.terminal == terminal,
-    }
+    x.terminal == terminal
 }
 
-/// For how many bit times of the scale a terminal sends, or all do. It goes over the list once.
-fn load_bits(scale: &Scale, terminal: Option<u8>, list: &[Transmission]) -> u128
+/// For how many bit times of the scale a terminal sends. It goes over the list once.
+fn terminal_bits(scale: &Scale, terminal: u8, list: &[Transmission]) -> u128
     requires { IsScale scale.now }
-    ensures value { result ≡ definition.load_bits scale.now terminal list.now }
+    ensures value { result ≡ definition.terminal_bits scale.now terminal list.now }
     ensures few { result < 2 ^ 111 }
 {
     let mut bits = 0;
     for k in 0..list.len() {
-        if is_by(terminal, &list[k]) {
+        if is_of(terminal, &list[k]) {
             bits += u128::from(sent_bits(scale, &list[k]));
         }
     }
     bits
 }
 
-/// The load of a terminal, or of all, in words. It goes over the list once.
-fn put_load_words<K: Sink>(
-    text: &mut TextBuffer,
-    sink: &mut K,
-    scale: &Scale,
-    list: &[Transmission],
-    terminal: Option<u8>,
-)
-    requires { IsScale scale.now }
-    ensures { Adds K.held K.faults sink.old sink.new text.old text.new (definition.load_words scale.now list.now terminal) }
+/// So many bit times of the scale in words.
+fn put_load_words<K: Sink>(text: &mut TextBuffer, sink: &mut K, scale: &Scale, bits: u128)
+    requires scale { IsScale scale.now }
+    requires few { bits < 2 ^ 111 }
+    ensures { Adds K.held K.faults sink.old sink.new text.old text.new (definition.load_words scale.now bits) }
 {
-    let bits = load_bits(scale, terminal, list);
     put_share(text, sink, tenths(bits, scale.to - scale.from));
 }
 
-/// The load of the bus, in the heading.
-fn put_load_heading<K: Sink>(
-    text: &mut TextBuffer,
-    sink: &mut K,
-    scale: &Scale,
-    list: &[Transmission],
-)
-    requires { IsScale scale.now }
-    ensures { Adds K.held K.faults sink.old sink.new text.old text.new (definition.load_heading scale.now list.now) }
+/// A load in the heading.
+fn put_load_heading<K: Sink>(text: &mut TextBuffer, sink: &mut K, scale: &Scale, bits: u128)
+    requires scale { IsScale scale.now }
+    requires few { bits < 2 ^ 111 }
+    ensures { Adds K.held K.faults sink.old sink.new text.old text.new (definition.load_heading scale.now bits) }
 {
-    begin_words(text, sink, Class::Number, 8400, 480);
-    text.put(sink, b"offered load ");
-    put_load_words(text, sink, scale, list, None);
+    begin_words(text, sink, Class::Counts, 10200, 480);
+    text.put(sink, b"load ");
+    put_load_words(text, sink, scale, bits);
     end_words(text, sink);
 }
 
-/// The load of a terminal, or of all, right of a row.
-fn put_load<K: Sink>(
-    text: &mut TextBuffer,
-    sink: &mut K,
-    scale: &Scale,
-    list: &[Transmission],
-    line: u64,
-    terminal: Option<u8>,
-)
-    requires { IsScale scale.now }
-    ensures { Adds K.held K.faults sink.old sink.new text.old text.new
-        (definition.load_text scale.now list.now line terminal) }
+/// A load right of a row.
+fn put_load<K: Sink>(text: &mut TextBuffer, sink: &mut K, scale: &Scale, line: u64, bits: u128)
+    requires scale { IsScale scale.now }
+    requires few { bits < 2 ^ 111 }
+    ensures { Adds K.held K.faults sink.old sink.new text.old text.new (definition.load_text scale.now line bits) }
 {
-    begin_words(text, sink, Class::Small, 15340, line);
-    put_load_words(text, sink, scale, list, terminal);
+    begin_words(text, sink, Class::Small, 9940, line);
+    put_load_words(text, sink, scale, bits);
     end_words(text, sink);
 }
 
@@ -138,14 +121,8 @@ fn put_lane_load<K: Sink>(
     ensures { Adds K.held K.faults sink.old sink.new text.old text.new
         (definition.lane_load scale.now list.now k lane) }
 {
-    put_load(
-        text,
-        sink,
-        scale,
-        list,
-        lane_top(k) + 160,
-        Some(lane.terminal),
-    );
+    let bits = terminal_bits(scale, lane.terminal, list);
+    put_load(text, sink, scale, lane_top(k) + 160, bits);
 }
 
 /// The load of each lane.
@@ -166,20 +143,32 @@ fn put_lane_loads<K: Sink>(
     }
 }
 
-/// The load of the bus, in the heading and beside its row, and of each lane. It goes over the list once for each.
+/// The load of the bus.
+fn put_bus_load<K: Sink>(text: &mut TextBuffer, sink: &mut K, scale: &Scale, bits: u128)
+    requires scale { IsScale scale.now }
+    requires few { bits < 2 ^ 111 }
+    ensures { Adds K.held K.faults sink.old sink.new text.old text.new (definition.bus_load scale.now bits) }
+{
+    put_load_heading(text, sink, scale, bits);
+    put_load(text, sink, scale, PLOT_TOP + 200, bits);
+}
+
+/// The load of the bus, from its carrier, and of each lane. It goes over the list once for each lane.
 pub(crate) fn put_loads<K: Sink>(
     text: &mut TextBuffer,
     sink: &mut K,
     scale: &Scale,
     lanes: &[Lane],
     list: &[Transmission],
+    carrier: &[Stretch],
 )
     requires scale { IsScale scale.now }
     requires few { length lanes.now ≤ 256 }
+    requires carrier { IsCarrierOf carrier.now list.now }
     ensures { Adds K.held K.faults sink.old sink.new text.old text.new
         (definition.loads_text scale.now lanes.now list.now) }
 {
-    put_load_heading(text, sink, scale, list);
-    put_load(text, sink, scale, list, PLOT_TOP + 200, None);
+    let bits = bits_within(carrier, scale.from, scale.to);
+    put_bus_load(text, sink, scale, u128::from(bits));
     put_lane_loads(text, sink, scale, list, lanes);
 }

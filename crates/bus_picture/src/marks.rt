@@ -43,7 +43,7 @@ fn put_head<K: Sink>(text: &mut TextBuffer, sink: &mut K, left: u64)
 {
     let area = Area {
         left,
-        top: 870,
+        top: 1080,
         width: 10,
         height: 90,
     };
@@ -88,7 +88,7 @@ fn put_all_dashes<K: Sink>(
 fn words_middle(left: u64) -> u64
     ensures { result ≡ definition.words_middle left }
 {
-    left.max(2500).min(14500)
+    left.max(2500).min(9100)
 }
 
 /// The line at a place, and the words above it.
@@ -108,7 +108,7 @@ fn put_mark_at<K: Sink>(
     put_dashes(text, sink, left, 10, PLOT_TOP);
     put_all_dashes(text, sink, left, terminal, lanes);
     let middle = words_middle(left);
-    begin_words(text, sink, Class::BreachWords, middle, 660);
+    begin_words(text, sink, Class::BreachWords, middle, 870);
     put_answer(text, sink, answer);
     end_words(text, sink);
 }
@@ -137,11 +137,11 @@ fn put_arrow<K: Sink>(text: &mut TextBuffer, sink: &mut K, earlier: bool, answer
     ensures { Adds K.held K.faults sink.old sink.new text.old text.new (definition.arrow_text earlier answer.now) }
 {
     if earlier {
-        begin_words(text, sink, Class::BreachWords, 2500, 660);
+        begin_words(text, sink, Class::BreachWords, 2500, 870);
         text.put(sink, &[226, 134, 144, 32]);
         put_answer(text, sink, answer);
     } else {
-        begin_words(text, sink, Class::BreachWords, 14500, 660);
+        begin_words(text, sink, Class::BreachWords, 9100, 870);
         put_answer(text, sink, answer);
         text.put(sink, &[32, 226, 134, 146]);
     }

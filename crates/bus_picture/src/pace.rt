@@ -112,7 +112,7 @@ fn put_lane_pace<K: Sink>(
         (definition.lane_pace scale.now list.now k lane) }
 {
     if let Some(pace) = pace_in(scale, lane.terminal, list) {
-        begin_words(text, sink, Class::Small, 200, lane_top(k) + 160);
+        begin_words(text, sink, Class::Small, 80, lane_top(k) + 160);
         put_pace(text, sink, pace);
         end_words(text, sink);
     }
@@ -151,7 +151,7 @@ pub(crate) fn put_paces<K: Sink>(
         text,
         sink,
         Class::Small,
-        200,
+        80,
         PLOT_TOP + 200,
         b"start to start",
     );

@@ -1,4 +1,4 @@
-//! The timers of a sender, at each of its starts.
+//! The timers of a sender.
 ghost use Rattle.std.specs.Prelude.{◌≡◌, ◌<◌, ◌≤◌, ◌^◌};
 ghost use Rattle.bus_outer.specs.Texts.{Adds};
 ghost use Rattle.bus_strings.specs.Transmissions.{IsByMoment};
@@ -7,8 +7,8 @@ ghost use Rattle.bus_picture.specs.Intervals as intervals;
 ghost use Rattle.bus_picture.specs.Timers as definition;
 ghost use Rattle.bus_picture.specs.inside.Starting as working;
 
-use crate::heard::{Gap, Heard, deaf, gap_from, hear};
-use crate::lines::{is_drawn, line_area};
+use crate::heard::{Gap, Heard, Hearing, deaf, gap_from, hear};
+use crate::lines::{has_words, is_drawn, line_area};
 use crate::track::Track;
 use bus_outer::{Sink, TextBuffer};
 use bus_shapes::{Area, Class, Scale, begin_words, end_words, put_box};
@@ -33,14 +33,26 @@ fn size_room(tg: u32, gap: Gap) -> u64
     ensures { result ≡ definition.size_room tg gap }
 {
     if gap.to - gap.from == u64::from(tg) {
-        300
+        430
     } else {
         60
     }
 }
 
+/// The line of a terminal gap, where it takes a pixel.
+fn put_terminal_gap<K: Sink>(text: &mut TextBuffer, sink: &mut K, scale: &Scale, top: u64, gap: Gap)
+    requires scale { IsScale scale.now }
+    requires top { top < 100000 }
+    ensures { Adds K.held K.faults sink.old sink.new text.old text.new (definition.terminal_gap scale.now top gap) }
+{
+    if is_drawn(scale, gap.from, gap.to) {
+        let area = line_area(scale, top + 143, gap.from, gap.to);
+        put_box(text, sink, Class::Gap, area);
+    }
+}
+
 /// Its words above its line, where they have room.
-fn put_gap_words<K: Sink>(
+fn put_words_over<K: Sink>(
     text: &mut TextBuffer,
     sink: &mut K,
     area: Area,
@@ -53,24 +65,19 @@ fn put_gap_words<K: Sink>(
     requires width { area.width < 2 ^ 22 }
     requires top { top < 100000 }
     ensures { Adds K.held K.faults sink.old sink.new text.old text.new
-        (working.gap_words area top tg gap) }
+        (working.words_over area top tg gap) }
 {
-    if size_room(tg, gap) <= area.width {
-        begin_words(
-            text,
-            sink,
-            Class::GapWords,
-            area.left + area.width / 2,
-            top + 118,
-        );
+    if has_words(size_room(tg, gap), area) {
+        let end = area.left + area.width;
+        begin_words(text, sink, Class::GapWords, end, top + 118);
         text.put(sink, b"TG ");
         put_gap_size(text, sink, tg, gap);
         end_words(text, sink);
     }
 }
 
-/// A terminal gap, where it takes a pixel.
-fn put_terminal_gap<K: Sink>(
+/// Its words, where its line takes a pixel.
+fn put_gap_words<K: Sink>(
     text: &mut TextBuffer,
     sink: &mut K,
     scale: &Scale,
@@ -80,12 +87,11 @@ fn put_terminal_gap<K: Sink>(
 )
     requires scale { IsScale scale.now }
     requires top { top < 100000 }
-    ensures { Adds K.held K.faults sink.old sink.new text.old text.new (definition.terminal_gap scale.now top tg gap) }
+    ensures { Adds K.held K.faults sink.old sink.new text.old text.new (definition.gap_words scale.now top tg gap) }
 {
     if is_drawn(scale, gap.from, gap.to) {
         let area = line_area(scale, top + 143, gap.from, gap.to);
-        put_box(text, sink, Class::Gap, area);
-        put_gap_words(text, sink, area, top, tg, gap);
+        put_words_over(text, sink, area, top, tg, gap);
     }
 }
 
@@ -161,7 +167,7 @@ fn put_interval_words<K: Sink>(
     ensures { Adds K.held K.faults sink.old sink.new text.old text.new
         (definition.interval_words scale.now track.k track.top track.ti from to) }
 {
-    if track.k == 0 && 500 <= scale.extent(from, to) {
+    if track.k == 0 && 550 <= scale.extent(from, to) {
         begin_words(
             text,
             sink,
@@ -210,7 +216,7 @@ fn put_last<K: Sink>(
     requires top { track.top < 100000 }
     requires early { working.IsEarly last }
     ensures { Adds K.held K.faults sink.old sink.new text.old text.new
-        (working.last_interval scale.now track last next) }
+        (definition.interval_behind scale.now track last next) }
 {
     if let Some(moment) = last {
         let to = interval_to(track.ti, moment, next);
@@ -218,55 +224,114 @@ fn put_last<K: Sink>(
     }
 }
 
-/// At a start the transmit interval behind the last one, and the terminal gap before this one.
+/// The line of the terminal gap that ends by a transmission, where that is the first that begins at its moment.
+fn put_line<K: Sink>(
+    text: &mut TextBuffer,
+    sink: &mut K,
+    scale: &Scale,
+    track: Track,
+    first: bool,
+    gap: Gap,
+)
+    requires scale { IsScale scale.now }
+    requires top { track.top < 100000 }
+    ensures { Adds K.held K.faults sink.old sink.new text.old text.new (working.line_text scale.now track first gap) }
+{
+    if first {
+        put_terminal_gap(text, sink, scale, track.top, gap);
+    }
+}
+
+/// At a start the transmit interval behind the last one, and the words of the terminal gap before this one.
 fn put_start<K: Sink>(
     text: &mut TextBuffer,
     sink: &mut K,
     scale: &Scale,
     track: Track,
     last: Option<u64>,
-    heard: Heard,
+    gap: Gap,
     moment: u64,
 )
     requires scale { IsScale scale.now }
     requires top { track.top < 100000 }
     requires early { working.IsEarly last }
-    requires heard { heard.quiet_from ≤ 2 ^ 42 }
     ensures { Adds K.held K.faults sink.old sink.new text.old text.new
-        (working.start_text scale.now track last heard moment) }
+        (working.start_text scale.now track last gap moment) }
 {
     put_last(text, sink, scale, track, last, Some(moment));
-    let gap = gap_from(track, heard, moment);
-    put_terminal_gap(text, sink, scale, track.top, track.tg, gap);
+    put_gap_words(text, sink, scale, track.top, track.tg, gap);
 }
 
-/// Takes the next transmission of the list: what is then the last start.
+/// The same at a transmission, where that is a start of the sender: what is then its last start.
+fn put_own<K: Sink>(
+    text: &mut TextBuffer,
+    sink: &mut K,
+    scale: &Scale,
+    track: Track,
+    last: Option<u64>,
+    gap: Gap,
+    x: &Transmission,
+) -> Option<u64>
+    requires scale { IsScale scale.now }
+    requires top { track.top < 100000 }
+    requires early { working.IsEarly last }
+    ensures adds { Adds K.held K.faults sink.old sink.new text.old text.new
+        (working.own_text scale.now track last gap x.now) }
+    ensures last { result ≡ intervals.next_start track.terminal last x.now }
+    ensures early { working.IsEarly result }
+{
+    if x.terminal != track.terminal {
+        return last;
+    }
+    put_start(text, sink, scale, track, last, gap, x.moment);
+    Some(x.moment)
+}
+
+/// Takes the next transmission of the list, which is heard: what is then the last start.
 fn take<K: Sink>(
     text: &mut TextBuffer,
     sink: &mut K,
     scale: &Scale,
     track: Track,
     last: Option<u64>,
-    heard: Heard,
+    hearing: Hearing,
     x: &Transmission,
 ) -> Option<u64>
     requires scale { IsScale scale.now }
     requires top { track.top < 100000 }
     requires early { working.IsEarly last }
-    requires heard { heard.quiet_from ≤ 2 ^ 42 }
+    requires heard { hearing.before.quiet_from ≤ 2 ^ 42 }
     ensures adds { Adds K.held K.faults sink.old sink.new text.old text.new
-        (working.next_text scale.now track last heard x.now) }
-    ensures last { result ≡ working.next_last track last x.now }
+        (working.next_text scale.now track last hearing.first hearing.before x.now) }
+    ensures last { result ≡ intervals.next_start track.terminal last x.now }
     ensures early { working.IsEarly result }
 {
-    if x.terminal != track.terminal {
-        return last;
-    }
-    put_start(text, sink, scale, track, last, heard, x.moment);
-    Some(x.moment)
+    let gap = gap_from(track, hearing.before, x.moment);
+    put_line(text, sink, scale, track, hearing.first, gap);
+    put_own(text, sink, scale, track, last, gap, x)
 }
 
-/// The timers of a sender, at each of its starts. It goes over the list once.
+/// What is drawn behind all transmissions: the terminal gap, as far as the horizon, and the transmit interval behind the last start.
+fn put_behind<K: Sink>(
+    text: &mut TextBuffer,
+    sink: &mut K,
+    scale: &Scale,
+    track: Track,
+    last: Option<u64>,
+    heard: Heard,
+)
+    requires scale { IsScale scale.now }
+    requires top { track.top < 100000 }
+    requires early { working.IsEarly last }
+    requires heard { heard.quiet_from ≤ 2 ^ 42 }
+    ensures { Adds K.held K.faults sink.old sink.new text.old text.new (working.last_text scale.now track last heard) }
+{
+    let gap = gap_from(track, heard, track.horizon);
+    put_terminal_gap(text, sink, scale, track.top, gap);
+    put_last(text, sink, scale, track, last, None);
+}
+
+/// The timers of a sender: at each transmission, and behind all. It goes over the list once.
 pub(crate) fn put_starts<K: Sink>(
     text: &mut TextBuffer,
     sink: &mut K,
@@ -285,7 +350,7 @@ pub(crate) fn put_starts<K: Sink>(
     for k in 0..list.len() {
         let x = &list[k];
         hearing = hear(track, hearing, x);
-        last = take(text, sink, scale, track, last, hearing.before, x);
+        last = take(text, sink, scale, track, last, hearing, x);
     }
-    put_last(text, sink, scale, track, last, None);
+    put_behind(text, sink, scale, track, last, hearing.all);
 }

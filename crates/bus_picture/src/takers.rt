@@ -7,6 +7,7 @@ ghost use Rattle.bus_picture.specs.Takings as definition;
 ghost use Rattle.bus_picture.specs.inside.Noting as working;
 ghost use Rattle.bus_picture.specs.inside.Noting.{AreNoted, KeepsNoted, LinesNoted};
 
+use bus_filter::matches;
 use bus_outer::{Sink, TextBuffer};
 use bus_shapes::Sent;
 use bus_strings::Wordstring;
@@ -86,12 +87,9 @@ fn note_listeners(may: &mut [bool; PLACES], listeners: &[Listener])
 fn takes_words(string: &Wordstring, line: &TakeLine) -> bool
     ensures { result ≡ definition.takes_words string.now line.now }
 {
-    let matches = line.label == string.label()
-        && match line.ext {
-            Some(ext) => ext == string.ext(),
-            None => true,
-        };
-    matches && usize::from(line.first) < string.words().len() && 0 < line.count
+    matches(line, string.label(), string.ext())
+        && usize::from(line.first) < string.words().len()
+        && 0 < line.count
 }
 
 /// Whether a terminal takes words of a transmission: it isn't its own, nor garbled.

@@ -8,7 +8,7 @@ ghost use Rattle.bus_picture.specs.Timers as definition;
 ghost use Rattle.bus_picture.specs.TimeLines as whole;
 
 use crate::lanes::lane_top;
-use crate::lines::{is_drawn, line_area};
+use crate::lines::{has_words, is_drawn, line_area};
 use crate::measures::PLOT_TOP;
 use crate::offsets::put_offsets;
 use crate::starts::put_starts;
@@ -51,14 +51,9 @@ fn put_sync_words<K: Sink>(text: &mut TextBuffer, sink: &mut K, area: Area, top:
     ensures { Adds K.held K.faults sink.old sink.new text.old text.new
         (definition.words_above gap_room area (top + gap_line) (codes "SG " ++ decimal sg)) }
 {
-    if 300 <= area.width {
-        begin_words(
-            text,
-            sink,
-            Class::GapWords,
-            area.left + area.width / 2,
-            top + 118,
-        );
+    if has_words(430, area) {
+        let end = area.left + area.width;
+        begin_words(text, sink, Class::GapWords, end, top + 118);
         text.put(sink, b"SG ");
         text.put_number(sink, sg);
         end_words(text, sink);
@@ -133,10 +128,10 @@ fn put_bus_timer<K: Sink>(
     }
 }
 
-/// What is the same all along lane `k`, of a sender with this terminal and this terminal gap.
-fn track_of(table: &Table, k: usize, terminal: u8, tg: u32) -> Track
+/// What is the same all along lane `k` of a trace with this horizon, of a sender with this terminal and this terminal gap.
+fn track_of(table: &Table, horizon: u64, k: usize, terminal: u8, tg: u32) -> Track
     requires { k ≤ 256 }
-    ensures value { result ≡ definition.track_of table.now k terminal tg }
+    ensures value { result ≡ definition.track_of table.now horizon k terminal tg }
     ensures low { result.top < 100000 }
 {
     Track {
@@ -147,6 +142,7 @@ fn track_of(table: &Table, k: usize, terminal: u8, tg: u32) -> Track
         sg: table.sg(),
         ti: table.ti(),
         quiet: quiet(table),
+        horizon,
     }
 }
 
@@ -156,19 +152,21 @@ fn put_lane_sender<K: Sink>(
     sink: &mut K,
     scale: &Scale,
     table: &Table,
-    list: &[Transmission],
+    trace: &Trace,
     k: usize,
     lane: Lane,
     sender: &Sender,
 )
     requires scale { IsScale scale.now }
-    requires by_moment { IsByMoment list.now }
+    requires by_moment { IsByMoment trace.now.list }
     requires few { k ≤ 256 }
     ensures { Adds K.held K.faults sink.old sink.new text.old text.new
-        (whole.lane_sender scale.now table.now list.now k lane sender.now) }
+        (whole.lane_sender scale.now table.now trace.now k lane sender.now) }
 {
     let tg = sender.tg();
-    let track = track_of(table, k, lane.terminal, tg);
+    let horizon = trace.horizon();
+    let track = track_of(table, horizon, k, lane.terminal, tg);
+    let list = trace.list();
     put_starts(text, sink, scale, list, track);
     let mode = table.mode();
     let top = lane_top(k);
@@ -183,18 +181,18 @@ fn put_lane_timers<K: Sink>(
     sink: &mut K,
     scale: &Scale,
     table: &Table,
-    list: &[Transmission],
+    trace: &Trace,
     k: usize,
     lane: Lane,
 )
     requires scale { IsScale scale.now }
-    requires by_moment { IsByMoment list.now }
+    requires by_moment { IsByMoment trace.now.list }
     requires few { k ≤ 256 }
     ensures { Adds K.held K.faults sink.old sink.new text.old text.new
-        (whole.lane_timers scale.now table.now list.now k lane) }
+        (whole.lane_timers scale.now table.now trace.now k lane) }
 {
     if let Some(sender) = sender_of(table.senders(), lane.terminal) {
-        put_lane_sender(text, sink, scale, table, list, k, lane, sender);
+        put_lane_sender(text, sink, scale, table, trace, k, lane, sender);
     }
 }
 
@@ -204,17 +202,17 @@ fn put_each<K: Sink>(
     sink: &mut K,
     scale: &Scale,
     table: &Table,
-    list: &[Transmission],
+    trace: &Trace,
     lanes: &[Lane],
 )
     requires scale { IsScale scale.now }
-    requires by_moment { IsByMoment list.now }
+    requires by_moment { IsByMoment trace.now.list }
     requires few { length lanes.now ≤ 256 }
     ensures { Adds K.held K.faults sink.old sink.new text.old text.new
-        (whole.each_lane (whole.lane_timers scale.now table.now list.now) 0 lanes.now) }
+        (whole.each_lane (whole.lane_timers scale.now table.now trace.now) 0 lanes.now) }
 {
     for k in 0..lanes.len() {
-        put_lane_timers(text, sink, scale, table, list, k, lanes[k]);
+        put_lane_timers(text, sink, scale, table, trace, k, lanes[k]);
     }
 }
 
@@ -225,19 +223,20 @@ fn put_all<K: Sink>(
     scale: &Scale,
     lanes: &[Lane],
     table: &Table,
-    list: &[Transmission],
+    trace: &Trace,
 )
     requires scale { IsScale scale.now }
-    requires by_moment { IsByMoment list.now }
+    requires by_moment { IsByMoment trace.now.list }
     requires few { length lanes.now ≤ 256 }
     ensures { Adds K.held K.faults sink.old sink.new text.old text.new
-        (whole.timers_text scale.now lanes.now table.now list.now) }
+        (whole.timers_text scale.now lanes.now table.now trace.now) }
 {
     let ti = table.ti();
     if is_near(scale, ti) {
         let sg = table.sg();
+        let list = trace.list();
         put_bus_timer(text, sink, scale, PLOT_TOP, sg, list);
-        put_each(text, sink, scale, table, list, lanes);
+        put_each(text, sink, scale, table, trace, lanes);
     }
 }
 
@@ -253,9 +252,9 @@ pub(crate) fn put_timers<K: Sink>(
     requires scale { IsScale scale.now }
     requires few { length lanes.now ≤ 256 }
     ensures { Adds K.held K.faults sink.old sink.new text.old text.new
-        (whole.timers_text scale.now lanes.now table.now trace.now.list) }
+        (whole.timers_text scale.now lanes.now table.now trace.now) }
 {
     neighbours_tell();
-    let list = trace.list();
-    put_all(text, sink, scale, lanes, table, list);
+    let _list = trace.list();
+    put_all(text, sink, scale, lanes, table, trace);
 }

@@ -63,7 +63,7 @@ fn widened(tint: &Tint, next: &Tint) -> Tint
 /// A tint, down to the end of the plot.
 fn put_tint<K: Sink>(text: &mut TextBuffer, sink: &mut K, scale: &Scale, bottom: u64, tint: &Tint)
     requires scale { IsScale scale.now }
-    requires bottom { 960 ≤ bottom }
+    requires bottom { 1170 ≤ bottom }
     requires order { tint.now.from ≤ tint.now.to }
     ensures { Adds K.held K.faults sink.old sink.new text.old text.new (definition.tint_text scale.now bottom tint.now) }
 {
@@ -86,7 +86,7 @@ fn put_untouched<K: Sink>(
     next: &Tint,
 )
     requires scale { IsScale scale.now }
-    requires bottom { 960 ≤ bottom }
+    requires bottom { 1170 ≤ bottom }
     requires order { tint.now.from ≤ tint.now.to }
     ensures { Adds K.held K.faults sink.old sink.new text.old text.new
         (working.untouched scale.now bottom tint.now next.now) }
@@ -107,7 +107,7 @@ fn put_before<K: Sink>(
     next: &Tint,
 )
     requires scale { IsScale scale.now }
-    requires bottom { 960 ≤ bottom }
+    requires bottom { 1170 ≤ bottom }
     requires last { IsLastTint last.now }
     ensures { Adds K.held K.faults sink.old sink.new text.old text.new
         (working.tint_before scale.now bottom last.now next.now) }
@@ -144,7 +144,7 @@ fn take<K: Sink>(
     sent: &Sent,
 ) -> Option<Tint>
     requires scale { IsScale scale.now }
-    requires bottom { 960 ≤ bottom }
+    requires bottom { 1170 ≤ bottom }
     requires last { IsLastTint last }
     ensures adds { Adds K.held K.faults sink.old sink.new text.old text.new
         (working.next_tinted scale.now bottom last sent.now) }
@@ -167,7 +167,7 @@ fn put_last<K: Sink>(
     last: &Option<Tint>,
 )
     requires scale { IsScale scale.now }
-    requires bottom { 960 ≤ bottom }
+    requires bottom { 1170 ≤ bottom }
     requires last { IsLastTint last.now }
     ensures { Adds K.held K.faults sink.old sink.new text.old text.new
         (working.last_tinted scale.now bottom last.now) }
@@ -186,7 +186,7 @@ fn put_all<K: Sink>(
     list: &[Transmission],
 )
     requires scale { IsScale scale.now }
-    requires bottom { 960 ≤ bottom }
+    requires bottom { 1170 ≤ bottom }
     requires by_moment { IsByMoment list.now }
     ensures { Adds K.held K.faults sink.old sink.new text.old text.new (definition.tints_text scale.now bottom list.now) }
 {
@@ -206,7 +206,7 @@ pub(crate) fn put_tints<K: Sink>(
     trace: &Trace,
 )
     requires scale { IsScale scale.now }
-    requires bottom { 960 ≤ bottom }
+    requires bottom { 1170 ≤ bottom }
     ensures { Adds K.held K.faults sink.old sink.new text.old text.new
         (definition.tints_text scale.now bottom trace.now.list) }
 {

@@ -17,4 +17,6 @@ pub struct Track {
     pub ti: u32,
     /// How long the bus was quiet before the settled start.
     pub quiet: u32,
+    /// Up to which moment the bus was looked at.
+    pub horizon: u64,
 }

@@ -1,5 +1,6 @@
 //! The text of a time line.
 ghost use Rattle.std.specs.Prelude.{◌≡◌, ◌<◌, ◌≤◌, length};
+ghost use Rattle.bus_load.specs.Loads.{IsCarrierOf};
 ghost use Rattle.bus_outer.specs.Sinks.{WritesText};
 ghost use Rattle.bus_outer.specs.Texts.{Adds};
 ghost use Rattle.bus_shapes.specs.Scales.{IsScale};
@@ -20,13 +21,14 @@ use crate::tints::{has_tints, put_tints};
 use arrayvec::ArrayVec;
 use bus_audit::AuditAnswer;
 use bus_dump::{Lane, MOST_LANES, lanes_of};
+use bus_load::Stretch;
 use bus_outer::{Sink, TextBuffer, WriteFault};
 use bus_regime::TableVerdict;
 use bus_shapes::{
     Area, Axis, Class, Scale, Unit, Window, begin_titled, begin_words, end_titled, end_words,
     put_axis, put_frame, put_tail, put_words,
 };
-use bus_table::Table;
+use bus_table::{Mode, Table};
 use bus_trace::Trace;
 
 /// The scale of a window.
@@ -51,7 +53,7 @@ fn put_unobserved<K: Sink>(
     horizon: u64,
 )
     requires scale { IsScale scale.now }
-    requires bottom { 960 ≤ bottom }
+    requires bottom { 1170 ≤ bottom }
     ensures { Adds K.held K.faults sink.old sink.new text.old text.new
         (definition.unobserved_text scale.now bottom horizon) }
 {
@@ -72,15 +74,15 @@ fn put_unobserved<K: Sink>(
 /// The axes.
 fn put_axes<K: Sink>(text: &mut TextBuffer, sink: &mut K, scale: &Scale, bottom: u64)
     requires scale { IsScale scale.now }
-    requires least { 960 ≤ bottom }
+    requires least { 1170 ≤ bottom }
     requires most { bottom < 100000 }
     ensures { Adds K.held K.faults sink.old sink.new text.old text.new (definition.axes_text scale.now bottom) }
 {
     let upper = Axis {
         unit: Unit::Microseconds,
-        words: 840,
+        words: 1050,
         class: Class::Tick,
-        top: 900,
+        top: 1110,
         height: 60,
     };
     put_axis(text, sink, scale, &upper);
@@ -104,10 +106,12 @@ fn put_plot<K: Sink>(
     answer: &AuditAnswer,
     table: &Table,
     trace: &Trace,
+    carrier: &[Stretch],
 )
     requires scale { IsScale scale.now }
     requires few { length lanes.now ≤ 256 }
     requires bottom { bottom ≡ definition.lane_top (length lanes.now) }
+    requires carrier { IsCarrierOf carrier.now trace.now.list }
     ensures { Adds K.held K.faults sink.old sink.new text.old text.new
         (definition.plot_text scale.now bottom lanes.now answer.now table.now trace.now) }
 {
@@ -121,7 +125,7 @@ fn put_plot<K: Sink>(
     );
     let list = trace.list();
     put_paces(text, sink, scale, lanes, list);
-    put_loads(text, sink, scale, lanes, list);
+    put_loads(text, sink, scale, lanes, list, carrier);
     put_fronts(text, sink, table, lanes);
     put_axes(text, sink, scale, bottom);
     let horizon = trace.horizon();
@@ -152,15 +156,16 @@ fn put_foot<K: Sink>(
     scale: &Scale,
     bottom: u64,
     left_out: usize,
+    mode: Mode,
     trace: &Trace,
 )
     requires { bottom < 100000 }
     ensures { Adds K.held K.faults sink.old sink.new text.old text.new
-        (definition.foot_text scale.now bottom left_out trace.now) }
+        (definition.foot_text scale.now bottom left_out mode trace.now) }
 {
     put_left_out(text, sink, bottom, left_out);
     let tinted = has_tints(scale, trace);
-    put_legend(text, sink, tinted, bottom + 460);
+    put_legend(text, sink, mode, tinted, bottom + 460);
 }
 
 /// A picture with these lanes, and with so many left out.
@@ -174,17 +179,22 @@ fn put_picture<K: Sink>(
     answer: &AuditAnswer,
     table: &Table,
     trace: &Trace,
+    carrier: &[Stretch],
 )
     requires scale { IsScale scale.now }
     requires few { length lanes.now ≤ 256 }
+    requires carrier { IsCarrierOf carrier.now trace.now.list }
     ensures { Adds K.held K.faults sink.old sink.new text.old text.new
         (definition.picture_text scale.now lanes.now left_out verdict.now answer.now table.now trace.now) }
 {
     let bottom = lane_top(lanes.len());
     let counts = counts(scale, trace);
-    put_frame(text, sink, bottom + 800, verdict, answer, table, &counts);
-    put_plot(text, sink, scale, bottom, lanes, answer, table, trace);
-    put_foot(text, sink, scale, bottom, left_out, trace);
+    put_frame(text, sink, bottom + 1060, verdict, answer, table, &counts);
+    put_plot(
+        text, sink, scale, bottom, lanes, answer, table, trace, carrier,
+    );
+    let mode = table.mode();
+    put_foot(text, sink, scale, bottom, left_out, mode, trace);
     put_tail(text, sink);
 }
 
@@ -198,8 +208,10 @@ fn put_drawn<K: Sink>(
     answer: &AuditAnswer,
     table: &Table,
     trace: &Trace,
+    carrier: &[Stretch],
 )
-    requires { IsScale scale.now }
+    requires scale { IsScale scale.now }
+    requires carrier { IsCarrierOf carrier.now trace.now.list }
     ensures { Adds K.held K.faults sink.old sink.new text.old text.new
         (definition.drawn_text scale.now all.items verdict.now answer.now table.now trace.now) }
 {
@@ -217,11 +229,13 @@ fn put_drawn<K: Sink>(
         answer,
         table,
         trace,
+        carrier,
     );
 }
 
-/// Writes the time line of a trace in a window, with the words of the verdict on the table and of the answer of the audit. It goes over the
-/// trace some six times for each lane, and takes no memory but half a megabyte of the stack.
+/// Writes the time line of a trace in a window, with the words of the verdict on the table and of the answer of the audit, and with the
+/// load by `carrier`, that of the trace. It goes over the trace some six times for each lane, and takes no memory but half a megabyte of
+/// the stack.
 ///
 /// At `WriteFault` the sink has taken a front of the text, and its count of faults rose.
 pub fn write_time_line<K: Sink>(
@@ -230,8 +244,10 @@ pub fn write_time_line<K: Sink>(
     answer: &AuditAnswer,
     table: &Table,
     trace: &Trace,
+    carrier: &[Stretch],
     sink: &mut K,
 ) -> Result<(), WriteFault>
+    requires { IsCarrierOf carrier.now trace.now.list }
     ensures { WritesText K.held K.faults sink.old sink.new result
         (time_line_text window.now verdict.now answer.now table.now trace.now) }
 {
@@ -239,7 +255,7 @@ pub fn write_time_line<K: Sink>(
     let lanes = lanes_of(table, trace.list());
     let mut text = TextBuffer::new();
     put_drawn(
-        &mut text, sink, &scale, lanes, verdict, answer, table, trace,
+        &mut text, sink, &scale, lanes, verdict, answer, table, trace, carrier,
     );
     text.finish(sink)
 }

@@ -11,7 +11,7 @@ use Rattle.bus_shapes.specs.Headings.{answer_heading, verdict_class, verdict_hea
 use Rattle.bus_shapes.specs.Sayings.{counted, table_words}
 use Rattle.bus_shapes.specs.Shapes.{Area, box_text, words_text}
 pub use Rattle.bus_shapes.specs.declared.counts.Counts.{Counts}
-use Rattle.bus_shapes.specs.Measures.{facts_line, head_line, left_margin, picture_width, pixel, right_margin}
+use Rattle.bus_shapes.specs.Measures.{answer_line, facts_line, head_line, left_margin, picture_width, pixel, right_margin}
 
 -- ---- the head
 -- The style of words of every class.
@@ -42,8 +42,8 @@ style_text = codes "<style>\n" ++ font_text ++ rules_text ++ dark_text ++ codes 
 -- The size of a picture of this height, and of its width, in pixels and in units. Browsers scale it to the width that they have for it.
 abbrev pub size_text : ℕ → List ℕ
 size_text height =
-    codes "<svg xmlns=\"http://www.w3.org/2000/svg\" role=\"img\" width=\"1580\" height=\"" ++ decimal (height / pixel)
-    ++ codes "\" style=\"width:100%;height:auto\" viewBox=\"0 0 15800 " ++ decimal height ++ codes "\">\n"
+    codes "<svg xmlns=\"http://www.w3.org/2000/svg\" role=\"img\" width=\"1040\" height=\"" ++ decimal (height / pixel)
+    ++ codes "\" style=\"width:100%;height:auto\" viewBox=\"0 0 10400 " ++ decimal height ++ codes "\">\n"
 
 -- The title: the words of the verdict and of the audit.
 abbrev pub title_text : List ℕ → List ℕ → List ℕ
@@ -60,13 +60,14 @@ counts_words counts =
 abbrev pub background : ℕ → Area
 background height = record { left = 0; top = 0; width = picture_width; height = height }
 
--- The headings of the verdict and of the audit.
+-- The headings of the verdict and of the audit, a line each. Of the longest, a breach in the longest trace, the last letter ends 1780 units
+-- before the right margin, where a picture may put a few words of its own.
 abbrev pub heads_text : TableVerdict → AuditAnswer → List ℕ
 heads_text verdict answer =
     words_text (verdict_class verdict) left_margin head_line (verdict_heading verdict)
-    ++ words_text Answer right_margin head_line (answer_heading answer)
+    ++ words_text Answer left_margin answer_line (answer_heading answer)
 
--- The words of the table, and the counts.
+-- The words of the table, and the counts. They have room for 151 letters, and with counts of ten digits are 141 at most.
 abbrev pub facts_text : Table → Counts → List ℕ
 facts_text table counts =
     words_text Note left_margin facts_line (table_words table)

@@ -5,9 +5,9 @@ use Rattle.std.specs.Prelude.{ℕ, ◌^◌}
 abbrev pub pixel : ℕ
 pixel = 10
 
--- The width of a picture, of which a browser shows 1580 pixels.
+-- The width of a picture: 1040 pixels, so that its words can be read still where a column of 840 pixels shows it.
 abbrev pub picture_width : ℕ
-picture_width = 15800
+picture_width = 10400
 
 -- Where words begin that stand at the left edge of a picture.
 abbrev pub left_margin : ℕ
@@ -15,15 +15,19 @@ left_margin = 200
 
 -- Where words end that stand at the right edge of a picture.
 abbrev pub right_margin : ℕ
-right_margin = 15500
+right_margin = 10200
 
--- The line of the words of the verdict and of the audit.
+-- The line of the words of the verdict.
 abbrev pub head_line : ℕ
 head_line = 270
 
+-- The line of the words of the audit.
+abbrev pub answer_line : ℕ
+answer_line = 480
+
 -- The line of the words of the table, and of the counts.
 abbrev pub facts_line : ℕ
-facts_line = 480
+facts_line = 690
 
 -- The least room from mark to mark on an axis, so that the numbers of the longest trace fit: 120 pixels.
 abbrev pub mark_room : ℕ

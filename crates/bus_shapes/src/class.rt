@@ -50,7 +50,7 @@ pub enum Class {
     Verdict,
     /// The words of the verdict on a refused table.
     Refusal,
-    /// The words of the audit, which end at their place.
+    /// The words of the audit.
     Answer,
     /// Words that begin at their place.
     Note,
@@ -66,7 +66,7 @@ pub enum Class {
     Digits,
     /// The same of a garbled one.
     NoiseDigits,
-    /// The words of a gap, in the middle.
+    /// The words of a gap, which end at their place.
     GapWords,
     /// The words of a transmit interval, which end at their place.
     IntervalWords,
@@ -174,17 +174,17 @@ impl Class {
             Class::Breach => b"fill:#000;pointer-events:none",
             Class::Verdict => b"font-size:150px;font-weight:bold",
             Class::Refusal => b"font-size:150px;font-weight:bold;fill:#a63a00",
-            Class::Answer => b"font-size:150px;font-weight:bold;text-anchor:end",
+            Class::Answer => b"font-size:150px;font-weight:bold",
             Class::Note => b"fill:#222",
             Class::Counts => b"text-anchor:end",
-            Class::Small => b"font-size:90px;fill:#555",
-            Class::Detail => b"font-size:90px;fill:#555;text-anchor:end",
+            Class::Small => b"font-size:100px;fill:#555",
+            Class::Detail => b"font-size:100px;fill:#555;text-anchor:end",
             Class::Number => b"text-anchor:middle",
             Class::Digits => b"fill:#fff;text-anchor:middle",
             Class::NoiseDigits =>
                 b"fill:#000;stroke:#fff;stroke-width:50;stroke-linejoin:round;paint-order:stroke;text-anchor:middle",
-            Class::GapWords => b"font-size:90px;fill:#7a5200;text-anchor:middle",
-            Class::IntervalWords => b"font-size:90px;fill:#00694d;text-anchor:end",
+            Class::GapWords => b"font-size:100px;fill:#7a5200;text-anchor:end",
+            Class::IntervalWords => b"font-size:100px;fill:#00694d;text-anchor:end",
             Class::BreachWords =>
                 b"font-weight:bold;fill:#000;stroke:#fff;stroke-width:50;stroke-linejoin:round;paint-order:stroke;text-anchor:middle",
         }

@@ -91,12 +91,12 @@ fn put_size<K: Sink>(text: &mut TextBuffer, sink: &mut K, height: u64)
 {
     text.put(
         sink,
-        b"<svg xmlns=\"http://www.w3.org/2000/svg\" role=\"img\" width=\"1580\" height=\"",
+        b"<svg xmlns=\"http://www.w3.org/2000/svg\" role=\"img\" width=\"1040\" height=\"",
     );
     text.put_number(sink, height / 10);
     text.put(
         sink,
-        b"\" style=\"width:100%;height:auto\" viewBox=\"0 0 15800 ",
+        b"\" style=\"width:100%;height:auto\" viewBox=\"0 0 10400 ",
     );
     text.put_number(sink, height);
     text.put(sink, b"\">\n");
@@ -204,7 +204,7 @@ fn put_heads<K: Sink>(
     begin_words(text, sink, verdict_class(verdict), 200, 270);
     put_verdict_heading(text, sink, verdict);
     end_words(text, sink);
-    begin_words(text, sink, Class::Answer, 15500, 270);
+    begin_words(text, sink, Class::Answer, 200, 480);
     put_answer_heading(text, sink, answer);
     end_words(text, sink);
 }
@@ -213,10 +213,10 @@ fn put_heads<K: Sink>(
 fn put_facts<K: Sink>(text: &mut TextBuffer, sink: &mut K, table: &Table, counts: &Counts)
     ensures { Adds K.held K.faults sink.old sink.new text.old text.new (definition.facts_text table.now counts.now) }
 {
-    begin_words(text, sink, Class::Note, 200, 480);
+    begin_words(text, sink, Class::Note, 200, 690);
     put_table(text, sink, table);
     end_words(text, sink);
-    begin_words(text, sink, Class::Counts, 15500, 480);
+    begin_words(text, sink, Class::Counts, 10200, 690);
     put_counts(text, sink, counts);
     end_words(text, sink);
 }
@@ -241,7 +241,7 @@ pub fn put_frame<K: Sink>(
     let area = Area {
         left: 0,
         top: 0,
-        width: 15800,
+        width: 10400,
         height,
     };
     put_box(text, sink, Class::Background, area);

@@ -5,11 +5,12 @@ ghost use Rattle.bus_strings.specs.Transmissions.{IsByMoment};
 ghost use Rattle.bus_shapes.specs.Sending.{sents};
 
 use crate::sent::Sent;
+use bus_strings::limits::MOST_TERMINAL;
 use bus_strings::{Marks, Transmission};
 use std::marker::Model;
 
 /// One number for each terminal, and none for 0.
-const TERMINALS: usize = 129;
+const TERMINALS: usize = MOST_TERMINAL as usize + 1;
 
 /// What pictures tell of each transmission of a list, in order. It goes over the list once.
 #[derive(Drop)]

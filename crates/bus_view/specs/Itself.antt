@@ -7,7 +7,7 @@ use Rattle.bus_command.specs.declared.about.About.TheVariants.{Help, Version}
 unfoldable pub help_text : List ℕ
 help_text =
     codes "bus629-view shows recorded traces of buses after ARINC 629 (Basic Protocol). It writes them as Value\n"
-    ++ codes "Change Dumps (IEEE 1364), which wave viewers such as GTKWave read (sigrok and PulseView read wires),\n"
+    ++ codes "Change Dumps (IEEE 1364), which wave viewers such as GTKWave read (sigrok and PulseView only wires),\n"
     ++ codes "and as SVG pictures, which browsers show. What it writes is proved.\n"
     ++ codes "\n"
     ++ codes "  bus629-view vcd T R     the dump of the trace in the file R, on the table in the file T: the bus,\n"

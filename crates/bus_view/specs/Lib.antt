@@ -1,3 +1,4 @@
+-- What the contracts of this crate cite.
 pub mod Itself
 pub mod Forms
 pub mod Refusals

@@ -13,7 +13,7 @@ fn help() -> &'static [u8]
     ensures { result.now ≡ help_text }
 {
     b"bus629-view shows recorded traces of buses after ARINC 629 (Basic Protocol). It writes them as Value
-Change Dumps (IEEE 1364), which wave viewers such as GTKWave read (sigrok and PulseView read wires),
+Change Dumps (IEEE 1364), which wave viewers such as GTKWave read (sigrok and PulseView only wires),
 and as SVG pictures, which browsers show. What it writes is proved.
 
   bus629-view vcd T R     the dump of the trace in the file R, on the table in the file T: the bus,

@@ -1,6 +1,6 @@
 //! The top call.
 ghost use Rattle.bus_command.specs.Outside.{call};
-ghost use Rattle.bus_view.specs.Acts.{Comes};
+ghost use Rattle.bus_view.specs.Acts.{ComesOf};
 ghost use Rattle.bus_view.specs.Claims.{Promises};
 
 use crate::command::act;
@@ -23,13 +23,12 @@ pub fn view<S: Source, K: Sink, E: Sink>(
     err: &mut E,
 ) -> Status
     // Of texts that are right, where nothing outside fails: what each view promises.
-    ensures keeps { Promises (call ⟦<S as Source>⟧ ⟦<K as Sink>⟧ words.now first.old second.old out.old
-        first.new second.new out.new) result }
+    ensures keeps { Promises (call S.Source K.Sink words.now first.old second.old out.old first.new second.new out.new) result }
 
     // Of any words and bytes: the outcome that is due or a fault in its place, what was taken and written, what `err` holds, and the
     // status.
-    ensures acts { Comes ⟦<E as Sink>⟧ (call ⟦<S as Source>⟧ ⟦<K as Sink>⟧ words.now first.old second.old out.old
-        first.new second.new out.new) err.old err.new result }
+    ensures acts { ComesOf S.Source K.Sink E.Sink words.now first.old second.old out.old err.old
+        first.new second.new out.new err.new result }
 {
     text_reads_as_its_table();
     traces_read_back();

@@ -92,6 +92,7 @@ IsTold table senders watch timers = timers ≡ map (elapsed_at table watch.walk.
 abbrev pub starts_at : ℕ → ℕ → Entry → Bool
 starts_at t n x = x.moment == t && x.terminal == n
 
+-- Whether one of a list does.
 abbrev pub starts : List Entry → ℕ → ℕ → Bool
 starts list t n = list_any (starts_at t n) list
 

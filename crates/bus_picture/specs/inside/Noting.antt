@@ -1,5 +1,5 @@
 -- What is noted of the receive lines of a table, by label and number, and what is written of those that take words of a wordstring.
-use Rattle.std.specs.Prelude.{◌≡◌, ℕ, ◌+◌, ◌*◌, Bool, true, false, ◌||◌, List, [], ◌∷◌, ◌++◌, codes, decimal, get_or, length}
+use Rattle.std.specs.Prelude.{◌≡◌, ℕ, ◌+◌, ◌*◌, Bool, true, false, List, [], ◌∷◌, ◌++◌, codes, decimal, get_or}
 use Rattle.std.specs.Prelude.{if◌then◌else◌}
 use Rattle.bus_strings.specs.Members.{In}
 use Rattle.bus_table.specs.declared.line.TakeLine.{TakeLine}

@@ -13,7 +13,7 @@ returns g c =
     let row = c.args.row in
     let text : ℕ → ℕ → List ℕ = λ line long.
     words_text Small 200 line (decimal (row.place + 1)) ++ words_text Detail 1440 line (begin_words page.cycle.lift row.begin)
-    ++ words_text Detail 15500 line (decimal long) in
+    ++ words_text Detail 10200 line (decimal long) in
     subst (λ (t : List ℕ). Adds g.K.Sink.held g.K.Sink.faults c.args.sink.now c.end_words-3.new.sink c.args.text.now c.end_words-3.new.text t)
     (ap (λ (n : ℕ). text n c.length_of.result) c.line_of-line.ensures ∙ ap (text (line_of page row.place)) c.length_of.ensures)
     ((c.begin_words.ensures ▸ c.put_number.ensures ▸ c.end_words.ensures) ▸ (c.begin_words-2.ensures ▸ c.put_begin.ensures ▸ c.end_words-2.ensures)

@@ -1,5 +1,8 @@
-use Rattle.bus_cycles.proofs.LengthLemmas.{rows_have_lengths}
+use Rattle.bus_cycles.proofs.LengthLemmas.{rows_are_counted, rows_have_lengths}
 use Rattle.bus_cycles.proofs.laws.rows_have_lengths.Goals as goal
 
-pub returns : goal.returns
-returns c = rows_have_lengths
+pub returns-clause-lengths : goal.returns-clause-lengths
+returns-clause-lengths c = rows_have_lengths
+
+pub returns-clause-count : goal.returns-clause-count
+returns-clause-count c = rows_are_counted

@@ -7,13 +7,14 @@ use Rattle.bus_shapes.specs.declared.class.Class.TheVariants.{Small, Mark}
 use Rattle.bus_shapes.specs.Scales.{place}
 use Rattle.bus_shapes.specs.Shapes.{box_text}
 use Rattle.bus_cycles.specs.CyclesTexts.{mark_line, mark_words}
+use Rattle.bus_cycles.specs.Measures.{mark_words_line}
 use Rattle.bus_cycles.proofs.plot.put_mark.Goals as goal
 
 pub returns-then-t-page : goal.returns-then-t-page
 returns-then-t-page g c =
     let page = c.args.page.now in
     let t = c.args.t in
-    let text : Area → ℕ → List ℕ = λ area left. box_text Mark area ++ mark_words Small (left + 40) 1150 c.args.name.now t in
+    let text : Area → ℕ → List ℕ = λ area left. box_text Mark area ++ mark_words Small (left + 40) mark_words_line c.args.name.now t in
     subst (λ (x : List ℕ). Adds g.K.Sink.held g.K.Sink.faults c.args.sink.now c.put_mark_words.new.sink c.args.text.now c.put_mark_words.new.text x)
     (ap (λ (area : Area). text area c.place-left.result) c.mark_line.ensures
     ∙ ap (text (mark_line page t)) c.place-left.ensures.value

@@ -1,12 +1,11 @@
-use Rattle.std.proofs.Common.{ℕ, Option, sym, subst, ◌∙◌}
+use Rattle.std.proofs.Common.{ℕ, Option, sym, subst}
 use Rattle.bus_outer.specs.Texts.{Adds}
-use Rattle.bus_picture.specs.Timers.{interval_at}
-use Rattle.bus_picture.specs.inside.Starting.{last_interval}
+use Rattle.bus_picture.specs.Timers.{interval_at, interval_behind}
 use Rattle.bus_picture.proofs.starts.put_last.Goals as goal
 
 pub returns-in-Some : goal.returns-in-Some
 returns-in-Some g c =
     subst (λ (last : Option ℕ). Adds g.K.Sink.held g.K.Sink.faults c.args.sink.now c.put_interval_at.new.sink c.args.text.now c.put_interval_at.new.text
-    (last_interval c.args.scale.now c.args.track last c.args.next)) (sym c.in-Some.is)
+    (interval_behind c.args.scale.now c.args.track last c.args.next)) (sym c.in-Some.is)
     (subst (λ (to : ℕ). Adds g.K.Sink.held g.K.Sink.faults c.args.sink.now c.put_interval_at.new.sink c.args.text.now c.put_interval_at.new.text
     (interval_at c.args.scale.now c.args.track c.in-Some.moment to)) c.interval_to-to.ensures c.put_interval_at.ensures)

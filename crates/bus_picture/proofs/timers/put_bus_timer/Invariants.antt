@@ -1,6 +1,6 @@
 use Rattle.std.proofs.Common.{List, ℕ}
 use Rattle.bus_outer.specs.Texts.{Adds}
-use Rattle.bus_picture.specs.Timers.{bus_timer, sync_before}
+use Rattle.bus_picture.specs.Timers.{sync_before}
 use Rattle.bus_picture.specs.inside.Starting.{Covers}
 use Rattle.bus_picture.proofs.timers.put_bus_timer.Given as goal
 

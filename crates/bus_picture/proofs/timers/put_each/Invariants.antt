@@ -5,4 +5,4 @@ use Rattle.bus_picture.proofs.timers.put_each.Given as goal
 
 abbrev pub invariant-loop-k : goal.invariant-loop-k
 invariant-loop-k g l =
-    Adds g.K.Sink.held g.K.Sink.faults l.fn.sink l.sink l.fn.text l.text (each_lane (lane_timers l.scale l.table l.list) 0 (take l.k l.lanes))
+    Adds g.K.Sink.held g.K.Sink.faults l.fn.sink l.sink l.fn.text l.text (each_lane (lane_timers l.scale l.table l.trace) 0 (take l.k l.lanes))

@@ -1,6 +1,7 @@
-use Rattle.std.proofs.Common.{ℕ, ◌<◌, ◌≤◌, arith, ap, sym, subst, ◌∙◌}
+use Rattle.std.proofs.Common.{List, ℕ, ◌≤◌, arith, ap, subst, ◌∙◌}
 use Rattle.bus_outer.specs.Texts.{Adds}
 use Rattle.bus_outer.proofs.TextLaws.{◌▸◌}
+use Rattle.bus_strings.specs.Messages.{Entry}
 use Rattle.bus_table.specs.declared.mode.Mode.{Mode}
 use Rattle.bus_table.proofs.ValidLaws.{valid_facts}
 use Rattle.bus_picture.specs.Lanes.{lane_top}
@@ -16,8 +17,11 @@ put_offsets-requires-clause-some g c =
 pub returns : goal.returns
 returns g c =
     subst (λ (track : Track). Adds g.K.Sink.held g.K.Sink.faults c.args.sink.now c.put_starts.new.sink c.args.text.now c.put_starts.new.text
-    (sender_timers c.args.scale.now c.args.list.now track))
-    (c.track_of-track.ensures.value ∙ ap (track_of c.args.table.now c.args.k c.args.lane.terminal) c.tg-tg.ensures.value) c.put_starts.ensures
+    (sender_timers c.args.scale.now c.args.trace.now.list track))
+    (c.track_of-track.ensures.value ∙ ap (track_of c.args.table.now c.horizon-horizon.result c.args.k c.args.lane.terminal) c.tg-tg.ensures.value
+    ∙ ap (λ (h : ℕ). track_of c.args.table.now h c.args.k c.args.lane.terminal c.args.sender.now.tg) c.horizon-horizon.ensures.value)
+    (subst (λ (list : List Entry). Adds g.K.Sink.held g.K.Sink.faults c.args.sink.now c.put_starts.new.sink c.args.text.now c.put_starts.new.text
+    (sender_timers c.args.scale.now list c.track_of-track.result)) c.list-list.ensures.value c.put_starts.ensures)
     ▸ subst (λ (mode : Mode). Adds g.K.Sink.held g.K.Sink.faults c.put_starts.new.sink c.put_offsets.new.sink c.put_starts.new.text c.put_offsets.new.text
     (offsets_text mode c.args.scale.now (lane_top c.args.k) c.args.table.now.ti c.args.sender.now.at)) c.mode-mode.ensures.value
     (subst (λ (top : ℕ). Adds g.K.Sink.held g.K.Sink.faults c.put_starts.new.sink c.put_offsets.new.sink c.put_starts.new.text c.put_offsets.new.text

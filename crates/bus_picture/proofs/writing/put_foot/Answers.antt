@@ -9,5 +9,5 @@ use Rattle.bus_picture.proofs.writing.put_foot.Goals as goal
 pub returns : goal.returns
 returns g c =
     subst (λ (b : Bool). Adds g.K.Sink.held g.K.Sink.faults c.args.sink.now c.put_legend.new.sink c.args.text.now c.put_legend.new.text
-    (left_out_text c.args.bottom c.args.left_out ++ legend_text b (c.args.bottom + legend_below))) c.has_tints-tinted.ensures
+    (left_out_text c.args.bottom c.args.left_out ++ legend_text c.args.mode b (c.args.bottom + legend_below))) c.has_tints-tinted.ensures
     (c.put_left_out.ensures ▸ c.put_legend.ensures)

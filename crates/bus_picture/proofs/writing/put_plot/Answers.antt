@@ -29,7 +29,7 @@ returns g c =
     ++ loads_text c.args.scale.now c.args.lanes.now c.args.trace.now.list ++ each_lane (lane_front c.args.table.now) 0 c.args.lanes.now
     ++ axes_text c.args.scale.now c.args.bottom ++ unobserved_text c.args.scale.now c.args.bottom horizon
     ++ tints_text c.args.scale.now c.args.bottom c.args.trace.now.list ++ rows_text c.args.scale.now c.args.table.now c.args.trace.now.list (rows_of c.args.lanes.now)
-    ++ timers_text c.args.scale.now c.args.lanes.now c.args.table.now c.args.trace.now.list
+    ++ timers_text c.args.scale.now c.args.lanes.now c.args.table.now c.args.trace.now
     ++ breach_text c.args.scale.now c.args.lanes.now c.args.answer.now)) c.horizon-horizon.ensures.value
     (c.put_words.ensures ▸ paces ▸ loads ▸ c.put_fronts.ensures ▸ c.put_axes.ensures ▸ c.put_unobserved.ensures ▸ c.put_tints.ensures ▸ c.put_rows.ensures
     ▸ c.put_timers.ensures ▸ c.put_breach.ensures)

@@ -1,8 +1,6 @@
-use Rattle.std.proofs.Common.{arith, refl, ap, ◌∙◌}
+use Rattle.std.proofs.Common.{arith, refl}
 use Rattle.bus_command.specs.declared.outcome.Outcome.TheVariants.{Done}
 use Rattle.bus_command.proofs.DoLaws.{answered, roomless}
-use Rattle.bus_dump.specs.DumpTexts.{dump_text}
-use Rattle.bus_regime.specs.Lines.{verdict_words}
 use Rattle.bus_view.specs.Forms.{sources}
 use Rattle.bus_view.proofs.PaintLemmas.{dump_is}
 use Rattle.bus_view.proofs.drawing.draw_single.Goals as goal
