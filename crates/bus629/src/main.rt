@@ -8,7 +8,7 @@ ghost use Rattle.bus_tool.specs.Forms.{form_of};
 
 use bus_command::Status;
 use bus_outer::OutSink;
-use bus_program::{Sources, exit_number, sources_of, words};
+use bus_program::{FileSources, exit_number, sources_of, words};
 use bus_tool::tool;
 use std::alloc::Global;
 use std::env;
@@ -30,7 +30,7 @@ fn run<R: Runtime<A = Global>, O: Write + Drop, E: Write + Drop>(
     ensures usage { IfOk result (λ status. (status ≡ Status.Usage) ↔ IsNone (form_of (words_of words.now))) }
     ensures memory { IfErr result (λ status. status ≡ Status.NoMemory) }
 {
-    let Sources {
+    let FileSources {
         mut first,
         mut second,
     } = sources_of(rt, words)?;

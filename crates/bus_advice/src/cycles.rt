@@ -13,7 +13,7 @@ ghost use Rattle.bus_advice.specs.inside.InnerGaps.{IsShort};
 use crate::advice::Advice;
 use crate::limits::{LEAST_TI, MOST_SG, MOST_TG};
 use bus_strings::limits::WORD_BITS;
-use bus_table::{SendLine, Sender, Table, turn_at, turn_places};
+use bus_table::{MOST_SENDERS, SendLine, Sender, Table, turn_at, turn_places};
 use std::alloc::{AllocError, Global};
 
 /// The greatest transmit interval that the shortest cycle allows.
@@ -111,7 +111,7 @@ fn gap_advice(table: &Table, deficit: u32, sender: &Sender) -> Option<Advice>
 fn add_gaps(
     advices: &mut Vec<Advice>,
     table: &Table,
-    places: &[usize; 128],
+    places: &[usize; MOST_SENDERS],
     deficit: u32,
 ) -> Result<(), AllocError>
     requires turned { AreTurned table.now places.now }
@@ -157,7 +157,7 @@ fn add_lines(
 fn add_least(
     advices: &mut Vec<Advice>,
     table: &Table,
-    places: &[usize; 128],
+    places: &[usize; MOST_SENDERS],
     deficit: u32,
 ) -> Result<(), AllocError>
     requires turned { AreTurned table.now places.now }

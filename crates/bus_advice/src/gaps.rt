@@ -14,7 +14,7 @@ use crate::cycles::add;
 use crate::limits::MOST_TI;
 use bus_plan::least_interval;
 use bus_regime::{gap_at, turn_ends};
-use bus_table::{Table, turn_places};
+use bus_table::{MOST_SENDERS, Table, turn_places};
 use std::alloc::{AllocError, Global};
 
 /// What the first gap needs, by whether an inner gap has room for a synchronization gap and its sender's terminal gap, and by how many
@@ -35,7 +35,12 @@ fn width_for(sg: u32, tg: u32, room: bool, wide: usize) -> u32
 }
 
 /// The bit times that the first gap needs so that the table is accepted. None where no number is enough, since another gap is small.
-fn needed_width(table: &Table, places: &[usize; 128], ends: &[u64; 128], tg: u32) -> Option<u32>
+fn needed_width(
+    table: &Table,
+    places: &[usize; MOST_SENDERS],
+    ends: &[u64; MOST_SENDERS],
+    tg: u32,
+) -> Option<u32>
     requires turned { AreTurned table.now places.now }
     requires ends { AreEnds table.now ends.now }
     requires tg { tg ≤ 256 }

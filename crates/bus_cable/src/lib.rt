@@ -24,7 +24,6 @@ mod reading;
 mod spots;
 mod writing;
 
-pub use bus_propagation::MOST_PLACE;
 pub use cable::{Cable, MOST_WAKE, Named};
 pub use error::CableError;
 pub use heard::write_heard;

@@ -1,3 +1,4 @@
+-- What the contracts of this crate cite.
 pub mod Statuses
 pub mod Words
 pub mod Kinds

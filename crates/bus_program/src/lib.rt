@@ -7,4 +7,4 @@ mod sources;
 
 pub use fates::exit_number;
 pub use gathering::words;
-pub use sources::{Sources, sources_of};
+pub use sources::{FileSources, sources_of};

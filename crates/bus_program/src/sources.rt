@@ -10,7 +10,7 @@ use std::rt::Files;
 
 /// The files of a command.
 #[derive(Drop)]
-pub struct Sources<'a, R: Files> {
+pub struct FileSources<'a, R: Files> {
     /// The file of the word behind the command.
     pub first: FileSource<'a, R>,
     /// The file of the word after that.
@@ -44,12 +44,12 @@ fn source<'a, R: Files>(
 /// # Errors
 ///
 /// `NoMemory`, where there is none for a path.
-pub fn sources_of<'a, R: Files>(rt: &'a R, words: &[String]) -> Result<Sources<'a, R>, Status>
+pub fn sources_of<'a, R: Files>(rt: &'a R, words: &[String]) -> Result<FileSources<'a, R>, Status>
     ensures first { IfOk result (λ sources. IsFileOf (slice_get (words_of words.now) 1) (file_of sources.first)) }
     ensures second { IfOk result (λ sources. IsFileOf (slice_get (words_of words.now) 2) (file_of sources.second)) }
     ensures memory { IfErr result (λ status. status ≡ Status.NoMemory) }
 {
-    Ok(Sources {
+    Ok(FileSources {
         first: source(rt, words, 1)?,
         second: source(rt, words, 2)?,
     })

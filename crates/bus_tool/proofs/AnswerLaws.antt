@@ -54,7 +54,7 @@ table_answered Witness table = refl
 table_answered Plan table = written_plan (plan_of table)
 
 -- ---- their stages
-answer_late : (o : Outcome) → kind_of o ≡ Answer → 2 ≤ stage_of (kind_of o)
+pub answer_late : (o : Outcome) → kind_of o ≡ Answer → 2 ≤ stage_of (kind_of o)
 answer_late o h = subst (λ k. 2 ≤ stage_of k) (sym h) (omega arith)
 
 pub table_late : (command : TableCommand) (table : Table) → 2 ≤ stage_of (kind_of (table_answer command table))
@@ -96,16 +96,6 @@ pub messages_late : (command : MessagesCommand) (table : Table) (hands : List Ha
 messages_late (Observe horizon) table hands = omega arith
 messages_late Run table hands = stage_with 2 done_with (omega arith) done_late (can_run table hands) (let s = run_stage table hands in omega (arith, s))
 messages_late Drop table hands = stage_with 2 done_with (omega arith) done_late (can_drop table hands) (let s = drop_stage table hands in omega (arith, s))
-
-spaced_late : (r : Result (Unit {0}) WaveFault) → 2 ≤ stage_of (kind_of (spaced_outcome r))
-spaced_late (Ok u) = omega arith
-spaced_late (Err fault) = omega arith
-
-pub trace_late : (command : TraceCommand) (table : Table) (trace : Recording) → 2 ≤ stage_of (kind_of (trace_answer command table trace))
-trace_late Receive table trace = omega arith
-trace_late Audit table trace = answer_late (audit_outcome (answer_of table trace)) (written_audit (answer_of table trace))
-trace_late Vote table trace = omega arith
-trace_late Wave table trace = spaced_late (spaced_of table trace)
 
 -- ---- ends of schedules
 pub short_end : (end : ℕ) → end ≤ longest_end → short_due end ≡ Ok tt

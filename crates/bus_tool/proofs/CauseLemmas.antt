@@ -34,6 +34,7 @@ use Rattle.bus_tool.specs.Refusals.{Outcome, ToolRefusal}
 use Rattle.bus_tool.proofs.AnswerLaws.{done_with}
 use Rattle.bus_tool.proofs.ModeLemmas.{mode_read, mode_cause}
 use Rattle.bus_tool.proofs.RunCauses.{NotRun, Differ, Refused, Longer, run_err, NotDropped, Undropped, Shorter, Overlong, drop_err}
+use Rattle.bus_tool.proofs.TraceAnswers.{trace_answer_cause}
 use Rattle.bus_tool.proofs.WaveLemmas.{wave_cause}
 use Rattle.bus_tool.specs.Due.{cable_answer, cable_due}
 use Rattle.bus_tool.proofs.CableLemmas.{CableLaws, cable_cause}
@@ -54,10 +55,6 @@ verdict_cause form first second (NoSync terminal gap needed) = tt
 plan_cause : (form : Form) (first second : List ℕ) (answer : PlanAnswer) → RefusesTexts (Cause form) (plan_outcome answer) first second
 plan_cause form first second (Planned table) = tt
 plan_cause form first second (Infeasible least ti) = tt
-
-audit_cause : (form : Form) (first second : List ℕ) (answer : AuditAnswer) → RefusesTexts (Cause form) (audit_outcome answer) first second
-audit_cause form first second (Lawful collided) = tt
-audit_cause form first second (Breach moment terminal kind) = tt
 
 table_answer_cause : (form : Form) (command : TableCommand) (first second : List ℕ) (table : Table) → RefusesTexts (Cause form) (table_answer command table) first second
 table_answer_cause form Check first second table = verdict_cause form first second (verdict_of table)
@@ -139,26 +136,6 @@ traced_cause laws form first second o h = elim (traced_stop {R = ToolRefusal} an
   | inl e ↦ table_cause laws (Cause form) first second o e
   | inr w ↦ trace_cause laws (Cause form) first second o w.2
 ]
-
-spaced_cause : CauseLaws → (form : Form) (first second : List ℕ) (traced : Traced) (r : Result (Unit {0}) WaveFault)
-    → traced_due {R = ToolRefusal} first second ≡ Ok traced → spaced_of traced.table traced.trace ≡ r → RefusesTexts (Cause form) (spaced_outcome r) first second
-spaced_cause laws form first second traced (Ok u) h e = tt
-spaced_cause laws form first second traced (Err fault) h e =
-    let read = traced_read {R = ToolRefusal} any_trace first second traced h in
-    record {
-      table = traced.table;
-      trace = traced.trace;
-      table_is = table_valid {R = ToolRefusal} laws first traced.table read.table_is;
-      trace_stands = read_trace {R = ToolRefusal} laws.trace_only second traced.trace read.trace_is;
-      why = e;
-    }
-
-trace_answer_cause : CauseLaws → (command : TraceCommand) (first second : List ℕ) (traced : Traced) → traced_due {R = ToolRefusal} first second ≡ Ok traced
-    → RefusesTexts (Cause (OnTrace command)) (traced_answer command traced) first second
-trace_answer_cause laws Receive first second traced h = tt
-trace_answer_cause laws Audit first second traced h = audit_cause (OnTrace Audit) first second (answer_of traced.table traced.trace)
-trace_answer_cause laws Vote first second traced h = tt
-trace_answer_cause laws Wave first second traced h = spaced_cause laws (OnTrace Wave) first second traced (spaced_of traced.table traced.trace) h refl
 
 -- ---- the forms
 unwave_cause : CauseLaws → WavesReadBack → (first second : List ℕ) (o : Outcome) → unwave_due first second ≡ Err o → RefusesTexts (Cause Unwave) o first second

@@ -14,7 +14,7 @@ use Rattle.json.specs.Print.{escape_letter, escape_byte, escape}
 use Rattle.bus_table.specs.declared.mode.Mode.{Mode}
 use Rattle.bus_table.specs.declared.mode.Mode.TheVariants.{Aperiodic, Periodic}
 use Rattle.bus_table.specs.Text.{mode_word}
-use Rattle.bus_tool.specs.Escapes.{is_plain, are_plain}
+use Rattle.bus_tool.specs.inside.Escapes.{is_plain, are_plain}
 
 both : (a b : Bool) → a ≡ true → b ≡ true → (a && b) ≡ true
 both true true h k = refl

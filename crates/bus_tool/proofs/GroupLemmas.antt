@@ -18,7 +18,8 @@ use Rattle.bus_tool.specs.Due.{refusal_for, table_for, table_answer, messages_an
 use Rattle.bus_tool.specs.Forms.{TableCommand, MessagesCommand, TraceCommand}
 use Rattle.bus_tool.specs.Refusals.{Outcome}
 use Rattle.bus_tool.specs.Texts.{table_answer_text, IsTableText, IsMessagesText, IsInputsText, trace_answer_text, IsTracedText, IsUnwavedText}
-use Rattle.bus_tool.proofs.AnswerLaws.{messages_late, trace_late}
+use Rattle.bus_tool.proofs.AnswerLaws.{messages_late}
+use Rattle.bus_tool.proofs.TraceAnswers.{trace_late}
 
 pub table_agrees : (command : TableCommand) (table : Table)
     → Agrees Same (table_answer command) (IsTableText command) table (table_answer command table) (λ text. text ≡ table_answer_text command table)

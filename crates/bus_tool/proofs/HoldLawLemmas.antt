@@ -14,7 +14,7 @@ use Rattle.bus_table.specs.Turns.{Differ}
 use Rattle.bus_table.proofs.TurnLaws.{of_each, numbers_differ}
 use Rattle.bus_trace.specs.declared.hold.Hold.{Hold}
 use Rattle.bus_wave.specs.Counted.{hand_hold, hand_holds}
-use Rattle.bus_tool.specs.Texts.{hold_of}
+use Rattle.bus_wave.specs.Counted.{hold_of_hand}
 use Rattle.bus_tool.specs.TextLaws.{SendersHaveHolds}
 use Rattle.bus_tool.proofs.HoldLemmas.{holds_ascend}
 
@@ -42,10 +42,10 @@ in_range n start (suc count) low high =
 
 -- ---- the hand of a terminal
 -- what is found is a hand
-found_in : (number : ℕ) (hands : List Hand) (hold : Hold) → hand_hold hands number ≡ Some hold → (hand : Hand) × In hand hands × (hold ≡ hold_of hand)
+found_in : (number : ℕ) (hands : List Hand) (hold : Hold) → hand_hold hands number ≡ Some hold → (hand : Hand) × In hand hands × (hold ≡ hold_of_hand hand)
 found_in number [] hold e = absurd (cc)
 found_in number (hand ∷ hands) hold e =
-    elim (hand.terminal == number) as (λ b. option_map hold_of (cond b (Some hand) (find (λ h. h.terminal == number) hands)) ≡ Some hold → (other : Hand) × In other (hand ∷ hands) × (hold ≡ hold_of other)) [
+    elim (hand.terminal == number) as (λ b. option_map hold_of_hand (cond b (Some hand) (find (λ h. h.terminal == number) hands)) ≡ Some hold → (other : Hand) × In other (hand ∷ hands) × (hold ≡ hold_of_hand other)) [
       | true ↦ λ k. (hand, inl refl, (cc))
       | false ↦ λ k. (let w = found_in number hands hold k in (w.0, inr w.1, w.2))
     ] e
@@ -68,16 +68,16 @@ is_found items (other ∷ senders) sender d (inr i) =
     subst (λ b. cond b (Some (hand_of items other)) (find (λ h. h.terminal == sender.number) (map (hand_of items) senders)) ≡ Some (hand_of items sender)) (sym e) (is_found items senders sender d.1 i)
 
 -- ---- the holds
-each_hold : (table : Table) (items : List Item) → TableFacts table → (hand : Hand) → In hand (hands_of table items) → In (hold_of hand) (hand_holds (hands_of table items))
+each_hold : (table : Table) (items : List Item) → TableFacts table → (hand : Hand) → In hand (hands_of table items) → In (hold_of_hand hand) (hand_holds (hands_of table items))
 unfolding hand_holds
 each_hold table items facts hand i =
     let w = sender_of items table.senders hand i in
     let sender : Sender = w.0 in
     let number = of_each (SenderFacts table) table.senders facts.senders sender w.1 in
-    let found : hand_hold (hands_of table items) sender.number ≡ Some (hold_of hand) = ap (option_map hold_of) (is_found items table.senders sender (numbers_differ table facts) w.1 ∙ ap Some (sym w.2)) in
-    in_kept (hand_hold (hands_of table items)) (range_with_len 1 128) sender.number (hold_of hand) (in_range sender.number 1 128 number.number_least (omega (arith, number.number_most))) found
+    let found : hand_hold (hands_of table items) sender.number ≡ Some (hold_of_hand hand) = ap (option_map hold_of_hand) (is_found items table.senders sender (numbers_differ table facts) w.1 ∙ ap Some (sym w.2)) in
+    in_kept (hand_hold (hands_of table items)) (range_with_len 1 128) sender.number (hold_of_hand hand) (in_range sender.number 1 128 number.number_least (omega (arith, number.number_most))) found
 
-only_holds : (hands : List Hand) (hold : Hold) → In hold (hand_holds hands) → (hand : Hand) × In hand hands × (hold ≡ hold_of hand)
+only_holds : (hands : List Hand) (hold : Hold) → In hold (hand_holds hands) → (hand : Hand) × In hand hands × (hold ≡ hold_of_hand hand)
 unfolding hand_holds
 only_holds hands hold i = (let w = from_kept (hand_hold hands) (range_with_len 1 128) hold i in found_in w.0 hands hold w.1)
 

@@ -11,7 +11,7 @@ use Rattle.bus_trace.specs.Traces.{AscendAbove, IsHold}
 use Rattle.bus_command.specs.Readers.{text_limit}
 use Rattle.bus_command.proofs.FewHands.{AreFew}
 use Rattle.bus_wave.specs.Counted.{hand_hold, hand_holds}
-use Rattle.bus_tool.specs.Texts.{hold_of}
+use Rattle.bus_wave.specs.Counted.{hold_of_hand}
 
 -- one number more
 range_more : (a n : ℕ) → range_with_len a (suc n) ≡ range_with_len a n ++ (a + n) ∷ []
@@ -39,7 +39,7 @@ holds_all hands number holds last h = (let e : number - 1 ≡ 128 = omega arith 
 numbered : (hands : List Hand) (n : ℕ) → IfSome (hand_hold hands n) (λ hold. hold.terminal ≡ n)
 numbered [] n = tt
 numbered (hand ∷ hands) n =
-    elim (hand.terminal == n) as (λ b. (hand.terminal == n) ≡ b → IfSome (option_map hold_of (cond b (Some hand) (find (λ h. h.terminal == n) hands))) (λ hold. hold.terminal ≡ n)) [
+    elim (hand.terminal == n) as (λ b. (hand.terminal == n) ≡ b → IfSome (option_map hold_of_hand (cond b (Some hand) (find (λ h. h.terminal == n) hands))) (λ hold. hold.terminal ≡ n)) [
       | true ↦ λ e. grind (arith, nat_tests)
       | false ↦ λ e. numbered hands n
     ] refl
@@ -48,7 +48,7 @@ numbered (hand ∷ hands) n =
 counted : (hands : List Hand) (n : ℕ) → AreFew hands → IfSome (hand_hold hands n) (λ hold. hold.count ≤ text_limit)
 counted [] n few = tt
 counted (hand ∷ hands) n few =
-    elim (hand.terminal == n) as (λ b. IfSome (option_map hold_of (cond b (Some hand) (find (λ h. h.terminal == n) hands))) (λ hold. hold.count ≤ text_limit)) [
+    elim (hand.terminal == n) as (λ b. IfSome (option_map hold_of_hand (cond b (Some hand) (find (λ h. h.terminal == n) hands))) (λ hold. hold.count ≤ text_limit)) [
       | true ↦ few.0
       | false ↦ counted hands n few.1
     ]

@@ -1,3 +1,4 @@
+-- The lemmas of this crate; those that a crate above may cite are public.
 pub mod FormLemmas
 pub mod HoldLemmas
 pub mod HoldLawLemmas
@@ -8,6 +9,7 @@ pub mod EscapeLemmas
 pub mod ReportTexts
 pub mod DrillLemmas
 pub mod AnswerLaws
+pub mod TraceAnswers
 pub mod GroupLemmas
 pub mod ModeLemmas
 pub mod WaveLemmas

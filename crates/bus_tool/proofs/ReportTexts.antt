@@ -15,9 +15,9 @@ use Rattle.bus_table.proofs.TurnLaws.{length-sort}
 use Rattle.bus_regime.specs.Lines.{verdict_words}
 use Rattle.bus_table.specs.Text.{mode_word}
 use Rattle.bus_regime.specs.Verdicts.{verdict_of}
-use Rattle.bus_tool.specs.Escapes.{are_plain}
+use Rattle.bus_tool.specs.inside.Escapes.{are_plain}
 use Rattle.bus_tool.specs.Reports.{sender_text, senders_text, report_text}
-use Rattle.bus_tool.specs.ReportData.{sender_data, report_data}
+use Rattle.bus_tool.specs.inside.ReportData.{sender_data, report_data}
 use Rattle.bus_tool.proofs.EscapeLemmas.{stays, mode_plain}
 
 -- ---- a sender

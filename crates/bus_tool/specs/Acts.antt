@@ -1,5 +1,6 @@
 -- What the program bus629 does.
-use Rattle.std.specs.Prelude.{◌≡◌, ℕ, List, Option, Some, None}
+use Rattle.std.specs.Prelude.{◌≡◌, ℕ, List, Option, Some, None, String}
+use Rattle.std.specs.declared.alloc.Global.{Global}
 use Rattle.bus_outer.specs.declared.sink.Sink.{Ghosts as SinkGhosts}
 use Rattle.bus_outer.specs.declared.source.Source.{Ghosts as SourceGhosts}
 use Rattle.bus_table.specs.Tables.{Table, Hand}
@@ -10,7 +11,7 @@ use Rattle.bus_command.specs.Acts.{Ends, Program, TellsLine}
 use Rattle.bus_command.specs.declared.outcome.Outcome.TheVariants.{Done}
 use Rattle.bus_command.specs.declared.status.Status.{Status}
 use Rattle.bus_cable.specs.Cables.{Cable}
-use Rattle.bus_command.specs.Outside.{Call, Outside, Seen, beside, outside, sink_seen}
+use Rattle.bus_command.specs.Outside.{Call, Outside, Seen, beside, call, outside, sink_seen}
 use Rattle.bus_command.specs.Readers.{entire, one_source, by_trace, two_sources}
 use Rattle.bus_tool.specs.Causes.{Cause}
 use Rattle.bus_tool.specs.Due.{form_due, first_refusal, table_answer, messages_answer, trace_answer}
@@ -86,3 +87,9 @@ EndsOnCable ghosts horizon table cable hands old new outcome =
 abbrev pub Comes : {E : Type 0} → SinkGhosts E → Call → E → E → Status → Type 0
 Comes err call old new status =
     (outcome : Outcome) × Acts call outcome × TellsLine err.held err.faults old new (fault_line outcome) × (status ≡ status_of outcome)
+
+-- What the call of these words came to, between two sources, a sink and the sink of its line before and after.
+abbrev pub ComesOf :
+    {S K E : Type 0} → SourceGhosts S → SinkGhosts K → SinkGhosts E → List (String Global) → S → S → K → E → S → S → K → E → Status → Type 0
+ComesOf source sink err words first second out told later_first later_second later_out later_told status =
+    Comes err (call source sink words first second out later_first later_second later_out) told later_told status

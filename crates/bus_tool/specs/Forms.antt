@@ -30,7 +30,7 @@ is_drill_number word = is_plain_decimal word && nat_le (decimal_value word) most
 abbrev pub one_word : List ℕ → Option Form
 one_word word = option_map OnItself (about_of word)
 
--- `check T`, `tolerance T`, `tidy T`, `report T`, `witness T`, `plan T`, `explain T`, `drill N`
+-- `check T`, `tolerance T`, `tidy T`, `report T`, `witness T`, `plan T`, `explain T`, `drill N`.
 abbrev pub two_words : List ℕ → List ℕ → Option Form
 two_words command second =
     if bytes_eq command (codes "check") then Some (OnTable Check)
@@ -43,7 +43,7 @@ two_words command second =
     else if bytes_eq command (codes "drill") && is_drill_number second then Some (Drill (decimal_value second))
     else None
 
--- `run T M`, `drop T M`, `receive T R`, `audit T R`, `vote T R`, `wave T R`, `unwave T W`
+-- `run T M`, `drop T M`, `receive T R`, `audit T R`, `vote T R`, `wave T R`, `unwave T W`.
 abbrev pub three_words : List ℕ → Option Form
 three_words command =
     if bytes_eq command (codes "run") then Some (OnMessages Run)

@@ -1,13 +1,12 @@
+-- What the contracts of this crate cite.
 pub mod Itself
 pub mod Forms
 pub mod Refusals
 pub mod Due
 pub mod Reports
-pub mod ReportData
 pub mod PlanTexts
 pub mod Drills
 pub mod DrillLaws
-pub mod Escapes
 pub mod Tolerances
 pub mod Texts
 pub mod Causes

@@ -1,6 +1,6 @@
 -- What the commands write on `out`, where their outcome is an answer.
 --   hold   how many messages a terminal held when the bus began to run: a line of a trace
-use Rattle.std.specs.Prelude.{◌≡◌, ℕ, List, ◌++◌, length, Option, Some, None}
+use Rattle.std.specs.Prelude.{◌≡◌, ℕ, List, ◌++◌, Option, Some, None}
 use Rattle.bus_strings.specs.Canonical.{messages_text}
 use Rattle.bus_table.specs.Tables.{Table, Hand}
 use Rattle.bus_table.specs.Canonical.{table_text}
@@ -21,7 +21,6 @@ use Rattle.bus_schedule.specs.Runs.{IsRun}
 use Rattle.bus_audit.specs.Breaches.{answer_of}
 use Rattle.bus_audit.specs.Lines.{answer_line}
 use Rattle.bus_filter.specs.ReceivedTexts.{received_text}
-use Rattle.bus_trace.specs.declared.hold.Hold.{Hold}
 use Rattle.bus_trace.specs.Traces.{Recording, trace_text}
 use Rattle.bus_vote.specs.VoteTexts.{votes_text}
 use Rattle.bus_wave.specs.Counted.{hand_holds}
@@ -41,10 +40,6 @@ use Rattle.bus_tool.specs.Reports.{report_text}
 use Rattle.bus_tool.specs.PlanTexts.{plan_text}
 use Rattle.bus_tool.specs.Tolerances.{tolerance_text}
 
--- The number of a hand's terminal and how many messages it has.
-abbrev pub hold_of : Hand → Hold
-hold_of hand = record { terminal = hand.terminal; count = length hand.messages }
-
 -- The recording of the senders of a table up to a horizon: what each of them held, and the lawful list.
 pub record IsObserved (table : Table) (hands : List Hand) (until : ℕ) (recording : Recording) : Type 0 where
   pub horizon : recording.horizon ≡ until
@@ -63,7 +58,8 @@ pub record IsDropRecording (table : Table) (hands : List Hand) (recording : Reco
   pub holds : recording.holds ≡ hand_holds hands
   pub run : IsDropRun table hands recording.list
 
--- The recording of the senders of a table on a cable up to a horizon: what each of them held, and the lawful list with its delays and wakes
+-- The recording of the senders of a table on a cable up to a horizon: what each of them held, and the lawful list with its delays and
+-- wakes.
 pub record IsOnCable (table : Table) (cable : cables.Cable) (hands : List Hand) (until : ℕ) (recording : Recording) : Type 0 where
   pub horizon : recording.horizon ≡ until
   pub holds : recording.holds ≡ hand_holds hands

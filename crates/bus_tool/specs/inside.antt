@@ -1,2 +1,4 @@
 -- What only contracts of private functions and proofs name: not to be read for what is promised.
+pub mod Escapes
+pub mod ReportData
 pub mod TakenCable

@@ -3,8 +3,7 @@ ghost use Rattle.std.specs.Prelude.{◌≡◌, ◌==◌, ◌≤◌, ◌++◌, fi
 ghost use Rattle.std.specs.List.{AllByRecursion};
 ghost use Rattle.std.specs.Option.{option_copied, option_to_list};
 ghost use Rattle.bus_command.specs.Readers.{text_limit};
-ghost use Rattle.bus_wave.specs.Counted.{hand_hold, hand_holds};
-ghost use Rattle.bus_tool.specs.Texts as texts;
+ghost use Rattle.bus_wave.specs.Counted.{hand_hold, hand_holds, hold_of_hand};
 
 use bus_strings::limits::MOST_TERMINAL;
 use bus_table::Hand;
@@ -23,7 +22,7 @@ fn hand_at(hands: &[Hand], number: u8) -> Option<&Hand>
 /// How many messages a hand has, and whose it is.
 fn hold_of(hand: &Hand) -> Hold
     requires { length hand.now.messages ≤ text_limit }
-    ensures { result ≡ texts.hold_of hand.now }
+    ensures { result ≡ hold_of_hand hand.now }
 {
     Hold {
         terminal: hand.terminal,

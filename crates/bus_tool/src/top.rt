@@ -1,6 +1,6 @@
 //! The top call.
 ghost use Rattle.bus_command.specs.Outside.{call};
-ghost use Rattle.bus_tool.specs.Acts.{Comes};
+ghost use Rattle.bus_tool.specs.Acts.{ComesOf};
 ghost use Rattle.bus_tool.specs.Promises.{Promises};
 
 use crate::command::act;
@@ -37,13 +37,12 @@ pub fn tool<S: Source, K: Sink, E: Sink>(
     err: &mut E,
 ) -> Status
     // Of texts that are right, where nothing outside fails: what each command promises.
-    ensures keeps { Promises (call ⟦<S as Source>⟧ ⟦<K as Sink>⟧ words.now first.old second.old out.old
-        first.new second.new out.new) result }
+    ensures keeps { Promises (call S.Source K.Sink words.now first.old second.old out.old first.new second.new out.new) result }
 
     // Of any words and bytes: the outcome that is due or a fault in its place, what was taken and written, what `err` holds, and the
     // status.
-    ensures acts { Comes ⟦<E as Sink>⟧ (call ⟦<S as Source>⟧ ⟦<K as Sink>⟧ words.now first.old second.old out.old
-        first.new second.new out.new) err.old err.new result }
+    ensures acts { ComesOf S.Source K.Sink E.Sink words.now first.old second.old out.old err.old
+        first.new second.new out.new err.new result }
 {
     text_reads_as_its_table();
     texts_read_as_their_items();

@@ -20,7 +20,7 @@ use Rattle.bus_wave.specs.declared.symbol.Symbol.TheVariants as symbol
 use Rattle.bus_wave.specs.inside.Capped.{capped}
 use Rattle.bus_wave.specs.Code.{digits_of, frame_halves}
 use Rattle.bus_wave.specs.inside.Digits.{code_digit, code_digits, first_digit, second_digit, frame_with}
-use Rattle.bus_wave.specs.Gives.{HasLine}
+use Rattle.bus_wave.specs.inside.Parts.{HasLine}
 use Rattle.bus_wave.specs.inside.Puts.{word_put}
 use Rattle.bus_wave.specs.Symbols.{fields_of, symbol_reading}
 use Rattle.bus_wave.specs.Waves.{word_halves}

@@ -11,7 +11,7 @@ use Rattle.bus_text.specs.Lines.{is_feed}
 use Rattle.bus_text.specs.Numbers.{is_plain_decimal, decimal_value}
 use Rattle.bus_wave.specs.declared.symbol.Symbol.TheVariants as symbol
 use Rattle.bus_wave.specs.inside.Capped.{capped}
-use Rattle.bus_wave.specs.Gives.{HasLine}
+use Rattle.bus_wave.specs.inside.Parts.{HasLine}
 use Rattle.bus_wave.proofs.TextLemmas.{plain_reads, plain_feedless, line_split}
 
 -- digits that don't begin with a 0 are a plain decimal

@@ -26,7 +26,8 @@ use Rattle.bus_text.specs.declared.fault.LineFault.{LineFault}
 use Rattle.bus_text.specs.declared.fault.LineFault.TheVariants as fault
 use Rattle.bus_wave.specs.declared.fault.WaveError.{WaveError}
 use Rattle.bus_text.specs.inside.Gives.{LineFails}
-use Rattle.bus_wave.specs.Gives.{Fails, Gives, fault_at}
+use Rattle.bus_wave.specs.Gives.{Fails, Gives}
+use Rattle.bus_wave.specs.inside.Parts.{fault_at}
 use Rattle.bus_wave.specs.declared.symbol.Symbol.{Symbol}
 use Rattle.bus_wave.specs.declared.symbol.Symbol.TheVariants as symbol
 use Rattle.bus_wave.specs.Code.{digits_of}

@@ -24,10 +24,13 @@ hold_at senders list number = hold_of senders number (entries_of list number)
 unfoldable pub holds_of : Table → List Entry → List Hold
 holds_of table list = filter_map (hold_at table.senders list) (range_with_len 1 most_terminal)
 
--- The hold of the hand of the terminal with a number, where there is one: how many messages it has.
+-- The number of a hand's terminal and how many messages it has.
+abbrev pub hold_of_hand : Hand → Hold
+hold_of_hand hand = record { terminal = hand.terminal; count = length hand.messages }
+
+-- The hold of the hand of the terminal with a number, where there is one.
 abbrev pub hand_hold : List Hand → ℕ → Option Hold
-hand_hold hands number =
-    option_map (λ hand. record { terminal = hand.terminal; count = length hand.messages }) (find (λ hand. hand.terminal == number) hands)
+hand_hold hands number = option_map hold_of_hand (find (λ hand. hand.terminal == number) hands)
 
 -- The holds of hands, by rising number.
 unfoldable pub hand_holds : List Hand → List Hold

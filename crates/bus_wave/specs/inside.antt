@@ -3,4 +3,5 @@ pub mod Beginning
 pub mod Capped
 pub mod Digits
 pub mod Drafts
+pub mod Parts
 pub mod Puts

@@ -1,6 +1,6 @@
 //! A message and its wordstrings, made of what the lines gave.
 ghost use Rattle.std.specs.Prelude.{◌≡◌, ◌<◌, ◌≤◌, ◌++◌, ◌∷◌, [], length, IfOk, OnOk};
-ghost use Rattle.bus_strings.specs.Limits.{most_strings};
+ghost use Rattle.bus_strings.specs.Limits.{most_short, most_strings};
 ghost use Rattle.bus_wave.specs.Judging.{string_of};
 
 use bus_strings::{Message, SHORT, Wordstring};
@@ -10,7 +10,7 @@ use std::mem::replace;
 
 /// The wordstring of a SEND line and of a few data words: no more than it keeps in itself.
 fn short_string(line: SendLine, words: &[u16]) -> Wordstring
-    requires { length words.now ≤ 12 }
+    requires { length words.now ≤ most_short }
     ensures { result ≡ string_of line words.now }
 {
     if words.is_empty() {

@@ -4,7 +4,7 @@ ghost use Rattle.std.specs.Prelude.{◌≡◌, ◌+◌, ◌*◌, ◌/◌, ◌<�
 ghost use Rattle.bus_wave.specs.declared.symbol.Symbol.TheVariants.{Quiet};
 ghost use Rattle.bus_wave.specs.Code.{digits_of};
 ghost use Rattle.bus_wave.specs.inside.Digits as spec;
-ghost use Rattle.bus_wave.specs.Gives.{HasLine};
+ghost use Rattle.bus_wave.specs.inside.Parts.{HasLine};
 ghost use Rattle.bus_wave.specs.inside.Puts.{word_put};
 ghost use Rattle.bus_wave.specs.Waves.{word_halves};
 

@@ -4,7 +4,7 @@ ghost use Rattle.std.specs.Prelude.{MatchOption, IfOk, IfErr, false, true, lengt
 ghost use Rattle.std.specs.Prelude.{Ok, Err, if◌then◌else◌};
 ghost use Rattle.bus_wave.specs.Symbols.{fields_of, head_reading, symbol_reading, word_reading, quiet_reading};
 ghost use Rattle.bus_wave.specs.inside.Capped.{capped};
-ghost use Rattle.bus_wave.specs.Gives.{HasLine};
+ghost use Rattle.bus_wave.specs.inside.Parts.{HasLine};
 ghost use Rattle.bus_text.specs.Lines.{is_feed};
 ghost use Rattle.std.specs.List.{slice_split};
 

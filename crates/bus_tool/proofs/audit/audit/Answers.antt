@@ -7,7 +7,8 @@ use Rattle.bus_audit.specs.Breaches.{answer_of}
 use Rattle.bus_audit.specs.Lines.{answer_line}
 use Rattle.bus_tool.specs.Due.{audit_outcome}
 use Rattle.bus_tool.specs.Forms.{Audit}
-use Rattle.bus_tool.proofs.AnswerLaws.{written_audit, trace_late}
+use Rattle.bus_tool.proofs.AnswerLaws.{written_audit}
+use Rattle.bus_tool.proofs.TraceAnswers.{trace_late}
 use Rattle.bus_tool.proofs.audit.audit.Goals as goal
 
 pub returns-in-Ok : goal.returns-in-Ok

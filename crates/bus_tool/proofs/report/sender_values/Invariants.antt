@@ -1,7 +1,7 @@
 use Rattle.std.proofs.Common.{◌≡◌, map, take}
 use Rattle.serde_json.specs.View.{view}
 use Rattle.bus_table.specs.Turns.{turn_order}
-use Rattle.bus_tool.specs.ReportData.{sender_data}
+use Rattle.bus_tool.specs.inside.ReportData.{sender_data}
 use Rattle.bus_tool.proofs.report.sender_values.Given as goal
 
 abbrev pub invariant-loop-k : goal.invariant-loop-k

@@ -9,7 +9,8 @@ use Rattle.bus_wave.specs.declared.fault.WaveError.{WaveError}
 use Rattle.bus_wave.specs.Counted.{holds_of}
 use Rattle.bus_wave.specs.inside.Drafts.{state_of}
 use Rattle.bus_text.specs.inside.Gives.{LineFails}
-use Rattle.bus_wave.specs.Gives.{Fails, fault_at}
+use Rattle.bus_wave.specs.Gives.{Fails}
+use Rattle.bus_wave.specs.inside.Parts.{fault_at}
 use Rattle.bus_wave.specs.declared.fault.WaveReason.{WaveReason}
 use Rattle.bus_wave.specs.Judging.{State, opening}
 use Rattle.bus_wave.specs.Reading.{WaveRefusal, judge, pieces_reading}

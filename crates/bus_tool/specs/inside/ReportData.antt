@@ -10,7 +10,7 @@ use Rattle.bus_regime.specs.Lines.{verdict_words}
 use Rattle.bus_table.specs.Text.{mode_word}
 use Rattle.bus_regime.specs.Verdicts.{verdict_of}
 use Rattle.bus_regime.specs.declared.table_verdict.TableVerdict.{TableVerdict}
-use Rattle.bus_tool.specs.Escapes.{are_plain}
+use Rattle.bus_tool.specs.inside.Escapes.{are_plain}
 
 -- A number.
 abbrev pub count_data : ℕ → Data
