@@ -87,9 +87,13 @@ fn a_text_may_end_behind_each_line_and_not_before_the_first(rt: HostRuntime) {
     );
 }
 
+/// A text, its first wrong line, and the first reason there.
+type Case<'a> = (&'a [u8], u64, Reason);
+
+/// Of the first wrong line, where it is a header or a place, also one behind a wake.
 #[test]
-fn the_first_reason_of_the_first_wrong_line_is_told(rt: HostRuntime) {
-    let cases: [(&[u8], u64, Reason); 30] = [
+fn the_first_reason_of_a_wrong_header_or_place_is_told(rt: HostRuntime) {
+    let cases: [Case<'_>; 17] = [
         (b"MESSAGES 1\n", 1, Reason::Keyword),
         (b"\n\nCABLE 2\n", 3, Reason::Fields),
         (b"CABLE 1 1\n", 1, Reason::Fields),
@@ -107,6 +111,17 @@ fn the_first_reason_of_the_first_wrong_line_is_told(rt: HostRuntime) {
         (b"CABLE 1\nPLACE 1 1\nPLACE 1 1\n", 3, Reason::Range),
         (b"CABLE 1\nPLACE 2 1\nPLACE 1 1\n", 3, Reason::Range),
         (b"CABLE 1\nWAKE 1 1\nPLACE 1 1\n", 3, Reason::Keyword),
+    ];
+    for (text, line, reason) in cases {
+        let outcome = read_cable(rt.alloc(), text);
+        assert_eq!(rt; refusal(&outcome), Some((line, reason)));
+    }
+}
+
+/// Of the first wrong line, where it is a wake or an item, or stands behind an item.
+#[test]
+fn the_first_reason_of_a_wrong_wake_or_item_is_told(rt: HostRuntime) {
+    let cases: [Case<'_>; 13] = [
         (b"CABLE 1\nWAKE 1\n", 2, Reason::Fields),
         (b"CABLE 1\nWAKE 1 1 1\n", 2, Reason::Fields),
         (b"CABLE 1\nWAKE 1 -1\n", 2, Reason::Spelling),

@@ -122,12 +122,14 @@ fn two_senders_hear_each_other_later(rt: HostRuntime) -> Result<(), Fail> {
 const LATE_SENDERS: &str =
     "TABLE 1\nMODE aperiodic\nTI 1000\nSG 1000\nSENDER 1 TG 20\nSEND 0A1 1 2 2\nSENDER 2 TG 30\nSEND 0B2 1 0 2\n";
 
-/// Who wakes late, in the middle of a message or between two, takes its turn in the first round that it hears begin. Both
-/// cold: they begin at once, and then never again.
+const THREE_ROUNDS: &str =
+    "MESSAGES 1\nMSG 1 : 0000 0000\nMSG 2 : 0000\nMSG 1 : 0000 0000\nMSG 2 : 0000\nMSG 1 : 0000 0000\nMSG 2 : 0000\n";
+
+/// Who wakes late, between two messages, begins before the other, with it, or behind it.
 #[test]
-fn terminals_join_when_they_wake(rt: HostRuntime) -> Result<(), Fail> {
+fn a_terminal_joins_between_two_messages(rt: HostRuntime) -> Result<(), Fail> {
     let alloc = rt.alloc();
-    let to: [Run<'_>; 6] = [
+    let to: [Run<'_>; 3] = [
         (
             &[],
             &[1079],
@@ -146,12 +148,18 @@ fn terminals_join_when_they_wake(rt: HostRuntime) -> Result<(), Fail> {
             2250,
             &[(30, 2), (1100, 2), (1160, 1), (2240, 1)],
         ),
-        (
-            &[],
-            &[1010, 1000],
-            2300,
-            &[(1030, 1), (1030, 2), (2110, 1), (2200, 2)],
-        ),
+    ];
+    for run in to {
+        runs(&rt, alloc, LATE_SENDERS, THREE_ROUNDS, run)?;
+    }
+    Ok(())
+}
+
+/// Who wakes late, with a message or in the middle of it, takes its turn in the first round that it hears begin.
+#[test]
+fn a_terminal_joins_in_a_round_that_it_hears_begin(rt: HostRuntime) -> Result<(), Fail> {
+    let alloc = rt.alloc();
+    let to: [Run<'_>; 2] = [
         (&[], &[0, 1100], 2200, &[(20, 1), (1100, 1), (1190, 2)]),
         (
             &[],
@@ -160,12 +168,22 @@ fn terminals_join_when_they_wake(rt: HostRuntime) -> Result<(), Fail> {
             &[(20, 1), (1100, 1), (2180, 1), (2270, 2)],
         ),
     ];
-    let three_rounds =
-        "MESSAGES 1\nMSG 1 : 0000 0000\nMSG 2 : 0000\nMSG 1 : 0000 0000\nMSG 2 : 0000\nMSG 1 : 0000 0000\nMSG 2 : 0000\n";
     for run in to {
-        runs(&rt, alloc, LATE_SENDERS, three_rounds, run)?;
+        runs(&rt, alloc, LATE_SENDERS, THREE_ROUNDS, run)?;
     }
     Ok(())
+}
+
+/// Both cold: they begin at once, and then never again.
+#[test]
+fn two_cold_terminals_begin_at_once_and_then_take_turns(rt: HostRuntime) -> Result<(), Fail> {
+    let run: Run<'_> = (
+        &[],
+        &[1010, 1000],
+        2300,
+        &[(1030, 1), (1030, 2), (2110, 1), (2200, 2)],
+    );
+    runs(&rt, rt.alloc(), LATE_SENDERS, THREE_ROUNDS, run)
 }
 
 /// In periodic mode a delay is borne as long as each is ready by its offset.

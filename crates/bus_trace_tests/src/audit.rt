@@ -1,5 +1,5 @@
 //! Audits of worked traces.
-use bus_audit::BreachKind::{Early, Missing, Stranger, Unheld};
+use bus_audit::BreachKind::{Early, Misfit, Missing, Stranger, Unheld};
 use bus_audit::{AuditAnswer, BreachKind, audit};
 use bus_outer::MemorySource;
 use bus_table::read_table;
@@ -81,260 +81,284 @@ fn lawful(collided: u64) -> AuditAnswer {
     AuditAnswer::Lawful { collided }
 }
 
-/// A lawful trace, and one change each; two kinds at once; and a start inside a message.
+/// The HORIZON and HOLD lines of a trace, what was sent, and what the audit says.
+type Row<'a> = (&'a [u8], &'a [u8], AuditAnswer);
+
+/// A lawful trace, and one change each: a stranger sends, or a sender that held no message.
 #[test]
-fn each_kind_of_breach_is_told(rt: HostRuntime) -> Result<(), Fail> {
-    let rows: [(&[u8], &[u8], &[u8], AuditAnswer); 10] = [
+fn strangers_and_unheld_messages_are_told(rt: HostRuntime) -> Result<(), Fail> {
+    let rows: [Row<'_>; 4] = [
         (
-            LONG_GAPS,
             ONE_EACH,
             b"TX 20 1\nWS L0A111 D00001 D00001\nTX 110 2\nWS L0B210 D00001\n",
             lawful(0),
         ),
         (
-            LONG_GAPS,
             ONE_EACH,
             b"TX 10 4\nWS L0A111 D00001 D00001\nTX 20 1\nWS L0A111 D00001 D00001\nTX 110 2\nWS L0B210 D00001\n",
-            breach(10, 4, BreachKind::Stranger),
+            breach(10, 4, Stranger),
         ),
         (
-            LONG_GAPS,
             b"HORIZON 150\nHOLD 1 0\nHOLD 2 1\n",
             b"TX 20 1\nWS L0A111 D00001 D00001\nTX 110 2\nWS L0B210 D00001\n",
-            breach(20, 1, BreachKind::Unheld),
+            breach(20, 1, Unheld),
         ),
         (
-            LONG_GAPS,
             b"HORIZON 150\nHOLD 1 1\n",
             b"TX 20 1\nWS L0A111 D00001 D00001\nTX 110 2\nWS L0B210 D00001\n",
-            breach(110, 2, BreachKind::Unheld),
-        ),
-        (
-            LONG_GAPS,
-            ONE_EACH,
-            b"TX 19 1\nWS L0A111 D00001 D00001\nTX 110 2\nWS L0B210 D00001\n",
-            breach(19, 1, BreachKind::Early),
-        ),
-        (
-            LONG_GAPS,
-            ONE_EACH,
-            b"TX 20 1\nWS L0A111 D00001 D00001\nTX 79 2\nWS L0B210 D00001\n",
-            breach(79, 2, BreachKind::Early),
-        ),
-        (
-            LONG_GAPS,
-            ONE_EACH,
-            b"TX 20 1\nWS L0A111 D00001\nTX 110 2\nWS L0B210 D00001\n",
-            breach(20, 1, BreachKind::Misfit),
-        ),
-        (
-            LONG_GAPS,
-            ONE_EACH,
-            b"TX 20 1\nWS L0A111 D00001 D00001\n",
-            breach(110, 2, BreachKind::Missing),
-        ),
-        (
-            LONG_GAPS,
-            b"HORIZON 150\nHOLD 2 1\n",
-            b"TX 19 1\nWS L0A111 D00001\n",
-            breach(19, 1, BreachKind::Unheld),
-        ),
-        (
-            LONG_GAPS,
-            ONE_EACH,
-            b"TX 19 1\nWS L0A111 D00001\n",
-            breach(19, 1, BreachKind::Early),
+            breach(110, 2, Unheld),
         ),
     ];
-    for (table, head, sent, wanted) in rows {
-        assert_eq!(rt; answer(rt.alloc(), table, head, sent)?, wanted);
+    for (head, sent, wanted) in rows {
+        assert_eq!(rt; answer(rt.alloc(), LONG_GAPS, head, sent)?, wanted);
     }
     Ok(())
 }
 
-/// Turns that are taken late or never, up to the greatest horizon; and two senders that collide as their timers say.
+/// One change each: a start that is early, also inside a message; a message that doesn't fit; and one that is missing.
 #[test]
-fn missed_turns_and_collisions_are_told(rt: HostRuntime) -> Result<(), Fail> {
-    let rows: [(&[u8], &[u8], &[u8], AuditAnswer); 7] = [
+fn early_misfit_and_missing_messages_are_told(rt: HostRuntime) -> Result<(), Fail> {
+    let rows: [(&[u8], AuditAnswer); 4] = [
         (
-            SHORT_GAPS,
-            TWO_EACH,
+            b"TX 19 1\nWS L0A111 D00001 D00001\nTX 110 2\nWS L0B210 D00001\n",
+            breach(19, 1, Early),
+        ),
+        (
+            b"TX 20 1\nWS L0A111 D00001 D00001\nTX 79 2\nWS L0B210 D00001\n",
+            breach(79, 2, Early),
+        ),
+        (
+            b"TX 20 1\nWS L0A111 D00001\nTX 110 2\nWS L0B210 D00001\n",
+            breach(20, 1, Misfit),
+        ),
+        (
+            b"TX 20 1\nWS L0A111 D00001 D00001\n",
+            breach(110, 2, Missing),
+        ),
+    ];
+    for (sent, wanted) in rows {
+        assert_eq!(rt; answer(rt.alloc(), LONG_GAPS, ONE_EACH, sent)?, wanted);
+    }
+    Ok(())
+}
+
+/// Two kinds at once: an early message that wasn't held, and one that doesn't fit.
+#[test]
+fn the_first_of_two_kinds_is_told(rt: HostRuntime) -> Result<(), Fail> {
+    let sent = b"TX 19 1\nWS L0A111 D00001\n";
+    let rows: [(&[u8], AuditAnswer); 2] = [
+        (b"HORIZON 150\nHOLD 2 1\n", breach(19, 1, Unheld)),
+        (ONE_EACH, breach(19, 1, Early)),
+    ];
+    for (head, wanted) in rows {
+        assert_eq!(rt; answer(rt.alloc(), LONG_GAPS, head, sent)?, wanted);
+    }
+    Ok(())
+}
+
+/// A turn that is taken in time, and one bit time late.
+#[test]
+fn a_late_turn_is_told(rt: HostRuntime) -> Result<(), Fail> {
+    let rows: [(&[u8], AuditAnswer); 2] = [
+        (
             b"TX 20 1\nWS L0A111 D00001 D00001\nTX 110 2\nWS L0B210*\nTX 1050 1\nWS L0A111 D00001 D00001\nTX 1140 2\nWS L0B210*\n",
             lawful(0),
         ),
         (
-            SHORT_GAPS,
-            TWO_EACH,
             b"TX 20 1\nWS L0A111 D00001 D00001\nTX 110 2\nWS L0B210*\nTX 1051 1\nWS L0A111 D00001 D00001\nTX 1140 2\nWS L0B210*\n",
-            breach(1050, 1, BreachKind::Missing),
-        ),
-        (
-            LONG_GAPS,
-            b"HORIZON 1099511627776\nHOLD 1 1\nHOLD 2 1\n",
-            b"TX 20 1\nWS L0A111 D00001 D00001\nTX 110 2\nWS L0B210 D00001\n",
-            lawful(0),
-        ),
-        (
-            LONG_GAPS,
-            b"HORIZON 1099511627776\nHOLD 1 2\nHOLD 2 1\n",
-            b"TX 20 1\nWS L0A111 D00001 D00001\nTX 110 2\nWS L0B210 D00001\n",
-            breach(1170, 1, BreachKind::Missing),
-        ),
-        (
-            LONG_GAPS,
-            b"HORIZON 1170\nHOLD 1 2\nHOLD 2 1\n",
-            b"TX 20 1\nWS L0A111 D00001 D00001\nTX 110 2\nWS L0B210 D00001\n",
-            lawful(0),
-        ),
-        (
-            SAME_OFFSET,
-            TWO_EACH,
-            b"TX 0 1\nWS L0A111 D00001 D00001\nTX 0 2\nWS L0B210*\nTX 2000 1\nWS L0A111 D00001 D00001\nTX 2000 2\nWS L0B210*\n",
-            lawful(4),
-        ),
-        (
-            SAME_OFFSET,
-            TWO_EACH,
-            b"TX 0 1\nWS L0A111 D00001 D00001\n",
-            breach(0, 2, BreachKind::Missing),
+            breach(1050, 1, Missing),
         ),
     ];
-    for (table, head, sent, wanted) in rows {
-        assert_eq!(rt; answer(rt.alloc(), table, head, sent)?, wanted);
+    for (sent, wanted) in rows {
+        assert_eq!(rt; answer(rt.alloc(), SHORT_GAPS, TWO_EACH, sent)?, wanted);
     }
     Ok(())
 }
 
-/// What is observed of two senders that take turns, and each change of it: an entry left out, earlier, later or twice, and
-/// a message more or less that was held.
+/// A turn that is never taken, up to the greatest horizon and to its own moment.
 #[test]
-fn each_change_of_an_observed_trace_is_told(rt: HostRuntime) -> Result<(), Fail> {
-    let list: [&[u8]; 4] = [
-        b"TX 20 1\na",
-        b"TX 110 2\nb",
-        b"TX 1050 1\na",
-        b"TX 1140 2\nb",
+fn a_turn_never_taken_is_told(rt: HostRuntime) -> Result<(), Fail> {
+    let sent = b"TX 20 1\nWS L0A111 D00001 D00001\nTX 110 2\nWS L0B210 D00001\n";
+    let rows: [(&[u8], AuditAnswer); 3] = [
+        (b"HORIZON 1099511627776\nHOLD 1 1\nHOLD 2 1\n", lawful(0)),
+        (
+            b"HORIZON 1099511627776\nHOLD 1 2\nHOLD 2 1\n",
+            breach(1170, 1, Missing),
+        ),
+        (b"HORIZON 1170\nHOLD 1 2\nHOLD 2 1\n", lawful(0)),
     ];
-    let held = b"HORIZON 2200\nHOLD 1 2\nHOLD 2 2\n";
-    let rows: [(&[u8], usize, &[u8], AuditAnswer); 21] = [
-        (held, 0, b"TX 20 1\na", lawful(0)),
-        (held, 0, b"", breach(20, 1, Missing)),
-        (held, 1, b"", breach(110, 2, Missing)),
-        (held, 2, b"", breach(1050, 1, Missing)),
-        (held, 3, b"", breach(1140, 2, Missing)),
-        (held, 0, b"TX 19 1\na", breach(19, 1, Early)),
-        (held, 1, b"TX 109 2\nb", breach(109, 2, Early)),
-        (held, 2, b"TX 1049 1\na", breach(1049, 1, Early)),
-        (held, 3, b"TX 1139 2\nb", breach(1139, 2, Early)),
-        (held, 0, b"TX 21 1\na", breach(20, 1, Missing)),
-        (held, 1, b"TX 111 2\nb", breach(110, 2, Missing)),
-        (held, 2, b"TX 1051 1\na", breach(1050, 1, Missing)),
-        (held, 3, b"TX 1141 2\nb", breach(1140, 2, Missing)),
-        (held, 0, b"TX 20 1\naTX 20 2\na", breach(20, 2, Early)),
-        (held, 1, b"TX 110 2\nbTX 110 3\nb", breach(110, 3, Stranger)),
+    for (head, wanted) in rows {
+        assert_eq!(rt; answer(rt.alloc(), LONG_GAPS, head, sent)?, wanted);
+    }
+    Ok(())
+}
+
+/// Two senders that collide as their timers say, and one of them alone.
+#[test]
+fn senders_that_should_collide_are_told(rt: HostRuntime) -> Result<(), Fail> {
+    let rows: [(&[u8], AuditAnswer); 2] = [
         (
-            held,
-            2,
-            b"TX 1050 1\naTX 1050 3\na",
-            breach(1050, 3, Stranger),
+            b"TX 0 1\nWS L0A111 D00001 D00001\nTX 0 2\nWS L0B210*\nTX 2000 1\nWS L0A111 D00001 D00001\nTX 2000 2\nWS L0B210*\n",
+            lawful(4),
         ),
-        (
-            held,
-            3,
-            b"TX 1140 1\nbTX 1140 2\nb",
-            breach(1140, 1, Unheld),
-        ),
-        (
-            b"HORIZON 2200\nHOLD 1 1\nHOLD 2 2\n",
-            0,
-            b"TX 20 1\na",
-            breach(1050, 1, Unheld),
-        ),
-        (
-            b"HORIZON 2200\nHOLD 1 3\nHOLD 2 2\n",
-            0,
-            b"TX 20 1\na",
-            breach(2080, 1, Missing),
-        ),
-        (
-            b"HORIZON 2200\nHOLD 1 2\nHOLD 2 1\n",
-            0,
-            b"TX 20 1\na",
-            breach(1140, 2, Unheld),
-        ),
-        (
-            b"HORIZON 2200\nHOLD 1 2\nHOLD 2 3\n",
-            0,
-            b"TX 20 1\na",
-            breach(2140, 2, Missing),
-        ),
+        (b"TX 0 1\nWS L0A111 D00001 D00001\n", breach(0, 2, Missing)),
     ];
-    for (head, at, others, wanted) in rows {
+    for (sent, wanted) in rows {
+        assert_eq!(rt; answer(rt.alloc(), SAME_OFFSET, TWO_EACH, sent)?, wanted);
+    }
+    Ok(())
+}
+
+/// What is observed of two senders that take turns.
+const TURNS: [&[u8]; 4] = [
+    b"TX 20 1\na",
+    b"TX 110 2\nb",
+    b"TX 1050 1\na",
+    b"TX 1140 2\nb",
+];
+
+const TURNS_HELD: &[u8] = b"HORIZON 2200\nHOLD 1 2\nHOLD 2 2\n";
+
+/// An entry of a list, what stands for it, and what the audit says.
+type Change<'a> = (usize, &'a [u8], AuditAnswer);
+
+/// What is observed of two senders that take turns, and each change of an entry: left out, earlier or later.
+#[test]
+fn each_missed_or_moved_turn_is_told(rt: HostRuntime) -> Result<(), Fail> {
+    let changes: [Change<'_>; 13] = [
+        (0, b"TX 20 1\na", lawful(0)),
+        (0, b"", breach(20, 1, Missing)),
+        (1, b"", breach(110, 2, Missing)),
+        (2, b"", breach(1050, 1, Missing)),
+        (3, b"", breach(1140, 2, Missing)),
+        (0, b"TX 19 1\na", breach(19, 1, Early)),
+        (1, b"TX 109 2\nb", breach(109, 2, Early)),
+        (2, b"TX 1049 1\na", breach(1049, 1, Early)),
+        (3, b"TX 1139 2\nb", breach(1139, 2, Early)),
+        (0, b"TX 21 1\na", breach(20, 1, Missing)),
+        (1, b"TX 111 2\nb", breach(110, 2, Missing)),
+        (2, b"TX 1051 1\na", breach(1050, 1, Missing)),
+        (3, b"TX 1141 2\nb", breach(1140, 2, Missing)),
+    ];
+    for (at, others, wanted) in changes {
         assert_eq!(rt;
-            answer_with(rt.alloc(), SHORT_GAPS, head, list, at, others)?,
+            answer_with(rt.alloc(), SHORT_GAPS, TURNS_HELD, TURNS, at, others)?,
             wanted
         );
     }
     Ok(())
 }
 
-/// What is observed of two senders that collide, and each change of it that ascends: an entry left out, earlier, later or
-/// twice, and a message more or less that was held.
+/// What is observed of two senders that take turns, and each entry twice, once of another terminal.
+#[test]
+fn each_turn_taken_twice_is_told(rt: HostRuntime) -> Result<(), Fail> {
+    let changes: [Change<'_>; 4] = [
+        (0, b"TX 20 1\naTX 20 2\na", breach(20, 2, Early)),
+        (1, b"TX 110 2\nbTX 110 3\nb", breach(110, 3, Stranger)),
+        (2, b"TX 1050 1\naTX 1050 3\na", breach(1050, 3, Stranger)),
+        (3, b"TX 1140 1\nbTX 1140 2\nb", breach(1140, 1, Unheld)),
+    ];
+    for (at, others, wanted) in changes {
+        assert_eq!(rt;
+            answer_with(rt.alloc(), SHORT_GAPS, TURNS_HELD, TURNS, at, others)?,
+            wanted
+        );
+    }
+    Ok(())
+}
+
+/// What is observed of two senders that take turns, and a message more or less that was held.
+#[test]
+fn a_turn_more_or_less_held_is_told(rt: HostRuntime) -> Result<(), Fail> {
+    let rows: [(&[u8], AuditAnswer); 4] = [
+        (
+            b"HORIZON 2200\nHOLD 1 1\nHOLD 2 2\n",
+            breach(1050, 1, Unheld),
+        ),
+        (
+            b"HORIZON 2200\nHOLD 1 3\nHOLD 2 2\n",
+            breach(2080, 1, Missing),
+        ),
+        (
+            b"HORIZON 2200\nHOLD 1 2\nHOLD 2 1\n",
+            breach(1140, 2, Unheld),
+        ),
+        (
+            b"HORIZON 2200\nHOLD 1 2\nHOLD 2 3\n",
+            breach(2140, 2, Missing),
+        ),
+    ];
+    for (head, wanted) in rows {
+        assert_eq!(rt;
+            answer_with(rt.alloc(), SHORT_GAPS, head, TURNS, 0, b"TX 20 1\na")?,
+            wanted
+        );
+    }
+    Ok(())
+}
+
+/// What is observed of two senders that collide.
+const COLLISIONS: [&[u8]; 4] = [b"TX 0 1\na", b"TX 0 2\nb", b"TX 2000 1\na", b"TX 2000 2\nb"];
+
+const COLLISIONS_HELD: &[u8] = b"HORIZON 4001\nHOLD 1 2\nHOLD 2 2\n";
+
+/// What is observed of two senders that collide, and each change of an entry that ascends: left out, earlier, later or twice.
 #[test]
 fn each_change_of_a_collision_is_told(rt: HostRuntime) -> Result<(), Fail> {
-    let list: [&[u8]; 4] = [b"TX 0 1\na", b"TX 0 2\nb", b"TX 2000 1\na", b"TX 2000 2\nb"];
-    let held = b"HORIZON 4001\nHOLD 1 2\nHOLD 2 2\n";
-    let rows: [(&[u8], usize, &[u8], AuditAnswer); 16] = [
-        (held, 0, b"TX 0 1\na", lawful(4)),
-        (held, 0, b"", breach(0, 1, Missing)),
-        (held, 1, b"", breach(0, 2, Missing)),
-        (held, 2, b"", breach(2000, 1, Missing)),
-        (held, 3, b"", breach(2000, 2, Missing)),
-        (held, 2, b"TX 1999 1\na", breach(1999, 1, Early)),
-        (held, 1, b"TX 1 2\nb", breach(0, 2, Missing)),
-        (held, 3, b"TX 2001 2\nb", breach(2000, 2, Missing)),
-        (held, 1, b"TX 0 2\nbTX 0 3\na", breach(0, 3, Stranger)),
-        (held, 1, b"TX 0 2\nbTX 0 3\nb", breach(0, 3, Stranger)),
-        (
-            held,
-            3,
-            b"TX 2000 2\nbTX 2000 3\na",
-            breach(2000, 3, Stranger),
-        ),
-        (
-            held,
-            3,
-            b"TX 2000 2\nbTX 2000 3\nb",
-            breach(2000, 3, Stranger),
-        ),
+    let changes: [Change<'_>; 12] = [
+        (0, b"TX 0 1\na", lawful(4)),
+        (0, b"", breach(0, 1, Missing)),
+        (1, b"", breach(0, 2, Missing)),
+        (2, b"", breach(2000, 1, Missing)),
+        (3, b"", breach(2000, 2, Missing)),
+        (2, b"TX 1999 1\na", breach(1999, 1, Early)),
+        (1, b"TX 1 2\nb", breach(0, 2, Missing)),
+        (3, b"TX 2001 2\nb", breach(2000, 2, Missing)),
+        (1, b"TX 0 2\nbTX 0 3\na", breach(0, 3, Stranger)),
+        (1, b"TX 0 2\nbTX 0 3\nb", breach(0, 3, Stranger)),
+        (3, b"TX 2000 2\nbTX 2000 3\na", breach(2000, 3, Stranger)),
+        (3, b"TX 2000 2\nbTX 2000 3\nb", breach(2000, 3, Stranger)),
+    ];
+    for (at, others, wanted) in changes {
+        assert_eq!(rt;
+            answer_with(
+                rt.alloc(),
+                SAME_OFFSET,
+                COLLISIONS_HELD,
+                COLLISIONS,
+                at,
+                others
+            )?,
+            wanted
+        );
+    }
+    Ok(())
+}
+
+/// What is observed of two senders that collide, and a message more or less that was held.
+#[test]
+fn a_collision_more_or_less_held_is_told(rt: HostRuntime) -> Result<(), Fail> {
+    let rows: [(&[u8], AuditAnswer); 4] = [
         (
             b"HORIZON 4001\nHOLD 1 1\nHOLD 2 2\n",
-            0,
-            b"TX 0 1\na",
             breach(2000, 1, Unheld),
         ),
         (
             b"HORIZON 4001\nHOLD 1 3\nHOLD 2 2\n",
-            0,
-            b"TX 0 1\na",
             breach(4000, 1, Missing),
         ),
         (
             b"HORIZON 4001\nHOLD 1 2\nHOLD 2 1\n",
-            0,
-            b"TX 0 1\na",
             breach(2000, 2, Unheld),
         ),
         (
             b"HORIZON 4001\nHOLD 1 2\nHOLD 2 3\n",
-            0,
-            b"TX 0 1\na",
             breach(4000, 2, Missing),
         ),
     ];
-    for (head, at, others, wanted) in rows {
+    for (head, wanted) in rows {
         assert_eq!(rt;
-            answer_with(rt.alloc(), SAME_OFFSET, head, list, at, others)?,
+            answer_with(rt.alloc(), SAME_OFFSET, head, COLLISIONS, 0, b"TX 0 1\na")?,
             wanted
         );
     }

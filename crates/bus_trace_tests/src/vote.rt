@@ -4,6 +4,7 @@ use bus_table::read_table;
 use bus_trace::read_trace;
 use bus_vote::{vote, width, write_votes};
 use std::alloc::Global;
+use std::process::Abort;
 use std::test::Fail;
 
 const THREE_CHANNELS: &[u8] = b"TABLE 1
@@ -108,15 +109,46 @@ fn a_table_may_have_no_voted_label(rt: HostRuntime) -> Result<(), Fail> {
     Ok(())
 }
 
+/// The votes on what the three channels sent are of these rounds.
+fn has_rounds(rt: &impl Abort, alloc: Global, sent: &[u8], rounds: &[u8]) -> Result<(), Fail> {
+    let (_, sink) = votes(alloc, THREE_CHANNELS, sent, Vec::new(alloc))?;
+    let mut want = Vec::from_slice(alloc, b"VOTE 1\nLABEL 0E1 1 2 3\n")?;
+    want.extend_from_slice(rounds)?;
+    want.extend_from_slice(b"END\n")?;
+    assert_eq!(rt; sink.bytes(), want.as_slice());
+    Ok(())
+}
+
+/// Lists of other lengths, also of none, and two lists of one name.
 #[test]
-fn absent_lists_and_lists_of_other_lengths(rt: HostRuntime) -> Result<(), Fail> {
-    let alloc = rt.alloc();
-    let cases: [(&[u8], &[u8]); 8] = [
+fn lists_of_other_lengths_and_alike_names(rt: HostRuntime) -> Result<(), Fail> {
+    let cases: [(&[u8], &[u8]); 3] = [
         // Three lengths: as many places as two have.
         (
             b"TX 10 1\nWS L0E110 D00010\nTX 90 2\nWS L0E120 D00010 D00020\nTX 180 3\nWS L0E131 D00010 D00020 D00031\n",
             b"V 0 0001 0002\n",
         ),
+        // The first of two wordstrings that are named alike.
+        (
+            b"TX 10 1\nWS L0E120 D00010\nWS L0E110 D00051\nWS L0E110 D00061\nTX 180 3\nWS L0E131 D00051\n",
+            b"V 0 0005\n",
+        ),
+        // No place.
+        (
+            b"TX 10 1\nWS L0E110\nTX 90 2\nWS L0E120\nTX 180 3\nWS L0E131 D00051\n",
+            b"V 0\n",
+        ),
+    ];
+    for (sent, rounds) in cases {
+        has_rounds(&rt, rt.alloc(), sent, rounds)?;
+    }
+    Ok(())
+}
+
+/// One list is absent, two are, or all.
+#[test]
+fn absent_lists(rt: HostRuntime) -> Result<(), Fail> {
+    let cases: [(&[u8], &[u8]); 5] = [
         // The first is absent.
         (
             b"TX 90 2\nWS L0E120 D00051\nTX 180 3\nWS L0E131 D00061 D00010\n",
@@ -135,25 +167,11 @@ fn absent_lists_and_lists_of_other_lengths(rt: HostRuntime) -> Result<(), Fail> 
         ),
         // One alone.
         (b"TX 10 1\nWS L0E110 D00051\n", b""),
-        // The first of two wordstrings that are named alike.
-        (
-            b"TX 10 1\nWS L0E120 D00010\nWS L0E110 D00051\nWS L0E110 D00061\nTX 180 3\nWS L0E131 D00051\n",
-            b"V 0 0005\n",
-        ),
-        // No place.
-        (
-            b"TX 10 1\nWS L0E110\nTX 90 2\nWS L0E120\nTX 180 3\nWS L0E131 D00051\n",
-            b"V 0\n",
-        ),
         // Nothing was sent.
         (b"", b""),
     ];
     for (sent, rounds) in cases {
-        let (_, sink) = votes(alloc, THREE_CHANNELS, sent, Vec::new(alloc))?;
-        let mut want = Vec::from_slice(alloc, b"VOTE 1\nLABEL 0E1 1 2 3\n")?;
-        want.extend_from_slice(rounds)?;
-        want.extend_from_slice(b"END\n")?;
-        assert_eq!(rt; sink.bytes(), want.as_slice());
+        has_rounds(&rt, rt.alloc(), sent, rounds)?;
     }
     Ok(())
 }

@@ -17,25 +17,24 @@ END
 
 /// The end of the picture, as long as the missing start needs: its row begins a synchronization gap before moment 0, and so 2170 bit times
 /// before it.
-const LONG: &str = "<rect class=\"other\" x=\"7140\" y=\"1320\" width=\"330\" height=\"120\">\
+const LONG: &str = "<rect class=\"other\" x=\"4790\" y=\"1700\" width=\"190\" height=\"120\">\
 <title>T1 message 1: moments 20 to 80, 60 bit times, 10.0 to 40.0 microseconds</title></rect>
-<text class=\"digits\" x=\"7305\" y=\"1415\">1</text>
-<rect class=\"wordstring\" x=\"7630\" y=\"1320\" width=\"220\" height=\"120\">\
+<text class=\"digits\" x=\"4885\" y=\"1795\">1</text>
+<rect class=\"wordstring\" x=\"5080\" y=\"1700\" width=\"120\" height=\"120\">\
 <title>T2 message 1: moments 110 to 150, 40 bit times, 55.0 to 75.0 microseconds</title></rect>
-<text class=\"digits\" x=\"7740\" y=\"1415\">2</text>
-<text class=\"small\" x=\"200\" y=\"1415\">1</text>
-<text class=\"detail\" x=\"1440\" y=\"1415\">-1000</text>
-<text class=\"detail\" x=\"15500\" y=\"1415\">1150</text>
-<text class=\"detail\" x=\"14700\" y=\"1415\">8.7 %</text>
-<rect class=\"mark\" x=\"7029\" y=\"1070\" width=\"10\" height=\"380\"/>
-<text class=\"small\" x=\"7069\" y=\"1150\">SG 1000</text>
-<rect class=\"mark\" x=\"7748\" y=\"1070\" width=\"10\" height=\"380\"/>
-<text class=\"detail\" x=\"7718\" y=\"1250\">least 1130</text>
-<rect class=\"mark\" x=\"7970\" y=\"1070\" width=\"10\" height=\"380\"/>
-<text class=\"small\" x=\"8010\" y=\"1150\">most 1170</text>
-<rect class=\"breach\" x=\"13500\" y=\"1280\" width=\"20\" height=\"40\"/>
-<rect class=\"breach\" x=\"13500\" y=\"1440\" width=\"20\" height=\"40\"/>
-<text class=\"note\" x=\"13560\" y=\"1415\">breach</text>
+<text class=\"small\" x=\"200\" y=\"1795\">1</text>
+<text class=\"detail\" x=\"1440\" y=\"1795\">-1000</text>
+<text class=\"detail\" x=\"10200\" y=\"1795\">1150</text>
+<text class=\"detail\" x=\"9400\" y=\"1795\">8.7 %</text>
+<rect class=\"mark\" x=\"4725\" y=\"1450\" width=\"10\" height=\"380\"/>
+<text class=\"small\" x=\"4765\" y=\"1530\">SG 1000</text>
+<rect class=\"mark\" x=\"5145\" y=\"1450\" width=\"10\" height=\"380\"/>
+<text class=\"detail\" x=\"5115\" y=\"1630\">least 1130</text>
+<rect class=\"mark\" x=\"5274\" y=\"1450\" width=\"10\" height=\"380\"/>
+<text class=\"small\" x=\"5314\" y=\"1530\">most 1170</text>
+<rect class=\"breach\" x=\"8500\" y=\"1660\" width=\"20\" height=\"40\"/>
+<rect class=\"breach\" x=\"8500\" y=\"1820\" width=\"20\" height=\"40\"/>
+<text class=\"note\" x=\"8540\" y=\"1795\">breach</text>
 </svg>
 ";
 
@@ -52,11 +51,11 @@ END
 ";
 
 /// The end of the picture: the breach at moment 1000 isn't marked.
-const UNMARKED: &str = "<text class=\"detail\" x=\"1440\" y=\"1415\">0</text>
-<text class=\"detail\" x=\"15500\" y=\"1415\">60</text>
-<text class=\"detail\" x=\"14700\" y=\"1415\">6.0 %</text>
-<rect class=\"mark\" x=\"13500\" y=\"1070\" width=\"10\" height=\"380\"/>
-<text class=\"small\" x=\"13540\" y=\"1150\">TI 1000</text>
+const UNMARKED: &str = "<text class=\"detail\" x=\"1440\" y=\"1795\">0</text>
+<text class=\"detail\" x=\"10200\" y=\"1795\">60</text>
+<text class=\"detail\" x=\"9400\" y=\"1795\">6.0 %</text>
+<rect class=\"mark\" x=\"8500\" y=\"1450\" width=\"10\" height=\"380\"/>
+<text class=\"small\" x=\"8540\" y=\"1530\">TI 1000</text>
 </svg>
 ";
 

@@ -31,7 +31,7 @@ fn headings_tell_the_verdict_and_the_audit(rt: HostRuntime) -> Result<(), Fail> 
             TRACE,
             [
                 "<text class=\"verdict\" x=\"200\" y=\"270\">ACCEPT aperiodic, cycle 1130 to 1170 bit times (565 to 585 \u{b5}s)</text>",
-                "<text class=\"answer\" x=\"15500\" y=\"270\">LAWFUL, 0 transmissions collided</text>",
+                "<text class=\"answer\" x=\"200\" y=\"480\">LAWFUL, 0 transmissions collided</text>",
             ],
         ),
         (

@@ -18,14 +18,14 @@ END
 fn a_line_at_a_breach_or_an_arrow(rt: HostRuntime) -> Result<(), Fail> {
     let ran = run_on(&rt, &["svg", "T", "R", "1000", "2200"], PERIODIC, MISSED)?;
     let parts = [
-        "<rect class=\"breach\" x=\"13000\" y=\"870\" width=\"10\" height=\"90\"/>\n<rect class=\"breach\" x=\"13000\" y=\"960\" ",
-        "<rect class=\"breach\" x=\"13000\" y=\"1280\" width=\"30\" height=\"60\"/>\n",
-        "<text class=\"breach-words\" x=\"13000\" y=\"660\">BREACH 2000 2 Missing</text>\n",
+        "<rect class=\"breach\" x=\"8500\" y=\"1080\" width=\"10\" height=\"90\"/>\n<rect class=\"breach\" x=\"8500\" y=\"1170\" ",
+        "<rect class=\"breach\" x=\"8500\" y=\"1490\" width=\"30\" height=\"60\"/>\n",
+        "<text class=\"breach-words\" x=\"8500\" y=\"870\">BREACH 2000 2 Missing</text>\n",
     ];
     assert!(rt; shows(&ran, &parts));
     let ran = run_on(&rt, &["svg", "T", "R", "0", "1000"], PERIODIC, MISSED)?;
     let arrow =
-        "<text class=\"breach-words\" x=\"14500\" y=\"660\">BREACH 2000 2 Missing \u{2192}</text>\n";
+        "<text class=\"breach-words\" x=\"9100\" y=\"870\">BREACH 2000 2 Missing \u{2192}</text>\n";
     assert!(rt; shows(&ran, &[arrow]));
     Ok(())
 }

@@ -19,36 +19,37 @@ WS L0B210 D00FF1
 END
 ";
 
-/// The end of the picture, of which 12000 units are the 1160 bit times of the longer row: a row of two transmissions, which begins a
+/// The end of the picture, of which 7000 units are the 1160 bit times of the longer row: a row of two transmissions, which begins a
 /// synchronization gap and the greatest terminal gap before the first, the words of one of two that collide, which are drawn after them in
-/// slots of their own, the loads, of 100 bit times each, the marks, and the first start that is missing, in the first row.
-const ROWS: &str = "<rect class=\"other\" x=\"12150\" y=\"1320\" width=\"620\" height=\"300\">\
+/// slots of their own, the loads, of 100 bit times and, since those that collide share 30, of 70, the marks, and the first start that is
+/// missing, in the first row.
+const ROWS: &str = "<rect class=\"other\" x=\"7710\" y=\"1700\" width=\"360\" height=\"300\">\
 <title>T1 message 1: moments 1020 to 1080, 60 bit times, 510.0 to 540.0 microseconds</title></rect>
-<text class=\"digits\" x=\"12460\" y=\"1505\">1</text>
-<rect class=\"wordstring\" x=\"13080\" y=\"1320\" width=\"420\" height=\"300\">\
+<text class=\"digits\" x=\"7890\" y=\"1885\">1</text>
+<rect class=\"wordstring\" x=\"8250\" y=\"1700\" width=\"250\" height=\"300\">\
 <title>T2 message 1: moments 1110 to 1150, 40 bit times, 555.0 to 575.0 microseconds</title></rect>
-<text class=\"digits\" x=\"13290\" y=\"1505\">2</text>
-<text class=\"small\" x=\"200\" y=\"1505\">1</text>
-<text class=\"detail\" x=\"1440\" y=\"1505\">-10</text>
-<text class=\"detail\" x=\"15500\" y=\"1505\">1160</text>
-<text class=\"small\" x=\"200\" y=\"1825\">2</text>
-<text class=\"detail\" x=\"1440\" y=\"1825\">1370</text>
-<text class=\"detail\" x=\"15500\" y=\"1825\">1100</text>
-<rect class=\"garbled\" x=\"12150\" y=\"1846\" width=\"620\" height=\"88\">\
+<text class=\"digits\" x=\"8375\" y=\"1885\">2</text>
+<text class=\"small\" x=\"200\" y=\"1885\">1</text>
+<text class=\"detail\" x=\"1440\" y=\"1885\">-10</text>
+<text class=\"detail\" x=\"10200\" y=\"1885\">1160</text>
+<text class=\"small\" x=\"200\" y=\"2205\">2</text>
+<text class=\"detail\" x=\"1440\" y=\"2205\">1370</text>
+<text class=\"detail\" x=\"10200\" y=\"2205\">1100</text>
+<rect class=\"garbled\" x=\"7710\" y=\"2226\" width=\"360\" height=\"88\">\
 <title>T1 message 2: moments 2400 to 2460, 60 bit times, 1200.0 to 1230.0 microseconds, garbled</title></rect>
-<text class=\"noise-digits\" x=\"12460\" y=\"1925\">1</text>
-<rect class=\"garbled\" x=\"12460\" y=\"1646\" width=\"410\" height=\"88\">\
+<text class=\"noise-digits\" x=\"7890\" y=\"2305\">1</text>
+<rect class=\"garbled\" x=\"7890\" y=\"2026\" width=\"240\" height=\"88\">\
 <title>T2 message 2: moments 2430 to 2470, 40 bit times, 1215.0 to 1235.0 microseconds, garbled</title></rect>
-<text class=\"noise-digits\" x=\"12665\" y=\"1725\">2</text>
-<text class=\"detail\" x=\"14700\" y=\"1505\">8.6 %</text>
-<text class=\"detail\" x=\"14700\" y=\"1825\">9.1 %</text>
-<rect class=\"mark\" x=\"11844\" y=\"1070\" width=\"10\" height=\"880\"/>
-<text class=\"small\" x=\"11884\" y=\"1150\">SG 1000</text>
-<rect class=\"mark\" x=\"13189\" y=\"1070\" width=\"10\" height=\"880\"/>
-<text class=\"detail\" x=\"13159\" y=\"1250\">least 1130</text>
-<rect class=\"breach\" x=\"1810\" y=\"1280\" width=\"20\" height=\"40\"/>
-<rect class=\"breach\" x=\"1810\" y=\"1620\" width=\"20\" height=\"40\"/>
-<text class=\"note\" x=\"13560\" y=\"1505\">breach</text>
+<text class=\"noise-digits\" x=\"8010\" y=\"2105\">2</text>
+<text class=\"detail\" x=\"9400\" y=\"1885\">8.6 %</text>
+<text class=\"detail\" x=\"9400\" y=\"2205\">6.4 %</text>
+<rect class=\"mark\" x=\"7534\" y=\"1450\" width=\"10\" height=\"880\"/>
+<text class=\"small\" x=\"7574\" y=\"1530\">SG 1000</text>
+<rect class=\"mark\" x=\"8318\" y=\"1450\" width=\"10\" height=\"880\"/>
+<text class=\"detail\" x=\"8288\" y=\"1630\">least 1130</text>
+<rect class=\"breach\" x=\"1680\" y=\"1660\" width=\"20\" height=\"40\"/>
+<rect class=\"breach\" x=\"1680\" y=\"2000\" width=\"20\" height=\"40\"/>
+<text class=\"note\" x=\"8540\" y=\"1885\">breach</text>
 </svg>
 ";
 
@@ -86,8 +87,8 @@ fn a_row_of_a_window_inside_a_cycle(rt: HostRuntime) -> Result<(), Fail> {
     let parts = [
         "moments 100 to 140 of 150: 1 transmission, 0 garbled",
         "from where it begins: 1 of 1, 70 to 70 bit times long</text>\n",
-        "<rect class=\"wordstring\" x=\"1860\" y=\"1320\" width=\"480\" height=\"120\"><title>T2 message 1: moments 110 to 150, ",
-        "<text class=\"detail\" x=\"1440\" y=\"1415\">80</text>\n<text class=\"detail\" x=\"15500\" y=\"1415\">70</text>\n",
+        "<rect class=\"wordstring\" x=\"1710\" y=\"1700\" width=\"280\" height=\"120\"><title>T2 message 1: moments 110 to 150, ",
+        "<text class=\"detail\" x=\"1440\" y=\"1795\">80</text>\n<text class=\"detail\" x=\"10200\" y=\"1795\">70</text>\n",
     ];
     assert!(rt; shows(&ran, &parts));
     Ok(())

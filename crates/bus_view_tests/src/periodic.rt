@@ -36,13 +36,15 @@ fn a_time_line_has_offsets_and_the_transmit_interval(rt: HostRuntime) -> Result<
     let ran = run_on(&rt, &["svg", "T", "R"], PERIODIC, ROUNDS)?;
     let parts = [
         "; LAWFUL 0</title>\n",
-        "<text class=\"detail\" x=\"1380\" y=\"1550\">TG 30 AT 0</text>\n",
-        "<text class=\"detail\" x=\"1380\" y=\"1870\">TG 20 AT 90</text>\n",
-        "<text class=\"interval-words\" x=\"14045\" y=\"1546\">TI 2000</text>\n",
-        "<rect class=\"gap\" x=\"1625\" y=\"1743\" width=\"125\" height=\"14\"/>\n\
-         <rect class=\"interval\" x=\"2064\" y=\"1875\" width=\"12546\" height=\"14\"/>\n",
-        "<rect class=\"mark\" x=\"2064\" y=\"1608\" width=\"20\" height=\"46\"/>\n\
-         <rect class=\"mark\" x=\"14610\" y=\"1608\" width=\"20\" height=\"46\"/>\n",
+        "<text class=\"detail\" x=\"1380\" y=\"1760\">TG 30 AT 0</text>\n",
+        "<text class=\"detail\" x=\"1380\" y=\"2080\">TG 20 AT 90</text>\n",
+        "<text class=\"interval-words\" x=\"9136\" y=\"1756\">TI 2000</text>\n",
+        "<rect class=\"gap\" x=\"1576\" y=\"1953\" width=\"76\" height=\"14\"/>\n\
+         <rect class=\"gap\" x=\"3218\" y=\"1953\" width=\"76\" height=\"14\"/>\n\
+         <rect class=\"gap\" x=\"9212\" y=\"1953\" width=\"77\" height=\"14\"/>\n\
+         <rect class=\"interval\" x=\"1843\" y=\"2085\" width=\"7637\" height=\"14\"/>\n",
+        "<rect class=\"mark\" x=\"1843\" y=\"1818\" width=\"20\" height=\"46\"/>\n\
+         <rect class=\"mark\" x=\"9480\" y=\"1818\" width=\"20\" height=\"46\"/>\n",
     ];
     assert!(rt; shows(&ran, &parts));
     Ok(())
@@ -53,11 +55,11 @@ fn a_row_is_a_transmit_interval(rt: HostRuntime) -> Result<(), Fail> {
     let ran = run_on(&rt, &["cycles", "T", "R"], PERIODIC, ROUNDS)?;
     let parts = [
         "from where it begins: 2 of 2, 150 to 150 bit times long</text>\n",
-        "<rect class=\"wordstring\" x=\"2040\" y=\"1320\" width=\"360\" height=\"120\"><title>T1 message 1: moments 90 to 150, ",
-        "<text class=\"detail\" x=\"1440\" y=\"1415\">0</text>\n<text class=\"detail\" x=\"15500\" y=\"1415\">150</text>\n",
-        "<rect class=\"wordstring\" x=\"2040\" y=\"1460\" width=\"360\" height=\"120\"><title>T1 message 2: moments 2090 to 2150, ",
-        "<text class=\"detail\" x=\"1440\" y=\"1555\">2000</text>\n<text class=\"detail\" x=\"15500\" y=\"1555\">150</text>\n",
-        "<text class=\"small\" x=\"13540\" y=\"1150\">TI 2000</text>\n",
+        "<rect class=\"wordstring\" x=\"1810\" y=\"1700\" width=\"210\" height=\"120\"><title>T1 message 1: moments 90 to 150, ",
+        "<text class=\"detail\" x=\"1440\" y=\"1795\">0</text>\n<text class=\"detail\" x=\"10200\" y=\"1795\">150</text>\n",
+        "<rect class=\"wordstring\" x=\"1810\" y=\"1840\" width=\"210\" height=\"120\"><title>T1 message 2: moments 2090 to 2150, ",
+        "<text class=\"detail\" x=\"1440\" y=\"1935\">2000</text>\n<text class=\"detail\" x=\"10200\" y=\"1935\">150</text>\n",
+        "<text class=\"small\" x=\"8540\" y=\"1530\">TI 2000</text>\n",
     ];
     assert!(rt; shows(&ran, &parts));
     Ok(())
@@ -76,7 +78,7 @@ fn rows_that_are_too_many(rt: HostRuntime) -> Result<(), Fail> {
     let parts = [
         "moments 0 to 1010000 of 1010000: 504 transmissions, 0 garbled",
         "from where it begins: 500 of 504, 20 to 20 bit times long, the next at 1000000</text>\n",
-        "<text class=\"detail\" x=\"1440\" y=\"71275\">998000</text>\n",
+        "<text class=\"detail\" x=\"1440\" y=\"71655\">998000</text>\n",
     ];
     assert!(rt; shows(&ran, &parts));
     assert!(rt; !contains(ran.out.bytes(), "T2 message 501:"));
