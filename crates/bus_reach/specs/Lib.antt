@@ -1,3 +1,4 @@
+-- What the contracts of this crate cite.
 pub mod Tolerance
 pub mod Bearing
 pub mod Starting

@@ -1,3 +1,4 @@
+-- The lemmas of this crate; those that a crate above may cite are public.
 pub mod GapPlaces
 pub mod Counting
 pub mod Examples

@@ -1,3 +1,4 @@
+-- What the contracts of this crate cite.
 pub mod Gaps
 pub mod Ends
 pub mod Verdicts

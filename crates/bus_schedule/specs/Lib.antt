@@ -1,3 +1,4 @@
+-- What the contracts of this crate cite.
 pub mod Even
 pub mod Uneven
 pub mod Closed

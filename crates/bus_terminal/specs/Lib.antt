@@ -1,3 +1,4 @@
+-- What the contracts of this crate cite.
 pub mod Terminals
 pub mod SendingLaws
 pub mod Jumps

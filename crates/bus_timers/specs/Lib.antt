@@ -1,3 +1,4 @@
+-- What the contracts of this crate cite.
 pub mod Timings
 pub mod MayStart
 pub mod MayStartTest
