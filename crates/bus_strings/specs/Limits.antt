@@ -18,14 +18,6 @@ most_strings = 31
 abbrev pub most_words : ℕ
 most_words = 256
 
--- How many of them a wordstring keeps in itself, in no memory of their own.
-abbrev pub most_short : ℕ
-most_short = 9
-
--- How many it keeps in a block of one size.
-abbrev pub most_middle : ℕ
-most_middle = 48
-
 -- The bit times of a word.
 abbrev pub word_bits : ℕ
 word_bits = 20

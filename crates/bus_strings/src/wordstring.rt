@@ -1,8 +1,8 @@
 //! A wordstring: a label word, and the data words behind it.
 ghost use Rattle.std.specs.Prelude.{◌≡◌, ◌+◌, ◌<◌, ◌≤◌, ◌^◌, ◌↔◌, IsSome, IsNone, IfSome, IfOk, vec_len, length, take};
 ghost use Rattle.std.specs.List.{AllByRecursion};
-ghost use Rattle.bus_strings.specs.Limits.{most_middle, most_short, most_words};
-ghost use Rattle.bus_strings.specs.inside.Kept.{kept_string, IsKept};
+ghost use Rattle.bus_strings.specs.Limits.{most_words};
+ghost use Rattle.bus_strings.specs.inside.Kept.{kept_string, most_middle, most_short, IsKept};
 ghost use Rattle.bus_strings.specs.Messages.{IsWordstring, word_count};
 
 use crate::limits::MOST_WORDS;
@@ -142,7 +142,8 @@ impl Wordstring {
         Some(Wordstring { kept })
     }
 
-    /// Of at most 256 data words. It takes at most as much memory as these need, and where they are few none.
+    /// Of at most 256 data words. Up to [`SHORT`] of them take no memory, up to 48 one block of 96 bytes, and more what they need and the
+    /// place of a `Vec`.
     pub fn of(
         alloc: Global,
         label: Label,

@@ -3,8 +3,8 @@
 ghost use Rattle.std.specs.Prelude.{◌≡◌, ◌≤◌, ◌<◌, ◌^◌, ◌++◌, ◌∷◌, [], length, take, decimal, IfSome, IfOk};
 ghost use Rattle.std.specs.List.{join_with_byte};
 ghost use Rattle.bus_text.specs.Digits.{hexadecimal};
-ghost use Rattle.bus_words.specs.Words.{parity as parity_of};
-ghost use Rattle.bus_words.specs.WordTexts.{word_text, letter as letter_of, bit_digit};
+ghost use Rattle.bus_strings.specs.Limits.{most_words};
+ghost use Rattle.bus_words.specs.WordTexts.{word_text};
 ghost use Rattle.bus_trace.specs.Traces.{begin_line as begin_fields, ended_line, string_line as string_fields};
 ghost use Rattle.bus_trace.specs.inside.Writing.{data_put};
 ghost use Rattle.bus_trace.specs.inside.Quick.{HasData, line_end};
@@ -12,11 +12,14 @@ ghost use Rattle.bus_trace.specs.inside.Quick.{HasData, line_end};
 use bus_strings::limits::MOST_WORDS;
 use bus_strings::{SHORT, Wordstring};
 use bus_text::{NO_CAPITAL, capital_value, leading_digits};
-use bus_words::{Ext, Kind, Label, parity, split_label};
+use bus_words::{Ext, Kind, Label, bit_digit, letter, parity, split_label};
 use std::alloc::{AllocError, Global};
 
 /// The bytes of a word's text and of the space before it.
 const PLACES: usize = 7;
+
+/// As many data words as most lines have at most.
+const MIDDLE: usize = 48;
 
 /// The bytes of the data words of a line, each with the space before it.
 const MOST_DATA: usize = PLACES * MOST_WORDS;
@@ -68,23 +71,6 @@ pub(crate) fn close_line(text: &[u8]) -> Option<(u64, bool, &[u8])>
     }
 }
 
-/// The letter of a kind.
-fn letter(kind: Kind) -> u8
-    ensures { result ≡ letter_of kind }
-{
-    match kind {
-        Kind::Label => b'L',
-        Kind::Plain => b'D',
-    }
-}
-
-/// The parity digit of a value.
-fn parity_digit(value: u16) -> u8
-    ensures { result ≡ bit_digit (parity_of value) }
-{
-    if parity(value) { b'1' } else { b'0' }
-}
-
 /// The number that four hexadecimal digits in capitals write. One test of all four, since there are more digits than anything else.
 fn four_digit_value(a: u8, b: u8, c: u8, d: u8) -> Option<u16>
     ensures { IfSome result (λ v. hexadecimal 4 v ≡ a ∷ b ∷ c ∷ d ∷ []) }
@@ -110,7 +96,7 @@ fn word_value(text: &[u8], kind: Kind) -> Option<u16>
         return None;
     };
     let value = four_digit_value(*a, *b, *c, *d)?;
-    if *first != letter(kind) || *digit != parity_digit(value) {
+    if *first != letter(kind) || *digit != bit_digit(parity(value)) {
         return None;
     }
     Some(value)
@@ -152,8 +138,24 @@ fn short_string(label: Label, ext: Ext, text: &[u8]) -> Option<Wordstring>
     Some(Wordstring::short(label, ext, count as u8, words))
 }
 
-/// The wordstring of a label and data words, each behind a space. Their room is on the stack, so that the wordstring takes no more than
-/// it needs.
+/// The wordstring of a label and data words, each behind a space, which are gathered in this room first.
+fn gathered_string(
+    alloc: Global,
+    label: Label,
+    ext: Ext,
+    text: &[u8],
+    room: &mut [u16],
+) -> Result<Option<Wordstring>, AllocError>
+    requires { length room.old ≤ most_words }
+    ensures { IfOk result (λ o. IfSome o (λ s. HasData label ext text.now s)) }
+{
+    let Some(count) = spaced_words(text, room) else {
+        return Ok(None);
+    };
+    Ok(Some(Wordstring::of(alloc, label, ext, &room[..count])?))
+}
+
+/// The wordstring of a label and many data words, each behind a space.
 fn long_string(
     alloc: Global,
     label: Label,
@@ -162,14 +164,11 @@ fn long_string(
 ) -> Result<Option<Wordstring>, AllocError>
     ensures { IfOk result (λ o. IfSome o (λ s. HasData label ext text.now s)) }
 {
-    let mut words = [0; MOST_WORDS];
-    let Some(count) = spaced_words(text, &mut words) else {
-        return Ok(None);
-    };
-    Ok(Some(Wordstring::of(alloc, label, ext, &words[..count])?))
+    gathered_string(alloc, label, ext, text, &mut [0; MOST_WORDS])
 }
 
-/// The wordstring of a label and data words, each behind a space.
+/// The wordstring of a label and data words, each behind a space. Their room is on the stack, and no more of it than most lines need,
+/// since it is set to zero for each line.
 fn data_string(
     alloc: Global,
     label: Label,
@@ -178,10 +177,13 @@ fn data_string(
 ) -> Result<Option<Wordstring>, AllocError>
     ensures { IfOk result (λ o. IfSome o (λ s. HasData label ext text.now s)) }
 {
-    if text.len() > SHORT * PLACES {
-        return long_string(alloc, label, ext, text);
+    if text.len() <= SHORT * PLACES {
+        Ok(short_string(label, ext, text))
+    } else if text.len() <= MIDDLE * PLACES {
+        gathered_string(alloc, label, ext, text, &mut [0; MIDDLE])
+    } else {
+        long_string(alloc, label, ext, text)
     }
-    Ok(short_string(label, ext, text))
 }
 
 /// How many bytes of the text in front may be data words of one line, each behind a space.

@@ -47,12 +47,31 @@ abbrev with_two : Option ℕ → Option (List Bool) → Option (List Bool)
 with_two None bits = None
 with_two (Some two) bits = option_map (λ bs. (two / 2 == 1) ∷ (two % 2 == 1) ∷ bs) bits
 
-two_heard : (rest : List Bool) (v : ℕ) → v < 16 → bits_in (bits_of 4 v ++ rest) ≡ with_two (two_bits v) (bits_in rest)
+-- by the digit's value
+abbrev two_of : ℕ → Option ℕ
+two_of v = cond (v == 5) (Some 0) (cond (v == 6) (Some 1) (cond (v == 9) (Some 2) (cond (v == 10) (Some 3) None)))
+
+two_heard : (rest : List Bool) (v : ℕ) → v < 16 → bits_in (bits_of 4 v ++ rest) ≡ with_two (two_of v) (bits_in rest)
 two_heard rest v h =
-    each_digit (λ n. bits_in (bits_of 4 n ++ rest) ≡ with_two (two_bits n) (bits_in rest))
+    each_digit (λ n. bits_in (bits_of 4 n ++ rest) ≡ with_two (two_of n) (bits_in rest))
     refl refl refl refl refl (fused (λ bs. false ∷ bs) (λ bs. false ∷ bs) (bits_in rest)) (fused (λ bs. false ∷ bs) (λ bs. true ∷ bs) (bits_in rest)) refl refl (fused (λ bs. true ∷ bs) (λ bs. false ∷ bs) (bits_in rest)) (fused (λ bs. true ∷ bs) (λ bs. true ∷ bs) (bits_in rest)) refl refl refl refl refl v h
 
-two_below : (v : ℕ) → IfSome (two_bits v) (λ two. two < 4)
+five_digit : (byte : ℕ) → is_capital_digit byte ≡ true → (byte == 53) ≡ (digit_value byte == 5)
+five_digit byte h = grind (arith, nat_tests)
+
+six_digit : (byte : ℕ) → is_capital_digit byte ≡ true → (byte == 54) ≡ (digit_value byte == 6)
+six_digit byte h = grind (arith, nat_tests)
+
+nine_digit : (byte : ℕ) → is_capital_digit byte ≡ true → (byte == 57) ≡ (digit_value byte == 9)
+nine_digit byte h = grind (arith, nat_tests)
+
+a_digit : (byte : ℕ) → is_capital_digit byte ≡ true → (byte == 65) ≡ (digit_value byte == 10)
+a_digit byte h = grind (arith, nat_tests)
+
+two_is : (byte : ℕ) → is_capital_digit byte ≡ true → two_bits byte ≡ two_of (digit_value byte)
+two_is byte h = rw (five_digit byte h, six_digit byte h, nine_digit byte h, a_digit byte h) refl
+
+two_below : (v : ℕ) → IfSome (two_of v) (λ two. two < 4)
 two_below v =
     elim (v == 5) as (λ a. IfSome (cond a (Some 0) (cond (v == 6) (Some 1) (cond (v == 9) (Some 2) (cond (v == 10) (Some 3) None)))) (λ two. two < 4)) [
       | true ↦ omega arith
@@ -85,7 +104,8 @@ gathered_is n [] h = refl
 gathered_is n (digit ∷ digits) h =
     let p = and_parts (is_capital_digit digit) (list_all is_capital_digit digits) h in
     let v : ℕ = digit_value digit in
-    by_two (two_bits v) (two_below v) (λ m. gathered_is m digits p.1)
+    ap (option_and_then (λ two. gathered (4 * n + two) digits)) (two_is digit p.0)
+    ∙ by_two (two_of v) (two_below v) (λ m. gathered_is m digits p.1)
     ∙ ap (option_map (number_onto n)) (sym (two_heard (halves_of digits) v (digit_value-lt digit p.0)))
   where
     by_bits : (two : ℕ) → two < 4 → (bits : Option (List Bool))

@@ -1,10 +1,10 @@
 -- Lines that are recognized as they are written.
-use Rattle.std.proofs.Common.{arith, ◌≡◌, ◌≢◌, ℕ, zero, suc, ◌+◌, ◌-◌, ◌*◌, ◌/◌, ◌%◌, ◌<◌, ◌≤◌, ◌^◌, min, Bool, true, false, cond, ◌&&◌, ◌||◌, ◌==◌, List, [], ◌∷◌, ◌++◌, length}
-use Rattle.std.proofs.Common.{get_or, take, drop, Result, Ok, Option, Some, None, IfSome, refl, sym, ap, ◌∙◌, add-one, append_assoc, length-append}
+use Rattle.std.proofs.Common.{arith, ◌≡◌, ◌≢◌, ℕ, zero, suc, ◌+◌, ◌-◌, ◌*◌, ◌/◌, ◌%◌, ◌<◌, ◌≤◌, ◌^◌, min, Bool, true, false, cond, ◌&&◌, ◌==◌, List, [], ◌∷◌, ◌++◌, length}
+use Rattle.std.proofs.Common.{get_or, take, drop, Result, Ok, Option, Some, None, IfSome, refl, sym, ap, ◌∙◌, append_assoc, length-append}
 use Rattle.std.proofs.Common.{take-append-drop, drop-cons}
 use Rattle.std.specs.List.{slice_split}
-use Rattle.std.specs.Prelude.{nat_lt}
-use Rattle.std.proofs.lemmas.Bool.{and_parts, eqb-true, ne_eqb}
+use Rattle.std.specs.Option.{option_and_then}
+use Rattle.std.proofs.lemmas.Bool.{and_parts, eqb-true}
 use Rattle.std.proofs.lemmas.Bool.Decides.{nat_tests}
 use Rattle.std.proofs.lemmas.List.{take_all, length-take, length-drop}
 use Rattle.std.proofs.Math.Nat.{div-div-eq-div-mul}
@@ -19,7 +19,7 @@ use Rattle.bus_wave.specs.declared.symbol.Symbol.{Symbol}
 use Rattle.bus_wave.specs.declared.symbol.Symbol.TheVariants as symbol
 use Rattle.bus_wave.specs.inside.Capped.{capped}
 use Rattle.bus_wave.specs.Code.{digits_of, frame_halves}
-use Rattle.bus_wave.specs.inside.Digits.{code_digit, code_digits, first_digit, second_digit, frame_with}
+use Rattle.bus_wave.specs.inside.Digits.{two_bits, gathered, code_digit, code_digits, first_digit, second_digit, frame_with}
 use Rattle.bus_wave.specs.inside.Parts.{HasLine}
 use Rattle.bus_wave.specs.inside.Puts.{word_put}
 use Rattle.bus_wave.specs.Symbols.{fields_of, symbol_reading}
@@ -27,54 +27,87 @@ use Rattle.bus_wave.specs.Waves.{word_halves}
 use Rattle.bus_wave.proofs.DigitLemmas.{word_digits}
 use Rattle.bus_wave.proofs.TextLemmas.{plain_reads, word_reads, word_feedless, line_split}
 
+-- ---- the digits of a number of bits
+-- a digit that has two bits is their digit
+two_code : (digit two : ℕ) → two_bits digit ≡ Some two → (two < 4) × (digit ≡ code_digit two)
+two_code digit two h = by_tests (digit == 53) (digit == 54) (digit == 57) (digit == 65) refl refl refl refl h where
+  by_value : (byte bits : ℕ) → bits < 4 → digit ≡ byte → byte ≡ code_digit bits → bits ≡ two → (two < 4) × (digit ≡ code_digit two)
+  by_value byte bits low e k same = (omega (arith, low, same), e ∙ k ∙ ap code_digit same)
+
+  by_tests : (s t u v : Bool) → (digit == 53) ≡ s → (digit == 54) ≡ t → (digit == 57) ≡ u → (digit == 65) ≡ v
+      → cond s (Some 0) (cond t (Some 1) (cond u (Some 2) (cond v (Some 3) None))) ≡ Some two → (two < 4) × (digit ≡ code_digit two)
+  by_tests true t u v a b c d k = by_value 53 0 (omega arith) (eqb-true digit 53 a) refl cc
+  by_tests false true u v a b c d k = by_value 54 1 (omega arith) (eqb-true digit 54 b) refl cc
+  by_tests false false true v a b c d k = by_value 57 2 (omega arith) (eqb-true digit 57 c) refl cc
+  by_tests false false false true a b c d k = by_value 65 3 (omega arith) (eqb-true digit 65 d) refl cc
+  by_tests false false false false a b c d k = absurd cc
+
+-- the highest digit in front of the others
+code_highest : (n bits : ℕ) → code_digits (suc n) bits ≡ code_digit (bits / 4 ^ n % 4) ∷ code_digits n bits
+code_highest zero bits = let e : bits ≡ bits / 4 ^ 0 = omega arith in ap (λ m. code_digit (m % 4) ∷ []) e
+code_highest (suc n) bits =
+    let e : bits / 4 / 4 ^ n ≡ bits / 4 ^ suc n = div-div-eq-div-mul bits 4 (4 ^ n) ∙ ap (λ m. bits / m) (let k : 4 * 4 ^ n ≡ 4 ^ suc n = omega arith in k) in
+    ap (λ ds. ds ++ code_digit (bits % 4) ∷ []) (code_highest n (bits / 4)) ∙ ap (λ m. code_digit (m % 4) ∷ code_digits (suc n) bits) e
+
+-- digits that give bits behind others are those of the bits, and the others stand in front
+pub gathered_digits : (front : ℕ) (digits : List ℕ) (bits : ℕ) → gathered front digits ≡ Some bits
+    → (digits ≡ code_digits (length digits) bits) × (bits / 4 ^ length digits ≡ front)
+gathered_digits front [] bits h = let e : front ≡ bits = cc in (refl, omega (arith, e))
+gathered_digits front (digit ∷ digits) bits h = by_two (two_bits digit) refl (λ two. gathered_digits (4 * front + two) digits bits) h where
+  by_two : (o : Option ℕ) → two_bits digit ≡ o
+      → ((two : ℕ) → gathered (4 * front + two) digits ≡ Some bits
+      → (digits ≡ code_digits (length digits) bits) × (bits / 4 ^ length digits ≡ 4 * front + two))
+      → option_and_then (λ two. gathered (4 * front + two) digits) o ≡ Some bits
+      → (digit ∷ digits ≡ code_digits (length (digit ∷ digits)) bits) × (bits / 4 ^ length (digit ∷ digits) ≡ front)
+  by_two None e again k = absurd cc
+  by_two (Some two) e again k =
+      let w = two_code digit two e in
+      let low : two < 4 = w.0 in
+      let r = again two k in
+      let n : ℕ = length digits in
+      let last : bits / 4 ^ n % 4 ≡ two = omega (arith, r.1, low) in
+      let split : bits / 4 ^ n / 4 ≡ bits / (4 ^ n * 4) = div-div-eq-div-mul bits (4 ^ n) 4 in
+      let power : 4 ^ n * 4 ≡ 4 ^ suc n = omega arith in
+      let before : bits / 4 ^ n / 4 ≡ front = omega (arith, r.1, low) in (
+        ap (λ d. d ∷ digits) w.1 ∙ ap (λ ds. code_digit two ∷ ds) r.0 ∙ ap (λ m. code_digit m ∷ code_digits n bits) (sym last) ∙ sym (code_highest n bits),
+        ap (λ m. bits / m) (sym power) ∙ sym split ∙ before,
+      )
+
 -- ---- the table of bits
--- whether the entries are the bits of the bytes from this one on, or 4
+-- what the table has for two bits
+abbrev entry_of : Option ℕ → ℕ
+entry_of None = 4
+entry_of (Some two) = two
+
+-- whether the entries are those of the bytes from this one on
 abbrev pub tells : ℕ → List ℕ → Bool
 tells byte [] = true
-tells byte (two ∷ twos) = (two == 4 || (nat_lt two 4 && byte == code_digit two)) && tells (suc byte) twos
+tells byte (two ∷ twos) = (two == entry_of (two_bits byte)) && tells (suc byte) twos
 
-entry_tells : (byte two : ℕ) → (two == 4 || (nat_lt two 4 && byte == code_digit two)) ≡ true → (two == 4) ≡ false → (two < 4) × (byte ≡ code_digit two)
-entry_tells byte two h other =
-    let k : (nat_lt two 4 && byte == code_digit two) ≡ true = sym (ap (λ b. b || (nat_lt two 4 && byte == code_digit two)) other) ∙ h in
-    let p = and_parts (nat_lt two 4) (byte == code_digit two) k in
-    let low : nat_lt two 4 ≡ true = p.0 in
-    (grind (arith, nat_tests), eqb-true byte (code_digit two) p.1)
+tells_at : (byte : ℕ) (twos : List ℕ) (k : ℕ) → tells byte twos ≡ true → k < length twos → get_or twos k 0 ≡ entry_of (two_bits (byte + k))
+tells_at byte [] k h l = absurd (omega (arith, l))
+tells_at byte (two ∷ twos) zero h l =
+    eqb-true two (entry_of (two_bits byte)) (and_parts (two == entry_of (two_bits byte)) (tells (suc byte) twos) h).0
+    ∙ ap (λ b. entry_of (two_bits b)) (let e : byte ≡ byte + 0 = omega arith in e)
+tells_at byte (two ∷ twos) (suc k) h l =
+    tells_at (suc byte) twos k (and_parts (two == entry_of (two_bits byte)) (tells (suc byte) twos) h).1 (omega (arith, l))
+    ∙ ap (λ b. entry_of (two_bits b)) (let e : suc byte + k ≡ byte + suc k = omega arith in e)
 
-tells_at : (byte : ℕ) (twos : List ℕ) (k : ℕ) → tells byte twos ≡ true → k < length twos → (get_or twos k 0 == 4) ≡ false
-    → (get_or twos k 0 < 4) × (byte + k ≡ code_digit (get_or twos k 0))
-tells_at byte [] k h l other = absurd (omega (arith, l))
-tells_at byte (two ∷ twos) zero h l other =
-    let w = entry_tells byte two (and_parts (two == 4 || (nat_lt two 4 && byte == code_digit two)) (tells (suc byte) twos) h).0 other in
-    (w.0, (let e : byte + 0 ≡ byte = omega arith in e) ∙ w.1)
-tells_at byte (two ∷ twos) (suc k) h l other =
-    let w = tells_at (suc byte) twos k (and_parts (two == 4 || (nat_lt two 4 && byte == code_digit two)) (tells (suc byte) twos) h).1 (omega (arith, l)) other in
-    (w.0, (let e : byte + suc k ≡ suc byte + k = omega arith in e) ∙ w.1)
+-- an entry of a table that tells
+pub bits_at : (twos : List ℕ) (byte : ℕ) → tells 0 twos ≡ true → length twos ≡ 256 → byte < 256 → get_or twos byte 0 ≡ entry_of (two_bits byte)
+bits_at twos byte h all l =
+    tells_at 0 twos byte h (omega (arith, all, l)) ∙ ap (λ b. entry_of (two_bits b)) (let e : 0 + byte ≡ byte = omega arith in e)
 
--- an entry of a table that tells is the bits of its byte, or 4
-pub bits_at : (twos : List ℕ) (byte : ℕ) → tells 0 twos ≡ true → length twos ≡ 256 → byte < 256 → get_or twos byte 0 ≢ 4
-    → (get_or twos byte 0 < 4) × (byte ≡ code_digit (get_or twos byte 0))
-bits_at twos byte h all l other =
-    let w = tells_at 0 twos byte h (omega (arith, all, l)) (ne_eqb (get_or twos byte 0) 4 other) in (w.0, (let e : byte ≡ 0 + byte = omega arith in e) ∙ w.1)
+-- an entry that is no 4 is the two bits
+pub some_bits : (digit two : ℕ) → two ≡ entry_of (two_bits digit) → two ≢ 4 → (Some two ≡ two_bits digit) × (two < 4)
+some_bits digit two h other = by_bits (two_bits digit) refl h where
+  by_bits : (o : Option ℕ) → two_bits digit ≡ o → two ≡ entry_of o → (Some two ≡ two_bits digit) × (two < 4)
+  by_bits None e k = absurd (other k)
+  by_bits (Some bits) e k =
+      let same : Some two ≡ Some bits = ap Some k in
+      (same ∙ sym e, omega (arith, (two_code digit bits e).0, k))
 
--- ---- the digits of a word
--- one digit more
-pub code_push : (i bits two : ℕ) → two < 4 → code_digits (i + 1) (4 * bits + two) ≡ code_digits i bits ++ code_digit two ∷ []
-code_push i bits two low =
-    let n : (4 * bits + two) / 4 ≡ bits = omega arith in
-    let m : (4 * bits + two) % 4 ≡ two = omega arith in
-    ap (λ c. code_digits c (4 * bits + two)) (add-one i)
-    ∙ ap (λ k. code_digits i k ++ code_digit ((4 * bits + two) % 4) ∷ []) n
-    ∙ ap (λ k. code_digits i bits ++ code_digit k ∷ []) m
-
-pub next_power : (i : ℕ) → 4 ^ (i + 1) ≡ 4 * 4 ^ i
-next_power i = let p : 4 * 4 ^ i ≡ 4 ^ suc i = omega arith in ap (λ n. 4 ^ n) (add-one i) ∙ sym p
-
--- what stands in front of the digits stays there
-pub front_stays : (i bits two front : ℕ) → two < 4 → bits / 4 ^ i ≡ front → (4 * bits + two) / 4 ^ (i + 1) ≡ front
-front_stays i bits two front low h =
-    let n : (4 * bits + two) / 4 ≡ bits = omega arith in
-    ap (λ m. (4 * bits + two) / m) (next_power i) ∙ sym (div-div-eq-div-mul (4 * bits + two) 4 (4 ^ i)) ∙ ap (λ m. m / 4 ^ i) n ∙ h
-
+-- ---- a line
 -- a W line in front
 pub word_first : (text behind : List ℕ) (word : Word) → word.value < 2 ^ 16 → text ≡ word_put word ++ behind
     → HasLine text (Ok (symbol.Sent word)) behind

@@ -1,7 +1,6 @@
 //! The half bits of a word as digits: written and read.
 ghost use Rattle.std.specs.Prelude.{◌≡◌, ◌+◌, ◌*◌, ◌/◌, ◌<◌, ◌≤◌, ◌^◌, ◌==◌, ◌∷◌, ◌++◌, []};
 ghost use Rattle.std.specs.Prelude.{IfSome, Some, None, length, true, if◌then◌else◌};
-ghost use Rattle.std.specs.Char.{digit_value};
 ghost use Rattle.std.specs.List.{list_all};
 ghost use Rattle.bus_text.specs.Digits.{is_capital_digit};
 ghost use Rattle.bus_wave.specs.Code.{halves_of, frame_of};
@@ -15,11 +14,23 @@ use bus_words::{FramedWord, Kind, Word, frame};
 /// How many digits a word has: four half bits each.
 const DIGITS: usize = 10;
 
-/// What the table of bits has for a digit that isn't two pairs.
+/// What the table of bits has for a byte that is no digit of two pairs.
 const NO: u8 = 4;
 
-/// The two bits of each value of a digit. A table, since data come in no order that a branch could learn.
-const BITS: [u8; 16] = [NO, NO, NO, NO, NO, 0, 1, NO, NO, 2, 3, NO, NO, NO, NO, NO];
+/// The two bits of each byte as a digit that is two pairs. A table, since data come in no order that a branch could learn.
+const BITS: [u8; 256] = [
+    NO, NO, NO, NO, NO, NO, NO, NO, NO, NO, NO, NO, NO, NO, NO, NO, NO, NO, NO, NO, NO, NO, NO, NO,
+    NO, NO, NO, NO, NO, NO, NO, NO, NO, NO, NO, NO, NO, NO, NO, NO, NO, NO, NO, NO, NO, NO, NO, NO,
+    NO, NO, NO, NO, NO, 0, 1, NO, NO, 2, NO, NO, NO, NO, NO, NO, NO, 3, NO, NO, NO, NO, NO, NO, NO,
+    NO, NO, NO, NO, NO, NO, NO, NO, NO, NO, NO, NO, NO, NO, NO, NO, NO, NO, NO, NO, NO, NO, NO, NO,
+    NO, NO, NO, NO, NO, NO, NO, NO, NO, NO, NO, NO, NO, NO, NO, NO, NO, NO, NO, NO, NO, NO, NO, NO,
+    NO, NO, NO, NO, NO, NO, NO, NO, NO, NO, NO, NO, NO, NO, NO, NO, NO, NO, NO, NO, NO, NO, NO, NO,
+    NO, NO, NO, NO, NO, NO, NO, NO, NO, NO, NO, NO, NO, NO, NO, NO, NO, NO, NO, NO, NO, NO, NO, NO,
+    NO, NO, NO, NO, NO, NO, NO, NO, NO, NO, NO, NO, NO, NO, NO, NO, NO, NO, NO, NO, NO, NO, NO, NO,
+    NO, NO, NO, NO, NO, NO, NO, NO, NO, NO, NO, NO, NO, NO, NO, NO, NO, NO, NO, NO, NO, NO, NO, NO,
+    NO, NO, NO, NO, NO, NO, NO, NO, NO, NO, NO, NO, NO, NO, NO, NO, NO, NO, NO, NO, NO, NO, NO, NO,
+    NO, NO, NO, NO, NO, NO, NO, NO, NO, NO, NO, NO, NO, NO, NO,
+];
 
 /// The digit of each two bits.
 const CODES: [u8; 4] = [b'5', b'6', b'9', b'A'];
@@ -45,14 +56,12 @@ pub(crate) fn are_digits(field: &[u8]) -> bool
     field.len() == DIGITS && are_capitals(field)
 }
 
-/// The two bits of a digit; None where one of its pairs is no bit.
+/// The two bits of a digit; None where one of its pairs is no bit, and of a byte that is no digit.
 fn two_bits(digit: u8) -> Option<u32>
-    requires { is_capital_digit digit ≡ true }
-    ensures value { result ≡ spec.two_bits (digit_value digit) }
+    ensures value { result ≡ spec.two_bits digit }
     ensures range { IfSome result (λ two. two < 4) }
 {
-    let value = capital_digit(digit)?;
-    let two = BITS[value as usize];
+    let two = BITS[digit as usize];
     if two == NO {
         return None;
     }
@@ -60,10 +69,9 @@ fn two_bits(digit: u8) -> Option<u32>
 }
 
 /// A number of bits, and behind it the bits of digits, eight at most.
-fn gathered(front: u32, digits: &[u8]) -> Option<u32>
+pub(crate) fn gathered(front: u32, digits: &[u8]) -> Option<u32>
     requires front { front < 2 }
     requires few { length digits.now ≤ 8 }
-    requires digits { list_all is_capital_digit digits.now ≡ true }
     ensures value { result ≡ spec.gathered front digits.now }
     ensures range { IfSome result (λ bits. bits < 2 ^ 17) }
 {

@@ -4,7 +4,7 @@ ghost use Rattle.std.specs.Prelude.{OnOk, vec_len, Some};
 ghost use Rattle.std.specs.List.{list_all, AllByRecursion};
 ghost use Rattle.std.specs.Option.{option_copied};
 ghost use Rattle.bus_words.specs.declared.word.Kind.TheVariants as kind;
-ghost use Rattle.bus_strings.specs.Limits.{horizon_limit, most_strings, most_terminal};
+ghost use Rattle.bus_strings.specs.Limits.{horizon_limit, most_strings, most_terminal, most_words};
 ghost use Rattle.bus_table.specs.Ranges.{is_send_line};
 ghost use Rattle.bus_wave.specs.declared.symbol.Symbol.TheVariants.{Quiet, Sent, End};
 ghost use Rattle.bus_wave.specs.inside.Capped.{cap};
@@ -236,7 +236,7 @@ impl<'t> Draft<'t> {
 
     /// Completes the wordstring of a SEND line.
     fn keep_string(&mut self, alloc: Global, line: SendLine) -> Result<(), AllocError>
-        requires { length self.old.words.items ≤ 256 }
+        requires { length self.old.words.items ≤ most_words }
         ensures string { OnOk result (begun_of self.new ≡ with_string (begun_of self.old) (string_of line self.old.words.items)) }
         ensures list { OnOk result (self.new.list.items ≡ self.old.list.items) }
         ensures at { OnOk result (self.new.at ≡ self.old.at) }
@@ -248,7 +248,7 @@ impl<'t> Draft<'t> {
 
     /// Completes the message with the wordstring of its last SEND line.
     fn close(&mut self, alloc: Global, line: SendLine) -> Result<(), AllocError>
-        requires words { length self.old.words.items ≤ 256 }
+        requires words { length self.old.words.items ≤ most_words }
         requires strings { length self.old.strings.items < most_strings }
         requires low { 1 ≤ self.old.terminal }
         requires high { self.old.terminal ≤ most_terminal }

@@ -1,42 +1,23 @@
 //! A message and its wordstrings, made of what the lines gave.
 ghost use Rattle.std.specs.Prelude.{◌≡◌, ◌<◌, ◌≤◌, ◌++◌, ◌∷◌, [], length, IfOk, OnOk};
-ghost use Rattle.bus_strings.specs.Limits.{most_short, most_strings};
+ghost use Rattle.bus_strings.specs.Limits.{most_strings, most_words};
 ghost use Rattle.bus_wave.specs.Judging.{string_of};
 
-use bus_strings::{Message, SHORT, Wordstring};
+use bus_strings::{Message, Wordstring};
 use bus_table::SendLine;
 use std::alloc::{AllocError, Global};
 use std::mem::replace;
 
-/// The wordstring of a SEND line and of a few data words: no more than it keeps in itself.
-fn short_string(line: SendLine, words: &[u16]) -> Wordstring
-    requires { length words.now ≤ most_short }
-    ensures { result ≡ string_of line words.now }
-{
-    if words.is_empty() {
-        return Wordstring::short(line.label, line.ext, 0, [0; SHORT]);
-    }
-    let mut kept = [0; SHORT];
-    for (k, word) in words.iter().enumerate() {
-        kept[k] = *word;
-    }
-    Wordstring::short(line.label, line.ext, words.len() as u8, kept)
-}
-
-/// The wordstring of a SEND line and of data words, which takes only the memory that it needs.
+/// The wordstring of a SEND line and of data words.
 pub(crate) fn wordstring(
     alloc: Global,
     line: SendLine,
     words: &[u16],
 ) -> Result<Wordstring, AllocError>
-    requires { length words.now ≤ 256 }
+    requires { length words.now ≤ most_words }
     ensures { IfOk result (λ string. string ≡ string_of line words.now) }
 {
-    if words.len() <= SHORT {
-        return Ok(short_string(line, words));
-    }
-    let words = Vec::from_slice(alloc, words)?;
-    Ok(Wordstring::new(line.label, line.ext, words).unwrap())
+    Wordstring::of(alloc, line.label, line.ext, words)
 }
 
 /// The message of wordstrings and of one behind them. A message of one takes no memory.

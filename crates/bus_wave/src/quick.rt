@@ -8,56 +8,12 @@ ghost use Rattle.bus_wave.specs.inside.Parts.{HasLine};
 ghost use Rattle.bus_wave.specs.inside.Puts.{word_put};
 ghost use Rattle.bus_wave.specs.Waves.{word_halves};
 
-use crate::code::{frame_with, head_of};
+use crate::code::{frame_with, gathered, head_of};
 use bus_text::leading_digits;
 use bus_words::{Kind, Word, unframe};
 
 /// How many bytes a W line has.
 const LINE: usize = 13;
-
-/// What the table of bits has for a byte that is no digit of two pairs.
-const NO: u8 = 4;
-
-/// The two bits of each byte as a digit that is two pairs. A table, since data come in no order that a branch could learn.
-const BITS: [u8; 256] = [
-    NO, NO, NO, NO, NO, NO, NO, NO, NO, NO, NO, NO, NO, NO, NO, NO, NO, NO, NO, NO, NO, NO, NO, NO,
-    NO, NO, NO, NO, NO, NO, NO, NO, NO, NO, NO, NO, NO, NO, NO, NO, NO, NO, NO, NO, NO, NO, NO, NO,
-    NO, NO, NO, NO, NO, 0, 1, NO, NO, 2, NO, NO, NO, NO, NO, NO, NO, 3, NO, NO, NO, NO, NO, NO, NO,
-    NO, NO, NO, NO, NO, NO, NO, NO, NO, NO, NO, NO, NO, NO, NO, NO, NO, NO, NO, NO, NO, NO, NO, NO,
-    NO, NO, NO, NO, NO, NO, NO, NO, NO, NO, NO, NO, NO, NO, NO, NO, NO, NO, NO, NO, NO, NO, NO, NO,
-    NO, NO, NO, NO, NO, NO, NO, NO, NO, NO, NO, NO, NO, NO, NO, NO, NO, NO, NO, NO, NO, NO, NO, NO,
-    NO, NO, NO, NO, NO, NO, NO, NO, NO, NO, NO, NO, NO, NO, NO, NO, NO, NO, NO, NO, NO, NO, NO, NO,
-    NO, NO, NO, NO, NO, NO, NO, NO, NO, NO, NO, NO, NO, NO, NO, NO, NO, NO, NO, NO, NO, NO, NO, NO,
-    NO, NO, NO, NO, NO, NO, NO, NO, NO, NO, NO, NO, NO, NO, NO, NO, NO, NO, NO, NO, NO, NO, NO, NO,
-    NO, NO, NO, NO, NO, NO, NO, NO, NO, NO, NO, NO, NO, NO, NO, NO, NO, NO, NO, NO, NO, NO, NO, NO,
-    NO, NO, NO, NO, NO, NO, NO, NO, NO, NO, NO, NO, NO, NO, NO,
-];
-
-/// The two bits of a digit that is two pairs.
-fn two_bits(digit: u8) -> Option<u32>
-    ensures { IfSome result (λ two. (two < 4) × (digit ≡ spec.code_digit two)) }
-{
-    let two = BITS[digit as usize];
-    if two == NO {
-        return None;
-    }
-    Some(u32::from(two))
-}
-
-/// The number of a bit and of the bits of digits behind it, eight at most.
-fn gathered(front: u32, digits: &[u8]) -> Option<u32>
-    requires front { front < 2 }
-    requires few { length digits.now ≤ 8 }
-    ensures digits { IfSome result (λ bits. digits.now ≡ spec.code_digits (length digits.now) bits) }
-    ensures front { IfSome result (λ bits. bits / 4 ^ length digits.now ≡ front) }
-    ensures range { IfSome result (λ bits. bits < 2 ^ 17) }
-{
-    let mut bits = front;
-    for digit in digits {
-        bits = 4 * bits + two_bits(*digit)?;
-    }
-    Some(bits)
-}
 
 /// The word of a kind and of its bits, the lowest of which is the parity bit; None where this is another than the word's.
 fn word_with(kind: Kind, bits: u32) -> Option<Word>

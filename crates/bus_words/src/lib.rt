@@ -18,7 +18,7 @@ mod text;
 mod word;
 
 pub use label::{Ext, Label};
-pub use text::{read_frame, read_word, word_text};
+pub use text::{bit_digit, letter, read_frame, read_word, word_text};
 pub use word::{
     FramedWord, Kind, Word, WordError, frame, label_word, parity, split_label, unframe,
 };

@@ -9,7 +9,8 @@ ghost use Rattle.bus_words.specs.WordTexts.{is_bit, form, is_of, kept as kept_of
 use crate::word::{FramedWord, Kind, Word, WordError, frame, unframe};
 use bus_text::{capital_digit, four_digits};
 
-fn letter(kind: Kind) -> u8
+/// The letter of a kind: `L` of a label word, `D` of a data word.
+pub fn letter(kind: Kind) -> u8
     ensures { result ≡ letter_of kind }
 {
     match kind {
@@ -18,8 +19,8 @@ fn letter(kind: Kind) -> u8
     }
 }
 
-/// The digit of a bit.
-fn bit_digit(bit: bool) -> u8
+/// The digit of a bit, such as the parity bit: `0` or `1`.
+pub fn bit_digit(bit: bool) -> u8
     ensures { result ≡ digit_of bit }
 {
     if bit { b'1' } else { b'0' }

@@ -1,11 +1,18 @@
 -- Where a wordstring keeps its data words, and a message its wordstrings. No public clause cites this module.
-use Rattle.std.specs.Prelude.{◌≡◌, ◌≤◌, [], ◌∷◌, length, take}
-use Rattle.bus_strings.specs.Limits.{most_middle, most_short}
+use Rattle.std.specs.Prelude.{ℕ, ◌≡◌, ◌≤◌, [], ◌∷◌, length, take}
 use Rattle.bus_strings.specs.Messages.{Wordstring, IsWordstring, Message, IsMessage, bits}
 use Rattle.bus_strings.specs.declared.wordstring.Kept.{Kept}
 use Rattle.bus_strings.specs.declared.wordstring.Kept.TheVariants.{Short, Middle, Long, Left}
 use Rattle.bus_strings.specs.declared.message.Strings.{Strings}
 use Rattle.bus_strings.specs.declared.message.Strings.TheVariants.{One, Many}
+
+-- How many data words a wordstring keeps in itself, in no memory of their own.
+abbrev pub most_short : ℕ
+most_short = 9
+
+-- How many it keeps in a block of one size.
+abbrev pub most_middle : ℕ
+most_middle = 48
 
 -- The wordstring that is kept.
 abbrev pub kept_string : Kept → Wordstring

@@ -1,21 +1,20 @@
 -- A W line's digits as the code reads and writes them: a digit behind the first two has two bits.
 use Rattle.std.specs.Prelude.{ℕ, zero, suc, ◌+◌, ◌*◌, ◌/◌, ◌%◌, ◌&&◌, ◌==◌, List, [], ◌∷◌, ◌++◌, Option, Some, None}
 use Rattle.std.specs.Prelude.{if◌then◌else◌}
-use Rattle.std.specs.Char.{digit_value}
 use Rattle.std.specs.Option.{option_and_then}
 use Rattle.bus_words.specs.declared.word.Kind.{Kind}
 use Rattle.bus_words.specs.declared.word.Kind.TheVariants.{Label, Plain}
 use Rattle.bus_words.specs.declared.word.FramedWord.{FramedWord}
 
--- The two bits of a digit's value: 01 01 is 0 0, and so on; none where one of its pairs is 00 or 11.
+-- The two bits of a digit: 01 01 is 0 0, and so on; none where one of its pairs is 00 or 11, and none of another byte.
 abbrev pub two_bits : ℕ → Option ℕ
-two_bits value =
-    if value == 5 then Some 0 else if value == 6 then Some 1 else if value == 9 then Some 2 else if value == 10 then Some 3 else None
+two_bits digit =
+    if digit == 53 then Some 0 else if digit == 54 then Some 1 else if digit == 57 then Some 2 else if digit == 65 then Some 3 else None
 
 -- A number, and behind it the bits of digits.
 abbrev pub gathered : ℕ → List ℕ → Option ℕ
 gathered bits [] = Some bits
-gathered bits (digit ∷ digits) = option_and_then (λ two. gathered (4 * bits + two) digits) (two_bits (digit_value digit))
+gathered bits (digit ∷ digits) = option_and_then (λ two. gathered (4 * bits + two) digits) (two_bits digit)
 
 -- The kind of word, and its highest bit, by the first two digits.
 abbrev pub head_of : ℕ → ℕ → Option (Kind × ℕ)

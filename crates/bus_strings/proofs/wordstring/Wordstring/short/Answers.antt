@@ -1,7 +1,7 @@
 use Rattle.std.proofs.Common.{arith, rules, ◌≡◌, ◌≤◌, ◌<◌, ◌^◌, length}
 use Rattle.std.proofs.lemmas.List.{length-take}
 use Rattle.bus_strings.proofs.KeptLemmas.{all_take}
-use Rattle.bus_strings.specs.Limits.{most_short}
+use Rattle.bus_strings.specs.inside.Kept.{most_short}
 use Rattle.bus_strings.proofs.wordstring.Wordstring.short.Goals as goal
 
 pub invariant_of-result : goal.invariant_of-result
