@@ -1,13 +1,18 @@
 -- What a call does to the outside: which outcome it comes to, and what its sources and sinks then hold.
-use Rattle.std.specs.Prelude.{◌≡◌, ◌≢◌, ◌↔◌, ℕ, Bool, false, List, [], Option, IfSome, IfNone, IsNone, IsSome, Result, Ok, Err}
+use Rattle.std.specs.Prelude.{◌≡◌, ◌≢◌, ◌↔◌, ℕ, Bool, false, List, [], Option, IfSome, IfNone, IsNone, IsSome, Result, Ok, Err, String}
+use Rattle.std.specs.declared.alloc.Global.{Global}
 use Rattle.bus_outer.specs.Sinks.{Written, WritesText}
+use Rattle.bus_outer.specs.declared.sink.Sink.{Ghosts as SinkGhosts}
 use Rattle.bus_outer.specs.declared.sink.WriteFault.{WriteFault as Fault}
+use Rattle.bus_outer.specs.declared.source.Source.{Ghosts as SourceGhosts}
 use Rattle.bus_command.specs.declared.outcome.Outcome.{Outcome}
 use Rattle.bus_command.specs.declared.outcome.Outcome.TheVariants.{NoMemory, Usage, WriteFault}
+use Rattle.bus_command.specs.declared.status.Status.{Status}
 use Rattle.bus_command.specs.Causes.{RefusesTexts}
 use Rattle.bus_command.specs.Kinds.{Kind, NoForm, NotRead, TooMuch, Wrong, Late, NotWritten, NoRoom, Answer, kind_of}
+use Rattle.bus_command.specs.Outcomes.{status_of, fault_line}
 use Rattle.bus_command.specs.Stages.{StandsFor}
-use Rattle.bus_command.specs.Outside.{Seen, Outside, Call}
+use Rattle.bus_command.specs.Outside.{Seen, Outside, Call, beside, call, outside}
 use Rattle.bus_command.specs.Readers.{Named, told, OfTexts, Reads, reach, SourceCounts, OutCounts}
 use Rattle.bus_command.specs.Steps.{IsRefused}
 
@@ -89,6 +94,8 @@ pub record Does {R : Type 0} (named : Named) (refusing : List ℕ → Option (Ou
 --   due        the outcome of a form for both texts
 --   IsText     what a form writes of both texts
 --   Cause      the cause of a refusal of the program's own
+--   ends       how the program ends with such a refusal
+--   line       its line on `err`
 pub record Program (R Form : Type 0) : Type 1 where
   pub form_of : List (List ℕ) → Option Form
   pub sources : Form → Named
@@ -97,11 +104,26 @@ pub record Program (R Form : Type 0) : Type 1 where
   pub due : Form → List ℕ → List ℕ → Outcome R
   pub IsText : Form → List ℕ → List ℕ → List ℕ → Type 0
   pub Cause : Form → R → List ℕ → List ℕ → Type 0
+  pub ends : R → Status
+  pub line : R → List ℕ
 
 -- What the command of a form did.
 abbrev pub DoesForm : {R Form : Type 0} → Program R Form → Form → Outside → Outside → Outcome R → Type 0
 DoesForm program form before after outcome =
     Does (program.sources form) (program.refusing form) (program.due form) (program.IsText form) before after outcome
+
+-- The same of a form that names the first source alone, whatever the second is: between these two, before and after.
+abbrev pub DoesFirst :
+    {R Form S K : Type 0} → Program R Form → SourceGhosts S → SinkGhosts K → Form → S → K → S → K → Outcome R → Type 0
+DoesFirst program source sink form first out later_first later_out outcome =
+    (second : Seen)
+    → DoesForm program form (beside source sink first second out) (beside source sink later_first second later_out) outcome
+
+-- The same of a form between these three, before and after.
+abbrev pub DoesBoth :
+    {R Form S K : Type 0} → Program R Form → SourceGhosts S → SinkGhosts K → Form → S → S → K → S → S → K → Outcome R → Type 0
+DoesBoth program source sink form first second out later_first later_second later_out outcome =
+    DoesForm program form (outside source sink first second out) (outside source sink later_first later_second later_out) outcome
 
 -- An outcome that refuses a text has its cause in the texts that the sources tell; where one tells nothing, in some text.
 abbrev pub HasCause : {R Form : Type 0} → Program R Form → Form → Outside → Outcome R → Type 0
@@ -128,3 +150,16 @@ pub record Acts {R Form : Type 0} (program : Program R Form) (call : Call) (outc
 -- What `err` holds: this line, or a beginning of it where the count of `err` rose.
 abbrev pub TellsLine : {K : Type 0} → (K → Option (List ℕ)) → (K → ℕ) → K → K → List ℕ → Type 0
 TellsLine held faults old new line = (answer : Result (Unit {0}) Fault) × WritesText held faults old new answer line
+
+-- What a call came to: an outcome that it acts by, the line of that outcome on `err`, and its status.
+abbrev pub Comes : {R Form E : Type 0} → Program R Form → SinkGhosts E → Call → E → E → Status → Type 0
+Comes {R} program err call old new status =
+    (outcome : Outcome R) × Acts program call outcome
+    × TellsLine err.held err.faults old new (fault_line program.ends program.line outcome) × (status ≡ status_of program.ends outcome)
+
+-- What the call of these words came to, between two sources, a sink and the sink of its line before and after.
+abbrev pub ComesOf :
+    {R Form S K E : Type 0} → Program R Form → SourceGhosts S → SinkGhosts K → SinkGhosts E → List (String Global)
+    → S → S → K → E → S → S → K → E → Status → Type 0
+ComesOf program source sink err words first second out told later_first later_second later_out later_told status =
+    Comes program err (call source sink words first second out later_first later_second later_out) told later_told status

@@ -7,16 +7,16 @@ use Rattle.bus_table.specs.Tables.{Table, Hand}
 use Rattle.bus_table.specs.declared.mode.Mode.{Mode}
 use Rattle.bus_trace.specs.Traces.{Recording}
 use Rattle.bus_command.specs.Acts as command
-use Rattle.bus_command.specs.Acts.{Ends, Program, TellsLine}
+use Rattle.bus_command.specs.Acts.{Ends, Program}
 use Rattle.bus_command.specs.declared.outcome.Outcome.TheVariants.{Done}
 use Rattle.bus_command.specs.declared.status.Status.{Status}
 use Rattle.bus_cable.specs.Cables.{Cable}
-use Rattle.bus_command.specs.Outside.{Call, Outside, Seen, beside, call, outside, sink_seen}
+use Rattle.bus_command.specs.Outside.{Call, Outside, sink_seen}
 use Rattle.bus_command.specs.Readers.{entire, one_source, by_trace, two_sources}
 use Rattle.bus_tool.specs.Causes.{Cause}
 use Rattle.bus_tool.specs.Due.{form_due, first_refusal, table_answer, messages_answer, trace_answer}
 use Rattle.bus_tool.specs.Forms.{Form, TableCommand, MessagesCommand, TraceCommand, form_of, sources_of, takes_memory}
-use Rattle.bus_tool.specs.Refusals.{Outcome, ToolRefusal, fault_line, status_of}
+use Rattle.bus_tool.specs.Refusals.{Outcome, ToolRefusal, ends_of, line_of}
 use Rattle.bus_tool.specs.Texts.{IsFormText, IsMessagesText, IsOnCableText, table_answer_text, trace_answer_text}
 
 -- The program: its forms, what is due of each, and what each writes.
@@ -29,6 +29,8 @@ tool_program = record {
   due = form_due;
   IsText = IsFormText;
   Cause = Cause;
+  ends = ends_of;
+  line = line_of;
 }
 
 -- What the command of a form did.
@@ -37,13 +39,11 @@ DoesForm form before after outcome = command.DoesForm tool_program form before a
 
 -- What the command of a form did whose first source was this before and after, whatever the second is.
 abbrev pub DoesFirst : {S K : Type 0} → SourceGhosts S → SinkGhosts K → Form → S → K → S → K → Outcome → Type 0
-DoesFirst source sink form first out later_first later_out outcome =
-    (second : Seen) → DoesForm form (beside source sink first second out) (beside source sink later_first second later_out) outcome
+DoesFirst = command.DoesFirst tool_program
 
 -- What the command of a form did whose sources were these before and after.
 abbrev pub DoesBoth : {S K : Type 0} → SourceGhosts S → SinkGhosts K → Form → S → S → K → S → S → K → Outcome → Type 0
-DoesBoth source sink form first second out later_first later_second later_out outcome =
-    DoesForm form (outside source sink first second out) (outside source sink later_first later_second later_out) outcome
+DoesBoth = command.DoesBoth tool_program
 
 -- What a call did.
 abbrev pub Acts : Call → Outcome → Type 0
@@ -83,13 +83,7 @@ abbrev pub EndsOnCable : {K : Type 0} → SinkGhosts K → ℕ → Table → Cab
 EndsOnCable ghosts horizon table cable hands old new outcome =
     Ends (two_sources entire entire) Done (IsOnCableText horizon table cable hands) (sink_seen ghosts old) (sink_seen ghosts new) outcome
 
--- What a call came to: an outcome that it acts by, the line of that outcome on `err`, and its status.
-abbrev pub Comes : {E : Type 0} → SinkGhosts E → Call → E → E → Status → Type 0
-Comes err call old new status =
-    (outcome : Outcome) × Acts call outcome × TellsLine err.held err.faults old new (fault_line outcome) × (status ≡ status_of outcome)
-
 -- What the call of these words came to, between two sources, a sink and the sink of its line before and after.
 abbrev pub ComesOf :
     {S K E : Type 0} → SourceGhosts S → SinkGhosts K → SinkGhosts E → List (String Global) → S → S → K → E → S → S → K → E → Status → Type 0
-ComesOf source sink err words first second out told later_first later_second later_out later_told status =
-    Comes err (call source sink words first second out later_first later_second later_out) told later_told status
+ComesOf = command.ComesOf tool_program

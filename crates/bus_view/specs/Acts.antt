@@ -7,13 +7,13 @@ use Rattle.bus_table.specs.Tables.{Table}
 use Rattle.bus_trace.specs.Traces.{Recording}
 use Rattle.bus_dump.specs.Doubled.{doubled}
 use Rattle.bus_command.specs.Acts as command
-use Rattle.bus_command.specs.Acts.{Ends, Program, TellsLine}
+use Rattle.bus_command.specs.Acts.{Ends, Program}
 use Rattle.bus_command.specs.Causes.{AreTracedWith}
-use Rattle.bus_command.specs.Outside.{Call, Outside, call, outside, sink_seen}
+use Rattle.bus_command.specs.Outside.{Call, Outside, sink_seen}
 use Rattle.bus_command.specs.declared.status.Status.{Status}
 use Rattle.bus_view.specs.Due.{form_due, first_refusal, view_answer, view_text, IsFormText}
 use Rattle.bus_view.specs.Forms.{Form, View, form_of, sources, sources_of, takes_memory}
-use Rattle.bus_view.specs.Refusals.{Doubled, Outcome, fault_line, status_of}
+use Rattle.bus_view.specs.Refusals.{Doubled, Outcome, ends_of, line_of}
 
 -- The first entry of a trace that is doubled.
 abbrev pub IsDoubledAt : Doubled → Table → Recording → Type 0
@@ -29,6 +29,8 @@ view_program = record {
   due = form_due;
   IsText = IsFormText;
   Cause = λ form refusal. AreTracedWith (IsDoubledAt refusal);
+  ends = ends_of;
+  line = line_of;
 }
 
 -- What the command of a form did.
@@ -37,8 +39,7 @@ DoesForm form before after outcome = command.DoesForm view_program form before a
 
 -- What the command of a form did whose sources were these before and after.
 abbrev pub DoesBoth : {S K : Type 0} → SourceGhosts S → SinkGhosts K → Form → S → S → K → S → S → K → Outcome → Type 0
-DoesBoth source sink form first second out later_first later_second later_out outcome =
-    DoesForm form (outside source sink first second out) (outside source sink later_first later_second later_out) outcome
+DoesBoth = command.DoesBoth view_program
 
 -- What a call did.
 abbrev pub Acts : Call → Outcome → Type 0
@@ -50,13 +51,7 @@ EndsOnView ghosts view table trace old new outcome =
     Ends sources (view_answer view table trace) (λ text. text ≡ view_text view table trace) (sink_seen ghosts old) (sink_seen ghosts new)
     outcome
 
--- What a call came to: an outcome that it acts by, the line of that outcome on `err`, and its status.
-abbrev pub Comes : {E : Type 0} → SinkGhosts E → Call → E → E → Status → Type 0
-Comes err call old new status =
-    (outcome : Outcome) × Acts call outcome × TellsLine err.held err.faults old new (fault_line outcome) × (status ≡ status_of outcome)
-
 -- What the call of these words came to, between two sources, a sink and the sink of its line before and after.
 abbrev pub ComesOf :
     {S K E : Type 0} → SourceGhosts S → SinkGhosts K → SinkGhosts E → List (String Global) → S → S → K → E → S → S → K → E → Status → Type 0
-ComesOf source sink err words first second out told later_first later_second later_out later_told status =
-    Comes err (call source sink words first second out later_first later_second later_out) told later_told status
+ComesOf = command.ComesOf view_program
