@@ -7,7 +7,7 @@ use Rattle.std.proofs.lemmas.Bool.Decides.{nat_tests}
 use Rattle.bus_strings.specs.Members.{In}
 use Rattle.bus_strings.proofs.MemberLaws.{any_in, none_any}
 use Rattle.bus_regime.specs.Gaps.{Gap, has_width}
-use Rattle.bus_regime.specs.Fine.{IsSynchronized, IsFine}
+use Rattle.bus_regime.specs.inside.Fine.{IsSynchronized, IsFine}
 use Rattle.bus_regime.specs.Verdicts.{is_small}
 use Rattle.bus_advice.specs.inside.InnerGaps.{has_room, width_for}
 use Rattle.bus_advice.proofs.Members.{any_where}

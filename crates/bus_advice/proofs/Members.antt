@@ -8,7 +8,7 @@ use Rattle.std.proofs.lemmas.List.Sums.{sum_by-cons}
 use Rattle.bus_strings.specs.Members.{In}
 use Rattle.bus_strings.proofs.MemberLaws.{in_push_cases}
 use Rattle.bus_table.specs.Tables.{Sender}
-use Rattle.bus_table.specs.Turns.{Differ}
+use Rattle.bus_table.specs.inside.Orders.{Differ}
 use Rattle.bus_table.specs.Whole.{first_again}
 use Rattle.bus_table.proofs.ValidLaws.{fresh_first}
 use Rattle.bus_advice.specs.Changes.{change_sender}

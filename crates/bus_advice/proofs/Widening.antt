@@ -9,14 +9,15 @@ use Rattle.bus_strings.specs.Members.{In}
 use Rattle.bus_table.specs.declared.mode.Mode.{Mode}
 use Rattle.bus_table.specs.declared.mode.Mode.TheVariants.{Periodic}
 use Rattle.bus_table.specs.Tables.{Sender, Table}
-use Rattle.bus_table.specs.Turns.{turn_key, turn_order, Rises}
+use Rattle.bus_table.specs.Turns.{turn_key, turn_order}
+use Rattle.bus_table.specs.inside.Orders.{Rises}
 use Rattle.bus_table.specs.Valid.{is_valid}
 use Rattle.bus_table.specs.Whole.{periodic_refusal}
 use Rattle.bus_table.specs.inside.Facts.{FitsMode, SenderFacts, TableFacts}
 use Rattle.bus_table.proofs.ValidLaws.{valid_facts}
 use Rattle.bus_table.proofs.TurnLaws.{of_each, behind_rises, from_sort, length-sort, numbers_differ, order_rises}
 use Rattle.bus_regime.specs.Gaps.{Gap, gaps, gaps_from, last_end, latest_end, has_width}
-use Rattle.bus_regime.specs.Fine.{IsFine}
+use Rattle.bus_regime.specs.inside.Fine.{IsFine}
 use Rattle.bus_regime.specs.Verdicts.{verdict_of, is_accepted, is_small}
 use Rattle.bus_regime.proofs.VerdictLaws.{accepted_gaps, gaps_accepted}
 use Rattle.bus_regime.proofs.GapLaws.{gap_sender, same_by_number}

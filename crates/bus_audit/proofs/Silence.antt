@@ -7,7 +7,7 @@ use Rattle.bus_timers.specs.MayStartTest.{TestDecides}
 use Rattle.bus_strings.specs.Members.{In}
 use Rattle.bus_table.specs.Tables.{Sender, Table}
 use Rattle.bus_table.specs.Fits.{sender_of}
-use Rattle.bus_table.specs.Turns.{Differ}
+use Rattle.bus_table.specs.inside.Orders.{Differ}
 use Rattle.bus_trace.specs.Traces.{Recording}
 use Rattle.bus_medium.specs.Lawful.{IsBefore}
 use Rattle.bus_medium.specs.Timings.{quiet_of}

@@ -11,7 +11,7 @@ use Rattle.bus_strings.specs.Messages.{Entry, bits}
 use Rattle.bus_strings.proofs.MessageLaws.{bits_some}
 use Rattle.bus_strings.specs.Transmissions.{end_of, IsAscending}
 use Rattle.bus_table.specs.Tables.{Sender, Table}
-use Rattle.bus_table.specs.Turns.{Differ}
+use Rattle.bus_table.specs.inside.Orders.{Differ}
 use Rattle.bus_trace.specs.Traces.{Recording}
 use Rattle.bus_medium.specs.Timings.{quiet_of, timing_of}
 use Rattle.bus_audit.specs.declared.watch.Watch.{Watch}

@@ -6,7 +6,8 @@ use Rattle.std.specs.Int.{is_in_range as is_between}
 use Rattle.std.proofs.lemmas.Bool.{and_parts}
 use Rattle.std.proofs.lemmas.Bool.Decides.{nat_tests}
 use Rattle.std.proofs.lemmas.List.Concat.{flat_map-append}
-use Rattle.bus_text.specs.Canonical.{spelled_line, spelled_lines, IsField, AreFields, numbered}
+use Rattle.bus_text.specs.Canonical.{spelled_line, spelled_lines}
+use Rattle.bus_text.specs.inside.Spelled.{IsField, AreFields, numbered}
 use Rattle.bus_text.proofs.CanonicalLaws.{entries_of-spelled_lines, constant_field, spelled_line-cons}
 use Rattle.bus_text.specs.Lines.{Entry}
 use Rattle.bus_text.proofs.NumberLaws.{decimal_is, decimal_field}

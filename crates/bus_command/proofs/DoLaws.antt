@@ -12,7 +12,8 @@ use Rattle.bus_command.specs.Kinds.{Kind, NoForm, NotRead, TooMuch, Wrong, Late,
 use Rattle.bus_command.specs.Outside.{Seen, Sources, around, sink_seen}
 use Rattle.bus_command.specs.Readers.{Named, no_source, told, OfTexts, OutCounts}
 use Rattle.bus_command.specs.Stages.{StandsAs, StandsFor, GivesStop, Gives}
-use Rattle.bus_command.specs.Steps.{IsEarly, IsLate, Prepares}
+use Rattle.bus_command.specs.Steps.{IsEarly, Prepares}
+use Rattle.bus_command.specs.inside.Steps.{IsLate}
 use Rattle.bus_command.proofs.PrepareLaws.{both_map}
 use Rattle.bus_command.proofs.ReachLaws.{early_out, reads_behind, behind_counts, low_read}
 use Rattle.bus_command.proofs.StageLaws.{if_map, stage_with, gives_stands}

@@ -17,7 +17,8 @@ use Rattle.bus_command.specs.Outside.{Seen, both}
 use Rattle.bus_command.specs.Readers.{entire, two_sources}
 use Rattle.bus_command.specs.Steps.{Takes, Same, IsText, Prepares}
 use Rattle.bus_command.specs.Due.{text_due, table_refusal, table_or_refusal, table_due, items_due, Inputs, with_items}
-use Rattle.bus_command.specs.Taken.{AreHandsOf, AreInputs}
+use Rattle.bus_command.specs.Taken.{AreHandsOf}
+use Rattle.bus_command.specs.inside.Steps.{AreInputs}
 use Rattle.bus_command.proofs.TakeLemmas.{RefusesAt, takes_then}
 use Rattle.bus_command.proofs.ReadLemmas.{items_stage}
 use Rattle.bus_command.proofs.StageLaws.{some_map, then_stage, stop_early, stop_low, gives_on}

@@ -11,7 +11,8 @@ use Rattle.bus_command.specs.declared.outcome.Outcome.TheVariants.{TooLarge}
 use Rattle.bus_command.specs.Stages.{stage_in}
 use Rattle.bus_command.specs.Outside.{Seen}
 use Rattle.bus_command.specs.Readers.{Entire}
-use Rattle.bus_command.specs.Steps.{read_refusal, IsText, Takes}
+use Rattle.bus_command.specs.Steps.{IsText, Takes}
+use Rattle.bus_command.specs.inside.Steps.{read_refusal}
 use Rattle.bus_command.specs.Due.{text_within}
 use Rattle.bus_command.proofs.StageLaws.{if_map, some_all, told_or}
 

@@ -12,7 +12,7 @@ use Rattle.bus_command.specs.Causes.{RefusesTexts}
 use Rattle.bus_command.specs.Kinds.{Kind, NoForm, NotRead, TooMuch, Wrong, Late, NotWritten, NoRoom, Answer, kind_of}
 use Rattle.bus_command.specs.Outcomes.{status_of, fault_line}
 use Rattle.bus_command.specs.Stages.{StandsFor}
-use Rattle.bus_command.specs.Outside.{Seen, Outside, Call, beside, call, outside}
+use Rattle.bus_command.specs.Outside.{Seen, Outside, Call, call}
 use Rattle.bus_command.specs.Readers.{Named, told, OfTexts, Reads, reach, SourceCounts, OutCounts}
 use Rattle.bus_command.specs.Steps.{IsRefused}
 
@@ -111,19 +111,6 @@ pub record Program (R Form : Type 0) : Type 1 where
 abbrev pub DoesForm : {R Form : Type 0} → Program R Form → Form → Outside → Outside → Outcome R → Type 0
 DoesForm program form before after outcome =
     Does (program.sources form) (program.refusing form) (program.due form) (program.IsText form) before after outcome
-
--- The same of a form that names the first source alone, whatever the second is: between these two, before and after.
-abbrev pub DoesFirst :
-    {R Form S K : Type 0} → Program R Form → SourceGhosts S → SinkGhosts K → Form → S → K → S → K → Outcome R → Type 0
-DoesFirst program source sink form first out later_first later_out outcome =
-    (second : Seen)
-    → DoesForm program form (beside source sink first second out) (beside source sink later_first second later_out) outcome
-
--- The same of a form between these three, before and after.
-abbrev pub DoesBoth :
-    {R Form S K : Type 0} → Program R Form → SourceGhosts S → SinkGhosts K → Form → S → S → K → S → S → K → Outcome R → Type 0
-DoesBoth program source sink form first second out later_first later_second later_out outcome =
-    DoesForm program form (outside source sink first second out) (outside source sink later_first later_second later_out) outcome
 
 -- An outcome that refuses a text has its cause in the texts that the sources tell; where one tells nothing, in some text.
 abbrev pub HasCause : {R Form : Type 0} → Program R Form → Form → Outside → Outcome R → Type 0

@@ -13,3 +13,4 @@ pub mod Causes
 pub mod Acts
 pub mod Claims
 pub mod About
+pub mod inside

@@ -47,10 +47,6 @@ around sources out = record { sources = sources; out = out }
 abbrev pub outside : {S K : Type 0} → SourceGhosts S → SinkGhosts K → S → S → K → Outside
 outside source sink first second out = around (sources_seen source first second) (sink_seen sink out)
 
--- The outside of a command that names the first source alone, whatever the second is.
-abbrev pub beside : {S K : Type 0} → SourceGhosts S → SinkGhosts K → S → Seen → K → Outside
-beside source sink first second out = around (both (source_seen source first) second) (sink_seen sink out)
-
 -- A call of a command: its words, and the outside before and after.
 pub record Call : Type 0 where
   pub words : List (List ℕ)

@@ -2,10 +2,7 @@
 --   step   it makes a value, or stops at an outcome
 use Rattle.std.specs.Prelude.{◌≡◌, ℕ, List, Vec, Option, IfSome, Result, Ok, Err, IfErr}
 use Rattle.std.specs.declared.alloc.Global.{Global}
-use Rattle.bus_outer.specs.declared.whole.ReadError.{ReadError}
-use Rattle.bus_outer.specs.declared.whole.ReadError.TheVariants.{Fault, TooLarge as Larger, Memory}
 use Rattle.bus_command.specs.declared.outcome.Outcome.{Outcome}
-use Rattle.bus_command.specs.declared.outcome.Outcome.TheVariants.{ReadFault, NoMemory, TooLarge}
 use Rattle.bus_command.specs.Kinds.{Kind, NoForm, NotRead, TooMuch, Wrong, Late, NotWritten, NoRoom, Answer, kind_of}
 use Rattle.bus_command.specs.Stages.{StandsFor, Gives}
 use Rattle.bus_outer.specs.declared.source.Source.{Ghosts as SourceGhosts}
@@ -20,12 +17,6 @@ came_to (Ok x) = Answer
 came_to (Err outcome) = kind_of outcome
 
 -- ---- a step that reads one source
--- What a read that failed comes to.
-abbrev pub read_refusal : {R : Type 0} → ℕ → ReadError → Outcome R
-read_refusal number Fault = ReadFault number
-read_refusal number Larger = TooLarge number
-read_refusal number Memory = NoMemory
-
 -- How far the step read its source.
 abbrev pub stopped_at : Kind → Reach
 stopped_at NoForm = Untouched
@@ -92,17 +83,6 @@ IsEarly Late = Unit {0}
 IsEarly NotWritten = ⊥
 IsEarly NoRoom = Unit {0}
 IsEarly Answer = ⊥
-
--- A kind at which a command may stop behind both texts, before it has written anything.
-abbrev pub IsLate : Kind → Type 0
-IsLate NoForm = ⊥
-IsLate (NotRead source) = ⊥
-IsLate (TooMuch source) = ⊥
-IsLate (Wrong source) = ⊥
-IsLate Late = Unit {0}
-IsLate NotWritten = ⊥
-IsLate NoRoom = Unit {0}
-IsLate Answer = ⊥
 
 -- Where the first text is refused, so is the command, whatever the second source is, which isn't pulled.
 pub record IsRefused {R : Type 0} (refusal outcome : Outcome R) (before after : Sources) : Type 0 where

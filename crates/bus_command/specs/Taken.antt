@@ -5,9 +5,7 @@ use Rattle.std.specs.declared.alloc.Global.{Global}
 use Rattle.bus_strings.specs.Items.{Item}
 use Rattle.bus_table.specs.Tables.{Table, Hand}
 use Rattle.bus_table.specs.Hands.{hands_of, are_hands}
-use Rattle.bus_command.specs.declared.inputs.Dealt.{Dealt}
 use Rattle.bus_command.specs.Readers.{text_limit}
-use Rattle.bus_command.specs.Due.{Inputs, hands_in}
 
 -- The hands that items give the senders of a table.
 abbrev pub AreHandsOf : Table → Vec Hand Global → List Item → Type 0
@@ -17,8 +15,3 @@ AreHandsOf table hands items = hands.items ≡ hands_of table items
 pub record AreReady (table : Table) (hands : List Hand) : Type 0 where
   pub fit : IsTrue (are_hands table.senders hands)
   pub few : AllByRecursion (λ hand. length hand.messages ≤ text_limit) hands
-
--- A table, and the hands that the items give its senders.
-pub record AreInputs (dealt : Dealt) (inputs : Inputs) : Type 0 where
-  pub table : dealt.table ≡ inputs.table
-  pub hands : dealt.hands.items ≡ hands_in inputs

@@ -3,7 +3,8 @@ ghost use Rattle.std.specs.Prelude.{◌≡◌, ◌≤◌, length, IfOk};
 ghost use Rattle.bus_outer.specs.Sources.{read_limit};
 ghost use Rattle.bus_command.specs.Due.{text_within, table_due, table_refusal_of, items_due, trace_due, traced_due};
 ghost use Rattle.bus_command.specs.Readers.{Entire, Trace as ByTrace, entire, by_trace};
-ghost use Rattle.bus_command.specs.Steps.{read_refusal, Same, IsText, TakesFrom, PreparesFrom};
+ghost use Rattle.bus_command.specs.Steps.{Same, IsText, TakesFrom, PreparesFrom};
+ghost use Rattle.bus_command.specs.inside.Steps.{read_refusal};
 ghost use Rattle.bus_command.specs.Taken.{AreHandsOf, AreReady};
 ghost use Rattle.bus_trace.specs.Traces.{IsTrace};
 

@@ -8,7 +8,8 @@ use Rattle.std.proofs.lemmas.List.{ext_get_or}
 use Rattle.std.proofs.lemmas.List.FromFn.{get_or-map-range_with_len, length-map-range_with_len}
 use Rattle.bus_strings.specs.Members.{In}
 use Rattle.bus_table.specs.Tables.{Sender, Table}
-use Rattle.bus_table.specs.Turns.{Differ, Rises, turn_key, turn_order}
+use Rattle.bus_table.specs.Turns.{turn_key, turn_order}
+use Rattle.bus_table.specs.inside.Orders.{Differ, Rises}
 use Rattle.bus_table.specs.inside.Facts.{SenderFacts, TableFacts}
 use Rattle.bus_table.proofs.TurnLaws.{at_in, behind_rises, from_sort, numbers_differ, of_each, order_rises}
 use Rattle.bus_table.proofs.ValidLaws.{valid_facts}

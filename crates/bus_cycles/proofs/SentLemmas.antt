@@ -7,7 +7,7 @@ use Rattle.bus_strings.specs.Messages.{Entry, IsWordstring, Wordstring, word_cou
 use Rattle.bus_strings.specs.Transmissions.{end_of}
 use Rattle.bus_trace.specs.Traces.{IsBelow}
 use Rattle.bus_shapes.specs.Sending.{sent_of, sents, sents_from}
-use Rattle.bus_cycles.specs.Sents.{IsSent}
+use Rattle.bus_cycles.specs.inside.Bounds.{IsSent}
 
 some_words : (strings : List Wordstring) → AllByRecursion IsWordstring strings → sum_by word_count strings ≤ 257 * length strings
 some_words [] all = omega arith

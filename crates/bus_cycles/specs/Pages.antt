@@ -1,9 +1,8 @@
 -- What all rows of a picture go by.
-use Rattle.std.specs.Prelude.{ℕ, ◌+◌, ◌*◌, ◌<◌, ◌≤◌, ◌==◌, min, if◌then◌else◌}
+use Rattle.std.specs.Prelude.{ℕ, ◌+◌, ◌*◌, ◌==◌, min, if◌then◌else◌}
 use Rattle.bus_table.specs.Tables.{Table}
 use Rattle.bus_shapes.specs.declared.counts.Counts.{Counts}
 use Rattle.bus_shapes.specs.declared.scale.Scale.{Scale}
-use Rattle.bus_shapes.specs.Scales.{IsScale}
 use Rattle.bus_cycles.specs.Lanes.{lanes_of}
 use Rattle.bus_cycles.specs.Measures.{plain_row, plot_left, plot_width, rows_top, split_row}
 use Rattle.bus_cycles.specs.Rows.{cycle_of}
@@ -35,12 +34,3 @@ top_of page row = rows_top + page.row_height * row
 -- The lower edge of the rows.
 abbrev pub bottom_of : Page → ℕ
 bottom_of page = top_of page page.rows
-
--- The bounds of a page.
-pub record IsPage (page : Page) : Type 0 where
-  pub scale : IsScale page.scale
-  pub left : plot_left ≤ page.scale.left
-  pub some : 0 < page.cycle.ti
-  pub few : page.rows ≤ most_rows
-  pub least : plain_row ≤ page.row_height
-  pub most : page.row_height ≤ split_row

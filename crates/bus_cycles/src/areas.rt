@@ -1,8 +1,7 @@
 //! Where the boxes of transmissions are.
 ghost use Rattle.std.specs.Prelude.{◌≡◌, ◌<◌, ◌≤◌, ◌^◌};
-ghost use Rattle.bus_cycles.specs.Pages.{IsPage};
+ghost use Rattle.bus_cycles.specs.inside.Bounds.{IsPage, IsSent};
 ghost use Rattle.bus_cycles.specs.RowTexts as definition;
-ghost use Rattle.bus_cycles.specs.Sents.{IsSent};
 
 use crate::cycle::Extent;
 use crate::page::Page;

@@ -4,10 +4,10 @@ ghost use Rattle.std.specs.List.{AllByRecursion};
 ghost use Rattle.bus_outer.specs.Texts.{Adds};
 ghost use Rattle.bus_shapes.specs.declared.sent.Sent as sayings;
 ghost use Rattle.bus_cycles.specs.inside.Drawing.{Keeps, Reaches, more_text, new_text, next_row, next_text};
-ghost use Rattle.bus_cycles.specs.Pages.{IsPage};
+ghost use Rattle.bus_cycles.specs.inside.Bounds.{IsPage, IsSent};
 ghost use Rattle.bus_cycles.specs.Rows.{Row, row_at, rows_of, with_sent};
 ghost use Rattle.bus_cycles.specs.RowTexts as definition;
-ghost use Rattle.bus_cycles.specs.Sents.{IsSent, shown};
+ghost use Rattle.bus_cycles.specs.Sents.{shown};
 
 use crate::areas::{area_of, class_of, right_of, shade_of};
 use crate::cycle::Extent;

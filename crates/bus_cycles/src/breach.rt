@@ -4,7 +4,7 @@ ghost use Rattle.bus_outer.specs.Texts.{Adds};
 ghost use Rattle.bus_shapes.specs.declared.class.Class.TheVariants.{Breach};
 ghost use Rattle.bus_shapes.specs.Shapes.{box_text};
 ghost use Rattle.bus_cycles.specs.CyclesTexts as definition;
-ghost use Rattle.bus_cycles.specs.Pages.{IsPage};
+ghost use Rattle.bus_cycles.specs.inside.Bounds.{IsPage};
 
 use crate::cycle::Extent;
 use crate::page::Page;

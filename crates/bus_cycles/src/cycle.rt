@@ -2,7 +2,7 @@
 ghost use Rattle.std.specs.Prelude.{◌≡◌, ◌<◌, ◌≤◌, ◌+◌, ◌^◌};
 ghost use Rattle.bus_table.specs.Timers.{greatest_gap};
 ghost use Rattle.bus_cycles.specs.Rows as definition;
-ghost use Rattle.bus_cycles.specs.Sents.{IsSent};
+ghost use Rattle.bus_cycles.specs.inside.Bounds.{IsSent};
 
 use bus_shapes::Sent;
 use bus_table::{Mode, Table};

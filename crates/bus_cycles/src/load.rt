@@ -7,9 +7,9 @@ ghost use Rattle.bus_strings.specs.Messages.{Entry};
 ghost use Rattle.bus_cycles.specs.inside.Drawing.{next_row};
 ghost use Rattle.bus_cycles.specs.inside.Loading.{next_load};
 ghost use Rattle.bus_cycles.specs.Loads as definition;
-ghost use Rattle.bus_cycles.specs.Pages.{IsPage};
+ghost use Rattle.bus_cycles.specs.inside.Bounds.{IsPage, IsSent};
 ghost use Rattle.bus_cycles.specs.Rows.{Row, extent_of, rows_of};
-ghost use Rattle.bus_cycles.specs.Sents.{IsSent, shown};
+ghost use Rattle.bus_cycles.specs.Sents.{shown};
 
 use crate::cycle::{Cycle, Extent};
 use crate::page::Page;

@@ -4,7 +4,7 @@ ghost use Rattle.bus_table.specs.Turned.{AreTurned};
 ghost use Rattle.bus_shapes.specs.Scales.{IsScale};
 ghost use Rattle.bus_cycles.specs.Lanes.{lane_of, lanes_of};
 ghost use Rattle.bus_cycles.specs.Pages as definition;
-ghost use Rattle.bus_cycles.specs.Pages.{IsPage};
+ghost use Rattle.bus_cycles.specs.inside.Bounds.{IsPage};
 ghost use Rattle.bus_cycles.specs.RowTexts as texts;
 
 use crate::cycle::Cycle;

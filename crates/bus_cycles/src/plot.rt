@@ -3,7 +3,7 @@ ghost use Rattle.std.specs.Prelude.{◌≡◌, ◌<◌, ◌≤◌, ◌++◌, ◌
 ghost use Rattle.bus_outer.specs.Texts.{Adds};
 ghost use Rattle.bus_shapes.specs.Scales.{IsScale};
 ghost use Rattle.bus_cycles.specs.CyclesTexts as definition;
-ghost use Rattle.bus_cycles.specs.Pages.{IsPage};
+ghost use Rattle.bus_cycles.specs.inside.Bounds.{IsPage};
 
 use crate::page::Page;
 use crate::survey::{MOST_ROWS, Survey};

@@ -3,7 +3,7 @@ ghost use Rattle.std.specs.Prelude.{◌≡◌, ◌<◌, ◌^◌, length};
 ghost use Rattle.std.specs.List.{AllByRecursion};
 ghost use Rattle.std.specs.Iterator.{YieldsFirst, item_count};
 ghost use Rattle.bus_cycles.specs.Sents as definition;
-ghost use Rattle.bus_cycles.specs.Sents.{IsSent};
+ghost use Rattle.bus_cycles.specs.inside.Bounds.{IsSent};
 
 use bus_shapes::{Sent, Sents, Window};
 use bus_strings::laws::neighbours_tell;

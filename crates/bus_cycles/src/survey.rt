@@ -1,7 +1,8 @@
 //! What is told of the rows of a picture before they are drawn.
 ghost use Rattle.std.specs.Prelude.{◌≡◌, ◌<◌, ◌≤◌, ◌-◌, ◌^◌, ◌∷◌, IfSome, length};
 ghost use Rattle.std.specs.List.{AllByRecursion};
-ghost use Rattle.bus_cycles.specs.Sents.{IsSent, shown};
+ghost use Rattle.bus_cycles.specs.Sents.{shown};
+ghost use Rattle.bus_cycles.specs.inside.Bounds.{IsSent};
 ghost use Rattle.bus_cycles.specs.Surveys as definition;
 
 use crate::cycle::{Cycle, Extent};

@@ -13,7 +13,8 @@ use Rattle.bus_strings.specs.Messages.{Entry}
 use Rattle.bus_table.specs.inside.Facts.{TableFacts}
 use Rattle.bus_table.specs.Tables.{Sender, Table}
 use Rattle.bus_table.proofs.TurnLaws.{from_sort, numbers_differ}
-use Rattle.bus_table.specs.Turns.{Differ, insert, sort, turn_key, turn_order}
+use Rattle.bus_table.specs.Turns.{insert, sort, turn_key, turn_order}
+use Rattle.bus_table.specs.inside.Orders.{Differ}
 use Rattle.bus_table.specs.Valid.{is_valid}
 use Rattle.bus_table.proofs.ValidLaws.{valid_facts}
 use Rattle.bus_trace.specs.Traces.{IsBelow, IsTrace, Recording}

@@ -9,9 +9,10 @@ use bus_strings::limits::{INNER_GAP, WORD_BITS};
 use bus_strings::{Message, Wordstring};
 use bus_words::label_word;
 
-/// The bit times of a word, and of the sync at its front.
+/// The bit times of a word.
 const WORD: u64 = WORD_BITS as u64;
 
+/// The bit times of the sync at the front of a word.
 const SYNC: u64 = 3;
 
 /// The quiet bit times between two wordstrings.
@@ -20,7 +21,9 @@ const GAP: u64 = INNER_GAP as u64;
 /// What a message has on the bus at a bit time, None where it is quiet, and for how many bit times from there on.
 #[derive(Clone, Copy, Debug)]
 pub(crate) struct Glance {
+    /// What it has there.
     pub shown: Option<Shown>,
+    /// For how many bit times it stays so, from this one on.
     pub left: u64,
 }
 

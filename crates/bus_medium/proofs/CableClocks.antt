@@ -21,7 +21,8 @@ use Rattle.bus_medium.specs.CableLawful.{IsDueOnCable}
 use Rattle.bus_medium.proofs.BusyLaws.{entry_is_busy}
 use Rattle.bus_medium.proofs.PastLaws.{past_push, own_later, own_push, own_push_other, last_push, no_carrier}
 use Rattle.bus_medium.proofs.Hearing.{heard_push, not_before, own_none}
-use Rattle.bus_medium.specs.Clocks.{GapAt, Ticks, gap_behind, IsLate, ClockTells}
+use Rattle.bus_medium.specs.Clocks.{GapAt, Ticks, gap_behind, ClockTells}
+use Rattle.bus_medium.specs.inside.Lazy.{IsLate}
 use Rattle.bus_medium.proofs.Waking.{length_woken, at_quiets, busy_elapsed_at, busy_waiting_at, busy_waiting_whole, at_power_up, at_settled, at_start}
 
 pub gap_elapsed : (quiet sg wake G m e : ℕ) → G ≤ quiet + m → gap_behind quiet sg wake G m e ≡ quiet + e

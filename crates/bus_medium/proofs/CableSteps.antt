@@ -14,7 +14,8 @@ use Rattle.bus_medium.specs.Delays.{Delays, later, heard, heard_end}
 use Rattle.bus_medium.specs.Wakes.{Wakes, woken_place}
 use Rattle.bus_medium.specs.CableLawful.{IsDueOnCable, IsLawfulOnCableTo}
 pub use Rattle.bus_medium.specs.Clocks.{put, AreTimed, Known, Goes, goes_D, goes_G, goes_C}
-use Rattle.bus_medium.specs.Clocks.{Ticks, IsLate, gap_behind}
+use Rattle.bus_medium.specs.Clocks.{Ticks, gap_behind}
+use Rattle.bus_medium.specs.inside.Lazy.{IsLate}
 use Rattle.bus_medium.proofs.BusyLaws.{entry_is_busy}
 use Rattle.bus_medium.proofs.CableClocks.{ticks_other, ticks_own, ticks_start, ticks_not_due, ticks_due}
 use Rattle.bus_medium.proofs.Hearing.{IsUnheard, cable_looks, due_unheard}

@@ -9,7 +9,8 @@ use Rattle.bus_strings.specs.Messages.{Entry}
 use Rattle.bus_strings.specs.Transmissions.{pulses, carrier}
 use Rattle.bus_medium.specs.Past.{past}
 use Rattle.bus_medium.specs.Lawful.{Station, IsLawfulTo}
-use Rattle.bus_medium.specs.Buses.{Seat, station_of, number_of, seat_sounds}
+use Rattle.bus_medium.specs.Buses.{Seat, station_of, number_of}
+use Rattle.bus_medium.specs.inside.Runs.{seat_sounds}
 use Rattle.bus_medium.specs.inside.Following.{AllFollow}
 use Rattle.bus_medium.proofs.PastLaws.{same_bools, pulses_begun, in_own}
 use Rattle.bus_medium.proofs.Following.{sounding_pulse, pulse_sounding}

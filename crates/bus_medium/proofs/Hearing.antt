@@ -12,7 +12,7 @@ use Rattle.bus_strings.specs.Messages.{Entry, bits}
 use Rattle.bus_strings.specs.Transmissions.{pulses, carrier, end_of}
 use Rattle.bus_strings.proofs.MemberLaws.{any_filter, from_map}
 use Rattle.bus_medium.specs.Past.{past, own, last_place}
-use Rattle.bus_medium.specs.Past.{HaveEnded}
+use Rattle.bus_medium.specs.inside.Lazy.{HaveEnded}
 use Rattle.bus_medium.specs.Delays.{Delays, AreDelays, later, heard}
 use Rattle.bus_medium.specs.Wakes.{Wakes, woken_past, woken_place}
 use Rattle.bus_medium.specs.Lawful.{Station, IsDue}

@@ -17,7 +17,7 @@ use Rattle.bus_strings.specs.Transmissions.{carrier, end_of}
 use Rattle.bus_strings.proofs.MemberLaws.{at_in, in_at}
 use Rattle.bus_terminal.specs.Terminals.{Terminal, last_begun}
 use Rattle.bus_terminal.specs.Jumps.{later_place, with_passed_many}
-use Rattle.bus_medium.specs.Past.{past, own, last_place, HaveEnded}
+use Rattle.bus_medium.specs.Past.{past, own, last_place}
 use Rattle.bus_medium.specs.BusyLaws.{IsBusy}
 use Rattle.bus_medium.specs.Lawful.{HaveOwnNumbers, IsLawful, IsLawfulTo}
 use Rattle.bus_medium.specs.Buses.{Seat, station_of, number_of, SeatStands, StandsAt}
@@ -25,7 +25,8 @@ use Rattle.bus_medium.specs.Edges.{strings_sent}
 use Rattle.bus_medium.specs.Jumps.{Each, Moved}
 use Rattle.bus_medium.specs.inside.Following.{FollowsAt}
 use Rattle.bus_medium.specs.inside.Runs.{Decided}
-use Rattle.bus_medium.specs.inside.Lazy.{Clock, Clocked, StandsLazily, lazy, lazy_seat, lazy_seats, IsSettled, AreSettled, RestsAt, NextPlace, EndsAt, IsTold, AreTold, MovedBySent, clock_after}
+use Rattle.bus_medium.specs.inside.Lazy.{Clock, Clocked, StandsLazily, lazy, lazy_seat, lazy_seats, IsSettled, AreSettled, RestsAt}
+use Rattle.bus_medium.specs.inside.Lazy.{NextPlace, EndsAt, IsTold, AreTold, MovedBySent, clock_after, HaveEnded}
 use Rattle.bus_medium.proofs.Steps.{lawful_none, lawful_whole, lawful_once}
 use Rattle.bus_medium.proofs.Following.{running_is}
 use Rattle.bus_medium.proofs.Seats.{get_within}

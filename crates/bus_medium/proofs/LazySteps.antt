@@ -19,14 +19,15 @@ use Rattle.bus_strings.proofs.MessageLaws.{bits_some}
 use Rattle.bus_strings.proofs.MemberLaws.{in_append_cases}
 use Rattle.bus_terminal.specs.Terminals.{last_begun}
 use Rattle.bus_terminal.specs.Jumps.{later_place}
-use Rattle.bus_medium.specs.Past.{past, own, last_place, HaveEnded}
+use Rattle.bus_medium.specs.Past.{past, own, last_place}
 use Rattle.bus_medium.specs.BusyLaws.{IsBusy}
 use Rattle.bus_medium.specs.Lawful.{HasEntry, IsDue, IsLawfulTo}
 use Rattle.bus_medium.specs.Buses.{Seat, station_of, number_of}
 use Rattle.bus_medium.specs.Jumps.{Each}
 use Rattle.bus_medium.specs.inside.Following.{Follows, FollowsAt}
 use Rattle.bus_medium.specs.inside.Runs.{RunsTo, Grown, Decided}
-use Rattle.bus_medium.specs.inside.Lazy.{Clock, Clocked, StandsLazily, lazy, lazy_seat, lazy_seats, RestsAt, NextPlace, EndsAt, IsReady, clock_after, gap_after}
+use Rattle.bus_medium.specs.inside.Lazy.{Clock, Clocked, StandsLazily, lazy, lazy_seat, lazy_seats, RestsAt, NextPlace, EndsAt, IsReady}
+use Rattle.bus_medium.specs.inside.Lazy.{clock_after, gap_after, HaveEnded}
 use Rattle.bus_medium.proofs.PastLaws.{length_past, no_carrier, own_after}
 use Rattle.bus_medium.proofs.BusyLaws.{entry_is_busy, busy_elapsed, busy_waiting, busy_nobody}
 use Rattle.bus_medium.proofs.Steps.{idle_stretch}

@@ -10,11 +10,11 @@ use Rattle.bus_table.specs.Tables.{Hand}
 use Rattle.bus_terminal.specs.Terminals.{Terminal}
 use Rattle.bus_medium.specs.Past.{past}
 use Rattle.bus_medium.specs.Lawful.{IsLawfulTo}
-use Rattle.bus_medium.specs.Buses.{Seat, station_of, number_of, seat_sounds}
+use Rattle.bus_medium.specs.Buses.{Seat, station_of, number_of}
 use Rattle.bus_medium.specs.inside.Following.{AllHaveRoom}
 use Rattle.bus_medium.specs.Jumps.{Each}
 use Rattle.bus_medium.specs.inside.Lasting.{PassedMany}
-use Rattle.bus_medium.specs.inside.Runs.{Decided, Reached}
+use Rattle.bus_medium.specs.inside.Runs.{Decided, Reached, seat_sounds}
 use Rattle.bus_medium.proofs.Seats.{get_within}
 use Rattle.bus_medium.proofs.Carrier.{carrier_is}
 use Rattle.bus_medium.proofs.Jumping.{past_steady, all_later}

@@ -8,7 +8,8 @@ use Rattle.bus_table.specs.Tables.{Sender, Table}
 use Rattle.bus_table.specs.Valid.{is_valid}
 use Rattle.bus_table.specs.inside.Facts.{SenderFacts}
 use Rattle.bus_table.proofs.ValidLaws.{valid_facts}
-use Rattle.bus_medium.specs.Orders.{AreNumbers, AreDistinct}
+use Rattle.bus_medium.specs.Orders.{AreNumbers}
+use Rattle.bus_medium.specs.inside.Seating.{AreDistinct}
 
 pub sender_at : (table : Table) (senders : List Sender) (k : ℕ) (s : Sender) → AllByRecursion (SenderFacts table) senders → slice_get senders k ≡ Some s → SenderFacts table s
 sender_at table [] k s a h = cc

@@ -1,5 +1,5 @@
 -- A bus as contracts see it: its senders, in the order of the table, and the quiet before its settled start.
-use Rattle.std.specs.Prelude.{◌≡◌, ℕ, ◌+◌, ◌-◌, ◌^◌, ◌≤◌, Bool, nat_lt, List, length, map, fold, Option, Some, None, if◌then◌else◌}
+use Rattle.std.specs.Prelude.{◌≡◌, ℕ, ◌+◌, ◌-◌, ◌^◌, ◌≤◌, nat_lt, List, length, map, fold, Option, Some, None, if◌then◌else◌}
 use Rattle.std.specs.Option.{option_and_then}
 use Rattle.bus_timers.specs.declared.timing.Timing.{Timing}
 use Rattle.bus_timers.specs.declared.cores.Core.{Ghosts}
@@ -7,7 +7,7 @@ use Rattle.bus_timers.specs.Timings.{IsSound}
 use Rattle.bus_strings.specs.Members.{In}
 use Rattle.bus_strings.specs.Messages.{Entry}
 use Rattle.bus_strings.specs.Transmissions.{end_of}
-use Rattle.bus_terminal.specs.Terminals.{Terminal, sounds}
+use Rattle.bus_terminal.specs.Terminals.{Terminal}
 use Rattle.bus_medium.specs.Past.{past, own, last_place}
 use Rattle.bus_medium.specs.Lawful.{Station}
 
@@ -32,10 +32,6 @@ station_of seat = record { number = seat.terminal.hand.terminal; timing = seat.t
 -- A sender's number.
 abbrev pub number_of : {C : Type 0} → Seat C → ℕ
 number_of seat = seat.terminal.hand.terminal
-
--- Whether a sender has a pulse on the present bit time.
-abbrev pub seat_sounds : {C : Type 0} → Seat C → Bool
-seat_sounds seat = sounds seat.terminal
 
 -- What the rules read of the senders of a bus.
 abbrev pub stations : {C : Type 0} → Bus C → List Station

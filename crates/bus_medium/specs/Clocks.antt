@@ -38,10 +38,6 @@ pub record Ticks (quiet : ℕ) (delay : Delays) (wake : Wakes) (s : Station) (li
 abbrev pub gap_behind : ℕ → ℕ → ℕ → ℕ → ℕ → ℕ → ℕ
 gap_behind quiet sg wake G m e = if nat_le G (quiet + m) then quiet + e else max (quiet + e + sg) (sg + wake)
 
--- Its numbers don't let it start up to moment m.
-abbrev pub IsLate : ℕ → Station → ℕ → ℕ → ℕ → ℕ → Type 0
-IsLate quiet s D G C m = (quiet + m < G + s.timing.tg) ⊎ ((quiet + m < D) ⊎ (length s.hand ≤ C))
-
 -- The senders have numbers of their own and sound timings, all with the same synchronization gap.
 pub record AreTimed (sg : ℕ) (stations : List Station) : Type 0 where
   pub numbers : HaveOwnNumbers stations

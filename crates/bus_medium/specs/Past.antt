@@ -3,10 +3,9 @@
 --   moment    a number of bit times from the settled start; bit time t lies between the moments t and t + 1
 --   place     a moment counted from the beginning of the past, so `quiet` more
 use Rattle.std.specs.Prelude.{ℕ, zero, suc, ◌+◌, Bool, false, ◌&&◌, ◌==◌, nat_lt, List, [], ◌∷◌, ◌++◌, replicate, filter, fold, Option}
-use Rattle.std.specs.Prelude.{◌≤◌, Some, None}
+use Rattle.std.specs.Prelude.{Some, None}
 use Rattle.bus_strings.specs.Messages.{Entry}
-use Rattle.bus_strings.specs.Members.{In}
-use Rattle.bus_strings.specs.Transmissions.{carrier, end_of}
+use Rattle.bus_strings.specs.Transmissions.{carrier}
 
 -- The past at moment t: the quiet before the settled start, and then the carrier of each bit time up to t.
 abbrev pub past : ℕ → List Entry → ℕ → List Bool
@@ -20,7 +19,3 @@ own list number t = filter (λ x. x.terminal == number && nat_lt x.moment t) lis
 -- The place in the past at which the last of these starts.
 abbrev pub last_place : ℕ → List Entry → Option ℕ
 last_place quiet list = fold (λ _ x. Some (quiet + x.moment)) None list
-
--- Every transmission of the list has ended at moment t.
-abbrev pub HaveEnded : List Entry → ℕ → Type 0
-HaveEnded list t = (x : Entry) → In x list → end_of x ≤ t

@@ -4,12 +4,12 @@ ghost use Rattle.std.specs.List.{list_any};
 ghost use Rattle.bus_strings.specs.Limits.{horizon_limit};
 ghost use Rattle.bus_strings.specs.Messages.{Entry};
 ghost use Rattle.bus_medium.specs.Lawful.{IsLawful};
-ghost use Rattle.bus_medium.specs.Buses.{station_of, number_of, seat_sounds, StandsAt, observe_limit};
+ghost use Rattle.bus_medium.specs.Buses.{station_of, number_of, StandsAt, observe_limit};
 ghost use Rattle.bus_medium.specs.inside.Following.{AllHaveRoom};
 ghost use Rattle.bus_medium.specs.Jumps.{Each};
 ghost use Rattle.bus_medium.specs.inside.Lasting.{PassedMany};
 ghost use Rattle.bus_medium.specs.Orders.{IsRoster};
-ghost use Rattle.bus_medium.specs.inside.Runs.{RunsTo, Reached};
+ghost use Rattle.bus_medium.specs.inside.Runs.{RunsTo, Reached, seat_sounds};
 
 use crate::deciding::{Roster, decide_all};
 use crate::seat::Seat;

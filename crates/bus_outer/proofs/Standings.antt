@@ -5,7 +5,8 @@ use Rattle.std.specs.declared.option.Option.{Option}
 use Rattle.bus_outer.specs.Faults.{Rose}
 use Rattle.bus_outer.proofs.FaultLaws.{rose_later}
 use Rattle.bus_outer.specs.Sinks.{Written, WritesText}
-use Rattle.bus_outer.specs.Standing.{Stands, Sends}
+use Rattle.bus_outer.specs.Standing.{Stands}
+use Rattle.bus_outer.specs.inside.Buffers.{Sends}
 use Rattle.bus_outer.specs.Texts.{Adds, Ends}
 use Rattle.bus_outer.proofs.WriteLaws.{written_on, written_longer}
 use Rattle.bus_outer.specs.declared.text_buffer.TextBuffer.{TextBuffer}

@@ -1,7 +1,7 @@
 -- A reader behind a buffer, and what its calls do to the bytes that it still gives, where the reader tells its own.
-use Rattle.std.specs.Prelude.{◌≡◌, ℕ, List, [], slice_range, Result, Ok, Err}
+use Rattle.std.specs.Prelude.{ℕ, List, slice_range}
 use Rattle.std.specs.declared.option.Option.{Option}
-use Rattle.std.specs.Io.KnownBytes.{prepend_known, Keeps, IsAtEnd}
+use Rattle.std.specs.Io.KnownBytes.{prepend_known}
 use Rattle.bus_outer.specs.declared.read_ahead.ReadAhead.{ReadAhead}
 
 -- The bytes that were read ahead.
@@ -11,8 +11,3 @@ waiting r = slice_range r.bytes r.at r.end
 -- The bytes that it still gives: those read ahead, and those that its reader has left.
 abbrev pub left_ahead : {F : Type 0} → (F → Option (List ℕ)) → ReadAhead F → Option (List ℕ)
 left_ahead remaining r = prepend_known (waiting r) (remaining r.reader)
-
--- Reading ahead changes nothing of what is still given, and nothing is ahead afterwards only at the end.
-abbrev pub Fills : {E : Type 0} → Option (List ℕ) → Option (List ℕ) → Result (Unit {0}) E → List ℕ → Type 0
-Fills old new (Ok u) ahead = Keeps old new × (ahead ≡ [] → IsAtEnd new)
-Fills old new (Err e) ahead = Keeps old new

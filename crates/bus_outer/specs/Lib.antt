@@ -7,3 +7,4 @@ pub mod Ahead
 pub mod Edge
 pub mod Standing
 pub mod Texts
+pub mod inside

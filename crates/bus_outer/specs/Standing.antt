@@ -1,5 +1,5 @@
 -- How a writer with a buffer stands between its calls.
-use Rattle.std.specs.Prelude.{◌≡◌, ◌≤◌, ℕ, Bool, true, false, List, [], ◌++◌}
+use Rattle.std.specs.Prelude.{◌≡◌, ◌≤◌, ℕ, Bool, true, false, List}
 use Rattle.std.specs.declared.option.Option.{Option}
 use Rattle.bus_outer.specs.Faults.{Rose}
 use Rattle.bus_outer.specs.Sinks.{Written}
@@ -13,9 +13,3 @@ pub record Stands {K : Type 0} (held : K → Option (List ℕ)) (faults : K → 
   pub same : failed ≡ false → faults now ≡ faults start
   pub later : faults start ≤ faults now
   pub cause : failed ≡ true → Rose (faults start) (faults now)
-
--- What waits in the buffer, and more bytes, were sent, unless a write has failed before: the buffer may be emptied.
-pub record Sends {K : Type 0} (held : K → Option (List ℕ)) (faults : K → ℕ) (old new : K) (failed result : Bool) (bytes : List ℕ)
-    : Type 0 where
-  pub goes : (start : K) (waiting more text : List ℕ) → bytes ≡ waiting ++ more → Stands held faults start old waiting failed text
-      → Stands held faults start new [] result (text ++ more)

@@ -25,7 +25,8 @@ pub(crate) struct ReadAhead<F> {
 }
 
 impl<F: Read> ReadAhead<F> {
-    ghost use Rattle.bus_outer.specs.Ahead.{waiting, left_ahead, Fills};
+    ghost use Rattle.bus_outer.specs.Ahead.{waiting, left_ahead};
+    ghost use Rattle.bus_outer.specs.inside.Buffers.{Fills};
 
     /// Nothing is read ahead.
     pub(crate) fn new(reader: F) -> ReadAhead<F>

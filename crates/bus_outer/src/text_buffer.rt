@@ -2,7 +2,7 @@
 ghost use Rattle.std.specs.Prelude.{◌≡◌, [], ◌∷◌, length, decimal};
 ghost use Rattle.std.specs.Fmt.{signed_decimal};
 ghost use Rattle.bus_outer.specs.Texts.{IsFresh, Adds, Ends, has_failed};
-ghost use Rattle.bus_outer.specs.Standing.{Sends};
+ghost use Rattle.bus_outer.specs.inside.Buffers.{Sends};
 
 use crate::{Sink, WriteFault, write_all};
 use arrayvec::ArrayVec;

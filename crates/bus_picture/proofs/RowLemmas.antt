@@ -8,7 +8,7 @@ use Rattle.bus_table.specs.Tables.{Table}
 use Rattle.bus_shapes.specs.declared.sent.Sent.{Sent}
 use Rattle.bus_shapes.specs.declared.scale.Scale.{Scale}
 use Rattle.bus_shapes.specs.Sending.{sents}
-use Rattle.bus_shapes.specs.SendingLaws.{IsInOrder}
+use Rattle.bus_shapes.specs.inside.Sents.{IsInOrder}
 use Rattle.bus_shapes.proofs.SendingLaws.{all_in_order, as_many}
 use Rattle.bus_picture.specs.Boxes.{Box, Pile, boxes, boxes_from, grown, joins, one, pile_of}
 use Rattle.bus_picture.specs.Rows.{Row, pile_text, row_text, shows}

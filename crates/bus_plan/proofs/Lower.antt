@@ -13,7 +13,7 @@ use Rattle.bus_regime.specs.Verdicts.{verdict_of}
 use Rattle.bus_plan.specs.Plans.{turn_time, sync_time, planned_order, least_interval}
 use Rattle.bus_plan.proofs.Orders.{sum_sort, in_planned, Tops, TopsBehind, planned_tops, planned_behind}
 use Rattle.bus_plan.proofs.Slack.{slack, ends_later, filled, one_excess, two_excess}
-use Rattle.bus_regime.specs.Fine.{IsFine}
+use Rattle.bus_regime.specs.inside.Fine.{IsFine}
 use Rattle.bus_regime.proofs.GapLaws.{gap_sender}
 use Rattle.bus_regime.proofs.VerdictLaws.{accepted_gaps}
 use Rattle.bus_table.specs.declared.mode.Mode.TheVariants.{Periodic}

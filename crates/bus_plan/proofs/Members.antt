@@ -5,7 +5,7 @@ use Rattle.std.proofs.Common.{inl, inr, arith, sym, refl, ap, ◌∙◌, cond}
 use Rattle.std.proofs.lemmas.List.Sums.{sum_by-cons}
 use Rattle.bus_strings.specs.Members.{In}
 use Rattle.bus_table.specs.Tables.{Sender}
-use Rattle.bus_table.specs.Turns.{Rises, Differ}
+use Rattle.bus_table.specs.inside.Orders.{Rises, Differ}
 use Rattle.bus_table.proofs.TurnLaws.{behind_rises}
 use Rattle.bus_plan.specs.Plans.{lead, greatest_first, second_greatest, planned_order}
 use Rattle.bus_plan.proofs.Orders.{from_greatest}

@@ -9,11 +9,12 @@ use Rattle.bus_strings.specs.Members.{In}
 use Rattle.bus_table.specs.declared.mode.Mode.TheVariants.{Periodic}
 use Rattle.bus_table.specs.Tables.{Sender}
 use Rattle.bus_table.specs.Lengths.{longest}
-use Rattle.bus_table.specs.Turns.{turn_key, Rises, Differ}
+use Rattle.bus_table.specs.Turns.{turn_key}
+use Rattle.bus_table.specs.inside.Orders.{Rises, Differ}
 use Rattle.bus_table.proofs.TurnLaws.{rises_behind}
 use Rattle.bus_regime.specs.Gaps.{Gap, gaps_from, last_end}
 use Rattle.bus_table.specs.Offsets.{at_offset}
-use Rattle.bus_regime.specs.Fine.{IsSynchronized, IsFine}
+use Rattle.bus_regime.specs.inside.Fine.{IsSynchronized, IsFine}
 use Rattle.bus_regime.proofs.GapLaws.{gap_sender}
 use Rattle.bus_plan.specs.Plans.{turn_time, behind, second_gap, planned, sync_time, offset_in}
 

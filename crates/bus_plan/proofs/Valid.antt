@@ -7,11 +7,12 @@ use Rattle.bus_table.specs.declared.mode.Mode.{Mode}
 use Rattle.bus_table.specs.declared.mode.Mode.TheVariants.{Periodic}
 use Rattle.bus_table.specs.Tables.{Sender, Table}
 use Rattle.bus_table.specs.inside.Facts.{SenderFacts, TableFacts}
-use Rattle.bus_table.specs.Turns.{sort, turn_key, turn_order, Rises}
+use Rattle.bus_table.specs.Turns.{sort, turn_key, turn_order}
+use Rattle.bus_table.specs.inside.Orders.{Rises}
 use Rattle.bus_table.proofs.TurnLaws.{of_each, from_sort, in_sort, numbers_differ, order_rises}
 use Rattle.bus_regime.specs.Verdicts.{verdict_of, is_accepted}
 use Rattle.bus_regime.specs.Gaps.{gaps, gaps_from, last_end}
-use Rattle.bus_regime.specs.Fine.{IsFine}
+use Rattle.bus_regime.specs.inside.Fine.{IsFine}
 use Rattle.bus_regime.proofs.VerdictLaws.{gaps_accepted}
 use Rattle.bus_table.specs.Offsets.{at_offsets}
 use Rattle.bus_plan.specs.Plans.{turn_time, planned_order, planned, least_interval, sync_time, offset_in, planned_offsets, planned_table}

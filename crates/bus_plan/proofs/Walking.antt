@@ -7,7 +7,7 @@ use Rattle.std.proofs.lemmas.Bool.Decides.{nat_tests}
 use Rattle.bus_strings.specs.Members.{In}
 use Rattle.bus_table.specs.Tables.{Sender}
 use Rattle.bus_table.specs.Lengths.{longest}
-use Rattle.bus_table.specs.Turns.{Differ}
+use Rattle.bus_table.specs.inside.Orders.{Differ}
 use Rattle.bus_table.specs.Offsets.{at_offset}
 use Rattle.bus_plan.specs.Plans.{lead, greatest_first, second_greatest, planned_order, behind, second_gap, planned, offset_in}
 use Rattle.bus_plan.specs.inside.Greatest.{greatest_tg, second_tg}

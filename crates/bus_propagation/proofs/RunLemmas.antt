@@ -16,7 +16,7 @@ use Rattle.bus_medium.specs.Lawful.{Station}
 use Rattle.bus_medium.specs.Delays.{Delays}
 use Rattle.bus_medium.specs.Wakes.{Wakes}
 use Rattle.bus_medium.specs.CableLawful.{IsLawfulOnCable}
-use Rattle.bus_medium.specs.Orders.{AreDistinct}
+use Rattle.bus_medium.specs.inside.Seating.{AreDistinct}
 use Rattle.bus_medium.specs.Timings.{quiet_of, stations_of}
 use Rattle.bus_medium.proofs.CableLists.{cable_once}
 use Rattle.bus_medium.proofs.SeatingLemmas.{station_with}

@@ -8,6 +8,7 @@ use bus_timers::Timing;
 pub struct Seat {
     /// The number of its terminal.
     pub terminal: u8,
+    /// The numbers by which its timers run.
     pub timing: Timing,
     /// Its messages, in the order of their starts.
     pub messages: Vec<Message>,

@@ -8,7 +8,8 @@ use Rattle.bus_strings.specs.Members.{In}
 use Rattle.bus_strings.proofs.MemberLaws.{in_append_cases, in_append_left, in_append_right}
 use Rattle.bus_table.specs.Tables.{Sender, Table}
 use Rattle.bus_table.specs.inside.Facts.{TableFacts}
-use Rattle.bus_table.specs.Turns.{Rises, turn_key, turn_order}
+use Rattle.bus_table.specs.Turns.{turn_key, turn_order}
+use Rattle.bus_table.specs.inside.Orders.{Rises}
 use Rattle.bus_table.proofs.TurnLaws.{from_sort, numbers_differ, order_rises}
 use Rattle.bus_table.proofs.ValidLaws.{valid_facts}
 use Rattle.bus_regime.specs.Gaps.{Gap, last_end, latest_end, gaps}

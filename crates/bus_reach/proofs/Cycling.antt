@@ -6,7 +6,7 @@ use Rattle.bus_strings.proofs.MemberLaws.{of_each}
 use Rattle.bus_strings.specs.Messages.{Entry, bits}
 use Rattle.bus_strings.specs.Transmissions.{end_of, IsAscending, Precedes}
 use Rattle.bus_table.specs.Tables.{Sender}
-use Rattle.bus_table.specs.Turns.{Rises}
+use Rattle.bus_table.specs.inside.Orders.{Rises}
 use Rattle.bus_table.proofs.TurnLaws.{behind_rises}
 use Rattle.bus_medium.specs.Lawful.{HasEntry}
 use Rattle.bus_medium.proofs.PastLaws.{one_at}

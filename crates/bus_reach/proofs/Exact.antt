@@ -12,7 +12,8 @@ use Rattle.bus_table.specs.declared.mode.Mode.TheVariants.{Aperiodic}
 use Rattle.bus_table.specs.Tables.{Sender, Table}
 use Rattle.bus_table.specs.inside.Facts.{SenderFacts, TableFacts}
 use Rattle.bus_table.specs.Lengths.{shortest}
-use Rattle.bus_table.specs.Turns.{Rises, turn_key, turn_order}
+use Rattle.bus_table.specs.Turns.{turn_key, turn_order}
+use Rattle.bus_table.specs.inside.Orders.{Rises}
 use Rattle.bus_table.proofs.TurnLaws.{of_each, from_sort, in_sort, length-sort, order_rises, behind_rises, numbers_differ}
 use Rattle.bus_table.proofs.ValidLaws.{valid_facts}
 use Rattle.bus_medium.specs.Timings.{quiet_of}

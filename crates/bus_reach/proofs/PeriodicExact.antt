@@ -8,7 +8,7 @@ use Rattle.bus_strings.proofs.MemberLaws.{in_append_right}
 use Rattle.bus_strings.specs.Messages.{bits}
 use Rattle.bus_table.specs.declared.mode.Mode.TheVariants.{Periodic}
 use Rattle.bus_table.specs.inside.Facts.{SenderFacts}
-use Rattle.bus_table.specs.Filling.{filling_bits}
+use Rattle.bus_table.specs.inside.Fillings.{filling_bits}
 use Rattle.bus_table.specs.Tables.{Sender, Table}
 use Rattle.bus_table.specs.Turns.{turn_key, turn_order}
 use Rattle.bus_table.proofs.TurnLaws.{of_each, from_sort, length-sort}

@@ -15,7 +15,8 @@ use Rattle.bus_strings.specs.Transmissions.{end_of, IsOrdered}
 use Rattle.bus_table.specs.declared.mode.Mode.TheVariants.{Aperiodic}
 use Rattle.bus_table.specs.Tables.{Sender, Table}
 use Rattle.bus_table.specs.Lengths.{shortest}
-use Rattle.bus_table.specs.Turns.{Rises, turn_key, turn_order}
+use Rattle.bus_table.specs.Turns.{turn_key, turn_order}
+use Rattle.bus_table.specs.inside.Orders.{Rises}
 use Rattle.bus_table.proofs.TurnLaws.{from_sort, in_sort, order_rises, numbers_differ}
 use Rattle.bus_schedule.specs.Closed.{sends}
 use Rattle.bus_medium.specs.Delays.{Delays, heard_end}

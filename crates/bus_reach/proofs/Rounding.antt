@@ -13,7 +13,8 @@ use Rattle.bus_strings.specs.Transmissions.{end_of, IsOrdered}
 use Rattle.bus_table.specs.declared.mode.Mode.TheVariants.{Aperiodic}
 use Rattle.bus_table.specs.Tables.{Sender, Table}
 use Rattle.bus_table.specs.Lengths.{shortest}
-use Rattle.bus_table.specs.Turns.{Rises, turn_order}
+use Rattle.bus_table.specs.Turns.{turn_order}
+use Rattle.bus_table.specs.inside.Orders.{Rises}
 use Rattle.bus_schedule.specs.Closed.{sends}
 use Rattle.bus_medium.specs.Delays.{Delays, heard_end}
 use Rattle.bus_reach.specs.Joining.{grow_turns, grow_heard, hears_awake, members}

@@ -11,7 +11,8 @@ use Rattle.bus_table.specs.declared.mode.Mode.TheVariants.{Aperiodic}
 use Rattle.bus_table.specs.Tables.{Sender, Table, Hand}
 use Rattle.bus_table.specs.Lengths.{shortest}
 use Rattle.bus_table.specs.Hands.{are_hands}
-use Rattle.bus_table.specs.Turns.{turn_key, turn_order, Rises}
+use Rattle.bus_table.specs.Turns.{turn_key, turn_order}
+use Rattle.bus_table.specs.inside.Orders.{Rises}
 use Rattle.bus_table.proofs.TurnLaws.{numbers_differ, order_rises, from_sort, in_sort, length-sort}
 use Rattle.bus_table.specs.Valid.{is_valid}
 use Rattle.bus_table.proofs.ValidLaws.{valid_facts}

@@ -7,7 +7,7 @@ use Rattle.bus_strings.specs.Members.{In}
 use Rattle.bus_strings.specs.Messages.{Message, Entry, bits}
 use Rattle.bus_strings.specs.Transmissions.{end_of}
 use Rattle.bus_table.specs.Tables.{Sender}
-use Rattle.bus_table.specs.Turns.{Rises}
+use Rattle.bus_table.specs.inside.Orders.{Rises}
 use Rattle.bus_table.proofs.TurnLaws.{behind_rises}
 use Rattle.bus_medium.specs.Past.{own}
 use Rattle.bus_medium.proofs.PastLaws.{own_later, own_more}

@@ -3,7 +3,7 @@ use Rattle.std.specs.Prelude.{◌≡◌, ℕ, zero, suc, ◌+◌, ◌<◌, List,
 use Rattle.std.proofs.Common.{inl, inr, arith, sym, ap, ◌∙◌}
 use Rattle.bus_strings.specs.Members.{In}
 use Rattle.bus_table.specs.Tables.{Sender}
-use Rattle.bus_table.specs.Turns.{Differ, Rises}
+use Rattle.bus_table.specs.inside.Orders.{Differ, Rises}
 use Rattle.bus_table.proofs.TurnLaws.{behind_rises}
 use Rattle.bus_regime.specs.Gaps.{Gap, latest_end, last_end, gaps_from}
 

@@ -15,7 +15,7 @@ use Rattle.bus_regime.specs.declared.table_verdict.TableVerdict.TheVariants.{Acc
 use Rattle.bus_regime.specs.Gaps.{Gap, gaps, has_width}
 use Rattle.bus_regime.specs.Verdicts.{least_cycle, most_cycle, by_cycles, is_small, synchronizes, lacks_sync, small_gap, no_sync}
 use Rattle.bus_regime.specs.Verdicts.{refusal, unless_refused, by_gaps, verdict_in, verdict_of, is_accepted}
-use Rattle.bus_regime.specs.Fine.{IsSynchronized, IsFine, HasSmall, HasUnsynchronized}
+use Rattle.bus_regime.specs.inside.Fine.{IsSynchronized, IsFine, HasSmall, HasUnsynchronized}
 
 -- lists and tests
 find_none : {A : Type 0} (p : A → Bool) (xs : List A) → find p xs ≡ None → (x : A) → In x xs → p x ≡ false

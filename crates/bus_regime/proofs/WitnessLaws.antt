@@ -19,7 +19,7 @@ use Rattle.bus_table.specs.Hands.{message_of, items_of, hand_of}
 use Rattle.bus_table.specs.Ranges.{is_number, is_tg, is_offset, are_send_lines, is_send_line, is_sender}
 use Rattle.bus_table.specs.Tables.{Sender, Table}
 use Rattle.bus_table.proofs.TurnLaws.{numbers_differ}
-use Rattle.bus_table.specs.Turns.{Differ}
+use Rattle.bus_table.specs.inside.Orders.{Differ}
 use Rattle.bus_regime.specs.Witness.{filling_round, witness_of}
 
 -- a sender is found by its number

@@ -3,5 +3,5 @@ pub mod Gaps
 pub mod Ends
 pub mod Verdicts
 pub mod Lines
-pub mod Fine
 pub mod Witness
+pub mod inside

@@ -2,8 +2,8 @@
 //!
 //! [`verdict`] gives it, by the lengths of cycles in aperiodic mode and by the gaps between messages in periodic mode,
 //! [`put_verdict`] puts its words into a text, and [`write_verdict`] writes them as a line. `specs/Verdicts.antt` says what the
-//! verdict on a table is, `specs/Gaps.antt` what the gaps of a periodic table are, and `specs/VerdictLaws.antt` has what callers
-//! may use of it: a periodic table is accepted exactly where each of its gaps is fine (`specs/Fine.antt`). [`witness`] gives the
+//! verdict on a table is, `specs/Gaps.antt` what the gaps of a periodic table are, and `proofs/VerdictLaws.antt` what callers
+//! may use of it: a periodic table is accepted exactly where each of its gaps is fine (`specs/inside/Fine.antt`). [`witness`] gives the
 //! messages with which a refused table fails (`specs/Witness.antt`).
 #![tactic(auto)]
 

@@ -7,7 +7,8 @@ use Rattle.bus_strings.specs.Messages.{Message, Entry}
 use Rattle.bus_strings.specs.Transmissions.{Precedes, IsOrdered, IsAscending}
 use Rattle.bus_table.specs.declared.mode.Mode.TheVariants.{Periodic}
 use Rattle.bus_table.specs.Tables.{Sender}
-use Rattle.bus_table.specs.Turns.{Rises, RisesBehind, turn_key}
+use Rattle.bus_table.specs.Turns.{turn_key}
+use Rattle.bus_table.specs.inside.Orders.{Rises, RisesBehind}
 use Rattle.bus_schedule.specs.Closed.{sends, offset_turns, offset_schedule}
 use Rattle.bus_strings.proofs.MemberLaws.{in_append_cases, from_map}
 

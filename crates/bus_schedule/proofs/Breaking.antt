@@ -13,9 +13,10 @@ use Rattle.bus_strings.specs.Transmissions.{carrier, overlaps}
 use Rattle.bus_table.specs.declared.mode.Mode.TheVariants.{Periodic}
 use Rattle.bus_table.specs.inside.Facts.{SenderFacts}
 use Rattle.bus_table.specs.Tables.{Sender, Table}
-use Rattle.bus_table.specs.Filling.{filling_bits}
+use Rattle.bus_table.specs.inside.Fillings.{filling_bits}
 use Rattle.bus_table.specs.Lengths.{longest}
-use Rattle.bus_table.specs.Turns.{Differ, Rises, RisesBehind, turn_key, turn_order}
+use Rattle.bus_table.specs.Turns.{turn_key, turn_order}
+use Rattle.bus_table.specs.inside.Orders.{Differ, Rises, RisesBehind}
 use Rattle.bus_table.proofs.TurnLaws.{from_sort, behind_rises, order_rises, numbers_differ}
 use Rattle.bus_medium.specs.BusyLaws.{Heard, IsBusy}
 use Rattle.bus_medium.specs.CableLawful.{IsDueOnCable, IsLawfulOnCable}

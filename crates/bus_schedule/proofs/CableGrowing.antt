@@ -10,7 +10,7 @@ use Rattle.bus_strings.specs.Marking.{greatest_end}
 use Rattle.bus_strings.specs.Transmissions.{end_of, overlaps}
 use Rattle.bus_table.specs.Tables.{Sender, Table}
 use Rattle.bus_medium.specs.CableLawful.{IsDueOnCable, IsLawfulOnCable}
-use Rattle.bus_medium.specs.Past.{HaveEnded}
+use Rattle.bus_medium.specs.inside.Lazy.{HaveEnded}
 use Rattle.bus_medium.specs.Delays.{Delays, later, heard, heard_end}
 use Rattle.bus_medium.specs.Lawful.{Station}
 use Rattle.bus_medium.specs.Timings.{quiet_of, due_for}

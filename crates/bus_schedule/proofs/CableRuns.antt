@@ -14,7 +14,7 @@ use Rattle.bus_medium.specs.CableLawful.{IsLawfulOnCable}
 use Rattle.bus_medium.specs.Delays.{Delays, AreDelays, heard}
 use Rattle.bus_medium.specs.Timings.{quiet_of}
 use Rattle.bus_medium.specs.Wakes.{settled}
-use Rattle.bus_regime.specs.Fine.{IsFine}
+use Rattle.bus_regime.specs.inside.Fine.{IsFine}
 use Rattle.bus_regime.specs.Gaps.{Gap, last_end, gaps_from, gaps}
 use Rattle.bus_regime.specs.Verdicts.{verdict_of, is_accepted}
 use Rattle.bus_regime.proofs.VerdictLaws.{accepted_gaps}

@@ -8,12 +8,13 @@ use Rattle.bus_strings.specs.Members.{In}
 use Rattle.bus_strings.proofs.MemberLaws.{in_append_cases, in_append_left, in_append_right}
 use Rattle.bus_table.specs.declared.mode.Mode.TheVariants.{Periodic}
 use Rattle.bus_table.specs.Tables.{Sender, Table}
-use Rattle.bus_table.specs.Turns.{Rises, turn_key, turn_order}
+use Rattle.bus_table.specs.Turns.{turn_key, turn_order}
+use Rattle.bus_table.specs.inside.Orders.{Rises}
 use Rattle.bus_table.specs.Valid.{is_valid}
 use Rattle.bus_table.proofs.TurnLaws.{from_sort, order_rises, numbers_differ}
 use Rattle.bus_table.proofs.ValidLaws.{valid_facts}
 use Rattle.bus_medium.specs.Delays.{AreDelays, at_once}
-use Rattle.bus_regime.specs.Fine.{IsFine}
+use Rattle.bus_regime.specs.inside.Fine.{IsFine}
 use Rattle.bus_regime.specs.Gaps.{Gap, last_end, latest_end, gaps}
 use Rattle.bus_regime.specs.Verdicts.{verdict_of, is_accepted}
 use Rattle.bus_regime.proofs.VerdictLaws.{accepted_gaps}

@@ -7,7 +7,7 @@ use Rattle.bus_strings.specs.Members.{In}
 use Rattle.bus_table.specs.Tables.{Sender, Hand}
 use Rattle.bus_table.specs.Fits.{fits}
 use Rattle.bus_table.specs.Hands.{are_hands}
-use Rattle.bus_table.specs.Turns.{Differ}
+use Rattle.bus_table.specs.inside.Orders.{Differ}
 use Rattle.bus_table.proofs.TurnLaws.{at_in}
 use Rattle.bus_schedule.specs.Even.{messages_of}
 

@@ -6,7 +6,7 @@ use Rattle.bus_strings.specs.Members.{In}
 use Rattle.bus_strings.specs.Messages.{Message, Entry, bits}
 use Rattle.bus_strings.specs.Transmissions.{end_of, overlaps, Precedes, IsAscending}
 use Rattle.bus_table.specs.Tables.{Sender}
-use Rattle.bus_medium.specs.Past.{HaveEnded}
+use Rattle.bus_medium.specs.inside.Lazy.{HaveEnded}
 use Rattle.bus_schedule.specs.Closed.{sends, turns, turns_end, origin, gap_schedule}
 use Rattle.bus_schedule.specs.Runs.{IsClear}
 use Rattle.bus_strings.proofs.MemberLaws.{in_push_cases, ordered_push}

@@ -9,10 +9,11 @@ use Rattle.bus_strings.proofs.MemberLaws.{in_append_cases, in_append_left, in_ap
 use Rattle.bus_strings.specs.Messages.{Message, Entry, bits}
 use Rattle.bus_strings.specs.Transmissions.{end_of, IsAscending}
 use Rattle.bus_table.specs.declared.mode.Mode.TheVariants.{Aperiodic, Periodic}
-use Rattle.bus_table.specs.Filling.{filling_bits}
+use Rattle.bus_table.specs.inside.Fillings.{filling_bits}
 use Rattle.bus_table.specs.Lengths.{shortest}
 use Rattle.bus_table.specs.Tables.{Sender, Table}
-use Rattle.bus_table.specs.Turns.{Rises, turn_key, turn_order}
+use Rattle.bus_table.specs.Turns.{turn_key, turn_order}
+use Rattle.bus_table.specs.inside.Orders.{Rises}
 use Rattle.bus_table.proofs.TurnLaws.{from_sort, in_sort, order_rises, numbers_differ}
 use Rattle.bus_medium.specs.CableLawful.{IsLawfulOnCable}
 use Rattle.bus_medium.specs.Delays.{at_once}
@@ -23,7 +24,7 @@ use Rattle.bus_medium.specs.Timings.{quiet_of, timing_of}
 use Rattle.bus_medium.specs.Wakes.{settled}
 use Rattle.bus_medium.proofs.Hearing.{no_delay_is_the_bus}
 use Rattle.bus_medium.proofs.PastLaws.{length_past, own_more, own_later, last_push}
-use Rattle.bus_regime.specs.Fine.{HasSmall, HasUnsynchronized}
+use Rattle.bus_regime.specs.inside.Fine.{HasSmall, HasUnsynchronized}
 use Rattle.bus_regime.specs.Gaps.{Gap, gaps}
 use Rattle.bus_regime.specs.Verdicts.{least_cycle}
 use Rattle.bus_schedule.specs.Closed.{sends, turns, turns_end, gap_schedule, offset_schedule}

@@ -11,10 +11,11 @@ use Rattle.bus_table.specs.declared.mode.Mode.TheVariants.{Periodic}
 use Rattle.bus_table.specs.Tables.{Sender, Table}
 use Rattle.bus_table.specs.inside.Facts.{FitsMode, SenderFacts}
 use Rattle.bus_table.specs.Lengths.{longest}
-use Rattle.bus_table.specs.Turns.{Differ, Rises, turn_key, turn_order}
+use Rattle.bus_table.specs.Turns.{turn_key, turn_order}
+use Rattle.bus_table.specs.inside.Orders.{Differ, Rises}
 use Rattle.bus_table.proofs.TurnLaws.{of_each, from_sort, in_sort, order_rises, numbers_differ}
 use Rattle.bus_medium.specs.Timings.{greatest_gap, quiet_for, quiet_of, due_for}
-use Rattle.bus_medium.specs.Past.{HaveEnded}
+use Rattle.bus_medium.specs.inside.Lazy.{HaveEnded}
 use Rattle.bus_medium.specs.Clocks.{put}
 use Rattle.bus_regime.specs.Gaps.{Gap, latest_end, last_end, gaps_from, gaps}
 use Rattle.bus_schedule.specs.Closed.{sends, offset_turns, offset_schedule}

@@ -13,10 +13,11 @@ use Rattle.bus_table.specs.declared.mode.Mode.TheVariants.{Aperiodic}
 use Rattle.bus_table.specs.Tables.{Sender, Table}
 use Rattle.bus_table.specs.inside.Facts.{SenderFacts}
 use Rattle.bus_table.specs.Lengths.{shortest}
-use Rattle.bus_table.specs.Turns.{Rises, turn_key, turn_order}
+use Rattle.bus_table.specs.Turns.{turn_key, turn_order}
+use Rattle.bus_table.specs.inside.Orders.{Rises}
 use Rattle.bus_table.proofs.TurnLaws.{of_each, from_sort, in_sort, order_rises, numbers_differ}
 use Rattle.bus_medium.specs.Timings.{quiet_of, due_for}
-use Rattle.bus_medium.specs.Past.{HaveEnded}
+use Rattle.bus_medium.specs.inside.Lazy.{HaveEnded}
 use Rattle.bus_medium.specs.Delays.{AreDelays, at_once, heard, heard_end}
 use Rattle.bus_medium.specs.Wakes.{settled}
 use Rattle.bus_medium.proofs.CableClocks.{gap_elapsed, gap_waiting}

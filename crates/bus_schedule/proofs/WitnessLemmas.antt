@@ -12,12 +12,14 @@ use Rattle.bus_strings.specs.Messages.{Message, bits}
 use Rattle.bus_table.specs.declared.mode.Mode.{Mode}
 use Rattle.bus_table.specs.declared.mode.Mode.TheVariants.{Aperiodic, Periodic}
 use Rattle.bus_table.specs.inside.Facts.{TableFacts}
-use Rattle.bus_table.specs.Filling.{filling_message, filling_bits}
+use Rattle.bus_table.specs.Filling.{filling_message}
+use Rattle.bus_table.specs.inside.Fillings.{filling_bits}
 use Rattle.bus_table.proofs.FillingLaws.{filling_length}
 use Rattle.bus_table.specs.Fits.{items_fit}
 use Rattle.bus_table.specs.Hands.{hand_of, GiveHands}
 use Rattle.bus_table.specs.Tables.{Sender, Table, Hand}
-use Rattle.bus_table.specs.Turns.{Differ, turn_key, turn_order}
+use Rattle.bus_table.specs.Turns.{turn_key, turn_order}
+use Rattle.bus_table.specs.inside.Orders.{Differ}
 use Rattle.bus_table.proofs.TurnLaws.{from_sort, in_sort, length-sort, numbers_differ}
 use Rattle.bus_table.specs.Valid.{is_valid}
 use Rattle.bus_table.proofs.ValidLaws.{valid_facts}

@@ -6,7 +6,8 @@ use Rattle.bus_strings.specs.Members.{In}
 use Rattle.bus_strings.specs.Messages.{Entry}
 use Rattle.bus_shapes.specs.Sayings.{Sent}
 use Rattle.bus_shapes.specs.Sending.{sent_of, sents, sents_from}
-use Rattle.bus_shapes.specs.SendingLaws.{IsToldOf, IsInOrder}
+use Rattle.bus_shapes.specs.SendingLaws.{IsToldOf}
+use Rattle.bus_shapes.specs.inside.Sents.{IsInOrder}
 
 all_from : (list : List Entry) (k : ℕ) (xs : List Entry) → AllByRecursion IsInOrder (sents_from list k xs)
 all_from list k [] = tt

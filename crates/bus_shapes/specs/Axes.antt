@@ -26,9 +26,25 @@ parted [] = []
 parted (digit ∷ digits) = if are_thousands digits then digit ∷ (thin_space ++ parted digits) else digit ∷ parted digits
 
 -- ---- units
+-- The microseconds of a millisecond.
+abbrev pub millisecond : ℕ
+millisecond = 1000
+
+-- The microseconds of a second.
+abbrev pub second : ℕ
+second = 1000000
+
+-- The bit times of a millisecond, from which on an axis of time is named after it.
+abbrev pub millisecond_bits : ℕ
+millisecond_bits = 2000
+
+-- The bit times of a second, from which on an axis of time is named after it.
+abbrev pub second_bits : ℕ
+second_bits = 2000000
+
 -- By how many microseconds an axis of time counts whose marks are so many microseconds apart: by seconds, milliseconds or microseconds.
 abbrev pub time_unit : ℕ → ℕ
-time_unit apart = if nat_le 1000000 apart then 1000000 else (if nat_le 1000 apart then 1000 else 1)
+time_unit apart = if nat_le second apart then second else (if nat_le millisecond apart then millisecond else 1)
 
 -- How many bit times a unit has, where the marks are so many bit times apart: a bit time is half a microsecond.
 abbrev pub unit_bits : Unit → ℕ → ℕ
@@ -38,7 +54,8 @@ unit_bits BitTimes step = 1
 -- What it is called.
 abbrev pub unit_name : Unit → ℕ → List ℕ
 unit_name Microseconds step =
-    if nat_le 2000000 step then codes "seconds" else (if nat_le 2000 step then codes "milliseconds" else codes "microseconds")
+    if nat_le second_bits step then codes "seconds"
+    else (if nat_le millisecond_bits step then codes "milliseconds" else codes "microseconds")
 unit_name BitTimes step = codes "bit times"
 
 -- ---- marks

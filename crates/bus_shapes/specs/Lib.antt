@@ -11,3 +11,4 @@ pub mod Axes
 pub mod Frames
 pub mod Headings
 pub mod Laws
+pub mod inside

@@ -1,12 +1,8 @@
 -- What holds of all that is told of a list.
-use Rattle.std.specs.Prelude.{◌≡◌, ◌≤◌, List, slice_get, Some}
+use Rattle.std.specs.Prelude.{◌≡◌, List, slice_get, Some}
 use Rattle.bus_strings.specs.Messages.{Entry}
 use Rattle.bus_shapes.specs.Sayings.{Sent}
 use Rattle.bus_shapes.specs.Sending.{sent_of}
-
--- Each transmission ends no earlier than it begins.
-abbrev pub IsInOrder : Sent → Type 0
-IsInOrder sent = sent.moment ≤ sent.end
 
 -- What is told of a transmission is told of an entry of the list.
 pub record IsToldOf (list : List Entry) (sent : Sent) : Type 0 where

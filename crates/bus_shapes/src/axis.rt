@@ -81,16 +81,28 @@ const ROUNDS: [u64; 39] = [
 /// The microseconds from mark to mark, where no round number is enough.
 const MOST_APART: u64 = 10_000_000_000_000;
 
+/// The microseconds of a millisecond.
+const MILLISECOND: u64 = 1000;
+
+/// The microseconds of a second.
+const SECOND: u64 = 1_000_000;
+
+/// The bit times of a millisecond.
+const MILLISECOND_BITS: u64 = 2000;
+
+/// The bit times of a second.
+const SECOND_BITS: u64 = 2_000_000;
+
 /// By how many microseconds an axis of time counts whose marks are so many microseconds apart.
 fn time_unit(apart: u64) -> u64
     ensures value { result ≡ definition.time_unit apart }
     ensures some { 0 < result }
-    ensures few { result ≤ 1000000 }
+    ensures few { result ≤ definition.second }
 {
-    if apart >= 1_000_000 {
-        1_000_000
-    } else if apart >= 1000 {
-        1000
+    if apart >= SECOND {
+        SECOND
+    } else if apart >= MILLISECOND {
+        MILLISECOND
     } else {
         1
     }
@@ -101,7 +113,7 @@ impl Unit {
     pub fn bits(self, step: u64) -> u64
         ensures value { result ≡ definition.unit_bits self step }
         ensures some { 0 < result }
-        ensures few { result ≤ 2000000 }
+        ensures few { result ≤ definition.second_bits }
     {
         match self {
             Unit::Microseconds => 2 * time_unit(step / 2),
@@ -219,8 +231,8 @@ fn put_unit<K: Sink>(text: &mut TextBuffer, sink: &mut K, unit: Unit, step: u64)
     ensures { Adds K.held K.faults sink.old sink.new text.old text.new (definition.unit_name unit step) }
 {
     match unit {
-        Unit::Microseconds if step >= 2_000_000 => text.put(sink, b"seconds"),
-        Unit::Microseconds if step >= 2000 => text.put(sink, b"milliseconds"),
+        Unit::Microseconds if step >= SECOND_BITS => text.put(sink, b"seconds"),
+        Unit::Microseconds if step >= MILLISECOND_BITS => text.put(sink, b"milliseconds"),
         Unit::Microseconds => text.put(sink, b"microseconds"),
         Unit::BitTimes => text.put(sink, b"bit times"),
     }

@@ -7,7 +7,8 @@ use Rattle.std.proofs.lemmas.Bool.{and_parts}
 use Rattle.std.proofs.lemmas.Bool.Decides.{nat_tests}
 use Rattle.std.proofs.lemmas.Grind.{flat_map-append}
 use Rattle.std.proofs.lemmas.List.Folds.{flat_map-map}
-use Rattle.bus_text.specs.Canonical.{spelled_line, spelled_lines, IsField, AreFields, numbered}
+use Rattle.bus_text.specs.Canonical.{spelled_line, spelled_lines}
+use Rattle.bus_text.specs.inside.Spelled.{IsField, AreFields, numbered}
 use Rattle.bus_text.proofs.CanonicalLaws.{entries_of-spelled_lines, constant_field, spelled_line-cons}
 use Rattle.bus_text.specs.Digits.{hexadecimal}
 use Rattle.bus_text.proofs.DigitLaws.{hexadecimal_is, hexadecimal_field}

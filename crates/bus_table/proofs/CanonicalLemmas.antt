@@ -9,7 +9,8 @@ use Rattle.std.proofs.lemmas.Bool.{and_parts}
 use Rattle.std.proofs.lemmas.Bool.Decides.{nat_tests}
 use Rattle.std.proofs.lemmas.List.{take_more}
 use Rattle.std.proofs.lemmas.List.Concat.{flat_map-append}
-use Rattle.bus_text.specs.Canonical.{spelled_line, spelled_lines, IsField, AreFields, numbered}
+use Rattle.bus_text.specs.Canonical.{spelled_line, spelled_lines}
+use Rattle.bus_text.specs.inside.Spelled.{IsField, AreFields, numbered}
 use Rattle.bus_text.proofs.CanonicalLaws.{entries_of-spelled_lines, constant_field}
 use Rattle.bus_text.specs.Digits.{hex_digit, hexadecimal}
 use Rattle.bus_text.proofs.DigitLaws.{hexadecimal_is, hexadecimal_field}

@@ -11,7 +11,8 @@ use Rattle.bus_strings.specs.Limits.{most_strings, most_words}
 use Rattle.bus_strings.specs.Messages.{IsWordstring, IsMessage, bits}
 use Rattle.bus_table.specs.declared.mode.Mode.{Mode}
 use Rattle.bus_table.specs.declared.mode.Mode.TheVariants.{Aperiodic, Periodic}
-use Rattle.bus_table.specs.Filling.{zeros, filling_count, filling_strings, filling_item, filling_message, filling_bits}
+use Rattle.bus_table.specs.Filling.{zeros, filling_count, filling_strings, filling_item, filling_message}
+use Rattle.bus_table.specs.inside.Fillings.{filling_bits}
 use Rattle.bus_table.proofs.FitLaws.{shortest_length, longest_length}
 use Rattle.bus_table.specs.Fits.{allows, matches, fits, is_shortest, is_longest, has_shape}
 use Rattle.bus_table.specs.Hands.{message_of}

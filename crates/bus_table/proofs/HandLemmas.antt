@@ -17,9 +17,9 @@ use Rattle.bus_strings.specs.Messages.{Message}
 use Rattle.bus_table.specs.declared.fit.FitError.{FitError}
 use Rattle.bus_table.specs.declared.fit.FitError.TheVariants as FitErrors
 use Rattle.bus_table.specs.Fits.{has_shape, sender_of, shape_fit, fit_from}
-use Rattle.bus_table.specs.Hands.{message_of, items_of, hand_of, with_message}
+use Rattle.bus_table.specs.Hands.{message_of, items_of, hand_of}
 use Rattle.bus_table.specs.Tables.{Sender, Hand}
-use Rattle.bus_table.specs.inside.Dealing.{is_fit}
+use Rattle.bus_table.specs.inside.Dealing.{is_fit, with_message}
 
 both : (a b : Bool) → a ≡ true → b ≡ true → (a && b) ≡ true
 both true true h k = refl

@@ -7,7 +7,8 @@ use Rattle.bus_text.specs.Refusals.{Refusal}
 use Rattle.bus_table.specs.declared.error.TableError.{TableError}
 use Rattle.bus_table.specs.declared.error.TableError.TheVariants.{Text, Whole, Memory}
 use Rattle.bus_table.specs.Drafts.{Draft, start, may_end}
-use Rattle.bus_table.specs.Gives.{LineFails, Fails, Answers}
+use Rattle.bus_table.specs.Gives.{Fails, Answers}
+use Rattle.bus_table.specs.inside.LineGives.{LineFails}
 use Rattle.bus_table.specs.Reading.{step, steps, table_of, ended, text_reading, judged, answered, answer_of}
 use Rattle.bus_table.specs.Tables.{Table}
 

@@ -6,7 +6,7 @@ use Rattle.bus_text.specs.Refusals.{Refusal}
 use Rattle.bus_table.specs.declared.error.TableError.{TableError}
 use Rattle.bus_table.specs.declared.error.TableError.TheVariants.{Text, Whole, Memory}
 use Rattle.bus_table.specs.Drafts.{Draft}
-use Rattle.bus_table.specs.Gives.{LineFails}
+use Rattle.bus_table.specs.inside.LineGives.{LineFails}
 use Rattle.bus_table.specs.Reading.{step}
 use Rattle.bus_table.specs.Stops.{Stop, stop_at, stop_in, read_or, stops}
 

@@ -7,7 +7,6 @@ use Rattle.bus_strings.specs.Messages.{Message}
 use Rattle.bus_table.specs.declared.mode.Mode.{Mode}
 use Rattle.bus_table.specs.declared.mode.Mode.TheVariants.{Aperiodic, Periodic}
 use Rattle.bus_table.specs.Hands.{message_of}
-use Rattle.bus_table.specs.Lengths.{shortest, longest}
 use Rattle.bus_table.specs.Tables.{SendLine, Sender}
 
 -- How many data words a line has in it.
@@ -30,8 +29,3 @@ filling_item mode sender = record { terminal = sender.number; strings = filling_
 -- The filling message of a sender of a table of this mode.
 abbrev pub filling_message : Mode → Sender → Message
 filling_message mode sender = message_of sender.sends (filling_strings mode sender.sends)
-
--- Its bit times: those of the shortest message in aperiodic mode, of the longest in periodic mode.
-abbrev pub filling_bits : Mode → Sender → ℕ
-filling_bits Aperiodic sender = shortest sender
-filling_bits Periodic sender = longest sender

@@ -16,6 +16,7 @@ use Rattle.bus_table.specs.declared.mode.Mode.TheVariants.{Aperiodic, Periodic}
 use Rattle.bus_table.specs.Heads.{Head, is_head}
 use Rattle.bus_table.specs.Tables.{SendLine, TakeLine}
 use Rattle.bus_table.specs.Ranges.{is_send_line, is_take_line}
+use Rattle.bus_table.specs.Text.{mode_word}
 
 -- The field at a place, counted from 0.
 abbrev pub field : List (List ℕ) → ℕ → List ℕ
@@ -48,13 +49,13 @@ table_reading fields = unless (first_of ((not (length fields == 2 && is_at field
 
 -- The mode of a MODE line, where its word is one of the two.
 abbrev pub mode_of : List (List ℕ) → Mode
-mode_of fields = if is_at fields 1 (codes "periodic") then Periodic else Aperiodic
+mode_of fields = if is_at fields 1 (mode_word Periodic) then Periodic else Aperiodic
 
 -- The MODE line.
 unfoldable pub mode_reading : List (List ℕ) → Result Mode Reason
 mode_reading fields = unless (first_of
     ((not (length fields == 2), Fields)
-    ∷ (not (is_at fields 1 (codes "aperiodic") || is_at fields 1 (codes "periodic")), Spelling)
+    ∷ (not (is_at fields 1 (mode_word Aperiodic) || is_at fields 1 (mode_word Periodic)), Spelling)
     ∷ []))
     (mode_of fields)
 

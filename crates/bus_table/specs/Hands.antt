@@ -1,5 +1,5 @@
 -- The hands that items give.
-use Rattle.std.specs.Prelude.{ℕ, Bool, true, false, IsTrue, ◌&&◌, ◌==◌, List, [], ◌∷◌, ◌++◌, map}
+use Rattle.std.specs.Prelude.{ℕ, Bool, true, false, IsTrue, ◌&&◌, ◌==◌, List, [], ◌∷◌, map}
 use Rattle.std.specs.List.{filter, list_all}
 use Rattle.bus_strings.specs.Items.{Item}
 use Rattle.bus_strings.specs.Messages.{Message}
@@ -25,10 +25,6 @@ hand_of items sender =
 -- One hand for each sender, in the order of the table.
 abbrev pub hands_of : Table → List Item → List Hand
 hands_of table items = map (hand_of items) table.senders
-
--- A hand with one more message behind the others.
-abbrev pub with_message : Hand → Message → Hand
-with_message hand message = record hand { messages = hand.messages ++ message ∷ [] }
 
 -- Whether there is one hand for each of these senders in order, with its number, and each message fits.
 abbrev pub are_hands : List Sender → List Hand → Bool

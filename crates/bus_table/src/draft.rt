@@ -161,7 +161,7 @@ impl Model for Draft {
 impl Draft {
     ghost use Rattle.bus_text.specs.Entries.{entry};
     ghost use Rattle.bus_text.specs.inside.Gives.{StepGives as FieldsGive};
-    ghost use Rattle.bus_table.specs.Gives.{StepGives};
+    ghost use Rattle.bus_table.specs.inside.LineGives.{StepGives};
     ghost use Rattle.bus_table.specs.Reading.{step, table_of, judged};
     ghost use Rattle.bus_table.specs.Stops.{coming, stop_at, stop_in};
     ghost use Rattle.bus_table.specs.Valid.{is_in_range};

@@ -35,10 +35,10 @@ pub fn mode_line(fields: &[&[u8]]) -> Result<Mode, LineFault>
     if fields.len() != 2 {
         return Err(LineFault::Refused(Reason::Fields));
     }
-    if is_at(fields, 1, b"periodic") {
+    if is_at(fields, 1, Mode::Periodic.word().as_bytes()) {
         return Ok(Mode::Periodic);
     }
-    if is_at(fields, 1, b"aperiodic") {
+    if is_at(fields, 1, Mode::Aperiodic.word().as_bytes()) {
         return Ok(Mode::Aperiodic);
     }
     Err(LineFault::Refused(Reason::Spelling))

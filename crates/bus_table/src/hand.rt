@@ -1,6 +1,6 @@
 //! What a terminal has to send.
 ghost use Rattle.std.specs.Prelude.{◌≡◌, OnOk};
-ghost use Rattle.bus_table.specs.Hands.{with_message};
+ghost use Rattle.bus_table.specs.inside.Dealing.{with_message};
 
 use bus_strings::Message;
 use std::alloc::AllocError;

@@ -7,7 +7,7 @@ use Rattle.std.specs.Str.Parse.{digits_value}
 use Rattle.std.proofs.lemmas.Bool.{eq-eqb}
 use Rattle.std.proofs.lemmas.Bool.Decides.{nat_tests}
 use Rattle.std.proofs.lemmas.Int.Digits.{digits_value_push}
-use Rattle.bus_text.specs.Canonical.{IsFieldByte, IsField}
+use Rattle.bus_text.specs.inside.Spelled.{IsFieldByte, IsField}
 use Rattle.bus_text.specs.Digits.{hex_digit, is_capital_digit, hexadecimal}
 use Rattle.bus_text.specs.Numbers.{IsHexadecimal}
 

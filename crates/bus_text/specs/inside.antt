@@ -1,3 +1,4 @@
 -- What only contracts of private functions and proofs name: not to be read for what is promised.
 pub mod Gives
 pub mod Leading
+pub mod Spelled

@@ -13,7 +13,8 @@ use Rattle.bus_command.specs.Readers.{Named, First as AtFirst, Second as AtSecon
 use Rattle.bus_tool.specs.Forms.{Form, OnTable, OnMessages, OnTrace, Unwave, Drill, OnItself, Explain, Cable, form_of, sources_of}
 use Rattle.bus_tool.specs.Refusals.{Outcome, ToolRefusal, status_of, ends_of, TableMode, Unspaced, WaveText, Uneven, NotAccepted, ShortLast, TooLong, CableText, CableUnfit}
 use Rattle.bus_tool.specs.Due.{form_due, outcome_for}
-use Rattle.bus_tool.specs.Acts.{DoesForm, Acts}
+use Rattle.bus_tool.specs.Acts.{Acts}
+use Rattle.bus_tool.specs.inside.Acting.{DoesForm}
 use Rattle.bus_tool.specs.InMemory.{IsStatusOf, IsStatusDue}
 
 -- a source in memory with these bytes

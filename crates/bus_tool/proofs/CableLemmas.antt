@@ -53,7 +53,9 @@ use Rattle.bus_tool.specs.Texts.{IsCableAnswerText, IsOnCableText, on_cable_text
 use Rattle.bus_tool.proofs.HoldLemmas.{holds_ascend, holds_ranged}
 use Rattle.bus_tool.proofs.TraceLemmas.{below}
 use Rattle.bus_tool.specs.Causes.{Cause}
-use Rattle.bus_tool.specs.Due.{CableRead, CableInputs, cable_hands, with_cable, cable_refusal, cable_or_refusal, cable_text_due, fitting_on_cable, cable_read_due, cable_due}
+use Rattle.bus_tool.specs.Due.{CableRead, CableInputs, cable_hands, with_cable, cable_or_refusal, cable_text_due, fitting_on_cable}
+use Rattle.bus_tool.specs.Due.{cable_read_due, cable_due}
+use Rattle.bus_tool.specs.inside.Refused.{cable_refusal}
 use Rattle.bus_tool.specs.Forms.{Form}
 use Rattle.bus_tool.specs.Refusals.{Outcome, ToolRefusal, refuse, CableText, CableUnfit}
 use Rattle.bus_tool.specs.declared.inputs.OnCable.{OnCable}

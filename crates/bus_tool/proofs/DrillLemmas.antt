@@ -24,8 +24,9 @@ use Rattle.bus_vectors.specs.MadeLaws.{MadeTablesAreValid, MadeItemsFit, MadeIte
 use Rattle.bus_tool.specs.declared.drill.DrillFigures.{DrillFigures}
 use Rattle.bus_tool.specs.Refusals.{Outcome}
 use Rattle.bus_command.specs.declared.outcome.Outcome.TheVariants.{NoMemory}
-use Rattle.bus_tool.specs.Due.{schedule_refusal}
-use Rattle.bus_tool.specs.Drills.{drill_hands, drill_list, garbled_count, IsDrilled, figures, line_of, drill_line}
+use Rattle.bus_tool.specs.inside.Refused.{schedule_refusal}
+use Rattle.bus_tool.specs.Drills.{drill_hands, drill_list, garbled_count, figures, drill_line}
+use Rattle.bus_tool.specs.inside.Drilled.{IsDrilled, line_of}
 use Rattle.bus_tool.specs.DrillLaws.{IsDrillable, DrillsAreAccepted}
 use Rattle.bus_command.proofs.LawTypes.{FittingItemsGiveHands}
 

@@ -16,7 +16,8 @@ use Rattle.bus_command.proofs.LawTypes.{TextReadsAsItsTable, TextReadsAsItsItems
 use Rattle.bus_command.proofs.ReadLemmas.{held_trace, inputs_told, traced_told}
 use Rattle.bus_command.proofs.ToldLemmas.{table_told, items_told}
 use Rattle.bus_command.specs.Stages.{StandsFor}
-use Rattle.bus_tool.specs.Acts.{tool_program, Acts, IsOfMode}
+use Rattle.bus_tool.specs.Acts.{tool_program, Acts}
+use Rattle.bus_tool.specs.inside.Acting.{IsOfMode}
 use Rattle.bus_tool.specs.Due.{table_for, refusal_for, table_answer, messages_answer, inputs_answer, trace_answer, traced_answer}
 use Rattle.bus_tool.specs.Forms.{OnTable, OnMessages, OnTrace, TableCommand, MessagesCommand, TraceCommand, form_of, table_mode, messages_mode}
 use Rattle.bus_tool.specs.Refusals.{Outcome, ToolRefusal, ends_of, status_of}

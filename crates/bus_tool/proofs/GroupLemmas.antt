@@ -12,7 +12,7 @@ use Rattle.bus_command.specs.Kinds.{kind_of, stage_of}
 use Rattle.bus_command.specs.Outside.{Seen, Sources}
 use Rattle.bus_command.specs.Readers.{entire, two_sources}
 use Rattle.bus_command.specs.Steps.{Same, Takes, Prepares}
-use Rattle.bus_command.specs.Taken.{AreInputs}
+use Rattle.bus_command.specs.inside.Steps.{AreInputs}
 use Rattle.bus_command.proofs.DoLaws.{Agrees}
 use Rattle.bus_tool.specs.Due.{refusal_for, table_for, table_answer, messages_answer, inputs_answer, trace_answer, traced_answer, unwave_answer}
 use Rattle.bus_tool.specs.Forms.{TableCommand, MessagesCommand, TraceCommand}

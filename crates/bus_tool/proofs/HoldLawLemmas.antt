@@ -10,7 +10,7 @@ use Rattle.bus_table.specs.Tables.{Sender, Table, Hand}
 use Rattle.bus_table.specs.Hands.{hand_of, hands_of}
 use Rattle.bus_table.specs.inside.Facts.{SenderFacts, TableFacts}
 use Rattle.bus_table.proofs.ValidLaws.{valid_facts}
-use Rattle.bus_table.specs.Turns.{Differ}
+use Rattle.bus_table.specs.inside.Orders.{Differ}
 use Rattle.bus_table.proofs.TurnLaws.{of_each, numbers_differ}
 use Rattle.bus_trace.specs.declared.hold.Hold.{Hold}
 use Rattle.bus_wave.specs.Counted.{hand_hold, hand_holds}

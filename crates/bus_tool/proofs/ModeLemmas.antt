@@ -16,7 +16,7 @@ use Rattle.bus_command.specs.Stages.{stage_in}
 use Rattle.bus_command.specs.Steps.{Same, Takes}
 use Rattle.bus_command.proofs.ReadLemmas.{CauseLaws, bind_err, table_cause, table_stops, table_valid, stop_unwritten}
 use Rattle.bus_command.proofs.TakeLemmas.{takes_then, takes_none}
-use Rattle.bus_tool.specs.Acts.{IsOfMode}
+use Rattle.bus_tool.specs.inside.Acting.{IsOfMode}
 use Rattle.bus_tool.specs.Causes.{Cause}
 use Rattle.bus_tool.specs.Due.{is_mode, mode_or_refusal, needed_or_refusal, table_for}
 use Rattle.bus_tool.specs.Forms.{Form}

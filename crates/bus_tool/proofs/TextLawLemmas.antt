@@ -29,7 +29,7 @@ use Rattle.bus_command.specs.Steps.{StopsAt}
 use Rattle.bus_command.specs.declared.inputs.Traced.{Traced}
 use Rattle.bus_command.proofs.LawTypes.{ReadsATable, FittingItemsGiveHands}
 use Rattle.bus_command.proofs.ReadLemmas.{table_read, table_stops, items_read, items_stop, inputs_read, inputs_stop, trace_stops, traced_stop, stop_unwritten}
-use Rattle.bus_tool.specs.Acts.{IsOfMode}
+use Rattle.bus_tool.specs.inside.Acting.{IsOfMode}
 use Rattle.bus_tool.specs.Due.{table_for, can_run, can_drop, unwave_due, wave_trace_due, table_answer, inputs_answer, traced_answer, unwave_answer, explain_answer, form_due, outcome_for}
 use Rattle.bus_tool.specs.Drills.{drill_line}
 use Rattle.bus_tool.specs.Explanations.{explanation}

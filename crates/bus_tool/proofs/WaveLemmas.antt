@@ -23,7 +23,8 @@ use Rattle.bus_command.proofs.ReadLemmas.{refuse_text, stage_at}
 use Rattle.bus_command.proofs.TakeLemmas.{RefusesAt, takes_then, takes_none}
 use Rattle.bus_command.proofs.TextLemmas.{short_text}
 use Rattle.bus_tool.specs.Causes.{Cause}
-use Rattle.bus_tool.specs.Due.{wave_refusal, wave_or_refusal, wave_trace_due}
+use Rattle.bus_tool.specs.Due.{wave_or_refusal, wave_trace_due}
+use Rattle.bus_tool.specs.inside.Refused.{wave_refusal}
 use Rattle.bus_tool.specs.Forms.{Form, entire_wave, wave_limit}
 use Rattle.bus_tool.specs.Refusals.{Outcome, ToolRefusal, refuse, WaveText}
 

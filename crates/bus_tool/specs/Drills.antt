@@ -1,5 +1,5 @@
 -- What a drill finds: the closed schedule of the input that a number makes, which is accepted.
-use Rattle.std.specs.Prelude.{◌≡◌, ℕ, List, ◌++◌, codes, length, count_by, decimal}
+use Rattle.std.specs.Prelude.{ℕ, List, ◌++◌, codes, length, count_by, decimal}
 use Rattle.bus_strings.specs.Messages.{Entry}
 use Rattle.bus_strings.specs.Transmissions.{marks}
 use Rattle.bus_table.specs.Hands.{hands_of}
@@ -7,7 +7,6 @@ use Rattle.bus_table.specs.Tables.{Hand}
 use Rattle.bus_schedule.specs.Closed.{closed, closed_end}
 use Rattle.bus_filter.specs.ReceivedTexts.{received_count}
 use Rattle.bus_vectors.specs.Made.{sender_count, round_count, made_table, made_items}
-use Rattle.bus_tool.specs.declared.drill.DrillFigures.{DrillFigures}
 
 -- The hands of a number's senders.
 abbrev pub drill_hands : ℕ → List Hand
@@ -21,27 +20,12 @@ drill_list number = closed (made_table number) (drill_hands number)
 abbrev pub garbled_count : List Entry → ℕ
 garbled_count list = count_by (λ mark. mark) (marks list)
 
--- The figures of a drill.
-pub record IsDrilled (drilled : DrillFigures) (number : ℕ) : Type 0 where
-  pub made : drilled.number ≡ number
-  pub senders : drilled.senders ≡ sender_count number
-  pub rounds : drilled.rounds ≡ round_count number
-  pub messages : drilled.messages ≡ length (drill_list number)
-  pub end : drilled.end ≡ closed_end (made_table number) (drill_hands number)
-  pub collided : drilled.collided ≡ garbled_count (drill_list number)
-  pub received : drilled.received ≡ received_count (made_table number) (drill_list number)
-
 -- `DRILL N senders K rounds R messages m end e collided c received x`
 abbrev pub figures : (number senders rounds messages end collided received : ℕ) → List ℕ
 figures number senders rounds messages end collided received =
     codes "DRILL " ++ decimal number ++ (codes " senders " ++ decimal senders) ++ (codes " rounds " ++ decimal rounds)
     ++ (codes " messages " ++ decimal messages) ++ (codes " end " ++ decimal end) ++ (codes " collided " ++ decimal collided)
     ++ (codes " received " ++ decimal received) ++ codes "\n"
-
--- The line of what a drill found.
-abbrev pub line_of : DrillFigures → List ℕ
-line_of drilled =
-    figures drilled.number drilled.senders drilled.rounds drilled.messages drilled.end drilled.collided drilled.received
 
 -- The line of the drill of a number.
 abbrev pub drill_line : ℕ → List ℕ

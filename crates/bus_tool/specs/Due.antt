@@ -14,15 +14,11 @@ use Rattle.bus_plan.specs.declared.planning.PlanAnswer.{PlanAnswer}
 use Rattle.bus_plan.specs.declared.planning.PlanAnswer.TheVariants.{Planned, Infeasible}
 use Rattle.bus_plan.specs.Answers.{plan_of}
 use Rattle.bus_dropout.specs.DropOut.{last_cycle, drop_end}
-use Rattle.bus_schedule.specs.declared.error.ScheduleError.{ScheduleError}
-use Rattle.bus_schedule.specs.declared.error.ScheduleError.TheVariants.{Memory as Small, TooLong as Long}
 use Rattle.bus_schedule.specs.declared.uneven.Uneven.{Uneven as UnevenHands}
 use Rattle.bus_schedule.specs.Closed.{closed_end}
 use Rattle.bus_schedule.specs.Limits.{longest_end}
 use Rattle.bus_schedule.specs.Uneven.{uneven_of}
 use Rattle.bus_trace.specs.Traces.{Recording}
-use Rattle.bus_wave.specs.declared.fault.WaveError.{WaveError}
-use Rattle.bus_wave.specs.declared.fault.WaveError.TheVariants as wave
 use Rattle.bus_wave.specs.declared.fault.WaveFault.{WaveFault}
 use Rattle.bus_wave.specs.Reading.{WaveRefusal, wave_reading}
 use Rattle.bus_wave.specs.Spacing.{spaced_of}
@@ -36,10 +32,8 @@ use Rattle.bus_table.specs.Fits.{items_fit}
 use Rattle.bus_table.specs.Hands.{hands_of}
 use Rattle.bus_cable.specs.Cables as cables
 use Rattle.bus_cable.specs.Reading.{cable_reading}
-use Rattle.bus_cable.specs.declared.error.CableError.{CableError}
-use Rattle.bus_cable.specs.declared.error.CableError.TheVariants as cable
 use Rattle.bus_command.specs.declared.inputs.Traced.{Traced}
-use Rattle.bus_command.specs.declared.outcome.Outcome.TheVariants.{Done, Answered, Usage, NoMemory}
+use Rattle.bus_command.specs.declared.outcome.Outcome.TheVariants.{Done, Answered, Usage}
 use Rattle.bus_command.specs.Due.{text_within, text_due, table_due, table_refusal_of, Inputs, hands_in, inputs_by, traced_by, traced_due}
 use Rattle.bus_command.specs.Due.{outcome_with}
 use Rattle.bus_command.specs.Stages.{refusal_in}
@@ -77,11 +71,6 @@ abbrev pub refusal_for : Option Mode → List ℕ → Option Outcome
 refusal_for mode text = refusal_in (table_for mode text)
 
 -- ---- a table and a wave
--- Why a wave text is refused.
-abbrev pub wave_refusal : WaveError → Outcome
-wave_refusal (wave.Text line reason) = refuse (WaveText line reason)
-wave_refusal wave.Memory = NoMemory
-
 -- What a wave text reads as, or the outcome of its refusal.
 abbrev pub wave_or_refusal : Result Recording WaveRefusal → Result Recording Outcome
 wave_or_refusal (Ok trace) = Ok trace
@@ -99,11 +88,6 @@ unwave_due first second = traced_by wave_trace_due first second
 -- What a cable text gives: where the terminals are and when they wake, and the items.
 abbrev pub CableRead : Type 0
 CableRead = cables.Cable × List Item
-
--- Why a cable text is refused.
-abbrev pub cable_refusal : CableError → Outcome
-cable_refusal (cable.Text line reason) = refuse (CableText line reason)
-cable_refusal cable.Memory = NoMemory
 
 -- What a cable text reads as, or the outcome of its refusal.
 abbrev pub cable_or_refusal : Result CableRead Refusal → Result CableRead Outcome
@@ -145,11 +129,6 @@ cable_due first second = table_due first >>= λ table. cable_read_due table seco
 -- Why hands aren't even.
 abbrev pub uneven_refusal : UnevenHands → Outcome
 uneven_refusal u = refuse (Uneven u.one u.one_count u.other u.other_count)
-
--- Why no schedule is given.
-abbrev pub schedule_refusal : ScheduleError → Outcome
-schedule_refusal Small = NoMemory
-schedule_refusal (Long end) = refuse (TooLong end)
 
 -- Even hands.
 abbrev pub even_due : Option UnevenHands → Result (Unit {0}) Outcome

@@ -1,4 +1,7 @@
 -- What only contracts of private functions and proofs name: not to be read for what is promised.
+pub mod Acting
+pub mod Drilled
 pub mod Escapes
+pub mod Refused
 pub mod ReportData
 pub mod TakenCable

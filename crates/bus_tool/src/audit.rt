@@ -1,6 +1,6 @@
 //! `audit`.
 ghost use Rattle.std.specs.Prelude.{◌≡◌};
-ghost use Rattle.bus_tool.specs.Acts.{EndsOnTrace};
+ghost use Rattle.bus_tool.specs.inside.Acting.{EndsOnTrace};
 ghost use Rattle.bus_tool.specs.Due.{audit_outcome as outcome_of};
 ghost use Rattle.bus_tool.specs.Forms.{Audit};
 ghost use Rattle.bus_trace.specs.Traces.{IsTrace};

@@ -1,6 +1,6 @@
 //! `check`.
 ghost use Rattle.std.specs.Prelude.{◌≡◌};
-ghost use Rattle.bus_tool.specs.Acts.{EndsOnTable};
+ghost use Rattle.bus_tool.specs.inside.Acting.{EndsOnTable};
 ghost use Rattle.bus_tool.specs.Due.{verdict_outcome as outcome_of};
 ghost use Rattle.bus_tool.specs.Forms.{Check};
 

@@ -8,7 +8,8 @@ ghost use Rattle.bus_command.specs.Acts.{Ends};
 ghost use Rattle.bus_command.specs.Outside.{sink_seen};
 ghost use Rattle.bus_command.specs.Readers.{no_source};
 ghost use Rattle.bus_command.specs.declared.outcome.Outcome.TheVariants.{Done, NoMemory};
-ghost use Rattle.bus_tool.specs.Drills.{garbled_count, IsDrilled, drill_line, line_of};
+ghost use Rattle.bus_tool.specs.Drills.{garbled_count, drill_line};
+ghost use Rattle.bus_tool.specs.inside.Drilled.{IsDrilled, line_of};
 
 use crate::laws::drills_are_accepted;
 use crate::refusal::Outcome;

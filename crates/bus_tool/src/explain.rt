@@ -9,7 +9,7 @@ ghost use Rattle.bus_command.specs.declared.outcome.Outcome.TheVariants.{Answere
 ghost use Rattle.bus_explain.specs.Accepted.{IsAcceptedWith, accepted_text};
 ghost use Rattle.bus_explain.specs.Refused.{refused_text};
 ghost use Rattle.bus_explain.specs.Unread.{unread_text};
-ghost use Rattle.bus_tool.specs.Acts.{DoesFirst, EndsExplaining};
+ghost use Rattle.bus_tool.specs.inside.Acting.{DoesFirst, EndsExplaining};
 ghost use Rattle.bus_tool.specs.Due.{explain_answer, verdict_outcome};
 ghost use Rattle.bus_tool.specs.Explanations.{explanation, table_explained};
 ghost use Rattle.bus_tool.specs.Forms.{Explain};

@@ -4,9 +4,10 @@ ghost use Rattle.std.specs.Prelude.{◌≡◌, ◌≤◌, length, IfErr, IfOk};
 ghost use Rattle.bus_command.specs.Outside.{source_seen, sources_seen};
 ghost use Rattle.bus_command.specs.Readers.{entire, two_sources};
 ghost use Rattle.bus_command.specs.Steps.{Same, Takes, Prepares};
-ghost use Rattle.bus_command.specs.Taken.{AreInputs, AreReady};
+ghost use Rattle.bus_command.specs.Taken.{AreReady};
+ghost use Rattle.bus_command.specs.inside.Steps.{AreInputs};
 ghost use Rattle.bus_command.specs.Due.{inputs_by, table_refusal_of};
-ghost use Rattle.bus_tool.specs.Acts.{IsOfMode};
+ghost use Rattle.bus_tool.specs.inside.Acting.{IsOfMode};
 ghost use Rattle.bus_tool.specs.Due as due;
 ghost use Rattle.bus_tool.specs.Due.{needed_or_refusal, refusal_for, table_for, unwave_due, wave_trace_due};
 ghost use Rattle.bus_tool.specs.Forms.{entire_wave};
@@ -14,6 +15,7 @@ ghost use Rattle.bus_table.specs.Fits.{items_fit};
 ghost use Rattle.bus_command.specs.Readers.{text_limit};
 ghost use Rattle.bus_command.specs.Stages.{Gives};
 ghost use Rattle.bus_tool.specs.Due.{cable_text_due, fitting_on_cable, cable_read_due, cable_due};
+ghost use Rattle.bus_tool.specs.inside.Refused.{cable_refusal, wave_refusal};
 ghost use Rattle.bus_tool.specs.inside.TakenCable.{IsUndealt, IsWired, IsTakenOnCable};
 
 use crate::refusal::{Outcome, ToolRefusal, refuse};
@@ -108,7 +110,7 @@ pub fn take_dealt<S: Source>(
 
 /// What comes of a wave text that is refused.
 fn refuse_wave(error: WaveError) -> Outcome
-    ensures { result ≡ due.wave_refusal error }
+    ensures { result ≡ wave_refusal error }
 {
     match error {
         WaveError::Text { line, reason } => refuse(ToolRefusal::WaveText { line, reason }),
@@ -145,7 +147,7 @@ pub fn take_unwaved<S: Source>(
 
 /// What comes of a cable text that is refused.
 fn refuse_cable(error: CableError) -> Outcome
-    ensures { result ≡ due.cable_refusal error }
+    ensures { result ≡ cable_refusal error }
 {
     match error {
         CableError::Text { line, reason } => refuse(ToolRefusal::CableText { line, reason }),

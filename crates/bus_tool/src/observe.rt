@@ -4,7 +4,7 @@ ghost use Rattle.std.specs.List.{AllByRecursion};
 ghost use Rattle.bus_table.specs.Hands.{are_hands};
 ghost use Rattle.bus_strings.specs.Limits.{horizon_limit};
 ghost use Rattle.bus_command.specs.Taken.{AreReady};
-ghost use Rattle.bus_tool.specs.Acts.{EndsOnMessages};
+ghost use Rattle.bus_tool.specs.inside.Acting.{EndsOnMessages};
 ghost use Rattle.bus_tool.specs.Forms.{Observe};
 ghost use Rattle.bus_tool.specs.Texts.{IsObserved};
 ghost use Rattle.bus_strings.specs.Transmissions.{IsTransmission};

@@ -4,7 +4,7 @@ ghost use Rattle.bus_outer.specs.Sinks.{WritesText};
 ghost use Rattle.bus_strings.specs.Limits.{horizon_limit};
 ghost use Rattle.bus_trace.specs.Traces.{IsTrace};
 ghost use Rattle.bus_command.specs.Taken.{AreReady};
-ghost use Rattle.bus_tool.specs.Acts.{DoesBoth, EndsOnCable};
+ghost use Rattle.bus_tool.specs.inside.Acting.{DoesBoth, EndsOnCable};
 ghost use Rattle.bus_tool.specs.Forms as form;
 ghost use Rattle.bus_tool.specs.Texts.{IsOnCable, on_cable_text};
 

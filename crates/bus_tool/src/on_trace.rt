@@ -1,6 +1,6 @@
 //! The commands on a table and a trace.
 ghost use Rattle.std.specs.Prelude.{◌≡◌};
-ghost use Rattle.bus_tool.specs.Acts.{DoesBoth, EndsOnTrace};
+ghost use Rattle.bus_tool.specs.inside.Acting.{DoesBoth, EndsOnTrace};
 ghost use Rattle.bus_tool.specs.Forms.{OnTrace};
 ghost use Rattle.bus_trace.specs.Traces.{IsTrace};
 

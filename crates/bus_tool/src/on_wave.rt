@@ -1,5 +1,5 @@
 //! The command on a table and a wave.
-ghost use Rattle.bus_tool.specs.Acts.{DoesBoth};
+ghost use Rattle.bus_tool.specs.inside.Acting.{DoesBoth};
 ghost use Rattle.bus_tool.specs.Forms.{Unwave};
 
 use crate::inputs::take_unwaved;

@@ -3,7 +3,7 @@ ghost use Rattle.std.specs.Prelude.{◌≡◌};
 ghost use Rattle.bus_outer.specs.Sinks.{WritesText};
 ghost use Rattle.bus_outer.specs.Texts.{Adds};
 ghost use Rattle.bus_table.specs.declared.mode.Mode.TheVariants.{Periodic};
-ghost use Rattle.bus_tool.specs.Acts.{EndsOnTable};
+ghost use Rattle.bus_tool.specs.inside.Acting.{EndsOnTable};
 ghost use Rattle.bus_tool.specs.Due.{plan_outcome as outcome_of};
 ghost use Rattle.bus_tool.specs.Forms.{Plan};
 ghost use Rattle.bus_tool.specs.PlanTexts.{infeasible_line, plan_text};

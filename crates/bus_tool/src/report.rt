@@ -7,7 +7,7 @@ ghost use Rattle.bus_regime.specs.Lines as lines;
 ghost use Rattle.bus_regime.specs.Verdicts.{verdict_of};
 ghost use Rattle.bus_regime.specs.declared.table_verdict.TableVerdict.TheVariants as verdicts;
 ghost use Rattle.bus_tool.specs.inside.ReportData.{sender_data, report_data, IsLine, ArePlainWords};
-ghost use Rattle.bus_tool.specs.Acts.{EndsOnTable};
+ghost use Rattle.bus_tool.specs.inside.Acting.{EndsOnTable};
 ghost use Rattle.bus_tool.specs.Forms.{Report};
 ghost use Rattle.bus_tool.specs.Reports as reports;
 

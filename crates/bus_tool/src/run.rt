@@ -2,14 +2,15 @@
 ghost use Rattle.std.specs.Prelude.{◌≡◌, IfErr, IfOk, IsTrue};
 ghost use Rattle.bus_command.specs.Kinds.{kind_of};
 ghost use Rattle.bus_command.specs.Stages.{Gives};
-ghost use Rattle.bus_command.specs.Steps.{IsLate};
+ghost use Rattle.bus_command.specs.inside.Steps.{IsLate};
 ghost use Rattle.bus_command.specs.Taken.{AreReady};
 ghost use Rattle.bus_outer.specs.Sinks.{WritesText};
 ghost use Rattle.bus_regime.specs.Verdicts.{verdict_of, is_accepted};
 ghost use Rattle.bus_schedule.specs.Even.{are_even};
 ghost use Rattle.bus_table.specs.Hands.{are_hands};
-ghost use Rattle.bus_tool.specs.Acts.{EndsOnMessages};
-ghost use Rattle.bus_tool.specs.Due.{may_run as may_run_due, can_run, schedule_refusal};
+ghost use Rattle.bus_tool.specs.inside.Acting.{EndsOnMessages};
+ghost use Rattle.bus_tool.specs.Due.{may_run as may_run_due, can_run};
+ghost use Rattle.bus_tool.specs.inside.Refused.{schedule_refusal};
 ghost use Rattle.bus_tool.specs.Forms.{Run};
 ghost use Rattle.bus_tool.specs.Texts.{IsRunRecording, run_text};
 ghost use Rattle.bus_trace.specs.Traces.{IsTrace};

@@ -1,5 +1,5 @@
 //! `wave`.
-ghost use Rattle.bus_tool.specs.Acts.{EndsOnTrace};
+ghost use Rattle.bus_tool.specs.inside.Acting.{EndsOnTrace};
 ghost use Rattle.bus_tool.specs.Forms.{Wave};
 ghost use Rattle.bus_trace.specs.Traces.{IsTrace};
 

@@ -1,5 +1,5 @@
 //! `witness`.
-ghost use Rattle.bus_tool.specs.Acts.{EndsOnTable};
+ghost use Rattle.bus_tool.specs.inside.Acting.{EndsOnTable};
 ghost use Rattle.bus_tool.specs.Forms.{Witness};
 
 use crate::refusal::Outcome;

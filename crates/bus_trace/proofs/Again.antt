@@ -10,7 +10,8 @@ use Rattle.std.proofs.lemmas.List.{length-map}
 use Rattle.std.proofs.lemmas.List.Concat.{flat_map-append}
 use Rattle.bus_text.specs.Numbers.{decimal_value}
 use Rattle.bus_text.proofs.NumberLaws.{decimal_is, decimal_field}
-use Rattle.bus_text.specs.Canonical.{spelled_line, spelled_lines, IsField}
+use Rattle.bus_text.specs.Canonical.{spelled_line, spelled_lines}
+use Rattle.bus_text.specs.inside.Spelled.{IsField}
 use Rattle.bus_text.proofs.CanonicalLaws.{constant_field}
 use Rattle.bus_words.specs.Words.{label_word}
 use Rattle.bus_words.specs.WordTexts.{word_text}

@@ -9,7 +9,8 @@ use Rattle.std.proofs.lemmas.List.Splits.{slice_split_at, slice_split_none}
 use Rattle.std.proofs.lemmas.List.Elements.{All-from_recursion}
 use Rattle.std.proofs.lemmas.Fmt.{length-decimal-le}
 use Rattle.bus_text.specs.Lines.{is_blank}
-use Rattle.bus_text.specs.Canonical.{spelled_line, spelled_lines, IsField, IsFieldByte}
+use Rattle.bus_text.specs.Canonical.{spelled_line, spelled_lines}
+use Rattle.bus_text.specs.inside.Spelled.{IsField, IsFieldByte}
 use Rattle.bus_text.specs.Refusals.{unless}
 use Rattle.bus_trace.specs.declared.reason.TraceReason.{TraceReason}
 use Rattle.bus_trace.specs.Limits.{line_limit}

@@ -7,7 +7,8 @@ use Rattle.std.proofs.Math.Seq.{take-append-add}
 use Rattle.bus_trace.specs.States.{text_of}
 use Rattle.bus_trace.specs.Runs.{Standing, Progress, Going, Found, Refused, Over, ◌>>-◌, run, begin, due, due_by, stream_of}
 use Rattle.bus_trace.specs.inside.Walking.{WalkGives, GoesOn}
-use Rattle.bus_trace.specs.Feeding.{fed_of, ReaderIs, FeedGives, LeadsOn}
+use Rattle.bus_trace.specs.Feeding.{ReaderIs}
+use Rattle.bus_trace.specs.inside.Feeds.{fed_of, FeedGives, LeadsOn}
 use Rattle.bus_trace.specs.declared.walk.Walked.{Walked}
 use Rattle.bus_trace.specs.declared.walk.Walked.TheVariants.{Passed, Ended, Failed}
 use Rattle.bus_trace.specs.declared.stage.Stage.{Stage}

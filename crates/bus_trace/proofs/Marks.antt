@@ -14,7 +14,8 @@ use Rattle.bus_trace.specs.declared.position.Position.{Position}
 use Rattle.bus_trace.specs.declared.position.Position.TheVariants.{Start, Headed, Holding, Begun, Stringing, Closed, Ended}
 use Rattle.bus_trace.specs.Traces.{mark_text}
 use Rattle.bus_trace.specs.States.{ends_behind, earlier, last_moment, last_sender, last_end, is_hit, is_final, with_string, more_list}
-use Rattle.bus_trace.specs.States.{may_follow, is_closed, is_mark, mark_of, starts_wrong, turns_wrong, PositionFits, MarkIs, MarkFits}
+use Rattle.bus_trace.specs.States.{may_follow, is_closed, is_mark, mark_of, starts_wrong, turns_wrong}
+use Rattle.bus_trace.specs.inside.Sound.{PositionFits, MarkIs, MarkFits}
 use Rattle.bus_trace.specs.inside.Reach.{IsReach}
 use Rattle.bus_trace.proofs.Lasts.{earlier_push, earlier_with, moment_push, sender_push}
 

@@ -17,11 +17,13 @@ use Rattle.bus_trace.specs.declared.fault.TraceError.{TraceError}
 use Rattle.bus_trace.specs.declared.fault.TraceError.TheVariants.{Text, ReadFault, TooLarge, Memory}
 use Rattle.bus_trace.specs.Limits.{line_limit, text_limit}
 use Rattle.bus_trace.specs.Traces.{Recording, Line, IsTraceText, HoldsTrace}
-use Rattle.bus_trace.specs.States.{State, IsSound, lines_of, text_of, recorded}
+use Rattle.bus_trace.specs.States.{State, lines_of, text_of, recorded}
+use Rattle.bus_trace.specs.inside.Sound.{IsSound}
 use Rattle.bus_trace.specs.Runs.{Standing, Progress, Going, Found, Refused, Over, judged, take_byte, ◌>>-◌, run, begin, due}
 use Rattle.bus_trace.specs.Runs.{due_by, stream_of}
 use Rattle.bus_trace.specs.Reading.{Offends, Complete, Overlong}
-use Rattle.bus_trace.specs.Feeding.{Reader, ReaderIs, FeedGives, FinishGives}
+use Rattle.bus_trace.specs.Feeding.{Reader, ReaderIs}
+use Rattle.bus_trace.specs.inside.Feeds.{FeedGives, FinishGives}
 use Rattle.bus_trace.specs.Pieces.{stream, IsShut, IsWholeAt, IsRefusedAt, IsUndecided, IsDue, Stands as StandsThen, IsPending, AreLines}
 use Rattle.bus_trace.specs.Pieces.{Finishes}
 use Rattle.bus_trace.proofs.Runs.{run-append, run-whole_line, run-long}

@@ -25,7 +25,8 @@ use Rattle.bus_trace.specs.declared.position.Position.TheVariants.{Begun, Closed
 use Rattle.bus_trace.specs.declared.keyword.Keyword.TheVariants.{Ws}
 use Rattle.bus_trace.specs.Traces.{Line, string_line, begin_line, ended_line}
 use Rattle.bus_trace.specs.inside.Writing.{data_put}
-use Rattle.bus_trace.specs.States.{State, IsSound, step, spaced_fields, fields_step, last_count, may_follow, is_ended}
+use Rattle.bus_trace.specs.States.{State, step, spaced_fields, fields_step, last_count, may_follow, is_ended}
+use Rattle.bus_trace.specs.inside.Sound.{IsSound}
 use Rattle.bus_trace.specs.inside.Quick.{string_taken, BeginsRight, ClosesRight, HasData, TakesFront, line_end}
 use Rattle.bus_trace.proofs.StepRows.{digits_from}
 use Rattle.bus_trace.proofs.Lasts.{last_end_most}

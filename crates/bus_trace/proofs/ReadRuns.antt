@@ -13,7 +13,8 @@ use Rattle.bus_trace.specs.declared.reason.TraceReason.{TraceReason}
 use Rattle.bus_trace.specs.declared.reason.TraceReason.TheVariants.{Long}
 use Rattle.bus_trace.specs.Limits.{line_limit}
 use Rattle.bus_trace.specs.Traces.{Line, IsTrace, HoldsTrace, opening_lines, end_line, text_in}
-use Rattle.bus_trace.specs.States.{State, IsSound, MarkFits, step, text_of, is_ended, recorded}
+use Rattle.bus_trace.specs.States.{State, step, text_of, is_ended, recorded}
+use Rattle.bus_trace.specs.inside.Sound.{IsSound, MarkFits}
 use Rattle.bus_text.specs.Canonical.{spelled_lines}
 use Rattle.bus_trace.specs.Runs.{Standing, Progress, Going, Found, Refused, Over, judged, take_byte, ◌>>-◌, run, begin, due, due_by}
 use Rattle.bus_trace.specs.Runs.{stream_of, HasNoFeed}

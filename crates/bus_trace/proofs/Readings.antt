@@ -16,7 +16,8 @@ use Rattle.bus_trace.specs.Limits.{line_limit, text_limit}
 use Rattle.bus_trace.specs.Traces.{Recording}
 use Rattle.bus_trace.specs.States.{State, text_of}
 use Rattle.bus_trace.specs.Runs.{Standing, Progress, Going, Found, Refused, Over, HasNoFeed, begin, run, ◌>>-◌, due, stream_of}
-use Rattle.bus_trace.specs.Feeding.{Reader, FeedGives, LeadsOn, FinishGives}
+use Rattle.bus_trace.specs.Feeding.{Reader}
+use Rattle.bus_trace.specs.inside.Feeds.{FeedGives, LeadsOn, FinishGives}
 use Rattle.bus_trace.specs.Reading.{Decides}
 use Rattle.bus_trace.specs.inside.Looping.{ByLine, ByEnd, Loops}
 use Rattle.bus_trace.proofs.Runs.{run-append, run-line, feedless_take}

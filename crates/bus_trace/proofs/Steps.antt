@@ -27,7 +27,8 @@ use Rattle.bus_trace.specs.Limits.{most_count, most_fields}
 use Rattle.bus_trace.specs.Traces.{Line, IsHold, IsBelow, format_text, head_line, horizon_line, hold_line, begin_line, string_line}
 use Rattle.bus_trace.specs.Traces.{entry_lines, ended_line, end_line, opening_lines}
 use Rattle.bus_trace.specs.WordFields.{are_spelled, have_parity, string_of}
-use Rattle.bus_trace.specs.States.{State, IsSound, PositionFits, MarkFits, lines_so_far, body_lines, lines_at, lines_of, text_of}
+use Rattle.bus_trace.specs.States.{State, lines_so_far, body_lines, lines_at, lines_of, text_of}
+use Rattle.bus_trace.specs.inside.Sound.{IsSound, PositionFits, MarkFits}
 use Rattle.bus_trace.specs.States.{keyword_of, last_count, may_follow, spaced_fields, field, is_number, number, last_terminal, last_end}
 use Rattle.bus_trace.specs.States.{is_after, is_hit, is_final, is_refuted, is_mark, mark_of, starts_wrong, with_string, more_list}
 use Rattle.bus_trace.specs.States.{format_of, headed, head_step, horizon_step, hold_step, begin_step, string_step, close_step, end_step}

@@ -12,7 +12,7 @@ use Rattle.bus_trace.specs.declared.format.Format.{Format}
 use Rattle.bus_trace.specs.declared.format.Format.TheVariants.{One, Two}
 use Rattle.bus_trace.specs.Traces.{Line, IsBelow, begin_line, string_line, entry_lines, ended_line, close_line, marked_lines, list_lines}
 use Rattle.bus_trace.specs.States.{ends_behind, earlier, last_moment, last_end, is_hit, told_lines, lines_so_far, with_string}
-use Rattle.bus_trace.specs.States.{MarkIs}
+use Rattle.bus_trace.specs.inside.Sound.{MarkIs}
 
 -- the last is closed
 pub told_closed : (before : List Entry) (mark : Bool) (xs : List Entry) → 0 < length xs

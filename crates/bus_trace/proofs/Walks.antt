@@ -7,7 +7,8 @@ use Rattle.bus_trace.specs.declared.reason.TraceReason.TheVariants.{Long}
 use Rattle.bus_trace.specs.declared.walk.Judged.{Judged}
 use Rattle.bus_trace.specs.declared.walk.Judged.TheVariants.{Passes, Ends, Fails}
 use Rattle.bus_trace.specs.declared.walk.Walked.TheVariants.{Ended}
-use Rattle.bus_trace.specs.States.{State, IsSound, start, step, text_of, is_ended}
+use Rattle.bus_trace.specs.States.{State, start, step, text_of, is_ended}
+use Rattle.bus_trace.specs.inside.Sound.{IsSound}
 use Rattle.bus_trace.specs.Runs.{Standing, Progress, Going, Found, Refused, judged, ◌>>-◌, run, stream_of, HasNoFeed}
 use Rattle.bus_trace.specs.inside.Quick.{TakesFront}
 use Rattle.bus_trace.specs.inside.Walking.{WalkIs, KeepGives, JudgedGives, WalkGives, TookFront, GoesOn}

@@ -7,7 +7,7 @@ use Rattle.std.specs.List.{list_all, AllByRecursion}
 use Rattle.std.proofs.lemmas.Bool.{and_parts}
 use Rattle.std.proofs.lemmas.List.{length-map}
 use denote.Ref.{Bor}
-use Rattle.bus_text.specs.Canonical.{IsField}
+use Rattle.bus_text.specs.inside.Spelled.{IsField}
 use Rattle.bus_text.specs.Entries.{texts}
 use Rattle.bus_words.specs.declared.word.Kind.{Kind}
 use Rattle.bus_words.specs.declared.word.Kind.TheVariants.{Label, Plain}

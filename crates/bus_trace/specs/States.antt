@@ -8,7 +8,7 @@
 -- is told there at the latest.
 --   step       the state after one line more, or the reason for which that line is refused: the first of its form's rows that applies
 -- A line is split at each single space, so a doubled, leading or trailing space makes an empty field.
-use Rattle.std.specs.Prelude.{ℕ, ◌+◌, Bool, true, false, not, ◌&&◌, ◌||◌, ◌==◌, nat_lt, ◌≡◌, ◌<◌, ◌≤◌, if◌then◌else◌}
+use Rattle.std.specs.Prelude.{ℕ, ◌+◌, Bool, true, false, not, ◌&&◌, ◌||◌, ◌==◌, nat_lt, if◌then◌else◌}
 use Rattle.std.specs.Prelude.{List, [], ◌∷◌, ◌++◌, length, codes, Option, Some, None, Result, Ok, Err, slice_index_or, drop}
 use Rattle.std.specs.List.{slice_split, flat_map, list_any}
 use Rattle.std.specs.Int.{is_in_range}
@@ -29,7 +29,7 @@ use Rattle.bus_trace.specs.declared.position.Position.TheVariants.{Start, Headed
 use Rattle.bus_trace.specs.declared.reason.TraceReason.{TraceReason}
 use Rattle.bus_trace.specs.declared.reason.TraceReason.TheVariants as reason
 use Rattle.bus_trace.specs.Limits.{most_count, most_fields}
-use Rattle.bus_trace.specs.Traces.{Recording, IsTrace, Line, format_text, head_line, begin_line, entry_lines, close_line}
+use Rattle.bus_trace.specs.Traces.{Recording, Line, format_text, head_line, begin_line, entry_lines, close_line}
 use Rattle.bus_trace.specs.Traces.{end_line, opening_lines}
 use Rattle.bus_trace.specs.WordFields.{are_spelled, have_parity, string_of}
 
@@ -381,48 +381,3 @@ fields_step s fields = keyword_step (keyword_of (field fields 0)) s fields
 -- The state after a line, which is given without its line feed, or why it is refused.
 unfoldable pub step : State → List ℕ → Result State TraceReason
 step s line = fields_step s (spaced_fields line)
-
--- A WS line may stand: its transmission is begun, with numbers in their ranges, or has room for one wordstring more.
-abbrev pub TakesString : Position → ℕ → Type 0
-TakesString Start count = ⊥
-TakesString Headed count = ⊥
-TakesString Holding count = ⊥
-TakesString (Begun moment terminal) count = (moment < horizon_limit) × (1 ≤ terminal) × (terminal ≤ most_terminal)
-TakesString Stringing count = count < most_strings
-TakesString Closed count = ⊥
-TakesString Ended count = ⊥
-
--- ---- what holds of each state that lines give
--- The values fit the position: what comes behind it isn't there yet, and a TX line is right behind the list.
-abbrev pub PositionFits : Position → ℕ → List Hold → List Entry → Type 0
-PositionFits Start horizon holds list = (holds ≡ []) × (list ≡ [])
-PositionFits Headed horizon holds list = (holds ≡ []) × (list ≡ [])
-PositionFits Holding horizon holds list = list ≡ []
-PositionFits (Begun moment terminal) horizon holds list =
-    (moment < horizon) × (1 ≤ terminal) × (terminal ≤ most_terminal) × (is_after list moment terminal ≡ true)
-PositionFits Stringing horizon holds list = 0 < length list
-PositionFits Closed horizon holds list = 0 < length list
-PositionFits Ended horizon holds list = Unit {0}
-
--- The mark of the last transmission, if there is one, is what it has to be where the next line meets it or not.
-abbrev pub MarkIs : Bool → List Entry → Bool → Type 0
-MarkIs mark list met = 0 < length list → mark ≡ (is_hit list || met)
-
--- The mark fits the position: behind its own TE line it is `C` where the transmission is hit, and behind the next line it is right.
--- Format 1 has no marks.
-abbrev pub MarkFits : Position → Format → Bool → List Entry → Type 0
-MarkFits Start format mark list = Unit {0}
-MarkFits Headed format mark list = Unit {0}
-MarkFits Holding format mark list = Unit {0}
-MarkFits (Begun moment terminal) One mark list = Unit {0}
-MarkFits (Begun moment terminal) Two mark list = MarkIs mark list (nat_lt moment (last_end list))
-MarkFits Stringing format mark list = Unit {0}
-MarkFits Closed format mark list = (format ≡ Two) × (mark ≡ false → is_hit list ≡ false)
-MarkFits Ended One mark list = Unit {0}
-MarkFits Ended Two mark list = MarkIs mark list false
-
--- A state is right: its values fit its position and its format, and are those of a trace.
-pub record IsSound (s : State) : Type 0 where
-  pub fits : PositionFits s.position s.horizon s.holds s.list
-  pub marked : MarkFits s.position s.format s.mark s.list
-  pub trace : IsTrace (recorded s)

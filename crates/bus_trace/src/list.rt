@@ -2,7 +2,8 @@
 ghost use Rattle.std.specs.Prelude.{◌≡◌, ◌<◌, ◌≤◌, length, [], ◌∷◌, ◌++◌, ◌^◌, IfOk, OnOk, OnErr};
 ghost use Rattle.bus_strings.specs.Limits.{horizon_limit, most_terminal, most_strings};
 ghost use Rattle.bus_trace.specs.States.{last_count as count_of, last_terminal as last_of, comes_after as comes_test};
-ghost use Rattle.bus_trace.specs.States.{is_after as after_test, with_string, more_list, TakesString};
+ghost use Rattle.bus_trace.specs.States.{is_after as after_test, with_string, more_list};
+ghost use Rattle.bus_trace.specs.inside.Sound.{TakesString};
 ghost use Rattle.bus_trace.specs.States.{last_moment as moment_of, last_sender as sender_of, last_end as last_end_of};
 
 use crate::hold::Hold;

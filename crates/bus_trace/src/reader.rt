@@ -2,7 +2,8 @@
 ghost use Rattle.std.specs.Prelude.{◌≡◌, ◌≢◌, ◌≤◌, ◌-◌, ◌+◌, ◌<◌, ◌++◌, ◌↔◌, [], length, take, IfOk, IsTrue, OnErr};
 ghost use Rattle.bus_trace.specs.Limits.{line_limit, text_limit};
 ghost use Rattle.bus_trace.specs.Runs.{begin, stream_of};
-ghost use Rattle.bus_trace.specs.Feeding.{fed_of, ReaderIs, FeedGives, LeadsOn, FinishGives};
+ghost use Rattle.bus_trace.specs.Feeding.{ReaderIs};
+ghost use Rattle.bus_trace.specs.inside.Feeds.{fed_of, FeedGives, LeadsOn, FinishGives};
 ghost use Rattle.bus_trace.specs.Pieces.{stream, IsOpen, IsShut, IsPending, IsDue, Stands, Finishes};
 ghost use Rattle.bus_trace.specs.declared.stage.Stage.TheVariants.{Open, Shut};
 

@@ -7,12 +7,12 @@ use Rattle.bus_table.specs.Tables.{Table}
 use Rattle.bus_trace.specs.Traces.{Recording}
 use Rattle.bus_dump.specs.Doubled.{doubled}
 use Rattle.bus_command.specs.Acts as command
-use Rattle.bus_command.specs.Acts.{Ends, Program}
+use Rattle.bus_command.specs.Acts.{Program}
 use Rattle.bus_command.specs.Causes.{AreTracedWith}
-use Rattle.bus_command.specs.Outside.{Call, Outside, sink_seen}
+use Rattle.bus_command.specs.Outside.{Call}
 use Rattle.bus_command.specs.declared.status.Status.{Status}
-use Rattle.bus_view.specs.Due.{form_due, first_refusal, view_answer, view_text, IsFormText}
-use Rattle.bus_view.specs.Forms.{Form, View, form_of, sources, sources_of, takes_memory}
+use Rattle.bus_view.specs.Due.{form_due, first_refusal, IsFormText}
+use Rattle.bus_view.specs.Forms.{Form, form_of, sources, sources_of, takes_memory}
 use Rattle.bus_view.specs.Refusals.{Doubled, Outcome, ends_of, line_of}
 
 -- The first entry of a trace that is doubled.
@@ -33,25 +33,11 @@ view_program = record {
   line = line_of;
 }
 
--- What the command of a form did.
-abbrev pub DoesForm : Form → Outside → Outside → Outcome → Type 0
-DoesForm form before after outcome = command.DoesForm view_program form before after outcome
-
--- What the command of a form did whose sources were these before and after.
-abbrev pub DoesBoth : {S K : Type 0} → SourceGhosts S → SinkGhosts K → Form → S → S → K → S → S → K → Outcome → Type 0
-DoesBoth = command.DoesBoth view_program
-
 -- What a call did.
 abbrev pub Acts : Call → Outcome → Type 0
 Acts call outcome = command.Acts view_program call outcome
 
--- What a command did that has taken its table and trace.
-abbrev pub EndsOnView : {K : Type 0} → SinkGhosts K → View → Table → Recording → K → K → Outcome → Type 0
-EndsOnView ghosts view table trace old new outcome =
-    Ends sources (view_answer view table trace) (λ text. text ≡ view_text view table trace) (sink_seen ghosts old) (sink_seen ghosts new)
-    outcome
-
 -- What the call of these words came to, between two sources, a sink and the sink of its line before and after.
-abbrev pub ComesOf :
-    {S K E : Type 0} → SourceGhosts S → SinkGhosts K → SinkGhosts E → List (String Global) → S → S → K → E → S → S → K → E → Status → Type 0
+abbrev pub ComesOf : {S K E : Type 0} → SourceGhosts S → SinkGhosts K → SinkGhosts E → List (String Global)
+    → S → S → K → E → S → S → K → E → Status → Type 0
 ComesOf = command.ComesOf view_program

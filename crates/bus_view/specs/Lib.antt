@@ -5,3 +5,4 @@ pub mod Refusals
 pub mod Due
 pub mod Acts
 pub mod Claims
+pub mod inside

@@ -1,7 +1,8 @@
 //! The command of any words.
 ghost use Rattle.bus_command.specs.Outside.{call};
 ghost use Rattle.bus_trace.specs.Traces.{IsTrace};
-ghost use Rattle.bus_view.specs.Acts.{Acts, DoesBoth, EndsOnView};
+ghost use Rattle.bus_view.specs.Acts.{Acts};
+ghost use Rattle.bus_view.specs.inside.Acting.{DoesBoth, EndsOnView};
 ghost use Rattle.bus_view.specs.Forms.{OnTrace};
 
 use crate::drawing::draw;

@@ -5,7 +5,7 @@ ghost use Rattle.bus_command.specs.Outside.{sink_seen};
 ghost use Rattle.bus_command.specs.declared.outcome.Outcome.TheVariants.{Done};
 ghost use Rattle.bus_dump.specs.Doubled as dumps;
 ghost use Rattle.bus_trace.specs.Traces.{IsTrace};
-ghost use Rattle.bus_view.specs.Acts.{EndsOnView};
+ghost use Rattle.bus_view.specs.inside.Acting.{EndsOnView};
 ghost use Rattle.bus_view.specs.Due.{drawing, window_or_whole};
 ghost use Rattle.bus_view.specs.Forms.{Dump as Dumped, sources};
 

@@ -4,7 +4,7 @@ ghost use Rattle.bus_audit.specs.Breaches.{answer_of};
 ghost use Rattle.bus_load.specs.Loads.{IsCarrierOf};
 ghost use Rattle.bus_outer.specs.Sinks.{WritesText};
 ghost use Rattle.bus_trace.specs.Traces.{IsTrace};
-ghost use Rattle.bus_view.specs.Acts.{EndsOnView};
+ghost use Rattle.bus_view.specs.inside.Acting.{EndsOnView};
 ghost use Rattle.bus_view.specs.Due.{painted};
 ghost use Rattle.bus_view.specs.Forms.{Painted};
 

@@ -1,6 +1,6 @@
 //! The save file of a wave viewer.
 ghost use Rattle.bus_trace.specs.Traces.{IsTrace};
-ghost use Rattle.bus_view.specs.Acts.{EndsOnView};
+ghost use Rattle.bus_view.specs.inside.Acting.{EndsOnView};
 ghost use Rattle.bus_view.specs.Forms.{SaveFile};
 
 use crate::breach::first_breach;

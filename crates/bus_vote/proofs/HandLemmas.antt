@@ -11,7 +11,7 @@ use Rattle.bus_table.specs.declared.line.SendLine.{SendLine}
 use Rattle.bus_table.specs.Tables.{Sender, Table, Hand}
 use Rattle.bus_table.specs.Fits.{allows, matches, fits}
 use Rattle.bus_table.specs.Hands.{are_hands}
-use Rattle.bus_table.specs.Turns.{Differ}
+use Rattle.bus_table.specs.inside.Orders.{Differ}
 use Rattle.bus_schedule.proofs.HandLemmas.{own_fit, own_count}
 use Rattle.bus_schedule.specs.Even.{messages_of, message_in, rounds, are_even}
 use Rattle.bus_vote.specs.Rounds.{is_named, words_in}

@@ -13,8 +13,12 @@ pub(crate) struct Channel {
 /// A label that exactly three SEND lines of a table have, each of another sender: its channels, in table order.
 #[derive(Clone, Copy, Debug, PartialEq, Eq)]
 pub(crate) struct VotedLabel {
+    /// The label.
     pub label: Label,
+    /// The channel of its first SEND line.
     pub first: Channel,
+    /// The channel of its second SEND line.
     pub second: Channel,
+    /// The channel of its third SEND line.
     pub third: Channel,
 }

@@ -17,11 +17,12 @@ use Rattle.bus_table.specs.inside.Facts.{SenderFacts}
 use Rattle.bus_table.specs.Fits.{fits, sender_of}
 use Rattle.bus_table.specs.Hands.{are_hands}
 use Rattle.bus_table.specs.Tables.{Sender, Table, Hand}
-use Rattle.bus_table.specs.Turns.{turn_key, turn_order, Differ}
+use Rattle.bus_table.specs.Turns.{turn_key, turn_order}
+use Rattle.bus_table.specs.inside.Orders.{Differ}
 use Rattle.bus_table.proofs.TurnLaws.{from_sort, numbers_differ}
 use Rattle.bus_table.specs.Valid.{is_valid}
 use Rattle.bus_table.proofs.ValidLaws.{valid_facts}
-use Rattle.bus_regime.specs.Fine.{IsFine}
+use Rattle.bus_regime.specs.inside.Fine.{IsFine}
 use Rattle.bus_regime.specs.Gaps.{Gap, latest_end, last_end, gaps_from, gaps}
 use Rattle.bus_regime.proofs.VerdictLaws.{accepted_gaps}
 use Rattle.bus_regime.specs.Verdicts.{verdict_of, is_accepted}

@@ -14,7 +14,7 @@ use Rattle.bus_table.specs.Fits.{allows, matches, sender_of}
 use Rattle.std.specs.Int.{is_in_range as is_between}
 use Rattle.bus_table.specs.Ranges.{is_send_line, is_number, is_tg, is_offset, are_send_lines, are_take_lines}
 use Rattle.bus_table.specs.Tables.{Sender, Table}
-use Rattle.bus_table.specs.Turns.{Differ}
+use Rattle.bus_table.specs.inside.Orders.{Differ}
 use Rattle.bus_table.specs.Valid.{is_valid}
 use Rattle.bus_table.proofs.ValidLaws.{valid_facts}
 use Rattle.bus_wave.specs.Judging.{string_of}

@@ -14,7 +14,7 @@ use Rattle.std.proofs.lemmas.Str.Parse.{numerals_by_value, tells_digits}
 use Rattle.std.specs.Str.Parse.{AllDigits}
 use Rattle.std.proofs.lemmas.List.Elements.{All-from_recursion}
 use Rattle.std.proofs.lemmas.List.Splits.{slice_split_at, slice_split_none, length-slice_split, join_with_byte-slice_split}
-use Rattle.bus_text.specs.Canonical.{IsFieldByte}
+use Rattle.bus_text.specs.inside.Spelled.{IsFieldByte}
 use Rattle.bus_text.specs.Digits.{is_capital_digit}
 use Rattle.bus_text.specs.Fields.{is_at}
 use Rattle.bus_text.specs.Lines.{is_feed}

@@ -80,18 +80,10 @@ quiet_behind s n x [] = Ok (record { at = s.at + n; list = s.list ++ x ∷ []; p
 quiet_behind s n x (next ∷ left) =
     if n == inner_gap then Ok (record { at = s.at + n; list = s.list; phase = Waiting x next left }) else Err Order
 
--- The same, unless it goes too far.
-abbrev pub quiet_bounded : State → ℕ → Entry → List SendLine → Result State WaveReason
-quiet_bounded s n x left = quiet_behind s n x left >>= bounded
-
 -- Quiet behind these data words of a wordstring of x.
 abbrev pub pause_step : State → ℕ → Entry → SendLine → List ℕ → List SendLine → Result State WaveReason
 pause_step s n x line words left =
     if nat_lt (length words) line.least then Err Order else quiet_behind s n (with_string x (string_of line words)) left
-
--- The same, unless it goes too far.
-abbrev pub pause_bounded : State → ℕ → Entry → SendLine → List ℕ → List SendLine → Result State WaveReason
-pause_bounded s n x line words left = pause_step s n x line words left >>= bounded
 
 -- So many quiet bit times, of which there is one, behind a phase.
 abbrev pub quiet_step : Phase → State → ℕ → Result State WaveReason
@@ -129,18 +121,10 @@ begin_step s (Some sender) = Ok (record {
   phase = begun (record { moment = s.at; terminal = sender.number; message = [] }) sender.sends;
 })
 
--- The same, unless it goes too far.
-abbrev pub begin_bounded : State → Option Sender → Result State WaveReason
-begin_bounded s sender = begin_step s sender >>= bounded
-
 -- A label word behind the wordstrings of x, where that of `next` has to come.
 abbrev pub next_step : State → ℕ → Entry → SendLine → List SendLine → Result State WaveReason
 next_step s value x next left =
     if is_label_of value next then Ok (record { at = s.at + word_bits; list = s.list; phase = Saying x next [] left }) else Err Order
-
--- The same, unless it goes too far.
-abbrev pub next_bounded : State → ℕ → Entry → SendLine → List SendLine → Result State WaveReason
-next_bounded s value x next left = next_step s value x next left >>= bounded
 
 -- A label word behind a phase.
 abbrev pub label_step : List Sender → Phase → State → ℕ → Result State WaveReason
@@ -172,10 +156,6 @@ end_behind s x (next ∷ left) = Err Order
 abbrev pub last_step : State → Entry → SendLine → List ℕ → List SendLine → Result State WaveReason
 last_step s x line words left =
     if nat_lt (length words) line.least then Err Order else end_behind s (with_string x (string_of line words)) left
-
--- The same, which goes no further.
-abbrev pub last_bounded : State → Entry → SendLine → List ℕ → List SendLine → Result State WaveReason
-last_bounded s x line words left = last_step s x line words left >>= bounded
 
 -- The end behind a phase.
 abbrev pub end_step : Phase → State → Result State WaveReason

@@ -1,5 +1,6 @@
 -- What only contracts of private functions and proofs name: not to be read for what is promised.
 pub mod Beginning
+pub mod Bounded
 pub mod Capped
 pub mod Digits
 pub mod Drafts

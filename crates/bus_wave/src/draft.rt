@@ -13,7 +13,7 @@ ghost use Rattle.bus_text.specs.inside.Gives.{StepGives};
 ghost use Rattle.bus_wave.specs.Reading.{is_closed as closed_test};
 ghost use Rattle.bus_wave.specs.Judging as judging;
 ghost use Rattle.bus_wave.specs.Judging.{string_of, with_string, later as later_of, step, opening};
-ghost use Rattle.bus_wave.specs.Judging.{begin_bounded, next_bounded, quiet_bounded, pause_bounded, last_bounded};
+ghost use Rattle.bus_wave.specs.inside.Bounded.{begin_bounded, next_bounded, quiet_bounded, pause_bounded, last_bounded};
 
 use crate::beginners::Beginners;
 use crate::fault::WaveReason;

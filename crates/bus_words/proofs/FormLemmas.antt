@@ -13,7 +13,9 @@ use Rattle.bus_words.specs.declared.word.Word.{Word}
 use Rattle.bus_words.specs.declared.word.WordError.{WordError}
 use Rattle.bus_words.specs.declared.word.WordError.TheVariants.{Shape, Parity}
 use Rattle.bus_words.specs.Words.{parity, unframe}
-use Rattle.bus_words.specs.WordTexts.{form, is_of, kept, test_at, IsFrameText, IsLongestFront, Fails, is_letter, is_bit, word_text, written_frame, read_word}
+use Rattle.bus_words.specs.WordTexts.{form, is_of, kept, IsFrameText, IsLongestFront, Fails, is_letter, is_bit, word_text, written_frame}
+use Rattle.bus_words.specs.WordTexts.{read_word}
+use Rattle.bus_words.specs.inside.Forms.{test_at}
 use Rattle.bus_words.proofs.WordTextLaws.{is_of-frame_text, frame_text-written_frame, length_of_form, six_bytes, same_frame, word_text-read_word}
 
 -- the four digits

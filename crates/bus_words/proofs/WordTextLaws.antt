@@ -5,7 +5,7 @@ use Rattle.std.specs.Bool.{beq}
 use Rattle.std.specs.Char.{digit_value}
 use Rattle.std.proofs.lemmas.Bool.{and_parts}
 use Rattle.std.proofs.lemmas.Bool.Decides.{nat_tests}
-use Rattle.bus_text.specs.Canonical.{IsFieldByte, IsField}
+use Rattle.bus_text.specs.inside.Spelled.{IsFieldByte, IsField}
 use Rattle.bus_text.specs.Digits.{hex_digit, is_capital_digit, hexadecimal}
 use Rattle.bus_text.proofs.DigitLaws.{digit_value-lt, hex_digit-digit_value, is_capital_digit-hex_digit, hexadecimal_is, hexadecimal_field}
 use Rattle.bus_text.specs.Numbers.{hexadecimal_value}

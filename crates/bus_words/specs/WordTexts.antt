@@ -1,7 +1,7 @@
 -- The text of a word: a letter for the kind, four hexadecimal digits in capitals, and the parity digit.
 -- Form: a test for each byte of a text. Front: the first bytes of a text.
 use Rattle.std.specs.Prelude.{◌≡◌, ◌≢◌, ℕ, suc, ◌<◌, ◌≤◌, ◌^◌, Bool, true, false, ◌&&◌, ◌||◌, ◌==◌, List, [], ◌∷◌, ◌++◌, length, take, drop}
-use Rattle.std.specs.Prelude.{slice_index, slice_index_or, Result, Err, if◌then◌else◌}
+use Rattle.std.specs.Prelude.{slice_index, Result, Err, if◌then◌else◌}
 use Rattle.bus_text.specs.Digits.{hexadecimal, is_capital_digit}
 use Rattle.bus_text.specs.Numbers.{hexadecimal_value}
 use Rattle.bus_words.specs.declared.word.Kind.{Kind}
@@ -63,10 +63,6 @@ is_bit byte = byte == 49 || byte == 48
 -- The form of a frame's text.
 abbrev pub form : List (ℕ → Bool)
 form = is_letter ∷ is_capital_digit ∷ is_capital_digit ∷ is_capital_digit ∷ is_capital_digit ∷ is_bit ∷ []
-
--- Whether a byte may stand at a place of the form, counted from 0.
-abbrev pub test_at : ℕ → ℕ → Bool
-test_at place = slice_index_or form place (λ _. false)
 
 -- Whether a text is of a form.
 abbrev pub is_of : List (ℕ → Bool) → List ℕ → Bool

@@ -4,7 +4,8 @@ ghost use Rattle.bus_text.specs.Numbers.{hexadecimal_value};
 ghost use Rattle.bus_text.specs.Digits.{is_capital_digit};
 ghost use Rattle.std.specs.List.{list_all};
 ghost use Rattle.bus_words.specs.WordTexts.{letter as letter_of, bit_digit as digit_of, word_text as text_of, Fails, is_letter};
-ghost use Rattle.bus_words.specs.WordTexts.{is_bit, form, is_of, kept as kept_of, test_at, written_frame, read_word as reading};
+ghost use Rattle.bus_words.specs.WordTexts.{is_bit, form, is_of, kept as kept_of, written_frame, read_word as reading};
+ghost use Rattle.bus_words.specs.inside.Forms.{test_at};
 
 use crate::word::{FramedWord, Kind, Word, WordError, frame, unframe};
 use bus_text::{capital_digit, four_digits};

@@ -13,13 +13,17 @@ use Rattle.bus_terminal.specs.Jumps.{later_place, with_passed_many}
 use Rattle.bus_strings.specs.Members.{In}
 use Rattle.bus_strings.specs.Messages.{Entry}
 use Rattle.bus_strings.specs.Transmissions.{end_of}
-use Rattle.bus_medium.specs.Past.{HaveEnded}
 use Rattle.bus_medium.specs.Jumps.{Each}
 use Rattle.bus_medium.specs.inside.Following.{Idle, Started}
 use Rattle.bus_medium.specs.inside.Runs.{RunsTo, Decided}
 use Rattle.bus_medium.specs.Buses.{Seat}
 use Rattle.bus_medium.specs.declared.clock.Watch.{Watch}
 use Rattle.bus_medium.specs.declared.clock.Heard.{Heard}
+use Rattle.bus_medium.specs.Lawful.{Station}
+
+-- Every transmission of the list has ended at moment t.
+abbrev pub HaveEnded : List Entry → ℕ → Type 0
+HaveEnded list t = (x : Entry) → In x list → end_of x ≤ t
 
 -- A sender's clock:
 --   sg, tg     its gaps
@@ -261,3 +265,7 @@ pub record AreTold {C : Type 0} (core : Ghosts C) (quiet now : ℕ) (clocks : Li
   pub same_length : length ys ≡ length xs
   pub each : (j : ℕ) (x y : Seat C) (k : Clock) → slice_get xs j ≡ Some x → slice_get ys j ≡ Some y → slice_get clocks j ≡ Some k
       → IsTold core quiet now k x y
+
+-- The numbers of a sender on a cable don't let it start up to moment m.
+abbrev pub IsLate : ℕ → Station → ℕ → ℕ → ℕ → ℕ → Type 0
+IsLate quiet s D G C m = (quiet + m < G + s.timing.tg) ⊎ ((quiet + m < D) ⊎ (length s.hand ≤ C))

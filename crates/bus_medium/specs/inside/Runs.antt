@@ -1,11 +1,12 @@
 -- What a run of the bus knows of its senders and its list, from moment to moment.
-use Rattle.std.specs.Prelude.{◌≡◌, ℕ, ◌+◌, ◌-◌, ◌^◌, ◌<◌, ◌++◌, List, length, map}
+use Rattle.std.specs.Prelude.{◌≡◌, ℕ, ◌+◌, ◌-◌, ◌^◌, ◌<◌, ◌++◌, List, length, map, Bool}
 use Rattle.bus_timers.specs.declared.cores.Core.{Ghosts}
 use Rattle.bus_strings.specs.Members.{In}
 use Rattle.bus_strings.specs.Messages.{Entry}
 use Rattle.bus_medium.specs.Lawful.{IsLawfulTo}
 use Rattle.bus_medium.specs.Buses.{Seat, station_of}
 use Rattle.bus_medium.specs.inside.Following.{AllFollow, AllHaveRoom}
+use Rattle.bus_terminal.specs.Terminals.{sounds}
 
 -- At moment t, before anybody decides, the list is what was sent, the senders stand where it leaves them, and have room for what may come.
 pub record RunsTo {C : Type 0} (core : Ghosts C) (quiet : ℕ) (seats : List (Seat C)) (list : List Entry) (t : ℕ) : Type 0 where
@@ -32,3 +33,7 @@ pub record Decided {C : Type 0} (core : Ghosts C) (quiet t : ℕ) (xs ys : List 
 pub record Reached {C : Type 0} (core : Ghosts C) (quiet t : ℕ) (xs ys : List (Seat C)) (list : List Entry) : Type 0 where
   pub stations : map station_of ys ≡ map station_of xs
   pub to : RunsTo core quiet ys list t
+
+-- Whether a sender has a pulse on the present bit time.
+abbrev pub seat_sounds : {C : Type 0} → Seat C → Bool
+seat_sounds seat = sounds seat.terminal

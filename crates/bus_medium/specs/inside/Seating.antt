@@ -1,5 +1,5 @@
 -- A sender at the settled start.
-use Rattle.std.specs.Prelude.{◌≡◌, ◌^◌, ◌≤◌, false, replicate, None}
+use Rattle.std.specs.Prelude.{◌≡◌, ◌^◌, ◌≤◌, false, replicate, None, ℕ, ◌<◌, List, length, slice_index}
 use Rattle.bus_timers.specs.declared.cores.Core.{Ghosts}
 use Rattle.bus_timers.specs.Timings.{IsSound}
 use Rattle.bus_strings.specs.Members.{In}
@@ -25,3 +25,7 @@ pub record IsSeated {C : Type 0} (core : Ghosts C) (table : Table) (seat : Seat 
   pub messages : Hand
   pub number : messages.terminal ≡ sender.number
   pub seated : Seated core table sender messages seat
+
+-- No two numbers are the same.
+abbrev pub AreDistinct : List ℕ → Type 0
+AreDistinct numbers = (p r : ℕ) → p < length numbers → r < length numbers → slice_index numbers p ≡ slice_index numbers r → p ≡ r

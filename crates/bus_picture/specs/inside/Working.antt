@@ -7,7 +7,7 @@ use Rattle.bus_table.specs.Tables.{Table}
 use Rattle.bus_shapes.specs.declared.sent.Sent.{Sent}
 use Rattle.bus_shapes.specs.declared.scale.Scale.{Scale}
 use Rattle.bus_shapes.specs.Sending.{sents}
-use Rattle.bus_shapes.specs.SendingLaws.{IsInOrder}
+use Rattle.bus_shapes.specs.inside.Sents.{IsInOrder}
 use Rattle.bus_picture.specs.Boxes.{Pile, grown, joins, one}
 use Rattle.bus_picture.specs.Rows.{Row, pile_text, shows}
 

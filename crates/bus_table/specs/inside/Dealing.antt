@@ -2,6 +2,7 @@
 use Rattle.std.specs.Prelude.{◌≡◌, ℕ, Bool, false, List, [], ◌∷◌, ◌++◌, map, Result, Ok, Err}
 use Rattle.std.specs.Option.{option_map_or}
 use Rattle.bus_strings.specs.Items.{Item}
+use Rattle.bus_strings.specs.Messages.{Message}
 use Rattle.bus_table.specs.declared.fit.FitError.{FitError}
 use Rattle.bus_table.specs.Fits.{fit_from, has_shape, item_fit, sender_of}
 use Rattle.bus_table.specs.Hands.{hand_of}
@@ -28,3 +29,7 @@ IsTried k senders item old new (Err error) = item_fit k senders item ≡ Err err
 abbrev pub AreDealt : List Sender → List Item → List Hand → Result (Unit {0}) FitError → Type 0
 AreDealt senders done hands (Ok fit) = (fit_from 1 senders done ≡ Ok tt) × (hands ≡ dealt senders done)
 AreDealt senders done hands (Err error) = fit_from 1 senders done ≡ Err error
+
+-- A hand with one more message behind the others.
+abbrev pub with_message : Hand → Message → Hand
+with_message hand message = record hand { messages = hand.messages ++ message ∷ [] }

@@ -2,7 +2,8 @@
 use Rattle.std.specs.Prelude.{◌≡◌, ◌≤◌, ◌<◌, ℕ, Bool, true, false, List, [], ◌∷◌, ◌++◌, length, take, Result, Ok, Err}
 use Rattle.std.specs.declared.alloc.AllocError.{AllocError}
 use Rattle.bus_trace.specs.Limits.{line_limit}
-use Rattle.bus_trace.specs.States.{State, IsSound, text_of}
+use Rattle.bus_trace.specs.States.{State, text_of}
+use Rattle.bus_trace.specs.inside.Sound.{IsSound}
 use Rattle.bus_trace.specs.Runs.{Standing, Progress, Going, Found, Refused, run, stream_of}
 use Rattle.bus_trace.specs.declared.walk.Judged.{Judged}
 use Rattle.bus_trace.specs.declared.walk.Judged.TheVariants.{Passes, Ends, Fails}

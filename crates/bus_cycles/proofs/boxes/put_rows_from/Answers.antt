@@ -4,7 +4,7 @@ use Rattle.bus_shapes.specs.declared.sent.Sent.{Sent}
 use Rattle.bus_cycles.specs.inside.Drawing.{Draws}
 use Rattle.bus_cycles.specs.Rows.{Extent, rows_of}
 use Rattle.bus_cycles.specs.RowTexts.{walk_text}
-use Rattle.bus_cycles.specs.Sents.{IsSent}
+use Rattle.bus_cycles.specs.inside.Bounds.{IsSent}
 use Rattle.bus_cycles.proofs.DrawLemmas.{draws_end, draws_first, draws_next, reaches_none}
 use Rattle.bus_cycles.proofs.boxes.put_rows_from.Goals as goal
 

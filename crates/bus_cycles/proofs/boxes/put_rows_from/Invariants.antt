@@ -3,7 +3,7 @@ use Rattle.std.specs.List.{AllByRecursion}
 use Rattle.bus_cycles.specs.inside.Drawing.{Draws}
 use Rattle.bus_cycles.specs.Rows.{rows_of}
 use Rattle.bus_cycles.specs.RowTexts.{walk_text}
-use Rattle.bus_cycles.specs.Sents.{IsSent}
+use Rattle.bus_cycles.specs.inside.Bounds.{IsSent}
 use Rattle.bus_cycles.proofs.boxes.put_rows_from.Given as goal
 
 abbrev pub invariant-loop-sent : goal.invariant-loop-sent

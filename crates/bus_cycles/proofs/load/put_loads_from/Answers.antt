@@ -4,7 +4,7 @@ use Rattle.bus_shapes.specs.declared.sent.Sent.{Sent}
 use Rattle.bus_cycles.specs.inside.Loading.{Loads}
 use Rattle.bus_cycles.specs.Loads.{loads_text}
 use Rattle.bus_cycles.specs.Rows.{Extent, rows_of}
-use Rattle.bus_cycles.specs.Sents.{IsSent}
+use Rattle.bus_cycles.specs.inside.Bounds.{IsSent}
 use Rattle.bus_cycles.proofs.LoadLemmas.{loads_end, loads_first, loads_next}
 use Rattle.bus_cycles.proofs.load.put_loads_from.Goals as goal
 

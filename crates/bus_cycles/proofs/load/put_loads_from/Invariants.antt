@@ -5,7 +5,7 @@ use Rattle.bus_load.specs.Loads.{IsCarrierOf}
 use Rattle.bus_cycles.specs.inside.Loading.{Loads}
 use Rattle.bus_cycles.specs.Loads.{loads_text}
 use Rattle.bus_cycles.specs.Rows.{rows_of}
-use Rattle.bus_cycles.specs.Sents.{IsSent}
+use Rattle.bus_cycles.specs.inside.Bounds.{IsSent}
 use Rattle.bus_cycles.proofs.load.put_loads_from.Given as goal
 
 abbrev pub invariant-loop-sent : goal.invariant-loop-sent

@@ -1,6 +1,6 @@
 use Rattle.std.proofs.Common.{◌<◌, ◌+◌, ◌-◌, ◌^◌, ◌∷◌, length}
 use Rattle.std.specs.List.{AllByRecursion}
-use Rattle.bus_cycles.specs.Sents.{IsSent}
+use Rattle.bus_cycles.specs.inside.Bounds.{IsSent}
 use Rattle.bus_cycles.specs.inside.Surveying.{Surveys}
 use Rattle.bus_cycles.specs.Surveys.{told_of}
 use Rattle.bus_cycles.proofs.survey.survey_from.Given as goal

@@ -1,6 +1,6 @@
 use Rattle.std.proofs.Common.{◌≡◌, ◌-◌, ◌^◌, ◌≤◌, arith, ◌∙◌}
 use Rattle.std.specs.List.{list_any}
-use Rattle.bus_medium.specs.Buses.{seat_sounds}
+use Rattle.bus_medium.specs.inside.Runs.{seat_sounds}
 use Rattle.bus_medium.proofs.Seats.{same_numbers}
 use Rattle.bus_medium.proofs.Reaching.{passed_stations, bit_reached}
 use Rattle.bus_medium.proofs.bit_times.bit_time.Goals as goal

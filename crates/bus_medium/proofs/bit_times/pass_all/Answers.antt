@@ -1,6 +1,6 @@
 use Rattle.std.proofs.Common.{◌<◌, length, get_or, arith, sym, ◌∙◌}
 use Rattle.std.proofs.lemmas.Option.{slice_get-get_or}
-use Rattle.bus_medium.specs.Buses.{seat_sounds}
+use Rattle.bus_medium.specs.inside.Runs.{seat_sounds}
 use Rattle.bus_medium.specs.inside.Lasting.{PassedMany}
 use Rattle.bus_medium.proofs.Seats.{any_at}
 use Rattle.bus_medium.proofs.Stretching.{each_more, each_all}

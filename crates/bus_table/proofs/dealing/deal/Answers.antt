@@ -2,9 +2,9 @@ use Rattle.std.proofs.Common.{◌==◌, ◌∙◌, ◌∷◌, ◌++◌, [], ap, 
 use Rattle.bus_strings.specs.Items.{Item, numbers}
 use Rattle.bus_strings.specs.Messages.{Message}
 use Rattle.bus_table.specs.Fits.{has_shape}
-use Rattle.bus_table.specs.Hands.{message_of, hand_of, with_message}
+use Rattle.bus_table.specs.Hands.{message_of, hand_of}
 use Rattle.bus_table.specs.Tables.{SendLine, Hand}
-use Rattle.bus_table.specs.inside.Dealing.{is_fit}
+use Rattle.bus_table.specs.inside.Dealing.{is_fit, with_message}
 use Rattle.bus_table.proofs.HandLemmas.{next_hands, stands, stands_at, shape_at}
 use Rattle.bus_table.proofs.dealing.deal.Goals as goal
 

@@ -5,7 +5,8 @@ use Rattle.std.proofs.Common.{arith, ◌≡◌}
 use Rattle.bus_command.specs.Acts.{Ends}
 use Rattle.bus_command.specs.Outside.{sink_seen}
 use Rattle.bus_command.specs.declared.outcome.Outcome.TheVariants.{Done}
-use Rattle.bus_tool.specs.Drills.{line_of, drill_line}
+use Rattle.bus_tool.specs.Drills.{drill_line}
+use Rattle.bus_tool.specs.inside.Drilled.{line_of}
 use Rattle.bus_tool.proofs.DrillLemmas.{line_is}
 use Rattle.bus_tool.proofs.drill.drill.Goals as goal
 

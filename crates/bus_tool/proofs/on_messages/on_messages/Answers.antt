@@ -1,7 +1,7 @@
 use Rattle.std.proofs.Common.{subst}
 use Rattle.bus_command.proofs.DoLaws.{stopped, ended}
 use Rattle.bus_command.specs.Readers.{entire, two_sources}
-use Rattle.bus_command.specs.Taken.{AreInputs}
+use Rattle.bus_command.specs.inside.Steps.{AreInputs}
 use Rattle.bus_command.specs.Due.{inputs_by}
 use Rattle.bus_tool.specs.Due.{refusal_for, table_for, inputs_answer}
 use Rattle.bus_tool.specs.Forms.{messages_mode}
@@ -22,4 +22,4 @@ returns-in-Err g c =
     (mode_prepares c.mode.result (messages_mode c.args.command) _ _ _ c.mode.ensures c.in-Err.ensures.prepares)
 
 pub answer-requires-clause-mode : goal.answer-requires-clause-mode
-answer-requires-clause-mode g c = subst (λ mode. Rattle.bus_tool.specs.Acts.IsOfMode mode c.in-Ok.dealt.table) c.mode.ensures c.in-Ok.ensures.mode
+answer-requires-clause-mode g c = subst (λ mode. Rattle.bus_tool.specs.inside.Acting.IsOfMode mode c.in-Ok.dealt.table) c.mode.ensures c.in-Ok.ensures.mode

@@ -3,7 +3,7 @@ use Rattle.bus_command.specs.Readers.{entire, one_source}
 use Rattle.bus_command.specs.declared.outcome.Outcome.TheVariants.{Done}
 use Rattle.bus_command.proofs.DoLaws.{answered}
 use Rattle.bus_table.specs.Canonical.{table_text}
-use Rattle.bus_tool.specs.Acts.{EndsOnTable}
+use Rattle.bus_tool.specs.inside.Acting.{EndsOnTable}
 use Rattle.bus_tool.specs.Forms.{TableCommand}
 use Rattle.bus_tool.proofs.on_table.answer.Goals as goal
 

@@ -5,7 +5,7 @@ use Rattle.bus_command.proofs.DoLaws.{answered}
 use Rattle.bus_filter.specs.ReceivedTexts.{received_text}
 use Rattle.bus_strings.specs.Transmissions.{IsByMoment}
 use Rattle.bus_vote.specs.VoteTexts.{votes_text}
-use Rattle.bus_tool.specs.Acts.{EndsOnTrace}
+use Rattle.bus_tool.specs.inside.Acting.{EndsOnTrace}
 use Rattle.bus_tool.specs.Forms.{TraceCommand}
 use Rattle.bus_tool.proofs.TraceLemmas.{trace_by_moment}
 use Rattle.bus_tool.proofs.on_trace.answer.Goals as goal

@@ -4,7 +4,7 @@ use Rattle.std.proofs.lemmas.Result.{err_from_is_err_and}
 use Rattle.bus_outer.specs.Sources.{Taken}
 use Rattle.bus_trace.specs.Limits.{text_limit}
 use Rattle.bus_trace.specs.Runs.{stream_of, due}
-use Rattle.bus_trace.specs.Feeding.{FeedGives}
+use Rattle.bus_trace.specs.inside.Feeds.{FeedGives}
 use Rattle.bus_trace.specs.declared.stage.Fed.{Fed}
 use Rattle.bus_trace.proofs.Readings.{begins_reading, pulled, pulled_is, short_slice, whole_reads, end_reads, refused_reads, large_reads}
 use Rattle.bus_trace.proofs.Readings.{memory_reads, memory_first, fault_reads, led}

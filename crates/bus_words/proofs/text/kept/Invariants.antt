@@ -1,5 +1,5 @@
 use Rattle.std.proofs.Common.{◌≡◌, ℕ, ◌<◌, get_or, true}
-use Rattle.bus_words.specs.WordTexts.{test_at}
+use Rattle.bus_words.specs.inside.Forms.{test_at}
 use Rattle.bus_words.proofs.text.kept.Given as goal
 
 abbrev pub invariant-loop-place : goal.invariant-loop-place

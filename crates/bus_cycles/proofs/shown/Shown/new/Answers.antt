@@ -4,7 +4,8 @@ use Rattle.bus_strings.specs.Messages.{Entry}
 use Rattle.bus_strings.specs.Transmissions.{IsAscending}
 use Rattle.bus_shapes.specs.Sending.{sents}
 use Rattle.bus_shapes.proofs.SendingLaws.{as_many}
-use Rattle.bus_cycles.specs.Sents.{IsSent, is_shown}
+use Rattle.bus_cycles.specs.Sents.{is_shown}
+use Rattle.bus_cycles.specs.inside.Bounds.{IsSent}
 use Rattle.bus_cycles.proofs.SentLemmas.{each_sent, filtered, filtered_few}
 use Rattle.bus_cycles.proofs.shown.Shown.new.Goals as goal
 

@@ -1,6 +1,7 @@
 use Rattle.std.proofs.Common.{ℕ, List, [], sym, ◌∙◌, subst}
 use Rattle.bus_medium.specs.Buses.{StandsAt}
-use Rattle.bus_medium.specs.Orders.{IsByNumber, AreNumbers, AreDistinct}
+use Rattle.bus_medium.specs.Orders.{IsByNumber, AreNumbers}
+use Rattle.bus_medium.specs.inside.Seating.{AreDistinct}
 use Rattle.bus_medium.proofs.TimingLemmas.{are_numbers, are_distinct}
 use Rattle.bus_medium.proofs.SeatingLemmas.{seats_numbers, seated_stands, seated_moves}
 use Rattle.bus_medium.proofs.bus.Bus.settled.Goals as goal

@@ -1,5 +1,6 @@
 use Rattle.std.proofs.Common.{◌≡◌, ◌∙◌, sym, ap, subst, refl, length, nat_lt, Ok}
-use Rattle.bus_trace.specs.Feeding.{Reader, ReaderIs, FeedGives}
+use Rattle.bus_trace.specs.Feeding.{Reader, ReaderIs}
+use Rattle.bus_trace.specs.inside.Feeds.{FeedGives}
 use Rattle.bus_trace.specs.declared.stage.Stage.{Stage}
 use Rattle.bus_trace.specs.declared.stage.Fed.{Fed}
 use Rattle.bus_trace.specs.declared.stage.Stage.TheVariants.{Open}

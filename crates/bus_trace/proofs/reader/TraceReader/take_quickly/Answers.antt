@@ -1,5 +1,6 @@
 use Rattle.std.proofs.Common.{◌≡◌, ◌∙◌, sym, ap, subst, Ok}
-use Rattle.bus_trace.specs.Feeding.{Reader, LeadsOn}
+use Rattle.bus_trace.specs.Feeding.{Reader}
+use Rattle.bus_trace.specs.inside.Feeds.{LeadsOn}
 use Rattle.bus_trace.specs.declared.stage.Stage.{Stage}
 use Rattle.bus_trace.specs.declared.stage.Stage.TheVariants.{Open}
 use Rattle.bus_trace.proofs.Feeds.{feeds, lead_gives, lead_is}

@@ -4,7 +4,8 @@ use Rattle.bus_wave.specs.declared.fault.WaveReason.{WaveReason}
 use Rattle.bus_wave.specs.declared.phase.Phase.TheVariants as code
 use Rattle.bus_wave.specs.declared.symbol.Symbol.TheVariants.{End}
 use Rattle.bus_text.specs.inside.Gives.{StepGives}
-use Rattle.bus_wave.specs.Judging.{State, Closed, last_bounded, step}
+use Rattle.bus_wave.specs.Judging.{State, Closed, step}
+use Rattle.bus_wave.specs.inside.Bounded.{last_bounded}
 use Rattle.bus_wave.specs.inside.Drafts.{begun_of, state_of}
 use Rattle.bus_wave.proofs.DraftLemmas.{stepped, state_in, kept, within}
 use Rattle.bus_wave.proofs.draft.Draft.take_end.Goals as goal

@@ -6,7 +6,8 @@ use Rattle.bus_wave.specs.declared.fault.WaveReason.TheVariants.{Order}
 use Rattle.bus_wave.specs.declared.phase.Phase.TheVariants as code
 use Rattle.bus_wave.specs.declared.symbol.Symbol.TheVariants.{Sent}
 use Rattle.bus_text.specs.inside.Gives.{StepGives}
-use Rattle.bus_wave.specs.Judging.{State, beginner, begin_step, begin_bounded, bounded, step}
+use Rattle.bus_wave.specs.Judging.{State, beginner, begin_step, bounded, step}
+use Rattle.bus_wave.specs.inside.Bounded.{begin_bounded}
 use Rattle.bus_wave.specs.inside.Drafts.{state_of}
 use Rattle.bus_wave.proofs.DraftLemmas.{stepped, state_in}
 use Rattle.bus_wave.proofs.draft.Draft.take_label.Goals as goal

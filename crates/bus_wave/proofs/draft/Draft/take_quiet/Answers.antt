@@ -4,7 +4,8 @@ use Rattle.bus_wave.specs.declared.fault.WaveReason.{WaveReason}
 use Rattle.bus_wave.specs.declared.phase.Phase.TheVariants as code
 use Rattle.bus_wave.specs.declared.symbol.Symbol.TheVariants.{Quiet}
 use Rattle.bus_text.specs.inside.Gives.{StepGives}
-use Rattle.bus_wave.specs.Judging.{State, Silent, pause_bounded}
+use Rattle.bus_wave.specs.Judging.{State, Silent}
+use Rattle.bus_wave.specs.inside.Bounded.{pause_bounded}
 use Rattle.bus_wave.specs.inside.Drafts.{begun_of, state_of}
 use Rattle.bus_wave.proofs.DraftLemmas.{stepped, state_in, kept, within, past, quiet_none, quiet_on}
 use Rattle.bus_wave.proofs.draft.Draft.take_quiet.Goals as goal

@@ -1,4 +1,4 @@
--- What the verdict asks of each gap of a periodic table, as a fact.
+-- What the verdict asks of each gap of a periodic table, as a fact. No public clause cites it.
 use Rattle.std.specs.Prelude.{◌≢◌, ℕ, ◌+◌, ◌<◌, ◌≤◌, ◌⊎◌, List}
 use Rattle.bus_strings.specs.Members.{In}
 use Rattle.bus_regime.specs.Gaps.{Gap}

@@ -1,0 +1,28 @@
+-- What a command did, told form by form and behind its texts. No public clause cites it.
+use Rattle.std.specs.Prelude.{◌≡◌}
+use Rattle.bus_outer.specs.declared.sink.Sink.{Ghosts as SinkGhosts}
+use Rattle.bus_outer.specs.declared.source.Source.{Ghosts as SourceGhosts}
+use Rattle.bus_table.specs.Tables.{Table}
+use Rattle.bus_trace.specs.Traces.{Recording}
+use Rattle.bus_command.specs.Acts as command
+use Rattle.bus_command.specs.inside.Acting as acting
+use Rattle.bus_command.specs.Acts.{Ends}
+use Rattle.bus_command.specs.Outside.{Outside, sink_seen}
+use Rattle.bus_view.specs.Due.{view_answer, view_text}
+use Rattle.bus_view.specs.Forms.{Form, View, sources}
+use Rattle.bus_view.specs.Refusals.{Outcome}
+use Rattle.bus_view.specs.Acts.{view_program}
+
+-- What the command of a form did.
+abbrev pub DoesForm : Form → Outside → Outside → Outcome → Type 0
+DoesForm form before after outcome = command.DoesForm view_program form before after outcome
+
+-- What the command of a form did whose sources were these before and after.
+abbrev pub DoesBoth : {S K : Type 0} → SourceGhosts S → SinkGhosts K → Form → S → S → K → S → S → K → Outcome → Type 0
+DoesBoth = acting.DoesBoth view_program
+
+-- What a command did that has taken its table and trace.
+abbrev pub EndsOnView : {K : Type 0} → SinkGhosts K → View → Table → Recording → K → K → Outcome → Type 0
+EndsOnView ghosts view table trace old new outcome =
+    Ends sources (view_answer view table trace) (λ text. text ≡ view_text view table trace) (sink_seen ghosts old) (sink_seen ghosts new)
+    outcome
