@@ -10,8 +10,8 @@ use Rattle.bus_table.specs.Tables.{Sender, Table}
 use Rattle.bus_table.specs.Ranges.{is_sender}
 use Rattle.bus_table.specs.Valid.{fits_mode, is_valid}
 use Rattle.bus_table.specs.Whole.{first_again, sender_numbers, listener_numbers, no_sender, gap_twice, gap_not_short, pair_twice, periodic_refusal}
+use Rattle.bus_table.proofs.PartLaws.{parts_of, valid_of}
 use Rattle.bus_advice.specs.Changes.{with_senders}
-use Rattle.bus_advice.proofs.Parts.{parts_of, valid_of}
 
 same_numbers : (f : Sender → Sender) (senders : List Sender) → ((s : Sender) → (f s).number ≡ s.number)
     → sender_numbers (map f senders) ≡ sender_numbers senders

@@ -1,7 +1,7 @@
 -- An aperiodic table with another transmit interval, or another synchronization gap.
 use Rattle.std.specs.Prelude.{◌≡◌, ℕ, ◌+◌, ◌-◌, ◌<◌, ◌≤◌, true, false, IsTrue, Some, None}
-use Rattle.std.proofs.Common.{inl, inr, arith, sym, ap, ◌∙◌}
-use Rattle.std.proofs.lemmas.Bool.{cases_lt, true≢false, and_parts, and_from, false_from_ne_true}
+use Rattle.std.proofs.Common.{arith, sym, ap}
+use Rattle.std.proofs.lemmas.Bool.{and_parts, and_from, false_from_ne_true}
 use Rattle.bus_table.specs.declared.mode.Mode.{Mode}
 use Rattle.bus_table.specs.declared.mode.Mode.TheVariants.{Aperiodic}
 use Rattle.bus_table.specs.Tables.{Table}
@@ -10,13 +10,14 @@ use Rattle.bus_table.specs.Whole.{periodic_refusal}
 use Rattle.bus_table.specs.inside.Facts.{SenderFacts}
 use Rattle.bus_table.proofs.ValidLaws.{valid_facts}
 use Rattle.bus_table.proofs.TurnLaws.{of_each}
+use Rattle.bus_table.proofs.PartLaws.{parts_of, valid_of, none_long, ti_range, sg_range}
 use Rattle.bus_regime.specs.Verdicts.{verdict_of, is_accepted, least_cycle}
-use Rattle.bus_regime.proofs.VerdictLaws.{accepted_cycle, cycle_accepted}
+use Rattle.bus_regime.proofs.VerdictLaws.{accepted_cycle, cycle_accepted, refused_cycle}
 use Rattle.bus_advice.specs.Changes.{with_interval, with_synchronization}
 use Rattle.bus_advice.specs.Advices.{works, lesser_interval, greater_synchronization}
 use Rattle.bus_advice.specs.inside.InnerGaps.{IsShort}
-use Rattle.bus_advice.proofs.Parts.{parts_of, valid_of, none_long, ti_range, sg_range}
 use Rattle.bus_advice.proofs.Searches.{below_some, below_none, above_some, above_none}
+use Rattle.bus_advice.proofs.IntervalLaws.{at_interval}
 
 -- both halves of working
 pub is_working : (table : Table) → IsTrue (is_valid table) → IsTrue (is_accepted (verdict_of table)) → works table ≡ true
@@ -28,34 +29,13 @@ working_valid table h = (and_parts (is_valid table) _ h).0
 pub working_accepted : (table : Table) → works table ≡ true → IsTrue (is_accepted (verdict_of table))
 working_accepted table h = (and_parts (is_valid table) _ h).1
 
--- a refused table has too short a cycle
-pub refused_short : (table : Table) → table.mode ≡ Aperiodic → is_accepted (verdict_of table) ≡ false → least_cycle table < table.ti
-refused_short table aperiodic refused = elim (cases_lt (least_cycle table) table.ti) [
-  | inl less ↦ less
-  | inr more ↦ absurd (true≢false (sym (cycle_accepted table aperiodic more) ∙ refused))
-]
-
 -- ---- the transmit interval
 no_late : (mode : Mode) (table : Table) (n : ℕ) → mode ≡ Aperiodic → periodic_refusal mode n table.senders ≡ None
 no_late mode table n e = ap (λ m. periodic_refusal m n table.senders) e
 
 pub interval_valid : (table : Table) (n : ℕ) → IsTrue (is_valid table) → table.mode ≡ Aperiodic → 1000 ≤ n → n ≤ 128000
     → IsTrue (is_valid (with_interval n table))
-interval_valid table n valid aperiodic low high =
-    let p = parts_of table valid in
-    valid_of (with_interval n table) (record {
-      ti = ti_range n low high;
-      sg = p.sg;
-      senders = p.senders;
-      listeners = p.listeners;
-      fits = p.fits;
-      some = p.some;
-      once = p.once;
-      gaps = p.gaps;
-      short = p.short;
-      pairs = p.pairs;
-      late = no_late table.mode table n aperiodic;
-    })
+interval_valid table n valid aperiodic low high = at_interval table n valid (ti_range n low high) (no_late table.mode table n aperiodic)
 
 interval_works : (table : Table) (n : ℕ) → IsTrue (is_valid table) → table.mode ≡ Aperiodic → 1000 ≤ n → n ≤ least_cycle table
     → n ≤ 128000 → works (with_interval n table) ≡ true
@@ -94,7 +74,7 @@ lesser_none table deficit n short e low =
 pub interval_refused : (table : Table) (n : ℕ) → table.mode ≡ Aperiodic → is_accepted (verdict_of table) ≡ false → table.ti ≤ n
     → works (with_interval n table) ≡ false
 interval_refused table n aperiodic refused low = false_from_ne_true _ (λ h.
-    let less = refused_short table aperiodic refused in
+    let less = refused_cycle table aperiodic refused in
     let only = interval_only table n aperiodic h in
     let cycle : n ≤ least_cycle table = only.1 in
     absurd (omega arith))
@@ -156,7 +136,7 @@ sync_none table deficit n short e high =
 pub sync_refused : (table : Table) (n : ℕ) → table.mode ≡ Aperiodic → is_accepted (verdict_of table) ≡ false → n ≤ table.sg
     → works (with_synchronization n table) ≡ false
 sync_refused table n aperiodic refused high = false_from_ne_true _ (λ h.
-    let less = refused_short table aperiodic refused in
+    let less = refused_cycle table aperiodic refused in
     let only = sync_only table n aperiodic h in
     let fits : table.ti ≤ least_cycle (with_synchronization n table) = only.1 in
     let cycle = sync_cycle table n in

@@ -3,10 +3,10 @@ use Rattle.std.specs.Prelude.{◌≡◌, ◌≢◌, ℕ, ◌+◌, ◌<◌, ◌�
 use Rattle.std.specs.List.{list_any}
 use Rattle.std.specs.Option.{option_map}
 use Rattle.std.proofs.Common.{inl, inr, arith, sym, refl, ap, ◌∙◌}
-use Rattle.std.proofs.lemmas.Bool.{and_parts, and_from, cases_eq, true≢false, false_from_ne_true}
+use Rattle.std.proofs.lemmas.Bool.{and_parts, and_from, cases_eq, true≢false, false_from_ne_true, eq-eqb}
 use Rattle.std.proofs.lemmas.Bool.Decides.{nat_tests}
 use Rattle.bus_strings.specs.Members.{In}
-use Rattle.bus_strings.proofs.MemberLaws.{in_map, from_map, any_in}
+use Rattle.bus_strings.proofs.MemberLaws.{in_map, from_map, any_in, any_found}
 use Rattle.bus_table.specs.declared.mode.Mode.TheVariants.{Aperiodic}
 use Rattle.bus_table.specs.declared.error.WholeReason.TheVariants.{GapTwice, PairTwice}
 use Rattle.bus_table.specs.declared.line.SendLine.{SendLine}
@@ -18,15 +18,15 @@ use Rattle.bus_table.specs.Whole.{first_again, same_pair, send_lines}
 use Rattle.bus_table.specs.inside.Facts.{SenderFacts, TableFacts}
 use Rattle.bus_table.proofs.ValidLaws.{valid_facts, map_none}
 use Rattle.bus_table.proofs.TurnLaws.{of_each, numbers_differ, gaps_differ}
+use Rattle.bus_table.proofs.PartLaws.{parts_of, none_long}
 use Rattle.bus_regime.specs.Verdicts.{verdict_of, is_accepted, least_cycle}
-use Rattle.bus_regime.proofs.VerdictLaws.{accepted_cycle, cycle_accepted}
+use Rattle.bus_regime.proofs.VerdictLaws.{accepted_cycle, cycle_accepted, refused_cycle}
 use Rattle.bus_advice.specs.Changes.{change_sender, at_gap, with_gap}
 use Rattle.bus_advice.specs.Advices.{works}
 use Rattle.bus_advice.specs.inside.InnerGaps.{IsShort}
-use Rattle.bus_advice.proofs.Parts.{parts_of, none_long}
-use Rattle.bus_advice.proofs.Members.{same_by, any_where, changed_here, changed_there, kept_by, sum_changed, all_changed, again_map}
+use Rattle.bus_advice.proofs.Members.{same_by, changed_here, changed_there, kept_by, sum_changed, all_changed, again_map}
 use Rattle.bus_advice.proofs.Changing.{stays_valid}
-use Rattle.bus_advice.proofs.CycleChange.{is_working, working_valid, working_accepted, refused_short}
+use Rattle.bus_advice.proofs.CycleChange.{is_working, working_valid, working_accepted}
 
 abbrev changed : Sender → ℕ → Sender → Sender
 changed s n = change_sender s.number (at_gap n)
@@ -65,11 +65,8 @@ changed_gap s x n = elim (cases_eq x.number s.number) [
 eq_of : (a b : ℕ) → (a == b) ≡ true → a ≡ b
 eq_of a b h = grind (arith, nat_tests, h)
 
-is_eq : (a b : ℕ) → a ≡ b → (a == b) ≡ true
-is_eq a b h = grind (arith, nat_tests, h)
-
 not_taken : (n : ℕ) (senders : List Sender) (x : Sender) → list_any (λ s. s.tg == n) senders ≡ false → In x senders → x.tg ≡ n → ⊥
-not_taken n senders x none i e = true≢false (sym (any_in (λ (s : Sender). s.tg == n) senders x i (is_eq x.tg n e)) ∙ none)
+not_taken n senders x none i e = true≢false (sym (any_in (λ (s : Sender). s.tg == n) senders x i (eq-eqb x.tg n e)) ∙ none)
 
 tells : (table : Table) (s : Sender) (n : ℕ) → TableFacts table → list_any (λ x. x.tg == n) table.senders ≡ false
     → (a b : Sender) → In a table.senders → In b table.senders → ((changed s n a).tg == (changed s n b).tg) ≡ true → (a.tg == b.tg) ≡ true
@@ -77,12 +74,12 @@ tells table s n facts free a b i j h =
     let e : (changed s n a).tg ≡ (changed s n b).tg = eq_of _ _ h in
     elim (changed_gap s a n) [
       | inl p ↦ elim (changed_gap s b n) [
-        | inl q ↦ is_eq a.tg b.tg (ap (λ (t : Sender). t.tg) (same_by (λ t. t.number) table.senders (numbers_differ table facts) a b i j (p.0 ∙ sym q.0)))
+        | inl q ↦ eq-eqb a.tg b.tg (ap (λ (t : Sender). t.tg) (same_by (λ t. t.number) table.senders (numbers_differ table facts) a b i j (p.0 ∙ sym q.0)))
         | inr q ↦ absurd (not_taken n table.senders b free j (sym q.1 ∙ sym e ∙ p.1))
       ]
       | inr p ↦ elim (changed_gap s b n) [
         | inl q ↦ absurd (not_taken n table.senders a free i (sym p.1 ∙ e ∙ q.1))
-        | inr q ↦ is_eq a.tg b.tg (sym p.1 ∙ e ∙ q.1)
+        | inr q ↦ eq-eqb a.tg b.tg (sym p.1 ∙ e ∙ q.1)
       ]
     ]
 
@@ -139,7 +136,7 @@ gap_only table s n valid aperiodic i low h =
       most = omega (arith, most, tg);
       short = omega (arith, short, tg);
       free = false_from_ne_true _ (λ some.
-          let w = any_where (λ (x : Sender). x.tg == n) table.senders some in
+          let w = any_found (λ (x : Sender). x.tg == n) table.senders some in
           let e : w.0.tg ≡ n = eq_of _ _ w.2 in
           elim (cases_eq w.0.number s.number) [
             | inl same ↦
@@ -197,7 +194,7 @@ pub gap_refused : (table : Table) (s : Sender) (n : ℕ) → IsTrue (is_valid ta
     → is_accepted (verdict_of table) ≡ false → In s table.senders → n ≤ s.tg → works (with_gap s.number n table) ≡ false
 gap_refused table s n valid aperiodic refused i high = false_from_ne_true _ (λ h.
     let made : Table = with_gap s.number n table in
-    let less = refused_short table aperiodic refused in
+    let less = refused_cycle table aperiodic refused in
     let fits : table.ti ≤ least_cycle made = accepted_cycle made aperiodic (working_accepted made h) in
     let cycle = gap_cycle table s n (valid_facts table valid) i in
     absurd (omega (arith, less, fits, cycle, high)))

@@ -1,19 +1,12 @@
 -- Which gaps of a list are wide, told by how many are, where no two are of senders with the same number.
 use Rattle.std.specs.Prelude.{◌≡◌, ◌≢◌, ℕ, ◌+◌, ◌≤◌, Bool, true, false, List, [], ◌∷◌}
 use Rattle.std.specs.List.{count_by}
-use Rattle.std.proofs.Common.{inl, inr, arith, sym, refl, ap, ◌∙◌, cond}
+use Rattle.std.proofs.Common.{inl, inr, arith, sym, refl, ap, ◌∙◌}
 use Rattle.std.proofs.lemmas.Bool.{cases_eq}
 use Rattle.std.proofs.lemmas.List.Sums.{sum_by-cons}
 use Rattle.bus_strings.specs.Members.{In}
 use Rattle.bus_regime.specs.Gaps.{Gap}
-
--- no two gaps are of senders with the same number
-abbrev pub HaveOwnSenders : List Gap → Type 0
-HaveOwnSenders [] = Unit {0}
-HaveOwnSenders (gap ∷ others) = ((other : Gap) → In other others → other.sender.number ≢ gap.sender.number) × HaveOwnSenders others
-
-abbrev pub one_if : Bool → ℕ
-one_if test = cond test 1 0
+use Rattle.bus_regime.proofs.Counting.{HaveOwnSenders, one_if}
 
 module _ (wide : Gap → Bool) where
   pub counted_yes : (g : Gap) (gaps : List Gap) → wide g ≡ true → count_by wide (g ∷ gaps) ≡ 1 + count_by wide gaps

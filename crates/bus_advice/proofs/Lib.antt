@@ -1,6 +1,6 @@
 -- The lemmas of this crate; those that a crate above may cite are public.
 mod Searches
-pub mod Parts
+pub mod IntervalLaws
 mod Members
 mod CycleChange
 mod Changing

@@ -21,16 +21,17 @@ use Rattle.bus_table.specs.Whole.{first_again, same_pair, send_lines}
 use Rattle.bus_table.specs.inside.Facts.{SenderFacts, TableFacts}
 use Rattle.bus_table.proofs.ValidLaws.{valid_facts, map_none}
 use Rattle.bus_table.proofs.TurnLaws.{of_each, numbers_differ}
+use Rattle.bus_table.proofs.PartLaws.{parts_of, none_long}
+use Rattle.bus_table.proofs.FillingLaws.{sends_in_range}
 use Rattle.bus_regime.specs.Verdicts.{verdict_of, is_accepted, least_cycle}
-use Rattle.bus_regime.proofs.VerdictLaws.{accepted_cycle, cycle_accepted}
+use Rattle.bus_regime.proofs.VerdictLaws.{accepted_cycle, cycle_accepted, refused_cycle}
 use Rattle.bus_advice.specs.Changes.{change_sender, at_least, at_least_in, with_line, with_least}
 use Rattle.bus_advice.specs.Advices.{works, greater_least}
 use Rattle.bus_advice.specs.inside.InnerGaps.{IsShort}
-use Rattle.bus_advice.proofs.Parts.{parts_of, none_long}
 use Rattle.bus_advice.proofs.Searches.{above_some, above_none}
 use Rattle.bus_advice.proofs.Members.{same_by, changed_here, changed_there, kept_by, sum_changed, all_changed, again_map, again_unmap}
 use Rattle.bus_advice.proofs.Changing.{stays_valid}
-use Rattle.bus_advice.proofs.CycleChange.{is_working, working_valid, working_accepted, refused_short}
+use Rattle.bus_advice.proofs.CycleChange.{is_working, working_valid, working_accepted}
 
 abbrev changed : Sender → ℕ → ℕ → Sender → Sender
 changed s place n = change_sender s.number (with_line place n)
@@ -99,9 +100,6 @@ line_only zero n (l ∷ lines) line e h =
 line_only (suc place) n (l ∷ lines) line e h = line_only place n lines line e (and_parts (is_send_line l) _ h).1
 
 -- ---- the range of the sender
-sends_of : (s : Sender) → is_sender s ≡ true → are_send_lines s.sends ≡ true
-sends_of s h = (and_parts (are_send_lines s.sends) _ (and_parts (is_offset s.at) _ (and_parts (is_tg s.tg) _ (and_parts (is_number s.number) _ h).1).1).1).0
-
 in_range : (s : Sender) (place n : ℕ) (line : SendLine) → slice_get s.sends place ≡ Some line → n ≤ line.most → is_sender s ≡ true
     → is_sender (with_line place n s) ≡ true
 in_range s place n line e high h =
@@ -191,7 +189,7 @@ least_only table s place n line aperiodic i at h =
     let here : f s ≡ with_line place n s = changed_here s.number (with_line place n) s refl in
     let own = (of_each (SenderFacts made) made.senders facts.senders (f s) (in_map f table.senders s i)).in_range in
     let range : is_sender (with_line place n s) ≡ true = sym (ap is_sender here) ∙ own in
-    let lines = (and_parts _ (list_all is_send_line (at_least_in place n s.sends)) (sends_of (with_line place n s) range)).1 in
+    let lines = (and_parts _ (list_all is_send_line (at_least_in place n s.sends)) (sends_in_range (with_line place n s) range)).1 in
     (line_only place n s.sends line at lines, accepted_cycle made aperiodic (working_accepted made h))
 
 all_at : {A : Type 0} (p : A → Bool) (xs : List A) (k : ℕ) (x : A) → list_all p xs ≡ true → slice_get xs k ≡ Some x → p x ≡ true
@@ -205,7 +203,7 @@ pub line_small : (table : Table) (s : Sender) (place : ℕ) (line : SendLine) �
     → slice_get s.sends place ≡ Some line → line.most ≤ 256
 line_small table s place line valid i at =
     let own = (of_each (SenderFacts table) table.senders (valid_facts table valid).senders s i).in_range in
-    let lines = (and_parts _ (list_all is_send_line s.sends) (sends_of s own)).1 in
+    let lines = (and_parts _ (list_all is_send_line s.sends) (sends_in_range s own)).1 in
     let one = and_parts (is_label line.label) _ (all_at is_send_line s.sends place line lines at) in
     let two = and_parts (is_ext line.ext) _ one.1 in
     let three = and_parts (nat_le line.least line.most) _ two.1 in
@@ -259,7 +257,7 @@ pub least_refused : (table : Table) (s : Sender) (place n : ℕ) (line : SendLin
     → is_accepted (verdict_of table) ≡ false → In s table.senders → slice_get s.sends place ≡ Some line → n ≤ line.least
     → works (with_least s.number place n table) ≡ false
 least_refused table s place n line valid aperiodic refused i at high = false_from_ne_true _ (λ h.
-    let less = refused_short table aperiodic refused in
+    let less = refused_cycle table aperiodic refused in
     let only = least_only table s place n line aperiodic i at h in
     let fits : table.ti ≤ least_cycle (with_least s.number place n table) = only.1 in
     let cycle = line_cycle table s place n line (valid_facts table valid) i at in

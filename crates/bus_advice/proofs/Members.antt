@@ -22,15 +22,6 @@ same_by key (s ∷ senders) d a b (inl p) (inr j) e = absurd (d.0 b j (sym (ap k
 same_by key (s ∷ senders) d a b (inr i) (inl q) e = absurd (d.0 a i (sym (ap key q) ∙ sym e))
 same_by key (s ∷ senders) d a b (inr i) (inr j) e = same_by key senders d.1 a b i j e
 
--- a test that some pass
-pub any_where : {A : Type 0} (p : A → Bool) (xs : List A) → list_any p xs ≡ true → (x : A) × In x xs × (p x ≡ true)
-any_where p [] h = absurd (cc)
-any_where p (y ∷ ys) h =
-    (elim (p y) as (λ b. p y ≡ b → (b || list_any p ys) ≡ true → (x : _) × In x (y ∷ ys) × (p x ≡ true)) [
-      | true ↦ λ e k. (y, inl refl, e)
-      | false ↦ λ e k. (let w = any_where p ys k in (w.0, inr w.1, w.2))
-    ]) refl h
-
 -- one sender changed
 pub changed_here : (terminal : ℕ) (change : Sender → Sender) (x : Sender) → x.number ≡ terminal → change_sender terminal change x ≡ change x
 changed_here terminal change x e = ap (λ b. cond b (change x) x) (eq-eqb x.number terminal e)

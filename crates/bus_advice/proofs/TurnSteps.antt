@@ -3,21 +3,18 @@ use Rattle.std.specs.Prelude.{◌≡◌, ℕ, ◌+◌, ◌≤◌, Bool, true, fa
 use Rattle.std.specs.List.{flat_map, list_any, count_by}
 use Rattle.std.proofs.Common.{arith, sym, refl, ap, ◌∙◌, cond, append_assoc, get_or}
 use Rattle.std.proofs.lemmas.Grind.{flat_map-append}
-use Rattle.std.proofs.lemmas.List.{append-nil, take_more, take_all, drop_more, drop_all}
+use Rattle.std.proofs.lemmas.List.{append-nil, take_more, take_all, drop_all}
 use Rattle.std.proofs.lemmas.List.Sums.{sum_by-cons}
 use Rattle.std.proofs.lemmas.Option.{slice_get_within, get_or_from_slice_get}
-use Rattle.bus_strings.specs.Members.{In}
-use Rattle.bus_strings.proofs.MemberLaws.{at_in}
+use Rattle.bus_strings.proofs.ListLaws.{drop_at}
+use Rattle.bus_strings.proofs.TestLaws.{or_false}
 use Rattle.bus_table.specs.Tables.{Sender, Table}
 use Rattle.bus_table.specs.Turns.{turn_key, turn_order}
-use Rattle.bus_table.proofs.TurnLaws.{from_sort, length-sort}
+use Rattle.bus_table.proofs.TurnLaws.{length-sort}
 use Rattle.bus_regime.specs.Gaps.{Gap}
 use Rattle.bus_regime.specs.Verdicts.{is_small}
 use Rattle.bus_regime.specs.Gaps.{has_width}
 use Rattle.bus_advice.specs.inside.InnerGaps.{has_room, width_for, needed_width}
-
-pub in_turn : (table : Table) (k : ℕ) (s : Sender) → slice_get (turn_order table) k ≡ Some s → In s table.senders
-in_turn table k s h = from_sort (turn_key table.mode) table.senders s (at_in (turn_order table) k s h)
 
 pub one_more : {A B : Type 0} (f : A → List B) (xs : List A) (k : ℕ) (x : A) (base before after more : List B) → slice_get xs k ≡ Some x
     → before ≡ base ++ flat_map f (take k xs) → after ≡ before ++ more → more ≡ f x → after ≡ base ++ flat_map f (take (k + 1) xs)
@@ -34,10 +31,6 @@ pub all_turned : {B : Type 0} (f : Sender → List B) (table : Table) (k : ℕ) 
 all_turned f table k base now past so =
     let long = length-sort (turn_key table.mode) table.senders in
     so ∙ ap (λ l. base ++ flat_map f l) (take_all k (turn_order table) (omega (arith, long, past)))
-
-drop_at : {A : Type 0} (xs : List A) (k : ℕ) (x : A) → slice_get xs k ≡ Some x → drop k xs ≡ x ∷ drop (k + 1) xs
-drop_at xs k x at =
-    drop_more xs k x (slice_get_within xs k x at) ∙ ap (λ y. y ∷ drop (k + 1) xs) (get_or_from_slice_get xs k x x at)
 
 pub any_more : (p : Gap → Bool) (all : List Gap) (k : ℕ) (g : Gap) (total so next : Bool) → slice_get all k ≡ Some g
     → total ≡ (so || list_any p (drop k all)) → next ≡ (so || p g) → total ≡ (next || list_any p (drop (k + 1) all))
@@ -69,10 +62,6 @@ pub needed_none : (sg tg : ℕ) (inner : List Gap) → list_any is_small inner �
 needed_none sg tg inner small =
     sym (ap (λ b. cond b None (Some (width_for sg tg (list_any (has_room sg) inner) (count_by (has_width sg) inner)))) small)
 
-or_none : (b : Bool) → (b || false) ≡ b
-or_none true = refl
-or_none false = refl
-
 pub needed_some : (sg tg : ℕ) (all inner : List Gap) (k : ℕ) (room : Bool) (wide width : ℕ) → length all ≤ k
     → list_any is_small inner ≡ list_any is_small (drop k all) → list_any (has_room sg) inner ≡ (room || list_any (has_room sg) (drop k all))
     → count_by (has_width sg) inner ≡ wide + count_by (has_width sg) (drop k all) → width ≡ width_for sg tg room wide
@@ -80,7 +69,7 @@ pub needed_some : (sg tg : ℕ) (all inner : List Gap) (k : ℕ) (room : Bool) (
 needed_some sg tg all inner k room wide width past small r w is =
     let none : drop k all ≡ [] = drop_all k all past in
     let fits : list_any is_small inner ≡ false = small ∙ ap (list_any is_small) none in
-    let rooms : list_any (has_room sg) inner ≡ room = r ∙ ap (λ l. room || list_any (has_room sg) l) none ∙ or_none room in
+    let rooms : list_any (has_room sg) inner ≡ room = r ∙ ap (λ l. room || list_any (has_room sg) l) none ∙ or_false room in
     let rest : count_by (has_width sg) (drop k all) ≡ 0 = ap (count_by (has_width sg)) none in
     let wides : count_by (has_width sg) inner ≡ wide = omega (arith, w, rest) in
     ap Some (is ∙ ap (λ b. width_for sg tg b wide) (sym rooms) ∙ ap (λ n. width_for sg tg (list_any (has_room sg) inner) n) (sym wides))

@@ -15,20 +15,20 @@ use Rattle.bus_table.specs.Valid.{is_valid}
 use Rattle.bus_table.specs.Whole.{periodic_refusal}
 use Rattle.bus_table.specs.inside.Facts.{FitsMode, SenderFacts, TableFacts}
 use Rattle.bus_table.proofs.ValidLaws.{valid_facts}
-use Rattle.bus_table.proofs.TurnLaws.{of_each, behind_rises, from_sort, length-sort, numbers_differ, order_rises}
+use Rattle.bus_table.proofs.TurnLaws.{of_each, from_sort, length-sort}
+use Rattle.bus_table.proofs.PartLaws.{none_late, ti_range}
 use Rattle.bus_regime.specs.Gaps.{Gap, gaps, gaps_from, last_end, latest_end, has_width}
 use Rattle.bus_regime.specs.inside.Fine.{IsFine}
 use Rattle.bus_regime.specs.Verdicts.{verdict_of, is_accepted, is_small}
 use Rattle.bus_regime.proofs.VerdictLaws.{accepted_gaps, gaps_accepted}
-use Rattle.bus_regime.proofs.GapLaws.{gap_sender, same_by_number}
+use Rattle.bus_regime.proofs.Counting.{HaveOwnSenders, one_if, own_gaps}
 use Rattle.bus_advice.specs.Changes.{with_interval}
 use Rattle.bus_advice.specs.Advices.{works, greater_interval}
 use Rattle.bus_advice.specs.inside.InnerGaps.{inner_gaps, has_room, width_for, needed_width}
-use Rattle.bus_advice.proofs.Parts.{parts_of, valid_of, none_late, ti_range}
 use Rattle.bus_advice.proofs.Searches.{above_some, above_none}
 use Rattle.bus_advice.proofs.CycleChange.{is_working, working_valid, working_accepted}
-use Rattle.bus_advice.proofs.GapCounts.{HaveOwnSenders, one_if}
 use Rattle.bus_advice.proofs.FirstGap.{fine_small, fine_width, width_fine}
+use Rattle.bus_advice.proofs.IntervalLaws.{at_interval}
 
 -- ---- a greater interval keeps a table valid
 not_late : (mode : Mode) (table : Table) (n : ℕ) → mode ≡ Periodic → ((s : Sender) → In s table.senders → s.at < n)
@@ -38,42 +38,11 @@ not_late mode table n e low = ap (λ m. periodic_refusal m n table.senders) e �
 pub longer_valid : (table : Table) (n : ℕ) → IsTrue (is_valid table) → table.mode ≡ Periodic → table.ti ≤ n → n ≤ 128000
     → IsTrue (is_valid (with_interval n table))
 longer_valid table n valid periodic low high =
-    let p = parts_of table valid in
     let facts = valid_facts table valid in
     let least = facts.ti_least in
-    valid_of (with_interval n table) (record {
-      ti = ti_range n (omega arith) high;
-      sg = p.sg;
-      senders = p.senders;
-      listeners = p.listeners;
-      fits = p.fits;
-      some = p.some;
-      once = p.once;
-      gaps = p.gaps;
-      short = p.short;
-      pairs = p.pairs;
-      late = not_late table.mode table n periodic (λ s i.
-          let at : s.at < table.ti = subst (λ m. FitsMode m table.ti s.at) periodic (of_each (SenderFacts table) table.senders facts.senders s i).mode in
-          omega arith);
-    })
-
--- ---- no two gaps are of senders with the same number
-own_senders : (key : Sender → ℕ) (ti from : ℕ) (order : List Sender) → Rises key order
-    → ((a b : Sender) → In a order → In b order → a.number ≡ b.number → a ≡ b) → HaveOwnSenders (gaps_from ti from order)
-own_senders key ti from [] r told = tt
-own_senders key ti from (s ∷ order) r told = (
-  (λ g i same.
-      let there : In g.sender order = gap_sender ti (ti + latest_end s) order g i in
-      let more : key s < key g.sender = behind_rises key s order g.sender r.0 there in
-      let e : key g.sender ≡ key s = ap key (told g.sender s (inr there) (inl refl) same) in
-      absurd (omega arith)),
-  own_senders key ti (ti + latest_end s) order r.1 (λ a b i j. told a b (inr i) (inr j)),
-)
-
-own_gaps : (table : Table) (ti : ℕ) → TableFacts table → HaveOwnSenders (gaps (with_interval ti table))
-own_gaps table ti facts =
-    own_senders (turn_key table.mode) ti (last_end 0 (turn_order table)) (turn_order table) (order_rises table facts)
-    (λ a b i j. same_by_number table.senders (numbers_differ table facts) a b (from_sort (turn_key table.mode) table.senders a i) (from_sort (turn_key table.mode) table.senders b j))
+    at_interval table n valid (ti_range n (omega arith) high) (not_late table.mode table n periodic (λ s i.
+    let at : s.at < table.ti = subst (λ m. FitsMode m table.ti s.at) periodic (of_each (SenderFacts table) table.senders facts.senders s i).mode in
+    omega arith))
 
 -- ---- gaps in another interval
 abbrev shift : ℕ → Gap → Gap

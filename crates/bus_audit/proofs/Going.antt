@@ -32,8 +32,8 @@ use Rattle.bus_audit.specs.Breaches.{held, flaw, kind_at, IsFirstBreach}
 use Rattle.bus_audit.specs.inside.Watches.{ready, pair, settled, begun, passed, IsLow, AreLow, NoneBefore, Misses}
 use Rattle.bus_audit.specs.inside.Standing.{NotBefore, NoEntries, Keeps, Tells, At, Told, Stands, Group, Near, Arrived, AreFar, Judged, Closed, Behind, JudgedTo}
 use Rattle.bus_strings.proofs.MemberLaws.{at_in, in_at}
+use Rattle.bus_strings.proofs.ListLaws.{some_at}
 use Rattle.bus_medium.proofs.PastLaws.{same_bools}
-use Rattle.bus_audit.proofs.Lists.{get_within}
 use Rattle.bus_medium.proofs.Seats.{get_set_same, get_set_other, same_some}
 use Rattle.bus_medium.proofs.AscendingLaws.{behind_in}
 use Rattle.bus_medium.specs.BusyLaws.{IsBusy}
@@ -364,7 +364,7 @@ judged_none table trace clock watches valid a b are =
       far = record {
         low = λ j w h.
             let within : j < length table.senders = let k : j < length watches = slice_get_within watches j w h in omega (arith, ap length are, length-map table.senders (settled table trace.holds)) in
-            let s = get_within table.senders j within in
+            let s = some_at table.senders j within in
             subst IsLow (sym (settled_at j s.0 w (record { sender = s.1; watch = h })))
             (settled_low table trace s.0 (timings_are_sound table s.0 valid (at_in table.senders j s.0 s.1)) ((seated table valid).few j s.0 s.1));
         moment = omega arith;

@@ -4,6 +4,7 @@ use Rattle.std.specs.Prelude.{slice_get}
 use Rattle.std.proofs.lemmas.Bool.{cases_lt, cases_eq, lt-ltb, le-ltb, le-leb, lt-leb, leb-true, eqb-true}
 use Rattle.std.proofs.lemmas.List.{length-map, map-set}
 use Rattle.std.proofs.lemmas.Option.{slice_get_within}
+use Rattle.bus_strings.proofs.ListLaws.{some_at}
 use Rattle.bus_medium.specs.Jumps.{Each}
 use Rattle.bus_medium.proofs.Seats.{get_set_same, get_set_other, same_some, map_at}
 use Rattle.bus_audit.specs.declared.watch.Watch.{Watch}
@@ -11,7 +12,6 @@ use Rattle.bus_audit.specs.declared.keep.Keep.{Keep}
 use Rattle.bus_audit.specs.declared.keep.Heard.{Heard}
 use Rattle.bus_audit.specs.inside.Watches.{ready, pair, begun, passed, IsLow, AreLow, NoneBefore}
 use Rattle.bus_audit.specs.inside.Keeping.{soon_of, gap_of, watch_of, watches_of, gap_behind, told_busy, NotSooner, IsKept, AreKept, AreEarly, AreStill}
-use Rattle.bus_audit.proofs.Lists.{get_within}
 use Rattle.bus_audit.proofs.Watching.{same_lists}
 
 pub watch_at : (h : Heard) (ks : List Keep) (j : ℕ) (k : Keep) → slice_get ks j ≡ Some k → slice_get (watches_of h ks) j ≡ Some (watch_of h k)
@@ -26,7 +26,7 @@ pub keep_at : (h : Heard) (ks : List Keep) (j : ℕ) (w : Watch) → slice_get (
 keep_at h ks j w at =
     let long : length (watches_of h ks) ≡ length ks = length-map ks (watch_of h) in
     let within : j < length (watches_of h ks) = slice_get_within (watches_of h ks) j w at in
-    let k = get_within ks j (omega arith) in
+    let k = some_at ks j (omega arith) in
     record { keep = k.0; at = k.1; is = same_some (watch_of h k.0) w (sym (watch_at h ks j k.0 k.1) ∙ at) }
 
 pub low_keep : (h : Heard) (ks : List Keep) (j : ℕ) (k : Keep) → AreLow (watches_of h ks) → slice_get ks j ≡ Some k → IsLow (watch_of h k)
@@ -78,7 +78,7 @@ all_same h ks vs t = same_lists (watches_of h vs) (watches_of h ks) (length-map 
     let v = keep_at h vs j w at in
     let within : j < length vs = slice_get_within vs j v.keep v.at in
     let long : length vs ≡ length ks = t.same_length in
-    let k = get_within ks j (omega arith) in
+    let k = some_at ks j (omega arith) in
     watch_at h ks j k.0 k.1 ∙ ap (λ x. Some x) (sym (told_same h k.0 v.keep (t.each j k.0 v.keep k.1 v.at)) ∙ v.is))
 
 told_early : (h : Heard) (k v : Keep) → Told h k v → 0 < v.watch.left → v.soon ≤ 256 * ready (watch_of h v) + v.watch.number
@@ -93,7 +93,7 @@ pub all_early : (h : Heard) (ks vs : List Keep) → Each (Told h) ks vs → AreE
 all_early h ks vs t j v at left =
     let within : j < length vs = slice_get_within vs j v at in
     let long : length vs ≡ length ks = t.same_length in
-    let k = get_within ks j (omega arith) in
+    let k = some_at ks j (omega arith) in
     told_early h k.0 v (t.each j k.0 v k.1 at) left
 
 pub all_kept : (h : Heard) (ks vs : List Keep) → Each (Told h) ks vs → (place till : ℕ) → AreKept h place till ks → AreKept h place till vs
@@ -103,7 +103,7 @@ all_kept h ks vs t place till kept = record {
   each = λ j v at.
       let within : j < length vs = slice_get_within vs j v at in
       let long : length vs ≡ length ks = t.same_length in
-      let k = get_within ks j (omega arith) in
+      let k = some_at ks j (omega arith) in
       let e = t.each j k.0 v k.1 at in
       let o = kept.each j k.0 k.1 in
       let made : IsKept h place till (record k.0 { soon = soon_of (watch_of h k.0) }) = record {
@@ -228,7 +228,7 @@ goes_watches h from to ks vs g =
     let v = keep_at now vs j w at in
     let within : j < length vs = slice_get_within vs j v.keep v.at in
     let long : length vs ≡ length ks = g.same_length in
-    let k = get_within ks j (omega arith) in
+    let k = some_at ks j (omega arith) in
     map_at (passed from to) (watches_of h ks) j (watch_of h k.0) (watch_at h ks j k.0 k.1) ∙ ap (λ x. Some x) (sym (g.each j k.0 v.keep k.1 v.at).watch ∙ v.is))
 
 pub goes_still : (h : Heard) (from to : ℕ) (ks vs : List Keep) → from < to → Each (Goes h from to) ks vs → AreStill (record { from = from; ended = to; sg = h.sg }) to vs
@@ -236,7 +236,7 @@ goes_still h from to ks vs order g =
     let long : length vs ≡ length ks = g.same_length in
     let old : (j : ℕ) (v : Keep) → slice_get vs j ≡ Some v → (k : Keep) × Goes h from to k v = λ j v at.
     let within : j < length vs = slice_get_within vs j v at in
-    let k = get_within ks j (omega arith) in (k.0, g.each j k.0 v k.1 at) in
+    let k = some_at ks j (omega arith) in (k.0, g.each j k.0 v k.1 at) in
     record {
       kept = λ till. record { from = order; ended = (let r : to ≤ to = omega arith in r); each = λ j v at. (old j v at).1.kept till };
       last = λ j v at. (old j v at).1.last;
@@ -248,7 +248,7 @@ goes_sooner h from to ks vs g first sooner j w at left =
     let v = keep_at now vs j w at in
     let within : j < length vs = slice_get_within vs j v.keep v.at in
     let long : length vs ≡ length ks = g.same_length in
-    let k = get_within ks j (omega arith) in
+    let k = some_at ks j (omega arith) in
     let go = g.each j k.0 v.keep k.1 v.at in
     let left_v : 0 < v.keep.watch.left = subst (λ (x : Watch). 0 < x.left) (sym v.is) left in
     let left_k : 0 < k.0.watch.left = subst (λ (x : Watch). 0 < x.left) go.same left_v in
@@ -328,7 +328,7 @@ pub all_put : (h : Heard) (from : ℕ) (ks vs : List Keep) → Each (Put h from)
 all_put h from ks vs t = same_lists vs (map (told_busy h from) ks) (t.same_length ∙ sym (length-map ks (told_busy h from))) (λ j v at.
     let within : j < length vs = slice_get_within vs j v at in
     let long : length vs ≡ length ks = t.same_length in
-    let k = get_within ks j (omega arith) in
+    let k = some_at ks j (omega arith) in
     map_at (told_busy h from) ks j k.0 k.1 ∙ ap (λ x. Some x) (sym (t.each j k.0 v k.1 at)))
 
 pub behind_tells : (q c m n first : ℕ) (ws : List Watch) → AreLow ws → n < 256 → leb (256 * (q + m) + n) first ≡ true → NotSooner first ws → NoneBefore q c ws (pair m n)

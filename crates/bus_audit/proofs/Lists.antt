@@ -1,15 +1,9 @@
 -- Elements of lists, by place and by test.
-use Rattle.std.proofs.Common.{◌≡◌, ◌≢◌, ℕ, zero, suc, ◌<◌, ◌⊎◌, Bool, true, false, cond, List, [], ◌∷◌, length, set, Option, Some, None, inl, inr, arith, sym, refl, ap, ◌∙◌}
-use Rattle.std.specs.Prelude.{slice_get}
+use Rattle.std.proofs.Common.{◌≡◌, ◌≢◌, ◌⊎◌, Bool, true, false, cond, List, [], ◌∷◌, Option, Some, None, inl, inr, sym, refl, ap, ◌∙◌}
 use Rattle.std.specs.List.{filter, find}
 use Rattle.std.proofs.lemmas.Bool.{true≢false}
 use Rattle.bus_strings.specs.Members.{In}
 use Rattle.bus_medium.proofs.Seats.{same_some}
-
-pub get_within : {X : Type 0} → (xs : List X) (j : ℕ) → j < length xs → (x : X) × (slice_get xs j ≡ Some x)
-get_within [] j h = absurd (omega arith)
-get_within (x ∷ xs) zero h = (x, refl)
-get_within (x ∷ xs) (suc j) h = get_within xs j (omega arith)
 
 pub filter_none : {X : Type 0} (p : X → Bool) → (xs : List X) → ((x : X) → In x xs → p x ≡ false) → filter p xs ≡ []
 filter_none p [] h = refl

@@ -1,12 +1,9 @@
 -- What the senders of a valid table do with hands that fit has no breach.
-use Rattle.std.proofs.Common.{◌≡◌, ℕ, ◌<◌, true, List, [], ◌∷◌, length, Some, None, inl, inr, arith, sym, ap, ◌∙◌, subst}
+use Rattle.std.proofs.Common.{◌≡◌, ℕ, ◌<◌, true, List, length, Some, None, inl, inr, arith, sym, ap, ◌∙◌, subst}
 use Rattle.std.specs.Prelude.{slice_get}
-use Rattle.std.specs.List.{list_all}
-use Rattle.std.proofs.lemmas.Bool.{and_parts}
 use Rattle.bus_timers.specs.MayStart.{MayStart}
 use Rattle.bus_timers.specs.MayStartTest.{TestDecides}
-use Rattle.bus_strings.specs.Members.{In}
-use Rattle.bus_strings.proofs.MemberLaws.{at_in}
+use Rattle.bus_strings.proofs.MemberLaws.{at_in, pass_in}
 use Rattle.bus_strings.specs.Messages.{Entry, Message}
 use Rattle.bus_table.specs.Tables.{Sender, Table, Hand}
 use Rattle.bus_table.specs.Fits.{fits, sender_of}
@@ -53,14 +50,9 @@ due_to table hands trace s r t d states is due =
     )
 
 -- each message of a hand that fits does
-message_fits : (s : Sender) (ms : List Message) (m : Message) → list_all (fits s) ms ≡ true → In m ms → fits s m ≡ true
-message_fits s [] m h i = absurd i
-message_fits s (n ∷ ms) m h (inl same) = ap (fits s) same ∙ (and_parts (fits s n) _ h).0
-message_fits s (n ∷ ms) m h (inr i) = message_fits s ms m (and_parts (fits s n) _ h).1 i
-
 next_fits : (table : Table) (hands : List Hand) (s : Sender) (r : Station) (k : ℕ) (m : Message) → IsStationOf table hands s r → slice_get r.hand k ≡ Some m → fits s m ≡ true
 next_fits table hands s r k m is at =
-    message_fits s is.hand.messages m is.fit (at_in is.hand.messages k m (subst (λ ms. slice_get ms k ≡ Some m) is.messages at))
+    pass_in (fits s) is.hand.messages m is.fit (at_in is.hand.messages k m (subst (λ ms. slice_get ms k ≡ Some m) is.messages at))
 
 pub observed_is_clean : TestDecides → ObservedIsClean
 observed_is_clean d table hands trace valid dealt t states lawful u n before =

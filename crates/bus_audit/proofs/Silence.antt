@@ -11,13 +11,15 @@ use Rattle.bus_table.specs.inside.Orders.{Differ}
 use Rattle.bus_trace.specs.Traces.{Recording}
 use Rattle.bus_medium.specs.Lawful.{IsBefore}
 use Rattle.bus_medium.specs.Timings.{quiet_of}
+use Rattle.bus_medium.proofs.Ruled.{before_within}
 use Rattle.bus_audit.specs.declared.answer.BreachKind.TheVariants.{Missing}
 use Rattle.bus_audit.specs.declared.watch.Watch.{Watch}
 use Rattle.bus_audit.specs.Breaches.{kind_at, IsCleanTo, IsFirstBreach}
 use Rattle.bus_audit.specs.inside.Watches.{ready, ready_moment, pair, turn, NoneBefore, Misses}
 use Rattle.bus_audit.specs.inside.Standing.{NotBefore, NoEntries, At, Told, Tells}
 use Rattle.bus_strings.proofs.MemberLaws.{in_at, at_in}
-use Rattle.bus_audit.proofs.Lists.{get_within, find_one}
+use Rattle.bus_strings.proofs.ListLaws.{some_at}
+use Rattle.bus_audit.proofs.Lists.{find_one}
 use Rattle.bus_audit.proofs.Pairs.{IsSilent, SenderAt, from_sender_of, silent_clean, silent_missing}
 
 pub cases_before : (u k t n : ℕ) → IsBefore u k t n ⊎ NotBefore u k t n
@@ -82,7 +84,7 @@ pub watched : (table : Table) (watches : List Watch) (s : Sender) → length wat
 watched table watches s len i =
     let p = in_at table.senders s i in
     let within : p.0 < length table.senders = slice_get_within table.senders p.0 s p.1 in
-    let w = get_within watches p.0 (omega arith) in
+    let w = some_at watches p.0 (omega arith) in
     record { place = p.0; watch = w.0; at = record { sender = p.1; watch = w.1 } }
 
 -- where no sender is missed before a pair, all is clean up to it
@@ -120,10 +122,6 @@ told_less table trace watches c a n top t low told = record {
   later = told.later;
 }
 
-before_moment : (u k t n : ℕ) → IsBefore u k t n → u ≤ t
-before_moment u k t n (inl less) = omega arith
-before_moment u k t n (inr same) = let e : u ≡ t = same.0 in omega arith
-
 -- the first sender that is missed before a pair is the first breach
 pub silence_breach : (table : Table) (trace : Recording) (watches : List Watch) (c a n top t m : ℕ) → (v r : ℕ) → TestDecides → Seated table → Told table trace watches c a n top
     → ((u k : ℕ) → IsBefore u k t m → (u ≤ top) × (u < trace.horizon)) → NoEntries trace.list a n t m → m ≤ 256 → r < 256 → Misses (quiet_of table) c watches (pair v r) → NoneBefore (quiet_of table) c watches (pair v r) → pair v r < pair t m
@@ -132,7 +130,7 @@ silence_breach table trace watches c a n top t m v r d seated told upto none sma
     let q = quiet_of table in
     let w = miss.watch in
     let within : miss.place < length table.senders = subst (λ l. miss.place < l) told.same_length (slice_get_within watches miss.place w miss.at) in
-    let g = get_within table.senders miss.place within in
+    let g = some_at table.senders miss.place within in
     let s : Sender = g.0 in
     let at : At table watches miss.place s w = record { sender = g.1; watch = miss.at } in
     let few : s.number ≤ 128 = seated.few miss.place s g.1 in
@@ -154,5 +152,5 @@ silence_breach table trace watches c a n top t m v r d seated told upto none sma
       below = (upto v r before).1;
       here = subst (λ k. kind_at table trace v k ≡ Some Missing) number
           (silent_missing table trace v s.number s d silent (sender_is_of table.senders s seated.apart (at_in table.senders miss.place s g.1)) (tell.ready_may (omega arith)) (omega (arith, tell.left)));
-      first = silence_clean table trace watches c a n v v r d seated (told_less table trace watches c a n top v high told) (λ u k b. before_moment u k v r b) (λ x i y z. none x i y (before_trans x.moment x.terminal v r t m z before)) missed;
+      first = silence_clean table trace watches c a n v v r d seated (told_less table trace watches c a n top v high told) (λ u k b. before_within u k v r b) (λ x i y z. none x i y (before_trans x.moment x.terminal v r t m z before)) missed;
     }

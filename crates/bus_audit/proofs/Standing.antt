@@ -19,7 +19,7 @@ use Rattle.bus_audit.specs.Breaches.{kind_at, IsCleanTo}
 use Rattle.bus_audit.specs.inside.Watches.{ready, ready_moment, pair, turn, begun, passed, NoneBefore}
 use Rattle.bus_audit.specs.inside.Standing.{NotBefore, NoEntries, Keeps, Tells, At, Told, Stands, Near, Arrived}
 use Rattle.bus_strings.proofs.MemberLaws.{at_in}
-use Rattle.bus_audit.proofs.Lists.{get_within}
+use Rattle.bus_strings.proofs.ListLaws.{some_at}
 use Rattle.bus_medium.proofs.Seats.{get_set_same, get_set_other, same_some}
 use Rattle.bus_medium.specs.PastLaws.{NoneOf}
 use Rattle.bus_medium.proofs.PastLaws.{own_later, no_carrier, one_at}
@@ -148,7 +148,7 @@ calm_onward table trace watches t top ov old now less none =
 pub passed_at : (table : Table) (watches : List Watch) (a b : ℕ) (j : ℕ) (s : Sender) (w : Watch) → At table (map (passed a b) watches) j s w → (v : Watch) × At table watches j s v × (w ≡ passed a b v)
 passed_at table watches a b j s w at =
     let within : j < length watches = let h : j < length (map (passed a b) watches) = slice_get_within (map (passed a b) watches) j w at.watch in omega (arith, length-map watches (passed a b)) in
-    let v = get_within watches j within in
+    let v = some_at watches j within in
     (v.0, record { sender = at.sender; watch = v.1 }, same_some w (passed a b v.0) (sym at.watch ∙ slice_get-map (passed a b) watches j ∙ ap (option_map (passed a b)) v.1))
 
 -- where some do, the bus is busy up to the end of the last of them

@@ -3,6 +3,7 @@ use Rattle.std.proofs.Common.{◌≡◌, ℕ, ◌+◌, ◌*◌, ◌<◌, ◌≤�
 use Rattle.std.specs.Prelude.{IsTrue}
 use Rattle.std.proofs.lemmas.List.{length-map}
 use Rattle.std.proofs.lemmas.Option.{slice_get_within}
+use Rattle.bus_strings.proofs.ListLaws.{some_at}
 use Rattle.bus_table.specs.Tables.{Sender, Table}
 use Rattle.bus_table.specs.Valid.{is_valid}
 use Rattle.bus_table.proofs.ValidLaws.{valid_facts}
@@ -14,7 +15,6 @@ use Rattle.bus_audit.specs.declared.keep.Heard.{Heard}
 use Rattle.bus_audit.specs.inside.Watches.{ready, settled}
 use Rattle.bus_audit.specs.inside.Keeping.{soon_of, keep_of, watch_of, watches_of, IsKept, AreKept}
 use Rattle.bus_audit.specs.inside.Standing.{JudgedTo}
-use Rattle.bus_audit.proofs.Lists.{get_within}
 use Rattle.bus_audit.proofs.Keeping.{soon_left}
 
 -- where a walk begins
@@ -52,7 +52,7 @@ settled_kept table holds place some = record {
   each = λ j k at.
       let long : length (map keep_of (map (settled table holds) table.senders)) ≡ length table.senders = length-map (map (settled table holds) table.senders) keep_of ∙ length-map table.senders (settled table holds) in
       let within : j < length (map keep_of (map (settled table holds) table.senders)) = slice_get_within (map keep_of (map (settled table holds) table.senders)) j k at in
-      let s = get_within table.senders j (omega arith) in
+      let s = some_at table.senders j (omega arith) in
       let e : keep_of (settled table holds s.0) ≡ k = same_some (keep_of (settled table holds s.0)) k
       (sym (map_at keep_of (map (settled table holds) table.senders) j (settled table holds s.0) (map_at (settled table holds) table.senders j s.0 s.1)) ∙ at) in
       subst (IsKept (record { from = 0; ended = 0; sg = table.sg }) place place) e (settled_is_kept table holds place s.0);

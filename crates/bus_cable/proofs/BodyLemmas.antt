@@ -15,10 +15,11 @@ use Rattle.bus_text.specs.Refusals.{Refusal, first_of, unless, at_line}
 use Rattle.bus_text.specs.declared.cursor.Line.{Line}
 use Rattle.bus_text.specs.declared.reason.Reason.{Reason}
 use Rattle.bus_text.specs.declared.reason.Reason.TheVariants.{Ended, Keyword, Fields}
+use Rattle.bus_text.proofs.FieldLemmas.{same_bytes}
 use Rattle.bus_strings.specs.Items.{Item}
 use Rattle.bus_strings.specs.Reading.{item_line}
 use Rattle.bus_strings.specs.Grammar.{AreItemLines}
-use Rattle.bus_strings.proofs.GrammarLemmas.{word_is, line_ok, items_found, items_again}
+use Rattle.bus_strings.proofs.GrammarLemmas.{line_ok, items_found, items_again}
 use Rattle.bus_cable.specs.declared.cable.Named.{Named}
 use Rattle.bus_cable.specs.declared.error.CableError.{CableError}
 use Rattle.bus_cable.specs.declared.error.CableError.TheVariants.{Text, Memory}
@@ -118,7 +119,7 @@ word_first word (a ∷ b ∷ c ∷ []) named p n q e =
     record {
       number = b;
       bits = c;
-      parts = ap (λ f. f ∷ b ∷ c ∷ []) (word_is a word p);
+      parts = ap (λ f. f ∷ b ∷ c ∷ []) (same_bytes a word p);
       terminal = record { plain = k.0; value = ap (λ (n : Named). n.terminal) e };
       value = record { plain = k.1; value = ap (λ (n : Named). n.bits) e };
     }
@@ -162,7 +163,7 @@ header_ok false b u h = absurd cc
 header_fields_are : (fields : List (List ℕ)) → is_at fields 0 (codes "CABLE") ≡ true → length fields ≡ 2 → is_at fields 1 (codes "1") ≡ true → fields ≡ codes "CABLE" ∷ codes "1" ∷ []
 header_fields_are [] p n q = absurd cc
 header_fields_are (keyword ∷ []) p n q = absurd cc
-header_fields_are (keyword ∷ one ∷ []) p n q = ap (λ f. f ∷ one ∷ []) (word_is keyword (codes "CABLE") p) ∙ ap (λ f. codes "CABLE" ∷ f ∷ []) (word_is one (codes "1") q)
+header_fields_are (keyword ∷ one ∷ []) p n q = ap (λ f. f ∷ one ∷ []) (same_bytes keyword (codes "CABLE") p) ∙ ap (λ f. codes "CABLE" ∷ f ∷ []) (same_bytes one (codes "1") q)
 header_fields_are (keyword ∷ one ∷ more ∷ others) p n q = absurd (omega arith)
 
 header_found : (fields : List (List ℕ)) (u : Unit {0}) → header_reading fields ≡ Ok u → fields ≡ codes "CABLE" ∷ codes "1" ∷ []

@@ -2,7 +2,7 @@
 use Rattle.std.proofs.Common.{arith, ◌≡◌, ◌≢◌, ℕ, ◌-◌, ◌+◌, ◌<◌, ◌≤◌, ◌^◌, min, Bool, true, false, not, cond, ◌&&◌, ◌==◌, List, [], ◌∷◌, length, Option, Some, None, Result, Ok, Err, refl, sym, ap, ◌∙◌, lit<, inl, inr, ◌⊎◌}
 use Rattle.std.specs.Prelude.{nat_le}
 use Rattle.std.specs.Int.{is_in_range as is_between}
-use Rattle.std.proofs.lemmas.Bool.{eq-eqb, ne_eqb, and_parts, cases_lt}
+use Rattle.std.proofs.lemmas.Bool.{eq-eqb, ne_eqb, and_parts, cases_lt, and_right}
 use Rattle.std.proofs.lemmas.Bool.Decides.{nat_tests}
 use Rattle.bus_text.specs.Numbers.{is_plain_decimal, decimal_value}
 use Rattle.bus_text.specs.Refusals.{first_of, unless}
@@ -48,10 +48,6 @@ some_read f n h = by_test (is_plain_decimal f) (min (decimal_value f) (2 ^ 64 - 
   by_test true m h = (refl, cc)
   by_test false m h = absurd cc
 
-and_no : (a b : Bool) → b ≡ false → (a && b) ≡ false
-and_no true b h = h
-and_no false b h = refl
-
 pub first_misspelled : (most last : ℕ) (fields : List (List ℕ)) (number bits : List ℕ) → HasThree fields number bits → is_plain_decimal number ≡ false
     → named_reading most last fields ≡ Err Spelling
 first_misspelled most last fields number bits h e =
@@ -60,7 +56,7 @@ first_misspelled most last fields number bits h e =
 pub second_misspelled : (most last : ℕ) (fields : List (List ℕ)) (number bits : List ℕ) → HasThree fields number bits → is_plain_decimal bits ≡ false
     → named_reading most last fields ≡ Err Spelling
 second_misspelled most last fields number bits h e =
-    reads most last fields true false _ (three fields h.count) (and_no (is_plain_decimal (number_field fields)) _ (ap is_plain_decimal (sym h.bits_are) ∙ e)) refl
+    reads most last fields true false _ (three fields h.count) (and_right (is_plain_decimal (number_field fields)) _ (ap is_plain_decimal (sym h.bits_are) ∙ e)) refl
 
 le_min : (v most : ℕ) → most ≤ most_wake → nat_le (min v (2 ^ 64 - 1)) most ≡ nat_le v most
 le_min v most h = by_order (cases_lt (2 ^ 64 - 1) v) where

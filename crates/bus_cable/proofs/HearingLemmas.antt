@@ -10,7 +10,7 @@ use Rattle.bus_strings.specs.Members.{In}
 use Rattle.bus_strings.specs.Messages.{Entry, bits}
 use Rattle.bus_strings.specs.Marking.{greatest_end}
 use Rattle.bus_strings.specs.Transmissions.{end_of, overlaps, garbled, marks, Precedes, IsOrdered, IsByMoment, IsAscending, IsTransmission}
-use Rattle.bus_strings.proofs.ListLaws.{first_left, flat_map-passing, flat_map-map}
+use Rattle.bus_strings.proofs.ListLaws.{first_left, flat_map-passing, flat_map-map, some_at}
 use Rattle.bus_strings.proofs.MemberLaws.{of_each, all_in, at_in, in_at}
 use Rattle.bus_strings.proofs.MessageLaws.{bits_some}
 use Rattle.bus_strings.proofs.OverlapLemmas.{garbled_next, earlier_told, marks_more}
@@ -167,11 +167,6 @@ words_of [] h = tt
 words_of (x ∷ xs) h = (h.0.message.some, words_of xs h.1)
 
 -- ---- what is heard next
-some_at : {X : Type 0} (xs : List X) (k : ℕ) → k < length xs → (x : X) × (slice_get xs k ≡ Some x)
-some_at [] k h = absurd (omega arith)
-some_at (x ∷ xs) zero h = (x, refl)
-some_at (x ∷ xs) (suc k) h = some_at xs k (omega arith)
-
 rank_is : (list : List Entry) (k : ℕ) (x : Entry) → slice_get list k ≡ Some x → rank_in list k ≡ rank x
 rank_is list k x e = ap (λ o. option_map_or rank o 0) e
 

@@ -3,7 +3,7 @@ use Rattle.std.proofs.Common.{arith, ◌≡◌, ◌≢◌, inl, inr, ℕ, zero, 
 use Rattle.std.specs.Prelude.{nat_le}
 use Rattle.std.specs.List.{find}
 use Rattle.std.specs.Option.{option_map_or}
-use Rattle.std.proofs.lemmas.Bool.{and_parts, eq-eqb, ne_eqb, cases_eq}
+use Rattle.std.proofs.lemmas.Bool.{and_parts, eq-eqb, ne_eqb, cases_eq, leb-true}
 use Rattle.std.proofs.lemmas.List.{get_or-set_same, get_or-set_other}
 use Rattle.std.specs.Int.{is_in_range as is_between}
 use Rattle.std.proofs.lemmas.Bool.Decides.{nat_tests}
@@ -27,9 +27,6 @@ pub named_wrong : (most last i : ℕ) (xs : List Named) (d x : Named) → x ≡ 
     → may_name_all most last (drop i xs) ≡ false
 named_wrong most last i xs d x is within e = left_by most last i xs d x false is within e
 
-small : (n most : ℕ) → nat_le n most ≡ true → n ≤ most
-small n most h = grind (arith, nat_tests)
-
 -- what is named is no more than may be
 pub bits_small : (most last terminal : ℕ) (xs : List Named) → may_name_all most last xs ≡ true → bits_for xs terminal ≤ most
 bits_small most last terminal [] h = omega arith
@@ -37,7 +34,7 @@ bits_small most last terminal (x ∷ xs) h =
     let p = and_parts (may_name most last x) _ h in
     by_test (x.terminal == terminal) (bits_small most x.terminal terminal xs p.1) where
       by_test : (t : Bool) → bits_for xs terminal ≤ most → option_map_or (λ (one : Named). one.bits) (cond t (Some x) (find (λ (one : Named). one.terminal == terminal) xs)) 0 ≤ most
-      by_test true rest = small x.bits most (and_parts _ (nat_le x.bits most) (and_parts (may_name most last x) _ h).0).1
+      by_test true rest = leb-true x.bits most (and_parts _ (nat_le x.bits most) (and_parts (may_name most last x) _ h).0).1
       by_test false rest = rest
 
 -- ---- by number

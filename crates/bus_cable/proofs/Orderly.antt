@@ -2,13 +2,11 @@
 use Rattle.std.proofs.Common.{arith, ◌≡◌, inl, inr, ℕ, ◌≤◌, min, Bool, false, List, refl, subst}
 use Rattle.std.specs.Prelude.{IsTrue}
 use Rattle.std.specs.List.{AllByRecursion}
-use Rattle.std.proofs.lemmas.Bool.{and_parts}
 use Rattle.bus_strings.specs.Marking.{greatest_end}
 use Rattle.bus_strings.specs.Members.{In}
 use Rattle.bus_strings.proofs.MemberLaws.{from_map}
 use Rattle.bus_strings.specs.Messages.{Entry}
 use Rattle.bus_strings.specs.Transmissions.{IsClear}
-use Rattle.bus_table.specs.Hands.{are_hands}
 use Rattle.bus_table.specs.Tables.{Sender, Table, Hand}
 use Rattle.bus_table.specs.Valid.{is_valid}
 use Rattle.bus_medium.specs.CableLawful.{IsDueOnCable, IsLawfulOnCable}
@@ -21,6 +19,7 @@ use Rattle.bus_schedule.specs.CableRuns.{IsRunOnCable}
 use Rattle.bus_schedule.specs.Closed.{closed, closed_end}
 use Rattle.bus_schedule.specs.Even.{are_even}
 use Rattle.bus_schedule.specs.Runs.{IsInTurns}
+use Rattle.bus_schedule.proofs.RunLemmas.{dealt}
 use Rattle.bus_reach.specs.Bearing.{bears}
 use Rattle.bus_reach.specs.Laws.{BorneIsClosed}
 use Rattle.bus_reach.specs.PeriodicLaws.{BorneForLess, PeriodicBorneIsClosed}
@@ -59,9 +58,6 @@ near_both most other table place near short a b i j =
     let x : distance (place a.number) (place b) ≤ most = near a b i j in
     let y : distance (place a.number) (place b) ≤ other = short a b i j in
     omega (arith, x, y)
-
-dealt : (table : Table) (hands : List Hand) → IsTrue (are_even table hands) → IsTrue (are_hands table.senders hands)
-dealt table hands even = (and_parts (are_hands table.senders hands) _ even).0
 
 -- no mark of a terminal, where with delays that agree it hears no two overlap
 unmarked : (table : Table) (delay other : Delays) (list : List Entry) (number : ℕ) → ClearIsUngarbled → Agree table delay other → AreOf table list

@@ -1,27 +1,20 @@
 -- What bytes read as that were taken of a trace text which is refused.
-use Rattle.std.specs.Prelude.{◌≡◌, ℕ, ◌≤◌, List, [], ◌∷◌, ◌++◌, length, Option, Err}
+use Rattle.std.specs.Prelude.{◌≡◌, ℕ, ◌≤◌, List, [], ◌++◌, length, Option, Err}
 use Rattle.std.proofs.Common.{arith, sym, ap, ◌∙◌}
 use Rattle.bus_trace.specs.declared.fault.TraceError.TheVariants.{Text}
 use Rattle.bus_trace.specs.declared.reason.TraceReason.{TraceReason}
-use Rattle.bus_trace.specs.declared.reason.TraceReason.TheVariants.{Long, Ended}
+use Rattle.bus_trace.specs.declared.reason.TraceReason.TheVariants.{Ended}
 use Rattle.bus_trace.specs.Limits.{text_limit}
-use Rattle.bus_trace.specs.Reading.{Gave, Offends, Complete, Overlong, Refuses, ByLine, CutOff}
-use Rattle.bus_trace.specs.Runs.{Going, Refused, begin, run, judged, ended_by, reading, ◌>>-◌}
+use Rattle.bus_trace.specs.Reading.{Gave, Refuses, ByLine, CutOff}
+use Rattle.bus_trace.specs.Runs.{Going, Refused, begin, run, ended_by, reading, ◌>>-◌}
 use Rattle.bus_trace.specs.States.{State}
 use Rattle.bus_trace.proofs.Feeds.{due_within}
-use Rattle.bus_trace.proofs.Runs.{run-append, run-line, run-long, run-whole_line}
+use Rattle.bus_trace.proofs.Runs.{run-append, run-line}
+use Rattle.bus_trace.proofs.PieceLaws.{offends_refused}
 
 -- behind whole lines
 after : (before : State) (lines more : List ℕ) → Gave lines before → run begin (lines ++ more) ≡ run (record { state = before; line = [] }) more
 after before lines more g = run-append begin lines more ∙ ap (λ o. o >>- λ n. run n more) g.run
-
-offends_refused : (taken : List ℕ) (byte : ℕ) (reason : TraceReason) → Offends taken byte reason → run begin taken ≡ Refused byte reason
-offends_refused taken byte reason (Complete before lines line is place g plain short step_is) =
-    ap (run begin) is ∙ after before lines (line ++ 10 ∷ []) g ∙ run-whole_line (record { state = before; line = [] }) line plain (omega (arith, short))
-    ∙ ap (judged before) step_is ∙ ap (λ n. Refused n reason) (ap length (sym g.text) ∙ sym place)
-offends_refused taken byte reason (Overlong before lines line is place g plain long why) =
-    ap (run begin) is ∙ after before lines line g ∙ run-long (record { state = before; line = [] }) line plain (omega arith) (omega (arith, long))
-    ∙ ap (λ n. Refused n Long) (ap length (sym g.text) ∙ sym place) ∙ ap (Refused byte) (sym why)
 
 pub refused_reads : (taken : List ℕ) (left : Option (List ℕ)) (byte : ℕ) (reason : TraceReason) → Refuses taken left byte reason
     → length taken ≤ text_limit → reading text_limit taken ≡ Err (Text byte reason)

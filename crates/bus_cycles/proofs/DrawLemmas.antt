@@ -1,10 +1,11 @@
 -- How a picture goes on, transmission by transmission.
 use Rattle.std.proofs.Common.{◌≡◌, ◌⊎◌, ℕ, ◌+◌, ◌<◌, ◌≤◌, Bool, true, false, cond, ◌&&◌, ◌||◌, leb, eqb, List, [], ◌∷◌, ◌++◌, length, get_or, set, replicate, Option, inl, inr, arith, sym, refl, ap, subst, ◌∙◌}
 use Rattle.std.proofs.Common.{append_assoc, append-nil}
-use Rattle.std.proofs.lemmas.Bool.{cases_eq, cases_lt, eq-eqb, ne_eqb, le-leb, lt-leb}
+use Rattle.std.proofs.lemmas.Bool.{cases_eq, cases_lt, eq-eqb, ne_eqb, le-leb, lt-leb, or_right}
 use Rattle.std.proofs.lemmas.List.{get_or-set_same, get_or-set_other, get_or-replicate, length-replicate}
 use Rattle.std.proofs.lemmas.List.Folds.{list_any-append}
 use Rattle.std.proofs.Math.ListN.{length-set}
+use Rattle.bus_strings.proofs.TestLaws.{or_false}
 use Rattle.bus_outer.specs.Texts.{Adds}
 use Rattle.bus_outer.proofs.TextLaws.{◌▸◌}
 use Rattle.bus_outer.specs.declared.text_buffer.TextBuffer.{TextBuffer}
@@ -23,14 +24,6 @@ reaches_none page begin = record {
 
 cases_le : (a b : ℕ) → (a ≤ b) ⊎ (b < a)
 cases_le a b = elim (cases_lt b a) [ inl l ↦ inr l | inr r ↦ inl r ]
-
-or_false : (b : Bool) → (b || false) ≡ b
-or_false true = refl
-or_false false = refl
-
-or_true : (b : Bool) → (b || true) ≡ true
-or_true true = refl
-or_true false = refl
 
 pub reached_more : (page : Page) (begin : ℕ) (earlier : List Sent) (sent : Sent) (tone right : ℕ)
     → is_reached page begin (earlier ++ sent ∷ []) tone right
@@ -53,7 +46,7 @@ reaches_same page begin earlier edges sent tone right was low tone_is right_is w
               | inl short ↦
                   let far : r ≤ get_or edges n 0 = subst (λ m. r ≤ get_or edges m 0) (sym at) (omega arith) in
                   le-leb r (get_or edges n 0) far
-                  ∙ sym (or_true (is_reached page begin earlier n r))
+                  ∙ sym (or_right (is_reached page begin earlier n r) true refl)
                   ∙ ap (λ b. is_reached page begin earlier n r || b) (sym (ap (λ b. b && leb r (right_of page begin sent)) (eq-eqb (shade page sent) n same) ∙ le-leb r (right_of page begin sent) (omega arith)))
                   ∙ sym (reached_more page begin earlier sent n r)
               | inr long ↦
@@ -84,7 +77,7 @@ reaches_more page begin earlier edges sent tone right was low tone_is right_is f
             elim (cases_le r right) [
               | inl short ↦
                   ap (leb r) now ∙ le-leb r right short
-                  ∙ sym (or_true (is_reached page begin earlier n r))
+                  ∙ sym (or_right (is_reached page begin earlier n r) true refl)
                   ∙ ap (λ b. is_reached page begin earlier n r || b) (sym (ap (λ b. b && leb r (right_of page begin sent)) (eq-eqb (shade page sent) n same) ∙ le-leb r (right_of page begin sent) (omega arith)))
                   ∙ sym (reached_more page begin earlier sent n r)
               | inr long ↦

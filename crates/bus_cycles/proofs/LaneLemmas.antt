@@ -2,8 +2,6 @@
 use Rattle.std.proofs.Common.{◌≡◌, ◌≢◌, ℕ, zero, suc, ◌+◌, ◌%◌, ◌<◌, ◌≤◌, false, cond, List, [], ◌∷◌, Some, inl, inr, length, get_or, drop, arith, sym, refl, ap, ◌∙◌}
 use Rattle.std.specs.Prelude.{slice_get}
 use Rattle.std.proofs.lemmas.Bool.{eq-eqb, ne_eqb}
-use Rattle.std.proofs.Math.Seq.{drop-cons}
-use Rattle.std.proofs.lemmas.Option.{get_or_from_slice_get, slice_get_within}
 use Rattle.std.proofs.lemmas.List.{ext_get_or}
 use Rattle.std.proofs.lemmas.List.FromFn.{get_or-map-range_with_len, length-map-range_with_len}
 use Rattle.bus_strings.specs.Members.{In}
@@ -93,11 +91,3 @@ neighbours_differ table survey counts k a b one other valid at_one at_other by_o
     let second = shade_is table survey counts facts (k + 1) b other at_other by_other plain_other in
     let equal : k % 2 ≡ (k + 1) % 2 = sym first ∙ same ∙ second in
     absurd (omega arith)
-
--- the sender at a place is the first of those from there on
-pub at_drop : (order : List Sender) (k : ℕ) (s : Sender) → slice_get order k ≡ Some s → drop k order ≡ s ∷ drop (k + 1) order
-at_drop order k s at =
-    let next : suc k ≡ k + 1 = omega arith in
-    drop-cons order k s (slice_get_within order k s at)
-    ∙ ap (λ (x : Sender). x ∷ drop (suc k) order) (get_or_from_slice_get order k s s at)
-    ∙ ap (λ n. s ∷ drop n order) next

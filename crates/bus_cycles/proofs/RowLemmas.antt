@@ -1,8 +1,8 @@
 -- What follows of rows.
-use Rattle.std.proofs.Common.{◌≡◌, ◌↔◌, ℕ, zero, suc, ◌+◌, ◌*◌, ◌/◌, ◌%◌, ◌<◌, ◌≤◌, Bool, true, false, cond, eqb, List, [], ◌∷◌, ◌++◌, get_or, Some, inl, inr, arith, sym, refl, ap, subst, ◌∙◌, append_assoc}
+use Rattle.std.proofs.Common.{◌≡◌, ◌↔◌, ℕ, zero, suc, ◌+◌, ◌*◌, ◌/◌, ◌%◌, ◌<◌, ◌≤◌, Bool, true, false, cond, eqb, List, [], ◌∷◌, ◌++◌, get_or, inl, inr, arith, sym, refl, ap, subst, ◌∙◌, append_assoc}
 use Rattle.std.specs.Prelude.{not, slice_get}
 use Rattle.std.specs.List.{AllByRecursion, flat_map}
-use Rattle.std.proofs.lemmas.Bool.{eqb-true, ne_eqb, true≢false}
+use Rattle.std.proofs.lemmas.Bool.{eqb-true, ne_eqb, true≢false, not-false}
 use Rattle.std.proofs.lemmas.Nat.{div-add-mod'}
 use Rattle.std.proofs.Math.Nat.{mod-lt}
 use Rattle.bus_strings.proofs.ListLaws.{all_push}
@@ -20,8 +20,9 @@ use Rattle.bus_cycles.specs.Laws.{HatchedAreDrawnLast, HatchedAreGarbled, RowsAr
 use Rattle.bus_cycles.specs.Rows.{Cycle, Row, begin_in, cycle_of, interval_of, is_new, is_new_in, lift_of, row_at, rows, rows_from, rows_of, with_sent}
 use Rattle.bus_cycles.specs.Pages.{Page}
 use Rattle.bus_cycles.specs.RowTexts.{class_of, shade}
-use Rattle.bus_shapes.specs.Sending.{sent_of, sents, sents_from}
+use Rattle.bus_shapes.specs.Sending.{sent_of, sents}
 use Rattle.bus_shapes.specs.SendingLaws.{IsToldOf}
+use Rattle.bus_shapes.proofs.SendingLaws.{told_from}
 use Rattle.bus_cycles.specs.Sents.{is_shown, shown}
 
 -- ---- a partition
@@ -46,14 +47,6 @@ in_flat : (rows : List Row) (row : Row) (sent : Sent) → In row rows → In sen
 in_flat [] row sent i j = absurd i
 in_flat (r ∷ rs) row sent (inl same) j = in_append_left r.sents (flat_map (λ (r : Row). r.sents) rs) sent (subst (λ (r : Row). In sent r.sents) same j)
 in_flat (r ∷ rs) row sent (inr i) j = in_append_right r.sents (flat_map (λ (r : Row). r.sents) rs) sent (in_flat rs row sent i j)
-
-told_from : (list : List Entry) (n : ℕ) (xs : List Entry) (sent : Sent) → In sent (sents_from list n xs)
-    → (k : ℕ) × (x : Entry) × (slice_get xs k ≡ Some x) × (sent ≡ sent_of list (n + k) x)
-told_from list n [] sent i = absurd i
-told_from list n (x ∷ xs) sent (inl same) = (0, x, refl, same ∙ ap (λ m. sent_of list m x) (let e : n ≡ n + 0 = omega arith in e))
-told_from list n (x ∷ xs) sent (inr i) =
-    let r = told_from list (n + 1) xs sent i in
-    (suc r.0, r.1, r.2, r.3 ∙ ap (λ m. sent_of list m r.1) (let e : n + 1 + r.0 ≡ n + suc r.0 = omega arith in e))
 
 pub told : (table : Table) (window : Window) (list : List Entry) (row : Row) (sent : Sent) → In row (rows table window list) → In sent row.sents → IsToldOf list sent
 told table window list row sent i j =
@@ -110,10 +103,6 @@ IsWhole cycle row = AllByRecursion (λ (sent : Sent). interval_of cycle.ti sent.
 whole_row : (cycle : Cycle) (place : ℕ) (sent : Sent) → cycle.mode ≡ Periodic → IsWhole cycle (row_at cycle place sent)
 whole_row cycle place sent e = (sym (ap (λ m. begin_in m cycle sent) e), tt)
 
-not_false : (b : Bool) → not b ≡ false → b ≡ true
-not_false true h = refl
-not_false false h = absurd (true≢false h)
-
 whole_step : (cycle : Cycle) (row : Row) (x : Sent) (xs : List Sent) (b : Bool) → cycle.mode ≡ Periodic → IsWhole cycle row → is_new cycle row.begin x ≡ b
     → AllByRecursion (IsWhole cycle) (rows_from cycle (row_at cycle (row.place + 1) x) xs)
     → (IsWhole cycle (with_sent row x) → AllByRecursion (IsWhole cycle) (rows_from cycle (with_sent row x) xs))
@@ -121,7 +110,7 @@ whole_step : (cycle : Cycle) (row : Row) (x : Sent) (xs : List Sent) (b : Bool) 
 whole_step cycle row x xs true e w n new more = (w, new)
 whole_step cycle row x xs false e w n new more =
     let same : is_new cycle row.begin x ≡ not (eqb (interval_of cycle.ti x.moment + cycle.lift) row.begin) = ap (λ m. is_new_in m cycle row.begin x) e in
-    let here : interval_of cycle.ti x.moment + cycle.lift ≡ row.begin = eqb-true (interval_of cycle.ti x.moment + cycle.lift) row.begin (not_false (eqb (interval_of cycle.ti x.moment + cycle.lift) row.begin) (sym same ∙ n)) in
+    let here : interval_of cycle.ti x.moment + cycle.lift ≡ row.begin = eqb-true (interval_of cycle.ti x.moment + cycle.lift) row.begin (not-false (eqb (interval_of cycle.ti x.moment + cycle.lift) row.begin) (sym same ∙ n)) in
     more (all_push (λ (sent : Sent). interval_of cycle.ti sent.moment + cycle.lift ≡ row.begin) row.sents x w here)
 
 whole_from : (cycle : Cycle) (row : Row) (xs : List Sent) → cycle.mode ≡ Periodic → IsWhole cycle row → AllByRecursion (IsWhole cycle) (rows_from cycle row xs)

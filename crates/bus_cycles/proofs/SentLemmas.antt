@@ -2,24 +2,17 @@
 use Rattle.std.proofs.Common.{ℕ, zero, suc, ◌+◌, ◌*◌, ◌^◌, ◌<◌, ◌≤◌, Bool, true, false, cond, max, List, [], ◌∷◌, length, take, arith}
 use Rattle.std.specs.Prelude.{fold}
 use Rattle.std.specs.List.{AllByRecursion, filter, sum_by}
-use Rattle.std.proofs.lemmas.List.Sums.{sum_by-cons}
-use Rattle.bus_strings.specs.Messages.{Entry, IsWordstring, Wordstring, word_count}
+use Rattle.bus_strings.specs.Messages.{Entry, word_count}
 use Rattle.bus_strings.specs.Transmissions.{end_of}
+use Rattle.bus_strings.proofs.KeptLemmas.{words_most}
 use Rattle.bus_trace.specs.Traces.{IsBelow}
 use Rattle.bus_shapes.specs.Sending.{sent_of, sents, sents_from}
 use Rattle.bus_cycles.specs.inside.Bounds.{IsSent}
 
-some_words : (strings : List Wordstring) → AllByRecursion IsWordstring strings → sum_by word_count strings ≤ 257 * length strings
-some_words [] all = omega arith
-some_words (s ∷ ss) all =
-    let few : length s.words ≤ 256 = all.0.few in
-    let rest : sum_by word_count ss ≤ 257 * length ss = some_words ss all.1 in
-    omega (arith, sum_by-cons word_count s ss)
-
 entry_ends : (horizon : ℕ) (x : Entry) → horizon ≤ 2 ^ 40 → IsBelow horizon x → end_of x ≤ 2 ^ 40 + 2 ^ 18
 entry_ends horizon x low below =
     let few : length x.message ≤ 31 = below.message.few in
-    let words : sum_by word_count x.message ≤ 257 * length x.message = some_words x.message below.message.strings in
+    let words : sum_by word_count x.message ≤ 257 * length x.message = words_most x.message below.message.strings in
     let early : x.moment < horizon = below.moment in
     omega arith
 

@@ -1,5 +1,6 @@
 -- Worked examples: the drop-out schedule of some tables and hands, by computation.
 use Rattle.std.specs.Prelude.{◌≡◌, ℕ, List, [], ◌∷◌, map, replicate, Some, None, IsTrue, refl}
+use Rattle.bus_schedule.proofs.Examples.{Start, start, hand}
 use Rattle.bus_strings.specs.Messages.{Message, Entry}
 use Rattle.bus_table.specs.declared.mode.Mode.TheVariants.{Aperiodic}
 use Rattle.bus_table.specs.Tables.{Sender, Table, Hand}
@@ -17,17 +18,6 @@ aperiodic sg senders = record { mode = Aperiodic; ti = 1000; sg = sg; senders = 
 -- a message of so many data words
 abbrev message : ℕ → ℕ → Message
 message label words = record { label = label; ext = 1; words = replicate words 0 } ∷ []
-
-abbrev hand : ℕ → List Message → Hand
-hand terminal messages = record { terminal = terminal; messages = messages }
-
--- the terminal and the moment of each start
-record Start : Type 0 where
-  terminal : ℕ
-  moment : ℕ
-
-abbrev start : ℕ → ℕ → Start
-start terminal moment = record { terminal = terminal; moment = moment }
 
 abbrev starts : Table → List Hand → List Start
 starts table hands = map (λ (x : Entry). start x.terminal x.moment) (dropout table hands)

@@ -1,12 +1,12 @@
 -- Sums over the senders that a test takes.
 use Rattle.std.proofs.Common.{◌≡◌, ℕ, ◌+◌, ◌<◌, ◌≤◌, Bool, true, false, cond, List, [], ◌∷◌, take, length, get_or, inl, inr, arith, sym, refl, ap, ◌∙◌}
-use Rattle.std.specs.Prelude.{nat_lt}
 use Rattle.std.specs.List.{filter, sum_by}
 use Rattle.std.proofs.lemmas.List.{take_all}
 use Rattle.std.proofs.lemmas.List.Sums.{sum_by-cons, sum_by_more}
 use Rattle.bus_strings.specs.Members.{In}
 use Rattle.bus_table.specs.Tables.{Sender, Table}
-use Rattle.bus_table.specs.Turns.{insert, sort, turn_key, turn_order}
+use Rattle.bus_table.specs.Turns.{turn_key, turn_order}
+use Rattle.bus_table.proofs.TurnLaws.{sum_sort}
 
 -- what a sender adds where the test takes it
 abbrev pub share : (Sender → Bool) → (Sender → ℕ) → Sender → ℕ
@@ -31,19 +31,6 @@ sum_more_taken p q f (a ∷ senders) h =
       | false ↦ λ e. omega arith
     ]) refl in
     omega (arith, sum_by-cons (share p f) a senders, sum_by-cons (share q f) a senders, sum_more_taken p q f senders (λ b i. h b (inr i)), one)
-
--- an order changes no sum
-sum_insert : (f key : Sender → ℕ) (a : Sender) (bs : List Sender) → sum_by f (insert key a bs) ≡ f a + sum_by f bs
-sum_insert f key a [] = sum_by-cons f a []
-sum_insert f key a (c ∷ cs) =
-    elim (nat_lt (key a) (key c)) as (λ b. sum_by f (cond b (a ∷ (c ∷ cs)) (c ∷ insert key a cs)) ≡ f a + sum_by f (c ∷ cs)) [
-      | true ↦ sum_by-cons f a (c ∷ cs)
-      | false ↦ omega (arith, sum_by-cons f c (insert key a cs), sum_insert f key a cs, sum_by-cons f c cs)
-    ]
-
-sum_sort : (f key : Sender → ℕ) (bs : List Sender) → sum_by f (sort key bs) ≡ sum_by f bs
-sum_sort f key [] = refl
-sum_sort f key (a ∷ bs) = sum_insert f key a (sort key bs) ∙ omega (arith, sum_sort f key bs, sum_by-cons f a bs)
 
 pub sum_in_turn : (table : Table) (p : Sender → Bool) (f : Sender → ℕ)
     → sum_by f (filter p (turn_order table)) ≡ sum_by (share p f) table.senders

@@ -4,12 +4,13 @@ use Rattle.std.proofs.Common.{arith, sym, refl, ap, ◌∙◌}
 use Rattle.std.specs.List.{filter, flat_map, list_any, range_with_len}
 use Rattle.std.proofs.lemmas.Bool.{eq-eqb}
 use Rattle.std.proofs.lemmas.List.Concat.{flat_map-append}
+use Rattle.bus_strings.proofs.ListLaws.{range_push}
 use Rattle.bus_dump.specs.DumpTexts.{changes, changes_text, changes_at, changes_to, some_changes, value_line}
 use Rattle.bus_dump.specs.Scenes.{Scene}
 use Rattle.bus_dump.specs.Signals.{Signal, Value, Bit, Number, Floating, Unknown, value, is_same}
 use Rattle.bus_dump.specs.inside.Walks.{change_put}
 use Rattle.bus_dump.specs.inside.Watching.{StaysAs}
-use Rattle.bus_dump.proofs.RangeLemmas.{range_join, range_push}
+use Rattle.bus_dump.proofs.RangeLemmas.{range_join}
 
 -- ---- nothing changes
 pub same_value : (v : Value) → is_same v v ≡ true

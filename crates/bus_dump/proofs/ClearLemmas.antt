@@ -4,7 +4,7 @@ use Rattle.std.proofs.Common.{inl, inr, arith, sym, refl, ap, ◌∙◌}
 use Rattle.std.specs.Prelude.{slice_get, remove}
 use Rattle.std.specs.List.{AllByRecursion, filter, list_any, range_with_len}
 use Rattle.std.specs.Option.{option_map_or}
-use Rattle.std.proofs.lemmas.Bool.{cases_Bool, true≢false, lt-ltb, le-ltb}
+use Rattle.std.proofs.lemmas.Bool.{cases_Bool, true≢false, lt-ltb, le-ltb, and_right}
 use Rattle.std.proofs.lemmas.List.Sums.{length-filter}
 use Rattle.bus_strings.specs.Members.{In}
 use Rattle.bus_strings.proofs.MemberLaws.{of_each, at_in, in_append_cases, none_any}
@@ -15,7 +15,7 @@ use Rattle.bus_dump.specs.declared.dump.Dump.{Dump}
 use Rattle.bus_dump.specs.Laws.{ShowsNoOverlap}
 use Rattle.bus_dump.specs.Seen.{holds, seen_at}
 use Rattle.bus_dump.specs.Signals.{Bit, words}
-use Rattle.bus_dump.proofs.LawLemmas.{garbled_seen, held_seen, nothing}
+use Rattle.bus_dump.proofs.LawLemmas.{garbled_seen, held_seen}
 use Rattle.bus_dump.proofs.LiveLemmas.{absent, present, at_place, held_from, held_to}
 use Rattle.bus_dump.proofs.WordLemmas.{few_words, word_unknown}
 
@@ -103,7 +103,7 @@ clear_garbled list t n apart =
       | absent e ↦ ap (λ o. option_map_or (λ (x : Entry). holds t x && eqb x.terminal n && garbled list k) o false) e
       | present x e ↦
           ap (λ o. option_map_or (λ (x : Entry). holds t x && eqb x.terminal n && garbled list k) o false) e
-          ∙ ap (λ b. holds t x && eqb x.terminal n && b) (none_garbled list k apart) ∙ nothing (holds t x && eqb x.terminal n)
+          ∙ ap (λ b. holds t x && eqb x.terminal n && b) (none_garbled list k apart) ∙ and_right (holds t x && eqb x.terminal n) false refl
     ])
 
 -- ---- the whole

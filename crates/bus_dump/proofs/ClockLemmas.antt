@@ -2,6 +2,7 @@
 use Rattle.std.proofs.Common.{◌≡◌, ℕ, ◌+◌, ◌-◌, ◌<◌, ◌≤◌, ◌++◌, Bool, true, false, ◌&&◌, cond, leb, ltb, List, length, replicate, Option, Some, None}
 use Rattle.std.proofs.Common.{unwrap_or, inl, inr, arith, sym, refl, ap, subst, ◌∙◌}
 use Rattle.std.proofs.lemmas.Bool.{cases_lt, true≢false, le-leb, lt-leb, leb-true, lt-ltb, le-ltb}
+use Rattle.bus_medium.proofs.PastLaws.{same_bools}
 use Rattle.bus_timers.specs.declared.timing.Timing.{Timing}
 use Rattle.bus_timers.specs.Timings.{IsSound, due_place}
 use Rattle.bus_timers.specs.MayStart.{IsSync, MayStart}
@@ -15,11 +16,6 @@ use Rattle.bus_dump.specs.Timers.{Elapsed, elapsed_of, has_interval, has_synchro
 use Rattle.bus_dump.specs.inside.Clocks.{Keeps, tells_at, passed, last_behind, next_turn, gap_behind, gap_from, later_or}
 
 -- ---- tests
-same_test : (a b : Bool) → (a ≡ true → b ≡ true) → (b ≡ true → a ≡ true) → a ≡ b
-same_test true b f g = sym (f refl)
-same_test false true f g = g refl
-same_test false false f g = refl
-
 -- with no interval and no terminal gap, the test of `may_start` asks for the synchronization gap alone
 abbrev pub bare : Timing → ℕ → Timing
 bare timing tg = record timing { ti = 0; tg = tg; quiet = 0; due = 0 }
@@ -69,7 +65,7 @@ synchronization_told : TestDecides → (timing : Timing) (past : List Bool) (las
 synchronization_told decides timing past last g pos h =
     let low : unwrap_or last 0 ≤ length past = last_within timing.sg past last g pos h in
     let test = decides (bare timing 0) past last in
-    sym (sym (synchronization_test timing past last low) ∙ same_test (may_start (bare timing 0) past last) (leb g (length past))
+    sym (sym (synchronization_test timing past last low) ∙ same_bools (may_start (bare timing 0) past last) (leb g (length past))
     (λ w. elapsed h (test.0 w))
     (λ w. test.1 (starts h w)))
   where
@@ -95,7 +91,7 @@ gap_told decides timing past last g pos tpos h =
     let low : unwrap_or last 0 ≤ length past = last_within timing.sg past last g pos h in
     let test = decides (bare timing timing.tg) past last in
     let ready = gap_ready (bare timing timing.tg) past last g pos tpos h in
-    sym (sym (gap_test timing past last low) ∙ same_test (may_start (bare timing timing.tg) past last) (leb (g + timing.tg) (length past))
+    sym (sym (gap_test timing past last low) ∙ same_bools (may_start (bare timing timing.tg) past last) (leb (g + timing.tg) (length past))
     (λ w. le-leb (g + timing.tg) (length past) (ready.1 (test.0 w)).1)
     (λ w. test.1 (ready.0 (bare_due timing timing.tg past last low, leb-true (g + timing.tg) (length past) w))))
 
@@ -104,7 +100,7 @@ may_told : TestDecides → (timing : Timing) (past : List Bool) (last : Option �
 may_told decides timing past last g pos tpos h =
     let test = decides timing past last in
     let ready = gap_ready timing past last g pos tpos h in
-    same_test _ _
+    same_bools _ _
     (λ w. let p = both (leb (due_place timing last) (length past)) (leb (g + timing.tg) (length past)) w in
     test.1 (ready.0 (leb-true (due_place timing last) (length past) p.0, leb-true (g + timing.tg) (length past) p.1)))
     (λ w. let p = ready.1 (test.0 w) in rw (le-leb (due_place timing last) (length past) p.0, le-leb (g + timing.tg) (length past) p.1) refl)

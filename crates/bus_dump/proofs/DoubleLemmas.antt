@@ -10,8 +10,10 @@ use Rattle.std.proofs.lemmas.List.Folds.{list_any_more, find-append}
 use Rattle.std.proofs.lemmas.Option.{slice_get_within, get_or_from_slice_get}
 use Rattle.bus_strings.specs.Messages.{Entry}
 use Rattle.bus_strings.specs.Transmissions.{end_of}
+use Rattle.bus_strings.proofs.ListLaws.{range_push}
+use Rattle.bus_strings.proofs.TestLaws.{or_false}
 use Rattle.bus_dump.specs.Doubled.{is_doubled, runs_into}
-use Rattle.bus_dump.proofs.RangeLemmas.{range_join, range_push}
+use Rattle.bus_dump.proofs.RangeLemmas.{range_join}
 
 -- whether an entry of terminal n ends behind moment m
 abbrev pub ends_behind : ℕ → ℕ → Entry → Bool
@@ -30,10 +32,6 @@ ltb_max m a b =
         | inr over ↦ rw (le-ltb m b high, le-ltb m a over, le-ltb m (max a b) (let w : max a b ≤ m = omega arith in w)) refl
       ]
     ]
-
-false_right : (b : Bool) → b ≡ (b || false)
-false_right true = refl
-false_right false = refl
 
 pub ends_more : (list : List Entry) (ends : List ℕ) (k terminal end : ℕ) (x : Entry) → KeepsEnds list ends k → length ends ≡ 129 → terminal ≤ 128
     → slice_get list k ≡ Some x → x.terminal ≡ terminal → end ≡ end_of x → KeepsEnds list (set ends terminal (max end (get_or ends terminal 0))) (k + 1)
@@ -54,7 +52,7 @@ ends_more list ends k terminal end x keeps long low at own is n m h =
           let test : ends_behind n m x ≡ false = ap (λ b. b && ltb m (end_of x)) (ne_eqb x.terminal n (λ e. other (sym e ∙ own))) in
           ap (ltb m) (get_or-set_other ends terminal n (max end (get_or ends terminal 0)) 0 other)
           ∙ keeps n m h
-          ∙ false_right (list_any (ends_behind n m) (take k list))
+          ∙ sym (or_false (list_any (ends_behind n m) (take k list)))
           ∙ ap (λ b. list_any (ends_behind n m) (take k list) || b) (sym test)
           ∙ sym more
     ]

@@ -11,6 +11,7 @@ use Rattle.bus_strings.specs.Members.{In}
 use Rattle.bus_strings.proofs.MemberLaws.{of_each, at_in, any_in}
 use Rattle.bus_strings.specs.Messages.{Entry}
 use Rattle.bus_strings.specs.Transmissions.{end_of, IsTransmission}
+use Rattle.bus_strings.proofs.ListLaws.{all_cons}
 use Rattle.bus_dump.specs.Doubled.{doubled, is_doubled, runs_into}
 use Rattle.bus_dump.specs.Seen.{holds}
 use Rattle.bus_dump.specs.inside.Walks.{live_entry, live_of, live_to, IsWalkable}
@@ -90,10 +91,6 @@ ids_differ list t i k a b single h p q =
     let on : t < end_of x.entry = held_to t x.entry x.held in
     let begun : y.entry.moment ≤ t = held_from t y.entry y.held in
     omega arith)
-
-all_cons : {Y : Type 0} (P : Y → Type 0) (o : Option Y) (ys : List Y) → ((y : Y) → o ≡ Some y → P y) → AllByRecursion P ys → AllByRecursion P (cons_option o ys)
-all_cons P None ys h a = a
-all_cons P (Some y) ys h a = (h y refl, a)
 
 behind_differ : (list : List Entry) (t i a b n : ℕ) → doubled list ≡ None → id_entry list t i ≡ Some a → i < b → AllByRecursion (λ y. eqb a y ≡ false) (ids list t b n)
 unfolding ids

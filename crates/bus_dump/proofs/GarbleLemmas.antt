@@ -1,16 +1,17 @@
 -- There is an overlap somewhere exactly where a terminal is garbled somewhere.
-use Rattle.std.proofs.Common.{◌≡◌, ℕ, zero, suc, ◌+◌, ◌<◌, ◌≤◌, Bool, true, false, cond, ◌&&◌, ◌||◌, eqb, ltb, max, List, [], ◌∷◌, length, take, drop, Option, Some, None}
+use Rattle.std.proofs.Common.{◌≡◌, ℕ, zero, suc, ◌+◌, ◌<◌, ◌≤◌, Bool, true, false, cond, ◌&&◌, eqb, ltb, max, List, [], ◌∷◌, length, take, drop, Option, Some, None}
 use Rattle.std.proofs.Common.{inl, inr, arith, sym, refl, ap, ◌∙◌}
 use Rattle.std.specs.Prelude.{slice_get, remove, IsTrue}
 use Rattle.std.specs.List.{AllByRecursion, count_by, filter, list_any, range_with_len}
 use Rattle.std.specs.Option.{option_map_or}
-use Rattle.std.proofs.lemmas.Bool.{and_parts, cases_Bool, cases_lt, eq-eqb, lt-ltb, ltb-true, true≢false}
+use Rattle.std.proofs.lemmas.Bool.{and_parts, cases_Bool, eq-eqb, lt-ltb, ltb-true, true≢false}
 use Rattle.std.proofs.lemmas.List.{length-append, take-append-drop}
 use Rattle.std.proofs.lemmas.List.Elements.{filter-append}
 use Rattle.std.proofs.lemmas.List.Sums.{length-filter}
 use Rattle.std.proofs.lemmas.Option.{slice_get_within}
+use Rattle.bus_timers.proofs.TestLemmas.{any_range}
 use Rattle.bus_strings.specs.Members.{In}
-use Rattle.bus_strings.proofs.MemberLaws.{of_each, at_in, in_append_cases, in_append_right, any_in}
+use Rattle.bus_strings.proofs.MemberLaws.{of_each, at_in, in_append_cases, in_append_right, any_in, any_found}
 use Rattle.bus_strings.specs.Messages.{Entry}
 use Rattle.bus_strings.specs.OverlapLaws.{OverlapsMeet}
 use Rattle.bus_strings.specs.Transmissions.{end_of, garbled, overlaps}
@@ -85,17 +86,6 @@ two_held t (x ∷ list) some = elim (cases_Bool (holds t x)) [
       }
 ]
 
-or_true : (b c : Bool) → c ≡ true → (b || c) ≡ true
-or_true true c h = refl
-or_true false c h = h
-
-any_at : (p : ℕ → Bool) (a n k : ℕ) → a ≤ k → k < a + n → p k ≡ true → list_any p (range_with_len a n) ≡ true
-any_at p a zero k l h e = absurd (omega arith)
-any_at p a (suc n) k l h e = elim (cases_lt a k) [
-  | inl more ↦ or_true (p a) (list_any p (range_with_len (a + 1) n)) (any_at p (a + 1) n k (omega arith) (omega arith) e)
-  | inr here ↦ (let same : k ≡ a = omega arith in ap (λ b. b || list_any p (range_with_len (a + 1) n)) (ap p (sym same) ∙ e))
-]
-
 -- whether a garbled entry of terminal n is held
 abbrev is_garbled : List Entry → ℕ → ℕ → ℕ → Bool
 is_garbled list t n k = option_map_or (λ (x : Entry). holds t x && eqb x.terminal n && garbled list k) (slice_get list k) false
@@ -120,7 +110,7 @@ overlap_is_garbled list t some =
     let bad = overlap_garbles list two.place two.entry two.other two.at i (both_overlap two.entry two.other t two.held two.other_held) in (
       two.entry,
       at_in list two.place two.entry two.at,
-      any_at (is_garbled list t two.entry.terminal) 0 (length list) two.place (omega arith)
+      any_range (is_garbled list t two.entry.terminal) 0 (length list) two.place (omega arith)
           (let h : two.place < length list = slice_get_within list two.place two.entry two.at in omega arith)
           (garbled_at list t two.place two.entry two.at two.held bad),
     )
@@ -133,13 +123,6 @@ overlap_place list t some =
     (two.place, overlap_garbles list two.place two.entry two.other two.at i (both_overlap two.entry two.other t two.held two.other_held))
 
 -- ---- from a garbled terminal to an overlap
-pub any_of : {X : Type 0} (p : X → Bool) (xs : List X) → list_any p xs ≡ true → (x : X) × In x xs × (p x ≡ true)
-any_of p [] h = absurd (true≢false (sym h))
-any_of p (x ∷ xs) h = elim (cases_Bool (p x)) [
-  | inl yes' ↦ (x, inl refl, yes')
-  | inr no' ↦ (let more = any_of p xs (sym (ap (λ b. b || list_any p xs) no') ∙ h) in (more.0, inr more.1, more.2))
-]
-
 pub some_kept : (p : Entry → Bool) (xs : List Entry) (x : Entry) → In x xs → p x ≡ true → 0 < length (filter p xs)
 some_kept p [] x i h = absurd i
 some_kept p (y ∷ xs) x (inl same) h =
@@ -197,7 +180,7 @@ garbled_overlaps : OverlapsMeet → (horizon : ℕ) (list : List Entry) (k : ℕ
 garbled_overlaps meet horizon list k x all at bad =
     let over : list_any (overlaps x) (remove list k) ≡ true =
     sym (ap (λ o. option_map_or (λ z. list_any (overlaps z) (remove list k)) o false) at) ∙ bad in
-    let found = any_of (overlaps x) (remove list k) over in
+    let found = any_found (overlaps x) (remove list k) over in
     let y : Entry = found.0 in
     let there : In y (remove list k) = found.1 in
     let each : (z : Entry) → In z list → IsBelow horizon z = of_each (IsBelow horizon) list all in
@@ -264,7 +247,7 @@ shown_overlap : OverlapsMeet → (dump : Dump) (breach : Option ℕ) (table : Ta
 shown_overlap meet dump breach table trace is h =
     let list : List Entry = trace.list in
     let n : ℕ = h.lane.terminal in
-    let bad = any_of (is_garbled list h.time n) (range_with_len 0 (length list))
+    let bad = any_found (is_garbled list h.time n) (range_with_len 0 (length list))
     (sym (garbled_seen list h.time n) ∙ same_bit (list_any (λ (s : Seen). is_of n s && s.garbled) (seen_at list h.time)) true h.garbled) in
     overlap_shown dump breach table trace (garbled_there meet trace.horizon list h.time n bad.0 is.list bad.2)
 

@@ -5,6 +5,7 @@ use Rattle.std.proofs.lemmas.Bool.{cases_lt, lt-ltb, le-ltb}
 use Rattle.std.proofs.lemmas.List.{length-drop}
 use Rattle.std.proofs.lemmas.List.Sums.{sum_by-cons}
 use Rattle.bus_strings.specs.Messages.{Wordstring, Message, word_count, bits}
+use Rattle.bus_strings.proofs.PulsesAlongLaws.{bits_one}
 use Rattle.bus_dump.specs.declared.glance.Glance.{Glance}
 use Rattle.bus_dump.specs.OnBus.{label_value, word_at, shown_of, shown_at}
 use Rattle.bus_dump.specs.inside.Walks.{IsGlance, glance_in, left_of}
@@ -42,10 +43,6 @@ pub later_at : (s : Wordstring) (m : Message) (d : ℕ) → 20 * word_count s + 
 later_at s m d h =
     let k : 20 * word_count s ≤ d = omega arith in
     rw (le-ltb d (20 * word_count s) k, le-ltb d (20 * word_count s + 4) h) refl
-
--- the bit times of a message
-bits_one : (s : Wordstring) → bits (s ∷ []) ≡ 20 * word_count s
-bits_one s = omega (arith, sum_by-cons word_count s [])
 
 bits_more : (s t : Wordstring) (m : Message) → bits (s ∷ (t ∷ m)) ≡ 20 * word_count s + 4 + bits (t ∷ m)
 bits_more s t m = omega (arith, sum_by-cons word_count s (t ∷ m))

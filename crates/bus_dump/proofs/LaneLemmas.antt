@@ -10,6 +10,7 @@ use Rattle.std.proofs.lemmas.List.Concat.{flat_map-append}
 use Rattle.std.proofs.lemmas.List.Elements.{filter-append}
 use Rattle.std.proofs.lemmas.List.Folds.{list_any-append}
 use Rattle.std.proofs.lemmas.Option.{slice_get_within, get_or_from_slice_get}
+use Rattle.bus_strings.proofs.ListLaws.{range_push}
 use Rattle.bus_dump.specs.declared.dump.Dump.{Dump}
 use Rattle.bus_dump.specs.declared.dump.Dump.TheVariants.{Timers, Vcd, Wires}
 use Rattle.bus_dump.specs.declared.lane.Lane.{Lane}
@@ -21,7 +22,6 @@ use Rattle.bus_dump.specs.Signals.{Signal, Pulse, Garbled, Label, Message, Inter
 use Rattle.bus_dump.specs.Timers.{Elapsed}
 use Rattle.bus_dump.specs.inside.Walks.{change_put}
 use Rattle.bus_dump.proofs.ChangeLemmas.{same_value}
-use Rattle.bus_dump.proofs.RangeLemmas.{range_push}
 
 -- one element more under a function
 pub mapped_more : {X Y : Type 0} (f : X → Y) (xs : List X) (k : ℕ) (x : X) (y : Y) (ys ys' : List Y) → slice_get xs k ≡ Some x → y ≡ f x

@@ -4,7 +4,7 @@ use Rattle.std.proofs.Common.{inl, inr, arith, sym, refl, ap, ◌∙◌}
 use Rattle.std.specs.Prelude.{slice_get}
 use Rattle.std.specs.List.{count_by, cons_option, filter, filter_map, list_any, range_with_len}
 use Rattle.std.specs.Option.{is_some, option_map_or}
-use Rattle.std.proofs.lemmas.Bool.{cases_lt, cases_Bool, lt-ltb, le-ltb, le-leb, lt-leb, or_left, or_from, and_left, eq-eqb, eqb-true}
+use Rattle.std.proofs.lemmas.Bool.{cases_lt, cases_Bool, lt-ltb, le-ltb, le-leb, lt-leb, or_left, or_from, and_left, eq-eqb, eqb-true, and_right}
 use Rattle.std.proofs.lemmas.List.Sums.{length-filter}
 use Rattle.bus_strings.proofs.MemberLaws.{filter_same}
 use Rattle.bus_strings.specs.Messages.{Message, Entry, word_count}
@@ -60,10 +60,6 @@ any_places p [] = refl
 any_places p (x ∷ list) =
     ap (λ b. p x || b) (any_later (λ k. option_map_or p (slice_get (x ∷ list) k) false) 0 (length list) ∙ any_places p list)
 
-pub nothing : (b : Bool) → (b && false) ≡ false
-nothing true = refl
-nothing false = refl
-
 -- an entry is seen with a pulse exactly where it has one
 pub entry_pulse : (list : List Entry) (t k : ℕ) (x : Entry)
     → option_map_or is_on (cond (holds t x) (Some (seen_of list t k x)) None) false ≡ pulses t x
@@ -76,7 +72,7 @@ entry_pulse list t k x = elim (cases_Bool (holds t x)) [
         | inl before ↦ ap (λ b. b && is_on_bus x.message (t - x.moment)) (lt-leb x.moment t before)
         | inr begun ↦
             let ended : end_of x ≤ t = not_held t x begun off in
-            ap (λ b. leb x.moment t && b) (quiet_behind x.message (t - x.moment) (omega arith)) ∙ nothing (leb x.moment t)
+            ap (λ b. leb x.moment t && b) (quiet_behind x.message (t - x.moment) (omega arith)) ∙ and_right (leb x.moment t) false refl
       ])
 ]
 
@@ -98,7 +94,7 @@ carrier_seen list t = seen_any list t is_on (λ k. pulses t) (λ k x. entry_puls
 -- a pulse of a terminal is seen exactly where it has one
 of_pulse : (n : ℕ) (o : Option Seen) (m : ℕ) → option_map_or (λ (s : Seen). eqb s.terminal m) o true ≡ true
     → option_map_or (λ s. is_of n s && is_on s) o false ≡ (eqb m n && option_map_or is_on o false)
-of_pulse n None m h = sym (nothing (eqb m n))
+of_pulse n None m h = sym (and_right (eqb m n) false refl)
 of_pulse n (Some s) m h = ap (λ k. eqb k n && is_on s) (eqb-true s.terminal m h)
 
 entry_of : (list : List Entry) (t k : ℕ) (x : Entry) → option_map_or (λ (s : Seen). eqb s.terminal x.terminal) (cond (holds t x) (Some (seen_of list t k x)) None) true ≡ true

@@ -1,13 +1,15 @@
 -- The transmissions that are live at a bit time.
-use Rattle.std.proofs.Common.{◌≡◌, ℕ, zero, suc, ◌+◌, ◌<◌, ◌≤◌, Bool, true, false, cond, ◌&&◌, ltb, leb, List, [], ◌∷◌, ◌++◌, length, Option, Some, None}
+use Rattle.std.proofs.Common.{◌≡◌, ℕ, zero, suc, ◌+◌, ◌<◌, ◌≤◌, true, false, cond, ◌&&◌, ltb, leb, List, [], ◌∷◌, ◌++◌, length, Option, Some, None}
 use Rattle.std.proofs.Common.{inl, inr, arith, sym, refl, ap, ◌∙◌}
 use Rattle.std.specs.Prelude.{slice_get}
-use Rattle.std.specs.List.{AllByRecursion, cons_option, filter, filter_map, range_with_len}
+use Rattle.std.specs.List.{AllByRecursion, filter, filter_map, range_with_len}
 use Rattle.std.specs.Option.{option_and_then}
 use Rattle.std.proofs.lemmas.Bool.{true≢false, cases_lt, lt-ltb, le-ltb, le-leb, lt-leb, ltb-true, leb-true, and_parts, cases_Bool}
+use Rattle.std.proofs.lemmas.Option.{cond_some}
 use Rattle.bus_strings.proofs.MemberLaws.{of_each, at_in}
 use Rattle.bus_strings.specs.Messages.{Entry}
 use Rattle.bus_strings.specs.Transmissions.{end_of, IsAscending, Precedes}
+use Rattle.bus_strings.proofs.ListLaws.{all_cons}
 use Rattle.bus_dump.specs.declared.live.Live.{Live}
 use Rattle.bus_dump.specs.Seen.{holds, seen_of, seen_entry, seen_at}
 use Rattle.bus_dump.specs.inside.Walks.{live_of, live_entry, live_to, ends_after, see, IsLive, IsSteady}
@@ -80,10 +82,6 @@ seen_none list t k e = ap (λ o. option_and_then (λ x. cond (holds t x) (Some (
 pub seen_some : (list : List Entry) (t k : ℕ) (x : Entry) → slice_get list k ≡ Some x → seen_entry list t k ≡ cond (holds t x) (Some (seen_of list t k x)) None
 seen_some list t k x e = ap (λ o. option_and_then (λ x. cond (holds t x) (Some (seen_of list t k x)) None) o) e
 
-given : {X : Type 0} (b : Bool) (y z : X) → cond b (Some y) None ≡ Some z → (b ≡ true) × (y ≡ z)
-given true y z e = (refl, cc)
-given false y z e = absurd cc
-
 -- what is known of a live transmission
 pub record LiveFacts (list : List Entry) (t : ℕ) (live : Live) : Type 0 where
   pub entry : Entry
@@ -95,7 +93,7 @@ pub live_facts : (list : List Entry) (t k : ℕ) (live : Live) → live_entry li
 live_facts list t k live e = elim (at_place list k) [
   | absent n ↦ absurd (let w : None ≡ Some live = sym (live_none list t k n) ∙ e in cc)
   | present x p ↦
-      let g = given (holds t x) (live_of list k x) live (sym (live_some list t k x p) ∙ e) in
+      let g = cond_some (holds t x) (live_of list k x) live (sym (live_some list t k x p) ∙ e) in
       let place : k ≡ live.at = ap (λ (l : Live). l.at) g.1 in (
         place,
         record {
@@ -108,10 +106,6 @@ live_facts list t k live e = elim (at_place list k) [
 ]
 
 -- each is live
-all_cons : {Y : Type 0} (P : Y → Type 0) (o : Option Y) (ys : List Y) → ((y : Y) → o ≡ Some y → P y) → AllByRecursion P ys → AllByRecursion P (cons_option o ys)
-all_cons P None ys h a = a
-all_cons P (Some y) ys h a = (h y refl, a)
-
 all_live : (list : List Entry) (t a n : ℕ) → AllByRecursion (IsLive list t) (filter_map (live_entry list t) (range_with_len a n))
 all_live list t a zero = tt
 all_live list t a (suc n) =

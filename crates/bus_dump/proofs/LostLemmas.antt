@@ -7,7 +7,8 @@ use Rattle.std.specs.Option.{is_some, option_and_then, option_map, option_map_or
 use Rattle.std.proofs.lemmas.Bool.{and_parts, cases_Bool, cases_lt, eq-eqb, eqb-true, true≢false}
 use Rattle.std.proofs.lemmas.List.Sums.{length-filter}
 use Rattle.std.proofs.lemmas.Option.{slice_get_within}
-use Rattle.bus_strings.proofs.MemberLaws.{at_in, in_at, none_any, of_each}
+use Rattle.bus_medium.proofs.Ruled.{same_entry}
+use Rattle.bus_strings.proofs.MemberLaws.{at_in, in_at, none_any, of_each, any_found}
 use Rattle.bus_strings.specs.Members.{In}
 use Rattle.bus_strings.specs.Messages.{Entry, Message as AnyMessage, bits, word_count}
 use Rattle.bus_strings.specs.Pulses.{is_on as is_on_bus}
@@ -19,7 +20,7 @@ use Rattle.bus_dump.specs.OnBus.{Shown, shown_at}
 use Rattle.bus_dump.specs.Seen.{Seen, holds, is_sent_by, number_of, seen_at, seen_entry, seen_of}
 use Rattle.bus_dump.specs.Signals.{Floating, Number, Value, is_of, is_on, label, message, shown_label, shown_word, word_value, words}
 use Rattle.bus_dump.proofs.ClearLemmas.{AreApart, few_seen}
-use Rattle.bus_dump.proofs.GarbleLemmas.{any_of, in_take, some_kept}
+use Rattle.bus_dump.proofs.GarbleLemmas.{in_take, some_kept}
 use Rattle.bus_dump.proofs.LawLemmas.{shown_is_on}
 use Rattle.bus_dump.proofs.LiveLemmas.{held_from, held_to, holds_true, seen_some}
 use Rattle.bus_dump.proofs.GlanceLemmas.{bits_least}
@@ -87,7 +88,7 @@ told list t n m single e =
     elim (cases_Bool (list_any p list)) [
       | inr none ↦ absurd (let w : Floating ≡ Number m = sym (message_floating list t n none) ∙ e in cc)
       | inl some ↦
-          let found = any_of p list some in
+          let found = any_found p list some in
           let x : Entry = found.0 in
           let both = and_parts (eqb x.terminal n) (holds t x) found.2 in
           let own : x.terminal ≡ n = eqb-true x.terminal n both.0 in
@@ -298,14 +299,6 @@ alike_all a b horizon n x y same c d w low moments ends k = elim (cases_lt (x.mo
 pub bits_some : (m : AnyMessage) → 0 < length m → 0 < bits m
 bits_some [] some = absurd (omega arith)
 bits_some (s ∷ m) some = let count : word_count s ≡ 1 + length s.words = refl in omega (arith, count, bits_least s m)
-
-entry_of : ℕ → ℕ → AnyMessage → Entry
-entry_of moment terminal message = record { moment = moment; terminal = terminal; message = message }
-
-same_entry : (x y : Entry) → x.moment ≡ y.moment → x.terminal ≡ y.terminal → x.message ≡ y.message → x ≡ y
-unfolding entry_of
-same_entry x y m t w =
-    ap (λ k. entry_of k x.terminal x.message) m ∙ ap (λ k. entry_of y.moment k x.message) t ∙ ap (entry_of y.moment y.terminal) w
 
 -- what is asked of each list
 pub record IsRight (list : List Entry) (horizon : ℕ) : Type 0 where

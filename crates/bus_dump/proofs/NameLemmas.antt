@@ -14,12 +14,14 @@ use Rattle.std.proofs.lemmas.List.Splits.{slice_split_at, slice_split_none}
 use Rattle.bus_text.specs.Lines.{physical_lines}
 use Rattle.bus_text.specs.Numbers.{is_plain_decimal}
 use Rattle.bus_text.proofs.NumberLaws.{decimal_field, decimal_is}
+use Rattle.bus_text.proofs.CanonicalLaws.{feedless_append, line_first}
+use Rattle.bus_text.proofs.FieldLemmas.{same_bytes}
 use Rattle.bus_strings.specs.Members.{In}
 use Rattle.bus_dump.specs.DumpTexts.{behind_text, bits_text, changes_to, declaration, first_values, head_text, id_text, last_stamp, name_text, text_of, width_text}
 use Rattle.bus_dump.specs.Reading.{declared, first_declared, identifier, parts_of, read, read_named}
 use Rattle.bus_dump.specs.Scenes.{Scene}
 use Rattle.bus_dump.specs.Signals.{Signal, Carrier, Overlap, Sync, Breach, Word, Pulse, Garbled, Label, Message, Interval, Synchronization, Gap, May}
-use Rattle.bus_dump.proofs.ReadLemmas.{Feedless, IsSmall, NotOf, feedless_join, feedless_test, field_spaceless, good_id, line_first, not_join, own_bytes, same_bytes, same_id}
+use Rattle.bus_dump.proofs.ReadLemmas.{Feedless, IsSmall, NotOf, feedless_test, field_spaceless, good_id, not_join, own_bytes, same_id}
 use Rattle.bus_dump.proofs.ReadThroughLemmas.{declaration_feedless}
 
 -- ---- parts of lines
@@ -233,8 +235,8 @@ head_declares name comment rest h =
     ∙ none_declared name (codes "$version") (codes "bus629-view 1 $end") (codes "$comment " ++ (comment ++ (codes " $end" ++ 10 ∷ tail)))
     (feedless_test a refl) (not_test 32 (codes "$version") refl) refl
     ∙ ap (identifier name) (sym (append_assoc (codes "$comment " ++ comment) (codes " $end") (10 ∷ tail) ∙ append_assoc (codes "$comment ") comment (codes " $end" ++ 10 ∷ tail)))
-    ∙ none_declared name (codes "$comment") (comment ++ codes " $end") tail (feedless_join (codes "$comment " ++ comment) (codes " $end")
-    (feedless_join (codes "$comment ") comment (feedless_test (codes "$comment ") refl) h) (feedless_test (codes " $end") refl))
+    ∙ none_declared name (codes "$comment") (comment ++ codes " $end") tail (feedless_append (codes "$comment " ++ comment) (codes " $end")
+    (feedless_append (codes "$comment ") comment (feedless_test (codes "$comment ") refl) h) (feedless_test (codes " $end") refl))
     (not_test 32 (codes "$comment") refl) refl
     ∙ none_declared name (codes "$timescale") (codes "100 ns $end") (f ++ 10 ∷ rest) (feedless_test e refl) (not_test 32 (codes "$timescale") refl) refl
     ∙ none_declared name (codes "$scope") (codes "module bus $end") rest (feedless_test f refl) (not_test 32 (codes "$scope") refl) refl

@@ -6,6 +6,7 @@ use Rattle.std.specs.Option.{option_and_then}
 use Rattle.std.proofs.lemmas.List.Elements.{filter_map-append}
 use Rattle.std.proofs.lemmas.Bool.{cases_eq}
 use Rattle.bus_strings.specs.Members.{In}
+use Rattle.bus_strings.proofs.ListLaws.{range_push}
 
 -- functions that give the same
 pub same_along : {Y : Type 0} (f g : ℕ → Option Y) (a n : ℕ) → ((k : ℕ) → a ≤ k → k < a + n → f k ≡ g k)
@@ -67,13 +68,6 @@ given_along f g h a (suc n) e =
     given_cons f (g a) (filter_map g (range_with_len (a + 1) n))
     ∙ ap (λ o. cons_option o (filter_map f (filter_map g (range_with_len (a + 1) n)))) (e a)
     ∙ ap (cons_option (h a)) (given_along f g h (a + 1) n e)
-
--- one number more
-pub range_push : (a n : ℕ) → range_with_len a (suc n) ≡ range_with_len a n ++ (a + n) ∷ []
-range_push a zero = let e : a ≡ a + 0 = omega arith in ap (λ k. k ∷ []) e
-range_push a (suc n) =
-    let e : (a + 1) + n ≡ a + suc n = omega arith in
-    ap (λ t. a ∷ t) (range_push (a + 1) n ∙ ap (λ k. range_with_len (a + 1) n ++ k ∷ []) e)
 
 pub given_push : {Y : Type 0} (f : ℕ → Option Y) (n : ℕ) (y : Y) → f n ≡ Some y
     → filter_map f (range_with_len 0 (n + 1)) ≡ filter_map f (range_with_len 0 n) ++ y ∷ []

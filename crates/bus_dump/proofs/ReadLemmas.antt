@@ -2,7 +2,7 @@
 use Rattle.std.proofs.Common.{◌≡◌, ℕ, zero, suc, ◌+◌, ◌*◌, ◌^◌, ◌<◌, ◌≤◌, Bool, true, false, ◌&&◌, ◌||◌, cond, eqb, leb, List, [], ◌∷◌, ◌++◌, map, codes, decimal, fold, Option, Some}
 use Rattle.std.proofs.Common.{inl, inr, arith, sym, refl, ap, subst, ◌∙◌, append_assoc}
 use Rattle.std.specs.Int.Digits.{AllBelowBase, number_from_digits}
-use Rattle.std.specs.List.{AllByRecursion, flat_map, list_any, onto_first}
+use Rattle.std.specs.List.{AllByRecursion, flat_map, list_any}
 use Rattle.std.specs.Str.{bytes_eq}
 use Rattle.std.specs.Str.Parse.{digits_value}
 use Rattle.std.specs.Char.{digit_value}
@@ -14,7 +14,10 @@ use Rattle.std.proofs.lemmas.List.Elements.{All-from_recursion}
 use Rattle.std.proofs.lemmas.Slice.Eq.{bytes_eq-Decides}
 use Rattle.bus_text.specs.inside.Spelled.{IsFieldByte}
 use Rattle.bus_text.specs.Lines.{is_blank, is_feed, physical_lines}
+use Rattle.bus_text.specs.Canonical.{IsFieldByte}
 use Rattle.bus_text.proofs.NumberLaws.{decimal_field, decimal_is}
+use Rattle.bus_text.proofs.CanonicalLaws.{feedless_append, feedless, line_first}
+use Rattle.bus_text.proofs.FieldLemmas.{same_bytes}
 use Rattle.bus_strings.specs.Members.{In}
 use Rattle.bus_dump.specs.DumpTexts.{binary, id_text, stamp, value_line, value_text}
 use Rattle.bus_dump.specs.Reading.{gives, other, Place, line_of, parts_of, read_on, step, vector, vector_line}
@@ -24,18 +27,6 @@ use Rattle.bus_dump.specs.Signals.{Signal, Carrier, Overlap, Sync, Breach, Word,
 -- ---- lines
 abbrev pub Feedless : List ℕ → Type 0
 Feedless line = AllByRecursion (λ b. is_feed b ≡ false) line
-
-goes_on : (b : ℕ) (bs : List ℕ) (line : List ℕ) (lines : List (List ℕ)) → is_feed b ≡ false → physical_lines bs ≡ line ∷ lines
-    → physical_lines (b ∷ bs) ≡ (b ∷ line) ∷ lines
-goes_on b bs line lines h e = ap (λ t. cond t ([] ∷ physical_lines bs) (onto_first b (physical_lines bs))) h ∙ ap (onto_first b) e
-
-pub line_first : (line rest : List ℕ) → Feedless line → physical_lines (line ++ 10 ∷ rest) ≡ line ∷ physical_lines rest
-line_first [] rest h = refl
-line_first (b ∷ line) rest h = goes_on b (line ++ 10 ∷ rest) line (physical_lines rest) h.0 (line_first line rest h.1)
-
-pub feedless_join : (xs ys : List ℕ) → Feedless xs → Feedless ys → Feedless (xs ++ ys)
-feedless_join [] ys h k = k
-feedless_join (x ∷ xs) ys h k = (h.0, feedless_join xs ys h.1 k)
 
 pub feedless_test : (xs : List ℕ) → list_any is_feed xs ≡ false → Feedless xs
 feedless_test [] h = tt
@@ -148,10 +139,6 @@ terminal_of (May n) = n
 abbrev pub IsSmall : Signal → Type 0
 IsSmall s = terminal_of s < 2 ^ 64
 
-pub field_feedless : (bs : List ℕ) → AllByRecursion IsFieldByte bs → Feedless bs
-field_feedless [] h = tt
-field_feedless (b ∷ bs) h = (h.0.no_feed, field_feedless bs h.1)
-
 pub field_spaceless : (bs : List ℕ) → AllByRecursion IsFieldByte bs → NotOf 32 bs
 field_spaceless [] h = tt
 field_spaceless (b ∷ bs) h = (no_space b h.0.no_blank, field_spaceless bs h.1) where
@@ -167,12 +154,12 @@ pub record GoodId (id : List ℕ) : Type 0 where
 
 pub lane_feedless : (n : ℕ) (name : List ℕ) → n < 2 ^ 64 → Feedless name → Feedless (codes "t" ++ decimal n ++ name)
 lane_feedless n name h f =
-    feedless_join (codes "t" ++ decimal n) name (refl, field_feedless (decimal n) (decimal_field n h).bytes) f
+    feedless_append (codes "t" ++ decimal n) name (refl, feedless (decimal n) (decimal_field n h).bytes) f
 
 lane_id : (letter n : ℕ) → is_feed letter ≡ false → eqb letter 32 ≡ false → n < 2 ^ 64 → GoodId (letter ∷ decimal n)
 lane_id letter n a b h =
     let f = decimal_field n h in
-    record { feedless = (a, field_feedless (decimal n) f.bytes); spaceless = (b, field_spaceless (decimal n) f.bytes) }
+    record { feedless = (a, feedless (decimal n) f.bytes); spaceless = (b, field_spaceless (decimal n) f.bytes) }
 
 pub good_id : (s : Signal) → IsSmall s → GoodId (id_text s)
 good_id Carrier h = record { feedless = (refl, tt); spaceless = (refl, tt) }
@@ -209,7 +196,7 @@ value_line_of Unknown id h = vector_read (120 ∷ []) id Unknown (refl, tt) h re
 pub value_feedless : (v : Value) → Feedless (value_text v)
 value_feedless (Bit true) = (refl, tt)
 value_feedless (Bit false) = (refl, tt)
-value_feedless (Number n) = feedless_join (98 ∷ binary n) (32 ∷ []) (refl, binary_not 10 n (omega arith)) (refl, tt)
+value_feedless (Number n) = feedless_append (98 ∷ binary n) (32 ∷ []) (refl, binary_not 10 n (omega arith)) (refl, tt)
 value_feedless Floating = feedless_test (codes "bz ") refl
 value_feedless Unknown = feedless_test (codes "bx ") refl
 
@@ -219,7 +206,7 @@ value_line_read id at p scene s rest h =
     let g = good_id s h in
     let line : List ℕ = value_text (value s scene) ++ id_text s in
     ap (read_on id at p) (append_assoc line (10 ∷ []) rest)
-    ∙ line_read id at p line rest (feedless_join (value_text (value s scene)) (id_text s) (value_feedless (value s scene)) g.feedless)
+    ∙ line_read id at p line rest (feedless_append (value_text (value s scene)) (id_text s) (value_feedless (value s scene)) g.feedless)
     ∙ ap (λ l. read_on id at (step id at p l) rest) (value_line_of (value s scene) (id_text s) g.spaceless)
 
 -- ---- the same identifier is that of the same signal
@@ -246,9 +233,6 @@ signal_is (Interval n) h = ap Interval (decimal_is n h).value
 signal_is (Synchronization n) h = ap Synchronization (decimal_is n h).value
 signal_is (Gap n) h = ap Gap (decimal_is n h).value
 signal_is (May n) h = ap May (decimal_is n h).value
-
-pub same_bytes : (xs ys : List ℕ) → bytes_eq xs ys ≡ true → xs ≡ ys
-same_bytes xs ys h = (bytes_eq-Decides xs ys).0 h
 
 pub own_bytes : (xs : List ℕ) → bytes_eq xs xs ≡ true
 own_bytes xs = (bytes_eq-Decides xs xs).1 refl
@@ -330,5 +314,5 @@ pub stamp_moves : (id : List ℕ) (at : ℕ) (p : Place) (t : ℕ) → 5 * t < 2
 stamp_moves id at p t h rest =
     let d = decimal_field (5 * t) h in
     ap (read_on id at p) (append_assoc (codes "#" ++ decimal (5 * t)) (10 ∷ []) rest)
-    ∙ line_read id at p (35 ∷ decimal (5 * t)) rest (refl, field_feedless (decimal (5 * t)) d.bytes)
+    ∙ line_read id at p (35 ∷ decimal (5 * t)) rest (refl, feedless (decimal (5 * t)) d.bytes)
     ∙ ap (λ n. read_on id at (record { now = n; value = p.value }) rest) (decimal_is (5 * t) h).value

@@ -4,13 +4,14 @@ use Rattle.std.proofs.Common.{inl, inr, arith, sym, refl, ap, subst, ◌∙◌, 
 use Rattle.std.specs.List.{AllByRecursion, filter, flat_map, list_any, range_with_len}
 use Rattle.std.proofs.lemmas.Bool.{cases_lt, cases_Bool, true≢false, le-leb, lt-leb}
 use Rattle.bus_text.specs.Lines.{is_feed}
+use Rattle.bus_text.proofs.CanonicalLaws.{feedless_append}
 use Rattle.bus_strings.specs.Members.{In}
 use Rattle.bus_strings.proofs.MemberLaws.{in_filter}
 use Rattle.bus_dump.specs.DumpTexts.{changes, changes_at, changes_text, changes_to, declaration, first_values, head_text, behind_text, bits_text, id_text, last_stamp, name_text, width_text, some_changes, stamp, text_of, value_line}
 use Rattle.bus_dump.specs.Reading.{other, Place, line_of, read, read_on}
 use Rattle.bus_dump.specs.Scenes.{Scene}
 use Rattle.bus_dump.specs.Signals.{Signal, Carrier, Overlap, Sync, Breach, Word, Pulse, Garbled, Label, Message, Interval, Synchronization, Gap, May, value, is_same}
-use Rattle.bus_dump.proofs.ReadLemmas.{Moves, then, stays_at, with_value, late, kept, taken, stamp_moves, Feedless, feedless_join, feedless_test, line_skipped, is_same_equal, IsSmall, good_id, lane_feedless}
+use Rattle.bus_dump.proofs.ReadLemmas.{Moves, then, stays_at, with_value, late, kept, taken, stamp_moves, Feedless, feedless_test, line_skipped, is_same_equal, IsSmall, good_id, lane_feedless}
 
 -- ---- changes
 -- all up to bit time u is read, where the value at bit time t is asked for
@@ -188,11 +189,11 @@ declaration_feedless s h =
     let b : List ℕ = a ++ id_text s in
     let c : List ℕ = b ++ codes " " ++ name_text s in
     let d : List ℕ = c ++ bits_text s in
-    let fa : Feedless a = feedless_join (codes "$var wire ") (width_text s) (feedless_test (codes "$var wire ") refl) (feedless_test (width_text s) (width_feedless s)) in
-    let fb : Feedless b = feedless_join a (id_text s) fa (good_id s h).feedless in
-    let fc : Feedless c = feedless_join (b ++ codes " ") (name_text s) (feedless_join b (codes " ") fb (refl, tt)) (name_feedless s h) in
-    let fd : Feedless d = feedless_join c (bits_text s) fc (feedless_test (bits_text s) (bits_feedless s)) in
-    feedless_join d (codes " $end") fd (feedless_test (codes " $end") refl)
+    let fa : Feedless a = feedless_append (codes "$var wire ") (width_text s) (feedless_test (codes "$var wire ") refl) (feedless_test (width_text s) (width_feedless s)) in
+    let fb : Feedless b = feedless_append a (id_text s) fa (good_id s h).feedless in
+    let fc : Feedless c = feedless_append (b ++ codes " ") (name_text s) (feedless_append b (codes " ") fb (refl, tt)) (name_feedless s h) in
+    let fd : Feedless d = feedless_append c (bits_text s) fc (feedless_test (bits_text s) (bits_feedless s)) in
+    feedless_append d (codes " $end") fd (feedless_test (codes " $end") refl)
 
 declaration_skipped : (id : List ℕ) (at : ℕ) (p : Place) (s : Signal) → IsSmall s → Moves id at p (declaration s) p
 declaration_skipped id at p s h =
@@ -216,8 +217,8 @@ head_skipped id at p comment h rest =
     ∙ append_assoc (codes "$version bus629-view 1 $end\n$comment ") comment (codes " $end\n$timescale 100 ns $end\n$scope module bus $end\n" ++ rest))
     ∙ line_skipped id at p a (codes "$comment " ++ (comment ++ (codes " $end" ++ 10 ∷ tail))) (feedless_test a refl) refl
     ∙ ap (read_on id at p) (sym (append_assoc (codes "$comment " ++ comment) (codes " $end") (10 ∷ tail) ∙ append_assoc (codes "$comment ") comment (codes " $end" ++ 10 ∷ tail)))
-    ∙ line_skipped id at p c tail (feedless_join (codes "$comment " ++ comment) (codes " $end")
-    (feedless_join (codes "$comment ") comment (feedless_test (codes "$comment ") refl) h) (feedless_test (codes " $end") refl)) refl
+    ∙ line_skipped id at p c tail (feedless_append (codes "$comment " ++ comment) (codes " $end")
+    (feedless_append (codes "$comment ") comment (feedless_test (codes "$comment ") refl) h) (feedless_test (codes " $end") refl)) refl
     ∙ line_skipped id at p e (f ++ 10 ∷ rest) (feedless_test e refl) refl
     ∙ line_skipped id at p f rest (feedless_test f refl) refl
 

@@ -1,8 +1,6 @@
 -- Each signal of each dump is shown by the save file.
-use Rattle.std.proofs.Common.{◌≡◌, ◌⊎◌, ℕ, codes, decimal, Option, ◌+◌, ◌-◌, ◌*◌, ◌^◌, ◌<◌, ◌≤◌, arith, length, take, drop, get_or, Bool, true, false, not, ◌&&◌, cond, List, [], ◌∷◌, ◌++◌, inl, inr, sym, refl, ap, ◌∙◌, subst, append_assoc, append-nil}
+use Rattle.std.proofs.Common.{◌≡◌, ◌⊎◌, ℕ, codes, decimal, Option, ◌+◌, ◌-◌, ◌*◌, ◌^◌, ◌≤◌, arith, drop, Bool, true, false, not, ◌&&◌, cond, List, [], ◌∷◌, ◌++◌, inl, inr, sym, refl, ap, ◌∙◌, subst, append_assoc, append-nil}
 use Rattle.std.specs.List.{flat_map}
-use Rattle.std.proofs.lemmas.List.{take_more}
-use Rattle.std.proofs.lemmas.List.Concat.{flat_map-append}
 use Rattle.std.specs.Int.Count.{count_leading_zeros}
 use Rattle.std.proofs.lemmas.Nat.{leading_length}
 use Rattle.bus_strings.specs.Members.{In}
@@ -82,14 +80,6 @@ behind {s} {ys} xs e h = record {
       ∙ ap (λ l. l ++ h.behind) (sym (append_assoc xs h.front (shown s)));
   line = ends_join xs h.front e h.line;
 }
-
--- ---- loops
--- one more of a list
-pub flat_map_next : {X : Type 0} (f : X → List ℕ) (xs : List X) (k : ℕ) (d : X) → k < length xs
-    → flat_map f (take (k + 1) xs) ≡ flat_map f (take k xs) ++ f (get_or xs k d)
-flat_map_next f xs k d within =
-    ap (flat_map f) (take_more xs k d within) ∙ flat_map-append f (take k xs) (get_or xs k d ∷ [])
-    ∙ ap (λ l. flat_map f (take k xs) ++ l) (append-nil (f (get_or xs k d)))
 
 -- ---- the bus
 abbrev bus1 : List ℕ

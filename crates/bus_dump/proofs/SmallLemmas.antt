@@ -1,9 +1,10 @@
 -- The terminals of a dump's signals are small, and so its dump is read.
-use Rattle.std.proofs.Common.{ℕ, zero, suc, ◌+◌, ◌*◌, ◌^◌, ◌<◌, ◌≤◌, Bool, true, false, cond, leb, ltb, List, [], ◌∷◌, ◌++◌, map, inl, inr, arith, refl, ◌∙◌}
+use Rattle.std.proofs.Common.{ℕ, zero, suc, ◌+◌, ◌*◌, ◌^◌, ◌<◌, ◌≤◌, Bool, true, false, cond, leb, ltb, List, [], ◌∷◌, map, inl, inr, arith, refl, ◌∙◌}
 use Rattle.std.specs.Prelude.{IsTrue}
 use Rattle.std.specs.List.{AllByRecursion, filter, flat_map, range_with_len}
 use Rattle.bus_strings.specs.Members.{In}
 use Rattle.bus_strings.specs.Messages.{Entry}
+use Rattle.bus_strings.proofs.ListLaws.{all_append}
 use Rattle.bus_table.specs.Tables.{Sender, Table}
 use Rattle.bus_table.proofs.TurnLaws.{from_sort}
 use Rattle.bus_table.specs.Turns.{turn_key, turn_order}
@@ -21,10 +22,6 @@ use Rattle.bus_dump.proofs.NameLemmas.{name_declared, read_by_name}
 use Rattle.bus_dump.proofs.ReadLemmas.{IsSmall, same_id}
 use Rattle.bus_dump.proofs.ReadThroughLemmas.{small_filter, text_read}
 
-all_join : {X : Type 0} (P : X → Type 0) (xs ys : List X) → AllByRecursion P xs → AllByRecursion P ys → AllByRecursion P (xs ++ ys)
-all_join P [] ys h k = k
-all_join P (x ∷ xs) ys h k = (h.0, all_join P xs ys h.1 k)
-
 abbrev IsSmallLane : Lane → Type 0
 IsSmallLane lane = lane.terminal < 2 ^ 64
 
@@ -33,7 +30,7 @@ lane_small dump lane h = small_filter (has dump lane.sender) (signals_of lane.te
 
 lanes_small : (dump : Dump) (ls : List Lane) → AllByRecursion IsSmallLane ls → AllByRecursion IsSmall (flat_map (lane_signals dump) ls)
 lanes_small dump [] h = tt
-lanes_small dump (l ∷ ls) h = all_join IsSmall (lane_signals dump l) (flat_map (lane_signals dump) ls) (lane_small dump l h.0) (lanes_small dump ls h.1)
+lanes_small dump (l ∷ ls) h = all_append IsSmall (lane_signals dump l) (flat_map (lane_signals dump) ls) (lane_small dump l h.0) (lanes_small dump ls h.1)
 
 bus_small : (dump : Dump) → AllByRecursion IsSmall (bus_signals dump)
 bus_small dump =
@@ -64,8 +61,8 @@ pub signals_small : (dump : Dump) (table : Table) (list : List Entry) → IsTrue
 signals_small dump table list valid =
     let facts = valid_facts table valid in
     let strangers = map stranger_lane (filter (is_stranger table list) (range_with_len 1 128)) in
-    all_join IsSmall (bus_signals dump) (flat_map (lane_signals dump) (lanes table list)) (bus_small dump)
-    (lanes_small dump (lanes table list) (all_join IsSmallLane (map sender_lane (turn_order table)) strangers
+    all_append IsSmall (bus_signals dump) (flat_map (lane_signals dump) (lanes table list)) (bus_small dump)
+    (lanes_small dump (lanes table list) (all_append IsSmallLane (map sender_lane (turn_order table)) strangers
     (senders_small table (turn_order table) (λ s i. from_sort (turn_key table.mode) table.senders s i) facts.senders)
     (strangers_small (is_stranger table list) 1 128 (omega arith))))
 

@@ -5,6 +5,7 @@ use Rattle.std.specs.List.{AllByRecursion, cons_option, filter, filter_map, flat
 use Rattle.std.proofs.lemmas.Bool.{cases_lt, le-ltb, lt-ltb}
 use Rattle.std.proofs.lemmas.List.{map-append}
 use Rattle.bus_text.proofs.NumberLaws.{decimal_field, decimal_is}
+use Rattle.bus_text.proofs.CanonicalLaws.{feedless_append, feedless, line_first}
 use Rattle.bus_dump.specs.DumpTexts.{behind_text, bits_text, changes, changes_at, changes_to, declaration, end_of_dump, first_values, head_text, id_text, last_stamp, name_text, some_changes, stamp, text_of, value_line, value_text, width_text}
 use Rattle.bus_dump.specs.Lanes.{lanes}
 use Rattle.bus_dump.specs.Laws.{StampsAreTold}
@@ -12,7 +13,7 @@ use Rattle.bus_dump.specs.Reading.{line_of}
 use Rattle.bus_dump.specs.Scenes.{Scene, scene_at}
 use Rattle.bus_dump.specs.Signals.{Signal, signals, value}
 use Rattle.bus_dump.specs.Stamps.{Rises, StampsAre, is_change, stamped, stamps, time_of}
-use Rattle.bus_dump.proofs.ReadLemmas.{Feedless, IsSmall, feedless_join, feedless_test, field_feedless, good_id, line_first, value_feedless, value_line_of}
+use Rattle.bus_dump.proofs.ReadLemmas.{Feedless, IsSmall, feedless_test, good_id, value_feedless, value_line_of}
 use Rattle.bus_dump.proofs.ReadThroughLemmas.{declaration_feedless, small_filter}
 use Rattle.bus_dump.proofs.SmallLemmas.{signals_small}
 
@@ -41,7 +42,7 @@ both a b xs ys m n rest =
 value_has : (scene : Scene) (s : Signal) → IsSmall s → Has (value_line scene s) none
 value_has scene s h =
     let g = good_id s h in
-    skips (value_text (value s scene) ++ id_text s) (feedless_join (value_text (value s scene)) (id_text s) (value_feedless (value s scene)) g.feedless)
+    skips (value_text (value s scene) ++ id_text s) (feedless_append (value_text (value s scene)) (id_text s) (value_feedless (value s scene)) g.feedless)
     (ap time_of (value_line_of (value s scene) (id_text s) g.spaceless))
 
 values_have : (scene : Scene) (ss : List Signal) → AllByRecursion IsSmall ss → Has (flat_map (value_line scene) ss) none
@@ -53,7 +54,7 @@ stamp_has : (t : ℕ) → 5 * t < 2 ^ 64 → Has (stamp t) ((5 * t) ∷ [])
 stamp_has t h rest =
     let d = decimal_field (5 * t) h in
     ap stamps (append_assoc (codes "#" ++ decimal (5 * t)) (10 ∷ []) rest)
-    ∙ line_read (35 ∷ decimal (5 * t)) rest (refl, field_feedless (decimal (5 * t)) d.bytes)
+    ∙ line_read (35 ∷ decimal (5 * t)) rest (refl, feedless (decimal (5 * t)) d.bytes)
     ∙ ap (λ n. n ∷ stamps rest) (decimal_is (5 * t) h).value
 
 -- ---- the head
@@ -79,8 +80,8 @@ head_has comment h rest =
     ∙ append_assoc (codes "$version bus629-view 1 $end\n$comment ") comment (codes " $end\n$timescale 100 ns $end\n$scope module bus $end\n" ++ rest))
     ∙ line_skipped a (codes "$comment " ++ (comment ++ (codes " $end" ++ 10 ∷ tail))) (feedless_test a refl) refl
     ∙ ap stamps (sym (append_assoc (codes "$comment " ++ comment) (codes " $end") (10 ∷ tail) ∙ append_assoc (codes "$comment ") comment (codes " $end" ++ 10 ∷ tail)))
-    ∙ line_skipped c tail (feedless_join (codes "$comment " ++ comment) (codes " $end")
-    (feedless_join (codes "$comment ") comment (feedless_test (codes "$comment ") refl) h) (feedless_test (codes " $end") refl)) refl
+    ∙ line_skipped c tail (feedless_append (codes "$comment " ++ comment) (codes " $end")
+    (feedless_append (codes "$comment ") comment (feedless_test (codes "$comment ") refl) h) (feedless_test (codes " $end") refl)) refl
     ∙ line_skipped e (f ++ 10 ∷ rest) (feedless_test e refl) refl
     ∙ line_skipped f rest (feedless_test f refl) refl
 

@@ -13,12 +13,13 @@ use Rattle.bus_table.specs.Valid.{is_valid}
 use Rattle.bus_table.specs.Whole.{periodic_refusal}
 use Rattle.bus_table.proofs.OffsetLaws.{kept_valid}
 use Rattle.bus_table.proofs.ValidLaws.{valid_facts}
+use Rattle.bus_table.proofs.PartLaws.{none_late}
 use Rattle.bus_regime.specs.Verdicts.{verdict_of, is_accepted}
 use Rattle.bus_plan.specs.Laws.{AreAccepted, FeasibleExactly}
 use Rattle.bus_plan.specs.Plans.{least_interval}
 use Rattle.bus_plan.proofs.Moved.{least_offsets, length-at_offsets}
 use Rattle.bus_advice.specs.Changes.{with_interval}
-use Rattle.bus_advice.proofs.Parts.{none_late, parts_of, valid_of}
+use Rattle.bus_advice.proofs.IntervalLaws.{at_interval}
 
 -- an offset of 0 for each sender
 abbrev zeros : List Sender → List ℕ
@@ -54,20 +55,7 @@ cleared_valid table n valid periodic range =
     let least = facts.ti_least in
     let base : IsTrue (is_valid (cleared table)) =
     kept_valid table (zeros table.senders) valid periodic (λ at i. let none = in_zeros table.senders at i in omega (arith, none, least)) in
-    let p = parts_of (cleared table) base in
-    valid_of (with_interval n (cleared table)) (record {
-      ti = range;
-      sg = p.sg;
-      senders = p.senders;
-      listeners = p.listeners;
-      fits = p.fits;
-      some = p.some;
-      once = p.once;
-      gaps = p.gaps;
-      short = p.short;
-      pairs = p.pairs;
-      late = not_late table.mode n table.senders periodic (ti_some n range);
-    })
+    at_interval (cleared table) n base range (not_late table.mode n table.senders periodic (ti_some n range))
 
 -- other offsets over these are those over the table's own
 over : (offsets : List ℕ) (senders : List Sender) → length offsets ≡ length senders

@@ -3,7 +3,7 @@ use Rattle.std.proofs.Common.{◌≡◌, ℕ, zero, suc, ◌+◌, ◌-◌, ◌<�
 use Rattle.std.proofs.Common.{get_or, inl, inr, arith, sym, refl, ap, ◌∙◌, subst}
 use Rattle.std.specs.List.{AllByRecursion, count_by, range_with_len, sum_by}
 use Rattle.std.specs.List.Sorted.{IsNonDecreasingBy}
-use Rattle.std.proofs.lemmas.Bool.{cases_lt, lt-ltb, le-ltb, le-leb, lt-leb, ltb-true, true≢false}
+use Rattle.std.proofs.lemmas.Bool.{cases_lt, lt-ltb, le-ltb, le-leb, lt-leb, ltb-true, and_parts}
 use Rattle.std.proofs.lemmas.List.{length-drop, take_all}
 use Rattle.std.proofs.lemmas.List.FromFn.{length-range_with_len}
 use Rattle.std.proofs.lemmas.List.Sums.{count_by-le-length, sum_by-cons, sum_by_more_le, sum_by-take-drop}
@@ -70,10 +70,6 @@ count_none [] = refl
 count_none (t ∷ ts) = sum_by-cons (λ (t : ℕ). 0) t ts ∙ ap (λ n. 0 + n) (count_none ts)
 
 -- no later stretch has a bit time of one
-both : (a b : Bool) → (a && b) ≡ true → (a ≡ true) × (b ≡ true)
-both true b h = (refl, h)
-both false b h = absurd (true≢false (sym h))
-
 later_without : (t m : ℕ) (ss : List Stretch) → t < m → AllByRecursion (λ (next : Stretch). m < next.from) ss → is_within ss t ≡ false
 later_without t m [] h all = refl
 later_without t m (s ∷ ss) h all =
@@ -81,7 +77,7 @@ later_without t m (s ∷ ss) h all =
     rw (lt-leb s.from t (let e : t < s.from = omega arith in e)) (later_without t m ss h all.1)
 
 not_twice : (s : Stretch) (ss : List Stretch) → AreApart (s ∷ ss) → (t : ℕ) → has t s ≡ true → is_within ss t ≡ false
-not_twice s ss h t e = later_without t s.to ss (ltb-true t s.to (both (leb s.from t) (ltb t s.to) e).1) h.1
+not_twice s ss h t e = later_without t s.to ss (ltb-true t s.to (and_parts (leb s.from t) (ltb t s.to) e).1) h.1
 
 pub count_parts : (ss : List Stretch) (a n : ℕ) → AreApart ss → count_by (is_within ss) (range_with_len a n) ≡ sum_by (part_of a (a + n)) ss
 count_parts [] a n h = count_none (range_with_len a n)

@@ -1,7 +1,7 @@
 -- The pulses of a message, wordstring by wordstring.
 use Rattle.std.proofs.Common.{◌≡◌, ℕ, suc, ◌+◌, ◌-◌, ◌*◌, ◌<◌, ◌≤◌, Bool, true, false, ◌&&◌, ◌||◌, ltb, leb, List, ◌∷◌, length, drop}
 use Rattle.std.proofs.Common.{get_or, inl, inr, arith, sym, refl, ap, ◌∙◌, add-one}
-use Rattle.std.proofs.lemmas.Bool.{cases_lt, lt-ltb, le-ltb, le-leb, lt-leb}
+use Rattle.std.proofs.lemmas.Bool.{cases_lt, lt-ltb, le-ltb, le-leb, lt-leb, and_right}
 use Rattle.std.proofs.Math.Seq.{drop-cons}
 use Rattle.std.proofs.Math.ListN.{drop_of_length-le}
 use Rattle.bus_strings.specs.Messages.{Wordstring, Message, Entry, word_count}
@@ -65,13 +65,9 @@ or_false : (a b : Bool) → b ≡ false → (a || b) ≡ a
 or_false true b e = refl
 or_false false b e = e
 
-and_false : (a : Bool) → (a && false) ≡ false
-and_false true = refl
-and_false false = refl
-
 pub all_made : (stretches whole : List Stretch) (m strings : Message) (k b : ℕ) (x : Entry) → length m ≤ k → strings ≡ x.message
     → Makes stretches (drop k m) b whole strings x.moment → (t : ℕ) → is_within stretches t ≡ (is_within whole t || pulses t x)
 all_made stretches whole m strings k b x h e i t =
-    sym (or_false (is_within stretches t) (on_from (drop k m) b t) (ap (λ w. on_from w b t) (drop_of_length-le m {i = k} h) ∙ and_false (leb b t)))
+    sym (or_false (is_within stretches t) (on_from (drop k m) b t) (ap (λ w. on_from w b t) (drop_of_length-le m {i = k} h) ∙ and_right (leb b t) false refl))
     ∙ i t
     ∙ ap (λ b. is_within whole t || (leb x.moment t && b)) (ap (λ w. on_along w (t - x.moment)) e ∙ sym (on_is x.message (t - x.moment)))

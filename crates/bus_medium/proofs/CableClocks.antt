@@ -31,7 +31,7 @@ gap_elapsed quiet sg wake G m e h = rw (le-leb G (quiet + m) h) refl
 pub gap_waiting : (quiet sg wake G m e : ℕ) → quiet + m < G → gap_behind quiet sg wake G m e ≡ max (quiet + e + sg) (sg + wake)
 gap_waiting quiet sg wake G m e h = rw (lt-leb G (quiet + m) h) refl
 
-max_first : (a b : ℕ) → b ≤ a → a ≡ max a b
+pub max_first : (a b : ℕ) → b ≤ a → a ≡ max a b
 max_first a b h = grind arith
 
 max_second : (a b : ℕ) → a ≤ b → b ≡ max a b

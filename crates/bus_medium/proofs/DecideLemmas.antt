@@ -8,6 +8,7 @@ use Rattle.std.proofs.lemmas.Option.{slice_get_within, slice_get-get_or, get_or_
 use Rattle.bus_timers.specs.declared.cores.Core.{Ghosts}
 use Rattle.bus_strings.specs.Members.{In}
 use Rattle.bus_strings.specs.Messages.{Entry}
+use Rattle.bus_strings.proofs.ListLaws.{some_at}
 use Rattle.bus_table.specs.Tables.{Hand}
 use Rattle.bus_terminal.specs.Terminals.{Terminal}
 use Rattle.bus_medium.specs.Past.{past, own, last_place}
@@ -18,7 +19,7 @@ use Rattle.bus_medium.specs.Orders.{IsByNumber, AreNumbers}
 use Rattle.bus_medium.proofs.PastLaws.{length_past, past_push, own_later, own_push, own_push_other}
 use Rattle.bus_medium.proofs.Steps.{not_yet, lawful_idle, lawful_start, lawful_next}
 use Rattle.bus_medium.proofs.Following.{due_is_free, follows_started}
-use Rattle.bus_medium.proofs.Seats.{get_set_same, get_set_other, get_within, same_some, map_set_same, in_map, from_map, number_at, same_numbers, own_numbers}
+use Rattle.bus_medium.proofs.Seats.{get_set_same, get_set_other, same_some, map_set_same, in_map, from_map, number_at, same_numbers, own_numbers}
 
 -- with no transmission at moment t, what is own up to it is what was own before it
 pub own_next : (l : List Entry) (n t : ℕ) → (HasEntry l n t → ⊥) → own l n (t + 1) ≡ own l n t
@@ -245,7 +246,7 @@ all_places core quiet t xs ys l places i by d all =
 pub places_within : {C : Type 0} (xs : List (Seat C)) (places : List ℕ) → IsByNumber (map number_of xs) places → (k : ℕ) → k < length places → get_or places k 0 < length xs
 places_within xs places by k h =
     let len : length (map number_of xs) ≡ length xs = length-map xs number_of in
-    let p = get_within places k h in
+    let p = some_at places k h in
     let same : get_or places k 0 ≡ p.0 = get_or_from_slice_get places k p.0 0 p.1 in
     let within : p.0 < length (map number_of xs) = by.within k p.0 p.1 in
     omega arith

@@ -11,6 +11,7 @@ use Rattle.bus_strings.specs.Members.{In}
 use Rattle.bus_strings.specs.Messages.{Entry, bits}
 use Rattle.bus_strings.specs.Transmissions.{pulses, carrier, end_of}
 use Rattle.bus_strings.proofs.MemberLaws.{any_filter, from_map}
+use Rattle.bus_strings.proofs.TestLaws.{or_false}
 use Rattle.bus_medium.specs.Past.{past, own, last_place}
 use Rattle.bus_medium.specs.inside.Lazy.{HaveEnded}
 use Rattle.bus_medium.specs.Delays.{Delays, AreDelays, later, heard}
@@ -128,10 +129,6 @@ nothing_heard delay k u (y ∷ ys) h =
     ap (λ b. b || carrier (heard delay k ys) u) (pulses_later u (later (delay y k) y) (h y (inl refl)))
     ∙ nothing_heard delay k u ys (λ x i. h x (inr i))
 
-or_false : (b : Bool) → (b || false) ≡ b
-or_false true = refl
-or_false false = refl
-
 past_unheard : (q : ℕ) (delay : Delays) (k : ℕ) (xs ys : List Entry) (t u : ℕ) → u ≤ t → IsUnheard delay k t ys
     → past q (heard delay k (xs ++ ys)) u ≡ past q (heard delay k xs) u
 past_unheard q delay k xs ys t zero low h = refl
@@ -167,7 +164,7 @@ heard_none delay k (x ∷ list) none =
     let zero : delay x k ≡ 0 = (let w : delay x k ≤ 0 = none.within x k in omega arith) in
     ap (λ d. later d x ∷ heard delay k list) zero ∙ ap (λ y. y ∷ heard delay k list) (later_none x) ∙ ap (λ l. x ∷ l) (heard_none delay k list none)
 
-place_none : (o : Option ℕ) → option_map (λ p. p - 0) o ≡ o
+pub place_none : (o : Option ℕ) → option_map (λ p. p - 0) o ≡ o
 place_none None = refl
 place_none (Some p) = ap (λ n. Some n) (let e : p - 0 ≡ p = omega arith in e)
 

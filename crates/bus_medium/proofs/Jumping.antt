@@ -7,6 +7,7 @@ use Rattle.bus_timers.specs.declared.cores.Core.{Ghosts}
 use Rattle.bus_strings.specs.Members.{In}
 use Rattle.bus_strings.specs.Messages.{Entry}
 use Rattle.bus_strings.specs.Transmissions.{carrier}
+use Rattle.bus_strings.proofs.ListLaws.{some_at}
 use Rattle.bus_terminal.specs.Terminals.{Terminal, last_begun}
 use Rattle.bus_terminal.specs.Jumps.{later_place}
 use Rattle.bus_medium.specs.Past.{past, own}
@@ -17,7 +18,6 @@ use Rattle.bus_medium.specs.Jumps.{Each}
 use Rattle.bus_medium.specs.inside.Lasting.{PassedMany}
 use Rattle.bus_medium.proofs.PastLaws.{own_after, past_push, own_push_other}
 use Rattle.bus_medium.proofs.Following.{follows_later}
-use Rattle.bus_medium.proofs.Seats.{get_within}
 
 pub begun_by : (u n t : ℕ) → IsBefore u n t 0 → u < t
 begun_by u n t (inl less) = less
@@ -41,7 +41,7 @@ pub all_later : {C : Type 0} (core : Ghosts C) (quiet t n : ℕ) (c : Bool) (ys 
 all_later {C} core quiet t n c ys zs l some p law f pasts = λ j z z_at.
     let within : j < length zs = slice_get_within zs j z z_at in
     let len : length zs ≡ length ys = p.same_length in
-    let was = get_within ys j (omega arith) in
+    let was = some_at ys j (omega arith) in
     let x : Seat C = was.0 in
     let q : PassedMany core c n x z = p.each j x z was.1 z_at in
     let made : Follows (core.stands z.terminal.core) quiet x.timing x.terminal.hand x.terminal.sent (option_and_then (later_place (last_begun x.terminal.hand x.terminal.sent) n) x.terminal.running) (past quiet l t ++ replicate n c) (own l (number_of x) (t + 1)) (t + n) =

@@ -7,13 +7,14 @@ use Rattle.std.proofs.lemmas.List.{length-map, length-set, map-set}
 use Rattle.std.proofs.lemmas.Option.{slice_get_within}
 use Rattle.bus_timers.specs.declared.cores.Core.{Ghosts}
 use Rattle.bus_strings.specs.Messages.{Entry}
+use Rattle.bus_strings.proofs.ListLaws.{some_at}
 use Rattle.bus_medium.specs.Buses.{Seat, number_of, station_of}
 use Rattle.bus_medium.specs.Lawful.{IsLawfulTo}
 use Rattle.bus_medium.specs.Orders.{IsByNumber}
 use Rattle.bus_medium.specs.declared.clock.Watch.{Watch}
 use Rattle.bus_medium.specs.inside.Following.{AllFollow, Idle, Started}
 use Rattle.bus_medium.specs.inside.Lazy.{Clock, clock_of, clocks_of, lazy, lazy_seat, lazy_seats, IsAlone}
-use Rattle.bus_medium.proofs.Seats.{get_within, get_set_other}
+use Rattle.bus_medium.proofs.Seats.{get_set_other}
 use Rattle.bus_medium.proofs.DecideLemmas.{DecidedPlaces, no_places, one_place}
 use Rattle.bus_medium.proofs.LazySeats.{lazy_from, lazy_set}
 use Rattle.bus_medium.proofs.LazyStarts.{begin_none}
@@ -37,10 +38,10 @@ skip_places : {C : Type 0} (core : Ghosts C) (quiet t : ℕ) (xs ys : List (Seat
 skip_places core quiet t xs ys l places p zero i by long within apart idle d = subst (λ k. DecidedPlaces core quiet t xs ys l places k) (let e : i ≡ i + 0 = omega arith in e) d
 skip_places core quiet t xs ys l places p (suc n) i by long within apart idle d =
     let inside : i + suc n ≤ length places = within in
-    let r = get_within places i (omega arith) in
+    let r = some_at places i (omega arith) in
     let len : length (map number_of xs) ≡ length xs = length-map xs number_of in
     let there : r.0 < length (map number_of xs) = by.within i r.0 r.1 in
-    let x = get_within ys r.0 (omega arith) in
+    let x = some_at ys r.0 (omega arith) in
     let next = skip_place core quiet t xs ys l places i r.0 x.0 by d r.1 x.1 (idle r.0 x.0 (apart i r.0 (omega arith) (omega arith) r.1) x.1) in
     subst (λ k. DecidedPlaces core quiet t xs ys l places k) (let e : i + 1 + n ≡ i + suc n = omega arith in e)
     (skip_places core quiet t xs ys l places p n (i + 1) by long (omega arith) (λ k s low high s_at. apart k s (omega arith) (omega arith) s_at) idle next)

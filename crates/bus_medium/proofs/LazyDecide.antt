@@ -9,13 +9,14 @@ use Rattle.bus_timers.specs.declared.cores.Core.{Ghosts}
 use Rattle.bus_strings.specs.Messages.{Entry}
 use Rattle.bus_strings.specs.Transmissions.{end_of}
 use Rattle.bus_strings.proofs.MemberLaws.{in_append_left, in_push, in_push_cases}
+use Rattle.bus_strings.proofs.ListLaws.{some_at}
 use Rattle.bus_medium.specs.Past.{past, own, last_place}
 use Rattle.bus_medium.specs.Buses.{Seat, station_of, number_of}
 use Rattle.bus_medium.specs.inside.Following.{FollowsAt, Idle, Started}
 use Rattle.bus_medium.specs.inside.Lazy.{Clock, Clocked, lazy, lazy_seat, lazy_seats, Sits, AllSit, MovesOnce, MovedBySent, EndsAt, RestsAt}
 use Rattle.bus_medium.proofs.Following.{due_is_free}
 use Rattle.bus_medium.proofs.DecideLemmas.{DecidedPlaces, number_kept}
-use Rattle.bus_medium.proofs.Seats.{get_set_same, get_set_other, get_within, same_some}
+use Rattle.bus_medium.proofs.Seats.{get_set_same, get_set_other, same_some}
 use Rattle.bus_medium.proofs.LazySeats.{lazy_at, lazy_stations}
 
 -- a sender that follows the list sits
@@ -77,7 +78,7 @@ moved_more core xs ys zs a b = record {
   each = λ j x z x_at z_at.
       let within : j < length zs = slice_get_within zs j z z_at in
       let len : length zs ≡ length ys = b.same_length in
-      let y = get_within ys j (omega arith) in
+      let y = some_at ys j (omega arith) in
       let p : core.moves y.0.terminal.core + x.terminal.sent ≤ core.moves x.terminal.core + y.0.terminal.sent = a.each j x y.0 x_at y.1 in
       let q : core.moves z.terminal.core + y.0.terminal.sent ≤ core.moves y.0.terminal.core + z.terminal.sent = b.each j y.0 z y.1 z_at in
       let k : core.moves z.terminal.core + x.terminal.sent ≤ core.moves x.terminal.core + z.terminal.sent = omega arith in k;

@@ -3,18 +3,17 @@ use Rattle.std.proofs.Common.{◌≡◌, ℕ, suc, ◌+◌, ◌-◌, ◌*◌, �
 use Rattle.std.specs.Prelude.{slice_get}
 use Rattle.std.specs.List.{sum_by}
 use Rattle.std.specs.Option.{option_and_then}
-use Rattle.std.proofs.lemmas.Bool.{true≢false}
 use Rattle.std.proofs.lemmas.List.{take_all, length-replicate}
 use Rattle.std.proofs.lemmas.List.Sums.{sum_by-cons}
 use Rattle.std.proofs.lemmas.Option.{slice_get_within}
 use Rattle.bus_timers.specs.declared.cores.Core.{Ghosts}
 use Rattle.bus_timers.specs.GapPlace.{GapFrom}
 use Rattle.bus_timers.proofs.TimingLaws.{sound_sg}
-use Rattle.bus_timers.proofs.GapStretchLaws.{gap_quiets}
 use Rattle.bus_strings.specs.Members.{In}
 use Rattle.bus_strings.specs.Messages.{Entry}
 use Rattle.bus_strings.specs.Transmissions.{carrier, end_of}
 use Rattle.bus_strings.proofs.MemberLaws.{at_in, in_at}
+use Rattle.bus_strings.proofs.ListLaws.{some_at}
 use Rattle.bus_terminal.specs.Terminals.{Terminal, last_begun}
 use Rattle.bus_terminal.specs.Jumps.{later_place, with_passed_many}
 use Rattle.bus_medium.specs.Past.{past, own, last_place}
@@ -29,24 +28,10 @@ use Rattle.bus_medium.specs.inside.Lazy.{Clock, Clocked, StandsLazily, lazy, laz
 use Rattle.bus_medium.specs.inside.Lazy.{NextPlace, EndsAt, IsTold, AreTold, MovedBySent, clock_after, HaveEnded}
 use Rattle.bus_medium.proofs.Steps.{lawful_none, lawful_whole, lawful_once}
 use Rattle.bus_medium.proofs.Following.{running_is}
-use Rattle.bus_medium.proofs.Seats.{get_within}
 use Rattle.bus_medium.proofs.LazySeats.{lazy_at, lazy_from, lazy_stations}
 use Rattle.bus_medium.proofs.LazyDecide.{moved_none, moved_more}
 use Rattle.bus_medium.proofs.LazySteps.{rests_ended, rests_idle, starts_busy, busy_rests}
-
--- a bus that was quiet from the beginning
-gap_nothing : (sg : ℕ) → 0 < sg → GapFrom sg [] None sg
-gap_nothing sg pos = inr (record {
-  ahead = pos;
-  near = (let k : sg ≤ 0 + sg = omega arith in k);
-  own = (let k : 0 + sg ≤ sg = omega arith in k);
-  quiet = λ i low high. absurd (let k : i < 0 = high in omega arith);
-  none = λ e s. let long : sg ≤ e = s.long in true≢false (s.quiet (e - 1) (omega arith) (omega arith));
-  least = λ m low quiet. omega arith;
-})
-
-gap_quiet_bus : (sg q : ℕ) → 0 < sg → GapFrom sg (replicate q false) None sg
-gap_quiet_bus sg q pos = gap_quiets sg [] None sg q pos (gap_nothing sg pos)
+use Rattle.bus_medium.proofs.Waking.{woken_quiet}
 
 settled_stands : {C : Type 0} (core : Ghosts C) (q : ℕ) (x : Seat C) (k : Clock) → SeatStands core q x [] 0 → IsSettled q x k → StandsLazily core q (q + 0) (record { seat = x; clock = k }) x.timing (replicate q false) None
 settled_stands core q x k s i =
@@ -57,7 +42,7 @@ settled_stands core q x k s i =
       at = length-replicate q false ∙ (let e : q ≡ q + 0 = omega arith in e);
       sg = i.sg;
       tg = i.tg;
-      gap = subst (λ g. GapFrom x.timing.sg (replicate q false) None g) (sym i.gap) (gap_quiet_bus x.timing.sg q (sound_sg x.timing s.sound));
+      gap = subst (λ g. GapFrom x.timing.sg (replicate q false) None g) (sym i.gap) (woken_quiet x.timing.sg q (sound_sg x.timing s.sound));
       due = i.due;
       ready = i.ready;
       from = omega arith;
@@ -160,7 +145,7 @@ told_seat {C} core q now k x y told =
 pub run_keeps : {C : Type 0} (core : Ghosts C) (q now : ℕ) (ks : List Clock) (ys zs : List (Seat C)) → length ks ≡ length ys → AreTold core q now ks ys zs → map station_of zs ≡ map station_of ys
 run_keeps core q now ks ys zs long told = map_each station_of ys zs told.same_length (λ j y z y_at z_at.
     let within : j < length ys = slice_get_within ys j y y_at in
-    let k = get_within ks j (omega arith) in
+    let k = some_at ks j (omega arith) in
     ap station_of (sym (told_seat core q now k.0 y z (told.each j y z k.0 y_at z_at k.1))))
 
 -- the sender at a place, its clock, and what it was before it was told
@@ -176,8 +161,8 @@ told_place core q h ys zs ks l j z rests told z_at =
     let within : j < length zs = slice_get_within zs j z z_at in
     let long : length zs ≡ length ys = told.same_length in
     let longs : length ks ≡ length ys = rests.same_length in
-    let y = get_within ys j (omega arith) in
-    let k = get_within ks j (omega arith) in
+    let y = some_at ys j (omega arith) in
+    let k = some_at ks j (omega arith) in
     record {
       seat = y.0;
       clock = k.0;

@@ -2,9 +2,10 @@
 use Rattle.std.proofs.Common.{◌≡◌, ℕ, zero, suc, ◌<◌, List, [], ◌∷◌, length, set, map, Some, None, arith, sym, refl, ap, ◌∙◌}
 use Rattle.std.specs.Prelude.{slice_get}
 use Rattle.std.proofs.lemmas.Option.{slice_get_within}
+use Rattle.bus_strings.proofs.ListLaws.{some_at}
 use Rattle.bus_medium.specs.Buses.{Seat, station_of, number_of}
 use Rattle.bus_medium.specs.inside.Lazy.{Clock, Clocked, lazy_seat, lazy_seats}
-use Rattle.bus_medium.proofs.Seats.{get_within, same_some}
+use Rattle.bus_medium.proofs.Seats.{same_some}
 
 pub lazy_length : {C : Type 0} (now : ℕ) (xs : List (Seat C)) (ks : List Clock) → length ks ≡ length xs → length (lazy_seats now xs ks) ≡ length xs
 lazy_length now [] ks e = refl
@@ -50,8 +51,8 @@ pub lazy_from : {C : Type 0} (now : ℕ) (xs : List (Seat C)) (ks : List Clock) 
 lazy_from now xs ks j y e at =
     let len : length (lazy_seats now xs ks) ≡ length xs = lazy_length now xs ks e in
     let within : j < length (lazy_seats now xs ks) = slice_get_within (lazy_seats now xs ks) j y at in
-    let x = get_within xs j (omega arith) in
-    let k = get_within ks j (omega arith) in
+    let x = some_at xs j (omega arith) in
+    let k = some_at ks j (omega arith) in
     record {
       seat = x.0;
       clock = k.0;

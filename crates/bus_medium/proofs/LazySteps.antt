@@ -17,6 +17,7 @@ use Rattle.bus_strings.specs.Messages.{Message, Entry, bits}
 use Rattle.bus_strings.specs.Transmissions.{carrier, end_of}
 use Rattle.bus_strings.proofs.MessageLaws.{bits_some}
 use Rattle.bus_strings.proofs.MemberLaws.{in_append_cases}
+use Rattle.bus_strings.proofs.ListLaws.{some_at}
 use Rattle.bus_terminal.specs.Terminals.{last_begun}
 use Rattle.bus_terminal.specs.Jumps.{later_place}
 use Rattle.bus_medium.specs.Past.{past, own, last_place}
@@ -33,7 +34,7 @@ use Rattle.bus_medium.proofs.BusyLaws.{entry_is_busy, busy_elapsed, busy_waiting
 use Rattle.bus_medium.proofs.Steps.{idle_stretch}
 use Rattle.bus_medium.proofs.Following.{follows_on}
 use Rattle.bus_medium.proofs.Jumping.{begun_by, past_steady, grown_past, grown_own}
-use Rattle.bus_medium.proofs.Seats.{get_within, from_map, in_map}
+use Rattle.bus_medium.proofs.Seats.{from_map, in_map}
 use Rattle.bus_medium.proofs.LazySeats.{lazy_stations, lazy_at, lazy_from}
 use Rattle.bus_medium.proofs.LazyLaws.{not_ready, is_ready}
 
@@ -200,7 +201,7 @@ starts_busy {C} core q h t s e seats clocks ys l m long run next below small d e
             let k : Clock = w.1 in
             let k_at : slice_get clocks w.0 ≡ Some w.1 = w.2 in
             let within : w.0 < length clocks = slice_get_within clocks w.0 w.1 k_at in
-            let x = get_within seats w.0 (omega arith) in
+            let x = some_at seats w.0 (omega arith) in
             let at = lazy_at (q + s) seats clocks w.0 x.0 w.1 x.1 k_at in
             let entry : HasEntry m (number_of x.0) s = ready_starts core q s x.0 w.1 (lazy_seats (q + s) seats clocks) ys w.0 l m at (run.follow w.0 (lazy_seat (q + s) x.0 w.1) at) w.3 small d in
             let over : end_of entry.entry ≤ e = ends.ended ended entry.entry entry.there in
@@ -247,7 +248,7 @@ busy_rests {C} core q h s e b r seats clocks after xs l m long clocks_after d en
         follow = λ j y at.
             let w = lazy_from (q + r) seats after j y same_length at in
             let within : j < length after = slice_get_within after j w.clock w.clock_at in
-            let k = get_within clocks j (omega arith) in
+            let k = some_at clocks j (omega arith) in
             let is : w.clock ≡ clock_after (q + s) (q + b) k.0 = clocks_after.each j k.0 w.clock k.1 w.clock_at in
             let f : FollowsAt (lazy core q (q + s)) q (lazy_seat (q + s) w.seat k.0) m s (s + 1) = d.follow j (lazy_seat (q + s) w.seat k.0) (lazy_at (q + s) seats clocks j w.seat k.0 w.seat_at k.1) in
             let st : StandsLazily core q (q + s) (record { seat = w.seat; clock = k.0 }) w.seat.timing (past q m s) (last_place q (own m (number_of w.seat) (s + 1))) = f.core in

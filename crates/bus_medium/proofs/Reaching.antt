@@ -6,6 +6,7 @@ use Rattle.std.proofs.lemmas.Option.{slice_get_within}
 use Rattle.bus_timers.specs.declared.cores.Core.{Ghosts}
 use Rattle.bus_strings.specs.Messages.{Entry}
 use Rattle.bus_strings.specs.Transmissions.{carrier}
+use Rattle.bus_strings.proofs.ListLaws.{some_at}
 use Rattle.bus_table.specs.Tables.{Hand}
 use Rattle.bus_terminal.specs.Terminals.{Terminal}
 use Rattle.bus_medium.specs.Past.{past}
@@ -26,7 +27,7 @@ passed_station {C} core c n x y p =
     ap (λ (h : Hand). record { number = h.terminal; timing = y.timing; hand = h.messages }) hands
     ∙ ap (λ w. record { number = number_of x; timing = w; hand = x.terminal.hand.messages }) p.timing
 
-each_rest : {X : Type 0} (R : X → X → Type 0) (x y : X) (xs ys : List X) → Each R (x ∷ xs) (y ∷ ys) → Each R xs ys
+pub each_rest : {X : Type 0} (R : X → X → Type 0) (x y : X) (xs ys : List X) → Each R (x ∷ xs) (y ∷ ys) → Each R xs ys
 each_rest R x y xs ys p = record {
   same_length = let k : suc (length ys) ≡ suc (length xs) = p.same_length in omega arith;
   each = λ j a b a_at b_at. p.each (suc j) a b a_at b_at;
@@ -45,7 +46,7 @@ passed_room : {C : Type 0} (core : Ghosts C) (c : Bool) (n t : ℕ) (ys zs : Lis
 passed_room core c n t ys zs room p j z z_at =
     let within : j < length zs = slice_get_within zs j z z_at in
     let len : length zs ≡ length ys = p.same_length in
-    let y = get_within ys j (omega arith) in
+    let y = some_at ys j (omega arith) in
     let before : 2 ^ 62 - t ≤ core.room y.0.terminal.core = room j y.0 y.1 in
     let taken : core.room y.0.terminal.core ≤ core.room z.terminal.core + n = (p.each j y.0 z y.1 z_at).room in
     omega arith

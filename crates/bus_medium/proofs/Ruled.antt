@@ -20,7 +20,7 @@ before_more : (u n t m k : ℕ) → m ≤ k → IsBefore u n t m → IsBefore u 
 before_more u n t m k h (inl less) = inl less
 before_more u n t m k h (inr same) = let b : n < m = same.1 in inr (same.0, omega arith)
 
-before_within : (u k t n : ℕ) → IsBefore u k t n → u ≤ t
+pub before_within : (u k t n : ℕ) → IsBefore u k t n → u ≤ t
 before_within u k t n (inl less) = omega arith
 before_within u k t n (inr now) = let e : u ≡ t = now.0 in omega arith
 

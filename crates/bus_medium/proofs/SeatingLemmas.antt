@@ -76,7 +76,7 @@ one_seated core table hands seats hand left seat so made =
       seated = all_push (IsSeated core table) seats seat so.seated (record { sender = n.sender; there = at_in table.senders (length seats) n.sender n.at; messages = hand; number = n.number; seated = s });
     }
 
-zip_none : (table : Table) (senders : List Sender) → map (λ p. station_with table p.0 p.1) (zip senders []) ≡ []
+pub zip_none : (table : Table) (senders : List Sender) → map (λ p. station_with table p.0 p.1) (zip senders []) ≡ []
 zip_none table [] = refl
 zip_none table (s ∷ senders) = refl
 
@@ -85,7 +85,7 @@ pub all_seated : {C : Type 0} (core : Ghosts C) (table : Table) (hands : List Ha
 all_seated core table hands seats so = sym (ap (λ ss. map station_of seats ++ ss) (zip_none table (drop (length seats) table.senders)) ∙ append-nil (map station_of seats)) ∙ so.made
 
 -- the numbers of the senders that sit are those of the table
-stations_numbers : (table : Table) (senders : List Sender) (hands : List Hand) → are_hands senders hands ≡ true → map (λ s. s.number) (map (λ p. station_with table p.0 p.1) (zip senders hands)) ≡ map (λ s. s.number) senders
+pub stations_numbers : (table : Table) (senders : List Sender) (hands : List Hand) → are_hands senders hands ≡ true → map (λ s. s.number) (map (λ p. station_with table p.0 p.1) (zip senders hands)) ≡ map (λ s. s.number) senders
 stations_numbers table [] [] h = refl
 stations_numbers table [] (hand ∷ hands) h = absurd (true≢false (sym h))
 stations_numbers table (s ∷ senders) [] h = absurd (true≢false (sym h))

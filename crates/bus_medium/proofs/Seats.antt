@@ -37,12 +37,6 @@ map_set_same f [] i x y h e = refl
 map_set_same f (z ∷ zs) zero x y h e = let same : z ≡ x = cc in ap (λ w. w ∷ map f zs) (e ∙ ap f (sym same))
 map_set_same f (z ∷ zs) (suc i) x y h e = ap (λ ws. f z ∷ ws) (map_set_same f zs i x y h e)
 
--- elements by place
-pub get_within : {X : Type 0} → (xs : List X) (j : ℕ) → j < length xs → (x : X) × (slice_get xs j ≡ Some x)
-get_within [] j h = absurd (omega arith)
-get_within (x ∷ xs) zero h = (x, refl)
-get_within (x ∷ xs) (suc j) h = get_within xs j (omega arith)
-
 pub record Mapped {X Y : Type 0} (f : X → Y) (xs : List X) (y : Y) : Type 0 where
   pub element : X
   pub place : ℕ

@@ -2,6 +2,7 @@
 use Rattle.std.proofs.Common.{◌≡◌, ℕ, zero, suc, ◌+◌, ◌-◌, ◌<◌, ◌≤◌, ◌⊎◌, ◌↔◌, Bool, true, false, List, [], ◌∷◌, ◌++◌, length, get_or, replicate, Option, inl, inr, arith, sym, refl, ap, ◌∙◌, subst}
 use Rattle.std.proofs.lemmas.Bool.{cases_lt, cases_Bool, true≢false}
 use Rattle.std.proofs.lemmas.List.{length_push, get_or_append_left, get_or_push}
+use Rattle.bus_terminal.proofs.JumpLaws.{some_of_bits}
 use Rattle.bus_timers.specs.GapPlace.{GapFrom}
 use Rattle.bus_timers.proofs.GapStepLaws.{gap_quiet, gap_carrier_elapsed, gap_carrier_waiting, gap_one}
 use Rattle.bus_timers.proofs.GapStretchLaws.{gap_carriers_elapsed, gap_carriers_waiting}
@@ -114,17 +115,13 @@ during_at past m (suc d) k h =
       | inr now ↦ let e : k ≡ d = omega arith in get_or_push (during past m d) (is_on m d) true (length past + k) (omega (arith, length_during past m d)) ∙ ap (is_on m) (sym e)
     ]
 
-inside_some : (m : Message) (d : ℕ) → d < bits m → 0 < length m
-inside_some [] d h = absurd (omega arith)
-inside_some (s ∷ m) d h = omega arith
-
 pub no_start_during : NoStartDuring
 no_start_during timing past last m d sound some inside may =
     let tg : 8 ≤ timing.tg = sound.tg_least in
     let len : length (during past m d) ≡ length past + d = length_during past m d in
     let fits : timing.tg ≤ length (during past m d) = may.gap_fits in
     elim (cases_lt d 5) [
-      | inl soon ↦ true≢false (sym (during_at past m d 0 (omega arith) ∙ first_is_on m (inside_some m d inside)) ∙ may.gap (length past + 0) (omega arith) (omega arith))
+      | inl soon ↦ true≢false (sym (during_at past m d 0 (omega arith) ∙ first_is_on m (some_of_bits m d inside)) ∙ may.gap (length past + 0) (omega arith) (omega arith))
       | inr late ↦
           let w : Pulse m (d - 5) = pulse_soon m (d - 5) (omega arith) in
           let low : d - 5 ≤ w.at = w.low in let high : w.at ≤ d - 5 + 4 = w.high in

@@ -153,7 +153,7 @@ module _ (sg q w : ℕ) (some : 5 ≤ sg) (l : List Entry) (last : Option ℕ) w
       ]
 
 -- from a power-up on, the terminal gap counts from one synchronization gap on, for as long as it is quiet
-woken_gap : (sg : ℕ) → 0 < sg → GapFrom sg [] None sg
+pub woken_gap : (sg : ℕ) → 0 < sg → GapFrom sg [] None sg
 woken_gap sg some = inr (record {
   ahead = some;
   near = omega arith;
@@ -166,7 +166,7 @@ woken_gap sg some = inr (record {
     true_false : true ≡ false → ⊥
     true_false h = cc
 
-woken_quiet : (sg n : ℕ) → 0 < sg → GapFrom sg (replicate n false) None sg
+pub woken_quiet : (sg n : ℕ) → 0 < sg → GapFrom sg (replicate n false) None sg
 woken_quiet sg n some = gap_quiets sg [] None sg n some (woken_gap sg some)
 
 -- from its power-up on

@@ -4,11 +4,12 @@ use Rattle.std.specs.Prelude.{slice_get}
 use Rattle.std.proofs.lemmas.Bool.{cases_lt, cases_eq, lt-leb, le-leb}
 use Rattle.std.proofs.lemmas.List.{length-map, length-set}
 use Rattle.std.proofs.lemmas.Option.{slice_get_within}
+use Rattle.bus_strings.proofs.ListLaws.{some_at}
 use Rattle.bus_medium.specs.Jumps.{Each}
 use Rattle.bus_medium.specs.declared.clock.Watch.{Watch}
 use Rattle.bus_medium.specs.declared.clock.Heard.{Heard}
 use Rattle.bus_medium.specs.inside.Lazy.{Clock, clock_of, clocks_of, clock_after, gap_after, AreAfter, IsKept, EachKept, AreNoShorter, AreKept, OthersKept, IsLater, IsSoon, AreLater, FirstReady, IsAlone}
-use Rattle.bus_medium.proofs.Seats.{get_set_same, get_set_other, get_within, same_some, map_at}
+use Rattle.bus_medium.proofs.Seats.{get_set_same, get_set_other, same_some, map_at}
 
 pub clock_at : (e : ℕ) (ws : List Watch) (j : ℕ) (w : Watch) → slice_get ws j ≡ Some w → slice_get (clocks_of e ws) j ≡ Some (clock_of e w)
 clock_at e ws j w h = map_at (clock_of e) ws j w h
@@ -22,7 +23,7 @@ pub watch_at : (e : ℕ) (ws : List Watch) (j : ℕ) (k : Clock) → slice_get (
 watch_at e ws j k h =
     let long : length (clocks_of e ws) ≡ length ws = length-map ws (clock_of e) in
     let within : j < length (clocks_of e ws) = slice_get_within (clocks_of e ws) j k h in
-    let w = get_within ws j (omega arith) in
+    let w = some_at ws j (omega arith) in
     record { watch = w.0; at = w.1; is = same_some (clock_of e w.0) k (sym (clock_at e ws j w.0 w.1) ∙ h) }
 
 -- a watch that was told that the bus was busy
@@ -43,7 +44,7 @@ pub passed_kept : (e from to : ℕ) (ws vs : List Watch) → Each (Passed e from
 passed_kept e from to ws vs h = λ j v v_at.
     let within : j < length vs = slice_get_within vs j v v_at in
     let long : length vs ≡ length ws = h.same_length in
-    let w = get_within ws j (omega arith) in
+    let w = some_at ws j (omega arith) in
     (h.each j w.0 v w.1 v_at).kept
 
 -- one that need not be told
@@ -262,7 +263,7 @@ pub shorter_after : (least from to : ℕ) (ks cs : List Clock) → AreNoShorter 
 shorter_after least from to ks cs shorter after = λ j c c_at.
     let within : j < length cs = slice_get_within cs j c c_at in
     let long : length cs ≡ length ks = after.same_length in
-    let k = get_within ks j (omega arith) in
+    let k = some_at ks j (omega arith) in
     subst (λ (x : Clock). least ≤ x.sg) (sym (after.each j k.0 c k.1 c_at)) (shorter j k.0 k.1)
 
 pub alone_within : (e place : ℕ) (ws : List Watch) (p : ℕ) → IsAlone place (clocks_of e ws) p → p < length ws

@@ -4,7 +4,7 @@ use Rattle.std.specs.Prelude.{◌-◌, ◌&&◌, ◌||◌, ◌==◌, ◌⊎◌, 
 use Rattle.std.specs.Bool.{beq}
 use Rattle.std.specs.List.{AllByRecursion, count_by, flat_map, list_any, sum_by}
 use Rattle.std.specs.Option.{option_map_or}
-use Rattle.std.proofs.lemmas.Bool.{cases_eq, eq-eqb, ne_eqb, true≢false}
+use Rattle.std.proofs.lemmas.Bool.{cases_eq, eq-eqb, ne_eqb, true≢false, or_parts}
 use Rattle.std.proofs.lemmas.List.Sums.{length-filter, sum_by-append, sum_by-cons}
 use Rattle.bus_strings.proofs.MemberLaws.{any_in, at_in, in_filter}
 use Rattle.bus_strings.specs.Members.{In}
@@ -42,10 +42,6 @@ uncovered k (lane ∷ lanes) =
 pub garbled_are_uncovered : GarbledAreUncovered
 garbled_are_uncovered lanes =
     (λ h. absurd (true≢false (sym h)), (λ h. lower 0 (plot_top + row_height) lanes (omega arith), uncovered 0 lanes))
-
-or_parts : (a b : Bool) → (a || b) ≡ false → (a ≡ false) × (b ≡ false)
-or_parts true b h = absurd (true≢false h)
-or_parts false b h = (refl, h)
 
 -- ---- the rows that show a transmission
 abbrev one_if : Bool → ℕ

@@ -1,18 +1,17 @@
 -- The terminals that titles name are those that receive words.
-use Rattle.std.proofs.Common.{◌≡◌, ◌↔◌, ℕ, zero, suc, ◌+◌, ◌<◌, ◌≤◌, Bool, true, false, cond, List, [], ◌∷◌, ◌++◌, length, map, filter, inl, inr, arith, refl, sym, ap, subst, ◌∙◌}
+use Rattle.std.proofs.Common.{◌≡◌, ℕ, zero, suc, ◌+◌, ◌<◌, ◌≤◌, Bool, true, false, cond, List, [], ◌∷◌, length, filter, inl, inr, arith, refl, sym, ap, subst, ◌∙◌}
 use Rattle.std.specs.Prelude.{◌&&◌, ◌==◌, nat_lt, not}
 use Rattle.std.specs.List.{flat_map, list_any, range_with_len, zip}
-use Rattle.std.proofs.lemmas.Bool.{and_parts, cases_eq, eq-eqb, eqb-true, lt-ltb, ltb-true, true≢false}
+use Rattle.std.proofs.lemmas.Bool.{and_parts, cases_eq, eq-eqb, eqb-true, lt-ltb, ltb-true, and_from}
 use Rattle.bus_strings.proofs.ListLaws.{flat_map-map, flat_map-passing, flat_map-same}
-use Rattle.bus_strings.proofs.MemberLaws.{any_in, from_filter, from_map, in_filter, in_map}
+use Rattle.bus_strings.proofs.MemberLaws.{any_in, from_filter, from_map, in_filter, in_map, any_found}
 use Rattle.bus_strings.specs.Limits.{most_terminal}
 use Rattle.bus_strings.specs.Members.{In}
 use Rattle.bus_strings.specs.Messages.{Entry, Wordstring}
 use Rattle.bus_strings.specs.Transmissions.{garbled, marks}
 use Rattle.bus_table.specs.declared.line.TakeLine.{TakeLine}
 use Rattle.bus_table.specs.Tables.{Table}
-use Rattle.bus_dump.proofs.GarbleLemmas.{any_of}
-use Rattle.bus_filter.specs.Received.{ReceivedLine, Taker, entry_lines, heard, is_heard, matches, received_by, received_line, selection, string_lines, takers}
+use Rattle.bus_filter.specs.Received.{ReceivedLine, Taker, entry_lines, is_heard, matches, received_line, selection, string_lines, takers}
 use Rattle.bus_shapes.specs.declared.sent.Sent.{Sent}
 use Rattle.bus_shapes.specs.SendingLaws.{IsToldOf}
 use Rattle.bus_picture.specs.Takings.{does_take, is_taken_by, taken_by, takes_words}
@@ -38,10 +37,6 @@ receives_strings list taker =
     (λ m. by_string (test m) (string_lines taker.takes m.0.moment) m.0.message)
 
 -- ---- who is named
-both : (a b : Bool) → a ≡ true → b ≡ true → (a && b) ≡ true
-both true b h k = k
-both false b h k = h
-
 in_range : (start len n : ℕ) → start ≤ n → n < start + len → In n (range_with_len start len)
 in_range start zero n low high = absurd (let no : n < n = omega arith in omega (arith, no))
 in_range start (suc len) n low high =
@@ -60,11 +55,11 @@ named : (table : Table) (list : List Entry) (x : Sent) (string : Wordstring) (n 
     → ReceivesWords table (t.entry, garbled list x.at) string n
 named table list x string n t i =
     let kept = from_filter (is_taken_by table x string) (range_with_len 1 most_terminal) n i in
-    let found = any_of (λ (taker : Taker). taker.number == n && does_take x string taker) (takers table) kept.1 in
+    let found = any_found (λ (taker : Taker). taker.number == n && does_take x string taker) (takers table) kept.1 in
     let taker : Taker = found.0 in
     let parts = and_parts (taker.number == n) (does_take x string taker) found.2 in
     let heard_too = and_parts (not x.garbled && not (x.terminal == taker.number)) (list_any (takes_words string) taker.takes) parts.1 in
-    let taking = any_of (takes_words string) taker.takes heard_too.1 in
+    let taking = any_found (takes_words string) taker.takes heard_too.1 in
     let line : TakeLine = taking.0 in
     let halves = and_parts (matches line string.label string.ext) (nat_lt 0 (length (selection line string.words))) taking.2 in
     let hears : is_heard taker.number (t.entry, garbled list x.at) ≡ true = heard_as list x t taker.number ∙ heard_too.0 in
@@ -103,13 +98,13 @@ receives table list x string n t low high r =
     let hears : (not x.garbled && not (x.terminal == r.taker.number)) ≡ true = sym (heard_as list x t r.taker.number) ∙ by.hears in
     let some : 0 < length (selection by.by string.words) = subst (λ (ws : List ℕ). 0 < length ws) by.words r.some in
     let takes : takes_words string by.by ≡ true =
-    both (matches by.by string.label string.ext) (nat_lt 0 (length (selection by.by string.words))) by.matching (lt-ltb 0 (length (selection by.by string.words)) some) in
+    and_from (matches by.by string.label string.ext) (nat_lt 0 (length (selection by.by string.words))) by.matching (lt-ltb 0 (length (selection by.by string.words)) some) in
     let does : does_take x string r.taker ≡ true =
-    both (not x.garbled && not (x.terminal == r.taker.number)) (list_any (takes_words string) r.taker.takes) hears
+    and_from (not x.garbled && not (x.terminal == r.taker.number)) (list_any (takes_words string) r.taker.takes) hears
     (any_in (takes_words string) r.taker.takes by.by by.one takes) in
     in_filter (is_taken_by table x string) (range_with_len 1 most_terminal) n (in_range 1 most_terminal n low (omega arith))
     (any_in (λ (taker : Taker). taker.number == n && does_take x string taker) (takers table) r.taker r.of_table
-    (both (r.taker.number == n) (does_take x string r.taker) (eq-eqb r.taker.number n r.number) does))
+    (and_from (r.taker.number == n) (does_take x string r.taker) (eq-eqb r.taker.number n r.number) does))
 
 pub named_receive : NamedReceive
 named_receive table list x string n told low high =

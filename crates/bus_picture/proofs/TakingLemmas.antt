@@ -8,13 +8,12 @@ use Rattle.std.proofs.lemmas.List.{append_assoc, get_or-set_same, get_or-set_oth
 use Rattle.std.proofs.lemmas.List.Elements.{filter-append}
 use Rattle.std.proofs.lemmas.List.Folds.{list_any-append}
 use Rattle.std.proofs.lemmas.List.FromFn.{map-range_with_len_more}
-use Rattle.bus_strings.proofs.MemberLaws.{in_append_cases, in_push_cases, none_any}
+use Rattle.bus_strings.proofs.MemberLaws.{in_append_cases, in_push_cases, none_any, any_found}
 use Rattle.bus_strings.specs.Members.{In}
 use Rattle.bus_strings.specs.Messages.{Wordstring}
 use Rattle.bus_table.specs.declared.line.TakeLine.{TakeLine}
 use Rattle.bus_table.specs.Tables.{Listener, Sender, Table}
 use Rattle.bus_table.proofs.WholeLemmas.{list_any-map}
-use Rattle.bus_dump.proofs.GarbleLemmas.{any_of}
 use Rattle.bus_filter.specs.Received.{Taker, listener_taker, matches, selection, sender_taker, takers}
 use Rattle.bus_shapes.specs.declared.sent.Sent.{Sent}
 use Rattle.bus_picture.specs.Takings.{after_commas, does_take, is_taken_by, numbers_words, takes_words}
@@ -69,7 +68,7 @@ both_noted ts us before may kept first second t i =
 none_takes : (string : Wordstring) (n : ℕ) (may : List Bool) (takes : List TakeLine) → LinesNoted n takes may
     → get_or may (place_of string.label n) false ≡ false → list_any (takes_words string) takes ≡ true → ⊥
 none_takes string n may takes noted none h =
-    let found = any_of (takes_words string) takes h in
+    let found = any_found (takes_words string) takes h in
     let line : TakeLine = found.0 in
     let matching = (and_parts (matches line string.label string.ext) (nat_lt 0 (length (selection line string.words))) found.2).0 in
     let label : line.label ≡ string.label = eqb-true line.label string.label (and_parts (line.label == string.label) _ matching).0 in

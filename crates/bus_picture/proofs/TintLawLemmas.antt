@@ -1,8 +1,8 @@
 -- Tints are the bit times at which two transmissions are sent.
-use Rattle.std.proofs.Common.{◌≡◌, ℕ, zero, suc, ◌+◌, ◌<◌, ◌≤◌, Bool, true, false, cond, max, min, List, [], ◌∷◌, ◌++◌, filter, map, Option, Some, None, inl, inr, arith, refl, sym, ap, subst, ◌∙◌}
-use Rattle.std.specs.Prelude.{◌&&◌, ◌⊎◌, fold, nat_lt, slice_get, take, ⊤}
+use Rattle.std.proofs.Common.{◌≡◌, ℕ, zero, suc, ◌+◌, ◌<◌, ◌≤◌, true, false, cond, max, min, List, [], ◌∷◌, filter, map, Some, None, inl, inr, arith, refl, sym, ap, subst, ◌∙◌}
+use Rattle.std.specs.Prelude.{◌⊎◌, fold, nat_lt, slice_get, take, ⊤}
 use Rattle.std.specs.List.{AllByRecursion}
-use Rattle.std.proofs.lemmas.Bool.{and_parts, cases_lt, ltb-true, lt-ltb}
+use Rattle.std.proofs.lemmas.Bool.{and_parts, cases_lt, ltb-true, lt-ltb, and_from}
 use Rattle.bus_strings.proofs.MemberLaws.{from_filter, from_map, in_filter, in_map}
 use Rattle.bus_strings.specs.Members.{In}
 use Rattle.bus_strings.specs.Messages.{Entry}
@@ -17,8 +17,8 @@ use Rattle.bus_shapes.specs.Scales.{IsScale, place}
 use Rattle.bus_shapes.specs.Sending.{sent_of, sents, sents_from}
 use Rattle.bus_shapes.specs.SendingLaws.{IsToldOf}
 use Rattle.bus_picture.specs.Strings.{meets}
-use Rattle.bus_picture.specs.Tints.{Tint, is_overlapped, joined, overlap_of, overlaps, tints, tints_from, touches, widened}
-use Rattle.bus_picture.specs.TintLaws.{IsIn, IsSent, IsShared, OverlapsAreTinted, TintsAreOverlaps}
+use Rattle.bus_picture.specs.Tints.{Tint, is_overlapped, joined, overlap_of, overlaps, tints_from, touches, widened}
+use Rattle.bus_picture.specs.TintLaws.{IsIn, IsShared, OverlapsAreTinted, TintsAreOverlaps}
 use Rattle.bus_picture.proofs.LawLemmas.{IsBehind, Rise, kept_rise, rise}
 
 -- ---- the greatest end
@@ -62,11 +62,6 @@ in_sents : (list : List Entry) (k : ℕ) (x : Entry) → slice_get list k ≡ So
 in_sents list k x e = subst (λ m. In (sent_of list m x) (sents list)) (let z : 0 + k ≡ k = omega arith in z) (in_from list 0 list k x e)
 
 -- ---- overlaps
-both : (a b : Bool) → a ≡ true → b ≡ true → (a && b) ≡ true
-both true true h k = refl
-both true false h k = k
-both false b h k = h
-
 -- What is shared is in the overlap of the later one.
 overlapped : (scale : Scale) (list : List Entry) (t : ℕ) → IsByMoment list → scale.from ≤ t → t < scale.to → IsShared list t
     → (o : Tint) × In o (overlaps scale list) × IsIn o t
@@ -80,8 +75,8 @@ overlapped scale list t order low high shared =
     let runs : t < end_of shared.other = too.1 in
     let inside : t < min x.end x.before = omega arith in
     let passes : is_overlapped scale x ≡ true =
-    both (nat_lt x.moment (min x.end x.before)) (meets scale x.moment (min x.end x.before)) (lt-ltb x.moment (min x.end x.before) (omega arith))
-    (both (nat_lt x.moment scale.to) (nat_lt scale.from (min x.end x.before)) (lt-ltb x.moment scale.to (omega arith))
+    and_from (nat_lt x.moment (min x.end x.before)) (meets scale x.moment (min x.end x.before)) (lt-ltb x.moment (min x.end x.before) (omega arith))
+    (and_from (nat_lt x.moment scale.to) (nat_lt scale.from (min x.end x.before)) (lt-ltb x.moment scale.to (omega arith))
     (lt-ltb scale.from (min x.end x.before) (omega arith))) in (
       overlap_of x,
       in_map overlap_of (filter (is_overlapped scale) (sents list)) x

@@ -6,12 +6,12 @@ use Rattle.std.proofs.lemmas.Bool.Decides.{nat_tests}
 use Rattle.bus_strings.specs.Members.{In}
 use Rattle.bus_table.specs.Tables.{Sender, Table}
 use Rattle.bus_table.specs.Turns.{turn_key, turn_order}
-use Rattle.bus_table.proofs.TurnLaws.{from_sort, length-sort}
+use Rattle.bus_table.proofs.TurnLaws.{from_sort, length-sort, sum_sort}
 use Rattle.bus_regime.specs.Verdicts.{is_accepted}
 use Rattle.bus_regime.specs.Gaps.{Gap, gaps_from, latest_end, last_end}
 use Rattle.bus_regime.specs.Verdicts.{verdict_of}
 use Rattle.bus_plan.specs.Plans.{turn_time, sync_time, planned_order, least_interval}
-use Rattle.bus_plan.proofs.Orders.{sum_sort, in_planned, Tops, TopsBehind, planned_tops, planned_behind}
+use Rattle.bus_plan.proofs.Orders.{in_planned, Tops, TopsBehind, planned_tops, planned_behind}
 use Rattle.bus_plan.proofs.Slack.{slack, ends_later, filled, one_excess, two_excess}
 use Rattle.bus_regime.specs.inside.Fine.{IsFine}
 use Rattle.bus_regime.proofs.GapLaws.{gap_sender}

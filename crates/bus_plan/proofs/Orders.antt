@@ -1,34 +1,10 @@
 -- The planned order: it has the senders, and the two with the greatest terminal gaps at its head.
-use Rattle.std.specs.Prelude.{◌≡◌, ℕ, ◌+◌, ◌<◌, ◌≤◌, true, false, nat_lt, List, [], ◌∷◌}
-use Rattle.std.specs.List.{sum_by}
+use Rattle.std.specs.Prelude.{◌≡◌, ◌<◌, ◌≤◌, true, false, nat_lt, List, [], ◌∷◌}
 use Rattle.std.proofs.Common.{inl, inr, arith, refl, ap, cond}
 use Rattle.std.proofs.lemmas.Bool.Decides.{nat_tests}
-use Rattle.std.proofs.lemmas.List.Sums.{sum_by-cons}
 use Rattle.bus_strings.specs.Members.{In}
 use Rattle.bus_table.specs.Tables.{Sender}
-use Rattle.bus_table.specs.Turns.{insert, sort}
 use Rattle.bus_plan.specs.Plans.{lead, greatest_first, second_greatest, planned_order}
-
--- sorting keeps sums
-sum_insert : (f : Sender → ℕ) (key : Sender → ℕ) (a : Sender) (bs : List Sender) → sum_by f (insert key a bs) ≡ f a + sum_by f bs
-sum_insert f key a [] = sum_by-cons f a []
-sum_insert f key a (b ∷ bs) =
-    elim (nat_lt (key a) (key b)) as (λ w. sum_by f (cond w (a ∷ (b ∷ bs)) (b ∷ insert key a bs)) ≡ f a + sum_by f (b ∷ bs)) [
-      | true ↦ sum_by-cons f a (b ∷ bs)
-      | false ↦
-          let rest = sum_insert f key a bs in
-          let one = sum_by-cons f b (insert key a bs) in
-          let two = sum_by-cons f b bs in
-          omega (arith, rest, one, two)
-    ]
-
-pub sum_sort : (f : Sender → ℕ) (key : Sender → ℕ) (bs : List Sender) → sum_by f (sort key bs) ≡ sum_by f bs
-sum_sort f key [] = refl
-sum_sort f key (b ∷ bs) =
-    let one = sum_insert f key b (sort key bs) in
-    let rest = sum_sort f key bs in
-    let two = sum_by-cons f b bs in
-    omega (arith, one, rest, two)
 
 -- the greatest at the front
 pub in_lead : (a : Sender) (others led : List Sender) (x : Sender) → (In x others → In x led) → In x (a ∷ others) → In x (lead a others led)

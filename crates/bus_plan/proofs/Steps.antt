@@ -2,8 +2,9 @@
 use Rattle.std.specs.Prelude.{◌≡◌, ℕ, zero, suc, ◌+◌, ◌<◌, ◌≤◌, List, [], ◌∷◌, ◌++◌, take, get_or, length}
 use Rattle.std.specs.List.{All}
 use Rattle.std.proofs.Common.{inl, inr, arith, sym, refl, ap, ◌∙◌, subst}
-use Rattle.std.proofs.lemmas.List.{take_more, take_all}
+use Rattle.std.proofs.lemmas.List.{take_all}
 use Rattle.bus_strings.specs.Members.{In}
+use Rattle.bus_strings.proofs.ListLaws.{take_read}
 use Rattle.bus_table.specs.Tables.{Sender, Table}
 use Rattle.bus_table.specs.inside.Facts.{SenderFacts, TableFacts}
 use Rattle.bus_table.proofs.TurnLaws.{of_each, numbers_differ, gaps_differ}
@@ -28,17 +29,14 @@ tops_small table facts senders e =
     subst (λ ss. (greatest_tg ss ≤ 256) × (second_tg ss ≤ 256)) (sym e)
     (greatest_at_most 256 table.senders (λ s i. (of_each (SenderFacts table) table.senders facts.senders s i).tg_most))
 
-pub taken : (ss : List Sender) (i : ℕ) (s : Sender) → i < length ss → s ≡ get_or ss i s → take (i + 1) ss ≡ take i ss ++ s ∷ []
-taken ss i s h e = take_more ss i s h ∙ ap (λ x. take i ss ++ x ∷ []) (sym e)
-
 pub walk_next : (first second at end : ℕ) (ss : List Sender) (i : ℕ) (s : Sender) → i < length ss → s ≡ get_or ss i s
     → walk first second at end (take (i + 1) ss)
     ≡ walk first second at end (take i ss) ++ offset_for first second at (walk_end first second end (take i ss)) s ∷ []
-walk_next first second at end ss i s h e = ap (walk first second at end) (taken ss i s h e) ∙ walk_push first second at end (take i ss) s
+walk_next first second at end ss i s h e = ap (walk first second at end) (take_read ss i s h e) ∙ walk_push first second at end (take i ss) s
 
 pub walk_end_next : (first second end : ℕ) (ss : List Sender) (i : ℕ) (s : Sender) → i < length ss → s ≡ get_or ss i s
     → walk_end first second end (take (i + 1) ss) ≡ end_after first second (walk_end first second end (take i ss)) s
-walk_end_next first second end ss i s h e = ap (walk_end first second end) (taken ss i s h e) ∙ walk_end_push first second end (take i ss) s
+walk_end_next first second end ss i s h e = ap (walk_end first second end) (take_read ss i s h e) ∙ walk_end_push first second end (take i ss) s
 
 pub walk_told : (table : Table) → TableFacts table → (senders : List Sender) → senders ≡ table.senders
     → (items : List ℕ) (n first second long gap sg : ℕ)

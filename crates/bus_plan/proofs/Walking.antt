@@ -22,9 +22,6 @@ abbrev others_than : ℕ → List Sender → List Sender
 others_than t [] = []
 others_than t (s ∷ ss) = cond (s.tg == t) (others_than t ss) (s ∷ others_than t ss)
 
-same_yes : (a b : ℕ) → a ≡ b → (a == b) ≡ true
-same_yes a b e = eq-eqb a b e
-
 same_no : (a b : ℕ) → a ≢ b → (a == b) ≡ false
 same_no a b h =
     (elim (a == b) as (λ w. (a == b) ≡ w → w ≡ false) [
@@ -46,10 +43,10 @@ Leaves senders (a ∷ bs) = bs ≡ others_than a.tg senders
 leaves_lead : (a : Sender) (others led : List Sender) → Differ (λ s. s.tg) (a ∷ others) → ((x : Sender) → In x led → In x others)
     → Leaves others led → Leaves (a ∷ others) (lead a others led)
 leaves_lead a others [] d sub h =
-    sym (ap (λ b. cond b (others_than a.tg others) (a ∷ others_than a.tg others)) (same_yes a.tg a.tg refl) ∙ ap (others_than a.tg) h)
+    sym (ap (λ b. cond b (others_than a.tg others) (a ∷ others_than a.tg others)) (eq-eqb a.tg a.tg refl) ∙ ap (others_than a.tg) h)
 leaves_lead a others (b ∷ rest) d sub h =
     elim (nat_lt b.tg a.tg) as (λ w. Leaves (a ∷ others) (cond w (a ∷ others) (b ∷ (a ∷ rest)))) [
-      | true ↦ sym (ap (λ b. cond b (others_than a.tg others) (a ∷ others_than a.tg others)) (same_yes a.tg a.tg refl)
+      | true ↦ sym (ap (λ b. cond b (others_than a.tg others) (a ∷ others_than a.tg others)) (eq-eqb a.tg a.tg refl)
           ∙ others_all a.tg others d.0)
       | false ↦ ap (λ l. a ∷ l) h ∙ sym (ap (λ w. cond w (others_than b.tg others) (a ∷ others_than b.tg others))
           (same_no a.tg b.tg (d.0 b (sub b (inl refl)))))
@@ -109,7 +106,7 @@ same_by_tg (s ∷ ss) d a b (inr i) (inr j) e = same_by_tg ss d.1 a b i j e
 longest_found : (senders : List Sender) → Differ (λ s. s.tg) senders → (a : Sender) → In a senders → longest_with a.tg senders ≡ longest a
 longest_found [] d a i = absurd i
 longest_found (s ∷ ss) d a (inl e) =
-    ap (λ b. cond b (longest s) (longest_with a.tg ss)) (same_yes s.tg a.tg (ap (λ (x : Sender). x.tg) (sym e))) ∙ ap longest (sym e)
+    ap (λ b. cond b (longest s) (longest_with a.tg ss)) (eq-eqb s.tg a.tg (ap (λ (x : Sender). x.tg) (sym e))) ∙ ap longest (sym e)
 longest_found (s ∷ ss) d a (inr i) =
     ap (λ b. cond b (longest s) (longest_with a.tg ss)) (same_no s.tg a.tg (d.0 a i)) ∙ longest_found ss d.1 a i
 

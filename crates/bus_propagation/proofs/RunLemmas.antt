@@ -1,25 +1,22 @@
 -- A run on the cable goes on from turn to turn, up to the horizon.
-use Rattle.std.proofs.Common.{◌≡◌, ℕ, ◌+◌, ◌-◌, ◌*◌, get_or, ◌<◌, ◌≤◌, ◌⊎◌, true, ◌&&◌, List, [], ◌∷◌, ◌++◌, length, set, map, Some, inl, inr, arith, sym, refl, ap, ◌∙◌, subst, eqb, eqb-true}
-use Rattle.std.specs.Prelude.{slice_get, fold, zip, IsTrue}
-use Rattle.std.specs.List.{AllByRecursion, list_all}
-use Rattle.std.proofs.lemmas.Bool.{and_parts, true≢false}
+use Rattle.std.proofs.Common.{◌≡◌, ℕ, ◌+◌, ◌-◌, ◌*◌, get_or, ◌<◌, ◌≤◌, ◌⊎◌, List, [], ◌∷◌, ◌++◌, length, set, map, Some, inl, inr, arith, sym, refl, ◌∙◌, subst}
+use Rattle.std.specs.Prelude.{slice_get, fold, IsTrue}
+use Rattle.std.specs.List.{AllByRecursion}
 use Rattle.std.proofs.lemmas.List.Sums.{fold-append}
 use Rattle.std.proofs.lemmas.Option.{get_or_from_slice_get}
 use Rattle.bus_strings.proofs.MemberLaws.{of_each, at_in}
 use Rattle.bus_strings.specs.Messages.{Entry}
-use Rattle.bus_table.specs.Fits.{fits}
 use Rattle.bus_table.specs.Hands.{are_hands}
-use Rattle.bus_table.specs.Tables.{Sender, Table, Hand}
+use Rattle.bus_table.specs.Tables.{Table, Hand}
 use Rattle.bus_table.specs.Valid.{is_valid}
 use Rattle.bus_medium.specs.Jumps.{Each}
-use Rattle.bus_medium.specs.Lawful.{Station}
 use Rattle.bus_medium.specs.Delays.{Delays}
 use Rattle.bus_medium.specs.Wakes.{Wakes}
 use Rattle.bus_medium.specs.CableLawful.{IsLawfulOnCable}
 use Rattle.bus_medium.specs.inside.Seating.{AreDistinct}
 use Rattle.bus_medium.specs.Timings.{quiet_of, stations_of}
 use Rattle.bus_medium.proofs.CableLists.{cable_once}
-use Rattle.bus_medium.proofs.SeatingLemmas.{station_with}
+use Rattle.bus_medium.proofs.SeatingLemmas.{stations_numbers}
 use Rattle.bus_medium.proofs.StationLaws.{stations_have_own_numbers}
 use Rattle.bus_medium.proofs.TimingLemmas.{are_distinct}
 use Rattle.bus_propagation.specs.declared.seat.Seat.{Seat}
@@ -48,16 +45,6 @@ pub record RunsTo (table : Table) (hands : List Hand) (delay : Delays) (wake : W
   pub rank_is : rank list ≡ 129 * moment + number
   pub small : number ≤ 129
   pub early : (moment < horizon) ⊎ ((moment ≡ 0) × (number ≡ 0))
-
--- the numbers of the stations are those of the senders
-stations_numbers : (table : Table) (senders : List Sender) (hands : List Hand) → are_hands senders hands ≡ true → map (λ s. s.number) (map (λ p. station_with table p.0 p.1) (zip senders hands)) ≡ map (λ s. s.number) senders
-stations_numbers table [] [] h = refl
-stations_numbers table [] (hand ∷ hands) h = absurd (true≢false (sym h))
-stations_numbers table (s ∷ senders) [] h = absurd (true≢false (sym h))
-stations_numbers table (s ∷ senders) (hand ∷ hands) h =
-    let one = and_parts (eqb hand.terminal s.number) (list_all (fits s) hand.messages && are_hands senders hands) h in
-    let two = and_parts (list_all (fits s) hand.messages) (are_hands senders hands) one.1 in
-    ap (λ n. n ∷ map (λ (r : Station). r.number) (map (λ p. station_with table p.0 p.1) (zip senders hands))) (eqb-true hand.terminal s.number one.0) ∙ ap (λ ns. s.number ∷ ns) (stations_numbers table senders hands two.1)
 
 -- no two of them are the same
 stations_apart : (table : Table) (hands : List Hand) → IsTrue (is_valid table) → IsTrue (are_hands table.senders hands) → AreDistinct (map (λ s. s.number) (stations_of table hands))

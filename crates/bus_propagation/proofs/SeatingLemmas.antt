@@ -14,7 +14,7 @@ use Rattle.bus_table.specs.inside.Facts.{SenderFacts}
 use Rattle.bus_medium.specs.Timings.{quiet_of, timing_of, stations_of}
 use Rattle.bus_medium.specs.Lawful.{Station}
 use Rattle.bus_medium.specs.Wakes.{Wakes}
-use Rattle.bus_medium.proofs.SeatingLemmas.{station_with, NextHand, next_hand}
+use Rattle.bus_medium.proofs.SeatingLemmas.{station_with, NextHand, next_hand, zip_none}
 use Rattle.bus_medium.proofs.TimingLemmas.{sender_facts}
 use Rattle.bus_propagation.specs.declared.seat.Seat.{Seat}
 use Rattle.bus_propagation.specs.inside.Seats.{station_of}
@@ -75,10 +75,6 @@ one_seated table hands wake seats hand left x valid so made =
           ∙ so.made;
       seated = all_push (IsSeated (quiet_of table) wake) seats x so.seated (seated_one table wake (length seats) n.sender hand x valid n.at n.number s);
     }
-
-zip_none : (table : Table) (senders : List Sender) → map (λ p. station_with table p.0 p.1) (zip senders []) ≡ []
-zip_none table [] = refl
-zip_none table (s ∷ senders) = refl
 
 -- with no hand left every sender sits
 pub all_seated : (table : Table) (hands : List Hand) (wake : Wakes) (seats : List Seat) → IsSeating table hands wake seats [] → map station_of seats ≡ stations_of table hands

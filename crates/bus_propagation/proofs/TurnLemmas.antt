@@ -1,5 +1,5 @@
 -- The list grows by the next start of all.
-use Rattle.std.proofs.Common.{◌≡◌, ◌≢◌, ℕ, zero, suc, ◌+◌, ◌-◌, ◌<◌, ◌≤◌, ◌⊎◌, List, [], ◌∷◌, ◌++◌, length, set, drop, map, Some, None, inl, inr, arith, sym, refl, ap, ◌∙◌, subst}
+use Rattle.std.proofs.Common.{◌≡◌, ◌≢◌, ℕ, ◌+◌, ◌-◌, ◌<◌, ◌≤◌, ◌⊎◌, List, [], ◌∷◌, ◌++◌, length, set, drop, map, Some, None, inl, inr, arith, sym, refl, ap, ◌∙◌, subst}
 use Rattle.std.specs.Prelude.{slice_get}
 use Rattle.std.specs.Option.{MatchOption, option_map}
 use Rattle.std.proofs.lemmas.Bool.{cases_lt, cases_eq}
@@ -11,6 +11,7 @@ use Rattle.bus_timers.proofs.TimingLaws.{sound_tg}
 use Rattle.bus_strings.specs.Members.{In}
 use Rattle.bus_strings.proofs.MemberLaws.{in_push, in_push_cases, in_append_left}
 use Rattle.bus_strings.specs.Messages.{Entry}
+use Rattle.bus_strings.proofs.ListLaws.{get_left, some_at}
 use Rattle.bus_medium.specs.Past.{past, own}
 use Rattle.bus_medium.specs.Jumps.{Each}
 use Rattle.bus_medium.specs.Lawful.{Station, HaveOwnNumbers, HasEntry, IsBefore, IsRuledTo}
@@ -23,24 +24,20 @@ use Rattle.bus_medium.proofs.Hearing.{cable_looks, not_before, past_heard_push}
 use Rattle.bus_medium.proofs.Ruled.{ruled_none, ruled_start, ruled_whole}
 use Rattle.bus_medium.specs.inside.Seating.{AreDistinct}
 use Rattle.bus_medium.proofs.Seats.{get_set_same, get_set_other, get_within, same_some, map_at, map_set_same, from_map, in_map}
+use Rattle.bus_medium.specs.Orders.{AreDistinct}
 use Rattle.bus_medium.proofs.Waking.{at_start, at_power_up, at_settled}
+use Rattle.bus_medium.proofs.Reaching.{each_rest}
 use Rattle.bus_propagation.specs.declared.seat.Seat.{Seat}
 use Rattle.bus_propagation.specs.inside.Hearing.{HaveBegun, IsNextStart, HaveWords}
 use Rattle.bus_propagation.specs.inside.Seats.{station_of}
 use Rattle.bus_propagation.specs.inside.Turns.{IsSeated, KeepsPlace, Listens, Awaits, Attended, GoesTo, NoLater, NobodyBefore, Begun}
-
--- what stands in front stays
-slice_get_left : {X : Type 0} → (xs ys : List X) (i : ℕ) → i < length xs → slice_get (xs ++ ys) i ≡ slice_get xs i
-slice_get_left [] ys i h = absurd (omega arith)
-slice_get_left (x ∷ xs) ys zero h = refl
-slice_get_left (x ∷ xs) ys (suc i) h = slice_get_left xs ys i (omega arith)
 
 place_kept : (delay : Delays) (list : List Entry) (e : Entry) (z : Seat) → KeepsPlace delay list z → KeepsPlace delay (list ++ e ∷ []) z
 place_kept delay list e z p =
     let within : z.cursor ≤ length list = p.within in
     record {
       within = omega (arith, length_push list e);
-      passed = λ i x low at. p.passed i x low (sym (slice_get_left list (e ∷ []) i (omega arith)) ∙ at);
+      passed = λ i x low at. p.passed i x low (sym (get_left list (e ∷ []) i (omega arith)) ∙ at);
     }
 
 -- whether a moment and a number come before others
@@ -99,9 +96,6 @@ own_begun due ss t n u k l law low x there mine = elim (cases_lt x.moment u) [
       let b : IsBefore x.moment k t n = subst (λ j. IsBefore x.moment j t n) mine (law.sent x there).0 in
       absurd (not_both u k t n (elim b [ inl less ↦ inl (omega arith) | inr same ↦ let e : x.moment ≡ t = same.0 in let w : t ≤ u = late_moment t n u k low in inr (omega arith, same.1) ]) low)
 ]
-
-each_rest : {X : Type 0} (R : X → X → Type 0) (x y : X) (xs ys : List X) → Each R (x ∷ xs) (y ∷ ys) → Each R xs ys
-each_rest R x y xs ys e = record { same_length = let k : length (y ∷ ys) ≡ length (x ∷ xs) = e.same_length in omega arith; each = λ j a b a_at b_at. e.each (suc j) a b a_at b_at }
 
 -- senders that attend stay who they are
 attended_stations : (delay : Delays) (list : List Entry) (t : ℕ) (xs ys : List Seat) → Each (Attended delay list t) xs ys → map station_of ys ≡ map station_of xs
@@ -217,7 +211,7 @@ module _ (quiet : ℕ) (delay : Delays) (wake : Wakes) where
           passed = λ i z low z_at.
               let same : y.cursor ≡ x.cursor = b.cursor in
               let within : x.cursor ≤ length list = lis.place.within in
-              let over : heard_end delay z x.terminal ≤ x.ear.moment = lis.place.passed i z (omega arith) (sym (slice_get_left list (e ∷ []) i (omega arith)) ∙ z_at) in
+              let over : heard_end delay z x.terminal ≤ x.ear.moment = lis.place.passed i z (omega arith) (sym (get_left list (e ∷ []) i (omega arith)) ∙ z_at) in
               let before : x.ear.moment ≤ u = next.low in
               subst (λ k. heard_end delay z k ≤ y.ear.moment) (sym terminal) (omega arith);
         };
@@ -284,7 +278,7 @@ module _ (quiet : ℕ) (delay : Delays) (wake : Wakes) where
       let old : (j : ℕ) (y : Seat) → slice_get ys j ≡ Some y → (x : Seat) × (slice_get xs j ≡ Some x) = λ j y at.
       let within : j < length ys = slice_get_within ys j y at in
       let long : length ys ≡ length xs = e.same_length in
-      get_within xs j (omega arith) in
+      some_at xs j (omega arith) in
       record {
         same = attended_stations delay list t xs ys e ∙ same;
         lawful = law;

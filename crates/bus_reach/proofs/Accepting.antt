@@ -5,7 +5,7 @@ use Rattle.std.specs.List.{list_all}
 use Rattle.std.proofs.lemmas.Bool.{and_parts, cases_lt, leb-true, lt-leb, ne_eqb}
 use Rattle.std.proofs.lemmas.List.{append_assoc}
 use Rattle.bus_strings.specs.Members.{In}
-use Rattle.bus_strings.proofs.MemberLaws.{in_append_cases, in_append_left, in_append_right}
+use Rattle.bus_strings.proofs.MemberLaws.{in_append_cases, in_append_left, in_append_right, pass_in}
 use Rattle.bus_table.specs.Tables.{Sender, Table}
 use Rattle.bus_table.specs.inside.Facts.{TableFacts}
 use Rattle.bus_table.specs.Turns.{turn_key, turn_order}
@@ -14,13 +14,13 @@ use Rattle.bus_table.proofs.TurnLaws.{from_sort, numbers_differ, order_rises}
 use Rattle.bus_table.proofs.ValidLaws.{valid_facts}
 use Rattle.bus_regime.specs.Gaps.{Gap, last_end, latest_end, gaps}
 use Rattle.bus_regime.proofs.VerdictLaws.{gaps_accepted}
+use Rattle.bus_regime.proofs.GapLaws.{gap_sender}
 use Rattle.bus_schedule.specs.Slack.{slack_behind, is_wide, stays, all_stay}
-use Rattle.bus_schedule.proofs.GapSplits.{GapAt, gap_split, gap_of}
+use Rattle.bus_schedule.proofs.GapSplits.{GapAt, gap_split}
 use Rattle.bus_schedule.proofs.Orders.{rises_before, rises_after, same_sender}
 use Rattle.bus_schedule.proofs.Slacks.{all_stay_at, enough_room, stays_next, stays_own}
 use Rattle.bus_reach.specs.PeriodicLaws.{BearZeroIsAccepted}
 use Rattle.bus_reach.proofs.Modes.{in_periodic}
-use Rattle.bus_reach.proofs.SpreadLemmas.{all_in}
 
 -- a sender that stays in sync without delays finds a synchronization gap in another's gap or in its own
 synchronized : (sg number : ℕ) (others : List Gap) (own : Gap) → ((g : Gap) → In g others → g.sender.number ≢ number) → own.sender.number ≡ number
@@ -57,12 +57,12 @@ others_differ table facts ahead own behind split g i e =
     ap (turn_key table.mode) (same_sender (λ c. c.number) table.senders g.sender own.sender (numbers_differ table facts) j own_in e) in
     elim (in_append_cases behind ahead g i) [
       | inl h ↦
-          let k = gap_of table.ti (table.ti + latest_end own.sender) at.rest g (subst (λ gs. In g gs) at.behind_is h) in
+          let k = gap_sender table.ti (table.ti + latest_end own.sender) at.rest g (subst (λ gs. In g gs) at.behind_is h) in
           let l : turn_key table.mode own.sender < turn_key table.mode g.sender = rises_after (turn_key table.mode) at.done own.sender at.rest g.sender up k in
           let m : turn_key table.mode g.sender ≡ turn_key table.mode own.sender = same (there g.sender (in_append_right at.done (own.sender ∷ at.rest) g.sender (inr k))) in
           omega arith
       | inr h ↦
-          let k = gap_of table.ti (last_end 0 (turn_order table)) at.done g (subst (λ gs. In g gs) at.ahead_is h) in
+          let k = gap_sender table.ti (last_end 0 (turn_order table)) at.done g (subst (λ gs. In g gs) at.ahead_is h) in
           let l : turn_key table.mode g.sender < turn_key table.mode own.sender = rises_before (turn_key table.mode) at.done own.sender at.rest g.sender up k in
           let m : turn_key table.mode g.sender ≡ turn_key table.mode own.sender = same (there g.sender (in_append_left at.done (own.sender ∷ at.rest) g.sender k)) in
           omega arith
@@ -81,7 +81,7 @@ bear_zero_is_accepted table valid mode several bearing =
     let keeps : stays 0 table.sg gap.sender.number (Some 0) ((at.1 ++ at.0) ++ gap ∷ []) ≡ true =
     ap (stays 0 table.sg gap.sender.number (Some 0)) (append_assoc at.1 at.0 (gap ∷ []))
     ∙ all_stay_at 0 table.sg [] at.0 gap at.1 (subst (λ gs. all_stay 0 table.sg [] gs ≡ true) at.2 parts.1) in
-    let wide : gap.from + (gap.sender.tg + 0) ≤ gap.to = leb-true (gap.from + (gap.sender.tg + 0)) gap.to (all_in (is_wide 0) (gaps table) gap parts.0 i) in
+    let wide : gap.from + (gap.sender.tg + 0) ≤ gap.to = leb-true (gap.from + (gap.sender.tg + 0)) gap.to (pass_in (is_wide 0) (gaps table) gap parts.0 i) in
     record {
       wide = omega arith;
       sync = elim (synchronized table.sg gap.sender.number (at.1 ++ at.0) gap differ refl keeps) [

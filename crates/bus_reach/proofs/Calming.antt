@@ -11,6 +11,7 @@ use Rattle.bus_table.specs.Lengths.{longest}
 use Rattle.bus_medium.specs.Lawful.{HasEntry}
 use Rattle.bus_medium.proofs.Hearing.{own_none}
 use Rattle.bus_reach.proofs.Minding.{Bus, sent, Clock, clock_due, clock_idle, clock_power, first_due, some_sg, IsRest, IsIdle, rest_idle, Cluster, next_cluster, alone, rest_behind, clock_elapsed, clock_waiting, clock_inside, clock_own}
+use Rattle.bus_reach.proofs.SpreadLemmas.{first_of_some}
 use Rattle.bus_medium.specs.Wakes.{woken_place}
 use Rattle.bus_medium.proofs.Waking.{GapAt, at_settled}
 
@@ -41,10 +42,6 @@ without_weight [] b i = absurd i
 without_weight (a ∷ l) b (inl same) = ap (λ (c : Sender). c.tg + longest c + weight l) same ∙ sym (sum_by-cons (λ (c : Sender). c.tg + longest c) a l)
 without_weight (a ∷ l) b (inr i) =
     omega (arith, without_weight l b i, sum_by-cons (λ (c : Sender). c.tg + longest c) a l, sum_by-cons (λ (c : Sender). c.tg + longest c) a (without l b i))
-
-some_sender : (l : List Sender) → 0 < length l → (b : Sender) × In b l
-some_sender [] h = absurd (omega arith)
-some_sender (a ∷ l) h = (a, inl refl)
 
 -- what is known where all that began has ended
 abbrev pub Known : Bus → ℕ → Type 0
@@ -141,7 +138,7 @@ module _ (s : Bus) (up : ℕ) (wakes : (b : Sender) → In b s.table.senders →
 
   begun_at : (v : ℕ) → IsRest s v → Known s v → v ≤ up → (x : Entry) × Cluster s v x
   begun_at v rest known low = elim (next_cluster s v) [
-    | inl none ↦ (let b = some_sender s.table.senders s.facts.some in absurd (due_soon v rest known low b.0 b.1 (λ x i from. absurd (none x i from))))
+    | inl none ↦ (let b = first_of_some s.table.senders s.facts.some in absurd (due_soon v rest known low b.0 b.1 (λ x i from. absurd (none x i from))))
     | inr f ↦ f
   ]
 

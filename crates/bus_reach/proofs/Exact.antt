@@ -1,8 +1,8 @@
 -- Where a table doesn't bear delays there are places on a cable, and wakes, with which the closed schedule fails.
-use Rattle.std.proofs.Common.{◌≡◌, ◌≢◌, ℕ, ◌+◌, ◌*◌, ◌<◌, ◌≤◌, ◌⊎◌, Bool, true, false, ◌&&◌, ◌||◌, List, [], ◌∷◌, ◌++◌, length, inl, inr, arith, sym, refl, ap, ◌∙◌, subst}
-use Rattle.std.specs.Prelude.{◌==◌, if◌then◌else◌, nat_le, nat_lt}
+use Rattle.std.proofs.Common.{◌≡◌, ◌≢◌, ℕ, ◌+◌, ◌*◌, ◌<◌, ◌≤◌, Bool, false, ◌&&◌, ◌||◌, List, [], ◌∷◌, ◌++◌, length, inl, inr, arith, sym, refl, ap, ◌∙◌, subst}
+use Rattle.std.specs.Prelude.{◌==◌, if◌then◌else◌, nat_le}
 use Rattle.std.specs.List.{list_all}
-use Rattle.std.proofs.lemmas.Bool.{eq-eqb, ne_eqb, cases_lt, cases_eq, cases_Bool, lt-ltb, le-leb, true≢false}
+use Rattle.std.proofs.lemmas.Bool.{eq-eqb, ne_eqb, cases_eq, cases_Bool, true≢false, or_parts, and_cases, leb-false, ltb-false}
 use Rattle.bus_strings.specs.Members.{In}
 use Rattle.bus_strings.proofs.MemberLaws.{in_append_cases, in_append_left, in_append_right}
 use Rattle.bus_strings.specs.Messages.{Message, Entry}
@@ -27,20 +27,15 @@ use Rattle.bus_reach.specs.Schedule.{cable_heard, cable_rounds, cable_closed}
 use Rattle.bus_reach.specs.Tolerance.{is_apart, leaves_room}
 use Rattle.bus_medium.specs.Delays.{cable}
 use Rattle.bus_schedule.proofs.Growing.{Setting, sendable}
-use Rattle.bus_schedule.proofs.RunLemmas.{setting_of}
+use Rattle.bus_schedule.proofs.RunLemmas.{setting_of, dealt}
 use Rattle.bus_schedule.proofs.LiveLemmas.{stations_of_dealt}
-use Rattle.bus_reach.proofs.Dealing.{dealt_even}
 use Rattle.bus_reach.proofs.Modes.{in_aperiodic}
 use Rattle.bus_reach.proofs.Failing.{heard_behind, near_fails, late_fails, end_fails}
 use Rattle.bus_schedule.proofs.HandLemmas.{stations, quiet_is}
 use Rattle.bus_schedule.proofs.Orders.{rises_before, rises_after, same_sender}
 use Rattle.bus_medium.specs.CableLawful.{IsLawfulOnCable}
 use Rattle.bus_schedule.proofs.Spacing.{cycle, cycle_sum, cycle_sort, lengths, LeadsMore, lead_more}
-
--- the parts of a cycle
-cycle_middle : (w : Sender → ℕ) (done : List Sender) (a : Sender) (rest : List Sender) → cycle w (done ++ a ∷ rest) ≡ cycle w done + (a.tg + w a) + cycle w rest
-cycle_middle w [] a rest = omega arith
-cycle_middle w (c ∷ done) a rest = omega (arith, cycle_middle w done a rest)
+use Rattle.bus_schedule.proofs.Turning.{cycle_middle}
 
 -- one place, and all others at the beginning of the cable
 abbrev only_at : ℕ → ℕ → ℕ → ℕ
@@ -109,20 +104,6 @@ one_fails p (x ∷ xs) h = elim (cases_Bool (p x)) [
   | inl yes' ↦ let so = one_fails p xs (sym (ap (λ b. b && list_all p xs) yes') ∙ h) in (so.0, inr so.1, so.2)
   | inr no' ↦ (x, inl refl, no')
 ]
-
-and_false : (a b : Bool) → (a && b) ≡ false → (a ≡ false) ⊎ (b ≡ false)
-and_false true b h = inr h
-and_false false b h = inl refl
-
-or_false : (a b : Bool) → (a || b) ≡ false → (a ≡ false) × (b ≡ false)
-or_false true b h = absurd (true≢false h)
-or_false false b h = (refl, h)
-
-le_false : (a b : ℕ) → nat_le a b ≡ false → b < a
-le_false a b h = elim (cases_lt b a) [ inl less ↦ less | inr not ↦ absurd (true≢false (sym (le-leb a b not) ∙ h)) ]
-
-lt_false : (a b : ℕ) → nat_lt a b ≡ false → b ≤ a
-lt_false a b h = elim (cases_lt a b) [ inl less ↦ absurd (true≢false (sym (lt-ltb a b less) ∙ h)) | inr not ↦ not ]
 
 module _ (table : Table) (facts : TableFacts table) (mode : table.mode ≡ Aperiodic) (long : table.ti ≤ table.sg + cycle shortest (turn_order table)) (d : ℕ) where
   -- what is left to show: with these places and wakes, whatever the hands are, no list that the rule makes is the schedule
@@ -253,26 +234,26 @@ module _ (table : Table) (facts : TableFacts table) (mode : table.mode ≡ Aperi
   broken first (second ∷ rest) split several a i h =
       let in_order : In a (turn_order table) = in_sort (turn_key table.mode) table.senders a i in
       let up : Rises (λ b. b.tg) (first ∷ second ∷ rest) = subst (λ o. Rises (λ b. b.tg) o) split rises in
-      elim (and_false (nat_le d a.tg) (is_apart d a.tg table.sg && list_all (λ b. nat_le b.tg a.tg || is_apart d a.tg b.tg) table.senders) h) [
+      elim (and_cases (nat_le d a.tg) (is_apart d a.tg table.sg && list_all (λ b. nat_le b.tg a.tg || is_apart d a.tg b.tg) table.senders) h) [
         | inl small ↦
-            let few : a.tg < d = le_false d a.tg small in
+            let few : a.tg < d = leb-false d a.tg small in
             let no_more : first.tg ≤ a.tg = elim (subst (λ o. In a o) split in_order) [
               | inl is ↦ let e : a.tg ≡ first.tg = ap (λ (c : Sender). c.tg) is in omega arith
               | inr behind ↦ let k : first.tg < a.tg = behind_rises (λ b. b.tg) first (second ∷ rest) a up.0 behind in omega arith
             ] in
             late rest first second split (omega arith)
-        | inr other ↦ elim (and_false (is_apart d a.tg table.sg) (list_all (λ b. nat_le b.tg a.tg || is_apart d a.tg b.tg) table.senders) other) [
+        | inr other ↦ elim (and_cases (is_apart d a.tg table.sg) (list_all (λ b. nat_le b.tg a.tg || is_apart d a.tg b.tg) table.senders) other) [
           | inl wide ↦
-              let close : table.sg ≤ a.tg + 2 * d = lt_false (a.tg + 2 * d) table.sg wide in
+              let close : table.sg ≤ a.tg + 2 * d = ltb-false (a.tg + 2 * d) table.sg wide in
               let so = split_last second rest in
               let whole : turn_order table ≡ first ∷ (so.0 ++ so.1 ∷ []) = split ∙ ap (λ o. first ∷ o) so.2 in
               let no_more : a.tg ≤ so.1.tg = at_most (first ∷ so.0) so.1 a (subst (λ o. Rises (λ b. b.tg) o) whole rises) (subst (λ o. In a o) whole in_order) in
               last so.0 first so.1 whole (omega arith)
           | inr beside ↦
               let f = one_fails (λ b. nat_le b.tg a.tg || is_apart d a.tg b.tg) table.senders beside in
-              let both = or_false (nat_le f.0.tg a.tg) (is_apart d a.tg f.0.tg) f.2 in
-              let longer : a.tg < f.0.tg = le_false f.0.tg a.tg both.0 in
-              let close : f.0.tg ≤ a.tg + 2 * d = lt_false (a.tg + 2 * d) f.0.tg both.1 in
+              let both = or_parts (nat_le f.0.tg a.tg) (is_apart d a.tg f.0.tg) f.2 in
+              let longer : a.tg < f.0.tg = leb-false f.0.tg a.tg both.0 in
+              let close : f.0.tg ≤ a.tg + 2 * d = ltb-false (a.tg + 2 * d) f.0.tg both.1 in
               let so = split_in (turn_order table) a in_order in
               next so.0 a so.1 f.0 so.2 (subst (λ o. In f.0 o) so.2 (in_sort (turn_key table.mode) table.senders f.0 f.1)) longer close
         ]
@@ -307,7 +288,7 @@ module _ (table : Table) (facts : TableFacts table) (mode : table.mode ≡ Aperi
 pub tolerance_is_exact : ToleranceIsExact
 tolerance_is_exact table d valid mode accepted not_borne =
     let facts : TableFacts table = valid_facts table valid in
-    let both = or_false (length table.senders == 1) (list_all (leaves_room d table.sg table.senders) table.senders) (sym (in_aperiodic table d mode) ∙ not_borne) in
+    let both = or_parts (length table.senders == 1) (list_all (leaves_room d table.sg table.senders) table.senders) (sym (in_aperiodic table d mode) ∙ not_borne) in
     let bad = one_fails (leaves_room d table.sg table.senders) table.senders both.1 in
     let long : table.ti ≤ table.sg + cycle shortest (turn_order table) =
     subst (λ c. table.ti ≤ table.sg + c) (cycle_sum shortest table.senders ∙ sym (cycle_sort shortest (turn_key table.mode) table.senders)) (accepted_cycle table mode accepted) in
@@ -321,7 +302,7 @@ tolerance_is_exact table d valid mode accepted not_borne =
       wakes = λ a i. b.wakes a.number;
       fails = λ hands even two law. b.fails (messages_of hands) (rounds hands) (setting_of table hands valid even) (omega arith)
           (subst (λ q. IsLawfulOnCable q (cable b.place) b.wake (stations table (messages_of hands)) (greatest_end (cable_closed (cable b.place) b.wake table hands)) (cable_closed (cable b.place) b.wake table hands)) (quiet_is table mode)
-          (subst (λ ss. IsLawfulOnCable (quiet_of table) (cable b.place) b.wake ss (greatest_end (cable_closed (cable b.place) b.wake table hands)) (cable_closed (cable b.place) b.wake table hands)) (stations_of_dealt table hands valid (dealt_even table hands even)) law));
+          (subst (λ ss. IsLawfulOnCable (quiet_of table) (cable b.place) b.wake ss (greatest_end (cable_closed (cable b.place) b.wake table hands)) (cable_closed (cable b.place) b.wake table hands)) (stations_of_dealt table hands valid (dealt table hands even)) law));
     }
   where
     found : {X : Type 0} → (order : List Sender) → 1 < length order → ((first : Sender) (rest : List Sender) → order ≡ first ∷ rest → 0 < length rest → X) → X

@@ -22,9 +22,8 @@ use Rattle.bus_medium.specs.CableLawful.{IsLawfulOnCable}
 use Rattle.bus_reach.specs.Laws.{JoiningIsOrderly}
 use Rattle.bus_reach.proofs.Clearing.{heard_clear}
 use Rattle.bus_schedule.proofs.Growing.{Setting}
-use Rattle.bus_schedule.proofs.RunLemmas.{setting_of}
+use Rattle.bus_schedule.proofs.RunLemmas.{setting_of, dealt}
 use Rattle.bus_schedule.proofs.LiveLemmas.{stations_of_dealt}
-use Rattle.bus_reach.proofs.Dealing.{dealt_even}
 use Rattle.bus_medium.proofs.Hearing.{cable_looks}
 use Rattle.bus_schedule.proofs.HandLemmas.{stations, quiet_is}
 use Rattle.bus_reach.proofs.Modes.{in_aperiodic}
@@ -107,7 +106,7 @@ module _ (table : Table) (hands : ℕ → List Message) (n : ℕ) (setting : Set
 pub joining_is_orderly : JoiningIsOrderly
 joining_is_orderly table hands most delay wake valid mode even delays bearing awake long =
     let setting : Setting table (messages_of hands) (rounds hands) = setting_of table hands valid even in
-    let dealt = dealt_even table hands even in
+    let dealt = dealt table hands even in
     let so = tolerance_of table most delay setting.dealt.facts delays (sym (in_aperiodic table most mode) ∙ bearing) in
     in_order (turn_order table) refl (omega (arith, length-sort (turn_key table.mode) table.senders, setting.dealt.facts.some)) (λ first others order_is.
     let first_in : In first table.senders = from_sort (turn_key table.mode) table.senders first (subst (λ o. In first o) (sym order_is) (inl refl)) in

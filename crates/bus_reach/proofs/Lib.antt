@@ -1,6 +1,5 @@
 -- The lemmas of this crate; those that a crate above may cite are public.
 pub mod Modes
-pub mod Dealing
 pub mod SpreadLemmas
 pub mod Knowing
 pub mod RoundTurns

@@ -2,8 +2,9 @@
 use Rattle.std.proofs.Common.{◌≡◌, ℕ, ◌+◌, ◌*◌, ◌<◌, ◌≤◌, Bool, true, false, ◌&&◌, ◌||◌, List, [], ◌∷◌, ◌++◌, map, length, inl, inr, arith, refl, ap, ◌∙◌, subst}
 use Rattle.std.specs.Prelude.{◌==◌, nat_le}
 use Rattle.std.specs.List.{list_all}
-use Rattle.std.proofs.lemmas.Bool.{and_parts, cases_lt, le-leb, leb-true, lt-ltb, ltb-true}
+use Rattle.std.proofs.lemmas.Bool.{and_parts, cases_lt, le-leb, leb-true, lt-ltb, ltb-true, and_from}
 use Rattle.bus_strings.specs.Members.{In}
+use Rattle.bus_strings.proofs.MemberLaws.{pass_in}
 use Rattle.bus_table.specs.Tables.{Sender}
 use Rattle.bus_table.specs.Turns.{turn_key, turn_order}
 use Rattle.bus_table.specs.inside.Orders.{Rises}
@@ -13,22 +14,19 @@ use Rattle.bus_medium.proofs.PastLaws.{same_bools}
 use Rattle.bus_reach.proofs.Modes.{in_aperiodic}
 use Rattle.bus_reach.specs.Laws.{NeighboursTell}
 use Rattle.bus_reach.specs.Tolerance.{is_apart, leaves_room, no_less, stand_apart, neighbours_leave_room}
-use Rattle.bus_reach.proofs.SpreadLemmas.{all_in, LeavesRoom, room_left}
-
-and_true : (a b : Bool) → a ≡ true → b ≡ true → (a && b) ≡ true
-and_true a b p q = rw p q
+use Rattle.bus_reach.proofs.SpreadLemmas.{LeavesRoom, room_left}
 
 all_of : (p : Sender → Bool) (xs : List Sender) → ((x : Sender) → In x xs → p x ≡ true) → list_all p xs ≡ true
 all_of p [] h = refl
-all_of p (x ∷ xs) h = and_true (p x) (list_all p xs) (h x (inl refl)) (all_of p xs (λ y i. h y (inr i)))
+all_of p (x ∷ xs) h = and_from (p x) (list_all p xs) (h x (inl refl)) (all_of p xs (λ y i. h y (inr i)))
 
 -- from all pairs to neighbours
 to_neighbours : (d sg : ℕ) (senders xs : List Sender) → Rises (λ s. s.tg) xs → ((a : Sender) → In a xs → LeavesRoom d sg senders a) → ((a : Sender) → In a xs → In a senders)
     → stand_apart d (map (λ (s : Sender). s.tg) xs ++ sg ∷ []) ≡ true
 to_neighbours d sg senders [] r h within = refl
-to_neighbours d sg senders (a ∷ []) r h within = and_true (is_apart d a.tg sg) true (lt-ltb (a.tg + 2 * d) sg (h a (inl refl)).short) refl
+to_neighbours d sg senders (a ∷ []) r h within = and_from (is_apart d a.tg sg) true (lt-ltb (a.tg + 2 * d) sg (h a (inl refl)).short) refl
 to_neighbours d sg senders (a ∷ b ∷ xs) r h within =
-    and_true (is_apart d a.tg b.tg) (stand_apart d (map (λ (s : Sender). s.tg) (b ∷ xs) ++ sg ∷ []))
+    and_from (is_apart d a.tg b.tg) (stand_apart d (map (λ (s : Sender). s.tg) (b ∷ xs) ++ sg ∷ []))
     (lt-ltb (a.tg + 2 * d) b.tg ((h a (inl refl)).apart b (within b (inr (inl refl))) r.0.0))
     (to_neighbours d sg senders (b ∷ xs) r.1 (λ c i. h c (inr i)) (λ c i. within c (inr i)))
 
@@ -97,8 +95,8 @@ neighbours_tell table d valid mode =
     ∙ ap (λ v. (length table.senders == 1) || v)
     (same_bools (list_all (leaves_room d table.sg table.senders) table.senders) (neighbours_leave_room d table.sg (turn_order table))
     (λ all.
-    let left : (a : Sender) → In a table.senders → LeavesRoom d table.sg table.senders a = λ a i. room_left d table.sg table.senders a (all_in (leaves_room d table.sg table.senders) table.senders a all i) in
-    and_true (no_less d (turn_order table)) (stand_apart d (map (λ (s : Sender). s.tg) (turn_order table) ++ table.sg ∷ []))
+    let left : (a : Sender) → In a table.senders → LeavesRoom d table.sg table.senders a = λ a i. room_left d table.sg table.senders a (pass_in (leaves_room d table.sg table.senders) table.senders a all i) in
+    and_from (no_less d (turn_order table)) (stand_apart d (map (λ (s : Sender). s.tg) (turn_order table) ++ table.sg ∷ []))
     (first_least (turn_order table) (λ a i. (left a (in_table a i)).least))
     (to_neighbours d table.sg table.senders (turn_order table) rises (λ a i. left a (in_table a i)) in_table))
     (λ in_order.
@@ -107,9 +105,9 @@ neighbours_tell table d valid mode =
     let there : In a (turn_order table) = in_sort (turn_key table.mode) table.senders a i in
     let f = from_neighbours d table.sg (turn_order table) rises both.1 a there in
     let short : a.tg + 2 * d < table.sg = f.short in
-    and_true (nat_le d a.tg) (is_apart d a.tg table.sg && list_all (λ b. nat_le b.tg a.tg || is_apart d a.tg b.tg) table.senders)
+    and_from (nat_le d a.tg) (is_apart d a.tg table.sg && list_all (λ b. nat_le b.tg a.tg || is_apart d a.tg b.tg) table.senders)
     (le-leb d a.tg (none_less d (turn_order table) rises both.0 a there))
-    (and_true (is_apart d a.tg table.sg) (list_all (λ b. nat_le b.tg a.tg || is_apart d a.tg b.tg) table.senders) (lt-ltb (a.tg + 2 * d) table.sg short)
+    (and_from (is_apart d a.tg table.sg) (list_all (λ b. nat_le b.tg a.tg || is_apart d a.tg b.tg) table.senders) (lt-ltb (a.tg + 2 * d) table.sg short)
     (all_of (λ b. nat_le b.tg a.tg || is_apart d a.tg b.tg) table.senders (λ b j. or_second a.tg d b (f.apart b (in_sort (turn_key table.mode) table.senders b j))))))))
   where
     rises : Rises (λ s. s.tg) (turn_order table)

@@ -20,6 +20,7 @@ use Rattle.bus_medium.specs.Timings.{quiet_of}
 use Rattle.bus_regime.specs.Gaps.{Gap, last_end, gaps}
 use Rattle.bus_regime.specs.Verdicts.{verdict_of, is_accepted}
 use Rattle.bus_regime.proofs.VerdictLaws.{accepted_gaps}
+use Rattle.bus_regime.proofs.GapLaws.{gap_sender}
 use Rattle.bus_schedule.specs.Closed.{schedule_in, offset_schedule, closed, closed_end}
 use Rattle.bus_schedule.specs.Even.{are_even, messages_of, rounds}
 use Rattle.bus_schedule.specs.Laws.{WitnessesAreEven}
@@ -29,7 +30,6 @@ use Rattle.bus_medium.specs.Delays.{Delays, distance, cable}
 use Rattle.bus_medium.specs.Wakes.{settled}
 use Rattle.bus_schedule.specs.Slack.{is_wide, all_stay, gaps_bear}
 use Rattle.bus_schedule.proofs.Breaking.{whole, whole_is, others_apart, not_lacking, not_narrow}
-use Rattle.bus_schedule.proofs.GapSplits.{gap_of}
 use Rattle.bus_schedule.proofs.Growing.{Setting}
 use Rattle.bus_schedule.proofs.HandLemmas.{stations}
 use Rattle.bus_schedule.proofs.LiveLemmas.{stations_of_dealt}
@@ -111,7 +111,7 @@ module _ (table : Table) (valid : IsTrue (is_valid table)) (mode : table.mode �
       let short : w.one.to < w.one.from + (w.one.sender.tg + most) = leb-false (w.one.from + (w.one.sender.tg + most)) w.one.to w.fails in
       let fits : w.one.from + w.one.sender.tg ≤ w.one.to = wide w.one among in
       let late : ℕ = w.one.to + 1 - w.one.from - w.one.sender.tg in
-      let there : In w.one.sender table.senders = from_sort (turn_key table.mode) table.senders w.one.sender (gap_of table.ti (last_end 0 (turn_order table)) (turn_order table) w.one among) in
+      let there : In w.one.sender table.senders = from_sort (turn_key table.mode) table.senders w.one.sender (gap_sender table.ti (last_end 0 (turn_order table)) (turn_order table) w.one among) in
       let facts : SenderFacts table w.one.sender = of_each (SenderFacts table) table.senders (valid_facts table valid).senders w.one.sender there in
       let tg : 8 ≤ w.one.sender.tg = facts.tg_least in
       let some : 0 < length table.senders = (valid_facts table valid).some in

@@ -4,9 +4,10 @@ use Rattle.std.specs.Prelude.{Option, Some, None, slice_get}
 use Rattle.std.specs.List.{list_all}
 use Rattle.std.proofs.lemmas.Bool.{cases_lt, eq-eqb, ne_eqb}
 use Rattle.std.proofs.lemmas.List.{length-drop, length-take-le, drop_all, length-append}
+use Rattle.bus_strings.proofs.ListLaws.{drop_at, get_left}
 use Rattle.bus_regime.specs.Gaps.{Gap}
 use Rattle.bus_schedule.specs.Slack.{slack_behind, is_enough, stays, all_stay}
-use Rattle.bus_schedule.proofs.Places.{get_left, get_right}
+use Rattle.bus_schedule.proofs.Places.{get_right}
 
 get_drop : {X : Type 0} → (n : ℕ) (xs : List X) (i : ℕ) → slice_get (drop n xs) i ≡ slice_get xs (n + i)
 get_drop zero xs i = ap (slice_get xs) (let e : i ≡ 0 + i = omega arith in e)
@@ -44,14 +45,6 @@ around_at xs n k step j x long inside below places at =
           ∙ get_right (drop (k + 1) xs) (take (k + 1) xs) (n - (k + 1)) j (omega arith) ∙ get_take (k + 1) xs j (omega arith) ∙ at
     ]
 
-drop_at : {A : Type 0} (xs : List A) (k : ℕ) (x : A) → slice_get xs k ≡ Some x → drop k xs ≡ x ∷ drop (suc k) xs
-drop_at [] k x h = absurd (let w : None ≡ Some x = h in cc)
-drop_at (y ∷ ys) zero x h = ap (λ z. z ∷ ys) (let w : Some y ≡ Some x = h in cc)
-drop_at (y ∷ ys) (suc k) x h = drop_at ys k x h
-
-pub drop_here : {A : Type 0} (xs : List A) (k : ℕ) (x : A) → slice_get xs k ≡ Some x → drop k xs ≡ x ∷ drop (k + 1) xs
-drop_here xs k x h = drop_at xs k x h ∙ ap (λ n. x ∷ drop n xs) (let e : suc k ≡ k + 1 = omega arith in e)
-
 pub take_here : {A : Type 0} (xs : List A) (k : ℕ) (x : A) → slice_get xs k ≡ Some x → take (k + 1) xs ≡ take k xs ++ x ∷ []
 take_here [] k x h = absurd (let w : None ≡ Some x = h in cc)
 take_here (y ∷ ys) zero x h = ap (λ z. z ∷ []) (let w : Some y ≡ Some x = h in cc)
@@ -61,14 +54,14 @@ take_here (y ∷ ys) (suc k) x h = ap (take (suc k + 1)) refl ∙ (let e : suc k
 pub walk_own : (d sg number : ℕ) (slack : Option ℕ) (all : List Gap) (step : ℕ) (gap : Gap) (start : Bool) → slice_get all step ≡ Some gap
     → gap.sender.number ≡ number → start ≡ stays d sg number slack (drop step all) → start ≡ is_enough sg slack gap
 walk_own d sg number slack all step gap start at same is =
-    is ∙ ap (stays d sg number slack) (drop_here all step gap at)
+    is ∙ ap (stays d sg number slack) (drop_at all step gap at)
     ∙ ap (λ b. cond b (is_enough sg slack gap) (stays d sg number (slack_behind d sg slack gap) (drop (step + 1) all))) (eq-eqb gap.sender.number number same)
 
 pub walk_next : (d sg number : ℕ) (slack next : Option ℕ) (all : List Gap) (step : ℕ) (gap : Gap) (start : Bool) → slice_get all step ≡ Some gap
     → gap.sender.number ≢ number → next ≡ slack_behind d sg slack gap → start ≡ stays d sg number slack (drop step all)
     → start ≡ stays d sg number next (drop (step + 1) all)
 walk_next d sg number slack next all step gap start at apart next_is is =
-    is ∙ ap (stays d sg number slack) (drop_here all step gap at)
+    is ∙ ap (stays d sg number slack) (drop_at all step gap at)
     ∙ ap (λ b. cond b (is_enough sg slack gap) (stays d sg number (slack_behind d sg slack gap) (drop (step + 1) all))) (ne_eqb gap.sender.number number apart)
     ∙ ap (λ s. stays d sg number s (drop (step + 1) all)) (sym next_is)
 
@@ -78,11 +71,11 @@ walk_end d sg number slack all step start whole is = is ∙ ap (stays d sg numbe
 
 -- steps over the gaps
 pub all_next : (p : Gap → Bool) (all : List Gap) (k : ℕ) (gap : Gap) → slice_get all k ≡ Some gap → list_all p (drop k all) ≡ (p gap && list_all p (drop (k + 1) all))
-all_next p all k gap at = ap (list_all p) (drop_here all k gap at)
+all_next p all k gap at = ap (list_all p) (drop_at all k gap at)
 
 pub stay_next : (d sg : ℕ) (all : List Gap) (k : ℕ) (own : Gap) → slice_get all k ≡ Some own
     → all_stay d sg (take k all) (drop k all)
     ≡ (stays d sg own.sender.number (Some 0) (around k all) && all_stay d sg (take (k + 1) all) (drop (k + 1) all))
 stay_next d sg all k own at =
-    ap (all_stay d sg (take k all)) (drop_here all k own at)
+    ap (all_stay d sg (take k all)) (drop_at all k own at)
     ∙ ap (λ b. stays d sg own.sender.number (Some 0) (drop (k + 1) all ++ b) && all_stay d sg b (drop (k + 1) all)) (sym (take_here all k own at))

@@ -21,7 +21,7 @@ use Rattle.bus_table.proofs.TurnLaws.{from_sort, in_sort, order_rises, numbers_d
 use Rattle.bus_schedule.specs.Closed.{sends}
 use Rattle.bus_medium.specs.Delays.{Delays, heard_end}
 use Rattle.bus_reach.specs.Joining.{grow_turns, grow_heard, hears_awake}
-use Rattle.bus_medium.proofs.CableClocks.{gap_elapsed, gap_waiting}
+use Rattle.bus_medium.proofs.CableClocks.{gap_elapsed, gap_waiting, max_first}
 use Rattle.bus_schedule.proofs.Growing.{Setting, sendable}
 use Rattle.bus_schedule.proofs.Greatest.{ends_within, max_within}
 use Rattle.bus_schedule.proofs.HandLemmas.{Sendable}
@@ -113,9 +113,6 @@ pub record Begin (table : Table) (hands : ℕ → List Message) (delay : Delays)
   pub absent : (b : Sender) → In b table.senders → hears_awake delay wake (sends hands (count first.number) first (from first.number + first.tg)) b ≡ false → share b ≡ 0
   pub count_is : (b : Sender) → In b table.senders → C b.number ≡ count b.number
   pub count_most : (b : Sender) → In b table.senders → count b.number ≤ round
-
-pub max_above : (a b : ℕ) → b ≤ a → a ≡ max a b
-max_above a b h = grind arith
 
 module _ (table : Table) (hands : ℕ → List Message) (n : ℕ) (setting : Setting table hands n) (mode : table.mode ≡ Aperiodic) (delay : Delays) (wake : ℕ → ℕ) (spread room : ℕ)
     (tolerant : IsTolerant table delay spread room) (share : Sender → ℕ) (share_most : (b : Sender) → share b ≤ b.tg + shortest b)
@@ -252,7 +249,7 @@ module _ (table : Table) (hands : ℕ → List Message) (n : ℕ) (setting : Set
               let woken : table.sg + wake b.number ≤ t.G b.number = woken table hands delay wake list t.t t.last from t.D t.G t.C t.known b i in
               let g : t.G b.number ≡ table.sg + from a.number = ap (λ (c : Sender). t.G c.number) is ∙ gap_is in
               steps.goes_here table.sg table.sg delay wake t.G a.number x b.number here
-              ∙ max_above (table.sg + heard_end delay x b.number + table.sg) (table.sg + wake b.number) (omega arith)
+              ∙ max_first (table.sg + heard_end delay x b.number + table.sg) (table.sg + wake b.number) (omega arith)
           | inr other ↦
               let was : IsOut p prefix suffix b = elim out [
                 | inl spoken ↦ elim (in_push_cases prefix a b spoken) [ inl old ↦ inl old | inr now ↦ absurd (other (ap (λ (c : Sender). c.number) now)) ]

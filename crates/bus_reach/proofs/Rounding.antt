@@ -18,7 +18,7 @@ use Rattle.bus_table.specs.inside.Orders.{Rises}
 use Rattle.bus_schedule.specs.Closed.{sends}
 use Rattle.bus_medium.specs.Delays.{Delays, heard_end}
 use Rattle.bus_reach.specs.Joining.{grow_turns, grow_heard, hears_awake, members}
-use Rattle.bus_medium.proofs.CableClocks.{gap_elapsed, gap_waiting}
+use Rattle.bus_medium.proofs.CableClocks.{gap_elapsed, gap_waiting, max_first}
 use Rattle.bus_schedule.proofs.Growing.{Setting, sendable}
 use Rattle.bus_schedule.proofs.Greatest.{ends_within, max_within}
 use Rattle.bus_schedule.proofs.HandLemmas.{Sendable}
@@ -28,7 +28,7 @@ use Rattle.bus_reach.proofs.Knowing.{Goes, goes_D, goes_G, goes_C, known_step, w
 use Rattle.bus_schedule.proofs.Orders.{rises_after}
 use Rattle.bus_reach.proofs.SpreadLemmas.{IsTolerant}
 use Rattle.bus_reach.proofs.RoundTurns as turns
-use Rattle.bus_reach.proofs.RoundTurns.{total, before, before_here, before_there, IsOut, Turn, Begin, max_above}
+use Rattle.bus_reach.proofs.RoundTurns.{total, before, before_here, before_there, IsOut, Turn, Begin}
 
 module _ (table : Table) (hands : ℕ → List Message) (n : ℕ) (setting : Setting table hands n) (mode : table.mode ≡ Aperiodic) (delay : Delays) (wake : ℕ → ℕ) (spread room : ℕ)
     (tolerant : IsTolerant table delay spread room) (share : Sender → ℕ) (share_most : (b : Sender) → share b ≤ b.tg + shortest b)
@@ -153,7 +153,7 @@ module _ (table : Table) (hands : ℕ → List Message) (n : ℕ) (setting : Set
               let here : b.number ≡ first.number = ap (λ (c : Sender). c.number) is in
               let w : wake b.number ≡ wake first.number = ap wake here in
               steps.goes_here table.sg table.sg delay wake t.G first.number opens b.number here
-              ∙ max_above (table.sg + heard_end delay opens b.number + table.sg) (table.sg + wake b.number) (omega (arith, first_awake))
+              ∙ max_first (table.sg + heard_end delay opens b.number + table.sg) (table.sg + wake b.number) (omega (arith, first_awake))
           | inr not ↦
               let asleep : opens.moment + delay opens b.number < wake b.number =
               elim (cases_lt (opens.moment + delay opens b.number) (wake b.number)) [
@@ -314,7 +314,7 @@ module _ (table : Table) (hands : ℕ → List Message) (n : ℕ) (setting : Set
           known = w.known;
           ended = λ b i. omega (arith, w.high b i);
           first_gap = w.idle first first_in (out first first_in)
-              ∙ sym (max_above (table.sg + heard_to first.number + table.sg) (table.sg + wake first.number) (omega arith)) ∙ omega arith;
+              ∙ sym (max_first (table.sg + heard_to first.number + table.sg) (table.sg + wake first.number) (omega arith)) ∙ omega arith;
           first_low = omega arith;
           first_high = omega (arith, w.high first first_in);
           low = λ b i. omega (

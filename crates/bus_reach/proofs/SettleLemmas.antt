@@ -4,7 +4,7 @@ use Rattle.std.specs.Prelude.{IsTrue, nat_le}
 use Rattle.std.specs.List.{list_all, filter, AllByRecursion}
 use Rattle.std.proofs.lemmas.Bool.{cases_lt, cases_eq, and_parts, and_right, le-ltb, lt-ltb, lt-leb, leb-true, le-leb}
 use Rattle.bus_strings.specs.Members.{In}
-use Rattle.bus_strings.proofs.MemberLaws.{in_filter, from_filter}
+use Rattle.bus_strings.proofs.MemberLaws.{in_filter, from_filter, all_in}
 use Rattle.bus_strings.specs.Messages.{Entry}
 use Rattle.bus_strings.specs.Transmissions.{end_of, overlaps, IsOrdered, IsAscending, Precedes}
 use Rattle.bus_table.specs.declared.mode.Mode.TheVariants.{Aperiodic}
@@ -39,10 +39,7 @@ use Rattle.bus_schedule.proofs.LiveLemmas.{stations_of_dealt}
 use Rattle.bus_schedule.proofs.HandLemmas.{own_fit, quiet_is, stations}
 use Rattle.bus_reach.proofs.Minding.{Bus, Clock}
 use Rattle.bus_reach.proofs.Streaming.{Counted, begins, in_stream}
-
-all_from : (P : Entry → Type 0) (xs : List Entry) → ((x : Entry) → In x xs → P x) → AllByRecursion P xs
-all_from P [] h = tt
-all_from P (x ∷ xs) h = (h x (inl refl), all_from P xs (λ y i. h y (inr i)))
+use Rattle.bus_reach.proofs.SpreadLemmas.{first_of_some}
 
 all_filter : (P : Entry → Type 0) (p : Entry → Bool) (xs : List Entry) → AllByRecursion P xs → AllByRecursion P (filter p xs)
 all_filter P p [] a = tt
@@ -108,11 +105,11 @@ module _ (sg : ℕ) (first : Sender) (others : List Sender) (horizon : ℕ) wher
   clear : (ys : List Entry) (a : Sender) (rest : List Sender) (from : ℕ) → InRounds sg first others horizon a rest from ys → IsClear ys
   clear [] a rest from h = tt
   clear (x ∷ ys) a [] from h = (
-    all_from (λ y. overlaps x y ≡ false) ys (λ y i. let k : end_of x + sg ≤ y.moment = no_sooner ys first others (end_of x + sg) h.2 y i in apart x y (omega arith)),
+    all_in (λ y. overlaps x y ≡ false) ys (λ y i. let k : end_of x + sg ≤ y.moment = no_sooner ys first others (end_of x + sg) h.2 y i in apart x y (omega arith)),
     clear ys first others (end_of x + sg) h.2,
   )
   clear (x ∷ ys) a (b ∷ rest) from h =
-      (all_from (λ y. overlaps x y ≡ false) ys (λ y i. apart x y (no_sooner ys b rest (end_of x) h.2 y i)), clear ys b rest (end_of x) h.2)
+      (all_in (λ y. overlaps x y ≡ false) ys (λ y i. apart x y (no_sooner ys b rest (end_of x) h.2 y i)), clear ys b rest (end_of x) h.2)
 
 rounds_clear : (sg : ℕ) (order : List Sender) (horizon from : ℕ) (ys : List Entry) → AreRounds sg order horizon from ys → IsClear ys
 rounds_clear sg [] horizon from ys h = subst IsClear (sym h) tt
@@ -277,13 +274,9 @@ one_fits (a ∷ l) b (inl same) =
     omega (arith, sum_by-cons (λ (c : Sender). c.tg + shortest c) a l)
 one_fits (a ∷ l) b (inr i) = omega (arith, one_fits l b i, sum_by-cons (λ (c : Sender). c.tg + shortest c) a l)
 
-first_of : (l : List Sender) → 0 < length l → (b : Sender) × In b l
-first_of [] h = absurd (omega arith)
-first_of (a ∷ l) h = (a, inl refl)
-
 pub starts_itself_is_accepted : StartsItselfIsAccepted
 starts_itself_is_accepted table valid mode starts =
-    let b = first_of table.senders (valid_facts table valid).some in
+    let b = first_of_some table.senders (valid_facts table valid).some in
     let free : table.ti ≤ table.sg + b.0.tg + shortest b.0 = leb-true table.ti (table.sg + b.0.tg + shortest b.0)
     (all_start (λ c. nat_le table.ti (table.sg + c.tg + shortest c)) table.senders starts b.0 b.1) in
     let fits : table.ti ≤ least_cycle table = omega (arith, one_fits table.senders b.0 b.1) in

@@ -1,33 +1,25 @@
 -- What it means for the induction that a table bears delays: a sender alone hears none at all.
-use Rattle.std.proofs.Common.{◌≡◌, ℕ, ◌+◌, ◌*◌, ◌<◌, ◌≤◌, ◌⊎◌, Bool, true, false, cond, List, [], ◌∷◌, length, inl, inr, arith, sym, refl, ap, ◌∙◌}
+use Rattle.std.proofs.Common.{◌≡◌, ℕ, ◌+◌, ◌*◌, ◌<◌, ◌≤◌, ◌⊎◌, true, cond, List, [], ◌∷◌, length, inl, inr, arith, sym, refl, ap, ◌∙◌}
 use Rattle.std.specs.Prelude.{IsTrue, ◌&&◌, ◌||◌, nat_le}
 use Rattle.std.specs.List.{list_all}
-use Rattle.std.proofs.lemmas.Bool.{and_parts, eq-eqb, ne_eqb, leb-true, ltb-true, cases_eq}
+use Rattle.std.proofs.lemmas.Bool.{and_parts, eq-eqb, ne_eqb, leb-true, ltb-true, cases_eq, or_cases}
 use Rattle.bus_strings.specs.Members.{In}
 use Rattle.bus_strings.specs.Messages.{Entry}
+use Rattle.bus_strings.proofs.MemberLaws.{pass_in}
 use Rattle.bus_table.specs.Tables.{Sender, Table}
 use Rattle.bus_table.specs.inside.Facts.{SenderFacts, TableFacts}
-use Rattle.bus_table.specs.Turns.{turn_key, turn_order}
-use Rattle.bus_table.proofs.TurnLaws.{of_each, length-sort}
+use Rattle.bus_table.specs.Turns.{turn_order}
+use Rattle.bus_table.proofs.TurnLaws.{of_each, order_length}
 use Rattle.bus_medium.specs.Delays.{Delays, AreDelays}
 use Rattle.bus_medium.specs.Wakes.{AreWakes}
 use Rattle.bus_reach.specs.Tolerance.{is_apart, leaves_room, lengths_bear}
 use Rattle.bus_reach.specs.Runs.{AreWithin, cycle_delay}
-
-pub all_in : {X : Type 0} (p : X → Bool) (xs : List X) (x : X) → list_all p xs ≡ true → In x xs → p x ≡ true
-all_in p [] x h i = absurd i
-all_in p (y ∷ ys) x h (inl same) = ap p same ∙ (and_parts (p y) (list_all p ys) h).0
-all_in p (y ∷ ys) x h (inr i) = all_in p ys x (and_parts (p y) (list_all p ys) h).1 i
 
 -- what a sender leaves
 pub record LeavesRoom (d sg : ℕ) (senders : List Sender) (a : Sender) : Type 0 where
   pub least : d ≤ a.tg
   pub short : a.tg + 2 * d < sg
   pub apart : (b : Sender) → In b senders → a.tg < b.tg → a.tg + 2 * d < b.tg
-
-pub or_true : (a b : Bool) → (a || b) ≡ true → (a ≡ true) ⊎ (b ≡ true)
-or_true true b h = inl refl
-or_true false b h = inr h
 
 pub room_left : (d sg : ℕ) (senders : List Sender) (a : Sender) → leaves_room d sg senders a ≡ true → LeavesRoom d sg senders a
 room_left d sg senders a h =
@@ -36,7 +28,7 @@ room_left d sg senders a h =
     record {
       least = leb-true d a.tg one.0;
       short = ltb-true (a.tg + 2 * d) sg two.0;
-      apart = λ b i less. elim (or_true (nat_le b.tg a.tg) (is_apart d a.tg b.tg) (all_in (λ c. nat_le c.tg a.tg || is_apart d a.tg c.tg) senders b two.1 i)) [
+      apart = λ b i less. elim (or_cases (nat_le b.tg a.tg) (is_apart d a.tg b.tg) (pass_in (λ c. nat_le c.tg a.tg || is_apart d a.tg c.tg) senders b two.1 i)) [
         | inl not ↦ let k : b.tg ≤ a.tg = leb-true b.tg a.tg not in absurd (omega arith)
         | inr far ↦ ltb-true (a.tg + 2 * d) b.tg far
       ];
@@ -71,28 +63,33 @@ pub record HasTolerance (table : Table) (most : ℕ) (delay : Delays) : Type 0 w
       → (room : ℕ) × AreWithin room delay × ((room ≤ spread) ⊎ ((length (turn_order table) ≡ 1) × (room ≤ table.sg)))
   pub either : (length table.senders ≡ 1) ⊎ (spread ≡ most)
 
+-- what a lone sender tolerates: no other has to hear it
+alone_tolerant : (table : Table) (most : ℕ) (delay : Delays) → TableFacts table → AreDelays most delay → length table.senders ≡ 1 → (room : ℕ)
+    → (room ≤ 0) ⊎ ((length (turn_order table) ≡ 1) × (room ≤ table.sg)) → IsTolerant table delay 0 room
+alone_tolerant table most delay facts delays one room fits = record {
+  own = delays.own;
+  delays = λ a b x i j own.
+      let same : x.terminal ≡ b.number = own ∙ ap (λ (s : Sender). s.number) (only_one table.senders one a b i j) in
+      let none : delay x b.number ≡ 0 = ap (delay x) (sym same) ∙ delays.own x in
+      omega arith;
+  least = λ a i. omega arith;
+  apart = λ a b i j less. let same : a.tg ≡ b.tg = ap (λ (s : Sender). s.tg) (only_one table.senders one a b i j) in omega arith;
+  short = λ a i. let k : a.tg < table.sg = (of_each (SenderFacts table) table.senders facts.senders a i).tg_short in omega arith;
+  fits = fits;
+}
+
 pub tolerance_of : (table : Table) (most : ℕ) (delay : Delays) → TableFacts table → AreDelays most delay → IsTrue (lengths_bear table most) → HasTolerance table most delay
 tolerance_of table most delay facts delays bearing =
     elim (cases_eq (length table.senders) 1) [
       | inl one ↦ record {
         spread = 0;
-        tolerant = λ room fits. record {
-          own = delays.own;
-          delays = λ a b x i j own.
-              let same : x.terminal ≡ b.number = own ∙ ap (λ (s : Sender). s.number) (only_one table.senders one a b i j) in
-              let none : delay x b.number ≡ 0 = ap (delay x) (sym same) ∙ delays.own x in
-              omega arith;
-          least = λ a i. omega arith;
-          apart = λ a b i j less. let same : a.tg ≡ b.tg = ap (λ (s : Sender). s.tg) (only_one table.senders one a b i j) in omega arith;
-          short = λ a i. let k : a.tg < table.sg = (of_each (SenderFacts table) table.senders facts.senders a i).tg_short in omega arith;
-          fits = fits;
-        };
-        roomy = λ h. elim h [ inl many ↦ absurd (omega arith) | inr low ↦ (table.sg, low, inr (as_many ∙ one, omega arith)) ];
+        tolerant = alone_tolerant table most delay facts delays one;
+        roomy = λ h. elim h [ inl many ↦ absurd (omega arith) | inr low ↦ (table.sg, low, inr (order_length table ∙ one, omega arith)) ];
         either = inl one;
       }
       | inr many ↦
           let each : list_all (leaves_room most table.sg table.senders) table.senders ≡ true = ap (λ b. b || list_all (leaves_room most table.sg table.senders) table.senders) (sym (ne_eqb (length table.senders) 1 many)) ∙ bearing in
-          let left : (a : Sender) → In a table.senders → LeavesRoom most table.sg table.senders a = λ a i. room_left most table.sg table.senders a (all_in (leaves_room most table.sg table.senders) table.senders a each i) in
+          let left : (a : Sender) → In a table.senders → LeavesRoom most table.sg table.senders a = λ a i. room_left most table.sg table.senders a (pass_in (leaves_room most table.sg table.senders) table.senders a each i) in
           record {
             spread = most;
             tolerant = λ room fits. record {
@@ -107,9 +104,6 @@ tolerance_of table most delay facts delays bearing =
             either = inr refl;
           }
     ]
-  where
-    as_many : length (turn_order table) ≡ length table.senders
-    as_many = length-sort (turn_key table.mode) table.senders
 
 -- and where the wakes are up to `most` too, they are near one another, and a cycle is lengthened by so much
 pub record HasSpread (table : Table) (most : ℕ) (delay : Delays) (wake : ℕ → ℕ) : Type 0 where
@@ -132,17 +126,7 @@ spread_of table most delay wake facts delays wakes bearing =
           record {
             spread = 0;
             base = wake first.0.number;
-            tolerant = λ room fits. record {
-              own = delays.own;
-              delays = λ a b x i j own.
-                  let same : x.terminal ≡ b.number = own ∙ ap (λ (s : Sender). s.number) (only_one table.senders one a b i j) in
-                  let none : delay x b.number ≡ 0 = ap (delay x) (sym same) ∙ delays.own x in
-                  omega arith;
-              least = λ a i. omega arith;
-              apart = λ a b i j less. let same : a.tg ≡ b.tg = ap (λ (s : Sender). s.tg) (only_one table.senders one a b i j) in omega arith;
-              short = λ a i. let k : a.tg < table.sg = (of_each (SenderFacts table) table.senders facts.senders a i).tg_short in omega arith;
-              fits = fits;
-            };
+            tolerant = alone_tolerant table most delay facts delays one;
             either = inl one;
             early = λ a i. omega (arith, alike a i);
             late = λ a i. omega (arith, alike a i);
@@ -157,12 +141,9 @@ spread_of table most delay wake facts delays wakes bearing =
             either = inr is;
             early = λ a i. omega arith;
             late = λ a i. let k : wake a.number ≤ most = wakes a i in omega arith;
-            whole = ap (λ k. length (turn_order table) * k) is ∙ ap (λ k. k * most) as_many ∙ sym (ap (λ b. cond b 0 (length table.senders * most)) (ne_eqb (length table.senders) 1 many));
+            whole = ap (λ k. length (turn_order table) * k) is ∙ ap (λ k. k * most) (order_length table) ∙ sym (ap (λ b. cond b 0 (length table.senders * most)) (ne_eqb (length table.senders) 1 many));
           }
     ]
   where
-    as_many : length (turn_order table) ≡ length table.senders
-    as_many = length-sort (turn_key table.mode) table.senders
-
     none_at_all : (k : ℕ) → k * 0 ≡ 0
     none_at_all k = omega arith

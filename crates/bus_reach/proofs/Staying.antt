@@ -3,7 +3,7 @@ use Rattle.std.proofs.Common.{◌≡◌, ◌≢◌, ℕ, suc, ◌+◌, ◌≤◌
 use Rattle.std.specs.List.{filter, list_all}
 use Rattle.std.proofs.lemmas.Bool.{leb-true, le-leb, ne_eqb}
 use Rattle.bus_strings.specs.Members.{In}
-use Rattle.bus_strings.proofs.MemberLaws.{in_filter, from_filter}
+use Rattle.bus_strings.proofs.MemberLaws.{in_filter, from_filter, pass_in}
 use Rattle.bus_strings.specs.Messages.{Message, Entry}
 use Rattle.bus_strings.specs.Transmissions.{end_of}
 use Rattle.bus_table.specs.Tables.{Sender}
@@ -17,7 +17,7 @@ use Rattle.bus_reach.specs.Joining.{grow_heard, hears_awake, members, Growth, gr
 use Rattle.bus_reach.proofs.Modes.{in_aperiodic}
 use Rattle.bus_reach.specs.Laws.{MembersStay}
 use Rattle.bus_reach.specs.Tolerance.{leaves_room}
-use Rattle.bus_reach.proofs.SpreadLemmas.{all_in, room_left}
+use Rattle.bus_reach.proofs.SpreadLemmas.{room_left}
 
 heard_no_sooner : (delay : Delays) (messages : ℕ → List Message) (count : ℕ → ℕ) (order : List Sender) (from : ℕ → ℕ) (lo : ℕ) → ((k : ℕ) → lo ≤ from k) → (k : ℕ)
     → lo ≤ grow_heard delay messages count order from k
@@ -52,7 +52,7 @@ members_stay table hands most delay wake round sender valid mode delays bearing 
         let near : (x : Entry) → In sender others → delay x sender.number ≤ first.tg = λ x i.
         let many : length table.senders ≢ 1 = λ e. alone others i (omega (arith, ap length is, length-sort (turn_key table.mode) table.senders, e)) in
         let each : list_all (leaves_room most table.sg table.senders) table.senders ≡ true = ap (λ v. v || list_all (leaves_room most table.sg table.senders) table.senders) (sym (ne_eqb (length table.senders) 1 many)) ∙ (sym (in_aperiodic table most mode) ∙ bearing) in
-        let least : most ≤ first.tg = (room_left most table.sg table.senders first (all_in (leaves_room most table.sg table.senders) table.senders first each first_in)).least in
+        let least : most ≤ first.tg = (room_left most table.sg table.senders first (pass_in (leaves_room most table.sg table.senders) table.senders first each first_in)).least in
         let d : delay x sender.number ≤ most = delays.within x sender.number in
         omega arith in
         subst (λ o. In sender (members delay wake messages (grown delay wake messages table.sg o (suc round)).count o (grown delay wake messages table.sg o (suc round)).from)) (sym is)

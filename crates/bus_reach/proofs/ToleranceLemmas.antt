@@ -4,12 +4,13 @@ use Rattle.std.specs.Prelude.{slice_get}
 use Rattle.std.specs.List.{list_all}
 use Rattle.std.proofs.lemmas.Bool.{ne_eqb}
 use Rattle.std.proofs.lemmas.Option.{slice_get_read}
+use Rattle.bus_strings.proofs.MemberLaws.{pass_in}
 use Rattle.bus_table.specs.Tables.{Sender, Table}
 use Rattle.bus_table.specs.inside.Facts.{SenderFacts, TableFacts}
 use Rattle.bus_table.proofs.TurnLaws.{of_each, at_in}
 use Rattle.bus_reach.specs.Tolerance.{leaves_room, lengths_bear}
 use Rattle.bus_reach.proofs.RoomLemmas.{IsRoom}
-use Rattle.bus_reach.proofs.SpreadLemmas.{all_in, first_of_some, room_left}
+use Rattle.bus_reach.proofs.SpreadLemmas.{first_of_some, room_left}
 
 min_both : (d a b m : ℕ) → m ≡ min a b → (d ≤ m) ↔ ((d ≤ a) × (d ≤ b))
 min_both d a b m is = ((λ low. (first d a b m is low, second d a b m is low)), (λ p. all d a b m is p.0 p.1))
@@ -53,7 +54,7 @@ tolerance_whole table senders sg room facts same sg_is several h d =
       (λ yes'.
           let all : list_all (leaves_room d table.sg table.senders) table.senders ≡ true = sym either ∙ yes' in
           let first = first_of_some table.senders facts.some in
-          let room_there = room_left d table.sg table.senders first.0 (all_in (leaves_room d table.sg table.senders) table.senders first.0 all first.1) in
+          let room_there = room_left d table.sg table.senders first.0 (pass_in (leaves_room d table.sg table.senders) table.senders first.0 all first.1) in
           let least : d ≤ first.0.tg = room_there.least in
           let most : first.0.tg ≤ 256 = (of_each (SenderFacts table) table.senders facts.senders first.0 first.1).tg_most in
           (here d).1 (omega arith, all)),

@@ -8,10 +8,11 @@ use Rattle.std.proofs.lemmas.List.{take_all}
 use Rattle.std.proofs.lemmas.Option.{slice_get_within, get_or_from_slice_get}
 use Rattle.bus_strings.specs.Members.{In}
 use Rattle.bus_table.specs.Tables.{Sender, Table}
-use Rattle.bus_table.specs.Turns.{turn_key, turn_order}
+use Rattle.bus_table.specs.Turns.{turn_key, turn_order, Rises}
 use Rattle.bus_table.specs.inside.Orders.{Differ, Rises}
 use Rattle.bus_table.proofs.TurnLaws.{behind_rises, from_sort, numbers_differ, order_rises}
 use Rattle.bus_table.specs.Valid.{is_valid}
+use Rattle.bus_table.specs.inside.Facts.{TableFacts}
 use Rattle.bus_table.proofs.ValidLaws.{valid_facts}
 use Rattle.bus_regime.proofs.GapLaws.{gap_sender, same_by_number}
 use Rattle.bus_regime.specs.Gaps.{Gap, latest_end, last_end, gaps_from, gaps, has_width}
@@ -34,15 +35,15 @@ own_senders key ti from (s ∷ order) r told = (
   own_senders key ti (ti + latest_end s) order r.1 (λ a b i j. told a b (inr i) (inr j)),
 )
 
-own_gaps : (table : Table) → IsTrue (is_valid table) → HaveOwnSenders (gaps table)
-own_gaps table valid =
-    let facts = valid_facts table valid in
+-- at any interval
+pub own_gaps : (table : Table) (ti : ℕ) → TableFacts table → HaveOwnSenders (gaps_from ti (last_end 0 (turn_order table)) (turn_order table))
+own_gaps table ti facts =
     let key = turn_key table.mode in
-    own_senders (turn_key table.mode) table.ti (last_end 0 (turn_order table)) (turn_order table) (order_rises table facts)
+    own_senders key ti (last_end 0 (turn_order table)) (turn_order table) (order_rises table facts)
     (λ a b i j. same_by_number table.senders (numbers_differ table facts) a b (from_sort key table.senders a i) (from_sort key table.senders b j))
 
 -- the gaps that are wide, and among them those that synchronize the sender with this number
-abbrev one_if : Bool → ℕ
+abbrev pub one_if : Bool → ℕ
 one_if test = cond test 1 0
 
 none_same : (sg n : ℕ) (all : List Gap) → ((other : Gap) → In other all → other.sender.number ≢ n) → count_by (synchronizes sg n) all ≡ count_by (has_width sg) all
@@ -91,7 +92,7 @@ less_same a b (suc c) e = ne_eqb a b (λ k. omega (arith, e)) ∙ sym (ne_eqb (s
 pub alone_wide : (table : Table) (gap : Gap) (wide : ℕ) → IsTrue (is_valid table) → In gap (gaps table) → wide ≡ count_by (has_width table.sg) (gaps table)
     → (wide == cond (has_width table.sg gap) 1 0) ≡ not (list_any (synchronizes table.sg gap.sender.number) (gaps table))
 alone_wide table gap wide valid i is =
-    let split = others_wide table.sg (gaps table) gap i (own_gaps table valid) in
+    let split = others_wide table.sg (gaps table) gap i (own_gaps table table.ti (valid_facts table valid)) in
     less_same wide (one_if (has_width table.sg gap)) (count_by (synchronizes table.sg gap.sender.number) (gaps table)) (is ∙ split)
     ∙ any_counted (synchronizes table.sg gap.sender.number) (gaps table)
 

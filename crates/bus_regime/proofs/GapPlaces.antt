@@ -3,9 +3,10 @@ use Rattle.std.proofs.Common.{◌≡◌, ◌≢◌, ℕ, zero, suc, ◌+◌, ◌
 use Rattle.std.specs.Prelude.{Bool, true, false, Option, Some, None, slice_get, IsSomeAnd, IsTrue}
 use Rattle.std.specs.List.{find}
 use Rattle.std.proofs.lemmas.Bool.{cases_lt}
-use Rattle.std.proofs.lemmas.List.{take_all, take_more, drop_all, get_or-set_same, get_or-set_other}
+use Rattle.std.proofs.lemmas.List.{take_all, drop_all, get_or-set_same, get_or-set_other}
 use Rattle.std.proofs.lemmas.Option.{slice_get_read}
 use Rattle.bus_strings.specs.Members.{In}
+use Rattle.bus_strings.proofs.ListLaws.{some_at, take_read, drop_at}
 use Rattle.bus_table.specs.Tables.{Sender, Table}
 use Rattle.bus_table.specs.Turns.{turn_key, turn_order}
 use Rattle.bus_table.specs.inside.Orders.{Differ}
@@ -31,7 +32,7 @@ length-gaps_from ti from (s ∷ order) = let rest = length-gaps_from ti (ti + la
 pub length-gaps : (table : Table) → length (gaps table) ≡ length table.senders
 length-gaps table = length-gaps_from table.ti (last_end 0 (turn_order table)) (turn_order table) ∙ length-sort (turn_key table.mode) table.senders
 
-turn_in : (table : Table) (k : ℕ) (a : Sender) → slice_get (turn_order table) k ≡ Some a → In a table.senders
+pub turn_in : (table : Table) (k : ℕ) (a : Sender) → slice_get (turn_order table) k ≡ Some a → In a table.senders
 turn_in table k a h = from_sort (turn_key table.mode) table.senders a (at_in (turn_order table) k a h)
 
 pub some_of : {A : Type 0} (P : A → Type 0) (o : Option A) → IsSomeAnd o P → (a : A) × (o ≡ Some a) × P a
@@ -65,27 +66,19 @@ in_push [] y x (inr i) = absurd i
 in_push (z ∷ xs) y x (inl e) = inl (inl e)
 in_push (z ∷ xs) y x (inr i) = elim (in_push xs y x i) [ inl j ↦ inl (inr j) | inr e ↦ inr e ]
 
-taken : (senders : List Sender) (i : ℕ) (s : Sender) → i < length senders → s ≡ get_or senders i s → take (i + 1) senders ≡ take i senders ++ s ∷ []
-taken senders i s h e = take_more senders i s h ∙ ap (λ x. take i senders ++ x ∷ []) (sym e)
-
 -- none of the senders so far has this number, and the next one hasn't
 pub none_further : (senders : List Sender) (number i : ℕ) (b : Sender) → i < length senders → b ≡ get_or senders i b → b.number ≢ number
     → ((s : Sender) → In s (take i senders) → s.number ≢ number) → (s : Sender) → In s (take (i + 1) senders) → s.number ≢ number
 none_further senders number i b h e unlike none s j =
-    elim (in_push (take i senders) b s (subst (λ l. In s l) (taken senders i b h e) j)) [
+    elim (in_push (take i senders) b s (subst (λ l. In s l) (take_read senders i b h e) j)) [
       | inl k ↦ none s k
       | inr same ↦ λ n. unlike (sym (ap (λ (x : Sender). x.number) same) ∙ n)
     ]
 
-at_place : {A : Type 0} (xs : List A) (k : ℕ) → k < length xs → (a : A) × (slice_get xs k ≡ Some a)
-at_place [] k h = absurd (omega arith)
-at_place (x ∷ xs) zero h = (x, refl)
-at_place (x ∷ xs) (suc k) h = at_place xs k (omega arith)
-
 pub in_order : (table : Table) (k : ℕ) → k < length table.senders → (a : Sender) × (slice_get (turn_order table) k ≡ Some a)
 in_order table k h =
     let same : length (turn_order table) ≡ length table.senders = length-sort (turn_key table.mode) table.senders in
-    at_place (turn_order table) k (omega (arith, h, same))
+    some_at (turn_order table) k (omega (arith, h, same))
 
 -- where the first gap begins, and each other
 pub first_from : (table : Table) (k n end : ℕ) (p : Sender) → k ≡ 0 → k < length table.senders → suc n ≡ length table.senders
@@ -155,20 +148,13 @@ gap_told table k from to s at has is =
     ∙ ap (λ n. let x : Gap = record { sender = s; from = from; to = n } in Some x) (sym is)
 
 -- steps of a search over the gaps
-drop_at : {A : Type 0} (xs : List A) (k : ℕ) (x : A) → slice_get xs k ≡ Some x → drop k xs ≡ x ∷ drop (suc k) xs
-drop_at [] k x h = absurd (let w : None ≡ Some x = h in cc)
-drop_at (y ∷ ys) zero x h = ap (λ z. z ∷ ys) (let w : Some y ≡ Some x = h in cc)
-drop_at (y ∷ ys) (suc k) x h = drop_at ys k x h
-
 pub step_found : (p : Gap → Bool) (all : List Gap) (k : ℕ) (g : Gap) → slice_get all k ≡ Some g → p g ≡ true → find p all ≡ find p (drop k all)
     → find p all ≡ Some g
-step_found p all k g at passes h = h ∙ ap (find p) (drop_at all k g at) ∙ ap (λ b. cond b (Some g) (find p (drop (suc k) all))) passes
+step_found p all k g at passes h = h ∙ ap (find p) (drop_at all k g at) ∙ ap (λ b. cond b (Some g) (find p (drop (k + 1) all))) passes
 
 pub step_next : (p : Gap → Bool) (all : List Gap) (k : ℕ) (g : Gap) → slice_get all k ≡ Some g → p g ≡ false → find p all ≡ find p (drop k all)
     → find p all ≡ find p (drop (k + 1) all)
-step_next p all k g at fails h =
-    let next : suc k ≡ k + 1 = omega arith in
-    h ∙ ap (find p) (drop_at all k g at) ∙ ap (λ b. cond b (Some g) (find p (drop (suc k) all))) fails ∙ ap (λ n. find p (drop n all)) next
+step_next p all k g at fails h = h ∙ ap (find p) (drop_at all k g at) ∙ ap (λ b. cond b (Some g) (find p (drop (k + 1) all))) fails
 
 pub step_end : (p : Gap → Bool) (all : List Gap) (k : ℕ) → find p all ≡ find p (drop k all) → length all ≤ k → find p all ≡ None
 step_end p all k h whole = h ∙ ap (find p) (drop_all k all whole)

@@ -1,12 +1,13 @@
 -- Laws of the verdict: which tables it accepts, and with which numbers.
-use Rattle.std.specs.Prelude.{◌≡◌, ◌≢◌, ℕ, ◌+◌, ◌<◌, ◌≤◌, ◌⊎◌, Bool, true, false, not, ◌&&◌, ◌||◌, ◌==◌, nat_le, nat_lt, List, [], ◌∷◌}
+use Rattle.std.specs.Prelude.{◌≡◌, ◌≢◌, ℕ, ◌+◌, ◌<◌, ◌≤◌, ◌⊎◌, Bool, true, false, not, ◌&&◌, ◌==◌, nat_lt, List, [], ◌∷◌}
 use Rattle.std.specs.Prelude.{Option, Some, None, IsTrue}
 use Rattle.std.specs.List.{list_any, find}
 use Rattle.std.specs.Option.{option_map, option_or}
 use Rattle.std.proofs.Common.{inl, inr, arith, sym, refl, ap, ◌∙◌, cond}
-use Rattle.std.proofs.lemmas.Bool.{and_parts, and_from, or_left, or_right, true≢false, cases_lt, ltb-false, le-ltb}
+use Rattle.std.proofs.lemmas.Bool.{and_parts, and_from, or_left, or_right, true≢false, cases_lt, ltb-false, le-ltb, or_parts, or_cases, not-false, not-true, le-leb}
 use Rattle.std.proofs.lemmas.Bool.Decides.{nat_tests}
 use Rattle.bus_strings.specs.Members.{In}
+use Rattle.bus_strings.proofs.MemberLaws.{any_found, any_in}
 use Rattle.bus_table.specs.declared.mode.Mode.{Mode}
 use Rattle.bus_table.specs.declared.mode.Mode.TheVariants.{Aperiodic, Periodic}
 use Rattle.bus_table.specs.Tables.{Table}
@@ -29,34 +30,6 @@ find_none p (y ∷ ys) h x i =
 none_found : {A : Type 0} (p : A → Bool) (xs : List A) → ((x : A) → In x xs → p x ≡ false) → find p xs ≡ None
 none_found p [] h = refl
 none_found p (y ∷ ys) h = ap (λ b. cond b (Some y) (find p ys)) (h y (inl refl)) ∙ none_found p ys (λ x i. h x (inr i))
-
-any_found : {A : Type 0} (p : A → Bool) (xs : List A) → list_any p xs ≡ true → (x : A) × In x xs × (p x ≡ true)
-any_found p [] h = absurd (cc)
-any_found p (y ∷ ys) h =
-    (elim (p y) as (λ b. p y ≡ b → (b || list_any p ys) ≡ true → (x : _) × In x (y ∷ ys) × (p x ≡ true)) [
-      | true ↦ λ e k. (y, inl refl, e)
-      | false ↦ λ e k. (let w = any_found p ys k in (w.0, inr w.1, w.2))
-    ]) refl h
-
-found_any : {A : Type 0} (p : A → Bool) (xs : List A) (x : A) → In x xs → p x ≡ true → list_any p xs ≡ true
-found_any p [] x i h = absurd i
-found_any p (y ∷ ys) x (inl same) h = or_left (p y) (list_any p ys) (ap p (sym same) ∙ h)
-found_any p (y ∷ ys) x (inr i) h = or_right (p y) (list_any p ys) (found_any p ys x i h)
-
-not_false : (b : Bool) → not b ≡ false → b ≡ true
-not_false true h = refl
-not_false false h = absurd (cc)
-
-not_true : (b : Bool) → not b ≡ true → b ≡ false
-not_true true h = absurd (cc)
-not_true false h = refl
-
-or_true : (a b : Bool) → (a || b) ≡ true → (a ≡ true) ⊎ (b ≡ true)
-or_true true b h = inl refl
-or_true false b h = inr h
-
-le_true : (a b : ℕ) → a ≤ b → nat_le a b ≡ true
-le_true a b h = grind (arith, nat_tests)
 
 not_same : (a b : ℕ) → a ≢ b → not (a == b) ≡ true
 not_same a b h =
@@ -84,8 +57,8 @@ neither None None sg h = (refl, refl)
 
 fine : (sg : ℕ) (all : List Gap) (gap : Gap) → is_small gap ≡ false → lacks_sync sg all gap ≡ false → IsFine sg all gap
 fine sg all gap h k =
-    let w : has_width gap.sender.tg gap ≡ true = not_false _ h in
-    let s = or_true (has_width (sg + gap.sender.tg) gap) (list_any (synchronizes sg gap.sender.number) all) (not_false _ k) in
+    let w : has_width gap.sender.tg gap ≡ true = not-false _ h in
+    let s = or_cases (has_width (sg + gap.sender.tg) gap) (list_any (synchronizes sg gap.sender.number) all) (not-false _ k) in
     record {
       wide = grind (arith, nat_tests, w);
       sync = elim s [
@@ -93,7 +66,7 @@ fine sg all gap h k =
         | inr some ↦
             let f = any_found (synchronizes sg gap.sender.number) all some in
             let p = and_parts (not (f.0.sender.number == gap.sender.number)) _ f.2 in
-            let differs : (f.0.sender.number == gap.sender.number) ≡ false = not_true _ p.0 in
+            let differs : (f.0.sender.number == gap.sender.number) ≡ false = not-true _ p.0 in
             inr (record {
               other = f.0;
               among = f.1;
@@ -111,16 +84,16 @@ accepted_fine sg ti all h gap i =
     let both = neither (find is_small all) (find (lacks_sync sg all) all) sg none in
     fine sg all gap (find_none is_small all both.0 gap i) (find_none (lacks_sync sg all) all both.1 gap i)
 
-is_not_small : (gap : Gap) → gap.from + gap.sender.tg ≤ gap.to → is_small gap ≡ false
-is_not_small gap h = ap not (le_true (gap.from + gap.sender.tg) gap.to h)
+pub is_not_small : (gap : Gap) → gap.from + gap.sender.tg ≤ gap.to → is_small gap ≡ false
+is_not_small gap h = ap not (le-leb (gap.from + gap.sender.tg) gap.to h)
 
 has_sync : (sg : ℕ) (all : List Gap) (gap : Gap) → (gap.from + (sg + gap.sender.tg) ≤ gap.to) ⊎ IsSynchronized sg all gap
     → lacks_sync sg all gap ≡ false
 has_sync sg all gap (inl own) =
-    ap not (or_left (has_width (sg + gap.sender.tg) gap) (list_any (synchronizes sg gap.sender.number) all) (le_true _ _ own))
+    ap not (or_left (has_width (sg + gap.sender.tg) gap) (list_any (synchronizes sg gap.sender.number) all) (le-leb _ _ own))
 has_sync sg all gap (inr s) =
-    let passes = and_from _ _ (not_same _ _ s.apart) (le_true _ _ s.wide) in
-    let found = found_any (synchronizes sg gap.sender.number) all s.other s.among passes in
+    let passes = and_from _ _ (not_same _ _ s.apart) (le-leb _ _ s.wide) in
+    let found = any_in (synchronizes sg gap.sender.number) all s.other s.among passes in
     ap not (or_right (has_width (sg + gap.sender.tg) gap) (list_any (synchronizes sg gap.sender.number) all) found)
 
 none_refused : (sg : ℕ) (all : List Gap) → ((gap : Gap) → In gap all → IsFine sg all gap) → refusal sg all ≡ None
@@ -195,24 +168,20 @@ find_some p (y ∷ ys) x h =
       | false ↦ λ e k. (let w = find_some p ys x k in (inr w.0, w.1))
     ]) refl h
 
-or_false : (a b : Bool) → (a || b) ≡ false → (a ≡ false) × (b ≡ false)
-or_false true b h = absurd (cc)
-or_false false b h = (refl, h)
-
 none_other : {A : Type 0} (p : A → Bool) (xs : List A) (x : A) → list_any p xs ≡ false → In x xs → p x ≡ false
 none_other p xs x none i =
     (elim (p x) as (λ b. p x ≡ b → b ≡ false) [
-      | true ↦ λ e. absurd (true≢false (sym (found_any p xs x i e) ∙ none))
+      | true ↦ λ e. absurd (true≢false (sym (any_in p xs x i e) ∙ none))
       | false ↦ λ e. refl
     ]) refl
 
 is_small_gap : (gap : Gap) → is_small gap ≡ true → gap.to < gap.from + gap.sender.tg
-is_small_gap gap h = let w : has_width gap.sender.tg gap ≡ false = not_true _ h in grind (arith, nat_tests, w)
+is_small_gap gap h = let w : has_width gap.sender.tg gap ≡ false = not-true _ h in grind (arith, nat_tests, w)
 
 narrow_other : (sg : ℕ) (all : List Gap) (gap other : Gap) → lacks_sync sg all gap ≡ true → In other all
     → other.sender.number ≢ gap.sender.number → other.to < other.from + sg
 narrow_other sg all gap other h i apart =
-    let none = (or_false (has_width (sg + gap.sender.tg) gap) _ (not_true _ h)).1 in
+    let none = (or_parts (has_width (sg + gap.sender.tg) gap) _ (not-true _ h)).1 in
     let w : (not (other.sender.number == gap.sender.number) && has_width sg other) ≡ false =
     none_other (synchronizes sg gap.sender.number) all other none i in
     let k : has_width sg other ≡ false = ap (λ b. b && has_width sg other) (sym (not_same _ _ apart)) ∙ w in
@@ -220,7 +189,7 @@ narrow_other sg all gap other h i apart =
 
 unsynchronized : (sg : ℕ) (all : List Gap) (gap : Gap) → In gap all → lacks_sync sg all gap ≡ true → HasUnsynchronized sg all
 unsynchronized sg all gap i h =
-    let w : has_width (sg + gap.sender.tg) gap ≡ false = (or_false (has_width (sg + gap.sender.tg) gap) _ (not_true _ h)).0 in
+    let w : has_width (sg + gap.sender.tg) gap ≡ false = (or_parts (has_width (sg + gap.sender.tg) gap) _ (not-true _ h)).0 in
     record {
       gap = gap;
       among = i;

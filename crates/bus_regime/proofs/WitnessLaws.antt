@@ -1,29 +1,27 @@
 -- Laws of the witness of a valid table: its items fit, and give each sender two filling messages.
-use Rattle.std.specs.Prelude.{◌≡◌, ◌≢◌, ℕ, ◌+◌, true, ◌==◌, List, [], ◌∷◌, ◌++◌, length, map}
+use Rattle.std.specs.Prelude.{◌≡◌, ◌≢◌, ℕ, ◌+◌, true, ◌==◌, List, [], ◌∷◌, ◌++◌, map}
 use Rattle.std.specs.Prelude.{Some, cond, Ok, IsOk}
-use Rattle.std.specs.Int.{is_in_range}
-use Rattle.std.specs.List.{list_all, filter, AllByRecursion}
+use Rattle.std.specs.List.{AllByRecursion}
 use Rattle.std.proofs.Common.{inl, inr, sym, refl, ap, ◌∙◌, subst}
-use Rattle.std.proofs.lemmas.Bool.{and_parts, eq-eqb, ne_eqb}
+use Rattle.std.proofs.lemmas.Bool.{eq-eqb, ne_eqb}
 use Rattle.std.proofs.lemmas.List.Elements.{filter-append}
 use Rattle.bus_strings.specs.Items.{Item, IsItem}
-use Rattle.bus_strings.specs.Limits.{most_strings}
 use Rattle.bus_strings.proofs.MemberLaws.{of_each, from_map, in_append_cases}
 use Rattle.bus_strings.specs.Members.{In}
 use Rattle.bus_table.specs.declared.mode.Mode.{Mode}
 use Rattle.bus_table.specs.inside.Facts.{SenderFacts, TableFacts}
 use Rattle.bus_table.specs.Filling.{filling_strings, filling_item, filling_message}
-use Rattle.bus_table.proofs.FillingLaws.{filling_shape, filling_is_item}
+use Rattle.bus_table.proofs.FillingLaws.{filling_shape, filling_is_item, each_send_line}
 use Rattle.bus_table.specs.Fits.{sender_of, shape_fit, item_fit, fit_from, items_fit}
 use Rattle.bus_table.specs.Hands.{message_of, items_of, hand_of}
-use Rattle.bus_table.specs.Ranges.{is_number, is_tg, is_offset, are_send_lines, is_send_line, is_sender}
+use Rattle.bus_table.specs.Ranges.{is_sender}
 use Rattle.bus_table.specs.Tables.{Sender, Table}
 use Rattle.bus_table.proofs.TurnLaws.{numbers_differ}
 use Rattle.bus_table.specs.inside.Orders.{Differ}
 use Rattle.bus_regime.specs.Witness.{filling_round, witness_of}
 
 -- a sender is found by its number
-found : (senders : List Sender) (sender : Sender) → Differ (λ s. s.number) senders → In sender senders
+pub found : (senders : List Sender) (sender : Sender) → Differ (λ s. s.number) senders → In sender senders
     → sender_of senders sender.number ≡ Some sender
 found [] sender d i = absurd i
 found (s ∷ senders) sender d (inl same) =
@@ -31,13 +29,6 @@ found (s ∷ senders) sender d (inl same) =
     ∙ ap Some (sym same)
 found (s ∷ senders) sender d (inr i) =
     ap (λ b. cond b (Some s) (sender_of senders sender.number)) (ne_eqb s.number sender.number (d.0 sender i)) ∙ found senders sender d.1 i
-
-each_send_line : (sender : Sender) → is_sender sender ≡ true → list_all is_send_line sender.sends ≡ true
-each_send_line sender h =
-    let gap = (and_parts (is_number sender.number) _ h).1 in
-    let offset = (and_parts (is_tg sender.tg) _ gap).1 in
-    let lines = (and_parts (is_offset sender.at) _ offset).1 in
-    (and_parts (is_in_range 1 most_strings (length sender.sends)) _ (and_parts (are_send_lines sender.sends) _ lines).0).1
 
 -- items of these senders' filling messages
 abbrev AreFillings : Table → List Item → Type 0

@@ -29,11 +29,12 @@ use Rattle.bus_medium.specs.Wakes.{settled}
 use Rattle.bus_medium.proofs.BusyLaws.{entry_is_busy}
 use Rattle.bus_medium.proofs.PastLaws.{length_past, past_at, own_more, own_later, last_push}
 use Rattle.bus_regime.specs.Gaps.{Gap, latest_end, last_end, gaps_from, gaps}
+use Rattle.bus_regime.proofs.GapLaws.{gap_sender}
 use Rattle.bus_schedule.specs.Closed.{sends, offset_turns, offset_schedule}
 use Rattle.bus_schedule.specs.Runs.{IsClear}
 use Rattle.bus_schedule.specs.Slack.{slack_behind, stays}
 use Rattle.bus_schedule.proofs.GapLemmas.{final, final_last}
-use Rattle.bus_schedule.proofs.GapSplits.{GapAt, gap_split, gap_of, last_sender, final_append}
+use Rattle.bus_schedule.proofs.GapSplits.{GapAt, gap_split, last_sender, final_append}
 use Rattle.bus_schedule.proofs.Growing.{Setting, sendable}
 use Rattle.bus_schedule.proofs.HandLemmas.{station, stations}
 use Rattle.bus_schedule.proofs.Orders.{differ_append, differ_rises, rises_after, rises_before, rises_first, rises_second, same_sender}
@@ -286,8 +287,8 @@ module _ (table : Table) (messages : ℕ → List Message) (setting : Setting ta
     -- the gap of no other sender is its own
     pub others_apart : (g : Gap) → In g (behind ++ ahead) → g.sender.number ≢ own.sender.number
     others_apart g i = elim (in_append_cases behind ahead g i) [
-      | inl h ↦ rest_apart g.sender (gap_of table.ti (table.ti + latest_end own.sender) stands.rest g (subst (λ gs. In g gs) stands.behind_is h))
-      | inr h ↦ done_apart g.sender (gap_of table.ti (last_end 0 (turn_order table)) stands.done g (subst (λ gs. In g gs) stands.ahead_is h))
+      | inl h ↦ rest_apart g.sender (gap_sender table.ti (table.ti + latest_end own.sender) stands.rest g (subst (λ gs. In g gs) stands.behind_is h))
+      | inr h ↦ done_apart g.sender (gap_sender table.ti (last_end 0 (turn_order table)) stands.done g (subst (λ gs. In g gs) stands.ahead_is h))
     ]
 
     over_end : final table.ti (table.ti + latest_end own.sender) stands.rest ≡ table.ti + last_end 0 (turn_order table)

@@ -24,15 +24,15 @@ aperiodic ti sg senders = record { mode = Aperiodic; ti = ti; sg = sg; senders =
 abbrev string : ℕ → ℕ → ℕ → Wordstring
 string label ext words = record { label = label; ext = ext; words = replicate words 0 }
 
-abbrev hand : ℕ → List Message → Hand
+abbrev pub hand : ℕ → List Message → Hand
 hand terminal messages = record { terminal = terminal; messages = messages }
 
 -- the terminal and the moment of each start, and the closed end
-record Start : Type 0 where
-  terminal : ℕ
-  moment : ℕ
+pub record Start : Type 0 where
+  pub terminal : ℕ
+  pub moment : ℕ
 
-abbrev start : ℕ → ℕ → Start
+abbrev pub start : ℕ → ℕ → Start
 start terminal moment = record { terminal = terminal; moment = moment }
 
 abbrev starts : Table → List Hand → List Start

@@ -18,8 +18,9 @@ use Rattle.bus_regime.specs.inside.Fine.{IsFine}
 use Rattle.bus_regime.specs.Gaps.{Gap, last_end, latest_end, gaps}
 use Rattle.bus_regime.specs.Verdicts.{verdict_of, is_accepted}
 use Rattle.bus_regime.proofs.VerdictLaws.{accepted_gaps}
+use Rattle.bus_regime.proofs.GapLaws.{gap_sender}
 use Rattle.bus_schedule.specs.Slack.{slack_behind, is_wide, stays, all_stay, gaps_bear}
-use Rattle.bus_schedule.proofs.GapSplits.{GapAt, gap_split, gap_of}
+use Rattle.bus_schedule.proofs.GapSplits.{GapAt, gap_split}
 use Rattle.bus_schedule.proofs.Orders.{rises_before, rises_after, same_sender}
 use Rattle.bus_schedule.proofs.Slacks.{Lacks, lacks, none_stays, step_none, stays_here, stays_later}
 
@@ -66,12 +67,12 @@ fine_stays table rises one fine = elim (cases_Bool (all_stay 0 table.sg [] (gaps
       let own_in : In w.own.sender (turn_order table) = in_order w.own.sender (in_append_right at.done (w.own.sender ∷ at.rest) w.own.sender (inl refl)) in
       let apart : (g : Gap) → In g (w.behind ++ w.ahead) → g.sender.number ≢ w.own.sender.number = λ g i e. elim (in_append_cases w.behind w.ahead g i) [
         | inl h ↦
-            let k = gap_of table.ti (table.ti + latest_end w.own.sender) at.rest g (subst (λ gs. In g gs) at.behind_is h) in
+            let k = gap_sender table.ti (table.ti + latest_end w.own.sender) at.rest g (subst (λ gs. In g gs) at.behind_is h) in
             let l : turn_key table.mode w.own.sender < turn_key table.mode g.sender = rises_after (turn_key table.mode) at.done w.own.sender at.rest g.sender up k in
             let m : turn_key table.mode g.sender ≡ turn_key table.mode w.own.sender =
             ap (turn_key table.mode) (one g.sender w.own.sender (in_order g.sender (in_append_right at.done (w.own.sender ∷ at.rest) g.sender (inr k))) own_in e) in omega arith
         | inr h ↦
-            let k = gap_of table.ti (last_end 0 (turn_order table)) at.done g (subst (λ gs. In g gs) at.ahead_is h) in
+            let k = gap_sender table.ti (last_end 0 (turn_order table)) at.done g (subst (λ gs. In g gs) at.ahead_is h) in
             let l : turn_key table.mode g.sender < turn_key table.mode w.own.sender = rises_before (turn_key table.mode) at.done w.own.sender at.rest g.sender up k in
             let m : turn_key table.mode g.sender ≡ turn_key table.mode w.own.sender =
             ap (turn_key table.mode) (one g.sender w.own.sender (in_order g.sender (in_append_left at.done (w.own.sender ∷ at.rest) g.sender k)) own_in e) in omega arith

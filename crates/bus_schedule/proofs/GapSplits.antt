@@ -50,12 +50,6 @@ gap_split ti from (a ∷ order) (g ∷ ahead) own behind e =
       to_is = w.to_is;
     }
 
--- the gaps of other senders
-pub gap_of : (ti from : ℕ) (order : List Sender) (g : Gap) → In g (gaps_from ti from order) → In g.sender order
-gap_of ti from [] g i = absurd i
-gap_of ti from (s ∷ order) g (inl same) = inl (ap (λ (h : Gap). h.sender) same)
-gap_of ti from (s ∷ order) g (inr i) = inr (gap_of ti (ti + latest_end s) order g i)
-
 -- the last of an order
 pub last_sender : (ti from : ℕ) (a : Sender) (order : List Sender) → (b : Sender) × In b (a ∷ order) × (final ti from (a ∷ order) ≡ ti + latest_end b)
 last_sender ti from a [] = (a, inl refl, refl)

@@ -6,13 +6,9 @@ use Rattle.std.proofs.lemmas.List.{length-append, length-map}
 use Rattle.std.proofs.lemmas.Option.{slice_get_within}
 use Rattle.bus_strings.specs.Messages.{Message, Entry}
 use Rattle.bus_strings.specs.Transmissions.{end_of}
+use Rattle.bus_strings.proofs.ListLaws.{get_left}
 use Rattle.bus_table.specs.Tables.{Sender}
 use Rattle.bus_schedule.specs.Closed.{sends, turns, offset_turns, in_rounds}
-
-pub get_left : {X : Type 0} → (xs ys : List X) (j : ℕ) → j < length xs → slice_get (xs ++ ys) j ≡ slice_get xs j
-get_left [] ys j h = absurd (omega arith)
-get_left (x ∷ xs) ys zero h = refl
-get_left (x ∷ xs) ys (suc j) h = get_left xs ys j (omega arith)
 
 pub get_right : {X : Type 0} → (xs ys : List X) (n j : ℕ) → length xs ≡ n → slice_get (xs ++ ys) (n + j) ≡ slice_get ys j
 get_right [] ys n j e = ap (slice_get ys) (omega (arith, e))

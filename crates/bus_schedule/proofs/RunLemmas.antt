@@ -48,7 +48,7 @@ use Rattle.bus_schedule.proofs.Swaying.{at_below}
 use Rattle.bus_schedule.proofs.LiveLemmas.{IsLawfulRounds, dealt_of, stations_of_dealt, even_are_long, even_rounds, live_lawful}
 
 -- even hands are dealt: one for each sender
-dealt : (table : Table) (hands : List Hand) → IsTrue (are_even table hands) → IsTrue (are_hands table.senders hands)
+pub dealt : (table : Table) (hands : List Hand) → IsTrue (are_even table hands) → IsTrue (are_hands table.senders hands)
 dealt table hands even = (and_parts (are_hands table.senders hands) _ even).0
 
 pub stations_of_even : (table : Table) (hands : List Hand) → IsTrue (is_valid table) → IsTrue (are_even table hands)

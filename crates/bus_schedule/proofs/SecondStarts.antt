@@ -1,6 +1,5 @@
 -- What a second start meets: the quiet that it needs lies behind what is busy, and no two transmissions overlap.
-use Rattle.std.proofs.Common.{◌≡◌, ◌≢◌, ℕ, ◌+◌, ◌-◌, ◌<◌, ◌≤◌, true, false, List, [], ◌∷◌, Option, Some, None, inl, inr, arith, sym, refl, ap, ◌∙◌, subst}
-use Rattle.std.specs.Option.{option_map}
+use Rattle.std.proofs.Common.{◌≡◌, ◌≢◌, ℕ, ◌+◌, ◌-◌, ◌<◌, ◌≤◌, true, false, List, [], ◌∷◌, inl, inr, arith, sym, ◌∙◌, subst}
 use Rattle.std.proofs.lemmas.Bool.{cases_lt, true≢false}
 use Rattle.bus_timers.specs.MayStart.{MayStart}
 use Rattle.bus_strings.specs.Members.{In}
@@ -13,6 +12,7 @@ use Rattle.bus_medium.specs.Delays.{Delays, heard}
 use Rattle.bus_medium.specs.Lawful.{Station}
 use Rattle.bus_medium.specs.Past.{past, own, last_place}
 use Rattle.bus_medium.specs.Wakes.{settled}
+use Rattle.bus_medium.proofs.Hearing.{place_none}
 use Rattle.bus_schedule.specs.Runs.{IsClear}
 
 -- ---- a stretch of quiet behind a busy one
@@ -33,15 +33,11 @@ busy_before l a b f n busy long near quiet =
       ])
     ]
 
-place_settled : (o : Option ℕ) → option_map (λ p. p - 0) o ≡ o
-place_settled None = refl
-place_settled (Some p) = ap (λ n. Some n) (let e : p - 0 ≡ p = omega arith in e)
-
 -- who wakes at the settled start may start after the past as a whole
 pub may_settled : (q : ℕ) (delay : Delays) (list : List Entry) (s : Station) (t : ℕ) → IsDueOnCable q delay settled list s t
     → MayStart s.timing (past q (heard delay s.number list) t) (last_place q (own list s.number t))
 may_settled q delay list s t d =
-    subst (λ o. MayStart s.timing (past q (heard delay s.number list) t) o) (place_settled (last_place q (own list s.number t))) d.may
+    subst (λ o. MayStart s.timing (past q (heard delay s.number list) t) o) (place_none (last_place q (own list s.number t))) d.may
 
 -- two different transmissions of a list without overlaps
 pub clear_apart : (list : List Entry) (x y : Entry) → IsClear list → In x list → In y list → x ≢ y → overlaps x y ≡ true → overlaps y x ≡ true → ⊥

@@ -1,13 +1,12 @@
 -- The closed end of a witness is within the limit.
 use Rattle.std.proofs.Common.{◌≡◌, ℕ, zero, suc, ◌+◌, ◌*◌, ◌<◌, ◌≤◌, max, List, [], ◌∷◌, length, get_or, inl, inr, arith, sym, refl}
 use Rattle.std.proofs.Common.{ap, subst}
-use Rattle.std.specs.List.{sum_by, AllByRecursion}
-use Rattle.std.proofs.lemmas.List.Sums.{sum_by-cons}
 use Rattle.bus_strings.specs.Marking.{greatest_end}
 use Rattle.bus_strings.proofs.MemberLaws.{of_each, in_append_cases, from_map}
 use Rattle.bus_strings.specs.Members.{In}
-use Rattle.bus_strings.specs.Messages.{Message, Entry, IsWordstring, IsMessage, word_count, bits}
+use Rattle.bus_strings.specs.Messages.{Message, Entry, IsMessage, bits}
 use Rattle.bus_strings.specs.Transmissions.{end_of}
+use Rattle.bus_strings.proofs.KeptLemmas.{words_most}
 use Rattle.bus_table.specs.declared.mode.Mode.{Mode}
 use Rattle.bus_table.specs.declared.mode.Mode.TheVariants.{Aperiodic, Periodic}
 use Rattle.bus_table.specs.inside.Facts.{SenderFacts, TableFacts}
@@ -31,12 +30,6 @@ use Rattle.bus_schedule.proofs.WitnessLemmas.{witness_messages, two_rounds}
 -- no message is longer than this
 abbrev most : ℕ
 most = 160000
-
-words_most : (message : Message) → AllByRecursion IsWordstring message → sum_by word_count message ≤ 257 * length message
-words_most [] h = omega arith
-words_most (string ∷ message) h =
-    let few : length string.words ≤ 256 = h.0.few in
-    omega (arith, sum_by-cons word_count string message, words_most message h.1)
 
 bits_most : (message : Message) → IsMessage message → bits message ≤ most
 bits_most message is =

@@ -1,7 +1,7 @@
 -- The turns of an aperiodic table, in rounds of the senders that have a message left: each sender is due when its turn comes, and none before.
 -- The live senders only grow fewer, so that the cycle of a round's shortest messages bounds from below how far its starts are from those of
 -- the round before.
-use Rattle.std.proofs.Common.{◌≡◌, ◌≢◌, ℕ, zero, suc, ◌+◌, ◌<◌, ◌≤◌, Bool, true, false, cond, max, List, [], ◌∷◌, ◌++◌, length, get_or, inl, inr, arith, sym, refl, ap, ◌∙◌, subst}
+use Rattle.std.proofs.Common.{◌≡◌, ◌≢◌, ℕ, zero, suc, ◌+◌, ◌<◌, ◌≤◌, Bool, true, false, cond, List, [], ◌∷◌, ◌++◌, length, get_or, inl, inr, arith, sym, refl, ap, ◌∙◌, subst}
 use Rattle.std.specs.Prelude.{◌==◌, if◌then◌else◌, nat_lt}
 use Rattle.std.specs.List.{filter}
 use Rattle.std.proofs.lemmas.Bool.{eq-eqb, ne_eqb, lt-ltb, ltb-true, cases_lt}
@@ -20,7 +20,7 @@ use Rattle.bus_medium.specs.Timings.{quiet_of, due_for}
 use Rattle.bus_medium.specs.inside.Lazy.{HaveEnded}
 use Rattle.bus_medium.specs.Delays.{AreDelays, at_once, heard, heard_end}
 use Rattle.bus_medium.specs.Wakes.{settled}
-use Rattle.bus_medium.proofs.CableClocks.{gap_elapsed, gap_waiting}
+use Rattle.bus_medium.proofs.CableClocks.{gap_elapsed, gap_waiting, max_first}
 use Rattle.bus_medium.proofs.CableSteps.{put_here, put_other, goes_D, goes_G, goes_C, goes_here, goes_other}
 use Rattle.bus_medium.proofs.Hearing.{heard_ended}
 use Rattle.bus_schedule.specs.Closed.{sends, turns, turns_end, origin}
@@ -31,9 +31,6 @@ use Rattle.bus_schedule.proofs.HandLemmas.{station, quiet_is}
 use Rattle.bus_schedule.proofs.Spacing.{cycle, cycle_sum, cycle_filter}
 use Rattle.bus_schedule.proofs.CableGrowing.{Grown, Takes, grown_step, grown_settled}
 use Rattle.bus_schedule.proofs.Growing.{Dealt, message_left}
-
-max_first : (a b : ℕ) → b ≤ a → a ≡ max a b
-max_first a b h = grind arith
 
 -- the turns before the terminal with this number, where messages have so many bit times, and its terminal gap
 abbrev pub ahead : (Sender → ℕ) → List Sender → ℕ → ℕ
@@ -51,7 +48,7 @@ ahead_middle : (w : Sender → ℕ) (done : List Sender) (a : Sender) (rest : Li
 ahead_middle w [] a rest h = ahead_here w a rest a.number refl ∙ omega arith
 ahead_middle w (c ∷ done) a rest h = ahead_there w c (done ++ a ∷ rest) a.number (h c (inl refl)) ∙ omega (arith, ahead_middle w done a rest (λ b i. h b (inr i)))
 
-cycle_middle : (w : Sender → ℕ) (done : List Sender) (a : Sender) (rest : List Sender) → cycle w (done ++ a ∷ rest) ≡ cycle w done + (a.tg + w a) + cycle w rest
+pub cycle_middle : (w : Sender → ℕ) (done : List Sender) (a : Sender) (rest : List Sender) → cycle w (done ++ a ∷ rest) ≡ cycle w done + (a.tg + w a) + cycle w rest
 cycle_middle w [] a rest = omega arith
 cycle_middle w (c ∷ done) a rest = omega (arith, cycle_middle w done a rest)
 

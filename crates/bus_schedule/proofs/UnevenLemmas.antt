@@ -1,11 +1,10 @@
 -- Hands are even exactly where no sender differs from the first in turn order.
-use Rattle.std.proofs.Common.{◌≡◌, ◌≢◌, Bool, ℕ, zero, suc, ◌+◌, ◌<◌, ◌≤◌, true, false, ◌↔◌, List, [], ◌∷◌, length, drop, Option, Some, None, inl, inr, arith, sym, refl, ap, ◌∙◌, subst}
-use Rattle.std.specs.Prelude.{◌==◌, ◌&&◌, slice_get, is_some, IsNone, IsTrue, IsSomeAnd}
+use Rattle.std.proofs.Common.{◌≡◌, ◌≢◌, ℕ, zero, suc, ◌+◌, ◌<◌, ◌≤◌, true, ◌↔◌, List, [], ◌∷◌, length, drop, Option, Some, None, inl, inr, arith, sym, refl, ap, ◌∙◌, subst}
+use Rattle.std.specs.Prelude.{◌==◌, slice_get, is_some, IsNone, IsTrue, IsSomeAnd}
 use Rattle.std.specs.List.{list_all}
-use Rattle.std.proofs.lemmas.Bool.{and_parts, eqb-true, eq-eqb, ne_eqb, cases_eq}
-use Rattle.std.proofs.lemmas.List.{drop_more}
-use Rattle.std.proofs.lemmas.Option.{slice_get_within, get_or_from_slice_get}
+use Rattle.std.proofs.lemmas.Bool.{and_parts, eqb-true, eq-eqb, ne_eqb, cases_eq, and_from}
 use Rattle.bus_strings.specs.Members.{In}
+use Rattle.bus_strings.proofs.ListLaws.{drop_at}
 use Rattle.bus_table.specs.Tables.{Sender, Table, Hand}
 use Rattle.bus_table.specs.Hands.{are_hands}
 use Rattle.bus_table.specs.inside.Facts.{TableFacts}
@@ -20,11 +19,6 @@ use Rattle.bus_schedule.specs.Even.{rounds, are_even}
 use Rattle.bus_schedule.specs.Uneven.{count_of, counts_of, differing, uneven_in, uneven_of}
 use Rattle.bus_schedule.proofs.HandLaws.{hand_here, hand_of_other}
 use Rattle.bus_schedule.proofs.HandLemmas.{own_count}
-
-both : (a b : Bool) → a ≡ true → b ≡ true → (a && b) ≡ true
-both true true h k = refl
-both false b h k = absurd cc
-both true false h k = absurd cc
 
 -- a sender that has as many messages isn't one that differs
 differing_same : (hands : List Hand) (one : ℕ) (other : Sender) (order : List Sender) → count_of hands other.number ≡ count_of hands one
@@ -67,7 +61,7 @@ hands_count n (a ∷ senders) (hand ∷ hands) h d counts =
     let own = and_parts (list_all (fits a) hand.messages) _ parts.1 in
     let number : hand.terminal ≡ a.number = eqb-true hand.terminal a.number parts.0 in
     let first : length hand.messages ≡ n = sym (ap length (hand_here hand hands a.number number)) ∙ counts a (inl refl) in
-    both (length hand.messages == n) (list_all (λ hand. length hand.messages == n) hands) (eq-eqb (length hand.messages) n first)
+    and_from (length hand.messages == n) (list_all (λ hand. length hand.messages == n) hands) (eq-eqb (length hand.messages) n first)
     (hands_count n senders hands own.1 d.1 (λ s i. sym (ap length (hand_of_other a senders hand hands s d number i)) ∙ counts s (inr i)))
 
 -- the rounds of hands are the messages of the first sender of the table
@@ -99,7 +93,7 @@ in_order_even table hands (first ∷ order) facts dealt from to =
             | inr there ↦ same_all hands first.number order (none_is (differing hands first.number order) h) s there
           ] in
           let n : rounds hands ≡ count_of hands first.number = rounds_is (count_of hands first.number) table.senders hands facts.some dealt same in
-          both (are_hands table.senders hands) (list_all (λ hand. length hand.messages == rounds hands) hands) dealt (hands_count (rounds hands) table.senders hands dealt d (λ s i. same s i ∙ sym n))),
+          and_from (are_hands table.senders hands) (list_all (λ hand. length hand.messages == rounds hands) hands) dealt (hands_count (rounds hands) table.senders hands dealt d (λ s i. same s i ∙ sym n))),
       (λ h.
           let counts = (and_parts (are_hands table.senders hands) _ h).1 in
           let own : (s : Sender) → In s table.senders → count_of hands s.number ≡ rounds hands = own_count (rounds hands) table.senders hands dealt counts d in
@@ -119,9 +113,6 @@ at_place order k number h = chosen (slice_get order k) refl h
     chosen : (o : Option Sender) → slice_get order k ≡ o → IsSomeAnd o (λ s. number ≡ s.number) → (s : Sender) × (slice_get order k ≡ Some s) × (number ≡ s.number)
     chosen None e i = absurd i
     chosen (Some s) e i = (s, e, i)
-
-pub drop_at : (order : List Sender) (k : ℕ) (s : Sender) → slice_get order k ≡ Some s → drop k order ≡ s ∷ drop (k + 1) order
-drop_at order k s h = drop_more order k s (slice_get_within order k s h) ∙ ap (λ t. t ∷ drop (k + 1) order) (get_or_from_slice_get order k s s h)
 
 -- the first of the order, and those behind it
 first_of_order : (hands : List Hand) (order : List Sender) (one : ℕ) → IsSomeAnd (slice_get order 0) (λ s. one ≡ s.number)

@@ -24,7 +24,7 @@ many_from list k (x ∷ xs) = ap suc (many_from list (k + 1) xs)
 pub as_many : (list : List Entry) → length (sents list) ≡ length list
 as_many list = many_from list 0 list
 
-told_from : (list : List Entry) (n : ℕ) (xs : List Entry) (sent : Sent) → In sent (sents_from list n xs)
+pub told_from : (list : List Entry) (n : ℕ) (xs : List Entry) (sent : Sent) → In sent (sents_from list n xs)
     → (k : ℕ) × (x : Entry) × (slice_get xs k ≡ Some x) × (sent ≡ sent_of list (n + k) x)
 told_from list n [] sent i = absurd i
 told_from list n (x ∷ xs) sent (inl same) =

@@ -1,15 +1,12 @@
 -- A walk that tells of the transmissions of a list.
-use Rattle.std.proofs.Common.{◌≡◌, ℕ, suc, ◌+◌, ◌<◌, ◌≤◌, Bool, true, false, List, [], ◌∷◌, ◌++◌, length, take, drop, get_or, set, max, Option, Some, None}
-use Rattle.std.proofs.Common.{inl, inr, arith, sym, refl, ap, ◌∙◌, drop-cons}
+use Rattle.std.proofs.Common.{◌≡◌, ℕ, suc, ◌+◌, ◌<◌, ◌≤◌, Bool, true, List, [], ◌∷◌, length, take, drop, get_or, set, max, Option, Some}
+use Rattle.std.proofs.Common.{arith, sym, ap, ◌∙◌, drop-cons}
 use Rattle.std.specs.Prelude.{slice_get}
 use Rattle.std.specs.Bool.{beq}
 use Rattle.std.specs.Iterator.{YieldsFirst}
 use Rattle.std.specs.List.{count_by}
 use Rattle.std.specs.Option.{option_eq}
-use Rattle.std.proofs.lemmas.Bool.{cases_eq, eq-eqb, ne_eqb}
-use Rattle.std.proofs.lemmas.List.{get_or-set_same, get_or-set_other, take_more}
-use Rattle.std.proofs.lemmas.List.FromFn.{length-map-range_with_len, get_or-map-range_with_len}
-use Rattle.std.proofs.lemmas.List.Sums.{count_by_more_no, count_by_more_yes, fold-append}
+use Rattle.std.proofs.lemmas.List.{get_or-set_same}
 use Rattle.std.proofs.lemmas.Option.{slice_get_within, get_or_from_slice_get}
 use Rattle.std.proofs.Math.ListN.{drop_of_length-le}
 use Rattle.bus_strings.specs.Marking.{greatest_end}
@@ -17,17 +14,11 @@ use Rattle.bus_strings.specs.Messages.{Entry}
 use Rattle.bus_strings.specs.Transmissions.{end_of, garbled, marks}
 use Rattle.bus_strings.proofs.CountLaws.{counted}
 use Rattle.bus_strings.proofs.MarkLaws.{next_mark}
+use Rattle.bus_strings.proofs.OverlapLemmas.{greatest_more}
 use Rattle.bus_shapes.specs.Sayings.{Sent}
 use Rattle.bus_shapes.specs.Sending.{IsTelling, is_of, sent_of, sents_from}
 
 -- ---- what is kept
--- The greatest end, with one entry more.
-greatest_more : (list : List Entry) (k : ℕ) (x : Entry) → slice_get list k ≡ Some x → greatest_end (take (k + 1) list) ≡ max (greatest_end (take k list)) (end_of x)
-greatest_more list k x at =
-    let within : k < length list = slice_get_within list k x at in
-    ap greatest_end (take_more list k x within ∙ ap (λ y. take k list ++ y ∷ []) (get_or_from_slice_get list k x x at))
-    ∙ fold-append (λ end y. max end (end_of y)) 0 (take k list) (x ∷ [])
-
 abbrev pub sent_with : ℕ → ℕ → ℕ → ℕ → ℕ → ℕ → Bool → Sent
 sent_with at terminal number moment end before mark =
     record { at = at; terminal = terminal; number = number; moment = moment; end = end; before = before; garbled = mark }

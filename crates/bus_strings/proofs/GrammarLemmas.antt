@@ -2,9 +2,7 @@
 use Rattle.std.proofs.Common.{◌≡◌, ℕ, ◌≤◌, Bool, true, false, cond, ◌&&◌, ◌||◌, List, [], ◌∷◌, ◌++◌, length, map, drop, Result, Ok, Err, arith, refl, sym, ap, subst, ◌∙◌, codes, ◌==◌}
 use Rattle.std.specs.Prelude.{IfOk}
 use Rattle.std.specs.List.{slice_split, onto_first, AllByRecursion}
-use Rattle.std.specs.Str.{bytes_eq}
 use Rattle.std.proofs.lemmas.Bool.{and_parts, eqb-true}
-use Rattle.std.proofs.lemmas.Slice.Eq.{bytes_eq-Decides}
 use Rattle.std.proofs.lemmas.List.Elements.{All-from_recursion}
 use Rattle.std.proofs.lemmas.List.Splits.{slice_split_at, slice_split_none}
 use Rattle.bus_text.specs.AllOf.{◌>>=◌, all_of}
@@ -15,6 +13,7 @@ use Rattle.bus_text.specs.Fields.{is_at}
 use Rattle.bus_text.specs.Numbers.{is_plain_decimal, is_hexadecimal, hexadecimal_value, IsHexadecimal}
 use Rattle.bus_text.specs.Refusals.{at_line}
 use Rattle.bus_text.specs.declared.reason.Reason.{Reason}
+use Rattle.bus_text.proofs.FieldLemmas.{same_bytes}
 use Rattle.bus_strings.specs.declared.fault.MessagesError.{MessagesError}
 use Rattle.bus_strings.specs.Items.{Item, is_in_range}
 use Rattle.bus_strings.specs.Reading.{is_colon, number_of, strings_of, item_of, are_spelled, header_reading, item_reading, header_line, item_line, lines_reading, messages_reading}
@@ -23,9 +22,6 @@ use Rattle.bus_strings.specs.Gives.{Gives}
 use Rattle.bus_strings.proofs.StringLemmas.{Begins, some_piece, values}
 use Rattle.bus_strings.proofs.ItemLemmas.{reads, item_parts}
 use Rattle.bus_strings.proofs.TextLemmas.{staged}
-
-pub word_is : (field word : List ℕ) → bytes_eq field word ≡ true → field ≡ word
-word_is field word h = (bytes_eq-Decides field word).0 h
 
 -- ---- found
 one_colon : (field : List ℕ) (fields : List (List ℕ)) (first : List (List ℕ)) (others : List (List (List ℕ))) → field ≡ codes ":" → AreStrings (values (first ∷ others)) fields → AreStrings ([] ∷ values (first ∷ others)) (field ∷ fields)
@@ -36,7 +32,7 @@ one_word field fields first [] w h = (w, h)
 one_word field fields first (next ∷ others) w h = (field ∷ h.0, h.1, ap (λ fs. field ∷ fs) h.2, (w, h.3), h.4)
 
 string_step : (t : Bool) (field : List ℕ) (fields : List (List ℕ)) (pieces : List (List (List ℕ))) → is_colon field ≡ t → (t || is_hexadecimal 4 field) ≡ true → Begins pieces → AreStrings (values pieces) fields → AreStrings (values (cond t ([] ∷ pieces) (onto_first field pieces))) (field ∷ fields)
-string_step true field fields pieces e w begins h = subst (λ (ps : List (List (List ℕ))). AreStrings ([] ∷ values ps) (field ∷ fields)) (sym begins.2) (one_colon field fields begins.0 begins.1 (word_is field (codes ":") e) (subst (λ (ps : List (List (List ℕ))). AreStrings (values ps) fields) begins.2 h))
+string_step true field fields pieces e w begins h = subst (λ (ps : List (List (List ℕ))). AreStrings ([] ∷ values ps) (field ∷ fields)) (sym begins.2) (one_colon field fields begins.0 begins.1 (same_bytes field (codes ":") e) (subst (λ (ps : List (List (List ℕ))). AreStrings (values ps) fields) begins.2 h))
 string_step false field fields pieces e w begins h = subst (λ (ps : List (List (List ℕ))). AreStrings (values (onto_first field ps)) (field ∷ fields)) (sym begins.2) (one_word field fields begins.0 begins.1 (record { digits = w; value = refl }) (subst (λ (ps : List (List (List ℕ))). AreStrings (values ps) fields) begins.2 h))
 
 strings_found : (fields : List (List ℕ)) → are_spelled fields ≡ true → AreStrings (strings_of fields) fields
@@ -54,7 +50,7 @@ line_found (keyword ∷ number ∷ colon ∷ words) p q r s =
     record {
       number = number;
       words = words;
-      parts = ap (λ f. f ∷ number ∷ colon ∷ words) (word_is keyword (codes "MSG") p) ∙ ap (λ f. codes "MSG" ∷ number ∷ f ∷ words) (word_is colon (codes ":") q);
+      parts = ap (λ f. f ∷ number ∷ colon ∷ words) (same_bytes keyword (codes "MSG") p) ∙ ap (λ f. codes "MSG" ∷ number ∷ f ∷ words) (same_bytes colon (codes ":") q);
       terminal = record { plain = parts.0; value = refl };
       strings = strings_found words parts.1;
       ranges = s;
@@ -83,7 +79,7 @@ header_ok false b u h = absurd cc
 header_fields : (fields : List (List ℕ)) → is_at fields 0 (codes "MESSAGES") ≡ true → length fields ≡ 2 → is_at fields 1 (codes "1") ≡ true → fields ≡ codes "MESSAGES" ∷ codes "1" ∷ []
 header_fields [] p n q = absurd cc
 header_fields (keyword ∷ []) p n q = absurd cc
-header_fields (keyword ∷ one ∷ []) p n q = ap (λ f. f ∷ one ∷ []) (word_is keyword (codes "MESSAGES") p) ∙ ap (λ f. codes "MESSAGES" ∷ f ∷ []) (word_is one (codes "1") q)
+header_fields (keyword ∷ one ∷ []) p n q = ap (λ f. f ∷ one ∷ []) (same_bytes keyword (codes "MESSAGES") p) ∙ ap (λ f. codes "MESSAGES" ∷ f ∷ []) (same_bytes one (codes "1") q)
 header_fields (keyword ∷ one ∷ more ∷ others) p n q = absurd (omega arith)
 
 header_found : (fields : List (List ℕ)) (u : Unit {0}) → header_reading fields ≡ Ok u → fields ≡ codes "MESSAGES" ∷ codes "1" ∷ []
@@ -128,7 +124,7 @@ words_again (word ∷ words) (field ∷ fields) h =
       (c, k.2),
     ) where
       not_colon : (t : Bool) → is_colon field ≡ t → is_hexadecimal 4 field ≡ true → is_colon field ≡ false
-      not_colon true e h = let wrong : is_hexadecimal 4 (codes ":") ≡ true = subst (λ (f : List ℕ). is_hexadecimal 4 f ≡ true) (word_is field (codes ":") e) h in absurd cc
+      not_colon true e h = let wrong : is_hexadecimal 4 (codes ":") ≡ true = subst (λ (f : List ℕ). is_hexadecimal 4 f ≡ true) (same_bytes field (codes ":") e) h in absurd cc
       not_colon false e h = e
 
 spelled_both : (front rest : List (List ℕ)) → are_spelled front ≡ true → are_spelled rest ≡ true → are_spelled (front ++ codes ":" ∷ rest) ≡ true

@@ -13,7 +13,7 @@ words_least : (m : Message) → length m ≤ sum_by word_count m
 words_least [] = omega arith
 words_least (s ∷ m) = omega (arith, words_least m, sum_by-cons word_count s m)
 
-words_most : (m : Message) → AllByRecursion IsWordstring m → sum_by word_count m ≤ 257 * length m
+pub words_most : (m : Message) → AllByRecursion IsWordstring m → sum_by word_count m ≤ 257 * length m
 words_most [] h = omega arith
 words_most (s ∷ m) h = let few : length s.words ≤ 256 = h.0.few in omega (arith, words_most m h.1, sum_by-cons word_count s m, few)
 

@@ -9,6 +9,7 @@ pub mod KeptLemmas
 pub mod PulsesAlongLaws
 pub mod MessageLaws
 pub mod MemberLaws
+pub mod TestLaws
 pub mod ListLaws
 pub mod MarkLaws
 pub mod CountLaws

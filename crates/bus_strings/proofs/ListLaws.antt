@@ -1,17 +1,27 @@
--- What holds of each element of a list, and of one more; lists that are put together, and ranges with one number more.
+-- What holds of each element of a list, and of one more; lists that are put together, places in them, and ranges with one number more.
 use Rattle.std.proofs.Common.{◌≡◌, ℕ, zero, suc, ◌+◌, ◌<◌, Bool, true, false, cond, List, [], ◌∷◌, ◌++◌, length, map, take, drop, get_or}
 use Rattle.std.proofs.Common.{Option, Some, None, refl, ap, sym, ◌∙◌, subst, append-nil, arith}
 use Rattle.std.specs.Prelude.{slice_get}
 use Rattle.std.specs.List.{filter, filter_map, flat_map, cons_option, range_with_len, list_all, AllByRecursion}
 use Rattle.std.specs.Option.{option_map_or}
 use Rattle.std.proofs.lemmas.Bool.{and_parts}
-use Rattle.std.proofs.lemmas.List.{take_more}
+use Rattle.std.proofs.lemmas.List.{take_more, drop_more}
+use Rattle.std.proofs.lemmas.Option.{slice_get_within, get_or_from_slice_get}
 use Rattle.std.proofs.lemmas.List.Concat.{flat_map-append}
 
--- and of one more behind them
+-- one more behind them
 pub all_push : {X : Type 0} (P : X → Type 0) → (xs : List X) (x : X) → AllByRecursion P xs → P x → AllByRecursion P (xs ++ x ∷ [])
 all_push P [] x h p = (p, tt)
 all_push P (y ∷ ys) x h p = (h.0, all_push P ys x h.1 p)
+
+pub all_append : {X : Type 0} (P : X → Type 0) (xs ys : List X) → AllByRecursion P xs → AllByRecursion P ys → AllByRecursion P (xs ++ ys)
+all_append P [] ys h k = k
+all_append P (x ∷ xs) ys h k = (h.0, all_append P xs ys h.1 k)
+
+pub all_cons : {X : Type 0} (P : X → Type 0) (o : Option X) (xs : List X) → ((x : X) → o ≡ Some x → P x) → AllByRecursion P xs
+    → AllByRecursion P (cons_option o xs)
+all_cons P None xs h a = a
+all_cons P (Some x) xs h a = (h x refl, a)
 
 -- the first i and the next
 pub all_more : {X : Type 0} (P : X → Type 0) → (xs : List X) (i : ℕ) (d : X) → i < length xs → AllByRecursion P (take i xs)
@@ -56,26 +66,51 @@ flat_map-given h f (x ∷ xs) = given_by (h x) f (filter_map h xs) _ (flat_map-g
 pub flat_map-push : {X A : Type 0} (f : X → List A) (xs : List X) (x : X) → flat_map f (xs ++ x ∷ []) ≡ flat_map f xs ++ f x
 flat_map-push f xs x = flat_map-append f xs (x ∷ []) ∙ ap (λ t. flat_map f xs ++ t) (append-nil (f x))
 
+pub take_read : {X : Type 0} (xs : List X) (i : ℕ) (x : X) → i < length xs → x ≡ get_or xs i x → take (i + 1) xs ≡ take i xs ++ x ∷ []
+take_read xs i x within is = take_more xs i x within ∙ ap (λ y. take i xs ++ y ∷ []) (sym is)
+
+pub flat_map-next : {X A : Type 0} (f : X → List A) (xs : List X) (i : ℕ) (d : X) → i < length xs
+    → flat_map f (take (i + 1) xs) ≡ flat_map f (take i xs) ++ f (get_or xs i d)
+flat_map-next f xs i d within = ap (flat_map f) (take_more xs i d within) ∙ flat_map-push f (take i xs) (get_or xs i d)
+
 pub flat_map-take : {X A : Type 0} (f : X → List A) (xs : List X) (i : ℕ) (x : X) → i < length xs → x ≡ get_or xs i x
     → flat_map f (take (i + 1) xs) ≡ flat_map f (take i xs) ++ f x
-flat_map-take f xs i x within is =
-    ap (flat_map f) (take_more xs i x within ∙ ap (λ y. take i xs ++ y ∷ []) (sym is)) ∙ flat_map-push f (take i xs) x
+flat_map-take f xs i x within is = ap (flat_map f) (take_read xs i x within is) ∙ flat_map-push f (take i xs) x
 
 -- ---- ranges
 -- one number more
-range_push : (a n : ℕ) → range_with_len a (suc n) ≡ range_with_len a n ++ (a + n) ∷ []
+pub range_push : (a n : ℕ) → range_with_len a (suc n) ≡ range_with_len a n ++ (a + n) ∷ []
 range_push a zero = let e : a ≡ a + 0 = omega arith in ap (λ k. k ∷ []) e
 range_push a (suc n) =
     let e : (a + 1) + n ≡ a + suc n = omega arith in
     ap (λ t. a ∷ t) (range_push (a + 1) n ∙ ap (λ k. range_with_len (a + 1) n ++ k ∷ []) e)
 
-pub flat_map-range : {A : Type 0} (f : ℕ → List A) (n : ℕ) → flat_map f (range_with_len 0 (n + 1)) ≡ flat_map f (range_with_len 0 n) ++ f n
-flat_map-range f n =
+-- from 0 on
+pub range_next : (n : ℕ) → range_with_len 0 (n + 1) ≡ range_with_len 0 n ++ n ∷ []
+range_next n =
     let one : n + 1 ≡ suc n = omega arith in
     let e : 0 + n ≡ n = omega arith in
-    ap (λ m. flat_map f (range_with_len 0 m)) one
-    ∙ ap (flat_map f) (range_push 0 n ∙ ap (λ k. range_with_len 0 n ++ k ∷ []) e)
-    ∙ flat_map-push f (range_with_len 0 n) n
+    ap (range_with_len 0) one ∙ range_push 0 n ∙ ap (λ k. range_with_len 0 n ++ k ∷ []) e
+
+pub flat_map-range : {A : Type 0} (f : ℕ → List A) (n : ℕ) → flat_map f (range_with_len 0 (n + 1)) ≡ flat_map f (range_with_len 0 n) ++ f n
+flat_map-range f n = ap (flat_map f) (range_next n) ∙ flat_map-push f (range_with_len 0 n) n
+
+-- ---- places in a list
+pub some_at : {X : Type 0} (xs : List X) (k : ℕ) → k < length xs → (x : X) × (slice_get xs k ≡ Some x)
+some_at [] k h = absurd (omega arith)
+some_at (x ∷ xs) zero h = (x, refl)
+some_at (x ∷ xs) (suc k) h = some_at xs k (omega arith)
+
+pub get_left : {X : Type 0} (xs ys : List X) (k : ℕ) → k < length xs → slice_get (xs ++ ys) k ≡ slice_get xs k
+get_left [] ys k h = absurd (omega arith)
+get_left (x ∷ xs) ys zero h = refl
+get_left (x ∷ xs) ys (suc k) h = get_left xs ys k (omega arith)
+
+pub drop_read : {X : Type 0} (xs : List X) (k : ℕ) (x : X) → k < length xs → x ≡ get_or xs k x → drop k xs ≡ x ∷ drop (k + 1) xs
+drop_read xs k x within is = drop_more xs k x within ∙ ap (λ y. y ∷ drop (k + 1) xs) (sym is)
+
+pub drop_at : {X : Type 0} (xs : List X) (k : ℕ) (x : X) → slice_get xs k ≡ Some x → drop k xs ≡ x ∷ drop (k + 1) xs
+drop_at xs k x at = drop_read xs k x (slice_get_within xs k x at) (sym (get_or_from_slice_get xs k x x at))
 
 -- what is left of a list, from a place on
 pub first_left : {X : Type 0} (xs : List X) (k : ℕ) → slice_get (drop k xs) 0 ≡ slice_get xs k

@@ -1,9 +1,9 @@
 -- What follows of the elements of lists: of lists put together, filtered, mapped and pushed to, and of places in lists.
 use Rattle.std.specs.Prelude.{slice_get}
-use Rattle.std.specs.List.{filter, list_any, AllByRecursion}
-use Rattle.std.proofs.Common.{◌≡◌, ◌⊎◌, ℕ, zero, suc, Bool, true, false, cond, ◌||◌, List, [], ◌∷◌, ◌++◌, map, Some, None, inl, inr, sym}
+use Rattle.std.specs.List.{filter, filter_map, cons_option, list_all, list_any, AllByRecursion}
+use Rattle.std.proofs.Common.{◌≡◌, ◌⊎◌, ℕ, zero, suc, Bool, true, false, cond, ◌||◌, List, [], ◌∷◌, ◌++◌, map, Option, Some, None, inl, inr, sym}
 use Rattle.std.proofs.Common.{refl, ap, ◌∙◌, subst}
-use Rattle.std.proofs.lemmas.Bool.{true≢false}
+use Rattle.std.proofs.lemmas.Bool.{true≢false, and_parts}
 use Rattle.bus_strings.proofs.ListLaws.{all_push}
 use Rattle.bus_strings.specs.Members.{In}
 use Rattle.bus_strings.specs.Messages.{Entry}
@@ -88,11 +88,34 @@ filter_filter p q (y ∷ ys) h =
       ] refl
     ] refl
 
+-- what a function gives of some element
+pub from_given : {X Y : Type 0} (h : X → Option Y) (xs : List X) (y : Y) → In y (filter_map h xs) → (x : X) × (h x ≡ Some y)
+from_given h [] y i = absurd i
+from_given {X = X} {Y = Y} h (x ∷ xs) y i = by_answer (h x) refl i (λ j. from_given h xs y j) where
+  by_answer : (o : Option Y) → h x ≡ o → In y (cons_option o (filter_map h xs)) → (In y (filter_map h xs) → (x : X) × (h x ≡ Some y)) → (x : X) × (h x ≡ Some y)
+  by_answer None e j next = next j
+  by_answer (Some z) e (inl same) next = (x, e ∙ ap Some (sym same))
+  by_answer (Some z) e (inr j) next = next j
+
+-- a test that takes all takes each
+pub pass_in : {X : Type 0} (p : X → Bool) (xs : List X) (x : X) → list_all p xs ≡ true → In x xs → p x ≡ true
+pass_in p [] x h i = absurd i
+pass_in p (y ∷ ys) x h (inl same) = ap p same ∙ (and_parts (p y) (list_all p ys) h).0
+pass_in p (y ∷ ys) x h (inr i) = pass_in p ys x (and_parts (p y) (list_all p ys) h).1 i
+
 -- a test finds something where it takes an element
 pub any_in : {X : Type 0} (p : X → Bool) → (xs : List X) (x : X) → In x xs → p x ≡ true → list_any p xs ≡ true
 any_in p [] x h e = absurd h
 any_in p (y ∷ ys) x (inl same) e = rw (ap p (sym same) ∙ e) refl
 any_in p (y ∷ ys) x (inr h) e = elim (p y) as (λ b. (b || list_any p ys) ≡ true) [ true ↦ refl | false ↦ any_in p ys x h e ]
+
+pub any_found : {X : Type 0} (p : X → Bool) (xs : List X) → list_any p xs ≡ true → (x : X) × In x xs × (p x ≡ true)
+any_found p [] h = absurd cc
+any_found p (y ∷ ys) h =
+    (elim (p y) as (λ b. p y ≡ b → (b || list_any p ys) ≡ true → (x : _) × In x (y ∷ ys) × (p x ≡ true)) [
+      | true ↦ λ e k. (y, inl refl, e)
+      | false ↦ λ e k. (let w = any_found p ys k in (w.0, inr w.1, w.2))
+    ]) refl h
 
 pub none_any : {X : Type 0} (p : X → Bool) → (xs : List X) → ((x : X) → In x xs → p x ≡ false) → list_any p xs ≡ false
 none_any p [] h = refl

@@ -3,7 +3,7 @@ use Rattle.std.proofs.Common.{◌≡◌, ℕ, zero, suc, ◌+◌, ◌<◌, ◌�
 use Rattle.std.specs.Prelude.{slice_get, fold}
 use Rattle.std.specs.Option.{option_map_or}
 use Rattle.std.specs.List.{list_any, AllByRecursion}
-use Rattle.std.proofs.lemmas.Bool.{cases_lt, lt-ltb, le-ltb, ltb-true, true≢false}
+use Rattle.std.proofs.lemmas.Bool.{cases_lt, lt-ltb, le-ltb, ltb-true, and_parts, or_right}
 use Rattle.std.proofs.lemmas.List.Folds.{list_any-append}
 use Rattle.std.proofs.lemmas.List.Sums.{fold-append}
 use Rattle.std.proofs.lemmas.List.FromFn.{length-map-range_with_len, get_or-map-range_with_len}
@@ -17,19 +17,16 @@ use Rattle.bus_strings.specs.Transmissions.{end_of, overlaps, garbled, marks, Pr
 use Rattle.bus_strings.specs.Marking.{greatest_end}
 use Rattle.bus_strings.proofs.ListLaws.{all_push}
 use Rattle.bus_strings.specs.OverlapLaws.{OverlapsMeet, NeighboursTell, AscendingIsByMoment}
+use Rattle.bus_strings.proofs.TestLaws.{or_false}
 
 abbrev HasWords : Entry → Type 0
 HasWords x = 0 < length x.message
-
-both : (a b : Bool) → (a && b) ≡ true → (a ≡ true) × (b ≡ true)
-both true b h = (refl, h)
-both false b h = absurd (true≢false (sym h))
 
 -- where two transmissions overlap, the later moment of the two lies in both
 pub overlaps_meet : OverlapsMeet
 overlaps_meet x y some_x some_y = (
   (λ e.
-      let p = both (ltb x.moment (end_of y)) (ltb y.moment (end_of x)) e in
+      let p = and_parts (ltb x.moment (end_of y)) (ltb y.moment (end_of x)) e in
       let a : x.moment < end_of y = ltb-true x.moment (end_of y) p.0 in
       let b : y.moment < end_of x = ltb-true y.moment (end_of x) p.1 in
       let c : 0 < bits x.message = bits_some x.message some_x in
@@ -107,16 +104,8 @@ garbled_next list k x o r order at next some told =
     let behind : slice_get (drop (suc k) list) 0 ≡ o = slice_get_drop list (suc k) ∙ ap (slice_get list) (let e : suc k ≡ k + 1 = omega arith in e) ∙ next in
     garbled_at list k x order at (λ z e. some z (sym behind ∙ e)) ∙ ap (λ b. list_any (overlaps x) (take k list) || b) (ap (λ w. option_map_or (overlaps x) w false) behind ∙ sym told)
 
-or_true : (b : Bool) → (b || true) ≡ true
-or_true true = refl
-or_true false = refl
-
-or_false : (b : Bool) → (b || false) ≡ b
-or_false true = refl
-or_false false = refl
-
 pub garbled_by_next : (list : List Entry) (k : ℕ) (x : Entry) (r : Bool) → garbled list k ≡ (list_any (overlaps x) (take k list) || r) → r ≡ true → garbled list k ≡ true
-garbled_by_next list k x r told true_is = told ∙ ap (λ b. list_any (overlaps x) (take k list) || b) true_is ∙ or_true (list_any (overlaps x) (take k list))
+garbled_by_next list k x r told true_is = told ∙ ap (λ b. list_any (overlaps x) (take k list) || b) true_is ∙ or_right (list_any (overlaps x) (take k list)) true refl
 
 pub garbled_by_earlier : (list : List Entry) (k : ℕ) (x : Entry) (r : Bool) → garbled list k ≡ (list_any (overlaps x) (take k list) || r) → r ≡ false → garbled list k ≡ list_any (overlaps x) (take k list)
 garbled_by_earlier list k x r told false_is = told ∙ ap (λ b. list_any (overlaps x) (take k list) || b) false_is ∙ or_false (list_any (overlaps x) (take k list))
@@ -149,7 +138,7 @@ neighbours_tell list k x order words at =
     ∙ ap (λ b. b || option_map_or (overlaps x) (slice_get (drop (suc k) list) 0) false) (earlier_end x (take k list) some (ordered_before (λ v w. v.moment ≤ w.moment) list k x order at))
     ∙ ap (λ b. list_any (λ y. ltb x.moment (end_of y)) (take k list) || b) (next (slice_get (drop (suc k) list) 0) refl ∙ ap (λ o. option_map_or (λ y. ltb y.moment (end_of x)) o false) at_next)
 
-behind_by_moment : (x : Entry) (ys : List Entry) → AllByRecursion (Precedes x) ys → AllByRecursion (λ y. x.moment ≤ y.moment) ys
+pub behind_by_moment : (x : Entry) (ys : List Entry) → AllByRecursion (Precedes x) ys → AllByRecursion (λ y. x.moment ≤ y.moment) ys
 behind_by_moment x [] h = tt
 behind_by_moment x (y ∷ ys) h = (elim h.0 [ inl less ↦ omega arith | inr same ↦ let e : x.moment ≡ y.moment = same.0 in omega arith ], behind_by_moment x ys h.1)
 
@@ -161,10 +150,6 @@ or_around : (a b c : Bool) → ((a || b) || c) ≡ (b || (a || c))
 or_around true true c = refl
 or_around true false c = refl
 or_around false b c = refl
-
-or_none : (a : Bool) → a ≡ (a || false)
-or_none true = refl
-or_none false = refl
 
 -- behind a moment lies one of two where the greater does
 behind_either : (m a b : ℕ) → (ltb m a || ltb m b) ≡ ltb m (max b a)
@@ -185,7 +170,7 @@ ends_behind_from m e (y ∷ ys) =
     ∙ ends_behind_from m (max e (end_of y)) ys
 
 ends_behind : (m : ℕ) (ys : List Entry) → list_any (λ y. ltb m (end_of y)) ys ≡ ltb m (greatest_end ys)
-ends_behind m ys = or_none (list_any (λ y. ltb m (end_of y)) ys) ∙ ap (λ b. list_any (λ y. ltb m (end_of y)) ys || b) (sym (le-ltb m 0 (omega arith))) ∙ ends_behind_from m 0 ys
+ends_behind m ys = sym (or_false (list_any (λ y. ltb m (end_of y)) ys)) ∙ ap (λ b. list_any (λ y. ltb m (end_of y)) ys || b) (sym (le-ltb m 0 (omega arith))) ∙ ends_behind_from m 0 ys
 
 -- what the walk looks at
 pub earlier_told : (list : List Entry) (k : ℕ) (x : Entry) → IsByMoment list → slice_get list k ≡ Some x → HasWords x → list_any (overlaps x) (take k list) ≡ ltb x.moment (greatest_end (take k list))

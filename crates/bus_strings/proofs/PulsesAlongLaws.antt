@@ -79,7 +79,7 @@ on_is (s ∷ m) d =
     ∙ ap (λ b. ltb d (20 * word_count s) || (leb (first_part s) d && b)) (on_is m (d - first_part s))
 
 -- the length of a message, wordstring by wordstring
-bits_one : (s : Wordstring) → bits (s ∷ []) ≡ 20 * word_count s
+pub bits_one : (s : Wordstring) → bits (s ∷ []) ≡ 20 * word_count s
 bits_one s = omega (arith, sum_by-cons word_count s [])
 
 bits_more : (s t : Wordstring) (m : Message) → bits (s ∷ (t ∷ m)) ≡ first_part s + bits (t ∷ m)

@@ -1,6 +1,6 @@
 -- Texts of a header and items.
 use Rattle.std.proofs.Common.{arith, ◌≡◌, ℕ, Bool, true, false, not, ◌&&◌, List, [], ◌∷◌, length, drop, codes, Result, Ok, Err, refl, sym, ap, ◌∙◌, ◌==◌}
-use Rattle.std.proofs.lemmas.Bool.{ne_eqb}
+use Rattle.std.proofs.lemmas.Bool.{ne_eqb, and_right}
 use Rattle.bus_text.specs.Fields.{is_at}
 use Rattle.bus_text.specs.Refusals.{first_of, unless}
 use Rattle.bus_text.specs.declared.reason.Reason.{Reason}
@@ -18,17 +18,13 @@ header_is fields a b p q = ap (λ x. staged x (length fields == 2 && is_at field
 pub header_keyword : (fields : List (List ℕ)) → is_at fields 0 (codes "MESSAGES") ≡ false → header_reading fields ≡ Err Keyword
 header_keyword fields p = header_is fields false _ p refl
 
-and_no : (a b : Bool) → b ≡ false → (a && b) ≡ false
-and_no true b h = h
-and_no false b h = refl
-
 second : (fields : List (List ℕ)) (word : List ℕ) → is_at (drop 1 fields) 0 word ≡ is_at fields 1 word
 second [] word = refl
 second (a ∷ []) word = refl
 second (a ∷ b ∷ rest) word = refl
 
 pub header_version : (fields : List (List ℕ)) → is_at fields 0 (codes "MESSAGES") ≡ true → is_at (drop 1 fields) 0 (codes "1") ≡ false → header_reading fields ≡ Err Fields
-header_version fields p q = header_is fields true false p (and_no (length fields == 2) (is_at fields 1 (codes "1")) (sym (second fields (codes "1")) ∙ q))
+header_version fields p q = header_is fields true false p (and_right (length fields == 2) (is_at fields 1 (codes "1")) (sym (second fields (codes "1")) ∙ q))
 
 pub header_long : (fields : List (List ℕ)) (field : List ℕ) (rest : List (List ℕ)) → is_at fields 0 (codes "MESSAGES") ≡ true → drop 1 (drop 1 fields) ≡ field ∷ rest → header_reading fields ≡ Err Fields
 header_long [] field rest p q = absurd cc

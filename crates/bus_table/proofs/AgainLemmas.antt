@@ -2,9 +2,9 @@
 use Rattle.std.proofs.Common.{arith, ◌≡◌, ℕ, ◌+◌, ◌<◌, ◌≤◌, Bool, true, false, cond, ◌==◌, nat_lt, nat_le, List, [], ◌∷◌, ◌++◌, length, map, codes, Some, Result, Ok, Err, refl, sym, ap, subst, ◌∙◌, append_assoc}
 use Rattle.std.specs.List.{flat_map, list_all, AllByRecursion}
 use Rattle.std.specs.Int.{is_in_range as in_numbers}
-use Rattle.std.proofs.lemmas.Bool.{and_parts}
+use Rattle.std.proofs.lemmas.Bool.{and_parts, and_from, lt-ltb}
 use Rattle.std.proofs.lemmas.Bool.Decides.{nat_tests}
-use Rattle.std.proofs.lemmas.List.{append-nil}
+use Rattle.std.proofs.lemmas.List.{append-nil, length_push}
 use Rattle.bus_text.specs.declared.reason.Reason.{Reason}
 use Rattle.bus_text.specs.declared.reason.Reason.TheVariants as reasons
 use Rattle.bus_text.specs.AllOf.{◌>>=◌}
@@ -25,7 +25,7 @@ use Rattle.bus_table.specs.Tables.{SendLine, TakeLine, Sender, Listener, Table}
 use Rattle.bus_table.specs.Text.{Line, TableLine, ModeLine, TiLine, SgLine, SenderLine, Sends, Takes, ListenerLine, sender_lines, listener_lines, lines_of, IsLine, AreLines, IsTableText}
 use Rattle.bus_table.specs.Valid.{fits_mode, is_in_range}
 use Rattle.bus_table.proofs.LineLemmas.{table_again, mode_again, number_line_again, head_line_again, send_line_again, take_line_again, fits_offset}
-use Rattle.bus_table.proofs.ReadingLemmas.{ranges_of, both}
+use Rattle.bus_table.proofs.ReadingLemmas.{ranges_of}
 
 word_line : (fields : List (List ℕ)) (keyword : Keyword) (draft : Draft) → keyword_of fields ≡ Some keyword → may_come draft keyword ≡ true → line_reading draft fields ≡ form_reading draft keyword fields
 unfolding line_reading
@@ -92,9 +92,6 @@ first_send mode ti sg done head line fields h r =
     word_line fields keywords.Send (draft_of (stages.Sender head) mode ti sg done []) (ap keyword_of h.parts) refl
     ∙ read_as (λ l. draft_of stages.Send mode ti sg (done ++ opened head l ∷ []) []) _ line (send_line_again fields line h r)
 
-room : (n most : ℕ) → n < most → nat_lt n most ≡ true
-room n most h = grind (arith, nat_tests)
-
 -- the last of some
 of_last-push : {X : Type 0} (count : X → ℕ) (xs : List X) (x : X) → of_last count (xs ++ x ∷ []) ≡ count x
 of_last-push count [] x = refl
@@ -111,7 +108,7 @@ next_send : (mode : Mode) (ti sg : ℕ) (done : List Sender) (sender : Sender) (
 next_send mode ti sg done sender line fields few h r =
     let senders = done ++ sender ∷ [] in
     let count = of_last-push (λ (s : Sender). length s.sends) done sender in
-    word_line fields keywords.Send (draft_of stages.Send mode ti sg senders []) (ap keyword_of h.parts) (ap (λ n. nat_lt n 31) count ∙ room (length sender.sends) 31 few)
+    word_line fields keywords.Send (draft_of stages.Send mode ti sg senders []) (ap keyword_of h.parts) (ap (λ n. nat_lt n 31) count ∙ lt-ltb (length sender.sends) 31 few)
     ∙ read_as (λ l. draft_of stages.Send mode ti sg (with_last (with_send l) senders) []) _ line (send_line_again fields line h r)
     ∙ ap (λ (ss : List Sender). Ok (draft_of stages.Send mode ti sg ss [])) (with_last-push (with_send line) done sender)
 
@@ -126,13 +123,13 @@ next_take : (stage : Stage) (mode : Mode) (ti sg : ℕ) (done : List Sender) (se
 next_take stages.Send mode ti sg done sender line fields sent few h r =
     let senders = done ++ sender ∷ [] in
     let count = of_last-push (λ (s : Sender). length s.takes) done sender in
-    word_line fields keywords.Take (draft_of stages.Send mode ti sg senders []) (ap keyword_of h.parts) (ap (λ n. nat_lt n 64) count ∙ room (length sender.takes) 64 few)
+    word_line fields keywords.Take (draft_of stages.Send mode ti sg senders []) (ap keyword_of h.parts) (ap (λ n. nat_lt n 64) count ∙ lt-ltb (length sender.takes) 64 few)
     ∙ read_as (λ l. draft_of stages.Take mode ti sg (with_last (with_take l) senders) []) _ line (take_line_again fields line h r)
     ∙ ap (λ (ss : List Sender). Ok (draft_of stages.Take mode ti sg ss [])) (with_last-push (with_take line) done sender)
 next_take stages.Take mode ti sg done sender line fields sent few h r =
     let senders = done ++ sender ∷ [] in
     let count = of_last-push (λ (s : Sender). length s.takes) done sender in
-    word_line fields keywords.Take (draft_of stages.Take mode ti sg senders []) (ap keyword_of h.parts) (ap (λ n. nat_lt n 64) count ∙ room (length sender.takes) 64 few)
+    word_line fields keywords.Take (draft_of stages.Take mode ti sg senders []) (ap keyword_of h.parts) (ap (λ n. nat_lt n 64) count ∙ lt-ltb (length sender.takes) 64 few)
     ∙ read_as (λ l. draft_of stages.Take mode ti sg (with_last (with_take l) senders) []) _ line (take_line_again fields line h r)
     ∙ ap (λ (ss : List Sender). Ok (draft_of stages.Take mode ti sg ss [])) (with_last-push (with_take line) done sender)
 next_take stage mode ti sg done sender line fields sent few h r = absurd cc
@@ -156,10 +153,6 @@ abbrev with_all_heard : Listener → List TakeLine → Listener
 with_all_heard listener [] = listener
 with_all_heard listener (line ∷ lines) = with_all_heard (with_heard line listener) lines
 
-count_push : {X : Type 0} (xs : List X) (x : X) → length (xs ++ x ∷ []) ≡ length xs + 1
-count_push [] x = refl
-count_push (y ∷ xs) x = omega (arith, count_push xs x)
-
 sends_again : (lines : List SendLine) (mode : Mode) (ti sg : ℕ) (done : List Sender) (sender : Sender) (more : List Line) (entries : List Entry) → list_all is_send_line lines ≡ true → length sender.sends + length lines ≤ 31
     → AreLines mode (map Sends lines ++ more) entries → Behind (draft_of stages.Send mode ti sg (done ++ sender ∷ []) []) (draft_of stages.Send mode ti sg (done ++ with_sends sender lines ∷ []) []) mode more entries
 sends_again [] mode ti sg done sender more entries h few are = record { rest = entries; lines = are; same = refl }
@@ -167,7 +160,7 @@ sends_again (line ∷ lines) mode ti sg done sender more [] h few are = absurd a
 sends_again (line ∷ lines) mode ti sg done sender more (entry ∷ entries) h few are =
     let parts = and_parts (is_send_line line) _ h in
     let read = next_send mode ti sg done sender line entry.fields (omega arith) are.0 parts.0 in
-    let behind = sends_again lines mode ti sg done (with_send line sender) more entries parts.1 (omega (arith, count_push sender.sends line)) are.1 in
+    let behind = sends_again lines mode ti sg done (with_send line sender) more entries parts.1 (omega (arith, length_push sender.sends line)) are.1 in
     record {
       rest = behind.rest;
       lines = behind.lines;
@@ -190,7 +183,7 @@ takes_again (line ∷ lines) stage mode ti sg done sender more [] sent h few are
 takes_again (line ∷ lines) stage mode ti sg done sender more (entry ∷ entries) sent h few are =
     let parts = and_parts (is_take_line line) _ h in
     let read = next_take stage mode ti sg done sender line entry.fields sent (omega arith) are.0 parts.0 in
-    let behind = takes_again lines stages.Take mode ti sg done (with_take line sender) more entries refl parts.1 (omega (arith, count_push sender.takes line)) are.1 in
+    let behind = takes_again lines stages.Take mode ti sg done (with_take line sender) more entries refl parts.1 (omega (arith, length_push sender.takes line)) are.1 in
     record {
       rest = behind.rest;
       lines = behind.lines;
@@ -318,7 +311,7 @@ next_heard : (mode : Mode) (ti sg : ℕ) (senders : List Sender) (heard : List L
 next_heard mode ti sg senders heard listener line fields few h r =
     let listeners = heard ++ listener ∷ [] in
     let count = of_last-push (λ (l : Listener). length l.takes) heard listener in
-    word_line fields keywords.Take (draft_of stages.Listener mode ti sg senders listeners) (ap keyword_of h.parts) (ap (λ n. nat_lt n 64) count ∙ room (length listener.takes) 64 few)
+    word_line fields keywords.Take (draft_of stages.Listener mode ti sg senders listeners) (ap keyword_of h.parts) (ap (λ n. nat_lt n 64) count ∙ lt-ltb (length listener.takes) 64 few)
     ∙ read_as (λ l. draft_of stages.Listener mode ti sg senders (with_last (with_heard l) listeners)) _ line (take_line_again fields line h r)
     ∙ ap (λ (ls : List Listener). Ok (draft_of stages.Listener mode ti sg senders ls)) (with_last-push (with_heard line) heard listener)
 
@@ -330,7 +323,7 @@ heard_again (line ∷ lines) mode ti sg senders heard listener more [] h few are
 heard_again (line ∷ lines) mode ti sg senders heard listener more (entry ∷ entries) h few are =
     let parts = and_parts (is_take_line line) _ h in
     let read = next_heard mode ti sg senders heard listener line entry.fields (omega arith) are.0 parts.0 in
-    let behind = heard_again lines mode ti sg senders heard (with_heard line listener) more entries parts.1 (omega (arith, count_push listener.takes line)) are.1 in
+    let behind = heard_again lines mode ti sg senders heard (with_heard line listener) more entries parts.1 (omega (arith, length_push listener.takes line)) are.1 in
     record {
       rest = behind.rest;
       lines = behind.lines;
@@ -382,7 +375,7 @@ ready_sender mode sender range offset =
     let count = and_parts (nat_le 1 (length sender.sends)) _ sends.0 in
     let takes = and_parts (nat_le (length sender.takes) 64) _ r.takes in
     record {
-      head = both _ _ r.number (both _ _ r.gap r.offset);
+      head = and_from _ _ r.number (and_from _ _ r.gap r.offset);
       some = grind (arith, nat_tests, count.0);
       few = grind (arith, nat_tests, count.1);
       sends = sends.1;

@@ -1,7 +1,7 @@
 -- A text of a valid table reads as it, and each refusal has its cause.
-use Rattle.std.specs.Prelude.{◌≡◌, ℕ, Bool, true, false, ◌&&◌, is_none, IfErr, IsTrue, List, Option, Some, None, Result, Ok, Err}
+use Rattle.std.specs.Prelude.{◌≡◌, ℕ, true, is_none, IfErr, IsTrue, List, Option, Some, None, Result, Ok, Err}
 use Rattle.std.proofs.Common.{refl, sym, ap, ◌∙◌}
-use Rattle.std.proofs.lemmas.Bool.{and_parts}
+use Rattle.std.proofs.lemmas.Bool.{and_parts, and_from}
 use Rattle.bus_text.specs.declared.reason.Reason.{Reason}
 use Rattle.bus_text.specs.Refusals.{Refusal}
 use Rattle.bus_table.specs.declared.error.WholeReason.{WholeReason}
@@ -13,27 +13,20 @@ use Rattle.bus_table.specs.Text.{IsTableText}
 use Rattle.bus_table.specs.Valid.{is_valid, is_in_range}
 use Rattle.bus_table.specs.Whole.{whole_refusal}
 use Rattle.bus_table.specs.Reading.{text_reading, unless_whole, answered, answer_of}
-use Rattle.bus_table.proofs.TextLemmas.{text_found}
+use Rattle.bus_table.proofs.TextLemmas.{text_found, answered_ok}
 use Rattle.bus_table.proofs.AgainLemmas.{text_again}
-
-none_is : {A : Type 0} (a : Option A) → is_none a ≡ true → a ≡ None
-none_is None h = refl
-none_is (Some x) h = absurd (cc)
+use Rattle.bus_table.proofs.PartLaws.{is_none_is}
 
 -- a text of a valid table reads as it
 pub answer_again : (text : List ℕ) (table : Table) → IsTableText table text → IsTrue (is_valid table) → answer_of text ≡ Ok table
 answer_again text table stands valid =
-    let none = none_is (whole_refusal table) (and_parts (is_in_range table) (is_none (whole_refusal table)) valid).1 in
+    let none = is_none_is (whole_refusal table) (and_parts (is_in_range table) (is_none (whole_refusal table)) valid).1 in
     ap answered (text_again text table stands) ∙ ap (λ r. unless_whole r table) none
 
 -- a table that is judged good is the one that was judged
 judged_same : (reason : Option WholeReason) (table good : Table) → unless_whole reason table ≡ Ok good → table ≡ good
 judged_same None table good h = cc
 judged_same (Some reason) table good h = absurd (cc)
-
-answered_table : (read : Result Table Refusal) (table : Table) → answered read ≡ Ok table → read ≡ Ok table
-answered_table (Ok t) table h = ap Ok (judged_same (whole_refusal t) t table h)
-answered_table (Err refusal) table h = absurd (cc)
 
 -- a table is judged good or refused as a whole, never by a line
 judged_whole : (reason : Option WholeReason) (table : Table) (line : ℕ) (why : Reason) → unless_whole reason table ≡ Err (Text line why) → ⊥
@@ -72,11 +65,7 @@ answered_none : (read : Result Table Refusal) (table : Table) → answered read 
 answered_none (Ok t) table h = ap (λ t. is_none (whole_refusal t)) (sym (judged_same (whole_refusal t) t table h)) ∙ judged_none (whole_refusal t) t table h
 answered_none (Err refusal) table h = absurd (cc)
 
-both : (a b : Bool) → a ≡ true → b ≡ true → (a && b) ≡ true
-both true b h k = k
-both false b h k = absurd (cc)
-
 pub found_reading : (text : List ℕ) (table : Table) → answer_of text ≡ Ok table → IsTableText table text × IsTrue (is_valid table)
 found_reading text table h =
-    let found : IsTableText table text = text_found text table (answered_table (text_reading text) table h) in
-    (found, both (is_in_range table) (is_none (whole_refusal table)) found.ranges (answered_none (text_reading text) table h))
+    let found : IsTableText table text = text_found text table (answered_ok (text_reading text) table h) in
+    (found, and_from (is_in_range table) (is_none (whole_refusal table)) found.ranges (answered_none (text_reading text) table h))

@@ -1,9 +1,9 @@
 -- Laws of the filling message: it fits its sender, its item is in the ranges, and it is as long as its mode says.
-use Rattle.std.specs.Prelude.{◌≡◌, ℕ, suc, zero, ◌<◌, ◌≤◌, ◌^◌, Bool, true, false, ◌&&◌, ◌==◌, nat_le, List, [], ◌∷◌, length}
+use Rattle.std.specs.Prelude.{◌≡◌, ℕ, suc, zero, ◌<◌, ◌≤◌, ◌^◌, Bool, true, ◌==◌, nat_le, List, [], ◌∷◌, length}
 use Rattle.std.specs.List.{list_all, AllByRecursion}
 use Rattle.std.specs.Int.{is_in_range}
 use Rattle.std.proofs.Common.{arith, refl, ap, ◌∙◌}
-use Rattle.std.proofs.lemmas.Bool.{and_parts, eq-eqb, le-leb}
+use Rattle.std.proofs.lemmas.Bool.{and_parts, eq-eqb, le-leb, and_from}
 use Rattle.std.proofs.lemmas.Bool.Decides.{nat_tests}
 use Rattle.std.proofs.lemmas.List.{length-replicate, length-map}
 use Rattle.bus_strings.specs.Items.{IsItem}
@@ -18,11 +18,6 @@ use Rattle.bus_table.specs.Fits.{allows, matches, fits, is_shortest, is_longest,
 use Rattle.bus_table.specs.Hands.{message_of}
 use Rattle.bus_table.specs.Ranges.{is_number, is_tg, is_offset, is_label, is_ext, is_send_line, are_send_lines, is_sender}
 use Rattle.bus_table.specs.Tables.{SendLine, Sender}
-
-both : (a b : Bool) → a ≡ true → b ≡ true → (a && b) ≡ true
-both true true h k = refl
-both false b h k = absurd cc
-both true false h k = absurd cc
 
 length_zeros : (n : ℕ) → length (zeros n) ≡ n
 length_zeros n = length-replicate n 0
@@ -59,7 +54,7 @@ count_allowed : (mode : Mode) (line : SendLine) → is_send_line line ≡ true �
 count_allowed mode line h =
     let b = between mode line h in
     ap (allows line) (length_zeros (filling_count mode line))
-    ∙ both _ _ (le-leb line.least (filling_count mode line) b.low) (le-leb (filling_count mode line) line.most b.high)
+    ∙ and_from _ _ (le-leb line.least (filling_count mode line) b.low) (le-leb (filling_count mode line) line.most b.high)
 
 -- the strings have the shape of the lines
 pub filling_shape : (mode : Mode) (sends : List SendLine) → list_all is_send_line sends ≡ true
@@ -67,7 +62,7 @@ pub filling_shape : (mode : Mode) (sends : List SendLine) → list_all is_send_l
 filling_shape mode [] h = refl
 filling_shape mode (line ∷ sends) h =
     let parts = and_parts (is_send_line line) _ h in
-    both _ _ (count_allowed mode line parts.0) (filling_shape mode sends parts.1)
+    and_from _ _ (count_allowed mode line parts.0) (filling_shape mode sends parts.1)
 
 -- the message has the labels of the lines, and on each a number of data words that a test takes
 filling_matches : (mode : Mode) (test : SendLine → ℕ → Bool) (sends : List SendLine)
@@ -75,8 +70,8 @@ filling_matches : (mode : Mode) (test : SendLine → ℕ → Bool) (sends : List
     → matches test sends (message_of sends (filling_strings mode sends)) ≡ true
 filling_matches mode test [] h = refl
 filling_matches mode test (line ∷ sends) h =
-    both _ _ (eq-eqb line.label line.label refl) (both _ _ (eq-eqb line.ext line.ext refl)
-    (both _ _ h.0 (filling_matches mode test sends h.1)))
+    and_from _ _ (eq-eqb line.label line.label refl) (and_from _ _ (eq-eqb line.ext line.ext refl)
+    (and_from _ _ h.0 (filling_matches mode test sends h.1)))
 
 each_allowed : (mode : Mode) (sends : List SendLine) → list_all is_send_line sends ≡ true
     → AllByRecursion (λ line. allows line (length (zeros (filling_count mode line))) ≡ true) sends
@@ -90,14 +85,14 @@ each_counted : (count : SendLine → ℕ) (sends : List SendLine)
 each_counted count [] = tt
 each_counted count (line ∷ sends) = (eq-eqb _ _ (length_zeros (count line)), each_counted count sends)
 
-sends_in_range : (sender : Sender) → is_sender sender ≡ true → are_send_lines sender.sends ≡ true
+pub sends_in_range : (sender : Sender) → is_sender sender ≡ true → are_send_lines sender.sends ≡ true
 sends_in_range sender h =
     let number = and_parts (is_number sender.number) _ h in
     let gap = and_parts (is_tg sender.tg) _ number.1 in
     let offset = and_parts (is_offset sender.at) _ gap.1 in
     (and_parts (are_send_lines sender.sends) _ offset.1).0
 
-each_send_line : (sender : Sender) → is_sender sender ≡ true → list_all is_send_line sender.sends ≡ true
+pub each_send_line : (sender : Sender) → is_sender sender ≡ true → list_all is_send_line sender.sends ≡ true
 each_send_line sender h = (and_parts (is_in_range 1 most_strings (length sender.sends)) _ (sends_in_range sender h)).1
 
 -- the filling message fits its sender
@@ -162,7 +157,7 @@ each_string mode (line ∷ sends) h =
     let high : filling_count mode line ≤ line.most = (between mode line parts.0).high in
     let most : line.most ≤ 256 = (line_ranges line parts.0).most in
     let few : length (zeros (filling_count mode line)) ≤ 256 = omega (arith, count, high, most) in
-    both _ _ (le-leb (length (zeros (filling_count mode line))) 256 few) (each_string mode sends parts.1)
+    and_from _ _ (le-leb (length (zeros (filling_count mode line))) 256 few) (each_string mode sends parts.1)
 
 each_zero : (mode : Mode) (sends : List SendLine) → AllByRecursion (AllByRecursion (λ word. word < 2 ^ 16)) (filling_strings mode sends)
 each_zero mode [] = tt
@@ -175,7 +170,7 @@ filling_is_item mode sender h =
     let count = (and_parts (is_in_range 1 most_strings (length sender.sends)) _ (sends_in_range sender h)).0 in
     let same = length-map sender.sends (λ (line : SendLine). zeros (filling_count mode line)) in
     record {
-      ranges = both _ _ number
-          (both _ _ (ap (is_in_range 1 most_strings) same ∙ count) (each_string mode sender.sends (each_send_line sender h)));
+      ranges = and_from _ _ number
+          (and_from _ _ (ap (is_in_range 1 most_strings) same ∙ count) (each_string mode sender.sends (each_send_line sender h)));
       words = each_zero mode sender.sends;
     }

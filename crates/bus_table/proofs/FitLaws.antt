@@ -1,5 +1,5 @@
 -- Laws of messages that fit: how long they are.
-use Rattle.std.proofs.Common.{arith, ◌≡◌, ℕ, ◌+◌, ◌≤◌, Bool, true, false, ◌&&◌, ◌==◌, nat_le, List, [], ◌∷◌, length, refl}
+use Rattle.std.proofs.Common.{arith, ◌≡◌, ℕ, ◌+◌, ◌≤◌, Bool, true, ◌==◌, nat_le, List, [], ◌∷◌, length, refl}
 use Rattle.std.specs.List.{sum_by}
 use Rattle.std.proofs.lemmas.Bool.{and_parts, eqb-true}
 use Rattle.std.proofs.lemmas.Bool.Decides.{nat_tests}
@@ -8,11 +8,6 @@ use Rattle.bus_strings.specs.Messages.{Wordstring, Message, word_count, bits}
 use Rattle.bus_table.specs.Fits.{allows, matches, fits, is_shortest, is_longest}
 use Rattle.bus_table.specs.Lengths.{shortest, longest}
 use Rattle.bus_table.specs.Tables.{SendLine, Sender}
-
-both : (a b : Bool) → a ≡ true → b ≡ true → (a && b) ≡ true
-both true true h k = refl
-both false b h k = absurd cc
-both true false h k = absurd cc
 
 -- a line and its wordstring
 record Matched (test : SendLine → ℕ → Bool) (line : SendLine) (string : Wordstring) (sends : List SendLine) (message : Message)
@@ -29,7 +24,7 @@ matched test line sends string message h =
     record { words = words.0; others = words.1 }
 
 -- as many wordstrings as lines
-same_count : (test : SendLine → ℕ → Bool) (sends : List SendLine) (message : Message) → matches test sends message ≡ true
+pub same_count : (test : SendLine → ℕ → Bool) (sends : List SendLine) (message : Message) → matches test sends message ≡ true
     → length message ≡ length sends
 same_count test [] [] h = refl
 same_count test [] (string ∷ message) h = absurd cc

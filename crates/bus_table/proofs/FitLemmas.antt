@@ -8,9 +8,9 @@ use Rattle.std.proofs.lemmas.Bool.Decides.{nat_tests}
 use Rattle.bus_table.specs.Ranges.{are_send_lines}
 use Rattle.bus_table.specs.Tables.{SendLine}
 use Rattle.bus_strings.specs.Messages.{Message}
+use Rattle.bus_strings.proofs.ListLaws.{drop_read}
 use Rattle.bus_table.specs.Fits.{allows, matches, has_shape}
 use Rattle.bus_table.specs.Hands.{message_of}
-use Rattle.bus_table.proofs.WholeLemmas.{drop_at}
 
 -- another number of strings than of lines
 pub shape_length : (sends : List SendLine) (strings : List (List ℕ)) → length sends ≢ length strings → has_shape sends strings ≡ false
@@ -26,7 +26,7 @@ shape_length (line ∷ sends) (string ∷ strings) h = ap (λ b. allows line (le
 pub shape_step : (sends : List SendLine) (strings : List (List ℕ)) (k : ℕ) (line : SendLine) (string : List ℕ) → k < length sends → k < length strings → line ≡ get_or sends k line → string ≡ get_or strings k string
     → has_shape (drop k sends) (drop k strings) ≡ (allows line (length string) && has_shape (drop (k + 1) sends) (drop (k + 1) strings))
 shape_step sends strings k line string h m e f =
-    ap (λ ls. has_shape ls (drop k strings)) (drop_at sends k line h e) ∙ ap (λ ss. has_shape (line ∷ drop (k + 1) sends) ss) (drop_at strings k string m f)
+    ap (λ ls. has_shape ls (drop k strings)) (drop_read sends k line h e) ∙ ap (λ ss. has_shape (line ∷ drop (k + 1) sends) ss) (drop_read strings k string m f)
 
 -- no line is left
 pub shape_end : (sends : List SendLine) (strings : List (List ℕ)) (k : ℕ) → length sends ≤ k → length strings ≤ k → has_shape (drop k sends) (drop k strings) ≡ true

@@ -2,7 +2,7 @@
 use Rattle.std.proofs.Common.{arith, ◌≡◌, ℕ, ◌-◌, ◌<◌, ◌≤◌, ◌^◌, min, Bool, true, false, not, cond, ◌&&◌, ◌⊎◌, inl, inr, nat_lt, nat_le, List, [], ◌∷◌, length, codes, Option, Some, None, Result, Ok, Err, refl, sym, ap, ◌∙◌}
 use Rattle.std.specs.Int.{is_in_range}
 use Rattle.std.specs.Option.{ok_or, option_map_or}
-use Rattle.std.proofs.lemmas.Bool.{eq-eqb}
+use Rattle.std.proofs.lemmas.Bool.{eq-eqb, and_from, and_right, lt-leb}
 use Rattle.std.proofs.lemmas.Bool.Decides.{nat_tests}
 use denote.Ref.{Bor}
 use Rattle.std.proofs.lemmas.List.{length-map}
@@ -38,10 +38,6 @@ pub let_through : {A : Type 0} (t : Bool) (v n : A) → Some n ≡ cond t (Some 
 let_through true v n h = (refl, cc)
 let_through false v n h = absurd cc
 
-pub kept_back : {A : Type 0} (t : Bool) (v : A) → None ≡ cond t (Some v) None → t ≡ false
-kept_back true v h = absurd cc
-kept_back false v h = refl
-
 pub decimal_read : (f : List ℕ) (n : ℕ) → Some n ≡ read_decimal f → Decimal f n
 decimal_read f n h = let p = let_through (is_plain_decimal f) (min (decimal_value f) (2 ^ 64 - 1)) n h in record { plain = p.0; value = p.1 }
 
@@ -73,11 +69,6 @@ number_out lo hi n fields h two d r =
     ∙ ap (λ c. staged true true c (decimal_value (field fields 1))) (sym (in_range (field fields 1) n lo hi d h) ∙ r)
 
 -- ---- SENDER lines
-both : (a b : Bool) → a ≡ true → b ≡ true → (a && b) ≡ true
-both true true h k = refl
-both false b h k = absurd cc
-both true false h k = absurd cc
-
 -- the numbers of a SENDER line, and what was read of them
 pub record HeadFields (fields : List (List ℕ)) (head : Head) : Type 0 where
   pub number : Decimal (field fields 1) head.number
@@ -96,7 +87,7 @@ unfolding sender_reading
 sender_out n tg fields four gap d e r =
     ap (λ a. staged (a && is_at fields 2 (codes "TG")) (is_plain_decimal (field fields 1) && is_plain_decimal (field fields 3)) (is_head (head_of fields)) (head_of fields)) (eq-eqb _ _ four)
     ∙ ap (λ a. staged a (is_plain_decimal (field fields 1) && is_plain_decimal (field fields 3)) (is_head (head_of fields)) (head_of fields)) gap
-    ∙ ap (λ b. staged true b (is_head (head_of fields)) (head_of fields)) (both _ _ d.plain e.plain)
+    ∙ ap (λ b. staged true b (is_head (head_of fields)) (head_of fields)) (and_from _ _ d.plain e.plain)
     ∙ ap (λ c. staged true true c (head_of fields)) (sym (head_range fields (record { number = n; tg = tg; at = 0 }) 0 (record { number = d; tg = e }) refl) ∙ r)
 
 offset_min : (v : ℕ) → is_offset (min v (2 ^ 64 - 1)) ≡ is_offset v
@@ -111,8 +102,8 @@ pub offset_out : (n tg at : ℕ) (fields : List (List ℕ)) → length fields �
 unfolding offset_reading
 offset_out n tg at fields six gap word d e o r =
     let spelled : Bool = is_plain_decimal (field fields 1) && (is_plain_decimal (field fields 3) && is_plain_decimal (field fields 5)) in
-    ap (λ a. staged a spelled (is_head (offset_head_of fields)) (offset_head_of fields)) (both _ _ (eq-eqb _ _ six) (both _ _ gap word))
-    ∙ ap (λ b. staged true b (is_head (offset_head_of fields)) (offset_head_of fields)) (both _ _ d.plain (both _ _ e.plain o.plain))
+    ap (λ a. staged a spelled (is_head (offset_head_of fields)) (offset_head_of fields)) (and_from _ _ (eq-eqb _ _ six) (and_from _ _ gap word))
+    ∙ ap (λ b. staged true b (is_head (offset_head_of fields)) (offset_head_of fields)) (and_from _ _ d.plain (and_from _ _ e.plain o.plain))
     ∙ ap (λ c. staged true true c (offset_head_of fields))
     (sym (head_range fields (record { number = n; tg = tg; at = at }) (decimal_value (field fields 5)) (record { number = d; tg = e }) (offset_below (field fields 5) at o)) ∙ r)
 
@@ -125,13 +116,6 @@ pub record Hex (count : ℕ) (f : List ℕ) (n : ℕ) : Type 0 where
 pub hex_read : (count : ℕ) (f : List ℕ) (n : ℕ) → Some n ≡ cond (is_hexadecimal count f) (Some (hexadecimal_value f)) None → Hex count f n
 hex_read count f n h = let p = let_through (is_hexadecimal count f) (hexadecimal_value f) n h in record { digits = p.0; value = p.1 }
 
-above : (hi v : ℕ) → hi < v → nat_le v hi ≡ false
-above hi v h = grind (arith, nat_tests)
-
-no_more : (a b : Bool) → b ≡ false → (a && b) ≡ false
-no_more true b h = h
-no_more false b h = refl
-
 stopped_below : (least most : ℕ) → most ≤ 256 → nat_le (min least (2 ^ 64 - 1)) most ≡ nat_le least most
 stopped_below least most h = grind (arith, nat_tests)
 
@@ -139,7 +123,7 @@ stopped_below least most h = grind (arith, nat_tests)
 stopped : (least most : ℕ) → (nat_le (min least (2 ^ 64 - 1)) (min most (2 ^ 64 - 1)) && nat_le (min most (2 ^ 64 - 1)) 256) ≡ (nat_le least most && nat_le most 256)
 stopped least most = by_most (cases_lt 256 most) where
   by_most : (256 < most) ⊎ (most ≤ 256) → (nat_le (min least (2 ^ 64 - 1)) (min most (2 ^ 64 - 1)) && nat_le (min most (2 ^ 64 - 1)) 256) ≡ (nat_le least most && nat_le most 256)
-  by_most (inl gt) = no_more _ _ (above 256 (min most (2 ^ 64 - 1)) (omega arith)) ∙ sym (no_more _ _ (above 256 most gt))
+  by_most (inl gt) = and_right _ _ (lt-leb (min most (2 ^ 64 - 1)) 256 (omega arith)) ∙ sym (and_right _ _ (lt-leb most 256 gt))
   by_most (inr le) =
       let same : min most (2 ^ 64 - 1) ≡ most = omega arith in
       ap (λ (m : ℕ). nat_le (min least (2 ^ 64 - 1)) m && nat_le m 256) same ∙ ap (λ b. b && nat_le most 256) (stopped_below least most le)
@@ -160,7 +144,7 @@ send_range fields line f =
     (ap (λ (a : ℕ). nat_le a line.most && nat_le line.most 256) f.least.value ∙ ap (λ (b : ℕ). nat_le (min (decimal_value (field fields 3)) (2 ^ 64 - 1)) b && nat_le b 256) f.most.value ∙ stopped (decimal_value (field fields 3)) (decimal_value (field fields 4)))
 
 spelled : (fields : List (List ℕ)) (line : SendLine) → SendFields fields line → is_send_spelled fields ≡ true
-spelled fields line f = both _ _ f.label.digits (both _ _ f.ext.digits (both _ _ f.least.plain f.most.plain))
+spelled fields line f = and_from _ _ f.label.digits (and_from _ _ f.ext.digits (and_from _ _ f.least.plain f.most.plain))
 
 send_values : (fields : List (List ℕ)) (line : SendLine) → SendFields fields line → is_send_line line ≡ true → send_line_of fields ≡ line
 send_values fields line f r =
@@ -191,7 +175,7 @@ pub send_unspelled : (fields : List (List ℕ)) → length fields ≡ 5 → is_p
 unfolding send_reading
 send_unspelled fields five h =
     ap (λ a. staged a (is_send_spelled fields) (is_send_line (send_line_of fields)) (send_line_of fields)) (eq-eqb _ _ five)
-    ∙ ap (λ b. staged true b (is_send_line (send_line_of fields)) (send_line_of fields)) (no_more (is_hexadecimal 3 (field fields 1)) _ (no_more (is_hexadecimal 1 (field fields 2)) _ (no_more (is_plain_decimal (field fields 3)) _ h)))
+    ∙ ap (λ b. staged true b (is_send_line (send_line_of fields)) (send_line_of fields)) (and_right (is_hexadecimal 3 (field fields 1)) _ (and_right (is_hexadecimal 1 (field fields 2)) _ (and_right (is_plain_decimal (field fields 3)) _ h)))
 
 -- ---- TAKE lines
 -- the fields of a TAKE line, and what was read of them
@@ -228,7 +212,7 @@ take_range fields line f =
     (ap (λ b. b && is_in_range 1 256 line.count) (first_below (field fields 3) line.first f.first) ∙ ap (λ b. nat_lt (decimal_value (field fields 3)) 256 && b) (in_range (field fields 4) line.count 1 256 f.count (omega arith)))
 
 taken_spelled : (fields : List (List ℕ)) (line : TakeLine) → TakeFields fields line → is_take_spelled fields ≡ true
-taken_spelled fields line f = both _ _ f.label.digits (both _ _ f.spelled (both _ _ f.first.plain f.count.plain))
+taken_spelled fields line f = and_from _ _ f.label.digits (and_from _ _ f.spelled (and_from _ _ f.first.plain f.count.plain))
 
 first_is : (f : List ℕ) (n : ℕ) → Decimal f n → nat_lt n 256 ≡ true → decimal_value f ≡ n
 first_is f n d r = let small : n < 256 = grind (arith, nat_tests, r) in omega (arith, d.value)
@@ -265,10 +249,10 @@ take_unspelled fields five h =
     ∙ ap (λ b. staged true b (is_take_line (take_line_of fields)) (take_line_of fields)) h
 
 pub no_count : (fields : List (List ℕ)) → is_plain_decimal (field fields 4) ≡ false → is_take_spelled fields ≡ false
-no_count fields h = no_more (is_hexadecimal 3 (field fields 1)) _ (no_more (is_ext_spelled (field fields 2)) _ (no_more (is_plain_decimal (field fields 3)) _ h))
+no_count fields h = and_right (is_hexadecimal 3 (field fields 1)) _ (and_right (is_ext_spelled (field fields 2)) _ (and_right (is_plain_decimal (field fields 3)) _ h))
 
 pub no_first : (fields : List (List ℕ)) → is_plain_decimal (field fields 3) ≡ false → is_take_spelled fields ≡ false
-no_first fields h = no_more (is_hexadecimal 3 (field fields 1)) _ (no_more (is_ext_spelled (field fields 2)) _ (ap (λ b. b && is_plain_decimal (field fields 4)) h))
+no_first fields h = and_right (is_hexadecimal 3 (field fields 1)) _ (and_right (is_ext_spelled (field fields 2)) _ (ap (λ b. b && is_plain_decimal (field fields 4)) h))
 
 -- the error of a `Some` that was asked for
 pub error_is : {A E : Type 0} (o : Option A) (given found : E) (r : Result A E) → r ≡ ok_or o given → o ≡ None → r ≡ Err found → found ≡ given

@@ -1,9 +1,9 @@
 -- The hands of items that fit have messages that fit.
-use Rattle.std.proofs.Common.{arith, ◌≡◌, ℕ, zero, suc, ◌<◌, Bool, true, false, cond, ◌&&◌, ◌==◌, nat_eq, List, [], ◌∷◌, length, map, get_or, Some, refl, sym, ap, ◌∙◌}
+use Rattle.std.proofs.Common.{arith, ◌≡◌, ℕ, zero, suc, ◌<◌, Bool, true, false, cond, ◌==◌, nat_eq, List, [], ◌∷◌, length, map, get_or, Some, refl, sym, ap, ◌∙◌}
 use Rattle.std.specs.Prelude.{IsOk}
 use Rattle.std.specs.Option.{option_map_or}
 use Rattle.std.specs.List.{list_all, find, IsDistinct, AllByRecursion}
-use Rattle.std.proofs.lemmas.Bool.{and_parts, eqb-true, eq-eqb}
+use Rattle.std.proofs.lemmas.Bool.{and_parts, eqb-true, eq-eqb, and_from}
 use Rattle.std.proofs.lemmas.List.Elements.{All-from_get_or, recursion_from_All}
 use Rattle.bus_strings.specs.Items.{Item}
 use Rattle.bus_table.specs.Fits.{allows, matches, fits, has_shape, items_fit}
@@ -14,17 +14,12 @@ use Rattle.bus_table.proofs.ValidLaws.{valid_facts}
 use Rattle.bus_table.specs.inside.Dealing.{is_fit}
 use Rattle.bus_table.proofs.HandLemmas.{each_fits}
 
-both : (a b : Bool) → a ≡ true → b ≡ true → (a && b) ≡ true
-both true true h k = refl
-both false b h k = absurd cc
-both true false h k = absurd cc
-
 shape_matches : (sends : List SendLine) (strings : List (List ℕ)) → has_shape sends strings ≡ true → matches allows sends (message_of sends strings) ≡ true
 shape_matches [] strings h = refl
 shape_matches (line ∷ sends) [] h = absurd cc
 shape_matches (line ∷ sends) (string ∷ strings) h =
     let p = and_parts (allows line (length string)) _ h in
-    both _ _ (eq-eqb line.label line.label refl) (both _ _ (eq-eqb line.ext line.ext refl) (both _ _ p.0 (shape_matches sends strings p.1)))
+    and_from _ _ (eq-eqb line.label line.label refl) (and_from _ _ (eq-eqb line.ext line.ext refl) (and_from _ _ p.0 (shape_matches sends strings p.1)))
 
 own_shape : (senders : List Sender) (sender : Sender) (item : Item) → find (λ s. s.number == sender.number) senders ≡ Some sender → is_fit senders item ≡ true → item.terminal ≡ sender.number → has_shape sender.sends item.strings ≡ true
 own_shape senders sender item found fit e =
@@ -39,7 +34,7 @@ own_messages senders sender (item ∷ items) found fit =
   where
     by_number : (t : Bool) → (t ≡ true → has_shape sender.sends item.strings ≡ true) → list_all (fits sender) (map (λ i. message_of sender.sends i.strings) (items_of sender.number items)) ≡ true
         → list_all (fits sender) (map (λ i. message_of sender.sends i.strings) (cond t (item ∷ items_of sender.number items) (items_of sender.number items))) ≡ true
-    by_number true shape others = both _ _ (shape_matches sender.sends item.strings (shape refl)) others
+    by_number true shape others = and_from _ _ (shape_matches sender.sends item.strings (shape refl)) others
     by_number false shape others = others
 
 -- ---- each sender is found by its number
@@ -62,7 +57,7 @@ each_found (s ∷ senders) distinct =
 
 hands_fit : (all senders : List Sender) (items : List Item) → list_all (is_fit all) items ≡ true → AllByRecursion (λ sender. find (λ s. s.number == sender.number) all ≡ Some sender) senders → are_hands senders (map (hand_of items) senders) ≡ true
 hands_fit all [] items fit found = refl
-hands_fit all (s ∷ senders) items fit found = both _ _ (eq-eqb s.number s.number refl) (both _ _ (own_messages all s items found.0 fit) (hands_fit all senders items fit found.1))
+hands_fit all (s ∷ senders) items fit found = and_from _ _ (eq-eqb s.number s.number refl) (and_from _ _ (own_messages all s items found.0 fit) (hands_fit all senders items fit found.1))
 
 -- the hands of items that fit have messages that fit
 pub hands_of_fit : (table : Table) (items : List Item) → is_valid table ≡ true → IsOk (items_fit table items) → are_hands table.senders (hands_of table items) ≡ true

@@ -3,7 +3,7 @@ use Rattle.std.proofs.Common.{arith, ◌≡◌, ℕ, zero, suc, ◌+◌, ◌<◌
 use Rattle.std.specs.Prelude.{IsOk, IsSome, is_some, slice_get, if◌then◌else◌}
 use Rattle.std.specs.Option.{option_map_or}
 use Rattle.std.specs.List.{list_all, find, IsDistinct, AllByRecursion, position, position_or_len}
-use Rattle.std.proofs.lemmas.Bool.{and_parts, eqb-true, eq-eqb}
+use Rattle.std.proofs.lemmas.Bool.{and_parts, eqb-true, eq-eqb, and_from, lt-ltb}
 use Rattle.std.proofs.lemmas.Bool.Decides.{nat_tests}
 use Rattle.std.proofs.lemmas.List.{append-nil, map-append}
 use Rattle.std.proofs.lemmas.List.Elements.{filter-append}
@@ -20,11 +20,6 @@ use Rattle.bus_table.specs.Fits.{has_shape, sender_of, shape_fit, fit_from}
 use Rattle.bus_table.specs.Hands.{message_of, items_of, hand_of}
 use Rattle.bus_table.specs.Tables.{Sender, Hand}
 use Rattle.bus_table.specs.inside.Dealing.{is_fit, with_message}
-
-both : (a b : Bool) → a ≡ true → b ≡ true → (a && b) ≡ true
-both true true h k = refl
-both false b h k = absurd cc
-both true false h k = absurd cc
 
 abbrev Done : Result (Unit {0}) FitError → Type 0
 Done r = IsOk r
@@ -45,7 +40,7 @@ pub each_fits : (k : ℕ) (senders : List Sender) (items : List Item) → IsOk (
 each_fits k senders [] h = refl
 each_fits k senders (item ∷ items) h =
     let p = fit_first k (sender_of senders item.terminal) item (fit_from (k + 1) senders items) h in
-    both _ _ p.0 (each_fits (k + 1) senders items p.1)
+    and_from _ _ p.0 (each_fits (k + 1) senders items p.1)
 
 -- ---- one more item
 eqb_sym : (m n : ℕ) → nat_eq m n ≡ nat_eq n m
@@ -118,12 +113,9 @@ stands_at senders number k sender h e =
       same = eqb-true sender.number number (ap (λ (s : Sender). s.number == number) e ∙ some.1);
     }
 
-within : (a b : ℕ) → a < b → nat_lt a b ≡ true
-within a b less = grind (arith, nat_tests)
-
 stands_found : (p : Sender → Bool) (senders : List Sender) (item : Item) (found : Option Sender) → slice_get senders (position_or_len p senders) ≡ found → option_map_or (λ s. has_shape s.sends item.strings) found false ≡ true → IsSome (position p senders)
 stands_found p senders item None e go = absurd cc
-stands_found p senders item (Some s) e go = ap (λ t. is_some (cond t (Some (position_or_len p senders)) None)) (within (position_or_len p senders) (length senders) (slice_get_within senders (position_or_len p senders) s e))
+stands_found p senders item (Some s) e go = ap (λ t. is_some (cond t (Some (position_or_len p senders)) None)) (lt-ltb (position_or_len p senders) (length senders) (slice_get_within senders (position_or_len p senders) s e))
 
 -- a sender that is found stands somewhere
 pub stands : (p : Sender → Bool) (senders : List Sender) (item : Item) → option_map_or (λ s. has_shape s.sends item.strings) (find p senders) false ≡ true → IsSome (position p senders)
@@ -144,6 +136,6 @@ none_found p senders h = by (find p senders) refl where
   by None e = e
   by (Some s) e =
       let at : slice_get senders (position_or_len p senders) ≡ Some s = sym (find_at p senders) ∙ e in
-      let some : position p senders ≡ Some (position_or_len p senders) = ap (λ t. cond t (Some (position_or_len p senders)) None) (within (position_or_len p senders) (length senders) (slice_get_within senders (position_or_len p senders) s at)) in
+      let some : position p senders ≡ Some (position_or_len p senders) = ap (λ t. cond t (Some (position_or_len p senders)) None) (lt-ltb (position_or_len p senders) (length senders) (slice_get_within senders (position_or_len p senders) s at)) in
       let wrong : None ≡ Some (position_or_len p senders) = sym h ∙ some in
       absurd cc

@@ -24,6 +24,8 @@ pub mod CanonicalLemmas
 pub mod TurnLaws
 pub mod OffsetLaws
 pub mod FillingLaws
+mod FewNumbers
+pub mod PartLaws
 pub mod ValidLaws
 pub mod FitLaws
 pub mod TerminalLaws

@@ -1,15 +1,14 @@
 -- One line: what is read is said by the line, and what the line says is read.
-use Rattle.std.proofs.Common.{arith, ◌≡◌, ℕ, Bool, true, false, not, cond, ◌&&◌, ◌||◌, ◌==◌, List, [], ◌∷◌, length, codes, Option, Some, None, Result, Ok, Err, refl, sym, ap, subst, ◌∙◌}
+use Rattle.std.proofs.Common.{arith, ◌≡◌, ℕ, Bool, true, false, not, cond, ◌&&◌, ◌||◌, ◌==◌, List, [], ◌∷◌, length, codes, Option, Some, None, Result, Ok, refl, sym, ap, subst, ◌∙◌}
 use Rattle.std.specs.List.{find}
 use Rattle.std.specs.Str.{bytes_eq}
 use Rattle.std.proofs.lemmas.Bool.{and_parts, eqb-true}
-use Rattle.std.proofs.lemmas.Slice.Eq.{bytes_eq-Decides}
 use Rattle.bus_text.specs.declared.reason.Reason.{Reason}
 use Rattle.bus_text.specs.declared.reason.Reason.TheVariants.{Fields, Spelling}
-use Rattle.bus_text.specs.AllOf.{◌>>=◌}
 use Rattle.bus_text.specs.Fields.{is_at}
 use Rattle.bus_text.specs.Numbers.{is_plain_decimal, decimal_value, is_hexadecimal, hexadecimal_value}
 use Rattle.bus_text.specs.Refusals.{first_of, unless}
+use Rattle.bus_text.proofs.FieldLemmas.{same_bytes}
 use Rattle.bus_table.specs.declared.keyword.Keyword.{Keyword}
 use Rattle.bus_table.specs.declared.mode.Mode.{Mode}
 use Rattle.bus_table.specs.declared.mode.Mode.TheVariants.{Aperiodic, Periodic}
@@ -33,14 +32,7 @@ find_test p (y ∷ xs) x h = find_step p y x (find p xs) (p y) refl (find_test p
 pub keyword_found : (fields : List (List ℕ)) (keyword : Keyword) → keyword_of fields ≡ Some keyword → is_at fields 0 (word_of keyword) ≡ true
 keyword_found fields keyword h = find_test (λ k. is_at fields 0 (word_of k)) all_keywords keyword h
 
-pub word_is : (found word : List ℕ) → bytes_eq found word ≡ true → found ≡ word
-word_is found word h = (bytes_eq-Decides found word).0 h
-
 -- ---- results
-pub bind_ok : {A B R : Type 0} (r : Result A R) (f : A → Result B R) (y : B) → (r >>= f) ≡ Ok y → (x : A) × (r ≡ Ok x) × (f x ≡ Ok y)
-bind_ok (Ok x) f y h = (x, refl, h)
-bind_ok (Err e) f y h = absurd cc
-
 pub staged_ok : {A : Type 0} (a b c : Bool) (v item : A) → staged a b c v ≡ Ok item → (a ≡ true) × (b ≡ true) × (c ≡ true) × (v ≡ item)
 staged_ok true true true v item h = (refl, refl, refl, cc)
 staged_ok true true false v item h = absurd cc
@@ -55,7 +47,7 @@ one_stage false u h = absurd cc
 two_fields : (fields : List (List ℕ)) (first second : List ℕ) → is_at fields 0 first ≡ true → length fields ≡ 2 → is_at fields 1 second ≡ true → fields ≡ first ∷ second ∷ []
 two_fields [] first second p n q = absurd cc
 two_fields (a ∷ []) first second p n q = absurd cc
-two_fields (a ∷ b ∷ []) first second p n q = ap (λ f. f ∷ b ∷ []) (word_is a first p) ∙ ap (λ f. first ∷ f ∷ []) (word_is b second q)
+two_fields (a ∷ b ∷ []) first second p n q = ap (λ f. f ∷ b ∷ []) (same_bytes a first p) ∙ ap (λ f. first ∷ f ∷ []) (same_bytes b second q)
 two_fields (a ∷ b ∷ c ∷ fields) first second p n q = absurd (omega arith)
 
 pub table_found : (fields : List (List ℕ)) (u : Unit {0}) → is_at fields 0 (codes "TABLE") ≡ true → table_reading fields ≡ Ok u → fields ≡ codes "TABLE" ∷ codes "1" ∷ []
@@ -89,8 +81,8 @@ mode_parts : (fields : List (List ℕ)) → is_at fields 0 (codes "MODE") ≡ tr
 mode_parts [] p n q = absurd cc
 mode_parts (a ∷ []) p n q = absurd cc
 mode_parts (a ∷ b ∷ []) p n q =
-    ap (λ f. f ∷ b ∷ []) (word_is a (codes "MODE") p)
-    ∙ ap (λ f. codes "MODE" ∷ f ∷ []) (word_is b _ (named b (bytes_eq b (codes "aperiodic")) (bytes_eq b (codes "periodic")) refl refl q))
+    ap (λ f. f ∷ b ∷ []) (same_bytes a (codes "MODE") p)
+    ∙ ap (λ f. codes "MODE" ∷ f ∷ []) (same_bytes b _ (named b (bytes_eq b (codes "aperiodic")) (bytes_eq b (codes "periodic")) refl refl q))
 mode_parts (a ∷ b ∷ c ∷ fields) p n q = absurd (omega arith)
 
 pub mode_found : (fields : List (List ℕ)) (mode : Mode) → is_at fields 0 (codes "MODE") ≡ true → mode_reading fields ≡ Ok mode → fields ≡ codes "MODE" ∷ mode_word mode ∷ []
@@ -108,7 +100,7 @@ mode_again Periodic fields h = ap mode_reading h
 number_parts : (fields : List (List ℕ)) (keyword : List ℕ) → is_at fields 0 keyword ≡ true → length fields ≡ 2 → is_plain_decimal (field fields 1) ≡ true → IsNumberLine keyword (decimal_value (field fields 1)) fields
 number_parts [] keyword p n q = absurd cc
 number_parts (a ∷ []) keyword p n q = absurd cc
-number_parts (a ∷ b ∷ []) keyword p n q = record { number = b; parts = ap (λ f. f ∷ b ∷ []) (word_is a keyword p); value = record { plain = q; value = refl } }
+number_parts (a ∷ b ∷ []) keyword p n q = record { number = b; parts = ap (λ f. f ∷ b ∷ []) (same_bytes a keyword p); value = record { plain = q; value = refl } }
 number_parts (a ∷ b ∷ c ∷ fields) keyword p n q = absurd (omega arith)
 
 pub number_line_found : (in_range : ℕ → Bool) (fields : List (List ℕ)) (keyword : List ℕ) (n : ℕ) → is_at fields 0 keyword ≡ true → number_reading in_range fields ≡ Ok n → IsNumberLine keyword n fields × (in_range n ≡ true)
@@ -135,7 +127,7 @@ sender_parts (a ∷ b ∷ c ∷ []) p n q r s = absurd (omega arith)
 sender_parts (a ∷ b ∷ c ∷ d ∷ []) p n q r s = record {
   number = b;
   gap = d;
-  parts = ap (λ f. f ∷ b ∷ c ∷ d ∷ []) (word_is a (codes "SENDER") p) ∙ ap (λ f. codes "SENDER" ∷ b ∷ f ∷ d ∷ []) (word_is c (codes "TG") q);
+  parts = ap (λ f. f ∷ b ∷ c ∷ d ∷ []) (same_bytes a (codes "SENDER") p) ∙ ap (λ f. codes "SENDER" ∷ b ∷ f ∷ d ∷ []) (same_bytes c (codes "TG") q);
   number_is = record { plain = r; value = refl };
   gap_is = record { plain = s; value = refl };
 }
@@ -178,8 +170,8 @@ offset_parts (a ∷ b ∷ c ∷ d ∷ e ∷ f ∷ []) p n q o r s t = record {
   number = b;
   gap = d;
   offset = f;
-  parts = ap (λ w. w ∷ b ∷ c ∷ d ∷ e ∷ f ∷ []) (word_is a (codes "SENDER") p) ∙ ap (λ w. codes "SENDER" ∷ b ∷ w ∷ d ∷ e ∷ f ∷ []) (word_is c (codes "TG") q)
-      ∙ ap (λ w. codes "SENDER" ∷ b ∷ codes "TG" ∷ d ∷ w ∷ f ∷ []) (word_is e (codes "AT") o);
+  parts = ap (λ w. w ∷ b ∷ c ∷ d ∷ e ∷ f ∷ []) (same_bytes a (codes "SENDER") p) ∙ ap (λ w. codes "SENDER" ∷ b ∷ w ∷ d ∷ e ∷ f ∷ []) (same_bytes c (codes "TG") q)
+      ∙ ap (λ w. codes "SENDER" ∷ b ∷ codes "TG" ∷ d ∷ w ∷ f ∷ []) (same_bytes e (codes "AT") o);
   number_is = record { plain = r; value = refl };
   gap_is = record { plain = s; value = refl };
   offset_is = record { plain = t; value = refl };
@@ -243,7 +235,7 @@ send_parts (a ∷ b ∷ c ∷ d ∷ e ∷ []) p n s =
       ext = c;
       least = d;
       most = e;
-      parts = ap (λ f. f ∷ b ∷ c ∷ d ∷ e ∷ []) (word_is a (codes "SEND") p);
+      parts = ap (λ f. f ∷ b ∷ c ∷ d ∷ e ∷ []) (same_bytes a (codes "SEND") p);
       label_is = record { digits = label.0; value = refl };
       ext_is = record { digits = ext.0; value = refl };
       least_is = record { plain = counts.0; value = refl };
@@ -289,13 +281,13 @@ FoundExt f star = (star || is_hexadecimal 1 f) ≡ true → IsExtField (cond sta
 ext_found : (f : List ℕ) → is_ext_spelled f ≡ true → IsExtField (ext_of f) f
 ext_found f h = by_star (is_star f) refl h where
   by_star : (star : Bool) → is_star f ≡ star → FoundExt f star
-  by_star true e h = word_is f (codes "*") e
+  by_star true e h = same_bytes f (codes "*") e
   by_star false e h = record { digits = h; value = refl }
 
 -- a digit is no star
 no_star : (f : List ℕ) (ext : ℕ) → IsExtField (Some ext) f → (star : Bool) → is_star f ≡ star → star ≡ false
 no_star f ext h false e = refl
-no_star f ext h true e = let wrong : is_hexadecimal 1 (codes "*") ≡ true = subst (λ (g : List ℕ). is_hexadecimal 1 g ≡ true) (word_is f (codes "*") e) h.digits in absurd cc
+no_star f ext h true e = let wrong : is_hexadecimal 1 (codes "*") ≡ true = subst (λ (g : List ℕ). is_hexadecimal 1 g ≡ true) (same_bytes f (codes "*") e) h.digits in absurd cc
 
 ext_again : (f : List ℕ) (ext : Option ℕ) → IsExtField ext f → (is_ext_spelled f ≡ true) × (ext_of f ≡ ext)
 ext_again f None h = (ap is_ext_spelled h, ap ext_of h)
@@ -318,7 +310,7 @@ take_parts (a ∷ b ∷ c ∷ d ∷ e ∷ []) p n s =
       ext = c;
       first = d;
       count = e;
-      parts = ap (λ f. f ∷ b ∷ c ∷ d ∷ e ∷ []) (word_is a (codes "TAKE") p);
+      parts = ap (λ f. f ∷ b ∷ c ∷ d ∷ e ∷ []) (same_bytes a (codes "TAKE") p);
       label_is = record { digits = label.0; value = refl };
       ext_is = ext_found c ext.0;
       first_is = record { plain = counts.0; value = refl };

@@ -1,15 +1,17 @@
 -- The lines so far: each line that is read adds what it says.
-use Rattle.std.proofs.Common.{arith, ◌≡◌, ℕ, ◌+◌, ◌<◌, Bool, true, false, cond, ◌&&◌, nat_lt, nat_le, List, [], ◌∷◌, ◌++◌, length, map, codes, Option, Some, None, Result, Ok, Err, refl, sym, ap, subst, ◌∙◌, append_assoc}
-use Rattle.std.specs.List.{flat_map, list_all, AllByRecursion}
+use Rattle.std.proofs.Common.{arith, ◌≡◌, ℕ, ◌+◌, ◌<◌, Bool, true, false, cond, nat_lt, nat_le, List, [], ◌∷◌, ◌++◌, length, map, codes, Option, Some, None, Result, Ok, Err, refl, sym, ap, subst, ◌∙◌, append_assoc}
+use Rattle.std.specs.List.{flat_map, AllByRecursion}
 use Rattle.std.specs.Int.{is_in_range}
-use Rattle.std.proofs.lemmas.Bool.{and_parts}
+use Rattle.std.proofs.lemmas.Bool.{and_parts, and_from}
 use Rattle.std.proofs.lemmas.Bool.Decides.{nat_tests}
-use Rattle.std.proofs.lemmas.List.{append-nil}
+use Rattle.std.proofs.lemmas.List.{append-nil, length_push}
 use Rattle.std.proofs.lemmas.Grind.{flat_map-append}
 use Rattle.bus_text.specs.declared.reason.Reason.{Reason}
 use Rattle.bus_text.specs.declared.reason.Reason.TheVariants as reasons
 use Rattle.bus_text.specs.Fields.{is_at}
 use Rattle.bus_text.specs.Lines.{Entry}
+use Rattle.bus_text.proofs.AllOfLaws.{bind_ok}
+use Rattle.bus_text.proofs.DigitLaws.{list_all_push}
 use Rattle.bus_strings.proofs.ListLaws.{all_push}
 use Rattle.bus_table.specs.declared.mode.Mode.{Mode}
 use Rattle.bus_table.specs.declared.keyword.Keyword.{Keyword}
@@ -22,7 +24,7 @@ use Rattle.bus_table.specs.Heads.{Head, is_head}
 use Rattle.bus_table.specs.Ranges.{is_number, is_tg, is_ti, is_sg, is_offset, is_send_line, is_take_line, are_send_lines, are_take_lines, is_sender, is_listener}
 use Rattle.bus_table.specs.Tables.{SendLine, TakeLine, Sender, Listener}
 use Rattle.bus_table.specs.Text.{Line, TableLine, ModeLine, TiLine, SgLine, SenderLine, Sends, Takes, ListenerLine, sender_lines, listener_lines, IsLine, AreLines}
-use Rattle.bus_table.proofs.LineLemmas.{keyword_found, bind_ok, table_found, mode_found, number_line_found, head_line_found, send_line_found, take_line_found, fits_offset}
+use Rattle.bus_table.proofs.LineLemmas.{keyword_found, table_found, mode_found, number_line_found, head_line_found, send_line_found, take_line_found, fits_offset}
 
 -- ---- what the lines so far say
 -- the lines at the head
@@ -117,24 +119,11 @@ last_lines f change line P go (x ∷ y ∷ xs) h =
     ap (λ ls. f x ++ ls) (last_lines f change line P go (y ∷ xs) h) ∙ sym (append_assoc (f x) (flat_map f (y ∷ xs)) (line ∷ []))
 
 -- ---- terminals
-pub both : (a b : Bool) → a ≡ true → b ≡ true → (a && b) ≡ true
-both true true h k = refl
-both false b h k = absurd cc
-both true false h k = absurd cc
-
-list_all_push : {A : Type 0} (p : A → Bool) (xs : List A) (x : A) → list_all p xs ≡ true → p x ≡ true → list_all p (xs ++ x ∷ []) ≡ true
-list_all_push p [] x h k = both _ _ k refl
-list_all_push p (y ∷ xs) x h k = let parts = and_parts (p y) _ h in both _ _ parts.0 (list_all_push p xs x parts.1 k)
-
 opened_made : (mode : Mode) (head : Head) (line : SendLine) → is_head head ≡ true → fits_offset mode head.at ≡ true → is_send_line line ≡ true → Made mode (opened head line)
 opened_made mode head line h fits k =
     let number = and_parts (is_number head.number) _ h in
     let gap = and_parts (is_tg head.tg) _ number.1 in
-    record { range = both _ _ number.0 (both _ _ gap.0 (both _ _ gap.1 (both _ _ (both _ _ refl (both _ _ k refl)) refl))); offset = fits }
-
-count_push : {X : Type 0} (xs : List X) (x : X) → length (xs ++ x ∷ []) ≡ length xs + 1
-count_push [] x = refl
-count_push (y ∷ xs) x = omega (arith, count_push xs x)
+    record { range = and_from _ _ number.0 (and_from _ _ gap.0 (and_from _ _ gap.1 (and_from _ _ (and_from _ _ refl (and_from _ _ k refl)) refl))); offset = fits }
 
 more_room : (n m : ℕ) → is_in_range 1 31 n ≡ true → n < 31 → m ≡ n + 1 → is_in_range 1 31 m ≡ true
 more_room n m h k e = grind (arith, nat_tests)
@@ -159,12 +148,12 @@ ranges_of sender h =
     record { number = number.0; gap = gap.0; offset = offset.0; sends = lines.0; takes = lines.1 }
 
 in_ranges : (sender : Sender) → InRange sender → is_sender sender ≡ true
-in_ranges sender h = both _ _ h.number (both _ _ h.gap (both _ _ h.offset (both _ _ h.sends h.takes)))
+in_ranges sender h = and_from _ _ h.number (and_from _ _ h.gap (and_from _ _ h.offset (and_from _ _ h.sends h.takes)))
 
 more_take_lines : (takes : List TakeLine) (line : TakeLine) → are_take_lines takes ≡ true → length takes < 64 → is_take_line line ≡ true → are_take_lines (takes ++ line ∷ []) ≡ true
 more_take_lines takes line h room k =
     let parts = and_parts (nat_le (length takes) 64) _ h in
-    both _ _ (more_takes (length takes) _ room (count_push takes line)) (list_all_push is_take_line takes line parts.1 k)
+    and_from _ _ (more_takes (length takes) _ room (length_push takes line)) (list_all_push is_take_line takes line parts.1 k)
 
 send_made : (mode : Mode) (line : SendLine) → is_send_line line ≡ true → (sender : Sender) → Made mode sender → length sender.sends < 31 → Made mode (with_send line sender)
 send_made mode line k sender made room =
@@ -175,7 +164,7 @@ send_made mode line k sender made room =
         number = r.number;
         gap = r.gap;
         offset = r.offset;
-        sends = both _ _ (more_room _ _ sends.0 room (count_push sender.sends line)) (list_all_push is_send_line sender.sends line sends.1 k);
+        sends = and_from _ _ (more_room _ _ sends.0 room (length_push sender.sends line)) (list_all_push is_send_line sender.sends line sends.1 k);
         takes = r.takes;
       });
       offset = made.offset;
@@ -192,7 +181,7 @@ take_made mode line k sender made room =
 heard_made : (line : TakeLine) → is_take_line line ≡ true → (listener : Listener) → is_listener listener ≡ true → length listener.takes < 64 → is_listener (with_heard line listener) ≡ true
 heard_made line k listener h room =
     let parts = and_parts (is_number listener.number) _ h in
-    both _ _ parts.0 (more_take_lines listener.takes line parts.1 room k)
+    and_from _ _ parts.0 (more_take_lines listener.takes line parts.1 room k)
 
 map_push : {X : Type 0} (f : X → Line) (xs : List X) (x : X) → map f (xs ++ x ∷ []) ≡ map f xs ++ f x ∷ []
 map_push f [] x = refl
@@ -416,7 +405,7 @@ listener_adds_to stage mode ti sg senders listeners fields new kept in_ti in_sg 
       carries = λ entries are. are;
       kept = record {
         made = kept.made;
-        heard = all_push (λ (l : Listener). is_listener l ≡ true) listeners (hearing r.0) kept.heard (both _ _ found.1 refl);
+        heard = all_push (λ (l : Listener). is_listener l ≡ true) listeners (hearing r.0) kept.heard (and_from _ _ found.1 refl);
         stands = (in_ti, in_sg, push_last Any listeners (hearing r.0) tt);
       };
     })

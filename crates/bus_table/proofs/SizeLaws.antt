@@ -5,7 +5,7 @@ use Rattle.std.specs.Fmt.{decimal}
 use Rattle.std.specs.Int.{is_in_range}
 use Rattle.std.specs.List.{list_all, flat_map, join_with_byte, AllByRecursion}
 use Rattle.std.specs.Option.{option_map_or}
-use Rattle.std.proofs.lemmas.Bool.{and_parts}
+use Rattle.std.proofs.lemmas.Bool.{and_parts, leb-true}
 use Rattle.std.proofs.lemmas.Bool.Decides.{nat_tests}
 use Rattle.std.proofs.lemmas.Fmt.{length-decimal-le}
 use Rattle.std.proofs.lemmas.List.Concat.{flat_map-append}
@@ -14,11 +14,12 @@ use Rattle.bus_strings.proofs.ListLaws.{flat_map-map}
 use Rattle.bus_table.specs.declared.mode.Mode.{Mode}
 use Rattle.bus_table.specs.declared.mode.Mode.TheVariants.{Aperiodic, Periodic}
 use Rattle.bus_table.specs.Canonical.{ext_field, line_fields, table_text}
-use Rattle.bus_table.specs.Ranges.{is_number, is_ti, is_sg, is_tg, is_offset, is_label, is_ext, is_send_line, is_take_line, are_send_lines, are_take_lines, is_sender, is_listener}
+use Rattle.bus_table.specs.Ranges.{is_number, is_tg, is_offset, is_label, is_ext, is_send_line, is_take_line, are_send_lines, are_take_lines, is_sender, is_listener}
 use Rattle.bus_table.specs.Tables.{SendLine, TakeLine, Sender, Listener, Table}
 use Rattle.bus_table.specs.Text.{Line, TableLine, ModeLine, TiLine, SgLine, SenderLine, Sends, Takes, ListenerLine, sender_lines, listener_lines, lines_of}
-use Rattle.bus_table.specs.Valid.{is_valid, is_in_range as table_in_range}
+use Rattle.bus_table.specs.Valid.{is_valid}
 use Rattle.bus_table.proofs.TerminalLaws.{few_terminals}
+use Rattle.bus_table.proofs.PartLaws.{parts_of}
 
 -- ---- a line
 -- fields of at most 20 bytes each, and no more than seven
@@ -44,9 +45,6 @@ number_short n h = (let e = length-decimal-le 20 n (lit< tt) (omega (arith, h)) 
 in_range : (lo hi n : ℕ) → is_in_range lo hi n ≡ true → n ≤ hi
 in_range lo hi n h = grind (arith, nat_tests)
 
-below_of : (n m : ℕ) → nat_le n m ≡ true → n ≤ m
-below_of n m h = grind (arith, nat_tests)
-
 number_line : (keyword : List ℕ) (n : ℕ) → length keyword < 21 → n < 2 ^ 64 → IsSmall (keyword ∷ decimal n ∷ [])
 number_line keyword n k h = record { short = (k, (number_short n h, tt)); few = omega arith }
 
@@ -54,8 +52,8 @@ send_small : (mode : Mode) (line : SendLine) → is_send_line line ≡ true → 
 send_small mode line h =
     let ext = and_parts (is_ext line.ext) _ (and_parts (is_label line.label) _ h).1 in
     let counts = and_parts (nat_le line.least line.most) _ ext.1 in
-    let least = below_of line.least line.most counts.0 in
-    let most = below_of line.most 256 counts.1 in
+    let least = leb-true line.least line.most counts.0 in
+    let most = leb-true line.most 256 counts.1 in
     record {
       short = (lit< tt, (lit< tt, (lit< tt, (number_short line.least (omega (arith, least, most)), (number_short line.most (omega (arith, most)), tt)))));
       few = omega arith;
@@ -107,7 +105,7 @@ lines_length mode p of (x ∷ xs) each h =
 takes_length : (mode : Mode) (takes : List TakeLine) → are_take_lines takes ≡ true → length (flat_map (bytes mode) (map Takes takes)) ≤ 148 * 64
 takes_length mode takes h =
     let parts = and_parts (nat_le (length takes) 64) _ h in
-    let few = below_of (length takes) 64 parts.0 in
+    let few = leb-true (length takes) 64 parts.0 in
     let all = lines_length mode is_take_line Takes takes (take_small mode) parts.1 in
     omega (arith, few, all)
 
@@ -187,20 +185,16 @@ head_length mode m ti sg h k =
 pub text_length : (table : Table) → IsTrue (is_valid table) → length (table_text table) ≤ 8388608
 text_length table valid =
     let mode = table.mode in
-    let parts = and_parts (table_in_range table) _ valid in
-    let ti = and_parts (is_ti table.ti) _ parts.0 in
-    let sg = and_parts (is_sg table.sg) _ ti.1 in
-    let senders = and_parts (list_all is_sender table.senders) _ sg.1 in
-    let listeners = and_parts (list_all is_listener table.listeners) _ senders.1 in
+    let p = parts_of table valid in
     let few = few_terminals table valid in
-    let t = in_range 1000 128000 table.ti ti.0 in
-    let g = in_range 9 1024 table.sg sg.0 in
+    let t = in_range 1000 128000 table.ti p.ti in
+    let g = in_range 9 1024 table.sg p.sg in
     let head : List Line = TableLine ∷ ModeLine mode ∷ TiLine table.ti ∷ SgLine table.sg ∷ [] in
     let blocks : List Line = flat_map sender_lines table.senders in
     let others : List Line = flat_map listener_lines table.listeners in
     let a = head_length mode mode table.ti table.sg (omega (arith, t)) (omega (arith, g)) in
-    let b = blocks_length mode (148 * 96) is_sender sender_lines table.senders (sender_length mode) senders.0 in
-    let c = blocks_length mode (148 * 65) is_listener listener_lines table.listeners (listener_length mode) listeners.0 in
+    let b = blocks_length mode (148 * 96) is_sender sender_lines table.senders (sender_length mode) p.senders in
+    let c = blocks_length mode (148 * 65) is_listener listener_lines table.listeners (listener_length mode) p.listeners in
     let whole : length (table_text table) ≡ length (flat_map (bytes mode) (head ++ blocks ++ others)) =
     ap length (flat_map-map spelled_line (line_fields mode) (lines_of table)) in
     omega (

@@ -3,10 +3,12 @@ use Rattle.std.proofs.Common.{◌≡◌, ℕ, Bool, true, false, cond, List, [],
 use Rattle.std.specs.Prelude.{IfOk}
 use Rattle.std.specs.List.{list_all, AllByRecursion}
 use Rattle.std.proofs.lemmas.List.{append-nil}
+use Rattle.std.proofs.lemmas.Bool.{and_from}
 use Rattle.bus_text.specs.declared.reason.Reason.{Reason}
 use Rattle.bus_text.specs.declared.reason.Reason.TheVariants as reasons
 use Rattle.bus_text.specs.Lines.{Entry, entries_of, line_after_of}
 use Rattle.bus_text.specs.Refusals.{Refusal, at_line}
+use Rattle.bus_text.proofs.AllOfLaws.{bind_ok}
 use Rattle.bus_table.specs.declared.mode.Mode.{Mode}
 use Rattle.bus_table.specs.declared.mode.Mode.TheVariants.{Aperiodic, Periodic}
 use Rattle.bus_table.specs.declared.stage.Stage.{Stage}
@@ -21,8 +23,7 @@ use Rattle.bus_table.specs.Tables.{Sender, Listener, Table}
 use Rattle.bus_table.specs.Text.{Line, lines_of, IsLine, AreLines, IsTableText}
 use Rattle.bus_table.specs.Valid.{fits_mode, is_in_range}
 use Rattle.bus_table.specs.Whole.{whole_refusal}
-use Rattle.bus_table.proofs.LineLemmas.{bind_ok}
-use Rattle.bus_table.proofs.ReadingLemmas.{Kept, Made, draft_lines, line_adds, both}
+use Rattle.bus_table.proofs.ReadingLemmas.{Kept, Made, draft_lines, line_adds}
 
 line_ok : {A : Type 0} (line : ℕ) (r : Result A Reason) (x : A) → at_line line r ≡ Ok x → r ≡ Ok x
 line_ok line (Ok y) x h = ap Ok cc
@@ -47,20 +48,20 @@ steps_found (entry ∷ entries) before old new kept lines h =
 
 senders_range : (mode : Mode) (senders : List Sender) → AllByRecursion (Made mode) senders → list_all is_sender senders ≡ true
 senders_range mode [] h = refl
-senders_range mode (s ∷ senders) h = both _ _ h.0.range (senders_range mode senders h.1)
+senders_range mode (s ∷ senders) h = and_from _ _ h.0.range (senders_range mode senders h.1)
 
 listeners_range : (listeners : List Listener) → AllByRecursion (λ l. is_listener l ≡ true) listeners → list_all is_listener listeners ≡ true
 listeners_range [] h = refl
-listeners_range (l ∷ listeners) h = both _ _ h.0 (listeners_range listeners h.1)
+listeners_range (l ∷ listeners) h = and_from _ _ h.0 (listeners_range listeners h.1)
 
 mode_fits : (mode : Mode) (senders : List Sender) → AllByRecursion (Made mode) senders → fits_mode mode senders ≡ true
 mode_fits Aperiodic [] h = refl
-mode_fits Aperiodic (s ∷ senders) h = both _ _ h.0.offset (mode_fits Aperiodic senders h.1)
+mode_fits Aperiodic (s ∷ senders) h = and_from _ _ h.0.offset (mode_fits Aperiodic senders h.1)
 mode_fits Periodic senders h = refl
 
 table_range : (draft : Draft) → is_ti draft.ti ≡ true → is_sg draft.sg ≡ true → Kept draft → is_in_range (table_of draft) ≡ true
 table_range draft t s kept =
-    both _ _ t (both _ _ s (both _ _ (senders_range draft.mode draft.senders kept.made) (both _ _ (listeners_range draft.listeners kept.heard) (mode_fits draft.mode draft.senders kept.made))))
+    and_from _ _ t (and_from _ _ s (and_from _ _ (senders_range draft.mode draft.senders kept.made) (and_from _ _ (listeners_range draft.listeners kept.heard) (mode_fits draft.mode draft.senders kept.made))))
 
 -- the table of a draft that may end
 pub record Whole (draft : Draft) (entries : List Entry) : Type 0 where
@@ -104,7 +105,7 @@ judged_ok : (raw table : Table) (whole : Option WholeReason) → unless_whole wh
 judged_ok raw table None h = cc
 judged_ok raw table (Some reason) h = absurd cc
 
-answered_ok : (reading : Result Table Refusal) (table : Table) → answered reading ≡ Ok table → reading ≡ Ok table
+pub answered_ok : (reading : Result Table Refusal) (table : Table) → answered reading ≡ Ok table → reading ≡ Ok table
 answered_ok (Ok raw) table h = ap Ok (judged_ok raw table (whole_refusal raw) h)
 answered_ok (Err refusal) table h = absurd cc
 

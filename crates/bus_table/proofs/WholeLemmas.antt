@@ -1,19 +1,13 @@
 -- The first of some that is the same as an earlier one.
-use Rattle.std.proofs.Common.{◌≡◌, ℕ, zero, suc, ◌+◌, ◌<◌, ◌≤◌, Bool, true, false, ◌||◌, ◌==◌, cond, List, [], ◌∷◌, ◌++◌, length, map, get_or, take, drop, Option, Some, None, refl, sym, ap, ◌∙◌, add-one, drop-cons, append_assoc}
-use Rattle.std.proofs.Math.Seq.{take-suc}
+use Rattle.std.proofs.Common.{◌≡◌, ℕ, zero, suc, ◌+◌, ◌<◌, ◌≤◌, Bool, true, false, ◌||◌, ◌==◌, cond, List, [], ◌∷◌, ◌++◌, length, map, get_or, take, drop, Option, Some, None, refl, sym, ap, ◌∙◌, append_assoc}
 use Rattle.std.proofs.lemmas.List.{append-nil, drop_all, take-map, length-map}
 use Rattle.std.proofs.lemmas.List.Folds.{list_any-append}
 use Rattle.std.proofs.lemmas.Grind.{flat_map-append}
 use Rattle.std.specs.List.{list_any, flat_map}
 use Rattle.std.specs.Option.{option_or}
+use Rattle.bus_strings.proofs.ListLaws.{drop_read, take_read}
 use Rattle.bus_table.specs.Tables.{SendLine, Sender, Listener}
 use Rattle.bus_table.specs.Whole.{first_again, sender_numbers, listener_numbers, same_pair, send_lines}
-
-pub drop_at : {A : Type 0} (xs : List A) (k : ℕ) (x : A) → k < length xs → x ≡ get_or xs k x → drop k xs ≡ x ∷ drop (k + 1) xs
-drop_at xs k x h e = drop-cons xs k x h ∙ ap (λ y. y ∷ drop (suc k) xs) (sym e) ∙ ap (λ n. x ∷ drop n xs) (sym (add-one k))
-
-pub take_at : {A : Type 0} (xs : List A) (k : ℕ) (x : A) → k < length xs → x ≡ get_or xs k x → take (k + 1) xs ≡ take k xs ++ x ∷ []
-take_at xs k x h e = ap (λ n. take n xs) (add-one k) ∙ take-suc xs k x h ∙ ap (λ y. take k xs ++ y ∷ []) (sym e)
 
 first_step : {A : Type 0} (same : A → A → Bool) (earlier : List A) (x : A) (xs : List A) (t : Bool) → list_any (λ y. same y x) earlier ≡ t → first_again same earlier (x ∷ xs) ≡ cond t (Some x) (first_again same (earlier ++ x ∷ []) xs)
 first_step same earlier x xs t h = ap (λ b. cond b (Some x) (first_again same (earlier ++ x ∷ []) xs)) h
@@ -22,9 +16,9 @@ first_step same earlier x xs t h = ap (λ b. cond b (Some x) (first_again same (
 pub goes_on : {A : Type 0} (same : A → A → Bool) (before xs : List A) (k : ℕ) (x : A) (total : Option A) → k < length xs → x ≡ get_or xs k x → list_any (λ y. same y x) (before ++ take k xs) ≡ false
     → first_again same (before ++ take k xs) (drop k xs) ≡ total → first_again same (before ++ take (k + 1) xs) (drop (k + 1) xs) ≡ total
 goes_on same before xs k x total h e none so_far =
-    ap (λ ys. first_again same ys (drop (k + 1) xs)) (ap (λ ys. before ++ ys) (take_at xs k x h e) ∙ sym (append_assoc before (take k xs) (x ∷ [])))
+    ap (λ ys. first_again same ys (drop (k + 1) xs)) (ap (λ ys. before ++ ys) (take_read xs k x h e) ∙ sym (append_assoc before (take k xs) (x ∷ [])))
     ∙ sym (first_step same (before ++ take k xs) x (drop (k + 1) xs) false none)
-    ∙ sym (ap (first_again same (before ++ take k xs)) (drop_at xs k x h e))
+    ∙ sym (ap (first_again same (before ++ take k xs)) (drop_read xs k x h e))
     ∙ so_far
 
 -- it is
@@ -32,7 +26,7 @@ pub stops : {A : Type 0} (same : A → A → Bool) (before xs : List A) (k : ℕ
     → first_again same (before ++ take k xs) (drop k xs) ≡ total → Some x ≡ total
 stops same before xs k x total h e some so_far =
     sym (first_step same (before ++ take k xs) x (drop (k + 1) xs) true some)
-    ∙ sym (ap (first_again same (before ++ take k xs)) (drop_at xs k x h e))
+    ∙ sym (ap (first_again same (before ++ take k xs)) (drop_read xs k x h e))
     ∙ so_far
 
 -- nothing is left
@@ -88,12 +82,12 @@ taken_numbers before listeners k number = ap (λ ns. list_any (λ n. n == number
 -- ---- sender by sender
 pub one_more : (senders : List Sender) (k : ℕ) (x : Sender) → k < length senders → x ≡ get_or senders k x → send_lines (take (k + 1) senders) ≡ send_lines (take k senders) ++ x.sends
 one_more senders k x h e =
-    ap send_lines (take_at senders k x h e) ∙ flat_map-append (λ s. s.sends) (take k senders) (x ∷ []) ∙ ap (λ ls. send_lines (take k senders) ++ ls) (append-nil x.sends)
+    ap send_lines (take_read senders k x h e) ∙ flat_map-append (λ s. s.sends) (take k senders) (x ∷ []) ∙ ap (λ ls. send_lines (take k senders) ++ ls) (append-nil x.sends)
 
 sender_split : (senders : List Sender) (k : ℕ) (x : Sender) → k < length senders → x ≡ get_or senders k x
     → first_again same_pair (send_lines (take k senders)) (send_lines (drop k senders)) ≡ option_or (first_again same_pair (send_lines (take k senders)) x.sends) (first_again same_pair (send_lines (take (k + 1) senders)) (send_lines (drop (k + 1) senders)))
 sender_split senders k x h e =
-    ap (λ ss. first_again same_pair (send_lines (take k senders)) (send_lines ss)) (drop_at senders k x h e)
+    ap (λ ss. first_again same_pair (send_lines (take k senders)) (send_lines ss)) (drop_read senders k x h e)
     ∙ first_again-append same_pair (send_lines (take k senders)) x.sends (send_lines (drop (k + 1) senders))
     ∙ ap (λ ls. option_or (first_again same_pair (send_lines (take k senders)) x.sends) (first_again same_pair ls (send_lines (drop (k + 1) senders)))) (sym (one_more senders k x h e))
 

@@ -49,7 +49,7 @@ one_stretch m d n k a b =
     omega arith
 
 -- a message with bit times has a wordstring
-some_of_bits : (m : Message) (d : ℕ) → d < bits m → 0 < length m
+pub some_of_bits : (m : Message) (d : ℕ) → d < bits m → 0 < length m
 some_of_bits [] d h = absurd (let z : bits [] ≡ 0 = refl in omega arith)
 some_of_bits (s ∷ m) d h = omega arith
 

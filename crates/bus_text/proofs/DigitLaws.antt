@@ -21,9 +21,9 @@ digit_is_hex d h = grind (arith, nat_tests)
 digit_is_byte : (d : ℕ) → d < 16 → IsFieldByte (hex_digit d)
 digit_is_byte d h = record { no_blank = grind (arith, nat_tests); no_feed = grind (arith, nat_tests) }
 
-all_push : {X : Type 0} (p : X → Bool) (xs : List X) (x : X) → list_all p xs ≡ true → p x ≡ true → list_all p (xs ++ x ∷ []) ≡ true
-all_push p [] x h k = ap (λ b. b && true) k
-all_push p (y ∷ ys) x h k = grind (arith, all_push p ys x)
+pub list_all_push : {X : Type 0} (p : X → Bool) (xs : List X) (x : X) → list_all p xs ≡ true → p x ≡ true → list_all p (xs ++ x ∷ []) ≡ true
+list_all_push p [] x h k = ap (λ b. b && true) k
+list_all_push p (y ∷ ys) x h k = grind (arith, list_all_push p ys x)
 
 bytes_push : (xs : List ℕ) (x : ℕ) → AllByRecursion IsFieldByte xs → IsFieldByte x → AllByRecursion IsFieldByte (xs ++ x ∷ [])
 bytes_push [] x h k = (k, tt)
@@ -40,7 +40,7 @@ length-hexadecimal (suc count) n =
 all_hexadecimal : (count n : ℕ) → list_all is_ascii_hexdigit (hexadecimal count n) ≡ true
 all_hexadecimal zero n = refl
 all_hexadecimal (suc count) n =
-    all_push is_ascii_hexdigit (hexadecimal count (n / 16)) (hex_digit (n % 16)) (all_hexadecimal count (n / 16))
+    list_all_push is_ascii_hexdigit (hexadecimal count (n / 16)) (hex_digit (n % 16)) (all_hexadecimal count (n / 16))
     (digit_is_hex (n % 16) (low n))
 
 value_is : (count n : ℕ) → n < 16 ^ count → digits_value 16 (hexadecimal count n) ≡ n

@@ -5,6 +5,8 @@ use Rattle.std.proofs.lemmas.Bool.{ne_eqb, and_parts}
 use Rattle.std.proofs.lemmas.Bool.Decides.{nat_tests}
 use Rattle.std.proofs.lemmas.List.{take_all}
 use Rattle.std.specs.Char.{is_ascii_hexdigit}
+use Rattle.std.proofs.lemmas.Slice.Eq.{bytes_eq-Decides}
+use Rattle.std.specs.Str.{bytes_eq}
 use Rattle.bus_text.specs.Numbers.{IsHexadecimal}
 use Rattle.bus_text.specs.Lines.{is_blank, fields_of}
 
@@ -75,3 +77,7 @@ four_front (a ∷ b ∷ c ∷ d ∷ e ∷ rest) n h blank hex =
       by (suc (suc zero)) i ha hb hc hd = digit_no_blank c hc
       by (suc (suc (suc zero))) i ha hb hc hd = digit_no_blank d hd
       by (suc (suc (suc (suc k)))) i ha hb hc hd = absurd (omega arith)
+
+-- a field that a test takes for a word is that word
+pub same_bytes : (field word : List ℕ) → bytes_eq field word ≡ true → field ≡ word
+same_bytes field word h = (bytes_eq-Decides field word).0 h

@@ -1,21 +1,14 @@
 -- One digit more, and four, of those in front of a text.
-use Rattle.std.proofs.Common.{arith, ◌≡◌, ℕ, ◌+◌, ◌-◌, ◌*◌, ◌<◌, ◌≤◌, ◌^◌, true, ◌&&◌, List, [], ◌∷◌, ◌++◌, length, take, get_or}
+use Rattle.std.proofs.Common.{arith, ◌≡◌, ℕ, ◌+◌, ◌-◌, ◌*◌, ◌<◌, ◌≤◌, ◌^◌, true, List, [], ◌∷◌, ◌++◌, length, take, get_or}
 use Rattle.std.proofs.Common.{refl, sym, ap, subst, ◌∙◌}
 use Rattle.std.specs.List.{list_all}
 use Rattle.std.specs.Char.{is_ascii_digit, digit_value}
-use Rattle.std.proofs.lemmas.Bool.{and_parts}
 use Rattle.std.proofs.lemmas.Bool.Decides.{nat_tests}
 use Rattle.std.proofs.lemmas.List.{take_more}
 use Rattle.std.proofs.lemmas.Int.Digits.{digits_value_more}
 use Rattle.bus_text.specs.Numbers.{decimal_value}
 use Rattle.bus_text.specs.inside.Leading.{AreDigits}
-
-all_push : (ds : List ℕ) (d : ℕ) → list_all is_ascii_digit ds ≡ true → is_ascii_digit d ≡ true
-    → list_all is_ascii_digit (ds ++ d ∷ []) ≡ true
-all_push [] d h k = ap (λ b. b && true) k
-all_push (x ∷ ds) d h k =
-    let p = and_parts (is_ascii_digit x) (list_all is_ascii_digit ds) h in
-    ap (λ b. b && list_all is_ascii_digit (ds ++ d ∷ [])) p.0 ∙ all_push ds d p.1 k
+use Rattle.bus_text.proofs.DigitLaws.{list_all_push}
 
 digit_is : (d : ℕ) → is_ascii_digit d ≡ true → (48 ≤ d) × (digit_value d ≡ d - 48) × (d - 48 < 10)
 digit_is d h = grind (arith, nat_tests)
@@ -36,7 +29,7 @@ next_digit text count value b d within digits value_is low here k d_is =
     ∙ sym (take_more text count 0 within) in
     record {
       within = omega arith;
-      digits = subst (λ ds. list_all is_ascii_digit ds ≡ true) front (all_push (take count text) b digits k);
+      digits = subst (λ ds. list_all is_ascii_digit ds ≡ true) front (list_all_push is_ascii_digit (take count text) b digits k);
       value = omega (arith, more, value_is, d_is, digit.1, ap digit_value here);
       room = omega (arith, low, d_is, digit.2);
     }

@@ -1,12 +1,12 @@
 -- Laws of numbers in fields.
-use Rattle.std.proofs.Common.{arith, ◌==◌, zero, suc, ◌≡◌, ℕ, ◌<◌, ◌≤◌, ◌^◌, min, nat_le, ◌⊎◌, inl, inr, Bool, true, false, not, ◌&&◌, List}
+use Rattle.std.proofs.Common.{arith, ◌==◌, zero, suc, ◌≡◌, ℕ, ◌<◌, ◌≤◌, ◌^◌, min, nat_le, ◌⊎◌, inl, inr, true, false, not, ◌&&◌, List}
 use Rattle.std.proofs.Common.{[], ◌∷◌, length, get_or, lit<, refl, sym, ap, subst, ◌∙◌}
 use Rattle.std.specs.Char.{is_ascii_digit, is_ascii_hexdigit, digit_value}
 use Rattle.std.specs.Fmt.{decimal}
 use Rattle.std.specs.Int.{is_in_range}
 use Rattle.std.specs.List.{list_all, AllByRecursion}
 use Rattle.std.specs.Str.Parse.{AllDigits, digits_value}
-use Rattle.std.proofs.lemmas.Bool.{and_parts, cases_lt, ne_eqb, eqb-true}
+use Rattle.std.proofs.lemmas.Bool.{and_parts, cases_lt, ne_eqb, eqb-true, lt-leb, and_right}
 use Rattle.std.proofs.lemmas.Bool.Decides.{nat_tests}
 use Rattle.std.proofs.lemmas.Int.Digits.{digits_value-lt}
 use Rattle.std.proofs.lemmas.Fmt.{decimal_is_IsNumeral, decimal_digit, first_decimal}
@@ -15,15 +15,8 @@ use Rattle.bus_text.specs.inside.Spelled.{IsFieldByte, IsField}
 use Rattle.bus_text.specs.Numbers.{is_plain_decimal, is_hexadecimal, hexadecimal_value, IsDecimal}
 
 -- ---- ranges
-above : (hi v : ℕ) → hi < v → nat_le v hi ≡ false
-above hi v h = grind (arith, nat_tests)
-
-and_false : (b : Bool) → (b && false) ≡ false
-and_false true = refl
-and_false false = refl
-
 outside : (lo hi v : ℕ) → hi < v → is_in_range lo hi v ≡ false
-outside lo hi v h = ap (λ b. nat_le lo v && b) (above hi v h) ∙ and_false (nat_le lo v)
+outside lo hi v h = ap (λ b. nat_le lo v && b) (lt-leb v hi h) ∙ and_right (nat_le lo v) false refl
 
 -- a number that stops above a range is in it exactly where the number itself is
 pub is_in_range-min : (lo hi v stop : ℕ) → hi < stop → is_in_range lo hi (min v stop) ≡ is_in_range lo hi v
@@ -36,7 +29,7 @@ is_in_range-min lo hi v stop h = by_order (cases_lt stop v) where
 field_digit : (b : ℕ) → is_ascii_digit b ≡ true → IsFieldByte b
 field_digit b h = record { no_blank = grind (arith, nat_tests); no_feed = grind (arith, nat_tests) }
 
-field_digits : (ds : List ℕ) → list_all is_ascii_digit ds ≡ true → AllByRecursion IsFieldByte ds
+pub field_digits : (ds : List ℕ) → list_all is_ascii_digit ds ≡ true → AllByRecursion IsFieldByte ds
 field_digits [] h = tt
 field_digits (d ∷ ds) h = let p = and_parts (is_ascii_digit d) _ h in (field_digit d p.0, field_digits ds p.1)
 

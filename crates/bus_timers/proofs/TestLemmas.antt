@@ -1,15 +1,11 @@
 -- The test that computes says what the definition says.
 use Rattle.std.proofs.Common.{◌≡◌, ℕ, zero, suc, ◌+◌, ◌-◌, ◌<◌, ◌≤◌, Bool, true, false, not, ◌&&◌, ◌||◌, leb, List, [], ◌∷◌, length, get_or, take, drop, Option, Some, None, inl, inr, arith, sym, refl, ap, ◌∙◌}
 use Rattle.std.specs.List.{list_any, list_all, range_with_len}
-use Rattle.std.proofs.lemmas.Bool.{cases_lt, true≢false, leb-true, le-leb}
+use Rattle.std.proofs.lemmas.Bool.{cases_lt, true≢false, leb-true, le-leb, and_parts}
 use Rattle.std.proofs.lemmas.List.{get_or-take, get_or-drop, length-take, length-drop}
 use Rattle.bus_timers.specs.Timings.{due_place}
 use Rattle.bus_timers.specs.MayStart.{IsQuiet, IsSync}
 use Rattle.bus_timers.specs.MayStartTest.{is_quiet, is_behind, is_sync, TestDecides}
-
-both : (a b : Bool) → (a && b) ≡ true → (a ≡ true) × (b ≡ true)
-both true b h = (refl, h)
-both false b h = absurd (true≢false (sym h))
 
 all_not : (xs : List Bool) → list_all (λ b. not b) xs ≡ true → (k : ℕ) → k < length xs → get_or xs k true ≡ false
 all_not [] h k l = absurd (omega arith)
@@ -33,7 +29,7 @@ quiet_to past i j q = from_not (take (j - i) (drop i past)) (λ k l.
     let b : k < j - i = omega (arith, length-take (j - i) (drop i past)) in
     get_or-take (j - i) (drop i past) k true b ∙ get_or-drop i past k true ∙ q (i + k) (omega arith) (omega arith))
 
-any_range : (p : ℕ → Bool) (a n e : ℕ) → a ≤ e → e < a + n → p e ≡ true → list_any p (range_with_len a n) ≡ true
+pub any_range : (p : ℕ → Bool) (a n e : ℕ) → a ≤ e → e < a + n → p e ≡ true → list_any p (range_with_len a n) ≡ true
 any_range p a zero e low high h = absurd (omega arith)
 any_range p a (suc n) e low high h =
     elim (cases_lt a e) [
@@ -54,10 +50,10 @@ behind_from last place start h = leb-true start place h
 
 sync_from : (sg : ℕ) (past : List Bool) (last : Option ℕ) (e : ℕ) → e ≤ length past → is_sync sg past last e ≡ true → IsSync sg past last e
 sync_from sg past None e fits h =
-    let a = both (leb sg e && is_quiet past (e - sg) e) true h in let b = both (leb sg e) (is_quiet past (e - sg) e) a.0 in
+    let a = and_parts (leb sg e && is_quiet past (e - sg) e) true h in let b = and_parts (leb sg e) (is_quiet past (e - sg) e) a.0 in
     record { long = leb-true sg e b.0; quiet = quiet_from past (e - sg) e fits b.1; own = tt }
 sync_from sg past (Some start) e fits h =
-    let a = both (leb sg e && is_quiet past (e - sg) e) (leb start (e - sg)) h in let b = both (leb sg e) (is_quiet past (e - sg) e) a.0 in
+    let a = and_parts (leb sg e && is_quiet past (e - sg) e) (leb start (e - sg)) h in let b = and_parts (leb sg e) (is_quiet past (e - sg) e) a.0 in
     record { long = leb-true sg e b.0; quiet = quiet_from past (e - sg) e fits b.1; own = leb-true start (e - sg) a.1 }
 
 sync_to : (sg : ℕ) (past : List Bool) (last : Option ℕ) (e : ℕ) → IsSync sg past last e → is_sync sg past last e ≡ true
@@ -69,9 +65,9 @@ may_start_is timing past last =
     let n : ℕ = length past in
     let p : ℕ → Bool = λ e. is_sync timing.sg past last e in (
       (λ h.
-          let a = both (leb (due_place timing last) (length past) && list_any p (range_with_len 0 (length past + 1 - timing.tg)) && leb timing.tg (length past)) (is_quiet past (length past - timing.tg) (length past)) h in
-          let b = both (leb (due_place timing last) (length past) && list_any p (range_with_len 0 (length past + 1 - timing.tg))) (leb timing.tg (length past)) a.0 in
-          let c = both (leb (due_place timing last) (length past)) (list_any p (range_with_len 0 (length past + 1 - timing.tg))) b.0 in
+          let a = and_parts (leb (due_place timing last) (length past) && list_any p (range_with_len 0 (length past + 1 - timing.tg)) && leb timing.tg (length past)) (is_quiet past (length past - timing.tg) (length past)) h in
+          let b = and_parts (leb (due_place timing last) (length past) && list_any p (range_with_len 0 (length past + 1 - timing.tg))) (leb timing.tg (length past)) a.0 in
+          let c = and_parts (leb (due_place timing last) (length past)) (list_any p (range_with_len 0 (length past + 1 - timing.tg))) b.0 in
           let f = from_range p 0 (length past + 1 - timing.tg) c.1 in
           let below : f.0 < 0 + (length past + 1 - timing.tg) = f.1 in
           record {

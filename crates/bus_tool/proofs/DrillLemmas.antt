@@ -1,9 +1,9 @@
 -- A drill of its steps.
-use Rattle.std.specs.Prelude.{◌≡◌, ℕ, ◌+◌, ◌*◌, ◌<◌, ◌≤◌, Bool, true, false, ◌&&◌, ◌==◌, nat_le, List, [], ◌∷◌, length, map, Result, Ok, Err, IfErr, IsErrAnd}
+use Rattle.std.specs.Prelude.{◌≡◌, ℕ, ◌+◌, ◌*◌, ◌<◌, ◌≤◌, Bool, true, ◌==◌, nat_le, List, [], ◌∷◌, length, map, Result, Ok, Err, IfErr, IsErrAnd}
 use Rattle.std.proofs.Common.{arith, refl, sym, ap, ◌∙◌, subst, zero, suc, ◌-◌}
 use Rattle.std.specs.List.{list_all, range_with_len, AllByRecursion}
 use Rattle.std.proofs.Math.Nat.{mul-le-mul_left, mul-le-mul_right}
-use Rattle.std.proofs.lemmas.Bool.{and_parts, eq-eqb, leb-true}
+use Rattle.std.proofs.lemmas.Bool.{and_parts, eq-eqb, leb-true, and_from}
 use Rattle.std.proofs.lemmas.List.{length-map}
 use Rattle.std.proofs.lemmas.List.FromFn.{length-range_with_len}
 use Rattle.bus_strings.specs.Items.{Item}
@@ -50,18 +50,13 @@ tables_accepted = refl
 cycles_short : list_all (λ k. nat_le (most_cycle (table_of k)) 27828) (range_with_len 2 30) ≡ true
 cycles_short = refl
 
-both : (a b : Bool) → a ≡ true → b ≡ true → (a && b) ≡ true
-both true true h k = refl
-both false b h k = absurd cc
-both true false h k = absurd cc
-
 -- hands of items of which each sender has as many
 counts_are : (items : List Item) (senders : List Sender) (n : ℕ)
     → AllByRecursion (λ sender. length (items_of sender.number items) ≡ n) senders
     → list_all (λ hand. length hand.messages == n) (map (hand_of items) senders) ≡ true
 counts_are items [] n h = refl
 counts_are items (sender ∷ senders) n h =
-    both _ _ (eq-eqb _ n (length-map (items_of sender.number items) (λ (item : Item). message_of sender.sends item.strings) ∙ h.0))
+    and_from _ _ (eq-eqb _ n (length-map (items_of sender.number items) (λ (item : Item). message_of sender.sends item.strings) ∙ h.0))
     (counts_are items senders n h.1)
 
 rounds_are : (items : List Item) (senders : List Sender) (n : ℕ) → 0 < length senders
@@ -80,7 +75,7 @@ drills_are_accepted are_valid fit each give_hands ends number =
     let counts : list_all (λ hand. length hand.messages == rounds (drill_hands number)) (drill_hands number) ≡ true =
     subst (λ n. list_all (λ (hand : Hand). length hand.messages == n) (drill_hands number) ≡ true) (sym turns)
     (counts_are (made_items number) (made_table number).senders (round_count number) (each number)) in
-    let even : are_even (made_table number) (drill_hands number) ≡ true = both _ _ dealt counts in
+    let even : are_even (made_table number) (drill_hands number) ≡ true = and_from _ _ dealt counts in
     let cycle : most_cycle (made_table number) ≤ 27828 = leb-true _ _ (of_count (λ k. nat_le (most_cycle (table_of k)) 27828) number cycles_short) in
     let few : rounds (drill_hands number) ≤ 500 = omega (arith, turns) in
     let end : closed_end (made_table number) (drill_hands number) ≤ rounds (drill_hands number) * most_cycle (made_table number) =

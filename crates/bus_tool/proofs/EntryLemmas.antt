@@ -1,5 +1,5 @@
 -- What is observed of the senders of a table with the items of a messages text is a trace: every number of it lies in its range.
-use Rattle.std.specs.Prelude.{◌≡◌, ℕ, suc, ◌<◌, ◌≤◌, ◌^◌, Bool, true, ◌&&◌, ◌==◌, nat_le, IsTrue, List, [], ◌∷◌, length}
+use Rattle.std.specs.Prelude.{◌≡◌, ℕ, suc, ◌<◌, ◌≤◌, ◌^◌, true, ◌&&◌, ◌==◌, nat_le, IsTrue, List, [], ◌∷◌, length}
 use Rattle.std.specs.List.{list_all, AllByRecursion}
 use Rattle.std.specs.Int.{is_in_range as is_between}
 use Rattle.std.proofs.Common.{arith, refl, sym, ap, ◌∙◌, subst, inl, inr}
@@ -12,17 +12,19 @@ use Rattle.bus_strings.specs.Grammar.{AreWords, AreStrings, IsItemLine, AreItemL
 use Rattle.bus_strings.specs.Items.{Item, is_in_range}
 use Rattle.bus_strings.specs.Limits.{horizon_limit, most_strings, most_words}
 use Rattle.bus_strings.specs.Members.{In}
-use Rattle.bus_strings.proofs.MemberLaws.{of_each, at_in, from_filter, from_map}
+use Rattle.bus_strings.proofs.MemberLaws.{of_each, at_in, from_filter, from_map, all_in, pass_in}
 use Rattle.bus_strings.specs.Messages.{Entry, Message, IsWordstring}
 use Rattle.bus_strings.specs.Transmissions.{IsTransmission}
 use Rattle.bus_table.specs.inside.Facts.{SenderFacts}
-use Rattle.bus_table.specs.Fits.{allows, matches, fits}
+use Rattle.bus_table.specs.Fits.{allows, fits}
 use Rattle.bus_table.specs.Hands.{message_of, items_of, hand_of, hands_of, are_hands}
-use Rattle.bus_table.specs.Ranges.{is_label, is_ext, is_send_line, are_send_lines, is_number, is_tg, is_offset, is_sender}
+use Rattle.bus_table.specs.Ranges.{is_label, is_ext, is_send_line, are_send_lines}
 use Rattle.bus_table.specs.declared.line.SendLine.{SendLine}
 use Rattle.bus_table.specs.Tables.{Sender, Table, Hand}
 use Rattle.bus_table.specs.Valid.{is_valid}
 use Rattle.bus_table.proofs.ValidLaws.{valid_facts}
+use Rattle.bus_table.proofs.FillingLaws.{sends_in_range}
+use Rattle.bus_table.proofs.FitLaws.{same_count}
 use Rattle.bus_medium.specs.Lawful.{Station, IsRuled, IsDue}
 use Rattle.bus_medium.proofs.StationLaws.{HasSender, stations_are_of_senders}
 use Rattle.bus_medium.specs.Timings.{quiet_of, stations_of}
@@ -98,23 +100,6 @@ each_string (line ∷ sends) (string ∷ strings) h short low =
     let few : length string ≤ most_words = grind (arith, nat_tests, counts.0) in
     (record { label = label_low line parts.0; ext = ext_low line parts.0; few = few; words = low.0 }, each_string sends strings parts.1 counts.1 low.1)
 
-matched : (test : SendLine → ℕ → Bool) (sends : List SendLine) (message : Message) → matches test sends message ≡ true → length message ≡ length sends
-matched test [] [] h = refl
-matched test [] (string ∷ message) h = absurd cc
-matched test (line ∷ sends) [] h = absurd cc
-matched test (line ∷ sends) (string ∷ message) h =
-    let label = and_parts (string.label == line.label) _ h in
-    let ext = and_parts (string.ext == line.ext) _ label.1 in
-    ap suc (matched test sends message (and_parts (test line (length string.words)) _ ext.1).1)
-
--- the lines of a sender
-lines_of : (sender : Sender) → is_sender sender ≡ true → are_send_lines sender.sends ≡ true
-lines_of sender h =
-    let number = and_parts (is_number sender.number) _ h in
-    let gap = and_parts (is_tg sender.tg) _ number.1 in
-    let offset = and_parts (is_offset sender.at) _ gap.1 in
-    (and_parts (are_send_lines sender.sends) _ offset.1).0
-
 -- from 1 to 31
 record Counted (sends : List SendLine) : Type 0 where
   least : 1 ≤ length sends
@@ -156,14 +141,9 @@ wordstrings : (table : Table) (items : List Item) (lines : List Line) (message :
 wordstrings table items lines message valid stands made =
     let facts = in_range table valid made.sender made.there in
     let line = item_line items lines made.item stands made.given in
-    let sends = and_parts (is_between 1 most_strings (length made.sender.sends)) _ (lines_of made.sender facts.in_range) in
+    let sends = and_parts (is_between 1 most_strings (length made.sender.sends)) _ (sends_in_range made.sender facts.in_range) in
     subst (AllByRecursion IsWordstring) (sym made.same)
     (each_string made.sender.sends made.item.strings sends.1 (item_short made.item line.1.ranges) (strings_low made.item.strings line.1.words line.1.strings))
-
-message_fits : (s : Sender) (ms : List Message) (m : Message) → list_all (fits s) ms ≡ true → In m ms → fits s m ≡ true
-message_fits s [] m h i = absurd i
-message_fits s (n ∷ ms) m h (inl same) = ap (fits s) same ∙ (and_parts (fits s n) _ h).0
-message_fits s (n ∷ ms) m h (inr i) = message_fits s ms m (and_parts (fits s n) _ h).1 i
 
 is_transmission : (due : List Entry → Station → ℕ → Type 0) (table : Table) (items : List Item) (lines : List Line) (until : ℕ) (list : List Entry) → IsTrue (is_valid table) → IsTrue (are_hands table.senders (hands_of table items)) → AreItemLines items lines
     → IsRuled due (stations_of table (hands_of table items)) until list → (x : Entry) → In x list → IsTransmission x
@@ -172,8 +152,8 @@ is_transmission due table items lines until list valid dealt stands lawful x i =
     let seat : HasSender table (hands_of table items) next.sender = stations_are_of_senders table (hands_of table items) next.sender valid dealt next.there in
     let facts = in_range table valid seat.sender seat.there in
     let there : In x.message seat.is.hand.messages = subst (In x.message) seat.is.messages (at_in next.sender.hand _ x.message next.message) in
-    let count = counted seat.sender.sends (lines_of seat.sender facts.in_range) in
-    let same = matched allows seat.sender.sends x.message (message_fits seat.sender seat.is.hand.messages x.message seat.is.fit there) in
+    let count = counted seat.sender.sends (sends_in_range seat.sender facts.in_range) in
+    let same = same_count allows seat.sender.sends x.message (pass_in (fits seat.sender) seat.is.hand.messages x.message seat.is.fit there) in
     let number : x.terminal ≡ seat.sender.number = sym next.number ∙ seat.is.number in
     record {
       positive = omega (arith, number, facts.number_least);
@@ -185,14 +165,10 @@ is_transmission due table items lines until list valid dealt stands lawful x i =
       };
     }
 
-each : (P : Entry → Type 0) (list : List Entry) → ((x : Entry) → In x list → P x) → AllByRecursion P list
-each P [] h = tt
-each P (x ∷ list) h = (h x (inl refl), each P list (λ y i. h y (inr i)))
-
 -- ---- the recording of what is observed is a trace
 pub all_transmissions : (due : List Entry → Station → ℕ → Type 0) (table : Table) (items : List Item) (lines : List Line) (until : ℕ) (list : List Entry) → IsTrue (is_valid table)
     → IsTrue (are_hands table.senders (hands_of table items)) → AreItemLines items lines → IsRuled due (stations_of table (hands_of table items)) until list → AllByRecursion IsTransmission list
-all_transmissions due table items lines until list valid dealt stands ruled = each IsTransmission list (is_transmission due table items lines until list valid dealt stands ruled)
+all_transmissions due table items lines until list valid dealt stands ruled = all_in IsTransmission list (is_transmission due table items lines until list valid dealt stands ruled)
 
 pub observed_recording : (table : Table) (items : List Item) (text : List ℕ) (until : ℕ) (trace : Recording) → IsTrue (is_valid table) → IsTrue (are_hands table.senders (hands_of table items)) → IsMessagesText items text → length text ≤ text_limit → until ≤ horizon_limit
     → IsObserved table (hands_of table items) until trace → IsTrace trace

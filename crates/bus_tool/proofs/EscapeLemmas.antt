@@ -1,11 +1,11 @@
 -- The words of a verdict stand in a JSON string as they are.
-use Rattle.std.proofs.Common.{arith, ◌≡◌, ◌≢◌, ℕ, suc, ◌<◌, ◌≤◌, ◌^◌, Bool, true, false, ◌&&◌, nat_le, List, [], ◌∷◌, ◌++◌}
+use Rattle.std.proofs.Common.{arith, ◌≡◌, ◌≢◌, ℕ, suc, ◌<◌, ◌≤◌, ◌^◌, true, nat_le, List, [], ◌∷◌, ◌++◌}
 use Rattle.std.proofs.Common.{refl, ap, ◌∙◌, append_assoc}
 use Rattle.std.specs.Prelude.{ℤ, pos, negsuc, decimal}
 use lib.Signed.{mag}
 use Rattle.std.specs.Fmt.{signed_decimal}
 use Rattle.std.specs.Str.Parse.{AllDigits}
-use Rattle.std.proofs.lemmas.Bool.{and_parts, ne_eqb}
+use Rattle.std.proofs.lemmas.Bool.{and_parts, ne_eqb, and_from}
 use Rattle.std.proofs.lemmas.Bool.Decides.{nat_tests}
 use Rattle.std.proofs.lemmas.Fmt.{decimal_is_IsNumeral}
 use Rattle.std.proofs.lemmas.List.Folds.{list_all-append}
@@ -15,11 +15,6 @@ use Rattle.bus_table.specs.declared.mode.Mode.{Mode}
 use Rattle.bus_table.specs.declared.mode.Mode.TheVariants.{Aperiodic, Periodic}
 use Rattle.bus_table.specs.Text.{mode_word}
 use Rattle.bus_tool.specs.inside.Escapes.{is_plain, are_plain}
-
-both : (a b : Bool) → a ≡ true → b ≡ true → (a && b) ≡ true
-both true true h k = refl
-both false b h k = absurd cc
-both true false h k = absurd cc
 
 -- ---- escapes
 letterless : (x : ℕ) → 32 ≤ x → x ≢ 34 → x ≢ 92 → escape_letter x ≡ 0
@@ -45,14 +40,14 @@ stays (x ∷ xs) h =
 
 -- ---- plain texts
 pub plain_append : (xs ys : List ℕ) → are_plain xs ≡ true → are_plain ys ≡ true → are_plain (xs ++ ys) ≡ true
-plain_append xs ys h k = list_all-append is_plain xs ys ∙ both _ _ h k
+plain_append xs ys h k = list_all-append is_plain xs ys ∙ and_from _ _ h k
 
 digit_plain : (d : ℕ) → 48 ≤ d → d ≤ 57 → is_plain d ≡ true
 digit_plain d h k = grind (arith, nat_tests)
 
 digits_plain : (ds : List ℕ) → AllDigits 10 ds → are_plain ds ≡ true
 digits_plain [] h = refl
-digits_plain (d ∷ ds) h = let r = digit_from_value d h.0 in both _ _ (digit_plain d r.0 r.1) (digits_plain ds h.1)
+digits_plain (d ∷ ds) h = let r = digit_from_value d h.0 in and_from _ _ (digit_plain d r.0 r.1) (digits_plain ds h.1)
 
 pub decimal_plain : (n : ℕ) → n < 2 ^ 64 → are_plain (decimal n) ≡ true
 decimal_plain n small = digits_plain (decimal n) (decimal_is_IsNumeral n small).0.1

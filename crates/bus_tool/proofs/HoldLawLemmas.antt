@@ -6,6 +6,7 @@ use Rattle.std.proofs.Common.{inl, inr, arith, refl, sym, ap, ◌∙◌, subst, 
 use Rattle.std.proofs.lemmas.Bool.Decides.{nat_tests}
 use Rattle.bus_strings.specs.Items.{Item}
 use Rattle.bus_strings.specs.Members.{In}
+use Rattle.bus_strings.proofs.MemberLaws.{from_given}
 use Rattle.bus_table.specs.Tables.{Sender, Table, Hand}
 use Rattle.bus_table.specs.Hands.{hand_of, hands_of}
 use Rattle.bus_table.specs.inside.Facts.{SenderFacts, TableFacts}
@@ -23,14 +24,6 @@ in_kept : {X Y : Type 0} (h : X → Option Y) (xs : List X) (x : X) (y : Y) → 
 in_kept h [] x y i e = absurd i
 in_kept h (z ∷ zs) x y (inl same) e = (let f : h z ≡ Some y = ap h (sym same) ∙ e in subst (λ o. In y (cons_option o (filter_map h zs))) (sym f) (inl refl))
 in_kept h (z ∷ zs) x y (inr i) e = elim (h z) as (λ o. In y (cons_option o (filter_map h zs))) [ None ↦ in_kept h zs x y i e | Some w ↦ inr (in_kept h zs x y i e) ]
-
-from_kept : {X Y : Type 0} (h : X → Option Y) (xs : List X) (y : Y) → In y (filter_map h xs) → (x : X) × (h x ≡ Some y)
-from_kept h [] y i = absurd i
-from_kept {X} h (z ∷ zs) y i =
-    elim (h z) as (λ o. h z ≡ o → In y (cons_option o (filter_map h zs)) → (x : X) × (h x ≡ Some y)) [
-      | None ↦ λ e k. from_kept h zs y k
-      | Some w ↦ λ e k. elim k [ inl same ↦ (z, e ∙ ap Some (sym same)) | inr r ↦ from_kept h zs y r ]
-    ] refl i
 
 in_range : (n start count : ℕ) → start ≤ n → n < start + count → In n (range_with_len start count)
 in_range n start zero low high = absurd (omega (arith, low, high))
@@ -79,7 +72,7 @@ each_hold table items facts hand i =
 
 only_holds : (hands : List Hand) (hold : Hold) → In hold (hand_holds hands) → (hand : Hand) × In hand hands × (hold ≡ hold_of_hand hand)
 unfolding hand_holds
-only_holds hands hold i = (let w = from_kept (hand_hold hands) (range_with_len 1 128) hold i in found_in w.0 hands hold w.1)
+only_holds hands hold i = (let w = from_given (hand_hold hands) (range_with_len 1 128) hold i in found_in w.0 hands hold w.1)
 
 pub senders_have_holds : SendersHaveHolds
 senders_have_holds table items valid = record {

@@ -10,8 +10,7 @@ use Rattle.serde_json.specs.Written.{compact_text, items_text, has_float, items_
 use Rattle.json.specs.Print.{escape_byte, escape}
 use Rattle.bus_table.specs.Lengths.{shortest, longest}
 use Rattle.bus_table.specs.Tables.{Sender, Table}
-use Rattle.bus_table.specs.Turns.{turn_key, turn_order}
-use Rattle.bus_table.proofs.TurnLaws.{length-sort}
+use Rattle.bus_table.specs.Turns.{turn_order}
 use Rattle.bus_regime.specs.Lines.{verdict_words}
 use Rattle.bus_table.specs.Text.{mode_word}
 use Rattle.bus_regime.specs.Verdicts.{verdict_of}
@@ -75,9 +74,6 @@ values_next order k sender value old new less at is added before =
 pub values_whole : (order : List Sender) (k : ℕ) (values : List Value) → k ≡ length order
     → map view values ≡ map sender_data (take k order) → map view values ≡ map sender_data order
 values_whole order k values whole h = h ∙ ap (λ n. map sender_data (take n order)) whole ∙ ap (map sender_data) (take_all (length order) order (omega arith))
-
-pub order_length : (table : Table) → length (turn_order table) ≡ length table.senders
-order_length table = length-sort (turn_key table.mode) table.senders
 
 -- ---- the report
 pub no_float : (table : Table) → has_float (report_data table) ≡ false

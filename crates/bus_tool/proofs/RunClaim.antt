@@ -1,8 +1,8 @@
 -- What is claimed of `run`.
-use Rattle.std.specs.Prelude.{◌≡◌, ℕ, ◌≤◌, true, false, Bool, ◌&&◌, ◌==◌, IsTrue, IsOk, IsNone, List, [], ◌∷◌, length, map, codes, Option, Some, None, Ok, Err}
+use Rattle.std.specs.Prelude.{◌≡◌, ℕ, ◌≤◌, true, ◌==◌, IsTrue, IsOk, IsNone, List, [], ◌∷◌, length, map, codes, Option, Some, None, Ok, Err}
 use Rattle.std.specs.List.{list_all, AllByRecursion}
 use Rattle.std.proofs.Common.{arith, refl, sym, ap, ◌∙◌, subst, cond}
-use Rattle.std.proofs.lemmas.Bool.{eq-eqb}
+use Rattle.std.proofs.lemmas.Bool.{eq-eqb, and_from}
 use Rattle.bus_text.specs.AllOf.{◌>>=◌}
 use Rattle.bus_strings.specs.Items.{Item}
 use Rattle.bus_strings.specs.Limits.{horizon_limit}
@@ -30,11 +30,6 @@ use Rattle.bus_tool.proofs.EntryLemmas.{observed_recording}
 use Rattle.bus_tool.proofs.GroupClaims.{ReadLaws, messages_comes}
 use Rattle.bus_tool.proofs.RunLemmas.{can_be_run}
 
-both : (a b : Bool) → a ≡ true → b ≡ true → (a && b) ≡ true
-both true true h k = refl
-both false b h k = absurd cc
-both true false h k = absurd cc
-
 -- ---- as many items are as many messages
 length_map : (f : Item → Message) → (items : List Item) → length (map f items) ≡ length items
 length_map f [] = refl
@@ -45,7 +40,7 @@ count_is items n sender h = length_map (λ item. message_of sender.sends item.st
 
 counts_are : (items : List Item) (n : ℕ) (senders : List Sender) → AllByRecursion (λ sender. length (items_of sender.number items) ≡ n) senders → list_all (λ hand. length hand.messages == n) (map (hand_of items) senders) ≡ true
 counts_are items n [] h = refl
-counts_are items n (s ∷ senders) h = both _ _ (eq-eqb (length (hand_of items s).messages) n (count_is items n s h.0)) (counts_are items n senders h.1)
+counts_are items n (s ∷ senders) h = and_from _ _ (eq-eqb (length (hand_of items s).messages) n (count_is items n s h.0)) (counts_are items n senders h.1)
 
 even_counts : (items : List Item) (n : ℕ) (senders : List Sender) → AllByRecursion (λ sender. length (items_of sender.number items) ≡ n) senders
     → list_all (λ hand. length hand.messages == rounds (map (hand_of items) senders)) (map (hand_of items) senders) ≡ true
@@ -54,7 +49,7 @@ even_counts items n (s ∷ senders) h = ap (λ k. list_all (λ hand. length hand
 
 even_hands : (table : Table) (items : List Item) → IsTrue (are_hands table.senders (hands_of table items)) → AreEvenItems table items → IsTrue (are_even table (hands_of table items))
 even_hands table items dealt even =
-    both (are_hands table.senders (hands_of table items)) (list_all (λ hand. length hand.messages == rounds (hands_of table items)) (hands_of table items)) dealt (even_counts items even.rounds table.senders even.each)
+    and_from (are_hands table.senders (hands_of table items)) (list_all (λ hand. length hand.messages == rounds (hands_of table items)) (hands_of table items)) dealt (even_counts items even.rounds table.senders even.each)
 
 -- ---- what is due
 none_is : (found : Option UnevenHands) → IsNone found → found ≡ None

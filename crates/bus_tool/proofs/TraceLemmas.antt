@@ -1,7 +1,7 @@
 -- What is seen of a bus is a trace.
 use Rattle.std.specs.Prelude.{◌≡◌, ℕ, ◌≤◌, ◌<◌, List, [], ◌∷◌}
 use Rattle.std.specs.List.{AllByRecursion}
-use Rattle.std.proofs.Common.{arith, refl, sym, inl, inr, subst}
+use Rattle.std.proofs.Common.{refl, sym, inl, inr, subst}
 use Rattle.bus_strings.specs.Members.{In}
 use Rattle.bus_strings.specs.Messages.{Entry}
 use Rattle.bus_table.specs.Tables.{Table, Hand}
@@ -11,7 +11,8 @@ use Rattle.bus_trace.specs.declared.hold.Hold.{Hold}
 use Rattle.bus_trace.specs.Traces.{Recording, AscendAbove, IsHold, IsBelow, IsTrace}
 use Rattle.bus_strings.specs.Limits.{horizon_limit}
 use Rattle.bus_wave.specs.Counted.{hand_holds}
-use Rattle.bus_strings.specs.Transmissions.{Precedes, IsByMoment, IsAscending, IsTransmission}
+use Rattle.bus_strings.specs.Transmissions.{IsByMoment, IsAscending, IsTransmission}
+use Rattle.bus_strings.proofs.OverlapLemmas.{behind_by_moment}
 use Rattle.bus_command.proofs.FewHands.{AreFew}
 use Rattle.bus_tool.proofs.HoldLemmas.{holds_ascend, holds_ranged}
 
@@ -34,13 +35,9 @@ observed_is_trace table hands horizon holds list within few same lawful ranged =
 }
 
 -- ---- a trace goes by moment
-no_later : (x : Entry) (list : List Entry) → AllByRecursion (Precedes x) list → AllByRecursion (λ y. x.moment ≤ y.moment) list
-no_later x [] h = tt
-no_later x (y ∷ list) h = (elim h.0 [ inl sooner ↦ omega arith | inr same ↦ omega (arith, same.0) ], no_later x list h.1)
-
 pub by_moment : (list : List Entry) → IsAscending list → IsByMoment list
 by_moment [] h = tt
-by_moment (x ∷ list) h = (no_later x list h.0, by_moment list h.1)
+by_moment (x ∷ list) h = (behind_by_moment x list h.0, by_moment list h.1)
 
 pub trace_by_moment : (t : Recording) → IsTrace t → IsByMoment t.list
 trace_by_moment t h = by_moment t.list h.order

@@ -5,9 +5,9 @@ use Rattle.std.proofs.Common.{append-nil, length-append}
 use Rattle.std.specs.List.{join_with_byte, flat_map, AllByRecursion}
 use Rattle.std.specs.Fmt.{decimal}
 use Rattle.std.specs.Int.{is_in_range}
-use Rattle.std.proofs.lemmas.Bool.Decides.{nat_tests}
 use Rattle.std.proofs.lemmas.List.{length-map}
 use Rattle.std.proofs.lemmas.List.Concat.{flat_map-append}
+use Rattle.std.proofs.lemmas.Bool.{and_from, eq-eqb, lt-ltb}
 use Rattle.bus_text.specs.Numbers.{decimal_value}
 use Rattle.bus_text.proofs.NumberLaws.{decimal_is, decimal_field}
 use Rattle.bus_text.specs.Canonical.{spelled_line, spelled_lines}
@@ -35,11 +35,11 @@ use Rattle.bus_trace.specs.States.{more_list, head_step, horizon_step}
 use Rattle.bus_trace.specs.States.{hold_step, begin_step, string_step, close_step, end_step, fields_step}
 use Rattle.bus_trace.specs.Runs.{Found, begin, run}
 use Rattle.bus_trace.proofs.Lasts.{with_last, count_last, end_push, end_most}
-use Rattle.bus_trace.proofs.Orders.{lt_test, after_front, terminals_rest, last_precedes}
+use Rattle.bus_trace.proofs.Orders.{after_front, terminals_rest, last_precedes}
 use Rattle.bus_trace.proofs.Told.{lines_whole}
 use Rattle.bus_trace.proofs.Marks.{mark_again, turned, started_last, started_next, hit_push}
 use Rattle.bus_trace.proofs.WordLists.{string_again, length-word}
-use Rattle.bus_trace.proofs.AgainLines.{FitsLine, line_again, Leads, leads_run, leads_append, leads_one, pass, let_by, stand, both}
+use Rattle.bus_trace.proofs.AgainLines.{FitsLine, line_again, Leads, leads_run, leads_append, leads_one, pass, let_by, stand}
 use Rattle.bus_trace.proofs.AgainLines.{within, digits}
 
 -- ---- each form
@@ -111,10 +111,10 @@ hold_again g h hs hold f l =
         digits hold.count 4294967295 10 (omega arith) f.count (omega arith) (omega arith),
       );
     })
-    (pass _ _ _ _ _ (both _ _ t.plain c.plain)
-    (pass _ _ _ _ _ (both _ _ (ap (is_in_range 1 128) t.value ∙ within hold.terminal 1 128 f.positive f.low)
+    (pass _ _ _ _ _ (and_from _ _ t.plain c.plain)
+    (pass _ _ _ _ _ (and_from _ _ (ap (is_in_range 1 128) t.value ∙ within hold.terminal 1 128 f.positive f.low)
     (ap (is_in_range 0 4294967295) c.value ∙ within hold.count 0 4294967295 (omega arith) f.count))
-    (pass _ _ _ _ _ (ap (nat_lt (last_terminal hs)) t.value ∙ lt_test (last_terminal hs) hold.terminal l)
+    (pass _ _ _ _ _ (ap (nat_lt (last_terminal hs)) t.value ∙ lt-ltb (last_terminal hs) hold.terminal l)
     (ap (λ x. Ok (holding g h (hs ++ record { terminal = x; count = decimal_value (decimal hold.count) } ∷ []))) t.value
     ∙ ap (λ x. Ok (holding g h (hs ++ record { terminal = hold.terminal; count = x } ∷ []))) c.value))))
     refl
@@ -152,8 +152,8 @@ begin_again p g mark h hs xs m n k may below positive low after fine =
       );
     })
     (stand _ _ _ _ may
-    (pass _ _ _ _ _ (both _ _ t.plain c.plain)
-    (pass _ _ _ _ _ (both _ _ (ap (λ x. nat_lt x h) t.value ∙ lt_test m h below)
+    (pass _ _ _ _ _ (and_from _ _ t.plain c.plain)
+    (pass _ _ _ _ _ (and_from _ _ (ap (λ x. nat_lt x h) t.value ∙ lt-ltb m h below)
     (ap (is_in_range 1 128) c.value ∙ within n 1 128 positive low))
     (pass _ _ _ _ _ (ap (λ x. is_after xs x (decimal_value (decimal n))) t.value ∙ ap (λ x. is_after xs m x) c.value ∙ after)
     (let_by _ _ _ _ _ (ap (λ x. is_closed p && turns_wrong mark (is_hit xs) (nat_lt x (last_end xs))) t.value ∙ fine)
@@ -168,9 +168,6 @@ mark_fits false = constant_field (codes "-") (omega arith) refl
 mark_long : (mark : Bool) → length (mark_text mark) ≡ 1
 mark_long true = refl
 mark_long false = refl
-
-same_test : (n m : ℕ) → n ≡ m → (n == m) ≡ true
-same_test n m h = grind (arith, nat_tests)
 
 pub close_by_end : (p : Position) (g : Format) (mark old : Bool) (h : ℕ) (hs : List Hold) (xs : List Entry) (end : ℕ)
     → may_follow p g (last_count xs) Te ≡ true → end ≡ last_end xs → end < 2 ^ 41 → starts_wrong mark (is_hit xs) (is_final h xs) ≡ false
@@ -191,8 +188,8 @@ close_by_end p g mark old h hs xs end may e room fine =
       );
     })
     (stand _ _ _ _ may
-    (pass _ _ _ _ _ (both _ _ t.plain m.0)
-    (pass _ _ _ _ _ (ap (λ x. x == last_end xs) t.value ∙ same_test end (last_end xs) e)
+    (pass _ _ _ _ _ (and_from _ _ t.plain m.0)
+    (pass _ _ _ _ _ (ap (λ x. x == last_end xs) t.value ∙ eq-eqb end (last_end xs) e)
     (let_by _ _ _ _ _ (ap (λ b. starts_wrong b (is_hit xs) (is_final h xs)) m.1 ∙ fine)
     (ap (λ b. Ok (at_position Closed g b h hs xs)) m.1)))))
     refl
@@ -245,7 +242,7 @@ strings_again g mark h hs xs m n done (w ∷ left) few f =
     let last : List Entry = xs ++ record { moment = m; terminal = n; message = done ++ w ∷ left } ∷ [] in
     let one = subst (λ (ys : List Entry). Leads (at_position Stringing g mark h hs now) (string_line w ∷ [])
     (at_position Stringing g mark h hs ys)) (with_last w xs m n done)
-    (string_line_again Stringing g mark h hs now w (lt_test (last_count now) 31 (omega (arith, count_last xs m n done, few))) f.0) in
+    (string_line_again Stringing g mark h hs now w (lt-ltb (last_count now) 31 (omega (arith, count_last xs m n done, few))) f.0) in
     let others = subst (λ (ws : List Wordstring). Leads (at_position Stringing g mark h hs next) (map string_line left)
     (at_position Stringing g mark h hs (xs ++ record { moment = m; terminal = n; message = ws } ∷ [])))
     (append_assoc done (w ∷ []) left) (strings_again g mark h hs xs m n (done ++ w ∷ []) left

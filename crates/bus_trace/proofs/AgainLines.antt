@@ -1,5 +1,5 @@
 -- Lines that are spelled, one after another.
-use Rattle.std.proofs.Common.{arith, ◌≡◌, ℕ, ◌<◌, ◌≤◌, ◌^◌, Bool, true, false, not, cond, ◌&&◌, List, [], ◌∷◌, ◌++◌}
+use Rattle.std.proofs.Common.{arith, ◌≡◌, ℕ, ◌<◌, ◌≤◌, ◌^◌, Bool, true, false, not, cond, List, [], ◌∷◌, ◌++◌}
 use Rattle.std.proofs.Common.{length, Option, Some, Result, Ok, refl, sym, ap, subst, ◌∙◌, append_assoc}
 use Rattle.std.specs.List.{join_with_byte, AllByRecursion}
 use Rattle.std.specs.Fmt.{decimal}
@@ -12,13 +12,14 @@ use Rattle.bus_text.specs.Lines.{is_blank}
 use Rattle.bus_text.specs.Canonical.{spelled_line, spelled_lines}
 use Rattle.bus_text.specs.inside.Spelled.{IsField, IsFieldByte}
 use Rattle.bus_text.specs.Refusals.{unless}
+use Rattle.bus_text.proofs.CanonicalLaws.{feedless_line}
 use Rattle.bus_trace.specs.declared.reason.TraceReason.{TraceReason}
 use Rattle.bus_trace.specs.Limits.{line_limit}
 use Rattle.bus_trace.specs.Traces.{Line}
 use Rattle.bus_trace.specs.States.{State}
 use Rattle.bus_trace.specs.States.{is_space, spaced_fields, is_ended}
 use Rattle.bus_trace.specs.States.{fields_step, step}
-use Rattle.bus_trace.specs.Runs.{Going, Found, judged, run, ◌>>-◌, HasNoFeed}
+use Rattle.bus_trace.specs.Runs.{Going, Found, judged, run, ◌>>-◌}
 use Rattle.bus_trace.proofs.Runs.{run-append, run-whole_line}
 
 -- ---- fields of a line that joins fields
@@ -28,19 +29,6 @@ no_space b h = grind (arith, nat_tests)
 pub spaceless : (f : List ℕ) → AllByRecursion IsFieldByte f → AllByRecursion (λ b. is_space b ≡ false) f
 spaceless [] h = tt
 spaceless (b ∷ bs) h = (no_space b h.0.no_blank, spaceless bs h.1)
-
-pub feedless : (f : List ℕ) → AllByRecursion IsFieldByte f → HasNoFeed f
-feedless [] h = tt
-feedless (b ∷ bs) h = (h.0.no_feed, feedless bs h.1)
-
-pub feedless_append : (xs ys : List ℕ) → HasNoFeed xs → HasNoFeed ys → HasNoFeed (xs ++ ys)
-feedless_append [] ys h k = k
-feedless_append (x ∷ xs) ys h k = (h.0, feedless_append xs ys h.1 k)
-
-pub feedless_line : (fields : List (List ℕ)) → AllByRecursion IsField fields → HasNoFeed (join_with_byte 32 fields)
-feedless_line [] h = tt
-feedless_line (f ∷ []) h = feedless f h.0.bytes
-feedless_line (f ∷ g ∷ fields) h = feedless_append f _ (feedless f h.0.bytes) (refl, feedless_line (g ∷ fields) h.1)
 
 pub fields_again : (fields : List (List ℕ)) → 0 < length fields → AllByRecursion IsField fields
     → spaced_fields (join_with_byte 32 fields) ≡ fields
@@ -105,9 +93,6 @@ let_by false r others x y h k = k
 pub stand : {A : Type 0} (t : Bool) (x y z : A) → t ≡ true → x ≡ z → cond t x y ≡ z
 stand true x y z h k = k
 stand false x y z h k = absurd cc
-
-pub both : (a b : Bool) → a ≡ true → b ≡ true → (a && b) ≡ true
-both a b h k = ap (λ x. x && b) h ∙ k
 
 pub within : (n lo hi : ℕ) → lo ≤ n → n ≤ hi → is_in_range lo hi n ≡ true
 within n lo hi h k = grind (arith, nat_tests)

@@ -1,12 +1,12 @@
 -- The last hold and the last transmission.
-use Rattle.std.proofs.Common.{arith, zero, suc, ◌≡◌, ℕ, ◌*◌, ◌<◌, ◌≤◌, ◌^◌, List, [], ◌∷◌, ◌++◌, length, get_or, set, refl, sym, ap}
+use Rattle.std.proofs.Common.{arith, zero, suc, ◌≡◌, ℕ, ◌<◌, ◌≤◌, ◌^◌, List, [], ◌∷◌, ◌++◌, length, get_or, set, refl, sym, ap}
 use Rattle.std.proofs.Common.{◌∙◌}
 use Rattle.bus_strings.specs.Messages.{Wordstring, Entry}
 use Rattle.bus_trace.specs.declared.hold.Hold.{Hold}
-use Rattle.std.specs.List.{AllByRecursion, sum_by}
-use Rattle.std.proofs.lemmas.List.Sums.{sum_by-cons}
-use Rattle.bus_strings.specs.Messages.{Message, IsWordstring, IsMessage, word_count, bits}
+use Rattle.std.specs.List.{AllByRecursion}
+use Rattle.bus_strings.specs.Messages.{Message, IsMessage, bits}
 use Rattle.bus_strings.specs.Transmissions.{end_of}
+use Rattle.bus_strings.proofs.KeptLemmas.{words_most}
 use Rattle.bus_trace.specs.Traces.{IsBelow}
 use Rattle.bus_trace.specs.States.{last_terminal, last_count, is_after, comes_after, with_string, last_moment, last_sender, last_end}
 use Rattle.bus_trace.specs.States.{earlier}
@@ -133,10 +133,6 @@ earlier_with w (x ∷ y ∷ []) = refl
 earlier_with w (x ∷ y ∷ z ∷ xs) = ap (λ ys. x ∷ ys) (earlier_with w (y ∷ z ∷ xs))
 
 -- ---- how long a message may be
-words_most : (ws : List Wordstring) → AllByRecursion IsWordstring ws → sum_by word_count ws ≤ 257 * length ws
-words_most [] h = omega arith
-words_most (w ∷ ws) h = omega (arith, sum_by-cons word_count w ws, words_most ws h.1, h.0.few)
-
 pub bits_most : (m : Message) → IsMessage m → bits m < 2 ^ 20
 bits_most m h = omega (arith, words_most m h.strings, h.few)
 

@@ -1,5 +1,6 @@
 -- The lemmas of this crate; those that a crate above may cite are public.
 pub mod Lasts
+pub mod HoldLists
 pub mod Orders
 pub mod WordLists
 pub mod Told

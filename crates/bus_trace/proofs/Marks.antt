@@ -6,6 +6,7 @@ use Rattle.std.proofs.lemmas.Bool.Decides.{nat_tests}
 use Rattle.std.proofs.lemmas.Slice.Eq.{bytes_eq-Decides}
 use Rattle.bus_strings.specs.Messages.{Wordstring, Entry}
 use Rattle.bus_strings.specs.Transmissions.{Precedes, end_of}
+use Rattle.bus_strings.proofs.TestLaws.{or_false}
 use Rattle.bus_trace.specs.declared.hold.Hold.{Hold}
 use Rattle.bus_trace.specs.declared.format.Format.{Format}
 use Rattle.bus_trace.specs.declared.format.Format.TheVariants.{One, Two}
@@ -111,13 +112,9 @@ started_next h done x y p below low =
       room (inr k) = inr (omega (arith, k.1, low))
 
 -- ---- a running reach
-or_nil : (b : Bool) → b ≡ (b || false)
-or_nil true = refl
-or_nil false = refl
-
 ends_last : (m : ℕ) (xs : List Entry) → ends_behind m xs ≡ (ends_behind m (earlier xs) || nat_lt m (last_end xs))
 ends_last m [] = let e : nat_lt m 0 ≡ false = grind (arith, nat_tests) in sym e
-ends_last m (x ∷ []) = sym (or_nil (nat_lt m (end_of x)))
+ends_last m (x ∷ []) = or_false (nat_lt m (end_of x))
 ends_last m (x ∷ y ∷ xs) = ap (λ b. nat_lt m (end_of x) || b) (ends_last m (y ∷ xs))
     ∙ assoc (nat_lt m (end_of x)) (ends_behind m (earlier (y ∷ xs))) (nat_lt m (last_end (y ∷ xs))) where
       assoc : (a b c : Bool) → (a || (b || c)) ≡ ((a || b) || c)

@@ -2,40 +2,32 @@
 use Rattle.std.proofs.Common.{arith, zero, suc, ◌≡◌, ℕ, ◌+◌, ◌<◌, Bool, true, false, ◌&&◌, ◌||◌, ◌==◌, nat_lt, ◌⊎◌, inl, inr, List, []}
 use Rattle.std.proofs.Common.{◌∷◌, ◌++◌, length, take, get_or, refl, sym, ap, subst, ◌∙◌, length-append}
 use Rattle.std.specs.List.{AllByRecursion}
-use Rattle.std.proofs.lemmas.Bool.{and_parts, eqb-true}
+use Rattle.std.proofs.lemmas.Bool.{and_parts, eqb-true, lt-ltb, ltb-true}
 use Rattle.std.proofs.lemmas.Bool.Decides.{nat_tests}
 use Rattle.std.proofs.lemmas.List.{take_more}
 use Rattle.bus_strings.specs.Messages.{Wordstring, Entry, IsWordstring}
-use Rattle.bus_strings.specs.Transmissions.{Precedes, IsOrdered, IsAscending}
+use Rattle.bus_strings.specs.Transmissions.{Precedes, IsAscending}
+use Rattle.bus_strings.proofs.ListLaws.{all_push}
+use Rattle.bus_strings.proofs.OverlapLemmas.{ordered_push}
 use Rattle.bus_trace.specs.declared.hold.Hold.{Hold}
 use Rattle.bus_trace.specs.Traces.{IsHold, AscendAbove, IsBelow}
 use Rattle.bus_trace.specs.States.{last_terminal, last_count, is_after, comes_after, with_string}
-
-pub all_push : {X : Type 0} (P : X → Type 0) → (xs : List X) (x : X) → AllByRecursion P xs → P x → AllByRecursion P (xs ++ x ∷ [])
-all_push P [] x h p = (p, tt)
-all_push P (y ∷ ys) x h p = (h.0, all_push P ys x h.1 p)
 
 pub all_at : {X : Type 0} (P : X → Type 0) (xs : List X) (i : ℕ) (d : X) → i < length xs → AllByRecursion P xs → P (get_or xs i d)
 all_at P [] i d within h = absurd (omega arith)
 all_at P (x ∷ xs) zero d within h = h.0
 all_at P (x ∷ xs) (suc i) d within h = all_at P xs i d (omega arith) h.1
 
-pub lt_from : (a b : ℕ) → nat_lt a b ≡ true → a < b
-lt_from a b h = grind (arith, nat_tests)
-
-pub lt_test : (a b : ℕ) → a < b → nat_lt a b ≡ true
-lt_test a b h = grind (arith, nat_tests)
-
 -- ---- the order of transmissions, as a fact and as a test
 pub precedes_from : (x y : Entry) → comes_after x y.moment y.terminal ≡ true → Precedes x y
 precedes_from x y h = by_test (nat_lt x.moment y.moment) refl h where
   by_test : (t : Bool) → nat_lt x.moment y.moment ≡ t → (t || (x.moment == y.moment && nat_lt x.terminal y.terminal)) ≡ true → Precedes x y
-  by_test true e k = inl (lt_from x.moment y.moment e)
+  by_test true e k = inl (ltb-true x.moment y.moment e)
   by_test false e k = let p = and_parts (x.moment == y.moment) (nat_lt x.terminal y.terminal) k in inr
-      (eqb-true x.moment y.moment p.0, lt_from x.terminal y.terminal p.1)
+      (eqb-true x.moment y.moment p.0, ltb-true x.terminal y.terminal p.1)
 
 test_from : (a b c d : ℕ) → (a < b) ⊎ ((a ≡ b) × (c < d)) → (nat_lt a b || (a == b && nat_lt c d)) ≡ true
-test_from a b c d (inl h) = ap (λ t. t || (a == b && nat_lt c d)) (lt_test a b h)
+test_from a b c d (inl h) = ap (λ t. t || (a == b && nat_lt c d)) (lt-ltb a b h)
 test_from a b c d (inr h) = let e = h.0 in let l = h.1 in grind (arith, nat_tests)
 
 pub after_from : (x y : Entry) → Precedes x y → comes_after x y.moment y.terminal ≡ true
@@ -51,11 +43,6 @@ all_before : (xs : List Entry) (x : Entry) → IsAscending xs → is_after xs x.
 all_before [] x h a = tt
 all_before (y ∷ []) x h a = (precedes_from y x a, tt)
 all_before (y ∷ z ∷ ys) x h a = let r = all_before (z ∷ ys) x h.1 a in (precedes_trans y z x h.0.0 r.0, r)
-
-ordered_push : (R : Entry → Entry → Type 0) (xs : List Entry) (x : Entry) → IsOrdered R xs → AllByRecursion (λ y. R y x) xs
-    → IsOrdered R (xs ++ x ∷ [])
-ordered_push R [] x h a = (tt, tt)
-ordered_push R (y ∷ ys) x h a = (all_push (R y) ys x h.0 a.0, ordered_push R ys x h.1 a.1)
 
 -- one more behind the last
 pub ascending_push : (xs : List Entry) (x : Entry) → IsAscending xs → is_after xs x.moment x.terminal ≡ true → IsAscending (xs ++ x ∷ [])

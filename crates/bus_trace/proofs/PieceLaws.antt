@@ -119,7 +119,7 @@ refused_at xs byte reason h =
       offends = subst (λ x. Offends x byte reason) (begin_stream r.front) r.offends;
     }
 
-offends_refused : (front : List ℕ) (byte : ℕ) (reason : TraceReason) → Offends front byte reason → run begin front ≡ Refused byte reason
+pub offends_refused : (front : List ℕ) (byte : ℕ) (reason : TraceReason) → Offends front byte reason → run begin front ≡ Refused byte reason
 offends_refused front byte reason (Complete before lines line p b g f l h) =
     ap (run begin) p ∙ run-append begin lines (line ++ 10 ∷ []) ∙ ap (λ o. o >>- λ m. run m (line ++ 10 ∷ [])) g.run
     ∙ run-whole_line (record { state = before; line = [] }) line f (omega (arith, l)) ∙ ap (judged before) h

@@ -13,6 +13,7 @@ use Rattle.std.proofs.lemmas.Slice.Eq.{bytes_eq-Decides}
 use Rattle.std.proofs.lemmas.List.{take_all, length-take, length-drop}
 use Rattle.std.proofs.lemmas.Str.Parse.{numerals_by_value, tells_digits}
 use Rattle.std.proofs.lemmas.Fmt.{decimal-digits_value}
+use Rattle.std.proofs.lemmas.Bool.{not-false}
 use Rattle.bus_text.specs.Numbers.{decimal_value}
 use Rattle.bus_words.specs.declared.word.Kind.TheVariants.{Label}
 use Rattle.bus_words.specs.declared.word.Word.{Word}
@@ -20,6 +21,8 @@ use Rattle.bus_words.specs.Words.{label_word}
 use Rattle.bus_words.specs.WordTexts.{word_text}
 use Rattle.bus_text.specs.Digits.{hex_digit, is_capital_digit, hexadecimal}
 use Rattle.bus_text.proofs.DigitLaws.{digit_value-lt, hex_digit-digit_value}
+use Rattle.bus_text.proofs.CanonicalLaws.{feedless_line}
+use Rattle.bus_text.proofs.NumberLemmas.{digits_from}
 use Rattle.bus_strings.specs.Messages.{Wordstring, IsWordstring}
 use Rattle.bus_trace.specs.declared.position.Position.TheVariants.{Begun, Closed}
 use Rattle.bus_trace.specs.declared.keyword.Keyword.TheVariants.{Ws}
@@ -28,15 +31,10 @@ use Rattle.bus_trace.specs.inside.Writing.{data_put}
 use Rattle.bus_trace.specs.States.{State, step, spaced_fields, fields_step, last_count, may_follow, is_ended}
 use Rattle.bus_trace.specs.inside.Sound.{IsSound}
 use Rattle.bus_trace.specs.inside.Quick.{string_taken, BeginsRight, ClosesRight, HasData, TakesFront, line_end}
-use Rattle.bus_trace.proofs.StepRows.{digits_from}
 use Rattle.bus_trace.proofs.Lasts.{last_end_most}
 use Rattle.bus_trace.proofs.WriteTexts.{joined}
 use Rattle.bus_trace.proofs.Again.{begin_again, close_by_end, string_line_again}
-use Rattle.bus_trace.proofs.AgainLines.{Leads, fields_again, feedless_line}
-
-not_false : (b : Bool) → not b ≡ false → b ≡ true
-not_false true h = refl
-not_false false h = absurd cc
+use Rattle.bus_trace.proofs.AgainLines.{Leads, fields_again}
 
 pub rest_is : (text : List ℕ) (n : ℕ) → n ≤ length text → text ≡ take n text ++ take (length text - n) (drop n text)
 rest_is text n h = sym (take-append-drop n text) ∙ ap (λ r. take n text ++ r)
@@ -46,7 +44,7 @@ pub behind_is : (text word : List ℕ) (r : Bool) → length word ≤ length tex
     → r ≡ false → text ≡ word ++ take (length text - length word) (drop (length word) text)
 behind_is text word r h e f =
     let same : take (length word) text ≡ word = (bytes_eq-Decides (take (length word) text) word).0
-    (not_false (bytes_eq (take (length word) text) word) (sym e ∙ f)) in
+    (not-false (bytes_eq (take (length word) text) word) (sym e ∙ f)) in
     rest_is text (length word) h ∙ ap (λ w. w ++ take (length text - length word) (drop (length word) text)) same
 
 get_take : (n : ℕ) (xs : List ℕ) → 0 < n → get_or (take n xs) 0 0 ≡ get_or xs 0 0

@@ -3,8 +3,7 @@ use Rattle.std.proofs.Common.{arith, zero, suc, ◌≡◌, ℕ, ◌+◌, ◌<◌
 use Rattle.std.proofs.Common.{length, take, nat_lt, IfSome, IfOk, Some, None, Result, Ok, Err, refl, sym, ap, subst, ◌∙◌}
 use Rattle.std.proofs.Common.{append_assoc, append-nil, length-append}
 use Rattle.std.specs.declared.option.Option.{Option}
-use Rattle.std.proofs.lemmas.Bool.{eqb-true, cases_lt}
-use Rattle.std.proofs.lemmas.Bool.Decides.{nat_tests}
+use Rattle.std.proofs.lemmas.Bool.{eqb-true, cases_lt, ltb-false, lt-ltb, ltb-true}
 use Rattle.std.proofs.lemmas.List.{take_all, take-append-le}
 use Rattle.bus_outer.specs.Sources.{Taken}
 use Rattle.bus_text.specs.Lines.{is_feed}
@@ -24,7 +23,7 @@ use Rattle.bus_trace.proofs.Runs.{run-append}
 use Rattle.bus_trace.proofs.Walks.{start_sound}
 use Rattle.bus_trace.proofs.Again.{ended, trace_again}
 use Rattle.bus_trace.proofs.ReadRuns.{MarkLaws, begin_stream, due_found, due_refused, due_going, due_over, run_within, found_trace}
-use Rattle.bus_trace.proofs.ReadRuns.{found_holds, Stands, begin_stands, feedless_push, lt_from, ge_from, run_goes}
+use Rattle.bus_trace.proofs.ReadRuns.{found_holds, Stands, begin_stands, feedless_push, run_goes}
 
 -- ---- where nothing is decided yet
 record Undecided (limit : ℕ) (bytes : List ℕ) (at : Standing) : Type 0 where
@@ -37,7 +36,7 @@ undecided_is : (limit : ℕ) (bytes : List ℕ) (at : Standing) → due limit by
 unfolding due
 undecided_is limit bytes at h =
     let d = due_going (nat_lt limit (length bytes)) (run begin (take limit bytes)) at h in
-    let short = ge_from limit (length bytes) d.0 in
+    let short = ltb-false limit (length bytes) d.0 in
     let going : run begin bytes ≡ Going at = ap (run begin) (sym (take_all limit bytes short)) ∙ d.1 in
     let g = run_goes begin at bytes start_sound begin_stands going in
     record { going = going; stands = g.stands; stream = g.stream ∙ begin_stream bytes; short = short }
@@ -104,7 +103,7 @@ refuses_byte r b byte reason i h = by_feed (is_feed b) refl (nat_lt (length r.li
       let why : Long ≡ reason = cc in
       Overlong r.state (text_of r.state) (r.line ++ b ∷ []) (append_assoc (text_of r.state) r.line (b ∷ [])) (sym length_is)
       (gave_is r.state r refl i) (feedless_push r.line b i.feedless e)
-      (omega (arith, length-append r.line (b ∷ []), i.short, ge_from (length r.line) line_limit f)) (sym why)
+      (omega (arith, length-append r.line (b ∷ []), i.short, ltb-false (length r.line) line_limit f)) (sym why)
 
 -- what a decided refusal says of the bytes
 refused_byte : (front : List ℕ) (b : ℕ) (at : Standing) (left : Option (List ℕ)) (byte : ℕ) (reason : TraceReason)
@@ -130,7 +129,7 @@ unfolding due
 over_byte front b at u h =
     let d = due_over (nat_lt text_limit (length (front ++ b ∷ []))) (run begin (take text_limit (front ++ b ∷ [])))
     (run_within begin (take text_limit (front ++ b ∷ []))) h in
-    omega (arith, lt_from text_limit (length (front ++ b ∷ [])) d.0, length-append front (b ∷ []), u.short)
+    omega (arith, ltb-true text_limit (length (front ++ b ∷ [])) d.0, length-append front (b ∷ []), u.short)
 
 -- ---- the clauses of a read
 refused_takes : (old new : Option (List ℕ)) (bytes : List ℕ) (byte : ℕ) (reason : TraceReason) → Taken old new bytes
@@ -203,15 +202,12 @@ refused_more limit xs ys byte reason h =
     let r = run_more limit xs ys in
     ap (due_by (nat_lt limit (length (xs ++ ys)))) (r.1 ∙ ap (λ o. o >>- λ n. run n r.0) f)
 
-lt_test : (a b : ℕ) → a < b → nat_lt a b ≡ true
-lt_test a b h = grind (arith, nat_tests)
-
 pub over_more : (limit : ℕ) (xs ys : List ℕ) → due limit xs ≡ Over → due limit (xs ++ ys) ≡ Over
 unfolding due
 over_more limit xs ys h =
     let d = due_over (nat_lt limit (length xs)) (run begin (take limit xs)) (run_within begin (take limit xs)) h in
-    let l = lt_from limit (length xs) d.0 in
-    ap (λ t. due_by t (run begin (take limit (xs ++ ys)))) (lt_test limit (length (xs ++ ys)) (omega (arith, l, length-append xs ys)))
+    let l = ltb-true limit (length xs) d.0 in
+    ap (λ t. due_by t (run begin (take limit (xs ++ ys)))) (lt-ltb limit (length (xs ++ ys)) (omega (arith, l, length-append xs ys)))
     ∙ ap (λ x. due_by true (run begin x)) (take-append-le limit xs ys (omega (arith, l)))
     ∙ ap (due_by true) d.1.1
 

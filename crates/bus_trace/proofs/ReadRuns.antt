@@ -1,9 +1,8 @@
 -- Runs over a stream: where they end, and what stands at its front.
-use Rattle.std.proofs.Common.{arith, ◌≡◌, ℕ, ◌<◌, ◌≤◌, Bool, true, false, cond, List, [], ◌∷◌, ◌++◌}
+use Rattle.std.proofs.Common.{arith, ◌≡◌, ℕ, ◌≤◌, Bool, true, false, cond, List, [], ◌∷◌, ◌++◌}
 use Rattle.std.proofs.Common.{length, take, drop, nat_lt, Result, Ok, Err, refl, sym, ap, subst, ◌∙◌}
 use Rattle.std.proofs.Common.{append_assoc, append-nil, length-append, take-append-drop}
-use Rattle.std.proofs.lemmas.Bool.{eqb-true}
-use Rattle.std.proofs.lemmas.Bool.Decides.{nat_tests}
+use Rattle.std.proofs.lemmas.Bool.{eqb-true, ltb-true}
 use Rattle.std.proofs.lemmas.List.{length-take}
 use Rattle.bus_text.specs.Lines.{is_feed}
 use Rattle.bus_trace.specs.declared.position.Position.{Position}
@@ -217,12 +216,6 @@ pub feedless_push : (xs : List ℕ) (b : ℕ) → HasNoFeed xs → is_feed b ≡
 feedless_push [] b h k = (k, tt)
 feedless_push (x ∷ xs) b h k = (h.0, feedless_push xs b h.1 k)
 
-pub lt_from : (a b : ℕ) → nat_lt a b ≡ true → a < b
-lt_from a b h = grind (arith, nat_tests)
-
-pub ge_from : (a b : ℕ) → nat_lt a b ≡ false → b ≤ a
-ge_from a b h = grind (arith, nat_tests)
-
 pub going_is : (m n : Standing) → Going m ≡ Going n → m ≡ n
 going_is m n h = cc
 
@@ -253,7 +246,7 @@ stands_byte r n b sound i h = by_feed (is_feed b) refl (nat_lt (length r.line) l
         gave = i.gave;
         feedless = feedless_push r.line b i.feedless e;
         short =
-            omega (arith, length-append r.line (b ∷ []), lt_from (length r.line) line_limit f);
+            omega (arith, length-append r.line (b ∷ []), ltb-true (length r.line) line_limit f);
       })
   by_feed false e false f q = absurd cc
 

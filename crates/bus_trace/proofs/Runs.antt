@@ -2,6 +2,7 @@
 use Rattle.std.proofs.Common.{arith, zero, suc, ◌≡◌, ◌≢◌, ℕ, ◌+◌, ◌<◌, ◌≤◌, Bool, true, false, cond, List, [], ◌∷◌, ◌++◌, length, take}
 use Rattle.std.proofs.Common.{drop, get_or, nat_lt, refl, sym, ap, ◌∙◌, append_assoc, append-nil, length-append}
 use Rattle.std.proofs.lemmas.Bool.Decides.{nat_tests}
+use Rattle.std.proofs.lemmas.Bool.{lt-ltb}
 use Rattle.bus_text.specs.Lines.{is_feed}
 use Rattle.bus_trace.specs.declared.reason.TraceReason.TheVariants.{Long}
 use Rattle.bus_trace.specs.States.{step, text_of}
@@ -28,9 +29,6 @@ run-append r (x ∷ xs) ys =
     then_same (take_byte r x) (λ n. run n (xs ++ ys)) (λ n. run n xs >>- λ m. run m ys) (λ n. run-append n xs ys)
     ∙ sym (then_assoc (take_byte r x) (λ n. run n xs) (λ n. run n ys))
 
-lt_is : (a b : ℕ) → a < b → nat_lt a b ≡ true
-lt_is a b h = grind (arith, nat_tests)
-
 ge_is : (a b : ℕ) → b ≤ a → nat_lt a b ≡ false
 ge_is a b h = grind (arith, nat_tests)
 
@@ -42,7 +40,7 @@ byte_kept r b h k =
     ap (λ t. cond t (judged r.state (step r.state r.line)) (cond (nat_lt (length r.line) line_limit)
     (Going (record { state = r.state; line = r.line ++ b ∷ [] })) (Refused (length (text_of r.state)) Long))) h
     ∙ ap (λ t. cond t (Going (record { state = r.state; line = r.line ++ b ∷ [] })) (Refused (length (text_of r.state)) Long))
-    (lt_is (length r.line) line_limit k)
+    (lt-ltb (length r.line) line_limit k)
 
 byte_long : (r : Standing) (b : ℕ) → is_feed b ≡ false → line_limit ≤ length r.line
     → take_byte r b ≡ Refused (length (text_of r.state)) Long

@@ -6,11 +6,13 @@ use Rattle.std.specs.List.{flat_map, AllByRecursion}
 use Rattle.std.specs.Str.{bytes_eq}
 use Rattle.std.specs.Fmt.{decimal}
 use Rattle.std.specs.Int.{is_in_range}
-use Rattle.std.proofs.lemmas.Bool.{and_parts, eqb-true}
+use Rattle.std.proofs.lemmas.Bool.{and_parts, eqb-true, ltb-true}
 use Rattle.std.proofs.lemmas.List.{map-append}
 use Rattle.std.proofs.lemmas.List.Splits.{join_with_byte-slice_split}
 use Rattle.std.proofs.lemmas.List.Concat.{flat_map-append}
 use Rattle.bus_text.specs.Canonical.{spelled_line, spelled_lines}
+use Rattle.bus_text.proofs.NumberLemmas.{decimal_again}
+use Rattle.bus_text.proofs.FieldLemmas.{same_bytes}
 use Rattle.bus_strings.specs.Messages.{Wordstring, Entry, IsWordstring}
 use Rattle.bus_strings.specs.Transmissions.{IsAscending}
 use Rattle.bus_trace.specs.declared.hold.Hold.{Hold}
@@ -23,6 +25,7 @@ use Rattle.bus_trace.specs.declared.format.Format.TheVariants.{One, Two}
 use Rattle.bus_trace.specs.declared.reason.TraceReason.{TraceReason}
 use Rattle.bus_trace.specs.declared.reason.TraceReason.TheVariants as reason
 use Rattle.bus_strings.specs.Limits.{horizon_limit, most_terminal}
+use Rattle.bus_strings.proofs.ListLaws.{all_push}
 use Rattle.bus_trace.specs.Limits.{most_count, most_fields}
 use Rattle.bus_trace.specs.Traces.{Line, IsHold, IsBelow, format_text, head_line, horizon_line, hold_line, begin_line, string_line}
 use Rattle.bus_trace.specs.Traces.{entry_lines, ended_line, end_line, opening_lines}
@@ -34,12 +37,12 @@ use Rattle.bus_trace.specs.States.{is_after, is_hit, is_final, is_refuted, is_ma
 use Rattle.bus_trace.specs.States.{format_of, headed, head_step, horizon_step, hold_step, begin_step, string_step, close_step, end_step}
 use Rattle.bus_trace.specs.States.{form_step, keyword_step, step}
 use Rattle.bus_trace.proofs.Lasts.{length-with_string, last_end_most}
-use Rattle.bus_trace.proofs.Orders.{all_push, lt_from, ascending_push, ascending_with, below_with, terminals_push}
+use Rattle.bus_trace.proofs.Orders.{ascending_push, ascending_with, below_with, terminals_push}
 use Rattle.bus_trace.proofs.WordLists.{string_is}
 use Rattle.bus_trace.proofs.Told.{told_closed, told_next, told_string}
 use Rattle.bus_trace.proofs.Marks.{mark_is, unhit, mark_shown, begun_fits, ended_fits}
-use Rattle.bus_trace.proofs.StepRows.{decimal_is, row, row_against, done, one_field, two_fields, three_fields, first_and, rest_few, least}
-use Rattle.bus_trace.proofs.StepRows.{most, word_is}
+use Rattle.bus_trace.proofs.StepRows.{row, row_against, done, one_field, two_fields, three_fields, first_and, rest_few, least}
+use Rattle.bus_trace.proofs.StepRows.{most}
 
 -- ---- keywords and places
 -- the text of a keyword
@@ -59,7 +62,7 @@ by_keyword : (f word : List ℕ) (x : Keyword) (rest : Option Keyword) (k : Keyw
     → (rest ≡ Some k → f ≡ keyword_text k) → cond (bytes_eq f word) (Some x) rest ≡ Some k → f ≡ keyword_text k
 by_keyword f word x rest k w later h = by_test (bytes_eq f word) refl h where
   by_test : (t : Bool) → bytes_eq f word ≡ t → cond t (Some x) rest ≡ Some k → f ≡ keyword_text k
-  by_test true e q = word_is f word e ∙ w ∙ ap keyword_text (some_is x k q)
+  by_test true e q = same_bytes f word e ∙ w ∙ ap keyword_text (some_is x k q)
   by_test false e q = later q
 
 keyword_is : (f : List ℕ) (k : Keyword) → keyword_of f ≡ Some k → f ≡ keyword_text k
@@ -209,12 +212,12 @@ one_is x y h = cc
 format_is : (f : List ℕ) (x : Format) → format_of f ≡ Some x → f ≡ format_text x
 format_is f x h = by_one (bytes_eq f (format_text One)) refl h where
   by_two : (t : Bool) → bytes_eq f (format_text Two) ≡ t → cond t (Some Two) None ≡ Some x → f ≡ format_text x
-  by_two true e k = word_is f (format_text Two) e ∙ ap format_text (one_is Two x k)
+  by_two true e k = same_bytes f (format_text Two) e ∙ ap format_text (one_is Two x k)
   by_two false e k = absurd cc
 
   by_one : (t : Bool) → bytes_eq f (format_text One) ≡ t → cond t (Some One)
       (cond (bytes_eq f (format_text Two)) (Some Two) None) ≡ Some x → f ≡ format_text x
-  by_one true e k = word_is f (format_text One) e ∙ ap format_text (one_is One x k)
+  by_one true e k = same_bytes f (format_text One) e ∙ ap format_text (one_is One x k)
   by_one false e k = by_two (bytes_eq f (format_text Two)) refl k
 
 headed_by : (s n : State) (o : Option Format) → headed s o ≡ Ok n → (x : Format) × (o ≡ Some x)
@@ -243,7 +246,7 @@ horizon_keeps s n fields k p sound h =
     let low = most (number fields 1) 0 horizon_limit d.0 in
     let none = fits_at s Headed p sound.fits in
     let line : horizon_line (number fields 1) ≡ fields = ap (λ (f : List ℕ). codes "HORIZON" ∷ f ∷ [])
-    (decimal_is (field fields 1) b.0 (omega (arith, low))) ∙ ap (λ (f : List ℕ). f ∷ field fields 1 ∷ []) (sym k)
+    (decimal_again (field fields 1) b.0 (omega (arith, low))) ∙ ap (λ (f : List ℕ). f ∷ field fields 1 ∷ []) (sym k)
     ∙ sym (two_fields fields a.0) in
     keeps s n fields Holding s.format s.mark (number fields 1) s.holds s.list (done _ n d.1)
     (none_lines s.format (Some s.mark) (number fields 1) s.holds s.list none.1
@@ -277,8 +280,8 @@ hold_keeps s n fields k p sound h =
     let count = most (number fields 2) 0 most_count ranges.1 in
     let none = fits_at s Holding p sound.fits in
     let line : hold_line hold ≡ fields =
-    ap (λ (f : List ℕ). codes "HOLD" ∷ f ∷ decimal (number fields 2) ∷ []) (decimal_is (field fields 1) plain.0 (omega (arith, low)))
-    ∙ ap (λ (f : List ℕ). codes "HOLD" ∷ field fields 1 ∷ f ∷ []) (decimal_is (field fields 2) plain.1 (omega (arith, count)))
+    ap (λ (f : List ℕ). codes "HOLD" ∷ f ∷ decimal (number fields 2) ∷ []) (decimal_again (field fields 1) plain.0 (omega (arith, low)))
+    ∙ ap (λ (f : List ℕ). codes "HOLD" ∷ field fields 1 ∷ f ∷ []) (decimal_again (field fields 2) plain.1 (omega (arith, count)))
     ∙ ap (λ (f : List ℕ). f ∷ field fields 1 ∷ field fields 2 ∷ []) (sym k) ∙ sym (three_fields fields a.0) in
     keeps s n fields Holding s.format s.mark s.horizon (s.holds ++ hold ∷ []) s.list (done _ n e.1)
     (hold_lines s.format (Some s.mark) s.horizon s.holds s.list hold none
@@ -291,7 +294,7 @@ hold_keeps s n fields k p sound h =
         horizon = sound.trace.horizon;
         holds = all_push IsHold s.holds hold sound.trace.holds (record { positive = positive; low = low; count = count });
         terminals = terminals_push 0 s.holds hold sound.trace.terminals (λ _. positive)
-            (lt_from (last_terminal s.holds) (number fields 1) e.0);
+            (ltb-true (last_terminal s.holds) (number fields 1) e.0);
         list = sound.trace.list;
         order = sound.trace.order;
       };
@@ -308,13 +311,13 @@ begin_keeps s n fields k p sound h =
     let g = row_against (is_refuted s (nat_lt (number fields 1) (last_end s.list))) reason.Mark None _ n e.1 in
     let plain = and_parts (is_number fields 1) (is_number fields 2) b.0 in
     let ranges = and_parts (nat_lt (number fields 1) s.horizon) (is_in_range 1 most_terminal (number fields 2)) d.0 in
-    let below = lt_from (number fields 1) s.horizon ranges.0 in
+    let below = ltb-true (number fields 1) s.horizon ranges.0 in
     let positive = least (number fields 2) 1 most_terminal ranges.1 in
     let low = most (number fields 2) 1 most_terminal ranges.1 in
     let line : begin_line (number fields 1) (number fields 2) ≡ fields =
     ap (λ (f : List ℕ). codes "TX" ∷ f ∷ decimal (number fields 2) ∷ [])
-    (decimal_is (field fields 1) plain.0 (omega (arith, below, sound.trace.horizon)))
-    ∙ ap (λ (f : List ℕ). codes "TX" ∷ field fields 1 ∷ f ∷ []) (decimal_is (field fields 2) plain.1 (omega (arith, low)))
+    (decimal_again (field fields 1) plain.0 (omega (arith, below, sound.trace.horizon)))
+    ∙ ap (λ (f : List ℕ). codes "TX" ∷ field fields 1 ∷ f ∷ []) (decimal_again (field fields 2) plain.1 (omega (arith, low)))
     ∙ ap (λ (f : List ℕ). f ∷ field fields 1 ∷ field fields 2 ∷ []) (sym k) ∙ sym (three_fields fields a.0) in
     keeps s n fields (Begun (number fields 1) (number fields 2)) s.format s.mark s.horizon s.holds s.list (done _ n g.1)
     (ap (λ (l : Line). body_lines s.format (Some s.mark) s.horizon s.holds s.list ++ l ∷ []) line
@@ -345,7 +348,7 @@ close_keeps s n fields k p sound h =
     ap (λ x. ended_line x mark) (sym same)
     ∙ ap (λ (f : List ℕ). codes "TE" ∷ decimal (number fields 1) ∷ f ∷ []) (mark_is (field fields 2) plain.1)
     ∙ ap (λ (f : List ℕ). codes "TE" ∷ f ∷ field fields 2 ∷ [])
-    (decimal_is (field fields 1) plain.0 (omega (arith, same, last_end_most s.horizon s.list sound.trace.horizon sound.trace.list)))
+    (decimal_again (field fields 1) plain.0 (omega (arith, same, last_end_most s.horizon s.list sound.trace.horizon sound.trace.list)))
     ∙ ap (λ (f : List ℕ). f ∷ field fields 1 ∷ field fields 2 ∷ []) (sym k) ∙ sym (three_fields fields a.0) in
     let closed : lines_so_far s.format (Some mark) s.list ≡ lines_so_far s.format None s.list ++ ended_line (last_end s.list) mark ∷ [] =
     subst (λ (f : Format). lines_so_far f (Some mark) s.list ≡ lines_so_far f None s.list ++ ended_line (last_end s.list) mark ∷ [])
@@ -406,7 +409,7 @@ grows (Begun m n) g mark h hs xs w e f k below order i =
 grows Stringing g mark h hs xs w m f k below order i = record {
   lines = more_lines g None None h hs xs (with_string w xs) (string_line w ∷ []) (string_lines g w xs f);
   some = omega (arith, length-with_string w xs, f);
-  list = below_with h w xs i (lt_from (last_count xs) 31 m) below;
+  list = below_with h w xs i (ltb-true (last_count xs) 31 m) below;
   order = ascending_with w xs order;
 }
 grows Closed g mark h hs xs w m f k below order i = absurd cc

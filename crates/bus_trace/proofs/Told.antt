@@ -1,5 +1,5 @@
 -- Lines with marks: as they come, and those of the whole list.
-use Rattle.std.proofs.Common.{arith, suc, ◌≡◌, ℕ, ◌+◌, ◌<◌, Bool, true, false, ◌||◌, List, [], ◌∷◌, ◌++◌, length, take}
+use Rattle.std.proofs.Common.{arith, suc, ◌≡◌, ℕ, ◌+◌, ◌<◌, Bool, false, ◌||◌, List, [], ◌∷◌, ◌++◌, length, take}
 use Rattle.std.proofs.Common.{nat_lt, map, Some, None, refl, sym, ap, ◌∙◌, append_assoc, append-nil, length-append}
 use Rattle.std.specs.List.{flat_map, zip, slice_get, range_with_len, AllByRecursion}
 use Rattle.std.specs.Option.{option_map_or}
@@ -8,6 +8,7 @@ use Rattle.std.proofs.Math.Seq.{take-append_seam}
 use Rattle.bus_strings.specs.Messages.{Wordstring, Entry}
 use Rattle.bus_strings.specs.Transmissions.{end_of, garbled, marks, IsByMoment, IsAscending}
 use Rattle.bus_strings.specs.OverlapLaws.{NeighboursTell, AscendingIsByMoment}
+use Rattle.bus_strings.proofs.TestLaws.{or_false}
 use Rattle.bus_trace.specs.declared.format.Format.{Format}
 use Rattle.bus_trace.specs.declared.format.Format.TheVariants.{One, Two}
 use Rattle.bus_trace.specs.Traces.{Line, IsBelow, begin_line, string_line, entry_lines, ended_line, close_line, marked_lines, list_lines}
@@ -83,10 +84,6 @@ mark_at law whole b x ys order words e =
     ∙ ap (λ o. ends_behind x.moment b || option_map_or (λ y. nat_lt y.moment (end_of x)) o false)
     (ap (slice_get whole) (let k : length b + 1 ≡ suc (length b) = omega arith in k) ∙ ap (λ w. slice_get w (suc (length b))) e
     ∙ get_next b x ys)
-
-or_false : (b : Bool) → (b || false) ≡ b
-or_false true = refl
-or_false false = refl
 
 marked_told : NeighboursTell → (whole b xs : List Entry) (k : ℕ) (mark : Bool) → IsByMoment whole → AllByRecursion HasWords whole
     → whole ≡ b ++ xs → k ≡ length b → 0 < length xs → mark ≡ ends_behind (last_moment xs) (b ++ earlier xs)

@@ -1,18 +1,18 @@
 -- The made items, round by round: they are in their ranges, fit the made table, and each sender has one in each round.
-use Rattle.std.proofs.Common.{arith, ◌≡◌, ℕ, zero, suc, ◌+◌, ◌-◌, ◌<◌, ◌≤◌, ◌^◌, Bool, true, false, cond, ◌&&◌, ◌==◌, nat_le, List}
-use Rattle.std.proofs.Common.{[], ◌∷◌, ◌++◌, length, map, take, set, Some, Ok, refl, sym, ap, subst, ◌∙◌, append-nil, append_assoc}
+use Rattle.std.proofs.Common.{arith, ◌≡◌, ℕ, zero, suc, ◌+◌, ◌-◌, ◌<◌, ◌≤◌, ◌^◌, Bool, true, false, cond, ◌==◌, nat_le, List}
+use Rattle.std.proofs.Common.{[], ◌∷◌, ◌++◌, length, map, take, set, Some, Ok, refl, sym, ap, subst, ◌∙◌, append_assoc}
 use Rattle.std.specs.Prelude.{IsOk, Result}
 use Rattle.std.specs.Int.{is_in_range as is_between}
 use Rattle.std.specs.List.{filter, find, flat_map, range_with_len, AllByRecursion}
 use Rattle.std.proofs.lemmas.List.{take_more_set, take_all}
-use Rattle.std.proofs.lemmas.Bool.{ne_eqb}
+use Rattle.std.proofs.lemmas.Bool.{ne_eqb, and_from}
 use Rattle.std.proofs.lemmas.Bool.Decides.{nat_tests}
-use Rattle.std.proofs.lemmas.List.Concat.{flat_map-append}
 use Rattle.std.proofs.lemmas.List.FromFn.{length-map-range_with_len, map-range_with_len_more}
 use Rattle.bus_strings.specs.Items.{Item, IsItem, is_in_range}
 use Rattle.bus_table.specs.declared.fit.FitError.{FitError}
 use Rattle.bus_table.specs.Fits.{allows, has_shape, shape_fit, item_fit, fit_from, items_fit}
 use Rattle.bus_strings.specs.Messages.{Message}
+use Rattle.bus_strings.proofs.ListLaws.{flat_map-range, all_append}
 use Rattle.bus_table.specs.Hands.{items_of, message_of, hand_of, hands_of}
 use Rattle.bus_table.specs.declared.line.SendLine.{SendLine}
 use Rattle.bus_table.specs.Tables.{Sender, Hand}
@@ -59,43 +59,16 @@ round_whole number i count there new round count_is end h =
     let e : i - 1 ≡ sender_count number = omega arith in
     h ∙ ap (λ n. there ++ map (made_item number round) (range_with_len 1 n)) e
 
--- ---- ranges of numbers
-range_more : (a n : ℕ) → range_with_len a (suc n) ≡ range_with_len a n ++ (a + n) ∷ []
-range_more a zero = let e : a ≡ a + 0 = omega arith in ap (λ m. m ∷ []) e
-range_more a (suc n) =
-    let e : (a + 1) + n ≡ a + suc n = omega arith in
-    ap (λ l. a ∷ l) (range_more (a + 1) n ∙ ap (λ m. range_with_len (a + 1) n ++ m ∷ []) e)
-
--- one round more
-pub flat_map_more : {X : Type 0} (f : ℕ → List X) (n : ℕ)
-    → flat_map f (range_with_len 0 (n + 1)) ≡ flat_map f (range_with_len 0 n) ++ f n
-flat_map_more {X} f n =
-    let e : n + 1 ≡ suc n = omega arith in
-    let z : 0 + n ≡ n = omega arith in
-    ap (λ m. flat_map f (range_with_len 0 m)) e ∙ ap (flat_map f) (range_more 0 n)
-    ∙ flat_map-append f (range_with_len 0 n) ((0 + n) ∷ [])
-    ∙ ap (λ m. flat_map f (range_with_len 0 n) ++ (f m ++ [])) z
-    ∙ ap (λ l. flat_map f (range_with_len 0 n) ++ l) (append-nil (f n))
-
 -- what holds of each of a range of numbers
 all_mapped : {X : Type 0} (P : X → Type 0) (f : ℕ → X) (a n : ℕ) → ((k : ℕ) → a ≤ k → k < a + n → P (f k))
     → AllByRecursion P (map f (range_with_len a n))
 all_mapped P f a zero h = tt
 all_mapped P f a (suc n) h = (h a (omega arith) (omega arith), all_mapped P f (a + 1) n (λ k least less. h k (omega arith) (omega arith)))
 
-all_append : {X : Type 0} (P : X → Type 0) (xs ys : List X) → AllByRecursion P xs → AllByRecursion P ys → AllByRecursion P (xs ++ ys)
-all_append P [] ys h k = k
-all_append P (x ∷ xs) ys h k = (h.0, all_append P xs ys h.1 k)
-
 all_flat : {X : Type 0} (P : X → Type 0) (f : ℕ → List X) (a n : ℕ) → ((k : ℕ) → AllByRecursion P (f k))
     → AllByRecursion P (flat_map f (range_with_len a n))
 all_flat P f a zero h = tt
 all_flat P f a (suc n) h = all_append P (f a) (flat_map f (range_with_len (a + 1) n)) (h a) (all_flat P f (a + 1) n h)
-
-both : (a b : Bool) → a ≡ true → b ≡ true → (a && b) ≡ true
-both true true h k = refl
-both false b h k = absurd cc
-both true false h k = absurd cc
 
 -- ---- items
 few : (number : ℕ) → sender_count number ≤ 31
@@ -109,7 +82,7 @@ in_ranges number round i least most =
     let n : length (made_words number round i) ≤ 256 = omega (arith, words_length number round i) in
     let t : is_between 1 128 i ≡ true = grind (arith, nat_tests) in
     let s : nat_le (length (made_words number round i)) 256 ≡ true = grind (arith, nat_tests) in
-    both _ _ t (both true _ refl (both _ true s refl))
+    and_from _ _ t (and_from true _ refl (and_from _ true s refl))
 
 item_is : (number round i : ℕ) → 1 ≤ i → i ≤ 31 → IsItem (made_item number round i)
 item_is number round i least most = record {
@@ -137,7 +110,7 @@ shape number round i =
     let low : 30 ≤ length (made_words number round i) = omega (arith, words_length number round i) in
     let high : length (made_words number round i) ≤ 40 = omega (arith, words_length number round i) in
     let t : allows (made_send i) (length (made_words number round i)) ≡ true = grind (arith, nat_tests) in
-    both _ true t refl
+    and_from _ true t refl
 
 fit_one : (k number round i : ℕ) → 1 ≤ i → i < 1 + sender_count number
     → item_fit k (made_table number).senders (made_item number round i) ≡ Ok tt
@@ -161,7 +134,7 @@ fit number =
 pub rounds_next : (number round : ℕ) (old new : List Item) → new ≡ old ++ made_round number round
     → old ≡ flat_map (made_round number) (range_with_len 0 round) → new ≡ flat_map (made_round number) (range_with_len 0 (round + 1))
 rounds_next number round old new h before =
-    h ∙ ap (λ (l : List Item). l ++ made_round number round) before ∙ sym (flat_map_more (made_round number) round)
+    h ∙ ap (λ (l : List Item). l ++ made_round number round) before ∙ sym (flat_map-range (made_round number) round)
 
 -- all rounds
 pub rounds_whole : (number round count : ℕ) (items : List Item) → count ≡ round_count number → round ≡ count

@@ -1,9 +1,9 @@
 -- The message of a sender in a round, and the words that it has for a SEND line.
-use Rattle.std.proofs.Common.{◌≡◌, ℕ, zero, suc, ◌<◌, Bool, true, false, cond, ◌&&◌, ◌==◌, List, [], ◌∷◌, length, get_or, Some, inl, inr, refl, ap, sym, ◌∙◌, arith}
+use Rattle.std.proofs.Common.{◌≡◌, ℕ, ◌<◌, Bool, true, false, cond, ◌==◌, List, [], ◌∷◌, length, Some, inl, inr, refl, ap, ◌∙◌, arith}
 use Rattle.std.specs.Prelude.{IsTrue}
 use Rattle.std.specs.List.{list_all, find}
 use Rattle.std.specs.Option.{option_map}
-use Rattle.std.proofs.lemmas.Bool.{and_parts, eqb-true}
+use Rattle.std.proofs.lemmas.Bool.{and_parts, and_from}
 use Rattle.bus_strings.specs.Members.{In}
 use Rattle.bus_strings.proofs.ListLaws.{all_pass}
 use Rattle.bus_strings.specs.Messages.{Wordstring, Message}
@@ -20,9 +20,6 @@ use Rattle.bus_vote.specs.Rounds.{is_named, words_in}
 record Named (label ext : ℕ) (message : Message) : Type 0 where
   pub words : List ℕ
   pub has : words_in label ext message ≡ Some words
-
-both : (a b : Bool) → a ≡ true → b ≡ true → (a && b) ≡ true
-both a b h k = rw (h, k) refl
 
 -- a message has words where one of its wordstrings is named so
 named_here : (label ext : ℕ) (string : Wordstring) (message : Message) → is_named label ext string ≡ true → Named label ext (string ∷ message)
@@ -49,7 +46,7 @@ named (own ∷ sends) (string ∷ message) line h i =
     let words = and_parts (allows own (length string.words)) _ ext.1 in
     elim i [
       | inl same ↦ named_here line.label line.ext string message
-          (both (string.label == line.label) (string.ext == line.ext)
+          (and_from (string.label == line.label) (string.ext == line.ext)
           (ap (λ (l : SendLine). string.label == l.label) same ∙ label.0) (ap (λ (l : SendLine). string.ext == l.ext) same ∙ ext.0))
       | inr j ↦ named_there line.label line.ext string message (named sends message line words.1 j)
     ]

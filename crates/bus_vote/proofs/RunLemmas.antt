@@ -1,16 +1,14 @@
 -- Of a run, every round is voted.
-use Rattle.std.proofs.Common.{◌≡◌, ℕ, zero, suc, ◌+◌, ◌<◌, Bool, true, false, cond, ◌==◌, List, [], ◌∷◌, length, map, Option, Some, None, inl, inr, refl, ap, sym, ◌∙◌, subst}
-use Rattle.std.specs.Prelude.{IsTrue, nat_lt, slice_get, remove}
-use Rattle.std.specs.List.{filter, filter_map, flat_map, list_any, cons_option, range_with_len, zip, AllByRecursion}
-use Rattle.std.specs.Option.{option_and_then, option_map, option_map_or}
-use Rattle.std.proofs.Math.Bool.{and_comm}
+use Rattle.std.proofs.Common.{◌≡◌, ℕ, ◌<◌, Bool, true, false, cond, ◌==◌, List, [], ◌∷◌, map, Option, Some, None, inl, inr, refl, ap, sym, ◌∙◌, subst}
+use Rattle.std.specs.Prelude.{IsTrue, slice_get}
+use Rattle.std.specs.List.{filter, flat_map}
+use Rattle.std.specs.Option.{option_and_then, option_map}
 use Rattle.std.proofs.lemmas.Bool.{eqb-true}
 use Rattle.std.proofs.lemmas.Option.{slice_get-map}
 use Rattle.bus_strings.specs.Members.{In}
 use Rattle.bus_strings.proofs.ClearLaws.{unmarked}
-use Rattle.bus_strings.proofs.MemberLaws.{of_each, at_in, in_append_cases, from_map, from_filter}
+use Rattle.bus_strings.proofs.MemberLaws.{in_append_cases, from_map, from_filter, from_given}
 use Rattle.bus_strings.specs.Messages.{Entry}
-use Rattle.bus_strings.specs.Transmissions.{end_of, overlaps, garbled}
 use Rattle.bus_table.specs.declared.line.SendLine.{SendLine}
 use Rattle.bus_table.specs.Tables.{Sender, Table, Hand}
 use Rattle.bus_table.specs.Valid.{is_valid}
@@ -56,14 +54,6 @@ voted_parts label (a ∷ (b ∷ (c ∷ []))) v h = by_test (are_apart a b c) h w
     some_is e = cc
   by_test false k = absurd (let w : None ≡ Some v = k in cc)
 voted_parts label (a ∷ (b ∷ (c ∷ (d ∷ rest)))) v h = absurd (let w : None ≡ Some v = h in cc)
-
-from_given : {X Y : Type 0} (h : X → Option Y) (xs : List X) (y : Y) → In y (filter_map h xs) → (x : X) × (h x ≡ Some y)
-from_given h [] y i = absurd i
-from_given {X = X} {Y = Y} h (x ∷ xs) y i = by_answer (h x) refl i (λ j. from_given h xs y j) where
-  by_answer : (o : Option Y) → h x ≡ o → In y (cons_option o (filter_map h xs)) → (In y (filter_map h xs) → (x : X) × (h x ≡ Some y)) → (x : X) × (h x ≡ Some y)
-  by_answer None e j next = next j
-  by_answer (Some z) e (inl same) next = (x, e ∙ ap Some (sym same))
-  by_answer (Some z) e (inr j) next = next j
 
 from_flat : {X Y : Type 0} (f : X → List Y) (xs : List X) (y : Y) → In y (flat_map f xs) → (x : X) × In x xs × In y (f x)
 from_flat f [] y i = absurd i

@@ -4,14 +4,16 @@ use Rattle.std.specs.Prelude.{slice_get}
 use Rattle.std.specs.List.{filter}
 use Rattle.std.proofs.lemmas.Bool.{eq-eqb, ne_eqb, cases_lt}
 use Rattle.std.proofs.lemmas.List.Elements.{filter-append}
+use Rattle.bus_regime.proofs.GapLaws.{same_by_number}
 use Rattle.bus_strings.specs.Members.{In}
 use Rattle.bus_strings.specs.Messages.{Message, Entry}
 use Rattle.bus_strings.specs.Transmissions.{end_of}
+use Rattle.bus_strings.proofs.ListLaws.{get_left}
 use Rattle.bus_table.specs.declared.mode.Mode.{Mode}
 use Rattle.bus_table.specs.declared.mode.Mode.TheVariants.{Aperiodic, Periodic}
 use Rattle.bus_table.specs.Tables.{Sender, Table, Hand}
 use Rattle.bus_table.specs.inside.Facts.{TableFacts}
-use Rattle.bus_table.specs.Turns.{turn_key, turn_order}
+use Rattle.bus_table.specs.Turns.{turn_key, turn_order, Rises}
 use Rattle.bus_table.specs.inside.Orders.{Rises, Differ}
 use Rattle.bus_table.proofs.TurnLaws.{from_sort, in_sort, behind_rises, numbers_differ, order_rises}
 use Rattle.bus_schedule.specs.Even.{messages_of, rounds}
@@ -78,11 +80,6 @@ own_once key messages round sender (a ∷ order) (x ∷ xs) l r h (inr i) =
     (rest.0, ap (λ (t : Bool). cond t (x ∷ filter (is_own sender.number) xs) (filter (is_own sender.number) xs)) other ∙ rest.1)
 
 -- ---- rounds
-get_left : {X : Type 0} (xs ys : List X) (k : ℕ) → k < length xs → slice_get (xs ++ ys) k ≡ slice_get xs k
-get_left [] ys k h = absurd (omega arith)
-get_left (x ∷ xs) ys zero h = refl
-get_left (x ∷ xs) ys (suc k) h = get_left xs ys k (omega arith)
-
 get_last : {X : Type 0} (xs : List X) (x : X) (k : ℕ) → k ≡ length xs → slice_get (xs ++ x ∷ []) k ≡ Some x
 get_last [] x k h = ap (slice_get (x ∷ [])) h
 get_last (y ∷ xs) x k h = ap (slice_get (y ∷ (xs ++ x ∷ []))) h ∙ get_last xs x (length xs) refl
@@ -122,19 +119,12 @@ turned messages sender f (suc n) k h within =
     ]
 
 -- ---- the closed schedule
-same_sender : (senders : List Sender) → Differ (λ s. s.number) senders → (a b : Sender) → In a senders → In b senders → a.number ≡ b.number → a ≡ b
-same_sender [] d a b i j e = absurd i
-same_sender (s ∷ senders) d a b (inl p) (inl q) e = p ∙ sym q
-same_sender (s ∷ senders) d a b (inl p) (inr j) e = absurd (d.0 b j (ap (λ (x : Sender). x.number) (sym p) ∙ e))
-same_sender (s ∷ senders) d a b (inr i) (inl q) e = absurd (d.0 a i (ap (λ (x : Sender). x.number) (sym q) ∙ sym e))
-same_sender (s ∷ senders) d a b (inr i) (inr j) e = same_sender senders d.1 a b i j e
-
 -- each sender speaks once in whatever is laid in turn order
 spoken : (table : Table) (messages : ℕ → List Message) (sender : Sender) (round : ℕ) (xs : List Entry) → TableFacts table → In sender table.senders
     → Laid messages round (turn_order table) xs → Once messages round sender xs
 spoken table messages sender round xs facts i l =
     own_once (turn_key table.mode) messages round sender (turn_order table) xs l (order_rises table facts)
-    (λ b j e. same_sender table.senders (numbers_differ table facts) b sender (from_sort (turn_key table.mode) table.senders b j) i e)
+    (λ b j e. same_by_number table.senders (numbers_differ table facts) b sender (from_sort (turn_key table.mode) table.senders b j) i e)
     (in_sort (turn_key table.mode) table.senders sender i)
 
 in_mode : (mode : Mode) (table : Table) (messages : ℕ → List Message) (sender : Sender) (n round : ℕ) → TableFacts table → In sender table.senders → round < n

@@ -6,9 +6,7 @@ use Rattle.std.specs.Option.{option_map_or, option_and_then}
 use Rattle.std.proofs.lemmas.Bool.{cases_lt, lt-ltb, le-ltb, eq-eqb, ne_eqb}
 use Rattle.std.proofs.lemmas.List.{take_more}
 use Rattle.std.proofs.lemmas.List.Folds.{list_any-append}
-use Rattle.std.proofs.lemmas.List.FromFn.{length-map-range_with_len, get_or-map-range_with_len}
 use Rattle.std.proofs.lemmas.Option.{slice_get_read, slice_get_within, get_or_from_slice_get}
-use Rattle.std.proofs.Math.Seq.{drop-cons}
 use Rattle.bus_strings.specs.Messages.{Entry}
 use Rattle.bus_strings.specs.Transmissions.{end_of, garbled, marks}
 use Rattle.bus_strings.specs.OverlapLaws.{NeighboursTell, AscendingIsByMoment}
@@ -18,6 +16,7 @@ use Rattle.bus_vote.specs.inside.Putting.{words_put, round_put}
 use Rattle.bus_vote.specs.Rounds.{sent_by, words_of, first_words, second_words, third_words}
 use Rattle.bus_vote.specs.inside.Walks.{IsSent, IsReach, IsSpaced, TwoAreOver, sent_from}
 use Rattle.bus_strings.proofs.ListLaws.{flat_map-range}
+use Rattle.bus_strings.proofs.OverlapLemmas.{marks_more}
 use Rattle.bus_vote.proofs.RoundLemmas.{left_own, left_other, left_past}
 
 -- ---- the list of a trace
@@ -53,13 +52,6 @@ reach_more list at x reach more within is e r m =
     ∙ ap (ltb m) (sym e)
 
 -- ---- which are garbled
-pub marks_more : (list : List Entry) (k : ℕ) → k < length list → drop k (marks list) ≡ garbled list k ∷ drop (k + 1) (marks list)
-marks_more list k h =
-    let long : length (marks list) ≡ length list = length-map-range_with_len (garbled list) 0 (length list) in
-    drop-cons (marks list) k false (omega arith)
-    ∙ ap (λ b. b ∷ drop (suc k) (marks list)) (get_or-map-range_with_len (garbled list) 0 (length list) k k false h (omega arith))
-    ∙ ap (λ n. garbled list k ∷ drop n (marks list)) (let e : suc k ≡ k + 1 = omega arith in e)
-
 garbled_by : (list : List Entry) (at : ℕ) (x : Entry) (reach moment end : ℕ) → NeighboursTell → IsSent list → at < length list → x ≡ get_or list at x
     → IsReach (take at list) reach → moment ≡ x.moment → end ≡ end_of x
     → garbled list at ≡ (ltb moment reach || option_map_or (λ y. ltb y.moment end) (slice_get list (at + 1)) false)

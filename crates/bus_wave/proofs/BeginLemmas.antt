@@ -1,9 +1,8 @@
 -- The sender of a message is found by its first label word, since no two SEND lines of a table have the same label and extension.
-use Rattle.std.proofs.Common.{◌≡◌, ℕ, ◌/◌, ◌%◌, Bool, true, false, cond, ◌&&◌, ◌==◌, List, [], ◌∷◌, ◌++◌, Option, Some, None}
+use Rattle.std.proofs.Common.{◌≡◌, ℕ, ◌/◌, ◌%◌, Bool, true, false, cond, ◌&&◌, ◌==◌, List, [], ◌∷◌, ◌++◌, Some, None}
 use Rattle.std.proofs.Common.{refl, sym, ap, subst, ◌∙◌, inl, inr, append_assoc, append-nil}
-use Rattle.std.specs.Prelude.{IsTrue, is_none}
+use Rattle.std.specs.Prelude.{IsTrue}
 use Rattle.std.specs.List.{list_any}
-use Rattle.std.specs.Option.{option_map}
 use Rattle.std.proofs.lemmas.Bool.{and_parts, or_parts, eqb-true, eq-eqb, true≢false}
 use Rattle.std.proofs.lemmas.List.Folds.{list_any-append}
 use Rattle.bus_strings.specs.Members.{In}
@@ -11,51 +10,31 @@ use Rattle.bus_strings.proofs.MemberLaws.{in_append_right}
 use Rattle.bus_table.specs.declared.line.SendLine.{SendLine}
 use Rattle.bus_table.specs.Fits.{sender_of}
 use Rattle.bus_table.specs.Tables.{Sender, Table}
-use Rattle.bus_table.specs.Valid.{is_valid, is_in_range}
-use Rattle.bus_table.proofs.ValidLaws.{or_none, is_none_is}
-use Rattle.bus_table.specs.Whole.{first_again, same_pair, send_lines, no_sender, number_twice, gap_twice, gap_not_short, pair_twice, whole_refusal}
+use Rattle.bus_table.specs.Valid.{is_valid}
+use Rattle.bus_table.proofs.ValidLaws.{map_none, fresh_first}
+use Rattle.bus_table.specs.Whole.{first_again, same_pair, send_lines}
+use Rattle.bus_table.proofs.PartLaws.{parts_of}
 use Rattle.bus_wave.specs.Judging.{is_label_of, begins, beginner}
 use Rattle.bus_wave.proofs.SenderLemmas.{find_is}
 
 -- ---- no line stands again
-once_split : (earlier : List SendLine) (x : SendLine) (xs : List SendLine) → first_again same_pair earlier (x ∷ xs) ≡ None
-    → (list_any (λ y. same_pair y x) earlier ≡ false) × (first_again same_pair (earlier ++ x ∷ []) xs ≡ None)
-once_split earlier x xs h =
-    elim (list_any (λ y. same_pair y x) earlier) as (λ b. cond b (Some x) (first_again same_pair (earlier ++ x ∷ []) xs) ≡ None → (b ≡ false) ×
-    (first_again same_pair (earlier ++ x ∷ []) xs ≡ None)) [
-      | true ↦ λ k. absurd (cc)
-      | false ↦ λ k. (refl, k)
-    ] h
-
 none_again : (earlier xs : List SendLine) (line : SendLine) → first_again same_pair earlier xs ≡ None → In line xs
     → list_any (λ y. same_pair y line) earlier ≡ false
 none_again earlier [] line h i = absurd i
 none_again earlier (x ∷ xs) line h (inl same) =
-    ap (λ l. list_any (λ y. same_pair y l) earlier) same ∙ (once_split earlier x xs h).0
+    ap (λ l. list_any (λ y. same_pair y l) earlier) same ∙ (fresh_first same_pair earlier x xs h).0
 none_again earlier (x ∷ xs) line h (inr i) =
-    let rest = none_again (earlier ++ x ∷ []) xs line (once_split earlier x xs h).1 i in
+    let rest = none_again (earlier ++ x ∷ []) xs line (fresh_first same_pair earlier x xs h).1 i in
     (or_parts (list_any (λ y. same_pair y line) earlier) (list_any (λ y. same_pair y line) (x ∷ [])) (sym (list_any-append (λ y. same_pair y line) earlier (x ∷ [])) ∙ rest)).0
 
 onward : (earlier xs ys : List SendLine) → first_again same_pair earlier (xs ++ ys) ≡ None → first_again same_pair (earlier ++ xs) ys ≡ None
 onward earlier [] ys h = ap (λ es. first_again same_pair es ys) (append-nil earlier) ∙ h
 onward earlier (x ∷ xs) ys h =
-    ap (λ es. first_again same_pair es ys) (sym (append_assoc earlier (x ∷ []) xs)) ∙ onward (earlier ++ x ∷ []) xs ys (once_split earlier x (xs ++ ys) h).1
+    ap (λ es. first_again same_pair es ys) (sym (append_assoc earlier (x ∷ []) xs)) ∙ onward (earlier ++ x ∷ []) xs ys (fresh_first same_pair earlier x (xs ++ ys) h).1
 
 -- ---- the pairs of a valid table
-mapped_none : {A B : Type 0} (f : A → B) (o : Option A) → option_map f o ≡ None → o ≡ None
-mapped_none f None h = refl
-mapped_none f (Some x) h = absurd cc
-
 pairs_once : (table : Table) → IsTrue (is_valid table) → first_again same_pair [] (send_lines table.senders) ≡ None
-pairs_once table valid =
-    let p = and_parts (is_in_range table) (is_none (whole_refusal table)) valid in
-    let none = is_none_is (whole_refusal table) p.1 in
-    let a = or_none (no_sender table.senders) _ none in
-    let b = or_none (number_twice table) _ a.1 in
-    let d = or_none (gap_twice table.senders) _ b.1 in
-    let e = or_none (gap_not_short table.sg table.senders) _ d.1 in
-    let f = or_none (pair_twice table.senders) _ e.1 in
-    mapped_none _ (first_again same_pair [] (send_lines table.senders)) f.0
+pairs_once table valid = map_none _ (first_again same_pair [] (send_lines table.senders)) (parts_of table valid).pairs
 
 -- ---- the sender of a label word
 label_again : (l line : SendLine) (value : ℕ) → is_label_of value l ≡ true → is_label_of value line ≡ true → same_pair l line ≡ true
@@ -78,7 +57,7 @@ not_other : (earlier : List SendLine) (sends others : List SendLine) (line : Sen
     → In line others → is_label_of value line ≡ true → begins value sends ≡ false
 not_other earlier [] others line value h i label = refl
 not_other earlier (l ∷ ls) others line value h i label =
-    let rest = (once_split earlier l (ls ++ others) h).1 in
+    let rest = (fresh_first same_pair earlier l (ls ++ others) h).1 in
     let none = none_again (earlier ++ l ∷ []) (ls ++ others) line rest (in_append_right ls others line i) in
     let last = (or_parts (list_any (λ y. same_pair y line) earlier) (list_any (λ y. same_pair y line) (l ∷ [])) (sym (list_any-append (λ y. same_pair y line) earlier (l ∷ [])) ∙ none)).1 in
     let apart = (or_parts (same_pair l line) false last).0 in

@@ -18,13 +18,13 @@ use Rattle.bus_wave.specs.Code.{kind_of, bits_in, frame_from, frame_of}
 use Rattle.bus_wave.specs.Symbols.{are_digits}
 
 -- ---- bits and numbers
-abbrev bit_value : Bool → ℕ
+abbrev pub bit_value : Bool → ℕ
 bit_value bit = cond bit 1 0
 
 number_push : (bits : List Bool) (bit : Bool) → number_of_bits (bits ++ bit ∷ []) ≡ 2 * number_of_bits bits + bit_value bit
 number_push bits bit = fold-append (λ n b. 2 * n + bit_value b) 0 bits (bit ∷ [])
 
-odd_bit : (n : ℕ) → bit_value (n % 2 == 1) ≡ n % 2
+pub odd_bit : (n : ℕ) → bit_value (n % 2 == 1) ≡ n % 2
 odd_bit n = grind (arith, nat_tests)
 
 number_is : (count n : ℕ) → n < 2 ^ count → number_of_bits (bits_of count n) ≡ n
@@ -101,7 +101,7 @@ pairs_are (false ∷ true ∷ rest) bits h =
     let m = mapped (λ bs. false ∷ bs) (bits_in rest) bits h in
     ap (λ hs. false ∷ true ∷ hs) (pairs_are rest m.0 m.1) ∙ ap (flat_map pair) m.2
 
-length-pairs : (bits : List Bool) → length (flat_map pair bits) ≡ 2 * length bits
+pub length-pairs : (bits : List Bool) → length (flat_map pair bits) ≡ 2 * length bits
 length-pairs [] = refl
 length-pairs (bit ∷ bits) = omega (arith, length-pairs bits)
 

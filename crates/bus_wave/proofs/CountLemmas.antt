@@ -1,15 +1,13 @@
 -- The holds of a list, and that spaced lists are those of traces.
-use Rattle.std.proofs.Common.{arith, ◌≡◌, ℕ, zero, suc, ◌+◌, ◌-◌, ◌<◌, ◌≤◌, true, false, cond, ◌==◌, List, [], ◌∷◌, ◌++◌, length, Option, Some, None}
-use Rattle.std.proofs.Common.{◌≢◌, refl, sym, ap, subst, ◌∙◌, inl, get_or, take, set}
+use Rattle.std.proofs.Common.{arith, ◌≡◌, ℕ, ◌+◌, ◌-◌, ◌<◌, ◌≤◌, true, false, cond, ◌==◌, List, [], ◌∷◌, length, Option, Some, None}
+use Rattle.std.proofs.Common.{◌≢◌, refl, sym, ap, ◌∙◌, inl, get_or, take, set}
 use Rattle.std.specs.Prelude.{IfSome, is_some, IsTrue}
 use Rattle.std.proofs.lemmas.Bool.{eqb-true}
 use Rattle.std.proofs.lemmas.Bool.Decides.{nat_tests}
 use Rattle.std.proofs.lemmas.Grind.{get_or-set_at}
 use Rattle.std.proofs.lemmas.List.{get_or-set_other}
 use Rattle.std.proofs.lemmas.List.Sums.{count_by-le-length, count_by_more_no, count_by_more_yes}
-use Rattle.std.specs.List.{AllByRecursion, filter_map, range_with_len, cons_option}
-use Rattle.std.specs.Option.{option_to_list}
-use Rattle.std.proofs.lemmas.List.Elements.{filter_map-append}
+use Rattle.std.specs.List.{AllByRecursion, filter_map, range_with_len}
 use Rattle.bus_strings.specs.Limits.{horizon_limit}
 use Rattle.bus_strings.proofs.MessageLaws.{bits_some}
 use Rattle.bus_strings.specs.Messages.{Entry, IsMessage}
@@ -20,6 +18,7 @@ use Rattle.bus_table.specs.Valid.{is_valid}
 use Rattle.bus_trace.specs.declared.hold.Hold.{Hold}
 use Rattle.bus_trace.specs.Limits.{most_count}
 use Rattle.bus_trace.specs.Traces.{AscendAbove, IsHold, IsBelow, IsTrace}
+use Rattle.bus_trace.proofs.HoldLists.{ascend_from, ranged_from}
 use Rattle.bus_wave.specs.Counted.{entries_of, hold_at, holds_of}
 use Rattle.bus_wave.specs.Spacing.{least_gap, IsOfSender, AreApart}
 use Rattle.bus_wave.proofs.BeginLemmas.{of_number}
@@ -46,43 +45,28 @@ pub count_le : (list : List Entry) (n : ℕ) → entries_of list n ≤ length li
 count_le list n = count_by-le-length (λ x. x.terminal == n) list
 
 -- a hold is of its number, and of no more entries than there are
-hold_is : (senders : List Sender) (list : List Entry) (n : ℕ) → IfSome (hold_at senders list n) (λ hold. (hold.terminal ≡ n) × (hold.count ≤ length list))
-hold_is senders list n =
-    elim (is_some (sender_of senders n)) as (λ b. IfSome (cond b (let o : Option Hold = Some (record { terminal = n; count = entries_of list n }) in o) None) (λ hold. (hold.terminal ≡ n) × (hold.count ≤ length list))) [
-      | true ↦ (refl, count_le list n)
+numbered : (senders : List Sender) (list : List Entry) (n : ℕ) → IfSome (hold_at senders list n) (λ hold. hold.terminal ≡ n)
+numbered senders list n =
+    elim (is_some (sender_of senders n)) as (λ b. IfSome (cond b (let o : Option Hold = Some (record { terminal = n; count = entries_of list n }) in o) None) (λ hold. hold.terminal ≡ n)) [
+      | true ↦ refl
       | false ↦ tt
     ]
 
-weaker : (n k : ℕ) (holds : List Hold) → k ≤ n → AscendAbove n holds → AscendAbove k holds
-weaker n k [] h a = tt
-weaker n k (hold ∷ holds) h a = (omega (arith, a.0), a.1)
-
-ascend_from : (senders : List Sender) (list : List Entry) (n k : ℕ) → AscendAbove k (filter_map (hold_at senders list) (range_with_len (k + 1) n))
-ascend_from senders list zero k = tt
-ascend_from senders list (suc n) k =
-    let rest = ascend_from senders list n (k + 1) in
-    elim (hold_at senders list (k + 1)) as (λ o. IfSome o (λ hold. (hold.terminal ≡ k + 1) × (hold.count ≤ length list)) → AscendAbove k (cons_option o (filter_map (hold_at senders list) (range_with_len (k + 1 + 1) n)))) [
-      | None ↦ λ h. weaker (k + 1) k _ (omega arith) rest
-      | Some hold ↦ λ h. (omega (arith, h.0), subst (λ t. AscendAbove t (filter_map (hold_at senders list) (range_with_len (k + 1 + 1) n))) (sym h.0) rest)
-    ] (hold_is senders list (k + 1))
-
-ranged_from : (senders : List Sender) (list : List Entry) (n k : ℕ) → length list ≤ most_count → k + n ≤ 128
-    → AllByRecursion IsHold (filter_map (hold_at senders list) (range_with_len (k + 1) n))
-ranged_from senders list zero k few low = tt
-ranged_from senders list (suc n) k few low =
-    let rest = ranged_from senders list n (k + 1) few (omega arith) in
-    elim (hold_at senders list (k + 1)) as (λ o. IfSome o (λ hold. (hold.terminal ≡ k + 1) × (hold.count ≤ length list)) → AllByRecursion IsHold (cons_option o (filter_map (hold_at senders list) (range_with_len (k + 1 + 1) n)))) [
-      | None ↦ λ h. rest
-      | Some hold ↦ λ h. (record { positive = omega (arith, h.0); low = omega (arith, h.0); count = omega (arith, h.1) }, rest)
-    ] (hold_is senders list (k + 1))
+counted : (senders : List Sender) (list : List Entry) (n : ℕ) → length list ≤ most_count → IfSome (hold_at senders list n) (λ hold. hold.count ≤ most_count)
+counted senders list n few =
+    elim (is_some (sender_of senders n)) as (λ b. IfSome (cond b (let o : Option Hold = Some (record { terminal = n; count = entries_of list n }) in o) None) (λ hold. hold.count ≤ most_count)) [
+      | true ↦ omega (arith, few, count_le list n)
+      | false ↦ tt
+    ]
 
 pub holds_ascend : (table : Table) (list : List Entry) → AscendAbove 0 (holds_of table list)
 unfolding holds_of
-holds_ascend table list = ascend_from table.senders list 128 0
+holds_ascend table list = ascend_from (hold_at table.senders list) (numbered table.senders list) 128 0
 
 pub holds_ranged : (table : Table) (list : List Entry) → length list ≤ most_count → AllByRecursion IsHold (holds_of table list)
 unfolding holds_of
-holds_ranged table list few = ranged_from table.senders list 128 0 few (omega arith)
+holds_ranged table list few =
+    ranged_from (hold_at table.senders list) (numbered table.senders list) (λ n. counted table.senders list n few) 128 0 (omega arith)
 
 -- ---- lists
 all_below : (table : Table) → IsTrue (is_valid table) → (start horizon : ℕ) (list : List Entry) → AreApart start horizon list
@@ -125,27 +109,6 @@ is_trace table valid horizon list low few a of m = record {
 }
 
 -- ---- one number more
-range_more : (a n : ℕ) → range_with_len a (suc n) ≡ range_with_len a n ++ (a + n) ∷ []
-range_more a zero = (let e : a ≡ a + 0 = omega arith in ap (λ k. k ∷ []) e)
-range_more a (suc n) = (let e : (a + 1) + n ≡ a + suc n = omega arith in ap (λ l. a ∷ l) (range_more (a + 1) n ∙ ap (λ k. range_with_len (a + 1) n ++ k ∷ []) e))
-
-one_hold : (o : Option Hold) → cons_option o [] ≡ option_to_list o
-one_hold None = refl
-one_hold (Some hold) = refl
-
-pub holds_more : (senders : List Sender) (list : List Entry) (number : ℕ) (old new : List Hold) → 1 ≤ number
-    → old ≡ filter_map (hold_at senders list) (range_with_len 1 (number - 1)) → new ≡ old ++ option_to_list (hold_at senders list number)
-    → new ≡ filter_map (hold_at senders list) (range_with_len 1 (number + 1 - 1))
-holds_more senders list number old new some h e =
-    let next : number + 1 - 1 ≡ suc (number - 1) = omega arith in
-    let last : 1 + (number - 1) ≡ number = omega arith in
-    e ∙ ap (λ l. l ++ option_to_list (hold_at senders list number)) h
-    ∙ ap (λ l. filter_map (hold_at senders list) (range_with_len 1 (number - 1)) ++ l) (sym (one_hold (hold_at senders list number)))
-    ∙ ap (λ k. filter_map (hold_at senders list) (range_with_len 1 (number - 1)) ++ filter_map (hold_at senders list) (k ∷ [])) (sym last)
-    ∙ sym (filter_map-append (hold_at senders list) (range_with_len 1 (number - 1)) ((1 + (number - 1)) ∷ []))
-    ∙ ap (filter_map (hold_at senders list)) (sym (range_more 1 (number - 1)))
-    ∙ ap (λ k. filter_map (hold_at senders list) (range_with_len 1 k)) (sym next)
-
 pub holds_all : (table : Table) (list : List Entry) (number : ℕ) (holds : List Hold) → number ≡ 129
     → holds ≡ filter_map (hold_at table.senders list) (range_with_len 1 (number - 1)) → holds ≡ holds_of table list
 unfolding holds_of

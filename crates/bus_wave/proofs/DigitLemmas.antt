@@ -1,6 +1,6 @@
 -- The digits of a W line, as the code reads and writes them, are its half bits.
 use Rattle.std.proofs.Common.{arith, ◌≡◌, ℕ, zero, suc, ◌+◌, ◌-◌, ◌*◌, ◌/◌, ◌%◌, ◌<◌, ◌≤◌, ◌^◌, Bool, true, false, not, cond, ◌&&◌, ◌==◌, List, [], ◌∷◌, ◌++◌}
-use Rattle.std.proofs.Common.{get_or, length, drop, fold, Option, Some, None, refl, sym, ap, ◌∙◌, append_assoc, length-append}
+use Rattle.std.proofs.Common.{get_or, length, drop, fold, Option, Some, None, refl, sym, ap, ◌∙◌, append_assoc}
 use Rattle.std.specs.Char.{digit_value}
 use Rattle.std.specs.Prelude.{IfSome}
 use Rattle.std.specs.List.{flat_map, list_all}
@@ -17,6 +17,7 @@ use Rattle.bus_words.specs.declared.word.FramedWord.{FramedWord}
 use Rattle.bus_wave.specs.Code.{sync, pair, bits_of, frame_bits, frame_halves, number_of_bits, digits_of, halves_of, bits_in, frame_from, frame_of}
 use Rattle.bus_wave.specs.Symbols.{are_digits}
 use Rattle.bus_wave.specs.inside.Digits.{two_bits, gathered, head_of, frame_with, code_digit, code_digits, first_digit, second_digit}
+use Rattle.bus_wave.proofs.CodeLemmas.{bit_value, odd_bit, length-bits_of, length-pairs}
 
 -- ---- sixteen cases
 each_digit : (P : ℕ → Type 0) → P 0 → P 1 → P 2 → P 3 → P 4 → P 5 → P 6 → P 7 → P 8 → P 9 → P 10 → P 11 → P 12 → P 13 → P 14 → P 15 → (v : ℕ) → v < 16 → P v
@@ -85,9 +86,6 @@ two_below v =
     ]
 
 -- ---- the digits behind the first two
-abbrev bit_value : Bool → ℕ
-bit_value bit = cond bit 1 0
-
 abbrev number_onto : ℕ → List Bool → ℕ
 number_onto n bits = fold (λ m bit. 2 * m + bit_value bit) n bits
 
@@ -224,18 +222,8 @@ digits_push n (p ∷ q ∷ r ∷ []) a b c d h = absurd (omega (arith, h))
 digits_push n (p ∷ q ∷ r ∷ s ∷ rest) a b c d h =
     ap (λ ds. hex_digit (number_of_bits (p ∷ q ∷ r ∷ s ∷ [])) ∷ ds) (digits_push (n - 1) rest a b c d (omega (arith, h)))
 
-length-pairs : (bits : List Bool) → length (flat_map pair bits) ≡ 2 * length bits
-length-pairs [] = refl
-length-pairs (bit ∷ bits) = omega (arith, length-pairs bits)
-
-length-bits : (count n : ℕ) → length (bits_of count n) ≡ count
-length-bits zero n = refl
-length-bits (suc count) n = omega (arith, length-append (bits_of count (n / 2)) ((n % 2 == 1) ∷ []), length-bits count (n / 2))
-
 low_two : (n : ℕ) → 2 * bit_value (n / 2 % 2 == 1) + bit_value (n % 2 == 1) ≡ n % 4
-low_two n = omega (arith, odd_bit (n / 2), odd_bit n) where
-  odd_bit : (m : ℕ) → bit_value (m % 2 == 1) ≡ m % 2
-  odd_bit m = grind (arith, nat_tests)
+low_two n = omega (arith, odd_bit (n / 2), odd_bit n)
 
 -- so many digits of a number are those of twice as many bits
 by_fours : (count n : ℕ) → digits_of (flat_map pair (bits_of (2 * count) n)) ≡ code_digits count n
@@ -248,7 +236,7 @@ by_fours (suc count) n =
     let four : n / 2 / 2 ≡ n / 4 = omega arith in
     ap (λ c. digits_of (flat_map pair (bits_of c n))) twice
     ∙ ap digits_of (flat_map-append pair (front ++ x ∷ []) (y ∷ []) ∙ ap (λ hs. hs ++ (y ∷ not y ∷ [])) (flat_map-append pair front (x ∷ [])) ∙ append_assoc (flat_map pair front) (x ∷ not x ∷ []) (y ∷ not y ∷ []))
-    ∙ digits_push count (flat_map pair front) x (not x) y (not y) (omega (arith, length-pairs front, length-bits (2 * count) (n / 2 / 2)))
+    ∙ digits_push count (flat_map pair front) x (not x) y (not y) (omega (arith, length-pairs front, length-bits_of (2 * count) (n / 2 / 2)))
     ∙ ap (λ d. digits_of (flat_map pair front) ++ d ∷ []) (code_two x y ∙ ap code_digit (low_two n))
     ∙ ap (λ m. digits_of (flat_map pair (bits_of (2 * count) m)) ++ code_digit (n % 4) ∷ []) four
     ∙ ap (λ ds. ds ++ code_digit (n % 4) ∷ []) (by_fours count (n / 4))

@@ -1,11 +1,10 @@
 -- The trace of a run is spaced.
-use Rattle.std.proofs.Common.{arith, ◌≡◌, ℕ, zero, suc, ◌+◌, ◌*◌, ◌<◌, ◌≤◌, max, Bool, true, ◌==◌, List, [], ◌∷◌, ◌++◌, length, get_or, Some}
+use Rattle.std.proofs.Common.{arith, ◌≡◌, ℕ, zero, suc, ◌+◌, ◌*◌, ◌<◌, ◌≤◌, ◌==◌, List, [], ◌∷◌, ◌++◌, length, Some}
 use Rattle.std.proofs.Common.{inl, inr, refl, sym, ap, subst, ◌∙◌, append_assoc}
-use Rattle.std.specs.Prelude.{IsTrue, fold, slice_get}
+use Rattle.std.specs.Prelude.{IsTrue, slice_get}
 use Rattle.std.specs.List.{list_all, AllByRecursion}
-use Rattle.std.proofs.lemmas.Bool.{and_parts, eqb-true, eq-eqb, ne_eqb}
+use Rattle.std.proofs.lemmas.Bool.{and_parts}
 use Rattle.std.proofs.lemmas.List.{append-nil}
-use Rattle.bus_strings.specs.Marking.{greatest_end}
 use Rattle.bus_strings.specs.Members.{In}
 use Rattle.bus_strings.proofs.ListLaws.{all_pass}
 use Rattle.bus_strings.proofs.MemberLaws.{all_in, of_each, at_in, in_append_cases, from_map}
@@ -26,10 +25,12 @@ use Rattle.bus_regime.specs.inside.Fine.{IsFine}
 use Rattle.bus_regime.specs.Gaps.{Gap, latest_end, last_end, gaps_from, gaps}
 use Rattle.bus_regime.proofs.VerdictLaws.{accepted_gaps}
 use Rattle.bus_regime.specs.Verdicts.{verdict_of, is_accepted}
+use Rattle.bus_regime.proofs.WitnessLaws.{found}
 use Rattle.bus_schedule.specs.Closed.{sends, turns, turns_end, origin, offset_turns, in_rounds, gap_schedule, schedule_in, closed, closed_end}
 use Rattle.bus_schedule.specs.Even.{messages_of, rounds, are_even}
 use Rattle.bus_schedule.proofs.HandLemmas.{own_fit, own_count}
 use Rattle.bus_schedule.specs.Laws.{GapsAreLeft}
+use Rattle.bus_schedule.proofs.Greatest.{ends_within}
 use Rattle.bus_wave.specs.Spacing.{least_gap, IsOfSender, AreApart}
 use Rattle.bus_wave.specs.WaveLaws.{RunsAreSpaced}
 
@@ -69,36 +70,7 @@ is_turn Periodic table messages n x i =
     let v = from_map (λ (s : Sender). sends messages w.0 s (w.0 * table.ti + s.at)) (turn_order table) x w.2 in
     record { sender = v.0; there = v.1; round = w.0; within = w.1; moment = w.0 * table.ti + v.0.at; is = sym v.2 }
 
--- the sender of a number, where numbers differ
-found : (senders : List Sender) (s : Sender) → Differ (λ a. a.number) senders → In s senders → sender_of senders s.number ≡ Some s
-found [] s d i = absurd i
-found (a ∷ senders) s d (inl same) = rw (eq-eqb a.number s.number (ap (λ (b : Sender). b.number) (sym same))) (ap Some (sym same))
-found (a ∷ senders) s d (inr i) = rw (ne_eqb a.number s.number (d.0 s i)) (found senders s d.1 i)
-
 -- ---- ends
-max_left : (a b c : ℕ) → a ≤ b → a ≤ max b c
-max_left a b c h = grind arith
-
-max_right : (a b c : ℕ) → a ≤ c → a ≤ max b c
-max_right a b c h = grind arith
-
-fold_more : (a : ℕ) (xs : List Entry) → a ≤ fold (λ end x. max end (end_of x)) a xs
-fold_more a [] = omega arith
-fold_more a (x ∷ xs) =
-    let rest = fold_more (max a (end_of x)) xs in
-    let own : a ≤ max a (end_of x) = max_left a a (end_of x) (omega arith) in omega arith
-
-ends_from : (a : ℕ) (xs : List Entry) (x : Entry) → In x xs → end_of x ≤ fold (λ end x. max end (end_of x)) a xs
-ends_from a [] x i = absurd i
-ends_from a (y ∷ xs) x (inl same) =
-    let rest = fold_more (max a (end_of y)) xs in
-    let own : end_of y ≤ max a (end_of y) = max_right (end_of y) a (end_of y) (omega arith) in
-    let e : end_of x ≡ end_of y = ap end_of same in omega arith
-ends_from a (y ∷ xs) x (inr i) = ends_from (max a (end_of y)) xs x i
-
-ends_within : (xs : List Entry) (x : Entry) → In x xs → end_of x ≤ greatest_end xs
-ends_within xs x i = ends_from 0 xs x i
-
 -- ---- apart
 -- each starts at least the least gap behind the end of the one before, and the first behind `end`
 abbrev Follow : ℕ → List Entry → Type 0

@@ -4,14 +4,10 @@ use Rattle.std.proofs.Common.{length, take, drop, get_or, Option, Some, None, Re
 use Rattle.std.specs.Fmt.{decimal}
 use Rattle.std.specs.Prelude.{slice_index_or}
 use Rattle.std.specs.Bool.{beq}
-use Rattle.std.specs.Char.{is_ascii_digit}
 use Rattle.std.specs.List.{slice_split, onto_first, join_with_byte, list_all, AllByRecursion}
 use Rattle.std.proofs.lemmas.Bool.{and_parts, eqb-true, eq-eqb, ne_eqb}
 use Rattle.std.proofs.lemmas.Bool.Decides.{nat_tests}
 use Rattle.std.proofs.lemmas.Slice.Eq.{bytes_eq-Decides}
-use Rattle.std.proofs.lemmas.Fmt.{decimal-digits_value}
-use Rattle.std.proofs.lemmas.Str.Parse.{numerals_by_value, tells_digits}
-use Rattle.std.specs.Str.Parse.{AllDigits}
 use Rattle.std.proofs.lemmas.List.Elements.{All-from_recursion}
 use Rattle.std.proofs.lemmas.List.Splits.{slice_split_at, slice_split_none, length-slice_split, join_with_byte-slice_split}
 use Rattle.bus_text.specs.inside.Spelled.{IsFieldByte}
@@ -20,7 +16,9 @@ use Rattle.bus_text.specs.Fields.{is_at}
 use Rattle.bus_text.specs.Lines.{is_feed}
 use Rattle.bus_text.specs.Refusals.{first_of, unless}
 use Rattle.bus_text.specs.Numbers.{is_plain_decimal, decimal_value}
-use Rattle.bus_text.proofs.NumberLaws.{decimal_is, decimal_field}
+use Rattle.bus_text.proofs.NumberLaws.{decimal_is, decimal_field, field_digits}
+use Rattle.bus_text.proofs.CanonicalLaws.{feedless}
+use Rattle.bus_text.proofs.NumberLemmas.{all_digits, decimal_again}
 use Rattle.bus_words.specs.declared.word.Word.{Word}
 use Rattle.bus_words.specs.declared.word.WordError.TheVariants.{Parity as WordParity}
 use Rattle.bus_words.specs.declared.word.FramedWord.{FramedWord}
@@ -42,10 +40,6 @@ spaceless [] h = tt
 spaceless (b ∷ bs) h = (space b h.0, spaceless bs h.1) where
   space : (b : ℕ) → IsFieldByte b → is_space b ≡ false
   space b k = (let n = k.no_blank in grind (arith, nat_tests, n))
-
-feedless : (field : List ℕ) → AllByRecursion IsFieldByte field → AllByRecursion (λ b. is_feed b ≡ false) field
-feedless [] h = tt
-feedless (b ∷ bs) h = (h.0.no_feed, feedless bs h.1)
 
 -- a keyword of one letter, a space and a field
 two_fields : (letter : ℕ) (field : List ℕ) → is_space letter ≡ false → AllByRecursion IsFieldByte field
@@ -118,55 +112,21 @@ IsLineOf (symbol.Quiet n) line = n < 2 ^ 64 → line ≡ 81 ∷ 32 ∷ decimal n
 IsLineOf (symbol.Sent word) line = (word.value < 2 ^ 16) × (line ≡ 87 ∷ 32 ∷ digits_of (word_halves word))
 IsLineOf symbol.End line = line ≡ codes "END"
 
--- a plain decimal is the one spelling of its number
-digits_from : (ds : List ℕ) → list_all is_ascii_digit ds ≡ true → AllDigits 10 ds
-digits_from [] h = tt
-digits_from (d ∷ ds) h =
-    let p = and_parts (is_ascii_digit d) (list_all is_ascii_digit ds) h in
-    (let k = p.0 in grind (arith, nat_tests), digits_from ds p.1)
-
-one_zero : (ds : List ℕ) → is_plain_decimal ds ≡ true → get_or ds 0 0 ≡ 48 → length ds ≡ 1
-one_zero [] h e = absurd cc
-one_zero (d ∷ []) h e = refl
-one_zero (d ∷ c ∷ ds) h e = let p = and_parts (not (d == 48)) (list_all is_ascii_digit (d ∷ c ∷ ds)) h in absurd (no d e p.0) where
-  no : (d : ℕ) → d ≡ 48 → not (d == 48) ≡ true → ⊥
-  no d e h = let k : not (48 == 48) ≡ true = subst (λ (n : ℕ). not (n == 48) ≡ true) e h in cc
-
-some_digits : (ds : List ℕ) → is_plain_decimal ds ≡ true → 0 < length ds
-some_digits [] h = absurd cc
-some_digits (d ∷ ds) h = omega arith
-
-all_digits : (ds : List ℕ) → is_plain_decimal ds ≡ true → list_all is_ascii_digit ds ≡ true
-all_digits [] h = absurd cc
-all_digits (d ∷ []) h = grind (arith, nat_tests)
-all_digits (d ∷ e ∷ ds) h = (and_parts (not (d == 48)) (list_all is_ascii_digit (d ∷ e ∷ ds)) h).1
-
-digit_byte : (b : ℕ) → is_ascii_digit b ≡ true → IsFieldByte b
-digit_byte b h = record { no_blank = grind (arith, nat_tests); no_feed = grind (arith, nat_tests) }
-
-digit_bytes : (ds : List ℕ) → list_all is_ascii_digit ds ≡ true → AllByRecursion IsFieldByte ds
-digit_bytes [] h = tt
-digit_bytes (d ∷ ds) h = let p = and_parts (is_ascii_digit d) (list_all is_ascii_digit ds) h in (digit_byte d p.0, digit_bytes ds p.1)
-
 -- a plain decimal behind `Q` and a space is read as its number
 pub plain_reads : (field : List ℕ) → is_plain_decimal field ≡ true → symbol_reading (fields_of (81 ∷ 32 ∷ field)) ≡ Ok (symbol.Quiet (decimal_value field))
 unfolding symbol_reading
 plain_reads field h =
-    ap symbol_of (two_fields 81 field refl (digit_bytes field (all_digits field h)))
+    ap symbol_of (two_fields 81 field refl (field_digits field (all_digits field h)))
     ∙ ap (λ b. cond b (let r : Result Symbol WaveReason = Ok (symbol.Quiet (decimal_value field)) in r) (Err Spelling)) h
   where
     symbol_of : List (List ℕ) → Result Symbol WaveReason
     symbol_of fields = symbol_reading fields
 
-plain_again : (ds : List ℕ) → is_plain_decimal ds ≡ true → decimal_value ds < 2 ^ 64 → decimal (decimal_value ds) ≡ ds
-plain_again ds h k = decimal-digits_value (numerals_by_value (AllDigits 10) tells_digits) ds (digits_from ds (all_digits ds h))
-    (some_digits ds h) (one_zero ds h) k
-
 quiet_found : (field : List ℕ) (s : Symbol) → quiet_reading field ≡ Ok s → IsLineOf s (81 ∷ 32 ∷ field)
 quiet_found field s h =
     elim (is_plain_decimal field) as (λ b. is_plain_decimal field ≡ b → cond b (let r : Result Symbol WaveReason = Ok (symbol.Quiet (decimal_value field)) in r) (Err Spelling) ≡ Ok s → IsLineOf s (81 ∷ 32 ∷ field)) [
       | false ↦ λ e k. absurd cc
-      | true ↦ λ e k. (let same : symbol.Quiet (decimal_value field) ≡ s = cc in subst (λ t. IsLineOf t (81 ∷ 32 ∷ field)) same (λ low. ap (λ f. 81 ∷ 32 ∷ f) (sym (plain_again field e low))))
+      | true ↦ λ e k. (let same : symbol.Quiet (decimal_value field) ≡ s = cc in subst (λ t. IsLineOf t (81 ∷ 32 ∷ field)) same (λ low. ap (λ f. 81 ∷ 32 ∷ f) (sym (decimal_again field e low))))
     ] refl h
 
 beq_is : (a b : Bool) → beq a b ≡ true → a ≡ b
@@ -287,7 +247,7 @@ pub quiet_feedless : (n : ℕ) → n < 2 ^ 64 → AllByRecursion (λ b. is_feed 
 quiet_feedless n low = (refl, (refl, feedless (decimal n) (decimal_field n low).bytes))
 
 pub plain_feedless : (field : List ℕ) → is_plain_decimal field ≡ true → AllByRecursion (λ b. is_feed b ≡ false) (81 ∷ 32 ∷ field)
-plain_feedless field h = (refl, (refl, feedless field (digit_bytes field (all_digits field h))))
+plain_feedless field h = (refl, (refl, feedless field (field_digits field (all_digits field h))))
 
 pub word_feedless : (word : Word) → AllByRecursion (λ b. is_feed b ≡ false) (87 ∷ 32 ∷ digits_of (word_halves word))
 word_feedless word = (refl, (refl, feedless (digits_of (word_halves word)) (word_bytes word)))

@@ -1,12 +1,13 @@
 use Rattle.std.proofs.Common.{arith, ap, length}
 use Rattle.std.specs.Option.{option_to_list}
+use Rattle.bus_regime.proofs.GapPlaces.{turn_in}
 use Rattle.bus_table.specs.Turns.{turn_order}
 use Rattle.bus_advice.specs.Advices.{gap_advice}
-use Rattle.bus_advice.proofs.TurnSteps.{in_turn, one_more, all_turned}
+use Rattle.bus_advice.proofs.TurnSteps.{one_more, all_turned}
 use Rattle.bus_advice.proofs.cycles.add_gaps.Goals as goal
 
 pub gap_advice-requires-clause-among : goal.gap_advice-requires-clause-among
-gap_advice-requires-clause-among c = in_turn c.args.table.now c.loop-k.k c.turn_at-sender.result.now c.turn_at-sender.ensures
+gap_advice-requires-clause-among c = turn_in c.args.table.now c.loop-k.k c.turn_at-sender.result.now c.turn_at-sender.ensures
 
 pub loop-k-preserved : goal.loop-k-preserved
 loop-k-preserved c =

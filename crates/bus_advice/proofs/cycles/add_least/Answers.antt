@@ -1,11 +1,12 @@
 use Rattle.std.proofs.Common.{arith, ap, refl, length}
+use Rattle.bus_regime.proofs.GapPlaces.{turn_in}
 use Rattle.bus_table.specs.Turns.{turn_order}
 use Rattle.bus_advice.specs.Advices.{least_advices}
-use Rattle.bus_advice.proofs.TurnSteps.{in_turn, one_more, all_turned}
+use Rattle.bus_advice.proofs.TurnSteps.{one_more, all_turned}
 use Rattle.bus_advice.proofs.cycles.add_least.Goals as goal
 
 pub add_lines-requires-clause-among : goal.add_lines-requires-clause-among
-add_lines-requires-clause-among c = in_turn c.args.table.now c.loop-k.k c.turn_at.result.now c.turn_at.ensures
+add_lines-requires-clause-among c = turn_in c.args.table.now c.loop-k.k c.turn_at.result.now c.turn_at.ensures
 
 pub loop-k-preserved : goal.loop-k-preserved
 loop-k-preserved c =

@@ -1,10 +1,11 @@
 use Rattle.std.proofs.Common.{◌≡◌, ◌≤◌, ◌+◌, List, length, drop, arith, sym, ap, ◌∙◌}
 use Rattle.std.proofs.lemmas.List.{drop_all}
+use Rattle.bus_strings.proofs.ListLaws.{drop_at}
 use Rattle.bus_table.specs.Tables.{Sender}
 use Rattle.bus_table.specs.Turns.{turn_key, turn_order}
 use Rattle.bus_table.proofs.TurnLaws.{length-sort}
 use Rattle.bus_cycles.specs.Lanes.{lane_from}
-use Rattle.bus_cycles.proofs.LaneLemmas.{at_drop, lane_here, lane_later}
+use Rattle.bus_cycles.proofs.LaneLemmas.{lane_here, lane_later}
 use Rattle.bus_cycles.proofs.page.lane_of.Goals as goal
 
 pub returns-then-number-terminal : goal.returns-then-number-terminal
@@ -12,14 +13,14 @@ returns-then-number-terminal c =
     let order : List Sender = turn_order c.args.table.now in
     let s : Sender = c.turn_at.result.now in
     sym (c.loop-k.invariant
-    ∙ lane_here order c.loop-k.k c.args.terminal s (at_drop order c.loop-k.k s c.turn_at.ensures) (sym c.number.ensures.value ∙ c.if-number-terminal.true))
+    ∙ lane_here order c.loop-k.k c.args.terminal s (drop_at order c.loop-k.k s c.turn_at.ensures) (sym c.number.ensures.value ∙ c.if-number-terminal.true))
 
 pub loop-k-preserved : goal.loop-k-preserved
 loop-k-preserved c =
     let order : List Sender = turn_order c.args.table.now in
     let s : Sender = c.turn_at.result.now in
     c.loop-k.invariant
-    ∙ lane_later order c.loop-k.k c.args.terminal s (at_drop order c.loop-k.k s c.turn_at.ensures) (λ e. c.if-number-terminal.false (c.number.ensures.value ∙ e))
+    ∙ lane_later order c.loop-k.k c.args.terminal s (drop_at order c.loop-k.k s c.turn_at.ensures) (λ e. c.if-number-terminal.false (c.number.ensures.value ∙ e))
 
 pub returns : goal.returns
 returns c =

@@ -2,8 +2,9 @@ use Rattle.std.proofs.Common.{List, ℕ, arith, ap, length, sym, subst}
 use Rattle.bus_outer.specs.Texts.{Adds}
 use Rattle.bus_outer.proofs.TextLaws.{◌▸◌}
 use Rattle.bus_table.specs.Turns.{turn_order}
+use Rattle.bus_table.proofs.TurnLaws.{order_length}
 use Rattle.bus_explain.specs.Senders.{turn_line}
-use Rattle.bus_explain.proofs.OrderLemmas.{all_lines, next_line, order_length}
+use Rattle.bus_explain.proofs.OrderLemmas.{all_lines, next_line}
 use Rattle.bus_explain.proofs.senders.put_turns.Goals as goal
 
 pub loop-k-preserved : goal.loop-k-preserved

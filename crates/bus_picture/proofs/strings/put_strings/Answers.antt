@@ -5,14 +5,14 @@ use Rattle.std.specs.Option.{option_map_or}
 use Rattle.bus_outer.specs.Texts.{Adds}
 use Rattle.bus_outer.proofs.TextLaws.{◌▸◌}
 use Rattle.bus_strings.specs.Messages.{Entry}
+use Rattle.bus_strings.proofs.ListLaws.{flat_map-range}
 use Rattle.bus_picture.specs.Strings.{pulse_text}
-use Rattle.bus_shapes.proofs.AxisLemmas.{one_more}
 use Rattle.bus_picture.proofs.strings.put_strings.Goals as goal
 
 pub loop-k-preserved : goal.loop-k-preserved
 loop-k-preserved g c =
     subst (λ (t : List ℕ). Adds g.K.Sink.held g.K.Sink.faults c.args.sink.now c.put_pulse.new.sink c.args.text.now c.put_pulse.new.text t)
-    (sym (one_more (λ k. option_map_or (pulse_text c.args.scale.now c.args.takers.now c.args.top c.args.sent.now c.args.x.now k) (slice_get c.args.x.now.message k) []) c.loop-k.k))
+    (sym (flat_map-range (λ k. option_map_or (pulse_text c.args.scale.now c.args.takers.now c.args.top c.args.sent.now c.args.x.now k) (slice_get c.args.x.now.message k) []) c.loop-k.k))
     (c.loop-k.invariant ▸ c.put_pulse.ensures)
 
 pub returns : goal.returns

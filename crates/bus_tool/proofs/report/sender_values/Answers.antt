@@ -1,6 +1,7 @@
 use Rattle.std.proofs.Common.{arith, ap, length}
 use Rattle.bus_table.specs.Turns.{turn_order}
-use Rattle.bus_tool.proofs.ReportTexts.{values_next, values_whole, order_length}
+use Rattle.bus_table.proofs.TurnLaws.{order_length}
+use Rattle.bus_tool.proofs.ReportTexts.{values_next, values_whole}
 use Rattle.bus_tool.proofs.report.sender_values.Goals as goal
 
 pub loop-k-preserved : goal.loop-k-preserved

@@ -11,7 +11,19 @@ use Rattle.bus_table.specs.Tables.{Sender, Table}
 use Rattle.bus_table.specs.Ranges.{is_ti, is_sg, is_sender, is_listener}
 use Rattle.bus_table.specs.Valid.{fits_mode, is_valid, is_in_range}
 use Rattle.bus_table.specs.Whole.{no_sender, number_twice, gap_twice, gap_not_short, pair_twice, offset_range, periodic_refusal, whole_refusal}
-use Rattle.bus_table.proofs.ValidLaws.{or_none, is_none_is}
+
+-- neither of two is there
+pub or_none : {A : Type 0} (a b : Option A) → option_or a b ≡ None → (a ≡ None) × (b ≡ None)
+or_none None b h = (refl, h)
+or_none (Some x) b h = absurd (cc)
+
+pub none_or : {A : Type 0} (a b : Option A) → a ≡ None → b ≡ None → option_or a b ≡ None
+none_or None b h k = k
+none_or (Some x) b h k = absurd (cc)
+
+pub is_none_is : {A : Type 0} (a : Option A) → is_none a ≡ true → a ≡ None
+is_none_is None h = refl
+is_none_is (Some x) h = absurd (cc)
 
 pub record Parts (table : Table) : Type 0 where
   pub ti : is_ti table.ti ≡ true
@@ -51,10 +63,6 @@ parts_of table valid =
       pairs = pairs.0;
       late = pairs.1;
     }
-
-none_or : {A : Type 0} (a b : Option A) → a ≡ None → b ≡ None → option_or a b ≡ None
-none_or None b h k = k
-none_or (Some x) b h k = absurd (cc)
 
 pub valid_of : (table : Table) → Parts table → IsTrue (is_valid table)
 valid_of table p =
