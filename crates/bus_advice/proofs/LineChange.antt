@@ -14,7 +14,7 @@ use Rattle.bus_table.specs.declared.mode.Mode.TheVariants.{Aperiodic}
 use Rattle.bus_table.specs.declared.error.WholeReason.TheVariants.{GapTwice, PairTwice}
 use Rattle.bus_table.specs.declared.line.SendLine.{SendLine}
 use Rattle.bus_table.specs.Tables.{Sender, Table}
-use Rattle.bus_table.specs.Lengths.{shortest, least_words}
+use Rattle.bus_table.specs.Lengths.{shortest, words_at_least}
 use Rattle.bus_table.specs.Ranges.{is_number, is_tg, is_offset, is_label, is_ext, is_sender, is_send_line, are_send_lines}
 use Rattle.bus_table.specs.Valid.{is_valid}
 use Rattle.bus_table.specs.Whole.{first_again, same_pair, send_lines}
@@ -43,7 +43,7 @@ length-changed zero n (l ∷ lines) = refl
 length-changed (suc place) n (l ∷ lines) = let rest = length-changed place n lines in omega (arith, rest)
 
 words_changed : (place n : ℕ) (lines : List SendLine) (line : SendLine) → slice_get lines place ≡ Some line
-    → least_words (at_least_in place n lines) + line.least ≡ least_words lines + n
+    → words_at_least (at_least_in place n lines) + line.least ≡ words_at_least lines + n
 words_changed place n [] line h = absurd (let k : None ≡ Some line = h in cc)
 words_changed zero n (l ∷ lines) line h =
     let same : l ≡ line = (let k : Some l ≡ Some line = h in cc) in

@@ -1,9 +1,10 @@
 -- The number nearest to a given one that passes a test, in one direction.
 use Rattle.std.specs.Prelude.{ℕ, zero, suc, ◌+◌, ◌-◌, Bool, Option, Some, None, if◌then◌else◌}
+use Rattle.bus_table.specs.Ranges.{most_ti}
 
 -- No number of a table is greater than this, the greatest transmit interval.
 abbrev pub greatest_number : ℕ
-greatest_number = 128000
+greatest_number = most_ti
 
 -- The first of `count` numbers from `n` on that passes the test.
 unfoldable pub first_from : (ℕ → Bool) → ℕ → ℕ → Option ℕ

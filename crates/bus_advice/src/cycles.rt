@@ -11,8 +11,8 @@ ghost use Rattle.bus_advice.specs.Advices as advised;
 ghost use Rattle.bus_advice.specs.inside.InnerGaps.{IsShort};
 
 use crate::advice::Advice;
-use crate::limits::{LEAST_TI, MOST_SG, MOST_TG};
 use bus_strings::limits::WORD_BITS;
+use bus_table::ranges::{LEAST_TI, MOST_SG, MOST_TG};
 use bus_table::{MOST_SENDERS, SendLine, Sender, Table, turn_at, turn_places};
 use std::alloc::{AllocError, Global};
 

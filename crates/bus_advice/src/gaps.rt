@@ -8,20 +8,21 @@ ghost use Rattle.bus_regime.specs.Verdicts.{verdict_of, is_accepted};
 ghost use Rattle.bus_advice.specs.declared.advice.Advice.TheVariants.{Plan};
 ghost use Rattle.bus_advice.specs.Advices as advised;
 ghost use Rattle.bus_advice.specs.inside.InnerGaps as inside;
+ghost use Rattle.bus_table.specs.Ranges.{most_sg, most_tg};
 
 use crate::advice::Advice;
 use crate::cycles::add;
-use crate::limits::MOST_TI;
 use bus_plan::least_interval;
 use bus_regime::{gap_at, turn_ends};
+use bus_table::ranges::MOST_TI;
 use bus_table::{MOST_SENDERS, Table, turn_places};
 use std::alloc::{AllocError, Global};
 
 /// What the first gap needs, by whether an inner gap has room for a synchronization gap and its sender's terminal gap, and by how many
 /// inner gaps have a synchronization gap.
 fn width_for(sg: u32, tg: u32, room: bool, wide: usize) -> u32
-    requires sg { sg ≤ 1024 }
-    requires tg { tg ≤ 256 }
+    requires sg { sg ≤ most_sg }
+    requires tg { tg ≤ most_tg }
     ensures value { result ≡ inside.width_for sg tg room wide }
     ensures bound { result ≤ 1280 }
 {
@@ -43,7 +44,7 @@ fn needed_width(
 ) -> Option<u32>
     requires turned { AreTurned table.now places.now }
     requires ends { AreEnds table.now ends.now }
-    requires tg { tg ≤ 256 }
+    requires tg { tg ≤ most_tg }
     ensures { result ≡ inside.needed_width table.now.sg tg (inside.inner_gaps table.now) }
 {
     let sg = table.sg();

@@ -12,7 +12,6 @@ mod advising;
 mod cycles;
 mod gaps;
 pub mod laws;
-mod limits;
 
 pub use advice::Advice;
 pub use advising::advices;

@@ -1,6 +1,6 @@
 //! Words and their texts, by example.
 
-use bus_words::{Kind, Word, WordError, read_word, word_text};
+use bus_words::{Kind, Word, WordError, data_word, read_word, word_text};
 
 fn label(value: u16) -> Word {
     Word {
@@ -9,19 +9,12 @@ fn label(value: u16) -> Word {
     }
 }
 
-fn data(value: u16) -> Word {
-    Word {
-        kind: Kind::Plain,
-        value,
-    }
-}
-
 #[test]
 fn label_and_data_words_are_read(rt: HostRuntime) {
     assert_eq!(rt; read_word(b"L0A111"), Ok(label(0x0A11)));
     assert_eq!(rt; read_word(b"L0B210"), Ok(label(0x0B21)));
-    assert_eq!(rt; read_word(b"D00001"), Ok(data(0)));
-    assert_eq!(rt; read_word(b"D00010"), Ok(data(1)));
+    assert_eq!(rt; read_word(b"D00001"), Ok(data_word(0)));
+    assert_eq!(rt; read_word(b"D00010"), Ok(data_word(1)));
 }
 
 #[test]
@@ -41,5 +34,5 @@ fn the_shape_is_told_up_to_the_first_wrong_byte(rt: HostRuntime) {
 #[test]
 fn a_word_is_written_in_capitals(rt: HostRuntime) {
     assert_eq!(rt; word_text(label(0x0A11)), *b"L0A111");
-    assert_eq!(rt; word_text(data(0xBEEF)), *b"DBEEF0");
+    assert_eq!(rt; word_text(data_word(0xBEEF)), *b"DBEEF0");
 }

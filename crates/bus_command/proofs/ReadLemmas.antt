@@ -14,7 +14,7 @@ use Rattle.bus_table.specs.Fits.{items_fit}
 use Rattle.bus_table.specs.Reading.{answer_of}
 use Rattle.bus_trace.specs.declared.fault.TraceError.{TraceError}
 use Rattle.bus_trace.specs.declared.fault.TraceError.TheVariants as trace
-use Rattle.bus_trace.specs.Limits.{text_limit as trace_limit}
+use Rattle.bus_trace.specs.Limits.{trace_limit}
 use Rattle.bus_trace.specs.Runs.{reading}
 use Rattle.bus_trace.specs.TraceLaws.{ReadsBack, ReadsOnlyTraces}
 use Rattle.bus_trace.specs.Traces.{Recording, HoldsTrace}

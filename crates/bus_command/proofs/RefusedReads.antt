@@ -4,7 +4,7 @@ use Rattle.std.proofs.Common.{arith, sym, ap, ◌∙◌}
 use Rattle.bus_trace.specs.declared.fault.TraceError.TheVariants.{Text}
 use Rattle.bus_trace.specs.declared.reason.TraceReason.{TraceReason}
 use Rattle.bus_trace.specs.declared.reason.TraceReason.TheVariants.{Ended}
-use Rattle.bus_trace.specs.Limits.{text_limit}
+use Rattle.bus_trace.specs.Limits.{trace_limit}
 use Rattle.bus_trace.specs.Reading.{Gave, Refuses, ByLine, CutOff}
 use Rattle.bus_trace.specs.Runs.{Going, Refused, begin, run, ended_by, reading, ◌>>-◌}
 use Rattle.bus_trace.specs.States.{State}
@@ -17,7 +17,7 @@ after : (before : State) (lines more : List ℕ) → Gave lines before → run b
 after before lines more g = run-append begin lines more ∙ ap (λ o. o >>- λ n. run n more) g.run
 
 pub refused_reads : (taken : List ℕ) (left : Option (List ℕ)) (byte : ℕ) (reason : TraceReason) → Refuses taken left byte reason
-    → length taken ≤ text_limit → reading text_limit taken ≡ Err (Text byte reason)
+    → length taken ≤ trace_limit → reading trace_limit taken ≡ Err (Text byte reason)
 refused_reads taken left byte reason (ByLine offends) short =
     ap ended_by (due_within taken (Refused byte reason) short (offends_refused taken byte reason offends))
 refused_reads taken left byte reason (CutOff before lines line is place g plain few end why) short =

@@ -11,7 +11,7 @@ use Rattle.bus_table.specs.Text.{IsTableText}
 use Rattle.bus_table.specs.Valid.{is_valid}
 use Rattle.bus_table.specs.Whole.{whole_refusal}
 use Rattle.bus_trace.specs.Traces.{Recording, HoldsTrace}
-use Rattle.bus_trace.specs.Limits.{text_limit as trace_limit}
+use Rattle.bus_trace.specs.Limits.{trace_limit}
 use Rattle.bus_command.specs.declared.outcome.Outcome.{Outcome}
 use Rattle.bus_command.specs.declared.outcome.Outcome.TheVariants as outcome
 

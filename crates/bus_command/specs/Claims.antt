@@ -9,7 +9,7 @@ use Rattle.bus_table.specs.Fits.{items_fit}
 use Rattle.bus_table.specs.Text.{IsTableText}
 use Rattle.bus_table.specs.Valid.{is_valid}
 use Rattle.bus_trace.specs.Traces.{Recording, HoldsTrace}
-use Rattle.bus_trace.specs.Limits.{text_limit as trace_limit}
+use Rattle.bus_trace.specs.Limits.{trace_limit}
 use Rattle.bus_command.specs.declared.status.Status.{Status}
 use Rattle.bus_command.specs.declared.status.Status.TheVariants.{NoMemory}
 use Rattle.bus_command.specs.Outside.{Seen, Outside, Call}

@@ -16,7 +16,7 @@ use Rattle.bus_table.specs.Reading.{answer_of as table_answer}
 use Rattle.bus_trace.specs.declared.fault.TraceError.{TraceError}
 use Rattle.bus_trace.specs.declared.fault.TraceError.TheVariants as trace
 use Rattle.bus_trace.specs.Traces.{Recording}
-use Rattle.bus_trace.specs.Limits.{text_limit as trace_limit}
+use Rattle.bus_trace.specs.Limits.{trace_limit}
 use Rattle.bus_trace.specs.Runs.{reading}
 use Rattle.bus_command.specs.declared.inputs.Traced.{Traced}
 use Rattle.bus_command.specs.declared.outcome.Outcome.{Outcome}

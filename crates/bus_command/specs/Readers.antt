@@ -7,7 +7,7 @@ use Rattle.bus_outer.specs.Sources.{TakesSome, most_piece}
 use Rattle.bus_trace.specs.declared.fault.TraceError.TheVariants.{Text, ReadFault, TooLarge}
 use Rattle.bus_trace.specs.declared.reason.TraceReason.{TraceReason}
 use Rattle.bus_trace.specs.Traces.{Recording}
-use Rattle.bus_trace.specs.Limits.{text_limit as trace_limit}
+use Rattle.bus_trace.specs.Limits.{trace_limit}
 use Rattle.bus_trace.specs.Reading.{TakesTrace}
 use Rattle.bus_command.specs.Kinds.{Kind, NoForm, NotRead, TooMuch, Wrong, Late, NotWritten, NoRoom, Answer}
 use Rattle.bus_command.specs.Outside.{Seen, Sources, Rises, Stays, BothStay}

@@ -12,17 +12,9 @@ use crate::outcome::Outcome;
 use crate::refusal::Refusal;
 use crate::status::Status;
 use bus_outer::{Sink, TextBuffer, WriteFault};
-use bus_table::{FitError, WholeReason, put_fit_error, put_whole};
+use bus_table::{FitError, WholeReason, put_fit_error, put_numbered, put_whole};
 use bus_text::Reason;
 use bus_trace::TraceReason;
-
-/// Puts a word and a number.
-pub fn put_numbered<K: Sink>(text: &mut TextBuffer, sink: &mut K, word: &[u8], number: u64)
-    ensures { Adds K.held K.faults sink.old sink.new text.old text.new (word.now ++ decimal number) }
-{
-    text.put(sink, word);
-    text.put_number(sink, number);
-}
 
 /// Puts the place and the reason of a text's refusal, behind the word of the text.
 fn put_place<K: Sink>(text: &mut TextBuffer, sink: &mut K, word: &[u8], line: u64, reason: Reason)

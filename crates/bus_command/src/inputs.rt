@@ -17,8 +17,8 @@ use bus_trace::laws::traces_read_back;
 use bus_trace::{Trace, read_trace};
 use std::alloc::Global;
 
-/// The most bytes that a table text or a messages text may have.
-const TEXT_LIMIT: usize = 8_388_608;
+/// The most bytes that a text may have which people write: of a table, of messages, of a cable. It is this project's profile.
+pub const TEXT_LIMIT: usize = 8_388_608;
 
 /// A table, and one hand for each of its senders, in its order.
 #[derive(Drop)]

@@ -19,8 +19,10 @@ mod status;
 mod writing;
 
 pub use about::{About, about_of, tell};
-pub use fault_line::{outcome_text, put_error, put_numbered};
-pub use inputs::{Dealt, Traced, take_hands, take_table, take_text, take_trace, take_traced};
+pub use fault_line::{outcome_text, put_error};
+pub use inputs::{
+    Dealt, TEXT_LIMIT, Traced, take_hands, take_table, take_text, take_trace, take_traced,
+};
 pub use outcome::Outcome;
 pub use refusal::{Place, Refusal};
 pub use status::Status;

@@ -1,11 +1,10 @@
 //! Where the rows of a picture begin.
 ghost use Rattle.std.specs.Prelude.{◌≡◌, ◌<◌, ◌≤◌, ◌+◌, ◌^◌};
-ghost use Rattle.bus_table.specs.Timers.{greatest_gap};
 ghost use Rattle.bus_cycles.specs.Rows as definition;
 ghost use Rattle.bus_cycles.specs.inside.Bounds.{IsSent};
 
 use bus_shapes::Sent;
-use bus_table::{Mode, Table};
+use bus_table::{Mode, Table, greatest_gap};
 
 /// What of a table tells where rows begin.
 #[derive(Clone, Copy, Debug, PartialEq, Eq)]
@@ -31,17 +30,6 @@ pub(crate) struct Extent {
     pub begin: u64,
     /// The moment at which all its transmissions have ended.
     pub end: u64,
-}
-
-/// The greatest terminal gap of a table.
-fn greatest_gap(table: &Table) -> u32
-    ensures { result ≡ greatest_gap table.now.senders }
-{
-    let mut most = 0;
-    for sender in table.senders() {
-        most = most.max(sender.tg());
-    }
-    most
 }
 
 /// The moment at which the interval began that holds a moment.
@@ -74,7 +62,7 @@ impl Cycle {
             mode: table.mode(),
             ti: table.ti(),
             sg: table.sg(),
-            lead: u64::from(table.sg()) + u64::from(greatest_gap(table)),
+            lead: u64::from(table.sg()) + u64::from(greatest_gap(table.senders())),
             lift: lift_of(table.mode(), table.sg()),
         }
     }

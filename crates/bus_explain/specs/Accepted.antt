@@ -10,6 +10,7 @@ use Rattle.bus_strings.specs.Shares.{share_text}
 use Rattle.bus_explain.specs.Figures.{load, spare}
 use Rattle.bus_explain.specs.Senders.{sender_lines}
 use Rattle.bus_explain.specs.Times.{time_text}
+use Rattle.bus_table.specs.Ranges.{least_ti, most_ti}
 
 -- The verdict accepts a table with these numbers.
 abbrev pub IsAcceptedWith : Table → (least most : ℕ) → Type 0
@@ -44,10 +45,10 @@ cycles_line Periodic least most = one_cycle_line most
 -- What a spare means.
 abbrev pub spare_meaning : Mode → List ℕ
 spare_meaning Aperiodic =
-    codes ": by so much the transmit interval, TI, could rise, though never above " ++ time_text 128000
+    codes ": by so much the transmit interval, TI, could rise, though never above " ++ time_text most_ti
     ++ codes ", and the table would still be accepted.\n"
 spare_meaning Periodic =
-    codes ": by so much the transmit interval, TI, could fall, though never below " ++ time_text 1000
+    codes ": by so much the transmit interval, TI, could fall, though never below " ++ time_text least_ti
     ++ codes ", if the offsets were planned anew.\n"
 
 -- How much the transmit interval could change.

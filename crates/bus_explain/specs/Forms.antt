@@ -1,10 +1,11 @@
 -- What is said of the lines of a table text: the form of each, its kinds and ranges.
-use Rattle.std.specs.Prelude.{ℕ, List, ◌++◌, codes}
+use Rattle.std.specs.Prelude.{◌-◌, ℕ, List, ◌++◌, codes}
 use Rattle.bus_table.specs.declared.mode.Mode.{Mode}
 use Rattle.bus_table.specs.declared.mode.Mode.TheVariants.{Aperiodic, Periodic}
 use Rattle.bus_table.specs.declared.keyword.Keyword.{Keyword}
 use Rattle.bus_table.specs.declared.keyword.Keyword.TheVariants as keywords
 use Rattle.bus_explain.specs.Times.{time_text}
+use Rattle.bus_table.specs.Ranges.{least_sg, least_tg, least_ti, most_sg, most_tg, most_ti}
 
 -- A form whose number is a time in a range.
 abbrev pub range_text : List ℕ → ℕ → ℕ → List ℕ
@@ -13,10 +14,10 @@ range_text before least most = before ++ time_text least ++ codes " to " ++ time
 -- A SENDER line of a table of this mode.
 abbrev pub sender_text : Mode → List ℕ
 sender_text Aperiodic =
-    range_text (codes "SENDER n TG g: n is the number of a terminal that sends, 1 to 128, and g its terminal gap, ") 8 256
+    range_text (codes "SENDER n TG g: n is the number of a terminal that sends, 1 to 128, and g its terminal gap, ") least_tg most_tg
 sender_text Periodic =
-    codes "SENDER n TG g AT a: n is the number of a terminal that sends, 1 to 128, g its terminal gap, " ++ time_text 8 ++ codes " to "
-    ++ time_text 256 ++ codes ", and a its offset, " ++ time_text 0 ++ codes " to " ++ time_text 127999 ++ codes "\n"
+    codes "SENDER n TG g AT a: n is the number of a terminal that sends, 1 to 128, g its terminal gap, " ++ time_text least_tg ++ codes " to "
+    ++ time_text most_tg ++ codes ", and a its offset, " ++ time_text 0 ++ codes " to " ++ time_text (most_ti - 1) ++ codes "\n"
 
 -- A SEND line.
 abbrev pub send_text : List ℕ
@@ -34,8 +35,8 @@ take_text =
 abbrev pub form_text : Mode → Keyword → List ℕ
 form_text mode keywords.Table = codes "TABLE 1: the first line of every table text\n"
 form_text mode keywords.Mode = codes "MODE m: m is aperiodic, where gaps tell who may start, or periodic, where offsets do\n"
-form_text mode keywords.Ti = range_text (codes "TI n: n is the transmit interval, ") 1000 128000
-form_text mode keywords.Sg = range_text (codes "SG n: n is the synchronization gap, ") 9 1024
+form_text mode keywords.Ti = range_text (codes "TI n: n is the transmit interval, ") least_ti most_ti
+form_text mode keywords.Sg = range_text (codes "SG n: n is the synchronization gap, ") least_sg most_sg
 form_text mode keywords.Sender = sender_text mode
 form_text mode keywords.Send = send_text
 form_text mode keywords.Take = take_text

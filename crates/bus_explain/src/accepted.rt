@@ -10,6 +10,7 @@ use crate::times::put_time;
 use bus_outer::{Sink, TextBuffer, WriteFault};
 use bus_strings::put_share;
 use bus_table::laws::table_is_valid;
+use bus_table::ranges::{LEAST_TI, MOST_TI};
 use bus_table::{Mode, Table};
 
 /// Puts how long the cycles of a table are.
@@ -75,7 +76,7 @@ fn put_rise<K: Sink>(text: &mut TextBuffer, sink: &mut K)
         sink,
         b": by so much the transmit interval, TI, could rise, though never above ",
     );
-    put_time(text, sink, 128_000);
+    put_time(text, sink, MOST_TI as u128);
     text.put(sink, b", and the table would still be accepted.\n");
 }
 
@@ -87,7 +88,7 @@ fn put_fall<K: Sink>(text: &mut TextBuffer, sink: &mut K)
         sink,
         b": by so much the transmit interval, TI, could fall, though never below ",
     );
-    put_time(text, sink, 1000);
+    put_time(text, sink, LEAST_TI as u128);
     text.put(sink, b", if the offsets were planned anew.\n");
 }
 

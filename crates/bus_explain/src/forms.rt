@@ -5,6 +5,7 @@ ghost use Rattle.bus_explain.specs.Forms as forms;
 
 use crate::times::put_time;
 use bus_outer::{Sink, TextBuffer};
+use bus_table::ranges::{LEAST_SG, LEAST_TG, LEAST_TI, MOST_SG, MOST_TG, MOST_TI};
 use bus_table::{Keyword, Mode};
 
 /// Puts a form whose number is a time in a range.
@@ -27,8 +28,8 @@ fn put_sender<K: Sink>(text: &mut TextBuffer, sink: &mut K, mode: Mode)
             text,
             sink,
             b"SENDER n TG g: n is the number of a terminal that sends, 1 to 128, and g its terminal gap, ",
-            8,
-            256,
+            LEAST_TG as u128,
+            MOST_TG as u128,
         ),
         Mode::Periodic => put_offset_sender(text, sink),
     }
@@ -42,13 +43,13 @@ fn put_offset_sender<K: Sink>(text: &mut TextBuffer, sink: &mut K)
         sink,
         b"SENDER n TG g AT a: n is the number of a terminal that sends, 1 to 128, g its terminal gap, ",
     );
-    put_time(text, sink, 8);
+    put_time(text, sink, LEAST_TG as u128);
     text.put(sink, b" to ");
-    put_time(text, sink, 256);
+    put_time(text, sink, MOST_TG as u128);
     text.put(sink, b", and a its offset, ");
     put_time(text, sink, 0);
     text.put(sink, b" to ");
-    put_time(text, sink, 127_999);
+    put_time(text, sink, MOST_TI as u128 - 1);
     text.put(sink, b"\n");
 }
 
@@ -94,10 +95,16 @@ pub fn put_form<K: Sink>(text: &mut TextBuffer, sink: &mut K, mode: Mode, keywor
             text,
             sink,
             b"TI n: n is the transmit interval, ",
-            1000,
-            128_000,
+            LEAST_TI as u128,
+            MOST_TI as u128,
         ),
-        Keyword::Sg => put_range(text, sink, b"SG n: n is the synchronization gap, ", 9, 1024),
+        Keyword::Sg => put_range(
+            text,
+            sink,
+            b"SG n: n is the synchronization gap, ",
+            LEAST_SG as u128,
+            MOST_SG as u128,
+        ),
         Keyword::Sender => put_sender(text, sink, mode),
         Keyword::Send => put_send(text, sink),
         Keyword::Take => put_take(text, sink),

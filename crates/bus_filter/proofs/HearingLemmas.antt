@@ -3,11 +3,12 @@ use Rattle.std.proofs.Common.{arith, zero, suc, ◌≡◌, ℕ, ◌+◌, ◌*◌
 use Rattle.std.specs.List.{cons_option}
 use Rattle.std.proofs.lemmas.Bool.Decides.{nat_tests}
 use Rattle.bus_words.specs.declared.word.Kind.TheVariants.{Label}
-use Rattle.bus_strings.specs.Messages.{Wordstring}
+use Rattle.bus_strings.specs.Messages.{Wordstring, words_of}
 use Rattle.bus_table.specs.declared.line.TakeLine.{TakeLine}
 use Rattle.bus_filter.specs.declared.receiver.Heard.TheVariants.{Skipped, Begins, Kept}
 use Rattle.bus_filter.specs.Received.{matches, selection}
-use Rattle.bus_filter.specs.Hearing.{unmatched, is_taken, next_position, answers, kept_of, kept, data_word, words_of}
+use Rattle.bus_words.specs.Words.{data_word}
+use Rattle.bus_filter.specs.Hearing.{unmatched, is_taken, next_position, answers, kept_of, kept}
 
 -- what is kept of data words from a position on
 abbrev data_of : TakeLine → Option ℕ → List ℕ → List ℕ

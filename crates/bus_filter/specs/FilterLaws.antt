@@ -1,12 +1,12 @@
 -- What follows of the definitions of received words. `laws` says that each of these holds.
 use Rattle.std.specs.Prelude.{◌≡◌, ◌<◌, IsTrue, List, [], if◌then◌else◌}
 use Rattle.std.specs.List.{Contains}
-use Rattle.bus_strings.specs.Messages.{Wordstring, Entry}
+use Rattle.bus_strings.specs.Messages.{Wordstring, Entry, words_of}
 use Rattle.bus_table.specs.declared.line.TakeLine.{TakeLine}
 use Rattle.bus_table.specs.Tables.{Table}
 use Rattle.bus_table.specs.Valid.{is_valid}
 use Rattle.bus_filter.specs.Received.{Taker, matches, selection, received_by, takers, received}
-use Rattle.bus_filter.specs.Hearing.{unmatched, answers, kept, words_of}
+use Rattle.bus_filter.specs.Hearing.{unmatched, answers, kept}
 
 -- Over the words of one wordstring, the kept words are the selection where the line matches it, and none else.
 abbrev pub KeepsSelection : Type 0

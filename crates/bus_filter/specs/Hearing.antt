@@ -1,13 +1,11 @@
 -- What a receiver of one receive line makes of the words that it answers.
 --   position   how many data words of the present wordstring have come, where it matches; it stops behind the line's last position
-use Rattle.std.specs.Prelude.{ℕ, ◌+◌, ◌/◌, ◌%◌, min, Bool, ◌&&◌, nat_le, nat_lt, List, [], ◌∷◌, map, Option, Some, None, if◌then◌else◌}
+use Rattle.std.specs.Prelude.{ℕ, ◌+◌, ◌/◌, ◌%◌, min, Bool, ◌&&◌, nat_le, nat_lt, List, [], ◌∷◌, Option, Some, None, if◌then◌else◌}
 use Rattle.std.specs.List.{filter_map}
 use Rattle.std.specs.Option.{option_map}
 use Rattle.bus_words.specs.declared.word.Kind.{Kind}
 use Rattle.bus_words.specs.declared.word.Kind.TheVariants.{Label, Plain}
 use Rattle.bus_words.specs.declared.word.Word.{Word}
-use Rattle.bus_words.specs.Words.{label_word}
-use Rattle.bus_strings.specs.Messages.{Wordstring}
 use Rattle.bus_table.specs.declared.line.TakeLine.{TakeLine}
 use Rattle.bus_filter.specs.declared.receiver.Heard.{Heard}
 use Rattle.bus_filter.specs.declared.receiver.Heard.TheVariants.{Skipped, Begins, Kept}
@@ -68,11 +66,3 @@ kept_of (Kept value) = Some value
 -- The words that were kept, in order.
 abbrev pub kept : List Heard → List ℕ
 kept given = filter_map kept_of given
-
--- A data word.
-abbrev pub data_word : ℕ → Word
-data_word value = record { kind = Plain; value = value }
-
--- The words of a wordstring: its label word, and its data words.
-abbrev pub words_of : Wordstring → List Word
-words_of string = label_word string.label string.ext ∷ map data_word string.words

@@ -2,22 +2,10 @@
 ghost use Rattle.std.specs.Prelude.{◌≡◌, ◌+◌, ◌<◌, ◌≤◌, ℕ, length, slice_get, Some};
 ghost use Rattle.bus_table.specs.Tables as tables;
 ghost use Rattle.bus_timers.specs.Timings.{IsSound};
-ghost use Rattle.bus_medium.specs.Timings.{greatest_gap, quiet_of, due_for, timing_of};
+ghost use Rattle.bus_medium.specs.Timings.{quiet_of, due_for, timing_of};
 
-use bus_table::{Mode, Sender, Table};
+use bus_table::{Mode, Sender, Table, greatest_gap};
 use bus_timers::Timing;
-
-/// The greatest terminal gap of these senders, and 0 where there is none.
-fn greatest_gap(senders: &[Sender]) -> u32
-    ensures value { result ≡ greatest_gap senders.now }
-    ensures most { result ≤ 256 }
-{
-    let mut gap = 0;
-    for sender in senders {
-        gap = sender.tg().max(gap);
-    }
-    gap
-}
 
 /// How long a bus with this table was quiet before its settled start, in bit times.
 pub fn quiet(table: &Table) -> u32

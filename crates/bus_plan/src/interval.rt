@@ -5,6 +5,7 @@ ghost use Rattle.bus_strings.specs.Limits.{most_terminal};
 ghost use Rattle.bus_table.specs.declared.mode.Mode.TheVariants.{Periodic};
 ghost use Rattle.bus_plan.specs.inside.Greatest.{greatest_tg, second_tg};
 ghost use Rattle.bus_plan.specs.Plans as plans;
+ghost use Rattle.bus_table.specs.Ranges.{most_sg};
 
 use bus_table::{Sender, Table, longest};
 
@@ -39,7 +40,7 @@ pub(crate) fn greatest_gaps(senders: &[Sender]) -> (u32, u32)
 
 /// What synchronization needs beside the turns, by the sum of the two greatest terminal gaps.
 fn sync_time(sg: u64, gaps: u64) -> u64
-    requires { (sg ≤ 1024) }
+    requires { (sg ≤ most_sg) }
     ensures { result ≡ (if nat_le gaps sg then sg else 2 * sg - gaps) }
 {
     if gaps <= sg {

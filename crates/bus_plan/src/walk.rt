@@ -4,6 +4,7 @@ ghost use Rattle.bus_table.specs.Lengths as lengths;
 ghost use Rattle.bus_table.specs.declared.mode.Mode.TheVariants.{Periodic};
 ghost use Rattle.bus_plan.specs.Plans.{planned_offsets};
 ghost use Rattle.bus_plan.specs.inside.Walks as walks;
+ghost use Rattle.bus_table.specs.Ranges.{most_sg, most_tg};
 
 use crate::interval::greatest_gaps;
 use bus_table::{Sender, Table, longest};
@@ -24,11 +25,11 @@ fn longest_with(tg: u32, senders: &[Sender]) -> u32
 
 /// The gap before the second sender.
 fn gap_between(sg: u32, first: u32, second: u32) -> u32
-    requires first { first ≤ 256 }
-    requires second { second ≤ 256 }
-    requires sg { sg ≤ 1024 }
+    requires first { first ≤ most_tg }
+    requires second { second ≤ most_tg }
+    requires sg { sg ≤ most_sg }
     ensures value { result ≡ walks.gap_between sg first second }
-    ensures bound { result ≤ 1024 }
+    ensures bound { result ≤ most_sg }
 {
     if first + second <= sg { second } else { sg }
 }

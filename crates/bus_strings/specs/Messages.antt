@@ -2,8 +2,10 @@
 --   wordstring     one label word, and the data words behind it
 --   message        what a terminal sends at one start: its wordstrings, in order
 --   transmission   a message on the bus: when it starts and who sends it
-use Rattle.std.specs.Prelude.{ℕ, ◌+◌, ◌-◌, ◌*◌, ◌^◌, ◌<◌, ◌≤◌, List, length}
+use Rattle.std.specs.Prelude.{ℕ, ◌+◌, ◌-◌, ◌*◌, ◌^◌, ◌<◌, ◌≤◌, List, ◌∷◌, length, map}
 use Rattle.std.specs.List.{sum_by, AllByRecursion}
+use Rattle.bus_words.specs.declared.word.Word.{Word}
+use Rattle.bus_words.specs.Words.{label_word, data_word}
 use Rattle.bus_strings.specs.Limits.{most_strings, most_words, word_bits, inner_gap}
 
 -- A label, an extension and the data words behind them.
@@ -11,6 +13,10 @@ pub record Wordstring : Type 0 where
   pub label : ℕ
   pub ext : ℕ
   pub words : List ℕ
+
+-- The words of a wordstring: its label word, and the data words.
+abbrev pub words_of : Wordstring → List Word
+words_of string = label_word string.label string.ext ∷ map data_word string.words
 
 -- A message: its wordstrings.
 abbrev pub Message : Type 0

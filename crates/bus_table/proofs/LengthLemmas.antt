@@ -7,7 +7,7 @@ use Rattle.std.proofs.lemmas.Bool.Decides.{nat_tests}
 use Rattle.std.proofs.lemmas.List.Sums.{sum_by-cons}
 use Rattle.bus_table.specs.Tables.{SendLine, Sender}
 use Rattle.bus_table.specs.Ranges.{is_number, is_tg, is_offset, is_label, is_ext, is_send_line, are_send_lines, is_sender}
-use Rattle.bus_table.specs.Lengths.{least_words, most_words}
+use Rattle.bus_table.specs.Lengths.{words_at_least, words_at_most}
 
 -- the words of a line
 line_bounds : (line : SendLine) → is_send_line line ≡ true → (line.least ≤ 256) × (line.most ≤ 256)
@@ -16,13 +16,13 @@ line_bounds line h =
     let parts = and_parts (nat_le line.least line.most) _ numbers in
     (grind (arith, nat_tests, parts.0, parts.1), grind (arith, nat_tests, parts.1))
 
-least_bound : (sends : List SendLine) → list_all is_send_line sends ≡ true → least_words sends ≤ 257 * length sends
+least_bound : (sends : List SendLine) → list_all is_send_line sends ≡ true → words_at_least sends ≤ 257 * length sends
 least_bound [] h = omega arith
 least_bound (line ∷ sends) h =
     let parts = and_parts (is_send_line line) _ h in
     omega (arith, line_bounds line parts.0, least_bound sends parts.1, sum_by-cons (λ (l : SendLine). 1 + l.least) line sends)
 
-most_bound : (sends : List SendLine) → list_all is_send_line sends ≡ true → most_words sends ≤ 257 * length sends
+most_bound : (sends : List SendLine) → list_all is_send_line sends ≡ true → words_at_most sends ≤ 257 * length sends
 most_bound [] h = omega arith
 most_bound (line ∷ sends) h =
     let parts = and_parts (is_send_line line) _ h in
@@ -32,8 +32,8 @@ most_bound (line ∷ sends) h =
 pub record WordBounds (sends : List SendLine) : Type 0 where
   pub some : 1 ≤ length sends
   pub few : length sends ≤ 31
-  pub least : least_words sends ≤ 7967
-  pub most : most_words sends ≤ 7967
+  pub least : words_at_least sends ≤ 7967
+  pub most : words_at_most sends ≤ 7967
 
 pub word_bounds : (sender : Sender) → is_sender sender ≡ true → WordBounds sender.sends
 word_bounds sender h =

@@ -14,21 +14,42 @@ kept test value = if test value then Some value else None
 abbrev pub is_number : ℕ → Bool
 is_number n = is_in_range 1 most_terminal n
 
+-- The least and the greatest transmit interval, in bit times.
+abbrev pub least_ti : ℕ
+least_ti = 1000
+
+abbrev pub most_ti : ℕ
+most_ti = 128000
+
+-- The least and the greatest synchronization gap, in bit times.
+abbrev pub least_sg : ℕ
+least_sg = 9
+
+abbrev pub most_sg : ℕ
+most_sg = 1024
+
+-- The least and the greatest terminal gap, in bit times.
+abbrev pub least_tg : ℕ
+least_tg = 8
+
+abbrev pub most_tg : ℕ
+most_tg = 256
+
 -- A transmit interval.
 abbrev pub is_ti : ℕ → Bool
-is_ti n = is_in_range 1000 128000 n
+is_ti n = is_in_range least_ti most_ti n
 
 -- A synchronization gap.
 abbrev pub is_sg : ℕ → Bool
-is_sg n = is_in_range 9 1024 n
+is_sg n = is_in_range least_sg most_sg n
 
 -- A terminal gap.
 abbrev pub is_tg : ℕ → Bool
-is_tg n = is_in_range 8 256 n
+is_tg n = is_in_range least_tg most_tg n
 
 -- An offset, which is below the greatest transmit interval.
 abbrev pub is_offset : ℕ → Bool
-is_offset n = nat_lt n 128000
+is_offset n = nat_lt n most_ti
 
 -- A label: twelve bits.
 abbrev pub is_label : ℕ → Bool

@@ -9,17 +9,17 @@ use crate::sender::Sender;
 use bus_strings::limits::{INNER_GAP, WORD_BITS};
 
 /// The words of a message, label words included, with the least data words on each of these lines.
-fn least_words(sends: &[SendLine]) -> u32
-    requires { lengths.least_words sends.now < 2 ^ 32 }
-    ensures { result ≡ lengths.least_words sends.now }
+fn words_at_least(sends: &[SendLine]) -> u32
+    requires { lengths.words_at_least sends.now < 2 ^ 32 }
+    ensures { result ≡ lengths.words_at_least sends.now }
 {
     sends.iter().map(|line| 1 + u32::from(line.least)).sum()
 }
 
 /// The words of a message, label words included, with the most data words on each of these lines.
-fn most_words(sends: &[SendLine]) -> u32
-    requires { lengths.most_words sends.now < 2 ^ 32 }
-    ensures { result ≡ lengths.most_words sends.now }
+fn words_at_most(sends: &[SendLine]) -> u32
+    requires { lengths.words_at_most sends.now < 2 ^ 32 }
+    ensures { result ≡ lengths.words_at_most sends.now }
 {
     sends.iter().map(|line| 1 + u32::from(line.most)).sum()
 }
@@ -32,7 +32,7 @@ pub fn shortest(sender: &Sender) -> u32
     ensures bound { result ≤ most_bits }
 {
     let sends = sender.sends();
-    WORD_BITS * least_words(sends) + INNER_GAP * (sends.len() as u32 - 1)
+    WORD_BITS * words_at_least(sends) + INNER_GAP * (sends.len() as u32 - 1)
 }
 
 /// The bit times of the sender's message with the most data words on each of its lines: at most 159,460.
@@ -43,5 +43,5 @@ pub fn longest(sender: &Sender) -> u32
     ensures bound { result ≤ most_bits }
 {
     let sends = sender.sends();
-    WORD_BITS * most_words(sends) + INNER_GAP * (sends.len() as u32 - 1)
+    WORD_BITS * words_at_most(sends) + INNER_GAP * (sends.len() as u32 - 1)
 }

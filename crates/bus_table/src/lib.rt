@@ -4,7 +4,8 @@
 //!   valid: every number is in its range, and none of the [`WholeReason`]s applies.
 //! - [`read_table`] reads a text, and [`write_table`] writes the canonical one. [`find_stop`] tells where a reading stops, and what
 //!   may stand there.
-//! - [`shortest`] and [`longest`] tell the lengths of a sender's messages, [`place`] who speaks after whom.
+//! - [`shortest`] and [`longest`] tell the lengths of a sender's messages, [`place`] who speaks after whom, [`greatest_gap`] the greatest terminal
+//!   gap.
 //! - [`with_offsets`] gives the senders of a periodic table other offsets.
 //! - [`fits`] holds the items of a messages text to the lines of their senders, and [`hands`] deals them out.
 //!   [`read_hands`] does both as it reads such a text.
@@ -16,8 +17,8 @@
 //! The definitions are in `specs/`: `Tables` (a table as plain numbers and lists), `Ranges`, `Whole` and `Valid` (which
 //! tables are valid), `Text` (which texts stand for which tables), `Forms`, `Drafts` and `Reading` (what a text reads as,
 //! line by line, and where and why it is refused), `Canonical` (the text that is written), `Lengths`, `Turns`, `Offsets`,
-//! `Fits`, `Hands` and `Dealt`. What callers may use of them beside the contracts are the files of `proofs/` whose
-//! names end in `Laws`, and what they state in `specs/inside/Facts`.
+//! `Fits`, `Hands` and `Dealt`. What callers may use of them beside the contracts are the `pub` modules of `proofs/`, and what they
+//! state in `specs/inside/Facts`.
 #![tactic(auto)]
 
 mod dealing;
@@ -25,6 +26,7 @@ mod draft;
 mod error;
 mod fit;
 mod forms;
+mod gaps;
 mod hand;
 mod hand_reading;
 mod hands_error;
@@ -37,7 +39,7 @@ mod listener;
 mod mode;
 mod offsets;
 mod places;
-mod ranges;
+pub mod ranges;
 mod reading;
 mod saying;
 mod sender;
@@ -51,6 +53,7 @@ mod writing;
 pub use dealing::{hands, place_of};
 pub use error::{TableError, WholeReason};
 pub use fit::{FitError, fits, message_fits, sender_of};
+pub use gaps::greatest_gap;
 pub use hand::Hand;
 pub use hand_reading::read_hands;
 pub use hands_error::HandsError;
@@ -61,7 +64,7 @@ pub use listener::Listener;
 pub use mode::Mode;
 pub use offsets::with_offsets;
 pub use reading::read_table;
-pub use saying::{put_fit_error, put_whole};
+pub use saying::{put_fit_error, put_numbered, put_whole};
 pub use sender::Sender;
 pub use stop::{Stop, find_stop};
 pub use table::Table;

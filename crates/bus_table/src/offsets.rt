@@ -3,6 +3,7 @@ ghost use Rattle.std.specs.Prelude.{◌≡◌, ◌<◌, length, IfOk};
 ghost use Rattle.std.specs.List.{All};
 ghost use Rattle.bus_table.specs.declared.mode.Mode.TheVariants.{Periodic};
 ghost use Rattle.bus_table.specs.Offsets.{at_offsets, with_offsets};
+ghost use Rattle.bus_table.specs.Ranges.{most_ti};
 
 use crate::listener::Listener;
 use crate::sender::Sender;
@@ -12,7 +13,7 @@ use std::alloc::{AllocError, Global};
 /// The senders at these offsets, in order.
 fn moved(alloc: Global, senders: &[Sender], offsets: &[u32]) -> Result<Vec<Sender>, AllocError>
     requires count { length offsets.now ≡ length senders.now }
-    requires below { All (λ at. at < 128000) offsets.now }
+    requires below { All (λ at. at < most_ti) offsets.now }
     ensures { IfOk result (λ made. made.items ≡ at_offsets offsets.now senders.now) }
 {
     let mut made = Vec::with_capacity(alloc, senders.len())?;

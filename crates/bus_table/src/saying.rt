@@ -11,7 +11,7 @@ use bus_text::{hex_digit as digit, three_digits};
 use bus_words::{Ext, Label};
 
 /// Puts a word and a number.
-fn put_numbered<K: Sink>(text: &mut TextBuffer, sink: &mut K, word: &[u8], number: u8)
+pub fn put_numbered<K: Sink>(text: &mut TextBuffer, sink: &mut K, word: &[u8], number: u64)
     ensures { Adds K.held K.faults sink.old sink.new text.old text.new (word.now ++ decimal number) }
 {
     text.put(sink, word);
@@ -56,11 +56,26 @@ pub fn put_whole<K: Sink>(text: &mut TextBuffer, sink: &mut K, reason: WholeReas
 {
     match reason {
         WholeReason::NoSender => text.put(sink, b"NoSender"),
-        WholeReason::NumberTwice(number) => put_numbered(text, sink, b"NumberTwice ", number),
-        WholeReason::GapTwice(number) => put_numbered(text, sink, b"GapTwice ", number),
-        WholeReason::GapNotShort(number) => put_numbered(text, sink, b"GapNotShort ", number),
+        WholeReason::NumberTwice(number) => put_numbered(
+            text,
+            sink,
+            b"NumberTwice ",
+            u64::from(number),
+        ),
+        WholeReason::GapTwice(number) => put_numbered(text, sink, b"GapTwice ", u64::from(number)),
+        WholeReason::GapNotShort(number) => put_numbered(
+            text,
+            sink,
+            b"GapNotShort ",
+            u64::from(number),
+        ),
         WholeReason::PairTwice(label, ext) => put_pair(text, sink, label, ext),
-        WholeReason::OffsetRange(number) => put_numbered(text, sink, b"OffsetRange ", number),
+        WholeReason::OffsetRange(number) => put_numbered(
+            text,
+            sink,
+            b"OffsetRange ",
+            u64::from(number),
+        ),
     }
 }
 

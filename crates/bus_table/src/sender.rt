@@ -1,7 +1,7 @@
 //! A terminal that sends.
 ghost use Rattle.std.specs.Prelude.{◌≡◌, ◌<◌, length, IsTrue, IfOk, OnOk};
 ghost use Rattle.bus_strings.specs.Limits.{most_strings};
-ghost use Rattle.bus_table.specs.Ranges.{is_sender, is_send_line, is_take_line, most_takes, kept};
+ghost use Rattle.bus_table.specs.Ranges.{is_sender, is_send_line, is_take_line, most_takes, kept, most_ti};
 
 use crate::head::Head;
 use crate::line::{SendLine, TakeLine};
@@ -105,7 +105,7 @@ impl Sender {
 
     /// The same sender at another offset. Fails only where memory runs out.
     pub(crate) fn moved(&self, alloc: Global, at: u32) -> Result<Sender, AllocError>
-        requires { at < 128000 }
+        requires { at < most_ti }
         ensures { IfOk result (λ sender. sender ≡ at_offset at self.now) }
     {
         Ok(Sender {

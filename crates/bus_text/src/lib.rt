@@ -1,4 +1,4 @@
-//! The rules that the project's texts of lines and fields share: the table text and the messages text.
+//! The rules that the texts which people write share, of lines and fields: the table text, the messages text and the cable text.
 //!
 //! A text is split into physical lines at each line feed, numbered from 1. Lines of blanks alone, and lines whose
 //! first other byte is `#`, are skipped. Every other line is its fields, the longest runs of bytes that aren't
@@ -12,7 +12,7 @@
 //!
 //! The definitions are in `specs/`: `Lines` and `Fields` (what a text is cut into), `Numbers` and `Digits`,
 //! `Refusals` (which line is refused and why), `AllOf` (reading each of a list), `Canonical` (the one spelling that
-//! writers use). What callers may use of them beside the contracts are the files of `proofs/` whose names end in `Laws`.
+//! writers use). What callers may use of them beside the contracts are the `pub` modules of `proofs/`.
 #![tactic(auto)]
 
 mod cursor;

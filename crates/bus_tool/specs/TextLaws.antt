@@ -7,7 +7,7 @@ use Rattle.bus_table.specs.Fits.{items_fit}
 use Rattle.bus_table.specs.Hands.{hands_of}
 use Rattle.bus_table.specs.Valid.{is_valid}
 use Rattle.bus_trace.specs.declared.hold.Hold.{Hold}
-use Rattle.bus_trace.specs.Limits.{text_limit as trace_limit}
+use Rattle.bus_trace.specs.Limits.{trace_limit}
 use Rattle.bus_trace.specs.Runs.{reading}
 use Rattle.bus_trace.specs.Traces.{Recording, IsTrace, AscendAbove, trace_text}
 use Rattle.bus_audit.specs.declared.answer.AuditAnswer.{AuditAnswer}

@@ -18,16 +18,13 @@ ghost use Rattle.bus_tool.specs.Tolerances as told;
 use crate::refusal::{Outcome, ToolRefusal};
 use crate::tolerance::tolerance_of;
 use bus_advice::advices;
-use bus_command::{after_writing, take_text};
+use bus_command::{TEXT_LIMIT, after_writing, take_text};
 use bus_explain::{write_accepted, write_refused, write_unread, write_whole};
 use bus_outer::{Sink, Source};
 use bus_regime::{TableVerdict, verdict};
 use bus_table::{Table, TableError, find_stop, read_table};
 use bus_text::Reason;
 use std::alloc::Global;
-
-/// The most bytes that a table text may have.
-const TEXT_LIMIT: usize = 8_388_608;
 
 /// Writes what is said of an accepted table with the numbers of its verdict.
 fn explain_accepted<K: Sink>(table: &Table, least: u64, most: u64, out: &mut K) -> Outcome

@@ -20,16 +20,13 @@ ghost use Rattle.bus_tool.specs.inside.TakenCable.{IsUndealt, IsWired, IsTakenOn
 
 use crate::refusal::{Outcome, ToolRefusal, refuse};
 use bus_cable::{Cable, CableError, read_cable};
-use bus_command::{Dealt, Traced, take_hands, take_table, take_text};
+use bus_command::{Dealt, TEXT_LIMIT, Traced, take_hands, take_table, take_text};
 use bus_outer::Source;
 use bus_strings::Payloads;
 use bus_table::{FitError, Hand, Mode, Table, fits, hands};
 use bus_trace::Trace;
 use bus_wave::{WaveError, read_wave};
 use std::alloc::Global;
-
-/// The most bytes that a cable text may have, as a messages text.
-const CABLE_LIMIT: usize = 8_388_608;
 
 /// A table, a cable, and one hand for each of the table's senders, in its order.
 #[derive(Drop)]
@@ -161,7 +158,7 @@ fn take_cable_text<S: Source>(alloc: Global, second: &mut S) -> Result<(Cable, P
         (source_seen ⟦<S as Source>⟧ second.old) (source_seen ⟦<S as Source>⟧ second.new) result }
     ensures few { IfOk result (λ read. length read.1 ≤ text_limit) }
 {
-    let text = take_text::<ToolRefusal, S>(alloc, CABLE_LIMIT, 2, second)?;
+    let text = take_text::<ToolRefusal, S>(alloc, TEXT_LIMIT, 2, second)?;
     match read_cable(alloc, &text) {
         Ok(read) => Ok(read),
         Err(error) => Err(refuse_cable(error)),

@@ -11,11 +11,11 @@ ghost use Rattle.bus_tool.specs.Refusals as refusals;
 ghost use Rattle.bus_tool.specs.Refusals.{count_words, ends_of, line_of, place_of, short_last_line, uneven_words};
 ghost use Rattle.bus_wave.specs.Reasons.{entry_words, wave_reason_word};
 
-use bus_command::{Place, Refusal, Status, put_error, put_numbered};
+use bus_command::{Place, Refusal, Status, put_error};
 use bus_outer::{Sink, TextBuffer, WriteFault};
 use bus_regime::{TableVerdict, write_verdict};
 use bus_schedule::Uneven;
-use bus_table::{FitError, Mode, put_fit_error, put_mode};
+use bus_table::{FitError, Mode, put_fit_error, put_mode, put_numbered};
 use bus_text::Reason;
 use bus_wave::{WaveFault, WaveReason, put_fault};
 

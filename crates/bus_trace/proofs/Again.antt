@@ -13,7 +13,7 @@ use Rattle.bus_text.proofs.NumberLaws.{decimal_is, decimal_field}
 use Rattle.bus_text.specs.Canonical.{spelled_line, spelled_lines}
 use Rattle.bus_text.specs.inside.Spelled.{IsField}
 use Rattle.bus_text.proofs.CanonicalLaws.{constant_field}
-use Rattle.bus_words.specs.Words.{label_word}
+use Rattle.bus_words.specs.Words.{label_word, data_word}
 use Rattle.bus_words.specs.WordTexts.{word_text}
 use Rattle.bus_strings.specs.Messages.{Wordstring, Entry, IsWordstring}
 use Rattle.bus_strings.specs.Transmissions.{IsAscending}
@@ -27,7 +27,7 @@ use Rattle.bus_strings.specs.Limits.{horizon_limit}
 use Rattle.bus_strings.specs.Transmissions.{end_of}
 use Rattle.bus_strings.specs.OverlapLaws.{NeighboursTell, AscendingIsByMoment}
 use Rattle.bus_trace.specs.Traces.{Recording, Line, IsHold, AscendAbove, IsBelow, IsTrace, head_line, horizon_line}
-use Rattle.bus_trace.specs.Traces.{hold_line, begin_line, data_word, string_line, entry_lines, mark_text, ended_line, close_line}
+use Rattle.bus_trace.specs.Traces.{hold_line, begin_line, string_line, entry_lines, mark_text, ended_line, close_line}
 use Rattle.bus_trace.specs.Traces.{list_lines, end_line, opening_lines, text_in}
 use Rattle.bus_trace.specs.States.{State, start, may_follow, last_count, last_terminal, last_end, is_after, is_hit, is_final, ends_behind}
 use Rattle.bus_trace.specs.States.{is_closed, starts_wrong, turns_wrong, told_lines, lines_so_far, body_lines}

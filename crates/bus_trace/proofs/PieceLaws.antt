@@ -15,7 +15,7 @@ use Rattle.bus_trace.specs.declared.stage.Fed.TheVariants as fed
 use Rattle.bus_trace.specs.declared.stage.Stage.TheVariants as stage
 use Rattle.bus_trace.specs.declared.fault.TraceError.{TraceError}
 use Rattle.bus_trace.specs.declared.fault.TraceError.TheVariants.{Text, ReadFault, TooLarge, Memory}
-use Rattle.bus_trace.specs.Limits.{line_limit, text_limit}
+use Rattle.bus_trace.specs.Limits.{line_limit, trace_limit}
 use Rattle.bus_trace.specs.Traces.{Recording, Line, IsTraceText, HoldsTrace}
 use Rattle.bus_trace.specs.States.{State, lines_of, text_of, recorded}
 use Rattle.bus_trace.specs.inside.Sound.{IsSound}
@@ -35,7 +35,7 @@ use Rattle.bus_trace.proofs.ReadRuns.{MarkLaws, ByteGives, Stands, due_refused, 
 use Rattle.bus_trace.proofs.ReadRuns.{begin_stands, begin_stream, byte_gives, stands_byte, found_trace, found_front}
 
 -- ---- a whole text
-abbrev pub whole_holds : (xs : List ℕ) (count : ℕ) (w : IsWholeAt xs count) → HoldsTrace text_limit xs w.trace
+abbrev pub whole_holds : (xs : List ℕ) (count : ℕ) (w : IsWholeAt xs count) → HoldsTrace trace_limit xs w.trace
 whole_holds xs count w = record {
   front = take count xs;
   rest = drop count xs;
@@ -45,19 +45,19 @@ whole_holds xs count w = record {
 }
 
 -- where a front is whole, its state is found, and the text of that state is the front
-pub whole_found : MarkLaws → (xs : List ℕ) (count : ℕ) → IsWholeAt xs count → (s : State) × (due text_limit xs ≡ Found s)
+pub whole_found : MarkLaws → (xs : List ℕ) (count : ℕ) → IsWholeAt xs count → (s : State) × (due trace_limit xs ≡ Found s)
     × (length (text_of s) ≡ count)
 whole_found laws xs count w =
     let h = whole_holds xs count w in
-    let d = holds_due laws text_limit xs w.trace h in
-    let t = found_trace laws text_limit xs (ended w.text.format w.trace) d in
+    let d = holds_due laws trace_limit xs w.trace h in
+    let t = found_trace laws trace_limit xs (ended w.text.format w.trace) d in
     (ended w.text.format w.trace, d, ap length (t.1 ∙ sym w.text.text_is) ∙ length-take count xs ∙ omega (arith, w.within))
 
-pub found_whole : MarkLaws → (xs : List ℕ) (s : State) (count : ℕ) → due text_limit xs ≡ Found s → count ≡ length (text_of s)
+pub found_whole : MarkLaws → (xs : List ℕ) (s : State) (count : ℕ) → due trace_limit xs ≡ Found s → count ≡ length (text_of s)
     → IsWholeAt xs count
 found_whole laws xs s count h e =
-    let t = found_trace laws text_limit xs s h in
-    let p = found_front text_limit xs s h in
+    let t = found_trace laws trace_limit xs s h in
+    let p = found_front trace_limit xs s h in
     let front : take count xs ≡ text_of s = ap (λ n. take n xs) e ∙ ap (take (length (text_of s))) p.1 ∙ take-append_seam (text_of s) p.0 in
     record {
       trace = recorded s;
@@ -105,17 +105,17 @@ run_refusal r [] byte reason sound i h = absurd cc
 run_refusal r (b ∷ bs) byte reason sound i h = refusal_next r b bs byte reason (take_byte r b) refl sound i h
     (λ n s k t q. run_refusal n bs byte reason s k q)
 
-pub refused_at : (xs : List ℕ) (byte : ℕ) (reason : TraceReason) → due text_limit xs ≡ Refused byte reason → IsRefusedAt xs byte reason
+pub refused_at : (xs : List ℕ) (byte : ℕ) (reason : TraceReason) → due trace_limit xs ≡ Refused byte reason → IsRefusedAt xs byte reason
 unfolding due
 refused_at xs byte reason h =
-    let d = due_refused (nat_lt text_limit (length xs)) (run begin (take text_limit xs)) byte reason h in
-    let r = run_refusal begin (take text_limit xs) byte reason start_sound begin_stands d in
+    let d = due_refused (nat_lt trace_limit (length xs)) (run begin (take trace_limit xs)) byte reason h in
+    let r = run_refusal begin (take trace_limit xs) byte reason start_sound begin_stands d in
     record {
       front = r.front;
-      rest = r.rest ++ drop text_limit xs;
-      parts = sym (take-append-drop text_limit xs) ∙ ap (λ x. x ++ drop text_limit xs) r.parts
-          ∙ append_assoc r.front r.rest (drop text_limit xs);
-      short = omega (arith, length-take text_limit xs, ap length r.parts, length-append r.front r.rest);
+      rest = r.rest ++ drop trace_limit xs;
+      parts = sym (take-append-drop trace_limit xs) ∙ ap (λ x. x ++ drop trace_limit xs) r.parts
+          ∙ append_assoc r.front r.rest (drop trace_limit xs);
+      short = omega (arith, length-take trace_limit xs, ap length r.parts, length-append r.front r.rest);
       offends = subst (λ x. Offends x byte reason) (begin_stream r.front) r.offends;
     }
 
@@ -129,32 +129,32 @@ offends_refused front byte reason (Overlong before lines line p b g f l e) =
     ∙ run-long (record { state = before; line = [] }) line f (omega arith) (omega (arith, l))
     ∙ ap (λ n. Refused n Long) (sym (ap length g.text) ∙ sym b) ∙ ap (λ (x : TraceReason). Refused byte x) (sym e)
 
-pub refused_due : (xs : List ℕ) (byte : ℕ) (reason : TraceReason) → IsRefusedAt xs byte reason → due text_limit xs ≡ Refused byte reason
+pub refused_due : (xs : List ℕ) (byte : ℕ) (reason : TraceReason) → IsRefusedAt xs byte reason → due trace_limit xs ≡ Refused byte reason
 unfolding due
 refused_due xs byte reason r =
-    ap (λ x. due_by (nat_lt text_limit (length xs)) (run begin x))
-    (ap (take text_limit) r.parts ∙ take_on text_limit r.front r.rest r.short)
-    ∙ ap (due_by (nat_lt text_limit (length xs))) (run-append begin r.front (take (text_limit - length r.front) r.rest)
-    ∙ ap (λ o. o >>- λ m. run m (take (text_limit - length r.front) r.rest)) (offends_refused r.front byte reason r.offends))
+    ap (λ x. due_by (nat_lt trace_limit (length xs)) (run begin x))
+    (ap (take trace_limit) r.parts ∙ take_on trace_limit r.front r.rest r.short)
+    ∙ ap (due_by (nat_lt trace_limit (length xs))) (run-append begin r.front (take (trace_limit - length r.front) r.rest)
+    ∙ ap (λ o. o >>- λ m. run m (take (trace_limit - length r.front) r.rest)) (offends_refused r.front byte reason r.offends))
 
 -- ---- neither
-going_undecided : MarkLaws → (xs : List ℕ) (at : Standing) → due text_limit xs ≡ Going at → IsUndecided xs
+going_undecided : MarkLaws → (xs : List ℕ) (at : Standing) → due trace_limit xs ≡ Going at → IsUndecided xs
 going_undecided laws xs at h = record {
   no_text = λ count w. let f = whole_found laws xs count w in let wrong : Going at ≡ Found f.0 = sym h ∙ f.1 in cc;
   no_refusal = λ byte reason r. let wrong : Going at ≡ Refused byte reason = sym h ∙ refused_due xs byte reason r in cc;
 }
 
-over_undecided : MarkLaws → (xs : List ℕ) → due text_limit xs ≡ Over → IsUndecided xs
+over_undecided : MarkLaws → (xs : List ℕ) → due trace_limit xs ≡ Over → IsUndecided xs
 over_undecided laws xs h = record {
   no_text = λ count w. let f = whole_found laws xs count w in let wrong : Over ≡ Found f.0 = sym h ∙ f.1 in cc;
   no_refusal = λ byte reason r. let wrong : Over ≡ Refused byte reason = sym h ∙ refused_due xs byte reason r in cc;
 }
 
-over_long : (xs : List ℕ) → due text_limit xs ≡ Over → text_limit < length xs
+over_long : (xs : List ℕ) → due trace_limit xs ≡ Over → trace_limit < length xs
 unfolding due
 over_long xs h =
-    let d = due_over (nat_lt text_limit (length xs)) (run begin (take text_limit xs)) (run_within begin (take text_limit xs)) h in
-    longer text_limit (length xs) d.0 where
+    let d = due_over (nat_lt trace_limit (length xs)) (run begin (take trace_limit xs)) (run_within begin (take trace_limit xs)) h in
+    longer trace_limit (length xs) d.0 where
       longer : (a b : ℕ) → nat_lt a b ≡ true → a < b
       longer a b h = grind (arith, nat_tests)
 
@@ -187,7 +187,7 @@ whole_same : (m n : State) → Found m ≡ Found n → m ≡ n
 whole_same m n h = cc
 
 whole_only : MarkLaws → (old new : Reader) (piece : List ℕ) (a : Fed) (count : ℕ) (s : State) → FeedGives old new piece (Ok a)
-    → due text_limit (stream old ++ piece) ≡ Found s → length (text_of s) ≡ length (stream old) + count → fed.Whole count ≡ a
+    → due trace_limit (stream old ++ piece) ≡ Found s → length (text_of s) ≡ length (stream old) + count → fed.Whole count ≡ a
 whole_only laws old new piece fed.More count s f d e = let wrong : Going new.at ≡ Found s = sym f.1 ∙ d in absurd cc
 whole_only laws old new piece (fed.Whole used) count s f d e =
     let same = whole_same s new.at.state (sym d ∙ f.1) in
@@ -197,7 +197,7 @@ whole_only laws old new piece (fed.Refused byte reason) count s f d e = let wron
 whole_only laws old new piece fed.TooLarge count s f d e = let wrong : Over ≡ Found s = sym f.1 ∙ d in absurd cc
 
 refused_only : (old new : Reader) (piece : List ℕ) (a : Fed) (byte : ℕ) (reason : TraceReason) → FeedGives old new piece (Ok a)
-    → due text_limit (stream old ++ piece) ≡ Refused byte reason → fed.Refused byte reason ≡ a
+    → due trace_limit (stream old ++ piece) ≡ Refused byte reason → fed.Refused byte reason ≡ a
 refused_only old new piece fed.More byte reason f d = let wrong : Going new.at ≡ Refused byte reason = sym f.1 ∙ d in absurd cc
 refused_only old new piece (fed.Whole used) byte reason f d = let wrong : Found new.at.state ≡ Refused byte reason = sym f.1
     ∙ d in absurd cc
@@ -209,7 +209,7 @@ refused_only old new piece (fed.Refused at why) byte reason f d =
 refused_only old new piece fed.TooLarge byte reason f d = let wrong : Over ≡ Refused byte reason = sym f.1 ∙ d in absurd cc
 
 large_only : MarkLaws → (old new : Reader) (piece : List ℕ) (a : Fed) → FeedGives old new piece (Ok a)
-    → text_limit < length (stream old ++ piece) → IsUndecided (stream old ++ piece) → fed.TooLarge ≡ a
+    → trace_limit < length (stream old ++ piece) → IsUndecided (stream old ++ piece) → fed.TooLarge ≡ a
 large_only laws old new piece fed.More f l u = absurd (omega (arith, l, more_fits (stream old ++ piece) new.at f.1))
 large_only laws old new piece (fed.Whole used) f l u = absurd
     (u.no_text (length (stream old) + used) (given_due laws old new piece (fed.Whole used) f))
@@ -218,7 +218,7 @@ large_only laws old new piece (fed.Refused byte reason) f l u =
 large_only laws old new piece fed.TooLarge f l u = refl
 
 more_only : MarkLaws → (old new : Reader) (piece : List ℕ) (a : Fed) → FeedGives old new piece (Ok a)
-    → length (stream old ++ piece) ≤ text_limit → IsUndecided (stream old ++ piece) → fed.More ≡ a
+    → length (stream old ++ piece) ≤ trace_limit → IsUndecided (stream old ++ piece) → fed.More ≡ a
 more_only laws old new piece fed.More f l u = refl
 more_only laws old new piece (fed.Whole used) f l u = absurd
     (u.no_text (length (stream old) + used) (given_due laws old new piece (fed.Whole used) f))
@@ -268,7 +268,7 @@ pending_short at i = (run_goes begin at (stream_of at) start_sound begin_stands 
 -- ---- the end
 whole_text : MarkLaws → (at : Standing) → ReaderIs stage.Whole at → IsTraceText (recorded at.state) (stream_of at)
 whole_text laws at i =
-    let t = found_trace laws text_limit (stream_of at) at.state (due_within (stream_of at) (Found at.state) i.1 i.0) in
+    let t = found_trace laws trace_limit (stream_of at) at.state (due_within (stream_of at) (Found at.state) i.1 i.0) in
     record { format = at.state.format; trace = t.0; text_is = ap (λ l. text_of at.state ++ l) i.2 ∙ append-nil (text_of at.state) ∙ t.1 }
 
 pub finishes : MarkLaws → (r : Reader) (result : Result Recording TraceError) → ReaderIs r.stage r.at → FinishGives r result

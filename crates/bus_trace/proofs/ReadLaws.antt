@@ -12,7 +12,7 @@ use Rattle.bus_trace.specs.declared.fault.TraceError.TheVariants.{Text, ReadFaul
 use Rattle.bus_trace.specs.declared.format.Format.{Format}
 use Rattle.bus_trace.specs.declared.reason.TraceReason.{TraceReason}
 use Rattle.bus_trace.specs.declared.reason.TraceReason.TheVariants.{Long, Ended as CutShort}
-use Rattle.bus_trace.specs.Limits.{line_limit, text_limit}
+use Rattle.bus_trace.specs.Limits.{line_limit, trace_limit}
 use Rattle.bus_trace.specs.Traces.{Recording, IsTrace, HoldsTrace, text_in}
 use Rattle.bus_trace.specs.States.{State, step, text_of, is_ended, recorded}
 use Rattle.bus_trace.specs.Runs.{Standing, Progress, Going, Found, Refused, Over, judged, take_byte, ◌>>-◌, run, begin, due, due_by}
@@ -107,39 +107,39 @@ refuses_byte r b byte reason i h = by_feed (is_feed b) refl (nat_lt (length r.li
 
 -- what a decided refusal says of the bytes
 refused_byte : (front : List ℕ) (b : ℕ) (at : Standing) (left : Option (List ℕ)) (byte : ℕ) (reason : TraceReason)
-    → Undecided text_limit front at → due text_limit (front ++ b ∷ []) ≡ Refused byte reason
-    → Refuses (front ++ b ∷ []) left byte reason × (length (front ++ b ∷ []) ≤ text_limit)
+    → Undecided trace_limit front at → due trace_limit (front ++ b ∷ []) ≡ Refused byte reason
+    → Refuses (front ++ b ∷ []) left byte reason × (length (front ++ b ∷ []) ≤ trace_limit)
 unfolding due
-refused_byte front b at left byte reason u h = by_case (next_byte text_limit front b at u) where
-  refused : run begin (take text_limit (front ++ b ∷ [])) ≡ Refused byte reason
-  refused = due_refused (nat_lt text_limit (length (front ++ b ∷ []))) (run begin (take text_limit (front ++ b ∷ []))) byte reason h
+refused_byte front b at left byte reason u h = by_case (next_byte trace_limit front b at u) where
+  refused : run begin (take trace_limit (front ++ b ∷ [])) ≡ Refused byte reason
+  refused = due_refused (nat_lt trace_limit (length (front ++ b ∷ []))) (run begin (take trace_limit (front ++ b ∷ []))) byte reason h
 
-  by_case : ((length front < text_limit) × (run begin (take text_limit (front ++ b ∷ [])) ≡ take_byte at b)) ⊎
-      ((length front ≡ text_limit) × (run begin (take text_limit (front ++ b ∷ [])) ≡ Going at))
-      → Refuses (front ++ b ∷ []) left byte reason × (length (front ++ b ∷ []) ≤ text_limit)
+  by_case : ((length front < trace_limit) × (run begin (take trace_limit (front ++ b ∷ [])) ≡ take_byte at b)) ⊎
+      ((length front ≡ trace_limit) × (run begin (take trace_limit (front ++ b ∷ [])) ≡ Going at))
+      → Refuses (front ++ b ∷ []) left byte reason × (length (front ++ b ∷ []) ≤ trace_limit)
   by_case (inl k) = (
     Decided (subst (λ x. Offends (x ++ b ∷ []) byte reason) u.stream (refuses_byte at b byte reason u.stands (sym k.1 ∙ refused))),
     omega (arith, length-append front (b ∷ []), k.0),
   )
   by_case (inr k) = let wrong : Going at ≡ Refused byte reason = sym k.1 ∙ refused in absurd cc
 
-over_byte : (front : List ℕ) (b : ℕ) (at : Standing) → Undecided text_limit front at → due text_limit (front ++ b ∷ []) ≡ Over
-    → length (front ++ b ∷ []) ≡ (text_limit + 1)
+over_byte : (front : List ℕ) (b : ℕ) (at : Standing) → Undecided trace_limit front at → due trace_limit (front ++ b ∷ []) ≡ Over
+    → length (front ++ b ∷ []) ≡ (trace_limit + 1)
 unfolding due
 over_byte front b at u h =
-    let d = due_over (nat_lt text_limit (length (front ++ b ∷ []))) (run begin (take text_limit (front ++ b ∷ [])))
-    (run_within begin (take text_limit (front ++ b ∷ []))) h in
-    omega (arith, ltb-true text_limit (length (front ++ b ∷ [])) d.0, length-append front (b ∷ []), u.short)
+    let d = due_over (nat_lt trace_limit (length (front ++ b ∷ []))) (run begin (take trace_limit (front ++ b ∷ [])))
+    (run_within begin (take trace_limit (front ++ b ∷ []))) h in
+    omega (arith, ltb-true trace_limit (length (front ++ b ∷ [])) d.0, length-append front (b ∷ []), u.short)
 
 -- ---- the clauses of a read
 refused_takes : (old new : Option (List ℕ)) (bytes : List ℕ) (byte : ℕ) (reason : TraceReason) → Taken old new bytes
     → LineRefused bytes new byte reason → TakesTrace old new (Err (Text byte reason))
 refused_takes old new bytes byte reason t (ByLine d) =
-    let u = undecided_is text_limit d.front d.before d.undecided in
-    let w = refused_byte d.front d.last d.before new byte reason u (ap (due text_limit) (sym d.parts) ∙ d.decided) in
-    record { bytes = bytes; came = t; known = subst (λ x. Refuses x new byte reason × (length x ≤ text_limit)) (sym d.parts) w }
+    let u = undecided_is trace_limit d.front d.before d.undecided in
+    let w = refused_byte d.front d.last d.before new byte reason u (ap (due trace_limit) (sym d.parts) ∙ d.decided) in
+    record { bytes = bytes; came = t; known = subst (λ x. Refuses x new byte reason × (length x ≤ trace_limit)) (sym d.parts) w }
 refused_takes old new bytes byte reason t (ByEnd at d e b r) =
-    let u = undecided_is text_limit bytes at d in
+    let u = undecided_is trace_limit bytes at d in
     record {
       bytes = bytes;
       came = t;
@@ -154,24 +154,24 @@ pub loops_takes : MarkLaws → (old new : Option (List ℕ)) (result : Result Re
     → TakesTrace old new result
 loops_takes laws old new (Ok trace) l =
     let s : State = l.gives.0 in
-    let w = found_trace laws text_limit l.bytes s l.gives.1 in
+    let w = found_trace laws trace_limit l.bytes s l.gives.1 in
     let e : text_of s ≡ text_in s.format trace = w.1 ∙ ap (text_in s.format) (sym l.gives.3) in
     record {
       format = s.format;
       came = subst (Taken old new) (l.gives.2 ∙ e) l.came;
-      short = subst (λ (t : Recording). length (text_in s.format t) ≤ text_limit) (sym l.gives.3) w.2;
+      short = subst (λ (t : Recording). length (text_in s.format t) ≤ trace_limit) (sym l.gives.3) w.2;
     }
 loops_takes laws old new (Err (Text byte reason)) l = refused_takes old new l.bytes byte reason l.came l.gives
 loops_takes laws old new (Err TooLarge) l =
     let d = l.gives in
-    let u = undecided_is text_limit d.front d.before d.undecided in
+    let u = undecided_is trace_limit d.front d.before d.undecided in
     record {
       bytes = l.bytes;
       came = l.came;
       known = (
         d,
         ap length d.parts
-            ∙ over_byte d.front d.last d.before u (ap (due text_limit) (sym d.parts) ∙ d.decided),
+            ∙ over_byte d.front d.last d.before u (ap (due trace_limit) (sym d.parts) ∙ d.decided),
       );
     }
 loops_takes laws old new (Err ReadFault) l = record { bytes = l.bytes; came = l.came; known = l.gives }
@@ -217,31 +217,31 @@ told xs bytes None t = absurd cc
 told xs bytes (Some ys) t = (ys, refl, cc)
 
 refused_gives : (xs bytes : List ℕ) (new : Option (List ℕ)) (byte : ℕ) (reason : TraceReason) → Taken (Some xs) new bytes
-    → LineRefused bytes new byte reason → reading text_limit xs ≡ Err (Text byte reason)
+    → LineRefused bytes new byte reason → reading trace_limit xs ≡ Err (Text byte reason)
 refused_gives xs bytes new byte reason t (ByLine d) =
     let k = told xs bytes new t in
-    ap (reading text_limit) k.2 ∙ ap ended_by (refused_more text_limit bytes k.0 byte reason d.decided)
+    ap (reading trace_limit) k.2 ∙ ap ended_by (refused_more trace_limit bytes k.0 byte reason d.decided)
 refused_gives xs bytes new byte reason t (ByEnd at d e b r) =
     let k = told xs bytes new t in
     let none : k.0 ≡ [] = subst (λ (m : Option (List ℕ)). IfSome m (λ zs. zs ≡ [])) k.1 e in
-    ap (reading text_limit) (k.2 ∙ ap (λ zs. bytes ++ zs) none ∙ append-nil bytes) ∙ ap ended_by d
+    ap (reading trace_limit) (k.2 ∙ ap (λ zs. bytes ++ zs) none ∙ append-nil bytes) ∙ ap ended_by d
     ∙ ap (λ n. Err (Text n CutShort)) (sym b) ∙ ap (λ (x : TraceReason). Err (Text byte x)) (sym r)
 
 gives_told : (xs : List ℕ) (new : Option (List ℕ)) (result : Result Recording TraceError) → Loops (Some xs) new result
-    → ReadGives result (reading text_limit xs)
+    → ReadGives result (reading trace_limit xs)
 gives_told xs new (Ok trace) l =
     let k = told xs l.bytes new l.came in
-    ap (reading text_limit) k.2 ∙ ap ended_by (found_more text_limit l.bytes k.0 l.gives.0 l.gives.1)
+    ap (reading trace_limit) k.2 ∙ ap ended_by (found_more trace_limit l.bytes k.0 l.gives.0 l.gives.1)
     ∙ ap (λ (t : Recording). Ok t) (sym l.gives.3)
 gives_told xs new (Err (Text byte reason)) l = refused_gives xs l.bytes new byte reason l.came l.gives
 gives_told xs new (Err TooLarge) l =
     let k = told xs l.bytes new l.came in
-    ap (reading text_limit) k.2 ∙ ap ended_by (over_more text_limit l.bytes k.0 l.gives.decided)
+    ap (reading trace_limit) k.2 ∙ ap ended_by (over_more trace_limit l.bytes k.0 l.gives.decided)
 gives_told xs new (Err ReadFault) l = tt
 gives_told xs new (Err Memory) l = tt
 
 pub loops_exact : (old new : Option (List ℕ)) (result : Result Recording TraceError) → Loops old new result
-    → IfSome old (λ stream. ReadGives result (reading text_limit stream))
+    → IfSome old (λ stream. ReadGives result (reading trace_limit stream))
 loops_exact None new result l = tt
 loops_exact (Some xs) new result l = gives_told xs new result l
 
@@ -273,22 +273,22 @@ holds_due laws limit stream t h =
 pub holds_reads : MarkLaws → (limit : ℕ) (stream : List ℕ) (t : Recording) → HoldsTrace limit stream t → reading limit stream ≡ Ok t
 holds_reads laws limit stream t h = ap ended_by (holds_due laws limit stream t h)
 
-found_told : MarkLaws → (xs : List ℕ) (result : Result Recording TraceError) → ReadGives result (reading text_limit xs)
-    → IfOk result (HoldsTrace text_limit xs)
-found_told laws xs (Ok trace) h = reads_holds laws text_limit xs trace h
+found_told : MarkLaws → (xs : List ℕ) (result : Result Recording TraceError) → ReadGives result (reading trace_limit xs)
+    → IfOk result (HoldsTrace trace_limit xs)
+found_told laws xs (Ok trace) h = reads_holds laws trace_limit xs trace h
 found_told laws xs (Err e) h = tt
 
 pub exact_found : MarkLaws → (old : Option (List ℕ)) (result : Result Recording TraceError)
-    → IfSome old (λ stream. ReadGives result (reading text_limit stream))
-    → IfSome old (λ stream. IfOk result (HoldsTrace text_limit stream))
+    → IfSome old (λ stream. ReadGives result (reading trace_limit stream))
+    → IfSome old (λ stream. IfOk result (HoldsTrace trace_limit stream))
 exact_found laws None result h = tt
 exact_found laws (Some xs) result h = found_told laws xs result h
 
 pub exact_only : MarkLaws → (old : Option (List ℕ)) (result : Result Recording TraceError)
-    → IfSome old (λ stream. ReadGives result (reading text_limit stream))
-    → IfSome old (λ stream. (t : Recording) → HoldsTrace text_limit stream t → ReadGives result (Ok t))
+    → IfSome old (λ stream. ReadGives result (reading trace_limit stream))
+    → IfSome old (λ stream. (t : Recording) → HoldsTrace trace_limit stream t → ReadGives result (Ok t))
 exact_only laws None result h = tt
-exact_only laws (Some xs) result h = λ t k. subst (ReadGives result) (holds_reads laws text_limit xs t k) h
+exact_only laws (Some xs) result h = λ t k. subst (ReadGives result) (holds_reads laws trace_limit xs t k) h
 
 -- ---- no trace text is a proper front of another
 pub front_is_whole : MarkLaws → (one other : Format) (t u : Recording) (rest : List ℕ) → IsTrace t → IsTrace u

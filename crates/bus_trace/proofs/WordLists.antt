@@ -14,13 +14,13 @@ use Rattle.bus_words.specs.declared.word.Kind.TheVariants.{Label, Plain}
 use Rattle.bus_words.specs.declared.word.Word.{Word}
 use Rattle.bus_words.specs.declared.word.FramedWord.{FramedWord}
 use Rattle.bus_words.specs.declared.word.WordError.TheVariants.{Shape, Parity}
-use Rattle.bus_words.specs.Words.{parity, frame, unframe, label_word}
+use Rattle.bus_words.specs.Words.{parity, frame, unframe, label_word, data_word}
 use Rattle.bus_words.specs.WordTexts.{form, is_of, kept, written_frame, word_text, read_word}
 use Rattle.bus_words.proofs.WordTextLaws.{length_of_form, is_of-frame_text, written_frame-frame_text, read_word-word_text}
 use Rattle.bus_words.proofs.WordTextLaws.{word_text-read_word, word_text-field}
 use Rattle.bus_strings.specs.Messages.{Wordstring, IsWordstring}
 use Rattle.bus_trace.specs.WordFields.{same_kind, is_spelled, has_parity, value_of, are_spelled, have_parity, string_of}
-use Rattle.bus_trace.specs.Traces.{data_word, word_fields}
+use Rattle.bus_trace.specs.Traces.{word_fields}
 
 -- ---- fields of the code
 pub list_all-texts : (p : List ℕ → Bool) (fields : List (Bor (List ℕ))) → list_all (λ f. p f.now) fields ≡ list_all p (texts fields)

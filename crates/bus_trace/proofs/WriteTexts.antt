@@ -4,13 +4,13 @@ use Rattle.std.specs.List.{flat_map, zip, join_with_byte}
 use Rattle.std.specs.Fmt.{decimal}
 use Rattle.std.proofs.lemmas.List.Concat.{flat_map-append}
 use Rattle.bus_text.specs.Canonical.{spelled_line, spelled_lines}
-use Rattle.bus_words.specs.Words.{label_word}
+use Rattle.bus_words.specs.Words.{label_word, data_word}
 use Rattle.bus_words.specs.WordTexts.{word_text}
 use Rattle.bus_strings.specs.Messages.{Wordstring, Entry}
 use Rattle.bus_trace.specs.declared.hold.Hold.{Hold}
 use Rattle.bus_strings.specs.Transmissions.{end_of, marks}
 use Rattle.bus_trace.specs.declared.format.Format.TheVariants.{Two}
-use Rattle.bus_trace.specs.Traces.{Recording, Line, data_word, head_line, horizon_line, hold_line, begin_line, string_line, entry_lines}
+use Rattle.bus_trace.specs.Traces.{Recording, Line, head_line, horizon_line, hold_line, begin_line, string_line, entry_lines}
 use Rattle.bus_trace.specs.Traces.{mark_text, close_line, marked_lines, list_lines, opening_lines, end_line, trace_text}
 use Rattle.bus_trace.specs.inside.Writing.{data_put, label_put, string_put, pair_put, hold_put, close_put, entry_put, horizon_put, list_put}
 use Rattle.bus_trace.specs.inside.Writing.{trace_put}

@@ -3,8 +3,8 @@ use Rattle.std.specs.Prelude.{ℕ, ◌+◌}
 use Rattle.bus_strings.specs.Limits.{most_words}
 
 -- The most bytes of a text.
-abbrev pub text_limit : ℕ
-text_limit = 67108864
+abbrev pub trace_limit : ℕ
+trace_limit = 67108864
 
 -- The most bytes of a line before its line feed: those of a WS line with every word that it may have.
 abbrev pub line_limit : ℕ

@@ -5,7 +5,7 @@
 --   IsRefusedAt  a line of a stream is refused, and what decides that is within the limit
 --   IsDue        the one answer that is due for a stream: neither of the two comes before the limit is passed, or one of them does
 use Rattle.std.specs.Prelude.{◌≡◌, ◌≤◌, ◌<◌, ◌+◌, ◌⊎◌, ℕ, List, [], ◌∷◌, ◌++◌, length, take, Result, Ok, Err}
-use Rattle.bus_trace.specs.Limits.{text_limit}
+use Rattle.bus_trace.specs.Limits.{trace_limit}
 use Rattle.bus_trace.specs.Traces.{Recording, IsTraceText}
 use Rattle.bus_trace.specs.Runs.{HasNoFeed, stream_of}
 use Rattle.bus_trace.specs.Reading.{Offends}
@@ -51,7 +51,7 @@ pub record IsPending (stream pending : List ℕ) : Type 0 where
 pub record IsWholeAt (stream : List ℕ) (count : ℕ) : Type 0 where
   pub trace : Recording
   pub within : count ≤ length stream
-  pub short : count ≤ text_limit
+  pub short : count ≤ trace_limit
   pub text : IsTraceText trace (take count stream)
 
 -- A stream is refused for a reason against the line that begins at this byte.
@@ -59,7 +59,7 @@ pub record IsRefusedAt (stream : List ℕ) (byte : ℕ) (reason : TraceReason) :
   pub front : List ℕ
   pub rest : List ℕ
   pub parts : stream ≡ front ++ rest
-  pub short : length front ≤ text_limit
+  pub short : length front ≤ trace_limit
   pub offends : Offends front byte reason
 
 -- No front of a stream is a trace text, and no line of it is refused.
@@ -71,8 +71,8 @@ pub record IsUndecided (stream : List ℕ) : Type 0 where
 abbrev pub IsDue : List ℕ → ℕ → Fed → Type 0
 IsDue stream before (fed.Whole used) = IsWholeAt stream (before + used)
 IsDue stream before (fed.Refused byte reason) = IsRefusedAt stream byte reason
-IsDue stream before fed.TooLarge = (text_limit < length stream) × IsUndecided stream
-IsDue stream before fed.More = (length stream ≤ text_limit) × IsUndecided stream
+IsDue stream before fed.TooLarge = (trace_limit < length stream) × IsUndecided stream
+IsDue stream before fed.More = (length stream ≤ trace_limit) × IsUndecided stream
 
 -- How the reader stands then. More took the whole piece, and Whole so many bytes of it.
 abbrev pub Stands : Reader → Reader → List ℕ → Fed → Type 0

@@ -10,7 +10,7 @@ use Rattle.bus_trace.specs.declared.reason.TraceReason.{TraceReason}
 use Rattle.bus_trace.specs.declared.reason.TraceReason.TheVariants.{Ended, Long}
 use Rattle.bus_trace.specs.declared.fault.TraceError.{TraceError}
 use Rattle.bus_trace.specs.declared.fault.TraceError.TheVariants.{Text, ReadFault, TooLarge, Memory}
-use Rattle.bus_trace.specs.Limits.{text_limit, line_limit}
+use Rattle.bus_trace.specs.Limits.{trace_limit, line_limit}
 use Rattle.bus_trace.specs.declared.format.Format.{Format}
 use Rattle.bus_trace.specs.Traces.{Recording, text_in}
 use Rattle.bus_trace.specs.States.{State, step, text_of}
@@ -42,8 +42,8 @@ pub record Decides (bytes : List ℕ) (p : Progress) : Type 0 where
   pub last : ℕ
   pub parts : bytes ≡ front ++ last ∷ []
   pub before : Standing
-  pub undecided : due text_limit front ≡ Going before
-  pub decided : due text_limit bytes ≡ p
+  pub undecided : due trace_limit front ≡ Going before
+  pub decided : due trace_limit bytes ≡ p
 
 -- These bytes came from the source, and so much is known of them.
 pub record Takes (old new : Option (List ℕ)) (P : List ℕ → Type 0) : Type 0 where
@@ -55,16 +55,16 @@ pub record Takes (old new : Option (List ℕ)) (P : List ℕ → Type 0) : Type 
 pub record TakesText (old new : Option (List ℕ)) (trace : Recording) : Type 0 where
   pub format : Format
   pub came : Taken old new (text_in format trace)
-  pub short : length (text_in format trace) ≤ text_limit
+  pub short : length (text_in format trace) ≤ trace_limit
 
 -- Ok takes exactly the trace text. A refusal takes up to where it is decided, within the limit. One byte past the limit is taken only
 -- where those before it decide nothing. A failed pull comes before anything is decided.
 abbrev pub TakesTrace : Option (List ℕ) → Option (List ℕ) → Result Recording TraceError → Type 0
 TakesTrace old new (Ok trace) = TakesText old new trace
-TakesTrace old new (Err (Text byte reason)) = Takes old new (λ bytes. Refuses bytes new byte reason × (length bytes ≤ text_limit))
-TakesTrace old new (Err TooLarge) = Takes old new (λ bytes. Decides bytes Over × (length bytes ≡ (text_limit + 1)))
-TakesTrace old new (Err ReadFault) = Takes old new (λ bytes. (at : Standing) × (due text_limit bytes ≡ Going at))
-TakesTrace old new (Err Memory) = Takes old new (λ bytes. length bytes ≤ text_limit)
+TakesTrace old new (Err (Text byte reason)) = Takes old new (λ bytes. Refuses bytes new byte reason × (length bytes ≤ trace_limit))
+TakesTrace old new (Err TooLarge) = Takes old new (λ bytes. Decides bytes Over × (length bytes ≡ (trace_limit + 1)))
+TakesTrace old new (Err ReadFault) = Takes old new (λ bytes. (at : Standing) × (due trace_limit bytes ≡ Going at))
+TakesTrace old new (Err Memory) = Takes old new (λ bytes. length bytes ≤ trace_limit)
 
 -- The answer is this reading; a failed pull and want of memory say nothing of it.
 abbrev pub ReadGives : Result Recording TraceError → Result Recording TraceError → Type 0

@@ -8,9 +8,7 @@
 use Rattle.std.specs.Prelude.{◌≡◌, ◌≤◌, ◌<◌, ℕ, Bool, true, false, List, [], ◌∷◌, ◌++◌, length, codes, map, decimal}
 use Rattle.std.specs.List.{flat_map, zip, AllByRecursion}
 use Rattle.bus_text.specs.Canonical.{spelled_lines}
-use Rattle.bus_words.specs.declared.word.Kind.TheVariants.{Plain}
-use Rattle.bus_words.specs.declared.word.Word.{Word}
-use Rattle.bus_words.specs.Words.{label_word}
+use Rattle.bus_words.specs.Words.{label_word, data_word}
 use Rattle.bus_words.specs.WordTexts.{word_text}
 use Rattle.bus_strings.specs.Limits.{horizon_limit, most_terminal}
 use Rattle.bus_strings.specs.Messages.{Wordstring, Entry, IsMessage}
@@ -79,10 +77,6 @@ hold_line hold = codes "HOLD" ∷ decimal hold.terminal ∷ decimal hold.count �
 -- `TX m n`: terminal n starts at moment m.
 abbrev pub begin_line : ℕ → ℕ → Line
 begin_line moment terminal = codes "TX" ∷ decimal moment ∷ decimal terminal ∷ []
-
--- The data word of a value.
-abbrev pub data_word : ℕ → Word
-data_word value = record { kind = Plain; value = value }
 
 -- The words of a wordstring are its label word, and the data words.
 abbrev pub word_fields : Wordstring → List (List ℕ)

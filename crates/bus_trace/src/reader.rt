@@ -1,6 +1,6 @@
 //! A reader of a trace text that is given piece by piece.
 ghost use Rattle.std.specs.Prelude.{◌≡◌, ◌≢◌, ◌≤◌, ◌-◌, ◌+◌, ◌<◌, ◌++◌, ◌↔◌, [], length, take, IfOk, IsTrue, OnErr};
-ghost use Rattle.bus_trace.specs.Limits.{line_limit, text_limit};
+ghost use Rattle.bus_trace.specs.Limits.{line_limit, trace_limit};
 ghost use Rattle.bus_trace.specs.Runs.{begin, stream_of};
 ghost use Rattle.bus_trace.specs.Feeding.{ReaderIs};
 ghost use Rattle.bus_trace.specs.inside.Feeds.{fed_of, FeedGives, LeadsOn, FinishGives};
@@ -8,7 +8,7 @@ ghost use Rattle.bus_trace.specs.Pieces.{stream, IsOpen, IsShut, IsPending, IsDu
 ghost use Rattle.bus_trace.specs.declared.stage.Stage.TheVariants.{Open, Shut};
 
 use crate::fault::TraceError;
-use crate::limits::{LINE_LIMIT, TEXT_LIMIT};
+use crate::limits::{LINE_LIMIT, TRACE_LIMIT};
 use crate::reason::TraceReason;
 use crate::stage::{Fed, Stage};
 use crate::trace::Trace;
@@ -145,11 +145,11 @@ impl TraceReader {
         requires { self.now.stage ≡ Open }
         ensures some { 0 < result }
         ensures line { length self.now.at.line + result ≤ line_limit + 1 }
-        ensures text { length (stream_of self.now.at) + result ≤ text_limit + 1 }
-        ensures within { length (stream_of self.now.at) < text_limit → length (stream_of self.now.at) + result ≤ text_limit }
+        ensures text { length (stream_of self.now.at) + result ≤ trace_limit + 1 }
+        ensures within { length (stream_of self.now.at) < trace_limit → length (stream_of self.now.at) + result ≤ trace_limit }
     {
         let line = LINE_LIMIT + 1 - self.walk.pending().len();
-        let text = (TEXT_LIMIT - self.walk.length()).max(1);
+        let text = (TRACE_LIMIT - self.walk.length()).max(1);
         line.min(text)
     }
 
@@ -160,7 +160,7 @@ impl TraceReader {
     {
         self.stage = Stage::Shut;
         let used = self.walk.length();
-        let front = within(piece, TEXT_LIMIT - used);
+        let front = within(piece, TRACE_LIMIT - used);
         let walked = self.walk.walk(self.alloc, front)?;
         let (stage, answer) = fed(walked, front.len() < piece.len());
         self.stage = stage;
@@ -174,7 +174,7 @@ impl TraceReader {
     {
         self.stage = Stage::Shut;
         let used = self.walk.length();
-        let front = within(piece, TEXT_LIMIT - used);
+        let front = within(piece, TRACE_LIMIT - used);
         let count = self.walk.walk_quickly(self.alloc, front)?;
         self.stage = Stage::Open;
         Ok(count)

@@ -3,7 +3,7 @@ ghost use Rattle.std.specs.Prelude.{IfOk, IfSome, Ok};
 ghost use Rattle.bus_trace.specs.Runs.{reading};
 ghost use Rattle.bus_trace.specs.Reading.{TakesTrace, ReadGives, CountsReading};
 ghost use Rattle.bus_trace.specs.inside.Looping.{Loops};
-ghost use Rattle.bus_trace.specs.Limits.{text_limit};
+ghost use Rattle.bus_trace.specs.Limits.{trace_limit};
 ghost use Rattle.bus_trace.specs.Traces.{Recording, IsTrace, HoldsTrace};
 
 use crate::fault::TraceError;
@@ -18,7 +18,7 @@ use std::alloc::Global;
 /// The longest line that is refused, as far as it is looked at.
 const ROOM: usize = LINE_LIMIT + 1;
 
-/// Reads a trace text of at most [`crate::limits::TEXT_LIMIT`] bytes, a line at a time, and takes none of the bytes behind its
+/// Reads a trace text of at most [`crate::limits::TRACE_LIMIT`] bytes, a line at a time, and takes none of the bytes behind its
 /// END line.
 ///
 /// `Text` comes exactly where a line is refused within the limit, at the length of the lines before it: the source has then given
@@ -30,11 +30,11 @@ pub fn read_trace<S: Source>(alloc: Global, source: &mut S) -> Result<Trace, Tra
     // The bytes taken are exactly those of the trace text, or those up to where the refusal is decided.
     ensures taken { TakesTrace (S.left source.old) (S.left source.new) result }
     // The answer is what the source's bytes read as, unless a pull failed or memory ran out.
-    ensures exact { IfSome (S.left source.old) (λ stream. ReadGives result (reading text_limit stream)) }
+    ensures exact { IfSome (S.left source.old) (λ stream. ReadGives result (reading trace_limit stream)) }
     // What was read stands at the front of the source, within the limit.
-    ensures found { IfSome (S.left source.old) (λ stream. IfOk result (HoldsTrace text_limit stream)) }
+    ensures found { IfSome (S.left source.old) (λ stream. IfOk result (HoldsTrace trace_limit stream)) }
     // A trace text that stands there is read, unless a pull failed or memory ran out.
-    ensures only { IfSome (S.left source.old) (λ stream. (t : Recording) → HoldsTrace text_limit stream t → ReadGives result (Ok t)) }
+    ensures only { IfSome (S.left source.old) (λ stream. (t : Recording) → HoldsTrace trace_limit stream t → ReadGives result (Ok t)) }
     ensures ranges { IfOk result IsTrace }
     ensures counts { CountsReading (S.faults source.old) (S.faults source.new) result }
 {

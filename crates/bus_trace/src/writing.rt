@@ -16,7 +16,7 @@ use crate::trace::Trace;
 use bus_outer::{Sink, TextBuffer, WriteFault};
 use bus_strings::laws::neighbours_tell;
 use bus_strings::{Marks, Transmission, Wordstring};
-use bus_words::{Kind, Word, label_word, word_text};
+use bus_words::{Word, data_word, label_word, word_text};
 
 /// A word behind its space.
 fn put_word<K: Sink>(text: &mut TextBuffer, sink: &mut K, word: Word)
@@ -39,11 +39,7 @@ fn put_data<K: Sink>(text: &mut TextBuffer, sink: &mut K, words: &[u16])
     ensures { Adds K.held K.faults sink.old sink.new text.old text.new (data_put words.now) }
 {
     for word in words {
-        let word = Word {
-            kind: Kind::Plain,
-            value: *word,
-        };
-        put_word(text, sink, word);
+        put_word(text, sink, data_word(*word));
     }
 }
 

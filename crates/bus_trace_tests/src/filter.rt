@@ -6,7 +6,7 @@ use bus_filter::{Heard, Receiver, count_received, write_received};
 use bus_outer::{MemorySink, WriteFault};
 use bus_strings::{Message, Transmission, Wordstring, is_by_moment};
 use bus_table::{TakeLine, read_table};
-use bus_words::{Ext, Kind, Label, Word, label_word};
+use bus_words::{Ext, Label, data_word, label_word};
 use std::alloc::Global;
 use std::test::Fail;
 
@@ -239,27 +239,23 @@ fn a_receiver_keeps_its_places(rt: HostRuntime) -> Result<(), Fail> {
         count: 2,
     });
     receiver.begin();
-    let data = |value: u16| Word {
-        kind: Kind::Plain,
-        value,
-    };
     for (word, want) in [
-        (data(7), Heard::Skipped),
+        (data_word(7), Heard::Skipped),
         (label_word(label, ext), Heard::Begins { label, ext }),
-        (data(10), Heard::Skipped),
-        (data(11), Heard::Kept(11)),
-        (data(12), Heard::Kept(12)),
-        (data(13), Heard::Skipped),
+        (data_word(10), Heard::Skipped),
+        (data_word(11), Heard::Kept(11)),
+        (data_word(12), Heard::Kept(12)),
+        (data_word(13), Heard::Skipped),
         (label_word(other, ext), Heard::Skipped),
-        (data(11), Heard::Skipped),
+        (data_word(11), Heard::Skipped),
         (label_word(label, ext), Heard::Begins { label, ext }),
-        (data(10), Heard::Skipped),
+        (data_word(10), Heard::Skipped),
     ] {
         assert_eq!(rt; receiver.word(word), want);
     }
     assert!(rt; receiver.matching());
     receiver.end();
     assert!(rt; !receiver.matching());
-    assert_eq!(rt; receiver.word(data(11)), Heard::Skipped);
+    assert_eq!(rt; receiver.word(data_word(11)), Heard::Skipped);
     Ok(())
 }

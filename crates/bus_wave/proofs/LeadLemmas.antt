@@ -7,13 +7,12 @@ use Rattle.std.proofs.lemmas.Bool.{eq-eqb}
 use Rattle.std.proofs.lemmas.Bool.Decides.{nat_tests}
 use Rattle.std.proofs.lemmas.List.Sums.{sum_by-cons}
 use Rattle.bus_words.specs.declared.word.Word.{Word}
-use Rattle.bus_words.specs.Words.{label_word}
+use Rattle.bus_words.specs.Words.{label_word, data_word}
 use Rattle.bus_strings.specs.Limits.{horizon_limit, word_bits, inner_gap}
 use Rattle.bus_strings.specs.Messages.{Wordstring, Message, Entry, IsWordstring, IsMessage, word_count, bits}
 use Rattle.bus_table.specs.declared.line.SendLine.{SendLine}
 use Rattle.bus_table.specs.Fits.{allows, matches}
 use Rattle.bus_table.specs.Tables.{Sender}
-use Rattle.bus_trace.specs.Traces.{data_word}
 use Rattle.bus_wave.specs.declared.fault.WaveReason.{WaveReason}
 use Rattle.bus_wave.specs.declared.fault.WaveReason.TheVariants.{Order}
 use Rattle.bus_wave.specs.declared.symbol.Symbol.TheVariants as symbol

@@ -19,7 +19,7 @@ use Rattle.bus_table.specs.Tables.{Sender, Table}
 use Rattle.bus_table.proofs.TurnLaws.{numbers_differ}
 use Rattle.bus_table.specs.Valid.{is_valid}
 use Rattle.bus_table.proofs.ValidLaws.{valid_facts}
-use Rattle.bus_trace.specs.Traces.{data_word}
+use Rattle.bus_words.specs.Words.{data_word}
 use Rattle.bus_wave.specs.declared.fault.WaveReason.TheVariants.{Order}
 use Rattle.bus_wave.specs.Judging.{Phase, Opened, Silent, Saying, Waiting, Closed, State, string_of, with_string, quiet_behind}
 use Rattle.bus_wave.specs.Judging.{quiet_step, is_label_of, begins, beginner, begun, begin_step, label_step, data_step, end_behind, end_step}

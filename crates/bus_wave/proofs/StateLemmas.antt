@@ -7,12 +7,11 @@ use Rattle.std.proofs.lemmas.List.{map-append}
 use Rattle.std.proofs.lemmas.List.Sums.{sum_by-cons, sum_by-append}
 use Rattle.bus_words.specs.declared.word.Kind.TheVariants.{Label}
 use Rattle.bus_words.specs.declared.word.Word.{Word}
-use Rattle.bus_words.specs.Words.{label_word}
+use Rattle.bus_words.specs.Words.{label_word, data_word}
 use Rattle.bus_strings.specs.Limits.{word_bits, inner_gap}
 use Rattle.bus_strings.specs.Messages.{Wordstring, Message, Entry, word_count, bits}
 use Rattle.bus_strings.specs.Transmissions.{end_of}
 use Rattle.bus_table.specs.declared.line.SendLine.{SendLine}
-use Rattle.bus_trace.specs.Traces.{data_word}
 use Rattle.bus_wave.specs.Judging.{Phase, Opened, Silent, Saying, Waiting, Closed, State, string_of, with_string}
 use Rattle.bus_wave.specs.Spacing.{least_gap, AreApart}
 use Rattle.bus_wave.specs.Waves.{word_halves}

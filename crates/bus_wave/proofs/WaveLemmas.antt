@@ -9,13 +9,13 @@ use Rattle.std.proofs.lemmas.Grind.{flat_map-append}
 use Rattle.std.proofs.lemmas.List.{length-replicate, length-map, map-append, get_or_past}
 use Rattle.std.proofs.lemmas.List.Sums.{sum_by-cons}
 use Rattle.bus_words.specs.declared.word.Word.{Word}
-use Rattle.bus_words.specs.Words.{frame}
+use Rattle.bus_words.specs.Words.{frame, data_word}
 use Rattle.bus_strings.specs.Limits.{inner_gap}
-use Rattle.bus_strings.specs.Messages.{Wordstring, Message, Entry, word_count, bits}
+use Rattle.bus_strings.specs.Messages.{Wordstring, Message, Entry, word_count, bits, words_of}
 use Rattle.bus_strings.specs.Transmissions.{end_of}
-use Rattle.bus_trace.specs.Traces.{Recording, IsBelow, IsTrace, data_word}
+use Rattle.bus_trace.specs.Traces.{Recording, IsBelow, IsTrace}
 use Rattle.bus_wave.specs.Spacing.{least_gap, AreApart}
-use Rattle.bus_wave.specs.Waves.{Half, quiet, words_of, word_halves, string_wave, message_wave, half_of, half_at, wave}
+use Rattle.bus_wave.specs.Waves.{Half, quiet, word_halves, string_wave, message_wave, half_of, half_at, wave}
 use Rattle.bus_wave.specs.WaveTexts.{WaveLine, Quiet, Halves, line_wave, lines_wave, AreLines, quiet_lines, string_lines, message_lines, last_end}
 use Rattle.bus_wave.specs.WaveTexts.{laid, lines_up_to, text_of}
 use Rattle.bus_wave.specs.WaveLaws.{HasOneText}

@@ -4,13 +4,13 @@ use Rattle.std.proofs.Common.{append_assoc, append-nil}
 use Rattle.std.specs.List.{flat_map}
 use Rattle.bus_text.specs.Canonical.{spelled_line, spelled_lines}
 use Rattle.bus_words.specs.declared.word.Word.{Word}
-use Rattle.bus_words.specs.Words.{label_word}
+use Rattle.bus_words.specs.Words.{label_word, data_word}
 use Rattle.bus_strings.specs.Limits.{inner_gap}
-use Rattle.bus_strings.specs.Messages.{Wordstring, Message, Entry}
+use Rattle.bus_strings.specs.Messages.{Wordstring, Message, Entry, words_of}
 use Rattle.bus_strings.specs.Transmissions.{end_of}
-use Rattle.bus_trace.specs.Traces.{Recording, data_word}
+use Rattle.bus_trace.specs.Traces.{Recording}
 use Rattle.bus_wave.specs.inside.Puts.{word_put, data_put, string_put, silence_put, quiet_put, next_put, message_put, entry_put, list_put, text_put}
-use Rattle.bus_wave.specs.Waves.{word_halves, words_of}
+use Rattle.bus_wave.specs.Waves.{word_halves}
 use Rattle.bus_wave.specs.WaveTexts.{WaveLine, Quiet, Halves, line_fields, end_fields, text_of, quiet_lines, string_lines}
 use Rattle.bus_wave.specs.WaveTexts.{message_lines, last_end, laid, lines_up_to, wave_text}
 

@@ -5,11 +5,11 @@ use Rattle.std.specs.Prelude.{◌≡◌, ℕ, ◌-◌, ◌≤◌, zero, suc, Boo
 use Rattle.std.specs.List.{flat_map}
 use Rattle.bus_text.specs.Canonical.{spelled_lines}
 use Rattle.bus_strings.specs.Limits.{inner_gap}
-use Rattle.bus_strings.specs.Messages.{Wordstring, Message, Entry}
+use Rattle.bus_strings.specs.Messages.{Wordstring, Message, Entry, words_of}
 use Rattle.bus_strings.specs.Transmissions.{end_of}
 use Rattle.bus_trace.specs.Traces.{Recording}
 use Rattle.bus_wave.specs.Code.{digits_of}
-use Rattle.bus_wave.specs.Waves.{Half, quiet, words_of, word_halves, wave}
+use Rattle.bus_wave.specs.Waves.{Half, quiet, word_halves, wave}
 
 -- A line between the first and the last: quiet bit times, or the half bits of a word.
 pub data WaveLine : Type 0 where

@@ -5,10 +5,10 @@ use Rattle.std.specs.Prelude.{ℕ, ◌-◌, ◌*◌, nat_lt, Bool, List, [], ◌
 use Rattle.std.specs.List.{flat_map, range_with_len}
 use Rattle.std.specs.Option.{option_or}
 use Rattle.bus_words.specs.declared.word.Word.{Word}
-use Rattle.bus_words.specs.Words.{frame, label_word}
+use Rattle.bus_words.specs.Words.{frame}
 use Rattle.bus_strings.specs.Limits.{inner_gap}
-use Rattle.bus_strings.specs.Messages.{Wordstring, Message, Entry}
-use Rattle.bus_trace.specs.Traces.{Recording, data_word}
+use Rattle.bus_strings.specs.Messages.{Wordstring, Message, Entry, words_of}
+use Rattle.bus_trace.specs.Traces.{Recording}
 use Rattle.bus_wave.specs.Code.{frame_halves}
 
 -- Quiet, or a half bit.
@@ -18,10 +18,6 @@ Half = Option Bool
 -- So many quiet bit times.
 abbrev pub quiet : ℕ → List Half
 quiet n = replicate (2 * n) None
-
--- The words of a wordstring: its label word, and the data words.
-abbrev pub words_of : Wordstring → List Word
-words_of string = label_word string.label string.ext ∷ map data_word string.words
 
 -- The half bits of a word with its parity bit.
 abbrev pub word_halves : Word → List Bool

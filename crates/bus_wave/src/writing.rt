@@ -14,7 +14,7 @@ use bus_outer::{Sink, TextBuffer, WriteFault};
 use bus_strings::limits::INNER_GAP;
 use bus_strings::{Transmission, Wordstring};
 use bus_trace::Trace;
-use bus_words::{Kind, Word, label_word};
+use bus_words::{Word, data_word, label_word};
 
 /// Puts a W line.
 fn put_word<K: Sink>(text: &mut TextBuffer, sink: &mut K, word: Word)
@@ -28,11 +28,7 @@ fn put_data<K: Sink>(text: &mut TextBuffer, sink: &mut K, words: &[u16])
     ensures { Adds K.held K.faults sink.old sink.new text.old text.new (data_put words.now) }
 {
     for word in words {
-        let word = Word {
-            kind: Kind::Plain,
-            value: *word,
-        };
-        put_word(text, sink, word);
+        put_word(text, sink, data_word(*word));
     }
 }
 

@@ -2,7 +2,7 @@
 -- Word: a kind and a number of sixteen bits. Frame: a word and its parity bit. Parity: odd, the bit itself counted.
 use Rattle.std.specs.Prelude.{ℕ, ◌+◌, ◌*◌, ◌%◌, ◌==◌, Bool, count_ones, Result, Ok, Err, if◌then◌else◌}
 use Rattle.std.specs.Bool.{beq}
-use Rattle.bus_words.specs.declared.word.Kind.TheVariants.{Label}
+use Rattle.bus_words.specs.declared.word.Kind.TheVariants.{Label, Plain}
 use Rattle.bus_words.specs.declared.word.Word.{Word}
 use Rattle.bus_words.specs.declared.word.FramedWord.{FramedWord}
 use Rattle.bus_words.specs.declared.word.WordError.{WordError}
@@ -23,3 +23,7 @@ unframe f = if beq f.parity (parity f.value) then Ok (record { kind = f.kind; va
 -- The label word of a label and an extension.
 abbrev pub label_word : ℕ → ℕ → Word
 label_word label ext = record { kind = Label; value = 16 * label + ext }
+
+-- The data word of a value.
+abbrev pub data_word : ℕ → Word
+data_word value = record { kind = Plain; value = value }

@@ -9,8 +9,8 @@
 //!   `read_word(&word_text(word))` is `Ok(word)`. [`read_frame`] reads it whatever its parity digit, for a reader that
 //!   judges the form of all words before their parity.
 //!
-//! No call takes memory. The definitions are in `specs/`: `Words`, `WordTexts`, and `WordTextLaws` for what callers may
-//! use of them beside the contracts.
+//! No call takes memory. The definitions are in `specs/`: `Words` and `WordTexts`; `WordTextLaws` in `proofs/` is what callers may use of
+//! them beside the contracts.
 #![tactic(auto)]
 
 mod label;
@@ -20,5 +20,5 @@ mod word;
 pub use label::{Ext, Label};
 pub use text::{bit_digit, letter, read_frame, read_word, word_text};
 pub use word::{
-    FramedWord, Kind, Word, WordError, frame, label_word, parity, split_label, unframe,
+    FramedWord, Kind, Word, WordError, data_word, frame, label_word, parity, split_label, unframe,
 };

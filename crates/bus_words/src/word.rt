@@ -1,6 +1,6 @@
 //! Words: their kind, their value, and their parity bit.
 ghost use Rattle.std.specs.Prelude.{◌≡◌, ◌≢◌, ◌+◌, ◌*◌, ◌%◌, ◌<◌, ◌↔◌, ◌^◌, ℕ, IsTrue, IfOk, IfErr, Ok, count_ones};
-ghost use Rattle.bus_words.specs.Words.{parity as parity_of, frame as frame_of, unframe as unframed, label_word as word_of};
+ghost use Rattle.bus_words.specs.Words.{parity as parity_of, frame as frame_of, unframe as unframed, label_word as word_of, data_word as data_of};
 
 use crate::label::{Ext, Label};
 
@@ -88,6 +88,16 @@ pub fn label_word(label: Label, ext: Ext) -> Word
     Word {
         kind: Kind::Label,
         value: 16 * label.value() + u16::from(ext.value()),
+    }
+}
+
+/// The data word of a value.
+pub fn data_word(value: u16) -> Word
+    ensures { result ≡ data_of value }
+{
+    Word {
+        kind: Kind::Plain,
+        value,
     }
 }
 

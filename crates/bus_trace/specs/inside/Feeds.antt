@@ -1,7 +1,7 @@
 -- What the calls of the reader of a stream in pieces give on their way. No public clause cites it.
 use Rattle.std.specs.Prelude.{◌≡◌, ◌≤◌, ◌<◌, ℕ, Bool, true, false, List, [], ◌++◌, length, take, Result, Ok, Err}
 use Rattle.std.specs.declared.alloc.AllocError.{AllocError}
-use Rattle.bus_trace.specs.Limits.{text_limit}
+use Rattle.bus_trace.specs.Limits.{trace_limit}
 use Rattle.bus_trace.specs.States.{text_of, recorded}
 use Rattle.bus_trace.specs.Runs.{Going, Found, Refused, Over, run, begin, due, stream_of}
 use Rattle.bus_trace.specs.declared.fault.TraceError.{TraceError}
@@ -26,17 +26,17 @@ fed_of (Failed byte reason) longer = (stage.Shut, fed.Refused byte reason)
 -- What a piece gave is what is due for the stream so far.
 abbrev pub FeedGives : Reader → Reader → List ℕ → Result Fed AllocError → Type 0
 FeedGives old new piece (Ok fed.More) =
-    (new.stage ≡ stage.Open) × (due text_limit (stream_of old.at ++ piece) ≡ Going new.at)
+    (new.stage ≡ stage.Open) × (due trace_limit (stream_of old.at ++ piece) ≡ Going new.at)
     × (stream_of new.at ≡ stream_of old.at ++ piece)
 FeedGives old new piece (Ok (fed.Whole used)) =
-    (new.stage ≡ stage.Whole) × (due text_limit (stream_of old.at ++ piece) ≡ Found new.at.state) × (0 < used)
+    (new.stage ≡ stage.Whole) × (due trace_limit (stream_of old.at ++ piece) ≡ Found new.at.state) × (0 < used)
     × (used ≤ length piece) × (new.at.line ≡ []) × (stream_of new.at ≡ stream_of old.at ++ take used piece)
     × (run begin (stream_of old.at ++ take used piece) ≡ Found new.at.state)
 FeedGives old new piece (Ok (fed.Refused byte reason)) =
-    (new.stage ≡ stage.Shut) × (due text_limit (stream_of old.at ++ piece) ≡ Refused byte reason)
+    (new.stage ≡ stage.Shut) × (due trace_limit (stream_of old.at ++ piece) ≡ Refused byte reason)
 FeedGives old new piece (Ok fed.TooLarge) =
-    (new.stage ≡ stage.Shut) × (due text_limit (stream_of old.at ++ piece) ≡ Over)
-FeedGives old new piece (Err e) = (new.stage ≡ stage.Shut) × (length (stream_of old.at) < text_limit)
+    (new.stage ≡ stage.Shut) × (due trace_limit (stream_of old.at ++ piece) ≡ Over)
+FeedGives old new piece (Err e) = (new.stage ≡ stage.Shut) × (length (stream_of old.at) < trace_limit)
 
 -- So many bytes of a piece were taken, and more may come.
 abbrev pub LeadsOn : Reader → Reader → List ℕ → Result ℕ AllocError → Type 0

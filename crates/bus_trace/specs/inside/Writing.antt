@@ -2,13 +2,13 @@
 use Rattle.std.specs.Prelude.{ℕ, Bool, List, ◌++◌, codes, decimal}
 use Rattle.std.specs.List.{flat_map, zip}
 use Rattle.bus_words.specs.declared.word.Word.{Word}
-use Rattle.bus_words.specs.Words.{label_word}
+use Rattle.bus_words.specs.Words.{label_word, data_word}
 use Rattle.bus_words.specs.WordTexts.{word_text}
 use Rattle.bus_strings.specs.Messages.{Wordstring, Entry}
 use Rattle.bus_strings.specs.Transmissions.{end_of, marks}
 use Rattle.bus_trace.specs.declared.format.Format.TheVariants.{Two}
 use Rattle.bus_trace.specs.declared.hold.Hold.{Hold}
-use Rattle.bus_trace.specs.Traces.{Recording, data_word, format_text, mark_text}
+use Rattle.bus_trace.specs.Traces.{Recording, format_text, mark_text}
 
 -- A word behind its space.
 abbrev pub word_put : Word → List ℕ

@@ -2,11 +2,10 @@
 use Rattle.std.specs.Prelude.{ℕ, zero, suc, ◌-◌, List, [], ◌∷◌, ◌++◌, codes, decimal}
 use Rattle.std.specs.List.{flat_map}
 use Rattle.bus_words.specs.declared.word.Word.{Word}
-use Rattle.bus_words.specs.Words.{label_word}
+use Rattle.bus_words.specs.Words.{label_word, data_word}
 use Rattle.bus_strings.specs.Limits.{inner_gap}
 use Rattle.bus_strings.specs.Messages.{Wordstring, Message, Entry}
 use Rattle.bus_strings.specs.Transmissions.{end_of}
-use Rattle.bus_trace.specs.Traces.{data_word}
 use Rattle.bus_wave.specs.Code.{digits_of}
 use Rattle.bus_wave.specs.Waves.{word_halves}
 use Rattle.bus_wave.specs.WaveTexts.{last_end}

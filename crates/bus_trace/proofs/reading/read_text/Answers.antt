@@ -2,7 +2,7 @@ use Rattle.std.proofs.Common.{arith, ℕ, List, take, refl, ap, sym, subst, ◌�
 use Rattle.std.proofs.lemmas.List.{take-append-le, length-take}
 use Rattle.std.proofs.lemmas.Result.{err_from_is_err_and}
 use Rattle.bus_outer.specs.Sources.{Taken}
-use Rattle.bus_trace.specs.Limits.{text_limit}
+use Rattle.bus_trace.specs.Limits.{trace_limit}
 use Rattle.bus_trace.specs.Runs.{stream_of, due}
 use Rattle.bus_trace.specs.inside.Feeds.{FeedGives}
 use Rattle.bus_trace.specs.declared.stage.Fed.{Fed}
@@ -34,7 +34,7 @@ lines-preserved g c =
     (take-append-le c.in-Got.n c.pull_line.new.buf _ b.1) c.in_ok-take-in-Got.ensures) in
     record {
       is_open = gives.0;
-      is_due = ap (due text_limit) gives.2 ∙ gives.1;
+      is_due = ap (due trace_limit) gives.2 ∙ gives.1;
       taken = subst (λ (bs : List ℕ). Taken (g.S.Source.left c.args.source.now) (g.S.Source.left c.pull_line.new.self) bs) (sym gives.2) t;
       same = c.in-Got.ensures.counts ∙ c.consume.ensures.counts ∙ c.lines.invariant.same;
     }

@@ -1,9 +1,10 @@
 use Rattle.std.proofs.Common.{◌≡◌, ◌≤◌, take}
-use Rattle.bus_medium.specs.Timings.{greatest_gap}
-use Rattle.bus_medium.proofs.timings.greatest_gap.Given as goal
+use Rattle.bus_table.specs.Ranges.{most_tg}
+use Rattle.bus_table.specs.Timers.{greatest_gap}
+use Rattle.bus_table.proofs.gaps.greatest_gap.Given as goal
 
 abbrev pub invariant-loop-sender : goal.invariant-loop-sender
 invariant-loop-sender l = record {
   value : l.gap ≡ greatest_gap (take l.sender-index l.senders);
-  most : l.gap ≤ 256;
+  most : l.gap ≤ most_tg;
 }
