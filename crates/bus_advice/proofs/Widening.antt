@@ -10,7 +10,6 @@ use Rattle.bus_table.specs.declared.mode.Mode.{Mode}
 use Rattle.bus_table.specs.declared.mode.Mode.TheVariants.{Periodic}
 use Rattle.bus_table.specs.Tables.{Sender, Table}
 use Rattle.bus_table.specs.Turns.{turn_key, turn_order}
-use Rattle.bus_table.specs.inside.Orders.{Rises}
 use Rattle.bus_table.specs.Valid.{is_valid}
 use Rattle.bus_table.specs.Whole.{periodic_refusal}
 use Rattle.bus_table.specs.inside.Facts.{FitsMode, SenderFacts, TableFacts}

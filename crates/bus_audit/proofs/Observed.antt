@@ -1,19 +1,13 @@
 -- What is observed of the senders of a valid table, with any hands that fit them, has no breach; and what has no breach is observed of
 -- hands that fit them, those that its HOLD lines give.
 use Rattle.std.proofs.Common.{◌≡◌, ℕ, ◌<◌, cond, List, [], ◌∷◌, length, inl, inr, arith, sym, ap, ◌∙◌, subst, eq-eqb}
-use Rattle.std.specs.Prelude.{IsTrue}
 use Rattle.std.proofs.lemmas.Bool.{ne_eqb}
 use Rattle.bus_strings.specs.Members.{In}
-use Rattle.bus_table.specs.Tables.{Table, Hand}
-use Rattle.bus_table.specs.Hands.{are_hands}
-use Rattle.bus_table.specs.Valid.{is_valid}
+use Rattle.bus_table.specs.Tables.{Hand}
 use Rattle.bus_trace.specs.declared.hold.Hold.{Hold}
-use Rattle.bus_trace.specs.Traces.{Recording, IsTrace, AscendAbove}
-use Rattle.bus_medium.specs.Lawful.{IsLawful}
-use Rattle.bus_medium.specs.Timings.{quiet_of, stations_of}
-use Rattle.bus_audit.specs.Breaches.{held, HasNoBreach}
-use Rattle.bus_audit.specs.Meaning.{hands_of, IsRight}
-use Rattle.bus_audit.specs.Observed.{StatesHands, ObservedIsRight, ObservedIsClean, LawfulIsObserved, IsOfItsHands}
+use Rattle.bus_trace.specs.Traces.{Recording, AscendAbove}
+use Rattle.bus_audit.specs.Breaches.{held}
+use Rattle.bus_audit.specs.Observed.{StatesHands}
 
 -- ---- for the crates above to cite: HOLD lines that ascend, with one for each hand, state the hands
 -- those that ascend above a number are of terminals above it.

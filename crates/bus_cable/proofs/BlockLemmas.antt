@@ -7,10 +7,11 @@ use Rattle.bus_text.specs.Refusals.{Refusal, at_line}
 use Rattle.bus_strings.specs.Items.{Item}
 use Rattle.bus_strings.specs.Reading.{item_line}
 use Rattle.bus_cable.specs.declared.cable.Named.{Named}
-use Rattle.bus_cable.specs.declared.error.CableError.{CableError}
-use Rattle.bus_cable.specs.declared.error.CableError.TheVariants.{Text, Memory}
+use Rattle.bus_text.specs.declared.error.TextError.{TextError}
+use Rattle.bus_text.specs.declared.reason.Reason.{Reason}
+use Rattle.bus_text.specs.declared.error.TextError.TheVariants.{Text, Memory}
 use Rattle.bus_cable.specs.Reading.{named_reading, begins_with, front_of, behind, named_lines}
-use Rattle.bus_cable.specs.Gives.{Fails}
+use Rattle.bus_text.specs.Gives.{Fails}
 
 -- ---- where a line has the keyword
 pub front_more : (word : List ℕ) (entry : Entry) (entries : List Entry) → begins_with word entry ≡ true → front_of word (entry ∷ entries) ≡ entry ∷ front_of word entries
@@ -38,11 +39,11 @@ read_more most last word front entry entries named h e =
     ∙ ap (λ r. with_front front (r >>= λ n. named_lines most n.terminal (front_of word entries) >>= λ others. Ok (n ∷ others))) e
     ∙ pushed front named (named_lines most named.terminal (front_of word entries))
 
-fails_on : (error : CableError) (front : List Named) (r : Result Named Refusal) (f : Named → Result (List Named) Refusal) → Fails error r → Fails error (with_front front (r >>= f))
+fails_on : (error : TextError Reason) (front : List Named) (r : Result Named Refusal) (f : Named → Result (List Named) Refusal) → Fails error r → Fails error (with_front front (r >>= f))
 fails_on Memory front r f h = tt
 fails_on (Text line reason) front r f h = ap (λ x. with_front front (x >>= f)) h
 
-pub read_fails : (most last : ℕ) (word : List ℕ) (front : List Named) (entry : Entry) (entries : List Entry) (error : CableError) → begins_with word entry ≡ true
+pub read_fails : (most last : ℕ) (word : List ℕ) (front : List Named) (entry : Entry) (entries : List Entry) (error : TextError Reason) → begins_with word entry ≡ true
     → Fails error (at_line entry.number (named_reading most last entry.fields)) → Fails error (with_front front (named_lines most last (front_of word (entry ∷ entries))))
 read_fails most last word front entry entries error h f =
     rw (front_more word entry entries h) (fails_on error front (at_line entry.number (named_reading most last entry.fields)) (λ n. named_lines most n.terminal (front_of word entries) >>= λ others. Ok (n ∷ others)) f)

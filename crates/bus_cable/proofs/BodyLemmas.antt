@@ -1,5 +1,5 @@
 -- What is read is in the grammar, and what is in the grammar is read.
-use Rattle.std.proofs.Common.{arith, ◌≡◌, ℕ, ◌≤◌, Bool, true, false, not, cond, ◌&&◌, ◌==◌, List, [], ◌∷◌, ◌++◌, length, Option, Some, None, Result, Ok, Err, refl, sym, ap, subst, ◌∙◌, codes}
+use Rattle.std.proofs.Common.{arith, ◌≡◌, ℕ, ◌≤◌, Bool, true, false, cond, ◌&&◌, ◌==◌, List, [], ◌∷◌, ◌++◌, length, Option, Some, None, Result, Ok, Err, refl, sym, ap, subst, ◌∙◌, codes}
 use Rattle.std.specs.Prelude.{IfOk}
 use Rattle.std.specs.Iterator.{YieldsFirstBy}
 use Rattle.std.specs.Str.{bytes_eq}
@@ -7,27 +7,28 @@ use Rattle.std.proofs.lemmas.Bool.{and_parts, eqb-true}
 use Rattle.bus_text.specs.AllOf.{◌>>=◌, all_of}
 use Rattle.bus_text.proofs.AllOfLaws.{bind_ok, length-all_of}
 use Rattle.bus_text.specs.Entries.{entry as line_entry}
+use Rattle.bus_text.specs.Headers.{header_fields, behind_header, headed}
+use Rattle.bus_text.proofs.HeaderLaws.{behind_found, behind_again}
 use Rattle.bus_text.specs.Lines.{Entry, entries_of, line_after_of}
 use Rattle.bus_text.proofs.LineLaws.{length-entries_of-le}
 use Rattle.bus_text.specs.Fields.{is_at}
 use Rattle.bus_text.specs.Numbers.{is_plain_decimal, decimal_value}
-use Rattle.bus_text.specs.Refusals.{Refusal, first_of, unless, at_line}
+use Rattle.bus_text.specs.Refusals.{Refusal, at_line}
 use Rattle.bus_text.specs.declared.cursor.Line.{Line}
 use Rattle.bus_text.specs.declared.reason.Reason.{Reason}
-use Rattle.bus_text.specs.declared.reason.Reason.TheVariants.{Ended, Keyword, Fields}
 use Rattle.bus_text.proofs.FieldLemmas.{same_bytes}
 use Rattle.bus_strings.specs.Items.{Item}
-use Rattle.bus_strings.specs.Reading.{item_line}
+use Rattle.bus_strings.specs.Reading.{number_of, item_line}
 use Rattle.bus_strings.specs.Grammar.{AreItemLines}
 use Rattle.bus_strings.proofs.GrammarLemmas.{line_ok, items_found, items_again}
 use Rattle.bus_cable.specs.declared.cable.Named.{Named}
-use Rattle.bus_cable.specs.declared.error.CableError.{CableError}
-use Rattle.bus_cable.specs.declared.error.CableError.TheVariants.{Text, Memory}
+use Rattle.bus_text.specs.declared.error.TextError.{TextError}
+use Rattle.bus_text.specs.declared.error.TextError.TheVariants.{Text, Memory}
 use Rattle.bus_cable.specs.Cables.{Cable, most_wake, may_name, may_name_all, is_cable}
 use Rattle.bus_propagation.specs.Numbered.{most_place}
 use Rattle.bus_cable.specs.Grammar.{IsNamedLine, AreNamedLines, AreCableLines, IsCableText}
-use Rattle.bus_cable.specs.Reading.{header_reading, number_field, bits_field, named_of, named_reading, begins_with, front_of, behind, named_lines, body_reading, lines_reading, cable_reading}
-use Rattle.bus_cable.specs.Gives.{Fails, Gives}
+use Rattle.bus_cable.specs.Reading.{bits_field, named_of, named_reading, begins_with, front_of, behind, named_lines, body_reading, cable_reading}
+use Rattle.bus_text.specs.Gives.{Fails, Gives, Refuses}
 use Rattle.bus_cable.specs.inside.Ahead.{ahead}
 use Rattle.bus_cable.proofs.FieldLemmas.{staged, reads}
 use Rattle.bus_cable.proofs.BlockLemmas.{front_more, front_none, behind_more, behind_none}
@@ -54,25 +55,25 @@ body_is : (entries : List Entry) → body_reading entries ≡ whole (places_of e
 unfolding body_reading
 body_is entries = refl
 
-whole_places : (error : CableError) (p w : Result (List Named) Refusal) (i : Result (List Item) Refusal) → Fails error p → Fails error (whole p w i)
+whole_places : (error : TextError Reason) (p w : Result (List Named) Refusal) (i : Result (List Item) Refusal) → Fails error p → Fails error (whole p w i)
 whole_places Memory p w i h = tt
 whole_places (Text line reason) p w i h = ap (λ r. whole r w i) h
 
-whole_wakes : (error : CableError) (p w : Result (List Named) Refusal) (i : Result (List Item) Refusal) (places : List Named) → p ≡ Ok places → Fails error w → Fails error (whole p w i)
+whole_wakes : (error : TextError Reason) (p w : Result (List Named) Refusal) (i : Result (List Item) Refusal) (places : List Named) → p ≡ Ok places → Fails error w → Fails error (whole p w i)
 whole_wakes Memory p w i places e h = tt
 whole_wakes (Text line reason) p w i places e h = ap (λ r. whole r w i) e ∙ ap (λ r. whole (Ok places) r i) h
 
-whole_items : (error : CableError) (p w : Result (List Named) Refusal) (i : Result (List Item) Refusal) (places wakes : List Named) → p ≡ Ok places → w ≡ Ok wakes → Fails error i → Fails error (whole p w i)
+whole_items : (error : TextError Reason) (p w : Result (List Named) Refusal) (i : Result (List Item) Refusal) (places wakes : List Named) → p ≡ Ok places → w ≡ Ok wakes → Fails error i → Fails error (whole p w i)
 whole_items Memory p w i places wakes e f h = tt
 whole_items (Text line reason) p w i places wakes e f h = ap (λ r. whole r w i) e ∙ ap (λ r. whole (Ok places) r i) f ∙ ap (λ r. whole (Ok places) (Ok wakes) r) h
 
-pub places_fail : (error : CableError) (entries : List Entry) → Fails error (places_of entries) → Fails error (body_reading entries)
+pub places_fail : (error : TextError Reason) (entries : List Entry) → Fails error (places_of entries) → Fails error (body_reading entries)
 places_fail error entries h = subst (λ r. Fails error r) (sym (body_is entries)) (whole_places error (places_of entries) (wakes_of entries) (items_of entries) h)
 
-pub wakes_fail : (error : CableError) (entries : List Entry) (places : List Named) → places_of entries ≡ Ok places → Fails error (wakes_of entries) → Fails error (body_reading entries)
+pub wakes_fail : (error : TextError Reason) (entries : List Entry) (places : List Named) → places_of entries ≡ Ok places → Fails error (wakes_of entries) → Fails error (body_reading entries)
 wakes_fail error entries places e h = subst (λ r. Fails error r) (sym (body_is entries)) (whole_wakes error (places_of entries) (wakes_of entries) (items_of entries) places e h)
 
-pub items_fail : (error : CableError) (entries : List Entry) (places wakes : List Named) → places_of entries ≡ Ok places → wakes_of entries ≡ Ok wakes → Fails error (items_of entries) → Fails error (body_reading entries)
+pub items_fail : (error : TextError Reason) (entries : List Entry) (places wakes : List Named) → places_of entries ≡ Ok places → wakes_of entries ≡ Ok wakes → Fails error (items_of entries) → Fails error (body_reading entries)
 items_fail error entries places wakes e f h = subst (λ r. Fails error r) (sym (body_is entries)) (whole_items error (places_of entries) (wakes_of entries) (items_of entries) places wakes e f h)
 
 pub body_read : (entries : List Entry) (places wakes : List Named) (items : List Item) → places_of entries ≡ Ok places → wakes_of entries ≡ Ok wakes → items_of entries ≡ Ok items
@@ -88,9 +89,9 @@ staged_ok true false c v named h = absurd cc
 staged_ok false b c v named h = absurd cc
 
 parts_of : (most last : ℕ) (fields : List (List ℕ)) (named : Named) → named_reading most last fields ≡ Ok named
-    → ((length fields == 3) ≡ true) × ((is_plain_decimal (number_field fields) && is_plain_decimal (bits_field fields)) ≡ true) × (may_name most last (named_of fields) ≡ true) × (named_of fields ≡ named)
+    → ((length fields == 3) ≡ true) × ((is_plain_decimal (number_of fields) && is_plain_decimal (bits_field fields)) ≡ true) × (may_name most last (named_of fields) ≡ true) × (named_of fields ≡ named)
 parts_of most last fields named h =
-    staged_ok (length fields == 3) (is_plain_decimal (number_field fields) && is_plain_decimal (bits_field fields)) (may_name most last (named_of fields)) (named_of fields) named
+    staged_ok (length fields == 3) (is_plain_decimal (number_of fields) && is_plain_decimal (bits_field fields)) (may_name most last (named_of fields)) (named_of fields) named
     (sym (reads most last fields _ _ _ refl refl refl) ∙ h)
 
 pub named_ranges : (most last : ℕ) (entries : List Entry) (named : List Named) → named_lines most last entries ≡ Ok named → may_name_all most last named ≡ true
@@ -110,7 +111,7 @@ cable_ranges entries places wakes e f =
 
 -- ---- found
 word_first : (word : List ℕ) (fields : List (List ℕ)) (named : Named) → is_at fields 0 word ≡ true → (length fields == 3) ≡ true
-    → (is_plain_decimal (number_field fields) && is_plain_decimal (bits_field fields)) ≡ true → named_of fields ≡ named → IsNamedLine word named fields
+    → (is_plain_decimal (number_of fields) && is_plain_decimal (bits_field fields)) ≡ true → named_of fields ≡ named → IsNamedLine word named fields
 word_first word [] named p n q e = absurd (omega (arith, eqb-true 0 3 n))
 word_first word (a ∷ []) named p n q e = absurd (omega (arith, eqb-true 1 3 n))
 word_first word (a ∷ b ∷ []) named p n q e = absurd (omega (arith, eqb-true 2 3 n))
@@ -152,31 +153,10 @@ split_at word (line ∷ entries) = by_test (begins_with word line) (split_at wor
   by_test true h = ap (λ es. line ∷ es) h
   by_test false h = refl
 
-abbrev header_tests : Bool → Bool → Result (Unit {0}) Reason
-header_tests a b = unless (first_of ((not a, Keyword) ∷ (not b, Fields) ∷ [])) tt
-
-header_ok : (a b : Bool) (u : Unit {0}) → header_tests a b ≡ Ok u → (a ≡ true) × (b ≡ true)
-header_ok true true u h = (refl, refl)
-header_ok true false u h = absurd cc
-header_ok false b u h = absurd cc
-
-header_fields_are : (fields : List (List ℕ)) → is_at fields 0 (codes "CABLE") ≡ true → length fields ≡ 2 → is_at fields 1 (codes "1") ≡ true → fields ≡ codes "CABLE" ∷ codes "1" ∷ []
-header_fields_are [] p n q = absurd cc
-header_fields_are (keyword ∷ []) p n q = absurd cc
-header_fields_are (keyword ∷ one ∷ []) p n q = ap (λ f. f ∷ one ∷ []) (same_bytes keyword (codes "CABLE") p) ∙ ap (λ f. codes "CABLE" ∷ f ∷ []) (same_bytes one (codes "1") q)
-header_fields_are (keyword ∷ one ∷ more ∷ others) p n q = absurd (omega arith)
-
-header_found : (fields : List (List ℕ)) (u : Unit {0}) → header_reading fields ≡ Ok u → fields ≡ codes "CABLE" ∷ codes "1" ∷ []
-unfolding header_reading
-header_found fields u h =
-    let k = header_ok (is_at fields 0 (codes "CABLE")) (length fields == 2 && is_at fields 1 (codes "1")) u h in
-    let n = and_parts (length fields == 2) _ k.1 in
-    header_fields_are fields k.0 (eqb-true _ _ n.0) n.1
-
 abbrev pair_is : Cable × List Item → List Entry → Type 0
 pair_is read entries = AreCableLines read.0 read.1 entries
 
-body_found : (header : Entry) (others : List Entry) (read : Cable × List Item) → header.fields ≡ codes "CABLE" ∷ codes "1" ∷ [] → body_reading others ≡ Ok read → AreCableLines read.0 read.1 (header ∷ others)
+body_found : (header : Entry) (others : List Entry) (read : Cable × List Item) → header.fields ≡ header_fields (codes "CABLE") → body_reading others ≡ Ok read → AreCableLines read.0 read.1 (header ∷ others)
 body_found header others read e h =
     let all : whole (places_of others) (wakes_of others) (items_of others) ≡ Ok read = sym (body_is others) ∙ h in
     let a = bind_ok (places_of others) (λ places. wakes_of others >>= λ wakes. items_of others >>= λ items. Ok (record { places = places; wakes = wakes }, items)) read all in
@@ -199,15 +179,14 @@ body_found header others read e h =
       ranges = cable_ranges others a.0 b.0 a.1 b.1;
     })
 
-lines_found : (entries : List Entry) (after : ℕ) (read : Cable × List Item) → lines_reading entries after ≡ Ok read → AreCableLines read.0 read.1 entries
-unfolding lines_reading
-lines_found [] after read h = absurd cc
-lines_found (first ∷ others) after read h =
-    let a = bind_ok (at_line first.number (header_reading first.fields)) (λ _. body_reading others) read h in
-    body_found first others read (header_found first.fields a.0 (line_ok first.number (header_reading first.fields) a.0 a.1)) a.2
+text_found : (text : List ℕ) (read : Cable × List Item) → cable_reading text ≡ Ok read → IsCableText read.0 read.1 text
+text_found text read h =
+    let a = bind_ok (headed (codes "CABLE") text) body_reading read h in
+    let f = behind_found (codes "CABLE") (entries_of text) (line_after_of text) a.0 a.1 in
+    subst (AreCableLines read.0 read.1) (sym f.1) (body_found f.0 a.0 read f.2 a.2)
 
-pub is_found : (text : List ℕ) (r : Result (Cable × List Item) CableError) → Gives (λ v. v) r (cable_reading text) → IfOk r (λ read. IsCableText read.0 read.1 text)
-is_found text (Ok read) h = lines_found (entries_of text) (line_after_of text) read h
+pub is_found : (text : List ℕ) (r : Result (Cable × List Item) (TextError Reason)) → Gives (λ v. v) r (cable_reading text) → IfOk r (λ read. IsCableText read.0 read.1 text)
+is_found text (Ok read) h = text_found text read h
 is_found text (Err e) h = tt
 
 behind_few : (word : List ℕ) (entries : List Entry) → length (behind word entries) ≤ length entries
@@ -231,15 +210,14 @@ body_few others read h =
     let two = behind_few (codes "PLACE") others in
     subst (λ (is : List Item). length is ≤ length others) items (omega (arith, as_many, one, two))
 
-few_lines : (entries : List Entry) (after : ℕ) (read : Cable × List Item) → lines_reading entries after ≡ Ok read → length read.1 ≤ length entries
-unfolding lines_reading
-few_lines [] after read h = absurd cc
-few_lines (first ∷ others) after read h =
-    let a = bind_ok (at_line first.number (header_reading first.fields)) (λ _. body_reading others) read h in
-    omega (arith, body_few others read a.2)
+few_lines : (text : List ℕ) (read : Cable × List Item) → cable_reading text ≡ Ok read → length read.1 ≤ length text
+few_lines text read h =
+    let a = bind_ok (headed (codes "CABLE") text) body_reading read h in
+    let f = behind_found (codes "CABLE") (entries_of text) (line_after_of text) a.0 a.1 in
+    omega (arith, body_few a.0 read a.2, ap length f.1, length-entries_of-le text)
 
-pub is_few : (text : List ℕ) (r : Result (Cable × List Item) CableError) → Gives (λ v. v) r (cable_reading text) → IfOk r (λ read. length read.1 ≤ length text)
-is_few text (Ok read) h = omega (arith, few_lines (entries_of text) (line_after_of text) read h, length-entries_of-le text)
+pub is_few : (text : List ℕ) (r : Result (Cable × List Item) (TextError Reason)) → Gives (λ v. v) r (cable_reading text) → IfOk r (λ read. length read.1 ≤ length text)
+is_few text (Ok read) h = few_lines text read h
 is_few text (Err e) h = tt
 
 -- ---- and again
@@ -298,10 +276,6 @@ named_again word most last (one ∷ others) (entry ∷ entries) h m =
     ap (λ r. at_line entry.number r >>= λ n. named_lines most n.terminal entries >>= λ ns. Ok (n ∷ ns)) (named_again_line word most last one entry.fields h.0 p.0)
     ∙ ap (λ r. r >>= λ ns. Ok (one ∷ ns)) (named_again word most one.terminal others entries h.1 p.1)
 
-header_again : header_reading (codes "CABLE" ∷ codes "1" ∷ []) ≡ Ok tt
-unfolding header_reading
-header_again = refl
-
 body_again : (cable : Cable) (items : List Item) (places wakes lines : List Entry) → AreNamedLines (codes "PLACE") cable.places places → AreNamedLines (codes "WAKE") cable.wakes wakes → AreItemLines items lines → is_cable cable ≡ true
     → body_reading (places ++ (wakes ++ lines)) ≡ Ok (cable, items)
 body_again cable items places wakes lines p w i r =
@@ -314,26 +288,16 @@ body_again cable items places wakes lines p w i r =
     (ap (λ es. named_lines most_wake 0 (front_of (codes "WAKE") es)) front_places.1 ∙ ap (named_lines most_wake 0) front_wakes.0 ∙ named_again (codes "WAKE") most_wake 0 cable.wakes wakes w ranges.1)
     (ap (λ es. all_of item_line (behind (codes "WAKE") es)) front_places.1 ∙ ap (all_of item_line) front_wakes.1 ∙ items_again items lines i)
 
-pub cable_again : (cable : Cable) (items : List Item) (entries : List Entry) (after : ℕ) → AreCableLines cable items entries → lines_reading entries after ≡ Ok (cable, items)
-unfolding lines_reading
-cable_again cable items entries after h =
-    ap (λ es. lines_reading es after) h.parts
-    ∙ ap (λ fs. at_line h.header.number (header_reading fs) >>= λ _. body_reading (h.place_lines ++ (h.wake_lines ++ h.item_lines))) h.begins
-    ∙ ap (λ r. at_line h.header.number r >>= λ _. body_reading (h.place_lines ++ (h.wake_lines ++ h.item_lines))) header_again
+pub cable_again : (cable : Cable) (items : List Item) (text : List ℕ) → IsCableText cable items text → cable_reading text ≡ Ok (cable, items)
+cable_again cable items text h =
+    ap (λ es. behind_header (codes "CABLE") es (line_after_of text) >>= body_reading) h.parts
+    ∙ ap (λ r. r >>= body_reading) (behind_again (codes "CABLE") h.header (h.place_lines ++ (h.wake_lines ++ h.item_lines)) (line_after_of text) h.begins)
     ∙ body_again cable items h.place_lines h.wake_lines h.item_lines h.places_are h.wakes_are h.items_are h.ranges
 
 -- ---- the text
-pub ended : (entries : List Entry) (after : ℕ) → entries ≡ [] → lines_reading entries after ≡ Err (record { line = after; reason = Ended })
-unfolding lines_reading
-ended entries after e = ap (λ es. lines_reading es after) e
+pub header_fails : (error : TextError Reason) (text : List ℕ) → Refuses error (headed (codes "CABLE") text) → Fails error (cable_reading text)
+header_fails Memory text h = tt
+header_fails (Text line reason) text h = ap (λ r. r >>= body_reading) h
 
-begun : (entries : List Entry) (first : Entry) (others : List Entry) (after : ℕ) → entries ≡ first ∷ others → lines_reading entries after ≡ (at_line first.number (header_reading first.fields) >>= λ _. body_reading others)
-unfolding lines_reading
-begun entries first others after e = ap (λ es. lines_reading es after) e
-
-pub header_fails : (error : CableError) (entries : List Entry) (first : Entry) (others : List Entry) (after : ℕ) → entries ≡ first ∷ others → Fails error (at_line first.number (header_reading first.fields)) → Fails error (lines_reading entries after)
-header_fails Memory entries first others after e h = tt
-header_fails (Text line reason) entries first others after e h = begun entries first others after e ∙ ap (λ r. r >>= λ _. body_reading others) h
-
-pub body_left : (entries : List Entry) (first : Entry) (others : List Entry) (after : ℕ) (u : Unit {0}) → entries ≡ first ∷ others → at_line first.number (header_reading first.fields) ≡ Ok u → lines_reading entries after ≡ body_reading others
-body_left entries first others after u e h = begun entries first others after e ∙ ap (λ r. r >>= λ _. body_reading others) h
+pub body_left : (text : List ℕ) (lines : List Entry) → headed (codes "CABLE") text ≡ Ok lines → cable_reading text ≡ body_reading lines
+body_left text lines h = ap (λ r. r >>= body_reading) h

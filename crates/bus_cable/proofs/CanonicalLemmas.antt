@@ -9,6 +9,7 @@ use Rattle.std.proofs.lemmas.List.Concat.{flat_map-append}
 use Rattle.bus_text.specs.Canonical.{spelled_line, spelled_lines}
 use Rattle.bus_text.specs.inside.Spelled.{IsField, AreFields, numbered}
 use Rattle.bus_text.proofs.CanonicalLaws.{entries_of-spelled_lines, constant_field, spelled_line-cons}
+use Rattle.bus_text.specs.Headers.{header_fields}
 use Rattle.bus_text.specs.Lines.{Entry}
 use Rattle.bus_text.proofs.NumberLaws.{decimal_is, decimal_field}
 use Rattle.bus_strings.specs.Items.{Item, IsItem}
@@ -18,7 +19,7 @@ use Rattle.bus_cable.specs.declared.cable.Named.{Named}
 use Rattle.bus_cable.specs.Cables.{Cable, most_wake, may_name, may_name_all, is_cable}
 use Rattle.bus_propagation.specs.Numbered.{most_place}
 use Rattle.bus_cable.specs.Grammar.{AreNamedLines, AreCableLines, IsCableText}
-use Rattle.bus_cable.specs.Canonical.{header_fields, named_fields, cable_text}
+use Rattle.bus_cable.specs.Canonical.{named_fields, cable_text}
 use Rattle.bus_cable.specs.inside.Puts.{named_bytes}
 
 -- ---- what is put
@@ -86,7 +87,7 @@ named_lines_are word most last n (one ∷ others) w h m =
       (w (decimal one.terminal ∷ decimal one.bits ∷ []) (decimal_field one.terminal s.0, (decimal_field one.bits s.1, tt)), k.1),
     )
 
-header_are : AreFields header_fields
+header_are : AreFields (header_fields (codes "CABLE"))
 header_are = ((λ e. absurd (omega (arith, e))), (constant_field (codes "CABLE") (lit< tt) refl, (constant_field (codes "1") (lit< tt) refl, tt)))
 
 -- the canonical text of a cable and items stands for them
@@ -99,14 +100,14 @@ cable_text_is cable items r h =
     let p = named_lines_are (codes "PLACE") most_place 0 2 cable.places place_word (omega arith) ranges.0 in
     let w = named_lines_are (codes "WAKE") most_wake 0 (2 + length places) cable.wakes wake_word (omega arith) ranges.1 in
     let i = lines_are (2 + length places + length wakes) items h in
-    let all : AllByRecursion AreFields (header_fields ∷ places ++ (wakes ++ lines)) = (header_are, fields_append places (wakes ++ lines) p.1 (fields_append wakes lines w.1 i.1)) in
-    subst (λ (es : List Entry). AreCableLines cable items es) (sym (entries_of-spelled_lines (header_fields ∷ places ++ (wakes ++ lines)) all))
+    let all : AllByRecursion AreFields (header_fields (codes "CABLE") ∷ places ++ (wakes ++ lines)) = (header_are, fields_append places (wakes ++ lines) p.1 (fields_append wakes lines w.1 i.1)) in
+    subst (λ (es : List Entry). AreCableLines cable items es) (sym (entries_of-spelled_lines (header_fields (codes "CABLE") ∷ places ++ (wakes ++ lines)) all))
     (record {
-      header = record { number = 1; fields = header_fields };
+      header = record { number = 1; fields = header_fields (codes "CABLE") };
       place_lines = numbered 2 places;
       wake_lines = numbered (2 + length places) wakes;
       item_lines = numbered (2 + length places + length wakes) lines;
-      parts = ap (λ (es : List Entry). record { number = 1; fields = header_fields } ∷ es)
+      parts = ap (λ (es : List Entry). record { number = 1; fields = header_fields (codes "CABLE") } ∷ es)
           (numbered_append 2 places (wakes ++ lines) ∙ ap (λ (es : List Entry). numbered 2 places ++ es) (numbered_append (2 + length places) wakes lines));
       begins = refl;
       places_are = p.0;

@@ -9,9 +9,10 @@ use Rattle.bus_text.specs.Refusals.{first_of, unless}
 use Rattle.bus_text.specs.declared.reason.Reason.{Reason}
 use Rattle.bus_text.specs.declared.reason.Reason.TheVariants.{Fields, Spelling, Range}
 use Rattle.bus_text.proofs.NumberLaws.{is_in_range-min}
+use Rattle.bus_strings.specs.Reading.{number_of}
 use Rattle.bus_cable.specs.declared.cable.Named.{Named}
 use Rattle.bus_cable.specs.Cables.{may_name, most_wake}
-use Rattle.bus_cable.specs.Reading.{number_field, bits_field, named_of, named_reading}
+use Rattle.bus_cable.specs.Reading.{bits_field, named_of, named_reading}
 use Rattle.bus_cable.specs.inside.Ahead.{HasThree}
 
 -- the three tests of such a line, in order
@@ -19,11 +20,11 @@ abbrev pub staged : Bool → Bool → Bool → Named → Result Named Reason
 staged a b c named = unless (first_of ((not a, Fields) ∷ (not b, Spelling) ∷ (not c, Range) ∷ [])) named
 
 pub reads : (most last : ℕ) (fields : List (List ℕ)) (a b c : Bool) → (length fields == 3) ≡ a
-    → (is_plain_decimal (number_field fields) && is_plain_decimal (bits_field fields)) ≡ b → may_name most last (named_of fields) ≡ c
+    → (is_plain_decimal (number_of fields) && is_plain_decimal (bits_field fields)) ≡ b → may_name most last (named_of fields) ≡ c
     → named_reading most last fields ≡ staged a b c (named_of fields)
 unfolding named_reading
 reads most last fields a b c p q r =
-    ap (λ x. staged x (is_plain_decimal (number_field fields) && is_plain_decimal (bits_field fields)) (may_name most last (named_of fields)) (named_of fields)) p
+    ap (λ x. staged x (is_plain_decimal (number_of fields) && is_plain_decimal (bits_field fields)) (may_name most last (named_of fields)) (named_of fields)) p
     ∙ ap (λ x. staged a x (may_name most last (named_of fields)) (named_of fields)) q ∙ ap (λ x. staged a b x (named_of fields)) r
 
 pub other_count : (most last : ℕ) (fields : List (List ℕ)) → length fields ≢ 3 → named_reading most last fields ≡ Err Fields
@@ -56,7 +57,7 @@ first_misspelled most last fields number bits h e =
 pub second_misspelled : (most last : ℕ) (fields : List (List ℕ)) (number bits : List ℕ) → HasThree fields number bits → is_plain_decimal bits ≡ false
     → named_reading most last fields ≡ Err Spelling
 second_misspelled most last fields number bits h e =
-    reads most last fields true false _ (three fields h.count) (and_right (is_plain_decimal (number_field fields)) _ (ap is_plain_decimal (sym h.bits_are) ∙ e)) refl
+    reads most last fields true false _ (three fields h.count) (and_right (is_plain_decimal (number_of fields)) _ (ap is_plain_decimal (sym h.bits_are) ∙ e)) refl
 
 le_min : (v most : ℕ) → most ≤ most_wake → nat_le (min v (2 ^ 64 - 1)) most ≡ nat_le v most
 le_min v most h = by_order (cases_lt (2 ^ 64 - 1) v) where
@@ -68,22 +69,22 @@ le_min v most h = by_order (cases_lt (2 ^ 64 - 1) v) where
   by_order (inl lt) = above (min v (2 ^ 64 - 1)) (omega (arith, h)) ∙ sym (above v (omega (arith, h)))
 
 -- the test of the numbers as the code has them is that of the line
-same_test : (most last t b : ℕ) (fields : List (List ℕ)) → most ≤ most_wake → t ≡ min (decimal_value (number_field fields)) (2 ^ 64 - 1) → b ≡ min (decimal_value (bits_field fields)) (2 ^ 64 - 1)
+same_test : (most last t b : ℕ) (fields : List (List ℕ)) → most ≤ most_wake → t ≡ min (decimal_value (number_of fields)) (2 ^ 64 - 1) → b ≡ min (decimal_value (bits_field fields)) (2 ^ 64 - 1)
     → may_name most last (named_of fields) ≡ may_name most last (record { terminal = t; bits = b })
 same_test most last t b fields h p q =
-    ap (λ x. x && nat_le (decimal_value (bits_field fields)) most) (sym (ap (is_between (last + 1) 128) p ∙ is_in_range-min (last + 1) 128 (decimal_value (number_field fields)) (2 ^ 64 - 1) (lit< tt)))
+    ap (λ x. x && nat_le (decimal_value (bits_field fields)) most) (sym (ap (is_between (last + 1) 128) p ∙ is_in_range-min (last + 1) 128 (decimal_value (number_of fields)) (2 ^ 64 - 1) (lit< tt)))
     ∙ ap (λ x. is_between (last + 1) 128 t && x) (sym (ap (λ n. nat_le n most) q ∙ le_min (decimal_value (bits_field fields)) most h))
 
 pub named_is : (most last t b : ℕ) (fields : List (List ℕ)) (number bits : List ℕ) (ok : Bool) → most ≤ most_wake → HasThree fields number bits → Some t ≡ read_decimal number → Some b ≡ read_decimal bits
     → may_name most last (record { terminal = t; bits = b }) ≡ ok → named_reading most last fields ≡ cond ok (Ok (record { terminal = t; bits = b })) (Err Range)
 named_is most last t b fields number bits ok h f p q e = by_test ok e where
-  t_is : (is_plain_decimal (number_field fields) ≡ true) × (t ≡ min (decimal_value (number_field fields)) (2 ^ 64 - 1))
-  t_is = some_read (number_field fields) t (p ∙ ap read_decimal f.number_is)
+  t_is : (is_plain_decimal (number_of fields) ≡ true) × (t ≡ min (decimal_value (number_of fields)) (2 ^ 64 - 1))
+  t_is = some_read (number_of fields) t (p ∙ ap read_decimal f.number_is)
 
   b_is : (is_plain_decimal (bits_field fields) ≡ true) × (b ≡ min (decimal_value (bits_field fields)) (2 ^ 64 - 1))
   b_is = some_read (bits_field fields) b (q ∙ ap read_decimal f.bits_are)
 
-  spelled : (is_plain_decimal (number_field fields) && is_plain_decimal (bits_field fields)) ≡ true
+  spelled : (is_plain_decimal (number_of fields) && is_plain_decimal (bits_field fields)) ≡ true
   spelled = ap (λ x. x && is_plain_decimal (bits_field fields)) t_is.0 ∙ b_is.0
 
   same : may_name most last (named_of fields) ≡ may_name most last (record { terminal = t; bits = b })
@@ -94,7 +95,7 @@ named_is most last t b fields number bits ok h f p q e = by_test ok e where
       let parts = and_parts (is_between (last + 1) 128 t) (nat_le b most) e in
       let low : t ≤ 128 = grind (arith, nat_tests, parts.0) in
       let few : b ≤ most = grind (arith, nat_tests, parts.1) in
-      let t_value : decimal_value (number_field fields) ≡ t = omega (arith, t_is.1, low) in
+      let t_value : decimal_value (number_of fields) ≡ t = omega (arith, t_is.1, low) in
       let b_value : decimal_value (bits_field fields) ≡ b = omega (arith, b_is.1, few, h) in
       reads most last fields true true true (three fields f.count) spelled (same ∙ e)
       ∙ ap (λ n. Ok (record { terminal = n; bits = decimal_value (bits_field fields) })) t_value ∙ ap (λ n. Ok (record { terminal = t; bits = n })) b_value

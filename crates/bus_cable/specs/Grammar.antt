@@ -4,6 +4,7 @@
 --   wake line    `WAKE n w`: terminal n wakes at moment w
 --   item line    as in a messages text
 use Rattle.std.specs.Prelude.{◌≡◌, ℕ, true, List, [], ◌∷◌, ◌++◌, codes}
+use Rattle.bus_text.specs.Headers.{header_fields}
 use Rattle.bus_text.specs.Lines.{Entry, entries_of}
 use Rattle.bus_text.specs.Numbers.{IsDecimal}
 use Rattle.bus_strings.specs.Items.{Item}
@@ -33,7 +34,7 @@ pub record AreCableLines (cable : Cable) (items : List Item) (entries : List Ent
   pub wake_lines : List Entry
   pub item_lines : List Entry
   pub parts : entries ≡ header ∷ place_lines ++ (wake_lines ++ item_lines)
-  pub begins : header.fields ≡ codes "CABLE" ∷ codes "1" ∷ []
+  pub begins : header.fields ≡ header_fields (codes "CABLE")
   pub places_are : AreNamedLines (codes "PLACE") cable.places place_lines
   pub wakes_are : AreNamedLines (codes "WAKE") cable.wakes wake_lines
   pub items_are : AreItemLines items item_lines

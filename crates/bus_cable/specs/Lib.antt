@@ -2,7 +2,6 @@
 pub mod Cables
 pub mod Grammar
 pub mod Reading
-pub mod Gives
 pub mod TextLaws
 pub mod Canonical
 pub mod Hearing

@@ -1,30 +1,20 @@
 -- What a cable text reads as: its cable and its items, or the place and the reason of its refusal.
 --   A refusal of a line is the first of the line's rows whose test holds; that of a text is of its first refused line.
-use Rattle.std.specs.Prelude.{ℕ, Bool, not, ◌&&◌, ◌==◌, List, [], ◌∷◌, length, codes, Option, Result, Ok, Err, slice_index_or}
+use Rattle.std.specs.Prelude.{ℕ, Bool, not, ◌&&◌, ◌==◌, List, [], ◌∷◌, length, codes, Option, Result, Ok, slice_index_or}
 use Rattle.std.specs.Prelude.{if◌then◌else◌}
-use Rattle.bus_text.specs.Lines.{Entry, entries_of, line_after_of}
+use Rattle.bus_text.specs.Headers.{headed}
+use Rattle.bus_text.specs.Lines.{Entry}
 use Rattle.bus_text.specs.AllOf.{◌>>=◌, all_of}
 use Rattle.bus_text.specs.Fields.{is_at}
 use Rattle.bus_text.specs.Numbers.{is_plain_decimal, decimal_value}
 use Rattle.bus_text.specs.Refusals.{Refusal, first_of, unless, at_line}
 use Rattle.bus_text.specs.declared.reason.Reason.{Reason}
-use Rattle.bus_text.specs.declared.reason.Reason.TheVariants.{Ended, Keyword, Fields, Spelling, Range}
+use Rattle.bus_text.specs.declared.reason.Reason.TheVariants.{Fields, Spelling, Range}
 use Rattle.bus_strings.specs.Items.{Item}
-use Rattle.bus_strings.specs.Reading.{item_line}
+use Rattle.bus_strings.specs.Reading.{number_of, item_line}
 use Rattle.bus_cable.specs.declared.cable.Named.{Named}
 use Rattle.bus_propagation.specs.Numbered.{most_place}
 use Rattle.bus_cable.specs.Cables.{Cable, most_wake, may_name}
-
--- Why the first line is refused.
-abbrev pub header_refusal : List (List ℕ) → Option Reason
-header_refusal fields = first_of
-    ((not (is_at fields 0 (codes "CABLE")), Keyword)
-    ∷ (not (length fields == 2 && is_at fields 1 (codes "1")), Fields)
-    ∷ [])
-
--- The field of the terminal's number.
-abbrev pub number_field : List (List ℕ) → List ℕ
-number_field fields = slice_index_or fields 1 []
 
 -- The field of the bit times.
 abbrev pub bits_field : List (List ℕ) → List ℕ
@@ -32,19 +22,15 @@ bits_field fields = slice_index_or fields 2 []
 
 -- What a line that is right names.
 abbrev pub named_of : List (List ℕ) → Named
-named_of fields = record { terminal = decimal_value (number_field fields); bits = decimal_value (bits_field fields) }
+named_of fields = record { terminal = decimal_value (number_of fields); bits = decimal_value (bits_field fields) }
 
 -- Why a line is refused that begins with the keyword of places or wakes. The one before it is of the terminal `last`.
 abbrev pub named_refusal : ℕ → ℕ → List (List ℕ) → Option Reason
 named_refusal most last fields = first_of
     ((not (length fields == 3), Fields)
-    ∷ (not (is_plain_decimal (number_field fields) && is_plain_decimal (bits_field fields)), Spelling)
+    ∷ (not (is_plain_decimal (number_of fields) && is_plain_decimal (bits_field fields)), Spelling)
     ∷ (not (may_name most last (named_of fields)), Range)
     ∷ [])
-
--- What the fields of the first line read as.
-unfoldable pub header_reading : List (List ℕ) → Result (Unit {0}) Reason
-header_reading fields = unless (header_refusal fields) tt
 
 -- What the fields of such a line read as.
 unfoldable pub named_reading : ℕ → ℕ → List (List ℕ) → Result Named Reason
@@ -79,11 +65,6 @@ body_reading entries =
     named_lines most_wake 0 (front_of (codes "WAKE") behind_places) >>= λ wakes.
     all_of item_line (behind (codes "WAKE") behind_places) >>= λ items. Ok (record { places = places; wakes = wakes }, items)
 
--- The header and the lines behind it; lines without a header have ended too early, and `after` is one past the last.
-unfoldable pub lines_reading : List Entry → ℕ → Result (Cable × List Item) Refusal
-lines_reading [] after = Err (record { line = after; reason = Ended })
-lines_reading (first ∷ others) after = at_line first.number (header_reading first.fields) >>= λ _. body_reading others
-
--- What a text reads as.
+-- What a text reads as: the cable and the items of the lines behind its header.
 abbrev pub cable_reading : List ℕ → Result (Cable × List Item) Refusal
-cable_reading text = lines_reading (entries_of text) (line_after_of text)
+cable_reading text = headed (codes "CABLE") text >>= body_reading

@@ -15,7 +15,6 @@
 #![tactic(auto)]
 
 mod cable;
-mod error;
 mod heard;
 mod hearing;
 pub mod laws;
@@ -25,8 +24,7 @@ mod spots;
 mod writing;
 
 pub use cable::{Cable, MOST_WAKE, Named};
-pub use error::CableError;
 pub use heard::write_heard;
 pub use observing::observe_on;
-pub use reading::read_cable;
+pub use reading::{CableError, read_cable};
 pub use writing::write_cable;

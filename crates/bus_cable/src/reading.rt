@@ -3,53 +3,25 @@ ghost use Rattle.std.specs.Prelude.{◌≡◌, ◌≢◌, ◌≤◌, List, lengt
 ghost use Rattle.std.specs.List.{AllByRecursion};
 ghost use Rattle.bus_text.specs.AllOf.{all_of};
 ghost use Rattle.bus_text.specs.Entries.{entry};
+ghost use Rattle.bus_text.specs.Gives.{Gives};
 ghost use Rattle.bus_text.specs.Refusals.{at_line};
 ghost use Rattle.bus_strings.specs.Items.{Item, IsItem};
 ghost use Rattle.bus_strings.specs.Reading.{item_line};
 ghost use Rattle.bus_cable.specs.Cables as cables;
 ghost use Rattle.bus_cable.specs.Cables.{most_wake};
 ghost use Rattle.bus_cable.specs.Grammar.{IsCableText};
-ghost use Rattle.bus_cable.specs.Reading.{header_reading, named_reading, front_of, behind, begins_with, named_lines};
+ghost use Rattle.bus_cable.specs.Reading.{named_reading, front_of, behind, begins_with, named_lines};
 ghost use Rattle.bus_cable.specs.Reading.{body_reading, cable_reading};
-ghost use Rattle.bus_cable.specs.Gives.{Gives};
 ghost use Rattle.bus_cable.specs.inside.Ahead.{ahead, HasThree};
 
 use crate::cable::{Cable, MOST_WAKE, Named, may_name};
-use crate::error::CableError;
 use bus_propagation::MOST_PLACE;
-use bus_strings::{MessagesError, Payload, Payloads, read_item};
-use bus_text::{Fields, Line, Lines, Reason, line_after, plain_decimal};
+use bus_strings::{Payload, Payloads, read_item};
+use bus_text::{Fields, Line, Lines, Reason, TextError, headed_lines, plain_decimal};
 use std::alloc::Global;
 
-/// Reads the fields of the first line.
-#[tactic(auto, unfolding(crate::specs::Reading::header_reading))]
-fn header(mut fields: Fields<'_>) -> Result<(), Reason>
-    ensures { result ≡ header_reading fields.entry }
-{
-    if !fields.next_is(b"CABLE") {
-        return Err(Reason::Keyword);
-    }
-    if !fields.next_is(b"1") {
-        return Err(Reason::Fields);
-    }
-    match fields.next() {
-        None => Ok(()),
-        Some(_) => Err(Reason::Fields),
-    }
-}
-
-/// Reads the first line.
-fn header_at(line: Line<'_>) -> Result<(), CableError>
-    ensures { Gives (λ u. u) result (at_line line.entry.number (header_reading (entry line.entry).fields)) }
-{
-    match header(Fields::new(line.bytes)) {
-        Ok(()) => Ok(()),
-        Err(reason) => Err(CableError::Text {
-            line: line.number,
-            reason,
-        }),
-    }
-}
+/// Why a cable text wasn't read.
+pub type CableError = TextError<Reason>;
 
 /// The fields of a terminal and of bit times, where there are three fields, the keyword's among them.
 fn number_and_bits<'a>(mut fields: Fields<'a>) -> Option<(&'a [u8], &'a [u8])>
@@ -132,18 +104,6 @@ fn named_lines<'a>(
     Ok((named, next))
 }
 
-/// Reads an item's line.
-fn item_at(alloc: Global, words: &mut Vec<u16>, line: Line<'_>) -> Result<Payload, CableError>
-    ensures exact { Gives (λ p. p) result (item_line (entry line.entry)) }
-    ensures ranges { IfOk result IsItem }
-{
-    match read_item(alloc, words, line) {
-        Ok(payload) => Ok(payload),
-        Err(MessagesError::Memory) => Err(CableError::Memory),
-        Err(MessagesError::Text { line, reason }) => Err(CableError::Text { line, reason }),
-    }
-}
-
 /// Reads the items, from the line `first` on.
 fn items<'a>(
     alloc: Global,
@@ -157,7 +117,7 @@ fn items<'a>(
     let mut words = Vec::new(alloc);
     let mut next = first;
     while let Some(line) = next {
-        items.push(item_at(alloc, &mut words, line)?)?;
+        items.push(read_item(alloc, &mut words, line)?)?;
         next = lines.next();
     }
     Ok(items)
@@ -178,14 +138,7 @@ fn body(alloc: Global, lines: &mut Lines<'_>) -> Result<(Cable, Payloads), Cable
 fn read(alloc: Global, text: &[u8]) -> Result<(Cable, Payloads), CableError>
     ensures { Gives (λ read. read) result (cable_reading text.now) }
 {
-    let mut lines = Lines::new(text);
-    let Some(first) = lines.next() else {
-        return Err(CableError::Text {
-            line: line_after(text),
-            reason: Reason::Ended,
-        });
-    };
-    header_at(first)?;
+    let mut lines = headed_lines(text, b"CABLE")?;
     body(alloc, &mut lines)
 }
 

@@ -13,8 +13,7 @@ use Rattle.std.proofs.lemmas.List.Splits.{slice_split_at, slice_split_none}
 use Rattle.std.proofs.lemmas.List.Elements.{All-from_recursion}
 use Rattle.std.proofs.lemmas.Slice.Eq.{bytes_eq-Decides}
 use Rattle.bus_text.specs.inside.Spelled.{IsFieldByte}
-use Rattle.bus_text.specs.Lines.{is_blank, is_feed, physical_lines}
-use Rattle.bus_text.specs.Canonical.{IsFieldByte}
+use Rattle.bus_text.specs.Lines.{is_blank, is_feed}
 use Rattle.bus_text.proofs.NumberLaws.{decimal_field, decimal_is}
 use Rattle.bus_text.proofs.CanonicalLaws.{feedless_append, feedless, line_first}
 use Rattle.bus_text.proofs.FieldLemmas.{same_bytes}

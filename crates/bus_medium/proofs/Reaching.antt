@@ -16,7 +16,6 @@ use Rattle.bus_medium.specs.inside.Following.{AllHaveRoom}
 use Rattle.bus_medium.specs.Jumps.{Each}
 use Rattle.bus_medium.specs.inside.Lasting.{PassedMany}
 use Rattle.bus_medium.specs.inside.Runs.{Decided, Reached, seat_sounds}
-use Rattle.bus_medium.proofs.Seats.{get_within}
 use Rattle.bus_medium.proofs.Carrier.{carrier_is}
 use Rattle.bus_medium.proofs.Jumping.{past_steady, all_later}
 

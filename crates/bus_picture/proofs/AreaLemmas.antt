@@ -1,17 +1,15 @@
 -- Where boxes and the line at a breach are.
-use Rattle.std.proofs.Common.{◌≡◌, ℕ, zero, suc, ◌+◌, ◌*◌, ◌-◌, ◌<◌, ◌≤◌, Bool, true, false, cond, max, min, List, [], ◌∷◌, ◌++◌, inl, inr, arith, ap}
+use Rattle.std.proofs.Common.{◌≡◌, ℕ, ◌+◌, ◌*◌, ◌-◌, ◌≤◌, Bool, true, false, cond, List, [], ◌∷◌, inl, inr, arith, ap}
 use Rattle.std.specs.Prelude.{◌⊎◌}
 use Rattle.std.proofs.lemmas.Bool.{cases_lt}
 use Rattle.bus_dump.specs.declared.lane.Lane.{Lane}
-use Rattle.bus_shapes.specs.declared.area.Area.{Area}
 use Rattle.bus_shapes.specs.declared.scale.Scale.{Scale}
 use Rattle.bus_strings.specs.Members.{In}
 use Rattle.bus_picture.specs.Boxes.{Pile, is_thin, pile_height, share_height}
-use Rattle.bus_picture.specs.Laws.{AreApart, BoxesLieInRows, BreachesHideNoBox}
-use Rattle.bus_picture.specs.Marks.{lower_dash, upper_dash}
+use Rattle.bus_picture.specs.Laws.{BoxesLieInRows, BreachesHideNoBox}
 use Rattle.bus_picture.specs.Measures.{plot_top, row_height}
-use Rattle.bus_picture.specs.Rows.{Row, box_area}
-use Rattle.bus_picture.specs.TimeLines.{each_lane, lane_rows, lane_top, rows_of, rows_of_lanes}
+use Rattle.bus_picture.specs.Rows.{Row}
+use Rattle.bus_picture.specs.TimeLines.{each_lane, lane_rows, rows_of}
 
 by_share : (share : ℕ) (thin : Bool) → share ≤ 180 → cond thin share 180 ≤ 180
 by_share share true h = h

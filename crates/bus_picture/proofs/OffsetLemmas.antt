@@ -1,6 +1,5 @@
 -- The ticks of offsets stand at the moments at which a sender should start.
-use Rattle.std.proofs.Common.{◌≡◌, ℕ, zero, suc, ◌+◌, ◌-◌, ◌*◌, ◌/◌, ◌<◌, ◌≤◌, List, [], ◌∷◌, ◌++◌, map, append-nil, inl, inr, arith, refl, sym, ap, subst, ◌∙◌}
-use Rattle.std.specs.Prelude.{◌↔◌, ◌⊎◌}
+use Rattle.std.proofs.Common.{◌≡◌, ℕ, zero, suc, ◌+◌, ◌-◌, ◌*◌, ◌<◌, ◌≤◌, List, [], ◌∷◌, ◌++◌, map, append-nil, inl, inr, arith, refl, sym, ap, subst, ◌∙◌}
 use Rattle.std.specs.List.{flat_map, range_with_len}
 use Rattle.std.proofs.lemmas.Grind.{flat_map-append}
 use Rattle.std.proofs.lemmas.List.FromFn.{map-range_with_len_more}
@@ -9,12 +8,10 @@ use Rattle.std.proofs.lemmas.Bool.{cases_lt}
 use Rattle.bus_strings.specs.Members.{In}
 use Rattle.bus_shapes.specs.declared.scale.Scale.{Scale}
 use Rattle.bus_timers.specs.Timings.{IsSound}
-use Rattle.bus_table.specs.Tables.{Sender, Table}
 use Rattle.bus_table.specs.Timers.{due_for, due_of}
-use Rattle.bus_table.specs.declared.mode.Mode.TheVariants.{Periodic}
 use Rattle.bus_medium.specs.Timings.{timing_of}
 use Rattle.bus_medium.proofs.StationLaws.{timings_are_sound}
-use Rattle.bus_picture.specs.OffsetLaws.{IsOffset, OffsetsAreMarked}
+use Rattle.bus_picture.specs.OffsetLaws.{OffsetsAreMarked}
 use Rattle.bus_picture.specs.Offsets.{offset_moment, offset_moments, rounds_before, rounds_in, tick_text}
 
 -- The same of a sender that is due at a moment.

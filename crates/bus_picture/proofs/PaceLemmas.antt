@@ -1,5 +1,5 @@
 -- A walk finds how far starts lie apart.
-use Rattle.std.proofs.Common.{◌≡◌, ℕ, ◌-◌, Bool, true, false, cond, max, min, List, [], ◌∷◌, ◌++◌, filter, map, Option, Some, None, append-nil, arith, refl, sym, ap, ◌∙◌}
+use Rattle.std.proofs.Common.{◌≡◌, ℕ, ◌-◌, true, false, cond, max, min, List, [], ◌∷◌, ◌++◌, filter, map, Option, Some, None, append-nil, arith, refl, sym, ap, ◌∙◌}
 use Rattle.std.specs.Prelude.{fold}
 use Rattle.std.proofs.lemmas.List.{append_assoc}
 use Rattle.std.proofs.lemmas.List.Sums.{fold-append}

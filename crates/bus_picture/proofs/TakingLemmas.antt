@@ -1,15 +1,14 @@
 -- Who takes words of a wordstring: what is noted of receive lines, and how numbers are written.
-use Rattle.std.proofs.Common.{◌≡◌, ℕ, suc, ◌+◌, ◌-◌, ◌<◌, ◌≤◌, Bool, true, false, cond, min, List, [], ◌∷◌, ◌++◌, length, take, drop, get_or, set, map, filter, codes, decimal, inl, inr, append-nil, arith, refl, sym, ap, subst, ◌∙◌}
+use Rattle.std.proofs.Common.{◌≡◌, ℕ, ◌+◌, ◌-◌, ◌<◌, Bool, true, false, cond, List, [], ◌∷◌, ◌++◌, length, get_or, set, map, filter, codes, decimal, inl, inr, append-nil, arith, refl, sym, ap, subst, ◌∙◌}
 use Rattle.std.specs.Prelude.{◌&&◌, ◌||◌, ◌==◌, nat_lt, not}
-use Rattle.std.specs.List.{flat_map, list_any, range_with_len}
-use Rattle.std.proofs.lemmas.Bool.{and_parts, cases_eq, cases_lt, eqb-true, le-ltb, lt-ltb, true≢false}
+use Rattle.std.specs.List.{list_any, range_with_len}
+use Rattle.std.proofs.lemmas.Bool.{and_parts, cases_eq, eqb-true, true≢false}
 use Rattle.std.proofs.lemmas.Grind.{flat_map-append}
-use Rattle.std.proofs.lemmas.List.{append_assoc, get_or-set_same, get_or-set_other, length-take, length-drop, map-id, take_more}
+use Rattle.std.proofs.lemmas.List.{append_assoc, get_or-set_same, get_or-set_other, map-id}
 use Rattle.std.proofs.lemmas.List.Elements.{filter-append}
 use Rattle.std.proofs.lemmas.List.Folds.{list_any-append}
 use Rattle.std.proofs.lemmas.List.FromFn.{map-range_with_len_more}
 use Rattle.bus_strings.proofs.MemberLaws.{in_append_cases, in_push_cases, none_any, any_found}
-use Rattle.bus_strings.specs.Members.{In}
 use Rattle.bus_strings.specs.Messages.{Wordstring}
 use Rattle.bus_table.specs.declared.line.TakeLine.{TakeLine}
 use Rattle.bus_table.specs.Tables.{Listener, Sender, Table}
@@ -17,7 +16,7 @@ use Rattle.bus_table.proofs.WholeLemmas.{list_any-map}
 use Rattle.bus_filter.specs.Received.{Taker, listener_taker, matches, selection, sender_taker, takers}
 use Rattle.bus_shapes.specs.declared.sent.Sent.{Sent}
 use Rattle.bus_picture.specs.Takings.{after_commas, does_take, is_taken_by, numbers_words, takes_words}
-use Rattle.bus_picture.specs.inside.Noting.{AreNoted, KeepsNoted, LinesNoted, has_numbers, none_words, number_more, numbers_so_far, place_count, place_of}
+use Rattle.bus_picture.specs.inside.Noting.{AreNoted, KeepsNoted, LinesNoted, has_numbers, none_words, number_more, numbers_so_far, place_of}
 
 -- ---- what is noted
 set_kept : (may : List Bool) (place j : ℕ) → place < length may → get_or may j false ≡ true → get_or (set may place true) j false ≡ true

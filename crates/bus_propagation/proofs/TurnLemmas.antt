@@ -23,8 +23,7 @@ use Rattle.bus_medium.proofs.PastLaws.{length_past, own_push, own_push_other, la
 use Rattle.bus_medium.proofs.Hearing.{cable_looks, not_before, past_heard_push}
 use Rattle.bus_medium.proofs.Ruled.{ruled_none, ruled_start, ruled_whole}
 use Rattle.bus_medium.specs.inside.Seating.{AreDistinct}
-use Rattle.bus_medium.proofs.Seats.{get_set_same, get_set_other, get_within, same_some, map_at, map_set_same, from_map, in_map}
-use Rattle.bus_medium.specs.Orders.{AreDistinct}
+use Rattle.bus_medium.proofs.Seats.{get_set_same, get_set_other, same_some, map_at, map_set_same, from_map, in_map}
 use Rattle.bus_medium.proofs.Waking.{at_start, at_power_up, at_settled}
 use Rattle.bus_medium.proofs.Reaching.{each_rest}
 use Rattle.bus_propagation.specs.declared.seat.Seat.{Seat}

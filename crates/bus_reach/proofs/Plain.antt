@@ -5,7 +5,7 @@ use Rattle.bus_strings.specs.Transmissions.{end_of}
 use Rattle.bus_table.specs.Tables.{Sender}
 use Rattle.bus_table.specs.Turns.{turn_order}
 use Rattle.bus_schedule.specs.Closed as schedule
-use Rattle.bus_schedule.specs.Closed.{sends, in_rounds, schedule_in, closed}
+use Rattle.bus_schedule.specs.Closed.{sends, schedule_in}
 use Rattle.bus_schedule.specs.Even.{messages_of, rounds}
 use Rattle.bus_medium.specs.Delays.{heard_end}
 use Rattle.bus_reach.specs.Laws.{NoDelayIsClosed}

@@ -1,16 +1,14 @@
 -- Every terminal receives the same words as without delays, and each wordstring of another that one of its receive lines matches.
-use Rattle.std.proofs.Common.{◌≡◌, ◌≢◌, ℕ, zero, suc, ◌+◌, ◌<◌, ◌⊎◌, Bool, true, false, cond, List, [], ◌∷◌, ◌++◌, length, map, Option, Some, None, inl, inr, arith, sym, refl, ap, ◌∙◌, subst}
-use Rattle.std.specs.Prelude.{IsTrue, ◌==◌, ◌&&◌, ◌||◌, not, nat_lt, slice_get, remove}
-use Rattle.std.specs.List.{filter, flat_map, list_all, list_any, range_with_len, zip, AllByRecursion}
-use Rattle.std.specs.Option.{option_map_or}
-use Rattle.std.proofs.Math.Bool.{and_comm}
+use Rattle.std.proofs.Common.{◌≡◌, ◌≢◌, ℕ, zero, suc, ◌+◌, ◌<◌, ◌⊎◌, Bool, true, false, cond, List, [], ◌∷◌, ◌++◌, length, map, inl, inr, arith, sym, refl, ap, ◌∙◌, subst}
+use Rattle.std.specs.Prelude.{IsTrue, ◌==◌, ◌&&◌, ◌||◌, not}
+use Rattle.std.specs.List.{filter, flat_map, list_all}
 use Rattle.std.proofs.lemmas.Bool.{cases_eq, eq-eqb, ne_eqb}
 use Rattle.std.proofs.lemmas.List.{map-append}
 use Rattle.bus_strings.specs.Members.{In}
 use Rattle.bus_strings.proofs.ClearLaws.{unmarked}
-use Rattle.bus_strings.proofs.MemberLaws.{of_each, at_in, in_append_left, in_append_right, in_filter, in_map}
+use Rattle.bus_strings.proofs.MemberLaws.{in_append_left, in_append_right, in_filter, in_map}
 use Rattle.bus_strings.specs.Messages.{Wordstring, Message, Entry}
-use Rattle.bus_strings.specs.Transmissions.{end_of, overlaps, garbled}
+use Rattle.bus_strings.specs.Transmissions.{end_of}
 use Rattle.bus_table.specs.declared.line.TakeLine.{TakeLine}
 use Rattle.bus_table.specs.declared.mode.Mode.TheVariants.{Periodic}
 use Rattle.bus_table.specs.Tables.{Sender, Table, Hand}
@@ -29,7 +27,7 @@ use Rattle.bus_schedule.specs.Slack.{is_wide, all_stay}
 use Rattle.bus_reach.specs.Bearing.{bears}
 use Rattle.bus_reach.specs.Runs.{AreWithin}
 use Rattle.bus_filter.specs.Received as filters
-use Rattle.bus_filter.specs.Received.{ReceivedLine, Taker, received_line, string_lines, entry_lines, is_heard, received_by}
+use Rattle.bus_filter.specs.Received.{Taker, received_line, string_lines, entry_lines, is_heard}
 use Rattle.bus_reach.specs.Laws.{BorneIsClosed}
 use Rattle.bus_reach.specs.PeriodicLaws.{PeriodicBorneIsClosed}
 use Rattle.bus_reach.specs.Receiving.{content, ReceivesAlike, AperiodicBorneIsReceived, PeriodicBorneIsReceived, lines_later, IsReceivedLater, AperiodicIsReceivedLater, PeriodicIsReceivedLater, MatchesAreReceived}

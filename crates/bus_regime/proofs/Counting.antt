@@ -8,8 +8,8 @@ use Rattle.std.proofs.lemmas.List.{take_all}
 use Rattle.std.proofs.lemmas.Option.{slice_get_within, get_or_from_slice_get}
 use Rattle.bus_strings.specs.Members.{In}
 use Rattle.bus_table.specs.Tables.{Sender, Table}
-use Rattle.bus_table.specs.Turns.{turn_key, turn_order, Rises}
-use Rattle.bus_table.specs.inside.Orders.{Differ, Rises}
+use Rattle.bus_table.specs.Turns.{turn_key, turn_order}
+use Rattle.bus_table.specs.inside.Orders.{Rises}
 use Rattle.bus_table.proofs.TurnLaws.{behind_rises, from_sort, numbers_differ, order_rises}
 use Rattle.bus_table.specs.Valid.{is_valid}
 use Rattle.bus_table.specs.inside.Facts.{TableFacts}

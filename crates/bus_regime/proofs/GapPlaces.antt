@@ -9,7 +9,6 @@ use Rattle.bus_strings.specs.Members.{In}
 use Rattle.bus_strings.proofs.ListLaws.{some_at, take_read, drop_at}
 use Rattle.bus_table.specs.Tables.{Sender, Table}
 use Rattle.bus_table.specs.Turns.{turn_key, turn_order}
-use Rattle.bus_table.specs.inside.Orders.{Differ}
 use Rattle.bus_table.proofs.TurnLaws.{at_in, from_sort, length-sort, numbers_differ}
 use Rattle.bus_table.specs.Valid.{is_valid}
 use Rattle.bus_table.proofs.ValidLaws.{valid_facts}

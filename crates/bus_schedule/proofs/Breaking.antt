@@ -1,27 +1,25 @@
 -- What a second start asks of a periodic table, on a cable: its gap is wide enough, and its sender is in sync. So the witness of a table that
 -- doesn't bear some delays, or is refused, isn't lawful with them.
-use Rattle.std.proofs.Common.{◌≡◌, ◌≢◌, ℕ, ◌+◌, ◌-◌, ◌*◌, ◌<◌, ◌≤◌, ◌⊎◌, true, false, cond, leb, ltb, min, List, [], ◌∷◌, ◌++◌, length, get_or, unwrap_or, Option, Some, None, inl, inr, arith, sym, refl, ap, ◌∙◌, subst}
+use Rattle.std.proofs.Common.{◌≡◌, ◌≢◌, ℕ, ◌+◌, ◌-◌, ◌*◌, ◌<◌, ◌≤◌, ◌⊎◌, true, false, cond, leb, ltb, min, List, [], ◌∷◌, ◌++◌, length, get_or, unwrap_or, Some, None, inl, inr, arith, sym, refl, ap, ◌∙◌, subst}
 use Rattle.std.specs.Prelude.{IfSome}
-use Rattle.std.specs.Option.{option_map}
 use Rattle.std.proofs.lemmas.Bool.{cases_lt, cases_Bool, and_from, lt-ltb, leb-false, true≢false}
 use Rattle.std.proofs.lemmas.List.{append-nil, append_assoc}
 use Rattle.bus_timers.specs.MayStart.{MayStart, IsSync}
 use Rattle.bus_strings.specs.Members.{In}
 use Rattle.bus_strings.proofs.MemberLaws.{of_each, in_append_cases, in_append_left, in_append_right, in_map, from_map}
 use Rattle.bus_strings.specs.Messages.{Message, Entry, bits}
-use Rattle.bus_strings.specs.Transmissions.{carrier, overlaps}
+use Rattle.bus_strings.specs.Transmissions.{carrier}
 use Rattle.bus_table.specs.declared.mode.Mode.TheVariants.{Periodic}
 use Rattle.bus_table.specs.inside.Facts.{SenderFacts}
 use Rattle.bus_table.specs.Tables.{Sender, Table}
 use Rattle.bus_table.specs.inside.Fillings.{filling_bits}
 use Rattle.bus_table.specs.Lengths.{longest}
 use Rattle.bus_table.specs.Turns.{turn_key, turn_order}
-use Rattle.bus_table.specs.inside.Orders.{Differ, Rises, RisesBehind}
-use Rattle.bus_table.proofs.TurnLaws.{from_sort, behind_rises, order_rises, numbers_differ}
-use Rattle.bus_medium.specs.BusyLaws.{Heard, IsBusy}
+use Rattle.bus_table.specs.inside.Orders.{Differ, Rises}
+use Rattle.bus_table.proofs.TurnLaws.{from_sort, order_rises, numbers_differ}
+use Rattle.bus_medium.specs.BusyLaws.{IsBusy}
 use Rattle.bus_medium.specs.CableLawful.{IsDueOnCable, IsLawfulOnCable}
 use Rattle.bus_medium.specs.Delays.{Delays, at_once, later, heard}
-use Rattle.bus_medium.specs.Lawful.{Station}
 use Rattle.bus_medium.specs.Past.{past, own, last_place}
 use Rattle.bus_medium.specs.PastLaws.{NoneOf}
 use Rattle.bus_medium.specs.Timings.{quiet_of, timing_of}

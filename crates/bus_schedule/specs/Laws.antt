@@ -1,5 +1,5 @@
 -- What follows of the definitions, with no limit on the closed end.
-use Rattle.std.specs.Prelude.{◌≡◌, ◌↔◌, suc, ◌+◌, ◌*◌, ◌<◌, ◌≤◌, ℕ, false, IsNone, IsTrue, List, Some, length, slice_get}
+use Rattle.std.specs.Prelude.{◌≡◌, ◌↔◌, suc, ◌+◌, ◌*◌, ◌<◌, ◌≤◌, ℕ, IsNone, IsTrue, List, Some, length, slice_get}
 use Rattle.bus_strings.specs.Marking.{greatest_end}
 use Rattle.bus_strings.specs.Members.{In}
 use Rattle.bus_strings.specs.Messages.{Message, Entry}

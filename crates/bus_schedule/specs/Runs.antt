@@ -1,5 +1,5 @@
 -- What a run of an accepted table and even hands is.
-use Rattle.std.specs.Prelude.{◌≡◌, ℕ, ◌+◌, ◌*◌, ◌<◌, ◌≤◌, false, List, length, slice_get, Some}
+use Rattle.std.specs.Prelude.{◌≡◌, ℕ, ◌+◌, ◌*◌, ◌<◌, ◌≤◌, List, length, slice_get, Some}
 use Rattle.bus_strings.specs.Messages.{Entry}
 pub use Rattle.bus_strings.specs.Transmissions.{IsClear}
 use Rattle.bus_table.specs.declared.mode.Mode.{Mode}

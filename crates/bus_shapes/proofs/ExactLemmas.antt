@@ -1,13 +1,11 @@
 -- The numbers at the marks of an axis are exact.
-use Rattle.std.proofs.Common.{◌≡◌, ℕ, ◌+◌, ◌*◌, ◌/◌, ◌<◌, ◌≤◌, Bool, true, false, cond, eqb, leb, List, [], ◌∷◌, Option, Some, arith, refl, sym, ap, ◌∙◌}
-use Rattle.std.specs.Prelude.{◌&&◌}
+use Rattle.std.proofs.Common.{◌≡◌, ℕ, ◌*◌, ◌/◌, ◌<◌, Bool, true, false, cond, eqb, leb, List, [], ◌∷◌, Option, Some, arith, refl, sym, ap, ◌∙◌}
 use Rattle.std.specs.List.{find, list_all}
 use Rattle.std.specs.Option.{unwrap_or}
 use Rattle.std.proofs.lemmas.Bool.{and_parts, eqb-true}
 use Rattle.std.proofs.Math.Nat.{mul-div_cancel}
-use Rattle.bus_shapes.specs.Axes.{BitTimes, Microseconds, Unit, is_wide, most_apart, rounds, step, time_unit, unit_bits}
+use Rattle.bus_shapes.specs.Axes.{BitTimes, Microseconds, is_wide, most_apart, rounds, time_unit}
 use Rattle.bus_shapes.specs.Laws.{MarksAreExact}
-use Rattle.bus_shapes.specs.Scales.{Scale}
 
 -- whole units
 abbrev IsFine : ℕ → Type 0

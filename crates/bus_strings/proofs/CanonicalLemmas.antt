@@ -12,10 +12,11 @@ use Rattle.bus_text.specs.inside.Spelled.{IsField, AreFields, numbered}
 use Rattle.bus_text.proofs.CanonicalLaws.{entries_of-spelled_lines, constant_field, spelled_line-cons}
 use Rattle.bus_text.specs.Digits.{hexadecimal}
 use Rattle.bus_text.proofs.DigitLaws.{hexadecimal_is, hexadecimal_field}
+use Rattle.bus_text.specs.Headers.{header_fields}
 use Rattle.bus_text.specs.Lines.{Entry}
 use Rattle.bus_text.proofs.NumberLaws.{decimal_is, decimal_field}
 use Rattle.bus_strings.specs.Items.{Item, IsItem}
-use Rattle.bus_strings.specs.Canonical.{string_fields, item_fields, header_fields, messages_text}
+use Rattle.bus_strings.specs.Canonical.{string_fields, item_fields, messages_text}
 use Rattle.bus_strings.specs.Grammar.{AreWords, AreStrings, IsItemLine, AreItemLines, AreMessageLines, IsMessagesText}
 use Rattle.bus_strings.specs.inside.Puts.{string_bytes, item_bytes, messages_bytes}
 
@@ -88,11 +89,11 @@ lines_are n (item ∷ items) h =
     let others = lines_are (n + 1) items h.1 in
     ((first.0, others.0), (first.1, others.1))
 
-header_are : AreFields header_fields
+header_are : AreFields (header_fields (codes "MESSAGES"))
 header_are = ((λ e. absurd (omega (arith, e))), (constant_field (codes "MESSAGES") (lit< tt) refl, (constant_field (codes "1") (lit< tt) refl, tt)))
 
 -- the canonical text of items stands for them
 pub messages_text_is : (items : List Item) → AllByRecursion IsItem items → IsMessagesText items (messages_text items)
 messages_text_is items h =
     let k = lines_are 2 items h in
-    subst (λ (es : List Entry). AreMessageLines items es) (sym (entries_of-spelled_lines (header_fields ∷ map item_fields items) (header_are, k.1))) (refl, k.0)
+    subst (λ (es : List Entry). AreMessageLines items es) (sym (entries_of-spelled_lines (header_fields (codes "MESSAGES") ∷ map item_fields items) (header_are, k.1))) (refl, k.0)

@@ -1,27 +1,28 @@
 -- What is read is in the grammar, and what is in the grammar is read.
-use Rattle.std.proofs.Common.{◌≡◌, ℕ, ◌≤◌, Bool, true, false, cond, ◌&&◌, ◌||◌, List, [], ◌∷◌, ◌++◌, length, map, drop, Result, Ok, Err, arith, refl, sym, ap, subst, ◌∙◌, codes, ◌==◌}
+use Rattle.std.proofs.Common.{◌≡◌, ℕ, ◌≤◌, Bool, true, false, cond, ◌&&◌, ◌||◌, List, [], ◌∷◌, ◌++◌, length, map, drop, Result, Ok, Err, arith, refl, sym, ap, subst, ◌∙◌, codes}
 use Rattle.std.specs.Prelude.{IfOk}
 use Rattle.std.specs.List.{slice_split, onto_first, AllByRecursion}
-use Rattle.std.proofs.lemmas.Bool.{and_parts, eqb-true}
+use Rattle.std.proofs.lemmas.Bool.{and_parts}
 use Rattle.std.proofs.lemmas.List.Elements.{All-from_recursion}
 use Rattle.std.proofs.lemmas.List.Splits.{slice_split_at, slice_split_none}
 use Rattle.bus_text.specs.AllOf.{◌>>=◌, all_of}
 use Rattle.bus_text.proofs.AllOfLaws.{bind_ok, length-all_of}
+use Rattle.bus_text.specs.Gives.{Gives}
+use Rattle.bus_text.specs.Headers.{behind_header, headed}
+use Rattle.bus_text.proofs.HeaderLaws.{behind_found, behind_again}
 use Rattle.bus_text.specs.Lines.{Entry, entries_of, line_after_of}
 use Rattle.bus_text.proofs.LineLaws.{length-entries_of-le}
 use Rattle.bus_text.specs.Fields.{is_at}
 use Rattle.bus_text.specs.Numbers.{is_plain_decimal, is_hexadecimal, hexadecimal_value, IsHexadecimal}
 use Rattle.bus_text.specs.Refusals.{at_line}
+use Rattle.bus_text.specs.declared.error.TextError.{TextError}
 use Rattle.bus_text.specs.declared.reason.Reason.{Reason}
 use Rattle.bus_text.proofs.FieldLemmas.{same_bytes}
-use Rattle.bus_strings.specs.declared.fault.MessagesError.{MessagesError}
 use Rattle.bus_strings.specs.Items.{Item, is_in_range}
-use Rattle.bus_strings.specs.Reading.{is_colon, number_of, strings_of, item_of, are_spelled, header_reading, item_reading, header_line, item_line, lines_reading, messages_reading}
+use Rattle.bus_strings.specs.Reading.{is_colon, number_of, strings_of, item_of, are_spelled, item_reading, item_line, messages_reading}
 use Rattle.bus_strings.specs.Grammar.{AreWords, AreStrings, IsItemLine, AreItemLines, AreMessageLines, IsMessagesText}
-use Rattle.bus_strings.specs.Gives.{Gives}
 use Rattle.bus_strings.proofs.StringLemmas.{Begins, some_piece, values}
 use Rattle.bus_strings.proofs.ItemLemmas.{reads, item_parts}
-use Rattle.bus_strings.proofs.TextLemmas.{staged}
 
 -- ---- found
 one_colon : (field : List ℕ) (fields : List (List ℕ)) (first : List (List ℕ)) (others : List (List (List ℕ))) → field ≡ codes ":" → AreStrings (values (first ∷ others)) fields → AreStrings ([] ∷ values (first ∷ others)) (field ∷ fields)
@@ -71,44 +72,24 @@ items_found (entry ∷ entries) items h =
     let e : a.0 ∷ b.0 ≡ items = let k = b.2 in cc in
     subst (λ (is : List Item). AreItemLines is (entry ∷ entries)) e (item_found entry.fields a.0 (line_ok entry.number (item_reading entry.fields) a.0 a.1), items_found entries b.0 b.1)
 
-header_ok : (a b : Bool) (u : Unit {0}) → staged a b ≡ Ok u → (a ≡ true) × (b ≡ true)
-header_ok true true u h = (refl, refl)
-header_ok true false u h = absurd cc
-header_ok false b u h = absurd cc
+text_found : (text : List ℕ) (items : List Item) → messages_reading text ≡ Ok items → IsMessagesText items text
+text_found text items h =
+    let a = bind_ok (headed (codes "MESSAGES") text) (all_of item_line) items h in
+    let f = behind_found (codes "MESSAGES") (entries_of text) (line_after_of text) a.0 a.1 in
+    subst (AreMessageLines items) (sym f.1) (f.2, items_found a.0 items a.2)
 
-header_fields : (fields : List (List ℕ)) → is_at fields 0 (codes "MESSAGES") ≡ true → length fields ≡ 2 → is_at fields 1 (codes "1") ≡ true → fields ≡ codes "MESSAGES" ∷ codes "1" ∷ []
-header_fields [] p n q = absurd cc
-header_fields (keyword ∷ []) p n q = absurd cc
-header_fields (keyword ∷ one ∷ []) p n q = ap (λ f. f ∷ one ∷ []) (same_bytes keyword (codes "MESSAGES") p) ∙ ap (λ f. codes "MESSAGES" ∷ f ∷ []) (same_bytes one (codes "1") q)
-header_fields (keyword ∷ one ∷ more ∷ others) p n q = absurd (omega arith)
-
-header_found : (fields : List (List ℕ)) (u : Unit {0}) → header_reading fields ≡ Ok u → fields ≡ codes "MESSAGES" ∷ codes "1" ∷ []
-unfolding header_reading
-header_found fields u h =
-    let k = header_ok (is_at fields 0 (codes "MESSAGES")) (length fields == 2 && is_at fields 1 (codes "1")) u h in
-    let n = and_parts (length fields == 2) _ k.1 in
-    header_fields fields k.0 (eqb-true _ _ n.0) n.1
-
-lines_found : (entries : List Entry) (after : ℕ) (items : List Item) → lines_reading entries after ≡ Ok items → AreMessageLines items entries
-unfolding lines_reading
-lines_found [] after items h = absurd cc
-lines_found (first ∷ others) after items h =
-    let a = bind_ok (header_line first) (λ _. all_of item_line others) items h in
-    (header_found first.fields a.0 (line_ok first.number (header_reading first.fields) a.0 a.1), items_found others items a.2)
-
-pub is_found : (text : List ℕ) (r : Result (List Item) MessagesError) → Gives (λ v. v) r (messages_reading text) → IfOk r (λ items. IsMessagesText items text)
-is_found text (Ok items) h = lines_found (entries_of text) (line_after_of text) items h
+pub is_found : (text : List ℕ) (r : Result (List Item) (TextError Reason)) → Gives (λ v. v) r (messages_reading text) → IfOk r (λ items. IsMessagesText items text)
+is_found text (Ok items) h = text_found text items h
 is_found text (Err e) h = tt
 
-few_lines : (entries : List Entry) (after : ℕ) (items : List Item) → lines_reading entries after ≡ Ok items → length items ≤ length entries
-unfolding lines_reading
-few_lines [] after items h = absurd cc
-few_lines (first ∷ others) after items h =
-    let a = bind_ok (header_line first) (λ _. all_of item_line others) items h in
-    omega (arith, length-all_of item_line others items a.2)
+few_lines : (text : List ℕ) (items : List Item) → messages_reading text ≡ Ok items → length items ≤ length text
+few_lines text items h =
+    let a = bind_ok (headed (codes "MESSAGES") text) (all_of item_line) items h in
+    let f = behind_found (codes "MESSAGES") (entries_of text) (line_after_of text) a.0 a.1 in
+    omega (arith, length-all_of item_line a.0 items a.2, ap length f.1, length-entries_of-le text)
 
-pub is_few : (text : List ℕ) (r : Result (List Item) MessagesError) → Gives (λ v. v) r (messages_reading text) → IfOk r (λ items. length items ≤ length text)
-is_few text (Ok items) h = omega (arith, few_lines (entries_of text) (line_after_of text) items h, length-entries_of-le text)
+pub is_few : (text : List ℕ) (r : Result (List Item) (TextError Reason)) → Gives (λ v. v) r (messages_reading text) → IfOk r (λ items. length items ≤ length text)
+is_few text (Ok items) h = few_lines text items h
 is_few text (Err e) h = tt
 
 -- ---- and again
@@ -163,13 +144,8 @@ items_again (item ∷ items) (entry ∷ entries) h =
     ap (λ r. at_line entry.number r >>= λ y. all_of item_line entries >>= λ ys. Ok (y ∷ ys)) (item_again item entry.fields h.0)
     ∙ ap (λ r. r >>= λ ys. Ok (item ∷ ys)) (items_again items entries h.1)
 
-header_again : header_reading (codes "MESSAGES" ∷ codes "1" ∷ []) ≡ Ok tt
-unfolding header_reading
-header_again = refl
-
-pub messages_again : (items : List Item) (entries : List Entry) (after : ℕ) → AreMessageLines items entries → lines_reading entries after ≡ Ok items
-unfolding lines_reading
-messages_again items [] after h = absurd h
-messages_again items (first ∷ others) after h =
-    ap (λ fs. at_line first.number (header_reading fs) >>= λ _. all_of item_line others) h.0
-    ∙ ap (λ r. at_line first.number r >>= λ _. all_of item_line others) header_again ∙ items_again items others h.1
+pub messages_again : (items : List Item) (text : List ℕ) → IsMessagesText items text → messages_reading text ≡ Ok items
+messages_again items text h = by_lines (entries_of text) (line_after_of text) h where
+  by_lines : (entries : List Entry) (after : ℕ) → AreMessageLines items entries → (behind_header (codes "MESSAGES") entries after >>= all_of item_line) ≡ Ok items
+  by_lines [] after h = absurd h
+  by_lines (first ∷ others) after h = ap (λ r. r >>= all_of item_line) (behind_again (codes "MESSAGES") first others after h.0) ∙ items_again items others h.1

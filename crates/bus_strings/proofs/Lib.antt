@@ -1,7 +1,6 @@
 -- The lemmas of this crate; those that a crate above may cite are public.
 pub mod StringLemmas
 pub mod ItemLemmas
-pub mod TextLemmas
 pub mod GrammarLemmas
 pub mod CanonicalLemmas
 pub mod OverlapLemmas

@@ -2,6 +2,7 @@
 --   header      the first line, `MESSAGES 1`
 --   item line   `MSG n : w w : w`: a terminal, and behind each colon the data words of a wordstring
 use Rattle.std.specs.Prelude.{◌≡◌, ℕ, true, List, [], ◌∷◌, ◌++◌, codes}
+use Rattle.bus_text.specs.Headers.{header_fields}
 use Rattle.bus_text.specs.Lines.{Entry, entries_of}
 use Rattle.bus_text.specs.Numbers.{IsDecimal, IsHexadecimal}
 use Rattle.bus_strings.specs.Items.{Item, is_in_range}
@@ -40,7 +41,7 @@ AreItemLines (item ∷ items) (entry ∷ entries) = IsItemLine item entry.fields
 -- A header, and then the lines of the items.
 abbrev pub AreMessageLines : List Item → List Entry → Type 0
 AreMessageLines items [] = ⊥
-AreMessageLines items (first ∷ others) = (first.fields ≡ codes "MESSAGES" ∷ codes "1" ∷ []) × AreItemLines items others
+AreMessageLines items (first ∷ others) = (first.fields ≡ header_fields (codes "MESSAGES")) × AreItemLines items others
 
 -- The text stands for these items.
 abbrev pub IsMessagesText : List Item → List ℕ → Type 0

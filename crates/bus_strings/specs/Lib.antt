@@ -10,7 +10,6 @@ pub mod Transmissions
 pub mod Items
 pub mod Grammar
 pub mod Reading
-pub mod Gives
 pub mod Canonical
 pub mod OverlapLaws
 pub mod Marking

@@ -1,16 +1,17 @@
 -- What a messages text reads as: its items, or the place and the reason of its refusal.
 --   A refusal of a line is the first of the line's rows whose test holds; that of a text is of its first refused line.
-use Rattle.std.specs.Prelude.{◌≡◌, ℕ, ◌-◌, ◌^◌, min, Bool, true, not, ◌&&◌, ◌||◌, ◌==◌, List, [], ◌∷◌, length, map, drop, codes, Option}
-use Rattle.std.specs.Prelude.{Result, Err, slice_index_or}
+use Rattle.std.specs.Prelude.{◌≡◌, ℕ, ◌-◌, ◌^◌, min, Bool, true, not, ◌&&◌, ◌||◌, List, [], ◌∷◌, map, drop, codes, Option}
+use Rattle.std.specs.Prelude.{Result, slice_index_or}
 use Rattle.std.specs.List.{slice_split, list_all}
 use Rattle.std.specs.Str.{bytes_eq}
-use Rattle.bus_text.specs.Lines.{Entry, entries_of, line_after_of}
+use Rattle.bus_text.specs.Headers.{headed}
+use Rattle.bus_text.specs.Lines.{Entry}
 use Rattle.bus_text.specs.AllOf.{◌>>=◌, all_of}
 use Rattle.bus_text.specs.Fields.{is_at}
 use Rattle.bus_text.specs.Numbers.{is_plain_decimal, decimal_value, is_hexadecimal, hexadecimal_value}
 use Rattle.bus_text.specs.Refusals.{Refusal, first_of, unless, at_line}
 use Rattle.bus_text.specs.declared.reason.Reason.{Reason}
-use Rattle.bus_text.specs.declared.reason.Reason.TheVariants.{Ended, Keyword, Fields, Spelling, Range}
+use Rattle.bus_text.specs.declared.reason.Reason.TheVariants.{Keyword, Fields, Spelling, Range}
 use Rattle.bus_strings.specs.Items.{Item, is_in_range}
 
 -- The field that a terminal's number stands in.
@@ -33,13 +34,6 @@ item_of fields = record { terminal = decimal_value (number_of fields); strings =
 abbrev pub are_spelled : List (List ℕ) → Bool
 are_spelled fields = list_all (λ field. is_colon field || is_hexadecimal 4 field) fields
 
--- Why the first line is refused.
-abbrev pub header_refusal : List (List ℕ) → Option Reason
-header_refusal fields = first_of
-    ((not (is_at fields 0 (codes "MESSAGES")), Keyword)
-    ∷ (not (length fields == 2 && is_at fields 1 (codes "1")), Fields)
-    ∷ [])
-
 -- Why a further line is refused.
 abbrev pub item_refusal : List (List ℕ) → Option Reason
 item_refusal fields = first_of
@@ -56,27 +50,14 @@ pub record HasFront (fields : List (List ℕ)) (terminal : ℕ) : Type 0 where
   pub plain : is_plain_decimal (number_of fields) ≡ true
   pub value : terminal ≡ min (decimal_value (number_of fields)) (2 ^ 64 - 1)
 
--- What the fields of the first line read as.
-unfoldable pub header_reading : List (List ℕ) → Result (Unit {0}) Reason
-header_reading fields = unless (header_refusal fields) tt
-
 -- What the fields of a further line read as.
 unfoldable pub item_reading : List (List ℕ) → Result Item Reason
 item_reading fields = unless (item_refusal fields) (item_of fields)
-
--- What the first line reads as, with its number at a reason against it.
-abbrev pub header_line : Entry → Result (Unit {0}) Refusal
-header_line entry = at_line entry.number (header_reading entry.fields)
 
 -- What a further line reads as, with its number at a reason against it.
 abbrev pub item_line : Entry → Result Item Refusal
 item_line entry = at_line entry.number (item_reading entry.fields)
 
--- The header and then the items; lines without a header have ended too early, and `after` is one past the last.
-unfoldable pub lines_reading : List Entry → ℕ → Result (List Item) Refusal
-lines_reading [] after = Err (record { line = after; reason = Ended })
-lines_reading (first ∷ others) after = header_line first >>= λ _. all_of item_line others
-
--- What a text reads as.
+-- What a text reads as: the items of the lines behind its header.
 abbrev pub messages_reading : List ℕ → Result (List Item) Refusal
-messages_reading text = lines_reading (entries_of text) (line_after_of text)
+messages_reading text = headed (codes "MESSAGES") text >>= all_of item_line

@@ -12,7 +12,6 @@
 //! (which texts stand for which items), `Reading` (what a text reads as, or which line is refused) and `Canonical` for the messages text.
 #![tactic(auto)]
 
-mod fault;
 mod item;
 pub mod laws;
 pub mod limits;
@@ -27,13 +26,12 @@ mod transmission;
 mod wordstring;
 mod writing;
 
-pub use fault::MessagesError;
 pub use message::{Message, copy_message};
 pub use microseconds::{put_microseconds, put_microseconds_unit};
 pub use overlap::{Marks, garbled, is_by_moment, overlaps};
 pub use payload::{Payload, Payloads};
 pub use pulses::{bits, is_on, pulse, pulse_count};
-pub use reading::{item_lines, read_item, read_messages};
+pub use reading::{MessagesError, item_lines, read_item, read_messages};
 pub use shares::{put_share, tenths};
 pub use transmission::Transmission;
 pub use wordstring::{SHORT, Wordstring};

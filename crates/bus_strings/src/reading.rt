@@ -3,33 +3,18 @@ ghost use Rattle.std.specs.Prelude.{◌≡◌, ◌≤◌, List, length, IfOk, If
 ghost use Rattle.std.specs.List.{AllByRecursion};
 ghost use Rattle.bus_text.specs.AllOf.{all_of};
 ghost use Rattle.bus_text.specs.Entries.{entry};
+ghost use Rattle.bus_text.specs.Gives.{Gives, Refuses};
 ghost use Rattle.bus_strings.specs.Items.{Item, IsItem};
 ghost use Rattle.bus_strings.specs.Grammar.{IsMessagesText};
-ghost use Rattle.bus_strings.specs.Reading.{header_reading, item_line, messages_reading};
-ghost use Rattle.bus_strings.specs.Gives.{Gives, Refuses};
+ghost use Rattle.bus_strings.specs.Reading.{item_line, messages_reading};
 
-use crate::fault::MessagesError;
 use crate::item::item;
 use crate::payload::{Payload, Payloads};
-use bus_text::{Fields, Line, LineFault, Lines, Reason, line_after};
+use bus_text::{Fields, Line, LineFault, Lines, Reason, TextError, headed_lines};
 use std::alloc::Global;
 
-/// Reads the fields of the first line.
-#[tactic(auto, unfolding(crate::specs::Reading::header_reading))]
-fn header(mut fields: Fields<'_>) -> Result<(), Reason>
-    ensures { result ≡ header_reading fields.entry }
-{
-    if !fields.next_is(b"MESSAGES") {
-        return Err(Reason::Keyword);
-    }
-    if !fields.next_is(b"1") {
-        return Err(Reason::Fields);
-    }
-    match fields.next() {
-        None => Ok(()),
-        Some(_) => Err(Reason::Fields),
-    }
-}
+/// Why a messages text wasn't read.
+pub type MessagesError = TextError<Reason>;
 
 /// Reads the line of an item, as a messages text has behind its first line, or refuses it as such a text does.
 ///
@@ -74,20 +59,7 @@ pub fn item_lines(text: &[u8]) -> Result<Lines<'_>, MessagesError>
     ensures refused { IfErr result (λ error. Refuses error (messages_reading text.now)) }
     ensures few { IfOk result (λ lines. length lines ≤ length text.now) }
 {
-    let mut lines = Lines::new(text);
-    let Some(first) = lines.next() else {
-        return Err(MessagesError::Text {
-            line: line_after(text),
-            reason: Reason::Ended,
-        });
-    };
-    match header(Fields::new(first.bytes)) {
-        Ok(()) => Ok(lines),
-        Err(reason) => Err(MessagesError::Text {
-            line: first.number,
-            reason,
-        }),
-    }
+    headed_lines(text, b"MESSAGES")
 }
 
 /// Reads the header and the items.

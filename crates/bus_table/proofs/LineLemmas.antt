@@ -6,6 +6,8 @@ use Rattle.std.proofs.lemmas.Bool.{and_parts, eqb-true}
 use Rattle.bus_text.specs.declared.reason.Reason.{Reason}
 use Rattle.bus_text.specs.declared.reason.Reason.TheVariants.{Fields, Spelling}
 use Rattle.bus_text.specs.Fields.{is_at}
+use Rattle.bus_text.specs.Headers.{is_format_one}
+use Rattle.bus_text.proofs.HeaderLaws.{format_found}
 use Rattle.bus_text.specs.Numbers.{is_plain_decimal, decimal_value, is_hexadecimal, hexadecimal_value}
 use Rattle.bus_text.specs.Refusals.{first_of, unless}
 use Rattle.bus_text.proofs.FieldLemmas.{same_bytes}
@@ -44,17 +46,9 @@ one_stage : (a : Bool) (u : Unit {0}) → unless (first_of ((not a, Fields) ∷ 
 one_stage true u h = refl
 one_stage false u h = absurd cc
 
-two_fields : (fields : List (List ℕ)) (first second : List ℕ) → is_at fields 0 first ≡ true → length fields ≡ 2 → is_at fields 1 second ≡ true → fields ≡ first ∷ second ∷ []
-two_fields [] first second p n q = absurd cc
-two_fields (a ∷ []) first second p n q = absurd cc
-two_fields (a ∷ b ∷ []) first second p n q = ap (λ f. f ∷ b ∷ []) (same_bytes a first p) ∙ ap (λ f. first ∷ f ∷ []) (same_bytes b second q)
-two_fields (a ∷ b ∷ c ∷ fields) first second p n q = absurd (omega arith)
-
 pub table_found : (fields : List (List ℕ)) (u : Unit {0}) → is_at fields 0 (codes "TABLE") ≡ true → table_reading fields ≡ Ok u → fields ≡ codes "TABLE" ∷ codes "1" ∷ []
 unfolding table_reading
-table_found fields u p h =
-    let k = and_parts (length fields == 2) _ (one_stage (length fields == 2 && is_at fields 1 (codes "1")) u h) in
-    two_fields fields (codes "TABLE") (codes "1") p (eqb-true _ _ k.0) k.1
+table_found fields u p h = format_found (codes "TABLE") fields p (one_stage (is_format_one fields) u h)
 
 pub table_again : (fields : List (List ℕ)) → fields ≡ codes "TABLE" ∷ codes "1" ∷ [] → table_reading fields ≡ Ok tt
 unfolding table_reading

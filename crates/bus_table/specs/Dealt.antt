@@ -3,10 +3,11 @@ use Rattle.std.specs.Prelude.{◌≡◌, ℕ, List, Vec, Result, Ok, Err}
 use Rattle.std.specs.declared.alloc.Global.{Global}
 use Rattle.bus_text.specs.AllOf.{◌>>=◌}
 use Rattle.bus_text.specs.Refusals.{Refusal}
+use Rattle.bus_text.specs.declared.error.TextError.{TextError}
+use Rattle.bus_text.specs.declared.error.TextError.TheVariants as texts
+use Rattle.bus_text.specs.declared.reason.Reason.{Reason}
 use Rattle.bus_strings.specs.Items.{Item}
 use Rattle.bus_strings.specs.Reading.{messages_reading}
-use Rattle.bus_strings.specs.declared.fault.MessagesError.{MessagesError}
-use Rattle.bus_strings.specs.declared.fault.MessagesError.TheVariants as messages
 use Rattle.bus_table.specs.declared.fit.FitError.{FitError}
 use Rattle.bus_table.specs.declared.hands_error.HandsError.{HandsError}
 use Rattle.bus_table.specs.declared.hands_error.HandsError.TheVariants.{Text, Unfit, Memory}
@@ -15,9 +16,9 @@ use Rattle.bus_table.specs.Hands.{hands_of}
 use Rattle.bus_table.specs.Tables.{Table, Hand}
 
 -- The error of a messages text, as one of its hands.
-abbrev pub text_error : MessagesError → HandsError
-text_error (messages.Text line reason) = Text line reason
-text_error messages.Memory = Memory
+abbrev pub text_error : TextError Reason → HandsError
+text_error (texts.Text line reason) = Text line reason
+text_error texts.Memory = Memory
 
 -- The items of a text, or why there are none.
 abbrev pub items_or_error : Result (List Item) Refusal → Result (List Item) HandsError

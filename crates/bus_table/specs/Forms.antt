@@ -7,6 +7,7 @@ use Rattle.std.specs.Str.{bytes_eq}
 use Rattle.bus_text.specs.declared.reason.Reason.{Reason}
 use Rattle.bus_text.specs.declared.reason.Reason.TheVariants.{Fields, Spelling, Range}
 use Rattle.bus_text.specs.Fields.{is_at}
+use Rattle.bus_text.specs.Headers.{is_format_one}
 use Rattle.bus_text.specs.Numbers.{is_plain_decimal, decimal_value, is_hexadecimal, hexadecimal_value}
 use Rattle.bus_text.specs.Refusals.{first_of, unless}
 use Rattle.bus_table.specs.declared.keyword.Keyword.{Keyword}
@@ -45,7 +46,7 @@ keyword_of fields = find (λ keyword. is_at fields 0 (word_of keyword)) all_keyw
 
 -- The TABLE line.
 unfoldable pub table_reading : List (List ℕ) → Result (Unit {0}) Reason
-table_reading fields = unless (first_of ((not (length fields == 2 && is_at fields 1 (codes "1")), Fields) ∷ [])) tt
+table_reading fields = unless (first_of ((not (is_format_one fields), Fields) ∷ [])) tt
 
 -- The mode of a MODE line, where its word is one of the two.
 abbrev pub mode_of : List (List ℕ) → Mode

@@ -3,7 +3,7 @@ ghost use Rattle.std.specs.Prelude.{◌≡◌, ◌<◌, ◌^◌, [], ◌∷◌, 
 ghost use Rattle.std.specs.Prelude.{nat_eq};
 ghost use Rattle.std.specs.List.{IsDistinct};
 ghost use Rattle.bus_text.specs.AllOf.{all_of};
-ghost use Rattle.bus_strings.specs.Gives.{Fails};
+ghost use Rattle.bus_text.specs.Gives.{Fails};
 ghost use Rattle.bus_strings.specs.Items.{Item};
 ghost use Rattle.bus_strings.specs.Reading.{item_line};
 ghost use Rattle.bus_table.specs.Dealt.{GivesHands, hands_reading};

@@ -5,7 +5,9 @@ pub mod Entries
 pub mod Numbers
 pub mod Digits
 pub mod Refusals
+pub mod Gives
 pub mod Reasons
 pub mod AllOf
+pub mod Headers
 pub mod Canonical
 pub mod inside

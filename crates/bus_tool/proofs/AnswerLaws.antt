@@ -3,7 +3,6 @@ use Rattle.std.specs.Prelude.{◌≡◌, ℕ, ◌≤◌, nat_lt, true, false, Bo
 use Rattle.std.proofs.Common.{arith, refl, sym, ap, subst, cond}
 use Rattle.std.proofs.lemmas.Bool.Decides.{nat_tests}
 use Rattle.bus_table.specs.Tables.{Table, Hand}
-use Rattle.bus_audit.specs.Breaches.{answer_of}
 use Rattle.bus_audit.specs.declared.answer.AuditAnswer.{AuditAnswer}
 use Rattle.bus_audit.specs.declared.answer.AuditAnswer.TheVariants.{Lawful, Breach}
 use Rattle.bus_dropout.specs.DropOut.{last_cycle, drop_end}
@@ -17,17 +16,13 @@ use Rattle.bus_schedule.specs.Closed.{closed_end}
 use Rattle.bus_schedule.specs.Limits.{longest_end}
 use Rattle.bus_schedule.specs.Uneven.{uneven_of}
 use Rattle.bus_schedule.specs.declared.uneven.Uneven.{Uneven as UnevenHands}
-use Rattle.bus_trace.specs.Traces.{Recording}
-use Rattle.bus_wave.specs.Spacing.{spaced_of}
-use Rattle.bus_wave.specs.declared.fault.WaveFault.{WaveFault}
 use Rattle.bus_command.specs.declared.outcome.Outcome.TheVariants.{Done}
 use Rattle.bus_command.specs.Kinds.{Answer, kind_of, stage_of}
 use Rattle.bus_command.specs.Stages.{stage_in}
 use Rattle.bus_command.proofs.StageLaws.{stage_with, then_stage}
-use Rattle.bus_tool.specs.Due.{verdict_outcome, plan_outcome, audit_outcome, spaced_outcome, table_answer, messages_answer, trace_answer}
+use Rattle.bus_tool.specs.Due.{verdict_outcome, plan_outcome, audit_outcome, table_answer, messages_answer}
 use Rattle.bus_tool.specs.Due.{even_due, accepted_due, short_due, last_due, may_run, can_run, may_drop, can_drop}
 use Rattle.bus_tool.specs.Forms.{TableCommand, Check, Tolerance, Tidy, Report, Witness, Plan, MessagesCommand, Observe, Run, Drop}
-use Rattle.bus_tool.specs.Forms.{TraceCommand, Receive, Audit, Vote, Wave}
 use Rattle.bus_tool.specs.Refusals.{Outcome, refuse, NotAccepted, ShortLast, TooLong}
 
 -- ---- the answers

@@ -10,11 +10,12 @@ use Rattle.bus_table.specs.Tables.{Table}
 use Rattle.bus_table.specs.Fits.{items_fit}
 use Rattle.bus_table.specs.declared.fit.FitError.{FitError}
 use Rattle.bus_cable.specs.Cables.{Cable}
-use Rattle.bus_cable.specs.Gives.{Fails}
+use Rattle.bus_text.specs.Gives.{Fails}
 use Rattle.bus_cable.specs.Grammar.{IsCableText}
 use Rattle.bus_cable.specs.Reading.{cable_reading}
-use Rattle.bus_cable.specs.declared.error.CableError.{CableError}
-use Rattle.bus_cable.specs.declared.error.CableError.TheVariants.{Text, Memory}
+use Rattle.bus_text.specs.declared.error.TextError.{TextError}
+use Rattle.bus_text.specs.declared.reason.Reason.{Reason}
+use Rattle.bus_text.specs.declared.error.TextError.TheVariants.{Text, Memory}
 use Rattle.bus_command.specs.Causes.{IsValidText, RefusesTexts}
 use Rattle.bus_command.specs.Due.{text_within, table_due, table_refusal_of}
 use Rattle.bus_command.specs.Kinds.{kind_of, is_answer}
@@ -76,15 +77,15 @@ text_late (Ok read) = omega arith
 text_late (Err refusal) = omega arith
 
 -- it is refused
-text_fails : (e : CableError) (text : List ℕ) → Fails e (cable_reading text) → Gives {X = CableRead} {Y = CableRead} Same (Err (cable_refusal e)) (cable_or_refusal (cable_reading text))
+text_fails : (e : TextError Reason) (text : List ℕ) → Fails e (cable_reading text) → Gives {X = CableRead} {Y = CableRead} Same (Err (cable_refusal e)) (cable_or_refusal (cable_reading text))
 text_fails (Text line reason) text h = ap cable_or_refusal h
 text_fails Memory text h = (let late = text_late (cable_reading text) in omega (arith, late))
 
-text_refuses_at : (e : CableError) → RefusesAt 2 (kind_of (cable_refusal e))
+text_refuses_at : (e : TextError Reason) → RefusesAt 2 (kind_of (cable_refusal e))
 text_refuses_at (Text line reason) = refl
 text_refuses_at Memory = tt
 
-pub text_refused : (old new : Seen) (text : Vec ℕ Global) (bytes : List ℕ) (e : CableError) (r : Result CableRead Outcome)
+pub text_refused : (old new : Seen) (text : Vec ℕ Global) (bytes : List ℕ) (e : TextError Reason) (r : Result CableRead Outcome)
     → Takes IsText 2 entire (text_within {R = ToolRefusal} text_limit 2) old new (Ok text) → bytes ≡ text.items → Fails e (cable_reading bytes)
     → r ≡ Err (cable_refusal e) → Takes Same 2 entire cable_text_due old new r
 text_refused old new text bytes e r t same fails is =

@@ -4,9 +4,6 @@ use Rattle.std.proofs.Common.{refl, sym, ap, subst, inl, inr}
 use Rattle.bus_strings.specs.Items.{Item}
 use Rattle.bus_table.specs.Tables.{Table}
 use Rattle.bus_table.specs.declared.mode.Mode.TheVariants.{Aperiodic}
-use Rattle.bus_audit.specs.Breaches.{answer_of}
-use Rattle.bus_audit.specs.declared.answer.AuditAnswer.{AuditAnswer}
-use Rattle.bus_audit.specs.declared.answer.AuditAnswer.TheVariants.{Lawful, Breach}
 use Rattle.bus_dropout.specs.DropOut.{drop_end}
 use Rattle.bus_plan.specs.Answers.{plan_of}
 use Rattle.bus_plan.specs.declared.planning.PlanAnswer.{PlanAnswer}
@@ -15,21 +12,18 @@ use Rattle.bus_regime.specs.Verdicts.{verdict_of}
 use Rattle.bus_regime.specs.declared.table_verdict.TableVerdict.{TableVerdict}
 use Rattle.bus_regime.specs.declared.table_verdict.TableVerdict.TheVariants.{Accept, ShortCycle, SmallGap, NoSync}
 use Rattle.bus_schedule.specs.Closed.{closed_end}
-use Rattle.bus_wave.specs.Spacing.{spaced_of}
 use Rattle.bus_wave.specs.WaveLaws.{WavesReadBack}
-use Rattle.bus_wave.specs.declared.fault.WaveFault.{WaveFault}
 use Rattle.bus_command.specs.Causes.{AreTextsWith, RefusesTexts}
 use Rattle.bus_command.specs.Due.{Inputs, hands_in, inputs_by, traced_due, any_trace, outcome_with}
-use Rattle.bus_command.specs.declared.inputs.Traced.{Traced}
 use Rattle.bus_command.proofs.ActLaws.{DueHasCause}
-use Rattle.bus_command.proofs.ReadLemmas.{CauseLaws, table_cause, table_valid, items_cause, items_read, inputs_read, inputs_stop, trace_cause, read_trace, traced_read, traced_stop}
+use Rattle.bus_command.proofs.ReadLemmas.{CauseLaws, table_cause, table_valid, items_cause, items_read, inputs_read, inputs_stop, trace_cause, traced_stop}
 use Rattle.bus_tool.specs.Acts.{tool_program}
 use Rattle.bus_tool.specs.Causes.{Cause, DifferAs, IsRefusal, IsShortLast, IsLongEnd}
-use Rattle.bus_tool.specs.Due.{table_for, verdict_outcome, plan_outcome, audit_outcome, spaced_outcome, can_run, can_drop, unwave_due, wave_trace_due}
+use Rattle.bus_tool.specs.Due.{table_for, verdict_outcome, plan_outcome, can_run, can_drop, unwave_due, wave_trace_due}
 use Rattle.bus_tool.specs.Due.{table_answer, inputs_answer, traced_answer, unwave_answer}
 use Rattle.bus_tool.proofs.ExplainLemmas.{explain_cause}
 use Rattle.bus_tool.specs.Forms.{Form, OnTable, OnMessages, OnTrace, Unwave, Drill, OnItself, Explain, Cable, TableCommand, Check, Tolerance, Tidy, Report, Witness, Plan}
-use Rattle.bus_tool.specs.Forms.{MessagesCommand, Observe, Run, Drop, TraceCommand, Receive, Audit, Vote, Wave, table_mode, messages_mode}
+use Rattle.bus_tool.specs.Forms.{MessagesCommand, Observe, Run, Drop, table_mode, messages_mode}
 use Rattle.bus_tool.specs.Refusals.{Outcome, ToolRefusal}
 use Rattle.bus_tool.proofs.AnswerLaws.{done_with}
 use Rattle.bus_tool.proofs.ModeLemmas.{mode_read, mode_cause}

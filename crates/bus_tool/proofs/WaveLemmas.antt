@@ -7,12 +7,13 @@ use Rattle.bus_text.specs.AllOf.{◌>>=◌}
 use Rattle.bus_table.specs.Tables.{Table}
 use Rattle.bus_table.specs.Valid.{is_valid}
 use Rattle.bus_trace.specs.Traces.{Recording}
-use Rattle.bus_wave.specs.Gives.{Fails}
+use Rattle.bus_text.specs.Gives.{Fails}
 use Rattle.bus_wave.specs.Reading.{WaveRefusal, wave_reading}
 use Rattle.bus_wave.specs.WaveLaws.{IsWaveTrace, WavesReadBack}
 use Rattle.bus_wave.specs.WaveTexts.{IsWaveText}
-use Rattle.bus_wave.specs.declared.fault.WaveError.{WaveError}
-use Rattle.bus_wave.specs.declared.fault.WaveError.TheVariants.{Text, Memory}
+use Rattle.bus_text.specs.declared.error.TextError.{TextError}
+use Rattle.bus_wave.specs.declared.fault.WaveReason.{WaveReason}
+use Rattle.bus_text.specs.declared.error.TextError.TheVariants.{Text, Memory}
 use Rattle.bus_command.specs.Causes.{IsValidText, RefusesTexts}
 use Rattle.bus_command.specs.Due.{text_within}
 use Rattle.bus_command.specs.Kinds.{kind_of}
@@ -42,16 +43,16 @@ wave_late (Ok trace) = omega arith
 wave_late (Err refusal) = omega arith
 
 -- it is refused
-wave_fails : (e : WaveError) (table : Table) (text : List ℕ) → Fails e (wave_reading table text)
+wave_fails : (e : TextError WaveReason) (table : Table) (text : List ℕ) → Fails e (wave_reading table text)
     → Gives {X = Recording} {Y = Recording} Same (Err (wave_refusal e)) (wave_or_refusal (wave_reading table text))
 wave_fails (Text line reason) table text h = ap wave_or_refusal h
 wave_fails Memory table text h = (let late = wave_late (wave_reading table text) in omega (arith, late))
 
-wave_refuses_at : (e : WaveError) → RefusesAt 2 (kind_of (wave_refusal e))
+wave_refuses_at : (e : TextError WaveReason) → RefusesAt 2 (kind_of (wave_refusal e))
 wave_refuses_at (Text line reason) = refl
 wave_refuses_at Memory = tt
 
-pub wave_refused : (old new : Seen) (table : Table) (text : Vec ℕ Global) (bytes : List ℕ) (e : WaveError) (r : Result Recording Outcome)
+pub wave_refused : (old new : Seen) (table : Table) (text : Vec ℕ Global) (bytes : List ℕ) (e : TextError WaveReason) (r : Result Recording Outcome)
     → Takes IsText 2 entire_wave (text_within {R = ToolRefusal} wave_limit 2) old new (Ok text) → bytes ≡ text.items → Fails e (wave_reading table bytes)
     → IsErrAnd r (λ o. o ≡ wave_refusal e) → Takes Same 2 entire_wave (wave_trace_due table) old new r
 wave_refused old new table text bytes e r t same fails h =

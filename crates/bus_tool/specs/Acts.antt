@@ -1,5 +1,5 @@
 -- What the program bus629 does.
-use Rattle.std.specs.Prelude.{◌≡◌, List, String}
+use Rattle.std.specs.Prelude.{List, String}
 use Rattle.std.specs.declared.alloc.Global.{Global}
 use Rattle.bus_outer.specs.declared.sink.Sink.{Ghosts as SinkGhosts}
 use Rattle.bus_outer.specs.declared.source.Source.{Ghosts as SourceGhosts}

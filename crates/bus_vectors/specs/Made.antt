@@ -2,7 +2,7 @@
 --   number   from 0 to 9999
 --   i        a sender, from 1
 --   round    from 0
-use Rattle.std.specs.Prelude.{ℕ, ◌+◌, ◌*◌, ◌-◌, ◌%◌, ◌^◌, List, [], ◌∷◌, map, None}
+use Rattle.std.specs.Prelude.{ℕ, ◌+◌, ◌*◌, ◌-◌, ◌%◌, List, [], ◌∷◌, map, None}
 use Rattle.std.specs.List.{flat_map, range_with_len, sum_by}
 use Rattle.bus_strings.specs.Items.{Item}
 use Rattle.bus_strings.specs.Limits.{most_terminal}

@@ -1,5 +1,5 @@
 -- What holds of each made table and its messages, as laws that crates above cite by `laws`.
-use Rattle.std.specs.Prelude.{◌≡◌, ◌≤◌, ℕ, IsTrue, IsOk, length}
+use Rattle.std.specs.Prelude.{◌≡◌, ℕ, IsTrue, IsOk, length}
 use Rattle.std.specs.List.{AllByRecursion}
 use Rattle.bus_strings.specs.Items.{IsItem}
 use Rattle.bus_table.specs.Fits.{items_fit}

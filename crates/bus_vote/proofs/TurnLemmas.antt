@@ -13,8 +13,8 @@ use Rattle.bus_table.specs.declared.mode.Mode.{Mode}
 use Rattle.bus_table.specs.declared.mode.Mode.TheVariants.{Aperiodic, Periodic}
 use Rattle.bus_table.specs.Tables.{Sender, Table, Hand}
 use Rattle.bus_table.specs.inside.Facts.{TableFacts}
-use Rattle.bus_table.specs.Turns.{turn_key, turn_order, Rises}
-use Rattle.bus_table.specs.inside.Orders.{Rises, Differ}
+use Rattle.bus_table.specs.Turns.{turn_key, turn_order}
+use Rattle.bus_table.specs.inside.Orders.{Rises}
 use Rattle.bus_table.proofs.TurnLaws.{from_sort, in_sort, behind_rises, numbers_differ, order_rises}
 use Rattle.bus_schedule.specs.Even.{messages_of, rounds}
 use Rattle.bus_schedule.specs.Closed.{sends, turns, origin, offset_turns, in_rounds, schedule_in, closed}

@@ -20,8 +20,8 @@ use Rattle.bus_wave.specs.inside.Drafts.{begun_of, phase_of, state_of, PhaseKeep
 use Rattle.bus_wave.specs.inside.Capped.{cap}
 use Rattle.bus_wave.specs.Spacing.{least_gap}
 use Rattle.bus_wave.specs.Judging as judging
-use Rattle.bus_wave.specs.Judging.{quiet_step, Opened, Silent, Saying, Waiting, Closed, State, string_of, with_string, later, least_rest, bounded, quiet_behind, is_label_of}
-use Rattle.bus_wave.specs.Judging.{beginner, begun, begin_step, order_step, step}
+use Rattle.bus_wave.specs.Judging.{quiet_step, Opened, Silent, Saying, Waiting, Closed, State, string_of, with_string, later, least_rest, bounded, quiet_behind}
+use Rattle.bus_wave.specs.Judging.{step}
 
 -- the state of a draft, by its phase
 abbrev pub state_in : Draft → Phase → State

@@ -11,6 +11,7 @@ use Rattle.bus_text.specs.AllOf.{◌>>=◌}
 use Rattle.bus_text.proofs.AllOfLaws.{bind_ok}
 use Rattle.bus_text.specs.Canonical.{spelled_line}
 use Rattle.bus_text.specs.Lines.{is_feed}
+use Rattle.bus_text.specs.Refusals.{at_line}
 use Rattle.bus_words.specs.declared.word.Kind.{Kind}
 use Rattle.bus_words.specs.declared.word.Kind.TheVariants.{Label, Plain}
 use Rattle.bus_words.specs.declared.word.Word.{Word}
@@ -24,16 +25,16 @@ use Rattle.bus_wave.specs.declared.fault.WaveReason.{WaveReason}
 use Rattle.bus_wave.specs.declared.fault.WaveReason.TheVariants.{Ended, Keyword}
 use Rattle.bus_text.specs.declared.fault.LineFault.{LineFault}
 use Rattle.bus_text.specs.declared.fault.LineFault.TheVariants as fault
-use Rattle.bus_wave.specs.declared.fault.WaveError.{WaveError}
+use Rattle.bus_text.specs.declared.error.TextError.{TextError}
 use Rattle.bus_text.specs.inside.Gives.{LineFails}
-use Rattle.bus_wave.specs.Gives.{Fails, Gives}
+use Rattle.bus_text.specs.Gives.{Fails, Gives}
 use Rattle.bus_wave.specs.inside.Parts.{fault_at}
 use Rattle.bus_wave.specs.declared.symbol.Symbol.{Symbol}
 use Rattle.bus_wave.specs.declared.symbol.Symbol.TheVariants as symbol
 use Rattle.bus_wave.specs.Code.{digits_of}
 use Rattle.bus_wave.specs.Symbols.{fields_of, head_reading, symbol_reading}
 use Rattle.bus_wave.specs.Judging.{Phase, Opened, Silent, Saying, Waiting, Closed, State, opening, least_rest, order_step, step}
-use Rattle.bus_wave.specs.Reading.{WaveRefusal, at_line, is_closed, judge_read, judge, recorded, ended, pieces_reading, text_reading, wave_reading}
+use Rattle.bus_wave.specs.Reading.{WaveRefusal, is_closed, judge_read, judge, recorded, ended, pieces_reading, text_reading, wave_reading}
 use Rattle.bus_wave.specs.WaveLaws.{most_bytes, IsWaveTrace, IsRead}
 use Rattle.bus_wave.specs.Waves.{word_halves, wave}
 use Rattle.bus_wave.specs.WaveTexts.{WaveLine, Quiet, Halves, line_fields, text_of, lines_up_to, last_end, message_lines, laid, quiet_lines, wave_text, IsWaveText}
@@ -477,7 +478,7 @@ line_fails table number s rest line behind (fault.Refused reason) e h = line_err
 line_fails table number s rest line behind fault.Memory e h = tt
 
 -- what an answer gives
-pub is_read_if : (table : Table) (text : List ℕ) (r : Result Recording WaveError) → IsTrue (is_valid table) → length text ≤ most_bytes
-    → Gives r (wave_reading table text) → IfOk r (λ t. IsRead table t text)
+pub is_read_if : (table : Table) (text : List ℕ) (r : Result Recording (TextError WaveReason)) → IsTrue (is_valid table) → length text ≤ most_bytes
+    → Gives (λ t. t) r (wave_reading table text) → IfOk r (λ t. IsRead table t text)
 is_read_if table text (Ok t) valid short h = reads_only table t text valid short h
 is_read_if table text (Err e) valid short h = tt

@@ -1,5 +1,5 @@
 -- Texts and their lines: what lines read as, and what reads so.
-use Rattle.std.proofs.Common.{arith, ◌≡◌, ◌≢◌, ℕ, zero, suc, ◌+◌, ◌*◌, ◌<◌, ◌^◌, Bool, true, false, not, cond, ◌&&◌, ◌==◌, List, [], ◌∷◌, ◌++◌, codes}
+use Rattle.std.proofs.Common.{arith, ◌≡◌, ◌≢◌, ℕ, zero, suc, ◌+◌, ◌*◌, ◌<◌, ◌^◌, Bool, true, false, not, cond, ◌==◌, List, [], ◌∷◌, ◌++◌, codes}
 use Rattle.std.proofs.Common.{length, take, drop, get_or, Option, Some, None, Result, Ok, Err, refl, sym, ap, subst, ◌∙◌}
 use Rattle.std.specs.Fmt.{decimal}
 use Rattle.std.specs.Prelude.{slice_index_or}
@@ -13,6 +13,8 @@ use Rattle.std.proofs.lemmas.List.Splits.{slice_split_at, slice_split_none, leng
 use Rattle.bus_text.specs.inside.Spelled.{IsFieldByte}
 use Rattle.bus_text.specs.Digits.{is_capital_digit}
 use Rattle.bus_text.specs.Fields.{is_at}
+use Rattle.bus_text.specs.Headers.{is_format_one}
+use Rattle.bus_text.proofs.HeaderLaws.{format_found}
 use Rattle.bus_text.specs.Lines.{is_feed}
 use Rattle.bus_text.specs.Refusals.{first_of, unless}
 use Rattle.bus_text.specs.Numbers.{is_plain_decimal, decimal_value}
@@ -209,17 +211,8 @@ two_rows false b p q u h = absurd cc
 pub head_found : (line : List ℕ) (u : Unit {0}) → head_reading (fields_of line) ≡ Ok u → line ≡ codes "WAVE 1"
 unfolding head_reading
 head_found line u h =
-    let fields : List (List ℕ) = fields_of line in
-    let r = two_rows (is_at fields 0 (codes "WAVE")) (length fields == 2 && is_at fields 1 (codes "1")) Keyword Fields u h in
-    let p = and_parts (length fields == 2) (is_at fields 1 (codes "1")) r.1 in
-    sym (joined line) ∙ ap (join_with_byte 32) (both fields r.0 p.0 p.1)
-  where
-    both : (fields : List (List ℕ)) → is_at fields 0 (codes "WAVE") ≡ true → (length fields == 2) ≡ true → is_at fields 1 (codes "1") ≡ true
-        → fields ≡ codes "WAVE" ∷ codes "1" ∷ []
-    both [] a n b = absurd cc
-    both (f ∷ []) a n b = absurd (let k = eqb-true (length (f ∷ [])) 2 n in omega arith)
-    both (f ∷ g ∷ []) a n b = ap (λ x. x ∷ g ∷ []) ((bytes_eq-Decides f (codes "WAVE")).0 a) ∙ ap (λ x. codes "WAVE" ∷ x ∷ []) ((bytes_eq-Decides g (codes "1")).0 b)
-    both (f ∷ g ∷ i ∷ others) a n b = absurd (let k = eqb-true (length (f ∷ g ∷ i ∷ others)) 2 n in omega arith)
+    let r = two_rows (is_at (fields_of line) 0 (codes "WAVE")) (is_format_one (fields_of line)) Keyword Fields u h in
+    sym (joined line) ∙ ap (join_with_byte 32) (format_found (codes "WAVE") (fields_of line) r.0 r.1)
 
 pub head_reads : head_reading (fields_of (codes "WAVE 1")) ≡ Ok tt
 unfolding head_reading

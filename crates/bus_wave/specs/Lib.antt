@@ -8,6 +8,5 @@ pub mod Counted
 pub mod Symbols
 pub mod Judging
 pub mod Reading
-pub mod Gives
 pub mod WaveLaws
 pub mod inside

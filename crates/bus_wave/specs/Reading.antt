@@ -4,6 +4,7 @@ use Rattle.std.specs.Prelude.{ℕ, ◌+◌, Bool, true, false, ◌&&◌, ◌==�
 use Rattle.std.specs.List.{slice_split}
 use Rattle.bus_text.specs.AllOf.{◌>>=◌}
 use Rattle.bus_text.specs.Lines.{is_feed}
+use Rattle.bus_text.specs.Refusals.{RefusalOf, at_line}
 use Rattle.bus_table.specs.Tables.{Sender, Table}
 use Rattle.bus_trace.specs.Traces.{Recording}
 use Rattle.bus_wave.specs.declared.fault.WaveReason.{WaveReason}
@@ -14,14 +15,8 @@ use Rattle.bus_wave.specs.Symbols.{fields_of, head_reading, symbol_reading}
 use Rattle.bus_wave.specs.Judging.{Phase, Opened, Silent, Saying, Waiting, Closed, State, opening, step}
 
 -- The number of the refused line, from 1, and why it is refused.
-pub record WaveRefusal : Type 0 where
-  pub line : ℕ
-  pub reason : WaveReason
-
--- What a line reads as, with its number at a reason against it.
-abbrev pub at_line : {A : Type 0} → ℕ → Result A WaveReason → Result A WaveRefusal
-at_line number (Ok value) = Ok value
-at_line number (Err reason) = Err (record { line = number; reason = reason })
+abbrev pub WaveRefusal : Type 0
+WaveRefusal = RefusalOf WaveReason
 
 -- Whether the last line was END.
 abbrev pub is_closed : Phase → Bool

@@ -6,6 +6,7 @@ use Rattle.std.specs.Prelude.{Result, Ok, Err, slice_index_or, if◌then◌else�
 use Rattle.std.specs.List.{slice_split, list_all}
 use Rattle.bus_text.specs.Digits.{is_capital_digit}
 use Rattle.bus_text.specs.Fields.{is_at}
+use Rattle.bus_text.specs.Headers.{is_format_one}
 use Rattle.bus_text.specs.Numbers.{is_plain_decimal, decimal_value}
 use Rattle.bus_text.specs.Refusals.{first_of, unless}
 use Rattle.bus_words.specs.declared.word.FramedWord.{FramedWord}
@@ -30,7 +31,7 @@ fields_of line = slice_split is_space line
 abbrev pub head_refusal : List (List ℕ) → Option WaveReason
 head_refusal fields = first_of
     ((not (is_at fields 0 (codes "WAVE")), Keyword)
-    ∷ (not (length fields == 2 && is_at fields 1 (codes "1")), Fields)
+    ∷ (not (is_format_one fields), Fields)
     ∷ [])
 
 -- What the first line reads as.

@@ -2,9 +2,7 @@
 ghost use Rattle.std.specs.Prelude.{◌≡◌};
 ghost use Rattle.bus_wave.specs.Reasons.{wave_reason_word};
 
-use bus_text::LineFault;
-use std::alloc::{AllocError, AllocFailed};
-use thiserror::Error;
+use bus_text::{LineFault, TextError};
 
 /// What is wrong with an entry of a trace that isn't spaced for a table. Each carries the number of the entry, from 0.
 #[derive(Clone, Copy, Debug, PartialEq, Eq)]
@@ -60,42 +58,7 @@ impl WaveReason {
 }
 
 /// Why a wave text wasn't read.
-#[derive(Clone, Copy, Debug, PartialEq, Eq, Error)]
-pub enum WaveError {
-    /// The text is refused.
-    #[error("line {line}: {reason:?}")]
-    Text {
-        /// The number of the first line, from 1, to which a reason applies, or one past the last line.
-        line: u64,
-        /// The first reason that applies to that line.
-        reason: WaveReason,
-    },
-    /// There wasn't memory enough.
-    #[error("out of memory")]
-    Memory,
-}
-
-impl From<AllocError> for WaveError {
-    ghost use Rattle.std.specs.Prelude.{◌≡◌};
-    ghost use Rattle.bus_wave.specs.declared.fault.WaveError.TheVariants.{Memory};
-
-    ghost from_gives = { λ _ error. error ≡ Memory };
-
-    fn from(_error: AllocError) -> WaveError {
-        WaveError::Memory
-    }
-}
-
-impl<T: Drop> From<AllocFailed<T>> for WaveError {
-    ghost use Rattle.std.specs.Prelude.{◌≡◌};
-    ghost use Rattle.bus_wave.specs.declared.fault.WaveError.TheVariants.{Memory};
-
-    ghost from_gives = { λ _ error. error ≡ Memory };
-
-    fn from(_error: AllocFailed<T>) -> WaveError {
-        WaveError::Memory
-    }
-}
+pub type WaveError = TextError<WaveReason>;
 
 impl From<WaveReason> for LineFault<WaveReason> {
     ghost use Rattle.std.specs.Prelude.{◌≡◌};

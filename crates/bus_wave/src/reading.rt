@@ -1,12 +1,12 @@
 //! Reading a wave text back into a trace.
 ghost use Rattle.std.specs.Prelude.{◌≡◌, ◌+◌, ◌<◌, ◌≤◌, ◌^◌, ◌-◌, ◌&&◌, ◌==◌, length, IsTrue, IfOk, OnOk, Ok};
 ghost use Rattle.std.specs.List.{slice_split};
+ghost use Rattle.bus_text.specs.Gives.{Gives};
 ghost use Rattle.bus_text.specs.Lines.{is_feed};
 ghost use Rattle.bus_table.specs.Valid.{is_valid};
 ghost use Rattle.bus_trace.specs.Traces.{Recording};
 ghost use Rattle.bus_wave.specs.inside.Drafts.{Keeps, state_of};
 ghost use Rattle.bus_text.specs.inside.Gives.{StepGives};
-ghost use Rattle.bus_wave.specs.Gives.{Gives};
 ghost use Rattle.bus_wave.specs.inside.Parts.{PartsGive, fault_at};
 ghost use Rattle.bus_wave.specs.Judging.{opening};
 ghost use Rattle.bus_wave.specs.Reading.{is_closed as closed_test, judge_read, pieces_reading, wave_reading};
@@ -119,7 +119,7 @@ fn read_parts(
 /// Reads a text, and counts the entries of each sender.
 fn read(alloc: Global, table: &Table, text: &[u8]) -> Result<Trace, WaveError>
     requires { length text.now ≤ most_bytes }
-    ensures { Gives result (wave_reading table.now text.now) }
+    ensures { Gives (λ t. t) result (wave_reading table.now text.now) }
 {
     table_is_valid(table);
     waves_tell_traces();
@@ -138,9 +138,9 @@ pub fn read_wave(alloc: Global, table: &Table, text: &[u8]) -> Result<Trace, Wav
     // What is read is spaced for the table, and the text is its wave text.
     ensures found { IfOk result (λ t. IsRead table.now t text.now) }
     // The wave text of each such trace is read, unless memory runs out.
-    ensures only { (t : Recording) → IsWaveTrace table.now t → IsWaveText t text.now → Gives result (Ok t) }
+    ensures only { (t : Recording) → IsWaveTrace table.now t → IsWaveText t text.now → Gives (λ t. t) result (Ok t) }
     // Which line is refused, and why.
-    ensures exact { Gives result (wave_reading table.now text.now) }
+    ensures exact { Gives (λ t. t) result (wave_reading table.now text.now) }
 {
     table_is_valid(table);
     waves_tell_traces();

@@ -9,22 +9,22 @@ use Rattle.bus_strings.specs.Messages.{Entry}
 use Rattle.bus_table.specs.Tables.{Table}
 use Rattle.bus_trace.specs.Traces.{Recording}
 use Rattle.bus_wave.specs.declared.fault.WaveReason.{WaveReason}
-use Rattle.bus_wave.specs.declared.fault.WaveError.{WaveError}
-use Rattle.bus_wave.specs.declared.fault.WaveError.TheVariants.{Text, Memory}
+use Rattle.bus_text.specs.declared.error.TextError.{TextError}
+use Rattle.bus_text.specs.declared.error.TextError.TheVariants.{Text, Memory}
 use Rattle.bus_wave.specs.declared.symbol.Symbol.{Symbol}
 use Rattle.bus_wave.specs.inside.Capped.{capped}
 use Rattle.bus_wave.specs.Counted.{holds_of}
-use Rattle.bus_wave.specs.Gives.{Fails}
+use Rattle.bus_text.specs.Gives.{Fails}
 use Rattle.bus_wave.specs.Symbols.{fields_of, symbol_reading}
 use Rattle.bus_wave.specs.Reading.{WaveRefusal}
 
 -- The error of a line that wasn't taken.
-abbrev pub fault_at : ℕ → LineFault WaveReason → WaveError
+abbrev pub fault_at : ℕ → LineFault WaveReason → TextError WaveReason
 fault_at number (line.Refused reason) = Text number reason
 fault_at number line.Memory = Memory
 
 -- The bit times and the transmissions of a trace are those of the reading.
-abbrev pub PartsGive : Table → Result (ℕ × Vec Entry) WaveError → Result Recording WaveRefusal → Type 0
+abbrev pub PartsGive : Table → Result (ℕ × Vec Entry) (TextError WaveReason) → Result Recording WaveRefusal → Type 0
 PartsGive table (Ok parts) reading = reading ≡ Ok (record { horizon = parts.0; holds = holds_of table parts.1.items; list = parts.1.items })
 PartsGive table (Err error) reading = Fails error reading
 

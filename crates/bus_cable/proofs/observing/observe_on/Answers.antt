@@ -1,5 +1,5 @@
 use Rattle.std.proofs.Common.{arith, ◌≡◌, ◌∙◌, ◌≤◌, ◌<◌, ℕ, List, ap, sym, subst}
-use Rattle.std.specs.Prelude.{Result, IfOk, Vec}
+use Rattle.std.specs.Prelude.{IfOk}
 use Rattle.std.proofs.Math.Path.{fun_ext}
 use Rattle.bus_strings.specs.Limits.{horizon_limit}
 use Rattle.bus_strings.specs.Messages.{Entry}

@@ -6,7 +6,7 @@ use Rattle.bus_strings.specs.Reading.{item_line}
 use Rattle.bus_cable.specs.Cables.{most_wake}
 use Rattle.bus_propagation.specs.Numbered.{most_place}
 use Rattle.bus_cable.specs.Reading.{front_of, behind, named_lines}
-use Rattle.bus_cable.specs.Gives.{Fails}
+use Rattle.bus_text.specs.Gives.{Fails}
 use Rattle.bus_cable.proofs.BodyLemmas.{ahead_is, places_fail, wakes_fail, items_fail, body_read, cable_ranges}
 use Rattle.bus_cable.proofs.reading.body.Goals as goal
 

@@ -1,6 +1,5 @@
 use Rattle.std.proofs.Common.{subst}
-use Rattle.bus_text.specs.Lines.{entries_of, line_after_of}
-use Rattle.bus_cable.specs.Gives.{Gives}
+use Rattle.bus_text.specs.Gives.{Gives}
 use Rattle.bus_cable.proofs.BodyLemmas.{is_found, is_few, cable_again}
 use Rattle.bus_cable.proofs.reading.read_cable.Goals as goal
 
@@ -8,7 +7,7 @@ pub returns-clause-found : goal.returns-clause-found
 returns-clause-found c = is_found c.args.text.now c.read.result c.read.ensures
 
 pub returns-clause-only : goal.returns-clause-only
-returns-clause-only c = λ cable items h. subst (λ f. Gives (λ v. v) c.read.result f) (cable_again cable items (entries_of c.args.text.now) (line_after_of c.args.text.now) h) c.read.ensures
+returns-clause-only c = λ cable items h. subst (λ f. Gives (λ v. v) c.read.result f) (cable_again cable items c.args.text.now h) c.read.ensures
 
 pub returns-clause-few : goal.returns-clause-few
 returns-clause-few c = is_few c.args.text.now c.read.result c.read.ensures

@@ -1,4 +1,4 @@
-use Rattle.std.proofs.Common.{Bool, List, ℕ, [], cond, sym, subst, ◌∙◌}
+use Rattle.std.proofs.Common.{Bool, [], cond, sym, subst, ◌∙◌}
 use Rattle.bus_outer.specs.Texts.{Adds}
 use Rattle.bus_picture.specs.Rows.{pile_text}
 use Rattle.bus_picture.proofs.boxes.put_unshared.Goals as goal

@@ -1,4 +1,4 @@
-use Rattle.std.proofs.Common.{Bool, length, arith, ap, ◌∙◌}
+use Rattle.std.proofs.Common.{Bool, arith, ap, ◌∙◌}
 use Rattle.std.specs.List.{filter}
 use Rattle.std.proofs.lemmas.List.{take_all}
 use Rattle.bus_dump.specs.declared.lane.Lane.{Lane}

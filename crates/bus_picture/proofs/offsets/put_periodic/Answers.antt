@@ -1,4 +1,4 @@
-use Rattle.std.proofs.Common.{ℕ, ◌<◌, subst, sym}
+use Rattle.std.proofs.Common.{ℕ, subst}
 use Rattle.bus_outer.specs.Texts.{Adds}
 use Rattle.bus_picture.specs.Offsets.{ticks_text}
 use Rattle.bus_picture.proofs.offsets.put_periodic.Goals as goal

@@ -1,4 +1,4 @@
-use Rattle.std.proofs.Common.{rules, ◌≡◌, ℕ, ◌-◌, List, length, ap, sym, subst, ◌∙◌, arith}
+use Rattle.std.proofs.Common.{rules, ◌≡◌, ℕ, ◌-◌, List, length, ap, subst, ◌∙◌}
 use Rattle.bus_strings.specs.Messages.{Entry}
 use Rattle.bus_outer.specs.Texts.{Adds}
 use Rattle.bus_dump.specs.declared.lane.Lane.{Lane}

@@ -1,4 +1,4 @@
-use Rattle.std.proofs.Common.{◌≡◌, ◌≤◌, ◌<◌, ◌-◌, ◌+◌, ◌^◌, length, get_or, ap, ◌∙◌, arith}
+use Rattle.std.proofs.Common.{◌≡◌, ◌≤◌, ◌-◌, ◌+◌, length, get_or, ap, arith}
 use Rattle.bus_table.proofs.ValidLaws.{valid_facts}
 use Rattle.bus_regime.proofs.GapPlaces.{first_end, next_end}
 use Rattle.bus_regime.proofs.gaps.gap_from.Goals as goal

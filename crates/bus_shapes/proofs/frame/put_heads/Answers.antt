@@ -1,5 +1,3 @@
-use Rattle.std.proofs.Common.{List, ℕ, ◌++◌, ap, subst}
-use Rattle.bus_outer.specs.Texts.{Adds}
 use Rattle.bus_outer.proofs.TextLaws.{◌▸◌}
 use Rattle.bus_shapes.proofs.frame.put_heads.Goals as goal
 

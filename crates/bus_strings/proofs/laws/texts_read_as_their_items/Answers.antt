@@ -1,10 +1,9 @@
 use Rattle.std.specs.Prelude.{Ok}
-use Rattle.bus_text.specs.Lines.{entries_of, line_after_of}
 use Rattle.bus_strings.proofs.GrammarLemmas.{is_few, is_found, messages_again}
 use Rattle.bus_strings.proofs.laws.texts_read_as_their_items.Goals as goal
 
 pub returns-clause-again : goal.returns-clause-again
-returns-clause-again c = λ text items h. messages_again items (entries_of text) (line_after_of text) h
+returns-clause-again c = λ text items h. messages_again items text h
 
 pub returns-clause-found : goal.returns-clause-found
 returns-clause-found c = λ text items h. is_found text (Ok items) h

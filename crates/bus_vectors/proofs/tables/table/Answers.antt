@@ -1,4 +1,4 @@
-use Rattle.std.proofs.Common.{List, [], ◌∷◌, ◌++◌, sym, ap, ◌∙◌}
+use Rattle.std.proofs.Common.{List, [], ◌∷◌, ◌++◌, ap, ◌∙◌}
 use Rattle.bus_table.specs.Tables.{Listener}
 use Rattle.bus_vectors.specs.Made.{made_cycle, made_senders, made_listener, made_table}
 use Rattle.bus_vectors.proofs.TableLemmas.{table_made, is_some_of, unwrapped}

@@ -5,11 +5,11 @@ use Rattle.bus_strings.specs.Messages.{Entry}
 use Rattle.bus_table.specs.Tables.{Sender}
 use Rattle.bus_text.specs.Lines.{is_feed}
 use Rattle.bus_trace.specs.Traces.{Recording}
-use Rattle.bus_wave.specs.declared.fault.WaveError.{WaveError}
+use Rattle.bus_text.specs.declared.error.TextError.{TextError}
 use Rattle.bus_wave.specs.Counted.{holds_of}
 use Rattle.bus_wave.specs.inside.Drafts.{state_of}
 use Rattle.bus_text.specs.inside.Gives.{LineFails}
-use Rattle.bus_wave.specs.Gives.{Fails}
+use Rattle.bus_text.specs.Gives.{Fails}
 use Rattle.bus_wave.specs.inside.Parts.{fault_at}
 use Rattle.bus_wave.specs.declared.fault.WaveReason.{WaveReason}
 use Rattle.bus_wave.specs.Judging.{State, opening}
@@ -26,7 +26,7 @@ returns-in-Err c =
     let g = subst (λ (r : Result State WaveReason). LineFails c.in-Err.fault r) (judged_read c.in_ok-beginners.beginners.senders.now s h.first c.in-Some.line low h.reads) c.in-Err.ensures.gives in
     let j = subst (λ (ss : List Sender). LineFails c.in-Err.fault (judge ss s h.first)) c.in_ok-beginners.ensures g in
     let f = line_fails table c.loop-line.number s c.loop-line.rest.now h.first c.in-Some.behind.now c.in-Err.fault h.pieces j in
-    subst (λ (e : WaveError). Fails e (pieces_reading table 2 opening (slice_split is_feed c.args.text.now))) (sym c.error_at.ensures)
+    subst (λ (e : TextError WaveReason). Fails e (pieces_reading table 2 opening (slice_split is_feed c.args.text.now))) (sym c.error_at.ensures)
     (subst (λ (r : Result Recording WaveRefusal). Fails (fault_at c.loop-line.number c.in-Err.fault) r) c.loop-line.invariant.left f)
 
 pub loop-line-preserved : goal.loop-line-preserved

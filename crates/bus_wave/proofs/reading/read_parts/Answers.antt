@@ -2,10 +2,11 @@ use Rattle.std.proofs.Common.{sym, subst, ap, ◌∙◌, Result}
 use Rattle.std.specs.List.{slice_split}
 use Rattle.bus_text.specs.AllOf.{◌>>=◌}
 use Rattle.bus_text.specs.Lines.{is_feed}
+use Rattle.bus_text.specs.Refusals.{at_line}
 use Rattle.bus_trace.specs.Traces.{Recording}
 use Rattle.bus_wave.specs.inside.Parts.{PartsGive}
 use Rattle.bus_wave.specs.Judging.{opening}
-use Rattle.bus_wave.specs.Reading.{WaveRefusal, at_line, pieces_reading, text_reading}
+use Rattle.bus_wave.specs.Reading.{WaveRefusal, pieces_reading, text_reading}
 use Rattle.bus_wave.proofs.ReadLemmas.{head_more, one_piece}
 use Rattle.bus_wave.proofs.reading.read_parts.Goals as goal
 

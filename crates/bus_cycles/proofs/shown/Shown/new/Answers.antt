@@ -1,4 +1,4 @@
-use Rattle.std.proofs.Common.{◌≡◌, ◌≤◌, ◌^◌, List, length, filter, arith, subst, sym}
+use Rattle.std.proofs.Common.{◌≡◌, List, length, arith, subst, sym}
 use Rattle.std.specs.List.{AllByRecursion}
 use Rattle.bus_strings.specs.Messages.{Entry}
 use Rattle.bus_strings.specs.Transmissions.{IsAscending}
