@@ -1,6 +1,7 @@
 -- What advices are good for: each works, no number nearer to the one that stands does, and where any number does there is an advice.
 use Rattle.bus_table.specs.declared.mode.Mode.TheVariants.{Aperiodic, Periodic}
-use Rattle.std.specs.Prelude.{◌≡◌, ℕ, suc, ◌+◌, ◌-◌, ◌<◌, ◌≤◌, false, List, Some, IsTrue, slice_get}
+use Rattle.std.specs.Prelude.{◌≡◌, ℕ, suc, ◌+◌, ◌<◌, ◌≤◌, false, List, Some, IsTrue, slice_get}
+use Rattle.std.specs.Int.{abs_diff}
 use Rattle.bus_strings.specs.Members.{In}
 use Rattle.bus_table.specs.Offsets.{with_offsets}
 use Rattle.bus_table.specs.declared.line.SendLine.{SendLine}
@@ -13,13 +14,9 @@ use Rattle.bus_advice.specs.declared.advice.Advice.TheVariants.{Interval, Synchr
 use Rattle.bus_advice.specs.Changes.{with_interval, with_synchronization, with_gap, with_least}
 use Rattle.bus_advice.specs.Advices.{works, advices_of}
 
--- By how much two numbers differ, whichever is greater.
-abbrev pub difference : ℕ → ℕ → ℕ
-difference a b = a - b + (b - a)
-
 -- A number is a smaller change of the table's own than the advised one, in either direction; the table's own is no change at all.
 abbrev pub IsNearer : ℕ → ℕ → ℕ → Type 0
-IsNearer own advised n = difference n own < difference advised own
+IsNearer own advised n = abs_diff n own < abs_diff advised own
 
 -- The table works with the advised number in place of its own, and with no nearer number, greater or lesser.
 pub record IsNearest (change : ℕ → Table) (own advised : ℕ) : Type 0 where

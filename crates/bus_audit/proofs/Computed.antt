@@ -14,7 +14,7 @@ use Rattle.bus_trace.specs.Traces.{Recording, IsTrace, IsBelow}
 use Rattle.bus_audit.specs.declared.answer.BreachKind.{BreachKind}
 use Rattle.bus_audit.specs.declared.answer.AuditAnswer.{AuditAnswer}
 use Rattle.bus_audit.specs.declared.answer.AuditAnswer.TheVariants.{Lawful, Breach}
-use Rattle.bus_audit.specs.Breaches.{collided, kind_at, IsCleanTo, IsAnswer, breach_at, first_at, first_before, answer_of, TheAnswer}
+use Rattle.bus_audit.specs.Breaches.{garbled_count, kind_at, IsCleanTo, IsAnswer, breach_at, first_at, first_before, answer_of, TheAnswer}
 use Rattle.bus_audit.specs.Meaning.{LawfulIsRight}
 use Rattle.bus_audit.proofs.Once.{one_answer}
 use Rattle.bus_audit.proofs.Meanings.{no_breach_is_right}
@@ -150,7 +150,7 @@ before_cases table trace (suc t) d valid tr =
 pub the_answer : TestDecides → TheAnswer
 unfolding answer_of
 the_answer d table trace valid tr =
-    let count : AuditAnswer = Lawful (collided trace.list) in
+    let count : AuditAnswer = Lawful (garbled_count trace.list) in
     elim (before_cases table trace trace.horizon d valid tr) [
       | inl none ↦ subst (IsAnswer table trace) (sym (ap (λ o. unwrap_or o count) none.is)) (none.all, refl)
       | inr some ↦ subst (IsAnswer table trace) (sym (ap (λ o. unwrap_or o count) some.is)) (record { below = some.below; here = some.here; first = some.first })
@@ -160,7 +160,7 @@ the_answer d table trace valid tr =
 pub lawful_is_right : TestDecides → LawfulIsRight
 lawful_is_right d table trace valid tr =
     let both = no_breach_is_right d table trace valid tr in
-    let count : ℕ = collided trace.list in (
+    let count : ℕ = garbled_count trace.list in (
       (λ p. both.0 (subst (IsAnswer table trace) p.1 (the_answer d table trace valid tr)).0),
       (λ right. (count, one_answer table trace (answer_of table trace) (Lawful count) (the_answer d table trace valid tr) (both.1 right, refl))),
     )

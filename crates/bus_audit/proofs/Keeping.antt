@@ -5,6 +5,7 @@ use Rattle.std.proofs.lemmas.Bool.{cases_lt, cases_eq, lt-ltb, le-ltb, le-leb, l
 use Rattle.std.proofs.lemmas.List.{length-map, map-set}
 use Rattle.std.proofs.lemmas.Option.{slice_get_within}
 use Rattle.bus_strings.proofs.ListLaws.{some_at}
+use Rattle.bus_outer.specs.Faults.{last_u64}
 use Rattle.bus_medium.specs.Jumps.{Each}
 use Rattle.bus_medium.proofs.Seats.{get_set_same, get_set_other, same_some, map_at}
 use Rattle.bus_audit.specs.declared.watch.Watch.{Watch}
@@ -62,7 +63,7 @@ soon_all h first ks i so past early j w at left =
 
 -- ---- those that tell exactly
 pub soon_left : (w : Watch) → 0 < w.left → soon_of w ≡ 256 * ready w + w.number
-soon_left w left = elim (eqb w.left 0) as (λ b. (eqb w.left 0 ≡ b) → cond b 18446744073709551615 (256 * ready w + w.number) ≡ 256 * ready w + w.number) [
+soon_left w left = elim (eqb w.left 0) as (λ b. (eqb w.left 0 ≡ b) → cond b last_u64 (256 * ready w + w.number) ≡ 256 * ready w + w.number) [
   | true ↦ λ e. absurd (let z : w.left ≡ 0 = eqb-true w.left 0 e in omega arith)
   | false ↦ λ e. refl
 ] refl

@@ -80,12 +80,12 @@ abbrev pub HasNoBreach : Table → Recording → Type 0
 HasNoBreach table trace = IsCleanTo table trace trace.horizon 0
 
 -- How many transmissions are garbled.
-abbrev pub collided : List Entry → ℕ
-collided list = count_by (λ mark. mark) (marks list)
+abbrev pub garbled_count : List Entry → ℕ
+garbled_count list = count_by (λ mark. mark) (marks list)
 
 -- The answer names the first breach; or there is none, and it counts the garbled entries.
 abbrev pub IsAnswer : Table → Recording → AuditAnswer → Type 0
-IsAnswer table trace (Lawful count) = HasNoBreach table trace × (count ≡ collided trace.list)
+IsAnswer table trace (Lawful count) = HasNoBreach table trace × (count ≡ garbled_count trace.list)
 IsAnswer table trace (Breach moment terminal kind) = IsFirstBreach table trace moment terminal kind
 
 -- There is one answer at most.
@@ -109,7 +109,7 @@ first_before table trace (suc t) = option_or (first_before table trace t) (first
 
 -- The answer for a trace.
 unfoldable pub answer_of : Table → Recording → AuditAnswer
-answer_of table trace = unwrap_or (first_before table trace trace.horizon) (Lawful (collided trace.list))
+answer_of table trace = unwrap_or (first_before table trace trace.horizon) (Lawful (garbled_count trace.list))
 
 -- It is the answer.
 abbrev pub TheAnswer : Type 0

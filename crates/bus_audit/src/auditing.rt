@@ -1,7 +1,7 @@
 //! The audit of a trace against a table.
 ghost use Rattle.std.specs.Prelude.{◌≡◌, IfOk};
 ghost use Rattle.bus_strings.specs.Transmissions.{IsAscending};
-ghost use Rattle.bus_audit.specs.Breaches.{IsAnswer, answer_of, collided};
+ghost use Rattle.bus_audit.specs.Breaches.{IsAnswer, answer_of, garbled_count};
 
 use crate::answer::AuditAnswer;
 use crate::keep::keep_all;
@@ -14,10 +14,10 @@ use bus_table::Table;
 use bus_trace::Trace;
 use std::alloc::{AllocError, Global};
 
-/// How many transmissions of a list are garbled.
-fn count_garbled(list: &[Transmission]) -> u64
+/// How many transmissions of a list are garbled. The list has to ascend by moment and, at the same moment, by terminal.
+pub fn count_garbled(list: &[Transmission]) -> u64
     requires { IsAscending list.now }
-    ensures { result ≡ collided list.now }
+    ensures { result ≡ garbled_count list.now }
 {
     neighbours_tell();
     let _count = list.len();

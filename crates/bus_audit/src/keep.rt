@@ -4,7 +4,7 @@ ghost use Rattle.bus_audit.specs.inside.Watches as sums;
 ghost use Rattle.bus_audit.specs.inside.Watches.{IsLow};
 ghost use Rattle.bus_audit.specs.inside.Keeping.{keep_of, soon_of, watch_of, gap_behind};
 
-use crate::watch::{Watch, begun, ready};
+use crate::watch::{Watch, begun, pair, ready};
 use std::alloc::{AllocError, Global};
 
 /// What all senders have heard alike. Places are moments counted from the beginning of the past.
@@ -41,7 +41,7 @@ fn soon_of(watch: Watch) -> u64
     if watch.left == 0 {
         u64::MAX
     } else {
-        256 * ready(watch) + u64::from(watch.number)
+        pair(ready(watch), watch.number)
     }
 }
 

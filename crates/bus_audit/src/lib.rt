@@ -28,5 +28,5 @@ mod walk;
 mod watch;
 
 pub use answer::{AuditAnswer, BreachKind};
-pub use auditing::audit;
+pub use auditing::{audit, count_garbled};
 pub use line::{put_answer, write_answer};

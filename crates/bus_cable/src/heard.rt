@@ -13,7 +13,7 @@ ghost use Rattle.bus_cable.specs.inside.Ranks.{marked_put, heard_put, sender_hea
 ghost use Rattle.bus_propagation.specs.Numbered.{numbered};
 
 use crate::cable::Cable;
-use crate::hearing::{Heard, begins_before, first_heard, hear, look_at, passed};
+use crate::hearing::{Heard, begins_before, first_heard, hear, look_at, passed, rank_of};
 use crate::spots::spots;
 use bus_outer::{Sink, TextBuffer, WriteFault};
 use bus_strings::Transmission;
@@ -70,7 +70,7 @@ fn put_hearings<K: Sink>(
     let mut latest = 0;
     for _ in 0..list.len() {
         let heard = hear(places, number, &list[at]);
-        let bound = heard.moment * 256 + u64::from(heard.terminal) + 1;
+        let bound = rank_of(heard.moment, heard.terminal) + 1;
         from = passed(list, places, number, from, bound);
         at = first_heard(list, places, number, from, bound);
         let next = begins_before(list, places, number, at, heard.end);

@@ -7,7 +7,7 @@ ghost use Rattle.bus_strings.specs.Limits.{horizon_limit};
 ghost use Rattle.bus_strings.specs.Transmissions.{IsTransmission, IsByMoment};
 ghost use Rattle.bus_medium.specs.Delays.{cable, later, heard};
 ghost use Rattle.bus_propagation.specs.Numbered.{most_place};
-ghost use Rattle.bus_cable.specs.inside.Ranks.{heard_as, rank, rank_in, IsFirst};
+ghost use Rattle.bus_cable.specs.inside.Ranks.{heard_as, rank, rank_in, rank_of, IsFirst};
 ghost use Rattle.bus_propagation.specs.Numbered.{numbered};
 
 use bus_propagation::{distance, number_of};
@@ -40,7 +40,15 @@ pub(crate) fn hear(places: &[u64], number: u8, x: &Transmission) -> Heard
     }
 }
 
-/// The rank of a transmission as the terminal `number` hears it: what is heard first has the least.
+/// The rank of a moment and a terminal: of what is heard, the first has the least.
+pub(crate) fn rank_of(moment: u64, terminal: u8) -> u64
+    requires { moment < 2 ^ 48 }
+    ensures { result ≡ rank_of moment terminal }
+{
+    256 * moment + u64::from(terminal)
+}
+
+/// The rank of a transmission as the terminal `number` hears it.
 fn rank(places: &[u64], number: u8, x: &Transmission) -> u64
     requires { (n : ℕ) → numbered places.now n ≤ most_place }
     ensures value { result ≡ rank (later (cable (numbered places.now) x.now number) x.now) }
@@ -48,7 +56,7 @@ fn rank(places: &[u64], number: u8, x: &Transmission) -> u64
     ensures from { 256 * x.now.moment ≤ result }
 {
     let heard = hear(places, number, x);
-    heard.moment * 256 + u64::from(heard.terminal)
+    rank_of(heard.moment, heard.terminal)
 }
 
 /// The first place from `from` on whose rank is at least `bound`.

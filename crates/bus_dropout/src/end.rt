@@ -11,7 +11,7 @@ ghost use Rattle.bus_dropout.specs.DropOut.{drop_end};
 
 use crate::left::most_messages;
 use bus_schedule::laws::live_rounds;
-use bus_schedule::{LONGEST_END, ScheduleError};
+use bus_schedule::{ScheduleError, within_limit};
 use bus_strings::bits;
 use bus_table::{Hand, Sender, Table};
 
@@ -60,16 +60,12 @@ pub fn drop_end(table: &Table, hands: &[Hand]) -> u128
     end
 }
 
-/// The end, unless it is above [`LONGEST_END`].
+/// The end, unless it is above [`bus_schedule::LONGEST_END`].
 pub(crate) fn limited_end(table: &Table, hands: &[Hand]) -> Result<u64, ScheduleError>
     requires aperiodic { table.now.mode ≡ Aperiodic }
     requires hands { IsTrue (are_hands table.now.senders hands.now) }
     ensures end { IfOk result (λ end. end ≡ drop_end table.now hands.now) }
     ensures limit { IsLimited (drop_end table.now hands.now) result }
 {
-    let end = drop_end(table, hands);
-    if end > u128::from(LONGEST_END) {
-        return Err(ScheduleError::TooLong { end });
-    }
-    Ok(end as u64)
+    within_limit(drop_end(table, hands))
 }

@@ -1,6 +1,7 @@
 -- What terminals hear of a list of transmissions where the cable has length: each hears a transmission later than it is sent, by a number
 -- of bit times that may be another for each terminal and for each transmission, and need not be the same the other way round.
-use Rattle.std.specs.Prelude.{◌≡◌, ℕ, ◌+◌, ◌-◌, ◌≤◌, List, map}
+use Rattle.std.specs.Prelude.{◌≡◌, ℕ, ◌+◌, ◌≤◌, List, map}
+use Rattle.std.specs.Int.{abs_diff}
 use Rattle.bus_strings.specs.Messages.{Entry}
 use Rattle.bus_strings.specs.Transmissions.{end_of}
 
@@ -31,7 +32,7 @@ heard_end delay x number = end_of x + delay x number
 
 -- How far two places on a straight cable are apart, each counted in bit times from its beginning.
 abbrev pub distance : ℕ → ℕ → ℕ
-distance a b = a - b + (b - a)
+distance a b = abs_diff a b
 
 -- The delays of terminals at these places of a straight cable: the distance between two of them.
 abbrev pub cable : (ℕ → ℕ) → Delays

@@ -12,7 +12,7 @@ use Rattle.bus_table.proofs.TurnLaws.{from_sort, in_sort, order_rises, behind_ri
 use Rattle.bus_table.proofs.ValidLaws.{valid_facts}
 use Rattle.bus_medium.proofs.PastLaws.{same_bools}
 use Rattle.bus_reach.proofs.Modes.{in_aperiodic}
-use Rattle.bus_reach.specs.Laws.{NeighboursTell}
+use Rattle.bus_reach.specs.Laws.{NeighboursTellBearing}
 use Rattle.bus_reach.specs.Tolerance.{is_apart, leaves_room, no_less, stand_apart, neighbours_leave_room}
 use Rattle.bus_reach.proofs.SpreadLemmas.{LeavesRoom, room_left}
 
@@ -89,8 +89,8 @@ or_second gap d b h = elim (cases_lt gap b.tg) [
     or_right true b p = refl
     or_right false b p = p
 
-pub neighbours_tell : NeighboursTell
-neighbours_tell table d valid mode =
+pub neighbours_tell_bearing : NeighboursTellBearing
+neighbours_tell_bearing table d valid mode =
     in_aperiodic table d mode
     ∙ ap (λ v. (length table.senders == 1) || v)
     (same_bools (list_all (leaves_room d table.sg table.senders) table.senders) (neighbours_leave_room d table.sg (turn_order table))

@@ -105,7 +105,7 @@ JoinersComeSoon =
     → x.moment < wake sender.number + 2 * (most_cycle table + cycle_delay table most)
 
 -- What a table bears is told by neighbours in turn order.
-abbrev pub NeighboursTell : Type 0
-NeighboursTell =
+abbrev pub NeighboursTellBearing : Type 0
+NeighboursTellBearing =
     (table : Table) (d : ℕ) → IsTrue (is_valid table) → table.mode ≡ Aperiodic
     → bears table d ≡ ((length table.senders == 1) || neighbours_leave_room d table.sg (turn_order table))

@@ -1,7 +1,7 @@
 //! Laws of the definitions, each the contract of a function that does nothing.
 ghost use Rattle.bus_medium.specs.CableLaws.{NoDelayIsTheBus, OneCableListOfATable};
 ghost use Rattle.bus_reach.specs.Laws.{BorneIsClosed, BorneIsKept, NoDelayIsClosed, ShorterIsBorne, ToleranceIsExact, ZeroIsBorne};
-ghost use Rattle.bus_reach.specs.Laws.{JoinersComeSoon, JoiningIsOrderly, MembersStay, NeighboursTell};
+ghost use Rattle.bus_reach.specs.Laws.{JoinersComeSoon, JoiningIsOrderly, MembersStay, NeighboursTellBearing};
 ghost use Rattle.bus_reach.specs.Settling.{AnyStartSettles, LongHandsLast, StartsItselfIsAccepted};
 ghost use Rattle.bus_reach.specs.PeriodicLaws.{AcceptedBearZero, BearZeroIsAccepted, BorneForLess, CablesDelay};
 ghost use Rattle.bus_reach.specs.PeriodicLaws.{PeriodicBearingIsExact, PeriodicBorneIsClosed, PeriodicNotBorneBreaks};
@@ -34,8 +34,8 @@ pub fn borne_is_closed()
 {}
 
 /// What a table bears is told by the neighbours in turn order, with the synchronization gap behind the last.
-pub fn neighbours_tell()
-    ensures { NeighboursTell }
+pub fn neighbours_tell_bearing()
+    ensures { NeighboursTellBearing }
 {}
 
 /// No greater delays are borne: there are places on a straight cable and wakes with which the closed schedule isn't what the
@@ -65,10 +65,11 @@ pub fn joining_is_orderly()
     ensures soon { JoinersComeSoon }
 {}
 
-/// A bus without a master stabilizes itself: whenever the senders of a table that starts itself were powered up, and whatever they
-/// sent at once until then, from a moment on what they send is rounds in turn order, with nothing missing and no two at once
-/// (`specs/Settling.antt`). That moment comes at most a longest cycle and a synchronization gap behind the last power-up, and from the
-/// last power-up until then each of them begins one message at most. Such a table is accepted.
+/// A bus without a master stabilizes itself. Without delays, whenever the senders of an aperiodic table that starts itself were powered
+/// up, and whatever they sent at once until then: as long as their hands have messages left, from a moment on what they send is rounds
+/// in turn order, with nothing missing and no two at once (`specs/Settling.antt`). That moment comes at most a longest cycle and a
+/// synchronization gap behind the last power-up, and from the last power-up until then each of them begins one message at most. Hands
+/// with as many messages as there are bit times before the horizon have some left. Such a table is accepted.
 pub fn any_start_settles()
     ensures settles { AnyStartSettles }
     ensures long { LongHandsLast }

@@ -32,7 +32,7 @@ use Rattle.bus_regime.specs.Verdicts.{least_cycle, most_cycle, verdict_of}
 use Rattle.bus_regime.proofs.VerdictLaws.{accepted_cycle, aperiodic_numbers, periodic_numbers}
 use Rattle.bus_schedule.specs.Even.{messages_of, rounds, are_even}
 use Rattle.bus_schedule.specs.Closed.{sends, turns, turns_end, origin, offset_turns, in_rounds, gap_schedule, offset_schedule, schedule_in, closed, closed_end}
-use Rattle.bus_schedule.specs.Runs.{IsClear, IsInTurns, IsApart, IsSpaced}
+use Rattle.bus_schedule.specs.Runs.{IsClear, IsInTurns, IsApart, IsPaced}
 use Rattle.bus_schedule.specs.Laws.{AcceptedIsClosed, BorneGapsAreClosed, ClosedIsOrderly, EvenRoundsAreClosed}
 use Rattle.bus_schedule.specs.Live.{AreLong}
 use Rattle.bus_schedule.proofs.Ascending.{offset_schedule_ascends}
@@ -200,21 +200,21 @@ module _ (table : Table) (hands : List Hand) (setting : Setting table (messages_
         no_later = omega arith;
       }
 
-  spaced_in : (own : Mode) → table.mode ≡ own → (mode : Mode) (least most k : ℕ) (x y : Entry) → verdict_of table ≡ Accept mode least most
+  paced_in : (own : Mode) → table.mode ≡ own → (mode : Mode) (least most k : ℕ) (x y : Entry) → verdict_of table ≡ Accept mode least most
       → slice_get (schedule_in own table (messages_of hands) (rounds hands)) k ≡ Some x
       → slice_get (schedule_in own table (messages_of hands) (rounds hands)) (k + length table.senders) ≡ Some y → IsApart least most x y
   unfolding has_rounds
-  spaced_in Aperiodic is mode least most k x y accepted at_x at_y =
+  paced_in Aperiodic is mode least most k x y accepted at_x at_y =
       let w : AreNext Aperiodic k x y = are_next Aperiodic k x y at_x at_y in
       let numbers = aperiodic_numbers table mode least most is accepted in
       subst (λ n. IsApart n most x y) (sym numbers.0) (subst (λ n. IsApart (least_cycle table) n x y) (sym numbers.1) (gap_turns_apart w.round w.turn x y w.more w.first w.second))
-  spaced_in Periodic is mode least most k x y accepted at_x at_y =
+  paced_in Periodic is mode least most k x y accepted at_x at_y =
       let w : AreNext Periodic k x y = are_next Periodic k x y at_x at_y in
       let numbers = periodic_numbers table mode least most is accepted in
       subst (λ n. IsApart n most x y) (sym numbers.0) (subst (λ n. IsApart table.ti n x y) (sym numbers.1) (offset_turns_apart w.round w.turn x y w.first w.second))
 
-  closed_spaced : IsSpaced table (closed table hands)
-  closed_spaced = record { apart = λ mode least most k x y accepted at_x at_y. spaced_in table.mode refl mode least most k x y accepted at_x at_y }
+  closed_paced : IsPaced table (closed table hands)
+  closed_paced = record { apart = λ mode least most k x y accepted at_x at_y. paced_in table.mode refl mode least most k x y accepted at_x at_y }
 
 -- the closed schedule, accepted or not
 pub closed_is_orderly : ClosedIsOrderly
@@ -244,7 +244,7 @@ accepted_is_closed once table hands valid accepted even =
       only = λ other law. once (quiet_of table) (stations_of table hands) (closed_end table hands) other (closed table hands) own law lawful;
       clear = run.clear;
       turns = closed_in_turns table hands setting;
-      spaced = closed_spaced table hands setting;
+      paced = closed_paced table hands setting;
     }
   where
     run_in : Setting table (messages_of hands) (rounds hands) → (mode : Mode) → table.mode ≡ mode
@@ -281,5 +281,5 @@ borne_gaps_are_closed table hands most delay valid mode accepted even delays bor
       only = λ other law. cable_once (quiet_of table) delay awake (stations_of table hands) (closed_end table hands) other (closed table hands) own law lawful;
       clear = λ far number. subst (λ l. IsClear (heard delay number l)) (sym is) (h.clear far number);
       turns = closed_in_turns table hands setting;
-      spaced = closed_spaced table hands setting;
+      paced = closed_paced table hands setting;
     }

@@ -7,7 +7,7 @@ use Rattle.bus_medium.specs.Delays.{Delays, heard}
 use Rattle.bus_medium.specs.Timings.{quiet_of, stations_of}
 use Rattle.bus_medium.specs.Wakes.{settled}
 use Rattle.bus_schedule.specs.Closed.{closed, closed_end}
-use Rattle.bus_schedule.specs.Runs.{IsClear, IsInTurns, IsSpaced}
+use Rattle.bus_schedule.specs.Runs.{IsClear, IsInTurns, IsPaced}
 
 -- The list is the run of a table and even hands with these delays, which are up to `most`:
 --   closed    it is the closed schedule without delays, in whole
@@ -16,7 +16,7 @@ use Rattle.bus_schedule.specs.Runs.{IsClear, IsInTurns, IsSpaced}
 --   clear     no terminal, sender or listener, hears two transmissions overlap; with one sender alone, where no delay is above the
 --             synchronization gap
 --   turns     every cycle holds each sender once, in turn order
---   spaced    successive starts of a sender are one transmit interval apart
+--   paced     successive starts of a sender are one transmit interval apart
 pub record IsRunOnCable (table : Table) (hands : List Hand) (most : ℕ) (delay : Delays) (list : List Entry) : Type 0 where
   pub closed : list ≡ closed table hands
   pub lawful : IsLawfulOnCable (quiet_of table) delay settled (stations_of table hands) (closed_end table hands) list
@@ -24,4 +24,4 @@ pub record IsRunOnCable (table : Table) (hands : List Hand) (most : ℕ) (delay 
       → other ≡ list
   pub clear : (1 < length table.senders) ⊎ (most ≤ table.sg) → (number : ℕ) → IsClear (heard delay number list)
   pub turns : IsInTurns table hands list
-  pub spaced : IsSpaced table list
+  pub paced : IsPaced table list

@@ -36,7 +36,7 @@ pub record IsApart (least most : ℕ) (x y : Entry) : Type 0 where
 
 -- Two successive starts of one sender are as far apart as the numbers say with which the verdict accepts the table: in periodic mode
 -- exactly one transmit interval.
-pub record IsSpaced (table : Table) (list : List Entry) : Type 0 where
+pub record IsPaced (table : Table) (list : List Entry) : Type 0 where
   pub apart : (mode : Mode) (least most k : ℕ) (x y : Entry) → verdict_of table ≡ Accept mode least most → slice_get list k ≡ Some x
       → slice_get list (k + length table.senders) ≡ Some y → IsApart least most x y
 
@@ -50,11 +50,11 @@ HaveMoved {C} core n bus = (k : ℕ) (seat : Seat C) → slice_get bus.seats k �
 --   only      no other list is lawful up to there
 --   clear     no two transmissions overlap
 --   turns     every cycle holds each sender once, in turn order
---   spaced    successive starts of a sender are as far apart as the verdict says
+--   paced     successive starts of a sender are as far apart as the verdict says
 pub record IsRun (table : Table) (hands : List Hand) (list : List Entry) : Type 0 where
   pub closed : list ≡ closed table hands
   pub lawful : IsLawful (quiet_of table) (stations_of table hands) (closed_end table hands) list
   pub only : (other : List Entry) → IsLawful (quiet_of table) (stations_of table hands) (closed_end table hands) other → other ≡ list
   pub clear : IsClear list
   pub turns : IsInTurns table hands list
-  pub spaced : IsSpaced table list
+  pub paced : IsPaced table list

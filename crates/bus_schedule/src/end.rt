@@ -95,15 +95,22 @@ pub fn closed_end(table: &Table, hands: &[Hand]) -> u128
     }
 }
 
+/// The end of a schedule, unless it is above [`LONGEST_END`].
+pub fn within_limit(end: u128) -> Result<u64, ScheduleError>
+    ensures same { IfOk result (λ given. given ≡ end) }
+    ensures limit { IsLimited end result }
+{
+    if end > u128::from(LONGEST_END) {
+        return Err(ScheduleError::TooLong { end });
+    }
+    Ok(end as u64)
+}
+
 /// The closed end, unless it is above [`LONGEST_END`].
 pub(crate) fn limited_end(table: &Table, hands: &[Hand]) -> Result<u64, ScheduleError>
     requires even { IsTrue (are_even table.now hands.now) }
     ensures end { IfOk result (λ end. end ≡ closed_end table.now hands.now) }
     ensures limit { IsLimited (closed_end table.now hands.now) result }
 {
-    let end = closed_end(table, hands);
-    if end > u128::from(LONGEST_END) {
-        return Err(ScheduleError::TooLong { end });
-    }
-    Ok(end as u64)
+    within_limit(closed_end(table, hands))
 }

@@ -8,7 +8,7 @@
 //!
 //! - [`find_uneven`] tells whether the hands of a table are even. All else asks that they are.
 //! - [`closed_end`] is the moment at which the closed schedule ends, and [`closed`] its list, which is given where it
-//!   ends at [`LONGEST_END`] or before (`specs/Limits.antt`).
+//!   ends at [`LONGEST_END`] or before (`specs/Limits.antt`), which [`within_limit`] asks.
 //! - [`run_settled`] observes the bus up to the closed end, over any [`bus_timers::JumpCore`]. What a run is stands in
 //!   `specs/Runs.antt`: the closed schedule in whole, the one lawful list, without overlaps, each sender once a cycle.
 //! - [`laws`] has what holds of closed schedules of any length: with them, the verdict accepts exactly the settled tables
@@ -30,7 +30,7 @@ mod run;
 mod schedule;
 mod uneven;
 
-pub use end::closed_end;
+pub use end::{closed_end, within_limit};
 pub use error::{LONGEST_END, ScheduleError};
 pub use run::{Ran, run_settled};
 pub use schedule::closed;

@@ -25,7 +25,8 @@ use Rattle.bus_tool.specs.declared.drill.DrillFigures.{DrillFigures}
 use Rattle.bus_tool.specs.Refusals.{Outcome}
 use Rattle.bus_command.specs.declared.outcome.Outcome.TheVariants.{NoMemory}
 use Rattle.bus_tool.specs.inside.Refused.{schedule_refusal}
-use Rattle.bus_tool.specs.Drills.{drill_hands, drill_list, garbled_count, figures, drill_line}
+use Rattle.bus_audit.specs.Breaches.{garbled_count}
+use Rattle.bus_tool.specs.Drills.{drill_hands, drill_list, figures, drill_line}
 use Rattle.bus_tool.specs.inside.Drilled.{IsDrilled, line_of}
 use Rattle.bus_tool.specs.DrillLaws.{IsDrillable, DrillsAreAccepted}
 use Rattle.bus_command.proofs.LawTypes.{FittingItemsGiveHands}

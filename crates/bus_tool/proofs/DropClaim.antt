@@ -18,7 +18,7 @@ use Rattle.bus_tool.specs.DropClaims.{IsDropOf, IsTheDrop, GivesDrop}
 use Rattle.bus_tool.specs.Due.{last_due, may_drop}
 use Rattle.bus_tool.specs.Forms.{Drop}
 use Rattle.bus_tool.specs.Refusals.{Outcome, status_of, refuse, NotAccepted}
-use Rattle.bus_tool.specs.Texts.{IsObserved, IsMessagesText}
+use Rattle.bus_tool.specs.Texts.{IsObserved, IsMessagesAnswerText}
 use Rattle.bus_tool.proofs.AnswerLaws.{done_with, long_last}
 use Rattle.bus_tool.proofs.DropLemmas.{can_be_dropped}
 use Rattle.bus_tool.proofs.EntryLemmas.{observed_recording}
@@ -30,7 +30,7 @@ may_be_dropped table hands accepted long =
     ∙ long_last (last_cycle table hands) table.ti long
 
 the_drop : FittingItemsGiveHands → (table : Table) (items : List Item) (call : Call) (text : List ℕ) → IsDropOf table items call
-    → IsMessagesText Drop table (hands_of table items) text → IsTheDrop table (hands_of table items) text
+    → IsMessagesAnswerText Drop table (hands_of table items) text → IsTheDrop table (hands_of table items) text
 the_drop give table items call text told h =
     let dealt = give table items told.call_is.table_told.valid (subst IsOk (sym told.call_is.items_told.fit) refl) in
     let observed : IsObserved table (hands_of table items) (drop_end table (hands_of table items)) h.recording = record { horizon = h.ran.horizon; holds = h.ran.holds; lawful = h.ran.run.lawful } in

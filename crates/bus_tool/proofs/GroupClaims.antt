@@ -21,7 +21,7 @@ use Rattle.bus_tool.specs.inside.Acting.{IsOfMode}
 use Rattle.bus_tool.specs.Due.{table_for, refusal_for, table_answer, messages_answer, inputs_answer, trace_answer, traced_answer}
 use Rattle.bus_tool.specs.Forms.{OnTable, OnMessages, OnTrace, TableCommand, MessagesCommand, TraceCommand, form_of, table_mode, messages_mode}
 use Rattle.bus_tool.specs.Refusals.{Outcome, ToolRefusal, ends_of, status_of}
-use Rattle.bus_tool.specs.Texts.{table_answer_text, IsTableText, IsMessagesText, IsInputsText, trace_answer_text, IsTracedText}
+use Rattle.bus_tool.specs.Texts.{table_answer_text, IsTableAnswerText, IsMessagesAnswerText, IsInputsText, trace_answer_text, IsTracedText}
 use Rattle.bus_tool.proofs.AnswerLaws.{table_answered}
 use Rattle.bus_tool.proofs.ModeLemmas.{told_for}
 
@@ -40,7 +40,7 @@ table_comes laws command word call outcome table IsText words mode shows acts h 
     let first = h.table_told.text in
     let due : table_for (table_mode command) first ≡ Ok table =
     told_for (table_mode command) table first mode (table_told {R = ToolRefusal} laws.table_again table call.before.sources.first h.table_told) in
-    claimed ends_of (table_answer command) (IsTableText command) (one_source entire) (refusal_for (table_mode command)) (λ a b. table_for (table_mode command) a)
+    claimed ends_of (table_answer command) (IsTableAnswerText command) (one_source entire) (refusal_for (table_mode command)) (λ a b. table_for (table_mode command) a)
     first [] table IsText call outcome (at_one entire call.before.sources first h.table_told.told) due (table_answered command table) shows
     (does_of tool_program call outcome (OnTable command) (ap form_of h.form.form ∙ words h.form.path) acts) h.undisturbed
 
@@ -49,7 +49,7 @@ pub messages_comes : ReadLaws → (command : MessagesCommand) (word : List ℕ) 
     (items : List Item) (IsText : List ℕ → Type 0)
     → ((a b : List ℕ) → form_of (word ∷ a ∷ b ∷ further) ≡ Some (OnMessages command)) → IsOfMode (messages_mode command) table
     → kind_of (messages_answer command table (hands_of table items)) ≡ Answer
-    → ((text : List ℕ) → IsMessagesText command table (hands_of table items) text → IsText text) → Acts call outcome → IsOfItems word further table items call
+    → ((text : List ℕ) → IsMessagesAnswerText command table (hands_of table items) text → IsText text) → Acts call outcome → IsOfItems word further table items call
     → Answers (status_of (messages_answer command table (hands_of table items))) IsText call (status_of outcome)
 messages_comes laws command word further call outcome table items IsText words mode answer_is shows acts h =
     let first = h.table_told.text in

@@ -17,12 +17,12 @@ use Rattle.bus_command.proofs.DoLaws.{Agrees}
 use Rattle.bus_tool.specs.Due.{refusal_for, table_for, table_answer, messages_answer, inputs_answer, trace_answer, traced_answer, unwave_answer}
 use Rattle.bus_tool.specs.Forms.{TableCommand, MessagesCommand, TraceCommand}
 use Rattle.bus_tool.specs.Refusals.{Outcome}
-use Rattle.bus_tool.specs.Texts.{table_answer_text, IsTableText, IsMessagesText, IsInputsText, trace_answer_text, IsTracedText, IsUnwavedText}
+use Rattle.bus_tool.specs.Texts.{table_answer_text, IsTableAnswerText, IsMessagesAnswerText, IsInputsText, trace_answer_text, IsTracedText, IsUnwavedText}
 use Rattle.bus_tool.proofs.AnswerLaws.{messages_late}
 use Rattle.bus_tool.proofs.TraceAnswers.{trace_late}
 
 pub table_agrees : (command : TableCommand) (table : Table)
-    → Agrees Same (table_answer command) (IsTableText command) table (table_answer command table) (λ text. text ≡ table_answer_text command table)
+    → Agrees Same (table_answer command) (IsTableAnswerText command) table (table_answer command table) (λ text. text ≡ table_answer_text command table)
 table_agrees command table = record {
   answers = λ y same. ap (table_answer command) (sym same);
   texts = λ y same text is. is ∙ ap (table_answer_text command) same;
@@ -33,10 +33,10 @@ inputs_late command inputs = messages_late command inputs.table (hands_in inputs
 
 pub inputs_agree : (command : MessagesCommand) (dealt : Dealt)
     → Agrees AreInputs (inputs_answer command) (IsInputsText command) dealt (messages_answer command dealt.table dealt.hands.items)
-    (IsMessagesText command dealt.table dealt.hands.items)
+    (IsMessagesAnswerText command dealt.table dealt.hands.items)
 inputs_agree command dealt = record {
   answers = λ inputs are. ap (messages_answer command inputs.table) (sym are.hands) ∙ ap (λ t. messages_answer command t dealt.hands.items) (sym are.table);
-  texts = λ inputs are text is. subst (λ t. IsMessagesText command t (hands_in inputs) text) are.table (subst (λ h. IsMessagesText command dealt.table h text) are.hands is);
+  texts = λ inputs are text is. subst (λ t. IsMessagesAnswerText command t (hands_in inputs) text) are.table (subst (λ h. IsMessagesAnswerText command dealt.table h text) are.hands is);
 }
 
 pub traced_late : (command : TraceCommand) (traced : Traced) → 2 ≤ stage_of (kind_of (traced_answer command traced))

@@ -24,7 +24,7 @@ use Rattle.bus_tool.specs.Due.{even_due, accepted_due, may_run, can_run}
 use Rattle.bus_tool.specs.Forms.{Run}
 use Rattle.bus_tool.specs.Refusals.{Outcome, status_of, refuse, NotAccepted}
 use Rattle.bus_tool.specs.RunClaims.{AreEvenItems, IsRunOf, IsTheRun, GivesRun}
-use Rattle.bus_tool.specs.Texts.{IsObserved, IsMessagesText}
+use Rattle.bus_tool.specs.Texts.{IsObserved, IsMessagesAnswerText}
 use Rattle.bus_tool.proofs.AnswerLaws.{done_with}
 use Rattle.bus_tool.proofs.EntryLemmas.{observed_recording}
 use Rattle.bus_tool.proofs.GroupClaims.{ReadLaws, messages_comes}
@@ -71,7 +71,7 @@ is_run give agree table items call h =
 
 -- ---- the claim
 the_run : FittingItemsGiveHands → (table : Table) (items : List Item) (call : Call) (text : List ℕ) → IsRunOf table items call
-    → IsMessagesText Run table (hands_of table items) text → IsTheRun table (hands_of table items) text
+    → IsMessagesAnswerText Run table (hands_of table items) text → IsTheRun table (hands_of table items) text
 the_run give table items call text told h =
     let dealt = give table items told.call_is.table_told.valid (subst IsOk (sym told.call_is.items_told.fit) refl) in
     let observed : IsObserved table (hands_of table items) (closed_end table (hands_of table items)) h.recording = record { horizon = h.ran.horizon; holds = h.ran.holds; lawful = h.ran.run.lawful } in

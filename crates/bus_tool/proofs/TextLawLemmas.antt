@@ -38,7 +38,7 @@ use Rattle.bus_tool.proofs.ExplainLemmas.{size_unwritten}
 use Rattle.bus_tool.specs.Forms.{Form, OnTable, OnMessages, OnTrace, Unwave, Drill, OnItself, Explain, Cable, MessagesCommand, Observe, Run, Drop, form_of, table_mode, messages_mode}
 use Rattle.bus_tool.specs.Refusals.{Outcome, ToolRefusal}
 use Rattle.bus_wave.specs.Counted.{hand_holds}
-use Rattle.bus_tool.specs.Texts.{IsObserved, IsRunRecording, IsDropRecording, IsInputsText, IsTableText, IsTracedText, IsUnwavedText, IsExplanation}
+use Rattle.bus_tool.specs.Texts.{IsObserved, IsRunRecording, IsDropRecording, IsInputsText, IsTableAnswerText, IsTracedText, IsUnwavedText, IsExplanation}
 use Rattle.bus_tool.specs.Texts.{table_answer_text, trace_answer_text, run_text, IsFormText, IsTextFor}
 use Rattle.bus_tool.specs.TextLaws.{OneCommandText, AnswersHaveTexts}
 use Rattle.bus_tool.proofs.AnswerLaws.{done_with}
@@ -231,7 +231,7 @@ traced_unwritten made stops first second o h = elim (traced_stop made first seco
 
 form_has : TextLaws → (form : Form) (first second : List ℕ) → is_written (form_due form first second) ≡ true → (text : List ℕ) × IsFormText form first second text
 form_has laws (OnTable command) first second h =
-    text_with (table_answer command) (IsTableText command) (table_for (table_mode command) first) (λ o e. mode_unwritten (table_mode command) first o e)
+    text_with (table_answer command) (IsTableAnswerText command) (table_for (table_mode command) first) (λ o e. mode_unwritten (table_mode command) first o e)
     (λ table e k. (table_answer_text command table, refl)) h
 form_has laws (OnMessages command) first second h =
     text_with (inputs_answer command) (IsInputsText command) (inputs_by (table_for (messages_mode command)) first second)

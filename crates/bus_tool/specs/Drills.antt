@@ -1,10 +1,10 @@
 -- What a drill finds: the closed schedule of the input that a number makes, which is accepted.
-use Rattle.std.specs.Prelude.{ℕ, List, ◌++◌, codes, length, count_by, decimal}
+use Rattle.std.specs.Prelude.{ℕ, List, ◌++◌, codes, length, decimal}
 use Rattle.bus_strings.specs.Messages.{Entry}
-use Rattle.bus_strings.specs.Transmissions.{marks}
 use Rattle.bus_table.specs.Hands.{hands_of}
 use Rattle.bus_table.specs.Tables.{Hand}
 use Rattle.bus_schedule.specs.Closed.{closed, closed_end}
+use Rattle.bus_audit.specs.Breaches.{garbled_count}
 use Rattle.bus_filter.specs.ReceivedTexts.{received_count}
 use Rattle.bus_vectors.specs.Made.{sender_count, round_count, made_table, made_items}
 
@@ -15,10 +15,6 @@ drill_hands number = hands_of (made_table number) (made_items number)
 -- What they do, which is the closed schedule.
 abbrev pub drill_list : ℕ → List Entry
 drill_list number = closed (made_table number) (drill_hands number)
-
--- How many transmissions of a list are garbled.
-abbrev pub garbled_count : List Entry → ℕ
-garbled_count list = count_by (λ mark. mark) (marks list)
 
 -- `DRILL N senders K rounds R messages m end e collided c received x`
 abbrev pub figures : (number senders rounds messages end collided received : ℕ) → List ℕ

@@ -93,10 +93,10 @@ pub record IsRanText (IsRecording : Table → List Hand → Recording → Type 0
   pub text_is : text ≡ run_text table recording
 
 -- What is written of a table and hands.
-abbrev pub IsMessagesText : MessagesCommand → Table → List Hand → List ℕ → Type 0
-IsMessagesText (Observe horizon) table hands text = IsObserveText horizon table hands text
-IsMessagesText Run table hands text = IsRanText IsRunRecording table hands text
-IsMessagesText Drop table hands text = IsRanText IsDropRecording table hands text
+abbrev pub IsMessagesAnswerText : MessagesCommand → Table → List Hand → List ℕ → Type 0
+IsMessagesAnswerText (Observe horizon) table hands text = IsObserveText horizon table hands text
+IsMessagesAnswerText Run table hands text = IsRanText IsRunRecording table hands text
+IsMessagesAnswerText Drop table hands text = IsRanText IsDropRecording table hands text
 
 -- The text of a trace, and behind it what each terminal of the table hears of its list on a cable.
 abbrev pub on_cable_text : Table → cables.Cable → Recording → List ℕ
@@ -116,12 +116,12 @@ trace_answer_text Vote table trace = votes_text table trace.list
 trace_answer_text Wave table trace = wave_text trace
 
 -- The same of what was taken.
-abbrev pub IsTableText : TableCommand → Table → List ℕ → Type 0
-IsTableText command table text = text ≡ table_answer_text command table
+abbrev pub IsTableAnswerText : TableCommand → Table → List ℕ → Type 0
+IsTableAnswerText command table text = text ≡ table_answer_text command table
 
 -- The same of inputs.
 abbrev pub IsInputsText : MessagesCommand → Inputs → List ℕ → Type 0
-IsInputsText command inputs text = IsMessagesText command inputs.table (hands_in inputs) text
+IsInputsText command inputs text = IsMessagesAnswerText command inputs.table (hands_in inputs) text
 
 -- The same of a table and a trace together.
 abbrev pub IsTracedText : TraceCommand → Traced → List ℕ → Type 0
@@ -142,7 +142,7 @@ IsCableAnswerText horizon inputs text = IsOnCableText horizon inputs.table input
 -- What a form writes of both texts.
 abbrev pub IsFormText : Form → List ℕ → List ℕ → List ℕ → Type 0
 IsFormText (OnTable command) first second text =
-    IsTextOf (table_answer command) (IsTableText command) (table_for (table_mode command) first) text
+    IsTextOf (table_answer command) (IsTableAnswerText command) (table_for (table_mode command) first) text
 IsFormText (OnMessages command) first second text =
     IsTextOf (inputs_answer command) (IsInputsText command) (inputs_by (table_for (messages_mode command)) first second) text
 IsFormText (OnTrace command) first second text = IsTextOf (traced_answer command) (IsTracedText command) (traced_due first second) text

@@ -2,24 +2,22 @@
 ghost use Rattle.std.specs.Prelude.{◌≡◌, ◌++◌, ◌≤◌, IfOk, IfErr, codes, decimal, length};
 ghost use Rattle.bus_outer.specs.Sinks.{WritesText};
 ghost use Rattle.bus_outer.specs.Texts.{Adds};
-ghost use Rattle.bus_strings.specs.Transmissions.{IsAscending};
 ghost use Rattle.bus_vectors.specs.Made.{most_number};
 ghost use Rattle.bus_command.specs.Acts.{Ends};
 ghost use Rattle.bus_command.specs.Outside.{sink_seen};
 ghost use Rattle.bus_command.specs.Readers.{no_source};
 ghost use Rattle.bus_command.specs.declared.outcome.Outcome.TheVariants.{Done, NoMemory};
-ghost use Rattle.bus_tool.specs.Drills.{garbled_count, drill_line};
+ghost use Rattle.bus_tool.specs.Drills.{drill_line};
 ghost use Rattle.bus_tool.specs.inside.Drilled.{IsDrilled, line_of};
 
 use crate::laws::drills_are_accepted;
 use crate::refusal::Outcome;
 use crate::run::refuse_schedule;
+use bus_audit::count_garbled;
 use bus_command::after_writing;
 use bus_filter::count_received;
 use bus_outer::{Sink, TextBuffer, WriteFault};
 use bus_schedule::run_settled;
-use bus_strings::laws::neighbours_tell;
-use bus_strings::{Marks, Transmission};
 use bus_timers::DeadlineCore;
 use bus_vectors::{make_hands, round_count, sender_count};
 use std::alloc::Global;
@@ -38,19 +36,9 @@ pub struct DrillFigures {
     /// The moment at which the last of them ended.
     pub end: u64,
     /// How many were garbled.
-    pub collided: usize,
+    pub collided: u64,
     /// How many received lines there are.
     pub received: u128,
-}
-
-/// How many transmissions of a list are garbled.
-fn count_garbled(list: &[Transmission]) -> usize
-    requires { IsAscending list.now }
-    ensures { result ≡ garbled_count list.now }
-{
-    neighbours_tell();
-    let _count = list.len();
-    Marks::new(list).filter(|mark| *mark).count()
 }
 
 /// Runs the input of a number. Fails only where memory runs out.
@@ -94,7 +82,7 @@ fn write_drill<K: Sink>(drilled: &DrillFigures, sink: &mut K) -> Result<(), Writ
     put_figure(&mut text, sink, b" rounds ", u128::from(drilled.rounds));
     put_figure(&mut text, sink, b" messages ", drilled.messages as u128);
     put_figure(&mut text, sink, b" end ", u128::from(drilled.end));
-    put_figure(&mut text, sink, b" collided ", drilled.collided as u128);
+    put_figure(&mut text, sink, b" collided ", u128::from(drilled.collided));
     put_figure(&mut text, sink, b" received ", drilled.received);
     text.put_byte(sink, b'\n');
     text.finish(sink)

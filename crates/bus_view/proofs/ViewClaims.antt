@@ -21,7 +21,7 @@ use Rattle.bus_command.specs.Kinds.{Answer, kind_of}
 use Rattle.bus_command.specs.Outside.{Call}
 use Rattle.bus_command.specs.declared.status.Status.TheVariants as status
 use Rattle.bus_command.specs.declared.outcome.Outcome.TheVariants.{Done}
-use Rattle.bus_command.specs.Readers.{Trace, entire}
+use Rattle.bus_command.specs.Readers.{Trace, entire, by_trace}
 use Rattle.bus_command.proofs.ClaimLemmas.{claimed, refuses, does_of, room_of, tells_itself, at_two, stands_told}
 use Rattle.bus_command.proofs.LawTypes.{TextReadsAsItsTable}
 use Rattle.bus_command.proofs.ReadLemmas.{held_trace, traced_told}
@@ -29,7 +29,7 @@ use Rattle.bus_command.proofs.ToldLemmas.{table_told}
 use Rattle.bus_view.specs.Acts.{view_program, Acts}
 use Rattle.bus_view.specs.Claims.{view_word, AreFurther, AreForWindow, IsViewOf, GivesDump, Promises}
 use Rattle.bus_view.specs.Due.{first_breach, single_outcome, traced_answer, view_answer, view_text, drawing, painting, window_or_whole, IsView}
-use Rattle.bus_view.specs.Forms.{OnTrace, OnItself, on_trace, View, Dump, SaveFile, Painted, Picture, TimeLine, Cycles, drawn, three_words, five_words, form_of, sources}
+use Rattle.bus_view.specs.Forms.{OnTrace, OnItself, on_trace, View, Dump, SaveFile, Painted, Picture, TimeLine, Cycles, drawn, three_words, five_words, form_of}
 use Rattle.bus_view.specs.Itself.{itself_text}
 use Rattle.bus_view.specs.Refusals.{Doubled, Outcome, ends_of, status_of}
 
@@ -102,14 +102,14 @@ module _ (laws : DrawLaws) (view : View) (call : Call) (outcome : Outcome) (tabl
   pub shown : kind_of (view_answer view table trace) ≡ Answer
       → Answers (status_of (view_answer view table trace)) (λ text. text ≡ view_text view table trace) call (status_of outcome)
   shown answer_is =
-      claimed ends_of (traced_answer view) (IsView view) sources table_refusal_of traced_due h.call_is.table_told.text h.call_is.trace_told.stream
+      claimed ends_of (traced_answer view) (IsView view) by_trace table_refusal_of traced_due h.call_is.table_told.text h.call_is.trace_told.stream
       (with_trace table trace) (λ text. text ≡ view_text view table trace) call outcome
       (at_two entire Trace call.before.sources h.call_is.table_told.text h.call_is.trace_told.stream h.call_is.table_told.told h.call_is.trace_told.told)
       both_told answer_is (λ text is. is) did h.call_is.undisturbed
 
   pub stands : Rattle.bus_command.specs.Stages.StandsFor (view_answer view table trace) outcome
   stands =
-      stands_told (traced_answer view) sources traced_due h.call_is.table_told.text h.call_is.trace_told.stream (with_trace table trace)
+      stands_told (traced_answer view) by_trace traced_due h.call_is.table_told.text h.call_is.trace_told.stream (with_trace table trace)
       call.before.sources outcome
       (at_two entire Trace call.before.sources h.call_is.table_told.text h.call_is.trace_told.stream h.call_is.table_told.told h.call_is.trace_told.told)
       both_told did.due
@@ -129,7 +129,7 @@ draw_claim laws call outcome dump window table trace s acts h =
       breach = λ t. laws.breach dump (first_breach table trace) table trace.list t;
       refused = λ entry some.
           let did = does laws (Dump dump window) call outcome table trace acts h s in
-          refuses ends_of sources (single_outcome (Some entry)) outcome _ call refl
+          refuses ends_of by_trace (single_outcome (Some entry)) outcome _ call refl
           (subst (λ e. Rattle.bus_command.specs.Stages.StandsFor (single_outcome e) outcome) some
           (stands laws (Dump dump window) call outcome table trace acts h s))
           did.text did.counts did.out_count h.call_is.undisturbed;

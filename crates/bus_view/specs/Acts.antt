@@ -12,7 +12,7 @@ use Rattle.bus_command.specs.Causes.{AreTracedWith}
 use Rattle.bus_command.specs.Outside.{Call}
 use Rattle.bus_command.specs.declared.status.Status.{Status}
 use Rattle.bus_view.specs.Due.{form_due, first_refusal, IsFormText}
-use Rattle.bus_view.specs.Forms.{Form, form_of, sources, sources_of, takes_memory}
+use Rattle.bus_view.specs.Forms.{Form, form_of, sources_of, takes_memory}
 use Rattle.bus_view.specs.Refusals.{Doubled, Outcome, ends_of, line_of}
 
 -- The first entry of a trace that is doubled.

@@ -8,7 +8,7 @@ use Rattle.bus_dump.specs.declared.dump.Dump.{Dump as AnyDump}
 use Rattle.bus_dump.specs.declared.dump.Dump.TheVariants as dump
 use Rattle.bus_shapes.specs.Windows.{Window}
 use Rattle.bus_command.specs.About.{about_of}
-use Rattle.bus_command.specs.Readers.{Named, Trace, entire, no_source, two_sources}
+use Rattle.bus_command.specs.Readers.{Named, no_source, by_trace}
 pub use Rattle.bus_view.specs.declared.forms.Form.{Form}
 pub use Rattle.bus_view.specs.declared.forms.Form.TheVariants.{OnTrace, OnItself}
 pub use Rattle.bus_view.specs.declared.forms.Picture.{Picture}
@@ -75,13 +75,9 @@ form_of (command ∷ table ∷ trace ∷ []) = on_trace (three_words command)
 form_of (command ∷ table ∷ trace ∷ from ∷ to ∷ []) = on_trace (five_words command from to)
 form_of words = None
 
--- The sources that each view names: a table, which is read whole, and a trace.
-abbrev pub sources : Named
-sources = two_sources entire Trace
-
 -- The sources that a form names.
 abbrev pub sources_of : Form → Named
-sources_of (OnTrace view) = sources
+sources_of (OnTrace view) = by_trace
 sources_of (OnItself about) = no_source
 
 -- Whether a form takes any memory.

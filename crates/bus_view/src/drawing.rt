@@ -7,7 +7,8 @@ ghost use Rattle.bus_dump.specs.Doubled as dumps;
 ghost use Rattle.bus_trace.specs.Traces.{IsTrace};
 ghost use Rattle.bus_view.specs.inside.Acting.{EndsOnView};
 ghost use Rattle.bus_view.specs.Due.{drawing, window_or_whole};
-ghost use Rattle.bus_view.specs.Forms.{Dump as Dumped, sources};
+ghost use Rattle.bus_command.specs.Readers.{by_trace};
+ghost use Rattle.bus_view.specs.Forms.{Dump as Dumped};
 
 use crate::breach::first_breach;
 use crate::refusal::{Outcome, refuse};
@@ -32,7 +33,7 @@ fn draw_single<K: Sink>(
 ) -> Outcome
     requires trace { IsTrace trace.now }
     requires single { dumps.doubled trace.now.list ≡ None }
-    ensures { Ends sources Done (λ text. text ≡ drawing dump (window_or_whole window trace.now) table.now trace.now)
+    ensures { Ends by_trace Done (λ text. text ≡ drawing dump (window_or_whole window trace.now) table.now trace.now)
         (sink_seen ⟦<K as Sink>⟧ out.old) (sink_seen ⟦<K as Sink>⟧ out.new) result }
 {
     match first_breach(alloc, table, trace) {

@@ -22,7 +22,8 @@ use Rattle.bus_wave.specs.Code.{digits_of, frame_halves}
 use Rattle.bus_wave.specs.inside.Digits.{two_bits, gathered, code_digit, code_digits, first_digit, second_digit, frame_with}
 use Rattle.bus_wave.specs.inside.Parts.{HasLine}
 use Rattle.bus_wave.specs.inside.Puts.{word_put}
-use Rattle.bus_wave.specs.Symbols.{fields_of, symbol_reading}
+use Rattle.bus_trace.specs.States.{spaced_fields}
+use Rattle.bus_wave.specs.Symbols.{symbol_reading}
 use Rattle.bus_wave.specs.Waves.{word_halves}
 use Rattle.bus_wave.proofs.DigitLemmas.{word_digits}
 use Rattle.bus_wave.proofs.TextLemmas.{plain_reads, word_reads, word_feedless, line_split}
@@ -125,19 +126,19 @@ word_shorter text behind word h = omega (arith, ap length h, length-append (word
 -- a Q line whose number is found
 pub quiet_read : (line field : List ℕ) (n : ℕ) → line ≡ 81 ∷ 32 ∷ field
     → Some n ≡ cond (is_plain_decimal field) (Some (min (decimal_value field) (2 ^ 64 - 1))) None
-    → Ok (symbol.Quiet n) ≡ capped (symbol_reading (fields_of line))
+    → Ok (symbol.Quiet n) ≡ capped (symbol_reading (spaced_fields line))
 quiet_read line field n e h = by_test (is_plain_decimal field) refl h where
   by_test : (b : Bool) → is_plain_decimal field ≡ b → Some n ≡ cond b (Some (min (decimal_value field) (2 ^ 64 - 1))) None
-      → Ok (symbol.Quiet n) ≡ capped (symbol_reading (fields_of line))
+      → Ok (symbol.Quiet n) ≡ capped (symbol_reading (spaced_fields line))
   by_test false t k = absurd cc
   by_test true t k =
       let same : n ≡ min (decimal_value field) (2 ^ 64 - 1) = cc in
       ap (λ m. (let r : Result Symbol WaveReason = Ok (symbol.Quiet m) in r)) same
-      ∙ sym (ap (λ l. capped (symbol_reading (fields_of l))) e ∙ ap capped (plain_reads field t))
+      ∙ sym (ap (λ l. capped (symbol_reading (spaced_fields l))) e ∙ ap capped (plain_reads field t))
 
 pub quiet_some : (line field : List ℕ) (o : Option ℕ) → line ≡ 81 ∷ 32 ∷ field
     → o ≡ cond (is_plain_decimal field) (Some (min (decimal_value field) (2 ^ 64 - 1))) None
-    → IfSome o (λ n. Ok (symbol.Quiet n) ≡ capped (symbol_reading (fields_of line)))
+    → IfSome o (λ n. Ok (symbol.Quiet n) ≡ capped (symbol_reading (spaced_fields line)))
 quiet_some line field None e h = tt
 quiet_some line field (Some n) e h = quiet_read line field n e h
 

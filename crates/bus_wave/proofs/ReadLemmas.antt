@@ -32,7 +32,8 @@ use Rattle.bus_wave.specs.inside.Parts.{fault_at}
 use Rattle.bus_wave.specs.declared.symbol.Symbol.{Symbol}
 use Rattle.bus_wave.specs.declared.symbol.Symbol.TheVariants as symbol
 use Rattle.bus_wave.specs.Code.{digits_of}
-use Rattle.bus_wave.specs.Symbols.{fields_of, head_reading, symbol_reading}
+use Rattle.bus_trace.specs.States.{spaced_fields}
+use Rattle.bus_wave.specs.Symbols.{head_reading, symbol_reading}
 use Rattle.bus_wave.specs.Judging.{Phase, Opened, Silent, Saying, Waiting, Closed, State, opening, least_rest, order_step, step}
 use Rattle.bus_wave.specs.Reading.{WaveRefusal, is_closed, judge_read, judge, recorded, ended, pieces_reading, text_reading, wave_reading}
 use Rattle.bus_wave.specs.WaveLaws.{most_bytes, IsWaveTrace, IsRead}
@@ -112,20 +113,20 @@ line_ok number (Err e) x h = absurd cc
 -- a line that is taken
 record Judged (table : Table) (s : State) (line : List ℕ) (m : State) : Type 0 where
   read : Symbol
-  reads : symbol_reading (fields_of line) ≡ Ok read
+  reads : symbol_reading (spaced_fields line) ≡ Ok read
   steps : step table.senders s read ≡ Ok m
 
 judged : (table : Table) (s : State) (line : List ℕ) (m : State) → is_closed s.phase ≡ false → judge table.senders s line ≡ Ok m → Judged table s line m
 unfolding judge
 judged table s line m unclosed h =
-    let k : (symbol_reading (fields_of line) >>= step table.senders s) ≡ Ok m =
-    sym (ap (λ b. cond b (Err Keyword) (symbol_reading (fields_of line) >>= step table.senders s)) unclosed) ∙ h in
-    let b = bind_ok (symbol_reading (fields_of line)) (step table.senders s) m k in
+    let k : (symbol_reading (spaced_fields line) >>= step table.senders s) ≡ Ok m =
+    sym (ap (λ b. cond b (Err Keyword) (symbol_reading (spaced_fields line) >>= step table.senders s)) unclosed) ∙ h in
+    let b = bind_ok (symbol_reading (spaced_fields line)) (step table.senders s) m k in
     record { read = b.0; reads = b.1; steps = b.2 }
 
 pub none_behind : (table : Table) (s : State) (line : List ℕ) → is_closed s.phase ≡ true → judge table.senders s line ≡ Err Keyword
 unfolding judge
-none_behind table s line closed = ap (λ b. cond b (Err Keyword) (symbol_reading (fields_of line) >>= step table.senders s)) closed
+none_behind table s line closed = ap (λ b. cond b (Err Keyword) (symbol_reading (spaced_fields line) >>= step table.senders s)) closed
 
 -- what one line more gives
 pub pieces_more : (table : Table) (number : ℕ) (s : State) (line next : List ℕ) (pieces : List (List ℕ))
@@ -302,7 +303,7 @@ found_read table valid t text body short e f =
     })
 
 pub head_split : (table : Table) (line next : List ℕ) (pieces : List (List ℕ))
-    → text_reading table (line ∷ next ∷ pieces) ≡ (at_line 1 (head_reading (fields_of line)) >>= λ _. pieces_reading table 2 opening (next ∷ pieces))
+    → text_reading table (line ∷ next ∷ pieces) ≡ (at_line 1 (head_reading (spaced_fields line)) >>= λ _. pieces_reading table 2 opening (next ∷ pieces))
 unfolding text_reading
 head_split table line next pieces = refl
 
@@ -317,8 +318,8 @@ reads_only table t text valid short h = by_pieces (slice_split is_feed text) ref
   by_pieces [] e k = absurd (let p = some_piece text in let q = sym e ∙ p.2 in cc)
   by_pieces (rest ∷ []) e k = absurd (too_short table rest t k)
   by_pieces (line ∷ next ∷ pieces) e k =
-      let b = bind_ok (at_line 1 (head_reading (fields_of line))) (λ _. pieces_reading table 2 opening (next ∷ pieces)) t (sym (head_split table line next pieces) ∙ k) in
-      let head : line ≡ codes "WAVE 1" = head_found line b.0 (line_ok 1 (head_reading (fields_of line)) b.0 b.1) in
+      let b = bind_ok (at_line 1 (head_reading (spaced_fields line))) (λ _. pieces_reading table 2 opening (next ∷ pieces)) t (sym (head_split table line next pieces) ∙ k) in
+      let head : line ≡ codes "WAVE 1" = head_found line b.0 (line_ok 1 (head_reading (spaced_fields line)) b.0 b.1) in
       let whole : text ≡ codes "WAVE 1\n" ++ join_with_byte 10 (next ∷ pieces) =
       sym (join_with_byte-slice_split 10 text) ∙ ap (join_with_byte 10) e ∙ ap (λ l. l ++ 10 ∷ join_with_byte 10 (next ∷ pieces)) head in
       found_read table valid t text (join_with_byte 10 (next ∷ pieces)) short whole
@@ -334,11 +335,11 @@ one_line table number s m line rest plain h =
     ∙ ap (λ r. at_line number r >>= λ now. pieces_reading table (number + 1) now (p.0 ∷ p.1)) h
     ∙ ap (pieces_reading table (number + 1) m) (sym p.2)
 
-takes : (table : Table) (s m : State) (line : List ℕ) (y : Symbol) → symbol_reading (fields_of line) ≡ Ok y → step table.senders s y ≡ Ok m
+takes : (table : Table) (s m : State) (line : List ℕ) (y : Symbol) → symbol_reading (spaced_fields line) ≡ Ok y → step table.senders s y ≡ Ok m
     → judge table.senders s line ≡ Ok m
 unfolding judge
 takes table s m line y reads steps =
-    ap (λ b. cond b (Err Keyword) (symbol_reading (fields_of line) >>= step table.senders s)) (going table.senders s m y steps)
+    ap (λ b. cond b (Err Keyword) (symbol_reading (spaced_fields line) >>= step table.senders s)) (going table.senders s m y steps)
     ∙ ap (λ r. r >>= step table.senders s) reads ∙ steps
 
 closes : (table : Table) (number : ℕ) (s : State) → is_closed s.phase ≡ true → pieces_reading table number s ([] ∷ []) ≡ Ok (recorded table s)
@@ -419,9 +420,9 @@ capped_same senders s (Ok y) low = ap (λ x. cond (is_closed s.phase) (Err Keywo
 capped_same senders s (Err e) low = refl
 
 pub judged_read : (senders : List Sender) (s : State) (line : List ℕ) (reading : Result Symbol WaveReason) → s.at ≤ horizon_limit
-    → reading ≡ capped (symbol_reading (fields_of line)) → judge_read senders s reading ≡ judge senders s line
+    → reading ≡ capped (symbol_reading (spaced_fields line)) → judge_read senders s reading ≡ judge senders s line
 unfolding judge
-judged_read senders s line reading low h = ap (judge_read senders s) h ∙ capped_same senders s (symbol_reading (fields_of line)) low
+judged_read senders s line reading low h = ap (judge_read senders s) h ∙ capped_same senders s (symbol_reading (spaced_fields line)) low
 
 -- what one line more gives, by how the text is cut
 pub line_more : (table : Table) (number : ℕ) (s m : State) (rest line behind : List ℕ) → slice_split is_feed rest ≡ line ∷ slice_split is_feed behind
@@ -453,12 +454,12 @@ unfolding text_reading
 one_piece table rest = refl
 
 pub head_more : (table : Table) (text line rest : List ℕ) → slice_split is_feed text ≡ line ∷ slice_split is_feed rest
-    → wave_reading table text ≡ (at_line 1 (head_reading (fields_of line)) >>= λ _. pieces_reading table 2 opening (slice_split is_feed rest))
+    → wave_reading table text ≡ (at_line 1 (head_reading (spaced_fields line)) >>= λ _. pieces_reading table 2 opening (slice_split is_feed rest))
 head_more table text line rest e =
     let p = some_piece rest in
     ap (text_reading table) (e ∙ ap (λ ps. line ∷ ps) p.2)
     ∙ head_split table line p.0 p.1
-    ∙ ap (λ ps. at_line 1 (head_reading (fields_of line)) >>= λ _. pieces_reading table 2 opening ps) (sym p.2)
+    ∙ ap (λ ps. at_line 1 (head_reading (spaced_fields line)) >>= λ _. pieces_reading table 2 opening ps) (sym p.2)
 
 -- whether the text may end
 pub undone : (table : Table) (number : ℕ) (s : State) (rest : List ℕ) → (is_closed s.phase && length rest == 0) ≡ false

@@ -30,28 +30,23 @@ use Rattle.bus_wave.specs.declared.fault.WaveReason.TheVariants.{Keyword, Fields
 use Rattle.bus_wave.specs.declared.symbol.Symbol.{Symbol}
 use Rattle.bus_wave.specs.declared.symbol.Symbol.TheVariants as symbol
 use Rattle.bus_wave.specs.Code.{digits_of, halves_of, frame_halves, frame_of}
-use Rattle.bus_wave.specs.Symbols.{is_space, fields_of, head_reading, are_digits, parity_checked, coded, word_reading, quiet_reading}
+use Rattle.bus_trace.specs.States.{is_space, spaced_fields}
+use Rattle.bus_trace.proofs.AgainLines.{spaceless}
+use Rattle.bus_wave.specs.Symbols.{head_reading, are_digits, parity_checked, coded, word_reading, quiet_reading}
 use Rattle.bus_wave.specs.Symbols.{second_reading, symbol_reading}
 use Rattle.bus_wave.specs.Waves.{word_halves}
 use Rattle.bus_wave.proofs.CodeLemmas.{frame_heard, heard_is, length-frame_halves, halves_again, digits_again, ten_digits, forty_halves}
 
 -- ---- bytes of a line
--- no spaces, and no line feeds
-spaceless : (field : List ℕ) → AllByRecursion IsFieldByte field → AllByRecursion (λ b. is_space b ≡ false) field
-spaceless [] h = tt
-spaceless (b ∷ bs) h = (space b h.0, spaceless bs h.1) where
-  space : (b : ℕ) → IsFieldByte b → is_space b ≡ false
-  space b k = (let n = k.no_blank in grind (arith, nat_tests, n))
-
 -- a keyword of one letter, a space and a field
 two_fields : (letter : ℕ) (field : List ℕ) → is_space letter ≡ false → AllByRecursion IsFieldByte field
-    → fields_of (letter ∷ 32 ∷ field) ≡ (letter ∷ []) ∷ field ∷ []
+    → spaced_fields (letter ∷ 32 ∷ field) ≡ (letter ∷ []) ∷ field ∷ []
 two_fields letter field a h =
     slice_split_at is_space (letter ∷ []) 32 field (All-from_recursion (λ b. is_space b ≡ false) (letter ∷ []) (a, tt)) refl
     ∙ ap (λ fs. (letter ∷ []) ∷ fs) (slice_split_none is_space field (All-from_recursion (λ b. is_space b ≡ false) field (spaceless field h)))
 
 -- ---- a Q line
-pub quiet_reads : (n : ℕ) → n < 2 ^ 64 → symbol_reading (fields_of (81 ∷ 32 ∷ decimal n)) ≡ Ok (symbol.Quiet n)
+pub quiet_reads : (n : ℕ) → n < 2 ^ 64 → symbol_reading (spaced_fields (81 ∷ 32 ∷ decimal n)) ≡ Ok (symbol.Quiet n)
 unfolding symbol_reading
 quiet_reads n low =
     let d = decimal_is n low in
@@ -78,7 +73,7 @@ word_bytes : (word : Word) → AllByRecursion IsFieldByte (digits_of (word_halve
 word_bytes word =
     capital_bytes (digits_of (word_halves word)) (and_parts (length (digits_of (word_halves word)) == 10) (list_all is_capital_digit (digits_of (word_halves word))) (ten_digits (word_halves word) (length-frame_halves (frame word)))).1
 
-pub word_reads : (word : Word) → word.value < 2 ^ 16 → symbol_reading (fields_of (87 ∷ 32 ∷ digits_of (word_halves word))) ≡ Ok (symbol.Sent word)
+pub word_reads : (word : Word) → word.value < 2 ^ 16 → symbol_reading (spaced_fields (87 ∷ 32 ∷ digits_of (word_halves word))) ≡ Ok (symbol.Sent word)
 unfolding symbol_reading
 word_reads word low =
     let hs : List Bool = word_halves word in
@@ -94,7 +89,7 @@ word_reads word low =
 
 -- ---- what reads so
 -- a line is its fields, one space between them
-pub joined : (line : List ℕ) → join_with_byte 32 (fields_of line) ≡ line
+pub joined : (line : List ℕ) → join_with_byte 32 (spaced_fields line) ≡ line
 joined line = join_with_byte-slice_split 32 line
 
 two : (fields : List (List ℕ)) (word : List ℕ) → is_at fields 0 word ≡ true → (length fields == 2) ≡ true → fields ≡ word ∷ slice_index_or fields 1 [] ∷ []
@@ -115,7 +110,7 @@ IsLineOf (symbol.Sent word) line = (word.value < 2 ^ 16) × (line ≡ 87 ∷ 32 
 IsLineOf symbol.End line = line ≡ codes "END"
 
 -- a plain decimal behind `Q` and a space is read as its number
-pub plain_reads : (field : List ℕ) → is_plain_decimal field ≡ true → symbol_reading (fields_of (81 ∷ 32 ∷ field)) ≡ Ok (symbol.Quiet (decimal_value field))
+pub plain_reads : (field : List ℕ) → is_plain_decimal field ≡ true → symbol_reading (spaced_fields (81 ∷ 32 ∷ field)) ≡ Ok (symbol.Quiet (decimal_value field))
 unfolding symbol_reading
 plain_reads field h =
     ap symbol_of (two_fields 81 field refl (field_digits field (all_digits field h)))
@@ -177,29 +172,29 @@ second_found read fields word s at h = by_count (length fields == 2) refl h wher
   by_count false e k = absurd cc
   by_count true e k = (slice_index_or fields 1 [], two fields word at e, k)
 
-pub symbol_found : (line : List ℕ) (s : Symbol) → symbol_reading (fields_of line) ≡ Ok s → IsLineOf s line
+pub symbol_found : (line : List ℕ) (s : Symbol) → symbol_reading (spaced_fields line) ≡ Ok s → IsLineOf s line
 unfolding symbol_reading
-symbol_found line s h = by_tests (is_at (fields_of line) 0 (codes "W")) (is_at (fields_of line) 0 (codes "Q")) (is_at (fields_of line) 0 (codes "END")) refl refl refl h where
-  by_end : (b : Bool) → is_at (fields_of line) 0 (codes "END") ≡ true → (length (fields_of line) == 1) ≡ b
+symbol_found line s h = by_tests (is_at (spaced_fields line) 0 (codes "W")) (is_at (spaced_fields line) 0 (codes "Q")) (is_at (spaced_fields line) 0 (codes "END")) refl refl refl h where
+  by_end : (b : Bool) → is_at (spaced_fields line) 0 (codes "END") ≡ true → (length (spaced_fields line) == 1) ≡ b
       → cond b (let r : Result Symbol WaveReason = Ok symbol.End in r) (Err Fields) ≡ Ok s → IsLineOf s line
   by_end false at e k = absurd cc
   by_end true at e k =
       let same : symbol.End ≡ s = cc in
-      let is : line ≡ codes "END" = sym (joined line) ∙ ap (join_with_byte 32) (one (fields_of line) (codes "END") at e) in
+      let is : line ≡ codes "END" = sym (joined line) ∙ ap (join_with_byte 32) (one (spaced_fields line) (codes "END") at e) in
       subst (λ t. IsLineOf t line) same is
 
-  by_tests : (w q e : Bool) → is_at (fields_of line) 0 (codes "W") ≡ w → is_at (fields_of line) 0 (codes "Q") ≡ q → is_at (fields_of line) 0 (codes "END") ≡ e
-      → cond w (second_reading word_reading (fields_of line)) (cond q (second_reading quiet_reading (fields_of line)) (cond e (cond (length (fields_of line) == 1) (Ok symbol.End) (Err Fields)) (Err Keyword))) ≡ Ok s
+  by_tests : (w q e : Bool) → is_at (spaced_fields line) 0 (codes "W") ≡ w → is_at (spaced_fields line) 0 (codes "Q") ≡ q → is_at (spaced_fields line) 0 (codes "END") ≡ e
+      → cond w (second_reading word_reading (spaced_fields line)) (cond q (second_reading quiet_reading (spaced_fields line)) (cond e (cond (length (spaced_fields line) == 1) (Ok symbol.End) (Err Fields)) (Err Keyword))) ≡ Ok s
       → IsLineOf s line
   by_tests true q e a b d k =
-      let f = second_found word_reading (fields_of line) (codes "W") s a k in
+      let f = second_found word_reading (spaced_fields line) (codes "W") s a k in
       let is : 87 ∷ 32 ∷ f.0 ≡ line = sym (ap (join_with_byte 32) f.1) ∙ joined line in
       subst (λ (l : List ℕ). IsLineOf s l) is (word_found f.0 s f.2)
   by_tests false true e a b d k =
-      let f = second_found quiet_reading (fields_of line) (codes "Q") s b k in
+      let f = second_found quiet_reading (spaced_fields line) (codes "Q") s b k in
       let is : 81 ∷ 32 ∷ f.0 ≡ line = sym (ap (join_with_byte 32) f.1) ∙ joined line in
       subst (λ (l : List ℕ). IsLineOf s l) is (quiet_found f.0 s f.2)
-  by_tests false false true a b d k = by_end (length (fields_of line) == 1) d refl k
+  by_tests false false true a b d k = by_end (length (spaced_fields line) == 1) d refl k
   by_tests false false false a b d k = absurd cc
 
 -- ---- the first line
@@ -208,17 +203,17 @@ two_rows true true p q u h = (refl, refl)
 two_rows true false p q u h = absurd cc
 two_rows false b p q u h = absurd cc
 
-pub head_found : (line : List ℕ) (u : Unit {0}) → head_reading (fields_of line) ≡ Ok u → line ≡ codes "WAVE 1"
+pub head_found : (line : List ℕ) (u : Unit {0}) → head_reading (spaced_fields line) ≡ Ok u → line ≡ codes "WAVE 1"
 unfolding head_reading
 head_found line u h =
-    let r = two_rows (is_at (fields_of line) 0 (codes "WAVE")) (is_format_one (fields_of line)) Keyword Fields u h in
-    sym (joined line) ∙ ap (join_with_byte 32) (format_found (codes "WAVE") (fields_of line) r.0 r.1)
+    let r = two_rows (is_at (spaced_fields line) 0 (codes "WAVE")) (is_format_one (spaced_fields line)) Keyword Fields u h in
+    sym (joined line) ∙ ap (join_with_byte 32) (format_found (codes "WAVE") (spaced_fields line) r.0 r.1)
 
-pub head_reads : head_reading (fields_of (codes "WAVE 1")) ≡ Ok tt
+pub head_reads : head_reading (spaced_fields (codes "WAVE 1")) ≡ Ok tt
 unfolding head_reading
 head_reads = refl
 
-pub end_reads : symbol_reading (fields_of (codes "END")) ≡ Ok symbol.End
+pub end_reads : symbol_reading (spaced_fields (codes "END")) ≡ Ok symbol.End
 unfolding symbol_reading
 end_reads = refl
 
@@ -265,10 +260,10 @@ cut_at byte (b ∷ bs) (suc at) h low e =
     ∙ ap (λ n. (b ∷ take at bs) ∷ slice_split (λ c. c == byte) (drop n (b ∷ bs))) (sym next)
 
 -- how many fields
-pub not_alone : (fields : List (List ℕ)) (first rest : List ℕ) → fields ≡ first ∷ fields_of rest → (length fields == 1) ≡ false
+pub not_alone : (fields : List (List ℕ)) (first rest : List ℕ) → fields ≡ first ∷ spaced_fields rest → (length fields == 1) ≡ false
 not_alone fields first rest e = (let n = length-slice_split is_space rest in let m = ap length e in grind (arith, nat_tests, n, m))
 
-pub not_two : (fields : List (List ℕ)) (first rest second third : List ℕ) → fields ≡ first ∷ fields_of rest → fields_of rest ≡ second ∷ fields_of third
+pub not_two : (fields : List (List ℕ)) (first rest second third : List ℕ) → fields ≡ first ∷ spaced_fields rest → spaced_fields rest ≡ second ∷ spaced_fields third
     → (length fields == 2) ≡ false
 not_two fields first rest second third e f =
     (let n = length-slice_split is_space third in let m = ap length e in let k = ap length f in grind (arith, nat_tests, n, m, k))

@@ -11,7 +11,8 @@ use Rattle.bus_wave.specs.declared.fault.WaveReason.{WaveReason}
 use Rattle.bus_wave.specs.declared.fault.WaveReason.TheVariants.{Ended, Keyword}
 use Rattle.bus_wave.specs.Counted.{holds_of}
 use Rattle.bus_wave.specs.declared.symbol.Symbol.{Symbol}
-use Rattle.bus_wave.specs.Symbols.{fields_of, head_reading, symbol_reading}
+use Rattle.bus_trace.specs.States.{spaced_fields}
+use Rattle.bus_wave.specs.Symbols.{head_reading, symbol_reading}
 use Rattle.bus_wave.specs.Judging.{Phase, Opened, Silent, Saying, Waiting, Closed, State, opening, step}
 
 -- The number of the refused line, from 1, and why it is refused.
@@ -32,7 +33,7 @@ judge_read senders s reading = if is_closed s.phase then Err Keyword else readin
 
 -- The state after one line more.
 unfoldable pub judge : List Sender → State → List ℕ → Result State WaveReason
-judge senders s line = judge_read senders s (symbol_reading (fields_of line))
+judge senders s line = judge_read senders s (symbol_reading (spaced_fields line))
 
 -- The trace of complete lines.
 abbrev pub recorded : Table → State → Recording
@@ -55,7 +56,7 @@ unfoldable pub text_reading : Table → List (List ℕ) → Result Recording Wav
 text_reading table [] = Err (record { line = 1; reason = Ended })
 text_reading table (rest ∷ []) = Err (record { line = 1; reason = Ended })
 text_reading table (line ∷ next ∷ pieces) =
-    at_line 1 (head_reading (fields_of line)) >>= λ _. pieces_reading table 2 opening (next ∷ pieces)
+    at_line 1 (head_reading (spaced_fields line)) >>= λ _. pieces_reading table 2 opening (next ∷ pieces)
 
 -- What a text reads as.
 abbrev pub wave_reading : Table → List ℕ → Result Recording WaveRefusal

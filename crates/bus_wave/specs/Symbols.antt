@@ -1,9 +1,9 @@
--- What a line of a wave text says by itself, or why it says nothing. A line is split at each single space, so a doubled, leading or
--- trailing space makes an empty field.
+-- What a line of a wave text says by itself, or why it says nothing. Its fields are those of a line of a trace text: it is split at each
+-- single space, so a doubled, leading or trailing space makes an empty field.
 --   symbol   quiet bit times, a word, or the end
 use Rattle.std.specs.Prelude.{ℕ, Bool, not, ◌&&◌, ◌==◌, List, [], ◌∷◌, length, codes, Option, Some, None}
 use Rattle.std.specs.Prelude.{Result, Ok, Err, slice_index_or, if◌then◌else◌}
-use Rattle.std.specs.List.{slice_split, list_all}
+use Rattle.std.specs.List.{list_all}
 use Rattle.bus_text.specs.Digits.{is_capital_digit}
 use Rattle.bus_text.specs.Fields.{is_at}
 use Rattle.bus_text.specs.Headers.{is_format_one}
@@ -18,14 +18,6 @@ use Rattle.bus_wave.specs.declared.fault.WaveReason.TheVariants.{Keyword, Fields
 use Rattle.bus_wave.specs.declared.symbol.Symbol.{Symbol}
 use Rattle.bus_wave.specs.declared.symbol.Symbol.TheVariants.{Quiet, Sent, End}
 use Rattle.bus_wave.specs.Code.{halves_of, frame_of}
-
--- The byte between two fields.
-abbrev pub is_space : ℕ → Bool
-is_space byte = byte == 32
-
--- What stands between the single spaces of a line.
-abbrev pub fields_of : List ℕ → List (List ℕ)
-fields_of line = slice_split is_space line
 
 -- Why the first line is refused.
 abbrev pub head_refusal : List (List ℕ) → Option WaveReason

@@ -74,7 +74,7 @@ PassesRuns table t answer =
 
 -- The recording of a run: the closed schedule of the hands up to the closed end, and one HOLD for each hand, with the number of its
 -- messages.
-pub record IsRunOf (table : Table) (hands : List Hand) (t : Recording) : Type 0 where
+pub record IsRecordedRun (table : Table) (hands : List Hand) (t : Recording) : Type 0 where
   pub list : t.list ≡ closed table hands
   pub horizon : t.horizon ≡ closed_end table hands
   pub holds : t.holds ≡ hand_holds hands
@@ -83,4 +83,4 @@ pub record IsRunOf (table : Table) (hands : List Hand) (t : Recording) : Type 0 
 abbrev pub RunsAreWaveTraces : Type 0
 RunsAreWaveTraces =
     (table : Table) (hands : List Hand) (t : Recording) → IsTrue (is_valid table) → IsTrue (is_accepted (verdict_of table))
-    → IsTrue (are_even table hands) → IsTrace t → IsRunOf table hands t → IsWaveTrace table t
+    → IsTrue (are_even table hands) → IsTrace t → IsRecordedRun table hands t → IsWaveTrace table t

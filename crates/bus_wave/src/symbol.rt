@@ -2,7 +2,8 @@
 ghost use Rattle.std.specs.Prelude.{◌≡◌, ◌==◌, ◌^◌, ◌-◌, ◌<◌, ◌∷◌, []};
 ghost use Rattle.std.specs.Prelude.{MatchOption, IfOk, IfErr, false, true, length, codes, slice_index_or};
 ghost use Rattle.std.specs.Prelude.{Ok, Err, if◌then◌else◌};
-ghost use Rattle.bus_wave.specs.Symbols.{fields_of, head_reading, symbol_reading, word_reading, quiet_reading};
+ghost use Rattle.bus_trace.specs.States.{spaced_fields};
+ghost use Rattle.bus_wave.specs.Symbols.{head_reading, symbol_reading, word_reading, quiet_reading};
 ghost use Rattle.bus_wave.specs.inside.Capped.{capped};
 ghost use Rattle.bus_wave.specs.inside.Parts.{HasLine};
 ghost use Rattle.bus_text.specs.Lines.{is_feed};
@@ -38,7 +39,7 @@ pub(crate) enum Symbol {
 
 /// The first field of a line.
 fn keyword(line: &[u8]) -> &[u8]
-    ensures { result.now ≡ slice_index_or (fields_of line.now) 0 [] }
+    ensures { result.now ≡ slice_index_or (spaced_fields line.now) 0 [] }
 {
     match cut(b' ', line) {
         Some((field, _)) => field,
@@ -48,8 +49,9 @@ fn keyword(line: &[u8]) -> &[u8]
 
 /// The second field of a line of two fields.
 fn second(line: &[u8]) -> Result<&[u8], WaveReason>
-    ensures two { IfOk result (λ field. (length (fields_of line.now) ≡ 2) × (field.now ≡ slice_index_or (fields_of line.now) 1 [])) }
-    ensures other { IfErr result (λ reason. (reason ≡ WaveReason.Fields) × ((length (fields_of line.now) == 2) ≡ false)) }
+    ensures two { IfOk result (λ field. (length (spaced_fields line.now) ≡ 2)
+        × (field.now ≡ slice_index_or (spaced_fields line.now) 1 [])) }
+    ensures other { IfErr result (λ reason. (reason ≡ WaveReason.Fields) × ((length (spaced_fields line.now) == 2) ≡ false)) }
 {
     let Some((_, rest)) = cut(b' ', line) else {
         return Err(WaveReason::Fields);
@@ -62,7 +64,7 @@ fn second(line: &[u8]) -> Result<&[u8], WaveReason>
 
 /// Whether a line has one field.
 fn is_alone(line: &[u8]) -> bool
-    ensures { result ≡ (length (fields_of line.now) == 1) }
+    ensures { result ≡ (length (spaced_fields line.now) == 1) }
 {
     match cut(b' ', line) {
         None => true,
@@ -99,7 +101,7 @@ fn quiet_of(field: &[u8]) -> Result<Symbol, WaveReason>
 /// What a line behind the first says; a number above the last value of a `u64` is that value.
 #[tactic(auto, unfolding(crate::specs::Symbols::symbol_reading))]
 fn symbol_of(line: &[u8]) -> Result<Symbol, WaveReason>
-    ensures { result ≡ capped (symbol_reading (fields_of line.now)) }
+    ensures { result ≡ capped (symbol_reading (spaced_fields line.now)) }
 {
     let keyword = keyword(line);
     if keyword == WORD {
@@ -137,7 +139,7 @@ pub(crate) fn first_symbol(text: &[u8]) -> Option<(Result<Symbol, WaveReason>, &
 /// Reads the first line.
 #[tactic(auto, unfolding(crate::specs::Symbols::head_reading))]
 pub(crate) fn head_of(line: &[u8]) -> Result<(), WaveReason>
-    ensures { result ≡ head_reading (fields_of line.now) }
+    ensures { result ≡ head_reading (spaced_fields line.now) }
 {
     if keyword(line) != WAVE {
         return Err(WaveReason::Keyword);

@@ -1,15 +1,16 @@
 -- How the code keeps watches: all senders hear the same bus, so where the terminal gap of each counts from follows from what all have
 -- heard, and from whether its own synchronization gap has elapsed.
-use Rattle.std.specs.Prelude.{◌≡◌, ℕ, ◌+◌, ◌*◌, ◌<◌, ◌≤◌, ◌⊎◌, nat_lt, nat_le, ◌==◌, List, map, slice_get, Some, if◌then◌else◌}
+use Rattle.std.specs.Prelude.{◌≡◌, ℕ, ◌+◌, ◌<◌, ◌≤◌, ◌⊎◌, nat_lt, nat_le, ◌==◌, List, map, slice_get, Some, if◌then◌else◌}
+use Rattle.bus_outer.specs.Faults.{last_u64}
 use Rattle.bus_audit.specs.declared.watch.Watch.{Watch}
 use Rattle.bus_audit.specs.declared.keep.Keep.{Keep}
 use Rattle.bus_audit.specs.declared.keep.Heard.{Heard}
-use Rattle.bus_audit.specs.inside.Watches.{ready}
+use Rattle.bus_audit.specs.inside.Watches.{ready, pair}
 
 -- The pair at which a sender is next missed if the bus stays quiet, as a number, counted from the beginning of the past; with no message
 -- left a number that is never reached.
 abbrev pub soon_of : Watch → ℕ
-soon_of watch = if watch.left == 0 then 18446744073709551615 else 256 * ready watch + watch.number
+soon_of watch = if watch.left == 0 then last_u64 else pair (ready watch) watch.number
 
 -- What is kept at the settled start.
 abbrev pub keep_of : Watch → Keep
@@ -37,7 +38,7 @@ told_busy heard from keep = record keep { behind = gap_behind from (watch_of hea
 
 -- No sender with messages left is missed before this pair, counted from the beginning of the past.
 abbrev pub NotSooner : ℕ → List Watch → Type 0
-NotSooner first watches = (j : ℕ) (w : Watch) → slice_get watches j ≡ Some w → 0 < w.left → first ≤ 256 * ready w + w.number
+NotSooner first watches = (j : ℕ) (w : Watch) → slice_get watches j ≡ Some w → 0 < w.left → first ≤ pair (ready w) w.number
 
 -- What is kept at a place is right. Who began since the bus became busy last did so at that place, and is heard up to the place till.
 pub record IsKept (heard : Heard) (place till : ℕ) (keep : Keep) : Type 0 where
@@ -45,7 +46,7 @@ pub record IsKept (heard : Heard) (place till : ℕ) (keep : Keep) : Type 0 wher
   pub counted : (keep.behind ≡ 0) ⊎ (keep.behind ≡ heard.sg)
   pub last : keep.last ≤ place
   pub fresh : heard.from < keep.last → (keep.last ≡ place) × (keep.behind ≡ heard.sg) × (place < till)
-  pub early : 0 < keep.watch.left → keep.soon ≤ 256 * ready (watch_of heard keep) + keep.watch.number
+  pub early : 0 < keep.watch.left → keep.soon ≤ pair (ready (watch_of heard keep)) keep.watch.number
 
 -- Of all.
 pub record AreKept (heard : Heard) (place till : ℕ) (keeps : List Keep) : Type 0 where
@@ -56,7 +57,7 @@ pub record AreKept (heard : Heard) (place till : ℕ) (keeps : List Keep) : Type
 -- None tells too late when its sender is missed.
 abbrev pub AreEarly : Heard → List Keep → Type 0
 AreEarly heard keeps =
-    (j : ℕ) (k : Keep) → slice_get keeps j ≡ Some k → 0 < k.watch.left → k.soon ≤ 256 * ready (watch_of heard k) + k.watch.number
+    (j : ℕ) (k : Keep) → slice_get keeps j ≡ Some k → 0 < k.watch.left → k.soon ≤ pair (ready (watch_of heard k)) k.watch.number
 
 -- What is kept where the bus is quiet: nobody began since it became busy last.
 pub record AreStill (heard : Heard) (place : ℕ) (keeps : List Keep) : Type 0 where

@@ -13,9 +13,13 @@ use Rattle.bus_cable.specs.Hearing.{is_of_another}
 abbrev pub heard_as : Entry → Heard
 heard_as x = record { moment = x.moment; terminal = x.terminal; end = end_of x }
 
+-- The rank of a moment and a terminal.
+abbrev pub rank_of : ℕ → ℕ → ℕ
+rank_of moment terminal = 256 * moment + terminal
+
 -- The rank of a transmission.
 abbrev pub rank : Entry → ℕ
-rank x = 256 * x.moment + x.terminal
+rank x = rank_of x.moment x.terminal
 
 -- The rank of the one at a place.
 abbrev pub rank_in : List Entry → ℕ → ℕ

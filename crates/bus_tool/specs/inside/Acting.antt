@@ -15,7 +15,7 @@ use Rattle.bus_cable.specs.Cables.{Cable}
 use Rattle.bus_tool.specs.Due.{table_answer, messages_answer, trace_answer}
 use Rattle.bus_tool.specs.Forms.{Form, TableCommand, MessagesCommand, TraceCommand}
 use Rattle.bus_tool.specs.Refusals.{Outcome}
-use Rattle.bus_tool.specs.Texts.{IsMessagesText, IsOnCableText, table_answer_text, trace_answer_text}
+use Rattle.bus_tool.specs.Texts.{IsMessagesAnswerText, IsOnCableText, table_answer_text, trace_answer_text}
 use Rattle.bus_tool.specs.Acts.{tool_program}
 
 -- What the command of a form did.
@@ -49,7 +49,7 @@ EndsExplaining ghosts answer explained old new outcome =
 -- What a command did that has taken its table and hands.
 abbrev pub EndsOnMessages : {K : Type 0} → SinkGhosts K → MessagesCommand → Table → List Hand → K → K → Outcome → Type 0
 EndsOnMessages ghosts command table hands old new outcome =
-    Ends (two_sources entire entire) (messages_answer command table hands) (IsMessagesText command table hands) (sink_seen ghosts old)
+    Ends (two_sources entire entire) (messages_answer command table hands) (IsMessagesAnswerText command table hands) (sink_seen ghosts old)
     (sink_seen ghosts new) outcome
 
 -- What a command did that has taken its table and trace.

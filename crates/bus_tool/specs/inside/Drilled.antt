@@ -4,7 +4,8 @@ use Rattle.bus_schedule.specs.Closed.{closed_end}
 use Rattle.bus_filter.specs.ReceivedTexts.{received_count}
 use Rattle.bus_vectors.specs.Made.{sender_count, round_count, made_table}
 use Rattle.bus_tool.specs.declared.drill.DrillFigures.{DrillFigures}
-use Rattle.bus_tool.specs.Drills.{drill_hands, drill_list, garbled_count, figures}
+use Rattle.bus_audit.specs.Breaches.{garbled_count}
+use Rattle.bus_tool.specs.Drills.{drill_hands, drill_list, figures}
 
 -- The figures of a drill.
 pub record IsDrilled (drilled : DrillFigures) (number : ℕ) : Type 0 where

@@ -9,7 +9,8 @@ use Rattle.bus_command.specs.inside.Acting as acting
 use Rattle.bus_command.specs.Acts.{Ends}
 use Rattle.bus_command.specs.Outside.{Outside, sink_seen}
 use Rattle.bus_view.specs.Due.{view_answer, view_text}
-use Rattle.bus_view.specs.Forms.{Form, View, sources}
+use Rattle.bus_command.specs.Readers.{by_trace}
+use Rattle.bus_view.specs.Forms.{Form, View}
 use Rattle.bus_view.specs.Refusals.{Outcome}
 use Rattle.bus_view.specs.Acts.{view_program}
 
@@ -24,5 +25,5 @@ DoesBoth = acting.DoesBoth view_program
 -- What a command did that has taken its table and trace.
 abbrev pub EndsOnView : {K : Type 0} → SinkGhosts K → View → Table → Recording → K → K → Outcome → Type 0
 EndsOnView ghosts view table trace old new outcome =
-    Ends sources (view_answer view table trace) (λ text. text ≡ view_text view table trace) (sink_seen ghosts old) (sink_seen ghosts new)
+    Ends by_trace (view_answer view table trace) (λ text. text ≡ view_text view table trace) (sink_seen ghosts old) (sink_seen ghosts new)
     outcome

@@ -15,7 +15,9 @@ use Rattle.bus_wave.specs.declared.symbol.Symbol.{Symbol}
 use Rattle.bus_wave.specs.inside.Capped.{capped}
 use Rattle.bus_wave.specs.Counted.{holds_of}
 use Rattle.bus_text.specs.Gives.{Fails}
-use Rattle.bus_wave.specs.Symbols.{fields_of, symbol_reading}
+use Rattle.bus_wave.specs.Symbols.{symbol_reading}
+use Rattle.bus_wave.specs.Gives.{Fails}
+use Rattle.bus_trace.specs.States.{spaced_fields}
 use Rattle.bus_wave.specs.Reading.{WaveRefusal}
 
 -- The error of a line that wasn't taken.
@@ -32,4 +34,4 @@ PartsGive table (Err error) reading = Fails error reading
 pub record HasLine (text : List ℕ) (reading : Result Symbol WaveReason) (behind : List ℕ) : Type 0 where
   pub first : List ℕ
   pub pieces : slice_split is_feed text ≡ first ∷ slice_split is_feed behind
-  pub reads : reading ≡ capped (symbol_reading (fields_of first))
+  pub reads : reading ≡ capped (symbol_reading (spaced_fields first))

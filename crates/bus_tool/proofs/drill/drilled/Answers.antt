@@ -1,6 +1,6 @@
 use Rattle.std.proofs.Common.{arith, length, refl, sym, ap, ◌∙◌, subst}
 use Rattle.bus_strings.specs.Transmissions.{IsByMoment}
-use Rattle.bus_tool.specs.Drills.{garbled_count}
+use Rattle.bus_audit.specs.Breaches.{garbled_count}
 use Rattle.bus_tool.proofs.DrillLemmas.{drill_fails, drill_finds}
 use Rattle.bus_tool.proofs.TraceLemmas.{by_moment}
 use Rattle.bus_tool.proofs.drill.drilled.Goals as goal

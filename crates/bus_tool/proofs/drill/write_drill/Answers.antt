@@ -8,8 +8,8 @@ pub returns : goal.returns
 returns g c =
     let drilled = c.args.drilled.now in
     let same = figures_same c.from.result drilled.number c.from-2.result drilled.senders c.from-3.result drilled.rounds
-    drilled.messages drilled.messages c.from-4.result drilled.end drilled.collided drilled.collided drilled.received drilled.received
-    c.from.ensures c.from-2.ensures c.from-3.ensures refl c.from-4.ensures refl refl in
+    drilled.messages drilled.messages c.from-4.result drilled.end c.from-5.result drilled.collided drilled.received drilled.received
+    c.from.ensures c.from-2.ensures c.from-3.ensures refl c.from-4.ensures c.from-5.ensures refl in
     subst (λ (t : List ℕ). WritesText g.K.Sink.held g.K.Sink.faults c.args.sink.now c.finish.new.sink c.finish.result t) same
     (ends_text g.K.Sink.held g.K.Sink.faults c.args.sink.now c.put_byte.new.sink c.finish.new.sink c.new-text.result c.put_byte.new.self
     c.finish.result _ c.finish.ensures

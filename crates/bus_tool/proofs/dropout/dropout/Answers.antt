@@ -7,19 +7,19 @@ use Rattle.bus_command.specs.Outside.{sink_seen}
 use Rattle.bus_command.specs.declared.outcome.Outcome.TheVariants.{Done}
 use Rattle.bus_tool.specs.Due.{can_drop}
 use Rattle.bus_tool.specs.Forms.{Drop}
-use Rattle.bus_tool.specs.Texts.{IsMessagesText, run_text}
+use Rattle.bus_tool.specs.Texts.{IsMessagesAnswerText, run_text}
 use Rattle.bus_tool.proofs.AnswerLaws.{done_with, done_late}
 use Rattle.bus_tool.proofs.dropout.dropout.Goals as goal
 
 pub returns-in-Ok : goal.returns-in-Ok
 returns-in-Ok g c =
-    subst (λ r. Ends (two_sources entire entire) (outcome_with done_with r) (IsMessagesText Drop c.args.table.now c.args.hands.items)
+    subst (λ r. Ends (two_sources entire entire) (outcome_with done_with r) (IsMessagesAnswerText Drop c.args.table.now c.args.hands.items)
     (sink_seen g.K.Sink c.args.out.now) (sink_seen g.K.Sink c.write_run.new.out) c.after_writing.result) (sym c.in-Ok.ensures.gives.1)
-    (answered (two_sources entire entire) Done (IsMessagesText Drop c.args.table.now c.args.hands.items) g.K.Sink c.args.out.now c.write_run.new.out
+    (answered (two_sources entire entire) Done (IsMessagesAnswerText Drop c.args.table.now c.args.hands.items) g.K.Sink c.args.out.now c.write_run.new.out
     (run_text c.args.table.now c.in-Ok.trace) c.write_run.result c.after_writing.result refl
     (record { recording = c.in-Ok.trace; ran = c.in-Ok.ensures.gives.2; text_is = refl }) c.write_run.ensures c.after_writing.ensures)
 
 pub returns-in-Err : goal.returns-in-Err
 returns-in-Err g c =
-    failed (two_sources entire entire) done_with (can_drop c.args.table.now c.args.hands.items) (IsMessagesText Drop c.args.table.now c.args.hands.items) _
+    failed (two_sources entire entire) done_with (can_drop c.args.table.now c.args.hands.items) (IsMessagesAnswerText Drop c.args.table.now c.args.hands.items) _
     c.in-Err.outcome done_late c.in-Err.ensures.late c.in-Err.ensures.gives
