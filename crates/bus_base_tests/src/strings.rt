@@ -8,7 +8,7 @@ use std::alloc::{AllocError, Global};
 use std::test::Fail;
 
 /// A message whose wordstrings have so many data words, all 7, where there is one.
-fn message(alloc: Global, data_words: &[usize]) -> Result<Option<Message>, AllocError> {
+pub(crate) fn message(alloc: Global, data_words: &[usize]) -> Result<Option<Message>, AllocError> {
     let mut strings = Vec::new(alloc);
     for count in data_words {
         let words = vec![in alloc; 7u16; *count]?;

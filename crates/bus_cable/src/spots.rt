@@ -6,15 +6,15 @@ ghost use Rattle.bus_propagation.specs.Numbered.{numbered};
 use crate::cable::Named;
 use bus_strings::limits::MOST_TERMINAL;
 
-/// As many as there are numbers up to the greatest of a terminal.
-pub(crate) const SPOTS: usize = MOST_TERMINAL as usize + 1;
+/// How many terminal numbers there are with 0, which is none.
+pub(crate) const TERMINALS: usize = MOST_TERMINAL as usize + 1;
 
 /// The bit times that are named, by terminal number: 0 where none are.
-pub(crate) fn spots(named: &[Named]) -> [u64; SPOTS]
+pub(crate) fn spots(named: &[Named]) -> [u64; TERMINALS]
     requires { IsTrue (may_name_all most_wake 0 named.now) }
     ensures { (n : ℕ) → numbered result n ≡ bits_for named.now n }
 {
-    let mut spots = [0; SPOTS];
+    let mut spots = [0; TERMINALS];
     for one in named {
         spots[usize::from(one.terminal)] = one.bits;
     }

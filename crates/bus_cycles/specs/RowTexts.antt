@@ -2,8 +2,9 @@
 use Rattle.std.specs.Prelude.{ℕ, ◌+◌, ◌-◌, ◌*◌, ◌/◌, ◌%◌, Bool, true, false, not, ◌&&◌, ◌==◌}
 use Rattle.std.specs.Prelude.{nat_le, nat_lt, max, List, [], ◌∷◌, ◌++◌, codes, decimal, slice_index_or, if◌then◌else◌}
 use Rattle.std.specs.List.{flat_map, list_any}
+use Rattle.bus_shapes.specs.Classes.{digits_class}
 use Rattle.bus_shapes.specs.declared.class.Class.{Class}
-use Rattle.bus_shapes.specs.declared.class.Class.TheVariants.{Detail, Digits, Garbled, NoiseDigits, Other, Small, Wordstring}
+use Rattle.bus_shapes.specs.declared.class.Class.TheVariants.{Detail, Garbled, Other, Small, Wordstring}
 use Rattle.bus_shapes.specs.declared.sent.Sent.{Sent}
 use Rattle.bus_shapes.specs.Sayings.{sent_words}
 use Rattle.bus_shapes.specs.Scales.{place}
@@ -70,15 +71,11 @@ number_width terminal = if nat_lt terminal 10 then short_number else (if nat_lt 
 abbrev pub has_room : Area → Sent → Bool
 has_room area sent = nat_le (number_width sent.terminal) area.width
 
--- How the number looks, on a hatched box or on another.
-abbrev pub digits_of : Bool → Class
-digits_of garbled = if garbled then NoiseDigits else Digits
-
 -- The number of its terminal, in the middle of its box.
 abbrev pub number_text : Area → Sent → List ℕ
 number_text area sent =
     if has_room area sent
-    then words_text (digits_of sent.garbled) (area.left + area.width / 2) (area.top + area.height / 2 + middle_line) (decimal sent.terminal)
+    then words_text (digits_class sent.garbled) (area.left + area.width / 2) (area.top + area.height / 2 + middle_line) (decimal sent.terminal)
     else []
 
 -- A transmission in an area: its box, and its number.

@@ -4,7 +4,9 @@ ghost use Rattle.bus_cycles.specs.inside.Bounds.{IsPage, IsSent};
 ghost use Rattle.bus_cycles.specs.RowTexts as definition;
 
 use crate::cycle::Extent;
+use crate::measures::{BOX_BELOW, SLOT_BELOW};
 use crate::page::Page;
+use bus_shapes::measures::PIXEL;
 use bus_shapes::{Area, Class, Sent};
 
 /// How many slots a row has for garbled transmissions.
@@ -29,7 +31,7 @@ pub(crate) fn right_of(page: &Page, begin: u64, sent: &Sent) -> u64
     ensures some { 0 < result }
 {
     let left = left_of(page, begin, sent);
-    page.pixel(begin, sent.end).max(left + 10)
+    page.pixel(begin, sent.end).max(left + PIXEL)
 }
 
 /// The shade of a transmission.
@@ -62,7 +64,7 @@ fn slot_height(page: &Page) -> u64
     ensures least { 40 ≤ result }
     ensures most { result ≤ 100 }
 {
-    (page.row_height - 20) / 3
+    (page.row_height - 2 * BOX_BELOW) / SLOTS as u64
 }
 
 /// How far below the upper edge of its row a transmission of this shade begins.
@@ -73,9 +75,9 @@ fn below_top(page: &Page, shade: usize) -> u64
     ensures low { result ≤ 216 }
 {
     if shade < 2 {
-        10
+        BOX_BELOW
     } else {
-        10 + slot_height(page) * (shade as u64 - 2) + 6
+        BOX_BELOW + slot_height(page) * (shade as u64 - 2) + SLOT_BELOW
     }
 }
 
@@ -86,9 +88,9 @@ fn height_of(page: &Page, shade: usize) -> u64
     ensures low { result ≤ 300 }
 {
     if shade < 2 {
-        page.row_height - 20
+        page.row_height - 2 * BOX_BELOW
     } else {
-        slot_height(page) - 12
+        slot_height(page) - 2 * SLOT_BELOW
     }
 }
 

@@ -11,12 +11,15 @@ ghost use Rattle.bus_cycles.specs.Sents.{shown};
 
 use crate::areas::{area_of, class_of, right_of, shade_of};
 use crate::cycle::Extent;
+use crate::measures::{BEGINS_RIGHT, LONG_NUMBER, MIDDLE_LINE, MIDDLE_NUMBER, SHORT_NUMBER};
 use crate::page::Page;
 use crate::shown::Shown;
 use crate::survey::{MOST_ROWS, length_of};
 use bus_outer::{Sink, TextBuffer};
+use bus_shapes::measures::{LEFT_MARGIN, RIGHT_MARGIN};
 use bus_shapes::{
-    Area, Class, Sent, Window, begin_titled, begin_words, end_titled, end_words, put_sent,
+    Area, Class, Sent, Window, begin_titled, begin_words, digits_class, end_titled, end_words,
+    put_sent,
 };
 use bus_trace::Trace;
 
@@ -28,22 +31,11 @@ fn number_width(terminal: u8) -> u64
     ensures { result ≡ definition.number_width terminal }
 {
     if terminal < 10 {
-        132
+        SHORT_NUMBER
     } else if terminal < 100 {
-        198
+        MIDDLE_NUMBER
     } else {
-        264
-    }
-}
-
-/// How the number looks, on a hatched box or on another.
-fn digits_of(garbled: bool) -> Class
-    ensures { result ≡ definition.digits_of garbled }
-{
-    if garbled {
-        Class::NoiseDigits
-    } else {
-        Class::Digits
+        LONG_NUMBER
     }
 }
 
@@ -59,9 +51,9 @@ fn put_number<K: Sink>(text: &mut TextBuffer, sink: &mut K, area: Area, sent: &S
         begin_words(
             text,
             sink,
-            digits_of(sent.garbled),
+            digits_class(sent.garbled),
             area.left + area.width / 2,
-            area.top + area.height / 2 + 35,
+            area.top + area.height / 2 + MIDDLE_LINE,
         );
         text.put_number(sink, sent.terminal);
         end_words(text, sink);
@@ -176,13 +168,13 @@ fn put_row_words<K: Sink>(text: &mut TextBuffer, sink: &mut K, page: &Page, row:
     ensures { Adds K.held K.faults sink.old sink.new text.old text.new (definition.words_of page.now row) }
 {
     let line = page.line_of(row.place);
-    begin_words(text, sink, Class::Small, 200, line);
+    begin_words(text, sink, Class::Small, LEFT_MARGIN, line);
     text.put_number(sink, row.place + 1);
     end_words(text, sink);
-    begin_words(text, sink, Class::Detail, 1440, line);
+    begin_words(text, sink, Class::Detail, BEGINS_RIGHT, line);
     put_begin(text, sink, page.cycle.lift, row.begin);
     end_words(text, sink);
-    begin_words(text, sink, Class::Detail, 10200, line);
+    begin_words(text, sink, Class::Detail, RIGHT_MARGIN, line);
     text.put_number(sink, length_of(page.cycle.lift, row));
     end_words(text, sink);
 }

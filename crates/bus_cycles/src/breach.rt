@@ -7,6 +7,7 @@ ghost use Rattle.bus_cycles.specs.CyclesTexts as definition;
 ghost use Rattle.bus_cycles.specs.inside.Bounds.{IsPage};
 
 use crate::cycle::Extent;
+use crate::measures::{BREACH_BELOW, BREACH_HEIGHT, BREACH_LEFT, BREACH_OVER, BREACH_WIDTH};
 use crate::page::Page;
 use crate::survey::MOST_ROWS;
 use bus_outer::{Sink, TextBuffer};
@@ -21,8 +22,8 @@ fn put_part<K: Sink>(text: &mut TextBuffer, sink: &mut K, left: u64, top: u64)
     let area = Area {
         left,
         top,
-        width: 20,
-        height: 40,
+        width: BREACH_WIDTH,
+        height: BREACH_HEIGHT,
     };
     put_box(text, sink, Class::Breach, area);
 }
@@ -35,9 +36,10 @@ fn put_at<K: Sink>(text: &mut TextBuffer, sink: &mut K, page: &Page, left: u64, 
     ensures { Adds K.held K.faults sink.old sink.new text.old text.new (definition.breach_at page.now left row) }
 {
     let top = page.top_of(row);
-    put_part(text, sink, left, top - 30);
-    put_part(text, sink, left, top + page.row_height - 10);
-    put_words(text, sink, Class::Note, 8540, page.line_of(row), b"breach");
+    put_part(text, sink, left, top - BREACH_OVER);
+    put_part(text, sink, left, top + page.row_height - BREACH_BELOW);
+    let line = page.line_of(row);
+    put_words(text, sink, Class::Note, BREACH_LEFT, line, b"breach");
 }
 
 /// The breach at this moment, in this row where it is drawn.

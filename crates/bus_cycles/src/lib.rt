@@ -16,6 +16,7 @@ mod counting;
 mod cycle;
 pub mod laws;
 mod load;
+mod measures;
 mod page;
 mod plot;
 mod shown;

@@ -12,6 +12,7 @@ ghost use Rattle.bus_cycles.specs.Rows.{Row, extent_of, rows_of};
 ghost use Rattle.bus_cycles.specs.Sents.{shown};
 
 use crate::cycle::{Cycle, Extent};
+use crate::measures::LOAD_RIGHT;
 use crate::page::Page;
 use crate::shown::Shown;
 use crate::survey::{MOST_ROWS, length_of};
@@ -76,7 +77,13 @@ fn put_share_words<K: Sink>(
     requires low { row.end ≤ 2 ^ 41 }
     ensures { Adds K.held K.faults sink.old sink.new text.old text.new (definition.share_words page.now row busy) }
 {
-    begin_words(text, sink, Class::Detail, 9400, page.line_of(row.place));
+    begin_words(
+        text,
+        sink,
+        Class::Detail,
+        LOAD_RIGHT,
+        page.line_of(row.place),
+    );
     put_share(
         text,
         sink,

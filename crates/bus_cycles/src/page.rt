@@ -8,7 +8,9 @@ ghost use Rattle.bus_cycles.specs.inside.Bounds.{IsPage};
 ghost use Rattle.bus_cycles.specs.RowTexts as texts;
 
 use crate::cycle::Cycle;
+use crate::measures::{MIDDLE_LINE, PLAIN_ROW, PLOT_LEFT, PLOT_WIDTH, ROWS_TOP, SPLIT_ROW};
 use crate::survey::{MOST_ROWS, Survey};
+use bus_shapes::measures::PIXEL;
 use bus_shapes::{Counts, Scale};
 use bus_table::{MOST_SENDERS, Table, turn_at, turn_places};
 
@@ -63,8 +65,8 @@ fn scale_of(survey: &Survey) -> Scale
     Scale {
         from: 0,
         to: survey.longest,
-        left: 1500,
-        width: 7000,
+        left: PLOT_LEFT,
+        width: PLOT_WIDTH,
     }
 }
 
@@ -74,7 +76,7 @@ fn row_height_of(garbled: u64) -> u64
     ensures least { 140 ≤ result }
     ensures most { result ≤ 320 }
 {
-    if garbled == 0 { 140 } else { 320 }
+    if garbled == 0 { PLAIN_ROW } else { SPLIT_ROW }
 }
 
 impl Page {
@@ -101,7 +103,7 @@ impl Page {
         ensures least { 1690 ≤ result }
         ensures most { result ≤ 161690 }
     {
-        1690 + self.row_height * row
+        ROWS_TOP + self.row_height * row
     }
 
     /// The line of the words of a row.
@@ -110,7 +112,7 @@ impl Page {
         requires row { row ≤ 500 }
         ensures { result ≡ texts.line_of self.now row }
     {
-        self.top_of(row) + self.row_height / 2 + 35
+        self.top_of(row) + self.row_height / 2 + MIDDLE_LINE
     }
 
     /// The lower edge of the rows.
@@ -131,6 +133,6 @@ impl Page {
         ensures low { result < 2 ^ 21 }
     {
         let since = (t + u64::from(self.cycle.lift)).saturating_sub(begin);
-        self.scale.place(since) / 10 * 10
+        self.scale.place(since) / PIXEL * PIXEL
     }
 }

@@ -5,10 +5,18 @@ ghost use Rattle.bus_shapes.specs.Scales.{IsScale};
 ghost use Rattle.bus_cycles.specs.CyclesTexts as definition;
 ghost use Rattle.bus_cycles.specs.inside.Bounds.{IsPage};
 
+use crate::measures::{
+    BEFORE_MARK, BEHIND_MARK, BREACH_BOX_LEFT, BREACH_WIDTH, BREACH_WORDS_LEFT, EVEN_LEFT,
+    FOOT_HEIGHT, GARBLED_LEFT, GARBLED_WORDS_LEFT, LEAST_WORDS_LINE, LEGEND_HEIGHT, LEGEND_LINE,
+    LEGEND_TOP, LEGEND_WIDTH, LINE_WIDTH, LOAD_RIGHT, LONG_FOOT, LONG_PICTURE, LOWER_FOOT,
+    LOWER_TOP, LOWER_WORDS, MARK_WORDS_LINE, MARKS_TOP, ODD_LEFT, ROWS_LINE, SENT_WORDS_LEFT,
+    TICK_HEIGHT, TICKS_FOOT, UPPER_FOOT, UPPER_TICKS, UPPER_WORDS,
+};
 use crate::page::Page;
 use crate::survey::{MOST_ROWS, Survey};
 use bus_outer::{Sink, TextBuffer};
 use bus_regime::TableVerdict;
+use bus_shapes::measures::{LEFT_MARGIN, RIGHT_MARGIN};
 use bus_shapes::{
     Area, Axis, Class, Scale, Unit, begin_words, end_words, put_axis, put_box, put_words,
 };
@@ -19,7 +27,7 @@ fn is_long(page: &Page) -> bool
     requires { IsPage page.now }
     ensures { result ≡ definition.is_long page.now }
 {
-    page.bottom() > 8000
+    page.bottom() > LONG_PICTURE
 }
 
 /// The height of the picture.
@@ -27,7 +35,11 @@ pub(crate) fn height_of(page: &Page) -> u64
     requires { IsPage page.now }
     ensures { result ≡ definition.height_of page.now }
 {
-    let foot = if is_long(page) { 420 } else { 100 };
+    let foot = if is_long(page) {
+        LONG_FOOT
+    } else {
+        FOOT_HEIGHT
+    };
     page.bottom() + foot
 }
 
@@ -73,17 +85,17 @@ fn put_axes<K: Sink>(text: &mut TextBuffer, sink: &mut K, page: &Page)
 {
     let upper = Axis {
         unit: Unit::Microseconds,
-        words: 1210,
+        words: UPPER_WORDS,
         class: Class::Tick,
-        top: 1230,
-        height: 50,
+        top: UPPER_TICKS,
+        height: TICK_HEIGHT,
     };
     let lower = Axis {
         unit: Unit::BitTimes,
-        words: 1390,
+        words: LOWER_WORDS,
         class: Class::Grid,
-        top: 1420,
-        height: page.bottom() - 1420,
+        top: LOWER_TOP,
+        height: page.bottom() - LOWER_TOP,
     };
     put_axis(text, sink, &page.scale, &upper);
     put_axis(text, sink, &page.scale, &lower);
@@ -97,17 +109,17 @@ fn put_axes_below<K: Sink>(text: &mut TextBuffer, sink: &mut K, scale: &Scale, b
 {
     let lower = Axis {
         unit: Unit::BitTimes,
-        words: bottom + 150,
+        words: bottom + LOWER_FOOT,
         class: Class::Tick,
         top: bottom,
-        height: 50,
+        height: TICK_HEIGHT,
     };
     let upper = Axis {
         unit: Unit::Microseconds,
-        words: bottom + 320,
+        words: bottom + UPPER_FOOT,
         class: Class::Tick,
-        top: bottom + 170,
-        height: 50,
+        top: bottom + TICKS_FOOT,
+        height: TICK_HEIGHT,
     };
     put_axis(text, sink, scale, &lower);
     put_axis(text, sink, scale, &upper);
@@ -129,9 +141,9 @@ fn put_legend_box<K: Sink>(text: &mut TextBuffer, sink: &mut K, class: Class, le
 {
     let area = Area {
         left,
-        top: 920,
+        top: LEGEND_TOP,
         width,
-        height: 90,
+        height: LEGEND_HEIGHT,
     };
     put_box(text, sink, class, area);
 }
@@ -140,27 +152,34 @@ fn put_legend_box<K: Sink>(text: &mut TextBuffer, sink: &mut K, class: Class, le
 fn put_legend<K: Sink>(text: &mut TextBuffer, sink: &mut K)
     ensures { Adds K.held K.faults sink.old sink.new text.old text.new definition.legend_text }
 {
-    put_legend_box(text, sink, Class::Other, 200, 120);
-    put_legend_box(text, sink, Class::Wordstring, 340, 120);
+    put_legend_box(text, sink, Class::Other, EVEN_LEFT, LEGEND_WIDTH);
+    put_legend_box(text, sink, Class::Wordstring, ODD_LEFT, LEGEND_WIDTH);
     put_words(
         text,
         sink,
         Class::Small,
-        500,
-        1000,
+        SENT_WORDS_LEFT,
+        LEGEND_LINE,
         b"sent by the terminal of this number",
     );
-    put_legend_box(text, sink, Class::Garbled, 2900, 120);
+    put_legend_box(text, sink, Class::Garbled, GARBLED_LEFT, LEGEND_WIDTH);
     put_words(
         text,
         sink,
         Class::Small,
-        3060,
-        1000,
+        GARBLED_WORDS_LEFT,
+        LEGEND_LINE,
         b"garbled: another overlaps it",
     );
-    put_legend_box(text, sink, Class::Breach, 5040, 20);
-    put_words(text, sink, Class::Small, 5100, 1000, b"first breach");
+    put_legend_box(text, sink, Class::Breach, BREACH_BOX_LEFT, BREACH_WIDTH);
+    put_words(
+        text,
+        sink,
+        Class::Small,
+        BREACH_WORDS_LEFT,
+        LEGEND_LINE,
+        b"first breach",
+    );
 }
 
 /// What stands above the rows: how many there are, the legend, and the axes.
@@ -168,14 +187,28 @@ pub(crate) fn put_above<K: Sink>(text: &mut TextBuffer, sink: &mut K, page: &Pag
     requires { IsPage page.now }
     ensures { Adds K.held K.faults sink.old sink.new text.old text.new (definition.above_text page.now survey.now) }
 {
-    begin_words(text, sink, Class::Small, 200, 830);
+    begin_words(text, sink, Class::Small, LEFT_MARGIN, ROWS_LINE);
     put_row_words(text, sink, survey);
     end_words(text, sink);
     put_legend(text, sink);
     put_axes(text, sink, page);
-    put_words(text, sink, Class::Small, 200, 1530, b"cycle, its begin");
-    put_words(text, sink, Class::Detail, 10200, 1390, b"length");
-    put_words(text, sink, Class::Detail, 9400, 1390, b"load");
+    put_words(
+        text,
+        sink,
+        Class::Small,
+        LEFT_MARGIN,
+        MARK_WORDS_LINE,
+        b"cycle, its begin",
+    );
+    put_words(
+        text,
+        sink,
+        Class::Detail,
+        RIGHT_MARGIN,
+        LOWER_WORDS,
+        b"length",
+    );
+    put_words(text, sink, Class::Detail, LOAD_RIGHT, LOWER_WORDS, b"load");
 }
 
 /// A line over all rows, at a distance from their beginning.
@@ -185,9 +218,9 @@ fn mark_line(page: &Page, t: u64) -> Area
 {
     Area {
         left: page.scale.place(t),
-        top: 1450,
-        width: 10,
-        height: page.bottom() - 1450,
+        top: MARKS_TOP,
+        width: LINE_WIDTH,
+        height: page.bottom() - MARKS_TOP,
     }
 }
 
@@ -216,8 +249,8 @@ fn put_mark<K: Sink>(text: &mut TextBuffer, sink: &mut K, page: &Page, name: &[u
 {
     if t <= page.scale.to {
         put_box(text, sink, Class::Mark, mark_line(page, t));
-        let left = page.scale.place(t) + 40;
-        put_mark_words(text, sink, Class::Small, left, 1530, name, t);
+        let left = page.scale.place(t) + BEHIND_MARK;
+        put_mark_words(text, sink, Class::Small, left, MARK_WORDS_LINE, name, t);
     }
 }
 
@@ -228,8 +261,16 @@ fn put_least<K: Sink>(text: &mut TextBuffer, sink: &mut K, page: &Page, t: u64)
 {
     if t <= page.scale.to {
         put_box(text, sink, Class::Mark, mark_line(page, t));
-        let left = page.scale.place(t) - 30;
-        put_mark_words(text, sink, Class::Detail, left, 1630, b"least ", t);
+        let left = page.scale.place(t) - BEFORE_MARK;
+        put_mark_words(
+            text,
+            sink,
+            Class::Detail,
+            left,
+            LEAST_WORDS_LINE,
+            b"least ",
+            t,
+        );
     }
 }
 

@@ -17,7 +17,8 @@ use Rattle.bus_dump.specs.declared.dump.Dump.TheVariants.{Timers, Vcd, Wires}
 use Rattle.bus_dump.specs.Doubled.{doubled}
 use Rattle.bus_dump.specs.DumpTexts.{dump_text, end_of_dump, name_text}
 use Rattle.bus_dump.specs.Lanes.{Lane, lanes}
-use Rattle.bus_dump.specs.Laws.{HoldsNoFeed, IsDumped, IsShownWhole, NothingIsLost}
+use Rattle.bus_trace.specs.Runs.{HasNoFeed}
+use Rattle.bus_dump.specs.Laws.{IsDumped, IsShownWhole, NothingIsLost}
 use Rattle.bus_dump.specs.Reading.{read_named}
 use Rattle.bus_dump.specs.Scenes.{Scene, scene_at}
 use Rattle.bus_dump.specs.Signals.{Signal, Carrier, Overlap, Sync, Breach, Word, Label, Message, bus_signals, has, is_timer, lane_signals, signals, signals_of, value}
@@ -79,7 +80,7 @@ record AreDumped (dump : Dump) (first second : Option ℕ) (comment : List ℕ) 
   valid : IsTrue (is_valid table)
   left : IsTrace a
   right : IsTrace b
-  plain : HoldsNoFeed comment
+  plain : HasNoFeed comment
   horizons : a.horizon ≡ b.horizon
   texts : dump_text dump (whole a.horizon) first comment table a ≡ dump_text dump (whole b.horizon) second comment table b
 
@@ -158,7 +159,7 @@ ends_with ss scene end text s = elim (cases_lt 0 end) [
 ]
 
 same_horizon : (dump : Dump) (first second : Option ℕ) (comment : List ℕ) (table : Table) (a b : Recording) → IsTrue (is_valid table) → IsTrace a → IsTrace b
-    → HoldsNoFeed comment
+    → HasNoFeed comment
     → dump_text dump (whole a.horizon) first comment table a ≡ dump_text dump (whole b.horizon) second comment table b → a.horizon ≡ b.horizon
 same_horizon dump first second comment table a b valid left right plain texts =
     let m : ℕ = end_of_dump (whole a.horizon) a.horizon in

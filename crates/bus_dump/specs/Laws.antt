@@ -4,7 +4,6 @@ use Rattle.std.specs.Prelude.{◌==◌, nat_le, nat_lt}
 use Rattle.std.specs.Prelude.{List, [], ◌∷◌, ◌++◌, length, slice_get, Option, Some, None, IsTrue, if◌then◌else◌}
 use Rattle.std.specs.List.{AllByRecursion, count_by, filter, flat_map, list_any, range_with_len}
 use Rattle.std.specs.Option.{is_some, option_map_or}
-use Rattle.bus_text.specs.Lines.{is_feed}
 use Rattle.bus_strings.specs.Limits.{horizon_limit, word_bits}
 use Rattle.bus_strings.specs.Members.{In}
 use Rattle.bus_strings.specs.Messages.{Entry}
@@ -18,6 +17,7 @@ use Rattle.bus_timers.specs.MayStartTest.{may_start}
 use Rattle.bus_timers.specs.Timings.{due_place}
 use Rattle.bus_regime.specs.Lines.{verdict_words}
 use Rattle.bus_regime.specs.Verdicts.{verdict_of}
+use Rattle.bus_trace.specs.Runs.{HasNoFeed}
 use Rattle.bus_trace.specs.Traces.{Recording, IsTrace}
 use Rattle.bus_shapes.specs.Windows.{IsWindow, Window, holds as holds_time, whole}
 use Rattle.bus_medium.specs.Lawful.{HasEntry, IsLawful, Station}
@@ -38,10 +38,6 @@ use Rattle.bus_dump.specs.Signals.{Gap, May, Bit, Floating, Number, Unknown, has
 use Rattle.bus_dump.specs.Stamps.{StampsAre, stamped}
 
 -- ---- texts
--- A text without a line feed.
-abbrev pub HoldsNoFeed : List ℕ → Type 0
-HoldsNoFeed text = AllByRecursion (λ b. is_feed b ≡ false) text
-
 -- A dump of a window has a bit time of a trace.
 pub record IsDumped (window : Window) (trace : Recording) (t : ℕ) : Type 0 where
   pub held : holds_time window t ≡ true
@@ -51,7 +47,7 @@ pub record IsDumped (window : Window) (trace : Recording) (t : ℕ) : Type 0 whe
 abbrev pub DumpsAreRead : Type 0
 DumpsAreRead =
     (dump : Dump) (window : Window) (breach : Option ℕ) (comment : List ℕ) (table : Table) (trace : Recording) (t : ℕ) (signal : Signal)
-    → IsTrue (is_valid table) → IsTrace trace → IsWindow window → HoldsNoFeed comment → IsDumped window trace t
+    → IsTrue (is_valid table) → IsTrace trace → IsWindow window → HasNoFeed comment → IsDumped window trace t
     → In signal (signals dump (lanes table trace.list))
     → read_named (name_text signal) (units * t) (dump_text dump window breach comment table trace)
     ≡ Some (value signal (scene_at dump breach table trace.list t))
@@ -70,7 +66,7 @@ abbrev pub NamesAreDeclared : Type 0
 NamesAreDeclared =
     (dump : Dump) (window : Window) (breach : Option ℕ) (comment : List ℕ) (table : Table) (trace : Recording) (signal : Signal)
     → IsTrue (is_valid table) → IsTrace trace
-    → HoldsNoFeed comment → In signal (signals dump (lanes table trace.list))
+    → HasNoFeed comment → In signal (signals dump (lanes table trace.list))
     → identifier (name_text signal) (dump_text dump window breach comment table trace) ≡ Some (id_text signal)
 
 -- No two signals of a dump have the same identifier.
@@ -89,7 +85,7 @@ stamped_in dump window breach table trace =
 abbrev pub StampsAreTold : Type 0
 StampsAreTold =
     (dump : Dump) (window : Window) (breach : Option ℕ) (comment : List ℕ) (table : Table) (trace : Recording)
-    → IsTrue (is_valid table) → IsTrace trace → IsWindow window → HoldsNoFeed comment
+    → IsTrue (is_valid table) → IsTrace trace → IsWindow window → HasNoFeed comment
     → StampsAre (stamped_in dump window breach table trace) window.from (end_of_dump window trace.horizon)
     (dump_text dump window breach comment table trace)
 
@@ -355,7 +351,7 @@ abbrev pub NothingIsLost : Type 0
 NothingIsLost =
     (dump : Dump) (first second : Option ℕ) (comment : List ℕ) (table : Table) (a b : Recording) → has dump false Word ≡ true
     → IsTrue (is_valid table)
-    → IsTrace a → IsTrace b → HoldsNoFeed comment → IsShownWhole a → IsShownWhole b
+    → IsTrace a → IsTrace b → HasNoFeed comment → IsShownWhole a → IsShownWhole b
     → dump_text dump (whole a.horizon) first comment table a ≡ dump_text dump (whole b.horizon) second comment table b
     → (a.horizon ≡ b.horizon) × (a.list ≡ b.list)
 

@@ -1,8 +1,9 @@
 -- The text of a save file of GTKWave: what the viewer shows of the dumps of a trace, in which order, and how.
-use Rattle.std.specs.Prelude.{ℕ, ◌-◌, ◌*◌, ◌==◌, Bool, nat_lt, List, [], ◌++◌, length, codes, decimal, drop, Option, if◌then◌else◌}
+use Rattle.std.specs.Prelude.{ℕ, ◌-◌, ◌*◌, Bool, nat_lt, List, [], ◌++◌, length, codes, decimal, drop, Option, if◌then◌else◌}
 use Rattle.std.specs.Int.{leading_zeros, w64}
-use Rattle.std.specs.List.{find, flat_map}
+use Rattle.std.specs.List.{flat_map}
 use Rattle.std.specs.Option.{option_map_or}
+use Rattle.bus_table.specs.Fits.{sender_of}
 use Rattle.bus_table.specs.Tables.{Sender, Table}
 use Rattle.bus_table.specs.declared.mode.Mode.{Mode}
 use Rattle.bus_table.specs.declared.mode.Mode.TheVariants.{Aperiodic, Periodic}
@@ -82,7 +83,7 @@ timing_text Periodic sender = codes " TG " ++ decimal sender.tg ++ codes " AT " 
 abbrev pub lane_title : Table → ℕ → List ℕ
 lane_title table terminal =
     codes "T" ++ decimal terminal
-    ++ option_map_or (timing_text table.mode) (find (λ (sender : Sender). sender.number == terminal) table.senders) []
+    ++ option_map_or (timing_text table.mode) (sender_of table.senders terminal) []
 
 -- The signals of the timers of a sender.
 abbrev pub timers_shown : ℕ → List ℕ

@@ -13,9 +13,9 @@ ghost use Rattle.bus_dump.specs.Signals.{Label, Message, Interval, Synchronizati
 
 use crate::dump::Dump;
 use crate::lane::Lane;
-use crate::live::TERMINALS;
 use crate::signal::Signal;
 use arrayvec::ArrayVec;
+use bus_shapes::TERMINALS;
 use bus_strings::Transmission;
 use bus_strings::limits::MOST_TERMINAL;
 use bus_table::{Table, turn_at, turn_places};

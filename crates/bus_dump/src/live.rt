@@ -1,8 +1,4 @@
 //! The transmissions whose spans hold a bit time.
-use bus_strings::limits::MOST_TERMINAL;
-
-/// One more than the greatest terminal number: no more transmissions are live at once, where none is doubled.
-pub(crate) const TERMINALS: usize = MOST_TERMINAL as usize + 1;
 
 /// A transmission whose span holds the present bit time.
 #[derive(Clone, Copy, Debug, Default, PartialEq, Eq)]

@@ -5,9 +5,10 @@ ghost use Rattle.bus_strings.specs.Transmissions.{end_of};
 ghost use Rattle.bus_dump.specs.inside.Walks.{IsLive, IsSteady, StaysTo, see, sight_of};
 
 use crate::glance::glance_at;
-use crate::live::{Live, TERMINALS};
+use crate::live::Live;
 use crate::shown::Seen;
 use arrayvec::ArrayVec;
+use bus_shapes::TERMINALS;
 use bus_strings::Transmission;
 
 /// What is seen of a live transmission, and up to which later bit time.

@@ -1,11 +1,11 @@
 //! The text of a save file.
-ghost use Rattle.std.specs.Prelude.{◌≡◌, ◌==◌, ◌<◌, ◌≤◌, [], drop, IfSome, if◌then◌else◌};
-ghost use Rattle.std.specs.List.{find, flat_map};
+ghost use Rattle.std.specs.Prelude.{◌≡◌, ◌<◌, ◌≤◌, [], drop, IfSome, if◌then◌else◌};
+ghost use Rattle.std.specs.List.{flat_map};
 ghost use Rattle.std.specs.Option.{option_map_or};
 ghost use Rattle.bus_outer.specs.Sinks.{WritesText};
 ghost use Rattle.bus_outer.specs.Texts.{Adds};
 ghost use Rattle.bus_strings.specs.Limits.{horizon_limit};
-ghost use Rattle.bus_table.specs.Tables.{Sender as AnySender};
+ghost use Rattle.bus_table.specs.Fits.{sender_of};
 ghost use Rattle.bus_dump.specs.DumpTexts.{bits_text};
 ghost use Rattle.bus_dump.specs.SaveFiles as texts;
 
@@ -129,7 +129,7 @@ fn put_timing<K: Sink>(text: &mut TextBuffer, sink: &mut K, mode: Mode, sender: 
 /// The timers of a terminal, where it is a sender of the table.
 fn put_timing_of<K: Sink>(text: &mut TextBuffer, sink: &mut K, table: &Table, terminal: u8)
     ensures { Adds K.held K.faults sink.old sink.new text.old text.new
-        (option_map_or (texts.timing_text table.now.mode) (find (λ (s : AnySender). s.number == terminal) table.now.senders) []) }
+        (option_map_or (texts.timing_text table.now.mode) (sender_of table.now.senders terminal) []) }
 {
     if let Some(sender) = sender_of(table.senders(), terminal) {
         put_timing(text, sink, table.mode(), sender);

@@ -4,8 +4,9 @@ ghost use Rattle.std.specs.Option.{option_map_or};
 ghost use Rattle.bus_strings.specs.Messages.{Entry};
 ghost use Rattle.bus_dump.specs.inside.Walks.{BeginsFrom, IsWalkable, Reaches, Stands, ends_after};
 
-use crate::live::{Live, TERMINALS};
+use crate::live::Live;
 use arrayvec::ArrayVec;
+use bus_shapes::TERMINALS;
 use bus_strings::laws::neighbours_tell;
 use bus_strings::{Marks, Transmission};
 

@@ -36,7 +36,8 @@ fn gathered(alloc: Global, list: &[Transmission]) -> Result<Vec<Stretch>, AllocE
     Ok(gathered)
 }
 
-/// The stretches in which a list has carrier, in order, each as long as it can be.
+/// The stretches in which a list has carrier, in order, each as long as it can be. The error is that of stretches for which there is no
+/// memory.
 pub fn carrier_stretches(alloc: Global, list: &[Transmission]) -> Result<Vec<Stretch>, AllocError>
     ensures { IfOk result (λ stretches. IsCarrierOf stretches.items list.now) }
 {

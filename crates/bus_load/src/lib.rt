@@ -10,8 +10,6 @@ mod counting;
 mod gathering;
 mod joining;
 mod stretch;
-#[cfg(test)]
-mod tests;
 
 pub use counting::bits_within;
 pub use gathering::carrier_stretches;

@@ -7,8 +7,9 @@ use Rattle.bus_text.specs.Digits.{hexadecimal}
 use Rattle.bus_strings.specs.Limits.{word_bits}
 use Rattle.bus_strings.specs.Messages.{Entry, Wordstring}
 use Rattle.bus_strings.specs.Pulses.{pulse_length, pulse_start}
+use Rattle.bus_shapes.specs.Classes.{digits_class}
 use Rattle.bus_shapes.specs.declared.class.Class.{Class}
-use Rattle.bus_shapes.specs.declared.class.Class.TheVariants.{Digits, Edge, Label, Noise, NoiseDigits, Overlap}
+use Rattle.bus_shapes.specs.declared.class.Class.TheVariants.{Edge, Label, Noise, Overlap}
 use Rattle.bus_shapes.specs.declared.class.Class.TheVariants as classes
 use Rattle.bus_shapes.specs.declared.scale.Scale.{Scale}
 use Rattle.bus_shapes.specs.declared.sent.Sent.{Sent}
@@ -54,10 +55,6 @@ titled_words table sent from to string = string_words from to string ++ taken_wo
 -- How a wordstring looks, of a garbled transmission or of another.
 abbrev pub string_class : Bool → Class
 string_class garbled = if garbled then Noise else classes.Wordstring
-
--- How its words look.
-abbrev pub digits_class : Bool → Class
-digits_class garbled = if garbled then NoiseDigits else Digits
 
 -- The box of a wordstring, in a row with this upper edge.
 abbrev pub string_area : Scale → ℕ → ℕ → ℕ → Area

@@ -1,9 +1,10 @@
 -- The text of a time line.
-use Rattle.std.specs.Prelude.{ℕ, ◌+◌, ◌-◌, ◌%◌, Bool, true, false, ◌&&◌, ◌==◌, nat_eq, nat_lt, List, [], ◌∷◌}
+use Rattle.std.specs.Prelude.{ℕ, ◌+◌, ◌-◌, ◌%◌, Bool, true, false, ◌&&◌, nat_eq, nat_lt, List, [], ◌∷◌}
 use Rattle.std.specs.Prelude.{◌++◌, length, codes, decimal, Option, Some, None, if◌then◌else◌}
-use Rattle.std.specs.List.{count_by, find}
+use Rattle.std.specs.List.{count_by}
 use Rattle.std.specs.Option.{option_map_or}
 use Rattle.bus_regime.specs.declared.table_verdict.TableVerdict.{TableVerdict}
+use Rattle.bus_table.specs.Fits.{sender_of}
 use Rattle.bus_table.specs.Tables.{Sender, Table}
 use Rattle.bus_table.specs.declared.mode.Mode.{Mode}
 use Rattle.bus_table.specs.declared.mode.Mode.TheVariants.{Aperiodic, Periodic}
@@ -94,15 +95,11 @@ abbrev pub band_text : ℕ → ℕ → List ℕ
 band_text k top =
     if nat_eq (k % 2) 0 then box_text Band (record { left = plot_left; top = top; width = plot_width; height = row_height }) else []
 
--- The sender with this number.
-abbrev pub sender_of : Table → ℕ → Option Sender
-sender_of table terminal = find (λ (sender : Sender). sender.number == terminal) table.senders
-
 -- What stands behind and beside lane k.
 abbrev pub lane_front : Table → ℕ → Lane → List ℕ
 lane_front table k lane =
     band_text k (lane_top k) ++ terminal_text (lane_top k) lane.terminal
-    ++ option_map_or (sender_text table.mode (lane_top k)) (sender_of table lane.terminal) []
+    ++ option_map_or (sender_text table.mode (lane_top k)) (sender_of table.senders lane.terminal) []
 
 -- ---- the rows
 -- A row of one place: of what is garbled, or of what isn't.
@@ -139,7 +136,7 @@ lane_sender scale table trace k lane sender =
 -- The same of lane k, where its terminal is a sender.
 abbrev pub lane_timers : Scale → Table → Recording → ℕ → Lane → List ℕ
 lane_timers scale table trace k lane =
-    option_map_or (lane_sender scale table trace k lane) (sender_of table lane.terminal) []
+    option_map_or (lane_sender scale table trace k lane) (sender_of table.senders lane.terminal) []
 
 -- Those of the bus and of the lanes, where the scale is near enough.
 abbrev pub timers_text : Scale → List Lane → Table → Recording → List ℕ

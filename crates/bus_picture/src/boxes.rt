@@ -7,6 +7,7 @@ ghost use Rattle.bus_picture.specs.Rows as definition;
 ghost use Rattle.bus_picture.specs.inside.Working as working;
 ghost use Rattle.bus_picture.specs.inside.Working.{IsLast, IsPile, held};
 
+use crate::measures::{BOX_BELOW, BOX_HEIGHT};
 use crate::pile::{Pile, is_narrow, joins, pile_height, put_pile_words};
 use crate::places::meets;
 use crate::row::Row;
@@ -141,7 +142,12 @@ fn put_pile<K: Sink>(
         (definition.pile_text scale.now takers.now row.now list.now pile.now) }
 {
     let height = pile_height(scale, pile);
-    let area = stretch(scale, pile, row.top + 60 + (180 - height), height);
+    let area = stretch(
+        scale,
+        pile,
+        row.top + BOX_BELOW + (BOX_HEIGHT - height),
+        height,
+    );
     begin_titled(text, sink, box_class(scale, row, pile), area);
     put_pile_words(text, sink, scale, pile);
     end_titled(text, sink);

@@ -2,9 +2,12 @@
 ghost use Rattle.std.specs.Prelude.{◌≡◌, ◌<◌, ◌≤◌, ◌++◌, [], codes, decimal, length};
 ghost use Rattle.std.specs.Option.{option_map_or};
 ghost use Rattle.bus_outer.specs.Texts.{Adds};
+ghost use Rattle.bus_table.specs.Fits.{sender_of};
 ghost use Rattle.bus_picture.specs.TimeLines as definition;
 
-use crate::measures::{NAMES_RIGHT, PLOT_LEFT, PLOT_TOP, PLOT_WIDTH, ROW_HEIGHT};
+use crate::measures::{
+    NAMES_RIGHT, PLOT_LEFT, PLOT_TOP, PLOT_WIDTH, ROW_HEIGHT, TERMINAL_LINE, TIMERS_LINE,
+};
 use bus_dump::Lane;
 use bus_outer::{Sink, TextBuffer};
 use bus_shapes::{Area, Class, begin_words, end_words, put_box};
@@ -50,7 +53,7 @@ fn put_sender<K: Sink>(text: &mut TextBuffer, sink: &mut K, mode: Mode, top: u64
     requires { top < 100000 }
     ensures { Adds K.held K.faults sink.old sink.new text.old text.new (definition.sender_text mode top sender.now) }
 {
-    begin_words(text, sink, Class::Detail, NAMES_RIGHT, top + 270);
+    begin_words(text, sink, Class::Detail, NAMES_RIGHT, top + TIMERS_LINE);
     let (tg, at) = (sender.tg(), sender.at());
     put_timers(text, sink, mode, tg, at);
     end_words(text, sink);
@@ -76,7 +79,7 @@ fn put_terminal<K: Sink>(text: &mut TextBuffer, sink: &mut K, top: u64, terminal
     requires { top < 100000 }
     ensures { Adds K.held K.faults sink.old sink.new text.old text.new (definition.terminal_text top terminal) }
 {
-    begin_words(text, sink, Class::Counts, NAMES_RIGHT, top + 160);
+    begin_words(text, sink, Class::Counts, NAMES_RIGHT, top + TERMINAL_LINE);
     text.put_byte(sink, b'T');
     text.put_number(sink, terminal);
     end_words(text, sink);
@@ -92,7 +95,7 @@ fn put_sender_of<K: Sink>(
 )
     requires { top < 100000 }
     ensures { Adds K.held K.faults sink.old sink.new text.old text.new
-        (option_map_or (definition.sender_text table.now.mode top) (definition.sender_of table.now terminal) []) }
+        (option_map_or (definition.sender_text table.now.mode top) (sender_of table.now.senders terminal) []) }
 {
     let mode = table.mode();
     if let Some(sender) = sender_of(table.senders(), terminal) {

@@ -4,12 +4,100 @@ ghost use Rattle.bus_outer.specs.Texts.{Adds};
 ghost use Rattle.bus_table.specs.declared.mode.Mode.TheVariants.{Periodic};
 ghost use Rattle.bus_picture.specs.Legends as definition;
 
+use crate::measures::{LINE_HEIGHT, OFFSET_HEIGHT, OFFSET_WIDTH};
 use bus_outer::{Sink, TextBuffer};
 use bus_shapes::{Area, Class, put_box, put_words};
 use bus_table::Mode;
 
+/// How far below the first row of the legend the second lies.
+const LEGEND_ROW: u64 = 260;
+
+/// How far below the upper edge of a box of the legend its words stand.
+const LEGEND_WORDS: u64 = 120;
+
+/// The height of a sample of a box.
+const SAMPLE_HEIGHT: u64 = 180;
+
+/// How far below the upper edge of a sample the box in it begins.
+const INNER_BELOW: u64 = 30;
+
+/// The height of the box in a sample.
+const INNER_HEIGHT: u64 = 120;
+
+/// How far below the upper edge of a sample a line lies.
+const LINE_BELOW: u64 = 83;
+
+/// Where the sample of a message begins.
+const MESSAGE_LEFT: u64 = 1500;
+
+/// Its width.
+const MESSAGE_WIDTH: u64 = 700;
+
+/// Where its first wordstring begins.
+const FIRST_LEFT: u64 = 1540;
+
+/// Where its second wordstring begins.
+const SECOND_LEFT: u64 = 1900;
+
+/// The width of a wordstring in it.
+const STRING_WIDTH: u64 = 260;
+
+/// Where the words on messages begin.
+const MESSAGE_WORDS: u64 = 2280;
+
+/// Where the sample of a garbled message begins.
+const GARBLED_LEFT: u64 = 6400;
+
+/// Its width.
+const GARBLED_WIDTH: u64 = 500;
+
+/// Where its wordstring begins.
+const NOISE_LEFT: u64 = 6440;
+
+/// The width of that.
+const NOISE_WIDTH: u64 = 420;
+
+/// Where the words on garbled messages begin.
+const GARBLED_WORDS: u64 = 6980;
+
+/// The width of the samples behind these.
+const COLUMN_WIDTH: u64 = 300;
+
+/// Where the sample of a tint begins.
+const OVERLAP_LEFT: u64 = 7700;
+
+/// Where the words on it begin.
+const OVERLAP_WORDS: u64 = 8080;
+
+/// Where the sample of what lies behind the horizon begins.
+const UNOBSERVED_LEFT: u64 = 1500;
+
+/// Where the words on it begin.
+const UNOBSERVED_WORDS: u64 = 1880;
+
+/// Where the sample of a gap begins.
+const GAP_LEFT: u64 = 3200;
+
+/// Where the words on gaps begin.
+const GAP_WORDS: u64 = 3580;
+
+/// Where the sample of a transmit interval begins.
+const INTERVAL_LEFT: u64 = 4550;
+
+/// Where the words on transmit intervals begin.
+const INTERVAL_WORDS: u64 = 4930;
+
+/// Where the sample of the tick of an offset begins.
+const TICK_LEFT: u64 = 6400;
+
+/// How far below the upper edge of a sample it begins.
+const SAMPLE_TICK_BELOW: u64 = 67;
+
+/// Where the words on offsets begin.
+const OFFSET_WORDS: u64 = 6480;
+
 /// A box of the legend.
-fn put_sample<K: Sink>(
+fn put_legend_box<K: Sink>(
     text: &mut TextBuffer,
     sink: &mut K,
     class: Class,
@@ -29,20 +117,73 @@ fn put_sample<K: Sink>(
     put_box(text, sink, class, area);
 }
 
+/// A sample of a box.
+fn put_sample<K: Sink>(
+    text: &mut TextBuffer,
+    sink: &mut K,
+    class: Class,
+    left: u64,
+    top: u64,
+    width: u64,
+)
+    ensures { Adds K.held K.faults sink.old sink.new text.old text.new (definition.sample_box class left top width) }
+{
+    put_legend_box(text, sink, class, left, top, width, SAMPLE_HEIGHT);
+}
+
+/// The box in a sample.
+fn put_inner<K: Sink>(
+    text: &mut TextBuffer,
+    sink: &mut K,
+    class: Class,
+    left: u64,
+    top: u64,
+    width: u64,
+)
+    requires { top < 200000 }
+    ensures { Adds K.held K.faults sink.old sink.new text.old text.new (definition.inner_box class left top width) }
+{
+    let below = top + INNER_BELOW;
+    put_legend_box(text, sink, class, left, below, width, INNER_HEIGHT);
+}
+
+/// A sample of a line.
+fn put_line<K: Sink>(text: &mut TextBuffer, sink: &mut K, class: Class, left: u64, top: u64)
+    requires { top < 200000 }
+    ensures { Adds K.held K.faults sink.old sink.new text.old text.new (definition.sample_line class left top) }
+{
+    let below = top + LINE_BELOW;
+    put_legend_box(text, sink, class, left, below, COLUMN_WIDTH, LINE_HEIGHT);
+}
+
+/// The words of a sample.
+fn put_note<K: Sink>(text: &mut TextBuffer, sink: &mut K, left: u64, top: u64, words: &[u8])
+    requires { top < 200000 }
+    ensures { Adds K.held K.faults sink.old sink.new text.old text.new (definition.sample_words left top words.now) }
+{
+    put_words(text, sink, Class::Small, left, top + LEGEND_WORDS, words);
+}
+
 /// What a message is.
 fn put_message<K: Sink>(text: &mut TextBuffer, sink: &mut K, top: u64)
     requires { top < 200000 }
     ensures { Adds K.held K.faults sink.old sink.new text.old text.new (definition.legend_message top) }
 {
-    put_sample(text, sink, Class::Message, 1500, top, 700, 180);
-    put_sample(text, sink, Class::Wordstring, 1540, top + 30, 260, 120);
-    put_sample(text, sink, Class::Wordstring, 1900, top + 30, 260, 120);
-    put_words(
+    put_sample(text, sink, Class::Message, MESSAGE_LEFT, top, MESSAGE_WIDTH);
+    put_inner(text, sink, Class::Wordstring, FIRST_LEFT, top, STRING_WIDTH);
+    put_inner(
         text,
         sink,
-        Class::Small,
-        2280,
-        top + 120,
+        Class::Wordstring,
+        SECOND_LEFT,
+        top,
+        STRING_WIDTH,
+    );
+    put_note(
+        text,
+        sink,
+        MESSAGE_WORDS,
+        top,
         b"a message and its wordstrings: label, extension, +data words",
     );
 }
@@ -52,9 +193,9 @@ fn put_garbled<K: Sink>(text: &mut TextBuffer, sink: &mut K, top: u64)
     requires { top < 200000 }
     ensures { Adds K.held K.faults sink.old sink.new text.old text.new (definition.legend_garbled top) }
 {
-    put_sample(text, sink, Class::Garbled, 6400, top, 500, 180);
-    put_sample(text, sink, Class::Noise, 6440, top + 30, 420, 120);
-    put_words(text, sink, Class::Small, 6980, top + 120, b"garbled");
+    put_sample(text, sink, Class::Garbled, GARBLED_LEFT, top, GARBLED_WIDTH);
+    put_inner(text, sink, Class::Noise, NOISE_LEFT, top, NOISE_WIDTH);
+    put_note(text, sink, GARBLED_WORDS, top, b"garbled");
 }
 
 /// Tints, where there is one.
@@ -63,15 +204,8 @@ fn put_tint<K: Sink>(text: &mut TextBuffer, sink: &mut K, tinted: bool, top: u64
     ensures { Adds K.held K.faults sink.old sink.new text.old text.new (definition.legend_tint tinted top) }
 {
     if tinted {
-        put_sample(text, sink, Class::Overlap, 7700, top, 300, 180);
-        put_words(
-            text,
-            sink,
-            Class::Small,
-            8080,
-            top + 120,
-            b"two or more at once",
-        );
+        put_sample(text, sink, Class::Overlap, OVERLAP_LEFT, top, COLUMN_WIDTH);
+        put_note(text, sink, OVERLAP_WORDS, top, b"two or more at once");
     }
 }
 
@@ -80,15 +214,15 @@ fn put_horizon<K: Sink>(text: &mut TextBuffer, sink: &mut K, top: u64)
     requires { top < 200000 }
     ensures { Adds K.held K.faults sink.old sink.new text.old text.new (definition.legend_horizon top) }
 {
-    put_sample(text, sink, Class::Unobserved, 1500, top, 300, 180);
-    put_words(
+    put_sample(
         text,
         sink,
-        Class::Small,
-        1880,
-        top + 120,
-        b"behind the horizon",
+        Class::Unobserved,
+        UNOBSERVED_LEFT,
+        top,
+        COLUMN_WIDTH,
     );
+    put_note(text, sink, UNOBSERVED_WORDS, top, b"behind the horizon");
 }
 
 /// The timers.
@@ -96,17 +230,10 @@ fn put_lines<K: Sink>(text: &mut TextBuffer, sink: &mut K, top: u64)
     requires { top < 200000 }
     ensures { Adds K.held K.faults sink.old sink.new text.old text.new (definition.legend_timers top) }
 {
-    put_sample(text, sink, Class::Gap, 3200, top + 83, 300, 14);
-    put_words(text, sink, Class::Small, 3580, top + 120, b"gap: SG, TG");
-    put_sample(text, sink, Class::Interval, 4550, top + 83, 300, 14);
-    put_words(
-        text,
-        sink,
-        Class::Small,
-        4930,
-        top + 120,
-        b"transmit interval: TI",
-    );
+    put_line(text, sink, Class::Gap, GAP_LEFT, top);
+    put_note(text, sink, GAP_WORDS, top, b"gap: SG, TG");
+    put_line(text, sink, Class::Interval, INTERVAL_LEFT, top);
+    put_note(text, sink, INTERVAL_WORDS, top, b"transmit interval: TI");
 }
 
 /// The tick of an offset.
@@ -114,8 +241,14 @@ fn put_tick<K: Sink>(text: &mut TextBuffer, sink: &mut K, top: u64)
     requires { top < 200000 }
     ensures { Adds K.held K.faults sink.old sink.new text.old text.new (definition.legend_offsets Periodic top) }
 {
-    put_sample(text, sink, Class::Mark, 6400, top + 67, 20, 46);
-    put_words(text, sink, Class::Small, 6480, top + 120, b"offset: AT");
+    let area = Area {
+        left: TICK_LEFT,
+        top: top + SAMPLE_TICK_BELOW,
+        width: OFFSET_WIDTH,
+        height: OFFSET_HEIGHT,
+    };
+    put_box(text, sink, Class::Mark, area);
+    put_note(text, sink, OFFSET_WORDS, top, b"offset: AT");
 }
 
 /// The ticks of offsets, which there are in periodic mode.
@@ -161,5 +294,5 @@ pub(crate) fn put_legend<K: Sink>(
     ensures { Adds K.held K.faults sink.old sink.new text.old text.new (definition.legend_text mode tinted top) }
 {
     put_boxes(text, sink, tinted, top);
-    put_between(text, sink, mode, top + 260);
+    put_between(text, sink, mode, top + LEGEND_ROW);
 }

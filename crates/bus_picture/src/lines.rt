@@ -3,7 +3,8 @@ ghost use Rattle.std.specs.Prelude.{◌≡◌, ◌<◌, ◌≤◌, ◌^◌, true
 ghost use Rattle.bus_shapes.specs.Scales.{IsScale};
 ghost use Rattle.bus_picture.specs.Timers as definition;
 
-use crate::measures::PLOT_LEFT;
+use crate::measures::{GAP_REACH, LINE_HEIGHT, PLOT_LEFT};
+use bus_shapes::measures::PIXEL;
 use bus_shapes::{Area, Scale};
 
 /// Whether what goes from one moment to a later one is drawn: it takes a pixel.
@@ -12,7 +13,7 @@ pub(crate) fn is_drawn(scale: &Scale, from: u64, to: u64) -> bool
     ensures value { result ≡ definition.is_drawn scale.now from to }
     ensures order { (result ≡ true) → from < to }
 {
-    from < to && scale.place(from) + 10 <= scale.place(to)
+    from < to && scale.place(from) + PIXEL <= scale.place(to)
 }
 
 /// A thin line from one moment to another.
@@ -27,7 +28,7 @@ pub(crate) fn line_area(scale: &Scale, top: u64, from: u64, to: u64) -> Area
         left: scale.place(from),
         top,
         width: scale.extent(from, to),
-        height: 14,
+        height: LINE_HEIGHT,
     }
 }
 
@@ -37,5 +38,5 @@ pub(crate) fn has_words(room: u64, area: Area) -> bool
     requires width { area.width < 2 ^ 22 }
     ensures { result ≡ definition.has_words room area }
 {
-    room <= area.width && PLOT_LEFT + 790 <= area.left + area.width
+    room <= area.width && PLOT_LEFT + GAP_REACH <= area.left + area.width
 }

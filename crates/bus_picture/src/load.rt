@@ -9,13 +9,15 @@ ghost use Rattle.bus_picture.specs.Lanes.{each_lane};
 ghost use Rattle.bus_picture.specs.Loads as definition;
 
 use crate::lanes::lane_top;
-use crate::measures::PLOT_TOP;
+use crate::measures::{BUS_LINE, LOAD_LEFT, PLOT_TOP, TERMINAL_LINE};
 use crate::strings::string_of;
 use bus_dump::Lane;
 use bus_load::{Stretch, bits_within};
 use bus_outer::{Sink, TextBuffer};
+use bus_shapes::measures::{ANSWER_LINE, RIGHT_MARGIN};
 use bus_shapes::{Class, Scale, begin_words, end_words};
 use bus_strings::laws::pulses_cover;
+use bus_strings::limits::{INNER_GAP, WORD_BITS};
 use bus_strings::{Transmission, pulse_count, put_share, tenths};
 
 /// How many bit times a stretch has in common with the scale.
@@ -33,7 +35,7 @@ fn pulse_length(x: &Transmission, k: u32) -> u64
     ensures value { result ≡ pulse_length x.now.message k }
     ensures few { result < 2 ^ 13 }
 {
-    u64::from(20 * string_of(x, k).word_count())
+    u64::from(WORD_BITS * string_of(x, k).word_count())
 }
 
 /// For how many bit times of the scale a transmission sends, the quiet between its pulses left out.
@@ -48,7 +50,7 @@ fn sent_bits(scale: &Scale, x: &Transmission) -> u64
     for k in 0..pulse_count(&x.message) {
         let end = begin + pulse_length(x, k);
         bits += common(scale, begin, end);
-        begin = end + 4;
+        begin = end + u64::from(INNER_GAP);
     }
     bits
 }
@@ -90,7 +92,7 @@ fn put_load_heading<K: Sink>(text: &mut TextBuffer, sink: &mut K, scale: &Scale,
     requires few { bits < 2 ^ 111 }
     ensures { Adds K.held K.faults sink.old sink.new text.old text.new (definition.load_heading scale.now bits) }
 {
-    begin_words(text, sink, Class::Counts, 10200, 480);
+    begin_words(text, sink, Class::Counts, RIGHT_MARGIN, ANSWER_LINE);
     text.put(sink, b"load ");
     put_load_words(text, sink, scale, bits);
     end_words(text, sink);
@@ -102,7 +104,7 @@ fn put_load<K: Sink>(text: &mut TextBuffer, sink: &mut K, scale: &Scale, line: u
     requires few { bits < 2 ^ 111 }
     ensures { Adds K.held K.faults sink.old sink.new text.old text.new (definition.load_text scale.now line bits) }
 {
-    begin_words(text, sink, Class::Small, 9940, line);
+    begin_words(text, sink, Class::Small, LOAD_LEFT, line);
     put_load_words(text, sink, scale, bits);
     end_words(text, sink);
 }
@@ -122,7 +124,7 @@ fn put_lane_load<K: Sink>(
         (definition.lane_load scale.now list.now k lane) }
 {
     let bits = terminal_bits(scale, lane.terminal, list);
-    put_load(text, sink, scale, lane_top(k) + 160, bits);
+    put_load(text, sink, scale, lane_top(k) + TERMINAL_LINE, bits);
 }
 
 /// The load of each lane.
@@ -150,7 +152,7 @@ fn put_bus_load<K: Sink>(text: &mut TextBuffer, sink: &mut K, scale: &Scale, bit
     ensures { Adds K.held K.faults sink.old sink.new text.old text.new (definition.bus_load scale.now bits) }
 {
     put_load_heading(text, sink, scale, bits);
-    put_load(text, sink, scale, PLOT_TOP + 200, bits);
+    put_load(text, sink, scale, PLOT_TOP + BUS_LINE, bits);
 }
 
 /// The load of the bus, from its carrier, and of each lane. It goes over the list once for each lane.

@@ -8,7 +8,10 @@ ghost use Rattle.bus_picture.specs.Lanes.{each_lane};
 ghost use Rattle.bus_picture.specs.Marks as definition;
 
 use crate::lanes::lane_top;
-use crate::measures::PLOT_TOP;
+use crate::measures::{
+    BOX_BELOW, BOX_HEIGHT, BREACH_LINE, BREACH_WIDTH, HEAD_HEIGHT, HEAD_TOP, LINE_WIDTH, PLOT_TOP,
+    ROW_HEIGHT, WORDS_LEAST, WORDS_MOST,
+};
 use crate::places::has_moment;
 use bus_audit::{AuditAnswer, put_answer};
 use bus_dump::Lane;
@@ -24,14 +27,14 @@ fn put_dashes<K: Sink>(text: &mut TextBuffer, sink: &mut K, left: u64, width: u6
         left,
         top,
         width,
-        height: 60,
+        height: BOX_BELOW,
     };
     put_box(text, sink, Class::Breach, upper);
     let lower = Area {
         left,
-        top: top + 240,
+        top: top + (BOX_BELOW + BOX_HEIGHT),
         width,
-        height: 80,
+        height: ROW_HEIGHT - (BOX_BELOW + BOX_HEIGHT),
     };
     put_box(text, sink, Class::Breach, lower);
 }
@@ -43,9 +46,9 @@ fn put_head<K: Sink>(text: &mut TextBuffer, sink: &mut K, left: u64)
 {
     let area = Area {
         left,
-        top: 1080,
-        width: 10,
-        height: 90,
+        top: HEAD_TOP,
+        width: LINE_WIDTH,
+        height: HEAD_HEIGHT,
     };
     put_box(text, sink, Class::Breach, area);
 }
@@ -63,7 +66,11 @@ fn put_lane_dashes<K: Sink>(
     ensures { Adds K.held K.faults sink.old sink.new text.old text.new
         (definition.lane_dashes left terminal k lane) }
 {
-    let width = if lane.terminal == terminal { 30 } else { 10 };
+    let width = if lane.terminal == terminal {
+        BREACH_WIDTH
+    } else {
+        LINE_WIDTH
+    };
     put_dashes(text, sink, left, width, lane_top(k));
 }
 
@@ -88,7 +95,7 @@ fn put_all_dashes<K: Sink>(
 fn words_middle(left: u64) -> u64
     ensures { result ≡ definition.words_middle left }
 {
-    left.max(2500).min(9100)
+    left.max(WORDS_LEAST).min(WORDS_MOST)
 }
 
 /// The line at a place, and the words above it.
@@ -105,10 +112,10 @@ fn put_mark_at<K: Sink>(
         (definition.mark_text left terminal lanes.now answer.now) }
 {
     put_head(text, sink, left);
-    put_dashes(text, sink, left, 10, PLOT_TOP);
+    put_dashes(text, sink, left, LINE_WIDTH, PLOT_TOP);
     put_all_dashes(text, sink, left, terminal, lanes);
     let middle = words_middle(left);
-    begin_words(text, sink, Class::BreachWords, middle, 870);
+    begin_words(text, sink, Class::BreachWords, middle, BREACH_LINE);
     put_answer(text, sink, answer);
     end_words(text, sink);
 }
@@ -137,11 +144,11 @@ fn put_arrow<K: Sink>(text: &mut TextBuffer, sink: &mut K, earlier: bool, answer
     ensures { Adds K.held K.faults sink.old sink.new text.old text.new (definition.arrow_text earlier answer.now) }
 {
     if earlier {
-        begin_words(text, sink, Class::BreachWords, 2500, 870);
+        begin_words(text, sink, Class::BreachWords, WORDS_LEAST, BREACH_LINE);
         text.put(sink, &[226, 134, 144, 32]);
         put_answer(text, sink, answer);
     } else {
-        begin_words(text, sink, Class::BreachWords, 9100, 870);
+        begin_words(text, sink, Class::BreachWords, WORDS_MOST, BREACH_LINE);
         put_answer(text, sink, answer);
         text.put(sink, &[32, 226, 134, 146]);
     }

@@ -4,6 +4,7 @@ ghost use Rattle.bus_outer.specs.Texts.{Adds};
 ghost use Rattle.bus_shapes.specs.Scales.{IsScale};
 ghost use Rattle.bus_picture.specs.Offsets as definition;
 
+use crate::measures::{OFFSET_HEIGHT, OFFSET_WIDTH, TICK_BELOW};
 use bus_outer::{Sink, TextBuffer};
 use bus_shapes::{Area, Class, Scale, put_box};
 use bus_table::Mode;
@@ -27,9 +28,9 @@ fn put_tick<K: Sink>(text: &mut TextBuffer, sink: &mut K, scale: &Scale, top: u6
 {
     let area = Area {
         left: scale.place(t),
-        top: top + 8,
-        width: 20,
-        height: 46,
+        top: top + TICK_BELOW,
+        width: OFFSET_WIDTH,
+        height: OFFSET_HEIGHT,
     };
     put_box(text, sink, Class::Mark, area);
 }

@@ -6,7 +6,7 @@ ghost use Rattle.bus_picture.specs.Paces as definition;
 ghost use Rattle.bus_picture.specs.inside.Pacing as working;
 
 use crate::lanes::lane_top;
-use crate::measures::PLOT_TOP;
+use crate::measures::{BUS_LINE, PACE_LEFT, PLOT_TOP, TERMINAL_LINE};
 use crate::places::has_moment;
 use bus_dump::Lane;
 use bus_outer::{Sink, TextBuffer};
@@ -112,7 +112,13 @@ fn put_lane_pace<K: Sink>(
         (definition.lane_pace scale.now list.now k lane) }
 {
     if let Some(pace) = pace_in(scale, lane.terminal, list) {
-        begin_words(text, sink, Class::Small, 80, lane_top(k) + 160);
+        begin_words(
+            text,
+            sink,
+            Class::Small,
+            PACE_LEFT,
+            lane_top(k) + TERMINAL_LINE,
+        );
         put_pace(text, sink, pace);
         end_words(text, sink);
     }
@@ -151,8 +157,8 @@ pub(crate) fn put_paces<K: Sink>(
         text,
         sink,
         Class::Small,
-        80,
-        PLOT_TOP + 200,
+        PACE_LEFT,
+        PLOT_TOP + BUS_LINE,
         b"start to start",
     );
     put_each_pace(text, sink, scale, list, lanes);

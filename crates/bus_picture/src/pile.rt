@@ -6,7 +6,9 @@ ghost use Rattle.bus_picture.specs.Boxes as definition;
 ghost use Rattle.bus_picture.specs.Boxes.{grown, one};
 ghost use Rattle.bus_picture.specs.inside.Working.{IsPile};
 
+use crate::measures::{BOX_HEIGHT, LEAST_HEIGHT, NARROW};
 use bus_outer::{Sink, TextBuffer};
+use bus_shapes::measures::PIXEL;
 use bus_shapes::{Scale, Sent, put_garbled, put_sent};
 
 /// What is drawn of a box. All moments are bit times from the settled start.
@@ -27,7 +29,7 @@ pub(crate) fn is_thin(scale: &Scale, sent: &Sent) -> bool
     requires { IsScale scale.now }
     ensures { result ≡ definition.is_thin scale.now sent.now }
 {
-    scale.place(sent.end) < scale.place(sent.moment) + 10
+    scale.place(sent.end) < scale.place(sent.moment) + PIXEL
 }
 
 /// Whether a transmission takes less than six pixels.
@@ -36,7 +38,7 @@ pub(crate) fn is_narrow(scale: &Scale, sent: &Sent) -> bool
     requires order { sent.now.moment ≤ sent.now.end }
     ensures { result ≡ definition.is_narrow scale.now sent.now }
 {
-    scale.extent(sent.moment, sent.end) < 60
+    scale.extent(sent.moment, sent.end) < NARROW
 }
 
 /// The stretch of six pixels in which a transmission begins.
@@ -44,7 +46,7 @@ fn bucket(scale: &Scale, sent: &Sent) -> u64
     requires { IsScale scale.now }
     ensures { result ≡ definition.bucket scale.now sent.now }
 {
-    scale.place(sent.moment) / 60
+    scale.place(sent.moment) / NARROW
 }
 
 /// Whether a transmission begins less than a pixel behind a moment.
@@ -52,7 +54,7 @@ fn is_close(scale: &Scale, end: u64, sent: &Sent) -> bool
     requires { IsScale scale.now }
     ensures { result ≡ definition.is_close scale.now end sent.now }
 {
-    scale.place(sent.moment) < scale.place(end) + 10
+    scale.place(sent.moment) < scale.place(end) + PIXEL
 }
 
 /// Whether the next transmission shares a box.
@@ -113,7 +115,7 @@ fn drawn_bits(scale: &Scale, pile: &Pile) -> u64
     ensures value { result ≡ definition.drawn_bits scale.now pile.now }
     ensures some { 0 < result }
 {
-    let pixel = 10 * (scale.to - scale.from) / scale.width + 1;
+    let pixel = PIXEL * (scale.to - scale.from) / scale.width + 1;
     (pile.end - pile.first.moment).max(pixel)
 }
 
@@ -174,8 +176,9 @@ fn share_height(scale: &Scale, pile: &Pile) -> u64
     ensures value { result ≡ definition.share_height scale.now pile.now }
     ensures most { result ≤ 180 }
 {
-    let share = 180 * u128::from(pile.busy) / u128::from(drawn_bits(scale, pile));
-    share.max(20).min(180) as u64
+    let whole = u128::from(BOX_HEIGHT);
+    let share = whole * u128::from(pile.busy) / u128::from(drawn_bits(scale, pile));
+    share.max(u128::from(LEAST_HEIGHT)).min(whole) as u64
 }
 
 /// The height of a box.
@@ -188,6 +191,6 @@ pub(crate) fn pile_height(scale: &Scale, pile: &Pile) -> u64
     if is_thin(scale, &pile.first) {
         share_height(scale, pile)
     } else {
-        180
+        BOX_HEIGHT
     }
 }

@@ -3,6 +3,7 @@ ghost use Rattle.std.specs.Prelude.{◌≡◌, ◌<◌, ◌≤◌, ◌^◌};
 ghost use Rattle.bus_shapes.specs.Scales.{IsScale};
 ghost use Rattle.bus_picture.specs.Strings as definition;
 
+use crate::measures::{STRING_BELOW, STRING_HEIGHT};
 use bus_shapes::{Area, Scale};
 
 /// Whether what goes from one moment to another meets those of a scale.
@@ -31,8 +32,8 @@ pub(crate) fn string_area(scale: &Scale, top: u64, from: u64, to: u64) -> Area
 {
     Area {
         left: scale.place(from),
-        top: top + 90,
+        top: top + STRING_BELOW,
         width: scale.extent(from, to),
-        height: 120,
+        height: STRING_HEIGHT,
     }
 }

@@ -9,6 +9,10 @@ ghost use Rattle.bus_picture.specs.inside.Starting as working;
 
 use crate::heard::{Gap, Heard, Hearing, deaf, gap_from, hear};
 use crate::lines::{has_words, is_drawn, line_area};
+use crate::measures::{
+    GAP_BELOW, GAP_LINE, GAP_ROOM, INTERVAL_BELOW, INTERVAL_LINE, INTERVAL_ROOM, LINE_HEIGHT,
+    NARROW, STROKE_BELOW, STROKE_HEIGHT,
+};
 use crate::track::Track;
 use bus_outer::{Sink, TextBuffer};
 use bus_shapes::{Area, Class, Scale, begin_words, end_words, put_box};
@@ -33,9 +37,9 @@ fn size_room(tg: u32, gap: Gap) -> u64
     ensures { result ≡ definition.size_room tg gap }
 {
     if gap.to - gap.from == u64::from(tg) {
-        430
+        GAP_ROOM
     } else {
-        60
+        NARROW
     }
 }
 
@@ -46,7 +50,7 @@ fn put_terminal_gap<K: Sink>(text: &mut TextBuffer, sink: &mut K, scale: &Scale,
     ensures { Adds K.held K.faults sink.old sink.new text.old text.new (definition.terminal_gap scale.now top gap) }
 {
     if is_drawn(scale, gap.from, gap.to) {
-        let area = line_area(scale, top + 143, gap.from, gap.to);
+        let area = line_area(scale, top + GAP_BELOW, gap.from, gap.to);
         put_box(text, sink, Class::Gap, area);
     }
 }
@@ -69,7 +73,7 @@ fn put_words_over<K: Sink>(
 {
     if has_words(size_room(tg, gap), area) {
         let end = area.left + area.width;
-        begin_words(text, sink, Class::GapWords, end, top + 118);
+        begin_words(text, sink, Class::GapWords, end, top + GAP_LINE);
         text.put(sink, b"TG ");
         put_gap_size(text, sink, tg, gap);
         end_words(text, sink);
@@ -90,7 +94,7 @@ fn put_gap_words<K: Sink>(
     ensures { Adds K.held K.faults sink.old sink.new text.old text.new (definition.gap_words scale.now top tg gap) }
 {
     if is_drawn(scale, gap.from, gap.to) {
-        let area = line_area(scale, top + 143, gap.from, gap.to);
+        let area = line_area(scale, top + GAP_BELOW, gap.from, gap.to);
         put_words_over(text, sink, area, top, tg, gap);
     }
 }
@@ -121,7 +125,7 @@ fn put_interval<K: Sink>(
     requires order { from ≤ to }
     ensures { Adds K.held K.faults sink.old sink.new text.old text.new (definition.interval_text scale.now top from to) }
 {
-    let area = line_area(scale, top + 275, from, to);
+    let area = line_area(scale, top + INTERVAL_BELOW, from, to);
     put_box(text, sink, Class::Interval, area);
 }
 
@@ -143,10 +147,10 @@ fn put_interval_end<K: Sink>(
 {
     if to == from + u64::from(ti) && to <= scale.to {
         let area = Area {
-            left: scale.place(to).saturating_sub(14),
-            top: top + 258,
-            width: 14,
-            height: 48,
+            left: scale.place(to).saturating_sub(LINE_HEIGHT),
+            top: top + STROKE_BELOW,
+            width: LINE_HEIGHT,
+            height: STROKE_HEIGHT,
         };
         put_box(text, sink, Class::Interval, area);
     }
@@ -167,13 +171,13 @@ fn put_interval_words<K: Sink>(
     ensures { Adds K.held K.faults sink.old sink.new text.old text.new
         (definition.interval_words scale.now track.k track.top track.ti from to) }
 {
-    if track.k == 0 && 550 <= scale.extent(from, to) {
+    if track.k == 0 && INTERVAL_ROOM <= scale.extent(from, to) {
         begin_words(
             text,
             sink,
             Class::IntervalWords,
             scale.place(to),
-            track.top + 266,
+            track.top + INTERVAL_LINE,
         );
         text.put(sink, b"TI ");
         text.put_number(sink, track.ti);

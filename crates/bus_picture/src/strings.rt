@@ -7,13 +7,15 @@ ghost use Rattle.bus_shapes.specs.Sayings.{counted};
 ghost use Rattle.bus_shapes.specs.Scales.{IsScale};
 ghost use Rattle.bus_picture.specs.Strings as definition;
 
-use crate::names::{digits_class, put_name};
+use crate::measures::{LONG_ROOM, NAME_ROOM, STRING_LINE};
+use crate::names::put_name;
 use crate::places::{meets, string_area};
 use crate::takers::Takers;
 use crate::words::{has_room, put_each_word};
 use bus_outer::{Sink, TextBuffer};
 use bus_shapes::{
-    Area, Class, Scale, Sent, begin_titled, begin_words, end_titled, end_words, put_counted,
+    Area, Class, Scale, Sent, begin_titled, begin_words, digits_class, end_titled, end_words,
+    put_counted,
 };
 use bus_strings::{Transmission, Wordstring, pulse, pulse_count};
 
@@ -109,7 +111,7 @@ fn put_words_in<K: Sink>(
     requires top { area.top < 2 ^ 41 }
     ensures { Adds K.held K.faults sink.old sink.new text.old text.new (definition.label_text garbled area string.now) }
 {
-    if area.width < 400 {
+    if area.width < NAME_ROOM {
         return;
     }
     begin_words(
@@ -117,9 +119,9 @@ fn put_words_in<K: Sink>(
         sink,
         digits_class(garbled),
         area.left + area.width / 2,
-        area.top + 100,
+        area.top + STRING_LINE,
     );
-    if area.width < 730 {
+    if area.width < LONG_ROOM {
         put_name(text, sink, string);
     } else {
         put_long(text, sink, string);

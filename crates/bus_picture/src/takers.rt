@@ -2,6 +2,7 @@
 ghost use Rattle.std.specs.Prelude.{◌≡◌, ◌<◌, ◌≤◌, ◌||◌, ◌&&◌, ◌==◌, map, not};
 ghost use Rattle.std.specs.List.{list_any};
 ghost use Rattle.bus_outer.specs.Texts.{Adds};
+ghost use Rattle.bus_strings.specs.Limits.{most_terminal};
 ghost use Rattle.bus_filter.specs.Received.{sender_taker, listener_taker};
 ghost use Rattle.bus_picture.specs.Takings as definition;
 ghost use Rattle.bus_picture.specs.inside.Noting as working;
@@ -9,17 +10,18 @@ ghost use Rattle.bus_picture.specs.inside.Noting.{AreNoted, KeepsNoted, LinesNot
 
 use bus_filter::matches;
 use bus_outer::{Sink, TextBuffer};
-use bus_shapes::Sent;
+use bus_shapes::{Sent, TERMINALS};
 use bus_strings::Wordstring;
+use bus_strings::limits::MOST_TERMINAL;
 use bus_table::{Listener, Sender, Table, TakeLine};
 use bus_words::Label;
 use std::marker::Model;
 
-/// For each label, how many numbers there are: one for each terminal, and 0.
-const TERMINALS: usize = 129;
+/// How many labels there are.
+const LABELS: usize = 4096;
 
-/// One place for each label and number.
-const PLACES: usize = 528384;
+/// One place for each label and terminal number, and for 0.
+const PLACES: usize = LABELS * TERMINALS;
 
 /// The receive lines of a table, with a table by label and number that tells of which label a terminal takes nothing.
 #[derive(Drop)]
@@ -42,7 +44,7 @@ impl<'a> Model for Takers<'a> {
 
 /// The place of a label and a number.
 fn place_of(label: Label, number: u8) -> usize
-    requires { number ≤ 128 }
+    requires { number ≤ most_terminal }
     ensures value { result ≡ working.place_of label number }
     ensures low { result < PLACES }
 {
@@ -51,7 +53,7 @@ fn place_of(label: Label, number: u8) -> usize
 
 /// Notes the receive lines of a terminal.
 fn note(may: &mut [bool; PLACES], number: u8, takes: &[TakeLine])
-    requires { number ≤ 128 }
+    requires { number ≤ most_terminal }
     ensures kept { KeepsNoted may.old may.new }
     ensures noted { LinesNoted number takes.now may.new }
 {
@@ -202,7 +204,7 @@ impl<'a> Takers<'a> {
 
     /// Whether the terminal of a number takes words of a wordstring of a transmission.
     fn is_taken_by(&self, sent: &Sent, string: &Wordstring, n: u8) -> bool
-        requires { n ≤ 128 }
+        requires { n ≤ most_terminal }
         ensures { result ≡ definition.is_taken_by self.now sent.now string.now n }
     {
         self.may[place_of(string.label(), n)] && is_taken(self.table, sent, string, n)
@@ -220,7 +222,7 @@ impl<'a> Takers<'a> {
             (definition.numbers_words (definition.taken_by self.now sent.now string.now)) }
     {
         let mut some = false;
-        for before in 0..128u8 {
+        for before in 0..MOST_TERMINAL {
             let takes = self.is_taken_by(sent, string, before + 1);
             put_more(text, sink, some, takes, before + 1);
             some = either(some, takes);

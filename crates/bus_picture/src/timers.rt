@@ -9,7 +9,7 @@ ghost use Rattle.bus_picture.specs.TimeLines as whole;
 
 use crate::lanes::lane_top;
 use crate::lines::{has_words, is_drawn, line_area};
-use crate::measures::PLOT_TOP;
+use crate::measures::{GAP_BELOW, GAP_LINE, GAP_ROOM, NEAR_ROOM, PLOT_TOP};
 use crate::offsets::put_offsets;
 use crate::starts::put_starts;
 use crate::track::Track;
@@ -27,7 +27,7 @@ fn is_near(scale: &Scale, ti: u32) -> bool
     requires { IsScale scale.now }
     ensures { result ≡ definition.is_near scale.now ti }
 {
-    2000 * (scale.to - scale.from) <= u64::from(ti) * scale.width
+    NEAR_ROOM * (scale.to - scale.from) <= u64::from(ti) * scale.width
 }
 
 /// Whether a transmission comes a synchronization gap or more behind all before it, and the scale has that gap.
@@ -51,9 +51,9 @@ fn put_sync_words<K: Sink>(text: &mut TextBuffer, sink: &mut K, area: Area, top:
     ensures { Adds K.held K.faults sink.old sink.new text.old text.new
         (definition.words_above gap_room area (top + gap_line) (codes "SG " ++ decimal sg)) }
 {
-    if has_words(430, area) {
+    if has_words(GAP_ROOM, area) {
         let end = area.left + area.width;
-        begin_words(text, sink, Class::GapWords, end, top + 118);
+        begin_words(text, sink, Class::GapWords, end, top + GAP_LINE);
         text.put(sink, b"SG ");
         text.put_number(sink, sg);
         end_words(text, sink);
@@ -75,7 +75,7 @@ fn put_sync_from<K: Sink>(
     ensures { Adds K.held K.faults sink.old sink.new text.old text.new (definition.sync_gap scale.now top sg from to) }
 {
     if is_drawn(scale, from, to) {
-        let area = line_area(scale, top + 143, from, to);
+        let area = line_area(scale, top + GAP_BELOW, from, to);
         put_box(text, sink, Class::Gap, area);
         put_sync_words(text, sink, area, top, sg);
     }

@@ -10,6 +10,7 @@ ghost use Rattle.bus_picture.specs.inside.Tinting.{IsLastTint};
 use crate::measures::PLOT_TOP;
 use crate::places::meets;
 use bus_outer::{Sink, TextBuffer};
+use bus_shapes::measures::PIXEL;
 use bus_shapes::{Area, Class, Scale, Sent, Sents, put_box};
 use bus_strings::Transmission;
 use bus_strings::laws::neighbours_tell;
@@ -47,7 +48,7 @@ fn touches(scale: &Scale, tint: &Tint, next: &Tint) -> bool
     requires { IsScale scale.now }
     ensures { result ≡ definition.touches scale.now tint.now next.now }
 {
-    scale.place(next.from) < scale.place(tint.to) + 10
+    scale.place(next.from) < scale.place(tint.to) + PIXEL
 }
 
 /// A tint that goes on to the end of the next.

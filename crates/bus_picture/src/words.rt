@@ -2,22 +2,29 @@
 ghost use Rattle.std.specs.Prelude.{◌≡◌, ◌<◌, ◌≤◌, ◌+◌, ◌^◌, length};
 ghost use Rattle.bus_outer.specs.Texts.{Adds};
 ghost use Rattle.bus_text.specs.Digits.{hexadecimal};
+ghost use Rattle.bus_strings.specs.Limits.{word_bits};
 ghost use Rattle.bus_shapes.specs.Scales.{IsScale};
+ghost use Rattle.bus_picture.specs.Measures.{digits_room, label_room};
 ghost use Rattle.bus_picture.specs.Strings as definition;
 
-use crate::names::{digits_class, put_name};
+use crate::measures::{DIGITS_ROOM, EDGE_WIDTH, LABEL_ROOM, STRING_LINE, WORD_ROOM};
+use crate::names::put_name;
 use crate::places::{meets, string_area};
 use bus_outer::{Sink, TextBuffer};
-use bus_shapes::{Area, Class, Scale, begin_words, end_words, put_box, put_words};
+use bus_shapes::{Area, Class, Scale, begin_words, digits_class, end_words, put_box, put_words};
 use bus_strings::Wordstring;
+use bus_strings::limits::WORD_BITS;
 use bus_text::four_digits;
+
+/// The bit times of a word.
+const WORD: u64 = WORD_BITS as u64;
 
 /// Whether words have room: 34 pixels for each.
 pub(crate) fn has_room(scale: &Scale) -> bool
     requires { IsScale scale.now }
     ensures { result ≡ definition.has_room scale.now }
 {
-    340 * (scale.to - scale.from) <= 20 * scale.width
+    WORD_ROOM * (scale.to - scale.from) <= WORD * scale.width
 }
 
 /// How a label word looks.
@@ -43,9 +50,9 @@ fn put_label_digits<K: Sink>(
     requires width { area.width < 2 ^ 22 }
     requires top { area.top < 2 ^ 41 }
     ensures { Adds K.held K.faults sink.old sink.new text.old text.new
-        (definition.digits_text garbled area 330 (definition.name_words string.now)) }
+        (definition.digits_text garbled area label_room (definition.name_words string.now)) }
 {
-    if area.width < 330 {
+    if area.width < LABEL_ROOM {
         return;
     }
     begin_words(
@@ -53,7 +60,7 @@ fn put_label_digits<K: Sink>(
         sink,
         digits_class(garbled),
         area.left + area.width / 2,
-        area.top + 100,
+        area.top + STRING_LINE,
     );
     put_name(text, sink, string);
     end_words(text, sink);
@@ -71,9 +78,9 @@ fn put_data_digits<K: Sink>(
     requires width { area.width < 2 ^ 22 }
     requires top { area.top < 2 ^ 41 }
     ensures { Adds K.held K.faults sink.old sink.new text.old text.new
-        (definition.digits_text garbled area 264 (hexadecimal 4 word)) }
+        (definition.digits_text garbled area digits_room (hexadecimal 4 word)) }
 {
-    if area.width < 264 {
+    if area.width < DIGITS_ROOM {
         return;
     }
     let digits = four_digits(word);
@@ -82,7 +89,7 @@ fn put_data_digits<K: Sink>(
         sink,
         digits_class(garbled),
         area.left + area.width / 2,
-        area.top + 100,
+        area.top + STRING_LINE,
         &digits,
     );
 }
@@ -114,7 +121,7 @@ fn put_data_word<K: Sink>(text: &mut TextBuffer, sink: &mut K, garbled: bool, ar
     let edge = Area {
         left: area.left,
         top: area.top,
-        width: 8,
+        width: EDGE_WIDTH,
         height: area.height,
     };
     put_box(text, sink, Class::Edge, edge);
@@ -136,8 +143,8 @@ fn put_label_at<K: Sink>(
     requires low { t < 2 ^ 43 }
     ensures { Adds K.held K.faults sink.old sink.new text.old text.new (definition.label_at scale.now top garbled t string.now) }
 {
-    if meets(scale, t, t + 20) {
-        let area = string_area(scale, top, t, t + 20);
+    if meets(scale, t, t + WORD) {
+        let area = string_area(scale, top, t, t + WORD);
         put_label_word(text, sink, garbled, area, string);
     }
 }
@@ -157,8 +164,8 @@ fn put_data_at<K: Sink>(
     requires low { t < 2 ^ 43 }
     ensures { Adds K.held K.faults sink.old sink.new text.old text.new (definition.data_at scale.now top garbled t word) }
 {
-    if meets(scale, t, t + 20) {
-        let area = string_area(scale, top, t, t + 20);
+    if meets(scale, t, t + WORD) {
+        let area = string_area(scale, top, t, t + WORD);
         put_data_word(text, sink, garbled, area, word);
     }
 }
@@ -175,7 +182,7 @@ fn put_data<K: Sink>(
 )
     requires scale { IsScale scale.now }
     requires top { top < 2 ^ 40 }
-    requires low { t < 2 ^ 42 + 20 }
+    requires low { t < 2 ^ 42 + word_bits }
     requires few { length words.now ≤ 256 }
     ensures { Adds K.held K.faults sink.old sink.new text.old text.new
         (definition.data_from scale.now top garbled t words.now) }
@@ -187,7 +194,7 @@ fn put_data<K: Sink>(
             scale,
             top,
             garbled,
-            t + 20 * (k as u64),
+            t + WORD * (k as u64),
             words[k],
         );
     }
@@ -210,5 +217,5 @@ pub(crate) fn put_each_word<K: Sink>(
 {
     put_label_at(text, sink, scale, top, garbled, t, string);
     let words = string.words();
-    put_data(text, sink, scale, top, garbled, t + 20, words);
+    put_data(text, sink, scale, top, garbled, t + WORD, words);
 }

@@ -13,7 +13,10 @@ use crate::lanes::{lane_top, put_fronts};
 use crate::legend::put_legend;
 use crate::load::put_loads;
 use crate::marks::put_breach;
-use crate::measures::{NAMES_RIGHT, PLOT_LEFT, PLOT_TOP, PLOT_WIDTH};
+use crate::measures::{
+    BUS_LINE, FOOT_HEIGHT, LEFT_OUT_LINE, LEGEND_BELOW, LOWER_WORDS, NAMES_RIGHT, PLOT_LEFT,
+    PLOT_TOP, PLOT_WIDTH, TICK_HEIGHT, UPPER_TICKS, UPPER_WORDS,
+};
 use crate::pace::put_paces;
 use crate::rows::put_rows;
 use crate::timers::put_timers;
@@ -80,15 +83,15 @@ fn put_axes<K: Sink>(text: &mut TextBuffer, sink: &mut K, scale: &Scale, bottom:
 {
     let upper = Axis {
         unit: Unit::Microseconds,
-        words: 1050,
+        words: UPPER_WORDS,
         class: Class::Tick,
-        top: 1110,
-        height: 60,
+        top: UPPER_TICKS,
+        height: TICK_HEIGHT,
     };
     put_axis(text, sink, scale, &upper);
     let lower = Axis {
         unit: Unit::BitTimes,
-        words: bottom + 210,
+        words: bottom + LOWER_WORDS,
         class: Class::Grid,
         top: PLOT_TOP,
         height: bottom - PLOT_TOP,
@@ -120,7 +123,7 @@ fn put_plot<K: Sink>(
         sink,
         Class::Counts,
         NAMES_RIGHT,
-        PLOT_TOP + 200,
+        PLOT_TOP + BUS_LINE,
         b"bus",
     );
     let list = trace.list();
@@ -142,7 +145,7 @@ fn put_left_out<K: Sink>(text: &mut TextBuffer, sink: &mut K, bottom: u64, count
     ensures { Adds K.held K.faults sink.old sink.new text.old text.new (definition.left_out_text bottom count) }
 {
     if count != 0 {
-        begin_words(text, sink, Class::Small, PLOT_LEFT, bottom + 370);
+        begin_words(text, sink, Class::Small, PLOT_LEFT, bottom + LEFT_OUT_LINE);
         text.put_number(sink, count);
         text.put(sink, b" more terminals send nothing in this window");
         end_words(text, sink);
@@ -165,7 +168,7 @@ fn put_foot<K: Sink>(
 {
     put_left_out(text, sink, bottom, left_out);
     let tinted = has_tints(scale, trace);
-    put_legend(text, sink, mode, tinted, bottom + 460);
+    put_legend(text, sink, mode, tinted, bottom + LEGEND_BELOW);
 }
 
 /// A picture with these lanes, and with so many left out.
@@ -189,7 +192,15 @@ fn put_picture<K: Sink>(
 {
     let bottom = lane_top(lanes.len());
     let counts = counts(scale, trace);
-    put_frame(text, sink, bottom + 1060, verdict, answer, table, &counts);
+    put_frame(
+        text,
+        sink,
+        bottom + FOOT_HEIGHT,
+        verdict,
+        answer,
+        table,
+        &counts,
+    );
     put_plot(
         text, sink, scale, bottom, lanes, answer, table, trace, carrier,
     );

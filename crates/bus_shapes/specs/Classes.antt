@@ -1,6 +1,6 @@
 -- The classes of boxes and words: what each is called in a picture, and how it looks. Blue and vermillion, by Okabe and Ito, are told
 -- apart by a colour-blind person; what is garbled is hatched too, so that it shows in grey.
-use Rattle.std.specs.Prelude.{ℕ, List, [], ◌∷◌, ◌++◌, codes}
+use Rattle.std.specs.Prelude.{ℕ, Bool, List, [], ◌∷◌, ◌++◌, codes, if◌then◌else◌}
 use Rattle.std.specs.List.{flat_map}
 pub use Rattle.bus_shapes.specs.declared.class.Class.{Class}
 pub use Rattle.bus_shapes.specs.declared.class.Class.TheVariants.{Background, Band, Unobserved, Grid}
@@ -85,6 +85,10 @@ classes =
     Background ∷ (Band ∷ (Unobserved ∷ (Grid ∷ (Tick ∷ (Span ∷ (Message ∷ (Garbled ∷ (Wordstring ∷ (Other ∷ (
     Label ∷ (Noise ∷ (Edge ∷ (Overlap ∷ (Gap ∷ (Interval ∷ (Mark ∷ (Breach ∷ (Verdict ∷ (Refusal ∷ (Answer ∷ (Note ∷ (Counts ∷ (
     Small ∷ (Detail ∷ (Number ∷ (Digits ∷ (NoiseDigits ∷ (GapWords ∷ (IntervalWords ∷ (BreachWords ∷ []))))))))))))))))))))))))))))))
+
+-- The class of numbers and digits on a box: of a garbled transmission, which is hatched, or of another.
+abbrev pub digits_class : Bool → Class
+digits_class garbled = if garbled then NoiseDigits else Digits
 
 -- The rule of a class in the style of a picture.
 abbrev pub rule_text : Class → List ℕ

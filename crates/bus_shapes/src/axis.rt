@@ -7,6 +7,7 @@ ghost use Rattle.bus_shapes.specs.Scales.{IsScale};
 
 use crate::area::Area;
 use crate::class::Class;
+use crate::measures::{LEFT_MARGIN, MARK_ROOM, MARK_WIDTH};
 use crate::scale::Scale;
 use crate::shapes::{begin_words, end_words, put_box};
 use bus_outer::{Sink, TextBuffer};
@@ -128,7 +129,7 @@ fn is_wide(scale: &Scale, number: u64) -> bool
     ensures { result ≡ definition.is_wide scale.now number }
 {
     let wide = u128::from(number) * 2 * u128::from(scale.width);
-    u128::from(1200 * (scale.to - scale.from)) <= wide
+    u128::from(MARK_ROOM * (scale.to - scale.from)) <= wide
 }
 
 /// The least round number of microseconds that is so wide.
@@ -186,7 +187,7 @@ fn put_mark_at<K: Sink>(text: &mut TextBuffer, sink: &mut K, axis: &Axis, left: 
     let area = Area {
         left,
         top: axis.top,
-        width: 8,
+        width: MARK_WIDTH,
         height: axis.height,
     };
     put_box(text, sink, axis.class, area);
@@ -242,7 +243,7 @@ fn put_unit<K: Sink>(text: &mut TextBuffer, sink: &mut K, unit: Unit, step: u64)
 fn put_name<K: Sink>(text: &mut TextBuffer, sink: &mut K, axis: &Axis, step: u64)
     ensures { Adds K.held K.faults sink.old sink.new text.old text.new (definition.name_text axis.now step) }
 {
-    begin_words(text, sink, Class::Small, 200, axis.words);
+    begin_words(text, sink, Class::Small, LEFT_MARGIN, axis.words);
     put_unit(text, sink, axis.unit, step);
     end_words(text, sink);
 }

@@ -191,6 +191,17 @@ impl Class {
     }
 }
 
+/// The class of numbers and digits on a box: of a garbled transmission, which is hatched, or of another.
+pub fn digits_class(garbled: bool) -> Class
+    ensures { result ≡ definition.digits_class garbled }
+{
+    if garbled {
+        Class::NoiseDigits
+    } else {
+        Class::Digits
+    }
+}
+
 /// Puts what a class is called.
 pub(crate) fn put_name<K: Sink>(text: &mut TextBuffer, sink: &mut K, class: Class)
     ensures { Adds K.held K.faults sink.old sink.new text.old text.new (definition.class_name class) }

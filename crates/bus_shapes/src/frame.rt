@@ -12,6 +12,9 @@ use crate::area::Area;
 use crate::class::{Class, put_rules};
 use crate::counts::Counts;
 use crate::heading::{put_answer_heading, put_verdict_heading, verdict_class};
+use crate::measures::{
+    ANSWER_LINE, FACTS_LINE, HEAD_LINE, LEFT_MARGIN, PICTURE_WIDTH, PIXEL, RIGHT_MARGIN,
+};
 use crate::shapes::{begin_words, end_words, put_box};
 use bus_audit::{AuditAnswer, put_answer};
 use bus_outer::{Sink, TextBuffer};
@@ -93,7 +96,7 @@ fn put_size<K: Sink>(text: &mut TextBuffer, sink: &mut K, height: u64)
         sink,
         b"<svg xmlns=\"http://www.w3.org/2000/svg\" role=\"img\" width=\"1040\" height=\"",
     );
-    text.put_number(sink, height / 10);
+    text.put_number(sink, height / PIXEL);
     text.put(
         sink,
         b"\" style=\"width:100%;height:auto\" viewBox=\"0 0 10400 ",
@@ -201,10 +204,10 @@ fn put_heads<K: Sink>(
     ensures { Adds K.held K.faults sink.old sink.new text.old text.new
         (definition.heads_text verdict.now answer.now) }
 {
-    begin_words(text, sink, verdict_class(verdict), 200, 270);
+    begin_words(text, sink, verdict_class(verdict), LEFT_MARGIN, HEAD_LINE);
     put_verdict_heading(text, sink, verdict);
     end_words(text, sink);
-    begin_words(text, sink, Class::Answer, 200, 480);
+    begin_words(text, sink, Class::Answer, LEFT_MARGIN, ANSWER_LINE);
     put_answer_heading(text, sink, answer);
     end_words(text, sink);
 }
@@ -213,10 +216,10 @@ fn put_heads<K: Sink>(
 fn put_facts<K: Sink>(text: &mut TextBuffer, sink: &mut K, table: &Table, counts: &Counts)
     ensures { Adds K.held K.faults sink.old sink.new text.old text.new (definition.facts_text table.now counts.now) }
 {
-    begin_words(text, sink, Class::Note, 200, 690);
+    begin_words(text, sink, Class::Note, LEFT_MARGIN, FACTS_LINE);
     put_table(text, sink, table);
     end_words(text, sink);
-    begin_words(text, sink, Class::Counts, 10200, 690);
+    begin_words(text, sink, Class::Counts, RIGHT_MARGIN, FACTS_LINE);
     put_counts(text, sink, counts);
     end_words(text, sink);
 }
@@ -241,7 +244,7 @@ pub fn put_frame<K: Sink>(
     let area = Area {
         left: 0,
         top: 0,
-        width: 10400,
+        width: PICTURE_WIDTH,
         height,
     };
     put_box(text, sink, Class::Background, area);

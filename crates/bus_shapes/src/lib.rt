@@ -4,7 +4,7 @@
 //! - [`Window`] is the stretch of a trace that is shown, and [`Scale`] says where moments are drawn.
 //! - [`put_frame`] and [`put_tail`] put what stands around a picture, [`put_axis`] an axis.
 //! - [`Sents`] goes over a list and tells of each transmission what a picture says of it, a [`Sent`]; [`put_sent`] puts its words.
-//! - [`laws`] has what follows of the definitions of places, marks and what is told of a list.
+//! - [`laws`] has what follows of the definitions of places, marks and what is told of a list, [`measures`] where words stand.
 //!
 //! All numbers are whole; a unit is a tenth of a pixel. The definitions are in `specs/`: `Classes`, `Shapes` (boxes and words), `Windows`,
 //! `Scales` (places of moments), `Axes`, `Sayings` (the words), `Sending` (what is told of a list), `Headings` and `Frames`. No call takes
@@ -18,6 +18,7 @@ mod counts;
 mod frame;
 mod heading;
 pub mod laws;
+pub mod measures;
 mod scale;
 mod sent;
 mod sents;
@@ -26,11 +27,11 @@ mod window;
 
 pub use area::Area;
 pub use axis::{Axis, Unit, put_axis};
-pub use class::Class;
+pub use class::{Class, digits_class};
 pub use counts::Counts;
 pub use frame::{put_counted, put_frame, put_tail};
 pub use scale::Scale;
 pub use sent::{Sent, put_garbled, put_sent};
-pub use sents::Sents;
+pub use sents::{Sents, TERMINALS};
 pub use shapes::{begin_titled, begin_words, end_titled, end_words, put_box, put_words};
 pub use window::Window;

@@ -3,6 +3,8 @@ ghost use Rattle.std.specs.Prelude.{◌≡◌, ◌≤◌, ◌+◌};
 ghost use Rattle.bus_shapes.specs.Scales as definition;
 ghost use Rattle.bus_shapes.specs.Scales.{IsScale};
 
+use crate::measures::PIXEL;
+
 /// Where moments are drawn: those from `from` to `to` from a left edge on, over a width. A unit is a tenth of a pixel.
 #[derive(Clone, Copy, Debug, PartialEq, Eq)]
 pub struct Scale {
@@ -34,6 +36,6 @@ impl Scale {
         requires order { from ≤ to }
         ensures { result ≡ definition.extent self.now from to }
     {
-        (self.place(to) - self.place(from)).max(10)
+        (self.place(to) - self.place(from)).max(PIXEL)
     }
 }

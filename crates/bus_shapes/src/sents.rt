@@ -9,8 +9,8 @@ use bus_strings::limits::MOST_TERMINAL;
 use bus_strings::{Marks, Transmission};
 use std::marker::Model;
 
-/// One number for each terminal, and none for 0.
-const TERMINALS: usize = MOST_TERMINAL as usize + 1;
+/// How many terminal numbers there are with 0, which is none: so many entries has what is looked up by the number of a terminal.
+pub const TERMINALS: usize = MOST_TERMINAL as usize + 1;
 
 /// What pictures tell of each transmission of a list, in order. It goes over the list once.
 #[derive(Drop)]

@@ -29,10 +29,10 @@ and as SVG pictures, which browsers show. What it writes is proved.
   bus629-view --help      this text
   bus629-view --version   the version of the program, and of each text that it reads
 
-What run, drop and observe of bus629 write is a trace. The status is 0 where the text is written, 2
-where the words are no command, 3 where the text of the table or the table as a whole is refused, 4
-where the trace is, 5 for a failed read, 6 for a failed write, 7 where memory is refused, and 8 for
-a file past its limit. A line on standard error says why from 2 on.
+What run, drop, observe, cable and unwave of bus629 write is a trace. The status is 0 where the text
+is written, 2 where the words are no command, 3 where the text of the table or the table as a whole
+is refused, 4 where the trace is, 5 for a failed read, 6 for a failed write, 7 where memory is
+refused, and 8 for a file past its limit. A line on standard error says why from 2 on.
 
 docs/FORMATS.md has the signals, the texts, lines and statuses, docs/CLAIMS.md what is proved;
 examples/ has a table and a trace to try.

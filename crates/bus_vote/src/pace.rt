@@ -7,7 +7,7 @@ use crate::mark::is_garbled;
 use bus_strings::Transmission;
 use bus_strings::limits::MOST_TERMINAL;
 
-/// One more than the greatest terminal number.
+/// How many terminal numbers there are with 0, which is none.
 pub(crate) const TERMINALS: usize = MOST_TERMINAL as usize + 1;
 
 /// Whether no transmission of a list is garbled.

@@ -1,6 +1,7 @@
 -- What is noted of the receive lines of a table, by label and number, and what is written of those that take words of a wordstring.
 use Rattle.std.specs.Prelude.{◌≡◌, ℕ, ◌+◌, ◌*◌, Bool, true, false, List, [], ◌∷◌, ◌++◌, codes, decimal, get_or}
 use Rattle.std.specs.Prelude.{if◌then◌else◌}
+use Rattle.bus_strings.specs.Limits.{most_terminal}
 use Rattle.bus_strings.specs.Members.{In}
 use Rattle.bus_table.specs.declared.line.TakeLine.{TakeLine}
 use Rattle.bus_filter.specs.Received.{Taker}
@@ -9,11 +10,15 @@ use Rattle.bus_picture.specs.Takings.{after_commas}
 -- ---- what is noted
 -- How many numbers there are for each label: one for each terminal, and 0.
 abbrev pub terminals : ℕ
-terminals = 129
+terminals = most_terminal + 1
 
--- How many places there are: that many for each label.
+-- How many labels there are.
+abbrev pub labels : ℕ
+labels = 4096
+
+-- How many places there are: one for each label and number.
 abbrev pub place_count : ℕ
-place_count = 528384
+place_count = labels * terminals
 
 -- The place of a label and a number.
 abbrev pub place_of : ℕ → ℕ → ℕ

@@ -16,7 +16,6 @@ use Rattle.bus_wave.specs.inside.Capped.{capped}
 use Rattle.bus_wave.specs.Counted.{holds_of}
 use Rattle.bus_text.specs.Gives.{Fails}
 use Rattle.bus_wave.specs.Symbols.{symbol_reading}
-use Rattle.bus_wave.specs.Gives.{Fails}
 use Rattle.bus_trace.specs.States.{spaced_fields}
 use Rattle.bus_wave.specs.Reading.{WaveRefusal}
 

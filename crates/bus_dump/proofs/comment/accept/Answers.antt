@@ -2,12 +2,12 @@ use Rattle.std.proofs.Common.{codes, decimal, refl}
 use Rattle.bus_table.specs.declared.mode.Mode.{Mode}
 use Rattle.bus_table.specs.declared.mode.Mode.TheVariants.{Aperiodic, Periodic}
 use Rattle.bus_table.specs.Text.{mode_word}
-use Rattle.bus_dump.specs.Laws.{HoldsNoFeed}
+use Rattle.bus_trace.specs.Runs.{HasNoFeed}
 use Rattle.bus_dump.proofs.CommentLemmas.{decimal_plain, three_plain}
 use Rattle.bus_dump.proofs.ReadLemmas.{feedless_test}
 use Rattle.bus_dump.proofs.comment.accept.Goals as goal
 
-mode_plain : (mode : Mode) → HoldsNoFeed (mode_word mode)
+mode_plain : (mode : Mode) → HasNoFeed (mode_word mode)
 mode_plain Aperiodic = feedless_test (codes "aperiodic") refl
 mode_plain Periodic = feedless_test (codes "periodic") refl
 

@@ -2,11 +2,11 @@ use Rattle.std.proofs.Common.{subst}
 use Rattle.bus_regime.specs.declared.table_verdict.TableVerdict.{TableVerdict}
 use Rattle.bus_regime.specs.Lines.{verdict_words}
 use Rattle.bus_regime.specs.Verdicts.{verdict_of}
-use Rattle.bus_dump.specs.Laws.{HoldsNoFeed}
+use Rattle.bus_trace.specs.Runs.{HasNoFeed}
 use Rattle.bus_dump.proofs.SmallLemmas.{dump_read}
 use Rattle.bus_dump.proofs.laws.written_dumps_are_read.Goals as goal
 
 pub returns : goal.returns
 returns c dump window breach trace t signal valid is sound held i =
     dump_read dump window breach (verdict_words (verdict_of c.args.table.now)) c.args.table.now trace t signal valid is sound
-    (subst (λ (v : TableVerdict). HoldsNoFeed (verdict_words v)) c.verdict.ensures c.holds_no_feed.ensures) held i
+    (subst (λ (v : TableVerdict). HasNoFeed (verdict_words v)) c.verdict.ensures c.holds_no_feed.ensures) held i

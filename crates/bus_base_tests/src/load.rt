@@ -2,30 +2,14 @@
 ghost use Rattle.std.specs.Prelude.{IfOk};
 ghost use Rattle.bus_load.specs.Loads.{AreApart};
 
-use crate::{Stretch, bits_within, carrier_stretches};
-use bus_strings::{Message, Transmission, Wordstring};
-use bus_words::{Ext, Label};
-use std::alloc::{AllocError, Global};
+use crate::strings::message;
+use bus_load::{Stretch, bits_within, carrier_stretches};
+use bus_strings::Transmission;
+use std::alloc::Global;
 use std::test::Fail;
 
 /// Sendings: when each begins, and how many data words each of its wordstrings has.
 type Sendings<'a> = &'a [(u64, &'a [usize])];
-
-/// A message whose wordstrings have so many data words.
-fn message(alloc: Global, data_words: &[usize]) -> Result<Option<Message>, AllocError> {
-    let mut strings = Vec::new(alloc);
-    for count in data_words {
-        let words = vec![in alloc; 7u16; *count]?;
-        match (Label::new(0x0A1), Ext::new(1)) {
-            (Some(label), Some(ext)) => match Wordstring::new(label, ext, words) {
-                Some(string) => strings.push(string)?,
-                None => return Ok(None),
-            },
-            _ => return Ok(None),
-        }
-    }
-    Ok(Message::new(strings))
-}
 
 /// The stretches of the carrier of these.
 fn stretches(alloc: Global, sendings: Sendings) -> Result<Vec<Stretch>, Fail>
