@@ -58,22 +58,13 @@ not_wanting own (Own Behind why) s room = absurd cc
 not_wanting own o s room = λ e. cc
 
 -- so the text is told
-told_itself : {R : Type 0} (own : R → Status) (o : Outcome R) (text : List ℕ) (call : Call) → StandsFor Done o → o ≢ NoMemory
+pub told_itself : {R : Type 0} (own : R → Status) (o : Outcome R) (text : List ℕ) (call : Call) → StandsFor Done o → o ≢ NoMemory
     → Answers Told (λ written. written ≡ text) call (status_of own o) → TellsItself text call (status_of own o)
 told_itself own o text call s room (inl told) = record {
   done = told.0;
   written = told.1.2 ∙ ap (append_known call.before.out.bytes) told.1.1;
 }
 told_itself own o text call s room (inr none) = absurd (not_wanting own o s room none.0)
-
--- by a command that left the text, without memory
-pub tells_itself : {R : Type 0} (own : R → Status) (o : Outcome R) (text : List ℕ) (call : Call) → StandsFor Done o → o ≢ NoMemory
-    → Leaves (kind_of o) (λ written. written ≡ text) call.before.out.bytes call.after.out.bytes
-    → SourceCounts no_source call.before.sources call.after.sources (kind_of o) → OutCounts call.before.out call.after.out (kind_of o)
-    → NothingFails no_source call.before call.after → TellsItself text call (status_of own o)
-tells_itself own o text call stands room left counts out_count undisturbed =
-    told_itself own o text call stands room
-    (answers own no_source Done o (λ written. written ≡ text) (λ written. written ≡ text) call refl (λ written is. is) stands left counts out_count undisturbed)
 
 -- ---- the texts that are told
 -- what the command of these words did

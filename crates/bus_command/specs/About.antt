@@ -1,5 +1,5 @@
 -- What a program tells of itself: `--help` and `--version`, each alone as the only word. A word is its bytes.
-use Rattle.std.specs.Prelude.{◌≡◌, List, [], ◌∷◌, ℕ, codes, Option, None}
+use Rattle.std.specs.Prelude.{◌≡◌, List, [], ◌∷◌, ℕ, codes, Option, Some, None, if◌then◌else◌}
 use Rattle.std.specs.Io.KnownBytes.{append_known}
 use Rattle.std.specs.Str.{bytes_eq}
 use Rattle.bus_outer.specs.declared.sink.Sink.{Ghosts as SinkGhosts}

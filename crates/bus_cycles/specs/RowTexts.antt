@@ -75,7 +75,8 @@ has_room area sent = nat_le (number_width sent.terminal) area.width
 abbrev pub number_text : Area → Sent → List ℕ
 number_text area sent =
     if has_room area sent
-    then words_text (digits_class sent.garbled) (area.left + area.width / 2) (area.top + area.height / 2 + middle_line) (decimal sent.terminal)
+    then words_text (digits_class sent.garbled) (area.left + area.width / 2) (area.top + area.height / 2 + middle_line)
+    (decimal sent.terminal)
     else []
 
 -- A transmission in an area: its box, and its number.

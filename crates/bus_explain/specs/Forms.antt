@@ -16,8 +16,9 @@ abbrev pub sender_text : Mode → List ℕ
 sender_text Aperiodic =
     range_text (codes "SENDER n TG g: n is the number of a terminal that sends, 1 to 128, and g its terminal gap, ") least_tg most_tg
 sender_text Periodic =
-    codes "SENDER n TG g AT a: n is the number of a terminal that sends, 1 to 128, g its terminal gap, " ++ time_text least_tg ++ codes " to "
-    ++ time_text most_tg ++ codes ", and a its offset, " ++ time_text 0 ++ codes " to " ++ time_text (most_ti - 1) ++ codes "\n"
+    codes "SENDER n TG g AT a: n is the number of a terminal that sends, 1 to 128, g its terminal gap, "
+    ++ time_text least_tg ++ codes " to " ++ time_text most_tg ++ codes ", and a its offset, "
+    ++ time_text 0 ++ codes " to " ++ time_text (most_ti - 1) ++ codes "\n"
 
 -- A SEND line.
 abbrev pub send_text : List ℕ

@@ -30,13 +30,13 @@ const LINE_BELOW: u64 = 83;
 /// Where the sample of a message begins.
 const MESSAGE_LEFT: u64 = 1500;
 
-/// Its width.
+/// The width of the sample of a message.
 const MESSAGE_WIDTH: u64 = 700;
 
-/// Where its first wordstring begins.
+/// Where the first wordstring in it begins.
 const FIRST_LEFT: u64 = 1540;
 
-/// Where its second wordstring begins.
+/// Where the second wordstring in it begins.
 const SECOND_LEFT: u64 = 1900;
 
 /// The width of a wordstring in it.
@@ -48,13 +48,13 @@ const MESSAGE_WORDS: u64 = 2280;
 /// Where the sample of a garbled message begins.
 const GARBLED_LEFT: u64 = 6400;
 
-/// Its width.
+/// The width of the sample of a garbled message.
 const GARBLED_WIDTH: u64 = 500;
 
-/// Where its wordstring begins.
+/// Where the wordstring in it begins.
 const NOISE_LEFT: u64 = 6440;
 
-/// The width of that.
+/// The width of the wordstring in it.
 const NOISE_WIDTH: u64 = 420;
 
 /// Where the words on garbled messages begin.

@@ -1,5 +1,5 @@
 //! How a program ends: where its words can't be gathered, and with which number.
-ghost use Rattle.std.specs.Prelude.{◌≡◌, ◌≢◌, ◌⊎◌};
+ghost use Rattle.std.specs.Prelude.{◌≡◌, ◌≢◌};
 ghost use Rattle.std.specs.declared.io.ErrorKind.TheVariants.{OutOfMemory};
 ghost use Rattle.bus_program.specs.Fates as fates;
 
@@ -11,7 +11,6 @@ use std::io;
 pub fn fate_of(kind: io::ErrorKind) -> Status
     ensures memory { kind ≡ OutOfMemory → result ≡ Status.NoMemory }
     ensures words { kind ≢ OutOfMemory → result ≡ Status.Usage }
-    ensures either { (result ≡ Status.NoMemory) ⊎ (result ≡ Status.Usage) }
 {
     match kind {
         io::ErrorKind::OutOfMemory => Status::NoMemory,

@@ -4,8 +4,8 @@
 //!   valid: every number is in its range, and none of the [`WholeReason`]s applies.
 //! - [`read_table`] reads a text, and [`write_table`] writes the canonical one. [`find_stop`] tells where a reading stops, and what
 //!   may stand there.
-//! - [`shortest`] and [`longest`] tell the lengths of a sender's messages, [`place`] who speaks after whom, [`greatest_gap`] the greatest terminal
-//!   gap.
+//! - [`shortest`] and [`longest`] tell the lengths of a sender's messages, [`place`] who speaks after whom, [`greatest_gap`] the greatest
+//!   terminal gap.
 //! - [`with_offsets`] gives the senders of a periodic table other offsets.
 //! - [`fits`] holds the items of a messages text to the lines of their senders, and [`hands`] deals them out.
 //!   [`read_hands`] does both as it reads such a text.

@@ -1,21 +1,16 @@
 -- The holds of hands.
-use Rattle.std.specs.Prelude.{◌≡◌, ℕ, ◌-◌, ◌≤◌, true, false, ◌==◌, List, [], ◌∷◌, Some, IfSome, find}
-use Rattle.std.specs.List.{AllByRecursion, filter_map, range_with_len}
+use Rattle.std.specs.Prelude.{◌≡◌, ℕ, ◌≤◌, true, false, ◌==◌, List, [], ◌∷◌, Some, IfSome, find}
+use Rattle.std.specs.List.{AllByRecursion}
 use Rattle.std.specs.Option.{option_map}
-use Rattle.std.proofs.Common.{arith, refl, ap, ◌∙◌, cond}
+use Rattle.std.proofs.Common.{arith, refl, cond}
 use Rattle.std.proofs.lemmas.Bool.Decides.{nat_tests}
 use Rattle.bus_table.specs.Tables.{Hand}
-use Rattle.bus_trace.specs.declared.hold.Hold.{Hold}
 use Rattle.bus_trace.specs.Traces.{AscendAbove, IsHold}
 use Rattle.bus_trace.proofs.HoldLists.{ascend_from, ranged_from}
 use Rattle.bus_trace.specs.Limits.{most_count}
 use Rattle.bus_command.proofs.FewHands.{AreFew}
 use Rattle.bus_wave.specs.Counted.{hand_hold, hand_holds}
 use Rattle.bus_wave.specs.Counted.{hold_of_hand}
-
-pub holds_all : (hands : List Hand) (number : ℕ) (holds : List Hold) → number ≡ 129 → holds ≡ filter_map (hand_hold hands) (range_with_len 1 (number - 1)) → holds ≡ hand_holds hands
-unfolding hand_holds
-holds_all hands number holds last h = (let e : number - 1 ≡ 128 = omega arith in h ∙ ap (λ k. filter_map (hand_hold hands) (range_with_len 1 k)) e)
 
 -- a hold is of its number
 numbered : (hands : List Hand) (n : ℕ) → IfSome (hand_hold hands n) (λ hold. hold.terminal ≡ n)

@@ -21,7 +21,7 @@ use Rattle.bus_command.specs.Claims.{IsOfTable, IsOfTraced}
 use Rattle.bus_command.specs.Outside.{Call}
 use Rattle.bus_command.specs.Readers.{no_source}
 use Rattle.bus_command.specs.declared.outcome.Outcome.TheVariants.{Done}
-use Rattle.bus_command.proofs.ClaimLemmas.{answers, does_of, room_of, tells_itself}
+use Rattle.bus_command.proofs.ClaimLemmas.{answers, does_of, room_of, told_itself}
 use Rattle.bus_command.proofs.LawTypes.{FittingItemsGiveHands}
 use Rattle.bus_tool.specs.Acts.{tool_program, Acts}
 use Rattle.bus_tool.specs.DrillClaims.{IsDrillOf, GivesDrill}
@@ -88,8 +88,10 @@ itself_claim : (call : Call) (outcome : Outcome) (about : About) → Acts call o
 itself_claim call outcome about acts h =
     let form = itself_form about call.words h.form in
     let does = does_of tool_program call outcome (OnItself about) form acts in
-    tells_itself ends_of outcome (itself_text about) call does.due (room_of tool_program call outcome (OnItself about) form acts refl) does.text does.counts
-    does.out_count h.undisturbed
+    let due : Outcome = Done in
+    told_itself ends_of outcome (itself_text about) call does.due (room_of tool_program call outcome (OnItself about) form acts refl)
+    (answers ends_of no_source due outcome _ (λ text. text ≡ itself_text about) call refl (λ text is. is) does.due does.text does.counts
+    does.out_count h.undisturbed)
 
 -- ---- the commands with laws of their own
 check_claim : PromiseLaws → (call : Call) (outcome : Outcome) (table : Table) → Acts call outcome → IsOfTable (codes "check") table call

@@ -13,7 +13,7 @@ use Rattle.bus_tool.specs.Forms.{Form, form_of, sources_of, takes_memory}
 use Rattle.bus_tool.specs.Refusals.{Outcome, ToolRefusal, ends_of, line_of}
 use Rattle.bus_tool.specs.Texts.{IsFormText}
 
--- The program: its forms, what is due of each, and what each writes.
+-- The program: its forms, what is due of each, what each writes, and how it ends with a refusal of its own.
 abbrev pub tool_program : Program ToolRefusal Form
 tool_program = record {
   form_of = form_of;

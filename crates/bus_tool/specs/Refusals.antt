@@ -79,7 +79,3 @@ line_of (CableUnfit error) = error_line status.InputRefused (codes "cable item "
 -- How the program ends with an outcome.
 abbrev pub status_of : Outcome → Status
 status_of outcome = common.status_of ends_of outcome
-
--- The line of an outcome.
-abbrev pub fault_line : Outcome → List ℕ
-fault_line outcome = common.fault_line ends_of line_of outcome

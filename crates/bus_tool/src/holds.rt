@@ -1,7 +1,7 @@
 //! What the senders of a run held, as the HOLD lines of its trace.
-ghost use Rattle.std.specs.Prelude.{◌≡◌, ◌==◌, ◌≤◌, ◌++◌, find, length, IfSome, IfOk, OnOk};
+ghost use Rattle.std.specs.Prelude.{◌≡◌, ◌==◌, ◌≤◌, find, length, IfSome, IfOk};
 ghost use Rattle.std.specs.List.{AllByRecursion};
-ghost use Rattle.std.specs.Option.{option_copied, option_to_list};
+ghost use Rattle.std.specs.Option.{option_copied};
 ghost use Rattle.bus_command.specs.Readers.{text_limit};
 ghost use Rattle.bus_wave.specs.Counted.{hand_hold, hand_holds, hold_of_hand};
 
@@ -39,24 +39,13 @@ fn hold_at(hands: &[Hand], number: u8) -> Option<Hold>
     Some(hold_of(hand))
 }
 
-/// Adds a hold, where there is one.
-fn note(holds: &mut Vec<Hold>, hold: Option<Hold>) -> Result<(), AllocError>
-    ensures { OnOk result (holds.new.items ≡ holds.old.items ++ option_to_list hold) }
-{
-    if let Some(hold) = hold {
-        holds.push(hold)?;
-    }
-    Ok(())
-}
-
 /// How many messages each terminal holds, by rising number.
+#[tactic(auto, unfolding(bus_wave::specs::Counted::hand_holds))]
 pub fn holds(alloc: Global, hands: &[Hand]) -> Result<Vec<Hold>, AllocError>
     requires { AllByRecursion (λ hand. length hand.messages ≤ text_limit) hands.now }
     ensures { IfOk result (λ holds. holds.items ≡ hand_holds hands.now) }
 {
-    let mut holds = Vec::with_capacity(alloc, hands.len())?;
-    for number in 1..MOST_TERMINAL + 1 {
-        note(&mut holds, hold_at(hands, number))?;
-    }
-    Ok(holds)
+    (1..MOST_TERMINAL + 1)
+        .filter_map(|number| hold_at(hands, number))
+        .collect(alloc)
 }

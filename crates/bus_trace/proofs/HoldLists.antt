@@ -1,10 +1,7 @@
--- The holds of the terminals, where a function gives each terminal's: they ascend, are in their ranges, and grow by one a number.
-use Rattle.std.proofs.Common.{arith, ◌≡◌, ℕ, zero, suc, ◌+◌, ◌-◌, ◌≤◌, List, [], ◌∷◌, ◌++◌, Option, Some, None, refl, sym, ap, subst, ◌∙◌}
+-- The holds of the terminals, where a function gives each terminal's: they ascend, and are in their ranges.
+use Rattle.std.proofs.Common.{arith, ◌≡◌, ℕ, zero, suc, ◌+◌, ◌≤◌, List, [], ◌∷◌, Option, Some, None, sym, subst}
 use Rattle.std.specs.Prelude.{IfSome}
 use Rattle.std.specs.List.{AllByRecursion, filter_map, range_with_len, cons_option}
-use Rattle.std.specs.Option.{option_to_list}
-use Rattle.std.proofs.lemmas.List.Elements.{filter_map-append}
-use Rattle.bus_strings.proofs.ListLaws.{range_push}
 use Rattle.bus_trace.specs.declared.hold.Hold.{Hold}
 use Rattle.bus_trace.specs.Limits.{most_count}
 use Rattle.bus_trace.specs.Traces.{AscendAbove, IsHold}
@@ -12,22 +9,6 @@ use Rattle.bus_trace.specs.Traces.{AscendAbove, IsHold}
 weaker : (n k : ℕ) (holds : List Hold) → k ≤ n → AscendAbove n holds → AscendAbove k holds
 weaker n k [] h a = tt
 weaker n k (hold ∷ holds) h a = (omega (arith, a.0), a.1)
-
-one_hold : (o : Option Hold) → cons_option o [] ≡ option_to_list o
-one_hold None = refl
-one_hold (Some hold) = refl
-
--- one number more
-pub holds_more : (give : ℕ → Option Hold) (number : ℕ) (old new : List Hold) → 1 ≤ number → old ≡ filter_map give (range_with_len 1 (number - 1))
-    → new ≡ old ++ option_to_list (give number) → new ≡ filter_map give (range_with_len 1 (number + 1 - 1))
-holds_more give number old new some h e =
-    let next : number + 1 - 1 ≡ suc (number - 1) = omega arith in
-    let last : 1 + (number - 1) ≡ number = omega arith in
-    e ∙ ap (λ l. l ++ option_to_list (give number)) h
-    ∙ ap (λ l. filter_map give (range_with_len 1 (number - 1)) ++ l) (sym (one_hold (give number)))
-    ∙ ap (λ k. filter_map give (range_with_len 1 (number - 1)) ++ filter_map give (k ∷ [])) (sym last)
-    ∙ sym (filter_map-append give (range_with_len 1 (number - 1)) ((1 + (number - 1)) ∷ []))
-    ∙ ap (filter_map give) (sym (range_push 1 (number - 1))) ∙ ap (λ k. filter_map give (range_with_len 1 k)) (sym next)
 
 module _ (give : ℕ → Option Hold) (numbered : (n : ℕ) → IfSome (give n) (λ hold. hold.terminal ≡ n)) where
   -- from number k + 1 on they ascend

@@ -21,8 +21,8 @@ use Rattle.bus_command.specs.Kinds.{Answer, kind_of}
 use Rattle.bus_command.specs.Outside.{Call}
 use Rattle.bus_command.specs.declared.status.Status.TheVariants as status
 use Rattle.bus_command.specs.declared.outcome.Outcome.TheVariants.{Done}
-use Rattle.bus_command.specs.Readers.{Trace, entire, by_trace}
-use Rattle.bus_command.proofs.ClaimLemmas.{claimed, refuses, does_of, room_of, tells_itself, at_two, stands_told}
+use Rattle.bus_command.specs.Readers.{Trace, entire, no_source, by_trace}
+use Rattle.bus_command.proofs.ClaimLemmas.{answers, claimed, refuses, does_of, room_of, told_itself, at_two, stands_told}
 use Rattle.bus_command.proofs.LawTypes.{TextReadsAsItsTable}
 use Rattle.bus_command.proofs.ReadLemmas.{held_trace, traced_told}
 use Rattle.bus_command.proofs.ToldLemmas.{table_told}
@@ -153,8 +153,10 @@ itself_claim : (call : Call) (outcome : Outcome) (about : About) → Acts call o
 itself_claim call outcome about acts h =
     let form = itself_form about call.words h.form in
     let did = does_of view_program call outcome (OnItself about) form acts in
-    tells_itself ends_of outcome (itself_text about) call did.due (room_of view_program call outcome (OnItself about) form acts refl) did.text did.counts
-    did.out_count h.undisturbed
+    let due : Outcome = Done in
+    told_itself ends_of outcome (itself_text about) call did.due (room_of view_program call outcome (OnItself about) form acts refl)
+    (answers ends_of no_source due outcome _ (λ text. text ≡ itself_text about) call refl (λ text is. is) did.due did.text did.counts
+    did.out_count h.undisturbed)
 
 pub keeps : DrawLaws → (call : Call) (outcome : Outcome) → Acts call outcome → Promises call (status_of outcome)
 keeps laws call outcome acts = record {

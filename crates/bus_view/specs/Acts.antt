@@ -19,7 +19,7 @@ use Rattle.bus_view.specs.Refusals.{Doubled, Outcome, ends_of, line_of}
 abbrev pub IsDoubledAt : Doubled → Table → Recording → Type 0
 IsDoubledAt refusal table trace = doubled trace.list ≡ Some refusal.entry
 
--- The program: its forms, what is due of each, and what each writes.
+-- The program: its forms, what is due of each, what each writes, and how it ends with a refusal of its own.
 abbrev pub view_program : Program Doubled Form
 view_program = record {
   form_of = form_of;

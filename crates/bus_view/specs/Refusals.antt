@@ -29,7 +29,3 @@ line_of doubled = error_line InputRefused (codes "trace entry " ++ (decimal doub
 -- How the program ends with an outcome.
 abbrev pub status_of : Outcome → Status
 status_of outcome = common.status_of ends_of outcome
-
--- The line of an outcome.
-abbrev pub fault_line : Outcome → List ℕ
-fault_line outcome = common.fault_line ends_of line_of outcome

@@ -7,7 +7,7 @@ use Rattle.std.proofs.lemmas.Bool.Decides.{nat_tests}
 use Rattle.std.proofs.lemmas.Grind.{get_or-set_at}
 use Rattle.std.proofs.lemmas.List.{get_or-set_other}
 use Rattle.std.proofs.lemmas.List.Sums.{count_by-le-length, count_by_more_no, count_by_more_yes}
-use Rattle.std.specs.List.{AllByRecursion, filter_map, range_with_len}
+use Rattle.std.specs.List.{AllByRecursion}
 use Rattle.bus_strings.specs.Limits.{horizon_limit}
 use Rattle.bus_strings.proofs.MessageLaws.{bits_some}
 use Rattle.bus_strings.specs.Messages.{Entry, IsMessage}
@@ -107,10 +107,3 @@ is_trace table valid horizon list low few a of m = record {
   list = all_below table valid 0 horizon list a of m;
   order = ascending 0 horizon list a;
 }
-
--- ---- one number more
-pub holds_all : (table : Table) (list : List Entry) (number : ℕ) (holds : List Hold) → number ≡ 129
-    → holds ≡ filter_map (hold_at table.senders list) (range_with_len 1 (number - 1)) → holds ≡ holds_of table list
-unfolding holds_of
-holds_all table list number holds last h =
-    (let e : number - 1 ≡ 128 = omega arith in h ∙ ap (λ k. filter_map (hold_at table.senders list) (range_with_len 1 k)) e)

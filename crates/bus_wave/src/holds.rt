@@ -1,6 +1,5 @@
 //! The holds of a trace that is read from a wave.
-ghost use Rattle.std.specs.Prelude.{◌≡◌, ◌≤◌, ◌<◌, ◌++◌, ℕ, is_some, length, slice_index, IfOk, OnOk};
-ghost use Rattle.std.specs.Option.{option_to_list};
+ghost use Rattle.std.specs.Prelude.{◌≡◌, ◌≤◌, ◌<◌, ℕ, is_some, length, slice_index, IfOk};
 ghost use Rattle.bus_table.specs.Fits as fits;
 ghost use Rattle.bus_trace.specs.Limits.{most_count};
 ghost use Rattle.bus_wave.specs.Counted as counted;
@@ -47,17 +46,8 @@ fn hold_at(senders: &[Sender], counts: &[u32; 256], number: u8) -> Option<Hold>
     })
 }
 
-/// Adds a hold, where there is one.
-fn note(holds: &mut Vec<Hold>, hold: Option<Hold>) -> Result<(), AllocError>
-    ensures { OnOk result (holds.new.items ≡ holds.old.items ++ option_to_list hold) }
-{
-    if let Some(hold) = hold {
-        holds.push(hold)?;
-    }
-    Ok(())
-}
-
 /// One hold for each sender of a table, by rising number, with the number of its entries.
+#[tactic(auto, unfolding(crate::specs::Counted::holds_of))]
 pub(crate) fn holds(
     alloc: Global,
     table: &Table,
@@ -68,9 +58,7 @@ pub(crate) fn holds(
 {
     let senders = table.senders();
     let counts = counts(list);
-    let mut holds = Vec::with_capacity(alloc, senders.len())?;
-    for number in 1..MOST_TERMINAL + 1 {
-        note(&mut holds, hold_at(senders, &counts, number))?;
-    }
-    Ok(holds)
+    (1..MOST_TERMINAL + 1)
+        .filter_map(|number| hold_at(senders, &counts, number))
+        .collect(alloc)
 }

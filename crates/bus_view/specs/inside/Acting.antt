@@ -4,19 +4,14 @@ use Rattle.bus_outer.specs.declared.sink.Sink.{Ghosts as SinkGhosts}
 use Rattle.bus_outer.specs.declared.source.Source.{Ghosts as SourceGhosts}
 use Rattle.bus_table.specs.Tables.{Table}
 use Rattle.bus_trace.specs.Traces.{Recording}
-use Rattle.bus_command.specs.Acts as command
 use Rattle.bus_command.specs.inside.Acting as acting
 use Rattle.bus_command.specs.Acts.{Ends}
-use Rattle.bus_command.specs.Outside.{Outside, sink_seen}
+use Rattle.bus_command.specs.Outside.{sink_seen}
 use Rattle.bus_view.specs.Due.{view_answer, view_text}
 use Rattle.bus_command.specs.Readers.{by_trace}
 use Rattle.bus_view.specs.Forms.{Form, View}
 use Rattle.bus_view.specs.Refusals.{Outcome}
 use Rattle.bus_view.specs.Acts.{view_program}
-
--- What the command of a form did.
-abbrev pub DoesForm : Form → Outside → Outside → Outcome → Type 0
-DoesForm form before after outcome = command.DoesForm view_program form before after outcome
 
 -- What the command of a form did whose sources were these before and after.
 abbrev pub DoesBoth : {S K : Type 0} → SourceGhosts S → SinkGhosts K → Form → S → S → K → S → S → K → Outcome → Type 0

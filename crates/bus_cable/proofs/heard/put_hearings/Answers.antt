@@ -68,8 +68,8 @@ loop-preserved g c =
     let moment : c.hear-heard.result.moment ≡ y.moment = ap (λ (h : Heard). h.moment) c.hear-heard.ensures.value in
     let terminal : c.hear-heard.result.terminal ≡ y.terminal = ap (λ (h : Heard). h.terminal) c.hear-heard.ensures.value in
     let end : c.hear-heard.result.end ≡ end_of y = ap (λ (h : Heard). h.end) c.hear-heard.ensures.value in
-    let bound : ℕ = c.rank_of.result + 1 in
-    let bound_is : bound ≡ rank y + 1 = omega (arith, moment, terminal, c.rank_of.ensures) in
+    let bound : ℕ = c.rank_of-bound.result + 1 in
+    let bound_is : bound ≡ rank y + 1 = omega (arith, moment, terminal, c.rank_of-bound.ensures) in
     let passed : (k : ℕ) → k < c.passed-from.result → rank_in L k < rank y + 1 =
     before_both (rank_in L) c.loop.from c.passed-from.result (rank y + 1) (λ k h. c.loop.invariant.before y k at h)
     (λ k low high. let b : rank_in L k < bound = c.passed-from.ensures.before k low high in omega (arith, b, bound_is)) in
