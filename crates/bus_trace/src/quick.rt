@@ -138,7 +138,9 @@ fn short_string(label: Label, ext: Ext, text: &[u8]) -> Option<Wordstring>
     Some(Wordstring::short(label, ext, count as u8, words))
 }
 
-/// The wordstring of a label and data words, each behind a space, which are gathered in this room first.
+/// The wordstring of a label and data words, each behind a space, which are gathered in this room first. Its callers know how much room
+/// that is, which saves several instructions a word where the loop knows it too.
+#[inline(always)]
 fn gathered_string(
     alloc: Global,
     label: Label,
