@@ -1,10 +1,10 @@
 # Completion of bus629-view for bash.
 _bus629_view() {
   local word=${COMP_WORDS[COMP_CWORD]}
-  if [ "$COMP_CWORD" = 1 ]; then
-    mapfile -t COMPREPLY < <(compgen -W "vcd wires timers gtkw svg cycles --help --version" -- "$word")
-  elif [ "$COMP_CWORD" = 2 ] || [ "$COMP_CWORD" = 3 ]; then
-    mapfile -t COMPREPLY < <(compgen -f -- "$word")
-  fi
+  case $COMP_CWORD:${COMP_WORDS[1]} in
+    1:*) mapfile -t COMPREPLY < <(compgen -W "vcd wires timers gtkw svg cycles --help --version" -- "$word") ;;
+    2:vcd|2:wires|2:timers|2:gtkw|2:svg|2:cycles) mapfile -t COMPREPLY < <(compgen -f -- "$word") ;;
+    3:vcd|3:wires|3:timers|3:gtkw|3:svg|3:cycles) mapfile -t COMPREPLY < <(compgen -f -- "$word") ;;
+  esac
 }
 complete -o filenames -F _bus629_view bus629-view

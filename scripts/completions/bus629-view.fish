@@ -1,10 +1,12 @@
 # Completion of bus629-view for fish.
-complete -c bus629-view -n 'test (count (commandline -opc)) -eq 1' -f -a vcd -d 'Write the dump of a trace'
-complete -c bus629-view -n 'test (count (commandline -opc)) -eq 1' -f -a wires -d 'Write the signals of one bit of that dump alone'
-complete -c bus629-view -n 'test (count (commandline -opc)) -eq 1' -f -a timers -d 'Write the dump with the timers of each sender'
-complete -c bus629-view -n 'test (count (commandline -opc)) -eq 1' -f -a gtkw -d 'Write the save file with which GTKWave shows these'
-complete -c bus629-view -n 'test (count (commandline -opc)) -eq 1' -f -a svg -d 'Write the trace as a time line'
-complete -c bus629-view -n 'test (count (commandline -opc)) -eq 1' -f -a cycles -d 'Write a picture with a row for each cycle'
-complete -c bus629-view -n 'test (count (commandline -opc)) -eq 1' -f -a --help -d 'Tell the views'
-complete -c bus629-view -n 'test (count (commandline -opc)) -eq 1' -f -a --version -d 'Tell the version'
-complete -c bus629-view -n 'test (count (commandline -opc)) -ge 4' -f
+complete -c bus629-view -f
+complete -c bus629-view -n 'test (count (commandline -opc)) -eq 1' -a vcd -d 'the dump of the trace in the file R, on the table in the file T'
+complete -c bus629-view -n 'test (count (commandline -opc)) -eq 1' -a wires -d 'its signals of one bit alone'
+complete -c bus629-view -n 'test (count (commandline -opc)) -eq 1' -a timers -d 'the dump with the timers of each sender, and where it may start'
+complete -c bus629-view -n 'test (count (commandline -opc)) -eq 1' -a gtkw -d 'the save file with which GTKWave shows all signals of any of these dumps'
+complete -c bus629-view -n 'test (count (commandline -opc)) -eq 1' -a svg -d 'the trace as a time line, with a lane for each terminal'
+complete -c bus629-view -n 'test (count (commandline -opc)) -eq 1' -a cycles -d 'a row for each cycle, for long traces'
+complete -c bus629-view -n 'test (count (commandline -opc)) -eq 1' -a --help -d 'this text'
+complete -c bus629-view -n 'test (count (commandline -opc)) -eq 1' -a --version -d 'the version of the program, and of each text that it reads'
+complete -c bus629-view -n '__fish_seen_subcommand_from vcd wires timers gtkw svg cycles; and test (count (commandline -opc)) -eq 2' -F
+complete -c bus629-view -n '__fish_seen_subcommand_from vcd wires timers gtkw svg cycles; and test (count (commandline -opc)) -eq 3' -F

@@ -3,19 +3,19 @@
 _bus629_view() {
   local -a commands
   commands=(
-    'vcd:write the dump of a trace'
-    'wires:write the signals of one bit of that dump alone'
-    'timers:write the dump with the timers of each sender'
-    'gtkw:write the save file with which GTKWave shows these'
-    'svg:write the trace as a time line'
-    'cycles:write a picture with a row for each cycle'
-    '--help:tell the views'
-    '--version:tell the version'
+    'vcd:the dump of the trace in the file R, on the table in the file T'
+    'wires:its signals of one bit alone'
+    'timers:the dump with the timers of each sender, and where it may start'
+    'gtkw:the save file with which GTKWave shows all signals of any of these dumps'
+    'svg:the trace as a time line, with a lane for each terminal'
+    'cycles:a row for each cycle, for long traces'
+    '--help:this text'
+    '--version:the version of the program, and of each text that it reads'
   )
-  if (( CURRENT == 2 )); then
-    _describe command commands
-  elif (( CURRENT == 3 || CURRENT == 4 )); then
-    _files
-  fi
+  case $CURRENT:$words[2] in
+    2:*) _describe command commands ;;
+    3:vcd|3:wires|3:timers|3:gtkw|3:svg|3:cycles) _files ;;
+    4:vcd|4:wires|4:timers|4:gtkw|4:svg|4:cycles) _files ;;
+  esac
 }
 _bus629_view "$@"

@@ -11,5 +11,7 @@ mod FirstGap
 mod Widening
 mod TurnSteps
 mod Planning
+mod StartChange
+mod StartSteps
 mod Working
 mod Missing

@@ -8,6 +8,7 @@ use Rattle.bus_strings.proofs.MemberLaws.{in_append_left, in_append_right}
 use Rattle.bus_table.specs.declared.mode.Mode.{Mode}
 use Rattle.bus_table.specs.declared.mode.Mode.TheVariants.{Aperiodic, Periodic}
 use Rattle.bus_table.specs.declared.line.SendLine.{SendLine}
+use Rattle.bus_table.specs.Periodic.{as_periodic}
 use Rattle.bus_table.specs.Tables.{Sender, Table}
 use Rattle.bus_table.specs.Offsets.{with_offsets}
 use Rattle.bus_table.specs.Turns.{turn_key, turn_order}
@@ -18,18 +19,20 @@ use Rattle.bus_regime.specs.Verdicts.{verdict_of, is_accepted}
 use Rattle.bus_plan.specs.Plans.{planned_table}
 use Rattle.bus_plan.proofs.Moved.{accepted_long}
 use Rattle.bus_advice.specs.declared.advice.Advice.{Advice}
-use Rattle.bus_advice.specs.declared.advice.Advice.TheVariants.{Interval, Synchronization, Gap, Least, Plan}
+use Rattle.bus_advice.specs.declared.advice.Advice.TheVariants.{Interval, Synchronization, Gap, Least, Plan, AsPeriodic, Start}
 use Rattle.bus_advice.specs.Changes.{with_interval, with_synchronization, with_gap, with_least}
 use Rattle.bus_advice.specs.Search.{least_above, greatest_below}
-use Rattle.bus_advice.specs.Advices.{works, lesser_interval, greater_interval, greater_synchronization, planned_interval}
+use Rattle.bus_advice.specs.Advices.{works, lesser_interval, greater_interval, greater_synchronization, planned_interval, periodic_interval}
+use Rattle.bus_advice.specs.Advices.{starts, starting_interval, lacks_start, start_advices}
 use Rattle.bus_advice.specs.Advices.{gap_advice, line_advice, line_advices, least_advices, advices_in, advices_of}
-use Rattle.bus_advice.specs.Laws.{AreComplete}
+use Rattle.bus_advice.specs.Laws.{AreComplete, StartIsAdvised}
 use Rattle.bus_advice.proofs.Searches.{least_there, below_there, beyond, short_of}
 use Rattle.bus_advice.proofs.CycleChange.{working_valid, working_accepted, interval_refused, sync_refused}
 use Rattle.bus_advice.proofs.GapChange.{gap_most, gap_refused}
 use Rattle.bus_advice.proofs.LineChange.{least_most, least_refused}
 use Rattle.bus_advice.proofs.Widening.{shorter_refused}
-use Rattle.bus_advice.proofs.Planning.{plan_works}
+use Rattle.bus_advice.proofs.Planning.{plan_works, periodic_of}
+use Rattle.bus_advice.proofs.StartChange.{starts_below}
 
 -- ---- members
 some_in : (make : ℕ → Advice) (o : Option ℕ) (n : ℕ) → o ≡ Some n → In (make n) (option_to_list (option_map make o))
@@ -70,7 +73,7 @@ below_in make change own n low helps =
 -- ---- by modes
 refused_are : (table : Table) (mode : Mode) → is_accepted (verdict_of table) ≡ false → table.mode ≡ mode → advices_in mode table ≡ advices_of table
 refused_are table mode refused m =
-    ap (λ k. advices_in k table) (sym m) ∙ sym (ap (λ b. cond b [] (advices_in table.mode table)) refused)
+    ap (λ k. advices_in k table) (sym m) ∙ sym (ap (λ b. cond b (start_advices table) (advices_in table.mode table)) refused)
 
 module _ (table : Table) (valid : IsTrue (is_valid table)) (refused : is_accepted (verdict_of table) ≡ false) where
   abbrev interval : List Advice
@@ -85,6 +88,13 @@ module _ (table : Table) (valid : IsTrue (is_valid table)) (refused : is_accepte
   abbrev lines : List Advice
   lines = flat_map (least_advices table) (turn_order table)
 
+  abbrev periodic : List Advice
+  periodic = option_to_list (option_map AsPeriodic (periodic_interval table))
+
+  -- one that stands before the last in aperiodic mode
+  in_first : (a : Advice) → table.mode ≡ Aperiodic → In a (((interval ++ sync) ++ gaps) ++ lines) → In a (advices_of table)
+  in_first a m i = subst (λ l. In a l) (refused_are table Aperiodic refused m) (in_append_left (((interval ++ sync) ++ gaps) ++ lines) periodic a i)
+
   in_all : (a : Advice) (mode : Mode) → table.mode ≡ mode → In a (advices_in mode table) → In a (advices_of table)
   in_all a mode m i = subst (λ l. In a l) (refused_are table mode refused m) i
 
@@ -97,7 +107,7 @@ module _ (table : Table) (valid : IsTrue (is_valid table)) (refused : is_accepte
       let low = short_of (λ k. works (with_interval k table)) table.ti n helps (λ k least. interval_refused table k m refused least) in
       let b = below_in Interval (λ k. with_interval k table) table.ti n low helps in (
         b.0,
-        in_all (Interval b.0) Aperiodic m
+        in_first (Interval b.0) m
             (in_append_left ((interval ++ sync) ++ gaps) lines _ (in_append_left (interval ++ sync) gaps _ (in_append_left interval sync _ b.1))),
       )
   interval_there Periodic m n helps =
@@ -117,7 +127,7 @@ module _ (table : Table) (valid : IsTrue (is_valid table)) (refused : is_accepte
         let most = (valid_facts (with_synchronization n table) (working_valid (with_synchronization n table) helps)).sg_most in
         let b = above_in Synchronization (λ k. with_synchronization k table) table.sg n low (omega (arith, most)) helps in (
           b.0,
-          in_all (Synchronization b.0) Aperiodic m
+          in_first (Synchronization b.0) m
               (in_append_left ((interval ++ sync) ++ gaps) lines _ (in_append_left (interval ++ sync) gaps _ (in_append_right interval sync _ b.1))),
         );
     gap = λ m s n i helps.
@@ -125,7 +135,7 @@ module _ (table : Table) (valid : IsTrue (is_valid table)) (refused : is_accepte
         let most = gap_most table s n valid m i low helps in
         let b = above_in (Gap s.number) (λ k. with_gap s.number k table) s.tg n low (omega (arith, most)) helps in (
           b.0,
-          in_all (Gap s.number b.0) Aperiodic m
+          in_first (Gap s.number b.0) m
               (in_append_left ((interval ++ sync) ++ gaps) lines _
               (in_append_right (interval ++ sync) gaps _ (flat_in (gap_advice table) (turn_order table) s _ (in_turn s i) b.1))),
         );
@@ -136,7 +146,7 @@ module _ (table : Table) (valid : IsTrue (is_valid table)) (refused : is_accepte
         let b = above_in (Least s.number (place + 1)) (λ k. with_least s.number place k table) line.least n low (omega (arith, most)) helps in
         let same : place ≡ 0 + place = omega arith in (
           b.0,
-          in_all (Least s.number (place + 1) b.0) Aperiodic m
+          in_first (Least s.number (place + 1) b.0) m
               (in_append_right ((interval ++ sync) ++ gaps) lines _
               (flat_in (least_advices table) (turn_order table) s _ (in_turn s i)
               (line_in table s.number 0 place s.sends line _ at
@@ -153,4 +163,23 @@ module _ (table : Table) (valid : IsTrue (is_valid table)) (refused : is_accepte
               (in_append_right (option_to_list (option_map Interval (greater_interval table))) (option_to_list (option_map Plan (planned_interval table))) _
               (some_in Plan (planned_interval table) found.0 found.1)),
         );
+    periodic = λ m n offsets low helps.
+        let made : Table = with_offsets offsets (as_periodic n table) in
+        let most = (valid_facts made (working_valid made helps)).ti_most in
+        let enough = accepted_long (as_periodic n table) offsets refl (valid_facts table valid).some (working_accepted made helps) in
+        let found = least_there (λ k. works (planned_table (as_periodic k table))) table.ti n low most
+        (plan_works (as_periodic table.ti table) n (periodic_of table valid m) refl low most enough) in (
+          found.0,
+          in_all (AsPeriodic found.0) Aperiodic m
+              (in_append_right (((interval ++ sync) ++ gaps) ++ lines) periodic _ (some_in AsPeriodic (periodic_interval table) found.0 found.1)),
+        );
   }
+
+-- nor is a start
+pub start_there : (table : Table) → IsTrue (is_accepted (verdict_of table)) → StartIsAdvised table (advices_of table)
+start_there table accepted lacks n good =
+    let found = below_there (λ k. starts (with_interval k table)) table.ti n (starts_below table n lacks good) good in
+    let all : option_to_list (option_map Start (starting_interval table)) ≡ advices_of table =
+    sym (ap (λ b. cond b (option_to_list (option_map Start (starting_interval table))) []) lacks)
+    ∙ sym (ap (λ b. cond b (start_advices table) (advices_in table.mode table)) accepted) in
+    (found.0, subst (λ l. In (Start found.0) l) all (some_in Start (starting_interval table) found.0 found.1))

@@ -2,13 +2,14 @@
 use Rattle.std.specs.Prelude.{◌≡◌, ℕ, suc, ◌+◌, ◌≤◌, true, false, IsTrue, List, [], ◌∷◌, ◌++◌, Option, Some, None, slice_get}
 use Rattle.std.specs.List.{flat_map}
 use Rattle.std.specs.Option.{option_map, option_to_list}
-use Rattle.std.proofs.Common.{inl, inr, arith, sym, refl, ◌∙◌, cond, subst}
+use Rattle.std.proofs.Common.{inl, inr, arith, sym, refl, ap, ◌∙◌, cond, subst}
 use Rattle.std.proofs.lemmas.Bool.{cases_lt, true≢false}
 use Rattle.bus_strings.specs.Members.{In}
 use Rattle.bus_strings.proofs.MemberLaws.{in_append_cases}
 use Rattle.bus_table.specs.declared.mode.Mode.{Mode}
 use Rattle.bus_table.specs.declared.mode.Mode.TheVariants.{Aperiodic, Periodic}
 use Rattle.bus_table.specs.declared.line.SendLine.{SendLine}
+use Rattle.bus_table.specs.Periodic.{as_periodic}
 use Rattle.bus_table.specs.Tables.{Sender, Table}
 use Rattle.bus_table.specs.Turns.{turn_key, turn_order}
 use Rattle.bus_table.specs.Valid.{is_valid}
@@ -18,18 +19,20 @@ use Rattle.bus_regime.specs.Verdicts.{verdict_of, is_accepted}
 use Rattle.bus_plan.specs.Plans.{planned_table, least_interval}
 use Rattle.bus_plan.proofs.Moved.{short_refused}
 use Rattle.bus_advice.specs.declared.advice.Advice.{Advice}
-use Rattle.bus_advice.specs.declared.advice.Advice.TheVariants.{Interval, Synchronization, Gap, Least, Plan}
+use Rattle.bus_advice.specs.declared.advice.Advice.TheVariants.{Interval, Synchronization, Gap, Least, Plan, AsPeriodic, Start}
 use Rattle.bus_advice.specs.Changes.{with_interval, with_synchronization, with_gap, with_least}
 use Rattle.bus_advice.specs.Search.{least_above, greatest_below}
-use Rattle.bus_advice.specs.Advices.{works, lesser_interval, greater_interval, greater_synchronization, greater_gap, greater_least, planned_interval}
+use Rattle.bus_advice.specs.Advices.{works, lesser_interval, greater_interval, greater_synchronization, greater_gap, greater_least, planned_interval, periodic_interval}
+use Rattle.bus_advice.specs.Advices.{starts, starting_interval, lacks_start, start_advices, periodic_in, periodic_table}
 use Rattle.bus_advice.specs.Advices.{gap_advice, line_advice, line_advices, least_advices, advices_in, advices_of}
-use Rattle.bus_advice.specs.Laws.{IsNearest, GapWorks, LeastWorks, PlanWorks, AdviceWorks}
+use Rattle.bus_advice.specs.Laws.{IsNearest, GapWorks, LeastWorks, PlanWorks, PeriodicWorks, StartWorks, AdviceWorks}
 use Rattle.bus_advice.proofs.Searches.{found_least, found_below}
 use Rattle.bus_advice.proofs.CycleChange.{working_valid, interval_refused, sync_refused}
 use Rattle.bus_advice.proofs.GapChange.{gap_refused}
 use Rattle.bus_advice.proofs.LineChange.{least_refused}
 use Rattle.bus_advice.proofs.Widening.{shorter_refused}
-use Rattle.bus_advice.proofs.Planning.{plan_works}
+use Rattle.bus_advice.proofs.Planning.{plan_works, periodic_of}
+use Rattle.bus_advice.proofs.StartChange.{lacking_mode, starts_below}
 
 -- ---- members
 in_option : (make : ℕ → Advice) (o : Option ℕ) (a : Advice) → In a (option_to_list (option_map make o)) → (n : ℕ) × (o ≡ Some n) × (a ≡ make n)
@@ -85,7 +88,7 @@ below_nearest change own n greater h =
       ];
     }
 
-plan_nearest : (table : Table) (n : ℕ) → IsTrue (is_valid table) → table.mode ≡ Periodic → planned_interval table ≡ Some n → PlanWorks table n
+plan_nearest : (table : Table) (n : ℕ) → IsTrue (is_valid table) → table.mode ≡ Periodic → planned_interval table ≡ Some n → PlanWorks (λ k. with_interval k table) table.ti n
 plan_nearest table n valid periodic h =
     let f = found_least (λ k. works (planned_table (with_interval k table))) table.ti n h in
     let most = (valid_facts (planned_table (with_interval n table)) (working_valid (planned_table (with_interval n table)) f.passes)).ti_most in
@@ -95,6 +98,34 @@ plan_nearest table n valid periodic h =
         | inl short ↦ short_refused (with_interval m table) offsets periodic (valid_facts table valid).some short
         | inr long ↦
             absurd (true≢false (sym (plan_works table m valid periodic low (omega (arith, most, high)) long) ∙ f.before m low high))
+      ];
+    }
+
+-- in periodic mode, as its plan is nearest
+periodic_told : (table : Table) (n : ℕ) → is_accepted (verdict_of table) ≡ false → table.mode ≡ Aperiodic → periodic_interval table ≡ Some n
+    → periodic_table table ≡ Some (planned_table (as_periodic n table))
+periodic_told table n refused aperiodic h =
+    ap (λ b. cond b None (periodic_in table.mode table)) refused
+    ∙ ap (λ m. periodic_in m table) aperiodic
+    ∙ ap (λ o. option_map (λ ti. planned_table (as_periodic ti table)) o) h
+
+periodic_nearest : (table : Table) (n : ℕ) → IsTrue (is_valid table) → is_accepted (verdict_of table) ≡ false → table.mode ≡ Aperiodic
+    → periodic_interval table ≡ Some n → PeriodicWorks table n
+periodic_nearest table n valid refused aperiodic h = record {
+  planned = plan_nearest (as_periodic table.ti table) n (periodic_of table valid aperiodic) refl h;
+  told = periodic_told table n refused aperiodic h;
+}
+
+-- the greatest with which it starts
+start_greatest : (table : Table) (n : ℕ) → IsTrue (lacks_start table.mode table) → starting_interval table ≡ Some n → StartWorks table n
+start_greatest table n lacks h =
+    let f = found_below (λ k. starts (with_interval k table)) table.ti n h in
+    record {
+      aperiodic = lacking_mode table table.mode lacks;
+      helps = f.passes;
+      greatest = λ m good. elim (cases_lt n m) [
+        | inl more ↦ absurd (true≢false (sym good ∙ f.behind m more (starts_below table m lacks good)))
+        | inr rest ↦ omega arith
       ];
     }
 
@@ -137,23 +168,29 @@ mode_works table Aperiodic a valid refused m i =
     let gaps : List Advice = flat_map (gap_advice table) (turn_order table) in
     let lines : List Advice = flat_map (least_advices table) (turn_order table) in
     let interval : List Advice = option_to_list (option_map Interval (lesser_interval table)) in
-    elim (in_append_cases ((interval ++ sync) ++ gaps) lines a i) [
+    let periodic : List Advice = option_to_list (option_map AsPeriodic (periodic_interval table)) in
+    elim (in_append_cases (((interval ++ sync) ++ gaps) ++ lines) periodic a i) [
       | inr l ↦
-          (let w = in_flat (least_advices table) (turn_order table) a l in
-          line_works table w.0 a valid m refused (from_sort (turn_key table.mode) table.senders w.0 w.1) w.2)
-      | inl j ↦ elim (in_append_cases (interval ++ sync) gaps a j) [
+          (let w = in_option AsPeriodic (periodic_interval table) a l in
+          subst (λ x. AdviceWorks table x) (sym w.2) (periodic_nearest table w.0 valid refused m w.1))
+      | inl h ↦ elim (in_append_cases ((interval ++ sync) ++ gaps) lines a h) [
         | inr l ↦
-            (let w = in_flat (gap_advice table) (turn_order table) a l in
-            gap_works table w.0 a valid m refused (from_sort (turn_key table.mode) table.senders w.0 w.1) w.2)
-        | inl k ↦ elim (in_append_cases interval sync a k) [
-          | inl l ↦
-              (let w = in_option Interval (lesser_interval table) a l in
-              subst (λ x. AdviceWorks table x) (sym w.2)
-              (below_nearest (λ n. with_interval n table) table.ti w.0 (λ n low. interval_refused table n m refused low) w.1))
+            (let w = in_flat (least_advices table) (turn_order table) a l in
+            line_works table w.0 a valid m refused (from_sort (turn_key table.mode) table.senders w.0 w.1) w.2)
+        | inl j ↦ elim (in_append_cases (interval ++ sync) gaps a j) [
           | inr l ↦
-              (let w = in_option Synchronization (greater_synchronization table) a l in
-              subst (λ x. AdviceWorks table x) (sym w.2)
-              (above_nearest (λ n. with_synchronization n table) table.sg w.0 (λ n high. sync_refused table n m refused high) w.1))
+              (let w = in_flat (gap_advice table) (turn_order table) a l in
+              gap_works table w.0 a valid m refused (from_sort (turn_key table.mode) table.senders w.0 w.1) w.2)
+          | inl k ↦ elim (in_append_cases interval sync a k) [
+            | inl l ↦
+                (let w = in_option Interval (lesser_interval table) a l in
+                subst (λ x. AdviceWorks table x) (sym w.2)
+                (below_nearest (λ n. with_interval n table) table.ti w.0 (λ n low. interval_refused table n m refused low) w.1))
+            | inr l ↦
+                (let w = in_option Synchronization (greater_synchronization table) a l in
+                subst (λ x. AdviceWorks table x) (sym w.2)
+                (above_nearest (λ n. with_synchronization n table) table.sg w.0 (λ n high. sync_refused table n m refused high) w.1))
+          ]
         ]
       ]
     ]
@@ -169,9 +206,20 @@ mode_works table Periodic a valid refused m i =
           subst (λ x. AdviceWorks table x) (sym w.2) (plan_nearest table w.0 valid m w.1))
     ]
 
+start_works : (table : Table) (a : Advice) → In a (start_advices table) → AdviceWorks table a
+start_works table a i =
+    (elim (lacks_start table.mode table) as (λ b. lacks_start table.mode table ≡ b
+    → In a (cond b (option_to_list (option_map Start (starting_interval table))) []) → AdviceWorks table a) [
+      | true ↦ λ e j.
+          (let w = in_option Start (starting_interval table) a j in
+          subst (λ x. AdviceWorks table x) (sym w.2) (start_greatest table w.0 e w.1))
+      | false ↦ λ e j. absurd j
+    ]) refl i
+
 pub all_work : (table : Table) (a : Advice) → IsTrue (is_valid table) → In a (advices_of table) → AdviceWorks table a
 all_work table a valid i =
-    (elim (is_accepted (verdict_of table)) as (λ b. is_accepted (verdict_of table) ≡ b → In a (cond b [] (advices_in table.mode table)) → AdviceWorks table a) [
-      | true ↦ λ e j. absurd j
+    (elim (is_accepted (verdict_of table)) as (λ b. is_accepted (verdict_of table) ≡ b
+    → In a (cond b (start_advices table) (advices_in table.mode table)) → AdviceWorks table a) [
+      | true ↦ λ e j. start_works table a j
       | false ↦ λ e j. mode_works table table.mode a valid e refl j
     ]) refl i

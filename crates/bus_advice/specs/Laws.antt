@@ -5,14 +5,15 @@ use Rattle.std.specs.Int.{abs_diff}
 use Rattle.bus_strings.specs.Members.{In}
 use Rattle.bus_table.specs.Offsets.{with_offsets}
 use Rattle.bus_table.specs.declared.line.SendLine.{SendLine}
+use Rattle.bus_table.specs.Periodic.{as_periodic}
 use Rattle.bus_table.specs.Tables.{Sender, Table}
 use Rattle.bus_table.specs.Valid.{is_valid}
 use Rattle.bus_regime.specs.Verdicts.{verdict_of, is_accepted}
 use Rattle.bus_plan.specs.Plans.{planned_table}
 use Rattle.bus_advice.specs.declared.advice.Advice.{Advice}
-use Rattle.bus_advice.specs.declared.advice.Advice.TheVariants.{Interval, Synchronization, Gap, Least, Plan}
+use Rattle.bus_advice.specs.declared.advice.Advice.TheVariants.{Interval, Synchronization, Gap, Least, Plan, AsPeriodic, Start}
 use Rattle.bus_advice.specs.Changes.{with_interval, with_synchronization, with_gap, with_least}
-use Rattle.bus_advice.specs.Advices.{works, advices_of}
+use Rattle.bus_advice.specs.Advices.{works, starts, lacks_start, advices_of, periodic_table}
 
 -- A number is a smaller change of the table's own than the advised one, in either direction; the table's own is no change at all.
 abbrev pub IsNearer : ℕ → ℕ → ℕ → Type 0
@@ -41,12 +42,22 @@ pub record LeastWorks (table : Table) (terminal line least : ℕ) : Type 0 where
   pub stands : slice_get sender.sends place ≡ Some sends
   pub nearest : IsNearest (λ n. with_least terminal place n table) sends.least least
 
--- The table works with the offsets of its plan at the advised interval, and at no interval from its own up to that does any choice of
--- offsets.
-pub record PlanWorks (table : Table) (ti : ℕ) : Type 0 where
-  pub helps : IsTrue (works (planned_table (with_interval ti table)))
-  pub nearest : (n : ℕ) (offsets : List ℕ) → table.ti ≤ n → n < ti
-      → is_accepted (verdict_of (with_offsets offsets (with_interval n table))) ≡ false
+-- A table that is another at each transmit interval works with the offsets of its plan at the advised one, and at no interval from the
+-- table's own up to that does any choice of offsets.
+pub record PlanWorks (change : ℕ → Table) (own advised : ℕ) : Type 0 where
+  pub helps : IsTrue (works (planned_table (change advised)))
+  pub nearest : (n : ℕ) (offsets : List ℕ) → own ≤ n → n < advised → is_accepted (verdict_of (with_offsets offsets (change n))) ≡ false
+
+-- In periodic mode it does, and the planned table that is told of is that one.
+pub record PeriodicWorks (table : Table) (ti : ℕ) : Type 0 where
+  pub planned : PlanWorks (λ n. as_periodic n table) table.ti ti
+  pub told : periodic_table table ≡ Some (planned_table (as_periodic ti table))
+
+-- With the advised transmit interval the table, which is aperiodic, starts, and with no greater one does it.
+pub record StartWorks (table : Table) (ti : ℕ) : Type 0 where
+  pub aperiodic : table.mode ≡ Aperiodic
+  pub helps : IsTrue (starts (with_interval ti table))
+  pub greatest : (n : ℕ) → IsTrue (starts (with_interval n table)) → n ≤ ti
 
 -- What an advice means.
 abbrev pub AdviceWorks : Table → Advice → Type 0
@@ -54,7 +65,9 @@ AdviceWorks table (Interval ti) = IsNearest (λ n. with_interval n table) table.
 AdviceWorks table (Synchronization sg) = IsNearest (λ n. with_synchronization n table) table.sg sg
 AdviceWorks table (Gap terminal tg) = GapWorks table terminal tg
 AdviceWorks table (Least terminal line least) = LeastWorks table terminal line least
-AdviceWorks table (Plan ti) = PlanWorks table ti
+AdviceWorks table (Plan ti) = PlanWorks (λ n. with_interval n table) table.ti ti
+AdviceWorks table (AsPeriodic ti) = PeriodicWorks table ti
+AdviceWorks table (Start ti) = StartWorks table ti
 
 -- Every advice on a valid table works.
 abbrev pub AdvicesWork : Type 0
@@ -63,6 +76,7 @@ AdvicesWork = (table : Table) (advice : Advice) → IsTrue (is_valid table) → 
 -- Where a change of one number works, greater or lesser, there is an advice of that kind. In periodic mode advices are of the transmit
 -- interval and of offsets alone.
 --   offsets     any, at a transmit interval from the table's own on
+--   periodic    the same of an aperiodic table in periodic mode
 pub record AreComplete (table : Table) (advices : List Advice) : Type 0 where
   pub interval : (n : ℕ) → IsTrue (works (with_interval n table)) → (best : ℕ) × In (Interval best) advices
   pub synchronization : table.mode ≡ Aperiodic → (n : ℕ) → IsTrue (works (with_synchronization n table))
@@ -75,7 +89,19 @@ pub record AreComplete (table : Table) (advices : List Advice) : Type 0 where
   pub offsets : table.mode ≡ Periodic → (n : ℕ) (offsets : List ℕ) → table.ti ≤ n
       → IsTrue (works (with_offsets offsets (with_interval n table)))
       → (best : ℕ) × In (Plan best) advices
+  pub periodic : table.mode ≡ Aperiodic → (n : ℕ) (offsets : List ℕ) → table.ti ≤ n
+      → IsTrue (works (with_offsets offsets (as_periodic n table)))
+      → (best : ℕ) × In (AsPeriodic best) advices
 
 -- No advice on a refused table is missing.
 abbrev pub NoneMissing : Type 0
 NoneMissing = (table : Table) → IsTrue (is_valid table) → is_accepted (verdict_of table) ≡ false → AreComplete table (advices_of table)
+
+-- Where an accepted aperiodic table that doesn't start itself does so at some transmit interval, there is an advice that names one.
+abbrev pub StartIsAdvised : Table → List Advice → Type 0
+StartIsAdvised table advices =
+    IsTrue (lacks_start table.mode table) → (n : ℕ) → IsTrue (starts (with_interval n table)) → (best : ℕ) × In (Start best) advices
+
+-- Nor is an advice to start missing on an accepted table.
+abbrev pub NoStartMissing : Type 0
+NoStartMissing = (table : Table) → IsTrue (is_valid table) → IsTrue (is_accepted (verdict_of table)) → StartIsAdvised table (advices_of table)

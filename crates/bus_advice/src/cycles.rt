@@ -11,6 +11,7 @@ ghost use Rattle.bus_advice.specs.Advices as advised;
 ghost use Rattle.bus_advice.specs.inside.InnerGaps.{IsShort};
 
 use crate::advice::Advice;
+use crate::plans::periodic_interval;
 use bus_strings::limits::WORD_BITS;
 use bus_table::ranges::{LEAST_TI, MOST_SG, MOST_TG};
 use bus_table::{MOST_SENDERS, SendLine, Sender, Table, turn_at, turn_places};
@@ -192,5 +193,9 @@ pub(crate) fn cycle_advices(
     )?;
     add_gaps(&mut advices, table, &places, deficit)?;
     add_least(&mut advices, table, &places, deficit)?;
+    add(
+        &mut advices,
+        periodic_interval(table).map(|ti| Advice::AsPeriodic { ti }),
+    )?;
     Ok(advices)
 }

@@ -12,7 +12,7 @@ ghost use Rattle.bus_table.specs.Ranges.{most_sg, most_tg};
 
 use crate::advice::Advice;
 use crate::cycles::add;
-use bus_plan::least_interval;
+use crate::plans::planned_interval;
 use bus_regime::{gap_at, turn_ends};
 use bus_table::ranges::MOST_TI;
 use bus_table::{MOST_SENDERS, Table, turn_places};
@@ -75,19 +75,6 @@ fn greater_interval(table: &Table) -> Option<u32>
     let sender = first.sender();
     let needed = needed_width(table, &places, &ends, sender.tg())?;
     let ti = (first.begin() + u64::from(needed)).saturating_sub(u64::from(sender.at()));
-    if ti <= u64::from(MOST_TI) {
-        Some(ti as u32)
-    } else {
-        None
-    }
-}
-
-/// The least transmit interval from the table's own on with which other offsets are accepted.
-fn planned_interval(table: &Table) -> Option<u32>
-    requires periodic { table.now.mode ≡ Periodic }
-    ensures { result ≡ advised.planned_interval table.now }
-{
-    let ti = least_interval(table).max(u64::from(table.ti()));
     if ti <= u64::from(MOST_TI) {
         Some(ti as u32)
     } else {

@@ -13,7 +13,7 @@ pub(crate) fn message(alloc: Global, data_words: &[usize]) -> Result<Option<Mess
     for count in data_words {
         let words = vec![in alloc; 7u16; *count]?;
         match (Label::new(0x0A1), Ext::new(1)) {
-            (Some(label), Some(ext)) => match Wordstring::new(label, ext, words) {
+            (Some(label), Some(ext)) => match Wordstring::new(label, ext, words)? {
                 Some(string) => strings.push(string)?,
                 None => return Ok(None),
             },

@@ -8,6 +8,5 @@ mod HearingLemmas
 pub mod HearingLaws
 pub mod Spent
 pub mod Strangers
-pub mod ClosedAlike
 pub mod Orderly
 pub mod Layouts

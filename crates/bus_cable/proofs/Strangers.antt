@@ -8,50 +8,38 @@ use Rattle.bus_strings.specs.Messages.{Entry}
 use Rattle.bus_strings.specs.Transmissions.{marks}
 use Rattle.bus_strings.proofs.MemberLaws.{in_append_left, in_map, map_same}
 use Rattle.bus_table.specs.Hands.{are_hands}
-use Rattle.bus_table.specs.Tables.{Sender, Listener, Table, Hand}
+use Rattle.bus_table.specs.Tables.{Sender, Listener, Table, Hand, sender_numbers}
 use Rattle.bus_table.specs.Valid.{is_valid}
 use Rattle.bus_medium.specs.CableLawful.{IsDueOnCable, IsLawfulOnCable}
 use Rattle.bus_medium.specs.Delays.{Delays, cable, distance, later, heard}
-use Rattle.bus_medium.specs.Lawful.{Station, IsRuled}
+use Rattle.bus_medium.specs.Lawful.{Station}
 use Rattle.bus_medium.specs.Past.{own}
 use Rattle.bus_medium.specs.Timings.{quiet_of, stations_of}
 use Rattle.bus_medium.specs.Wakes.{Wakes, woken_past, woken_place}
-use Rattle.bus_medium.proofs.StationLaws.{HasSender, stations_are_of_senders}
+use Rattle.bus_medium.proofs.StationLaws.{HasSender, are_of_senders, stations_are_of_senders}
 use Rattle.bus_cable.specs.Hearing.{in_order, hearing, hearings, is_of_another}
 use Rattle.bus_cable.specs.HeardTexts.{terminals, terminal_text, hearing_line}
 use Rattle.bus_cable.specs.OrderLaws.{StrangersSendNothing, StrangersHearNothing, StrangersAreUnwritten}
 
--- the numbers of the senders of a table
-abbrev pub numbers : Table → List ℕ
-numbers table = map (λ (s : Sender). s.number) table.senders
-
 -- two delays agree where a terminal of the table hears a sender of it
 abbrev pub Agree : Table → Delays → Delays → Type 0
-Agree table delay other = (x : Entry) (number : ℕ) → In x.terminal (numbers table) → In number (terminals table) → delay x number ≡ other x number
+Agree table delay other = (x : Entry) (number : ℕ) → In x.terminal (sender_numbers table) → In number (terminals table) → delay x number ≡ other x number
 
 -- each transmission of the list is of a sender of the table
 abbrev pub AreOf : Table → List Entry → Type 0
-AreOf table list = (x : Entry) → In x list → In x.terminal (numbers table)
+AreOf table list = (x : Entry) → In x list → In x.terminal (sender_numbers table)
 
-pub sender_sends : (table : Table) (sender : Sender) → In sender table.senders → In sender.number (numbers table)
+pub sender_sends : (table : Table) (sender : Sender) → In sender table.senders → In sender.number (sender_numbers table)
 sender_sends table sender there = in_map (λ (s : Sender). s.number) table.senders sender there
 
-to_terminal : (table : Table) (number : ℕ) → In number (numbers table) → In number (terminals table)
-to_terminal table number there = in_append_left (numbers table) (map (λ (l : Listener). l.number) table.listeners) number there
+pub to_terminal : (table : Table) (number : ℕ) → In number (sender_numbers table) → In number (terminals table)
+to_terminal table number there = in_append_left (sender_numbers table) (map (λ (l : Listener). l.number) table.listeners) number there
 
 pub sender_there : (table : Table) (sender : Sender) → In sender table.senders → In sender.number (terminals table)
 sender_there table sender there = to_terminal table sender.number (sender_sends table sender there)
 
 pub station_there : (table : Table) (hands : List Hand) (station : Station) → HasSender table hands station → In station.number (terminals table)
 station_there table hands station has = subst (λ n. In n (terminals table)) (sym has.is.number) (sender_there table has.sender has.there)
-
--- what a rule makes of the stations of a table is of its senders
-pub are_of : (due : List Entry → Station → ℕ → Type 0) (table : Table) (hands : List Hand) (horizon : ℕ) (list : List Entry) → IsTrue (is_valid table)
-    → IsTrue (are_hands table.senders hands) → IsRuled due (stations_of table hands) horizon list → AreOf table list
-are_of due table hands horizon list valid dealt ruled x i =
-    let next = (ruled.sent x i).1 in
-    let has = stations_are_of_senders table hands next.sender valid dealt next.there in
-    subst (λ n. In n (numbers table)) (sym has.is.number ∙ next.number) (sender_sends table has.sender has.there)
 
 pub heard_alike : (table : Table) (delay other : Delays) (list : List Entry) (number : ℕ) → Agree table delay other → AreOf table list → In number (terminals table)
     → heard delay number list ≡ heard other number list
@@ -78,7 +66,7 @@ lawful_alike table hands delay other wake other_wake horizon list valid dealt ag
   sent = lawful.sent;
   exact = λ t s less there.
       let has : HasSender table hands s = stations_are_of_senders table hands s valid dealt there in
-      let of : AreOf table list = are_of (IsDueOnCable (quiet_of table) delay wake) table hands horizon list valid dealt lawful in
+      let of : AreOf table list = are_of_senders (IsDueOnCable (quiet_of table) delay wake) table hands horizon list valid dealt lawful in
       let hears : heard delay s.number list ≡ heard other s.number list = heard_alike table delay other list s.number agree of (station_there table hands s has) in
       let woken : wake s.number ≡ other_wake s.number = ap wake has.is.number ∙ wakes has.sender has.there ∙ sym (ap other_wake has.is.number) in (
         (λ e. due_alike (quiet_of table) delay other wake other_wake list s t hears woken ((lawful.exact t s less there).0 e)),
@@ -109,7 +97,7 @@ pub strangers_hear_nothing : StrangersHearNothing
 strangers_hear_nothing table hands place other_place wake other_wake horizon list number valid dealt alike lawful there =
     hearings_alike (cable place) (cable other_place) list number
     (heard_alike table (cable place) (cable other_place) list number (cables_agree table place other_place alike.places)
-    (are_of (IsDueOnCable (quiet_of table) (cable place) wake) table hands horizon list valid dealt lawful) there)
+    (are_of_senders (IsDueOnCable (quiet_of table) (cable place) wake) table hands horizon list valid dealt lawful) there)
 
 flat_map-alike : {X A : Type 0} (f g : X → List A) (xs : List X) → ((x : X) → In x xs → f x ≡ g x) → flat_map f xs ≡ flat_map g xs
 flat_map-alike f g [] same = refl

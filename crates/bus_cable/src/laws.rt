@@ -5,7 +5,7 @@ ghost use Rattle.bus_cable.specs.OrderLaws.{StrangersAreUnwritten, StrangersHear
 ghost use Rattle.bus_cable.specs.HearingLaws.{HearsEach, HearsInOrder, ClearIsUngarbled};
 
 use bus_medium::laws::one_cable_list;
-use bus_reach::laws::{borne_for_less, borne_is_closed, periodic_borne_is_closed};
+use bus_reach::laws::{borne_is_closed, periodic_borne_is_closed};
 
 /// A cable text reads as its cable and items, and what reads as a cable and items is a text of them. Laws, with no work.
 pub fn texts_read_as_their_cables()
@@ -45,6 +45,5 @@ pub fn borne_is_orderly()
     one_cable_list();
     borne_is_closed();
     periodic_borne_is_closed();
-    borne_for_less();
     hearing_tells();
 }

@@ -2,5 +2,7 @@
 mod OrderLemmas
 mod AcceptLemmas
 mod FallLemmas
-mod FigureTexts
+mod ColumnTexts
 mod FigureLaws
+mod GapTimes
+mod RowLengths

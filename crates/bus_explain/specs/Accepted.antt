@@ -8,7 +8,9 @@ use Rattle.bus_regime.specs.Verdicts.{verdict_of}
 use Rattle.bus_regime.specs.declared.table_verdict.TableVerdict.TheVariants.{Accept}
 use Rattle.bus_strings.specs.Shares.{share_text}
 use Rattle.bus_explain.specs.Figures.{load, spare}
-use Rattle.bus_explain.specs.Senders.{sender_lines}
+use Rattle.bus_advice.specs.declared.advice.Advice.{Advice}
+use Rattle.bus_explain.specs.Senders.{senders_text}
+use Rattle.bus_explain.specs.Starts.{start_text}
 use Rattle.bus_explain.specs.Times.{time_text}
 use Rattle.bus_table.specs.Ranges.{least_ti, most_ti}
 
@@ -23,7 +25,7 @@ HasLeast table least = (most : ℕ) × IsAcceptedWith table least most
 -- That it is accepted.
 abbrev pub accepted_line : List ℕ
 accepted_line =
-    codes "The table is accepted: from a settled start, with no delay on the way, "
+    codes "The table is accepted: from a settled start, with no delay on the way and as many messages for each, "
     ++ codes "its senders take turns and no two of them talk over each other.\n"
 
 -- How long its cycles are, where messages decide.
@@ -61,20 +63,31 @@ load_line load =
     codes "The load is " ++ share_text load
     ++ codes ": so much of the longest cycle is messages, each as long as it may be; the rest is gaps.\n"
 
+-- What a tolerance means. Its second line tells that there is no greater one, in the words of the laws by which that is so: more of what
+-- happens then isn't known in general.
+abbrev pub tolerance_meaning : Mode → List ℕ
+tolerance_meaning Aperiodic =
+    codes ": where all senders are powered up within that time of one another, and no terminal hears another later than that, "
+    ++ codes "with as many messages for each, they take turns, each starting as soon as its gaps are over, "
+    ++ codes "and no terminal hears two messages overlap.\n"
+    ++ codes "With one bit time more for both, there are places on a straight cable and moments of power-up with which they don't, "
+    ++ codes "whatever they send, two messages or more each.\n"
+tolerance_meaning Periodic =
+    codes ": from a settled start, where no terminal hears another later than that, with as many messages for each, "
+    ++ codes "the senders start at their offsets in each cycle, and no terminal hears two messages overlap.\n"
+    ++ codes "With one bit time more, there are places on a straight cable with which they don't, where each sends its longest message twice.\n"
+
 -- How much delay the table bears.
-abbrev pub delay_line : ℕ → List ℕ
-delay_line delay =
-    codes "The tolerance is " ++ time_text delay
-    ++ codes ": from a common start, where no terminal hears another later than that, the order holds; "
-    ++ codes "with one bit time more, a sender could start late, two could talk over each other, or a turn be lost.\n"
+abbrev pub delay_line : Mode → ℕ → List ℕ
+delay_line mode delay = codes "The tolerance is " ++ time_text delay ++ tolerance_meaning mode
 
 -- The same where there may be no greatest delay.
-abbrev pub tolerance_line : Option ℕ → List ℕ
-tolerance_line None = codes "The tolerance has no end: one sender alone keeps its times, however long the cable is.\n"
-tolerance_line (Some delay) = delay_line delay
+abbrev pub tolerance_line : Mode → Option ℕ → List ℕ
+tolerance_line mode None = codes "The tolerance has no end: one sender alone keeps its times, however long the cable is.\n"
+tolerance_line mode (Some delay) = delay_line mode delay
 
--- All that is said of an accepted table.
-abbrev pub accepted_text : Table → (least most : ℕ) → Option ℕ → List ℕ
-accepted_text table least most tolerance =
+-- All that is said of an accepted table, on which there are these advices.
+abbrev pub accepted_text : Table → (least most : ℕ) → Option ℕ → List Advice → List ℕ
+accepted_text table least most tolerance advices =
     accepted_line ++ cycles_line table.mode least most ++ spare_line table.mode (spare table least) ++ load_line (load table most)
-    ++ codes "The senders speak in this order:\n" ++ sender_lines table.mode table most ++ tolerance_line tolerance
+    ++ senders_text table.mode table most ++ tolerance_line table.mode tolerance ++ start_text table.mode table advices

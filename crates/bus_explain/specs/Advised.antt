@@ -2,7 +2,7 @@
 use Rattle.std.specs.Prelude.{ℕ, Bool, true, false, ◌==◌, List, ◌++◌, length, codes, decimal}
 use Rattle.std.specs.List.{flat_map}
 use Rattle.bus_advice.specs.declared.advice.Advice.{Advice}
-use Rattle.bus_advice.specs.declared.advice.Advice.TheVariants.{Interval, Synchronization, Gap, Least, Plan}
+use Rattle.bus_advice.specs.declared.advice.Advice.TheVariants.{Interval, Synchronization, Gap, Least, Plan, AsPeriodic, Start}
 use Rattle.bus_explain.specs.Times.{time_text}
 
 -- `TI n`
@@ -34,6 +34,18 @@ plan_line ti =
     codes "PLAN " ++ decimal ti ++ codes ": plan the offsets anew, with a transmit interval of " ++ time_text ti
     ++ codes ", the least from the present one on for which there are offsets.\n"
 
+-- `PERIODIC n`
+abbrev pub periodic_line : ℕ → List ℕ
+periodic_line ti =
+    codes "PERIODIC " ++ decimal ti ++ codes ": make the table periodic, with the offsets of a plan and a transmit interval of " ++ time_text ti
+    ++ codes ", the least from the present one on for which there are offsets.\n"
+
+-- `START n`
+abbrev pub start_line : ℕ → List ℕ
+start_line ti =
+    codes "START " ++ decimal ti ++ codes ": change the transmit interval to " ++ time_text ti
+    ++ codes ", the greatest with which the table starts itself.\n"
+
 -- The line of an advice.
 abbrev pub advice_line : Advice → List ℕ
 advice_line (Interval ti) = interval_line ti
@@ -41,6 +53,8 @@ advice_line (Synchronization sg) = synchronization_line sg
 advice_line (Gap terminal tg) = gap_line terminal tg
 advice_line (Least terminal line least) = least_line terminal line least
 advice_line (Plan ti) = plan_line ti
+advice_line (AsPeriodic ti) = periodic_line ti
+advice_line (Start ti) = start_line ti
 
 -- What stands before advices, of which there may be none.
 abbrev pub advices_head : Bool → List ℕ

@@ -1,4 +1,4 @@
--- The figures of a table that its verdict doesn't tell.
+-- The figures of an accepted table that its verdict doesn't tell.
 --   least, most   the verdict's: the shortest and the longest cycle, which in periodic mode are both the transmit interval
 use Rattle.std.specs.Prelude.{ℕ, ◌-◌}
 use Rattle.std.specs.List.{sum_by}
@@ -7,6 +7,7 @@ use Rattle.bus_table.specs.declared.mode.Mode.TheVariants.{Aperiodic, Periodic}
 use Rattle.bus_table.specs.Lengths.{longest}
 use Rattle.bus_table.specs.Tables.{Table}
 use Rattle.bus_strings.specs.Shares.{tenths}
+use Rattle.bus_regime.specs.Gaps.{Gap}
 use Rattle.bus_plan.specs.Plans.{least_interval}
 
 -- The bits of one message of each sender, each as long as it may be.
@@ -25,3 +26,7 @@ spare_in Periodic table least = table.ti - least_interval table
 -- The spare of an accepted table.
 abbrev pub spare : Table → ℕ → ℕ
 spare table least = spare_in table.mode table least
+
+-- The bit times of the gap before a sender of a periodic table, from the end of the longest message of the sender before it.
+abbrev pub gap_bits : Gap → ℕ
+gap_bits gap = gap.to - gap.from

@@ -23,14 +23,14 @@ sender_text Periodic =
 -- A SEND line.
 abbrev pub send_text : List ℕ
 send_text =
-    codes "SEND l e least most: a wordstring that it sends, with the label l, three hexadecimal digits, the extension e, one digit, "
+    codes "SEND l e least most: a wordstring that it sends, with the label l, three hexadecimal digits, the extension e, one hexadecimal digit, "
     ++ codes "and at least and at most so many data words, 0 to 256, least not above most\n"
 
 -- A TAKE line.
 abbrev pub take_text : List ℕ
 take_text =
     codes "TAKE l e first count: data words that it takes, of the label l, three hexadecimal digits, "
-    ++ codes "and the extension e, one digit, or * for any, from the word first on, counted from 0 to 255, and count words, 1 to 256\n"
+    ++ codes "and the extension e, one hexadecimal digit, or * for any, from the word first on, counted from 0 to 255, and count words, 1 to 256\n"
 
 -- The form of a line of a keyword, in a table of this mode.
 abbrev pub form_text : Mode → Keyword → List ℕ

@@ -1,7 +1,9 @@
 -- What the contracts of this crate cite.
 pub mod Times
 pub mod Figures
+pub mod Columns
 pub mod Senders
+pub mod Starts
 pub mod Accepted
 pub mod Refused
 pub mod Advised
@@ -9,3 +11,4 @@ pub mod Wholes
 pub mod Forms
 pub mod Unread
 pub mod Laws
+pub mod Aligned

@@ -1,5 +1,7 @@
 -- What is said of a table that the verdict refuses: which sum or gap fails, and by how many bit times.
-use Rattle.std.specs.Prelude.{ℕ, ◌+◌, ◌-◌, ℤ, pos, int_lt, unsigned_abs, List, [], ◌++◌, codes, decimal, if◌then◌else◌}
+use Rattle.std.specs.Prelude.{ℕ, ◌+◌, ◌-◌, ℤ, pos, int_lt, unsigned_abs, List, [], ◌++◌, codes, decimal, Option, Some, None, if◌then◌else◌}
+use Rattle.bus_table.specs.Canonical.{table_text}
+use Rattle.bus_table.specs.Tables.{Table}
 use Rattle.bus_regime.specs.declared.table_verdict.TableVerdict.{TableVerdict}
 use Rattle.bus_regime.specs.declared.table_verdict.TableVerdict.TheVariants.{Accept, ShortCycle, SmallGap, NoSync}
 use Rattle.bus_advice.specs.declared.advice.Advice.{Advice}
@@ -15,8 +17,8 @@ abbrev pub short_cycle_text : (least missing ti : ℕ) → List ℕ
 short_cycle_text least missing ti =
     codes "The table is refused: the shortest cycle takes " ++ time_text least ++ codes ", which is " ++ time_text missing
     ++ codes " less than the transmit interval, TI, of " ++ time_text ti ++ codes ".\n"
-    ++ codes "In such a cycle a sender's turn comes before its interval is over: it starts late, "
-    ++ codes "or another goes first, and two may talk over each other.\n"
+    ++ codes "In such a cycle a turn comes before its sender's transmit interval is over: that sender can't start in time, "
+    ++ codes "and nothing is promised of what follows.\n"
 
 -- A gap is below its sender's terminal gap.
 abbrev pub small_gap_text : (terminal missing needed : ℕ) → List ℕ
@@ -40,6 +42,15 @@ refusal_text (ShortCycle least ti) = short_cycle_text least (ti - least) ti
 refusal_text (SmallGap terminal gap needed) = small_gap_text terminal (missing gap needed) needed
 refusal_text (NoSync terminal gap needed) = no_sync_text terminal (needed - gap) needed
 
--- All that is said of a refused table, on which there are these advices.
-abbrev pub refused_text : TableVerdict → List Advice → List ℕ
-refused_text verdict advices = refusal_text verdict ++ advised_text advices
+-- A table that an advice makes of another: its canonical text, ready to copy.
+abbrev pub made_text : Table → List ℕ
+made_text table = codes "The table in periodic mode, ready to copy:\n" ++ table_text table
+
+-- The planned table that the advice on periodic mode makes of a table, where there is one.
+abbrev pub planned_text : Option Table → List ℕ
+planned_text None = []
+planned_text (Some table) = made_text table
+
+-- All that is said of a refused table, on which there are these advices, of which one makes it this periodic table.
+abbrev pub refused_text : TableVerdict → List Advice → Option Table → List ℕ
+refused_text verdict advices planned = refusal_text verdict ++ advised_text advices ++ planned_text planned

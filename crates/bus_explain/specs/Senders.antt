@@ -1,41 +1,62 @@
--- What is said of the senders of an accepted table, a line on each, in turn order.
+-- What is said of the senders of an accepted table: first what they have in common, then lines that name the columns and their units, then
+-- a line for each sender in turn order, with its own numbers alone.
 --   most   the verdict's: two starts of a sender are at most so far apart
-use Rattle.std.specs.Prelude.{ℕ, ◌-◌, List, ◌++◌, codes, decimal}
+use Rattle.std.specs.Prelude.{ℕ, List, ◌++◌, codes}
 use Rattle.std.specs.List.{flat_map}
+use Rattle.bus_strings.specs.Microseconds.{microseconds_unit}
 use Rattle.bus_table.specs.declared.mode.Mode.{Mode}
 use Rattle.bus_table.specs.declared.mode.Mode.TheVariants.{Aperiodic, Periodic}
 use Rattle.bus_table.specs.Lengths.{shortest, longest}
 use Rattle.bus_table.specs.Tables.{Sender, Table}
 use Rattle.bus_table.specs.Turns.{turn_order}
 use Rattle.bus_regime.specs.Gaps.{Gap, gaps}
+use Rattle.bus_explain.specs.Columns.{number_column, time_columns}
+use Rattle.bus_explain.specs.Figures.{gap_bits}
 use Rattle.bus_explain.specs.Times.{time_text}
 
--- Whose line it is.
-abbrev pub sender_opening : ℕ → List ℕ
-sender_opening number = codes "Terminal " ++ decimal number
+-- What comes before the columns.
+abbrev pub turn_opening : ℕ → List ℕ
+turn_opening most =
+    codes "The senders speak in this order; from one start to its next each waits, without delays, at most " ++ time_text most
+    ++ codes ":\n"
 
--- Its terminal gap, its shortest and its longest message, and how far apart its starts are at most.
-abbrev pub sender_figures : (tg short long most : ℕ) → List ℕ
-sender_figures tg short long most =
-    codes " has a terminal gap of " ++ time_text tg ++ codes " and sends messages of " ++ time_text short ++ codes " to " ++ time_text long
-    ++ codes "; from one start to its next it waits, without delays, at most " ++ time_text most ++ codes ".\n"
+-- The same where each starts at its offset.
+abbrev pub offset_opening : ℕ → List ℕ
+offset_opening most =
+    codes "The senders speak in this order; each starts its offset into each cycle, and from one start to its next waits, without delays, "
+    ++ codes "at most " ++ time_text most ++ codes ":\n"
 
--- Where in each cycle a sender starts, and how long the gap before that is: from the end of the longest message of the sender before it.
-abbrev pub place_text : (at gap : ℕ) → List ℕ
-place_text at gap =
-    codes " starts " ++ time_text at ++ codes " into each cycle, behind a gap of at least " ++ time_text gap ++ codes ","
+-- The units of a time, in columns as wide as its own.
+abbrev pub time_units : List ℕ
+time_units = codes "  bit times      " ++ microseconds_unit
 
--- The line on a sender whose gap before each message is its terminal gap, and before a cycle the synchronization gap too.
-abbrev pub turn_line : ℕ → Sender → List ℕ
-turn_line most sender = sender_opening sender.number ++ sender_figures sender.tg (shortest sender) (longest sender) most
+-- The names of the columns, and their units, where a sender starts in its turn.
+abbrev pub turn_head : List ℕ
+turn_head =
+    codes "            terminal gap, TG    shortest message     longest message\n"
+    ++ codes "terminal" ++ time_units ++ time_units ++ time_units ++ codes "\n"
 
--- The line on a sender that starts at its offset, behind this gap.
-abbrev pub offset_line : ℕ → Gap → List ℕ
-offset_line most gap =
-    sender_opening gap.sender.number ++ place_text gap.sender.at (gap.to - gap.from)
-    ++ sender_figures gap.sender.tg (shortest gap.sender) (longest gap.sender) most
+-- The same where it starts at its offset, behind a gap: from the end of the longest message of the sender before it.
+abbrev pub offset_head : List ℕ
+offset_head =
+    codes "                  offset, AT    least gap before    terminal gap, TG    shortest message     longest message\n"
+    ++ codes "terminal" ++ time_units ++ time_units ++ time_units ++ time_units ++ time_units ++ codes "\n"
 
--- The lines on the senders of a table of this mode.
-abbrev pub sender_lines : Mode → Table → ℕ → List ℕ
-sender_lines Aperiodic table most = flat_map (turn_line most) (turn_order table)
-sender_lines Periodic table most = flat_map (offset_line most) (gaps table)
+-- The terminal gap of a sender, and its shortest and its longest message.
+abbrev pub last_columns : (tg short long : ℕ) → List ℕ
+last_columns tg short long = time_columns tg ++ time_columns short ++ time_columns long ++ codes "\n"
+
+-- The line of a sender whose gap before each message is its terminal gap, and before a cycle the synchronization gap too.
+abbrev pub turn_row : Sender → List ℕ
+turn_row sender = number_column sender.number ++ last_columns sender.tg (shortest sender) (longest sender)
+
+-- The line of the sender behind this gap, which starts at its offset.
+abbrev pub offset_row : Gap → List ℕ
+offset_row gap =
+    number_column gap.sender.number ++ time_columns gap.sender.at ++ time_columns (gap_bits gap)
+    ++ last_columns gap.sender.tg (shortest gap.sender) (longest gap.sender)
+
+-- All that is said of the senders of a table of this mode.
+abbrev pub senders_text : Mode → Table → ℕ → List ℕ
+senders_text Aperiodic table most = turn_opening most ++ turn_head ++ flat_map turn_row (turn_order table)
+senders_text Periodic table most = offset_opening most ++ offset_head ++ flat_map offset_row (gaps table)

@@ -3,19 +3,29 @@ use Rattle.std.specs.Prelude.{ℕ, Bool, List, ◌++◌, codes, decimal, Option,
 use Rattle.std.specs.List.{flat_map}
 use Rattle.bus_text.specs.declared.reason.Reason.{Reason}
 use Rattle.bus_text.specs.declared.reason.Reason.TheVariants.{Ended, Keyword as NoKeyword, Fields, Spelling, Range}
+use Rattle.bus_strings.specs.Limits.{most_strings}
 use Rattle.bus_table.specs.declared.keyword.Keyword.{Keyword}
+use Rattle.bus_table.specs.declared.keyword.Keyword.TheVariants as keywords
 use Rattle.bus_table.specs.Drafts.{may_end}
 use Rattle.bus_table.specs.Forms.{all_keywords}
-use Rattle.bus_table.specs.Stops.{Stop, may_stand}
+use Rattle.bus_table.specs.Ranges.{most_takes}
+use Rattle.bus_table.specs.Stops.{Stop, fitting, may_stand, spent}
 use Rattle.bus_explain.specs.Forms.{form_text}
 
+-- That the terminal has as many lines of a keyword as it may have, where that is why there can't be another; else that there can't.
+abbrev pub barred_text : Option Keyword → List ℕ
+barred_text (Some keywords.Send) = codes "a sender has at most " ++ decimal most_strings ++ codes " SEND lines, and this one has them.\n"
+barred_text (Some keywords.Take) = codes "a terminal has at most " ++ decimal most_takes ++ codes " TAKE lines, and this one has them.\n"
+barred_text other = codes "a line that begins so can't stand here.\n"
+
 -- What is said of a reason.
-abbrev pub reason_text : Reason → List ℕ
-reason_text Ended = codes "the text ends before the table is whole.\n"
-reason_text NoKeyword = codes "a line that begins so can't stand here.\n"
-reason_text Fields = codes "it hasn't the fields of its form.\n"
-reason_text Spelling = codes "a field isn't written as its form asks; numbers are decimal digits, without a sign or a leading zero.\n"
-reason_text Range = codes "a number isn't within what its form allows.\n"
+abbrev pub reason_text : Stop → Reason → List ℕ
+reason_text stop Ended = codes "the text ends before the table is whole.\n"
+reason_text stop NoKeyword = barred_text (spent stop)
+reason_text stop Fields = codes "it hasn't the fields of its form.\n"
+reason_text stop Spelling =
+    codes "a field isn't written as its form asks; numbers are decimal digits, without a sign or a leading zero.\n"
+reason_text stop Range = codes "a number isn't within what its form allows.\n"
 
 -- The form of a line of a keyword, where it may stand.
 abbrev pub form_where : Stop → Keyword → List ℕ
@@ -41,4 +51,4 @@ may_stand_text stop None = any_text stop
 -- All that is said of a refused text.
 abbrev pub unread_text : (line : ℕ) → Reason → Stop → List ℕ
 unread_text line reason stop =
-    codes "Line " ++ decimal line ++ codes " of the table text is refused: " ++ reason_text reason ++ may_stand_text stop stop.keyword
+    codes "Line " ++ decimal line ++ codes " of the table text is refused: " ++ reason_text stop reason ++ may_stand_text stop (fitting stop)

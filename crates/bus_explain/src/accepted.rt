@@ -6,7 +6,9 @@ ghost use Rattle.bus_explain.specs.Accepted as accepted;
 
 use crate::figures::{load, spare};
 use crate::senders::put_senders;
+use crate::starts::put_start;
 use crate::times::put_time;
+use bus_advice::Advice;
 use bus_outer::{Sink, TextBuffer, WriteFault};
 use bus_strings::put_share;
 use bus_table::laws::table_is_valid;
@@ -104,46 +106,88 @@ fn put_load<K: Sink>(text: &mut TextBuffer, sink: &mut K, load: u128)
     );
 }
 
+/// Puts what a tolerance means.
+fn put_tolerance_meaning<K: Sink>(text: &mut TextBuffer, sink: &mut K, mode: Mode)
+    ensures { Adds K.held K.faults sink.old sink.new text.old text.new (accepted.tolerance_meaning mode) }
+{
+    match mode {
+        Mode::Aperiodic => put_common_power_up(text, sink),
+        Mode::Periodic => put_common_start(text, sink),
+    }
+}
+
+/// Puts what the tolerance of an aperiodic table means.
+fn put_common_power_up<K: Sink>(text: &mut TextBuffer, sink: &mut K)
+    ensures { Adds K.held K.faults sink.old sink.new text.old text.new (accepted.tolerance_meaning Aperiodic) }
+{
+    text.put(
+        sink,
+        b": where all senders are powered up within that time of one another, and no terminal hears another later than that, ",
+    );
+    text.put(
+        sink,
+        b"with as many messages for each, they take turns, each starting as soon as its gaps are over, ",
+    );
+    text.put(sink, b"and no terminal hears two messages overlap.\n");
+    text.put(
+        sink,
+        b"With one bit time more for both, there are places on a straight cable and moments of power-up with which they don't, ",
+    );
+    text.put(sink, b"whatever they send, two messages or more each.\n");
+}
+
+/// Puts what the tolerance of a periodic table means.
+fn put_common_start<K: Sink>(text: &mut TextBuffer, sink: &mut K)
+    ensures { Adds K.held K.faults sink.old sink.new text.old text.new (accepted.tolerance_meaning Periodic) }
+{
+    text.put(
+        sink,
+        b": from a settled start, where no terminal hears another later than that, with as many messages for each, ",
+    );
+    text.put(
+        sink,
+        b"the senders start at their offsets in each cycle, and no terminal hears two messages overlap.\n",
+    );
+    text.put(
+        sink,
+        b"With one bit time more, there are places on a straight cable with which they don't, where each sends its longest message twice.\n",
+    );
+}
+
 /// Puts how much delay the table bears.
-fn put_tolerance<K: Sink>(text: &mut TextBuffer, sink: &mut K, tolerance: Option<u64>)
-    ensures { Adds K.held K.faults sink.old sink.new text.old text.new (accepted.tolerance_line tolerance) }
+fn put_tolerance<K: Sink>(text: &mut TextBuffer, sink: &mut K, mode: Mode, tolerance: Option<u64>)
+    ensures { Adds K.held K.faults sink.old sink.new text.old text.new (accepted.tolerance_line mode tolerance) }
 {
     match tolerance {
         None => text.put(
             sink,
             b"The tolerance has no end: one sender alone keeps its times, however long the cable is.\n",
         ),
-        Some(delay) => put_delay(text, sink, delay),
+        Some(delay) => put_delay(text, sink, mode, delay),
     }
 }
 
 /// Puts the greatest delay that the table bears.
-fn put_delay<K: Sink>(text: &mut TextBuffer, sink: &mut K, delay: u64)
-    ensures { Adds K.held K.faults sink.old sink.new text.old text.new (accepted.delay_line delay) }
+fn put_delay<K: Sink>(text: &mut TextBuffer, sink: &mut K, mode: Mode, delay: u64)
+    ensures { Adds K.held K.faults sink.old sink.new text.old text.new (accepted.delay_line mode delay) }
 {
     text.put(sink, b"The tolerance is ");
     put_time(text, sink, delay as u128);
-    text.put(
-        sink,
-        b": from a common start, where no terminal hears another later than that, the order holds; ",
-    );
-    text.put(
-        sink,
-        b"with one bit time more, a sender could start late, two could talk over each other, or a turn be lost.\n",
-    );
+    put_tolerance_meaning(text, sink, mode);
 }
 
-/// Writes what is said of an accepted table: `least` and `most` are its verdict's, and `tolerance` is the greatest delay that it bears, in
-/// bit times, or None where it bears every delay. It takes no memory.
+/// Writes what is said of an accepted table: `least` and `most` are its verdict's, `tolerance` is the greatest delay that it bears, in
+/// bit times, or None where it bears every delay, and `advices` are those on it. It takes no memory.
 pub fn write_accepted<K: Sink>(
     table: &Table,
     least: u64,
     most: u64,
     tolerance: Option<u64>,
+    advices: &[Advice],
     sink: &mut K,
 ) -> Result<(), WriteFault>
     requires { accepted.IsAcceptedWith table.now least most }
-    ensures { WritesText K.held K.faults sink.old sink.new result (accepted.accepted_text table.now least most tolerance) }
+    ensures { WritesText K.held K.faults sink.old sink.new result (accepted.accepted_text table.now least most tolerance advices.now) }
 {
     table_is_valid(table);
     let mode = table.mode();
@@ -152,7 +196,7 @@ pub fn write_accepted<K: Sink>(
     let mut text = TextBuffer::new();
     text.put(
         sink,
-        b"The table is accepted: from a settled start, with no delay on the way, ",
+        b"The table is accepted: from a settled start, with no delay on the way and as many messages for each, ",
     );
     text.put(
         sink,
@@ -161,8 +205,8 @@ pub fn write_accepted<K: Sink>(
     put_cycles(&mut text, sink, mode, least, most);
     put_spare(&mut text, sink, mode, spare);
     put_load(&mut text, sink, load);
-    text.put(sink, b"The senders speak in this order:\n");
     put_senders(&mut text, sink, mode, table, most);
-    put_tolerance(&mut text, sink, tolerance);
+    put_tolerance(&mut text, sink, mode, tolerance);
+    put_start(&mut text, sink, mode, table, advices);
     text.finish(sink)
 }

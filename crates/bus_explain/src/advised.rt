@@ -86,6 +86,37 @@ fn put_plan<K: Sink>(text: &mut TextBuffer, sink: &mut K, ti: u32)
     );
 }
 
+/// Puts the advice to make an aperiodic table periodic.
+fn put_periodic<K: Sink>(text: &mut TextBuffer, sink: &mut K, ti: u32)
+    ensures { Adds K.held K.faults sink.old sink.new text.old text.new (advised.periodic_line ti) }
+{
+    text.put(sink, b"PERIODIC ");
+    text.put_number(sink, ti);
+    text.put(
+        sink,
+        b": make the table periodic, with the offsets of a plan and a transmit interval of ",
+    );
+    put_time(text, sink, ti as u128);
+    text.put(
+        sink,
+        b", the least from the present one on for which there are offsets.\n",
+    );
+}
+
+/// Puts the advice on the transmit interval of a table that doesn't start itself.
+fn put_start<K: Sink>(text: &mut TextBuffer, sink: &mut K, ti: u32)
+    ensures { Adds K.held K.faults sink.old sink.new text.old text.new (advised.start_line ti) }
+{
+    text.put(sink, b"START ");
+    text.put_number(sink, ti);
+    text.put(sink, b": change the transmit interval to ");
+    put_time(text, sink, ti as u128);
+    text.put(
+        sink,
+        b", the greatest with which the table starts itself.\n",
+    );
+}
+
 /// Puts the line of an advice.
 fn put_advice<K: Sink>(text: &mut TextBuffer, sink: &mut K, advice: Advice)
     ensures { Adds K.held K.faults sink.old sink.new text.old text.new (advised.advice_line advice) }
@@ -100,11 +131,13 @@ fn put_advice<K: Sink>(text: &mut TextBuffer, sink: &mut K, advice: Advice)
             least,
         } => put_least(text, sink, terminal, line, least),
         Advice::Plan { ti } => put_plan(text, sink, ti),
+        Advice::AsPeriodic { ti } => put_periodic(text, sink, ti),
+        Advice::Start { ti } => put_start(text, sink, ti),
     }
 }
 
 /// Puts the lines of advices.
-fn put_lines<K: Sink>(text: &mut TextBuffer, sink: &mut K, advices: &[Advice])
+pub(crate) fn put_lines<K: Sink>(text: &mut TextBuffer, sink: &mut K, advices: &[Advice])
     ensures { Adds K.held K.faults sink.old sink.new text.old text.new (flat_map advised.advice_line advices.now) }
 {
     for advice in advices {

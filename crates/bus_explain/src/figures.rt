@@ -1,14 +1,15 @@
-//! The figures of a table that its verdict doesn't tell.
+//! The figures of an accepted table that its verdict doesn't tell.
 ghost use Rattle.std.specs.Prelude.{◌≡◌, ◌<◌, ◌^◌};
 ghost use Rattle.bus_explain.specs.Accepted.{HasLeast};
 ghost use Rattle.bus_explain.specs.Figures as figures;
 
 use bus_plan::least_interval;
+use bus_regime::TurnGap;
 use bus_strings::tenths;
 use bus_table::{Mode, Table, longest};
 
 /// The bits of one message of each sender, each as long as it may be: at most 128 times 159,460.
-fn longest_bits(table: &Table) -> u64
+pub fn longest_bits(table: &Table) -> u64
     ensures value { result ≡ figures.longest_bits table.now }
     ensures bound { result < 2 ^ 32 }
 {
@@ -38,4 +39,12 @@ pub fn spare(table: &Table, least: u64) -> u64
         Mode::Aperiodic => least.saturating_sub(u64::from(table.ti())),
         Mode::Periodic => u64::from(table.ti()).saturating_sub(least_interval(table)),
     }
+}
+
+/// The bit times of the gap before a sender of a periodic table, from the end of the longest message of the sender before it; 0 of an
+/// overlap, which an accepted table hasn't.
+pub fn gap_bits(gap: &TurnGap<'_>) -> u64
+    ensures { result ≡ figures.gap_bits gap.now }
+{
+    gap.end().saturating_sub(gap.begin())
 }

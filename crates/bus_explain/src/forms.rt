@@ -59,7 +59,7 @@ fn put_send<K: Sink>(text: &mut TextBuffer, sink: &mut K)
 {
     text.put(
         sink,
-        b"SEND l e least most: a wordstring that it sends, with the label l, three hexadecimal digits, the extension e, one digit, ",
+        b"SEND l e least most: a wordstring that it sends, with the label l, three hexadecimal digits, the extension e, one hexadecimal digit, ",
     );
     text.put(
         sink,
@@ -77,7 +77,7 @@ fn put_take<K: Sink>(text: &mut TextBuffer, sink: &mut K)
     );
     text.put(
         sink,
-        b"and the extension e, one digit, or * for any, from the word first on, counted from 0 to 255, and count words, 1 to 256\n",
+        b"and the extension e, one hexadecimal digit, or * for any, from the word first on, counted from 0 to 255, and count words, 1 to 256\n",
     );
 }
 

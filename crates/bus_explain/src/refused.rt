@@ -10,6 +10,7 @@ use crate::times::put_time;
 use bus_advice::Advice;
 use bus_outer::{Sink, TextBuffer, WriteFault};
 use bus_regime::TableVerdict;
+use bus_table::{Table, put_table};
 
 /// By how much a gap is less than what it should be; a negative one is an overlap.
 fn missing(gap: i64, needed: u64) -> u128
@@ -35,12 +36,9 @@ fn put_short_cycle<K: Sink>(text: &mut TextBuffer, sink: &mut K, least: u64, mis
     text.put(sink, b".\n");
     text.put(
         sink,
-        b"In such a cycle a sender's turn comes before its interval is over: it starts late, ",
+        b"In such a cycle a turn comes before its sender's transmit interval is over: that sender can't start in time, ",
     );
-    text.put(
-        sink,
-        b"or another goes first, and two may talk over each other.\n",
-    );
+    text.put(sink, b"and nothing is promised of what follows.\n");
 }
 
 /// Puts that a gap is below its sender's terminal gap.
@@ -119,17 +117,38 @@ fn put_refusal<K: Sink>(text: &mut TextBuffer, sink: &mut K, verdict: &TableVerd
     }
 }
 
-/// Writes what is said of a table that this verdict refuses, and of these advices on it. It takes no memory.
+/// Puts a planned table, where there is one.
+fn put_planned<K: Sink>(text: &mut TextBuffer, sink: &mut K, planned: &Option<Table>)
+    ensures { Adds K.held K.faults sink.old sink.new text.old text.new (refused.planned_text planned.now) }
+{
+    match planned {
+        None => text.put(sink, b""),
+        Some(table) => put_made(text, sink, table),
+    }
+}
+
+/// Puts the table that an advice makes of another.
+fn put_made<K: Sink>(text: &mut TextBuffer, sink: &mut K, table: &Table)
+    ensures { Adds K.held K.faults sink.old sink.new text.old text.new (refused.made_text table.now) }
+{
+    text.put(sink, b"The table in periodic mode, ready to copy:\n");
+    put_table(text, sink, table);
+}
+
+/// Writes what is said of a table that this verdict refuses, of these advices on it, and of the planned table that the advice on periodic
+/// mode makes of it, where there is one. It takes no memory.
 pub fn write_refused<K: Sink>(
     verdict: &TableVerdict,
     advices: &[Advice],
+    planned: &Option<Table>,
     sink: &mut K,
 ) -> Result<(), WriteFault>
     requires { is_accepted verdict.now ≡ false }
-    ensures { WritesText K.held K.faults sink.old sink.new result (refused.refused_text verdict.now advices.now) }
+    ensures { WritesText K.held K.faults sink.old sink.new result (refused.refused_text verdict.now advices.now planned.now) }
 {
     let mut text = TextBuffer::new();
     put_refusal(&mut text, sink, verdict);
     put_advices(&mut text, sink, advices);
+    put_planned(&mut text, sink, planned);
     text.finish(sink)
 }

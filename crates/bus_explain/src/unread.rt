@@ -1,23 +1,56 @@
 //! A text that is refused: the line, why, and what may stand there.
 ghost use Rattle.std.specs.List.{flat_map};
-ghost use Rattle.std.specs.Prelude.{◌≡◌};
+ghost use Rattle.std.specs.Prelude.{Some};
 ghost use Rattle.bus_outer.specs.Sinks.{WritesText};
 ghost use Rattle.bus_outer.specs.Texts.{Adds};
 ghost use Rattle.bus_table.specs.Forms.{all_keywords};
+ghost use Rattle.bus_table.specs.Stops.{fitting};
+ghost use Rattle.bus_table.specs.declared.keyword.Keyword.TheVariants as keywords;
 ghost use Rattle.bus_explain.specs.Unread as unread;
 
 use crate::forms::put_form;
 use bus_outer::{Sink, TextBuffer, WriteFault};
+use bus_strings::limits::MOST_STRINGS;
+use bus_table::ranges::MOST_TAKES;
 use bus_table::{Keyword, Stop};
 use bus_text::Reason;
 
+/// Puts that a sender has as many SEND lines as it may have.
+fn put_all_sent<K: Sink>(text: &mut TextBuffer, sink: &mut K)
+    ensures { Adds K.held K.faults sink.old sink.new text.old text.new (unread.barred_text (Some keywords.Send)) }
+{
+    text.put(sink, b"a sender has at most ");
+    text.put_number(sink, MOST_STRINGS);
+    text.put(sink, b" SEND lines, and this one has them.\n");
+}
+
+/// Puts that a terminal has as many TAKE lines as it may have.
+fn put_all_taken<K: Sink>(text: &mut TextBuffer, sink: &mut K)
+    ensures { Adds K.held K.faults sink.old sink.new text.old text.new (unread.barred_text (Some keywords.Take)) }
+{
+    text.put(sink, b"a terminal has at most ");
+    text.put_number(sink, MOST_TAKES);
+    text.put(sink, b" TAKE lines, and this one has them.\n");
+}
+
+/// Puts why a line can't stand there: for its number where such a line is spent, or for its beginning.
+fn put_barred<K: Sink>(text: &mut TextBuffer, sink: &mut K, spent: Option<Keyword>)
+    ensures { Adds K.held K.faults sink.old sink.new text.old text.new (unread.barred_text spent) }
+{
+    match spent {
+        Some(Keyword::Send) => put_all_sent(text, sink),
+        Some(Keyword::Take) => put_all_taken(text, sink),
+        _ => text.put(sink, b"a line that begins so can't stand here.\n"),
+    }
+}
+
 /// Puts what is said of a reason.
-fn put_reason<K: Sink>(text: &mut TextBuffer, sink: &mut K, reason: Reason)
-    ensures { Adds K.held K.faults sink.old sink.new text.old text.new (unread.reason_text reason) }
+fn put_reason<K: Sink>(text: &mut TextBuffer, sink: &mut K, stop: &Stop, reason: Reason)
+    ensures { Adds K.held K.faults sink.old sink.new text.old text.new (unread.reason_text stop.now reason) }
 {
     match reason {
         Reason::Ended => text.put(sink, b"the text ends before the table is whole.\n"),
-        Reason::Keyword => text.put(sink, b"a line that begins so can't stand here.\n"),
+        Reason::Keyword => put_barred(text, sink, stop.spent()),
         Reason::Fields => text.put(sink, b"it hasn't the fields of its form.\n"),
         Reason::Spelling => text.put(
             sink,
@@ -82,7 +115,7 @@ fn put_one<K: Sink>(text: &mut TextBuffer, sink: &mut K, stop: &Stop, keyword: K
 
 /// Puts what may stand where a line is refused.
 fn put_may_stand<K: Sink>(text: &mut TextBuffer, sink: &mut K, stop: &Stop)
-    ensures { Adds K.held K.faults sink.old sink.new text.old text.new (unread.may_stand_text stop.now stop.now.keyword) }
+    ensures { Adds K.held K.faults sink.old sink.new text.old text.new (unread.may_stand_text stop.now (fitting stop.now)) }
 {
     match stop.keyword() {
         Some(keyword) => put_one(text, sink, stop, keyword),
@@ -103,7 +136,7 @@ pub fn write_unread<K: Sink>(
     text.put(sink, b"Line ");
     text.put_number(sink, line);
     text.put(sink, b" of the table text is refused: ");
-    put_reason(&mut text, sink, reason);
+    put_reason(&mut text, sink, stop, reason);
     put_may_stand(&mut text, sink, stop);
     text.finish(sink)
 }

@@ -10,13 +10,14 @@ use Rattle.bus_timers.specs.MayStart.{MayStart}
 use Rattle.bus_strings.specs.Members.{In}
 use Rattle.bus_strings.specs.Messages.{Entry, bits}
 use Rattle.bus_strings.specs.Transmissions.{pulses, carrier, end_of}
-use Rattle.bus_strings.proofs.MemberLaws.{any_filter, from_map}
+use Rattle.bus_strings.proofs.MemberLaws.{any_filter, from_map, in_map}
 use Rattle.bus_strings.proofs.TestLaws.{or_false}
+use Rattle.bus_table.specs.Tables.{Sender, Table, sender_numbers}
 use Rattle.bus_medium.specs.Past.{past, own, last_place}
 use Rattle.bus_medium.specs.inside.Lazy.{HaveEnded}
-use Rattle.bus_medium.specs.Delays.{Delays, AreDelays, later, heard}
+use Rattle.bus_medium.specs.Delays.{Delays, AreDelays, at_once, later, heard}
 use Rattle.bus_medium.specs.Wakes.{Wakes, woken_past, woken_place}
-use Rattle.bus_medium.specs.Lawful.{Station, IsDue}
+use Rattle.bus_medium.specs.Lawful.{Station, IsDue, IsNext}
 use Rattle.bus_medium.specs.CableLawful.{IsDueOnCable}
 use Rattle.bus_medium.specs.CableLaws.{NoDelayIsTheBus}
 use Rattle.bus_medium.proofs.PastLaws.{length_past, pulses_begun, pulses_later, not_own_test, before, past_push}
@@ -36,11 +37,11 @@ pub heard_push : (delay : Delays) (k : ℕ) (list : List Entry) (x : Entry) → 
 heard_push delay k list x = heard_append delay k list (x ∷ [])
 
 -- nothing is heard later than by `most` behind its end
-pub heard_ended : (delay : Delays) (k most e : ℕ) (list : List Entry) → ((x : Entry) → delay x k ≤ most) → HaveEnded list e → HaveEnded (heard delay k list) (e + most)
+pub heard_ended : (delay : Delays) (k most e : ℕ) (list : List Entry) → ((x : Entry) → In x list → delay x k ≤ most) → HaveEnded list e → HaveEnded (heard delay k list) (e + most)
 heard_ended delay k most e list within ended y i =
     let f = from_map (λ (x : Entry). later (delay x k) x) list y i in
     let a : end_of f.0 ≤ e = ended f.0 f.1 in
-    let b : delay f.0 k ≤ most = within f.0 in
+    let b : delay f.0 k ≤ most = within f.0 f.1 in
     let c : y.moment ≡ f.0.moment + delay f.0 k = ap (λ (z : Entry). z.moment) (sym f.2) in
     let d : bits y.message ≡ bits f.0.message = ap (λ (z : Entry). bits z.message) (sym f.2) in
     omega arith
@@ -158,18 +159,29 @@ due_unheard q delay wake xs ys s t h =
     (due_same q delay wake (xs ++ ys) xs s t pasts owns, due_same q delay wake xs (xs ++ ys) s t (sym pasts) (sym owns))
 
 -- without delays a terminal hears what is sent
-pub heard_none : (delay : Delays) (k : ℕ) (list : List Entry) → AreDelays 0 delay → heard delay k list ≡ list
+pub heard_none : (delay : Delays) (k : ℕ) (list : List Entry) → ((x : Entry) → In x list → delay x k ≤ 0) → heard delay k list ≡ list
 heard_none delay k [] none = refl
 heard_none delay k (x ∷ list) none =
-    let zero : delay x k ≡ 0 = (let w : delay x k ≤ 0 = none.within x k in omega arith) in
-    ap (λ d. later d x ∷ heard delay k list) zero ∙ ap (λ y. y ∷ heard delay k list) (later_none x) ∙ ap (λ l. x ∷ l) (heard_none delay k list none)
+    let zero : delay x k ≡ 0 = (let w : delay x k ≤ 0 = none x (inl refl) in omega arith) in
+    ap (λ d. later d x ∷ heard delay k list) zero ∙ ap (λ y. y ∷ heard delay k list) (later_none x) ∙ ap (λ l. x ∷ l) (heard_none delay k list (λ y i. none y (inr i)))
 
 pub place_none : (o : Option ℕ) → option_map (λ p. p - 0) o ≡ o
 place_none None = refl
 place_none (Some p) = ap (λ n. Some n) (let e : p - 0 ≡ p = omega arith in e)
 
+-- and `at_once` is without delays
+pub none_at_once : (senders : List ℕ) → AreDelays 0 senders at_once
+none_at_once senders = record { own = λ x. refl; within = λ number i x j. omega arith }
+
+-- what one sender of a table hears of another
+pub hears_sender : (most : ℕ) (table : Table) (delay : Delays) → AreDelays most (sender_numbers table) delay → (x : Entry) (a b : Sender) → In a table.senders → In b table.senders
+    → x.terminal ≡ a.number → delay x b.number ≤ most
+hears_sender most table delay delays x a b i j mine =
+    delays.within b.number (in_map (λ (s : Sender). s.number) table.senders b j) x
+    (subst (λ n. In n (sender_numbers table)) (sym mine) (in_map (λ (s : Sender). s.number) table.senders a i))
+
 -- and is due as on the bus, where it wakes at the settled start
-pub due_none : (q : ℕ) (delay : Delays) (wake : Wakes) (list : List Entry) (s : Station) (t : ℕ) → AreDelays 0 delay → wake s.number ≡ 0
+pub due_none : (q : ℕ) (delay : Delays) (wake : Wakes) (list : List Entry) (s : Station) (t : ℕ) → ((x : Entry) → In x list → delay x s.number ≤ 0) → wake s.number ≡ 0
     → IsDueOnCable q delay wake list s t ↔ IsDue q list s t
 due_none q delay wake list s t none awake =
     let pasts : woken_past q (wake s.number) (heard delay s.number list) t ≡ past q list t =
@@ -195,7 +207,7 @@ no_delay_is_the_bus q delay wake ss horizon list none awake = (
     sent = law.sent;
     exact = λ t s less i.
         let both = law.exact t s less i in
-        let same = due_none q delay wake list s t none (awake s i) in
+        let same = due_none q delay wake list s t (within s i (λ x j. (law.sent x j).1)) (awake s i) in
         ((λ h. same.0 (both.0 h)), (λ d. both.1 (same.1 d)));
   }),
   (λ law. record {
@@ -203,7 +215,13 @@ no_delay_is_the_bus q delay wake ss horizon list none awake = (
     sent = law.sent;
     exact = λ t s less i.
         let both = law.exact t s less i in
-        let same = due_none q delay wake list s t none (awake s i) in
+        let same = due_none q delay wake list s t (within s i (λ x j. (law.sent x j).1)) (awake s i) in
         ((λ h. same.1 (both.0 h)), (λ d. both.1 (same.0 d)));
   }),
 )
+  where
+    within : (s : Station) → In s ss → ((x : Entry) → In x list → IsNext ss list x) → (x : Entry) → In x list → delay x s.number ≤ 0
+    within s i nexts x j =
+        let next = nexts x j in
+        none.within s.number (in_map (λ (w : Station). w.number) ss s i) x
+        (subst (λ n. In n (map (λ (w : Station). w.number) ss)) next.number (in_map (λ (w : Station). w.number) ss next.sender next.there))

@@ -5,16 +5,17 @@ use Rattle.std.proofs.Common.{false, inl, inr, arith, refl, sym, ap, ◌∙◌, 
 use Rattle.std.proofs.lemmas.Bool.{and_parts, true≢false}
 use Rattle.bus_timers.specs.Timings.{IsSound}
 use Rattle.bus_strings.specs.Members.{In}
+use Rattle.bus_strings.specs.Messages.{Entry}
 use Rattle.bus_strings.proofs.MemberLaws.{in_map, from_map}
 use Rattle.bus_table.specs.declared.mode.Mode.{Mode}
 use Rattle.bus_table.specs.declared.mode.Mode.TheVariants.{Aperiodic, Periodic}
-use Rattle.bus_table.specs.Tables.{Sender, Table, Hand}
+use Rattle.bus_table.specs.Tables.{Sender, Table, Hand, sender_numbers}
 use Rattle.bus_table.specs.Fits.{fits}
 use Rattle.bus_table.specs.Hands.{are_hands}
 use Rattle.bus_table.specs.Valid.{is_valid}
 use Rattle.bus_table.specs.inside.Facts.{FitsMode, SenderFacts, TableFacts}
 use Rattle.bus_table.proofs.ValidLaws.{valid_facts}
-use Rattle.bus_medium.specs.Lawful.{Station, HaveOwnNumbers}
+use Rattle.bus_medium.specs.Lawful.{Station, HaveOwnNumbers, IsRuled}
 use Rattle.bus_medium.specs.Timings.{greatest_gap, quiet_for, due_for, timing_of, stations_of}
 
 -- the station is that of the sender: it has its number, its timing, which is sound, and the messages of its hand, which fit it
@@ -211,3 +212,13 @@ senders_have_stations table hands sender valid dealt there =
       there = in_map (station_with table) (zip table.senders hands) (sender, so.0) so.1;
       is = station_is table hands (sender, so.0) valid (pair_dealt table.senders hands (sender, so.0) dealt so.1);
     }
+
+-- what a rule makes of the stations of a table is of its senders
+pub are_of_senders : (due : List Entry → Station → ℕ → Type 0) (table : Table) (hands : List Hand) (horizon : ℕ) (list : List Entry)
+    → IsTrue (is_valid table) → IsTrue (are_hands table.senders hands) → IsRuled due (stations_of table hands) horizon list → (x : Entry)
+    → In x list → In x.terminal (sender_numbers table)
+are_of_senders due table hands horizon list valid dealt ruled x i =
+    let next = (ruled.sent x i).1 in
+    let has = stations_are_of_senders table hands next.sender valid dealt next.there in
+    subst (λ n. In n (sender_numbers table)) (sym has.is.number ∙ next.number)
+    (in_map (λ (s : Sender). s.number) table.senders has.sender has.there)

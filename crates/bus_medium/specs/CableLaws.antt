@@ -1,6 +1,6 @@
 -- Laws of lawful lists on a cable: whatever the delays and the wakes are there is exactly one for each horizon, it can be computed, and
 -- without delays and wakes it is the lawful list of the bus.
-use Rattle.std.specs.Prelude.{◌≡◌, ◌↔◌, ℕ, List, IsTrue}
+use Rattle.std.specs.Prelude.{◌≡◌, ◌↔◌, ℕ, List, map, IsTrue}
 use Rattle.bus_strings.specs.Members.{In}
 use Rattle.bus_strings.specs.Messages.{Entry}
 use Rattle.bus_table.specs.Tables.{Table, Hand}
@@ -36,6 +36,7 @@ OneCableListOfATable =
 -- Without delays, where all senders wake at the settled start, a list is lawful on the cable exactly where it is lawful on the bus.
 abbrev pub NoDelayIsTheBus : Type 0
 NoDelayIsTheBus =
-    (quiet : ℕ) (delay : Delays) (wake : Wakes) (stations : List Station) (horizon : ℕ) (list : List Entry) → AreDelays 0 delay
+    (quiet : ℕ) (delay : Delays) (wake : Wakes) (stations : List Station) (horizon : ℕ) (list : List Entry)
+    → AreDelays 0 (map (λ sender. sender.number) stations) delay
     → ((sender : Station) → In sender stations → wake sender.number ≡ 0)
     → IsLawfulOnCable quiet delay wake stations horizon list ↔ IsLawful quiet stations horizon list

@@ -2,6 +2,7 @@
 -- of bit times that may be another for each terminal and for each transmission, and need not be the same the other way round.
 use Rattle.std.specs.Prelude.{◌≡◌, ℕ, ◌+◌, ◌≤◌, List, map}
 use Rattle.std.specs.Int.{abs_diff}
+use Rattle.bus_strings.specs.Members.{In}
 use Rattle.bus_strings.specs.Messages.{Entry}
 use Rattle.bus_strings.specs.Transmissions.{end_of}
 
@@ -9,10 +10,14 @@ use Rattle.bus_strings.specs.Transmissions.{end_of}
 abbrev pub Delays : Type 0
 Delays = Entry → ℕ → ℕ
 
--- A terminal hears itself at once, and nobody hears anything later by more than `most`.
-pub record AreDelays (most : ℕ) (delay : Delays) : Type 0 where
+-- The terminal with this number hears nothing of the senders with these numbers later by more than `most`.
+abbrev pub HearsWithin : ℕ → List ℕ → Delays → ℕ → Type 0
+HearsWithin most senders delay number = (x : Entry) → In x.terminal senders → delay x number ≤ most
+
+-- A terminal hears itself at once, and none of the senders with these numbers hears another later by more than `most`.
+pub record AreDelays (most : ℕ) (senders : List ℕ) (delay : Delays) : Type 0 where
   pub own : (x : Entry) → delay x x.terminal ≡ 0
-  pub within : (x : Entry) (number : ℕ) → delay x number ≤ most
+  pub within : (number : ℕ) → In number senders → HearsWithin most senders delay number
 
 -- Nobody hears anything later than it is sent.
 abbrev pub at_once : Delays

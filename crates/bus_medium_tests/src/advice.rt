@@ -43,6 +43,7 @@ fn a_short_cycle_has_an_advice_of_each_kind(rt: HostRuntime) -> Result<(), Fail>
             line: 1,
             least: 31,
         },
+        Advice::AsPeriodic { ti: 1270 },
     ];
     has_advices(&rt, text, &wanted)
 }
@@ -73,15 +74,20 @@ fn a_terminal_gap_of_another_sender_is_passed_over(rt: HostRuntime) -> Result<()
             line: 2,
             least: 2,
         },
+        Advice::AsPeriodic { ti: 1223 },
     ];
     has_advices(&rt, text, &wanted)
 }
 
-/// The greatest synchronization gap, the greatest terminal gap and the most data words: only the interval is left.
+/// The greatest synchronization gap, the greatest terminal gap and the most data words: the interval is left, and periodic mode.
 #[test]
 fn no_number_leaves_its_range(rt: HostRuntime) -> Result<(), Fail> {
     let text = b"TABLE 1\nMODE aperiodic\nTI 1321\nSG 1024\nSENDER 1 TG 256\nSEND 001 0 1 1\n";
-    has_advices(&rt, text, &[Advice::Interval { ti: 1320 }])
+    let wanted = [
+        Advice::Interval { ti: 1320 },
+        Advice::AsPeriodic { ti: 1321 },
+    ];
+    has_advices(&rt, text, &wanted)
 }
 
 /// The shortest cycle is 37 bit times, below every transmit interval; 49 words are 980 bit times, 963 are lacking.
@@ -95,6 +101,7 @@ fn a_cycle_below_every_interval_is_made_longer(rt: HostRuntime) -> Result<(), Fa
             line: 1,
             least: 49,
         },
+        Advice::AsPeriodic { ti: 1237 },
     ];
     has_advices(&rt, text, &wanted)
 }
@@ -151,9 +158,33 @@ SEND 019 0 256 256
     has_advices(&rt, text, &[])
 }
 
+/// In periodic mode there is room at the table's own interval, in which no other number would fill a cycle.
 #[test]
-fn an_accepted_table_has_no_advice(rt: HostRuntime) -> Result<(), Fail> {
+fn light_terminals_go_periodic(rt: HostRuntime) -> Result<(), Fail> {
+    let text =
+        b"TABLE 1\nMODE aperiodic\nTI 20000\nSG 64\nSENDER 1 TG 10\nSEND 0A1 1 2 4\nSENDER 2 TG 20\nSEND 0B2 1 2 4\n";
+    has_advices(&rt, text, &[Advice::AsPeriodic { ti: 20000 }])
+}
+
+/// Terminal 1 waits and sends 960 + 10 + 40 bit times at least.
+#[test]
+fn a_table_starts_itself_with_what_its_first_sender_takes(rt: HostRuntime) -> Result<(), Fail> {
+    let text =
+        b"TABLE 1\nMODE aperiodic\nTI 1020\nSG 960\nSENDER 1 TG 10\nSEND 0A1 0 1 1\nSENDER 2 TG 20\nSEND 0B2 0 1 1\n";
+    has_advices(&rt, text, &[Advice::Start { ti: 1010 }])
+}
+
+/// Terminal 1 waits and sends 300 + 20 + 60 bit times at least, below every transmit interval.
+#[test]
+fn a_table_that_no_interval_starts_has_no_advice(rt: HostRuntime) -> Result<(), Fail> {
     let text =
         b"TABLE 1\nMODE aperiodic\nTI 1030\nSG 300\nSENDER 1 TG 20\nSEND 0A1 1 2 4\nSENDER 2 TG 30\nSEND 0B2 1 30 40\n";
+    has_advices(&rt, text, &[])
+}
+
+#[test]
+fn a_table_that_starts_itself_has_no_advice(rt: HostRuntime) -> Result<(), Fail> {
+    let text =
+        b"TABLE 1\nMODE aperiodic\nTI 1010\nSG 960\nSENDER 1 TG 10\nSEND 0A1 0 1 1\nSENDER 2 TG 20\nSEND 0B2 0 1 1\n";
     has_advices(&rt, text, &[])
 }

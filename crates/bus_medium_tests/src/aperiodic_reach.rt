@@ -4,8 +4,7 @@ ghost use Rattle.bus_table.specs.declared.mode.Mode.TheVariants.{Aperiodic};
 ghost use Rattle.bus_regime.specs.Verdicts.{verdict_of, is_accepted};
 
 use crate::shared::bears_just;
-use bus_reach::starts_itself;
-use bus_regime::verdict;
+use bus_regime::{starts_itself, verdict};
 use bus_table::{Mode, Table, read_table};
 use std::alloc::Global;
 use std::process::Abort;

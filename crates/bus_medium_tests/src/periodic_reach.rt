@@ -48,7 +48,7 @@ SEND 0B2 1 20 20
 ";
 
 /// Gaps of 304, 35, 304 and 60: 5 isn't borne for the sake of sync, though each gap is wide enough.
-const BY_SYNC: &[u8] = b"TABLE 1
+pub(crate) const BY_SYNC: &[u8] = b"TABLE 1
 MODE periodic
 TI 1423
 SG 300
@@ -63,7 +63,7 @@ SEND 004 0 8 8
 ";
 
 /// Gaps of 301, 40, 301 and 301: several gaps together synchronize, where one alone would do for a delay of 1.
-const BY_SEVERAL: &[u8] = b"TABLE 1
+pub(crate) const BY_SEVERAL: &[u8] = b"TABLE 1
 MODE periodic
 TI 1663
 SG 300

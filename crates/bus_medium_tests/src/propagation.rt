@@ -2,7 +2,8 @@
 ghost use Rattle.std.specs.Prelude.{ℕ, ◌≤◌, ◌<◌, IfOk};
 ghost use Rattle.bus_propagation.specs.Numbered.{numbered};
 
-use crate::shared::starts_of;
+use crate::periodic_reach::{BY_SEVERAL, BY_SYNC};
+use crate::shared::{starts_of, text_of};
 use bus_medium::Bus;
 use bus_propagation::observe_delayed;
 use bus_strings::limits::HORIZON_LIMIT;
@@ -40,13 +41,13 @@ fn numbers(alloc: Global, values: &[u64], most: u64) -> Result<Vec<u64>, AllocEr
 fn runs(
     rt: &impl Abort,
     alloc: Global,
-    table: &str,
+    table: &[u8],
     messages: &str,
     run: Run<'_>,
 ) -> Result<(), Fail> {
     let (places, wakes, horizon, expected) = run;
     let horizon = min(horizon, HORIZON_LIMIT);
-    let table = read_table(alloc, table.as_bytes())?;
+    let table = read_table(alloc, table)?;
     let payloads = read_messages(alloc, messages.as_bytes())?;
     if fits(&table, &payloads).is_err() {
         return Err("fitting items".into());
@@ -68,8 +69,8 @@ fn runs(
     Ok(())
 }
 
-const TWO_SENDERS: &str =
-    "TABLE 1\nMODE aperiodic\nTI 1000\nSG 300\nSENDER 1 TG 20\nSEND 0A1 1 2 4\nSENDER 2 TG 30\nSEND 0B2 1 1 40\n";
+const TWO_SENDERS: &[u8] =
+    b"TABLE 1\nMODE aperiodic\nTI 1000\nSG 300\nSENDER 1 TG 20\nSEND 0A1 1 2 4\nSENDER 2 TG 30\nSEND 0B2 1 1 40\n";
 
 /// Two rounds of messages of 60 and 620 bit times.
 const TWO_ROUNDS: &str = "MESSAGES 1
@@ -119,8 +120,8 @@ fn two_senders_hear_each_other_later(rt: HostRuntime) -> Result<(), Fail> {
     Ok(())
 }
 
-const LATE_SENDERS: &str =
-    "TABLE 1\nMODE aperiodic\nTI 1000\nSG 1000\nSENDER 1 TG 20\nSEND 0A1 1 2 2\nSENDER 2 TG 30\nSEND 0B2 1 0 2\n";
+const LATE_SENDERS: &[u8] =
+    b"TABLE 1\nMODE aperiodic\nTI 1000\nSG 1000\nSENDER 1 TG 20\nSEND 0A1 1 2 2\nSENDER 2 TG 30\nSEND 0B2 1 0 2\n";
 
 const THREE_ROUNDS: &str =
     "MESSAGES 1\nMSG 1 : 0000 0000\nMSG 2 : 0000\nMSG 1 : 0000 0000\nMSG 2 : 0000\nMSG 1 : 0000 0000\nMSG 2 : 0000\n";
@@ -191,7 +192,7 @@ fn two_cold_terminals_begin_at_once_and_then_take_turns(rt: HostRuntime) -> Resu
 fn a_periodic_table_keeps_its_offsets(rt: HostRuntime) -> Result<(), Fail> {
     let alloc = rt.alloc();
     let table =
-        "TABLE 1\nMODE periodic\nTI 2000\nSG 300\nSENDER 1 TG 20 AT 0\nSEND 0A1 1 2 2\nSENDER 2 TG 30 AT 94\nSEND 0B2 1 30 30\n";
+        b"TABLE 1\nMODE periodic\nTI 2000\nSG 300\nSENDER 1 TG 20 AT 0\nSEND 0A1 1 2 2\nSENDER 2 TG 30 AT 94\nSEND 0B2 1 30 30\n";
     let to: [Run<'_>; 3] = [
         (&[0, 4], &[], 3000, &[(0, 1), (94, 2), (2000, 1), (2094, 2)]),
         (&[0, 5], &[], 3000, &[(0, 1), (95, 2), (2000, 1), (2095, 2)]),
@@ -201,4 +202,48 @@ fn a_periodic_table_keeps_its_offsets(rt: HostRuntime) -> Result<(), Fail> {
         runs(&rt, alloc, table, TWO_ROUNDS, run)?;
     }
     Ok(())
+}
+
+/// With one bit time more than the table bears the first sender is late by what it waits for a synchronization gap: it heard none in its
+/// interval. Every other is ready by its offset.
+#[test]
+fn a_sender_that_is_out_of_sync_starts_late(rt: HostRuntime) -> Result<(), Fail> {
+    let alloc = rt.alloc();
+    let items = [(1, 8), (2, 8), (3, 8), (4, 8), (1, 8)];
+    let messages = text_of(alloc, &items)?;
+    let to: [(&[u8], Run<'_>); 2] = [
+        (
+            BY_SYNC,
+            (
+                &[0, 5, 0, 5],
+                &[],
+                1445,
+                &[(0, 1), (215, 2), (699, 3), (939, 4), (1444, 1)],
+            ),
+        ),
+        (
+            BY_SEVERAL,
+            (
+                &[0, 4, 2, 0],
+                &[],
+                1683,
+                &[(0, 1), (220, 2), (701, 3), (1182, 4), (1682, 1)],
+            ),
+        ),
+    ];
+    for (table, run) in to {
+        runs(&rt, alloc, table, messages.as_str(), run)?;
+    }
+    Ok(())
+}
+
+/// Terminal gaps that differ by twice the delay: what the second sends reaches the third just when the third begins.
+#[test]
+fn a_difference_of_twice_the_delay_is_too_little(rt: HostRuntime) -> Result<(), Fail> {
+    let alloc = rt.alloc();
+    let table =
+        b"TABLE 1\nMODE aperiodic\nTI 1000\nSG 300\nSENDER 1 TG 10\nSEND 001 0 20 20\nSENDER 2 TG 20\nSEND 002 0 20 20\nSENDER 3 TG 30\nSEND 003 0 20 20\n";
+    let messages = text_of(alloc, &[(1, 20), (2, 20), (3, 20)])?;
+    let run: Run<'_> = (&[0, 5, 0], &[], 1000, &[(10, 1), (455, 2), (460, 3)]);
+    runs(&rt, alloc, table, messages.as_str(), run)
 }

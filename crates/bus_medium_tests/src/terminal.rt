@@ -16,7 +16,7 @@ fn message(alloc: Global) -> Result<Message, Fail> {
         let label = Label::new(0x0A1).ok_or("label")?;
         let ext = Ext::new(1).ok_or("extension")?;
         let words = vec![in alloc; 0u16; data_words]?;
-        strings.push(Wordstring::new(label, ext, words).ok_or("wordstring")?)?;
+        strings.push(Wordstring::new(label, ext, words)?.ok_or("wordstring")?)?;
     }
     Ok(Message::new(strings).ok_or("message")?)
 }

@@ -2,7 +2,6 @@
 ghost use Rattle.std.specs.Prelude.{◌≡◌, ◌+◌, ◌-◌, ◌*◌, ◌^◌, ◌≤◌, nat_le, max, min, if◌then◌else◌};
 ghost use Rattle.std.specs.List.{sum_by};
 ghost use Rattle.bus_strings.specs.Limits.{most_terminal};
-ghost use Rattle.bus_table.specs.declared.mode.Mode.TheVariants.{Periodic};
 ghost use Rattle.bus_plan.specs.inside.Greatest.{greatest_tg, second_tg};
 ghost use Rattle.bus_plan.specs.Plans as plans;
 ghost use Rattle.bus_table.specs.Ranges.{most_sg};
@@ -61,10 +60,9 @@ fn turns(table: &Table) -> u64
     sum
 }
 
-/// The least interval of the senders of this periodic table, in bit times: some choice of offsets is accepted exactly where the
+/// The least interval of the senders of this table, in bit times: in periodic mode some choice of offsets is accepted exactly where the
 /// transmit interval is at least this. It may lie outside the range of a transmit interval. It takes no memory.
 pub fn least_interval(table: &Table) -> u64
-    requires periodic { table.now.mode ≡ Periodic }
     ensures { result ≡ plans.least_interval table.now }
 {
     let (first, second) = greatest_gaps(table.senders());

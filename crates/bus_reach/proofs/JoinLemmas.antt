@@ -4,14 +4,14 @@ use Rattle.std.specs.List.{filter}
 use Rattle.std.proofs.lemmas.Bool.{le-leb}
 use Rattle.bus_strings.specs.Members.{In}
 use Rattle.bus_strings.specs.Marking.{greatest_end}
-use Rattle.bus_strings.specs.Messages.{Message}
+use Rattle.bus_strings.specs.Messages.{Message, Entry}
 use Rattle.bus_table.specs.declared.mode.Mode.TheVariants.{Aperiodic}
-use Rattle.bus_table.specs.Tables.{Sender, Table}
+use Rattle.bus_table.specs.Tables.{Sender, Table, sender_numbers}
 use Rattle.bus_table.specs.Lengths.{shortest}
 use Rattle.bus_table.specs.Turns.{turn_key, turn_order}
 use Rattle.bus_table.proofs.TurnLaws.{from_sort, in_sort, length-sort}
 use Rattle.bus_medium.specs.Timings.{quiet_of, stations_of}
-use Rattle.bus_medium.proofs.StationLaws.{stations_have_own_numbers}
+use Rattle.bus_medium.proofs.StationLaws.{are_of_senders, stations_have_own_numbers}
 use Rattle.bus_schedule.specs.Closed.{sends}
 use Rattle.bus_schedule.specs.Even.{messages_of, rounds}
 use Rattle.bus_schedule.specs.Live.{shortest_cycle}
@@ -125,14 +125,16 @@ joining_is_orderly table hands most delay wake valid mode even delays bearing aw
     subst (λ ss. IsLawfulOnCable (quiet_of table) delay wake ss (greatest_end (growing delay wake table hands)) (growing delay wake table hands)) (sym (stations_of_dealt table hands valid dealt))
     (subst (λ q. IsLawfulOnCable q delay wake (stations table (messages_of hands)) (greatest_end (growing delay wake table hands)) (growing delay wake table hands)) (sym (quiet_is table mode))
     (ruled_whole (IsDueOnCable table.sg delay wake) (cable_looks table.sg delay wake) (stations table (messages_of hands)) (greatest_end (growing delay wake table hands)) (growing delay wake table hands) ruled)) in
+    let of : (x : Entry) → In x (growing delay wake table hands) → In x.terminal (sender_numbers table) =
+    are_of_senders (IsDueOnCable (quiet_of table) delay wake) table hands (greatest_end (growing delay wake table hands)) (growing delay wake table hands) valid dealt lawful in
     record {
       lawful = lawful;
       only = λ other law. cable_once (quiet_of table) delay wake (stations_of table hands) (greatest_end (growing delay wake table hands)) other (growing delay wake table hands)
           (stations_have_own_numbers table hands valid dealt) law lawful;
-      clear = λ roomy number.
-          let room = so.roomy roomy in
+      clear = λ number near.
+          let room = so.roomy number near in
           let spaced = rounds_grow table (messages_of hands) (rounds hands) setting mode delay wake so.spread room.0 (so.tolerant room.0 room.2) first others order_is early long (rounds hands) (omega arith) in
-          heard_clear delay room.0 number (growing delay wake table hands) (λ x. room.1 x number) spaced.laid;
+          heard_clear delay room.0 number (growing delay wake table hands) (λ x i. room.1 x (of x i)) spaced.laid;
     })
   where
     in_order : {X : Type 0} → (order : List Sender) → turn_order table ≡ order → 0 < length order → ((first : Sender) (others : List Sender) → turn_order table ≡ first ∷ others → X) → X

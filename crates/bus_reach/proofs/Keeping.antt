@@ -5,7 +5,7 @@ use Rattle.std.specs.List.{list_all}
 use Rattle.std.proofs.lemmas.Bool.{cases_Bool, cases_lt, le-leb, lt-ltb, and_from, or_right, or_left, or_cases}
 use Rattle.bus_strings.specs.Members.{In}
 use Rattle.bus_strings.proofs.MemberLaws.{pass_in}
-use Rattle.bus_table.specs.Tables.{Sender}
+use Rattle.bus_table.specs.Tables.{Sender, sender_numbers}
 use Rattle.bus_table.specs.inside.Facts.{SenderFacts}
 use Rattle.bus_table.proofs.TurnLaws.{of_each}
 use Rattle.bus_table.proofs.ValidLaws.{valid_facts}
@@ -24,10 +24,10 @@ use Rattle.bus_reach.proofs.RunLemmas.{borne_is_closed}
 use Rattle.bus_reach.proofs.SpreadLemmas.{LeavesRoom, room_left}
 
 -- places on a cable make delays up to its length
-pub cables_delay : (most : ℕ) (place : ℕ → ℕ) → ((number : ℕ) → place number ≤ most) → AreDelays most (cable place)
-cables_delay most place within = record {
+pub cables_delay : (most : ℕ) (senders : List ℕ) (place : ℕ → ℕ) → ((number : ℕ) → In number senders → place number ≤ most) → AreDelays most senders (cable place)
+cables_delay most senders place within = record {
   own = λ x. omega arith;
-  within = λ x number. let a : place x.terminal ≤ most = within x.terminal in let b : place number ≤ most = within number in omega arith;
+  within = λ number i x j. let a : place x.terminal ≤ most = within x.terminal j in let b : place number ≤ most = within number i in omega arith;
 }
 
 pub borne_is_kept : WitnessesAreEven → BorneIsKept
@@ -38,7 +38,7 @@ borne_is_kept even table d valid mode accepted = (
     | inr no' ↦
         let two : 2 ≤ rounds (witness_hands table) = omega (arith, two_rounds table (valid_facts table valid)) in
         let f : FailsOnCable table d = tolerance_is_exact table d valid mode accepted no' in
-        absurd (f.fails (witness_hands table) (even table valid) two (keeps (witness_hands table) (cable f.place) f.wake (even table valid) (cables_delay d f.place f.places) f.wakes))
+        absurd (f.fails (witness_hands table) (even table valid) two (keeps (witness_hands table) (cable f.place) f.wake (even table valid) (cables_delay d (sender_numbers table) f.place (λ n i. f.places n)) f.wakes))
   ]),
 )
 

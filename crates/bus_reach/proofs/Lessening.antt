@@ -23,4 +23,4 @@ borne_for_less aperiodic exact table less most valid accepted low borne = by_mod
     by_mode Periodic is =
         (exact table less valid is accepted).1
         (λ hands delay even delays. (exact table most valid is accepted).0 borne hands delay even
-        (record { own = delays.own; within = λ x n. let k : delay x n ≤ less = delays.within x n in omega arith }))
+        (record { own = delays.own; within = λ n i x j. let k : delay x n ≤ less = delays.within n i x j in omega arith }))

@@ -18,12 +18,15 @@ pub mod Exact
 pub mod Keeping
 pub mod Neighbours
 pub mod Plain
+pub mod Sending
 pub mod Minding
 pub mod Calming
 pub mod Cycling
 pub mod Streaming
 pub mod SettleLemmas
 pub mod SettleExamples
+pub mod Colliding
+pub mod CollideLemmas
 pub mod Examples
 pub mod PeriodicExact
 pub mod Lessening
@@ -33,3 +36,10 @@ pub mod Rotating
 pub mod Passes
 pub mod PeriodicExamples
 pub mod SmallBuses
+pub mod GreatestLemmas
+pub mod ToldLemmas
+pub mod SlackLemmas
+pub mod LimitLemmas
+pub mod LimitLaws
+pub mod WaitLemmas
+pub mod LatencyLemmas

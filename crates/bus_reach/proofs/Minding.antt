@@ -30,14 +30,9 @@ use Rattle.bus_medium.specs.Wakes.{woken_past, woken_place}
 use Rattle.bus_medium.specs.CableLawful.{IsLawfulOnCable}
 use Rattle.bus_schedule.proofs.HandLemmas.{Sendable, station, stations, quiet_is, message_of}
 use Rattle.bus_medium.proofs.Hearing.{own_none}
+use Rattle.bus_reach.proofs.Sending.{Run, RunMay, RunSent, run_place, run_starts_at, run_sent, run_same}
 use Rattle.bus_schedule.proofs.Orders.{same_sender}
-use Rattle.bus_medium.specs.Delays.{heard}
-use Rattle.bus_medium.proofs.Hearing.{heard_none}
 use Rattle.bus_medium.proofs.Waking.{GapAt, length_woken, at_quiet, busy_elapsed_at, busy_waiting_at, busy_waiting_whole, at_power_up, at_start, woken_nobody}
-
--- all is heard as it is sent
-heard_same : (list : List Entry) (k : ℕ) → heard (λ _ _. 0) k list ≡ list
-heard_same list k = heard_none (λ _ _. 0) k list (record { own = λ x. refl; within = λ x number. omega arith })
 
 -- a table that starts itself, wakes, and the lawful list up to a moment before which each sender has messages left
 pub record Bus : Type 0 where
@@ -54,70 +49,43 @@ pub record Bus : Type 0 where
   pub left : (b : Sender) (t : ℕ) → In b table.senders → t < end → length (own list b.number t) < length (hands b.number)
   pub starts : (b : Sender) → In b table.senders → table.ti ≤ table.sg + b.tg + shortest b
 
+-- as a run of any table
+abbrev pub run : Bus → Run
+run s = record {
+  table = s.table;
+  hands = s.hands;
+  wake = s.wake;
+  end = s.end;
+  list = s.list;
+  mode = s.mode;
+  facts = s.facts;
+  sound = s.sound;
+  fit = s.fit;
+  law = s.law;
+  left = s.left;
+}
+
 -- the place of a sender's last start before a moment
 abbrev pub place : Bus → Sender → ℕ → Option ℕ
-place s b u = woken_place s.table.sg (s.wake b.number) (own s.list b.number u)
+place s b u = run_place (run s) b u
 
 abbrev pub May : Bus → Sender → ℕ → Type 0
-May s b t = MayStart (timing_of s.table b) (woken_past s.table.sg (s.wake b.number) s.list t) (place s b t)
+May s b t = RunMay (run s) b t
 
 -- a sender starts where its timers allow it
 pub starts_at : (s : Bus) (b : Sender) (t : ℕ) → In b s.table.senders → t < s.end → HasEntry s.list b.number t ↔ May s b t
-starts_at s b t i less =
-    let both = s.law.exact t (station s.table s.hands b) less (in_map (station s.table s.hands) s.table.senders b i) in
-    let same = heard_same s.list b.number in (
-      (λ h. subst (λ l. MayStart (timing_of s.table b) (woken_past s.table.sg (s.wake b.number) l t) (place s b t)) same (both.0 h).may),
-      (λ m. both.1 (record {
-        may = subst (λ l. MayStart (timing_of s.table b) (woken_past s.table.sg (s.wake b.number) l t) (place s b t)) (sym same) m;
-        left = s.left b t i less;
-      })),
-    )
+starts_at s b t i less = run_starts_at (run s) b t i less
 
 -- who sent a transmission
-pub record Sent (s : Bus) (x : Entry) : Type 0 where
-  pub by : Sender
-  pub there : In by s.table.senders
-  pub number : x.terminal ≡ by.number
-  pub soon : x.moment < s.end
-  pub may : May s by x.moment
-  pub slice : slice_get (s.hands by.number) (length (own s.list by.number x.moment)) ≡ Some x.message
-  pub some : 0 < length x.message
-  pub bit : 0 < bits x.message
-  pub least : shortest by ≤ bits x.message
-  pub most : bits x.message ≤ longest by
-
-some_same : (a b : Message) → Some a ≡ Some b → a ≡ b
-some_same a b h = cc
+abbrev pub Sent : Bus → Entry → Type 0
+Sent s x = RunSent (run s) x
 
 pub sent : (s : Bus) (x : Entry) → In x s.list → Sent s x
-sent s x i =
-    let l = s.law.sent x i in
-    let f = from_map (station s.table s.hands) s.table.senders l.1.sender l.1.there in
-    let number : x.terminal ≡ f.0.number = sym l.1.number ∙ sym (ap (λ (z : Station). z.number) f.2) in
-    let may : May s f.0 x.moment = (starts_at s f.0 x.moment f.1 l.0).0 (record { entry = x; there = i; moment = refl; terminal = number }) in
-    let n : ℕ = length (own s.list f.0.number x.moment) in
-    let slice : slice_get (s.hands f.0.number) (length (own s.list f.0.number x.moment)) ≡ Some x.message =
-    ap (λ (z : Station). slice_get z.hand (length (own s.list z.number x.moment))) f.2 ∙ l.1.message in
-    let m : Sendable f.0 (s.hands f.0.number) (length (own s.list f.0.number x.moment)) (get_or (s.hands f.0.number) (length (own s.list f.0.number x.moment)) []) =
-    message_of s.table s.hands f.0 (length (own s.list f.0.number x.moment)) s.facts f.1 (s.fit f.0 f.1) (s.left f.0 x.moment f.1 l.0) in
-    let same : get_or (s.hands f.0.number) (length (own s.list f.0.number x.moment)) [] ≡ x.message =
-    some_same (get_or (s.hands f.0.number) (length (own s.list f.0.number x.moment)) []) x.message (sym m.sent ∙ slice) in
-    record {
-      by = f.0;
-      there = f.1;
-      number = number;
-      soon = l.0;
-      may = may;
-      slice = slice;
-      some = subst (λ (z : Message). 0 < length z) same m.some;
-      bit = subst (λ (z : Message). 0 < bits z) same m.some_bits;
-      least = subst (λ (z : Message). shortest f.0 ≤ bits z) same m.least;
-      most = subst (λ (z : Message). bits z ≤ longest f.0) same m.most;
-    }
+sent s x i = run_sent (run s) x i
 
 -- it is told by its number
 pub same_number : (s : Bus) (a b : Sender) → In a s.table.senders → In b s.table.senders → a.number ≡ b.number → a ≡ b
-same_number s a b i j e = same_sender (λ c. c.number) s.table.senders a b (numbers_differ s.table s.facts) i j e
+same_number s a b i j e = run_same (run s) a b i j e
 
 -- and was powered up before
 fits_past : (tg len q t w : ℕ) → 8 ≤ tg → tg ≤ len → len ≡ q + t - w → w < q + t

@@ -1,8 +1,8 @@
 -- Steps of the passes over the gaps of a table.
-use Rattle.std.proofs.Common.{◌≡◌, ◌≢◌, ◌↔◌, ℕ, ◌+◌, ◌<◌, ◌≤◌, inl, inr, Bool, true, false, ◌&&◌, List, [], length, take, drop, arith, sym, refl, ap, ◌∙◌}
+use Rattle.std.proofs.Common.{◌≡◌, ◌≢◌, ◌↔◌, ℕ, ◌+◌, ◌<◌, ◌≤◌, inl, inr, Bool, true, false, ◌&&◌, List, [], ◌∷◌, length, take, drop, arith, sym, refl, ap, ◌∙◌}
 use Rattle.std.specs.Prelude.{Option, Some, slice_get, IsSomeAnd}
 use Rattle.std.specs.List.{list_all}
-use Rattle.std.proofs.lemmas.Bool.{cases_Bool, cases_lt, ne_eqb, leb-true, true≢false}
+use Rattle.std.proofs.lemmas.Bool.{and_from, and_parts, cases_Bool, cases_lt, ne_eqb, le-leb, leb-true, true≢false}
 use Rattle.std.proofs.lemmas.List.{drop_all}
 use Rattle.bus_table.specs.Tables.{Table}
 use Rattle.bus_regime.specs.Gaps.{Gap, gaps}
@@ -43,6 +43,14 @@ pub all_borne : (table : Table) (d n k : ℕ) → n ≡ length table.senders →
 all_borne table d n k is apart wide whole so =
     sym (several table d n is apart ∙ ap (λ b. b && all_stay d table.sg [] (gaps table)) wide ∙ so
     ∙ ap (all_stay d table.sg (take k (gaps table))) (drop_all k (gaps table) whole))
+
+-- what is wide with delays is wide without
+pub wide_less : (d : ℕ) (gs : List Gap) → list_all (is_wide d) gs ≡ true → list_all (is_wide 0) gs ≡ true
+wide_less d [] h = refl
+wide_less d (gap ∷ gs) h =
+    let both = and_parts (is_wide d gap) (list_all (is_wide d) gs) h in
+    let wide : gap.from + (gap.sender.tg + d) ≤ gap.to = leb-true (gap.from + (gap.sender.tg + d)) gap.to both.0 in
+    and_from (is_wide 0 gap) (list_all (is_wide 0) gs) (le-leb (gap.from + (gap.sender.tg + 0)) gap.to (omega arith)) (wide_less d gs both.1)
 
 -- a wide gap is no overlap
 pub wide_at : (d : ℕ) (all : List Gap) (j : ℕ) (gap : Gap) → list_all (is_wide d) all ≡ true → slice_get all j ≡ Some gap → gap.from ≤ gap.to

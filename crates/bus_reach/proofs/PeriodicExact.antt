@@ -9,7 +9,7 @@ use Rattle.bus_strings.specs.Messages.{bits}
 use Rattle.bus_table.specs.declared.mode.Mode.TheVariants.{Periodic}
 use Rattle.bus_table.specs.inside.Facts.{SenderFacts}
 use Rattle.bus_table.specs.inside.Fillings.{filling_bits}
-use Rattle.bus_table.specs.Tables.{Sender, Table}
+use Rattle.bus_table.specs.Tables.{Sender, Table, sender_numbers}
 use Rattle.bus_table.specs.Turns.{turn_key, turn_order}
 use Rattle.bus_table.proofs.TurnLaws.{of_each, from_sort, length-sort}
 use Rattle.bus_table.specs.Valid.{is_valid}
@@ -171,6 +171,6 @@ bearing_is_exact even closes table most valid mode accepted = (
     | inl borne ↦ borne
     | inr not_borne ↦
         let w : BreaksOnCable table most = not_borne_breaks even table most valid mode accepted not_borne in
-        absurd (w.breaks (keeps (witness_hands table) (cable w.place) (even table valid) (cables_delay most w.place w.within)))
+        absurd (w.breaks (keeps (witness_hands table) (cable w.place) (even table valid) (cables_delay most (sender_numbers table) w.place (λ n i. w.within n))))
   ]),
 )

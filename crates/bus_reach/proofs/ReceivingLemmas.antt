@@ -1,8 +1,8 @@
 -- Every terminal receives the same words as without delays, and each wordstring of another that one of its receive lines matches.
-use Rattle.std.proofs.Common.{◌≡◌, ◌≢◌, ℕ, zero, suc, ◌+◌, ◌<◌, ◌⊎◌, Bool, true, false, cond, List, [], ◌∷◌, ◌++◌, length, map, inl, inr, arith, sym, refl, ap, ◌∙◌, subst}
-use Rattle.std.specs.Prelude.{IsTrue, ◌==◌, ◌&&◌, ◌||◌, not}
-use Rattle.std.specs.List.{filter, flat_map, list_all}
-use Rattle.std.proofs.lemmas.Bool.{cases_eq, eq-eqb, ne_eqb}
+use Rattle.std.proofs.Common.{◌≡◌, ◌≢◌, ℕ, zero, suc, ◌+◌, Bool, true, false, cond, List, [], ◌∷◌, ◌++◌, map, inl, inr, sym, refl, ap, ◌∙◌, subst}
+use Rattle.std.specs.Prelude.{◌==◌, not}
+use Rattle.std.specs.List.{filter, flat_map}
+use Rattle.std.proofs.lemmas.Bool.{ne_eqb}
 use Rattle.std.proofs.lemmas.List.{map-append}
 use Rattle.bus_strings.specs.Members.{In}
 use Rattle.bus_strings.proofs.ClearLaws.{unmarked}
@@ -10,28 +10,19 @@ use Rattle.bus_strings.proofs.MemberLaws.{in_append_left, in_append_right, in_fi
 use Rattle.bus_strings.specs.Messages.{Wordstring, Message, Entry}
 use Rattle.bus_strings.specs.Transmissions.{end_of}
 use Rattle.bus_table.specs.declared.line.TakeLine.{TakeLine}
-use Rattle.bus_table.specs.declared.mode.Mode.TheVariants.{Periodic}
-use Rattle.bus_table.specs.Tables.{Sender, Table, Hand}
-use Rattle.bus_table.specs.Valid.{is_valid}
-use Rattle.bus_table.proofs.ValidLaws.{valid_facts}
-use Rattle.bus_regime.specs.Gaps.{gaps}
-use Rattle.bus_regime.specs.Verdicts.{verdict_of, is_accepted}
+use Rattle.bus_table.specs.Tables.{Sender}
 use Rattle.bus_table.specs.Turns.{turn_order}
-use Rattle.bus_medium.specs.Delays.{Delays, AreDelays, later, heard, heard_end}
+use Rattle.bus_medium.specs.Delays.{Delays, later, heard, heard_end}
 use Rattle.bus_schedule.specs.Closed as schedule
 use Rattle.bus_schedule.specs.Closed.{sends, closed, schedule_in}
-use Rattle.bus_schedule.specs.Even.{are_even, messages_of, rounds}
+use Rattle.bus_schedule.specs.Even.{messages_of, rounds}
 use Rattle.bus_schedule.specs.Laws.{AcceptedIsClosed}
 use Rattle.bus_schedule.specs.Runs.{IsClear}
-use Rattle.bus_schedule.specs.Slack.{is_wide, all_stay}
-use Rattle.bus_reach.specs.Bearing.{bears}
-use Rattle.bus_reach.specs.Runs.{AreWithin}
 use Rattle.bus_filter.specs.Received as filters
 use Rattle.bus_filter.specs.Received.{Taker, received_line, string_lines, entry_lines, is_heard}
 use Rattle.bus_reach.specs.Laws.{BorneIsClosed}
 use Rattle.bus_reach.specs.PeriodicLaws.{PeriodicBorneIsClosed}
 use Rattle.bus_reach.specs.Receiving.{content, ReceivesAlike, AperiodicBorneIsReceived, PeriodicBorneIsReceived, lines_later, IsReceivedLater, AperiodicIsReceivedLater, PeriodicIsReceivedLater, MatchesAreReceived}
-use Rattle.bus_reach.proofs.Modes.{in_periodic}
 use Rattle.bus_reach.specs.Schedule.{cable_turns, cable_origin, cable_rounds, cable_closed}
 
 -- the transmissions of others
@@ -135,29 +126,15 @@ aperiodic_is_received accepts closes table hands most delay wake taker valid mod
     let is : closed table hands ≡ schedule.gap_schedule (messages_of hands) table.sg (λ _. turn_order table) (rounds hands) =
     ap (λ m. schedule_in m table (messages_of hands) (rounds hands)) mode in
     alike_received (heard delay taker.number (cable_closed delay wake table hands)) (closed table hands) taker
-    ((closes table hands most delay wake valid mode accepted even delays wakes borne).clear far taker.number)
+    ((closes table hands most delay wake valid mode accepted even delays wakes borne).clear taker.number far)
     (accepts table hands valid accepted even).clear
     (alike_heard delay taker.number (cable_closed delay wake table hands) (closed table hands)
     (subst (AreAlike (cable_closed delay wake table hands)) (sym is) (rounds_alike delay wake (messages_of hands) table.sg (turn_order table) (rounds hands))))
 
--- a sender alone bears delays up to a synchronization gap, whatever the greatest is
-periodic_clear : PeriodicBorneIsClosed → (table : Table) (hands : List Hand) (most : ℕ) (delay : Delays) → IsTrue (is_valid table) → table.mode ≡ Periodic
-    → IsTrue (is_accepted (verdict_of table)) → IsTrue (are_even table hands) → AreDelays most delay → IsTrue (bears table most)
-    → (1 < length table.senders) ⊎ AreWithin table.sg delay → (number : ℕ) → IsClear (heard delay number (closed table hands))
-periodic_clear closes table hands most delay valid mode accepted even delays borne (inl many) =
-    (closes table hands most delay valid mode accepted even delays borne).clear (inl many)
-periodic_clear closes table hands most delay valid mode accepted even delays borne (inr near) = elim (cases_eq (length table.senders) 1) [
-  | inl one ↦
-      let any : bears table table.sg ≡ true = in_periodic table table.sg mode
-      ∙ ap (λ b. b || (list_all (is_wide table.sg) (gaps table) && all_stay table.sg table.sg [] (gaps table))) (eq-eqb (length table.senders) 1 one) in
-      (closes table hands table.sg delay valid mode accepted even (record { own = delays.own; within = near }) any).clear (inr (omega arith))
-  | inr more ↦ (closes table hands most delay valid mode accepted even delays borne).clear (inl (omega (arith, (valid_facts table valid).some)))
-]
-
 pub periodic_is_received : AcceptedIsClosed → PeriodicBorneIsClosed → PeriodicBorneIsReceived
 periodic_is_received accepts closes table hands most delay taker valid mode accepted even delays borne far =
     alike_received (heard delay taker.number (closed table hands)) (closed table hands) taker
-    (periodic_clear closes table hands most delay valid mode accepted even delays borne far taker.number)
+    ((closes table hands most delay valid mode accepted even delays borne).clear taker.number far)
     (accepts table hands valid accepted even).clear
     (alike_heard delay taker.number (closed table hands) (closed table hands) (alike_self (closed table hands)))
 
@@ -182,11 +159,11 @@ clear_later delay taker list clear =
 pub aperiodic_is_later : BorneIsClosed → AperiodicIsReceivedLater
 aperiodic_is_later closes table hands most delay wake taker valid mode accepted even delays wakes borne far =
     clear_later delay taker (cable_closed delay wake table hands)
-    ((closes table hands most delay wake valid mode accepted even delays wakes borne).clear far taker.number)
+    ((closes table hands most delay wake valid mode accepted even delays wakes borne).clear taker.number far)
 
 pub periodic_is_later : PeriodicBorneIsClosed → PeriodicIsReceivedLater
 periodic_is_later closes table hands most delay taker valid mode accepted even delays borne far =
-    clear_later delay taker (closed table hands) (periodic_clear closes table hands most delay valid mode accepted even delays borne far taker.number)
+    clear_later delay taker (closed table hands) ((closes table hands most delay valid mode accepted even delays borne).clear taker.number far)
 
 -- ---- what is received of one wordstring
 in_flat_map : {X Y : Type 0} (f : X → List Y) → (xs : List X) (x : X) (y : Y) → In x xs → In y (f x) → In y (flat_map f xs)

@@ -17,10 +17,7 @@ use Rattle.bus_table.proofs.TurnLaws.{numbers_differ, order_rises, from_sort, in
 use Rattle.bus_table.specs.Valid.{is_valid}
 use Rattle.bus_table.proofs.ValidLaws.{valid_facts}
 use Rattle.std.proofs.lemmas.List.{length_push}
-use Rattle.std.proofs.lemmas.List.Sums.{sum_by-cons}
-use Rattle.std.specs.Prelude.{sum_by}
-use Rattle.bus_regime.proofs.VerdictLaws.{cycle_accepted}
-use Rattle.bus_regime.specs.Verdicts.{least_cycle}
+use Rattle.bus_regime.proofs.StartingLaws.{started_accepted}
 use Rattle.bus_medium.specs.Lawful.{HasEntry}
 use Rattle.bus_medium.specs.Past.{own}
 use Rattle.bus_medium.proofs.AscendingLaws.{behind_in}
@@ -31,15 +28,14 @@ use Rattle.bus_medium.proofs.StationLaws.{timings_are_sound}
 use Rattle.bus_schedule.specs.Even.{messages_of}
 use Rattle.bus_schedule.specs.Runs.{IsClear}
 use Rattle.bus_medium.specs.CableLawful.{IsLawfulOnCable}
-use Rattle.bus_reach.specs.Starting.{starts_itself}
+use Rattle.bus_regime.specs.Starting.{starts_itself}
 use Rattle.bus_reach.specs.Settling.{behind, until, InRounds, AreRounds, Begins, rounds_from, HasSettled, HaveLeft, AnyStartSettles, LongHandsLast, StartsItselfIsAccepted}
 use Rattle.bus_reach.proofs.Calming.{weight, Calm, calm}
 use Rattle.bus_reach.proofs.Cycling.{Left, Turn, in_rounds}
-use Rattle.bus_schedule.proofs.LiveLemmas.{stations_of_dealt}
-use Rattle.bus_schedule.proofs.HandLemmas.{own_fit, quiet_is, stations}
+use Rattle.bus_schedule.proofs.HandLemmas.{own_fit}
+use Rattle.bus_reach.proofs.Sending.{law_of}
 use Rattle.bus_reach.proofs.Minding.{Bus, Clock}
 use Rattle.bus_reach.proofs.Streaming.{Counted, begins, in_stream}
-use Rattle.bus_reach.proofs.SpreadLemmas.{first_of_some}
 
 all_filter : (P : Entry → Type 0) (p : Entry → Bool) (xs : List Entry) → AllByRecursion P xs → AllByRecursion P (filter p xs)
 all_filter P p [] a = tt
@@ -129,8 +125,7 @@ bus_of table hands wake horizon list valid mode starts dealt left law = record {
   facts = valid_facts table valid;
   sound = λ b i. timings_are_sound table b valid i;
   fit = own_fit table.senders hands dealt (numbers_differ table (valid_facts table valid));
-  law = subst (λ q. IsLawfulOnCable q (λ _ _. 0) wake (stations table (messages_of hands)) horizon list) (quiet_is table mode)
-      (subst (λ l. IsLawfulOnCable (quiet_of table) (λ _ _. 0) wake l horizon list) (stations_of_dealt table hands valid dealt) law);
+  law = law_of table hands wake horizon list valid mode dealt law;
   left = left;
   starts = λ b i. leb-true table.ti (table.sg + b.tg + shortest b) (all_start (λ c. nat_le table.ti (table.sg + c.tg + shortest c)) table.senders starts b i);
 }
@@ -267,17 +262,5 @@ long_hands_last table hands wake horizon list long law sender t i less =
     let some : length (own list sender.number t) ≤ t = few list sender.number t law.ordered in
     omega arith
 
-one_fits : (l : List Sender) (b : Sender) → In b l → b.tg + shortest b ≤ sum_by (λ (c : Sender). c.tg + shortest c) l
-one_fits [] b i = absurd i
-one_fits (a ∷ l) b (inl same) =
-    let e : b.tg + shortest b ≡ a.tg + shortest a = ap (λ (c : Sender). c.tg + shortest c) same in
-    omega (arith, sum_by-cons (λ (c : Sender). c.tg + shortest c) a l)
-one_fits (a ∷ l) b (inr i) = omega (arith, one_fits l b i, sum_by-cons (λ (c : Sender). c.tg + shortest c) a l)
-
 pub starts_itself_is_accepted : StartsItselfIsAccepted
-starts_itself_is_accepted table valid mode starts =
-    let b = first_of_some table.senders (valid_facts table valid).some in
-    let free : table.ti ≤ table.sg + b.0.tg + shortest b.0 = leb-true table.ti (table.sg + b.0.tg + shortest b.0)
-    (all_start (λ c. nat_le table.ti (table.sg + c.tg + shortest c)) table.senders starts b.0 b.1) in
-    let fits : table.ti ≤ least_cycle table = omega (arith, one_fits table.senders b.0 b.1) in
-    cycle_accepted table mode fits
+starts_itself_is_accepted table valid mode starts = started_accepted table valid mode starts

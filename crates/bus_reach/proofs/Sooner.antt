@@ -9,13 +9,14 @@ use Rattle.bus_strings.specs.Members.{In}
 use Rattle.bus_strings.proofs.MemberLaws.{in_filter, from_filter}
 use Rattle.bus_strings.specs.Messages.{Message, Entry, bits}
 use Rattle.bus_strings.specs.Transmissions.{end_of}
-use Rattle.bus_table.specs.Tables.{Sender, Table}
+use Rattle.bus_table.specs.Tables.{Sender, Table, sender_numbers}
 use Rattle.bus_table.specs.Lengths.{longest}
 use Rattle.bus_table.specs.Turns.{turn_key, turn_order}
 use Rattle.bus_table.proofs.TurnLaws.{from_sort, in_sort, length-sort}
 use Rattle.bus_table.proofs.ValidLaws.{valid_facts}
 use Rattle.bus_medium.specs.Delays.{Delays, AreDelays, heard_end}
 use Rattle.bus_medium.specs.Wakes.{Wakes}
+use Rattle.bus_medium.proofs.Hearing.{hears_sender}
 use Rattle.bus_regime.specs.Verdicts.{most_cycle}
 use Rattle.bus_schedule.specs.Closed.{sends}
 use Rattle.bus_schedule.specs.Even.{messages_of, rounds}
@@ -176,7 +177,7 @@ record HasLag (table : Table) (most : ℕ) (delay : Delays) : Type 0 where
   whole : length (turn_order table) * spread ≡ cycle_delay table most
   either : (length table.senders ≡ 1) ⊎ (spread ≡ most)
 
-lag_of : (table : Table) (most : ℕ) (delay : Delays) → AreDelays most delay → HasLag table most delay
+lag_of : (table : Table) (most : ℕ) (delay : Delays) → AreDelays most (sender_numbers table) delay → HasLag table most delay
 lag_of table most delay delays = elim (cases_eq (length table.senders) 1) [
   | inl one ↦ record {
     spread = 0;
@@ -189,7 +190,7 @@ lag_of table most delay delays = elim (cases_eq (length table.senders) 1) [
   }
   | inr many ↦ record {
     spread = most;
-    lags = λ a b x i j own. delays.within x b.number;
+    lags = λ a b x i j own. hears_sender most table delay delays x a b i j own;
     whole = ap (λ k. k * most) (length-sort (turn_key table.mode) table.senders) ∙ sym (ap (λ b. cond b 0 (length table.senders * most)) (ne_eqb (length table.senders) 1 many));
     either = inr refl;
   }

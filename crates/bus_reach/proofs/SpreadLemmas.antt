@@ -1,19 +1,21 @@
 -- What it means for the induction that a table bears delays: a sender alone hears none at all.
-use Rattle.std.proofs.Common.{◌≡◌, ℕ, ◌+◌, ◌*◌, ◌<◌, ◌≤◌, ◌⊎◌, true, cond, List, [], ◌∷◌, length, inl, inr, arith, sym, refl, ap, ◌∙◌}
+use Rattle.std.proofs.Common.{◌≡◌, ℕ, ◌+◌, ◌*◌, ◌<◌, ◌≤◌, ◌⊎◌, true, cond, List, [], ◌∷◌, length, inl, inr, arith, sym, refl, ap, ◌∙◌, subst}
 use Rattle.std.specs.Prelude.{IsTrue, ◌&&◌, ◌||◌, nat_le}
 use Rattle.std.specs.List.{list_all}
 use Rattle.std.proofs.lemmas.Bool.{and_parts, eq-eqb, ne_eqb, leb-true, ltb-true, cases_eq, or_cases}
 use Rattle.bus_strings.specs.Members.{In}
 use Rattle.bus_strings.specs.Messages.{Entry}
 use Rattle.bus_strings.proofs.MemberLaws.{pass_in}
-use Rattle.bus_table.specs.Tables.{Sender, Table}
+use Rattle.bus_table.specs.Tables.{Sender, Table, sender_numbers}
 use Rattle.bus_table.specs.inside.Facts.{SenderFacts, TableFacts}
 use Rattle.bus_table.specs.Turns.{turn_order}
 use Rattle.bus_table.proofs.TurnLaws.{of_each, order_length}
-use Rattle.bus_medium.specs.Delays.{Delays, AreDelays}
+use Rattle.bus_medium.specs.Delays.{Delays, AreDelays, HearsWithin}
 use Rattle.bus_medium.specs.Wakes.{AreWakes}
+use Rattle.bus_medium.proofs.Hearing.{hears_sender}
+use Rattle.bus_schedule.specs.CableRuns.{clear_within}
 use Rattle.bus_reach.specs.Tolerance.{is_apart, leaves_room, lengths_bear}
-use Rattle.bus_reach.specs.Runs.{AreWithin, cycle_delay}
+use Rattle.bus_reach.specs.Runs.{cycle_delay}
 
 -- what a sender leaves
 pub record LeavesRoom (d sg : ℕ) (senders : List Sender) (a : Sender) : Type 0 where
@@ -59,12 +61,12 @@ pub record IsTolerant (table : Table) (delay : Delays) (spread room : ℕ) : Typ
 pub record HasTolerance (table : Table) (most : ℕ) (delay : Delays) : Type 0 where
   pub spread : ℕ
   pub tolerant : (room : ℕ) → (room ≤ spread) ⊎ ((length (turn_order table) ≡ 1) × (room ≤ table.sg)) → IsTolerant table delay spread room
-  pub roomy : (1 < length table.senders) ⊎ AreWithin table.sg delay
-      → (room : ℕ) × AreWithin room delay × ((room ≤ spread) ⊎ ((length (turn_order table) ≡ 1) × (room ≤ table.sg)))
+  pub roomy : (number : ℕ) → HearsWithin (clear_within table most) (sender_numbers table) delay number
+      → (room : ℕ) × HearsWithin room (sender_numbers table) delay number × ((room ≤ spread) ⊎ ((length (turn_order table) ≡ 1) × (room ≤ table.sg)))
   pub either : (length table.senders ≡ 1) ⊎ (spread ≡ most)
 
 -- what a lone sender tolerates: no other has to hear it
-alone_tolerant : (table : Table) (most : ℕ) (delay : Delays) → TableFacts table → AreDelays most delay → length table.senders ≡ 1 → (room : ℕ)
+alone_tolerant : (table : Table) (most : ℕ) (delay : Delays) → TableFacts table → AreDelays most (sender_numbers table) delay → length table.senders ≡ 1 → (room : ℕ)
     → (room ≤ 0) ⊎ ((length (turn_order table) ≡ 1) × (room ≤ table.sg)) → IsTolerant table delay 0 room
 alone_tolerant table most delay facts delays one room fits = record {
   own = delays.own;
@@ -78,13 +80,15 @@ alone_tolerant table most delay facts delays one room fits = record {
   fits = fits;
 }
 
-pub tolerance_of : (table : Table) (most : ℕ) (delay : Delays) → TableFacts table → AreDelays most delay → IsTrue (lengths_bear table most) → HasTolerance table most delay
+pub tolerance_of : (table : Table) (most : ℕ) (delay : Delays) → TableFacts table → AreDelays most (sender_numbers table) delay → IsTrue (lengths_bear table most) → HasTolerance table most delay
 tolerance_of table most delay facts delays bearing =
     elim (cases_eq (length table.senders) 1) [
       | inl one ↦ record {
         spread = 0;
         tolerant = alone_tolerant table most delay facts delays one;
-        roomy = λ h. elim h [ inl many ↦ absurd (omega arith) | inr low ↦ (table.sg, low, inr (order_length table ∙ one, omega arith)) ];
+        roomy = λ number h.
+            let soon : clear_within table most ≡ table.sg = ap (λ b. cond b table.sg most) (eq-eqb (length table.senders) 1 one) in
+            (table.sg, subst (λ k. HearsWithin k (sender_numbers table) delay number) soon h, inr (order_length table ∙ one, omega arith));
         either = inl one;
       }
       | inr many ↦
@@ -94,13 +98,15 @@ tolerance_of table most delay facts delays bearing =
             spread = most;
             tolerant = λ room fits. record {
               own = delays.own;
-              delays = λ a b x i j own. delays.within x b.number;
+              delays = λ a b x i j own. hears_sender most table delay delays x a b i j own;
               least = λ a i. (left a i).least;
               apart = λ a b i j less. (left a i).apart b j less;
               short = λ a i. (left a i).short;
               fits = fits;
             };
-            roomy = λ h. (most, delays.within, inl (omega arith));
+            roomy = λ number h.
+                let soon : clear_within table most ≡ most = ap (λ b. cond b table.sg most) (ne_eqb (length table.senders) 1 many) in
+                (most, subst (λ k. HearsWithin k (sender_numbers table) delay number) soon h, inl (omega arith));
             either = inr refl;
           }
     ]
@@ -115,7 +121,7 @@ pub record HasSpread (table : Table) (most : ℕ) (delay : Delays) (wake : ℕ �
   pub late : (a : Sender) → In a table.senders → wake a.number ≤ base + spread
   pub whole : length (turn_order table) * spread ≡ cycle_delay table most
 
-pub spread_of : (table : Table) (most : ℕ) (delay : Delays) (wake : ℕ → ℕ) → TableFacts table → AreDelays most delay → AreWakes most table.senders wake
+pub spread_of : (table : Table) (most : ℕ) (delay : Delays) (wake : ℕ → ℕ) → TableFacts table → AreDelays most (sender_numbers table) delay → AreWakes most table.senders wake
     → IsTrue (lengths_bear table most) → HasSpread table most delay wake
 spread_of table most delay wake facts delays wakes bearing =
     let so = tolerance_of table most delay facts delays bearing in

@@ -1,7 +1,8 @@
 -- What follows of the definitions for periodic tables, and of what is borne in either mode.
 use Rattle.std.specs.Prelude.{◌≡◌, ◌↔◌, ℕ, ◌<◌, ◌≤◌, false, IsTrue, List, length}
+use Rattle.bus_strings.specs.Members.{In}
 use Rattle.bus_table.specs.declared.mode.Mode.TheVariants.{Periodic}
-use Rattle.bus_table.specs.Tables.{Table, Hand}
+use Rattle.bus_table.specs.Tables.{Table, Hand, sender_numbers}
 use Rattle.bus_table.specs.Valid.{is_valid}
 use Rattle.bus_medium.specs.CableLawful.{IsLawfulOnCable}
 use Rattle.bus_medium.specs.Delays.{Delays, AreDelays, cable}
@@ -25,12 +26,13 @@ pub record BreaksOnCable (table : Table) (d : ℕ) : Type 0 where
   pub within : (number : ℕ) → place number ≤ d
   pub breaks : HappensOnCable table (witness_hands table) (cable place) → ⊥
 
--- For an accepted periodic table and even hands of any length, with delays up to what the table bears, the closed schedule is the run.
+-- For an accepted periodic table and even hands of any length, with delays between its senders up to what the table bears, the closed
+-- schedule is the run.
 abbrev pub PeriodicBorneIsClosed : Type 0
 PeriodicBorneIsClosed =
     (table : Table) (hands : List Hand) (most : ℕ) (delay : Delays) → IsTrue (is_valid table) → table.mode ≡ Periodic
-    → IsTrue (is_accepted (verdict_of table)) → IsTrue (are_even table hands) → AreDelays most delay → IsTrue (bears table most)
-    → IsRunOnCable table hands most delay (closed table hands)
+    → IsTrue (is_accepted (verdict_of table)) → IsTrue (are_even table hands) → AreDelays most (sender_numbers table) delay
+    → IsTrue (bears table most) → IsRunOnCable table hands most delay (closed table hands)
 
 -- Longer delays than those an accepted periodic table bears make the closed schedule of its witness fail, on some straight cable.
 abbrev pub PeriodicNotBorneBreaks : Type 0
@@ -38,10 +40,11 @@ PeriodicNotBorneBreaks =
     (table : Table) (d : ℕ) → IsTrue (is_valid table) → table.mode ≡ Periodic → IsTrue (is_accepted (verdict_of table))
     → bears table d ≡ false → BreaksOnCable table d
 
--- A periodic table keeps its schedule with all delays up to d, whatever even hands its senders have.
+-- A periodic table keeps its schedule with all delays between its senders up to d, whatever even hands its senders have.
 abbrev pub KeepsOffsets : Table → ℕ → Type 0
 KeepsOffsets table d =
-    (hands : List Hand) (delay : Delays) → IsTrue (are_even table hands) → AreDelays d delay → HappensOnCable table hands delay
+    (hands : List Hand) (delay : Delays) → IsTrue (are_even table hands) → AreDelays d (sender_numbers table) delay
+    → HappensOnCable table hands delay
 
 -- An accepted periodic table bears exactly the delays with which it keeps its schedule.
 abbrev pub PeriodicBearingIsExact : Type 0
@@ -49,9 +52,11 @@ PeriodicBearingIsExact =
     (table : Table) (d : ℕ) → IsTrue (is_valid table) → table.mode ≡ Periodic → IsTrue (is_accepted (verdict_of table))
     → IsTrue (bears table d) ↔ KeepsOffsets table d
 
--- Places on a straight cable make delays up to its length.
+-- Places of senders on a straight cable make delays up to its length, wherever other terminals are.
 abbrev pub CablesDelay : Type 0
-CablesDelay = (most : ℕ) (place : ℕ → ℕ) → ((number : ℕ) → place number ≤ most) → AreDelays most (cable place)
+CablesDelay =
+    (most : ℕ) (senders : List ℕ) (place : ℕ → ℕ) → ((number : ℕ) → In number senders → place number ≤ most)
+    → AreDelays most senders (cable place)
 
 -- Every accepted table bears a delay of 0.
 abbrev pub AcceptedBearZero : Type 0

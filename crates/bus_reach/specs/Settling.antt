@@ -19,7 +19,7 @@ use Rattle.bus_schedule.specs.Closed.{turns, turns_end, in_rounds}
 use Rattle.bus_schedule.specs.Even.{messages_of}
 use Rattle.bus_schedule.specs.Runs.{IsClear}
 use Rattle.bus_medium.specs.CableLawful.{IsLawfulOnCable}
-use Rattle.bus_reach.specs.Starting.{starts_itself}
+use Rattle.bus_regime.specs.Starting.{starts_itself}
 
 -- The transmissions that start at moment t or later.
 abbrev pub behind : ℕ → List Entry → List Entry

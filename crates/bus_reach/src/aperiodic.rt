@@ -55,7 +55,7 @@ pub(crate) fn bears(table: &Table, d: u64) -> bool
 }
 
 /// The greatest number such that `b` is greater than `a` by more than twice it.
-fn room_between(a: u64, b: u64) -> u64
+pub(crate) fn room_between(a: u64, b: u64) -> u64
     requires { a < b }
     ensures { (d : ℕ) → (d ≤ result) ↔ (a + 2 * d < b) }
 {

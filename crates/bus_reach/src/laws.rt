@@ -3,6 +3,9 @@ ghost use Rattle.bus_medium.specs.CableLaws.{NoDelayIsTheBus, OneCableListOfATab
 ghost use Rattle.bus_reach.specs.Laws.{BorneIsClosed, BorneIsKept, NoDelayIsClosed, ShorterIsBorne, ToleranceIsExact, ZeroIsBorne};
 ghost use Rattle.bus_reach.specs.Laws.{JoinersComeSoon, JoiningIsOrderly, MembersStay, NeighboursTellBearing};
 ghost use Rattle.bus_reach.specs.Settling.{AnyStartSettles, LongHandsLast, StartsItselfIsAccepted};
+ghost use Rattle.bus_reach.specs.Colliding.{SomeNeverPart};
+ghost use Rattle.bus_reach.specs.LatencyLaws.{AperiodicAreInTime, PeriodicAreInTime};
+ghost use Rattle.bus_reach.specs.Limits.{LimitsTellBearing};
 ghost use Rattle.bus_reach.specs.PeriodicLaws.{AcceptedBearZero, BearZeroIsAccepted, BorneForLess, CablesDelay};
 ghost use Rattle.bus_reach.specs.PeriodicLaws.{PeriodicBearingIsExact, PeriodicBorneIsClosed, PeriodicNotBorneBreaks};
 ghost use Rattle.bus_reach.specs.Receiving.{AperiodicBorneIsReceived, AperiodicIsReceivedLater};
@@ -25,10 +28,10 @@ pub fn no_delay_is_closed()
     ensures { NoDelayIsClosed }
 {}
 
-/// For an accepted aperiodic table and even hands, of any length, with delays up to what the table bears, and wakes no later
-/// than that, the closed schedule is the one lawful list up to its end; no terminal, sender or listener, hears two transmissions
-/// overlap, every cycle holds each sender once in turn order, and successive starts of a sender are as far apart as the verdict and
-/// the delays say.
+/// For an accepted aperiodic table and even hands, of any length, with delays between its senders up to what the table bears, and wakes no
+/// later than that, the closed schedule is the one lawful list up to its end; no terminal, sender or listener, that hears every sender
+/// within the same hears two transmissions overlap, every cycle holds each sender once in turn order, and successive starts of a sender
+/// are as far apart as the verdict and the delays say.
 pub fn borne_is_closed()
     ensures { BorneIsClosed }
 {}
@@ -54,11 +57,11 @@ pub fn shorter_is_borne()
     ensures shorter { ShorterIsBorne }
 {}
 
-/// For an aperiodic table, accepted or not, and even hands, with delays up to what the table bears: where no sender wakes earlier than
-/// the first in turn order, but for what the table bears, and a shortest cycle of those of the first round takes at least one transmit
-/// interval, whoever wakes later takes its turn in the first round whose beginning it hears awake, and in every round behind; no
-/// terminal, sender or listener, hears two transmissions overlap. In that first round it starts less than two longest cycles behind its
-/// wake, each with what the delays add to it.
+/// For an aperiodic table, accepted or not, and even hands, with delays between its senders up to what the table bears: where no sender
+/// wakes earlier than the first in turn order, but for what the table bears, and a shortest cycle of those of the first round takes at
+/// least one transmit interval, whoever wakes later takes its turn in the first round whose beginning it hears awake, and in every round
+/// behind; no terminal, sender or listener, that hears every sender within the same hears two transmissions overlap. In that first round
+/// it starts less than two longest cycles behind its wake, each with what the delays add to it.
 pub fn joining_is_orderly()
     ensures run { JoiningIsOrderly }
     ensures stay { MembersStay }
@@ -76,9 +79,16 @@ pub fn any_start_settles()
     ensures accepted { StartsItselfIsAccepted }
 {}
 
-/// For an accepted periodic table and even hands, of any length, with delays up to what the table bears, the closed schedule is
-/// the one lawful list up to the closed end, as without delays, in turns and one transmit interval apart; no terminal, sender or
-/// listener, hears two transmissions overlap.
+/// A bus without a master may never find its order. Where the senders of an aperiodic table never part (`bus_regime::never_parts`), there
+/// are wakes with which all of them start at once, one transmit interval apart and at no other moment, whatever they send, for as long as
+/// their hands have messages left: two or more collide in every cycle.
+pub fn some_never_part()
+    ensures { SomeNeverPart }
+{}
+
+/// For an accepted periodic table and even hands, of any length, with delays between its senders up to what the table bears, the closed
+/// schedule is the one lawful list up to the closed end, as without delays, in turns and one transmit interval apart; no terminal, sender
+/// or listener, that hears every sender within the same hears two transmissions overlap.
 pub fn periodic_borne_is_closed()
     ensures { PeriodicBorneIsClosed }
 {
@@ -112,9 +122,9 @@ pub fn borne_for_less()
     periodic_bearing_is_exact();
 }
 
-/// With delays that an accepted table bears every terminal, sender or listener, receives the words that it receives without
-/// delays, line by line, each later than it is sent by the delay. With one sender alone no delay may be above the synchronization
-/// gap.
+/// With delays between its senders that an accepted table bears every terminal, sender or listener, that hears every sender within the same
+/// receives the words that it receives without delays, line by line, each later than it is sent by the delay. With one sender alone it is
+/// enough to hear it within the synchronization gap.
 pub fn borne_is_received()
     ensures aperiodic { AperiodicBorneIsReceived }
     ensures periodic { PeriodicBorneIsReceived }
@@ -131,4 +141,19 @@ pub fn matches_are_received()
     ensures { MatchesAreReceived }
 {
     accepted_is_closed();
+}
+
+/// An accepted table bears exactly the delays that each of its limits bears: no limit is left out, and none is too small.
+pub fn limits_tell_bearing()
+    ensures { LimitsTellBearing }
+{}
+
+/// With delays between its senders that an accepted table bears data that just miss a start of their sender are received within their
+/// latency behind that start, by every terminal that hears the senders no later, with every message that the sender may send next.
+pub fn data_are_in_time()
+    ensures aperiodic { AperiodicAreInTime }
+    ensures periodic { PeriodicAreInTime }
+{
+    borne_is_closed();
+    periodic_borne_is_closed();
 }

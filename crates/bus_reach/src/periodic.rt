@@ -1,6 +1,6 @@
 //! The tolerance of a periodic table: its gaps are wide enough, and each sender stays in sync. Turn order is found once, and
 //! there is no other memory than that.
-ghost use Rattle.std.specs.Prelude.{◌≡◌, ◌+◌, ◌++◌, ◌≤◌, ◌<◌, ◌^◌, ◌↔◌, ℕ, drop, take, length, slice_get};
+ghost use Rattle.std.specs.Prelude.{◌≡◌, ◌≢◌, ◌+◌, ◌++◌, ◌≤◌, ◌<◌, ◌^◌, ◌↔◌, ℕ, drop, take, length, slice_get};
 ghost use Rattle.std.specs.Prelude.{Option, Some, IsNone, IsTrue, IfSome, IsSomeAnd};
 ghost use Rattle.std.specs.List.{list_all};
 ghost use Rattle.bus_table.specs.Turned.{AreTurned};
@@ -9,9 +9,12 @@ ghost use Rattle.bus_regime.specs.Ends.{AreEnds};
 ghost use Rattle.bus_regime.specs.Gaps.{gaps};
 ghost use Rattle.bus_regime.specs.Verdicts.{verdict_of, is_accepted};
 ghost use Rattle.bus_schedule.specs.Slack as slacks;
+ghost use Rattle.bus_reach.specs.Limits as limited;
 
 use crate::laws::{accepted_bear_zero, borne_for_less};
+use crate::limit::{Limit, Rule};
 use bus_regime::{TurnGap, gap_at, turn_ends};
+use bus_table::laws::table_is_valid;
 use bus_table::{MOST_SENDERS, Table, turn_places};
 
 /// Whether a gap is at least its sender's terminal gap and so many bit times.
@@ -99,7 +102,7 @@ fn stays(
     requires turned { AreTurned table.now places.now }
     requires ends { AreEnds table.now ends.now }
     requires place { k < length table.now.senders }
-    requires wide { IsTrue (list_all (slacks.is_wide d) (gaps table.now)) }
+    requires wide { IsTrue (list_all (slacks.is_wide 0) (gaps table.now)) }
     requires most { d ≤ 2 ^ 40 }
     ensures { IsSomeAnd (slice_get (gaps table.now) k) (λ own. result
         ≡ slacks.stays d table.now.sg own.sender.number (Some 0) (drop (k + 1) (gaps table.now) ++ take (k + 1) (gaps table.now))) }
@@ -178,4 +181,71 @@ pub(crate) fn tolerance(table: &Table) -> Option<u64>
         }
     }
     Some(borne)
+}
+
+/// A delay that, if a sender of the table stays in sync with it, it does with every delay.
+fn farthest(table: &Table) -> u64
+    ensures value { result ≡ limited.farthest table.now }
+    ensures bound { result ≤ 2 ^ 40 }
+{
+    2 * u64::from(table.ti()) + table.senders().len() as u64 * u64::from(table.sg())
+}
+
+/// The greatest delay with which the sender of the `k`-th gap stays in sync from its own message to its next one, found by halving; None
+/// where it does with every delay.
+fn sync_bound(
+    table: &Table,
+    places: &[usize; MOST_SENDERS],
+    ends: &[u64; MOST_SENDERS],
+    k: usize,
+) -> Option<u64>
+    requires turned { AreTurned table.now places.now }
+    requires ends { AreEnds table.now ends.now }
+    requires place { k < length table.now.senders }
+    requires several { length table.now.senders ≢ 1 }
+    requires mode { table.now.mode ≡ Periodic }
+    requires accepted { IsTrue (is_accepted (verdict_of table.now)) }
+    ensures { IsSomeAnd (slice_get (gaps table.now) k) (λ own. result ≡ limited.greatest_taken
+        (λ d. slacks.stays d table.now.sg own.sender.number (Some 0) (drop (k + 1) (gaps table.now) ++ take (k + 1) (gaps table.now)))
+        (limited.farthest table.now)) }
+{
+    table_is_valid(table);
+    let far = farthest(table);
+    if stays(table, places, ends, far, k) {
+        return None;
+    }
+    let mut kept = 0;
+    let mut lost = far;
+    while lost - kept > 1 {
+        let middle = kept + (lost - kept) / 2;
+        if stays(table, places, ends, middle, k) {
+            kept = middle;
+        } else {
+            lost = middle;
+        }
+    }
+    Some(kept)
+}
+
+/// With what delays the sender of the `k`-th gap stays in sync from its own message to its next one.
+pub(crate) fn sync_limit(
+    table: &Table,
+    places: &[usize; MOST_SENDERS],
+    ends: &[u64; MOST_SENDERS],
+    k: usize,
+) -> Limit
+    requires turned { AreTurned table.now places.now }
+    requires ends { AreEnds table.now ends.now }
+    requires place { k < length table.now.senders }
+    requires several { length table.now.senders ≢ 1 }
+    requires mode { table.now.mode ≡ Periodic }
+    requires accepted { IsTrue (is_accepted (verdict_of table.now)) }
+    ensures { IsSomeAnd (slice_get (gaps table.now) k) (λ own. result
+        ≡ limited.sync_limit table.now (drop (k + 1) (gaps table.now) ++ take (k + 1) (gaps table.now)) own) }
+{
+    let terminal = gap_at(table, places, ends, k).sender().number();
+    Limit {
+        rule: Rule::Sync { terminal },
+        bears: sync_bound(table, places, ends, k),
+    }
 }

@@ -4,4 +4,5 @@ pub mod Counting
 pub mod Examples
 pub mod WitnessLaws
 pub mod VerdictLaws
+pub mod StartingLaws
 pub mod GapLaws

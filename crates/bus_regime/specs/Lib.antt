@@ -4,4 +4,5 @@ pub mod Ends
 pub mod Verdicts
 pub mod Lines
 pub mod Witness
+pub mod Starting
 pub mod inside

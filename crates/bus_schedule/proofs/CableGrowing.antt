@@ -8,7 +8,7 @@ use Rattle.bus_strings.proofs.MemberLaws.{from_map, in_map, in_push_cases, order
 use Rattle.bus_strings.specs.Messages.{Message, Entry}
 use Rattle.bus_strings.specs.Marking.{greatest_end}
 use Rattle.bus_strings.specs.Transmissions.{end_of, overlaps}
-use Rattle.bus_table.specs.Tables.{Sender, Table}
+use Rattle.bus_table.specs.Tables.{Sender, Table, sender_numbers}
 use Rattle.bus_medium.specs.CableLawful.{IsDueOnCable, IsLawfulOnCable}
 use Rattle.bus_medium.specs.inside.Lazy.{HaveEnded}
 use Rattle.bus_medium.specs.Delays.{Delays, later, heard, heard_end}
@@ -38,13 +38,14 @@ timed table hands dealt = record {
   same_sg = λ s i. let f = from_map (station table hands) table.senders s i in subst (λ (w : Station). w.timing.sg ≡ table.sg) f.2 refl;
 }
 
--- the schedule so far, decided up to moment t; where no gap is too short for the listeners, nobody hears two overlap
-pub record Grown (Apart : Type 0) (table : Table) (hands : ℕ → List Message) (delay : Delays) (list : List Entry) (e : ℕ) (end due gap count : ℕ → ℕ) : Type 0 where
+-- the schedule so far, decided up to moment t; who hears it soon enough hears no two overlap
+pub record Grown (Apart : ℕ → Type 0) (table : Table) (hands : ℕ → List Message) (delay : Delays) (list : List Entry) (e : ℕ) (end due gap count : ℕ → ℕ) : Type 0 where
   pub t : ℕ
   pub known : Known (quiet_of table) delay settled (stations table hands) list t e end due gap count
   pub ended : HaveEnded list e
   pub ends : greatest_end list ≡ e
-  pub clear : Apart → (number : ℕ) → IsClear (heard delay number list)
+  pub of : (x : Entry) → In x list → In x.terminal (sender_numbers table)
+  pub clear : (number : ℕ) → Apart number → IsClear (heard delay number list)
 
 -- what the numbers must be where a sender starts
 pub record Takes (table : Table) (hands : ℕ → List Message) (delay : Delays) (end due gap count : ℕ → ℕ) (sender : Sender) (round moment : ℕ) : Type 0 where
@@ -56,10 +57,10 @@ pub record Takes (table : Table) (hands : ℕ → List Message) (delay : Delays)
       ⊎ ((quiet_of table + (moment + delay (sends hands round sender moment) b.number) < due b.number) ⊎ (length (hands b.number) ≤ count b.number))
   pub turn : count sender.number ≡ round
 
-module _ (Apart : Type 0) (delay : Delays) (own : (x : Entry) → delay x x.terminal ≡ 0) (table : Table) (hands : ℕ → List Message) (dealt : Dealt table hands) where
+module _ (Apart : ℕ → Type 0) (delay : Delays) (own : (x : Entry) → delay x x.terminal ≡ 0) (table : Table) (hands : ℕ → List Message) (dealt : Dealt table hands) where
   pub grown_step : (list : List Entry) (e : ℕ) (end due gap count : ℕ → ℕ) (sender : Sender) (round moment : ℕ) → round < length (hands sender.number)
       → Grown Apart table hands delay list e end due gap count → In sender table.senders → e ≤ moment
-      → (Apart → (number : ℕ) → HaveEnded (heard delay number list) moment)
+      → ((number : ℕ) → Apart number → HaveEnded (heard delay number list) moment)
       → Takes table hands delay end due gap count sender round moment
       → Grown Apart table hands delay (list ++ sends hands round sender moment ∷ []) (end_of (sends hands round sender moment))
       (heard_end delay (sends hands round sender moment)) (goes_D (quiet_of table) due (station table hands sender) (sends hands round sender moment))
@@ -96,8 +97,12 @@ module _ (Apart : Type 0) (delay : Delays) (own : (x : Entry) → delay x x.term
           | inr same ↦ let h : end_of y ≡ end_of (sends hands round sender moment) = ap end_of same in omega arith
         ];
         ends = end_push list (sends hands round sender moment) e so.ends low;
-        clear = λ apart k. subst IsClear (sym (heard_push delay k list (sends hands round sender moment)))
-            (clear_push (heard delay k list) (later (delay (sends hands round sender moment) k) (sends hands round sender moment)) moment (omega arith) (all_heard apart k) (so.clear apart k));
+        of = λ y j. elim (in_push_cases list (sends hands round sender moment) y j) [
+          | inl old ↦ so.of y old
+          | inr same ↦ subst (λ n. In n (sender_numbers table)) (ap (λ (z : Entry). z.terminal) (sym same)) (in_map (λ (s : Sender). s.number) table.senders sender i)
+        ];
+        clear = λ k apart. subst IsClear (sym (heard_push delay k list (sends hands round sender moment)))
+            (clear_push (heard delay k list) (later (delay (sends hands round sender moment) k) (sends hands round sender moment)) moment (omega arith) (all_heard k apart) (so.clear k apart));
       }
 
   pub grown_settled : (due : ℕ → ℕ) → ((sender : Sender) → In sender table.senders → quiet_of table + due_for table.mode sender ≡ due sender.number)
@@ -110,7 +115,8 @@ module _ (Apart : Type 0) (delay : Delays) (own : (x : Entry) → delay x x.term
         (let k : quiet_of table + due_for table.mode f.0 ≡ due f.0.number = due_is f.0 f.1 in omega arith));
     ended = λ x i. absurd i;
     ends = refl;
-    clear = λ apart k. tt;
+    of = λ x i. absurd i;
+    clear = λ k apart. tt;
   }
 
   pub grown_lawful : (list : List Entry) (e : ℕ) (end due gap count : ℕ → ℕ) → Grown Apart table hands delay list e end due gap count

@@ -1,5 +1,5 @@
 -- The closed schedule of a periodic table that bears the delays is what its senders do on the cable.
-use Rattle.std.proofs.Common.{◌≡◌, ℕ, suc, ◌+◌, ◌<◌, ◌≤◌, ◌⊎◌, Bool, true, ◌&&◌, List, [], ◌∷◌, length, inl, inr, arith, sym, refl, ap, ◌∙◌, subst}
+use Rattle.std.proofs.Common.{◌≡◌, ℕ, suc, ◌+◌, ◌≤◌, Bool, true, cond, ◌&&◌, List, [], ◌∷◌, length, inl, inr, arith, sym, refl, ap, ◌∙◌, subst}
 use Rattle.std.specs.Prelude.{IsTrue, ◌==◌, ◌||◌}
 use Rattle.std.specs.List.{list_all}
 use Rattle.std.proofs.lemmas.Bool.{and_parts, cases_Bool, eq-eqb, eqb-true, leb-true, le-leb}
@@ -7,17 +7,19 @@ use Rattle.bus_strings.specs.Marking.{greatest_end}
 use Rattle.bus_strings.specs.Members.{In}
 use Rattle.bus_strings.specs.Messages.{Entry}
 use Rattle.bus_table.specs.declared.mode.Mode.TheVariants.{Periodic}
-use Rattle.bus_table.specs.Tables.{Sender, Table, Hand}
+use Rattle.bus_table.specs.Tables.{Sender, Table, Hand, sender_numbers}
 use Rattle.bus_table.specs.Turns.{turn_key, turn_order}
 use Rattle.bus_table.proofs.TurnLaws.{length-sort}
 use Rattle.bus_medium.specs.CableLawful.{IsLawfulOnCable}
-use Rattle.bus_medium.specs.Delays.{Delays, AreDelays, heard}
+use Rattle.bus_medium.specs.Delays.{Delays, AreDelays, HearsWithin, heard}
 use Rattle.bus_medium.specs.Timings.{quiet_of}
 use Rattle.bus_medium.specs.Wakes.{settled}
+use Rattle.bus_medium.proofs.Hearing.{hears_sender}
 use Rattle.bus_regime.specs.inside.Fine.{IsFine}
 use Rattle.bus_regime.specs.Gaps.{Gap, last_end, gaps_from, gaps}
 use Rattle.bus_regime.specs.Verdicts.{verdict_of, is_accepted}
 use Rattle.bus_regime.proofs.VerdictLaws.{accepted_gaps}
+use Rattle.bus_schedule.specs.CableRuns.{clear_within}
 use Rattle.bus_schedule.specs.Closed.{offset_schedule}
 use Rattle.bus_schedule.specs.Even.{messages_of, rounds}
 use Rattle.bus_schedule.specs.Runs.{IsClear}
@@ -63,44 +65,47 @@ alone_stays sg ti from (s ∷ []) e fine =
 pub record IsHeard (table : Table) (hands : List Hand) (most : ℕ) (delay : Delays) : Type 0 where
   pub lawful : IsLawfulOnCable (quiet_of table) delay settled (stations table (messages_of hands)) (greatest_end (offset_schedule (messages_of hands) table.ti (turn_order table) (rounds hands)))
       (offset_schedule (messages_of hands) table.ti (turn_order table) (rounds hands))
-  pub clear : (1 < length table.senders) ⊎ (most ≤ table.sg) → (number : ℕ) → IsClear (heard delay number (offset_schedule (messages_of hands) table.ti (turn_order table) (rounds hands)))
+  pub clear : (number : ℕ) → HearsWithin (clear_within table most) (sender_numbers table) delay number → IsClear (heard delay number (offset_schedule (messages_of hands) table.ti (turn_order table) (rounds hands)))
 
 heard_by : (table : Table) (hands : List Hand) (most reach : ℕ) (delay : Delays) → Setting table (messages_of hands) (rounds hands) → table.mode ≡ Periodic
-    → AreDelays most delay
+    → ((x : Entry) → delay x x.terminal ≡ 0)
     → ((x : Entry) (a b : Sender) → In a table.senders → In b table.senders → x.terminal ≡ a.number → delay x b.number ≤ reach)
     → ((g : Gap) → In g (gaps table) → g.from + (g.sender.tg + reach) ≤ g.to)
     → all_stay reach table.sg [] (gaps table) ≡ true
-    → ((1 < length table.senders) ⊎ (most ≤ table.sg) → (g : Gap) → In g (gaps table) → g.from + most ≤ g.to)
+    → ((g : Gap) → In g (gaps table) → g.from + clear_within table most ≤ g.to)
     → IsHeard table hands most delay
-heard_by table hands most reach delay setting mode delays reaching wide staying apart =
-    let t = intervals_on ((1 < length table.senders) ⊎ (most ≤ table.sg)) delay delays.own reach most delays.within table (messages_of hands) (rounds hands) setting mode reaching wide staying apart (rounds hands) (omega arith) in
+heard_by table hands most reach delay setting mode own reaching wide staying apart =
+    let t = intervals_on (HearsWithin (clear_within table most) (sender_numbers table) delay) delay own reach (clear_within table most) table (λ k h. h) (messages_of hands) (rounds hands) setting mode reaching wide staying apart (rounds hands) (omega arith) in
     record {
-      lawful = grown_lawful ((1 < length table.senders) ⊎ (most ≤ table.sg)) delay delays.own table (messages_of hands) setting.dealt (offset_schedule (messages_of hands) table.ti (turn_order table) (rounds hands)) t.e t.end t.due t.gap t.count t.grown;
+      lawful = grown_lawful (HearsWithin (clear_within table most) (sender_numbers table) delay) delay own table (messages_of hands) setting.dealt (offset_schedule (messages_of hands) table.ti (turn_order table) (rounds hands)) t.e t.end t.due t.gap t.count t.grown;
       clear = t.grown.clear;
     }
 
 pub is_heard : (table : Table) (hands : List Hand) (most : ℕ) (delay : Delays) → Setting table (messages_of hands) (rounds hands) → table.mode ≡ Periodic
-    → IsTrue (is_accepted (verdict_of table)) → AreDelays most delay → IsTrue (gaps_bear table most) → IsHeard table hands most delay
+    → IsTrue (is_accepted (verdict_of table)) → AreDelays most (sender_numbers table) delay → IsTrue (gaps_bear table most) → IsHeard table hands most delay
 is_heard table hands most delay setting mode accepted delays borne =
     let fine : (g : Gap) → In g (gaps table) → IsFine table.sg (gaps table) g = accepted_gaps table mode accepted in
     elim (cases_Bool (length table.senders == 1)) [
       | inl one ↦
           let single : length table.senders ≡ 1 = eqb-true (length table.senders) 1 one in
           let in_order : length (turn_order table) ≡ 1 = length-sort (turn_key table.mode) table.senders ∙ single in
-          heard_by table hands most 0 delay setting mode delays
+          heard_by table hands most 0 delay setting mode delays.own
           (λ x a b i j mine.
           let same : a ≡ b = alone table.senders a b single i j in
           let none : delay x b.number ≡ 0 = ap (delay x) (ap (λ (s : Sender). s.number) (sym same) ∙ sym mine) ∙ delays.own x in omega arith)
           (λ g i. let w : g.from + g.sender.tg ≤ g.to = (fine g i).wide in omega arith)
           (alone_stays table.sg table.ti (last_end 0 (turn_order table)) (turn_order table) in_order fine)
-          (λ far g i. elim far [
-            | inl more ↦ absurd (omega arith)
-            | inr short ↦ let room : g.from + (table.sg + g.sender.tg) ≤ g.to = alone_room table.sg table.ti (last_end 0 (turn_order table)) (turn_order table) in_order fine g i in omega arith
-          ])
+          (λ g i.
+          let room : g.from + (table.sg + g.sender.tg) ≤ g.to = alone_room table.sg table.ti (last_end 0 (turn_order table)) (turn_order table) in_order fine g i in
+          let soon : clear_within table most ≡ table.sg = ap (λ b. cond b table.sg most) one in
+          omega arith)
       | inr several ↦
           let both = and_parts (list_all (is_wide most) (gaps table)) (all_stay most table.sg [] (gaps table))
           (subst (λ b. (b || (list_all (is_wide most) (gaps table) && all_stay most table.sg [] (gaps table))) ≡ true) several borne) in
           let wide : (g : Gap) → In g (gaps table) → g.from + (g.sender.tg + most) ≤ g.to = λ g i. leb-true (g.from + (g.sender.tg + most)) g.to (all_in (is_wide most) (gaps table) g both.0 i) in
-          heard_by table hands most most delay setting mode delays (λ x a b i j mine. delays.within x b.number) wide both.1
-          (λ far g i. let w : g.from + (g.sender.tg + most) ≤ g.to = wide g i in omega arith)
+          heard_by table hands most most delay setting mode delays.own (hears_sender most table delay delays) wide both.1
+          (λ g i.
+          let w : g.from + (g.sender.tg + most) ≤ g.to = wide g i in
+          let soon : clear_within table most ≡ most = ap (λ b. cond b table.sg most) several in
+          omega arith)
     ]

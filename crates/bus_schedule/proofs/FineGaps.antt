@@ -13,7 +13,6 @@ use Rattle.bus_table.specs.inside.Orders.{Rises}
 use Rattle.bus_table.specs.Valid.{is_valid}
 use Rattle.bus_table.proofs.TurnLaws.{from_sort, order_rises, numbers_differ}
 use Rattle.bus_table.proofs.ValidLaws.{valid_facts}
-use Rattle.bus_medium.specs.Delays.{AreDelays, at_once}
 use Rattle.bus_regime.specs.inside.Fine.{IsFine}
 use Rattle.bus_regime.specs.Gaps.{Gap, last_end, latest_end, gaps}
 use Rattle.bus_regime.specs.Verdicts.{verdict_of, is_accepted}
@@ -109,7 +108,3 @@ accepted_bears_none table valid mode accepted =
       | inl one ↦ ap (λ b. b || (list_all (is_wide 0) (gaps table) && all_stay 0 table.sg [] (gaps table))) one
       | inr more ↦ ap (λ b. b || (list_all (is_wide 0) (gaps table) && all_stay 0 table.sg [] (gaps table))) more ∙ both
     ]
-
--- what is heard at once
-pub no_delays : AreDelays 0 at_once
-no_delays = record { own = λ x. refl; within = λ x number. omega arith }

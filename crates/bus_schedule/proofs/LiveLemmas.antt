@@ -1,6 +1,6 @@
 -- Rounds of the senders that have a message left are lawful up to their end where they are long enough, and even hands make them the closed
 -- schedule.
-use Rattle.std.proofs.Common.{◌≡◌, ℕ, zero, suc, ◌+◌, ◌<◌, ◌≤◌, true, List, [], ◌∷◌, ◌++◌, length, arith, sym, refl, ap, ◌∙◌, subst, cond, inl, inr}
+use Rattle.std.proofs.Common.{◌≡◌, ℕ, zero, suc, ◌+◌, ◌<◌, ◌≤◌, true, List, [], ◌∷◌, ◌++◌, length, map, arith, sym, refl, ap, ◌∙◌, subst, cond, inl, inr}
 use Rattle.std.specs.Prelude.{IsTrue}
 use Rattle.std.specs.List.{filter}
 use Rattle.std.proofs.lemmas.Bool.{cases_lt, lt-ltb}
@@ -15,12 +15,12 @@ use Rattle.bus_table.specs.Turns.{turn_key, turn_order}
 use Rattle.bus_table.proofs.TurnLaws.{from_sort, numbers_differ}
 use Rattle.bus_table.specs.Valid.{is_valid}
 use Rattle.bus_table.proofs.ValidLaws.{valid_facts}
-use Rattle.bus_medium.specs.Lawful.{HaveOwnNumbers, IsLawful}
+use Rattle.bus_medium.specs.Lawful.{Station, HaveOwnNumbers, IsLawful}
 use Rattle.bus_medium.specs.Timings.{quiet_of, stations_of}
 use Rattle.bus_medium.proofs.StationLaws.{timings_are_sound, stations_have_own_numbers}
 use Rattle.bus_medium.specs.Delays.{at_once}
 use Rattle.bus_medium.specs.Wakes.{settled}
-use Rattle.bus_medium.proofs.Hearing.{heard_none, no_delay_is_the_bus}
+use Rattle.bus_medium.proofs.Hearing.{heard_none, no_delay_is_the_bus, none_at_once}
 use Rattle.bus_schedule.specs.Closed.{turns, turns_end, origin, gap_schedule}
 use Rattle.bus_schedule.specs.Even.{messages_of}
 use Rattle.bus_schedule.specs.Laws.{LiveRoundsAreLawful, LiveRoundsEnd}
@@ -31,7 +31,7 @@ use Rattle.bus_schedule.proofs.Growing.{Dealt, Setting, has_left}
 use Rattle.bus_schedule.proofs.CableGrowing.{grown_lawful}
 use Rattle.bus_schedule.proofs.HandLemmas.{stations, stations_are, own_fit}
 use Rattle.bus_schedule.proofs.Spacing.{cycle, cycle_sum, cycle_sort}
-use Rattle.bus_schedule.proofs.Turning.{has_more, from_live, none_later, rounds_on}
+use Rattle.bus_schedule.proofs.Turning.{has_more, from_live, rounds_on}
 
 pub stations_of_dealt : (table : Table) (hands : List Hand) → IsTrue (is_valid table) → IsTrue (are_hands table.senders hands)
     → stations_of table hands ≡ stations table (messages_of hands)
@@ -116,9 +116,10 @@ live_lawful table messages dealt mode long n =
     let t = rounds_on table messages dealt mode long n in
     let list : List Entry = live_rounds table messages n in
     record {
-      lawful = (no_delay_is_the_bus (quiet_of table) at_once settled (stations table messages) (greatest_end list) list none_later (λ s i. refl)).0
-          (grown_lawful (Unit {0}) at_once none_later.own table messages dealt list t.e t.end t.due t.gap t.count t.sofar);
-      clear = subst IsClear (heard_none at_once 0 list none_later) (t.sofar.clear tt 0);
+      lawful = (no_delay_is_the_bus (quiet_of table) at_once settled (stations table messages) (greatest_end list) list
+          (none_at_once (map (λ (s : Station). s.number) (stations table messages))) (λ s i. refl)).0
+          (grown_lawful (λ _. Unit {0}) at_once (λ x. refl) table messages dealt list t.e t.end t.due t.gap t.count t.sofar);
+      clear = subst IsClear (heard_none at_once 0 list (λ x i. omega arith)) (t.sofar.clear 0 tt);
     }
 
 pub live_rounds_are_lawful : LiveRoundsAreLawful

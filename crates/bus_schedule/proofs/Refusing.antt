@@ -1,6 +1,6 @@
 -- With two rounds of filling messages the closed schedule of a refused table isn't lawful, or two of its transmissions overlap. In aperiodic
 -- mode the first sender in turn order isn't due at its second start.
-use Rattle.std.proofs.Common.{◌≡◌, ℕ, ◌+◌, ◌<◌, ◌≤◌, List, [], ◌∷◌, ◌++◌, length, get_or, Some, inl, inr, ◌⊎◌}
+use Rattle.std.proofs.Common.{◌≡◌, ℕ, ◌+◌, ◌<◌, ◌≤◌, List, [], ◌∷◌, ◌++◌, length, map, get_or, Some, inl, inr, ◌⊎◌}
 use Rattle.std.proofs.Common.{arith, sym, refl, ap, ◌∙◌, subst}
 use Rattle.std.proofs.lemmas.Bool.{cases_lt}
 use Rattle.bus_timers.specs.Timings.{due_place}
@@ -17,12 +17,12 @@ use Rattle.bus_table.specs.inside.Orders.{Rises}
 use Rattle.bus_table.proofs.TurnLaws.{from_sort, in_sort, order_rises, numbers_differ}
 use Rattle.bus_medium.specs.CableLawful.{IsLawfulOnCable}
 use Rattle.bus_medium.specs.Delays.{at_once}
-use Rattle.bus_medium.specs.Lawful.{IsDue, IsLawful}
+use Rattle.bus_medium.specs.Lawful.{Station, IsDue, IsLawful}
 use Rattle.bus_medium.specs.Past.{past, own, last_place}
 use Rattle.bus_medium.specs.PastLaws.{NoneOf}
 use Rattle.bus_medium.specs.Timings.{quiet_of, timing_of}
 use Rattle.bus_medium.specs.Wakes.{settled}
-use Rattle.bus_medium.proofs.Hearing.{no_delay_is_the_bus}
+use Rattle.bus_medium.proofs.Hearing.{no_delay_is_the_bus, none_at_once}
 use Rattle.bus_medium.proofs.PastLaws.{length_past, own_more, own_later, last_push}
 use Rattle.bus_regime.specs.inside.Fine.{HasSmall, HasUnsynchronized}
 use Rattle.bus_regime.specs.Gaps.{Gap, gaps}
@@ -30,7 +30,6 @@ use Rattle.bus_regime.specs.Verdicts.{least_cycle}
 use Rattle.bus_schedule.specs.Closed.{sends, turns, turns_end, gap_schedule, offset_schedule}
 use Rattle.bus_schedule.specs.Runs.{IsClear}
 use Rattle.bus_schedule.proofs.Breaking.{whole, whole_is, not_small, not_unsynchronized}
-use Rattle.bus_schedule.proofs.FineGaps.{no_delays}
 use Rattle.bus_schedule.proofs.Growing.{Setting}
 use Rattle.bus_schedule.proofs.HandLemmas.{station, stations}
 use Rattle.bus_schedule.proofs.Orders.{rises_after, same_sender}
@@ -85,7 +84,7 @@ module _ (table : Table) (messages : ℕ → List Message) (setting : Setting ta
       on_cable : IsLawfulOnCable (quiet_of table) at_once settled (stations table messages) horizon (whole table messages setting mode filled)
       on_cable = subst (IsLawfulOnCable (quiet_of table) at_once settled (stations table messages) horizon) (whole_is table messages setting mode filled)
           ((no_delay_is_the_bus (quiet_of table) at_once settled (stations table messages) horizon (offset_schedule messages table.ti (turn_order table) 2)
-          no_delays (λ s i. refl)).1 law)
+          (none_at_once (map (λ (s : Station). s.number) (stations table messages))) (λ s i. refl)).1 law)
 
       small : HasSmall (gaps table) → ⊥
       small s =

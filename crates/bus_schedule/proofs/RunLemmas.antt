@@ -1,5 +1,5 @@
 -- The closed schedule of even hands is orderly, and of an accepted table it is the run.
-use Rattle.std.proofs.Common.{◌≡◌, ℕ, suc, ◌+◌, ◌*◌, ◌/◌, ◌%◌, ◌<◌, ◌≤◌, List, [], length, get_or, Some, inr, arith, sym, refl, ap, ◌∙◌, subst}
+use Rattle.std.proofs.Common.{◌≡◌, ℕ, suc, ◌+◌, ◌*◌, ◌/◌, ◌%◌, ◌<◌, ◌≤◌, List, [], length, map, get_or, Some, arith, sym, refl, ap, ◌∙◌, subst}
 use Rattle.std.specs.Prelude.{slice_get, IsTrue}
 use Rattle.std.proofs.lemmas.Bool.{and_parts}
 use Rattle.std.proofs.lemmas.Nat.{div-add-mod'}
@@ -9,7 +9,7 @@ use Rattle.bus_strings.specs.Messages.{Entry}
 use Rattle.bus_strings.specs.Transmissions.{IsAscending}
 use Rattle.bus_table.specs.declared.mode.Mode.{Mode}
 use Rattle.bus_table.specs.declared.mode.Mode.TheVariants.{Aperiodic, Periodic}
-use Rattle.bus_table.specs.Tables.{Sender, Table, Hand}
+use Rattle.bus_table.specs.Tables.{Sender, Table, Hand, sender_numbers}
 use Rattle.bus_table.specs.inside.Facts.{SenderFacts}
 use Rattle.bus_table.specs.Valid.{is_valid}
 use Rattle.bus_table.proofs.ValidLaws.{valid_facts}
@@ -20,10 +20,10 @@ use Rattle.bus_table.specs.inside.Orders.{Rises}
 use Rattle.bus_table.proofs.TurnLaws.{at_in, from_sort, length-sort, numbers_differ, of_each, order_rises}
 use Rattle.bus_medium.specs.CableLawful.{IsLawfulOnCable}
 use Rattle.bus_medium.specs.Delays.{at_once, heard}
-use Rattle.bus_medium.specs.Lawful.{HaveOwnNumbers, IsLawful}
+use Rattle.bus_medium.specs.Lawful.{Station, HaveOwnNumbers, IsLawful}
 use Rattle.bus_medium.specs.Wakes.{settled as awake}
 use Rattle.bus_medium.proofs.CableLists.{cable_once}
-use Rattle.bus_medium.proofs.Hearing.{heard_none, no_delay_is_the_bus}
+use Rattle.bus_medium.proofs.Hearing.{heard_none, no_delay_is_the_bus, none_at_once}
 use Rattle.bus_medium.specs.LawfulLaws.{OneLawfulList}
 use Rattle.bus_medium.specs.Timings.{quiet_of, stations_of}
 use Rattle.bus_medium.proofs.StationLaws.{stations_have_own_numbers}
@@ -43,7 +43,7 @@ use Rattle.bus_schedule.proofs.Places.{IsRound, turns_are_round, offset_turns_ar
 use Rattle.bus_schedule.proofs.Spacing.{cycle, cycle_sum, cycle_sort, lead, LeadsMore, lead_more, lengths, turns_end_cycle, IsTurn, is_turn}
 use Rattle.bus_schedule.proofs.Growing.{Setting, sendable}
 use Rattle.bus_schedule.proofs.CableRuns.{IsHeard, is_heard}
-use Rattle.bus_schedule.proofs.FineGaps.{no_delays, accepted_bears_none}
+use Rattle.bus_schedule.proofs.FineGaps.{accepted_bears_none}
 use Rattle.bus_schedule.proofs.Swaying.{at_below}
 use Rattle.bus_schedule.proofs.LiveLemmas.{IsLawfulRounds, dealt_of, stations_of_dealt, even_are_long, even_rounds, live_lawful}
 
@@ -254,13 +254,14 @@ accepted_is_closed once table hands valid accepted even =
         subst (IsLawfulRounds table (messages_of hands)) (even_rounds table (messages_of hands) (rounds hands) setting (rounds hands) (omega arith))
         (live_lawful table (messages_of hands) setting.dealt is long (rounds hands))
     run_in setting Periodic is =
-        let h = is_heard table hands 0 at_once setting is accepted no_delays (accepted_bears_none table valid is accepted) in
+        let h = is_heard table hands 0 at_once setting is accepted (none_at_once (sender_numbers table)) (accepted_bears_none table valid is accepted) in
         record {
           lawful = (no_delay_is_the_bus (quiet_of table) at_once awake (stations table (messages_of hands))
               (greatest_end (offset_schedule (messages_of hands) table.ti (turn_order table) (rounds hands)))
-              (offset_schedule (messages_of hands) table.ti (turn_order table) (rounds hands)) no_delays (λ s i. refl)).0 h.lawful;
-          clear = subst IsClear (heard_none at_once 0 (offset_schedule (messages_of hands) table.ti (turn_order table) (rounds hands)) no_delays)
-              (h.clear (inr (omega arith)) 0);
+              (offset_schedule (messages_of hands) table.ti (turn_order table) (rounds hands))
+              (none_at_once (map (λ (s : Station). s.number) (stations table (messages_of hands)))) (λ s i. refl)).0 h.lawful;
+          clear = subst IsClear (heard_none at_once 0 (offset_schedule (messages_of hands) table.ti (turn_order table) (rounds hands)) (λ x i. omega arith))
+              (h.clear 0 (λ x i. omega arith));
         }
 
 -- and so it is on a cable that a periodic table bears
@@ -279,7 +280,7 @@ borne_gaps_are_closed table hands most delay valid mode accepted even delays bor
       closed = refl;
       lawful = lawful;
       only = λ other law. cable_once (quiet_of table) delay awake (stations_of table hands) (closed_end table hands) other (closed table hands) own law lawful;
-      clear = λ far number. subst (λ l. IsClear (heard delay number l)) (sym is) (h.clear far number);
+      clear = λ number near. subst (λ l. IsClear (heard delay number l)) (sym is) (h.clear number near);
       turns = closed_in_turns table hands setting;
       paced = closed_paced table hands setting;
     }

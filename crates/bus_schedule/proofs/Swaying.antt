@@ -8,7 +8,7 @@ use Rattle.bus_strings.proofs.MemberLaws.{in_append_cases, in_append_left, in_ap
 use Rattle.bus_strings.specs.Messages.{Message, Entry, bits}
 use Rattle.bus_strings.specs.Transmissions.{end_of}
 use Rattle.bus_table.specs.declared.mode.Mode.TheVariants.{Periodic}
-use Rattle.bus_table.specs.Tables.{Sender, Table}
+use Rattle.bus_table.specs.Tables.{Sender, Table, sender_numbers}
 use Rattle.bus_table.specs.inside.Facts.{FitsMode, SenderFacts}
 use Rattle.bus_table.specs.Lengths.{longest}
 use Rattle.bus_table.specs.Turns.{turn_key, turn_order}
@@ -19,7 +19,7 @@ use Rattle.bus_medium.specs.inside.Lazy.{HaveEnded}
 use Rattle.bus_medium.specs.Clocks.{put}
 use Rattle.bus_regime.specs.Gaps.{Gap, latest_end, last_end, gaps_from, gaps}
 use Rattle.bus_schedule.specs.Closed.{sends, offset_turns, offset_schedule}
-use Rattle.bus_medium.specs.Delays.{Delays, heard, heard_end}
+use Rattle.bus_medium.specs.Delays.{Delays, HearsWithin, heard, heard_end}
 use Rattle.bus_medium.specs.Wakes.{settled}
 use Rattle.bus_schedule.specs.Slack.{slack_behind, stays, all_stay}
 use Rattle.bus_medium.proofs.CableClocks.{gap_elapsed, gap_waiting}
@@ -48,7 +48,7 @@ pub record IsFresh (table : Table) (list : List Entry) (e : ℕ) (end gap : ℕ 
 
 -- In the interval that begins at moment base some senders of this round are done; the longest message before has ended at `from`, which
 -- counts as the gaps do, and the one that was sent at e, no later. Each sender has heard it at its own `end`.
-pub record Span (Apart : Type 0) (reach : ℕ) (delay : Delays) (table : Table) (messages : ℕ → List Message) (done rest : List Sender) (round base from : ℕ) (list : List Entry) : Type 0 where
+pub record Span (Apart : ℕ → Type 0) (reach : ℕ) (delay : Delays) (table : Table) (messages : ℕ → List Message) (done rest : List Sender) (round base from : ℕ) (list : List Entry) : Type 0 where
   pub e : ℕ
   pub end : ℕ → ℕ
   pub due : ℕ → ℕ
@@ -121,14 +121,14 @@ at_below table a mode facts = subst (λ m. FitsMode m table.ti a.at) mode facts.
 nothing_ended : (delay : Delays) (k t : ℕ) (list : List Entry) → list ≡ [] → HaveEnded (heard delay k list) t
 nothing_ended delay k t list none = subst (λ l. HaveEnded (heard delay k l) t) (sym none) (λ x i. absurd i)
 
--- `reach` bounds the delays between senders, and `most` all of them
-module _ (Apart : Type 0) (delay : Delays) (own : (x : Entry) → delay x x.terminal ≡ 0)
-    (reach most : ℕ) (within_most : (x : Entry) (k : ℕ) → delay x k ≤ most) (table : Table) (messages : ℕ → List Message) (n : ℕ)
+-- `reach` bounds the delays between senders, and `most` those to a terminal that is to hear no two overlap
+module _ (Apart : ℕ → Type 0) (delay : Delays) (own : (x : Entry) → delay x x.terminal ≡ 0)
+    (reach most : ℕ) (table : Table) (within_most : (k : ℕ) → Apart k → HearsWithin most (sender_numbers table) delay k) (messages : ℕ → List Message) (n : ℕ)
     (setting : Setting table messages n) (mode : table.mode ≡ Periodic)
     (reaching : (x : Entry) (a b : Sender) → In a table.senders → In b table.senders → x.terminal ≡ a.number → delay x b.number ≤ reach)
     (wide : (g : Gap) → In g (gaps table) → g.from + (g.sender.tg + reach) ≤ g.to)
     (staying : all_stay reach table.sg [] (gaps table) ≡ true)
-    (apart_enough : Apart → (g : Gap) → In g (gaps table) → g.from + most ≤ g.to) where
+    (apart_enough : (g : Gap) → In g (gaps table) → g.from + most ≤ g.to) where
   quiet_is : quiet_of table ≡ table.sg + greatest_gap table.senders
   quiet_is = ap (λ m. quiet_for m table.sg table.senders) mode
 
@@ -237,11 +237,11 @@ module _ (Apart : Type 0) (delay : Delays) (own : (x : Entry) → delay x x.term
         others = λ b i apart. inr (inl (later_due b i apart));
         turn = w.waiting_count a (inl refl);
       } in
-      let all_heard : Apart → (k : ℕ) → HaveEnded (heard delay k list) (base + a.at) = λ far k. elim (w.ends) [
+      let all_heard : (k : ℕ) → Apart k → HaveEnded (heard delay k list) (base + a.at) = λ k far. elim (w.ends) [
         | inl fresh ↦ nothing_ended delay k (base + a.at) list fresh.none
         | inr on ↦ λ y i.
-            let v : w.e + most ≤ base + a.at = gap_left table.ti from base w.e a.at most on (apart_enough far (record { sender = a; from = from; to = table.ti + a.at }) here_in) in
-            let u : end_of y ≤ w.e + most = heard_ended delay k most w.e list (λ z. within_most z k) w.grown.ended y i in
+            let v : w.e + most ≤ base + a.at = gap_left table.ti from base w.e a.at most on (apart_enough (record { sender = a; from = from; to = table.ti + a.at }) here_in) in
+            let u : end_of y ≤ w.e + most = heard_ended delay k most w.e list (λ z j. within_most k far z (w.grown.of z j)) w.grown.ended y i in
             omega arith
       ] in
       record {

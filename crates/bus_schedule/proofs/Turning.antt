@@ -18,7 +18,7 @@ use Rattle.bus_table.specs.inside.Orders.{Rises}
 use Rattle.bus_table.proofs.TurnLaws.{of_each, from_sort, in_sort, order_rises, numbers_differ}
 use Rattle.bus_medium.specs.Timings.{quiet_of, due_for}
 use Rattle.bus_medium.specs.inside.Lazy.{HaveEnded}
-use Rattle.bus_medium.specs.Delays.{AreDelays, at_once, heard, heard_end}
+use Rattle.bus_medium.specs.Delays.{at_once, heard, heard_end}
 use Rattle.bus_medium.specs.Wakes.{settled}
 use Rattle.bus_medium.proofs.CableClocks.{gap_elapsed, gap_waiting, max_first}
 use Rattle.bus_medium.proofs.CableSteps.{put_here, put_other, goes_D, goes_G, goes_C, goes_here, goes_other}
@@ -72,7 +72,7 @@ pub record Turn (table : Table) (hands : ℕ → List Message) (done rest : List
   pub due : ℕ → ℕ
   pub gap : ℕ → ℕ
   pub count : ℕ → ℕ
-  pub sofar : Grown (Unit {0}) table hands at_once list e end due gap count
+  pub sofar : Grown (λ _. Unit {0}) table hands at_once list e end due gap count
   pub ended : (a : Sender) → In a table.senders → end a.number ≤ e
   pub split : live table hands round ≡ done ++ rest
   pub low : e ≤ from
@@ -139,10 +139,6 @@ module _ (table : Table) (hands : ℕ → List Message) where
     ];
   }
 
--- nobody hears later than it is sent
-pub none_later : AreDelays 0 at_once
-none_later = record { own = λ x. refl; within = λ x number. omega arith }
-
 module _ (table : Table) (hands : ℕ → List Message)
     (dealt : Dealt table hands) (mode : table.mode ≡ Aperiodic) (long : AreLong table hands) where
   rises : (round : ℕ) → Rises (λ a. a.tg) (live table hands round)
@@ -196,8 +192,8 @@ module _ (table : Table) (hands : ℕ → List Message)
         due = goes_D (quiet_of table) t.due (station table hands a) (sends hands round a (from + a.tg));
         gap = goes_G (quiet_of table) table.sg at_once settled t.gap a.number (sends hands round a (from + a.tg));
         count = goes_C t.count a.number;
-        sofar = grown_step (Unit {0}) at_once none_later.own table hands dealt list t.e t.end t.due t.gap t.count a round (from + a.tg) more t.sofar there (omega arith)
-            (λ none k. all_heard list t.e from a.tg k t.sofar.ended low) takes;
+        sofar = grown_step (λ _. Unit {0}) at_once (λ x. refl) table hands dealt list t.e t.end t.due t.gap t.count a round (from + a.tg) more t.sofar there (omega arith)
+            (λ k none. all_heard list t.e from a.tg k t.sofar.ended low) takes;
         ended = λ b i. omega arith;
         split = order ∙ sym (append_assoc done (a ∷ []) rest);
         low = omega arith;
@@ -243,7 +239,7 @@ module _ (table : Table) (hands : ℕ → List Message)
       }
     where
       all_heard : (list : List Entry) (e from tg k : ℕ) → HaveEnded list e → e ≤ from → HaveEnded (heard at_once k list) (from + tg)
-      all_heard list e from tg k ended low y i = let h : end_of y ≤ e + 0 = heard_ended at_once k 0 e list (λ x. omega arith) ended y i in omega arith
+      all_heard list e from tg k ended low y i = let h : end_of y ≤ e + 0 = heard_ended at_once k 0 e list (λ x j. omega arith) ended y i in omega arith
 
       some_in : (c : Sender) (senders : List Sender) → In c senders → 0 < length senders
       some_in c [] i = absurd i
@@ -265,7 +261,7 @@ module _ (table : Table) (hands : ℕ → List Message)
     gap = λ k. table.sg + settled k;
     count = λ _. 0;
     ended = λ a i. omega arith;
-    sofar = grown_settled (Unit {0}) at_once none_later.own table hands dealt (λ _. table.sg) (λ a i. let q : quiet_of table ≡ table.sg = quiet_is table mode in let d : due_for table.mode a ≡ 0 = ap (λ m. due_for m a) mode in omega arith);
+    sofar = grown_settled (λ _. Unit {0}) at_once (λ x. refl) table hands dealt (λ _. table.sg) (λ a i. let q : quiet_of table ≡ table.sg = quiet_is table mode in let d : due_for table.mode a ≡ 0 = ap (λ m. due_for m a) mode in omega arith);
     split = refl;
     low = omega arith;
     waiting_gap = λ a i. omega arith;

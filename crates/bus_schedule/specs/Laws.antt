@@ -5,7 +5,7 @@ use Rattle.bus_strings.specs.Members.{In}
 use Rattle.bus_strings.specs.Messages.{Message, Entry}
 use Rattle.bus_strings.specs.Transmissions.{end_of, IsAscending}
 use Rattle.bus_table.specs.declared.mode.Mode.TheVariants.{Aperiodic, Periodic}
-use Rattle.bus_table.specs.Tables.{Sender, Table, Hand}
+use Rattle.bus_table.specs.Tables.{Sender, Table, Hand, sender_numbers}
 use Rattle.bus_table.specs.Hands.{are_hands}
 use Rattle.bus_table.specs.Turns.{turn_order}
 use Rattle.bus_table.specs.Valid.{is_valid}
@@ -106,13 +106,13 @@ WitnessesAreEven = (table : Table) → IsTrue (is_valid table) → IsTrue (are_e
 abbrev pub WitnessesAreShort : Type 0
 WitnessesAreShort = (table : Table) → IsTrue (is_valid table) → closed_end table (witness_hands table) ≤ longest_end
 
--- For an accepted periodic table and even hands of any length, with delays up to what its gaps bear, the closed schedule is the run on the
--- cable.
+-- For an accepted periodic table and even hands of any length, with delays between its senders up to what its gaps bear, the closed
+-- schedule is the run on the cable.
 abbrev pub BorneGapsAreClosed : Type 0
 BorneGapsAreClosed =
     (table : Table) (hands : List Hand) (most : ℕ) (delay : Delays) → IsTrue (is_valid table) → table.mode ≡ Periodic
-    → IsTrue (is_accepted (verdict_of table)) → IsTrue (are_even table hands) → AreDelays most delay → IsTrue (gaps_bear table most)
-    → IsRunOnCable table hands most delay (closed table hands)
+    → IsTrue (is_accepted (verdict_of table)) → IsTrue (are_even table hands) → AreDelays most (sender_numbers table) delay
+    → IsTrue (gaps_bear table most) → IsRunOnCable table hands most delay (closed table hands)
 
 -- The gaps of every accepted periodic table bear a delay of 0.
 abbrev pub AcceptedGapsBearNone : Type 0

@@ -1,5 +1,5 @@
 //! A wordstring: a label word, and the data words behind it.
-ghost use Rattle.std.specs.Prelude.{◌≡◌, ◌+◌, ◌<◌, ◌≤◌, ◌^◌, ◌↔◌, IsSome, IsNone, IfSome, IfOk, vec_len, length, take};
+ghost use Rattle.std.specs.Prelude.{◌≡◌, ◌+◌, ◌<◌, ◌≤◌, ◌^◌, ◌↔◌, IsSome, IsNone, IfSome, IfOk, IfErr, IsErr, vec_len, length, take};
 ghost use Rattle.std.specs.List.{AllByRecursion};
 ghost use Rattle.bus_strings.specs.Limits.{most_words};
 ghost use Rattle.bus_strings.specs.inside.Kept.{kept_string, most_middle, most_short, IsKept};
@@ -7,7 +7,7 @@ ghost use Rattle.bus_strings.specs.Messages.{IsWordstring, word_count};
 
 use crate::limits::MOST_WORDS;
 use bus_words::{Ext, Label};
-use std::alloc::{AllocError, Global};
+use std::alloc::{AllocError, AllocFailed, Global};
 use std::marker::Model;
 
 /// As many data words as a wordstring keeps in itself, in no memory of their own.
@@ -44,12 +44,6 @@ enum Kept {
         label: Label,
         ext: Ext,
         words: Box<Vec<u16>>,
-    },
-    // Where there was no memory for the place of a `Vec`. These are never given back: that a wordstring is made may not fail.
-    Left {
-        label: Label,
-        ext: Ext,
-        words: &'static [u16],
     },
 }
 
@@ -103,43 +97,53 @@ fn middle(alloc: Global, label: Label, ext: Ext, words: &[u16]) -> Result<Kept, 
     })
 }
 
-/// These data words, as a wordstring keeps them that has many.
-fn long(alloc: Global, label: Label, ext: Ext, words: Vec<u16>) -> Kept
+/// These data words, as a wordstring keeps them that has many. They are given back where there is no memory for the place of the `Vec`.
+fn long(
+    alloc: Global,
+    label: Label,
+    ext: Ext,
+    words: Vec<u16>,
+) -> Result<Kept, AllocFailed<Vec<u16>>>
     requires { vec_len words ≤ most_words }
-    ensures value { kept_string result ≡ record { label = label; ext = ext; words = words.items } }
-    ensures kept { IsKept result }
+    ensures value { IfOk result (λ kept. kept_string kept ≡ record { label = label; ext = ext; words = words.items }) }
+    ensures kept { IfOk result IsKept }
+    ensures given_back { IfErr result (λ failed. failed.value ≡ words) }
 {
     // The types of both keep their ranges, which are known from here on.
     let _ranges = (label.value(), ext.value());
-    match Box::new(alloc, words) {
-        Ok(words) => Kept::Long { label, ext, words },
-        Err(failed) => Kept::Left {
-            label,
-            ext,
-            words: failed.value.leak(),
-        },
-    }
+    Ok(Kept::Long {
+        label,
+        ext,
+        words: Box::new(alloc, words)?,
+    })
 }
 
 impl Wordstring {
-    /// None where there are more than 256 data words. Few words are kept in the wordstring itself, and the memory that they took is given
-    /// back.
-    pub fn new(label: Label, ext: Ext, words: Vec<u16>) -> Option<Wordstring>
-        ensures some { IsSome result ↔ (vec_len words ≤ most_words) }
-        ensures none { IsNone result ↔ (most_words < vec_len words) }
-        ensures value { IfSome result (λ s. s ≡ record { label = label; ext = ext; words = words.items }) }
+    /// None where there are more than 256 data words. Up to [`SHORT`] of them are kept in the wordstring itself, which takes no memory, and
+    /// that of the `Vec` is given back. More stay in it, and its place takes one small block: where there is no memory for that, all the
+    /// words are given back.
+    pub fn new(
+        label: Label,
+        ext: Ext,
+        words: Vec<u16>,
+    ) -> Result<Option<Wordstring>, AllocFailed<Vec<u16>>>
+        ensures some { IfOk result (λ made. IsSome made ↔ (vec_len words ≤ most_words)) }
+        ensures none { IfOk result (λ made. IsNone made ↔ (most_words < vec_len words)) }
+        ensures value { IfOk result (λ made. IfSome made (λ s. s ≡ record { label = label; ext = ext; words = words.items })) }
+        ensures given_back { IfErr result (λ failed. failed.value ≡ words) }
+        ensures memory { IsErr result → (SHORT < vec_len words) × (vec_len words ≤ most_words) }
     {
         if words.len() > MOST_WORDS {
-            return None;
+            return Ok(None);
         }
         // The types of both keep their ranges, which are known from here on.
         let _ranges = (label.value(), ext.value());
         if words.len() <= SHORT {
             let count = words.len() as u8;
-            return Some(Wordstring::short(label, ext, count, in_front(&words)));
+            return Ok(Some(Wordstring::short(label, ext, count, in_front(&words))));
         }
-        let kept = long(*words.allocator(), label, ext, words);
-        Some(Wordstring { kept })
+        let kept = long(*words.allocator(), label, ext, words)?;
+        Ok(Some(Wordstring { kept }))
     }
 
     /// Of at most 256 data words. Up to [`SHORT`] of them take no memory, up to 48 one block of 96 bytes, and more what they need and the
@@ -159,7 +163,7 @@ impl Wordstring {
         let kept = if words.len() <= MIDDLE {
             middle(alloc, label, ext, words)?
         } else {
-            long(alloc, label, ext, Vec::from_slice(alloc, words)?)
+            long(alloc, label, ext, Vec::from_slice(alloc, words)?)?
         };
         Ok(Wordstring { kept })
     }
@@ -191,7 +195,6 @@ impl Wordstring {
             Kept::Short { label, .. } => *label,
             Kept::Middle { label, .. } => *label,
             Kept::Long { label, .. } => *label,
-            Kept::Left { label, .. } => *label,
         }
     }
 
@@ -204,7 +207,6 @@ impl Wordstring {
             Kept::Short { ext, .. } => *ext,
             Kept::Middle { ext, .. } => *ext,
             Kept::Long { ext, .. } => *ext,
-            Kept::Left { ext, .. } => *ext,
         }
     }
 
@@ -217,7 +219,6 @@ impl Wordstring {
             Kept::Short { count, words, .. } => &words[..*count as usize],
             Kept::Middle { count, words, .. } => &words[..*count as usize],
             Kept::Long { words, .. } => words,
-            Kept::Left { words, .. } => words,
         }
     }
 
@@ -230,7 +231,6 @@ impl Wordstring {
             Kept::Short { count, .. } => 1 + u32::from(*count),
             Kept::Middle { count, .. } => 1 + u32::from(*count),
             Kept::Long { words, .. } => 1 + words.len() as u32,
-            Kept::Left { words, .. } => 1 + words.len() as u32,
         }
     }
 
@@ -265,11 +265,6 @@ impl Wordstring {
                 label: *label,
                 ext: *ext,
                 words: Box::new(alloc, Vec::from_slice(alloc, words)?)?,
-            },
-            Kept::Left { label, ext, words } => Kept::Left {
-                label: *label,
-                ext: *ext,
-                words,
             },
         };
         Ok(Wordstring { kept })

@@ -9,6 +9,9 @@ pub mod TextLemmas
 pub mod AgainLemmas
 pub mod StepLemmas
 pub mod StopLemmas
+mod GoingLemmas
+mod SampleLemmas
+mod MayStandLaws
 pub mod AnswerLemmas
 pub mod RankLemmas
 pub mod KeyLemmas
@@ -23,6 +26,7 @@ pub mod OffsetLemmas
 pub mod CanonicalLemmas
 pub mod TurnLaws
 pub mod OffsetLaws
+pub mod PeriodicLaws
 pub mod FillingLaws
 mod FewNumbers
 pub mod PartLaws

@@ -14,11 +14,13 @@ pub mod Text
 pub mod Drafts
 pub mod Reading
 pub mod Stops
+pub mod GoingOn
 pub mod Gives
 pub mod Timers
 pub mod Turns
 pub mod Turned
 pub mod Filling
 pub mod Offsets
+pub mod Periodic
 pub mod Canonical
 pub mod inside

@@ -4,7 +4,7 @@
 --   at          the offset of a sender in bit times; 0 in aperiodic mode
 --   sends       the wordstrings of a sender's messages
 --   takes       what a terminal takes from the wordstrings of others
-use Rattle.std.specs.Prelude.{ℕ, List}
+use Rattle.std.specs.Prelude.{ℕ, List, map}
 use Rattle.bus_strings.specs.Messages.{Message}
 use Rattle.bus_table.specs.declared.mode.Mode.{Mode}
 pub use Rattle.bus_table.specs.declared.line.SendLine.{SendLine}
@@ -30,6 +30,10 @@ pub record Table : Type 0 where
   pub sg : ℕ
   pub senders : List Sender
   pub listeners : List Listener
+
+-- The numbers of the senders of a table, in table order.
+abbrev pub sender_numbers : Table → List ℕ
+sender_numbers table = map (λ sender. sender.number) table.senders
 
 -- What a terminal has to send: its messages, in the order of their starts.
 pub record Hand : Type 0 where

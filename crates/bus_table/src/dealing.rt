@@ -30,7 +30,7 @@ fn long_message(
     let mut k = 0;
     for words in strings {
         let line = sends[k];
-        wordstrings.push(Wordstring::new(line.label, line.ext, words).unwrap())?;
+        wordstrings.push(Wordstring::new(line.label, line.ext, words)?.unwrap())?;
         k += 1;
     }
     Ok(Message::new(wordstrings).unwrap())
@@ -50,7 +50,7 @@ fn message(
         return long_message(alloc, sends, strings);
     };
     let words = strings.pop().unwrap();
-    let string = Wordstring::new(line.label, line.ext, words).unwrap();
+    let string = Wordstring::new(line.label, line.ext, words)?.unwrap();
     Ok(Message::one(alloc, string))
 }
 

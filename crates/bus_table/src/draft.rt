@@ -163,7 +163,7 @@ impl Draft {
     ghost use Rattle.bus_text.specs.inside.Gives.{StepGives as FieldsGive};
     ghost use Rattle.bus_table.specs.inside.LineGives.{StepGives};
     ghost use Rattle.bus_table.specs.Reading.{step, table_of, judged};
-    ghost use Rattle.bus_table.specs.Stops.{coming, stop_at, stop_in};
+    ghost use Rattle.bus_table.specs.Stops.{stop_at, stop_in};
     ghost use Rattle.bus_table.specs.Valid.{is_in_range};
     ghost use Rattle.std.specs.Prelude.{IfOk};
 
@@ -287,21 +287,9 @@ impl Draft {
         }
     }
 
-    /// A keyword, where a line of it may come next.
-    fn coming(&self, keyword: Option<Keyword>) -> Option<Keyword>
-        ensures { result ≡ coming self.now keyword }
-    {
-        let keyword = keyword?;
-        if self.may_come(keyword) {
-            Some(keyword)
-        } else {
-            None
-        }
-    }
-
     /// Where the reading stops, at a line of this keyword.
-    pub fn stop(&self, keyword: Option<Keyword>) -> Stop
-        ensures { result ≡ stop_in self.now keyword }
+    pub fn stop(&self, word: Option<Keyword>) -> Stop
+        ensures { result ≡ stop_in self.now word }
     {
         let takes = last_takes(self.stage, &self.senders, &self.listeners);
         Stop::new(
@@ -309,7 +297,7 @@ impl Draft {
             last_sends(&self.senders),
             takes,
             self.mode,
-            keyword,
+            word,
         )
     }
 
@@ -318,7 +306,7 @@ impl Draft {
         ensures { IfOk result (λ stop. stop ≡ stop_at self.now (entry line.entry)) }
     {
         let fields = fields(alloc, line.bytes)?;
-        Ok(self.stop(self.coming(keyword_of(&fields))))
+        Ok(self.stop(keyword_of(&fields)))
     }
 
     /// Whether the text may end here.

@@ -9,6 +9,7 @@ ghost use Rattle.bus_table.specs.Canonical.{table_text};
 ghost use Rattle.bus_table.specs.Filling.{filling_message};
 ghost use Rattle.bus_table.specs.Fits.{fits, items_fit, is_shortest, is_longest};
 ghost use Rattle.bus_table.specs.Gives.{Refuses};
+ghost use Rattle.bus_table.specs.GoingOn.{WhatMayStandGoesOn};
 ghost use Rattle.bus_table.specs.Hands.{GiveHands};
 ghost use Rattle.bus_table.specs.Lengths.{shortest, longest};
 ghost use Rattle.bus_table.specs.Ranges.{is_sender};
@@ -66,4 +67,10 @@ pub fn filling_messages_fit()
 /// The canonical text of a valid table has no more bytes than a table text may have.
 pub fn canonical_text_is_short()
     ensures { (table : tables.Table) → IsTrue (is_valid table) → length (table_text table) ≤ 8388608 }
+{}
+
+/// What may stand where a text is refused is exactly what goes on: the keywords with which, at that line, the text of some table
+/// begins that is the same before it, and the end where such a text is one.
+pub fn what_may_stand_goes_on()
+    ensures { WhatMayStandGoesOn }
 {}

@@ -6,7 +6,7 @@
 //!   may stand there.
 //! - [`shortest`] and [`longest`] tell the lengths of a sender's messages, [`place`] who speaks after whom, [`greatest_gap`] the greatest
 //!   terminal gap.
-//! - [`with_offsets`] gives the senders of a periodic table other offsets.
+//! - [`with_offsets`] gives the senders of a periodic table other offsets, and [`as_periodic`] makes a periodic table of an aperiodic one.
 //! - [`fits`] holds the items of a messages text to the lines of their senders, and [`hands`] deals them out.
 //!   [`read_hands`] does both as it reads such a text.
 //!
@@ -17,8 +17,8 @@
 //! The definitions are in `specs/`: `Tables` (a table as plain numbers and lists), `Ranges`, `Whole` and `Valid` (which
 //! tables are valid), `Text` (which texts stand for which tables), `Forms`, `Drafts` and `Reading` (what a text reads as,
 //! line by line, and where and why it is refused), `Canonical` (the text that is written), `Lengths`, `Turns`, `Offsets`,
-//! `Fits`, `Hands` and `Dealt`. What callers may use of them beside the contracts are the `pub` modules of `proofs/`, and what they
-//! state in `specs/inside/Facts`.
+//! `Periodic`, `Fits`, `Hands` and `Dealt`. What callers may use of them beside the contracts are the `pub` modules of `proofs/`, and what
+//! they state in `specs/inside/Facts`.
 #![tactic(auto)]
 
 mod dealing;
@@ -38,6 +38,7 @@ mod line;
 mod listener;
 mod mode;
 mod offsets;
+mod periodic;
 mod places;
 pub mod ranges;
 mod reading;
@@ -63,10 +64,11 @@ pub use line::{SendLine, TakeLine};
 pub use listener::Listener;
 pub use mode::Mode;
 pub use offsets::with_offsets;
+pub use periodic::as_periodic;
 pub use reading::read_table;
 pub use saying::{put_fit_error, put_numbered, put_whole};
 pub use sender::Sender;
 pub use stop::{Stop, find_stop};
 pub use table::Table;
 pub use turns::{MOST_SENDERS, place, turn_at, turn_places};
-pub use writing::{put_mode, write_table};
+pub use writing::{put_mode, put_table, write_table};

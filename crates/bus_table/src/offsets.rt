@@ -24,7 +24,7 @@ fn moved(alloc: Global, senders: &[Sender], offsets: &[u32]) -> Result<Vec<Sende
 }
 
 /// Equal listeners, in order.
-fn copied(alloc: Global, listeners: &[Listener]) -> Result<Vec<Listener>, AllocError>
+pub(crate) fn copied(alloc: Global, listeners: &[Listener]) -> Result<Vec<Listener>, AllocError>
     ensures { IfOk result (λ made. made.items ≡ listeners.now) }
 {
     let mut made = Vec::with_capacity(alloc, listeners.len())?;

@@ -117,6 +117,13 @@ impl Sender {
         })
     }
 
+    /// An equal sender. Fails only where memory runs out.
+    pub(crate) fn copied(&self, alloc: Global) -> Result<Sender, AllocError>
+        ensures { IfOk result (λ sender. sender ≡ self.now) }
+    {
+        self.moved(alloc, self.at)
+    }
+
     /// Its terminal number: 1 to 128.
     pub fn number(&self) -> u8
         ensures value { result ≡ self.now.number }

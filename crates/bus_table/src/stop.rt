@@ -19,7 +19,7 @@ pub struct Stop {
     sends: usize,
     takes: usize,
     mode: Mode,
-    keyword: Option<Keyword>,
+    word: Option<Keyword>,
 }
 
 impl Model for Stop {
@@ -27,7 +27,7 @@ impl Model for Stop {
 
     ghost Value = { stops.Stop };
 
-    ghost view = { λ s. record { stage = s.stage; sends = s.sends; takes = s.takes; mode = s.mode; keyword = s.keyword } };
+    ghost view = { λ s. record { stage = s.stage; sends = s.sends; takes = s.takes; mode = s.mode; word = s.word } };
 }
 
 impl Stop {
@@ -40,16 +40,16 @@ impl Stop {
         sends: usize,
         takes: usize,
         mode: Mode,
-        keyword: Option<Keyword>,
+        word: Option<Keyword>,
     ) -> Stop
-        ensures { result ≡ (record { stage = stage; sends = sends; takes = takes; mode = mode; keyword = keyword }) }
+        ensures { result ≡ (record { stage = stage; sends = sends; takes = takes; mode = mode; word = word }) }
     {
         Stop {
             stage,
             sends,
             takes,
             mode,
-            keyword,
+            word,
         }
     }
 
@@ -62,9 +62,23 @@ impl Stop {
 
     /// The keyword of the line that is refused, where a line of this keyword may stand there; None at the end of the text.
     pub fn keyword(&self) -> Option<Keyword>
-        ensures { result ≡ self.now.keyword }
+        ensures { result ≡ stops.fitting self.now }
     {
-        self.keyword
+        match self.word {
+            Some(keyword) if self.may_stand(keyword) => Some(keyword),
+            _ => None,
+        }
+    }
+
+    /// The keyword of the line that is refused, where only the number of such lines bars it there: SEND where the sender has 31 of
+    /// them, TAKE where the terminal has 64.
+    pub fn spent(&self) -> Option<Keyword>
+        ensures { result ≡ stops.spent self.now }
+    {
+        match self.word {
+            Some(keyword) if self.is_spent(keyword) => Some(keyword),
+            _ => None,
+        }
     }
 
     /// Whether a line of a keyword may stand there.
@@ -72,6 +86,13 @@ impl Stop {
         ensures { result ≡ stops.may_stand self.now keyword }
     {
         may_follow(self.stage, self.sends, self.takes, keyword)
+    }
+
+    /// Whether only the number of such lines bars a line of a keyword there.
+    fn is_spent(&self, keyword: Keyword) -> bool
+        ensures { result ≡ stops.is_spent self.now keyword }
+    {
+        may_follow(self.stage, 0, 0, keyword) && !self.may_stand(keyword)
     }
 
     /// Whether the text may end there.

@@ -176,6 +176,15 @@ fn put_listeners<K: Sink>(text: &mut TextBuffer, sink: &mut K, listeners: &[List
     }
 }
 
+/// Puts the canonical text of a table.
+pub fn put_table<K: Sink>(text: &mut TextBuffer, sink: &mut K, table: &Table)
+    ensures { Adds K.held K.faults sink.old sink.new text.old text.new (table_text table.now) }
+{
+    put_head(text, sink, table.mode(), table.ti(), table.sg());
+    put_senders(text, sink, table.mode(), table.senders());
+    put_listeners(text, sink, table.listeners());
+}
+
 /// Writes the canonical text of a table: no skipped lines, one space between fields, hexadecimal digits in capitals. It
 /// takes no memory. [`WriteFault`] comes only where the sink failed, which then has taken a front of the text.
 pub fn write_table<K: Sink>(table: &Table, sink: &mut K) -> Result<(), WriteFault>
@@ -185,9 +194,8 @@ pub fn write_table<K: Sink>(table: &Table, sink: &mut K) -> Result<(), WriteFaul
     // So it reads as this table.
     ensures read { answer_of (table_text table.now) ≡ Ok table.now }
 {
+    let _valid = table.mode();
     let mut text = TextBuffer::new();
-    put_head(&mut text, sink, table.mode(), table.ti(), table.sg());
-    put_senders(&mut text, sink, table.mode(), table.senders());
-    put_listeners(&mut text, sink, table.listeners());
+    put_table(&mut text, sink, table);
     text.finish(sink)
 }

@@ -21,8 +21,8 @@ use Rattle.bus_command.specs.Kinds.{Answer, kind_of, stage_of}
 use Rattle.bus_command.specs.Stages.{stage_in}
 use Rattle.bus_command.proofs.StageLaws.{stage_with, then_stage}
 use Rattle.bus_tool.specs.Due.{verdict_outcome, plan_outcome, audit_outcome, table_answer, messages_answer}
-use Rattle.bus_tool.specs.Due.{even_due, accepted_due, short_due, last_due, may_run, can_run, may_drop, can_drop}
-use Rattle.bus_tool.specs.Forms.{TableCommand, Check, Tolerance, Tidy, Report, Witness, Plan, MessagesCommand, Observe, Run, Drop}
+use Rattle.bus_tool.specs.Due.{even_due, accepted_due, short_due, last_due, may_run, can_run, can_schedule, may_drop, can_drop}
+use Rattle.bus_tool.specs.Forms.{TableCommand, Check, Tolerance, Tidy, Report, Witness, Plan, MessagesCommand, Observe, Run, Drop, Schedule}
 use Rattle.bus_tool.specs.Refusals.{Outcome, refuse, NotAccepted, ShortLast, TooLong}
 
 -- ---- the answers
@@ -75,6 +75,10 @@ run_stage table hands =
     (then_stage 3 (even_due (uneven_of table hands)) (λ _. accepted_due (verdict_of table)) (even_stage (uneven_of table hands)) (λ _. accepted_stage (verdict_of table)))
     (λ _. short_stage (closed_end table hands))
 
+schedule_stage : (table : Table) (hands : List Hand) → 3 ≤ stage_in (can_schedule table hands)
+schedule_stage table hands =
+    then_stage 3 (even_due (uneven_of table hands)) (λ _. short_due (closed_end table hands)) (even_stage (uneven_of table hands)) (λ _. short_stage (closed_end table hands))
+
 drop_stage : (table : Table) (hands : List Hand) → 3 ≤ stage_in (can_drop table hands)
 drop_stage table hands =
     then_stage 3 (may_drop table hands) (λ _. short_due (drop_end table hands))
@@ -91,6 +95,7 @@ pub messages_late : (command : MessagesCommand) (table : Table) (hands : List Ha
 messages_late (Observe horizon) table hands = omega arith
 messages_late Run table hands = stage_with 2 done_with (omega arith) done_late (can_run table hands) (let s = run_stage table hands in omega (arith, s))
 messages_late Drop table hands = stage_with 2 done_with (omega arith) done_late (can_drop table hands) (let s = drop_stage table hands in omega (arith, s))
+messages_late Schedule table hands = stage_with 2 done_with (omega arith) done_late (can_schedule table hands) (let s = schedule_stage table hands in omega (arith, s))
 
 -- ---- ends of schedules
 pub short_end : (end : ℕ) → end ≤ longest_end → short_due end ≡ Ok tt

@@ -129,7 +129,7 @@ module _ (table : Table) (cable : Cable) (hands : List Hand) (horizon : ℕ) (li
 
   plain_is_lawful : NoDelayIsTheBus → IsLawful (quiet_of table) (stations_of table hands) horizon list
   plain_is_lawful none =
-      (none (quiet_of table) at_once (wakes_on cable) (stations_of table hands) horizon list (record { own = λ x. refl; within = λ x number. omega arith })
+      (none (quiet_of table) at_once (wakes_on cable) (stations_of table hands) horizon list (record { own = λ x. refl; within = λ number i x j. omega arith })
       (λ station there. ap (wakes_on cable) (seat station there).is.number ∙ plain.wakes (seat station there).sender (seat station there).there)).0
       (lawful_at_once (quiet_of table) (delays_on cable) (wakes_on cable) (stations_of table hands) horizon list
       (λ station there. heard_at_once (delays_on cable) station.number list (no_delay station there)) lawful)

@@ -19,15 +19,15 @@ use Rattle.bus_command.proofs.ActLaws.{DueHasCause}
 use Rattle.bus_command.proofs.ReadLemmas.{CauseLaws, table_cause, table_valid, items_cause, items_read, inputs_read, inputs_stop, trace_cause, traced_stop}
 use Rattle.bus_tool.specs.Acts.{tool_program}
 use Rattle.bus_tool.specs.Causes.{Cause, DifferAs, IsRefusal, IsShortLast, IsLongEnd}
-use Rattle.bus_tool.specs.Due.{table_for, verdict_outcome, plan_outcome, can_run, can_drop, unwave_due, wave_trace_due}
+use Rattle.bus_tool.specs.Due.{table_for, verdict_outcome, plan_outcome, can_run, can_drop, can_schedule, unwave_due, wave_trace_due}
 use Rattle.bus_tool.specs.Due.{table_answer, inputs_answer, traced_answer, unwave_answer}
 use Rattle.bus_tool.proofs.ExplainLemmas.{explain_cause}
-use Rattle.bus_tool.specs.Forms.{Form, OnTable, OnMessages, OnTrace, Unwave, Drill, OnItself, Explain, Cable, TableCommand, Check, Tolerance, Tidy, Report, Witness, Plan}
-use Rattle.bus_tool.specs.Forms.{MessagesCommand, Observe, Run, Drop, table_mode, messages_mode}
+use Rattle.bus_tool.specs.Forms.{Form, OnTable, OnMessages, OnTrace, Unwave, Drill, OnItself, Explain, Facts, Cable, TableCommand, Check, Tolerance, Tidy, Report, Witness, Plan}
+use Rattle.bus_tool.specs.Forms.{MessagesCommand, Observe, Run, Drop, Schedule, table_mode, messages_mode}
 use Rattle.bus_tool.specs.Refusals.{Outcome, ToolRefusal}
 use Rattle.bus_tool.proofs.AnswerLaws.{done_with}
 use Rattle.bus_tool.proofs.ModeLemmas.{mode_read, mode_cause}
-use Rattle.bus_tool.proofs.RunCauses.{NotRun, Differ, Refused, Longer, run_err, NotDropped, Undropped, Shorter, Overlong, drop_err}
+use Rattle.bus_tool.proofs.RunCauses.{NotRun, Differ, Refused, Longer, run_err, NotDropped, Undropped, Shorter, Overlong, drop_err, NotScheduled, Odd, Endless, schedule_err}
 use Rattle.bus_tool.proofs.TraceAnswers.{trace_answer_cause}
 use Rattle.bus_tool.proofs.WaveLemmas.{wave_cause}
 use Rattle.bus_tool.specs.Due.{cable_answer, cable_due}
@@ -84,7 +84,7 @@ not_run laws first second inputs o h (Refused why e) =
 not_run laws first second inputs o h (Longer even accepted why e) =
     subst (λ r. RefusesTexts (Cause (OnMessages Run)) r first second) (sym e)
     (texts_with laws Run (IsLongEnd (OnMessages Run) (closed_end inputs.table (hands_in inputs))) first second inputs h
-    (record { accepted = accepted; end_is = (even, refl); above = why }))
+    (record { end_is = (accepted, (even, refl)); above = why }))
 
 aperiodic : (first second : List ℕ) (inputs : Inputs) → inputs_by (table_for (messages_mode Drop)) first second ≡ Ok inputs → inputs.table.mode ≡ Aperiodic
 aperiodic first second inputs h =
@@ -102,7 +102,16 @@ not_dropped laws first second inputs o h (Shorter accepted least is less e) =
 not_dropped laws first second inputs o h (Overlong accepted long why e) =
     subst (λ r. RefusesTexts (Cause (OnMessages Drop)) r first second) (sym e)
     (texts_with laws Drop (IsLongEnd (OnMessages Drop) (drop_end inputs.table (hands_in inputs))) first second inputs h
-    (record { accepted = accepted; end_is = (aperiodic first second inputs h, long, refl); above = why }))
+    (record { end_is = (accepted, (aperiodic first second inputs h, long, refl)); above = why }))
+
+not_scheduled : CauseLaws → (first second : List ℕ) (inputs : Inputs) (o : Outcome) → inputs_by (table_for (messages_mode Schedule)) first second ≡ Ok inputs
+    → NotScheduled inputs.table (hands_in inputs) o → RefusesTexts (Cause (OnMessages Schedule)) o first second
+not_scheduled laws first second inputs o h (Odd uneven why e) =
+    subst (λ r. RefusesTexts (Cause (OnMessages Schedule)) r first second) (sym e) (texts_with laws Schedule (DifferAs uneven) first second inputs h why)
+not_scheduled laws first second inputs o h (Endless even why e) =
+    subst (λ r. RefusesTexts (Cause (OnMessages Schedule)) r first second) (sym e)
+    (texts_with laws Schedule (IsLongEnd (OnMessages Schedule) (closed_end inputs.table (hands_in inputs))) first second inputs h
+    (record { end_is = (even, refl); above = why }))
 
 -- what was asked of the inputs was refused, or they are answered
 messages_answer_cause : CauseLaws → (command : MessagesCommand) (first second : List ℕ) (inputs : Inputs)
@@ -115,6 +124,9 @@ messages_answer_cause laws Run first second inputs h =
 messages_answer_cause laws Drop first second inputs h =
     due_or (λ o. RefusesTexts (Cause (OnMessages Drop)) o first second) done_with (can_drop inputs.table (hands_in inputs)) (inputs_answer Drop inputs)
     (λ u e. tt) (λ e. not_dropped laws first second inputs (inputs_answer Drop inputs) h (drop_err inputs.table (hands_in inputs) (inputs_answer Drop inputs) e)) refl
+messages_answer_cause laws Schedule first second inputs h =
+    due_or (λ o. RefusesTexts (Cause (OnMessages Schedule)) o first second) done_with (can_schedule inputs.table (hands_in inputs)) (inputs_answer Schedule inputs)
+    (λ u e. tt) (λ e. not_scheduled laws first second inputs (inputs_answer Schedule inputs) h (schedule_err inputs.table (hands_in inputs) (inputs_answer Schedule inputs) e)) refl
 
 inputs_cause : CauseLaws → (command : MessagesCommand) (first second : List ℕ) (o : Outcome)
     → inputs_by (table_for (messages_mode command)) first second ≡ Err o → RefusesTexts (Cause (OnMessages command)) o first second
@@ -154,7 +166,8 @@ due_has_cause laws back cables (OnTrace command) first second o h =
 due_has_cause laws back cables Unwave first second o h =
     due_or (λ o. RefusesTexts (Cause Unwave) o first second) unwave_answer (unwave_due first second) o (λ traced e. tt)
     (λ e. unwave_cause laws back first second o e) h
-due_has_cause laws back cables Explain first second o h = explain_cause first second o h
+due_has_cause laws back cables Explain first second o h = explain_cause Explain first second o h
+due_has_cause laws back cables Facts first second o h = explain_cause Facts first second o h
 due_has_cause laws back cables (OnItself about) first second o h = subst (λ o. RefusesTexts (Cause (OnItself about)) o first second) h tt
 due_has_cause laws back cables (Drill number) first second o h = subst (λ o. RefusesTexts (Cause (Drill number)) o first second) h tt
 due_has_cause laws back cables (Cable horizon) first second o h =

@@ -45,7 +45,7 @@ message_lines : (items : List Item) (lines : List Line) → AreMessageLines item
 message_lines items [] h = absurd h
 message_lines items (line ∷ lines) h = (let same = item_lines items lines h.1 in omega (arith, same))
 
-few_items : (items : List Item) (text : List ℕ) → IsMessagesText items text → length items ≤ length text
+pub few_items : (items : List Item) (text : List ℕ) → IsMessagesText items text → length items ≤ length text
 few_items items text h =
     let lines = message_lines items (entries_of text) h in
     let bytes = length-entries_of-le text in
@@ -73,7 +73,7 @@ item_line (other ∷ items) (line ∷ lines) item h (inl same) = (line, subst (�
 item_line (other ∷ items) (line ∷ lines) item h (inr i) = item_line items lines item h.1 i
 
 -- the lines of the items of a messages text
-message_items : (items : List Item) (lines : List Line) → AreMessageLines items lines → (own : List Line) × AreItemLines items own
+pub message_items : (items : List Item) (lines : List Line) → AreMessageLines items lines → (own : List Line) × AreItemLines items own
 message_items items [] h = absurd h
 message_items items (line ∷ lines) h = (lines, h.1)
 
@@ -145,25 +145,45 @@ wordstrings table items lines message valid stands made =
     subst (AllByRecursion IsWordstring) (sym made.same)
     (each_string made.sender.sends made.item.strings sends.1 (item_short made.item line.1.ranges) (strings_low made.item.strings line.1.words line.1.strings))
 
+-- a transmission of a message of a sender's hand
+pub record IsOfHand (table : Table) (hands : List Hand) (x : Entry) : Type 0 where
+  pub sender : Sender
+  pub there : In sender table.senders
+  pub number : x.terminal ≡ sender.number
+  pub hand : Hand
+  pub dealt : In hand hands
+  pub fit : list_all (fits sender) hand.messages ≡ true
+  pub message : In x.message hand.messages
+
+pub of_hand : (table : Table) (items : List Item) (lines : List Line) (x : Entry) → IsTrue (is_valid table) → AreItemLines items lines → IsOfHand table (hands_of table items) x → IsTransmission x
+of_hand table items lines x valid stands h =
+    let facts = in_range table valid h.sender h.there in
+    let count = counted h.sender.sends (sends_in_range h.sender facts.in_range) in
+    let same = same_count allows h.sender.sends x.message (pass_in (fits h.sender) h.hand.messages x.message h.fit h.message) in
+    record {
+      positive = omega (arith, h.number, facts.number_least);
+      low = omega (arith, h.number, facts.number_most);
+      message = record {
+        some = omega (arith, same, count.least);
+        few = omega (arith, same, count.most);
+        strings = wordstrings table items lines x.message valid stands (made_of table items h.hand x.message h.dealt h.message);
+      };
+    }
+
 is_transmission : (due : List Entry → Station → ℕ → Type 0) (table : Table) (items : List Item) (lines : List Line) (until : ℕ) (list : List Entry) → IsTrue (is_valid table) → IsTrue (are_hands table.senders (hands_of table items)) → AreItemLines items lines
     → IsRuled due (stations_of table (hands_of table items)) until list → (x : Entry) → In x list → IsTransmission x
 is_transmission due table items lines until list valid dealt stands lawful x i =
     let next = (lawful.sent x i).1 in
     let seat : HasSender table (hands_of table items) next.sender = stations_are_of_senders table (hands_of table items) next.sender valid dealt next.there in
-    let facts = in_range table valid seat.sender seat.there in
-    let there : In x.message seat.is.hand.messages = subst (In x.message) seat.is.messages (at_in next.sender.hand _ x.message next.message) in
-    let count = counted seat.sender.sends (sends_in_range seat.sender facts.in_range) in
-    let same = same_count allows seat.sender.sends x.message (pass_in (fits seat.sender) seat.is.hand.messages x.message seat.is.fit there) in
-    let number : x.terminal ≡ seat.sender.number = sym next.number ∙ seat.is.number in
-    record {
-      positive = omega (arith, number, facts.number_least);
-      low = omega (arith, number, facts.number_most);
-      message = record {
-        some = omega (arith, same, count.least);
-        few = omega (arith, same, count.most);
-        strings = wordstrings table items lines x.message valid stands (made_of table items seat.is.hand x.message seat.is.dealt there);
-      };
-    }
+    of_hand table items lines x valid stands (record {
+      sender = seat.sender;
+      there = seat.there;
+      number = sym next.number ∙ seat.is.number;
+      hand = seat.is.hand;
+      dealt = seat.is.dealt;
+      fit = seat.is.fit;
+      message = subst (In x.message) seat.is.messages (at_in next.sender.hand _ x.message next.message);
+    })
 
 -- ---- the recording of what is observed is a trace
 pub all_transmissions : (due : List Entry → Station → ℕ → Type 0) (table : Table) (items : List Item) (lines : List Line) (until : ℕ) (list : List Entry) → IsTrue (is_valid table)

@@ -3,20 +3,28 @@ use Rattle.std.specs.Prelude.{◌≡◌, ℕ, ◌≤◌, Bool, true, false, nat_
 use Rattle.std.specs.declared.alloc.Global.{Global}
 use Rattle.std.proofs.Common.{arith, cond, refl, sym, ap, ◌∙◌, subst}
 use Rattle.bus_table.specs.declared.error.TableError.{TableError}
+use Rattle.bus_strings.specs.Members.{In}
+use Rattle.bus_table.specs.GoingOn.{WhatMayStandGoesOn}
 use Rattle.bus_table.specs.Reading.{answer_of}
 use Rattle.bus_table.specs.Tables.{Table}
 use Rattle.bus_table.specs.Valid.{is_valid}
 use Rattle.bus_table.specs.declared.mode.Mode.{Mode}
 use Rattle.bus_table.specs.declared.mode.Mode.TheVariants.{Aperiodic, Periodic}
+use Rattle.bus_reach.specs.Colliding.{SomeNeverPart}
+use Rattle.bus_regime.specs.Gaps.{Gap, gaps}
+use Rattle.bus_regime.specs.Starting.{starts_itself}
 use Rattle.bus_regime.specs.Verdicts.{verdict_of, is_accepted}
+use Rattle.std.proofs.lemmas.Bool.{and_parts}
+use Rattle.bus_schedule.specs.Laws.{AcceptedIsClosed, GapsAreLeft, ShortCyclesStartEarly}
 use Rattle.bus_regime.specs.declared.table_verdict.TableVerdict.{TableVerdict}
 use Rattle.bus_regime.specs.declared.table_verdict.TableVerdict.TheVariants.{Accept, ShortCycle, SmallGap, NoSync}
-use Rattle.bus_advice.specs.Advices.{advices_of}
-use Rattle.bus_advice.specs.Laws.{AdvicesWork, NoneMissing}
+use Rattle.bus_advice.specs.declared.advice.Advice.TheVariants.{Start}
+use Rattle.bus_advice.specs.Advices.{works}
+use Rattle.bus_advice.specs.Changes.{with_interval}
+use Rattle.bus_advice.specs.Laws.{AdvicesWork, NoneMissing, NoStartMissing, StartWorks}
 use Rattle.bus_explain.specs.Accepted.{IsAcceptedWith}
 use Rattle.bus_explain.specs.Figures.{spare}
-use Rattle.bus_explain.specs.Laws.{IsSpare, SpareIsFall, SpareIsRise}
-use Rattle.bus_explain.specs.Refused.{refused_text}
+use Rattle.bus_explain.specs.Laws.{GapsAreTold, IsSpare, LoadIsOfLongestCycle, SpareIsFall, SpareIsRise}
 use Rattle.bus_outer.specs.declared.sink.Sink.{Ghosts as SinkGhosts}
 use Rattle.bus_command.specs.declared.outcome.Outcome.TheVariants.{Answered, TooLarge}
 use Rattle.bus_command.specs.Acts.{Ends}
@@ -33,13 +41,14 @@ use Rattle.bus_command.proofs.TextLemmas.{short_text}
 use Rattle.bus_tool.specs.Acts.{tool_program, Acts}
 use Rattle.bus_tool.specs.Causes.{Cause}
 use Rattle.bus_tool.specs.Due.{text_outcome, verdict_outcome, explain_answer}
-use Rattle.bus_tool.specs.ExplainClaims.{IsExplainOf, GivesExplanation}
-use Rattle.bus_tool.specs.Explanations.{answer_explained, explanation, table_explained, verdict_explained}
-use Rattle.bus_tool.specs.Forms.{Explain, form_of}
+use Rattle.bus_tool.specs.ExplainClaims.{IsExplainOf, ExplainsAccepted, AdvisesRefused, GivesExplanation, StartsBehind}
+use Rattle.bus_tool.specs.Explanations.{answer_explained, explanation, refused_as, table_explained, verdict_explained}
+use Rattle.bus_tool.specs.Forms.{Form, Explain, form_of}
 use Rattle.bus_tool.specs.Refusals.{Outcome, ToolRefusal, ends_of, status_of}
 use Rattle.bus_tool.specs.Texts.{IsExplanation}
 use Rattle.bus_tool.proofs.AnswerLaws.{written_verdict}
-use Rattle.bus_tool.proofs.ToleranceClaim.{ToleranceLaws, tells}
+use Rattle.bus_tool.specs.ToleranceClaims.{SettlesFromAnyStart}
+use Rattle.bus_tool.proofs.ToleranceClaim.{ToleranceLaws, starts_from, tells}
 
 -- an answer is written of each text
 written_text : (answer : Result Table TableError) → kind_of (text_outcome answer) ≡ Answer
@@ -71,7 +80,7 @@ table_ends ghosts table verdict old new o is ends =
 -- and of a refusing one
 pub refused_ends : {K : Type 0} (ghosts : SinkGhosts K) (table : Table) (verdict : TableVerdict) (old new : K) (o : Outcome) → verdict ≡ verdict_of table
     → is_accepted verdict ≡ false
-    → Ends (one_source entire) Answered (λ text. text ≡ refused_text verdict (advices_of table)) (sink_seen ghosts old) (sink_seen ghosts new) o
+    → Ends (one_source entire) Answered (λ text. text ≡ refused_as verdict table) (sink_seen ghosts old) (sink_seen ghosts new) o
     → Ends (one_source entire) (verdict_outcome (verdict_of table)) (λ text. text ≡ table_explained table) (sink_seen ghosts old) (sink_seen ghosts new) o
 refused_ends ghosts table (Accept mode least most) old new o is no' ends = absurd cc
 refused_ends ghosts table (ShortCycle least ti) old new o is no' ends = table_ends ghosts table (ShortCycle least ti) old new o is ends
@@ -87,22 +96,22 @@ answer_ends ghosts text answer old new o is ends =
     (sym is) ends
 
 -- ---- its cause
-verdict_cause : (verdict : TableVerdict) (first second : List ℕ) → RefusesTexts (Cause Explain) (verdict_outcome verdict) first second
-verdict_cause (Accept mode least most) first second = tt
-verdict_cause (ShortCycle least ti) first second = tt
-verdict_cause (SmallGap terminal gap needed) first second = tt
-verdict_cause (NoSync terminal gap needed) first second = tt
+verdict_cause : (form : Form) (verdict : TableVerdict) (first second : List ℕ) → RefusesTexts (Cause form) (verdict_outcome verdict) first second
+verdict_cause form (Accept mode least most) first second = tt
+verdict_cause form (ShortCycle least ti) first second = tt
+verdict_cause form (SmallGap terminal gap needed) first second = tt
+verdict_cause form (NoSync terminal gap needed) first second = tt
 
-answer_cause : (answer : Result Table TableError) (first second : List ℕ) → RefusesTexts (Cause Explain) (text_outcome answer) first second
-answer_cause (Ok table) first second = verdict_cause (verdict_of table) first second
-answer_cause (Err error) first second = tt
+answer_cause : (form : Form) (answer : Result Table TableError) (first second : List ℕ) → RefusesTexts (Cause form) (text_outcome answer) first second
+answer_cause form (Ok table) first second = verdict_cause form (verdict_of table) first second
+answer_cause form (Err error) first second = tt
 
-pub explain_cause : (first second : List ℕ) (o : Outcome) → outcome_with explain_answer (text_due 1 first) ≡ o → RefusesTexts (Cause Explain) o first second
-explain_cause first second o h =
-    subst (λ o. RefusesTexts (Cause Explain) o first second) h
-    (elim (nat_lt text_limit (length first)) as (λ b. RefusesTexts (Cause Explain) (outcome_with explain_answer (cond b (Err (TooLarge 1)) (Ok first))) first second) [
+pub explain_cause : (form : Form) (first second : List ℕ) (o : Outcome) → outcome_with explain_answer (text_due 1 first) ≡ o → RefusesTexts (Cause form) o first second
+explain_cause form first second o h =
+    subst (λ o. RefusesTexts (Cause form) o first second) h
+    (elim (nat_lt text_limit (length first)) as (λ b. RefusesTexts (Cause form) (outcome_with explain_answer (cond b (Err (TooLarge 1)) (Ok first))) first second) [
       | true ↦ tt
-      | false ↦ answer_cause (answer_of first) first second
+      | false ↦ answer_cause form (answer_of first) first second
     ])
 
 -- only its size is refused
@@ -117,14 +126,60 @@ size_unwritten first o h = large_only (nat_lt text_limit (length first)) first o
 pub record ExplainLaws : Type 0 where
   pub works : AdvicesWork
   pub whole : NoneMissing
+  pub started : NoStartMissing
+  pub never : SomeNeverPart
   pub rise : SpareIsRise
   pub fall : SpareIsFall
+  pub load : LoadIsOfLongestCycle
+  pub gaps : GapsAreTold
+  pub left : GapsAreLeft
+  pub runs : AcceptedIsClosed
+  pub early : ShortCyclesStartEarly
+  pub stops : WhatMayStandGoesOn
   pub reach : ToleranceLaws
+
+-- a sender starts behind the gap that is told of it
+behind : ExplainLaws → (table : Table) (gap : Gap) → IsTrue (is_valid table) → table.mode ≡ Periodic → IsTrue (is_accepted (verdict_of table)) → In gap (gaps table)
+    → StartsBehind table gap
+behind laws table gap valid mode accepted i =
+    let told = (laws.gaps table valid mode accepted).1 gap i in
+    let lasts = told.lasts in record {
+      told = told;
+      left = λ hands k x y even first second number.
+          let left = laws.left table hands k x y gap valid mode even first second i number in omega (arith, left, lasts);
+    }
 
 spare_in : ExplainLaws → (mode : Mode) (table : Table) (least most : ℕ) → table.mode ≡ mode → IsTrue (is_valid table) → IsAcceptedWith table least most
     → IsSpare mode table (spare table least)
 spare_in laws Aperiodic table least most is valid accepted = laws.rise table least most is accepted
 spare_in laws Periodic table least most is valid accepted = laws.fall table least most valid is accepted
+
+-- with the interval of an advice to start the table is one of which order comes about
+settles_with : ExplainLaws → (table : Table) (ti : ℕ) → StartWorks table ti → SettlesFromAnyStart (with_interval ti table)
+settles_with laws table ti start =
+    let both = and_parts (works (with_interval ti table)) (starts_itself (with_interval ti table)) start.helps in
+    let valid = (and_parts (is_valid (with_interval ti table)) _ both.0).0 in
+    starts_from laws.reach (with_interval ti table) valid (start.aperiodic, both.1)
+
+pub tells_accepted : ExplainLaws → (table : Table) → IsTrue (is_valid table) → IsTrue (is_accepted (verdict_of table)) → ExplainsAccepted table
+tells_accepted laws table valid accepted = record {
+  runs = λ hands even. laws.runs table hands valid accepted even;
+  spare = λ least most is. spare_in laws table.mode table least most refl valid is;
+  load = λ least most is. laws.load table least most valid is;
+  gaps = λ mode gap i. behind laws table gap valid mode accepted i;
+  tolerance = tells laws.reach table valid accepted;
+  collides = λ mode never. laws.never table valid mode never;
+  work = λ advice is. laws.works table advice valid is;
+  settles = λ ti is. settles_with laws table ti (laws.works table (Start ti) valid is);
+  whole = laws.started table valid accepted;
+}
+
+pub tells_refused : ExplainLaws → (table : Table) → IsTrue (is_valid table) → is_accepted (verdict_of table) ≡ false → AdvisesRefused table
+tells_refused laws table valid refused = record {
+  early = λ mode. laws.early table valid mode refused;
+  work = λ advice is. laws.works table advice valid is;
+  whole = laws.whole table valid refused;
+}
 
 pub explain_claim : ExplainLaws → (call : Call) (outcome : Outcome) (text : List ℕ) → Acts call outcome → IsExplainOf text call
     → GivesExplanation text call (status_of outcome)
@@ -133,12 +188,7 @@ explain_claim laws call outcome text acts h = record {
       text [] text (λ written. written ≡ explanation text) call outcome (at_one entire call.before.sources text h.told)
       (short_text {R = ToolRefusal} text_limit 1 text h.short) (explained text) (λ written is. is)
       (does_of tool_program call outcome Explain (ap form_of h.form.form) acts) h.undisturbed;
-  accepted = λ table valid accepted. record {
-    spare = λ least most is. spare_in laws table.mode table least most refl valid is;
-    tolerance = tells laws.reach table valid accepted;
-  };
-  refused = λ table valid refused. record {
-    work = λ advice is. laws.works table advice valid is;
-    whole = laws.whole table valid refused;
-  };
+  accepted = λ table valid accepted. tells_accepted laws table valid accepted;
+  refused = λ table valid refused. tells_refused laws table valid refused;
+  unread = λ refusal is. laws.stops text refusal is;
 }

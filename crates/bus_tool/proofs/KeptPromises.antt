@@ -36,12 +36,15 @@ use Rattle.bus_tool.proofs.AnswerLaws.{written_audit}
 use Rattle.bus_tool.proofs.CableClaim.{CableClaimLaws, cable_claim}
 use Rattle.bus_tool.proofs.CheckClaim.{told_settled}
 use Rattle.bus_tool.proofs.ExplainLemmas.{ExplainLaws, explain_claim}
+use Rattle.bus_tool.proofs.FactsLemmas.{facts_claim}
+use Rattle.bus_reach.specs.Limits.{LimitsTellBearing}
 use Rattle.bus_tool.proofs.DropClaim.{drop_claim}
 use Rattle.bus_tool.proofs.GroupClaims.{table_comes, trace_comes}
 use Rattle.bus_tool.proofs.ObserveClaim.{observe_claim}
 use Rattle.bus_tool.proofs.PlanClaim.{PlanLaws, plan_claim}
 use Rattle.bus_tool.proofs.RunClaim.{run_claim}
-use Rattle.bus_tool.proofs.ToleranceClaim.{tells}
+use Rattle.bus_tool.proofs.ScheduleClaim.{ScheduleLaws, schedule_claim}
+use Rattle.bus_tool.proofs.ToleranceClaim.{tells, tolerance_is}
 use Rattle.bus_tool.specs.ToleranceClaims.{GivesTolerance}
 use Rattle.bus_tool.proofs.WaveClaim.{WaveLaws, wave_claim, unwave_claim}
 
@@ -61,7 +64,9 @@ pub record PromiseLaws : Type 0 where
   pub two : ListsAreFixedByTwo
   pub voted : RunsAreVoted
   pub explained : ExplainLaws
+  pub limits : LimitsTellBearing
   pub cables : CableClaimLaws
+  pub scheduled : ScheduleLaws
 
 -- ---- `drill`
 drill_form : (word : List ℕ) (number : ℕ) → IsDecimal word number → number ≤ most_number → two_words (codes "drill") word ≡ Some (Drill number)
@@ -103,7 +108,7 @@ check_claim laws call outcome table acts h =
 tolerance_claim : PromiseLaws → (call : Call) (outcome : Outcome) (table : Table) → Acts call outcome → IsOfTable (codes "tolerance") table call
     → GivesTolerance table call (status_of outcome)
 tolerance_claim laws call outcome table acts h = record {
-  gives = table_comes laws.plan.texts Tolerance (codes "tolerance") call outcome table _ (λ path. refl) tt (λ text is. is) acts h;
+  gives = table_comes laws.plan.texts Tolerance (codes "tolerance") call outcome table _ (λ path. refl) tt (tolerance_is table) acts h;
   tells = λ accepted. tells laws.explained.reach table h.table_told.valid accepted;
 }
 
@@ -138,12 +143,14 @@ keeps laws call outcome acts = record {
   observe = λ table items until h. observe_claim laws.plan.texts laws.give_hands laws.one_list call outcome table items until acts h;
   run = λ table items h. run_claim laws.plan.texts laws.give_hands laws.even_agree call outcome table items acts h;
   drop = λ table items h. drop_claim laws.plan.texts laws.give_hands call outcome table items acts h;
+  schedule = λ table items h. schedule_claim laws.plan.texts laws.scheduled call outcome table items acts h;
   receive = λ table trace h. trace_comes laws.plan.texts Receive (codes "receive") call outcome table trace (λ a b. refl) refl acts h;
   audit = λ table trace h. audit_claim laws call outcome table trace acts h;
   vote = λ table trace h. vote_claim laws call outcome table trace acts h;
   wave = λ table trace h. wave_claim laws.wave call outcome table trace acts h;
   unwave = λ table trace h. unwave_claim laws.wave call outcome table trace acts h;
   explain = λ text h. explain_claim laws.explained call outcome text acts h;
+  facts = λ text h. facts_claim laws.explained laws.limits call outcome text acts h;
   cable = λ table cable items until h. cable_claim laws.cables call outcome table cable items until acts h;
   itself = λ about h. itself_claim call outcome about acts h;
 }

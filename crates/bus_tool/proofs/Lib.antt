@@ -15,6 +15,7 @@ pub mod ModeLemmas
 pub mod WaveLemmas
 pub mod RunLemmas
 pub mod DropLemmas
+pub mod ScheduleLemmas
 pub mod RunCauses
 pub mod CauseLemmas
 pub mod AnswerLemmas
@@ -24,10 +25,12 @@ pub mod CheckClaim
 pub mod PlanClaim
 pub mod ToleranceLemmas
 pub mod ExplainLemmas
+pub mod FactsLemmas
 pub mod ToleranceClaim
 pub mod ObserveClaim
 pub mod RunClaim
 pub mod DropClaim
+pub mod ScheduleClaim
 pub mod WaveClaim
 pub mod CableLemmas
 pub mod CableClaim

@@ -13,7 +13,7 @@ use Rattle.bus_schedule.specs.Uneven.{uneven_of}
 use Rattle.bus_schedule.specs.declared.uneven.Uneven.{Uneven as UnevenHands}
 use Rattle.bus_command.specs.Kinds.{kind_of, is_answer}
 use Rattle.bus_command.proofs.ReadLemmas.{bind_err}
-use Rattle.bus_tool.specs.Due.{uneven_refusal, even_due, accepted_due, short_due, last_due, may_run, can_run, may_drop, can_drop}
+use Rattle.bus_tool.specs.Due.{uneven_refusal, even_due, accepted_due, short_due, last_due, may_run, can_run, can_schedule, may_drop, can_drop}
 use Rattle.bus_tool.specs.Refusals.{Outcome, refuse, NotAccepted, ShortLast, TooLong}
 use Rattle.bus_tool.proofs.AnswerLaws.{last_long}
 
@@ -99,6 +99,28 @@ run_err table hands o h = elim (bind_err (may_run table hands) (λ _. short_due 
       Longer (even_ok (uneven_of table hands) two.0 two.1) (accepted_ok (verdict_of table) w.0 two.2) k.0 k.1
 ]
 
+-- ---- `schedule`
+-- nothing was asked for in vain
+pub record IsSchedulable (table : Table) (hands : List Hand) : Type 0 where
+  pub even : uneven_of table hands ≡ None
+  pub short : closed_end table hands ≤ longest_end
+
+pub schedule_ok : (table : Table) (hands : List Hand) (u : Unit {0}) → can_schedule table hands ≡ Ok u → IsSchedulable table hands
+schedule_ok table hands u h =
+    let one = bind_ok (even_due (uneven_of table hands)) (λ _. short_due (closed_end table hands)) u h in
+    record { even = even_ok (uneven_of table hands) one.0 one.1; short = short_ok (closed_end table hands) u one.2 }
+
+-- why there is no schedule
+pub data NotScheduled (table : Table) (hands : List Hand) (o : Outcome) : Type 0 where
+  Odd : (uneven : UnevenHands) → uneven_of table hands ≡ Some uneven → o ≡ uneven_refusal uneven → NotScheduled table hands o
+  Endless : uneven_of table hands ≡ None → longest_end < closed_end table hands → o ≡ refuse (TooLong (closed_end table hands)) → NotScheduled table hands o
+
+pub schedule_err : (table : Table) (hands : List Hand) (o : Outcome) → can_schedule table hands ≡ Err o → NotScheduled table hands o
+schedule_err table hands o h = elim (bind_err (even_due (uneven_of table hands)) (λ _. short_due (closed_end table hands)) o h) [
+  | inl e ↦ (let w = even_err (uneven_of table hands) o e in Odd w.0 w.1 w.2)
+  | inr w ↦ (let k = short_err (closed_end table hands) o w.2 in Endless (even_ok (uneven_of table hands) w.0 w.1) k.0 k.1)
+]
+
 -- ---- `drop`
 -- nothing was asked for in vain
 pub record IsDroppable (table : Table) (hands : List Hand) : Type 0 where
@@ -162,6 +184,13 @@ not_run_unwritten table hands o (Longer even accepted why e) = ap (λ (o : Outco
 
 pub run_unwritten : (table : Table) (hands : List Hand) (o : Outcome) → can_run table hands ≡ Err o → is_answer (kind_of o) ≡ false
 run_unwritten table hands o h = not_run_unwritten table hands o (run_err table hands o h)
+
+not_scheduled_unwritten : (table : Table) (hands : List Hand) (o : Outcome) → NotScheduled table hands o → is_answer (kind_of o) ≡ false
+not_scheduled_unwritten table hands o (Odd uneven why e) = ap (λ (o : Outcome). is_answer (kind_of o)) e
+not_scheduled_unwritten table hands o (Endless even why e) = ap (λ (o : Outcome). is_answer (kind_of o)) e
+
+pub schedule_unwritten : (table : Table) (hands : List Hand) (o : Outcome) → can_schedule table hands ≡ Err o → is_answer (kind_of o) ≡ false
+schedule_unwritten table hands o h = not_scheduled_unwritten table hands o (schedule_err table hands o h)
 
 not_dropped_unwritten : (table : Table) (hands : List Hand) (o : Outcome) → NotDropped table hands o → is_answer (kind_of o) ≡ false
 not_dropped_unwritten table hands o (Undropped why e) = ap (λ (o : Outcome). is_answer (kind_of o)) e

@@ -47,12 +47,12 @@ even_counts : (items : List Item) (n : ℕ) (senders : List Sender) → AllByRec
 even_counts items n [] h = refl
 even_counts items n (s ∷ senders) h = ap (λ k. list_all (λ hand. length hand.messages == k) (map (hand_of items) (s ∷ senders))) (count_is items n s h.0) ∙ counts_are items n (s ∷ senders) h
 
-even_hands : (table : Table) (items : List Item) → IsTrue (are_hands table.senders (hands_of table items)) → AreEvenItems table items → IsTrue (are_even table (hands_of table items))
+pub even_hands : (table : Table) (items : List Item) → IsTrue (are_hands table.senders (hands_of table items)) → AreEvenItems table items → IsTrue (are_even table (hands_of table items))
 even_hands table items dealt even =
     and_from (are_hands table.senders (hands_of table items)) (list_all (λ hand. length hand.messages == rounds (hands_of table items)) (hands_of table items)) dealt (even_counts items even.rounds table.senders even.each)
 
 -- ---- what is due
-none_is : (found : Option UnevenHands) → IsNone found → found ≡ None
+pub none_is : (found : Option UnevenHands) → IsNone found → found ≡ None
 none_is None h = refl
 none_is (Some uneven) h = absurd cc
 

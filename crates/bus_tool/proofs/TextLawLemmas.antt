@@ -35,11 +35,12 @@ use Rattle.bus_tool.specs.Drills.{drill_line}
 use Rattle.bus_tool.specs.Explanations.{explanation}
 use Rattle.bus_tool.specs.Itself.{itself_text}
 use Rattle.bus_tool.proofs.ExplainLemmas.{size_unwritten}
-use Rattle.bus_tool.specs.Forms.{Form, OnTable, OnMessages, OnTrace, Unwave, Drill, OnItself, Explain, Cable, MessagesCommand, Observe, Run, Drop, form_of, table_mode, messages_mode}
+use Rattle.bus_facts.specs.Facts.{facts_text}
+use Rattle.bus_tool.specs.Forms.{Form, OnTable, OnMessages, OnTrace, Unwave, Drill, OnItself, Explain, Facts, Cable, MessagesCommand, Observe, Run, Drop, Schedule, form_of, table_mode, messages_mode}
 use Rattle.bus_tool.specs.Refusals.{Outcome, ToolRefusal}
 use Rattle.bus_wave.specs.Counted.{hand_holds}
-use Rattle.bus_tool.specs.Texts.{IsObserved, IsRunRecording, IsDropRecording, IsInputsText, IsTableAnswerText, IsTracedText, IsUnwavedText, IsExplanation}
-use Rattle.bus_tool.specs.Texts.{table_answer_text, trace_answer_text, run_text, IsFormText, IsTextFor}
+use Rattle.bus_tool.specs.Texts.{IsObserved, IsRunRecording, IsDropRecording, IsInputsText, IsTableAnswerText, IsTracedText, IsUnwavedText, IsExplanation, AreFacts}
+use Rattle.bus_tool.specs.Texts.{table_answer_text, trace_answer_text, run_text, scheduled, IsFormText, IsTextFor}
 use Rattle.bus_tool.specs.TextLaws.{OneCommandText, AnswersHaveTexts}
 use Rattle.bus_tool.proofs.AnswerLaws.{done_with}
 use Rattle.bus_tool.proofs.ModeLemmas.{mode_read, mode_unwritten}
@@ -115,6 +116,7 @@ messages_once laws Run inputs d text other h k =
     k.text_is ∙ ap (run_text inputs.table) (ran_is inputs k.recording k.ran ∙ sym (ran_is inputs h.recording h.ran)) ∙ sym h.text_is
 messages_once laws Drop inputs d text other h k =
     k.text_is ∙ ap (run_text inputs.table) (dropped_is inputs k.recording k.ran ∙ sym (dropped_is inputs h.recording h.ran)) ∙ sym h.text_is
+messages_once laws Schedule inputs d text other h k = k ∙ sym h
 
 -- ---- a table and a cable
 record CableDealt (inputs : CableInputs) : Type 0 where
@@ -165,6 +167,7 @@ form_once laws Unwave first second text other h k =
 form_once laws (Drill number) first second text other h k = k ∙ sym h
 form_once laws (OnItself about) first second text other h k = k ∙ sym h
 form_once laws Explain first second text other h k = k.3 ∙ ap explanation (same_value (text_due 1 first) h.0 k.0 h.1 k.1) ∙ sym h.3
+form_once laws Facts first second text other h k = k.3 ∙ ap facts_text (same_value (text_due 1 first) h.0 k.0 h.1 k.1) ∙ sym h.3
 form_once laws (Cable horizon) first second text other h k =
     cable_once laws horizon h.0 (cable_dealt laws first second h.0 h.1) text other h.3
     (subst (λ inputs. IsCableAnswerText horizon inputs other) (same_value (cable_due first second) h.0 k.0 h.1 k.1) k.3)
@@ -214,6 +217,7 @@ messages_has laws (Observe horizon) inputs d h =
     (trace_text recording, record { recording = recording; observed = record { horizon = refl; holds = refl; lawful = one.lawful }; text_is = refl })
 messages_has laws Run inputs d h = run_has laws inputs d (can_run inputs.table (hands_in inputs)) refl h
 messages_has laws Drop inputs d h = drop_has laws inputs d (can_drop inputs.table (hands_in inputs)) refl h
+messages_has laws Schedule inputs d h = (trace_text (scheduled inputs.table (hands_in inputs)), refl)
 
 inputs_unwritten : (command : MessagesCommand) (first second : List ℕ) (o : Outcome) → inputs_by (table_for (messages_mode command)) first second ≡ Err o
     → is_answer (kind_of o) ≡ false
@@ -247,6 +251,8 @@ form_has laws (Drill number) first second h = (drill_line number, refl)
 form_has laws (OnItself about) first second h = (itself_text about, refl)
 form_has laws Explain first second h =
     text_with explain_answer IsExplanation (text_due 1 first) (λ o e. size_unwritten first o e) (λ text e k. (explanation text, refl)) h
+form_has laws Facts first second h =
+    text_with explain_answer AreFacts (text_due 1 first) (λ o e. size_unwritten first o e) (λ text e k. (facts_text text, refl)) h
 form_has laws (Cable horizon) first second h =
     text_with cable_answer (IsCableAnswerText horizon) (cable_due first second) (λ o e. cable_unwritten first second o e)
     (λ inputs e k. cable_has laws horizon inputs (cable_dealt laws first second inputs e)) h

@@ -25,14 +25,20 @@ below horizon (x ∷ list) early ranged =
 pub lawful_of : (table : Table) (hands : List Hand) (quiet : ℕ) (stations : List Station) (horizon : ℕ) (list : List Entry) → quiet ≡ quiet_of table → stations ≡ stations_of table hands → IsLawful quiet stations horizon list → IsLawful (quiet_of table) (stations_of table hands) horizon list
 lawful_of table hands quiet stations horizon list q s h = subst (λ n. IsLawful n (stations_of table hands) horizon list) q (subst (λ all. IsLawful quiet all horizon list) s h)
 
-pub observed_is_trace : (table : Table) (hands : List Hand) (horizon : ℕ) (holds : List Hold) (list : List Entry) → horizon ≤ horizon_limit → AreFew hands → holds ≡ hand_holds hands → IsLawful (quiet_of table) (stations_of table hands) horizon list → AllByRecursion IsTransmission list → IsTrace (record { horizon = horizon; holds = holds; list = list })
-observed_is_trace table hands horizon holds list within few same lawful ranged = record {
+-- a list that ascends and starts below the horizon
+pub ascending_is_trace : (hands : List Hand) (horizon : ℕ) (holds : List Hold) (list : List Entry) → horizon ≤ horizon_limit → AreFew hands → holds ≡ hand_holds hands
+    → ((x : Entry) → In x list → x.moment < horizon) → IsAscending list → AllByRecursion IsTransmission list → IsTrace (record { horizon = horizon; holds = holds; list = list })
+ascending_is_trace hands horizon holds list within few same early ordered ranged = record {
   horizon = within;
   holds = subst (AllByRecursion IsHold) (sym same) (holds_ranged hands few);
   terminals = subst (AscendAbove 0) (sym same) (holds_ascend hands);
-  list = below horizon list (λ x i. (lawful.sent x i).0) ranged;
-  order = lawful.ordered;
+  list = below horizon list early ranged;
+  order = ordered;
 }
+
+pub observed_is_trace : (table : Table) (hands : List Hand) (horizon : ℕ) (holds : List Hold) (list : List Entry) → horizon ≤ horizon_limit → AreFew hands → holds ≡ hand_holds hands → IsLawful (quiet_of table) (stations_of table hands) horizon list → AllByRecursion IsTransmission list → IsTrace (record { horizon = horizon; holds = holds; list = list })
+observed_is_trace table hands horizon holds list within few same lawful ranged =
+    ascending_is_trace hands horizon holds list within few same (λ x i. (lawful.sent x i).0) lawful.ordered ranged
 
 -- ---- a trace goes by moment
 pub by_moment : (list : List Entry) → IsAscending list → IsByMoment list

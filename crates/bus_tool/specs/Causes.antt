@@ -22,8 +22,8 @@ use Rattle.bus_wave.specs.WaveTexts.{IsWaveText}
 use Rattle.bus_cable.specs.Cables as cables
 use Rattle.bus_cable.specs.Grammar.{IsCableText}
 use Rattle.bus_command.specs.Causes.{IsValidText, AreTextsWith, AreTracedWith}
-use Rattle.bus_tool.specs.Forms.{Form, OnTable, OnMessages, OnTrace, Unwave, Drill, OnItself, Explain, Cable}
-use Rattle.bus_tool.specs.Forms.{MessagesCommand, Observe, Run, Drop}
+use Rattle.bus_tool.specs.Forms.{Form, OnTable, OnMessages, OnTrace, Unwave, Drill, OnItself, Explain, Facts, Cable}
+use Rattle.bus_tool.specs.Forms.{MessagesCommand, Observe, Run, Drop, Schedule}
 use Rattle.bus_tool.specs.Refusals.{ToolRefusal, TableMode, Unspaced, WaveText, Uneven, NotAccepted, ShortLast, TooLong}
 use Rattle.bus_tool.specs.Refusals.{CableText, CableUnfit}
 
@@ -72,12 +72,20 @@ pub record IsShortLast (least ti : ℕ) (table : Table) (items : List Item) : Ty
   pub interval : ti ≡ table.ti
   pub shorter : least < ti
 
--- The end of the schedule by which a command runs the senders: of the closed one, where their hands are even, or of the drop-out schedule
--- of an aperiodic table, where the last cycle is no shorter than the interval.
+-- The end of the closed schedule of even hands.
+abbrev pub IsClosedEnd : ℕ → Table → List Hand → Type 0
+IsClosedEnd end table hands = (uneven_of table hands ≡ None) × (end ≡ closed_end table hands)
+
+-- The end of the drop-out schedule of an aperiodic table, where the last cycle is no shorter than the interval.
+abbrev pub IsDropEnd : ℕ → Table → List Hand → Type 0
+IsDropEnd end table hands = (table.mode ≡ Aperiodic) × LastIsLong table hands × (end ≡ drop_end table hands)
+
+-- The end of the schedule that a command asks for: `run` and `drop` ask for one of an accepted table.
 abbrev pub IsEndOf : MessagesCommand → ℕ → Table → List Hand → Type 0
 IsEndOf (Observe horizon) end table hands = ⊥
-IsEndOf Run end table hands = (uneven_of table hands ≡ None) × (end ≡ closed_end table hands)
-IsEndOf Drop end table hands = (table.mode ≡ Aperiodic) × LastIsLong table hands × (end ≡ drop_end table hands)
+IsEndOf Run end table hands = IsTrue (is_accepted (verdict_of table)) × IsClosedEnd end table hands
+IsEndOf Drop end table hands = IsTrue (is_accepted (verdict_of table)) × IsDropEnd end table hands
+IsEndOf Schedule end table hands = IsClosedEnd end table hands
 
 -- The same of a form.
 abbrev pub IsFormEnd : Form → ℕ → Table → List Hand → Type 0
@@ -88,11 +96,11 @@ IsFormEnd Unwave end table hands = ⊥
 IsFormEnd (Drill number) end table hands = ⊥
 IsFormEnd (OnItself about) end table hands = ⊥
 IsFormEnd Explain end table hands = ⊥
+IsFormEnd Facts end table hands = ⊥
 IsFormEnd (Cable horizon) end table hands = ⊥
 
--- That end, of an accepted table, which is above its limit.
+-- That end, which is above its limit.
 pub record IsLongEnd (form : Form) (end : ℕ) (table : Table) (items : List Item) : Type 0 where
-  pub accepted : IsTrue (is_accepted (verdict_of table))
   pub end_is : IsFormEnd form end table (hands_of table items)
   pub above : longest_end < end
 

@@ -37,10 +37,10 @@ use Rattle.bus_command.specs.declared.outcome.Outcome.TheVariants.{Done, Answere
 use Rattle.bus_command.specs.Due.{text_within, text_due, table_due, table_refusal_of, Inputs, hands_in, inputs_by, traced_by, traced_due}
 use Rattle.bus_command.specs.Due.{outcome_with}
 use Rattle.bus_command.specs.Stages.{refusal_in}
-use Rattle.bus_tool.specs.Forms.{Form, OnTable, OnMessages, OnTrace, Unwave, Drill, OnItself, Explain, Cable}
+use Rattle.bus_tool.specs.Forms.{Form, OnTable, OnMessages, OnTrace, Unwave, Drill, OnItself, Explain, Facts, Cable}
 use Rattle.bus_tool.specs.Forms.{TableCommand, Check, Tolerance, Tidy, Report, Witness, Plan}
 use Rattle.bus_command.specs.Readers.{text_limit}
-use Rattle.bus_tool.specs.Forms.{MessagesCommand, Observe, Run, Drop, TraceCommand, Receive, Audit, Vote, Wave}
+use Rattle.bus_tool.specs.Forms.{MessagesCommand, Observe, Run, Drop, Schedule, TraceCommand, Receive, Audit, Vote, Wave}
 use Rattle.bus_tool.specs.Forms.{form_of, wave_limit, table_mode, messages_mode}
 use Rattle.bus_tool.specs.Refusals.{Outcome, refuse, TableMode, Unspaced, WaveText, Uneven, NotAccepted, ShortLast, TooLong}
 use Rattle.bus_tool.specs.Refusals.{CableText, CableUnfit}
@@ -125,7 +125,7 @@ cable_hands inputs = hands_of inputs.table inputs.items
 abbrev pub cable_due : List ℕ → List ℕ → Result CableInputs Outcome
 cable_due first second = table_due first >>= λ table. cable_read_due table second >>= λ read. Ok (with_cable table read)
 
--- ---- what `run` and `drop` ask of a table and hands
+-- ---- what `run`, `schedule` and `drop` ask of a table and hands
 -- Why hands aren't even.
 abbrev pub uneven_refusal : UnevenHands → Outcome
 uneven_refusal u = refuse (Uneven u.one u.one_count u.other u.other_count)
@@ -150,6 +150,10 @@ may_run table hands = even_due (uneven_of table hands) >>= λ _. accepted_due (v
 -- And then a closed end within its limit.
 abbrev pub can_run : Table → List Hand → Result (Unit {0}) Outcome
 can_run table hands = may_run table hands >>= λ _. short_due (closed_end table hands)
+
+-- Even hands and a closed end within its limit, in this order, whatever the verdict is.
+abbrev pub can_schedule : Table → List Hand → Result (Unit {0}) Outcome
+can_schedule table hands = even_due (uneven_of table hands) >>= λ _. short_due (closed_end table hands)
 
 -- A last cycle that is no shorter than the transmit interval, where there is one.
 abbrev pub last_due : Option ℕ → ℕ → Result (Unit {0}) Outcome
@@ -201,6 +205,7 @@ abbrev pub messages_answer : MessagesCommand → Table → List Hand → Outcome
 messages_answer (Observe horizon) table hands = Done
 messages_answer Run table hands = outcome_with (λ _. Done) (can_run table hands)
 messages_answer Drop table hands = outcome_with (λ _. Done) (can_drop table hands)
+messages_answer Schedule table hands = outcome_with (λ _. Done) (can_schedule table hands)
 
 -- What is answered to a table and a trace, or why nothing is.
 abbrev pub trace_answer : TraceCommand → Table → Recording → Outcome
@@ -226,7 +231,7 @@ abbrev pub text_outcome : Result Table TableError → Outcome
 text_outcome (Ok table) = verdict_outcome (verdict_of table)
 text_outcome (Err error) = Answered
 
--- What `explain` answers to a text, whether it is one of a table or not.
+-- What `explain` and `facts` answer to a text, whether it is one of a table or not.
 abbrev pub explain_answer : List ℕ → Outcome
 explain_answer text = text_outcome (table_answer_of text)
 
@@ -245,6 +250,7 @@ form_due Unwave first second = outcome_with unwave_answer (unwave_due first seco
 form_due (Drill number) first second = Done
 form_due (OnItself about) first second = Done
 form_due Explain first second = outcome_with explain_answer (text_due 1 first)
+form_due Facts first second = outcome_with explain_answer (text_due 1 first)
 form_due (Cable horizon) first second = outcome_with cable_answer (cable_due first second)
 
 -- Why a form refuses the first text, whatever the second is.
@@ -256,6 +262,7 @@ first_refusal Unwave first = table_refusal_of first
 first_refusal (Drill number) first = None
 first_refusal (OnItself about) first = None
 first_refusal Explain first = refusal_in (text_due 1 first)
+first_refusal Facts first = refusal_in (text_due 1 first)
 first_refusal (Cable horizon) first = table_refusal_of first
 
 -- The outcome where the words ask for a form, or for none.

@@ -1,15 +1,30 @@
 -- What is claimed of `explain`: what it writes of any text, and what its numbers and its advices mean.
-use Rattle.std.specs.Prelude.{◌≡◌, ℕ, ◌≤◌, false, IsTrue, List, length, Some, codes}
+use Rattle.std.specs.Prelude.{◌≡◌, ℕ, ◌+◌, ◌≤◌, false, IsTrue, List, length, slice_get, Some, Err, codes}
+use Rattle.bus_text.specs.Refusals.{Refusal}
 use Rattle.bus_strings.specs.Members.{In}
-use Rattle.bus_table.specs.Tables.{Table}
+use Rattle.bus_strings.specs.Messages.{Entry}
+use Rattle.bus_strings.specs.Transmissions.{end_of}
+use Rattle.bus_table.specs.declared.mode.Mode.TheVariants.{Aperiodic, Periodic}
+use Rattle.bus_table.specs.GoingOn.{GoesOnAsTold}
+use Rattle.bus_table.specs.Reading.{text_reading}
+use Rattle.bus_table.specs.Tables.{Table, Hand}
 use Rattle.bus_table.specs.Valid.{is_valid}
 use Rattle.bus_advice.specs.declared.advice.Advice.{Advice}
 use Rattle.bus_advice.specs.Advices.{advices_of}
-use Rattle.bus_advice.specs.Laws.{AdviceWorks, AreComplete}
+use Rattle.bus_advice.specs.declared.advice.Advice.TheVariants.{Start}
+use Rattle.bus_advice.specs.Changes.{with_interval}
+use Rattle.bus_advice.specs.Laws.{AdviceWorks, AreComplete, StartIsAdvised}
+use Rattle.bus_reach.specs.Colliding.{CollideForEver}
+use Rattle.bus_regime.specs.Starting.{never_parts}
+use Rattle.bus_regime.specs.Gaps.{Gap, gaps}
 use Rattle.bus_regime.specs.Verdicts.{verdict_of, is_accepted}
+use Rattle.bus_schedule.specs.Closed.{closed}
+use Rattle.bus_schedule.specs.Even.{are_even}
+use Rattle.bus_schedule.specs.Laws.{StartsTooEarly}
+use Rattle.bus_schedule.specs.Runs.{IsRun}
 use Rattle.bus_explain.specs.Accepted.{IsAcceptedWith}
-use Rattle.bus_explain.specs.Figures.{spare}
-use Rattle.bus_explain.specs.Laws.{IsSpare}
+use Rattle.bus_explain.specs.Figures.{gap_bits, spare}
+use Rattle.bus_explain.specs.Laws.{IsGapTold, IsLoadOf, IsSpare}
 use Rattle.bus_command.specs.Claims.{Answers, IsFormOfOne, NothingFails}
 use Rattle.bus_command.specs.Outside.{Call}
 use Rattle.bus_command.specs.Readers.{entire, one_source, text_limit}
@@ -17,7 +32,7 @@ use Rattle.bus_command.specs.declared.status.Status.{Status}
 use Rattle.bus_tool.specs.Due.{explain_answer}
 use Rattle.bus_tool.specs.Explanations.{explanation}
 use Rattle.bus_tool.specs.Refusals.{status_of}
-use Rattle.bus_tool.specs.ToleranceClaims.{TellsTolerance}
+use Rattle.bus_tool.specs.ToleranceClaims.{SettlesFromAnyStart, TellsTolerance}
 
 -- A call of `explain T` whose first source tells this text, within its limit, whether it is one of a table or not, and in which nothing
 -- outside fails.
@@ -27,23 +42,50 @@ pub record IsExplainOf (text : List ℕ) (call : Call) : Type 0 where
   pub short : length text ≤ text_limit
   pub undisturbed : NothingFails (one_source entire) call.before call.after
 
--- What is told of an accepted table holds of it:
---   spare       its transmit interval could rise by so much and no more, or, were its offsets planned anew, fall
---   tolerance   as the tolerance line tells it
-pub record ExplainsAccepted (table : Table) : Type 0 where
-  pub spare : (least most : ℕ) → IsAcceptedWith table least most → IsSpare table.mode table (spare table least)
-  pub tolerance : TellsTolerance table
+-- A sender of a periodic table starts behind the gap that is told of it: in the closed schedule of any even hands, at least so many bit
+-- times behind the end of the transmission before its own.
+pub record StartsBehind (table : Table) (gap : Gap) : Type 0 where
+  pub told : IsGapTold gap
+  pub left : (hands : List Hand) (k : ℕ) (x y : Entry) → IsTrue (are_even table hands) → slice_get (closed table hands) k ≡ Some x
+      → slice_get (closed table hands) (k + 1) ≡ Some y → gap.sender.number ≡ y.terminal → end_of x + gap_bits gap ≤ y.moment
 
--- What is advised on a refused table holds of it:
---   work    each advice works: with the advised number alone changed the table is accepted, and with none nearer to its own
---   whole   none is missing: where a change of one number makes the table accepted, there is an advice of that kind
+-- What is told of an accepted table holds of it:
+--   runs        with as many messages for each, from the settled start and without delays, the senders take turns, no two of their
+--               transmissions overlap, and from one start to its next each waits as the verdict's numbers say
+--   spare       its transmit interval could rise by so much and no more, or, were its offsets planned anew, fall
+--   load        it is that of the longest cycle
+--   gaps        the senders of a periodic table start behind the gaps that are told of them, one for each in turn order
+--   tolerance   as the tolerance line tells it
+--   collides    where it is aperiodic and never parts, its senders can collide in every cycle, for ever
+--   work        with the advised transmit interval it is accepted and starts itself, and with no greater one
+--   settles     so that, with that, its order comes about from any start
+--   whole       an advice is there where a transmit interval makes it start itself, and it doesn't with its own
+pub record ExplainsAccepted (table : Table) : Type 0 where
+  pub runs : (hands : List Hand) → IsTrue (are_even table hands) → IsRun table hands (closed table hands)
+  pub spare : (least most : ℕ) → IsAcceptedWith table least most → IsSpare table.mode table (spare table least)
+  pub load : (least most : ℕ) → IsAcceptedWith table least most → IsLoadOf table most
+  pub gaps : table.mode ≡ Periodic → (gap : Gap) → In gap (gaps table) → StartsBehind table gap
+  pub tolerance : TellsTolerance table
+  pub collides : table.mode ≡ Aperiodic → IsTrue (never_parts table) → CollideForEver table
+  pub work : (advice : Advice) → In advice (advices_of table) → AdviceWorks table advice
+  pub settles : (ti : ℕ) → In (Start ti) (advices_of table) → SettlesFromAnyStart (with_interval ti table)
+  pub whole : StartIsAdvised table (advices_of table)
+
+-- What is told of a refused table, and advised on it, holds of it:
+--   early   in aperiodic mode the first sender's turn comes again, with the shortest messages, when it can't start
+--   work    each advice works: with the advised number alone changed the table is accepted, and with none nearer to its own; or with the
+--           planned offsets at the advised interval, in periodic mode, and at none from its own up to that with any offsets
+--   whole   none is missing: where a change of one number makes the table accepted, or other offsets do at an interval from its own on,
+--           there is an advice of that kind
 pub record AdvisesRefused (table : Table) : Type 0 where
+  pub early : table.mode ≡ Aperiodic → StartsTooEarly table
   pub work : (advice : Advice) → In advice (advices_of table) → AdviceWorks table advice
   pub whole : AreComplete table (advices_of table)
 
 -- The explanation of the text is written: the status is Done where it gives a table that the verdict accepts, else Refused. What it tells
--- of a valid table holds.
+-- of a valid table holds; and what it lists as what may stand at a refused line is exactly what goes on.
 pub record GivesExplanation (text : List ℕ) (call : Call) (status : Status) : Type 0 where
   pub gives : Answers (status_of (explain_answer text)) (λ written. written ≡ explanation text) call status
   pub accepted : (table : Table) → IsTrue (is_valid table) → IsTrue (is_accepted (verdict_of table)) → ExplainsAccepted table
   pub refused : (table : Table) → IsTrue (is_valid table) → is_accepted (verdict_of table) ≡ false → AdvisesRefused table
+  pub unread : (refusal : Refusal) → text_reading text ≡ Err refusal → GoesOnAsTold text refusal.line

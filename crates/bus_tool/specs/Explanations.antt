@@ -8,19 +8,27 @@ use Rattle.bus_table.specs.Tables.{Table}
 use Rattle.bus_regime.specs.Verdicts.{verdict_of}
 use Rattle.bus_regime.specs.declared.table_verdict.TableVerdict.{TableVerdict}
 use Rattle.bus_regime.specs.declared.table_verdict.TableVerdict.TheVariants.{Accept, ShortCycle, SmallGap, NoSync}
-use Rattle.bus_advice.specs.Advices.{advices_of}
+use Rattle.bus_advice.specs.Advices.{advices_of, periodic_table}
 use Rattle.bus_explain.specs.Accepted.{accepted_text}
 use Rattle.bus_explain.specs.Refused.{refused_text}
 use Rattle.bus_explain.specs.Unread.{unread_text}
 use Rattle.bus_explain.specs.Wholes.{whole_text}
 use Rattle.bus_tool.specs.Tolerances.{tolerance_of}
 
+-- What is written of a table that the verdict accepts with these numbers, with the advices on it.
+abbrev pub accepted_as : Table → (least most : ℕ) → List ℕ
+accepted_as table least most = accepted_text table least most (tolerance_of table) (advices_of table)
+
+-- What is written of a table that this verdict refuses: why, with the advices on it, and the table that one of them plans.
+abbrev pub refused_as : TableVerdict → Table → List ℕ
+refused_as verdict table = refused_text verdict (advices_of table) (periodic_table table)
+
 -- What is written of a table with this verdict.
 abbrev pub verdict_explained : TableVerdict → Table → List ℕ
-verdict_explained (Accept mode least most) table = accepted_text table least most (tolerance_of table)
-verdict_explained (ShortCycle least ti) table = refused_text (ShortCycle least ti) (advices_of table)
-verdict_explained (SmallGap terminal gap needed) table = refused_text (SmallGap terminal gap needed) (advices_of table)
-verdict_explained (NoSync terminal gap needed) table = refused_text (NoSync terminal gap needed) (advices_of table)
+verdict_explained (Accept mode least most) table = accepted_as table least most
+verdict_explained (ShortCycle least ti) table = refused_as (ShortCycle least ti) table
+verdict_explained (SmallGap terminal gap needed) table = refused_as (SmallGap terminal gap needed) table
+verdict_explained (NoSync terminal gap needed) table = refused_as (NoSync terminal gap needed) table
 
 -- What is written of a table.
 abbrev pub table_explained : Table → List ℕ

@@ -10,11 +10,11 @@ use Rattle.bus_vectors.specs.Made.{most_number}
 use Rattle.bus_command.specs.About.{about_of}
 use Rattle.bus_command.specs.Readers.{Named, Reader, Entire, entire, no_source, one_source, by_trace, two_sources}
 pub use Rattle.bus_tool.specs.declared.forms.Form.{Form}
-pub use Rattle.bus_tool.specs.declared.forms.Form.TheVariants.{OnTable, OnMessages, OnTrace, Unwave, Drill, OnItself, Explain, Cable}
+pub use Rattle.bus_tool.specs.declared.forms.Form.TheVariants.{OnTable, OnMessages, OnTrace, Unwave, Drill, OnItself, Explain, Facts, Cable}
 pub use Rattle.bus_tool.specs.declared.forms.TableCommand.{TableCommand}
 pub use Rattle.bus_tool.specs.declared.forms.TableCommand.TheVariants.{Check, Tolerance, Tidy, Report, Witness, Plan}
 pub use Rattle.bus_tool.specs.declared.forms.MessagesCommand.{MessagesCommand}
-pub use Rattle.bus_tool.specs.declared.forms.MessagesCommand.TheVariants.{Observe, Run, Drop}
+pub use Rattle.bus_tool.specs.declared.forms.MessagesCommand.TheVariants.{Observe, Run, Drop, Schedule}
 pub use Rattle.bus_tool.specs.declared.forms.TraceCommand.{TraceCommand}
 pub use Rattle.bus_tool.specs.declared.forms.TraceCommand.TheVariants.{Receive, Audit, Vote, Wave}
 
@@ -30,7 +30,7 @@ is_drill_number word = is_plain_decimal word && nat_le (decimal_value word) most
 abbrev pub one_word : List ℕ → Option Form
 one_word word = option_map OnItself (about_of word)
 
--- `check T`, `tolerance T`, `tidy T`, `report T`, `witness T`, `plan T`, `explain T`, `drill N`.
+-- `check T`, `tolerance T`, `tidy T`, `report T`, `witness T`, `plan T`, `explain T`, `facts T`, `drill N`.
 abbrev pub two_words : List ℕ → List ℕ → Option Form
 two_words command second =
     if bytes_eq command (codes "check") then Some (OnTable Check)
@@ -40,14 +40,16 @@ two_words command second =
     else if bytes_eq command (codes "witness") then Some (OnTable Witness)
     else if bytes_eq command (codes "plan") then Some (OnTable Plan)
     else if bytes_eq command (codes "explain") then Some Explain
+    else if bytes_eq command (codes "facts") then Some Facts
     else if bytes_eq command (codes "drill") && is_drill_number second then Some (Drill (decimal_value second))
     else None
 
--- `run T M`, `drop T M`, `receive T R`, `audit T R`, `vote T R`, `wave T R`, `unwave T W`.
+-- `run T M`, `drop T M`, `schedule T M`, `receive T R`, `audit T R`, `vote T R`, `wave T R`, `unwave T W`.
 abbrev pub three_words : List ℕ → Option Form
 three_words command =
     if bytes_eq command (codes "run") then Some (OnMessages Run)
     else if bytes_eq command (codes "drop") then Some (OnMessages Drop)
+    else if bytes_eq command (codes "schedule") then Some (OnMessages Schedule)
     else if bytes_eq command (codes "receive") then Some (OnTrace Receive)
     else if bytes_eq command (codes "audit") then Some (OnTrace Audit)
     else if bytes_eq command (codes "vote") then Some (OnTrace Vote)
@@ -88,6 +90,7 @@ sources_of Unwave = two_sources entire entire_wave
 sources_of (Drill number) = no_source
 sources_of (OnItself about) = no_source
 sources_of Explain = one_source entire
+sources_of Facts = one_source entire
 sources_of (Cable horizon) = two_sources entire entire
 
 -- Whether a form takes any memory.
@@ -99,6 +102,7 @@ takes_memory Unwave = true
 takes_memory (Drill number) = true
 takes_memory (OnItself about) = false
 takes_memory Explain = true
+takes_memory Facts = true
 takes_memory (Cable horizon) = true
 
 -- The mode that a command on a table needs of it.
@@ -115,12 +119,14 @@ abbrev pub messages_mode : MessagesCommand → Option Mode
 messages_mode (Observe horizon) = None
 messages_mode Run = None
 messages_mode Drop = Some Aperiodic
+messages_mode Schedule = None
 
 -- The horizon of a command on messages is within its limit.
 abbrev pub IsWithinHorizon : MessagesCommand → Type 0
 IsWithinHorizon (Observe horizon) = horizon ≤ horizon_limit
 IsWithinHorizon Run = Unit {0}
 IsWithinHorizon Drop = Unit {0}
+IsWithinHorizon Schedule = Unit {0}
 
 -- The numbers of a form are within their limits.
 abbrev pub IsWithinLimits : Form → Type 0
@@ -131,4 +137,5 @@ IsWithinLimits Unwave = Unit {0}
 IsWithinLimits (Drill number) = number ≤ most_number
 IsWithinLimits (OnItself about) = Unit {0}
 IsWithinLimits Explain = Unit {0}
+IsWithinLimits Facts = Unit {0}
 IsWithinLimits (Cable horizon) = horizon ≤ horizon_limit

@@ -16,11 +16,13 @@ pub mod TableClaims
 pub mod ToleranceClaims
 pub mod Explanations
 pub mod ExplainClaims
+pub mod FactsClaims
 pub mod PlanClaims
 pub mod DrillClaims
 pub mod ObserveClaims
 pub mod RunClaims
 pub mod DropClaims
+pub mod ScheduleClaims
 pub mod TraceClaims
 pub mod WaveClaims
 pub mod CableClaims

@@ -13,10 +13,12 @@ use Rattle.bus_tool.specs.CableClaims.{IsCableOf, GivesOnCable}
 use Rattle.bus_tool.specs.DrillClaims.{IsDrillOf, GivesDrill}
 use Rattle.bus_tool.specs.DropClaims.{IsDropOf, GivesDrop}
 use Rattle.bus_tool.specs.ExplainClaims.{IsExplainOf, GivesExplanation}
+use Rattle.bus_tool.specs.FactsClaims.{IsFactsOf, GivesFacts}
 use Rattle.bus_tool.specs.Itself.{itself_text}
 use Rattle.bus_tool.specs.ObserveClaims.{IsObserveOf, GivesTrace}
 use Rattle.bus_tool.specs.PlanClaims.{IsPlanCallOf, GivesPlan}
 use Rattle.bus_tool.specs.RunClaims.{IsRunOf, GivesRun}
+use Rattle.bus_tool.specs.ScheduleClaims.{IsScheduleOf, GivesSchedule}
 use Rattle.bus_tool.specs.TableClaims.{GivesVerdict, TellsSettled, GivesTidied, GivesReport, GivesWitness}
 use Rattle.bus_tool.specs.ToleranceClaims.{GivesTolerance}
 use Rattle.bus_tool.specs.TraceClaims.{GivesReceived, GivesFinding, GivesVotes}
@@ -34,13 +36,14 @@ use Rattle.bus_tool.specs.WaveClaims.{GivesWave, IsUnwaveOf, GivesUnwaved}
 --   observe   of items that fit: the one trace
 --   run       of items that fit an accepted table, as many for each sender: the one trace, which is the closed schedule
 --   drop      of items that fit an accepted aperiodic table, whose last cycle is long enough: the one trace, which is the drop-out schedule
+--   schedule  of items that fit any table, as many for each sender: the closed schedule as a trace, which `run` writes of an accepted table
 --   receive   of a trace: what each terminal receives
 --   audit     what an audit finds
 --   vote      the votes; two equal channels fix a vote, and of the trace of a run every round is voted, from the words of the hands
 --   wave      of a spaced trace: its wave text; the trace of a run is spaced, and read from it; two with the same wave are equal
 --   unwave    of the wave text of a trace: the text of the trace
---   explain   of any text: its explanation; the spare and the tolerance are what they are said to be, each advice works, and none is
---             missing
+--   explain   of any text: its explanation; turns, waits, spare, load, gaps and tolerance are what they are said to be, each advice works,
+--             none is missing, and what may stand at a refused line is exactly what goes on
 --   cable     of a cable and items that fit: the one trace on that cable, and what each terminal hears of it; on a plain cable it is the
 --             trace of `observe`, and where the table bears the cable, with even hands, the closed schedule, of which nothing is garbled
 --   itself    `--help` and `--version`: the help and the version line
@@ -56,6 +59,7 @@ pub record Promises (call : Call) (status : Status) : Type 0 where
       → GivesTrace table items until call status
   pub run : (table : Table) (items : List Item) → IsRunOf table items call → GivesRun table items call status
   pub drop : (table : Table) (items : List Item) → IsDropOf table items call → GivesDrop table items call status
+  pub schedule : (table : Table) (items : List Item) → IsScheduleOf table items call → GivesSchedule table items call status
   pub receive : (table : Table) (trace : Recording) → IsOfTraced (codes "receive") [] table trace call
       → GivesReceived table trace call status
   pub audit : (table : Table) (trace : Recording) → IsOfTraced (codes "audit") [] table trace call → GivesFinding table trace call status
@@ -63,6 +67,7 @@ pub record Promises (call : Call) (status : Status) : Type 0 where
   pub wave : (table : Table) (trace : Recording) → IsOfTraced (codes "wave") [] table trace call → GivesWave table trace call status
   pub unwave : (table : Table) (trace : Recording) → IsUnwaveOf table trace call → GivesUnwaved table trace call status
   pub explain : (text : List ℕ) → IsExplainOf text call → GivesExplanation text call status
+  pub facts : (text : List ℕ) → IsFactsOf text call → GivesFacts text call status
   pub cable : (table : Table) (cable : Cable) (items : List Item) (until : ℕ) → IsCableOf table cable items until call
       → GivesOnCable table cable items until call status
   pub itself : (about : About) → IsAbout about call → TellsItself (itself_text about) call status

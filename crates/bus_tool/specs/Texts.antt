@@ -14,7 +14,7 @@ use Rattle.bus_cable.specs.Cables as cables
 use Rattle.bus_cable.specs.Cables.{delays_on, place_on, wakes_on}
 use Rattle.bus_propagation.specs.Lists.{IsListOnCable}
 use Rattle.bus_cable.specs.HeardTexts.{heard_text}
-use Rattle.bus_schedule.specs.Closed.{closed_end}
+use Rattle.bus_schedule.specs.Closed.{closed, closed_end}
 use Rattle.bus_dropout.specs.DropOut.{drop_end}
 use Rattle.bus_dropout.specs.Runs.{IsDropRun}
 use Rattle.bus_schedule.specs.Runs.{IsRun}
@@ -27,9 +27,10 @@ use Rattle.bus_wave.specs.Counted.{hand_holds}
 use Rattle.bus_wave.specs.WaveTexts.{wave_text}
 use Rattle.bus_command.specs.declared.inputs.Traced.{Traced}
 use Rattle.bus_command.specs.Due.{Inputs, hands_in, inputs_by, text_due, traced_due, IsTextOf}
-use Rattle.bus_tool.specs.Forms.{Form, OnTable, OnMessages, OnTrace, Unwave, Drill, OnItself, Explain, Cable}
+use Rattle.bus_facts.specs.Facts.{facts_text}
+use Rattle.bus_tool.specs.Forms.{Form, OnTable, OnMessages, OnTrace, Unwave, Drill, OnItself, Explain, Facts, Cable}
 use Rattle.bus_tool.specs.Forms.{TableCommand, Check, Tolerance, Tidy, Report, Witness, Plan}
-use Rattle.bus_tool.specs.Forms.{MessagesCommand, Observe, Run, Drop, TraceCommand, Receive, Audit, Vote, Wave}
+use Rattle.bus_tool.specs.Forms.{MessagesCommand, Observe, Run, Drop, Schedule, TraceCommand, Receive, Audit, Vote, Wave}
 use Rattle.bus_tool.specs.Forms.{form_of, table_mode, messages_mode}
 use Rattle.bus_tool.specs.Due.{table_for, unwave_due, table_answer, inputs_answer, traced_answer, unwave_answer, explain_answer}
 use Rattle.bus_tool.specs.Due.{CableInputs, cable_hands, cable_answer, cable_due}
@@ -57,6 +58,10 @@ pub record IsDropRecording (table : Table) (hands : List Hand) (recording : Reco
   pub horizon : recording.horizon ≡ drop_end table hands
   pub holds : recording.holds ≡ hand_holds hands
   pub run : IsDropRun table hands recording.list
+
+-- The closed schedule of a table and hands, as a recording: its horizon is the closed end.
+abbrev pub scheduled : Table → List Hand → Recording
+scheduled table hands = record { horizon = closed_end table hands; holds = hand_holds hands; list = closed table hands }
 
 -- The recording of the senders of a table on a cable up to a horizon: what each of them held, and the lawful list with its delays and
 -- wakes.
@@ -97,6 +102,7 @@ abbrev pub IsMessagesAnswerText : MessagesCommand → Table → List Hand → Li
 IsMessagesAnswerText (Observe horizon) table hands text = IsObserveText horizon table hands text
 IsMessagesAnswerText Run table hands text = IsRanText IsRunRecording table hands text
 IsMessagesAnswerText Drop table hands text = IsRanText IsDropRecording table hands text
+IsMessagesAnswerText Schedule table hands text = text ≡ trace_text (scheduled table hands)
 
 -- The text of a trace, and behind it what each terminal of the table hears of its list on a cable.
 abbrev pub on_cable_text : Table → cables.Cable → Recording → List ℕ
@@ -135,6 +141,10 @@ IsUnwavedText traced text = text ≡ trace_text traced.trace
 abbrev pub IsExplanation : List ℕ → List ℕ → Type 0
 IsExplanation first text = text ≡ explanation first
 
+-- The facts of a text.
+abbrev pub AreFacts : List ℕ → List ℕ → Type 0
+AreFacts first text = text ≡ facts_text first
+
 -- What is written of a table, a cable and items.
 abbrev pub IsCableAnswerText : ℕ → CableInputs → List ℕ → Type 0
 IsCableAnswerText horizon inputs text = IsOnCableText horizon inputs.table inputs.cable (cable_hands inputs) text
@@ -150,6 +160,7 @@ IsFormText Unwave first second text = IsTextOf unwave_answer IsUnwavedText (unwa
 IsFormText (Drill number) first second text = text ≡ drill_line number
 IsFormText (OnItself about) first second text = text ≡ itself_text about
 IsFormText Explain first second text = IsTextOf explain_answer IsExplanation (text_due 1 first) text
+IsFormText Facts first second text = IsTextOf explain_answer AreFacts (text_due 1 first) text
 IsFormText (Cable horizon) first second text = IsTextOf cable_answer (IsCableAnswerText horizon) (cable_due first second) text
 
 -- What is written where the words ask for a form, or for none.

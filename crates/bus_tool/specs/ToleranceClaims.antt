@@ -1,8 +1,8 @@
 -- What is claimed of `tolerance`: what its number and its last word mean.
-use Rattle.std.specs.Prelude.{◌≡◌, ℕ, ◌+◌, ◌≤◌, IsTrue, List, Some, None}
+use Rattle.std.specs.Prelude.{◌≡◌, ◌↔◌, ℕ, ◌+◌, ◌≤◌, IsTrue, List, ◌++◌, codes, Some, None}
 use Rattle.bus_strings.specs.Messages.{Entry}
 use Rattle.bus_table.specs.Hands.{are_hands}
-use Rattle.bus_table.specs.Tables.{Table, Hand}
+use Rattle.bus_table.specs.Tables.{Table, Hand, sender_numbers}
 use Rattle.bus_table.specs.Timers.{quiet_of}
 use Rattle.bus_table.specs.declared.mode.Mode.{Mode}
 use Rattle.bus_table.specs.declared.mode.Mode.TheVariants.{Aperiodic, Periodic}
@@ -18,22 +18,23 @@ use Rattle.bus_reach.specs.Cables.{FailsOnCable}
 use Rattle.bus_reach.specs.PeriodicLaws.{BreaksOnCable}
 use Rattle.bus_reach.specs.Runs.{IsCableRun}
 use Rattle.bus_reach.specs.Schedule.{cable_closed}
+use Rattle.bus_regime.specs.Starting.{starts_itself}
 use Rattle.bus_reach.specs.Settling.{ArePoweredUp, HaveLeft, HasSettled}
 use Rattle.bus_command.specs.Claims.{Answers}
 use Rattle.bus_command.specs.Outside.{Call}
 use Rattle.bus_command.specs.declared.status.Status.{Status}
 use Rattle.bus_tool.specs.Due.{verdict_outcome}
 use Rattle.bus_tool.specs.Refusals.{status_of}
-use Rattle.bus_tool.specs.Tolerances.{tolerance_of, tolerance_text, starts_in}
+use Rattle.bus_tool.specs.Tolerances.{tolerance_of, tolerance_text}
 
--- A table of this mode keeps its order with all delays up to d: whatever even hands its senders have, the closed schedule on the cable is
--- what they do. In aperiodic mode they may wake up to d later too.
+-- A table of this mode keeps its order with all delays between its senders up to d: whatever even hands these have, the closed schedule on
+-- the cable is what they do. In aperiodic mode they may wake up to d later too.
 abbrev pub KeepsOrderIn : Mode → Table → ℕ → Type 0
 KeepsOrderIn Aperiodic table d =
-    (hands : List Hand) (delay : Delays) (wake : Wakes) → IsTrue (are_even table hands) → AreDelays d delay → AreWakes d table.senders wake
-    → IsCableRun table hands d delay wake (cable_closed delay wake table hands)
+    (hands : List Hand) (delay : Delays) (wake : Wakes) → IsTrue (are_even table hands) → AreDelays d (sender_numbers table) delay
+    → AreWakes d table.senders wake → IsCableRun table hands d delay wake (cable_closed delay wake table hands)
 KeepsOrderIn Periodic table d =
-    (hands : List Hand) (delay : Delays) → IsTrue (are_even table hands) → AreDelays d delay
+    (hands : List Hand) (delay : Delays) → IsTrue (are_even table hands) → AreDelays d (sender_numbers table) delay
     → IsRunOnCable table hands d delay (closed table hands)
 
 -- There is a straight cable of length d on which a table of this mode doesn't.
@@ -41,7 +42,7 @@ abbrev pub LosesOrderIn : Mode → Table → ℕ → Type 0
 LosesOrderIn Aperiodic table d = FailsOnCable table d
 LosesOrderIn Periodic table d = BreaksOnCable table d
 
--- Without delays the order of the table comes about whenever its senders are powered up.
+-- Without delays the order of the table comes about whenever its senders are powered up, as long as they have messages left.
 abbrev pub SettlesFromAnyStart : Table → Type 0
 SettlesFromAnyStart table =
     (hands : List Hand) (wake : Wakes) (up horizon : ℕ) (list : List Entry) → IsTrue (are_hands table.senders hands)
@@ -49,17 +50,35 @@ SettlesFromAnyStart table =
     → HaveLeft table hands horizon list → up + most_cycle table + table.sg ≤ horizon
     → IsLawfulOnCable (quiet_of table) at_once wake (stations_of table hands) horizon list → HasSettled table hands up horizon list
 
+-- The table is aperiodic, and starts itself.
+abbrev pub StartsItself : Table → Type 0
+StartsItself table = (table.mode ≡ Aperiodic) × IsTrue (starts_itself table)
+
 -- What the line of an accepted table tells:
 --   number   with delays up to it the table keeps its order, and there is a straight cable one bit time longer on which it doesn't
 --   alone    where it is `any`, there is one sender, which keeps its order with all delays
---   start    where the last word is `any`, the order comes about from any start
+--   start    where the table starts itself, the order comes about from any start
 pub record TellsTolerance (table : Table) : Type 0 where
   pub number : (d : ℕ) → tolerance_of table ≡ Some d → KeepsOrderIn table.mode table d × LosesOrderIn table.mode table (d + 1)
   pub alone : tolerance_of table ≡ None → (d : ℕ) → KeepsOrderIn table.mode table d
-  pub start : IsTrue (starts_in table.mode table) → SettlesFromAnyStart table
+  pub start : StartsItself table → SettlesFromAnyStart table
+
+-- The text has this end.
+abbrev pub EndsIn : List ℕ → List ℕ → Type 0
+EndsIn end text = (front : List ℕ) × (text ≡ front ++ end)
+
+-- The last word of the line is `any` exactly where the table starts itself, and `settled` exactly where it doesn't.
+pub record TellsStart (table : Table) (text : List ℕ) : Type 0 where
+  pub any : EndsIn (codes " any\n") text ↔ StartsItself table
+  pub settled : EndsIn (codes " settled\n") text ↔ (StartsItself table → ⊥)
+
+-- The text is what `tolerance` writes of the table, and of an accepted one it tells whether that starts itself.
+pub record IsToleranceOf (table : Table) (text : List ℕ) : Type 0 where
+  pub is : text ≡ tolerance_text (verdict_of table) table
+  pub start : IsTrue (is_accepted (verdict_of table)) → TellsStart table text
 
 -- The tolerance line is written of an accepted table, which tells what it says, and else the verdict line. The status is Done where the
 -- verdict accepts, else Refused.
 pub record GivesTolerance (table : Table) (call : Call) (status : Status) : Type 0 where
-  pub gives : Answers (status_of (verdict_outcome (verdict_of table))) (λ text. text ≡ tolerance_text (verdict_of table) table) call status
+  pub gives : Answers (status_of (verdict_outcome (verdict_of table))) (IsToleranceOf table) call status
   pub tells : IsTrue (is_accepted (verdict_of table)) → TellsTolerance table

@@ -11,7 +11,7 @@ use Rattle.bus_regime.specs.Lines.{verdict_line}
 use Rattle.bus_regime.specs.declared.table_verdict.TableVerdict.{TableVerdict}
 use Rattle.bus_regime.specs.declared.table_verdict.TableVerdict.TheVariants.{Accept, ShortCycle, SmallGap, NoSync}
 use Rattle.bus_reach.specs.Bearing.{bears}
-use Rattle.bus_reach.specs.Starting.{starts_itself}
+use Rattle.bus_regime.specs.Starting.{starts_itself}
 
 -- The greatest number up to a bound that a test takes, and 0 where it takes none.
 abbrev pub greatest_to : (ℕ → Bool) → ℕ → ℕ

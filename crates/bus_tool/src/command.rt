@@ -4,6 +4,7 @@ ghost use Rattle.bus_tool.specs.Acts.{Acts};
 
 use crate::drill::drill;
 use crate::explain::explain;
+use crate::facts::facts;
 use crate::forms::{Form, form_of};
 use crate::itself::tell_itself;
 use crate::on_cable::cable;
@@ -47,6 +48,7 @@ pub fn act<S: Source, K: Sink>(
         Some(Form::Drill { number }) => drill(alloc, number, out),
         Some(Form::OnItself(about)) => tell_itself(about, out),
         Some(Form::Explain) => explain(alloc, first, out),
+        Some(Form::Facts) => facts(alloc, first, out),
         Some(Form::Cable { horizon }) => cable(alloc, horizon, first, second, out),
     }
 }

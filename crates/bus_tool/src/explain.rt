@@ -6,18 +6,16 @@ ghost use Rattle.bus_table.specs.Stops.{stop_of};
 ghost use Rattle.bus_regime.specs.Verdicts.{is_accepted, verdict_of};
 ghost use Rattle.bus_advice.specs.Advices.{advices_of};
 ghost use Rattle.bus_command.specs.declared.outcome.Outcome.TheVariants.{Answered, Done};
-ghost use Rattle.bus_explain.specs.Accepted.{IsAcceptedWith, accepted_text};
-ghost use Rattle.bus_explain.specs.Refused.{refused_text};
+ghost use Rattle.bus_explain.specs.Accepted.{IsAcceptedWith};
 ghost use Rattle.bus_explain.specs.Unread.{unread_text};
 ghost use Rattle.bus_tool.specs.inside.Acting.{DoesFirst, EndsExplaining};
 ghost use Rattle.bus_tool.specs.Due.{explain_answer, verdict_outcome};
-ghost use Rattle.bus_tool.specs.Explanations.{explanation, table_explained};
+ghost use Rattle.bus_tool.specs.Explanations.{accepted_as, explanation, refused_as, table_explained};
 ghost use Rattle.bus_tool.specs.Forms.{Explain};
-ghost use Rattle.bus_tool.specs.Tolerances as told;
 
 use crate::refusal::{Outcome, ToolRefusal};
 use crate::tolerance::tolerance_of;
-use bus_advice::advices;
+use bus_advice::{Advice, advices, periodic_table};
 use bus_command::{TEXT_LIMIT, after_writing, take_text};
 use bus_explain::{write_accepted, write_refused, write_unread, write_whole};
 use bus_outer::{Sink, Source};
@@ -26,16 +24,64 @@ use bus_table::{Table, TableError, find_stop, read_table};
 use bus_text::Reason;
 use std::alloc::Global;
 
-/// Writes what is said of an accepted table with the numbers of its verdict.
-fn explain_accepted<K: Sink>(table: &Table, least: u64, most: u64, out: &mut K) -> Outcome
-    requires { IsAcceptedWith table.now least most }
-    ensures { EndsExplaining ⟦<K as Sink>⟧ Done (accepted_text table.now least most (told.tolerance_of table.now)) out.old out.new result }
+/// Writes what is said of an accepted table with the numbers of its verdict, on which these are all advices.
+fn explain_started<K: Sink>(
+    table: &Table,
+    least: u64,
+    most: u64,
+    advices: &[Advice],
+    out: &mut K,
+) -> Outcome
+    requires accepted { IsAcceptedWith table.now least most }
+    requires all { advices.now ≡ advices_of table.now }
+    ensures { EndsExplaining ⟦<K as Sink>⟧ Done (accepted_as table.now least most) out.old out.new result }
 {
     let tolerance = tolerance_of(table);
     after_writing(
-        write_accepted(table, least, most, tolerance, out),
+        write_accepted(table, least, most, tolerance, advices, out),
         Outcome::Done,
     )
+}
+
+/// Writes what is said of an accepted table that has this verdict, with the numbers of that.
+fn explain_accepted<K: Sink>(
+    alloc: Global,
+    table: &Table,
+    verdict: &TableVerdict,
+    least: u64,
+    most: u64,
+    out: &mut K,
+) -> Outcome
+    requires own { verdict.now ≡ verdict_of table.now }
+    requires accepted { IsAcceptedWith table.now least most }
+    ensures { EndsExplaining ⟦<K as Sink>⟧ Done (accepted_as table.now least most) out.old out.new result }
+{
+    match advices(alloc, table, verdict) {
+        Ok(advices) => explain_started(table, least, most, &advices, out),
+        Err(_) => Outcome::NoMemory,
+    }
+}
+
+/// Writes what is said of a table that this verdict refuses, on which these are all advices, with the table that one of them plans.
+fn explain_advised<K: Sink>(
+    alloc: Global,
+    table: &Table,
+    verdict: &TableVerdict,
+    advices: &[Advice],
+    out: &mut K,
+) -> Outcome
+    requires own { verdict.now ≡ verdict_of table.now }
+    requires refused { is_accepted verdict.now ≡ false }
+    requires all { advices.now ≡ advices_of table.now }
+    ensures { EndsExplaining ⟦<K as Sink>⟧ Answered (refused_as verdict.now table.now) out.old out.new result }
+{
+    match periodic_table(alloc, table, verdict) {
+        Ok(planned) => after_writing(
+            write_refused(verdict, advices, &planned, out),
+            Outcome::Answered,
+        ),
+        Err(_) => Outcome::NoMemory,
+    }
 }
 
 /// Writes what is said of a table that this verdict refuses, with the advices on it.
@@ -47,10 +93,10 @@ fn explain_refused<K: Sink>(
 ) -> Outcome
     requires own { verdict.now ≡ verdict_of table.now }
     requires refused { is_accepted verdict.now ≡ false }
-    ensures { EndsExplaining ⟦<K as Sink>⟧ Answered (refused_text verdict.now (advices_of table.now)) out.old out.new result }
+    ensures { EndsExplaining ⟦<K as Sink>⟧ Answered (refused_as verdict.now table.now) out.old out.new result }
 {
     match advices(alloc, table, verdict) {
-        Ok(advices) => after_writing(write_refused(verdict, &advices, out), Outcome::Answered),
+        Ok(advices) => explain_advised(alloc, table, verdict, &advices, out),
         Err(_) => Outcome::NoMemory,
     }
 }
@@ -61,7 +107,9 @@ fn explain_table<K: Sink>(alloc: Global, table: &Table, out: &mut K) -> Outcome
 {
     let verdict = verdict(table);
     match verdict {
-        TableVerdict::Accept { least, most, .. } => explain_accepted(table, least, most, out),
+        TableVerdict::Accept { least, most, .. } => {
+            explain_accepted(alloc, table, &verdict, least, most, out)
+        }
         TableVerdict::ShortCycle { .. } => explain_refused(alloc, table, &verdict, out),
         TableVerdict::SmallGap { .. } => explain_refused(alloc, table, &verdict, out),
         TableVerdict::NoSync { .. } => explain_refused(alloc, table, &verdict, out),

@@ -45,6 +45,8 @@ pub enum MessagesCommand {
     /// `drop T M`: what the senders of the aperiodic table in `T` do with the messages in `M`, of which some may have fewer than others, up
     /// to the end of the drop-out schedule.
     Drop,
+    /// `schedule T M`: when the senders of the table in `T`, accepted or not, would send the messages in `M` by the closed schedule.
+    Schedule,
 }
 
 /// A command on a table and a trace.
@@ -80,6 +82,8 @@ pub enum Form {
     OnItself(About),
     /// `explain T`: what the verdict on the table in the file `T` means, or why there is no valid table in it, and what to change.
     Explain,
+    /// `facts T`: the same for scripts, and more numbers, as one line of JSON.
+    Facts,
     /// `cable T C N`: what the senders of the table in `T` do on the cable in `C` in the bit times before N, and what each terminal hears.
     Cable {
         /// N: at most 1,099,511,627,776.
@@ -110,7 +114,9 @@ impl MessagesCommand {
     {
         match self {
             MessagesCommand::Drop => Some(Mode::Aperiodic),
-            MessagesCommand::Observe { .. } | MessagesCommand::Run => None,
+            MessagesCommand::Observe { .. } | MessagesCommand::Run | MessagesCommand::Schedule => {
+                None
+            }
         }
     }
 }
@@ -173,6 +179,8 @@ fn two_words(command: &str, second: &[u8]) -> Option<Form>
         Some(Form::OnTable(TableCommand::Plan))
     } else if command == "explain" {
         Some(Form::Explain)
+    } else if command == "facts" {
+        Some(Form::Facts)
     } else {
         None
     }
@@ -187,6 +195,8 @@ fn three_words(command: &str) -> Option<Form>
         Some(Form::OnMessages(MessagesCommand::Run))
     } else if command == "drop" {
         Some(Form::OnMessages(MessagesCommand::Drop))
+    } else if command == "schedule" {
+        Some(Form::OnMessages(MessagesCommand::Schedule))
     } else if command == "receive" {
         Some(Form::OnTrace(TraceCommand::Receive))
     } else if command == "audit" {

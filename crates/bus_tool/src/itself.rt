@@ -18,18 +18,22 @@ what each terminal receives, and audits recorded traces. What it says is proved.
   bus629 check T          judge the table in the file T
   bus629 explain T        tell in sentences what the verdict of the table in T means, or what is
                           wrong with its text, and what to change
-  bus629 tolerance T      tell how much delay an accepted table bears until two terminals could
-                          talk over each other or a turn be lost
+  bus629 tolerance T      tell how much delay an accepted table bears: with no more on the way, and
+                          in aperiodic mode between power-ups, its order stands
   bus629 tidy T           write the table in T as a text without comments, one space between fields
   bus629 witness T        messages with which the table in the file T fails, where it is refused:
                           try them with observe
   bus629 plan T           choose the offsets of the periodic table in T: the planned table, or that
                           the interval is too short
   bus629 report T         tell the verdict of the table in T and its figures, as JSON
+  bus629 facts T          tell all that explain and tolerance tell of the text in T, and more, as
+                          JSON
   bus629 run T M          run the senders of an accepted table with the messages in M: the trace,
                           and what each terminal receives
   bus629 drop T M         the same of an aperiodic table whose senders fall silent when their
                           messages are spent
+  bus629 schedule T M     write the closed schedule of any table, accepted or not, and the messages
+                          in M as a trace: hold it against that of observe
   bus629 observe T M N    look at the senders of any table up to moment N, in bit times of half a
                           microsecond: the trace
   bus629 cable T C N      the same on the cable in C, which has the messages too: the trace, and
@@ -49,7 +53,8 @@ The status is 0 for a yes or an answer, 1 for a no, 2 where the words are no com
 text of the table, the table as a whole or its mode is refused, 4 where the messages, the cable, the
 trace or the wave are, 5 for a failed read, 6 for a failed write, 7 where memory is refused, 8 for a
 file past its limit, and 9 for a schedule past its limit. A line on standard error says why from 2
-on, and for a no of run and drop. What explain finds wrong with a text is its answer, and a no.
+on, and for a no of run and drop. What explain and facts find wrong with a text is their answer,
+and a no.
 
 docs/BUS.md has the rules of the bus, docs/FORMATS.md the texts, lines and statuses, docs/CLAIMS.md
 what is proved; examples/ has tables to try.

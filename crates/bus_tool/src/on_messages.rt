@@ -10,6 +10,7 @@ use crate::inputs::take_dealt;
 use crate::observe::observe;
 use crate::refusal::Outcome;
 use crate::run::run;
+use crate::schedule::schedule;
 use bus_command::Dealt;
 use bus_outer::{Sink, Source};
 use std::alloc::Global;
@@ -26,6 +27,7 @@ fn answer<K: Sink>(alloc: Global, command: MessagesCommand, dealt: Dealt, out: &
         MessagesCommand::Observe { horizon } => observe(alloc, horizon, &table, hands, out),
         MessagesCommand::Run => run(alloc, &table, hands, out),
         MessagesCommand::Drop => dropout(alloc, &table, hands, out),
+        MessagesCommand::Schedule => schedule(alloc, &table, hands, out),
     }
 }
 

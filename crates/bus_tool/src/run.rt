@@ -7,9 +7,10 @@ ghost use Rattle.bus_command.specs.Taken.{AreReady};
 ghost use Rattle.bus_outer.specs.Sinks.{WritesText};
 ghost use Rattle.bus_regime.specs.Verdicts.{verdict_of, is_accepted};
 ghost use Rattle.bus_schedule.specs.Even.{are_even};
+ghost use Rattle.bus_schedule.specs.Uneven.{uneven_of};
 ghost use Rattle.bus_table.specs.Hands.{are_hands};
 ghost use Rattle.bus_tool.specs.inside.Acting.{EndsOnMessages};
-ghost use Rattle.bus_tool.specs.Due.{may_run as may_run_due, can_run};
+ghost use Rattle.bus_tool.specs.Due.{even_due, may_run as may_run_due, can_run};
 ghost use Rattle.bus_tool.specs.inside.Refused.{schedule_refusal};
 ghost use Rattle.bus_tool.specs.Forms.{Run};
 ghost use Rattle.bus_tool.specs.Texts.{IsRunRecording, run_text};
@@ -35,6 +36,18 @@ pub(crate) fn refuse_schedule(error: ScheduleError) -> Outcome
     match error {
         ScheduleError::Memory => Outcome::NoMemory,
         ScheduleError::TooLong { end } => refuse(ToolRefusal::TooLong { end }),
+    }
+}
+
+/// Whether hands are even, or why they aren't.
+pub(crate) fn judge_even(table: &Table, hands: &[Hand]) -> Result<(), Outcome>
+    requires dealt { IsTrue (are_hands table.now.senders hands.now) }
+    ensures value { result ≡ even_due (uneven_of table.now hands.now) }
+    ensures even { IfOk result (λ _. IsTrue (are_even table.now hands.now)) }
+{
+    match find_uneven(table, hands) {
+        Some(uneven) => Err(refuse_uneven(uneven)),
+        None => Ok(()),
     }
 }
 

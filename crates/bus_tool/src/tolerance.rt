@@ -11,8 +11,7 @@ use crate::check::verdict_outcome;
 use crate::refusal::Outcome;
 use bus_command::after_writing;
 use bus_outer::{Sink, TextBuffer, WriteFault};
-use bus_reach::starts_itself;
-use bus_regime::{TableVerdict, verdict, write_verdict};
+use bus_regime::{TableVerdict, starts_itself, verdict, write_verdict};
 use bus_table::laws::table_is_valid;
 use bus_table::{Mode, Table, put_mode};
 

@@ -8,18 +8,22 @@ use bus_advice::laws::{advices_work, none_missing};
 use bus_audit::laws::{no_breach_is_right, one_answer};
 use bus_cable::laws::{borne_is_orderly, texts_read_as_their_cables};
 use bus_command::{Status, outcome_text};
-use bus_explain::laws::{spare_is_fall, spare_is_rise};
+use bus_explain::laws::{gaps_are_told, load_is_of_longest_cycle, spare_is_fall, spare_is_rise};
 use bus_medium::laws::{one_cable_list, one_lawful_list};
 use bus_outer::{Sink, Source};
 use bus_plan::laws::{planned_is_accepted, short_is_refused};
 use bus_reach::laws::{
-    accepted_bear_zero, any_start_settles, borne_is_closed, periodic_bearing_is_exact,
-    periodic_borne_is_closed, tolerance_is_exact,
+    accepted_bear_zero, any_start_settles, borne_is_closed, limits_tell_bearing,
+    periodic_bearing_is_exact, periodic_borne_is_closed, some_never_part, tolerance_is_exact,
 };
-use bus_schedule::laws::{even_hands_agree, verdicts_are_exact, witnesses_have_schedules};
+use bus_schedule::laws::{
+    accepted_is_closed, closed_is_orderly, even_hands_agree, gaps_are_left, verdicts_are_exact,
+    witnesses_have_schedules,
+};
 use bus_strings::laws::texts_read_as_their_items;
 use bus_table::laws::{
     canonical_text_reads_as_its_table, fitting_items_give_hands, text_reads_as_its_table,
+    what_may_stand_goes_on,
 };
 use bus_trace::laws::traces_read_back;
 use bus_vote::laws::{runs_are_voted, two_fix_the_vote};
@@ -27,7 +31,8 @@ use bus_wave::laws::{runs_are_spaced, waves_tell_traces};
 use std::alloc::Global;
 
 /// The top call: does the command that the words ask for, writes a line on `err` where there is no answer, and says how the program
-/// ends. A failure on `err` changes no status.
+/// ends. A failure on `err` changes no status, and a beginning of that status's line stands there. Want of memory is free here as
+/// everywhere, so that by contract status 7 too may stand behind half a line: as much of its own as was written when `err` failed.
 pub fn tool<S: Source, K: Sink, E: Sink>(
     alloc: Global,
     words: &[String],
@@ -55,6 +60,7 @@ pub fn tool<S: Source, K: Sink, E: Sink>(
     no_breach_is_right();
     one_answer();
     even_hands_agree();
+    closed_is_orderly();
     verdicts_are_exact();
     witnesses_have_schedules();
     runs_are_voted();
@@ -67,10 +73,17 @@ pub fn tool<S: Source, K: Sink, E: Sink>(
     periodic_bearing_is_exact();
     accepted_bear_zero();
     any_start_settles();
+    limits_tell_bearing();
+    some_never_part();
     advices_work();
     none_missing();
     spare_is_rise();
     spare_is_fall();
+    load_is_of_longest_cycle();
+    gaps_are_told();
+    gaps_are_left();
+    accepted_is_closed();
+    what_may_stand_goes_on();
     texts_read_as_their_cables();
     one_cable_list();
     borne_is_orderly();

@@ -14,11 +14,12 @@ use std::test::Fail;
 type Call<'a> = (&'a [&'a str], &'a str, &'a str);
 
 /// Calls of each command that read and write without a refusal.
-const CALLS: [Call<'static>; 18] = [
+const CALLS: [Call<'static>; 20] = [
     (&["check", "T"], TWO_SENDERS, ""),
     (&["tolerance", "T"], TWO_SENDERS, ""),
     (&["explain", "T"], TWO_SENDERS, ""),
     (&["report", "T"], TWO_SENDERS, ""),
+    (&["facts", "T"], TWO_SENDERS, ""),
     (&["plan", "T"], TWO_PERIODIC_SENDERS, ""),
     (&["drill", "0"], "", ""),
     (&["--version"], "", ""),
@@ -26,6 +27,7 @@ const CALLS: [Call<'static>; 18] = [
     (&["tidy", "T"], LONG_GAP, ""),
     (&["run", "T", "M"], LONG_GAP, ONE_EACH),
     (&["drop", "T", "M"], LONG_GAP, ONE_EACH),
+    (&["schedule", "T", "M"], LONG_GAP, ONE_EACH),
     (&["observe", "T", "M", "150"], LONG_GAP, ONE_EACH),
     (&["cable", "T", "C", "150"], LONG_GAP, FOUR_APART),
     (&["receive", "T", "R"], LONG_GAP, ONE_EACH_SEEN),

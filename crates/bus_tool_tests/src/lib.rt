@@ -9,6 +9,7 @@ mod calls;
 mod drill;
 #[cfg(test)]
 mod explain;
+mod facts;
 #[cfg(test)]
 mod fault;
 #[cfg(test)]
@@ -25,6 +26,8 @@ mod plan;
 mod row;
 #[cfg(test)]
 mod run;
+#[cfg(test)]
+mod schedule;
 #[cfg(test)]
 mod table;
 #[cfg(test)]

@@ -5,6 +5,7 @@ pub mod Traces
 pub mod WordFields
 pub mod States
 pub mod Runs
+pub mod Stops
 pub mod Feeding
 pub mod Reading
 pub mod Pieces

@@ -8,6 +8,7 @@ ghost use Rattle.bus_trace.specs.States.{start, recorded, step, form_step, field
 ghost use Rattle.bus_trace.specs.inside.Sound.{IsSound, TakesString};
 ghost use Rattle.bus_trace.specs.States.{head_step, horizon_step, hold_step, begin_step, string_step, close_step, end_step};
 ghost use Rattle.bus_trace.specs.States.{is_hit as hit_test, is_final as final_test, is_refuted as refuted_test, more_list};
+ghost use Rattle.bus_trace.specs.Stops.{stop_in};
 ghost use Rattle.bus_trace.specs.inside.Reach.{IsReach};
 ghost use Rattle.bus_trace.specs.inside.Quick.{string_taken, BeginsRight, ClosesRight, TakesFront};
 ghost use Rattle.std.specs.Prelude.{IsTrue, OnOk, OnErr, false, IfOk, MatchOption};
@@ -25,6 +26,7 @@ use crate::mark::{is_mark, mark_of, starts_wrong, turns_wrong};
 use crate::position::{Position, is_closed, is_ended, may_follow};
 use crate::quick::{begin_line, behind_end, close_line, string_line};
 use crate::reason::TraceReason;
+use crate::stop::Stop;
 use crate::trace::Trace;
 use crate::words::{are_spelled, have_parity, wordstring};
 use bus_strings::limits::{HORIZON_LIMIT, MOST_TERMINAL, MOST_WORDS};
@@ -89,6 +91,13 @@ impl Draft {
         ensures { result ≡ ended_test self.now.position }
     {
         is_ended(self.position)
+    }
+
+    /// What decides which line may stand next.
+    pub(crate) fn stop(&self) -> Stop
+        ensures { result ≡ stop_in self.now }
+    {
+        Stop::new(self.position, self.format, last_count(&self.list))
     }
 
     /// Whether an earlier transmission ends behind the moment of the last.

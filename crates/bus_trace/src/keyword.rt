@@ -19,13 +19,20 @@ const END: &[u8] = b"END";
 
 /// What a line begins with.
 #[derive(Clone, Copy, Debug, PartialEq, Eq)]
-pub(crate) enum Keyword {
+pub enum Keyword {
+    /// The first line: the format.
     Trace,
+    /// Up to when the bus was looked at.
     Horizon,
+    /// How many messages a terminal held.
     Hold,
+    /// A transmission.
     Tx,
+    /// A wordstring of a transmission.
     Ws,
+    /// The end of a transmission, and its mark.
     Te,
+    /// The last line.
     End,
 }
 

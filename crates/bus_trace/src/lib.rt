@@ -6,6 +6,7 @@
 //!   offending line begins, with the [`TraceReason`].
 //!
 //! - [`TraceReader`] reads a trace text that comes in pieces, and tells with each piece whether it ends there or is refused.
+//! - [`stop_behind`] says what may stand behind lines of a trace text.
 //!
 //! The text is this project's own: `TRACE f`, `HORIZON h`, a `HOLD n c` for each terminal that held messages, then for each
 //! transmission `TX m n`, a `WS` line of words for each wordstring and, in format 2, a `TE e c` with its end and the mark of a
@@ -29,6 +30,7 @@ mod reader;
 mod reading;
 mod reason;
 mod stage;
+mod stop;
 mod trace;
 mod valid;
 mod walk;
@@ -37,9 +39,11 @@ mod writing;
 
 pub use fault::TraceError;
 pub use hold::Hold;
+pub use keyword::Keyword;
 pub use reader::TraceReader;
 pub use reading::read_trace;
 pub use reason::TraceReason;
 pub use stage::Fed;
+pub use stop::{Stop, stop_behind};
 pub use trace::Trace;
 pub use writing::write_trace;

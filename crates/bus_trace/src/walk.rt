@@ -2,12 +2,14 @@
 ghost use Rattle.std.specs.Prelude.{◌≡◌, ◌<◌, ◌≤◌, if◌then◌else◌, ◌+◌, ◌^◌, length, ◌++◌, ◌∷◌, [], MatchOption, IfOk};
 ghost use Rattle.bus_trace.specs.Limits.{line_limit};
 ghost use Rattle.bus_trace.specs.States.{step, text_of, recorded};
+ghost use Rattle.bus_trace.specs.Stops.{stop_in};
 ghost use Rattle.bus_trace.specs.Runs.{HasNoFeed, judged, run, begin, stream_of};
 ghost use Rattle.bus_trace.specs.inside.Walking.{KeepGives, JudgedGives, TookFront, WalkGives, GoesOn};
 
 use crate::draft::Draft;
 use crate::limits::LINE_LIMIT;
 use crate::reason::TraceReason;
+use crate::stop::Stop;
 use crate::trace::Trace;
 use bus_text::{LineFault, first_feed};
 use std::alloc::{AllocError, Global};
@@ -228,6 +230,13 @@ impl Walk {
             });
         }
         Ok(Walked::Passed)
+    }
+
+    /// What decides which line may stand next.
+    pub(crate) fn stop(&self) -> Stop
+        ensures { result ≡ stop_in self.now.state }
+    {
+        self.draft.stop()
     }
 
     /// The trace of what was read.

@@ -111,5 +111,5 @@ pub(crate) fn wordstring(alloc: Global, fields: &[&[u8]]) -> Result<Wordstring, 
 {
     let (label, ext) = split_label(value_of(field_at(fields, 0)));
     let words = values(alloc, fields_from(fields, 1))?;
-    Ok(Wordstring::new(label, ext, words).unwrap())
+    Ok(Wordstring::new(label, ext, words)?.unwrap())
 }

@@ -88,7 +88,7 @@ fn transmission(
 /// A wordstring of these words.
 fn wordstring(label: u16, ext: u8, words: Vec<u16>) -> Result<Wordstring, Fail> {
     let (label, ext) = pair(label, ext)?;
-    match Wordstring::new(label, ext, words) {
+    match Wordstring::new(label, ext, words)? {
         Some(string) => Ok(string),
         None => Err(Fail::new("no wordstring")),
     }

@@ -198,7 +198,7 @@ fn transmission(alloc: Global, moment: u64, terminal: u8) -> Result<Transmission
         return Err(Fail::new("no label"));
     };
     let words = Vec::from_slice(alloc, &[0, 1])?;
-    let Some(string) = Wordstring::new(label, ext, words) else {
+    let Some(string) = Wordstring::new(label, ext, words)? else {
         return Err(Fail::new("no wordstring"));
     };
     let mut strings = Vec::new(alloc);

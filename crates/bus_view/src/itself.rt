@@ -16,18 +16,20 @@ fn help() -> &'static [u8]
 Change Dumps (IEEE 1364), which wave viewers such as GTKWave read (sigrok and PulseView only wires),
 and as SVG pictures, which browsers show. What it writes is proved.
 
-  bus629-view vcd T R     the dump of the trace in the file R, on the table in the file T: the bus,
-                          with the first breach, and each sender or other terminal that sends
-  bus629-view wires T R   its signals of one bit alone
-  bus629-view timers T R  the dump with the timers of each sender, and where it may start; each of
-                          these three with FROM TO: from a bit time to below another
-  bus629-view gtkw T R    the save file with which GTKWave shows all signals of any of these dumps
-  bus629-view svg T R     the trace as a time line, with a lane for each terminal; svg T R FROM TO:
-                          from a bit time to below another
-  bus629-view cycles T R  a row for each cycle, for long traces; cycles T R FROM TO: of what begins
-                          there
-  bus629-view --help      this text
-  bus629-view --version   the version of the program, and of each text that it reads
+  bus629-view vcd T R [FROM TO]     the dump of the trace in the file R, on the table in the file T:
+                                    the bus, with the first breach, and each sender or other
+                                    terminal that sends
+  bus629-view wires T R [FROM TO]   its signals of one bit alone
+  bus629-view timers T R [FROM TO]  the dump with the timers of each sender, and where it may start
+  bus629-view gtkw T R              the save file with which GTKWave shows all signals of any of
+                                    these dumps
+  bus629-view svg T R [FROM TO]     the trace as a time line, with a lane for each terminal
+  bus629-view cycles T R [FROM TO]  a row for each cycle, for long traces
+  bus629-view --help                this text
+  bus629-view --version             the version of the program, and of each text that it reads
+
+FROM and TO are moments in bit times of half a microsecond: what is written is of the bit times from
+FROM to below TO, or in cycles of what begins there; without them of all of the trace.
 
 What run, drop, observe, cable and unwave of bus629 write is a trace. The status is 0 where the text
 is written, 2 where the words are no command, 3 where the text of the table or the table as a whole

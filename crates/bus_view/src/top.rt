@@ -13,7 +13,8 @@ use bus_trace::laws::traces_read_back;
 use std::alloc::Global;
 
 /// The top call: does the command that the words ask for, writes a line on `err` where there is no answer, and says how the program
-/// ends. A failure on `err` changes no status.
+/// ends. A failure on `err` changes no status, and a beginning of that status's line stands there. Want of memory is free here as
+/// everywhere, so that by contract status 7 too may stand behind half a line: as much of its own as was written when `err` failed.
 pub fn view<S: Source, K: Sink, E: Sink>(
     alloc: Global,
     words: &[String],

@@ -2,7 +2,7 @@
 use Rattle.std.specs.Prelude.{ℕ, ◌≡◌, ◌≤◌, [], ◌∷◌, length, take}
 use Rattle.bus_strings.specs.Messages.{Wordstring, IsWordstring, Message, IsMessage, bits}
 use Rattle.bus_strings.specs.declared.wordstring.Kept.{Kept}
-use Rattle.bus_strings.specs.declared.wordstring.Kept.TheVariants.{Short, Middle, Long, Left}
+use Rattle.bus_strings.specs.declared.wordstring.Kept.TheVariants.{Short, Middle, Long}
 use Rattle.bus_strings.specs.declared.message.Strings.{Strings}
 use Rattle.bus_strings.specs.declared.message.Strings.TheVariants.{One, Many}
 
@@ -19,7 +19,6 @@ abbrev pub kept_string : Kept → Wordstring
 kept_string (Short label ext count words) = record { label = label; ext = ext; words = take count words }
 kept_string (Middle label ext count words) = record { label = label; ext = ext; words = take count words.value }
 kept_string (Long label ext words) = record { label = label; ext = ext; words = words.value.items }
-kept_string (Left label ext words) = record { label = label; ext = ext; words = words.now }
 
 -- Every number of it lies in its range.
 abbrev pub IsKept : Kept → Type 0
@@ -29,7 +28,6 @@ IsKept (Middle label ext count words) =
     (length words.value ≡ most_middle) × (count ≤ most_middle)
     × IsWordstring (record { label = label; ext = ext; words = take count words.value })
 IsKept (Long label ext words) = IsWordstring (record { label = label; ext = ext; words = words.value.items })
-IsKept (Left label ext words) = IsWordstring (record { label = label; ext = ext; words = words.now })
 
 -- The message that is kept.
 abbrev pub kept_message : Strings → Message

@@ -5,5 +5,4 @@ pub returns-clause-aperiodic : goal.returns-clause-aperiodic
 returns-clause-aperiodic c = borne_is_orderly c.one_cable_list.ensures.once c.borne_is_closed.ensures c.hearing_tells.ensures.clear
 
 pub returns-clause-periodic : goal.returns-clause-periodic
-returns-clause-periodic c =
-    periodic_borne_is_orderly c.one_cable_list.ensures.once c.periodic_borne_is_closed.ensures c.borne_for_less.ensures c.hearing_tells.ensures.clear
+returns-clause-periodic c = periodic_borne_is_orderly c.one_cable_list.ensures.once c.periodic_borne_is_closed.ensures c.hearing_tells.ensures.clear

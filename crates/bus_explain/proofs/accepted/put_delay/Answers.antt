@@ -3,4 +3,4 @@ use Rattle.bus_explain.proofs.accepted.put_delay.Goals as goal
 
 pub returns : goal.returns
 returns g c =
-    c.put.ensures ▸ c.put_time.ensures ▸ c.put-2.ensures ▸ c.put-3.ensures
+    c.put.ensures ▸ c.put_time.ensures ▸ c.put_tolerance_meaning.ensures

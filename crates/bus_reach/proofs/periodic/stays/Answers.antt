@@ -17,7 +17,7 @@ returns-then-number c =
     (sym (c.number.ensures.value ∙ ap (λ (s : Sender). s.number) c.sender-in-loop-step.ensures) ∙ c.if-number.true) c.sg.ensures.value c.is_enough.ensures c.loop-step.invariant.same
 
 pub slack_behind-slack-requires-clause-wide : goal.slack_behind-slack-requires-clause-wide
-slack_behind-slack-requires-clause-wide c = wide_at c.args.d (gaps c.args.table.now) c.behind.result c.gap_at-gap.result c.requires.wide c.gap_at-gap.ensures
+slack_behind-slack-requires-clause-wide c = wide_at 0 (gaps c.args.table.now) c.behind.result c.gap_at-gap.result c.requires.wide c.gap_at-gap.ensures
 
 pub loop-step-preserved : goal.loop-step-preserved
 loop-step-preserved c =

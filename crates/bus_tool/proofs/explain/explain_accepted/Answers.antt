@@ -1,18 +1,14 @@
-use Rattle.std.proofs.Common.{◌≡◌, refl, ap}
+use Rattle.std.proofs.Common.{◌≡◌, arith, ◌∙◌}
 use Rattle.bus_command.specs.declared.outcome.Outcome.TheVariants.{Done}
 use Rattle.bus_command.specs.Readers.{entire, one_source}
-use Rattle.bus_command.proofs.DoLaws.{answered}
-use Rattle.bus_explain.specs.Accepted.{accepted_text}
-use Rattle.bus_regime.specs.Verdicts.{is_accepted}
-use Rattle.bus_tool.specs.Tolerances.{tolerance_of}
+use Rattle.bus_command.proofs.DoLaws.{roomless}
 use Rattle.bus_tool.proofs.explain.explain_accepted.Goals as goal
 
-pub tolerance_of-tolerance-requires : goal.tolerance_of-tolerance-requires
-tolerance_of-tolerance-requires g c = ap is_accepted c.requires.1
+pub explain_started-requires-clause-all : goal.explain_started-requires-clause-all
+explain_started-requires-clause-all g c = c.deref.ensures.value ∙ c.in-Ok.ensures
 
-pub returns : goal.returns
-returns g c =
-    answered (one_source entire) Done (λ text. text ≡ accepted_text c.args.table.now c.args.least c.args.most (tolerance_of c.args.table.now)) g.K.Sink
-    c.args.out.now c.write_accepted.new.sink
-    (accepted_text c.args.table.now c.args.least c.args.most c.tolerance_of-tolerance.result) c.write_accepted.result c.after_writing.result refl
-    (ap (accepted_text c.args.table.now c.args.least c.args.most) c.tolerance_of-tolerance.ensures) c.write_accepted.ensures c.after_writing.ensures
+pub returns-in-Ok : goal.returns-in-Ok
+returns-in-Ok g c = c.explain_started.ensures
+
+pub returns-in-Err : goal.returns-in-Err
+returns-in-Err g c = roomless (one_source entire) Done _ _ (omega arith)

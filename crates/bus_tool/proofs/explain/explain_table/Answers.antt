@@ -3,8 +3,11 @@ use Rattle.bus_regime.specs.Verdicts.{is_accepted}
 use Rattle.bus_tool.proofs.ExplainLemmas.{table_ends, refused_ends}
 use Rattle.bus_tool.proofs.explain.explain_table.Goals as goal
 
-pub explain_accepted-requires : goal.explain_accepted-requires
-explain_accepted-requires g c = (_, sym c.verdict-verdict.ensures ∙ c.in-Accept.is)
+pub explain_accepted-requires-clause-own : goal.explain_accepted-requires-clause-own
+explain_accepted-requires-clause-own g c = sym c.in-Accept.is ∙ c.verdict-verdict.ensures
+
+pub explain_accepted-requires-clause-accepted : goal.explain_accepted-requires-clause-accepted
+explain_accepted-requires-clause-accepted g c = (_, sym c.verdict-verdict.ensures ∙ c.in-Accept.is)
 
 pub explain_refused-requires-clause-own : goal.explain_refused-requires-clause-own
 explain_refused-requires-clause-own g c = c.verdict-verdict.ensures

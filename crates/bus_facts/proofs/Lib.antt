@@ -1,0 +1,7 @@
+-- The lemmas of this crate; those that a crate above may cite are public.
+pub mod Shapes
+pub mod Plain
+pub mod StartLemmas
+pub mod Pushing
+pub mod PaceLemmas
+pub mod TellingLemmas

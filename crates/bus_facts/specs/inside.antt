@@ -1,0 +1,4 @@
+-- What only contracts of private functions and proofs name: not to be read for what is promised.
+pub mod Slow
+pub mod Seen
+pub mod Telling

@@ -1,0 +1,116 @@
+//! The facts of a text, as a line of JSON.
+ghost use Rattle.std.specs.Prelude.{◌≡◌, ◌≤◌, ◌++◌, Some, false, codes, IfOk, string_bytes};
+ghost use Rattle.serde_json.specs.Data.{depth};
+ghost use Rattle.serde_json.specs.Read.{read};
+ghost use Rattle.serde_json.specs.View.{view};
+ghost use Rattle.serde_json.specs.Written.{compact_text, has_float};
+ghost use Rattle.bus_table.specs.Gives.{Fails};
+ghost use Rattle.bus_table.specs.Reading.{answer_of};
+ghost use Rattle.bus_regime.specs.Verdicts.{is_accepted, verdict_of};
+ghost use Rattle.bus_facts.specs.Facts as told;
+ghost use Rattle.bus_facts.specs.inside.Telling.{Tells};
+
+use crate::table::table_value;
+use crate::wrong::{text_value, whole_value};
+use bus_regime::verdict;
+use bus_table::{Table, TableError, find_stop, read_table};
+use serde_json::{Value, json};
+use std::alloc::{AllocError, Global};
+
+/// The facts of a text.
+#[derive(Debug, Drop)]
+pub struct Facts {
+    /// One JSON object, and a line feed.
+    pub line: String,
+    /// Whether the text gives a table that the verdict accepts.
+    pub accepted: bool,
+}
+
+/// What is told of a text that gives no valid table: this error alone.
+fn error_value(alloc: Global, error: Value) -> Result<Value, AllocError>
+    ensures { IfOk result (λ value. view value ≡ told.error_value (view error)) }
+{
+    json!(in alloc; {
+        "accepted": false,
+        "advices": [],
+        "cycle": null,
+        "error": error,
+        "load": null,
+        "mode": null,
+        "senders": [],
+        "sg": null,
+        "spare": null,
+        "start": null,
+        "ti": null,
+        "tolerance": null,
+        "verdict": null
+    })
+}
+
+/// Which error a text has that gives no valid table for this reason.
+fn refusal_value(alloc: Global, text: &[u8], error: TableError) -> Result<Value, AllocError>
+    requires { Fails error (answer_of text.now) }
+    ensures value { IfOk result (λ value. view value ≡ told.facts_value text.now) }
+    ensures failed { IfOk result (λ _. told.is_accepting (answer_of text.now) ≡ false) }
+{
+    match error {
+        TableError::Text { line, reason } => {
+            let stop = find_stop(alloc, text)?;
+            let refusal = text_value(alloc, line, reason, &stop)?;
+            error_value(alloc, refusal)
+        }
+        TableError::Whole(reason) => {
+            let refusal = whole_value(alloc, reason)?;
+            error_value(alloc, refusal)
+        }
+        TableError::Memory => Err(AllocError),
+    }
+}
+
+/// A JSON value without floats that nests six deep at most, as a line.
+fn line_of(alloc: Global, value: &Value) -> Result<String, AllocError>
+    requires whole { has_float (view value.now) ≡ false }
+    requires deep { depth (view value.now) ≤ 6 }
+    ensures text { IfOk result (λ line. string_bytes line ≡ compact_text (view value.now) ++ codes "\n") }
+    ensures reads { IfOk result (λ _. read (compact_text (view value.now)) ≡ Some (view value.now)) }
+{
+    let mut line = value.to_string(alloc)?;
+    line.push('\n')?;
+    Ok(line)
+}
+
+/// The facts of a valid table.
+fn table_facts(alloc: Global, table: &Table) -> Result<Facts, AllocError>
+    ensures { IfOk result (Tells (told.table_value table.now) (is_accepted (verdict_of table.now))) }
+{
+    let verdict = verdict(table);
+    let value = table_value(alloc, table, &verdict)?;
+    Ok(Facts {
+        line: line_of(alloc, &value)?,
+        accepted: verdict.is_accepted(),
+    })
+}
+
+/// The facts of a text that gives no valid table for this reason.
+fn error_facts(alloc: Global, text: &[u8], error: TableError) -> Result<Facts, AllocError>
+    requires { Fails error (answer_of text.now) }
+    ensures { IfOk result (Tells (told.facts_value text.now) (told.is_accepting (answer_of text.now))) }
+{
+    let value = refusal_value(alloc, text, error)?;
+    Ok(Facts {
+        line: line_of(alloc, &value)?,
+        accepted: false,
+    })
+}
+
+/// The facts of a text, whether it is one of a table or not. Fails only where memory runs out.
+pub fn facts_of(alloc: Global, text: &[u8]) -> Result<Facts, AllocError>
+    ensures line { IfOk result (λ facts. string_bytes facts.line ≡ told.facts_text text.now) }
+    ensures reads { IfOk result (λ _. read (compact_text (told.facts_value text.now)) ≡ Some (told.facts_value text.now)) }
+    ensures accepted { IfOk result (λ facts. facts.accepted ≡ told.is_accepting (answer_of text.now)) }
+{
+    match read_table(alloc, text) {
+        Ok(table) => table_facts(alloc, &table),
+        Err(error) => error_facts(alloc, text, error),
+    }
+}
