@@ -1,0 +1,2 @@
+-- The lemmas of this crate, for crates above it too.
+pub mod BoundLaws
