@@ -1,0 +1,9 @@
+pub mod Places
+pub mod Ticks
+pub mod Pasts
+pub mod Courses
+pub mod Rooms
+pub mod Ordering
+pub mod Returning
+pub mod Settled
+pub mod Lasting
