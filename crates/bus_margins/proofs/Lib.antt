@@ -1,0 +1,14 @@
+-- The lemmas of this crate.
+pub mod TimeLemmas
+pub mod LeastLemmas
+pub mod TellingLemmas
+pub mod FitLemmas
+pub mod FactLemmas
+pub mod Ordering
+pub mod WiderLemmas
+pub mod BearLemmas
+pub mod BorneLemmas
+pub mod PlaceLemmas
+pub mod Apart
+pub mod Roomy
+pub mod Levels
