@@ -1,0 +1,9 @@
+pub mod LeastLemmas
+pub mod PlaceLemmas
+pub mod LoopLemmas
+pub mod OrderLemmas
+pub mod RoomLemmas
+pub mod LeadLemmas
+pub mod TableLemmas
+pub mod Apart
+pub mod LevelLaws

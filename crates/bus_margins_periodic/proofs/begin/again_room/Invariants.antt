@@ -1,0 +1,9 @@
+use Rattle.std.proofs.Common.{◌≡◌}
+use Rattle.bus_margins.specs.Buses.{bus_of}
+use Rattle.bus_margins_periodic.specs.Buses.{soon_of, late_of}
+use Rattle.bus_margins_periodic.specs.Least.{least_of}
+use Rattle.bus_margins_periodic.specs.Rooms.{again_room}
+use Rattle.bus_margins_periodic.proofs.begin.again_room.Given as goal
+
+abbrev pub invariant-loop-k : goal.invariant-loop-k
+invariant-loop-k l = l.least ≡ least_of l.k (again_room (bus_of l.bounds l.table) (soon_of l.bounds l.table) (late_of l.bounds l.table))

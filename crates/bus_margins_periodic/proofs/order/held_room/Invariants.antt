@@ -1,0 +1,16 @@
+use Rattle.std.proofs.Common.{◌≡◌, ◌≤◌, ◌⊎◌, ◌^◌, ◌+◌, ◌-◌, ◌*◌}
+use Rattle.bus_drift.specs.Turns.{slowest, fastest}
+use Rattle.bus_margins.specs.Buses.{bus_of}
+use Rattle.bus_margins_periodic.specs.Least.{least_of}
+use Rattle.bus_margins_periodic.specs.Rooms.{passed_room}
+use Rattle.bus_margins_periodic.proofs.order.held_room.Given as goal
+
+abbrev pub invariant-loop-held : goal.invariant-loop-held
+invariant-loop-held l =
+    (l.least ≡ least_of (l.held - l.late) (λ a. passed_room (bus_of l.bounds l.table) l.last l.late (l.late + a)))
+    × (l.slow ≡ slowest (bus_of l.bounds l.table) l.late l.held)
+    × (l.fast ≡ fastest (bus_of l.bounds l.table) l.late l.held)
+    × (l.slow ≤ (l.held - l.late) * 2 ^ 33)
+    × (l.fast ≤ (l.held - l.late) * 2 ^ 31)
+    × (l.late ≤ l.held)
+    × ((l.held ≤ l.last) ⊎ (l.held ≡ l.late))

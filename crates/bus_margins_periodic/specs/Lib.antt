@@ -1,0 +1,8 @@
+-- What the contracts of this crate cite.
+pub mod Buses
+pub mod Least
+pub mod Rooms
+pub mod Margins
+pub mod Texts
+pub mod Laws
+pub mod inside

@@ -1,0 +1,2 @@
+-- What contracts inside this crate cite.
+pub mod Cases

@@ -1,0 +1,156 @@
+//! The rule of order: what room it leaves.
+ghost use Rattle.std.specs.Prelude.{◌≡◌, ◌<◌, ◌≤◌, ◌+◌, ◌-◌, ◌*◌, ◌^◌, length, suc};
+ghost use Rattle.bus_drift.specs.Turns.{fastest, slowest};
+ghost use Rattle.bus_table.specs.Turned.{AreTurned};
+ghost use Rattle.bus_margins.specs.Buses.{bus_of};
+ghost use Rattle.bus_margins_periodic.specs.Rooms as rules;
+ghost use Rattle.bus_margins_periodic.specs.inside.Cases.{IsCase};
+
+use crate::room::{Room, lesser};
+use crate::times::{count, long_step, short_step, tg_long, tg_short, ti_long, ti_short, who};
+use bus_bounds::Bounds;
+use bus_table::{MOST_SENDERS, Table};
+
+/// A turn that is late, one that it holds back, and one that is due behind it.
+#[derive(Clone, Copy)]
+pub(crate) struct Case {
+    /// The late one.
+    late: usize,
+    /// The one that is held back.
+    held: usize,
+    /// The one that is due.
+    due: usize,
+    /// How long it takes at most from the late one to the one that is held back.
+    slow: u64,
+    /// How long it takes at least from the late one to the one that is due.
+    fast: u64,
+}
+
+/// Whether the one that is held back doesn't come first by the gaps alone.
+fn is_close(bounds: Bounds, table: &Table, places: &[usize; MOST_SENDERS], case: Case) -> bool
+    requires { AreTurned table.now places.now }
+    ensures { result ≡ rules.is_close (bus_of bounds table.now) case.held case.due }
+{
+    let due = tg_short(bounds, table, places, who(table, case.due));
+    due <= tg_long(bounds, table, places, who(table, case.held)) + 2 * bounds.delay()
+}
+
+/// The room in a case.
+fn order_among(
+    bounds: Bounds,
+    table: &Table,
+    places: &[usize; MOST_SENDERS],
+    case: Case,
+) -> Option<Room>
+    requires turned { AreTurned table.now places.now }
+    requires case { IsCase (bus_of bounds table.now) case }
+    ensures { result ≡ rules.order_among (bus_of bounds table.now) case.late case.held case.due }
+{
+    if case.late == case.held || is_close(bounds, table, places, case) {
+        Some(Room {
+            first: who(table, case.late),
+            second: who(table, case.held),
+            third: who(table, case.due),
+            need: ti_long(bounds, table) + case.slow + bounds.delay() + 1,
+            have: ti_short(bounds, table) + case.fast,
+        })
+    } else {
+        None
+    }
+}
+
+/// The room of all that are due behind the one that is held back, before turn `last`, where that one is due so far.
+#[tactic(auto, using(crate::proofs::LoopLemmas::fast_more))]
+fn passed_room(
+    bounds: Bounds,
+    table: &Table,
+    places: &[usize; MOST_SENDERS],
+    last: usize,
+    case: Case,
+) -> Option<Room>
+    requires turned { AreTurned table.now places.now }
+    requires case { IsCase (bus_of bounds table.now) case }
+    requires begins { case.due ≡ case.held }
+    requires few { last ≤ 2 ^ 10 }
+    requires small { case.fast ≤ 2 ^ 41 }
+    ensures { result ≡ rules.passed_room (bus_of bounds table.now) last case.late case.held }
+{
+    let mut least = None;
+    let mut fast = case.fast;
+    for due in case.held + 1..last {
+        fast += short_step(bounds, table, places, due - 1);
+        least = lesser(
+            least,
+            order_among(bounds, table, places, Case { due, fast, ..case }),
+        );
+    }
+    least
+}
+
+/// The room of all that a late turn may hold back, and of those behind, before turn `last`.
+#[tactic(auto, using(crate::proofs::LoopLemmas::fast_more, crate::proofs::LoopLemmas::slow_more, crate::proofs::LoopLemmas::fast_none, crate::proofs::LoopLemmas::slow_none))]
+fn held_room(
+    bounds: Bounds,
+    table: &Table,
+    places: &[usize; MOST_SENDERS],
+    last: usize,
+    late: usize,
+) -> Option<Room>
+    requires turned { AreTurned table.now places.now }
+    requires few { last ≤ late + 128 }
+    requires first { late ≤ 128 }
+    ensures { result ≡ rules.held_room (bus_of bounds table.now) last late }
+{
+    let mut least = None;
+    let (mut slow, mut fast) = (0, 0);
+    for held in late..last {
+        let case = Case {
+            late,
+            held,
+            due: held,
+            slow,
+            fast,
+        };
+        least = lesser(least, passed_room(bounds, table, places, last, case));
+        slow += long_step(bounds, table, places, held);
+        fast += short_step(bounds, table, places, held);
+    }
+    least
+}
+
+/// The room of all turns less than a round apart.
+pub(crate) fn order_room(
+    bounds: Bounds,
+    table: &Table,
+    places: &[usize; MOST_SENDERS],
+) -> Option<Room>
+    requires { AreTurned table.now places.now }
+    ensures { result ≡ rules.order_room (bus_of bounds table.now) }
+{
+    let senders = count(table);
+    let mut least = None;
+    for late in 0..senders {
+        least = lesser(
+            least,
+            held_room(bounds, table, places, late + senders, late),
+        );
+    }
+    least
+}
+
+/// The room of all turns of one round.
+pub(crate) fn lead_order_room(
+    bounds: Bounds,
+    table: &Table,
+    places: &[usize; MOST_SENDERS],
+) -> Option<Room>
+    requires { AreTurned table.now places.now }
+    ensures { result ≡ rules.lead_order_room (bus_of bounds table.now) }
+{
+    let senders = count(table);
+    let mut least = None;
+    for late in 0..senders {
+        least = lesser(least, held_room(bounds, table, places, senders, late));
+    }
+    least
+}
