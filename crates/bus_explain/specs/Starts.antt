@@ -1,4 +1,4 @@
--- What is said of an accepted table whose order needn't come about by itself.
+-- What is said of the start of an accepted table: whether its order comes about by itself.
 --   starts   whether the table starts itself
 --   never    whether its senders never part once they all start at once
 use Rattle.std.specs.Prelude.{ℕ, Bool, true, false, ◌==◌, List, [], ◌++◌, length, codes}
@@ -9,6 +9,12 @@ use Rattle.bus_table.specs.Tables.{Table}
 use Rattle.bus_regime.specs.Starting.{never_parts, starts_itself}
 use Rattle.bus_advice.specs.declared.advice.Advice.{Advice}
 use Rattle.bus_explain.specs.Advised.{advice_line}
+
+-- That it starts itself, and what that means.
+abbrev pub itself_sentence : List ℕ
+itself_sentence =
+    codes "The table starts itself: whenever its terminals are powered up, with delays up to the tolerance too, its senders come to take turns "
+    ++ codes "by themselves, as long as each has messages left.\n"
 
 -- That it doesn't start itself, and what that can mean.
 abbrev pub start_sentence : Bool → List ℕ
@@ -25,7 +31,7 @@ start_head false = []
 
 -- What is said of an aperiodic table, on which there are these advices to start, one or none.
 abbrev pub start_lines : (starts never : Bool) → List Advice → List ℕ
-start_lines true never advices = []
+start_lines true never advices = itself_sentence
 start_lines false never advices = start_sentence never ++ start_head (length advices == 0) ++ flat_map advice_line advices
 
 -- What is said of a table of this mode; nothing of a periodic one, of which no start but the settled one is known.

@@ -4,6 +4,7 @@
 //!   never come about.
 //! - [`write_refused`] tells why the verdict refuses a table, by how many bit times, which advices there are, and the table that one plans.
 //! - [`write_whole`] tells why a table is wrong as a whole, and [`write_unread`] why a text is refused, and what may stand there.
+//! - [`put_time`] puts a time as all these sentences have it.
 //! - [`load`] with [`longest_bits`], [`spare`] and [`gap_bits`] are the figures of an accepted table that its verdict doesn't tell.
 //!
 //! Each sentence is a definition with holes for its numbers: `specs/Accepted` with `Starts`, `Refused`, `Advised`, `Wholes`, `Unread` with
@@ -27,5 +28,6 @@ mod wholes;
 pub use accepted::write_accepted;
 pub use figures::{gap_bits, load, longest_bits, spare};
 pub use refused::write_refused;
+pub use times::put_time;
 pub use unread::write_unread;
 pub use wholes::write_whole;

@@ -1,4 +1,4 @@
-//! An accepted table that doesn't start itself: what that can mean, and the advice to start.
+//! Whether an accepted table starts itself, what that means, and the advice to start.
 ghost use Rattle.std.specs.Prelude.{◌≡◌, true, false};
 ghost use Rattle.bus_outer.specs.Texts.{Adds};
 ghost use Rattle.bus_table.specs.declared.mode.Mode.TheVariants.{Aperiodic};
@@ -9,6 +9,17 @@ use bus_advice::Advice;
 use bus_outer::{Sink, TextBuffer};
 use bus_regime::{never_parts, starts_itself};
 use bus_table::{Mode, Table};
+
+/// Puts that a table starts itself.
+fn put_itself<K: Sink>(text: &mut TextBuffer, sink: &mut K)
+    ensures { Adds K.held K.faults sink.old sink.new text.old text.new starts.itself_sentence }
+{
+    text.put(
+        sink,
+        b"The table starts itself: whenever its terminals are powered up, with delays up to the tolerance too, its senders come to take turns ",
+    );
+    text.put(sink, b"by themselves, as long as each has messages left.\n");
+}
 
 /// Puts that a table doesn't start itself, by whether its senders never part once they all start at once.
 fn put_sentence<K: Sink>(text: &mut TextBuffer, sink: &mut K, never: bool)
@@ -69,7 +80,7 @@ fn put_start_lines<K: Sink>(
     ensures { Adds K.held K.faults sink.old sink.new text.old text.new (starts.start_lines itself never advices.now) }
 {
     if itself {
-        text.put(sink, b"");
+        put_itself(text, sink);
     } else {
         put_waiting(text, sink, never, advices);
     }

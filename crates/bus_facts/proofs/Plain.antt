@@ -8,11 +8,12 @@ use Rattle.bus_table.specs.declared.error.TableError.{TableError}
 use Rattle.bus_table.specs.declared.error.TableError.TheVariants.{Text, Whole, Memory}
 use Rattle.bus_table.specs.declared.error.WholeReason.{WholeReason}
 use Rattle.bus_table.specs.declared.error.WholeReason.TheVariants.{NoSender, NumberTwice, GapTwice, GapNotShort, PairTwice, OffsetRange}
+use Rattle.bus_table.specs.declared.keyword.Keyword.{Keyword}
 use Rattle.bus_table.specs.declared.line.SendLine.{SendLine}
 use Rattle.bus_table.specs.declared.mode.Mode.{Mode}
 use Rattle.bus_table.specs.declared.mode.Mode.TheVariants.{Aperiodic, Periodic}
 use Rattle.bus_table.specs.Reading.{answer_of}
-use Rattle.bus_table.specs.Stops.{Stop, stop_of}
+use Rattle.bus_table.specs.Stops.{Stop, spent, stop_of}
 use Rattle.bus_table.specs.Tables.{Sender, Table}
 use Rattle.bus_text.specs.declared.reason.Reason.{Reason}
 use Rattle.bus_regime.specs.Gaps.{width}
@@ -161,11 +162,16 @@ plain_start_in n Aperiodic table = plain_object n _ (one n _ _ _ (plain_or_null 
 plain_start_in n Periodic table = plain_null (suc n)
 
 -- ---- why there is no table
+plain_spent : (n : ℕ) (keyword : Option Keyword) → IsPlain n (wrong.spent_value keyword)
+plain_spent n (Some keyword) = plain_string n _
+plain_spent n None = plain_null n
+
 plain_text : (n line : ℕ) (reason : Reason) (stop : Stop) → IsPlain (suc (suc n)) (wrong.text_value line reason stop)
 plain_text n line reason stop =
     plain_object (suc n) _
     (one _ _ _ _ (plain_list n _ (each_plain n wrong.keyword_value _ (λ keyword i. plain_string n _))) (one _ _ _ _ (plain_string _ _)
-    (one _ _ _ _ (plain_count _ line) (one _ _ _ _ (plain_boolean _ _) (one _ _ _ _ (plain_string _ _) (done _))))))
+    (one _ _ _ _ (plain_count _ line) (one _ _ _ _ (plain_boolean _ _) (one _ _ _ _ (plain_string _ _)
+    (one _ _ _ _ (plain_spent _ (spent stop)) (done _)))))))
 
 plain_terminal : (n : ℕ) (reason : List ℕ) (terminal : ℕ) → IsPlain (suc n) (wrong.terminal_value reason terminal)
 plain_terminal n reason terminal =

@@ -1,7 +1,7 @@
 -- Why a text gives no valid table.
 use Rattle.std.specs.Prelude.{ℕ, Bool, false, List, [], ◌∷◌, map, codes, Option, Some, None}
 use Rattle.std.specs.List.{filter}
-use Rattle.serde_json.specs.Data.{Data, boolean, string, object, member, no_members}
+use Rattle.serde_json.specs.Data.{Data, null, boolean, string, object, member, no_members}
 use Rattle.bus_text.specs.Digits.{hex_digit, hexadecimal}
 use Rattle.bus_text.specs.declared.reason.Reason.{Reason}
 use Rattle.bus_text.specs.Reasons.{reason_word}
@@ -10,7 +10,7 @@ use Rattle.bus_table.specs.declared.error.WholeReason.TheVariants.{NoSender, Num
 use Rattle.bus_table.specs.declared.keyword.Keyword.{Keyword}
 use Rattle.bus_table.specs.Drafts.{may_end}
 use Rattle.bus_table.specs.Forms.{all_keywords, word_of}
-use Rattle.bus_table.specs.Stops.{Stop, may_stand, fitting}
+use Rattle.bus_table.specs.Stops.{Stop, may_stand, fitting, spent}
 use Rattle.bus_facts.specs.Values.{count, list}
 
 -- ---- a text that is refused
@@ -32,6 +32,11 @@ keyword_value keyword = string (word_of keyword)
 abbrev pub standing_value : Stop → Data
 standing_value stop = list (map keyword_value (standing stop (fitting stop)))
 
+-- The keyword of a line that is one too many of its kind; null where it isn't refused for that.
+abbrev pub spent_value : Option Keyword → Data
+spent_value (Some keyword) = keyword_value keyword
+spent_value None = null
+
 -- Which line is refused and why, and what may stand there.
 abbrev pub text_value : (line : ℕ) → Reason → Stop → Data
 text_value line reason stop =
@@ -39,7 +44,8 @@ text_value line reason stop =
     (member (codes "kind") (string (codes "text"))
     (member (codes "line") (count line)
     (member (codes "may_end") (boolean (may_end_at stop (fitting stop)))
-    (member (codes "reason") (string (reason_word reason)) no_members)))))
+    (member (codes "reason") (string (reason_word reason))
+    (member (codes "spent") (spent_value (spent stop)) no_members))))))
 
 -- ---- a table that is wrong as a whole
 -- A reason alone.

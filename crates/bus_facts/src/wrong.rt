@@ -75,6 +75,16 @@ fn may_end(stop: &Stop) -> bool
     }
 }
 
+/// The keyword of a line that is one too many of its kind, or null.
+fn spent_value(alloc: Global, stop: &Stop) -> Result<Value, AllocError>
+    ensures { IfOk result (λ value. view value ≡ wrong.spent_value (stops.spent stop.now)) }
+{
+    match stop.spent() {
+        Some(keyword) => Value::try_from_str(alloc, word(keyword)),
+        None => Ok(Value::Null),
+    }
+}
+
 /// Which line of a text is refused and why, and what may stand there.
 pub(crate) fn text_value(
     alloc: Global,
@@ -85,12 +95,14 @@ pub(crate) fn text_value(
     ensures { IfOk result (λ value. view value ≡ wrong.text_value line reason stop.now) }
 {
     let keywords = standing_value(alloc, stop)?;
+    let spent = spent_value(alloc, stop)?;
     json!(in alloc; {
         "keywords": keywords,
         "kind": "text",
         "line": line,
         "may_end": may_end(stop),
-        "reason": reason.word()
+        "reason": reason.word(),
+        "spent": spent
     })
 }
 
