@@ -6,6 +6,7 @@ _bus629() {
     'check:judge the table in the file T'
     'explain:tell in sentences what the verdict of the table in T means, or what is wrong with its text, and what to change'
     'tolerance:tell how much delay an accepted table bears'
+    'margins:tell what order the aperiodic table in T keeps on real clocks, and with how much room'
     'tidy:write the table in T as a text without comments, one space between fields'
     'witness:messages with which the table in the file T fails, where it is refused'
     'plan:choose the offsets of the periodic table in T'
@@ -27,8 +28,8 @@ _bus629() {
   )
   case $CURRENT:$words[2] in
     2:*) _describe command commands ;;
-    3:check|3:explain|3:tolerance|3:tidy|3:witness|3:plan|3:report|3:facts|3:run|3:drop|3:schedule|3:observe|3:cable|3:receive|3:audit|3:vote|3:wave|3:unwave) _files ;;
-    4:run|4:drop|4:schedule|4:observe|4:cable|4:receive|4:audit|4:vote|4:wave|4:unwave) _files ;;
+    3:check|3:explain|3:tolerance|3:margins|3:tidy|3:witness|3:plan|3:report|3:facts|3:run|3:drop|3:schedule|3:observe|3:cable|3:receive|3:audit|3:vote|3:wave|3:unwave) _files ;;
+    4:explain|4:run|4:drop|4:schedule|4:observe|4:cable|4:receive|4:audit|4:vote|4:wave|4:unwave) _files ;;
   esac
 }
 _bus629 "$@"

@@ -6,6 +6,9 @@ use Rattle.bus_table.specs.Tables.{Table, Hand}
 use Rattle.bus_audit.specs.declared.answer.AuditAnswer.{AuditAnswer}
 use Rattle.bus_audit.specs.declared.answer.AuditAnswer.TheVariants.{Lawful, Breach}
 use Rattle.bus_dropout.specs.DropOut.{last_cycle, drop_end}
+use Rattle.bus_margins.specs.declared.level.Level.{Level}
+use Rattle.bus_margins.specs.declared.level.Level.TheVariants.{Any, Common, Neither}
+use Rattle.bus_margins.specs.Rooms.{level_of}
 use Rattle.bus_plan.specs.Answers.{plan_of}
 use Rattle.bus_plan.specs.declared.planning.PlanAnswer.{PlanAnswer}
 use Rattle.bus_plan.specs.declared.planning.PlanAnswer.TheVariants.{Planned, Infeasible}
@@ -20,9 +23,9 @@ use Rattle.bus_command.specs.declared.outcome.Outcome.TheVariants.{Done}
 use Rattle.bus_command.specs.Kinds.{Answer, kind_of, stage_of}
 use Rattle.bus_command.specs.Stages.{stage_in}
 use Rattle.bus_command.proofs.StageLaws.{stage_with, then_stage}
-use Rattle.bus_tool.specs.Due.{verdict_outcome, plan_outcome, audit_outcome, table_answer, messages_answer}
+use Rattle.bus_tool.specs.Due.{verdict_outcome, plan_outcome, level_outcome, margins_outcome, audit_outcome, table_answer, messages_answer}
 use Rattle.bus_tool.specs.Due.{even_due, accepted_due, short_due, last_due, may_run, can_run, can_schedule, may_drop, can_drop}
-use Rattle.bus_tool.specs.Forms.{TableCommand, Check, Tolerance, Tidy, Report, Witness, Plan, MessagesCommand, Observe, Run, Drop, Schedule}
+use Rattle.bus_tool.specs.Forms.{TableCommand, Check, Tolerance, Tidy, Report, Witness, Plan, Margins, MessagesCommand, Observe, Run, Drop, Schedule}
 use Rattle.bus_tool.specs.Refusals.{Outcome, refuse, NotAccepted, ShortLast, TooLong}
 
 -- ---- the answers
@@ -36,6 +39,17 @@ pub written_plan : (answer : PlanAnswer) → kind_of (plan_outcome answer) ≡ A
 written_plan (Planned table) = refl
 written_plan (Infeasible least ti) = refl
 
+written_level : (level : Level) → kind_of (level_outcome level) ≡ Answer
+written_level Any = refl
+written_level Common = refl
+written_level Neither = refl
+
+pub written_margins : (verdict : TableVerdict) (level : Level) → kind_of (margins_outcome verdict level) ≡ Answer
+written_margins (Accept mode least most) level = written_level level
+written_margins (ShortCycle least ti) level = refl
+written_margins (SmallGap terminal gap needed) level = refl
+written_margins (NoSync terminal gap needed) level = refl
+
 pub written_audit : (answer : AuditAnswer) → kind_of (audit_outcome answer) ≡ Answer
 written_audit (Lawful collided) = refl
 written_audit (Breach moment terminal kind) = refl
@@ -47,6 +61,7 @@ table_answered Tidy table = refl
 table_answered Report table = written_verdict (verdict_of table)
 table_answered Witness table = refl
 table_answered Plan table = written_plan (plan_of table)
+table_answered (Margins bounds) table = written_margins (verdict_of table) (level_of bounds table)
 
 -- ---- their stages
 pub answer_late : (o : Outcome) → kind_of o ≡ Answer → 2 ≤ stage_of (kind_of o)

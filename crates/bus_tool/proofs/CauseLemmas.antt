@@ -5,6 +5,9 @@ use Rattle.bus_strings.specs.Items.{Item}
 use Rattle.bus_table.specs.Tables.{Table}
 use Rattle.bus_table.specs.declared.mode.Mode.TheVariants.{Aperiodic}
 use Rattle.bus_dropout.specs.DropOut.{drop_end}
+use Rattle.bus_margins.specs.declared.level.Level.{Level}
+use Rattle.bus_margins.specs.declared.level.Level.TheVariants.{Any, Common, Neither}
+use Rattle.bus_margins.specs.Rooms.{level_of}
 use Rattle.bus_plan.specs.Answers.{plan_of}
 use Rattle.bus_plan.specs.declared.planning.PlanAnswer.{PlanAnswer}
 use Rattle.bus_plan.specs.declared.planning.PlanAnswer.TheVariants.{Planned, Infeasible}
@@ -19,10 +22,11 @@ use Rattle.bus_command.proofs.ActLaws.{DueHasCause}
 use Rattle.bus_command.proofs.ReadLemmas.{CauseLaws, table_cause, table_valid, items_cause, items_read, inputs_read, inputs_stop, trace_cause, traced_stop}
 use Rattle.bus_tool.specs.Acts.{tool_program}
 use Rattle.bus_tool.specs.Causes.{Cause, DifferAs, IsRefusal, IsShortLast, IsLongEnd}
-use Rattle.bus_tool.specs.Due.{table_for, verdict_outcome, plan_outcome, can_run, can_drop, can_schedule, unwave_due, wave_trace_due}
+use Rattle.bus_tool.specs.Due.{table_for, verdict_outcome, plan_outcome, level_outcome, margins_outcome, can_run, can_drop, can_schedule, unwave_due, wave_trace_due}
 use Rattle.bus_tool.specs.Due.{table_answer, inputs_answer, traced_answer, unwave_answer}
+use Rattle.bus_tool.proofs.DiagnoseLemmas.{beside_cause}
 use Rattle.bus_tool.proofs.ExplainLemmas.{explain_cause}
-use Rattle.bus_tool.specs.Forms.{Form, OnTable, OnMessages, OnTrace, Unwave, Drill, OnItself, Explain, Facts, Cable, TableCommand, Check, Tolerance, Tidy, Report, Witness, Plan}
+use Rattle.bus_tool.specs.Forms.{Form, OnTable, OnMessages, OnTrace, Unwave, Drill, OnItself, Explain, Diagnose, Facts, Cable, TableCommand, Check, Tolerance, Tidy, Report, Witness, Plan, Margins}
 use Rattle.bus_tool.specs.Forms.{MessagesCommand, Observe, Run, Drop, Schedule, table_mode, messages_mode}
 use Rattle.bus_tool.specs.Refusals.{Outcome, ToolRefusal}
 use Rattle.bus_tool.proofs.AnswerLaws.{done_with}
@@ -50,6 +54,18 @@ plan_cause : (form : Form) (first second : List ℕ) (answer : PlanAnswer) → R
 plan_cause form first second (Planned table) = tt
 plan_cause form first second (Infeasible least ti) = tt
 
+level_cause : (form : Form) (first second : List ℕ) (level : Level) → RefusesTexts (Cause form) (level_outcome level) first second
+level_cause form first second Any = tt
+level_cause form first second Common = tt
+level_cause form first second Neither = tt
+
+margins_cause : (form : Form) (first second : List ℕ) (verdict : TableVerdict) (level : Level)
+    → RefusesTexts (Cause form) (margins_outcome verdict level) first second
+margins_cause form first second (Accept mode least most) level = level_cause form first second level
+margins_cause form first second (ShortCycle least ti) level = tt
+margins_cause form first second (SmallGap terminal gap needed) level = tt
+margins_cause form first second (NoSync terminal gap needed) level = tt
+
 table_answer_cause : (form : Form) (command : TableCommand) (first second : List ℕ) (table : Table) → RefusesTexts (Cause form) (table_answer command table) first second
 table_answer_cause form Check first second table = verdict_cause form first second (verdict_of table)
 table_answer_cause form Tolerance first second table = verdict_cause form first second (verdict_of table)
@@ -57,6 +73,7 @@ table_answer_cause form Tidy first second table = tt
 table_answer_cause form Report first second table = verdict_cause form first second (verdict_of table)
 table_answer_cause form Witness first second table = tt
 table_answer_cause form Plan first second table = plan_cause form first second (plan_of table)
+table_answer_cause form (Margins bounds) first second table = margins_cause form first second (verdict_of table) (level_of bounds table)
 
 -- ---- a table and messages
 -- the texts of inputs that were read, of which this holds
@@ -167,6 +184,7 @@ due_has_cause laws back cables Unwave first second o h =
     due_or (λ o. RefusesTexts (Cause Unwave) o first second) unwave_answer (unwave_due first second) o (λ traced e. tt)
     (λ e. unwave_cause laws back first second o e) h
 due_has_cause laws back cables Explain first second o h = explain_cause Explain first second o h
+due_has_cause laws back cables Diagnose first second o h = beside_cause Diagnose first second o h
 due_has_cause laws back cables Facts first second o h = explain_cause Facts first second o h
 due_has_cause laws back cables (OnItself about) first second o h = subst (λ o. RefusesTexts (Cause (OnItself about)) o first second) h tt
 due_has_cause laws back cables (Drill number) first second o h = subst (λ o. RefusesTexts (Cause (Drill number)) o first second) h tt

@@ -7,6 +7,7 @@ use Rattle.bus_table.specs.Tables.{Table}
 use Rattle.bus_regime.specs.Verdicts.{verdict_of, is_accepted}
 use Rattle.bus_regime.specs.declared.table_verdict.TableVerdict.{TableVerdict}
 use Rattle.bus_regime.specs.declared.table_verdict.TableVerdict.TheVariants.{Accept, ShortCycle, SmallGap, NoSync}
+use Rattle.bus_reach.specs.LatencyLaws.{AperiodicAreInTime, PeriodicAreInTime}
 use Rattle.bus_reach.specs.Limits.{LimitsTellBearing}
 use Rattle.bus_facts.specs.Facts.{facts_text, is_accepting}
 use Rattle.bus_command.specs.declared.outcome.Outcome.TheVariants.{Answered, Done}
@@ -48,14 +49,23 @@ facts_agree read text same = record {
   texts = λ y is written shown. shown ∙ ap facts_text (sym same ∙ is);
 }
 
-pub facts_claim : ExplainLaws → LimitsTellBearing → (call : Call) (outcome : Outcome) (text : List ℕ) → Acts call outcome → IsFactsOf text call
+-- the laws of the numbers that `explain` doesn't tell
+pub record FactsLaws : Type 0 where
+  pub limits : LimitsTellBearing
+  pub in_time : AperiodicAreInTime
+  pub periodic_in_time : PeriodicAreInTime
+
+pub facts_claim : ExplainLaws → FactsLaws → (call : Call) (outcome : Outcome) (text : List ℕ) → Acts call outcome → IsFactsOf text call
     → GivesFacts text call (status_of outcome)
-facts_claim laws limits call outcome text acts h = record {
+facts_claim laws facts call outcome text acts h = record {
   gives = claimed ends_of explain_answer AreFacts (one_source entire) (λ first. refusal_in (text_due 1 first)) (λ a b. text_due 1 a)
       text [] text (λ written. written ≡ facts_text text) call outcome (at_one entire call.before.sources text h.told)
       (short_text {R = ToolRefusal} text_limit 1 text h.short) (explained text) (λ written is. is)
       (does_of tool_program call outcome Facts (ap form_of h.form.form) acts) h.undisturbed;
   accepted = λ table valid accepted. tells_accepted laws table valid accepted;
-  rules = λ table d valid accepted. limits table d valid accepted;
+  rules = λ table d valid accepted. facts.limits table d valid accepted;
+  in_time = facts.in_time;
+  periodic_in_time = facts.periodic_in_time;
   refused = λ table valid refused. tells_refused laws table valid refused;
+  unread = λ refusal is. laws.stops text refusal is;
 }

@@ -1,10 +1,10 @@
 -- The words of a form.
-use Rattle.std.specs.Prelude.{◌≡◌, List, [], ◌∷◌, length, slice_index_or, String}
+use Rattle.std.specs.Prelude.{◌≡◌, ◌≢◌, List, [], ◌∷◌, None, length, slice_index_or, String}
 use Rattle.std.specs.declared.alloc.Global.{Global}
 use Rattle.std.specs.String.{string_bytes}
-use Rattle.std.proofs.Common.{arith, sym, ap}
+use Rattle.std.proofs.Common.{arith, refl, sym, ap}
 use Rattle.bus_command.specs.Words.{words_of}
-use Rattle.bus_tool.specs.Forms.{one_word, two_words, three_words, four_words, form_of}
+use Rattle.bus_tool.specs.Forms.{one_word, two_words, three_words, four_words, five_words, form_of}
 
 pub form_of_one : (words : List (String Global)) (a : String Global) → length words ≡ 1 → a ≡ slice_index_or words 0 a → form_of (words_of words) ≡ one_word (string_bytes a)
 form_of_one [] a h i = absurd (omega arith)
@@ -31,3 +31,25 @@ form_of_four (p ∷ q ∷ []) a d h i j = absurd (omega arith)
 form_of_four (p ∷ q ∷ r ∷ []) a d h i j = absurd (omega arith)
 form_of_four (p ∷ q ∷ r ∷ s ∷ []) a d h i j = (let e : a ≡ p = i in let f : d ≡ s = j in cc)
 form_of_four (p ∷ q ∷ r ∷ s ∷ t ∷ rest) a d h i j = absurd (omega arith)
+
+pub form_of_five : (words : List (String Global)) (a c d e : String Global) → length words ≡ 5 → a ≡ slice_index_or words 0 a → c ≡ slice_index_or words 2 c
+    → d ≡ slice_index_or words 3 d → e ≡ slice_index_or words 4 e
+    → form_of (words_of words) ≡ five_words (string_bytes a) (string_bytes c) (string_bytes d) (string_bytes e)
+form_of_five [] a c d e h i j k l = absurd (omega arith)
+form_of_five (p ∷ []) a c d e h i j k l = absurd (omega arith)
+form_of_five (p ∷ q ∷ []) a c d e h i j k l = absurd (omega arith)
+form_of_five (p ∷ q ∷ r ∷ []) a c d e h i j k l = absurd (omega arith)
+form_of_five (p ∷ q ∷ r ∷ s ∷ []) a c d e h i j k l = absurd (omega arith)
+form_of_five (p ∷ q ∷ r ∷ s ∷ t ∷ []) a c d e h i j k l =
+    (let at0 : a ≡ p = i in let at2 : c ≡ r = j in let at3 : d ≡ s = k in let at4 : e ≡ t = l in cc)
+form_of_five (p ∷ q ∷ r ∷ s ∷ t ∷ u ∷ rest) a c d e h i j k l = absurd (omega arith)
+
+pub form_of_others : (words : List (String Global)) → length words ≢ 1 → length words ≢ 2 → length words ≢ 3 → length words ≢ 4 → length words ≢ 5
+    → form_of (words_of words) ≡ None
+form_of_others [] one two three four five = refl
+form_of_others (p ∷ []) one two three four five = absurd (one refl)
+form_of_others (p ∷ q ∷ []) one two three four five = absurd (two refl)
+form_of_others (p ∷ q ∷ r ∷ []) one two three four five = absurd (three refl)
+form_of_others (p ∷ q ∷ r ∷ s ∷ []) one two three four five = absurd (four refl)
+form_of_others (p ∷ q ∷ r ∷ s ∷ t ∷ []) one two three four five = absurd (five refl)
+form_of_others (p ∷ q ∷ r ∷ s ∷ t ∷ u ∷ rest) one two three four five = refl

@@ -6,7 +6,7 @@ use Rattle.bus_table.specs.Tables.{Table}
 use Rattle.bus_table.specs.Hands.{hands_of}
 use Rattle.bus_trace.specs.TraceLaws.{ReadsBack}
 use Rattle.bus_trace.specs.Traces.{Recording}
-use Rattle.bus_command.specs.Claims.{Answers, IsOfTable, IsOfItems, IsOfTraced}
+use Rattle.bus_command.specs.Claims.{Answers, NothingFails, TellsTable, IsOfTable, IsOfItems, IsOfTraced}
 use Rattle.bus_command.specs.Due.{table_refusal_of, with_items, inputs_by, with_trace, traced_due, any_trace}
 use Rattle.bus_command.specs.Kinds.{Answer, kind_of}
 use Rattle.bus_command.specs.Outside.{Call}
@@ -31,18 +31,26 @@ pub record ReadLaws : Type 0 where
   pub items_again : TextReadsAsItsItems
   pub trace_back : ReadsBack
 
+-- a command on a table, whose words are any
+pub table_answers : ReadLaws → (command : TableCommand) (call : Call) (outcome : Outcome) (table : Table) (IsText : List ℕ → Type 0)
+    → form_of call.words ≡ Some (OnTable command) → IsOfMode (table_mode command) table
+    → ((text : List ℕ) → text ≡ table_answer_text command table → IsText text) → Acts call outcome → TellsTable table call.before.sources.first
+    → NothingFails (one_source entire) call.before call.after → Answers (status_of (table_answer command table)) IsText call (status_of outcome)
+table_answers laws command call outcome table IsText words mode shows acts told undisturbed =
+    let first = told.text in
+    let due : table_for (table_mode command) first ≡ Ok table =
+    told_for (table_mode command) table first mode (table_told {R = ToolRefusal} laws.table_again table call.before.sources.first told) in
+    claimed ends_of (table_answer command) (IsTableAnswerText command) (one_source entire) (refusal_for (table_mode command)) (λ a b. table_for (table_mode command) a)
+    first [] table IsText call outcome (at_one entire call.before.sources first told.told) due (table_answered command table) shows
+    (does_of tool_program call outcome (OnTable command) words acts) undisturbed
+
 -- a command on a table
 pub table_comes : ReadLaws → (command : TableCommand) (word : List ℕ) (call : Call) (outcome : Outcome) (table : Table) (IsText : List ℕ → Type 0)
     → ((path : List ℕ) → form_of (word ∷ path ∷ []) ≡ Some (OnTable command)) → IsOfMode (table_mode command) table
     → ((text : List ℕ) → text ≡ table_answer_text command table → IsText text) → Acts call outcome → IsOfTable word table call
     → Answers (status_of (table_answer command table)) IsText call (status_of outcome)
 table_comes laws command word call outcome table IsText words mode shows acts h =
-    let first = h.table_told.text in
-    let due : table_for (table_mode command) first ≡ Ok table =
-    told_for (table_mode command) table first mode (table_told {R = ToolRefusal} laws.table_again table call.before.sources.first h.table_told) in
-    claimed ends_of (table_answer command) (IsTableAnswerText command) (one_source entire) (refusal_for (table_mode command)) (λ a b. table_for (table_mode command) a)
-    first [] table IsText call outcome (at_one entire call.before.sources first h.table_told.told) due (table_answered command table) shows
-    (does_of tool_program call outcome (OnTable command) (ap form_of h.form.form ∙ words h.form.path) acts) h.undisturbed
+    table_answers laws command call outcome table IsText (ap form_of h.form.form ∙ words h.form.path) mode shows acts h.table_told h.undisturbed
 
 -- a command on a table and messages
 pub messages_comes : ReadLaws → (command : MessagesCommand) (word : List ℕ) (further : List (List ℕ)) (call : Call) (outcome : Outcome) (table : Table)

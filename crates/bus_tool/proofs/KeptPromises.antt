@@ -36,10 +36,11 @@ use Rattle.bus_tool.proofs.AnswerLaws.{written_audit}
 use Rattle.bus_tool.proofs.CableClaim.{CableClaimLaws, cable_claim}
 use Rattle.bus_tool.proofs.CheckClaim.{told_settled}
 use Rattle.bus_tool.proofs.ExplainLemmas.{ExplainLaws, explain_claim}
-use Rattle.bus_tool.proofs.FactsLemmas.{facts_claim}
-use Rattle.bus_reach.specs.Limits.{LimitsTellBearing}
+use Rattle.bus_tool.proofs.DiagnoseLemmas.{DiagnosisLaws, diagnosis_claim}
+use Rattle.bus_tool.proofs.FactsLemmas.{FactsLaws, facts_claim}
 use Rattle.bus_tool.proofs.DropClaim.{drop_claim}
 use Rattle.bus_tool.proofs.GroupClaims.{table_comes, trace_comes}
+use Rattle.bus_tool.proofs.MarginsClaim.{MarginsLaws, margins_claim}
 use Rattle.bus_tool.proofs.ObserveClaim.{observe_claim}
 use Rattle.bus_tool.proofs.PlanClaim.{PlanLaws, plan_claim}
 use Rattle.bus_tool.proofs.RunClaim.{run_claim}
@@ -64,7 +65,9 @@ pub record PromiseLaws : Type 0 where
   pub two : ListsAreFixedByTwo
   pub voted : RunsAreVoted
   pub explained : ExplainLaws
-  pub limits : LimitsTellBearing
+  pub diagnosed : DiagnosisLaws
+  pub facts : FactsLaws
+  pub margins : MarginsLaws
   pub cables : CableClaimLaws
   pub scheduled : ScheduleLaws
 
@@ -135,6 +138,7 @@ pub keeps : PromiseLaws → (call : Call) (outcome : Outcome) → Acts call outc
 keeps laws call outcome acts = record {
   check = λ table h. check_claim laws call outcome table acts h;
   tolerance = λ table h. tolerance_claim laws call outcome table acts h;
+  margins = λ bounds table h. margins_claim laws.plan.texts laws.margins call outcome bounds table acts h;
   witness = λ table h. table_comes laws.plan.texts Witness (codes "witness") call outcome table _ (λ path. refl) tt (λ text is. is) acts h;
   tidy = λ table h. table_comes laws.plan.texts Tidy (codes "tidy") call outcome table _ (λ path. refl) tt (λ text is. is) acts h;
   plan = λ table h. plan_claim laws.plan call outcome table acts h;
@@ -150,7 +154,8 @@ keeps laws call outcome acts = record {
   wave = λ table trace h. wave_claim laws.wave call outcome table trace acts h;
   unwave = λ table trace h. unwave_claim laws.wave call outcome table trace acts h;
   explain = λ text h. explain_claim laws.explained call outcome text acts h;
-  facts = λ text h. facts_claim laws.explained laws.limits call outcome text acts h;
+  diagnose = λ table text h. diagnosis_claim laws.diagnosed call outcome table text acts h;
+  facts = λ text h. facts_claim laws.explained laws.facts call outcome text acts h;
   cable = λ table cable items until h. cable_claim laws.cables call outcome table cable items until acts h;
   itself = λ about h. itself_claim call outcome about acts h;
 }

@@ -26,7 +26,10 @@ pub mod PlanClaim
 pub mod ToleranceLemmas
 pub mod ExplainLemmas
 pub mod FactsLemmas
+pub mod DiagnoseLemmas
 pub mod ToleranceClaim
+pub mod BorneLemmas
+pub mod MarginsClaim
 pub mod ObserveClaim
 pub mod RunClaim
 pub mod DropClaim

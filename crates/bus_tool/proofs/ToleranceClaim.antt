@@ -19,7 +19,8 @@ use Rattle.bus_reach.specs.Tolerance.{leaves_room}
 use Rattle.bus_reach.specs.Laws.{BorneIsClosed, ToleranceIsExact}
 use Rattle.bus_reach.specs.PeriodicLaws.{AcceptedBearZero, PeriodicBorneIsClosed, PeriodicNotBorneBreaks}
 use Rattle.bus_reach.specs.Settling.{AnyStartSettles}
-use Rattle.bus_tool.specs.ToleranceClaims.{EndsIn, IsToleranceOf, KeepsOrderIn, LosesOrderIn, SettlesFromAnyStart, StartsItself, TellsStart, TellsTolerance}
+use Rattle.bus_exact.specs.Settling.{AnyStartSettlesOnCable}
+use Rattle.bus_tool.specs.ToleranceClaims.{EndsIn, IsToleranceOf, KeepsOrderIn, LosesOrderIn, SettlesFromAnyStart, SettlesOnCable, StartsItself, TellsStart, TellsTolerance}
 use Rattle.bus_tool.specs.Tolerances.{greatest_to, most_apart, starts_in, tolerance_fields, tolerance_line, tolerance_of, tolerance_text, tolerance_word}
 use Rattle.bus_tool.proofs.ToleranceLemmas.{borne_below, greatest_beyond, greatest_takes}
 
@@ -31,6 +32,7 @@ pub record ToleranceLaws : Type 0 where
   pub breaks : PeriodicNotBorneBreaks
   pub zero_borne : AcceptedBearZero
   pub settles : AnyStartSettles
+  pub settles_on_cable : AnyStartSettlesOnCable
 
 keeps_in : ToleranceLaws → (mode : Mode) (table : Table) (d : ℕ) → table.mode ≡ mode → IsTrue (is_valid table) → IsTrue (is_accepted (verdict_of table))
     → IsTrue (bears table d) → KeepsOrderIn mode table d
@@ -46,6 +48,10 @@ loses_in laws Periodic table d mode valid accepted not_borne = laws.breaks table
 pub starts_from : ToleranceLaws → (table : Table) → IsTrue (is_valid table) → StartsItself table → SettlesFromAnyStart table
 starts_from laws table valid starts = λ hands wake up horizon list fit powered left long lawful.
     laws.settles table hands wake up horizon list valid starts.0 starts.1 fit powered left long lawful
+
+starts_on_cable : ToleranceLaws → (table : Table) (d : ℕ) → IsTrue (is_valid table) → StartsItself table → IsTrue (bears table d) → SettlesOnCable table d
+starts_on_cable laws table d valid starts borne = λ hands delay wake up horizon list fit delays powered left long lawful.
+    laws.settles_on_cable table hands delay wake d up horizon list valid starts.0 starts.1 borne fit delays powered left long lawful
 
 -- the last word is that of this
 starts_by : (mode : Mode) (table : Table) → table.mode ≡ mode → IsTrue (starts_in mode table) ↔ StartsItself table
@@ -142,4 +148,5 @@ tells laws table valid accepted = record {
     | inr one ↦ absurd (let some : Some (greatest_to (bears table) (2 * table.ti)) ≡ None = sym (ap (number_at table) one) ∙ h in cc)
   ];
   start = λ h. starts_from laws table valid h;
+  cable = λ d starts borne. starts_on_cable laws table d valid starts borne;
 }

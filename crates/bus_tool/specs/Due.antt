@@ -13,6 +13,9 @@ use Rattle.bus_regime.specs.Verdicts.{verdict_of, is_accepted}
 use Rattle.bus_plan.specs.declared.planning.PlanAnswer.{PlanAnswer}
 use Rattle.bus_plan.specs.declared.planning.PlanAnswer.TheVariants.{Planned, Infeasible}
 use Rattle.bus_plan.specs.Answers.{plan_of}
+use Rattle.bus_margins.specs.declared.level.Level.{Level}
+use Rattle.bus_margins.specs.declared.level.Level.TheVariants.{Any, Common, Neither}
+use Rattle.bus_margins.specs.Rooms.{level_of}
 use Rattle.bus_dropout.specs.DropOut.{last_cycle, drop_end}
 use Rattle.bus_schedule.specs.declared.uneven.Uneven.{Uneven as UnevenHands}
 use Rattle.bus_schedule.specs.Closed.{closed_end}
@@ -37,10 +40,11 @@ use Rattle.bus_command.specs.declared.outcome.Outcome.TheVariants.{Done, Answere
 use Rattle.bus_command.specs.Due.{text_within, text_due, table_due, table_refusal_of, Inputs, hands_in, inputs_by, traced_by, traced_due}
 use Rattle.bus_command.specs.Due.{outcome_with}
 use Rattle.bus_command.specs.Stages.{refusal_in}
-use Rattle.bus_tool.specs.Forms.{Form, OnTable, OnMessages, OnTrace, Unwave, Drill, OnItself, Explain, Facts, Cable}
-use Rattle.bus_tool.specs.Forms.{TableCommand, Check, Tolerance, Tidy, Report, Witness, Plan}
+use Rattle.bus_tool.specs.Forms.{Form, OnTable, OnMessages, OnTrace, Unwave, Drill, OnItself, Explain, Diagnose, Facts, Cable}
+use Rattle.bus_tool.specs.Forms.{TableCommand, Check, Tolerance, Tidy, Report, Witness, Plan, Margins}
 use Rattle.bus_command.specs.Readers.{text_limit}
 use Rattle.bus_tool.specs.Forms.{MessagesCommand, Observe, Run, Drop, Schedule, TraceCommand, Receive, Audit, Vote, Wave}
+use Rattle.bus_tool.specs.Diagnosing.{beside_answer, beside_due}
 use Rattle.bus_tool.specs.Forms.{form_of, wave_limit, table_mode, messages_mode}
 use Rattle.bus_tool.specs.Refusals.{Outcome, refuse, TableMode, Unspaced, WaveText, Uneven, NotAccepted, ShortLast, TooLong}
 use Rattle.bus_tool.specs.Refusals.{CableText, CableUnfit}
@@ -181,6 +185,19 @@ abbrev pub plan_outcome : PlanAnswer → Outcome
 plan_outcome (Planned table) = Done
 plan_outcome (Infeasible least ti) = Answered
 
+-- Yes where a table has a level, else no.
+abbrev pub level_outcome : Level → Outcome
+level_outcome Any = Done
+level_outcome Common = Done
+level_outcome Neither = Answered
+
+-- Yes where a table with this verdict is accepted and has a level, else no.
+abbrev pub margins_outcome : TableVerdict → Level → Outcome
+margins_outcome (Accept mode least most) level = level_outcome level
+margins_outcome (ShortCycle least ti) level = Answered
+margins_outcome (SmallGap terminal gap needed) level = Answered
+margins_outcome (NoSync terminal gap needed) level = Answered
+
 -- Yes where nothing is found against the trace, else no.
 abbrev pub audit_outcome : AuditAnswer → Outcome
 audit_outcome (Lawful collided) = Done
@@ -199,6 +216,7 @@ table_answer Tidy table = Done
 table_answer Report table = verdict_outcome (verdict_of table)
 table_answer Witness table = Done
 table_answer Plan table = plan_outcome (plan_of table)
+table_answer (Margins bounds) table = margins_outcome (verdict_of table) (level_of bounds table)
 
 -- What is answered to a table and hands, or why nothing is.
 abbrev pub messages_answer : MessagesCommand → Table → List Hand → Outcome
@@ -250,6 +268,7 @@ form_due Unwave first second = outcome_with unwave_answer (unwave_due first seco
 form_due (Drill number) first second = Done
 form_due (OnItself about) first second = Done
 form_due Explain first second = outcome_with explain_answer (text_due 1 first)
+form_due Diagnose first second = outcome_with beside_answer (beside_due first second)
 form_due Facts first second = outcome_with explain_answer (text_due 1 first)
 form_due (Cable horizon) first second = outcome_with cable_answer (cable_due first second)
 
@@ -262,6 +281,7 @@ first_refusal Unwave first = table_refusal_of first
 first_refusal (Drill number) first = None
 first_refusal (OnItself about) first = None
 first_refusal Explain first = refusal_in (text_due 1 first)
+first_refusal Diagnose first = refusal_in (text_due 1 first)
 first_refusal Facts first = refusal_in (text_due 1 first)
 first_refusal (Cable horizon) first = table_refusal_of first
 

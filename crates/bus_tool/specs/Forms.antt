@@ -6,13 +6,15 @@ use Rattle.bus_text.specs.Numbers.{is_plain_decimal, decimal_value}
 use Rattle.bus_strings.specs.Limits.{horizon_limit}
 use Rattle.bus_table.specs.declared.mode.Mode.{Mode}
 use Rattle.bus_table.specs.declared.mode.Mode.TheVariants.{Aperiodic, Periodic}
+use Rattle.bus_trace.specs.Limits.{trace_limit}
 use Rattle.bus_vectors.specs.Made.{most_number}
+use Rattle.bus_bounds.specs.Bounds.{Bounds, most_delay, most_jitter, most_clocks}
 use Rattle.bus_command.specs.About.{about_of}
 use Rattle.bus_command.specs.Readers.{Named, Reader, Entire, entire, no_source, one_source, by_trace, two_sources}
 pub use Rattle.bus_tool.specs.declared.forms.Form.{Form}
-pub use Rattle.bus_tool.specs.declared.forms.Form.TheVariants.{OnTable, OnMessages, OnTrace, Unwave, Drill, OnItself, Explain, Facts, Cable}
+pub use Rattle.bus_tool.specs.declared.forms.Form.TheVariants.{OnTable, OnMessages, OnTrace, Unwave, Drill, OnItself, Explain, Diagnose, Facts, Cable}
 pub use Rattle.bus_tool.specs.declared.forms.TableCommand.{TableCommand}
-pub use Rattle.bus_tool.specs.declared.forms.TableCommand.TheVariants.{Check, Tolerance, Tidy, Report, Witness, Plan}
+pub use Rattle.bus_tool.specs.declared.forms.TableCommand.TheVariants.{Check, Tolerance, Tidy, Report, Witness, Plan, Margins}
 pub use Rattle.bus_tool.specs.declared.forms.MessagesCommand.{MessagesCommand}
 pub use Rattle.bus_tool.specs.declared.forms.MessagesCommand.TheVariants.{Observe, Run, Drop, Schedule}
 pub use Rattle.bus_tool.specs.declared.forms.TraceCommand.{TraceCommand}
@@ -25,6 +27,19 @@ is_horizon word = is_plain_decimal word && nat_le (decimal_value word) horizon_l
 -- Whether a word is the plain decimal of a drill's number.
 abbrev pub is_drill_number : List ℕ → Bool
 is_drill_number word = is_plain_decimal word && nat_le (decimal_value word) most_number
+
+-- Whether a word is the plain decimal of a number up to a limit.
+abbrev pub is_within : ℕ → List ℕ → Bool
+is_within limit word = is_plain_decimal word && nat_le (decimal_value word) limit
+
+-- Whether three words are the plain decimals of bounds that are within their limits.
+abbrev pub are_bounds : (delay jitter clocks : List ℕ) → Bool
+are_bounds delay jitter clocks = is_within most_delay delay && (is_within most_jitter jitter && is_within most_clocks clocks)
+
+-- The bounds that they write.
+abbrev pub bounds_of : (delay jitter clocks : List ℕ) → Bounds
+bounds_of delay jitter clocks =
+    record { delay = decimal_value delay; jitter = decimal_value jitter; clocks = decimal_value clocks }
 
 -- `--help`, `--version`
 abbrev pub one_word : List ℕ → Option Form
@@ -44,10 +59,11 @@ two_words command second =
     else if bytes_eq command (codes "drill") && is_drill_number second then Some (Drill (decimal_value second))
     else None
 
--- `run T M`, `drop T M`, `schedule T M`, `receive T R`, `audit T R`, `vote T R`, `wave T R`, `unwave T W`.
+-- `explain T F`, `run T M`, `drop T M`, `schedule T M`, `receive T R`, `audit T R`, `vote T R`, `wave T R`, `unwave T W`.
 abbrev pub three_words : List ℕ → Option Form
 three_words command =
-    if bytes_eq command (codes "run") then Some (OnMessages Run)
+    if bytes_eq command (codes "explain") then Some Diagnose
+    else if bytes_eq command (codes "run") then Some (OnMessages Run)
     else if bytes_eq command (codes "drop") then Some (OnMessages Drop)
     else if bytes_eq command (codes "schedule") then Some (OnMessages Schedule)
     else if bytes_eq command (codes "receive") then Some (OnTrace Receive)
@@ -64,12 +80,19 @@ four_words command horizon =
     else if bytes_eq command (codes "cable") && is_horizon horizon then Some (Cable (decimal_value horizon))
     else None
 
+-- `margins T D J P`
+abbrev pub five_words : (command delay jitter clocks : List ℕ) → Option Form
+five_words command delay jitter clocks =
+    if bytes_eq command (codes "margins") && are_bounds delay jitter clocks then Some (OnTable (Margins (bounds_of delay jitter clocks)))
+    else None
+
 -- The form of these words, whatever the words T and M are.
 abbrev pub form_of : List (List ℕ) → Option Form
 form_of (word ∷ []) = one_word word
 form_of (command ∷ second ∷ []) = two_words command second
 form_of (command ∷ table ∷ other ∷ []) = three_words command
 form_of (command ∷ table ∷ messages ∷ horizon ∷ []) = four_words command horizon
+form_of (command ∷ table ∷ delay ∷ jitter ∷ clocks ∷ []) = five_words command delay jitter clocks
 form_of words = None
 
 -- ---- what a group takes
@@ -81,6 +104,10 @@ wave_limit = 67108864
 abbrev pub entire_wave : Reader
 entire_wave = Entire wave_limit
 
+-- How a text is read that stands beside a table and is explained: it may be a trace.
+abbrev pub entire_beside : Reader
+entire_beside = Entire trace_limit
+
 -- The sources that a form names, and how each is read.
 abbrev pub sources_of : Form → Named
 sources_of (OnTable command) = one_source entire
@@ -90,6 +117,7 @@ sources_of Unwave = two_sources entire entire_wave
 sources_of (Drill number) = no_source
 sources_of (OnItself about) = no_source
 sources_of Explain = one_source entire
+sources_of Diagnose = two_sources entire entire_beside
 sources_of Facts = one_source entire
 sources_of (Cable horizon) = two_sources entire entire
 
@@ -102,6 +130,7 @@ takes_memory Unwave = true
 takes_memory (Drill number) = true
 takes_memory (OnItself about) = false
 takes_memory Explain = true
+takes_memory Diagnose = true
 takes_memory Facts = true
 takes_memory (Cable horizon) = true
 
@@ -113,6 +142,7 @@ table_mode Tidy = None
 table_mode Report = None
 table_mode Witness = None
 table_mode Plan = Some Periodic
+table_mode (Margins bounds) = Some Aperiodic
 
 -- The mode that a command on messages needs of its table.
 abbrev pub messages_mode : MessagesCommand → Option Mode
@@ -137,5 +167,6 @@ IsWithinLimits Unwave = Unit {0}
 IsWithinLimits (Drill number) = number ≤ most_number
 IsWithinLimits (OnItself about) = Unit {0}
 IsWithinLimits Explain = Unit {0}
+IsWithinLimits Diagnose = Unit {0}
 IsWithinLimits Facts = Unit {0}
 IsWithinLimits (Cable horizon) = horizon ≤ horizon_limit

@@ -5,6 +5,7 @@ pub mod Refusals
 pub mod Due
 pub mod Reports
 pub mod PlanTexts
+pub mod MarginsTexts
 pub mod Drills
 pub mod DrillLaws
 pub mod Tolerances
@@ -14,8 +15,11 @@ pub mod Acts
 pub mod InMemory
 pub mod TableClaims
 pub mod ToleranceClaims
+pub mod MarginsClaims
 pub mod Explanations
+pub mod Diagnosing
 pub mod ExplainClaims
+pub mod DiagnosisClaims
 pub mod FactsClaims
 pub mod PlanClaims
 pub mod DrillClaims

@@ -8,8 +8,10 @@ use Rattle.bus_command.specs.About.{IsAbout, TellsItself}
 use Rattle.bus_command.specs.Claims.{IsOfTable, IsOfTraced}
 use Rattle.bus_command.specs.Outside.{Call}
 use Rattle.bus_command.specs.declared.status.Status.{Status}
+use Rattle.bus_bounds.specs.Bounds.{Bounds}
 use Rattle.bus_cable.specs.Cables.{Cable}
 use Rattle.bus_tool.specs.CableClaims.{IsCableOf, GivesOnCable}
+use Rattle.bus_tool.specs.DiagnosisClaims.{IsDiagnosisOf, GivesDiagnosis}
 use Rattle.bus_tool.specs.DrillClaims.{IsDrillOf, GivesDrill}
 use Rattle.bus_tool.specs.DropClaims.{IsDropOf, GivesDrop}
 use Rattle.bus_tool.specs.ExplainClaims.{IsExplainOf, GivesExplanation}
@@ -20,6 +22,7 @@ use Rattle.bus_tool.specs.PlanClaims.{IsPlanCallOf, GivesPlan}
 use Rattle.bus_tool.specs.RunClaims.{IsRunOf, GivesRun}
 use Rattle.bus_tool.specs.ScheduleClaims.{IsScheduleOf, GivesSchedule}
 use Rattle.bus_tool.specs.TableClaims.{GivesVerdict, TellsSettled, GivesTidied, GivesReport, GivesWitness}
+use Rattle.bus_tool.specs.MarginsClaims.{IsMarginsOf, GivesMargins}
 use Rattle.bus_tool.specs.ToleranceClaims.{GivesTolerance}
 use Rattle.bus_tool.specs.TraceClaims.{GivesReceived, GivesFinding, GivesVotes}
 use Rattle.bus_tool.specs.WaveClaims.{GivesWave, IsUnwaveOf, GivesUnwaved}
@@ -28,6 +31,8 @@ use Rattle.bus_tool.specs.WaveClaims.{GivesWave, IsUnwaveOf, GivesUnwaved}
 -- `itself` takes none:
 --   check     the verdict line of a valid table; status 0 comes only for a settled table, status 1 only for one that isn't
 --   tolerance its tolerance line, which tells how much delay it bears, exactly, and whether order comes from any start; or its verdict line
+--   margins   of an aperiodic table and bounds: its margins, of which the level says what order comes on every bus within these, by itself
+--             or from a common start, and how far apart two starts of a sender are; or its verdict line
 --   witness   the messages of its witness
 --   tidy      its canonical text
 --   plan      of a periodic table: the planned table, which is accepted, or that no offsets are
@@ -44,12 +49,16 @@ use Rattle.bus_tool.specs.WaveClaims.{GivesWave, IsUnwaveOf, GivesUnwaved}
 --   unwave    of the wave text of a trace: the text of the trace
 --   explain   of any text: its explanation; turns, waits, spare, load, gaps and tolerance are what they are said to be, each advice works,
 --             none is missing, and what may stand at a refused line is exactly what goes on
+--   diagnose  `explain` of any two texts: what is found of the second beside the table in the first, or the explanation of that where it is
+--             no accepted table's; with messages of which nothing is wrong `run` answers, the item that is named is the first that doesn't
+--             fit, and on a cable that is borne the senders take turns
 --   cable     of a cable and items that fit: the one trace on that cable, and what each terminal hears of it; on a plain cable it is the
 --             trace of `observe`, and where the table bears the cable, with even hands, the closed schedule, of which nothing is garbled
 --   itself    `--help` and `--version`: the help and the version line
 pub record Promises (call : Call) (status : Status) : Type 0 where
   pub check : (table : Table) → IsOfTable (codes "check") table call → GivesVerdict table call status × TellsSettled table status
   pub tolerance : (table : Table) → IsOfTable (codes "tolerance") table call → GivesTolerance table call status
+  pub margins : (bounds : Bounds) (table : Table) → IsMarginsOf bounds table call → GivesMargins bounds table call status
   pub witness : (table : Table) → IsOfTable (codes "witness") table call → GivesWitness table call status
   pub tidy : (table : Table) → IsOfTable (codes "tidy") table call → GivesTidied table call status
   pub plan : (table : Table) → IsPlanCallOf table call → GivesPlan table call status
@@ -67,6 +76,7 @@ pub record Promises (call : Call) (status : Status) : Type 0 where
   pub wave : (table : Table) (trace : Recording) → IsOfTraced (codes "wave") [] table trace call → GivesWave table trace call status
   pub unwave : (table : Table) (trace : Recording) → IsUnwaveOf table trace call → GivesUnwaved table trace call status
   pub explain : (text : List ℕ) → IsExplainOf text call → GivesExplanation text call status
+  pub diagnose : (table text : List ℕ) → IsDiagnosisOf table text call → GivesDiagnosis table text call status
   pub facts : (text : List ℕ) → IsFactsOf text call → GivesFacts text call status
   pub cable : (table : Table) (cable : Cable) (items : List Item) (until : ℕ) → IsCableOf table cable items until call
       → GivesOnCable table cable items until call status

@@ -28,8 +28,9 @@ use Rattle.bus_wave.specs.WaveTexts.{wave_text}
 use Rattle.bus_command.specs.declared.inputs.Traced.{Traced}
 use Rattle.bus_command.specs.Due.{Inputs, hands_in, inputs_by, text_due, traced_due, IsTextOf}
 use Rattle.bus_facts.specs.Facts.{facts_text}
-use Rattle.bus_tool.specs.Forms.{Form, OnTable, OnMessages, OnTrace, Unwave, Drill, OnItself, Explain, Facts, Cable}
-use Rattle.bus_tool.specs.Forms.{TableCommand, Check, Tolerance, Tidy, Report, Witness, Plan}
+use Rattle.bus_tool.specs.Diagnosing.{IsToldBeside, beside_answer, beside_due}
+use Rattle.bus_tool.specs.Forms.{Form, OnTable, OnMessages, OnTrace, Unwave, Drill, OnItself, Explain, Diagnose, Facts, Cable}
+use Rattle.bus_tool.specs.Forms.{TableCommand, Check, Tolerance, Tidy, Report, Witness, Plan, Margins}
 use Rattle.bus_tool.specs.Forms.{MessagesCommand, Observe, Run, Drop, Schedule, TraceCommand, Receive, Audit, Vote, Wave}
 use Rattle.bus_tool.specs.Forms.{form_of, table_mode, messages_mode}
 use Rattle.bus_tool.specs.Due.{table_for, unwave_due, table_answer, inputs_answer, traced_answer, unwave_answer, explain_answer}
@@ -39,6 +40,7 @@ use Rattle.bus_tool.specs.Explanations.{explanation}
 use Rattle.bus_tool.specs.Itself.{itself_text}
 use Rattle.bus_tool.specs.Reports.{report_text}
 use Rattle.bus_tool.specs.PlanTexts.{plan_text}
+use Rattle.bus_tool.specs.MarginsTexts.{margins_answer}
 use Rattle.bus_tool.specs.Tolerances.{tolerance_text}
 
 -- The recording of the senders of a table up to a horizon: what each of them held, and the lawful list.
@@ -79,6 +81,7 @@ table_answer_text Tidy table = table_text table
 table_answer_text Report table = report_text table
 table_answer_text Witness table = messages_text (witness_of table)
 table_answer_text Plan table = plan_text (plan_of table)
+table_answer_text (Margins bounds) table = margins_answer (verdict_of table) bounds table
 
 -- The trace text of what is seen of the senders of a table with hands up to a horizon.
 pub record IsObserveText (horizon : ℕ) (table : Table) (hands : List Hand) (text : List ℕ) : Type 0 where
@@ -160,6 +163,7 @@ IsFormText Unwave first second text = IsTextOf unwave_answer IsUnwavedText (unwa
 IsFormText (Drill number) first second text = text ≡ drill_line number
 IsFormText (OnItself about) first second text = text ≡ itself_text about
 IsFormText Explain first second text = IsTextOf explain_answer IsExplanation (text_due 1 first) text
+IsFormText Diagnose first second text = IsTextOf beside_answer IsToldBeside (beside_due first second) text
 IsFormText Facts first second text = IsTextOf explain_answer AreFacts (text_due 1 first) text
 IsFormText (Cable horizon) first second text = IsTextOf cable_answer (IsCableAnswerText horizon) (cable_due first second) text
 

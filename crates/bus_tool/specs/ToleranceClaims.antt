@@ -14,12 +14,14 @@ use Rattle.bus_regime.specs.Verdicts.{verdict_of, is_accepted, most_cycle}
 use Rattle.bus_schedule.specs.CableRuns.{IsRunOnCable}
 use Rattle.bus_schedule.specs.Closed.{closed}
 use Rattle.bus_schedule.specs.Even.{are_even}
+use Rattle.bus_reach.specs.Bearing.{bears}
 use Rattle.bus_reach.specs.Cables.{FailsOnCable}
 use Rattle.bus_reach.specs.PeriodicLaws.{BreaksOnCable}
-use Rattle.bus_reach.specs.Runs.{IsCableRun}
+use Rattle.bus_reach.specs.Runs.{IsCableRun, cycle_delay}
 use Rattle.bus_reach.specs.Schedule.{cable_closed}
 use Rattle.bus_regime.specs.Starting.{starts_itself}
 use Rattle.bus_reach.specs.Settling.{ArePoweredUp, HaveLeft, HasSettled}
+use Rattle.bus_exact.specs.Settling.{HasSettledOnCable}
 use Rattle.bus_command.specs.Claims.{Answers}
 use Rattle.bus_command.specs.Outside.{Call}
 use Rattle.bus_command.specs.declared.status.Status.{Status}
@@ -50,6 +52,14 @@ SettlesFromAnyStart table =
     → HaveLeft table hands horizon list → up + most_cycle table + table.sg ≤ horizon
     → IsLawfulOnCable (quiet_of table) at_once wake (stations_of table hands) horizon list → HasSettled table hands up horizon list
 
+-- So it does with delays between its senders up to d.
+abbrev pub SettlesOnCable : Table → ℕ → Type 0
+SettlesOnCable table d =
+    (hands : List Hand) (delay : Delays) (wake : Wakes) (up horizon : ℕ) (list : List Entry) → IsTrue (are_hands table.senders hands)
+    → AreDelays d (sender_numbers table) delay → ArePoweredUp table wake up → HaveLeft table hands horizon list
+    → up + most_cycle table + table.sg + cycle_delay table d ≤ horizon
+    → IsLawfulOnCable (quiet_of table) delay wake (stations_of table hands) horizon list → HasSettledOnCable table delay d up horizon list
+
 -- The table is aperiodic, and starts itself.
 abbrev pub StartsItself : Table → Type 0
 StartsItself table = (table.mode ≡ Aperiodic) × IsTrue (starts_itself table)
@@ -58,10 +68,12 @@ StartsItself table = (table.mode ≡ Aperiodic) × IsTrue (starts_itself table)
 --   number   with delays up to it the table keeps its order, and there is a straight cable one bit time longer on which it doesn't
 --   alone    where it is `any`, there is one sender, which keeps its order with all delays
 --   start    where the table starts itself, the order comes about from any start
+--   cable    and with all delays that the table bears
 pub record TellsTolerance (table : Table) : Type 0 where
   pub number : (d : ℕ) → tolerance_of table ≡ Some d → KeepsOrderIn table.mode table d × LosesOrderIn table.mode table (d + 1)
   pub alone : tolerance_of table ≡ None → (d : ℕ) → KeepsOrderIn table.mode table d
   pub start : StartsItself table → SettlesFromAnyStart table
+  pub cable : (d : ℕ) → StartsItself table → IsTrue (bears table d) → SettlesOnCable table d
 
 -- The text has this end.
 abbrev pub EndsIn : List ℕ → List ℕ → Type 0

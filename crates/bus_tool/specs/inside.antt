@@ -5,3 +5,4 @@ pub mod Escapes
 pub mod Refused
 pub mod ReportData
 pub mod TakenCable
+pub mod TakenBeside

@@ -102,7 +102,7 @@ fn explain_refused<K: Sink>(
 }
 
 /// Writes what is said of a table.
-fn explain_table<K: Sink>(alloc: Global, table: &Table, out: &mut K) -> Outcome
+pub(crate) fn explain_table<K: Sink>(alloc: Global, table: &Table, out: &mut K) -> Outcome
     ensures { EndsExplaining ⟦<K as Sink>⟧ (verdict_outcome (verdict_of table.now)) (table_explained table.now) out.old out.new result }
 {
     let verdict = verdict(table);
@@ -117,7 +117,7 @@ fn explain_table<K: Sink>(alloc: Global, table: &Table, out: &mut K) -> Outcome
 }
 
 /// Writes what is said of a text of which this line is refused.
-fn explain_unread<K: Sink>(
+pub(crate) fn explain_unread<K: Sink>(
     alloc: Global,
     text: &[u8],
     line: u64,

@@ -1,12 +1,13 @@
 //! The words of a command line, and what they ask for.
-ghost use Rattle.std.specs.Prelude.{◌≡◌, ◌≤◌, IfSome, Some, None, if◌then◌else◌};
+ghost use Rattle.std.specs.Prelude.{◌≡◌, ◌≤◌, ◌<◌, ◌^◌, IfSome, Some, None, if◌then◌else◌};
 ghost use Rattle.bus_text.specs.Numbers.{decimal_value};
 ghost use Rattle.bus_tool.specs.Forms as forms;
 ghost use Rattle.bus_command.specs.Words.{words_of};
-ghost use Rattle.bus_tool.specs.Forms.{is_horizon, is_drill_number, messages_mode, table_mode, IsWithinLimits};
+ghost use Rattle.bus_tool.specs.Forms.{are_bounds, is_horizon, is_drill_number, is_within, messages_mode, table_mode, IsWithinLimits};
 ghost use Rattle.bus_vectors.specs.Made.{most_number};
 ghost use Rattle.bus_strings.specs.Limits.{horizon_limit};
 
+use bus_bounds::{Bounds, MOST_CLOCKS, MOST_DELAY, MOST_JITTER};
 use bus_command::{About, about_of};
 use bus_strings::limits::HORIZON_LIMIT;
 use bus_table::Mode;
@@ -30,6 +31,11 @@ pub enum TableCommand {
     Witness,
     /// `plan T`: the periodic table in the file `T` with offsets chosen anew, or that no offsets are accepted.
     Plan,
+    /// `margins T D J P`: how much room the aperiodic table in the file `T` leaves where clocks aren't exact, and what order comes of it.
+    Margins {
+        /// D and J in nanoseconds, P in millionths, each within its limit.
+        bounds: Bounds,
+    },
 }
 
 /// A command on a table and messages.
@@ -82,7 +88,9 @@ pub enum Form {
     OnItself(About),
     /// `explain T`: what the verdict on the table in the file `T` means, or why there is no valid table in it, and what to change.
     Explain,
-    /// `facts T`: the same for scripts, and more numbers, as one line of JSON.
+    /// `explain T F`: what is wrong with the text in the file `F`, of messages, a cable or a trace, for the table in the file `T`.
+    Diagnose,
+    /// `facts T`: what `explain T` tells, for scripts, and more numbers, as one line of JSON.
     Facts,
     /// `cable T C N`: what the senders of the table in `T` do on the cable in `C` in the bit times before N, and what each terminal hears.
     Cable {
@@ -93,11 +101,12 @@ pub enum Form {
 
 impl TableCommand {
     /// The mode that the command needs of its table.
-    pub fn mode(self) -> Option<Mode>
-        ensures { result ≡ table_mode self }
+    pub fn mode(&self) -> Option<Mode>
+        ensures { result ≡ table_mode self.now }
     {
         match self {
             TableCommand::Plan => Some(Mode::Periodic),
+            TableCommand::Margins { .. } => Some(Mode::Aperiodic),
             TableCommand::Check
             | TableCommand::Tolerance
             | TableCommand::Tidy
@@ -147,6 +156,26 @@ fn drill_number_of(word: &[u8]) -> Option<u32>
     }
 }
 
+/// The number that a word writes; None where the word is no plain decimal, or the number is past this limit.
+fn number_of(word: &[u8], limit: u64) -> Option<u64>
+    requires { limit < 2 ^ 63 }
+    ensures value { result ≡ (if is_within limit word.now then Some (decimal_value word.now) else None) }
+    ensures limit { IfSome result (λ number. number ≤ limit) }
+{
+    let number = plain_decimal(word)?;
+    if number <= limit { Some(number) } else { None }
+}
+
+/// The bounds that three words write; None where one of them is no plain decimal, or a number is past its limit.
+fn bounds_of(delay: &[u8], jitter: &[u8], clocks: &[u8]) -> Option<Bounds>
+    ensures { result ≡ (if are_bounds delay.now jitter.now clocks.now then Some (forms.bounds_of delay.now jitter.now clocks.now) else None) }
+{
+    let delay = number_of(delay, MOST_DELAY)?;
+    let jitter = number_of(jitter, MOST_JITTER)?;
+    let clocks = number_of(clocks, MOST_CLOCKS)?;
+    Bounds::new(delay, jitter, clocks)
+}
+
 /// The form of this word, where it is the only one.
 fn one_word(word: &str) -> Option<Form>
     ensures form { result ≡ forms.one_word word.now }
@@ -191,7 +220,9 @@ fn three_words(command: &str) -> Option<Form>
     ensures form { result ≡ forms.three_words command.now }
     ensures limits { IfSome result IsWithinLimits }
 {
-    if command == "run" {
+    if command == "explain" {
+        Some(Form::Diagnose)
+    } else if command == "run" {
         Some(Form::OnMessages(MessagesCommand::Run))
     } else if command == "drop" {
         Some(Form::OnMessages(MessagesCommand::Drop))
@@ -228,6 +259,18 @@ fn four_words(command: &str, horizon: &[u8]) -> Option<Form>
     None
 }
 
+/// The form of five words of which these are the first and the last three.
+fn five_words(command: &str, delay: &[u8], jitter: &[u8], clocks: &[u8]) -> Option<Form>
+    ensures form { result ≡ forms.five_words command.now delay.now jitter.now clocks.now }
+    ensures limits { IfSome result IsWithinLimits }
+{
+    if command != "margins" {
+        return None;
+    }
+    let bounds = bounds_of(delay, jitter, clocks)?;
+    Some(Form::OnTable(TableCommand::Margins { bounds }))
+}
+
 /// The form of these words; None where they are no form, or a number among them is past its limit.
 pub fn form_of(words: &[String]) -> Option<Form>
     ensures form { result ≡ forms.form_of (words_of words.now) }
@@ -237,6 +280,12 @@ pub fn form_of(words: &[String]) -> Option<Form>
         2 => two_words(words[0].as_str(), words[1].as_bytes()),
         3 => three_words(words[0].as_str()),
         4 => four_words(words[0].as_str(), words[3].as_bytes()),
+        5 => five_words(
+            words[0].as_str(),
+            words[2].as_bytes(),
+            words[3].as_bytes(),
+            words[4].as_bytes(),
+        ),
         1 => one_word(words[0].as_str()),
         _ => None,
     }

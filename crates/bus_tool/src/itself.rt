@@ -18,8 +18,13 @@ what each terminal receives, and audits recorded traces. What it says is proved.
   bus629 check T          judge the table in the file T
   bus629 explain T        tell in sentences what the verdict of the table in T means, or what is
                           wrong with its text, and what to change
+  bus629 explain T F      tell in sentences what is wrong with the text in F for the table in T:
+                          messages, a cable or a trace
   bus629 tolerance T      tell how much delay an accepted table bears: with no more on the way, and
                           in aperiodic mode between power-ups, its order stands
+  bus629 margins T D J P  tell what order the aperiodic table in T keeps on real clocks, and with
+                          how much room: delays up to D and errors up to J nanoseconds, oscillators
+                          off by up to P millionths
   bus629 tidy T           write the table in T as a text without comments, one space between fields
   bus629 witness T        messages with which the table in the file T fails, where it is refused:
                           try them with observe

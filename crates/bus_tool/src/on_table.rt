@@ -6,6 +6,7 @@ ghost use Rattle.bus_tool.specs.Forms.{OnTable, table_mode};
 use crate::check::check;
 use crate::forms::TableCommand;
 use crate::inputs::take_table_for;
+use crate::margins::margins;
 use crate::plan::plan;
 use crate::refusal::Outcome;
 use crate::report::report;
@@ -17,9 +18,9 @@ use bus_table::{Table, write_table};
 use std::alloc::Global;
 
 /// Answers a command to a table. All the memory of the command is taken before its first written byte.
-fn answer<K: Sink>(alloc: Global, command: TableCommand, table: &Table, out: &mut K) -> Outcome
-    requires mode { IsOfMode (table_mode command) table.now }
-    ensures { EndsOnTable ⟦<K as Sink>⟧ command table.now out.old out.new result }
+fn answer<K: Sink>(alloc: Global, command: &TableCommand, table: &Table, out: &mut K) -> Outcome
+    requires mode { IsOfMode (table_mode command.now) table.now }
+    ensures { EndsOnTable ⟦<K as Sink>⟧ command.now table.now out.old out.new result }
 {
     match command {
         TableCommand::Check => check(table, out),
@@ -28,6 +29,7 @@ fn answer<K: Sink>(alloc: Global, command: TableCommand, table: &Table, out: &mu
         TableCommand::Report => report(alloc, table, out),
         TableCommand::Witness => witness(alloc, table, out),
         TableCommand::Plan => plan(alloc, table, out),
+        TableCommand::Margins { bounds } => margins(table, *bounds, out),
     }
 }
 
@@ -41,7 +43,7 @@ pub fn on_table<S: Source, K: Sink>(
     ensures { DoesFirst ⟦<S as Source>⟧ ⟦<K as Sink>⟧ (OnTable command) first.old out.old first.new out.new result }
 {
     match take_table_for(alloc, command.mode(), first) {
-        Ok(table) => answer(alloc, command, &table, out),
+        Ok(table) => answer(alloc, &command, &table, out),
         Err(outcome) => outcome,
     }
 }

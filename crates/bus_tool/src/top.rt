@@ -8,12 +8,17 @@ use bus_advice::laws::{advices_work, none_missing};
 use bus_audit::laws::{no_breach_is_right, one_answer};
 use bus_cable::laws::{borne_is_orderly, texts_read_as_their_cables};
 use bus_command::{Status, outcome_text};
+use bus_diagnosis::laws::{
+    borne_cables_are_orderly, named_item_is_first, right_messages_run, whole_traces_are_traces,
+};
+use bus_exact::laws::any_start_settles_on_cable;
 use bus_explain::laws::{gaps_are_told, load_is_of_longest_cycle, spare_is_fall, spare_is_rise};
+use bus_margins::laws::{any_settles, level_keeps_order};
 use bus_medium::laws::{one_cable_list, one_lawful_list};
 use bus_outer::{Sink, Source};
 use bus_plan::laws::{planned_is_accepted, short_is_refused};
 use bus_reach::laws::{
-    accepted_bear_zero, any_start_settles, borne_is_closed, limits_tell_bearing,
+    accepted_bear_zero, any_start_settles, borne_is_closed, data_are_in_time, limits_tell_bearing,
     periodic_bearing_is_exact, periodic_borne_is_closed, some_never_part, tolerance_is_exact,
 };
 use bus_schedule::laws::{
@@ -73,8 +78,12 @@ pub fn tool<S: Source, K: Sink, E: Sink>(
     periodic_bearing_is_exact();
     accepted_bear_zero();
     any_start_settles();
+    any_start_settles_on_cable();
     limits_tell_bearing();
+    data_are_in_time();
     some_never_part();
+    any_settles();
+    level_keeps_order();
     advices_work();
     none_missing();
     spare_is_rise();
@@ -87,6 +96,10 @@ pub fn tool<S: Source, K: Sink, E: Sink>(
     texts_read_as_their_cables();
     one_cable_list();
     borne_is_orderly();
+    right_messages_run();
+    named_item_is_first();
+    borne_cables_are_orderly();
+    whole_traces_are_traces();
     let outcome = act(alloc, words, first, second, out);
     let _ = outcome_text(&outcome, err);
     outcome.status()

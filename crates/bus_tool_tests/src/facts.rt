@@ -41,8 +41,8 @@ const GAP_TWICE: &str =
 
 const OUT_OF_RANGE: &str =
     "{\"accepted\":false,\"advices\":[],\"cycle\":null,\"error\":{\"keywords\":[\"TI\"],\"kind\":\"text\",\"line\":3,\
-\"may_end\":false,\"reason\":\"Range\"},\"load\":null,\"mode\":null,\"senders\":[],\"sg\":null,\"spare\":null,\
-\"start\":null,\"ti\":null,\"tolerance\":null,\"verdict\":null}
+\"may_end\":false,\"reason\":\"Range\",\"spent\":null},\"load\":null,\"mode\":null,\"senders\":[],\"sg\":null,\
+\"spare\":null,\"start\":null,\"ti\":null,\"tolerance\":null,\"verdict\":null}
 ";
 
 #[test]

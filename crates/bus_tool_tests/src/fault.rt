@@ -14,9 +14,10 @@ use std::test::Fail;
 type Call<'a> = (&'a [&'a str], &'a str, &'a str);
 
 /// Calls of each command that read and write without a refusal.
-const CALLS: [Call<'static>; 20] = [
+const CALLS: [Call<'static>; 21] = [
     (&["check", "T"], TWO_SENDERS, ""),
     (&["tolerance", "T"], TWO_SENDERS, ""),
+    (&["margins", "T", "500", "125", "100"], TWO_SENDERS, ""),
     (&["explain", "T"], TWO_SENDERS, ""),
     (&["report", "T"], TWO_SENDERS, ""),
     (&["facts", "T"], TWO_SENDERS, ""),

@@ -6,9 +6,12 @@ mod cable;
 #[cfg(test)]
 mod calls;
 #[cfg(test)]
+mod diagnose;
+#[cfg(test)]
 mod drill;
 #[cfg(test)]
 mod explain;
+#[cfg(test)]
 mod facts;
 #[cfg(test)]
 mod fault;
@@ -18,6 +21,8 @@ mod hostile;
 mod in_memory;
 #[cfg(test)]
 mod itself;
+#[cfg(test)]
+mod margins;
 #[cfg(test)]
 mod observe;
 #[cfg(test)]

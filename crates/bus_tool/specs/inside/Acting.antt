@@ -13,7 +13,7 @@ use Rattle.bus_command.specs.Outside.{Outside, sink_seen}
 use Rattle.bus_command.specs.Readers.{entire, one_source, by_trace, two_sources}
 use Rattle.bus_cable.specs.Cables.{Cable}
 use Rattle.bus_tool.specs.Due.{table_answer, messages_answer, trace_answer}
-use Rattle.bus_tool.specs.Forms.{Form, TableCommand, MessagesCommand, TraceCommand}
+use Rattle.bus_tool.specs.Forms.{Form, TableCommand, MessagesCommand, TraceCommand, entire_beside}
 use Rattle.bus_tool.specs.Refusals.{Outcome}
 use Rattle.bus_tool.specs.Texts.{IsMessagesAnswerText, IsOnCableText, table_answer_text, trace_answer_text}
 use Rattle.bus_tool.specs.Acts.{tool_program}
@@ -45,6 +45,11 @@ EndsOnTable ghosts command table old new outcome =
 abbrev pub EndsExplaining : {K : Type 0} → SinkGhosts K → Outcome → List ℕ → K → K → Outcome → Type 0
 EndsExplaining ghosts answer explained old new outcome =
     Ends (one_source entire) answer (λ text. text ≡ explained) (sink_seen ghosts old) (sink_seen ghosts new) outcome
+
+-- What `explain` of two texts did that has read both, of which this is to be answered and written.
+abbrev pub EndsBeside : {K : Type 0} → SinkGhosts K → Outcome → List ℕ → K → K → Outcome → Type 0
+EndsBeside ghosts answer told old new outcome =
+    Ends (two_sources entire entire_beside) answer (λ text. text ≡ told) (sink_seen ghosts old) (sink_seen ghosts new) outcome
 
 -- What a command did that has taken its table and hands.
 abbrev pub EndsOnMessages : {K : Type 0} → SinkGhosts K → MessagesCommand → Table → List Hand → K → K → Outcome → Type 0

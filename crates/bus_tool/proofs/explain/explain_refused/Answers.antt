@@ -1,4 +1,4 @@
-use Rattle.std.proofs.Common.{◌≡◌, arith, ◌∙◌}
+use Rattle.std.proofs.Common.{arith, ◌∙◌}
 use Rattle.bus_command.specs.declared.outcome.Outcome.TheVariants.{Answered}
 use Rattle.bus_command.specs.Readers.{entire, one_source}
 use Rattle.bus_command.proofs.DoLaws.{roomless}

@@ -1,7 +1,7 @@
-use Rattle.std.proofs.Common.{sym, ap, ◌∙◌}
+use Rattle.std.proofs.Common.{arith, sym, ap, ◌∙◌}
 use Rattle.std.specs.String.{string_bytes}
-use Rattle.bus_tool.specs.Forms.{one_word, two_words, three_words, four_words}
-use Rattle.bus_tool.proofs.FormLemmas.{form_of_one, form_of_two, form_of_three, form_of_four}
+use Rattle.bus_tool.specs.Forms.{one_word, two_words, three_words, four_words, five_words}
+use Rattle.bus_tool.proofs.FormLemmas.{form_of_one, form_of_two, form_of_three, form_of_four, form_of_five, form_of_others}
 use Rattle.bus_tool.proofs.forms.form_of.Goals as goal
 
 pub returns-in-1-clause-form : goal.returns-in-1-clause-form
@@ -20,3 +20,16 @@ returns-in-2-clause-form c =
     c.two_words.ensures.form ∙ ap (λ command. two_words command c.as_bytes.result.now) c.as_str.ensures.value
     ∙ ap (two_words (string_bytes c.index-words-0.result)) c.as_bytes.ensures.value
     ∙ sym (form_of_two c.args.words.now c.index-words-0.result c.index-words-1.result c.in-2.is c.index-words-0.is c.index-words-1.is)
+
+pub returns-in-5-clause-form : goal.returns-in-5-clause-form
+returns-in-5-clause-form c =
+    c.five_words.ensures.form
+    ∙ ap (λ command. five_words command c.as_bytes-in-5.result.now c.as_bytes-in-5-2.result.now c.as_bytes-in-5-3.result.now) c.as_str-in-5.ensures.value
+    ∙ ap (λ delay. five_words (string_bytes c.index-words-0-in-5.result) delay c.as_bytes-in-5-2.result.now c.as_bytes-in-5-3.result.now) c.as_bytes-in-5.ensures.value
+    ∙ ap (λ jitter. five_words (string_bytes c.index-words-0-in-5.result) (string_bytes c.index-words-2.result) jitter c.as_bytes-in-5-3.result.now) c.as_bytes-in-5-2.ensures.value
+    ∙ ap (five_words (string_bytes c.index-words-0-in-5.result) (string_bytes c.index-words-2.result) (string_bytes c.index-words-3-in-5.result)) c.as_bytes-in-5-3.ensures.value
+    ∙ sym (form_of_five c.args.words.now c.index-words-0-in-5.result c.index-words-2.result c.index-words-3-in-5.result c.index-words-4.result c.in-5.is
+    c.index-words-0-in-5.is c.index-words-2.is c.index-words-3-in-5.is c.index-words-4.is)
+
+pub returns-in_default-clause-form : goal.returns-in_default-clause-form
+returns-in_default-clause-form c = sym (form_of_others c.args.words.now (grind arith) (grind arith) (grind arith) (grind arith) (grind arith))

@@ -54,7 +54,22 @@ returns-clause-keeps g c =
       written = c.two_fix_the_vote.ensures.written;
       two = c.two_fix_the_vote.ensures.rounds;
       voted = c.runs_are_voted.ensures;
-      limits = c.limits_tell_bearing.ensures;
+      diagnosed = record {
+        runs = c.right_messages_run.ensures;
+        first = c.named_item_is_first.ensures;
+        turns = c.borne_cables_are_orderly.ensures;
+        traces = c.whole_traces_are_traces.ensures;
+      };
+      facts = record {
+        limits = c.limits_tell_bearing.ensures;
+        in_time = c.data_are_in_time.ensures.aperiodic;
+        periodic_in_time = c.data_are_in_time.ensures.periodic;
+      };
+      margins = record {
+        any = c.any_settles.ensures.settles;
+        common = c.level_keeps_order.ensures.order;
+        apart = c.level_keeps_order.ensures.apart;
+      };
       explained = record {
         works = c.advices_work.ensures;
         whole = c.none_missing.ensures.refused;
@@ -75,6 +90,7 @@ returns-clause-keeps g c =
           breaks = c.periodic_bearing_is_exact.ensures.breaks;
           zero_borne = c.accepted_bear_zero.ensures.zero;
           settles = c.any_start_settles.ensures.settles;
+          settles_on_cable = c.any_start_settles_on_cable.ensures.settles;
         };
       };
     }) _ c.act-outcome.result c.act-outcome.ensures)

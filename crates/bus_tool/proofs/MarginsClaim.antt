@@ -1,0 +1,67 @@
+-- What is claimed of the margins of a table.
+use Rattle.std.specs.Prelude.{◌≡◌, ℕ, ◌≤◌, true, ◌&&◌, nat_le, List, Option, Some, None}
+use Rattle.std.proofs.Common.{arith, ap, ◌∙◌, cond}
+use Rattle.std.proofs.lemmas.Bool.Decides.{nat_tests}
+use Rattle.bus_text.specs.Numbers.{IsDecimal, decimal_value}
+use Rattle.bus_bounds.specs.Bounds.{Bounds, most_delay, most_jitter, most_clocks}
+use Rattle.bus_table.specs.Tables.{Table}
+use Rattle.bus_regime.specs.Verdicts.{verdict_of}
+use Rattle.bus_margins.specs.Laws.{IsAperiodic, AnySettles, LevelKeepsOrder, ApartIsARound}
+use Rattle.bus_command.specs.Outside.{Call}
+use Rattle.bus_tool.specs.Acts.{Acts}
+use Rattle.bus_tool.specs.Forms.{Form, OnTable, Margins, form_of, is_within, are_bounds, bounds_of}
+use Rattle.bus_tool.specs.MarginsClaims.{IsMarginsOf, GivesMargins}
+use Rattle.bus_tool.specs.MarginsTexts.{margins_answer}
+use Rattle.bus_tool.specs.Refusals.{Outcome, status_of}
+use Rattle.bus_tool.proofs.BorneLemmas.{told_bears}
+use Rattle.bus_tool.proofs.GroupClaims.{ReadLaws, table_answers}
+
+-- the laws by which it holds
+pub record MarginsLaws : Type 0 where
+  pub any : AnySettles
+  pub common : LevelKeepsOrder
+  pub apart : ApartIsARound
+
+-- ---- the words
+within_is : (limit n : ℕ) (word : List ℕ) → IsDecimal word n → n ≤ limit → is_within limit word ≡ true
+within_is limit n word d low =
+    let tested : nat_le (decimal_value word) limit ≡ true = grind (arith, nat_tests, d.value) in
+    ap (λ b. b && nat_le (decimal_value word) limit) d.plain ∙ tested
+
+bounds_are : (bounds : Bounds) (table : Table) (call : Call) (h : IsMarginsOf bounds table call) → are_bounds h.delay h.jitter h.clocks ≡ true
+bounds_are bounds table call h =
+    ap (λ b. b && (is_within most_jitter h.jitter && is_within most_clocks h.clocks)) (within_is most_delay bounds.delay h.delay h.delay_is h.within.delay)
+    ∙ ap (λ b. b && is_within most_clocks h.clocks) (within_is most_jitter bounds.jitter h.jitter h.jitter_is h.within.jitter)
+    ∙ within_is most_clocks bounds.clocks h.clocks h.clocks_is h.within.clocks
+
+abbrev bounds_with : ℕ → ℕ → ℕ → Bounds
+bounds_with delay jitter clocks = record { delay = delay; jitter = jitter; clocks = clocks }
+
+same_bounds : (bounds : Bounds) (table : Table) (call : Call) (h : IsMarginsOf bounds table call) → bounds_of h.delay h.jitter h.clocks ≡ bounds
+same_bounds bounds table call h =
+    ap (λ n. bounds_with n (decimal_value h.jitter) (decimal_value h.clocks)) h.delay_is.value
+    ∙ ap (λ n. bounds_with bounds.delay n (decimal_value h.clocks)) h.jitter_is.value
+    ∙ ap (bounds_with bounds.delay bounds.jitter) h.clocks_is.value
+
+margins_form : (bounds : Bounds) (table : Table) (call : Call) → IsMarginsOf bounds table call → form_of call.words ≡ Some (OnTable (Margins bounds))
+margins_form bounds table call h =
+    let some : Bounds → Option Form = λ b. Some (OnTable (Margins b)) in
+    ap form_of h.form
+    ∙ ap (λ b. cond b (some (bounds_of h.delay h.jitter h.clocks)) None) (bounds_are bounds table call h)
+    ∙ ap some (same_bounds bounds table call h)
+
+-- ---- the claim
+pub margins_claim : ReadLaws → MarginsLaws → (call : Call) (outcome : Outcome) (bounds : Bounds) (table : Table) → Acts call outcome
+    → IsMarginsOf bounds table call → GivesMargins bounds table call (status_of outcome)
+margins_claim texts laws call outcome bounds table acts h =
+    let asked : IsAperiodic table = record { valid = h.table_told.valid; mode = h.aperiodic } in
+    record {
+      gives = table_answers texts (Margins bounds) call outcome table (λ text. text ≡ margins_answer (verdict_of table) bounds table)
+          (margins_form bounds table call h) h.aperiodic (λ text is. is) acts h.table_told h.undisturbed;
+      tells = record {
+        any = λ level c up course left alone. laws.any bounds table c up asked level course left alone;
+        common = λ level c course cold powered even. laws.common bounds table c asked level course cold powered even;
+        apart = laws.apart bounds table;
+        borne = told_bears bounds table h.within;
+      };
+    }

@@ -1,0 +1,72 @@
+-- What is claimed of `margins`: what its level means for the bus of the table within the bounds, and its numbers.
+use Rattle.std.specs.Prelude.{◌≡◌, ◌≢◌, ℕ, ◌+◌, ◌≤◌, List, [], ◌∷◌, codes}
+use Rattle.bus_text.specs.Numbers.{IsDecimal}
+use Rattle.bus_bounds.specs.Bounds.{Bounds, AreBounds}
+use Rattle.bus_table.specs.Tables.{Table}
+use Rattle.bus_table.specs.declared.mode.Mode.TheVariants.{Aperiodic}
+use Rattle.bus_regime.specs.Verdicts.{verdict_of}
+use Rattle.bus_clocks.specs.Buses.{Bus, among}
+use Rattle.bus_clocks.specs.Courses.{Course, IsCourse, HaveLeft, IsLeftAlone}
+use Rattle.bus_clocks.specs.Order.{IsCold, ArePoweredWithin, AreEven, IsInOrder}
+use Rattle.bus_clocks.specs.Rounds.{least_round, most_round}
+use Rattle.bus_clocks.specs.Settling.{HasSettled}
+use Rattle.bus_margins.specs.declared.level.Level.TheVariants.{Any, Neither}
+use Rattle.bus_margins.specs.Bearing.{IsBorne}
+use Rattle.bus_margins.specs.Buses.{bus_of}
+use Rattle.bus_margins.specs.Rooms.{level_of, least_apart, most_apart}
+use Rattle.bus_margins.specs.Texts.{borne_with}
+use Rattle.bus_command.specs.Claims.{Answers, TellsTable, NothingFails}
+use Rattle.bus_command.specs.Outside.{Call}
+use Rattle.bus_command.specs.Readers.{entire, one_source}
+use Rattle.bus_command.specs.declared.status.Status.{Status}
+use Rattle.bus_tool.specs.Due.{margins_outcome}
+use Rattle.bus_tool.specs.MarginsTexts.{margins_answer}
+use Rattle.bus_tool.specs.Refusals.{status_of}
+
+-- A call of `margins T D J P`, where D, J and P are the plain decimals of bounds within their limits, on a text of a valid aperiodic table,
+-- in which nothing outside fails.
+pub record IsMarginsOf (bounds : Bounds) (table : Table) (call : Call) : Type 0 where
+  pub path : List ℕ
+  pub delay : List ℕ
+  pub jitter : List ℕ
+  pub clocks : List ℕ
+  pub form : call.words ≡ codes "margins" ∷ path ∷ delay ∷ jitter ∷ clocks ∷ []
+  pub delay_is : IsDecimal delay bounds.delay
+  pub jitter_is : IsDecimal jitter bounds.jitter
+  pub clocks_is : IsDecimal clocks bounds.clocks
+  pub within : AreBounds bounds
+  pub table_told : TellsTable table call.before.sources.first
+  pub aperiodic : table.mode ≡ Aperiodic
+  pub undisturbed : NothingFails (one_source entire) call.before call.after
+
+-- Every course of such a bus comes into order by itself, and stays there, up to each horizon, whenever its senders were powered up and
+-- whatever they sent until then, once it is left alone and as long as they have messages left. When all has been heard that came before, so
+-- many nanoseconds have passed at most.
+abbrev pub Settles : Bus → ℕ → Type 0
+Settles bus most =
+    (c : Course) (up : ℕ) → IsCourse bus c → HaveLeft bus c → IsLeftAlone bus c up
+    → (origin : ℕ) × (origin + (among bus).delay ≤ up + most) × HasSettled bus c up origin
+
+-- Every course of such a bus is in order from the beginning that begins cold, whose senders are powered up at about the same time and have as
+-- many messages each.
+abbrev pub KeepsOrder : Bus → Type 0
+KeepsOrder bus = (c : Course) → IsCourse bus c → IsCold bus c → ArePoweredWithin bus c → AreEven bus c → IsInOrder bus c
+
+-- What the lines of a table tell of its bus within these bounds:
+--   any      at level `any` order comes by itself, by the time that two starts of a sender are apart at most
+--   common   and at each level it stands from a common start
+--   apart    two starts of a sender, one behind the other, are told to be as far apart as a shortest and a longest round
+--   borne    and of each bound the greatest, alone changed, with which the level is no lower.
+pub record TellsMargins (bounds : Bounds) (table : Table) : Type 0 where
+  pub any : level_of bounds table ≡ Any → Settles (bus_of bounds table) (most_apart bounds table)
+  pub common : level_of bounds table ≢ Neither → KeepsOrder (bus_of bounds table)
+  pub apart : (least_apart bounds table ≡ least_round (among (bus_of bounds table)))
+      × (most_apart bounds table ≡ most_round (among (bus_of bounds table)))
+  pub borne : IsBorne bounds table (level_of bounds table) (borne_with bounds table (level_of bounds table))
+
+-- The margins of an accepted table are written, which tell what they say, and the status is Done where it has a level, else Refused; of a
+-- refused one its verdict line is, and the status is Refused.
+pub record GivesMargins (bounds : Bounds) (table : Table) (call : Call) (status : Status) : Type 0 where
+  pub gives : Answers (status_of (margins_outcome (verdict_of table) (level_of bounds table)))
+      (λ text. text ≡ margins_answer (verdict_of table) bounds table) call status
+  pub tells : TellsMargins bounds table
