@@ -57,10 +57,10 @@ fn turns_that_overlap_are_marked(rt: HostRuntime) -> Result<(), Fail> {
     let marks = text
         .split(|byte| *byte == b'\n')
         .filter(|line| line.starts_with(b"TE"));
-    let mut count = 0;
+    let mut count: u32 = 0;
     for line in marks {
         assert!(rt; line.ends_with(b" C"));
-        count += 1;
+        count = count.saturating_add(1);
     }
     assert_eq!(rt; count, 4);
     Ok(())
