@@ -1,0 +1,23 @@
+-- The lemmas of this crate.
+mod Quiet
+mod Parts
+mod Amounts
+mod Just
+mod Courses
+mod Admissible
+mod Recorded
+mod Straight
+mod SyncWalk
+mod Stretches
+mod LateWalk
+mod Finer
+mod Rounded
+mod Shifted
+mod Unshifted
+mod Noted
+mod Found
+mod Search
+mod Exact
+mod Names
+mod Until
+mod Filed
