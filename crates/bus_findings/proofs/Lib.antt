@@ -1,0 +1,14 @@
+-- The lemmas of this crate.
+pub mod AmountLemmas
+pub mod SeenLemmas
+pub mod LackLemmas
+pub mod DueLemmas
+pub mod PlaceLemmas
+pub mod WalkLemmas
+pub mod JudgeLemmas
+pub mod HeardLemmas
+pub mod WatchLemmas
+pub mod SenderLemmas
+pub mod SilenceLemmas
+pub mod TraceLemmas
+pub mod JustLemmas

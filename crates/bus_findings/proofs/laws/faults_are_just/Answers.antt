@@ -1,0 +1,8 @@
+use Rattle.bus_findings.proofs.JustLemmas.{keepers_unblamed, amounts_told}
+use Rattle.bus_findings.proofs.laws.faults_are_just.Goals as goal
+
+pub returns-clause-unblamed : goal.returns-clause-unblamed
+returns-clause-unblamed c = keepers_unblamed c.findings_are_just.ensures
+
+pub returns-clause-amounts : goal.returns-clause-amounts
+returns-clause-amounts c = amounts_told

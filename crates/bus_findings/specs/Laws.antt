@@ -1,0 +1,113 @@
+-- What the findings are in the words of bus_recording. Its own laws say what follows: whoever keeps its bounds has none of these findings, and
+-- the amounts are true.
+use Rattle.std.specs.Prelude.{◌≡◌, ℕ, ◌-◌, ◌<◌, ◌≤◌, List, Option, Some, None}
+use Rattle.std.specs.Option.{option_map_or}
+use Rattle.bus_recording.specs.Seen.{Seen, Monitor, Bounds as TimerBounds}
+use Rattle.bus_recording.specs.Findings.{IsEarlyByInterval, IsEarlyByGap, IsEarlyBySync, IsLate, IsOverForCertain}
+use Rattle.bus_strings.specs.Members.{In}
+use Rattle.bus_strings.specs.Messages.{Entry}
+use Rattle.bus_table.specs.Fits.{sender_of}
+use Rattle.bus_table.specs.Tables.{Sender, Table}
+use Rattle.bus_trace.specs.Traces.{Recording, IsTrace}
+use Rattle.bus_bounds.specs.Bounds.{Bounds}
+use Rattle.bus_clocks.specs.Courses.{Course}
+use Rattle.bus_clocks.specs.Entries.{Entry as Transmission}
+use Rattle.bus_recording.specs.Just.{AreWithin}
+use Rattle.bus_recording.specs.Keeping.{KeepsBounds}
+use Rattle.bus_recording.specs.Recordings.{IsRecording}
+use Rattle.bus_findings.specs.declared.judgement.Due.{Due}
+use Rattle.bus_findings.specs.declared.judgement.Judgement.{Judgement}
+use Rattle.bus_findings.specs.Amounts.{IsAmount}
+use Rattle.bus_findings.specs.Lacks.{interval_lack, gap_lack, sync_lack}
+use Rattle.bus_findings.specs.Dues.{due_of}
+use Rattle.bus_findings.specs.Judging.{judgement_of, last_start}
+use Rattle.bus_findings.specs.Recorded.{seen, recorded, monitor_of, timers_of}
+
+-- What lacks is the amount by which a start is too early: where nothing lacks, it isn't.
+abbrev pub IntervalLackIsAmount : Type 0
+IntervalLackIsAmount = (timers : TimerBounds) (o y : Seen) → IsAmount (λ n. IsEarlyByInterval timers n o y) (interval_lack timers o y)
+
+abbrev pub GapLackIsAmount : Type 0
+GapLackIsAmount =
+    (timers : TimerBounds) (monitor : Monitor) (recording : List Seen) (y : Seen)
+    → IsAmount (λ n. IsEarlyByGap timers monitor n recording y) (gap_lack timers monitor recording y)
+
+abbrev pub SyncLackIsAmount : Type 0
+SyncLackIsAmount =
+    (timers : TimerBounds) (monitor : Monitor) (recording : List Seen) (o y : Seen) → 0 < monitor.drop
+    → IsAmount (λ n. IsEarlyBySync timers monitor n recording o y) (sync_lack timers monitor recording o y)
+
+-- When a terminal is told to be due, all its timers were over for certain, and at no moment before.
+pub record IsFirstOver (timers : TimerBounds) (monitor : Monitor) (recording : List Seen) (o : Seen) (until t : ℕ) : Type 0 where
+  pub before : t < until
+  pub over : IsOverForCertain timers monitor recording o t
+  pub first : (u : ℕ) → IsOverForCertain timers monitor recording o u → t ≤ u
+
+abbrev pub DueIsFirst : Type 0
+DueIsFirst =
+    (timers : TimerBounds) (monitor : Monitor) (recording : List Seen) (o : Seen) (until : ℕ) (due : Due)
+    → due_of timers monitor recording o until ≡ Some due → IsFirstOver timers monitor recording o until due.moment
+
+-- Where it isn't told to be due, they never were.
+abbrev pub NotDueIsNever : Type 0
+NotDueIsNever =
+    (timers : TimerBounds) (monitor : Monitor) (recording : List Seen) (o : Seen) (until u : ℕ)
+    → due_of timers monitor recording o until ≡ None → u < until → IsOverForCertain timers monitor recording o u → ⊥
+
+-- By how much a start is late that was due.
+abbrev pub lateness : Option Due → Seen → ℕ
+lateness due y = option_map_or (λ d. y.moment - d.moment) due 0
+
+-- That is the amount by which it is late.
+abbrev pub LatenessIsAmount : Type 0
+LatenessIsAmount =
+    (timers : TimerBounds) (monitor : Monitor) (recording : List Seen) (o y : Seen)
+    → IsAmount (λ n. IsLate timers monitor n recording o y) (lateness (due_of timers monitor recording o y.moment) y)
+
+-- ---- of a transmission
+
+-- It is told no fault by a timer.
+pub record IsUnblamed (found : Judgement) : Type 0 where
+  pub interval : found.interval ≡ 0
+  pub sync_gap : found.sync_gap ≡ 0
+  pub terminal_gap : found.terminal_gap ≡ 0
+  pub late : found.late ≡ None
+
+-- A transmission of a sender of the table.
+pub record IsOfSender (table : Table) (trace : Recording) (sender : Sender) (x : Entry) : Type 0 where
+  pub there : In x trace.list
+  pub sender_is : sender_of table.senders x.terminal ≡ Some sender
+
+-- A sender keeps bounds, whatever the others do, and hears the recorded transmissions as the monitor recorded them: with its clock set ahead,
+-- its own starts are those of the recording, up to the sway, and it hears each other transmission no earlier than it is recorded, and up to
+-- twice the delay later.
+pub record Keeps (bounds : Bounds) (table : Table) (trace : Recording) (sender : Sender) : Type 0 where
+  pub course : Course
+  pub from : ℕ
+  pub ahead : ℕ
+  pub sway : ℕ
+  pub noted : Transmission → Seen
+  pub kept : TimerBounds
+  pub keeps : KeepsBounds course kept sender.number from
+  pub within : AreWithin sway kept (timers_of bounds table sender)
+  pub recording : IsRecording course (monitor_of bounds table) sender.number from ahead sway noted (recorded bounds trace.list)
+
+-- No false alarm: a sender that keeps its bounds has no fault by a timer.
+abbrev pub KeepersAreUnblamed : Type 0
+KeepersAreUnblamed =
+    (bounds : Bounds) (table : Table) (trace : Recording) (sender : Sender) (x : Entry) → IsTrace trace → Keeps bounds table trace sender
+    → IsOfSender table trace sender x → IsUnblamed (judgement_of bounds table trace.list x)
+
+-- The amounts that are told of a start behind another of the same sender are those of bus_recording.
+pub record AreAmounts (timers : TimerBounds) (monitor : Monitor) (recording : List Seen) (o y : Seen) (found : Judgement) : Type 0 where
+  pub interval : IsAmount (λ n. IsEarlyByInterval timers n o y) found.interval
+  pub sync_gap : IsAmount (λ n. IsEarlyBySync timers monitor n recording o y) found.sync_gap
+  pub terminal_gap : IsAmount (λ n. IsEarlyByGap timers monitor n recording y) found.terminal_gap
+  pub late : IsAmount (λ n. IsLate timers monitor n recording o y) (option_map_or (λ late. late.amount) found.late 0)
+
+abbrev pub AmountsAreTold : Type 0
+AmountsAreTold =
+    (bounds : Bounds) (table : Table) (trace : Recording) (sender : Sender) (x : Entry) (o : Seen) → IsOfSender table trace sender x
+    → last_start (recorded bounds trace.list) x.terminal x.moment ≡ Some o
+    → AreAmounts (timers_of bounds table sender) (monitor_of bounds table) (recorded bounds trace.list) o (seen bounds x)
+    (judgement_of bounds table trace.list x)

@@ -1,0 +1,5 @@
+-- Words of private contracts and of proofs.
+pub mod Standing
+pub mod Counting
+pub mod Walked
+pub mod Sound

@@ -1,0 +1,24 @@
+//! Laws of findings, each the contract of a function that does nothing.
+ghost use Rattle.bus_findings.specs.Laws.{IntervalLackIsAmount, GapLackIsAmount, SyncLackIsAmount, DueIsFirst, NotDueIsNever, LatenessIsAmount};
+ghost use Rattle.bus_findings.specs.Laws.{KeepersAreUnblamed, AmountsAreTold};
+
+use bus_recording::laws::findings_are_just;
+
+/// A start is told to be too early, or late, exactly where it is so in the words of `bus_recording`, and by just as much.
+pub fn findings_are_exact()
+    ensures interval { IntervalLackIsAmount }
+    ensures gap { GapLackIsAmount }
+    ensures sync { SyncLackIsAmount }
+    ensures due { DueIsFirst }
+    ensures not_due { NotDueIsNever }
+    ensures late { LatenessIsAmount }
+{}
+
+/// No false alarm: a sender that keeps its bounds is told no fault by a timer, whatever the other terminals do. And what is told of a start
+/// behind another is as much as `bus_recording` says, of which it is proved that it is true of that sender.
+pub fn faults_are_just()
+    ensures unblamed { KeepersAreUnblamed }
+    ensures amounts { AmountsAreTold }
+{
+    findings_are_just();
+}
