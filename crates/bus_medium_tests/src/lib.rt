@@ -10,6 +10,8 @@ mod all_offsets;
 #[cfg(test)]
 mod aperiodic_reach;
 #[cfg(test)]
+mod cable_plan;
+#[cfg(test)]
 mod cable_text;
 #[cfg(test)]
 mod dropout;

@@ -1,0 +1,27 @@
+-- The lemmas of this crate; those that a crate above may cite are public.
+pub mod Splits
+pub mod Walking
+pub mod Ring
+pub mod Turning
+pub mod Enough
+pub mod Upper
+pub mod Wider
+pub mod Filling
+pub mod Pairs
+pub mod Matching
+pub mod Laid
+pub mod Tops
+pub mod Shaped
+pub mod Orders
+pub mod InOrder
+pub mod Needs
+pub mod ByGap
+pub mod Steps
+pub mod Lower
+pub mod Moved
+pub mod Outcome
+pub mod Bound
+pub mod Sharing
+pub mod Rising
+pub mod Right
+pub mod NoDelay

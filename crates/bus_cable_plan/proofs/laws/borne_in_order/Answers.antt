@@ -1,0 +1,5 @@
+use Rattle.bus_cable_plan.proofs.Bound as lemmas
+use Rattle.bus_cable_plan.proofs.laws.borne_in_order.Goals as goal
+
+pub returns : goal.returns
+returns c = lemmas.borne_in_order

@@ -1,0 +1,4 @@
+-- What only contracts of private functions and proofs name: not to be read for what is promised.
+pub mod Bounds
+pub mod Lists
+pub mod Orders

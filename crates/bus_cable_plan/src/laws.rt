@@ -1,0 +1,60 @@
+//! Laws of the definitions, each the contract of a function that does nothing.
+ghost use Rattle.bus_cable_plan.specs.Laws.{BorneFitsTurns, BorneHasLeast, BorneInOrder, FeasibleForExactly, FittingIsBorne, NoneShareMore};
+ghost use Rattle.bus_cable_plan.specs.Meaning.{BestIsRight, MostBorneIsRight, PlansAreRight};
+ghost use Rattle.bus_cable_plan.specs.Laws.{OrderIsKept, OrderIsPlanned, PlannedBears, RefutedIsNotBorne, SharedBears, WithoutDelay};
+
+/// Whatever the delay: the offsets planned in turn order are accepted and bear it where they fit the interval, and the order is kept.
+pub fn order_is_planned()
+    ensures bears { OrderIsPlanned }
+    ensures kept { OrderIsKept }
+{}
+
+/// Whatever the delay: so are those planned by terminal gaps where the transmit interval is at least the least interval for the delay.
+pub fn planned_bears()
+    ensures { PlannedBears }
+{}
+
+/// Where it is below that, and that is known, no choice of offsets bears the delay.
+pub fn borne_has_least()
+    ensures { BorneHasLeast }
+{}
+
+/// So some choice of offsets bears it exactly where the interval is at least that.
+pub fn feasible_for_exactly()
+    ensures { FeasibleForExactly }
+{}
+
+/// Nor does any choice that keeps the turn order where the interval is below the least one in that order.
+pub fn borne_in_order()
+    ensures { BorneInOrder }
+{}
+
+/// Whatever the delay, offsets that bear it leave room for each sender's terminal gap, the delay and its longest message.
+pub fn borne_fits_turns()
+    ensures { BorneFitsTurns }
+{}
+
+/// The greatest delay that any offsets bear: where a plan fits, each up to it is borne, and where it is refuted, none from it on.
+pub fn greatest_is_told()
+    ensures borne { FittingIsBorne }
+    ensures refuted { RefutedIsNotBorne }
+{}
+
+/// What is left over is shared evenly: the plan bears the delay also where each gap is shorter by up to its share, and no offsets do for more.
+pub fn shares_are_best()
+    ensures borne { SharedBears }
+    ensures most { NoneShareMore }
+{}
+
+/// What an answer means: a planned table is the given one at other offsets, which are accepted and bear the delay; where the answer is
+/// infeasible no offsets do; and it is undecided only where the turns fit the interval, no plan does, and the least interval isn't known.
+pub fn answers_are_right()
+    ensures plan { PlansAreRight }
+    ensures best { BestIsRight }
+    ensures most { MostBorneIsRight }
+{}
+
+/// Without delay the least interval is that in which some offsets are accepted.
+pub fn without_delay()
+    ensures { WithoutDelay }
+{}
