@@ -22,6 +22,16 @@ pub drift_within : (clocks n : ℕ) → clocks ≤ most_clocks → drift clocks 
 unfolding drift
 drift_within clocks n h = ceil_least (n * clocks) (1000000 - clocks) n (omega arith) (mul-le-mul_left n (omega arith))
 
+-- one that is off by more is off by no less
+pub drift_faster : (a b n : ℕ) → a ≤ b → b ≤ most_clocks → drift a n ≤ drift b n
+unfolding drift
+drift_faster a b n less h =
+    let all : n * b ≤ div_ceil (n * b) (1000000 - b) * (1000000 - b) = ceil_most (n * b) (1000000 - b) (omega arith) in
+    let low : n * a ≤ n * b = mul-le-mul_left n less in
+    let wide : div_ceil (n * b) (1000000 - b) * (1000000 - b) ≤ div_ceil (n * b) (1000000 - b) * (1000000 - a) =
+    mul-le-mul_left (div_ceil (n * b) (1000000 - b)) (omega arith) in
+    ceil_least (n * a) (1000000 - a) _ (omega arith) (omega (arith, all, low, wide))
+
 -- of a greater length it is off by no less, and by no more than the length is greater
 pub drift_more : (clocks a d : ℕ) → clocks ≤ most_clocks
     → (drift clocks a ≤ drift clocks (a + d)) × (drift clocks (a + d) ≤ drift clocks a + d)

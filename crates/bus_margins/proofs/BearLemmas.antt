@@ -1,29 +1,24 @@
 -- What is kept with one value of the delay, or of the jitter, is kept with each smaller one.
-use Rattle.std.proofs.Common.{arith, ◌≡◌, ◌≢◌, ℕ, ◌-◌, ◌<◌, ◌≤◌, Bool, true, false, cond, ◌&&◌}
-use Rattle.std.proofs.Common.{refl, sym, ◌∙◌, ap, inl, inr}
-use Rattle.std.proofs.lemmas.Bool.{and_parts, and_from, true≢false, cases_Bool}
+use Rattle.std.proofs.Common.{arith, ◌≡◌, ◌≢◌, ℕ, ◌<◌, ◌≤◌, Bool, true, false, cond, ◌&&◌}
+use Rattle.std.proofs.Common.{refl, sym, ◌∙◌, ap}
+use Rattle.std.proofs.lemmas.Bool.{and_parts, and_from, true≢false}
 use Rattle.bus_table.specs.Tables.{Table}
 use Rattle.bus_table.specs.Turns.{turn_order}
 use Rattle.bus_table.specs.inside.Facts.{TableFacts}
 use Rattle.bus_bounds.specs.Bounds.{Bounds}
-use Rattle.bus_margins.specs.declared.bearing.Part.{Part}
-use Rattle.bus_margins.specs.declared.bearing.Part.TheVariants.{Delay, Jitter, Clocks}
+use Rattle.bus_margins.specs.declared.part.Part.{Part}
+use Rattle.bus_margins.specs.declared.part.Part.TheVariants.{Delay, Jitter, Clocks}
 use Rattle.bus_margins.specs.declared.level.Level.{Level}
 use Rattle.bus_margins.specs.declared.level.Level.TheVariants.{Any, Common, Neither}
 use Rattle.bus_margins.specs.Least.{holds}
 use Rattle.bus_margins.specs.Rooms.{level_of, rooms_of, lasts, order_holds}
 use Rattle.bus_margins.specs.Bearing.{is_level, with_part, part_of, most_part, keeps}
+use Rattle.bus_margins.proofs.BorneLemmas.{same_part}
+use Rattle.bus_margins.proofs.Greatest.{IsAmong, all_left}
 use Rattle.bus_margins.proofs.Ordering.{ordered}
 use Rattle.bus_margins.proofs.WiderLemmas.{Wider, keeps_rules, keeps_interval, keeps_cycle, interval_cycle}
 
--- with the least of these values the level is kept, with all above the greatest it isn't
-pub record IsAmong (bounds : Bounds) (table : Table) (level : Level) (part : Part) (low high : ℕ) : Type 0 where
-  pub order : low ≤ high
-  pub most : high ≤ most_part part
-  pub kept : keeps bounds table level part low ≡ true
-  pub none : (m : ℕ) → high < m → m ≤ most_part part → keeps bounds table level part m ≡ false
-
--- the greatest of the values below n with which it is
+-- the greatest of the values below n with which it is kept
 pub record IsSoFar (bounds : Bounds) (table : Table) (level : Level) (n greatest : ℕ) : Type 0 where
   pub most : greatest ≤ most_part Clocks
   pub kept : keeps bounds table level Clocks greatest ≡ true
@@ -71,24 +66,6 @@ module _ (table : Table) (facts : TableFacts table) where
   kept_narrow bounds level Jitter a b other l h =
       narrow level (with_part bounds Jitter a) (with_part bounds Jitter b) (record { clocks = refl; delay = omega arith; jitter = l }) h
 
-  -- the lower half is left
-  pub lower : (bounds : Bounds) (level : Level) (part : Part) (low high middle : ℕ) → part ≢ Clocks → IsAmong bounds table level part low high
-      → low < middle → middle ≤ high → keeps bounds table level part middle ≡ false → IsAmong bounds table level part low (middle - 1)
-  lower bounds level part low high middle other among l m h = record {
-    order = omega arith;
-    most = omega (arith, among.most);
-    kept = among.kept;
-    none = λ n g most. elim (cases_Bool (keeps bounds table level part n)) [
-      | inl held ↦ absurd (true≢false (sym (kept_narrow bounds level part middle n other (omega arith) held) ∙ h))
-      | inr not ↦ not
-    ];
-  }
-
-same_part : (bounds : Bounds) (part : Part) → with_part bounds part (part_of bounds part) ≡ bounds
-same_part bounds Delay = refl
-same_part bounds Jitter = refl
-same_part bounds Clocks = refl
-
 reaches : (level : Level) → is_level level level ≡ true
 reaches Any = refl
 reaches Common = refl
@@ -101,11 +78,6 @@ kept_now bounds table level part e =
     ap (λ b. is_level level (level_of b table)) (same_part bounds part) ∙ ap (is_level level) e ∙ reaches level
 
 -- all values are left
-pub all_left : (bounds : Bounds) (table : Table) (level : Level) (part : Part) → part_of bounds part ≤ most_part part → level_of bounds table ≡ level
-    → IsAmong bounds table level part (part_of bounds part) (most_part part)
-all_left bounds table level part r e = record {
-  order = r;
-  most = omega arith;
-  kept = kept_now bounds table level part e;
-  none = λ m g h. absurd (omega arith);
-}
+pub all_kept : (bounds : Bounds) (table : Table) (level : Level) (part : Part) → part_of bounds part ≤ most_part part → level_of bounds table ≡ level
+    → IsAmong (keeps bounds table level part) (most_part part) (part_of bounds part) (most_part part)
+all_kept bounds table level part r e = all_left (keeps bounds table level part) (most_part part) (part_of bounds part) r (kept_now bounds table level part e)

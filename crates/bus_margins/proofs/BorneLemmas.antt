@@ -1,42 +1,34 @@
 -- What the text says that a table bears is what it bears.
 use Rattle.std.specs.Prelude.{◌↔◌, IsNone, IfSome}
-use Rattle.std.proofs.Common.{arith, ◌≡◌, ◌≢◌, ℕ, zero, suc, ◌≤◌, Bool, true, false, cond, Option, Some, None}
-use Rattle.std.proofs.Common.{refl, sym, ◌∙◌, ap, inl, inr}
-use Rattle.std.proofs.lemmas.Bool.{true≢false, cases_Bool}
+use Rattle.std.proofs.Common.{◌≡◌, ℕ, ◌≤◌, Bool, true, Option, Some, None}
+use Rattle.std.proofs.Common.{refl, ap}
 use Rattle.bus_table.specs.Tables.{Table}
-use Rattle.bus_bounds.specs.Bounds.{Bounds}
-use Rattle.bus_margins.specs.declared.bearing.Borne.{Borne}
-use Rattle.bus_margins.specs.declared.bearing.Part.{Part}
-use Rattle.bus_margins.specs.declared.bearing.Part.TheVariants.{Delay, Jitter, Clocks}
+use Rattle.bus_bounds.specs.Bounds.{Bounds, AreBounds}
+use Rattle.bus_margins.specs.declared.part.Borne.{Borne}
+use Rattle.bus_margins.specs.declared.part.Part.{Part}
+use Rattle.bus_margins.specs.declared.part.Part.TheVariants.{Delay, Jitter, Clocks}
 use Rattle.bus_margins.specs.declared.level.Level.{Level}
 use Rattle.bus_margins.specs.declared.level.Level.TheVariants.{Any, Common, Neither}
-use Rattle.bus_margins.specs.Bearing.{most_part, keeps, IsGreatest, IsBorne}
-use Rattle.bus_margins.specs.Texts.{greatest_to, greatest_part, borne_with, borne_at}
+use Rattle.bus_margins.specs.Bearing.{keeps, most_part, part_of, with_part, greatest_part, borne_with, IsBorne}
+use Rattle.bus_margins.specs.Greatest.{IsGreatest}
+use Rattle.bus_margins.specs.Texts.{borne_at}
+use Rattle.bus_margins.proofs.Greatest.{greatest_is, found}
 
-on_yes : (test : ℕ → Bool) (n : ℕ) → test (suc n) ≡ true → greatest_to test (suc n) ≡ suc n
-on_yes test n h = ap (λ b. cond b (suc n) (greatest_to test n)) h
+-- ---- bounds
+pub same_part : (bounds : Bounds) (part : Part) → with_part bounds part (part_of bounds part) ≡ bounds
+same_part bounds Delay = refl
+same_part bounds Jitter = refl
+same_part bounds Clocks = refl
 
-on_no : (test : ℕ → Bool) (n : ℕ) → test (suc n) ≡ false → greatest_to test (suc n) ≡ greatest_to test n
-on_no test n h = ap (λ b. cond b (suc n) (greatest_to test n)) h
+pub part_within : (bounds : Bounds) → AreBounds bounds → (part : Part) → part_of bounds part ≤ most_part part
+part_within bounds within Delay = within.delay
+part_within bounds within Jitter = within.jitter
+part_within bounds within Clocks = within.clocks
 
--- the greatest that a test takes
-greatest_is : (test : ℕ → Bool) (most n : ℕ) → n ≤ most → test n ≡ true → ((m : ℕ) → m ≤ most → test m ≡ true → m ≤ n) → n ≡ greatest_to test most
-greatest_is test zero n within kept none = let e : greatest_to test zero ≡ 0 = refl in omega (arith, e)
-greatest_is test (suc k) n within kept none = elim (cases_Bool (test (suc k))) [
-  | inl held ↦
-      let low : suc k ≤ n = none (suc k) (omega arith) held in
-      let e : greatest_to test (suc k) ≡ suc k = on_yes test k held in
-      omega (arith, e, low)
-  | inr not ↦
-      let other : n ≢ suc k = λ e. true≢false (sym kept ∙ ap test e ∙ not) in
-      let less : n ≤ k = omega (arith, other) in
-      greatest_is test k n less kept (λ m l h. none m (omega arith) h) ∙ sym (on_no test k not)
-]
-
-part_is : (bounds : Bounds) (table : Table) (level : Level) (part : Part) (n : ℕ) → IsGreatest bounds table level part n
-    → n ≡ greatest_part bounds table level part
+-- ---- what is borne, computed
+part_is : (keeps : Part → ℕ → Bool) (part : Part) (n : ℕ) → IsGreatest (keeps part) (most_part part) n → n ≡ greatest_part keeps part
 unfolding greatest_part
-part_is bounds table level part n g = greatest_is (keeps bounds table level part) (most_part part) n g.most g.kept g.greatest
+part_is keeps part n g = greatest_is (keeps part) (most_part part) n g
 
 -- what is borne has three numbers
 unfoldable made : ℕ → ℕ → ℕ → Borne
@@ -49,18 +41,33 @@ same_borne x y d j c = same x y d j c where
       → made x.delay x.jitter x.clocks ≡ made y.delay y.jitter y.clocks
   same x y d j c = cc
 
-borne_is : (bounds : Bounds) (table : Table) (level : Level) (borne : Borne) → IsBorne bounds table level borne → borne ≡ borne_with bounds table level
-borne_is bounds table level borne b =
-    let d = part_is bounds table level Delay borne.delay b.delay in
-    let j = part_is bounds table level Jitter borne.jitter b.jitter in
-    let c = part_is bounds table level Clocks borne.clocks b.clocks in
-    same_borne borne (borne_with bounds table level) d j c
+pub borne_is : (keeps : Part → ℕ → Bool) (borne : Borne) → IsBorne keeps borne → borne ≡ borne_with keeps
+borne_is keeps borne b =
+    let d = part_is keeps Delay borne.delay b.delay in
+    let j = part_is keeps Jitter borne.jitter b.jitter in
+    let c = part_is keeps Clocks borne.clocks b.clocks in
+    same_borne borne (borne_with keeps) d j c
 
+-- where the present values are kept
+found_part : (keeps : Part → ℕ → Bool) (part : Part) (now : ℕ) → now ≤ most_part part → keeps part now ≡ true
+    → IsGreatest (keeps part) (most_part part) (greatest_part keeps part)
+unfolding greatest_part
+found_part keeps part now within kept = found (keeps part) (most_part part) now within kept
+
+pub is_borne : (keeps : Part → ℕ → Bool) (bounds : Bounds) → AreBounds bounds → ((part : Part) → keeps part (part_of bounds part) ≡ true)
+    → IsBorne keeps (borne_with keeps)
+is_borne keeps bounds within kept = record {
+  delay = found_part keeps Delay (part_of bounds Delay) (part_within bounds within Delay) (kept Delay);
+  jitter = found_part keeps Jitter (part_of bounds Jitter) (part_within bounds within Jitter) (kept Jitter);
+  clocks = found_part keeps Clocks (part_of bounds Clocks) (part_within bounds within Clocks) (kept Clocks);
+}
+
+-- ---- of an aperiodic table
 pub told_borne : (bounds : Bounds) (table : Table) (level : Level) (result : Option Borne) → (IsNone result ↔ (level ≡ Neither))
-    → IfSome result (IsBorne bounds table level) → result ≡ borne_at bounds table level
+    → IfSome result (IsBorne (keeps bounds table level)) → result ≡ borne_at bounds table level
 told_borne bounds table Any None none borne = absurd (let e : Any ≡ Neither = none.0 refl in cc)
 told_borne bounds table Common None none borne = absurd (let e : Common ≡ Neither = none.0 refl in cc)
 told_borne bounds table Neither None none borne = refl
-told_borne bounds table Any (Some b) none borne = ap Some (borne_is bounds table Any b borne)
-told_borne bounds table Common (Some b) none borne = ap Some (borne_is bounds table Common b borne)
+told_borne bounds table Any (Some b) none borne = ap Some (borne_is (keeps bounds table Any) b borne)
+told_borne bounds table Common (Some b) none borne = ap Some (borne_is (keeps bounds table Common) b borne)
 told_borne bounds table Neither (Some b) none borne = absurd (let e : IsNone (Some b) = none.1 refl in cc)

@@ -6,8 +6,9 @@ pub mod FitLemmas
 pub mod FactLemmas
 pub mod Ordering
 pub mod WiderLemmas
-pub mod BearLemmas
+pub mod Greatest
 pub mod BorneLemmas
+pub mod BearLemmas
 pub mod PlaceLemmas
 pub mod Apart
 pub mod Roomy

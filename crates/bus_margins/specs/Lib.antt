@@ -4,6 +4,7 @@ pub mod Least
 pub mod Rooms
 pub mod Margins
 pub mod Buses
+pub mod Greatest
 pub mod Bearing
 pub mod Texts
 pub mod Laws

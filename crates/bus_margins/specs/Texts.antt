@@ -1,17 +1,15 @@
 -- The text of the margins of an aperiodic table.
-use Rattle.std.specs.Prelude.{ℕ, zero, suc, Bool, List, [], ◌∷◌, ◌++◌, codes, Option, Some, None, pos, ◌-ℤ◌, if◌then◌else◌}
+use Rattle.std.specs.Prelude.{ℕ, List, [], ◌∷◌, ◌++◌, codes, Option, Some, None, pos, ◌-ℤ◌}
 use Rattle.std.specs.Fmt.{decimal, signed_decimal}
 use Rattle.bus_table.specs.Tables.{Table}
 use Rattle.bus_bounds.specs.Bounds.{Bounds}
-use Rattle.bus_margins.specs.declared.bearing.Borne.{Borne}
-use Rattle.bus_margins.specs.declared.bearing.Part.{Part}
-use Rattle.bus_margins.specs.declared.bearing.Part.TheVariants.{Delay, Jitter, Clocks}
+use Rattle.bus_margins.specs.declared.part.Borne.{Borne}
 use Rattle.bus_margins.specs.declared.level.Level.{Level}
 use Rattle.bus_margins.specs.declared.level.Level.TheVariants.{Any, Common, Neither}
 use Rattle.bus_margins.specs.declared.level.Margins.{Margins}
 use Rattle.bus_margins.specs.declared.room.Room.{Room}
 use Rattle.bus_margins.specs.declared.room.Rooms.{Rooms}
-use Rattle.bus_margins.specs.Bearing.{keeps, most_part}
+use Rattle.bus_margins.specs.Bearing.{keeps, borne_with}
 use Rattle.bus_margins.specs.Margins.{margins_of}
 use Rattle.bus_margins.specs.Rooms.{level_of}
 
@@ -74,26 +72,10 @@ bears_line (Some borne) = borne_line borne
 abbrev pub margins_lines : Margins → Option Borne → List ℕ
 margins_lines margins borne = head_line margins.level margins.least margins.most ++ room_lines margins.rooms ++ bears_line borne
 
--- The greatest number up to this one that a test takes, and 0 where it takes none.
-abbrev pub greatest_to : (ℕ → Bool) → ℕ → ℕ
-greatest_to test zero = zero
-greatest_to test (suc n) = if test (suc n) then suc n else greatest_to test n
-
--- The greatest value of one of the bounds with which a table has such a level.
-unfoldable pub greatest_part : Bounds → Table → Level → Part → ℕ
-greatest_part bounds table level part = greatest_to (keeps bounds table level part) (most_part part)
-
-abbrev pub borne_with : Bounds → Table → Level → Borne
-borne_with bounds table level = record {
-  delay = greatest_part bounds table level Delay;
-  jitter = greatest_part bounds table level Jitter;
-  clocks = greatest_part bounds table level Clocks;
-}
-
 -- What a table of this level bears: nothing is said where it has none.
 abbrev pub borne_at : Bounds → Table → Level → Option Borne
-borne_at bounds table Any = Some (borne_with bounds table Any)
-borne_at bounds table Common = Some (borne_with bounds table Common)
+borne_at bounds table Any = Some (borne_with (keeps bounds table Any))
+borne_at bounds table Common = Some (borne_with (keeps bounds table Common))
 borne_at bounds table Neither = None
 
 abbrev pub aperiodic_text : Bounds → Table → List ℕ

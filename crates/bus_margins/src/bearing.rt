@@ -1,75 +1,16 @@
-//! How much a table bears.
+//! How much an aperiodic table bears.
 ghost use Rattle.std.specs.Prelude.{◌≡◌, ◌≢◌, ◌≤◌, ◌+◌, true, IsNone, IfSome, ◌↔◌};
-ghost use Rattle.bus_bounds.specs.Bounds.{AreBounds};
 ghost use Rattle.bus_table.specs.Turned.{AreTurned};
 ghost use Rattle.bus_margins.specs.Bearing as specs;
-ghost use Rattle.bus_margins.specs.Bearing.{IsBorne, IsGreatest};
+ghost use Rattle.bus_margins.specs.Bearing.{IsBorne};
+ghost use Rattle.bus_margins.specs.Greatest.{IsGreatest};
 ghost use Rattle.bus_margins.specs.Rooms.{level_of};
 
 use crate::level::Level;
+use crate::part::{Borne, Part, most_part, part_of, with_part};
 use crate::telling::level_with;
-use bus_bounds::{Bounds, MOST_CLOCKS, MOST_DELAY, MOST_JITTER};
+use bus_bounds::{Bounds, MOST_CLOCKS};
 use bus_table::{MOST_SENDERS, Mode, Table, turn_places};
-
-/// The greatest values of the bounds, each alone, with which the level is no lower.
-#[derive(Clone, Copy, Debug)]
-pub struct Borne {
-    /// The greatest delay in nanoseconds.
-    pub delay: u64,
-    /// The greatest jitter in nanoseconds.
-    pub jitter: u64,
-    /// By how many millionths oscillators may be off at most.
-    pub clocks: u64,
-}
-
-/// One of the bounds.
-#[derive(Clone, Copy, Debug)]
-pub enum Part {
-    /// The delay.
-    Delay,
-    /// The jitter.
-    Jitter,
-    /// By how many millionths oscillators are off.
-    Clocks,
-}
-
-/// These bounds with another value of one of them.
-fn with_part(bounds: Bounds, part: Part, n: u64) -> Bounds
-    requires { n ≤ specs.most_part part }
-    ensures { result ≡ specs.with_part bounds part n }
-{
-    let (delay, jitter, clocks) = (bounds.delay(), bounds.jitter(), bounds.clocks());
-    let changed = match part {
-        Part::Delay => Bounds::new(n, jitter, clocks),
-        Part::Jitter => Bounds::new(delay, n, clocks),
-        Part::Clocks => Bounds::new(delay, jitter, n),
-    };
-    changed.unwrap_or(bounds)
-}
-
-/// The value of one of these bounds.
-fn part_of(bounds: Bounds, part: Part) -> u64
-    ensures value { result ≡ specs.part_of bounds part }
-    ensures most { result ≤ specs.most_part part }
-{
-    match part {
-        Part::Delay => bounds.delay(),
-        Part::Jitter => bounds.jitter(),
-        Part::Clocks => bounds.clocks(),
-    }
-}
-
-/// How great a bound may be.
-fn most_part(part: Part) -> u64
-    ensures value { result ≡ specs.most_part part }
-    ensures bound { result ≤ 1000000 }
-{
-    match part {
-        Part::Delay => MOST_DELAY,
-        Part::Jitter => MOST_JITTER,
-        Part::Clocks => MOST_CLOCKS,
-    }
-}
 
 /// Whether the table has such a level with another value of one of the bounds.
 fn keeps(
@@ -100,7 +41,7 @@ fn greatest_narrow(
     requires turned { AreTurned table.now places.now }
     requires level { level_of bounds table.now ≡ level }
     requires part { part ≢ Part.Clocks }
-    ensures { IsGreatest bounds table.now level part result }
+    ensures { IsGreatest (specs.keeps bounds table.now level part) (specs.most_part part) result }
 {
     let _valid = table.senders();
     let _ranges = bounds.delay();
@@ -128,7 +69,7 @@ fn greatest_clocks(
     requires mode { table.now.mode ≡ Mode.Aperiodic }
     requires turned { AreTurned table.now places.now }
     requires level { level_of bounds table.now ≡ level }
-    ensures { IsGreatest bounds table.now level Part.Clocks result }
+    ensures { IsGreatest (specs.keeps bounds table.now level Part.Clocks) (specs.most_part Part.Clocks) result }
 {
     let mut greatest = bounds.clocks();
     for n in bounds.clocks() + 1..MOST_CLOCKS + 1 {
@@ -144,7 +85,7 @@ fn greatest_clocks(
 pub fn bears(table: &Table, bounds: Bounds) -> Option<Borne>
     requires mode { table.now.mode ≡ Mode.Aperiodic }
     ensures none { IsNone result ↔ (level_of bounds table.now ≡ Level.Neither) }
-    ensures greatest { IfSome result (IsBorne bounds table.now (level_of bounds table.now)) }
+    ensures greatest { IfSome result (IsBorne (specs.keeps bounds table.now (level_of bounds table.now))) }
 {
     let places = turn_places(table);
     let level = level_with(bounds, table, &places);

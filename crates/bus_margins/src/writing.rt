@@ -5,8 +5,9 @@ ghost use Rattle.bus_outer.specs.Texts.{Adds};
 ghost use Rattle.bus_margins.specs.Texts as texts;
 ghost use Rattle.bus_margins.specs.Texts.{aperiodic_text};
 
-use crate::bearing::{Borne, bears};
+use crate::bearing::bears;
 use crate::level::{Level, Margins};
+use crate::part::Borne;
 use crate::room::{Room, Rooms};
 use crate::telling::margins;
 use bus_bounds::Bounds;
@@ -130,8 +131,8 @@ fn put_borne<K: Sink>(text: &mut TextBuffer, sink: &mut K, borne: Borne)
     text.put_byte(sink, b'\n');
 }
 
-/// Puts the last line.
-fn put_bears<K: Sink>(text: &mut TextBuffer, sink: &mut K, borne: Option<Borne>)
+/// Puts the last line: what a table bears, None where it has no level.
+pub fn put_bears<K: Sink>(text: &mut TextBuffer, sink: &mut K, borne: Option<Borne>)
     ensures { Adds K.held K.faults sink.old sink.new text.old text.new (texts.bears_line borne) }
 {
     match borne {

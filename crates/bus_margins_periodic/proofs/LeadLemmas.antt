@@ -50,14 +50,14 @@ is_lead_order bus order =
 
 -- ---- the clock, and the pause
 
-clock_of : (bus : Bus) → holds (clock_room bus) ≡ true → (k : ℕ) → 0 < k → k < bus.senders → bus.ti_long k ≤ bus.ti_short 0
+pub clock_of : (bus : Bus) → holds (clock_room bus) ≡ true → (k : ℕ) → 0 < k → k < bus.senders → bus.ti_long k ≤ bus.ti_short 0
 clock_of bus h k some known =
     let is : suc (k - 1) ≡ k = omega arith in
     subst (λ i. bus.ti_long i ≤ bus.ti_short 0) is
     (leb-true (bus.ti_long (suc (k - 1))) (bus.ti_short 0)
     (each (bus.senders - 1) (λ b. room_between (suc b) 0 (bus.ti_long (suc b)) (bus.ti_short 0)) h (k - 1) (omega arith)))
 
-is_clock : (bus : Bus) → ((k : ℕ) → 0 < k → k < bus.senders → bus.ti_long k ≤ bus.ti_short 0) → holds (clock_room bus) ≡ true
+pub is_clock : (bus : Bus) → ((k : ℕ) → 0 < k → k < bus.senders → bus.ti_long k ≤ bus.ti_short 0) → holds (clock_room bus) ≡ true
 is_clock bus clock =
     all (bus.senders - 1) (λ b. room_between (suc b) 0 (bus.ti_long (suc b)) (bus.ti_short 0))
     (λ b less. le-leb (bus.ti_long (suc b)) (bus.ti_short 0) (clock (suc b) (omega arith) (omega arith)))

@@ -7,3 +7,6 @@ pub mod LeadLemmas
 pub mod TableLemmas
 pub mod Apart
 pub mod LevelLaws
+pub mod KeepingLemmas
+pub mod WiderLemmas
+pub mod BearLemmas

@@ -1,16 +1,20 @@
--- The text of the margins of a periodic table, but for what it bears.
+-- The text of the margins of a periodic table.
 use Rattle.std.specs.Prelude.{ℕ, ◌==◌, List, [], ◌∷◌, ◌++◌, codes, Option, Some, None, pos, ◌-ℤ◌, if◌then◌else◌}
 use Rattle.std.specs.Fmt.{decimal, signed_decimal}
 use Rattle.bus_table.specs.Tables.{Table}
 use Rattle.bus_table.specs.Turns.{turn_order}
 use Rattle.bus_bounds.specs.Bounds.{Bounds}
+use Rattle.bus_margins.specs.declared.part.Borne.{Borne}
+use Rattle.bus_margins.specs.Bearing.{borne_with}
 use Rattle.bus_margins_periodic.specs.declared.level.Level.{Level}
 use Rattle.bus_margins_periodic.specs.declared.level.Level.TheVariants.{Turns, Leads, Neither}
 use Rattle.bus_margins_periodic.specs.declared.level.Margins.{Margins}
 use Rattle.bus_margins_periodic.specs.declared.room.Room.{Room}
 use Rattle.bus_margins_periodic.specs.declared.room.Rooms.{Rooms}
 use Rattle.bus_margins.specs.Buses.{at_place}
-use Rattle.bus_margins_periodic.specs.Margins.{margins_of}
+use Rattle.bus_margins.specs.Texts.{bears_line}
+use Rattle.bus_margins_periodic.specs.Bearing.{keeps}
+use Rattle.bus_margins_periodic.specs.Margins.{level_of, margins_of}
 
 -- ---- `MARGINS`: the level, and how many nanoseconds lie between successive starts of a sender at least and at most
 
@@ -72,10 +76,17 @@ room_lines table rooms =
     codes "ROOM hearing " ++ one_words table rooms.hearing ++ codes "\nROOM sync " ++ one_words table rooms.sync ++ 10 ∷ []
     ++ order_line table rooms.order ++ codes "ROOM begin " ++ two_words table rooms.begin ++ 10 ∷ []
 
--- ---- all these lines
+-- ---- the text, whose last line is `BEARS`
 
-abbrev pub lines_of : Table → Margins → List ℕ
-lines_of table margins = head_line margins.level margins.least margins.most ++ room_lines table margins.rooms
+abbrev pub margins_lines : Table → Margins → Option Borne → List ℕ
+margins_lines table margins borne =
+    head_line margins.level margins.least margins.most ++ room_lines table margins.rooms ++ bears_line borne
 
-abbrev pub rooms_text : Bounds → Table → List ℕ
-rooms_text bounds table = lines_of table (margins_of bounds table)
+-- What a table of this level bears: nothing is said where it has none.
+abbrev pub borne_at : Bounds → Table → Level → Option Borne
+borne_at bounds table Turns = Some (borne_with (keeps bounds table Turns))
+borne_at bounds table Leads = Some (borne_with (keeps bounds table Leads))
+borne_at bounds table Neither = None
+
+abbrev pub periodic_text : Bounds → Table → List ℕ
+periodic_text bounds table = margins_lines table (margins_of bounds table) (borne_at bounds table (level_of bounds table))

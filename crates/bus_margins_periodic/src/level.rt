@@ -1,4 +1,7 @@
 //! What a periodic table promises on such a bus.
+ghost use Rattle.std.specs.Prelude.{◌≡◌};
+ghost use Rattle.bus_margins_periodic.specs.Bearing as bearing;
+
 use crate::room::Rooms;
 
 /// Whether the senders of a table keep their turns whoever is the slowest, or because one clock leads, or neither.
@@ -10,6 +13,21 @@ pub enum Level {
     Leads,
     /// Neither.
     Neither,
+}
+
+impl Level {
+    /// Whether another level is as high as this one.
+    pub(crate) fn is_kept_by(self, other: Level) -> bool
+        ensures { result ≡ bearing.is_level self other }
+    {
+        match (self, other) {
+            (Level::Turns, Level::Turns) => true,
+            (Level::Turns, _) => false,
+            (Level::Leads, Level::Neither) => false,
+            (Level::Leads, _) => true,
+            (Level::Neither, _) => true,
+        }
+    }
 }
 
 /// The level of a table, how many nanoseconds lie between successive starts of a sender at least and at most where it has one, and

@@ -4,6 +4,7 @@ ghost use Rattle.bus_drift.specs.Turns.{fastest, slowest};
 ghost use Rattle.bus_table.specs.Turned.{AreTurned};
 ghost use Rattle.bus_margins.specs.Buses.{bus_of};
 ghost use Rattle.bus_margins_periodic.specs.Rooms as rules;
+ghost use Rattle.bus_margins_periodic.specs.inside.Cases as cases;
 ghost use Rattle.bus_margins_periodic.specs.inside.Cases.{IsCase};
 
 use crate::room::{Room, lesser};
@@ -15,15 +16,15 @@ use bus_table::{MOST_SENDERS, Table};
 #[derive(Clone, Copy)]
 pub(crate) struct Case {
     /// The late one.
-    late: usize,
+    pub late: usize,
     /// The one that is held back.
-    held: usize,
+    pub held: usize,
     /// The one that is due.
-    due: usize,
+    pub due: usize,
     /// How long it takes at most from the late one to the one that is held back.
-    slow: u64,
+    pub slow: u64,
     /// How long it takes at least from the late one to the one that is due.
-    fast: u64,
+    pub fast: u64,
 }
 
 /// Whether the one that is held back doesn't come first by the gaps alone.
@@ -33,6 +34,19 @@ fn is_close(bounds: Bounds, table: &Table, places: &[usize; MOST_SENDERS], case:
 {
     let due = tg_short(bounds, table, places, who(table, case.due));
     due <= tg_long(bounds, table, places, who(table, case.held)) + 2 * bounds.delay()
+}
+
+/// Whether there is a rule for a case.
+pub(crate) fn is_ruled(
+    bounds: Bounds,
+    table: &Table,
+    places: &[usize; MOST_SENDERS],
+    case: Case,
+) -> bool
+    requires { AreTurned table.now places.now }
+    ensures { result ≡ cases.is_ruled (bus_of bounds table.now) case.late case.held case.due }
+{
+    case.late == case.held || is_close(bounds, table, places, case)
 }
 
 /// The room in a case.
@@ -46,7 +60,7 @@ fn order_among(
     requires case { IsCase (bus_of bounds table.now) case }
     ensures { result ≡ rules.order_among (bus_of bounds table.now) case.late case.held case.due }
 {
-    if case.late == case.held || is_close(bounds, table, places, case) {
+    if is_ruled(bounds, table, places, case) {
         Some(Room {
             first: who(table, case.late),
             second: who(table, case.held),
@@ -134,23 +148,6 @@ pub(crate) fn order_room(
             least,
             held_room(bounds, table, places, late + senders, late),
         );
-    }
-    least
-}
-
-/// The room of all turns of one round.
-pub(crate) fn lead_order_room(
-    bounds: Bounds,
-    table: &Table,
-    places: &[usize; MOST_SENDERS],
-) -> Option<Room>
-    requires { AreTurned table.now places.now }
-    ensures { result ≡ rules.lead_order_room (bus_of bounds table.now) }
-{
-    let senders = count(table);
-    let mut least = None;
-    for late in 0..senders {
-        least = lesser(least, held_room(bounds, table, places, senders, late));
     }
     least
 }

@@ -5,12 +5,13 @@ ghost use Rattle.bus_table.specs.Turned.{AreTurned};
 ghost use Rattle.bus_margins.specs.Buses.{bus_of};
 ghost use Rattle.bus_margins_periodic.specs.Buses.{late_of, soon_of};
 ghost use Rattle.bus_margins_periodic.specs.Margins as specs;
-ghost use Rattle.bus_margins_periodic.specs.Margins.{margins_of};
+ghost use Rattle.bus_margins_periodic.specs.Margins.{level_of, margins_of};
 
 use crate::begin::{begin_room, first_room, quiet};
+use crate::keeping::{lead_order_holds, order_holds};
 use crate::leading::{clock_room, pause_holds, sway_of};
 use crate::level::{Level, Margins};
-use crate::order::{lead_order_room, order_room};
+use crate::order::order_room;
 use crate::room::{Rooms, holds};
 use crate::rounds::longest;
 use crate::rules::{hearing_room, sync_room};
@@ -33,11 +34,17 @@ fn rooms(bounds: Bounds, table: &Table, places: &[usize; MOST_SENDERS], quiet: u
     }
 }
 
-/// Whether all rules hold by which any clock may be the slowest.
-fn all_hold(rooms: Rooms) -> bool
-    ensures { result ≡ specs.all_hold rooms }
+/// Whether all rules hold by which any clock may be the slowest. The one that takes longest comes last.
+fn turns_hold(bounds: Bounds, table: &Table, places: &[usize; MOST_SENDERS], quiet: u32) -> bool
+    requires turned { AreTurned table.now places.now }
+    requires quiet { quiet ≡ quiet_of table.now }
+    requires brief { quiet ≤ 2 ^ 11 }
+    ensures { result ≡ specs.all_hold (specs.rooms_by (bus_of bounds table.now) (soon_of bounds table.now) (late_of bounds table.now)) }
 {
-    holds(rooms.hearing) && holds(rooms.sync) && holds(rooms.order) && holds(rooms.begin)
+    holds(sync_room(bounds, table, places))
+        && holds(hearing_room(bounds, table, places))
+        && holds(begin_room(bounds, table, places, quiet))
+        && order_holds(bounds, table, places)
 }
 
 /// Whether all rules hold by which the first sender leads.
@@ -49,26 +56,24 @@ fn lead_holds(bounds: Bounds, table: &Table, places: &[usize; MOST_SENDERS], qui
 {
     holds(hearing_room(bounds, table, places))
         && holds(clock_room(bounds, table))
-        && holds(lead_order_room(bounds, table, places))
+        && lead_order_holds(bounds, table, places)
         && pause_holds(bounds, table, places, quiet)
         && holds(first_room(bounds, table, places, quiet))
 }
 
-/// The level that these rooms give.
-fn level_by(
+/// The level of a table whose senders in turn order are known, and the quiet before its settled start.
+pub(crate) fn level_with(
     bounds: Bounds,
     table: &Table,
     places: &[usize; MOST_SENDERS],
     quiet: u32,
-    rooms: Rooms,
 ) -> Level
     requires turned { AreTurned table.now places.now }
     requires quiet { quiet ≡ quiet_of table.now }
     requires brief { quiet ≤ 2 ^ 11 }
-    requires rooms { rooms ≡ specs.rooms_by (bus_of bounds table.now) (soon_of bounds table.now) (late_of bounds table.now) }
-    ensures { result ≡ specs.level_by (bus_of bounds table.now) (soon_of bounds table.now) (late_of bounds table.now) }
+    ensures { result ≡ level_of bounds table.now }
 {
-    if all_hold(rooms) {
+    if turns_hold(bounds, table, places, quiet) {
         Level::Turns
     } else if lead_holds(bounds, table, places, quiet) {
         Level::Leads
@@ -102,6 +107,14 @@ fn apart(
     }
 }
 
+/// The level of a periodic table. It takes no memory.
+pub fn level_of(table: &Table, bounds: Bounds) -> Level
+    requires mode { table.now.mode ≡ Mode.Periodic }
+    ensures { result ≡ level_of bounds table.now }
+{
+    level_with(bounds, table, &turn_places(table), quiet(table))
+}
+
 /// The level of a periodic table, and the room that it leaves by each rule. It takes no memory.
 pub fn margins(table: &Table, bounds: Bounds) -> Margins
     requires mode { table.now.mode ≡ Mode.Periodic }
@@ -110,7 +123,7 @@ pub fn margins(table: &Table, bounds: Bounds) -> Margins
     let places = turn_places(table);
     let quiet = quiet(table);
     let rooms = rooms(bounds, table, &places, quiet);
-    let level = level_by(bounds, table, &places, quiet, rooms);
+    let level = level_with(bounds, table, &places, quiet);
     let (least, most) = apart(bounds, table, &places, quiet, level);
     Margins {
         level,

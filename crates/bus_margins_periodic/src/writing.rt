@@ -1,15 +1,17 @@
-//! The text of margins, but for what the table bears.
+//! The text of margins.
 ghost use Rattle.std.specs.Prelude.{◌≡◌};
 ghost use Rattle.bus_outer.specs.Sinks.{WritesText};
 ghost use Rattle.bus_outer.specs.Texts.{Adds};
 ghost use Rattle.bus_table.specs.Turned.{AreTurned};
 ghost use Rattle.bus_margins_periodic.specs.Texts as texts;
 
+use crate::bearing::bears;
 use crate::level::{Level, Margins};
 use crate::room::{Room, Rooms};
 use crate::telling::margins;
 use crate::times::count;
 use bus_bounds::Bounds;
+use bus_margins::{Borne, put_bears};
 use bus_outer::{Sink, TextBuffer, WriteFault};
 use bus_table::{MOST_SENDERS, Mode, Table, turn_at, turn_places};
 
@@ -61,7 +63,7 @@ fn number_at(table: &Table, places: &[usize; MOST_SENDERS], k: usize) -> u8
 }
 
 /// Puts the number of a terminal.
-fn put_terminal<K: Sink>(
+pub(crate) fn put_terminal<K: Sink>(
     text: &mut TextBuffer,
     sink: &mut K,
     table: &Table,
@@ -219,36 +221,47 @@ fn put_rooms<K: Sink>(
     text.put_byte(sink, b'\n');
 }
 
-/// Puts the lines of margins.
+/// Puts all lines.
 fn put_lines<K: Sink>(
     text: &mut TextBuffer,
     sink: &mut K,
     table: &Table,
     places: &[usize; MOST_SENDERS],
     margins: Margins,
+    borne: Option<Borne>,
 )
     requires { AreTurned table.now places.now }
-    ensures { Adds K.held K.faults sink.old sink.new text.old text.new (texts.lines_of table.now margins) }
+    ensures { Adds K.held K.faults sink.old sink.new text.old text.new (texts.margins_lines table.now margins borne) }
 {
     put_head(text, sink, margins.level, margins.least, margins.most);
     put_rooms(text, sink, table, places, margins.rooms);
+    put_bears(text, sink, borne);
 }
 
-/// Writes the lines of margins.
-fn write_lines<K: Sink>(table: &Table, margins: Margins, sink: &mut K) -> Result<(), WriteFault>
-    ensures { WritesText K.held K.faults sink.old sink.new result (texts.lines_of table.now margins) }
+/// Writes the text of these margins, and of how much the table bears.
+fn write_lines<K: Sink>(
+    table: &Table,
+    margins: Margins,
+    borne: Option<Borne>,
+    sink: &mut K,
+) -> Result<(), WriteFault>
+    ensures { WritesText K.held K.faults sink.old sink.new result (texts.margins_lines table.now margins borne) }
 {
     let places = turn_places(table);
     let mut text = TextBuffer::new();
-    put_lines(&mut text, sink, table, &places, margins);
+    put_lines(&mut text, sink, table, &places, margins, borne);
     text.finish(sink)
 }
 
-/// Writes the level of a periodic table within bounds, and the room that it leaves by each rule, in one push where the sink takes all. It
-/// takes no memory.
-pub fn write_rooms<K: Sink>(table: &Table, bounds: Bounds, sink: &mut K) -> Result<(), WriteFault>
+/// Writes the level of a periodic table within bounds, the room that it leaves by each rule, and how much it bears, in one push where the
+/// sink takes all. It takes no memory.
+pub fn write_periodic<K: Sink>(
+    table: &Table,
+    bounds: Bounds,
+    sink: &mut K,
+) -> Result<(), WriteFault>
     requires { table.now.mode ≡ Mode.Periodic }
-    ensures { WritesText K.held K.faults sink.old sink.new result (texts.rooms_text bounds table.now) }
+    ensures { WritesText K.held K.faults sink.old sink.new result (texts.periodic_text bounds table.now) }
 {
-    write_lines(table, margins(table, bounds), sink)
+    write_lines(table, margins(table, bounds), bears(table, bounds), sink)
 }

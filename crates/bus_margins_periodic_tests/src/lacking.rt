@@ -18,7 +18,7 @@ const BEGIN: &[u8] =
 #[test]
 fn hearing_holds_by_nothing(rt: HostRuntime) -> Result<(), Fail> {
     let wanted =
-        b"MARGINS periodic turns 2000000 2001999\nROOM hearing 1 - 0\nROOM sync 2 - 1648002\nROOM order 2 2 1 22000\nROOM begin 2 1 8001\n";
+        b"MARGINS periodic turns 2000000 2001999\nROOM hearing 1 - 0\nROOM sync 2 - 1648002\nROOM order 2 2 1 22000\nROOM begin 2 1 8001\nBEARS delay 1999 jitter 0 clocks 0\n";
     has_margins(&rt, HEARING, (1999, 0, 0), wanted)
 }
 
@@ -26,7 +26,7 @@ fn hearing_holds_by_nothing(rt: HostRuntime) -> Result<(), Fail> {
 #[test]
 fn hearing_lacks_a_nanosecond(rt: HostRuntime) -> Result<(), Fail> {
     let wanted =
-        b"MARGINS periodic none - -\nROOM hearing 1 - -1\nROOM sync 2 - 1648001\nROOM order 2 2 1 21999\nROOM begin 2 1 8000\n";
+        b"MARGINS periodic none - -\nROOM hearing 1 - -1\nROOM sync 2 - 1648001\nROOM order 2 2 1 21999\nROOM begin 2 1 8000\nBEARS delay - jitter - clocks -\n";
     has_margins(&rt, HEARING, (2000, 0, 0), wanted)
 }
 
@@ -34,7 +34,7 @@ fn hearing_lacks_a_nanosecond(rt: HostRuntime) -> Result<(), Fail> {
 #[test]
 fn sync_holds_by_nothing(rt: HostRuntime) -> Result<(), Fail> {
     let wanted =
-        b"MARGINS periodic turns 500000 500001\nROOM hearing 1 - 7998\nROOM sync 2 - 0\nROOM order 2 2 1 29998\nROOM begin 2 1 14999\n";
+        b"MARGINS periodic turns 500000 500001\nROOM hearing 1 - 7998\nROOM sync 2 - 0\nROOM order 2 2 1 29998\nROOM begin 2 1 14999\nBEARS delay 1 jitter 0 clocks 996\n";
     has_margins(&rt, SYNC, (1, 0, 0), wanted)
 }
 
@@ -42,7 +42,7 @@ fn sync_holds_by_nothing(rt: HostRuntime) -> Result<(), Fail> {
 #[test]
 fn sync_lacks_a_nanosecond(rt: HostRuntime) -> Result<(), Fail> {
     let wanted =
-        b"MARGINS periodic leads 459998 540002\nROOM hearing 1 - 7997\nROOM sync 2 - -1\nROOM order 2 2 1 29997\nROOM begin 2 1 14998\n";
+        b"MARGINS periodic leads 459998 540002\nROOM hearing 1 - 7997\nROOM sync 2 - -1\nROOM order 2 2 1 29997\nROOM begin 2 1 14998\nBEARS delay 7999 jitter 0 clocks 0\n";
     has_margins(&rt, SYNC, (2, 0, 0), wanted)
 }
 
@@ -50,7 +50,7 @@ fn sync_lacks_a_nanosecond(rt: HostRuntime) -> Result<(), Fail> {
 #[test]
 fn order_holds_by_nothing(rt: HostRuntime) -> Result<(), Fail> {
     let wanted =
-        b"MARGINS periodic turns 63987197 64017206\nROOM hearing 1 - 3610\nROOM sync 2 - 63653343\nROOM order 2 2 1 0\nROOM begin 2 1 10550\n";
+        b"MARGINS periodic turns 63987197 64017206\nROOM hearing 1 - 3610\nROOM sync 2 - 63653343\nROOM order 2 2 1 0\nROOM begin 2 1 10550\nBEARS delay 4385 jitter 0 clocks 200\n";
     has_margins(&rt, ORDER, (4385, 0, 200), wanted)
 }
 
@@ -58,7 +58,7 @@ fn order_holds_by_nothing(rt: HostRuntime) -> Result<(), Fail> {
 #[test]
 fn order_lacks_a_nanosecond(rt: HostRuntime) -> Result<(), Fail> {
     let wanted =
-        b"MARGINS periodic none - -\nROOM hearing 1 - 3609\nROOM sync 2 - 63653342\nROOM order 2 2 1 -1\nROOM begin 2 1 10549\n";
+        b"MARGINS periodic none - -\nROOM hearing 1 - 3609\nROOM sync 2 - 63653342\nROOM order 2 2 1 -1\nROOM begin 2 1 10549\nBEARS delay - jitter - clocks -\n";
     has_margins(&rt, ORDER, (4386, 0, 200), wanted)
 }
 
@@ -66,7 +66,7 @@ fn order_lacks_a_nanosecond(rt: HostRuntime) -> Result<(), Fail> {
 #[test]
 fn begin_holds_by_nothing(rt: HostRuntime) -> Result<(), Fail> {
     let wanted =
-        b"MARGINS periodic turns 2000000 2005000\nROOM hearing 1 - 2999\nROOM sync 2 - 1640001\nROOM order 2 2 1 24999\nROOM begin 1 2 0\n";
+        b"MARGINS periodic turns 2000000 2005000\nROOM hearing 1 - 2999\nROOM sync 2 - 1640001\nROOM order 2 2 1 24999\nROOM begin 1 2 0\nBEARS delay 5000 jitter 0 clocks 0\n";
     has_margins(&rt, BEGIN, (5000, 0, 0), wanted)
 }
 
@@ -74,6 +74,6 @@ fn begin_holds_by_nothing(rt: HostRuntime) -> Result<(), Fail> {
 #[test]
 fn begin_lacks_a_nanosecond(rt: HostRuntime) -> Result<(), Fail> {
     let wanted =
-        b"MARGINS periodic none - -\nROOM hearing 1 - 2999\nROOM sync 2 - 1640009\nROOM order 2 2 1 24977\nROOM begin 1 2 -1\n";
+        b"MARGINS periodic none - -\nROOM hearing 1 - 2999\nROOM sync 2 - 1640009\nROOM order 2 2 1 24977\nROOM begin 1 2 -1\nBEARS delay - jitter - clocks -\n";
     has_margins(&rt, BEGIN, (4998, 0, 5), wanted)
 }

@@ -1,6 +1,6 @@
 //! The margins of worked tables. What is wanted was reckoned from the definitions apart from this program.
 use bus_bounds::Bounds;
-use bus_margins_periodic::write_rooms;
+use bus_margins_periodic::write_periodic;
 use bus_outer::MemorySink;
 use bus_table::{Mode, read_table};
 use std::process::Abort;
@@ -49,7 +49,7 @@ pub(crate) fn has_margins(
     match (table.mode(), Bounds::new(delay, jitter, clocks)) {
         (Mode::Periodic, Some(bounds)) => {
             let mut sink = MemorySink::new(alloc, 400, 400, Vec::new(alloc))?;
-            assert!(rt; write_rooms(&table, bounds, &mut sink).is_ok());
+            assert!(rt; write_periodic(&table, bounds, &mut sink).is_ok());
             assert_eq!(rt; sink.bytes(), wanted);
         }
         _ => assert!(rt; false),
@@ -61,7 +61,7 @@ pub(crate) fn has_margins(
 #[test]
 fn a_table_that_is_accepted_may_be_overtaken(rt: HostRuntime) -> Result<(), Fail> {
     let wanted =
-        b"MARGINS periodic none - -\nROOM hearing 3 - 7997\nROOM sync 2 - 470023\nROOM order 1 2 3 -112\nROOM begin 2 3 -29\n";
+        b"MARGINS periodic none - -\nROOM hearing 3 - 7997\nROOM sync 2 - 470023\nROOM order 1 2 3 -112\nROOM begin 2 3 -29\nBEARS delay - jitter - clocks -\n";
     has_margins(&rt, DRIFT, (0, 0, 50), wanted)
 }
 
@@ -69,7 +69,7 @@ fn a_table_that_is_accepted_may_be_overtaken(rt: HostRuntime) -> Result<(), Fail
 #[test]
 fn with_exact_clocks_it_lacks_one_nanosecond(rt: HostRuntime) -> Result<(), Fail> {
     let wanted =
-        b"MARGINS periodic none - -\nROOM hearing 3 - 7999\nROOM sync 2 - 470002\nROOM order 1 2 3 -1\nROOM begin 1 2 0\n";
+        b"MARGINS periodic none - -\nROOM hearing 3 - 7999\nROOM sync 2 - 470002\nROOM order 1 2 3 -1\nROOM begin 1 2 0\nBEARS delay - jitter - clocks -\n";
     has_margins(&rt, DRIFT, (0, 0, 0), wanted)
 }
 
@@ -77,7 +77,7 @@ fn with_exact_clocks_it_lacks_one_nanosecond(rt: HostRuntime) -> Result<(), Fail
 #[test]
 fn fixed_lengths_keep_turns(rt: HostRuntime) -> Result<(), Fail> {
     let wanted =
-        b"MARGINS periodic turns 1000000 1000000\nROOM hearing 3 - 7999\nROOM sync 2 - 470002\nROOM order 1 2 3 19999\nROOM begin 1 2 0\n";
+        b"MARGINS periodic turns 1000000 1000000\nROOM hearing 3 - 7999\nROOM sync 2 - 470002\nROOM order 1 2 3 19999\nROOM begin 1 2 0\nBEARS delay 0 jitter 0 clocks 0\n";
     has_margins(&rt, FIXED_LENGTHS, (0, 0, 0), wanted)
 }
 
@@ -85,7 +85,7 @@ fn fixed_lengths_keep_turns(rt: HostRuntime) -> Result<(), Fail> {
 #[test]
 fn ascending_gaps_keep_turns(rt: HostRuntime) -> Result<(), Fail> {
     let wanted =
-        b"MARGINS periodic turns 1000000 1020000\nROOM hearing 2 - 7999\nROOM sync 3 - 470002\nROOM order 1 1 2 19999\nROOM begin 2 3 0\n";
+        b"MARGINS periodic turns 1000000 1020000\nROOM hearing 2 - 7999\nROOM sync 3 - 470002\nROOM order 1 1 2 19999\nROOM begin 2 3 0\nBEARS delay 0 jitter 0 clocks 0\n";
     has_margins(&rt, ASCENDING_GAPS, (0, 0, 0), wanted)
 }
 
@@ -93,7 +93,7 @@ fn ascending_gaps_keep_turns(rt: HostRuntime) -> Result<(), Fail> {
 #[test]
 fn two_senders_keep_turns(rt: HostRuntime) -> Result<(), Fail> {
     let wanted =
-        b"MARGINS periodic turns 1000000 1000000\nROOM hearing 1 - 7999\nROOM sync 2 - 345001\nROOM order 1 1 2 44999\nROOM begin 1 2 0\n";
+        b"MARGINS periodic turns 1000000 1000000\nROOM hearing 1 - 7999\nROOM sync 2 - 345001\nROOM order 1 1 2 44999\nROOM begin 1 2 0\nBEARS delay 0 jitter 0 clocks 0\n";
     has_margins(&rt, TWO_SENDERS, (0, 0, 0), wanted)
 }
 
@@ -101,7 +101,7 @@ fn two_senders_keep_turns(rt: HostRuntime) -> Result<(), Fail> {
 #[test]
 fn the_first_round_may_be_too_close(rt: HostRuntime) -> Result<(), Fail> {
     let wanted =
-        b"MARGINS periodic none - -\nROOM hearing 1 - 7997\nROOM sync 2 - 345017\nROOM order 1 1 2 44894\nROOM begin 1 2 -23\n";
+        b"MARGINS periodic none - -\nROOM hearing 1 - 7997\nROOM sync 2 - 345017\nROOM order 1 1 2 44894\nROOM begin 1 2 -23\nBEARS delay - jitter - clocks -\n";
     has_margins(&rt, TWO_SENDERS, (0, 0, 50), wanted)
 }
 
@@ -109,7 +109,7 @@ fn the_first_round_may_be_too_close(rt: HostRuntime) -> Result<(), Fail> {
 #[test]
 fn a_round_may_vary(rt: HostRuntime) -> Result<(), Fail> {
     let wanted =
-        b"MARGINS periodic turns 1000000 1100000\nROOM hearing 1 - 7999\nROOM sync 2 - 245001\nROOM order 1 1 2 44999\nROOM begin 1 2 0\n";
+        b"MARGINS periodic turns 1000000 1100000\nROOM hearing 1 - 7999\nROOM sync 2 - 245001\nROOM order 1 1 2 44999\nROOM begin 1 2 0\nBEARS delay 0 jitter 0 clocks 0\n";
     has_margins(&rt, VARYING, (0, 0, 0), wanted)
 }
 
@@ -117,7 +117,7 @@ fn a_round_may_vary(rt: HostRuntime) -> Result<(), Fail> {
 #[test]
 fn a_tight_interval_leaves_no_room_for_sync(rt: HostRuntime) -> Result<(), Fail> {
     let wanted =
-        b"MARGINS periodic none - -\nROOM hearing 2 - 125499\nROOM sync 1 - -127999\nROOM order 1 1 2 337499\nROOM begin 2 1 500\n";
+        b"MARGINS periodic none - -\nROOM hearing 2 - 125499\nROOM sync 1 - -127999\nROOM order 1 1 2 337499\nROOM begin 2 1 500\nBEARS delay - jitter - clocks -\n";
     has_margins(&rt, GREAT_GAPS, (0, 0, 0), wanted)
 }
 
@@ -125,7 +125,7 @@ fn a_tight_interval_leaves_no_room_for_sync(rt: HostRuntime) -> Result<(), Fail>
 #[test]
 fn four_senders_leave_no_room_for_sync(rt: HostRuntime) -> Result<(), Fail> {
     let wanted =
-        b"MARGINS periodic none - -\nROOM hearing 1 - 7999\nROOM sync 4 - -273497\nROOM order 2 4 1 99999\nROOM begin 1 2 2500\n";
+        b"MARGINS periodic none - -\nROOM hearing 1 - 7999\nROOM sync 4 - -273497\nROOM order 2 4 1 99999\nROOM begin 1 2 2500\nBEARS delay - jitter - clocks -\n";
     has_margins(&rt, FOUR_SENDERS, (0, 0, 0), wanted)
 }
 
@@ -133,7 +133,7 @@ fn four_senders_leave_no_room_for_sync(rt: HostRuntime) -> Result<(), Fail> {
 #[test]
 fn nor_with_a_longer_interval(rt: HostRuntime) -> Result<(), Fail> {
     let wanted =
-        b"MARGINS periodic none - -\nROOM hearing 1 - 7999\nROOM sync 4 - -153497\nROOM order 2 4 1 99999\nROOM begin 1 2 5000\n";
+        b"MARGINS periodic none - -\nROOM hearing 1 - 7999\nROOM sync 4 - -153497\nROOM order 2 4 1 99999\nROOM begin 1 2 5000\nBEARS delay - jitter - clocks -\n";
     has_margins(&rt, FOUR_SENDERS_APART, (0, 0, 0), wanted)
 }
 
@@ -141,7 +141,7 @@ fn nor_with_a_longer_interval(rt: HostRuntime) -> Result<(), Fail> {
 #[test]
 fn one_leads_where_clocks_are_exact(rt: HostRuntime) -> Result<(), Fail> {
     let wanted =
-        b"MARGINS periodic leads 1905000 2095000\nROOM hearing 1 - 2999\nROOM sync 5 - 725004\nROOM order 2 5 1 -45001\nROOM begin 1 2 2500\n";
+        b"MARGINS periodic leads 1905000 2095000\nROOM hearing 1 - 2999\nROOM sync 5 - 725004\nROOM order 2 5 1 -45001\nROOM begin 1 2 2500\nBEARS delay 1249 jitter 0 clocks 0\n";
     has_margins(&rt, FIVE, (0, 0, 0), wanted)
 }
 
@@ -149,7 +149,7 @@ fn one_leads_where_clocks_are_exact(rt: HostRuntime) -> Result<(), Fail> {
 #[test]
 fn none_leads_where_clocks_differ(rt: HostRuntime) -> Result<(), Fail> {
     let wanted =
-        b"MARGINS periodic none - -\nROOM hearing 1 - 2997\nROOM sync 5 - 724996\nROOM order 2 5 1 -45021\nROOM begin 1 2 2496\n";
+        b"MARGINS periodic none - -\nROOM hearing 1 - 2997\nROOM sync 5 - 724996\nROOM order 2 5 1 -45021\nROOM begin 1 2 2496\nBEARS delay - jitter - clocks -\n";
     has_margins(&rt, FIVE, (0, 0, 1), wanted)
 }
 
@@ -157,6 +157,6 @@ fn none_leads_where_clocks_differ(rt: HostRuntime) -> Result<(), Fail> {
 #[test]
 fn one_alone_is_overtaken_by_none(rt: HostRuntime) -> Result<(), Fail> {
     let wanted =
-        b"MARGINS periodic turns 63996674 64003326\nROOM hearing 1 - 7247\nROOM sync 1 - 63832941\nROOM begin 1 - 63975029\n";
+        b"MARGINS periodic turns 63996674 64003326\nROOM hearing 1 - 7247\nROOM sync 1 - 63832941\nROOM begin 1 - 63975029\nBEARS delay 7747 jitter 3748 clocks 1000\n";
     has_margins(&rt, ALONE, (500, 125, 50), wanted)
 }

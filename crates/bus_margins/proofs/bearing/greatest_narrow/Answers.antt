@@ -1,19 +1,22 @@
 use Rattle.std.proofs.Common.{arith, ◌<◌, ◌≤◌, ◌-◌, ◌/◌, sym, ◌∙◌}
 use Rattle.bus_table.proofs.ValidLaws.{valid_facts}
-use Rattle.bus_margins.specs.Bearing.{part_of, most_part}
-use Rattle.bus_margins.proofs.BearLemmas.{IsAmong, all_left, lower}
+use Rattle.bus_margins.specs.Bearing.{keeps, part_of, most_part}
+use Rattle.bus_margins.proofs.BearLemmas.{all_kept, kept_narrow}
+use Rattle.bus_margins.proofs.Greatest.{IsAmong, TakesLess, lower}
 use Rattle.bus_margins.proofs.bearing.greatest_narrow.Goals as goal
 
 pub loop-low-init : goal.loop-low-init
 loop-low-init c =
     let within : part_of c.args.bounds c.args.part ≤ most_part c.args.part = rw (← c.part_of-low.ensures.value) c.part_of-low.ensures.most in
-    let all : IsAmong c.args.bounds c.args.table.now c.args.level c.args.part (part_of c.args.bounds c.args.part) (most_part c.args.part) =
-    all_left c.args.bounds c.args.table.now c.args.level c.args.part within c.requires.level in
+    let all : IsAmong (keeps c.args.bounds c.args.table.now c.args.level c.args.part) (most_part c.args.part) (part_of c.args.bounds c.args.part) (most_part c.args.part) =
+    all_kept c.args.bounds c.args.table.now c.args.level c.args.part within c.requires.level in
     rw (c.part_of-low.ensures.value, c.most_part-high.ensures.value) all
 
 pub loop-low-preserved : goal.loop-low-preserved
 loop-low-preserved c =
     let low : c.loop-low.low < c.loop-low.high - (c.loop-low.high - c.loop-low.low) / 2 = omega (arith, c.loop-low-test.true) in
     let high : c.loop-low.high - (c.loop-low.high - c.loop-low.low) / 2 ≤ c.loop-low.high = omega arith in
-    lower c.args.table.now (valid_facts c.args.table.now c.senders-valid.ensures.valid) c.args.bounds c.args.level c.args.part
-    c.loop-low.low c.loop-low.high _ c.requires.part c.loop-low.invariant low high (sym c.keeps.ensures ∙ c.if-keeps.false)
+    let less : TakesLess (keeps c.args.bounds c.args.table.now c.args.level c.args.part) (most_part c.args.part) =
+    λ a b l within held. kept_narrow c.args.table.now (valid_facts c.args.table.now c.senders-valid.ensures.valid) c.args.bounds c.args.level c.args.part a b c.requires.part l held in
+    lower (keeps c.args.bounds c.args.table.now c.args.level c.args.part) (most_part c.args.part) c.loop-low.low c.loop-low.high _ less c.loop-low.invariant low high
+    (sym c.keeps.ensures ∙ c.if-keeps.false)

@@ -1,0 +1,12 @@
+use Rattle.std.proofs.Common.{◌-◌}
+use Rattle.bus_margins.specs.Bearing.{most_part}
+use Rattle.bus_margins.proofs.Greatest.{IsAmong}
+use Rattle.bus_margins_periodic.specs.Bearing.{keeps}
+use Rattle.bus_margins_periodic.proofs.bearing.greatest_narrow.Given as goal
+
+-- the greatest value is among those from `low` to `high`
+abbrev pub invariant-loop-low : goal.invariant-loop-low
+invariant-loop-low l = IsAmong (keeps l.bounds l.table l.level l.part) (most_part l.part) l.low l.high
+
+abbrev pub decreases-loop-low : goal.decreases-loop-low
+decreases-loop-low l = l.high - l.low
