@@ -27,7 +27,9 @@ use Rattle.bus_facts.specs.declared.pace.Pace.{Pace}
 use Rattle.bus_facts.specs.Values.{count, count_or_null, count_or_any, delayed}
 use Rattle.bus_facts.specs.Verdicts as verdicts
 use Rattle.bus_facts.specs.Advised.{table_change, advice_value, advices_value}
+use Rattle.bus_bounds.specs.Bounds.{Bounds}
 use Rattle.bus_facts.specs.Bounds as bounds
+use Rattle.bus_facts.specs.Margins as margins
 use Rattle.bus_facts.specs.Senders as senders
 use Rattle.bus_facts.specs.Starts as starts
 use Rattle.bus_facts.specs.Wrong as wrong
@@ -105,6 +107,11 @@ plain_cycle n least most = plain_object n _ (one n _ _ _ (plain_count n least) (
 plain_load : (n : ℕ) (table : Table) (most : ℕ) → IsPlain (suc n) (bounds.load_value table most)
 plain_load n table most =
     plain_object n _ (one n _ _ _ (plain_count n _) (one n _ _ _ (plain_count n most) (one n _ _ _ (plain_count n _) (done n))))
+
+plain_level : (n : ℕ) (limits : Bounds) (level : List ℕ) → IsPlain (suc n) (margins.level_value limits level)
+plain_level n limits level =
+    plain_object n _ (one n _ _ _ (plain_count n _) (one n _ _ _ (plain_count n _) (one n _ _ _ (plain_count n _) (one n _ _ _ (plain_string n level)
+    (done n)))))
 
 plain_limit : (n : ℕ) (tolerance : Option ℕ) (limit : Limit) → IsPlain (suc n) (bounds.limit_value tolerance limit)
 plain_limit n tolerance limit =
@@ -192,6 +199,7 @@ plain_whole n (OffsetRange terminal) = plain_terminal n _ terminal
 record PlainFigures (figures : facts.Figures) : Type 0 where
   cycle : IsPlain 5 figures.cycle
   load : IsPlain 5 figures.load
+  margins : IsPlain 5 figures.margins
   spare : IsPlain 5 figures.spare
   tolerance : IsPlain 5 figures.tolerance
   senders : IsPlain 5 figures.senders
@@ -200,6 +208,7 @@ plain_refused : (table : Table) → PlainFigures (facts.refused_figures table)
 plain_refused table = record {
   cycle = plain_null 5;
   load = plain_null 5;
+  margins = plain_null 5;
   spare = plain_null 5;
   tolerance = plain_null 5;
   senders = plain_senders table None;
@@ -209,6 +218,7 @@ plain_figures : (verdict : TableVerdict) (table : Table) → PlainFigures (facts
 plain_figures (Accept mode least most) table = record {
   cycle = plain_cycle 4 least most;
   load = plain_load 4 table most;
+  margins = plain_level 4 _ _;
   spare = plain_count 5 _;
   tolerance = plain_tolerance 2 table;
   senders = plain_senders table _;
@@ -221,16 +231,16 @@ plain_told : (figures : facts.Figures) (table : Table) → PlainFigures figures 
 plain_told figures table h =
     plain_object 5 _
     (one _ _ _ _ (plain_boolean _ _) (one _ _ _ _ (plain_advices 3 _) (one _ _ _ _ h.cycle (one _ _ _ _ (plain_null _) (one _ _ _ _ h.load
-    (one _ _ _ _ (plain_string _ _) (one _ _ _ _ h.senders (one _ _ _ _ (plain_count _ _) (one _ _ _ _ h.spare
+    (one _ _ _ _ h.margins (one _ _ _ _ (plain_string _ _) (one _ _ _ _ h.senders (one _ _ _ _ (plain_count _ _) (one _ _ _ _ h.spare
     (one _ _ _ _ (plain_start_in 4 table.mode table) (one _ _ _ _ (plain_count _ _) (one _ _ _ _ h.tolerance
-    (one _ _ _ _ (plain_verdict 4 _) (done 5))))))))))))))
+    (one _ _ _ _ (plain_verdict 4 _) (done 5)))))))))))))))
 
 plain_error : (error : Data) → IsPlain 5 error → IsPlain 6 (facts.error_value error)
 plain_error error h =
     plain_object 5 _
-    (one _ _ _ _ (plain_boolean _ _) (one _ _ _ _ (plain_list 4 _ (no_more 4)) (one _ _ _ _ (plain_null _) (one _ _ _ _ h (one _ _ _ _ (plain_null _)
+    (one _ _ _ _ (plain_boolean _ _) (one _ _ _ _ (plain_list 4 _ (no_more 4)) (one _ _ _ _ (plain_null _) (one _ _ _ _ h (one _ _ _ _ (plain_null _) (one _ _ _ _ (plain_null _)
     (one _ _ _ _ (plain_null _) (one _ _ _ _ (plain_list 4 _ (no_more 4)) (one _ _ _ _ (plain_null _) (one _ _ _ _ (plain_null _)
-    (one _ _ _ _ (plain_null _) (one _ _ _ _ (plain_null _) (one _ _ _ _ (plain_null _) (one _ _ _ _ (plain_null _) (done 5))))))))))))))
+    (one _ _ _ _ (plain_null _) (one _ _ _ _ (plain_null _) (one _ _ _ _ (plain_null _) (one _ _ _ _ (plain_null _) (done 5)))))))))))))))
 
 pub plain_table : (table : Table) → IsPlain 6 (facts.table_value table)
 plain_table table = plain_told (facts.figures_of (verdict_of table) table) table (plain_figures (verdict_of table) table)

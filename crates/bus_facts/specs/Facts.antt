@@ -16,6 +16,7 @@ use Rattle.bus_explain.specs.Figures.{spare}
 use Rattle.bus_reach.specs.Bearing.{tolerance_of}
 use Rattle.bus_facts.specs.Advised.{advices_value}
 use Rattle.bus_facts.specs.Bounds.{cycle_value, load_value, tolerance_value}
+use Rattle.bus_facts.specs.Margins.{margins_value}
 use Rattle.bus_facts.specs.Senders.{senders_value}
 use Rattle.bus_facts.specs.Starts.{start_value}
 use Rattle.bus_facts.specs.Values.{count, list}
@@ -27,6 +28,7 @@ use Rattle.bus_facts.specs.Wrong.{text_value, whole_value}
 pub record Figures : Type 0 where
   pub cycle : Data
   pub load : Data
+  pub margins : Data
   pub spare : Data
   pub tolerance : Data
   pub senders : Data
@@ -36,6 +38,7 @@ abbrev pub accepted_figures : Table → (least most : ℕ) → Figures
 accepted_figures table least most = record {
   cycle = cycle_value least most;
   load = load_value table most;
+  margins = margins_value table;
   spare = count (spare table least);
   tolerance = tolerance_value table;
   senders = senders_value table (Some (record { most = most; tolerance = tolerance_of table }));
@@ -46,6 +49,7 @@ abbrev pub refused_figures : Table → Figures
 refused_figures table = record {
   cycle = null;
   load = null;
+  margins = null;
   spare = null;
   tolerance = null;
   senders = senders_value table None;
@@ -66,6 +70,7 @@ told_as accepted mode sg ti advices start verdict figures =
     (member (codes "cycle") figures.cycle
     (member (codes "error") null
     (member (codes "load") figures.load
+    (member (codes "margins") figures.margins
     (member (codes "mode") (string mode)
     (member (codes "senders") figures.senders
     (member (codes "sg") (count sg)
@@ -73,7 +78,7 @@ told_as accepted mode sg ti advices start verdict figures =
     (member (codes "start") start
     (member (codes "ti") (count ti)
     (member (codes "tolerance") figures.tolerance
-    (member (codes "verdict") verdict no_members)))))))))))))
+    (member (codes "verdict") verdict no_members))))))))))))))
 
 -- All that is told of a table with these figures.
 abbrev pub told_of : Figures → Table → Data
@@ -94,6 +99,7 @@ error_value error =
     (member (codes "cycle") null
     (member (codes "error") error
     (member (codes "load") null
+    (member (codes "margins") null
     (member (codes "mode") null
     (member (codes "senders") (list [])
     (member (codes "sg") null
@@ -101,7 +107,7 @@ error_value error =
     (member (codes "start") null
     (member (codes "ti") null
     (member (codes "tolerance") null
-    (member (codes "verdict") null no_members)))))))))))))
+    (member (codes "verdict") null no_members))))))))))))))
 
 -- What is told of a text that gives no valid table for this reason; want of memory is no reason of a text.
 abbrev pub refusal_value : TableError → List ℕ → Data

@@ -3,6 +3,7 @@ pub mod Values
 pub mod Verdicts
 pub mod Advised
 pub mod Bounds
+pub mod Margins
 pub mod Starts
 pub mod Senders
 pub mod Wrong

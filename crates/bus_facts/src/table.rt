@@ -1,14 +1,15 @@
 //! What is told of a valid table.
 ghost use Rattle.std.specs.Prelude.{◌≡◌, false, IfOk, IsTrue};
-ghost use Rattle.serde_json.specs.View.{view};
+ghost use Rattle.serde_json.specs.View.{members_view, view};
 ghost use Rattle.bus_regime.specs.Verdicts.{is_accepted, verdict_of};
 ghost use Rattle.bus_explain.specs.Accepted.{IsAcceptedWith};
 ghost use Rattle.bus_facts.specs.Facts as facts;
-ghost use Rattle.bus_facts.specs.inside.Seen.{seen, AreHeadsOf};
+ghost use Rattle.bus_facts.specs.inside.Seen.{first_members, seen, AreHeadsOf};
 ghost use Rattle.bus_table.specs.Text.{mode_word};
 
 use crate::advised::advices_value;
 use crate::bounds::{cycle_value, load_value, tolerance_value};
+use crate::margins::margins_value;
 use crate::pace::Pace;
 use crate::senders::senders_value;
 use crate::starts::start_value;
@@ -19,7 +20,7 @@ use bus_reach::tolerance;
 use bus_regime::{TableVerdict, verdict};
 use bus_table::laws::table_is_valid;
 use bus_table::{Mode, Table};
-use serde_json::{Value, json};
+use serde_json::{Map, Value, put};
 use std::alloc::{AllocError, Global};
 
 /// What only an accepted table has, and its senders.
@@ -27,6 +28,7 @@ use std::alloc::{AllocError, Global};
 struct Figures {
     cycle: Value,
     load: Value,
+    margins: Value,
     spare: Value,
     tolerance: Value,
     senders: Value,
@@ -48,6 +50,7 @@ fn accepted_figures(
     Ok(Figures {
         cycle: cycle_value(alloc, least, most)?,
         load: load_value(alloc, table, most)?,
+        margins: margins_value(alloc, table)?,
         spare: Value::from(spare(table, least)),
         tolerance: tolerance_value(alloc, table, tolerance)?,
         senders: senders_value(alloc, table, Some(pace))?,
@@ -61,6 +64,7 @@ fn refused_figures(alloc: Global, table: &Table) -> Result<Figures, AllocError>
     Ok(Figures {
         cycle: Value::Null,
         load: Value::Null,
+        margins: Value::Null,
         spare: Value::Null,
         tolerance: Value::Null,
         senders: senders_value(alloc, table, None)?,
@@ -92,26 +96,51 @@ struct Heads {
     verdict: Value,
 }
 
+/// The members that are told of a table before its mode.
+fn first_members(
+    alloc: Global,
+    accepted: bool,
+    advices: Value,
+    cycle: Value,
+    load: Value,
+    margins: Value,
+) -> Result<Map<String, Value>, AllocError>
+    ensures { IfOk result (λ map. members_view map.entries
+        ≡ first_members accepted (view advices) (view cycle) (view load) (view margins)) }
+{
+    let mut members = Map::new(alloc);
+    put(&mut members, alloc, "accepted", Value::from(accepted))?;
+    put(&mut members, alloc, "advices", advices)?;
+    put(&mut members, alloc, "cycle", cycle)?;
+    put(&mut members, alloc, "error", Value::Null)?;
+    put(&mut members, alloc, "load", load)?;
+    put(&mut members, alloc, "margins", margins)?;
+    Ok(members)
+}
+
 /// All that is told of a table with these figures.
 fn told_as(alloc: Global, heads: Heads, figures: Figures) -> Result<Value, AllocError>
     ensures { IfOk result (λ value. view value ≡ facts.told_as heads.accepted (mode_word heads.mode) heads.sg heads.ti
         (view heads.advices) (view heads.start) (view heads.verdict) (seen figures)) }
 {
-    json!(in alloc; {
-        "accepted": heads.accepted,
-        "advices": heads.advices,
-        "cycle": figures.cycle,
-        "error": null,
-        "load": figures.load,
-        "mode": heads.mode.word(),
-        "senders": figures.senders,
-        "sg": heads.sg,
-        "spare": figures.spare,
-        "start": heads.start,
-        "ti": heads.ti,
-        "tolerance": figures.tolerance,
-        "verdict": heads.verdict
-    })
+    let mut members = first_members(
+        alloc,
+        heads.accepted,
+        heads.advices,
+        figures.cycle,
+        figures.load,
+        figures.margins,
+    )?;
+    let mode = Value::try_from_str(alloc, heads.mode.word())?;
+    put(&mut members, alloc, "mode", mode)?;
+    put(&mut members, alloc, "senders", figures.senders)?;
+    put(&mut members, alloc, "sg", Value::from(heads.sg))?;
+    put(&mut members, alloc, "spare", figures.spare)?;
+    put(&mut members, alloc, "start", heads.start)?;
+    put(&mut members, alloc, "ti", Value::from(heads.ti))?;
+    put(&mut members, alloc, "tolerance", figures.tolerance)?;
+    put(&mut members, alloc, "verdict", heads.verdict)?;
+    Ok(Value::Object(members))
 }
 
 /// What stands beside the figures of a table that has this verdict.

@@ -36,6 +36,7 @@ fn error_value(alloc: Global, error: Value) -> Result<Value, AllocError>
         "cycle": null,
         "error": error,
         "load": null,
+        "margins": null,
         "mode": null,
         "senders": [],
         "sg": null,

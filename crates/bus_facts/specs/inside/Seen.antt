@@ -1,5 +1,6 @@
 -- What contracts see of what is told of a table.
-use Rattle.std.specs.Prelude.{◌≡◌}
+use Rattle.std.specs.Prelude.{◌≡◌, Bool, codes}
+use Rattle.serde_json.specs.Data.{Data, Members, boolean, null, member, no_members}
 use Rattle.serde_json.specs.View.{view}
 use Rattle.bus_table.specs.Tables.{Table}
 use Rattle.bus_regime.specs.Verdicts.{verdict_of, is_accepted}
@@ -16,10 +17,21 @@ abbrev pub seen : Figures → facts.Figures
 seen figures = record {
   cycle = view figures.cycle;
   load = view figures.load;
+  margins = view figures.margins;
   spare = view figures.spare;
   tolerance = view figures.tolerance;
   senders = view figures.senders;
 }
+
+-- The members that are told of a table before its mode.
+abbrev pub first_members : Bool → (advices cycle load margins : Data) → Members
+first_members accepted advices cycle load margins =
+    member (codes "accepted") (boolean accepted)
+    (member (codes "advices") advices
+    (member (codes "cycle") cycle
+    (member (codes "error") null
+    (member (codes "load") load
+    (member (codes "margins") margins no_members)))))
 
 -- What stands beside them is the table's.
 pub record AreHeadsOf (table : Table) (heads : Heads) : Type 0 where
