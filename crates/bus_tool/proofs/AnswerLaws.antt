@@ -9,7 +9,15 @@ use Rattle.bus_dropout.specs.DropOut.{last_cycle, drop_end}
 use Rattle.bus_margins.specs.declared.level.Level.{Level}
 use Rattle.bus_margins.specs.declared.level.Level.TheVariants.{Any, Common, Neither}
 use Rattle.bus_margins.specs.Rooms.{level_of}
+use Rattle.bus_bounds.specs.Bounds.{Bounds}
+use Rattle.bus_margins_periodic.specs.declared.level.Level.{Level as TurnsLevel}
+use Rattle.bus_margins_periodic.specs.declared.level.Level.TheVariants.{Turns, Leads, Neither as Unkept}
+use Rattle.bus_margins_periodic.specs.Margins.{level_of as turns_level}
+use Rattle.bus_table.specs.declared.mode.Mode.{Mode}
+use Rattle.bus_table.specs.declared.mode.Mode.TheVariants.{Aperiodic, Periodic}
 use Rattle.bus_plan.specs.Answers.{plan_of}
+use Rattle.bus_cable_plan.specs.declared.planning.CablePlan.{CablePlan}
+use Rattle.bus_cable_plan.specs.declared.planning.CablePlan.TheVariants.{Planned as CablePlanned, Infeasible as NoneBears, Undecided}
 use Rattle.bus_plan.specs.declared.planning.PlanAnswer.{PlanAnswer}
 use Rattle.bus_plan.specs.declared.planning.PlanAnswer.TheVariants.{Planned, Infeasible}
 use Rattle.bus_regime.specs.Verdicts.{verdict_of, is_accepted}
@@ -23,9 +31,9 @@ use Rattle.bus_command.specs.declared.outcome.Outcome.TheVariants.{Done}
 use Rattle.bus_command.specs.Kinds.{Answer, kind_of, stage_of}
 use Rattle.bus_command.specs.Stages.{stage_in}
 use Rattle.bus_command.proofs.StageLaws.{stage_with, then_stage}
-use Rattle.bus_tool.specs.Due.{verdict_outcome, plan_outcome, level_outcome, margins_outcome, audit_outcome, table_answer, messages_answer}
+use Rattle.bus_tool.specs.Due.{verdict_outcome, plan_outcome, cable_plan_of, cable_plan_outcome, level_outcome, turns_outcome, outcome_in, margins_outcome, audit_outcome, findings_outcome, table_answer, messages_answer}
 use Rattle.bus_tool.specs.Due.{even_due, accepted_due, short_due, last_due, may_run, can_run, can_schedule, may_drop, can_drop}
-use Rattle.bus_tool.specs.Forms.{TableCommand, Check, Tolerance, Tidy, Report, Witness, Plan, Margins, MessagesCommand, Observe, Run, Drop, Schedule}
+use Rattle.bus_tool.specs.Forms.{TableCommand, Check, Tolerance, Tidy, Report, Witness, Plan, PlanFor, Margins, MessagesCommand, Observe, Run, Drop, Schedule}
 use Rattle.bus_tool.specs.Refusals.{Outcome, refuse, NotAccepted, ShortLast, TooLong}
 
 -- ---- the answers
@@ -39,20 +47,38 @@ pub written_plan : (answer : PlanAnswer) → kind_of (plan_outcome answer) ≡ A
 written_plan (Planned table) = refl
 written_plan (Infeasible least ti) = refl
 
+pub written_cable_plan : (answer : CablePlan) → kind_of (cable_plan_outcome answer) ≡ Answer
+written_cable_plan (CablePlanned table) = refl
+written_cable_plan (NoneBears least ti) = refl
+written_cable_plan (Undecided least ti) = refl
+
 written_level : (level : Level) → kind_of (level_outcome level) ≡ Answer
 written_level Any = refl
 written_level Common = refl
 written_level Neither = refl
 
-pub written_margins : (verdict : TableVerdict) (level : Level) → kind_of (margins_outcome verdict level) ≡ Answer
-written_margins (Accept mode least most) level = written_level level
-written_margins (ShortCycle least ti) level = refl
-written_margins (SmallGap terminal gap needed) level = refl
-written_margins (NoSync terminal gap needed) level = refl
+written_turns : (level : TurnsLevel) → kind_of (turns_outcome level) ≡ Answer
+written_turns Turns = refl
+written_turns Leads = refl
+written_turns Unkept = refl
+
+written_in : (mode : Mode) (bounds : Bounds) (table : Table) → kind_of (outcome_in mode bounds table) ≡ Answer
+written_in Aperiodic bounds table = written_level (level_of bounds table)
+written_in Periodic bounds table = written_turns (turns_level bounds table)
+
+pub written_margins : (verdict : TableVerdict) (bounds : Bounds) (table : Table) → kind_of (margins_outcome verdict bounds table) ≡ Answer
+written_margins (Accept mode least most) bounds table = written_in table.mode bounds table
+written_margins (ShortCycle least ti) bounds table = refl
+written_margins (SmallGap terminal gap needed) bounds table = refl
+written_margins (NoSync terminal gap needed) bounds table = refl
 
 pub written_audit : (answer : AuditAnswer) → kind_of (audit_outcome answer) ≡ Answer
 written_audit (Lawful collided) = refl
 written_audit (Breach moment terminal kind) = refl
+
+pub written_findings : (fault : Bool) → kind_of (findings_outcome fault) ≡ Answer
+written_findings true = refl
+written_findings false = refl
 
 pub table_answered : (command : TableCommand) (table : Table) → kind_of (table_answer command table) ≡ Answer
 table_answered Check table = written_verdict (verdict_of table)
@@ -61,7 +87,8 @@ table_answered Tidy table = refl
 table_answered Report table = written_verdict (verdict_of table)
 table_answered Witness table = refl
 table_answered Plan table = written_plan (plan_of table)
-table_answered (Margins bounds) table = written_margins (verdict_of table) (level_of bounds table)
+table_answered (PlanFor delay) table = written_cable_plan (cable_plan_of delay table)
+table_answered (Margins bounds) table = written_margins (verdict_of table) bounds table
 
 -- ---- their stages
 pub answer_late : (o : Outcome) → kind_of o ≡ Answer → 2 ≤ stage_of (kind_of o)

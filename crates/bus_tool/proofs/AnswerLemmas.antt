@@ -10,7 +10,7 @@ use Rattle.bus_command.specs.Kinds.{kind_of, stage_of}
 use Rattle.bus_command.specs.Stages.{StandsFor}
 use Rattle.bus_command.specs.Outside.{Seen, Outside, both, around, called}
 use Rattle.bus_command.specs.Readers.{Named, First as AtFirst, Second as AtSecond, FailsToRead, SourceCounts, OutCounts, OfTexts}
-use Rattle.bus_tool.specs.Forms.{Form, OnTable, OnMessages, OnTrace, Unwave, Drill, OnItself, Explain, Diagnose, Facts, Cable, form_of, sources_of}
+use Rattle.bus_tool.specs.Forms.{Form, OnTable, OnMessages, OnTrace, Unwave, Drill, OnItself, Explain, ExplainBeside, Facts, Cable, form_of, sources_of}
 use Rattle.bus_tool.specs.Refusals.{Outcome, ToolRefusal, status_of, ends_of, TableMode, Unspaced, WaveText, Uneven, NotAccepted, ShortLast, TooLong, CableText, CableUnfit}
 use Rattle.bus_tool.specs.Due.{form_due, outcome_for}
 use Rattle.bus_tool.specs.Acts.{Acts}
@@ -47,7 +47,7 @@ of_form Unwave first second o h = h
 of_form (Drill number) first second o h = h
 of_form (OnItself about) first second o h = h
 of_form Explain first second o h = h
-of_form Diagnose first second o h = h
+of_form ExplainBeside first second o h = h
 of_form Facts first second o h = h
 of_form (Cable horizon) first second o h = h
 

@@ -3,12 +3,19 @@ use Rattle.std.specs.Prelude.{◌≡◌, ℕ, List, Result, Ok, Err}
 use Rattle.std.proofs.Common.{refl, sym, ap, subst, inl, inr}
 use Rattle.bus_strings.specs.Items.{Item}
 use Rattle.bus_table.specs.Tables.{Table}
-use Rattle.bus_table.specs.declared.mode.Mode.TheVariants.{Aperiodic}
+use Rattle.bus_table.specs.declared.mode.Mode.TheVariants.{Aperiodic, Periodic}
 use Rattle.bus_dropout.specs.DropOut.{drop_end}
 use Rattle.bus_margins.specs.declared.level.Level.{Level}
 use Rattle.bus_margins.specs.declared.level.Level.TheVariants.{Any, Common, Neither}
 use Rattle.bus_margins.specs.Rooms.{level_of}
+use Rattle.bus_bounds.specs.Bounds.{Bounds}
+use Rattle.bus_margins_periodic.specs.declared.level.Level.{Level as TurnsLevel}
+use Rattle.bus_margins_periodic.specs.declared.level.Level.TheVariants.{Turns, Leads, Neither as Unkept}
+use Rattle.bus_margins_periodic.specs.Margins.{level_of as turns_level}
+use Rattle.bus_table.specs.declared.mode.Mode.{Mode}
 use Rattle.bus_plan.specs.Answers.{plan_of}
+use Rattle.bus_cable_plan.specs.declared.planning.CablePlan.{CablePlan}
+use Rattle.bus_cable_plan.specs.declared.planning.CablePlan.TheVariants.{Planned as CablePlanned, Infeasible as NoneBears, Undecided}
 use Rattle.bus_plan.specs.declared.planning.PlanAnswer.{PlanAnswer}
 use Rattle.bus_plan.specs.declared.planning.PlanAnswer.TheVariants.{Planned, Infeasible}
 use Rattle.bus_regime.specs.Verdicts.{verdict_of}
@@ -22,11 +29,11 @@ use Rattle.bus_command.proofs.ActLaws.{DueHasCause}
 use Rattle.bus_command.proofs.ReadLemmas.{CauseLaws, table_cause, table_valid, items_cause, items_read, inputs_read, inputs_stop, trace_cause, traced_stop}
 use Rattle.bus_tool.specs.Acts.{tool_program}
 use Rattle.bus_tool.specs.Causes.{Cause, DifferAs, IsRefusal, IsShortLast, IsLongEnd}
-use Rattle.bus_tool.specs.Due.{table_for, verdict_outcome, plan_outcome, level_outcome, margins_outcome, can_run, can_drop, can_schedule, unwave_due, wave_trace_due}
+use Rattle.bus_tool.specs.Due.{table_for, verdict_outcome, plan_outcome, cable_plan_of, cable_plan_outcome, level_outcome, turns_outcome, outcome_in, margins_outcome, can_run, can_drop, can_schedule, unwave_due, wave_trace_due}
 use Rattle.bus_tool.specs.Due.{table_answer, inputs_answer, traced_answer, unwave_answer}
 use Rattle.bus_tool.proofs.DiagnoseLemmas.{beside_cause}
 use Rattle.bus_tool.proofs.ExplainLemmas.{explain_cause}
-use Rattle.bus_tool.specs.Forms.{Form, OnTable, OnMessages, OnTrace, Unwave, Drill, OnItself, Explain, Diagnose, Facts, Cable, TableCommand, Check, Tolerance, Tidy, Report, Witness, Plan, Margins}
+use Rattle.bus_tool.specs.Forms.{Form, OnTable, OnMessages, OnTrace, Unwave, Drill, OnItself, Explain, ExplainBeside, Facts, Cable, TableCommand, Check, Tolerance, Tidy, Report, Witness, Plan, PlanFor, Margins}
 use Rattle.bus_tool.specs.Forms.{MessagesCommand, Observe, Run, Drop, Schedule, table_mode, messages_mode}
 use Rattle.bus_tool.specs.Refusals.{Outcome, ToolRefusal}
 use Rattle.bus_tool.proofs.AnswerLaws.{done_with}
@@ -54,17 +61,32 @@ plan_cause : (form : Form) (first second : List ℕ) (answer : PlanAnswer) → R
 plan_cause form first second (Planned table) = tt
 plan_cause form first second (Infeasible least ti) = tt
 
+cable_plan_cause : (form : Form) (first second : List ℕ) (answer : CablePlan) → RefusesTexts (Cause form) (cable_plan_outcome answer) first second
+cable_plan_cause form first second (CablePlanned table) = tt
+cable_plan_cause form first second (NoneBears least ti) = tt
+cable_plan_cause form first second (Undecided least ti) = tt
+
 level_cause : (form : Form) (first second : List ℕ) (level : Level) → RefusesTexts (Cause form) (level_outcome level) first second
 level_cause form first second Any = tt
 level_cause form first second Common = tt
 level_cause form first second Neither = tt
 
-margins_cause : (form : Form) (first second : List ℕ) (verdict : TableVerdict) (level : Level)
-    → RefusesTexts (Cause form) (margins_outcome verdict level) first second
-margins_cause form first second (Accept mode least most) level = level_cause form first second level
-margins_cause form first second (ShortCycle least ti) level = tt
-margins_cause form first second (SmallGap terminal gap needed) level = tt
-margins_cause form first second (NoSync terminal gap needed) level = tt
+turns_cause : (form : Form) (first second : List ℕ) (level : TurnsLevel) → RefusesTexts (Cause form) (turns_outcome level) first second
+turns_cause form first second Turns = tt
+turns_cause form first second Leads = tt
+turns_cause form first second Unkept = tt
+
+cause_in : (form : Form) (first second : List ℕ) (mode : Mode) (bounds : Bounds) (table : Table)
+    → RefusesTexts (Cause form) (outcome_in mode bounds table) first second
+cause_in form first second Aperiodic bounds table = level_cause form first second (level_of bounds table)
+cause_in form first second Periodic bounds table = turns_cause form first second (turns_level bounds table)
+
+margins_cause : (form : Form) (first second : List ℕ) (verdict : TableVerdict) (bounds : Bounds) (table : Table)
+    → RefusesTexts (Cause form) (margins_outcome verdict bounds table) first second
+margins_cause form first second (Accept mode least most) bounds table = cause_in form first second table.mode bounds table
+margins_cause form first second (ShortCycle least ti) bounds table = tt
+margins_cause form first second (SmallGap terminal gap needed) bounds table = tt
+margins_cause form first second (NoSync terminal gap needed) bounds table = tt
 
 table_answer_cause : (form : Form) (command : TableCommand) (first second : List ℕ) (table : Table) → RefusesTexts (Cause form) (table_answer command table) first second
 table_answer_cause form Check first second table = verdict_cause form first second (verdict_of table)
@@ -73,7 +95,8 @@ table_answer_cause form Tidy first second table = tt
 table_answer_cause form Report first second table = verdict_cause form first second (verdict_of table)
 table_answer_cause form Witness first second table = tt
 table_answer_cause form Plan first second table = plan_cause form first second (plan_of table)
-table_answer_cause form (Margins bounds) first second table = margins_cause form first second (verdict_of table) (level_of bounds table)
+table_answer_cause form (PlanFor delay) first second table = cable_plan_cause form first second (cable_plan_of delay table)
+table_answer_cause form (Margins bounds) first second table = margins_cause form first second (verdict_of table) bounds table
 
 -- ---- a table and messages
 -- the texts of inputs that were read, of which this holds
@@ -184,7 +207,7 @@ due_has_cause laws back cables Unwave first second o h =
     due_or (λ o. RefusesTexts (Cause Unwave) o first second) unwave_answer (unwave_due first second) o (λ traced e. tt)
     (λ e. unwave_cause laws back first second o e) h
 due_has_cause laws back cables Explain first second o h = explain_cause Explain first second o h
-due_has_cause laws back cables Diagnose first second o h = beside_cause Diagnose first second o h
+due_has_cause laws back cables ExplainBeside first second o h = beside_cause ExplainBeside first second o h
 due_has_cause laws back cables Facts first second o h = explain_cause Facts first second o h
 due_has_cause laws back cables (OnItself about) first second o h = subst (λ o. RefusesTexts (Cause (OnItself about)) o first second) h tt
 due_has_cause laws back cables (Drill number) first second o h = subst (λ o. RefusesTexts (Cause (Drill number)) o first second) h tt

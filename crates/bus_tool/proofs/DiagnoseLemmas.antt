@@ -38,9 +38,9 @@ use Rattle.bus_tool.specs.Diagnosing.{Beside, beside, beside_due, beside_answer,
 use Rattle.bus_tool.specs.DiagnosisClaims.{IsDiagnosisOf, GivesDiagnosis}
 use Rattle.bus_tool.specs.Due.{verdict_outcome}
 use Rattle.bus_tool.specs.Explanations.{table_explained}
-use Rattle.bus_tool.specs.Forms.{Form, Diagnose, entire_beside, form_of}
+use Rattle.bus_tool.specs.Forms.{Form, ExplainBeside, entire_beside, form_of}
 use Rattle.bus_tool.specs.Refusals.{Outcome, ToolRefusal, ends_of, status_of}
-use Rattle.bus_tool.specs.declared.diagnose.Texts.{Texts}
+use Rattle.bus_tool.specs.declared.beside.Texts.{Texts}
 use Rattle.bus_tool.specs.inside.TakenBeside.{AreTaken}
 
 -- ---- the answer
@@ -237,7 +237,7 @@ diagnosis_claim laws call outcome table text acts h = record {
       claimed ends_of beside_answer IsToldBeside (two_sources entire entire_beside) (λ t. refusal_in (text_due 1 t)) beside_due table text (beside table text)
       (λ written. written ≡ beside_told (beside table text)) call outcome (at_two entire entire_beside call.before.sources table text h.table_told h.text_told) due
       (beside_written (beside table text)) (λ written is. is)
-      (does_of tool_program call outcome Diagnose (ap form_of h.form.form) acts) h.undisturbed;
+      (does_of tool_program call outcome ExplainBeside (ap form_of h.form.form) acts) h.undisturbed;
   tells = λ valid is accepted. record {
     runs = λ rounds senders end found. laws.runs valid text rounds senders end is found;
     unfit = λ unfit found. laws.first valid text unfit found;

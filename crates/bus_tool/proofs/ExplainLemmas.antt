@@ -47,7 +47,11 @@ use Rattle.bus_tool.specs.Forms.{Form, Explain, form_of}
 use Rattle.bus_tool.specs.Refusals.{Outcome, ToolRefusal, ends_of, status_of}
 use Rattle.bus_tool.specs.Texts.{IsExplanation}
 use Rattle.bus_tool.proofs.AnswerLaws.{written_verdict}
+use Rattle.bus_bounds.specs.Bounds.{AreBounds}
+use Rattle.bus_cable_plan.specs.Meaning.{MostBorneIsRight}
+use Rattle.bus_margins_periodic.specs.Sentences.{drifting}
 use Rattle.bus_tool.specs.ToleranceClaims.{SettlesFromAnyStart}
+use Rattle.bus_tool.proofs.BorneLemmas.{TurnsLaws, tells_turns}
 use Rattle.bus_tool.proofs.ToleranceClaim.{ToleranceLaws, starts_from, tells}
 
 -- an answer is written of each text
@@ -136,6 +140,8 @@ pub record ExplainLaws : Type 0 where
   pub runs : AcceptedIsClosed
   pub early : ShortCyclesStartEarly
   pub stops : WhatMayStandGoesOn
+  pub drift : TurnsLaws
+  pub offsets : MostBorneIsRight
   pub reach : ToleranceLaws
 
 -- a sender starts behind the gap that is told of it
@@ -161,6 +167,9 @@ settles_with laws table ti start =
     let valid = (and_parts (is_valid (with_interval ti table)) _ both.0).0 in
     starts_from laws.reach (with_interval ti table) valid (start.aperiodic, both.1)
 
+pub drifting_range : AreBounds drifting
+drifting_range = record { delay = omega arith; jitter = omega arith; clocks = omega arith }
+
 pub tells_accepted : ExplainLaws → (table : Table) → IsTrue (is_valid table) → IsTrue (is_accepted (verdict_of table)) → ExplainsAccepted table
 tells_accepted laws table valid accepted = record {
   runs = λ hands even. laws.runs table hands valid accepted even;
@@ -168,6 +177,8 @@ tells_accepted laws table valid accepted = record {
   load = λ least most is. laws.load table least most valid is;
   gaps = λ mode gap i. behind laws table gap valid mode accepted i;
   tolerance = tells laws.reach table valid accepted;
+  offsets = λ mode d is. laws.offsets d table valid mode is;
+  drifting = λ mode. tells_turns laws.drift drifting table (record { range = drifting_range; valid = valid; mode = mode });
   collides = λ mode never. laws.never table valid mode never;
   work = λ advice is. laws.works table advice valid is;
   settles = λ ti is. settles_with laws table ti (laws.works table (Start ti) valid is);

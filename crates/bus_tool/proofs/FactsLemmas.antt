@@ -10,6 +10,7 @@ use Rattle.bus_regime.specs.declared.table_verdict.TableVerdict.TheVariants.{Acc
 use Rattle.bus_reach.specs.LatencyLaws.{AperiodicAreInTime, PeriodicAreInTime}
 use Rattle.bus_reach.specs.Limits.{LimitsTellBearing}
 use Rattle.bus_facts.specs.Facts.{facts_text, is_accepting}
+use Rattle.bus_margins_periodic.specs.Sentences.{drifting}
 use Rattle.bus_command.specs.declared.outcome.Outcome.TheVariants.{Answered, Done}
 use Rattle.bus_command.specs.Due.{text_due}
 use Rattle.bus_command.specs.Outside.{Call}
@@ -25,7 +26,8 @@ use Rattle.bus_tool.specs.FactsClaims.{IsFactsOf, GivesFacts}
 use Rattle.bus_tool.specs.Forms.{Facts, form_of}
 use Rattle.bus_tool.specs.Refusals.{Outcome, ToolRefusal, ends_of, status_of}
 use Rattle.bus_tool.specs.Texts.{AreFacts}
-use Rattle.bus_tool.proofs.ExplainLemmas.{ExplainLaws, explained, tells_accepted, tells_refused}
+use Rattle.bus_tool.proofs.ExplainLemmas.{ExplainLaws, drifting_range, explained, tells_accepted, tells_refused}
+use Rattle.bus_tool.proofs.MarginsClaim.{MarginsLaws, tells_margins}
 
 verdict_is : (verdict : TableVerdict) → cond (is_accepted verdict) Done Answered ≡ verdict_outcome verdict
 verdict_is (Accept mode least most) = refl
@@ -54,6 +56,7 @@ pub record FactsLaws : Type 0 where
   pub limits : LimitsTellBearing
   pub in_time : AperiodicAreInTime
   pub periodic_in_time : PeriodicAreInTime
+  pub margins : MarginsLaws
 
 pub facts_claim : ExplainLaws → FactsLaws → (call : Call) (outcome : Outcome) (text : List ℕ) → Acts call outcome → IsFactsOf text call
     → GivesFacts text call (status_of outcome)
@@ -66,6 +69,7 @@ facts_claim laws facts call outcome text acts h = record {
   rules = λ table d valid accepted. facts.limits table d valid accepted;
   in_time = facts.in_time;
   periodic_in_time = facts.periodic_in_time;
+  drifting = λ table valid accepted mode. tells_margins facts.margins drifting table drifting_range (record { valid = valid; mode = mode });
   refused = λ table valid refused. tells_refused laws table valid refused;
   unread = λ refusal is. laws.stops text refusal is;
 }

@@ -72,24 +72,32 @@ messages_comes laws command word further call outcome table items IsText words m
     (at_two entire entire before first second h.table_told.told h.items_told.told) due answer_is shows
     (does_of tool_program call outcome (OnMessages command) (ap form_of h.form.form ∙ words h.form.first h.form.second) acts) h.undisturbed
 
--- a command on a table and a trace
-pub both_told : ReadLaws → (word : List ℕ) (call : Call) (table : Table) (trace : Recording) (h : IsOfTraced word [] table trace call)
-    → traced_due {R = ToolRefusal} h.table_told.text h.trace_told.stream ≡ Ok (with_trace table trace)
-both_told laws word call table trace h =
+-- a command on a table and a trace, whose words are any
+pub both_told : ReadLaws → (word : List ℕ) (further : List (List ℕ)) (call : Call) (table : Table) (trace : Recording)
+    (h : IsOfTraced word further table trace call) → traced_due {R = ToolRefusal} h.table_told.text h.trace_told.stream ≡ Ok (with_trace table trace)
+both_told laws word further call table trace h =
     traced_told {R = ToolRefusal} any_trace table trace h.table_told.text h.trace_told.stream
     (table_told {R = ToolRefusal} laws.table_again table call.before.sources.first h.table_told)
     (held_trace {R = ToolRefusal} laws.trace_back h.trace_told.stream trace h.trace_told.stands)
 
+pub trace_answers : ReadLaws → (command : TraceCommand) (word : List ℕ) (further : List (List ℕ)) (call : Call) (outcome : Outcome) (table : Table)
+    (trace : Recording) → form_of call.words ≡ Some (OnTrace command) → kind_of (trace_answer command table trace) ≡ Answer
+    → Acts call outcome → IsOfTraced word further table trace call
+    → Answers (status_of (trace_answer command table trace)) (λ text. text ≡ trace_answer_text command table trace) call (status_of outcome)
+trace_answers laws command word further call outcome table trace words answer_is acts h =
+    claimed ends_of (traced_answer command) (IsTracedText command) (two_sources entire Trace) table_refusal_of traced_due h.table_told.text
+    h.trace_told.stream (with_trace table trace) (λ text. text ≡ trace_answer_text command table trace) call outcome
+    (at_two entire Trace call.before.sources h.table_told.text h.trace_told.stream h.table_told.told h.trace_told.told)
+    (both_told laws word further call table trace h) answer_is (λ text is. is)
+    (does_of tool_program call outcome (OnTrace command) words acts) h.undisturbed
+
+-- a command on a table and a trace
 pub trace_comes : ReadLaws → (command : TraceCommand) (word : List ℕ) (call : Call) (outcome : Outcome) (table : Table) (trace : Recording)
     → ((a b : List ℕ) → form_of (word ∷ a ∷ b ∷ []) ≡ Some (OnTrace command)) → kind_of (trace_answer command table trace) ≡ Answer
     → Acts call outcome → IsOfTraced word [] table trace call
     → Answers (status_of (trace_answer command table trace)) (λ text. text ≡ trace_answer_text command table trace) call (status_of outcome)
 trace_comes laws command word call outcome table trace words answer_is acts h =
-    claimed ends_of (traced_answer command) (IsTracedText command) (two_sources entire Trace) table_refusal_of traced_due h.table_told.text
-    h.trace_told.stream (with_trace table trace) (λ text. text ≡ trace_answer_text command table trace) call outcome
-    (at_two entire Trace call.before.sources h.table_told.text h.trace_told.stream h.table_told.told h.trace_told.told)
-    (both_told laws word call table trace h) answer_is (λ text is. is)
-    (does_of tool_program call outcome (OnTrace command) (ap form_of h.form.form ∙ words h.form.first h.form.second) acts) h.undisturbed
+    trace_answers laws command word [] call outcome table trace (ap form_of h.form.form ∙ words h.form.first h.form.second) answer_is acts h
 
 -- what stands for its answer
 pub trace_stands : ReadLaws → (command : TraceCommand) (word : List ℕ) (call : Call) (outcome : Outcome) (table : Table) (trace : Recording)
@@ -98,5 +106,5 @@ pub trace_stands : ReadLaws → (command : TraceCommand) (word : List ℕ) (call
 trace_stands laws command word call outcome table trace words acts h =
     stands_told (traced_answer command) (two_sources entire Trace) traced_due h.table_told.text h.trace_told.stream (with_trace table trace)
     call.before.sources outcome (at_two entire Trace call.before.sources h.table_told.text h.trace_told.stream h.table_told.told h.trace_told.told)
-    (both_told laws word call table trace h)
+    (both_told laws word [] call table trace h)
     (does_of tool_program call outcome (OnTrace command) (ap form_of h.form.form ∙ words h.form.first h.form.second) acts).due

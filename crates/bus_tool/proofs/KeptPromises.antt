@@ -39,9 +39,11 @@ use Rattle.bus_tool.proofs.ExplainLemmas.{ExplainLaws, explain_claim}
 use Rattle.bus_tool.proofs.DiagnoseLemmas.{DiagnosisLaws, diagnosis_claim}
 use Rattle.bus_tool.proofs.FactsLemmas.{FactsLaws, facts_claim}
 use Rattle.bus_tool.proofs.DropClaim.{drop_claim}
+use Rattle.bus_tool.proofs.FindingsClaim.{FindingsLaws, findings_claim}
 use Rattle.bus_tool.proofs.GroupClaims.{table_comes, trace_comes}
 use Rattle.bus_tool.proofs.MarginsClaim.{MarginsLaws, margins_claim}
 use Rattle.bus_tool.proofs.ObserveClaim.{observe_claim}
+use Rattle.bus_tool.proofs.CablePlanClaim.{CablePlanLaws, plan_for_claim, plan_best_claim}
 use Rattle.bus_tool.proofs.PlanClaim.{PlanLaws, plan_claim}
 use Rattle.bus_tool.proofs.RunClaim.{run_claim}
 use Rattle.bus_tool.proofs.ScheduleClaim.{ScheduleLaws, schedule_claim}
@@ -52,6 +54,7 @@ use Rattle.bus_tool.proofs.WaveClaim.{WaveLaws, wave_claim, unwave_claim}
 -- the laws by which it does
 pub record PromiseLaws : Type 0 where
   pub plan : PlanLaws
+  pub cable_plan : CablePlanLaws
   pub wave : WaveLaws
   pub exact : TheSettledAreAccepted
   pub fails : TheRefusedFail
@@ -68,6 +71,7 @@ pub record PromiseLaws : Type 0 where
   pub diagnosed : DiagnosisLaws
   pub facts : FactsLaws
   pub margins : MarginsLaws
+  pub findings : FindingsLaws
   pub cables : CableClaimLaws
   pub scheduled : ScheduleLaws
 
@@ -142,6 +146,8 @@ keeps laws call outcome acts = record {
   witness = λ table h. table_comes laws.plan.texts Witness (codes "witness") call outcome table _ (λ path. refl) tt (λ text is. is) acts h;
   tidy = λ table h. table_comes laws.plan.texts Tidy (codes "tidy") call outcome table _ (λ path. refl) tt (λ text is. is) acts h;
   plan = λ table h. plan_claim laws.plan call outcome table acts h;
+  plan_for = λ d table h. plan_for_claim laws.plan.texts laws.cable_plan call outcome d table acts h;
+  plan_best = λ table h. plan_best_claim laws.plan.texts laws.cable_plan call outcome table acts h;
   report = λ table h. table_comes laws.plan.texts Report (codes "report") call outcome table _ (λ path. refl) tt (λ text is. is) acts h;
   drill = λ number h. drill_claim call outcome number acts h;
   observe = λ table items until h. observe_claim laws.plan.texts laws.give_hands laws.one_list call outcome table items until acts h;
@@ -150,11 +156,12 @@ keeps laws call outcome acts = record {
   schedule = λ table items h. schedule_claim laws.plan.texts laws.scheduled call outcome table items acts h;
   receive = λ table trace h. trace_comes laws.plan.texts Receive (codes "receive") call outcome table trace (λ a b. refl) refl acts h;
   audit = λ table trace h. audit_claim laws call outcome table trace acts h;
+  diagnose = λ bounds table trace h. findings_claim laws.plan.texts laws.findings call outcome bounds table trace acts h;
   vote = λ table trace h. vote_claim laws call outcome table trace acts h;
   wave = λ table trace h. wave_claim laws.wave call outcome table trace acts h;
   unwave = λ table trace h. unwave_claim laws.wave call outcome table trace acts h;
   explain = λ text h. explain_claim laws.explained call outcome text acts h;
-  diagnose = λ table text h. diagnosis_claim laws.diagnosed call outcome table text acts h;
+  explain_beside = λ table text h. diagnosis_claim laws.diagnosed call outcome table text acts h;
   facts = λ text h. facts_claim laws.explained laws.facts call outcome text acts h;
   cable = λ table cable items until h. cable_claim laws.cables call outcome table cable items until acts h;
   itself = λ about h. itself_claim call outcome about acts h;

@@ -8,6 +8,7 @@ pub mod EntryLemmas
 pub mod EscapeLemmas
 pub mod ReportTexts
 pub mod DrillLemmas
+pub mod CutLemmas
 pub mod AnswerLaws
 pub mod TraceAnswers
 pub mod GroupLemmas
@@ -23,6 +24,7 @@ pub mod TextLawLemmas
 pub mod GroupClaims
 pub mod CheckClaim
 pub mod PlanClaim
+mod CablePlanClaim
 pub mod ToleranceLemmas
 pub mod ExplainLemmas
 pub mod FactsLemmas
@@ -30,6 +32,7 @@ pub mod DiagnoseLemmas
 pub mod ToleranceClaim
 pub mod BorneLemmas
 pub mod MarginsClaim
+pub mod FindingsClaim
 pub mod ObserveClaim
 pub mod RunClaim
 pub mod DropClaim

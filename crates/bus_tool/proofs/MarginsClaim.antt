@@ -3,17 +3,18 @@ use Rattle.std.specs.Prelude.{◌≡◌, ℕ, ◌≤◌, true, ◌&&◌, nat_le,
 use Rattle.std.proofs.Common.{arith, ap, ◌∙◌, cond}
 use Rattle.std.proofs.lemmas.Bool.Decides.{nat_tests}
 use Rattle.bus_text.specs.Numbers.{IsDecimal, decimal_value}
-use Rattle.bus_bounds.specs.Bounds.{Bounds, most_delay, most_jitter, most_clocks}
+use Rattle.bus_bounds.specs.Bounds.{Bounds, AreBounds, most_delay, most_jitter, most_clocks}
 use Rattle.bus_table.specs.Tables.{Table}
 use Rattle.bus_regime.specs.Verdicts.{verdict_of}
 use Rattle.bus_margins.specs.Laws.{IsAperiodic, AnySettles, LevelKeepsOrder, ApartIsARound}
+use Rattle.bus_margins_periodic.specs.Laws.{IsAsked}
 use Rattle.bus_command.specs.Outside.{Call}
 use Rattle.bus_tool.specs.Acts.{Acts}
 use Rattle.bus_tool.specs.Forms.{Form, OnTable, Margins, form_of, is_within, are_bounds, bounds_of}
-use Rattle.bus_tool.specs.MarginsClaims.{IsMarginsOf, GivesMargins}
+use Rattle.bus_tool.specs.MarginsClaims.{IsMarginsOf, GivesMargins, TellsMargins}
 use Rattle.bus_tool.specs.MarginsTexts.{margins_answer}
 use Rattle.bus_tool.specs.Refusals.{Outcome, status_of}
-use Rattle.bus_tool.proofs.BorneLemmas.{told_bears}
+use Rattle.bus_tool.proofs.BorneLemmas.{TurnsLaws, told_bears, tells_turns}
 use Rattle.bus_tool.proofs.GroupClaims.{ReadLaws, table_answers}
 
 -- the laws by which it holds
@@ -21,9 +22,10 @@ pub record MarginsLaws : Type 0 where
   pub any : AnySettles
   pub common : LevelKeepsOrder
   pub apart : ApartIsARound
+  pub turns : TurnsLaws
 
 -- ---- the words
-within_is : (limit n : ℕ) (word : List ℕ) → IsDecimal word n → n ≤ limit → is_within limit word ≡ true
+pub within_is : (limit n : ℕ) (word : List ℕ) → IsDecimal word n → n ≤ limit → is_within limit word ≡ true
 within_is limit n word d low =
     let tested : nat_le (decimal_value word) limit ≡ true = grind (arith, nat_tests, d.value) in
     ap (λ b. b && nat_le (decimal_value word) limit) d.plain ∙ tested
@@ -34,7 +36,7 @@ bounds_are bounds table call h =
     ∙ ap (λ b. b && is_within most_clocks h.clocks) (within_is most_jitter bounds.jitter h.jitter h.jitter_is h.within.jitter)
     ∙ within_is most_clocks bounds.clocks h.clocks h.clocks_is h.within.clocks
 
-abbrev bounds_with : ℕ → ℕ → ℕ → Bounds
+abbrev pub bounds_with : ℕ → ℕ → ℕ → Bounds
 bounds_with delay jitter clocks = record { delay = delay; jitter = jitter; clocks = clocks }
 
 same_bounds : (bounds : Bounds) (table : Table) (call : Call) (h : IsMarginsOf bounds table call) → bounds_of h.delay h.jitter h.clocks ≡ bounds
@@ -51,17 +53,23 @@ margins_form bounds table call h =
     ∙ ap some (same_bounds bounds table call h)
 
 -- ---- the claim
+-- what is told of an aperiodic table
+pub tells_margins : MarginsLaws → (bounds : Bounds) (table : Table) → AreBounds bounds → IsAperiodic table → TellsMargins bounds table
+tells_margins laws bounds table within asked = record {
+  any = λ level c up course left alone. laws.any bounds table c up asked level course left alone;
+  common = λ level c course cold powered even. laws.common bounds table c asked level course cold powered even;
+  apart = laws.apart bounds table;
+  borne = told_bears bounds table within;
+}
+
 pub margins_claim : ReadLaws → MarginsLaws → (call : Call) (outcome : Outcome) (bounds : Bounds) (table : Table) → Acts call outcome
     → IsMarginsOf bounds table call → GivesMargins bounds table call (status_of outcome)
 margins_claim texts laws call outcome bounds table acts h =
-    let asked : IsAperiodic table = record { valid = h.table_told.valid; mode = h.aperiodic } in
     record {
       gives = table_answers texts (Margins bounds) call outcome table (λ text. text ≡ margins_answer (verdict_of table) bounds table)
-          (margins_form bounds table call h) h.aperiodic (λ text is. is) acts h.table_told h.undisturbed;
-      tells = record {
-        any = λ level c up course left alone. laws.any bounds table c up asked level course left alone;
-        common = λ level c course cold powered even. laws.common bounds table c asked level course cold powered even;
-        apart = laws.apart bounds table;
-        borne = told_bears bounds table h.within;
-      };
+          (margins_form bounds table call h) tt (λ text is. is) acts h.table_told h.undisturbed;
+      tells = λ mode. tells_margins laws bounds table h.within (record { valid = h.table_told.valid; mode = mode });
+      turns = λ mode.
+          let asked : IsAsked bounds table = record { range = h.within; valid = h.table_told.valid; mode = mode } in
+          tells_turns laws.turns bounds table asked;
     }

@@ -38,7 +38,7 @@ use Rattle.bus_tool.proofs.ExplainLemmas.{size_unwritten}
 use Rattle.bus_tool.proofs.DiagnoseLemmas.{beside_unwritten}
 use Rattle.bus_tool.specs.Diagnosing.{beside_answer, beside_due, beside_told, IsToldBeside}
 use Rattle.bus_facts.specs.Facts.{facts_text}
-use Rattle.bus_tool.specs.Forms.{Form, OnTable, OnMessages, OnTrace, Unwave, Drill, OnItself, Explain, Diagnose, Facts, Cable, MessagesCommand, Observe, Run, Drop, Schedule, form_of, table_mode, messages_mode}
+use Rattle.bus_tool.specs.Forms.{Form, OnTable, OnMessages, OnTrace, Unwave, Drill, OnItself, Explain, ExplainBeside, Facts, Cable, MessagesCommand, Observe, Run, Drop, Schedule, form_of, table_mode, messages_mode}
 use Rattle.bus_tool.specs.Refusals.{Outcome, ToolRefusal}
 use Rattle.bus_wave.specs.Counted.{hand_holds}
 use Rattle.bus_tool.specs.Texts.{IsObserved, IsRunRecording, IsDropRecording, IsInputsText, IsTableAnswerText, IsTracedText, IsUnwavedText, IsExplanation, AreFacts}
@@ -169,7 +169,7 @@ form_once laws Unwave first second text other h k =
 form_once laws (Drill number) first second text other h k = k ∙ sym h
 form_once laws (OnItself about) first second text other h k = k ∙ sym h
 form_once laws Explain first second text other h k = k.3 ∙ ap explanation (same_value (text_due 1 first) h.0 k.0 h.1 k.1) ∙ sym h.3
-form_once laws Diagnose first second text other h k = k.3 ∙ ap beside_told (same_value (beside_due first second) h.0 k.0 h.1 k.1) ∙ sym h.3
+form_once laws ExplainBeside first second text other h k = k.3 ∙ ap beside_told (same_value (beside_due first second) h.0 k.0 h.1 k.1) ∙ sym h.3
 form_once laws Facts first second text other h k = k.3 ∙ ap facts_text (same_value (text_due 1 first) h.0 k.0 h.1 k.1) ∙ sym h.3
 form_once laws (Cable horizon) first second text other h k =
     cable_once laws horizon h.0 (cable_dealt laws first second h.0 h.1) text other h.3
@@ -254,7 +254,7 @@ form_has laws (Drill number) first second h = (drill_line number, refl)
 form_has laws (OnItself about) first second h = (itself_text about, refl)
 form_has laws Explain first second h =
     text_with explain_answer IsExplanation (text_due 1 first) (λ o e. size_unwritten first o e) (λ text e k. (explanation text, refl)) h
-form_has laws Diagnose first second h =
+form_has laws ExplainBeside first second h =
     text_with beside_answer IsToldBeside (beside_due first second) (λ o e. beside_unwritten first second o e) (λ texts e k. (beside_told texts, refl)) h
 form_has laws Facts first second h =
     text_with explain_answer AreFacts (text_due 1 first) (λ o e. size_unwritten first o e) (λ text e k. (facts_text text, refl)) h

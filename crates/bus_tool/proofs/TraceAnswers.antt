@@ -1,5 +1,5 @@
 -- What the commands on a table and a trace answer: at which stage, and that a refusal has its cause. A new one has a line in each table.
-use Rattle.std.specs.Prelude.{◌≡◌, ℕ, ◌≤◌, List, Result, Ok, Err}
+use Rattle.std.specs.Prelude.{◌≡◌, ℕ, ◌≤◌, Bool, true, false, List, Result, Ok, Err}
 use Rattle.std.proofs.Common.{arith, refl}
 use Rattle.bus_table.specs.Tables.{Table}
 use Rattle.bus_audit.specs.Breaches.{answer_of}
@@ -13,11 +13,12 @@ use Rattle.bus_command.specs.Due.{traced_due, any_trace}
 use Rattle.bus_command.specs.Kinds.{kind_of, stage_of}
 use Rattle.bus_command.specs.declared.inputs.Traced.{Traced}
 use Rattle.bus_command.proofs.ReadLemmas.{CauseLaws, table_valid, read_trace, traced_read}
+use Rattle.bus_findings.specs.Terminals.{has_fault}
 use Rattle.bus_tool.specs.Causes.{Cause}
-use Rattle.bus_tool.specs.Due.{audit_outcome, spaced_outcome, trace_answer, traced_answer}
-use Rattle.bus_tool.specs.Forms.{Form, OnTrace, TraceCommand, Receive, Audit, Vote, Wave}
+use Rattle.bus_tool.specs.Due.{audit_outcome, findings_outcome, spaced_outcome, trace_answer, traced_answer}
+use Rattle.bus_tool.specs.Forms.{Form, OnTrace, TraceCommand, Receive, Audit, Vote, Wave, Diagnose}
 use Rattle.bus_tool.specs.Refusals.{ToolRefusal}
-use Rattle.bus_tool.proofs.AnswerLaws.{answer_late, written_audit}
+use Rattle.bus_tool.proofs.AnswerLaws.{answer_late, written_audit, written_findings}
 
 -- ---- at which stage
 spaced_late : (r : Result (Unit {0}) WaveFault) → 2 ≤ stage_of (kind_of (spaced_outcome r))
@@ -29,11 +30,16 @@ trace_late Receive table trace = omega arith
 trace_late Audit table trace = answer_late (audit_outcome (answer_of table trace)) (written_audit (answer_of table trace))
 trace_late Vote table trace = omega arith
 trace_late Wave table trace = spaced_late (spaced_of table trace)
+trace_late (Diagnose bounds) table trace = answer_late (findings_outcome (has_fault bounds table trace)) (written_findings (has_fault bounds table trace))
 
 -- ---- for which cause
 audit_cause : (form : Form) (first second : List ℕ) (answer : AuditAnswer) → RefusesTexts (Cause form) (audit_outcome answer) first second
 audit_cause form first second (Lawful collided) = tt
 audit_cause form first second (Breach moment terminal kind) = tt
+
+findings_cause : (form : Form) (first second : List ℕ) (fault : Bool) → RefusesTexts (Cause form) (findings_outcome fault) first second
+findings_cause form first second true = tt
+findings_cause form first second false = tt
 
 spaced_cause : CauseLaws → (form : Form) (first second : List ℕ) (traced : Traced) (r : Result (Unit {0}) WaveFault)
     → traced_due {R = ToolRefusal} first second ≡ Ok traced → spaced_of traced.table traced.trace ≡ r → RefusesTexts (Cause form) (spaced_outcome r) first second
@@ -54,3 +60,4 @@ trace_answer_cause laws Receive first second traced h = tt
 trace_answer_cause laws Audit first second traced h = audit_cause (OnTrace Audit) first second (answer_of traced.table traced.trace)
 trace_answer_cause laws Vote first second traced h = tt
 trace_answer_cause laws Wave first second traced h = spaced_cause laws (OnTrace Wave) first second traced (spaced_of traced.table traced.trace) h refl
+trace_answer_cause laws (Diagnose bounds) first second traced h = findings_cause (OnTrace (Diagnose bounds)) first second (has_fault bounds traced.table traced.trace)

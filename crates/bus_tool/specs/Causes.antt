@@ -22,7 +22,7 @@ use Rattle.bus_wave.specs.WaveTexts.{IsWaveText}
 use Rattle.bus_cable.specs.Cables as cables
 use Rattle.bus_cable.specs.Grammar.{IsCableText}
 use Rattle.bus_command.specs.Causes.{IsValidText, AreTextsWith, AreTracedWith}
-use Rattle.bus_tool.specs.Forms.{Form, OnTable, OnMessages, OnTrace, Unwave, Drill, OnItself, Explain, Diagnose, Facts, Cable}
+use Rattle.bus_tool.specs.Forms.{Form, OnTable, OnMessages, OnTrace, Unwave, Drill, OnItself, Explain, ExplainBeside, Facts, Cable}
 use Rattle.bus_tool.specs.Forms.{MessagesCommand, Observe, Run, Drop, Schedule}
 use Rattle.bus_tool.specs.Refusals.{ToolRefusal, TableMode, Unspaced, WaveText, Uneven, NotAccepted, ShortLast, TooLong}
 use Rattle.bus_tool.specs.Refusals.{CableText, CableUnfit}
@@ -96,7 +96,7 @@ IsFormEnd Unwave end table hands = ⊥
 IsFormEnd (Drill number) end table hands = ⊥
 IsFormEnd (OnItself about) end table hands = ⊥
 IsFormEnd Explain end table hands = ⊥
-IsFormEnd Diagnose end table hands = ⊥
+IsFormEnd ExplainBeside end table hands = ⊥
 IsFormEnd Facts end table hands = ⊥
 IsFormEnd (Cable horizon) end table hands = ⊥
 

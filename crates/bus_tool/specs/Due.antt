@@ -13,9 +13,16 @@ use Rattle.bus_regime.specs.Verdicts.{verdict_of, is_accepted}
 use Rattle.bus_plan.specs.declared.planning.PlanAnswer.{PlanAnswer}
 use Rattle.bus_plan.specs.declared.planning.PlanAnswer.TheVariants.{Planned, Infeasible}
 use Rattle.bus_plan.specs.Answers.{plan_of}
+use Rattle.bus_cable_plan.specs.declared.planning.CablePlan.{CablePlan}
+use Rattle.bus_cable_plan.specs.declared.planning.CablePlan.TheVariants.{Planned as CablePlanned, Infeasible as NoneBears, Undecided}
+use Rattle.bus_cable_plan.specs.Answers.{plan_for_of, plan_best_of}
+use Rattle.bus_bounds.specs.Bounds.{Bounds}
 use Rattle.bus_margins.specs.declared.level.Level.{Level}
 use Rattle.bus_margins.specs.declared.level.Level.TheVariants.{Any, Common, Neither}
 use Rattle.bus_margins.specs.Rooms.{level_of}
+use Rattle.bus_margins_periodic.specs.declared.level.Level.{Level as TurnsLevel}
+use Rattle.bus_margins_periodic.specs.declared.level.Level.TheVariants.{Turns, Leads, Neither as Unkept}
+use Rattle.bus_margins_periodic.specs.Margins.{level_of as turns_level}
 use Rattle.bus_dropout.specs.DropOut.{last_cycle, drop_end}
 use Rattle.bus_schedule.specs.declared.uneven.Uneven.{Uneven as UnevenHands}
 use Rattle.bus_schedule.specs.Closed.{closed_end}
@@ -28,6 +35,7 @@ use Rattle.bus_wave.specs.Spacing.{spaced_of}
 use Rattle.bus_audit.specs.declared.answer.AuditAnswer.{AuditAnswer}
 use Rattle.bus_audit.specs.declared.answer.AuditAnswer.TheVariants.{Lawful, Breach}
 use Rattle.bus_audit.specs.Breaches.{answer_of}
+use Rattle.bus_findings.specs.Terminals.{has_fault}
 use Rattle.bus_text.specs.Refusals.{Refusal}
 use Rattle.bus_strings.specs.Items.{Item}
 use Rattle.bus_table.specs.declared.fit.FitError.{FitError}
@@ -40,10 +48,10 @@ use Rattle.bus_command.specs.declared.outcome.Outcome.TheVariants.{Done, Answere
 use Rattle.bus_command.specs.Due.{text_within, text_due, table_due, table_refusal_of, Inputs, hands_in, inputs_by, traced_by, traced_due}
 use Rattle.bus_command.specs.Due.{outcome_with}
 use Rattle.bus_command.specs.Stages.{refusal_in}
-use Rattle.bus_tool.specs.Forms.{Form, OnTable, OnMessages, OnTrace, Unwave, Drill, OnItself, Explain, Diagnose, Facts, Cable}
-use Rattle.bus_tool.specs.Forms.{TableCommand, Check, Tolerance, Tidy, Report, Witness, Plan, Margins}
+use Rattle.bus_tool.specs.Forms.{Form, OnTable, OnMessages, OnTrace, Unwave, Drill, OnItself, Explain, ExplainBeside, Facts, Cable}
+use Rattle.bus_tool.specs.Forms.{TableCommand, Check, Tolerance, Tidy, Report, Witness, Plan, PlanFor, Margins, PlanDelay, Bits, Greatest}
 use Rattle.bus_command.specs.Readers.{text_limit}
-use Rattle.bus_tool.specs.Forms.{MessagesCommand, Observe, Run, Drop, Schedule, TraceCommand, Receive, Audit, Vote, Wave}
+use Rattle.bus_tool.specs.Forms.{MessagesCommand, Observe, Run, Drop, Schedule, TraceCommand, Receive, Audit, Vote, Wave, Diagnose}
 use Rattle.bus_tool.specs.Diagnosing.{beside_answer, beside_due}
 use Rattle.bus_tool.specs.Forms.{form_of, wave_limit, table_mode, messages_mode}
 use Rattle.bus_tool.specs.Refusals.{Outcome, refuse, TableMode, Unspaced, WaveText, Uneven, NotAccepted, ShortLast, TooLong}
@@ -185,23 +193,50 @@ abbrev pub plan_outcome : PlanAnswer → Outcome
 plan_outcome (Planned table) = Done
 plan_outcome (Infeasible least ti) = Answered
 
--- Yes where a table has a level, else no.
+-- The plan of a table for this delay.
+abbrev pub cable_plan_of : PlanDelay → Table → CablePlan
+cable_plan_of (Bits d) table = plan_for_of d table
+cable_plan_of Greatest table = plan_best_of table
+
+-- Yes where there is a plan, else no.
+abbrev pub cable_plan_outcome : CablePlan → Outcome
+cable_plan_outcome (CablePlanned table) = Done
+cable_plan_outcome (NoneBears least ti) = Answered
+cable_plan_outcome (Undecided least ti) = Answered
+
+-- Yes where an aperiodic table has a level, else no.
 abbrev pub level_outcome : Level → Outcome
 level_outcome Any = Done
 level_outcome Common = Done
 level_outcome Neither = Answered
 
+-- Yes where a periodic one has a level, else no.
+abbrev pub turns_outcome : TurnsLevel → Outcome
+turns_outcome Turns = Done
+turns_outcome Leads = Done
+turns_outcome Unkept = Answered
+
+-- Yes where a table of this mode has a level within these bounds, else no.
+abbrev pub outcome_in : Mode → Bounds → Table → Outcome
+outcome_in Aperiodic bounds table = level_outcome (level_of bounds table)
+outcome_in Periodic bounds table = turns_outcome (turns_level bounds table)
+
 -- Yes where a table with this verdict is accepted and has a level, else no.
-abbrev pub margins_outcome : TableVerdict → Level → Outcome
-margins_outcome (Accept mode least most) level = level_outcome level
-margins_outcome (ShortCycle least ti) level = Answered
-margins_outcome (SmallGap terminal gap needed) level = Answered
-margins_outcome (NoSync terminal gap needed) level = Answered
+abbrev pub margins_outcome : TableVerdict → Bounds → Table → Outcome
+margins_outcome (Accept mode least most) bounds table = outcome_in table.mode bounds table
+margins_outcome (ShortCycle least ti) bounds table = Answered
+margins_outcome (SmallGap terminal gap needed) bounds table = Answered
+margins_outcome (NoSync terminal gap needed) bounds table = Answered
 
 -- Yes where nothing is found against the trace, else no.
 abbrev pub audit_outcome : AuditAnswer → Outcome
 audit_outcome (Lawful collided) = Done
 audit_outcome (Breach moment terminal kind) = Answered
+
+-- No where a fault is found in the trace, else yes.
+abbrev pub findings_outcome : Bool → Outcome
+findings_outcome true = Answered
+findings_outcome false = Done
 
 -- A spaced trace is answered, another refused.
 abbrev pub spaced_outcome : Result (Unit {0}) WaveFault → Outcome
@@ -216,7 +251,8 @@ table_answer Tidy table = Done
 table_answer Report table = verdict_outcome (verdict_of table)
 table_answer Witness table = Done
 table_answer Plan table = plan_outcome (plan_of table)
-table_answer (Margins bounds) table = margins_outcome (verdict_of table) (level_of bounds table)
+table_answer (PlanFor delay) table = cable_plan_outcome (cable_plan_of delay table)
+table_answer (Margins bounds) table = margins_outcome (verdict_of table) bounds table
 
 -- What is answered to a table and hands, or why nothing is.
 abbrev pub messages_answer : MessagesCommand → Table → List Hand → Outcome
@@ -231,6 +267,7 @@ trace_answer Receive table trace = Done
 trace_answer Audit table trace = audit_outcome (answer_of table trace)
 trace_answer Vote table trace = Done
 trace_answer Wave table trace = spaced_outcome (spaced_of table trace)
+trace_answer (Diagnose bounds) table trace = findings_outcome (has_fault bounds table trace)
 
 -- The same to inputs, and to what was taken of both texts.
 abbrev pub inputs_answer : MessagesCommand → Inputs → Outcome
@@ -268,7 +305,7 @@ form_due Unwave first second = outcome_with unwave_answer (unwave_due first seco
 form_due (Drill number) first second = Done
 form_due (OnItself about) first second = Done
 form_due Explain first second = outcome_with explain_answer (text_due 1 first)
-form_due Diagnose first second = outcome_with beside_answer (beside_due first second)
+form_due ExplainBeside first second = outcome_with beside_answer (beside_due first second)
 form_due Facts first second = outcome_with explain_answer (text_due 1 first)
 form_due (Cable horizon) first second = outcome_with cable_answer (cable_due first second)
 
@@ -281,7 +318,7 @@ first_refusal Unwave first = table_refusal_of first
 first_refusal (Drill number) first = None
 first_refusal (OnItself about) first = None
 first_refusal Explain first = refusal_in (text_due 1 first)
-first_refusal Diagnose first = refusal_in (text_due 1 first)
+first_refusal ExplainBeside first = refusal_in (text_due 1 first)
 first_refusal Facts first = refusal_in (text_due 1 first)
 first_refusal (Cable horizon) first = table_refusal_of first
 

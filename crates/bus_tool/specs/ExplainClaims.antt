@@ -25,12 +25,16 @@ use Rattle.bus_schedule.specs.Runs.{IsRun}
 use Rattle.bus_explain.specs.Accepted.{IsAcceptedWith}
 use Rattle.bus_explain.specs.Figures.{gap_bits, spare}
 use Rattle.bus_explain.specs.Laws.{IsGapTold, IsLoadOf, IsSpare}
+use Rattle.bus_cable_plan.specs.Answers.{most_borne_of}
+use Rattle.bus_cable_plan.specs.Meaning.{IsPlanOf, NoneBear}
+use Rattle.bus_margins_periodic.specs.Sentences.{drifting}
 use Rattle.bus_command.specs.Claims.{Answers, IsFormOfOne, NothingFails}
 use Rattle.bus_command.specs.Outside.{Call}
 use Rattle.bus_command.specs.Readers.{entire, one_source, text_limit}
 use Rattle.bus_command.specs.declared.status.Status.{Status}
 use Rattle.bus_tool.specs.Due.{explain_answer}
 use Rattle.bus_tool.specs.Explanations.{explanation}
+use Rattle.bus_tool.specs.MarginsClaims.{TellsTurns}
 use Rattle.bus_tool.specs.Refusals.{status_of}
 use Rattle.bus_tool.specs.ToleranceClaims.{SettlesFromAnyStart, TellsTolerance}
 
@@ -56,6 +60,8 @@ pub record StartsBehind (table : Table) (gap : Gap) : Type 0 where
 --   load        it is that of the longest cycle
 --   gaps        the senders of a periodic table start behind the gaps that are told of them, one for each in turn order
 --   tolerance   as the tolerance line tells it
+--   offsets     where it is periodic, some offsets bear the delay that is told to be the greatest, and none bear more
+--   drifting    where it is periodic and oscillators are off by up to 50 millionths, its senders keep their turns as that sentence tells it
 --   collides    where it is aperiodic and never parts, its senders can collide in every cycle, for ever
 --   work        with the advised transmit interval it is accepted and starts itself, and with no greater one
 --   settles     so that, with that, its order comes about from any start
@@ -66,6 +72,9 @@ pub record ExplainsAccepted (table : Table) : Type 0 where
   pub load : (least most : ℕ) → IsAcceptedWith table least most → IsLoadOf table most
   pub gaps : table.mode ≡ Periodic → (gap : Gap) → In gap (gaps table) → StartsBehind table gap
   pub tolerance : TellsTolerance table
+  pub offsets : table.mode ≡ Periodic → (d : ℕ) → most_borne_of table ≡ Some d
+      → ((made : Table) × IsPlanOf d table made) × NoneBear (d + 1) table
+  pub drifting : table.mode ≡ Periodic → TellsTurns drifting table
   pub collides : table.mode ≡ Aperiodic → IsTrue (never_parts table) → CollideForEver table
   pub work : (advice : Advice) → In advice (advices_of table) → AdviceWorks table advice
   pub settles : (ti : ℕ) → In (Start ti) (advices_of table) → SettlesFromAnyStart (with_interval ti table)

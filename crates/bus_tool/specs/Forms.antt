@@ -6,19 +6,22 @@ use Rattle.bus_text.specs.Numbers.{is_plain_decimal, decimal_value}
 use Rattle.bus_strings.specs.Limits.{horizon_limit}
 use Rattle.bus_table.specs.declared.mode.Mode.{Mode}
 use Rattle.bus_table.specs.declared.mode.Mode.TheVariants.{Aperiodic, Periodic}
+use Rattle.bus_table.specs.Ranges.{most_ti}
 use Rattle.bus_trace.specs.Limits.{trace_limit}
 use Rattle.bus_vectors.specs.Made.{most_number}
 use Rattle.bus_bounds.specs.Bounds.{Bounds, most_delay, most_jitter, most_clocks}
 use Rattle.bus_command.specs.About.{about_of}
 use Rattle.bus_command.specs.Readers.{Named, Reader, Entire, entire, no_source, one_source, by_trace, two_sources}
 pub use Rattle.bus_tool.specs.declared.forms.Form.{Form}
-pub use Rattle.bus_tool.specs.declared.forms.Form.TheVariants.{OnTable, OnMessages, OnTrace, Unwave, Drill, OnItself, Explain, Diagnose, Facts, Cable}
+pub use Rattle.bus_tool.specs.declared.forms.Form.TheVariants.{OnTable, OnMessages, OnTrace, Unwave, Drill, OnItself, Explain, ExplainBeside, Facts, Cable}
 pub use Rattle.bus_tool.specs.declared.forms.TableCommand.{TableCommand}
-pub use Rattle.bus_tool.specs.declared.forms.TableCommand.TheVariants.{Check, Tolerance, Tidy, Report, Witness, Plan, Margins}
+pub use Rattle.bus_tool.specs.declared.forms.TableCommand.TheVariants.{Check, Tolerance, Tidy, Report, Witness, Plan, PlanFor, Margins}
+pub use Rattle.bus_tool.specs.declared.forms.PlanDelay.{PlanDelay}
+pub use Rattle.bus_tool.specs.declared.forms.PlanDelay.TheVariants.{Bits, Greatest}
 pub use Rattle.bus_tool.specs.declared.forms.MessagesCommand.{MessagesCommand}
 pub use Rattle.bus_tool.specs.declared.forms.MessagesCommand.TheVariants.{Observe, Run, Drop, Schedule}
 pub use Rattle.bus_tool.specs.declared.forms.TraceCommand.{TraceCommand}
-pub use Rattle.bus_tool.specs.declared.forms.TraceCommand.TheVariants.{Receive, Audit, Vote, Wave}
+pub use Rattle.bus_tool.specs.declared.forms.TraceCommand.TheVariants.{Receive, Audit, Vote, Wave, Diagnose}
 
 -- Whether a word is the plain decimal of a horizon.
 abbrev pub is_horizon : List ℕ → Bool
@@ -35,6 +38,18 @@ is_within limit word = is_plain_decimal word && nat_le (decimal_value word) limi
 -- Whether three words are the plain decimals of bounds that are within their limits.
 abbrev pub are_bounds : (delay jitter clocks : List ℕ) → Bool
 are_bounds delay jitter clocks = is_within most_delay delay && (is_within most_jitter jitter && is_within most_clocks clocks)
+
+-- The greatest delay between a monitor and a terminal, and the greatest jitter, of a recording, in bit times: limits of this project's
+-- profile. Over the longest way there and back a signal takes less than a word.
+abbrev pub most_near_delay : ℕ
+most_near_delay = 9
+
+abbrev pub most_near_jitter : ℕ
+most_near_jitter = 255
+
+-- Whether three words are the plain decimals of bounds of a recording that are within their limits.
+abbrev pub are_near_bounds : (delay jitter clocks : List ℕ) → Bool
+are_near_bounds delay jitter clocks = is_within most_near_delay delay && (is_within most_near_jitter jitter && is_within most_clocks clocks)
 
 -- The bounds that they write.
 abbrev pub bounds_of : (delay jitter clocks : List ℕ) → Bounds
@@ -59,10 +74,22 @@ two_words command second =
     else if bytes_eq command (codes "drill") && is_drill_number second then Some (Drill (decimal_value second))
     else None
 
--- `explain T F`, `run T M`, `drop T M`, `schedule T M`, `receive T R`, `audit T R`, `vote T R`, `wave T R`, `unwave T W`.
-abbrev pub three_words : List ℕ → Option Form
-three_words command =
-    if bytes_eq command (codes "explain") then Some Diagnose
+-- The delay of a plan that a word asks for.
+abbrev pub plan_delay_of : List ℕ → Option PlanDelay
+plan_delay_of word =
+    if is_within most_ti word then Some (Bits (decimal_value word))
+    else if bytes_eq word (codes "best") then Some Greatest
+    else None
+
+-- A plan for a delay.
+abbrev pub plan_for : PlanDelay → Form
+plan_for delay = OnTable (PlanFor delay)
+
+-- `plan T D`, `plan T best`, `explain T F`, `run T M`, `drop T M`, `schedule T M`, `receive T R`, `audit T R`, `vote T R`, `wave T R`, `unwave T W`.
+abbrev pub three_words : List ℕ → List ℕ → Option Form
+three_words command third =
+    if bytes_eq command (codes "plan") then option_map plan_for (plan_delay_of third)
+    else if bytes_eq command (codes "explain") then Some ExplainBeside
     else if bytes_eq command (codes "run") then Some (OnMessages Run)
     else if bytes_eq command (codes "drop") then Some (OnMessages Drop)
     else if bytes_eq command (codes "schedule") then Some (OnMessages Schedule)
@@ -86,13 +113,20 @@ five_words command delay jitter clocks =
     if bytes_eq command (codes "margins") && are_bounds delay jitter clocks then Some (OnTable (Margins (bounds_of delay jitter clocks)))
     else None
 
+-- `diagnose T R D J P`
+abbrev pub six_words : (command delay jitter clocks : List ℕ) → Option Form
+six_words command delay jitter clocks =
+    if bytes_eq command (codes "diagnose") && are_near_bounds delay jitter clocks then Some (OnTrace (Diagnose (bounds_of delay jitter clocks)))
+    else None
+
 -- The form of these words, whatever the words T and M are.
 abbrev pub form_of : List (List ℕ) → Option Form
 form_of (word ∷ []) = one_word word
 form_of (command ∷ second ∷ []) = two_words command second
-form_of (command ∷ table ∷ other ∷ []) = three_words command
+form_of (command ∷ table ∷ other ∷ []) = three_words command other
 form_of (command ∷ table ∷ messages ∷ horizon ∷ []) = four_words command horizon
 form_of (command ∷ table ∷ delay ∷ jitter ∷ clocks ∷ []) = five_words command delay jitter clocks
+form_of (command ∷ table ∷ trace ∷ delay ∷ jitter ∷ clocks ∷ []) = six_words command delay jitter clocks
 form_of words = None
 
 -- ---- what a group takes
@@ -117,7 +151,7 @@ sources_of Unwave = two_sources entire entire_wave
 sources_of (Drill number) = no_source
 sources_of (OnItself about) = no_source
 sources_of Explain = one_source entire
-sources_of Diagnose = two_sources entire entire_beside
+sources_of ExplainBeside = two_sources entire entire_beside
 sources_of Facts = one_source entire
 sources_of (Cable horizon) = two_sources entire entire
 
@@ -130,7 +164,7 @@ takes_memory Unwave = true
 takes_memory (Drill number) = true
 takes_memory (OnItself about) = false
 takes_memory Explain = true
-takes_memory Diagnose = true
+takes_memory ExplainBeside = true
 takes_memory Facts = true
 takes_memory (Cable horizon) = true
 
@@ -142,7 +176,8 @@ table_mode Tidy = None
 table_mode Report = None
 table_mode Witness = None
 table_mode Plan = Some Periodic
-table_mode (Margins bounds) = Some Aperiodic
+table_mode (PlanFor delay) = Some Periodic
+table_mode (Margins bounds) = None
 
 -- The mode that a command on messages needs of its table.
 abbrev pub messages_mode : MessagesCommand → Option Mode
@@ -158,15 +193,39 @@ IsWithinHorizon Run = Unit {0}
 IsWithinHorizon Drop = Unit {0}
 IsWithinHorizon Schedule = Unit {0}
 
+-- A delay that a plan can be asked for.
+abbrev pub IsPlannable : PlanDelay → Type 0
+IsPlannable (Bits d) = d ≤ most_ti
+IsPlannable Greatest = Unit {0}
+
+-- The delay of a command on a table is one.
+abbrev pub IsWithinDelay : TableCommand → Type 0
+IsWithinDelay Check = Unit {0}
+IsWithinDelay Tolerance = Unit {0}
+IsWithinDelay Tidy = Unit {0}
+IsWithinDelay Report = Unit {0}
+IsWithinDelay Witness = Unit {0}
+IsWithinDelay Plan = Unit {0}
+IsWithinDelay (PlanFor delay) = IsPlannable delay
+IsWithinDelay (Margins bounds) = Unit {0}
+
+-- The delay of a command on a trace is within its limit.
+abbrev pub IsNear : TraceCommand → Type 0
+IsNear Receive = Unit {0}
+IsNear Audit = Unit {0}
+IsNear Vote = Unit {0}
+IsNear Wave = Unit {0}
+IsNear (Diagnose bounds) = bounds.delay ≤ most_near_delay
+
 -- The numbers of a form are within their limits.
 abbrev pub IsWithinLimits : Form → Type 0
-IsWithinLimits (OnTable command) = Unit {0}
+IsWithinLimits (OnTable command) = IsWithinDelay command
 IsWithinLimits (OnMessages command) = IsWithinHorizon command
-IsWithinLimits (OnTrace command) = Unit {0}
+IsWithinLimits (OnTrace command) = IsNear command
 IsWithinLimits Unwave = Unit {0}
 IsWithinLimits (Drill number) = number ≤ most_number
 IsWithinLimits (OnItself about) = Unit {0}
 IsWithinLimits Explain = Unit {0}
-IsWithinLimits Diagnose = Unit {0}
+IsWithinLimits ExplainBeside = Unit {0}
 IsWithinLimits Facts = Unit {0}
 IsWithinLimits (Cable horizon) = horizon ≤ horizon_limit

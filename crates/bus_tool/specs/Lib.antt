@@ -22,12 +22,14 @@ pub mod ExplainClaims
 pub mod DiagnosisClaims
 pub mod FactsClaims
 pub mod PlanClaims
+pub mod CablePlanClaims
 pub mod DrillClaims
 pub mod ObserveClaims
 pub mod RunClaims
 pub mod DropClaims
 pub mod ScheduleClaims
 pub mod TraceClaims
+pub mod FindingsClaims
 pub mod WaveClaims
 pub mod CableClaims
 pub mod Promises

@@ -3,7 +3,7 @@ use Rattle.std.specs.Prelude.{◌≡◌, ◌≢◌, ℕ, ◌+◌, ◌≤◌, Lis
 use Rattle.bus_text.specs.Numbers.{IsDecimal}
 use Rattle.bus_bounds.specs.Bounds.{Bounds, AreBounds}
 use Rattle.bus_table.specs.Tables.{Table}
-use Rattle.bus_table.specs.declared.mode.Mode.TheVariants.{Aperiodic}
+use Rattle.bus_table.specs.declared.mode.Mode.TheVariants.{Aperiodic, Periodic}
 use Rattle.bus_regime.specs.Verdicts.{verdict_of}
 use Rattle.bus_clocks.specs.Buses.{Bus, among}
 use Rattle.bus_clocks.specs.Courses.{Course, IsCourse, HaveLeft, IsLeftAlone}
@@ -11,10 +11,15 @@ use Rattle.bus_clocks.specs.Order.{IsCold, ArePoweredWithin, AreEven, IsInOrder}
 use Rattle.bus_clocks.specs.Rounds.{least_round, most_round}
 use Rattle.bus_clocks.specs.Settling.{HasSettled}
 use Rattle.bus_margins.specs.declared.level.Level.TheVariants.{Any, Neither}
-use Rattle.bus_margins.specs.Bearing.{IsBorne}
+use Rattle.bus_drift.specs.Beginning.{Begins}
+use Rattle.bus_margins.specs.Bearing.{keeps, borne_with, IsBorne}
 use Rattle.bus_margins.specs.Buses.{bus_of}
 use Rattle.bus_margins.specs.Rooms.{level_of, least_apart, most_apart}
-use Rattle.bus_margins.specs.Texts.{borne_with}
+use Rattle.bus_margins_periodic.specs.declared.level.Level.TheVariants.{Turns, Leads}
+use Rattle.bus_margins_periodic.specs.Bearing.{keeps as keeps_turns}
+use Rattle.bus_margins_periodic.specs.Buses.{soon_of, late_of}
+use Rattle.bus_margins_periodic.specs.Laws.{KeepTurns, FollowFirst}
+use Rattle.bus_margins_periodic.specs.Margins.{level_of as turns_level}
 use Rattle.bus_command.specs.Claims.{Answers, TellsTable, NothingFails}
 use Rattle.bus_command.specs.Outside.{Call}
 use Rattle.bus_command.specs.Readers.{entire, one_source}
@@ -23,8 +28,8 @@ use Rattle.bus_tool.specs.Due.{margins_outcome}
 use Rattle.bus_tool.specs.MarginsTexts.{margins_answer}
 use Rattle.bus_tool.specs.Refusals.{status_of}
 
--- A call of `margins T D J P`, where D, J and P are the plain decimals of bounds within their limits, on a text of a valid aperiodic table,
--- in which nothing outside fails.
+-- A call of `margins T D J P`, where D, J and P are the plain decimals of bounds within their limits, on a text of a valid table, in which
+-- nothing outside fails.
 pub record IsMarginsOf (bounds : Bounds) (table : Table) (call : Call) : Type 0 where
   pub path : List ℕ
   pub delay : List ℕ
@@ -36,7 +41,6 @@ pub record IsMarginsOf (bounds : Bounds) (table : Table) (call : Call) : Type 0 
   pub clocks_is : IsDecimal clocks bounds.clocks
   pub within : AreBounds bounds
   pub table_told : TellsTable table call.before.sources.first
-  pub aperiodic : table.mode ≡ Aperiodic
   pub undisturbed : NothingFails (one_source entire) call.before call.after
 
 -- Every course of such a bus comes into order by itself, and stays there, up to each horizon, whenever its senders were powered up and
@@ -52,7 +56,7 @@ Settles bus most =
 abbrev pub KeepsOrder : Bus → Type 0
 KeepsOrder bus = (c : Course) → IsCourse bus c → IsCold bus c → ArePoweredWithin bus c → AreEven bus c → IsInOrder bus c
 
--- What the lines of a table tell of its bus within these bounds:
+-- What the lines of an aperiodic table tell of its bus within these bounds:
 --   any      at level `any` order comes by itself, by the time that two starts of a sender are apart at most
 --   common   and at each level it stands from a common start
 --   apart    two starts of a sender, one behind the other, are told to be as far apart as a shortest and a longest round
@@ -62,11 +66,29 @@ pub record TellsMargins (bounds : Bounds) (table : Table) : Type 0 where
   pub common : level_of bounds table ≢ Neither → KeepsOrder (bus_of bounds table)
   pub apart : (least_apart bounds table ≡ least_round (among (bus_of bounds table)))
       × (most_apart bounds table ≡ most_round (among (bus_of bounds table)))
-  pub borne : IsBorne bounds table (level_of bounds table) (borne_with bounds table (level_of bounds table))
+  pub borne : IsBorne (keeps bounds table (level_of bounds table)) (borne_with (keeps bounds table (level_of bounds table)))
+
+-- Every course on the bus of a periodic table, whose senders have as many messages each, and which begins at any moment: power-ups lie within
+-- the delay from then on, and each sender is due for the first time within its bounds.
+abbrev pub OnEachCourse : Bounds → Table → (Course → ℕ → Type 0) → Type 0
+OnEachCourse bounds table holds =
+    (c : Course) (start : ℕ) → IsCourse (bus_of bounds table) c → AreEven (bus_of bounds table) c
+    → Begins (bus_of bounds table) c start (soon_of bounds table) (late_of bounds table) → holds c start
+
+-- What the lines of a periodic table tell of its bus within these bounds:
+--   turns    at level `turns` all take turns and keep pace for ever, whoever is the slowest, and two starts of a sender, one behind the other,
+--            are at least and at most as far apart as they are told to be
+--   leads    at level `leads` all take turns behind the first sender, and two starts are as far apart
+--   borne    and of each bound the greatest, alone changed, with which the level is no lower.
+pub record TellsTurns (bounds : Bounds) (table : Table) : Type 0 where
+  pub turns : turns_level bounds table ≡ Turns → OnEachCourse bounds table (KeepTurns bounds table)
+  pub leads : turns_level bounds table ≡ Leads → OnEachCourse bounds table (FollowFirst bounds table)
+  pub borne : IsBorne (keeps_turns bounds table (turns_level bounds table)) (borne_with (keeps_turns bounds table (turns_level bounds table)))
 
 -- The margins of an accepted table are written, which tell what they say, and the status is Done where it has a level, else Refused; of a
 -- refused one its verdict line is, and the status is Refused.
 pub record GivesMargins (bounds : Bounds) (table : Table) (call : Call) (status : Status) : Type 0 where
-  pub gives : Answers (status_of (margins_outcome (verdict_of table) (level_of bounds table)))
+  pub gives : Answers (status_of (margins_outcome (verdict_of table) bounds table))
       (λ text. text ≡ margins_answer (verdict_of table) bounds table) call status
-  pub tells : TellsMargins bounds table
+  pub tells : table.mode ≡ Aperiodic → TellsMargins bounds table
+  pub turns : table.mode ≡ Periodic → TellsTurns bounds table

@@ -29,17 +29,18 @@ use Rattle.bus_command.specs.declared.inputs.Traced.{Traced}
 use Rattle.bus_command.specs.Due.{Inputs, hands_in, inputs_by, text_due, traced_due, IsTextOf}
 use Rattle.bus_facts.specs.Facts.{facts_text}
 use Rattle.bus_tool.specs.Diagnosing.{IsToldBeside, beside_answer, beside_due}
-use Rattle.bus_tool.specs.Forms.{Form, OnTable, OnMessages, OnTrace, Unwave, Drill, OnItself, Explain, Diagnose, Facts, Cable}
-use Rattle.bus_tool.specs.Forms.{TableCommand, Check, Tolerance, Tidy, Report, Witness, Plan, Margins}
-use Rattle.bus_tool.specs.Forms.{MessagesCommand, Observe, Run, Drop, Schedule, TraceCommand, Receive, Audit, Vote, Wave}
+use Rattle.bus_findings.specs.Texts.{findings_text}
+use Rattle.bus_tool.specs.Forms.{Form, OnTable, OnMessages, OnTrace, Unwave, Drill, OnItself, Explain, ExplainBeside, Facts, Cable}
+use Rattle.bus_tool.specs.Forms.{TableCommand, Check, Tolerance, Tidy, Report, Witness, Plan, PlanFor, Margins}
+use Rattle.bus_tool.specs.Forms.{MessagesCommand, Observe, Run, Drop, Schedule, TraceCommand, Receive, Audit, Vote, Wave, Diagnose}
 use Rattle.bus_tool.specs.Forms.{form_of, table_mode, messages_mode}
-use Rattle.bus_tool.specs.Due.{table_for, unwave_due, table_answer, inputs_answer, traced_answer, unwave_answer, explain_answer}
+use Rattle.bus_tool.specs.Due.{table_for, cable_plan_of, unwave_due, table_answer, inputs_answer, traced_answer, unwave_answer, explain_answer}
 use Rattle.bus_tool.specs.Due.{CableInputs, cable_hands, cable_answer, cable_due}
 use Rattle.bus_tool.specs.Drills.{drill_line}
 use Rattle.bus_tool.specs.Explanations.{explanation}
 use Rattle.bus_tool.specs.Itself.{itself_text}
 use Rattle.bus_tool.specs.Reports.{report_text}
-use Rattle.bus_tool.specs.PlanTexts.{plan_text}
+use Rattle.bus_tool.specs.PlanTexts.{plan_text, cable_plan_text}
 use Rattle.bus_tool.specs.MarginsTexts.{margins_answer}
 use Rattle.bus_tool.specs.Tolerances.{tolerance_text}
 
@@ -81,6 +82,7 @@ table_answer_text Tidy table = table_text table
 table_answer_text Report table = report_text table
 table_answer_text Witness table = messages_text (witness_of table)
 table_answer_text Plan table = plan_text (plan_of table)
+table_answer_text (PlanFor delay) table = cable_plan_text (cable_plan_of delay table)
 table_answer_text (Margins bounds) table = margins_answer (verdict_of table) bounds table
 
 -- The trace text of what is seen of the senders of a table with hands up to a horizon.
@@ -123,6 +125,7 @@ trace_answer_text Receive table trace = received_text table trace.list
 trace_answer_text Audit table trace = answer_line (answer_of table trace)
 trace_answer_text Vote table trace = votes_text table trace.list
 trace_answer_text Wave table trace = wave_text trace
+trace_answer_text (Diagnose bounds) table trace = findings_text bounds table trace
 
 -- The same of what was taken.
 abbrev pub IsTableAnswerText : TableCommand → Table → List ℕ → Type 0
@@ -163,7 +166,7 @@ IsFormText Unwave first second text = IsTextOf unwave_answer IsUnwavedText (unwa
 IsFormText (Drill number) first second text = text ≡ drill_line number
 IsFormText (OnItself about) first second text = text ≡ itself_text about
 IsFormText Explain first second text = IsTextOf explain_answer IsExplanation (text_due 1 first) text
-IsFormText Diagnose first second text = IsTextOf beside_answer IsToldBeside (beside_due first second) text
+IsFormText ExplainBeside first second text = IsTextOf beside_answer IsToldBeside (beside_due first second) text
 IsFormText Facts first second text = IsTextOf explain_answer AreFacts (text_due 1 first) text
 IsFormText (Cable horizon) first second text = IsTextOf cable_answer (IsCableAnswerText horizon) (cable_due first second) text
 

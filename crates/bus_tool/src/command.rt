@@ -2,7 +2,7 @@
 ghost use Rattle.bus_command.specs.Outside.{call};
 ghost use Rattle.bus_tool.specs.Acts.{Acts};
 
-use crate::diagnose::diagnose;
+use crate::beside::explain_both;
 use crate::drill::drill;
 use crate::explain::explain;
 use crate::facts::facts;
@@ -49,7 +49,7 @@ pub fn act<S: Source, K: Sink>(
         Some(Form::Drill { number }) => drill(alloc, number, out),
         Some(Form::OnItself(about)) => tell_itself(about, out),
         Some(Form::Explain) => explain(alloc, first, out),
-        Some(Form::Diagnose) => diagnose(alloc, first, second, out),
+        Some(Form::ExplainBeside) => explain_both(alloc, first, second, out),
         Some(Form::Facts) => facts(alloc, first, out),
         Some(Form::Cable { horizon }) => cable(alloc, horizon, first, second, out),
     }

@@ -1,31 +1,89 @@
 //! `explain`: what the verdict on a table means, or why a text gives no valid table, and what to change.
-ghost use Rattle.std.specs.Prelude.{◌≡◌, false};
+ghost use Rattle.std.specs.Prelude.{◌≡◌, ◌++◌, false};
+ghost use Rattle.bus_outer.specs.Sinks.{WritesText};
 ghost use Rattle.bus_table.specs.Gives.{Fails};
 ghost use Rattle.bus_table.specs.Reading.{answer_of};
 ghost use Rattle.bus_table.specs.Stops.{stop_of};
 ghost use Rattle.bus_regime.specs.Verdicts.{is_accepted, verdict_of};
 ghost use Rattle.bus_advice.specs.Advices.{advices_of};
+ghost use Rattle.bus_cable_plan.specs.Answers.{most_borne_of};
 ghost use Rattle.bus_command.specs.declared.outcome.Outcome.TheVariants.{Answered, Done};
-ghost use Rattle.bus_explain.specs.Accepted.{IsAcceptedWith};
+ghost use Rattle.bus_explain.specs.Accepted.{IsAcceptedWith, accepted_text};
 ghost use Rattle.bus_explain.specs.Unread.{unread_text};
 ghost use Rattle.bus_tool.specs.inside.Acting.{DoesFirst, EndsExplaining};
 ghost use Rattle.bus_tool.specs.Due.{explain_answer, verdict_outcome};
-ghost use Rattle.bus_tool.specs.Explanations.{accepted_as, explanation, refused_as, table_explained};
+ghost use Rattle.bus_tool.specs.Explanations.{accepted_as, drifting_in, explanation, offsets_line, refused_as, table_explained};
 ghost use Rattle.bus_tool.specs.Forms.{Explain};
 
+use crate::beyond::write_beyond;
 use crate::refusal::{Outcome, ToolRefusal};
 use crate::tolerance::tolerance_of;
 use bus_advice::{Advice, advices, periodic_table};
+use bus_cable_plan::most_borne;
 use bus_command::{TEXT_LIMIT, after_writing, take_text};
 use bus_explain::{write_accepted, write_refused, write_unread, write_whole};
-use bus_outer::{Sink, Source};
+use bus_outer::{Sink, Source, WriteFault};
 use bus_regime::{TableVerdict, verdict};
 use bus_table::{Table, TableError, find_stop, read_table};
 use bus_text::Reason;
 use std::alloc::Global;
 
-/// Writes what is said of an accepted table with the numbers of its verdict, on which these are all advices.
+/// What is told of delays: the tolerance of a table, and the greatest that any offsets bear, where it is known.
+#[derive(Clone, Copy)]
+struct Bears {
+    tolerance: Option<u64>,
+    offsets: Option<u32>,
+}
+
+/// Writes what is said of an accepted table with the numbers of its verdict and what it bears, on which these are advices.
+fn write_told<K: Sink>(
+    table: &Table,
+    least: u64,
+    most: u64,
+    bears: Bears,
+    advices: &[Advice],
+    out: &mut K,
+) -> Result<(), WriteFault>
+    requires { IsAcceptedWith table.now least most }
+    ensures { WritesText K.held K.faults out.old out.new result (accepted_text table.now least most bears.tolerance advices.now
+        ++ (offsets_line bears.offsets ++ drifting_in table.now.mode table.now)) }
+{
+    write_accepted(table, least, most, bears.tolerance, advices, out)?;
+    write_beyond(table, bears.offsets, out)
+}
+
+/// Writes what is said of an accepted table with the numbers of its verdict, on which these are all advices, and of which any offsets bear
+/// this delay at most.
 fn explain_started<K: Sink>(
+    table: &Table,
+    least: u64,
+    most: u64,
+    offsets: Option<u32>,
+    advices: &[Advice],
+    out: &mut K,
+) -> Outcome
+    requires accepted { IsAcceptedWith table.now least most }
+    requires borne { offsets ≡ most_borne_of table.now }
+    requires all { advices.now ≡ advices_of table.now }
+    ensures { EndsExplaining ⟦<K as Sink>⟧ Done (accepted_as table.now least most) out.old out.new result }
+{
+    let tolerance = tolerance_of(table);
+    after_writing(
+        write_told(
+            table,
+            least,
+            most,
+            Bears { tolerance, offsets },
+            advices,
+            out,
+        ),
+        Outcome::Done,
+    )
+}
+
+/// Writes what is said of an accepted table with the numbers of its verdict, on which these are all advices.
+fn explain_borne<K: Sink>(
+    alloc: Global,
     table: &Table,
     least: u64,
     most: u64,
@@ -36,11 +94,10 @@ fn explain_started<K: Sink>(
     requires all { advices.now ≡ advices_of table.now }
     ensures { EndsExplaining ⟦<K as Sink>⟧ Done (accepted_as table.now least most) out.old out.new result }
 {
-    let tolerance = tolerance_of(table);
-    after_writing(
-        write_accepted(table, least, most, tolerance, advices, out),
-        Outcome::Done,
-    )
+    match most_borne(alloc, table) {
+        Ok(offsets) => explain_started(table, least, most, offsets, advices, out),
+        Err(_) => Outcome::NoMemory,
+    }
 }
 
 /// Writes what is said of an accepted table that has this verdict, with the numbers of that.
@@ -57,7 +114,7 @@ fn explain_accepted<K: Sink>(
     ensures { EndsExplaining ⟦<K as Sink>⟧ Done (accepted_as table.now least most) out.old out.new result }
 {
     match advices(alloc, table, verdict) {
-        Ok(advices) => explain_started(table, least, most, &advices, out),
+        Ok(advices) => explain_borne(alloc, table, least, most, &advices, out),
         Err(_) => Outcome::NoMemory,
     }
 }

@@ -3,11 +3,13 @@ ghost use Rattle.std.specs.Prelude.{◌≡◌, ◌≤◌, ◌<◌, ◌^◌, IfSo
 ghost use Rattle.bus_text.specs.Numbers.{decimal_value};
 ghost use Rattle.bus_tool.specs.Forms as forms;
 ghost use Rattle.bus_command.specs.Words.{words_of};
-ghost use Rattle.bus_tool.specs.Forms.{are_bounds, is_horizon, is_drill_number, is_within, messages_mode, table_mode, IsWithinLimits};
+ghost use Rattle.bus_tool.specs.Forms.{are_bounds, are_near_bounds, is_horizon, is_drill_number, is_within, messages_mode, most_near_delay, table_mode};
+ghost use Rattle.bus_tool.specs.Forms.{IsPlannable, IsWithinLimits};
 ghost use Rattle.bus_vectors.specs.Made.{most_number};
 ghost use Rattle.bus_strings.specs.Limits.{horizon_limit};
 
 use bus_bounds::{Bounds, MOST_CLOCKS, MOST_DELAY, MOST_JITTER};
+use bus_cable_plan::MOST_DELAY as MOST_PLAN_DELAY;
 use bus_command::{About, about_of};
 use bus_strings::limits::HORIZON_LIMIT;
 use bus_table::Mode;
@@ -15,6 +17,21 @@ use bus_text::plain_decimal;
 
 /// The greatest number of a drill.
 const MOST_NUMBER: u64 = 9999;
+
+/// The greatest delay between the monitor of a recording and a terminal, in bit times.
+const MOST_NEAR_DELAY: u64 = 9;
+
+/// The greatest jitter of a recording, in bit times.
+const MOST_NEAR_JITTER: u64 = 255;
+
+/// The delay that a plan is asked for.
+#[derive(Clone, Copy, Debug, PartialEq, Eq)]
+pub enum PlanDelay {
+    /// So many bit times: at most 128,000.
+    Bits(u32),
+    /// The greatest that any offsets bear.
+    Greatest,
+}
 
 /// A command on a table.
 #[derive(Clone, Copy, Debug, PartialEq, Eq)]
@@ -31,7 +48,13 @@ pub enum TableCommand {
     Witness,
     /// `plan T`: the periodic table in the file `T` with offsets chosen anew, or that no offsets are accepted.
     Plan,
-    /// `margins T D J P`: how much room the aperiodic table in the file `T` leaves where clocks aren't exact, and what order comes of it.
+    /// `plan T D`, `plan T best`: the periodic table in the file `T` with offsets chosen so that it bears a delay, or that no offsets do, or
+    /// that neither is known.
+    PlanFor {
+        /// D, or the greatest delay that any offsets bear.
+        delay: PlanDelay,
+    },
+    /// `margins T D J P`: how much room the table in the file `T` leaves where clocks aren't exact, and what order comes of it.
     Margins {
         /// D and J in nanoseconds, P in millionths, each within its limit.
         bounds: Bounds,
@@ -66,6 +89,11 @@ pub enum TraceCommand {
     Vote,
     /// `wave T R`: the wave of the trace in `R`, which has to be spaced for the table in `T`.
     Wave,
+    /// `diagnose T R D J P`: what is found in the trace in `R`, as a recording of a bus of the table in `T` within D, J and P.
+    Diagnose {
+        /// D and J in bit times, P in millionths, each within its limit.
+        bounds: Bounds,
+    },
 }
 
 /// What the words of a command line ask for, in groups by what they take.
@@ -89,7 +117,7 @@ pub enum Form {
     /// `explain T`: what the verdict on the table in the file `T` means, or why there is no valid table in it, and what to change.
     Explain,
     /// `explain T F`: what is wrong with the text in the file `F`, of messages, a cable or a trace, for the table in the file `T`.
-    Diagnose,
+    ExplainBeside,
     /// `facts T`: what `explain T` tells, for scripts, and more numbers, as one line of JSON.
     Facts,
     /// `cable T C N`: what the senders of the table in `T` do on the cable in `C` in the bit times before N, and what each terminal hears.
@@ -105,13 +133,13 @@ impl TableCommand {
         ensures { result ≡ table_mode self.now }
     {
         match self {
-            TableCommand::Plan => Some(Mode::Periodic),
-            TableCommand::Margins { .. } => Some(Mode::Aperiodic),
+            TableCommand::Plan | TableCommand::PlanFor { .. } => Some(Mode::Periodic),
             TableCommand::Check
             | TableCommand::Tolerance
             | TableCommand::Tidy
             | TableCommand::Report
-            | TableCommand::Witness => None,
+            | TableCommand::Witness
+            | TableCommand::Margins { .. } => None,
         }
     }
 }
@@ -176,6 +204,29 @@ fn bounds_of(delay: &[u8], jitter: &[u8], clocks: &[u8]) -> Option<Bounds>
     Bounds::new(delay, jitter, clocks)
 }
 
+/// The bounds of a recording that three words write; None where one of them is no plain decimal, or a number is past its limit.
+fn near_bounds_of(delay: &[u8], jitter: &[u8], clocks: &[u8]) -> Option<Bounds>
+    ensures value { result ≡ (if are_near_bounds delay.now jitter.now clocks.now then Some (forms.bounds_of delay.now jitter.now clocks.now) else None) }
+    ensures limit { IfSome result (λ bounds. bounds.delay ≤ most_near_delay) }
+{
+    let delay = number_of(delay, MOST_NEAR_DELAY)?;
+    let jitter = number_of(jitter, MOST_NEAR_JITTER)?;
+    let clocks = number_of(clocks, MOST_CLOCKS)?;
+    Bounds::new(delay, jitter, clocks)
+}
+
+/// The delay of a plan that a word asks for; None where it is neither `best` nor a plain decimal up to the limit.
+fn plan_delay_of(word: &str) -> Option<PlanDelay>
+    ensures value { result ≡ forms.plan_delay_of word.now }
+    ensures limit { IfSome result IsPlannable }
+{
+    match number_of(word.as_bytes(), u64::from(MOST_PLAN_DELAY)) {
+        Some(bits) => Some(PlanDelay::Bits(bits as u32)),
+        None if word == "best" => Some(PlanDelay::Greatest),
+        None => None,
+    }
+}
+
 /// The form of this word, where it is the only one.
 fn one_word(word: &str) -> Option<Form>
     ensures form { result ≡ forms.one_word word.now }
@@ -215,13 +266,17 @@ fn two_words(command: &str, second: &[u8]) -> Option<Form>
     }
 }
 
-/// The form of three words of which this is the first.
-fn three_words(command: &str) -> Option<Form>
-    ensures form { result ≡ forms.three_words command.now }
+/// The form of three words of which these are the first and the last.
+fn three_words(command: &str, third: &str) -> Option<Form>
+    ensures form { result ≡ forms.three_words command.now third.now }
     ensures limits { IfSome result IsWithinLimits }
 {
+    if command == "plan" {
+        let delay = plan_delay_of(third)?;
+        return Some(Form::OnTable(TableCommand::PlanFor { delay }));
+    }
     if command == "explain" {
-        Some(Form::Diagnose)
+        Some(Form::ExplainBeside)
     } else if command == "run" {
         Some(Form::OnMessages(MessagesCommand::Run))
     } else if command == "drop" {
@@ -271,6 +326,18 @@ fn five_words(command: &str, delay: &[u8], jitter: &[u8], clocks: &[u8]) -> Opti
     Some(Form::OnTable(TableCommand::Margins { bounds }))
 }
 
+/// The form of six words of which these are the first and the last three.
+fn six_words(command: &str, delay: &[u8], jitter: &[u8], clocks: &[u8]) -> Option<Form>
+    ensures form { result ≡ forms.six_words command.now delay.now jitter.now clocks.now }
+    ensures limits { IfSome result IsWithinLimits }
+{
+    if command != "diagnose" {
+        return None;
+    }
+    let bounds = near_bounds_of(delay, jitter, clocks)?;
+    Some(Form::OnTrace(TraceCommand::Diagnose { bounds }))
+}
+
 /// The form of these words; None where they are no form, or a number among them is past its limit.
 pub fn form_of(words: &[String]) -> Option<Form>
     ensures form { result ≡ forms.form_of (words_of words.now) }
@@ -278,13 +345,19 @@ pub fn form_of(words: &[String]) -> Option<Form>
 {
     match words.len() {
         2 => two_words(words[0].as_str(), words[1].as_bytes()),
-        3 => three_words(words[0].as_str()),
+        3 => three_words(words[0].as_str(), words[2].as_str()),
         4 => four_words(words[0].as_str(), words[3].as_bytes()),
         5 => five_words(
             words[0].as_str(),
             words[2].as_bytes(),
             words[3].as_bytes(),
             words[4].as_bytes(),
+        ),
+        6 => six_words(
+            words[0].as_str(),
+            words[3].as_bytes(),
+            words[4].as_bytes(),
+            words[5].as_bytes(),
         ),
         1 => one_word(words[0].as_str()),
         _ => None,

@@ -22,7 +22,7 @@ what each terminal receives, and audits recorded traces. What it says is proved.
                           messages, a cable or a trace
   bus629 tolerance T      tell how much delay an accepted table bears: with no more on the way, and
                           in aperiodic mode between power-ups, its order stands
-  bus629 margins T D J P  tell what order the aperiodic table in T keeps on real clocks, and with
+  bus629 margins T D J P  tell what order the table in T keeps on real clocks, and with
                           how much room: delays up to D and errors up to J nanoseconds, oscillators
                           off by up to P millionths
   bus629 tidy T           write the table in T as a text without comments, one space between fields
@@ -30,6 +30,9 @@ what each terminal receives, and audits recorded traces. What it says is proved.
                           try them with observe
   bus629 plan T           choose the offsets of the periodic table in T: the planned table, or that
                           the interval is too short
+  bus629 plan T D         choose them so that they bear delays up to D bit times: the planned table,
+                          or that none do, or that neither is known
+  bus629 plan T best      choose them for the greatest delay that any offsets bear
   bus629 report T         tell the verdict of the table in T and its figures, as JSON
   bus629 facts T          tell all that explain and tolerance tell of the text in T, and more, as
                           JSON
@@ -46,6 +49,9 @@ what each terminal receives, and audits recorded traces. What it says is proved.
   bus629 receive T R      what each terminal of the table receives of the trace in R
   bus629 audit T R        hold the trace in R to the table: does each sender start exactly where its
                           timers allow it?
+  bus629 diagnose T R D J P  tell which terminal of the recorded bus in R is at fault, by which timer
+                          and by how much: up to D bit times from the monitor, timers off by up to J
+                          bit times, oscillators by up to P millionths
   bus629 vote T R         what two of three channels agree on, in each round of the trace in R
   bus629 wave T R         the wave of the trace in R, half bit time for half bit time
   bus629 unwave T W       the trace whose wave is in W
@@ -59,7 +65,7 @@ text of the table, the table as a whole or its mode is refused, 4 where the mess
 trace or the wave are, 5 for a failed read, 6 for a failed write, 7 where memory is refused, 8 for a
 file past its limit, and 9 for a schedule past its limit. A line on standard error says why from 2
 on, and for a no of run and drop. What explain and facts find wrong with a text is their answer,
-and a no.
+and a no, and a fault that diagnose finds.
 
 docs/BUS.md has the rules of the bus, docs/FORMATS.md the texts, lines and statuses, docs/CLAIMS.md
 what is proved; examples/ has tables to try.

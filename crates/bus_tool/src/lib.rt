@@ -5,10 +5,14 @@
 //!
 //! The commands are in groups by what they take: a table (`on_table`), a table and messages (`on_messages`), a table and a trace
 //! (`on_trace`), a table and a wave (`on_wave`), a table and a cable (`on_cable`), a number (`drill`), a text that may be one of a table
-//! (`explain`) and another beside it (`diagnose`), or nothing (`itself`). `bus_command` has what each of them has in common with the commands of any program over such texts.
+//! (`explain`) and another beside it (`beside`), or nothing (`itself`). `bus_command` has what each of them has in common with the commands
+//! of any program over such texts.
 #![tactic(auto)]
 
 mod audit;
+mod beside;
+mod beyond;
+mod cable_plan;
 mod check;
 mod command;
 mod diagnose;

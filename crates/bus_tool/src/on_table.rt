@@ -1,8 +1,9 @@
 //! The commands on a table.
 ghost use Rattle.std.specs.Prelude.{◌≡◌};
 ghost use Rattle.bus_tool.specs.inside.Acting.{DoesFirst, EndsOnTable, IsOfMode};
-ghost use Rattle.bus_tool.specs.Forms.{OnTable, table_mode};
+ghost use Rattle.bus_tool.specs.Forms.{OnTable, table_mode, IsWithinDelay};
 
+use crate::cable_plan::plan_for;
 use crate::check::check;
 use crate::forms::TableCommand;
 use crate::inputs::take_table_for;
@@ -20,6 +21,7 @@ use std::alloc::Global;
 /// Answers a command to a table. All the memory of the command is taken before its first written byte.
 fn answer<K: Sink>(alloc: Global, command: &TableCommand, table: &Table, out: &mut K) -> Outcome
     requires mode { IsOfMode (table_mode command.now) table.now }
+    requires delay { IsWithinDelay command.now }
     ensures { EndsOnTable ⟦<K as Sink>⟧ command.now table.now out.old out.new result }
 {
     match command {
@@ -29,6 +31,7 @@ fn answer<K: Sink>(alloc: Global, command: &TableCommand, table: &Table, out: &m
         TableCommand::Report => report(alloc, table, out),
         TableCommand::Witness => witness(alloc, table, out),
         TableCommand::Plan => plan(alloc, table, out),
+        TableCommand::PlanFor { delay } => plan_for(alloc, table, *delay, out),
         TableCommand::Margins { bounds } => margins(table, *bounds, out),
     }
 }
@@ -40,6 +43,7 @@ pub fn on_table<S: Source, K: Sink>(
     first: &mut S,
     out: &mut K,
 ) -> Outcome
+    requires delay { IsWithinDelay command }
     ensures { DoesFirst ⟦<S as Source>⟧ ⟦<K as Sink>⟧ (OnTable command) first.old out.old first.new out.new result }
 {
     match take_table_for(alloc, command.mode(), first) {

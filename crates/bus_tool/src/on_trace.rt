@@ -1,10 +1,11 @@
 //! The commands on a table and a trace.
 ghost use Rattle.std.specs.Prelude.{◌≡◌};
 ghost use Rattle.bus_tool.specs.inside.Acting.{DoesBoth, EndsOnTrace};
-ghost use Rattle.bus_tool.specs.Forms.{OnTrace};
+ghost use Rattle.bus_tool.specs.Forms.{OnTrace, IsNear};
 ghost use Rattle.bus_trace.specs.Traces.{IsTrace};
 
 use crate::audit::audit;
+use crate::diagnose::diagnose;
 use crate::forms::TraceCommand;
 use crate::refusal::{Outcome, ToolRefusal};
 use crate::wave::wave;
@@ -25,6 +26,7 @@ fn answer<K: Sink>(
     out: &mut K,
 ) -> Outcome
     requires trace { IsTrace trace.now }
+    requires near { IsNear command }
     ensures { EndsOnTrace ⟦<K as Sink>⟧ command table.now trace.now out.old out.new result }
 {
     match command {
@@ -35,6 +37,7 @@ fn answer<K: Sink>(
         TraceCommand::Audit => audit(alloc, table, trace, out),
         TraceCommand::Vote => after_writing(write_votes(table, trace, out), Outcome::Done),
         TraceCommand::Wave => wave(table, trace, out),
+        TraceCommand::Diagnose { bounds } => diagnose(table, trace, bounds, out),
     }
 }
 
@@ -46,6 +49,7 @@ pub fn on_trace<S: Source, K: Sink>(
     second: &mut S,
     out: &mut K,
 ) -> Outcome
+    requires near { IsNear command }
     ensures { DoesBoth ⟦<S as Source>⟧ ⟦<K as Sink>⟧ (OnTrace command) first.old second.old out.old first.new second.new out.new result }
 {
     match take_traced::<ToolRefusal, S>(alloc, first, second) {

@@ -37,7 +37,7 @@ fn put_infeasible<K: Sink>(text: &mut TextBuffer, sink: &mut K, least: u64, ti: 
 }
 
 /// Writes that no offsets are accepted.
-fn write_infeasible<K: Sink>(least: u64, ti: u64, sink: &mut K) -> Result<(), WriteFault>
+pub(crate) fn write_infeasible<K: Sink>(least: u64, ti: u64, sink: &mut K) -> Result<(), WriteFault>
     ensures { WritesText K.held K.faults sink.old sink.new result (infeasible_line least ti) }
 {
     let mut text = TextBuffer::new();

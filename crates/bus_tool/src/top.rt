@@ -7,13 +7,16 @@ use crate::command::act;
 use bus_advice::laws::{advices_work, none_missing};
 use bus_audit::laws::{no_breach_is_right, one_answer};
 use bus_cable::laws::{borne_is_orderly, texts_read_as_their_cables};
+use bus_cable_plan::laws::answers_are_right;
 use bus_command::{Status, outcome_text};
 use bus_diagnosis::laws::{
     borne_cables_are_orderly, named_item_is_first, right_messages_run, whole_traces_are_traces,
 };
 use bus_exact::laws::any_start_settles_on_cable;
 use bus_explain::laws::{gaps_are_told, load_is_of_longest_cycle, spare_is_fall, spare_is_rise};
+use bus_findings::laws::faults_are_just;
 use bus_margins::laws::{any_settles, level_keeps_order};
+use bus_margins_periodic::laws::{leads_follow_one, turns_keep_turns};
 use bus_medium::laws::{one_cable_list, one_lawful_list};
 use bus_outer::{Sink, Source};
 use bus_plan::laws::{planned_is_accepted, short_is_refused};
@@ -21,6 +24,7 @@ use bus_reach::laws::{
     accepted_bear_zero, any_start_settles, borne_is_closed, data_are_in_time, limits_tell_bearing,
     periodic_bearing_is_exact, periodic_borne_is_closed, some_never_part, tolerance_is_exact,
 };
+use bus_recording::laws::amounts_are_true;
 use bus_schedule::laws::{
     accepted_is_closed, closed_is_orderly, even_hands_agree, gaps_are_left, verdicts_are_exact,
     witnesses_have_schedules,
@@ -59,6 +63,7 @@ pub fn tool<S: Source, K: Sink, E: Sink>(
     canonical_text_reads_as_its_table();
     planned_is_accepted();
     short_is_refused();
+    answers_are_right();
     fitting_items_give_hands();
     one_lawful_list();
     traces_read_back();
@@ -84,6 +89,10 @@ pub fn tool<S: Source, K: Sink, E: Sink>(
     some_never_part();
     any_settles();
     level_keeps_order();
+    turns_keep_turns();
+    leads_follow_one();
+    faults_are_just();
+    amounts_are_true();
     advices_work();
     none_missing();
     spare_is_rise();

@@ -70,7 +70,7 @@ pub(crate) fn run_on(
         source(rt, first.as_bytes())?,
         source(rt, second.as_bytes())?,
     );
-    run_over(rt, words, first, second, sink_of(rt, 4096)?)
+    run_over(rt, words, first, second, sink_of(rt, 8192)?)
 }
 
 /// Whether a command answers so, and writes this.

@@ -40,6 +40,10 @@ terminal  bit times       µs  bit times       µs  bit times       µs  bit tim
 The tolerance is 0 bit times (0 µs): from a settled start, where no terminal hears another later than that, with as many messages \
 for each, the senders start at their offsets in each cycle, and no terminal hears two messages overlap.
 With one bit time more, there are places on a straight cable with which they don't, where each sends its longest message twice.
+The greatest delay that any offsets bear at this interval is 635 bit times (317.5 µs): the word best behind plan and the file \
+chooses such offsets.
+Where oscillators are off by up to 50 millionths, nothing is promised of the senders' turns: the first starts may be too close. \
+Those of terminals 1 and 2 would have to be 1 bit time farther apart.
 ";
 
 const SAME_OFFSETS: &str =

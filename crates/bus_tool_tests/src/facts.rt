@@ -5,7 +5,8 @@ use std::test::Fail;
 
 const ACCEPTED: &str =
     "{\"accepted\":true,\"advices\":[],\"cycle\":{\"least\":1030,\"most\":1270},\"error\":null,\
-\"load\":{\"bits\":920,\"of\":1270,\"per_mille\":724},\"mode\":\"aperiodic\",\"senders\":[{\"at\":null,\
+\"load\":{\"bits\":920,\"of\":1270,\"per_mille\":724},\
+\"margins\":{\"clocks\":50,\"delay\":0,\"jitter\":0,\"level\":\"common\"},\"mode\":\"aperiodic\",\"senders\":[{\"at\":null,\
 \"gap\":320,\"longest\":100,\"number\":1,\"sends\":[{\"ext\":\"1\",\"label\":\"0A1\",\
 \"latency\":{\"at_tolerance\":1382,\"without_delays\":1370},\"least\":2,\"most\":4}],\"shortest\":60,\
 \"tg\":20,\"wait\":{\"at_tolerance\":1278,\"without_delays\":1270}},{\"at\":null,\"gap\":30,\"longest\":820,\
@@ -20,7 +21,8 @@ const ACCEPTED: &str =
 
 const PERIODIC: &str =
     "{\"accepted\":true,\"advices\":[],\"cycle\":{\"least\":2000,\"most\":2000},\"error\":null,\
-\"load\":{\"bits\":680,\"of\":2000,\"per_mille\":340},\"mode\":\"periodic\",\"senders\":[{\"at\":0,\"gap\":1290,\
+\"load\":{\"bits\":680,\"of\":2000,\"per_mille\":340},\
+\"margins\":{\"clocks\":50,\"delay\":0,\"jitter\":0,\"level\":\"none\"},\"mode\":\"periodic\",\"senders\":[{\"at\":0,\"gap\":1290,\
 \"longest\":60,\"number\":1,\"sends\":[{\"ext\":\"1\",\"label\":\"0A1\",\"latency\":{\"at_tolerance\":2060,\
 \"without_delays\":2060},\"least\":2,\"most\":2}],\"shortest\":60,\"tg\":20,\"wait\":{\"at_tolerance\":2000,\
 \"without_delays\":2000}},{\"at\":90,\"gap\":30,\"longest\":620,\"number\":2,\"sends\":[{\"ext\":\"1\",\
@@ -35,13 +37,13 @@ const PERIODIC: &str =
 
 const GAP_TWICE: &str =
     "{\"accepted\":false,\"advices\":[],\"cycle\":null,\"error\":{\"kind\":\"table\",\"reason\":\"GapTwice\",\
-\"terminal\":2},\"load\":null,\"mode\":null,\"senders\":[],\"sg\":null,\"spare\":null,\"start\":null,\
+\"terminal\":2},\"load\":null,\"margins\":null,\"mode\":null,\"senders\":[],\"sg\":null,\"spare\":null,\"start\":null,\
 \"ti\":null,\"tolerance\":null,\"verdict\":null}
 ";
 
 const OUT_OF_RANGE: &str =
     "{\"accepted\":false,\"advices\":[],\"cycle\":null,\"error\":{\"keywords\":[\"TI\"],\"kind\":\"text\",\"line\":3,\
-\"may_end\":false,\"reason\":\"Range\",\"spent\":null},\"load\":null,\"mode\":null,\"senders\":[],\"sg\":null,\
+\"may_end\":false,\"reason\":\"Range\",\"spent\":null},\"load\":null,\"margins\":null,\"mode\":null,\"senders\":[],\"sg\":null,\
 \"spare\":null,\"start\":null,\"ti\":null,\"tolerance\":null,\"verdict\":null}
 ";
 

@@ -14,7 +14,7 @@ use std::test::Fail;
 type Call<'a> = (&'a [&'a str], &'a str, &'a str);
 
 /// Calls of each command that read and write without a refusal.
-const CALLS: [Call<'static>; 21] = [
+const CALLS: [Call<'static>; 24] = [
     (&["check", "T"], TWO_SENDERS, ""),
     (&["tolerance", "T"], TWO_SENDERS, ""),
     (&["margins", "T", "500", "125", "100"], TWO_SENDERS, ""),
@@ -22,6 +22,8 @@ const CALLS: [Call<'static>; 21] = [
     (&["report", "T"], TWO_SENDERS, ""),
     (&["facts", "T"], TWO_SENDERS, ""),
     (&["plan", "T"], TWO_PERIODIC_SENDERS, ""),
+    (&["plan", "T", "4"], TWO_PERIODIC_SENDERS, ""),
+    (&["plan", "T", "best"], TWO_PERIODIC_SENDERS, ""),
     (&["drill", "0"], "", ""),
     (&["--version"], "", ""),
     (&["witness", "T"], LONG_GAP, ""),
@@ -33,6 +35,11 @@ const CALLS: [Call<'static>; 21] = [
     (&["cable", "T", "C", "150"], LONG_GAP, FOUR_APART),
     (&["receive", "T", "R"], LONG_GAP, ONE_EACH_SEEN),
     (&["audit", "T", "R"], LONG_GAP, ONE_EACH_SEEN),
+    (
+        &["diagnose", "T", "R", "0", "0", "0"],
+        LONG_GAP,
+        ONE_EACH_SEEN,
+    ),
     (&["vote", "T", "R"], LONG_GAP, ONE_EACH_SEEN),
     (&["wave", "T", "R"], LONG_GAP, ONE_EACH_SEEN),
     (&["unwave", "T", "W"], LONG_GAP, ONE_EACH_WAVE),

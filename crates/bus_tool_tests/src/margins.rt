@@ -16,6 +16,12 @@ const NEITHER: &str = "MARGINS aperiodic none - -\nROOM whole 1 - 145499\nROOM d
 ROOM turns - - -\nROOM opening 1 2 -1\nROOM waiting 2 1 129999\nROOM joining 1 2 7500\n\
 ROOM interval 1 - -310000\nROOM cycle 1 - 15000\nBEARS delay - jitter - clocks -\n";
 
+const TURNS: &str = "MARGINS periodic turns 1000000 1000000\nROOM hearing 1 - 7999\n\
+ROOM sync 2 - 345001\nROOM order 1 1 2 44999\nROOM begin 1 2 0\nBEARS delay 0 jitter 0 clocks 0\n";
+
+const UNKEPT: &str = "MARGINS periodic none - -\nROOM hearing 1 - 7997\n\
+ROOM sync 2 - 345017\nROOM order 1 1 2 44894\nROOM begin 1 2 -23\nBEARS delay - jitter - clocks -\n";
+
 fn margins(rt: &HostRuntime, table: &str, numbers: [&str; 3]) -> Result<Ran, Fail> {
     let [delay, jitter, clocks] = numbers;
     run_on(rt, &["margins", "T", delay, jitter, clocks], table, "")
@@ -95,8 +101,10 @@ fn numbers_of_margins(rt: HostRuntime) -> Result<(), Fail> {
 }
 
 #[test]
-fn margins_are_of_aperiodic_tables(rt: HostRuntime) -> Result<(), Fail> {
-    let ran = margins(&rt, TWO_PERIODIC_SENDERS, ["0", "0", "0"])?;
-    assert!(rt; is_refused(&ran, Status::TableRefused, "ERROR 3 table mode aperiodic\n"));
+fn margins_of_periodic_tables(rt: HostRuntime) -> Result<(), Fail> {
+    let exact = margins(&rt, TWO_PERIODIC_SENDERS, ["0", "0", "0"])?;
+    assert!(rt; writes(&exact, Status::Done, TURNS));
+    let off = margins(&rt, TWO_PERIODIC_SENDERS, ["0", "0", "50"])?;
+    assert!(rt; writes(&off, Status::Refused, UNKEPT));
     Ok(())
 }

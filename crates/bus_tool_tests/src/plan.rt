@@ -37,3 +37,30 @@ fn planned_tables_and_no_plan(rt: HostRuntime) -> Result<(), Fail> {
     );
     Ok(())
 }
+
+#[test]
+fn plans_for_a_cable(rt: HostRuntime) -> Result<(), Fail> {
+    let alloc = rt.alloc();
+    let second = TWO_PERIODIC_SENDERS.replace(alloc, "AT 90\n", "AT 875\n")?;
+    let best = TWO_PERIODIC_SENDERS.replace(alloc, "AT 90\n", "AT 725\n")?;
+    let rows: [(&str, &str, Status, &str); 4] = [
+        (TWO_PERIODIC_SENDERS, "4", Status::Done, second.as_str()),
+        (TWO_PERIODIC_SENDERS, "best", Status::Done, best.as_str()),
+        (GREAT_TERMINAL_GAPS, "1", Status::Done, GREAT_TERMINAL_GAPS),
+        (
+            GREAT_TERMINAL_GAPS,
+            "2",
+            Status::Refused,
+            "INFEASIBLE 1355 1354\n",
+        ),
+    ];
+    for (table, delay, status, out) in rows {
+        let ran = run_on(&rt, &["plan", "T", delay], table, "")?;
+        assert!(rt; writes(&ran, status, out));
+    }
+    for word in ["128001", "04", "Best", ""] {
+        let ran = run_on(&rt, &["plan", "T", word], TWO_PERIODIC_SENDERS, "")?;
+        assert!(rt; is_refused(&ran, Status::Usage, "ERROR 2 usage\n"));
+    }
+    Ok(())
+}

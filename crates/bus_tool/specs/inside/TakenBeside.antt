@@ -1,6 +1,6 @@
 -- What is taken of both texts of `explain`.
 use Rattle.std.specs.Prelude.{◌≡◌}
-use Rattle.bus_tool.specs.declared.diagnose.Texts.{Texts}
+use Rattle.bus_tool.specs.declared.beside.Texts.{Texts}
 use Rattle.bus_tool.specs.Diagnosing.{Beside}
 
 -- These were taken.

@@ -4,7 +4,7 @@ use Rattle.std.proofs.lemmas.Bool.{true≢false}
 use Rattle.bus_command.proofs.ActLaws.{acts_form}
 use Rattle.bus_command.proofs.DoLaws.{sourceless}
 use Rattle.bus_tool.specs.Acts.{tool_program}
-use Rattle.bus_tool.specs.Forms.{OnTable, OnMessages, OnTrace, Unwave, Drill, OnItself, Explain, Diagnose, Facts, Cable}
+use Rattle.bus_tool.specs.Forms.{OnTable, OnMessages, OnTrace, Unwave, Drill, OnItself, Explain, ExplainBeside, Facts, Cable}
 use Rattle.bus_tool.proofs.CauseLemmas.{due_has_cause}
 use Rattle.bus_tool.proofs.command.act.Goals as goal
 
@@ -106,8 +106,8 @@ returns-in-Some-Explain g c = acts_form tool_program (due_has_cause (record {
 })) _ c.explain.result Explain (ap Some (sym c.in-Some-Explain.field-0-is) ∙ c.in-Some-Explain.ensures.form) (c.explain.ensures _)
     (λ free. absurd (true≢false free))
 
-pub returns-in-Some-Diagnose : goal.returns-in-Some-Diagnose
-returns-in-Some-Diagnose g c = acts_form tool_program (due_has_cause (record {
+pub returns-in-Some-ExplainBeside : goal.returns-in-Some-ExplainBeside
+returns-in-Some-ExplainBeside g c = acts_form tool_program (due_has_cause (record {
   reads_table = c.readings_have_their_cause.ensures.found;
   refuses_table = c.readings_have_their_cause.ensures.refused;
   items_again = c.texts_read_as_their_items.ensures.again;
@@ -117,7 +117,7 @@ returns-in-Some-Diagnose g c = acts_form tool_program (due_has_cause (record {
 }) c.waves_tell_traces.ensures.back (record {
   again = c.texts_read_as_their_cables.ensures.again;
   found = c.texts_read_as_their_cables.ensures.found;
-})) _ c.diagnose.result Diagnose (ap Some (sym c.in-Some-Diagnose.field-0-is) ∙ c.in-Some-Diagnose.ensures.form) c.diagnose.ensures
+})) _ c.explain_both.result ExplainBeside (ap Some (sym c.in-Some-ExplainBeside.field-0-is) ∙ c.in-Some-ExplainBeside.ensures.form) c.explain_both.ensures
     (λ free. absurd (true≢false free))
 
 pub returns-in-Some-Facts : goal.returns-in-Some-Facts

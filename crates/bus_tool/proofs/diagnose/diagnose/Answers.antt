@@ -1,22 +1,29 @@
-use Rattle.std.proofs.Common.{sym}
-use Rattle.bus_command.proofs.DoLaws.{stopped, ended}
-use Rattle.bus_command.specs.Due.{text_due}
-use Rattle.bus_command.specs.Readers.{entire, two_sources}
-use Rattle.bus_command.specs.Stages.{refusal_in}
-use Rattle.bus_tool.specs.Diagnosing.{IsToldBeside, beside_answer, beside_due}
-use Rattle.bus_tool.specs.Forms.{entire_beside}
-use Rattle.bus_tool.specs.inside.TakenBeside.{AreTaken}
-use Rattle.bus_tool.proofs.DiagnoseLemmas.{beside_late, texts_agree}
+use Rattle.std.specs.Prelude.{◌≡◌, Ok, Err}
+use Rattle.std.proofs.Common.{refl, ap, ◌∙◌}
+use Rattle.bus_command.specs.Acts.{written}
+use Rattle.bus_command.specs.Readers.{Trace, entire, two_sources}
+use Rattle.bus_command.proofs.DoLaws.{answered}
+use Rattle.bus_findings.proofs.TraceLemmas.{written_with, unwritten_with}
+use Rattle.bus_findings.specs.Terminals.{has_fault}
+use Rattle.bus_findings.specs.Texts.{findings_text}
+use Rattle.bus_tool.specs.Due.{findings_outcome}
+use Rattle.bus_tool.proofs.AnswerLaws.{written_findings}
 use Rattle.bus_tool.proofs.diagnose.diagnose.Goals as goal
 
 pub returns-in-Ok : goal.returns-in-Ok
 returns-in-Ok g c =
-    ended AreTaken beside_answer IsToldBeside (two_sources entire entire_beside) (λ text. refusal_in (text_due 1 text)) beside_due _ _ _ _ c.in-Ok.texts _ _
-    c.diagnose_texts.result
-    (texts_agree c.in-Ok.texts c.deref.result.now c.deref-in-Ok.result.now (sym c.deref.ensures.value) (sym c.deref-in-Ok.ensures.value))
-    c.in-Ok.ensures.prepares c.diagnose_texts.ensures
+    let fault = has_fault c.args.bounds c.args.table.now c.args.trace.now in
+    let text = findings_text c.args.bounds c.args.table.now c.args.trace.now in
+    answered (two_sources entire Trace) (findings_outcome fault) (λ t. t ≡ text) g.K.Sink c.args.out.now c.write_findings.new.sink text (Ok tt)
+    c.after_writing.result (written_findings fault) refl
+    (written_with g.K.Sink.held g.K.Sink.faults c.args.out.now c.write_findings.new.sink c.in-Ok.fault tt text c.in-Ok.ensures.text)
+    (c.after_writing.ensures ∙ ap (written (Ok tt)) (c.findings_outcome.ensures ∙ ap findings_outcome c.in-Ok.ensures.fault))
 
 pub returns-in-Err : goal.returns-in-Err
 returns-in-Err g c =
-    stopped AreTaken beside_answer IsToldBeside (two_sources entire entire_beside) (λ text. refusal_in (text_due 1 text)) beside_due _ _ _ c.in-Err.outcome
-    beside_late c.in-Err.ensures.prepares
+    let fault = has_fault c.args.bounds c.args.table.now c.args.trace.now in
+    let text = findings_text c.args.bounds c.args.table.now c.args.trace.now in
+    answered (two_sources entire Trace) (findings_outcome fault) (λ t. t ≡ text) g.K.Sink c.args.out.now c.write_findings.new.sink text
+    (Err c.in-Err.failed) c.after_writing-in-Err.result (written_findings fault) refl
+    (unwritten_with g.K.Sink.held g.K.Sink.faults c.args.out.now c.write_findings.new.sink c.in-Err.failed text c.in-Err.ensures.text)
+    c.after_writing-in-Err.ensures

@@ -4,11 +4,11 @@ use Rattle.bus_command.specs.Readers.{entire, one_source}
 use Rattle.bus_command.proofs.DoLaws.{roomless}
 use Rattle.bus_tool.proofs.explain.explain_accepted.Goals as goal
 
-pub explain_started-requires-clause-all : goal.explain_started-requires-clause-all
-explain_started-requires-clause-all g c = c.deref.ensures.value ∙ c.in-Ok.ensures
+pub explain_borne-requires-clause-all : goal.explain_borne-requires-clause-all
+explain_borne-requires-clause-all g c = c.deref.ensures.value ∙ c.in-Ok.ensures
 
 pub returns-in-Ok : goal.returns-in-Ok
-returns-in-Ok g c = c.explain_started.ensures
+returns-in-Ok g c = c.explain_borne.ensures
 
 pub returns-in-Err : goal.returns-in-Err
 returns-in-Err g c = roomless (one_source entire) Done _ _ (omega arith)

@@ -1,5 +1,7 @@
 use Rattle.bus_tool.proofs.KeptPromises.{keeps}
+use Rattle.bus_tool.proofs.BorneLemmas.{TurnsLaws}
 use Rattle.bus_tool.proofs.GroupClaims.{ReadLaws}
+use Rattle.bus_tool.proofs.MarginsClaim.{MarginsLaws}
 use Rattle.bus_tool.proofs.top.tool.Goals as goal
 
 pub returns-clause-keeps : goal.returns-clause-keeps
@@ -9,12 +11,24 @@ returns-clause-keeps g c =
       items_again = c.texts_read_as_their_items.ensures.again;
       trace_back = c.traces_read_back.ensures.back;
     } in
+    let drift : TurnsLaws = record { turns = c.turns_keep_turns.ensures.turns; leads = c.leads_follow_one.ensures.lead } in
+    let levels : MarginsLaws = record {
+      any = c.any_settles.ensures.settles;
+      common = c.level_keeps_order.ensures.order;
+      apart = c.level_keeps_order.ensures.apart;
+      turns = drift;
+    } in
     rw c.status.ensures (keeps (record {
       plan = record {
         texts = texts;
         text_stands = c.canonical_text_reads_as_its_table.ensures.stands;
         accepted = c.planned_is_accepted.ensures;
         refused = c.short_is_refused.ensures;
+      };
+      cable_plan = record {
+        text_stands = c.canonical_text_reads_as_its_table.ensures.stands;
+        plans = c.answers_are_right.ensures.plan;
+        best = c.answers_are_right.ensures.best;
       };
       wave = record {
         texts = texts;
@@ -64,11 +78,18 @@ returns-clause-keeps g c =
         limits = c.limits_tell_bearing.ensures;
         in_time = c.data_are_in_time.ensures.aperiodic;
         periodic_in_time = c.data_are_in_time.ensures.periodic;
+        margins = levels;
       };
-      margins = record {
-        any = c.any_settles.ensures.settles;
-        common = c.level_keeps_order.ensures.order;
-        apart = c.level_keeps_order.ensures.apart;
+      margins = levels;
+      findings = record {
+        unblamed = c.faults_are_just.ensures.unblamed;
+        amounts = c.faults_are_just.ensures.amounts;
+        meaning = record {
+          interval = c.amounts_are_true.ensures.interval;
+          terminal_gap = c.amounts_are_true.ensures.gap;
+          sync_gap = c.amounts_are_true.ensures.sync;
+          late = c.amounts_are_true.ensures.late;
+        };
       };
       explained = record {
         works = c.advices_work.ensures;
@@ -83,6 +104,8 @@ returns-clause-keeps g c =
         runs = c.accepted_is_closed.ensures;
         early = c.verdicts_are_exact.ensures.early;
         stops = c.what_may_stand_goes_on.ensures;
+        drift = drift;
+        offsets = c.answers_are_right.ensures.most;
         reach = record {
           closed = c.borne_is_closed.ensures;
           offsets = c.periodic_borne_is_closed.ensures;

@@ -1,5 +1,5 @@
 use Rattle.bus_tool.proofs.DiagnoseLemmas.{first_none, second_none, both_taken}
-use Rattle.bus_tool.proofs.diagnose.take_texts.Goals as goal
+use Rattle.bus_tool.proofs.beside.take_texts.Goals as goal
 
 pub returns-in_err-table-clause-prepares : goal.returns-in_err-table-clause-prepares
 returns-in_err-table-clause-prepares g c =

@@ -1,7 +1,7 @@
 use Rattle.std.specs.Prelude.{Ok}
 use Rattle.bus_tool.specs.Diagnosing.{beside}
 use Rattle.bus_tool.proofs.DiagnoseLemmas.{given_ends}
-use Rattle.bus_tool.proofs.diagnose.diagnose_texts.Goals as goal
+use Rattle.bus_tool.proofs.beside.diagnose_texts.Goals as goal
 
 pub explain_beside-requires : goal.explain_beside-requires
 explain_beside-requires g c = c.in-Err.ensures.exact

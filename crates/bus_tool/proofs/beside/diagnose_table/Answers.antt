@@ -1,7 +1,7 @@
 use Rattle.std.proofs.Common.{◌≡◌, false, sym, ap, ◌∙◌}
 use Rattle.bus_regime.specs.Verdicts.{verdict_of, is_accepted}
 use Rattle.bus_tool.proofs.DiagnoseLemmas.{accepted_ends, refused_ends}
-use Rattle.bus_tool.proofs.diagnose.diagnose_table.Goals as goal
+use Rattle.bus_tool.proofs.beside.diagnose_table.Goals as goal
 
 pub diagnose_text-requires-clause-accepted : goal.diagnose_text-requires-clause-accepted
 diagnose_text-requires-clause-accepted g c =

@@ -5,7 +5,7 @@ use Rattle.bus_diagnosis.specs.Diagnoses.{diagnosis_of}
 use Rattle.bus_tool.specs.Diagnosing.{diagnosis_outcome}
 use Rattle.bus_tool.specs.Forms.{entire_beside}
 use Rattle.bus_tool.proofs.DiagnoseLemmas.{found_ends, found_late}
-use Rattle.bus_tool.proofs.diagnose.diagnose_text.Goals as goal
+use Rattle.bus_tool.proofs.beside.diagnose_text.Goals as goal
 
 pub returns-in-Ok : goal.returns-in-Ok
 returns-in-Ok g c =

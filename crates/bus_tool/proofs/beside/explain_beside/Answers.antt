@@ -12,7 +12,7 @@ use Rattle.bus_table.specs.declared.error.TableError.TheVariants.{Text, Whole}
 use Rattle.bus_tool.specs.Diagnosing.{beside, beside_answer}
 use Rattle.bus_tool.specs.Forms.{entire_beside}
 use Rattle.bus_tool.proofs.DiagnoseLemmas.{beside_late, unread_ends}
-use Rattle.bus_tool.proofs.diagnose.explain_beside.Goals as goal
+use Rattle.bus_tool.proofs.beside.explain_beside.Goals as goal
 
 pub returns-in-Text : goal.returns-in-Text
 returns-in-Text g c = λ text.

@@ -1,0 +1,93 @@
+-- What is claimed of `plan` with a delay.
+use Rattle.std.specs.Prelude.{◌≡◌, ◌≢◌, ◌⊎◌, ℕ, ◌≤◌, true, ◌&&◌, ◌==◌, nat_le, IsTrue, List, [], ◌∷◌, Option, Some, None, codes, length}
+use Rattle.std.proofs.Common.{arith, refl, sym, ap, ◌∙◌, subst, cond, inl, inr}
+use Rattle.std.proofs.lemmas.Bool.{cases_Bool}
+use Rattle.std.proofs.lemmas.Bool.Decides.{nat_tests}
+use Rattle.std.specs.Option.{option_map}
+use Rattle.std.specs.Str.{bytes_eq}
+use Rattle.bus_text.specs.Numbers.{IsDecimal, decimal_value}
+use Rattle.bus_table.specs.Canonical.{table_text}
+use Rattle.bus_table.specs.Ranges.{most_ti}
+use Rattle.bus_table.specs.Tables.{Table}
+use Rattle.bus_table.specs.Text.{IsTableText}
+use Rattle.bus_table.specs.Valid.{is_valid}
+use Rattle.bus_cable_plan.specs.declared.planning.CablePlan.{CablePlan}
+use Rattle.bus_cable_plan.specs.declared.planning.CablePlan.TheVariants.{Planned, Infeasible, Undecided}
+use Rattle.bus_cable_plan.specs.Answers.{plan_for_of, plan_best_of}
+use Rattle.bus_cable_plan.specs.Meaning.{IsPlanOf, IsBest, Means, MeansBest, PlansAreRight, BestIsRight}
+use Rattle.bus_command.specs.Outside.{Call}
+use Rattle.bus_tool.specs.Acts.{Acts}
+use Rattle.bus_tool.specs.CablePlanClaims.{IsPlanForOf, IsPlanBestOf, StandsWherePlanned, GivesPlanFor, GivesPlanBest}
+use Rattle.bus_tool.specs.Due.{cable_plan_outcome}
+use Rattle.bus_tool.specs.Forms.{OnTable, PlanFor, PlanDelay, Bits, Greatest, form_of, is_within, plan_for}
+use Rattle.bus_tool.specs.PlanTexts.{cable_plan_text}
+use Rattle.bus_tool.specs.Refusals.{Outcome, status_of}
+use Rattle.bus_tool.proofs.GroupClaims.{ReadLaws, table_answers}
+
+-- the laws by which it holds
+pub record CablePlanLaws : Type 0 where
+  pub text_stands : (table : Table) → IsTrue (is_valid table) → IsTableText table (table_text table)
+  pub plans : PlansAreRight
+  pub best : BestIsRight
+
+-- ---- the words
+within_is : (limit n : ℕ) (word : List ℕ) → IsDecimal word n → n ≤ limit → is_within limit word ≡ true
+within_is limit n word d low =
+    let tested : nat_le (decimal_value word) limit ≡ true = grind (arith, nat_tests, d.value) in
+    ap (λ b. b && nat_le (decimal_value word) limit) d.plain ∙ tested
+
+for_form : (d : ℕ) (table : Table) (call : Call) → IsPlanForOf d table call → form_of call.words ≡ Some (OnTable (PlanFor (Bits d)))
+for_form d table call h =
+    ap form_of h.form
+    ∙ ap (λ b. option_map plan_for (cond b (Some (Bits (decimal_value h.word))) (cond (bytes_eq h.word (codes "best")) (Some Greatest) None)))
+    (within_is most_ti d h.word h.delay_is h.within)
+    ∙ ap (λ n. Some (plan_for (Bits n))) h.delay_is.value
+
+best_form : (table : Table) (call : Call) → IsPlanBestOf table call → form_of call.words ≡ Some (OnTable (PlanFor Greatest))
+best_form table call h = ap form_of h.form
+
+-- ---- the text of a planned table stands for it
+plan_stands : CablePlanLaws → (d : ℕ) (table made : Table) → IsPlanOf d table made → IsTableText made (table_text made)
+plan_stands laws d table made p = laws.text_stands made (subst (λ t. IsTrue (is_valid t)) (sym p.made_is) p.borne.valid)
+
+for_stands : CablePlanLaws → (d : ℕ) (table : Table) (answer : CablePlan) → Means d table answer → StandsWherePlanned answer
+for_stands laws d table (Planned made) p = plan_stands laws d table made p
+for_stands laws d table (Infeasible least ti) p = tt
+for_stands laws d table (Undecided least ti) p = tt
+
+one_or_more : (n : ℕ) → (n ≡ 1) ⊎ (n ≢ 1)
+one_or_more n = elim (cases_Bool (n == 1)) [
+  | inl h ↦ inl (let e : n ≡ 1 = grind (arith, nat_tests, h) in e)
+  | inr h ↦ inr (let e : n ≢ 1 = grind (arith, nat_tests, h) in e)
+]
+
+best_stands : CablePlanLaws → (table : Table) (answer : CablePlan) → MeansBest table answer → StandsWherePlanned answer
+best_stands laws table (Planned made) p = elim (one_or_more (length table.senders)) [
+  | inl one ↦ plan_stands laws 0 table made (p.alone one 0)
+  | inr several ↦ let w = p.several several in plan_stands laws w.0 table made w.1
+]
+best_stands laws table (Infeasible least ti) p = tt
+best_stands laws table (Undecided least ti) p = tt
+
+-- ---- the claims
+pub plan_for_claim : ReadLaws → CablePlanLaws → (call : Call) (outcome : Outcome) (d : ℕ) (table : Table) → Acts call outcome
+    → IsPlanForOf d table call → GivesPlanFor d table call (status_of outcome)
+plan_for_claim texts laws call outcome d table acts h =
+    let means = laws.plans d table h.table_told.valid h.periodic in
+    record {
+      gives = table_answers texts (PlanFor (Bits d)) call outcome table (λ text. text ≡ cable_plan_text (plan_for_of d table))
+          (for_form d table call h) h.periodic (λ text is. is) acts h.table_told h.undisturbed;
+      stands = for_stands laws d table (plan_for_of d table) means;
+      means = means;
+    }
+
+pub plan_best_claim : ReadLaws → CablePlanLaws → (call : Call) (outcome : Outcome) (table : Table) → Acts call outcome
+    → IsPlanBestOf table call → GivesPlanBest table call (status_of outcome)
+plan_best_claim texts laws call outcome table acts h =
+    let means = laws.best table h.table_told.valid h.periodic in
+    record {
+      gives = table_answers texts (PlanFor Greatest) call outcome table (λ text. text ≡ cable_plan_text (plan_best_of table))
+          (best_form table call h) h.periodic (λ text is. is) acts h.table_told h.undisturbed;
+      stands = best_stands laws table (plan_best_of table) means;
+      means = means;
+    }

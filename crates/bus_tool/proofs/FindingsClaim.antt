@@ -1,0 +1,58 @@
+-- What is claimed of what is found in a recording.
+use Rattle.std.specs.Prelude.{◌≡◌, ℕ, ◌≤◌, true, ◌&&◌, List, [], ◌∷◌, codes, Option, Some, None}
+use Rattle.std.proofs.Common.{ap, ◌∙◌, cond}
+use Rattle.bus_text.specs.Numbers.{IsDecimal, decimal_value}
+use Rattle.bus_bounds.specs.Bounds.{Bounds, most_clocks}
+use Rattle.bus_table.specs.Tables.{Table}
+use Rattle.bus_trace.specs.Traces.{Recording}
+use Rattle.bus_findings.specs.Laws.{KeepersAreUnblamed, AmountsAreTold}
+use Rattle.bus_findings.specs.Terminals.{has_fault}
+use Rattle.bus_command.specs.Outside.{Call}
+use Rattle.bus_tool.specs.Acts.{Acts}
+use Rattle.bus_tool.specs.FindingsClaims.{AreTrue, IsDiagnoseOf, GivesFindings}
+use Rattle.bus_tool.specs.Forms.{Form, OnTrace, Diagnose, form_of, is_within, are_near_bounds, bounds_of, most_near_delay, most_near_jitter}
+use Rattle.bus_tool.specs.Refusals.{Outcome, status_of}
+use Rattle.bus_tool.proofs.AnswerLaws.{written_findings}
+use Rattle.bus_tool.proofs.GroupClaims.{ReadLaws, trace_answers}
+use Rattle.bus_tool.proofs.MarginsClaim.{within_is, bounds_with}
+
+-- the laws by which it holds
+pub record FindingsLaws : Type 0 where
+  pub unblamed : KeepersAreUnblamed
+  pub amounts : AmountsAreTold
+  pub meaning : AreTrue
+
+-- ---- the words
+bounds_are : (bounds : Bounds) (table : Table) (trace : Recording) (call : Call) (h : IsDiagnoseOf bounds table trace call)
+    → are_near_bounds h.delay h.jitter h.clocks ≡ true
+bounds_are bounds table trace call h =
+    ap (λ b. b && (is_within most_near_jitter h.jitter && is_within most_clocks h.clocks)) (within_is most_near_delay bounds.delay h.delay h.delay_is h.within.delay)
+    ∙ ap (λ b. b && is_within most_clocks h.clocks) (within_is most_near_jitter bounds.jitter h.jitter h.jitter_is h.within.jitter)
+    ∙ within_is most_clocks bounds.clocks h.clocks h.clocks_is h.within.clocks
+
+same_bounds : (bounds : Bounds) (table : Table) (trace : Recording) (call : Call) (h : IsDiagnoseOf bounds table trace call)
+    → bounds_of h.delay h.jitter h.clocks ≡ bounds
+same_bounds bounds table trace call h =
+    ap (λ n. bounds_with n (decimal_value h.jitter) (decimal_value h.clocks)) h.delay_is.value
+    ∙ ap (λ n. bounds_with bounds.delay n (decimal_value h.clocks)) h.jitter_is.value
+    ∙ ap (bounds_with bounds.delay bounds.jitter) h.clocks_is.value
+
+diagnose_form : (bounds : Bounds) (table : Table) (trace : Recording) (call : Call) → IsDiagnoseOf bounds table trace call
+    → form_of call.words ≡ Some (OnTrace (Diagnose bounds))
+diagnose_form bounds table trace call h =
+    let some : Bounds → Option Form = λ b. Some (OnTrace (Diagnose b)) in
+    ap form_of h.traced.form.form
+    ∙ ap (λ b. cond b (some (bounds_of h.delay h.jitter h.clocks)) None) (bounds_are bounds table trace call h)
+    ∙ ap some (same_bounds bounds table trace call h)
+
+-- ---- the claim
+pub findings_claim : ReadLaws → FindingsLaws → (call : Call) (outcome : Outcome) (bounds : Bounds) (table : Table) (trace : Recording) → Acts call outcome
+    → IsDiagnoseOf bounds table trace call → GivesFindings bounds table trace call (status_of outcome)
+findings_claim texts laws call outcome bounds table trace acts h =
+    record {
+      gives = trace_answers texts (Diagnose bounds) (codes "diagnose") (h.delay ∷ h.jitter ∷ h.clocks ∷ []) call outcome table trace
+          (diagnose_form bounds table trace call h) (written_findings (has_fault bounds table trace)) acts h.traced;
+      unblamed = λ sender x keeps of. laws.unblamed bounds table trace sender x h.traced.trace_told.stands.text.trace keeps of;
+      amounts = λ sender x o of last. laws.amounts bounds table trace sender x o of last;
+      meaning = laws.meaning;
+    }

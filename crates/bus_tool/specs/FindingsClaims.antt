@@ -1,0 +1,62 @@
+-- What is claimed of `diagnose`: what it writes of a recording, that it is no false alarm, and that its amounts are true.
+use Rattle.std.specs.Prelude.{◌≡◌, ℕ, ◌≤◌, List, [], ◌∷◌, codes, Some}
+use Rattle.bus_text.specs.Numbers.{IsDecimal}
+use Rattle.bus_strings.specs.Messages.{Entry}
+use Rattle.bus_bounds.specs.Bounds.{Bounds, most_clocks}
+use Rattle.bus_table.specs.Tables.{Sender, Table}
+use Rattle.bus_trace.specs.Traces.{Recording}
+use Rattle.bus_recording.specs.Amounts.{IntervalIsTrue, GapIsTrue, SyncIsTrue, LateIsTrue}
+use Rattle.bus_recording.specs.Seen.{Seen}
+use Rattle.bus_findings.specs.Judging.{judgement_of, last_start}
+use Rattle.bus_findings.specs.Laws.{Keeps, IsOfSender, IsUnblamed, AreAmounts}
+use Rattle.bus_findings.specs.Recorded.{seen, recorded, monitor_of, timers_of}
+use Rattle.bus_findings.specs.Terminals.{has_fault}
+use Rattle.bus_findings.specs.Texts.{findings_text}
+use Rattle.bus_command.specs.Claims.{Answers, IsOfTraced}
+use Rattle.bus_command.specs.Outside.{Call}
+use Rattle.bus_command.specs.declared.status.Status.{Status}
+use Rattle.bus_tool.specs.Due.{findings_outcome}
+use Rattle.bus_tool.specs.Forms.{most_near_delay, most_near_jitter}
+use Rattle.bus_tool.specs.Refusals.{status_of}
+
+-- Bounds of a recording within their limits: the delay between the monitor and a terminal and the jitter in bit times.
+pub record AreNear (bounds : Bounds) : Type 0 where
+  pub delay : bounds.delay ≤ most_near_delay
+  pub jitter : bounds.jitter ≤ most_near_jitter
+  pub clocks : bounds.clocks ≤ most_clocks
+
+-- A call of `diagnose T R D J P`, where D, J and P are the plain decimals of bounds within their limits, on texts of a valid table and of a
+-- trace, in which nothing outside fails.
+pub record IsDiagnoseOf (bounds : Bounds) (table : Table) (trace : Recording) (call : Call) : Type 0 where
+  pub delay : List ℕ
+  pub jitter : List ℕ
+  pub clocks : List ℕ
+  pub delay_is : IsDecimal delay bounds.delay
+  pub jitter_is : IsDecimal jitter bounds.jitter
+  pub clocks_is : IsDecimal clocks bounds.clocks
+  pub within : AreNear bounds
+  pub traced : IsOfTraced (codes "diagnose") (delay ∷ jitter ∷ clocks ∷ []) table trace call
+
+-- What an amount means of the terminal that it is told of, whatever this one and the others did, on any bus: how much too short its interval
+-- was, how much of the quiet was missing that it has to hear, and how long it had been due.
+pub record AreTrue : Type 0 where
+  pub interval : IntervalIsTrue
+  pub terminal_gap : GapIsTrue
+  pub sync_gap : SyncIsTrue
+  pub late : LateIsTrue
+
+-- What is found in the trace, as a recording of a bus of the table within the bounds, is written, and the status is Refused where a fault is
+-- among it, else Done.
+--   unblamed  no false alarm: a sender that keeps its bounds, and hears the bus as it is recorded, is told no fault by a timer, whatever the
+--             other terminals do, and whatever came before the recording
+--   amounts   what is told of a start behind another of its sender are the amounts of bus_recording, the greatest of which it says so
+--   meaning   and what these mean
+pub record GivesFindings (bounds : Bounds) (table : Table) (trace : Recording) (call : Call) (status : Status) : Type 0 where
+  pub gives : Answers (status_of (findings_outcome (has_fault bounds table trace))) (λ text. text ≡ findings_text bounds table trace) call status
+  pub unblamed : (sender : Sender) (x : Entry) → Keeps bounds table trace sender → IsOfSender table trace sender x
+      → IsUnblamed (judgement_of bounds table trace.list x)
+  pub amounts : (sender : Sender) (x : Entry) (o : Seen) → IsOfSender table trace sender x
+      → last_start (recorded bounds trace.list) x.terminal x.moment ≡ Some o
+      → AreAmounts (timers_of bounds table sender) (monitor_of bounds table) (recorded bounds trace.list) o (seen bounds x)
+      (judgement_of bounds table trace.list x)
+  pub meaning : AreTrue

@@ -1,0 +1,66 @@
+//! What `explain` tells of an accepted table beyond itself: with other offsets, and where clocks are off.
+ghost use Rattle.std.specs.Prelude.{◌≡◌, ◌++◌};
+ghost use Rattle.bus_outer.specs.Sinks.{WritesText};
+ghost use Rattle.bus_outer.specs.Texts.{Adds};
+ghost use Rattle.bus_tool.specs.Explanations.{drifting_in, most_line, offsets_line};
+
+use bus_explain::put_time;
+use bus_margins_periodic::write_drifting;
+use bus_outer::{Sink, TextBuffer, WriteFault};
+use bus_table::{Mode, Table};
+
+/// Writes what is said of an accepted table of this mode where clocks are off.
+fn write_drift<K: Sink>(mode: Mode, table: &Table, out: &mut K) -> Result<(), WriteFault>
+    requires { mode ≡ table.now.mode }
+    ensures { WritesText K.held K.faults out.old out.new result (drifting_in mode table.now) }
+{
+    match mode {
+        Mode::Aperiodic => Ok(()),
+        Mode::Periodic => write_drifting(table, out),
+    }
+}
+
+/// Puts this greatest delay that any offsets bear.
+fn put_most<K: Sink>(text: &mut TextBuffer, sink: &mut K, most: u32)
+    ensures { Adds K.held K.faults sink.old sink.new text.old text.new (most_line most) }
+{
+    text.put(
+        sink,
+        b"The greatest delay that any offsets bear at this interval is ",
+    );
+    put_time(text, sink, most as u128);
+    text.put(
+        sink,
+        b": the word best behind plan and the file chooses such offsets.\n",
+    );
+}
+
+/// Puts it where it is known.
+fn put_offsets<K: Sink>(text: &mut TextBuffer, sink: &mut K, most: Option<u32>)
+    ensures { Adds K.held K.faults sink.old sink.new text.old text.new (offsets_line most) }
+{
+    if let Some(most) = most {
+        put_most(text, sink, most);
+    }
+}
+
+/// Writes it.
+fn write_offsets<K: Sink>(most: Option<u32>, out: &mut K) -> Result<(), WriteFault>
+    ensures { WritesText K.held K.faults out.old out.new result (offsets_line most) }
+{
+    let mut text = TextBuffer::new();
+    put_offsets(&mut text, out, most);
+    text.finish(out)
+}
+
+/// Writes both, where this is the greatest delay.
+pub(crate) fn write_beyond<K: Sink>(
+    table: &Table,
+    most: Option<u32>,
+    out: &mut K,
+) -> Result<(), WriteFault>
+    ensures { WritesText K.held K.faults out.old out.new result (offsets_line most ++ drifting_in table.now.mode table.now) }
+{
+    write_offsets(most, out)?;
+    write_drift(table.mode(), table, out)
+}
