@@ -1,5 +1,5 @@
 -- What is found at a transmission of a trace.
-use Rattle.std.specs.Prelude.{ℕ, ◌-◌, Bool, true, false, not, ◌&&◌, ◌||◌, ◌==◌, nat_lt, nat_le, List, [], ◌∷◌, filter, count_by}
+use Rattle.std.specs.Prelude.{ℕ, ◌-◌, Bool, true, false, not, ◌&&◌, ◌||◌, ◌==◌, nat_lt, nat_le, List, [], ◌∷◌, filter, count_by, map}
 use Rattle.std.specs.Prelude.{Option, Some, None, option_map, if◌then◌else◌}
 use Rattle.std.specs.Option.{option_map_or, option_or}
 use Rattle.bus_strings.specs.Marking.{greatest_end}
@@ -78,3 +78,7 @@ judgement_by bounds table list x (Some sender) =
 -- What is found at transmission x of a list, within bounds.
 unfoldable pub judgement_of : Bounds → Table → List Entry → Entry → Judgement
 judgement_of bounds table list x = judgement_by bounds table list x (sender_of table.senders x.terminal)
+
+-- What is found at each transmission of a list.
+abbrev pub judgements : Bounds → Table → List Entry → List Judgement
+judgements bounds table list = map (judgement_of bounds table list) list

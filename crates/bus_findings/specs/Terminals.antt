@@ -29,6 +29,13 @@ abbrev pub fault_count : Judgement → ℕ
 fault_count judgement =
     once judgement.stranger + early_count judgement + once (is_some judgement.late) + once judgement.misfit
 
+-- Whether a fault is found at it, and how many are found at several.
+abbrev pub is_faulty : Judgement → Bool
+is_faulty judgement = nat_lt 0 (fault_count judgement)
+
+abbrev pub fault_sum : List Judgement → ℕ
+fault_sum judgements = sum_by fault_count judgements
+
 -- The transmissions of a terminal.
 abbrev pub own : List Entry → ℕ → List Entry
 own list number = filter (λ x. x.terminal == number) list

@@ -17,6 +17,11 @@ use Rattle.bus_findings.specs.Silences.{silence_of}
 use Rattle.bus_findings.specs.declared.totals.Totals.{Totals}
 use Rattle.bus_findings.specs.Terminals.{own, apart, is_passed, faults_among, totals_among, first_count, silent_count, garbled_count}
 
+-- The bounds within which a bus is said to be.
+abbrev pub within_words : Bounds → List ℕ
+within_words bounds =
+    codes "WITHIN " ++ decimal bounds.delay ++ 32 ∷ [] ++ decimal bounds.jitter ++ 32 ∷ [] ++ decimal bounds.clocks
+
 -- ---- the lines of a transmission
 
 abbrev pub timer_word : Timer → List ℕ
@@ -33,9 +38,11 @@ abbrev pub plain_line : ℕ → ℕ → List ℕ → List ℕ
 plain_line moment terminal kind = place_words (codes "FAULT") moment terminal ++ kind ++ 10 ∷ []
 
 -- Too early by a timer.
+abbrev pub early_words : Timer → ℕ → List ℕ
+early_words timer amount = codes "Early " ++ timer_word timer ++ 32 ∷ [] ++ decimal amount
+
 abbrev pub early_line : ℕ → ℕ → Timer → ℕ → List ℕ
-early_line moment terminal timer amount =
-    place_words (codes "FAULT") moment terminal ++ codes "Early " ++ timer_word timer ++ 32 ∷ [] ++ decimal amount ++ 10 ∷ []
+early_line moment terminal timer amount = place_words (codes "FAULT") moment terminal ++ early_words timer amount ++ 10 ∷ []
 
 -- Late: a turn passed where others began in between.
 abbrev pub late_word : Bool → List ℕ
@@ -46,10 +53,12 @@ abbrev pub passed_words : Bool → ℕ → List ℕ
 passed_words true passed = 32 ∷ [] ++ decimal passed
 passed_words false passed = []
 
+abbrev pub late_words : Late → List ℕ
+late_words late =
+    late_word (is_passed late) ++ timer_word late.timer ++ 32 ∷ [] ++ decimal late.amount ++ passed_words (is_passed late) late.passed
+
 abbrev pub late_line : ℕ → ℕ → Late → List ℕ
-late_line moment terminal late =
-    place_words (codes "FAULT") moment terminal ++ late_word (is_passed late) ++ timer_word late.timer ++ 32 ∷ [] ++ decimal late.amount
-    ++ passed_words (is_passed late) late.passed ++ 10 ∷ []
+late_line moment terminal late = place_words (codes "FAULT") moment terminal ++ late_words late ++ 10 ∷ []
 
 -- It begins while an earlier one lasts.
 abbrev pub overlap_line : ℕ → ℕ → ℕ → List ℕ
@@ -79,6 +88,16 @@ judgement_lines moment terminal judgement =
     ++ late_lines moment terminal judgement.late
     ++ where_so judgement.misfit (plain_line moment terminal (codes "Misfit"))
     ++ overlap_lines moment terminal judgement.overlap
+
+-- The faults among them in one line, each behind a blank.
+unfoldable pub fault_words : Judgement → List ℕ
+fault_words judgement =
+    where_so judgement.stranger (codes " Stranger")
+    ++ where_so (nat_lt 0 judgement.interval) (32 ∷ early_words Interval judgement.interval)
+    ++ where_so (nat_lt 0 judgement.sync_gap) (32 ∷ early_words SyncGap judgement.sync_gap)
+    ++ where_so (nat_lt 0 judgement.terminal_gap) (32 ∷ early_words TerminalGap judgement.terminal_gap)
+    ++ option_map_or (λ late. 32 ∷ late_words late) judgement.late []
+    ++ where_so judgement.misfit (codes " Misfit")
 
 abbrev pub entry_lines : Bounds → Table → List Entry → Entry → List ℕ
 entry_lines bounds table list x = judgement_lines x.moment x.terminal (judgement_of bounds table list x)
@@ -117,8 +136,7 @@ abbrev pub unjudged_line : ℕ → ℕ → List ℕ
 unjudged_line settled firsts = codes "UNJUDGED " ++ decimal settled ++ 32 ∷ [] ++ decimal firsts ++ 10 ∷ []
 
 abbrev pub head_lines : Bounds → List ℕ
-head_lines bounds =
-    codes "FINDINGS 1\nWITHIN " ++ decimal bounds.delay ++ 32 ∷ [] ++ decimal bounds.jitter ++ 32 ∷ [] ++ decimal bounds.clocks ++ 10 ∷ []
+head_lines bounds = codes "FINDINGS 1\n" ++ within_words bounds ++ 10 ∷ []
 
 -- The numbers of findings of each kind.
 abbrev pub fault_totals : Totals → List ℕ

@@ -2,7 +2,7 @@
 //!
 //! [`write_findings`] goes over a trace once, as a recording by a monitor on a bus within [`Bounds`](bus_bounds::Bounds), here in bit
 //! times, and writes what can't have been: starts that are too early or too late by a timer, whatever the delays were and whatever the
-//! other terminals did. [`Judgement`] is what is found at one transmission.
+//! other terminals did. [`Judgement`] is what is found at one transmission, and [`judgements`] lists it of each, for those who draw them.
 //!
 //! The definitions are in `specs/`: `Recorded` (a trace and a table in the words of `bus_recording`), `Lacks` and `Dues` (by how much a
 //! start is too early, and when a terminal was due), `Judging`, `Silences` and `Terminals` (what is found), and `Texts`. [`laws`] ties
@@ -10,8 +10,10 @@
 #![tactic(auto)]
 
 mod dues;
+mod fault_words;
 mod heard;
 mod judgement;
+mod judgements;
 mod judging;
 pub mod laws;
 mod lengths;
@@ -20,7 +22,11 @@ mod rooms;
 mod silences;
 mod totals;
 mod watch;
+mod within;
 mod writing;
 
+pub use fault_words::{is_faulty, put_fault_words};
 pub use judgement::{Due, Judgement, Late, Timer};
+pub use judgements::{fault_sum, judgements};
+pub use within::put_within;
 pub use writing::write_findings;

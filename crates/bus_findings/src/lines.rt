@@ -47,6 +47,21 @@ fn put_plain<K: Sink>(text: &mut TextBuffer, sink: &mut K, moment: u64, terminal
 }
 
 /// Puts that a start is too early by a timer.
+pub(crate) fn put_early_words<K: Sink>(
+    text: &mut TextBuffer,
+    sink: &mut K,
+    timer: Timer,
+    amount: u64,
+)
+    ensures { Adds K.held K.faults sink.old sink.new text.old text.new (texts.early_words timer amount) }
+{
+    text.put(sink, b"Early ");
+    put_timer(text, sink, timer);
+    text.put_byte(sink, b' ');
+    text.put_number(sink, amount);
+}
+
+/// Puts the line of that.
 fn put_early<K: Sink>(
     text: &mut TextBuffer,
     sink: &mut K,
@@ -58,10 +73,7 @@ fn put_early<K: Sink>(
     ensures { Adds K.held K.faults sink.old sink.new text.old text.new (texts.early_line moment terminal timer amount) }
 {
     put_place(text, sink, b"FAULT", moment, terminal);
-    text.put(sink, b"Early ");
-    put_timer(text, sink, timer);
-    text.put_byte(sink, b' ');
-    text.put_number(sink, amount);
+    put_early_words(text, sink, timer, amount);
     text.put_byte(sink, b'\n');
 }
 
@@ -89,15 +101,22 @@ fn put_passed<K: Sink>(text: &mut TextBuffer, sink: &mut K, passed: u64)
 }
 
 /// Puts that a start is too late.
-fn put_late<K: Sink>(text: &mut TextBuffer, sink: &mut K, moment: u64, terminal: u8, late: Late)
-    ensures { Adds K.held K.faults sink.old sink.new text.old text.new (texts.late_line moment terminal late) }
+pub(crate) fn put_late_words<K: Sink>(text: &mut TextBuffer, sink: &mut K, late: Late)
+    ensures { Adds K.held K.faults sink.old sink.new text.old text.new (texts.late_words late) }
 {
-    put_place(text, sink, b"FAULT", moment, terminal);
     put_late_word(text, sink, late.passed);
     put_timer(text, sink, late.timer);
     text.put_byte(sink, b' ');
     text.put_number(sink, late.amount);
     put_passed(text, sink, late.passed);
+}
+
+/// Puts the line of that.
+fn put_late<K: Sink>(text: &mut TextBuffer, sink: &mut K, moment: u64, terminal: u8, late: Late)
+    ensures { Adds K.held K.faults sink.old sink.new text.old text.new (texts.late_line moment terminal late) }
+{
+    put_place(text, sink, b"FAULT", moment, terminal);
+    put_late_words(text, sink, late);
     text.put_byte(sink, b'\n');
 }
 
@@ -246,40 +265,6 @@ pub(crate) fn put_silence<K: Sink>(
         Some(due) => put_silent(text, sink, horizon, terminal, due),
         None => text.put(sink, b""),
     }
-}
-
-/// Puts the delay of bounds.
-fn put_delay<K: Sink>(text: &mut TextBuffer, sink: &mut K, bounds: Bounds)
-    ensures { Adds K.held K.faults sink.old sink.new text.old text.new (decimal bounds.delay) }
-{
-    text.put_number(sink, bounds.delay())
-}
-
-/// Puts their jitter.
-fn put_jitter<K: Sink>(text: &mut TextBuffer, sink: &mut K, bounds: Bounds)
-    ensures { Adds K.held K.faults sink.old sink.new text.old text.new (decimal bounds.jitter) }
-{
-    text.put_number(sink, bounds.jitter())
-}
-
-/// Puts by how much their clocks are off.
-fn put_clocks<K: Sink>(text: &mut TextBuffer, sink: &mut K, bounds: Bounds)
-    ensures { Adds K.held K.faults sink.old sink.new text.old text.new (decimal bounds.clocks) }
-{
-    text.put_number(sink, bounds.clocks())
-}
-
-/// Puts the first two lines.
-pub(crate) fn put_head<K: Sink>(text: &mut TextBuffer, sink: &mut K, bounds: Bounds)
-    ensures { Adds K.held K.faults sink.old sink.new text.old text.new (texts.head_lines bounds) }
-{
-    text.put(sink, b"FINDINGS 1\nWITHIN ");
-    put_delay(text, sink, bounds);
-    text.put_byte(sink, b' ');
-    put_jitter(text, sink, bounds);
-    text.put_byte(sink, b' ');
-    put_clocks(text, sink, bounds);
-    text.put_byte(sink, b'\n');
 }
 
 /// Puts a number, if there is one.

@@ -1,13 +1,11 @@
 -- What stands around each picture: its head with the title and the style, the words above the plot, and its end.
 use Rattle.std.specs.Prelude.{ℕ, ◌/◌, List, ◌++◌, codes, decimal}
-use Rattle.bus_audit.specs.declared.answer.AuditAnswer.{AuditAnswer}
-use Rattle.bus_audit.specs.Lines.{answer_words}
 use Rattle.bus_regime.specs.declared.table_verdict.TableVerdict.{TableVerdict}
 use Rattle.bus_regime.specs.Lines.{verdict_words}
 use Rattle.bus_table.specs.Tables.{Table}
 use Rattle.bus_shapes.specs.Classes.{Answer, Background, Note, rules_text}
 use Rattle.bus_shapes.specs.Classes as classes
-use Rattle.bus_shapes.specs.Headings.{answer_heading, verdict_class, verdict_heading}
+use Rattle.bus_shapes.specs.Headings.{Told, told_heading, told_words, verdict_class, verdict_heading}
 use Rattle.bus_shapes.specs.Sayings.{counted, table_words}
 use Rattle.bus_shapes.specs.Shapes.{Area, box_text, words_text}
 pub use Rattle.bus_shapes.specs.declared.counts.Counts.{Counts}
@@ -45,9 +43,9 @@ size_text height =
     codes "<svg xmlns=\"http://www.w3.org/2000/svg\" role=\"img\" width=\"1040\" height=\"" ++ decimal (height / pixel)
     ++ codes "\" style=\"width:100%;height:auto\" viewBox=\"0 0 10400 " ++ decimal height ++ codes "\">\n"
 
--- The title: the words of the verdict and of the audit.
+-- The title: the words of the verdict, and of what is told of the trace.
 abbrev pub title_text : List ℕ → List ℕ → List ℕ
-title_text verdict answer = codes "<title>" ++ verdict ++ codes "; " ++ answer ++ codes "</title>\n"
+title_text verdict told = codes "<title>" ++ verdict ++ codes "; " ++ told ++ codes "</title>\n"
 
 -- ---- the words above the plot
 -- What is shown of a trace: its moments, how many transmissions that is, and how many of these are garbled.
@@ -60,12 +58,12 @@ counts_words counts =
 abbrev pub background : ℕ → Area
 background height = record { left = 0; top = 0; width = picture_width; height = height }
 
--- The headings of the verdict and of the audit, a line each. Of the longest, a breach in the longest trace, the last letter ends 1780 units
+-- The headings of the verdict and of what is told of the trace, a line each. Of the longest, a breach in the longest trace, the last letter ends 1780 units
 -- before the right margin, where a picture may put a few words of its own.
-abbrev pub heads_text : TableVerdict → AuditAnswer → List ℕ
-heads_text verdict answer =
+abbrev pub heads_text : TableVerdict → Told → List ℕ
+heads_text verdict told =
     words_text (verdict_class verdict) left_margin head_line (verdict_heading verdict)
-    ++ words_text Answer left_margin answer_line (answer_heading answer)
+    ++ words_text Answer left_margin answer_line (told_heading told)
 
 -- The words of the table, and the counts. They have room for 151 letters, and with counts of ten digits are 141 at most.
 abbrev pub facts_text : Table → Counts → List ℕ
@@ -74,10 +72,10 @@ facts_text table counts =
     ++ words_text classes.Counts right_margin facts_line (counts_words counts)
 
 -- All that stands before the plot of a picture of this height.
-abbrev pub frame_text : ℕ → TableVerdict → AuditAnswer → Table → Counts → List ℕ
-frame_text height verdict answer table counts =
-    size_text height ++ title_text (verdict_words verdict) (answer_words answer) ++ style_text ++ box_text Background (background height)
-    ++ heads_text verdict answer ++ facts_text table counts
+abbrev pub frame_text : ℕ → TableVerdict → Told → Table → Counts → List ℕ
+frame_text height verdict told table counts =
+    size_text height ++ title_text (verdict_words verdict) (told_words told) ++ style_text ++ box_text Background (background height)
+    ++ heads_text verdict told ++ facts_text table counts
 
 -- The end of a picture.
 abbrev pub tail_text : List ℕ

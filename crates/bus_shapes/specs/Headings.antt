@@ -1,4 +1,4 @@
--- The heading of a picture: what the verdict on the table and the audit of the trace come to, in words. Times are in bit times, and those
+-- The heading of a picture: what the verdict on the table comes to, and what is told of the trace, in words. Times are in bit times, and those
 -- of a cycle and of a breach in microseconds too.
 use Rattle.std.specs.Prelude.{ℕ, List, ◌++◌, codes}
 use Rattle.std.specs.Fmt.{decimal, signed_decimal}
@@ -11,8 +11,15 @@ use Rattle.bus_regime.specs.declared.table_verdict.TableVerdict.{TableVerdict}
 use Rattle.bus_regime.specs.declared.table_verdict.TableVerdict.TheVariants.{Accept, ShortCycle, SmallGap, NoSync}
 use Rattle.bus_table.specs.declared.mode.Mode.{Mode}
 use Rattle.bus_table.specs.declared.mode.Mode.TheVariants.{Aperiodic, Periodic}
+use Rattle.bus_audit.specs.Lines.{answer_words}
+use Rattle.bus_bounds.specs.Bounds.{Bounds}
+use Rattle.bus_findings.specs.declared.judgement.Judgement.{Judgement}
+use Rattle.bus_findings.specs.Terminals.{fault_sum}
+use Rattle.bus_findings.specs.Texts.{within_words}
 use Rattle.bus_shapes.specs.Classes.{Class, Verdict, Refusal}
 use Rattle.bus_shapes.specs.Sayings.{counted}
+pub use Rattle.bus_shapes.specs.declared.told.Told.{Told}
+pub use Rattle.bus_shapes.specs.declared.told.Told.TheVariants.{Audit, Findings}
 
 -- ---- the verdict
 -- An acceptance: the shortest and the longest cycle, which in periodic mode are one.
@@ -57,3 +64,18 @@ answer_heading (Lawful collided) = codes "LAWFUL, " ++ counted collided (codes "
 answer_heading (Breach moment terminal kind) =
     codes "BREACH at " ++ decimal moment ++ codes " (" ++ microseconds moment ++ microseconds_unit ++ codes "): terminal "
     ++ decimal terminal ++ breach_words kind
+
+-- ---- what is told of the trace
+-- As a recording of a bus within bounds: these, and how many faults are found.
+abbrev pub findings_heading : Bounds → List Judgement → List ℕ
+findings_heading bounds judgements = within_words bounds ++ codes ": " ++ counted (fault_sum judgements) (codes "fault")
+
+-- What an audit found, or that.
+abbrev pub told_heading : Told → List ℕ
+told_heading (Audit answer) = answer_heading answer
+told_heading (Findings bounds judgements) = findings_heading bounds judgements.items
+
+-- The same in a title, where an audit's is its line.
+abbrev pub told_words : Told → List ℕ
+told_words (Audit answer) = answer_words answer
+told_words (Findings bounds judgements) = findings_heading bounds judgements.items

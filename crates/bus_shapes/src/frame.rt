@@ -4,19 +4,19 @@ ghost use Rattle.bus_outer.specs.Texts.{Adds};
 ghost use Rattle.bus_regime.specs.Lines.{verdict_words};
 ghost use Rattle.bus_shapes.specs.Frames.{frame_text};
 ghost use Rattle.bus_shapes.specs.Frames as definition;
-ghost use Rattle.bus_audit.specs.Lines.{answer_words};
+ghost use Rattle.bus_shapes.specs.Headings.{told_words};
 ghost use Rattle.bus_shapes.specs.Sayings.{counted, ending, summary_words, table_words};
 ghost use Rattle.bus_shapes.specs.Shapes.{words_text};
 
 use crate::area::Area;
 use crate::class::{Class, put_rules};
 use crate::counts::Counts;
-use crate::heading::{put_answer_heading, put_verdict_heading, verdict_class};
+use crate::heading::{put_told, put_told_heading, put_verdict_heading, verdict_class};
 use crate::measures::{
     ANSWER_LINE, FACTS_LINE, HEAD_LINE, LEFT_MARGIN, PICTURE_WIDTH, PIXEL, RIGHT_MARGIN,
 };
 use crate::shapes::{begin_words, end_words, put_box};
-use bus_audit::{AuditAnswer, put_answer};
+use crate::told::Told;
 use bus_outer::{Sink, TextBuffer};
 use bus_regime::{TableVerdict, put_verdict};
 use bus_table::{Mode, Table, put_mode};
@@ -106,19 +106,14 @@ fn put_size<K: Sink>(text: &mut TextBuffer, sink: &mut K, height: u64)
 }
 
 /// The title.
-fn put_title<K: Sink>(
-    text: &mut TextBuffer,
-    sink: &mut K,
-    verdict: &TableVerdict,
-    answer: &AuditAnswer,
-)
+fn put_title<K: Sink>(text: &mut TextBuffer, sink: &mut K, verdict: &TableVerdict, told: &Told)
     ensures { Adds K.held K.faults sink.old sink.new text.old text.new
-        (definition.title_text (verdict_words verdict.now) (answer_words answer.now)) }
+        (definition.title_text (verdict_words verdict.now) (told_words told.now)) }
 {
     text.put(sink, b"<title>");
     put_verdict(text, sink, verdict);
     text.put(sink, b"; ");
-    put_answer(text, sink, answer);
+    put_told(text, sink, told);
     text.put(sink, b"</title>\n");
 }
 
@@ -194,21 +189,16 @@ fn put_counts<K: Sink>(text: &mut TextBuffer, sink: &mut K, counts: &Counts)
     text.put(sink, b" garbled");
 }
 
-/// The words of the verdict and of the audit.
-fn put_heads<K: Sink>(
-    text: &mut TextBuffer,
-    sink: &mut K,
-    verdict: &TableVerdict,
-    answer: &AuditAnswer,
-)
+/// The words of the verdict, and of what is told of the trace.
+fn put_heads<K: Sink>(text: &mut TextBuffer, sink: &mut K, verdict: &TableVerdict, told: &Told)
     ensures { Adds K.held K.faults sink.old sink.new text.old text.new
-        (definition.heads_text verdict.now answer.now) }
+        (definition.heads_text verdict.now told.now) }
 {
     begin_words(text, sink, verdict_class(verdict), LEFT_MARGIN, HEAD_LINE);
     put_verdict_heading(text, sink, verdict);
     end_words(text, sink);
     begin_words(text, sink, Class::Answer, LEFT_MARGIN, ANSWER_LINE);
-    put_answer_heading(text, sink, answer);
+    put_told_heading(text, sink, told);
     end_words(text, sink);
 }
 
@@ -225,21 +215,21 @@ fn put_facts<K: Sink>(text: &mut TextBuffer, sink: &mut K, table: &Table, counts
 }
 
 /// Puts all that stands before the plot of a picture of this height, in units of a tenth of a pixel: its head, whose title has the words
-/// of the verdict and of the audit, its background, the headings of both, the words of the table, and the counts.
+/// of the verdict and of what is told of the trace, its background, the headings of both, the words of the table, and the counts.
 pub fn put_frame<K: Sink>(
     text: &mut TextBuffer,
     sink: &mut K,
     height: u64,
     verdict: &TableVerdict,
-    answer: &AuditAnswer,
+    told: &Told,
     table: &Table,
     counts: &Counts,
 )
     ensures { Adds K.held K.faults sink.old sink.new text.old text.new
-        (frame_text height verdict.now answer.now table.now counts.now) }
+        (frame_text height verdict.now told.now table.now counts.now) }
 {
     put_size(text, sink, height);
-    put_title(text, sink, verdict, answer);
+    put_title(text, sink, verdict, told);
     put_style(text, sink);
     let area = Area {
         left: 0,
@@ -248,7 +238,7 @@ pub fn put_frame<K: Sink>(
         height,
     };
     put_box(text, sink, Class::Background, area);
-    put_heads(text, sink, verdict, answer);
+    put_heads(text, sink, verdict, told);
     put_facts(text, sink, table, counts);
 }
 

@@ -8,7 +8,10 @@ ghost use Rattle.bus_shapes.specs.Headings as definition;
 
 use crate::class::Class;
 use crate::frame::put_counted;
-use bus_audit::{AuditAnswer, BreachKind};
+use crate::told::Told;
+use bus_audit::{AuditAnswer, BreachKind, put_answer};
+use bus_bounds::Bounds;
+use bus_findings::{Judgement, fault_sum, put_within};
 use bus_outer::{Sink, TextBuffer};
 use bus_regime::TableVerdict;
 use bus_strings::{put_microseconds, put_microseconds_unit};
@@ -166,7 +169,7 @@ fn put_breach<K: Sink>(
 }
 
 /// Puts what an audit found.
-pub(crate) fn put_answer_heading<K: Sink>(text: &mut TextBuffer, sink: &mut K, answer: &AuditAnswer)
+fn put_answer_heading<K: Sink>(text: &mut TextBuffer, sink: &mut K, answer: &AuditAnswer)
     ensures { Adds K.held K.faults sink.old sink.new text.old text.new (definition.answer_heading answer.now) }
 {
     match *answer {
@@ -176,5 +179,39 @@ pub(crate) fn put_answer_heading<K: Sink>(text: &mut TextBuffer, sink: &mut K, a
             terminal,
             kind,
         } => put_breach(text, sink, moment, terminal, kind),
+    }
+}
+
+/// Puts bounds, and how many faults are found within them.
+fn put_findings<K: Sink>(
+    text: &mut TextBuffer,
+    sink: &mut K,
+    bounds: Bounds,
+    judgements: &[Judgement],
+)
+    ensures { Adds K.held K.faults sink.old sink.new text.old text.new (definition.findings_heading bounds judgements.now) }
+{
+    put_within(text, sink, bounds);
+    text.put(sink, b": ");
+    put_counted(text, sink, fault_sum(judgements), b"fault");
+}
+
+/// Puts what is told of a trace.
+pub(crate) fn put_told_heading<K: Sink>(text: &mut TextBuffer, sink: &mut K, told: &Told)
+    ensures { Adds K.held K.faults sink.old sink.new text.old text.new (definition.told_heading told.now) }
+{
+    match told {
+        Told::Audit(answer) => put_answer_heading(text, sink, answer),
+        Told::Findings { bounds, judgements } => put_findings(text, sink, *bounds, judgements),
+    }
+}
+
+/// Puts it as a title does.
+pub(crate) fn put_told<K: Sink>(text: &mut TextBuffer, sink: &mut K, told: &Told)
+    ensures { Adds K.held K.faults sink.old sink.new text.old text.new (definition.told_words told.now) }
+{
+    match told {
+        Told::Audit(answer) => put_answer(text, sink, answer),
+        Told::Findings { bounds, judgements } => put_findings(text, sink, *bounds, judgements),
     }
 }

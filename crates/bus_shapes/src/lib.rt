@@ -2,7 +2,7 @@
 //!
 //! - [`Class`] says what an element stands for, and so how it looks; [`put_box`], [`put_words`] and their like put elements into a text.
 //! - [`Window`] is the stretch of a trace that is shown, and [`Scale`] says where moments are drawn.
-//! - [`put_frame`] and [`put_tail`] put what stands around a picture, [`put_axis`] an axis.
+//! - [`put_frame`] and [`put_tail`] put what stands around a picture, [`put_axis`] an axis. [`Told`] is what is told of the trace there.
 //! - [`Sents`] goes over a list and tells of each transmission what a picture says of it, a [`Sent`]; [`put_sent`] puts its words.
 //! - [`laws`] has what follows of the definitions of places, marks and what is told of a list, [`measures`] where words stand.
 //!
@@ -23,6 +23,7 @@ mod scale;
 mod sent;
 mod sents;
 mod shapes;
+mod told;
 mod window;
 
 pub use area::Area;
@@ -34,4 +35,5 @@ pub use scale::Scale;
 pub use sent::{Sent, put_garbled, put_sent};
 pub use sents::{Sents, TERMINALS};
 pub use shapes::{begin_titled, begin_words, end_titled, end_words, put_box, put_words};
+pub use told::Told;
 pub use window::Window;
