@@ -99,6 +99,11 @@ fault_words judgement =
     ++ option_map_or (λ late. 32 ∷ late_words late) judgement.late []
     ++ where_so judgement.misfit (codes " Misfit")
 
+-- The words of a mark at a transmission: where it is, and its faults.
+abbrev pub fault_title : ℕ → ℕ → Judgement → List ℕ
+fault_title moment terminal judgement =
+    codes "FAULT " ++ decimal moment ++ 32 ∷ [] ++ decimal terminal ++ fault_words judgement
+
 abbrev pub entry_lines : Bounds → Table → List Entry → Entry → List ℕ
 entry_lines bounds table list x = judgement_lines x.moment x.terminal (judgement_of bounds table list x)
 

@@ -64,3 +64,20 @@ pub fn put_fault_words<K: Sink>(text: &mut TextBuffer, sink: &mut K, found: &Jud
     put_late(text, sink, found.late);
     put_where(text, sink, found.misfit, b" Misfit");
 }
+
+/// Puts the words of a mark at a transmission: its moment and its terminal, and the faults that are found at it.
+pub fn put_fault_title<K: Sink>(
+    text: &mut TextBuffer,
+    sink: &mut K,
+    moment: u64,
+    terminal: u8,
+    found: &Judgement,
+)
+    ensures { Adds K.held K.faults sink.old sink.new text.old text.new (texts.fault_title moment terminal found.now) }
+{
+    text.put(sink, b"FAULT ");
+    text.put_number(sink, moment);
+    text.put_byte(sink, b' ');
+    text.put_number(sink, terminal);
+    put_fault_words(text, sink, found);
+}

@@ -25,7 +25,7 @@ mod watch;
 mod within;
 mod writing;
 
-pub use fault_words::{is_faulty, put_fault_words};
+pub use fault_words::{is_faulty, put_fault_title, put_fault_words};
 pub use judgement::{Due, Judgement, Late, Timer};
 pub use listing::{fault_sum, judgements};
 pub use within::put_within;

@@ -5,7 +5,7 @@ use Rattle.std.specs.List.{flat_map}
 pub use Rattle.bus_shapes.specs.declared.class.Class.{Class}
 pub use Rattle.bus_shapes.specs.declared.class.Class.TheVariants.{Background, Band, Unobserved, Grid}
 pub use Rattle.bus_shapes.specs.declared.class.Class.TheVariants.{Tick, Span, Message, Garbled, Wordstring}
-pub use Rattle.bus_shapes.specs.declared.class.Class.TheVariants.{Other, Label, Noise, Edge, Overlap, Gap, Interval, Mark, Breach}
+pub use Rattle.bus_shapes.specs.declared.class.Class.TheVariants.{Other, Label, Noise, Edge, Overlap, Gap, Interval, Mark, Breach, Fault}
 pub use Rattle.bus_shapes.specs.declared.class.Class.TheVariants.{Verdict, Refusal, Answer, Note, Counts}
 pub use Rattle.bus_shapes.specs.declared.class.Class.TheVariants.{Small, Detail, Number, Digits, NoiseDigits}
 pub use Rattle.bus_shapes.specs.declared.class.Class.TheVariants.{GapWords, IntervalWords, BreachWords}
@@ -30,6 +30,7 @@ class_name Gap = codes "gap"
 class_name Interval = codes "interval"
 class_name Mark = codes "mark"
 class_name Breach = codes "breach"
+class_name Fault = codes "fault"
 class_name Verdict = codes "verdict"
 class_name Refusal = codes "refusal"
 class_name Answer = codes "answer"
@@ -64,6 +65,7 @@ look Gap = codes "fill:#b07800;pointer-events:none"
 look Interval = codes "fill:#009e73;pointer-events:none"
 look Mark = codes "fill:#000;fill-opacity:.6;pointer-events:none"
 look Breach = codes "fill:#000;pointer-events:none"
+look Fault = codes "fill:#000"
 look Verdict = codes "font-size:150px;font-weight:bold"
 look Refusal = codes "font-size:150px;font-weight:bold;fill:#a63a00"
 look Answer = codes "font-size:150px;font-weight:bold"
@@ -79,7 +81,7 @@ look IntervalWords = codes "font-size:100px;fill:#00694d;text-anchor:end"
 look BreachWords =
     codes "font-weight:bold;fill:#000;stroke:#fff;stroke-width:50;stroke-linejoin:round;paint-order:stroke;text-anchor:middle"
 
--- All classes: of boxes, then of words.
+-- The classes of every picture: of boxes, then of words.
 abbrev pub classes : List Class
 classes =
     Background ∷ (Band ∷ (Unobserved ∷ (Grid ∷ (Tick ∷ (Span ∷ (Message ∷ (Garbled ∷ (Wordstring ∷ (Other ∷ (
@@ -94,6 +96,6 @@ digits_class garbled = if garbled then NoiseDigits else Digits
 abbrev pub rule_text : Class → List ℕ
 rule_text class = codes "." ++ class_name class ++ codes "{" ++ look class ++ codes "}\n"
 
--- The rules of all classes.
+-- The rules of the classes of every picture.
 abbrev pub rules_text : List ℕ
 rules_text = flat_map rule_text classes

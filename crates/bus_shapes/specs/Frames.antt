@@ -1,11 +1,11 @@
 -- What stands around each picture: its head with the title and the style, the words above the plot, and its end.
-use Rattle.std.specs.Prelude.{ℕ, ◌/◌, List, ◌++◌, codes, decimal}
+use Rattle.std.specs.Prelude.{ℕ, ◌/◌, List, [], ◌++◌, codes, decimal}
 use Rattle.bus_regime.specs.declared.table_verdict.TableVerdict.{TableVerdict}
 use Rattle.bus_regime.specs.Lines.{verdict_words}
 use Rattle.bus_table.specs.Tables.{Table}
-use Rattle.bus_shapes.specs.Classes.{Answer, Background, Note, rules_text}
+use Rattle.bus_shapes.specs.Classes.{Answer, Background, Fault, Note, rule_text, rules_text}
 use Rattle.bus_shapes.specs.Classes as classes
-use Rattle.bus_shapes.specs.Headings.{Told, told_heading, told_words, verdict_class, verdict_heading}
+use Rattle.bus_shapes.specs.Headings.{Told, Audit, Findings, told_heading, told_words, verdict_class, verdict_heading}
 use Rattle.bus_shapes.specs.Sayings.{counted, table_words}
 use Rattle.bus_shapes.specs.Shapes.{Area, box_text, words_text}
 pub use Rattle.bus_shapes.specs.declared.counts.Counts.{Counts}
@@ -36,6 +36,14 @@ dark_text =
 -- The style of a picture: its words, its classes, those of a dark scheme, and the hatching.
 abbrev pub style_text : List ℕ
 style_text = codes "<style>\n" ++ font_text ++ rules_text ++ dark_text ++ codes "</style>\n" ++ hatch_text
+
+-- The style of the marks of findings, which only their pictures have.
+abbrev pub fault_style : List ℕ
+fault_style = codes "<style>\n" ++ rule_text Fault ++ codes "@media(prefers-color-scheme:dark){.fault{fill:#fff}}\n</style>\n"
+
+abbrev pub told_style : Told → List ℕ
+told_style (Audit answer) = []
+told_style (Findings bounds judgements) = fault_style
 
 -- The size of a picture of this height, and of its width, in pixels and in units. Browsers scale it to the width that they have for it.
 abbrev pub size_text : ℕ → List ℕ
@@ -74,7 +82,7 @@ facts_text table counts =
 -- All that stands before the plot of a picture of this height.
 abbrev pub frame_text : ℕ → TableVerdict → Told → Table → Counts → List ℕ
 frame_text height verdict told table counts =
-    size_text height ++ title_text (verdict_words verdict) (told_words told) ++ style_text ++ box_text Background (background height)
+    size_text height ++ title_text (verdict_words verdict) (told_words told) ++ style_text ++ told_style told ++ box_text Background (background height)
     ++ heads_text verdict told ++ facts_text table counts
 
 -- The end of a picture.

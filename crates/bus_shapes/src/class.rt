@@ -6,7 +6,7 @@ ghost use Rattle.bus_shapes.specs.Classes as definition;
 
 use bus_outer::{Sink, TextBuffer};
 
-/// What a box or words of a picture stand for, which says how they look. Those up to [`Class::Breach`] are classes of boxes, those
+/// What a box or words of a picture stand for, which says how they look. Those up to [`Class::Fault`] are classes of boxes, those
 /// after it of words.
 #[derive(Clone, Copy, Debug, PartialEq, Eq)]
 pub enum Class {
@@ -46,6 +46,8 @@ pub enum Class {
     Mark,
     /// The moment of the first breach.
     Breach,
+    /// The start of a transmission at which a fault is found, with words under the pointer. Only pictures of findings have its rule.
+    Fault,
     /// The words of the verdict.
     Verdict,
     /// The words of the verdict on a refused table.
@@ -74,7 +76,7 @@ pub enum Class {
     BreachWords,
 }
 
-/// All classes.
+/// The classes of every picture.
 const CLASSES: [Class; 31] = [
     Class::Background,
     Class::Band,
@@ -133,6 +135,7 @@ impl Class {
             Class::Interval => b"interval",
             Class::Mark => b"mark",
             Class::Breach => b"breach",
+            Class::Fault => b"fault",
             Class::Verdict => b"verdict",
             Class::Refusal => b"refusal",
             Class::Answer => b"answer",
@@ -172,6 +175,7 @@ impl Class {
             Class::Interval => b"fill:#009e73;pointer-events:none",
             Class::Mark => b"fill:#000;fill-opacity:.6;pointer-events:none",
             Class::Breach => b"fill:#000;pointer-events:none",
+            Class::Fault => b"fill:#000",
             Class::Verdict => b"font-size:150px;font-weight:bold",
             Class::Refusal => b"font-size:150px;font-weight:bold;fill:#a63a00",
             Class::Answer => b"font-size:150px;font-weight:bold",
@@ -217,7 +221,7 @@ fn put_look<K: Sink>(text: &mut TextBuffer, sink: &mut K, class: Class)
 }
 
 /// The rule of a class in the style of a picture.
-fn put_rule<K: Sink>(text: &mut TextBuffer, sink: &mut K, class: Class)
+pub(crate) fn put_rule<K: Sink>(text: &mut TextBuffer, sink: &mut K, class: Class)
     ensures { Adds K.held K.faults sink.old sink.new text.old text.new (definition.rule_text class) }
 {
     text.put_byte(sink, b'.');
@@ -236,7 +240,7 @@ fn put_each<K: Sink>(text: &mut TextBuffer, sink: &mut K, classes: &[Class])
     }
 }
 
-/// The rules of all classes.
+/// The rules of the classes of every picture.
 pub(crate) fn put_rules<K: Sink>(text: &mut TextBuffer, sink: &mut K)
     ensures { Adds K.held K.faults sink.old sink.new text.old text.new definition.rules_text }
 {

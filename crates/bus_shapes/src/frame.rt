@@ -9,7 +9,7 @@ ghost use Rattle.bus_shapes.specs.Sayings.{counted, ending, summary_words, table
 ghost use Rattle.bus_shapes.specs.Shapes.{words_text};
 
 use crate::area::Area;
-use crate::class::{Class, put_rules};
+use crate::class::{Class, put_rule, put_rules};
 use crate::counts::Counts;
 use crate::heading::{put_told, put_told_heading, put_verdict_heading, verdict_class};
 use crate::measures::{
@@ -86,6 +86,28 @@ fn put_hatch<K: Sink>(text: &mut TextBuffer, sink: &mut K)
         sink,
         b"<rect width=\"80\" height=\"80\" fill=\"#ffd2a8\"/><rect width=\"24\" height=\"80\" fill=\"#d55e00\"/></pattern></defs>\n",
     );
+}
+
+/// The style of the marks of findings.
+fn put_fault_style<K: Sink>(text: &mut TextBuffer, sink: &mut K)
+    ensures { Adds K.held K.faults sink.old sink.new text.old text.new definition.fault_style }
+{
+    text.put(sink, b"<style>\n");
+    put_rule(text, sink, Class::Fault);
+    text.put(
+        sink,
+        b"@media(prefers-color-scheme:dark){.fault{fill:#fff}}\n</style>\n",
+    );
+}
+
+/// That style, where findings are told.
+fn put_told_style<K: Sink>(text: &mut TextBuffer, sink: &mut K, told: &Told)
+    ensures { Adds K.held K.faults sink.old sink.new text.old text.new (definition.told_style told.now) }
+{
+    match told {
+        Told::Audit(_) => text.put(sink, b""),
+        Told::Findings { .. } => put_fault_style(text, sink),
+    }
 }
 
 /// The size of a picture of this height.
@@ -231,6 +253,7 @@ pub fn put_frame<K: Sink>(
     put_size(text, sink, height);
     put_title(text, sink, verdict, told);
     put_style(text, sink);
+    put_told_style(text, sink, told);
     let area = Area {
         left: 0,
         top: 0,

@@ -1,10 +1,11 @@
 //! The heading of a picture, in words.
-ghost use Rattle.std.specs.Prelude.{◌≡◌};
+ghost use Rattle.std.specs.Prelude.{◌≡◌, codes};
 ghost use Rattle.bus_outer.specs.Texts.{Adds};
 ghost use Rattle.bus_audit.specs.declared.answer.AuditAnswer.TheVariants.{Lawful, Breach};
 ghost use Rattle.bus_regime.specs.declared.table_verdict.TableVerdict.TheVariants.{ShortCycle, SmallGap, NoSync};
 ghost use Rattle.bus_table.specs.declared.mode.Mode.TheVariants.{Aperiodic, Periodic};
 ghost use Rattle.bus_shapes.specs.Headings as definition;
+ghost use Rattle.bus_shapes.specs.Sayings.{counted};
 
 use crate::class::Class;
 use crate::frame::put_counted;
@@ -182,6 +183,18 @@ fn put_answer_heading<K: Sink>(text: &mut TextBuffer, sink: &mut K, answer: &Aud
     }
 }
 
+/// Puts how many faults there are.
+fn put_faults<K: Sink>(text: &mut TextBuffer, sink: &mut K, faults: u128)
+    ensures { Adds K.held K.faults sink.old sink.new text.old text.new (counted faults (codes "fault")) }
+{
+    text.put_number(sink, faults);
+    if faults == 1 {
+        text.put(sink, b" fault");
+    } else {
+        text.put(sink, b" faults");
+    }
+}
+
 /// Puts bounds, and how many faults are found within them.
 fn put_findings<K: Sink>(
     text: &mut TextBuffer,
@@ -193,7 +206,7 @@ fn put_findings<K: Sink>(
 {
     put_within(text, sink, bounds);
     text.put(sink, b": ");
-    put_counted(text, sink, fault_sum(judgements), b"fault");
+    put_faults(text, sink, fault_sum(judgements));
 }
 
 /// Puts what is told of a trace.
