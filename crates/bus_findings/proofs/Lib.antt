@@ -11,4 +11,5 @@ pub mod WatchLemmas
 pub mod SenderLemmas
 pub mod SilenceLemmas
 pub mod TraceLemmas
+pub mod SumLemmas
 pub mod JustLemmas

@@ -20,8 +20,9 @@ use Rattle.bus_findings.specs.declared.judgement.Judgement.{Judgement}
 use Rattle.bus_findings.specs.Amounts.{IsAmount}
 use Rattle.bus_findings.specs.Lacks.{interval_lack, gap_lack, sync_lack}
 use Rattle.bus_findings.specs.Dues.{due_of}
-use Rattle.bus_findings.specs.Judging.{judgement_of, last_start}
+use Rattle.bus_findings.specs.Judging.{judgement_of, judgements, last_start}
 use Rattle.bus_findings.specs.Recorded.{seen, recorded, monitor_of, timers_of}
+use Rattle.bus_findings.specs.Terminals.{fault_sum, faults_among}
 
 -- What lacks is the amount by which a start is too early: where nothing lacks, it isn't.
 abbrev pub IntervalLackIsAmount : Type 0
@@ -111,3 +112,10 @@ AmountsAreTold =
     → last_start (recorded bounds trace.list) x.terminal x.moment ≡ Some o
     → AreAmounts (timers_of bounds table sender) (monitor_of bounds table) (recorded bounds trace.list) o (seen bounds x)
     (judgement_of bounds table trace.list x)
+
+-- ---- of the list of all that is found
+
+-- It has as many faults as are told of all transmissions.
+abbrev pub FaultSumIsTold : Type 0
+FaultSumIsTold =
+    (bounds : Bounds) (table : Table) (list : List Entry) → fault_sum (judgements bounds table list) ≡ faults_among bounds table list list

@@ -1,6 +1,6 @@
 //! Laws of findings, each the contract of a function that does nothing.
 ghost use Rattle.bus_findings.specs.Laws.{IntervalLackIsAmount, GapLackIsAmount, SyncLackIsAmount, DueIsFirst, NotDueIsNever, LatenessIsAmount};
-ghost use Rattle.bus_findings.specs.Laws.{KeepersAreUnblamed, AmountsAreTold};
+ghost use Rattle.bus_findings.specs.Laws.{KeepersAreUnblamed, AmountsAreTold, FaultSumIsTold};
 
 use bus_recording::laws::findings_are_just;
 
@@ -22,3 +22,8 @@ pub fn faults_are_just()
 {
     findings_are_just();
 }
+
+/// The list of all that is found has as many faults as the text of findings tells of all transmissions.
+pub fn fault_sums_are_told()
+    ensures { FaultSumIsTold }
+{}

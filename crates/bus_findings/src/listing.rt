@@ -37,7 +37,8 @@ fn judge_all(
     let mut heard = Heard::nothing(bounds, list);
     let mut all = Vec::with_capacity(alloc, list.len())?;
     for i in 0..list.len() {
-        heard = heard.at_moment(bounds, list, list[i].moment);
+        let x = &list[i];
+        heard = heard.at_moment(bounds, list, x.moment);
         let found = judge(bounds, table, settled, watches, heard, list, i);
         all.push(found)?;
         heard = heard.with(bounds, list, i);

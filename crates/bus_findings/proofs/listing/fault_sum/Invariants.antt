@@ -1,5 +1,5 @@
 use Rattle.std.specs.Prelude.{sum_by}
-use Rattle.std.proofs.Common.{◌≡◌, ◌≤◌, ◌*◌, ◌×◌, take}
+use Rattle.std.proofs.Common.{◌≡◌, ◌≤◌, ◌*◌, take}
 use Rattle.bus_findings.specs.Terminals.{fault_count}
 use Rattle.bus_findings.proofs.listing.fault_sum.Given as goal
 
