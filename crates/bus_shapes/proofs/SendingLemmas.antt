@@ -11,7 +11,7 @@ use Rattle.std.proofs.lemmas.Option.{slice_get_within, get_or_from_slice_get}
 use Rattle.std.proofs.Math.ListN.{drop_of_length-le}
 use Rattle.bus_strings.specs.Marking.{greatest_end}
 use Rattle.bus_strings.specs.Messages.{Entry}
-use Rattle.bus_strings.specs.Transmissions.{end_of, garbled, marks}
+use Rattle.bus_strings.specs.Transmissions.{end_of, garbled}
 use Rattle.bus_strings.proofs.CountLaws.{counted}
 use Rattle.bus_strings.proofs.MarkLaws.{next_mark}
 use Rattle.bus_strings.proofs.OverlapLemmas.{greatest_more}
