@@ -10,7 +10,7 @@ use Rattle.bus_strings.proofs.MemberLaws.{any_in, at_in, in_filter}
 use Rattle.bus_strings.specs.Members.{In}
 use Rattle.bus_strings.specs.Messages.{Entry}
 use Rattle.bus_strings.specs.Transmissions.{end_of}
-use Rattle.bus_audit.specs.declared.answer.AuditAnswer.{AuditAnswer}
+use Rattle.bus_shapes.specs.declared.told.Told.{Told}
 use Rattle.bus_trace.specs.Traces.{Recording}
 use Rattle.bus_dump.specs.declared.lane.Lane.{Lane}
 use Rattle.bus_dump.specs.Lanes.{lanes}
@@ -205,26 +205,26 @@ drawn_count true p some lanes h = h
 drawn_count false p some lanes h = refl
 
 -- The lane of what meets the window has something to show.
-has_its : (scale : Scale) (answer : AuditAnswer) (list : List Entry) (x : Sent) (t : IsToldOf list x) → is_shown scale x ≡ true → (lane : Lane)
-    → is_lane x lane ≡ true → has_some scale answer list lane ≡ true
-has_its scale answer list x t h lane own =
+has_its : (scale : Scale) (told : Told) (list : List Entry) (x : Sent) (t : IsToldOf list x) → is_shown scale x ≡ true → (lane : Lane)
+    → is_lane x lane ≡ true → has_some scale told list lane ≡ true
+has_its scale told list x t h lane own =
     let terminal : x.terminal ≡ t.entry.terminal = ap (λ (s : Sent). s.terminal) t.told in
     let meets_it : meets scale t.entry.moment (end_of t.entry) ≡ true = sym (ap (λ (s : Sent). meets scale s.moment s.end) t.told) ∙ h in
     let same : (t.entry.terminal == lane.terminal) ≡ true =
     ap (λ n. n == lane.terminal) (sym terminal) ∙ turned x.terminal lane.terminal ∙ own in
     let here : is_in scale lane t.entry ≡ true = ap (λ b. b && meets scale t.entry.moment (end_of t.entry)) same ∙ meets_it in
-    ap (λ b. b || is_named answer lane.terminal) (any_in (is_in scale lane) list t.entry (at_in list x.at t.entry t.at) here)
+    ap (λ b. b || is_named told lane.terminal) (any_in (is_in scale lane) list t.entry (at_in list x.at t.entry t.at) here)
 
-all_drawn : (scale : Scale) (answer : AuditAnswer) (list : List Entry) (x : Sent) → IsToldOf list x → is_shown scale x ≡ true → (lanes : List Lane)
-    → count_by (is_lane x) (drawn_lanes scale answer list lanes) ≡ count_by (is_lane x) lanes
-all_drawn scale answer list x t h lanes =
-    drawn_count (nat_lt most_empty (length lanes - length (lanes_with_some scale answer list lanes))) (is_lane x) (lanes_with_some scale answer list lanes) lanes
-    (kept_count (is_lane x) (has_some scale answer list) lanes (has_its scale answer list x t h))
+all_drawn : (scale : Scale) (told : Told) (list : List Entry) (x : Sent) → IsToldOf list x → is_shown scale x ≡ true → (lanes : List Lane)
+    → count_by (is_lane x) (drawn_lanes scale told list lanes) ≡ count_by (is_lane x) lanes
+all_drawn scale told list x t h lanes =
+    drawn_count (nat_lt most_empty (length lanes - length (lanes_with_some scale told list lanes))) (is_lane x) (lanes_with_some scale told list lanes) lanes
+    (kept_count (is_lane x) (has_some scale told list) lanes (has_its scale told list x t h))
 
 -- A lane is kept, or it is silent.
-silent_by : (scale : Scale) (answer : AuditAnswer) (list : List Entry) (lane : Lane) → has_some scale answer list lane ≡ false → IsSilent scale answer list lane
-silent_by scale answer list lane none =
-    let parts = or_parts (list_any (is_in scale lane) list) (is_named answer lane.terminal) none in
+silent_by : (scale : Scale) (told : Told) (list : List Entry) (lane : Lane) → has_some scale told list lane ≡ false → IsSilent scale told list lane
+silent_by scale told list lane none =
+    let parts = or_parts (list_any (is_in scale lane) list) (is_named told lane.terminal) none in
     record {
       sends = λ x i own. elim (meets scale x.moment (end_of x)) as (λ b. meets scale x.moment (end_of x) ≡ b → b ≡ false) [
         | true ↦ λ e.
@@ -236,29 +236,29 @@ silent_by scale answer list lane none =
       unnamed = parts.1;
     }
 
-kept_or_silent : (b : Bool) (scale : Scale) (answer : AuditAnswer) (list : List Entry) (lanes : List Lane) (lane : Lane) → In lane lanes
-    → In lane (cond b (lanes_with_some scale answer list lanes) lanes) ⊎ IsSilent scale answer list lane
-kept_or_silent true scale answer list lanes lane i =
-    elim (has_some scale answer list lane) as (λ b. has_some scale answer list lane ≡ b
-    → In lane (lanes_with_some scale answer list lanes) ⊎ IsSilent scale answer list lane) [
-      | true ↦ λ e. inl (in_filter (has_some scale answer list) lanes lane i e)
-      | false ↦ λ e. inr (silent_by scale answer list lane e)
+kept_or_silent : (b : Bool) (scale : Scale) (told : Told) (list : List Entry) (lanes : List Lane) (lane : Lane) → In lane lanes
+    → In lane (cond b (lanes_with_some scale told list lanes) lanes) ⊎ IsSilent scale told list lane
+kept_or_silent true scale told list lanes lane i =
+    elim (has_some scale told list lane) as (λ b. has_some scale told list lane ≡ b
+    → In lane (lanes_with_some scale told list lanes) ⊎ IsSilent scale told list lane) [
+      | true ↦ λ e. inl (in_filter (has_some scale told list) lanes lane i e)
+      | false ↦ λ e. inr (silent_by scale told list lane e)
     ] refl
-kept_or_silent false scale answer list lanes lane i = inl i
+kept_or_silent false scale told list lanes lane i = inl i
 
 pub left_out_are_silent : LeftOutAreSilent
-left_out_are_silent scale answer table list lane i =
-    kept_or_silent (nat_lt most_empty (length (lanes table list) - length (lanes_with_some scale answer list (lanes table list)))) scale answer list
+left_out_are_silent scale told table list lane i =
+    kept_or_silent (nat_lt most_empty (length (lanes table list) - length (lanes_with_some scale told list (lanes table list)))) scale told list
     (lanes table list) lane i
 
 pub each_is_in_one_lane : LanesAreTerminals → SentsAreTold → EachIsInOneLane
-each_is_in_one_lane agree told scale answer table trace x valid is i h =
-    let t : IsToldOf trace.list x = told trace.list x i in
+each_is_in_one_lane agree each_told scale told table trace x valid is i h =
+    let t : IsToldOf trace.list x = each_told trace.list x i in
     let terminal : x.terminal ≡ t.entry.terminal = ap (λ (s : Sent). s.terminal) t.told in
     let one : lane_count table trace.list t.entry.terminal ≡ 1 = (agree table trace valid is).sending t.entry (at_in trace.list x.at t.entry t.at) in
-    in_lanes scale x (lanes_in scale answer table trace.list) h ∙ all_drawn scale answer trace.list x t h (lanes table trace.list)
+    in_lanes scale x (lanes_in scale told table trace.list) h ∙ all_drawn scale told trace.list x t h (lanes table trace.list)
     ∙ ap (λ n. lane_count table trace.list n) terminal ∙ one
 
 pub lanes_are_counted : EachIsInOneLane → LanesAreCounted
-lanes_are_counted each scale answer table trace valid is =
-    counted scale trace (rows_of_lanes (lanes_in scale answer table trace.list)) (λ x i h. each scale answer table trace x valid is i h)
+lanes_are_counted each scale told table trace valid is =
+    counted scale trace (rows_of_lanes (lanes_in scale told table trace.list)) (λ x i h. each scale told table trace x valid is i h)

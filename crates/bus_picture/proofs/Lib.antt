@@ -18,3 +18,4 @@ pub mod IntervalLemmas
 pub mod AllGapLemmas
 pub mod StartLemmas
 pub mod OffsetLemmas
+pub mod FaultLemmas

@@ -7,13 +7,13 @@ use Rattle.bus_strings.specs.Transmissions.{IsByMoment, end_of, garbled}
 use Rattle.bus_table.specs.Tables.{Table}
 use Rattle.bus_table.specs.Valid.{is_valid}
 use Rattle.bus_trace.specs.Traces.{Recording, IsTrace}
-use Rattle.bus_audit.specs.declared.answer.AuditAnswer.{AuditAnswer}
 use Rattle.bus_dump.specs.declared.lane.Lane.{Lane}
 use Rattle.bus_dump.specs.Lanes.{lanes}
 use Rattle.bus_shapes.specs.declared.area.Area.{Area}
 use Rattle.bus_shapes.specs.declared.class.Class.TheVariants.{Garbled}
 use Rattle.bus_shapes.specs.declared.scale.Scale.{Scale}
 use Rattle.bus_shapes.specs.declared.sent.Sent.{Sent}
+use Rattle.bus_shapes.specs.declared.told.Told.{Told}
 use Rattle.bus_shapes.specs.Measures.{pixel}
 use Rattle.bus_shapes.specs.Scales.{place}
 use Rattle.bus_shapes.specs.Sending.{sents}
@@ -88,14 +88,14 @@ BoxesLieInRows =
 abbrev pub AreApart : Area → Area → Type 0
 AreApart a b = (a.top + a.height ≤ b.top) ⊎ (b.top + b.height ≤ a.top)
 
--- No dash of the line at a breach lies over a box: not that above the plot, nor those of the bus, whose upper edge is that of the plot, and
--- of lane k, whose upper edge lies k + 1 rows below that.
+-- No dash of the line at a breach or at a fault lies over a box: not that above the plot, nor those of the bus, whose upper edge is that of
+-- the plot, and of lane k, whose upper edge lies k + 1 rows below that.
 pub record HidesNone (box : Area) (left width : ℕ) : Type 0 where
   pub head : AreApart (head_dash left) box
   pub upper : (k : ℕ) → AreApart (upper_dash left width (plot_top + row_height * k)) box
   pub lower : (k : ℕ) → AreApart (lower_dash left width (plot_top + row_height * k)) box
 
--- Neither the line at a breach nor its words hide a box, in no time line: the words stand above all boxes.
+-- Neither the line at a breach or at a fault nor its words above the plot hide a box, in no time line: these stand above all boxes.
 abbrev pub BreachesHideNoBox : Type 0
 BreachesHideNoBox =
     (scale : Scale) (lanes : List Lane) (row : Row) (pile : Pile) (left width : ℕ) → In row (rows_of lanes)
@@ -112,20 +112,20 @@ EachIsOnTheBus = (scale : Scale) (x : Sent) → is_shown scale x ≡ true → ro
 -- Each transmission of a trace that meets the window is shown by exactly one row of all lanes that are drawn.
 abbrev pub EachIsInOneLane : Type 0
 EachIsInOneLane =
-    (scale : Scale) (answer : AuditAnswer) (table : Table) (trace : Recording) (x : Sent) → IsTrue (is_valid table) → IsTrace trace
-    → In x (sents trace.list) → is_shown scale x ≡ true → rows_with scale (rows_of_lanes (lanes_in scale answer table trace.list)) x ≡ 1
+    (scale : Scale) (told : Told) (table : Table) (trace : Recording) (x : Sent) → IsTrue (is_valid table) → IsTrace trace
+    → In x (sents trace.list) → is_shown scale x ≡ true → rows_with scale (rows_of_lanes (lanes_in scale told table trace.list)) x ≡ 1
 
 -- ---- lanes
 -- The terminal of a lane sends nothing in the window, and the first breach doesn't name it.
-pub record IsSilent (scale : Scale) (answer : AuditAnswer) (list : List Entry) (lane : Lane) : Type 0 where
+pub record IsSilent (scale : Scale) (told : Told) (list : List Entry) (lane : Lane) : Type 0 where
   pub sends : (x : Entry) → In x list → x.terminal ≡ lane.terminal → meets scale x.moment (end_of x) ≡ false
-  pub unnamed : is_named answer lane.terminal ≡ false
+  pub unnamed : is_named told lane.terminal ≡ false
 
 -- Each lane that isn't drawn is such a one.
 abbrev pub LeftOutAreSilent : Type 0
 LeftOutAreSilent =
-    (scale : Scale) (answer : AuditAnswer) (table : Table) (list : List Entry) (lane : Lane) → In lane (lanes table list)
-    → In lane (lanes_in scale answer table list) ⊎ IsSilent scale answer list lane
+    (scale : Scale) (told : Told) (table : Table) (list : List Entry) (lane : Lane) → In lane (lanes table list)
+    → In lane (lanes_in scale told table list) ⊎ IsSilent scale told list lane
 
 -- ---- counts
 -- How many transmissions the boxes of rows have.
@@ -144,8 +144,8 @@ BusIsCounted = (scale : Scale) (trace : Recording) → AreCounted scale trace bu
 -- The counts are those of the boxes of all lanes that are drawn.
 abbrev pub LanesAreCounted : Type 0
 LanesAreCounted =
-    (scale : Scale) (answer : AuditAnswer) (table : Table) (trace : Recording) → IsTrue (is_valid table) → IsTrace trace
-    → AreCounted scale trace (rows_of_lanes (lanes_in scale answer table trace.list))
+    (scale : Scale) (told : Told) (table : Table) (trace : Recording) → IsTrue (is_valid table) → IsTrace trace
+    → AreCounted scale trace (rows_of_lanes (lanes_in scale told table trace.list))
 
 -- Of a scale no more bit times have carrier than it has, so that the load of the bus doesn't pass 100 %.
 abbrev pub LoadIsAShare : Type 0

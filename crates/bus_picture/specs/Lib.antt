@@ -12,6 +12,7 @@ pub mod Timers
 pub mod Legends
 pub mod Lanes
 pub mod Marks
+pub mod Faults
 pub mod Paces
 pub mod Loads
 pub mod TimeLines

@@ -205,6 +205,18 @@ head_height = 90
 abbrev pub breach_line : ℕ
 breach_line = 870
 
+-- How far below the upper edge of its row the words of a fault stand in a lane.
+abbrev pub fault_line : ℕ
+fault_line = 50
+
+-- How far behind its start they begin, beside its dash.
+abbrev pub fault_beside : ℕ
+fault_beside = 50
+
+-- Where they begin at most, so that twenty letters have room.
+abbrev pub fault_most : ℕ
+fault_most = 9000
+
 -- How far words reach below their line, at most.
 abbrev pub words_depth : ℕ
 words_depth = 60

@@ -10,7 +10,6 @@ use Rattle.bus_table.specs.declared.mode.Mode.{Mode}
 use Rattle.bus_table.specs.declared.mode.Mode.TheVariants.{Aperiodic, Periodic}
 use Rattle.bus_trace.specs.Traces.{Recording}
 use Rattle.bus_strings.specs.Messages.{Entry}
-use Rattle.bus_audit.specs.declared.answer.AuditAnswer.{AuditAnswer}
 use Rattle.bus_dump.specs.declared.lane.Lane.{Lane}
 use Rattle.bus_dump.specs.Lanes.{lanes}
 use Rattle.bus_shapes.specs.declared.axis.Axis.{Axis}
@@ -20,6 +19,7 @@ use Rattle.bus_shapes.specs.declared.class.Class.TheVariants.{Band, Detail, Grid
 use Rattle.bus_shapes.specs.declared.class.Class.TheVariants.{Tick, Unobserved}
 use Rattle.bus_shapes.specs.declared.class.Class.TheVariants as classes
 use Rattle.bus_shapes.specs.Frames.{frame_text, tail_text}
+use Rattle.bus_shapes.specs.declared.told.Told.{Told}
 use Rattle.bus_shapes.specs.declared.counts.Counts.{Counts}
 use Rattle.bus_shapes.specs.declared.sent.Sent.{Sent}
 use Rattle.bus_shapes.specs.declared.scale.Scale.{Scale}
@@ -30,7 +30,7 @@ use Rattle.bus_shapes.specs.Windows.{Window}
 pub use Rattle.bus_picture.specs.Lanes.{drawn_lanes, each_lane, lane_top}
 use Rattle.bus_picture.specs.Legends.{legend_text}
 use Rattle.bus_picture.specs.Loads.{loads_text}
-use Rattle.bus_picture.specs.Marks.{breach_text}
+use Rattle.bus_picture.specs.Faults.{told_text}
 use Rattle.bus_picture.specs.Offsets.{offsets_text}
 use Rattle.bus_picture.specs.Paces.{paces_text}
 use Rattle.bus_picture.specs.Rows.{Row, rows_text}
@@ -64,8 +64,8 @@ counts_of scale trace = record {
 
 -- ---- the lanes
 -- The lanes of a scale: those of a table and a list that are drawn there.
-abbrev pub lanes_in : Scale → AuditAnswer → Table → List Entry → List Lane
-lanes_in scale answer table list = drawn_lanes scale answer list (lanes table list)
+abbrev pub lanes_in : Scale → Told → Table → List Entry → List Lane
+lanes_in scale told table list = drawn_lanes scale told list (lanes table list)
 
 -- How many lanes are left out, below the plot, where some are.
 abbrev pub left_out_text : ℕ → ℕ → List ℕ
@@ -171,14 +171,14 @@ axes_text scale bottom = axis_text scale upper_axis ++ axis_text scale (lower_ax
 
 -- ---- the whole
 -- The plot, above a lower edge.
-abbrev pub plot_text : Scale → ℕ → List Lane → AuditAnswer → Table → Recording → List ℕ
-plot_text scale bottom lanes answer table trace =
+abbrev pub plot_text : Scale → ℕ → List Lane → Told → Table → Recording → List ℕ
+plot_text scale bottom lanes told table trace =
     words_text classes.Counts names_right (plot_top + bus_line) (codes "bus") ++ paces_text scale lanes trace.list
     ++ loads_text scale lanes trace.list
     ++ each_lane (lane_front table) 0 lanes
     ++ axes_text scale bottom ++ unobserved_text scale bottom trace.horizon
     ++ tints_text scale bottom trace.list ++ rows_text scale table trace.list (rows_of lanes) ++ timers_text scale lanes table trace
-    ++ breach_text scale lanes answer
+    ++ told_text scale table.ti lanes told trace.list
 
 -- What stands below the plot: how many lanes are left out, and the legend.
 abbrev pub foot_text : Scale → ℕ → ℕ → Mode → Recording → List ℕ
@@ -186,19 +186,19 @@ foot_text scale bottom left_out mode trace =
     left_out_text bottom left_out ++ legend_text mode (has_tints scale trace.list) (bottom + legend_below)
 
 -- A picture with these lanes, and with so many left out.
-abbrev pub picture_text : Scale → List Lane → ℕ → TableVerdict → AuditAnswer → Table → Recording → List ℕ
-picture_text scale lanes left_out verdict answer table trace =
-    frame_text (lane_top (length lanes) + foot_height) verdict answer table (counts_of scale trace)
-    ++ plot_text scale (lane_top (length lanes)) lanes answer table trace
+abbrev pub picture_text : Scale → List Lane → ℕ → TableVerdict → Told → Table → Recording → List ℕ
+picture_text scale lanes left_out verdict told table trace =
+    frame_text (lane_top (length lanes) + foot_height) verdict told table (counts_of scale trace)
+    ++ plot_text scale (lane_top (length lanes)) lanes told table trace
     ++ foot_text scale (lane_top (length lanes)) left_out table.mode trace ++ tail_text
 
 -- A picture with those of these lanes that are drawn.
-abbrev pub drawn_text : Scale → List Lane → TableVerdict → AuditAnswer → Table → Recording → List ℕ
-drawn_text scale lanes verdict answer table trace =
-    picture_text scale (drawn_lanes scale answer trace.list lanes) (length lanes - length (drawn_lanes scale answer trace.list lanes))
-    verdict answer table trace
+abbrev pub drawn_text : Scale → List Lane → TableVerdict → Told → Table → Recording → List ℕ
+drawn_text scale lanes verdict told table trace =
+    picture_text scale (drawn_lanes scale told trace.list lanes) (length lanes - length (drawn_lanes scale told trace.list lanes))
+    verdict told table trace
 
--- The time line of a trace in a window, with the words of the verdict on the table and the answer of the audit.
-unfoldable pub time_line_text : Window → TableVerdict → AuditAnswer → Table → Recording → List ℕ
-time_line_text window verdict answer table trace =
-    drawn_text (scale_of window) (lanes table trace.list) verdict answer table trace
+-- The time line of a trace in a window, with the words of the verdict on the table and what is told of the trace.
+unfoldable pub time_line_text : Window → TableVerdict → Told → Table → Recording → List ℕ
+time_line_text window verdict told table trace =
+    drawn_text (scale_of window) (lanes table trace.list) verdict told table trace

@@ -4,3 +4,4 @@ pub mod Pacing
 pub mod Tinting
 pub mod Noting
 pub mod Starting
+pub mod Marking

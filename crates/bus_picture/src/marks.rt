@@ -18,29 +18,50 @@ use bus_dump::Lane;
 use bus_outer::{Sink, TextBuffer};
 use bus_shapes::{Area, Class, Scale, begin_words, end_words, put_box};
 
-/// The dashes above and below the boxes of a row with this upper edge.
-fn put_dashes<K: Sink>(text: &mut TextBuffer, sink: &mut K, left: u64, width: u64, top: u64)
-    requires { top < 100000 }
-    ensures { Adds K.held K.faults sink.old sink.new text.old text.new (definition.dashes_text left width top) }
+/// The dash above the boxes of a row with this upper edge.
+pub(crate) fn upper_dash(left: u64, width: u64, top: u64) -> Area
+    ensures { result ≡ definition.upper_dash left width top }
 {
-    let upper = Area {
+    Area {
         left,
         top,
         width,
         height: BOX_BELOW,
-    };
-    put_box(text, sink, Class::Breach, upper);
-    let lower = Area {
+    }
+}
+
+/// The dash below them.
+pub(crate) fn lower_dash(left: u64, width: u64, top: u64) -> Area
+    requires { top < 100000 }
+    ensures { result ≡ definition.lower_dash left width top }
+{
+    Area {
         left,
         top: top + (BOX_BELOW + BOX_HEIGHT),
         width,
         height: ROW_HEIGHT - (BOX_BELOW + BOX_HEIGHT),
-    };
+    }
+}
+
+/// Both of them.
+pub(crate) fn put_dashes<K: Sink>(
+    text: &mut TextBuffer,
+    sink: &mut K,
+    left: u64,
+    width: u64,
+    top: u64,
+)
+    requires { top < 100000 }
+    ensures { Adds K.held K.faults sink.old sink.new text.old text.new (definition.dashes_text left width top) }
+{
+    let upper = upper_dash(left, width, top);
+    put_box(text, sink, Class::Breach, upper);
+    let lower = lower_dash(left, width, top);
     put_box(text, sink, Class::Breach, lower);
 }
 
 /// The dash above the plot.
-fn put_head<K: Sink>(text: &mut TextBuffer, sink: &mut K, left: u64)
+pub(crate) fn put_head<K: Sink>(text: &mut TextBuffer, sink: &mut K, left: u64)
     ensures { Adds K.held K.faults sink.old sink.new text.old text.new
         (box_text Breach (definition.head_dash left)) }
 {
@@ -92,7 +113,7 @@ fn put_all_dashes<K: Sink>(
 }
 
 /// The middle of the words, so far from both edges that they have room.
-fn words_middle(left: u64) -> u64
+pub(crate) fn words_middle(left: u64) -> u64
     ensures { result ≡ definition.words_middle left }
 {
     left.max(WORDS_LEAST).min(WORDS_MOST)

@@ -152,3 +152,12 @@ pub(crate) const HEAD_HEIGHT: u64 = 90;
 
 /// The line of the words of a breach.
 pub(crate) const BREACH_LINE: u64 = 870;
+
+/// How far below the upper edge of its row the words of a fault stand in a lane.
+pub(crate) const FAULT_LINE: u64 = 50;
+
+/// How far behind its start they begin, beside its dash.
+pub(crate) const FAULT_BESIDE: u64 = 50;
+
+/// Where they begin at most, so that twenty letters have room.
+pub(crate) const FAULT_MOST: u64 = 9000;

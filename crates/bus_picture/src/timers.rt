@@ -23,7 +23,7 @@ use bus_table::{Sender, Table, sender_of};
 use bus_trace::Trace;
 
 /// Whether timers are drawn.
-fn is_near(scale: &Scale, ti: u32) -> bool
+pub(crate) fn is_near(scale: &Scale, ti: u32) -> bool
     requires { IsScale scale.now }
     ensures { result ≡ definition.is_near scale.now ti }
 {

@@ -9,10 +9,10 @@ ghost use Rattle.bus_picture.specs.TimeLines as definition;
 
 use crate::choosing::drawn_lanes;
 use crate::counting::counts;
+use crate::faults::put_told;
 use crate::lanes::{lane_top, put_fronts};
 use crate::legend::put_legend;
 use crate::load::put_loads;
-use crate::marks::put_breach;
 use crate::measures::{
     BUS_LINE, FOOT_HEIGHT, LEFT_OUT_LINE, LEGEND_BELOW, LOWER_WORDS, NAMES_RIGHT, PLOT_LEFT,
     PLOT_TOP, PLOT_WIDTH, TICK_HEIGHT, UPPER_TICKS, UPPER_WORDS,
@@ -22,13 +22,12 @@ use crate::rows::put_rows;
 use crate::timers::put_timers;
 use crate::tints::{has_tints, put_tints};
 use arrayvec::ArrayVec;
-use bus_audit::AuditAnswer;
 use bus_dump::{Lane, MOST_LANES, lanes_of};
 use bus_load::Stretch;
 use bus_outer::{Sink, TextBuffer, WriteFault};
 use bus_regime::TableVerdict;
 use bus_shapes::{
-    Area, Axis, Class, Scale, Unit, Window, begin_titled, begin_words, end_titled, end_words,
+    Area, Axis, Class, Scale, Told, Unit, Window, begin_titled, begin_words, end_titled, end_words,
     put_axis, put_frame, put_tail, put_words,
 };
 use bus_table::{Mode, Table};
@@ -106,7 +105,7 @@ fn put_plot<K: Sink>(
     scale: &Scale,
     bottom: u64,
     lanes: &[Lane],
-    answer: &AuditAnswer,
+    told: &Told,
     table: &Table,
     trace: &Trace,
     carrier: &[Stretch],
@@ -116,7 +115,7 @@ fn put_plot<K: Sink>(
     requires bottom { bottom ≡ definition.lane_top (length lanes.now) }
     requires carrier { IsCarrierOf carrier.now trace.now.list }
     ensures { Adds K.held K.faults sink.old sink.new text.old text.new
-        (definition.plot_text scale.now bottom lanes.now answer.now table.now trace.now) }
+        (definition.plot_text scale.now bottom lanes.now told.now table.now trace.now) }
 {
     put_words(
         text,
@@ -136,7 +135,8 @@ fn put_plot<K: Sink>(
     put_tints(text, sink, scale, bottom, trace);
     put_rows(text, sink, scale, lanes, table, trace);
     put_timers(text, sink, scale, lanes, table, trace);
-    put_breach(text, sink, scale, lanes, answer);
+    let ti = table.ti();
+    put_told(text, sink, scale, ti, lanes, told, list);
 }
 
 /// How many lanes are left out.
@@ -179,7 +179,7 @@ fn put_picture<K: Sink>(
     lanes: &[Lane],
     left_out: usize,
     verdict: &TableVerdict,
-    answer: &AuditAnswer,
+    told: &Told,
     table: &Table,
     trace: &Trace,
     carrier: &[Stretch],
@@ -188,7 +188,7 @@ fn put_picture<K: Sink>(
     requires few { length lanes.now ≤ 256 }
     requires carrier { IsCarrierOf carrier.now trace.now.list }
     ensures { Adds K.held K.faults sink.old sink.new text.old text.new
-        (definition.picture_text scale.now lanes.now left_out verdict.now answer.now table.now trace.now) }
+        (definition.picture_text scale.now lanes.now left_out verdict.now told.now table.now trace.now) }
 {
     let bottom = lane_top(lanes.len());
     let counts = counts(scale, trace);
@@ -197,12 +197,12 @@ fn put_picture<K: Sink>(
         sink,
         bottom + FOOT_HEIGHT,
         verdict,
-        answer,
+        told,
         table,
         &counts,
     );
     put_plot(
-        text, sink, scale, bottom, lanes, answer, table, trace, carrier,
+        text, sink, scale, bottom, lanes, told, table, trace, carrier,
     );
     let mode = table.mode();
     put_foot(text, sink, scale, bottom, left_out, mode, trace);
@@ -216,7 +216,7 @@ fn put_drawn<K: Sink>(
     scale: &Scale,
     all: ArrayVec<Lane, MOST_LANES>,
     verdict: &TableVerdict,
-    answer: &AuditAnswer,
+    told: &Told,
     table: &Table,
     trace: &Trace,
     carrier: &[Stretch],
@@ -224,11 +224,11 @@ fn put_drawn<K: Sink>(
     requires scale { IsScale scale.now }
     requires carrier { IsCarrierOf carrier.now trace.now.list }
     ensures { Adds K.held K.faults sink.old sink.new text.old text.new
-        (definition.drawn_text scale.now all.items verdict.now answer.now table.now trace.now) }
+        (definition.drawn_text scale.now all.items verdict.now told.now table.now trace.now) }
 {
     let count = all.len();
     let list = trace.list();
-    let lanes = drawn_lanes(scale, answer, list, all);
+    let lanes = drawn_lanes(scale, told, list, all);
     let left_out = count.saturating_sub(lanes.len());
     put_picture(
         text,
@@ -237,22 +237,23 @@ fn put_drawn<K: Sink>(
         lanes.as_slice(),
         left_out,
         verdict,
-        answer,
+        told,
         table,
         trace,
         carrier,
     );
 }
 
-/// Writes the time line of a trace in a window, with the words of the verdict on the table and of the answer of the audit, and with the
-/// load by `carrier`, that of the trace. It goes over the trace some six times for each lane, and takes no memory but half a megabyte of
-/// the stack.
+/// Writes the time line of a trace in a window, with the words of the verdict on the table and what is told of the trace, and with the
+/// load by `carrier`, that of the trace. It goes over the trace some six times for each lane, and over the lanes once for each fault, and
+/// takes no memory but half a megabyte of the stack. Findings are those of the trace, one for each transmission: what is beyond either is
+/// not marked.
 ///
 /// At `WriteFault` the sink has taken a front of the text, and its count of faults rose.
 pub fn write_time_line<K: Sink>(
     window: &Window,
     verdict: &TableVerdict,
-    answer: &AuditAnswer,
+    told: &Told,
     table: &Table,
     trace: &Trace,
     carrier: &[Stretch],
@@ -260,13 +261,13 @@ pub fn write_time_line<K: Sink>(
 ) -> Result<(), WriteFault>
     requires { IsCarrierOf carrier.now trace.now.list }
     ensures { WritesText K.held K.faults sink.old sink.new result
-        (time_line_text window.now verdict.now answer.now table.now trace.now) }
+        (time_line_text window.now verdict.now told.now table.now trace.now) }
 {
     let scale = scale_of(window);
     let lanes = lanes_of(table, trace.list());
     let mut text = TextBuffer::new();
     put_drawn(
-        &mut text, sink, &scale, lanes, verdict, answer, table, trace, carrier,
+        &mut text, sink, &scale, lanes, verdict, told, table, trace, carrier,
     );
     text.finish(sink)
 }

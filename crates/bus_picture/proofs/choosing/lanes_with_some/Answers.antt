@@ -8,7 +8,7 @@ use Rattle.bus_picture.proofs.choosing.lanes_with_some.Goals as goal
 
 pub loop-k-preserved : goal.loop-k-preserved
 loop-k-preserved c =
-    let test : Lane → Bool = has_some c.args.scale.now c.args.answer.now c.args.list.now in
+    let test : Lane → Bool = has_some c.args.scale.now c.args.told.now c.args.list.now in
     let i = c.loop-k.invariant in
     record {
       items = kept_more test c.args.lanes.now c.loop-k.k _ c.loop-k.some.items c.add_lane.new.lanes.items c.loop-k-test.true i.items c.add_lane.ensures.items;
@@ -18,4 +18,4 @@ loop-k-preserved c =
 pub returns : goal.returns
 returns c =
     c.loop-k.invariant.items
-    ∙ ap (filter (has_some c.args.scale.now c.args.answer.now c.args.list.now)) (take_all c.loop-k.k c.args.lanes.now (omega arith))
+    ∙ ap (filter (has_some c.args.scale.now c.args.told.now c.args.list.now)) (take_all c.loop-k.k c.args.lanes.now (omega arith))

@@ -6,6 +6,6 @@ use Rattle.bus_picture.proofs.choosing.lanes_with_some.Given as goal
 
 abbrev pub invariant-loop-k : goal.invariant-loop-k
 invariant-loop-k l = record {
-  items : l.some.items ≡ filter (has_some l.scale l.answer l.list) (take l.k l.lanes);
+  items : l.some.items ≡ filter (has_some l.scale l.told l.list) (take l.k l.lanes);
   count : array_vec_len l.some ≤ l.k;
 }

@@ -9,7 +9,7 @@ use Rattle.bus_shapes.specs.Shapes.{words_text}
 use Rattle.bus_picture.specs.Rows.{rows_text}
 use Rattle.bus_picture.specs.Tints.{tints_text}
 use Rattle.bus_picture.specs.TimeLines.{axes_text, each_lane, lane_front, rows_of, timers_text, unobserved_text}
-use Rattle.bus_picture.specs.Marks.{breach_text}
+use Rattle.bus_picture.specs.Faults.{told_text}
 use Rattle.bus_picture.specs.Measures.{plot_top}
 use Rattle.bus_picture.proofs.writing.put_plot.Goals as goal
 
@@ -24,12 +24,18 @@ returns g c =
     (loads_text c.args.scale.now c.args.lanes.now c.args.trace.now.list) =
     subst (λ (l : List Entry). Adds g.K.Sink.held g.K.Sink.faults c.put_paces.new.sink c.put_loads.new.sink c.put_paces.new.text c.put_loads.new.text
     (loads_text c.args.scale.now c.args.lanes.now l)) same c.put_loads.ensures in
-    subst (λ (horizon : ℕ). Adds g.K.Sink.held g.K.Sink.faults c.args.sink.now c.put_breach.new.sink c.args.text.now c.put_breach.new.text
+    let told : Adds g.K.Sink.held g.K.Sink.faults c.put_timers.new.sink c.put_told.new.sink c.put_timers.new.text c.put_told.new.text
+    (told_text c.args.scale.now c.args.table.now.ti c.args.lanes.now c.args.told.now c.args.trace.now.list) =
+    subst (λ (ti : ℕ). Adds g.K.Sink.held g.K.Sink.faults c.put_timers.new.sink c.put_told.new.sink c.put_timers.new.text c.put_told.new.text
+    (told_text c.args.scale.now ti c.args.lanes.now c.args.told.now c.args.trace.now.list)) c.ti-ti.ensures.value
+    (subst (λ (l : List Entry). Adds g.K.Sink.held g.K.Sink.faults c.put_timers.new.sink c.put_told.new.sink c.put_timers.new.text c.put_told.new.text
+    (told_text c.args.scale.now c.ti-ti.result c.args.lanes.now c.args.told.now l)) same c.put_told.ensures) in
+    subst (λ (horizon : ℕ). Adds g.K.Sink.held g.K.Sink.faults c.args.sink.now c.put_told.new.sink c.args.text.now c.put_told.new.text
     (words_text Counts 1380 (plot_top + 200) (codes "bus") ++ paces_text c.args.scale.now c.args.lanes.now c.args.trace.now.list
     ++ loads_text c.args.scale.now c.args.lanes.now c.args.trace.now.list ++ each_lane (lane_front c.args.table.now) 0 c.args.lanes.now
     ++ axes_text c.args.scale.now c.args.bottom ++ unobserved_text c.args.scale.now c.args.bottom horizon
     ++ tints_text c.args.scale.now c.args.bottom c.args.trace.now.list ++ rows_text c.args.scale.now c.args.table.now c.args.trace.now.list (rows_of c.args.lanes.now)
     ++ timers_text c.args.scale.now c.args.lanes.now c.args.table.now c.args.trace.now
-    ++ breach_text c.args.scale.now c.args.lanes.now c.args.answer.now)) c.horizon-horizon.ensures.value
+    ++ told_text c.args.scale.now c.args.table.now.ti c.args.lanes.now c.args.told.now c.args.trace.now.list)) c.horizon-horizon.ensures.value
     (c.put_words.ensures ▸ paces ▸ loads ▸ c.put_fronts.ensures ▸ c.put_axes.ensures ▸ c.put_unobserved.ensures ▸ c.put_tints.ensures ▸ c.put_rows.ensures
-    ▸ c.put_timers.ensures ▸ c.put_breach.ensures)
+    ▸ c.put_timers.ensures ▸ told)

@@ -14,8 +14,8 @@ returns g c =
     ends_text g.K.Sink.held g.K.Sink.faults c.args.sink.now c.put_drawn.new.sink c.finish.new.sink c.new-text.result c.put_drawn.new.text c.finish.result _
     c.finish.ensures
     (subst (λ (l : List Lane). Adds g.K.Sink.held g.K.Sink.faults c.args.sink.now c.put_drawn.new.sink c.new-text.result c.put_drawn.new.text
-    (drawn_text (scale_of c.args.window.now) l c.args.verdict.now c.args.answer.now c.args.table.now c.args.trace.now)) all
+    (drawn_text (scale_of c.args.window.now) l c.args.verdict.now c.args.told.now c.args.table.now c.args.trace.now)) all
     (subst (λ (scale : Scale). Adds g.K.Sink.held g.K.Sink.faults c.args.sink.now c.put_drawn.new.sink c.new-text.result c.put_drawn.new.text
-    (drawn_text scale c.lanes_of-lanes.result.items c.args.verdict.now c.args.answer.now c.args.table.now c.args.trace.now))
+    (drawn_text scale c.lanes_of-lanes.result.items c.args.verdict.now c.args.told.now c.args.table.now c.args.trace.now))
     c.scale_of-scale.ensures.value c.put_drawn.ensures))
     c.new-text.ensures
