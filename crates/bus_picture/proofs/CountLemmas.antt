@@ -189,7 +189,7 @@ bus_is_counted scale trace = counted scale trace bus_rows (λ x i h. each_is_on_
 
 -- ---- lanes
 -- As many of what is kept pass a test, where all that passes it is kept.
-kept_count : (p q : Lane → Bool) (xs : List Lane) → ((lane : Lane) → p lane ≡ true → q lane ≡ true) → count_by p (filter q xs) ≡ count_by p xs
+pub kept_count : (p q : Lane → Bool) (xs : List Lane) → ((lane : Lane) → p lane ≡ true → q lane ≡ true) → count_by p (filter q xs) ≡ count_by p xs
 kept_count p q [] h = refl
 kept_count p q (x ∷ xs) h =
     (elim (q x) as (λ b. q x ≡ b → count_by p (cond b (x ∷ filter q xs) (filter q xs)) ≡ count_by p (x ∷ xs)) [
@@ -200,7 +200,7 @@ kept_count p q (x ∷ xs) h =
           omega (arith, sum_by-cons (λ (l : Lane). cond (p l) 1 0) x xs, ap one_if out, kept_count p q xs h)
     ]) refl
 
-drawn_count : (b : Bool) (p : Lane → Bool) (some lanes : List Lane) → count_by p some ≡ count_by p lanes → count_by p (cond b some lanes) ≡ count_by p lanes
+pub drawn_count : (b : Bool) (p : Lane → Bool) (some lanes : List Lane) → count_by p some ≡ count_by p lanes → count_by p (cond b some lanes) ≡ count_by p lanes
 drawn_count true p some lanes h = h
 drawn_count false p some lanes h = refl
 

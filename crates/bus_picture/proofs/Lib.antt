@@ -19,3 +19,4 @@ pub mod AllGapLemmas
 pub mod StartLemmas
 pub mod OffsetLemmas
 pub mod FaultLemmas
+pub mod FaultLawLemmas

@@ -21,4 +21,5 @@ pub mod GapLaws
 pub mod TintLaws
 pub mod TakingLaws
 pub mod OffsetLaws
+pub mod FaultLaws
 pub mod inside

@@ -1,6 +1,7 @@
 //! Laws of the definitions, each the contract of a function that does nothing.
 ghost use Rattle.bus_picture.specs.GapLaws.{GapsAreAll, GapsAreTrue, LastGapsAreTrue, SyncGapsAreTrue};
 ghost use Rattle.bus_picture.specs.GapLaws.{IntervalsAreAll, IntervalsAreTrue, LastIntervalsAreTrue};
+ghost use Rattle.bus_picture.specs.FaultLaws.{FaultsAreMarked, FaultsHaveLanes, NoneIsMarked};
 ghost use Rattle.bus_picture.specs.OffsetLaws.{OffsetsAreMarked};
 ghost use Rattle.bus_picture.specs.Laws.{BoxesCoverNoQuiet, BoxesHoldRows, BoxesHoldTheirs, BoxesLieInRows, BreachesHideNoBox};
 ghost use Rattle.bus_picture.specs.Laws.{BusIsCounted, EachIsOnTheBus, LoadIsAShare};
@@ -41,7 +42,7 @@ pub fn garbled_are_uncovered()
     ensures boxes { BoxesLieInRows }
 {}
 
-/// Neither the line at the first breach nor its words hide a box.
+/// Neither the line at the first breach or at a fault nor its words above the plot hide a box.
 pub fn breaches_hide_no_box()
     ensures { BreachesHideNoBox }
 {}
@@ -113,3 +114,13 @@ pub fn takers_receive()
     ensures named { NamedReceive }
     ensures strings { ReceivesStrings }
 {}
+
+/// The faults that are marked are those of the transmissions that begin in the window, each in exactly one of the lanes that are drawn; and
+/// where the heading counts none, none is.
+pub fn faults_are_marked()
+    ensures marked { FaultsAreMarked }
+    ensures lanes { FaultsHaveLanes }
+    ensures none { NoneIsMarked }
+{
+    lanes_are_terminals();
+}
