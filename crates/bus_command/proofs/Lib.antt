@@ -14,3 +14,4 @@ pub mod RefusedReads
 pub mod TracedLemmas
 pub mod ToldLemmas
 pub mod ClaimLemmas
+pub mod BoundingLaws

@@ -4,13 +4,14 @@
 //! An [`Outcome`] is what a command came to; what only one program refuses is its parameter, a [`Refusal`]. [`outcome_text`] writes its
 //! line, and [`Status`] is how the program ends. [`take_table`], [`take_hands`], [`take_trace`] and [`take_traced`] are the steps by which
 //! a command takes its texts, and [`after_writing`] is what it comes to once its answer is written. [`About`] is what a program tells of
-//! itself.
+//! itself. [`number_of`], [`bounds_of`] and [`near_bounds_of`] read the words of numbers.
 //!
 //! `specs/Acts` says what a command does to the outside, `specs/Due` what is due of both texts, and `specs/Claims` how texts that are right
 //! are told. `proofs/PrepareLaws` and `proofs/DoLaws` put the steps of a command together.
 #![tactic(auto)]
 
 mod about;
+mod bounding;
 mod fault_line;
 mod inputs;
 mod outcome;
@@ -19,6 +20,7 @@ mod status;
 mod writing;
 
 pub use about::{About, about_of, tell};
+pub use bounding::{bounds_of, near_bounds_of, number_of};
 pub use fault_line::{outcome_text, put_error};
 pub use inputs::{
     Dealt, TEXT_LIMIT, Traced, take_hands, take_table, take_text, take_trace, take_traced,

@@ -1,8 +1,8 @@
 -- Which boxes of a row lie apart, and which have different shades.
-use Rattle.std.proofs.Common.{◌≡◌, ◌≢◌, ◌⊎◌, ℕ, zero, suc, ◌+◌, ◌-◌, ◌%◌, ◌<◌, ◌≤◌, Bool, true, false, cond, eqb, inl, inr, get_or, arith, sym, ap, subst}
+use Rattle.std.proofs.Common.{◌≡◌, ◌≢◌, ◌⊎◌, ℕ, zero, suc, ◌+◌, ◌-◌, ◌%◌, ◌<◌, ◌≤◌, Bool, true, false, cond, eqb, max, inl, inr, get_or, arith, sym, ap, subst}
 use Rattle.std.proofs.lemmas.Bool.{cases_lt}
 use Rattle.bus_shapes.specs.declared.sent.Sent.{Sent}
-use Rattle.bus_cycles.specs.Laws.{BreachHidesNone, ThreeLieApart}
+use Rattle.bus_cycles.specs.Laws.{BreachHidesNone, FaultHidesNone, ThreeLieApart}
 use Rattle.bus_cycles.specs.Pages.{Page, page_of, row_height_of, top_of}
 use Rattle.bus_cycles.specs.RowTexts.{below_top, height_of, shade}
 
@@ -49,6 +49,30 @@ hides_none table survey counts row begin left sent =
 
     under : (top below height row : ℕ) → below + height + 10 ≤ row → top + below + height ≤ top + row - 10
     under top below height row h = omega arith
+
+-- ---- what the mark of a fault hides
+-- A line across a box of this shade, below the upper part of a mark and above the lower one.
+crossed : (page : Page) (tone : ℕ) → 140 ≤ page.row_height → tone < 5
+    → (max (below_top page tone) 30 < below_top page tone + height_of page tone) × (max (below_top page tone) 30 + 30 < page.row_height)
+crossed page zero high low = (omega arith, omega arith)
+crossed page (suc zero) high low = (omega arith, omega arith)
+crossed page (suc (suc zero)) high low = (omega arith, omega arith)
+crossed page (suc (suc (suc zero))) high low = (omega arith, omega arith)
+crossed page (suc (suc (suc (suc zero)))) high low = (omega arith, omega arith)
+crossed page (suc (suc (suc (suc (suc n))))) high low = absurd (omega arith)
+
+pub fault_hides : FaultHidesNone
+fault_hides table survey counts row begin left sent =
+    let page : Page = page_of table survey counts in
+    let tone : ℕ = shade page sent in
+    let high : 140 ≤ page.row_height = (height_is counts.garbled).0 in
+    let line = crossed page tone high (shade_low page sent) in
+    let found = seen (top_of page row) (below_top page tone) (height_of page tone) page.row_height line.0 line.1 in
+    record { line = found.0; top = found.1; bottom = found.2; under = found.3; over = found.4 }
+  where
+    seen : (top below height row : ℕ) → max below 30 < below + height → max below 30 + 30 < row
+        → (n : ℕ) × (top + below ≤ n) × (n < top + below + height) × (top + 30 ≤ n) × (n < top + row - 30)
+    seen top below height row a b = (top + max below 30, omega arith, omega arith, omega arith, omega arith)
 
 -- ---- three that are garbled
 -- A slot lies above the next ones.

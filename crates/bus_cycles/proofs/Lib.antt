@@ -14,3 +14,5 @@ pub mod ApartLemmas
 pub mod LaneLemmas
 pub mod WordLemmas
 pub mod LengthLemmas
+pub mod FaultLemmas
+pub mod MarkedLemmas

@@ -1,41 +1,42 @@
 -- What is put is the text of the picture.
 use Rattle.std.proofs.Common.{◌≡◌, ℕ, List, ◌++◌, Option, ap, ◌∙◌}
-use Rattle.bus_audit.specs.declared.answer.AuditAnswer.{AuditAnswer}
 use Rattle.bus_regime.specs.declared.table_verdict.TableVerdict.{TableVerdict}
 use Rattle.bus_table.specs.Tables.{Table}
 use Rattle.bus_trace.specs.Traces.{Recording}
 use Rattle.bus_shapes.specs.declared.counts.Counts.{Counts}
 use Rattle.bus_shapes.specs.Frames.{frame_text, tail_text}
+use Rattle.bus_shapes.specs.declared.told.Told.{Told}
 use Rattle.bus_shapes.specs.Windows.{Window}
 use Rattle.bus_cycles.specs.CyclesTexts.{above_text, below_text, breach_text, height_of, cycles_text, marks_text, survey_in}
 use Rattle.bus_cycles.specs.Pages.{Page, page_of}
+use Rattle.bus_cycles.specs.Faults.{faults_text}
 use Rattle.bus_cycles.specs.Loads.{loads_text}
 use Rattle.bus_cycles.specs.Rows.{Cycle, cycle_of, rows_of}
 use Rattle.bus_cycles.specs.RowTexts.{rows_text}
 use Rattle.bus_cycles.specs.Sents.{shown}
 use Rattle.bus_cycles.specs.Surveys.{Survey, breach_in, counts, survey_of}
 
-abbrev pub text_with : Window → TableVerdict → AuditAnswer → Table → Recording → ℕ → Counts → Survey → Page → Option ℕ → List ℕ
-text_with window verdict answer table trace height told survey page breach =
-    frame_text height verdict answer table told
-    ++ above_text page survey ++ rows_text page (rows_of page.cycle (shown window trace.list))
+abbrev pub text_with : Window → TableVerdict → Told → Table → Recording → ℕ → Counts → Survey → Page → Option ℕ → List ℕ
+text_with window verdict told table trace height numbers survey page breach =
+    frame_text height verdict told table numbers
+    ++ above_text page survey told ++ rows_text page (rows_of page.cycle (shown window trace.list))
     ++ loads_text page trace.list (rows_of page.cycle (shown window trace.list)) ++ marks_text page table verdict ++ below_text page
-    ++ breach_text page breach survey.marked ++ tail_text
+    ++ breach_text page breach survey.marked ++ faults_text page told (rows_of page.cycle (shown window trace.list)) ++ tail_text
 
-pub whole_put : (window : Window) (verdict : TableVerdict) (answer : AuditAnswer) (table : Table) (trace : Recording) (height : ℕ) (told : Counts)
-    (survey : Survey) (page : Page) (cycle : Cycle) (breach : Option ℕ) → height ≡ height_of page → told ≡ counts window trace → cycle ≡ cycle_of table
-    → breach ≡ breach_in window answer → survey ≡ survey_of cycle breach (shown window trace.list) → page ≡ page_of table survey told
-    → text_with window verdict answer table trace height told survey page breach ≡ cycles_text window verdict answer table trace
+pub whole_put : (window : Window) (verdict : TableVerdict) (told : Told) (table : Table) (trace : Recording) (height : ℕ) (numbers : Counts)
+    (survey : Survey) (page : Page) (cycle : Cycle) (breach : Option ℕ) → height ≡ height_of page → numbers ≡ counts window trace → cycle ≡ cycle_of table
+    → breach ≡ breach_in window told → survey ≡ survey_of cycle breach (shown window trace.list) → page ≡ page_of table survey numbers
+    → text_with window verdict told table trace height numbers survey page breach ≡ cycles_text window verdict told table trace
 unfolding cycles_text
-whole_put window verdict answer table trace height told survey page cycle breach b t c f s p =
-    let text = text_with window verdict answer table trace in
+whole_put window verdict told table trace height numbers survey page cycle breach b t c f s p =
+    let text = text_with window verdict told table trace in
     let list = shown window trace.list in
-    let found = breach_in window answer in
+    let found = breach_in window told in
     let seen = counts window trace in
-    let own : Survey = survey_in window answer table trace in
+    let own : Survey = survey_in window told table trace in
     let is : survey ≡ own = s ∙ ap (λ (y : Cycle). survey_of y breach list) c ∙ ap (λ (m : Option ℕ). survey_of (cycle_of table) m list) f in
-    let page_is : page ≡ page_of table own seen = p ∙ ap (λ (y : Survey). page_of table y told) is ∙ ap (λ (n : Counts). page_of table own n) t in
-    ap (λ (n : ℕ). text n told survey page breach) b
+    let page_is : page ≡ page_of table own seen = p ∙ ap (λ (y : Survey). page_of table y numbers) is ∙ ap (λ (n : Counts). page_of table own n) t in
+    ap (λ (n : ℕ). text n numbers survey page breach) b
     ∙ ap (λ (n : Counts). text (height_of page) n survey page breach) t
     ∙ ap (λ (n : Page). text (height_of n) seen survey n breach) page_is
     ∙ ap (λ (n : Option ℕ). text (height_of (page_of table own seen)) seen survey (page_of table own seen) n) f

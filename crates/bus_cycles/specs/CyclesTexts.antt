@@ -1,7 +1,6 @@
 -- The text of a picture that has a row for each cycle.
 use Rattle.std.specs.Prelude.{ℕ, ◌+◌, ◌-◌, Bool, ◌==◌, nat_le, nat_lt, min, List, [], ◌++◌, codes, decimal}
 use Rattle.std.specs.Prelude.{Option, Some, None, if◌then◌else◌}
-use Rattle.bus_audit.specs.declared.answer.AuditAnswer.{AuditAnswer}
 use Rattle.bus_regime.specs.declared.table_verdict.TableVerdict.{TableVerdict}
 use Rattle.bus_regime.specs.declared.table_verdict.TableVerdict.TheVariants.{Accept, ShortCycle, SmallGap, NoSync}
 use Rattle.bus_table.specs.declared.mode.Mode.{Mode}
@@ -12,8 +11,10 @@ use Rattle.bus_shapes.specs.declared.axis.Axis.{Axis}
 use Rattle.bus_shapes.specs.declared.axis.Unit.TheVariants.{BitTimes, Microseconds}
 use Rattle.bus_shapes.specs.Axes.{axis_text}
 use Rattle.bus_shapes.specs.declared.class.Class.{Class}
-use Rattle.bus_shapes.specs.declared.class.Class.TheVariants.{Breach, Detail, Garbled, Grid, Mark, Note, Other, Small, Tick, Wordstring}
+use Rattle.bus_shapes.specs.declared.class.Class.TheVariants.{Breach, Detail, Fault, Garbled, Grid, Mark, Note, Other, Small, Tick, Wordstring}
 use Rattle.bus_shapes.specs.Frames.{frame_text, tail_text}
+use Rattle.bus_shapes.specs.declared.told.Told.{Told}
+use Rattle.bus_shapes.specs.declared.told.Told.TheVariants.{Audit, Findings}
 use Rattle.bus_shapes.specs.declared.scale.Scale.{Scale}
 use Rattle.bus_shapes.specs.Scales.{place}
 use Rattle.bus_shapes.specs.declared.area.Area.{Area}
@@ -23,11 +24,12 @@ use Rattle.bus_shapes.specs.Windows.{Window}
 use Rattle.bus_cycles.specs.Rows.{Extent, cycle_of, rows}
 use Rattle.bus_cycles.specs.Sents.{shown}
 use Rattle.bus_cycles.specs.Pages.{Page, bottom_of, page_of, top_of}
+use Rattle.bus_cycles.specs.Faults.{faults_text}
 use Rattle.bus_cycles.specs.Loads.{loads_text}
 use Rattle.bus_cycles.specs.RowTexts.{line_of, pixel, rows_text}
 use Rattle.bus_cycles.specs.Surveys.{Survey, breach_in, counts, is_drawn, most_rows, survey_of}
 use Rattle.bus_cycles.specs.Measures.{before_mark, behind_mark, breach_below, breach_box_left, breach_height, breach_left, breach_over}
-use Rattle.bus_cycles.specs.Measures.{breach_width, breach_words_left, even_left, foot_height, garbled_left, garbled_words_left}
+use Rattle.bus_cycles.specs.Measures.{breach_width, breach_words_left, even_left, fault_width, foot_height, garbled_left, garbled_words_left}
 use Rattle.bus_cycles.specs.Measures.{least_words_line, legend_height, legend_line, legend_top, legend_width}
 use Rattle.bus_cycles.specs.Measures.{line_width, load_right, long_foot, long_picture}
 use Rattle.bus_cycles.specs.Measures.{lower_foot, lower_top, lower_words, mark_words_line, marks_top, odd_left}
@@ -94,20 +96,27 @@ axes_text page = axis_text page.scale upper_axis ++ axis_text page.scale (lower_
 abbrev pub legend_box : Class → ℕ → ℕ → List ℕ
 legend_box class left width = box_text class (record { left = left; top = legend_top; width = width; height = legend_height })
 
+-- The box and the word of a mark.
+abbrev pub marking : Class → ℕ → List ℕ → List ℕ
+marking class width word = legend_box class breach_box_left width ++ words_text Small breach_words_left legend_line word
+
+-- What the last box means: the mark of the first breach of an audit, or of a fault among findings.
+abbrev pub mark_legend : Told → List ℕ
+mark_legend (Audit answer) = marking Breach breach_width (codes "first breach")
+mark_legend (Findings bounds judgements) = marking Fault fault_width (codes "fault")
+
 -- What boxes mean.
-abbrev pub legend_text : List ℕ
-legend_text =
+abbrev pub legend_text : Told → List ℕ
+legend_text told =
     legend_box Other even_left legend_width ++ legend_box Wordstring odd_left legend_width
     ++ words_text Small sent_words_left legend_line (codes "sent by the terminal of this number")
     ++ legend_box Garbled garbled_left legend_width
-    ++ words_text Small garbled_words_left legend_line (codes "garbled: another overlaps it")
-    ++ legend_box Breach breach_box_left breach_width
-    ++ words_text Small breach_words_left legend_line (codes "first breach")
+    ++ words_text Small garbled_words_left legend_line (codes "garbled: another overlaps it") ++ mark_legend told
 
 -- What stands above the rows.
-abbrev pub above_text : Page → Survey → List ℕ
-above_text page survey =
-    words_text Small left_margin rows_line (row_words survey) ++ legend_text ++ axes_text page
+abbrev pub above_text : Page → Survey → Told → List ℕ
+above_text page survey told =
+    words_text Small left_margin rows_line (row_words survey) ++ legend_text told ++ axes_text page
     ++ words_text Small left_margin mark_words_line (codes "cycle, its begin")
     ++ words_text Detail right_margin lower_words (codes "length") ++ words_text Detail load_right lower_words (codes "load")
 
@@ -191,20 +200,20 @@ breach_text page (Some moment) (Some row) = breach_in_row page moment row
 
 -- ---- the whole
 -- The picture of a window of a trace on a table, given what is told of its rows, and what these go by.
-abbrev pub text_of : Page → Survey → Window → TableVerdict → AuditAnswer → Table → Recording → List ℕ
-text_of page survey window verdict answer table trace =
-    frame_text (height_of page) verdict answer table (counts window trace)
-    ++ above_text page survey
+abbrev pub text_of : Page → Survey → Window → TableVerdict → Told → Table → Recording → List ℕ
+text_of page survey window verdict told table trace =
+    frame_text (height_of page) verdict told table (counts window trace)
+    ++ above_text page survey told
     ++ rows_text page (rows table window trace.list) ++ loads_text page trace.list (rows table window trace.list)
     ++ marks_text page table verdict ++ below_text page
-    ++ breach_text page (breach_in window answer) survey.marked ++ tail_text
+    ++ breach_text page (breach_in window told) survey.marked ++ faults_text page told (rows table window trace.list) ++ tail_text
 
 -- What is told of the rows of a window of a trace.
-abbrev pub survey_in : Window → AuditAnswer → Table → Recording → Survey
-survey_in window answer table trace = survey_of (cycle_of table) (breach_in window answer) (shown window trace.list)
+abbrev pub survey_in : Window → Told → Table → Recording → Survey
+survey_in window told table trace = survey_of (cycle_of table) (breach_in window told) (shown window trace.list)
 
--- The picture of a window of a trace on a table.
-unfoldable pub cycles_text : Window → TableVerdict → AuditAnswer → Table → Recording → List ℕ
-cycles_text window verdict answer table trace =
-    text_of (page_of table (survey_in window answer table trace) (counts window trace)) (survey_in window answer table trace) window verdict
-    answer table trace
+-- The picture of a window of a trace on a table, with what is told of the trace.
+unfoldable pub cycles_text : Window → TableVerdict → Told → Table → Recording → List ℕ
+cycles_text window verdict told table trace =
+    text_of (page_of table (survey_in window told table trace) (counts window trace)) (survey_in window told table trace) window verdict
+    told table trace

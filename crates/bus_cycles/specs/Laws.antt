@@ -17,7 +17,10 @@ use Rattle.bus_shapes.specs.declared.counts.Counts.{Counts}
 use Rattle.bus_shapes.specs.Scales.{IsScale}
 use Rattle.bus_shapes.specs.SendingLaws.{IsToldOf}
 use Rattle.bus_shapes.specs.Windows.{Window}
+use Rattle.bus_findings.specs.declared.judgement.Judgement.{Judgement}
+use Rattle.bus_findings.specs.Terminals.{fault_sum, is_faulty}
 use Rattle.bus_cycles.specs.CyclesTexts.{part_above, part_below}
+use Rattle.bus_cycles.specs.Faults.{fault_at, faults_of, lower_part, upper_part}
 use Rattle.bus_cycles.specs.Loads.{busy_of, whole_of}
 use Rattle.bus_cycles.specs.Measures.{breach_left}
 use Rattle.bus_cycles.specs.Pages.{Page, page_of, scale_of}
@@ -135,6 +138,40 @@ BreachWordHidesNone =
     (table : Table) (survey : Survey) (counts : Counts) (row begin : ℕ) (sent : Sent) → IsScale (scale_of survey)
     → (area_of (page_of table survey counts) row begin sent).left + (area_of (page_of table survey counts) row begin sent).width
     ≤ breach_left
+
+-- A part of a text.
+pub record IsPartOf (part whole : List ℕ) : Type 0 where
+  pub front : List ℕ
+  pub back : List ℕ
+  pub whole_is : whole ≡ front ++ part ++ back
+
+-- Each transmission at which a fault is found has its mark in the row that is drawn of it, with what is found.
+abbrev pub FaultsAreMarked : Type 0
+FaultsAreMarked =
+    (page : Page) (table : Table) (window : Window) (list : List Entry) (judgements : List Judgement) (row : Row) (sent : Sent) (found : Judgement)
+    → In row (rows table window list) → In sent row.sents → IsTrue (is_drawn row.place)
+    → slice_get judgements sent.at ≡ Some found → IsTrue (is_faulty found)
+    → IsPartOf (fault_at page row.place row.begin sent found) (faults_of page judgements (rows table window list))
+
+-- Where the heading counts no fault, none is marked.
+abbrev pub NoFaultIsMarked : Type 0
+NoFaultIsMarked =
+    (page : Page) (judgements : List Judgement) (rows : List Row) → fault_sum judgements ≡ 0 → faults_of page judgements rows ≡ []
+
+-- A line across the box of a transmission meets no part of a mark of its row, so that something of the box is seen.
+pub record IsSeenBetween (above below box : Area) : Type 0 where
+  pub line : ℕ
+  pub top : box.top ≤ line
+  pub bottom : line < box.top + box.height
+  pub under : above.top + above.height ≤ line
+  pub over : line < below.top
+
+-- No mark of a fault hides a box.
+abbrev pub FaultHidesNone : Type 0
+FaultHidesNone =
+    (table : Table) (survey : Survey) (counts : Counts) (row begin left : ℕ) (sent : Sent)
+    → IsSeenBetween (upper_part (page_of table survey counts) left row) (lower_part (page_of table survey counts) left row)
+    (area_of (page_of table survey counts) row begin sent)
 
 -- No row is shorter than the least length that is told, or longer than the greatest.
 abbrev pub LengthsAreOfRows : Type 0

@@ -7,6 +7,7 @@ pub mod Lanes
 pub mod Pages
 pub mod RowTexts
 pub mod Loads
+pub mod Faults
 pub mod CyclesTexts
 pub mod Laws
 pub mod inside

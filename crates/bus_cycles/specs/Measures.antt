@@ -145,9 +145,17 @@ breach_over = 30
 abbrev pub breach_below : ℕ
 breach_below = 10
 
--- Where the word of a breach begins: behind the boxes of all rows.
+-- Where the word of a breach or of a fault begins: behind the boxes of all rows.
 abbrev pub breach_left : ℕ
 breach_left = 8540
+
+-- The width of each of the two parts of the mark of a fault.
+abbrev pub fault_width : ℕ
+fault_width = 40
+
+-- Their height. The first begins at the upper edge of its row, the second ends at the lower one.
+abbrev pub fault_height : ℕ
+fault_height = 30
 
 -- ---- the legend
 -- The upper edge of its boxes.
@@ -186,7 +194,7 @@ garbled_left = 2900
 abbrev pub garbled_words_left : ℕ
 garbled_words_left = 3060
 
--- Where the box of the breach begins.
+-- Where the box of the breach or of a fault begins.
 abbrev pub breach_box_left : ℕ
 breach_box_left = 5040
 

@@ -6,6 +6,8 @@ use Rattle.bus_audit.specs.declared.answer.AuditAnswer.{AuditAnswer}
 use Rattle.bus_audit.specs.declared.answer.AuditAnswer.TheVariants.{Lawful, Breach}
 use Rattle.bus_trace.specs.Traces.{Recording}
 use Rattle.bus_shapes.specs.declared.counts.Counts.{Counts}
+use Rattle.bus_shapes.specs.declared.told.Told.{Told}
+use Rattle.bus_shapes.specs.declared.told.Told.TheVariants.{Audit, Findings}
 use Rattle.bus_shapes.specs.Windows.{Window, holds}
 use Rattle.bus_shapes.specs.declared.sent.Sent.{Sent}
 use Rattle.bus_cycles.specs.Rows.{Cycle, Extent, extent_of, rows_of, takes}
@@ -20,10 +22,15 @@ most_rows = 500
 abbrev pub is_drawn : ℕ → Bool
 is_drawn place = nat_lt place most_rows
 
--- The moment of the first breach, where there is one that the window holds.
-abbrev pub breach_in : Window → AuditAnswer → Option ℕ
-breach_in window (Lawful collided) = None
-breach_in window (Breach moment terminal kind) = if holds window moment then Some moment else None
+-- The moment of the first breach that an audit found, where there is one that the window holds.
+abbrev pub audited_breach : Window → AuditAnswer → Option ℕ
+audited_breach window (Lawful collided) = None
+audited_breach window (Breach moment terminal kind) = if holds window moment then Some moment else None
+
+-- The same of what is told of a trace: findings tell of no breach.
+abbrev pub breach_in : Window → Told → Option ℕ
+breach_in window (Audit answer) = audited_breach window answer
+breach_in window (Findings bounds judgements) = None
 
 -- Whether a row takes the breach at this moment.
 abbrev pub takes_breach : Cycle → Option ℕ → Extent → Bool

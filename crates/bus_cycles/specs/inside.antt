@@ -2,4 +2,5 @@
 pub mod Drawing
 pub mod Surveying
 pub mod Loading
+pub mod Marking
 pub mod Bounds

@@ -13,7 +13,7 @@ use bus_shapes::{Area, Class, Sent};
 const SLOTS: usize = 3;
 
 /// The left edge of a transmission in a row that began at this moment.
-fn left_of(page: &Page, begin: u64, sent: &Sent) -> u64
+pub(crate) fn left_of(page: &Page, begin: u64, sent: &Sent) -> u64
     requires page { IsPage page.now }
     requires sent { IsSent sent.now }
     ensures value { result ≡ definition.left_of page.now begin sent.now }

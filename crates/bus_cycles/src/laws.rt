@@ -1,5 +1,6 @@
 //! Laws of the definitions, each the contract of a function that does nothing.
 ghost use Rattle.bus_cycles.specs.Laws.{BreachHidesNone, BreachIsAtItsMoment, BreachWordHidesNone, CountsAreOfRows, EachIsDueOnce};
+ghost use Rattle.bus_cycles.specs.Laws.{FaultHidesNone, FaultsAreMarked, NoFaultIsMarked};
 ghost use Rattle.bus_cycles.specs.Laws.{HatchedAreDrawnLast, HatchedAreGarbled, KeptAreDrawn, LeftOutAreCovered, LengthsAreOfRows};
 ghost use Rattle.bus_cycles.specs.Laws.{LoadsAreShares, NeighboursDiffer, RowsAreAPartition, RowsAreCounted, RowsAreCycles};
 ghost use Rattle.bus_cycles.specs.Laws.{RowsAreIntervals, RowsAreNumbered, RowsAscend, RowsHaveLengths, TheLastRowIsMarked};
@@ -80,6 +81,21 @@ pub fn breach_word_hides_none()
 {
     places_keep_order();
 }
+
+/// Each transmission of a drawn row at which a fault is found has its mark there, with what is found.
+pub fn faults_are_marked()
+    ensures { FaultsAreMarked }
+{}
+
+/// Where the heading counts no fault, none is marked.
+pub fn no_fault_is_marked()
+    ensures { NoFaultIsMarked }
+{}
+
+/// The mark of a fault hides no box of its row: something of each is seen between its two parts.
+pub fn fault_hides_none()
+    ensures { FaultHidesNone }
+{}
 
 /// No row is shorter than the least length that the words above the rows tell, or longer than the greatest.
 pub fn lengths_are_of_rows()

@@ -5,7 +5,7 @@
 //!
 //! The definitions are in `specs/`: `Sents` (the transmissions that begin in a window), `Rows` (where the rows begin, and which
 //! transmissions each has), `Surveys` (what is told of all rows before they are drawn), `Lanes` (by which shades go), `Pages` (what all
-//! rows go by), `RowTexts` (the text of a row), `Loads` (how busy a row is) and `CyclesTexts` (the text of the picture). No call takes
+//! rows go by), `RowTexts` (the text of a row), `Loads` (how busy a row is), `Faults` (what is found at its transmissions) and `CyclesTexts` (the text of the picture). No call takes
 //! memory.
 #![tactic(auto)]
 
@@ -14,7 +14,9 @@ mod boxes;
 mod breach;
 mod counting;
 mod cycle;
+mod faults;
 pub mod laws;
+mod legend;
 mod load;
 mod measures;
 mod page;

@@ -105,8 +105,14 @@ pub(crate) const BREACH_OVER: u64 = 30;
 /// How far above the lower edge of its row its second part begins: where the boxes end.
 pub(crate) const BREACH_BELOW: u64 = 10;
 
-/// Where the word of a breach begins: behind the boxes of all rows.
+/// Where the word of a breach or of a fault begins: behind the boxes of all rows.
 pub(crate) const BREACH_LEFT: u64 = 8540;
+
+/// The width of each of the two parts of the mark of a fault.
+pub(crate) const FAULT_WIDTH: u64 = 40;
+
+/// Their height. The first begins at the upper edge of its row, the second ends at the lower one.
+pub(crate) const FAULT_HEIGHT: u64 = 30;
 
 // ---- the legend
 /// The upper edge of its boxes.
@@ -136,7 +142,7 @@ pub(crate) const GARBLED_LEFT: u64 = 2900;
 /// Where its words begin.
 pub(crate) const GARBLED_WORDS_LEFT: u64 = 3060;
 
-/// Where the box of the breach begins.
+/// Where the box of the breach or of a fault begins.
 pub(crate) const BREACH_BOX_LEFT: u64 = 5040;
 
 /// Where its words begin.

@@ -5,11 +5,10 @@ ghost use Rattle.bus_shapes.specs.Scales.{IsScale};
 ghost use Rattle.bus_cycles.specs.CyclesTexts as definition;
 ghost use Rattle.bus_cycles.specs.inside.Bounds.{IsPage};
 
+use crate::legend::put_legend;
 use crate::measures::{
-    BEFORE_MARK, BEHIND_MARK, BREACH_BOX_LEFT, BREACH_WIDTH, BREACH_WORDS_LEFT, EVEN_LEFT,
-    FOOT_HEIGHT, GARBLED_LEFT, GARBLED_WORDS_LEFT, LEAST_WORDS_LINE, LEGEND_HEIGHT, LEGEND_LINE,
-    LEGEND_TOP, LEGEND_WIDTH, LINE_WIDTH, LOAD_RIGHT, LONG_FOOT, LONG_PICTURE, LOWER_FOOT,
-    LOWER_TOP, LOWER_WORDS, MARK_WORDS_LINE, MARKS_TOP, ODD_LEFT, ROWS_LINE, SENT_WORDS_LEFT,
+    BEFORE_MARK, BEHIND_MARK, FOOT_HEIGHT, LEAST_WORDS_LINE, LINE_WIDTH, LOAD_RIGHT, LONG_FOOT,
+    LONG_PICTURE, LOWER_FOOT, LOWER_TOP, LOWER_WORDS, MARK_WORDS_LINE, MARKS_TOP, ROWS_LINE,
     TICK_HEIGHT, TICKS_FOOT, UPPER_FOOT, UPPER_TICKS, UPPER_WORDS,
 };
 use crate::page::Page;
@@ -18,7 +17,7 @@ use bus_outer::{Sink, TextBuffer};
 use bus_regime::TableVerdict;
 use bus_shapes::measures::{LEFT_MARGIN, RIGHT_MARGIN};
 use bus_shapes::{
-    Area, Axis, Class, Scale, Unit, begin_words, end_words, put_axis, put_box, put_words,
+    Area, Axis, Class, Scale, Told, Unit, begin_words, end_words, put_axis, put_box, put_words,
 };
 use bus_table::{Mode, Table};
 
@@ -135,62 +134,21 @@ pub(crate) fn put_below<K: Sink>(text: &mut TextBuffer, sink: &mut K, page: &Pag
     }
 }
 
-/// A box of the legend.
-fn put_legend_box<K: Sink>(text: &mut TextBuffer, sink: &mut K, class: Class, left: u64, width: u64)
-    ensures { Adds K.held K.faults sink.old sink.new text.old text.new (definition.legend_box class left width) }
-{
-    let area = Area {
-        left,
-        top: LEGEND_TOP,
-        width,
-        height: LEGEND_HEIGHT,
-    };
-    put_box(text, sink, class, area);
-}
-
-/// What boxes mean.
-fn put_legend<K: Sink>(text: &mut TextBuffer, sink: &mut K)
-    ensures { Adds K.held K.faults sink.old sink.new text.old text.new definition.legend_text }
-{
-    put_legend_box(text, sink, Class::Other, EVEN_LEFT, LEGEND_WIDTH);
-    put_legend_box(text, sink, Class::Wordstring, ODD_LEFT, LEGEND_WIDTH);
-    put_words(
-        text,
-        sink,
-        Class::Small,
-        SENT_WORDS_LEFT,
-        LEGEND_LINE,
-        b"sent by the terminal of this number",
-    );
-    put_legend_box(text, sink, Class::Garbled, GARBLED_LEFT, LEGEND_WIDTH);
-    put_words(
-        text,
-        sink,
-        Class::Small,
-        GARBLED_WORDS_LEFT,
-        LEGEND_LINE,
-        b"garbled: another overlaps it",
-    );
-    put_legend_box(text, sink, Class::Breach, BREACH_BOX_LEFT, BREACH_WIDTH);
-    put_words(
-        text,
-        sink,
-        Class::Small,
-        BREACH_WORDS_LEFT,
-        LEGEND_LINE,
-        b"first breach",
-    );
-}
-
 /// What stands above the rows: how many there are, the legend, and the axes.
-pub(crate) fn put_above<K: Sink>(text: &mut TextBuffer, sink: &mut K, page: &Page, survey: &Survey)
+pub(crate) fn put_above<K: Sink>(
+    text: &mut TextBuffer,
+    sink: &mut K,
+    page: &Page,
+    survey: &Survey,
+    told: &Told,
+)
     requires { IsPage page.now }
-    ensures { Adds K.held K.faults sink.old sink.new text.old text.new (definition.above_text page.now survey.now) }
+    ensures { Adds K.held K.faults sink.old sink.new text.old text.new (definition.above_text page.now survey.now told.now) }
 {
     begin_words(text, sink, Class::Small, LEFT_MARGIN, ROWS_LINE);
     put_row_words(text, sink, survey);
     end_words(text, sink);
-    put_legend(text, sink);
+    put_legend(text, sink, told);
     put_axes(text, sink, page);
     put_words(
         text,

@@ -8,7 +8,7 @@ ghost use Rattle.bus_cycles.specs.Surveys as definition;
 use crate::cycle::{Cycle, Extent};
 use crate::shown::Shown;
 use bus_audit::AuditAnswer;
-use bus_shapes::{Sent, Window};
+use bus_shapes::{Sent, Told, Window};
 use bus_trace::Trace;
 
 /// The most rows that are drawn.
@@ -31,9 +31,9 @@ pub(crate) struct Survey {
     pub most: u64,
 }
 
-/// The moment of the first breach, where there is one that the window holds.
-pub(crate) fn breach_in(window: &Window, answer: AuditAnswer) -> Option<u64>
-    ensures value { result ≡ definition.breach_in window.now answer }
+/// The moment of the first breach that an audit found, where there is one that the window holds.
+fn audited_breach(window: &Window, answer: AuditAnswer) -> Option<u64>
+    ensures value { result ≡ definition.audited_breach window.now answer }
     ensures low { IfSome result (λ moment. moment ≤ 2 ^ 40) }
 {
     // Its end is below the limit of a horizon, and so is the moment.
@@ -41,6 +41,17 @@ pub(crate) fn breach_in(window: &Window, answer: AuditAnswer) -> Option<u64>
     match answer {
         AuditAnswer::Breach { moment, .. } if window.holds(moment) => Some(moment),
         _ => None,
+    }
+}
+
+/// The same of what is told of a trace: findings tell of no breach.
+pub(crate) fn breach_in(window: &Window, told: &Told) -> Option<u64>
+    ensures value { result ≡ definition.breach_in window.now told.now }
+    ensures low { IfSome result (λ moment. moment ≤ 2 ^ 40) }
+{
+    match told {
+        Told::Audit(answer) => audited_breach(window, *answer),
+        Told::Findings { .. } => None,
     }
 }
 

@@ -8,49 +8,51 @@ use crate::boxes::put_rows;
 use crate::breach::put_breach;
 use crate::counting::counts;
 use crate::cycle::Cycle;
+use crate::faults::put_faults;
 use crate::load::put_loads;
 use crate::page::Page;
 use crate::plot::{height_of, put_above, put_below, put_marks};
 use crate::survey::{breach_in, take_survey};
-use bus_audit::AuditAnswer;
 use bus_load::Stretch;
 use bus_outer::{Sink, TextBuffer, WriteFault};
 use bus_regime::TableVerdict;
-use bus_shapes::{Window, put_frame, put_tail};
+use bus_shapes::{Told, Window, put_frame, put_tail};
 use bus_table::Table;
 use bus_trace::Trace;
 
 /// Writes the picture of a window of a trace on a table as SVG: a row for each cycle, one below the other from the same left edge, at most
-/// 500, and above them the words of the verdict and of the audit. What is garbled is drawn over all that is plain, and the marks over both.
+/// 500, and above them the words of the verdict and of what is told of the trace. The first breach that an audit found is marked, or each
+/// fault among findings. What is garbled is drawn over all that is plain, and the marks over both.
 /// It goes over the trace five times, and takes no memory. The carrier of the trace's list is given, since that takes memory to tell.
 ///
 /// At `WriteFault` the sink has taken a front of the text, and its count of faults rose.
 pub fn write_cycles<K: Sink>(
     window: &Window,
     verdict: &TableVerdict,
-    answer: &AuditAnswer,
+    told: &Told,
     table: &Table,
     trace: &Trace,
     carrier: &[Stretch],
     sink: &mut K,
 ) -> Result<(), WriteFault>
     requires carrier { IsCarrierOf carrier.now trace.now.list }
-    ensures { WritesText K.held K.faults sink.old sink.new result (cycles_text window.now verdict.now answer.now table.now trace.now) }
+    ensures { WritesText K.held K.faults sink.old sink.new result (cycles_text window.now verdict.now told.now table.now trace.now) }
 {
     let cycle = Cycle::new(table);
-    let breach = breach_in(window, *answer);
+    let breach = breach_in(window, told);
     let survey = take_survey(&cycle, breach, window, trace);
     let counts = counts(window, trace);
     let page = Page::new(table, &survey, &counts);
     let height = height_of(&page);
     let mut text = TextBuffer::new();
-    put_frame(&mut text, sink, height, verdict, answer, table, &counts);
-    put_above(&mut text, sink, &page, &survey);
+    put_frame(&mut text, sink, height, verdict, told, table, &counts);
+    put_above(&mut text, sink, &page, &survey, told);
     put_rows(&mut text, sink, &page, window, trace);
     put_loads(&mut text, sink, &page, window, trace, carrier);
     put_marks(&mut text, sink, &page, table, verdict);
     put_below(&mut text, sink, &page);
     put_breach(&mut text, sink, &page, breach, survey.marked);
+    put_faults(&mut text, sink, &page, told, window, trace);
     put_tail(&mut text, sink);
     text.finish(sink)
 }

@@ -1,8 +1,8 @@
 -- What is claimed of `diagnose`: what it writes of a recording, that it is no false alarm, and that its amounts are true.
-use Rattle.std.specs.Prelude.{◌≡◌, ℕ, ◌≤◌, List, [], ◌∷◌, codes, Some}
+use Rattle.std.specs.Prelude.{◌≡◌, ℕ, List, [], ◌∷◌, codes, Some}
 use Rattle.bus_text.specs.Numbers.{IsDecimal}
 use Rattle.bus_strings.specs.Messages.{Entry}
-use Rattle.bus_bounds.specs.Bounds.{Bounds, most_clocks}
+use Rattle.bus_bounds.specs.Bounds.{Bounds}
 use Rattle.bus_table.specs.Tables.{Sender, Table}
 use Rattle.bus_trace.specs.Traces.{Recording}
 use Rattle.bus_recording.specs.Amounts.{IntervalIsTrue, GapIsTrue, SyncIsTrue, LateIsTrue}
@@ -12,18 +12,12 @@ use Rattle.bus_findings.specs.Laws.{Keeps, IsOfSender, IsUnblamed, AreAmounts}
 use Rattle.bus_findings.specs.Recorded.{seen, recorded, monitor_of, timers_of}
 use Rattle.bus_findings.specs.Terminals.{has_fault}
 use Rattle.bus_findings.specs.Texts.{findings_text}
+pub use Rattle.bus_command.specs.Bounding.{AreNear}
 use Rattle.bus_command.specs.Claims.{Answers, IsOfTraced}
 use Rattle.bus_command.specs.Outside.{Call}
 use Rattle.bus_command.specs.declared.status.Status.{Status}
 use Rattle.bus_tool.specs.Due.{findings_outcome}
-use Rattle.bus_tool.specs.Forms.{most_near_delay, most_near_jitter}
 use Rattle.bus_tool.specs.Refusals.{status_of}
-
--- Bounds of a recording within their limits: the delay between the monitor and a terminal and the jitter in bit times.
-pub record AreNear (bounds : Bounds) : Type 0 where
-  pub delay : bounds.delay ≤ most_near_delay
-  pub jitter : bounds.jitter ≤ most_near_jitter
-  pub clocks : bounds.clocks ≤ most_clocks
 
 -- A call of `diagnose T R D J P`, where D, J and P are the plain decimals of bounds within their limits, on texts of a valid table and of a
 -- trace, in which nothing outside fails.

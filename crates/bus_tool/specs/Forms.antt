@@ -9,8 +9,8 @@ use Rattle.bus_table.specs.declared.mode.Mode.TheVariants.{Aperiodic, Periodic}
 use Rattle.bus_table.specs.Ranges.{most_ti}
 use Rattle.bus_trace.specs.Limits.{trace_limit}
 use Rattle.bus_vectors.specs.Made.{most_number}
-use Rattle.bus_bounds.specs.Bounds.{Bounds, most_delay, most_jitter, most_clocks}
 use Rattle.bus_command.specs.About.{about_of}
+pub use Rattle.bus_command.specs.Bounding.{is_within, are_bounds, most_near_delay, most_near_jitter, are_near_bounds, bounds_of}
 use Rattle.bus_command.specs.Readers.{Named, Reader, Entire, entire, no_source, one_source, by_trace, two_sources}
 pub use Rattle.bus_tool.specs.declared.forms.Form.{Form}
 pub use Rattle.bus_tool.specs.declared.forms.Form.TheVariants.{OnTable, OnMessages, OnTrace, Unwave, Drill, OnItself, Explain, ExplainBeside, Facts, Cable}
@@ -30,31 +30,6 @@ is_horizon word = is_plain_decimal word && nat_le (decimal_value word) horizon_l
 -- Whether a word is the plain decimal of a drill's number.
 abbrev pub is_drill_number : List ℕ → Bool
 is_drill_number word = is_plain_decimal word && nat_le (decimal_value word) most_number
-
--- Whether a word is the plain decimal of a number up to a limit.
-abbrev pub is_within : ℕ → List ℕ → Bool
-is_within limit word = is_plain_decimal word && nat_le (decimal_value word) limit
-
--- Whether three words are the plain decimals of bounds that are within their limits.
-abbrev pub are_bounds : (delay jitter clocks : List ℕ) → Bool
-are_bounds delay jitter clocks = is_within most_delay delay && (is_within most_jitter jitter && is_within most_clocks clocks)
-
--- The greatest delay between a monitor and a terminal, and the greatest jitter, of a recording, in bit times: limits of this project's
--- profile. Over the longest way there and back a signal takes less than a word.
-abbrev pub most_near_delay : ℕ
-most_near_delay = 9
-
-abbrev pub most_near_jitter : ℕ
-most_near_jitter = 255
-
--- Whether three words are the plain decimals of bounds of a recording that are within their limits.
-abbrev pub are_near_bounds : (delay jitter clocks : List ℕ) → Bool
-are_near_bounds delay jitter clocks = is_within most_near_delay delay && (is_within most_near_jitter jitter && is_within most_clocks clocks)
-
--- The bounds that they write.
-abbrev pub bounds_of : (delay jitter clocks : List ℕ) → Bounds
-bounds_of delay jitter clocks =
-    record { delay = decimal_value delay; jitter = decimal_value jitter; clocks = decimal_value clocks }
 
 -- `--help`, `--version`
 abbrev pub one_word : List ℕ → Option Form

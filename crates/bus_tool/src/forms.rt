@@ -3,26 +3,20 @@ ghost use Rattle.std.specs.Prelude.{◌≡◌, ◌≤◌, ◌<◌, ◌^◌, IfSo
 ghost use Rattle.bus_text.specs.Numbers.{decimal_value};
 ghost use Rattle.bus_tool.specs.Forms as forms;
 ghost use Rattle.bus_command.specs.Words.{words_of};
-ghost use Rattle.bus_tool.specs.Forms.{are_bounds, are_near_bounds, is_horizon, is_drill_number, is_within, messages_mode, most_near_delay, table_mode};
+ghost use Rattle.bus_tool.specs.Forms.{is_horizon, is_drill_number, messages_mode, table_mode};
 ghost use Rattle.bus_tool.specs.Forms.{IsPlannable, IsWithinLimits};
 ghost use Rattle.bus_vectors.specs.Made.{most_number};
 ghost use Rattle.bus_strings.specs.Limits.{horizon_limit};
 
-use bus_bounds::{Bounds, MOST_CLOCKS, MOST_DELAY, MOST_JITTER};
+use bus_bounds::Bounds;
 use bus_cable_plan::MOST_DELAY as MOST_PLAN_DELAY;
-use bus_command::{About, about_of};
+use bus_command::{About, about_of, bounds_of, near_bounds_of, number_of};
 use bus_strings::limits::HORIZON_LIMIT;
 use bus_table::Mode;
 use bus_text::plain_decimal;
 
 /// The greatest number of a drill.
 const MOST_NUMBER: u64 = 9999;
-
-/// The greatest delay between the monitor of a recording and a terminal, in bit times.
-const MOST_NEAR_DELAY: u64 = 9;
-
-/// The greatest jitter of a recording, in bit times.
-const MOST_NEAR_JITTER: u64 = 255;
 
 /// The delay that a plan is asked for.
 #[derive(Clone, Copy, Debug, PartialEq, Eq)]
@@ -182,37 +176,6 @@ fn drill_number_of(word: &[u8]) -> Option<u32>
     } else {
         None
     }
-}
-
-/// The number that a word writes; None where the word is no plain decimal, or the number is past this limit.
-fn number_of(word: &[u8], limit: u64) -> Option<u64>
-    requires { limit < 2 ^ 63 }
-    ensures value { result ≡ (if is_within limit word.now then Some (decimal_value word.now) else None) }
-    ensures limit { IfSome result (λ number. number ≤ limit) }
-{
-    let number = plain_decimal(word)?;
-    if number <= limit { Some(number) } else { None }
-}
-
-/// The bounds that three words write; None where one of them is no plain decimal, or a number is past its limit.
-fn bounds_of(delay: &[u8], jitter: &[u8], clocks: &[u8]) -> Option<Bounds>
-    ensures { result ≡ (if are_bounds delay.now jitter.now clocks.now then Some (forms.bounds_of delay.now jitter.now clocks.now) else None) }
-{
-    let delay = number_of(delay, MOST_DELAY)?;
-    let jitter = number_of(jitter, MOST_JITTER)?;
-    let clocks = number_of(clocks, MOST_CLOCKS)?;
-    Bounds::new(delay, jitter, clocks)
-}
-
-/// The bounds of a recording that three words write; None where one of them is no plain decimal, or a number is past its limit.
-fn near_bounds_of(delay: &[u8], jitter: &[u8], clocks: &[u8]) -> Option<Bounds>
-    ensures value { result ≡ (if are_near_bounds delay.now jitter.now clocks.now then Some (forms.bounds_of delay.now jitter.now clocks.now) else None) }
-    ensures limit { IfSome result (λ bounds. bounds.delay ≤ most_near_delay) }
-{
-    let delay = number_of(delay, MOST_NEAR_DELAY)?;
-    let jitter = number_of(jitter, MOST_NEAR_JITTER)?;
-    let clocks = number_of(clocks, MOST_CLOCKS)?;
-    Bounds::new(delay, jitter, clocks)
 }
 
 /// The delay of a plan that a word asks for; None where it is neither `best` nor a plain decimal up to the limit.

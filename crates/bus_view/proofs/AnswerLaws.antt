@@ -12,8 +12,8 @@ use Rattle.bus_command.proofs.DoLaws.{Agrees}
 use Rattle.bus_command.proofs.ReadLemmas.{CauseLaws, table_cause, table_valid, trace_cause, read_trace, traced_read, traced_stop}
 use Rattle.bus_view.specs.Acts.{view_program, IsDoubledAt}
 use Rattle.bus_command.specs.Causes.{AreTracedWith}
-use Rattle.bus_view.specs.Due.{single_outcome, view_answer, traced_answer, view_text, IsView}
-use Rattle.bus_view.specs.Forms.{OnTrace, OnItself, View, Dump, SaveFile, Painted}
+use Rattle.bus_view.specs.Due.{single_outcome, view_answer, traced_answer, IsOfView, IsView}
+use Rattle.bus_view.specs.Forms.{OnTrace, OnItself, View, Dump, SaveFile, Painted, Judged}
 use Rattle.bus_view.specs.Refusals.{Doubled, Outcome}
 
 single_late : (entry : Option ℕ) → 2 ≤ stage_of (kind_of (single_outcome entry))
@@ -24,12 +24,13 @@ pub traced_late : (view : View) (traced : Traced) → 2 ≤ stage_of (kind_of (t
 traced_late (Dump dump window) traced = single_late (doubled traced.trace.list)
 traced_late SaveFile traced = omega arith
 traced_late (Painted picture window) traced = omega arith
+traced_late (Judged picture bounds window) traced = omega arith
 
 pub traced_agree : (view : View) (traced : Traced)
-    → Agrees Same (traced_answer view) (IsView view) traced (view_answer view traced.table traced.trace) (λ text. text ≡ view_text view traced.table traced.trace)
+    → Agrees Same (traced_answer view) (IsView view) traced (view_answer view traced.table traced.trace) (IsOfView view traced.table traced.trace)
 traced_agree view traced = record {
   answers = λ y same. ap (traced_answer view) (sym same);
-  texts = λ y same text is. is ∙ ap (λ (t : Traced). view_text view t.table t.trace) same;
+  texts = λ y same text is. subst (λ (t : Traced). IsOfView view t.table t.trace text) same is;
 }
 
 -- ---- causes
@@ -54,6 +55,7 @@ answer_cause : CauseLaws → (view : View) (first second : List ℕ) (traced : T
 answer_cause laws (Dump dump window) first second traced h = single_cause laws first second traced (doubled traced.trace.list) h refl
 answer_cause laws SaveFile first second traced h = tt
 answer_cause laws (Painted picture window) first second traced h = tt
+answer_cause laws (Judged picture bounds window) first second traced h = tt
 
 taken_cause : CauseLaws → (first second : List ℕ) (o : Outcome) → traced_due first second ≡ Err o → RefusesTexts Causes o first second
 taken_cause laws first second o h = elim (traced_stop {R = Doubled} any_trace first second o h) [

@@ -5,6 +5,9 @@ use Rattle.bus_table.specs.Tables.{Table}
 use Rattle.bus_trace.specs.TraceLaws.{ReadsBack}
 use Rattle.bus_trace.specs.Traces.{Recording}
 use Rattle.std.specs.Option.{option_and_then}
+use Rattle.bus_bounds.specs.Bounds.{Bounds}
+use Rattle.bus_command.specs.Bounding.{AreNear}
+use Rattle.bus_command.proofs.BoundingLaws.{near_written}
 use Rattle.bus_shapes.specs.Windows.{Window, IsWindow}
 use Rattle.bus_dump.specs.declared.dump.Dump.{Dump as AnyDump}
 use Rattle.bus_dump.specs.declared.dump.Dump.TheVariants.{Vcd, Wires, Timers}
@@ -27,55 +30,54 @@ use Rattle.bus_command.proofs.LawTypes.{TextReadsAsItsTable}
 use Rattle.bus_command.proofs.ReadLemmas.{held_trace, traced_told}
 use Rattle.bus_command.proofs.ToldLemmas.{table_told}
 use Rattle.bus_view.specs.Acts.{view_program, Acts}
-use Rattle.bus_view.specs.Claims.{view_word, AreFurther, AreForWindow, IsViewOf, GivesDump, Promises}
-use Rattle.bus_view.specs.Due.{first_breach, single_outcome, traced_answer, view_answer, view_text, drawing, painting, window_or_whole, IsView}
-use Rattle.bus_view.specs.Forms.{OnTrace, OnItself, on_trace, View, Dump, SaveFile, Painted, Picture, TimeLine, Cycles, drawn, three_words, five_words, form_of}
+use Rattle.bus_view.specs.Claims.{view_word, AreFurther, AreForWindow, AreOfBounds, IsViewOf, GivesDump, Promises}
+use Rattle.bus_view.specs.Due.{first_breach, single_outcome, traced_answer, view_answer, drawing, painting, window_or_whole, IsJudging, IsOfView, IsView}
+use Rattle.bus_view.specs.Forms.{OnTrace, OnItself, on_trace, View, Dump, SaveFile, Painted, Judged, Picture, TimeLine, Cycles, drawn, judged, three_words, view_of, window_of, form_of}
 use Rattle.bus_view.specs.Itself.{itself_text}
 use Rattle.bus_view.specs.Refusals.{Doubled, Outcome, ends_of, status_of}
 
--- the window of a view is one
+-- the window of a view is one, and its bounds are within their limits
 abbrev IsSound : View → Type 0
 IsSound (Dump dump window) = IfSome window IsWindow
 IsSound (Painted picture window) = IfSome window IsWindow
 IsSound SaveFile = Unit {0}
-
--- the view of a command, with these words behind the two texts
-view_of_words : List ℕ → List (List ℕ) → Option View
-view_of_words command [] = three_words command
-view_of_words command (from ∷ []) = None
-view_of_words command (from ∷ (to ∷ [])) = five_words command from to
-view_of_words command (from ∷ (to ∷ (more ∷ words))) = None
-
-words_asked : (command first second : List ℕ) (further : List (List ℕ)) (view : View) → view_of_words command further ≡ Some view
-    → form_of (command ∷ first ∷ second ∷ further) ≡ Some (OnTrace view)
-unfolding view_of_words
-words_asked command first second [] view h = ap on_trace h
-words_asked command first second (from ∷ []) view h = absurd cc
-words_asked command first second (from ∷ (to ∷ [])) view h = ap on_trace h
-words_asked command first second (from ∷ (to ∷ (more ∷ words))) view h = absurd cc
+IsSound (Judged picture bounds window) = AreNear bounds × IfSome window IsWindow
 
 -- a command that draws, with the words of its window
-window_asked : (command : List ℕ) (window : Option Window) (further : List (List ℕ)) → three_words command ≡ drawn command None
-    → AreForWindow window further → IfSome window IsWindow → view_of_words command further ≡ drawn command window
-unfolding view_of_words
-window_asked command None further plain w s = ap (view_of_words command) w ∙ plain
-window_asked command (Some window) further plain w s =
-    ap (view_of_words command) w.form
+window_asked : (command : List ℕ) (window : Option Window) (first second : List ℕ) (further : List (List ℕ)) → three_words command ≡ drawn command None
+    → AreForWindow window further → IfSome window IsWindow → view_of (command ∷ first ∷ second ∷ further) ≡ drawn command window
+window_asked command None first second further plain w s = ap (λ f. view_of (command ∷ first ∷ second ∷ f)) w ∙ plain
+window_asked command (Some window) first second further plain w s =
+    ap (λ f. view_of (command ∷ first ∷ second ∷ f)) w.form
     ∙ ap (λ o. option_and_then (λ x. drawn command (Some x)) o) (spelled window w.first w.second s w.from w.to)
 
-view_asked : (view : View) (further : List (List ℕ)) → AreFurther view further → IsSound view → view_of_words (view_word view) further ≡ Some view
-unfolding view_of_words
-view_asked (Dump Vcd window) further w s = window_asked (codes "vcd") window further refl w s
-view_asked (Dump Wires window) further w s = window_asked (codes "wires") window further refl w s
-view_asked (Dump Timers window) further w s = window_asked (codes "timers") window further refl w s
-view_asked SaveFile further w s = ap (view_of_words (codes "gtkw")) w
-view_asked (Painted TimeLine window) further w s = window_asked (codes "svg") window further refl w s
-view_asked (Painted Cycles window) further w s = window_asked (codes "cycles") window further refl w s
+-- one that draws what is found, with the words of its bounds and of its window
+bounds_asked : (command : List ℕ) (bounds : Bounds) (window : Option Window) (first second : List ℕ) (further : List (List ℕ)) → AreNear bounds
+    → AreOfBounds bounds window further → IfSome window IsWindow → view_of (command ∷ first ∷ second ∷ further) ≡ judged command bounds window
+bounds_asked command bounds None first second further near w s =
+    ap (λ f. view_of (command ∷ first ∷ second ∷ f)) (w.form ∙ ap (λ o. w.delay ∷ w.jitter ∷ w.clocks ∷ o) w.window_is)
+    ∙ ap (λ o. option_and_then (λ b. judged command b None) o) (near_written bounds w.delay w.jitter w.clocks near w.delay_is w.jitter_is w.clocks_is)
+bounds_asked command bounds (Some window) first second further near w s =
+    let both = w.window_is in
+    ap (λ f. view_of (command ∷ first ∷ second ∷ f)) (w.form ∙ ap (λ o. w.delay ∷ w.jitter ∷ w.clocks ∷ o) both.form)
+    ∙ ap (λ o. option_and_then (λ b. option_and_then (λ x. judged command b (Some x)) (window_of both.first both.second)) o)
+    (near_written bounds w.delay w.jitter w.clocks near w.delay_is w.jitter_is w.clocks_is)
+    ∙ ap (λ o. option_and_then (λ x. judged command bounds (Some x)) o) (spelled window both.first both.second s both.from both.to)
+
+view_asked : (view : View) (first second : List ℕ) (further : List (List ℕ)) → AreFurther view further → IsSound view
+    → view_of (view_word view ∷ first ∷ second ∷ further) ≡ Some view
+view_asked (Dump Vcd window) first second further w s = window_asked (codes "vcd") window first second further refl w s
+view_asked (Dump Wires window) first second further w s = window_asked (codes "wires") window first second further refl w s
+view_asked (Dump Timers window) first second further w s = window_asked (codes "timers") window first second further refl w s
+view_asked SaveFile first second further w s = ap (λ f. view_of (codes "gtkw" ∷ first ∷ second ∷ f)) w
+view_asked (Painted TimeLine window) first second further w s = window_asked (codes "svg") window first second further refl w s
+view_asked (Painted Cycles window) first second further w s = window_asked (codes "cycles") window first second further refl w s
+view_asked (Judged TimeLine bounds window) first second further w s = bounds_asked (codes "svg") bounds window first second further s.0 w s.1
+view_asked (Judged Cycles bounds window) first second further w s = bounds_asked (codes "cycles") bounds window first second further s.0 w s.1
 
 -- the words of a view ask for it
 asked : (view : View) (words : List (List ℕ)) (first second : List ℕ) (further : List (List ℕ)) → words ≡ view_word view ∷ first ∷ second ∷ further → AreFurther view further → IsSound view → form_of words ≡ Some (OnTrace view)
-asked view words first second further h w s =
-    ap form_of h ∙ words_asked (view_word view) first second further view (view_asked view further w s)
+asked view words first second further h w s = ap form_of h ∙ ap on_trace (view_asked view first second further w s)
 
 -- the laws of the crates below, by which it follows
 pub record DrawLaws : Type 0 where
@@ -100,10 +102,10 @@ module _ (laws : DrawLaws) (view : View) (call : Call) (outcome : Outcome) (tabl
       (asked view call.words h.call_is.form.first h.call_is.form.second h.further h.call_is.form.form h.window sound) acts
 
   pub shown : kind_of (view_answer view table trace) ≡ Answer
-      → Answers (status_of (view_answer view table trace)) (λ text. text ≡ view_text view table trace) call (status_of outcome)
+      → Answers (status_of (view_answer view table trace)) (IsOfView view table trace) call (status_of outcome)
   shown answer_is =
       claimed ends_of (traced_answer view) (IsView view) by_trace table_refusal_of traced_due h.call_is.table_told.text h.call_is.trace_told.stream
-      (with_trace table trace) (λ text. text ≡ view_text view table trace) call outcome
+      (with_trace table trace) (IsOfView view table trace) call outcome
       (at_two entire Trace call.before.sources h.call_is.table_told.text h.call_is.trace_told.stream h.call_is.table_told.told h.call_is.trace_told.told)
       both_told answer_is (λ text is. is) did h.call_is.undisturbed
 
@@ -144,6 +146,12 @@ paint_claim : DrawLaws → (call : Call) (outcome : Outcome) (picture : Picture)
     → Answers status.Done (λ text. text ≡ painting picture (window_or_whole window trace) table trace) call (status_of outcome)
 paint_claim laws call outcome picture window table trace s acts h = shown laws (Painted picture window) call outcome table trace acts h s refl
 
+judge_claim : DrawLaws → (call : Call) (outcome : Outcome) (picture : Picture) (bounds : Bounds) (window : Option Window) (table : Table)
+    (trace : Recording) → AreNear bounds → IfSome window IsWindow → Acts call outcome → IsViewOf (Judged picture bounds window) table trace call
+    → Answers status.Done (IsJudging picture bounds (window_or_whole window trace) table trace) call (status_of outcome)
+judge_claim laws call outcome picture bounds window table trace n s acts h =
+    shown laws (Judged picture bounds window) call outcome table trace acts h (n, s) refl
+
 itself_form : (about : About) (words : List (List ℕ)) → words ≡ about_word about ∷ [] → form_of words ≡ Some (OnItself about)
 itself_form Help words h = ap form_of h
 itself_form Version words h = ap form_of h
@@ -163,5 +171,6 @@ keeps laws call outcome acts = record {
   draw = λ dump window table trace s h. draw_claim laws call outcome dump window table trace s acts h;
   save = λ table trace h. shown laws SaveFile call outcome table trace acts h tt refl;
   paint = λ picture window table trace s h. paint_claim laws call outcome picture window table trace s acts h;
+  judge = λ picture bounds window table trace n s h. judge_claim laws call outcome picture bounds window table trace n s acts h;
   itself = λ about h. itself_claim call outcome about acts h;
 }

@@ -1,5 +1,7 @@
 -- What is claimed of the forms that draw, in the words of their texts.
 use Rattle.std.specs.Prelude.{◌≡◌, ℕ, IsTrue, List, [], ◌∷◌, codes, Option, Some, None, IfSome}
+use Rattle.bus_bounds.specs.Bounds.{Bounds}
+use Rattle.bus_command.specs.Bounding.{AreNear}
 use Rattle.bus_shapes.specs.Windows.{Window, IsWindow}
 use Rattle.bus_text.specs.Numbers.{IsDecimal}
 use Rattle.bus_table.specs.Hands.{are_hands}
@@ -21,8 +23,8 @@ use Rattle.bus_command.specs.About.{IsAbout, TellsItself}
 use Rattle.bus_command.specs.Claims.{Answers, IsOfTraced, Refuses}
 use Rattle.bus_command.specs.Outside.{Call}
 use Rattle.bus_view.specs.Itself.{itself_text}
-use Rattle.bus_view.specs.Due.{drawing, first_breach, painting, saved, window_or_whole}
-use Rattle.bus_view.specs.Forms.{View, Dump, SaveFile, Painted, Picture, TimeLine, Cycles}
+use Rattle.bus_view.specs.Due.{IsJudging, drawing, first_breach, painting, saved, window_or_whole}
+use Rattle.bus_view.specs.Forms.{View, Dump, SaveFile, Painted, Judged, Picture, TimeLine, Cycles}
 
 -- The command of a picture.
 abbrev pub picture_word : Picture → List ℕ
@@ -36,6 +38,7 @@ view_word (Dump Wires window) = codes "wires"
 view_word (Dump Timers window) = codes "timers"
 view_word SaveFile = codes "gtkw"
 view_word (Painted picture window) = picture_word picture
+view_word (Judged picture bounds window) = picture_word picture
 
 -- Two words are the plain decimals of both moments of a window.
 pub record AreOfWindow (window : Window) (words : List (List ℕ)) : Type 0 where
@@ -50,13 +53,26 @@ abbrev pub AreForWindow : Option Window → List (List ℕ) → Type 0
 AreForWindow None words = words ≡ []
 AreForWindow (Some window) words = AreOfWindow window words
 
+-- The words of bounds of a recording, and behind them those of a window, where one is asked for.
+pub record AreOfBounds (bounds : Bounds) (window : Option Window) (words : List (List ℕ)) : Type 0 where
+  pub delay : List ℕ
+  pub jitter : List ℕ
+  pub clocks : List ℕ
+  pub others : List (List ℕ)
+  pub form : words ≡ delay ∷ jitter ∷ clocks ∷ others
+  pub delay_is : IsDecimal delay bounds.delay
+  pub jitter_is : IsDecimal jitter bounds.jitter
+  pub clocks_is : IsDecimal clocks bounds.clocks
+  pub window_is : AreForWindow window others
+
 -- The words behind those of both texts.
 abbrev pub AreFurther : View → List (List ℕ) → Type 0
 AreFurther (Dump dump window) words = AreForWindow window words
 AreFurther SaveFile words = words ≡ []
 AreFurther (Painted picture window) words = AreForWindow window words
+AreFurther (Judged picture bounds window) words = AreOfBounds bounds window words
 
--- A call of a view, with the words of its window behind those of both texts, on texts of a valid table and of a trace, in which nothing
+-- A call of a view, with the words of its bounds and of its window behind those of both texts, on texts of a valid table and of a trace, in which nothing
 -- outside fails.
 pub record IsViewOf (view : View) (table : Table) (trace : Recording) (call : Call) : Type 0 where
   pub further : List (List ℕ)
@@ -85,6 +101,7 @@ pub record GivesDump (dump : AnyDump) (window : Window) (table : Table) (trace :
 --   draw    `vcd`, `wires` and `timers`, and all three with a window: the dump, or that an entry is doubled
 --   save    `gtkw`: the save file, with its marker at the first breach
 --   paint   `svg` and `cycles`, and both with a window: the picture
+--   judge   `svg` and `cycles` with bounds, and both with a window too: the picture with what is found
 --   itself  `--help` and `--version`: the help and the version line
 pub record Promises (call : Call) (status : Status) : Type 0 where
   pub draw : (dump : AnyDump) (window : Option Window) (table : Table) (trace : Recording) → IfSome window IsWindow
@@ -95,4 +112,7 @@ pub record Promises (call : Call) (status : Status) : Type 0 where
   pub paint : (picture : Picture) (window : Option Window) (table : Table) (trace : Recording) → IfSome window IsWindow
       → IsViewOf (Painted picture window) table trace call
       → Answers Done (λ text. text ≡ painting picture (window_or_whole window trace) table trace) call status
+  pub judge : (picture : Picture) (bounds : Bounds) (window : Option Window) (table : Table) (trace : Recording) → AreNear bounds
+      → IfSome window IsWindow → IsViewOf (Judged picture bounds window) table trace call
+      → Answers Done (IsJudging picture bounds (window_or_whole window trace) table trace) call status
   pub itself : (about : About) → IsAbout about call → TellsItself (itself_text about) call status

@@ -1,5 +1,9 @@
 -- What is due for given words and texts: the outcome, where nothing outside fails and memory is granted, and the text of an answer.
-use Rattle.std.specs.Prelude.{◌≡◌, ℕ, List, Option, Some, None, unwrap_or}
+use Rattle.std.specs.Prelude.{◌≡◌, ℕ, List, Option, Some, None, Vec, unwrap_or}
+use Rattle.std.specs.declared.alloc.Global.{Global}
+use Rattle.bus_bounds.specs.Bounds.{Bounds}
+use Rattle.bus_findings.specs.declared.judgement.Judgement.{Judgement}
+use Rattle.bus_findings.specs.Judging.{judgements}
 use Rattle.bus_table.specs.Tables.{Table}
 use Rattle.bus_regime.specs.Lines.{verdict_words}
 use Rattle.bus_regime.specs.Verdicts.{verdict_of}
@@ -12,6 +16,8 @@ use Rattle.bus_dump.specs.declared.dump.Dump.{Dump as AnyDump}
 use Rattle.bus_dump.specs.Doubled.{doubled}
 use Rattle.bus_dump.specs.DumpTexts.{dump_text}
 use Rattle.bus_dump.specs.SaveFiles.{save_text}
+use Rattle.bus_shapes.specs.declared.told.Told.{Told}
+use Rattle.bus_shapes.specs.declared.told.Told.TheVariants.{Audit, Findings}
 use Rattle.bus_shapes.specs.Windows.{Window, whole}
 use Rattle.bus_picture.specs.TimeLines.{time_line_text}
 use Rattle.bus_cycles.specs.CyclesTexts.{cycles_text}
@@ -19,7 +25,7 @@ use Rattle.bus_command.specs.declared.inputs.Traced.{Traced}
 use Rattle.bus_command.specs.declared.outcome.Outcome.TheVariants.{Done}
 use Rattle.bus_command.specs.Due.{table_refusal_of, traced_due, outcome_with, IsTextOf}
 use Rattle.bus_view.specs.Itself.{itself_text}
-use Rattle.bus_view.specs.Forms.{Form, OnTrace, OnItself, View, Dump, SaveFile, Painted, Picture, TimeLine, Cycles}
+use Rattle.bus_view.specs.Forms.{Form, OnTrace, OnItself, View, Dump, SaveFile, Painted, Judged, Picture, TimeLine, Cycles}
 use Rattle.bus_view.specs.Refusals.{Outcome, refuse}
 
 -- A trace of which no entry is doubled is answered, another refused.
@@ -32,6 +38,7 @@ abbrev pub view_answer : View → Table → Recording → Outcome
 view_answer (Dump dump window) table trace = single_outcome (doubled trace.list)
 view_answer SaveFile table trace = Done
 view_answer (Painted picture window) table trace = Done
+view_answer (Judged picture bounds window) table trace = Done
 
 -- The same to what was taken of both texts.
 abbrev pub traced_answer : View → Traced → Outcome
@@ -54,14 +61,20 @@ first_breach table trace = breach_moment (answer_of table trace)
 abbrev pub drawing : AnyDump → Window → Table → Recording → List ℕ
 drawing dump window table trace = dump_text dump window (first_breach table trace) (verdict_words (verdict_of table)) table trace
 
--- A picture of a window of a trace on a table, with a verdict and what an audit found.
-unfoldable pub painted : Picture → Window → TableVerdict → AuditAnswer → Table → Recording → List ℕ
-painted TimeLine window verdict answer table trace = time_line_text window verdict answer table trace
-painted Cycles window verdict answer table trace = cycles_text window verdict answer table trace
+-- A picture of a window of a trace on a table, with a verdict and what is told of the trace.
+unfoldable pub painted : Picture → Window → TableVerdict → Told → Table → Recording → List ℕ
+painted TimeLine window verdict told table trace = time_line_text window verdict told table trace
+painted Cycles window verdict told table trace = cycles_text window verdict told table trace
 
 -- With the table's own verdict, and what an audit finds of the trace.
 abbrev pub painting : Picture → Window → Table → Recording → List ℕ
-painting picture window table trace = painted picture window (verdict_of table) (answer_of table trace) table trace
+painting picture window table trace = painted picture window (verdict_of table) (Audit (answer_of table trace)) table trace
+
+-- With the table's own verdict, and what is found at each transmission of the trace, as in a recording of a bus of the table within bounds.
+pub record IsJudging (picture : Picture) (bounds : Bounds) (window : Window) (table : Table) (trace : Recording) (text : List ℕ) : Type 0 where
+  pub found : Vec Judgement Global
+  pub found_is : found.items ≡ judgements bounds table trace.list
+  pub text_is : text ≡ painted picture window (verdict_of table) (Findings bounds found) table trace
 
 -- The save file of a trace on a table, with its marker at the first breach.
 abbrev pub saved : Table → Recording → List ℕ
@@ -72,14 +85,15 @@ abbrev pub window_or_whole : Option Window → Recording → Window
 window_or_whole window trace = unwrap_or window (whole trace.horizon)
 
 -- The text of a view of a trace on a table.
-abbrev pub view_text : View → Table → Recording → List ℕ
-view_text (Dump dump window) table trace = drawing dump (window_or_whole window trace) table trace
-view_text SaveFile table trace = saved table trace
-view_text (Painted picture window) table trace = painting picture (window_or_whole window trace) table trace
+abbrev pub IsOfView : View → Table → Recording → List ℕ → Type 0
+IsOfView (Dump dump window) table trace text = text ≡ drawing dump (window_or_whole window trace) table trace
+IsOfView SaveFile table trace text = text ≡ saved table trace
+IsOfView (Painted picture window) table trace text = text ≡ painting picture (window_or_whole window trace) table trace
+IsOfView (Judged picture bounds window) table trace text = IsJudging picture bounds (window_or_whole window trace) table trace text
 
 -- The text of a view of what was taken of both texts.
 abbrev pub IsView : View → Traced → List ℕ → Type 0
-IsView view traced text = text ≡ view_text view traced.table traced.trace
+IsView view traced text = IsOfView view traced.table traced.trace text
 
 -- What a view writes of both texts.
 abbrev pub IsViewText : View → List ℕ → List ℕ → List ℕ → Type 0

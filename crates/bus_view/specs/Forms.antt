@@ -1,5 +1,5 @@
 -- The forms of the command line: each asks for a view of a trace, or for what the program tells of itself. A word is its bytes.
-use Rattle.std.specs.Prelude.{ℕ, List, [], ◌∷◌, Bool, true, false, ◌&&◌, nat_lt, nat_le, codes, Option, Some, None, if◌then◌else◌}
+use Rattle.std.specs.Prelude.{ℕ, ◌≤◌, List, [], ◌∷◌, Bool, true, false, ◌&&◌, nat_lt, nat_le, codes, Option, Some, None, if◌then◌else◌}
 use Rattle.std.specs.Option.{option_and_then, option_map, option_map_or}
 use Rattle.std.specs.Str.{bytes_eq}
 use Rattle.bus_strings.specs.Limits.{horizon_limit}
@@ -7,14 +7,16 @@ use Rattle.bus_text.specs.Numbers.{is_plain_decimal, decimal_value}
 use Rattle.bus_dump.specs.declared.dump.Dump.{Dump as AnyDump}
 use Rattle.bus_dump.specs.declared.dump.Dump.TheVariants as dump
 use Rattle.bus_shapes.specs.Windows.{Window}
+use Rattle.bus_bounds.specs.Bounds.{Bounds}
 use Rattle.bus_command.specs.About.{about_of}
+use Rattle.bus_command.specs.Bounding.{most_near_delay, near_bounds_of}
 use Rattle.bus_command.specs.Readers.{Named, no_source, by_trace}
 pub use Rattle.bus_view.specs.declared.forms.Form.{Form}
 pub use Rattle.bus_view.specs.declared.forms.Form.TheVariants.{OnTrace, OnItself}
 pub use Rattle.bus_view.specs.declared.forms.Picture.{Picture}
 pub use Rattle.bus_view.specs.declared.forms.Picture.TheVariants.{TimeLine, Cycles}
 pub use Rattle.bus_view.specs.declared.forms.View.{View}
-pub use Rattle.bus_view.specs.declared.forms.View.TheVariants.{Dump, SaveFile, Picture as Painted}
+pub use Rattle.bus_view.specs.declared.forms.View.TheVariants.{Dump, SaveFile, Picture as Painted, Judged}
 
 -- ---- windows
 -- Whether two words are the plain decimals of a window: a moment and a later one, at most the limit of a horizon.
@@ -60,6 +62,28 @@ three_words command = if bytes_eq command (codes "gtkw") then Some SaveFile else
 abbrev pub five_words : List ℕ → List ℕ → List ℕ → Option View
 five_words command from to = option_and_then (λ window. drawn command (Some window)) (window_of from to)
 
+-- The picture of a command with what is found within bounds, of all of a trace or of a window of it.
+abbrev pub judged : List ℕ → Bounds → Option Window → Option View
+judged command bounds window = option_map (λ picture. Judged picture bounds window) (picture_of command)
+
+-- `svg T R D J P`, `cycles T R D J P`
+abbrev pub six_words : (command delay jitter clocks : List ℕ) → Option View
+six_words command delay jitter clocks = option_and_then (λ bounds. judged command bounds None) (near_bounds_of delay jitter clocks)
+
+-- `svg T R D J P FROM TO`, `cycles T R D J P FROM TO`
+abbrev pub eight_words : (command delay jitter clocks from to : List ℕ) → Option View
+eight_words command delay jitter clocks from to =
+    option_and_then (λ bounds. option_and_then (λ window. judged command bounds (Some window)) (window_of from to))
+    (near_bounds_of delay jitter clocks)
+
+-- The view that these words ask for, whatever the words T and R are.
+abbrev pub view_of : List (List ℕ) → Option View
+view_of (command ∷ table ∷ trace ∷ []) = three_words command
+view_of (command ∷ table ∷ trace ∷ from ∷ to ∷ []) = five_words command from to
+view_of (command ∷ table ∷ trace ∷ delay ∷ jitter ∷ clocks ∷ []) = six_words command delay jitter clocks
+view_of (command ∷ table ∷ trace ∷ delay ∷ jitter ∷ clocks ∷ from ∷ to ∷ []) = eight_words command delay jitter clocks from to
+view_of words = None
+
 -- `--help`, `--version`.
 abbrev pub one_word : List ℕ → Option Form
 one_word word = option_map OnItself (about_of word)
@@ -68,12 +92,22 @@ one_word word = option_map OnItself (about_of word)
 abbrev pub on_trace : Option View → Option Form
 on_trace view = option_map OnTrace view
 
--- What these words ask for, whatever the words T and R are.
+-- What these words ask for.
 abbrev pub form_of : List (List ℕ) → Option Form
 form_of (word ∷ []) = one_word word
-form_of (command ∷ table ∷ trace ∷ []) = on_trace (three_words command)
-form_of (command ∷ table ∷ trace ∷ from ∷ to ∷ []) = on_trace (five_words command from to)
-form_of words = None
+form_of words = on_trace (view_of words)
+
+-- The delay of the bounds of a view, where it has bounds, is within its limit.
+abbrev pub IsNear : View → Type 0
+IsNear (Dump dump window) = Unit {0}
+IsNear SaveFile = Unit {0}
+IsNear (Painted picture window) = Unit {0}
+IsNear (Judged picture bounds window) = bounds.delay ≤ most_near_delay
+
+-- The numbers of a form are within their limits.
+abbrev pub IsWithinLimits : Form → Type 0
+IsWithinLimits (OnTrace view) = IsNear view
+IsWithinLimits (OnItself about) = Unit {0}
 
 -- The sources that a form names.
 abbrev pub sources_of : Form → Named

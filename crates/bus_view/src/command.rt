@@ -3,12 +3,12 @@ ghost use Rattle.bus_command.specs.Outside.{call};
 ghost use Rattle.bus_trace.specs.Traces.{IsTrace};
 ghost use Rattle.bus_view.specs.Acts.{Acts};
 ghost use Rattle.bus_view.specs.inside.Acting.{DoesBoth, EndsOnView};
-ghost use Rattle.bus_view.specs.Forms.{OnTrace};
+ghost use Rattle.bus_view.specs.Forms.{OnTrace, IsNear};
 
 use crate::drawing::draw;
 use crate::forms::{Form, View, form_of};
 use crate::itself::tell_itself;
-use crate::painting::paint;
+use crate::painting::{paint, paint_judged};
 use crate::refusal::{Doubled, Outcome};
 use crate::saving::save;
 use bus_command::{Traced, take_traced};
@@ -22,13 +22,17 @@ use std::alloc::Global;
 
 /// Writes this view of a trace on a table.
 fn answer<K: Sink>(alloc: Global, view: View, table: &Table, trace: &Trace, out: &mut K) -> Outcome
-    requires { IsTrace trace.now }
+    requires trace { IsTrace trace.now }
+    requires near { IsNear view }
     ensures { EndsOnView ⟦<K as Sink>⟧ view table.now trace.now out.old out.new result }
 {
     match view {
         View::Dump(dump, window) => draw(alloc, dump, window, table, trace, out),
         View::SaveFile => save(alloc, table, trace, out),
         View::Picture(picture, window) => paint(alloc, picture, window, table, trace, out),
+        View::Judged(picture, bounds, window) => {
+            paint_judged(alloc, picture, bounds, window, table, trace, out)
+        }
     }
 }
 
@@ -40,6 +44,7 @@ fn show<S: Source, K: Sink>(
     second: &mut S,
     out: &mut K,
 ) -> Outcome
+    requires near { IsNear view }
     ensures { DoesBoth ⟦<S as Source>⟧ ⟦<K as Sink>⟧ (OnTrace view) first.old second.old out.old first.new second.new out.new result }
 {
     match take_traced::<Doubled, S>(alloc, first, second) {

@@ -1,9 +1,12 @@
 //! The words of a command line, and the view that they ask for.
-ghost use Rattle.std.specs.Prelude.{◌≡◌};
+ghost use Rattle.std.specs.Prelude.{◌≡◌, ◌≤◌, IfSome};
+ghost use Rattle.bus_command.specs.Bounding.{most_near_delay};
 ghost use Rattle.bus_command.specs.Words.{words_of};
 ghost use Rattle.bus_view.specs.Forms as forms;
+ghost use Rattle.bus_view.specs.Forms.{IsNear, IsWithinLimits};
 
-use bus_command::{About, about_of};
+use bus_bounds::Bounds;
+use bus_command::{About, about_of, near_bounds_of};
 use bus_dump::Dump;
 use bus_shapes::Window;
 use bus_text::plain_decimal;
@@ -26,6 +29,9 @@ pub enum View {
     SaveFile,
     /// `svg T R`, `cycles T R`: this picture of it; `svg T R FROM TO`, `cycles T R FROM TO`: of a window of it.
     Picture(Picture, Option<Window>),
+    /// `svg T R D J P`, `cycles T R D J P`: this picture of it with what is found, as in a recording of a bus within D and J in bit times
+    /// and P in millionths, each within its limit; with `FROM TO` behind them: of a window of it.
+    Judged(Picture, Bounds, Option<Window>),
 }
 
 /// What the words of a command line ask for.
@@ -74,7 +80,8 @@ fn picture_of(command: &str) -> Option<Picture>
 
 /// The dump or the picture of a command, of all of a trace or of a window of it.
 fn drawn(command: &str, window: Option<Window>) -> Option<View>
-    ensures { result ≡ forms.drawn command.now window }
+    ensures value { result ≡ forms.drawn command.now window }
+    ensures near { IfSome result IsNear }
 {
     match dump_of(command) {
         Some(dump) => Some(View::Dump(dump, window)),
@@ -85,9 +92,20 @@ fn drawn(command: &str, window: Option<Window>) -> Option<View>
     }
 }
 
+/// The picture of a command with what is found within bounds, of all of a trace or of a window of it.
+fn judged(command: &str, bounds: Bounds, window: Option<Window>) -> Option<View>
+    requires limit { bounds.delay ≤ most_near_delay }
+    ensures value { result ≡ forms.judged command.now bounds window }
+    ensures near { IfSome result IsNear }
+{
+    let picture = picture_of(command)?;
+    Some(View::Judged(picture, bounds, window))
+}
+
 /// The view that three words ask for of which this is the first.
 fn three_words(command: &str) -> Option<View>
-    ensures { result ≡ forms.three_words command.now }
+    ensures value { result ≡ forms.three_words command.now }
+    ensures near { IfSome result IsNear }
 {
     if command == "gtkw" {
         Some(View::SaveFile)
@@ -98,45 +116,93 @@ fn three_words(command: &str) -> Option<View>
 
 /// The view that five words ask for of which these are the first and the last two.
 fn five_words(command: &str, from: &[u8], to: &[u8]) -> Option<View>
-    ensures { result ≡ forms.five_words command.now from.now to.now }
+    ensures value { result ≡ forms.five_words command.now from.now to.now }
+    ensures near { IfSome result IsNear }
 {
     let window = window_of(from, to)?;
     drawn(command, Some(window))
 }
 
+/// The view that six words ask for of which these are the first and the last three.
+fn six_words(command: &str, delay: &[u8], jitter: &[u8], clocks: &[u8]) -> Option<View>
+    ensures value { result ≡ forms.six_words command.now delay.now jitter.now clocks.now }
+    ensures near { IfSome result IsNear }
+{
+    let bounds = near_bounds_of(delay, jitter, clocks)?;
+    judged(command, bounds, None)
+}
+
+/// The view that eight words ask for of which these are the first and the last five.
+fn eight_words(
+    command: &str,
+    delay: &[u8],
+    jitter: &[u8],
+    clocks: &[u8],
+    from: &[u8],
+    to: &[u8],
+) -> Option<View>
+    ensures value { result ≡ forms.eight_words command.now delay.now jitter.now clocks.now from.now to.now }
+    ensures near { IfSome result IsNear }
+{
+    let bounds = near_bounds_of(delay, jitter, clocks)?;
+    let window = window_of(from, to)?;
+    judged(command, bounds, Some(window))
+}
+
 /// What a word asks for, where it is the only one.
 fn one_word(word: &str) -> Option<Form>
-    ensures { result ≡ forms.one_word word.now }
+    ensures value { result ≡ forms.one_word word.now }
+    ensures limits { IfSome result IsWithinLimits }
 {
     let about = about_of(word)?;
     Some(Form::OnItself(about))
 }
 
-/// The view that three words ask for, as a form.
-fn view_of_three(command: &str) -> Option<Form>
-    ensures { result ≡ forms.on_trace (forms.three_words command.now) }
+/// A view, as a form.
+fn on_trace(view: Option<View>) -> Option<Form>
+    requires { IfSome view IsNear }
+    ensures value { result ≡ forms.on_trace view }
+    ensures limits { IfSome result IsWithinLimits }
 {
-    let view = three_words(command)?;
+    let view = view?;
     Some(Form::OnTrace(view))
 }
 
-/// The view that five words ask for, as a form.
-fn view_of_five(command: &str, from: &[u8], to: &[u8]) -> Option<Form>
-    ensures { result ≡ forms.on_trace (forms.five_words command.now from.now to.now) }
-{
-    let view = five_words(command, from, to)?;
-    Some(Form::OnTrace(view))
-}
-
-/// What these words ask for: `vcd T R`, `wires T R`, `timers T R`, `gtkw T R`, `svg T R`, `cycles T R`, and all of these but `gtkw` with
-/// a window, `FROM TO`; `--help` and `--version`; None where they are no form.
-pub fn form_of(words: &[String]) -> Option<Form>
-    ensures { result ≡ forms.form_of (words_of words.now) }
+/// The view that these words ask for: `vcd T R`, `wires T R`, `timers T R`, `gtkw T R`, `svg T R`, `cycles T R`, `svg T R D J P`,
+/// `cycles T R D J P`, and all of these but `gtkw` with a window behind them, `FROM TO`.
+fn view_of(words: &[String]) -> Option<View>
+    ensures value { result ≡ forms.view_of (words_of words.now) }
+    ensures near { IfSome result IsNear }
 {
     match words.len() {
-        3 => view_of_three(words[0].as_str()),
-        5 => view_of_five(words[0].as_str(), words[3].as_bytes(), words[4].as_bytes()),
-        1 => one_word(words[0].as_str()),
+        3 => three_words(words[0].as_str()),
+        5 => five_words(words[0].as_str(), words[3].as_bytes(), words[4].as_bytes()),
+        6 => six_words(
+            words[0].as_str(),
+            words[3].as_bytes(),
+            words[4].as_bytes(),
+            words[5].as_bytes(),
+        ),
+        8 => eight_words(
+            words[0].as_str(),
+            words[3].as_bytes(),
+            words[4].as_bytes(),
+            words[5].as_bytes(),
+            words[6].as_bytes(),
+            words[7].as_bytes(),
+        ),
         _ => None,
+    }
+}
+
+/// What these words ask for: a view; `--help`, `--version`; None where they are no form.
+pub fn form_of(words: &[String]) -> Option<Form>
+    ensures value { result ≡ forms.form_of (words_of words.now) }
+    ensures limits { IfSome result IsWithinLimits }
+{
+    if words.len() == 1 {
+        one_word(words[0].as_str())
+    } else {
+        on_trace(view_of(words))
     }
 }

@@ -25,11 +25,17 @@ and as SVG pictures, which browsers show. What it writes is proved.
                                     these dumps
   bus629-view svg T R [FROM TO]     the trace as a time line, with a lane for each terminal
   bus629-view cycles T R [FROM TO]  a row for each cycle, for long traces
+  bus629-view svg T R D J P [FROM TO]
+                                    the time line with each fault that diagnose T R D J P of bus629
+                                    finds, by timer and amount
+  bus629-view cycles T R D J P [FROM TO]
+                                    the rows with these faults
   bus629-view --help                this text
   bus629-view --version             the version of the program, and of each text that it reads
 
 FROM and TO are moments in bit times of half a microsecond: what is written is of the bit times from
-FROM to below TO, or in cycles of what begins there; without them of all of the trace.
+FROM to below TO, or in cycles of what begins there; without them of all of the trace. D (0 to 9) and
+J (0 to 255) are in bit times, P (0 to 1000) in millionths: how exact the recorded bus is.
 
 What run, drop, observe, cable and unwave of bus629 write is a trace. The status is 0 where the text
 is written, 2 where the words are no command, 3 where the text of the table or the table as a whole

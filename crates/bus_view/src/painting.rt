@@ -1,24 +1,31 @@
 //! The pictures.
-ghost use Rattle.std.specs.Prelude.{◌≡◌};
-ghost use Rattle.bus_audit.specs.Breaches.{answer_of};
+ghost use Rattle.std.specs.Prelude.{◌≡◌, ◌≤◌};
+ghost use Rattle.bus_command.specs.Acts.{Ends};
+ghost use Rattle.bus_command.specs.Bounding.{most_near_delay};
+ghost use Rattle.bus_command.specs.Outside.{sink_seen};
+ghost use Rattle.bus_command.specs.Readers.{by_trace};
+ghost use Rattle.bus_command.specs.declared.outcome.Outcome.TheVariants.{Done};
 ghost use Rattle.bus_load.specs.Loads.{IsCarrierOf};
 ghost use Rattle.bus_outer.specs.Sinks.{WritesText};
+ghost use Rattle.bus_regime.specs.Verdicts.{verdict_of};
 ghost use Rattle.bus_trace.specs.Traces.{IsTrace};
 ghost use Rattle.bus_view.specs.inside.Acting.{EndsOnView};
-ghost use Rattle.bus_view.specs.Due.{painted};
-ghost use Rattle.bus_view.specs.Forms.{Painted};
+ghost use Rattle.bus_view.specs.Due.{painted, window_or_whole};
+ghost use Rattle.bus_view.specs.Forms.{Painted, Judged};
 
 use crate::forms::Picture;
 use crate::refusal::Outcome;
 use crate::windowing::window_or_whole;
-use bus_audit::{AuditAnswer, audit};
+use bus_audit::audit;
+use bus_bounds::Bounds;
 use bus_command::after_writing;
 use bus_cycles::write_cycles;
+use bus_findings::judgements;
 use bus_load::{Stretch, carrier_stretches};
 use bus_outer::{Sink, WriteFault};
 use bus_picture::write_time_line;
 use bus_regime::{TableVerdict, verdict};
-use bus_shapes::Window;
+use bus_shapes::{Told, Window};
 use bus_table::Table;
 use bus_trace::Trace;
 use std::alloc::Global;
@@ -28,7 +35,7 @@ fn write_picture<K: Sink>(
     picture: Picture,
     window: &Window,
     verdict: &TableVerdict,
-    answer: &AuditAnswer,
+    told: &Told,
     table: &Table,
     trace: &Trace,
     carrier: &[Stretch],
@@ -36,33 +43,34 @@ fn write_picture<K: Sink>(
 ) -> Result<(), WriteFault>
     requires carrier { IsCarrierOf carrier.now trace.now.list }
     ensures { WritesText K.held K.faults out.old out.new result
-        (painted picture window.now verdict.now answer.now table.now trace.now) }
+        (painted picture window.now verdict.now told.now table.now trace.now) }
 {
     match picture {
-        Picture::TimeLine => write_time_line(window, verdict, answer, table, trace, carrier, out),
-        Picture::Cycles => write_cycles(window, verdict, answer, table, trace, carrier, out),
+        Picture::TimeLine => write_time_line(window, verdict, told, table, trace, carrier, out),
+        Picture::Cycles => write_cycles(window, verdict, told, table, trace, carrier, out),
     }
 }
 
-/// Writes this picture of a trace on a table, of which this is what an audit found; of a window of it, or of all.
-fn paint_audited<K: Sink>(
+/// Writes this picture of a trace on a table, of which this is told; of a window of it, or of all.
+fn paint_told<K: Sink>(
     alloc: Global,
     picture: Picture,
     window: Option<Window>,
-    answer: &AuditAnswer,
+    told: &Told,
     table: &Table,
     trace: &Trace,
     out: &mut K,
 ) -> Outcome
-    requires { answer.now ≡ answer_of table.now trace.now }
-    ensures { EndsOnView ⟦<K as Sink>⟧ (Painted picture window) table.now trace.now out.old out.new result }
+    ensures { Ends by_trace Done
+        (λ text. text ≡ painted picture (window_or_whole window trace.now) (verdict_of table.now) told.now table.now trace.now)
+        (sink_seen ⟦<K as Sink>⟧ out.old) (sink_seen ⟦<K as Sink>⟧ out.new) result }
 {
     match carrier_stretches(alloc, trace.list()) {
         Ok(carrier) => {
             let window = window_or_whole(window, trace);
             let verdict = verdict(table);
             let painted = write_picture(
-                picture, &window, &verdict, answer, table, trace, &carrier, out,
+                picture, &window, &verdict, told, table, trace, &carrier, out,
             );
             after_writing(painted, Outcome::Done)
         }
@@ -70,7 +78,7 @@ fn paint_audited<K: Sink>(
     }
 }
 
-/// Writes this picture of a trace on a table; of a window of it, or of all.
+/// Writes this picture of a trace on a table, with what an audit finds; of a window of it, or of all.
 pub fn paint<K: Sink>(
     alloc: Global,
     picture: Picture,
@@ -83,7 +91,33 @@ pub fn paint<K: Sink>(
     ensures { EndsOnView ⟦<K as Sink>⟧ (Painted picture window) table.now trace.now out.old out.new result }
 {
     match audit(alloc, table, trace) {
-        Ok(answer) => paint_audited(alloc, picture, window, &answer, table, trace, out),
+        Ok(answer) => {
+            let told = Told::Audit(answer);
+            paint_told(alloc, picture, window, &told, table, trace, out)
+        }
+        Err(_) => Outcome::NoMemory,
+    }
+}
+
+/// Writes this picture of a trace on a table, with what is found in it as in a recording of a bus within bounds; of a window of it, or of
+/// all.
+pub fn paint_judged<K: Sink>(
+    alloc: Global,
+    picture: Picture,
+    bounds: Bounds,
+    window: Option<Window>,
+    table: &Table,
+    trace: &Trace,
+    out: &mut K,
+) -> Outcome
+    requires near { bounds.delay ≤ most_near_delay }
+    ensures { EndsOnView ⟦<K as Sink>⟧ (Judged picture bounds window) table.now trace.now out.old out.new result }
+{
+    match judgements(alloc, table, trace, bounds) {
+        Ok(judgements) => {
+            let told = Told::Findings { bounds, judgements };
+            paint_told(alloc, picture, window, &told, table, trace, out)
+        }
         Err(_) => Outcome::NoMemory,
     }
 }

@@ -12,6 +12,8 @@ mod headings;
 #[cfg(test)]
 mod itself;
 #[cfg(test)]
+mod judge;
+#[cfg(test)]
 mod line;
 #[cfg(test)]
 mod paint;

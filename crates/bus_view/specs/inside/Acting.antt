@@ -1,5 +1,4 @@
 -- What a command did, told form by form and behind its texts. No public clause cites it.
-use Rattle.std.specs.Prelude.{◌≡◌}
 use Rattle.bus_outer.specs.declared.sink.Sink.{Ghosts as SinkGhosts}
 use Rattle.bus_outer.specs.declared.source.Source.{Ghosts as SourceGhosts}
 use Rattle.bus_table.specs.Tables.{Table}
@@ -7,7 +6,7 @@ use Rattle.bus_trace.specs.Traces.{Recording}
 use Rattle.bus_command.specs.inside.Acting as acting
 use Rattle.bus_command.specs.Acts.{Ends}
 use Rattle.bus_command.specs.Outside.{sink_seen}
-use Rattle.bus_view.specs.Due.{view_answer, view_text}
+use Rattle.bus_view.specs.Due.{view_answer, IsOfView}
 use Rattle.bus_command.specs.Readers.{by_trace}
 use Rattle.bus_view.specs.Forms.{Form, View}
 use Rattle.bus_view.specs.Refusals.{Outcome}
@@ -20,5 +19,4 @@ DoesBoth = acting.DoesBoth view_program
 -- What a command did that has taken its table and trace.
 abbrev pub EndsOnView : {K : Type 0} → SinkGhosts K → View → Table → Recording → K → K → Outcome → Type 0
 EndsOnView ghosts view table trace old new outcome =
-    Ends by_trace (view_answer view table trace) (λ text. text ≡ view_text view table trace) (sink_seen ghosts old) (sink_seen ghosts new)
-    outcome
+    Ends by_trace (view_answer view table trace) (IsOfView view table trace) (sink_seen ghosts old) (sink_seen ghosts new) outcome

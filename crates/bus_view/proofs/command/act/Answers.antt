@@ -16,7 +16,7 @@ returns-in-Some-OnTrace g c = acts_form view_program (due_has_cause (record {
   reads_items = c.texts_read_as_their_items.ensures.found;
   trace_back = c.traces_read_back.ensures.back;
   trace_only = c.traces_read_back.ensures.only;
-})) _ c.show.result (OnTrace c.in-Some-OnTrace.view) (ap Some (sym c.in-Some-OnTrace.field-0-is) ∙ c.in-Some-OnTrace.ensures) c.show.ensures
+})) _ c.show.result (OnTrace c.in-Some-OnTrace.view) (ap Some (sym c.in-Some-OnTrace.field-0-is) ∙ c.in-Some-OnTrace.ensures.value) c.show.ensures
     (λ free. absurd (true≢false free))
 
 pub returns-in-Some-OnItself : goal.returns-in-Some-OnItself
@@ -27,5 +27,5 @@ returns-in-Some-OnItself g c = acts_form view_program (due_has_cause (record {
   reads_items = c.texts_read_as_their_items.ensures.found;
   trace_back = c.traces_read_back.ensures.back;
   trace_only = c.traces_read_back.ensures.only;
-})) _ c.tell_itself.result (OnItself c.in-Some-OnItself.about) (ap Some (sym c.in-Some-OnItself.field-0-is) ∙ c.in-Some-OnItself.ensures) (sourceless _ _ _ _ _ _ c.tell_itself.ensures.ends)
+})) _ c.tell_itself.result (OnItself c.in-Some-OnItself.about) (ap Some (sym c.in-Some-OnItself.field-0-is) ∙ c.in-Some-OnItself.ensures.value) (sourceless _ _ _ _ _ _ c.tell_itself.ensures.ends)
     (λ free. c.tell_itself.ensures.room)

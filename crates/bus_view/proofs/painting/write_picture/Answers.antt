@@ -6,11 +6,11 @@ use Rattle.bus_view.proofs.painting.write_picture.Goals as goal
 pub returns-in-TimeLine : goal.returns-in-TimeLine
 returns-in-TimeLine g c =
     subst (λ (t : List ℕ). WritesText g.K.Sink.held g.K.Sink.faults c.args.out.now c.write_time_line.new.sink c.write_time_line.result t)
-    (time_line_is c.args.picture c.in-TimeLine.is c.args.window.now c.args.verdict.now c.args.answer.now c.args.table.now c.args.trace.now)
+    (time_line_is c.args.picture c.in-TimeLine.is c.args.window.now c.args.verdict.now c.args.told.now c.args.table.now c.args.trace.now)
     c.write_time_line.ensures
 
 pub returns-in-Cycles : goal.returns-in-Cycles
 returns-in-Cycles g c =
     subst (λ (t : List ℕ). WritesText g.K.Sink.held g.K.Sink.faults c.args.out.now c.write_cycles.new.sink c.write_cycles.result t)
-    (cycles_are c.args.picture c.in-Cycles.is c.args.window.now c.args.verdict.now c.args.answer.now c.args.table.now c.args.trace.now)
+    (cycles_are c.args.picture c.in-Cycles.is c.args.window.now c.args.verdict.now c.args.told.now c.args.table.now c.args.trace.now)
     c.write_cycles.ensures
