@@ -2,6 +2,7 @@ pub mod LeastLemmas
 pub mod PlaceLemmas
 pub mod LoopLemmas
 pub mod OrderLemmas
+pub mod AheadLemmas
 pub mod RoomLemmas
 pub mod LeadLemmas
 pub mod TableLemmas

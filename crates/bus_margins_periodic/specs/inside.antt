@@ -1,2 +1,3 @@
 -- What contracts inside this crate cite.
+pub mod Ahead
 pub mod Cases

@@ -1,6 +1,7 @@
 //! The margins of a periodic table on a bus whose clocks aren't exact.
 //!
-//! - [`margins`] tells the level of a table within bounds and the room that each rule leaves, [`level_of`] the level alone.
+//! - [`margins`] tells the level of a table within bounds and the room that each rule leaves, [`level_of`] the level alone,
+//!   [`order_room_of`] the room of one rule.
 //! - [`bears`] tells how great each bound may be, alone, before the level is lower.
 //! - [`write_periodic`] writes all of it, [`write_drifting`] in a sentence what comes of clocks that are 50 millionths off.
 //!
@@ -10,6 +11,7 @@
 //! `Margins` (the levels), `Bearing`, `Texts`, `Sentences`, and `Laws`.
 #![tactic(auto)]
 
+mod ahead;
 mod bearing;
 mod begin;
 mod keeping;
@@ -27,7 +29,8 @@ mod writing;
 
 pub use bearing::bears;
 pub use level::{Level, Margins};
-pub use room::{Room, Rooms};
+pub use order::order_room_of;
+pub use room::{Room, Rooms, holds};
 pub use sentences::write_drifting;
 pub use telling::{level_of, margins};
 pub use writing::write_periodic;

@@ -4,13 +4,15 @@ ghost use Rattle.bus_drift.specs.Turns.{fastest, slowest};
 ghost use Rattle.bus_table.specs.Turned.{AreTurned};
 ghost use Rattle.bus_margins.specs.Buses.{bus_of};
 ghost use Rattle.bus_margins_periodic.specs.Rooms as rules;
+ghost use Rattle.bus_margins_periodic.specs.inside.Ahead.{AreAhead, first_due};
 ghost use Rattle.bus_margins_periodic.specs.inside.Cases as cases;
 ghost use Rattle.bus_margins_periodic.specs.inside.Cases.{IsCase};
 
+use crate::ahead::{Ahead, is_close, look_ahead};
 use crate::room::{Room, lesser};
-use crate::times::{count, long_step, short_step, tg_long, tg_short, ti_long, ti_short, who};
+use crate::times::{count, long_step, short_step, ti_long, ti_short, who};
 use bus_bounds::Bounds;
-use bus_table::{MOST_SENDERS, Table};
+use bus_table::{MOST_SENDERS, Table, turn_places};
 
 /// A turn that is late, one that it holds back, and one that is due behind it.
 #[derive(Clone, Copy)]
@@ -27,15 +29,6 @@ pub(crate) struct Case {
     pub fast: u64,
 }
 
-/// Whether the one that is held back doesn't come first by the gaps alone.
-fn is_close(bounds: Bounds, table: &Table, places: &[usize; MOST_SENDERS], case: Case) -> bool
-    requires { AreTurned table.now places.now }
-    ensures { result ≡ rules.is_close (bus_of bounds table.now) case.held case.due }
-{
-    let due = tg_short(bounds, table, places, who(table, case.due));
-    due <= tg_long(bounds, table, places, who(table, case.held)) + 2 * bounds.delay()
-}
-
 /// Whether there is a rule for a case.
 pub(crate) fn is_ruled(
     bounds: Bounds,
@@ -46,7 +39,7 @@ pub(crate) fn is_ruled(
     requires { AreTurned table.now places.now }
     ensures { result ≡ cases.is_ruled (bus_of bounds table.now) case.late case.held case.due }
 {
-    case.late == case.held || is_close(bounds, table, places, case)
+    case.late == case.held || is_close(bounds, table, places, case.held, case.due)
 }
 
 /// The room in a case.
@@ -73,32 +66,43 @@ fn order_among(
     }
 }
 
-/// The room of all that are due behind the one that is held back, before turn `last`, where that one is due so far.
-#[tactic(auto, using(crate::proofs::LoopLemmas::fast_more))]
+/// The first turn behind the one that is held back of which there is a rule.
+fn first_due(ahead: &Ahead, case: Case) -> usize
+    requires { case.held < 256 }
+    ensures { result ≡ first_due ahead.now case.late case.held }
+{
+    if case.late == case.held {
+        case.held + 1
+    } else {
+        ahead.next[case.held]
+    }
+}
+
+/// The room of all that are due behind the one that is held back, before turn `last`. None of them has less than the first of which there
+/// is a rule, since it is due first.
 fn passed_room(
     bounds: Bounds,
     table: &Table,
     places: &[usize; MOST_SENDERS],
+    ahead: &Ahead,
     last: usize,
     case: Case,
 ) -> Option<Room>
     requires turned { AreTurned table.now places.now }
+    requires ahead { AreAhead (bus_of bounds table.now) ahead.now }
     requires case { IsCase (bus_of bounds table.now) case }
-    requires begins { case.due ≡ case.held }
-    requires few { last ≤ 2 ^ 10 }
-    requires small { case.fast ≤ 2 ^ 41 }
+    requires held { case.held < last }
+    requires few { last ≤ case.late + length table.now.senders }
+    requires first { case.late < length table.now.senders }
     ensures { result ≡ rules.passed_room (bus_of bounds table.now) last case.late case.held }
 {
-    let mut least = None;
-    let mut fast = case.fast;
-    for due in case.held + 1..last {
-        fast += short_step(bounds, table, places, due - 1);
-        least = lesser(
-            least,
-            order_among(bounds, table, places, Case { due, fast, ..case }),
-        );
+    let _few = count(table);
+    let due = first_due(ahead, case);
+    if last <= due {
+        return None;
     }
-    least
+    let fast = ahead.fast[due] - ahead.fast[case.late];
+    order_among(bounds, table, places, Case { due, fast, ..case })
 }
 
 /// The room of all that a late turn may hold back, and of those behind, before turn `last`.
@@ -107,14 +111,17 @@ fn held_room(
     bounds: Bounds,
     table: &Table,
     places: &[usize; MOST_SENDERS],
+    ahead: &Ahead,
     last: usize,
     late: usize,
 ) -> Option<Room>
     requires turned { AreTurned table.now places.now }
-    requires few { last ≤ late + 128 }
-    requires first { late ≤ 128 }
+    requires ahead { AreAhead (bus_of bounds table.now) ahead.now }
+    requires few { last ≤ late + length table.now.senders }
+    requires first { late < length table.now.senders }
     ensures { result ≡ rules.held_room (bus_of bounds table.now) last late }
 {
+    let _few = count(table);
     let mut least = None;
     let (mut slow, mut fast) = (0, 0);
     for held in late..last {
@@ -125,7 +132,7 @@ fn held_room(
             slow,
             fast,
         };
-        least = lesser(least, passed_room(bounds, table, places, last, case));
+        least = lesser(least, passed_room(bounds, table, places, ahead, last, case));
         slow += long_step(bounds, table, places, held);
         fast += short_step(bounds, table, places, held);
     }
@@ -142,12 +149,20 @@ pub(crate) fn order_room(
     ensures { result ≡ rules.order_room (bus_of bounds table.now) }
 {
     let senders = count(table);
+    let ahead = look_ahead(bounds, table, places);
     let mut least = None;
     for late in 0..senders {
         least = lesser(
             least,
-            held_room(bounds, table, places, late + senders, late),
+            held_room(bounds, table, places, &ahead, late + senders, late),
         );
     }
     least
+}
+
+/// The room that the rule of order leaves a table: None of a sender alone. It takes no memory.
+pub fn order_room_of(table: &Table, bounds: Bounds) -> Option<Room>
+    ensures { result ≡ rules.order_room (bus_of bounds table.now) }
+{
+    order_room(bounds, table, &turn_places(table))
 }

@@ -28,7 +28,7 @@ impl Room {
     }
 
     /// Whether this room is less than that one.
-    fn is_less(self, other: Room) -> bool
+    pub fn is_less(self, other: Room) -> bool
         ensures { result ≡ least.is_less self other }
     {
         u128::from(self.have) + u128::from(other.need)
@@ -48,7 +48,7 @@ pub(crate) fn lesser(a: Option<Room>, b: Option<Room>) -> Option<Room>
 }
 
 /// Whether a rule holds that leaves this least room.
-pub(crate) fn holds(room: Option<Room>) -> bool
+pub fn holds(room: Option<Room>) -> bool
     ensures { result ≡ least.holds room }
 {
     match room {
