@@ -22,6 +22,7 @@ use Rattle.bus_regime.specs.declared.table_verdict.TableVerdict.{TableVerdict}
 use Rattle.bus_regime.specs.declared.table_verdict.TableVerdict.TheVariants.{Accept, ShortCycle, SmallGap, NoSync}
 use Rattle.bus_advice.specs.declared.advice.Advice.{Advice}
 use Rattle.bus_advice.specs.declared.advice.Advice.TheVariants.{Interval, Synchronization, Gap, Least, Plan, AsPeriodic, Start}
+use Rattle.bus_cable_plan.specs.Answers.{most_borne_of}
 use Rattle.bus_reach.specs.declared.limit.Limit.{Limit}
 use Rattle.bus_facts.specs.declared.pace.Pace.{Pace}
 use Rattle.bus_facts.specs.Values.{count, count_or_null, count_or_any, delayed}
@@ -118,10 +119,14 @@ plain_limit n tolerance limit =
     plain_object n _ (one n _ _ _ (plain_or_any n limit.bears) (one n _ _ _ (plain_boolean n _) (one n _ _ _ (plain_string n _)
     (one n _ _ _ (plain_count n _) (done n)))))
 
+plain_best : (n : ℕ) (table : Table) → IsPlain n (bounds.best_value table)
+unfolding bounds.best_value
+plain_best n table = plain_or_null n (most_borne_of table)
+
 plain_tolerance : (n : ℕ) (table : Table) → IsPlain (suc (suc (suc n))) (bounds.tolerance_value table)
 plain_tolerance n table =
-    plain_object (suc (suc n)) _ (one _ _ _ _ (plain_or_any _ _) (one _ _ _ _
-    (plain_list (suc n) _ (each_plain (suc n) (bounds.limit_value _) _ (λ limit i. plain_limit n _ limit))) (done _)))
+    plain_object (suc (suc n)) _ (one _ _ _ _ (plain_best _ table) (one _ _ _ _ (plain_or_any _ _) (one _ _ _ _
+    (plain_list (suc n) _ (each_plain (suc n) (bounds.limit_value _) _ (λ limit i. plain_limit n _ limit))) (done _))))
 
 -- ---- senders
 plain_latency : (n : ℕ) (table : Table) (pace : Option Pace) (sender : Sender) (place : ℕ) → IsPlain (suc n) (senders.latency_value table pace sender place)

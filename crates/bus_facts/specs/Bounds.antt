@@ -4,13 +4,14 @@ use Rattle.std.specs.Prelude.{ℕ, Bool, false, ◌==◌, List, map, codes, Opti
 use Rattle.std.specs.Option.{option_map_or}
 use Rattle.serde_json.specs.Data.{Data, boolean, string, object, member, no_members}
 use Rattle.bus_table.specs.Tables.{Table}
+use Rattle.bus_cable_plan.specs.Answers.{most_borne_of}
 use Rattle.bus_explain.specs.Figures.{longest_bits, load}
 use Rattle.bus_reach.specs.Bearing.{tolerance_of}
 use Rattle.bus_reach.specs.Limits.{limits_of}
 use Rattle.bus_reach.specs.declared.limit.Limit.{Limit}
 use Rattle.bus_reach.specs.declared.limit.Rule.{Rule}
 use Rattle.bus_reach.specs.declared.limit.Rule.TheVariants.{LeastGap, NextGap, OwnGap, Sync}
-use Rattle.bus_facts.specs.Values.{count, count_or_any, list}
+use Rattle.bus_facts.specs.Values.{count, count_or_any, count_or_null, list}
 
 -- The shortest and the longest cycle.
 abbrev pub cycle_value : (least most : ℕ) → Data
@@ -54,8 +55,13 @@ abbrev pub limit_value : Option ℕ → Limit → Data
 limit_value tolerance limit =
     rule_value (rule_word limit.rule) (rule_terminal limit.rule) limit.bears (is_same limit.bears tolerance)
 
--- How much delay a table bears, and by what rules.
+-- The greatest delay that any offsets of a table bear, where it is known.
+unfoldable pub best_value : Table → Data
+best_value table = count_or_null (most_borne_of table)
+
+-- How much delay a table bears, by what rules, and how much it would bear at the best offsets.
 abbrev pub tolerance_value : Table → Data
 tolerance_value table =
-    object (member (codes "delay") (count_or_any (tolerance_of table))
-    (member (codes "rules") (list (map (limit_value (tolerance_of table)) (limits_of table))) no_members))
+    object (member (codes "best") (best_value table)
+    (member (codes "delay") (count_or_any (tolerance_of table))
+    (member (codes "rules") (list (map (limit_value (tolerance_of table)) (limits_of table))) no_members)))

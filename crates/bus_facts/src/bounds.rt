@@ -6,6 +6,7 @@ ghost use Rattle.bus_reach.specs.Bearing as bearing;
 ghost use Rattle.bus_facts.specs.Bounds as bounds;
 
 use crate::values::count_or_any;
+use bus_cable_plan::most_borne;
 use bus_explain::{load, longest_bits};
 use bus_reach::{Limit, Rule, limits};
 use bus_table::Table;
@@ -92,7 +93,18 @@ fn limit_values(
     Ok(values)
 }
 
-/// How much delay an accepted table bears, and by what rules.
+/// The greatest delay that any offsets of a table bear, where it is known.
+#[tactic(auto, unfolding(crate::specs::Bounds::best_value))]
+fn best_value(alloc: Global, table: &Table) -> Result<Value, AllocError>
+    ensures { IfOk result (λ value. view value ≡ bounds.best_value table.now) }
+{
+    match most_borne(alloc, table)? {
+        Some(delay) => Ok(Value::from(delay)),
+        None => Ok(Value::Null),
+    }
+}
+
+/// How much delay an accepted table bears, by what rules, and how much it would bear at the best offsets.
 pub(crate) fn tolerance_value(
     alloc: Global,
     table: &Table,
@@ -102,8 +114,9 @@ pub(crate) fn tolerance_value(
     requires own { tolerance ≡ bearing.tolerance_of table.now }
     ensures { IfOk result (λ value. view value ≡ bounds.tolerance_value table.now) }
 {
+    let best = best_value(alloc, table)?;
     let delay = count_or_any(alloc, tolerance)?;
     let limits = limits(alloc, table)?;
     let rules = limit_values(alloc, tolerance, &limits)?;
-    json!(in alloc; {"delay": delay, "rules": rules})
+    json!(in alloc; {"best": best, "delay": delay, "rules": rules})
 }

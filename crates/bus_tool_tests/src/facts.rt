@@ -13,7 +13,7 @@ const ACCEPTED: &str =
 \"number\":2,\"sends\":[{\"ext\":\"1\",\"label\":\"0B2\",\"latency\":{\"at_tolerance\":2102,\
 \"without_delays\":2090},\"least\":30,\"most\":40}],\"shortest\":620,\"tg\":30,\
 \"wait\":{\"at_tolerance\":1278,\"without_delays\":1270}}],\"sg\":300,\"spare\":30,\
-\"start\":{\"greatest_ti\":null,\"itself\":false},\"ti\":1000,\"tolerance\":{\"delay\":4,\
+\"start\":{\"greatest_ti\":null,\"itself\":false},\"ti\":1000,\"tolerance\":{\"best\":null,\"delay\":4,\
 \"rules\":[{\"bears\":20,\"limits\":false,\"rule\":\"least-gap\",\"terminal\":1},{\"bears\":4,\"limits\":true,\
 \"rule\":\"next-gap\",\"terminal\":1},{\"bears\":134,\"limits\":false,\"rule\":\"next-gap\",\"terminal\":2}]},\
 \"verdict\":{\"kind\":\"accept\",\"least\":1030,\"most\":1270}}
@@ -28,7 +28,7 @@ const PERIODIC: &str =
 \"without_delays\":2000}},{\"at\":90,\"gap\":30,\"longest\":620,\"number\":2,\"sends\":[{\"ext\":\"1\",\
 \"label\":\"0B2\",\"latency\":{\"at_tolerance\":2620,\"without_delays\":2620},\"least\":30,\"most\":30}],\
 \"shortest\":620,\"tg\":30,\"wait\":{\"at_tolerance\":2000,\"without_delays\":2000}}],\"sg\":300,\
-\"spare\":970,\"start\":null,\"ti\":2000,\"tolerance\":{\"delay\":0,\"rules\":[{\"bears\":1270,\
+\"spare\":970,\"start\":null,\"ti\":2000,\"tolerance\":{\"best\":635,\"delay\":0,\"rules\":[{\"bears\":1270,\
 \"limits\":false,\"rule\":\"own-gap\",\"terminal\":1},{\"bears\":0,\"limits\":true,\"rule\":\"own-gap\",\
 \"terminal\":2},{\"bears\":\"any\",\"limits\":false,\"rule\":\"sync\",\"terminal\":1},{\"bears\":\"any\",\
 \"limits\":false,\"rule\":\"sync\",\"terminal\":2}]},\"verdict\":{\"kind\":\"accept\",\"least\":2000,\
