@@ -1,22 +1,34 @@
 # Makes a trace of format 1 of what a monitor recorded: awk -f recorded.awk recorded.csv > recorded.trace
 # A line of it has the nanoseconds at which a transmission was heard to begin, its terminal, and its words with a space between: a label word
-# as L and four hexadecimal digits, a data word as D and four.
+# as L and four hexadecimal digits, a data word as D and four. Moments count from the first start, and what begins in one bit time, as in a
+# collision, goes by terminals, as a trace has it: hence the sort.
 function parity(word,   i, ones) {
   for (i = 2; i <= 5; i++) ones += substr("0112122312232334", index("0123456789ABCDEF", substr(word, i, 1)), 1)
   return 1 - ones % 2
 }
-BEGIN { FS = "," }
+BEGIN {
+  FS = ","
+  sorted = "sort -n -k 1,1 -k 2,2 | cut -d '|' -f 2- | tr '|' '\\n'"
+}
+{ sub(/\r$/, "") }
 /^[0-9]/ {
-  if (!count++) first = int($1 / 500)
-  moment = int($1 / 500) - first
-  count_of_words = split($3, words, " ")
+  moments[++count] = int($1 / 500)
+  if (count == 1 || moments[count] < first) first = moments[count]
+  terminals[count] = $2
+  count_of_words = split(toupper($3), words, " ")
   bits = -4
-  text = "TX " moment " " $2
   for (w = 1; w <= count_of_words; w++) {
     bits += words[w] ~ /^L/ ? 24 : 20
-    text = text (words[w] ~ /^L/ ? "\nWS " : " ") words[w] parity(words[w])
+    lines[count] = lines[count] (words[w] ~ /^L/ ? "|WS " : " ") words[w] parity(words[w])
   }
-  if (moment + bits > horizon) horizon = moment + bits
-  all = all text "\n"
+  if (moments[count] + bits > horizon) horizon = moments[count] + bits
 }
-END { printf "TRACE 1\nHORIZON %d\n%sEND\n", horizon, all }
+END {
+  printf "-1 0|TRACE 1|HORIZON %.0f\n", horizon - first | sorted
+  for (i = 1; i <= count; i++) {
+    moment = sprintf("%.0f", moments[i] - first)
+    printf "%s %d|TX %s %d%s\n", moment, terminals[i], moment, terminals[i], lines[i] | sorted
+  }
+  close(sorted)
+  print "END"
+}
