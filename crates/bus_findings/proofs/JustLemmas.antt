@@ -32,7 +32,7 @@ none_so P n is never = elim (cases_lt 0 n) [ inl some ↦ absurd (never n some (
 
 -- ---- the last start is the one before
 
-last_none : (p : Seen → Bool) → (xs : List Seen) (z : Seen) → last_such p xs ≡ None → In z xs → p z ≡ true → ⊥
+pub last_none : (p : Seen → Bool) → (xs : List Seen) (z : Seen) → last_such p xs ≡ None → In z xs → p z ≡ true → ⊥
 last_none p [] z none i e = i
 last_none p (x ∷ xs) z none i e =
     elim (cases_option (last_such p xs)) [
@@ -82,10 +82,10 @@ last_is p (x ∷ xs) o up e =
           ]
     ]
 
-last_test : ℕ → ℕ → Seen → Bool
+unfoldable pub last_test : ℕ → ℕ → Seen → Bool
 last_test number moment r = r.sender == number && nat_lt r.moment moment
 
-next_is : (bounds : Bounds) (trace : Recording) (x : Entry) (o : Seen) → IsTrace trace → In x trace.list
+pub next_is : (bounds : Bounds) (trace : Recording) (x : Entry) (o : Seen) → IsTrace trace → In x trace.list
     → last_start (recorded bounds trace.list) x.terminal x.moment ≡ Some o → IsNext (recorded bounds trace.list) o (seen bounds x)
 unfolding last_test
 next_is bounds trace x o t i is =
@@ -145,7 +145,7 @@ clean_next timers monitor recording k o y drop clean next mine =
 unblamed_same : (a b : Judgement) → a ≡ b → IsUnblamed a → IsUnblamed b
 unblamed_same a b e u = subst IsUnblamed e u
 
-clean_unblamed : (bounds : Bounds) (table : Table) (trace : Recording) (sender : Sender) (x : Entry) → IsTrace trace
+pub clean_unblamed : (bounds : Bounds) (table : Table) (trace : Recording) (sender : Sender) (x : Entry) → IsTrace trace
     → IsClean (timers_of bounds table sender) (monitor_of bounds table) (recorded bounds trace.list) sender.number → IsOfSender table trace sender x
     → IsUnblamed (judgement_of bounds table trace.list x)
 clean_unblamed bounds table trace sender x t clean is =

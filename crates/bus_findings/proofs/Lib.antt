@@ -13,3 +13,4 @@ pub mod SilenceLemmas
 pub mod TraceLemmas
 pub mod SumLemmas
 pub mod JustLemmas
+pub mod FileLemmas

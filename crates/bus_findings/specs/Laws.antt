@@ -3,7 +3,7 @@
 use Rattle.std.specs.Prelude.{◌≡◌, ℕ, ◌-◌, ◌<◌, ◌≤◌, List, Option, Some, None}
 use Rattle.std.specs.Option.{option_map_or}
 use Rattle.bus_recording.specs.Seen.{Seen, Monitor, Bounds as TimerBounds}
-use Rattle.bus_recording.specs.Findings.{IsEarlyByInterval, IsEarlyByGap, IsEarlyBySync, IsLate, IsOverForCertain}
+use Rattle.bus_recording.specs.Findings.{IsEarlyByInterval, IsEarlyByGap, IsEarlyBySync, IsLate, IsOverForCertain, IsClean}
 use Rattle.bus_strings.specs.Members.{In}
 use Rattle.bus_strings.specs.Messages.{Entry}
 use Rattle.bus_table.specs.Fits.{sender_of}
@@ -20,6 +20,7 @@ use Rattle.bus_findings.specs.declared.judgement.Judgement.{Judgement}
 use Rattle.bus_findings.specs.Amounts.{IsAmount}
 use Rattle.bus_findings.specs.Lacks.{interval_lack, gap_lack, sync_lack}
 use Rattle.bus_findings.specs.Dues.{due_of}
+use Rattle.bus_findings.specs.Files.{KeepsInFile, IsInCourse}
 use Rattle.bus_findings.specs.Judging.{judgement_of, judgements, last_start}
 use Rattle.bus_findings.specs.Recorded.{seen, recorded, monitor_of, timers_of}
 use Rattle.bus_findings.specs.Terminals.{fault_sum, faults_among}
@@ -98,6 +99,33 @@ abbrev pub KeepersAreUnblamed : Type 0
 KeepersAreUnblamed =
     (bounds : Bounds) (table : Table) (trace : Recording) (sender : Sender) (x : Entry) → IsTrace trace → Keeps bounds table trace sender
     → IsOfSender table trace sender x → IsUnblamed (judgement_of bounds table trace.list x)
+
+-- A sender that has no finding in the words of bus_recording is told no fault by a timer.
+abbrev pub CleanIsUnblamed : Type 0
+CleanIsUnblamed =
+    (bounds : Bounds) (table : Table) (trace : Recording) (sender : Sender) (x : Entry) → IsTrace trace
+    → IsClean (timers_of bounds table sender) (monitor_of bounds table) (recorded bounds trace.list) sender.number
+    → IsOfSender table trace sender x → IsUnblamed (judgement_of bounds table trace.list x)
+
+-- And one that is told none, at none of its transmissions, has no finding.
+abbrev pub UnblamedIsClean : Type 0
+UnblamedIsClean =
+    (bounds : Bounds) (table : Table) (trace : Recording) (sender : Sender) → IsTrace trace
+    → sender_of table.senders sender.number ≡ Some sender
+    → ((x : Entry) → IsOfSender table trace sender x → IsUnblamed (judgement_of bounds table trace.list x))
+    → IsClean (timers_of bounds table sender) (monitor_of bounds table) (recorded bounds trace.list) sender.number
+
+-- No false alarm of a real bus: where the trace is the file of a monitor, a sender that keeps its bounds has no fault by a timer.
+abbrev pub FilesAreUnblamed : Type 0
+FilesAreUnblamed =
+    (bounds : Bounds) (table : Table) (trace : Recording) (sender : Sender) (x : Entry) → IsTrace trace
+    → KeepsInFile bounds table trace sender → IsOfSender table trace sender x → IsUnblamed (judgement_of bounds table trace.list x)
+
+-- Nor has a sender of a bus within bounds, in any course of it, in both modes.
+abbrev pub CourseFilesAreUnblamed : Type 0
+CourseFilesAreUnblamed =
+    (bounds : Bounds) (table : Table) (trace : Recording) (sender : Sender) (x : Entry) → IsTrace trace
+    → IsInCourse bounds table trace sender → IsOfSender table trace sender x → IsUnblamed (judgement_of bounds table trace.list x)
 
 -- The amounts that are told of a start behind another of the same sender are those of bus_recording.
 pub record AreAmounts (timers : TimerBounds) (monitor : Monitor) (recording : List Seen) (o y : Seen) (found : Judgement) : Type 0 where

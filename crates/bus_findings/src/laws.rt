@@ -1,8 +1,9 @@
 //! Laws of findings, each the contract of a function that does nothing.
 ghost use Rattle.bus_findings.specs.Laws.{IntervalLackIsAmount, GapLackIsAmount, SyncLackIsAmount, DueIsFirst, NotDueIsNever, LatenessIsAmount};
 ghost use Rattle.bus_findings.specs.Laws.{KeepersAreUnblamed, AmountsAreTold, FaultSumIsTold};
+ghost use Rattle.bus_findings.specs.Laws.{CleanIsUnblamed, UnblamedIsClean, FilesAreUnblamed, CourseFilesAreUnblamed};
 
-use bus_recording::laws::findings_are_just;
+use bus_recording::laws::{files_are_clean, findings_are_just, recordings_count_from_anywhere};
 
 /// A start is told to be too early, or late, exactly where it is so in the words of `bus_recording`, and by just as much.
 pub fn findings_are_exact()
@@ -21,6 +22,19 @@ pub fn faults_are_just()
     ensures amounts { AmountsAreTold }
 {
     findings_are_just();
+}
+
+/// A sender has no finding in the words of `bus_recording` exactly where it is told no fault by a timer. So there is no false alarm of a
+/// real bus: in a file of whole bit times that begins and ends while the bus goes on, a sender that keeps its bounds is told none, whatever
+/// the other terminals do; nor is a sender of a bus within bounds.
+pub fn files_are_unblamed()
+    ensures clean { CleanIsUnblamed }
+    ensures back { UnblamedIsClean }
+    ensures keepers { FilesAreUnblamed }
+    ensures courses { CourseFilesAreUnblamed }
+{
+    files_are_clean();
+    recordings_count_from_anywhere();
 }
 
 /// The list of all that is found has as many faults as the text of findings tells of all transmissions.
