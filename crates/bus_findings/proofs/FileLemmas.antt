@@ -37,7 +37,7 @@ same_precedes x z (inl less) same mine = omega (arith, less, same)
 same_precedes x z (inr later) same mine = omega (arith, later, mine)
 
 -- of one terminal and one moment there is one transmission
-one_start : (list : List Entry) (x z : Entry) → IsAscending list → In x list → In z list → x.moment ≡ z.moment → x.terminal ≡ z.terminal → x ≡ z
+pub one_start : (list : List Entry) (x z : Entry) → IsAscending list → In x list → In z list → x.moment ≡ z.moment → x.terminal ≡ z.terminal → x ≡ z
 one_start [] x z up i j same mine = absurd i
 one_start (y ∷ list) x z up (inl a) (inl b) same mine = a ∙ sym b
 one_start (y ∷ list) x z up (inl a) (inr j) same mine =
@@ -114,7 +114,7 @@ next_clean bounds table trace sender x o t is u next =
     }
 
 -- a recorded start of the sender is one of its transmissions
-own_start : (bounds : Bounds) (table : Table) (trace : Recording) (sender : Sender) (y : Seen) → sender_of table.senders sender.number ≡ Some sender
+pub own_start : (bounds : Bounds) (table : Table) (trace : Recording) (sender : Sender) (y : Seen) → sender_of table.senders sender.number ≡ Some sender
     → IsIn y (recorded bounds trace.list) → y.sender ≡ sender.number → (x : Entry) × IsOfSender table trace sender x × (seen bounds x ≡ y)
 own_start bounds table trace sender y found i mine =
     let w = recorded_is bounds trace.list y i in

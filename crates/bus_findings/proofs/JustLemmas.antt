@@ -18,7 +18,7 @@ use Rattle.bus_findings.specs.Amounts.{IsAmount}
 use Rattle.bus_findings.specs.Dues.{due_of}
 use Rattle.bus_findings.specs.Judging.{last_such, last_start, judgement_of, of_sender, late_by}
 use Rattle.bus_findings.specs.Lacks.{interval_lack, gap_lack, sync_lack}
-use Rattle.bus_findings.specs.Laws.{IsUnblamed, IsOfSender, KeepersAreUnblamed, AreAmounts, AmountsAreTold, lateness}
+use Rattle.bus_findings.specs.Laws.{IsUnblamed, IsOfSender, KeepersAreUnblamed, AreAmounts, AmountsAreTold, GapIsTold, lateness}
 use Rattle.bus_findings.specs.Recorded.{seen, recorded, monitor_of, timers_of}
 use Rattle.bus_findings.proofs.SeenLemmas.{is_in, in_is, is_recorded}
 use Rattle.bus_findings.proofs.LackLemmas.{interval_is, gap_is, sync_is}
@@ -45,12 +45,12 @@ last_none p (x ∷ xs) z none i e =
           ]
     ]
 
-record IsLastSuch (p : Seen → Bool) (xs : List Seen) (o : Seen) : Type 0 where
-  there : In o xs
-  passes : p o ≡ true
-  last : (z : Seen) → In z xs → p z ≡ true → z.moment ≤ o.moment
+pub record IsLastSuch (p : Seen → Bool) (xs : List Seen) (o : Seen) : Type 0 where
+  pub there : In o xs
+  pub passes : p o ≡ true
+  pub last : (z : Seen) → In z xs → p z ≡ true → z.moment ≤ o.moment
 
-last_is : (p : Seen → Bool) → (xs : List Seen) (o : Seen) → Ascends xs → last_such p xs ≡ Some o → IsLastSuch p xs o
+pub last_is : (p : Seen → Bool) → (xs : List Seen) (o : Seen) → Ascends xs → last_such p xs ≡ Some o → IsLastSuch p xs o
 last_is p [] o up e = absurd (let q : None ≡ Some o = e in cc)
 last_is p (x ∷ xs) o up e =
     elim (cases_option (last_such p xs)) [
@@ -194,3 +194,9 @@ amounts_told bounds table trace sender x o is last =
       late = subst (IsAmount (λ n. IsLate timers monitor n all o y)) (late_amount all y (due_of timers monitor all o x.moment)) (lateness_is timers monitor all o y);
     } in
     subst (AreAmounts timers monitor all o y) e told
+
+pub gap_told : GapIsTold
+gap_told bounds table trace sender x is =
+    subst (IsAmount (λ n. IsEarlyByGap (timers_of bounds table sender) (monitor_of bounds table) n (recorded bounds trace.list) (seen bounds x)))
+    (ap (λ (j : Judgement). j.terminal_gap) (sym (judged_sender bounds table trace.list x sender is.sender_is)))
+    (gap_is (timers_of bounds table sender) (monitor_of bounds table) (recorded bounds trace.list) (seen bounds x))

@@ -14,3 +14,5 @@ pub mod TraceLemmas
 pub mod SumLemmas
 pub mod JustLemmas
 pub mod FileLemmas
+pub mod EndLemmas
+pub mod FaultLemmas

@@ -1,7 +1,9 @@
 //! Laws of findings, each the contract of a function that does nothing.
 ghost use Rattle.bus_findings.specs.Laws.{IntervalLackIsAmount, GapLackIsAmount, SyncLackIsAmount, DueIsFirst, NotDueIsNever, LatenessIsAmount};
-ghost use Rattle.bus_findings.specs.Laws.{KeepersAreUnblamed, AmountsAreTold, FaultSumIsTold};
+ghost use Rattle.bus_findings.specs.Laws.{KeepersAreUnblamed, AmountsAreTold, GapIsTold, FaultSumIsTold};
 ghost use Rattle.bus_findings.specs.Laws.{CleanIsUnblamed, UnblamedIsClean, FilesAreUnblamed, CourseFilesAreUnblamed};
+ghost use Rattle.bus_findings.specs.Laws.{SilentIsDue, NotSilentIsNotDue};
+ghost use Rattle.bus_findings.specs.Laws.{GoodBusHasNoFault, NoFaultIsGoodBus, GoodFileHasNoFault, CourseFileHasNoFault};
 
 use bus_recording::laws::{files_are_clean, findings_are_just, recordings_count_from_anywhere};
 
@@ -20,6 +22,7 @@ pub fn findings_are_exact()
 pub fn faults_are_just()
     ensures unblamed { KeepersAreUnblamed }
     ensures amounts { AmountsAreTold }
+    ensures gap { GapIsTold }
 {
     findings_are_just();
 }
@@ -35,6 +38,24 @@ pub fn files_are_unblamed()
 {
     files_are_clean();
     recordings_count_from_anywhere();
+}
+
+/// A sender that is told to be silent was due behind its last start, at the moment that is told and at none before; and one that isn't told
+/// so never was.
+pub fn silences_are_told()
+    ensures due { SilentIsDue }
+    ensures not_due { NotSilentIsNotDue }
+{}
+
+/// A bus has no fault exactly where each transmission is of a sender of the table, and fits, and no sender has a finding in the words of
+/// `bus_recording`. So it is in the file of a monitor where all senders keep their bounds, and in that of each bus within bounds.
+pub fn good_buses_have_no_fault()
+    ensures clean { GoodBusHasNoFault }
+    ensures back { NoFaultIsGoodBus }
+    ensures keepers { GoodFileHasNoFault }
+    ensures courses { CourseFileHasNoFault }
+{
+    files_are_unblamed();
 }
 
 /// The list of all that is found has as many faults as the text of findings tells of all transmissions.
