@@ -18,7 +18,7 @@ use Rattle.bus_findings.specs.Amounts.{IsAmount}
 use Rattle.bus_findings.specs.Dues.{due_of}
 use Rattle.bus_findings.specs.Judging.{last_such, last_start, judgement_of, of_sender, late_by}
 use Rattle.bus_findings.specs.Lacks.{interval_lack, gap_lack, sync_lack}
-use Rattle.bus_findings.specs.Laws.{IsUnblamed, IsOfSender, KeepersAreUnblamed, AreAmounts, AmountsAreTold, lateness}
+use Rattle.bus_findings.specs.Laws.{IsUnblamed, IsOfSender, KeepersAreUnblamed, AreAmounts, AmountsAreTold, GapIsTold, lateness}
 use Rattle.bus_findings.specs.Recorded.{seen, recorded, monitor_of, timers_of}
 use Rattle.bus_findings.proofs.SeenLemmas.{is_in, in_is, is_recorded}
 use Rattle.bus_findings.proofs.LackLemmas.{interval_is, gap_is, sync_is}
@@ -32,7 +32,7 @@ none_so P n is never = elim (cases_lt 0 n) [ inl some ↦ absurd (never n some (
 
 -- ---- the last start is the one before
 
-last_none : (p : Seen → Bool) → (xs : List Seen) (z : Seen) → last_such p xs ≡ None → In z xs → p z ≡ true → ⊥
+pub last_none : (p : Seen → Bool) → (xs : List Seen) (z : Seen) → last_such p xs ≡ None → In z xs → p z ≡ true → ⊥
 last_none p [] z none i e = i
 last_none p (x ∷ xs) z none i e =
     elim (cases_option (last_such p xs)) [
@@ -45,12 +45,12 @@ last_none p (x ∷ xs) z none i e =
           ]
     ]
 
-record IsLastSuch (p : Seen → Bool) (xs : List Seen) (o : Seen) : Type 0 where
-  there : In o xs
-  passes : p o ≡ true
-  last : (z : Seen) → In z xs → p z ≡ true → z.moment ≤ o.moment
+pub record IsLastSuch (p : Seen → Bool) (xs : List Seen) (o : Seen) : Type 0 where
+  pub there : In o xs
+  pub passes : p o ≡ true
+  pub last : (z : Seen) → In z xs → p z ≡ true → z.moment ≤ o.moment
 
-last_is : (p : Seen → Bool) → (xs : List Seen) (o : Seen) → Ascends xs → last_such p xs ≡ Some o → IsLastSuch p xs o
+pub last_is : (p : Seen → Bool) → (xs : List Seen) (o : Seen) → Ascends xs → last_such p xs ≡ Some o → IsLastSuch p xs o
 last_is p [] o up e = absurd (let q : None ≡ Some o = e in cc)
 last_is p (x ∷ xs) o up e =
     elim (cases_option (last_such p xs)) [
@@ -82,10 +82,10 @@ last_is p (x ∷ xs) o up e =
           ]
     ]
 
-last_test : ℕ → ℕ → Seen → Bool
+unfoldable pub last_test : ℕ → ℕ → Seen → Bool
 last_test number moment r = r.sender == number && nat_lt r.moment moment
 
-next_is : (bounds : Bounds) (trace : Recording) (x : Entry) (o : Seen) → IsTrace trace → In x trace.list
+pub next_is : (bounds : Bounds) (trace : Recording) (x : Entry) (o : Seen) → IsTrace trace → In x trace.list
     → last_start (recorded bounds trace.list) x.terminal x.moment ≡ Some o → IsNext (recorded bounds trace.list) o (seen bounds x)
 unfolding last_test
 next_is bounds trace x o t i is =
@@ -145,7 +145,7 @@ clean_next timers monitor recording k o y drop clean next mine =
 unblamed_same : (a b : Judgement) → a ≡ b → IsUnblamed a → IsUnblamed b
 unblamed_same a b e u = subst IsUnblamed e u
 
-clean_unblamed : (bounds : Bounds) (table : Table) (trace : Recording) (sender : Sender) (x : Entry) → IsTrace trace
+pub clean_unblamed : (bounds : Bounds) (table : Table) (trace : Recording) (sender : Sender) (x : Entry) → IsTrace trace
     → IsClean (timers_of bounds table sender) (monitor_of bounds table) (recorded bounds trace.list) sender.number → IsOfSender table trace sender x
     → IsUnblamed (judgement_of bounds table trace.list x)
 clean_unblamed bounds table trace sender x t clean is =
@@ -194,3 +194,9 @@ amounts_told bounds table trace sender x o is last =
       late = subst (IsAmount (λ n. IsLate timers monitor n all o y)) (late_amount all y (due_of timers monitor all o x.moment)) (lateness_is timers monitor all o y);
     } in
     subst (AreAmounts timers monitor all o y) e told
+
+pub gap_told : GapIsTold
+gap_told bounds table trace sender x is =
+    subst (IsAmount (λ n. IsEarlyByGap (timers_of bounds table sender) (monitor_of bounds table) n (recorded bounds trace.list) (seen bounds x)))
+    (ap (λ (j : Judgement). j.terminal_gap) (sym (judged_sender bounds table trace.list x sender is.sender_is)))
+    (gap_is (timers_of bounds table sender) (monitor_of bounds table) (recorded bounds trace.list) (seen bounds x))

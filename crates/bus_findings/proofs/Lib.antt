@@ -13,3 +13,6 @@ pub mod SilenceLemmas
 pub mod TraceLemmas
 pub mod SumLemmas
 pub mod JustLemmas
+pub mod FileLemmas
+pub mod EndLemmas
+pub mod FaultLemmas

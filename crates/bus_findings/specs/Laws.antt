@@ -1,12 +1,12 @@
 -- What the findings are in the words of bus_recording. Its own laws say what follows: whoever keeps its bounds has none of these findings, and
 -- the amounts are true.
-use Rattle.std.specs.Prelude.{◌≡◌, ℕ, ◌-◌, ◌<◌, ◌≤◌, List, Option, Some, None}
+use Rattle.std.specs.Prelude.{◌≡◌, ℕ, ◌-◌, ◌<◌, ◌≤◌, true, false, List, Option, Some, None}
 use Rattle.std.specs.Option.{option_map_or}
-use Rattle.bus_recording.specs.Seen.{Seen, Monitor, Bounds as TimerBounds}
-use Rattle.bus_recording.specs.Findings.{IsEarlyByInterval, IsEarlyByGap, IsEarlyBySync, IsLate, IsOverForCertain}
+use Rattle.bus_recording.specs.Seen.{Seen, IsIn, Monitor, Bounds as TimerBounds}
+use Rattle.bus_recording.specs.Findings.{IsEarlyByInterval, IsEarlyByGap, IsEarlyBySync, IsLate, IsOverForCertain, IsClean}
 use Rattle.bus_strings.specs.Members.{In}
 use Rattle.bus_strings.specs.Messages.{Entry}
-use Rattle.bus_table.specs.Fits.{sender_of}
+use Rattle.bus_table.specs.Fits.{fits, sender_of}
 use Rattle.bus_table.specs.Tables.{Sender, Table}
 use Rattle.bus_trace.specs.Traces.{Recording, IsTrace}
 use Rattle.bus_bounds.specs.Bounds.{Bounds}
@@ -20,9 +20,11 @@ use Rattle.bus_findings.specs.declared.judgement.Judgement.{Judgement}
 use Rattle.bus_findings.specs.Amounts.{IsAmount}
 use Rattle.bus_findings.specs.Lacks.{interval_lack, gap_lack, sync_lack}
 use Rattle.bus_findings.specs.Dues.{due_of}
+use Rattle.bus_findings.specs.Files.{KeepsInFile, IsInCourse}
 use Rattle.bus_findings.specs.Judging.{judgement_of, judgements, last_start}
 use Rattle.bus_findings.specs.Recorded.{seen, recorded, monitor_of, timers_of}
-use Rattle.bus_findings.specs.Terminals.{fault_sum, faults_among}
+use Rattle.bus_findings.specs.Silences.{silence_of}
+use Rattle.bus_findings.specs.Terminals.{fault_sum, faults_among, has_fault}
 
 -- What lacks is the amount by which a start is too early: where nothing lacks, it isn't.
 abbrev pub IntervalLackIsAmount : Type 0
@@ -99,6 +101,33 @@ KeepersAreUnblamed =
     (bounds : Bounds) (table : Table) (trace : Recording) (sender : Sender) (x : Entry) → IsTrace trace → Keeps bounds table trace sender
     → IsOfSender table trace sender x → IsUnblamed (judgement_of bounds table trace.list x)
 
+-- A sender that has no finding in the words of bus_recording is told no fault by a timer.
+abbrev pub CleanIsUnblamed : Type 0
+CleanIsUnblamed =
+    (bounds : Bounds) (table : Table) (trace : Recording) (sender : Sender) (x : Entry) → IsTrace trace
+    → IsClean (timers_of bounds table sender) (monitor_of bounds table) (recorded bounds trace.list) sender.number
+    → IsOfSender table trace sender x → IsUnblamed (judgement_of bounds table trace.list x)
+
+-- And one that is told none, at none of its transmissions, has no finding.
+abbrev pub UnblamedIsClean : Type 0
+UnblamedIsClean =
+    (bounds : Bounds) (table : Table) (trace : Recording) (sender : Sender) → IsTrace trace
+    → sender_of table.senders sender.number ≡ Some sender
+    → ((x : Entry) → IsOfSender table trace sender x → IsUnblamed (judgement_of bounds table trace.list x))
+    → IsClean (timers_of bounds table sender) (monitor_of bounds table) (recorded bounds trace.list) sender.number
+
+-- No false alarm of a real bus: where the trace is the file of a monitor, a sender that keeps its bounds has no fault by a timer.
+abbrev pub FilesAreUnblamed : Type 0
+FilesAreUnblamed =
+    (bounds : Bounds) (table : Table) (trace : Recording) (sender : Sender) (x : Entry) → IsTrace trace
+    → KeepsInFile bounds table trace sender → IsOfSender table trace sender x → IsUnblamed (judgement_of bounds table trace.list x)
+
+-- Nor has a sender of a bus within bounds, in any course of it, in both modes.
+abbrev pub CourseFilesAreUnblamed : Type 0
+CourseFilesAreUnblamed =
+    (bounds : Bounds) (table : Table) (trace : Recording) (sender : Sender) (x : Entry) → IsTrace trace
+    → IsInCourse bounds table trace sender → IsOfSender table trace sender x → IsUnblamed (judgement_of bounds table trace.list x)
+
 -- The amounts that are told of a start behind another of the same sender are those of bus_recording.
 pub record AreAmounts (timers : TimerBounds) (monitor : Monitor) (recording : List Seen) (o y : Seen) (found : Judgement) : Type 0 where
   pub interval : IsAmount (λ n. IsEarlyByInterval timers n o y) found.interval
@@ -112,6 +141,81 @@ AmountsAreTold =
     → last_start (recorded bounds trace.list) x.terminal x.moment ≡ Some o
     → AreAmounts (timers_of bounds table sender) (monitor_of bounds table) (recorded bounds trace.list) o (seen bounds x)
     (judgement_of bounds table trace.list x)
+
+-- So is the amount of its terminal gap that is told of a start, be it the first of its sender.
+abbrev pub GapIsTold : Type 0
+GapIsTold =
+    (bounds : Bounds) (table : Table) (trace : Recording) (sender : Sender) (x : Entry) → IsOfSender table trace sender x
+    → IsAmount (λ n. IsEarlyByGap (timers_of bounds table sender) (monitor_of bounds table) n (recorded bounds trace.list) (seen bounds x))
+    (judgement_of bounds table trace.list x).terminal_gap
+
+-- ---- of a sender at the end
+
+-- The last start of a terminal in a recording.
+pub record IsLastStart (recording : List Seen) (number : ℕ) (o : Seen) : Type 0 where
+  pub there : IsIn o recording
+  pub mine : o.sender ≡ number
+  pub last : (r : Seen) → IsIn r recording → r.sender ≡ number → r.moment ≤ o.moment
+
+-- A sender that is told to be silent was due behind its last start: at the moment that is told all its timers were over for certain first.
+abbrev pub SilentIsDue : Type 0
+SilentIsDue =
+    (bounds : Bounds) (table : Table) (trace : Recording) (sender : Sender) (due : Due) → IsTrace trace
+    → silence_of bounds table trace sender ≡ Some due
+    → (o : Seen) × IsLastStart (recorded bounds trace.list) sender.number o
+    × IsFirstOver (timers_of bounds table sender) (monitor_of bounds table) (recorded bounds trace.list) o trace.horizon due.moment
+
+-- And one that isn't told to be silent was never due behind its last start, before the horizon.
+abbrev pub NotSilentIsNotDue : Type 0
+NotSilentIsNotDue =
+    (bounds : Bounds) (table : Table) (trace : Recording) (sender : Sender) (o : Seen) (u : ℕ) → IsTrace trace
+    → silence_of bounds table trace sender ≡ None → IsLastStart (recorded bounds trace.list) sender.number o → u < trace.horizon
+    → IsOverForCertain (timers_of bounds table sender) (monitor_of bounds table) (recorded bounds trace.list) o u → ⊥
+
+-- ---- of a whole trace
+
+-- A transmission is of some sender of the table, and its message fits this one.
+pub record IsOfTable (table : Table) (x : Entry) : Type 0 where
+  pub sender : Sender
+  pub sender_is : sender_of table.senders x.terminal ≡ Some sender
+  pub fitting : fits sender x.message ≡ true
+
+abbrev pub AreOfTable : Table → Recording → Type 0
+AreOfTable table trace = (x : Entry) → In x trace.list → IsOfTable table x
+
+-- This is so of each sender of the table, by its number.
+abbrev pub OfEachSender : Table → (Sender → Type 0) → Type 0
+OfEachSender table P = (sender : Sender) → sender_of table.senders sender.number ≡ Some sender → P sender
+
+-- No sender has a finding in the words of bus_recording.
+abbrev pub AreClean : Bounds → Table → Recording → Type 0
+AreClean bounds table trace =
+    OfEachSender table
+    (λ sender. IsClean (timers_of bounds table sender) (monitor_of bounds table) (recorded bounds trace.list) sender.number)
+
+-- A good bus has no fault: each transmission is of a sender, and fits, and no sender has a finding.
+abbrev pub GoodBusHasNoFault : Type 0
+GoodBusHasNoFault =
+    (bounds : Bounds) (table : Table) (trace : Recording) → IsTrace trace → AreOfTable table trace → AreClean bounds table trace
+    → has_fault bounds table trace ≡ false
+
+-- And only a good bus has none.
+abbrev pub NoFaultIsGoodBus : Type 0
+NoFaultIsGoodBus =
+    (bounds : Bounds) (table : Table) (trace : Recording) → IsTrace trace → has_fault bounds table trace ≡ false
+    → AreOfTable table trace × AreClean bounds table trace
+
+-- So the file of a monitor has no fault where each sender keeps its bounds.
+abbrev pub GoodFileHasNoFault : Type 0
+GoodFileHasNoFault =
+    (bounds : Bounds) (table : Table) (trace : Recording) → IsTrace trace → AreOfTable table trace
+    → OfEachSender table (KeepsInFile bounds table trace) → has_fault bounds table trace ≡ false
+
+-- And where all are senders of a bus within bounds, in any course of it, in both modes.
+abbrev pub CourseFileHasNoFault : Type 0
+CourseFileHasNoFault =
+    (bounds : Bounds) (table : Table) (trace : Recording) → IsTrace trace → AreOfTable table trace
+    → OfEachSender table (IsInCourse bounds table trace) → has_fault bounds table trace ≡ false
 
 -- ---- of the list of all that is found
 

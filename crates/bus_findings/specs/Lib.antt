@@ -7,5 +7,6 @@ pub mod Judging
 pub mod Silences
 pub mod Terminals
 pub mod Texts
+pub mod Files
 pub mod Laws
 pub mod inside

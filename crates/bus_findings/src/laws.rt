@@ -1,8 +1,11 @@
 //! Laws of findings, each the contract of a function that does nothing.
 ghost use Rattle.bus_findings.specs.Laws.{IntervalLackIsAmount, GapLackIsAmount, SyncLackIsAmount, DueIsFirst, NotDueIsNever, LatenessIsAmount};
-ghost use Rattle.bus_findings.specs.Laws.{KeepersAreUnblamed, AmountsAreTold, FaultSumIsTold};
+ghost use Rattle.bus_findings.specs.Laws.{KeepersAreUnblamed, AmountsAreTold, GapIsTold, FaultSumIsTold};
+ghost use Rattle.bus_findings.specs.Laws.{CleanIsUnblamed, UnblamedIsClean, FilesAreUnblamed, CourseFilesAreUnblamed};
+ghost use Rattle.bus_findings.specs.Laws.{SilentIsDue, NotSilentIsNotDue};
+ghost use Rattle.bus_findings.specs.Laws.{GoodBusHasNoFault, NoFaultIsGoodBus, GoodFileHasNoFault, CourseFileHasNoFault};
 
-use bus_recording::laws::findings_are_just;
+use bus_recording::laws::{files_are_clean, findings_are_just, recordings_count_from_anywhere};
 
 /// A start is told to be too early, or late, exactly where it is so in the words of `bus_recording`, and by just as much.
 pub fn findings_are_exact()
@@ -19,8 +22,40 @@ pub fn findings_are_exact()
 pub fn faults_are_just()
     ensures unblamed { KeepersAreUnblamed }
     ensures amounts { AmountsAreTold }
+    ensures gap { GapIsTold }
 {
     findings_are_just();
+}
+
+/// A sender has no finding in the words of `bus_recording` exactly where it is told no fault by a timer. So there is no false alarm of a
+/// real bus: in a file of whole bit times that begins and ends while the bus goes on, a sender that keeps its bounds is told none, whatever
+/// the other terminals do; nor is a sender of a bus within bounds.
+pub fn files_are_unblamed()
+    ensures clean { CleanIsUnblamed }
+    ensures back { UnblamedIsClean }
+    ensures keepers { FilesAreUnblamed }
+    ensures courses { CourseFilesAreUnblamed }
+{
+    files_are_clean();
+    recordings_count_from_anywhere();
+}
+
+/// A sender that is told to be silent was due behind its last start, at the moment that is told and at none before; and one that isn't told
+/// so never was.
+pub fn silences_are_told()
+    ensures due { SilentIsDue }
+    ensures not_due { NotSilentIsNotDue }
+{}
+
+/// A bus has no fault exactly where each transmission is of a sender of the table, and fits, and no sender has a finding in the words of
+/// `bus_recording`. So it is in the file of a monitor where all senders keep their bounds, and in that of each bus within bounds.
+pub fn good_buses_have_no_fault()
+    ensures clean { GoodBusHasNoFault }
+    ensures back { NoFaultIsGoodBus }
+    ensures keepers { GoodFileHasNoFault }
+    ensures courses { CourseFileHasNoFault }
+{
+    files_are_unblamed();
 }
 
 /// The list of all that is found has as many faults as the text of findings tells of all transmissions.

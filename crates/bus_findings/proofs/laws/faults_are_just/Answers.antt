@@ -1,4 +1,4 @@
-use Rattle.bus_findings.proofs.JustLemmas.{keepers_unblamed, amounts_told}
+use Rattle.bus_findings.proofs.JustLemmas.{keepers_unblamed, amounts_told, gap_told}
 use Rattle.bus_findings.proofs.laws.faults_are_just.Goals as goal
 
 pub returns-clause-unblamed : goal.returns-clause-unblamed
@@ -6,3 +6,6 @@ returns-clause-unblamed c = keepers_unblamed c.findings_are_just.ensures
 
 pub returns-clause-amounts : goal.returns-clause-amounts
 returns-clause-amounts c = amounts_told
+
+pub returns-clause-gap : goal.returns-clause-gap
+returns-clause-gap c = gap_told
