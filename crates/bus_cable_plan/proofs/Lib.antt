@@ -21,6 +21,7 @@ pub mod Lower
 pub mod Moved
 pub mod Outcome
 pub mod Bound
+pub mod AsGiven
 pub mod Sharing
 pub mod Rising
 pub mod Right

@@ -23,14 +23,16 @@ use Rattle.bus_reach.proofs.GreatestLemmas.{greatest_takes, greatest_beyond}
 use Rattle.bus_reach.proofs.Modes.{in_periodic}
 use Rattle.bus_cable_plan.specs.declared.planning.CablePlan.{CablePlan}
 use Rattle.bus_cable_plan.specs.declared.planning.CablePlan.TheVariants.{Planned, Infeasible, Undecided}
-use Rattle.bus_cable_plan.specs.Plans.{turns_for, least_in_order, least_interval_for, offsets_in_order, offsets_by_gap}
+use Rattle.bus_cable_plan.specs.Plans.{turns_for, least_in_order, least_interval_for, offsets_in_order, offsets_by_gap, given_offsets}
 use Rattle.bus_cable_plan.specs.Known.{none_reach, all_reach, is_known}
-use Rattle.bus_cable_plan.specs.Answers.{most_borne_in, alone, fits, fitting, is_refuted, known_least, undecided, unfit, best_of}
+use Rattle.bus_cable_plan.specs.Answers.{most_borne_in, alone, bears_as_given, fits, fitting, found, is_found, is_refuted}
+use Rattle.bus_cable_plan.specs.Answers.{known_least, undecided, unfit, best_of}
 use Rattle.bus_cable_plan.specs.Meaning.{IsPlanOf, NoneBear, IsOpen, Means, MeansBest, PlansAreRight, BestIsRight, MostBorneIsRight}
 use Rattle.bus_cable_plan.specs.Shares.{gaps_hold}
 use Rattle.bus_cable_plan.proofs.Outcome.{or_cases, order_is_planned, planned_bears}
 use Rattle.bus_cable_plan.proofs.Sharing.{refuted_is_not_borne}
-use Rattle.bus_cable_plan.proofs.Rising.{long_unfit}
+use Rattle.bus_cable_plan.proofs.AsGiven.{itself, given_borne, borne_given}
+use Rattle.bus_cable_plan.proofs.Rising.{long_unfound}
 
 -- ---- a sender alone
 alone_borne : (d : ℕ) (table : Table) → IsTrue (is_valid table) → table.mode ≡ Periodic → length table.senders ≡ 1
@@ -89,6 +91,21 @@ fitting_is d table valid mode several h = elim (cases_Bool (nat_le (least_in_ord
   ]
 ]
 
+found_is : (d : ℕ) (table : Table) → IsTrue (is_valid table) → table.mode ≡ Periodic → 1 < length table.senders → is_found d table ≡ true
+    → IsPlanOf d table (found d table)
+found_is d table valid mode several h =
+    (elim (fits d table) as (λ b. fits d table ≡ b → IsPlanOf d table (cond b (fitting d table) table)) [
+      | true ↦ λ k. fitting_is d table valid mode several k
+      | false ↦ λ k. record {
+        offsets = given_offsets table;
+        borne = given_borne d table valid mode (elim (or_cases (fits d table) (bears_as_given d table) h) [
+          | inl it ↦ absurd (true≢false (sym it ∙ k))
+          | inr it ↦ it
+        ]);
+        made_is = sym (itself table);
+      }
+    ]) refl
+
 or_false : (a b : Bool) → (a || b) ≡ false → (a ≡ false) × (b ≡ false)
 or_false true b h = absurd (true≢false h)
 or_false false b h = (refl, h)
@@ -106,18 +123,25 @@ below_known d table unfit' refuted =
       ]
     ]) refl
 
-open_is : (d : ℕ) (table : Table) → fits d table ≡ false → is_refuted d table ≡ false → IsOpen d table
-open_is d table unfit' refuted =
+open_is : (d : ℕ) (table : Table) → is_found d table ≡ false → is_refuted d table ≡ false → IsOpen d table
+open_is d table none refuted =
     let no = or_false (is_known d table) (nat_lt table.ti (turns_for d table)) refuted in
+    let neither = or_false (fits d table) (bears_as_given d table) none in
     let long = no.1 in
-    record { turns = (let k : turns_for d table ≤ table.ti = grind (arith, nat_tests, long) in k); unfit = unfit'; unknown = no.0 }
+    record {
+      turns = (let k : turns_for d table ≤ table.ti = grind (arith, nat_tests, long) in k);
+      unfit = neither.0;
+      unknown = no.0;
+      given = λ b. true≢false (sym (borne_given d table b) ∙ neither.1);
+    }
 
-unfit_means : (d : ℕ) (table : Table) → IsTrue (is_valid table) → table.mode ≡ Periodic → 1 < length table.senders → fits d table ≡ false
-    → Means d table (unfit d table)
+unfit_means : (d : ℕ) (table : Table) → IsTrue (is_valid table) → table.mode ≡ Periodic → 1 < length table.senders
+    → is_found d table ≡ false → Means d table (unfit d table)
 unfit_means d table valid mode several h =
+    let none = (or_false (fits d table) (bears_as_given d table) h).0 in
     (elim (is_refuted d table) as (λ b. is_refuted d table ≡ b
     → Means d table (cond b (Infeasible (known_least d table) table.ti) (Undecided (turns_for d table) table.ti))) [
-      | true ↦ λ k. (below_known d table h k, refuted_is_not_borne d table valid mode several h k)
+      | true ↦ λ k. (below_known d table none k, refuted_is_not_borne d table valid mode several none k)
       | false ↦ λ k. open_is d table h k
     ]) refl
 
@@ -127,7 +151,7 @@ many_of table valid several = let some = (valid_facts table valid).some in omega
 pub plans_are_right : PlansAreRight
 plans_are_right d table valid mode =
     (elim (length table.senders == 1) as (λ b. (length table.senders == 1) ≡ b
-    → Means d table (cond b (alone (plan_of table)) (cond (fits d table) (Planned (fitting d table)) (unfit d table)))) [
+    → Means d table (cond b (alone (plan_of table)) (cond (is_found d table) (Planned (found d table)) (unfit d table)))) [
       | true ↦ λ h.
           let one : length table.senders ≡ 1 = grind (arith, nat_tests, h) in
           alone_cases (Means d table) table (alone_borne d table valid mode one)
@@ -135,20 +159,20 @@ plans_are_right d table valid mode =
       | false ↦ λ h.
           let several : length table.senders ≢ 1 = grind (arith, nat_tests, h) in
           let many = many_of table valid several in
-          (elim (fits d table) as (λ b. fits d table ≡ b → Means d table (cond b (Planned (fitting d table)) (unfit d table))) [
-            | true ↦ λ k. fitting_is d table valid mode many k
+          (elim (is_found d table) as (λ b. is_found d table ≡ b → Means d table (cond b (Planned (found d table)) (unfit d table))) [
+            | true ↦ λ k. found_is d table valid mode many k
             | false ↦ λ k. unfit_means d table valid mode many k
           ]) refl
     ]) refl
 
 -- ---- the greatest delay
-best_fits : (table : Table) → IsTrue (is_valid table) → table.mode ≡ Periodic → fits 0 table ≡ true
-    → (fits (best_of table) table ≡ true) × (fits (best_of table + 1) table ≡ false)
-best_fits table valid mode some = (
-  greatest_takes (λ d. fits d table) (table.ti - 1) some,
+best_found : (table : Table) → IsTrue (is_valid table) → table.mode ≡ Periodic → 1 < length table.senders → is_found 0 table ≡ true
+    → (is_found (best_of table) table ≡ true) × (is_found (best_of table + 1) table ≡ false)
+best_found table valid mode many some = (
+  greatest_takes (λ d. is_found d table) (table.ti - 1) some,
   elim (cases_lt (best_of table + 1) table.ti) [
-    | inl less ↦ greatest_beyond (λ d. fits d table) (table.ti - 1) (best_of table + 1) (omega arith) (omega (arith, less))
-    | inr more ↦ long_unfit (best_of table + 1) table valid mode more
+    | inl less ↦ greatest_beyond (λ d. is_found d table) (table.ti - 1) (best_of table + 1) (omega arith) (omega (arith, less))
+    | inr more ↦ long_unfound (best_of table + 1) table valid mode many more
   ],
 )
 
@@ -173,34 +197,36 @@ zero_refuted table valid =
     or_right false b h = h
 
 best_several : (table : Table) → IsTrue (is_valid table) → table.mode ≡ Periodic → length table.senders ≢ 1
-    → MeansBest table (cond (not (fits 0 table)) (unfit 0 table)
-    (cond (is_refuted (best_of table + 1) table) (Planned (fitting (best_of table) table)) (undecided (best_of table + 1) table)))
+    → MeansBest table (cond (not (is_found 0 table)) (unfit 0 table)
+    (cond (is_refuted (best_of table + 1) table) (Planned (found (best_of table) table)) (undecided (best_of table + 1) table)))
 best_several table valid mode several =
     let many = many_of table valid several in
-    (elim (fits 0 table) as (λ b. fits 0 table ≡ b → MeansBest table (cond (not b) (unfit 0 table)
-    (cond (is_refuted (best_of table + 1) table) (Planned (fitting (best_of table) table)) (undecided (best_of table + 1) table)))) [
+    (elim (is_found 0 table) as (λ b. is_found 0 table ≡ b → MeansBest table (cond (not b) (unfit 0 table)
+    (cond (is_refuted (best_of table + 1) table) (Planned (found (best_of table) table)) (undecided (best_of table + 1) table)))) [
       | false ↦ λ k.
           let refuted : is_refuted 0 table ≡ true = zero_refuted table valid in
+          let none = (or_false (fits 0 table) (bears_as_given 0 table) k).0 in
           subst (λ b. MeansBest table (cond b (Infeasible (known_least 0 table) table.ti) (Undecided (turns_for 0 table) table.ti))) (sym refuted)
-          (below_known 0 table k refuted, refuted_is_not_borne 0 table valid mode many k refuted)
+          (below_known 0 table none refuted, refuted_is_not_borne 0 table valid mode many none refuted)
       | true ↦ λ k.
-          let best = best_fits table valid mode k in
-          let plan = fitting_is (best_of table) table valid mode many best.0 in
+          let best = best_found table valid mode many k in
+          let none = (or_false (fits (best_of table + 1) table) (bears_as_given (best_of table + 1) table) best.1).0 in
+          let plan = found_is (best_of table) table valid mode many best.0 in
           (elim (is_refuted (best_of table + 1) table) as (λ b. is_refuted (best_of table + 1) table ≡ b
-          → MeansBest table (cond b (Planned (fitting (best_of table) table)) (undecided (best_of table + 1) table))) [
+          → MeansBest table (cond b (Planned (found (best_of table) table)) (undecided (best_of table + 1) table))) [
             | true ↦ λ h. record {
               alone = λ one d. absurd (several one);
-              several = λ no. (best_of table, plan, refuted_is_not_borne (best_of table + 1) table valid mode many best.1 h);
+              several = λ no. (best_of table, plan, refuted_is_not_borne (best_of table + 1) table valid mode many none h);
             }
-            | false ↦ λ h. (best_of table, (fitting (best_of table) table, plan), open_is (best_of table + 1) table best.1 h)
+            | false ↦ λ h. (best_of table, (found (best_of table) table, plan), open_is (best_of table + 1) table best.1 h)
           ]) refl
     ]) refl
 
 pub best_is_right : BestIsRight
 best_is_right table valid mode =
     (elim (length table.senders == 1) as (λ b. (length table.senders == 1) ≡ b
-    → MeansBest table (cond b (alone (plan_of table)) (cond (not (fits 0 table)) (unfit 0 table)
-    (cond (is_refuted (best_of table + 1) table) (Planned (fitting (best_of table) table)) (undecided (best_of table + 1) table))))) [
+    → MeansBest table (cond b (alone (plan_of table)) (cond (not (is_found 0 table)) (unfit 0 table)
+    (cond (is_refuted (best_of table + 1) table) (Planned (found (best_of table) table)) (undecided (best_of table + 1) table))))) [
       | true ↦ λ h.
           let one : length table.senders ≡ 1 = grind (arith, nat_tests, h) in
           alone_cases (MeansBest table) table
@@ -217,22 +243,23 @@ none_some : (d : ℕ) → None ≡ Some d → ⊥
 none_some d e = absurd cc
 
 most_told : (d : ℕ) (table : Table) → IsTrue (is_valid table) → table.mode ≡ Periodic → length table.senders ≢ 1
-    → cond (fits 0 table && is_refuted (best_of table + 1) table) (Some (best_of table)) None ≡ Some d
+    → cond (is_found 0 table && is_refuted (best_of table + 1) table) (Some (best_of table)) None ≡ Some d
     → ((made : Table) × IsPlanOf d table made) × NoneBear (d + 1) table
 most_told d table valid mode several =
     let many = many_of table valid several in
-    (elim (fits 0 table) as (λ b. fits 0 table ≡ b
+    (elim (is_found 0 table) as (λ b. is_found 0 table ≡ b
     → cond (b && is_refuted (best_of table + 1) table) (Some (best_of table)) None ≡ Some d
     → ((made : Table) × IsPlanOf d table made) × NoneBear (d + 1) table) [
       | false ↦ λ k e. absurd (none_some d e)
       | true ↦ λ k.
-          let best = best_fits table valid mode k in
+          let best = best_found table valid mode many k in
+          let none = (or_false (fits (best_of table + 1) table) (bears_as_given (best_of table + 1) table) best.1).0 in
           (elim (is_refuted (best_of table + 1) table) as (λ b. is_refuted (best_of table + 1) table ≡ b
           → cond b (Some (best_of table)) None ≡ Some d → ((made : Table) × IsPlanOf d table made) × NoneBear (d + 1) table) [
             | false ↦ λ h e. absurd (none_some d e)
             | true ↦ λ h e. subst (λ (n : ℕ). ((made : Table) × IsPlanOf n table made) × NoneBear (n + 1) table) (some_same (best_of table) d e) (
-              (fitting (best_of table) table, fitting_is (best_of table) table valid mode many best.0),
-              refuted_is_not_borne (best_of table + 1) table valid mode many best.1 h,
+              (found (best_of table) table, found_is (best_of table) table valid mode many best.0),
+              refuted_is_not_borne (best_of table + 1) table valid mode many none h,
             )
           ]) refl
     ]) refl
@@ -243,7 +270,7 @@ most_borne_is_right d table valid mode told =
       in_periodic_told : most_borne_in Periodic table ≡ Some d → ((made : Table) × IsPlanOf d table made) × NoneBear (d + 1) table
       in_periodic_told =
           (elim (length table.senders == 1) as (λ b. (length table.senders == 1) ≡ b
-          → cond b None (cond (fits 0 table && is_refuted (best_of table + 1) table) (Some (best_of table)) None) ≡ Some d
+          → cond b None (cond (is_found 0 table && is_refuted (best_of table + 1) table) (Some (best_of table)) None) ≡ Some d
           → ((made : Table) × IsPlanOf d table made) × NoneBear (d + 1) table) [
             | true ↦ λ h e. absurd (none_some d e)
             | false ↦ λ h. most_told d table valid mode (let no : length table.senders ≢ 1 = grind (arith, nat_tests, h) in no)

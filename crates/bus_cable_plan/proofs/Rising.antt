@@ -2,7 +2,7 @@
 use Rattle.std.proofs.Common.{◌≡◌, ◌≢◌, ℕ, ◌+◌, ◌-◌, ◌<◌, ◌≤◌, max, min, true, false, cond, List, [], ◌∷◌, length, ◌⊎◌, inl, inr, arith, refl, sym, ap, ◌∙◌}
 use Rattle.std.specs.Prelude.{◌&&◌, Some, None, IsTrue, not, nat_lt, nat_le, ◌==◌, ◌||◌, Bool}
 use Rattle.std.specs.List.{sum_by}
-use Rattle.std.proofs.lemmas.Bool.{cases_lt, le-leb, lt-leb, ne_eqb, true≢false}
+use Rattle.std.proofs.lemmas.Bool.{cases_Bool, cases_lt, le-leb, lt-leb, ne_eqb, true≢false}
 use Rattle.std.proofs.lemmas.Bool.Decides.{nat_tests}
 use Rattle.std.proofs.lemmas.List.Sums.{sum_by-cons}
 use Rattle.bus_strings.specs.Members.{In}
@@ -17,12 +17,15 @@ use Rattle.bus_table.proofs.ValidLaws.{valid_facts}
 use Rattle.bus_reach.proofs.GreatestLemmas.{greatest_is}
 use Rattle.bus_plan.specs.Answers.{plan_of}
 use Rattle.bus_cable_plan.specs.declared.planning.CablePlan.TheVariants.{Planned}
-use Rattle.bus_cable_plan.specs.Answers.{alone, fits, fitting, is_refuted, unfit, undecided, best_of, plan_best_of, most_borne_in}
+use Rattle.bus_cable_plan.specs.Answers.{alone, bears_as_given, fits, found, is_found, is_refuted, unfit, undecided}
+use Rattle.bus_cable_plan.specs.Answers.{best_of, plan_best_of, most_borne_in}
 use Rattle.bus_cable_plan.specs.Shapes.{Shape, Pair, added, time_in, needed, own, neighbours, apart, round, lesser_shape, shape_of, greatest_tg, second_tg, greatest_pair}
 use Rattle.bus_cable_plan.specs.Plans.{turn_time, turns_for, least_in_order, least_interval_for, by_gap}
 use Rattle.bus_cable_plan.specs.inside.Orders.{AreModest}
 use Rattle.bus_cable_plan.proofs.ByGap.{by_gap_valid, by_gap_length}
+use Rattle.bus_cable_plan.proofs.AsGiven.{given_less, given_turns}
 use Rattle.bus_cable_plan.proofs.InOrder.{modest_one}
+use Rattle.bus_cable_plan.proofs.Outcome.{or_cases}
 use Rattle.bus_cable_plan.proofs.Sharing.{fits_cases}
 use Rattle.bus_cable_plan.proofs.Tops.{HasTops, tops_of}
 
@@ -184,35 +187,55 @@ long_unfit d table valid mode long =
     (lt-leb (least_in_order d table) table.ti (omega (arith, one, two, long)))
     (lt-leb (least_interval_for d table) table.ti (omega (arith, three, four, long)))
 
--- the number found by halving is the greatest that fits
+-- ---- so with offsets that are found
+pub found_less : (e d : ℕ) (table : Table) → IsTrue (is_valid table) → table.mode ≡ Periodic → 1 < length table.senders → e ≤ d
+    → is_found d table ≡ true → is_found e table ≡ true
+found_less e d table valid mode many low h =
+    or_either (fits e table) (bears_as_given e table) (elim (or_cases (fits d table) (bears_as_given d table) h) [
+      | inl k ↦ inl (fits_less e d table valid mode many low k)
+      | inr k ↦ inr (given_less e d table valid mode many low k)
+    ])
+
+pub long_unfound : (d : ℕ) (table : Table) → IsTrue (is_valid table) → table.mode ≡ Periodic → 1 < length table.senders → table.ti ≤ d
+    → is_found d table ≡ false
+long_unfound d table valid mode many long =
+    either_false (fits d table) (bears_as_given d table) (long_unfit d table valid mode long) (elim (cases_Bool (bears_as_given d table)) [
+      | inl h ↦
+          let one = given_turns d table valid mode many h in
+          let two = turns_long d table (valid_facts table valid) in
+          absurd (omega (arith, one, two, long))
+      | inr h ↦ h
+    ])
+
+-- the number that comes of halving is the greatest for which they are
 pub best_is : (d : ℕ) (table : Table) → IsTrue (is_valid table) → table.mode ≡ Periodic → 1 < length table.senders → d < table.ti
-    → fits d table ≡ true → fits (d + 1) table ≡ false → d ≡ best_of table
+    → is_found d table ≡ true → is_found (d + 1) table ≡ false → d ≡ best_of table
 best_is d table valid mode many low yes' no' =
-    sym (greatest_is (λ e. fits e table) d (table.ti - 1) (λ e. (
-      (λ less. fits_less e d table valid mode many less yes'),
+    sym (greatest_is (λ e. is_found e table) d (table.ti - 1) (λ e. (
+      (λ less. found_less e d table valid mode many less yes'),
       (λ it. elim (cases_lt d e) [
-        | inl more ↦ absurd (true≢false (sym (fits_less (d + 1) e table valid mode many (omega (arith, more)) it) ∙ no'))
+        | inl more ↦ absurd (true≢false (sym (found_less (d + 1) e table valid mode many (omega (arith, more)) it) ∙ no'))
         | inr less ↦ less
       ]),
     )) (omega (arith, low)))
 
-pub best_told : (table made : Table) (d : ℕ) → length table.senders ≢ 1 → fits 0 table ≡ true → d ≡ best_of table
-    → is_refuted (d + 1) table ≡ true → made ≡ fitting d table → Planned made ≡ plan_best_of table
+pub best_told : (table made : Table) (d : ℕ) → length table.senders ≢ 1 → is_found 0 table ≡ true → d ≡ best_of table
+    → is_refuted (d + 1) table ≡ true → made ≡ found d table → Planned made ≡ plan_best_of table
 best_told table made d several some best refuted is =
-    ap Planned (is ∙ ap (λ (n : ℕ). fitting n table) best)
-    ∙ sym (ap (λ b. cond b (alone (plan_of table)) (cond (not (fits 0 table)) (unfit 0 table)
-    (cond (is_refuted (best_of table + 1) table) (Planned (fitting (best_of table) table)) (undecided (best_of table + 1) table))))
+    ap Planned (is ∙ ap (λ (n : ℕ). found n table) best)
+    ∙ sym (ap (λ b. cond b (alone (plan_of table)) (cond (not (is_found 0 table)) (unfit 0 table)
+    (cond (is_refuted (best_of table + 1) table) (Planned (found (best_of table) table)) (undecided (best_of table + 1) table))))
     (ne_eqb (length table.senders) 1 several)
     ∙ ap (λ b. cond (not b) (unfit 0 table)
-    (cond (is_refuted (best_of table + 1) table) (Planned (fitting (best_of table) table)) (undecided (best_of table + 1) table))) some
-    ∙ ap (λ b. cond b (Planned (fitting (best_of table) table)) (undecided (best_of table + 1) table))
+    (cond (is_refuted (best_of table + 1) table) (Planned (found (best_of table) table)) (undecided (best_of table + 1) table))) some
+    ∙ ap (λ b. cond b (Planned (found (best_of table) table)) (undecided (best_of table + 1) table))
     (ap (λ (n : ℕ). is_refuted (n + 1) table) (sym best) ∙ refuted))
 
-pub most_told_some : (table : Table) (d : ℕ) → length table.senders ≢ 1 → fits 0 table ≡ true → d ≡ best_of table
+pub most_told_some : (table : Table) (d : ℕ) → length table.senders ≢ 1 → is_found 0 table ≡ true → d ≡ best_of table
     → is_refuted (d + 1) table ≡ true → Some d ≡ most_borne_in Periodic table
 most_told_some table d several some best refuted =
     ap Some best
-    ∙ sym (ap (λ b. cond b None (cond (fits 0 table && is_refuted (best_of table + 1) table) (Some (best_of table)) None))
+    ∙ sym (ap (λ b. cond b None (cond (is_found 0 table && is_refuted (best_of table + 1) table) (Some (best_of table)) None))
     (ne_eqb (length table.senders) 1 several)
     ∙ ap (λ b. cond (b && is_refuted (best_of table + 1) table) (Some (best_of table)) None) some
     ∙ ap (λ b. cond b (Some (best_of table)) None) (ap (λ (n : ℕ). is_refuted (n + 1) table) (sym best) ∙ refuted))

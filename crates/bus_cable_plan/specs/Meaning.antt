@@ -6,12 +6,12 @@ use Rattle.bus_table.specs.Offsets.{with_offsets}
 use Rattle.bus_table.specs.Valid.{is_valid}
 use Rattle.bus_cable_plan.specs.declared.planning.CablePlan.{CablePlan}
 use Rattle.bus_cable_plan.specs.declared.planning.CablePlan.TheVariants.{Planned, Infeasible, Undecided}
-use Rattle.bus_cable_plan.specs.Plans.{turns_for}
+use Rattle.bus_cable_plan.specs.Plans.{turns_for, given_offsets}
 use Rattle.bus_cable_plan.specs.Known.{is_known}
 use Rattle.bus_cable_plan.specs.Answers.{fits, plan_for_of, plan_best_of, most_borne_of}
 use Rattle.bus_cable_plan.specs.Laws.{AreBorne}
 
--- The table made is the given one at other offsets, which are accepted and bear d.
+-- The table made is the given one at offsets, other ones or its own, which are accepted and bear d.
 pub record IsPlanOf (d : ℕ) (table made : Table) : Type 0 where
   pub offsets : List ℕ
   pub borne : AreBorne d table offsets
@@ -21,11 +21,13 @@ pub record IsPlanOf (d : ℕ) (table made : Table) : Type 0 where
 abbrev pub NoneBear : ℕ → Table → Type 0
 NoneBear d table = (e : ℕ) → d ≤ e → (offsets : List ℕ) → AreBorne e table offsets → ⊥
 
--- It isn't known whether some offsets bear d: the turns fit the interval, no plan for d does, and the least interval for d isn't known.
+-- It isn't known whether some offsets bear d: the turns fit the interval, no plan for d does, the least interval for d isn't known, and
+-- the offsets that the table has don't bear d.
 pub record IsOpen (d : ℕ) (table : Table) : Type 0 where
   pub turns : turns_for d table ≤ table.ti
   pub unfit : fits d table ≡ false
   pub unknown : is_known d table ≡ false
+  pub given : AreBorne d table (given_offsets table) → ⊥
 
 -- What the answer for d means.
 abbrev pub Means : ℕ → Table → CablePlan → Type 0

@@ -64,6 +64,10 @@ offsets_in_order d table = map (λ sender. offset_in (plan_in_order d table) sen
 abbrev pub planned_in_order : ℕ → Table → Table
 planned_in_order d table = with_offsets (offsets_in_order d table) table
 
+-- The offsets that a table has, in table order.
+abbrev pub given_offsets : Table → List ℕ
+given_offsets table = map (λ sender. sender.at) table.senders
+
 -- The offsets and the table planned for d in the order of terminal gaps.
 abbrev pub offsets_by_gap : ℕ → Table → List ℕ
 offsets_by_gap d table = offsets_in_order d (by_gap table)

@@ -46,8 +46,9 @@ pub fn shares_are_best()
     ensures most { NoneShareMore }
 {}
 
-/// What an answer means: a planned table is the given one at other offsets, which are accepted and bear the delay; where the answer is
-/// infeasible no offsets do; and it is undecided only where the turns fit the interval, no plan does, and the least interval isn't known.
+/// What an answer means: a planned table is the given one at offsets, other ones or its own, which are accepted and bear the delay; where
+/// the answer is infeasible no offsets do; and it is undecided only where the turns fit the interval, no plan does, the offsets of the
+/// table don't bear the delay, and the least interval isn't known.
 pub fn answers_are_right()
     ensures plan { PlansAreRight }
     ensures best { BestIsRight }

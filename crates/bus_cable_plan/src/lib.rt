@@ -10,6 +10,7 @@
 //! callers may use of them. All of this is this project's profile.
 #![tactic(auto)]
 
+mod given;
 mod interval;
 pub mod laws;
 mod laying;

@@ -5,6 +5,7 @@ ghost use Rattle.bus_table.specs.Ranges.{most_ti};
 ghost use Rattle.bus_cable_plan.specs.Answers as answers;
 ghost use Rattle.bus_cable_plan.specs.Plans as plans;
 
+use crate::given::{as_given, bears_as_given};
 use crate::interval::{is_known, least_in_order, turns_for};
 use crate::laying::offsets_in_order;
 use crate::order::by_gap;
@@ -16,7 +17,7 @@ use std::alloc::{AllocError, Global};
 /// What the planner answers.
 #[derive(Debug, Drop)]
 pub enum CablePlan {
-    /// The table at planned offsets, which is accepted and bears the delay.
+    /// The table at planned offsets, or as it is given. It is accepted and bears the delay.
     Planned(Table),
     /// No choice of offsets bears the delay: the transmit interval `ti` is below `least`, both in bit times.
     Infeasible { least: u64, ti: u64 },
@@ -69,7 +70,30 @@ fn fitting(alloc: Global, table: &Table, ordered: &Table, d: u32) -> Result<Tabl
     with_offsets(alloc, table, &offsets)
 }
 
-/// Whether no offsets bear this delay, where no plan for it fits.
+/// Whether offsets are found that bear this delay.
+fn is_found(table: &Table, ordered: &Table, d: u32) -> bool
+    requires most { d ≤ most_ti }
+    requires ordered { ordered.now ≡ plans.by_gap table.now }
+    ensures { result ≡ answers.is_found d table.now }
+{
+    fits(table, ordered, d) || bears_as_given(table, d)
+}
+
+/// The table at the offsets found. Fails only where memory runs out.
+fn found(alloc: Global, table: &Table, ordered: &Table, d: u32) -> Result<Table, AllocError>
+    requires most { d ≤ most_ti }
+    requires ordered { ordered.now ≡ plans.by_gap table.now }
+    requires periodic { table.now.mode ≡ Periodic }
+    requires several { length table.now.senders ≢ 1 }
+    ensures { IfOk result (λ made. made ≡ answers.found d table.now) }
+{
+    if fits(table, ordered, d) {
+        return fitting(alloc, table, ordered, d);
+    }
+    as_given(alloc, table)
+}
+
+/// Whether no offsets bear this delay, where none are found.
 fn is_refuted(table: &Table, d: u32) -> bool
     requires most { d ≤ most_ti }
     ensures { result ≡ answers.is_refuted d table.now }
@@ -101,7 +125,7 @@ fn undecided(table: &Table, d: u32) -> CablePlan
     }
 }
 
-/// What is said where no plan fits.
+/// What is said where no offsets are found.
 fn unfit(table: &Table, ordered: &Table, d: u32) -> CablePlan
     requires most { d ≤ most_ti }
     requires ordered { ordered.now ≡ plans.by_gap table.now }
@@ -116,32 +140,32 @@ fn unfit(table: &Table, ordered: &Table, d: u32) -> CablePlan
     }
 }
 
-/// The greatest delay for which a plan fits, where one without delay does. It is found by halving.
+/// The greatest delay for which offsets are found that bear it, where some are without delay. It comes of halving.
 fn best(table: &Table, ordered: &Table) -> u32
     requires ordered { ordered.now ≡ plans.by_gap table.now }
     requires periodic { table.now.mode ≡ Periodic }
     requires several { length table.now.senders ≢ 1 }
-    requires some { IsTrue (answers.fits 0 table.now) }
+    requires some { IsTrue (answers.is_found 0 table.now) }
     ensures value { result ≡ answers.best_of table.now }
-    ensures fits { IsTrue (answers.fits result table.now) }
     ensures bound { result < table.now.ti }
 {
-    let mut fitting = 0;
+    let mut borne = 0;
     let mut above = table.ti();
-    while above - fitting > 1 {
-        let middle = fitting + (above - fitting) / 2;
-        if fits(table, ordered, middle) {
-            fitting = middle;
+    while above - borne > 1 {
+        let middle = borne + (above - borne) / 2;
+        if is_found(table, ordered, middle) {
+            borne = middle;
         } else {
             above = middle;
         }
     }
-    fitting
+    borne
 }
 
-/// Chooses the offsets of a periodic table so that it bears delays up to `d` bit times, whatever offsets it had, and changes nothing else.
-/// Its turn order is kept where a plan in that order fits; else its senders go in the order of their terminal gaps, the greatest first. What
-/// is left over of the interval is shared evenly before all senders. Fails only where memory runs out.
+/// Chooses the offsets of a periodic table so that it bears delays up to `d` bit times, and changes nothing else. Its turn order is kept
+/// where a plan in that order fits; else its senders go in the order of their terminal gaps, the greatest first. What is left over of the
+/// interval is shared evenly before all senders. Where no plan fits and the table bears the delay as it is, its offsets stay. Fails only
+/// where memory runs out.
 pub fn plan_for(alloc: Global, table: &Table, d: u32) -> Result<CablePlan, AllocError>
     requires periodic { table.now.mode ≡ Periodic }
     requires most { d ≤ most_ti }
@@ -151,14 +175,14 @@ pub fn plan_for(alloc: Global, table: &Table, d: u32) -> Result<CablePlan, Alloc
         return Ok(alone(plan(alloc, table)?));
     }
     let ordered = by_gap(alloc, table)?;
-    if fits(table, &ordered, d) {
-        return Ok(CablePlan::Planned(fitting(alloc, table, &ordered, d)?));
+    if is_found(table, &ordered, d) {
+        return Ok(CablePlan::Planned(found(alloc, table, &ordered, d)?));
     }
     Ok(unfit(table, &ordered, d))
 }
 
-/// Chooses the offsets of a periodic table so that it bears the greatest delay that any offsets bear, as [`plan_for`] does. Fails only where
-/// memory runs out.
+/// Chooses the offsets of a periodic table so that it bears the greatest delay that any offsets bear, as [`plan_for`] does, or says that it
+/// isn't known whether some bear more than those found. Fails only where memory runs out.
 pub fn plan_best(alloc: Global, table: &Table) -> Result<CablePlan, AllocError>
     requires periodic { table.now.mode ≡ Periodic }
     ensures exact { IfOk result (λ answer. answer ≡ answers.plan_best_of table.now) }
@@ -167,12 +191,12 @@ pub fn plan_best(alloc: Global, table: &Table) -> Result<CablePlan, AllocError>
         return Ok(alone(plan(alloc, table)?));
     }
     let ordered = by_gap(alloc, table)?;
-    if !fits(table, &ordered, 0) {
+    if !is_found(table, &ordered, 0) {
         return Ok(unfit(table, &ordered, 0));
     }
     let d = best(table, &ordered);
     if is_refuted(table, d + 1) {
-        return Ok(CablePlan::Planned(fitting(alloc, table, &ordered, d)?));
+        return Ok(CablePlan::Planned(found(alloc, table, &ordered, d)?));
     }
     Ok(undecided(table, d + 1))
 }
@@ -186,7 +210,7 @@ fn most_of_periodic(alloc: Global, table: &Table) -> Result<Option<u32>, AllocEr
         return Ok(None);
     }
     let ordered = by_gap(alloc, table)?;
-    if !fits(table, &ordered, 0) {
+    if !is_found(table, &ordered, 0) {
         return Ok(None);
     }
     let d = best(table, &ordered);
@@ -197,7 +221,7 @@ fn most_of_periodic(alloc: Global, table: &Table) -> Result<Option<u32>, AllocEr
 }
 
 /// The greatest delay that any offsets of a table bear, in bit times, where it is known. None of an aperiodic table, of a sender alone, which
-/// bears every delay, where no offsets are accepted, and where it isn't known whether some bear more than a plan does. Fails only where
+/// bears every delay, where no offsets are accepted, and where it isn't known whether some bear more than those found. Fails only where
 /// memory runs out.
 pub fn most_borne(alloc: Global, table: &Table) -> Result<Option<u32>, AllocError>
     ensures exact { IfOk result (λ most. most ≡ answers.most_borne_of table.now) }

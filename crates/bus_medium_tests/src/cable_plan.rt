@@ -128,6 +128,24 @@ fn turn_order_is_kept_where_it_may_be(rt: HostRuntime) -> Result<(), Fail> {
     has_best(&rt, Y, &[0, 910, 480, 700], 10)
 }
 
+/// Checks that it isn't known whether some offsets bear the delay, or more than those found, and what is told of that.
+fn has_neither(
+    rt: &(impl Abort + AllocGlobal),
+    text: &[u8],
+    d: Option<u32>,
+    told: u64,
+    interval: u64,
+) -> Result<(), Fail> {
+    match planned(rt, text, d)? {
+        CablePlan::Undecided { least, ti } => {
+            assert_eq!(rt; least, told);
+            assert_eq!(rt; ti, interval);
+            Ok(())
+        }
+        _ => Err(Fail::from("neither")),
+    }
+}
+
 /// Between delays that no terminal gap reaches a synchronization gap with and those that all do, of three senders and more, there is an
 /// interval in which nothing is known.
 #[test]
@@ -135,12 +153,17 @@ fn what_is_not_known_is_said(rt: HostRuntime) -> Result<(), Fail> {
     let text =
         b"TABLE 1\nMODE periodic\nTI 1000\nSG 300\nSENDER 1 TG 20 AT 0\nSEND 001 0 0 0\nSENDER 2 TG 120 AT 0\nSEND 002 0 0 0
 SENDER 3 TG 130 AT 0\nSEND 003 0 0 0\n";
-    match planned(&rt, text, Some(200))? {
-        CablePlan::Undecided { least, ti } => {
-            assert_eq!(&rt; least, 930);
-            assert_eq!(&rt; ti, 1000);
-            Ok(())
-        }
-        _ => Err(Fail::from("neither")),
-    }
+    has_neither(&rt, text, Some(200), 930, 1000)
+}
+
+/// There a table may bear at its own offsets what no plan is found for, and is left as it is.
+#[test]
+fn what_a_table_bears_is_left(rt: HostRuntime) -> Result<(), Fail> {
+    let text =
+        b"TABLE 1\nMODE periodic\nTI 1000\nSG 300\nSENDER 1 TG 20 AT 0\nSEND 001 0 0 0\nSENDER 2 TG 120 AT 753\nSEND 002 0 0 0
+SENDER 3 TG 130 AT 406\nSEND 003 0 0 0\n";
+    has_plan(&rt, text, 200, &[0, 753, 406], 207)?;
+    has_plan(&rt, text, 207, &[0, 753, 406], 207)?;
+    has_neither(&rt, text, Some(208), 954, 1000)?;
+    has_neither(&rt, text, None, 954, 1000)
 }
