@@ -1,17 +1,19 @@
 -- When a terminal is told to be due, all its timers were over for certain, and not before.
 use Rattle.std.specs.Prelude.{nat_le, ◌==◌, option_map, option_and_then}
 use Rattle.std.specs.List.{list_all}
-use Rattle.std.proofs.Common.{◌≡◌, ℕ, ◌+◌, ◌-◌, ◌<◌, ◌≤◌, ◌⊎◌, Bool, true, ◌&&◌, ◌||◌, List, [], ◌∷◌, Option, Some, None, inl, inr, arith, refl, ap, sym, subst, ◌∙◌}
-use Rattle.std.proofs.lemmas.Bool.{or_cases, and_parts, and_from, or_left, or_right, le-leb, leb-true, eq-eqb, eqb-true}
+use Rattle.std.proofs.Common.{◌≡◌, ℕ, ◌+◌, ◌-◌, ◌<◌, ◌≤◌, ◌⊎◌, Bool, true, false, cond, ◌&&◌, ◌||◌, List, [], ◌∷◌, Option, Some, None, inl, inr, arith, refl, ap, sym, subst, ◌∙◌}
+use Rattle.std.proofs.lemmas.Bool.{cases_lt, cases_Bool, or_cases, and_parts, and_from, or_left, or_right, le-leb, leb-true, eq-eqb, eqb-true}
 use Rattle.bus_strings.specs.Members.{In}
 use Rattle.bus_strings.proofs.MemberLaws.{pass_in}
 use Rattle.bus_recording.specs.Seen.{Seen, Monitor, Bounds}
 use Rattle.bus_recording.specs.Findings.{IsQuietForCertain, IsLate}
 use Rattle.bus_recording.specs.Walk.{IsElapsed}
 use Rattle.bus_findings.specs.declared.judgement.Due.{Due}
+use Rattle.bus_findings.specs.declared.judgement.Timer.{Timer}
+use Rattle.bus_findings.specs.declared.judgement.Timer.TheVariants.{Interval, SyncGap, TerminalGap}
 use Rattle.bus_findings.specs.Amounts.{IsAmount}
 use Rattle.bus_findings.specs.Dues.{is_same, is_quiet, first_elapsed, first_due, last_over, due_of}
-use Rattle.bus_findings.specs.Laws.{DueIsFirst, NotDueIsNever, LatenessIsAmount, IsFirstOver, lateness}
+use Rattle.bus_findings.specs.Laws.{DueIsFirst, NotDueIsNever, DueIsTold, IsLastTimer, LatenessIsAmount, IsFirstOver, lateness}
 use Rattle.bus_findings.proofs.AmountLemmas.{IsFirstFrom, first_is, first_none}
 use Rattle.bus_findings.proofs.SeenLemmas.{is_in, in_is}
 
@@ -197,6 +199,58 @@ due_first timers monitor recording o until due is =
       elapsed = first_is (elapsed_test timers monitor recording o) until w.e w.elapsed;
       due = first_is (due_test timers monitor recording o w.e) until due.moment w.found;
     })
+
+less_of : (t n : ℕ) → n ≤ t → (t == n) ≡ false → n < t
+less_of t n low apart = elim (cases_lt n t) [
+  | inl less ↦ less
+  | inr over ↦ absurd (let q : (t == n) ≡ true = eq-eqb t n (omega (arith, low, over)) in cc (q, apart))
+]
+
+-- when it is found to be due, interval and terminal gap are over
+due_parts : (timers : Bounds) (monitor : Monitor) (recording : List Seen) (o : Seen) (until e t : ℕ)
+    → first_due timers monitor recording o until e ≡ Some t → (o.moment + timers.long.ti ≤ t) × (e + timers.long.tg ≤ t)
+unfolding due_test
+due_parts timers monitor recording o until e t found =
+    let f = first_is (due_test timers monitor recording o e) until t found in
+    let q = and_parts (nat_le (o.moment + timers.long.ti) t)
+    (nat_le (e + timers.long.tg) t && is_quiet monitor recording o (t - timers.long.tg) t) f.passes in
+    let r = and_parts (nat_le (e + timers.long.tg) t) (is_quiet monitor recording o (t - timers.long.tg) t) q.1 in
+    (leb-true (o.moment + timers.long.ti) t q.0, leb-true (e + timers.long.tg) t r.0)
+
+-- of three timers one was over last
+last_timer : (timers : Bounds) (o : Seen) (e t : ℕ) → o.moment + timers.long.ti ≤ t → e + timers.long.tg ≤ t
+    → IsLastTimer timers o e t (last_over timers o e t)
+last_timer timers o e t interval room =
+    let behind : Timer = cond (t == e + timers.long.tg) SyncGap TerminalGap in
+    elim (cases_Bool (t == o.moment + timers.long.ti)) [
+      | inl then ↦
+          subst (IsLastTimer timers o e t) (ap (λ b. cond b Interval behind) (sym then)) (eqb-true t (o.moment + timers.long.ti) then)
+      | inr before ↦
+          let apart : o.moment + timers.long.ti < t = less_of t (o.moment + timers.long.ti) interval before in
+          subst (IsLastTimer timers o e t) (ap (λ b. cond b Interval behind) (sym before)) (elim (cases_Bool (t == e + timers.long.tg)) [
+            | inl at ↦ subst (IsLastTimer timers o e t) (ap (λ b. cond b SyncGap TerminalGap) (sym at)) (apart, eqb-true t (e + timers.long.tg) at)
+            | inr later ↦
+                subst (IsLastTimer timers o e t) (ap (λ b. cond b SyncGap TerminalGap) (sym later)) (apart, less_of t (e + timers.long.tg) room later)
+          ])
+    ]
+
+pub due_told : DueIsTold
+unfolding elapsed_test
+due_told timers monitor recording o until due is =
+    let w = due_by timers monitor recording o until due is in
+    let f = first_is (elapsed_test timers monitor recording o) until w.e w.elapsed in
+    let p = and_parts (nat_le timers.long.sg w.e) (is_quiet monitor recording o (w.e - timers.long.sg) w.e) f.passes in
+    let d = due_parts timers monitor recording o until w.e due.moment w.found in
+    record {
+      over = due_first timers monitor recording o until due is;
+      elapsed = w.e;
+      first = record {
+        elapsed = (leb-true timers.long.sg w.e p.0, quiet_from monitor recording o (w.e - timers.long.sg) w.e p.1);
+        first = λ u over. f.first u (omega arith)
+            (and_from _ _ (le-leb timers.long.sg u over.0) (quiet_to monitor recording o (u - timers.long.sg) u over.1));
+      };
+      last = subst (IsLastTimer timers o w.e due.moment) (sym w.timer) (last_timer timers o w.e due.moment d.0 d.1);
+    }
 
 pub not_due : NotDueIsNever
 unfolding elapsed_test due_test

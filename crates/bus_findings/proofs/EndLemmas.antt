@@ -15,7 +15,7 @@ use Rattle.bus_findings.specs.Laws.{IsLastStart, SilentIsDue, NotSilentIsNotDue}
 use Rattle.bus_findings.specs.Recorded.{seen, recorded, monitor_of, timers_of}
 use Rattle.bus_findings.specs.Silences.{silence_of}
 use Rattle.bus_findings.proofs.SeenLemmas.{is_in, in_is, recorded_is}
-use Rattle.bus_findings.proofs.DueLemmas.{cases_option, due_first, not_due}
+use Rattle.bus_findings.proofs.DueLemmas.{cases_option, due_told, not_due}
 use Rattle.bus_findings.proofs.WalkLemmas.{ascends}
 use Rattle.bus_findings.proofs.JustLemmas.{last_none, last_is, last_test}
 use Rattle.bus_findings.proofs.FileLemmas.{one_start}
@@ -78,7 +78,7 @@ silent_is_due bounds table trace sender due t silent =
       | inr some ↦ (
         some.0,
         last_start_is bounds trace sender.number some.0 t some.1,
-        due_first (timers_of bounds table sender) (monitor_of bounds table) all some.0 trace.horizon due
+        due_told (timers_of bounds table sender) (monitor_of bounds table) all some.0 trace.horizon due
             (sym (ap (due_behind bounds table trace sender) some.1) ∙ silent),
       )
     ]

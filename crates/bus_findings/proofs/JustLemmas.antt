@@ -18,11 +18,11 @@ use Rattle.bus_findings.specs.Amounts.{IsAmount}
 use Rattle.bus_findings.specs.Dues.{due_of}
 use Rattle.bus_findings.specs.Judging.{last_such, last_start, judgement_of, of_sender, late_by}
 use Rattle.bus_findings.specs.Lacks.{interval_lack, gap_lack, sync_lack}
-use Rattle.bus_findings.specs.Laws.{IsUnblamed, IsOfSender, KeepersAreUnblamed, AreAmounts, AmountsAreTold, GapIsTold, lateness}
+use Rattle.bus_findings.specs.Laws.{IsUnblamed, IsOfSender, KeepersAreUnblamed, AreAmounts, AmountsAreTold, GapIsTold, IsLateSince, LateIsTold, lateness}
 use Rattle.bus_findings.specs.Recorded.{seen, recorded, monitor_of, timers_of}
 use Rattle.bus_findings.proofs.SeenLemmas.{is_in, in_is, is_recorded}
 use Rattle.bus_findings.proofs.LackLemmas.{interval_is, gap_is, sync_is}
-use Rattle.bus_findings.proofs.DueLemmas.{cases_option, due_first, lateness_is}
+use Rattle.bus_findings.proofs.DueLemmas.{cases_option, due_first, due_told, lateness_is}
 use Rattle.bus_findings.proofs.WalkLemmas.{ascends, early_less}
 use Rattle.bus_findings.proofs.SenderLemmas.{same_some, found_number, judged_sender}
 
@@ -200,3 +200,28 @@ gap_told bounds table trace sender x is =
     subst (IsAmount (λ n. IsEarlyByGap (timers_of bounds table sender) (monitor_of bounds table) n (recorded bounds trace.list) (seen bounds x)))
     (ap (λ (j : Judgement). j.terminal_gap) (sym (judged_sender bounds table trace.list x sender is.sender_is)))
     (gap_is (timers_of bounds table sender) (monitor_of bounds table) (recorded bounds trace.list) (seen bounds x))
+
+late_since : (timers : TimerBounds) (monitor : Monitor) (recording : List Seen) (o y : Seen) (due : Due)
+    → due_of timers monitor recording o y.moment ≡ Some due → IsLateSince timers monitor recording o y (late_by recording y due) due.moment
+late_since timers monitor recording o y due is =
+    let f = due_told timers monitor recording o y.moment due is in
+    let before : due.moment < y.moment = f.over.before in
+    record { since = f; amount = omega (arith, before); passed = refl }
+
+pub late_told : LateIsTold
+late_told bounds table trace sender x o late is last told =
+    let timers = timers_of bounds table sender in
+    let monitor = monitor_of bounds table in
+    let all : List Seen = recorded bounds trace.list in
+    let y : Seen = seen bounds x in
+    let e : judgement_of bounds table trace.list x ≡ of_sender bounds table trace.list sender x (Some o) =
+    judged_sender bounds table trace.list x sender is.sender_is ∙ ap (of_sender bounds table trace.list sender x) last in
+    let found : option_map (late_by all y) (due_of timers monitor all o x.moment) ≡ Some late = sym (ap (λ (j : Judgement). j.late) e) ∙ told in
+    elim (cases_option (due_of timers monitor all o x.moment)) [
+      | inl none ↦ absurd (let q : None ≡ Some late = sym (ap (option_map (late_by all y)) none) ∙ found in cc)
+      | inr some ↦ (
+        some.0.moment,
+        subst (λ l. IsLateSince timers monitor all o y l some.0.moment)
+            (same_some (late_by all y some.0) late (sym (ap (option_map (late_by all y)) some.1) ∙ found)) (late_since timers monitor all o y some.0 some.1),
+      )
+    ]

@@ -1,6 +1,6 @@
 -- What the findings are in the words of bus_recording. Its own laws say what follows: whoever keeps its bounds has none of these findings, and
 -- the amounts are true.
-use Rattle.std.specs.Prelude.{◌≡◌, ℕ, ◌-◌, ◌<◌, ◌≤◌, true, false, List, Option, Some, None}
+use Rattle.std.specs.Prelude.{◌≡◌, ℕ, ◌+◌, ◌-◌, ◌<◌, ◌≤◌, true, false, List, Option, Some, None}
 use Rattle.std.specs.Option.{option_map_or}
 use Rattle.bus_recording.specs.Seen.{Seen, IsIn, Monitor, Bounds as TimerBounds}
 use Rattle.bus_recording.specs.Findings.{IsEarlyByInterval, IsEarlyByGap, IsEarlyBySync, IsLate, IsOverForCertain, IsClean}
@@ -15,13 +15,17 @@ use Rattle.bus_clocks.specs.Entries.{Entry as Transmission}
 use Rattle.bus_recording.specs.Just.{AreWithin}
 use Rattle.bus_recording.specs.Keeping.{KeepsBounds}
 use Rattle.bus_recording.specs.Recordings.{IsRecording}
+use Rattle.bus_recording.specs.Walk.{IsElapsed}
 use Rattle.bus_findings.specs.declared.judgement.Due.{Due}
 use Rattle.bus_findings.specs.declared.judgement.Judgement.{Judgement}
+use Rattle.bus_findings.specs.declared.judgement.Late.{Late}
+use Rattle.bus_findings.specs.declared.judgement.Timer.{Timer}
+use Rattle.bus_findings.specs.declared.judgement.Timer.TheVariants.{Interval, SyncGap, TerminalGap}
 use Rattle.bus_findings.specs.Amounts.{IsAmount}
 use Rattle.bus_findings.specs.Lacks.{interval_lack, gap_lack, sync_lack}
 use Rattle.bus_findings.specs.Dues.{due_of}
 use Rattle.bus_findings.specs.Files.{KeepsInFile, IsInCourse}
-use Rattle.bus_findings.specs.Judging.{judgement_of, judgements, last_start}
+use Rattle.bus_findings.specs.Judging.{begun_within, judgement_of, judgements, last_start}
 use Rattle.bus_findings.specs.Recorded.{seen, recorded, monitor_of, timers_of}
 use Rattle.bus_findings.specs.Silences.{silence_of}
 use Rattle.bus_findings.specs.Terminals.{fault_sum, faults_among, has_fault}
@@ -50,6 +54,32 @@ abbrev pub DueIsFirst : Type 0
 DueIsFirst =
     (timers : TimerBounds) (monitor : Monitor) (recording : List Seen) (o : Seen) (until : ℕ) (due : Due)
     → due_of timers monitor recording o until ≡ Some due → IsFirstOver timers monitor recording o until due.moment
+
+-- The synchronization gap elapsed at this moment for certain, and at no moment before.
+pub record IsFirstElapsed (timers : TimerBounds) (monitor : Monitor) (recording : List Seen) (o : Seen) (e : ℕ) : Type 0 where
+  pub elapsed : IsElapsed timers monitor recording o e
+  pub first : (u : ℕ) → IsElapsed timers monitor recording o u → e ≤ u
+
+-- Which timer was over last at moment t, where the synchronization gap elapsed at moment e: the interval, where it ended then; else that
+-- gap, where the terminal gap stood at once behind it; else a terminal gap that began anew.
+abbrev pub IsLastTimer : TimerBounds → Seen → ℕ → ℕ → Timer → Type 0
+IsLastTimer timers o e t Interval = t ≡ o.moment + timers.long.ti
+IsLastTimer timers o e t SyncGap = (o.moment + timers.long.ti < t) × (t ≡ e + timers.long.tg)
+IsLastTimer timers o e t TerminalGap = (o.moment + timers.long.ti < t) × (e + timers.long.tg < t)
+
+-- The terminal is due since a moment by a timer: all its timers were over for certain first then, and this one was over last.
+pub record IsDueSince (timers : TimerBounds) (monitor : Monitor) (recording : List Seen) (o : Seen) (until moment : ℕ) (timer : Timer)
+    : Type 0 where
+  pub over : IsFirstOver timers monitor recording o until moment
+  pub elapsed : ℕ
+  pub first : IsFirstElapsed timers monitor recording o elapsed
+  pub last : IsLastTimer timers o elapsed moment timer
+
+-- So it is where it is told to be due.
+abbrev pub DueIsTold : Type 0
+DueIsTold =
+    (timers : TimerBounds) (monitor : Monitor) (recording : List Seen) (o : Seen) (until : ℕ) (due : Due)
+    → due_of timers monitor recording o until ≡ Some due → IsDueSince timers monitor recording o until due.moment due.timer
 
 -- Where it isn't told to be due, they never were.
 abbrev pub NotDueIsNever : Type 0
@@ -149,6 +179,23 @@ GapIsTold =
     → IsAmount (λ n. IsEarlyByGap (timers_of bounds table sender) (monitor_of bounds table) n (recorded bounds trace.list) (seen bounds x))
     (judgement_of bounds table trace.list x).terminal_gap
 
+-- A start y behind o is late since a moment: the terminal was due since then by the timer that is told; and so many bit times passed, and
+-- so many transmissions began, as are told.
+pub record IsLateSince (timers : TimerBounds) (monitor : Monitor) (recording : List Seen) (o y : Seen) (late : Late) (due : ℕ)
+    : Type 0 where
+  pub since : IsDueSince timers monitor recording o y.moment due late.timer
+  pub amount : due + late.amount ≡ y.moment
+  pub passed : late.passed ≡ begun_within recording due y.moment
+
+-- So is each start that is told to be late.
+abbrev pub LateIsTold : Type 0
+LateIsTold =
+    (bounds : Bounds) (table : Table) (trace : Recording) (sender : Sender) (x : Entry) (o : Seen) (late : Late)
+    → IsOfSender table trace sender x → last_start (recorded bounds trace.list) x.terminal x.moment ≡ Some o
+    → (judgement_of bounds table trace.list x).late ≡ Some late
+    → (due : ℕ)
+    × IsLateSince (timers_of bounds table sender) (monitor_of bounds table) (recorded bounds trace.list) o (seen bounds x) late due
+
 -- ---- of a sender at the end
 
 -- The last start of a terminal in a recording.
@@ -157,13 +204,13 @@ pub record IsLastStart (recording : List Seen) (number : ℕ) (o : Seen) : Type 
   pub mine : o.sender ≡ number
   pub last : (r : Seen) → IsIn r recording → r.sender ≡ number → r.moment ≤ o.moment
 
--- A sender that is told to be silent was due behind its last start: at the moment that is told all its timers were over for certain first.
+-- A sender that is told to be silent was due behind its last start, since the moment and by the timer that are told.
 abbrev pub SilentIsDue : Type 0
 SilentIsDue =
     (bounds : Bounds) (table : Table) (trace : Recording) (sender : Sender) (due : Due) → IsTrace trace
     → silence_of bounds table trace sender ≡ Some due
     → (o : Seen) × IsLastStart (recorded bounds trace.list) sender.number o
-    × IsFirstOver (timers_of bounds table sender) (monitor_of bounds table) (recorded bounds trace.list) o trace.horizon due.moment
+    × IsDueSince (timers_of bounds table sender) (monitor_of bounds table) (recorded bounds trace.list) o trace.horizon due.moment due.timer
 
 -- And one that isn't told to be silent was never due behind its last start, before the horizon.
 abbrev pub NotSilentIsNotDue : Type 0
@@ -180,6 +227,7 @@ pub record IsOfTable (table : Table) (x : Entry) : Type 0 where
   pub sender_is : sender_of table.senders x.terminal ≡ Some sender
   pub fitting : fits sender x.message ≡ true
 
+-- Each transmission is.
 abbrev pub AreOfTable : Table → Recording → Type 0
 AreOfTable table trace = (x : Entry) → In x trace.list → IsOfTable table x
 

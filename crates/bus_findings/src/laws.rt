@@ -1,5 +1,6 @@
 //! Laws of findings, each the contract of a function that does nothing.
 ghost use Rattle.bus_findings.specs.Laws.{IntervalLackIsAmount, GapLackIsAmount, SyncLackIsAmount, DueIsFirst, NotDueIsNever, LatenessIsAmount};
+ghost use Rattle.bus_findings.specs.Laws.{DueIsTold, LateIsTold};
 ghost use Rattle.bus_findings.specs.Laws.{KeepersAreUnblamed, AmountsAreTold, GapIsTold, FaultSumIsTold};
 ghost use Rattle.bus_findings.specs.Laws.{CleanIsUnblamed, UnblamedIsClean, FilesAreUnblamed, CourseFilesAreUnblamed};
 ghost use Rattle.bus_findings.specs.Laws.{SilentIsDue, NotSilentIsNotDue};
@@ -14,6 +15,7 @@ pub fn findings_are_exact()
     ensures sync { SyncLackIsAmount }
     ensures due { DueIsFirst }
     ensures not_due { NotDueIsNever }
+    ensures told { DueIsTold }
     ensures late { LatenessIsAmount }
 {}
 
@@ -23,6 +25,7 @@ pub fn faults_are_just()
     ensures unblamed { KeepersAreUnblamed }
     ensures amounts { AmountsAreTold }
     ensures gap { GapIsTold }
+    ensures late { LateIsTold }
 {
     findings_are_just();
 }
@@ -40,8 +43,8 @@ pub fn files_are_unblamed()
     recordings_count_from_anywhere();
 }
 
-/// A sender that is told to be silent was due behind its last start, at the moment that is told and at none before; and one that isn't told
-/// so never was.
+/// A sender that is told to be silent was due behind its last start, since the moment and by the timer that are told; and one that isn't
+/// told so never was.
 pub fn silences_are_told()
     ensures due { SilentIsDue }
     ensures not_due { NotSilentIsNotDue }

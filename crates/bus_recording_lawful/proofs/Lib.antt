@@ -6,3 +6,4 @@ mod Local
 mod Firsts
 mod Whole
 mod Audited
+mod Faultless

@@ -1,8 +1,10 @@
 //! Laws of the definitions, each the contract of a function that does nothing.
+ghost use Rattle.bus_recording_lawful.specs.Faultless.{LawfulHasNoFault};
 ghost use Rattle.bus_recording_lawful.specs.Lawful.{AuditedIsClean, LawfulIsClean, CleanStartIsAllowed, TableIsClean};
 ghost use Rattle.bus_recording_lawful.specs.Whole.{AuditIsTold, LawfulIsTold};
 
-use bus_audit::laws::{lawful_is_observed, observed_is_lawful};
+use bus_audit::laws::{lawful_is_observed, no_breach_is_right, observed_is_lawful};
+use bus_findings::laws::good_buses_have_no_fault;
 use bus_recording::laws::{
     clean_starts_are_lawful, keeping_is_clean, recordings_count_from_anywhere,
 };
@@ -37,4 +39,13 @@ pub fn lawful_is_told()
     clean_starts_are_allowed();
     lawful_is_observed();
     observed_is_lawful();
+}
+
+/// So a trace in which an audit finds no breach has no fault, as a recording of a bus whose clocks are exact and that delays nothing.
+pub fn lawful_has_no_fault()
+    ensures { LawfulHasNoFault }
+{
+    lawful_is_clean();
+    no_breach_is_right();
+    good_buses_have_no_fault();
 }

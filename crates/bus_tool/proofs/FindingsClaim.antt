@@ -4,8 +4,8 @@ use Rattle.std.proofs.Common.{ap, ◌∙◌, cond}
 use Rattle.bus_text.specs.Numbers.{IsDecimal, decimal_value}
 use Rattle.bus_bounds.specs.Bounds.{Bounds, most_clocks}
 use Rattle.bus_table.specs.Tables.{Table}
-use Rattle.bus_trace.specs.Traces.{Recording}
-use Rattle.bus_findings.specs.Laws.{KeepersAreUnblamed, AmountsAreTold}
+use Rattle.bus_trace.specs.Traces.{Recording, IsTrace}
+use Rattle.bus_findings.specs.Laws.{KeepersAreUnblamed, AmountsAreTold, FilesAreUnblamed, CourseFilesAreUnblamed, GoodFileHasNoFault, CourseFileHasNoFault}
 use Rattle.bus_findings.specs.Terminals.{has_fault}
 use Rattle.bus_command.specs.Outside.{Call}
 use Rattle.bus_tool.specs.Acts.{Acts}
@@ -19,6 +19,10 @@ use Rattle.bus_tool.proofs.MarginsClaim.{within_is, bounds_with}
 -- the laws by which it holds
 pub record FindingsLaws : Type 0 where
   pub unblamed : KeepersAreUnblamed
+  pub files : FilesAreUnblamed
+  pub courses : CourseFilesAreUnblamed
+  pub keepers : GoodFileHasNoFault
+  pub senders : CourseFileHasNoFault
   pub amounts : AmountsAreTold
   pub meaning : AreTrue
 
@@ -49,10 +53,15 @@ diagnose_form bounds table trace call h =
 pub findings_claim : ReadLaws → FindingsLaws → (call : Call) (outcome : Outcome) (bounds : Bounds) (table : Table) (trace : Recording) → Acts call outcome
     → IsDiagnoseOf bounds table trace call → GivesFindings bounds table trace call (status_of outcome)
 findings_claim texts laws call outcome bounds table trace acts h =
+    let is_trace : IsTrace trace = h.traced.trace_told.stands.text.trace in
     record {
       gives = trace_answers texts (Diagnose bounds) (codes "diagnose") (h.delay ∷ h.jitter ∷ h.clocks ∷ []) call outcome table trace
           (diagnose_form bounds table trace call h) (written_findings (has_fault bounds table trace)) acts h.traced;
-      unblamed = λ sender x keeps of. laws.unblamed bounds table trace sender x h.traced.trace_told.stands.text.trace keeps of;
+      unblamed = λ sender x keeps of. laws.unblamed bounds table trace sender x is_trace keeps of;
+      files = λ sender x keeps of. laws.files bounds table trace sender x is_trace keeps of;
+      courses = λ sender x sends of. laws.courses bounds table trace sender x is_trace sends of;
+      keepers = laws.keepers bounds table trace is_trace;
+      senders = laws.senders bounds table trace is_trace;
       amounts = λ sender x o of last. laws.amounts bounds table trace sender x o of last;
       meaning = laws.meaning;
     }

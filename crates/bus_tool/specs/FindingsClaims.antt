@@ -1,5 +1,5 @@
 -- What is claimed of `diagnose`: what it writes of a recording, that it is no false alarm, and that its amounts are true.
-use Rattle.std.specs.Prelude.{◌≡◌, ℕ, List, [], ◌∷◌, codes, Some}
+use Rattle.std.specs.Prelude.{◌≡◌, ℕ, false, List, [], ◌∷◌, codes, Some}
 use Rattle.bus_text.specs.Numbers.{IsDecimal}
 use Rattle.bus_strings.specs.Messages.{Entry}
 use Rattle.bus_bounds.specs.Bounds.{Bounds}
@@ -7,8 +7,9 @@ use Rattle.bus_table.specs.Tables.{Sender, Table}
 use Rattle.bus_trace.specs.Traces.{Recording}
 use Rattle.bus_recording.specs.Amounts.{IntervalIsTrue, GapIsTrue, SyncIsTrue, LateIsTrue}
 use Rattle.bus_recording.specs.Seen.{Seen}
+use Rattle.bus_findings.specs.Files.{IsInCourse, KeepsInFile}
 use Rattle.bus_findings.specs.Judging.{judgement_of, last_start}
-use Rattle.bus_findings.specs.Laws.{Keeps, IsOfSender, IsUnblamed, AreAmounts}
+use Rattle.bus_findings.specs.Laws.{Keeps, IsOfSender, IsUnblamed, AreAmounts, AreOfTable, OfEachSender}
 use Rattle.bus_findings.specs.Recorded.{seen, recorded, monitor_of, timers_of}
 use Rattle.bus_findings.specs.Terminals.{has_fault}
 use Rattle.bus_findings.specs.Texts.{findings_text}
@@ -41,14 +42,25 @@ pub record AreTrue : Type 0 where
 
 -- What is found in the trace, as a recording of a bus of the table within the bounds, is written, and the status is Refused where a fault is
 -- among it, else Done.
---   unblamed  no false alarm: a sender that keeps its bounds, and hears the bus as it is recorded, is told no fault by a timer, whatever the
---             other terminals do, and whatever came before the recording
+--   unblamed  no false alarm: on a bus that goes in whole bit times a sender that keeps its bounds, and hears the bus as it is recorded,
+--             is told no fault by a timer, whatever the other terminals do, and whatever came before the recording
+--   files     nor is it on any bus, where the trace is the file of a monitor: in whole bit times, rounded down, of a bus that ran before
+--             and goes on behind it
+--   courses   nor is any sender of a bus within bounds, in any course of it, in both modes, from any state
+--   keepers   so no fault is found in such a file, where each transmission is of a sender, and fits, and each sender keeps its bounds
+--   senders   or is a sender of a bus within bounds
 --   amounts   what is told of a start behind another of its sender are the amounts of bus_recording, the greatest of which it says so
 --   meaning   and what these mean
 pub record GivesFindings (bounds : Bounds) (table : Table) (trace : Recording) (call : Call) (status : Status) : Type 0 where
   pub gives : Answers (status_of (findings_outcome (has_fault bounds table trace))) (λ text. text ≡ findings_text bounds table trace) call status
   pub unblamed : (sender : Sender) (x : Entry) → Keeps bounds table trace sender → IsOfSender table trace sender x
       → IsUnblamed (judgement_of bounds table trace.list x)
+  pub files : (sender : Sender) (x : Entry) → KeepsInFile bounds table trace sender → IsOfSender table trace sender x
+      → IsUnblamed (judgement_of bounds table trace.list x)
+  pub courses : (sender : Sender) (x : Entry) → IsInCourse bounds table trace sender → IsOfSender table trace sender x
+      → IsUnblamed (judgement_of bounds table trace.list x)
+  pub keepers : AreOfTable table trace → OfEachSender table (KeepsInFile bounds table trace) → has_fault bounds table trace ≡ false
+  pub senders : AreOfTable table trace → OfEachSender table (IsInCourse bounds table trace) → has_fault bounds table trace ≡ false
   pub amounts : (sender : Sender) (x : Entry) (o : Seen) → IsOfSender table trace sender x
       → last_start (recorded bounds trace.list) x.terminal x.moment ≡ Some o
       → AreAmounts (timers_of bounds table sender) (monitor_of bounds table) (recorded bounds trace.list) o (seen bounds x)

@@ -14,7 +14,7 @@ use bus_diagnosis::laws::{
 };
 use bus_exact::laws::any_start_settles_on_cable;
 use bus_explain::laws::{gaps_are_told, load_is_of_longest_cycle, spare_is_fall, spare_is_rise};
-use bus_findings::laws::faults_are_just;
+use bus_findings::laws::{faults_are_just, files_are_unblamed, good_buses_have_no_fault};
 use bus_margins::laws::{any_settles, level_keeps_order};
 use bus_margins_periodic::laws::{leads_follow_one, turns_keep_turns};
 use bus_medium::laws::{one_cable_list, one_lawful_list};
@@ -92,6 +92,8 @@ pub fn tool<S: Source, K: Sink, E: Sink>(
     turns_keep_turns();
     leads_follow_one();
     faults_are_just();
+    files_are_unblamed();
+    good_buses_have_no_fault();
     amounts_are_true();
     advices_work();
     none_missing();
