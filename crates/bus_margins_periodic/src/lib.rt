@@ -14,11 +14,14 @@
 mod ahead;
 mod bearing;
 mod begin;
+mod closeness;
 mod keeping;
 pub mod laws;
 mod leading;
 mod level;
 mod order;
+mod overtaking;
+mod remedies;
 mod room;
 mod rounds;
 mod rules;
