@@ -1,7 +1,6 @@
 //! The margins of a periodic table on a bus whose clocks aren't exact.
 //!
-//! - [`margins`] tells the level of a table within bounds and the room that each rule leaves, [`level_of`] the level alone,
-//!   [`order_room_of`] the room of one rule.
+//! - [`margins`] tells the level of a table within bounds and the room that each rule leaves, [`level_of`] the level alone.
 //! - [`bears`] tells how great each bound may be, alone, before the level is lower.
 //! - [`write_periodic`] writes all of it, [`write_drifting`] in a sentence what comes of clocks that are 50 millionths off.
 //!
@@ -14,11 +13,14 @@
 mod ahead;
 mod bearing;
 mod begin;
+mod closeness;
 mod keeping;
 pub mod laws;
 mod leading;
 mod level;
 mod order;
+mod overtaking;
+mod remedies;
 mod room;
 mod rounds;
 mod rules;
@@ -29,7 +31,6 @@ mod writing;
 
 pub use bearing::bears;
 pub use level::{Level, Margins};
-pub use order::order_room_of;
 pub use room::{Room, Rooms, holds};
 pub use sentences::write_drifting;
 pub use telling::{level_of, margins};

@@ -12,7 +12,7 @@ use crate::ahead::{Ahead, is_close, look_ahead};
 use crate::room::{Room, lesser};
 use crate::times::{count, long_step, short_step, ti_long, ti_short, who};
 use bus_bounds::Bounds;
-use bus_table::{MOST_SENDERS, Table, turn_places};
+use bus_table::{MOST_SENDERS, Table};
 
 /// A turn that is late, one that it holds back, and one that is due behind it.
 #[derive(Clone, Copy)]
@@ -158,11 +158,4 @@ pub(crate) fn order_room(
         );
     }
     least
-}
-
-/// The room that the rule of order leaves a table: None of a sender alone. It takes no memory.
-pub fn order_room_of(table: &Table, bounds: Bounds) -> Option<Room>
-    ensures { result ≡ rules.order_room (bus_of bounds table.now) }
-{
-    order_room(bounds, table, &turn_places(table))
 }

@@ -5,7 +5,10 @@ ghost use Rattle.bus_outer.specs.Texts.{Adds};
 ghost use Rattle.bus_table.specs.Turned.{AreTurned};
 ghost use Rattle.bus_margins_periodic.specs.Sentences as sentences;
 
+use crate::closeness::put_begin;
 use crate::level::{Level, Margins};
+use crate::overtaking::put_order;
+use crate::remedies::{put_enough, put_lacking, put_rest};
 use crate::room::{Room, Rooms, holds};
 use crate::telling::margins;
 use crate::writing::put_terminal;
@@ -13,139 +16,19 @@ use bus_bounds::Bounds;
 use bus_outer::{Sink, TextBuffer, WriteFault};
 use bus_table::{MOST_SENDERS, Mode, Table, turn_places};
 
-/// By how many bit times a rule lacks, rounded up.
-fn lacking(room: Room) -> u64
-    ensures { result ≡ sentences.lacking room }
-{
-    room.need.saturating_sub(room.have).div_ceil(500)
-}
-
-/// Puts the unit: one bit time or several.
-fn put_unit<K: Sink>(text: &mut TextBuffer, sink: &mut K, n: u64)
-    ensures { Adds K.held K.faults sink.old sink.new text.old text.new (sentences.unit_words n) }
-{
-    if n == 1 {
-        text.put(sink, b" bit time");
-    } else {
-        text.put(sink, b" bit times");
-    }
-}
-
-/// Puts so many bit times.
-fn put_bits<K: Sink>(text: &mut TextBuffer, sink: &mut K, n: u64)
-    ensures { Adds K.held K.faults sink.old sink.new text.old text.new (sentences.bits_words n) }
-{
-    text.put_number(sink, n);
-    put_unit(text, sink, n);
-}
-
-/// Puts by how many a rule lacks.
-fn put_lacking<K: Sink>(text: &mut TextBuffer, sink: &mut K, room: Room)
-    ensures { Adds K.held K.faults sink.old sink.new text.old text.new (sentences.lacking_words room) }
-{
-    put_bits(text, sink, lacking(room));
-}
-
-/// Puts that a terminal may be late by too much.
-fn put_late<K: Sink>(
-    text: &mut TextBuffer,
-    sink: &mut K,
-    table: &Table,
-    places: &[usize; MOST_SENDERS],
-    room: Room,
-)
-    requires { AreTurned table.now places.now }
-    ensures { Adds K.held K.faults sink.old sink.new text.old text.new (sentences.late_words table.now room) }
-{
-    text.put(sink, b"terminal ");
-    put_terminal(text, sink, table, places, room.first);
-    text.put(sink, b" may be late by so much that terminal ");
-    put_terminal(text, sink, table, places, room.third);
-    text.put(sink, b" is due before it is heard. Messages from terminal ");
-    put_terminal(text, sink, table, places, room.first);
-    text.put(sink, b" on would have to be longer by ");
-    put_lacking(text, sink, room);
-    text.put(sink, b", the shortest ones.\n");
-}
-
-/// Puts that a terminal may be held back.
-fn put_held<K: Sink>(
-    text: &mut TextBuffer,
-    sink: &mut K,
-    table: &Table,
-    places: &[usize; MOST_SENDERS],
-    room: Room,
-)
-    requires { AreTurned table.now places.now }
-    ensures { Adds K.held K.faults sink.old sink.new text.old text.new (sentences.held_words table.now room) }
-{
-    text.put(sink, b"terminal ");
-    put_terminal(text, sink, table, places, room.first);
-    text.put(sink, b" may be late, and hold terminal ");
-    put_terminal(text, sink, table, places, room.second);
-    text.put(sink, b" back until terminal ");
-    put_terminal(text, sink, table, places, room.third);
-    text.put(
-        sink,
-        b" is due too. The lengths of the messages before terminal ",
-    );
-    put_terminal(text, sink, table, places, room.second);
-    text.put(sink, b" would have to vary by ");
-    put_lacking(text, sink, room);
-    text.put(sink, b" less, from terminal ");
-    put_terminal(text, sink, table, places, room.first);
-    text.put(sink, b" on, or terminal ");
-    put_terminal(text, sink, table, places, room.second);
-    text.put(sink, b" to stand behind terminal ");
-    put_terminal(text, sink, table, places, room.third);
-    text.put(sink, b".\n");
-}
-
-/// Puts what the rule of order lacks, by whether the late terminal holds another back.
-fn put_overtaken<K: Sink>(
-    text: &mut TextBuffer,
-    sink: &mut K,
-    table: &Table,
-    places: &[usize; MOST_SENDERS],
-    room: Room,
-)
-    requires { AreTurned table.now places.now }
-    ensures { Adds K.held K.faults sink.old sink.new text.old text.new (sentences.overtaken_words table.now room) }
-{
-    if room.first == room.second {
-        put_late(text, sink, table, places, room);
-    } else {
-        put_held(text, sink, table, places, room);
-    }
-}
-
-/// Puts what the rule of order lacks.
-fn put_order<K: Sink>(
-    text: &mut TextBuffer,
-    sink: &mut K,
-    table: &Table,
-    places: &[usize; MOST_SENDERS],
-    room: Option<Room>,
-)
-    requires { AreTurned table.now places.now }
-    ensures { Adds K.held K.faults sink.old sink.new text.old text.new (sentences.order_words table.now room) }
-{
-    match room {
-        Some(room) => put_overtaken(text, sink, table, places, room),
-        None => text.put(sink, b""),
-    }
-}
-
-/// Puts that a synchronization gap may not come.
+/// Puts that a synchronization gap may come late.
 fn put_waiting<K: Sink>(text: &mut TextBuffer, sink: &mut K, room: Room)
     ensures { Adds K.held K.faults sink.old sink.new text.old text.new (sentences.waiting_words room) }
 {
     text.put(
         sink,
-        b"a sender may wait for a synchronization gap that doesn't come. The transmit interval would have to be longer by ",
+        b"a sender may wait for a synchronization gap that comes late.",
     );
+    put_enough(text, sink);
+    text.put(sink, b"the transmit interval were longer by ");
     put_lacking(text, sink, room);
-    text.put(sink, b", to hold one for each sender.\n");
+    text.put(sink, b", to hold one for each sender");
+    put_rest(text, sink);
 }
 
 /// Puts what the rule of synchronization lacks.
@@ -154,46 +37,6 @@ fn put_sync<K: Sink>(text: &mut TextBuffer, sink: &mut K, room: Option<Room>)
 {
     match room {
         Some(room) => put_waiting(text, sink, room),
-        None => text.put(sink, b""),
-    }
-}
-
-/// Puts that the first starts may be too close.
-fn put_close<K: Sink>(
-    text: &mut TextBuffer,
-    sink: &mut K,
-    table: &Table,
-    places: &[usize; MOST_SENDERS],
-    room: Room,
-)
-    requires { AreTurned table.now places.now }
-    ensures { Adds K.held K.faults sink.old sink.new text.old text.new (sentences.close_words table.now room) }
-{
-    text.put(
-        sink,
-        b"the first starts may be too close. Those of terminals ",
-    );
-    put_terminal(text, sink, table, places, room.first);
-    text.put(sink, b" and ");
-    put_terminal(text, sink, table, places, room.second);
-    text.put(sink, b" would have to be ");
-    put_lacking(text, sink, room);
-    text.put(sink, b" farther apart.\n");
-}
-
-/// Puts what the rule of the beginning lacks.
-fn put_begin<K: Sink>(
-    text: &mut TextBuffer,
-    sink: &mut K,
-    table: &Table,
-    places: &[usize; MOST_SENDERS],
-    room: Option<Room>,
-)
-    requires { AreTurned table.now places.now }
-    ensures { Adds K.held K.faults sink.old sink.new text.old text.new (sentences.begin_words table.now room) }
-{
-    match room {
-        Some(room) => put_close(text, sink, table, places, room),
         None => text.put(sink, b""),
     }
 }
@@ -209,14 +52,13 @@ fn put_unheard<K: Sink>(
     requires { AreTurned table.now places.now }
     ensures { Adds K.held K.faults sink.old sink.new text.old text.new (sentences.unheard_words table.now room) }
 {
-    text.put(
-        sink,
-        b"a message may not be heard out. The terminal gap of terminal ",
-    );
+    text.put(sink, b"a message may not be heard out.");
+    put_enough(text, sink);
+    text.put(sink, b"the terminal gap of terminal ");
     put_terminal(text, sink, table, places, room.first);
-    text.put(sink, b" would have to be longer by ");
+    text.put(sink, b" were longer by ");
     put_lacking(text, sink, room);
-    text.put(sink, b".\n");
+    put_rest(text, sink);
 }
 
 /// Puts what the rule of hearing lacks.
@@ -288,11 +130,11 @@ fn put_drifting<K: Sink>(
     match level {
         Level::Turns => text.put(
             sink,
-            b"the senders still take turns for ever, with as many messages for each and however long these are, though not at their offsets.\n",
+            b"the senders take turns for ever, with as many messages for each and however long these are, though their offsets may drift.\n",
         ),
         Level::Leads => text.put(
             sink,
-            b"the senders still take turns for ever behind the first of them, with as many messages for each and however long these are.\n",
+            b"the senders take turns for ever behind the first of them, with as many messages for each and however long these are.\n",
         ),
         Level::Neither => put_neither(text, sink, table, places, rooms),
     }
@@ -304,7 +146,14 @@ fn write_sentence<K: Sink>(table: &Table, margins: Margins, sink: &mut K) -> Res
 {
     let places = turn_places(table);
     let mut text = TextBuffer::new();
-    text.put(sink, b"Where oscillators are off by up to 50 millionths, ");
+    text.put(
+        sink,
+        b"Where oscillators are off by up to 50 millionths and nothing else is inexact, ",
+    );
+    text.put(
+        sink,
+        b"from power-ups at one moment and with no delay on the way, ",
+    );
     put_drifting(
         &mut text,
         sink,

@@ -5,3 +5,5 @@
 mod lacking;
 #[cfg(test)]
 mod margins;
+#[cfg(test)]
+mod sentences;

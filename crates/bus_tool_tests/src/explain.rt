@@ -42,8 +42,9 @@ for each, the senders start at their offsets in each cycle, and no terminal hear
 With one bit time more, there are places on a straight cable with which they don't, where each sends its longest message twice.
 The greatest delay that any offsets bear at this interval is 635 bit times (317.5 µs): the word best behind plan and the file \
 chooses such offsets.
-Where oscillators are off by up to 50 millionths, nothing is promised of the senders' turns: the first starts may be too close. \
-Those of terminals 1 and 2 would have to be 1 bit time farther apart.
+Where oscillators are off by up to 50 millionths and nothing else is inexact, from power-ups at one moment and with no delay on \
+the way, nothing is promised of the senders' turns: the first starts of terminals 1 and 2 may be too close. It would be enough \
+against that if they were farther apart by about 1 bit time; something else may lack then.
 ";
 
 const SAME_OFFSETS: &str =

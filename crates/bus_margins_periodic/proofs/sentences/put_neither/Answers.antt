@@ -1,5 +1,6 @@
-use Rattle.bus_outer.proofs.TextLaws.{adds_then}
+use Rattle.bus_outer.proofs.TextLaws.{◌▸◌}
 use Rattle.bus_margins_periodic.proofs.sentences.put_neither.Goals as goal
 
 pub returns : goal.returns
-returns g c = search adds_then depth 60
+returns g c =
+    c.put.ensures ▸ c.put_lack.ensures

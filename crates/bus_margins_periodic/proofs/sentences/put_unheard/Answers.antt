@@ -1,5 +1,7 @@
-use Rattle.bus_outer.proofs.TextLaws.{adds_then}
+use Rattle.bus_outer.proofs.TextLaws.{◌▸◌}
 use Rattle.bus_margins_periodic.proofs.sentences.put_unheard.Goals as goal
 
 pub returns : goal.returns
-returns g c = search adds_then depth 60
+returns g c =
+    c.put.ensures ▸ c.put_enough.ensures ▸ c.put-2.ensures ▸ c.put_terminal.ensures ▸ c.put-3.ensures ▸ c.put_lacking.ensures
+    ▸ c.put_rest.ensures

@@ -1,0 +1,91 @@
+//! What is said of worked tables on oscillators that are 50 millionths off. What is wanted was reckoned from the definitions apart from this
+//! program.
+use bus_margins_periodic::write_drifting;
+use bus_outer::MemorySink;
+use bus_table::{Mode, read_table};
+use std::process::Abort;
+use std::test::Fail;
+
+const KEPT: &[u8] =
+    b"TABLE 1\nMODE periodic\nTI 2000\nSG 300\nSENDER 1 TG 20 AT 0\nSEND 0A1 1 2 2\nSENDER 2 TG 30 AT 1359\nSEND 0B2 1 30 30\n";
+
+const ROUND: &[u8] =
+    b"TABLE 1\nMODE periodic\nTI 2000\nSG 300\nSENDER 1 TG 20 AT 0\nSEND 0A1 1 2 2\nSENDER 2 TG 30 AT 1360\nSEND 0B2 1 30 30\n";
+
+const APART: &[u8] =
+    b"TABLE 1\nMODE periodic\nTI 2000\nSG 300\nSENDER 1 TG 20 AT 0\nSEND 0A1 1 2 2\nSENDER 2 TG 30 AT 90\nSEND 0B2 1 30 30\n";
+
+const SYNC: &[u8] =
+    b"TABLE 1\nMODE periodic\nTI 1354\nSG 257\nSENDER 1 TG 256 AT 0\nSEND 001 0 20 20\nSENDER 2 TG 255 AT 677\nSEND 002 0 20 20\n";
+
+const ORDER: &[u8] =
+    b"TABLE 1\nMODE periodic\nTI 4000\nSG 300\nSENDER 1 TG 10 AT 0\nSEND 101 1 8 8\nSENDER 2 TG 15 AT 200\nSEND 102 1 16 16\nSENDER 3 TG 20 AT 570\nSEND 103 1 4 12\nSENDER 4 TG 25 AT 860\nSEND 104 1 6 6\nSENDER 5 TG 30 AT 1040\nSEND 105 1 2 4\n";
+
+/// Checks that this is said of a periodic table.
+fn is_told(rt: &(impl Abort + AllocGlobal), text: &[u8], wanted: &[u8]) -> Result<(), Fail> {
+    let alloc = rt.alloc();
+    let table = read_table(alloc, text)?;
+    match table.mode() {
+        Mode::Periodic => {
+            let mut sink = MemorySink::new(alloc, 600, 600, Vec::new(alloc))?;
+            assert!(rt; write_drifting(&table, &mut sink).is_ok());
+            assert_eq!(rt; sink.bytes(), wanted);
+        }
+        _ => assert!(rt; false),
+    }
+    Ok(())
+}
+
+/// There is a bit time for drift at both ends of the round.
+#[test]
+fn turns_are_kept(rt: HostRuntime) -> Result<(), Fail> {
+    let wanted =
+        b"Where oscillators are off by up to 50 millionths and nothing else is inexact, from power-ups at one moment and with no delay \
+on the way, the senders take turns for ever, with as many messages for each and however long these are, though their offsets \
+may drift.\n";
+    is_told(&rt, KEPT, wanted)
+}
+
+/// The last one's message ends where the next round's first gap begins: a start farther away would be worse.
+#[test]
+fn the_end_of_the_round_may_be_too_close(rt: HostRuntime) -> Result<(), Fail> {
+    let wanted =
+        b"Where oscillators are off by up to 50 millionths and nothing else is inexact, from power-ups at one moment and with no delay \
+on the way, nothing is promised of the senders' turns: the first start of terminal 2 may be too close to the second of \
+terminal 1. It would be enough against that if the offset of terminal 2 were less by about 1 bit time, or if the transmit \
+interval were longer by as much; something else may lack then.\n";
+    is_told(&rt, ROUND, wanted)
+}
+
+/// The second one is due where the first one's message and its own gap end.
+#[test]
+fn first_starts_may_be_too_close(rt: HostRuntime) -> Result<(), Fail> {
+    let wanted =
+        b"Where oscillators are off by up to 50 millionths and nothing else is inexact, from power-ups at one moment and with no delay \
+on the way, nothing is promised of the senders' turns: the first starts of terminals 1 and 2 may be too close. It would be \
+enough against that if they were farther apart by about 1 bit time; something else may lack then.\n";
+    is_told(&rt, APART, wanted)
+}
+
+/// An interval as short as may be holds no synchronization gap for each.
+#[test]
+fn a_gap_may_come_late(rt: HostRuntime) -> Result<(), Fail> {
+    let wanted =
+        b"Where oscillators are off by up to 50 millionths and nothing else is inexact, from power-ups at one moment and with no delay \
+on the way, nothing is promised of the senders' turns: a sender may wait for a synchronization gap that comes late. It would \
+be enough against that if the transmit interval were longer by about 257 bit times, to hold one for each sender; something \
+else may lack then.\n";
+    is_told(&rt, SYNC, wanted)
+}
+
+/// The third of them is of the next round, where it comes before the second: in the order from the first on it comes behind.
+#[test]
+fn one_of_the_next_round_may_overtake(rt: HostRuntime) -> Result<(), Fail> {
+    let wanted =
+        b"Where oscillators are off by up to 50 millionths and nothing else is inexact, from power-ups at one moment and with no delay \
+on the way, nothing is promised of the senders' turns: terminal 2 may be late, and hold terminal 5 back until terminal 1 is \
+due too. It would be enough against that if the lengths of the messages from terminal 2 on and before terminal 5 varied by \
+about 91 bit times less in all, or if terminal 5 stood behind terminal 1 in the order from terminal 2 on; something else may \
+lack then.\n";
+    is_told(&rt, ORDER, wanted)
+}
