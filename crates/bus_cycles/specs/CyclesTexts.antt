@@ -11,7 +11,8 @@ use Rattle.bus_shapes.specs.declared.axis.Axis.{Axis}
 use Rattle.bus_shapes.specs.declared.axis.Unit.TheVariants.{BitTimes, Microseconds}
 use Rattle.bus_shapes.specs.Axes.{axis_text}
 use Rattle.bus_shapes.specs.declared.class.Class.{Class}
-use Rattle.bus_shapes.specs.declared.class.Class.TheVariants.{Breach, Detail, Fault, Garbled, Grid, Mark, Note, Other, Small, Tick, Wordstring}
+use Rattle.bus_shapes.specs.declared.class.Class.TheVariants.{Breach, Detail, Fault, Garbled, Grid}
+use Rattle.bus_shapes.specs.declared.class.Class.TheVariants.{Mark, Note, Other, Small, Tick, Wordstring}
 use Rattle.bus_shapes.specs.Frames.{frame_text, tail_text}
 use Rattle.bus_shapes.specs.declared.told.Told.{Told}
 use Rattle.bus_shapes.specs.declared.told.Told.TheVariants.{Audit, Findings}
@@ -29,7 +30,8 @@ use Rattle.bus_cycles.specs.Loads.{loads_text}
 use Rattle.bus_cycles.specs.RowTexts.{line_of, pixel, rows_text}
 use Rattle.bus_cycles.specs.Surveys.{Survey, breach_in, counts, is_drawn, most_rows, survey_of}
 use Rattle.bus_cycles.specs.Measures.{before_mark, behind_mark, breach_below, breach_box_left, breach_height, breach_left, breach_over}
-use Rattle.bus_cycles.specs.Measures.{breach_width, breach_words_left, even_left, fault_width, foot_height, garbled_left, garbled_words_left}
+use Rattle.bus_cycles.specs.Measures.{breach_width, breach_words_left, even_left, fault_width, foot_height}
+use Rattle.bus_cycles.specs.Measures.{garbled_left, garbled_words_left}
 use Rattle.bus_cycles.specs.Measures.{least_words_line, legend_height, legend_line, legend_top, legend_width}
 use Rattle.bus_cycles.specs.Measures.{line_width, load_right, long_foot, long_picture}
 use Rattle.bus_cycles.specs.Measures.{lower_foot, lower_top, lower_words, mark_words_line, marks_top, odd_left}

@@ -148,7 +148,8 @@ pub record IsPartOf (part whole : List ℕ) : Type 0 where
 -- Each transmission at which a fault is found has its mark in the row that is drawn of it, with what is found.
 abbrev pub FaultsAreMarked : Type 0
 FaultsAreMarked =
-    (page : Page) (table : Table) (window : Window) (list : List Entry) (judgements : List Judgement) (row : Row) (sent : Sent) (found : Judgement)
+    (page : Page) (table : Table) (window : Window) (list : List Entry) (judgements : List Judgement) (row : Row) (sent : Sent)
+    (found : Judgement)
     → In row (rows table window list) → In sent row.sents → IsTrue (is_drawn row.place)
     → slice_get judgements sent.at ≡ Some found → IsTrue (is_faulty found)
     → IsPartOf (fault_at page row.place row.begin sent found) (faults_of page judgements (rows table window list))

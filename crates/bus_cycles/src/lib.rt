@@ -5,8 +5,8 @@
 //!
 //! The definitions are in `specs/`: `Sents` (the transmissions that begin in a window), `Rows` (where the rows begin, and which
 //! transmissions each has), `Surveys` (what is told of all rows before they are drawn), `Lanes` (by which shades go), `Pages` (what all
-//! rows go by), `RowTexts` (the text of a row), `Loads` (how busy a row is), `Faults` (what is found at its transmissions) and `CyclesTexts` (the text of the picture). No call takes
-//! memory.
+//! rows go by), `RowTexts` (the text of a row), `Loads` (how busy a row is), `Faults` (the marks of faults) and `CyclesTexts` (the text of
+//! the picture). No call takes memory.
 #![tactic(auto)]
 
 mod areas;

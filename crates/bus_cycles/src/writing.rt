@@ -22,8 +22,8 @@ use bus_trace::Trace;
 
 /// Writes the picture of a window of a trace on a table as SVG: a row for each cycle, one below the other from the same left edge, at most
 /// 500, and above them the words of the verdict and of what is told of the trace. The first breach that an audit found is marked, or each
-/// fault among findings. What is garbled is drawn over all that is plain, and the marks over both.
-/// It goes over the trace five times, and takes no memory. The carrier of the trace's list is given, since that takes memory to tell.
+/// fault among findings. What is garbled is drawn over all that is plain, and the marks over both. It goes over the trace five times, and
+/// once more to mark faults, and takes no memory. The carrier of the trace's list is given, since that takes memory to tell.
 ///
 /// At `WriteFault` the sink has taken a front of the text, and its count of faults rose.
 pub fn write_cycles<K: Sink>(

@@ -72,8 +72,8 @@ AreFurther SaveFile words = words ≡ []
 AreFurther (Painted picture window) words = AreForWindow window words
 AreFurther (Judged picture bounds window) words = AreOfBounds bounds window words
 
--- A call of a view, with the words of its bounds and of its window behind those of both texts, on texts of a valid table and of a trace, in which nothing
--- outside fails.
+-- A call of a view, with the words of its bounds and of its window behind those of both texts, on texts of a valid table and of a trace, in
+-- which nothing outside fails.
 pub record IsViewOf (view : View) (table : Table) (trace : Recording) (call : Call) : Type 0 where
   pub further : List (List ℕ)
   pub window : AreFurther view further

@@ -71,7 +71,8 @@ abbrev pub painting : Picture → Window → Table → Recording → List ℕ
 painting picture window table trace = painted picture window (verdict_of table) (Audit (answer_of table trace)) table trace
 
 -- With the table's own verdict, and what is found at each transmission of the trace, as in a recording of a bus of the table within bounds.
-pub record IsJudging (picture : Picture) (bounds : Bounds) (window : Window) (table : Table) (trace : Recording) (text : List ℕ) : Type 0 where
+pub record IsJudging (picture : Picture) (bounds : Bounds) (window : Window) (table : Table) (trace : Recording)
+    (text : List ℕ) : Type 0 where
   pub found : Vec Judgement Global
   pub found_is : found.items ≡ judgements bounds table trace.list
   pub text_is : text ≡ painted picture window (verdict_of table) (Findings bounds found) table trace

@@ -19,7 +19,8 @@ END
 ";
 
 /// The end of its picture, of which 7000 units are the 1150 bit times of the longer row: the first row begins at -10 and the second at
-/// 1270, a synchronization gap and the greatest terminal gap before its first transmission. Behind the marks of the table those of the faults.
+/// 1270, a synchronization gap and the greatest terminal gap before its first transmission. Behind the marks of the table are those of the
+/// faults.
 const MARKS: &str = "<rect class=\"fault\" x=\"8250\" y=\"1690\" width=\"40\" height=\"30\">\
 <title>FAULT 1100 2 Early TG 10</title></rect>
 <rect class=\"fault\" x=\"8250\" y=\"1800\" width=\"40\" height=\"30\">\
