@@ -198,18 +198,24 @@ of_renumbered (g ∷ gs) (s ∷ one) (t ∷ two) of e same =
       of_renumbered gs one two of.2 (ap tails e) (λ a b i j. same a b (inr i) (inr j)),
     )
 
+-- gaps before the senders in an order that is kept
+pub of_kept : (table : Table) (offsets : List ℕ) → IsTrue (is_valid table)
+    → map (λ (s : Sender). s.number) (turn_order (with_offsets offsets table)) ≡ map (λ (s : Sender). s.number) (turn_order table)
+    → (gs : List Gap) → AreOf gs (turn_order (with_offsets offsets table)) → AreOf gs (turn_order table)
+of_kept table offsets valid order_same gs of =
+    of_renumbered gs (turn_order (with_offsets offsets table)) (turn_order table) of order_same (λ s t i j e.
+    let w = moved_member table valid offsets s i in
+    let there = from_sort (turn_key table.mode) table.senders t j in
+    let one = differ_same table.senders w.0 t (numbers_differ table (valid_facts table valid)) w.1 there (sym w.2 ∙ e) in
+    w.3 ∙ ap (λ (x : Sender). x.tg) one)
+
 pub borne_in_order : laws.BorneInOrder
 borne_in_order d table offsets valid mode several known order_same borne =
     let moved : Table = with_offsets offsets table in
-    let facts = valid_facts table valid in
     let long = length-at_offsets offsets table.senders in
     let hold = to_gaps moved d mode (omega (arith, several, long)) borne in
     let full = filled d table valid offsets (omega (arith, several)) (all_wide d (gaps moved) (and_parts _ _ hold).0) in
     let of = of_gaps table.ti (last_end 0 (turn_order moved)) (turn_order moved) in
-    let here : AreOf (gaps moved) (turn_order table) = of_renumbered (gaps moved) (turn_order moved) (turn_order table) of order_same (λ s t i j e.
-    let w = moved_member table valid offsets s i in
-    let there = from_sort (turn_key table.mode) table.senders t j in
-    let one = differ_same table.senders w.0 t (numbers_differ table facts) w.1 there (sym w.2 ∙ e) in
-    w.3 ∙ ap (λ (x : Sender). x.tg) one) in
+    let here = of_kept table offsets valid order_same (gaps moved) of in
     let least = known_in_order d table valid mode several offsets (gaps moved) of hold known here in
     omega (arith, full, least)

@@ -1,11 +1,13 @@
 -- The greatest delay that is borne, and what the shares are good for.
-use Rattle.std.specs.Prelude.{◌≡◌, ℕ, ◌+◌, ◌-◌, ◌*◌, ◌<◌, ◌≤◌, ◌⊎◌, true, nat_le, nat_lt, List, [], ◌∷◌, length}
+use Rattle.std.specs.Prelude.{◌≡◌, ℕ, ◌+◌, ◌-◌, ◌*◌, ◌<◌, ◌≤◌, ◌⊎◌, true, nat_le, nat_lt, IsTrue, List, [], ◌∷◌, length, map}
 use Rattle.std.proofs.Common.{inl, inr, arith, sym, refl, ap, ◌∙◌, subst}
 use Rattle.std.proofs.lemmas.Bool.{leb-true, le-leb, ltb-true, true≢false, and_parts}
 use Rattle.bus_strings.specs.Members.{In}
+use Rattle.bus_table.specs.declared.mode.Mode.TheVariants.{Periodic}
 use Rattle.bus_table.specs.Tables.{Sender, Table}
 use Rattle.bus_table.specs.Offsets.{with_offsets}
 use Rattle.bus_table.specs.Turns.{turn_order}
+use Rattle.bus_table.specs.Valid.{is_valid}
 use Rattle.bus_table.proofs.ValidLaws.{valid_facts}
 use Rattle.bus_regime.specs.Gaps.{Gap, gaps, last_end}
 use Rattle.bus_cable_plan.specs.Shapes.{gap_in, shape_of}
@@ -24,7 +26,7 @@ use Rattle.bus_cable_plan.proofs.Matching.{of_gaps, from_of}
 use Rattle.bus_cable_plan.proofs.Moved.{moved_length, moved_modest}
 use Rattle.bus_cable_plan.proofs.Ring.{all_wide}
 use Rattle.bus_cable_plan.proofs.Outcome.{or_cases, or_right, less_borne, order_is_planned, planned_bears}
-use Rattle.bus_cable_plan.proofs.Bound.{known_gaps, filled, borne_has_least, borne_fits_turns}
+use Rattle.bus_cable_plan.proofs.Bound.{known_gaps, known_in_order, of_kept, filled, borne_has_least, borne_fits_turns}
 
 -- ---- the greatest delay
 pub fits_cases : (d : ℕ) (table : Table) → fits d table ≡ true → (least_in_order d table ≤ table.ti) ⊎ (least_interval_for d table ≤ table.ti)
@@ -115,24 +117,60 @@ shortened_total d n (g ∷ gs) some wide =
       ]),
     )
 
+-- offsets that bear d where each gap is shorter by n
+module _ (d n : ℕ) (table : Table) (offsets : List ℕ) (valid : IsTrue (is_valid table)) (mode : table.mode ≡ Periodic)
+    (several : 1 < length table.senders)
+    (every : (shorter : List Gap) → AreShorter n shorter (gaps (with_offsets offsets table)) → IsTrue (gaps_hold d table.sg shorter)) where
+  abbrev moved : Table
+  moved = with_offsets offsets table
+
+  abbrev hs : List Gap
+  hs = shortened n (gaps moved)
+
+  hs_shorter : AreShorter n hs (gaps moved)
+  hs_shorter = shortened_shorter n (gaps moved)
+
+  hs_hold : gaps_hold d table.sg hs ≡ true
+  hs_hold = every hs hs_shorter
+
+  gs_of : AreOf (gaps moved) (turn_order moved)
+  gs_of = of_gaps table.ti (last_end 0 (turn_order moved)) (turn_order moved)
+
+  hs_of : AreOf hs (turn_order moved)
+  hs_of = shorter_of n hs (gaps moved) (turn_order moved) hs_shorter gs_of
+
+  -- they leave the turns, what the shorter gaps have beyond them, and n for each sender
+  leave : turns_for d table + total d hs + n * length table.senders ≡ table.ti
+  leave =
+      let parts = shortened_total d n (gaps moved) (λ g i.
+      let w = from_of (gaps moved) (turn_order moved) gs_of g i in
+      let least = (moved_modest table valid offsets w.0 w.1).tg_least in
+      let tg = w.2 in
+      omega (arith, least, tg)) (all_wide d hs (and_parts _ _ hs_hold).0) in
+      let sum = parts.0 in
+      let full = filled d table valid offsets (omega (arith, several)) parts.1 in
+      let same : n * length (gaps moved) ≡ n * length table.senders =
+      ap (λ (k : ℕ). n * k) (of_length (gaps moved) (turn_order moved) gs_of ∙ moved_length table valid offsets) in
+      omega (arith, full, sum, same)
+
+  none_more : is_known d table ≡ true → least_interval_for d table + n * length table.senders ≤ table.ti
+  none_more known =
+      let least = known_gaps d table valid mode several offsets hs hs_of hs_hold known in
+      let all = leave in
+      omega (arith, least, all)
+
+  none_more_in_order : is_known d table ≡ true
+      → map (λ (s : Sender). s.number) (turn_order moved) ≡ map (λ (s : Sender). s.number) (turn_order table)
+      → least_in_order d table + n * length table.senders ≤ table.ti
+  none_more_in_order known same =
+      let here = of_kept table offsets valid same hs hs_of in
+      let least = known_in_order d table valid mode several offsets hs hs_of hs_hold known here in
+      let all = leave in
+      omega (arith, least, all)
+
 pub none_share_more : laws.NoneShareMore
-none_share_more d n table offsets valid mode several known every =
-    let moved : Table = with_offsets offsets table in
-    let gs : List Gap = gaps moved in
-    let hs : List Gap = shortened n gs in
-    let s = shortened_shorter n gs in
-    let hold : gaps_hold d table.sg hs ≡ true = every hs s in
-    let of = of_gaps table.ti (last_end 0 (turn_order moved)) (turn_order moved) in
-    let here : AreOf hs (turn_order moved) = shorter_of n hs gs (turn_order moved) s of in
-    let parts = shortened_total d n gs (λ g i.
-    let w = from_of gs (turn_order moved) of g i in
-    let least = (moved_modest table valid offsets w.0 w.1).tg_least in
-    let tg = w.2 in
-    omega (arith, least, tg)) (all_wide d hs (and_parts _ _ hold).0) in
-    let sum = parts.0 in
-    let full = filled d table valid offsets (omega (arith, several)) parts.1 in
-    let least = known_gaps d table valid mode several offsets hs here hold known in
-    let long = of_length gs (turn_order moved) of in
-    let count = moved_length table valid offsets in
-    let same : n * length gs ≡ n * length table.senders = ap (λ (k : ℕ). n * k) (long ∙ count) in
-    omega (arith, full, least, sum, same)
+none_share_more d n table offsets valid mode several known every = none_more d n table offsets valid mode several every known
+
+pub none_share_more_in_order : laws.NoneShareMoreInOrder
+none_share_more_in_order d n table offsets valid mode several known same every =
+    none_more_in_order d n table offsets valid mode several every known same

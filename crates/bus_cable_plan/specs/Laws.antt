@@ -100,3 +100,12 @@ NoneShareMore =
     → IsTrue (is_known d table)
     → ((shorter : List Gap) → AreShorter n shorter (gaps (with_offsets offsets table)) → IsTrue (gaps_hold d table.sg shorter))
     → least_interval_for d table + n * length table.senders ≤ table.ti
+
+-- Nor do any that keep the turn order do for more than an even share of what the least one in that order leaves: that of the plan in it.
+abbrev pub NoneShareMoreInOrder : Type 0
+NoneShareMoreInOrder =
+    (d n : ℕ) (table : Table) (offsets : List ℕ) → IsTrue (is_valid table) → table.mode ≡ Periodic → 1 < length table.senders
+    → IsTrue (is_known d table)
+    → map (λ (s : Sender). s.number) (turn_order (with_offsets offsets table)) ≡ map (λ (s : Sender). s.number) (turn_order table)
+    → ((shorter : List Gap) → AreShorter n shorter (gaps (with_offsets offsets table)) → IsTrue (gaps_hold d table.sg shorter))
+    → least_in_order d table + n * length table.senders ≤ table.ti

@@ -1,5 +1,6 @@
 //! Laws of the definitions, each the contract of a function that does nothing.
 ghost use Rattle.bus_cable_plan.specs.Laws.{BorneFitsTurns, BorneHasLeast, BorneInOrder, FeasibleForExactly, FittingIsBorne, NoneShareMore};
+ghost use Rattle.bus_cable_plan.specs.Laws.{NoneShareMoreInOrder};
 ghost use Rattle.bus_cable_plan.specs.Meaning.{BestIsRight, MostBorneIsRight, PlansAreRight};
 ghost use Rattle.bus_cable_plan.specs.Laws.{OrderIsKept, OrderIsPlanned, PlannedBears, RefutedIsNotBorne, SharedBears, WithoutDelay};
 
@@ -40,15 +41,18 @@ pub fn greatest_is_told()
     ensures refuted { RefutedIsNotBorne }
 {}
 
-/// What is left over is shared evenly: the plan bears the delay also where each gap is shorter by up to its share, and no offsets do for more.
+/// What is left over is shared evenly: the plan in turn order bears the delay also where each gap is shorter by up to its share. Where the
+/// least interval is known, no offsets in that order do for more, and none at all for more than an even share of what that interval leaves.
 pub fn shares_are_best()
     ensures borne { SharedBears }
     ensures most { NoneShareMore }
+    ensures most_in_order { NoneShareMoreInOrder }
 {}
 
-/// What an answer means: a planned table is the given one at offsets, other ones or its own, which are accepted and bear the delay; where
-/// the answer is infeasible no offsets do; and it is undecided only where the turns fit the interval, no plan does, the offsets of the
-/// table don't bear the delay, and the least interval isn't known.
+/// What an answer means: a planned table is the given one at offsets, other ones or its own, which are accepted and bear the delay, in the
+/// order of the table where a plan in it fits; where the answer is infeasible no offsets do, in no interval below the one told; and it is
+/// undecided only where the turns, of which the number tells, fit the interval, no plan does, the offsets of the table don't bear the
+/// delay, and the least interval isn't known.
 pub fn answers_are_right()
     ensures plan { PlansAreRight }
     ensures best { BestIsRight }
