@@ -24,5 +24,7 @@ pub mod Bound
 pub mod AsGiven
 pub mod Sharing
 pub mod Rising
+pub mod Below
+pub mod Alone
 pub mod Right
 pub mod NoDelay

@@ -1,74 +1,35 @@
 -- The answers mean what they are to mean.
-use Rattle.std.specs.Prelude.{◌≡◌, ◌≢◌, ℕ, ◌+◌, ◌-◌, ◌<◌, ◌≤◌, Bool, true, false, ◌||◌, ◌==◌, nat_le, nat_lt, not, IsTrue, List, [], ◌∷◌, length, Some, None, ◌&&◌}
+use Rattle.std.specs.Prelude.{◌≡◌, ◌≢◌, ℕ, ◌+◌, ◌-◌, ◌<◌, ◌≤◌, Bool, true, false, ◌||◌, ◌==◌, nat_le, nat_lt, not, IsTrue, List, []}
+use Rattle.std.specs.Prelude.{◌∷◌, length, map, Some, None, ◌&&◌}
 use Rattle.std.proofs.Common.{inl, inr, arith, sym, refl, ap, ◌∙◌, subst, cond}
-use Rattle.std.proofs.lemmas.Bool.{cases_Bool, cases_lt, eq-eqb, leb-true, lt-ltb, true≢false}
+use Rattle.std.proofs.lemmas.Bool.{cases_Bool, cases_lt, le-leb, leb-true, lt-ltb, true≢false}
 use Rattle.std.proofs.lemmas.Bool.Decides.{nat_tests}
-use Rattle.std.proofs.lemmas.List.{length-map}
 use Rattle.bus_strings.specs.Members.{In}
 use Rattle.bus_table.specs.declared.mode.Mode.TheVariants.{Periodic}
 use Rattle.bus_table.specs.Tables.{Sender, Table}
 use Rattle.bus_table.specs.Offsets.{with_offsets}
+use Rattle.bus_table.specs.Turns.{turn_order}
 use Rattle.bus_table.specs.Valid.{is_valid}
 use Rattle.bus_table.specs.inside.Facts.{SenderFacts}
 use Rattle.bus_table.proofs.TurnLaws.{of_each}
 use Rattle.bus_table.proofs.ValidLaws.{valid_facts}
 use Rattle.std.specs.List.{list_all}
-use Rattle.bus_regime.specs.Gaps.{gaps}
-use Rattle.bus_plan.specs.declared.planning.PlanAnswer.TheVariants.{Planned as PlannedAlone, Infeasible as InfeasibleAlone}
 use Rattle.bus_plan.specs.Answers.{plan_of}
-use Rattle.bus_plan.specs.Plans.{least_interval, planned_offsets, planned_table, planned, planned_order, offset_in}
-use Rattle.bus_plan.proofs.Moved.{length-at_offsets, short_refused}
-use Rattle.bus_plan.proofs.Outcome.{planned_offsets_below, planned_good}
 use Rattle.bus_reach.proofs.GreatestLemmas.{greatest_takes, greatest_beyond}
-use Rattle.bus_reach.proofs.Modes.{in_periodic}
-use Rattle.bus_cable_plan.specs.declared.planning.CablePlan.{CablePlan}
 use Rattle.bus_cable_plan.specs.declared.planning.CablePlan.TheVariants.{Planned, Infeasible, Undecided}
-use Rattle.bus_cable_plan.specs.Plans.{turns_for, least_in_order, least_interval_for, offsets_in_order, offsets_by_gap, given_offsets}
+use Rattle.bus_cable_plan.specs.Plans.{turns_for, least_in_order, least_interval_for, offsets_in_order, offsets_by_gap}
+use Rattle.bus_cable_plan.specs.Plans.{given_offsets}
 use Rattle.bus_cable_plan.specs.Known.{none_reach, all_reach, is_known}
 use Rattle.bus_cable_plan.specs.Answers.{most_borne_in, alone, bears_as_given, fits, fitting, found, is_found, is_refuted}
 use Rattle.bus_cable_plan.specs.Answers.{known_least, undecided, unfit, best_of}
-use Rattle.bus_cable_plan.specs.Meaning.{IsPlanOf, NoneBear, IsOpen, Means, MeansBest, PlansAreRight, BestIsRight, MostBorneIsRight}
-use Rattle.bus_cable_plan.specs.Shares.{gaps_hold}
-use Rattle.bus_cable_plan.proofs.Outcome.{or_cases, order_is_planned, planned_bears}
+use Rattle.bus_cable_plan.specs.Meaning.{IsPlanOf, NoneBear, IsInfeasible, IsOpen, Means, MeansBest}
+use Rattle.bus_cable_plan.specs.Meaning.{PlansAreRight, BestIsRight, MostBorneIsRight}
+use Rattle.bus_cable_plan.proofs.Alone.{alone_borne, alone_none, alone_cases}
+use Rattle.bus_cable_plan.proofs.Below.{none_below}
+use Rattle.bus_cable_plan.proofs.Outcome.{or_cases, order_is_kept, order_is_planned, planned_bears}
 use Rattle.bus_cable_plan.proofs.Sharing.{refuted_is_not_borne}
 use Rattle.bus_cable_plan.proofs.AsGiven.{itself, given_borne, borne_given}
 use Rattle.bus_cable_plan.proofs.Rising.{long_unfound}
-
--- ---- a sender alone
-alone_borne : (d : ℕ) (table : Table) → IsTrue (is_valid table) → table.mode ≡ Periodic → length table.senders ≡ 1
-    → least_interval table ≤ table.ti → IsPlanOf d table (planned_table table)
-alone_borne d table valid mode one long =
-    let good = planned_good table valid mode long in
-    let moved : Table = planned_table table in
-    let count = length-at_offsets (planned_offsets table) table.senders in
-    record {
-      offsets = planned_offsets table;
-      borne = record {
-        count = length-map table.senders (λ (s : Sender). offset_in (planned table.sg (planned_order table.senders)) s.number);
-        below = planned_offsets_below table valid long;
-        valid = good.0;
-        accepted = good.1;
-        borne = in_periodic moved d mode
-            ∙ ap (λ b. b || gaps_hold d table.sg (gaps moved)) (eq-eqb (length moved.senders) 1 (count ∙ one));
-      };
-      made_is = refl;
-    }
-
-alone_none : (table : Table) → IsTrue (is_valid table) → table.mode ≡ Periodic → table.ti < least_interval table → NoneBear 0 table
-alone_none table valid mode short e low offsets b =
-    true≢false (sym b.accepted ∙ short_refused table offsets mode (valid_facts table valid).some short)
-
--- the planner's answer for it
-alone_cases : (P : CablePlan → Type 0) (table : Table) → (least_interval table ≤ table.ti → P (Planned (planned_table table)))
-    → (table.ti < least_interval table → P (Infeasible (least_interval table) table.ti)) → P (alone (plan_of table))
-alone_cases P table good bad = elim (cases_lt table.ti (least_interval table)) [
-  | inl short ↦
-      let is : nat_lt table.ti (least_interval table) ≡ true = grind (arith, nat_tests, short) in
-      subst (λ b. P (alone (cond b (InfeasibleAlone (least_interval table) table.ti) (PlannedAlone (planned_table table))))) (sym is) (bad short)
-  | inr long ↦
-      let is : nat_lt table.ti (least_interval table) ≡ false = grind (arith, nat_tests, long) in
-      subst (λ b. P (alone (cond b (InfeasibleAlone (least_interval table) table.ti) (PlannedAlone (planned_table table))))) (sym is) (good long)
-]
 
 -- ---- several
 fitting_is : (d : ℕ) (table : Table) → IsTrue (is_valid table) → table.mode ≡ Periodic → 1 < length table.senders → fits d table ≡ true
@@ -80,6 +41,10 @@ fitting_is d table valid mode several h = elim (cases_Bool (nat_le (least_in_ord
         offsets = offsets_in_order d table;
         borne = order_is_planned d table valid mode several k;
         made_is = ap (λ b. cond b (with_offsets (offsets_in_order d table) table) (with_offsets (offsets_by_gap d table) table)) yes';
+        kept = λ fit.
+            ap (λ b. map (λ (s : Sender). s.number) (turn_order (cond b (with_offsets (offsets_in_order d table) table)
+            (with_offsets (offsets_by_gap d table) table)))) yes'
+            ∙ order_is_kept d table valid mode;
       }
   | inr no' ↦ elim (or_cases (nat_le (least_in_order d table) table.ti) (nat_le (least_interval_for d table) table.ti) h) [
     | inl k ↦ absurd (true≢false (sym k ∙ no'))
@@ -87,6 +52,7 @@ fitting_is d table valid mode several h = elim (cases_Bool (nat_le (least_in_ord
       offsets = offsets_by_gap d table;
       borne = planned_bears d table valid mode several (leb-true (least_interval_for d table) table.ti k);
       made_is = ap (λ b. cond b (with_offsets (offsets_in_order d table) table) (with_offsets (offsets_by_gap d table) table)) no';
+      kept = λ fit. absurd (true≢false (sym (le-leb (least_in_order d table) table.ti fit) ∙ no'));
     }
   ]
 ]
@@ -103,6 +69,7 @@ found_is d table valid mode several h =
           | inr it ↦ it
         ]);
         made_is = sym (itself table);
+        kept = λ fit. refl;
       }
     ]) refl
 
@@ -123,12 +90,24 @@ below_known d table unfit' refuted =
       ]
     ]) refl
 
-open_is : (d : ℕ) (table : Table) → is_found d table ≡ false → is_refuted d table ≡ false → IsOpen d table
+infeasible_is : (d : ℕ) (table : Table) → IsTrue (is_valid table) → table.mode ≡ Periodic → 1 < length table.senders
+    → fits d table ≡ false → is_refuted d table ≡ true → IsInfeasible d table (known_least d table) table.ti
+infeasible_is d table valid mode several none refuted = record {
+  none = refuted_is_not_borne d table valid mode several none refuted;
+  interval = refl;
+  short = below_known d table none refuted;
+  below = none_below d table mode several;
+}
+
+open_is : (d : ℕ) (table : Table) → is_found d table ≡ false → is_refuted d table ≡ false
+    → IsOpen d table (turns_for d table) table.ti
 open_is d table none refuted =
     let no = or_false (is_known d table) (nat_lt table.ti (turns_for d table)) refuted in
     let neither = or_false (fits d table) (bears_as_given d table) none in
     let long = no.1 in
     record {
+      least_is = refl;
+      interval = refl;
       turns = (let k : turns_for d table ≤ table.ti = grind (arith, nat_tests, long) in k);
       unfit = neither.0;
       unknown = no.0;
@@ -141,7 +120,7 @@ unfit_means d table valid mode several h =
     let none = (or_false (fits d table) (bears_as_given d table) h).0 in
     (elim (is_refuted d table) as (λ b. is_refuted d table ≡ b
     → Means d table (cond b (Infeasible (known_least d table) table.ti) (Undecided (turns_for d table) table.ti))) [
-      | true ↦ λ k. (below_known d table none k, refuted_is_not_borne d table valid mode several none k)
+      | true ↦ λ k. infeasible_is d table valid mode several none k
       | false ↦ λ k. open_is d table h k
     ]) refl
 
@@ -155,7 +134,7 @@ plans_are_right d table valid mode =
       | true ↦ λ h.
           let one : length table.senders ≡ 1 = grind (arith, nat_tests, h) in
           alone_cases (Means d table) table (alone_borne d table valid mode one)
-          (λ short. (short, (λ e low offsets b. alone_none table valid mode short e (let k : 0 ≤ e = omega arith in k) offsets b)))
+          (alone_none d table valid mode)
       | false ↦ λ h.
           let several : length table.senders ≢ 1 = grind (arith, nat_tests, h) in
           let many = many_of table valid several in
@@ -207,7 +186,7 @@ best_several table valid mode several =
           let refuted : is_refuted 0 table ≡ true = zero_refuted table valid in
           let none = (or_false (fits 0 table) (bears_as_given 0 table) k).0 in
           subst (λ b. MeansBest table (cond b (Infeasible (known_least 0 table) table.ti) (Undecided (turns_for 0 table) table.ti))) (sym refuted)
-          (below_known 0 table none refuted, refuted_is_not_borne 0 table valid mode many none refuted)
+          (infeasible_is 0 table valid mode many none refuted)
       | true ↦ λ k.
           let best = best_found table valid mode many k in
           let none = (or_false (fits (best_of table + 1) table) (bears_as_given (best_of table + 1) table) best.1).0 in
@@ -231,7 +210,7 @@ best_is_right table valid mode =
           let one : length table.senders ≡ 1 = grind (arith, nat_tests, h) in
           alone_cases (MeansBest table) table
           (λ long. record { alone = λ same d. alone_borne d table valid mode one long; several = λ no. absurd (no one) })
-          (λ short. (short, alone_none table valid mode short))
+          (alone_none 0 table valid mode)
       | false ↦ λ h. best_several table valid mode (let no : length table.senders ≢ 1 = grind (arith, nat_tests, h) in no)
     ]) refl
 

@@ -13,11 +13,11 @@ use Rattle.bus_cable_plan.specs.Shapes.{gap_in, needed, shape_of}
 abbrev pub turn_time : ℕ → Sender → ℕ
 turn_time d sender = sender.tg + d + longest sender
 
--- The turns of all senders: no interval is shorter in which offsets bear d.
+-- The turns of all senders: of two or more, no interval is shorter in which offsets bear d.
 abbrev pub turns_for : ℕ → Table → ℕ
 turns_for d table = sum_by (turn_time d) table.senders
 
--- The least interval in which offsets that keep the turn order of the table bear d.
+-- The least interval in which a plan that keeps the turn order of the table bears d.
 abbrev pub least_in_order : ℕ → Table → ℕ
 least_in_order d table = needed d (shape_of d table) table.senders
 
@@ -25,7 +25,7 @@ least_in_order d table = needed d (shape_of d table) table.senders
 abbrev pub by_gap : Table → Table
 by_gap table = with_offsets (map (λ sender. most_tg - sender.tg) table.senders) table
 
--- The least interval in which offsets bear d: that of this order, in which the two senders with the greatest terminal gaps are neighbours.
+-- The least interval in which a plan bears d: that of this order, in which the two senders with the greatest terminal gaps are neighbours.
 abbrev pub least_interval_for : ℕ → Table → ℕ
 least_interval_for d table = least_in_order d (by_gap table)
 
@@ -67,6 +67,11 @@ planned_in_order d table = with_offsets (offsets_in_order d table) table
 -- The offsets that a table has, in table order.
 abbrev pub given_offsets : Table → List ℕ
 given_offsets table = map (λ sender. sender.at) table.senders
+
+-- The table with this transmit interval.
+abbrev pub with_interval : ℕ → Table → Table
+with_interval ti table =
+    record { mode = table.mode; ti = ti; sg = table.sg; senders = table.senders; listeners = table.listeners }
 
 -- The offsets and the table planned for d in the order of terminal gaps.
 abbrev pub offsets_by_gap : ℕ → Table → List ℕ

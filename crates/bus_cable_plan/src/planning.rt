@@ -19,7 +19,7 @@ use std::alloc::{AllocError, Global};
 pub enum CablePlan {
     /// The table at planned offsets, or as it is given. It is accepted and bears the delay.
     Planned(Table),
-    /// No choice of offsets bears the delay: the transmit interval `ti` is below `least`, both in bit times.
+    /// No choice of offsets bears the delay, nor does any in an interval below `least`. The transmit interval `ti` is, both in bit times.
     Infeasible { least: u64, ti: u64 },
     /// It isn't known whether some offsets bear the delay. The turns of the senders take `least` of the transmit interval `ti`.
     Undecided { least: u64, ti: u64 },

@@ -45,8 +45,9 @@ StandsWherePlanned (Infeasible least ti) = Unit {0}
 StandsWherePlanned (Undecided least ti) = Unit {0}
 
 -- What is written of a table that is planned for d: the status is Done where there is a plan, which the text stands for, and which is the
--- given table at offsets that are accepted and bear d; else it is Refused. `INFEASIBLE` comes only where no offsets bear d, and `UNDECIDED`
--- only where the turns fit the interval, no plan for d does, the given table doesn't bear d, and the least interval for d isn't known.
+-- given table at offsets that are accepted and bear d, in its order where a plan in that fits; else it is Refused. `INFEASIBLE` comes only
+-- where no offsets bear d in the table's interval, the second number, nor in any below the first; and `UNDECIDED` only where the turns, the
+-- first number, fit the interval, no plan for d does, the given table doesn't bear d, and the least interval for d isn't known.
 pub record GivesPlanFor (d : ℕ) (table : Table) (call : Call) (status : Status) : Type 0 where
   pub gives : Answers (status_of (cable_plan_outcome (plan_for_of d table))) (λ text. text ≡ cable_plan_text (plan_for_of d table)) call status
   pub stands : StandsWherePlanned (plan_for_of d table)
