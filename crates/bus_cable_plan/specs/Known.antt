@@ -11,7 +11,7 @@ none_reach d table = list_all (λ sender. nat_lt (sender.tg + d) table.sg) table
 abbrev pub all_reach : ℕ → Table → Bool
 all_reach d table = list_all (λ sender. nat_le table.sg (sender.tg + d)) table.senders
 
--- The least interval for d is proved to be that: of two senders for every d, of more where none or all of them reach the synchronization
--- gap.
+-- The least interval for d is proved to be the least in which any offsets bear d: of two senders for every d, of more where none or all of
+-- them reach the synchronization gap.
 abbrev pub is_known : ℕ → Table → Bool
 is_known d table = length table.senders == 2 || (none_reach d table || all_reach d table)

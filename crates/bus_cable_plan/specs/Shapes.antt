@@ -1,7 +1,7 @@
 -- How long the gaps of a plan are that bears a delay d.
 --
 -- Each sender needs its turn: its terminal gap, d bit times, and its longest message. Beside that each has to hear a synchronization gap
--- between two of its own messages, whatever the delays are up to d. It does in three ways:
+-- between two of its own messages, whatever the delays are up to d. These are three ways:
 --
 --   own gap      its own gap is a synchronization gap, its terminal gap and d
 --   strong gap   the gap of another sender is a synchronization gap and d

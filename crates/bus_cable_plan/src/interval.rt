@@ -14,8 +14,8 @@ use std::alloc::{AllocError, Global};
 /// The greatest delay that a plan is asked for, in bit times: that of the longest transmit interval.
 pub const MOST_DELAY: u32 = 128_000;
 
-/// The turns of the senders: each one's terminal gap, the delay and its longest message, in bit times. In no shorter interval any offsets
-/// bear the delay. It takes no memory.
+/// The turns of the senders: each one's terminal gap, the delay and its longest message, in bit times. Of two senders or more no offsets
+/// bear the delay in a shorter interval. It takes no memory.
 pub fn turns_for(table: &Table, d: u32) -> u64
     requires most { d ≤ most_ti }
     ensures value { result ≡ plans.turns_for d table.now }
@@ -67,7 +67,7 @@ fn all_reach(table: &Table, d: u32) -> bool
     table.senders().iter().all(|sender| sg <= sender.tg() + d)
 }
 
-/// Whether the least interval for this delay is proved to be that.
+/// Whether the least interval for this delay is proved to be the least in which any offsets bear it.
 pub(crate) fn is_known(table: &Table, d: u32) -> bool
     requires most { d ≤ most_ti }
     ensures { result ≡ known.is_known d table.now }

@@ -6,8 +6,8 @@
 //! - [`least_interval_for`] and [`turns_for`] tell the intervals that this is decided by.
 //!
 //! `specs/Shapes.antt` says how long the gaps of a plan are, `specs/Plans.antt` what the least interval and the planned offsets are,
-//! `specs/Known.antt` for which delays the least interval is proved to be that, `specs/Answers.antt` what an answer is, and [`laws`] what
-//! callers may use of them. All of this is this project's profile.
+//! `specs/Known.antt` for which delays the least interval is proved to be the least in which any offsets do, `specs/Answers.antt` what an
+//! answer is, and [`laws`] what callers may use of them. All of this is this project's profile.
 #![tactic(auto)]
 
 mod given;
