@@ -6,3 +6,4 @@ mod AcceptLemmas
 mod LawLemmas
 mod CutLemmas
 mod PageLemmas
+mod SyncLemmas

@@ -1,5 +1,5 @@
 -- Which rule limits the tolerance of a table: a bar for each of its limits, of what that alone bears.
-use Rattle.std.specs.Prelude.{ℕ, ◌+◌, ◌-◌, ◌*◌, ◌^◌, Bool, false, ◌==◌, min, max, List, [], ◌++◌, length, fold, codes, decimal}
+use Rattle.std.specs.Prelude.{ℕ, ◌+◌, ◌-◌, ◌*◌, ◌^◌, Bool, true, false, ◌==◌, min, max, List, [], ◌++◌, length, fold, codes, decimal}
 use Rattle.std.specs.Prelude.{Option, Some, None, if◌then◌else◌}
 use Rattle.std.specs.Option.{option_map_or, unwrap_or}
 use Rattle.bus_explain.specs.Times.{time_text}
@@ -86,8 +86,17 @@ tolerance_mark scale rows None = []
 tolerance_mark scale rows (Some delay) = plain Tolerance (tolerance_area scale rows delay)
 
 -- The picture of the limits of a table with this tolerance.
-abbrev pub bars_text : Option ℕ → List Limit → List ℕ
-bars_text tolerance limits =
+abbrev pub picture_text : Option ℕ → List Limit → List ℕ
+picture_text tolerance limits =
     picture_front (rows_top + row_height * length limits) (codes "What each rule bears")
     ++ bar_rows (bars_scale limits) tolerance limits
     ++ tolerance_mark (bars_scale limits) (length limits) tolerance ++ picture_end
+
+-- The same, or that there are none.
+abbrev pub told_text : (none : Bool) → Option ℕ → List Limit → List ℕ
+told_text true tolerance limits = codes "<p>None: one sender alone keeps its times, however long the cable is.</p>\n"
+told_text false tolerance limits = picture_text tolerance limits
+
+-- What is told of the limits of a table with this tolerance.
+abbrev pub bars_text : Option ℕ → List Limit → List ℕ
+bars_text tolerance limits = told_text (length limits == 0) tolerance limits

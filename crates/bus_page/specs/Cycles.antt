@@ -4,7 +4,7 @@ use Rattle.std.specs.List.{flat_map}
 use Rattle.bus_explain.specs.Times.{time_text}
 use Rattle.bus_shapes.specs.declared.area.Area.{Area}
 use Rattle.bus_shapes.specs.declared.class.Class.{Class}
-use Rattle.bus_shapes.specs.declared.class.Class.TheVariants.{Detail, GapWords, IntervalWords, Small}
+use Rattle.bus_shapes.specs.declared.class.Class.TheVariants.{Detail, GapWords, IntervalWords}
 use Rattle.bus_shapes.specs.declared.scale.Scale.{Scale}
 use Rattle.bus_shapes.specs.Scales.{place}
 use Rattle.bus_shapes.specs.Shapes.{words_text}
@@ -64,7 +64,7 @@ interval_text scale ti =
 
 -- The words of the spare, of the synchronization gap, and of how much longer the longest cycle is.
 abbrev pub spare_words : Scale → (ti least : ℕ) → List ℕ
-spare_words scale ti least = number_words Small (place scale least + 60) 900 (codes "spare ") (least - ti)
+spare_words scale ti least = number_words Detail (place scale least) 1040 (codes "spare ") (least - ti)
 
 abbrev pub gap_words : Scale → ℕ → List ℕ
 gap_words scale sg = number_words GapWords (place scale 0) 770 (codes "SG ") sg

@@ -20,7 +20,7 @@ premises_text =
 abbrev pub resting_text : List ℕ
 resting_text = section_text (codes "What this rests on") ++ premises_text
 
--- The canonical text of the table. It has no byte that would have to be written otherwise in HTML.
+-- The canonical text of the table.
 abbrev pub canonical_text : Table → List ℕ
 canonical_text table = section_text (codes "The table") ++ codes "<pre class=\"table\">" ++ table_text table ++ codes "</pre>\n"
 

@@ -1,6 +1,7 @@
 -- What holds of the pictures and numbers of a page. The contracts of `laws` say that each of these holds.
-use Rattle.std.specs.Prelude.{◌≡◌, ℕ, ◌+◌, ◌-◌, ◌*◌, ◌/◌, ◌≤◌, IsTrue, List, [], ◌∷◌, length, codes}
+use Rattle.std.specs.Prelude.{◌≡◌, ◌≢◌, ◌⊎◌, ℕ, ◌+◌, ◌-◌, ◌*◌, ◌/◌, ◌≤◌, IsTrue, List, [], ◌∷◌, length, codes}
 use Rattle.std.specs.List.{sum_by}
+use Rattle.bus_strings.specs.Members.{In}
 use Rattle.bus_table.specs.declared.mode.Mode.TheVariants.{Aperiodic, Periodic}
 use Rattle.bus_table.specs.Lengths.{longest}
 use Rattle.bus_table.specs.Ranges.{is_sender}
@@ -11,7 +12,7 @@ use Rattle.bus_reach.specs.Latency.{latency}
 use Rattle.bus_shapes.specs.declared.scale.Scale.{Scale}
 use Rattle.bus_shapes.specs.Scales.{IsScale, place}
 use Rattle.bus_page.specs.Checksums.{checksum}
-use Rattle.bus_page.specs.Slots.{Slot, slots_of}
+use Rattle.bus_page.specs.Slots.{All, Nobody, Slot, slots_of}
 use Rattle.bus_page.specs.Turns.{Stretch, Turn, turns_of}
 
 -- ---- widths
@@ -47,6 +48,19 @@ abbrev pub SlotsFillTheInterval : Type 0
 SlotsFillTheInterval =
     (table : Table) (least most : ℕ) → IsTrue (is_valid table) → table.mode ≡ Periodic → IsAcceptedWith table least most
     → sum_by slot_bits (slots_of table) ≡ most
+
+-- The gap of another sender is drawn that synchronizes this one.
+pub record IsSyncedByAnother (slots : List Slot) (own : Slot) : Type 0 where
+  pub other : Slot
+  pub among : In other slots
+  pub apart : other.number ≢ own.number
+  pub serves : other.synced ≢ Nobody
+
+-- Each sender is synchronized by a gap that is drawn: by its own, which synchronizes all, or by that of another sender.
+abbrev pub EachIsSynchronized : Type 0
+EachIsSynchronized =
+    (table : Table) (least most : ℕ) → table.mode ≡ Periodic → IsAcceptedWith table least most
+    → (own : Slot) → In own (slots_of table) → (own.synced ≡ All) ⊎ IsSyncedByAnother (slots_of table) own
 
 -- ---- checksum
 -- The checksum is CRC-32: that of the nine digits from 1 on is its check value, 0xCBF43926.

@@ -1,7 +1,8 @@
 -- How the page looks: one style, in which each colour has a name, and its value in a light and in a dark scheme.
 use Rattle.std.specs.Prelude.{ℕ, List, ◌++◌, codes}
 
--- The colours of both schemes. Boxes have a contrast of at least 3 to the ground, words one of at least 4.5 to what is behind them.
+-- The colours of both schemes. Boxes of messages, gaps and bars have a contrast of at least 3 to the ground and of 1.5 to one another where
+-- they touch, words one of at least 4.5 to what is behind them; the spare and the joins are tints.
 unfoldable pub colours_text : List ℕ
 colours_text =
     codes ":root{color-scheme:light dark;--ground:#fff;--words:#222;--small:#555;--grid:#d5d8dd;--sent:#00588f;\n"

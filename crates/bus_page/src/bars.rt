@@ -195,14 +195,14 @@ fn put_tolerance<K: Sink>(
 }
 
 /// Puts the picture of the limits of a table with this tolerance.
-pub(crate) fn put_bars<K: Sink>(
+fn put_picture<K: Sink>(
     text: &mut TextBuffer,
     sink: &mut K,
     tolerance: Option<u64>,
     limits: &[Limit],
 )
     requires { length limits.now ≤ 1000 }
-    ensures { Adds K.held K.faults sink.old sink.new text.old text.new (definition.bars_text tolerance limits.now) }
+    ensures { Adds K.held K.faults sink.old sink.new text.old text.new (definition.picture_text tolerance limits.now) }
 {
     let scale = bars_scale(limits);
     let rows = limits.len() as u64;
@@ -215,4 +215,38 @@ pub(crate) fn put_bars<K: Sink>(
     put_bar_rows(text, sink, &scale, tolerance, limits);
     put_tolerance(text, sink, &scale, rows, tolerance);
     end_picture(text, sink);
+}
+
+/// Puts the picture, or that there are no limits.
+fn put_told<K: Sink>(
+    text: &mut TextBuffer,
+    sink: &mut K,
+    none: bool,
+    tolerance: Option<u64>,
+    limits: &[Limit],
+)
+    requires { length limits.now ≤ 1000 }
+    ensures { Adds K.held K.faults sink.old sink.new text.old text.new (definition.told_text none tolerance limits.now) }
+{
+    if none {
+        text.put(
+            sink,
+            b"<p>None: one sender alone keeps its times, however long the cable is.</p>\n",
+        );
+    } else {
+        put_picture(text, sink, tolerance, limits);
+    }
+}
+
+/// Puts what is told of the limits of a table with this tolerance.
+pub(crate) fn put_bars<K: Sink>(
+    text: &mut TextBuffer,
+    sink: &mut K,
+    tolerance: Option<u64>,
+    limits: &[Limit],
+)
+    requires { length limits.now ≤ 1000 }
+    ensures { Adds K.held K.faults sink.old sink.new text.old text.new (definition.bars_text tolerance limits.now) }
+{
+    put_told(text, sink, limits.is_empty(), tolerance, limits);
 }

@@ -200,9 +200,9 @@ fn put_spare_words<K: Sink>(text: &mut TextBuffer, sink: &mut K, scale: &Scale, 
     requires { IsScale scale.now }
     ensures { Adds K.held K.faults sink.old sink.new text.old text.new (definition.spare_words scale.now ti least) }
 {
-    let left = scale.place(least) + 60;
+    let left = scale.place(least);
     let spare = least.saturating_sub(ti);
-    put_number_words(text, sink, Class::Small, left, 900, b"spare ", spare);
+    put_number_words(text, sink, Class::Detail, left, 1040, b"spare ", spare);
 }
 
 /// Puts the words of the synchronization gap.

@@ -20,6 +20,11 @@ pub fn slots_fill_the_interval()
     load_is_of_longest_cycle();
 }
 
+/// Each sender of an accepted periodic table is synchronized by a gap that is drawn.
+pub fn each_is_synchronized()
+    ensures { definition.EachIsSynchronized }
+{}
+
 /// The longest wait of a sender and its longest message together are the latency of the data on its last line, without delays.
 pub fn waits_are_latencies()
     ensures { definition.WaitsAreLatencies }
