@@ -1,0 +1,9 @@
+-- The lemmas of this crate.
+mod OrderLemmas
+mod RowLemmas
+mod TurnLemmas
+mod AcceptLemmas
+mod LawLemmas
+mod CutLemmas
+mod PageLemmas
+mod SyncLemmas

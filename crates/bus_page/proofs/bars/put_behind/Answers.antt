@@ -1,0 +1,5 @@
+use Rattle.bus_outer.proofs.TextLaws.{◌▸◌}
+use Rattle.bus_page.proofs.bars.put_behind.Goals as goal
+
+pub returns : goal.returns
+returns g c = c.begin_words.ensures ▸ c.put_borne.ensures ▸ c.end_words.ensures

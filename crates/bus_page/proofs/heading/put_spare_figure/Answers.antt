@@ -1,0 +1,5 @@
+use Rattle.bus_outer.proofs.TextLaws.{◌▸◌}
+use Rattle.bus_page.proofs.heading.put_spare_figure.Goals as goal
+
+pub returns : goal.returns
+returns g c = c.begin_figure.ensures ▸ c.put_time.ensures ▸ c.end_figure.ensures

@@ -1,0 +1,5 @@
+use Rattle.bus_outer.proofs.TextLaws.{◌▸◌}
+use Rattle.bus_page.proofs.message.put_both.Goals as goal
+
+pub returns : goal.returns
+returns g c = c.put_terminal.ensures ▸ c.put.ensures ▸ c.put_number.ensures

@@ -1,0 +1,20 @@
+-- What the contracts of this crate cite.
+pub mod Measures
+pub mod Rows
+pub mod Styles
+pub mod Paints
+pub mod Checksums
+pub mod Heads
+pub mod Turns
+pub mod Messages
+pub mod Cycles
+pub mod Slots
+pub mod Intervals
+pub mod Bars
+pub mod Waits
+pub mod Latencies
+pub mod Feet
+pub mod Findings
+pub mod Pages
+pub mod Laws
+pub mod inside

@@ -1,0 +1,43 @@
+-- How the page looks: one style, in which each colour has a name, and its value in a light and in a dark scheme.
+use Rattle.std.specs.Prelude.{ℕ, List, ◌++◌, codes}
+
+-- The colours of both schemes. Boxes of messages, gaps and bars have a contrast of at least 3 to the ground and of 1.5 to one another where
+-- they touch, words one of at least 4.5 to what is behind them; the spare and the joins are tints.
+unfoldable pub colours_text : List ℕ
+colours_text =
+    codes ":root{color-scheme:light dark;--ground:#fff;--words:#222;--small:#555;--grid:#d5d8dd;--sent:#00588f;\n"
+    ++ codes "--join:#d9e8f4;--gap:#a06c00;--gap-words:#7a5200;--ti:#00694d;--spare:#bfe8d8;--synchronizes:#3a9b7c;\n"
+    ++ codes "--bears:#6b7480;--limits:#a63a00;--wait:#868e99}\n"
+    ++ codes "@media(prefers-color-scheme:dark){:root{--ground:#14171b;--words:#e6e8eb;--small:#aab2bd;--grid:#333a43;\n"
+    ++ codes "--sent:#2a78b4;--join:#17344a;--gap:#e0a030;--gap-words:#e8b75a;--ti:#5fd6b0;--spare:#164a3b;\n"
+    ++ codes "--synchronizes:#45b58d;--bears:#7d8794;--limits:#e8741e;--wait:#b0bac6}}\n"
+
+-- The looks of the words and tables of the page.
+unfoldable pub looks_text : List ℕ
+looks_text =
+    codes "body{background:var(--ground);color:var(--words);\n"
+    ++ codes "font:14px/1.45 DejaVu Sans,Verdana,Helvetica,sans-serif;max-width:1040px;margin:16px auto;\n"
+    ++ codes "padding:0 12px}h1{font-size:22px;margin:4px 0}h2{font-size:16px;margin:26px 0 6px}\n"
+    ++ codes ".refused{color:var(--limits)}p,ul,dl{margin:6px 0}ul{padding-left:20px}\n"
+    ++ codes "pre,code{font:12px/1.5 DejaVu Sans Mono,Menlo,Consolas,monospace}pre{margin:6px 0;white-space:pre-wrap}\n"
+    ++ codes "pre.table{columns:4 200px}dl{display:flex;flex-wrap:wrap;gap:6px 32px}dt{color:var(--small);\n"
+    ++ codes "font-size:12px}dd{margin:0;font-size:16px;font-weight:bold}table{border-collapse:collapse;\n"
+    ++ codes "font-variant-numeric:tabular-nums}th,td{padding:2px 14px 2px 0;text-align:right}th{font-weight:normal;\n"
+    ++ codes "color:var(--small)}tbody tr{border-top:1px solid var(--grid)}svg{display:block;width:100%;height:auto}\n"
+
+-- The looks of boxes and words in pictures.
+unfoldable pub shapes_text : List ℕ
+shapes_text =
+    codes "text{font:110px DejaVu Sans Mono,Menlo,Consolas,monospace;fill:var(--words);pointer-events:none}\n"
+    ++ codes ".small,.detail{font-size:100px;fill:var(--small)}.counts,.detail,.interval-words{text-anchor:end}\n"
+    ++ codes ".number,.digits{text-anchor:middle}.digits{fill:#fff}.answer{font-weight:bold;fill:var(--limits)}\n"
+    ++ codes ".gap-words{font-size:100px;fill:var(--gap-words)}.interval-words{font-size:100px;fill:var(--ti)}\n"
+    ++ codes ".tick{fill:var(--small)}.grid{fill:var(--grid)}.sent{fill:var(--sent)}.join{fill:var(--join)}\n"
+    ++ codes ".gap{fill:var(--gap)}.ti,.tolerance{fill:var(--ti)}.spare{fill:var(--spare)}\n"
+    ++ codes ".synchronizes{fill:var(--synchronizes)}.bears{fill:var(--bears)}.limits{fill:var(--limits)}\n"
+    ++ codes ".wait{fill:var(--wait)}@media print{body{margin:0;max-width:none;font-size:11px}h2{break-after:avoid}\n"
+    ++ codes "svg,tr,li{break-inside:avoid}}\n"
+
+-- The style.
+abbrev pub style_text : List ℕ
+style_text = codes "<style>\n" ++ colours_text ++ looks_text ++ shapes_text ++ codes "</style>\n"

@@ -1,0 +1,85 @@
+//! Pages of worked tables. What is wanted was reckoned apart from this program, the checksums by another one.
+use bus_outer::MemorySink;
+use bus_page::{find, write_page};
+use bus_table::read_table;
+use std::process::Abort;
+use std::test::Fail;
+
+const FIVE: &[u8] =
+    b"TABLE 1\nMODE aperiodic\nTI 11000\nSG 400\nSENDER 3 TG 20\nSEND 001 0 0 0\nTAKE 005 * 0 256\nSENDER 17 TG 60\nSEND 002 0 1 3\nSEND 003 0 1 3\nSENDER 44 TG 140\nSEND 004 0 40 60\nSENDER 90 TG 100\nSEND 005 1 256 256\nSEND 006 1 200 256\nSENDER 128 TG 256\nSEND 007 1 10 20\n";
+
+const PERIODIC: &[u8] =
+    b"# The same five terminals in periodic mode: docs/BUS.md plans it, step by step.\nTABLE 1\nMODE periodic\nTI 4000\nSG 300\nSENDER 1 TG 10 AT 0\nSEND 101 1 8 8\nSENDER 2 TG 15 AT 200\nSEND 102 1 16 16\nSENDER 3 TG 20 AT 570\nSEND 103 1 4 12\nTAKE 101 * 0 8\nTAKE 102 * 0 16\nSENDER 4 TG 25 AT 860\nSEND 104 1 6 6\nTAKE 103 * 0 12\nSENDER 5 TG 30 AT 1040\nSEND 105 1 2 4\nTAKE 101 * 0 2\nTAKE 104 * 0 6\n";
+
+const REFUSED: &[u8] =
+    b"TABLE 1\nMODE periodic\nTI 1029\nSG 300\nSENDER 1 TG 20 AT 0\nSEND 0A1 1 2 2\nSENDER 2 TG 30 AT 90\nSEND 0B2 1 30 30\n";
+
+/// Whether these bytes stand somewhere in others.
+fn has(bytes: &[u8], part: &[u8]) -> bool {
+    if part.is_empty() {
+        return true;
+    }
+    bytes.windows(part.len()).any(|window| window == part)
+}
+
+/// Checks that the page of a table has each of these parts.
+fn has_parts(rt: &(impl Abort + AllocGlobal), text: &[u8], parts: &[&[u8]]) -> Result<(), Fail> {
+    let alloc = rt.alloc();
+    let table = read_table(alloc, text)?;
+    let findings = find(alloc, &table)?;
+    let mut sink = MemorySink::new(alloc, 100_000, 4096, Vec::new(alloc))?;
+    assert!(rt; write_page(b"tester 1", text, &table, &findings, &mut sink).is_ok());
+    for part in parts {
+        assert!(rt; has(sink.bytes(), part));
+    }
+    Ok(())
+}
+
+#[test]
+fn an_accepted_aperiodic_table(rt: HostRuntime) -> Result<(), Fail> {
+    has_parts(
+        &rt,
+        FIVE,
+        &[
+            b"<h1>The table is accepted</h1>",
+            b"<dd>11284 bit times (5642 \xc2\xb5s) to 13084 bit times (6542 \xc2\xb5s)</dd>",
+            b"<dd>284 bit times (142 \xc2\xb5s)</dd>",
+            b"<dd>92.5 %</dd>",
+            b"<dd>19 bit times (9.5 \xc2\xb5s)</dd>",
+            b"T90 9164",
+            b"T44 1220",
+            b"23368 bit times (11684 \xc2\xb5s)",
+            b"tester 1",
+            b"50FCE854",
+        ],
+    )
+}
+
+#[test]
+fn an_accepted_periodic_table(rt: HostRuntime) -> Result<(), Fail> {
+    has_parts(
+        &rt,
+        PERIODIC,
+        &[
+            b"<p><code>ACCEPT periodic 4000 4000</code></p>",
+            b"gap before T1: 2860 bit times (1430 \xc2\xb5s); it synchronizes all",
+            b"gap before T2: 20 bit times (10 \xc2\xb5s); it synchronizes nobody",
+            b"every delay",
+            b"DDD39E1F",
+        ],
+    )
+}
+
+#[test]
+fn a_refused_table(rt: HostRuntime) -> Result<(), Fail> {
+    has_parts(
+        &rt,
+        REFUSED,
+        &[
+            b"<h1 class=\"refused\">The table is refused</h1>",
+            b"<p><code>REFUSE no-sync 1 319 320</code></p>",
+            b"PLAN 1030",
+            b"1C9E9A04",
+        ],
+    )
+}
