@@ -16,7 +16,7 @@ complete -c bus629 -n 'test (count (commandline -opc)) -eq 1' -a observe -d 'loo
 complete -c bus629 -n 'test (count (commandline -opc)) -eq 1' -a cable -d 'the same on the cable in C, which has the messages too'
 complete -c bus629 -n 'test (count (commandline -opc)) -eq 1' -a receive -d 'what each terminal of the table receives of the trace in R'
 complete -c bus629 -n 'test (count (commandline -opc)) -eq 1' -a audit -d 'hold the trace in R to the table'
-complete -c bus629 -n 'test (count (commandline -opc)) -eq 1' -a diagnose -d 'tell which terminal of the recorded bus in R is at fault, by which timer and by how much'
+complete -c bus629 -n 'test (count (commandline -opc)) -eq 1' -a diagnose -d 'tell which terminal of the recorded bus R is at fault, by which timer and by how much'
 complete -c bus629 -n 'test (count (commandline -opc)) -eq 1' -a vote -d 'what two of three channels agree on, in each round of the trace in R'
 complete -c bus629 -n 'test (count (commandline -opc)) -eq 1' -a wave -d 'the wave of the trace in R, half bit time for half bit time'
 complete -c bus629 -n 'test (count (commandline -opc)) -eq 1' -a unwave -d 'the trace whose wave is in W'

@@ -19,7 +19,7 @@ _bus629() {
     'cable:the same on the cable in C, which has the messages too'
     'receive:what each terminal of the table receives of the trace in R'
     'audit:hold the trace in R to the table'
-    'diagnose:tell which terminal of the recorded bus in R is at fault, by which timer and by how much'
+    'diagnose:tell which terminal of the recorded bus R is at fault, by which timer and by how much'
     'vote:what two of three channels agree on, in each round of the trace in R'
     'wave:the wave of the trace in R, half bit time for half bit time'
     'unwave:the trace whose wave is in W'

@@ -43,7 +43,7 @@ help_text =
     ++ codes "  bus629 receive T R      what each terminal of the table receives of the trace in R\n"
     ++ codes "  bus629 audit T R        hold the trace in R to the table: does each sender start exactly where its\n"
     ++ codes "                          timers allow it?\n"
-    ++ codes "  bus629 diagnose T R D J P  tell which terminal of the recorded bus in R is at fault, by which timer\n"
+    ++ codes "  bus629 diagnose T R D J P  tell which terminal of the recorded bus R is at fault, by which timer\n"
     ++ codes "                          and by how much: up to D bit times from the monitor, timers off by up to J\n"
     ++ codes "                          bit times, oscillators by up to P millionths\n"
     ++ codes "  bus629 vote T R         what two of three channels agree on, in each round of the trace in R\n"

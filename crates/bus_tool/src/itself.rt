@@ -49,7 +49,7 @@ what each terminal receives, and audits recorded traces. What it says is proved.
   bus629 receive T R      what each terminal of the table receives of the trace in R
   bus629 audit T R        hold the trace in R to the table: does each sender start exactly where its
                           timers allow it?
-  bus629 diagnose T R D J P  tell which terminal of the recorded bus in R is at fault, by which timer
+  bus629 diagnose T R D J P  tell which terminal of the recorded bus R is at fault, by which timer
                           and by how much: up to D bit times from the monitor, timers off by up to J
                           bit times, oscillators by up to P millionths
   bus629 vote T R         what two of three channels agree on, in each round of the trace in R
