@@ -6,9 +6,8 @@ ghost use Rattle.std.specs.Prelude.{◌≡◌, ◌↔◌, IsNone, IfOk, IfErr};
 ghost use Rattle.bus_command.specs.Words.{words_of};
 ghost use Rattle.bus_view.specs.Forms.{form_of};
 
-use bus_command::Status;
+use bus_command::{FileSources, Status, exit_number, sources_of, words};
 use bus_outer::OutSink;
-use bus_program::{FileSources, exit_number, sources_of, words};
 use bus_view::view;
 use std::alloc::Global;
 use std::env;

@@ -4,10 +4,7 @@ ghost use Rattle.bus_cable.specs.Cables.{may_name_all, most_wake, bits_for};
 ghost use Rattle.bus_propagation.specs.Numbered.{numbered};
 
 use crate::cable::Named;
-use bus_strings::limits::MOST_TERMINAL;
-
-/// How many terminal numbers there are with 0, which is none.
-pub(crate) const TERMINALS: usize = MOST_TERMINAL as usize + 1;
+use bus_strings::limits::TERMINALS;
 
 /// The bit times that are named, by terminal number: 0 where none are.
 pub(crate) fn spots(named: &[Named]) -> [u64; TERMINALS]

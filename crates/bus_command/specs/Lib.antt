@@ -14,4 +14,6 @@ pub mod Causes
 pub mod Acts
 pub mod Claims
 pub mod About
+pub mod Files
+pub mod Fates
 pub mod inside

@@ -15,7 +15,7 @@ use Rattle.bus_table.specs.Tables.{Table}
 use Rattle.bus_table.proofs.ValidLaws.{valid_facts}
 use Rattle.bus_shapes.specs.declared.class.Class.TheVariants.{Garbled, Other, Wordstring}
 use Rattle.bus_shapes.specs.declared.sent.Sent.{Sent}
-use Rattle.bus_shapes.specs.Windows.{Window}
+use Rattle.bus_trace.specs.Windows.{Window}
 use Rattle.bus_cycles.specs.Laws.{HatchedAreDrawnLast, HatchedAreGarbled, RowsAreAPartition, RowsAreIntervals}
 use Rattle.bus_cycles.specs.Rows.{Cycle, Row, begin_in, cycle_of, interval_of, is_new, is_new_in, lift_of, row_at, rows, rows_from, rows_of, with_sent}
 use Rattle.bus_cycles.specs.Pages.{Page}

@@ -6,7 +6,7 @@ use Rattle.bus_trace.specs.Traces.{Recording}
 use Rattle.bus_shapes.specs.declared.counts.Counts.{Counts}
 use Rattle.bus_shapes.specs.Frames.{frame_text, tail_text}
 use Rattle.bus_shapes.specs.declared.told.Told.{Told}
-use Rattle.bus_shapes.specs.Windows.{Window}
+use Rattle.bus_trace.specs.Windows.{Window}
 use Rattle.bus_cycles.specs.CyclesTexts.{above_text, below_text, breach_text, height_of, cycles_text, marks_text, survey_in}
 use Rattle.bus_cycles.specs.Pages.{Page, page_of}
 use Rattle.bus_cycles.specs.Faults.{faults_text}

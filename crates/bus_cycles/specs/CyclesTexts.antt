@@ -21,7 +21,7 @@ use Rattle.bus_shapes.specs.Scales.{place}
 use Rattle.bus_shapes.specs.declared.area.Area.{Area}
 use Rattle.bus_shapes.specs.Shapes.{box_text, words_text}
 use Rattle.bus_shapes.specs.Measures.{left_margin, right_margin}
-use Rattle.bus_shapes.specs.Windows.{Window}
+use Rattle.bus_trace.specs.Windows.{Window}
 use Rattle.bus_cycles.specs.Rows.{Extent, cycle_of, rows}
 use Rattle.bus_cycles.specs.Sents.{shown}
 use Rattle.bus_cycles.specs.Pages.{Page, bottom_of, page_of, top_of}

@@ -6,7 +6,7 @@ use Rattle.bus_table.specs.declared.mode.Mode.TheVariants.{Aperiodic, Periodic}
 use Rattle.bus_table.specs.Tables.{Table}
 use Rattle.bus_table.specs.Timers.{greatest_gap}
 use Rattle.bus_shapes.specs.declared.sent.Sent.{Sent}
-use Rattle.bus_shapes.specs.Windows.{Window}
+use Rattle.bus_trace.specs.Windows.{Window}
 use Rattle.bus_cycles.specs.Sents.{shown}
 pub use Rattle.bus_cycles.specs.declared.cycle.Cycle.{Cycle}
 pub use Rattle.bus_cycles.specs.declared.cycle.Extent.{Extent}

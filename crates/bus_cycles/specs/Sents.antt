@@ -3,7 +3,7 @@ use Rattle.std.specs.Prelude.{Bool, List, filter}
 use Rattle.bus_strings.specs.Messages.{Entry}
 use Rattle.bus_shapes.specs.declared.sent.Sent.{Sent}
 use Rattle.bus_shapes.specs.Sending.{sents}
-use Rattle.bus_shapes.specs.Windows.{Window, holds}
+use Rattle.bus_trace.specs.Windows.{Window, holds}
 
 -- Whether a window holds the moment of a transmission.
 abbrev pub is_shown : Window → Sent → Bool

@@ -8,7 +8,7 @@ use Rattle.bus_trace.specs.Traces.{Recording}
 use Rattle.bus_shapes.specs.declared.counts.Counts.{Counts}
 use Rattle.bus_shapes.specs.declared.told.Told.{Told}
 use Rattle.bus_shapes.specs.declared.told.Told.TheVariants.{Audit, Findings}
-use Rattle.bus_shapes.specs.Windows.{Window, holds}
+use Rattle.bus_trace.specs.Windows.{Window, holds}
 use Rattle.bus_shapes.specs.declared.sent.Sent.{Sent}
 use Rattle.bus_cycles.specs.Rows.{Cycle, Extent, extent_of, rows_of, takes}
 use Rattle.bus_cycles.specs.Sents.{shown}

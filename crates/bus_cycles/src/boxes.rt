@@ -18,10 +18,9 @@ use crate::survey::{MOST_ROWS, length_of};
 use bus_outer::{Sink, TextBuffer};
 use bus_shapes::measures::{LEFT_MARGIN, RIGHT_MARGIN};
 use bus_shapes::{
-    Area, Class, Sent, Window, begin_titled, begin_words, digits_class, end_titled, end_words,
-    put_sent,
+    Area, Class, Sent, begin_titled, begin_words, digits_class, end_titled, end_words, put_sent,
 };
-use bus_trace::Trace;
+use bus_trace::{Trace, Window};
 
 /// How many shades there are: two, and one for each slot.
 const SHADES: usize = 5;

@@ -3,8 +3,8 @@ ghost use Rattle.std.specs.Prelude.{◌≡◌};
 ghost use Rattle.bus_cycles.specs.Surveys as definition;
 
 use crate::shown::Shown;
-use bus_shapes::{Counts, Window};
-use bus_trace::Trace;
+use bus_shapes::Counts;
+use bus_trace::{Trace, Window};
 
 /// How many transmissions begin in a window, and how many of them are garbled.
 pub(crate) fn counts(window: &Window, trace: &Trace) -> Counts

@@ -19,8 +19,8 @@ use crate::shown::Shown;
 use crate::survey::MOST_ROWS;
 use bus_findings::{Judgement, is_faulty, put_fault_title};
 use bus_outer::{Sink, TextBuffer};
-use bus_shapes::{Area, Class, Sent, Told, Window, begin_titled, end_titled, put_words};
-use bus_trace::Trace;
+use bus_shapes::{Area, Class, Sent, Told, begin_titled, end_titled, put_words};
+use bus_trace::{Trace, Window};
 
 /// A part of a mark, with its words under the pointer.
 fn put_part<K: Sink>(

@@ -18,10 +18,10 @@ use crate::shown::Shown;
 use crate::survey::{MOST_ROWS, length_of};
 use bus_load::{Stretch, bits_within};
 use bus_outer::{Sink, TextBuffer};
-use bus_shapes::{Class, Sent, Window, begin_words, end_words};
+use bus_shapes::{Class, Sent, begin_words, end_words};
 use bus_strings::{put_share, tenths};
 use bus_table::Mode;
-use bus_trace::Trace;
+use bus_trace::{Trace, Window};
 
 /// How many bit times a row has at least.
 fn least_in(cycle: &Cycle) -> u64

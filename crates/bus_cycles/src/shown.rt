@@ -5,9 +5,9 @@ ghost use Rattle.std.specs.Iterator.{YieldsFirst, item_count};
 ghost use Rattle.bus_cycles.specs.Sents as definition;
 ghost use Rattle.bus_cycles.specs.inside.Bounds.{IsSent};
 
-use bus_shapes::{Sent, Sents, Window};
+use bus_shapes::{Sent, Sents};
 use bus_strings::laws::neighbours_tell;
-use bus_trace::Trace;
+use bus_trace::{Trace, Window};
 use std::marker::Model;
 
 /// What is told of each transmission of a trace that begins in a window, in order.

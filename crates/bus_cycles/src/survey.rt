@@ -8,8 +8,8 @@ ghost use Rattle.bus_cycles.specs.Surveys as definition;
 use crate::cycle::{Cycle, Extent};
 use crate::shown::Shown;
 use bus_audit::AuditAnswer;
-use bus_shapes::{Sent, Told, Window};
-use bus_trace::Trace;
+use bus_shapes::{Sent, Told};
+use bus_trace::{Trace, Window};
 
 /// The most rows that are drawn.
 pub(crate) const MOST_ROWS: u64 = 500;

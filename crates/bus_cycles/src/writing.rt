@@ -16,9 +16,9 @@ use crate::survey::{breach_in, take_survey};
 use bus_load::Stretch;
 use bus_outer::{Sink, TextBuffer, WriteFault};
 use bus_regime::TableVerdict;
-use bus_shapes::{Told, Window, put_frame, put_tail};
+use bus_shapes::{Told, put_frame, put_tail};
 use bus_table::Table;
-use bus_trace::Trace;
+use bus_trace::{Trace, Window};
 
 /// Writes the picture of a window of a trace on a table as SVG: a row for each cycle, one below the other from the same left edge, at most
 /// 500, and above them the words of the verdict and of what is told of the trace. The first breach that an audit found is marked, or each

@@ -10,7 +10,7 @@ use Rattle.bus_strings.specs.Transmissions.{IsAscending, IsOrdered, end_of, over
 use Rattle.bus_table.specs.Tables.{Table}
 use Rattle.bus_table.specs.Valid.{is_valid}
 use Rattle.bus_trace.specs.Traces.{IsBelow, IsTrace, Recording}
-use Rattle.bus_shapes.specs.Windows.{IsWindow, whole}
+use Rattle.bus_trace.specs.Windows.{IsWindow, whole}
 use Rattle.bus_medium.proofs.AscendingLaws.{same_ascending}
 use Rattle.bus_dump.specs.declared.dump.Dump.{Dump}
 use Rattle.bus_dump.specs.declared.dump.Dump.TheVariants.{Timers, Vcd, Wires}

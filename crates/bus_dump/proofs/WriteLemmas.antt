@@ -8,7 +8,7 @@ use Rattle.bus_trace.specs.Traces.{Recording, IsTrace, IsBelow}
 use Rattle.bus_dump.specs.declared.dump.Dump.{Dump}
 use Rattle.bus_dump.specs.declared.layout.Layout.{Layout}
 use Rattle.bus_dump.specs.Doubled.{doubled}
-use Rattle.bus_shapes.specs.Windows.{Window}
+use Rattle.bus_trace.specs.Windows.{Window}
 use Rattle.bus_dump.specs.DumpTexts.{behind_text, changes_at, changes_text, changes_to, declaration, dump_text, end_of_dump, first_values, head_text, last_stamp, text_of}
 use Rattle.bus_dump.specs.Lanes.{lanes}
 use Rattle.bus_dump.specs.inside.Layouts.{bit_times_put, layout_signals}

@@ -7,7 +7,7 @@ use Rattle.bus_regime.specs.declared.table_verdict.TableVerdict.{TableVerdict}
 use Rattle.bus_regime.specs.Lines.{verdict_words}
 use Rattle.bus_table.specs.Tables.{Table}
 use Rattle.bus_trace.specs.Traces.{Recording}
-use Rattle.bus_shapes.specs.Windows.{Window}
+use Rattle.bus_trace.specs.Windows.{Window}
 use Rattle.bus_dump.specs.declared.dump.Dump.{Dump}
 use Rattle.bus_dump.specs.Scenes.{Scene, scene_at}
 use Rattle.bus_dump.specs.Signals.{Signal, Carrier, Overlap, Sync, Breach, Word, Pulse, Garbled, Label, Message}

@@ -19,7 +19,7 @@ use Rattle.bus_regime.specs.Lines.{verdict_words}
 use Rattle.bus_regime.specs.Verdicts.{verdict_of}
 use Rattle.bus_trace.specs.Runs.{HasNoFeed}
 use Rattle.bus_trace.specs.Traces.{Recording, IsTrace}
-use Rattle.bus_shapes.specs.Windows.{IsWindow, Window, holds as holds_time, whole}
+use Rattle.bus_trace.specs.Windows.{IsWindow, Window, holds as holds_time, whole}
 use Rattle.bus_medium.specs.Lawful.{HasEntry, IsLawful, Station}
 use Rattle.bus_medium.specs.Past.{last_place, own, past}
 use Rattle.bus_medium.specs.Timings.{quiet_of, stations_of, timing_of}

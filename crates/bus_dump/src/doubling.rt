@@ -2,7 +2,7 @@
 ghost use Rattle.std.specs.Prelude.{◌≡◌};
 ghost use Rattle.bus_dump.specs.Doubled as definition;
 
-use bus_shapes::TERMINALS;
+use bus_strings::limits::TERMINALS;
 use bus_trace::Trace;
 
 /// The first entry of the list of a trace, from 0, that starts before an earlier entry of its terminal has ended.

@@ -15,9 +15,8 @@ use crate::dump::Dump;
 use crate::lane::Lane;
 use crate::signal::Signal;
 use arrayvec::ArrayVec;
-use bus_shapes::TERMINALS;
 use bus_strings::Transmission;
-use bus_strings::limits::MOST_TERMINAL;
+use bus_strings::limits::{MOST_TERMINAL, TERMINALS};
 use bus_table::{Table, turn_at, turn_places};
 
 /// The most lanes, of 128 senders and 128 other terminals.

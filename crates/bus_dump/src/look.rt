@@ -8,8 +8,8 @@ use crate::glance::glance_at;
 use crate::live::Live;
 use crate::shown::Seen;
 use arrayvec::ArrayVec;
-use bus_shapes::TERMINALS;
 use bus_strings::Transmission;
+use bus_strings::limits::TERMINALS;
 
 /// What is seen of a live transmission, and up to which later bit time.
 #[derive(Clone, Copy, Debug)]

@@ -7,7 +7,7 @@ ghost use Rattle.bus_dump.specs.inside.Watching.{TellsAs, scene_of};
 use crate::clock::Elapsed;
 use crate::shown::Seen;
 use arrayvec::ArrayVec;
-use bus_shapes::TERMINALS;
+use bus_strings::limits::TERMINALS;
 use bus_table::MOST_SENDERS;
 
 /// What is seen of the transmissions of a list at a bit time, what the timers of the senders tell, where the dump has them, and whether

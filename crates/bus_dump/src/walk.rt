@@ -6,8 +6,8 @@ ghost use Rattle.bus_dump.specs.inside.Walks.{BeginsFrom, IsWalkable, Reaches, S
 
 use crate::live::Live;
 use arrayvec::ArrayVec;
-use bus_shapes::TERMINALS;
 use bus_strings::laws::neighbours_tell;
+use bus_strings::limits::TERMINALS;
 use bus_strings::{Marks, Transmission};
 
 /// The transmissions of a list that are live at a bit time, in list order, and what is needed to go on from there.

@@ -21,8 +21,8 @@ use crate::shown::Seen;
 use crate::walk::Walk;
 use arrayvec::ArrayVec;
 use bus_medium::quiet;
-use bus_shapes::TERMINALS;
 use bus_strings::Transmission;
+use bus_strings::limits::TERMINALS;
 use bus_table::{MOST_SENDERS, Table};
 use bus_timers::laws::test_decides;
 

@@ -17,12 +17,11 @@ use crate::scene::Scene;
 use crate::watch::Watch;
 use bus_outer::{Sink, TextBuffer, WriteFault};
 use bus_regime::TableVerdict;
-use bus_shapes::Window;
 use bus_strings::Transmission;
 use bus_strings::laws::neighbours_tell;
 use bus_table::Table;
 use bus_timers::laws::test_decides;
-use bus_trace::Trace;
+use bus_trace::{Trace, Window};
 
 /// The values at bit time t.
 fn put_first<K: Sink>(text: &mut TextBuffer, sink: &mut K, layout: &Layout, scene: &Scene, t: u64)

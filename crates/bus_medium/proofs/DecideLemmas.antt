@@ -10,7 +10,7 @@ use Rattle.bus_strings.specs.Members.{In}
 use Rattle.bus_strings.specs.Messages.{Entry}
 use Rattle.bus_strings.proofs.ListLaws.{some_at}
 use Rattle.bus_table.specs.Tables.{Hand}
-use Rattle.bus_terminal.specs.Terminals.{Terminal}
+use Rattle.bus_medium.specs.Terminals.{Terminal}
 use Rattle.bus_medium.specs.Past.{past, own, last_place}
 use Rattle.bus_medium.specs.Lawful.{Station, HaveOwnNumbers, HasEntry, IsDue, IsLawfulTo}
 use Rattle.bus_medium.specs.Buses.{Seat, station_of, number_of}

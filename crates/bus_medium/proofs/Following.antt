@@ -15,9 +15,9 @@ use Rattle.bus_strings.specs.Transmissions.{pulses, carrier, end_of}
 use Rattle.bus_strings.proofs.PulsesAlongLaws.{quiet_behind}
 use Rattle.bus_strings.proofs.MessageLaws.{bits_some}
 use Rattle.bus_table.specs.Tables.{Hand}
-use Rattle.bus_terminal.specs.Terminals.{last_begun}
-use Rattle.bus_terminal.specs.Jumps.{later_place}
-use Rattle.bus_terminal.proofs.SendingLaws.{sending_is_not_ready}
+use Rattle.bus_medium.specs.Terminals.{last_begun}
+use Rattle.bus_medium.specs.MessageStretches.{later_place}
+use Rattle.bus_medium.proofs.SendingLaws.{sending_is_not_ready}
 use Rattle.bus_medium.specs.Past.{past, own, last_place}
 use Rattle.bus_medium.specs.Buses.{last_of, running_at}
 use Rattle.bus_medium.specs.inside.Following.{Running, Follows}

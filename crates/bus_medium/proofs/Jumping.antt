@@ -8,8 +8,8 @@ use Rattle.bus_strings.specs.Members.{In}
 use Rattle.bus_strings.specs.Messages.{Entry}
 use Rattle.bus_strings.specs.Transmissions.{carrier}
 use Rattle.bus_strings.proofs.ListLaws.{some_at}
-use Rattle.bus_terminal.specs.Terminals.{Terminal, last_begun}
-use Rattle.bus_terminal.specs.Jumps.{later_place}
+use Rattle.bus_medium.specs.Terminals.{Terminal, last_begun}
+use Rattle.bus_medium.specs.MessageStretches.{later_place}
 use Rattle.bus_medium.specs.Past.{past, own}
 use Rattle.bus_medium.specs.Lawful.{Station, IsBefore, IsLawfulTo}
 use Rattle.bus_medium.specs.Buses.{Seat, station_of, number_of}

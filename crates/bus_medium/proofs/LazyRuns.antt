@@ -14,8 +14,8 @@ use Rattle.bus_strings.specs.Messages.{Entry}
 use Rattle.bus_strings.specs.Transmissions.{carrier, end_of}
 use Rattle.bus_strings.proofs.MemberLaws.{at_in, in_at}
 use Rattle.bus_strings.proofs.ListLaws.{some_at}
-use Rattle.bus_terminal.specs.Terminals.{Terminal, last_begun}
-use Rattle.bus_terminal.specs.Jumps.{later_place, with_passed_many}
+use Rattle.bus_medium.specs.Terminals.{Terminal, last_begun}
+use Rattle.bus_medium.specs.MessageStretches.{later_place, with_passed_many}
 use Rattle.bus_medium.specs.Past.{past, own, last_place}
 use Rattle.bus_medium.specs.BusyLaws.{IsBusy}
 use Rattle.bus_medium.specs.Lawful.{HaveOwnNumbers, IsLawful, IsLawfulTo}

@@ -15,8 +15,8 @@ use Rattle.bus_timers.proofs.GapStepLaws.{gap_started}
 use Rattle.bus_strings.specs.Messages.{Message, Entry, bits}
 use Rattle.bus_strings.proofs.MessageLaws.{bits_some}
 use Rattle.bus_table.specs.Tables.{Hand}
-use Rattle.bus_terminal.specs.Terminals.{Terminal, last_begun, with_begun}
-use Rattle.bus_terminal.specs.Jumps.{later_place, with_passed_many}
+use Rattle.bus_medium.specs.Terminals.{Terminal, last_begun, with_begun}
+use Rattle.bus_medium.specs.MessageStretches.{later_place, with_passed_many}
 use Rattle.bus_medium.specs.Buses.{Seat}
 use Rattle.bus_medium.specs.inside.Following.{Idle, Started}
 use Rattle.bus_medium.specs.inside.Lazy.{Clock, StandsLazily, lazy, lazy_seat, Sits, MovesOnce, IsReady, IsTold, due_at}

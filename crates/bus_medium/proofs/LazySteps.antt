@@ -18,8 +18,8 @@ use Rattle.bus_strings.specs.Transmissions.{carrier, end_of}
 use Rattle.bus_strings.proofs.MessageLaws.{bits_some}
 use Rattle.bus_strings.proofs.MemberLaws.{in_append_cases}
 use Rattle.bus_strings.proofs.ListLaws.{some_at}
-use Rattle.bus_terminal.specs.Terminals.{last_begun}
-use Rattle.bus_terminal.specs.Jumps.{later_place}
+use Rattle.bus_medium.specs.Terminals.{last_begun}
+use Rattle.bus_medium.specs.MessageStretches.{later_place}
 use Rattle.bus_medium.specs.Past.{past, own, last_place}
 use Rattle.bus_medium.specs.BusyLaws.{IsBusy}
 use Rattle.bus_medium.specs.Lawful.{HasEntry, IsDue, IsLawfulTo}

@@ -1,4 +1,8 @@
 -- The lemmas of this crate; those that a crate above may cite are public.
+pub mod PlaceLemmas
+pub mod RunningLemmas
+pub mod MessageStretchLaws
+pub mod SendingLaws
 pub mod Ruled
 pub mod RuledList
 pub mod Steps

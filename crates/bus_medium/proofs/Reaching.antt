@@ -8,7 +8,7 @@ use Rattle.bus_strings.specs.Messages.{Entry}
 use Rattle.bus_strings.specs.Transmissions.{carrier}
 use Rattle.bus_strings.proofs.ListLaws.{some_at}
 use Rattle.bus_table.specs.Tables.{Hand}
-use Rattle.bus_terminal.specs.Terminals.{Terminal}
+use Rattle.bus_medium.specs.Terminals.{Terminal}
 use Rattle.bus_medium.specs.Past.{past}
 use Rattle.bus_medium.specs.Lawful.{IsLawfulTo}
 use Rattle.bus_medium.specs.Buses.{Seat, station_of, number_of}

@@ -2,7 +2,7 @@
 use Rattle.std.proofs.Common.{◌≡◌, ℕ, zero, suc, ◌+◌, ◌-◌, ◌<◌, ◌≤◌, ◌⊎◌, ◌↔◌, Bool, true, false, List, [], ◌∷◌, ◌++◌, length, get_or, replicate, Option, inl, inr, arith, sym, refl, ap, ◌∙◌, subst}
 use Rattle.std.proofs.lemmas.Bool.{cases_lt, cases_Bool, true≢false}
 use Rattle.std.proofs.lemmas.List.{length_push, get_or_append_left, get_or_push}
-use Rattle.bus_terminal.proofs.JumpLaws.{some_of_bits}
+use Rattle.bus_medium.proofs.MessageStretchLaws.{some_of_bits}
 use Rattle.bus_timers.specs.GapPlace.{GapFrom}
 use Rattle.bus_timers.proofs.GapStepLaws.{gap_quiet, gap_carrier_elapsed, gap_carrier_waiting, gap_one}
 use Rattle.bus_timers.proofs.GapStretchLaws.{gap_carriers_elapsed, gap_carriers_waiting}

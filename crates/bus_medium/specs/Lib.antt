@@ -1,4 +1,8 @@
 -- What the contracts of this crate cite.
+pub mod Terminals
+pub mod SendingLaws
+pub mod MessageStretches
+pub mod MessageStretchLaws
 pub mod Past
 pub mod Lawful
 pub mod Delays

@@ -1,10 +1,12 @@
-//! Laws of the definitions, each the contract of a function that does nothing.
+//! Laws of the past of a list, of lawful lists and of a terminal on its own, each the contract of a function that does nothing.
 ghost use Rattle.bus_medium.specs.PastLaws.{PastLength, PastAt, NoCarrier, OwnLater, OwnMore, LastMore, OneAt};
 ghost use Rattle.bus_medium.specs.BusyLaws.{EntryIsBusy, BusyElapsed, BusyWaiting, BusyNobody};
 ghost use Rattle.bus_medium.specs.LawfulLaws.{OneLawfulList, ThereIsALawfulList, TheComputedList, OneListOfATable, LawfulToHorizon};
 ghost use Rattle.bus_medium.specs.CableLaws.{OneCableList, TheComputedCableList, OneCableListOfATable, NoDelayIsTheBus};
 ghost use Rattle.bus_medium.specs.Stretches.{IdleStretch, LoneStart, MessageIsCarrier, MessageElapsed, MessageWaiting, NoStartDuring};
 ghost use Rattle.bus_medium.specs.Clocks.{ClocksStart, ClockTells, ClocksStep, ClocksAreLawful};
+ghost use Rattle.bus_medium.specs.SendingLaws.{SendingIsNotReady};
+ghost use Rattle.bus_medium.specs.MessageStretchLaws.{LaterIsStepByStep, OneStretch, SteadyWithin};
 
 use bus_timers::laws::test_decides;
 
@@ -73,4 +75,18 @@ pub fn busy_stretches()
     ensures elapsed { BusyElapsed }
     ensures waiting { BusyWaiting }
     ensures nobody { BusyNobody }
+{}
+
+/// The timers of a terminal that is sending allow no start, as long as its own pulses are carrier to it: so its
+/// core is not ready. A law, with no work.
+pub fn sending_is_not_ready()
+    ensures { SendingIsNotReady }
+{}
+
+/// A stretch of bit times leads a message where as many single ones do, is as long as it can be, and goes no further
+/// than to the message's end. A law, with no work.
+pub fn stretches_are_bit_times()
+    ensures steps { LaterIsStepByStep }
+    ensures one { OneStretch }
+    ensures within { SteadyWithin }
 {}

@@ -8,11 +8,16 @@
 //! cores, which are told what was heard only where they start, and at the horizon; nor are the numbers of a sender told of each message.
 //! [`timings`] has the timings of a table's senders.
 //!
+//! A [`Terminal`] of it begins its next message when its timers allow, sends it to its end, and passes its timers the carrier of each bit
+//! time, or of a whole stretch in which nothing of it changes (`specs/MessageStretches.antt`).
+//!
 //! [`laws`] has what follows of the definitions: every valid table with its hands has exactly one lawful list
 //! ([`laws::one_lawful_list`]), which `specs/LawfulList.antt` computes; it grows by stretches in which nobody is due
 //! and by single starts ([`laws::lawful_turns`]); a whole message counts for the timers as its bits of carrier
 //! ([`laws::messages_are_carrier`]), and so does any stretch that transmissions keep busy ([`laws::busy_stretches`]);
-//! and what the past of a list has where ([`laws::pasts`]).
+//! what the past of a list has where ([`laws::pasts`]); why a terminal that is sending never starts anew
+//! ([`laws::sending_is_not_ready`]), and that a stretch of a message leads where as many bit times do
+//! ([`laws::stretches_are_bit_times`]).
 //!
 //! The same bus on a cable with length, whose terminals were powered up when they liked, stands beside it: what each terminal
 //! hears and when (`specs/Delays.antt`), what it has heard since its power-up (`specs/Wakes.antt`), and the lawful list of that
@@ -30,12 +35,15 @@ mod first;
 pub mod laws;
 mod note;
 mod passing;
+mod place;
 mod seat;
 mod seating;
 mod starting;
+mod terminal;
 mod timings;
 mod turns;
 
 pub use bus::{Bus, OBSERVE_LIMIT};
 pub use seat::Seat;
+pub use terminal::Terminal;
 pub use timings::{quiet, timing};

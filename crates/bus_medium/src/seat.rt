@@ -1,7 +1,7 @@
 //! A sender of the bus.
 ghost use Rattle.std.specs.Prelude.{◌≡◌};
 
-use bus_terminal::Terminal;
+use crate::terminal::Terminal;
 use bus_timers::{Core, Timing};
 use std::marker::Model;
 

@@ -1,4 +1,4 @@
-//! Tests of the bus, of what is told of a table before it runs, and of cables, by the public calls of bus_terminal, bus_medium,
+//! Tests of the bus, of what is told of a table before it runs, and of cables, by the public calls of bus_medium,
 //! bus_propagation, bus_regime, bus_plan, bus_advice, bus_schedule, bus_dropout, bus_reach, bus_cable and bus_vectors: in a crate of
 //! their own, so that each of these is proved once and not a second time with its tests.
 #![tactic(auto)]

@@ -1,9 +1,9 @@
 //! Tries of a terminal alone and of its stretches.
 ghost use Rattle.std.specs.Prelude.{◌+◌, ◌≤◌};
 
+use bus_medium::Terminal;
 use bus_strings::{Message, Wordstring, bits, is_on};
 use bus_table::Hand;
-use bus_terminal::Terminal;
 use bus_timers::{Core, CounterCore, DeadlineCore, JumpCore, Timing};
 use bus_words::{Ext, Label};
 use std::alloc::Global;

@@ -26,7 +26,7 @@ use Rattle.bus_shapes.specs.declared.scale.Scale.{Scale}
 use Rattle.bus_shapes.specs.Scales.{extent, place}
 use Rattle.bus_shapes.specs.Sending.{sents}
 use Rattle.bus_shapes.specs.Shapes.{box_text, titled_text, words_text}
-use Rattle.bus_shapes.specs.Windows.{Window}
+use Rattle.bus_trace.specs.Windows.{Window}
 pub use Rattle.bus_picture.specs.Lanes.{drawn_lanes, each_lane, lane_top}
 use Rattle.bus_picture.specs.Legends.{legend_text}
 use Rattle.bus_picture.specs.Loads.{loads_text}

@@ -10,9 +10,9 @@ ghost use Rattle.bus_picture.specs.inside.Noting.{AreNoted, KeepsNoted, LinesNot
 
 use bus_filter::matches;
 use bus_outer::{Sink, TextBuffer};
-use bus_shapes::{Sent, TERMINALS};
+use bus_shapes::Sent;
 use bus_strings::Wordstring;
-use bus_strings::limits::MOST_TERMINAL;
+use bus_strings::limits::{MOST_TERMINAL, TERMINALS};
 use bus_table::{Listener, Sender, Table, TakeLine};
 use bus_words::Label;
 use std::marker::Model;

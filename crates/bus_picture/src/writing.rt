@@ -27,11 +27,11 @@ use bus_load::Stretch;
 use bus_outer::{Sink, TextBuffer, WriteFault};
 use bus_regime::TableVerdict;
 use bus_shapes::{
-    Area, Axis, Class, Scale, Told, Unit, Window, begin_titled, begin_words, end_titled, end_words,
+    Area, Axis, Class, Scale, Told, Unit, begin_titled, begin_words, end_titled, end_words,
     put_axis, put_frame, put_tail, put_words,
 };
 use bus_table::{Mode, Table};
-use bus_trace::Trace;
+use bus_trace::{Trace, Window};
 
 /// The scale of a window.
 fn scale_of(window: &Window) -> Scale

@@ -5,7 +5,6 @@ pub mod Shapes
 pub mod Sayings
 pub mod Sending
 pub mod SendingLaws
-pub mod Windows
 pub mod Scales
 pub mod Axes
 pub mod Frames

@@ -1,13 +1,13 @@
 //! What all pictures of a trace share: the two kinds of elements of an SVG, boxes and words, and what is made of them in each picture.
 //!
 //! - [`Class`] says what an element stands for, and so how it looks; [`put_box`], [`put_words`] and their like put elements into a text.
-//! - [`Window`] is the stretch of a trace that is shown, and [`Scale`] says where moments are drawn.
+//! - [`Scale`] says where moments are drawn.
 //! - [`put_frame`] and [`put_tail`] put what stands around a picture, [`put_axis`] an axis. [`Told`] is what is told of the trace there.
 //! - [`Sents`] goes over a list and tells of each transmission what a picture says of it, a [`Sent`]; [`put_sent`] puts its words.
 //! - [`laws`] has what follows of the definitions of places, marks and what is told of a list, [`measures`] where words stand.
 //!
-//! All numbers are whole; a unit is a tenth of a pixel. The definitions are in `specs/`: `Classes`, `Shapes` (boxes and words), `Windows`,
-//! `Scales` (places of moments), `Axes`, `Sayings` (the words), `Sending` (what is told of a list), `Headings` and `Frames`. No call takes
+//! All numbers are whole; a unit is a tenth of a pixel. The definitions are in `specs/`: `Classes`, `Shapes` (boxes and words), `Scales`
+//! (places of moments), `Axes`, `Sayings` (the words), `Sending` (what is told of a list), `Headings` and `Frames`. No call takes
 //! memory.
 #![tactic(auto)]
 
@@ -24,7 +24,6 @@ mod sent;
 mod sents;
 mod shapes;
 mod told;
-mod window;
 
 pub use area::Area;
 pub use axis::{Axis, Unit, put_axis};
@@ -33,7 +32,6 @@ pub use counts::Counts;
 pub use frame::{put_counted, put_frame, put_tail};
 pub use scale::Scale;
 pub use sent::{Sent, put_garbled, put_sent};
-pub use sents::{Sents, TERMINALS};
+pub use sents::Sents;
 pub use shapes::{begin_titled, begin_words, end_titled, end_words, put_box, put_words};
 pub use told::Told;
-pub use window::Window;

@@ -5,12 +5,9 @@ ghost use Rattle.bus_strings.specs.Transmissions.{IsByMoment};
 ghost use Rattle.bus_shapes.specs.Sending.{sents};
 
 use crate::sent::Sent;
-use bus_strings::limits::MOST_TERMINAL;
+use bus_strings::limits::TERMINALS;
 use bus_strings::{Marks, Transmission};
 use std::marker::Model;
-
-/// How many terminal numbers there are with 0, which is none: so many entries has what is looked up by the number of a terminal.
-pub const TERMINALS: usize = MOST_TERMINAL as usize + 1;
 
 /// What pictures tell of each transmission of a list, in order. It goes over the list once.
 #[derive(Drop)]

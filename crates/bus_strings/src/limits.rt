@@ -7,6 +7,9 @@ pub const HORIZON_LIMIT: u64 = 1_099_511_627_776;
 /// The greatest terminal number; the least is 1.
 pub const MOST_TERMINAL: u8 = 128;
 
+/// How many terminal numbers there are with 0, which is none: so many entries has what is looked up by the number of a terminal.
+pub const TERMINALS: usize = MOST_TERMINAL as usize + 1;
+
 /// The most wordstrings of a message; the least is 1.
 pub const MOST_STRINGS: usize = 31;
 

@@ -9,5 +9,6 @@ pub mod Stops
 pub mod Feeding
 pub mod Reading
 pub mod Pieces
+pub mod Windows
 pub mod TraceLaws
 pub mod inside

@@ -5,13 +5,14 @@
 //!   source, of which it takes exactly the bytes of the trace text. A text that is none is refused at the byte at which its first
 //!   offending line begins, with the [`TraceReason`].
 //!
+//! - [`Window`] is a stretch of a trace, of which alone something is shown.
 //! - [`TraceReader`] reads a trace text that comes in pieces, and tells with each piece whether it ends there or is refused.
 //! - [`stop_behind`] says what may stand behind lines of a trace text.
 //!
 //! The text is this project's own: `TRACE f`, `HORIZON h`, a `HOLD n c` for each terminal that held messages, then for each
 //! transmission `TX m n`, a `WS` line of words for each wordstring and, in format 2, a `TE e c` with its end and the mark of a
 //! collision, and `END`. The definitions are in `specs/`: `Traces` has the lines of a trace and the grammar, `States` what one line
-//! more gives and why it is refused, `Runs` what a stream reads as.
+//! more gives and why it is refused, `Runs` what a stream reads as, `Windows` which stretches there are.
 #![tactic(auto)]
 
 mod draft;
@@ -34,6 +35,7 @@ mod stop;
 mod trace;
 mod valid;
 mod walk;
+mod window;
 mod words;
 mod writing;
 
@@ -46,4 +48,5 @@ pub use reason::TraceReason;
 pub use stage::Fed;
 pub use stop::{Stop, stop_behind};
 pub use trace::Trace;
+pub use window::Window;
 pub use writing::write_trace;

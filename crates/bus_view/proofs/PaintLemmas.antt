@@ -8,7 +8,7 @@ use Rattle.bus_trace.specs.Traces.{Recording}
 use Rattle.bus_cycles.specs.CyclesTexts.{cycles_text}
 use Rattle.bus_picture.specs.TimeLines.{time_line_text}
 use Rattle.bus_shapes.specs.declared.told.Told.{Told}
-use Rattle.bus_shapes.specs.Windows.{Window}
+use Rattle.bus_trace.specs.Windows.{Window}
 use Rattle.bus_command.specs.Acts.{Ends, Leaves}
 use Rattle.bus_command.specs.Kinds.{Kind, NoForm, NotRead, TooMuch, Wrong, Late, NotWritten, NoRoom, Answer, kind_of}
 use Rattle.bus_command.specs.Outside.{Seen}

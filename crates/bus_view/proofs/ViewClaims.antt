@@ -8,7 +8,7 @@ use Rattle.std.specs.Option.{option_and_then}
 use Rattle.bus_bounds.specs.Bounds.{Bounds}
 use Rattle.bus_command.specs.Bounding.{AreNear}
 use Rattle.bus_command.proofs.BoundingLaws.{near_written}
-use Rattle.bus_shapes.specs.Windows.{Window, IsWindow}
+use Rattle.bus_trace.specs.Windows.{Window, IsWindow}
 use Rattle.bus_dump.specs.declared.dump.Dump.{Dump as AnyDump}
 use Rattle.bus_dump.specs.declared.dump.Dump.TheVariants.{Vcd, Wires, Timers}
 use Rattle.bus_dump.specs.Laws.{BreachIsTold, ClearListsShowNone, LawfulIsSingle}

@@ -4,7 +4,7 @@ use Rattle.std.proofs.Common.{arith, cond, refl, sym, ap, ◌∙◌, subst}
 use Rattle.std.proofs.lemmas.Bool.Decides.{nat_tests}
 use Rattle.bus_strings.specs.Limits.{horizon_limit}
 use Rattle.bus_text.specs.Numbers.{is_plain_decimal, decimal_value, IsDecimal}
-use Rattle.bus_shapes.specs.Windows.{Window, IsWindow}
+use Rattle.bus_trace.specs.Windows.{Window, IsWindow}
 use Rattle.bus_view.specs.Forms.{is_window, window_of}
 
 pub four : (a b c d : Bool) → a ≡ true → b ≡ true → c ≡ true → d ≡ true → (a && b && c && d) ≡ true

@@ -2,7 +2,7 @@
 use Rattle.std.specs.Prelude.{◌≡◌, ℕ, IsTrue, List, [], ◌∷◌, codes, Option, Some, None, IfSome}
 use Rattle.bus_bounds.specs.Bounds.{Bounds}
 use Rattle.bus_command.specs.Bounding.{AreNear}
-use Rattle.bus_shapes.specs.Windows.{Window, IsWindow}
+use Rattle.bus_trace.specs.Windows.{Window, IsWindow}
 use Rattle.bus_text.specs.Numbers.{IsDecimal}
 use Rattle.bus_table.specs.Hands.{are_hands}
 use Rattle.bus_table.specs.Tables.{Table, Hand}

@@ -18,7 +18,7 @@ use Rattle.bus_dump.specs.DumpTexts.{dump_text}
 use Rattle.bus_dump.specs.SaveFiles.{save_text}
 use Rattle.bus_shapes.specs.declared.told.Told.{Told}
 use Rattle.bus_shapes.specs.declared.told.Told.TheVariants.{Audit, Findings}
-use Rattle.bus_shapes.specs.Windows.{Window, whole}
+use Rattle.bus_trace.specs.Windows.{Window, whole}
 use Rattle.bus_picture.specs.TimeLines.{time_line_text}
 use Rattle.bus_cycles.specs.CyclesTexts.{cycles_text}
 use Rattle.bus_command.specs.declared.inputs.Traced.{Traced}

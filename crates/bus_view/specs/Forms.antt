@@ -6,7 +6,7 @@ use Rattle.bus_strings.specs.Limits.{horizon_limit}
 use Rattle.bus_text.specs.Numbers.{is_plain_decimal, decimal_value}
 use Rattle.bus_dump.specs.declared.dump.Dump.{Dump as AnyDump}
 use Rattle.bus_dump.specs.declared.dump.Dump.TheVariants as dump
-use Rattle.bus_shapes.specs.Windows.{Window}
+use Rattle.bus_trace.specs.Windows.{Window}
 use Rattle.bus_bounds.specs.Bounds.{Bounds}
 use Rattle.bus_command.specs.About.{about_of}
 use Rattle.bus_command.specs.Bounding.{most_near_delay, near_bounds_of}

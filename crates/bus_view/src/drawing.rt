@@ -17,9 +17,8 @@ use bus_command::after_writing;
 use bus_dump::{Dump, doubled, write_dump};
 use bus_outer::Sink;
 use bus_regime::verdict;
-use bus_shapes::Window;
 use bus_table::Table;
-use bus_trace::Trace;
+use bus_trace::{Trace, Window};
 use std::alloc::Global;
 
 /// Writes this dump of a trace on a table, in which no entry is doubled; of a window of it, or of all.

@@ -8,8 +8,8 @@ ghost use Rattle.bus_view.specs.Forms.{IsNear, IsWithinLimits};
 use bus_bounds::Bounds;
 use bus_command::{About, about_of, near_bounds_of};
 use bus_dump::Dump;
-use bus_shapes::Window;
 use bus_text::plain_decimal;
+use bus_trace::Window;
 
 /// A picture of a trace.
 #[derive(Clone, Copy, Debug, PartialEq, Eq)]

@@ -25,9 +25,9 @@ use bus_load::{Stretch, carrier_stretches};
 use bus_outer::{Sink, WriteFault};
 use bus_picture::write_time_line;
 use bus_regime::{TableVerdict, verdict};
-use bus_shapes::{Told, Window};
+use bus_shapes::Told;
 use bus_table::Table;
-use bus_trace::Trace;
+use bus_trace::{Trace, Window};
 use std::alloc::Global;
 
 /// Writes a picture of a window of a trace, of which the carrier is given.

@@ -2,8 +2,7 @@
 ghost use Rattle.std.specs.Prelude.{◌≡◌};
 ghost use Rattle.bus_view.specs.Due as due;
 
-use bus_shapes::Window;
-use bus_trace::Trace;
+use bus_trace::{Trace, Window};
 
 /// The window that is asked for, or all of a trace.
 pub(crate) fn window_or_whole(window: Option<Window>, trace: &Trace) -> Window

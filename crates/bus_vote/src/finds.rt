@@ -5,8 +5,8 @@ ghost use Rattle.bus_vote.specs.inside.Finds.{string_finds, finds_before, is_wan
 ghost use Rattle.bus_vote.specs.inside.Walks.{IsSent, IsReach};
 
 use crate::mark::is_garbled;
-use crate::pace::TERMINALS;
 use arrayvec::ArrayVec;
+use bus_strings::limits::TERMINALS;
 use bus_strings::{Transmission, Wordstring};
 use bus_words::Label;
 

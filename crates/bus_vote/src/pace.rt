@@ -5,10 +5,7 @@ ghost use Rattle.bus_vote.specs.inside.Walks.{IsSent, IsClear, IsSpaced, gap_in}
 
 use crate::mark::is_garbled;
 use bus_strings::Transmission;
-use bus_strings::limits::MOST_TERMINAL;
-
-/// How many terminal numbers there are with 0, which is none.
-pub(crate) const TERMINALS: usize = MOST_TERMINAL as usize + 1;
+use bus_strings::limits::TERMINALS;
 
 /// Whether no transmission of a list is garbled.
 pub(crate) fn is_clear(list: &[Transmission]) -> bool

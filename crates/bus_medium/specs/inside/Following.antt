@@ -8,7 +8,7 @@ use Rattle.bus_strings.specs.Members.{In}
 use Rattle.bus_strings.specs.Messages.{Entry, bits}
 use Rattle.bus_strings.specs.Transmissions.{end_of}
 use Rattle.bus_table.specs.Tables.{Hand}
-use Rattle.bus_terminal.specs.Terminals.{last_begun, with_begun}
+use Rattle.bus_medium.specs.Terminals.{last_begun, with_begun}
 use Rattle.bus_medium.specs.Past.{past, own, last_place}
 use Rattle.bus_medium.specs.Buses.{Seat, last_of}
 

@@ -2,7 +2,7 @@
 use Rattle.std.specs.Prelude.{◌≡◌, ℕ, ◌+◌, ◌≤◌, ◌++◌, Bool, List, replicate, Option}
 use Rattle.bus_timers.specs.declared.timing.Timing.{Timing}
 use Rattle.bus_timers.specs.declared.cores.Core.{Ghosts}
-use Rattle.bus_terminal.specs.Jumps.{with_passed_many}
+use Rattle.bus_medium.specs.MessageStretches.{with_passed_many}
 use Rattle.bus_medium.specs.Buses.{Seat}
 
 -- The sender was passed n bit times, in one move.

@@ -8,8 +8,8 @@ use Rattle.bus_timers.specs.declared.cores.Core.{Ghosts}
 use Rattle.bus_timers.specs.Timings.{IsSound, due_place}
 use Rattle.bus_timers.specs.MayStart.{MayStart}
 use Rattle.bus_timers.specs.GapPlace.{GapFrom}
-use Rattle.bus_terminal.specs.Terminals.{last_begun}
-use Rattle.bus_terminal.specs.Jumps.{later_place, with_passed_many}
+use Rattle.bus_medium.specs.Terminals.{last_begun}
+use Rattle.bus_medium.specs.MessageStretches.{later_place, with_passed_many}
 use Rattle.bus_strings.specs.Members.{In}
 use Rattle.bus_strings.specs.Messages.{Entry}
 use Rattle.bus_strings.specs.Transmissions.{end_of}

@@ -6,7 +6,7 @@ use Rattle.bus_strings.specs.Messages.{Entry}
 use Rattle.bus_medium.specs.Lawful.{IsLawfulTo}
 use Rattle.bus_medium.specs.Buses.{Seat, station_of}
 use Rattle.bus_medium.specs.inside.Following.{AllFollow, AllHaveRoom}
-use Rattle.bus_terminal.specs.Terminals.{sounds}
+use Rattle.bus_medium.specs.Terminals.{sounds}
 
 -- At moment t, before anybody decides, the list is what was sent, the senders stand where it leaves them, and have room for what may come.
 pub record RunsTo {C : Type 0} (core : Ghosts C) (quiet : ℕ) (seats : List (Seat C)) (list : List Entry) (t : ℕ) : Type 0 where

@@ -1,5 +1,0 @@
-use Rattle.bus_terminal.proofs.SendingLaws as sending
-use Rattle.bus_terminal.proofs.laws.sending_is_not_ready.Goals as goal
-
-pub returns : goal.returns
-returns c = sending.sending_is_not_ready

@@ -1,5 +1,0 @@
-use Rattle.bus_terminal.proofs.JumpLaws.{later_is_step_by_step, one_stretch, steady_within}
-use Rattle.bus_terminal.proofs.laws.stretches_are_bit_times.Goals as goal
-
-pub returns : goal.returns
-returns c = record { steps = later_is_step_by_step; one = one_stretch; within = steady_within }

@@ -1,3 +1,0 @@
--- What the code keeps on its way: words that only contracts of private functions and proofs cite.
-pub mod Places
-pub mod Standing
