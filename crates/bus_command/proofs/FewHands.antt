@@ -8,7 +8,7 @@ use Rattle.bus_text.specs.Refusals.{Refusal}
 use Rattle.bus_strings.specs.Items.{Item}
 use Rattle.bus_strings.specs.Reading.{messages_reading}
 use Rattle.bus_table.specs.declared.fit.FitError.{FitError}
-use Rattle.bus_table.specs.Dealt.{items_or_error, hands_or_error, hands_reading}
+use Rattle.bus_hands.specs.Dealt.{items_or_error, hands_or_error, hands_reading}
 use Rattle.bus_table.specs.Fits.{items_fit}
 use Rattle.bus_table.specs.Tables.{Sender, Hand, Table}
 use Rattle.bus_table.specs.Hands.{message_of, items_of, hand_of, hands_of}

@@ -7,8 +7,8 @@ use Rattle.bus_strings.specs.Reading.{messages_reading}
 use Rattle.bus_table.specs.declared.error.TableError.{TableError}
 use Rattle.bus_table.specs.declared.error.TableError.TheVariants.{Text, Whole, Memory}
 use Rattle.bus_table.specs.declared.fit.FitError.{FitError}
-use Rattle.bus_table.specs.declared.hands_error.HandsError.{HandsError}
-use Rattle.bus_table.specs.declared.hands_error.HandsError.TheVariants.{Text as NotRead, Unfit as NotFit, Memory as NoRoom}
+use Rattle.bus_hands.specs.declared.error.HandsError.{HandsError}
+use Rattle.bus_hands.specs.declared.error.HandsError.TheVariants.{Text as NotRead, Unfit as NotFit, Memory as NoRoom}
 use Rattle.bus_table.specs.Tables.{Table, Hand}
 use Rattle.bus_table.specs.Fits.{items_fit}
 use Rattle.bus_table.specs.Hands.{hands_of}

@@ -10,9 +10,10 @@ ghost use Rattle.bus_trace.specs.Traces.{IsTrace};
 
 use crate::outcome::Outcome;
 use crate::refusal::Refusal;
+use bus_hands::read_hands;
 use bus_outer::{ReadError, Source, read_whole};
 use bus_strings::laws::texts_read_as_their_items;
-use bus_table::{Hand, Table, read_hands, read_table};
+use bus_table::{Hand, Table, read_table};
 use bus_trace::laws::traces_read_back;
 use bus_trace::{Trace, read_trace};
 use std::alloc::Global;

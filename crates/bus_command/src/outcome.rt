@@ -4,7 +4,8 @@ ghost use Rattle.bus_command.specs.Outcomes.{is_written, own_of, status_of};
 
 use crate::refusal::{Place, Refusal};
 use crate::status::Status;
-use bus_table::{FitError, HandsError, TableError, WholeReason};
+use bus_hands::HandsError;
+use bus_table::{FitError, TableError, WholeReason};
 use bus_text::Reason;
 use bus_trace::{TraceError, TraceReason};
 use std::alloc::AllocError;

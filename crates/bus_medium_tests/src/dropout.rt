@@ -6,8 +6,9 @@ ghost use Rattle.bus_dropout.specs.DropOut.{LastIsLong};
 
 use crate::shared::{starts_of, text_of};
 use bus_dropout::{drop_end, last_cycle, run_dropout};
+use bus_hands::{fits, hands};
 use bus_strings::read_messages;
-use bus_table::{Hand, Mode, Table, fits, hands, read_table};
+use bus_table::{Hand, Mode, Table, read_table};
 use std::alloc::{AllocError, Global};
 use std::process::Abort;
 use std::test::Fail;

@@ -1,7 +1,8 @@
 //! What is heard of senders on cables that they bear, on one that is too long by one bit time, and at the ends of a run.
 use bus_cable::{observe_on, read_cable, write_heard};
+use bus_hands::{fits, hands};
 use bus_outer::MemorySink;
-use bus_table::{fits, hands, read_table};
+use bus_table::read_table;
 use std::alloc::Global;
 use std::process::Abort;
 use std::test::Fail;

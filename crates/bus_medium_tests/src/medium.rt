@@ -3,10 +3,11 @@ ghost use Rattle.std.specs.Prelude.{IfOk, IsTrue};
 ghost use Rattle.bus_table.specs.Hands.{are_hands};
 
 use crate::shared::starts_of;
+use bus_hands::{fits, hands};
 use bus_medium::{Bus, OBSERVE_LIMIT, quiet, timing};
 use bus_strings::limits::HORIZON_LIMIT;
 use bus_strings::{is_on, read_messages};
-use bus_table::{Hand, Mode, SendLine, Sender, Table, fits, hands};
+use bus_table::{Hand, Mode, SendLine, Sender, Table};
 use bus_timers::{CounterCore, DeadlineCore, may_start};
 use bus_words::{Ext, Label};
 use std::alloc::{AllocError, Global};

@@ -4,11 +4,12 @@ ghost use Rattle.bus_propagation.specs.Numbered.{numbered};
 
 use crate::periodic_reach::{BY_SEVERAL, BY_SYNC};
 use crate::shared::{starts_of, text_of};
+use bus_hands::{fits, hands};
 use bus_medium::Bus;
 use bus_propagation::observe_delayed;
 use bus_strings::limits::HORIZON_LIMIT;
 use bus_strings::read_messages;
-use bus_table::{fits, hands, read_table};
+use bus_table::read_table;
 use bus_timers::DeadlineCore;
 use std::alloc::{AllocError, Global};
 use std::cmp::min;

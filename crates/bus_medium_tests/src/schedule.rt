@@ -3,10 +3,11 @@ ghost use Rattle.std.specs.Prelude.{IfOk, IsTrue};
 ghost use Rattle.bus_schedule.specs.Even.{are_even};
 
 use crate::shared::{starts_of, text_of};
+use bus_hands::{fits, hands};
 use bus_regime::verdict;
 use bus_schedule::{ScheduleError, closed, closed_end, find_uneven, run_settled};
 use bus_strings::read_messages;
-use bus_table::{Hand, Table, fits, hands, read_table};
+use bus_table::{Hand, Table, read_table};
 use bus_timers::DeadlineCore;
 use std::alloc::{AllocError, Global};
 use std::process::Abort;

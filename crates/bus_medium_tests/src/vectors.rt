@@ -1,5 +1,5 @@
 //! What is made is accepted, and the rows are there.
-use bus_table::fits;
+use bus_hands::fits;
 use bus_vectors::{make, make_hands, row};
 use std::test::Fail;
 

@@ -11,7 +11,7 @@ use Rattle.bus_table.specs.Hands.{message_of, items_of, hand_of, hands_of, are_h
 use Rattle.bus_table.specs.Tables.{SendLine, Sender, Table}
 use Rattle.bus_table.specs.Valid.{is_valid}
 use Rattle.bus_table.proofs.ValidLaws.{valid_facts}
-use Rattle.bus_table.specs.inside.Dealing.{is_fit}
+use Rattle.bus_table.specs.inside.Fitting.{is_fit}
 use Rattle.bus_table.proofs.HandLemmas.{each_fits}
 
 shape_matches : (sends : List SendLine) (strings : List (List ℕ)) → has_shape sends strings ≡ true → matches allows sends (message_of sends strings) ≡ true

@@ -19,7 +19,8 @@ use Rattle.bus_table.specs.declared.fit.FitError.TheVariants as FitErrors
 use Rattle.bus_table.specs.Fits.{has_shape, sender_of, shape_fit, fit_from}
 use Rattle.bus_table.specs.Hands.{message_of, items_of, hand_of}
 use Rattle.bus_table.specs.Tables.{Sender, Hand}
-use Rattle.bus_table.specs.inside.Dealing.{is_fit, with_message}
+use Rattle.bus_table.specs.inside.Fitting.{is_fit}
+use Rattle.bus_table.specs.Hands.{with_message}
 
 abbrev Done : Result (Unit {0}) FitError → Type 0
 Done r = IsOk r

@@ -20,7 +20,6 @@ pub mod TurnedLemmas
 pub mod FitLemmas
 pub mod NewLemmas
 pub mod HandLemmas
-mod DealLemmas
 pub mod HandFits
 pub mod OffsetLemmas
 pub mod CanonicalLemmas

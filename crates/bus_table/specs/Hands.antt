@@ -37,3 +37,7 @@ are_hands (sender ∷ senders) (hand ∷ hands) =
 -- The hands that items give are those of the table's senders, and each message fits.
 abbrev pub GiveHands : Table → List Item → Type 0
 GiveHands table items = IsTrue (are_hands table.senders (hands_of table items))
+
+-- A hand with one more message behind the others.
+abbrev pub with_message : Hand → Message → Hand
+with_message hand message = record hand { messages = hand.messages ++ message ∷ [] }

@@ -7,7 +7,6 @@ pub mod Valid
 pub mod Lengths
 pub mod Fits
 pub mod Hands
-pub mod Dealt
 pub mod Heads
 pub mod Forms
 pub mod Text

@@ -1,6 +1,6 @@
 //! What a terminal has to send.
 ghost use Rattle.std.specs.Prelude.{◌≡◌, OnOk};
-ghost use Rattle.bus_table.specs.inside.Dealing.{with_message};
+ghost use Rattle.bus_table.specs.Hands.{with_message};
 
 use bus_strings::Message;
 use std::alloc::AllocError;
@@ -24,8 +24,8 @@ impl Model for Hand {
 }
 
 impl Hand {
-    /// Adds a message behind the others.
-    pub(crate) fn push(&mut self, message: Message) -> Result<(), AllocError>
+    /// Adds a message behind the others. Fails only where memory runs out.
+    pub fn push(&mut self, message: Message) -> Result<(), AllocError>
         ensures { OnOk result (self.new ≡ with_message self.old message) }
     {
         self.messages.push(message)?;

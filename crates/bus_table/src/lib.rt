@@ -7,8 +7,7 @@
 //! - [`shortest`] and [`longest`] tell the lengths of a sender's messages, [`place`] who speaks after whom, [`greatest_gap`] the greatest
 //!   terminal gap.
 //! - [`with_offsets`] gives the senders of a periodic table other offsets, and [`as_periodic`] makes a periodic table of an aperiodic one.
-//! - [`fits`] holds the items of a messages text to the lines of their senders, and [`hands`] deals them out.
-//!   [`read_hands`] does both as it reads such a text.
+//! - [`message_fits`] holds a message to the lines of its sender. A [`Hand`] is what a terminal has to send; bus_hands deals items out.
 //!
 //! The gaps and intervals of a bus, and that each terminal has a gap of its own which is shorter than the
 //! synchronization gap, are facts of ARINC 629. All ranges, the lines, the text and the order of reasons are this
@@ -17,19 +16,16 @@
 //! The definitions are in `specs/`: `Tables` (a table as plain numbers and lists), `Ranges`, `Whole` and `Valid` (which
 //! tables are valid), `Text` (which texts stand for which tables), `Forms`, `Drafts` and `Reading` (what a text reads as,
 //! line by line, and where and why it is refused), `Canonical` (the text that is written), `Lengths`, `Turns`, `Offsets`,
-//! `Periodic`, `Fits`, `Hands` and `Dealt`. What callers may use of them beside the contracts are the `pub` modules of `proofs/`, and what
+//! `Periodic`, `Fits` and `Hands`. What callers may use of them beside the contracts are the `pub` modules of `proofs/`, and what
 //! they state in `specs/inside/Facts`.
 #![tactic(auto)]
 
-mod dealing;
 mod draft;
 mod error;
 mod fit;
 mod forms;
 mod gaps;
 mod hand;
-mod hand_reading;
-mod hands_error;
 mod head;
 mod keyword;
 pub mod laws;
@@ -39,7 +35,6 @@ mod listener;
 mod mode;
 mod offsets;
 mod periodic;
-mod places;
 pub mod ranges;
 mod reading;
 mod saying;
@@ -51,13 +46,10 @@ mod turns;
 mod whole;
 mod writing;
 
-pub use dealing::{hands, place_of};
 pub use error::{TableError, WholeReason};
-pub use fit::{FitError, fits, message_fits, sender_of};
+pub use fit::{FitError, allows, message_fits, place_of, sender_of};
 pub use gaps::greatest_gap;
 pub use hand::Hand;
-pub use hand_reading::read_hands;
-pub use hands_error::HandsError;
 pub use keyword::Keyword;
 pub use lengths::{longest, shortest};
 pub use line::{SendLine, TakeLine};

@@ -1,9 +1,7 @@
 //! The hands that items give, and items that don't fit.
+use bus_hands::{HandsError, fits, hands, read_hands};
 use bus_strings::read_messages;
-use bus_table::{
-    FitError, HandsError, Listener, Mode, SendLine, Sender, Table, TakeLine, fits, hands,
-    read_hands, read_table,
-};
+use bus_table::{FitError, Listener, Mode, SendLine, Sender, Table, TakeLine, read_table};
 use bus_text::Reason;
 use bus_words::{Ext, Label};
 use std::test::Fail;

@@ -21,9 +21,10 @@ ghost use Rattle.bus_tool.specs.inside.TakenCable.{IsUndealt, IsWired, IsTakenOn
 use crate::refusal::{Outcome, ToolRefusal, refuse};
 use bus_cable::{Cable, CableError, read_cable};
 use bus_command::{Dealt, TEXT_LIMIT, Traced, take_hands, take_table, take_text};
+use bus_hands::{fits, hands};
 use bus_outer::Source;
 use bus_strings::Payloads;
-use bus_table::{FitError, Hand, Mode, Table, fits, hands};
+use bus_table::{FitError, Hand, Mode, Table};
 use bus_trace::Trace;
 use bus_wave::{WaveError, read_wave};
 use std::alloc::Global;

@@ -31,7 +31,7 @@ pub fn make(alloc: Global, number: u32) -> Result<(Table, Payloads), AllocError>
     Ok((table, items))
 }
 
-/// The table that a number of at most 9999 makes, and the hands that `bus_table::hands` gives of its items, which aren't made for that.
+/// The table that a number of at most 9999 makes, and the hands that `bus_hands::hands` gives of its items, which aren't made for that.
 /// Fails only where memory runs out.
 pub fn make_hands(alloc: Global, number: u32) -> Result<(Table, Vec<Hand>), AllocError>
     requires { number ≤ most_number }
