@@ -49,7 +49,7 @@ use Rattle.bus_command.specs.declared.outcome.Outcome.TheVariants.{Done}
 use Rattle.bus_command.proofs.DoLaws.{Agrees}
 use Rattle.bus_command.proofs.FewHands.{AreFew}
 use Rattle.bus_tool.specs.Due.{cable_answer}
-use Rattle.bus_wave.specs.Counted.{hand_holds}
+use Rattle.bus_hands.specs.Holds.{hand_holds}
 use Rattle.bus_tool.specs.Texts.{IsCableAnswerText, IsOnCableText, on_cable_text}
 use Rattle.bus_tool.proofs.HoldLemmas.{holds_ascend, holds_ranged}
 use Rattle.bus_tool.proofs.TraceLemmas.{below}

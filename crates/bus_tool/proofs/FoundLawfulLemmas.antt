@@ -6,7 +6,7 @@ use Rattle.bus_medium.specs.Timings.{quiet_of, stations_of}
 use Rattle.bus_table.specs.Hands.{hands_of}
 use Rattle.bus_audit.specs.Observed.{ObservedIsRight}
 use Rattle.bus_audit.proofs.Observed.{states_hands}
-use Rattle.bus_wave.specs.Counted.{hold_of_hand}
+use Rattle.bus_hands.specs.Holds.{hold_of_hand}
 use Rattle.bus_tool.specs.TextLaws.{SendersHaveHolds, ObservedIsFoundLawful, RunIsFoundLawful, DropIsFoundLawful}
 use Rattle.bus_command.proofs.LawTypes.{FittingItemsGiveHands}
 

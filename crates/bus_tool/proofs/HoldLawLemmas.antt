@@ -14,8 +14,8 @@ use Rattle.bus_table.proofs.ValidLaws.{valid_facts}
 use Rattle.bus_table.specs.inside.Orders.{Differ}
 use Rattle.bus_table.proofs.TurnLaws.{of_each, numbers_differ}
 use Rattle.bus_trace.specs.declared.hold.Hold.{Hold}
-use Rattle.bus_wave.specs.Counted.{hand_hold, hand_holds}
-use Rattle.bus_wave.specs.Counted.{hold_of_hand}
+use Rattle.bus_hands.specs.Holds.{hand_hold, hand_holds}
+use Rattle.bus_hands.specs.Holds.{hold_of_hand}
 use Rattle.bus_tool.specs.TextLaws.{SendersHaveHolds}
 use Rattle.bus_tool.proofs.HoldLemmas.{holds_ascend}
 

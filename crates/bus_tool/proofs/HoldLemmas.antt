@@ -9,8 +9,8 @@ use Rattle.bus_trace.specs.Traces.{AscendAbove, IsHold}
 use Rattle.bus_trace.proofs.HoldLists.{ascend_from, ranged_from}
 use Rattle.bus_trace.specs.Limits.{most_count}
 use Rattle.bus_command.proofs.FewHands.{AreFew}
-use Rattle.bus_wave.specs.Counted.{hand_hold, hand_holds}
-use Rattle.bus_wave.specs.Counted.{hold_of_hand}
+use Rattle.bus_hands.specs.Holds.{hand_hold, hand_holds}
+use Rattle.bus_hands.specs.Holds.{hold_of_hand}
 
 -- a hold is of its number
 numbered : (hands : List Hand) (n : ℕ) → IfSome (hand_hold hands n) (λ hold. hold.terminal ≡ n)

@@ -22,7 +22,7 @@ use Rattle.bus_trace.specs.declared.hold.Hold.{Hold}
 use Rattle.bus_command.specs.Stages.{Gives}
 use Rattle.bus_command.proofs.FewHands.{AreFew}
 use Rattle.bus_tool.specs.Due.{short_due, may_run, can_run}
-use Rattle.bus_wave.specs.Counted.{hand_holds}
+use Rattle.bus_hands.specs.Holds.{hand_holds}
 use Rattle.bus_tool.specs.Texts.{IsRunRecording, run_text}
 use Rattle.bus_tool.proofs.AnswerLaws.{short_end}
 use Rattle.bus_tool.proofs.TraceLemmas.{observed_is_trace}

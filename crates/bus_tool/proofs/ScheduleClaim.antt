@@ -24,7 +24,7 @@ use Rattle.bus_schedule.specs.Uneven.{uneven_of}
 use Rattle.bus_schedule.proofs.EvenLemmas.{EvenHandAt, even_hand_at, sender_at}
 use Rattle.bus_schedule.proofs.HandLemmas.{own_fit}
 use Rattle.bus_trace.specs.Traces.{IsTrace}
-use Rattle.bus_wave.specs.Counted.{hand_holds}
+use Rattle.bus_hands.specs.Holds.{hand_holds}
 use Rattle.bus_command.specs.Claims.{Answers}
 use Rattle.bus_command.specs.Due.{outcome_with}
 use Rattle.bus_command.specs.Kinds.{kind_of}

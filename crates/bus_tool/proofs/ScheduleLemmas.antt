@@ -19,7 +19,7 @@ use Rattle.bus_trace.specs.declared.hold.Hold.{Hold}
 use Rattle.bus_command.specs.Stages.{Gives}
 use Rattle.bus_command.proofs.FewHands.{AreFew}
 use Rattle.bus_tool.specs.Due.{even_due, short_due, can_schedule}
-use Rattle.bus_wave.specs.Counted.{hand_holds}
+use Rattle.bus_hands.specs.Holds.{hand_holds}
 use Rattle.bus_tool.specs.Texts.{scheduled}
 use Rattle.bus_tool.proofs.AnswerLaws.{short_end}
 use Rattle.bus_tool.proofs.TraceLemmas.{ascending_is_trace}

@@ -40,7 +40,7 @@ use Rattle.bus_tool.specs.Diagnosing.{beside_answer, beside_due, beside_told, Is
 use Rattle.bus_facts.specs.Facts.{facts_text}
 use Rattle.bus_tool.specs.Forms.{Form, OnTable, OnMessages, OnTrace, Unwave, Drill, OnItself, Explain, ExplainBeside, Facts, Cable, MessagesCommand, Observe, Run, Drop, Schedule, form_of, table_mode, messages_mode}
 use Rattle.bus_tool.specs.Refusals.{Outcome, ToolRefusal}
-use Rattle.bus_wave.specs.Counted.{hand_holds}
+use Rattle.bus_hands.specs.Holds.{hand_holds}
 use Rattle.bus_tool.specs.Texts.{IsObserved, IsRunRecording, IsDropRecording, IsInputsText, IsTableAnswerText, IsTracedText, IsUnwavedText, IsExplanation, AreFacts}
 use Rattle.bus_tool.specs.Texts.{table_answer_text, trace_answer_text, run_text, scheduled, IsFormText, IsTextFor}
 use Rattle.bus_tool.specs.TextLaws.{OneCommandText, AnswersHaveTexts}

@@ -10,7 +10,7 @@ use Rattle.bus_medium.specs.Timings.{quiet_of, stations_of}
 use Rattle.bus_trace.specs.declared.hold.Hold.{Hold}
 use Rattle.bus_trace.specs.Traces.{Recording, AscendAbove, IsHold, IsBelow, IsTrace}
 use Rattle.bus_strings.specs.Limits.{horizon_limit}
-use Rattle.bus_wave.specs.Counted.{hand_holds}
+use Rattle.bus_hands.specs.Holds.{hand_holds}
 use Rattle.bus_strings.specs.Transmissions.{IsByMoment, IsAscending, IsTransmission}
 use Rattle.bus_strings.proofs.OverlapLemmas.{behind_by_moment}
 use Rattle.bus_command.proofs.FewHands.{AreFew}

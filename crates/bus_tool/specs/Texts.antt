@@ -23,7 +23,7 @@ use Rattle.bus_audit.specs.Lines.{answer_line}
 use Rattle.bus_filter.specs.ReceivedTexts.{received_text}
 use Rattle.bus_trace.specs.Traces.{Recording, trace_text}
 use Rattle.bus_vote.specs.VoteTexts.{votes_text}
-use Rattle.bus_wave.specs.Counted.{hand_holds}
+use Rattle.bus_hands.specs.Holds.{hand_holds}
 use Rattle.bus_wave.specs.WaveTexts.{wave_text}
 use Rattle.bus_command.specs.declared.inputs.Traced.{Traced}
 use Rattle.bus_command.specs.Due.{Inputs, hands_in, inputs_by, text_due, traced_due, IsTextOf}

@@ -3,7 +3,7 @@ ghost use Rattle.std.specs.Prelude.{◌≡◌, ◌==◌, ◌≤◌, find, length
 ghost use Rattle.std.specs.List.{AllByRecursion};
 ghost use Rattle.std.specs.Option.{option_copied};
 ghost use Rattle.bus_command.specs.Readers.{text_limit};
-ghost use Rattle.bus_wave.specs.Counted.{hand_hold, hand_holds, hold_of_hand};
+ghost use Rattle.bus_hands.specs.Holds.{hand_hold, hand_holds, hold_of_hand};
 
 use bus_strings::limits::MOST_TERMINAL;
 use bus_table::Hand;
@@ -40,7 +40,7 @@ fn hold_at(hands: &[Hand], number: u8) -> Option<Hold>
 }
 
 /// How many messages each terminal holds, by rising number.
-#[tactic(auto, unfolding(bus_wave::specs::Counted::hand_holds))]
+#[tactic(auto, unfolding(bus_hands::specs::Holds::hand_holds))]
 pub fn holds(alloc: Global, hands: &[Hand]) -> Result<Vec<Hold>, AllocError>
     requires { AllByRecursion (λ hand. length hand.messages ≤ text_limit) hands.now }
     ensures { IfOk result (λ holds. holds.items ≡ hand_holds hands.now) }

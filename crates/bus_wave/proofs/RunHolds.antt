@@ -21,7 +21,8 @@ use Rattle.bus_table.proofs.ValidLaws.{valid_facts}
 use Rattle.bus_schedule.specs.Closed.{sends, turns, origin, offset_turns, in_rounds, schedule_in, closed}
 use Rattle.bus_schedule.specs.Even.{messages_of, rounds, are_even}
 use Rattle.bus_trace.specs.declared.hold.Hold.{Hold}
-use Rattle.bus_wave.specs.Counted.{entries_of, hold_at, holds_of, hand_hold, hand_holds}
+use Rattle.bus_hands.specs.Holds.{hand_hold, hand_holds}
+use Rattle.bus_wave.specs.Counted.{entries_of, hold_at, holds_of}
 use Rattle.bus_wave.specs.WaveLaws.{RunsAreSpaced, RunsAreWaveTraces}
 
 -- ---- how many senders of some have a number

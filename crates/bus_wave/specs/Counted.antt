@@ -1,10 +1,9 @@
 -- The holds of a trace that is read from a wave: one for each sender, with the number of its entries.
-use Rattle.std.specs.Prelude.{ℕ, ◌==◌, is_some, List, length, count_by, Option, Some, None, if◌then◌else◌}
-use Rattle.std.specs.List.{find, filter_map, range_with_len}
-use Rattle.std.specs.Option.{option_map}
+use Rattle.std.specs.Prelude.{ℕ, ◌==◌, is_some, List, count_by, Option, Some, None, if◌then◌else◌}
+use Rattle.std.specs.List.{filter_map, range_with_len}
 use Rattle.bus_strings.specs.Limits.{most_terminal}
 use Rattle.bus_strings.specs.Messages.{Entry}
-use Rattle.bus_table.specs.Tables.{Sender, Table, Hand}
+use Rattle.bus_table.specs.Tables.{Sender, Table}
 use Rattle.bus_table.specs.Fits.{sender_of}
 use Rattle.bus_trace.specs.declared.hold.Hold.{Hold}
 
@@ -23,15 +22,3 @@ hold_at senders list number = hold_of senders number (entries_of list number)
 -- The holds of the senders of a table, by rising number.
 unfoldable pub holds_of : Table → List Entry → List Hold
 holds_of table list = filter_map (hold_at table.senders list) (range_with_len 1 most_terminal)
-
--- The number of a hand's terminal and how many messages it has.
-abbrev pub hold_of_hand : Hand → Hold
-hold_of_hand hand = record { terminal = hand.terminal; count = length hand.messages }
-
--- The hold of the hand of the terminal with a number, where there is one.
-abbrev pub hand_hold : List Hand → ℕ → Option Hold
-hand_hold hands number = option_map hold_of_hand (find (λ hand. hand.terminal == number) hands)
-
--- The holds of hands, by rising number.
-unfoldable pub hand_holds : List Hand → List Hold
-hand_holds hands = filter_map (hand_hold hands) (range_with_len 1 most_terminal)

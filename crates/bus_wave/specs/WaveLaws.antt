@@ -7,7 +7,8 @@ use Rattle.bus_schedule.specs.Closed.{closed, closed_end}
 use Rattle.bus_schedule.specs.Even.{are_even}
 use Rattle.bus_trace.specs.Traces.{Recording, IsTrace}
 use Rattle.bus_wave.specs.declared.fault.WaveFault.{WaveFault}
-use Rattle.bus_wave.specs.Counted.{holds_of, hand_holds}
+use Rattle.bus_hands.specs.Holds.{hand_holds}
+use Rattle.bus_wave.specs.Counted.{holds_of}
 use Rattle.bus_wave.specs.Reading.{wave_reading}
 use Rattle.bus_wave.specs.Spacing.{IsSpaced, spaced_of}
 use Rattle.bus_wave.specs.Waves.{wave}

@@ -3,7 +3,7 @@ use Rattle.std.specs.List.{AllByRecursion}
 use Rattle.bus_dropout.specs.DropOut.{drop_end}
 use Rattle.bus_strings.specs.Transmissions.{IsTransmission}
 use Rattle.bus_tool.specs.Due.{may_drop}
-use Rattle.bus_wave.specs.Counted.{hand_holds}
+use Rattle.bus_hands.specs.Holds.{hand_holds}
 use Rattle.bus_tool.proofs.DropLemmas.{drop_is_trace, drop_gives}
 use Rattle.bus_tool.proofs.dropout.record.Goals as goal
 

@@ -1,7 +1,7 @@
 use Rattle.std.proofs.Common.{ap, ◌∙◌, subst}
 use Rattle.std.specs.List.{AllByRecursion}
 use Rattle.bus_strings.specs.Transmissions.{IsTransmission}
-use Rattle.bus_wave.specs.Counted.{hand_holds}
+use Rattle.bus_hands.specs.Holds.{hand_holds}
 use Rattle.bus_tool.proofs.CableLemmas.{on_cable_is_trace}
 use Rattle.bus_tool.proofs.on_cable.record.Goals as goal
 
