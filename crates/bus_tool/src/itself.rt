@@ -2,17 +2,14 @@
 ghost use Rattle.std.specs.Prelude.{◌≡◌, ◌≢◌};
 ghost use Rattle.bus_command.specs.About.{EndsTelling};
 ghost use Rattle.bus_command.specs.declared.outcome.Outcome.TheVariants.{NoMemory};
-ghost use Rattle.bus_tool.specs.Itself.{help_text, itself_text, version_text};
+ghost use Rattle.bus_tool.specs.Itself.{itself_text};
 
 use crate::refusal::Outcome;
 use bus_command::{About, tell};
 use bus_outer::Sink;
 
 /// The help, which `docs/bus629.help` has too.
-fn help() -> &'static [u8]
-    ensures { result.now ≡ help_text }
-{
-    b"bus629 checks tables for buses after ARINC 629 (Basic Protocol), runs and observes such buses, tells
+pub const HELP: &[u8] = b"bus629 checks tables for buses after ARINC 629 (Basic Protocol), runs and observes such buses, tells
 what each terminal receives, and audits recorded traces. What it says is proved.
 
   bus629 check T          judge the table in the file T
@@ -69,23 +66,19 @@ and a no, and a fault that diagnose finds.
 
 docs/BUS.md has the rules of the bus, docs/FORMATS.md the texts, lines and statuses, docs/CLAIMS.md
 what is proved; examples/ has tables to try.
-"
-}
+";
 
-/// The version line.
-fn version() -> &'static [u8]
-    ensures { result.now ≡ version_text }
-{
-    b"bus629 1.0.0 (TABLE 1, MESSAGES 1, TRACE 1 and 2, WAVE 1, CABLE 1)\n"
-}
+/// The version of the program, and those of the texts that it reads and writes.
+pub const VERSION: &[u8] = b"bus629 1.0.0 (TABLE 1, MESSAGES 1, TRACE 1 and 2, WAVE 1, CABLE 1)\n";
 
 /// What is asked of the program itself.
+#[tactic(auto, unfolding(crate::specs::Itself::help_text, crate::specs::Itself::version_text))]
 fn text_of(about: About) -> &'static [u8]
     ensures { result.now ≡ itself_text about }
 {
     match about {
-        About::Help => help(),
-        About::Version => version(),
+        About::Help => HELP,
+        About::Version => VERSION,
     }
 }
 

@@ -2,17 +2,14 @@
 ghost use Rattle.std.specs.Prelude.{◌≡◌, ◌≢◌};
 ghost use Rattle.bus_command.specs.About.{EndsTelling};
 ghost use Rattle.bus_command.specs.declared.outcome.Outcome.TheVariants.{NoMemory};
-ghost use Rattle.bus_view.specs.Itself.{help_text, itself_text, version_text};
+ghost use Rattle.bus_view.specs.Itself.{itself_text};
 
 use crate::refusal::Outcome;
 use bus_command::{About, tell};
 use bus_outer::Sink;
 
 /// The help, which `docs/bus629-view.help` has too.
-fn help() -> &'static [u8]
-    ensures { result.now ≡ help_text }
-{
-    b"bus629-view shows recorded traces of buses after ARINC 629 (Basic Protocol). It writes them as Value
+pub const HELP: &[u8] = b"bus629-view shows recorded traces of buses after ARINC 629 (Basic Protocol). It writes them as Value
 Change Dumps (IEEE 1364), which wave viewers such as GTKWave read (sigrok and PulseView only wires),
 and as SVG pictures, which browsers show. What it writes is proved.
 
@@ -44,23 +41,19 @@ refused, and 8 for a file past its limit. A line on standard error says why from
 
 docs/FORMATS.md has the signals, the texts, lines and statuses, docs/CLAIMS.md what is proved;
 examples/ has a table and a trace to try.
-"
-}
+";
 
-/// The version line.
-fn version() -> &'static [u8]
-    ensures { result.now ≡ version_text }
-{
-    b"bus629-view 1.0.0 (TABLE 1, TRACE 1 and 2)\n"
-}
+/// The version of the program, and those of the texts that it reads and writes.
+pub const VERSION: &[u8] = b"bus629-view 1.0.0 (TABLE 1, TRACE 1 and 2)\n";
 
 /// What is asked of the program itself.
+#[tactic(auto, unfolding(crate::specs::Itself::help_text, crate::specs::Itself::version_text))]
 fn text_of(about: About) -> &'static [u8]
     ensures { result.now ≡ itself_text about }
 {
     match about {
-        About::Help => help(),
-        About::Version => version(),
+        About::Help => HELP,
+        About::Version => VERSION,
     }
 }
 

@@ -1,7 +1,0 @@
-use Rattle.std.proofs.Common.{refl}
-use Rattle.bus_tool.specs.Itself.{help_text}
-use Rattle.bus_tool.proofs.itself.help.Goals as goal
-
-pub returns : goal.returns
-unfolding help_text
-returns c = refl
