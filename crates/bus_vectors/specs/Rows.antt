@@ -1,7 +1,9 @@
 -- The stored rows: commands with their texts, and all that comes of them.
-use Rattle.std.specs.Prelude.{ℕ, Bool, nat_eq, List, [], ◌∷◌, map, codes, ◌++◌, Option, Some, None, if◌then◌else◌}
+use Rattle.std.specs.Prelude.{ℕ, Bool, nat_eq, List, [], ◌∷◌, map, codes, Option, Some, None, if◌then◌else◌}
 use Rattle.std.specs.List.{list_any}
 use Rattle.bus_vectors.specs.declared.rows.StoredRow.{StoredRow}
+use Rattle.bus_vectors.specs.declared.texts.TheConstants.{TWO_SENDERS, SHORT_GAP, TWO_OFFSETS, SMALL_GAP, NO_SYNC, RECEIVERS}
+use Rattle.bus_vectors.specs.declared.texts.TheConstants.{NO_MESSAGES, ONE_EACH, SILENT_RUN, RUN, REPORT}
 
 -- The numbers of the rows that are stored.
 abbrev pub row_numbers : List ℕ
@@ -34,66 +36,47 @@ row_in row = record {
 -- ---- the texts
 -- Two aperiodic senders whose shortest cycle is longer than the transmit interval.
 unfoldable pub two_senders : List ℕ
-two_senders =
-    codes "TABLE 1\nMODE aperiodic\nTI 1000\nSG 300\nSENDER 1 TG 20\nSEND 0A1 1 2 4\nSENDER 2 TG 30\nSEND 0B2 1 30 40\n"
+two_senders = TWO_SENDERS.now
 
 -- The same, but with a synchronization gap as long as the second terminal gap.
 unfoldable pub short_gap : List ℕ
-short_gap =
-    codes "TABLE 1\nMODE aperiodic\nTI 1000\nSG 30\nSENDER 1 TG 20\nSEND 0A1 1 2 4\nSENDER 2 TG 30\nSEND 0B2 1 30 40\n"
+short_gap = SHORT_GAP.now
 
 -- Two periodic senders, whose gaps are 1290 and 30.
 unfoldable pub two_offsets : List ℕ
-two_offsets =
-    codes "TABLE 1\nMODE periodic\nTI 2000\nSG 300\nSENDER 1 TG 20 AT 0\nSEND 0A1 1 2 2\nSENDER 2 TG 30 AT 90\n"
-    ++ codes "SEND 0B2 1 30 30\n"
+two_offsets = TWO_OFFSETS.now
 
 -- The same, but the second begins one bit time too early.
 unfoldable pub small_gap : List ℕ
-small_gap =
-    codes "TABLE 1\nMODE periodic\nTI 2000\nSG 300\nSENDER 1 TG 20 AT 0\nSEND 0A1 1 2 2\nSENDER 2 TG 30 AT 89\n"
-    ++ codes "SEND 0B2 1 30 30\n"
+small_gap = SMALL_GAP.now
 
 -- The same as the two, but with an interval that leaves the first one bit time too few to synchronize.
 unfoldable pub no_sync : List ℕ
-no_sync =
-    codes "TABLE 1\nMODE periodic\nTI 1029\nSG 300\nSENDER 1 TG 20 AT 0\nSEND 0A1 1 2 2\nSENDER 2 TG 30 AT 90\n"
-    ++ codes "SEND 0B2 1 30 30\n"
+no_sync = NO_SYNC.now
 
 -- Two aperiodic senders, of which the second takes from the first, and a listener that takes from the second.
 unfoldable pub receivers : List ℕ
-receivers =
-    codes "TABLE 1\nMODE aperiodic\nTI 1000\nSG 1000\nSENDER 1 TG 20\nSEND 0A1 1 2 2\nSENDER 2 TG 30\nSEND 0B2 1 0 2\n"
-    ++ codes "TAKE 0A1 * 1 4\nLISTENER 3\nTAKE 0B2 1 0 2\n"
+receivers = RECEIVERS.now
 
 -- No messages.
 unfoldable pub no_messages : List ℕ
-no_messages =
-    codes "MESSAGES 1\n"
+no_messages = NO_MESSAGES.now
 
 -- One message of each sender.
 unfoldable pub one_each : List ℕ
-one_each =
-    codes "MESSAGES 1\nMSG 1 : 0000 0001\nMSG 2 : 00FF\n"
+one_each = ONE_EACH.now
 
 -- What `run` writes of the receivers without messages.
 unfoldable pub silent_run : List ℕ
-silent_run =
-    codes "TRACE 2\nHORIZON 0\nHOLD 1 0\nHOLD 2 0\nEND\nRECEIVED 1\nTERMINAL 1\nTERMINAL 2\nTERMINAL 3\nEND\n"
+silent_run = SILENT_RUN.now
 
 -- What `run` writes of the receivers with one message of each sender.
 unfoldable pub run : List ℕ
-run =
-    codes "TRACE 2\nHORIZON 150\nHOLD 1 1\nHOLD 2 1\nTX 20 1\nWS L0A111 D00001 D00010\nTE 80 -\nTX 110 2\n"
-    ++ codes "WS L0B210 D00FF1\nTE 150 -\nEND\nRECEIVED 1\nTERMINAL 1\nTERMINAL 2\nRX 20 0A1 1 0001\nTERMINAL 3\n"
-    ++ codes "RX 110 0B2 1 00FF\nEND\n"
+run = RUN.now
 
 -- What `report` writes of the two aperiodic senders.
 unfoldable pub report : List ℕ
-report =
-    codes "{\"line\":\"ACCEPT aperiodic 1030 1270\",\"mode\":\"aperiodic\",\"senders\":["
-    ++ codes "{\"at\":0,\"longest\":100,\"number\":1,\"shortest\":60,\"tg\":20},"
-    ++ codes "{\"at\":0,\"longest\":820,\"number\":2,\"shortest\":620,\"tg\":30}],\"sg\":300,\"ti\":1000}\n"
+report = REPORT.now
 
 -- ---- the rows
 -- A row of `check`, which has one line on standard output.
