@@ -1,5 +1,5 @@
 -- The hands that items give.
-use Rattle.std.specs.Prelude.{ℕ, Bool, true, false, IsTrue, ◌&&◌, ◌==◌, List, [], ◌∷◌, map}
+use Rattle.std.specs.Prelude.{ℕ, Bool, true, false, IsTrue, ◌&&◌, ◌==◌, List, [], ◌∷◌, ◌++◌, map}
 use Rattle.std.specs.List.{filter, list_all}
 use Rattle.bus_strings.specs.Items.{Item}
 use Rattle.bus_strings.specs.Messages.{Message}
