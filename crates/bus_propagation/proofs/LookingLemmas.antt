@@ -6,26 +6,26 @@ use Rattle.bus_strings.specs.Messages.{Entry}
 use Rattle.bus_medium.specs.Lawful.{Station}
 use Rattle.bus_medium.specs.Delays.{Delays, heard_end}
 use Rattle.bus_medium.specs.Wakes.{Wakes}
-use Rattle.bus_propagation.specs.declared.ear.Ear.{Ear}
+use Rattle.bus_propagation.specs.declared.timers.Timers.{Timers}
 use Rattle.bus_propagation.specs.inside.Arrivals.{heard_begin, ComesFirst, NoneComes}
 use Rattle.bus_propagation.specs.inside.Hearing.{Hears, RestsUntil, IsNextStart, HaveWords, gap_after, ready_moment}
 use Rattle.bus_propagation.proofs.HearingLemmas.{hears_behind, rests_through, next_start, ComeFrom}
 
 -- these are the timers after what it has heard
-abbrev pub HearsAs : Delays → Wakes → Station → List Entry → Ear → Type 0
-HearsAs delay wake s list ear = Hears delay wake s list ear.moment ear.due ear.gap_from
+abbrev pub HearsAs : Delays → Wakes → Station → List Entry → Timers → Type 0
+HearsAs delay wake s list timers = Hears delay wake s list timers.moment timers.due timers.gap_from
 
--- from the timers `ear` it has looked on to those ahead
-pub record Looking (delay : Delays) (s : Station) (list : List Entry) (moment : ℕ) (ear certain ahead : Ear) : Type 0 where
-  pub kept : (wake : Wakes) → HearsAs delay wake s list ear → HearsAs delay wake s list certain
-  pub on : (wake : Wakes) → HearsAs delay wake s list ear → HearsAs delay wake s list ahead
-  pub rests : (wake : Wakes) → HearsAs delay wake s list ear → RestsUntil delay wake s list ear.moment ahead.moment
-  pub low : ear.moment ≤ certain.moment
+-- from the timers `timers` it has looked on to those ahead
+pub record Looking (delay : Delays) (s : Station) (list : List Entry) (moment : ℕ) (timers certain ahead : Timers) : Type 0 where
+  pub kept : (wake : Wakes) → HearsAs delay wake s list timers → HearsAs delay wake s list certain
+  pub on : (wake : Wakes) → HearsAs delay wake s list timers → HearsAs delay wake s list ahead
+  pub rests : (wake : Wakes) → HearsAs delay wake s list timers → RestsUntil delay wake s list timers.moment ahead.moment
+  pub low : timers.moment ≤ certain.moment
   pub order : certain.moment ≤ ahead.moment
-  pub sure : (certain.moment ≡ ear.moment) ⊎ (certain.moment ≤ moment)
+  pub sure : (certain.moment ≡ timers.moment) ⊎ (certain.moment ≤ moment)
 
-pub looking_none : (delay : Delays) (s : Station) (list : List Entry) (moment : ℕ) (ear : Ear) → Looking delay s list moment ear ear ear
-looking_none delay s list moment ear = record {
+pub looking_none : (delay : Delays) (s : Station) (list : List Entry) (moment : ℕ) (timers : Timers) → Looking delay s list moment timers timers timers
+looking_none delay s list moment timers = record {
   kept = λ wake h. h;
   on = λ wake h. h;
   rests = λ wake h m low high begun due. omega arith;
@@ -34,26 +34,26 @@ looking_none delay s list moment ear = record {
   sure = inl refl;
 }
 
-hears_as : (delay : Delays) (wake : Wakes) (s : Station) (list : List Entry) (ear : Ear) (v D G : ℕ) → ear.moment ≡ v → ear.due ≡ D → ear.gap_from ≡ G → Hears delay wake s list v D G → HearsAs delay wake s list ear
-hears_as delay wake s list ear v D G a b c h =
-    subst (λ x. Hears delay wake s list x ear.due ear.gap_from) (sym a) (subst (λ x. Hears delay wake s list v x ear.gap_from) (sym b) (subst (λ x. Hears delay wake s list v D x) (sym c) h))
+hears_as : (delay : Delays) (wake : Wakes) (s : Station) (list : List Entry) (timers : Timers) (v D G : ℕ) → timers.moment ≡ v → timers.due ≡ D → timers.gap_from ≡ G → Hears delay wake s list v D G → HearsAs delay wake s list timers
+hears_as delay wake s list timers v D G a b c h =
+    subst (λ x. Hears delay wake s list x timers.due timers.gap_from) (sym a) (subst (λ x. Hears delay wake s list v x timers.gap_from) (sym b) (subst (λ x. Hears delay wake s list v D x) (sym c) h))
 
 -- over an arrival before which it isn't ready
-pub looked_on : (delay : Delays) (s : Station) (list : List Entry) (moment : ℕ) (ear certain ahead next kept : Ear) (b e : ℕ) → IsSound s.timing → HaveWords list
-    → Looking delay s list moment ear certain ahead → ComesFirst delay s.number list ahead.moment b e → b < ready_moment s.timing ahead.due ahead.gap_from
+pub looked_on : (delay : Delays) (s : Station) (list : List Entry) (moment : ℕ) (timers certain ahead next kept : Timers) (b e : ℕ) → IsSound s.timing → HaveWords list
+    → Looking delay s list moment timers certain ahead → ComesFirst delay s.number list ahead.moment b e → b < ready_moment s.timing ahead.due ahead.gap_from
     → next.moment ≡ e → next.due ≡ ahead.due → next.gap_from ≡ gap_after s.timing.quiet s.timing.sg ahead.gap_from (max ahead.moment b) e
-    → ((kept ≡ next) × (e ≤ moment)) ⊎ (kept ≡ certain) → Looking delay s list moment ear kept next
-looked_on delay s list moment ear certain ahead next kept b e sound words so c late at due from which =
+    → ((kept ≡ next) × (e ≤ moment)) ⊎ (kept ≡ certain) → Looking delay s list moment timers kept next
+looked_on delay s list moment timers certain ahead next kept b e sound words so c late at due from which =
     let further : ahead.moment < e = c.ahead in
     let order : certain.moment ≤ ahead.moment = so.order in
-    let low : ear.moment ≤ certain.moment = so.low in
-    let on : (wake : Wakes) → HearsAs delay wake s list ear → HearsAs delay wake s list next = λ wake h.
+    let low : timers.moment ≤ certain.moment = so.low in
+    let on : (wake : Wakes) → HearsAs delay wake s list timers → HearsAs delay wake s list next = λ wake h.
     hears_as delay wake s list next e ahead.due (gap_after s.timing.quiet s.timing.sg ahead.gap_from (max ahead.moment b) e) at due from
     (hears_behind delay wake s sound list ahead.moment ahead.due ahead.gap_from b e words (so.on wake h) c) in
     let next_at : next.moment ≡ e = at in
     let kept_is : ((kept.moment ≡ next.moment) × (e ≤ moment)) ⊎ (kept.moment ≡ certain.moment) = elim which [
-      | inl new ↦ inl (ap (λ (x : Ear). x.moment) new.0, new.1)
-      | inr old ↦ inr (ap (λ (x : Ear). x.moment) old)
+      | inl new ↦ inl (ap (λ (x : Timers). x.moment) new.0, new.1)
+      | inr old ↦ inr (ap (λ (x : Timers). x.moment) old)
     ] in
     record {
       kept = λ wake h. elim which [
@@ -74,12 +74,12 @@ looked_on delay s list moment ear certain ahead next kept b e sound words so c l
     }
 
 -- it looks no further where nothing more comes, or where it is ready before that
-pub looked : (delay : Delays) (wake : Wakes) (s : Station) (list : List Entry) (moment : ℕ) (ear certain ahead : Ear) → IsSound s.timing
-    → Looking delay s list moment ear certain ahead → ComeFrom delay s.number list ahead.moment (ready_moment s.timing ahead.due ahead.gap_from) → HearsAs delay wake s list ear
+pub looked : (delay : Delays) (wake : Wakes) (s : Station) (list : List Entry) (moment : ℕ) (timers certain ahead : Timers) → IsSound s.timing
+    → Looking delay s list moment timers certain ahead → ComeFrom delay s.number list ahead.moment (ready_moment s.timing ahead.due ahead.gap_from) → HearsAs delay wake s list timers
     → IsNextStart delay wake s list certain.moment (ready_moment s.timing ahead.due ahead.gap_from)
-looked delay wake s list moment ear certain ahead sound so come h =
+looked delay wake s list moment timers certain ahead sound so come h =
     let next = next_start delay wake s sound list ahead.moment ahead.due ahead.gap_from (so.on wake h) come in
-    let low : ear.moment ≤ certain.moment = so.low in
+    let low : timers.moment ≤ certain.moment = so.low in
     let order : certain.moment ≤ ahead.moment = so.order in
     let late : ahead.moment ≤ ready_moment s.timing ahead.due ahead.gap_from = next.low in
     record {

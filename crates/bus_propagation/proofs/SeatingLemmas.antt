@@ -47,9 +47,9 @@ seated_one table wake k sender hand x valid at number s =
       quiet_is = ap (λ (t : Timing). t.quiet) s.timing;
       sent = s.sent;
       cursor = s.cursor;
-      ear_moment = s.ear_moment;
-      ear_due = s.ear_due;
-      ear_gap = s.ear_gap;
+      timers_moment = s.timers_moment;
+      timers_due = s.timers_due;
+      timers_gap = s.timers_gap;
     }
 
 station_is : (table : Table) (sender : Sender) (hand : Hand) (wake : Wakes) (x : Seat) → IsSeatOf table sender hand wake x → station_of x ≡ station_with table sender hand

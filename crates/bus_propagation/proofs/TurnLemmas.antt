@@ -132,11 +132,11 @@ module _ (quiet : ℕ) (delay : Delays) (wake : Wakes) where
       let left : length (own list y.terminal u) < length y.messages.items = due.left in
       let after : t ≤ u = late_moment t n u y.terminal low in
       elim y.next as (λ next. y.next ≡ next → ⊥) [
-        | None ↦ λ e. let k : length y.messages.items ≤ y.sent = subst (λ next. MatchOption next (length y.messages.items ≤ y.sent) (λ v. (y.sent < length y.messages.items) × IsNextStart delay wake (station_of y) list y.ear.moment v)) e aw in omega arith
+        | None ↦ λ e. let k : length y.messages.items ≤ y.sent = subst (λ next. MatchOption next (length y.messages.items ≤ y.sent) (λ v. (y.sent < length y.messages.items) × IsNextStart delay wake (station_of y) list y.timers.moment v)) e aw in omega arith
         | Some m ↦ λ e.
-            let k = subst (λ next. MatchOption next (length y.messages.items ≤ y.sent) (λ v. (y.sent < length y.messages.items) × IsNextStart delay wake (station_of y) list y.ear.moment v)) e aw in
+            let k = subst (λ next. MatchOption next (length y.messages.items ≤ y.sent) (λ v. (y.sent < length y.messages.items) × IsNextStart delay wake (station_of y) list y.timers.moment v)) e aw in
             let due_too : IsDueOnCable y.timing.quiet delay wake list (station_of y) u = subst (λ q. IsDueOnCable q delay wake list (station_of y) u) (sym q_is) due in
-            elim (cases_lt u y.ear.moment) [
+            elim (cases_lt u y.timers.moment) [
               | inr from ↦ k.1.rests u from (early m e) begun due_too
               | inl before ↦ elim lis.sure [
                 | inl sure ↦ omega arith
@@ -154,11 +154,11 @@ module _ (quiet : ℕ) (delay : Delays) (wake : Wakes) where
         | inl in_list ↦ old x in_list mine
         | inr is ↦ absurd (apart (sym (ap (λ (y : Entry). y.terminal) is) ∙ mine))
       ] in
-      let pasts : woken_past z.timing.quiet (wake z.terminal) (heard delay z.terminal list) z.ear.moment ≡ woken_past z.timing.quiet (wake z.terminal) (heard delay z.terminal (list ++ e ∷ [])) z.ear.moment = elim lis.sure [
-        | inl sure ↦ ap (drop (wake z.terminal)) (sym (past_heard_push delay z.timing.quiet z.terminal z.ear.moment list e (omega arith)))
+      let pasts : woken_past z.timing.quiet (wake z.terminal) (heard delay z.terminal list) z.timers.moment ≡ woken_past z.timing.quiet (wake z.terminal) (heard delay z.terminal (list ++ e ∷ [])) z.timers.moment = elim lis.sure [
+        | inl sure ↦ ap (drop (wake z.terminal)) (sym (past_heard_push delay z.timing.quiet z.terminal z.timers.moment list e (omega arith)))
         | inr to_come ↦
-            drop_all (wake z.terminal) (past z.timing.quiet (heard delay z.terminal list) z.ear.moment) (omega (arith, length_past z.timing.quiet (heard delay z.terminal list) z.ear.moment))
-            ∙ sym (drop_all (wake z.terminal) (past z.timing.quiet (heard delay z.terminal (list ++ e ∷ [])) z.ear.moment) (omega (arith, length_past z.timing.quiet (heard delay z.terminal (list ++ e ∷ [])) z.ear.moment)))
+            drop_all (wake z.terminal) (past z.timing.quiet (heard delay z.terminal list) z.timers.moment) (omega (arith, length_past z.timing.quiet (heard delay z.terminal list) z.timers.moment))
+            ∙ sym (drop_all (wake z.terminal) (past z.timing.quiet (heard delay z.terminal (list ++ e ∷ [])) z.timers.moment) (omega (arith, length_past z.timing.quiet (heard delay z.terminal (list ++ e ∷ [])) z.timers.moment)))
       ] in
       record {
         sender = lis.sender;
@@ -166,13 +166,13 @@ module _ (quiet : ℕ) (delay : Delays) (wake : Wakes) where
         count = λ u all. ap length (same_own u) ∙ lis.count u (λ x there mine. all x (in_append_left list (e ∷ []) x there) mine);
         hears = record {
           powered = h.powered;
-          begun = begun (z.ear.moment + 1) h.begun;
-          interval = ap (λ o. due_place z.timing (woken_place z.timing.quiet (wake z.terminal) o) + wake z.terminal) (same_own (z.ear.moment + 1)) ∙ h.interval;
-          gap = subst (λ o. GapAt z.timing.sg z.timing.quiet (wake z.terminal) (heard delay z.terminal (list ++ e ∷ [])) z.ear.moment (woken_place z.timing.quiet (wake z.terminal) o) z.ear.gap_from) (sym (same_own (z.ear.moment + 1)))
+          begun = begun (z.timers.moment + 1) h.begun;
+          interval = ap (λ o. due_place z.timing (woken_place z.timing.quiet (wake z.terminal) o) + wake z.terminal) (same_own (z.timers.moment + 1)) ∙ h.interval;
+          gap = subst (λ o. GapAt z.timing.sg z.timing.quiet (wake z.terminal) (heard delay z.terminal (list ++ e ∷ [])) z.timers.moment (woken_place z.timing.quiet (wake z.terminal) o) z.timers.gap_from) (sym (same_own (z.timers.moment + 1)))
               (record {
                 g = h.gap.g;
                 is = h.gap.is;
-                from = subst (λ p. GapFrom z.timing.sg p (woken_place z.timing.quiet (wake z.terminal) (own list z.terminal (z.ear.moment + 1))) h.gap.g) pasts h.gap.from;
+                from = subst (λ p. GapFrom z.timing.sg p (woken_place z.timing.quiet (wake z.terminal) (own list z.terminal (z.timers.moment + 1))) h.gap.g) pasts h.gap.from;
               });
           fresh = elim h.fresh [
             | inl ended ↦ inl ended
@@ -183,7 +183,7 @@ module _ (quiet : ℕ) (delay : Delays) (wake : Wakes) where
       }
 
   -- a sender that has begun
-  listens_begun : (list : List Entry) (t u : ℕ) (e : Entry) (x y : Seat) → y.timing ≡ x.timing → y.terminal ≡ x.terminal → Listens delay wake list t x → IsNextStart delay wake (station_of x) list x.ear.moment u
+  listens_begun : (list : List Entry) (t u : ℕ) (e : Entry) (x y : Seat) → y.timing ≡ x.timing → y.terminal ≡ x.terminal → Listens delay wake list t x → IsNextStart delay wake (station_of x) list x.timers.moment u
       → wake x.terminal ≤ x.timing.quiet + u → Begun u x y e → Listens delay wake (list ++ e ∷ []) e.moment y
   listens_begun list t u e x y timing terminal lis next powered b =
       let at : e.moment ≡ u = b.moment in
@@ -192,17 +192,17 @@ module _ (quiet : ℕ) (delay : Delays) (wake : Wakes) where
       let ti_is : y.timing.ti ≡ x.timing.ti = ap (λ s. s.ti) timing in
       let w_is : wake y.terminal ≡ wake x.terminal = ap wake terminal in
       let sg_some : 9 ≤ x.timing.sg = lis.sender.sound.sg_least in
-      let ear_moment : y.ear.moment ≡ u = b.ear_moment in
-      let ear_due : y.ear.due ≡ x.timing.quiet + u + x.timing.ti = b.ear_due in
-      let ear_gap : y.ear.gap_from ≡ x.timing.quiet + u + x.timing.sg = b.ear_gap in
+      let timers_moment : y.timers.moment ≡ u = b.timers_moment in
+      let timers_due : y.timers.due ≡ x.timing.quiet + u + x.timing.ti = b.timers_due in
+      let timers_gap : y.timers.gap_from ≡ x.timing.quiet + u + x.timing.sg = b.timers_gap in
       let mine : e.terminal ≡ y.terminal = b.terminal ∙ sym terminal in
       let least : 1 ≤ x.terminal = lis.sender.least in
       let most : x.terminal ≤ 128 = lis.sender.most in
       let own_more : (m : ℕ) → u < m → own (list ++ e ∷ []) y.terminal m ≡ own list y.terminal m ++ e ∷ [] = λ m more. own_push list y.terminal m e mine (omega arith) in
-      let last : woken_place y.timing.quiet (wake y.terminal) (own (list ++ e ∷ []) y.terminal (y.ear.moment + 1)) ≡ Some (y.timing.quiet + y.ear.moment - wake y.terminal) =
-      ap (woken_place y.timing.quiet (wake y.terminal)) (own_more (y.ear.moment + 1) (omega arith))
-      ∙ ap (option_map (λ p. p - wake y.terminal)) (last_push y.timing.quiet (own list y.terminal (y.ear.moment + 1)) e)
-      ∙ ap (λ m. Some (y.timing.quiet + m - wake y.terminal)) (let same : e.moment ≡ y.ear.moment = omega arith in same) in
+      let last : woken_place y.timing.quiet (wake y.terminal) (own (list ++ e ∷ []) y.terminal (y.timers.moment + 1)) ≡ Some (y.timing.quiet + y.timers.moment - wake y.terminal) =
+      ap (woken_place y.timing.quiet (wake y.terminal)) (own_more (y.timers.moment + 1) (omega arith))
+      ∙ ap (option_map (λ p. p - wake y.terminal)) (last_push y.timing.quiet (own list y.terminal (y.timers.moment + 1)) e)
+      ∙ ap (λ m. Some (y.timing.quiet + m - wake y.terminal)) (let same : e.moment ≡ y.timers.moment = omega arith in same) in
       record {
         sender = record { sound = subst IsSound (sym timing) lis.sender.sound; least = omega arith; most = omega arith };
         place = record {
@@ -210,9 +210,9 @@ module _ (quiet : ℕ) (delay : Delays) (wake : Wakes) where
           passed = λ i z low z_at.
               let same : y.cursor ≡ x.cursor = b.cursor in
               let within : x.cursor ≤ length list = lis.place.within in
-              let over : heard_end delay z x.terminal ≤ x.ear.moment = lis.place.passed i z (omega arith) (sym (get_left list (e ∷ []) i (omega arith)) ∙ z_at) in
-              let before : x.ear.moment ≤ u = next.low in
-              subst (λ k. heard_end delay z k ≤ y.ear.moment) (sym terminal) (omega arith);
+              let over : heard_end delay z x.terminal ≤ x.timers.moment = lis.place.passed i z (omega arith) (sym (get_left list (e ∷ []) i (omega arith)) ∙ z_at) in
+              let before : x.timers.moment ≤ u = next.low in
+              subst (λ k. heard_end delay z k ≤ y.timers.moment) (sym terminal) (omega arith);
         };
         count = λ m all.
             let e_before : e.moment < m = all e (in_push list e) mine in
@@ -227,11 +227,11 @@ module _ (quiet : ℕ) (delay : Delays) (wake : Wakes) where
             | inl old ↦ let k : z.moment < u = next.begun z old (z_mine ∙ terminal) in omega arith
             | inr is ↦ let k : z.moment ≡ e.moment = ap (λ (v : Entry). v.moment) is in omega arith
           ];
-          interval = ap (λ o. due_place y.timing o + wake y.terminal) last ∙ (let k : y.timing.quiet + y.ear.moment - wake y.terminal + y.timing.ti + wake y.terminal ≡ y.ear.due = omega arith in k);
-          gap = subst (λ o. GapAt y.timing.sg y.timing.quiet (wake y.terminal) (heard delay y.terminal (list ++ e ∷ [])) y.ear.moment o y.ear.gap_from) (sym last)
-              (subst (λ g. GapAt y.timing.sg y.timing.quiet (wake y.terminal) (heard delay y.terminal (list ++ e ∷ [])) y.ear.moment (Some (y.timing.quiet + y.ear.moment - wake y.terminal)) g)
-              (let k : y.timing.quiet + y.ear.moment + y.timing.sg ≡ y.ear.gap_from = omega arith in k)
-              (at_start y.timing.sg y.timing.quiet (wake y.terminal) (heard delay y.terminal (list ++ e ∷ [])) y.ear.moment (omega arith) (omega arith)));
+          interval = ap (λ o. due_place y.timing o + wake y.terminal) last ∙ (let k : y.timing.quiet + y.timers.moment - wake y.terminal + y.timing.ti + wake y.terminal ≡ y.timers.due = omega arith in k);
+          gap = subst (λ o. GapAt y.timing.sg y.timing.quiet (wake y.terminal) (heard delay y.terminal (list ++ e ∷ [])) y.timers.moment o y.timers.gap_from) (sym last)
+              (subst (λ g. GapAt y.timing.sg y.timing.quiet (wake y.terminal) (heard delay y.terminal (list ++ e ∷ [])) y.timers.moment (Some (y.timing.quiet + y.timers.moment - wake y.terminal)) g)
+              (let k : y.timing.quiet + y.timers.moment + y.timing.sg ≡ y.timers.gap_from = omega arith in k)
+              (at_start y.timing.sg y.timing.quiet (wake y.terminal) (heard delay y.terminal (list ++ e ∷ [])) y.timers.moment (omega arith) (omega arith)));
           fresh = inr (inl (omega arith));
         };
         sure = inl (omega arith);
@@ -241,9 +241,9 @@ module _ (quiet : ℕ) (delay : Delays) (wake : Wakes) where
   pub listens_none : (x : Seat) → IsSeated quiet wake x → Listens delay wake [] 0 x
   listens_none x s =
       let sg_some : 9 ≤ x.timing.sg = s.sender.sound.sg_least in
-      let ear_moment : x.ear.moment ≡ wake x.terminal - x.timing.quiet = s.ear_moment in
-      let ear_due : x.ear.due ≡ x.timing.quiet + x.timing.due + wake x.terminal = s.ear_due in
-      let ear_gap : x.ear.gap_from ≡ x.timing.sg + wake x.terminal = s.ear_gap in
+      let timers_moment : x.timers.moment ≡ wake x.terminal - x.timing.quiet = s.timers_moment in
+      let timers_due : x.timers.due ≡ x.timing.quiet + x.timing.due + wake x.terminal = s.timers_due in
+      let timers_gap : x.timers.gap_from ≡ x.timing.sg + wake x.terminal = s.timers_gap in
       let cursor : x.cursor ≡ 0 = s.cursor in
       record {
         sender = s.sender;
@@ -255,11 +255,11 @@ module _ (quiet : ℕ) (delay : Delays) (wake : Wakes) where
           interval = omega arith;
           gap = elim (cases_lt x.timing.quiet (wake x.terminal)) [
             | inl late ↦
-                subst (GapAt x.timing.sg x.timing.quiet (wake x.terminal) [] x.ear.moment None) (let k : x.timing.quiet + x.ear.moment + x.timing.sg ≡ x.ear.gap_from = omega arith in k)
-                (at_power_up x.timing.sg x.timing.quiet (wake x.terminal) [] x.ear.moment (omega arith) (omega arith))
+                subst (GapAt x.timing.sg x.timing.quiet (wake x.terminal) [] x.timers.moment None) (let k : x.timing.quiet + x.timers.moment + x.timing.sg ≡ x.timers.gap_from = omega arith in k)
+                (at_power_up x.timing.sg x.timing.quiet (wake x.terminal) [] x.timers.moment (omega arith) (omega arith))
             | inr early ↦
-                subst (λ v. GapAt x.timing.sg x.timing.quiet (wake x.terminal) [] v None x.ear.gap_from) (let k : 0 ≡ x.ear.moment = omega arith in k)
-                (subst (GapAt x.timing.sg x.timing.quiet (wake x.terminal) [] 0 None) (let k : x.timing.sg + wake x.terminal ≡ x.ear.gap_from = omega arith in k)
+                subst (λ v. GapAt x.timing.sg x.timing.quiet (wake x.terminal) [] v None x.timers.gap_from) (let k : 0 ≡ x.timers.moment = omega arith in k)
+                (subst (GapAt x.timing.sg x.timing.quiet (wake x.terminal) [] 0 None) (let k : x.timing.sg + wake x.terminal ≡ x.timers.gap_from = omega arith in k)
                 (at_settled x.timing.sg x.timing.quiet (wake x.terminal) [] (omega arith) early))
           ];
           fresh = elim (cases_lt x.timing.quiet (wake x.terminal)) [
@@ -298,7 +298,7 @@ module _ (quiet : ℕ) (delay : Delays) (wake : Wakes) where
   -- what is known of the sender whose turn it is
   record KnownTurn (ss : List Station) (list : List Entry) (x : Seat) (u t n : ℕ) : Type 0 where
     there : In (station_of x) ss
-    next : IsNextStart delay wake (station_of x) list x.ear.moment u
+    next : IsNextStart delay wake (station_of x) list x.timers.moment u
     count : length (own list x.terminal u) ≡ x.sent
     due : IsDueOnCable quiet delay wake list (station_of x) u
     low : NoLater t n u x.terminal
@@ -307,8 +307,8 @@ module _ (quiet : ℕ) (delay : Delays) (wake : Wakes) where
   known_turn : (ss : List Station) (list : List Entry) (seats : List Seat) (t n p u : ℕ) (x : Seat) → GoesTo quiet delay wake ss list seats t n → slice_get seats p ≡ Some x → x.next ≡ Some u → KnownTurn ss list x u t n
   known_turn ss list seats t n p u x g at is =
       let there : In (station_of x) ss = subst (In (station_of x)) g.same (in_map station_of seats p x at) in
-      let aw = subst (λ next. MatchOption next (length x.messages.items ≤ x.sent) (λ v. (x.sent < length x.messages.items) × IsNextStart delay wake (station_of x) list x.ear.moment v)) is (g.await p x at) in
-      let next : IsNextStart delay wake (station_of x) list x.ear.moment u = aw.1 in
+      let aw = subst (λ next. MatchOption next (length x.messages.items ≤ x.sent) (λ v. (x.sent < length x.messages.items) × IsNextStart delay wake (station_of x) list x.timers.moment v)) is (g.await p x at) in
+      let next : IsNextStart delay wake (station_of x) list x.timers.moment u = aw.1 in
       let left : x.sent < length x.messages.items = aw.0 in
       let count : length (own list x.terminal u) ≡ x.sent = (g.listen p x at).count u next.begun in
       let due : IsDueOnCable quiet delay wake list (station_of x) u = subst (λ q. IsDueOnCable q delay wake list (station_of x) u) (g.quiet_is p x at) (next.due (omega arith)) in
@@ -384,7 +384,7 @@ module _ (quiet : ℕ) (delay : Delays) (wake : Wakes) where
 
   pub turn_left : (ss : List Station) (list : List Entry) (seats : List Seat) (t n p u : ℕ) (x : Seat) → GoesTo quiet delay wake ss list seats t n → slice_get seats p ≡ Some x → x.next ≡ Some u → x.sent < length x.messages.items
   turn_left ss list seats t n p u x g at is =
-      (subst (λ next. MatchOption next (length x.messages.items ≤ x.sent) (λ v. (x.sent < length x.messages.items) × IsNextStart delay wake (station_of x) list x.ear.moment v)) is (g.await p x at)).0
+      (subst (λ next. MatchOption next (length x.messages.items ≤ x.sent) (λ v. (x.sent < length x.messages.items) × IsNextStart delay wake (station_of x) list x.timers.moment v)) is (g.await p x at)).0
 
   -- nobody starts before the horizon any more
   pub goes_whole : (ss : List Station) (list : List Entry) (seats : List Seat) (t n horizon : ℕ) → GoesTo quiet delay wake ss list seats t n → (t < horizon) ⊎ ((t ≡ 0) × (n ≡ 0)) → NobodyBefore seats horizon

@@ -25,8 +25,14 @@ fn attend(seat: &mut Seat, list: &[Transmission], places: &[u64], moment: u64)
         return;
     }
     let outlook = look_ahead(seat, list, places, moment);
-    seat.cursor = pass_over(list, places, seat.terminal, seat.cursor, outlook.ear.moment);
-    seat.ear = outlook.ear;
+    seat.cursor = pass_over(
+        list,
+        places,
+        seat.terminal,
+        seat.cursor,
+        outlook.timers.moment,
+    );
+    seat.timers = outlook.timers;
     seat.next = Some(outlook.next);
 }
 

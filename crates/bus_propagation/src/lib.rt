@@ -9,13 +9,13 @@
 
 mod arrival;
 mod attending;
-mod ear;
 mod looking;
 mod observing;
 mod places;
 mod seat;
 mod seating;
 mod starting;
+mod timers;
 mod turns;
 
 pub use observing::observe_delayed;

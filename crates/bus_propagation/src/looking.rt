@@ -9,15 +9,15 @@ ghost use Rattle.bus_propagation.specs.inside.Hearing.{Hears, IsNextStart, HaveW
 ghost use Rattle.bus_propagation.specs.inside.Seats.{station_of};
 
 use crate::arrival::next_arrival;
-use crate::ear::{Ear, behind, ready_at};
 use crate::seat::Seat;
+use crate::timers::{Timers, behind, ready_at};
 use bus_strings::Transmission;
 
 /// What a sender knows of its next start.
 #[derive(Clone, Copy)]
 pub struct Outlook {
     /// Its timers after what it has heard for certain.
-    pub ear: Ear,
+    pub timers: Timers,
     /// When it starts, if nothing more is sent.
     pub next: u64,
 }
@@ -28,20 +28,20 @@ pub fn look_ahead(seat: &Seat, list: &[Transmission], places: &[u64], moment: u6
     requires places { ArePlaces places.now }
     requires sound { IsSound seat.now.timing }
     requires words { HaveWords list.now }
-    requires passed { ArePassed (cable (numbered places.now)) seat.now.terminal list.now seat.now.cursor seat.now.ear.moment }
+    requires passed { ArePassed (cable (numbered places.now)) seat.now.terminal list.now seat.now.cursor seat.now.timers.moment }
     ensures hears { (wake : Wakes) → Hears (cable (numbered places.now)) wake (station_of seat.now) list.now
-        seat.now.ear.moment seat.now.ear.due seat.now.ear.gap_from
-        → Hears (cable (numbered places.now)) wake (station_of seat.now) list.now result.ear.moment result.ear.due result.ear.gap_from }
+        seat.now.timers.moment seat.now.timers.due seat.now.timers.gap_from
+        → Hears (cable (numbered places.now)) wake (station_of seat.now) list.now result.timers.moment result.timers.due result.timers.gap_from }
     ensures next { (wake : Wakes) → Hears (cable (numbered places.now)) wake (station_of seat.now) list.now
-        seat.now.ear.moment seat.now.ear.due seat.now.ear.gap_from
-        → IsNextStart (cable (numbered places.now)) wake (station_of seat.now) list.now result.ear.moment result.next }
-    ensures certain { (result.ear.moment ≡ seat.now.ear.moment) ⊎ (result.ear.moment ≤ moment) }
-    ensures later { seat.now.ear.moment ≤ result.ear.moment }
+        seat.now.timers.moment seat.now.timers.due seat.now.timers.gap_from
+        → IsNextStart (cable (numbered places.now)) wake (station_of seat.now) list.now result.timers.moment result.next }
+    ensures certain { (result.timers.moment ≡ seat.now.timers.moment) ⊎ (result.timers.moment ≤ moment) }
+    ensures later { seat.now.timers.moment ≤ result.timers.moment }
 {
     let timing = seat.timing;
     let terminal = seat.terminal;
-    let mut certain = seat.ear;
-    let mut ahead = seat.ear;
+    let mut certain = seat.timers;
+    let mut ahead = seat.timers;
     while let Some(arrival) = next_arrival(list, places, terminal, seat.cursor, ahead.moment) {
         if ready_at(ahead, timing) <= arrival.begin {
             break;
@@ -52,7 +52,7 @@ pub fn look_ahead(seat: &Seat, list: &[Transmission], places: &[u64], moment: u6
         }
     }
     Outlook {
-        ear: certain,
+        timers: certain,
         next: ready_at(ahead, timing),
     }
 }

@@ -1,5 +1,5 @@
 //! A sender on the cable.
-use crate::ear::Ear;
+use crate::timers::Timers;
 use bus_strings::Message;
 use bus_timers::Timing;
 
@@ -15,7 +15,7 @@ pub struct Seat {
     /// How many of them it has begun.
     pub sent: usize,
     /// Its timers after what it has heard for certain.
-    pub ear: Ear,
+    pub timers: Timers,
     /// Before this place of the list it has heard all to the end.
     pub cursor: usize,
     /// When it starts, if it hears nothing more. None where no message is left.

@@ -10,9 +10,9 @@ ghost use Rattle.bus_propagation.specs.Numbered.{numbered};
 ghost use Rattle.bus_propagation.specs.inside.Seats.{station_of};
 ghost use Rattle.bus_propagation.specs.inside.Turns.{IsSeated, IsSeatOf};
 
-use crate::ear::powered_up;
 use crate::places::number_of;
 use crate::seat::Seat;
+use crate::timers::powered_up;
 use bus_medium::timing;
 use bus_table::{Hand, Table};
 use std::alloc::{AllocError, Global};
@@ -31,7 +31,7 @@ fn seat(table: &Table, k: usize, hand: Hand, wakes: &[u64]) -> Seat
         timing,
         messages: hand.messages,
         sent: 0,
-        ear: powered_up(timing, number_of(wakes, terminal)),
+        timers: powered_up(timing, number_of(wakes, terminal)),
         cursor: 0,
         next: None,
     }

@@ -3,8 +3,8 @@ ghost use Rattle.std.specs.Prelude.{◌≡◌, ◌<◌, length, IfOk};
 ghost use Rattle.bus_strings.specs.Limits.{horizon_limit};
 ghost use Rattle.bus_propagation.specs.inside.Turns.{IsSender, Begun};
 
-use crate::ear::started;
 use crate::seat::Seat;
+use crate::timers::started;
 use bus_strings::{Transmission, copy_message};
 use std::alloc::{AllocError, Global};
 
@@ -19,7 +19,7 @@ pub fn begin(alloc: Global, seat: &mut Seat, moment: u64) -> Result<Transmission
     let _ranges = next.strings();
     let message = copy_message(alloc, next)?;
     seat.sent += 1;
-    seat.ear = started(seat.timing, moment);
+    seat.timers = started(seat.timing, moment);
     Ok(Transmission {
         moment,
         terminal: seat.terminal,

@@ -24,21 +24,21 @@ pub record IsSender (x : Seat) : Type 0 where
 -- The places of the list that it has passed are heard to the end.
 pub record KeepsPlace (delay : Delays) (list : List Entry) (x : Seat) : Type 0 where
   pub within : x.cursor ≤ length list
-  pub passed : ArePassed delay x.terminal list x.cursor x.ear.moment
+  pub passed : ArePassed delay x.terminal list x.cursor x.timers.moment
 
 -- At moment t a sender has heard what the list tells: what it has heard for certain is no later than t, unless it is to be powered up.
 pub record Listens (delay : Delays) (wake : Wakes) (list : List Entry) (t : ℕ) (x : Seat) : Type 0 where
   pub sender : IsSender x
   pub place : KeepsPlace delay list x
   pub count : (u : ℕ) → HaveBegun list x.terminal u → length (own list x.terminal u) ≡ x.sent
-  pub hears : Hears delay wake (station_of x) list x.ear.moment x.ear.due x.ear.gap_from
-  pub sure : (x.ear.moment ≤ t) ⊎ (x.timing.quiet + x.ear.moment ≡ wake x.terminal)
+  pub hears : Hears delay wake (station_of x) list x.timers.moment x.timers.due x.timers.gap_from
+  pub sure : (x.timers.moment ≤ t) ⊎ (x.timing.quiet + x.timers.moment ≡ wake x.terminal)
 
 -- It knows its next start.
 abbrev pub Awaits : Delays → Wakes → List Entry → Seat → Type 0
 Awaits delay wake list x =
     MatchOption x.next (length x.messages.items ≤ x.sent)
-    (λ u. (x.sent < length x.messages.items) × IsNextStart delay wake (station_of x) list x.ear.moment u)
+    (λ u. (x.sent < length x.messages.items) × IsNextStart delay wake (station_of x) list x.timers.moment u)
 
 -- A sender x has become y, which has heard of the list up to moment t, and knows its next start.
 pub record Attended (delay : Delays) (list : List Entry) (t : ℕ) (x y : Seat) : Type 0 where
@@ -77,9 +77,9 @@ pub record Begun (u : ℕ) (x y : Seat) (entry : Entry) : Type 0 where
   pub words : 0 < length entry.message
   pub sent : y.sent ≡ x.sent + 1
   pub cursor : y.cursor ≡ x.cursor
-  pub ear_moment : y.ear.moment ≡ u
-  pub ear_due : y.ear.due ≡ x.timing.quiet + u + x.timing.ti
-  pub ear_gap : y.ear.gap_from ≡ x.timing.quiet + u + x.timing.sg
+  pub timers_moment : y.timers.moment ≡ u
+  pub timers_due : y.timers.due ≡ x.timing.quiet + u + x.timing.ti
+  pub timers_gap : y.timers.gap_from ≡ x.timing.quiet + u + x.timing.sg
 
 -- Nobody starts before the horizon.
 abbrev pub NobodyBefore : List Seat → ℕ → Type 0
@@ -91,9 +91,9 @@ pub record IsSeated (quiet : ℕ) (wake : Wakes) (x : Seat) : Type 0 where
   pub quiet_is : x.timing.quiet ≡ quiet
   pub sent : x.sent ≡ 0
   pub cursor : x.cursor ≡ 0
-  pub ear_moment : x.ear.moment ≡ wake x.terminal - x.timing.quiet
-  pub ear_due : x.ear.due ≡ x.timing.quiet + x.timing.due + wake x.terminal
-  pub ear_gap : x.ear.gap_from ≡ x.timing.sg + wake x.terminal
+  pub timers_moment : x.timers.moment ≡ wake x.terminal - x.timing.quiet
+  pub timers_due : x.timers.due ≡ x.timing.quiet + x.timing.due + wake x.terminal
+  pub timers_gap : x.timers.gap_from ≡ x.timing.sg + wake x.terminal
 
 -- It is this sender of the table, with this hand, before anything is sent.
 pub record IsSeatOf (table : Table) (sender : Sender) (hand : Hand) (wake : Wakes) (x : Seat) : Type 0 where
@@ -103,6 +103,6 @@ pub record IsSeatOf (table : Table) (sender : Sender) (hand : Hand) (wake : Wake
   pub messages : x.messages.items ≡ hand.messages
   pub sent : x.sent ≡ 0
   pub cursor : x.cursor ≡ 0
-  pub ear_moment : x.ear.moment ≡ wake x.terminal - x.timing.quiet
-  pub ear_due : x.ear.due ≡ x.timing.quiet + x.timing.due + wake x.terminal
-  pub ear_gap : x.ear.gap_from ≡ x.timing.sg + wake x.terminal
+  pub timers_moment : x.timers.moment ≡ wake x.terminal - x.timing.quiet
+  pub timers_due : x.timers.due ≡ x.timing.quiet + x.timing.due + wake x.terminal
+  pub timers_gap : x.timers.gap_from ≡ x.timing.sg + wake x.terminal

@@ -11,7 +11,7 @@ use std::cmp::max;
 /// The timers of a terminal after what it has heard up to a moment, as two places in the past of the bus: moments that
 /// are counted from the beginning of the quiet before the settled start.
 #[derive(Clone, Copy)]
-pub struct Ear {
+pub struct Timers {
     /// The moment, in bit times from the settled start.
     pub moment: u64,
     /// The place at which the transmit interval elapses.
@@ -24,14 +24,14 @@ pub struct Ear {
 }
 
 /// Those of a terminal that wakes at this moment, before it has heard anything.
-pub fn powered_up(timing: Timing, wake: u64) -> Ear
+pub fn powered_up(timing: Timing, wake: u64) -> Timers
     requires sound { IsSound timing }
     requires wake { wake < horizon_limit }
     ensures moment { result.moment ≡ wake - timing.quiet }
     ensures due { result.due ≡ timing.quiet + timing.due + wake }
     ensures from { result.gap_from ≡ timing.sg + wake }
 {
-    Ear {
+    Timers {
         moment: wake.saturating_sub(timing.quiet as u64),
         due: timing.quiet as u64 + timing.due as u64 + wake,
         gap_from: timing.sg as u64 + wake,
@@ -39,7 +39,7 @@ pub fn powered_up(timing: Timing, wake: u64) -> Ear
 }
 
 /// Those of a terminal that starts at this moment.
-pub fn started(timing: Timing, moment: u64) -> Ear
+pub fn started(timing: Timing, moment: u64) -> Timers
     requires sound { IsSound timing }
     requires moment { moment < horizon_limit }
     ensures moment { result.moment ≡ moment }
@@ -47,7 +47,7 @@ pub fn started(timing: Timing, moment: u64) -> Ear
     ensures from { result.gap_from ≡ timing.quiet + moment + timing.sg }
 {
     let place = timing.quiet as u64 + moment;
-    Ear {
+    Timers {
         moment,
         due: place + timing.ti as u64,
         gap_from: place + timing.sg as u64,
@@ -55,26 +55,26 @@ pub fn started(timing: Timing, moment: u64) -> Ear
 }
 
 /// Those behind an arrival, to its end, which for the timers is carrier throughout.
-pub fn behind(ear: Ear, timing: Timing, arrival: Arrival) -> Ear
+pub fn behind(timers: Timers, timing: Timing, arrival: Arrival) -> Timers
     requires sound { IsSound timing }
     ensures moment { result.moment ≡ arrival.end }
-    ensures due { result.due ≡ ear.due }
-    ensures from { result.gap_from ≡ gap_after timing.quiet timing.sg ear.gap_from (max ear.moment arrival.begin) arrival.end }
+    ensures due { result.due ≡ timers.due }
+    ensures from { result.gap_from ≡ gap_after timing.quiet timing.sg timers.gap_from (max timers.moment arrival.begin) arrival.end }
 {
     let quiet = timing.quiet as u64;
-    let elapsed = ear.gap_from <= quiet + max(ear.moment, arrival.begin);
+    let elapsed = timers.gap_from <= quiet + max(timers.moment, arrival.begin);
     let gap = if elapsed { 0 } else { timing.sg as u64 };
-    Ear {
+    Timers {
         moment: arrival.end,
-        due: ear.due,
+        due: timers.due,
         gap_from: quiet + arrival.end + gap,
     }
 }
 
 /// The moment from which the terminal may start, if it hears nothing more.
-pub fn ready_at(ear: Ear, timing: Timing) -> u64
+pub fn ready_at(timers: Timers, timing: Timing) -> u64
     requires sound { IsSound timing }
-    ensures { result ≡ ready_moment timing ear.due ear.gap_from }
+    ensures { result ≡ ready_moment timing timers.due timers.gap_from }
 {
-    max(ear.due, ear.gap_from + timing.tg as u64).saturating_sub(timing.quiet as u64)
+    max(timers.due, timers.gap_from + timing.tg as u64).saturating_sub(timing.quiet as u64)
 }
