@@ -3,7 +3,8 @@ use Rattle.bus_strings.specs.Items.{Item, numbers}
 use Rattle.bus_strings.specs.Messages.{Message}
 use Rattle.bus_table.specs.Fits.{has_shape}
 use Rattle.bus_table.specs.Hands.{message_of, hand_of}
-use Rattle.bus_table.specs.Tables.{SendLine, Hand}
+use Rattle.bus_table.specs.declared.line.SendLine.{SendLine}
+use Rattle.bus_table.specs.Tables.{Hand}
 use Rattle.bus_table.specs.inside.Fitting.{is_fit}
 use Rattle.bus_table.specs.Hands.{with_message}
 use Rattle.bus_table.proofs.HandLemmas.{next_hands, stands, stands_at, shape_at}
