@@ -25,6 +25,7 @@ use bus_reach::laws::{
     periodic_bearing_is_exact, periodic_borne_is_closed, some_never_part, tolerance_is_exact,
 };
 use bus_recording::laws::amounts_are_true;
+use bus_recording_lawful::laws::lawful_has_no_fault;
 use bus_schedule::laws::{
     accepted_is_closed, closed_is_orderly, even_hands_agree, gaps_are_left, verdicts_are_exact,
     witnesses_have_schedules,
@@ -94,6 +95,7 @@ pub fn tool<S: Source, K: Sink, E: Sink>(
     faults_are_just();
     files_are_unblamed();
     good_buses_have_no_fault();
+    lawful_has_no_fault();
     amounts_are_true();
     advices_work();
     none_missing();
