@@ -6,6 +6,7 @@ use Rattle.bus_bounds.specs.Bounds.{Bounds, most_clocks}
 use Rattle.bus_table.specs.Tables.{Table}
 use Rattle.bus_trace.specs.Traces.{Recording, IsTrace}
 use Rattle.bus_findings.specs.Laws.{KeepersAreUnblamed, AmountsAreTold, FilesAreUnblamed, CourseFilesAreUnblamed, GoodFileHasNoFault, CourseFileHasNoFault}
+use Rattle.bus_findings.specs.Meanings.{FileAmountsAreMeant, FileGapIsMeant}
 use Rattle.bus_findings.specs.Terminals.{has_fault}
 use Rattle.bus_recording_lawful.specs.Faultless.{LawfulHasNoFault}
 use Rattle.bus_command.specs.Outside.{Call}
@@ -27,6 +28,8 @@ pub record FindingsLaws : Type 0 where
   pub lawful : LawfulHasNoFault
   pub amounts : AmountsAreTold
   pub meaning : AreTrue
+  pub ticks : FileAmountsAreMeant
+  pub gap : FileGapIsMeant
 
 -- ---- the words
 bounds_are : (bounds : Bounds) (table : Table) (trace : Recording) (call : Call) (h : IsDiagnoseOf bounds table trace call)
@@ -66,7 +69,9 @@ findings_claim texts laws call outcome bounds table trace acts h =
       senders = laws.senders bounds table trace is_trace;
       lawful = λ collided exact answer.
           subst (λ (b : Bounds). has_fault b table trace ≡ false) (sym exact)
-          (laws.lawful table trace h.traced.table_told.valid is_trace answer.1);
+          (laws.lawful table trace h.traced.table_told.valid is_trace answer.0);
       amounts = λ sender x o of last. laws.amounts bounds table trace sender x o of last;
       meaning = laws.meaning;
+      ticks = λ sender s x o. laws.ticks bounds table trace sender s x o is_trace;
+      gap = λ sender s x. laws.gap bounds table trace sender s x is_trace;
     }

@@ -1,5 +1,5 @@
 -- What is claimed of `diagnose`: what it writes of a recording, that it is no false alarm, and that its amounts are true.
-use Rattle.std.specs.Prelude.{◌≡◌, ℕ, false, List, [], ◌∷◌, codes, Some}
+use Rattle.std.specs.Prelude.{◌≡◌, ℕ, ◌<◌, false, List, [], ◌∷◌, codes, Some}
 use Rattle.bus_text.specs.Numbers.{IsDecimal}
 use Rattle.bus_strings.specs.Messages.{Entry}
 use Rattle.bus_bounds.specs.Bounds.{Bounds}
@@ -9,9 +9,10 @@ use Rattle.bus_audit.specs.Breaches.{IsAnswer}
 use Rattle.bus_audit.specs.declared.answer.AuditAnswer.TheVariants.{Lawful}
 use Rattle.bus_recording.specs.Amounts.{IntervalIsTrue, GapIsTrue, SyncIsTrue, LateIsTrue}
 use Rattle.bus_recording.specs.Seen.{Seen}
-use Rattle.bus_findings.specs.Files.{IsInCourse, KeepsInFile}
+use Rattle.bus_findings.specs.Files.{IsInCourse, KeepsInFile, StandsInFile}
 use Rattle.bus_findings.specs.Judging.{judgement_of, last_start}
 use Rattle.bus_findings.specs.Laws.{Keeps, IsOfSender, IsUnblamed, AreAmounts, AreOfTable, OfEachSender}
+use Rattle.bus_findings.specs.Meanings.{GapIsMeantOf, IsMeantOf, StartsSingly}
 use Rattle.bus_findings.specs.Recorded.{seen, recorded, monitor_of, timers_of}
 use Rattle.bus_findings.specs.Terminals.{has_fault}
 use Rattle.bus_findings.specs.Texts.{findings_text}
@@ -54,7 +55,10 @@ pub record AreTrue : Type 0 where
 --   senders   or is a sender of a bus within bounds
 --   lawful    nor with `0 0 0` in a trace that `audit` finds to be lawful
 --   amounts   what is told of a start behind another of its sender are the amounts of bus_recording, the greatest of which it says so
---   meaning   and what these mean
+--   meaning   and what these mean on a bus that goes in whole bit times
+--   ticks     what they mean where the trace is the file of a monitor, of the bus that was recorded, in ticks as fine as you like: but for
+--             less than a bit time, or two
+--   gap       and the amount of its terminal gap, be the start the first of its sender
 pub record GivesFindings (bounds : Bounds) (table : Table) (trace : Recording) (call : Call) (status : Status) : Type 0 where
   pub gives : Answers (status_of (findings_outcome (has_fault bounds table trace))) (λ text. text ≡ findings_text bounds table trace) call status
   pub unblamed : (sender : Sender) (x : Entry) → Keeps bounds table trace sender → IsOfSender table trace sender x
@@ -71,3 +75,9 @@ pub record GivesFindings (bounds : Bounds) (table : Table) (trace : Recording) (
       → AreAmounts (timers_of bounds table sender) (monitor_of bounds table) (recorded bounds trace.list) o (seen bounds x)
       (judgement_of bounds table trace.list x)
   pub meaning : AreTrue
+  pub ticks : (sender : Sender) (s : StandsInFile bounds table trace sender) (x : Entry) (o : Seen) → StartsSingly bounds table trace sender s
+      → IsOfSender table trace sender x → last_start (recorded bounds trace.list) x.terminal x.moment ≡ Some o
+      → IsMeantOf bounds table trace sender s x o
+  pub gap : (sender : Sender) (s : StandsInFile bounds table trace sender) (x : Entry) → StartsSingly bounds table trace sender s
+      → IsOfSender table trace sender x → 0 < (judgement_of bounds table trace.list x).terminal_gap
+      → GapIsMeantOf bounds table trace sender s x

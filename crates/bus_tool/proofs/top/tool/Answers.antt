@@ -95,6 +95,8 @@ returns-clause-keeps g c =
           sync_gap = c.amounts_are_true.ensures.sync;
           late = c.amounts_are_true.ensures.late;
         };
+        ticks = c.amounts_are_meant.ensures.next;
+        gap = c.amounts_are_meant.ensures.gap;
       };
       explained = record {
         works = c.advices_work.ensures;
