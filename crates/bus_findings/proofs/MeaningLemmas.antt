@@ -1,6 +1,5 @@
 -- What is told of a file is what is found in it, so it means as much of the bus that was recorded.
-use Rattle.std.specs.Prelude.{◌<◌}
-use Rattle.std.proofs.Common.{◌≡◌, ℕ, ◌+◌, ◌≤◌, List, Some, arith, sym, subst, ◌∙◌}
+use Rattle.std.proofs.Common.{◌≡◌, ◌+◌, List, Some, arith, sym, subst, ◌∙◌}
 use Rattle.bus_strings.specs.Messages.{Entry}
 use Rattle.bus_table.specs.Tables.{Sender, Table}
 use Rattle.bus_trace.specs.Traces.{Recording}
