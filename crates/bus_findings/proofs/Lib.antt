@@ -16,3 +16,4 @@ pub mod JustLemmas
 pub mod FileLemmas
 pub mod EndLemmas
 pub mod FaultLemmas
+pub mod MeaningLemmas

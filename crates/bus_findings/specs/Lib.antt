@@ -9,4 +9,5 @@ pub mod Terminals
 pub mod Texts
 pub mod Files
 pub mod Laws
+pub mod Meanings
 pub mod inside

@@ -5,8 +5,11 @@ ghost use Rattle.bus_findings.specs.Laws.{KeepersAreUnblamed, AmountsAreTold, Ga
 ghost use Rattle.bus_findings.specs.Laws.{CleanIsUnblamed, UnblamedIsClean, FilesAreUnblamed, CourseFilesAreUnblamed};
 ghost use Rattle.bus_findings.specs.Laws.{SilentIsDue, NotSilentIsNotDue};
 ghost use Rattle.bus_findings.specs.Laws.{GoodBusHasNoFault, NoFaultIsGoodBus, GoodFileHasNoFault, CourseFileHasNoFault};
+ghost use Rattle.bus_findings.specs.Meanings.{FileAmountsAreMeant, FileGapIsMeant};
 
-use bus_recording::laws::{files_are_clean, findings_are_just, recordings_count_from_anywhere};
+use bus_recording::laws::{
+    file_amounts_are_true, files_are_clean, findings_are_just, recordings_count_from_anywhere,
+};
 
 /// A start is told to be too early, or late, exactly where it is so in the words of `bus_recording`, and by just as much.
 pub fn findings_are_exact()
@@ -41,6 +44,15 @@ pub fn files_are_unblamed()
 {
     files_are_clean();
     recordings_count_from_anywhere();
+}
+
+/// What is told of a start in such a file, whether its sender keeps its bounds or not, means as much of the bus that was recorded, in ticks,
+/// but for less than a bit time, or two: by how much its timers were too short, and how long it had been due.
+pub fn amounts_are_meant()
+    ensures next { FileAmountsAreMeant }
+    ensures gap { FileGapIsMeant }
+{
+    file_amounts_are_true();
 }
 
 /// A sender that is told to be silent was due behind its last start, since the moment and by the timer that are told; and one that isn't

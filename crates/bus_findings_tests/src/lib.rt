@@ -4,6 +4,8 @@
 #[cfg(test)]
 mod faulty;
 #[cfg(test)]
+mod late;
+#[cfg(test)]
 mod planted;
 #[cfg(test)]
 mod recording;

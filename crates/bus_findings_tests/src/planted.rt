@@ -68,3 +68,32 @@ pub(crate) const COLLIDING: Recording = Recording {
     horizon: 1500,
     sent: &[0, 1, 10, 100, 2, 20, 1000, 3, 15],
 };
+
+/// Terminal 1 alone: its interval is over at 3000, and it begins 7 later.
+pub(crate) const LATE_BY_INTERVAL: Recording = Recording {
+    horizon: 3227,
+    sent: &[1000, 1, 10, 3007, 1, 10],
+};
+
+/// A round without so much quiet as a synchronization gap. It ends at 3440: terminal 1 is due 300 and 20 later, and begins 10 behind that.
+pub(crate) const LATE_BY_SYNC: Recording = Recording {
+    horizon: 3990,
+    sent: &[
+        1000, 1, 10, 1260, 2, 28, 1900, 3, 23, 2460, 4, 48, 3770, 1, 10,
+    ],
+};
+
+/// The interval of terminal 1 is over at 3000, in quiet; it lets terminal 2 begin and end, and begins 900 later.
+pub(crate) const PASSED_BY_INTERVAL: Recording = Recording {
+    horizon: 4120,
+    sent: &[1000, 1, 10, 3100, 2, 20, 3900, 1, 10],
+};
+
+/// Terminal 3 is due 60 behind the end of terminal 2 at 4600; it lets terminal 4 begin and end, and begins 60 behind that.
+pub(crate) const PASSED_BY_GAP: Recording = Recording {
+    horizon: 6200,
+    sent: &[
+        1000, 1, 10, 1260, 2, 28, 1900, 3, 23, 2460, 4, 48, 3760, 1, 10, 4020, 2, 28, 4680, 4, 48,
+        5720, 3, 23,
+    ],
+};

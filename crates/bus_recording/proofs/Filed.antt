@@ -20,7 +20,7 @@ use Rattle.bus_recording.proofs.Shifted.{from_later, in_later}
 use Rattle.bus_recording.proofs.Unshifted.{counts_from_anywhere}
 use Rattle.bus_recording.proofs.Until.{arrived_in, in_arrived, until_keeps, until_placed}
 
-in_time : (bit end m t : ℕ) → t < m * bit + bit → m < end → t < end * bit
+pub in_time : (bit end m t : ℕ) → t < m * bit + bit → m < end → t < end * bit
 in_time bit end m t high less =
     let k : (m + 1) * bit ≤ end * bit = mul-le-mul_right bit (let l : m + 1 ≤ end = omega arith in l) in
     let e : (m + 1) * bit ≡ m * bit + 1 * bit = add-mul m 1 bit in

@@ -21,3 +21,4 @@ mod Exact
 mod Names
 mod Until
 mod Filed
+mod FileAmounts

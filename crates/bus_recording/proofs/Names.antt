@@ -10,13 +10,13 @@ to_named name [] r i = i
 to_named name (y ∷ l) r (inl same) = inl (ap (renamed name) same)
 to_named name (y ∷ l) r (inr i) = inr (to_named name l r i)
 
-from_named : (name : ℕ → ℕ) (l : List Seen) (q : Seen) → IsIn q (all_renamed name l) → (r : Seen) × IsIn r l × (q ≡ renamed name r)
+pub from_named : (name : ℕ → ℕ) (l : List Seen) (q : Seen) → IsIn q (all_renamed name l) → (r : Seen) × IsIn r l × (q ≡ renamed name r)
 from_named name [] q i = absurd i
 from_named name (y ∷ l) q (inl same) = (y, inl refl, same)
 from_named name (y ∷ l) q (inr i) = (let w = from_named name l q i in (w.0, inr w.1, w.2))
 
 module _ (bounds : Bounds) (monitor : Monitor) (name : ℕ → ℕ) (recording : List Seen) (one : (a b : ℕ) → name a ≡ name b → a ≡ b) where
-  gap_back : (n : ℕ) (y : Seen) → IsEarlyByGap bounds monitor n (all_renamed name recording) (renamed name y) → IsEarlyByGap bounds monitor n recording y
+  pub gap_back : (n : ℕ) (y : Seen) → IsEarlyByGap bounds monitor n (all_renamed name recording) (renamed name y) → IsEarlyByGap bounds monitor n recording y
   gap_back n y f =
       let g = from_named name recording f.other f.there in
       let m : f.other.moment ≡ g.0.moment = same_moment f.other (renamed name g.0) g.2 in
@@ -32,7 +32,7 @@ module _ (bounds : Bounds) (monitor : Monitor) (name : ℕ → ℕ) (recording :
         early = subst (λ v. y.moment + n ≤ v + bounds.short.tg) e f.early;
       }
 
-  sync_back : (n : ℕ) (o y : Seen) → IsEarlyBySync bounds monitor n (all_renamed name recording) (renamed name o) (renamed name y)
+  pub sync_back : (n : ℕ) (o y : Seen) → IsEarlyBySync bounds monitor n (all_renamed name recording) (renamed name o) (renamed name y)
       → IsEarlyBySync bounds monitor n recording o y
   sync_back n o y f = record {
     wide = f.wide;
@@ -61,7 +61,7 @@ module _ (bounds : Bounds) (monitor : Monitor) (name : ℕ → ℕ) (recording :
     others = λ r i. elim (q.others (renamed name r) (to_named name recording r i)) [ inl same ↦ inl (same_back r o same) | inr apart ↦ inr apart ];
   }
 
-  late_back : (n : ℕ) (o y : Seen) → IsLate bounds monitor n (all_renamed name recording) (renamed name o) (renamed name y) → IsLate bounds monitor n recording o y
+  pub late_back : (n : ℕ) (o y : Seen) → IsLate bounds monitor n (all_renamed name recording) (renamed name o) (renamed name y) → IsLate bounds monitor n recording o y
   late_back n o y f = record {
     due = f.due;
     early = f.early;
@@ -75,7 +75,7 @@ module _ (bounds : Bounds) (monitor : Monitor) (name : ℕ → ℕ) (recording :
     };
   }
 
-  next_back : (o y : Seen) → IsIn o recording → IsIn y recording → IsNext (all_renamed name recording) (renamed name o) (renamed name y) → IsNext recording o y
+  pub next_back : (o y : Seen) → IsIn o recording → IsIn y recording → IsNext (all_renamed name recording) (renamed name o) (renamed name y) → IsNext recording o y
   next_back o y i j n = record {
     there = i;
     here = j;

@@ -7,7 +7,7 @@ use Rattle.bus_clocks.specs.Courses.{Course, IsQuiet, carrier}
 use Rattle.bus_clocks.specs.Hearing.{hears_any}
 use Rattle.bus_recording.specs.Seen.{Bounds, Timers}
 use Rattle.bus_recording.specs.Keeping.{AreInRow, AreOver, KeepsBounds}
-use Rattle.bus_recording.specs.Monitors.{HearsWithin}
+use Rattle.bus_recording.specs.Monitors.{HearsWithin, IsPlaced}
 use Rattle.bus_recording.specs.Files.{UntilHearsWithin, UntilHeardKeepsBounds, UntilIsPlaced, UntilKeepsBounds, arrived, until}
 use Rattle.bus_recording.proofs.Quiet.{hush, loud, silent}
 use Rattle.bus_recording.proofs.Recorded.{in_order, of_one}
@@ -46,7 +46,7 @@ module _ (c : Course) (arrives : Entry → ℕ) (end k : ℕ) where
     | inr still ↦ (let w = of_one (until arrives end c) k t still h in loud c w.0 k t (arrived_in arrives end c.list w.0 w.1).0 w.2)
   ]
 
-  quieter : (a b : ℕ) → IsQuiet c k a b → IsQuiet (until arrives end c) k a b
+  pub quieter : (a b : ℕ) → IsQuiet c k a b → IsQuiet (until arrives end c) k a b
   quieter a b q u low high = hush (until arrives end c) k u (λ h. true≢false (sym (more u h) ∙ q u low high))
 
   over_by : (x : Entry) (timers : Timers) (t : ℕ) → AreOver c k timers x t → AreOver (until arrives end c) k timers x t
@@ -59,10 +59,9 @@ module _ (c : Course) (arrives : Entry → ℕ) (end k : ℕ) where
     gap = (o.gap.0, quieter (t - timers.tg) t o.gap.1);
   }
 
-  -- where all that is heard before an own start, and all own starts before it, arrive in time if it does
-  module _ (from : ℕ) (kept : Bounds) (keeps : KeepsBounds c kept k from)
-      (in_time : (z x : Entry) (u : ℕ) → In z c.list → z.sender ≡ k → from ≤ z.moment → In x c.list → c.hears x k u ≡ true → u < z.moment → arrives z < end → arrives x < end)
-      (own_time : (z y : Entry) → In z c.list → z.sender ≡ k → from ≤ z.moment → In y c.list → y.sender ≡ k → y.moment < z.moment → arrives z < end → arrives y < end) where
+  -- where all that is heard before an own start arrives in time if it does
+  module _ (from : ℕ)
+      (in_time : (z x : Entry) (u : ℕ) → In z c.list → z.sender ≡ k → from ≤ z.moment → In x c.list → c.hears x k u ≡ true → u < z.moment → arrives z < end → arrives x < end) where
     same_quiet : (z : Entry) (a b : ℕ) → In z c.list → z.sender ≡ k → from ≤ z.moment → arrives z < end → b ≤ z.moment → IsQuiet (until arrives end c) k a b → IsQuiet c k a b
     same_quiet z a b j own since soon low q u low_u to = hush c k u (λ h. elim (cases_Bool (c.noise k u)) [
       | inl is ↦ true≢false (sym (noisy (until arrives end c) u is) ∙ q u low_u to)
@@ -71,7 +70,7 @@ module _ (c : Course) (arrives : Entry → ℕ) (end k : ℕ) where
           true≢false (sym (loud (until arrives end c) w.0 k u (in_arrived arrives end c.list w.0 w.1 (in_time z w.0 u j own since w.1 w.2 (omega arith) soon)) w.2) ∙ q u low_u to)
     ])
 
-    over_in : (z x : Entry) (timers : Timers) (t : ℕ) → In z c.list → z.sender ≡ k → from ≤ z.moment → arrives z < end → t ≤ z.moment
+    pub over_in : (z x : Entry) (timers : Timers) (t : ℕ) → In z c.list → z.sender ≡ k → from ≤ z.moment → arrives z < end → t ≤ z.moment
         → AreOver (until arrives end c) k timers x t → AreOver c k timers x t
     over_in z x timers t j own since soon low o =
         let room : o.elapsed + timers.tg ≤ t = o.room in
@@ -84,38 +83,41 @@ module _ (c : Course) (arrives : Entry → ℕ) (end k : ℕ) where
           gap = (o.gap.0, same_quiet z (t - timers.tg) t j own since soon low o.gap.1);
         }
 
-    row : (x z : Entry) → from ≤ x.moment → AreInRow (arrived arrives end c.list) k x z → AreInRow c.list k x z
-    row x z since r =
-        let to = arrived_in arrives end c.list z r.here in
-        let less : x.moment < z.moment = r.behind in
-        record {
-          there = (arrived_in arrives end c.list x r.there).0;
-          here = to.0;
-          mine = r.mine;
-          own = r.own;
-          behind = r.behind;
-          next = λ y i e before. r.next y (in_arrived arrives end c.list y i (own_time z y to.0 r.own (omega arith) i e before to.1)) e before;
-        }
+    -- and all own starts before it
+    module _ (kept : Bounds) (keeps : KeepsBounds c kept k from)
+        (own_time : (z y : Entry) → In z c.list → z.sender ≡ k → from ≤ z.moment → In y c.list → y.sender ≡ k → y.moment < z.moment → arrives z < end → arrives y < end) where
+      row : (x z : Entry) → from ≤ x.moment → AreInRow (arrived arrives end c.list) k x z → AreInRow c.list k x z
+      row x z since r =
+          let to = arrived_in arrives end c.list z r.here in
+          let less : x.moment < z.moment = r.behind in
+          record {
+            there = (arrived_in arrives end c.list x r.there).0;
+            here = to.0;
+            mine = r.mine;
+            own = r.own;
+            behind = r.behind;
+            next = λ y i e before. r.next y (in_arrived arrives end c.list y i (own_time z y to.0 r.own (omega arith) i e before to.1)) e before;
+          }
 
-    pub kept_until : KeepsBounds (until arrives end c) kept k from
-    kept_until = record {
-      gap = λ z x t i own since j heard before.
-          let q = keeps.gap z x t (arrived_in arrives end c.list z i).0 own since (arrived_in arrives end c.list x j).0 heard before in
-          (q.0, quieter (z.moment - kept.short.tg) z.moment q.1);
-      early = λ x z r since. over_by x kept.short z.moment (keeps.early x z (row x z since r) since);
-      late = λ x z t r since o. elim (cases_lt t z.moment) [
-        | inr fine ↦ fine
-        | inl sooner ↦
-            let to = arrived_in arrives end c.list z r.here in
-            let less : x.moment < z.moment = r.behind in
-            keeps.late x z t (row x z since r) since (over_in z x kept.long t to.0 r.own (omega arith) to.1 (omega arith) o)
-      ];
-    }
+      pub kept_until : KeepsBounds (until arrives end c) kept k from
+      kept_until = record {
+        gap = λ z x t i own since j heard before.
+            let q = keeps.gap z x t (arrived_in arrives end c.list z i).0 own since (arrived_in arrives end c.list x j).0 heard before in
+            (q.0, quieter (z.moment - kept.short.tg) z.moment q.1);
+        early = λ x z r since. over_by x kept.short z.moment (keeps.early x z (row x z since r) since);
+        late = λ x z t r since o. elim (cases_lt t z.moment) [
+          | inr fine ↦ fine
+          | inl sooner ↦
+              let to = arrived_in arrives end c.list z r.here in
+              let less : x.moment < z.moment = r.behind in
+              keeps.late x z t (row x z since r) since (over_in z x kept.long t to.0 r.own (omega arith) to.1 (omega arith) o)
+        ];
+      }
 
-pub until_keeps : UntilKeepsBounds
-until_keeps c kept k from away drop end arrives p keeps =
-    kept_until c arrives end k from kept keeps
-    (λ z x u j own since i h low soon.
+-- on a cable all that is does
+pub heard_in_time : (c : Course) (k away drop end : ℕ) (arrives : Entry → ℕ) → IsPlaced c drop arrives k away → (from : ℕ) (z x : Entry) (u : ℕ) → In z c.list
+    → z.sender ≡ k → from ≤ z.moment → In x c.list → c.hears x k u ≡ true → u < z.moment → arrives z < end → arrives x < end
+heard_in_time c k away drop end arrives p from z x u j own since i h low soon =
     let at : arrives z ≡ z.moment + away = p.steady z j own in
     elim (cases_eq x.sender k) [
       | inl mine ↦
@@ -123,7 +125,11 @@ until_keeps c kept k from away drop end arrives p keeps =
           let begins : x.moment ≤ u = ((p.itself x i mine).within u h).0 in
           omega arith
       | inr foreign ↦ (let begins : arrives x ≤ u + away = ((p.near x i foreign).within u h).0 in omega arith)
-    ])
+    ]
+
+pub until_keeps : UntilKeepsBounds
+until_keeps c kept k from away drop end arrives p keeps =
+    kept_until c arrives end k from (heard_in_time c k away drop end arrives p from) kept keeps
     (λ z y j own since i mine less soon.
     let at : arrives z ≡ z.moment + away = p.steady z j own in
     let to : arrives y ≡ y.moment + away = p.steady y i mine in
@@ -137,7 +143,7 @@ begun c drop k reach arrives h x i u heard = elim (cases_eq x.sender k) [
 
 pub until_heard_keeps : UntilHeardKeepsBounds
 until_heard_keeps c kept k from reach drop end arrives h wide long room keeps =
-    kept_until c arrives end k from kept keeps
+    kept_until c arrives end k from
     (λ z x u j own since i heard low soon.
     let to : z.moment ≤ arrives z = (h.recorded z j).0 in
     let high : arrives x ≤ x.moment + reach = (h.recorded x i).1 in
@@ -148,6 +154,7 @@ until_heard_keeps c kept k from reach drop end arrives h wide long room keeps =
       | inl early ↦ omega arith
       | inr late ↦ absurd (silent c x k u i heard (been.1 u late low))
     ])
+    kept keeps
     (λ z y j own since i mine less soon.
     let to : z.moment ≤ arrives z = (h.recorded z j).0 in
     let high : arrives y ≤ y.moment + reach = (h.recorded y i).1 in

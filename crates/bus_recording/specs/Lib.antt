@@ -16,3 +16,4 @@ pub mod Found
 pub mod Exact
 pub mod Names
 pub mod Files
+pub mod FileAmounts

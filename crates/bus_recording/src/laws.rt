@@ -4,6 +4,7 @@ ghost use Rattle.bus_recording.specs.Alarms.{HeardIsClean, HeardIsRecorded, Plac
 ghost use Rattle.bus_recording.specs.Amounts.{GapIsNear, GapIsTrue, IntervalIsExact, IntervalIsTrue, LateIsTrue, NextAreInRow, SyncIsTrue};
 ghost use Rattle.bus_recording.specs.Bounded.{AdmissibleKeepsBounds, CoursesKeepBounds};
 ghost use Rattle.bus_recording.specs.Exact.{CleanStartIsDue, CleanStartIsLawful};
+ghost use Rattle.bus_recording.specs.FileAmounts.{FileAmountsAreTrue, FileGapIsTrue};
 ghost use Rattle.bus_recording.specs.Files.{CourseFileIsClean, FileIsClean, FileIsRecorded, UntilHeardKeepsBounds, UntilHearsWithin, UntilIsPlaced, UntilKeepsBounds};
 ghost use Rattle.bus_recording.specs.Found.{LateStartIsFound, PlacedIsSteady, ShortGapIsFound, ShortIntervalIsFound, ShortSyncIsFound};
 ghost use Rattle.bus_recording.specs.Just.{FindingsAreJust};
@@ -99,6 +100,12 @@ pub fn amounts_are_true()
     ensures gap { GapIsTrue }
     ensures sync { SyncIsTrue }
     ensures late { LateIsTrue }
+{}
+
+/// So are the amounts that are found in a file, in whole bit times, of the bus that was recorded, in ticks, but for the rounding.
+pub fn file_amounts_are_true()
+    ensures next { FileAmountsAreTrue }
+    ensures gap { FileGapIsTrue }
 {}
 
 /// Faults that are greater than the margins are found, with their amounts, where delays are steady and nothing is rounded: an interval

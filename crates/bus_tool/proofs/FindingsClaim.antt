@@ -1,12 +1,14 @@
 -- What is claimed of what is found in a recording.
-use Rattle.std.specs.Prelude.{◌≡◌, ℕ, ◌≤◌, true, ◌&&◌, List, [], ◌∷◌, codes, Option, Some, None}
-use Rattle.std.proofs.Common.{ap, ◌∙◌, cond}
+use Rattle.std.specs.Prelude.{◌≡◌, ℕ, ◌≤◌, true, ◌&&◌, false, List, [], ◌∷◌, codes, Option, Some, None}
+use Rattle.std.proofs.Common.{ap, ◌∙◌, cond, subst, sym}
 use Rattle.bus_text.specs.Numbers.{IsDecimal, decimal_value}
 use Rattle.bus_bounds.specs.Bounds.{Bounds, most_clocks}
 use Rattle.bus_table.specs.Tables.{Table}
 use Rattle.bus_trace.specs.Traces.{Recording, IsTrace}
 use Rattle.bus_findings.specs.Laws.{KeepersAreUnblamed, AmountsAreTold, FilesAreUnblamed, CourseFilesAreUnblamed, GoodFileHasNoFault, CourseFileHasNoFault}
+use Rattle.bus_findings.specs.Meanings.{FileAmountsAreMeant, FileGapIsMeant}
 use Rattle.bus_findings.specs.Terminals.{has_fault}
+use Rattle.bus_recording_lawful.specs.Faultless.{LawfulHasNoFault}
 use Rattle.bus_command.specs.Outside.{Call}
 use Rattle.bus_tool.specs.Acts.{Acts}
 use Rattle.bus_tool.specs.FindingsClaims.{AreTrue, IsDiagnoseOf, GivesFindings}
@@ -23,8 +25,11 @@ pub record FindingsLaws : Type 0 where
   pub courses : CourseFilesAreUnblamed
   pub keepers : GoodFileHasNoFault
   pub senders : CourseFileHasNoFault
+  pub lawful : LawfulHasNoFault
   pub amounts : AmountsAreTold
   pub meaning : AreTrue
+  pub ticks : FileAmountsAreMeant
+  pub gap : FileGapIsMeant
 
 -- ---- the words
 bounds_are : (bounds : Bounds) (table : Table) (trace : Recording) (call : Call) (h : IsDiagnoseOf bounds table trace call)
@@ -62,6 +67,11 @@ findings_claim texts laws call outcome bounds table trace acts h =
       courses = λ sender x sends of. laws.courses bounds table trace sender x is_trace sends of;
       keepers = laws.keepers bounds table trace is_trace;
       senders = laws.senders bounds table trace is_trace;
+      lawful = λ collided exact answer.
+          subst (λ (b : Bounds). has_fault b table trace ≡ false) (sym exact)
+          (laws.lawful table trace h.traced.table_told.valid is_trace answer.0);
       amounts = λ sender x o of last. laws.amounts bounds table trace sender x o of last;
       meaning = laws.meaning;
+      ticks = λ sender s x o. laws.ticks bounds table trace sender s x o is_trace;
+      gap = λ sender s x. laws.gap bounds table trace sender s x is_trace;
     }

@@ -1,18 +1,22 @@
 -- What is claimed of `diagnose`: what it writes of a recording, that it is no false alarm, and that its amounts are true.
-use Rattle.std.specs.Prelude.{◌≡◌, ℕ, false, List, [], ◌∷◌, codes, Some}
+use Rattle.std.specs.Prelude.{◌≡◌, ℕ, ◌<◌, false, List, [], ◌∷◌, codes, Some}
 use Rattle.bus_text.specs.Numbers.{IsDecimal}
 use Rattle.bus_strings.specs.Messages.{Entry}
 use Rattle.bus_bounds.specs.Bounds.{Bounds}
 use Rattle.bus_table.specs.Tables.{Sender, Table}
 use Rattle.bus_trace.specs.Traces.{Recording}
+use Rattle.bus_audit.specs.Breaches.{IsAnswer}
+use Rattle.bus_audit.specs.declared.answer.AuditAnswer.TheVariants.{Lawful}
 use Rattle.bus_recording.specs.Amounts.{IntervalIsTrue, GapIsTrue, SyncIsTrue, LateIsTrue}
 use Rattle.bus_recording.specs.Seen.{Seen}
-use Rattle.bus_findings.specs.Files.{IsInCourse, KeepsInFile}
+use Rattle.bus_findings.specs.Files.{IsInCourse, KeepsInFile, StandsInFile}
 use Rattle.bus_findings.specs.Judging.{judgement_of, last_start}
 use Rattle.bus_findings.specs.Laws.{Keeps, IsOfSender, IsUnblamed, AreAmounts, AreOfTable, OfEachSender}
+use Rattle.bus_findings.specs.Meanings.{GapIsMeantOf, IsMeantOf, StartsSingly}
 use Rattle.bus_findings.specs.Recorded.{seen, recorded, monitor_of, timers_of}
 use Rattle.bus_findings.specs.Terminals.{has_fault}
 use Rattle.bus_findings.specs.Texts.{findings_text}
+use Rattle.bus_recording_lawful.specs.Faultless.{exact_bounds}
 pub use Rattle.bus_command.specs.Bounding.{AreNear}
 use Rattle.bus_command.specs.Claims.{Answers, IsOfTraced}
 use Rattle.bus_command.specs.Outside.{Call}
@@ -49,8 +53,12 @@ pub record AreTrue : Type 0 where
 --   courses   nor is any sender of a bus within bounds, in any course of it, in both modes, from any state
 --   keepers   so no fault is found in such a file, where each transmission is of a sender, and fits, and each sender keeps its bounds
 --   senders   or is a sender of a bus within bounds
+--   lawful    nor with `0 0 0` in a trace that `audit` finds to be lawful
 --   amounts   what is told of a start behind another of its sender are the amounts of bus_recording, the greatest of which it says so
---   meaning   and what these mean
+--   meaning   and what these mean on a bus that goes in whole bit times
+--   ticks     what they mean where the trace is the file of a monitor, of the bus that was recorded, in ticks as fine as you like: but for
+--             less than a bit time, or two
+--   gap       and the amount of its terminal gap, be the start the first of its sender
 pub record GivesFindings (bounds : Bounds) (table : Table) (trace : Recording) (call : Call) (status : Status) : Type 0 where
   pub gives : Answers (status_of (findings_outcome (has_fault bounds table trace))) (λ text. text ≡ findings_text bounds table trace) call status
   pub unblamed : (sender : Sender) (x : Entry) → Keeps bounds table trace sender → IsOfSender table trace sender x
@@ -61,8 +69,15 @@ pub record GivesFindings (bounds : Bounds) (table : Table) (trace : Recording) (
       → IsUnblamed (judgement_of bounds table trace.list x)
   pub keepers : AreOfTable table trace → OfEachSender table (KeepsInFile bounds table trace) → has_fault bounds table trace ≡ false
   pub senders : AreOfTable table trace → OfEachSender table (IsInCourse bounds table trace) → has_fault bounds table trace ≡ false
+  pub lawful : (collided : ℕ) → bounds ≡ exact_bounds → IsAnswer table trace (Lawful collided) → has_fault bounds table trace ≡ false
   pub amounts : (sender : Sender) (x : Entry) (o : Seen) → IsOfSender table trace sender x
       → last_start (recorded bounds trace.list) x.terminal x.moment ≡ Some o
       → AreAmounts (timers_of bounds table sender) (monitor_of bounds table) (recorded bounds trace.list) o (seen bounds x)
       (judgement_of bounds table trace.list x)
   pub meaning : AreTrue
+  pub ticks : (sender : Sender) (s : StandsInFile bounds table trace sender) (x : Entry) (o : Seen) → StartsSingly bounds table trace sender s
+      → IsOfSender table trace sender x → last_start (recorded bounds trace.list) x.terminal x.moment ≡ Some o
+      → IsMeantOf bounds table trace sender s x o
+  pub gap : (sender : Sender) (s : StandsInFile bounds table trace sender) (x : Entry) → StartsSingly bounds table trace sender s
+      → IsOfSender table trace sender x → 0 < (judgement_of bounds table trace.list x).terminal_gap
+      → GapIsMeantOf bounds table trace sender s x

@@ -14,7 +14,9 @@ use bus_diagnosis::laws::{
 };
 use bus_exact::laws::any_start_settles_on_cable;
 use bus_explain::laws::{gaps_are_told, load_is_of_longest_cycle, spare_is_fall, spare_is_rise};
-use bus_findings::laws::{faults_are_just, files_are_unblamed, good_buses_have_no_fault};
+use bus_findings::laws::{
+    amounts_are_meant, faults_are_just, files_are_unblamed, good_buses_have_no_fault,
+};
 use bus_margins::laws::{any_settles, level_keeps_order};
 use bus_margins_periodic::laws::{leads_follow_one, turns_keep_turns};
 use bus_medium::laws::{one_cable_list, one_lawful_list};
@@ -25,6 +27,7 @@ use bus_reach::laws::{
     periodic_bearing_is_exact, periodic_borne_is_closed, some_never_part, tolerance_is_exact,
 };
 use bus_recording::laws::amounts_are_true;
+use bus_recording_lawful::laws::lawful_has_no_fault;
 use bus_schedule::laws::{
     accepted_is_closed, closed_is_orderly, even_hands_agree, gaps_are_left, verdicts_are_exact,
     witnesses_have_schedules,
@@ -94,7 +97,9 @@ pub fn tool<S: Source, K: Sink, E: Sink>(
     faults_are_just();
     files_are_unblamed();
     good_buses_have_no_fault();
+    lawful_has_no_fault();
     amounts_are_true();
+    amounts_are_meant();
     advices_work();
     none_missing();
     spare_is_rise();

@@ -87,6 +87,7 @@ returns-clause-keeps g c =
         courses = c.files_are_unblamed.ensures.courses;
         keepers = c.good_buses_have_no_fault.ensures.keepers;
         senders = c.good_buses_have_no_fault.ensures.courses;
+        lawful = c.lawful_has_no_fault.ensures;
         amounts = c.faults_are_just.ensures.amounts;
         meaning = record {
           interval = c.amounts_are_true.ensures.interval;
@@ -94,6 +95,8 @@ returns-clause-keeps g c =
           sync_gap = c.amounts_are_true.ensures.sync;
           late = c.amounts_are_true.ensures.late;
         };
+        ticks = c.amounts_are_meant.ensures.next;
+        gap = c.amounts_are_meant.ensures.gap;
       };
       explained = record {
         works = c.advices_work.ensures;
