@@ -18,7 +18,7 @@ use Rattle.bus_cycles.specs.Surveys.{Survey, breach_in, counts, survey_of}
 
 abbrev pub text_with : Window → TableVerdict → Told → Table → Recording → ℕ → Counts → Survey → Page → Option ℕ → List ℕ
 text_with window verdict told table trace height numbers survey page breach =
-    frame_text height verdict told table numbers
+    frame_text height verdict told table trace.list numbers
     ++ above_text page survey told ++ rows_text page (rows_of page.cycle (shown window trace.list))
     ++ loads_text page trace.list (rows_of page.cycle (shown window trace.list)) ++ marks_text page table verdict ++ below_text page
     ++ breach_text page breach survey.marked ++ faults_text page told (rows_of page.cycle (shown window trace.list)) ++ tail_text

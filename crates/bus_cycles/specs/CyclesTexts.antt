@@ -204,7 +204,7 @@ breach_text page (Some moment) (Some row) = breach_in_row page moment row
 -- The picture of a window of a trace on a table, given what is told of its rows, and what these go by.
 abbrev pub text_of : Page → Survey → Window → TableVerdict → Told → Table → Recording → List ℕ
 text_of page survey window verdict told table trace =
-    frame_text (height_of page) verdict told table (counts window trace)
+    frame_text (height_of page) verdict told table trace.list (counts window trace)
     ++ above_text page survey told
     ++ rows_text page (rows table window trace.list) ++ loads_text page trace.list (rows table window trace.list)
     ++ marks_text page table verdict ++ below_text page

@@ -45,7 +45,16 @@ pub fn write_cycles<K: Sink>(
     let page = Page::new(table, &survey, &counts);
     let height = height_of(&page);
     let mut text = TextBuffer::new();
-    put_frame(&mut text, sink, height, verdict, told, table, &counts);
+    put_frame(
+        &mut text,
+        sink,
+        height,
+        verdict,
+        told,
+        table,
+        trace.list(),
+        &counts,
+    );
     put_above(&mut text, sink, &page, &survey, told);
     put_rows(&mut text, sink, &page, window, trace);
     put_loads(&mut text, sink, &page, window, trace, carrier);

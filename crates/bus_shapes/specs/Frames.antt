@@ -1,5 +1,6 @@
 -- What stands around each picture: its head with the title and the style, the words above the plot, and its end.
 use Rattle.std.specs.Prelude.{ℕ, ◌/◌, List, [], ◌++◌, codes, decimal}
+use Rattle.bus_strings.specs.Messages.{Entry}
 use Rattle.bus_regime.specs.declared.table_verdict.TableVerdict.{TableVerdict}
 use Rattle.bus_regime.specs.Lines.{verdict_words}
 use Rattle.bus_table.specs.Tables.{Table}
@@ -66,12 +67,12 @@ counts_words counts =
 abbrev pub background : ℕ → Area
 background height = record { left = 0; top = 0; width = picture_width; height = height }
 
--- The headings of the verdict and of what is told of the trace, a line each. Of the longest, a breach in the longest trace, the last letter ends 1780 units
+-- The headings of the verdict and of what is told of the trace, a line each. Of the longest, a breach in the longest trace, the last letter ends 1690 units
 -- before the right margin, where a picture may put a few words of its own.
-abbrev pub heads_text : TableVerdict → Told → List ℕ
-heads_text verdict told =
+abbrev pub heads_text : TableVerdict → Told → List Entry → List ℕ
+heads_text verdict told list =
     words_text (verdict_class verdict) left_margin head_line (verdict_heading verdict)
-    ++ words_text Answer left_margin answer_line (told_heading told)
+    ++ words_text Answer left_margin answer_line (told_heading list told)
 
 -- The words of the table, and the counts. They have room for 151 letters, and with counts of ten digits are 141 at most.
 abbrev pub facts_text : Table → Counts → List ℕ
@@ -79,11 +80,11 @@ facts_text table counts =
     words_text Note left_margin facts_line (table_words table)
     ++ words_text classes.Counts right_margin facts_line (counts_words counts)
 
--- All that stands before the plot of a picture of this height.
-abbrev pub frame_text : ℕ → TableVerdict → Told → Table → Counts → List ℕ
-frame_text height verdict told table counts =
+-- All that stands before the plot of a picture of this height, of a list.
+abbrev pub frame_text : ℕ → TableVerdict → Told → Table → List Entry → Counts → List ℕ
+frame_text height verdict told table list counts =
     size_text height ++ title_text (verdict_words verdict) (told_words told) ++ style_text ++ told_style told ++ box_text Background (background height)
-    ++ heads_text verdict told ++ facts_text table counts
+    ++ heads_text verdict told list ++ facts_text table counts
 
 -- The end of a picture.
 abbrev pub tail_text : List ℕ

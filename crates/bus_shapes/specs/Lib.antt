@@ -8,6 +8,8 @@ pub mod SendingLaws
 pub mod Scales
 pub mod Axes
 pub mod Frames
+pub mod Later
+pub mod LaterLaws
 pub mod Headings
 pub mod Laws
 pub mod inside

@@ -19,6 +19,7 @@ use crate::shapes::{begin_words, end_words, put_box};
 use crate::told::Told;
 use bus_outer::{Sink, TextBuffer};
 use bus_regime::{TableVerdict, put_verdict};
+use bus_strings::Transmission;
 use bus_table::{Mode, Table, put_mode};
 
 /// The style of all classes, in a light and in a dark scheme, and the hatching of what is garbled.
@@ -212,15 +213,21 @@ fn put_counts<K: Sink>(text: &mut TextBuffer, sink: &mut K, counts: &Counts)
 }
 
 /// The words of the verdict, and of what is told of the trace.
-fn put_heads<K: Sink>(text: &mut TextBuffer, sink: &mut K, verdict: &TableVerdict, told: &Told)
+fn put_heads<K: Sink>(
+    text: &mut TextBuffer,
+    sink: &mut K,
+    verdict: &TableVerdict,
+    told: &Told,
+    list: &[Transmission],
+)
     ensures { Adds K.held K.faults sink.old sink.new text.old text.new
-        (definition.heads_text verdict.now told.now) }
+        (definition.heads_text verdict.now told.now list.now) }
 {
     begin_words(text, sink, verdict_class(verdict), LEFT_MARGIN, HEAD_LINE);
     put_verdict_heading(text, sink, verdict);
     end_words(text, sink);
     begin_words(text, sink, Class::Answer, LEFT_MARGIN, ANSWER_LINE);
-    put_told_heading(text, sink, told);
+    put_told_heading(text, sink, told, list);
     end_words(text, sink);
 }
 
@@ -237,7 +244,8 @@ fn put_facts<K: Sink>(text: &mut TextBuffer, sink: &mut K, table: &Table, counts
 }
 
 /// Puts all that stands before the plot of a picture of this height, in units of a tenth of a pixel: its head, whose title has the words
-/// of the verdict and of what is told of the trace, its background, the headings of both, the words of the table, and the counts.
+/// of the verdict and of what is told of the trace, whose list this is, its background, the headings of both, the words of the table, and
+/// the counts. It goes over the list up to a late start.
 pub fn put_frame<K: Sink>(
     text: &mut TextBuffer,
     sink: &mut K,
@@ -245,10 +253,11 @@ pub fn put_frame<K: Sink>(
     verdict: &TableVerdict,
     told: &Told,
     table: &Table,
+    list: &[Transmission],
     counts: &Counts,
 )
     ensures { Adds K.held K.faults sink.old sink.new text.old text.new
-        (frame_text height verdict.now told.now table.now counts.now) }
+        (frame_text height verdict.now told.now table.now list.now counts.now) }
 {
     put_size(text, sink, height);
     put_title(text, sink, verdict, told);
@@ -261,7 +270,7 @@ pub fn put_frame<K: Sink>(
         height,
     };
     put_box(text, sink, Class::Background, area);
-    put_heads(text, sink, verdict, told);
+    put_heads(text, sink, verdict, told, list);
     put_facts(text, sink, table, counts);
 }
 

@@ -1,7 +1,7 @@
 //! The heading of a picture, in words.
-ghost use Rattle.std.specs.Prelude.{◌≡◌, codes};
+ghost use Rattle.std.specs.Prelude.{◌≡◌, codes, Some};
 ghost use Rattle.bus_outer.specs.Texts.{Adds};
-ghost use Rattle.bus_audit.specs.declared.answer.AuditAnswer.TheVariants.{Lawful, Breach};
+ghost use Rattle.bus_audit.specs.declared.answer.AuditAnswer.TheVariants.{Breach};
 ghost use Rattle.bus_regime.specs.declared.table_verdict.TableVerdict.TheVariants.{ShortCycle, SmallGap, NoSync};
 ghost use Rattle.bus_table.specs.declared.mode.Mode.TheVariants.{Aperiodic, Periodic};
 ghost use Rattle.bus_shapes.specs.Headings as definition;
@@ -9,13 +9,14 @@ ghost use Rattle.bus_shapes.specs.Sayings.{counted};
 
 use crate::class::Class;
 use crate::frame::put_counted;
+use crate::later::later;
 use crate::told::Told;
 use bus_audit::{AuditAnswer, BreachKind, put_answer};
 use bus_bounds::Bounds;
 use bus_findings::{Judgement, fault_sum, put_within};
 use bus_outer::{Sink, TextBuffer};
 use bus_regime::TableVerdict;
-use bus_strings::{put_microseconds, put_microseconds_unit};
+use bus_strings::{Transmission, put_microseconds, put_microseconds_unit};
 use bus_table::Mode;
 
 /// An acceptance in aperiodic mode.
@@ -127,37 +128,64 @@ pub(crate) fn verdict_class(verdict: &TableVerdict) -> Class
     }
 }
 
-/// What a terminal does that breaches.
-fn put_breach_words<K: Sink>(text: &mut TextBuffer, sink: &mut K, kind: BreachKind)
-    ensures { Adds K.held K.faults sink.old sink.new text.old text.new (definition.breach_words kind) }
+/// That a terminal starts so many bit times later.
+fn put_late<K: Sink>(text: &mut TextBuffer, sink: &mut K, n: u64)
+    ensures { Adds K.held K.faults sink.old sink.new text.old text.new (definition.missing_words (Some n)) }
+{
+    text.put(sink, b" starts ");
+    put_counted(text, sink, n, b"bit time");
+    text.put(sink, b" later");
+}
+
+/// What a terminal does that doesn't start where it should.
+fn put_missing<K: Sink>(text: &mut TextBuffer, sink: &mut K, next: Option<u64>)
+    ensures { Adds K.held K.faults sink.old sink.new text.old text.new (definition.missing_words next) }
+{
+    match next {
+        None => text.put(sink, b" should start and doesn't"),
+        Some(n) => put_late(text, sink, n),
+    }
+}
+
+/// What a terminal does that breaches at a moment of a list.
+fn put_breach_words<K: Sink>(
+    text: &mut TextBuffer,
+    sink: &mut K,
+    list: &[Transmission],
+    moment: u64,
+    terminal: u8,
+    kind: BreachKind,
+)
+    ensures { Adds K.held K.faults sink.old sink.new text.old text.new (definition.breach_words list.now moment terminal kind) }
 {
     match kind {
         BreachKind::Stranger => text.put(sink, b" starts and is no sender"),
         BreachKind::Unheld => text.put(sink, b" starts and has no message left"),
         BreachKind::Early => text.put(sink, b" starts before its timers allow it"),
         BreachKind::Misfit => text.put(sink, b" sends what its lines don't allow"),
-        BreachKind::Missing => text.put(sink, b" should start and doesn't"),
+        BreachKind::Missing => put_missing(text, sink, later(list, moment, terminal)),
     }
 }
 
 /// That nothing is wrong.
 fn put_lawful<K: Sink>(text: &mut TextBuffer, sink: &mut K, collided: u64)
-    ensures { Adds K.held K.faults sink.old sink.new text.old text.new (definition.answer_heading (Lawful collided)) }
+    ensures { Adds K.held K.faults sink.old sink.new text.old text.new (definition.lawful_heading collided) }
 {
     text.put(sink, b"LAWFUL, ");
     put_counted(text, sink, collided, b"transmission");
     text.put(sink, b" collided");
 }
 
-/// The first breach.
+/// The first breach of a list.
 fn put_breach<K: Sink>(
     text: &mut TextBuffer,
     sink: &mut K,
+    list: &[Transmission],
     moment: u64,
     terminal: u8,
     kind: BreachKind,
 )
-    ensures { Adds K.held K.faults sink.old sink.new text.old text.new (definition.answer_heading (Breach moment terminal kind)) }
+    ensures { Adds K.held K.faults sink.old sink.new text.old text.new (definition.answer_heading list.now (Breach moment terminal kind)) }
 {
     text.put(sink, b"BREACH at ");
     text.put_number(sink, moment);
@@ -166,12 +194,17 @@ fn put_breach<K: Sink>(
     put_microseconds_unit(text, sink);
     text.put(sink, b"): terminal ");
     text.put_number(sink, terminal);
-    put_breach_words(text, sink, kind);
+    put_breach_words(text, sink, list, moment, terminal, kind);
 }
 
-/// Puts what an audit found.
-fn put_answer_heading<K: Sink>(text: &mut TextBuffer, sink: &mut K, answer: &AuditAnswer)
-    ensures { Adds K.held K.faults sink.old sink.new text.old text.new (definition.answer_heading answer.now) }
+/// Puts what an audit found in a list.
+fn put_answer_heading<K: Sink>(
+    text: &mut TextBuffer,
+    sink: &mut K,
+    list: &[Transmission],
+    answer: &AuditAnswer,
+)
+    ensures { Adds K.held K.faults sink.old sink.new text.old text.new (definition.answer_heading list.now answer.now) }
 {
     match *answer {
         AuditAnswer::Lawful { collided } => put_lawful(text, sink, collided),
@@ -179,7 +212,7 @@ fn put_answer_heading<K: Sink>(text: &mut TextBuffer, sink: &mut K, answer: &Aud
             moment,
             terminal,
             kind,
-        } => put_breach(text, sink, moment, terminal, kind),
+        } => put_breach(text, sink, list, moment, terminal, kind),
     }
 }
 
@@ -209,12 +242,17 @@ fn put_findings<K: Sink>(
     put_faults(text, sink, fault_sum(judgements));
 }
 
-/// Puts what is told of a trace.
-pub(crate) fn put_told_heading<K: Sink>(text: &mut TextBuffer, sink: &mut K, told: &Told)
-    ensures { Adds K.held K.faults sink.old sink.new text.old text.new (definition.told_heading told.now) }
+/// Puts what is told of a trace, whose list this is.
+pub(crate) fn put_told_heading<K: Sink>(
+    text: &mut TextBuffer,
+    sink: &mut K,
+    told: &Told,
+    list: &[Transmission],
+)
+    ensures { Adds K.held K.faults sink.old sink.new text.old text.new (definition.told_heading list.now told.now) }
 {
     match told {
-        Told::Audit(answer) => put_answer_heading(text, sink, answer),
+        Told::Audit(answer) => put_answer_heading(text, sink, list, answer),
         Told::Findings { bounds, judgements } => put_findings(text, sink, *bounds, judgements),
     }
 }

@@ -7,8 +7,8 @@
 //! - [`laws`] has what follows of the definitions of places, marks and what is told of a list, [`measures`] where words stand.
 //!
 //! All numbers are whole; a unit is a tenth of a pixel. The definitions are in `specs/`: `Classes`, `Shapes` (boxes and words), `Scales`
-//! (places of moments), `Axes`, `Sayings` (the words), `Sending` (what is told of a list), `Headings` and `Frames`. No call takes
-//! memory.
+//! (places of moments), `Axes`, `Sayings` (the words), `Sending` (what is told of a list), `Later` (late starts), `Headings` and `Frames`.
+//! No call takes memory.
 #![tactic(auto)]
 
 mod area;
@@ -17,6 +17,7 @@ mod class;
 mod counts;
 mod frame;
 mod heading;
+mod later;
 pub mod laws;
 pub mod measures;
 mod scale;
