@@ -1,5 +1,6 @@
 -- The classes of boxes and words: what each is called in a picture, and how it looks. Blue and vermillion, by Okabe and Ito, are told
--- apart by a colour-blind person; what is garbled is hatched too, so that it shows in grey.
+-- apart by a colour-blind person. What shall be told apart in grey is so by its pattern: what is garbled is hatched one way, what lies behind
+-- the horizon the other way, and the line of a gap is dashed.
 use Rattle.std.specs.Prelude.{ℕ, Bool, true, false, List, [], ◌∷◌, ◌++◌, codes, if◌then◌else◌}
 use Rattle.std.specs.List.{flat_map}
 pub use Rattle.bus_shapes.specs.declared.class.Class.{Class}
@@ -50,21 +51,21 @@ class_name BreachWords = codes "breach-words"
 abbrev pub look : Class → List ℕ
 look Background = codes "fill:#fff"
 look Band = codes "fill:#f6f7f9"
-look Unobserved = codes "fill:#ddd"
+look Unobserved = codes "fill:url(#unseen)"
 look Grid = codes "fill:#d5d8dd"
 look Tick = codes "fill:#666"
 look Span = codes "fill:#555"
 look Message = codes "fill:#cfe3f3;stroke:#0072b2;stroke-width:10"
 look Garbled = codes "fill:url(#hatch);stroke:#a63a00;stroke-width:14"
-look GarbledNarrow = codes "fill:url(#hatch)"
+look GarbledNarrow = codes "fill:url(#clash)"
 look Wordstring = codes "fill:#00588f"
 look Other = codes "fill:#37799f"
 look Label = codes "fill:#00385c;pointer-events:none"
 look Noise = codes "fill:#d55e00;fill-opacity:.4"
 look Edge = codes "fill:#fff;pointer-events:none"
 look Overlap = codes "fill:#d55e00;fill-opacity:.2;pointer-events:none"
-look Gap = codes "fill:#b07800;pointer-events:none"
-look Interval = codes "fill:#009e73;pointer-events:none"
+look Gap = codes "fill:url(#dashes);pointer-events:none"
+look Interval = codes "fill:#00845f;pointer-events:none"
 look Mark = codes "fill:#000;fill-opacity:.6;pointer-events:none"
 look Breach = codes "fill:#000;pointer-events:none"
 look Fault = codes "fill:#000"

@@ -3,7 +3,7 @@
 use Rattle.std.specs.Prelude.{ℕ, List, ◌++◌, codes, Option, Some, None}
 use Rattle.std.specs.Fmt.{decimal, signed_decimal}
 use Rattle.bus_strings.specs.Messages.{Entry}
-use Rattle.bus_strings.specs.Microseconds.{microseconds, microseconds_unit}
+use Rattle.bus_strings.specs.Microseconds.{microseconds_unit}
 use Rattle.bus_audit.specs.declared.answer.AuditAnswer.{AuditAnswer}
 use Rattle.bus_audit.specs.declared.answer.AuditAnswer.TheVariants.{Lawful, Breach}
 use Rattle.bus_audit.specs.declared.answer.BreachKind.{BreachKind}
@@ -19,7 +19,8 @@ use Rattle.bus_findings.specs.Terminals.{fault_sum}
 use Rattle.bus_findings.specs.Texts.{within_words}
 use Rattle.bus_shapes.specs.Classes.{Class, Verdict, Refusal}
 use Rattle.bus_shapes.specs.Later.{later}
-use Rattle.bus_shapes.specs.Sayings.{counted}
+use Rattle.bus_shapes.specs.Numbers.{parted, parted_microseconds}
+use Rattle.bus_shapes.specs.Sayings.{counted, plainly_counted}
 pub use Rattle.bus_shapes.specs.declared.told.Told.{Told}
 pub use Rattle.bus_shapes.specs.declared.told.Told.TheVariants.{Audit, Findings}
 
@@ -27,22 +28,22 @@ pub use Rattle.bus_shapes.specs.declared.told.Told.TheVariants.{Audit, Findings}
 -- An acceptance: the shortest and the longest cycle, which in periodic mode are one.
 abbrev pub accept_heading : Mode → ℕ → ℕ → List ℕ
 accept_heading Aperiodic least most =
-    codes "ACCEPT aperiodic, cycle " ++ decimal least ++ codes " to " ++ decimal most ++ codes " bit times (" ++ microseconds least
-    ++ codes " to " ++ microseconds most ++ microseconds_unit ++ codes ")"
+    codes "ACCEPT aperiodic, cycle " ++ parted (decimal least) ++ codes " to " ++ parted (decimal most) ++ codes " bit times (" ++ parted_microseconds least
+    ++ codes " to " ++ parted_microseconds most ++ microseconds_unit ++ codes ")"
 accept_heading Periodic least most =
-    codes "ACCEPT periodic, cycle " ++ decimal least ++ codes " bit times (" ++ microseconds least ++ microseconds_unit ++ codes ")"
+    codes "ACCEPT periodic, cycle " ++ parted (decimal least) ++ codes " bit times (" ++ parted_microseconds least ++ microseconds_unit ++ codes ")"
 
 -- A verdict.
 abbrev pub verdict_heading : TableVerdict → List ℕ
 verdict_heading (Accept mode least most) = accept_heading mode least most
 verdict_heading (ShortCycle least ti) =
-    codes "REFUSE: shortest cycle " ++ decimal least ++ codes " bit times, below TI " ++ decimal ti
+    codes "REFUSE: shortest cycle " ++ parted (decimal least) ++ codes " bit times, below TI " ++ parted (decimal ti)
 verdict_heading (SmallGap terminal gap needed) =
     codes "REFUSE: gap before terminal " ++ decimal terminal ++ codes " is " ++ signed_decimal gap ++ codes " bit times, below TG "
-    ++ decimal needed
+    ++ parted (decimal needed)
 verdict_heading (NoSync terminal gap needed) =
-    codes "REFUSE: no gap for SG, gap before terminal " ++ decimal terminal ++ codes " is " ++ decimal gap
-    ++ codes " bit times, below SG + TG " ++ decimal needed
+    codes "REFUSE: no gap for SG, gap before terminal " ++ decimal terminal ++ codes " is " ++ parted (decimal gap)
+    ++ codes " bit times, below SG + TG " ++ parted (decimal needed)
 
 -- How it looks: a refusal isn't to be taken for an acceptance.
 abbrev pub verdict_class : TableVerdict → Class
@@ -73,13 +74,13 @@ lawful_heading collided = codes "LAWFUL, " ++ counted collided (codes "transmiss
 abbrev pub answer_heading : List Entry → AuditAnswer → List ℕ
 answer_heading list (Lawful collided) = lawful_heading collided
 answer_heading list (Breach moment terminal kind) =
-    codes "BREACH at " ++ decimal moment ++ codes " (" ++ microseconds moment ++ microseconds_unit ++ codes "): terminal "
+    codes "BREACH at " ++ parted (decimal moment) ++ codes " (" ++ parted_microseconds moment ++ microseconds_unit ++ codes "): terminal "
     ++ decimal terminal ++ breach_words list moment terminal kind
 
 -- ---- what is told of the trace
 -- As a recording of a bus within bounds: these, and how many faults are found.
 abbrev pub findings_heading : Bounds → List Judgement → List ℕ
-findings_heading bounds judgements = within_words bounds ++ codes ": " ++ counted (fault_sum judgements) (codes "fault")
+findings_heading bounds judgements = within_words bounds ++ codes ": " ++ plainly_counted (fault_sum judgements) (codes "fault")
 
 -- What an audit found in a list, or that.
 abbrev pub told_heading : List Entry → Told → List ℕ

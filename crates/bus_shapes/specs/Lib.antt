@@ -2,6 +2,7 @@
 pub mod Measures
 pub mod Classes
 pub mod Shapes
+pub mod Numbers
 pub mod Sayings
 pub mod Sending
 pub mod SendingLaws

@@ -5,18 +5,19 @@ ghost use Rattle.bus_audit.specs.declared.answer.AuditAnswer.TheVariants.{Breach
 ghost use Rattle.bus_regime.specs.declared.table_verdict.TableVerdict.TheVariants.{ShortCycle, SmallGap, NoSync};
 ghost use Rattle.bus_table.specs.declared.mode.Mode.TheVariants.{Aperiodic, Periodic};
 ghost use Rattle.bus_shapes.specs.Headings as definition;
-ghost use Rattle.bus_shapes.specs.Sayings.{counted};
+ghost use Rattle.bus_shapes.specs.Sayings.{plainly_counted};
 
 use crate::class::Class;
 use crate::frame::put_counted;
 use crate::later::later;
+use crate::number::{put_parted, put_parted_microseconds};
 use crate::told::Told;
 use bus_audit::{AuditAnswer, BreachKind, put_answer};
 use bus_bounds::Bounds;
 use bus_findings::{Judgement, fault_sum, put_within};
 use bus_outer::{Sink, TextBuffer};
 use bus_regime::TableVerdict;
-use bus_strings::{Transmission, put_microseconds, put_microseconds_unit};
+use bus_strings::{Transmission, put_microseconds_unit};
 use bus_table::Mode;
 
 /// An acceptance in aperiodic mode.
@@ -24,13 +25,13 @@ fn put_aperiodic<K: Sink>(text: &mut TextBuffer, sink: &mut K, least: u64, most:
     ensures { Adds K.held K.faults sink.old sink.new text.old text.new (definition.accept_heading Aperiodic least most) }
 {
     text.put(sink, b"ACCEPT aperiodic, cycle ");
-    text.put_number(sink, least);
+    put_parted(text, sink, least);
     text.put(sink, b" to ");
-    text.put_number(sink, most);
+    put_parted(text, sink, most);
     text.put(sink, b" bit times (");
-    put_microseconds(text, sink, u128::from(least));
+    put_parted_microseconds(text, sink, least);
     text.put(sink, b" to ");
-    put_microseconds(text, sink, u128::from(most));
+    put_parted_microseconds(text, sink, most);
     put_microseconds_unit(text, sink);
     text.put(sink, b")");
 }
@@ -41,9 +42,9 @@ fn put_periodic<K: Sink>(text: &mut TextBuffer, sink: &mut K, least: u64, most: 
 {
     let _interval = most;
     text.put(sink, b"ACCEPT periodic, cycle ");
-    text.put_number(sink, least);
+    put_parted(text, sink, least);
     text.put(sink, b" bit times (");
-    put_microseconds(text, sink, u128::from(least));
+    put_parted_microseconds(text, sink, least);
     put_microseconds_unit(text, sink);
     text.put(sink, b")");
 }
@@ -63,9 +64,9 @@ fn put_short_cycle<K: Sink>(text: &mut TextBuffer, sink: &mut K, least: u64, ti:
     ensures { Adds K.held K.faults sink.old sink.new text.old text.new (definition.verdict_heading (ShortCycle least ti)) }
 {
     text.put(sink, b"REFUSE: shortest cycle ");
-    text.put_number(sink, least);
+    put_parted(text, sink, least);
     text.put(sink, b" bit times, below TI ");
-    text.put_number(sink, ti);
+    put_parted(text, sink, ti);
 }
 
 /// A refusal for a small gap.
@@ -77,7 +78,7 @@ fn put_small_gap<K: Sink>(text: &mut TextBuffer, sink: &mut K, terminal: u8, gap
     text.put(sink, b" is ");
     text.put_signed(sink, gap);
     text.put(sink, b" bit times, below TG ");
-    text.put_number(sink, needed);
+    put_parted(text, sink, needed);
 }
 
 /// A refusal for want of a synchronization gap.
@@ -87,9 +88,9 @@ fn put_no_sync<K: Sink>(text: &mut TextBuffer, sink: &mut K, terminal: u8, gap: 
     text.put(sink, b"REFUSE: no gap for SG, gap before terminal ");
     text.put_number(sink, terminal);
     text.put(sink, b" is ");
-    text.put_number(sink, gap);
+    put_parted(text, sink, gap);
     text.put(sink, b" bit times, below SG + TG ");
-    text.put_number(sink, needed);
+    put_parted(text, sink, needed);
 }
 
 /// Puts a verdict.
@@ -188,9 +189,9 @@ fn put_breach<K: Sink>(
     ensures { Adds K.held K.faults sink.old sink.new text.old text.new (definition.answer_heading list.now (Breach moment terminal kind)) }
 {
     text.put(sink, b"BREACH at ");
-    text.put_number(sink, moment);
+    put_parted(text, sink, moment);
     text.put(sink, b" (");
-    put_microseconds(text, sink, u128::from(moment));
+    put_parted_microseconds(text, sink, moment);
     put_microseconds_unit(text, sink);
     text.put(sink, b"): terminal ");
     text.put_number(sink, terminal);
@@ -218,7 +219,7 @@ fn put_answer_heading<K: Sink>(
 
 /// Puts how many faults there are.
 fn put_faults<K: Sink>(text: &mut TextBuffer, sink: &mut K, faults: u128)
-    ensures { Adds K.held K.faults sink.old sink.new text.old text.new (counted faults (codes "fault")) }
+    ensures { Adds K.held K.faults sink.old sink.new text.old text.new (plainly_counted faults (codes "fault")) }
 {
     text.put_number(sink, faults);
     if faults == 1 {
