@@ -3,6 +3,7 @@ use Rattle.std.proofs.Common.{◌≡◌, ℕ, ◌+◌, ◌^◌, ◌≤◌, true,
 use Rattle.std.proofs.lemmas.List.Sums.{fold-append}
 use Rattle.bus_shapes.specs.declared.sent.Sent.{Sent}
 use Rattle.bus_cycles.specs.Rows.{Cycle, Extent, Row, end_of_all, extent_of, is_new, row_at, rows_from, with_sent}
+use Rattle.bus_cycles.specs.Cuts.{Seen}
 use Rattle.bus_cycles.specs.inside.Surveying.{Surveys, rest_of}
 use Rattle.bus_cycles.specs.Surveys.{Survey, is_drawn, length_of, longest_with, nothing, told_of, with_row}
 
@@ -18,10 +19,10 @@ longest_most lift longest row limit low ends =
 pub end_with : (row : Row) (sent : Sent) → end_of_all (with_sent row sent).sents ≡ max (end_of_all row.sents) sent.end
 end_with row sent = fold-append (λ end (s : Sent). max end s.end) 0 row.sents (sent ∷ [])
 
-pub surveys_new : (breach : Option ℕ) (cycle : Cycle) (whole survey survey' : Survey) (extent extent' : Extent) (sent : Sent) (left : List Sent)
-    → Surveys breach cycle whole survey extent (sent ∷ left) → sent.end + cycle.lift ≤ 2 ^ 41 → is_new cycle extent.begin sent ≡ true
-    → survey' ≡ with_row cycle breach survey extent → extent' ≡ extent_of (row_at cycle (extent.place + 1) sent) → Surveys breach cycle whole survey' extent' left
-surveys_new breach cycle whole survey survey' extent extent' sent left s low new survey_is extent_is =
+pub surveys_new : (seen : Seen) (breach : Option ℕ) (cycle : Cycle) (whole survey survey' : Survey) (extent extent' : Extent) (sent : Sent) (left : List Sent)
+    → Surveys seen breach cycle whole survey extent (sent ∷ left) → sent.end + cycle.lift ≤ 2 ^ 41 → is_new cycle extent.begin sent ≡ true
+    → survey' ≡ with_row cycle seen breach survey extent → extent' ≡ extent_of (row_at cycle (extent.place + 1) sent) → Surveys seen breach cycle whole survey' extent' left
+surveys_new seen breach cycle whole survey survey' extent extent' sent left s low new survey_is extent_is =
     let row : Row = s.row in
     let next : Row = row_at cycle (row.place + 1) sent in
     let place_is : extent.place ≡ row.place = ap (λ (e : Extent). e.place) s.extent_is in
@@ -40,8 +41,8 @@ surveys_new breach cycle whole survey survey' extent extent' sent left s low new
     record {
       row = next;
       extent_is = now_is;
-      whole_is = ap (λ v. rest_of cycle breach v (rows_from cycle next left)) (survey_is ∙ ap (with_row cycle breach survey) s.extent_is)
-          ∙ ap (rest_of cycle breach survey) (sym (ap (λ t. cond t (row ∷ rows_from cycle next left) (rows_from cycle (with_sent row sent) left)) now))
+      whole_is = ap (λ v. rest_of cycle seen breach v (rows_from cycle next left)) (survey_is ∙ ap (with_row cycle seen breach survey) s.extent_is)
+          ∙ ap (rest_of cycle seen breach survey) (sym (ap (λ t. cond t (row ∷ rows_from cycle next left) (rows_from cycle (with_sent row sent) left)) now))
           ∙ s.whole_is;
       some = omega arith;
       low = omega arith;
@@ -49,10 +50,10 @@ surveys_new breach cycle whole survey survey' extent extent' sent left s low new
       count = omega arith;
     }
 
-pub surveys_more : (breach : Option ℕ) (cycle : Cycle) (whole survey : Survey) (extent extent' : Extent) (sent : Sent) (left : List Sent)
-    → Surveys breach cycle whole survey extent (sent ∷ left) → sent.end + cycle.lift ≤ 2 ^ 41 → is_new cycle extent.begin sent ≡ false
-    → ((row : Row) → extent ≡ extent_of row → extent' ≡ extent_of (with_sent row sent)) → Surveys breach cycle whole survey extent' left
-surveys_more breach cycle whole survey extent extent' sent left s low new extent_is =
+pub surveys_more : (seen : Seen) (breach : Option ℕ) (cycle : Cycle) (whole survey : Survey) (extent extent' : Extent) (sent : Sent) (left : List Sent)
+    → Surveys seen breach cycle whole survey extent (sent ∷ left) → sent.end + cycle.lift ≤ 2 ^ 41 → is_new cycle extent.begin sent ≡ false
+    → ((row : Row) → extent ≡ extent_of row → extent' ≡ extent_of (with_sent row sent)) → Surveys seen breach cycle whole survey extent' left
+surveys_more seen breach cycle whole survey extent extent' sent left s low new extent_is =
     let row : Row = s.row in
     let next : Row = with_sent row sent in
     let begin_is : extent.begin ≡ row.begin = ap (λ (e : Extent). e.begin) s.extent_is in
@@ -67,7 +68,7 @@ surveys_more breach cycle whole survey extent extent' sent left s low new extent
     record {
       row = next;
       extent_is = now_is;
-      whole_is = ap (rest_of cycle breach survey) (sym (ap (λ t. cond t (row ∷ rows_from cycle (row_at cycle (row.place + 1) sent) left) (rows_from cycle next left)) now))
+      whole_is = ap (rest_of cycle seen breach survey) (sym (ap (λ t. cond t (row ∷ rows_from cycle (row_at cycle (row.place + 1) sent) left) (rows_from cycle next left)) now))
           ∙ s.whole_is;
       some = s.some;
       low = s.low;
@@ -75,22 +76,22 @@ surveys_more breach cycle whole survey extent extent' sent left s low new extent
       count = omega arith;
     }
 
-pub surveys_end : (breach : Option ℕ) (cycle : Cycle) (whole survey result : Survey) (extent : Extent) (left : List Sent) → Surveys breach cycle whole survey extent left → left ≡ []
-    → result ≡ with_row cycle breach survey extent → (result ≡ whole) × (cycle.ti ≤ result.longest) × (result.longest ≤ 2 ^ 41)
-surveys_end breach cycle whole survey result extent left s none result_is =
+pub surveys_end : (seen : Seen) (breach : Option ℕ) (cycle : Cycle) (whole survey result : Survey) (extent : Extent) (left : List Sent) → Surveys seen breach cycle whole survey extent left → left ≡ []
+    → result ≡ with_row cycle seen breach survey extent → (result ≡ whole) × (cycle.ti ≤ result.longest) × (result.longest ≤ 2 ^ 41)
+surveys_end seen breach cycle whole survey result extent left s none result_is =
     let longest = longest_most cycle.lift survey.longest extent (2 ^ 41) s.low s.ends in
     let more : result.longest ≡ longest_with cycle.lift survey.longest extent = ap (λ (v : Survey). v.longest) result_is in
     let least : survey.longest ≤ longest_with cycle.lift survey.longest extent = longest.1 in
     let most : longest_with cycle.lift survey.longest extent ≤ 2 ^ 41 = longest.0 in
     let some_was : cycle.ti ≤ survey.longest = s.some in (
-      result_is ∙ ap (with_row cycle breach survey) s.extent_is ∙ ap (λ l. rest_of cycle breach survey (rows_from cycle s.row l)) (sym none) ∙ s.whole_is,
+      result_is ∙ ap (with_row cycle seen breach survey) s.extent_is ∙ ap (λ l. rest_of cycle seen breach survey (rows_from cycle s.row l)) (sym none) ∙ s.whole_is,
       omega arith,
       omega arith,
     )
 
-pub surveys_first : (breach : Option ℕ) (cycle : Cycle) (survey : Survey) (extent : Extent) (first : Sent) (left : List Sent) → survey ≡ nothing cycle
-    → extent ≡ extent_of (row_at cycle 0 first) → first.end + cycle.lift ≤ 2 ^ 41 → cycle.ti ≤ 2 ^ 41 → Surveys breach cycle (told_of cycle breach (first ∷ left)) survey extent left
-surveys_first breach cycle survey extent first left survey_is extent_is low short =
+pub surveys_first : (seen : Seen) (breach : Option ℕ) (cycle : Cycle) (survey : Survey) (extent : Extent) (first : Sent) (left : List Sent) → survey ≡ nothing cycle
+    → extent ≡ extent_of (row_at cycle 0 first) → first.end + cycle.lift ≤ 2 ^ 41 → cycle.ti ≤ 2 ^ 41 → Surveys seen breach cycle (told_of cycle seen breach (first ∷ left)) survey extent left
+surveys_first seen breach cycle survey extent first left survey_is extent_is low short =
     let longest_is : survey.longest ≡ cycle.ti = ap (λ (v : Survey). v.longest) survey_is in
     let count_is : survey.count ≡ 0 = ap (λ (v : Survey). v.count) survey_is in
     let place_is : extent.place ≡ 0 = ap (λ (e : Extent). e.place) extent_is in
@@ -98,7 +99,7 @@ surveys_first breach cycle survey extent first left survey_is extent_is low shor
     record {
       row = row_at cycle 0 first;
       extent_is = extent_is;
-      whole_is = ap (λ v. rest_of cycle breach v (rows_from cycle (row_at cycle 0 first) left)) survey_is;
+      whole_is = ap (λ v. rest_of cycle seen breach v (rows_from cycle (row_at cycle 0 first) left)) survey_is;
       some = omega arith;
       low = omega arith;
       ends = omega arith;

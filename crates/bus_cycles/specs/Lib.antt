@@ -2,6 +2,7 @@
 pub mod Measures
 pub mod Sents
 pub mod Rows
+pub mod Cuts
 pub mod Surveys
 pub mod Lanes
 pub mod Pages

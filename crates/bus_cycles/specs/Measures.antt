@@ -93,6 +93,22 @@ long_foot = 420
 abbrev pub rows_top : ℕ
 rows_top = 1690
 
+-- Where a row that is cut at its beginning is drawn open: left of all boxes.
+abbrev pub open_left : ℕ
+open_left = 1450
+
+-- How wide that is.
+abbrev pub open_width : ℕ
+open_width = 40
+
+-- How far to the right a row that is cut at its end is drawn open.
+abbrev pub open_right : ℕ
+open_right = 8530
+
+-- A box that is narrower has no room for a hatching: six pixels.
+abbrev pub narrow_box : ℕ
+narrow_box = 60
+
 -- The height of a row in a picture without garbled transmissions.
 abbrev pub plain_row : ℕ
 plain_row = 140
@@ -105,7 +121,7 @@ split_row = 320
 abbrev pub box_below : ℕ
 box_below = 10
 
--- How many slots a row has for garbled transmissions, one below the other.
+-- How many slots a row has for garbled transmissions, one below the other, by their terminals.
 abbrev pub slots : ℕ
 slots = 3
 
@@ -201,3 +217,11 @@ breach_box_left = 5040
 -- Where its words begin.
 abbrev pub breach_words_left : ℕ
 breach_words_left = 5100
+
+-- Where the box of a row that is drawn open begins.
+abbrev pub open_box_left : ℕ
+open_box_left = 6100
+
+-- Where its words begin.
+abbrev pub open_words_left : ℕ
+open_words_left = 6260

@@ -69,6 +69,18 @@ pub(crate) const LONG_FOOT: u64 = 420;
 /// The upper edge of the first row.
 pub(crate) const ROWS_TOP: u64 = 1690;
 
+/// Where a row that is cut at its beginning is drawn open: left of all boxes.
+pub(crate) const OPEN_LEFT: u64 = 1450;
+
+/// How wide that is.
+pub(crate) const OPEN_WIDTH: u64 = 40;
+
+/// How far to the right a row that is cut at its end is drawn open.
+pub(crate) const OPEN_RIGHT: u64 = 8530;
+
+/// A box that is narrower has no room for a hatching: six pixels.
+pub(crate) const NARROW_BOX: u64 = 60;
+
 /// The height of a row in a picture without garbled transmissions.
 pub(crate) const PLAIN_ROW: u64 = 140;
 
@@ -147,3 +159,9 @@ pub(crate) const BREACH_BOX_LEFT: u64 = 5040;
 
 /// Where its words begin.
 pub(crate) const BREACH_WORDS_LEFT: u64 = 5100;
+
+/// Where the box of a row that is drawn open begins.
+pub(crate) const OPEN_BOX_LEFT: u64 = 6100;
+
+/// Where its words begin.
+pub(crate) const OPEN_WORDS_LEFT: u64 = 6260;

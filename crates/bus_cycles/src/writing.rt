@@ -7,6 +7,7 @@ ghost use Rattle.bus_cycles.specs.CyclesTexts.{cycles_text};
 use crate::boxes::put_rows;
 use crate::breach::put_breach;
 use crate::counting::counts;
+use crate::cut::seen_of;
 use crate::cycle::Cycle;
 use crate::faults::put_faults;
 use crate::load::put_loads;
@@ -40,8 +41,8 @@ pub fn write_cycles<K: Sink>(
 {
     let cycle = Cycle::new(table);
     let breach = breach_in(window, told);
-    let survey = take_survey(&cycle, breach, window, trace);
     let counts = counts(window, trace);
+    let survey = take_survey(&cycle, seen_of(&counts), breach, window, trace);
     let page = Page::new(table, &survey, &counts);
     let height = height_of(&page);
     let mut text = TextBuffer::new();
@@ -55,7 +56,7 @@ pub fn write_cycles<K: Sink>(
         trace.list(),
         &counts,
     );
-    put_above(&mut text, sink, &page, &survey, told);
+    put_above(&mut text, sink, &page, &survey, &counts, told);
     put_rows(&mut text, sink, &page, window, trace);
     put_loads(&mut text, sink, &page, window, trace, carrier);
     put_marks(&mut text, sink, &page, table, verdict);
