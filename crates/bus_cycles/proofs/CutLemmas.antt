@@ -7,6 +7,7 @@ use Rattle.bus_strings.specs.Members.{In}
 use Rattle.bus_strings.proofs.MemberLaws.{of_each}
 use Rattle.bus_table.specs.declared.mode.Mode.{Mode}
 use Rattle.bus_table.specs.declared.mode.Mode.TheVariants.{Aperiodic}
+use Rattle.bus_table.proofs.ValidLaws.{valid_facts}
 use Rattle.bus_shapes.specs.Laws.{PlacesLieWithin, PlacesRise}
 use Rattle.bus_shapes.specs.Scales.{IsScale, place}
 use Rattle.bus_shapes.specs.declared.sent.Sent.{Sent}
@@ -96,7 +97,9 @@ same_first : (one other : Sent) (xs ys : List Sent) → one ∷ xs ≡ other ∷
 same_first one other xs ys e = cc
 
 pub whole_seen : WholeAreSeen
-whole_seen table window list seen row first others mode i parts whole =
+whole_seen table window list seen row first others valid mode i parts whole =
+    let facts = valid_facts table valid in
+    let gap : 9 ≤ table.sg = facts.sg_least in
     let cycle : Cycle = cycle_of table in
     let is : IsFresh cycle row = of_each (IsFresh cycle) (rows table window list) (fresh_of cycle (shown window list)) row i in
     let same : is.first ≡ first = same_first is.first first is.others others (sym is.sents_are ∙ parts) in
@@ -108,7 +111,7 @@ whole_seen table window list seen row first others mode i parts whole =
     let some : 0 < first.before = ltb-true 0 first.before tests.0 in
     let wide : table.sg ≤ first.moment - first.before = leb-true table.sg (first.moment - first.before) tests.1 in
     let over : end_of_all row.sents + table.sg ≤ seen.to = ltb-false seen.to (end_of_all row.sents + table.sg) (once (ltb seen.to (end_of_all row.sents + table.sg)) behind) in
-    (some, far first.before table.sg first.moment some wide, over)
+    (some, far first.before table.sg first.moment gap wide, over)
   where
     twice : (b : Bool) → not (not b) ≡ true → b ≡ true
     twice true e = refl
@@ -118,5 +121,5 @@ whole_seen table window list seen row first others mode i parts whole =
     once true e = absurd cc
     once false e = refl
 
-    far : (before gap moment : ℕ) → 0 < before → gap ≤ moment - before → before + gap ≤ moment
-    far before gap moment some wide = omega arith
+    far : (before gap moment : ℕ) → 9 ≤ gap → gap ≤ moment - before → before + gap ≤ moment
+    far before gap moment least wide = omega arith

@@ -106,16 +106,16 @@ taken cycle seen all row whole least most i w h =
     let low : ℕ = least_with cycle.lift whole least (extent_of row) in
     elim (cases_lt 0 whole) [
       | inl some ↦ record {
-          none = λ e. absurd (omega arith);
-          low = λ _. elim (least_choice cycle.lift whole least (extent_of row) some) [
-            | inl was ↦ subst (HasLength cycle seen all) (sym was) (h.low some)
-            | inr now ↦ is_length cycle seen all row low i w now
-          ];
-          high = λ _. elim (most_choice most long) [
-            | inl was ↦ subst (HasLength cycle seen all) (sym was) (h.high some)
-            | inr now ↦ is_length cycle seen all row (max most long) i w now
-          ];
-        }
+        none = λ e. absurd (omega arith);
+        low = λ _. elim (least_choice cycle.lift whole least (extent_of row) some) [
+          | inl was ↦ subst (HasLength cycle seen all) (sym was) (h.low some)
+          | inr now ↦ is_length cycle seen all row low i w now
+        ];
+        high = λ _. elim (most_choice most long) [
+          | inl was ↦ subst (HasLength cycle seen all) (sym was) (h.high some)
+          | inr now ↦ is_length cycle seen all row (max most long) i w now
+        ];
+      }
       | inr no ↦
           let zero : whole ≡ 0 = omega arith in
           let test : eqb whole 0 ≡ true = eq-eqb whole 0 zero in

@@ -1,11 +1,11 @@
 -- How a survey goes on, transmission by transmission.
-use Rattle.std.proofs.Common.{◌≡◌, ℕ, ◌+◌, ◌^◌, ◌≤◌, true, false, cond, max, List, [], ◌∷◌, Option, arith, sym, ap, ◌∙◌}
+use Rattle.std.proofs.Common.{◌≡◌, ℕ, ◌+◌, ◌^◌, ◌≤◌, Bool, true, false, cond, max, List, [], ◌∷◌, Option, arith, sym, ap, ◌∙◌}
 use Rattle.std.proofs.lemmas.List.Sums.{fold-append}
 use Rattle.bus_shapes.specs.declared.sent.Sent.{Sent}
 use Rattle.bus_cycles.specs.Rows.{Cycle, Extent, Row, end_of_all, extent_of, is_new, row_at, rows_from, with_sent}
-use Rattle.bus_cycles.specs.Cuts.{Seen}
+use Rattle.bus_cycles.specs.Cuts.{Seen, is_whole}
 use Rattle.bus_cycles.specs.inside.Surveying.{Surveys, rest_of}
-use Rattle.bus_cycles.specs.Surveys.{Survey, is_drawn, length_of, longest_with, nothing, told_of, with_row}
+use Rattle.bus_cycles.specs.Surveys.{Survey, is_drawn, length_of, longest_with, nothing, told_of, whole_with, with_row}
 
 pub longest_most : (lift longest : ℕ) (row : Extent) (limit : ℕ) → longest ≤ limit → row.end + lift ≤ limit
     → (longest_with lift longest row ≤ limit) × (longest ≤ longest_with lift longest row)
@@ -14,6 +14,11 @@ longest_most lift longest row limit low ends =
       | true ↦ (omega arith, omega arith)
       | false ↦ (omega arith, omega arith)
     ]
+
+-- no more are whole than there are
+pub whole_most : (t : Bool) (whole count : ℕ) → whole ≤ count → cond t (whole + 1) whole ≤ count + 1
+whole_most true whole count h = omega arith
+whole_most false whole count h = omega arith
 
 -- an end is within its limit
 pub end_with : (row : Row) (sent : Sent) → end_of_all (with_sent row sent).sents ≡ max (end_of_all row.sents) sent.end
@@ -33,6 +38,8 @@ surveys_new seen breach cycle whole survey survey' extent extent' sent left s lo
     let more : survey'.longest ≡ longest_with cycle.lift survey.longest extent = ap (λ (v : Survey). v.longest) survey_is in
     let end_is : extent'.end ≡ max 0 sent.end = ap (λ (e : Extent). e.end) now_is in
     let counted : survey'.count ≡ survey.count + 1 = ap (λ (v : Survey). v.count) survey_is in
+    let whole_is : survey'.whole ≡ whole_with cycle seen survey.whole extent = ap (λ (v : Survey). v.whole) survey_is in
+    let whole_low : whole_with cycle seen survey.whole extent ≤ survey.count + 1 = whole_most (is_whole cycle seen extent) survey.whole survey.count s.whole in
     let place_now : extent'.place ≡ row.place + 1 = ap (λ (e : Extent). e.place) now_is in
     let some_was : cycle.ti ≤ survey.longest = s.some in
     let count_was : survey.count ≡ extent.place = s.count in
@@ -48,6 +55,7 @@ surveys_new seen breach cycle whole survey survey' extent extent' sent left s lo
       low = omega arith;
       ends = omega arith;
       count = omega arith;
+      whole = omega arith;
     }
 
 pub surveys_more : (seen : Seen) (breach : Option ℕ) (cycle : Cycle) (whole survey : Survey) (extent extent' : Extent) (sent : Sent) (left : List Sent)
@@ -74,6 +82,7 @@ surveys_more seen breach cycle whole survey extent extent' sent left s low new e
       low = s.low;
       ends = omega arith;
       count = omega arith;
+      whole = s.whole;
     }
 
 pub surveys_end : (seen : Seen) (breach : Option ℕ) (cycle : Cycle) (whole survey result : Survey) (extent : Extent) (left : List Sent) → Surveys seen breach cycle whole survey extent left → left ≡ []
@@ -94,6 +103,7 @@ pub surveys_first : (seen : Seen) (breach : Option ℕ) (cycle : Cycle) (survey 
 surveys_first seen breach cycle survey extent first left survey_is extent_is low short =
     let longest_is : survey.longest ≡ cycle.ti = ap (λ (v : Survey). v.longest) survey_is in
     let count_is : survey.count ≡ 0 = ap (λ (v : Survey). v.count) survey_is in
+    let whole_is : survey.whole ≡ 0 = ap (λ (v : Survey). v.whole) survey_is in
     let place_is : extent.place ≡ 0 = ap (λ (e : Extent). e.place) extent_is in
     let end_is : extent.end ≡ max 0 first.end = ap (λ (e : Extent). e.end) extent_is in
     record {
@@ -104,4 +114,5 @@ surveys_first seen breach cycle survey extent first left survey_is extent_is low
       low = omega arith;
       ends = omega arith;
       count = omega arith;
+      whole = omega arith;
     }

@@ -29,12 +29,14 @@ use Rattle.bus_cycles.specs.Cuts.{seen_of}
 use Rattle.bus_cycles.specs.Rows.{Extent, cycle_of, rows}
 use Rattle.bus_cycles.specs.Sents.{shown}
 use Rattle.bus_cycles.specs.Pages.{Page, bottom_of, page_of, top_of}
+use Rattle.bus_cycles.specs.Dues.{dues_text}
 use Rattle.bus_cycles.specs.Faults.{faults_text}
 use Rattle.bus_cycles.specs.Loads.{loads_text}
 use Rattle.bus_cycles.specs.RowTexts.{line_of, pixel, rows_text}
 use Rattle.bus_cycles.specs.Surveys.{Survey, breach_in, counts, is_drawn, most_rows, survey_of}
 use Rattle.bus_cycles.specs.Measures.{before_mark, behind_mark, breach_below, breach_box_left, breach_height, breach_left, breach_over}
-use Rattle.bus_cycles.specs.Measures.{breach_width, breach_words_left, even_left, fault_width, foot_height}
+use Rattle.bus_cycles.specs.Measures.{breach_width, breach_words_left, due_box_left, due_width, due_words_left, ends_left, even_left}
+use Rattle.bus_cycles.specs.Measures.{fault_width, foot_height}
 use Rattle.bus_cycles.specs.Measures.{garbled_left, garbled_words_left}
 use Rattle.bus_cycles.specs.Measures.{least_words_line, legend_height, legend_line, legend_top, legend_width}
 use Rattle.bus_cycles.specs.Measures.{line_width, load_right, long_foot, long_picture}
@@ -149,15 +151,23 @@ open_legend survey =
     ++ words_text Small open_words_left legend_line (codes "cut: the cycle isn't seen whole")
     else []
 
--- What boxes mean, as far as there are such ones.
-abbrev pub legend_text : Survey → Counts → Told → List ℕ
-legend_text survey counts told = plain_legend counts ++ garbled_legend counts ++ mark_legend survey told ++ open_legend survey
+-- What the line of an offset means, in periodic mode.
+abbrev pub due_legend : Mode → List ℕ
+due_legend Aperiodic = []
+due_legend Periodic =
+    legend_box Tick due_box_left due_width ++ words_text Small due_words_left legend_line (codes "offset: a start is due")
+
+-- What boxes and lines mean, as far as there are such ones.
+abbrev pub legend_text : Page → Survey → Counts → Told → List ℕ
+legend_text page survey counts told =
+    plain_legend counts ++ garbled_legend counts ++ mark_legend survey told ++ open_legend survey ++ due_legend page.cycle.mode
 
 -- What stands above the rows.
 abbrev pub above_text : Page → Survey → Counts → Told → List ℕ
 above_text page survey counts told =
-    words_text Small left_margin rows_line (row_words survey) ++ legend_text survey counts told ++ axes_text page
+    words_text Small left_margin rows_line (row_words survey) ++ legend_text page survey counts told ++ axes_text page
     ++ words_text Small left_margin mark_words_line (codes "cycle, its begin")
+    ++ words_text Small ends_left lower_words (codes "first-last")
     ++ words_text Detail right_margin lower_words (codes "length") ++ words_text Detail load_right lower_words (codes "load")
 
 -- ---- marks
@@ -243,7 +253,7 @@ breach_text page (Some moment) (Some row) = breach_in_row page moment row
 abbrev pub text_of : Page → Survey → Window → TableVerdict → Told → Table → Recording → List ℕ
 text_of page survey window verdict told table trace =
     frame_text (height_of page) verdict told table trace.list (counts window trace)
-    ++ above_text page survey (counts window trace) told
+    ++ above_text page survey (counts window trace) told ++ dues_text page table
     ++ rows_text page (rows table window trace.list) ++ loads_text page trace.list (rows table window trace.list)
     ++ marks_text page table verdict ++ below_text page
     ++ breach_text page (breach_in window told) survey.marked ++ faults_text page told (rows table window trace.list) ++ tail_text

@@ -1,5 +1,5 @@
 -- What follows of the definitions. The contracts of `laws` say that each of these holds.
-use Rattle.std.specs.Prelude.{◌≡◌, ◌≢◌, ◌⊎◌, ◌↔◌, ℕ, ◌+◌, ◌-◌, ◌<◌, ◌≤◌, Bool, true, false, not, IsTrue, List, [], ◌∷◌, ◌++◌, length}
+use Rattle.std.specs.Prelude.{◌≡◌, ◌≢◌, ◌⊎◌, ◌↔◌, ℕ, ◌+◌, ◌-◌, ◌*◌, ◌/◌, ◌<◌, ◌≤◌, Bool, true, false, not, IsTrue, List, [], ◌∷◌, ◌++◌, length}
 use Rattle.std.specs.Prelude.{slice_get, filter, Option, Some, if◌then◌else◌, ⊤}
 use Rattle.std.specs.List.{AllByRecursion, count_by, flat_map, sum_by}
 use Rattle.bus_strings.specs.Members.{In}
@@ -7,10 +7,13 @@ use Rattle.bus_strings.specs.Messages.{Entry}
 use Rattle.bus_strings.specs.Transmissions.{garbled}
 use Rattle.bus_table.specs.declared.mode.Mode.TheVariants.{Aperiodic, Periodic}
 use Rattle.bus_table.specs.Tables.{Sender, Table}
+use Rattle.bus_table.specs.Timers.{due_of}
 use Rattle.bus_table.specs.Turns.{turn_order}
 use Rattle.bus_table.specs.Valid.{is_valid}
 use Rattle.bus_trace.specs.Traces.{Recording, IsTrace}
 use Rattle.bus_shapes.specs.Classes.{is_hatched}
+use Rattle.bus_shapes.specs.declared.class.Class.TheVariants.{Tick}
+use Rattle.bus_shapes.specs.Shapes.{box_text}
 use Rattle.bus_shapes.specs.declared.sent.Sent.{Sent}
 use Rattle.bus_shapes.specs.declared.area.Area.{Area}
 use Rattle.bus_shapes.specs.declared.counts.Counts.{Counts}
@@ -20,6 +23,7 @@ use Rattle.bus_trace.specs.Windows.{Window}
 use Rattle.bus_findings.specs.declared.judgement.Judgement.{Judgement}
 use Rattle.bus_findings.specs.Terminals.{fault_sum, is_faulty}
 use Rattle.bus_cycles.specs.CyclesTexts.{part_above, part_below}
+use Rattle.bus_cycles.specs.Dues.{due_line, dues_text}
 use Rattle.bus_cycles.specs.Faults.{fault_at, faults_of, lower_part, upper_part}
 use Rattle.bus_cycles.specs.Loads.{busy_of, whole_of}
 use Rattle.bus_cycles.specs.Measures.{breach_left}
@@ -29,6 +33,12 @@ use Rattle.bus_cycles.specs.Rows.{Cycle, Extent, Row, cycle_of, extent_of, inter
 use Rattle.bus_cycles.specs.RowTexts.{area_of, before_area, before_text, behind_area, behind_text, boxes, class_of, is_due, is_left_out, left_of, right_of, sent_text, shade, where_drawn}
 use Rattle.bus_cycles.specs.Sents.{shown}
 use Rattle.bus_cycles.specs.Surveys.{Survey, counts, is_drawn, length_of, survey_of}
+
+-- A part of a text.
+pub record IsPartOf (part whole : List ℕ) : Type 0 where
+  pub front : List ℕ
+  pub back : List ℕ
+  pub whole_is : whole ≡ front ++ part ++ back
 
 -- The rows of a window are a partition: their transmissions, one behind the other, are exactly those that begin in it, in order.
 abbrev pub RowsAreAPartition : Type 0
@@ -150,12 +160,6 @@ BreachWordHidesNone =
     → (area_of (page_of table survey counts) row begin sent).left + (area_of (page_of table survey counts) row begin sent).width
     ≤ breach_left
 
--- A part of a text.
-pub record IsPartOf (part whole : List ℕ) : Type 0 where
-  pub front : List ℕ
-  pub back : List ℕ
-  pub whole_is : whole ≡ front ++ part ++ back
-
 -- Each transmission at which a fault is found has its mark in the row that is drawn of it, with what is found.
 abbrev pub FaultsAreMarked : Type 0
 FaultsAreMarked =
@@ -244,9 +248,29 @@ OpenHidesNone =
 abbrev pub WholeAreSeen : Type 0
 WholeAreSeen =
     (table : Table) (window : Window) (list : List Entry) (seen : Seen) (row : Row) (first : Sent) (others : List Sent)
-    → table.mode ≡ Aperiodic → In row (rows table window list) → row.sents ≡ first ∷ others
+    → IsTrue (is_valid table) → table.mode ≡ Aperiodic → In row (rows table window list) → row.sents ≡ first ∷ others
     → IsTrue (is_whole (cycle_of table) seen (extent_of row))
     → (0 < first.before) × (first.before + table.sg ≤ first.moment) × ((extent_of row).end + table.sg ≤ seen.to)
+
+-- In periodic mode each sender has a line at the place of the moment at which it is due, counted from the beginning of a row; and there the
+-- box of a transmission begins, on a whole pixel, that begins when it is due.
+abbrev pub DuesAreMarked : Type 0
+DuesAreMarked =
+    (table : Table) (survey : Survey) (counts : Counts) (sender : Sender) → In sender table.senders → table.mode ≡ Periodic
+    → IsPartOf (box_text Tick (due_line (page_of table survey counts) (due_of table sender))) (dues_text (page_of table survey counts) table)
+
+abbrev pub BoxesBeginWhereDue : Type 0
+BoxesBeginWhereDue =
+    (table : Table) (survey : Survey) (counts : Counts) (sender : Sender) (begin : ℕ) (sent : Sent) → table.mode ≡ Periodic
+    → sent.moment ≡ begin + due_of table sender
+    → left_of (page_of table survey counts) begin sent ≡ (due_line (page_of table survey counts) (due_of table sender)).left / 10 * 10
+
+-- A row says which terminals send the first and the last of its transmissions.
+abbrev pub EndsAreNamed : Type 0
+EndsAreNamed =
+    (table : Table) (window : Window) (list : List Entry) (row : Row) (front back : List Sent) (first last : Sent)
+    → In row (rows table window list) → row.sents ≡ first ∷ back → row.sents ≡ front ++ last ∷ []
+    → (row.first ≡ first.terminal) × (row.last ≡ last.terminal)
 
 -- No row is busy for more bit times than it has, so that no load passes 100 %.
 abbrev pub LoadsAreShares : Type 0

@@ -9,6 +9,7 @@ pub mod Pages
 pub mod RowTexts
 pub mod Loads
 pub mod Faults
+pub mod Dues
 pub mod CyclesTexts
 pub mod Laws
 pub mod inside

@@ -7,7 +7,7 @@ plot_left = 1500
 
 -- Their width.
 abbrev pub plot_width : ℕ
-plot_width = 7000
+plot_width = 6700
 
 -- Where the moments end at which rows begin.
 abbrev pub begins_right : ℕ
@@ -15,7 +15,7 @@ begins_right = 1440
 
 -- Where the loads of rows end.
 abbrev pub load_right : ℕ
-load_right = 9400
+load_right = 9540
 
 -- The line of the numbers of microseconds.
 abbrev pub upper_words : ℕ
@@ -93,6 +93,18 @@ long_foot = 420
 abbrev pub rows_top : ℕ
 rows_top = 1690
 
+-- Where the line of an offset begins: a little above the first row.
+abbrev pub due_top : ℕ
+due_top = 1650
+
+-- How wide it is: less than a pixel, so that it is quiet.
+abbrev pub due_width : ℕ
+due_width = 6
+
+-- Where the numbers of the first and of the last terminal of a row begin.
+abbrev pub ends_left : ℕ
+ends_left = 8680
+
 -- Where a row that is cut at its beginning is drawn open: left of all boxes.
 abbrev pub open_left : ℕ
 open_left = 1450
@@ -103,7 +115,7 @@ open_width = 40
 
 -- How far to the right a row that is cut at its end is drawn open.
 abbrev pub open_right : ℕ
-open_right = 8530
+open_right = 8230
 
 -- A box that is narrower has no room for a hatching: six pixels.
 abbrev pub narrow_box : ℕ
@@ -163,7 +175,7 @@ breach_below = 10
 
 -- Where the word of a breach or of a fault begins: behind the boxes of all rows.
 abbrev pub breach_left : ℕ
-breach_left = 8540
+breach_left = 8240
 
 -- The width of each of the two parts of the mark of a fault.
 abbrev pub fault_width : ℕ
@@ -225,3 +237,11 @@ open_box_left = 6100
 -- Where its words begin.
 abbrev pub open_words_left : ℕ
 open_words_left = 6260
+
+-- Where the line of an offset is in the legend.
+abbrev pub due_box_left : ℕ
+due_box_left = 8300
+
+-- Where its words begin.
+abbrev pub due_words_left : ℕ
+due_words_left = 8360

@@ -15,7 +15,7 @@ use Rattle.bus_cycles.specs.Cuts.{is_cut_before, is_cut_behind, is_whole}
 use Rattle.bus_cycles.specs.Rows.{Extent, Row, extent_of}
 use Rattle.bus_cycles.specs.Pages.{Page, top_of}
 use Rattle.bus_cycles.specs.Surveys.{is_drawn, length_of}
-use Rattle.bus_cycles.specs.Measures.{begins_right, box_below, long_number, middle_line, middle_number, narrow_box, open_left, open_right}
+use Rattle.bus_cycles.specs.Measures.{begins_right, box_below, ends_left, long_number, middle_line, middle_number, narrow_box, open_left, open_right}
 use Rattle.bus_cycles.specs.Measures.{open_width, short_number, slot_below, slots}
 
 -- ---- where a transmission is
@@ -185,9 +185,14 @@ behind_text page row =
     then titled_text Unobserved (behind_area page row) (codes "cut: the cycle isn't over where the window or the trace ends")
     else []
 
+-- The numbers of the first and of the last terminal of a row, right of it: where boxes have no room for numbers, these stand still.
+abbrev pub ends_words : Page → Extent → List ℕ
+ends_words page row =
+    words_text Small ends_left (line_of page row.place) (decimal row.first ++ codes "-" ++ decimal row.last)
+
 -- What stands at the end of a row: its words, and where it is cut.
 abbrev pub closing_text : Page → Extent → List ℕ
-closing_text page row = words_of page row ++ before_text page row ++ behind_text page row
+closing_text page row = words_of page row ++ ends_words page row ++ before_text page row ++ behind_text page row
 
 -- It stands in the walk for what is plain.
 abbrev pub ending_text : Page → Bool → Extent → List ℕ

@@ -12,8 +12,10 @@ ghost use Rattle.bus_cycles.specs.Sents.{shown};
 use crate::areas::{area_of, class_of, right_of, shade_of};
 use crate::cut::is_whole;
 use crate::cycle::Extent;
-use crate::measures::{BEGINS_RIGHT, LONG_NUMBER, MIDDLE_LINE, MIDDLE_NUMBER, SHORT_NUMBER};
-use crate::open::{put_before, put_behind as put_behind_cut};
+use crate::measures::{
+    BEGINS_RIGHT, ENDS_LEFT, LONG_NUMBER, MIDDLE_LINE, MIDDLE_NUMBER, SHORT_NUMBER,
+};
+use crate::open::{put_cut_before, put_cut_behind};
 use crate::page::Page;
 use crate::shown::Shown;
 use crate::survey::{MOST_ROWS, length_of};
@@ -168,10 +170,13 @@ fn put_length<K: Sink>(text: &mut TextBuffer, sink: &mut K, page: &Page, row: Ex
     requires low { row.end ≤ 2 ^ 41 }
     ensures { Adds K.held K.faults sink.old sink.new text.old text.new (definition.length_words page.now row) }
 {
-    if !is_whole(&page.cycle, page.seen, row) {
+    let long = length_of(page.cycle.lift, row);
+    if is_whole(&page.cycle, page.seen, row) {
+        text.put_number(sink, long);
+    } else {
         text.put(sink, b"cut ");
+        text.put_number(sink, long);
     }
-    text.put_number(sink, length_of(page.cycle.lift, row));
 }
 
 /// The words of a row.
@@ -194,6 +199,19 @@ fn put_row_words<K: Sink>(text: &mut TextBuffer, sink: &mut K, page: &Page, row:
     end_words(text, sink);
 }
 
+/// The numbers of the first and of the last terminal of a row.
+fn put_ends<K: Sink>(text: &mut TextBuffer, sink: &mut K, page: &Page, row: Extent)
+    requires page { IsPage page.now }
+    requires place { row.place ≤ 500 }
+    ensures { Adds K.held K.faults sink.old sink.new text.old text.new (definition.ends_words page.now row) }
+{
+    begin_words(text, sink, Class::Small, ENDS_LEFT, page.line_of(row.place));
+    text.put_number(sink, row.first);
+    text.put_byte(sink, b'-');
+    text.put_number(sink, row.last);
+    end_words(text, sink);
+}
+
 /// What stands at the end of a row: its words, and where it is cut.
 fn put_closing<K: Sink>(text: &mut TextBuffer, sink: &mut K, page: &Page, row: Extent)
     requires page { IsPage page.now }
@@ -203,8 +221,9 @@ fn put_closing<K: Sink>(text: &mut TextBuffer, sink: &mut K, page: &Page, row: E
     ensures { Adds K.held K.faults sink.old sink.new text.old text.new (definition.closing_text page.now row) }
 {
     put_row_words(text, sink, page, row);
-    put_before(text, sink, page, row);
-    put_behind_cut(text, sink, page, row);
+    put_ends(text, sink, page, row);
+    put_cut_before(text, sink, page, row);
+    put_cut_behind(text, sink, page, row);
 }
 
 /// What stands at the end of a row, where it is drawn, in the walk for what is plain.

@@ -30,6 +30,10 @@ pub(crate) struct Extent {
     pub begin: u64,
     /// Whether its first transmission is seen to begin a cycle.
     pub fresh: bool,
+    /// The terminal of its first transmission.
+    pub first: u8,
+    /// The terminal of its last one.
+    pub last: u8,
     /// The moment at which all its transmissions have ended.
     pub end: u64,
 }
@@ -136,6 +140,8 @@ impl Cycle {
             place,
             begin: self.begin_of(sent),
             fresh: self.is_fresh(sent),
+            first: sent.terminal,
+            last: sent.terminal,
             end: sent.end,
         }
     }
@@ -167,6 +173,8 @@ impl Extent {
             place: self.place,
             begin: self.begin,
             fresh: self.fresh,
+            first: self.first,
+            last: sent.terminal,
             end: sent.end.max(self.end),
         }
     }

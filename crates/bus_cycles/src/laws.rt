@@ -3,7 +3,8 @@ ghost use Rattle.bus_cycles.specs.Laws.{BreachHidesNone, BreachIsAtItsMoment, Br
 ghost use Rattle.bus_cycles.specs.Laws.{FaultHidesNone, FaultsAreMarked, NoFaultIsMarked};
 ghost use Rattle.bus_cycles.specs.Laws.{HatchedAreDrawnLast, HatchedAreGarbled, KeptAreDrawn, LeftOutAreCovered, LengthsAreOfRows};
 ghost use Rattle.bus_cycles.specs.Laws.{LoadsAreShares, NeighboursDiffer, RowsAreAPartition, RowsAreCounted, RowsAreCycles};
-ghost use Rattle.bus_cycles.specs.Laws.{CutAreOpen, OpenHidesNone, RowsAreIntervals, RowsAreNumbered, RowsAscend, RowsHaveLengths};
+ghost use Rattle.bus_cycles.specs.Laws.{BoxesBeginWhereDue, CutAreOpen, DuesAreMarked, EndsAreNamed};
+ghost use Rattle.bus_cycles.specs.Laws.{OpenHidesNone, RowsAreIntervals, RowsAreNumbered, RowsAscend, RowsHaveLengths};
 ghost use Rattle.bus_cycles.specs.Laws.{SlotsAreKept, TheLastRowIsMarked, ThreeLieApart, WholeAreCounted, WholeAreSeen};
 
 use bus_shapes::laws::places_keep_order;
@@ -123,6 +124,17 @@ pub fn cut_are_open()
 {
     places_keep_order();
 }
+
+/// In periodic mode each sender has a line where it is due in a row, at which the box of a transmission begins that begins then.
+pub fn dues_are_marked()
+    ensures marked { DuesAreMarked }
+    ensures boxes { BoxesBeginWhereDue }
+{}
+
+/// A row says which terminals send the first and the last of its transmissions.
+pub fn ends_are_named()
+    ensures { EndsAreNamed }
+{}
 
 /// No row is busy for more bit times than it has.
 pub fn loads_are_shares()

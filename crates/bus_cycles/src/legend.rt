@@ -4,14 +4,16 @@ ghost use Rattle.bus_cycles.specs.CyclesTexts as definition;
 
 use crate::cycle::Extent;
 use crate::measures::{
-    BREACH_BOX_LEFT, BREACH_WIDTH, BREACH_WORDS_LEFT, EVEN_LEFT, FAULT_WIDTH, GARBLED_LEFT,
-    GARBLED_WORDS_LEFT, LEGEND_HEIGHT, LEGEND_LINE, LEGEND_TOP, LEGEND_WIDTH, ODD_LEFT,
-    OPEN_BOX_LEFT, OPEN_WORDS_LEFT, SENT_WORDS_LEFT,
+    BREACH_BOX_LEFT, BREACH_WIDTH, BREACH_WORDS_LEFT, DUE_BOX_LEFT, DUE_WIDTH, DUE_WORDS_LEFT,
+    EVEN_LEFT, FAULT_WIDTH, GARBLED_LEFT, GARBLED_WORDS_LEFT, LEGEND_HEIGHT, LEGEND_LINE,
+    LEGEND_TOP, LEGEND_WIDTH, ODD_LEFT, OPEN_BOX_LEFT, OPEN_WORDS_LEFT, SENT_WORDS_LEFT,
 };
+use crate::page::Page;
 use crate::survey::{MOST_ROWS, Survey};
 use bus_findings::fault_sum;
 use bus_outer::{Sink, TextBuffer};
 use bus_shapes::{Area, Class, Counts, Told, put_box, put_words};
+use bus_table::Mode;
 
 /// A box of the legend.
 fn put_legend_box<K: Sink>(text: &mut TextBuffer, sink: &mut K, class: Class, left: u64, width: u64)
@@ -127,19 +129,35 @@ fn put_open<K: Sink>(text: &mut TextBuffer, sink: &mut K, survey: &Survey)
     }
 }
 
-/// What boxes mean, as far as there are such ones.
+/// What the line of an offset means, in periodic mode.
+fn put_due<K: Sink>(text: &mut TextBuffer, sink: &mut K, mode: Mode)
+    ensures { Adds K.held K.faults sink.old sink.new text.old text.new (definition.due_legend mode) }
+{
+    match mode {
+        Mode::Aperiodic => {}
+        Mode::Periodic => {
+            put_legend_box(text, sink, Class::Tick, DUE_BOX_LEFT, DUE_WIDTH);
+            let words = b"offset: a start is due";
+            put_words(text, sink, Class::Small, DUE_WORDS_LEFT, LEGEND_LINE, words);
+        }
+    }
+}
+
+/// What boxes and lines mean, as far as there are such ones.
 pub(crate) fn put_legend<K: Sink>(
     text: &mut TextBuffer,
     sink: &mut K,
+    page: &Page,
     survey: &Survey,
     counts: &Counts,
     told: &Told,
 )
     ensures { Adds K.held K.faults sink.old sink.new text.old text.new
-        (definition.legend_text survey.now counts.now told.now) }
+        (definition.legend_text page.now survey.now counts.now told.now) }
 {
     put_plain(text, sink, counts);
     put_garbled(text, sink, counts);
     put_mark_legend(text, sink, survey, told);
     put_open(text, sink, survey);
+    put_due(text, sink, page.cycle.mode);
 }

@@ -43,7 +43,7 @@ fn behind_area(page: &Page, row: Extent) -> Area
 }
 
 /// A row that is cut at its beginning, drawn open there.
-pub(crate) fn put_before<K: Sink>(text: &mut TextBuffer, sink: &mut K, page: &Page, row: Extent)
+pub(crate) fn put_cut_before<K: Sink>(text: &mut TextBuffer, sink: &mut K, page: &Page, row: Extent)
     requires page { IsPage page.now }
     requires row { row.place ≤ 500 }
     ensures { Adds K.held K.faults sink.old sink.new text.old text.new (definition.before_text page.now row) }
@@ -59,7 +59,7 @@ pub(crate) fn put_before<K: Sink>(text: &mut TextBuffer, sink: &mut K, page: &Pa
 }
 
 /// A row that is cut at its end, drawn open there.
-pub(crate) fn put_behind<K: Sink>(text: &mut TextBuffer, sink: &mut K, page: &Page, row: Extent)
+pub(crate) fn put_cut_behind<K: Sink>(text: &mut TextBuffer, sink: &mut K, page: &Page, row: Extent)
     requires page { IsPage page.now }
     requires row { row.place ≤ 500 }
     requires begin { row.begin ≤ 2 ^ 42 }

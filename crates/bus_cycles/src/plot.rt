@@ -7,9 +7,9 @@ ghost use Rattle.bus_cycles.specs.inside.Bounds.{IsPage};
 
 use crate::legend::put_legend;
 use crate::measures::{
-    BEFORE_MARK, BEHIND_MARK, FOOT_HEIGHT, LEAST_WORDS_LINE, LINE_WIDTH, LOAD_RIGHT, LONG_FOOT,
-    LONG_PICTURE, LOWER_FOOT, LOWER_TOP, LOWER_WORDS, MARK_WORDS_LINE, MARKS_TOP, ROWS_LINE,
-    TICK_HEIGHT, TICKS_FOOT, UPPER_FOOT, UPPER_TICKS, UPPER_WORDS,
+    BEFORE_MARK, BEHIND_MARK, ENDS_LEFT, FOOT_HEIGHT, LEAST_WORDS_LINE, LINE_WIDTH, LOAD_RIGHT,
+    LONG_FOOT, LONG_PICTURE, LOWER_FOOT, LOWER_TOP, LOWER_WORDS, MARK_WORDS_LINE, MARKS_TOP,
+    ROWS_LINE, TICK_HEIGHT, TICKS_FOOT, UPPER_FOOT, UPPER_TICKS, UPPER_WORDS,
 };
 use crate::page::Page;
 use crate::survey::{MOST_ROWS, Survey};
@@ -165,7 +165,7 @@ pub(crate) fn put_above<K: Sink>(
     begin_words(text, sink, Class::Small, LEFT_MARGIN, ROWS_LINE);
     put_row_words(text, sink, survey);
     end_words(text, sink);
-    put_legend(text, sink, survey, counts, told);
+    put_legend(text, sink, page, survey, counts, told);
     put_axes(text, sink, page);
     put_words(
         text,
@@ -174,6 +174,14 @@ pub(crate) fn put_above<K: Sink>(
         LEFT_MARGIN,
         MARK_WORDS_LINE,
         b"cycle, its begin",
+    );
+    put_words(
+        text,
+        sink,
+        Class::Small,
+        ENDS_LEFT,
+        LOWER_WORDS,
+        b"first-last",
     );
     put_words(
         text,

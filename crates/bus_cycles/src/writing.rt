@@ -9,6 +9,7 @@ use crate::breach::put_breach;
 use crate::counting::counts;
 use crate::cut::seen_of;
 use crate::cycle::Cycle;
+use crate::due::put_dues;
 use crate::faults::put_faults;
 use crate::load::put_loads;
 use crate::page::Page;
@@ -57,6 +58,7 @@ pub fn write_cycles<K: Sink>(
         &counts,
     );
     put_above(&mut text, sink, &page, &survey, &counts, told);
+    put_dues(&mut text, sink, &page, table);
     put_rows(&mut text, sink, &page, window, trace);
     put_loads(&mut text, sink, &page, window, trace, carrier);
     put_marks(&mut text, sink, &page, table, verdict);

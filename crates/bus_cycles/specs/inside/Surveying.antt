@@ -19,3 +19,4 @@ pub record Surveys (seen : Seen) (breach : Option ℕ) (cycle : Cycle) (whole su
   pub low : survey.longest ≤ scale_bound
   pub ends : extent.end + cycle.lift ≤ scale_bound
   pub count : survey.count ≡ extent.place
+  pub whole : survey.whole ≤ survey.count
