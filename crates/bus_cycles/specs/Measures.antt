@@ -103,7 +103,7 @@ due_width = 6
 
 -- Where the numbers of the first and of the last terminal of a row begin.
 abbrev pub ends_left : ℕ
-ends_left = 8680
+ends_left = 8650
 
 -- Where a row that is cut at its beginning is drawn open: left of all boxes.
 abbrev pub open_left : ℕ

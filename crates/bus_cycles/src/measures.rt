@@ -76,7 +76,7 @@ pub(crate) const DUE_TOP: u64 = 1650;
 pub(crate) const DUE_WIDTH: u64 = 6;
 
 /// Where the numbers of the first and of the last terminal of a row begin.
-pub(crate) const ENDS_LEFT: u64 = 8680;
+pub(crate) const ENDS_LEFT: u64 = 8650;
 
 /// Where a row that is cut at its beginning is drawn open: left of all boxes.
 pub(crate) const OPEN_LEFT: u64 = 1450;
